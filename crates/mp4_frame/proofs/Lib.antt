@@ -1,0 +1,13 @@
+pub mod Numbers
+pub mod Stands
+pub mod Columns
+pub mod Signed
+pub mod Rows
+pub mod Heads
+pub mod Places
+pub mod Walks
+pub mod Steps
+pub mod RoundTrip
+pub mod Members
+pub mod Tables
+pub mod Headers

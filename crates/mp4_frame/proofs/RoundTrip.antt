@@ -1,0 +1,210 @@
+-- What was written is read back, for every type of boxes that keeps the laws.
+use Rattle.std.proofs.Common.{◌≡◌, ℕ, zero, suc, ◌+◌, ◌-◌, ◌^◌, ◌<◌, ◌≤◌, Bool, true, false, cond, List, [], ◌∷◌, ◌++◌, length, map, take, drop, All, Result, Ok, Err, refl, sym, ap, subst, ◌∙◌, arith, append_assoc, length-append}
+use Rattle.std.specs.Prelude.{nat_lt, ◌==◌, ◌↔◌}
+use Rattle.std.specs.List.{AllByRecursion}
+use Rattle.std.proofs.Common.{inl, inr}
+use Rattle.std.proofs.lemmas.Bool.{cases_lt}
+use Rattle.std.proofs.lemmas.List.{append-nil, take-append-drop, take_at, drop_at, length-take-le}
+use Rattle.mp4_frame.specs.Bytes.{number}
+use Rattle.mp4_frame.specs.BoxType.{name_of, code_of}
+use Rattle.mp4_frame.specs.Heads.{framed, frame_of, frame}
+use Rattle.mp4_frame.specs.Reading.{Fault, End, Invalid, Reading, done, faults, also, and_then, ◌>>=◌, memory}
+use Rattle.mp4_frame.specs.Laws.{Framed, Normal, OwnName, ReadsBack}
+use Rattle.mp4_frame.specs.Streams.{stream, walk_on, walk, box_of, boxes}
+use Rattle.mp4_frame.specs.declared.box_type.BoxType.{BoxType}
+use Rattle.mp4_frame.specs.declared.box_header.BoxHeader.{BoxHeader}
+use Rattle.mp4_frame.specs.declared.frame.Frame.{Frame}
+use Rattle.mp4_frame.proofs.Numbers.{number_in_front, number_behind, number_among}
+use Rattle.mp4_frame.proofs.Heads.{lt_true, lt_false, eq_false, no_head, short_head}
+use Rattle.mp4_frame.proofs.Walks.{walk_first, walk_none}
+use Rattle.mp4_frame.proofs.Steps.{bind_ok, item_known}
+
+-- a frame of a box of 8 to 2^32 - 1 bytes
+frame_short : (B : List ℕ) (o size code : ℕ) (name : BoxType) → o + 8 ≤ length B → size ≡ number B o 4 → code ≡ number B (o + 4) 4 → name_of code ≡ name → 8 ≤ size → frame B o ≡ framed (length B) o (record { name = name; size = size })
+frame_short B o size code name room is_size is_code is_name least =
+    let h = short_head B o size code room is_size is_code (λ e. omega arith) in
+    ap (frame_of (length B)) h ∙ ap (λ (n : BoxType). framed (length B) o (record { name = n; size = size })) is_name
+
+framed_fits : (len o size : ℕ) (name : BoxType) → 8 ≤ size → o + size < 2 ^ 64 → o + size ≤ len → framed len o (record { name = name; size = size }) ≡ Ok (record { name = name; start = o; size = size; end = o + size })
+unfolding framed
+framed_fits len o size name least top room =
+    rw (eq_false size 0 (λ e. omega arith), lt_false size 8 least, lt_false (2 ^ 64 - 1) (o + size) (omega arith), lt_false len (o + size) room) refl
+
+framed_cut : (len o size : ℕ) (name : BoxType) → 8 ≤ size → o + size < 2 ^ 64 → len < o + size → framed len o (record { name = name; size = size }) ≡ Err End
+unfolding framed
+framed_cut len o size name least top cut =
+    rw (eq_false size 0 (λ e. omega arith), lt_false size 8 least, lt_false (2 ^ 64 - 1) (o + size) (omega arith), lt_true len (o + size) cut) refl
+
+-- a list in front of what is still read
+abbrev pub ahead : {A : Type 0} → List A → Result (List A) Fault → Result (List A) Fault
+ahead front (Ok ys) = Ok (front ++ ys)
+ahead front (Err k) = Err k
+
+ahead_cons : {A : Type 0} (v : A) (front : List A) (r : Result (List A) Fault) → ahead (v ∷ []) (ahead front r) ≡ ahead (v ∷ front) r
+ahead_cons v front (Ok ys) = refl
+ahead_cons v front (Err k) = refl
+
+ahead_none : {A : Type 0} (r : Result (List A) Fault) → r ≡ ahead [] r
+ahead_none (Ok ys) = refl
+ahead_none (Err k) = refl
+
+outcome_ahead : {A : Type 0} (a b : Bool) (v : A) (o : Result (List A) Fault) → (also a (and_then b o (λ ys. done ((v ∷ []) ++ ys)))).outcome ≡ ahead (v ∷ []) o
+outcome_ahead a b v (Ok ys) = refl
+outcome_ahead a b v (Err k) = refl
+
+module _ {A : Type 0} (name : A → BoxType) (size : A → ℕ) (Writable : A → Type 0) (bytes : A → List ℕ) (normal : A → A) (known : BoxType → Bool) (reading : BoxType → List ℕ → ℕ → ℕ → Reading A)
+    (framed_law : (v : A) → Writable v → Framed (size v) (name v) (bytes v))
+    (normal_law : (v : A) → Writable v → Normal Writable bytes normal v)
+    (name_law : (v : A) → Writable v → OwnName known (name v))
+    (back_law : (v : A) → Writable v → ReadsBack (reading (name v)) (bytes v) (normal v)) where
+  -- the frame of a box among other bytes
+  frame_written : (v : A) → Writable v → (B x y : List ℕ) → B ≡ x ++ (bytes v ++ y) → length x + length (bytes v) < 2 ^ 64
+      → frame B (length x) ≡ Ok (record { name = name v; start = length x; size = length (bytes v); end = length x + length (bytes v) })
+  frame_written v w B x y is top =
+      let f = framed_law v w in
+      let n = name_law v w in
+      let long : length B ≡ length x + (length (bytes v) + length y) = omega (arith, ap length is, length-append x (bytes v ++ y), length-append (bytes v) y) in
+      let zero_on : length x + 0 ≡ length x = omega arith in
+      let e1 : length (bytes v) ≡ number B (length x) 4 =
+      f.long ∙ sym (ap (λ (l : List ℕ). number l (length x) 4) is ∙ ap (λ (i : ℕ). number (x ++ (bytes v ++ y)) i 4) (sym zero_on) ∙ number_among 0 4 x (bytes v) y (omega (arith, f.long, f.least)) ∙ f.size_first) in
+      let e2 : code_of (name v) ≡ number B (length x + 4) 4 = sym (ap (λ (l : List ℕ). number l (length x + 4) 4) is ∙ number_among 4 4 x (bytes v) y (omega (arith, f.long, f.least)) ∙ f.code_next) in
+      let least : 8 ≤ length (bytes v) = omega (arith, f.long, f.least) in
+      frame_short B (length x) (length (bytes v)) (code_of (name v)) (name v) (omega (arith, long, least)) e1 e2 n.is_own least
+      ∙ framed_fits (length B) (length x) (length (bytes v)) (name v) least top (omega (arith, long))
+
+  -- one box, and then what follows
+  one : (v : A) → Writable v → (B x y : List ℕ) → B ≡ x ++ (bytes v ++ y) → length x + length (bytes v) < 2 ^ 64
+      → (boxes known reading B (length x)).outcome ≡ ahead (normal v ∷ []) (boxes known reading B (length x + length (bytes v))).outcome
+  one v w B x y is top =
+      let f = framed_law v w in
+      let n = name_law v w in
+      let long : length B ≡ length x + (length (bytes v) + length y) = omega (arith, ap length is, length-append x (bytes v ++ y), length-append (bytes v) y) in
+      let fr : Frame = record { name = name v; start = length x; size = length (bytes v); end = length x + length (bytes v) } in
+      let rest = boxes known reading B (length x + length (bytes v)) in
+      let back : (reading (name v) B (length x) (length (bytes v))).outcome ≡ Ok (normal v) = ap (λ (C : List ℕ). (reading (name v) C (length x) (length (bytes v))).outcome) is ∙ back_law v w x y top in
+      let item = item_known known reading B (length x) fr (normal v) n.is_known back in
+      let first = walk_first (box_of known reading B) B (length x) (omega (arith, long, f.long, f.least)) ∙ ap (walk_on (box_of known reading B (length x)) (λ e. boxes known reading B e)) (frame_written v w B x y is top) in
+      let second = ap (λ (i : Reading (List A)). i >>= λ xs. rest >>= λ ys. done (xs ++ ys)) item in
+      ap (λ (r : Reading (List A)). r.outcome) (first ∙ second) ∙ outcome_ahead true rest.asked (normal v) rest.outcome
+
+  -- a written list, and then what follows
+  through : (vs : List A) → AllByRecursion Writable vs → (B x y : List ℕ) → B ≡ x ++ (stream bytes vs ++ y) → length x + length (stream bytes vs) < 2 ^ 64
+      → (boxes known reading B (length x)).outcome ≡ ahead (map normal vs) (boxes known reading B (length x + length (stream bytes vs))).outcome
+  through [] w B x y is top =
+      let k : length x ≡ length x + 0 = omega arith in
+      ap (λ (o : ℕ). (boxes known reading B o).outcome) k ∙ ahead_none (boxes known reading B (length x + 0)).outcome
+  through (v ∷ vs) w B x y is top =
+      let part = length-append (bytes v) (stream bytes vs) in
+      let here : B ≡ x ++ (bytes v ++ (stream bytes vs ++ y)) = is ∙ ap (λ (l : List ℕ). x ++ l) (append_assoc (bytes v) (stream bytes vs) y) in
+      let there : B ≡ (x ++ bytes v) ++ (stream bytes vs ++ y) = here ∙ sym (append_assoc x (bytes v) (stream bytes vs ++ y)) in
+      let front = length-append x (bytes v) in
+      let first = one v w.0 B x (stream bytes vs ++ y) here (omega (arith, part)) in
+      let second = through vs w.1 B (x ++ bytes v) y there (omega (arith, part, front)) in
+      let at : length x + length (bytes v) ≡ length (x ++ bytes v) = sym front in
+      let end : length (x ++ bytes v) + length (stream bytes vs) ≡ length x + length (stream bytes (v ∷ vs)) = omega (arith, part, front) in
+      first ∙ ap (λ (o : ℕ). ahead (normal v ∷ []) (boxes known reading B o).outcome) at ∙ ap (ahead (normal v ∷ [])) second
+      ∙ ahead_cons (normal v) (map normal vs) (boxes known reading B (length (x ++ bytes v) + length (stream bytes vs))).outcome
+      ∙ ap (λ (o : ℕ). ahead (map normal (v ∷ vs)) (boxes known reading B o).outcome) end
+
+  -- a written list at the buffer's end is read as the normal forms
+  pub whole : (vs : List A) → AllByRecursion Writable vs → (x : List ℕ) → length x + length (stream bytes vs) < 2 ^ 64 → (boxes known reading (x ++ stream bytes vs) (length x)).outcome ≡ Ok (map normal vs)
+  whole vs w x top =
+      let B = x ++ stream bytes vs in
+      let is : B ≡ x ++ (stream bytes vs ++ []) = ap (λ (l : List ℕ). x ++ l) (sym (append-nil (stream bytes vs))) in
+      let none = walk_none (box_of known reading B) B (length x + length (stream bytes vs)) (omega (arith, length-append x (stream bytes vs))) in
+      through vs w B x [] is top ∙ ap (λ (r : Reading (List A)). ahead (map normal vs) r.outcome) none ∙ ap (λ (l : List A). Ok l) (append-nil (map normal vs))
+
+  -- the frame of a box that is cut
+  frame_cut : (v : A) → Writable v → (x : List ℕ) (k : ℕ) → 0 < k → k < length (bytes v) → length x + length (bytes v) < 2 ^ 64 → frame (x ++ take k (bytes v)) (length x) ≡ Err End
+  frame_cut v w x k least most top =
+      let f = framed_law v w in
+      let n = name_law v w in
+      let y = take k (bytes v) in
+      let z = drop k (bytes v) in
+      let B = x ++ y in
+      let ylong : length y ≡ k = length-take-le k (bytes v) (omega arith) in
+      let long : length B ≡ length x + k = omega (arith, length-append x y, ylong) in
+      elim (cases_lt k 8) [
+        | inr h ↦
+            (let split : bytes v ≡ y ++ z = sym (take-append-drop k (bytes v)) in
+            let zero_on : length x + 0 ≡ length x = omega arith in
+            let e1 : length (bytes v) ≡ number B (length x) 4 =
+            f.long ∙ sym f.size_first ∙ ap (λ (l : List ℕ). number l 0 4) split ∙ number_in_front 0 4 y z (omega (arith, ylong)) ∙ sym (number_behind 0 4 x y) ∙ ap (λ (i : ℕ). number B i 4) zero_on in
+            let e2 : code_of (name v) ≡ number B (length x + 4) 4 =
+            sym f.code_next ∙ ap (λ (l : List ℕ). number l 4 4) split ∙ number_in_front 4 4 y z (omega (arith, ylong)) ∙ sym (number_behind 4 4 x y) in
+            let least : 8 ≤ length (bytes v) = omega (arith, f.long, f.least) in
+            frame_short B (length x) (length (bytes v)) (code_of (name v)) (name v) (omega (arith, long, h)) e1 e2 n.is_own least
+            ∙ framed_cut (length B) (length x) (length (bytes v)) (name v) least top (omega (arith, long)))
+        | inl h ↦ ap (frame_of (length B)) (no_head B (length x) (omega (arith, long, h)))
+      ]
+
+  -- a written list that is cut inside a box ends too early
+  pub cut : (vs : List A) → AllByRecursion Writable vs → (v : A) → Writable v → (x : List ℕ) (k : ℕ) → 0 < k → k < length (bytes v) → length x + length (stream bytes vs) + length (bytes v) < 2 ^ 64
+      → (boxes known reading (x ++ (stream bytes vs ++ take k (bytes v))) (length x)).outcome ≡ Err End
+  cut vs ws v w x k least most top =
+      let y = take k (bytes v) in
+      let B = x ++ (stream bytes vs ++ y) in
+      let x' = x ++ stream bytes vs in
+      let front = length-append x (stream bytes vs) in
+      let same : B ≡ x' ++ y = sym (append_assoc x (stream bytes vs) y) in
+      let fr : frame B (length x') ≡ Err End = ap (λ (C : List ℕ). frame C (length x')) same ∙ frame_cut v w x' k least most (omega (arith, front, top)) in
+      let room : length x' < length B = omega (arith, ap length same, length-append x' y, length-take-le k (bytes v) (omega arith)) in
+      let first = walk_first (box_of known reading B) B (length x') room ∙ ap (walk_on (box_of known reading B (length x')) (λ e. boxes known reading B e)) fr in
+      through vs ws B x y refl (omega (arith, top)) ∙ ap (λ (o : ℕ). ahead (map normal vs) (boxes known reading B o).outcome) (sym front) ∙ ap (λ (r : Reading (List A)). ahead (map normal vs) r.outcome) first
+
+  -- equal bytes are bytes of equal normal forms
+  pub same_normal : (v w : A) → Writable v → Writable w → bytes v ≡ bytes w → normal v ≡ normal w
+  same_normal v w p q e =
+      let f = framed_law v p in
+      let g = framed_law w q in
+      let n = name_law v p in
+      let m = name_law w q in
+      let names : name v ≡ name w = sym n.is_own ∙ ap name_of (sym f.code_next ∙ ap (λ (l : List ℕ). number l 4 4) e ∙ g.code_next) ∙ m.is_own in
+      let a : (reading (name v) (bytes v ++ []) 0 (length (bytes v))).outcome ≡ Ok (normal v) = back_law v p [] [] (omega (arith, f.long, f.most)) in
+      let b : (reading (name w) (bytes w ++ []) 0 (length (bytes w))).outcome ≡ Ok (normal w) = back_law w q [] [] (omega (arith, g.long, g.most)) in
+      let c : (reading (name v) (bytes v ++ []) 0 (length (bytes v))).outcome ≡ (reading (name w) (bytes w ++ []) 0 (length (bytes w))).outcome =
+      ap (λ (k : BoxType). (reading k (bytes v ++ []) 0 (length (bytes v))).outcome) names ∙ ap (λ (l : List ℕ). (reading (name w) (l ++ []) 0 (length l)).outcome) e in
+      let d : Ok (normal v) ≡ Ok (normal w) = sym a ∙ c ∙ b in
+      cc
+
+  pub same_bytes : (v w : A) → Writable v → Writable w → normal v ≡ normal w → bytes v ≡ bytes w
+  same_bytes v w p q e = sym (normal_law v p).same_bytes ∙ ap bytes e ∙ (normal_law w q).same_bytes
+
+  -- two lists with the same bytes begin with the same box
+  first_same : (v w : A) (s t : List ℕ) → Writable v → Writable w → bytes v ++ s ≡ bytes w ++ t → (bytes v ≡ bytes w) × (s ≡ t)
+  first_same v w s t p q e =
+      let f = framed_law v p in
+      let g = framed_law w q in
+      let sizes : length (bytes v) ≡ length (bytes w) =
+      f.long ∙ sym f.size_first ∙ sym (number_in_front 0 4 (bytes v) s (omega (arith, f.long, f.least))) ∙ ap (λ (l : List ℕ). number l 0 4) e ∙ number_in_front 0 4 (bytes w) t (omega (arith, g.long, g.least)) ∙ g.size_first ∙ sym g.long in
+      let n = length (bytes w) in
+      (sym (take_at (bytes v) s n sizes) ∙ ap (take n) e ∙ take_at (bytes w) t n refl, sym (drop_at (bytes v) s n sizes) ∙ ap (drop n) e ∙ drop_at (bytes w) t n refl)
+
+  no_first : (v : A) (s : List ℕ) → Writable v → [] ≡ bytes v ++ s → ⊥
+  no_first v s p e =
+      let f = framed_law v p in
+      let l : 0 ≡ length (bytes v ++ s) = ap length e in
+      omega (arith, l, length-append (bytes v) s, f.long, f.least)
+
+  pub same_normals : (vs ws : List A) → AllByRecursion Writable vs → AllByRecursion Writable ws → stream bytes vs ≡ stream bytes ws → map normal vs ≡ map normal ws
+  same_normals [] [] p q e = refl
+  same_normals [] (w ∷ ws) p q e = absurd (no_first w (stream bytes ws) q.0 e)
+  same_normals (v ∷ vs) [] p q e = absurd (no_first v (stream bytes vs) p.0 (sym e))
+  same_normals (v ∷ vs) (w ∷ ws) p q e =
+      let both = first_same v w (stream bytes vs) (stream bytes ws) p.0 q.0 e in
+      let a = same_normal v w p.0 q.0 both.0 in
+      let b = same_normals vs ws p.1 q.1 both.1 in
+      cc
+
+  cons_first : (v w : A) (vs ws : List A) → v ∷ vs ≡ w ∷ ws → (v ≡ w) × (vs ≡ ws)
+  cons_first v w vs ws e = (cc, cc)
+
+  pub same_streams : (vs ws : List A) → AllByRecursion Writable vs → AllByRecursion Writable ws → map normal vs ≡ map normal ws → stream bytes vs ≡ stream bytes ws
+  same_streams [] [] p q e = refl
+  same_streams [] (w ∷ ws) p q e = absurd cc
+  same_streams (v ∷ vs) [] p q e = absurd cc
+  same_streams (v ∷ vs) (w ∷ ws) p q e =
+      let both = cons_first (normal v) (normal w) (map normal vs) (map normal ws) e in
+      let a = same_bytes v w p.0 q.0 both.0 in
+      let b = same_streams vs ws p.1 q.1 both.1 in
+      ap (λ (l : List ℕ). l ++ stream bytes vs) a ∙ ap (λ (l : List ℕ). bytes w ++ l) b

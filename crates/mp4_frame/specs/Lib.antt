@@ -1,0 +1,9 @@
+pub mod Bytes
+pub mod Reading
+pub mod Written
+pub mod Laws
+pub mod BoxType
+pub mod FourCC
+pub mod Heads
+pub mod Streams
+pub mod Tables

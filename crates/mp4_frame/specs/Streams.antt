@@ -1,0 +1,47 @@
+-- Lists of boxes in a buffer.
+use Rattle.std.specs.Prelude.{◌≡◌, ℕ, zero, suc, ◌-◌, Bool, nat_le, List, [], ◌∷◌, ◌++◌, length, Result, Ok, Err, if◌then◌else◌}
+use Rattle.std.specs.List.{flat_map}
+use Rattle.mp4_frame.specs.Reading.{Fault, Reading, done, faults, memory, ◌>>=◌}
+use Rattle.mp4_frame.specs.Heads.{frame}
+use Rattle.mp4_frame.specs.declared.box_type.BoxType.{BoxType}
+use Rattle.mp4_frame.specs.declared.frame.Frame.{Frame}
+
+-- the bytes of the members, joined
+abbrev pub stream : {A : Type 0} → (A → List ℕ) → List A → List ℕ
+stream bytes vs = flat_map bytes vs
+
+-- what a frame comes to, and then the rest of the buffer
+abbrev pub walk_on : {X : Type 0} → (Frame → Reading (List X)) → (ℕ → Reading (List X)) → Result Frame Fault → Reading (List X)
+walk_on item rest (Err k) = faults k
+walk_on item rest (Ok f) = do
+  xs ← item f
+  ys ← rest f.end
+  done (xs ++ ys)
+
+-- the frames from o on, n at most, one behind the other
+unfoldable pub walked : {X : Type 0} → (ℕ → Frame → Reading (List X)) → List ℕ → ℕ → ℕ → Reading (List X)
+walked item B zero o = done []
+walked item B (suc n) o = if nat_le (length B) o then done [] else walk_on (item o) (λ e. walked item B n e) (frame B o)
+
+-- all frames from o on. Each has a byte at least, so that there are no more than the buffer has bytes
+abbrev pub walk : {X : Type 0} → (ℕ → Frame → Reading (List X)) → List ℕ → ℕ → Reading (List X)
+walk item B o = walked item B (length B) o
+
+-- a box of a known name is read, and kept, which takes memory; any other is skipped
+abbrev pub box_of : {A : Type 0} → (BoxType → Bool) → (BoxType → List ℕ → ℕ → ℕ → Reading A) → List ℕ → ℕ → Frame → Reading (List A)
+box_of known reading B o f =
+    if known f.name then (do
+      v ← reading f.name B f.start f.size
+      kept ← memory
+      done (v ∷ [])) else done []
+
+-- the boxes from o on
+abbrev pub boxes : {A : Type 0} → (BoxType → Bool) → (BoxType → List ℕ → ℕ → ℕ → Reading A) → List ℕ → ℕ → Reading (List A)
+boxes known reading B o = walk (box_of known reading B) B o
+
+-- a box that is read and appended to those in front, for which memory is taken
+abbrev pub pushed : {A : Type 0} → List A → Reading A → Reading (List A)
+pushed front r = do
+  v ← r
+  kept ← memory
+  done (front ++ v ∷ [])

@@ -1,0 +1,80 @@
+//! A place in a buffer.
+
+ghost use Rattle.std.specs.Prelude.{◌≡◌, ◌+◌, ◌*◌, ◌<◌, length, IfOk, OnOk, OnErr};
+ghost use Rattle.mp4_frame.specs.Reading.{AnswersAs, piece_from};
+ghost use Rattle.mp4_frame.specs.Tables.{rows_from};
+
+use crate::error::{Error, Result};
+use crate::reading::fields;
+
+/// A place in a buffer. It may lie past the buffer's end.
+#[derive(Debug, Drop)]
+pub struct ByteCursor<'a> {
+    bytes: &'a [u8],
+    position: u64,
+}
+
+impl<'a> ByteCursor<'a> {
+    /// The front of a buffer.
+    pub fn new(bytes: &'a [u8]) -> Self
+        ensures all { result.bytes ≡ bytes.entry }
+        ensures front { result.position ≡ 0 }
+    {
+        ByteCursor { bytes, position: 0 }
+    }
+
+    /// How many bytes lie before the place.
+    pub fn position(&self) -> u64
+        ensures { result ≡ self.now.position }
+    {
+        self.position
+    }
+
+    /// Goes to a place of the buffer, or past its end.
+    pub fn set_position(&mut self, position: u64)
+        ensures position { self.new.position ≡ position }
+        ensures bytes { self.new.bytes ≡ self.old.bytes }
+    {
+        self.position = position;
+    }
+
+    /// The whole buffer.
+    pub fn bytes(&self) -> &'a [u8]
+        ensures { result.now ≡ self.now.bytes.now }
+    {
+        self.bytes
+    }
+
+    /// The next `n` bytes, which have to stand in the buffer. No bytes stand at any place.
+    pub fn take(&mut self, n: u64) -> Result<&'a [u8]>
+        ensures piece { AnswersAs (λ piece. piece.now) result (piece_from self.old.bytes.now self.old.position n) }
+        ensures long { IfOk result (λ piece. length piece.now ≡ n) }
+        ensures moved { OnOk result (self.new.position ≡ self.old.position + n) }
+        ensures kept { OnErr result (self.new.position ≡ self.old.position) }
+        ensures bytes { self.new.bytes ≡ self.old.bytes }
+    {
+        if n == 0 {
+            return Ok(&[]);
+        }
+        let place = self.position as usize;
+        fields(self.bytes, place, n as usize)?;
+        self.position += n;
+        Ok(&self.bytes[place..place + n as usize])
+    }
+
+    /// The next `n` rows of `E` bytes each, which have to stand in the buffer.
+    pub fn take_rows<const E: usize>(&mut self, n: u64) -> Result<&'a [[u8; E]]>
+        requires { 0 < E }
+        ensures rows { AnswersAs (λ rows. rows.now) result (rows_from self.old.bytes.now self.old.position E n) }
+        ensures moved { OnOk result (self.new.position ≡ self.old.position + n * E) }
+        ensures kept { OnErr result (self.new.position ≡ self.old.position) }
+        ensures bytes { self.new.bytes ≡ self.old.bytes }
+    {
+        let _len = self.bytes.len();
+        let Some(whole) = n.checked_mul(E as u64) else {
+            return Err(Error::IoError);
+        };
+        let (rows, _) = self.take(whole)?.as_chunks::<E>();
+        Ok(rows)
+    }
+}

@@ -1,0 +1,100 @@
+//! Four-character codes.
+
+ghost use Rattle.std.specs.Prelude.{◌≡◌, Some, encode_utf8_all};
+ghost use Rattle.bstr.specs.Utf8.{lossy_chars};
+ghost use Rattle.mp4_frame.specs.Bytes.{number, column};
+ghost use Rattle.mp4_frame.specs.BoxType.{code_of};
+
+use crate::box_type::BoxType;
+use crate::error::{Error, Result};
+use crate::number::u32_at;
+use bstr::ByteSlice;
+use std::fmt;
+use std::str::FromStr;
+
+/// A code of four bytes, mostly printable characters, that names a box, a brand or a handler
+/// (ISO/IEC 14496-12, 3.1 and 4.2).
+#[derive(Clone, Copy, Default, PartialEq, Eq)]
+pub struct FourCC {
+    /// The four bytes, as they stand in a file.
+    pub value: [u8; 4],
+}
+
+impl FromStr for FourCC {
+    type Err = Error;
+
+    ghost use Rattle.mp4_frame.specs.FourCC.{IsFourCCOf};
+
+    ghost from_str_gives = { IsFourCCOf };
+
+    fn from_str(s: &str) -> Result<FourCC> {
+        if let [a, b, c, d] = s.as_bytes() {
+            Ok(FourCC {
+                value: [*a, *b, *c, *d],
+            })
+        } else {
+            Err(Error::InvalidData("expected exactly four bytes in string"))
+        }
+    }
+}
+
+impl From<u32> for FourCC {
+    ghost from_gives = { λ n c. c.value ≡ column 4 n };
+
+    #[tactic(auto, unfolding(crate::specs::Bytes::column))]
+    fn from(number: u32) -> FourCC {
+        FourCC {
+            value: number.to_be_bytes(),
+        }
+    }
+}
+
+impl From<FourCC> for u32 {
+    ghost from_gives = { λ c n. n ≡ number c.value 0 4 };
+
+    fn from(code: FourCC) -> u32 {
+        u32::from(&code)
+    }
+}
+
+impl From<&FourCC> for u32 {
+    ghost from_gives = { λ c n. n ≡ number c.now.value 0 4 };
+
+    fn from(code: &FourCC) -> u32 {
+        u32_at(&code.value, 0)
+    }
+}
+
+impl From<[u8; 4]> for FourCC {
+    ghost from_gives = { λ bytes c. c.value ≡ bytes };
+
+    fn from(value: [u8; 4]) -> FourCC {
+        FourCC { value }
+    }
+}
+
+impl From<BoxType> for FourCC {
+    ghost from_gives = { λ name c. c.value ≡ column 4 (code_of name) };
+
+    fn from(name: BoxType) -> FourCC {
+        FourCC::from(u32::from(name))
+    }
+}
+
+/// The bytes as text, with U+FFFD for each piece that is no UTF-8.
+impl fmt::Display for FourCC {
+    ghost output = { λ c. Some (encode_utf8_all (lossy_chars c.value)) };
+
+    fn fmt<W: fmt::Write>(&self, f: &mut fmt::Formatter<W>) -> fmt::Result {
+        let bytes: &[u8] = &self.value;
+        fmt::Display::fmt(&bytes.as_bstr(), f)
+    }
+}
+
+/// The text and the number, as in `isom / 0x69736F6D`.
+impl fmt::Debug for FourCC {
+    fn fmt<W: fmt::Write>(&self, f: &mut fmt::Formatter<W>) -> fmt::Result {
+        let code = u32::from(self);
+        write!(f, "{self} / {code:#010X}")
+    }
+}

@@ -1,0 +1,66 @@
+//! The frames of the boxes at the top level.
+
+ghost use Rattle.std.specs.Prelude.{◌≡◌, ◌<◌, ◌≤◌, ◌+◌, ◌^◌, length, IfOk};
+ghost use Rattle.mp4_frame.specs.Reading.{FaultAs};
+ghost use Rattle.mp4_frame.specs.Heads.{frame, framed};
+
+use crate::box_header::BoxHeader;
+use crate::box_type::BoxType;
+use crate::error::{Error, Result};
+use crate::head::Head;
+
+/// A box: its name, the place where a head of eight bytes would start, its size from there, and its end.
+#[derive(Clone, Copy, Debug)]
+pub struct Frame {
+    pub name: BoxType,
+    pub start: u64,
+    pub size: u64,
+    pub end: u64,
+}
+
+#[tactic(auto, unfolding(crate::specs::Heads::framed))]
+fn frame_of(len: u64, start: u64, header: BoxHeader) -> Result<Frame>
+    requires { start + 8 ≤ len }
+    ensures answer { FaultAs result (framed len start header) }
+    ensures room { IfOk result (λ f. (f.start ≡ start) × (start + 8 ≤ f.end) × (f.end ≤ len)) }
+{
+    let BoxHeader { name, size } = header;
+    if size == 0 {
+        return Ok(Frame {
+            name,
+            start,
+            size: len - start,
+            end: len,
+        });
+    }
+    if size < 8 {
+        return Err(Error::InvalidData("a box is smaller than its header"));
+    }
+    if size > u64::MAX - start {
+        return Err(Error::InvalidData("a box ends past the last place"));
+    }
+    let end = start + size;
+    if end > len {
+        return Err(Error::IoError);
+    }
+    Ok(Frame {
+        name,
+        start,
+        size,
+        end,
+    })
+}
+
+/// The frame at a place before the buffer's end.
+pub(crate) fn frame_at(bytes: &[u8], at: usize) -> Result<Frame>
+    requires { at < length bytes.now }
+    ensures answer { FaultAs result (frame bytes.now at) }
+    ensures room { IfOk result (λ f. (f.start + 8 ≤ length bytes.now) × (at + 8 ≤ f.end) × (f.end ≤ length bytes.now)) }
+{
+    let head = Head::at(bytes, at as u64)?;
+    let header = BoxHeader {
+        name: BoxType::from(head.code),
+        size: head.size,
+    };
+    frame_of(bytes.len() as u64, head.start, header)
+}

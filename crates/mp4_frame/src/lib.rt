@@ -1,0 +1,41 @@
+//! The frame of the boxes of an MP4 file: errors, codes, the cursor, headers, the traits of a box, and lists
+//! of boxes.
+#![tactic(auto)]
+
+mod box_header;
+mod box_type;
+mod byte_cursor;
+mod entries;
+mod error;
+mod four_cc;
+mod frame;
+mod head;
+pub mod laws;
+mod number;
+mod put;
+mod read;
+mod reading;
+mod skip;
+mod table;
+mod traits;
+mod write;
+
+pub use box_header::{
+    BoxHeader, HEADER_EXT_SIZE, HEADER_SIZE, header_is_read_back, read_box_header_ext,
+    write_box_header_ext,
+};
+pub use box_type::{BoxType, code_is_kept, name_is_kept};
+pub use byte_cursor::ByteCursor;
+pub use entries::Entries;
+pub use error::{Error, Result};
+pub use four_cc::FourCC;
+pub use frame::Frame;
+pub use head::Head;
+pub use number::{i16_at, i32_at, u8_at, u16_at, u24_at, u32_at, u64_at};
+pub use put::{put_bytes, put_i16, put_i32, put_u8, put_u16, put_u24, put_u32, put_u64, put_zeros};
+pub use read::read_boxes_as;
+pub use reading::{fields, test};
+pub use skip::{box_start, skip_box, skip_bytes, skip_bytes_to};
+pub use table::{TableEntry, put_entries, read_table};
+pub use traits::{BoxLaws, Mp4Box, ReadBox, StreamBox, WriteBox};
+pub use write::{put_part, write_boxes, write_zeros};

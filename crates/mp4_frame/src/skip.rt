@@ -1,0 +1,54 @@
+//! Going on to other places of a buffer.
+
+ghost use Rattle.std.specs.Prelude.{◌≡◌, ◌+◌, ◌-◌, ◌≤◌, ◌^◌, nat_lt, Ok, OnOk, OnErr};
+ghost use Rattle.mp4_frame.specs.Reading.{Answers, test as tested};
+
+use crate::box_header::HEADER_SIZE;
+use crate::byte_cursor::ByteCursor;
+use crate::error::Result;
+use crate::reading::test;
+
+/// The start of the box whose header was just read: 8 bytes before the place.
+pub fn box_start(reader: &ByteCursor) -> Result<u64>
+    requires { 8 ≤ reader.now.position }
+    ensures { result ≡ Ok (reader.now.position - 8) }
+{
+    Ok(reader.position() - HEADER_SIZE)
+}
+
+/// Goes on by `size` bytes. Invalid data where the place would lie past 2^64 - 1.
+pub fn skip_bytes(reader: &mut ByteCursor, size: u64) -> Result<()>
+    ensures answer { Answers result (tested (nat_lt (reader.old.position + size) (2 ^ 64))) }
+    ensures moved { OnOk result (reader.new.position ≡ reader.old.position + size) }
+    ensures kept { OnErr result (reader.new.position ≡ reader.old.position) }
+    ensures bytes { reader.new.bytes ≡ reader.old.bytes }
+{
+    let position = reader.position();
+    test(size <= u64::MAX - position, "box end past 64 bits")?;
+    reader.set_position(position + size);
+    Ok(())
+}
+
+/// Goes to a place of the buffer, or past its end.
+pub fn skip_bytes_to(reader: &mut ByteCursor, position: u64) -> Result<()>
+    ensures answer { result ≡ Ok tt }
+    ensures moved { reader.new.position ≡ position }
+    ensures bytes { reader.new.bytes ≡ reader.old.bytes }
+{
+    reader.set_position(position);
+    Ok(())
+}
+
+/// Goes to the end of the box of this size whose header was just read. Invalid data where the end would lie
+/// past 2^64 - 1.
+pub fn skip_box(reader: &mut ByteCursor, size: u64) -> Result<()>
+    requires { 8 ≤ reader.old.position }
+    ensures answer { Answers result (tested (nat_lt (reader.old.position - 8 + size) (2 ^ 64))) }
+    ensures moved { OnOk result (reader.new.position ≡ reader.old.position - 8 + size) }
+    ensures kept { OnErr result (reader.new.position ≡ reader.old.position) }
+    ensures bytes { reader.new.bytes ≡ reader.old.bytes }
+{
+    let start = box_start(reader)?;
+    test(size <= u64::MAX - start, "box end past 64 bits")?;
+    skip_bytes_to(reader, start + size)
+}

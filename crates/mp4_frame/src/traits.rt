@@ -1,0 +1,143 @@
+//! What is said of a box: how long it is, how it is read, how it is written, and how it stands in lists.
+
+ghost use Rattle.std.specs.Prelude.{◌≡◌, ℕ, ◌+◌, ◌-◌, ◌^◌, ◌<◌, ◌≤◌, ◌↔◌, min, Bool, IsTrue, List, length, OnOk, OnErr};
+ghost use Rattle.mp4_frame.specs.Reading.{Reading, Answers, AnswersAs, reading};
+ghost use Rattle.mp4_frame.specs.Written.{Writes};
+ghost use Rattle.mp4_frame.specs.Streams.{pushed};
+ghost use Rattle.mp4_frame.specs.Laws.{Framed, Normal, OwnName, ReadsBack, RowReadsBack, RowIsSound};
+ghost use Rattle.mp4_frame.specs.declared.box_type.BoxType.{BoxType};
+
+use crate::box_type::BoxType;
+use crate::byte_cursor::ByteCursor;
+use crate::error::{Error, Result};
+use crate::reading::{bytes_from, test};
+use crate::write::lengthen;
+use std::alloc::{Allocator, Global};
+
+/// A box has a name and a size.
+pub trait Mp4Box: Sized {
+    /// The name.
+    ghost name: { Self → BoxType };
+
+    /// The number of bytes that it is written in, without a limit.
+    ghost size: { Self → ℕ };
+
+    fn box_type(&self) -> BoxType
+        ensures { result ≡ name self.now };
+
+    fn box_size(&self) -> u64
+        ensures { result ≡ min (size self.now) (2 ^ 64 - 1) };
+}
+
+/// A box is read by its row of the table, behind its header.
+pub trait ReadBox: Sized {
+    /// What the row reads of the bytes from the box's start on, for that start and the box's size.
+    ghost reads: { List ℕ → ℕ → ℕ → Reading Self };
+
+    /// Reads the box whose header of 8 bytes stands at the front of `bytes`.
+    fn read_row(alloc: Global, bytes: &[u8], start: u64, size: u64) -> Result<Self>
+        requires { start + size < 2 ^ 64 }
+        ensures { Answers result (reads bytes.now start size) };
+
+    /// Reads the box whose header was just read.
+    final fn read_box(alloc: Global, reader: &mut ByteCursor, size: u64) -> Result<Self>
+        requires { 8 ≤ reader.old.position }
+        ensures answer { Answers result (reading reads reader.old.bytes.now (reader.old.position - 8) size) }
+        ensures moved { OnOk result (reader.new.position ≡ reader.old.position - 8 + size) }
+        ensures kept { OnErr result (reader.new.position ≡ reader.old.position) }
+        ensures bytes { reader.new.bytes ≡ reader.old.bytes }
+    {
+        let start = reader.position() - 8;
+        test(size <= u64::MAX - start, "box end past 64 bits")?;
+        let value = Self::read_row(alloc, bytes_from(reader.bytes(), start), start, size)?;
+        reader.set_position(start + size);
+        Ok(value)
+    }
+}
+
+/// A box is written whole or not at all.
+pub trait WriteBox: Mp4Box {
+    /// It can be written.
+    ghost Writable: { Self → Type 0 };
+
+    /// The bytes that it is written in.
+    ghost bytes: { Self → List ℕ };
+
+    /// What it reads back as.
+    ghost normal: { Self → Self };
+
+    fn is_writable(&self) -> bool
+        ensures { IsTrue result ↔ Writable self.now };
+
+    /// Fills a place of the box's size.
+    fn put_box(&self, place: &mut [u8])
+        requires writable { Writable self.now }
+        requires room { length place.old ≡ Self.size self.now }
+        ensures { place.new ≡ bytes self.now };
+
+    ghost framed: { (v : Self) → Writable v → Framed (Self.size v) (Self.name v) (bytes v) };
+
+    ghost normal_form: { (v : Self) → Writable v → Normal Writable bytes normal v };
+
+    final fn write_box<A: Allocator>(&self, writer: &mut Vec<u8, A>) -> Result<u64>
+        ensures { Writes (Writable self.now) (bytes self.now) writer.old.items writer.new.items result }
+    {
+        if !self.is_writable() {
+            return Err(Error::InvalidData("this box cannot be written"));
+        }
+        let size = self.box_size();
+        let old = writer.len();
+        lengthen(writer, size as usize)?;
+        self.put_box(&mut writer[old..]);
+        Ok(size)
+    }
+}
+
+/// A box that stands in lists of boxes.
+pub trait StreamBox: WriteBox + Drop {
+    /// The names that are read. Boxes of others are skipped.
+    ghost known: { BoxType → Bool };
+
+    /// What stands in a buffer under a name, at a start, with a size.
+    ghost named_reading: { BoxType → List ℕ → ℕ → ℕ → Reading Self };
+
+    fn knows(name: BoxType) -> bool
+        ensures { result ≡ known name };
+
+    fn read_named(alloc: Global, name: BoxType, reader: &mut ByteCursor, size: u64) -> Result<Self>
+        requires known { IsTrue (known name) }
+        requires placed { 8 ≤ reader.old.position }
+        ensures answer { Answers result (named_reading name reader.old.bytes.now (reader.old.position - 8) size) }
+        ensures bytes { reader.new.bytes ≡ reader.old.bytes }
+        ensures kept { OnErr result (reader.new.position ≡ reader.old.position) };
+
+    /// Reads the box of this name, and appends it.
+    fn push_named(
+        alloc: Global,
+        name: BoxType,
+        reader: &mut ByteCursor,
+        size: u64,
+        boxes: &mut Vec<Self>,
+    ) -> Result<()>
+        requires known { IsTrue (known name) }
+        requires placed { 8 ≤ reader.old.position }
+        ensures answer { AnswersAs (λ _. boxes.new.items) result (pushed boxes.old.items (named_reading name reader.old.bytes.now (reader.old.position - 8) size)) }
+        ensures bytes { reader.new.bytes ≡ reader.old.bytes }
+    {
+        let value = Self::read_named(alloc, name, reader, size)?;
+        boxes.reserve(1)?;
+        boxes.push_reserved(value);
+        Ok(())
+    }
+
+    ghost own_name: { (v : Self) → Self.Writable v → OwnName known (Self.name v) };
+
+    ghost read_back: { (v : Self) → Self.Writable v → ReadsBack (named_reading (Self.name v)) (Self.bytes v) (Self.normal v) };
+}
+
+/// A box that is read back as it was written.
+pub trait BoxLaws: ReadBox + WriteBox {
+    ghost read_back: { (v : Self) → Self.Writable v → RowReadsBack Self.reads (Self.bytes v) (Self.size v) (Self.normal v) };
+
+    ghost sound: { RowIsSound Self.reads Self.Writable Self.size Self.normal };
+}

@@ -1,0 +1,92 @@
+//! Lists of boxes are written whole or not at all.
+
+ghost use Rattle.std.specs.Prelude.{◌≡◌, ◌+◌, ◌≤◌, ◌++◌, take, ◌↔◌, length, All, replicate, IsTrue, OnOk, OnErr, IfErr, MatchResult};
+ghost use Rattle.mp4_frame.specs.Streams.{stream};
+ghost use Rattle.mp4_frame.specs.Written.{Writes};
+ghost use Rattle.mp4_frame.specs.Laws.{Framed};
+ghost use Rattle.mp4_frame.specs.declared.error.Error.TheVariants.{OutOfMemory};
+
+use crate::error::{Error, Result};
+use crate::traits::{Mp4Box, StreamBox, WriteBox};
+use std::alloc::Allocator;
+
+/// Appends `n` zeros, by one request for memory.
+pub(crate) fn lengthen<A: Allocator>(writer: &mut Vec<u8, A>, n: usize) -> Result<()>
+    ensures ok { OnOk result (writer.new.items ≡ writer.old.items ++ replicate n 0) }
+    ensures err { OnErr result (writer.new.items ≡ writer.old.items) }
+    ensures error { IfErr result (λ e. e ≡ OutOfMemory) }
+{
+    let Some(len) = writer.len().checked_add(n) else {
+        return Err(Error::OutOfMemory);
+    };
+    writer.resize(len, 0)?;
+    Ok(())
+}
+
+/// Appends `size` zeros.
+pub fn write_zeros<A: Allocator>(writer: &mut Vec<u8, A>, size: u64) -> Result<()>
+    ensures ok { OnOk result (writer.new.items ≡ writer.old.items ++ replicate size 0) }
+    ensures err { OnErr result (writer.new.items ≡ writer.old.items) }
+    ensures error { IfErr result (λ e. e ≡ OutOfMemory) }
+{
+    lengthen(writer, size as usize)
+}
+
+fn are_writable<B: WriteBox>(boxes: &[B]) -> bool
+    ensures { IsTrue result ↔ All B.Writable boxes.now }
+{
+    boxes.iter().all(|b| b.is_writable())
+}
+
+fn total_size<B: WriteBox>(boxes: &[B]) -> Result<usize>
+    requires { All B.Writable boxes.now }
+    ensures { MatchResult result (λ n. n ≡ length (stream B.bytes boxes.now)) (λ e. e ≡ OutOfMemory) }
+{
+    let mut total: usize = 0;
+    for b in boxes {
+        let Some(more) = total.checked_add(b.box_size() as usize) else {
+            return Err(Error::OutOfMemory);
+        };
+        total = more;
+    }
+    Ok(total)
+}
+
+fn put_boxes<B: WriteBox>(boxes: &[B], place: &mut [u8])
+    requires writable { All B.Writable boxes.now }
+    requires room { length place.old ≡ length (stream B.bytes boxes.now) }
+    ensures { place.new ≡ stream B.bytes boxes.now }
+{
+    let mut at: usize = 0;
+    for b in boxes {
+        let end = at + b.box_size() as usize;
+        b.put_box(&mut place[at..end]);
+        at = end;
+    }
+}
+
+/// Appends the boxes, and answers the number of bytes.
+pub fn write_boxes<B: StreamBox, A: Allocator>(boxes: &[B], writer: &mut Vec<u8, A>) -> Result<u64>
+    ensures { Writes (All B.Writable boxes.now) (stream B.bytes boxes.now) writer.old.items writer.new.items result }
+{
+    if !are_writable(boxes) {
+        return Err(Error::InvalidData("a box of the list cannot be written"));
+    }
+    let total = total_size(boxes)?;
+    let old = writer.len();
+    lengthen(writer, total)?;
+    put_boxes(boxes, &mut writer[old..]);
+    Ok(total as u64)
+}
+
+/// Puts a box at a place, and answers the place behind it.
+pub fn put_part<B: WriteBox>(place: &mut [u8], at: usize, value: &B) -> usize
+    requires writable { B.Writable value.now }
+    requires room { at + B.size value.now ≤ length place.old }
+    ensures next { result ≡ at + B.size value.now }
+    ensures put { take result place.new ≡ take at place.old ++ B.bytes value.now }
+{
+    let end = at + value.box_size() as usize;
+    value.put_box(&mut place[at..end]);
+    end
+}
