@@ -1,7 +1,7 @@
 -- A header that was written is read back.
 use Rattle.std.proofs.Common.{◌≡◌, ℕ, ◌+◌, ◌-◌, ◌<◌, ◌≤◌, ◌^◌, Bool, true, false, cond, List, [], ◌∷◌, ◌++◌, length, refl, sym, ap, ◌∙◌, arith, length-append, lit<}
 use Rattle.std.specs.Prelude.{nat_lt, nat_le, ◌==◌}
-use Rattle.std.proofs.lemmas.Bool.{le-leb, ltb-true, ltb-false}
+use Rattle.std.proofs.lemmas.Bool.{le-leb, ltb-true, ltb-false, ne_eqb}
 use Rattle.mp4_frame.specs.Bytes.{number, joined, Fit, width}
 use Rattle.mp4_frame.specs.BoxType.{name_of, code_of}
 use Rattle.mp4_frame.specs.Heads.{head, header, header_length, bytes_header}
@@ -9,8 +9,7 @@ use Rattle.mp4_frame.specs.Reading.{Reading, done}
 use Rattle.mp4_frame.specs.declared.box_type.BoxType.{BoxType}
 use Rattle.mp4_frame.specs.declared.box_header.BoxHeader.{BoxHeader}
 use Rattle.mp4_frame.proofs.Columns.{found, number-joined, length-joined}
-use Rattle.mp4_frame.proofs.Heads.{eq_false}
-use Rattle.mp4_frame.proofs.Numbers.{number_behind}
+use Rattle.mp4_frame.proofs.Numbers.{number-past}
 use Rattle.mp4_frame.proofs.Stands.{fields_stand}
 
 abbrev pub compact : BoxHeader → List (ℕ × ℕ)
@@ -21,7 +20,7 @@ large h = (4, 1) ∷ (4, code_of h.name) ∷ (8, h.size + 8) ∷ []
 
 -- a number of columns that stand among other bytes
 among : (cs : List (ℕ × ℕ)) (x y : List ℕ) (o w : ℕ) → Fit cs → number (x ++ (joined cs ++ y)) (length x + o) w ≡ found cs y o w
-among cs x y o w fits = number_behind o w x (joined cs ++ y) ∙ number-joined cs y o w fits
+among cs x y o w fits = number-past x (joined cs ++ y) o w ∙ number-joined cs y o w fits
 
 first : (cs : List (ℕ × ℕ)) (x y : List ℕ) (w : ℕ) → Fit cs → number (x ++ (joined cs ++ y)) (length x) w ≡ found cs y 0 w
 first cs x y w fits = (let zeroth : length x ≡ length x + 0 = omega arith in ap (λ (o : ℕ). number (x ++ (joined cs ++ y)) o w) zeroth) ∙ among cs x y 0 w fits
@@ -39,7 +38,7 @@ header_by h x y true e most other code own =
     let size : number bytes (length x) 4 ≡ h.size = first cs x y 4 fits in
     let named : number bytes (length x + 4) 4 ≡ code_of h.name = among cs x y 4 4 fits in
     let stands = fields_stand bytes (length x) 8 (omega (arith, long cs x y)) in
-    let short : (h.size == 1) ≡ false = eq_false h.size 1 other in
+    let short : (h.size == 1) ≡ false = ne_eqb h.size 1 other in
     (rw (stands, size, named, short) (ap (λ (n : BoxType). done (record { name = n; size = h.size })) own), rw (size, short) (sym (length-joined cs)))
 header_by h x y false e most other code own =
     let cs = large h in
@@ -51,7 +50,7 @@ header_by h x y false e most other code own =
     let size : number bytes (length x + 8) 8 ≡ h.size + 8 = among cs x y 8 8 fits in
     let stands = fields_stand bytes (length x) 8 (omega (arith, long cs x y)) in
     let behind = fields_stand bytes (length x + 8) 8 (omega (arith, long cs x y)) in
-    let some : (h.size + 8 == 0) ≡ false = eq_false (h.size + 8) 0 (λ z. absurd (omega arith)) in
+    let some : (h.size + 8 == 0) ≡ false = ne_eqb (h.size + 8) 0 (λ z. absurd (omega arith)) in
     let enough : nat_le 16 (h.size + 8) ≡ true = le-leb 16 (h.size + 8) (omega arith) in
     let counted : h.size + 8 - 8 ≡ h.size = omega arith in
     (rw (stands, one, behind, named, size, some, enough, counted) (ap (λ (n : BoxType). done (record { name = n; size = h.size })) own), rw one (sym (length-joined cs)))

@@ -1,8 +1,6 @@
 pub mod Numbers
 pub mod Stands
 pub mod Columns
-pub mod Signed
-pub mod Rows
 pub mod Heads
 pub mod Places
 pub mod Walks

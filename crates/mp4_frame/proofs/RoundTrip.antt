@@ -3,8 +3,10 @@ use Rattle.std.proofs.Common.{◌≡◌, ℕ, zero, suc, ◌+◌, ◌-◌, ◌^�
 use Rattle.std.specs.Prelude.{nat_lt, ◌==◌, ◌↔◌}
 use Rattle.std.specs.List.{AllByRecursion}
 use Rattle.std.proofs.Common.{inl, inr}
-use Rattle.std.proofs.lemmas.Bool.{cases_lt}
-use Rattle.std.proofs.lemmas.List.{append-nil, take-append-drop, take_at, drop_at, length-take-le}
+use Rattle.std.proofs.lemmas.Bool.{cases_lt, lt-ltb, le-ltb, ne_eqb}
+use Rattle.std.proofs.lemmas.List.{append-nil, take-append-drop, take-append-le, take_at, drop_at, length-take-le}
+use Rattle.std.proofs.lemmas.List.Concat.{flat_map-append}
+use Rattle.std.proofs.Math.Seq.{take-append-add}
 use Rattle.mp4_frame.specs.Bytes.{number}
 use Rattle.mp4_frame.specs.BoxType.{name_of, code_of}
 use Rattle.mp4_frame.specs.Heads.{framed, frame_of, frame}
@@ -14,8 +16,8 @@ use Rattle.mp4_frame.specs.Streams.{stream, walk_on, walk, box_of, boxes}
 use Rattle.mp4_frame.specs.declared.box_type.BoxType.{BoxType}
 use Rattle.mp4_frame.specs.declared.box_header.BoxHeader.{BoxHeader}
 use Rattle.mp4_frame.specs.declared.frame.Frame.{Frame}
-use Rattle.mp4_frame.proofs.Numbers.{number_in_front, number_behind, number_among}
-use Rattle.mp4_frame.proofs.Heads.{lt_true, lt_false, eq_false, no_head, short_head}
+use Rattle.mp4_frame.proofs.Numbers.{number-front, number-past, number-among}
+use Rattle.mp4_frame.proofs.Heads.{no_head, short_head}
 use Rattle.mp4_frame.proofs.Walks.{walk_first, walk_none}
 use Rattle.mp4_frame.proofs.Steps.{bind_ok, item_known}
 
@@ -28,12 +30,12 @@ frame_short B o size code name room is_size is_code is_name least =
 framed_fits : (len o size : ℕ) (name : BoxType) → 8 ≤ size → o + size < 2 ^ 64 → o + size ≤ len → framed len o (record { name = name; size = size }) ≡ Ok (record { name = name; start = o; size = size; end = o + size })
 unfolding framed
 framed_fits len o size name least top room =
-    rw (eq_false size 0 (λ e. omega arith), lt_false size 8 least, lt_false (2 ^ 64 - 1) (o + size) (omega arith), lt_false len (o + size) room) refl
+    rw (ne_eqb size 0 (λ e. omega arith), le-ltb size 8 least, le-ltb (2 ^ 64 - 1) (o + size) (omega arith), le-ltb len (o + size) room) refl
 
 framed_cut : (len o size : ℕ) (name : BoxType) → 8 ≤ size → o + size < 2 ^ 64 → len < o + size → framed len o (record { name = name; size = size }) ≡ Err End
 unfolding framed
 framed_cut len o size name least top cut =
-    rw (eq_false size 0 (λ e. omega arith), lt_false size 8 least, lt_false (2 ^ 64 - 1) (o + size) (omega arith), lt_true len (o + size) cut) refl
+    rw (ne_eqb size 0 (λ e. omega arith), le-ltb size 8 least, le-ltb (2 ^ 64 - 1) (o + size) (omega arith), lt-ltb len (o + size) cut) refl
 
 -- a list in front of what is still read
 abbrev pub ahead : {A : Type 0} → List A → Result (List A) Fault → Result (List A) Fault
@@ -66,8 +68,8 @@ module _ {A : Type 0} (name : A → BoxType) (size : A → ℕ) (Writable : A �
       let long : length B ≡ length x + (length (bytes v) + length y) = omega (arith, ap length is, length-append x (bytes v ++ y), length-append (bytes v) y) in
       let zero_on : length x + 0 ≡ length x = omega arith in
       let e1 : length (bytes v) ≡ number B (length x) 4 =
-      f.long ∙ sym (ap (λ (l : List ℕ). number l (length x) 4) is ∙ ap (λ (i : ℕ). number (x ++ (bytes v ++ y)) i 4) (sym zero_on) ∙ number_among 0 4 x (bytes v) y (omega (arith, f.long, f.least)) ∙ f.size_first) in
-      let e2 : code_of (name v) ≡ number B (length x + 4) 4 = sym (ap (λ (l : List ℕ). number l (length x + 4) 4) is ∙ number_among 4 4 x (bytes v) y (omega (arith, f.long, f.least)) ∙ f.code_next) in
+      f.long ∙ sym (ap (λ (l : List ℕ). number l (length x) 4) is ∙ ap (λ (i : ℕ). number (x ++ (bytes v ++ y)) i 4) (sym zero_on) ∙ number-among x (bytes v) y 0 4 (omega (arith, f.long, f.least)) ∙ f.size_first) in
+      let e2 : code_of (name v) ≡ number B (length x + 4) 4 = sym (ap (λ (l : List ℕ). number l (length x + 4) 4) is ∙ number-among x (bytes v) y 4 4 (omega (arith, f.long, f.least)) ∙ f.code_next) in
       let least : 8 ≤ length (bytes v) = omega (arith, f.long, f.least) in
       frame_short B (length x) (length (bytes v)) (code_of (name v)) (name v) (omega (arith, long, least)) e1 e2 n.is_own least
       ∙ framed_fits (length B) (length x) (length (bytes v)) (name v) least top (omega (arith, long))
@@ -129,9 +131,9 @@ module _ {A : Type 0} (name : A → BoxType) (size : A → ℕ) (Writable : A �
             (let split : bytes v ≡ y ++ z = sym (take-append-drop k (bytes v)) in
             let zero_on : length x + 0 ≡ length x = omega arith in
             let e1 : length (bytes v) ≡ number B (length x) 4 =
-            f.long ∙ sym f.size_first ∙ ap (λ (l : List ℕ). number l 0 4) split ∙ number_in_front 0 4 y z (omega (arith, ylong)) ∙ sym (number_behind 0 4 x y) ∙ ap (λ (i : ℕ). number B i 4) zero_on in
+            f.long ∙ sym f.size_first ∙ ap (λ (l : List ℕ). number l 0 4) split ∙ number-front y z 0 4 (omega (arith, ylong)) ∙ sym (number-past x y 0 4) ∙ ap (λ (i : ℕ). number B i 4) zero_on in
             let e2 : code_of (name v) ≡ number B (length x + 4) 4 =
-            sym f.code_next ∙ ap (λ (l : List ℕ). number l 4 4) split ∙ number_in_front 4 4 y z (omega (arith, ylong)) ∙ sym (number_behind 4 4 x y) in
+            sym f.code_next ∙ ap (λ (l : List ℕ). number l 4 4) split ∙ number-front y z 4 4 (omega (arith, ylong)) ∙ sym (number-past x y 4 4) in
             let least : 8 ≤ length (bytes v) = omega (arith, f.long, f.least) in
             frame_short B (length x) (length (bytes v)) (code_of (name v)) (name v) (omega (arith, long, h)) e1 e2 n.is_own least
             ∙ framed_cut (length B) (length x) (length (bytes v)) (name v) least top (omega (arith, long)))
@@ -139,7 +141,7 @@ module _ {A : Type 0} (name : A → BoxType) (size : A → ℕ) (Writable : A �
       ]
 
   -- a written list that is cut inside a box ends too early
-  pub cut : (vs : List A) → AllByRecursion Writable vs → (v : A) → Writable v → (x : List ℕ) (k : ℕ) → 0 < k → k < length (bytes v) → length x + length (stream bytes vs) + length (bytes v) < 2 ^ 64
+  cut : (vs : List A) → AllByRecursion Writable vs → (v : A) → Writable v → (x : List ℕ) (k : ℕ) → 0 < k → k < length (bytes v) → length x + length (stream bytes vs) + length (bytes v) < 2 ^ 64
       → (boxes known reading (x ++ (stream bytes vs ++ take k (bytes v))) (length x)).outcome ≡ Err End
   cut vs ws v w x k least most top =
       let y = take k (bytes v) in
@@ -151,6 +153,22 @@ module _ {A : Type 0} (name : A → BoxType) (size : A → ℕ) (Writable : A �
       let room : length x' < length B = omega (arith, ap length same, length-append x' y, length-take-le k (bytes v) (omega arith)) in
       let first = walk_first (box_of known reading B) B (length x') room ∙ ap (walk_on (box_of known reading B (length x')) (λ e. boxes known reading B e)) fr in
       through vs ws B x y refl (omega (arith, top)) ∙ ap (λ (o : ℕ). ahead (map normal vs) (boxes known reading B o).outcome) (sym front) ∙ ap (λ (r : Reading (List A)). ahead (map normal vs) r.outcome) first
+
+  -- a written list that is cut between two boxes is read up to there
+  pub cut_between : (vs : List A) → AllByRecursion Writable vs → (ws : List A) (x : List ℕ) → length x + length (stream bytes vs) < 2 ^ 64
+      → (boxes known reading (x ++ take (length (stream bytes vs)) (stream bytes (vs ++ ws))) (length x)).outcome ≡ Ok (map normal vs)
+  cut_between vs h ws x top =
+      let front : take (length (stream bytes vs)) (stream bytes (vs ++ ws)) ≡ stream bytes vs =
+      ap (take (length (stream bytes vs))) (flat_map-append bytes vs ws) ∙ take_at (stream bytes vs) (stream bytes ws) (length (stream bytes vs)) refl in
+      ap (λ (l : List ℕ). (boxes known reading (x ++ l) (length x)).outcome) front ∙ whole vs h x top
+
+  -- a written list that is cut inside a box ends too early
+  pub cut_inside : (vs : List A) → AllByRecursion Writable vs → (v : A) → Writable v → (ws : List A) (x : List ℕ) (k : ℕ) → 0 < k → k < length (bytes v) → length x + length (stream bytes vs) + length (bytes v) < 2 ^ 64
+      → (boxes known reading (x ++ take (length (stream bytes vs) + k) (stream bytes (vs ++ v ∷ ws))) (length x)).outcome ≡ Err End
+  cut_inside vs h v w ws x k least most top =
+      let front : take (length (stream bytes vs) + k) (stream bytes (vs ++ v ∷ ws)) ≡ stream bytes vs ++ take k (bytes v) =
+      ap (take (length (stream bytes vs) + k)) (flat_map-append bytes vs (v ∷ ws)) ∙ take-append-add (stream bytes vs) (bytes v ++ stream bytes ws) k ∙ ap (λ (l : List ℕ). stream bytes vs ++ l) (take-append-le k (bytes v) (stream bytes ws) (omega arith)) in
+      ap (λ (l : List ℕ). (boxes known reading (x ++ l) (length x)).outcome) front ∙ cut vs h v w x k least most top
 
   -- equal bytes are bytes of equal normal forms
   pub same_normal : (v w : A) → Writable v → Writable w → bytes v ≡ bytes w → normal v ≡ normal w
@@ -176,7 +194,7 @@ module _ {A : Type 0} (name : A → BoxType) (size : A → ℕ) (Writable : A �
       let f = framed_law v p in
       let g = framed_law w q in
       let sizes : length (bytes v) ≡ length (bytes w) =
-      f.long ∙ sym f.size_first ∙ sym (number_in_front 0 4 (bytes v) s (omega (arith, f.long, f.least))) ∙ ap (λ (l : List ℕ). number l 0 4) e ∙ number_in_front 0 4 (bytes w) t (omega (arith, g.long, g.least)) ∙ g.size_first ∙ sym g.long in
+      f.long ∙ sym f.size_first ∙ sym (number-front (bytes v) s 0 4 (omega (arith, f.long, f.least))) ∙ ap (λ (l : List ℕ). number l 0 4) e ∙ number-front (bytes w) t 0 4 (omega (arith, g.long, g.least)) ∙ g.size_first ∙ sym g.long in
       let n = length (bytes w) in
       (sym (take_at (bytes v) s n sizes) ∙ ap (take n) e ∙ take_at (bytes w) t n refl, sym (drop_at (bytes v) s n sizes) ∙ ap (drop n) e ∙ drop_at (bytes w) t n refl)
 

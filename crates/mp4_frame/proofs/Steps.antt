@@ -1,7 +1,7 @@
 -- Reading boxes one after the other.
 use Rattle.std.proofs.Common.{◌≡◌, ℕ, ◌+◌, ◌-◌, ◌<◌, ◌≤◌, Bool, true, false, cond, List, [], ◌∷◌, ◌++◌, length, Result, Ok, Err, refl, sym, ap, subst, ◌∙◌, arith, append_assoc, length-append, inl, inr}
 use Rattle.std.specs.Prelude.{nat_lt, ◌||◌, ◌⊎◌}
-use Rattle.std.proofs.lemmas.Grind.{common_steps}
+use Rattle.std.proofs.lemmas.Bool.{lt-ltb}
 use Rattle.std.proofs.lemmas.List.{append-nil}
 use Rattle.mp4_frame.specs.Heads.{frame}
 use Rattle.mp4_frame.specs.Reading.{Fault, End, Invalid, NotFound, Reading, done, faults, also, and_then, ◌>>=◌, Refuses, FaultAs, IsFault, AnswersAs, memory}
@@ -10,7 +10,6 @@ use Rattle.mp4_frame.specs.declared.box_type.BoxType.{BoxType}
 use Rattle.mp4_frame.specs.declared.frame.Frame.{Frame}
 use Rattle.mp4_frame.specs.declared.error.Error.{Error}
 use Rattle.mp4_frame.specs.declared.error.Error.TheVariants as errors
-use Rattle.mp4_frame.proofs.Heads.{lt_true}
 use Rattle.mp4_frame.proofs.Walks.{walk_first, walk_none}
 
 -- what was read before, and what is still read
@@ -54,7 +53,7 @@ refuses_fault (errors.InvalidData _) k total is t = t ∙ ap (λ (k : Fault). Er
 refuses_fault _ k total is t = absurd is
 
 long_enough : {A : Type 0} (front : List A) (v : A) → nat_lt 0 (length (front ++ v ∷ [])) ≡ true
-long_enough front v = lt_true 0 (length (front ++ v ∷ [])) (omega (arith, length-append front (v ∷ [])))
+long_enough front v = lt-ltb 0 (length (front ++ v ∷ [])) (omega (arith, length-append front (v ∷ [])))
 
 -- a reading where the cursor was put
 pub placed : {A : Type 0} (reading : BoxType → List ℕ → ℕ → ℕ → Reading A) (name : BoxType) (bs B : List ℕ) (p s size : ℕ) → bs ≡ B → p ≡ s + 8 → reading name bs (p - 8) size ≡ reading name B s size
@@ -157,15 +156,6 @@ module _ {A : Type 0} (known : BoxType → Bool) (reading : BoxType → List ℕ
       let w = i >>= λ xs. boxes known reading B f.end >>= λ ys. done (xs ++ ys) in
       let three = and_then_asked w.asked w.outcome (λ ys. done (front ++ ys)) two in
       ap (λ (r : Reading (List A)). r.asked) (sym one) ∙ ap (λ (b : Bool). a || b) three ∙ or_true a
-
-  at_first_by : (a : Bool) (o : Result (List A) Fault) → continued false [] (record { asked = a; outcome = o }) ≡ record { asked = a; outcome = o }
-  at_first_by true (Ok xs) = refl
-  at_first_by false (Ok xs) = refl
-  at_first_by a (Err k) = refl
-
-  -- nothing is read so far
-  pub at_first : (r : Reading (List A)) → continued false [] r ≡ r
-  at_first r = at_first_by r.asked r.outcome
 
   -- a frame that faults
   pub frame_faults : (a : Bool) (front : List A) (o : ℕ) (e : Error) (total : Reading (List A)) → o < length B → FaultAs (Err e) (frame B o)

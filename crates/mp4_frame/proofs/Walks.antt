@@ -3,6 +3,7 @@ use Rattle.std.proofs.Common.{◌≡◌, ℕ, zero, suc, ◌+◌, ◌-◌, ◌^�
 use Rattle.std.specs.Prelude.{nat_lt, nat_le, ◌==◌, ◌||◌, ◌⊎◌}
 use Rattle.std.proofs.Common.{inl, inr}
 use Rattle.std.proofs.lemmas.Grind.{common_steps}
+use Rattle.std.proofs.lemmas.Bool.{ltb-false}
 use Rattle.std.proofs.lemmas.List.{append-nil}
 use Rattle.mp4_frame.specs.Bytes.{number}
 use Rattle.mp4_frame.specs.Heads.{head}
@@ -14,9 +15,6 @@ use Rattle.mp4_frame.specs.declared.box_header.BoxHeader.{BoxHeader}
 use Rattle.mp4_frame.specs.declared.head.Head.{Head}
 use Rattle.mp4_frame.proofs.Heads.{head_room}
 use Rattle.mp4_frame.specs.declared.frame.Frame.{Frame}
-
-le_from : (a b : ℕ) → nat_lt a b ≡ false → b ≤ a
-le_from a b h = grind (arith, common_steps)
 
 guarded : {A : Type 0} (b : Bool) (k : Fault) (r : Result A Fault) (x : A) → cond b (Err k) r ≡ Ok x → (b ≡ false) × (r ≡ Ok x)
 guarded true k r x e = absurd cc
@@ -40,7 +38,7 @@ framed_room len start h f room e =
           let b = guarded (nat_lt (2 ^ 64 - 1) (start + h.size)) Invalid _ f a.1 in
           let c = guarded (nat_lt len (start + h.size)) End _ f b.1 in
           let t : start + h.size ≡ f.end = ap (λ (r : Result Frame Fault). elim r as (λ _. ℕ) [ Ok g ↦ g.end | Err _ ↦ 0 ]) c.1 in
-          (omega (arith, t, le_from _ _ a.0), omega (arith, t, le_from _ _ c.0)))
+          (omega (arith, t, ltb-false _ _ a.0), omega (arith, t, ltb-false _ _ c.0)))
     ]
 
 frame_of_room : (B : List ℕ) (o : ℕ) (r : Result Head Fault) (f : Frame) → (head B o).outcome ≡ r → frame_of (length B) r ≡ Ok f → (o + 8 ≤ f.end) × (f.end ≤ length B)

@@ -62,13 +62,6 @@ FaultAs (Ok v) r = r ≡ Ok v
 FaultAs (Err e) (Ok v) = ⊥
 FaultAs (Err e) (Err k) = IsFault e k
 
--- the same where the value is seen elsewhere
-abbrev pub FaultOn : {X A : Type 0} → Result X Error → Result A Fault → Type 0
-FaultOn (Ok v) (Ok w) = Unit {0}
-FaultOn (Ok v) (Err k) = ⊥
-FaultOn (Err e) (Ok v) = ⊥
-FaultOn (Err e) (Err k) = IsFault e k
-
 -- a value of one type as one of another
 abbrev pub mapped : {A C : Type 0} → (A → C) → Reading A → Reading C
 mapped f r = r >>= λ v. done (f v)

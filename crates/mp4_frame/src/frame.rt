@@ -34,10 +34,10 @@ fn frame_of(len: u64, start: u64, header: BoxHeader) -> Result<Frame>
         });
     }
     if size < 8 {
-        return Err(Error::InvalidData("a box is smaller than its header"));
+        return Err(Error::InvalidData("box size too small"));
     }
     if size > u64::MAX - start {
-        return Err(Error::InvalidData("a box ends past the last place"));
+        return Err(Error::InvalidData("box end past 64 bits"));
     }
     let end = start + size;
     if end > len {

@@ -83,7 +83,7 @@ pub trait WriteBox: Mp4Box {
         ensures { Writes (Writable self.now) (bytes self.now) writer.old.items writer.new.items result }
     {
         if !self.is_writable() {
-            return Err(Error::InvalidData("this box cannot be written"));
+            return Err(Error::InvalidData("value does not fit its field"));
         }
         let size = self.box_size();
         let old = writer.len();

@@ -70,7 +70,7 @@ pub fn write_boxes<B: StreamBox, A: Allocator>(boxes: &[B], writer: &mut Vec<u8,
     ensures { Writes (All B.Writable boxes.now) (stream B.bytes boxes.now) writer.old.items writer.new.items result }
 {
     if !are_writable(boxes) {
-        return Err(Error::InvalidData("a box of the list cannot be written"));
+        return Err(Error::InvalidData("value does not fit its field"));
     }
     let total = total_size(boxes)?;
     let old = writer.len();
