@@ -9,3 +9,4 @@ pub mod RoundTrip
 pub mod Members
 pub mod Tables
 pub mod Headers
+pub mod Codes

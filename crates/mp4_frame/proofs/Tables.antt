@@ -1,10 +1,11 @@
 -- Counted tables.
-use Rattle.std.proofs.Common.{◌≡◌, ℕ, zero, suc, ◌+◌, ◌*◌, ◌/◌, ◌^◌, ◌-◌, Bool, true, false, ltb, cond, ◌<◌, ◌≤◌, List, [], ◌∷◌, ◌++◌, map, Result, Ok, Err, length, take, drop, get_or, refl, sym, ap, subst, ◌∙◌, ◌&&◌, arith}
+use Rattle.std.proofs.Common.{◌≡◌, ℕ, zero, suc, ◌+◌, ◌*◌, ◌/◌, ◌^◌, ◌-◌, Bool, true, false, ltb, cond, ◌<◌, ◌≤◌, List, [], ◌∷◌, ◌++◌, map, Result, Ok, Err, length, take, drop, get_or, refl, sym, ap, subst, ◌∙◌, ◌&&◌, arith, lit≤}
 use Rattle.std.proofs.lemmas.List.{take-take, drop-take, drop-drop, length-take, length-drop}
 use Rattle.std.proofs.lemmas.Bool.{or_from, ne_eqb, lt-leb}
 use Rattle.std.proofs.lemmas.Nat.{div-mul-add}
 use Rattle.std.specs.Simd.{first_chunks}
-use Rattle.std.specs.List.{flat_map, AllByRecursion}
+use Rattle.std.specs.List.{flat_map, All, AllByRecursion}
+use Rattle.std.proofs.lemmas.List.Elements.{All-from_recursion, recursion_from_All}
 use Rattle.std.proofs.lemmas.List.{append_assoc, drop_at, take_at, length-append}
 use Rattle.std.proofs.lemmas.Bool.{lt-ltb, le-leb, or_right}
 use Rattle.std.proofs.lemmas.Nat.{le-div}
@@ -13,12 +14,12 @@ use Rattle.mp4_frame.specs.Bytes.{number, joined, width, Fit}
 use Rattle.mp4_frame.specs.Laws.{AreBytes, Framed}
 use Rattle.mp4_frame.specs.BoxType.{code_of}
 use Rattle.mp4_frame.specs.declared.box_type.BoxType.{BoxType}
-use Rattle.mp4_frame.specs.Reading.{Fault, End, Reading, fields, piece_from, test, done, faults, also, and_then, ◌>>=◌, Refuses}
+use Rattle.mp4_frame.specs.Reading.{Fault, End, Reading, fields, piece_from, test, memory, done, faults, also, and_then, ◌>>=◌, Refuses}
 use Rattle.mp4_frame.specs.declared.error.Error.{Error}
 use Rattle.mp4_frame.specs.declared.error.Error.TheVariants as errors
-use Rattle.mp4_frame.specs.Tables.{Table, rows, rows_from, counted, columns_table}
+use Rattle.mp4_frame.specs.Tables.{Table, rows, rows_from, counted, columns_table, reads_table, size_table, WritableTable, bytes_table}
 use Rattle.mp4_frame.proofs.Columns.{found, numbers-joined, number-joined, fields-joined, length-joined, number-below}
-use Rattle.mp4_frame.proofs.Stands.{fields_stand, fields_ok, test_ok, is_value, are_bytes-drop, guard}
+use Rattle.mp4_frame.proofs.Stands.{fields_stand, fields_ok, test_ok, fields_room, is_value, are_bytes-drop, guard}
 
 first_rows : (B : List ℕ) (o e n : ℕ) → first_chunks e n (take (n * e) (drop o B)) ≡ rows B o e n
 first_rows B o e zero = refl
@@ -82,43 +83,49 @@ rows_past_all B o e n fits past =
     let some : ltb 0 (n * e) ≡ true = lt-ltb _ _ (omega arith) in
     rw (some, over) refl
 
-module _ {X : Type 0} (f : X → List ℕ) (e : ℕ) (each : (x : X) → length (f x) ≡ e) where
-  pub length_flat : (xs : List X) → length (flat_map f xs) ≡ e * length xs
-  length_flat [] = omega arith
-  length_flat (x ∷ xs) = omega (arith, length-append (f x) (flat_map f xs), each x, length_flat xs)
+module _ {X : Type 0} (f : X → List ℕ) (e : ℕ) (Fits : X → Type 0) (each : (x : X) → Fits x → length (f x) ≡ e) where
+  pub length_flat : (xs : List X) → AllByRecursion Fits xs → length (flat_map f xs) ≡ e * length xs
+  length_flat [] h = omega arith
+  length_flat (x ∷ xs) h = omega (arith, length-append (f x) (flat_map f xs), each x h.0, length_flat xs h.1)
 
-  rows_back : (p : List ℕ) (xs : List X) (y : List ℕ) (o : ℕ) → length p ≡ o → rows (p ++ (flat_map f xs ++ y)) o e (length xs) ≡ map f xs
-  rows_back p [] y o at = refl
-  rows_back p (x ∷ xs) y o at =
+  -- the rows of entries among other bytes
+  pub rows_back : (p : List ℕ) (xs : List X) (y : List ℕ) (o : ℕ) → AllByRecursion Fits xs → length p ≡ o → rows (p ++ (flat_map f xs ++ y)) o e (length xs) ≡ map f xs
+  rows_back p [] y o h at = refl
+  rows_back p (x ∷ xs) y o h at =
       let regroup : p ++ ((f x ++ flat_map f xs) ++ y) ≡ (p ++ f x) ++ (flat_map f xs ++ y) = simp append_assoc in
       let head : take e (drop o (p ++ ((f x ++ flat_map f xs) ++ y))) ≡ f x =
-      ap (take e) (drop_at p ((f x ++ flat_map f xs) ++ y) o at ∙ append_assoc (f x) (flat_map f xs) y) ∙ take_at (f x) (flat_map f xs ++ y) e (each x) in
-      let next : length (p ++ f x) ≡ o + e = omega (arith, length-append p (f x), each x) in
+      ap (take e) (drop_at p ((f x ++ flat_map f xs) ++ y) o at ∙ append_assoc (f x) (flat_map f xs) y) ∙ take_at (f x) (flat_map f xs ++ y) e (each x h.0) in
+      let next : length (p ++ f x) ≡ o + e = omega (arith, length-append p (f x), each x h.0) in
       let rest : rows (p ++ ((f x ++ flat_map f xs) ++ y)) (o + e) e (length xs) ≡ map f xs =
-      ap (λ (B : List ℕ). rows B (o + e) e (length xs)) regroup ∙ rows_back (p ++ f x) xs y (o + e) next in
+      ap (λ (B : List ℕ). rows B (o + e) e (length xs)) regroup ∙ rows_back (p ++ f x) xs y (o + e) h.1 next in
       rw (head, rest) refl
 
+  -- rows that were written are read back
+  pub rows_from_back : (p : List ℕ) (xs : List X) (y : List ℕ) (o : ℕ) → AllByRecursion Fits xs → length p ≡ o → rows_from (p ++ (flat_map f xs ++ y)) o e (length xs) ≡ done (map f xs)
+  unfolding rows_from
+  rows_from_back p xs y o h at =
+      let B = p ++ (flat_map f xs ++ y) in
+      let room : o + length xs * e ≤ length B = omega (arith, length-append p (flat_map f xs ++ y), length-append (flat_map f xs) y, length_flat xs h, at) in
+      rw (fields_stand B o (length xs * e) room, rows_back p xs y o h at) refl
+
   -- what was written as a counted table is read back
-  pub counted_back : (code version flags : ℕ) (xs : List X) (size : ℕ) (y : List ℕ) → 0 < e → size ≡ 16 + e * length xs → Fit (columns_table size code version flags (length xs))
-      → (counted ((joined (columns_table size code version flags (length xs)) ++ flat_map f xs) ++ y) size e).outcome ≡ Ok (record { version = version; flags = flags; rows = map f xs })
-  unfolding counted rows_from
-  counted_back code version flags xs size y pos is fits =
+  pub counted_back : (code version flags : ℕ) (xs : List X) (y : List ℕ) → 0 < e → AllByRecursion Fits xs → Fit (columns_table (size_table e xs) code version flags (length xs))
+      → (counted ((joined (columns_table (size_table e xs) code version flags (length xs)) ++ flat_map f xs) ++ y) (size_table e xs) e).outcome ≡ Ok (record { version = version; flags = flags; rows = map f xs })
+  unfolding counted
+  counted_back code version flags xs y pos h fits =
+      let size = size_table e xs in
       let cs = columns_table size code version flags (length xs) in
-      let J = joined cs in
       let z = flat_map f xs ++ y in
-      let B = J ++ z in
-      let lj : length J ≡ 16 = length-joined cs in
-      let long : length B ≡ 16 + (e * length xs + length y) = omega (arith, length-append J z, length-append (flat_map f xs) y, lj, length_flat xs) in
+      let B = joined cs ++ z in
       let numbers : number B ≡ found cs z = numbers-joined cs z fits in
       let many : number B 12 4 ≡ length xs = ap (λ (n : ℕ → ℕ → ℕ). n 12 4) numbers in
       let v : number B 8 1 ≡ version = ap (λ (n : ℕ → ℕ → ℕ). n 8 1) numbers in
       let g : number B 9 3 ≡ flags = ap (λ (n : ℕ → ℕ → ℕ). n 9 3) numbers in
-      let head = fields_stand B 8 8 (omega (arith, long)) in
+      let head = fields-joined cs z 8 8 (lit≤ tt) in
       let fit = le-leb (length xs) ((size - 16) / e) (le-div (length xs) (size - 16) e pos (omega arith)) in
-      let body = fields_stand B 16 (length xs * e) (omega (arith, long)) in
-      let made : rows B 16 e (length xs) ≡ map f xs = rows_back J xs y 16 lj in
-      let whole : (counted B size e).outcome ≡ Ok (record { version = version; flags = flags; rows = map f xs }) = rw (head, many, fit, body, v, g, made) refl in
-      ap (λ (l : List ℕ). (counted l size e).outcome) (append_assoc J (flat_map f xs) y) ∙ whole
+      let body = rows_from_back (joined cs) xs y 16 h (length-joined cs) in
+      let whole : (counted B size e).outcome ≡ Ok (record { version = version; flags = flags; rows = map f xs }) = rw (head, many, fit, body, v, g) refl in
+      ap (λ (l : List ℕ). (counted l size e).outcome) (append_assoc (joined cs) (flat_map f xs) y) ∙ whole
 
 -- entries are what their bytes are read as
 pub map_back : {X : Type 0} (f : X → List ℕ) (of_row : List ℕ → X) (Fits : X → Type 0) → ((x : X) → Fits x → of_row (f x) ≡ x) → (xs : List X) → AllByRecursion Fits xs → map of_row (map f xs) ≡ xs
@@ -126,67 +133,97 @@ map_back f of_row Fits back [] h = refl
 map_back f of_row Fits back (x ∷ xs) h = rw (back x h.0, map_back f of_row Fits back xs h.1) refl
 
 -- ---- what is read of bytes
+
+-- a row of e bytes
+pub record IsRow (e : ℕ) (row : List ℕ) : Type 0 where
+  pub long : length row ≡ e
+  pub are : AreBytes row
+
 bytes_take : (B : List ℕ) (e : ℕ) → AreBytes B → AreBytes (take e B)
 bytes_take B zero h i = omega arith
 bytes_take [] (suc e) h i = omega arith
 bytes_take (b ∷ B) (suc e) h zero = h 0
 bytes_take (b ∷ B) (suc e) h (suc i) = bytes_take B e (λ k. h (suc k)) i
 
-rows_bytes : (B : List ℕ) (o e n : ℕ) → AreBytes B → AllByRecursion AreBytes (rows B o e n)
-rows_bytes B o e zero h = tt
-rows_bytes B o e (suc n) h = (bytes_take (drop o B) e (are_bytes-drop o B h), rows_bytes B (o + e) e n h)
+rows_are : (B : List ℕ) (o e n : ℕ) → AreBytes B → (0 < n → o + n * e ≤ length B) → AllByRecursion (IsRow e) (rows B o e n)
+rows_are B o e zero are room = tt
+rows_are B o e (suc n) are room =
+    let all : o + suc n * e ≤ length B = room (omega arith) in
+    let whole : suc n * e ≡ e + n * e = omega arith in
+    (record { long = omega (arith, length-take e (drop o B), length-drop o B); are = bytes_take (drop o B) e (are_bytes-drop o B are) }, rows_are B (o + e) e n are (λ _. omega arith))
 
 length-rows : (B : List ℕ) (o e n : ℕ) → length (rows B o e n) ≡ n
 length-rows B o e zero = refl
 length-rows B o e (suc n) = ap suc (length-rows B (o + e) e n)
 
-counted_is : (B : List ℕ) (size e : ℕ) (t : Table) → (counted B size e).outcome ≡ Ok t
-    → record { version = number B 8 1; flags = number B 9 3; rows = rows B 16 e (number B 12 4) } ≡ t
-unfolding counted rows_from
-counted_is B size e t h =
-    let n = number B 12 4 in
-    let made : List (List ℕ) → Reading Table = λ r. done (record { version = number B 8 1; flags = number B 9 3; rows = r }) in
-    let a = fields_ok B 8 8 (λ _. test _ >>= λ _. (fields B 16 (n * e) >>= λ _. done (rows B 16 e n)) >>= made) t h in
-    let b = test_ok _ (λ _. (fields B 16 (n * e) >>= λ _. done (rows B 16 e n)) >>= made) t a in
-    let c = value_first (fields B 16 (n * e) >>= λ _. done (rows B 16 e n)) made t b.1 in
-    let d : (done (rows B 16 e n)).outcome ≡ Ok c.0 = fields_ok B 16 (n * e) (λ _. done (rows B 16 e n)) c.0 c.1 in
-    let s : rows B 16 e n ≡ c.0 = is_value _ _ d in
-    is_value _ t (ap (λ (r : List (List ℕ)). (made r).outcome) s ∙ c.2)
+-- rows that were read of bytes have their length
+pub rows_read : (B : List ℕ) (o e n : ℕ) (found : List (List ℕ)) → 0 < e → AreBytes B → (rows_from B o e n).outcome ≡ Ok found → AllByRecursion (IsRow e) found × (length found ≡ n)
+unfolding rows_from
+rows_read B o e n found pos are h =
+    let p = value_first (fields B o (n * e)) (λ _. done (rows B o e n)) found h in
+    let is : rows B o e n ≡ found = is_value _ found p.2 in
+    rw (← is) (rows_are B o e n are (λ more. (let one : 1 ≤ n = omega arith in let some : 1 * e ≤ n * e = mul-le-mul_right e one in fields_room B o (n * e) (omega (arith, some)) p.1)), length-rows B o e n)
 
 -- what a counted table is read as has the ranges of its columns
-pub counted_bytes : (B : List ℕ) (size e : ℕ) (t : Table) → AreBytes B → (counted B size e).outcome ≡ Ok t
-    → (t.version < 256 ^ 1) × (t.flags < 256 ^ 3) × (length t.rows < 256 ^ 4) × AllByRecursion AreBytes t.rows
-counted_bytes B size e t bytes h =
-    let is = counted_is B size e t h in
-    let n = number-below B 12 4 bytes in
-    let c : length (rows B 16 e (number B 12 4)) < 256 ^ 4 = omega (arith, n, length-rows B 16 e (number B 12 4)) in
-    rw (← is) (number-below B 8 1 bytes, number-below B 9 3 bytes, c, rows_bytes B 16 e (number B 12 4) bytes)
+pub counted_read : (B : List ℕ) (size e : ℕ) (t : Table) → 0 < e → AreBytes B → (counted B size e).outcome ≡ Ok t
+    → (t.version < 256 ^ 1) × (t.flags < 256 ^ 3) × (length t.rows < 256 ^ 4) × AllByRecursion (IsRow e) t.rows
+unfolding counted
+counted_read B size e t pos are h =
+    let n = number B 12 4 in
+    let made : List (List ℕ) → Reading Table = λ r. done (record { version = number B 8 1; flags = number B 9 3; rows = r }) in
+    let a = fields_ok B 8 8 (λ _. test _ >>= λ _. rows_from B 16 e n >>= made) t h in
+    let b = test_ok _ (λ _. rows_from B 16 e n >>= made) t a in
+    let c = value_first (rows_from B 16 e n) made t b.1 in
+    let found = rows_read B 16 e n c.0 pos are c.1 in
+    let count : length c.0 < 256 ^ 4 = omega (arith, number-below B 12 4 are, found.1) in
+    let is : record { version = number B 8 1; flags = number B 9 3; rows = c.0 } ≡ t = is_value _ t c.2 in
+    rw (← is) (number-below B 8 1 are, number-below B 9 3 are, count, found.0)
 
 -- a fact of each row is one of each entry
-pub map_all : {X : Type 0} (of_row : List ℕ → X) (Fits : X → Type 0) → ((row : List ℕ) → AreBytes row → Fits (of_row row)) → (found : List (List ℕ)) → AllByRecursion AreBytes found → AllByRecursion Fits (map of_row found)
-map_all of_row Fits each [] h = tt
-map_all of_row Fits each (r ∷ rs) h = (each r h.0, map_all of_row Fits each rs h.1)
+pub map_all : {X : Type 0} (e : ℕ) (entry_of : List ℕ → X) (Fits : X → Type 0) → ((row : List ℕ) → IsRow e row → Fits (entry_of row)) → (found : List (List ℕ)) → AllByRecursion (IsRow e) found → AllByRecursion Fits (map entry_of found)
+map_all e entry_of Fits each [] h = tt
+map_all e entry_of Fits each (row ∷ found) h = (each row h.0, map_all e entry_of Fits each found h.1)
 
-pub length_map : {X : Type 0} (of_row : List ℕ → X) (found : List (List ℕ)) → length (map of_row found) ≡ length found
-length_map of_row [] = refl
-length_map of_row (r ∷ rs) = ap suc (length_map of_row rs)
+pub length_map : {X : Type 0} (entry_of : List ℕ → X) (found : List (List ℕ)) → length (map entry_of found) ≡ length found
+length_map entry_of [] = refl
+length_map entry_of (row ∷ found) = ap suc (length_map entry_of found)
 
--- a fact of each place is one of each entry
-pub all_at : (top : ℕ) (xs : List ℕ) → ((i : ℕ) → get_or xs i 0 < top) → AllByRecursion (λ x. x < top) xs
-all_at top [] h = tt
-all_at top (x ∷ xs) h = (h 0, all_at top xs (λ i. h (suc i)))
+-- a table of fewer than 2 ^ 32 bytes has fewer than 2 ^ 32 entries
+pub few_entries : (e n : ℕ) → 0 < e → 16 + e * n < 2 ^ 32 → n < 2 ^ 32
+few_entries e n pos small =
+    let one : 1 ≤ e = omega arith in
+    let times : 1 * n ≤ e * n = mul-le-mul_right n one in
+    omega (arith, times)
 
--- a counted table begins with its size and its code
-pub framed_table : {X : Type 0} (f : X → List ℕ) (e : ℕ) → ((x : X) → length (f x) ≡ e) → (size code version flags : ℕ) (xs : List X) (name : BoxType) → code ≡ code_of name → size ≡ 16 + e * length xs → Fit (columns_table size code version flags (length xs))
-    → Framed size name (joined (columns_table size code version flags (length xs)) ++ flat_map f xs)
-framed_table f e each size code version flags xs name named is fits =
-    let cs = columns_table size code version flags (length xs) in
-    let z = flat_map f xs in
-    let lj : length (joined cs) ≡ 16 = length-joined cs in
-    record {
-      long = omega (arith, length-append (joined cs) z, lj, length_flat f e each xs, is);
-      least = omega (arith, is);
-      most = fits.0;
-      size_first = number-joined cs z 0 4 fits;
-      code_next = number-joined cs z 4 4 fits ∙ named;
-    }
+-- The laws of a box of one table, over the laws of its entries: a row has e bytes, an entry that fits is read
+-- back of its row, and what is read of bytes fits.
+module _ {X V : Type 0} (make : ℕ → ℕ → List X → V) (row_of : X → List ℕ) (entry_of : List ℕ → X) (Fits : X → Type 0) (e code : ℕ) (pos : 0 < e) (coded : code < 256 ^ 4)
+    (long : (x : X) → Fits x → length (row_of x) ≡ e) (back : (x : X) → Fits x → entry_of (row_of x) ≡ x) (fits : (row : List ℕ) → IsRow e row → Fits (entry_of row)) where
+  pub framed_table : (name : BoxType) → code ≡ code_of name → (version flags : ℕ) (xs : List X) → WritableTable Fits e code version flags xs → Framed (size_table e xs) name (bytes_table row_of e code version flags xs)
+  framed_table name named version flags xs w =
+      let cs = columns_table (size_table e xs) code version flags (length xs) in
+      let z = flat_map row_of xs in
+      let lj : length (joined cs) ≡ 16 = length-joined cs in
+      record {
+        long = omega (arith, length-append (joined cs) z, lj, length_flat row_of e Fits long xs (recursion_from_All Fits xs w.each));
+        least = omega arith;
+        most = w.fit.0;
+        size_first = number-joined cs z 0 4 w.fit;
+        code_next = number-joined cs z 4 4 w.fit ∙ named;
+      }
+
+  pub table_back : (version flags : ℕ) (xs : List X) (rest : List ℕ) → WritableTable Fits e code version flags xs → (reads_table make entry_of e (bytes_table row_of e code version flags xs ++ rest) (size_table e xs)).outcome ≡ Ok (make version flags xs)
+  table_back version flags xs rest w =
+      let t = counted_back row_of e Fits long code version flags xs rest pos (recursion_from_All Fits xs w.each) w.fit in
+      let es = map_back row_of entry_of Fits back xs (recursion_from_All Fits xs w.each) in
+      rw (t, es) refl
+
+  -- what is read is made of version, flags and entries, and is writable unless it is too long
+  pub table_read : (B : List ℕ) (size : ℕ) (v : V) → AreBytes B → (reads_table make entry_of e B size).outcome ≡ Ok v
+      → (version flags : ℕ) × (xs : List X) × (make version flags xs ≡ v) × (size_table e xs < 2 ^ 32 → WritableTable Fits e code version flags xs)
+  table_read B size v are h =
+      let p = value_first (counted B size e) (λ (t : Table). memory >>= λ _. done (make t.version t.flags (map entry_of t.rows))) v h in
+      let t = counted_read B size e p.0 pos are p.1 in
+      let xs = map entry_of p.0.rows in
+      let count : length xs < 256 ^ 4 = omega (arith, t.2, length_map entry_of p.0.rows) in
+      (p.0.version, p.0.flags, xs, is_value _ v p.2, λ small. record { fit = (small, (coded, (t.0, (t.1, (count, tt))))); each = All-from_recursion Fits xs (map_all e entry_of Fits fits p.0.rows t.3) })

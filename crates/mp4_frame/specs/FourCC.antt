@@ -1,5 +1,7 @@
 -- Four-character codes.
 use Rattle.std.specs.Prelude.{◌≡◌, ℕ, List, length, Result, Ok, Err}
+use Rattle.mp4_frame.specs.Bytes.{number, column}
+use Rattle.mp4_frame.specs.Laws.{AreBytes}
 use Rattle.mp4_frame.specs.declared.error.Error.{Error}
 use Rattle.mp4_frame.specs.declared.error.Error.TheVariants as errors
 use Rattle.mp4_frame.specs.declared.four_cc.FourCC.{FourCC}
@@ -9,3 +11,15 @@ abbrev pub IsFourCCOf : List ℕ → Result FourCC Error → Type 0
 IsFourCCOf text (Ok c) = (length text ≡ 4) × (c.value ≡ text)
 IsFourCCOf text (Err (errors.InvalidData _)) = length text ≡ 4 → ⊥
 IsFourCCOf text (Err _) = ⊥
+
+-- the code of a number, and the number of a code
+abbrev pub four_cc_of : ℕ → FourCC
+four_cc_of n = record { value = column 4 n }
+
+abbrev pub number_of : FourCC → ℕ
+number_of c = number c.value 0 4
+
+-- a code has four bytes
+pub record IsFourCC (c : FourCC) : Type 0 where
+  pub long : length c.value ≡ 4
+  pub are : AreBytes c.value

@@ -1,13 +1,14 @@
 //! Four-character codes.
 
-ghost use Rattle.std.specs.Prelude.{◌≡◌, Some, encode_utf8_all};
+ghost use Rattle.std.specs.Prelude.{◌≡◌, ◌↔◌, Some, IsTrue, encode_utf8_all};
 ghost use Rattle.bstr.specs.Utf8.{lossy_chars};
-ghost use Rattle.mp4_frame.specs.Bytes.{number, column};
 ghost use Rattle.mp4_frame.specs.BoxType.{code_of};
+ghost use Rattle.mp4_frame.specs.FourCC.{IsFourCC};
 
 use crate::box_type::BoxType;
 use crate::error::{Error, Result};
 use crate::number::u32_at;
+use crate::table::TableEntry;
 use bstr::ByteSlice;
 use std::fmt;
 use std::str::FromStr;
@@ -39,7 +40,9 @@ impl FromStr for FourCC {
 }
 
 impl From<u32> for FourCC {
-    ghost from_gives = { λ n c. c.value ≡ column 4 n };
+    ghost use Rattle.mp4_frame.specs.FourCC.{four_cc_of};
+
+    ghost from_gives = { λ n c. c ≡ four_cc_of n };
 
     #[tactic(auto, unfolding(crate::specs::Bytes::column))]
     fn from(number: u32) -> FourCC {
@@ -50,7 +53,9 @@ impl From<u32> for FourCC {
 }
 
 impl From<FourCC> for u32 {
-    ghost from_gives = { λ c n. n ≡ number c.value 0 4 };
+    ghost use Rattle.mp4_frame.specs.FourCC.{number_of};
+
+    ghost from_gives = { λ c n. n ≡ number_of c };
 
     fn from(code: FourCC) -> u32 {
         u32::from(&code)
@@ -58,7 +63,9 @@ impl From<FourCC> for u32 {
 }
 
 impl From<&FourCC> for u32 {
-    ghost from_gives = { λ c n. n ≡ number c.now.value 0 4 };
+    ghost use Rattle.mp4_frame.specs.FourCC.{number_of};
+
+    ghost from_gives = { λ c n. n ≡ number_of c.now };
 
     fn from(code: &FourCC) -> u32 {
         u32_at(&code.value, 0)
@@ -66,7 +73,7 @@ impl From<&FourCC> for u32 {
 }
 
 impl From<[u8; 4]> for FourCC {
-    ghost from_gives = { λ bytes c. c.value ≡ bytes };
+    ghost from_gives = { λ bytes c. c ≡ record { value = bytes } };
 
     fn from(value: [u8; 4]) -> FourCC {
         FourCC { value }
@@ -74,7 +81,9 @@ impl From<[u8; 4]> for FourCC {
 }
 
 impl From<BoxType> for FourCC {
-    ghost from_gives = { λ name c. c.value ≡ column 4 (code_of name) };
+    ghost use Rattle.mp4_frame.specs.FourCC.{four_cc_of};
+
+    ghost from_gives = { λ name c. c ≡ four_cc_of (code_of name) };
 
     fn from(name: BoxType) -> FourCC {
         FourCC::from(u32::from(name))
@@ -97,4 +106,29 @@ impl fmt::Debug for FourCC {
         let code = u32::from(self);
         write!(f, "{self} / {code:#010X}")
     }
+}
+
+/// A code in a list of codes.
+impl TableEntry<4> for FourCC {
+    ghost use Rattle.mp4_frame.specs.FourCC.{IsFourCC};
+
+    ghost row_of = { λ c. c.value };
+
+    ghost Fits = { IsFourCC };
+
+    fn to_row(&self) -> [u8; 4] {
+        self.value
+    }
+
+    fn fits(&self) -> bool {
+        is_four_cc(*self)
+    }
+}
+
+/// Every value is a code. The answer is for proofs, which know nothing of the bytes behind a reference.
+pub fn is_four_cc(code: FourCC) -> bool
+    ensures { IsTrue result ↔ IsFourCC code }
+{
+    let _code = code;
+    true
 }

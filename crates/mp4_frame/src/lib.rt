@@ -28,7 +28,7 @@ pub use box_type::{BoxType, code_is_kept, name_is_kept};
 pub use byte_cursor::ByteCursor;
 pub use entries::Entries;
 pub use error::{Error, Result};
-pub use four_cc::FourCC;
+pub use four_cc::{FourCC, is_four_cc};
 pub use frame::Frame;
 pub use head::Head;
 pub use number::{i16_at, i32_at, u8_at, u16_at, u24_at, u32_at, u64_at};
@@ -36,6 +36,8 @@ pub use put::{put_bytes, put_i16, put_i32, put_u8, put_u16, put_u24, put_u32, pu
 pub use read::read_boxes_as;
 pub use reading::{fields, test};
 pub use skip::{box_start, skip_box, skip_bytes, skip_bytes_to};
-pub use table::{TableEntry, put_entries, read_table};
+pub use table::{
+    TableEntry, all_fit, is_writable_table, put_entries, put_table, read_table, table_size,
+};
 pub use traits::{BoxLaws, Mp4Box, ReadBox, StreamBox, WriteBox};
 pub use write::{put_part, write_boxes, write_zeros};

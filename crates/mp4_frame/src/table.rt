@@ -1,17 +1,50 @@
-//! Boxes of one counted table.
+//! Boxes of one counted table: version, flags, a count, and that many rows of one length.
 
-ghost use Rattle.std.specs.Prelude.{◌≡◌, ℕ, ◌≤◌, ◌<◌, ◌+◌, ◌*◌, ◌^◌, ◌++◌, List, length, take, flat_map};
-ghost use Rattle.mp4_frame.specs.Bytes.{number, column};
+ghost use Rattle.std.specs.Prelude.{◌≡◌, ℕ, ◌≤◌, ◌<◌, ◌+◌, ◌*◌, ◌-◌, ◌^◌, ◌++◌, ◌↔◌, min, All, IsTrue, List, length, take, flat_map};
+ghost use Rattle.mp4_frame.specs.Bytes.{column};
 ghost use Rattle.mp4_frame.specs.Reading.{AnswersAs};
-ghost use Rattle.mp4_frame.specs.Tables.{counted};
+ghost use Rattle.mp4_frame.specs.Tables.{counted, size_table, WritableTable, bytes_table};
 
 use crate::byte_cursor::ByteCursor;
 use crate::error::Result;
 use crate::number::{u8_at, u24_at, u32_at};
-use crate::put::put_bytes;
+use crate::put::{put_bytes, put_u8, put_u24, put_u32};
 use crate::reading::{fields, test};
 
-/// Version, flags and the rows of a box whose one table has rows of E bytes.
+/// An entry of a table, which a row of `E` bytes spells.
+pub trait TableEntry<const E: usize>: Copy {
+    /// The bytes of its row.
+    ghost row_of: { Self → List ℕ };
+
+    /// Its numbers have the ranges of their types.
+    ghost Fits: { Self → Type 0 };
+
+    fn to_row(&self) -> [u8; E]
+        ensures { result ≡ row_of self.now };
+
+    /// Every entry fits. The answer is for proofs, which know no ranges of the entries of a slice.
+    fn fits(&self) -> bool
+        ensures { IsTrue result ↔ Fits self.now };
+}
+
+impl TableEntry<4> for u32 {
+    ghost row_of = { λ x. column 4 x };
+
+    ghost Fits = { λ x. x < 2 ^ 32 };
+
+    #[tactic(auto, unfolding(crate::specs::Bytes::column))]
+    fn to_row(&self) -> [u8; 4] {
+        self.to_be_bytes()
+    }
+
+    fn fits(&self) -> bool {
+        let _entry = *self;
+        true
+    }
+}
+
+/// Version, flags and the rows of a box of this size whose one table has rows of `E` bytes. `too_many` is the
+/// text of the refusal where the count is more than the size has room for.
 #[tactic(auto, unfolding(crate::specs::Tables::counted))]
 pub fn read_table<'a, const E: usize>(
     bytes: &'a [u8],
@@ -30,24 +63,62 @@ pub fn read_table<'a, const E: usize>(
     Ok((u8_at(bytes, 8), u24_at(bytes, 9), rows))
 }
 
-/// An entry of a table, of E bytes.
-pub trait TableEntry<const E: usize>: Copy {
-    ghost row_of: { Self → List ℕ };
-
-    fn to_row(&self) -> [u8; E]
-        ensures { result ≡ row_of self.now };
+/// The size of a box of one table with these entries.
+pub fn table_size<T: TableEntry<E>, const E: usize>(entries: &[T]) -> u64
+    ensures { result ≡ min (size_table E entries.now) (2 ^ 64 - 1) }
+{
+    (entries.len() as u64)
+        .saturating_mul(E as u64)
+        .saturating_add(16)
 }
 
-impl TableEntry<4> for u32 {
-    ghost row_of = { λ x. column 4 x };
-
-    #[tactic(auto, unfolding(crate::specs::Bytes::column))]
-    fn to_row(&self) -> [u8; 4] {
-        self.to_be_bytes()
-    }
+/// Every list of entries fits. The answer is for proofs, as that of `TableEntry::fits`.
+pub fn all_fit<T: TableEntry<E>, const E: usize>(entries: &[T]) -> bool
+    ensures { IsTrue result ↔ All T.Fits entries.now }
+{
+    entries.iter().all(
+        |entry: &T| -> bool
+            ensures { IsTrue result ↔ T.Fits entry.now }
+        { entry.fits() },
+    )
 }
 
-/// Puts entries, and answers the place behind them.
+/// A box of one table with these entries can be written.
+#[tactic(auto, using(crate::proofs::Tables::few_entries))]
+pub fn is_writable_table<T: TableEntry<E>, const E: usize>(
+    code: u32,
+    version: u8,
+    flags: u32,
+    entries: &[T],
+) -> bool
+    requires { 0 < E }
+    ensures { IsTrue result ↔ WritableTable T.Fits E code version flags entries.now }
+{
+    flags < 1 << 24 && table_size(entries) < 1 << 32 && all_fit(entries)
+}
+
+/// Fills a place with a box of one table.
+#[tactic(auto, unfolding(crate::specs::Bytes::joined, crate::specs::Bytes::joined_onto))]
+pub fn put_table<T: TableEntry<E>, const E: usize>(
+    place: &mut [u8],
+    code: u32,
+    version: u8,
+    flags: u32,
+    entries: &[T],
+)
+    requires writable { WritableTable T.Fits E code version flags entries.now }
+    requires room { length place.old ≡ size_table E entries.now }
+    ensures { place.new ≡ bytes_table T.row_of E code version flags entries.now }
+{
+    let at = put_u32(place, 0, table_size(entries) as u32);
+    let at = put_u32(place, at, code);
+    let at = put_u8(place, at, version);
+    let at = put_u24(place, at, flags);
+    let at = put_u32(place, at, entries.len() as u32);
+    put_entries(place, at, entries);
+}
+
+/// Puts the rows of entries, and answers the place behind them.
 pub fn put_entries<T: TableEntry<E>, const E: usize>(
     place: &mut [u8],
     at: usize,

@@ -1,0 +1,29 @@
+-- stco, the chunk offset box (ISO/IEC 14496-12, 8.7.5): version 1 byte, flags 3, a count of 4 at 12, and
+-- that many offsets of 4 bytes from 16 on.
+use Rattle.std.specs.Prelude.{ℕ, ◌<◌, ◌^◌, List}
+use Rattle.mp4_frame.specs.Bytes.{number, column}
+use Rattle.mp4_frame.specs.Reading.{Reading}
+use Rattle.mp4_frame.specs.Tables.{reads_table, size_table, WritableTable, bytes_table}
+use Rattle.mp4_tables.specs.declared.stco.StcoBox.{StcoBox}
+
+-- the offset in a row
+abbrev pub offset_of : List ℕ → ℕ
+offset_of row = number row 0 4
+
+abbrev pub made_stco : ℕ → ℕ → List ℕ → StcoBox
+made_stco version flags offsets = record { version = version; flags = flags; entries = offsets }
+
+unfoldable pub reads_stco : List ℕ → ℕ → ℕ → Reading StcoBox
+reads_stco bytes start size = reads_table made_stco offset_of 4 bytes size
+
+abbrev pub size_stco : StcoBox → ℕ
+size_stco v = size_table 4 v.entries
+
+abbrev pub WritableStco : StcoBox → Type 0
+WritableStco v = WritableTable (λ offset. offset < 2 ^ 32) 4 0x7374636f v.version v.flags v.entries
+
+unfoldable pub bytes_stco : StcoBox → List ℕ
+bytes_stco v = bytes_table (λ offset. column 4 offset) 4 0x7374636f v.version v.flags v.entries
+
+abbrev pub normal_stco : StcoBox → StcoBox
+normal_stco v = v

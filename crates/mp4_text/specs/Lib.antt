@@ -1,0 +1,2 @@
+pub mod Ftyp
+pub mod FtypLaws

@@ -1,0 +1,158 @@
+//! The file type box.
+
+ghost use Rattle.std.specs.Prelude.{◌≡◌, ◌-◌, ◌^◌, ◌↔◌, ◌+◌, ◌*◌, [], IfOk, IfErr, IsTrue, map, min, length, replicate};
+ghost use Rattle.mp4_frame.specs.declared.box_type.BoxType.TheVariants as names;
+ghost use Rattle.mp4_text.specs.Ftyp.{brand_of, reads_ftyp, size_ftyp, WritableFtyp, bytes_ftyp, normal_ftyp};
+ghost use Rattle.mp4_text.specs.FtypLaws.{framed_ftyp, normal_form_ftyp, read_back_ftyp, sound_ftyp};
+
+use mp4_frame::{
+    BoxLaws, BoxType, ByteCursor, Entries, Error, FourCC, Mp4Box, ReadBox, Result, WriteBox,
+    all_fit, fields, is_four_cc, put_entries, put_u32, test, u32_at,
+};
+use std::alloc::Global;
+
+/// Which specifications a file follows (`ftyp`, ISO/IEC 14496-12, 4.3).
+#[derive(Debug, Drop, PartialEq, Eq)]
+pub struct FtypBox {
+    /// The specification that the file serves best.
+    pub major_brand: FourCC,
+    /// The version of that specification, for information only.
+    pub minor_version: u32,
+    /// All specifications that the file follows.
+    pub compatible_brands: Entries<FourCC>,
+}
+
+impl FtypBox {
+    /// A brand of four zeros, version 0 and no compatible brands. No memory is taken.
+    pub fn default_in(alloc: Global) -> FtypBox
+        ensures { result ≡ record { major_brand = record { value = replicate 4 0 }; minor_version = 0; compatible_brands = [] } }
+    {
+        FtypBox {
+            major_brand: FourCC::default(),
+            minor_version: 0,
+            compatible_brands: Entries::new(alloc),
+        }
+    }
+
+    /// An equal box, in memory of its own.
+    pub fn try_clone(&self) -> Result<FtypBox>
+        ensures clone { IfOk result (λ clone. clone ≡ self.now) }
+        ensures memory { IfErr result (λ e. e ≡ Error.OutOfMemory) }
+    {
+        Ok(FtypBox {
+            major_brand: self.major_brand,
+            minor_version: self.minor_version,
+            compatible_brands: self.compatible_brands.try_clone()?,
+        })
+    }
+
+    /// As `box_type`.
+    pub fn get_type(&self) -> BoxType
+        ensures { result ≡ names.FtypBox }
+    {
+        self.box_type()
+    }
+
+    /// As `box_size`.
+    pub fn get_size(&self) -> u64
+        ensures { result ≡ min (size_ftyp self.now) (2 ^ 64 - 1) }
+    {
+        self.box_size()
+    }
+}
+
+impl Mp4Box for FtypBox {
+    ghost name = { λ _. names.FtypBox };
+
+    ghost size = { size_ftyp };
+
+    fn box_type(&self) -> BoxType {
+        BoxType::FtypBox
+    }
+
+    fn box_size(&self) -> u64 {
+        (self.compatible_brands.len() as u64)
+            .saturating_mul(4)
+            .saturating_add(16)
+    }
+}
+
+fn brands_of(alloc: Global, rows: &[[u8; 4]]) -> Result<Vec<FourCC>>
+    ensures value { IfOk result (λ brands. brands.items ≡ map brand_of rows.now) }
+    ensures memory { IfErr result (λ e. e ≡ Error.OutOfMemory) }
+{
+    let brands: Vec<FourCC> = rows
+        .iter()
+        .map(
+            |row: &[u8; 4]| -> FourCC
+                ensures { result ≡ brand_of row.now }
+            { FourCC { value: *row } },
+        )
+        .collect(alloc)?;
+    Ok(brands)
+}
+
+impl ReadBox for FtypBox {
+    ghost reads = { reads_ftyp };
+
+    #[tactic(auto, unfolding(crate::specs::Ftyp::reads_ftyp))]
+    fn read_row(alloc: Global, bytes: &[u8], _start: u64, size: u64) -> Result<FtypBox> {
+        test(
+            size >= 16 && size % 4 == 0,
+            "ftyp size too small or not aligned",
+        )?;
+        fields(bytes, 8, 8)?;
+        let mut reader = ByteCursor::new(bytes);
+        reader.set_position(16);
+        let rows = reader.take_rows::<4>((size - 16) / 4)?;
+        Ok(FtypBox {
+            major_brand: FourCC::from(u32_at(bytes, 8)),
+            minor_version: u32_at(bytes, 12),
+            compatible_brands: brands_of(alloc, rows)?.into(),
+        })
+    }
+}
+
+#[tactic(auto, using(mp4_frame::proofs::Codes::small_code))]
+fn fits(major_brand: FourCC, minor_version: u32, size: u64, brands: &[FourCC]) -> bool
+    requires { size ≡ min (16 + 4 * length brands.now) (2 ^ 64 - 1) }
+    ensures { IsTrue result ↔ WritableFtyp (record { major_brand = major_brand; minor_version = minor_version; compatible_brands = brands.now }) }
+{
+    size < 1 << 32 && is_four_cc(major_brand) && all_fit(brands)
+}
+
+impl WriteBox for FtypBox {
+    ghost Writable = { WritableFtyp };
+
+    ghost bytes = { bytes_ftyp };
+
+    ghost normal = { normal_ftyp };
+
+    fn is_writable(&self) -> bool {
+        fits(
+            self.major_brand,
+            self.minor_version,
+            self.box_size(),
+            self.compatible_brands.as_slice(),
+        )
+    }
+
+    #[tactic(auto, unfolding(crate::specs::Ftyp::bytes_ftyp, mp4_frame::specs::Bytes::joined, mp4_frame::specs::Bytes::joined_onto))]
+    fn put_box(&self, place: &mut [u8]) {
+        let at = put_u32(place, 0, self.box_size() as u32);
+        let at = put_u32(place, at, 0x6674_7970);
+        let at = put_u32(place, at, u32::from(self.major_brand));
+        let at = put_u32(place, at, self.minor_version);
+        put_entries(place, at, self.compatible_brands.as_slice());
+    }
+
+    ghost framed = { framed_ftyp };
+
+    ghost normal_form = { normal_form_ftyp };
+}
+
+impl BoxLaws for FtypBox {
+    ghost read_back = { read_back_ftyp };
+
+    ghost sound = { sound_ftyp };
+}

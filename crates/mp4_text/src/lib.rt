@@ -1,0 +1,6 @@
+//! Texts, data and references.
+#![tactic(auto)]
+
+mod ftyp;
+
+pub use ftyp::FtypBox;
