@@ -1,0 +1,2 @@
+pub mod AnyBox
+pub mod AnyBoxLaws

@@ -1,0 +1,18 @@
+//! The boxes of an MP4 file as one type, lists of them as whole streams, and every public item of the codec
+//! under the name that it has in the Rust crate `mp4`.
+#![tactic(auto)]
+
+mod any_box;
+mod facade;
+mod push;
+
+pub use any_box::AnyBox;
+pub use facade::read_boxes;
+pub use mp4_frame::{
+    BoxHeader, BoxLaws, BoxType, ByteCursor, Entries, Error, FourCC, HEADER_EXT_SIZE, HEADER_SIZE,
+    Mp4Box, ReadBox, Result, StreamBox, WriteBox, box_start, laws, read_box_header_ext,
+    read_boxes_as, skip_box, skip_bytes, skip_bytes_to, write_box_header_ext, write_boxes,
+    write_zeros,
+};
+pub use mp4_tables::StcoBox;
+pub use mp4_text::FtypBox;
