@@ -10,3 +10,8 @@ pub mod Members
 pub mod Tables
 pub mod Headers
 pub mod Codes
+pub mod Decided
+pub mod Chains
+pub mod Children
+pub mod Rows
+pub mod Signed

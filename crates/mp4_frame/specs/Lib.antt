@@ -5,5 +5,6 @@ pub mod Laws
 pub mod BoxType
 pub mod FourCC
 pub mod Heads
+pub mod Children
 pub mod Streams
 pub mod Tables

@@ -5,6 +5,7 @@
 mod box_header;
 mod box_type;
 mod byte_cursor;
+mod child;
 mod entries;
 mod error;
 mod four_cc;
@@ -26,6 +27,7 @@ pub use box_header::{
 };
 pub use box_type::{BoxType, code_is_kept, name_is_kept};
 pub use byte_cursor::ByteCursor;
+pub use child::last_child;
 pub use entries::Entries;
 pub use error::{Error, Result};
 pub use four_cc::{FourCC, is_four_cc};
