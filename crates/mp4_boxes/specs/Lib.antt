@@ -1,0 +1,4 @@
+pub mod Ends
+pub mod Fault
+pub mod Outcome
+pub mod Runs

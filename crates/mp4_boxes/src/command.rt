@@ -1,0 +1,45 @@
+//! The commands, and how the arguments name them.
+
+ghost use Rattle.std.specs.Prelude.{◌≡◌, ◌≢◌, ◌↔◌, [], ◌∷◌, Some, map, codes, string_bytes};
+ghost use Rattle.std.specs.Vec.Iter.{into_iter_items};
+ghost use Rattle.std.specs.IoError.{error_kind};
+ghost use Rattle.mp4_frame.specs.declared.error.Error.TheVariants.{OutOfMemory};
+
+use crate::fault::RunFault;
+use mp4_stream::Error;
+use std::env::Args;
+use std::io;
+use std::io::ErrorKind;
+
+/// What the program can be asked for.
+#[derive(Clone, Copy, Debug, PartialEq, Eq)]
+pub enum Command {
+    /// The boxes of the input, written in their normal form.
+    Normal,
+}
+
+/// The command that the words behind the program's name ask for, which are exactly one.
+pub fn judge(mut words: Args) -> Option<Command>
+    ensures normal { (result ≡ Some Command.Normal)
+        ↔ (map string_bytes (into_iter_items words) ≡ codes "normal" ∷ []) }
+{
+    let word = words.next()?;
+    if words.next().is_some() {
+        return None;
+    }
+    match word.as_str() {
+        "normal" => Some(Command::Normal),
+        _ => None,
+    }
+}
+
+/// What it means that the arguments could not be had: memory was refused, or they could not be read.
+pub fn argument_fault(error: &io::Error) -> RunFault
+    ensures memory { error_kind error.now ≡ ErrorKind.OutOfMemory → result ≡ RunFault.Boxes OutOfMemory }
+    ensures read { error_kind error.now ≢ ErrorKind.OutOfMemory → result ≡ RunFault.Read }
+{
+    match error.kind() {
+        ErrorKind::OutOfMemory => RunFault::Boxes(Error::OutOfMemory),
+        _ => RunFault::Read,
+    }
+}

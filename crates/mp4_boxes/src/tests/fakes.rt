@@ -1,0 +1,107 @@
+//! Readers and writers that move few bytes a call, count their calls, and fail at a chosen one.
+
+use std::alloc::Global;
+use std::io;
+use std::io::{ErrorKind, Read, Write};
+
+/// A reader over memory.
+#[derive(Drop)]
+pub struct Giver<'a> {
+    rest: &'a [u8],
+    most: usize,
+    fails_at: u64,
+    pub calls: u64,
+}
+
+impl<'a> Giver<'a> {
+    /// Gives at most `most` bytes a call. The call of the number `fails_at` fails, where 1 is the first.
+    pub fn new(rest: &'a [u8], most: usize, fails_at: u64) -> Self {
+        Giver {
+            rest,
+            most,
+            fails_at,
+            calls: 0,
+        }
+    }
+}
+
+impl Read for Giver<'_> {
+    fn read(&mut self, buf: &mut [u8]) -> io::Result<usize> {
+        self.calls = self.calls.saturating_add(1);
+        if self.calls == self.fails_at {
+            return Err(io::Error::from(ErrorKind::Interrupted));
+        }
+        let n = self.most.min(buf.len());
+        self.rest.read(&mut buf[..n])
+    }
+}
+
+/// A reader of zeros, as many as are left.
+#[derive(Drop)]
+pub struct Zeros {
+    pub left: usize,
+}
+
+impl Read for Zeros {
+    fn read(&mut self, buf: &mut [u8]) -> io::Result<usize> {
+        let n = self.left.min(buf.len());
+        buf[..n].fill(0);
+        self.left -= n;
+        Ok(n)
+    }
+}
+
+/// How a call of a writer goes wrong.
+#[derive(Clone, Copy, Debug, PartialEq, Eq)]
+pub enum Refusal {
+    /// It fails.
+    Fails,
+    /// It takes no byte.
+    TakesNone,
+}
+
+/// A writer to memory.
+#[derive(Drop)]
+pub struct Taker {
+    pub taken: Vec<u8>,
+    most: usize,
+    fails_at: u64,
+    refusal: Refusal,
+    pub calls: u64,
+}
+
+impl Taker {
+    /// Takes at most `most` bytes a call. The call of the number `fails_at` is refused, where 1 is the
+    /// first.
+    pub fn new(alloc: Global, most: usize, fails_at: u64, refusal: Refusal) -> Self {
+        Taker {
+            taken: Vec::new(alloc),
+            most,
+            fails_at,
+            refusal,
+            calls: 0,
+        }
+    }
+}
+
+impl Write for Taker {
+    fn write(&mut self, buf: &[u8]) -> io::Result<usize> {
+        self.calls = self.calls.saturating_add(1);
+        if self.calls == self.fails_at {
+            return match self.refusal {
+                Refusal::Fails => Err(io::Error::from(ErrorKind::Interrupted)),
+                Refusal::TakesNone => Ok(0),
+            };
+        }
+        let n = self.most.min(buf.len());
+        self.taken.write(&buf[..n])
+    }
+
+    fn flush(&mut self) -> io::Result<()> {
+        self.calls = self.calls.saturating_add(1);
+        if self.calls == self.fails_at {
+            return Err(io::Error::from(ErrorKind::Interrupted));
+        }
+        Ok(())
+    }
+}

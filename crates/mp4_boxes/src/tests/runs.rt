@@ -1,0 +1,191 @@
+use super::fakes::{Giver, Refusal, Taker, Zeros};
+use super::{INPUT, OUTPUT};
+use crate::ends::{Input, Output};
+use crate::engine::{finish, read_all, run_normal};
+use crate::fault::RunFault;
+use linked_list_allocator::LocalHeap;
+use mp4_stream::Error;
+use std::alloc::Global;
+use std::process::Abort;
+use std::test::Fail;
+
+/// How many bytes a call of the reader gives, and one of the writer takes.
+const GIVEN: usize = 10;
+
+const TAKEN: usize = 7;
+
+#[test]
+fn each_call_fails_in_turn(rt: HostRuntime) {
+    // The reader's last call finds the input's end.
+    let reads = INPUT.len().div_ceil(GIVEN) as u64 + 1;
+    let writes = OUTPUT.len().div_ceil(TAKEN) as u64;
+    for refusal in [Refusal::Fails, Refusal::TakesNone] {
+        for bad_read in 1..reads + 2 {
+            for bad_write in 1..writes + 2 {
+                let mut input = Input::new(Giver::new(&INPUT, GIVEN, bad_read));
+                let mut output = Output::new(Taker::new(rt.alloc(), TAKEN, bad_write, refusal));
+                let answer = run_normal(rt.alloc(), &mut input, &mut output);
+                let case = (refusal, bad_read, bad_write);
+                let taken = output.inner.taken.as_slice();
+                if bad_read <= reads {
+                    assert!(rt; matches!(answer, Err(RunFault::Read)), "{case:?}");
+                    assert_eq!(rt; input.inner.calls, bad_read, "{case:?}");
+                    assert_eq!(rt; output.inner.calls, 0, "{case:?}");
+                    assert!(rt; taken.is_empty(), "{case:?}");
+                } else if bad_write <= writes {
+                    assert!(rt; matches!(answer, Err(RunFault::Write)), "{case:?}");
+                    assert_eq!(rt; input.inner.calls, reads, "{case:?}");
+                    assert_eq!(rt; output.inner.calls, bad_write, "{case:?}");
+                    let end = (bad_write as usize - 1) * TAKEN;
+                    assert!(rt; taken == &OUTPUT[..end], "{case:?}");
+                } else {
+                    assert!(rt;
+                        matches!(answer, Ok(n) if n == OUTPUT.len() as u64),
+                        "{case:?}"
+                    );
+                    assert_eq!(rt; input.inner.calls, reads, "{case:?}");
+                    assert_eq!(rt; output.inner.calls, writes, "{case:?}");
+                    assert!(rt; taken == OUTPUT.as_slice(), "{case:?}");
+                }
+                assert_eq!(rt;
+                    input.failed,
+                    matches!(answer, Err(RunFault::Read)),
+                    "{case:?}"
+                );
+                assert_eq!(rt;
+                    output.failed,
+                    matches!(answer, Err(RunFault::Write)),
+                    "{case:?}"
+                );
+            }
+        }
+    }
+}
+
+#[test]
+fn one_byte_a_call(rt: HostRuntime) {
+    let mut input = Input::new(Giver::new(&INPUT, 1, 0));
+    let mut output = Output::new(Taker::new(rt.alloc(), 1, 0, Refusal::Fails));
+    let answer = run_normal(rt.alloc(), &mut input, &mut output);
+    assert!(rt; matches!(answer, Ok(n) if n == OUTPUT.len() as u64));
+    assert!(rt; output.inner.taken.as_slice() == OUTPUT.as_slice());
+    assert!(rt; !input.failed && !output.failed);
+}
+
+#[test]
+fn one_call_of_an_end(rt: HostRuntime) {
+    let mut input = Input::new(Giver::new(&INPUT, 3, 2));
+    let mut place = [0u8; 8];
+    assert_eq!(rt; input.pull(&mut place), Some(3));
+    assert!(rt; place == [0x00, 0x00, 0x00, 0, 0, 0, 0, 0]);
+    assert!(rt; !input.failed);
+    assert_eq!(rt; input.pull(&mut place), None);
+    assert!(rt; input.failed);
+    assert_eq!(rt; input.pull(&mut place), Some(3));
+    assert!(rt; place == [0x18, 0x66, 0x74, 0, 0, 0, 0, 0]);
+    assert!(rt; input.failed);
+
+    let mut output = Output::new(Taker::new(rt.alloc(), 3, 3, Refusal::TakesNone));
+    assert_eq!(rt; output.push(b"isom"), Some(3));
+    assert_eq!(rt; output.push(b""), Some(0));
+    assert!(rt; !output.failed);
+    assert_eq!(rt; output.push(b"mp41"), None);
+    assert!(rt; output.failed);
+    assert_eq!(rt; output.push(b"mp"), Some(2));
+    assert!(rt; output.failed);
+    assert!(rt; output.inner.taken.as_slice() == b"isomp".as_slice());
+}
+
+/// What a run over memory answers and writes.
+fn over_memory(
+    rt: &(impl Abort + Alloc<A = Global>),
+    bytes: &[u8],
+) -> (Result<u64, RunFault>, Vec<u8>) {
+    let mut input = Input::new(bytes);
+    let mut output = Output::new(Vec::new(rt.alloc()));
+    let answer = run_normal(rt.alloc(), &mut input, &mut output);
+    assert!(rt; !input.failed && !output.failed);
+    (answer, output.inner)
+}
+
+#[test]
+fn runs_over_memory(rt: HostRuntime) {
+    let (answer, written) = over_memory(&rt, &INPUT);
+    assert!(rt; matches!(answer, Ok(n) if n == OUTPUT.len() as u64));
+    assert!(rt; written.as_slice() == OUTPUT.as_slice());
+
+    let (answer, written) = over_memory(&rt, &[]);
+    assert!(rt; matches!(answer, Ok(0)));
+    assert!(rt; written.is_empty());
+
+    // A border: the boxes before it.
+    let (answer, written) = over_memory(&rt, &INPUT[..32]);
+    assert!(rt; matches!(answer, Ok(n) if n == OUTPUT.len() as u64 - 20));
+    assert!(rt; written.as_slice() == &OUTPUT[..OUTPUT.len() - 20]);
+
+    // The last byte is missing.
+    let (answer, written) = over_memory(&rt, &INPUT[..51]);
+    assert!(rt; matches!(answer, Err(RunFault::Boxes(Error::IoError))));
+    assert!(rt; written.is_empty());
+
+    // A box of size 2, which is less than its header.
+    let mut bytes = INPUT;
+    bytes[35] = 2;
+    let (answer, written) = over_memory(&rt, &bytes);
+    assert!(rt; matches!(answer, Err(RunFault::Boxes(Error::InvalidData(_)))));
+    assert!(rt; written.is_empty());
+}
+
+#[test]
+fn an_endless_reader_is_want_of_memory(rt: HostRuntime) -> Result<(), Fail> {
+    let heap = LocalHeap::new(rt.alloc(), 1_000_000)?;
+    let mut input = Input::new(std::io::repeat(0));
+    let answer = read_all(&heap, &mut input);
+    assert!(rt; matches!(answer, Err(RunFault::Boxes(Error::OutOfMemory))));
+    assert!(rt; !input.failed);
+    Ok(())
+}
+
+/// Heaps of growing size refuse the first request, then the second, and so on, until one has room
+/// for all.
+#[test]
+fn each_growth_is_refused_in_turn(rt: HostRuntime) -> Result<(), Fail> {
+    const ALL: usize = 200_000;
+    // How much was read before each request that was refused.
+    let mut refusals: Vec<usize> = Vec::new(rt.alloc());
+    let mut is_read = false;
+    for blocks in 1..32 {
+        let heap = LocalHeap::new(rt.alloc(), blocks * 32_768)?;
+        let mut input = Input::new(Zeros { left: ALL });
+        match read_all(&heap, &mut input) {
+            Ok(bytes) => {
+                assert_eq!(rt; bytes.len(), ALL);
+                assert!(rt; bytes.iter().all(|byte| *byte == 0));
+                is_read = true;
+            }
+            Err(RunFault::Boxes(Error::OutOfMemory)) => {
+                assert!(rt; !is_read);
+                let read = ALL.saturating_sub(input.inner.left);
+                if refusals.last() != Some(&read) {
+                    refusals.push(read)?;
+                }
+            }
+            Err(_) => assert!(rt; false),
+        }
+        assert!(rt; !input.failed);
+    }
+    assert!(rt; is_read);
+    assert_eq!(rt; refusals.as_slice(), [0, 65_536, 131_072].as_slice());
+    Ok(())
+}
+
+#[test]
+fn a_failed_flush_is_a_failed_write(rt: HostRuntime) {
+    let mut output = Output::new(Taker::new(rt.alloc(), TAKEN, 2, Refusal::Fails));
+    assert!(rt; finish(&mut output).is_ok());
+    assert!(rt; !output.failed);
+    assert!(rt; matches!(finish(&mut output), Err(RunFault::Write)));
+    assert!(rt; output.failed);
+    assert!(rt; finish(&mut output).is_ok());
+    assert!(rt; output.failed);
+}

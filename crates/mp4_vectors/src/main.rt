@@ -1,0 +1,26 @@
+//! What no clause of the codec says, shown by vectors from outside: the tests hold the worked bytes of each
+//! box, cuts, wrong sizes and refused memory. The program writes and reads every vector under an allocator
+//! that may refuse any one request, and ends with status 0 only if each refusal left everything as it was.
+#![tactic(auto)]
+
+mod mark;
+mod refused;
+#[cfg(test)]
+mod tests;
+mod vectors;
+
+use refused::{write_and_read, write_and_read_marks};
+use std::process::ExitCode;
+use vectors::VECTORS;
+
+fn main(rt: HostRuntime) -> ExitCode {
+    for vector in VECTORS {
+        if write_and_read(rt.alloc(), vector).is_err() {
+            return ExitCode::from(1);
+        }
+    }
+    if write_and_read_marks(rt.alloc()).is_err() {
+        return ExitCode::from(1);
+    }
+    ExitCode::from(0)
+}

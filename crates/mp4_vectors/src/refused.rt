@@ -1,0 +1,107 @@
+//! Each vector is written and read where any one request for memory may be refused.
+
+use crate::mark::MarkBox;
+use crate::vectors::Vector;
+use mp4_stream::{AnyBox, ByteCursor, Error, StreamBox, WriteBox, read_boxes_as, write_boxes};
+use std::alloc::Global;
+use std::slice;
+
+/// A call that was refused memory and is not to be refused twice, or one whose answer or whose traces are not
+/// those of the call with ample memory.
+#[derive(Debug, Drop)]
+pub struct Wrong;
+
+fn made(alloc: Global, vector: Vector) -> Result<AnyBox, Wrong> {
+    match vector.make(alloc) {
+        Ok(made) => Ok(made),
+        Err(Error::OutOfMemory) => vector.make(alloc).map_err(|_| Wrong),
+        Err(_) => Err(Wrong),
+    }
+}
+
+fn cloned(original: &AnyBox) -> Result<AnyBox, Wrong> {
+    match original.try_clone() {
+        Ok(clone) => Ok(clone),
+        Err(Error::OutOfMemory) => original.try_clone().map_err(|_| Wrong),
+        Err(_) => Err(Wrong),
+    }
+}
+
+/// Appends the bytes of the boxes, as a list or one by one, to what stands in `out`.
+fn append<B: StreamBox>(boxes: &[B], out: &mut Vec<u8>, as_list: bool) -> mp4_stream::Result<u64> {
+    match boxes {
+        [only] if !as_list => only.write_box(out),
+        _ => write_boxes(boxes, out),
+    }
+}
+
+/// The bytes of the boxes behind a 7, which stands alone after each refusal.
+fn written<B: StreamBox>(alloc: Global, boxes: &[B], as_list: bool) -> Result<Vec<u8>, Wrong> {
+    let mut out = Vec::new(alloc);
+    if out.push(7).is_err() && out.push(7).is_err() {
+        return Err(Wrong);
+    }
+    let mut answer = append(boxes, &mut out, as_list);
+    if matches!(answer, Err(Error::OutOfMemory)) {
+        if out.as_slice() != [7].as_slice() {
+            return Err(Wrong);
+        }
+        answer = append(boxes, &mut out, as_list);
+    }
+    match answer {
+        Ok(_) => Ok(out),
+        Err(_) => Err(Wrong),
+    }
+}
+
+/// The boxes behind the first byte. The cursor stands there after each refusal, and at the end after an Ok.
+fn read<B: StreamBox>(alloc: Global, bytes: &[u8]) -> Result<Vec<B>, Wrong> {
+    let mut reader = ByteCursor::new(bytes);
+    reader.set_position(1);
+    let mut answer = read_boxes_as(alloc, &mut reader);
+    if matches!(answer, Err(Error::OutOfMemory)) {
+        if reader.position() != 1 {
+            return Err(Wrong);
+        }
+        answer = read_boxes_as(alloc, &mut reader);
+    }
+    match answer {
+        Ok(found) if reader.position() == bytes.len() as u64 => Ok(found),
+        _ => Err(Wrong),
+    }
+}
+
+/// Writes the boxes, compares the bytes, and reads them back.
+fn round_trip<B: StreamBox + Eq>(alloc: Global, boxes: &[B], bytes: &[u8]) -> Result<(), Wrong> {
+    for as_list in [false, true] {
+        let out = written(alloc, boxes, as_list)?;
+        if out.as_slice().split_first() != Some((&7, bytes)) {
+            return Err(Wrong);
+        }
+        let found = read::<B>(alloc, &out)?;
+        if found.as_slice() != boxes {
+            return Err(Wrong);
+        }
+    }
+    Ok(())
+}
+
+/// Makes, clones, writes and reads the vector, and again where memory was refused.
+pub fn write_and_read(alloc: Global, vector: Vector) -> Result<(), Wrong> {
+    let original = made(alloc, vector)?;
+    let clone = cloned(&original)?;
+    if clone != original {
+        return Err(Wrong);
+    }
+    round_trip(alloc, slice::from_ref(&clone), vector.bytes())
+}
+
+/// The same of a list of boxes of a type from outside.
+pub fn write_and_read_marks(alloc: Global) -> Result<(), Wrong> {
+    let marks = [MarkBox { mark: 1 }, MarkBox { mark: 0xffff_ffff }];
+    round_trip(
+        alloc,
+        marks.as_slice(),
+        b"\0\0\0\x0cmark\0\0\0\x01\0\0\0\x0cmark\xff\xff\xff\xff",
+    )
+}

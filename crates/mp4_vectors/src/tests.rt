@@ -1,0 +1,6 @@
+mod boxes;
+mod codes;
+mod headers;
+mod kinds;
+mod memory;
+mod streams;

@@ -1,0 +1,97 @@
+//! Refused memory where the allocator is the caller's.
+
+use super::kinds::{Kind, kind_of};
+use crate::mark::MarkBox;
+use crate::vectors::{VECTORS, Vector};
+use linked_list_allocator::LocalHeap;
+use mp4_stream::{
+    BoxHeader, BoxType, Error, WriteBox, write_box_header_ext, write_boxes, write_zeros,
+};
+use std::test::Fail;
+
+/// Appends by one of the calls that append.
+fn append<'a>(
+    which: u8,
+    original: &MarkBox,
+    out: &mut Vec<u8, &'a LocalHeap>,
+) -> Result<u64, Error> {
+    match which {
+        0 => original.write_box(out),
+        1 => write_boxes(&[MarkBox { mark: 1 }, MarkBox { mark: 2 }], out),
+        2 => BoxHeader::new(BoxType::FreeBox, 8).write(out),
+        3 => BoxHeader::new(BoxType::FreeBox, 1 << 40).write(out),
+        4 => write_box_header_ext(out, 0, 0),
+        _ => {
+            write_zeros(out, 100)?;
+            Ok(100)
+        }
+    }
+}
+
+#[test]
+fn a_refused_append_leaves_the_vector(rt: HostRuntime) -> Result<(), Fail> {
+    for which in 0..6 {
+        let heap = LocalHeap::new(rt.alloc(), 256)?;
+        let mut out = Vec::from_slice(&heap, &[9])?;
+        let mut refused = false;
+        for _ in 0..100 {
+            let before = out.len();
+            match append(which, &MarkBox { mark: 1 }, &mut out) {
+                Ok(_) => assert!(rt; out.len() > before, "{which}"),
+                Err(Error::OutOfMemory) => {
+                    refused = true;
+                    assert_eq!(rt; out.len(), before, "{which}");
+                }
+                Err(_) => assert!(rt; false, "{which}"),
+            }
+        }
+        assert!(rt; refused, "{which}");
+        assert_eq!(rt; out.first(), Some(&9), "{which}");
+    }
+    Ok(())
+}
+
+#[test]
+fn a_write_takes_one_block(rt: HostRuntime) -> Result<(), Fail> {
+    for vector in VECTORS {
+        let bytes = vector.bytes();
+        let original = vector.make(rt.alloc())?;
+        let small = LocalHeap::new(rt.alloc(), bytes.len() / 2)?;
+        let mut out = Vec::new(&small);
+        assert!(rt;
+            matches!(original.write_box(&mut out), Err(Error::OutOfMemory)),
+            "{vector:?}"
+        );
+        assert!(rt; out.is_empty(), "{vector:?}");
+        let heap = LocalHeap::new(rt.alloc(), bytes.len().saturating_add(32))?;
+        let mut out = Vec::new(&heap);
+        assert_eq!(rt;
+            original.write_box(&mut out)?,
+            bytes.len() as u64,
+            "{vector:?}"
+        );
+        assert_eq!(rt; out.as_slice(), bytes, "{vector:?}");
+    }
+    Ok(())
+}
+
+#[test]
+fn an_unwritable_box_asks_for_no_memory(rt: HostRuntime) -> Result<(), Fail> {
+    let heap = LocalHeap::new(rt.alloc(), 64)?;
+    let mut out = Vec::new(&heap);
+    assert_eq!(rt;
+        kind_of(&write_box_header_ext(&mut out, 0, 1 << 24)),
+        Kind::Invalid
+    );
+    let header = BoxHeader::new(BoxType::FreeBox, u64::MAX);
+    assert_eq!(rt; kind_of(&header.write(&mut out)), Kind::Invalid);
+    assert_eq!(rt; heap.used(), 0);
+    let boxes = [
+        Vector::Ftyp.make(rt.alloc())?,
+        Vector::Stco.make(rt.alloc())?,
+    ];
+    assert_eq!(rt; kind_of(&write_boxes(&boxes, &mut out)), Kind::Memory);
+    assert!(rt; out.is_empty());
+    assert_eq!(rt; heap.used(), 0);
+    Ok(())
+}
