@@ -3,6 +3,7 @@
 //! that may refuse any one request, and ends with status 0 only if each refusal left everything as it was.
 #![tactic(auto)]
 
+mod example;
 mod mark;
 mod refused;
 #[cfg(test)]

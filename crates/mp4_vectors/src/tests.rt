@@ -2,5 +2,6 @@ mod boxes;
 mod codes;
 mod headers;
 mod kinds;
+mod laws;
 mod memory;
 mod streams;

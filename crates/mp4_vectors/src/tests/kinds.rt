@@ -1,8 +1,7 @@
 //! What calls answer, as plain values.
 
-use mp4_stream::{
-    AnyBox, BoxHeader, ByteCursor, Error, FtypBox, ReadBox, StcoBox, read_boxes, write_boxes,
-};
+use crate::example::append_normal;
+use mp4_stream::{BoxHeader, ByteCursor, Error, FtypBox, ReadBox, StcoBox, read_boxes};
 use std::alloc::Global;
 
 /// How a call ended.
@@ -59,8 +58,7 @@ pub fn stream_kind(alloc: Global, bytes: &[u8]) -> (Kind, usize, u64) {
 
 /// The bytes that the boxes of a buffer are written in.
 pub fn rewritten(alloc: Global, bytes: &[u8]) -> Result<Vec<u8>, Error> {
-    let found: Vec<AnyBox> = read_boxes(alloc, &mut ByteCursor::new(bytes))?;
     let mut out = Vec::new(alloc);
-    write_boxes(&found, &mut out)?;
+    append_normal(alloc, bytes, &mut out)?;
     Ok(out)
 }

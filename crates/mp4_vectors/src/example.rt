@@ -1,0 +1,18 @@
+//! A caller of the codec.
+
+ghost use Rattle.std.specs.Prelude.{◌≡◌, ◌++◌, List, Ok, IfOk, OnErr};
+ghost use Rattle.mp4_frame.specs.Streams.{stream, boxes};
+ghost use Rattle.mp4_stream.specs.AnyBox.{bytes_any, known_any, reading_any};
+ghost use Rattle.mp4_stream.specs.declared.any_box.AnyBox.{AnyBox};
+
+use mp4_stream::{ByteCursor, Result, read_boxes, write_boxes};
+use std::alloc::Global;
+
+/// Appends the boxes of a file, in their normal form, to what is there.
+pub fn append_normal(alloc: Global, file: &[u8], out: &mut Vec<u8>) -> Result<u64>
+    ensures ok { IfOk result (λ _. (vs : List AnyBox) × ((boxes known_any reading_any file.now 0).outcome ≡ Ok vs) × (out.new.items ≡ out.old.items ++ stream bytes_any vs)) }
+    ensures err { OnErr result (out.new.items ≡ out.old.items) }
+{
+    let boxes = read_boxes(alloc, &mut ByteCursor::new(file))?;
+    write_boxes(&boxes, out)
+}
