@@ -5,8 +5,8 @@ ghost use Rattle.mp4_frame.specs.declared.error.Error.TheVariants.{OutOfMemory};
 ghost use Rattle.mp4_stream.specs.AnyBox.{name_any, size_any, WritableAny, bytes_any, normal_any, known_any, reading_any};
 ghost use Rattle.mp4_stream.specs.AnyBoxLaws.{framed_any, normal_form_any, own_name_any, read_back_any};
 
-use crate::push::{push_ftyp, push_stco};
-use mp4_frame::{BoxType, ByteCursor, Mp4Box, ReadBox, Result, StreamBox, WriteBox};
+use crate::member::{clone_as, push_as, read_as};
+use mp4_frame::{BoxType, ByteCursor, Mp4Box, Result, StreamBox, WriteBox};
 use mp4_tables::StcoBox;
 use mp4_text::FtypBox;
 use std::alloc::Global;
@@ -18,20 +18,6 @@ pub enum AnyBox {
     StcoBox(StcoBox),
 }
 
-fn ftyp_clone(b: &FtypBox) -> Result<AnyBox>
-    ensures clone { IfOk result (λ clone. clone ≡ AnyBox.FtypBox b.now) }
-    ensures memory { IfErr result (λ e. e ≡ OutOfMemory) }
-{
-    Ok(AnyBox::FtypBox(b.try_clone()?))
-}
-
-fn stco_clone(b: &StcoBox) -> Result<AnyBox>
-    ensures clone { IfOk result (λ clone. clone ≡ AnyBox.StcoBox b.now) }
-    ensures memory { IfErr result (λ e. e ≡ OutOfMemory) }
-{
-    Ok(AnyBox::StcoBox(b.try_clone()?))
-}
-
 impl AnyBox {
     /// An equal box, in memory of its own.
     pub fn try_clone(&self) -> Result<AnyBox>
@@ -39,8 +25,8 @@ impl AnyBox {
         ensures memory { IfErr result (λ e. e ≡ OutOfMemory) }
     {
         match self {
-            AnyBox::FtypBox(b) => ftyp_clone(b),
-            AnyBox::StcoBox(b) => stco_clone(b),
+            AnyBox::FtypBox(b) => clone_as(b),
+            AnyBox::StcoBox(b) => clone_as(b),
         }
     }
 }
@@ -107,8 +93,8 @@ impl StreamBox for AnyBox {
         size: u64,
     ) -> Result<AnyBox> {
         match name {
-            BoxType::FtypBox => Ok(AnyBox::FtypBox(FtypBox::read_box(alloc, reader, size)?)),
-            BoxType::StcoBox => Ok(AnyBox::StcoBox(StcoBox::read_box(alloc, reader, size)?)),
+            BoxType::FtypBox => read_as::<FtypBox>(alloc, reader, size),
+            BoxType::StcoBox => read_as::<StcoBox>(alloc, reader, size),
             _ => unreachable!(),
         }
     }
@@ -121,8 +107,8 @@ impl StreamBox for AnyBox {
         boxes: &mut Vec<AnyBox>,
     ) -> Result<()> {
         match name {
-            BoxType::FtypBox => push_ftyp(alloc, reader, size, boxes),
-            BoxType::StcoBox => push_stco(alloc, reader, size, boxes),
+            BoxType::FtypBox => push_as::<FtypBox>(alloc, reader, size, boxes),
+            BoxType::StcoBox => push_as::<StcoBox>(alloc, reader, size, boxes),
             _ => unreachable!(),
         }
     }

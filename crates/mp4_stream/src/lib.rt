@@ -4,7 +4,7 @@
 
 mod any_box;
 mod facade;
-mod push;
+mod member;
 
 pub use any_box::AnyBox;
 pub use facade::read_boxes;
