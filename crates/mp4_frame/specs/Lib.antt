@@ -4,6 +4,8 @@ pub mod Written
 pub mod Laws
 pub mod BoxType
 pub mod FourCC
+pub mod Text
+pub mod TextLaws
 pub mod Heads
 pub mod Children
 pub mod Streams

@@ -34,6 +34,7 @@ pub struct BoxHeader {
 }
 
 impl BoxHeader {
+    /// The header of a box of this name and size.
     pub fn new(name: BoxType, size: u64) -> Self
         ensures { result ≡ record { name = name; size = size } }
     {

@@ -18,6 +18,7 @@ mod read;
 mod reading;
 mod skip;
 mod table;
+mod text;
 mod traits;
 mod write;
 
@@ -36,10 +37,11 @@ pub use head::Head;
 pub use number::{i16_at, i32_at, u8_at, u16_at, u24_at, u32_at, u64_at};
 pub use put::{put_bytes, put_i16, put_i32, put_u8, put_u16, put_u24, put_u32, put_u64, put_zeros};
 pub use read::read_boxes_as;
-pub use reading::{fields, test};
+pub use reading::{bytes_from, fields, piece_at, test};
 pub use skip::{box_start, skip_box, skip_bytes, skip_bytes_to};
 pub use table::{
     TableEntry, all_fit, is_writable_table, put_entries, put_table, read_table, table_size,
 };
+pub use text::Text;
 pub use traits::{BoxLaws, Mp4Box, ReadBox, StreamBox, WriteBox};
 pub use write::{put_part, write_boxes, write_zeros};

@@ -43,6 +43,22 @@ impl TableEntry<4> for u32 {
     }
 }
 
+impl TableEntry<8> for u64 {
+    ghost row_of = { λ x. column 8 x };
+
+    ghost Fits = { λ x. x < 2 ^ 64 };
+
+    #[tactic(auto, unfolding(crate::specs::Bytes::column))]
+    fn to_row(&self) -> [u8; 8] {
+        self.to_be_bytes()
+    }
+
+    fn fits(&self) -> bool {
+        let _entry = *self;
+        true
+    }
+}
+
 /// Version, flags and the rows of a box of this size whose one table has rows of `E` bytes. `too_many` is the
 /// text of the refusal where the count is more than the size has room for.
 #[tactic(auto, unfolding(crate::specs::Tables::counted))]

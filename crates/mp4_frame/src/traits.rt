@@ -14,7 +14,7 @@ use crate::reading::{bytes_from, test};
 use crate::write::lengthen;
 use std::alloc::{Allocator, Global};
 
-/// A box has a name and a size.
+/// A box has a name and a size (ISO/IEC 14496-12, 4.2).
 pub trait Mp4Box: Sized {
     /// The name.
     ghost name: { Self → BoxType };
@@ -22,9 +22,11 @@ pub trait Mp4Box: Sized {
     /// The number of bytes that it is written in, without a limit.
     ghost size: { Self → ℕ };
 
+    /// The name, which its code in the header stands for.
     fn box_type(&self) -> BoxType
         ensures { result ≡ name self.now };
 
+    /// The number of bytes that it is written in, with the header; at most 2^64 - 1, where it stops.
     fn box_size(&self) -> u64
         ensures { result ≡ min (size self.now) (2 ^ 64 - 1) };
 }
@@ -34,12 +36,15 @@ pub trait ReadBox: Sized {
     /// What the row reads of the bytes from the box's start on, for that start and the box's size.
     ghost reads: { List ℕ → ℕ → ℕ → Reading Self };
 
-    /// Reads the box whose header of 8 bytes stands at the front of `bytes`.
+    /// Reads the box whose header of 8 bytes stands at the front of `bytes`, which `start` and `size` place in a
+    /// stream. Answers the first fault of the row, or want of memory.
     fn read_row(alloc: Global, bytes: &[u8], start: u64, size: u64) -> Result<Self>
         requires { start + size < 2 ^ 64 }
         ensures { Answers result (reads bytes.now start size) };
 
-    /// Reads the box whose header was just read.
+    /// Reads the box whose header was just read: `size` is the header's, and the cursor stands behind it. The
+    /// cursor goes to the box's end, and stays where anything is refused: invalid data, end of input, or want of
+    /// memory.
     final fn read_box(alloc: Global, reader: &mut ByteCursor, size: u64) -> Result<Self>
         requires { 8 ≤ reader.old.position }
         ensures answer { Answers result (reading reads reader.old.bytes.now (reader.old.position - 8) size) }
@@ -57,28 +62,33 @@ pub trait ReadBox: Sized {
 
 /// A box is written whole or not at all.
 pub trait WriteBox: Mp4Box {
-    /// It can be written.
+    /// It can be written: each number fits its field, and the whole box 32 bits of size.
     ghost Writable: { Self → Type 0 };
 
     /// The bytes that it is written in.
     ghost bytes: { Self → List ℕ };
 
-    /// What it reads back as.
+    /// What it reads back as: equal but for what the bytes don't hold.
     ghost normal: { Self → Self };
 
+    /// Whether it can be written.
     fn is_writable(&self) -> bool
         ensures { IsTrue result ↔ Writable self.now };
 
-    /// Fills a place of the box's size.
+    /// Fills a place of the box's size with its bytes.
     fn put_box(&self, place: &mut [u8])
         requires writable { Writable self.now }
         requires room { length place.old ≡ Self.size self.now }
         ensures { place.new ≡ bytes self.now };
 
+    /// Its bytes begin with its size and its code, and are as many.
     ghost framed: { (v : Self) → Writable v → Framed (Self.size v) (Self.name v) (bytes v) };
 
+    /// Its normal form has the same bytes, and is its own.
     ghost normal_form: { (v : Self) → Writable v → Normal Writable bytes normal v };
 
+    /// Appends the box's bytes and answers their number, or leaves the vector as it was: invalid data where the
+    /// box can't be written, else want of memory.
     final fn write_box<A: Allocator>(&self, writer: &mut Vec<u8, A>) -> Result<u64>
         ensures { Writes (Writable self.now) (bytes self.now) writer.old.items writer.new.items result }
     {
@@ -101,9 +111,11 @@ pub trait StreamBox: WriteBox + Drop {
     /// What stands in a buffer under a name, at a start, with a size.
     ghost named_reading: { BoxType → List ℕ → ℕ → ℕ → Reading Self };
 
+    /// Whether boxes of this name are read.
     fn knows(name: BoxType) -> bool
         ensures { result ≡ known name };
 
+    /// Reads the box of this name whose header was just read.
     fn read_named(alloc: Global, name: BoxType, reader: &mut ByteCursor, size: u64) -> Result<Self>
         requires known { IsTrue (known name) }
         requires placed { 8 ≤ reader.old.position }
@@ -111,7 +123,7 @@ pub trait StreamBox: WriteBox + Drop {
         ensures bytes { reader.new.bytes ≡ reader.old.bytes }
         ensures kept { OnErr result (reader.new.position ≡ reader.old.position) };
 
-    /// Reads the box of this name, and appends it.
+    /// Reads the box of this name whose header was just read, and appends it.
     fn push_named(
         alloc: Global,
         name: BoxType,
@@ -130,14 +142,18 @@ pub trait StreamBox: WriteBox + Drop {
         Ok(())
     }
 
+    /// Its name is known, and the one that its code stands for.
     ghost own_name: { (v : Self) → Self.Writable v → OwnName known (Self.name v) };
 
+    /// Its bytes are read under its name as its normal form, wherever they stand.
     ghost read_back: { (v : Self) → Self.Writable v → ReadsBack (named_reading (Self.name v)) (Self.bytes v) (Self.normal v) };
 }
 
 /// A box that is read back as it was written.
 pub trait BoxLaws: ReadBox + WriteBox {
+    /// Its bytes are read by its row as its normal form, wherever they stand.
     ghost read_back: { (v : Self) → Self.Writable v → RowReadsBack Self.reads (Self.bytes v) (Self.size v) (Self.normal v) };
 
+    /// What the row reads is its own normal form, and can be written unless it is too large.
     ghost sound: { RowIsSound Self.reads Self.Writable Self.size Self.normal };
 }

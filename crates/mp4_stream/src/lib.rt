@@ -10,9 +10,15 @@ pub use any_box::AnyBox;
 pub use facade::read_boxes;
 pub use mp4_frame::{
     BoxHeader, BoxLaws, BoxType, ByteCursor, Entries, Error, FourCC, HEADER_EXT_SIZE, HEADER_SIZE,
-    Mp4Box, ReadBox, Result, StreamBox, WriteBox, box_start, laws, read_box_header_ext,
+    Mp4Box, ReadBox, Result, StreamBox, Text, WriteBox, box_start, laws, read_box_header_ext,
     read_boxes_as, skip_box, skip_bytes, skip_bytes_to, write_box_header_ext, write_boxes,
     write_zeros,
+};
+pub use mp4_media::{
+    AacConfig, AudioObjectType, AvcConfig, AvcProfile, Bytes, ChannelConfig, DataType, FixedPoint,
+    FixedPointI8, FixedPointU8, FixedPointU16, HevcConfig, MediaConfig, MediaType, Metadata,
+    MetadataKey, Mp4Sample, SampleFreqIndex, TrackType, TtxtConfig, Vp9Config, creation_time,
+    laws as media_laws,
 };
 pub use mp4_tables::StcoBox;
 pub use mp4_text::FtypBox;

@@ -1,0 +1,142 @@
+//! Texts, seen as their bytes.
+
+ghost use Rattle.std.specs.Prelude.{◌≡◌, ◌==◌, ◌↔◌, [], IfOk, IfErr, IsTrue, length, nat_eq, string_bytes};
+ghost use Rattle.std.specs.Cmp.{partial_equiv_from_equiv};
+ghost use Rattle.std.specs.Cmp.Lexicographic.{pointwise, nat_list_eq_equiv};
+ghost use Rattle.std.specs.Str.{IsUtf8};
+ghost use Rattle.mp4_frame.specs.declared.error.Error.TheVariants.{OutOfMemory};
+ghost use Rattle.mp4_frame.specs.Text.{text_or};
+
+use crate::error::Result;
+use std::alloc::Global;
+use std::fmt;
+use std::marker::Model;
+
+/// A text, which clauses see as its bytes in UTF-8. Two are equal where their bytes are. It is made from a
+/// `String` by `into()` and turned into one by `into_string()`, which take no memory.
+#[derive(Drop)]
+pub struct Text {
+    string: String,
+}
+
+impl Model for Text {
+    ghost use Rattle.std.specs.Prelude.{List, ℕ, string_bytes};
+
+    ghost Value = { List ℕ };
+
+    ghost view = { λ t. string_bytes t.string };
+}
+
+impl Text {
+    /// No characters, and no memory taken.
+    pub fn new(alloc: Global) -> Text
+        ensures { result ≡ [] }
+    {
+        Text {
+            string: String::new(alloc),
+        }
+    }
+
+    /// A copy of a text.
+    pub fn from_str(alloc: Global, text: &str) -> Result<Text>
+        ensures text { IfOk result (λ t. t ≡ text.now) }
+        ensures memory { IfErr result (λ e. e ≡ OutOfMemory) }
+    {
+        Ok(Text {
+            string: String::from_str(alloc, text)?,
+        })
+    }
+
+    /// A copy of bytes that are UTF-8, and of another text where they aren't.
+    #[tactic(auto, using(crate::specs::TextLaws::text_as_is, crate::specs::TextLaws::text_replaced))]
+    pub fn from_utf8_or(alloc: Global, bytes: &[u8], other: &str) -> Result<Text>
+        ensures text { IfOk result (λ t. t ≡ text_or other.now bytes.now) }
+        ensures memory { IfErr result (λ e. e ≡ OutOfMemory) }
+    {
+        match str::from_utf8(bytes) {
+            Ok(text) => Text::from_str(alloc, text),
+            Err(_) => Text::from_str(alloc, other),
+        }
+    }
+
+    /// The text as a string.
+    pub fn into_string(self) -> String
+        ensures { string_bytes result ≡ self }
+    {
+        self.string
+    }
+
+    /// The text.
+    pub fn as_str(&self) -> &str
+        ensures { result.now ≡ self.now }
+    {
+        self.string.as_str()
+    }
+
+    /// Its bytes.
+    pub fn as_bytes(&self) -> &[u8]
+        ensures { result.now ≡ self.now }
+    {
+        self.string.as_bytes()
+    }
+
+    /// The number of bytes.
+    pub fn len(&self) -> usize
+        ensures { result ≡ length self.now }
+    {
+        self.as_bytes().len()
+    }
+
+    /// Whether it has no characters.
+    pub fn is_empty(&self) -> bool
+        ensures { result ≡ (length self.now == 0) }
+    {
+        self.as_bytes().is_empty()
+    }
+
+    /// Every text is. The answer is for proofs, which see the bytes alone.
+    pub fn is_utf8(&self) -> bool
+        ensures { IsTrue result ↔ IsUtf8 self.now }
+    {
+        let _text = self.string.as_str();
+        true
+    }
+
+    /// An equal text, in memory of its own.
+    pub fn try_clone(&self) -> Result<Text>
+        ensures clone { IfOk result (λ clone. clone ≡ self.now) }
+        ensures memory { IfErr result (λ e. e ≡ OutOfMemory) }
+    {
+        Ok(Text {
+            string: self.string.clone()?,
+        })
+    }
+}
+
+impl From<String> for Text {
+    ghost from_gives = { λ s t. t ≡ string_bytes s };
+
+    fn from(string: String) -> Text {
+        Text { string }
+    }
+}
+
+impl fmt::Debug for Text {
+    fn fmt<W: fmt::Write>(&self, f: &mut fmt::Formatter<W>) -> fmt::Result {
+        fmt::Debug::fmt(&self.string, f)
+    }
+}
+
+impl PartialEq for Text {
+    ghost eq = { λ x y. pointwise nat_eq x y };
+
+    ghost laws = { partial_equiv_from_equiv nat_list_eq_equiv };
+
+    fn eq(&self, other: &Text) -> bool {
+        self.as_bytes() == other.as_bytes()
+    }
+}
+
+impl Eq for Text {
+    ghost laws = { nat_list_eq_equiv };
+}

@@ -1,0 +1,18 @@
+-- Numbers with a fixed point: the raw number is the value times a denominator.
+use Rattle.std.specs.Prelude.{ℕ, ◌*◌, ◌/◌, ℤ, pos, ◌*ℤ◌, int_div}
+
+-- the raw number of a whole number, over the denominator d
+abbrev pub scaled : ℕ → ℕ → ℕ
+scaled d value = d * value
+
+-- the whole number of a raw one, without its fraction
+abbrev pub whole : ℕ → ℕ → ℕ
+whole d raw = raw / d
+
+-- the raw number of a whole number with a sign
+abbrev pub scaled_signed : ℕ → ℤ → ℤ
+scaled_signed d value = pos d *ℤ value
+
+-- the whole number of a raw one with a sign, cut towards zero
+abbrev pub whole_signed : ℕ → ℤ → ℤ
+whole_signed d raw = int_div raw (pos d)

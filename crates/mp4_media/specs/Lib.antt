@@ -1,0 +1,11 @@
+pub mod Conversion
+pub mod FixedPoint
+pub mod TrackType
+pub mod MediaType
+pub mod AvcProfile
+pub mod AudioObjectType
+pub mod SampleFreqIndex
+pub mod ChannelConfig
+pub mod DataType
+pub mod Mp4Sample
+pub mod Equality

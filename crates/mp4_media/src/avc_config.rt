@@ -1,0 +1,47 @@
+//! What a track of advanced video is made from.
+
+ghost use Rattle.std.specs.Prelude.{◌≡◌, [], IfOk, IfErr};
+ghost use Rattle.mp4_frame.specs.declared.error.Error.TheVariants.{OutOfMemory};
+
+use mp4_frame::{Entries, Result};
+use std::alloc::Global;
+
+/// What a track of advanced video (ISO/IEC 14496-10) is made from.
+#[derive(Debug, PartialEq, Eq, Drop)]
+pub struct AvcConfig {
+    /// The width of the picture, in pixels.
+    pub width: u16,
+    /// The height of the picture, in pixels.
+    pub height: u16,
+    /// The sequence parameter set, a whole network abstraction unit without its length.
+    pub seq_param_set: Entries<u8>,
+    /// The picture parameter set, likewise.
+    pub pic_param_set: Entries<u8>,
+}
+
+impl AvcConfig {
+    /// No picture and empty sets. It takes no memory.
+    pub fn default_in(alloc: Global) -> Self
+        ensures { result ≡ record { width = 0; height = 0; seq_param_set = []; pic_param_set = [] } }
+    {
+        AvcConfig {
+            width: 0,
+            height: 0,
+            seq_param_set: Entries::new(alloc),
+            pic_param_set: Entries::new(alloc),
+        }
+    }
+
+    /// The same configuration, in memory of its own.
+    pub fn try_clone(&self) -> Result<Self>
+        ensures ok { IfOk result (λ c. c ≡ self.now) }
+        ensures err { IfErr result (λ e. e ≡ OutOfMemory) }
+    {
+        Ok(AvcConfig {
+            width: self.width,
+            height: self.height,
+            seq_param_set: self.seq_param_set.try_clone()?,
+            pic_param_set: self.pic_param_set.try_clone()?,
+        })
+    }
+}

@@ -1,0 +1,10 @@
+//! What a track of high efficiency video is made from.
+
+/// What a track of high efficiency video (ISO/IEC 23008-2) is made from.
+#[derive(Clone, Debug, Default, PartialEq, Eq, Drop)]
+pub struct HevcConfig {
+    /// The width of the picture, in pixels.
+    pub width: u16,
+    /// The height of the picture, in pixels.
+    pub height: u16,
+}
