@@ -8,6 +8,10 @@ mod member;
 
 pub use any_box::AnyBox;
 pub use facade::read_boxes;
+pub use mp4_flat::{
+    Matrix, MdhdBox, MehdBox, MfhdBox, MvhdBox, RgbColor, SmhdBox, TfdtBox, TkhdBox, TrackFlag,
+    TrexBox, VmhdBox, language_code, language_string,
+};
 pub use mp4_frame::{
     BoxHeader, BoxLaws, BoxType, ByteCursor, Entries, Error, FourCC, HEADER_EXT_SIZE, HEADER_SIZE,
     Mp4Box, ReadBox, Result, StreamBox, Text, WriteBox, box_start, laws, read_box_header_ext,
@@ -20,5 +24,8 @@ pub use mp4_media::{
     MetadataKey, Mp4Sample, SampleFreqIndex, TrackType, TtxtConfig, Vp9Config, creation_time,
     laws as media_laws,
 };
-pub use mp4_tables::StcoBox;
-pub use mp4_text::FtypBox;
+pub use mp4_tables::{
+    Co64Box, CttsBox, CttsEntry, ElstBox, ElstEntry, StcoBox, StscBox, StscEntry, StssBox, StszBox,
+    SttsBox, SttsEntry, TfhdBox, TrunBox,
+};
+pub use mp4_text::{DataBox, DinfBox, DrefBox, EmsgBox, FtypBox, HdlrBox, UrlBox};

@@ -1,6 +1,38 @@
 //! The counted and flagged tables: boxes of rows that a count or the flags announce.
 #![tactic(auto)]
 
+mod co64;
+mod ctts;
+mod ctts_entry;
+mod elst;
+mod elst_entry;
+mod flagged;
+mod rows;
 mod stco;
+mod stsc;
+mod stsc_entry;
+mod stss;
+mod stsz;
+mod stts;
+mod stts_entry;
+mod tfhd;
+mod trun;
+mod trun_lists;
 
+pub use co64::Co64Box;
+pub use ctts::CttsBox;
+pub use ctts_entry::CttsEntry;
+pub use elst::ElstBox;
+pub use elst_entry::ElstEntry;
 pub use stco::StcoBox;
+pub use stsc::StscBox;
+pub use stsc_entry::StscEntry;
+pub use stss::StssBox;
+pub use stsz::StszBox;
+pub use stts::SttsBox;
+pub use stts_entry::SttsEntry;
+pub use tfhd::TfhdBox;
+pub use trun::TrunBox;
+
+#[cfg(test)]
+mod tests;

@@ -1,13 +1,16 @@
 //! The chunk offset box.
 
-ghost use Rattle.std.specs.Prelude.{◌≡◌, ◌-◌, ◌^◌, [], IfOk, IfErr, map, min};
+ghost use Rattle.std.specs.Prelude.{◌≡◌, ◌↔◌, ◌<◌, ◌-◌, ◌%◌, ◌^◌, [], All, IsTrue, IfOk, IfErr, OnOk, map, min};
+ghost use Rattle.mp4_frame.specs.Written.{WriteRefuses};
 ghost use Rattle.mp4_frame.specs.declared.box_type.BoxType.TheVariants as names;
-ghost use Rattle.mp4_tables.specs.Stco.{offset_of, reads_stco, size_stco, WritableStco, bytes_stco, normal_stco};
+ghost use Rattle.mp4_tables.specs.Stco.{made_stco, reads_stco, size_stco, WritableStco, bytes_stco, normal_stco};
 ghost use Rattle.mp4_tables.specs.StcoLaws.{framed_stco, normal_form_stco, read_back_stco, sound_stco};
 
+use crate::co64::Co64Box;
+use crate::rows::numbers_of;
 use mp4_frame::{
     BoxLaws, BoxType, Entries, Error, Mp4Box, ReadBox, Result, WriteBox, is_writable_table,
-    put_table, read_table, table_size, u32_at,
+    put_table, read_table, table_size,
 };
 use std::alloc::Global;
 
@@ -46,6 +49,25 @@ impl StcoBox {
         })
     }
 
+    /// The same offsets in a box of version 0 and flags 0. Invalid data where an offset passes 2^32 - 1, before
+    /// memory is asked for.
+    #[tactic(auto, using(crate::proofs::Offsets::lowest_bits))]
+    pub fn try_from_co64(alloc: Global, co64: &Co64Box) -> Result<StcoBox>
+        ensures value { IfOk result (λ stco. stco ≡ made_stco 0 0 co64.now.entries) }
+        ensures fits { OnOk result (All (λ offset. offset < 2 ^ 32) co64.now.entries) }
+        ensures refused { IfErr result (λ e. WriteRefuses (All (λ offset. offset < 2 ^ 32) co64.now.entries) e) }
+    {
+        let offsets = co64.entries.as_slice();
+        if !are_short(offsets) {
+            return Err(Error::InvalidData("value does not fit its field"));
+        }
+        Ok(StcoBox {
+            version: 0,
+            flags: 0,
+            entries: lowest_bits_of(alloc, offsets)?.into(),
+        })
+    }
+
     /// As `box_type`.
     pub fn get_type(&self) -> BoxType
         ensures { result ≡ names.StcoBox }
@@ -59,6 +81,31 @@ impl StcoBox {
     {
         self.box_size()
     }
+}
+
+fn are_short(offsets: &[u64]) -> bool
+    ensures { IsTrue result ↔ All (λ offset. offset < 2 ^ 32) offsets.now }
+{
+    offsets.iter().all(
+        |offset: &u64| -> bool
+            ensures { IsTrue result ↔ (offset.now < 2 ^ 32) }
+        { *offset < 1 << 32 },
+    )
+}
+
+fn lowest_bits_of(alloc: Global, offsets: &[u64]) -> Result<Vec<u32>>
+    ensures value { IfOk result (λ lowest. lowest.items ≡ map (λ offset. offset % 2 ^ 32) offsets.now) }
+    ensures memory { IfErr result (λ e. e ≡ Error.OutOfMemory) }
+{
+    let lowest: Vec<u32> = offsets
+        .iter()
+        .map(
+            |offset: &u64| -> u32
+                ensures { result ≡ offset.now % 2 ^ 32 }
+            { (*offset % (1 << 32)) as u32 },
+        )
+        .collect(alloc)?;
+    Ok(lowest)
 }
 
 impl Mp4Box for StcoBox {
@@ -75,21 +122,6 @@ impl Mp4Box for StcoBox {
     }
 }
 
-fn offsets_of(alloc: Global, rows: &[[u8; 4]]) -> Result<Vec<u32>>
-    ensures value { IfOk result (λ offsets. offsets.items ≡ map offset_of rows.now) }
-    ensures memory { IfErr result (λ e. e ≡ Error.OutOfMemory) }
-{
-    let offsets: Vec<u32> = rows
-        .iter()
-        .map(
-            |row: &[u8; 4]| -> u32
-                ensures { result ≡ offset_of row.now }
-            { u32_at(row, 0) },
-        )
-        .collect(alloc)?;
-    Ok(offsets)
-}
-
 impl ReadBox for StcoBox {
     ghost reads = { reads_stco };
 
@@ -103,7 +135,7 @@ impl ReadBox for StcoBox {
         Ok(StcoBox {
             version,
             flags,
-            entries: offsets_of(alloc, rows)?.into(),
+            entries: numbers_of(alloc, rows, 0)?.into(),
         })
     }
 }

@@ -1,63 +1,136 @@
 //! The vectors: a box of each type, and the bytes that it is written in. Values and bytes come from the tests
 //! of the Rust crate and from the standard, none from this codec's output.
 
-use mp4_stream::{AnyBox, Entries, FourCC, FtypBox, Result, StcoBox};
+mod flat;
+mod tables;
+mod text;
+
+use mp4_stream::{AnyBox, Result};
 use std::alloc::Global;
 
 /// Which box.
 #[derive(Clone, Copy, Debug, PartialEq, Eq)]
 pub enum Vector {
     Ftyp,
+    Mvhd,
+    Tkhd,
+    Mdhd,
+    Mehd,
+    Mfhd,
+    Smhd,
+    Vmhd,
+    Trex,
+    Tfdt,
     Stco,
+    Co64,
+    Stts,
+    Ctts,
+    Stss,
+    Stsz,
+    Stsc,
+    Elst,
+    Tfhd,
+    Trun,
+    Hdlr,
+    Data,
+    Emsg,
+    Url,
+    Dref,
+    Dinf,
 }
 
 /// Every vector.
-pub const VECTORS: [Vector; 2] = [Vector::Ftyp, Vector::Stco];
-
-const FTYP: [u8; 32] = *b"\0\0\0\x20ftypisom\0\0\0\0isomiso2avc1mp41";
-
-const STCO: [u8; 44] =
-    *b"\0\0\0\x2cstco\0\0\0\0\0\0\0\x07\0\0\x01\x0b\0\0\x07\xb2\0\0\x09\xe7\0\0\x0a\xf3\0\0\x2e\x43\0\0\x56\xcf\0\0\x83\x30";
+pub const VECTORS: [Vector; 26] = [
+    Vector::Ftyp,
+    Vector::Mvhd,
+    Vector::Tkhd,
+    Vector::Mdhd,
+    Vector::Mehd,
+    Vector::Mfhd,
+    Vector::Smhd,
+    Vector::Vmhd,
+    Vector::Trex,
+    Vector::Tfdt,
+    Vector::Stco,
+    Vector::Co64,
+    Vector::Stts,
+    Vector::Ctts,
+    Vector::Stss,
+    Vector::Stsz,
+    Vector::Stsc,
+    Vector::Elst,
+    Vector::Tfhd,
+    Vector::Trun,
+    Vector::Hdlr,
+    Vector::Data,
+    Vector::Emsg,
+    Vector::Url,
+    Vector::Dref,
+    Vector::Dinf,
+];
 
 impl Vector {
     /// The bytes that the box is written in.
     pub fn bytes(self) -> &'static [u8] {
         match self {
-            Vector::Ftyp => &FTYP,
-            Vector::Stco => &STCO,
+            Vector::Ftyp => &text::FTYP,
+            Vector::Mvhd => &flat::MVHD,
+            Vector::Tkhd => &flat::TKHD,
+            Vector::Mdhd => &flat::MDHD,
+            Vector::Mehd => &flat::MEHD,
+            Vector::Mfhd => &flat::MFHD,
+            Vector::Smhd => &flat::SMHD,
+            Vector::Vmhd => &flat::VMHD,
+            Vector::Trex => &flat::TREX,
+            Vector::Tfdt => &flat::TFDT,
+            Vector::Stco => &tables::STCO,
+            Vector::Co64 => &tables::CO64,
+            Vector::Stts => &tables::STTS,
+            Vector::Ctts => &tables::CTTS,
+            Vector::Stss => &tables::STSS,
+            Vector::Stsz => &tables::STSZ,
+            Vector::Stsc => &tables::STSC,
+            Vector::Elst => &tables::ELST,
+            Vector::Tfhd => &tables::TFHD,
+            Vector::Trun => &tables::TRUN,
+            Vector::Hdlr => &text::HDLR,
+            Vector::Data => &text::DATA,
+            Vector::Emsg => &text::EMSG,
+            Vector::Url => &text::URL,
+            Vector::Dref => &text::DREF,
+            Vector::Dinf => &text::DINF,
         }
     }
 
     /// The box.
     pub fn make(self, alloc: Global) -> Result<AnyBox> {
         match self {
-            Vector::Ftyp => ftyp(alloc),
-            Vector::Stco => stco(alloc),
+            Vector::Ftyp => text::ftyp(alloc),
+            Vector::Mvhd => Ok(flat::mvhd()),
+            Vector::Tkhd => Ok(flat::tkhd()),
+            Vector::Mdhd => flat::mdhd(alloc),
+            Vector::Mehd => Ok(flat::mehd()),
+            Vector::Mfhd => Ok(flat::mfhd()),
+            Vector::Smhd => Ok(flat::smhd()),
+            Vector::Vmhd => Ok(flat::vmhd()),
+            Vector::Trex => Ok(flat::trex()),
+            Vector::Tfdt => Ok(flat::tfdt()),
+            Vector::Stco => tables::stco(alloc),
+            Vector::Co64 => tables::co64(alloc),
+            Vector::Stts => tables::stts(alloc),
+            Vector::Ctts => tables::ctts(alloc),
+            Vector::Stss => tables::stss(alloc),
+            Vector::Stsz => tables::stsz(alloc),
+            Vector::Stsc => tables::stsc(alloc),
+            Vector::Elst => tables::elst(alloc),
+            Vector::Tfhd => Ok(tables::tfhd()),
+            Vector::Trun => tables::trun(alloc),
+            Vector::Hdlr => text::hdlr(alloc),
+            Vector::Data => text::data_box(alloc),
+            Vector::Emsg => text::emsg(alloc),
+            Vector::Url => text::url(alloc),
+            Vector::Dref => Ok(text::dref(alloc)),
+            Vector::Dinf => Ok(text::dinf(alloc)),
         }
     }
-}
-
-fn ftyp(alloc: Global) -> Result<AnyBox> {
-    let brands = [*b"isom", *b"iso2", *b"avc1", *b"mp41"];
-    let mut compatible_brands = Entries::new(alloc);
-    for brand in brands {
-        compatible_brands.push(FourCC::from(brand))?;
-    }
-    Ok(AnyBox::FtypBox(FtypBox {
-        major_brand: FourCC::from(*b"isom"),
-        minor_version: 0,
-        compatible_brands,
-    }))
-}
-
-fn stco(alloc: Global) -> Result<AnyBox> {
-    let mut entries = Entries::new(alloc);
-    for offset in [267, 1970, 2535, 2803, 11843, 22223, 33584] {
-        entries.push(offset)?;
-    }
-    Ok(AnyBox::StcoBox(StcoBox {
-        version: 0,
-        flags: 0,
-        entries,
-    }))
 }

@@ -6,7 +6,11 @@ use mp4_stream::laws::{
     has_own_name, have_same_bytes, is_framed, is_read_back, is_read_by_name, is_settled, is_sound,
     written_is_read,
 };
-use mp4_stream::{AnyBox, BoxLaws, FtypBox, StcoBox, StreamBox};
+use mp4_stream::{
+    AnyBox, BoxLaws, Co64Box, CttsBox, DataBox, DinfBox, DrefBox, ElstBox, EmsgBox, FtypBox,
+    HdlrBox, MdhdBox, MehdBox, MfhdBox, MvhdBox, SmhdBox, StcoBox, StreamBox, StscBox, StssBox,
+    StszBox, SttsBox, TfdtBox, TfhdBox, TkhdBox, TrexBox, TrunBox, UrlBox, VmhdBox,
+};
 
 fn laws_of_a_box<B: BoxLaws>() {
     is_framed::<B>();
@@ -30,9 +34,45 @@ fn laws_of_lists<B: StreamBox>() {
 }
 
 #[test]
-fn laws_hold_of_concrete_types() {
-    laws_of_a_box::<FtypBox>();
+fn laws_hold_of_fixed_fields() {
+    laws_of_a_box::<MvhdBox>();
+    laws_of_a_box::<TkhdBox>();
+    laws_of_a_box::<MdhdBox>();
+    laws_of_a_box::<MehdBox>();
+    laws_of_a_box::<MfhdBox>();
+    laws_of_a_box::<SmhdBox>();
+    laws_of_a_box::<VmhdBox>();
+    laws_of_a_box::<TrexBox>();
+    laws_of_a_box::<TfdtBox>();
+}
+
+#[test]
+fn laws_hold_of_tables() {
     laws_of_a_box::<StcoBox>();
+    laws_of_a_box::<Co64Box>();
+    laws_of_a_box::<SttsBox>();
+    laws_of_a_box::<CttsBox>();
+    laws_of_a_box::<StssBox>();
+    laws_of_a_box::<StszBox>();
+    laws_of_a_box::<StscBox>();
+    laws_of_a_box::<ElstBox>();
+    laws_of_a_box::<TfhdBox>();
+    laws_of_a_box::<TrunBox>();
+}
+
+#[test]
+fn laws_hold_of_texts() {
+    laws_of_a_box::<FtypBox>();
+    laws_of_a_box::<HdlrBox>();
+    laws_of_a_box::<DataBox>();
+    laws_of_a_box::<EmsgBox>();
+    laws_of_a_box::<UrlBox>();
+    laws_of_a_box::<DrefBox>();
+    laws_of_a_box::<DinfBox>();
+}
+
+#[test]
+fn laws_hold_of_lists_and_of_a_type_from_outside() {
     laws_of_a_box::<MarkBox>();
     laws_of_lists::<AnyBox>();
     laws_of_lists::<MarkBox>();

@@ -1,0 +1,51 @@
+-- mdhd, the media header box (ISO/IEC 14496-12, 8.4.2). Its times take t bytes each: 4 in version 0, 8 in version 1.
+-- Version 1 byte, flags 3, creation time t bytes at 12, modification time t, timescale 4, duration t, language 2,
+-- and 2 bytes of zero, which need not stand there to be read.
+use Rattle.std.specs.Prelude.{ℕ, ◌+◌, ◌*◌, List, [], ◌∷◌, ◌++◌, codes}
+use Rattle.mp4_frame.specs.Bytes.{joined}
+use Rattle.mp4_frame.specs.Reading.{Reading, ◌>>=◌, memory, done}
+use Rattle.mp4_flat.specs.FullBox.{full_box}
+use Rattle.mp4_flat.specs.Language.{language_code, letters}
+use Rattle.mp4_flat.specs.Time.{time_width, timed_size, reads_timed, WritableTimed}
+use Rattle.mp4_flat.specs.declared.mdhd.MdhdBox.{MdhdBox}
+
+-- the value, where a time takes t bytes, by the number n o w of w bytes at o
+abbrev pub value_mdhd : ℕ → (ℕ → ℕ → ℕ) → MdhdBox
+value_mdhd t n = record {
+  version = n 8 1;
+  flags = n 9 3;
+  creation_time = n 12 t;
+  modification_time = n (12 + t) t;
+  timescale = n (12 + 2 * t) 4;
+  duration = n (16 + 2 * t) t;
+  language = letters (n (16 + 3 * t) 2);
+}
+
+unfoldable pub reads_mdhd : List ℕ → ℕ → ℕ → Reading MdhdBox
+reads_mdhd bytes start size = do
+  v ← reads_timed (λ t. 6 + 3 * t) value_mdhd bytes
+  _ ← memory
+  done v
+
+abbrev pub size_mdhd : MdhdBox → ℕ
+size_mdhd v = 16 + timed_size (λ t. 4 + 3 * t) v.version
+
+abbrev pub columns_mdhd : MdhdBox → List (ℕ × ℕ)
+columns_mdhd v =
+    let t = time_width v.version in
+    full_box (size_mdhd v) 0x6d646864 v.version v.flags
+    ++ (t, v.creation_time) ∷ (t, v.modification_time) ∷ (4, v.timescale) ∷ (t, v.duration)
+    ∷ (2, language_code v.language) ∷ (2, 0) ∷ []
+
+abbrev pub default_mdhd : MdhdBox
+default_mdhd = record { version = 0; flags = 0; creation_time = 0; modification_time = 0; timescale = 1000; duration = 0; language = codes "und" }
+
+abbrev pub WritableMdhd : MdhdBox → Type 0
+WritableMdhd v = WritableTimed v.version (columns_mdhd v)
+
+unfoldable pub bytes_mdhd : MdhdBox → List ℕ
+bytes_mdhd v = joined (columns_mdhd v)
+
+-- the language is the one that is read
+abbrev pub normal_mdhd : MdhdBox → MdhdBox
+normal_mdhd v = record v { language = letters (language_code v.language) }

@@ -1,0 +1,53 @@
+-- The laws of mdhd, whose times have two widths, and whose language is read by its letters.
+use Rattle.std.proofs.Common.{◌≡◌, ℕ, ◌+◌, ◌*◌, ◌<◌, ◌^◌, List, [], ◌∷◌, ◌++◌, Ok, refl, sym, ap, subst, ◌∙◌, lit<, lit≤, arith}
+use Rattle.mp4_frame.specs.Bytes.{number, joined}
+use Rattle.mp4_frame.specs.Laws.{Framed, Normal, RowReadsBack, RowIsSound}
+use Rattle.mp4_frame.specs.Reading.{◌>>=◌, memory, done}
+use Rattle.mp4_frame.specs.declared.box_type.BoxType.TheVariants as names
+use Rattle.mp4_frame.proofs.Decided.{outcome_bind}
+use Rattle.mp4_frame.proofs.Stands.{is_value}
+use Rattle.mp4_frame.proofs.Tables.{value_first}
+use Rattle.mp4_flat.specs.FieldLaws.{framed_columns, fits_read, Number, Fitting}
+use Rattle.mp4_flat.specs.Language.{language_code, letters}
+use Rattle.mp4_flat.specs.LanguageLaws.{language_fits, language_back, letters_back}
+use Rattle.mp4_flat.specs.Time.{time_width, reads_timed, WritableTimed}
+use Rattle.mp4_flat.specs.TimeLaws.{timed_size-known, timed_back, timed_is}
+use Rattle.mp4_flat.specs.Mdhd.{value_mdhd, reads_mdhd, size_mdhd, columns_mdhd, WritableMdhd, bytes_mdhd, normal_mdhd}
+use Rattle.mp4_flat.specs.declared.mdhd.MdhdBox.{MdhdBox}
+
+pub framed_mdhd : (v : MdhdBox) → WritableMdhd v → Framed (size_mdhd v) names.MdhdBox (bytes_mdhd v)
+unfolding bytes_mdhd
+framed_mdhd v w = framed_columns _ w.fit (omega (arith, timed_size-known (λ t. 4 + 3 * t) v.version w.known))
+
+same_columns : (v : MdhdBox) → columns_mdhd (normal_mdhd v) ≡ columns_mdhd v
+same_columns v = rw (language_back v.language) refl
+
+pub normal_form_mdhd : (v : MdhdBox) → WritableMdhd v → Normal WritableMdhd bytes_mdhd normal_mdhd v
+unfolding bytes_mdhd
+normal_form_mdhd v w = record {
+  writable = subst (WritableTimed v.version) (sym (same_columns v)) w;
+  again = ap (λ (code : ℕ). record v { language = letters code }) (language_back v.language);
+  same_bytes = ap joined (same_columns v);
+}
+
+pub read_back_mdhd : (v : MdhdBox) → WritableMdhd v → RowReadsBack reads_mdhd (bytes_mdhd v) (size_mdhd v) (normal_mdhd v)
+unfolding bytes_mdhd reads_mdhd
+read_back_mdhd v w rest start top =
+    let timed = timed_back (λ t. 6 + 3 * t) value_mdhd columns_mdhd normal_mdhd (λ k. record v { version = k }) rest v.version w (refl, lit≤ tt, refl) (refl, lit≤ tt, refl) in
+    outcome_bind (reads_timed (λ t. 6 + 3 * t) value_mdhd (joined (columns_mdhd v) ++ rest)) (λ x. memory >>= λ _. done x) (normal_mdhd v) (Ok (normal_mdhd v)) timed refl
+
+pub sound_mdhd : RowIsSound reads_mdhd WritableMdhd size_mdhd normal_mdhd
+unfolding reads_mdhd
+sound_mdhd bytes start long v are e =
+    let t = time_width (number bytes 8 1) in
+    let code = number bytes (16 + 3 * t) 2 in
+    let made = value_mdhd t (number bytes) in
+    let read = value_first (reads_timed (λ t. 6 + 3 * t) value_mdhd bytes) (λ x. memory >>= λ _. done x) v e in
+    let is = timed_is (λ t. 6 + 3 * t) value_mdhd bytes read.0 read.1 in
+    let same : made ≡ v = is.1 ∙ is_value read.0 v read.2 in
+    let fits = fits_read bytes are
+    (Number 8 1 ∷ Number 9 3 ∷ Number 12 t ∷ Number (12 + t) t ∷ Number (12 + 2 * t) 4 ∷ Number (16 + 2 * t) t
+    ∷ Fitting 2 (language_code (letters code)) (omega (arith, language_fits (letters code))) ∷ Fitting 2 0 (lit< tt) ∷ []) in
+    let normal : normal_mdhd made ≡ made = ap (λ (text : List ℕ). record made { language = text }) (letters_back code) in
+    let writable : size_mdhd made < 2 ^ 32 → WritableMdhd made = λ small. record { known = is.0; fit = (small, (lit< tt, fits)) } in
+    subst (λ (x : MdhdBox). (normal_mdhd x ≡ x) × (size_mdhd x < 2 ^ 32 → WritableMdhd x)) same (normal, writable)

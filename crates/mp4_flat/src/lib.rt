@@ -1,0 +1,34 @@
+//! The flat boxes of an MP4 file: boxes of fixed fields.
+#![tactic(auto)]
+
+mod full_box;
+mod language;
+mod matrix;
+mod mdhd;
+mod mehd;
+mod mfhd;
+mod mvhd;
+mod rgb_color;
+mod smhd;
+#[cfg(test)]
+mod tests;
+mod tfdt;
+mod time;
+mod tkhd;
+mod track_flag;
+mod trex;
+mod vmhd;
+
+pub use language::{language_code, language_string};
+pub use matrix::Matrix;
+pub use mdhd::MdhdBox;
+pub use mehd::MehdBox;
+pub use mfhd::MfhdBox;
+pub use mvhd::MvhdBox;
+pub use rgb_color::RgbColor;
+pub use smhd::SmhdBox;
+pub use tfdt::TfdtBox;
+pub use tkhd::TkhdBox;
+pub use track_flag::TrackFlag;
+pub use trex::TrexBox;
+pub use vmhd::VmhdBox;

@@ -1,0 +1,162 @@
+//! The media header box.
+
+ghost use Rattle.std.specs.Prelude.{◌≡◌, IfOk, IfErr};
+ghost use Rattle.mp4_frame.specs.declared.box_type.BoxType.TheVariants as names;
+ghost use Rattle.mp4_flat.specs.Mdhd.{default_mdhd, reads_mdhd, size_mdhd, WritableMdhd, bytes_mdhd, normal_mdhd};
+ghost use Rattle.mp4_flat.specs.MdhdLaws.{framed_mdhd, normal_form_mdhd, read_back_mdhd, sound_mdhd};
+
+use crate::full_box::put_full_box;
+use crate::language::{language_code, language_string};
+use crate::time::{put_time, time_at, time_fits, version_of_times, width_of_time};
+use mp4_frame::{
+    BoxLaws, BoxType, Error, Mp4Box, ReadBox, Result, Text, WriteBox, fields, put_u16, put_u32,
+    put_zeros, u16_at, u24_at, u32_at,
+};
+use std::alloc::Global;
+
+/// What holds of the media of a track as a whole (`mdhd`, ISO/IEC 14496-12, 8.4.2).
+#[derive(Debug, Drop, PartialEq, Eq)]
+pub struct MdhdBox {
+    /// 0, or 1 for times of 64 bits.
+    pub version: u8,
+    /// 24 bits, 0 in the standard.
+    pub flags: u32,
+    /// When the media were made, in seconds from the beginning of 1904, UTC. 32 bits in version 0.
+    pub creation_time: u64,
+    /// When they were last changed, likewise.
+    pub modification_time: u64,
+    /// How many units of time a second has.
+    pub timescale: u32,
+    /// How long the media are, in the timescale. 32 bits in version 0.
+    pub duration: u64,
+    /// The language, by three letters (ISO 639-2/T). What is written is its `language_code`.
+    pub language: Text,
+}
+
+impl MdhdBox {
+    /// Version 0, a timescale of 1000, and the undetermined language `und`; else zeros.
+    pub fn default_in(alloc: Global) -> Result<MdhdBox>
+        ensures default { IfOk result (λ v. v ≡ default_mdhd) }
+        ensures memory { IfErr result (λ e. e ≡ Error.OutOfMemory) }
+    {
+        Ok(MdhdBox {
+            version: 0,
+            flags: 0,
+            creation_time: 0,
+            modification_time: 0,
+            timescale: 1000,
+            duration: 0,
+            language: Text::from_str(alloc, "und")?,
+        })
+    }
+
+    /// An equal box, in memory of its own.
+    pub fn try_clone(&self) -> Result<MdhdBox>
+        ensures clone { IfOk result (λ clone. clone ≡ self.now) }
+        ensures memory { IfErr result (λ e. e ≡ Error.OutOfMemory) }
+    {
+        Ok(MdhdBox {
+            version: self.version,
+            flags: self.flags,
+            creation_time: self.creation_time,
+            modification_time: self.modification_time,
+            timescale: self.timescale,
+            duration: self.duration,
+            language: self.language.try_clone()?,
+        })
+    }
+
+    /// As `box_type`.
+    pub fn get_type(&self) -> BoxType
+        ensures { result ≡ names.MdhdBox }
+    {
+        self.box_type()
+    }
+
+    /// As `box_size`.
+    pub fn get_size(&self) -> u64
+        ensures { result ≡ size_mdhd self.now }
+    {
+        self.box_size()
+    }
+}
+
+impl Mp4Box for MdhdBox {
+    ghost name = { λ _. names.MdhdBox };
+
+    ghost size = { size_mdhd };
+
+    fn box_type(&self) -> BoxType {
+        BoxType::MdhdBox
+    }
+
+    fn box_size(&self) -> u64 {
+        match self.version {
+            0 => 32,
+            1 => 44,
+            _ => 16,
+        }
+    }
+}
+
+impl ReadBox for MdhdBox {
+    ghost reads = { reads_mdhd };
+
+    #[tactic(auto, unfolding(crate::specs::Mdhd::reads_mdhd))]
+    fn read_row(alloc: Global, bytes: &[u8], _start: u64, _size: u64) -> Result<MdhdBox> {
+        let version = version_of_times(bytes)?;
+        let t = width_of_time(version);
+        fields(bytes, 12, 6 + 3 * t)?;
+        let language = language_string(alloc, u16_at(bytes, 16 + 3 * t))?;
+        Ok(MdhdBox {
+            version,
+            flags: u24_at(bytes, 9),
+            creation_time: time_at(bytes, 12, version),
+            modification_time: time_at(bytes, 12 + t, version),
+            timescale: u32_at(bytes, 12 + 2 * t),
+            duration: time_at(bytes, 16 + 2 * t, version),
+            language: language.into(),
+        })
+    }
+}
+
+impl WriteBox for MdhdBox {
+    ghost Writable = { WritableMdhd };
+
+    ghost bytes = { bytes_mdhd };
+
+    ghost normal = { normal_mdhd };
+
+    #[tactic(auto, using(crate::specs::LanguageLaws::language_fits))]
+    fn is_writable(&self) -> bool {
+        // What a body reads is known to fit its type.
+        let _timescale = self.timescale;
+        self.version < 2
+            && self.flags < 1 << 24
+            && time_fits(self.version, self.creation_time)
+            && time_fits(self.version, self.modification_time)
+            && time_fits(self.version, self.duration)
+    }
+
+    #[tactic(auto, unfolding(crate::specs::Mdhd::bytes_mdhd, mp4_frame::specs::Bytes::joined, mp4_frame::specs::Bytes::joined_onto))]
+    fn put_box(&self, place: &mut [u8]) {
+        let size = self.box_size() as u32;
+        let at = put_full_box(place, size, 0x6d64_6864, self.version, self.flags);
+        let at = put_time(place, at, self.version, self.creation_time);
+        let at = put_time(place, at, self.version, self.modification_time);
+        let at = put_u32(place, at, self.timescale);
+        let at = put_time(place, at, self.version, self.duration);
+        let at = put_u16(place, at, language_code(self.language.as_str()));
+        put_zeros(place, at, 2);
+    }
+
+    ghost framed = { framed_mdhd };
+
+    ghost normal_form = { normal_form_mdhd };
+}
+
+impl BoxLaws for MdhdBox {
+    ghost read_back = { read_back_mdhd };
+
+    ghost sound = { sound_mdhd };
+}

@@ -1,0 +1,100 @@
+//! The movie extends header box.
+
+ghost use Rattle.std.specs.Prelude.{◌≡◌};
+ghost use Rattle.mp4_frame.specs.declared.box_type.BoxType.TheVariants as names;
+ghost use Rattle.mp4_flat.specs.Mehd.{reads_mehd, size_mehd, WritableMehd, bytes_mehd, normal_mehd};
+ghost use Rattle.mp4_flat.specs.MehdLaws.{framed_mehd, normal_form_mehd, read_back_mehd, sound_mehd};
+
+use crate::full_box::put_full_box;
+use crate::time::{put_time, time_at, time_fits, version_of_times, width_of_time};
+use mp4_frame::{BoxLaws, BoxType, Mp4Box, ReadBox, Result, WriteBox, fields, u24_at};
+use std::alloc::Global;
+
+/// How long a movie with fragments is (`mehd`, ISO/IEC 14496-12, 8.8.2).
+#[derive(Clone, Debug, Default, Drop, PartialEq, Eq)]
+pub struct MehdBox {
+    /// 0, or 1 for a duration of 64 bits.
+    pub version: u8,
+    /// 24 bits, 0 in the standard.
+    pub flags: u32,
+    /// The length of the whole movie, in the timescale of the movie header. 32 bits in version 0.
+    pub fragment_duration: u64,
+}
+
+impl MehdBox {
+    /// As `box_type`.
+    pub fn get_type(&self) -> BoxType
+        ensures { result ≡ names.MehdBox }
+    {
+        self.box_type()
+    }
+
+    /// As `box_size`.
+    pub fn get_size(&self) -> u64
+        ensures { result ≡ size_mehd self.now }
+    {
+        self.box_size()
+    }
+}
+
+impl Mp4Box for MehdBox {
+    ghost name = { λ _. names.MehdBox };
+
+    ghost size = { size_mehd };
+
+    fn box_type(&self) -> BoxType {
+        BoxType::MehdBox
+    }
+
+    fn box_size(&self) -> u64 {
+        match self.version {
+            0 => 16,
+            1 => 20,
+            _ => 12,
+        }
+    }
+}
+
+impl ReadBox for MehdBox {
+    ghost reads = { reads_mehd };
+
+    #[tactic(auto, unfolding(crate::specs::Mehd::reads_mehd))]
+    fn read_row(_alloc: Global, bytes: &[u8], _start: u64, _size: u64) -> Result<MehdBox> {
+        let version = version_of_times(bytes)?;
+        fields(bytes, 12, width_of_time(version))?;
+        Ok(MehdBox {
+            version,
+            flags: u24_at(bytes, 9),
+            fragment_duration: time_at(bytes, 12, version),
+        })
+    }
+}
+
+impl WriteBox for MehdBox {
+    ghost Writable = { WritableMehd };
+
+    ghost bytes = { bytes_mehd };
+
+    ghost normal = { normal_mehd };
+
+    fn is_writable(&self) -> bool {
+        self.version < 2 && self.flags < 1 << 24 && time_fits(self.version, self.fragment_duration)
+    }
+
+    #[tactic(auto, unfolding(crate::specs::Mehd::bytes_mehd, mp4_frame::specs::Bytes::joined, mp4_frame::specs::Bytes::joined_onto))]
+    fn put_box(&self, place: &mut [u8]) {
+        let size = self.box_size() as u32;
+        let at = put_full_box(place, size, 0x6d65_6864, self.version, self.flags);
+        put_time(place, at, self.version, self.fragment_duration);
+    }
+
+    ghost framed = { framed_mehd };
+
+    ghost normal_form = { normal_form_mehd };
+}
+
+impl BoxLaws for MehdBox {
+    ghost read_back = { read_back_mehd };
+
+    ghost sound = { sound_mehd };
+}

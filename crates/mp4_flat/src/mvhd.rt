@@ -1,0 +1,188 @@
+//! The movie header box.
+
+ghost use Rattle.std.specs.Prelude.{◌≡◌, ◌↔◌, IsTrue};
+ghost use Rattle.mp4_frame.specs.declared.box_type.BoxType.TheVariants as names;
+ghost use Rattle.mp4_flat.specs.Mvhd.{reads_mvhd, size_mvhd, WritableMvhd, bytes_mvhd, normal_mvhd};
+ghost use Rattle.mp4_flat.specs.MvhdLaws.{framed_mvhd, normal_form_mvhd, read_back_mvhd, sound_mvhd};
+
+use crate::full_box::put_full_box;
+use crate::matrix::{Matrix, is_matrix, matrix_from, put_matrix};
+use crate::time::{put_time, time_at, time_fits, version_of_times, width_of_time};
+use mp4_frame::{
+    BoxLaws, BoxType, Mp4Box, ReadBox, Result, WriteBox, fields, put_u16, put_u32, put_zeros,
+    u16_at, u24_at, u32_at,
+};
+use mp4_media::{FixedPointU8, FixedPointU16};
+use std::alloc::Global;
+
+/// What holds of a movie as a whole (`mvhd`, ISO/IEC 14496-12, 8.2.2).
+#[derive(Clone, Debug, Drop, PartialEq, Eq)]
+pub struct MvhdBox {
+    /// 0, or 1 for times of 64 bits.
+    pub version: u8,
+    /// 24 bits, 0 in the standard.
+    pub flags: u32,
+    /// When the movie was made, in seconds from the beginning of 1904, UTC. 32 bits in version 0.
+    pub creation_time: u64,
+    /// When it was last changed, likewise.
+    pub modification_time: u64,
+    /// How many units of time a second has.
+    pub timescale: u32,
+    /// How long the longest track is, in the timescale. 32 bits in version 0.
+    pub duration: u64,
+    /// How fast the movie is to be played: 1 is its own speed.
+    pub rate: FixedPointU16,
+    /// How loud it is to be played: 1 is full.
+    pub volume: FixedPointU8,
+    /// How its pictures are transformed.
+    pub matrix: Matrix,
+    /// A number that no track of the movie has.
+    pub next_track_id: u32,
+}
+
+impl Default for MvhdBox {
+    ghost use Rattle.mp4_flat.specs.Mvhd.{default_mvhd};
+
+    ghost is_default = { λ v. v ≡ default_mvhd };
+
+    fn default() -> MvhdBox {
+        MvhdBox {
+            version: 0,
+            flags: 0,
+            creation_time: 0,
+            modification_time: 0,
+            timescale: 1000,
+            duration: 0,
+            rate: FixedPointU16::new(1),
+            volume: FixedPointU8::new(1),
+            matrix: Matrix::default(),
+            next_track_id: 1,
+        }
+    }
+}
+
+impl MvhdBox {
+    /// As `box_type`.
+    pub fn get_type(&self) -> BoxType
+        ensures { result ≡ names.MvhdBox }
+    {
+        self.box_type()
+    }
+
+    /// As `box_size`.
+    pub fn get_size(&self) -> u64
+        ensures { result ≡ size_mvhd self.now }
+    {
+        self.box_size()
+    }
+}
+
+impl Mp4Box for MvhdBox {
+    ghost name = { λ _. names.MvhdBox };
+
+    ghost size = { size_mvhd };
+
+    fn box_type(&self) -> BoxType {
+        BoxType::MvhdBox
+    }
+
+    fn box_size(&self) -> u64 {
+        match self.version {
+            0 => 108,
+            1 => 120,
+            _ => 92,
+        }
+    }
+}
+
+impl ReadBox for MvhdBox {
+    ghost reads = { reads_mvhd };
+
+    #[tactic(auto, unfolding(crate::specs::Mvhd::reads_mvhd))]
+    fn read_row(_alloc: Global, bytes: &[u8], _start: u64, _size: u64) -> Result<MvhdBox> {
+        let version = version_of_times(bytes)?;
+        let t = width_of_time(version);
+        fields(bytes, 12, 84 + 3 * t)?;
+        Ok(MvhdBox {
+            version,
+            flags: u24_at(bytes, 9),
+            creation_time: time_at(bytes, 12, version),
+            modification_time: time_at(bytes, 12 + t, version),
+            timescale: u32_at(bytes, 12 + 2 * t),
+            duration: time_at(bytes, 16 + 2 * t, version),
+            rate: FixedPointU16::new_raw(u32_at(bytes, 16 + 3 * t)),
+            volume: FixedPointU8::new_raw(u16_at(bytes, 20 + 3 * t)),
+            matrix: matrix_from(bytes, 32 + 3 * t),
+            next_track_id: u32_at(bytes, 92 + 3 * t),
+        })
+    }
+}
+
+fn fits(
+    version: u8,
+    flags: u32,
+    times: (u64, u64, u64),
+    timescale: u32,
+    rate: FixedPointU16,
+    volume: FixedPointU8,
+    matrix: &Matrix,
+    next_track_id: u32,
+) -> bool
+    ensures { IsTrue result ↔ WritableMvhd (record { version = version; flags = flags; creation_time = times.0; modification_time = times.1; timescale = timescale; duration = times.2; rate = rate; volume = volume; matrix = matrix.now; next_track_id = next_track_id }) }
+{
+    // What a body reads is known to fit its type.
+    let (_rate, _volume) = (rate.raw_value(), volume.raw_value());
+    version < 2
+        && flags < 1 << 24
+        && time_fits(version, times.0)
+        && time_fits(version, times.1)
+        && time_fits(version, times.2)
+        && is_matrix(matrix)
+}
+
+impl WriteBox for MvhdBox {
+    ghost Writable = { WritableMvhd };
+
+    ghost bytes = { bytes_mvhd };
+
+    ghost normal = { normal_mvhd };
+
+    fn is_writable(&self) -> bool {
+        fits(
+            self.version,
+            self.flags,
+            (self.creation_time, self.modification_time, self.duration),
+            self.timescale,
+            self.rate,
+            self.volume,
+            &self.matrix,
+            self.next_track_id,
+        )
+    }
+
+    #[tactic(auto, unfolding(crate::specs::Mvhd::bytes_mvhd, mp4_frame::specs::Bytes::joined, mp4_frame::specs::Bytes::joined_onto))]
+    fn put_box(&self, place: &mut [u8]) {
+        let size = self.box_size() as u32;
+        let at = put_full_box(place, size, 0x6d76_6864, self.version, self.flags);
+        let at = put_time(place, at, self.version, self.creation_time);
+        let at = put_time(place, at, self.version, self.modification_time);
+        let at = put_u32(place, at, self.timescale);
+        let at = put_time(place, at, self.version, self.duration);
+        let at = put_u32(place, at, self.rate.raw_value());
+        let at = put_u16(place, at, self.volume.raw_value());
+        let at = put_zeros(place, at, 10);
+        let at = put_matrix(place, at, &self.matrix);
+        let at = put_zeros(place, at, 24);
+        put_u32(place, at, self.next_track_id);
+    }
+
+    ghost framed = { framed_mvhd };
+
+    ghost normal_form = { normal_form_mvhd };
+}
+
+impl BoxLaws for MvhdBox {
+    ghost read_back = { read_back_mvhd };
+
+    ghost sound = { sound_mvhd };
+}

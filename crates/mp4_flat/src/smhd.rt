@@ -1,0 +1,112 @@
+//! The sound media header box.
+
+ghost use Rattle.std.specs.Prelude.{◌≡◌, pos};
+ghost use Rattle.mp4_frame.specs.declared.box_type.BoxType.TheVariants as names;
+ghost use Rattle.mp4_flat.specs.Smhd.{reads_smhd, size_smhd, WritableSmhd, bytes_smhd, normal_smhd};
+ghost use Rattle.mp4_flat.specs.SmhdLaws.{framed_smhd, normal_form_smhd, read_back_smhd, sound_smhd};
+
+use crate::full_box::put_full_box;
+use mp4_frame::{
+    BoxLaws, BoxType, Mp4Box, ReadBox, Result, WriteBox, fields, i16_at, put_i16, put_zeros, u8_at,
+    u24_at,
+};
+use mp4_media::FixedPointI8;
+use std::alloc::Global;
+
+/// Where a sound stands between left and right (`smhd`, ISO/IEC 14496-12, 12.2.2).
+#[derive(Clone, Debug, Drop, PartialEq, Eq)]
+pub struct SmhdBox {
+    /// 0 in the standard. Every version is read and written alike.
+    pub version: u8,
+    /// 24 bits, 0 in the standard.
+    pub flags: u32,
+    /// 0 is the middle, -1 full left and 1 full right.
+    pub balance: FixedPointI8,
+}
+
+impl Default for SmhdBox {
+    ghost is_default = { λ v. v ≡ record { version = 0; flags = 0; balance = pos 0 } };
+
+    fn default() -> SmhdBox {
+        SmhdBox {
+            version: 0,
+            flags: 0,
+            balance: FixedPointI8::new_raw(0),
+        }
+    }
+}
+
+impl SmhdBox {
+    /// As `box_type`.
+    pub fn get_type(&self) -> BoxType
+        ensures { result ≡ names.SmhdBox }
+    {
+        self.box_type()
+    }
+
+    /// As `box_size`.
+    pub fn get_size(&self) -> u64
+        ensures { result ≡ size_smhd self.now }
+    {
+        self.box_size()
+    }
+}
+
+impl Mp4Box for SmhdBox {
+    ghost name = { λ _. names.SmhdBox };
+
+    ghost size = { size_smhd };
+
+    fn box_type(&self) -> BoxType {
+        BoxType::SmhdBox
+    }
+
+    fn box_size(&self) -> u64 {
+        16
+    }
+}
+
+impl ReadBox for SmhdBox {
+    ghost reads = { reads_smhd };
+
+    #[tactic(auto, unfolding(crate::specs::Smhd::reads_smhd))]
+    fn read_row(_alloc: Global, bytes: &[u8], _start: u64, _size: u64) -> Result<SmhdBox> {
+        fields(bytes, 8, 6)?;
+        Ok(SmhdBox {
+            version: u8_at(bytes, 8),
+            flags: u24_at(bytes, 9),
+            balance: FixedPointI8::new_raw(i16_at(bytes, 12)),
+        })
+    }
+}
+
+impl WriteBox for SmhdBox {
+    ghost Writable = { WritableSmhd };
+
+    ghost bytes = { bytes_smhd };
+
+    ghost normal = { normal_smhd };
+
+    fn is_writable(&self) -> bool {
+        // What a body reads is known to fit its type.
+        let (_version, _balance) = (self.version, self.balance.raw_value());
+        self.flags < 1 << 24
+    }
+
+    #[tactic(auto, unfolding(crate::specs::Smhd::bytes_smhd, mp4_frame::specs::Bytes::joined, mp4_frame::specs::Bytes::joined_onto))]
+    fn put_box(&self, place: &mut [u8]) {
+        let at = put_full_box(place, 16, 0x736d_6864, self.version, self.flags);
+        let at = put_i16(place, at, self.balance.raw_value());
+        put_zeros(place, at, 2);
+    }
+
+    ghost framed = { framed_smhd };
+
+    ghost normal_form = { normal_form_smhd };
+}
+
+impl BoxLaws for SmhdBox {
+    ghost read_back = { read_back_smhd };
+
+    ghost sound = { sound_smhd };
+}

@@ -1,0 +1,98 @@
+//! The track fragment decode time box.
+
+ghost use Rattle.std.specs.Prelude.{◌≡◌};
+ghost use Rattle.mp4_frame.specs.declared.box_type.BoxType.TheVariants as names;
+ghost use Rattle.mp4_flat.specs.Tfdt.{reads_tfdt, size_tfdt, WritableTfdt, bytes_tfdt, normal_tfdt};
+ghost use Rattle.mp4_flat.specs.TfdtLaws.{framed_tfdt, normal_form_tfdt, read_back_tfdt, sound_tfdt};
+
+use crate::full_box::put_full_box;
+use crate::time::{put_time, time_at, time_fits, version_of_times, width_of_time};
+use mp4_frame::{BoxLaws, BoxType, Mp4Box, ReadBox, Result, WriteBox, fields, u24_at};
+use std::alloc::Global;
+
+/// When the first sample of a fragment is decoded (`tfdt`, ISO/IEC 14496-12, 8.8.12).
+#[derive(Clone, Debug, Default, Drop, PartialEq, Eq)]
+pub struct TfdtBox {
+    /// 0, or 1 for a time of 64 bits.
+    pub version: u8,
+    /// 24 bits, 0 in the standard.
+    pub flags: u32,
+    /// How long all earlier samples of the track last, in the timescale of the media. 32 bits in version 0.
+    pub base_media_decode_time: u64,
+}
+
+impl TfdtBox {
+    /// As `box_type`.
+    pub fn get_type(&self) -> BoxType
+        ensures { result ≡ names.TfdtBox }
+    {
+        self.box_type()
+    }
+
+    /// As `box_size`.
+    pub fn get_size(&self) -> u64
+        ensures { result ≡ size_tfdt self.now }
+    {
+        self.box_size()
+    }
+}
+
+impl Mp4Box for TfdtBox {
+    ghost name = { λ _. names.TfdtBox };
+
+    ghost size = { size_tfdt };
+
+    fn box_type(&self) -> BoxType {
+        BoxType::TfdtBox
+    }
+
+    fn box_size(&self) -> u64 {
+        if self.version == 1 { 20 } else { 16 }
+    }
+}
+
+impl ReadBox for TfdtBox {
+    ghost reads = { reads_tfdt };
+
+    #[tactic(auto, unfolding(crate::specs::Tfdt::reads_tfdt))]
+    fn read_row(_alloc: Global, bytes: &[u8], _start: u64, _size: u64) -> Result<TfdtBox> {
+        let version = version_of_times(bytes)?;
+        fields(bytes, 12, width_of_time(version))?;
+        Ok(TfdtBox {
+            version,
+            flags: u24_at(bytes, 9),
+            base_media_decode_time: time_at(bytes, 12, version),
+        })
+    }
+}
+
+impl WriteBox for TfdtBox {
+    ghost Writable = { WritableTfdt };
+
+    ghost bytes = { bytes_tfdt };
+
+    ghost normal = { normal_tfdt };
+
+    fn is_writable(&self) -> bool {
+        self.version < 2
+            && self.flags < 1 << 24
+            && time_fits(self.version, self.base_media_decode_time)
+    }
+
+    #[tactic(auto, unfolding(crate::specs::Tfdt::bytes_tfdt, mp4_frame::specs::Bytes::joined, mp4_frame::specs::Bytes::joined_onto))]
+    fn put_box(&self, place: &mut [u8]) {
+        let size = self.box_size() as u32;
+        let at = put_full_box(place, size, 0x7466_6474, self.version, self.flags);
+        put_time(place, at, self.version, self.base_media_decode_time);
+    }
+
+    ghost framed = { framed_tfdt };
+
+    ghost normal_form = { normal_form_tfdt };
+}
+
+impl BoxLaws for TfdtBox {
+    ghost read_back = { read_back_tfdt };
+
+    ghost sound = { sound_tfdt };
+}

@@ -1,0 +1,58 @@
+//! Times and durations, whose width a box tells by its version.
+
+ghost use Rattle.std.specs.Prelude.{◌≡◌, ◌↔◌, ◌≤◌, ◌<◌, ◌+◌, ◌^◌, ◌++◌, IsTrue, length, take};
+ghost use Rattle.mp4_frame.specs.Bytes.{number, column};
+ghost use Rattle.mp4_frame.specs.Reading.{Answers};
+ghost use Rattle.mp4_flat.specs.Time.{time_width, version_of};
+
+use mp4_frame::{Result, fields, put_u32, put_u64, test, u8_at, u32_at, u64_at};
+
+/// How many bytes a time takes.
+pub fn width_of_time(version: u8) -> usize
+    ensures { result ≡ time_width version }
+{
+    if version == 1 { 8 } else { 4 }
+}
+
+/// Whether the time can be written in its bytes.
+pub fn time_fits(version: u8, time: u64) -> bool
+    ensures { IsTrue result ↔ (time < 256 ^ time_width version) }
+{
+    version == 1 || time < 1 << 32
+}
+
+/// The version of the box at the front, which has to be 0 or 1.
+pub fn version_of_times(bytes: &[u8]) -> Result<u8>
+    ensures { Answers result (version_of bytes.now) }
+{
+    fields(bytes, 8, 4)?;
+    let version = u8_at(bytes, 8);
+    test(version < 2, "version must be 0 or 1")?;
+    Ok(version)
+}
+
+/// The time at a place.
+pub fn time_at(bytes: &[u8], at: usize, version: u8) -> u64
+    requires { at + time_width version ≤ length bytes.now }
+    ensures { result ≡ number bytes.now at (time_width version) }
+{
+    if version == 1 {
+        u64_at(bytes, at)
+    } else {
+        u32_at(bytes, at) as u64
+    }
+}
+
+/// Puts a time, and answers the place behind it.
+pub fn put_time(place: &mut [u8], at: usize, version: u8, time: u64) -> usize
+    requires room { at + time_width version ≤ length place.old }
+    requires fits { time < 256 ^ time_width version }
+    ensures next { result ≡ at + time_width version }
+    ensures put { take result place.new ≡ take at place.old ++ column (time_width version) time }
+{
+    if version == 1 {
+        put_u64(place, at, time)
+    } else {
+        put_u32(place, at, time as u32)
+    }
+}

@@ -1,0 +1,216 @@
+//! The track header box.
+
+ghost use Rattle.std.specs.Prelude.{◌≡◌, ◌↔◌, IsTrue};
+ghost use Rattle.mp4_frame.specs.declared.box_type.BoxType.TheVariants as names;
+ghost use Rattle.mp4_media.specs.FixedPoint.{scaled};
+ghost use Rattle.mp4_flat.specs.Tkhd.{reads_tkhd, size_tkhd, WritableTkhd, bytes_tkhd, normal_tkhd};
+ghost use Rattle.mp4_flat.specs.TkhdLaws.{framed_tkhd, normal_form_tkhd, read_back_tkhd, sound_tkhd};
+
+use crate::full_box::put_full_box;
+use crate::matrix::{Matrix, is_matrix, matrix_from, put_matrix};
+use crate::time::{put_time, time_at, time_fits, version_of_times, width_of_time};
+use crate::track_flag::TrackFlag;
+use mp4_frame::{
+    BoxLaws, BoxType, Mp4Box, ReadBox, Result, WriteBox, fields, put_u16, put_u32, put_zeros,
+    u16_at, u24_at, u32_at,
+};
+use mp4_media::{FixedPointU8, FixedPointU16};
+use std::alloc::Global;
+
+/// What holds of a track as a whole (`tkhd`, ISO/IEC 14496-12, 8.3.2).
+#[derive(Clone, Debug, Drop, PartialEq, Eq)]
+pub struct TkhdBox {
+    /// 0, or 1 for times of 64 bits.
+    pub version: u8,
+    /// 24 bits, as `TrackFlag` names them.
+    pub flags: u32,
+    /// When the track was made, in seconds from the beginning of 1904, UTC. 32 bits in version 0.
+    pub creation_time: u64,
+    /// When it was last changed, likewise.
+    pub modification_time: u64,
+    /// The number of the track, which is not 0 in the standard.
+    pub track_id: u32,
+    /// How long the track is, in the timescale of the movie header. 32 bits in version 0.
+    pub duration: u64,
+    /// Which tracks cover it: those of lower layers, by two's complement.
+    pub layer: u16,
+    /// The group of tracks of which one is to be played, or 0.
+    pub alternate_group: u16,
+    /// How loud the track is to be played: 1 is full.
+    pub volume: FixedPointU8,
+    /// How its pictures are transformed.
+    pub matrix: Matrix,
+    /// How wide its pictures are shown, in pixels.
+    pub width: FixedPointU16,
+    /// How high its pictures are shown, in pixels.
+    pub height: FixedPointU16,
+}
+
+impl Default for TkhdBox {
+    ghost use Rattle.mp4_flat.specs.Tkhd.{default_tkhd};
+
+    ghost is_default = { λ v. v ≡ default_tkhd };
+
+    fn default() -> TkhdBox {
+        TkhdBox {
+            version: 0,
+            flags: TrackFlag::TrackEnabled as u32,
+            creation_time: 0,
+            modification_time: 0,
+            track_id: 0,
+            duration: 0,
+            layer: 0,
+            alternate_group: 0,
+            volume: FixedPointU8::new(1),
+            matrix: Matrix::default(),
+            width: FixedPointU16::new(0),
+            height: FixedPointU16::new(0),
+        }
+    }
+}
+
+impl TkhdBox {
+    /// As `box_type`.
+    pub fn get_type(&self) -> BoxType
+        ensures { result ≡ names.TkhdBox }
+    {
+        self.box_type()
+    }
+
+    /// As `box_size`.
+    pub fn get_size(&self) -> u64
+        ensures { result ≡ size_tkhd self.now }
+    {
+        self.box_size()
+    }
+
+    /// Shows the pictures so many pixels wide.
+    pub fn set_width(&mut self, width: u16)
+        ensures { self.new ≡ record self.old { width = scaled 65536 width } }
+    {
+        self.width = FixedPointU16::new(width);
+    }
+
+    /// Shows the pictures so many pixels high.
+    pub fn set_height(&mut self, height: u16)
+        ensures { self.new ≡ record self.old { height = scaled 65536 height } }
+    {
+        self.height = FixedPointU16::new(height);
+    }
+}
+
+impl Mp4Box for TkhdBox {
+    ghost name = { λ _. names.TkhdBox };
+
+    ghost size = { size_tkhd };
+
+    fn box_type(&self) -> BoxType {
+        BoxType::TkhdBox
+    }
+
+    fn box_size(&self) -> u64 {
+        match self.version {
+            0 => 92,
+            1 => 104,
+            _ => 72,
+        }
+    }
+}
+
+impl ReadBox for TkhdBox {
+    ghost reads = { reads_tkhd };
+
+    #[tactic(auto, unfolding(crate::specs::Tkhd::reads_tkhd))]
+    fn read_row(_alloc: Global, bytes: &[u8], _start: u64, _size: u64) -> Result<TkhdBox> {
+        let version = version_of_times(bytes)?;
+        let t = width_of_time(version);
+        fields(bytes, 12, 68 + 3 * t)?;
+        Ok(TkhdBox {
+            version,
+            flags: u24_at(bytes, 9),
+            creation_time: time_at(bytes, 12, version),
+            modification_time: time_at(bytes, 12 + t, version),
+            track_id: u32_at(bytes, 12 + 2 * t),
+            duration: time_at(bytes, 20 + 2 * t, version),
+            layer: u16_at(bytes, 28 + 3 * t),
+            alternate_group: u16_at(bytes, 30 + 3 * t),
+            volume: FixedPointU8::new_raw(u16_at(bytes, 32 + 3 * t)),
+            matrix: matrix_from(bytes, 36 + 3 * t),
+            width: FixedPointU16::new_raw(u32_at(bytes, 72 + 3 * t)),
+            height: FixedPointU16::new_raw(u32_at(bytes, 76 + 3 * t)),
+        })
+    }
+}
+
+fn fits(
+    version: u8,
+    flags: u32,
+    times: (u64, u64, u64),
+    track_id: u32,
+    layers: (u16, u16),
+    volume: FixedPointU8,
+    matrix: &Matrix,
+    shown: (FixedPointU16, FixedPointU16),
+) -> bool
+    ensures { IsTrue result ↔ WritableTkhd (record { version = version; flags = flags; creation_time = times.0; modification_time = times.1; track_id = track_id; duration = times.2; layer = layers.0; alternate_group = layers.1; volume = volume; matrix = matrix.now; width = shown.0; height = shown.1 }) }
+{
+    // What a body reads is known to fit its type.
+    let (_width, _height) = (shown.0.raw_value(), shown.1.raw_value());
+    let _volume = volume.raw_value();
+    version < 2
+        && flags < 1 << 24
+        && time_fits(version, times.0)
+        && time_fits(version, times.1)
+        && time_fits(version, times.2)
+        && is_matrix(matrix)
+}
+
+impl WriteBox for TkhdBox {
+    ghost Writable = { WritableTkhd };
+
+    ghost bytes = { bytes_tkhd };
+
+    ghost normal = { normal_tkhd };
+
+    fn is_writable(&self) -> bool {
+        fits(
+            self.version,
+            self.flags,
+            (self.creation_time, self.modification_time, self.duration),
+            self.track_id,
+            (self.layer, self.alternate_group),
+            self.volume,
+            &self.matrix,
+            (self.width, self.height),
+        )
+    }
+
+    #[tactic(auto, unfolding(crate::specs::Tkhd::bytes_tkhd, mp4_frame::specs::Bytes::joined, mp4_frame::specs::Bytes::joined_onto))]
+    fn put_box(&self, place: &mut [u8]) {
+        let size = self.box_size() as u32;
+        let at = put_full_box(place, size, 0x746b_6864, self.version, self.flags);
+        let at = put_time(place, at, self.version, self.creation_time);
+        let at = put_time(place, at, self.version, self.modification_time);
+        let at = put_u32(place, at, self.track_id);
+        let at = put_zeros(place, at, 4);
+        let at = put_time(place, at, self.version, self.duration);
+        let at = put_zeros(place, at, 8);
+        let at = put_u16(place, at, self.layer);
+        let at = put_u16(place, at, self.alternate_group);
+        let at = put_u16(place, at, self.volume.raw_value());
+        let at = put_zeros(place, at, 2);
+        let at = put_matrix(place, at, &self.matrix);
+        let at = put_u32(place, at, self.width.raw_value());
+        put_u32(place, at, self.height.raw_value());
+    }
+
+    ghost framed = { framed_tkhd };
+
+    ghost normal_form = { normal_form_tkhd };
+}
+
+impl BoxLaws for TkhdBox {
+    ghost read_back = { read_back_tkhd };
+
+    ghost sound = { sound_tkhd };
+}

@@ -1,0 +1,8 @@
+//! The flags of a track.
+
+/// A flag of a track header (ISO/IEC 14496-12, 8.3.2.3).
+#[derive(Drop)]
+pub enum TrackFlag {
+    /// The track is played.
+    TrackEnabled = 1,
+}

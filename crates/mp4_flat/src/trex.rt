@@ -1,0 +1,118 @@
+//! The track extends box.
+
+ghost use Rattle.std.specs.Prelude.{◌≡◌};
+ghost use Rattle.mp4_frame.specs.declared.box_type.BoxType.TheVariants as names;
+ghost use Rattle.mp4_flat.specs.Trex.{reads_trex, size_trex, WritableTrex, bytes_trex, normal_trex};
+ghost use Rattle.mp4_flat.specs.TrexLaws.{framed_trex, normal_form_trex, read_back_trex, sound_trex};
+
+use crate::full_box::put_full_box;
+use mp4_frame::{
+    BoxLaws, BoxType, Mp4Box, ReadBox, Result, WriteBox, fields, put_u32, u8_at, u24_at, u32_at,
+};
+use std::alloc::Global;
+
+/// What holds of the samples of a track where its fragments say nothing else (`trex`, ISO/IEC 14496-12, 8.8.3).
+#[derive(Clone, Debug, Default, Drop, PartialEq, Eq)]
+pub struct TrexBox {
+    /// 0 in the standard. Every version is read and written alike.
+    pub version: u8,
+    /// 24 bits, 0 in the standard.
+    pub flags: u32,
+    /// The track.
+    pub track_id: u32,
+    /// Which entry of the sample description box describes a sample, from 1 on.
+    pub default_sample_description_index: u32,
+    /// How long a sample lasts, in the timescale of the media.
+    pub default_sample_duration: u32,
+    /// The size of a sample, in bytes.
+    pub default_sample_size: u32,
+    /// The flags of a sample (8.8.3.1).
+    pub default_sample_flags: u32,
+}
+
+impl TrexBox {
+    /// As `box_type`.
+    pub fn get_type(&self) -> BoxType
+        ensures { result ≡ names.TrexBox }
+    {
+        self.box_type()
+    }
+
+    /// As `box_size`.
+    pub fn get_size(&self) -> u64
+        ensures { result ≡ size_trex self.now }
+    {
+        self.box_size()
+    }
+}
+
+impl Mp4Box for TrexBox {
+    ghost name = { λ _. names.TrexBox };
+
+    ghost size = { size_trex };
+
+    fn box_type(&self) -> BoxType {
+        BoxType::TrexBox
+    }
+
+    fn box_size(&self) -> u64 {
+        32
+    }
+}
+
+impl ReadBox for TrexBox {
+    ghost reads = { reads_trex };
+
+    #[tactic(auto, unfolding(crate::specs::Trex::reads_trex))]
+    fn read_row(_alloc: Global, bytes: &[u8], _start: u64, _size: u64) -> Result<TrexBox> {
+        fields(bytes, 8, 24)?;
+        Ok(TrexBox {
+            version: u8_at(bytes, 8),
+            flags: u24_at(bytes, 9),
+            track_id: u32_at(bytes, 12),
+            default_sample_description_index: u32_at(bytes, 16),
+            default_sample_duration: u32_at(bytes, 20),
+            default_sample_size: u32_at(bytes, 24),
+            default_sample_flags: u32_at(bytes, 28),
+        })
+    }
+}
+
+impl WriteBox for TrexBox {
+    ghost Writable = { WritableTrex };
+
+    ghost bytes = { bytes_trex };
+
+    ghost normal = { normal_trex };
+
+    fn is_writable(&self) -> bool {
+        // What a body reads is known to fit its type.
+        let (_version, _track_id) = (self.version, self.track_id);
+        let (_index, _duration) = (
+            self.default_sample_description_index,
+            self.default_sample_duration,
+        );
+        let (_size, _flags) = (self.default_sample_size, self.default_sample_flags);
+        self.flags < 1 << 24
+    }
+
+    #[tactic(auto, unfolding(crate::specs::Trex::bytes_trex, mp4_frame::specs::Bytes::joined, mp4_frame::specs::Bytes::joined_onto))]
+    fn put_box(&self, place: &mut [u8]) {
+        let at = put_full_box(place, 32, 0x7472_6578, self.version, self.flags);
+        let at = put_u32(place, at, self.track_id);
+        let at = put_u32(place, at, self.default_sample_description_index);
+        let at = put_u32(place, at, self.default_sample_duration);
+        let at = put_u32(place, at, self.default_sample_size);
+        put_u32(place, at, self.default_sample_flags);
+    }
+
+    ghost framed = { framed_trex };
+
+    ghost normal_form = { normal_form_trex };
+}
+
+impl BoxLaws for TrexBox {
+    ghost read_back = { read_back_trex };
+
+    ghost sound = { sound_trex };
+}

@@ -1,0 +1,110 @@
+//! The video media header box.
+
+ghost use Rattle.std.specs.Prelude.{◌≡◌};
+ghost use Rattle.mp4_frame.specs.declared.box_type.BoxType.TheVariants as names;
+ghost use Rattle.mp4_flat.specs.Vmhd.{reads_vmhd, size_vmhd, WritableVmhd, bytes_vmhd, normal_vmhd};
+ghost use Rattle.mp4_flat.specs.VmhdLaws.{framed_vmhd, normal_form_vmhd, read_back_vmhd, sound_vmhd};
+
+use crate::full_box::put_full_box;
+use crate::rgb_color::RgbColor;
+use mp4_frame::{
+    BoxLaws, BoxType, Mp4Box, ReadBox, Result, WriteBox, fields, put_u16, u8_at, u16_at, u24_at,
+};
+use std::alloc::Global;
+
+/// How a video is laid over what is behind it (`vmhd`, ISO/IEC 14496-12, 12.1.2).
+#[derive(Clone, Debug, Default, Drop, PartialEq, Eq)]
+pub struct VmhdBox {
+    /// 0 in the standard. Every version is read and written alike.
+    pub version: u8,
+    /// 24 bits, 1 in the standard.
+    pub flags: u32,
+    /// How the video is composed with what is behind it: 0 copies it over.
+    pub graphics_mode: u16,
+    /// The colour that the other modes work with.
+    pub op_color: RgbColor,
+}
+
+impl VmhdBox {
+    /// As `box_type`.
+    pub fn get_type(&self) -> BoxType
+        ensures { result ≡ names.VmhdBox }
+    {
+        self.box_type()
+    }
+
+    /// As `box_size`.
+    pub fn get_size(&self) -> u64
+        ensures { result ≡ size_vmhd self.now }
+    {
+        self.box_size()
+    }
+}
+
+impl Mp4Box for VmhdBox {
+    ghost name = { λ _. names.VmhdBox };
+
+    ghost size = { size_vmhd };
+
+    fn box_type(&self) -> BoxType {
+        BoxType::VmhdBox
+    }
+
+    fn box_size(&self) -> u64 {
+        20
+    }
+}
+
+impl ReadBox for VmhdBox {
+    ghost reads = { reads_vmhd };
+
+    #[tactic(auto, unfolding(crate::specs::Vmhd::reads_vmhd))]
+    fn read_row(_alloc: Global, bytes: &[u8], _start: u64, _size: u64) -> Result<VmhdBox> {
+        fields(bytes, 8, 12)?;
+        Ok(VmhdBox {
+            version: u8_at(bytes, 8),
+            flags: u24_at(bytes, 9),
+            graphics_mode: u16_at(bytes, 12),
+            op_color: RgbColor {
+                red: u16_at(bytes, 14),
+                green: u16_at(bytes, 16),
+                blue: u16_at(bytes, 18),
+            },
+        })
+    }
+}
+
+impl WriteBox for VmhdBox {
+    ghost Writable = { WritableVmhd };
+
+    ghost bytes = { bytes_vmhd };
+
+    ghost normal = { normal_vmhd };
+
+    fn is_writable(&self) -> bool {
+        // What a body reads is known to fit its type.
+        let (_version, _graphics_mode) = (self.version, self.graphics_mode);
+        let RgbColor { red, green, blue } = &self.op_color;
+        let (_red, _green, _blue) = (*red, *green, *blue);
+        self.flags < 1 << 24
+    }
+
+    #[tactic(auto, unfolding(crate::specs::Vmhd::bytes_vmhd, mp4_frame::specs::Bytes::joined, mp4_frame::specs::Bytes::joined_onto))]
+    fn put_box(&self, place: &mut [u8]) {
+        let at = put_full_box(place, 20, 0x766d_6864, self.version, self.flags);
+        let at = put_u16(place, at, self.graphics_mode);
+        let at = put_u16(place, at, self.op_color.red);
+        let at = put_u16(place, at, self.op_color.green);
+        put_u16(place, at, self.op_color.blue);
+    }
+
+    ghost framed = { framed_vmhd };
+
+    ghost normal_form = { normal_form_vmhd };
+}
+
+impl BoxLaws for VmhdBox {
+    ghost read_back = { read_back_vmhd };
+
+    ghost sound = { sound_vmhd };
+}

@@ -1,0 +1,4 @@
+pub mod Offsets
+pub mod Runs
+pub mod Chunks
+pub mod TrunRows

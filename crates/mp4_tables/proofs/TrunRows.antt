@@ -1,0 +1,107 @@
+-- Rows of samples, one after the other, and rows of no bytes.
+use Rattle.std.proofs.Common.{◌≡◌, ℕ, zero, suc, ◌+◌, ◌*◌, ◌-◌, ◌<◌, ◌≤◌, Bool, true, false, leb, List, [], ◌∷◌, ◌++◌, length, take, Ok, refl, sym, ap, ◌∙◌, arith}
+use Rattle.std.specs.List.{flat_map, range_with_len}
+use Rattle.std.proofs.lemmas.Bool.{le-leb}
+use Rattle.std.proofs.Math.Nat.{mul-le-mul_left}
+use Rattle.std.proofs.lemmas.List.{append-nil, append_assoc, take_all}
+use Rattle.mp4_frame.specs.Reading.{memory, done, ◌>>=◌}
+use Rattle.mp4_frame.specs.Tables.{rows, rows_from}
+use Rattle.mp4_tables.specs.Flagged.{is_set, width_if}
+use Rattle.mp4_tables.specs.Rows.{rows_within}
+use Rattle.mp4_tables.specs.TrunLists.{size_in_row, flags_in_row, cts_in_row, row_length, column_if, lists_of, reads_lists}
+use Rattle.mp4_tables.specs.Trun.{ListedTrun, row_trun, rows_trun}
+use Rattle.mp4_tables.specs.TrunLaws.{length_rows}
+use Rattle.mp4_tables.specs.declared.trun.TrunBox.{TrunBox}
+
+more_from : (f : ℕ → List ℕ) (a n : ℕ) → flat_map f (range_with_len a (n + 1)) ≡ flat_map f (range_with_len a n) ++ f (a + n)
+more_from f a zero =
+    let here : a + zero ≡ a = omega arith in
+    rw here (append-nil (f a))
+more_from f a (suc n) =
+    let one : suc n + 1 ≡ suc (n + 1) = omega arith in
+    let there : a + suc n ≡ a + 1 + n = omega arith in
+    rw (one, there, more_from f (a + 1) n) (sym (append_assoc (f a) (flat_map f (range_with_len (a + 1) n)) (f (a + 1 + n))))
+
+-- one more row
+pub rows_more : (v : TrunBox) (i : ℕ) → rows_trun v (i + 1) ≡ rows_trun v i ++ row_trun v i
+rows_more v i =
+    let here : 0 + i ≡ i = omega arith in
+    more_from (row_trun v) 0 i ∙ ap (λ (k : ℕ). rows_trun v i ++ row_trun v k) here
+
+nothing : (xs : List ℕ) → length xs ≡ 0 → xs ≡ []
+nothing [] h = refl
+nothing (x ∷ xs) h = absurd (omega arith)
+
+-- rows of no bytes
+pub no_rows : (v : TrunBox) → ListedTrun v → row_length v.flags ≡ 0 → rows_trun v v.sample_count ≡ []
+no_rows v w none =
+    let le : v.sample_count ≤ v.sample_count = omega arith in
+    let zero_bytes : row_length v.flags * v.sample_count ≡ 0 = ap (λ (k : ℕ). k * v.sample_count) none ∙ omega arith in
+    nothing (rows_trun v v.sample_count) (length_rows v w v.sample_count le ∙ zero_bytes)
+
+-- what is put of rows of no bytes
+pub nothing_put : (v : TrunBox) → ListedTrun v → (place : List ℕ) (at : ℕ) → row_length v.flags ≡ 0 → at + row_length v.flags * v.sample_count ≡ length place → place ≡ take at place ++ rows_trun v v.sample_count
+nothing_put v w place at none room =
+    let zero_bytes : row_length v.flags * v.sample_count ≡ 0 = ap (λ (k : ℕ). k * v.sample_count) none ∙ omega arith in
+    let whole : take at place ≡ place = take_all at place (omega (arith, room, zero_bytes)) in
+    rw (no_rows v w none, whole) (sym (append-nil place))
+
+-- what is put of all rows
+pub all_put : (v : TrunBox) (new old : List ℕ) (at next i : ℕ) → v.sample_count ≡ i → next ≡ at + row_length v.flags * i → at + row_length v.flags * v.sample_count ≡ length old → length new ≡ length old
+    → take next new ≡ take at old ++ rows_trun v i → new ≡ take at old ++ rows_trun v v.sample_count
+all_put v new old at next i is here room long put =
+    let size : row_length v.flags * v.sample_count ≡ row_length v.flags * i = ap (λ (k : ℕ). row_length v.flags * k) is in
+    let whole : take next new ≡ new = take_all next new (omega (arith, here, room, long, size)) in
+    sym whole ∙ put ∙ ap (λ (k : ℕ). take at old ++ rows_trun v k) (sym is)
+
+pub one_more : (k i : ℕ) → k * (i + 1) ≡ k * i + k
+one_more k i = omega arith
+
+pub room_left : (k i n : ℕ) → i < n → k * i + k ≤ k * n
+room_left k i n lt =
+    let le : k * (i + 1) ≤ k * n = mul-le-mul_left k (omega arith) in
+    omega (arith, le, one_more k i)
+
+four : (b : Bool) → width_if b 4 ≡ 4 * width_if b 1
+unfolding width_if
+four true = refl
+four false = refl
+
+one : (b : Bool) → width_if b 1 ≤ 1
+unfolding width_if
+one true = omega arith
+one false = omega arith
+
+unset : (b : Bool) (o : ℕ) (found : List (List ℕ)) → width_if b 4 ≡ 0 → column_if b o found ≡ []
+unfolding width_if column_if
+unset true o found h = absurd (omega arith)
+unset false o found h = refl
+
+empty_rows : (bytes : List ℕ) (size o n : ℕ) → rows_within bytes size o 0 n ≡ done (rows bytes o 0 n)
+unfolding rows_within rows_from
+empty_rows bytes size o n =
+    let none : n * 0 ≡ 0 = omega arith in
+    let room : leb 0 (size - o) ≡ true = le-leb 0 (size - o) (omega arith) in
+    rw (none, room) refl
+
+-- what is read of rows of no bytes
+pub no_lists : (bytes : List ℕ) (size flags o count : ℕ) → (row_length flags ≡ 4 → ⊥) → (row_length flags ≡ 8 → ⊥) → (row_length flags ≡ 12 → ⊥) → (row_length flags ≡ 16 → ⊥)
+    → (reads_lists bytes size flags o count).outcome ≡ Ok (record { durations = []; sizes = []; flags = []; cts = [] })
+unfolding reads_lists
+no_lists bytes size flags o count n4 n8 n12 n16 =
+    let fa = four (is_set flags 0x100) in
+    let fb = four (is_set flags 0x200) in
+    let fc = four (is_set flags 0x400) in
+    let fd = four (is_set flags 0x800) in
+    let la = one (is_set flags 0x100) in
+    let lb = one (is_set flags 0x200) in
+    let lc = one (is_set flags 0x400) in
+    let ld = one (is_set flags 0x800) in
+    let none : row_length flags ≡ 0 = omega (arith, fa, fb, fc, fd, la, lb, lc, ld, n4, n8, n12, n16) in
+    let found = rows bytes o 0 count in
+    let da = unset (is_set flags 0x100) 0 found (omega (arith, none)) in
+    let db = unset (is_set flags 0x200) (size_in_row flags) found (omega (arith, none)) in
+    let dc = unset (is_set flags 0x400) (flags_in_row flags) found (omega (arith, none)) in
+    let dd = unset (is_set flags 0x800) (cts_in_row flags) found (omega (arith, none)) in
+    ap (λ (k : ℕ). (rows_within bytes size o k count >>= λ rows. memory >>= λ _. done (lists_of flags rows)).outcome) none
+    ∙ (rw (empty_rows bytes size o count, da, db, dc, dd) refl)

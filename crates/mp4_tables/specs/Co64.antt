@@ -1,0 +1,29 @@
+-- co64, the large chunk offset box (ISO/IEC 14496-12, 8.7.5): version 1 byte, flags 3, a count of 4 at 12, and
+-- that many offsets of 8 bytes from 16 on.
+use Rattle.std.specs.Prelude.{ℕ, ◌<◌, ◌^◌, List}
+use Rattle.mp4_frame.specs.Bytes.{number, column}
+use Rattle.mp4_frame.specs.Reading.{Reading}
+use Rattle.mp4_frame.specs.Tables.{reads_table, size_table, WritableTable, bytes_table}
+use Rattle.mp4_tables.specs.declared.co64.Co64Box.{Co64Box}
+
+-- the offset in a row
+abbrev pub offset_of : List ℕ → ℕ
+offset_of row = number row 0 8
+
+abbrev pub made_co64 : ℕ → ℕ → List ℕ → Co64Box
+made_co64 version flags offsets = record { version = version; flags = flags; entries = offsets }
+
+unfoldable pub reads_co64 : List ℕ → ℕ → ℕ → Reading Co64Box
+reads_co64 bytes start size = reads_table made_co64 offset_of 8 bytes size
+
+abbrev pub size_co64 : Co64Box → ℕ
+size_co64 v = size_table 8 v.entries
+
+abbrev pub WritableCo64 : Co64Box → Type 0
+WritableCo64 v = WritableTable (λ offset. offset < 2 ^ 64) 8 0x636f3634 v.version v.flags v.entries
+
+unfoldable pub bytes_co64 : Co64Box → List ℕ
+bytes_co64 v = bytes_table (λ offset. column 8 offset) 8 0x636f3634 v.version v.flags v.entries
+
+abbrev pub normal_co64 : Co64Box → Co64Box
+normal_co64 v = v

@@ -1,0 +1,26 @@
+-- ctts, the composition time to sample box (ISO/IEC 14496-12, 8.6.1.3): version 1 byte, flags 3, a count of 4 at 12,
+-- and that many entries of 8 bytes from 16 on.
+use Rattle.std.specs.Prelude.{ℕ, List}
+use Rattle.mp4_frame.specs.Reading.{Reading}
+use Rattle.mp4_frame.specs.Tables.{reads_table, size_table, WritableTable, bytes_table}
+use Rattle.mp4_tables.specs.CttsEntry.{entry_ctts, row_ctts, FitsCttsEntry}
+use Rattle.mp4_tables.specs.declared.ctts.CttsBox.{CttsBox}
+use Rattle.mp4_tables.specs.declared.ctts_entry.CttsEntry.{CttsEntry}
+
+abbrev pub made_ctts : ℕ → ℕ → List CttsEntry → CttsBox
+made_ctts version flags entries = record { version = version; flags = flags; entries = entries }
+
+unfoldable pub reads_ctts : List ℕ → ℕ → ℕ → Reading CttsBox
+reads_ctts bytes start size = reads_table made_ctts entry_ctts 8 bytes size
+
+abbrev pub size_ctts : CttsBox → ℕ
+size_ctts v = size_table 8 v.entries
+
+abbrev pub WritableCtts : CttsBox → Type 0
+WritableCtts v = WritableTable FitsCttsEntry 8 0x63747473 v.version v.flags v.entries
+
+unfoldable pub bytes_ctts : CttsBox → List ℕ
+bytes_ctts v = bytes_table row_ctts 8 0x63747473 v.version v.flags v.entries
+
+abbrev pub normal_ctts : CttsBox → CttsBox
+normal_ctts v = v

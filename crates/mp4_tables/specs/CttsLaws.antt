@@ -1,0 +1,39 @@
+-- The laws of ctts, by those of its entries.
+use Rattle.std.proofs.Common.{◌≡◌, ℕ, ◌<◌, ◌^◌, List, length, refl, ap, subst, lit<}
+use Rattle.std.specs.Prelude.{ℤ}
+use Rattle.mp4_frame.specs.Laws.{Framed, Normal, RowReadsBack, RowIsSound}
+use Rattle.mp4_frame.specs.declared.box_type.BoxType.TheVariants as names
+use Rattle.mp4_frame.proofs.Columns.{length-joined, number-below}
+use Rattle.mp4_frame.proofs.Signed.{back32, below32, signed32}
+use Rattle.mp4_frame.proofs.Tables.{IsRow, framed_table, table_back, table_read}
+use Rattle.mp4_tables.specs.EntryLaws.{columns_back}
+use Rattle.mp4_tables.specs.CttsEntry.{value_ctts_entry, entry_ctts, columns_ctts_entry, row_ctts, FitsCttsEntry}
+use Rattle.mp4_tables.specs.declared.ctts.CttsBox.{CttsBox}
+use Rattle.mp4_tables.specs.declared.ctts_entry.CttsEntry.{CttsEntry}
+use Rattle.mp4_tables.specs.Ctts.{made_ctts, reads_ctts, size_ctts, WritableCtts, bytes_ctts, normal_ctts}
+
+entry_long : (e : CttsEntry) → FitsCttsEntry e → length (row_ctts e) ≡ 8
+entry_long e fits = length-joined (columns_ctts_entry e)
+
+entry_back : (e : CttsEntry) → FitsCttsEntry e → entry_ctts (row_ctts e) ≡ e
+entry_back e fits = columns_back value_ctts_entry (columns_ctts_entry e) e fits.0 (ap (λ (z : ℤ). record e { sample_offset = z }) (back32 e.sample_offset fits.1))
+
+entry_fits : (row : List ℕ) → IsRow 8 row → FitsCttsEntry (entry_ctts row)
+entry_fits row is = ((number-below row 0 4 is.are, (below32 row 4 is.are, tt)), signed32 row 4 is.are)
+
+pub framed_ctts : (v : CttsBox) → WritableCtts v → Framed (size_ctts v) names.CttsBox (bytes_ctts v)
+unfolding bytes_ctts
+framed_ctts v w = framed_table made_ctts row_ctts entry_ctts FitsCttsEntry 8 0x63747473 (lit< tt) (lit< tt) entry_long entry_back entry_fits names.CttsBox refl v.version v.flags v.entries w
+
+pub normal_form_ctts : (v : CttsBox) → WritableCtts v → Normal WritableCtts bytes_ctts normal_ctts v
+normal_form_ctts v w = record { writable = w; again = refl; same_bytes = refl }
+
+pub read_back_ctts : (v : CttsBox) → WritableCtts v → RowReadsBack reads_ctts (bytes_ctts v) (size_ctts v) (normal_ctts v)
+unfolding bytes_ctts reads_ctts
+read_back_ctts v w rest start top = table_back made_ctts row_ctts entry_ctts FitsCttsEntry 8 0x63747473 (lit< tt) (lit< tt) entry_long entry_back entry_fits v.version v.flags v.entries rest w
+
+pub sound_ctts : RowIsSound reads_ctts WritableCtts size_ctts normal_ctts
+unfolding reads_ctts
+sound_ctts bytes start long v are read =
+    let p = table_read made_ctts row_ctts entry_ctts FitsCttsEntry 8 0x63747473 (lit< tt) (lit< tt) entry_long entry_back entry_fits bytes long v are read in
+    (refl, subst (λ (w : CttsBox). size_ctts w < 2 ^ 32 → WritableCtts w) p.3 p.4)

@@ -1,0 +1,30 @@
+-- stsc, the sample to chunk box (ISO/IEC 14496-12, 8.7.4): version 1 byte, flags 3, a count of 4 at 12, and that
+-- many entries of 12 bytes from 16 on, whose first samples are computed.
+use Rattle.std.specs.Prelude.{ℕ, List, IsTrue, map}
+use Rattle.mp4_frame.specs.Reading.{Reading, ◌>>=◌, memory, test, done}
+use Rattle.mp4_frame.specs.Tables.{counted, size_table, WritableTable, bytes_table}
+use Rattle.mp4_tables.specs.Chunks.{chunks_fit, numbered}
+use Rattle.mp4_tables.specs.StscEntry.{entry_stsc, row_stsc, FitsStscEntry}
+use Rattle.mp4_tables.specs.declared.stsc.StscBox.{StscBox}
+
+unfoldable pub reads_stsc : List ℕ → ℕ → ℕ → Reading StscBox
+reads_stsc bytes start size = do
+  t ← counted bytes size 12
+  _ ← memory
+  _ ← test (chunks_fit (map entry_stsc t.rows))
+  done (record { version = t.version; flags = t.flags; entries = numbered (map entry_stsc t.rows) })
+
+abbrev pub size_stsc : StscBox → ℕ
+size_stsc v = size_table 12 v.entries
+
+-- every number fits its bytes, and the first samples can be computed
+pub record WritableStsc (v : StscBox) : Type 0 where
+  pub table : WritableTable FitsStscEntry 12 0x73747363 v.version v.flags v.entries
+  pub chunks : IsTrue (chunks_fit v.entries)
+
+unfoldable pub bytes_stsc : StscBox → List ℕ
+bytes_stsc v = bytes_table row_stsc 12 0x73747363 v.version v.flags v.entries
+
+-- the computed first samples
+abbrev pub normal_stsc : StscBox → StscBox
+normal_stsc v = record v { entries = numbered v.entries }

@@ -1,0 +1,29 @@
+-- stss, the sync sample box (ISO/IEC 14496-12, 8.6.2): version 1 byte, flags 3, a count of 4 at 12, and
+-- that many sample numbers of 4 bytes from 16 on.
+use Rattle.std.specs.Prelude.{ℕ, ◌<◌, ◌^◌, List}
+use Rattle.mp4_frame.specs.Bytes.{number, column}
+use Rattle.mp4_frame.specs.Reading.{Reading}
+use Rattle.mp4_frame.specs.Tables.{reads_table, size_table, WritableTable, bytes_table}
+use Rattle.mp4_tables.specs.declared.stss.StssBox.{StssBox}
+
+-- the sample number in a row
+abbrev pub sample_of : List ℕ → ℕ
+sample_of row = number row 0 4
+
+abbrev pub made_stss : ℕ → ℕ → List ℕ → StssBox
+made_stss version flags samples = record { version = version; flags = flags; entries = samples }
+
+unfoldable pub reads_stss : List ℕ → ℕ → ℕ → Reading StssBox
+reads_stss bytes start size = reads_table made_stss sample_of 4 bytes size
+
+abbrev pub size_stss : StssBox → ℕ
+size_stss v = size_table 4 v.entries
+
+abbrev pub WritableStss : StssBox → Type 0
+WritableStss v = WritableTable (λ sample. sample < 2 ^ 32) 4 0x73747373 v.version v.flags v.entries
+
+unfoldable pub bytes_stss : StssBox → List ℕ
+bytes_stss v = bytes_table (λ sample. column 4 sample) 4 0x73747373 v.version v.flags v.entries
+
+abbrev pub normal_stss : StssBox → StssBox
+normal_stss v = v

@@ -1,0 +1,50 @@
+-- stsz, the sample size box (ISO/IEC 14496-12, 8.7.3.2): version 1 byte, flags 3, sample_size 4 at 12, sample_count
+-- 4 at 16; where sample_size is 0, that many sizes of 4 bytes from 20 on.
+use Rattle.std.specs.Prelude.{◌≡◌, ℕ, ◌+◌, ◌*◌, ◌<◌, ◌^◌, ◌==◌, List, [], ◌∷◌, ◌++◌, All, length, map, flat_map, if◌then◌else◌}
+use Rattle.mp4_frame.specs.Bytes.{number, column, joined, Fit}
+use Rattle.mp4_frame.specs.Reading.{Reading, ◌>>=◌, fields, memory, done}
+use Rattle.mp4_tables.specs.Rows.{rows_within}
+use Rattle.mp4_tables.specs.declared.stsz.StszBox.{StszBox}
+
+-- as many sizes as counted
+unfoldable pub reads_sizes : List ℕ → ℕ → ℕ → Reading (List ℕ)
+reads_sizes bytes size count = do
+  rows ← rows_within bytes size 20 4 count
+  _ ← memory
+  done (map (λ row. number row 0 4) rows)
+
+-- the sizes, by the size of all samples and their count
+abbrev pub listed : List ℕ → ℕ → ℕ → ℕ → Reading (List ℕ)
+listed bytes size sample_size count = if sample_size == 0 then reads_sizes bytes size count else done []
+
+-- the value with these sizes, by the number of w bytes at o
+abbrev pub value_stsz : (ℕ → ℕ → ℕ) → List ℕ → StszBox
+value_stsz n sizes = record { version = n 8 1; flags = n 9 3; sample_size = n 12 4; sample_count = n 16 4; sample_sizes = sizes }
+
+unfoldable pub reads_stsz : List ℕ → ℕ → ℕ → Reading StszBox
+reads_stsz bytes start size = do
+  _ ← fields bytes 8 12
+  sizes ← listed bytes size (number bytes 12 4) (number bytes 16 4)
+  done (value_stsz (number bytes) sizes)
+
+abbrev pub size_stsz : StszBox → ℕ
+size_stsz v = 20 + 4 * length v.sample_sizes
+
+abbrev pub columns_stsz : StszBox → List (ℕ × ℕ)
+columns_stsz v = (4, size_stsz v) ∷ (4, 0x7374737a) ∷ (1, v.version) ∷ (3, v.flags) ∷ (4, v.sample_size) ∷ (4, v.sample_count) ∷ []
+
+-- how many sizes the list has, by the size of all samples and their count
+abbrev pub count_of_sizes : ℕ → ℕ → ℕ
+count_of_sizes sample_size count = if sample_size == 0 then count else 0
+
+-- every number fits its bytes, and there is a size for each sample or for none
+pub record WritableStsz (v : StszBox) : Type 0 where
+  pub fit : Fit (columns_stsz v)
+  pub each : All (λ size. size < 2 ^ 32) v.sample_sizes
+  pub in_sync : length v.sample_sizes ≡ count_of_sizes v.sample_size v.sample_count
+
+unfoldable pub bytes_stsz : StszBox → List ℕ
+bytes_stsz v = joined (columns_stsz v) ++ flat_map (λ size. column 4 size) v.sample_sizes
+
+abbrev pub normal_stsz : StszBox → StszBox
+normal_stsz v = v

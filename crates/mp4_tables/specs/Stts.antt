@@ -1,0 +1,26 @@
+-- stts, the decoding time to sample box (ISO/IEC 14496-12, 8.6.1.2): version 1 byte, flags 3, a count of 4 at 12,
+-- and that many entries of 8 bytes from 16 on.
+use Rattle.std.specs.Prelude.{ℕ, List}
+use Rattle.mp4_frame.specs.Reading.{Reading}
+use Rattle.mp4_frame.specs.Tables.{reads_table, size_table, WritableTable, bytes_table}
+use Rattle.mp4_tables.specs.SttsEntry.{entry_stts, row_stts, FitsSttsEntry}
+use Rattle.mp4_tables.specs.declared.stts.SttsBox.{SttsBox}
+use Rattle.mp4_tables.specs.declared.stts_entry.SttsEntry.{SttsEntry}
+
+abbrev pub made_stts : ℕ → ℕ → List SttsEntry → SttsBox
+made_stts version flags entries = record { version = version; flags = flags; entries = entries }
+
+unfoldable pub reads_stts : List ℕ → ℕ → ℕ → Reading SttsBox
+reads_stts bytes start size = reads_table made_stts entry_stts 8 bytes size
+
+abbrev pub size_stts : SttsBox → ℕ
+size_stts v = size_table 8 v.entries
+
+abbrev pub WritableStts : SttsBox → Type 0
+WritableStts v = WritableTable FitsSttsEntry 8 0x73747473 v.version v.flags v.entries
+
+unfoldable pub bytes_stts : SttsBox → List ℕ
+bytes_stts v = bytes_table row_stts 8 0x73747473 v.version v.flags v.entries
+
+abbrev pub normal_stts : SttsBox → SttsBox
+normal_stts v = v

@@ -1,0 +1,237 @@
+-- The laws of trun, by those of flagged fields and of rows.
+use Rattle.std.proofs.Common.{◌≡◌, ℕ, zero, suc, ◌+◌, ◌*◌, ◌-◌, ◌<◌, ◌≤◌, ◌^◌, Bool, true, false, List, [], ◌∷◌, ◌++◌, map, length, Ok, Option, Some, None, refl, sym, ap, subst, ◌∙◌, append_assoc, arith, length-append, lit<}
+use Rattle.std.specs.Prelude.{ℤ, slice_get, option_map}
+use Rattle.std.specs.Int.{w32, cast_signed}
+use Rattle.std.specs.List.{range_with_len, AllByRecursion}
+use Rattle.std.proofs.lemmas.List.{append-nil}
+use Rattle.std.proofs.lemmas.List.Elements.{All-from_recursion, All-get_or}
+use Rattle.std.proofs.lemmas.List.FromFn.{length-range_with_len, fill_by_all}
+use Rattle.std.proofs.lemmas.Option.{slice_get_past, slice_get-get_or, get_or_from_slice_get}
+use Rattle.std.proofs.lemmas.Simd.{map-map}
+use Rattle.mp4_frame.specs.Bytes.{number, joined}
+use Rattle.mp4_frame.specs.Laws.{AreBytes, Framed, Normal, RowReadsBack, RowIsSound}
+use Rattle.mp4_frame.specs.Reading.{Reading, ◌>>=◌, fields, memory, done}
+use Rattle.mp4_frame.specs.declared.box_type.BoxType.TheVariants as names
+use Rattle.mp4_frame.proofs.Columns.{length-joined, number-joined, number-below}
+use Rattle.mp4_frame.proofs.Signed.{back32, below32, signed32}
+use Rattle.mp4_frame.proofs.Stands.{fields_stand, fields_ok, is_value}
+use Rattle.mp4_frame.proofs.Tables.{IsRow, length_flat, map_all, length_map, value_first}
+use Rattle.mp4_tables.specs.Flagged.{is_set, width_if, number_if, optional, Stands}
+use Rattle.mp4_tables.specs.FlaggedLaws.{length_optional, optional_back, number_stands}
+use Rattle.mp4_tables.specs.Rows.{rows_within}
+use Rattle.mp4_tables.specs.RowsLaws.{rows_within_back, rows_within_read}
+use Rattle.mp4_tables.specs.TrunLists.{size_in_row, flags_in_row, cts_in_row, row_length, column_if, lists_of, reads_lists, IsListed}
+use Rattle.mp4_tables.specs.Trun.{first_flags_at, rows_at, value_trun, reads_trun, size_trun, columns_trun, FitsOptional, unsigned, ListedTrun, WritableTrun, row_trun, rows_trun, bytes_trun, normal_trun}
+use Rattle.mp4_tables.specs.declared.trun.TrunBox.{TrunBox}
+use Rattle.mp4_tables.specs.declared.trun_lists.TrunLists.{TrunLists}
+
+-- the number of a sample is there exactly where the flag of its list is set
+item_stands : (b : Bool) (count i : ℕ) (xs : List ℕ) → IsListed b count xs → i < count → Stands b 4 (slice_get xs i)
+item_stands true count i xs h lt =
+    let here : i < length xs = omega (arith, h.long) in
+    subst (λ (x : Option ℕ). Stands true 4 x) (sym (slice_get-get_or xs i 0 here)) (refl, All-get_or (λ n. n < 2 ^ 32) xs i 0 here h.each)
+item_stands false count i xs h lt =
+    let past : length xs ≤ i = omega (arith, h.long) in
+    subst (λ (x : Option ℕ). Stands false 4 x) (sym (slice_get_past xs i past)) refl
+
+pub length_row : (v : TrunBox) → ListedTrun v → (i : ℕ) → i < v.sample_count → length (row_trun v i) ≡ row_length v.flags
+unfolding row_trun
+length_row v w i lt =
+    let a = optional 4 (slice_get v.sample_durations i) in
+    let b = optional 4 (slice_get v.sample_sizes i) in
+    let c = optional 4 (slice_get v.sample_flags i) in
+    let d = optional 4 (slice_get v.sample_cts i) in
+    let la = length_optional (is_set v.flags 0x100) 4 (slice_get v.sample_durations i) (item_stands _ _ i v.sample_durations w.durations lt) in
+    let lb = length_optional (is_set v.flags 0x200) 4 (slice_get v.sample_sizes i) (item_stands _ _ i v.sample_sizes w.sizes lt) in
+    let lc = length_optional (is_set v.flags 0x400) 4 (slice_get v.sample_flags i) (item_stands _ _ i v.sample_flags w.flags lt) in
+    let ld = length_optional (is_set v.flags 0x800) 4 (slice_get v.sample_cts i) (item_stands _ _ i v.sample_cts w.cts lt) in
+    omega (arith, la, lb, lc, ld, length-append (a ++ b ++ c) d, length-append (a ++ b) c, length-append a b)
+
+all_range : (a n count : ℕ) → a + n ≤ count → AllByRecursion (λ i. i < count) (range_with_len a n)
+all_range a zero count le = tt
+all_range a (suc n) count le = (omega arith, all_range (a + 1) n count (omega arith))
+
+pub length_rows : (v : TrunBox) → ListedTrun v → (n : ℕ) → n ≤ v.sample_count → length (rows_trun v n) ≡ row_length v.flags * n
+length_rows v w n le =
+    length_flat (row_trun v) (row_length v.flags) (λ i. i < v.sample_count) (length_row v w) (range_with_len 0 n) (all_range 0 n v.sample_count (omega arith))
+    ∙ ap (λ (k : ℕ). row_length v.flags * k) (length-range_with_len 0 n)
+
+-- the numbers of each row, at its place
+column_back : (v : TrunBox) (b : Bool) (o : ℕ) (xs : List ℕ) → IsListed b v.sample_count xs → ((i : ℕ) → i < v.sample_count → number_if (number (row_trun v i)) b o 4 ≡ slice_get xs i)
+    → column_if b o (map (row_trun v) (range_with_len 0 v.sample_count)) ≡ xs
+unfolding column_if number_if
+column_back v true o xs h each =
+    map-map (λ (row : List ℕ). number row o 4) (row_trun v) (range_with_len 0 v.sample_count)
+    ∙ sym (fill_by_all (λ i. number (row_trun v i) o 4) xs v.sample_count 0 h.long (λ k lt. get_or_from_slice_get xs k (number (row_trun v k) o 4) 0 (sym (each k lt))))
+column_back v false o [] h each = refl
+column_back v false o (x ∷ xs) h each = absurd (omega (arith, h.long))
+
+module _ (v : TrunBox) (w : ListedTrun v) where
+  pub lists_back : lists_of v.flags (map (row_trun v) (range_with_len 0 v.sample_count)) ≡ record { durations = v.sample_durations; sizes = v.sample_sizes; flags = v.sample_flags; cts = v.sample_cts }
+  unfolding row_trun
+  lists_back = rw (
+    column_back v (is_set v.flags 0x100) 0 v.sample_durations w.durations (λ i lt. durations i lt),
+    column_back v (is_set v.flags 0x200) (size_in_row v.flags) v.sample_sizes w.sizes (λ i lt. sizes i lt),
+    column_back v (is_set v.flags 0x400) (flags_in_row v.flags) v.sample_flags w.flags (λ i lt. flags i lt),
+    column_back v (is_set v.flags 0x800) (cts_in_row v.flags) v.sample_cts w.cts (λ i lt. cts i lt),
+  ) refl
+    where
+      a : ℕ → List ℕ
+      a i = optional 4 (slice_get v.sample_durations i)
+
+      b : ℕ → List ℕ
+      b i = optional 4 (slice_get v.sample_sizes i)
+
+      c : ℕ → List ℕ
+      c i = optional 4 (slice_get v.sample_flags i)
+
+      d : ℕ → List ℕ
+      d i = optional 4 (slice_get v.sample_cts i)
+
+      wa : (i : ℕ) → i < v.sample_count → Stands (is_set v.flags 0x100) 4 (slice_get v.sample_durations i)
+      wa i lt = item_stands (is_set v.flags 0x100) v.sample_count i v.sample_durations w.durations lt
+
+      wb : (i : ℕ) → i < v.sample_count → Stands (is_set v.flags 0x200) 4 (slice_get v.sample_sizes i)
+      wb i lt = item_stands (is_set v.flags 0x200) v.sample_count i v.sample_sizes w.sizes lt
+
+      wc : (i : ℕ) → i < v.sample_count → Stands (is_set v.flags 0x400) 4 (slice_get v.sample_flags i)
+      wc i lt = item_stands (is_set v.flags 0x400) v.sample_count i v.sample_flags w.flags lt
+
+      wd : (i : ℕ) → i < v.sample_count → Stands (is_set v.flags 0x800) 4 (slice_get v.sample_cts i)
+      wd i lt = item_stands (is_set v.flags 0x800) v.sample_count i v.sample_cts w.cts lt
+
+      pa : (i : ℕ) → i < v.sample_count → length (a i) ≡ size_in_row v.flags
+      pa i lt = length_optional (is_set v.flags 0x100) 4 (slice_get v.sample_durations i) (wa i lt)
+
+      pb : (i : ℕ) → i < v.sample_count → length (a i ++ b i) ≡ flags_in_row v.flags
+      pb i lt = omega (arith, pa i lt, length_optional (is_set v.flags 0x200) 4 (slice_get v.sample_sizes i) (wb i lt), length-append (a i) (b i))
+
+      pc : (i : ℕ) → i < v.sample_count → length (a i ++ b i ++ c i) ≡ cts_in_row v.flags
+      pc i lt = omega (arith, pb i lt, length_optional (is_set v.flags 0x400) 4 (slice_get v.sample_flags i) (wc i lt), length-append (a i ++ b i) (c i))
+
+      durations : (i : ℕ) → i < v.sample_count → number_if (number (a i ++ b i ++ c i ++ d i)) (is_set v.flags 0x100) 0 4 ≡ slice_get v.sample_durations i
+      durations i lt = optional_back (a i ++ b i ++ c i ++ d i) [] (slice_get v.sample_durations i) (b i ++ (c i ++ d i)) (is_set v.flags 0x100) 0 4 (simp append_assoc) refl (wa i lt)
+
+      sizes : (i : ℕ) → i < v.sample_count → number_if (number (a i ++ b i ++ c i ++ d i)) (is_set v.flags 0x200) (size_in_row v.flags) 4 ≡ slice_get v.sample_sizes i
+      sizes i lt = optional_back (a i ++ b i ++ c i ++ d i) (a i) (slice_get v.sample_sizes i) (c i ++ d i) (is_set v.flags 0x200) (size_in_row v.flags) 4 (simp append_assoc) (pa i lt) (wb i lt)
+
+      flags : (i : ℕ) → i < v.sample_count → number_if (number (a i ++ b i ++ c i ++ d i)) (is_set v.flags 0x400) (flags_in_row v.flags) 4 ≡ slice_get v.sample_flags i
+      flags i lt = optional_back (a i ++ b i ++ c i ++ d i) (a i ++ b i) (slice_get v.sample_flags i) (d i) (is_set v.flags 0x400) (flags_in_row v.flags) 4 (append_assoc (a i ++ b i) (c i) (d i)) (pb i lt) (wc i lt)
+
+      cts : (i : ℕ) → i < v.sample_count → number_if (number (a i ++ b i ++ c i ++ d i)) (is_set v.flags 0x800) (cts_in_row v.flags) 4 ≡ slice_get v.sample_cts i
+      cts i lt = optional_back (a i ++ b i ++ c i ++ d i) (a i ++ b i ++ c i) (slice_get v.sample_cts i) [] (is_set v.flags 0x800) (cts_in_row v.flags) 4 (ap (λ (l : List ℕ). (a i ++ b i ++ c i) ++ l) (sym (append-nil (d i)))) (pc i lt) (wd i lt)
+
+offset_back : (x : Option ℤ) → FitsOptional x → option_map (λ n. cast_signed w32 n) (unsigned x) ≡ x
+offset_back None h = refl
+offset_back (Some z) h = ap (λ (y : ℤ). Some y) (back32 z h)
+
+pub framed_trun : (v : TrunBox) → WritableTrun v → Framed (size_trun v) names.TrunBox (bytes_trun v)
+unfolding bytes_trun
+framed_trun v w =
+    let cs = columns_trun v in
+    let a = optional 4 (unsigned v.data_offset) in
+    let b = optional 4 v.first_sample_flags in
+    let r = rows_trun v v.sample_count in
+    let z = a ++ (b ++ r) in
+    let is : joined cs ++ a ++ b ++ r ≡ joined cs ++ z = simp append_assoc in
+    let lj : length (joined cs) ≡ 16 = length-joined cs in
+    let la = length_optional (is_set v.flags 0x01) 4 (unsigned v.data_offset) w.flagged.data_offset in
+    let lb = length_optional (is_set v.flags 0x04) 4 v.first_sample_flags w.flagged.first_sample_flags in
+    let lr = length_rows v w.listed v.sample_count (omega arith) in
+    record {
+      long = ap length is ∙ omega (arith, lj, la, lb, lr, length-append (joined cs) z, length-append a (b ++ r), length-append b r);
+      least = omega arith;
+      most = w.fit.0;
+      size_first = ap (λ (l : List ℕ). number l 0 4) is ∙ number-joined cs z 0 4 w.fit;
+      code_next = ap (λ (l : List ℕ). number l 4 4) is ∙ number-joined cs z 4 4 w.fit;
+    }
+
+pub normal_form_trun : (v : TrunBox) → WritableTrun v → Normal WritableTrun bytes_trun normal_trun v
+normal_form_trun v w = record { writable = w; again = refl; same_bytes = refl }
+
+pub read_back_trun : (v : TrunBox) → WritableTrun v → RowReadsBack reads_trun (bytes_trun v) (size_trun v) (normal_trun v)
+unfolding bytes_trun reads_trun reads_lists
+read_back_trun v w rest start top =
+    let cs = columns_trun v in
+    let j = joined cs in
+    let f = v.flags in
+    let n = v.sample_count in
+    let a = optional 4 (unsigned v.data_offset) in
+    let b = optional 4 v.first_sample_flags in
+    let r = rows_trun v n in
+    let B = (j ++ a ++ b ++ r) ++ rest in
+    let z = a ++ (b ++ (r ++ rest)) in
+    let is : B ≡ j ++ z = simp append_assoc in
+    let is_b : B ≡ (j ++ a) ++ (b ++ (r ++ rest)) = simp append_assoc in
+    let is_r : B ≡ (j ++ a ++ b) ++ (r ++ rest) = append_assoc (j ++ a ++ b) r rest in
+    let lj : length j ≡ 16 = length-joined cs in
+    let la = length_optional (is_set f 0x01) 4 (unsigned v.data_offset) w.flagged.data_offset in
+    let lb = length_optional (is_set f 0x04) 4 v.first_sample_flags w.flagged.first_sample_flags in
+    let pa : length (j ++ a) ≡ first_flags_at f = omega (arith, lj, la, length-append j a) in
+    let pb : length (j ++ a ++ b) ≡ rows_at f = omega (arith, pa, lb, length-append (j ++ a) b) in
+    let long : rows_at f ≤ length B = omega (arith, pb, length-append (j ++ a ++ b) (r ++ rest), ap length is_r) in
+    let n8 : number B 8 1 ≡ v.version = ap (λ (l : List ℕ). number l 8 1) is ∙ number-joined cs z 8 1 w.fit in
+    let n9 : number B 9 3 ≡ f = ap (λ (l : List ℕ). number l 9 3) is ∙ number-joined cs z 9 3 w.fit in
+    let n12 : number B 12 4 ≡ n = ap (λ (l : List ℕ). number l 12 4) is ∙ number-joined cs z 12 4 w.fit in
+    let va : number_if (number B) (is_set f 0x01) 16 4 ≡ unsigned v.data_offset = optional_back B j (unsigned v.data_offset) (b ++ (r ++ rest)) (is_set f 0x01) 16 4 is lj w.flagged.data_offset in
+    let vb = optional_back B (j ++ a) v.first_sample_flags (r ++ rest) (is_set f 0x04) (first_flags_at f) 4 is_b pa w.flagged.first_sample_flags in
+    let first = fields_stand B 8 8 (omega (arith, long)) in
+    let second = fields_stand B 16 (rows_at f - 16) (omega (arith, long)) in
+    let count : length (range_with_len 0 n) ≡ n = length-range_with_len 0 n in
+    let size : size_trun v ≡ rows_at f + row_length f * length (range_with_len 0 n) = ap (λ (k : ℕ). rows_at f + row_length f * k) (sym count) in
+    let found : rows_within ((j ++ a ++ b) ++ (r ++ rest)) (size_trun v) (rows_at f) (row_length f) (length (range_with_len 0 n)) ≡ done (map (row_trun v) (range_with_len 0 n)) =
+    rows_within_back (row_trun v) (row_length f) (λ i. i < n) (length_row v w.listed) (j ++ a ++ b) (range_with_len 0 n) rest (rows_at f) (size_trun v) (all_range 0 n n (omega arith)) pb size in
+    let rows : rows_within B (size_trun v) (rows_at f) (row_length f) (number B 12 4) ≡ done (map (row_trun v) (range_with_len 0 n)) =
+    ap (λ (k : ℕ). rows_within B (size_trun v) (rows_at f) (row_length f) k) n12 ∙ ap (λ (l : List ℕ). rows_within l (size_trun v) (rows_at f) (row_length f) n) is_r ∙ ap (λ (k : ℕ). rows_within ((j ++ a ++ b) ++ (r ++ rest)) (size_trun v) (rows_at f) (row_length f) k) (sym count) ∙ found in
+    let made : value_trun f (number B) (lists_of f (map (row_trun v) (range_with_len 0 n))) ≡ v =
+    ap (value_trun f (number B)) (lists_back v w.listed) ∙ (rw (n8, n12, va, offset_back v.data_offset w.flagged.signed, vb) refl) in
+    rw (first, n9, second, rows) (ap (λ (t : TrunBox). Ok t) made)
+
+full : (b : Bool) → b ≡ true → width_if b 4 ≡ 4
+unfolding width_if
+full true e = refl
+full false e = absurd cc
+
+-- a list that was read of rows
+column_listed : (b : Bool) (o k count : ℕ) (rows : List (List ℕ)) → (b ≡ true → AllByRecursion (IsRow k) rows × (length rows ≡ count)) → IsListed b count (column_if b o rows)
+unfolding column_if
+column_listed true o k count rows h =
+    let p = h refl in
+    record {
+      long = length_map (λ row. number row o 4) rows ∙ p.1;
+      each = All-from_recursion (λ n. n < 2 ^ 32) (map (λ row. number row o 4) rows) (map_all k (λ row. number row o 4) (λ n. n < 2 ^ 32) (λ row is. number-below row o 4 is.are) rows p.0);
+    }
+column_listed false o k count rows h = record { long = refl; each = All-from_recursion (λ n. n < 2 ^ 32) [] tt }
+
+offset_fits : (bytes : List ℕ) (b : Bool) (o : ℕ) → AreBytes bytes → Stands b 4 (unsigned (option_map (λ n. cast_signed w32 n) (number_if (number bytes) b o 4))) × FitsOptional (option_map (λ n. cast_signed w32 n) (number_if (number bytes) b o 4))
+unfolding number_if
+offset_fits bytes true o are = ((refl, below32 bytes o are), signed32 bytes o are)
+offset_fits bytes false o are = (refl, tt)
+
+pub sound_trun : RowIsSound reads_trun WritableTrun size_trun normal_trun
+unfolding reads_trun reads_lists
+sound_trun bytes start long v are read =
+    let f = number bytes 9 3 in
+    let n = number bytes 12 4 in
+    let made : TrunLists → Reading TrunBox = λ lists. done (value_trun f (number bytes) lists) in
+    let one = fields_ok bytes 8 8 (λ _. fields bytes 16 (rows_at f - 16) >>= λ _. reads_lists bytes long f (rows_at f) n >>= made) v read in
+    let two = fields_ok bytes 16 (rows_at f - 16) (λ _. reads_lists bytes long f (rows_at f) n >>= made) v one in
+    let p = value_first (reads_lists bytes long f (rows_at f) n) made v two in
+    let q = value_first (rows_within bytes long (rows_at f) (row_length f) n) (λ rows. memory >>= λ _. done (lists_of f rows)) p.0 p.1 in
+    let rows : List (List ℕ) = q.0 in
+    let here : 0 < row_length f → AllByRecursion (IsRow (row_length f)) rows × (length rows ≡ n) = λ some. rows_within_read bytes long (rows_at f) (row_length f) n rows some are q.1 in
+    let is_lists : lists_of f rows ≡ p.0 = is_value (lists_of f rows) p.0 q.2 in
+    let t : TrunBox = value_trun f (number bytes) (lists_of f rows) in
+    let is : t ≡ v = ap (value_trun f (number bytes)) is_lists ∙ is_value _ v p.2 in
+    let offset = offset_fits bytes (is_set f 0x01) 16 are in
+    let can : size_trun t < 2 ^ 32 → WritableTrun t = λ small. record {
+      fit = (small, (lit< tt, (number-below bytes 8 1 are, (number-below bytes 9 3 are, (number-below bytes 12 4 are, tt)))));
+      flagged = record { data_offset = offset.0; signed = offset.1; first_sample_flags = number_stands bytes (is_set f 0x04) (first_flags_at f) 4 are };
+      listed = record {
+        durations = column_listed (is_set f 0x100) 0 (row_length f) n rows (λ e. here (omega (arith, full (is_set f 0x100) e)));
+        sizes = column_listed (is_set f 0x200) (size_in_row f) (row_length f) n rows (λ e. here (omega (arith, full (is_set f 0x200) e)));
+        flags = column_listed (is_set f 0x400) (flags_in_row f) (row_length f) n rows (λ e. here (omega (arith, full (is_set f 0x400) e)));
+        cts = column_listed (is_set f 0x800) (cts_in_row f) (row_length f) n rows (λ e. here (omega (arith, full (is_set f 0x800) e)));
+      };
+    } in
+    (refl, subst (λ (w : TrunBox). size_trun w < 2 ^ 32 → WritableTrun w) is can)

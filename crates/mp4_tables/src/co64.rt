@@ -1,0 +1,147 @@
+//! The large chunk offset box.
+
+ghost use Rattle.std.specs.Prelude.{◌≡◌, ◌-◌, ◌^◌, [], IfOk, IfErr, map, min};
+ghost use Rattle.mp4_frame.specs.declared.box_type.BoxType.TheVariants as names;
+ghost use Rattle.mp4_tables.specs.Co64.{offset_of, reads_co64, size_co64, WritableCo64, bytes_co64, normal_co64};
+ghost use Rattle.mp4_tables.specs.Co64Laws.{framed_co64, normal_form_co64, read_back_co64, sound_co64};
+
+use mp4_frame::{
+    BoxLaws, BoxType, Entries, Error, Mp4Box, ReadBox, Result, WriteBox, is_writable_table,
+    put_table, read_table, table_size, u64_at,
+};
+use std::alloc::Global;
+
+/// Where the chunks of a track begin, in 64 bits (`co64`, ISO/IEC 14496-12, 8.7.5).
+#[derive(Debug, Drop, PartialEq, Eq)]
+pub struct Co64Box {
+    /// 0 in the standard. Every version is read and written alike.
+    pub version: u8,
+    /// 24 bits, 0 in the standard.
+    pub flags: u32,
+    /// The offset of each chunk, in bytes from the front of the file.
+    pub entries: Entries<u64>,
+}
+
+impl Co64Box {
+    /// Version 0, flags 0 and no chunks. No memory is taken.
+    pub fn default_in(alloc: Global) -> Co64Box
+        ensures { result ≡ record { version = 0; flags = 0; entries = [] } }
+    {
+        Co64Box {
+            version: 0,
+            flags: 0,
+            entries: Entries::new(alloc),
+        }
+    }
+
+    /// An equal box, in memory of its own.
+    pub fn try_clone(&self) -> Result<Co64Box>
+        ensures clone { IfOk result (λ clone. clone ≡ self.now) }
+        ensures memory { IfErr result (λ e. e ≡ Error.OutOfMemory) }
+    {
+        Ok(Co64Box {
+            version: self.version,
+            flags: self.flags,
+            entries: self.entries.try_clone()?,
+        })
+    }
+
+    /// As `box_type`.
+    pub fn get_type(&self) -> BoxType
+        ensures { result ≡ names.Co64Box }
+    {
+        self.box_type()
+    }
+
+    /// As `box_size`.
+    pub fn get_size(&self) -> u64
+        ensures { result ≡ min (size_co64 self.now) (2 ^ 64 - 1) }
+    {
+        self.box_size()
+    }
+}
+
+impl Mp4Box for Co64Box {
+    ghost name = { λ _. names.Co64Box };
+
+    ghost size = { size_co64 };
+
+    fn box_type(&self) -> BoxType {
+        BoxType::Co64Box
+    }
+
+    fn box_size(&self) -> u64 {
+        table_size(self.entries.as_slice())
+    }
+}
+
+fn offsets_of(alloc: Global, rows: &[[u8; 8]]) -> Result<Vec<u64>>
+    ensures value { IfOk result (λ offsets. offsets.items ≡ map offset_of rows.now) }
+    ensures memory { IfErr result (λ e. e ≡ Error.OutOfMemory) }
+{
+    let offsets: Vec<u64> = rows
+        .iter()
+        .map(
+            |row: &[u8; 8]| -> u64
+                ensures { result ≡ offset_of row.now }
+            { u64_at(row, 0) },
+        )
+        .collect(alloc)?;
+    Ok(offsets)
+}
+
+impl ReadBox for Co64Box {
+    ghost reads = { reads_co64 };
+
+    #[tactic(auto, unfolding(crate::specs::Co64::reads_co64))]
+    fn read_row(alloc: Global, bytes: &[u8], _start: u64, size: u64) -> Result<Co64Box> {
+        let (version, flags, rows) = read_table::<8>(
+            bytes,
+            size,
+            "co64 entry_count indicates more entries than could fit in the box",
+        )?;
+        Ok(Co64Box {
+            version,
+            flags,
+            entries: offsets_of(alloc, rows)?.into(),
+        })
+    }
+}
+
+impl WriteBox for Co64Box {
+    ghost Writable = { WritableCo64 };
+
+    ghost bytes = { bytes_co64 };
+
+    ghost normal = { normal_co64 };
+
+    fn is_writable(&self) -> bool {
+        is_writable_table(
+            0x636f_3634,
+            self.version,
+            self.flags,
+            self.entries.as_slice(),
+        )
+    }
+
+    #[tactic(auto, unfolding(crate::specs::Co64::bytes_co64))]
+    fn put_box(&self, place: &mut [u8]) {
+        put_table(
+            place,
+            0x636f_3634,
+            self.version,
+            self.flags,
+            self.entries.as_slice(),
+        );
+    }
+
+    ghost framed = { framed_co64 };
+
+    ghost normal_form = { normal_form_co64 };
+}
+
+impl BoxLaws for Co64Box {
+    ghost read_back = { read_back_co64 };
+
+    ghost sound = { sound_co64 };
+}

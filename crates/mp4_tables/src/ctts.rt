@@ -1,0 +1,154 @@
+//! The composition time to sample box.
+
+ghost use Rattle.std.specs.Prelude.{◌≡◌, ◌-◌, ◌^◌, [], IfOk, IfErr, map, min};
+ghost use Rattle.mp4_frame.specs.declared.box_type.BoxType.TheVariants as names;
+ghost use Rattle.mp4_tables.specs.Ctts.{reads_ctts, size_ctts, WritableCtts, bytes_ctts, normal_ctts};
+ghost use Rattle.mp4_tables.specs.CttsEntry.{entry_ctts};
+ghost use Rattle.mp4_tables.specs.CttsLaws.{framed_ctts, normal_form_ctts, read_back_ctts, sound_ctts};
+
+use crate::ctts_entry::CttsEntry;
+use mp4_frame::{
+    BoxLaws, BoxType, Entries, Error, Mp4Box, ReadBox, Result, WriteBox, i32_at, is_writable_table,
+    put_table, read_table, table_size, u32_at,
+};
+use std::alloc::Global;
+
+/// How far the composition times of samples lie from their decoding times (`ctts`, ISO/IEC 14496-12, 8.6.1.3).
+#[derive(Debug, Drop, PartialEq, Eq)]
+pub struct CttsBox {
+    /// 0 in the standard. Every version is read and written alike.
+    pub version: u8,
+    /// 24 bits, 0 in the standard.
+    pub flags: u32,
+    /// The runs of samples of one offset, in decoding order.
+    pub entries: Entries<CttsEntry>,
+}
+
+impl CttsBox {
+    /// Version 0, flags 0 and no entries. No memory is taken.
+    pub fn default_in(alloc: Global) -> CttsBox
+        ensures { result ≡ record { version = 0; flags = 0; entries = [] } }
+    {
+        CttsBox {
+            version: 0,
+            flags: 0,
+            entries: Entries::new(alloc),
+        }
+    }
+
+    /// An equal box, in memory of its own.
+    pub fn try_clone(&self) -> Result<CttsBox>
+        ensures clone { IfOk result (λ clone. clone ≡ self.now) }
+        ensures memory { IfErr result (λ e. e ≡ Error.OutOfMemory) }
+    {
+        Ok(CttsBox {
+            version: self.version,
+            flags: self.flags,
+            entries: self.entries.try_clone()?,
+        })
+    }
+
+    /// As `box_type`.
+    pub fn get_type(&self) -> BoxType
+        ensures { result ≡ names.CttsBox }
+    {
+        self.box_type()
+    }
+
+    /// As `box_size`.
+    pub fn get_size(&self) -> u64
+        ensures { result ≡ min (size_ctts self.now) (2 ^ 64 - 1) }
+    {
+        self.box_size()
+    }
+}
+
+impl Mp4Box for CttsBox {
+    ghost name = { λ _. names.CttsBox };
+
+    ghost size = { size_ctts };
+
+    fn box_type(&self) -> BoxType {
+        BoxType::CttsBox
+    }
+
+    fn box_size(&self) -> u64 {
+        table_size(self.entries.as_slice())
+    }
+}
+
+fn entries_of(alloc: Global, rows: &[[u8; 8]]) -> Result<Vec<CttsEntry>>
+    ensures value { IfOk result (λ entries. entries.items ≡ map entry_ctts rows.now) }
+    ensures memory { IfErr result (λ e. e ≡ Error.OutOfMemory) }
+{
+    let entries: Vec<CttsEntry> = rows
+        .iter()
+        .map(
+            |row: &[u8; 8]| -> CttsEntry
+                ensures { result ≡ entry_ctts row.now }
+            {
+                CttsEntry {
+                    sample_count: u32_at(row, 0),
+                    sample_offset: i32_at(row, 4),
+                }
+            },
+        )
+        .collect(alloc)?;
+    Ok(entries)
+}
+
+impl ReadBox for CttsBox {
+    ghost reads = { reads_ctts };
+
+    #[tactic(auto, unfolding(crate::specs::Ctts::reads_ctts))]
+    fn read_row(alloc: Global, bytes: &[u8], _start: u64, size: u64) -> Result<CttsBox> {
+        let (version, flags, rows) = read_table::<8>(
+            bytes,
+            size,
+            "ctts entry_count indicates more entries than could fit in the box",
+        )?;
+        Ok(CttsBox {
+            version,
+            flags,
+            entries: entries_of(alloc, rows)?.into(),
+        })
+    }
+}
+
+impl WriteBox for CttsBox {
+    ghost Writable = { WritableCtts };
+
+    ghost bytes = { bytes_ctts };
+
+    ghost normal = { normal_ctts };
+
+    fn is_writable(&self) -> bool {
+        is_writable_table(
+            0x6374_7473,
+            self.version,
+            self.flags,
+            self.entries.as_slice(),
+        )
+    }
+
+    #[tactic(auto, unfolding(crate::specs::Ctts::bytes_ctts))]
+    fn put_box(&self, place: &mut [u8]) {
+        put_table(
+            place,
+            0x6374_7473,
+            self.version,
+            self.flags,
+            self.entries.as_slice(),
+        );
+    }
+
+    ghost framed = { framed_ctts };
+
+    ghost normal_form = { normal_form_ctts };
+}
+
+impl BoxLaws for CttsBox {
+    ghost read_back = { read_back_ctts };
+
+    ghost sound = { sound_ctts };
+}

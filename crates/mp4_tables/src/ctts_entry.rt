@@ -1,0 +1,42 @@
+//! An entry of the composition time to sample box.
+
+ghost use Rattle.std.specs.Prelude.{◌↔◌, IsTrue};
+ghost use Rattle.mp4_tables.specs.CttsEntry.{row_ctts, FitsCttsEntry};
+
+use mp4_frame::{TableEntry, put_i32, put_u32};
+
+/// A run of samples of one composition offset (ISO/IEC 14496-12, 8.6.1.3).
+#[derive(Clone, Copy, Debug, Default, PartialEq, Eq)]
+pub struct CttsEntry {
+    /// How many samples follow one another.
+    pub sample_count: u32,
+    /// Composition time minus decoding time of each of them, in the time units of the track's media. It is signed
+    /// in every version.
+    pub sample_offset: i32,
+}
+
+/// Every entry has. A value that is passed has the ranges of its types.
+fn has_fitting_numbers(entry: CttsEntry) -> bool
+    ensures { IsTrue result ↔ FitsCttsEntry entry }
+{
+    let _entry = entry;
+    true
+}
+
+impl TableEntry<8> for CttsEntry {
+    ghost row_of = { row_ctts };
+
+    ghost Fits = { FitsCttsEntry };
+
+    #[tactic(auto, unfolding(mp4_frame::specs::Bytes::joined, mp4_frame::specs::Bytes::joined_onto))]
+    fn to_row(&self) -> [u8; 8] {
+        let mut row = [0; 8];
+        let at = put_u32(&mut row, 0, self.sample_count);
+        put_i32(&mut row, at, self.sample_offset);
+        row
+    }
+
+    fn fits(&self) -> bool {
+        has_fitting_numbers(*self)
+    }
+}

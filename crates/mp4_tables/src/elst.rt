@@ -1,0 +1,232 @@
+//! The edit list box.
+
+ghost use Rattle.std.specs.Prelude.{◌≡◌, ◌-◌, ◌^◌, [], IfOk, IfErr, map, min, true, false};
+ghost use Rattle.mp4_frame.specs.Bytes.{number};
+ghost use Rattle.mp4_frame.specs.Reading.{Answers};
+ghost use Rattle.mp4_frame.specs.declared.box_type.BoxType.TheVariants as names;
+ghost use Rattle.mp4_tables.specs.Elst.{reads_elst_rows, reads_elst, size_elst, WritableElst, bytes_elst, normal_elst};
+ghost use Rattle.mp4_tables.specs.ElstEntry.{is_long, entry_elst};
+ghost use Rattle.mp4_tables.specs.ElstLaws.{framed_elst, normal_form_elst, read_back_elst, sound_elst};
+
+use crate::elst_entry::ElstEntry;
+use mp4_frame::{
+    BoxLaws, BoxType, Entries, Error, Mp4Box, ReadBox, Result, WriteBox, is_writable_table,
+    put_table, read_table, table_size, u16_at, u32_at, u64_at,
+};
+use std::alloc::Global;
+
+const TOO_MANY: &str = "elst entry_count indicates more entries than could fit in the box";
+
+/// Which parts of its media a track presents, and in which order (`elst`, ISO/IEC 14496-12, 8.6.6).
+#[derive(Debug, Drop, PartialEq, Eq)]
+pub struct ElstBox {
+    /// 0 or 1 in the standard. Version 1 has times of 64 bits, every other has times of 32.
+    pub version: u8,
+    /// 24 bits, 0 in the standard.
+    pub flags: u32,
+    /// The parts, in the order of presentation.
+    pub entries: Entries<ElstEntry>,
+}
+
+impl ElstBox {
+    /// Version 0, flags 0 and no entries. No memory is taken.
+    pub fn default_in(alloc: Global) -> ElstBox
+        ensures { result ≡ record { version = 0; flags = 0; entries = [] } }
+    {
+        ElstBox {
+            version: 0,
+            flags: 0,
+            entries: Entries::new(alloc),
+        }
+    }
+
+    /// An equal box, in memory of its own.
+    pub fn try_clone(&self) -> Result<ElstBox>
+        ensures clone { IfOk result (λ clone. clone ≡ self.now) }
+        ensures memory { IfErr result (λ e. e ≡ Error.OutOfMemory) }
+    {
+        Ok(ElstBox {
+            version: self.version,
+            flags: self.flags,
+            entries: self.entries.try_clone()?,
+        })
+    }
+
+    /// As `box_type`.
+    pub fn get_type(&self) -> BoxType
+        ensures { result ≡ names.ElstBox }
+    {
+        self.box_type()
+    }
+
+    /// As `box_size`.
+    pub fn get_size(&self) -> u64
+        ensures { result ≡ min (size_elst self.now) (2 ^ 64 - 1) }
+    {
+        self.box_size()
+    }
+}
+
+impl Mp4Box for ElstBox {
+    ghost name = { λ _. names.ElstBox };
+
+    ghost size = { size_elst };
+
+    fn box_type(&self) -> BoxType {
+        BoxType::ElstBox
+    }
+
+    fn box_size(&self) -> u64 {
+        if self.version == 1 {
+            table_size::<ElstEntry, 20>(self.entries.as_slice())
+        } else {
+            table_size::<ElstEntry, 12>(self.entries.as_slice())
+        }
+    }
+}
+
+/// The version is 1, whose rows are long. It is 0 where its byte is missing.
+#[tactic(auto, unfolding(mp4_frame::specs::Bytes::number))]
+fn has_long_rows(bytes: &[u8]) -> bool
+    ensures { result ≡ is_long (number bytes.now 8 1) }
+{
+    bytes.len() > 8 && bytes[8] == 1
+}
+
+fn long_entries_of(alloc: Global, rows: &[[u8; 20]]) -> Result<Vec<ElstEntry>>
+    ensures value { IfOk result (λ entries. entries.items ≡ map (entry_elst true) rows.now) }
+    ensures memory { IfErr result (λ e. e ≡ Error.OutOfMemory) }
+{
+    let entries: Vec<ElstEntry> = rows
+        .iter()
+        .map(
+            |row: &[u8; 20]| -> ElstEntry
+                ensures { result ≡ entry_elst true row.now }
+            {
+                ElstEntry {
+                    segment_duration: u64_at(row, 0),
+                    media_time: u64_at(row, 8),
+                    media_rate: u16_at(row, 16),
+                    media_rate_fraction: u16_at(row, 18),
+                }
+            },
+        )
+        .collect(alloc)?;
+    Ok(entries)
+}
+
+fn short_entries_of(alloc: Global, rows: &[[u8; 12]]) -> Result<Vec<ElstEntry>>
+    ensures value { IfOk result (λ entries. entries.items ≡ map (entry_elst false) rows.now) }
+    ensures memory { IfErr result (λ e. e ≡ Error.OutOfMemory) }
+{
+    let entries: Vec<ElstEntry> = rows
+        .iter()
+        .map(
+            |row: &[u8; 12]| -> ElstEntry
+                ensures { result ≡ entry_elst false row.now }
+            {
+                ElstEntry {
+                    segment_duration: u64::from(u32_at(row, 0)),
+                    media_time: u64::from(u32_at(row, 4)),
+                    media_rate: u16_at(row, 8),
+                    media_rate_fraction: u16_at(row, 10),
+                }
+            },
+        )
+        .collect(alloc)?;
+    Ok(entries)
+}
+
+#[tactic(auto, unfolding(crate::specs::Elst::reads_elst_rows))]
+fn read_long(alloc: Global, bytes: &[u8], size: u64) -> Result<ElstBox>
+    ensures { Answers result (reads_elst_rows true bytes.now size) }
+{
+    let (version, flags, rows) = read_table::<20>(bytes, size, TOO_MANY)?;
+    Ok(ElstBox {
+        version,
+        flags,
+        entries: long_entries_of(alloc, rows)?.into(),
+    })
+}
+
+#[tactic(auto, unfolding(crate::specs::Elst::reads_elst_rows))]
+fn read_short(alloc: Global, bytes: &[u8], size: u64) -> Result<ElstBox>
+    ensures { Answers result (reads_elst_rows false bytes.now size) }
+{
+    let (version, flags, rows) = read_table::<12>(bytes, size, TOO_MANY)?;
+    Ok(ElstBox {
+        version,
+        flags,
+        entries: short_entries_of(alloc, rows)?.into(),
+    })
+}
+
+impl ReadBox for ElstBox {
+    ghost reads = { reads_elst };
+
+    #[tactic(auto, unfolding(crate::specs::Elst::reads_elst))]
+    fn read_row(alloc: Global, bytes: &[u8], _start: u64, size: u64) -> Result<ElstBox> {
+        if has_long_rows(bytes) {
+            read_long(alloc, bytes, size)
+        } else {
+            read_short(alloc, bytes, size)
+        }
+    }
+}
+
+impl WriteBox for ElstBox {
+    ghost Writable = { WritableElst };
+
+    ghost bytes = { bytes_elst };
+
+    ghost normal = { normal_elst };
+
+    fn is_writable(&self) -> bool {
+        if self.version == 1 {
+            is_writable_table::<ElstEntry, 20>(
+                0x656c_7374,
+                self.version,
+                self.flags,
+                self.entries.as_slice(),
+            )
+        } else {
+            is_writable_table::<ElstEntry, 12>(
+                0x656c_7374,
+                self.version,
+                self.flags,
+                self.entries.as_slice(),
+            )
+        }
+    }
+
+    #[tactic(auto, unfolding(crate::specs::Elst::bytes_elst, crate::specs::Elst::bytes_elst_rows))]
+    fn put_box(&self, place: &mut [u8]) {
+        if self.version == 1 {
+            put_table::<ElstEntry, 20>(
+                place,
+                0x656c_7374,
+                self.version,
+                self.flags,
+                self.entries.as_slice(),
+            );
+        } else {
+            put_table::<ElstEntry, 12>(
+                place,
+                0x656c_7374,
+                self.version,
+                self.flags,
+                self.entries.as_slice(),
+            );
+        }
+    }
+
+    ghost framed = { framed_elst };
+
+    ghost normal_form = { normal_form_elst };
+}
+
+impl BoxLaws for ElstBox {
+    ghost read_back = { read_back_elst };
+
+    ghost sound = { sound_elst };
+}

@@ -1,0 +1,52 @@
+//! Rows behind the fields of a box.
+
+ghost use Rattle.std.specs.Prelude.{◌≡◌, ◌≤◌, ◌<◌, ◌+◌, IfOk, IfErr, map};
+ghost use Rattle.mp4_frame.specs.Bytes.{number};
+ghost use Rattle.mp4_frame.specs.Reading.{AnswersAs};
+ghost use Rattle.mp4_tables.specs.Rows.{rows_within};
+
+use mp4_frame::{ByteCursor, Error, Result, test, u32_at};
+use std::alloc::Global;
+
+/// The rows of `E` bytes from `at` on, as many as counted, for which a box of this size has room. `too_many` is
+/// the text of the refusal where it hasn't.
+#[tactic(auto, unfolding(crate::specs::Rows::rows_within))]
+pub(crate) fn read_rows<'a, const E: usize>(
+    bytes: &'a [u8],
+    size: u64,
+    at: u64,
+    count: u32,
+    too_many: &'static str,
+) -> Result<&'a [[u8; E]]>
+    requires some { 0 < E }
+    requires short { E ≤ 16 }
+    ensures { AnswersAs (λ rows. rows.now) result (rows_within bytes.now size at E count) }
+{
+    let count = u64::from(count);
+    test(count * E as u64 <= size.saturating_sub(at), too_many)?;
+    let mut reader = ByteCursor::new(bytes);
+    reader.set_position(at);
+    reader.take_rows::<E>(count)
+}
+
+/// The number of four bytes at one place of each row.
+pub(crate) fn numbers_of<const E: usize>(
+    alloc: Global,
+    rows: &[[u8; E]],
+    at: usize,
+) -> Result<Vec<u32>>
+    requires { at + 4 ≤ E }
+    ensures value { IfOk result (λ numbers. numbers.items ≡ map (λ row. number row at 4) rows.now) }
+    ensures memory { IfErr result (λ e. e ≡ Error.OutOfMemory) }
+{
+    let numbers: Vec<u32> = rows
+        .iter()
+        .map(
+            |row: &[u8; E]| -> u32
+                requires { at + 4 ≤ E }
+                ensures { result ≡ number row.now at 4 }
+            { u32_at(row, at) },
+        )
+        .collect(alloc)?;
+    Ok(numbers)
+}

@@ -1,0 +1,219 @@
+//! The sample to chunk box.
+
+ghost use Rattle.std.specs.Prelude.{◌≡◌, ◌-◌, ◌^◌, [], IfOk, IfErr, OnOk, map, min, true, false};
+ghost use Rattle.mp4_frame.specs.Reading.{Invalid, IsFault};
+ghost use Rattle.mp4_frame.specs.declared.box_type.BoxType.TheVariants as names;
+ghost use Rattle.mp4_tables.specs.Chunks.{chunks_fit, numbered, next_sample as sample_after};
+ghost use Rattle.mp4_tables.specs.Stsc.{reads_stsc, size_stsc, WritableStsc, bytes_stsc, normal_stsc};
+ghost use Rattle.mp4_tables.specs.StscEntry.{entry_stsc};
+ghost use Rattle.mp4_tables.specs.StscLaws.{framed_stsc, normal_form_stsc, read_back_stsc, sound_stsc};
+
+use crate::stsc_entry::StscEntry;
+use mp4_frame::{
+    BoxLaws, BoxType, Entries, Error, Mp4Box, ReadBox, Result, WriteBox, is_writable_table,
+    put_table, read_table, table_size, u32_at,
+};
+use std::alloc::Global;
+
+/// In which chunks the samples of a track lie (`stsc`, ISO/IEC 14496-12, 8.7.4). A box whose chunks step back, or
+/// whose first samples pass 2^32 - 1, is neither read nor written.
+#[derive(Debug, Drop, PartialEq, Eq)]
+pub struct StscBox {
+    /// 0 in the standard. Every version is read and written alike.
+    pub version: u8,
+    /// 24 bits, 0 in the standard.
+    pub flags: u32,
+    /// The runs of chunks that hold equally many samples. Their first samples are computed where a box is read,
+    /// and are of no account where it is written.
+    pub entries: Entries<StscEntry>,
+}
+
+impl StscBox {
+    /// Version 0, flags 0 and no entries. No memory is taken.
+    pub fn default_in(alloc: Global) -> StscBox
+        ensures { result ≡ record { version = 0; flags = 0; entries = [] } }
+    {
+        StscBox {
+            version: 0,
+            flags: 0,
+            entries: Entries::new(alloc),
+        }
+    }
+
+    /// An equal box, in memory of its own.
+    pub fn try_clone(&self) -> Result<StscBox>
+        ensures clone { IfOk result (λ clone. clone ≡ self.now) }
+        ensures memory { IfErr result (λ e. e ≡ Error.OutOfMemory) }
+    {
+        Ok(StscBox {
+            version: self.version,
+            flags: self.flags,
+            entries: self.entries.try_clone()?,
+        })
+    }
+
+    /// As `box_type`.
+    pub fn get_type(&self) -> BoxType
+        ensures { result ≡ names.StscBox }
+    {
+        self.box_type()
+    }
+
+    /// As `box_size`.
+    pub fn get_size(&self) -> u64
+        ensures { result ≡ min (size_stsc self.now) (2 ^ 64 - 1) }
+    {
+        self.box_size()
+    }
+}
+
+impl Mp4Box for StscBox {
+    ghost name = { λ _. names.StscBox };
+
+    ghost size = { size_stsc };
+
+    fn box_type(&self) -> BoxType {
+        BoxType::StscBox
+    }
+
+    fn box_size(&self) -> u64 {
+        table_size(self.entries.as_slice())
+    }
+}
+
+fn entries_of(alloc: Global, rows: &[[u8; 12]]) -> Result<Vec<StscEntry>>
+    ensures value { IfOk result (λ entries. entries.items ≡ map entry_stsc rows.now) }
+    ensures memory { IfErr result (λ e. e ≡ Error.OutOfMemory) }
+{
+    let entries: Vec<StscEntry> = rows
+        .iter()
+        .map(
+            |row: &[u8; 12]| -> StscEntry
+                ensures { result ≡ entry_stsc row.now }
+            {
+                StscEntry {
+                    first_chunk: u32_at(row, 0),
+                    samples_per_chunk: u32_at(row, 4),
+                    sample_description_index: u32_at(row, 8),
+                    first_sample: 0,
+                }
+            },
+        )
+        .collect(alloc)?;
+    Ok(entries)
+}
+
+/// The first sample of a run that begins at chunk `first`. The run before begins at `chunk` with this sample, and
+/// has that many in each chunk.
+fn next_sample(sample: u32, chunk: u32, samples: u32, first: u32) -> Option<u32>
+    ensures { result ≡ sample_after sample chunk samples first }
+{
+    let skipped = first.checked_sub(chunk)?;
+    let next = u64::from(sample) + u64::from(skipped) * u64::from(samples);
+    if next >= 1 << 32 {
+        return None;
+    }
+    Some(next as u32)
+}
+
+/// Computes the first samples.
+fn number_samples(entries: &mut [StscEntry]) -> Result<()>
+    ensures ok { OnOk result ((chunks_fit entries.old ≡ true) × (entries.new ≡ numbered entries.old)) }
+    ensures err { IfErr result (λ e. IsFault e Invalid × (chunks_fit entries.old ≡ false)) }
+{
+    let mut sample = 1;
+    let mut chunk = match entries.first() {
+        Some(entry) => entry.first_chunk,
+        None => 0,
+    };
+    let mut samples = 0;
+    for entry in entries.iter_mut() {
+        let Some(next) = next_sample(sample, chunk, samples, entry.first_chunk) else {
+            return Err(Error::InvalidData("attempt to calculate stsc sample_id with overflow"));
+        };
+        entry.first_sample = next;
+        sample = next;
+        chunk = entry.first_chunk;
+        samples = entry.samples_per_chunk;
+    }
+    Ok(())
+}
+
+/// The first samples can be computed.
+fn samples_fit(entries: &[StscEntry]) -> bool
+    ensures { result ≡ chunks_fit entries.now }
+{
+    let mut sample = 1;
+    let mut chunk = match entries.first() {
+        Some(entry) => entry.first_chunk,
+        None => 0,
+    };
+    let mut samples = 0;
+    for entry in entries {
+        let Some(next) = next_sample(sample, chunk, samples, entry.first_chunk) else {
+            return false;
+        };
+        sample = next;
+        chunk = entry.first_chunk;
+        samples = entry.samples_per_chunk;
+    }
+    true
+}
+
+impl ReadBox for StscBox {
+    ghost reads = { reads_stsc };
+
+    #[tactic(auto, unfolding(crate::specs::Stsc::reads_stsc))]
+    fn read_row(alloc: Global, bytes: &[u8], _start: u64, size: u64) -> Result<StscBox> {
+        let (version, flags, rows) = read_table::<12>(
+            bytes,
+            size,
+            "stsc entry_count indicates more entries than could fit in the box",
+        )?;
+        let mut entries = entries_of(alloc, rows)?;
+        number_samples(entries.as_mut_slice())?;
+        Ok(StscBox {
+            version,
+            flags,
+            entries: entries.into(),
+        })
+    }
+}
+
+impl WriteBox for StscBox {
+    ghost Writable = { WritableStsc };
+
+    ghost bytes = { bytes_stsc };
+
+    ghost normal = { normal_stsc };
+
+    fn is_writable(&self) -> bool {
+        is_writable_table(
+            0x7374_7363,
+            self.version,
+            self.flags,
+            self.entries.as_slice(),
+        ) && samples_fit(self.entries.as_slice())
+    }
+
+    #[tactic(auto, unfolding(crate::specs::Stsc::bytes_stsc))]
+    fn put_box(&self, place: &mut [u8]) {
+        put_table(
+            place,
+            0x7374_7363,
+            self.version,
+            self.flags,
+            self.entries.as_slice(),
+        );
+    }
+
+    ghost framed = { framed_stsc };
+
+    ghost normal_form = { normal_form_stsc };
+}
+
+impl BoxLaws for StscBox {
+    ghost read_back = { read_back_stsc };
+
+    ghost sound = { sound_stsc };
+}

@@ -1,0 +1,47 @@
+//! An entry of the sample to chunk box.
+
+ghost use Rattle.std.specs.Prelude.{◌↔◌, IsTrue};
+ghost use Rattle.mp4_tables.specs.StscEntry.{row_stsc, FitsStscEntry};
+
+use mp4_frame::{TableEntry, put_u32};
+
+/// A run of chunks that hold equally many samples (ISO/IEC 14496-12, 8.7.4).
+#[derive(Clone, Copy, Debug, Default, PartialEq, Eq)]
+pub struct StscEntry {
+    /// The number of the run's first chunk, counted from 1 in the standard. The run goes up to the next entry's.
+    pub first_chunk: u32,
+    /// How many samples each chunk of the run holds.
+    pub samples_per_chunk: u32,
+    /// The sample entry that the samples use, counted from 1.
+    pub sample_description_index: u32,
+    /// The number of the run's first sample, counted from 1. It is computed where a box is read, and isn't
+    /// written.
+    pub first_sample: u32,
+}
+
+/// Every entry has. A value that is passed has the ranges of its types.
+fn has_fitting_numbers(entry: StscEntry) -> bool
+    ensures { IsTrue result ↔ FitsStscEntry entry }
+{
+    let _entry = entry;
+    true
+}
+
+impl TableEntry<12> for StscEntry {
+    ghost row_of = { row_stsc };
+
+    ghost Fits = { FitsStscEntry };
+
+    #[tactic(auto, unfolding(mp4_frame::specs::Bytes::joined, mp4_frame::specs::Bytes::joined_onto))]
+    fn to_row(&self) -> [u8; 12] {
+        let mut row = [0; 12];
+        let at = put_u32(&mut row, 0, self.first_chunk);
+        let at = put_u32(&mut row, at, self.samples_per_chunk);
+        put_u32(&mut row, at, self.sample_description_index);
+        row
+    }
+
+    fn fits(&self) -> bool {
+        has_fitting_numbers(*self)
+    }
+}

@@ -1,0 +1,174 @@
+//! The sample size box.
+
+ghost use Rattle.std.specs.Prelude.{◌≡◌, ◌-◌, ◌^◌, [], IfOk, IfErr, min};
+ghost use Rattle.mp4_frame.specs.Reading.{AnswersAs};
+ghost use Rattle.mp4_frame.specs.declared.box_type.BoxType.TheVariants as names;
+ghost use Rattle.mp4_tables.specs.Stsz.{reads_sizes, count_of_sizes, reads_stsz, size_stsz, WritableStsz, bytes_stsz, normal_stsz};
+ghost use Rattle.mp4_tables.specs.StszLaws.{framed_stsz, normal_form_stsz, read_back_stsz, sound_stsz};
+
+use crate::rows::{numbers_of, read_rows};
+use mp4_frame::{
+    BoxLaws, BoxType, Entries, Error, Mp4Box, ReadBox, Result, WriteBox, all_fit, fields,
+    put_entries, put_u8, put_u24, put_u32, u8_at, u24_at, u32_at,
+};
+use std::alloc::Global;
+
+/// The sizes of the samples of a track (`stsz`, ISO/IEC 14496-12, 8.7.3.2). It is written only where its list is
+/// as long as its count if `sample_size` is 0, and is empty if not.
+#[derive(Debug, Drop, PartialEq, Eq)]
+pub struct StszBox {
+    /// 0 in the standard. Every version is read and written alike.
+    pub version: u8,
+    /// 24 bits, 0 in the standard.
+    pub flags: u32,
+    /// The size of every sample, in bytes, or 0 where each has a size of its own.
+    pub sample_size: u32,
+    /// How many samples the track has.
+    pub sample_count: u32,
+    /// The size of each sample, in bytes, where `sample_size` is 0.
+    pub sample_sizes: Entries<u32>,
+}
+
+impl StszBox {
+    /// Version 0, flags 0, sample size 0 and no samples. No memory is taken.
+    pub fn default_in(alloc: Global) -> StszBox
+        ensures { result ≡ record { version = 0; flags = 0; sample_size = 0; sample_count = 0; sample_sizes = [] } }
+    {
+        StszBox {
+            version: 0,
+            flags: 0,
+            sample_size: 0,
+            sample_count: 0,
+            sample_sizes: Entries::new(alloc),
+        }
+    }
+
+    /// An equal box, in memory of its own.
+    pub fn try_clone(&self) -> Result<StszBox>
+        ensures clone { IfOk result (λ clone. clone ≡ self.now) }
+        ensures memory { IfErr result (λ e. e ≡ Error.OutOfMemory) }
+    {
+        Ok(StszBox {
+            version: self.version,
+            flags: self.flags,
+            sample_size: self.sample_size,
+            sample_count: self.sample_count,
+            sample_sizes: self.sample_sizes.try_clone()?,
+        })
+    }
+
+    /// As `box_type`.
+    pub fn get_type(&self) -> BoxType
+        ensures { result ≡ names.StszBox }
+    {
+        self.box_type()
+    }
+
+    /// As `box_size`.
+    pub fn get_size(&self) -> u64
+        ensures { result ≡ min (size_stsz self.now) (2 ^ 64 - 1) }
+    {
+        self.box_size()
+    }
+}
+
+/// How many sizes the list has.
+fn listed_count(sample_size: u32, sample_count: u32) -> usize
+    ensures { result ≡ count_of_sizes sample_size sample_count }
+{
+    if sample_size == 0 {
+        sample_count as usize
+    } else {
+        0
+    }
+}
+
+impl Mp4Box for StszBox {
+    ghost name = { λ _. names.StszBox };
+
+    ghost size = { size_stsz };
+
+    fn box_type(&self) -> BoxType {
+        BoxType::StszBox
+    }
+
+    fn box_size(&self) -> u64 {
+        (self.sample_sizes.len() as u64)
+            .saturating_mul(4)
+            .saturating_add(20)
+    }
+}
+
+#[tactic(auto, unfolding(crate::specs::Stsz::reads_sizes))]
+fn read_sizes(alloc: Global, bytes: &[u8], size: u64, count: u32) -> Result<Vec<u32>>
+    ensures { AnswersAs (λ sizes. sizes.items) result (reads_sizes bytes.now size count) }
+{
+    let rows = read_rows::<4>(
+        bytes,
+        size,
+        20,
+        count,
+        "stsz sample_count indicates more values than could fit in the box",
+    )?;
+    numbers_of(alloc, rows, 0)
+}
+
+impl ReadBox for StszBox {
+    ghost reads = { reads_stsz };
+
+    #[tactic(auto, unfolding(crate::specs::Stsz::reads_stsz))]
+    fn read_row(alloc: Global, bytes: &[u8], _start: u64, size: u64) -> Result<StszBox> {
+        fields(bytes, 8, 12)?;
+        let sample_size = u32_at(bytes, 12);
+        let sample_count = u32_at(bytes, 16);
+        let sample_sizes = if sample_size == 0 {
+            read_sizes(alloc, bytes, size, sample_count)?
+        } else {
+            Vec::new(alloc)
+        };
+        Ok(StszBox {
+            version: u8_at(bytes, 8),
+            flags: u24_at(bytes, 9),
+            sample_size,
+            sample_count,
+            sample_sizes: sample_sizes.into(),
+        })
+    }
+}
+
+impl WriteBox for StszBox {
+    ghost Writable = { WritableStsz };
+
+    ghost bytes = { bytes_stsz };
+
+    ghost normal = { normal_stsz };
+
+    fn is_writable(&self) -> bool {
+        let _version = self.version;
+        self.flags < 1 << 24
+            && self.box_size() < 1 << 32
+            && self.sample_sizes.len() == listed_count(self.sample_size, self.sample_count)
+            && all_fit(self.sample_sizes.as_slice())
+    }
+
+    #[tactic(auto, unfolding(crate::specs::Stsz::bytes_stsz, mp4_frame::specs::Bytes::joined, mp4_frame::specs::Bytes::joined_onto))]
+    fn put_box(&self, place: &mut [u8]) {
+        let at = put_u32(place, 0, self.box_size() as u32);
+        let at = put_u32(place, at, 0x7374_737a);
+        let at = put_u8(place, at, self.version);
+        let at = put_u24(place, at, self.flags);
+        let at = put_u32(place, at, self.sample_size);
+        let at = put_u32(place, at, self.sample_count);
+        put_entries(place, at, self.sample_sizes.as_slice());
+    }
+
+    ghost framed = { framed_stsz };
+
+    ghost normal_form = { normal_form_stsz };
+}
+
+impl BoxLaws for StszBox {
+    ghost read_back = { read_back_stsz };
+
+    ghost sound = { sound_stsz };
+}

@@ -1,0 +1,154 @@
+//! The decoding time to sample box.
+
+ghost use Rattle.std.specs.Prelude.{◌≡◌, ◌-◌, ◌^◌, [], IfOk, IfErr, map, min};
+ghost use Rattle.mp4_frame.specs.declared.box_type.BoxType.TheVariants as names;
+ghost use Rattle.mp4_tables.specs.Stts.{reads_stts, size_stts, WritableStts, bytes_stts, normal_stts};
+ghost use Rattle.mp4_tables.specs.SttsEntry.{entry_stts};
+ghost use Rattle.mp4_tables.specs.SttsLaws.{framed_stts, normal_form_stts, read_back_stts, sound_stts};
+
+use crate::stts_entry::SttsEntry;
+use mp4_frame::{
+    BoxLaws, BoxType, Entries, Error, Mp4Box, ReadBox, Result, WriteBox, is_writable_table,
+    put_table, read_table, table_size, u32_at,
+};
+use std::alloc::Global;
+
+/// How long the samples of a track last (`stts`, ISO/IEC 14496-12, 8.6.1.2).
+#[derive(Debug, Drop, PartialEq, Eq)]
+pub struct SttsBox {
+    /// 0 in the standard. Every version is read and written alike.
+    pub version: u8,
+    /// 24 bits, 0 in the standard.
+    pub flags: u32,
+    /// The runs of samples of one duration, in decoding order.
+    pub entries: Entries<SttsEntry>,
+}
+
+impl SttsBox {
+    /// Version 0, flags 0 and no entries. No memory is taken.
+    pub fn default_in(alloc: Global) -> SttsBox
+        ensures { result ≡ record { version = 0; flags = 0; entries = [] } }
+    {
+        SttsBox {
+            version: 0,
+            flags: 0,
+            entries: Entries::new(alloc),
+        }
+    }
+
+    /// An equal box, in memory of its own.
+    pub fn try_clone(&self) -> Result<SttsBox>
+        ensures clone { IfOk result (λ clone. clone ≡ self.now) }
+        ensures memory { IfErr result (λ e. e ≡ Error.OutOfMemory) }
+    {
+        Ok(SttsBox {
+            version: self.version,
+            flags: self.flags,
+            entries: self.entries.try_clone()?,
+        })
+    }
+
+    /// As `box_type`.
+    pub fn get_type(&self) -> BoxType
+        ensures { result ≡ names.SttsBox }
+    {
+        self.box_type()
+    }
+
+    /// As `box_size`.
+    pub fn get_size(&self) -> u64
+        ensures { result ≡ min (size_stts self.now) (2 ^ 64 - 1) }
+    {
+        self.box_size()
+    }
+}
+
+impl Mp4Box for SttsBox {
+    ghost name = { λ _. names.SttsBox };
+
+    ghost size = { size_stts };
+
+    fn box_type(&self) -> BoxType {
+        BoxType::SttsBox
+    }
+
+    fn box_size(&self) -> u64 {
+        table_size(self.entries.as_slice())
+    }
+}
+
+fn entries_of(alloc: Global, rows: &[[u8; 8]]) -> Result<Vec<SttsEntry>>
+    ensures value { IfOk result (λ entries. entries.items ≡ map entry_stts rows.now) }
+    ensures memory { IfErr result (λ e. e ≡ Error.OutOfMemory) }
+{
+    let entries: Vec<SttsEntry> = rows
+        .iter()
+        .map(
+            |row: &[u8; 8]| -> SttsEntry
+                ensures { result ≡ entry_stts row.now }
+            {
+                SttsEntry {
+                    sample_count: u32_at(row, 0),
+                    sample_delta: u32_at(row, 4),
+                }
+            },
+        )
+        .collect(alloc)?;
+    Ok(entries)
+}
+
+impl ReadBox for SttsBox {
+    ghost reads = { reads_stts };
+
+    #[tactic(auto, unfolding(crate::specs::Stts::reads_stts))]
+    fn read_row(alloc: Global, bytes: &[u8], _start: u64, size: u64) -> Result<SttsBox> {
+        let (version, flags, rows) = read_table::<8>(
+            bytes,
+            size,
+            "stts entry_count indicates more entries than could fit in the box",
+        )?;
+        Ok(SttsBox {
+            version,
+            flags,
+            entries: entries_of(alloc, rows)?.into(),
+        })
+    }
+}
+
+impl WriteBox for SttsBox {
+    ghost Writable = { WritableStts };
+
+    ghost bytes = { bytes_stts };
+
+    ghost normal = { normal_stts };
+
+    fn is_writable(&self) -> bool {
+        is_writable_table(
+            0x7374_7473,
+            self.version,
+            self.flags,
+            self.entries.as_slice(),
+        )
+    }
+
+    #[tactic(auto, unfolding(crate::specs::Stts::bytes_stts))]
+    fn put_box(&self, place: &mut [u8]) {
+        put_table(
+            place,
+            0x7374_7473,
+            self.version,
+            self.flags,
+            self.entries.as_slice(),
+        );
+    }
+
+    ghost framed = { framed_stts };
+
+    ghost normal_form = { normal_form_stts };
+}
+
+impl BoxLaws for SttsBox {
+    ghost read_back = { read_back_stts };
+
+    ghost sound = { sound_stts };
+}

@@ -1,0 +1,183 @@
+//! The track fragment header box.
+
+ghost use Rattle.std.specs.Prelude.{◌≡◌, ◌≤◌, ◌-◌, ◌^◌, ◌↔◌, min, IsTrue};
+ghost use Rattle.mp4_frame.specs.declared.box_type.BoxType.TheVariants as names;
+ghost use Rattle.mp4_tables.specs.Tfhd.{end_at as end_place, reads_tfhd, size_tfhd, FlaggedTfhd, WritableTfhd, bytes_tfhd, normal_tfhd};
+ghost use Rattle.mp4_tables.specs.TfhdLaws.{framed_tfhd, normal_form_tfhd, read_back_tfhd, sound_tfhd};
+
+use crate::flagged::{
+    is_set, put_optional_u32, put_optional_u64, stands_u32, stands_u64, u32_if, u64_if, width_if,
+};
+use mp4_frame::{
+    BoxLaws, BoxType, Mp4Box, ReadBox, Result, WriteBox, fields, put_u8, put_u24, put_u32, u8_at,
+    u24_at, u32_at,
+};
+use std::alloc::Global;
+
+/// What the samples of a track fragment have in common (`tfhd`, ISO/IEC 14496-12, 8.8.7). It is written only
+/// where each optional field is there exactly if its flag is set.
+#[derive(Clone, Debug, Default, Drop, PartialEq, Eq)]
+pub struct TfhdBox {
+    /// 0 in the standard. Every version is read and written alike.
+    pub version: u8,
+    /// 24 bits, which say which of the optional fields are there.
+    pub flags: u32,
+    /// The number of the track, from 1 on in the standard.
+    pub track_id: u32,
+    /// The place in the file that data offsets count from, in bytes.
+    pub base_data_offset: Option<u64>,
+    /// The sample entry that the samples use, counted from 1.
+    pub sample_description_index: Option<u32>,
+    /// How long a sample lasts, in the time units of the track's media.
+    pub default_sample_duration: Option<u32>,
+    /// The size of a sample, in bytes.
+    pub default_sample_size: Option<u32>,
+    /// What a sample depends on, and whether it is a sync sample (8.8.3).
+    pub default_sample_flags: Option<u32>,
+}
+
+impl TfhdBox {
+    /// The flag of `base_data_offset`.
+    pub const FLAG_BASE_DATA_OFFSET: u32 = 0x01;
+    /// The flag of `sample_description_index`.
+    pub const FLAG_SAMPLE_DESCRIPTION_INDEX: u32 = 0x02;
+    /// The flag of `default_sample_duration`.
+    pub const FLAG_DEFAULT_SAMPLE_DURATION: u32 = 0x08;
+    /// The flag of `default_sample_size`.
+    pub const FLAG_DEFAULT_SAMPLE_SIZE: u32 = 0x10;
+    /// The flag of `default_sample_flags`.
+    pub const FLAG_DEFAULT_SAMPLE_FLAGS: u32 = 0x20;
+
+    /// As `box_type`.
+    pub fn get_type(&self) -> BoxType
+        ensures { result ≡ names.TfhdBox }
+    {
+        self.box_type()
+    }
+
+    /// As `box_size`.
+    pub fn get_size(&self) -> u64
+        ensures { result ≡ min (size_tfhd self.now) (2 ^ 64 - 1) }
+    {
+        self.box_size()
+    }
+}
+
+/// The place behind the flagged fields.
+fn end_at(flags: u32) -> usize
+    ensures place { result ≡ end_place flags }
+    ensures most { result ≤ 40 }
+{
+    let index_at = 16 + width_if(is_set(flags, TfhdBox::FLAG_BASE_DATA_OFFSET), 8);
+    let duration_at = index_at + width_if(is_set(flags, TfhdBox::FLAG_SAMPLE_DESCRIPTION_INDEX), 4);
+    let size_at = duration_at + width_if(is_set(flags, TfhdBox::FLAG_DEFAULT_SAMPLE_DURATION), 4);
+    let flags_at = size_at + width_if(is_set(flags, TfhdBox::FLAG_DEFAULT_SAMPLE_SIZE), 4);
+    flags_at + width_if(is_set(flags, TfhdBox::FLAG_DEFAULT_SAMPLE_FLAGS), 4)
+}
+
+/// Each flagged field is there exactly where its flag is set.
+fn has_flagged_fields(tfhd: &TfhdBox) -> bool
+    ensures { IsTrue result ↔ FlaggedTfhd tfhd.now }
+{
+    let flags = tfhd.flags;
+    stands_u64(
+        is_set(flags, TfhdBox::FLAG_BASE_DATA_OFFSET),
+        tfhd.base_data_offset,
+    ) && stands_u32(
+        is_set(flags, TfhdBox::FLAG_SAMPLE_DESCRIPTION_INDEX),
+        tfhd.sample_description_index,
+    ) && stands_u32(
+        is_set(flags, TfhdBox::FLAG_DEFAULT_SAMPLE_DURATION),
+        tfhd.default_sample_duration,
+    ) && stands_u32(
+        is_set(flags, TfhdBox::FLAG_DEFAULT_SAMPLE_SIZE),
+        tfhd.default_sample_size,
+    ) && stands_u32(
+        is_set(flags, TfhdBox::FLAG_DEFAULT_SAMPLE_FLAGS),
+        tfhd.default_sample_flags,
+    )
+}
+
+impl Mp4Box for TfhdBox {
+    ghost name = { λ _. names.TfhdBox };
+
+    ghost size = { size_tfhd };
+
+    fn box_type(&self) -> BoxType {
+        BoxType::TfhdBox
+    }
+
+    fn box_size(&self) -> u64 {
+        end_at(self.flags) as u64
+    }
+}
+
+impl ReadBox for TfhdBox {
+    ghost reads = { reads_tfhd };
+
+    #[tactic(auto, unfolding(crate::specs::Tfhd::reads_tfhd))]
+    fn read_row(_alloc: Global, bytes: &[u8], _start: u64, _size: u64) -> Result<TfhdBox> {
+        fields(bytes, 8, 8)?;
+        let flags = u24_at(bytes, 9);
+        let has_base = is_set(flags, Self::FLAG_BASE_DATA_OFFSET);
+        let has_index = is_set(flags, Self::FLAG_SAMPLE_DESCRIPTION_INDEX);
+        let has_duration = is_set(flags, Self::FLAG_DEFAULT_SAMPLE_DURATION);
+        let has_size = is_set(flags, Self::FLAG_DEFAULT_SAMPLE_SIZE);
+        let has_flags = is_set(flags, Self::FLAG_DEFAULT_SAMPLE_FLAGS);
+        let index_at = 16 + width_if(has_base, 8);
+        let duration_at = index_at + width_if(has_index, 4);
+        let size_at = duration_at + width_if(has_duration, 4);
+        let flags_at = size_at + width_if(has_size, 4);
+        let end = flags_at + width_if(has_flags, 4);
+        fields(bytes, 16, end - 16)?;
+        Ok(TfhdBox {
+            version: u8_at(bytes, 8),
+            flags,
+            track_id: u32_at(bytes, 12),
+            base_data_offset: u64_if(bytes, 16, has_base),
+            sample_description_index: u32_if(bytes, index_at, has_index),
+            default_sample_duration: u32_if(bytes, duration_at, has_duration),
+            default_sample_size: u32_if(bytes, size_at, has_size),
+            default_sample_flags: u32_if(bytes, flags_at, has_flags),
+        })
+    }
+}
+
+impl WriteBox for TfhdBox {
+    ghost Writable = { WritableTfhd };
+
+    ghost bytes = { bytes_tfhd };
+
+    ghost normal = { normal_tfhd };
+
+    #[tactic(auto, using(crate::specs::TfhdLaws::tfhd_is_short))]
+    fn is_writable(&self) -> bool {
+        let _version = self.version;
+        let _track_id = self.track_id;
+        self.flags < 1 << 24 && has_flagged_fields(self)
+    }
+
+    #[tactic(auto, using(crate::specs::FlaggedLaws::length_optional), unfolding(crate::specs::Tfhd::bytes_tfhd, mp4_frame::specs::Bytes::joined, mp4_frame::specs::Bytes::joined_onto))]
+    fn put_box(&self, place: &mut [u8]) {
+        let at = put_u32(place, 0, self.box_size() as u32);
+        let at = put_u32(place, at, 0x7466_6864);
+        let at = put_u8(place, at, self.version);
+        let at = put_u24(place, at, self.flags);
+        let at = put_u32(place, at, self.track_id);
+        let at = put_optional_u64(place, at, self.base_data_offset);
+        let at = put_optional_u32(place, at, self.sample_description_index);
+        let at = put_optional_u32(place, at, self.default_sample_duration);
+        let at = put_optional_u32(place, at, self.default_sample_size);
+        put_optional_u32(place, at, self.default_sample_flags);
+    }
+
+    ghost framed = { framed_tfhd };
+
+    ghost normal_form = { normal_form_tfhd };
+}
+
+impl BoxLaws for TfhdBox {
+    ghost read_back = { read_back_tfhd };
+
+    ghost sound = { sound_tfhd };
+}

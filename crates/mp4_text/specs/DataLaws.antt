@@ -1,0 +1,60 @@
+-- The laws of data.
+use Rattle.std.proofs.Common.{◌≡◌, ℕ, ◌+◌, ◌-◌, ◌<◌, ◌≤◌, ◌^◌, Bool, true, leb, List, [], ◌∷◌, ◌++◌, length, Option, Some, None, Result, Ok, refl, sym, ap, ◌∙◌, subst, arith, length-append, append_assoc, lit<, lit≤}
+use Rattle.std.proofs.lemmas.Bool.{le-leb}
+use Rattle.std.specs.Prelude.{nat_le}
+use Rattle.mp4_frame.specs.Bytes.{number, joined, Fit}
+use Rattle.mp4_frame.specs.Laws.{Framed, Normal, RowReadsBack, RowIsSound, AreBytes}
+use Rattle.mp4_frame.specs.Reading.{Reading, Fault, ◌>>=◌, fields, test, piece_from, memory, done}
+use Rattle.mp4_frame.specs.declared.box_type.BoxType.TheVariants as names
+use Rattle.mp4_frame.proofs.Columns.{found, fields-joined, length-joined, number-joined}
+use Rattle.mp4_frame.proofs.Stands.{fields_ok, test_ok, is_value, piece_back}
+use Rattle.mp4_frame.proofs.Tables.{value_first}
+use Rattle.mp4_media.specs.DataType.{data_type_of, number_data_type}
+use Rattle.mp4_media.specs.declared.data_type.DataType.{DataType}
+use Rattle.mp4_media.specs.declared.data_type.DataType.TheVariants as types
+use Rattle.mp4_text.specs.Data.{known_type, reads_data, size_data, columns_data, WritableData, bytes_data, normal_data}
+use Rattle.mp4_text.specs.declared.data.DataBox.{DataBox}
+
+pub framed_data : (v : DataBox) → WritableData v → Framed (size_data v) names.DataBox (bytes_data v)
+unfolding bytes_data
+framed_data v w =
+    let cs = columns_data v in
+    record {
+      long = omega (arith, length-append (joined cs) v.data_bytes, length-joined cs);
+      least = omega arith;
+      most = w.0;
+      size_first = number-joined cs v.data_bytes 0 4 w;
+      code_next = number-joined cs v.data_bytes 4 4 w;
+    }
+
+pub normal_form_data : (v : DataBox) → WritableData v → Normal WritableData bytes_data normal_data v
+normal_form_data v w = record { writable = w; again = refl; same_bytes = refl }
+
+type_back : (data_type : DataType) → data_type_of (number_data_type data_type) ≡ Some data_type
+unfolding data_type_of
+type_back types.Binary = refl
+type_back types.Text = refl
+type_back types.Image = refl
+type_back types.TempoCpil = refl
+
+pub read_back_data : (v : DataBox) → WritableData v → RowReadsBack reads_data (bytes_data v) (size_data v) (normal_data v)
+unfolding bytes_data reads_data
+read_back_data v w rest start top =
+    let cs = columns_data v in
+    let tail = v.data_bytes ++ rest in
+    let B = joined cs ++ tail in
+    let n = length v.data_bytes in
+    let enough : nat_le 16 (16 + n) ≡ true = le-leb 16 (16 + n) (omega arith) in
+    let long : 16 + n - 16 ≡ n = omega arith in
+    let number : data_type_of (number B 8 4) ≡ Some v.data_type = ap data_type_of (number-joined cs tail 8 4 w) ∙ type_back v.data_type in
+    let whole : (reads_data B start (size_data v)).outcome ≡ Ok v = rw (fields-joined cs tail 8 4 (lit≤ tt), number, fields-joined cs tail 12 4 (lit≤ tt), enough, long, piece_back (joined cs) v.data_bytes rest 16 (length-joined cs)) refl in
+    ap (λ (l : List ℕ). (reads_data l start (size_data v)).outcome) (append_assoc (joined cs) v.data_bytes rest) ∙ whole
+
+small_number : (data_type : DataType) → number_data_type data_type < 256 ^ 4
+small_number types.Binary = lit< tt
+small_number types.Text = lit< tt
+small_number types.Image = lit< tt
+small_number types.TempoCpil = lit< tt
+
+pub sound_data : RowIsSound reads_data WritableData size_data normal_data
+sound_data bytes start long v are e = (refl, λ small. (small, (lit< tt, (small_number v.data_type, (lit< tt, tt)))))

@@ -1,0 +1,83 @@
+-- The laws of dref, from those of url alone.
+use Rattle.std.proofs.Common.{◌≡◌, ℕ, ◌+◌, ◌<◌, ◌^◌, List, [], ◌∷◌, ◌++◌, length, Ok, Option, Some, refl, sym, ap, subst, ◌∙◌, arith, length-append, append_assoc, lit<, lit≤}
+use Rattle.mp4_frame.specs.Bytes.{number, joined, Fit}
+use Rattle.mp4_frame.specs.Children.{children}
+use Rattle.mp4_frame.specs.Laws.{Framed, Normal, RowReadsBack, RowIsSound, AreBytes}
+use Rattle.mp4_frame.specs.Reading.{Reading, ◌>>=◌, fields, done}
+use Rattle.mp4_frame.specs.declared.box_type.BoxType.TheVariants as names
+use Rattle.mp4_frame.proofs.Columns.{found, numbers-joined, fields-joined, length-joined, number-joined, number-below}
+use Rattle.mp4_frame.proofs.Decided.{outcome_bind}
+use Rattle.mp4_frame.proofs.Stands.{fields_ok, is_value}
+use Rattle.mp4_frame.proofs.Tables.{value_first}
+use Rattle.mp4_text.specs.ChildLaws.{IsChild}
+use Rattle.mp4_text.specs.ChildLaws as child
+use Rattle.mp4_text.specs.OptionalChild.{count_optional, size_optional, WritableOptional, bytes_optional, normal_optional}
+use Rattle.mp4_text.specs.Url.{reads_url, size_url, WritableUrl, bytes_url, normal_url}
+use Rattle.mp4_text.specs.UrlLaws.{laws_url}
+use Rattle.mp4_text.specs.Dref.{value_dref, reads_dref, size_dref, columns_dref, WritableDref, bytes_dref, normal_dref}
+use Rattle.mp4_text.specs.declared.dref.DrefBox.{DrefBox}
+use Rattle.mp4_text.specs.declared.url.UrlBox.{UrlBox}
+
+pub framed_dref : (v : DrefBox) → WritableDref v → Framed (size_dref v) names.DrefBox (bytes_dref v)
+unfolding bytes_dref
+framed_dref v w =
+    let cs = columns_dref v in
+    let entry = bytes_optional bytes_url v.url in
+    let long : length entry ≡ size_optional size_url v.url = child.optional_long laws_url v.url w.entry in
+    record {
+      long = omega (arith, length-append (joined cs) entry, length-joined cs, long);
+      least = omega arith;
+      most = w.fit.0;
+      size_first = number-joined cs entry 0 4 w.fit;
+      code_next = number-joined cs entry 4 4 w.fit;
+    }
+
+same_columns : (v : DrefBox) → WritableDref v → columns_dref (normal_dref v) ≡ columns_dref v
+same_columns v w =
+    let size = child.optional_size laws_url v.url w.entry in
+    let count = child.optional_count laws_url v.url in
+    rw (size, count) refl
+
+pub normal_form_dref : (v : DrefBox) → WritableDref v → Normal WritableDref bytes_dref normal_dref v
+unfolding bytes_dref
+normal_form_dref v w =
+    let same = same_columns v w in
+    record {
+      writable = record { fit = subst Fit (sym same) w.fit; entry = child.optional_writable laws_url v.url w.entry };
+      again = ap (λ (url : Option UrlBox). record v { url = url }) (child.optional_again laws_url v.url w.entry);
+      same_bytes = ap (λ (cs : List (ℕ × ℕ)). joined cs ++ bytes_optional bytes_url (normal_optional normal_url v.url)) same ∙ ap (λ (xs : List ℕ). joined (columns_dref v) ++ xs) (child.optional_bytes laws_url v.url w.entry);
+    }
+
+pub read_back_dref : (v : DrefBox) → WritableDref v → RowReadsBack reads_dref (bytes_dref v) (size_dref v) (normal_dref v)
+unfolding bytes_dref reads_dref
+read_back_dref v w rest start top =
+    let cs = columns_dref v in
+    let entry = bytes_optional bytes_url v.url in
+    let B = joined cs ++ (entry ++ rest) in
+    let numbers : number B ≡ found cs (entry ++ rest) = numbers-joined cs (entry ++ rest) w.fit in
+    let count : number B 12 4 ≡ count_optional v.url = ap (λ (n : ℕ → ℕ → ℕ). n 12 4) numbers in
+    let chain = λ (n : ℕ). children reads_url 0x75726c20 B start (size_dref v) n 16 in
+    let back = child.optional_back laws_url cs 16 (length-joined cs) v.url rest start w.entry top in
+    let there : (chain (number B 12 4)).outcome ≡ Ok (normal_optional normal_url v.url) = ap (λ (n : ℕ). (chain n).outcome) count ∙ back in
+    ap (λ (l : List ℕ). (reads_dref l start (size_dref v)).outcome) (append_assoc (joined cs) entry rest)
+    ∙ outcome_bind (fields B 8 8) (λ _. chain (number B 12 4) >>= λ url. done (value_dref (number B) url)) tt _ (ap (λ (r : Reading (Unit {0})). r.outcome) (fields-joined cs (entry ++ rest) 8 8 (lit≤ tt)))
+    (outcome_bind (chain (number B 12 4)) (λ url. done (value_dref (number B) url)) (normal_optional normal_url v.url) _ there (ap (λ (n : ℕ → ℕ → ℕ). Ok (value_dref n (normal_optional normal_url v.url))) numbers))
+
+small_count : (url : Option UrlBox) → count_optional url < 256 ^ 4
+small_count (Some url) = lit< tt
+small_count _ = lit< tt
+
+pub sound_dref : RowIsSound reads_dref WritableDref size_dref normal_dref
+unfolding reads_dref
+sound_dref bytes start long v are e =
+    let chain = children reads_url 0x75726c20 bytes start long (number bytes 12 4) 16 in
+    let last = λ (url : Option UrlBox). done (value_dref (number bytes) url) in
+    let p = value_first chain last v (fields_ok bytes 8 8 (λ _. chain >>= last) v e) in
+    let entry = child.optional_sound laws_url 0x75726c20 bytes start long (number bytes 12 4) 16 p.0 are p.1 in
+    let made : DrefBox = value_dref (number bytes) p.0 in
+    let settled : normal_dref made ≡ made = ap (λ (url : Option UrlBox). record made { url = url }) entry.0 in
+    let can : size_dref made < 2 ^ 32 → WritableDref made = λ small. record { fit = (small, (lit< tt, (number-below bytes 8 1 are, (number-below bytes 9 3 are, (small_count p.0, tt))))); entry = entry.1 (omega (arith, small)) } in
+    subst (λ (w : DrefBox). (normal_dref w ≡ w) × (size_dref w < 2 ^ 32 → WritableDref w)) (is_value made v p.2) (settled, can)
+
+pub laws_dref : IsChild reads_dref size_dref WritableDref bytes_dref normal_dref names.DrefBox
+laws_dref = record { framed = framed_dref; normal_form = normal_form_dref; read_back = read_back_dref; sound = sound_dref }

@@ -1,0 +1,103 @@
+-- emsg, an event message (ISO/IEC 23009-1, 5.10.3.3): version of 1 byte at 8, which is 0 or 1, and flags of 3 at 9.
+-- Version 0 has two texts from 12 on and then the numbers timescale, time delta, event duration and id, of 4 bytes
+-- each; version 1 has the numbers at 12, with a time of 8 bytes, and the texts from 32 on. Behind them the message
+-- goes up to the end.
+use Rattle.std.specs.Prelude.{◌≡◌, ℕ, ◌+◌, ◌-◌, ◌==◌, ◌&&◌, nat_le, Bool, true, List, [], ◌∷◌, ◌++◌, length, drop, Option, Some, None, is_some, unwrap_or, if◌then◌else◌}
+use Rattle.mp4_frame.specs.Bytes.{number, joined, Fit}
+use Rattle.mp4_frame.specs.Reading.{Reading, Invalid, ◌>>=◌, fields, test, piece_from, memory, done, faults}
+use Rattle.mp4_text.specs.Terminated.{terminated_text, terminated, IsTerminable}
+use Rattle.mp4_text.specs.declared.emsg.EmsgBox.{EmsgBox}
+
+-- two texts, one behind the other
+unfoldable pub two_texts : List ℕ → ℕ → Reading (List ℕ × List ℕ)
+two_texts bytes o = do
+  first ← terminated_text bytes o
+  second ← terminated_text bytes (o + length first + 1)
+  done (first, second)
+
+-- the place behind two texts from o on
+abbrev pub behind : ℕ → List ℕ × List ℕ → ℕ
+behind o texts = o + length texts.0 + length texts.1 + 2
+
+-- the message from o on, in a box of this size
+unfoldable pub message_from : List ℕ → ℕ → ℕ → Reading (List ℕ)
+message_from bytes size o = do
+  _ ← test (nat_le o size)
+  message ← piece_from bytes o (size - o)
+  _ ← memory
+  done message
+
+-- the value in version 0, by the number of w bytes at o of the box and of the numbers
+abbrev pub value_0 : (ℕ → ℕ → ℕ) → (ℕ → ℕ → ℕ) → List ℕ × List ℕ → List ℕ → EmsgBox
+value_0 n numbers texts message = record { version = n 8 1; flags = n 9 3; timescale = numbers 0 4; presentation_time = None; presentation_time_delta = Some (numbers 4 4); event_duration = numbers 8 4; id = numbers 12 4; scheme_id_uri = texts.0; value = texts.1; message_data = message }
+
+-- the value in version 1
+abbrev pub value_1 : (ℕ → ℕ → ℕ) → (ℕ → ℕ → ℕ) → List ℕ × List ℕ → List ℕ → EmsgBox
+value_1 n numbers texts message = record { version = n 8 1; flags = n 9 3; timescale = numbers 0 4; presentation_time = Some (numbers 4 8); presentation_time_delta = None; event_duration = numbers 12 4; id = numbers 16 4; scheme_id_uri = texts.0; value = texts.1; message_data = message }
+
+unfoldable pub reads_0 : List ℕ → ℕ → Reading EmsgBox
+reads_0 bytes size = do
+  texts ← two_texts bytes 12
+  _ ← fields bytes (behind 12 texts) 16
+  message ← message_from bytes size (behind 12 texts + 16)
+  done (value_0 (number bytes) (number (drop (behind 12 texts) bytes)) texts message)
+
+unfoldable pub reads_1 : List ℕ → ℕ → Reading EmsgBox
+reads_1 bytes size = do
+  _ ← fields bytes 12 20
+  texts ← two_texts bytes 32
+  message ← message_from bytes size (behind 32 texts)
+  done (value_1 (number bytes) (number (drop 12 bytes)) texts message)
+
+-- what follows version and flags
+abbrev pub reads_version : ℕ → List ℕ → ℕ → Reading EmsgBox
+reads_version version bytes size =
+    if version == 0 then reads_0 bytes size else if version == 1 then reads_1 bytes size else faults Invalid
+
+unfoldable pub reads_emsg : List ℕ → ℕ → ℕ → Reading EmsgBox
+reads_emsg bytes start size = do
+  _ ← fields bytes 8 4
+  reads_version (number bytes 8 1) bytes size
+
+-- the bytes of the numbers and of the texts with their zero bytes; a version past 1 counts as version 1
+abbrev pub size_middle : EmsgBox → ℕ
+size_middle v = (if v.version == 0 then 18 else 22) + length v.scheme_id_uri + length v.value
+
+abbrev pub size_emsg : EmsgBox → ℕ
+size_emsg v = 12 + size_middle v + length v.message_data
+
+abbrev pub columns_emsg : EmsgBox → List (ℕ × ℕ)
+columns_emsg v = (4, size_emsg v) ∷ (4, 0x656d7367) ∷ (1, v.version) ∷ (3, v.flags) ∷ []
+
+abbrev pub numbers_0 : EmsgBox → List (ℕ × ℕ)
+numbers_0 v = (4, v.timescale) ∷ (4, unwrap_or v.presentation_time_delta 0) ∷ (4, v.event_duration) ∷ (4, v.id) ∷ []
+
+abbrev pub numbers_1 : EmsgBox → List (ℕ × ℕ)
+numbers_1 v = (4, v.timescale) ∷ (8, unwrap_or v.presentation_time 0) ∷ (4, v.event_duration) ∷ (4, v.id) ∷ []
+
+abbrev pub bytes_texts : EmsgBox → List ℕ
+bytes_texts v = terminated v.scheme_id_uri ++ terminated v.value
+
+-- the numbers and the texts, in the order of the version
+abbrev pub bytes_middle : EmsgBox → List ℕ
+bytes_middle v = if v.version == 0 then bytes_texts v ++ joined (numbers_0 v) else joined (numbers_1 v) ++ bytes_texts v
+
+-- the version is 0 or 1, and its time is there
+abbrev pub has_time : EmsgBox → Bool
+has_time v = if v.version == 0 then is_some v.presentation_time_delta else (v.version == 1) && is_some v.presentation_time
+
+-- every number fits its bytes, the version has its time, and zero bytes can end the texts
+pub record WritableEmsg (v : EmsgBox) : Type 0 where
+  pub fit : Fit (columns_emsg v)
+  pub fit_0 : Fit (numbers_0 v)
+  pub fit_1 : Fit (numbers_1 v)
+  pub time : has_time v ≡ true
+  pub scheme : IsTerminable v.scheme_id_uri
+  pub value : IsTerminable v.value
+
+unfoldable pub bytes_emsg : EmsgBox → List ℕ
+bytes_emsg v = joined (columns_emsg v) ++ (bytes_middle v ++ v.message_data)
+
+-- without the time of the other version
+abbrev pub normal_emsg : EmsgBox → EmsgBox
+normal_emsg v = if v.version == 0 then record v { presentation_time = None } else record v { presentation_time_delta = None }

@@ -1,0 +1,135 @@
+//! The value of a metadata item.
+
+ghost use Rattle.std.specs.Prelude.{◌≡◌, ◌-◌, ◌^◌, [], IfOk, IfErr, min};
+ghost use Rattle.mp4_frame.specs.declared.box_type.BoxType.TheVariants as names;
+ghost use Rattle.mp4_media.specs.DataType.{number_data_type};
+ghost use Rattle.mp4_media.specs.declared.data_type.DataType.TheVariants as types;
+ghost use Rattle.mp4_text.specs.Data.{reads_data, size_data, WritableData, bytes_data, normal_data};
+ghost use Rattle.mp4_text.specs.DataLaws.{framed_data, normal_form_data, read_back_data, sound_data};
+
+use mp4_frame::{
+    BoxLaws, BoxType, Entries, Error, Mp4Box, ReadBox, Result, WriteBox, fields, piece_at,
+    put_bytes, put_u32, test, u32_at,
+};
+use mp4_media::DataType;
+use std::alloc::Global;
+
+/// The value of a metadata item (`data`, QuickTime's metadata, "Data atom").
+#[derive(Debug, Drop, PartialEq, Eq)]
+pub struct DataBox {
+    /// The bytes of the value.
+    pub data_bytes: Entries<u8>,
+    /// What the bytes are.
+    pub data_type: DataType,
+}
+
+impl DataBox {
+    /// No bytes, of type `Binary`. No memory is taken.
+    pub fn default_in(alloc: Global) -> DataBox
+        ensures { result ≡ record { data_bytes = []; data_type = types.Binary } }
+    {
+        DataBox {
+            data_bytes: Entries::new(alloc),
+            data_type: DataType::Binary,
+        }
+    }
+
+    /// An equal box, in memory of its own.
+    pub fn try_clone(&self) -> Result<DataBox>
+        ensures clone { IfOk result (λ clone. clone ≡ self.now) }
+        ensures memory { IfErr result (λ e. e ≡ Error.OutOfMemory) }
+    {
+        Ok(DataBox {
+            data_bytes: self.data_bytes.try_clone()?,
+            data_type: self.data_type.clone()?,
+        })
+    }
+
+    /// As `box_type`.
+    pub fn get_type(&self) -> BoxType
+        ensures { result ≡ names.DataBox }
+    {
+        self.box_type()
+    }
+
+    /// As `box_size`.
+    pub fn get_size(&self) -> u64
+        ensures { result ≡ min (size_data self.now) (2 ^ 64 - 1) }
+    {
+        self.box_size()
+    }
+}
+
+impl Mp4Box for DataBox {
+    ghost name = { λ _. names.DataBox };
+
+    ghost size = { size_data };
+
+    fn box_type(&self) -> BoxType {
+        BoxType::DataBox
+    }
+
+    fn box_size(&self) -> u64 {
+        (self.data_bytes.len() as u64).saturating_add(16)
+    }
+}
+
+impl ReadBox for DataBox {
+    ghost reads = { reads_data };
+
+    #[tactic(auto, unfolding(crate::specs::Data::reads_data))]
+    fn read_row(alloc: Global, bytes: &[u8], _start: u64, size: u64) -> Result<DataBox> {
+        fields(bytes, 8, 4)?;
+        let data_type = DataType::try_from(u32_at(bytes, 8))?;
+        fields(bytes, 12, 4)?;
+        test(size >= 16, "box size too small")?;
+        let data_bytes = piece_at(bytes, 16, size as usize - 16)?;
+        Ok(DataBox {
+            data_bytes: Vec::from_slice(alloc, data_bytes)?.into(),
+            data_type,
+        })
+    }
+}
+
+/// The number of a type.
+fn number_of(data_type: &DataType) -> u32
+    ensures { result ≡ number_data_type data_type.now }
+{
+    match data_type {
+        DataType::Binary => 0,
+        DataType::Text => 1,
+        DataType::Image => 13,
+        DataType::TempoCpil => 21,
+    }
+}
+
+impl WriteBox for DataBox {
+    ghost Writable = { WritableData };
+
+    ghost bytes = { bytes_data };
+
+    ghost normal = { normal_data };
+
+    fn is_writable(&self) -> bool {
+        self.box_size() < 1 << 32
+    }
+
+    #[tactic(auto, unfolding(crate::specs::Data::bytes_data, mp4_frame::specs::Bytes::joined, mp4_frame::specs::Bytes::joined_onto))]
+    fn put_box(&self, place: &mut [u8]) {
+        let at = put_u32(place, 0, self.box_size() as u32);
+        let at = put_u32(place, at, 0x6461_7461);
+        let at = put_u32(place, at, number_of(&self.data_type));
+        let at = put_u32(place, at, 0);
+        put_bytes(place, at, self.data_bytes.as_slice());
+    }
+
+    ghost framed = { framed_data };
+
+    ghost normal_form = { normal_form_data };
+}
+
+impl BoxLaws for DataBox {
+    ghost read_back = { read_back_data };
+
+    ghost sound = { sound_data };
+}

@@ -1,0 +1,129 @@
+//! The box of the data references.
+
+ghost use Rattle.std.specs.Prelude.{◌≡◌, ◌-◌, ◌^◌, [], IfOk, IfErr, min};
+ghost use Rattle.mp4_frame.specs.declared.box_type.BoxType.TheVariants as names;
+ghost use Rattle.mp4_text.specs.Dinf.{reads_dinf, size_dinf, WritableDinf, bytes_dinf, normal_dinf};
+ghost use Rattle.mp4_text.specs.DinfLaws.{framed_dinf, normal_form_dinf, read_back_dinf, sound_dinf};
+
+use crate::dref::DrefBox;
+use mp4_frame::{
+    BoxLaws, BoxType, Error, Mp4Box, ReadBox, Result, WriteBox, last_child, put_part, put_u32,
+};
+use std::alloc::Global;
+
+/// The box that holds the data references of a track (`dinf`, ISO/IEC 14496-12, 8.7.1). Boxes other than
+/// `dref` are skipped in reading; of several `dref` the last is kept.
+#[derive(Debug, Drop, PartialEq, Eq)]
+pub struct DinfBox {
+    dref: DrefBox,
+}
+
+impl DinfBox {
+    /// The box of these references.
+    pub fn new(dref: DrefBox) -> DinfBox
+        ensures { result ≡ record { dref = dref } }
+    {
+        DinfBox { dref }
+    }
+
+    /// The references.
+    pub fn dref(&self) -> &DrefBox
+        ensures { result.now ≡ self.now.dref }
+    {
+        &self.dref
+    }
+
+    /// The box of the default references. No memory is taken.
+    pub fn default_in(alloc: Global) -> DinfBox
+        ensures { result ≡ record { dref = record { version = 0; flags = 0; url = Some (record { version = 0; flags = 1; location = [] }) } } }
+    {
+        DinfBox::new(DrefBox::default_in(alloc))
+    }
+
+    /// An equal box, in memory of its own.
+    pub fn try_clone(&self) -> Result<DinfBox>
+        ensures clone { IfOk result (λ clone. clone ≡ self.now) }
+        ensures memory { IfErr result (λ e. e ≡ Error.OutOfMemory) }
+    {
+        Ok(DinfBox::new(self.dref.try_clone()?))
+    }
+
+    /// As `box_type`.
+    pub fn get_type(&self) -> BoxType
+        ensures { result ≡ names.DinfBox }
+    {
+        self.box_type()
+    }
+
+    /// As `box_size`.
+    pub fn get_size(&self) -> u64
+        ensures { result ≡ min (size_dinf self.now) (2 ^ 64 - 1) }
+    {
+        self.box_size()
+    }
+}
+
+impl Mp4Box for DinfBox {
+    ghost name = { λ _. names.DinfBox };
+
+    ghost size = { size_dinf };
+
+    fn box_type(&self) -> BoxType {
+        BoxType::DinfBox
+    }
+
+    fn box_size(&self) -> u64 {
+        self.dref.box_size().saturating_add(8)
+    }
+}
+
+impl ReadBox for DinfBox {
+    ghost reads = { reads_dinf };
+
+    #[tactic(auto, unfolding(crate::specs::Dinf::reads_dinf))]
+    fn read_row(alloc: Global, bytes: &[u8], start: u64, size: u64) -> Result<DinfBox> {
+        let dref = last_child(
+            alloc,
+            bytes,
+            start,
+            size,
+            0x6472_6566,
+            8,
+            size,
+            "dinf box contains a box with a larger size than it",
+        )?;
+        match dref {
+            Some(dref) => Ok(DinfBox::new(dref)),
+            None => Err(Error::BoxNotFound(BoxType::DrefBox)),
+        }
+    }
+}
+
+impl WriteBox for DinfBox {
+    ghost Writable = { WritableDinf };
+
+    ghost bytes = { bytes_dinf };
+
+    ghost normal = { normal_dinf };
+
+    fn is_writable(&self) -> bool {
+        self.dref.is_writable() && self.box_size() < 1 << 32
+    }
+
+    #[tactic(auto, unfolding(crate::specs::Dinf::bytes_dinf, mp4_frame::specs::Bytes::joined, mp4_frame::specs::Bytes::joined_onto))]
+    fn put_box(&self, place: &mut [u8]) {
+        let at = put_u32(place, 0, self.box_size() as u32);
+        let at = put_u32(place, at, 0x6469_6e66);
+        put_part(place, at, &self.dref);
+    }
+
+    ghost framed = { framed_dinf };
+
+    ghost normal_form = { normal_form_dinf };
+}
+
+impl BoxLaws for DinfBox {
+    ghost read_back = { read_back_dinf };
+
+    ghost sound = { sound_dinf };
+}

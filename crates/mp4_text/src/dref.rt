@@ -1,0 +1,155 @@
+//! The data references.
+
+ghost use Rattle.std.specs.Prelude.{◌≡◌, ◌-◌, ◌^◌, [], IfOk, IfErr, min};
+ghost use Rattle.mp4_frame.specs.declared.box_type.BoxType.TheVariants as names;
+ghost use Rattle.mp4_text.specs.Dref.{reads_dref, size_dref, WritableDref, bytes_dref, normal_dref};
+ghost use Rattle.mp4_text.specs.DrefLaws.{framed_dref, normal_form_dref, read_back_dref, sound_dref};
+
+use crate::url::UrlBox;
+use mp4_frame::{
+    BoxLaws, BoxType, Error, Mp4Box, ReadBox, Result, WriteBox, fields, last_child, put_part,
+    put_u8, put_u24, put_u32, u8_at, u24_at, u32_at,
+};
+use std::alloc::Global;
+
+/// Where the media data of a track stands (`dref`, ISO/IEC 14496-12, 8.7.2). Entries other than `url ` are
+/// skipped in reading; of several `url ` the last is kept.
+#[derive(Debug, Drop, PartialEq, Eq)]
+pub struct DrefBox {
+    /// The version of the box, usually 0. It is kept as it is.
+    pub version: u8,
+    /// Flags, below 2^24, usually 0.
+    pub flags: u32,
+    /// The one entry, if there is one.
+    pub url: Option<UrlBox>,
+}
+
+impl DrefBox {
+    /// One entry, which says that the data stands in the same file. No memory is taken.
+    pub fn default_in(alloc: Global) -> DrefBox
+        ensures { result ≡ record { version = 0; flags = 0; url = Some (record { version = 0; flags = 1; location = [] }) } }
+    {
+        DrefBox {
+            version: 0,
+            flags: 0,
+            url: Some(UrlBox::default_in(alloc)),
+        }
+    }
+
+    /// An equal box, in memory of its own.
+    pub fn try_clone(&self) -> Result<DrefBox>
+        ensures clone { IfOk result (λ clone. clone ≡ self.now) }
+        ensures memory { IfErr result (λ e. e ≡ Error.OutOfMemory) }
+    {
+        let url = match &self.url {
+            Some(url) => Some(url.try_clone()?),
+            None => None,
+        };
+        Ok(DrefBox {
+            version: self.version,
+            flags: self.flags,
+            url,
+        })
+    }
+
+    /// As `box_type`.
+    pub fn get_type(&self) -> BoxType
+        ensures { result ≡ names.DrefBox }
+    {
+        self.box_type()
+    }
+
+    /// As `box_size`.
+    pub fn get_size(&self) -> u64
+        ensures { result ≡ min (size_dref self.now) (2 ^ 64 - 1) }
+    {
+        self.box_size()
+    }
+}
+
+impl Mp4Box for DrefBox {
+    ghost name = { λ _. names.DrefBox };
+
+    ghost size = { size_dref };
+
+    fn box_type(&self) -> BoxType {
+        BoxType::DrefBox
+    }
+
+    fn box_size(&self) -> u64 {
+        match &self.url {
+            Some(url) => url.box_size().saturating_add(16),
+            None => 16,
+        }
+    }
+}
+
+impl ReadBox for DrefBox {
+    ghost reads = { reads_dref };
+
+    #[tactic(auto, unfolding(crate::specs::Dref::reads_dref))]
+    fn read_row(alloc: Global, bytes: &[u8], start: u64, size: u64) -> Result<DrefBox> {
+        fields(bytes, 8, 8)?;
+        let count = u64::from(u32_at(bytes, 12));
+        let url = last_child(
+            alloc,
+            bytes,
+            start,
+            size,
+            0x7572_6c20,
+            16,
+            count,
+            "dinf box contains a box with a larger size than it",
+        )?;
+        Ok(DrefBox {
+            version: u8_at(bytes, 8),
+            flags: u24_at(bytes, 9),
+            url,
+        })
+    }
+}
+
+impl WriteBox for DrefBox {
+    ghost Writable = { WritableDref };
+
+    ghost bytes = { bytes_dref };
+
+    ghost normal = { normal_dref };
+
+    fn is_writable(&self) -> bool {
+        let _version = self.version;
+        if let Some(url) = &self.url {
+            if !url.is_writable() {
+                return false;
+            }
+        }
+        self.flags < 1 << 24 && self.box_size() < 1 << 32
+    }
+
+    #[tactic(auto, unfolding(crate::specs::Dref::bytes_dref, mp4_frame::specs::Bytes::joined, mp4_frame::specs::Bytes::joined_onto))]
+    fn put_box(&self, place: &mut [u8]) {
+        let at = put_u32(place, 0, self.box_size() as u32);
+        let at = put_u32(place, at, 0x6472_6566);
+        let at = put_u8(place, at, self.version);
+        let at = put_u24(place, at, self.flags);
+        match &self.url {
+            Some(url) => {
+                let at = put_u32(place, at, 1);
+                put_part(place, at, url);
+            }
+            None => {
+                put_u32(place, at, 0);
+            }
+        }
+    }
+
+    ghost framed = { framed_dref };
+
+    ghost normal_form = { normal_form_dref };
+}
+
+impl BoxLaws for DrefBox {
+    ghost read_back = { read_back_dref };
+
+    ghost sound = { sound_dref };
+}

@@ -1,0 +1,339 @@
+//! An event message.
+
+ghost use Rattle.std.specs.Prelude.{◌≡◌, ◌↔◌, ◌+◌, ◌-◌, ◌≤◌, ◌^◌, ◌++◌, ◌∷◌, [], None, IfOk, IfErr, IsTrue, length, min, take};
+ghost use Rattle.mp4_frame.specs.Bytes.{joined};
+ghost use Rattle.mp4_frame.specs.Reading.{Answers};
+ghost use Rattle.mp4_frame.specs.declared.box_type.BoxType.TheVariants as names;
+ghost use Rattle.mp4_text.specs.Emsg.{two_texts, behind, message_from, reads_0, reads_1, reads_emsg, size_middle, size_emsg, bytes_texts, bytes_middle, WritableEmsg, bytes_emsg, normal_emsg};
+ghost use Rattle.mp4_text.specs.EmsgLaws.{framed_emsg, normal_form_emsg, read_back_emsg, sound_emsg};
+
+use crate::terminated::{is_terminable, put_terminated, terminated_text_at};
+use mp4_frame::{
+    BoxLaws, BoxType, Entries, Error, Mp4Box, ReadBox, Result, Text, WriteBox, bytes_from, fields,
+    piece_at, put_bytes, put_u8, put_u24, put_u32, put_u64, test, u8_at, u24_at, u32_at, u64_at,
+};
+use std::alloc::Global;
+
+/// An event message (`emsg`, ISO/IEC 23009-1, 5.10.3.3).
+#[derive(Debug, Drop, PartialEq, Eq)]
+pub struct EmsgBox {
+    /// 0 or 1: which of the two times the box has.
+    pub version: u8,
+    /// Flags, below 2^24, usually 0.
+    pub flags: u32,
+    /// The units of the times in a second.
+    pub timescale: u32,
+    /// In version 1, when the event begins, from the start of the presentation on. Version 0 doesn't write it.
+    pub presentation_time: Option<u64>,
+    /// In version 0, when the event begins, from the start of the segment on. Version 1 doesn't write it.
+    pub presentation_time_delta: Option<u32>,
+    /// How long the event lasts.
+    pub event_duration: u32,
+    /// The number of the event.
+    pub id: u32,
+    /// The scheme that says what the message means, with no zero byte in it.
+    pub scheme_id_uri: Text,
+    /// The value of the scheme, with no zero byte in it.
+    pub value: Text,
+    /// The message.
+    pub message_data: Entries<u8>,
+}
+
+impl EmsgBox {
+    /// Zeros, no times, no texts and no message, which can't be written until the box has a time. No memory is
+    /// taken.
+    pub fn default_in(alloc: Global) -> EmsgBox
+        ensures { result ≡ record { version = 0; flags = 0; timescale = 0; presentation_time = None; presentation_time_delta = None; event_duration = 0; id = 0; scheme_id_uri = []; value = []; message_data = [] } }
+    {
+        EmsgBox {
+            version: 0,
+            flags: 0,
+            timescale: 0,
+            presentation_time: None,
+            presentation_time_delta: None,
+            event_duration: 0,
+            id: 0,
+            scheme_id_uri: Text::new(alloc),
+            value: Text::new(alloc),
+            message_data: Entries::new(alloc),
+        }
+    }
+
+    /// An equal box, in memory of its own.
+    pub fn try_clone(&self) -> Result<EmsgBox>
+        ensures clone { IfOk result (λ clone. clone ≡ self.now) }
+        ensures memory { IfErr result (λ e. e ≡ Error.OutOfMemory) }
+    {
+        Ok(EmsgBox {
+            version: self.version,
+            flags: self.flags,
+            timescale: self.timescale,
+            presentation_time: self.presentation_time,
+            presentation_time_delta: self.presentation_time_delta,
+            event_duration: self.event_duration,
+            id: self.id,
+            scheme_id_uri: self.scheme_id_uri.try_clone()?,
+            value: self.value.try_clone()?,
+            message_data: self.message_data.try_clone()?,
+        })
+    }
+}
+
+impl Mp4Box for EmsgBox {
+    ghost name = { λ _. names.EmsgBox };
+
+    ghost size = { size_emsg };
+
+    fn box_type(&self) -> BoxType {
+        BoxType::EmsgBox
+    }
+
+    fn box_size(&self) -> u64 {
+        let fixed: u64 = if self.version == 0 { 30 } else { 34 };
+        fixed
+            .saturating_add(self.scheme_id_uri.len() as u64)
+            .saturating_add(self.value.len() as u64)
+            .saturating_add(self.message_data.len() as u64)
+    }
+}
+
+/// Reads two texts, one behind the other.
+#[tactic(auto, unfolding(crate::specs::Emsg::two_texts))]
+fn two_texts_at(alloc: Global, bytes: &[u8], at: usize) -> Result<(Text, Text)>
+    ensures texts { Answers result (two_texts bytes.now at) }
+    ensures room { IfOk result (λ texts. behind at texts ≤ length bytes.now) }
+{
+    let first = terminated_text_at(alloc, bytes, at)?;
+    let second = terminated_text_at(alloc, bytes, at + first.len() + 1)?;
+    Ok((first, second))
+}
+
+/// Reads the message from a place on, in a box of this size.
+#[tactic(auto, unfolding(crate::specs::Emsg::message_from))]
+fn message_at(alloc: Global, bytes: &[u8], size: u64, at: usize) -> Result<Entries<u8>>
+    ensures { Answers result (message_from bytes.now size at) }
+{
+    test(at as u64 <= size, "box size too small")?;
+    let message = piece_at(bytes, at, size as usize - at)?;
+    Ok(Vec::from_slice(alloc, message)?.into())
+}
+
+/// Reads a box of version 0, in which the texts stand before the numbers.
+#[tactic(auto, unfolding(crate::specs::Emsg::reads_0))]
+fn read_0(alloc: Global, bytes: &[u8], size: u64) -> Result<EmsgBox>
+    requires { 12 ≤ length bytes.now }
+    ensures { Answers result (reads_0 bytes.now size) }
+{
+    let (scheme_id_uri, value) = two_texts_at(alloc, bytes, 12)?;
+    let at = scheme_id_uri.len() + value.len() + 14;
+    fields(bytes, at, 16)?;
+    let message_data = message_at(alloc, bytes, size, at + 16)?;
+    let numbers = bytes_from(bytes, at as u64);
+    Ok(EmsgBox {
+        version: u8_at(bytes, 8),
+        flags: u24_at(bytes, 9),
+        timescale: u32_at(numbers, 0),
+        presentation_time: None,
+        presentation_time_delta: Some(u32_at(numbers, 4)),
+        event_duration: u32_at(numbers, 8),
+        id: u32_at(numbers, 12),
+        scheme_id_uri,
+        value,
+        message_data,
+    })
+}
+
+/// Reads a box of version 1, in which the numbers stand before the texts.
+#[tactic(auto, unfolding(crate::specs::Emsg::reads_1))]
+fn read_1(alloc: Global, bytes: &[u8], size: u64) -> Result<EmsgBox>
+    requires { 12 ≤ length bytes.now }
+    ensures { Answers result (reads_1 bytes.now size) }
+{
+    fields(bytes, 12, 20)?;
+    let (scheme_id_uri, value) = two_texts_at(alloc, bytes, 32)?;
+    let at = scheme_id_uri.len() + value.len() + 34;
+    let message_data = message_at(alloc, bytes, size, at)?;
+    let numbers = bytes_from(bytes, 12);
+    Ok(EmsgBox {
+        version: u8_at(bytes, 8),
+        flags: u24_at(bytes, 9),
+        timescale: u32_at(numbers, 0),
+        presentation_time: Some(u64_at(numbers, 4)),
+        presentation_time_delta: None,
+        event_duration: u32_at(numbers, 12),
+        id: u32_at(numbers, 16),
+        scheme_id_uri,
+        value,
+        message_data,
+    })
+}
+
+impl ReadBox for EmsgBox {
+    ghost reads = { reads_emsg };
+
+    #[tactic(auto, unfolding(crate::specs::Emsg::reads_emsg))]
+    fn read_row(alloc: Global, bytes: &[u8], _start: u64, size: u64) -> Result<EmsgBox> {
+        fields(bytes, 8, 4)?;
+        match u8_at(bytes, 8) {
+            0 => read_0(alloc, bytes, size),
+            1 => read_1(alloc, bytes, size),
+            _ => Err(Error::InvalidData("version must be 0 or 1")),
+        }
+    }
+}
+
+fn fits(
+    version: u8,
+    flags: u32,
+    timescale: u32,
+    presentation_time: Option<u64>,
+    presentation_time_delta: Option<u32>,
+    event_duration: u32,
+    id: u32,
+    size: u64,
+    scheme_id_uri: &Text,
+    value: &Text,
+    message_data: &[u8],
+) -> bool
+    requires { size ≡ min (size_emsg (record { version = version; flags = flags; timescale = timescale; presentation_time = presentation_time; presentation_time_delta = presentation_time_delta; event_duration = event_duration; id = id; scheme_id_uri = scheme_id_uri.now; value = value.now; message_data = message_data.now })) (2 ^ 64 - 1) }
+    ensures { IsTrue result ↔ WritableEmsg (record { version = version; flags = flags; timescale = timescale; presentation_time = presentation_time; presentation_time_delta = presentation_time_delta; event_duration = event_duration; id = id; scheme_id_uri = scheme_id_uri.now; value = value.now; message_data = message_data.now }) }
+{
+    let _time = presentation_time.unwrap_or(0);
+    let _delta = presentation_time_delta.unwrap_or(0);
+    let has_time = if version == 0 {
+        presentation_time_delta.is_some()
+    } else {
+        version == 1 && presentation_time.is_some()
+    };
+    has_time
+        && size < 1 << 32
+        && flags < 1 << 24
+        && is_terminable(scheme_id_uri)
+        && is_terminable(value)
+}
+
+/// Puts the numbers of version 0, and answers the place behind them.
+#[tactic(auto, unfolding(mp4_frame::specs::Bytes::joined, mp4_frame::specs::Bytes::joined_onto))]
+fn put_numbers_0(
+    place: &mut [u8],
+    at: usize,
+    timescale: u32,
+    delta: u32,
+    event_duration: u32,
+    id: u32,
+) -> usize
+    requires { at + 16 ≤ length place.old }
+    ensures next { result ≡ at + 16 }
+    ensures put { take result place.new ≡ take at place.old ++ joined ((4, timescale) ∷ (4, delta) ∷ (4, event_duration) ∷ (4, id) ∷ []) }
+{
+    let at = put_u32(place, at, timescale);
+    let at = put_u32(place, at, delta);
+    let at = put_u32(place, at, event_duration);
+    put_u32(place, at, id)
+}
+
+/// Puts the numbers of version 1, and answers the place behind them.
+#[tactic(auto, unfolding(mp4_frame::specs::Bytes::joined, mp4_frame::specs::Bytes::joined_onto))]
+fn put_numbers_1(
+    place: &mut [u8],
+    at: usize,
+    timescale: u32,
+    time: u64,
+    event_duration: u32,
+    id: u32,
+) -> usize
+    requires { at + 20 ≤ length place.old }
+    ensures next { result ≡ at + 20 }
+    ensures put { take result place.new ≡ take at place.old ++ joined ((4, timescale) ∷ (8, time) ∷ (4, event_duration) ∷ (4, id) ∷ []) }
+{
+    let at = put_u32(place, at, timescale);
+    let at = put_u64(place, at, time);
+    let at = put_u32(place, at, event_duration);
+    put_u32(place, at, id)
+}
+
+impl EmsgBox {
+    /// Puts the two texts, and answers the place behind them.
+    fn put_texts(&self, place: &mut [u8], at: usize) -> usize
+        requires { at + length self.now.scheme_id_uri + length self.now.value + 2 ≤ length place.old }
+        ensures next { result ≡ at + length self.now.scheme_id_uri + length self.now.value + 2 }
+        ensures put { take result place.new ≡ take at place.old ++ bytes_texts self.now }
+    {
+        let at = put_terminated(place, at, self.scheme_id_uri.as_bytes());
+        put_terminated(place, at, self.value.as_bytes())
+    }
+
+    /// Puts the numbers and the texts, and answers the place behind them.
+    fn put_middle(&self, place: &mut [u8], at: usize) -> usize
+        requires { at + size_middle self.now ≤ length place.old }
+        ensures next { result ≡ at + size_middle self.now }
+        ensures put { take result place.new ≡ take at place.old ++ bytes_middle self.now }
+    {
+        if self.version == 0 {
+            let delta = self.presentation_time_delta.unwrap_or(0);
+            let at = self.put_texts(place, at);
+            return put_numbers_0(
+                place,
+                at,
+                self.timescale,
+                delta,
+                self.event_duration,
+                self.id,
+            );
+        }
+        let time = self.presentation_time.unwrap_or(0);
+        let at = put_numbers_1(
+            place,
+            at,
+            self.timescale,
+            time,
+            self.event_duration,
+            self.id,
+        );
+        self.put_texts(place, at)
+    }
+}
+
+impl WriteBox for EmsgBox {
+    ghost Writable = { WritableEmsg };
+
+    ghost bytes = { bytes_emsg };
+
+    ghost normal = { normal_emsg };
+
+    fn is_writable(&self) -> bool {
+        fits(
+            self.version,
+            self.flags,
+            self.timescale,
+            self.presentation_time,
+            self.presentation_time_delta,
+            self.event_duration,
+            self.id,
+            self.box_size(),
+            &self.scheme_id_uri,
+            &self.value,
+            self.message_data.as_slice(),
+        )
+    }
+
+    #[tactic(auto, unfolding(crate::specs::Emsg::bytes_emsg, mp4_frame::specs::Bytes::joined, mp4_frame::specs::Bytes::joined_onto))]
+    fn put_box(&self, place: &mut [u8]) {
+        let at = put_u32(place, 0, self.box_size() as u32);
+        let at = put_u32(place, at, 0x656d_7367);
+        let at = put_u8(place, at, self.version);
+        let at = put_u24(place, at, self.flags);
+        let at = self.put_middle(place, at);
+        put_bytes(place, at, self.message_data.as_slice());
+    }
+
+    ghost framed = { framed_emsg };
+
+    ghost normal_form = { normal_form_emsg };
+}
+
+impl BoxLaws for EmsgBox {
+    ghost read_back = { read_back_emsg };
+
+    ghost sound = { sound_emsg };
+}

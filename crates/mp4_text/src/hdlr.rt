@@ -1,0 +1,148 @@
+//! The handler of a track or of metadata.
+
+ghost use Rattle.std.specs.Prelude.{◌≡◌, ◌↔◌, ◌+◌, ◌-◌, ◌^◌, [], IfOk, IfErr, IsTrue, length, min, replicate};
+ghost use Rattle.std.specs.Str.{IsUtf8};
+ghost use Rattle.mp4_frame.specs.declared.box_type.BoxType.TheVariants as names;
+ghost use Rattle.mp4_text.specs.Hdlr.{reads_hdlr, size_hdlr, WritableHdlr, bytes_hdlr, normal_hdlr};
+ghost use Rattle.mp4_text.specs.HdlrLaws.{framed_hdlr, normal_form_hdlr, read_back_hdlr, sound_hdlr};
+
+use crate::terminated::put_terminated;
+use mp4_frame::{
+    BoxLaws, BoxType, Error, FourCC, Mp4Box, ReadBox, Result, Text, WriteBox, fields, is_four_cc,
+    piece_at, put_u8, put_u24, put_u32, put_zeros, test, u8_at, u24_at, u32_at,
+};
+use std::alloc::Global;
+
+/// What a track or metadata is for (`hdlr`, ISO/IEC 14496-12, 8.4.3).
+#[derive(Debug, Drop, PartialEq, Eq)]
+pub struct HdlrBox {
+    /// The version of the box, usually 0. It is kept as it is.
+    pub version: u8,
+    /// Flags, below 2^24, usually 0.
+    pub flags: u32,
+    /// The kind of media, as `vide` or `soun`.
+    pub handler_type: FourCC,
+    /// A name for a person to read.
+    pub name: Text,
+}
+
+impl HdlrBox {
+    /// Zeros, and no name. No memory is taken.
+    pub fn default_in(alloc: Global) -> HdlrBox
+        ensures { result ≡ record { version = 0; flags = 0; handler_type = record { value = replicate 4 0 }; name = [] } }
+    {
+        HdlrBox {
+            version: 0,
+            flags: 0,
+            handler_type: FourCC::default(),
+            name: Text::new(alloc),
+        }
+    }
+
+    /// An equal box, in memory of its own.
+    pub fn try_clone(&self) -> Result<HdlrBox>
+        ensures clone { IfOk result (λ clone. clone ≡ self.now) }
+        ensures memory { IfErr result (λ e. e ≡ Error.OutOfMemory) }
+    {
+        Ok(HdlrBox {
+            version: self.version,
+            flags: self.flags,
+            handler_type: self.handler_type,
+            name: self.name.try_clone()?,
+        })
+    }
+
+    /// As `box_type`.
+    pub fn get_type(&self) -> BoxType
+        ensures { result ≡ names.HdlrBox }
+    {
+        self.box_type()
+    }
+
+    /// As `box_size`.
+    pub fn get_size(&self) -> u64
+        ensures { result ≡ min (size_hdlr self.now) (2 ^ 64 - 1) }
+    {
+        self.box_size()
+    }
+}
+
+impl Mp4Box for HdlrBox {
+    ghost name = { λ _. names.HdlrBox };
+
+    ghost size = { size_hdlr };
+
+    fn box_type(&self) -> BoxType {
+        BoxType::HdlrBox
+    }
+
+    fn box_size(&self) -> u64 {
+        (self.name.len() as u64).saturating_add(33)
+    }
+}
+
+impl ReadBox for HdlrBox {
+    ghost reads = { reads_hdlr };
+
+    #[tactic(auto, unfolding(crate::specs::Hdlr::reads_hdlr))]
+    fn read_row(alloc: Global, bytes: &[u8], _start: u64, size: u64) -> Result<HdlrBox> {
+        fields(bytes, 8, 12)?;
+        test(size >= 33, "hdlr size too small")?;
+        let name = piece_at(bytes, 32, size as usize - 33)?;
+        Ok(HdlrBox {
+            version: u8_at(bytes, 8),
+            flags: u24_at(bytes, 9),
+            handler_type: FourCC::from(u32_at(bytes, 16)),
+            name: Text::from_utf8_or(alloc, name, "null")?,
+        })
+    }
+}
+
+#[tactic(auto, using(mp4_frame::proofs::Codes::small_code))]
+fn fits(version: u8, flags: u32, handler_type: FourCC, size: u64, name: &Text) -> bool
+    requires { size ≡ min (33 + length name.now) (2 ^ 64 - 1) }
+    ensures { IsTrue result ↔ WritableHdlr (record { version = version; flags = flags; handler_type = handler_type; name = name.now }) }
+{
+    let _version = version;
+    size < 1 << 32 && flags < 1 << 24 && is_four_cc(handler_type) && name.is_utf8()
+}
+
+impl WriteBox for HdlrBox {
+    ghost Writable = { WritableHdlr };
+
+    ghost bytes = { bytes_hdlr };
+
+    ghost normal = { normal_hdlr };
+
+    fn is_writable(&self) -> bool {
+        fits(
+            self.version,
+            self.flags,
+            self.handler_type,
+            self.box_size(),
+            &self.name,
+        )
+    }
+
+    #[tactic(auto, unfolding(crate::specs::Hdlr::bytes_hdlr, mp4_frame::specs::Bytes::joined, mp4_frame::specs::Bytes::joined_onto))]
+    fn put_box(&self, place: &mut [u8]) {
+        let at = put_u32(place, 0, self.box_size() as u32);
+        let at = put_u32(place, at, 0x6864_6c72);
+        let at = put_u8(place, at, self.version);
+        let at = put_u24(place, at, self.flags);
+        let at = put_u32(place, at, 0);
+        let at = put_u32(place, at, u32::from(self.handler_type));
+        let at = put_zeros(place, at, 12);
+        put_terminated(place, at, self.name.as_bytes());
+    }
+
+    ghost framed = { framed_hdlr };
+
+    ghost normal_form = { normal_form_hdlr };
+}
+
+impl BoxLaws for HdlrBox {
+    ghost read_back = { read_back_hdlr };
+
+    ghost sound = { sound_hdlr };
+}

@@ -1,0 +1,68 @@
+//! Texts that a zero byte ends.
+
+ghost use Rattle.std.specs.Prelude.{◌≡◌, ◌↔◌, ◌≤◌, ◌+◌, ◌++◌, IfOk, IsTrue, length, position, take};
+ghost use Rattle.mp4_frame.specs.Reading.{Answers, AnswersAs};
+ghost use Rattle.mp4_text.specs.Terminated.{is_zero, before_zero, utf8_text, terminated_text, terminated, IsTerminable};
+
+use mp4_frame::{Error, Result, Text, fields, put_bytes, put_u8};
+use std::alloc::Global;
+
+/// Where the first zero byte stands.
+fn first_zero(bytes: &[u8]) -> Option<usize>
+    ensures { result ≡ position is_zero bytes.now }
+{
+    bytes.iter().position(|byte| *byte == 0)
+}
+
+/// The bytes from a place on that stand before the first zero byte, or all where there is none.
+#[tactic(auto, using(crate::proofs::Zeros::place_or_length, crate::proofs::Zeros::place_within))]
+fn before_zero(bytes: &[u8], at: usize) -> &[u8]
+    ensures { result.now ≡ before_zero bytes.now at }
+{
+    if bytes.len() < at {
+        return &[];
+    }
+    let rest = &bytes[at..];
+    let long = first_zero(rest).unwrap_or(rest.len());
+    &rest[..long]
+}
+
+/// Bytes that have to be UTF-8, as a text.
+#[tactic(auto, using(mp4_frame::specs::TextLaws::utf8_passes, mp4_frame::specs::TextLaws::other_fails))]
+fn utf8_text(bytes: &[u8]) -> Result<&str>
+    ensures { AnswersAs (λ text. text.now) result (utf8_text bytes.now) }
+{
+    match str::from_utf8(bytes) {
+        Ok(text) => Ok(text),
+        Err(_) => Err(Error::InvalidData("invalid utf8")),
+    }
+}
+
+/// Reads the text from a place up to the first zero byte.
+#[tactic(auto, unfolding(crate::specs::Terminated::terminated_text))]
+pub(crate) fn terminated_text_at(alloc: Global, bytes: &[u8], at: usize) -> Result<Text>
+    ensures text { Answers result (terminated_text bytes.now at) }
+    ensures room { IfOk result (λ text. at + length text + 1 ≤ length bytes.now) }
+{
+    let text = before_zero(bytes, at);
+    fields(bytes, at, text.len() + 1)?;
+    Text::from_str(alloc, utf8_text(text)?)
+}
+
+/// A text that a zero byte can end: none is inside it.
+pub(crate) fn is_terminable(text: &Text) -> bool
+    ensures { IsTrue result ↔ IsTerminable text.now }
+{
+    text.is_utf8() && !text.as_bytes().contains(&0)
+}
+
+/// Puts a text with a zero byte behind it, and answers the place behind that.
+#[tactic(auto, unfolding(mp4_frame::specs::Bytes::column))]
+pub(crate) fn put_terminated(place: &mut [u8], at: usize, text: &[u8]) -> usize
+    requires { at + length (terminated text.now) ≤ length place.old }
+    ensures next { result ≡ at + length (terminated text.now) }
+    ensures put { take result place.new ≡ take at place.old ++ terminated text.now }
+{
+    let at = put_bytes(place, at, text);
+    put_u8(place, at, 0)
+}

@@ -1,0 +1,148 @@
+//! The data entry that is a URL.
+
+ghost use Rattle.std.specs.Prelude.{◌≡◌, ◌≤◌, ◌+◌, ◌-◌, ◌^◌, ◌++◌, [], IfOk, IfErr, min, length, take};
+ghost use Rattle.mp4_frame.specs.declared.box_type.BoxType.TheVariants as names;
+ghost use Rattle.mp4_text.specs.Url.{reads_url, size_url, WritableUrl, bytes_location, bytes_url, normal_url};
+ghost use Rattle.mp4_text.specs.UrlLaws.{framed_url, normal_form_url, read_back_url, sound_url};
+
+use crate::terminated::put_terminated;
+use mp4_frame::{
+    BoxLaws, BoxType, Error, Mp4Box, ReadBox, Result, Text, WriteBox, fields, piece_at, put_u8,
+    put_u24, put_u32, u8_at, u24_at,
+};
+use std::alloc::Global;
+
+/// Where media data stands, by a URL (`url `, ISO/IEC 14496-12, 8.7.2).
+#[derive(Debug, Drop, PartialEq, Eq)]
+pub struct UrlBox {
+    /// The version of the box, usually 0. It is kept as it is.
+    pub version: u8,
+    /// Flags, below 2^24. 1 says that the data stands in the same file, without a location.
+    pub flags: u32,
+    /// The URL; empty where none is given.
+    pub location: Text,
+}
+
+impl UrlBox {
+    /// Data in the same file: flags 1 and no location. No memory is taken.
+    pub fn default_in(alloc: Global) -> UrlBox
+        ensures { result ≡ record { version = 0; flags = 1; location = [] } }
+    {
+        UrlBox {
+            version: 0,
+            flags: 1,
+            location: Text::new(alloc),
+        }
+    }
+
+    /// An equal box, in memory of its own.
+    pub fn try_clone(&self) -> Result<UrlBox>
+        ensures clone { IfOk result (λ clone. clone ≡ self.now) }
+        ensures memory { IfErr result (λ e. e ≡ Error.OutOfMemory) }
+    {
+        Ok(UrlBox {
+            version: self.version,
+            flags: self.flags,
+            location: self.location.try_clone()?,
+        })
+    }
+
+    /// As `box_type`.
+    pub fn get_type(&self) -> BoxType
+        ensures { result ≡ names.UrlBox }
+    {
+        self.box_type()
+    }
+
+    /// As `box_size`.
+    pub fn get_size(&self) -> u64
+        ensures { result ≡ min (size_url self.now) (2 ^ 64 - 1) }
+    {
+        self.box_size()
+    }
+}
+
+impl Mp4Box for UrlBox {
+    ghost name = { λ _. names.UrlBox };
+
+    ghost size = { size_url };
+
+    fn box_type(&self) -> BoxType {
+        BoxType::UrlBox
+    }
+
+    fn box_size(&self) -> u64 {
+        if self.location.is_empty() {
+            return 12;
+        }
+        (self.location.len() as u64).saturating_add(13)
+    }
+}
+
+impl ReadBox for UrlBox {
+    ghost reads = { reads_url };
+
+    #[tactic(auto, unfolding(crate::specs::Url::reads_url))]
+    fn read_row(alloc: Global, bytes: &[u8], _start: u64, size: u64) -> Result<UrlBox> {
+        fields(bytes, 8, 4)?;
+        let version = u8_at(bytes, 8);
+        let flags = u24_at(bytes, 9);
+        if size < 13 {
+            return Ok(UrlBox {
+                version,
+                flags,
+                location: Text::new(alloc),
+            });
+        }
+        let location = piece_at(bytes, 12, size as usize - 13)?;
+        Ok(UrlBox {
+            version,
+            flags,
+            location: Text::from_utf8_or(alloc, location, "")?,
+        })
+    }
+}
+
+/// Puts a location with a zero byte behind it, or nothing where it is empty, and answers the place behind.
+fn put_location(place: &mut [u8], at: usize, location: &[u8]) -> usize
+    requires { at + length (bytes_location location.now) ≤ length place.old }
+    ensures next { result ≡ at + length (bytes_location location.now) }
+    ensures put { take result place.new ≡ take at place.old ++ bytes_location location.now }
+{
+    if location.is_empty() {
+        return at;
+    }
+    put_terminated(place, at, location)
+}
+
+impl WriteBox for UrlBox {
+    ghost Writable = { WritableUrl };
+
+    ghost bytes = { bytes_url };
+
+    ghost normal = { normal_url };
+
+    fn is_writable(&self) -> bool {
+        let _version = self.version;
+        self.flags < 1 << 24 && self.box_size() < 1 << 32 && self.location.is_utf8()
+    }
+
+    #[tactic(auto, unfolding(crate::specs::Url::bytes_url, mp4_frame::specs::Bytes::joined, mp4_frame::specs::Bytes::joined_onto))]
+    fn put_box(&self, place: &mut [u8]) {
+        let at = put_u32(place, 0, self.box_size() as u32);
+        let at = put_u32(place, at, 0x7572_6c20);
+        let at = put_u8(place, at, self.version);
+        let at = put_u24(place, at, self.flags);
+        put_location(place, at, self.location.as_bytes());
+    }
+
+    ghost framed = { framed_url };
+
+    ghost normal_form = { normal_form_url };
+}
+
+impl BoxLaws for UrlBox {
+    ghost read_back = { read_back_url };
+
+    ghost sound = { sound_url };
+}
