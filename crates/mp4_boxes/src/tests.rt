@@ -5,7 +5,9 @@ mod program;
 mod runs;
 
 /// An ftyp box, a free box, which is left out, and a stco box.
-const INPUT: [u8; 52] = *b"\0\0\0\x18ftypisom\0\0\x02\0isommp41\0\0\0\x08free\0\0\0\x14stco\0\0\0\0\0\0\0\x01\0\0\x01\x0b";
+const INPUT: [u8; 52] =
+    *b"\0\0\0\x18ftypisom\0\0\x02\0isommp41\0\0\0\x08free\0\0\0\x14stco\0\0\0\0\0\0\0\x01\0\0\x01\x0b";
 
 /// What the run over it writes.
-const OUTPUT: [u8; 44] = *b"\0\0\0\x18ftypisom\0\0\x02\0isommp41\0\0\0\x14stco\0\0\0\0\0\0\0\x01\0\0\x01\x0b";
+const OUTPUT: [u8; 44] =
+    *b"\0\0\0\x18ftypisom\0\0\x02\0isommp41\0\0\0\x14stco\0\0\0\0\0\0\0\x01\0\0\x01\x0b";

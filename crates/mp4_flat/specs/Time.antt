@@ -1,5 +1,5 @@
 -- Times and durations: 8 bytes in version 1 of a box, and 4 bytes in version 0. There is no other version.
-use Rattle.std.specs.Prelude.{ℕ, ◌+◌, ◌<◌, ◌==◌, nat_lt, List, if◌then◌else◌}
+use Rattle.std.specs.Prelude.{ℕ, ◌<◌, ◌==◌, nat_lt, List, if◌then◌else◌}
 use Rattle.mp4_frame.specs.Bytes.{number, Fit}
 use Rattle.mp4_frame.specs.Reading.{Reading, ◌>>=◌, fields, test, done}
 

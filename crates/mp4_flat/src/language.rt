@@ -4,7 +4,7 @@ ghost use Rattle.std.specs.Prelude.{◌≡◌, ◌%◌, IfOk, IfErr, slice_index
 ghost use Rattle.std.specs.Str.{IsUtf8};
 ghost use Rattle.std.specs.Str.Iter.{encode_utf16_rest};
 ghost use Rattle.mp4_frame.specs.declared.error.Error.TheVariants.{OutOfMemory};
-ghost use Rattle.mp4_flat.specs.Language.{utf16_units, units_left, language_code, letters};
+ghost use Rattle.mp4_flat.specs.Language.{units_left, language_code, letters};
 
 use mp4_frame::Result;
 use std::alloc::Global;

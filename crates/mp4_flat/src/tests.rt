@@ -4,10 +4,10 @@ ghost use Rattle.std.specs.Prelude.{◌≡◌, ◌++◌, ◌<◌, ◌^◌, nat_l
 ghost use Rattle.mp4_flat.specs.Tfdt.{bytes_tfdt};
 
 use crate::{
-    Matrix, MdhdBox, MehdBox, MfhdBox, MvhdBox, RgbColor, SmhdBox, Text, TfdtBox, TkhdBox, TrexBox,
+    Matrix, MdhdBox, MehdBox, MfhdBox, MvhdBox, RgbColor, SmhdBox, TfdtBox, TkhdBox, TrexBox,
     VmhdBox, language_code, language_string,
 };
-use mp4_frame::{BoxLaws, BoxType, ByteCursor, Error, Mp4Box, ReadBox, WriteBox};
+use mp4_frame::{BoxLaws, BoxType, ByteCursor, Error, Mp4Box, ReadBox, Text, WriteBox};
 use mp4_media::{FixedPointI8, FixedPointU8, FixedPointU16};
 use std::process::Abort;
 use std::test::Fail;

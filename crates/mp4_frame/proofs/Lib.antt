@@ -13,5 +13,6 @@ pub mod Codes
 pub mod Decided
 pub mod Chains
 pub mod Children
+pub mod ChildLaws
 pub mod Rows
 pub mod Signed

@@ -8,5 +8,6 @@ pub mod Text
 pub mod TextLaws
 pub mod Heads
 pub mod Children
+pub mod OptionalChild
 pub mod Streams
 pub mod Tables

@@ -1,9 +1,9 @@
 -- Where the first zero byte stands.
-use Rattle.std.proofs.Common.{◌≡◌, ℕ, ◌+◌, ◌<◌, ◌≤◌, Bool, true, false, cond, ltb, List, length, Option, Some, None, refl, arith}
+use Rattle.std.proofs.Common.{◌≡◌, ℕ, ◌≤◌, Bool, true, false, cond, ltb, List, length, Some, None, refl, arith}
 use Rattle.std.proofs.lemmas.Bool.{ltb-false}
 use Rattle.std.proofs.lemmas.List.Sums.{prefix_len-le-length}
 use Rattle.std.specs.Prelude.{unwrap_or, position, not}
-use Rattle.std.specs.List.{position_or_len, prefix_len}
+use Rattle.std.specs.List.{position_or_len}
 use Rattle.mp4_text.specs.Terminated.{is_zero}
 
 by : (xs : List ℕ) (b : Bool) → ltb (position_or_len is_zero xs) (length xs) ≡ b → unwrap_or (cond b (Some (position_or_len is_zero xs)) None) (length xs) ≡ position_or_len is_zero xs

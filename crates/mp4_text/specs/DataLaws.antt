@@ -1,18 +1,16 @@
 -- The laws of data.
-use Rattle.std.proofs.Common.{◌≡◌, ℕ, ◌+◌, ◌-◌, ◌<◌, ◌≤◌, ◌^◌, Bool, true, leb, List, [], ◌∷◌, ◌++◌, length, Option, Some, None, Result, Ok, refl, sym, ap, ◌∙◌, subst, arith, length-append, append_assoc, lit<, lit≤}
+use Rattle.std.proofs.Common.{◌≡◌, ℕ, ◌+◌, ◌-◌, ◌<◌, ◌≤◌, ◌^◌, true, List, ◌++◌, length, Some, Ok, refl, ap, ◌∙◌, arith, length-append, append_assoc, lit<, lit≤}
 use Rattle.std.proofs.lemmas.Bool.{le-leb}
 use Rattle.std.specs.Prelude.{nat_le}
-use Rattle.mp4_frame.specs.Bytes.{number, joined, Fit}
-use Rattle.mp4_frame.specs.Laws.{Framed, Normal, RowReadsBack, RowIsSound, AreBytes}
-use Rattle.mp4_frame.specs.Reading.{Reading, Fault, ◌>>=◌, fields, test, piece_from, memory, done}
+use Rattle.mp4_frame.specs.Bytes.{number, joined}
+use Rattle.mp4_frame.specs.Laws.{Framed, Normal, RowReadsBack, RowIsSound}
 use Rattle.mp4_frame.specs.declared.box_type.BoxType.TheVariants as names
-use Rattle.mp4_frame.proofs.Columns.{found, fields-joined, length-joined, number-joined}
-use Rattle.mp4_frame.proofs.Stands.{fields_ok, test_ok, is_value, piece_back}
-use Rattle.mp4_frame.proofs.Tables.{value_first}
+use Rattle.mp4_frame.proofs.Columns.{fields-joined, length-joined, number-joined}
 use Rattle.mp4_media.specs.DataType.{data_type_of, number_data_type}
 use Rattle.mp4_media.specs.declared.data_type.DataType.{DataType}
 use Rattle.mp4_media.specs.declared.data_type.DataType.TheVariants as types
-use Rattle.mp4_text.specs.Data.{known_type, reads_data, size_data, columns_data, WritableData, bytes_data, normal_data}
+use Rattle.mp4_frame.proofs.Stands.{piece_back}
+use Rattle.mp4_text.specs.Data.{reads_data, size_data, columns_data, WritableData, bytes_data, normal_data}
 use Rattle.mp4_text.specs.declared.data.DataBox.{DataBox}
 
 pub framed_data : (v : DataBox) → WritableData v → Framed (size_data v) names.DataBox (bytes_data v)

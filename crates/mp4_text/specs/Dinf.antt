@@ -1,5 +1,5 @@
 -- dinf, the box of the data references (ISO/IEC 14496-12, 8.7.1): boxes from 8 on, of which the last dref is kept.
-use Rattle.std.specs.Prelude.{ℕ, ◌+◌, List, [], ◌∷◌, ◌++◌, length, Option, Some, None}
+use Rattle.std.specs.Prelude.{ℕ, ◌+◌, List, [], ◌∷◌, ◌++◌, Option, Some, None}
 use Rattle.mp4_frame.specs.Bytes.{joined, Fit}
 use Rattle.mp4_frame.specs.Children.{children}
 use Rattle.mp4_frame.specs.Reading.{Reading, NotFound, ◌>>=◌, done, faults}

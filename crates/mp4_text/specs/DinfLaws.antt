@@ -1,19 +1,18 @@
 -- The laws of dinf, from those of dref alone.
-use Rattle.std.proofs.Common.{◌≡◌, ℕ, ◌+◌, ◌<◌, ◌^◌, List, [], ◌∷◌, ◌++◌, length, Result, Ok, Option, Some, None, refl, sym, ap, subst, ◌∙◌, arith, length-append, append_assoc, lit<}
-use Rattle.mp4_frame.specs.Bytes.{number, joined, Fit}
+use Rattle.std.proofs.Common.{◌≡◌, ℕ, ◌+◌, ◌<◌, ◌^◌, List, [], ◌∷◌, ◌++◌, length, Ok, Option, Some, None, refl, sym, ap, subst, ◌∙◌, arith, length-append, append_assoc, lit<}
+use Rattle.mp4_frame.specs.Bytes.{joined, Fit}
 use Rattle.mp4_frame.specs.Children.{children}
-use Rattle.mp4_frame.specs.Laws.{Framed, Normal, RowReadsBack, RowIsSound, AreBytes}
-use Rattle.mp4_frame.specs.Reading.{Reading, Fault, ◌>>=◌}
+use Rattle.mp4_frame.specs.Laws.{Framed, Normal, RowReadsBack, RowIsSound}
 use Rattle.mp4_frame.specs.declared.box_type.BoxType.TheVariants as names
 use Rattle.mp4_frame.proofs.Columns.{length-joined, number-joined}
 use Rattle.mp4_frame.proofs.Decided.{outcome_bind}
 use Rattle.mp4_frame.proofs.Stands.{is_value}
 use Rattle.mp4_frame.proofs.Tables.{value_first}
-use Rattle.mp4_text.specs.ChildLaws as child
+use Rattle.mp4_frame.proofs.ChildLaws as child
 use Rattle.mp4_text.specs.Dref.{reads_dref, size_dref, WritableDref, bytes_dref, normal_dref}
 use Rattle.mp4_text.specs.DrefLaws.{laws_dref}
 use Rattle.mp4_text.specs.Dinf.{with_dref, reads_dinf, size_dinf, columns_dinf, WritableDinf, bytes_dinf, normal_dinf}
-use Rattle.mp4_text.specs.OptionalChild.{size_optional, WritableOptional, normal_optional}
+use Rattle.mp4_frame.specs.OptionalChild.{size_optional, WritableOptional, normal_optional}
 use Rattle.mp4_text.specs.declared.dinf.DinfBox.{DinfBox}
 use Rattle.mp4_text.specs.declared.dref.DrefBox.{DrefBox}
 

@@ -4,7 +4,7 @@ use Rattle.std.specs.Prelude.{ℕ, ◌+◌, List, [], ◌∷◌, ◌++◌, Optio
 use Rattle.mp4_frame.specs.Bytes.{number, joined, Fit}
 use Rattle.mp4_frame.specs.Children.{children}
 use Rattle.mp4_frame.specs.Reading.{Reading, ◌>>=◌, fields, done}
-use Rattle.mp4_text.specs.OptionalChild.{count_optional, size_optional, WritableOptional, bytes_optional, normal_optional}
+use Rattle.mp4_frame.specs.OptionalChild.{count_optional, size_optional, WritableOptional, bytes_optional, normal_optional}
 use Rattle.mp4_text.specs.Url.{reads_url, size_url, WritableUrl, bytes_url, normal_url}
 use Rattle.mp4_text.specs.declared.dref.DrefBox.{DrefBox}
 use Rattle.mp4_text.specs.declared.url.UrlBox.{UrlBox}

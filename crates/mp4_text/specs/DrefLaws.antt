@@ -1,18 +1,18 @@
 -- The laws of dref, from those of url alone.
-use Rattle.std.proofs.Common.{◌≡◌, ℕ, ◌+◌, ◌<◌, ◌^◌, List, [], ◌∷◌, ◌++◌, length, Ok, Option, Some, refl, sym, ap, subst, ◌∙◌, arith, length-append, append_assoc, lit<, lit≤}
+use Rattle.std.proofs.Common.{◌≡◌, ℕ, ◌+◌, ◌<◌, ◌^◌, List, ◌++◌, length, Ok, Option, Some, refl, sym, ap, subst, ◌∙◌, arith, length-append, append_assoc, lit<, lit≤}
 use Rattle.mp4_frame.specs.Bytes.{number, joined, Fit}
 use Rattle.mp4_frame.specs.Children.{children}
-use Rattle.mp4_frame.specs.Laws.{Framed, Normal, RowReadsBack, RowIsSound, AreBytes}
+use Rattle.mp4_frame.specs.Laws.{Framed, Normal, RowReadsBack, RowIsSound}
 use Rattle.mp4_frame.specs.Reading.{Reading, ◌>>=◌, fields, done}
 use Rattle.mp4_frame.specs.declared.box_type.BoxType.TheVariants as names
 use Rattle.mp4_frame.proofs.Columns.{found, numbers-joined, fields-joined, length-joined, number-joined, number-below}
 use Rattle.mp4_frame.proofs.Decided.{outcome_bind}
 use Rattle.mp4_frame.proofs.Stands.{fields_ok, is_value}
 use Rattle.mp4_frame.proofs.Tables.{value_first}
-use Rattle.mp4_text.specs.ChildLaws.{IsChild}
-use Rattle.mp4_text.specs.ChildLaws as child
-use Rattle.mp4_text.specs.OptionalChild.{count_optional, size_optional, WritableOptional, bytes_optional, normal_optional}
-use Rattle.mp4_text.specs.Url.{reads_url, size_url, WritableUrl, bytes_url, normal_url}
+use Rattle.mp4_frame.proofs.ChildLaws.{IsChild}
+use Rattle.mp4_frame.proofs.ChildLaws as child
+use Rattle.mp4_frame.specs.OptionalChild.{count_optional, size_optional, bytes_optional, normal_optional}
+use Rattle.mp4_text.specs.Url.{reads_url, size_url, bytes_url, normal_url}
 use Rattle.mp4_text.specs.UrlLaws.{laws_url}
 use Rattle.mp4_text.specs.Dref.{value_dref, reads_dref, size_dref, columns_dref, WritableDref, bytes_dref, normal_dref}
 use Rattle.mp4_text.specs.declared.dref.DrefBox.{DrefBox}

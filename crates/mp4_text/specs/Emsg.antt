@@ -2,7 +2,7 @@
 -- Version 0 has two texts from 12 on and then the numbers timescale, time delta, event duration and id, of 4 bytes
 -- each; version 1 has the numbers at 12, with a time of 8 bytes, and the texts from 32 on. Behind them the message
 -- goes up to the end.
-use Rattle.std.specs.Prelude.{◌≡◌, ℕ, ◌+◌, ◌-◌, ◌==◌, ◌&&◌, nat_le, Bool, true, List, [], ◌∷◌, ◌++◌, length, drop, Option, Some, None, is_some, unwrap_or, if◌then◌else◌}
+use Rattle.std.specs.Prelude.{◌≡◌, ℕ, ◌+◌, ◌-◌, ◌==◌, ◌&&◌, nat_le, Bool, true, List, [], ◌∷◌, ◌++◌, length, drop, Some, None, is_some, unwrap_or, if◌then◌else◌}
 use Rattle.mp4_frame.specs.Bytes.{number, joined, Fit}
 use Rattle.mp4_frame.specs.Reading.{Reading, Invalid, ◌>>=◌, fields, test, piece_from, memory, done, faults}
 use Rattle.mp4_text.specs.Terminated.{terminated_text, terminated, IsTerminable}
@@ -28,36 +28,36 @@ message_from bytes size o = do
   done message
 
 -- the value in version 0, by the number of w bytes at o of the box and of the numbers
-abbrev pub value_0 : (ℕ → ℕ → ℕ) → (ℕ → ℕ → ℕ) → List ℕ × List ℕ → List ℕ → EmsgBox
-value_0 n numbers texts message = record { version = n 8 1; flags = n 9 3; timescale = numbers 0 4; presentation_time = None; presentation_time_delta = Some (numbers 4 4); event_duration = numbers 8 4; id = numbers 12 4; scheme_id_uri = texts.0; value = texts.1; message_data = message }
+abbrev pub value_emsg_0 : (ℕ → ℕ → ℕ) → (ℕ → ℕ → ℕ) → List ℕ × List ℕ → List ℕ → EmsgBox
+value_emsg_0 n numbers texts message = record { version = n 8 1; flags = n 9 3; timescale = numbers 0 4; presentation_time = None; presentation_time_delta = Some (numbers 4 4); event_duration = numbers 8 4; id = numbers 12 4; scheme_id_uri = texts.0; value = texts.1; message_data = message }
 
 -- the value in version 1
-abbrev pub value_1 : (ℕ → ℕ → ℕ) → (ℕ → ℕ → ℕ) → List ℕ × List ℕ → List ℕ → EmsgBox
-value_1 n numbers texts message = record { version = n 8 1; flags = n 9 3; timescale = numbers 0 4; presentation_time = Some (numbers 4 8); presentation_time_delta = None; event_duration = numbers 12 4; id = numbers 16 4; scheme_id_uri = texts.0; value = texts.1; message_data = message }
+abbrev pub value_emsg_1 : (ℕ → ℕ → ℕ) → (ℕ → ℕ → ℕ) → List ℕ × List ℕ → List ℕ → EmsgBox
+value_emsg_1 n numbers texts message = record { version = n 8 1; flags = n 9 3; timescale = numbers 0 4; presentation_time = Some (numbers 4 8); presentation_time_delta = None; event_duration = numbers 12 4; id = numbers 16 4; scheme_id_uri = texts.0; value = texts.1; message_data = message }
 
-unfoldable pub reads_0 : List ℕ → ℕ → Reading EmsgBox
-reads_0 bytes size = do
+unfoldable pub reads_emsg_0 : List ℕ → ℕ → Reading EmsgBox
+reads_emsg_0 bytes size = do
   texts ← two_texts bytes 12
   _ ← fields bytes (behind 12 texts) 16
   message ← message_from bytes size (behind 12 texts + 16)
-  done (value_0 (number bytes) (number (drop (behind 12 texts) bytes)) texts message)
+  done (value_emsg_0 (number bytes) (number (drop (behind 12 texts) bytes)) texts message)
 
-unfoldable pub reads_1 : List ℕ → ℕ → Reading EmsgBox
-reads_1 bytes size = do
+unfoldable pub reads_emsg_1 : List ℕ → ℕ → Reading EmsgBox
+reads_emsg_1 bytes size = do
   _ ← fields bytes 12 20
   texts ← two_texts bytes 32
   message ← message_from bytes size (behind 32 texts)
-  done (value_1 (number bytes) (number (drop 12 bytes)) texts message)
+  done (value_emsg_1 (number bytes) (number (drop 12 bytes)) texts message)
 
 -- what follows version and flags
-abbrev pub reads_version : ℕ → List ℕ → ℕ → Reading EmsgBox
-reads_version version bytes size =
-    if version == 0 then reads_0 bytes size else if version == 1 then reads_1 bytes size else faults Invalid
+abbrev pub reads_emsg_version : ℕ → List ℕ → ℕ → Reading EmsgBox
+reads_emsg_version version bytes size =
+    if version == 0 then reads_emsg_0 bytes size else if version == 1 then reads_emsg_1 bytes size else faults Invalid
 
 unfoldable pub reads_emsg : List ℕ → ℕ → ℕ → Reading EmsgBox
 reads_emsg bytes start size = do
   _ ← fields bytes 8 4
-  reads_version (number bytes 8 1) bytes size
+  reads_emsg_version (number bytes 8 1) bytes size
 
 -- the bytes of the numbers and of the texts with their zero bytes; a version past 1 counts as version 1
 abbrev pub size_middle : EmsgBox → ℕ
@@ -69,18 +69,18 @@ size_emsg v = 12 + size_middle v + length v.message_data
 abbrev pub columns_emsg : EmsgBox → List (ℕ × ℕ)
 columns_emsg v = (4, size_emsg v) ∷ (4, 0x656d7367) ∷ (1, v.version) ∷ (3, v.flags) ∷ []
 
-abbrev pub numbers_0 : EmsgBox → List (ℕ × ℕ)
-numbers_0 v = (4, v.timescale) ∷ (4, unwrap_or v.presentation_time_delta 0) ∷ (4, v.event_duration) ∷ (4, v.id) ∷ []
+abbrev pub numbers_emsg_0 : EmsgBox → List (ℕ × ℕ)
+numbers_emsg_0 v = (4, v.timescale) ∷ (4, unwrap_or v.presentation_time_delta 0) ∷ (4, v.event_duration) ∷ (4, v.id) ∷ []
 
-abbrev pub numbers_1 : EmsgBox → List (ℕ × ℕ)
-numbers_1 v = (4, v.timescale) ∷ (8, unwrap_or v.presentation_time 0) ∷ (4, v.event_duration) ∷ (4, v.id) ∷ []
+abbrev pub numbers_emsg_1 : EmsgBox → List (ℕ × ℕ)
+numbers_emsg_1 v = (4, v.timescale) ∷ (8, unwrap_or v.presentation_time 0) ∷ (4, v.event_duration) ∷ (4, v.id) ∷ []
 
-abbrev pub bytes_texts : EmsgBox → List ℕ
-bytes_texts v = terminated v.scheme_id_uri ++ terminated v.value
+abbrev pub texts_emsg : EmsgBox → List ℕ
+texts_emsg v = terminated v.scheme_id_uri ++ terminated v.value
 
 -- the numbers and the texts, in the order of the version
-abbrev pub bytes_middle : EmsgBox → List ℕ
-bytes_middle v = if v.version == 0 then bytes_texts v ++ joined (numbers_0 v) else joined (numbers_1 v) ++ bytes_texts v
+abbrev pub middle_emsg : EmsgBox → List ℕ
+middle_emsg v = if v.version == 0 then texts_emsg v ++ joined (numbers_emsg_0 v) else joined (numbers_emsg_1 v) ++ texts_emsg v
 
 -- the version is 0 or 1, and its time is there
 abbrev pub has_time : EmsgBox → Bool
@@ -89,14 +89,14 @@ has_time v = if v.version == 0 then is_some v.presentation_time_delta else (v.ve
 -- every number fits its bytes, the version has its time, and zero bytes can end the texts
 pub record WritableEmsg (v : EmsgBox) : Type 0 where
   pub fit : Fit (columns_emsg v)
-  pub fit_0 : Fit (numbers_0 v)
-  pub fit_1 : Fit (numbers_1 v)
+  pub fit_0 : Fit (numbers_emsg_0 v)
+  pub fit_1 : Fit (numbers_emsg_1 v)
   pub time : has_time v ≡ true
   pub scheme : IsTerminable v.scheme_id_uri
   pub value : IsTerminable v.value
 
 unfoldable pub bytes_emsg : EmsgBox → List ℕ
-bytes_emsg v = joined (columns_emsg v) ++ (bytes_middle v ++ v.message_data)
+bytes_emsg v = joined (columns_emsg v) ++ (middle_emsg v ++ v.message_data)
 
 -- without the time of the other version
 abbrev pub normal_emsg : EmsgBox → EmsgBox

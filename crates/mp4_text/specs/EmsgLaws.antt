@@ -1,47 +1,47 @@
 -- The laws of emsg.
-use Rattle.std.proofs.Common.{◌≡◌, ℕ, ◌+◌, ◌-◌, ◌<◌, ◌≤◌, ◌^◌, Bool, true, false, cond, eqb, leb, ◌&&◌, List, [], ◌∷◌, ◌++◌, length, drop, Option, Some, None, Result, Ok, refl, sym, ap, ◌∙◌, subst, arith, length-append, append_assoc, lit<, lit≤}
+use Rattle.std.proofs.Common.{◌≡◌, ℕ, ◌+◌, ◌-◌, ◌<◌, ◌≤◌, ◌^◌, Bool, true, false, cond, ◌&&◌, List, [], ◌∷◌, ◌++◌, length, drop, Option, Some, None, Result, Ok, refl, sym, ap, ◌∙◌, subst, arith, length-append, append_assoc, lit<, lit≤}
 use Rattle.std.proofs.lemmas.Bool.{le-leb}
 use Rattle.std.proofs.lemmas.List.{drop_at}
 use Rattle.std.specs.Prelude.{◌==◌, nat_le, is_some, unwrap_or}
-use Rattle.mp4_frame.specs.Bytes.{number, joined, Fit}
+use Rattle.mp4_frame.specs.Bytes.{number, joined}
 use Rattle.mp4_frame.specs.Laws.{Framed, Normal, RowReadsBack, RowIsSound, AreBytes}
-use Rattle.mp4_frame.specs.Reading.{Reading, Fault, Invalid, ◌>>=◌, fields, test, piece_from, memory, done, faults}
+use Rattle.mp4_frame.specs.Reading.{Reading, Fault, Invalid, ◌>>=◌, fields, done, faults}
 use Rattle.mp4_frame.specs.declared.box_type.BoxType.TheVariants as names
 use Rattle.mp4_frame.proofs.Columns.{found, numbers-joined, fields-joined, length-joined, number-joined, number-below}
 use Rattle.mp4_frame.proofs.Decided.{outcome_bind}
-use Rattle.mp4_frame.proofs.Stands.{fields_stand, fields_ok, test_ok, is_value, are_bytes-drop, piece_back}
+use Rattle.mp4_frame.proofs.Stands.{fields_stand, fields_ok, is_value, are_bytes-drop, piece_back}
 use Rattle.mp4_frame.proofs.Tables.{value_first}
-use Rattle.mp4_text.specs.Emsg.{two_texts, behind, message_from, value_0, value_1, reads_0, reads_1, reads_version, reads_emsg, size_middle, size_emsg, columns_emsg, numbers_0, numbers_1, bytes_texts, bytes_middle, has_time, WritableEmsg, bytes_emsg, normal_emsg}
+use Rattle.mp4_text.specs.Emsg.{two_texts, behind, message_from, value_emsg_0, value_emsg_1, reads_emsg_0, reads_emsg_1, reads_emsg_version, reads_emsg, size_middle, size_emsg, columns_emsg, numbers_emsg_0, numbers_emsg_1, texts_emsg, middle_emsg, has_time, WritableEmsg, bytes_emsg, normal_emsg}
 use Rattle.mp4_text.specs.Terminated.{terminated_text, terminated, IsTerminable}
 use Rattle.mp4_text.specs.TerminatedLaws.{taken, text_back, text_is}
 use Rattle.mp4_text.specs.declared.emsg.EmsgBox.{EmsgBox}
 
-length_texts : (v : EmsgBox) → length (bytes_texts v) ≡ length v.scheme_id_uri + length v.value + 2
+length_texts : (v : EmsgBox) → length (texts_emsg v) ≡ length v.scheme_id_uri + length v.value + 2
 length_texts v = omega (arith, length-append (terminated v.scheme_id_uri) (terminated v.value), length-append v.scheme_id_uri (0 ∷ []), length-append v.value (0 ∷ []))
 
-length_by : (v : EmsgBox) (b : Bool) → length (cond b (bytes_texts v ++ joined (numbers_0 v)) (joined (numbers_1 v) ++ bytes_texts v)) ≡ cond b 18 22 + length v.scheme_id_uri + length v.value
-length_by v true = omega (arith, length-append (bytes_texts v) (joined (numbers_0 v)), length_texts v, length-joined (numbers_0 v))
-length_by v false = omega (arith, length-append (joined (numbers_1 v)) (bytes_texts v), length_texts v, length-joined (numbers_1 v))
+length_by : (v : EmsgBox) (b : Bool) → length (cond b (texts_emsg v ++ joined (numbers_emsg_0 v)) (joined (numbers_emsg_1 v) ++ texts_emsg v)) ≡ cond b 18 22 + length v.scheme_id_uri + length v.value
+length_by v true = omega (arith, length-append (texts_emsg v) (joined (numbers_emsg_0 v)), length_texts v, length-joined (numbers_emsg_0 v))
+length_by v false = omega (arith, length-append (joined (numbers_emsg_1 v)) (texts_emsg v), length_texts v, length-joined (numbers_emsg_1 v))
 
 pub framed_emsg : (v : EmsgBox) → WritableEmsg v → Framed (size_emsg v) names.EmsgBox (bytes_emsg v)
 unfolding bytes_emsg
 framed_emsg v w =
     let cs = columns_emsg v in
-    let middle : length (bytes_middle v) ≡ size_middle v = length_by v (v.version == 0) in
-    let rest = bytes_middle v ++ v.message_data in
+    let middle : length (middle_emsg v) ≡ size_middle v = length_by v (v.version == 0) in
+    let rest = middle_emsg v ++ v.message_data in
     record {
-      long = omega (arith, length-append (joined cs) rest, length-append (bytes_middle v) v.message_data, length-joined cs, middle);
+      long = omega (arith, length-append (joined cs) rest, length-append (middle_emsg v) v.message_data, length-joined cs, middle);
       least = omega arith;
       most = w.fit.0;
       size_first = number-joined cs rest 0 4 w.fit;
       code_next = number-joined cs rest 4 4 w.fit;
     }
 
-abbrev normal_0 : EmsgBox → EmsgBox
-normal_0 v = record v { presentation_time = None }
+abbrev normal_emsg_0 : EmsgBox → EmsgBox
+normal_emsg_0 v = record v { presentation_time = None }
 
-abbrev normal_1 : EmsgBox → EmsgBox
-normal_1 v = record v { presentation_time_delta = None }
+abbrev normal_emsg_1 : EmsgBox → EmsgBox
+normal_emsg_1 v = record v { presentation_time_delta = None }
 
 -- the version decides which time there is
 time_0 : (v : EmsgBox) → (v.version == 0) ≡ true → has_time v ≡ true → is_some v.presentation_time_delta ≡ true
@@ -56,9 +56,9 @@ is_normal v n is w again same = record { writable = subst WritableEmsg (sym is) 
 normal_by : (v : EmsgBox) (b : Bool) → (v.version == 0) ≡ b → WritableEmsg v → Normal WritableEmsg bytes_emsg normal_emsg v
 unfolding bytes_emsg
 normal_by v true e w =
-    let n = normal_0 v in
-    let written = λ (m : EmsgBox) (b : Bool). joined (columns_emsg v) ++ (cond b (bytes_texts v ++ joined (numbers_0 v)) (joined (numbers_1 m) ++ bytes_texts v) ++ v.message_data) in
-    is_normal v n (ap (λ (b : Bool). cond b (normal_0 v) (normal_1 v)) e)
+    let n = normal_emsg_0 v in
+    let written = λ (m : EmsgBox) (b : Bool). joined (columns_emsg v) ++ (cond b (texts_emsg v ++ joined (numbers_emsg_0 v)) (joined (numbers_emsg_1 m) ++ texts_emsg v) ++ v.message_data) in
+    is_normal v n (ap (λ (b : Bool). cond b (normal_emsg_0 v) (normal_emsg_1 v)) e)
     (record {
       fit = w.fit;
       fit_0 = w.fit_0;
@@ -67,12 +67,12 @@ normal_by v true e w =
       scheme = w.scheme;
       value = w.value;
     })
-    (ap (λ (b : Bool). cond b n (normal_1 n)) e)
+    (ap (λ (b : Bool). cond b n (normal_emsg_1 n)) e)
     (ap (written n) e ∙ sym (ap (written v) e))
 normal_by v false e w =
-    let n = normal_1 v in
-    let written = λ (m : EmsgBox) (b : Bool). joined (columns_emsg v) ++ (cond b (bytes_texts v ++ joined (numbers_0 m)) (joined (numbers_1 v) ++ bytes_texts v) ++ v.message_data) in
-    is_normal v n (ap (λ (b : Bool). cond b (normal_0 v) (normal_1 v)) e)
+    let n = normal_emsg_1 v in
+    let written = λ (m : EmsgBox) (b : Bool). joined (columns_emsg v) ++ (cond b (texts_emsg v ++ joined (numbers_emsg_0 m)) (joined (numbers_emsg_1 v) ++ texts_emsg v) ++ v.message_data) in
+    is_normal v n (ap (λ (b : Bool). cond b (normal_emsg_0 v) (normal_emsg_1 v)) e)
     (record {
       fit = w.fit;
       fit_0 = (w.fit_0.0, (lit< tt, w.fit_0.1.1));
@@ -81,7 +81,7 @@ normal_by v false e w =
       scheme = w.scheme;
       value = w.value;
     })
-    (ap (λ (b : Bool). cond b (normal_0 n) n) e)
+    (ap (λ (b : Bool). cond b (normal_emsg_0 n) n) e)
     (ap (written n) e ∙ sym (ap (written v) e))
 
 pub normal_form_emsg : (v : EmsgBox) → WritableEmsg v → Normal WritableEmsg bytes_emsg normal_emsg v
@@ -120,17 +120,17 @@ some_is (Some t) e = refl
 some_is None e = absurd cc
 
 back_0 : (v : EmsgBox) (rest : List ℕ) → WritableEmsg v → (v.version == 0) ≡ true
-    → (reads_0 (joined (columns_emsg v) ++ (bytes_texts v ++ (joined (numbers_0 v) ++ (v.message_data ++ rest)))) (size_emsg v)).outcome ≡ Ok (normal_0 v)
-unfolding reads_0
+    → (reads_emsg_0 (joined (columns_emsg v) ++ (texts_emsg v ++ (joined (numbers_emsg_0 v) ++ (v.message_data ++ rest)))) (size_emsg v)).outcome ≡ Ok (normal_emsg_0 v)
+unfolding reads_emsg_0
 back_0 v rest w e =
     let cs = columns_emsg v in
-    let ns = numbers_0 v in
+    let ns = numbers_emsg_0 v in
     let texts : List ℕ × List ℕ = (v.scheme_id_uri, v.value) in
     let at = behind 12 texts in
     let tail = v.message_data ++ rest in
-    let B = joined cs ++ (bytes_texts v ++ (joined ns ++ tail)) in
-    let front = joined cs ++ bytes_texts v in
-    let long : length front ≡ at = omega (arith, length-append (joined cs) (bytes_texts v), length-joined cs, length_texts v) in
+    let B = joined cs ++ (texts_emsg v ++ (joined ns ++ tail)) in
+    let front = joined cs ++ texts_emsg v in
+    let long : length front ≡ at = omega (arith, length-append (joined cs) (texts_emsg v), length-joined cs, length_texts v) in
     let behind_numbers : length (front ++ joined ns) ≡ at + 16 = omega (arith, length-append front (joined ns), length-joined ns, long) in
     let split : B ≡ front ++ (joined ns ++ tail) = simp append_assoc in
     let split_more : B ≡ (front ++ joined ns) ++ (v.message_data ++ rest) = simp append_assoc in
@@ -138,7 +138,7 @@ back_0 v rest w e =
     let two : two_texts B 12 ≡ taken texts = two_back (joined cs) v.scheme_id_uri v.value (joined ns ++ tail) 12 (length-joined cs) w.scheme w.value in
     let stands : fields B at 16 ≡ done tt = fields_stand B at 16 (omega (arith, ap length split_more, length-append (front ++ joined ns) (v.message_data ++ rest), behind_numbers)) in
     let message : message_from B (size_emsg v) (at + 16) ≡ taken v.message_data = ap (λ (l : List ℕ). message_from l (size_emsg v) (at + 16)) split_more ∙ message_back (front ++ joined ns) v.message_data rest (size_emsg v) (at + 16) behind_numbers size in
-    let head : number B ≡ found cs (bytes_texts v ++ (joined ns ++ tail)) = numbers-joined cs (bytes_texts v ++ (joined ns ++ tail)) w.fit in
+    let head : number B ≡ found cs (texts_emsg v ++ (joined ns ++ tail)) = numbers-joined cs (texts_emsg v ++ (joined ns ++ tail)) w.fit in
     let numbers : number (drop at B) ≡ found ns tail = ap (λ (l : List ℕ). number (drop at l)) split ∙ ap number (drop_at front (joined ns ++ tail) at long) ∙ numbers-joined ns tail w.fit_0 in
     rw (two, stands, message, head, numbers) (ap (λ (time : Option ℕ). Ok (record v { presentation_time = None; presentation_time_delta = time })) (some_is v.presentation_time_delta (time_0 v e w.time)))
 
@@ -151,24 +151,24 @@ and_second true b e = e
 and_second false b e = absurd cc
 
 back_1 : (v : EmsgBox) (rest : List ℕ) → WritableEmsg v → (v.version == 0) ≡ false
-    → (reads_1 (joined (columns_emsg v) ++ (joined (numbers_1 v) ++ (bytes_texts v ++ (v.message_data ++ rest)))) (size_emsg v)).outcome ≡ Ok (normal_1 v)
-unfolding reads_1
+    → (reads_emsg_1 (joined (columns_emsg v) ++ (joined (numbers_emsg_1 v) ++ (texts_emsg v ++ (v.message_data ++ rest)))) (size_emsg v)).outcome ≡ Ok (normal_emsg_1 v)
+unfolding reads_emsg_1
 back_1 v rest w e =
     let cs = columns_emsg v in
-    let ns = numbers_1 v in
+    let ns = numbers_emsg_1 v in
     let texts : List ℕ × List ℕ = (v.scheme_id_uri, v.value) in
     let at = behind 32 texts in
-    let tail = bytes_texts v ++ (v.message_data ++ rest) in
+    let tail = texts_emsg v ++ (v.message_data ++ rest) in
     let B = joined cs ++ (joined ns ++ tail) in
     let front = joined cs ++ joined ns in
     let long : length front ≡ 32 = omega (arith, length-append (joined cs) (joined ns), length-joined cs, length-joined ns) in
-    let behind_texts : length (front ++ bytes_texts v) ≡ at = omega (arith, length-append front (bytes_texts v), length_texts v, long) in
-    let split : B ≡ front ++ (bytes_texts v ++ (v.message_data ++ rest)) = simp append_assoc in
-    let split_more : B ≡ (front ++ bytes_texts v) ++ (v.message_data ++ rest) = simp append_assoc in
+    let behind_texts : length (front ++ texts_emsg v) ≡ at = omega (arith, length-append front (texts_emsg v), length_texts v, long) in
+    let split : B ≡ front ++ (texts_emsg v ++ (v.message_data ++ rest)) = simp append_assoc in
+    let split_more : B ≡ (front ++ texts_emsg v) ++ (v.message_data ++ rest) = simp append_assoc in
     let size : size_emsg v ≡ at + length v.message_data = ap (λ (b : Bool). 12 + (cond b 18 22 + length v.scheme_id_uri + length v.value) + length v.message_data) e ∙ (let n : 12 + (22 + length v.scheme_id_uri + length v.value) + length v.message_data ≡ at + length v.message_data = omega arith in n) in
-    let stands : fields B 12 20 ≡ done tt = fields_stand B 12 20 (omega (arith, ap length split_more, length-append (front ++ bytes_texts v) (v.message_data ++ rest), behind_texts)) in
+    let stands : fields B 12 20 ≡ done tt = fields_stand B 12 20 (omega (arith, ap length split_more, length-append (front ++ texts_emsg v) (v.message_data ++ rest), behind_texts)) in
     let two : two_texts B 32 ≡ taken texts = ap (λ (l : List ℕ). two_texts l 32) split ∙ two_back front v.scheme_id_uri v.value (v.message_data ++ rest) 32 long w.scheme w.value in
-    let message : message_from B (size_emsg v) at ≡ taken v.message_data = ap (λ (l : List ℕ). message_from l (size_emsg v) at) split_more ∙ message_back (front ++ bytes_texts v) v.message_data rest (size_emsg v) at behind_texts size in
+    let message : message_from B (size_emsg v) at ≡ taken v.message_data = ap (λ (l : List ℕ). message_from l (size_emsg v) at) split_more ∙ message_back (front ++ texts_emsg v) v.message_data rest (size_emsg v) at behind_texts size in
     let head : number B ≡ found cs (joined ns ++ tail) = numbers-joined cs (joined ns ++ tail) w.fit in
     let numbers : number (drop 12 B) ≡ found ns tail = ap number (drop_at (joined cs) (joined ns ++ tail) 12 (length-joined cs)) ∙ numbers-joined ns tail w.fit_1 in
     let time : is_some v.presentation_time ≡ true = and_second (v.version == 1) (is_some v.presentation_time) (time_1 v e w.time) in
@@ -176,41 +176,41 @@ back_1 v rest w e =
 
 -- version and flags, and then what follows
 begun : (v : EmsgBox) (tail : List ℕ) (start : ℕ) (o : Result EmsgBox Fault) → WritableEmsg v
-    → (reads_version v.version (joined (columns_emsg v) ++ tail) (size_emsg v)).outcome ≡ o → (reads_emsg (joined (columns_emsg v) ++ tail) start (size_emsg v)).outcome ≡ o
+    → (reads_emsg_version v.version (joined (columns_emsg v) ++ tail) (size_emsg v)).outcome ≡ o → (reads_emsg (joined (columns_emsg v) ++ tail) start (size_emsg v)).outcome ≡ o
 unfolding reads_emsg
 begun v tail start o w later =
     let cs = columns_emsg v in
     let B = joined cs ++ tail in
-    outcome_bind (fields B 8 4) (λ _. reads_version (number B 8 1) B (size_emsg v)) tt o (ap (λ (r : Reading (Unit {0})). r.outcome) (fields-joined cs tail 8 4 (lit≤ tt)))
-    (ap (λ (version : ℕ). (reads_version version B (size_emsg v)).outcome) (number-joined cs tail 8 1 w.fit) ∙ later)
+    outcome_bind (fields B 8 4) (λ _. reads_emsg_version (number B 8 1) B (size_emsg v)) tt o (ap (λ (r : Reading (Unit {0})). r.outcome) (fields-joined cs tail 8 4 (lit≤ tt)))
+    (ap (λ (version : ℕ). (reads_emsg_version version B (size_emsg v)).outcome) (number-joined cs tail 8 1 w.fit) ∙ later)
 
 back_by : (v : EmsgBox) (rest : List ℕ) (start : ℕ) (b : Bool) → (v.version == 0) ≡ b → WritableEmsg v → (reads_emsg (bytes_emsg v ++ rest) start (size_emsg v)).outcome ≡ Ok (normal_emsg v)
 unfolding bytes_emsg
 back_by v rest start true e w =
     let J = joined (columns_emsg v) in
-    let T = bytes_texts v in
-    let N = joined (numbers_0 v) in
+    let T = texts_emsg v in
+    let N = joined (numbers_emsg_0 v) in
     let m = v.message_data in
     let B = J ++ (T ++ (N ++ (m ++ rest))) in
-    let is : bytes_emsg v ≡ J ++ ((T ++ N) ++ m) = ap (λ (b : Bool). J ++ (cond b (T ++ N) (joined (numbers_1 v) ++ T) ++ m)) e in
+    let is : bytes_emsg v ≡ J ++ ((T ++ N) ++ m) = ap (λ (b : Bool). J ++ (cond b (T ++ N) (joined (numbers_emsg_1 v) ++ T) ++ m)) e in
     let regroup : (J ++ ((T ++ N) ++ m)) ++ rest ≡ B = simp append_assoc in
     ap (λ (l : List ℕ). (reads_emsg (l ++ rest) start (size_emsg v)).outcome) is
     ∙ ap (λ (l : List ℕ). (reads_emsg l start (size_emsg v)).outcome) regroup
-    ∙ begun v (T ++ (N ++ (m ++ rest))) start (Ok (normal_0 v)) w (ap (λ (b : Bool). (cond b (reads_0 B (size_emsg v)) (cond (v.version == 1) (reads_1 B (size_emsg v)) (faults Invalid))).outcome) e ∙ back_0 v rest w e)
-    ∙ ap (λ (b : Bool). Ok (cond b (normal_0 v) (normal_1 v))) (sym e)
+    ∙ begun v (T ++ (N ++ (m ++ rest))) start (Ok (normal_emsg_0 v)) w (ap (λ (b : Bool). (cond b (reads_emsg_0 B (size_emsg v)) (cond (v.version == 1) (reads_emsg_1 B (size_emsg v)) (faults Invalid))).outcome) e ∙ back_0 v rest w e)
+    ∙ ap (λ (b : Bool). Ok (cond b (normal_emsg_0 v) (normal_emsg_1 v))) (sym e)
 back_by v rest start false e w =
     let J = joined (columns_emsg v) in
-    let T = bytes_texts v in
-    let N = joined (numbers_1 v) in
+    let T = texts_emsg v in
+    let N = joined (numbers_emsg_1 v) in
     let m = v.message_data in
     let B = J ++ (N ++ (T ++ (m ++ rest))) in
-    let is : bytes_emsg v ≡ J ++ ((N ++ T) ++ m) = ap (λ (b : Bool). J ++ (cond b (T ++ joined (numbers_0 v)) (N ++ T) ++ m)) e in
+    let is : bytes_emsg v ≡ J ++ ((N ++ T) ++ m) = ap (λ (b : Bool). J ++ (cond b (T ++ joined (numbers_emsg_0 v)) (N ++ T) ++ m)) e in
     let regroup : (J ++ ((N ++ T) ++ m)) ++ rest ≡ B = simp append_assoc in
     let one : (v.version == 1) ≡ true = and_first (v.version == 1) (is_some v.presentation_time) (time_1 v e w.time) in
     ap (λ (l : List ℕ). (reads_emsg (l ++ rest) start (size_emsg v)).outcome) is
     ∙ ap (λ (l : List ℕ). (reads_emsg l start (size_emsg v)).outcome) regroup
-    ∙ begun v (N ++ (T ++ (m ++ rest))) start (Ok (normal_1 v)) w (ap (λ (b : Bool). (cond b (reads_0 B (size_emsg v)) (cond (v.version == 1) (reads_1 B (size_emsg v)) (faults Invalid))).outcome) e ∙ ap (λ (b : Bool). (cond b (reads_1 B (size_emsg v)) (faults Invalid)).outcome) one ∙ back_1 v rest w e)
-    ∙ ap (λ (b : Bool). Ok (cond b (normal_0 v) (normal_1 v))) (sym e)
+    ∙ begun v (N ++ (T ++ (m ++ rest))) start (Ok (normal_emsg_1 v)) w (ap (λ (b : Bool). (cond b (reads_emsg_0 B (size_emsg v)) (cond (v.version == 1) (reads_emsg_1 B (size_emsg v)) (faults Invalid))).outcome) e ∙ ap (λ (b : Bool). (cond b (reads_emsg_1 B (size_emsg v)) (faults Invalid)).outcome) one ∙ back_1 v rest w e)
+    ∙ ap (λ (b : Bool). Ok (cond b (normal_emsg_0 v) (normal_emsg_1 v))) (sym e)
 
 pub read_back_emsg : (v : EmsgBox) → WritableEmsg v → RowReadsBack reads_emsg (bytes_emsg v) (size_emsg v) (normal_emsg v)
 read_back_emsg v w rest start top = back_by v rest start (v.version == 0) refl w
@@ -219,16 +219,16 @@ read_back_emsg v w rest start top = back_by v rest start (v.version == 0) refl w
 abbrev IsSound : EmsgBox → Type 0
 IsSound v = (normal_emsg v ≡ v) × (size_emsg v < 2 ^ 32 → WritableEmsg v)
 
-sound_0 : (bytes : List ℕ) (long : ℕ) (v : EmsgBox) → AreBytes bytes → (number bytes 8 1 == 0) ≡ true → (reads_0 bytes long).outcome ≡ Ok v → IsSound v
-unfolding reads_0
+sound_0 : (bytes : List ℕ) (long : ℕ) (v : EmsgBox) → AreBytes bytes → (number bytes 8 1 == 0) ≡ true → (reads_emsg_0 bytes long).outcome ≡ Ok v → IsSound v
+unfolding reads_emsg_0
 sound_0 bytes long v are zero_is e =
-    let last = λ (texts : List ℕ × List ℕ) (message : List ℕ). done (value_0 (number bytes) (number (drop (behind 12 texts) bytes)) texts message) in
+    let last = λ (texts : List ℕ × List ℕ) (message : List ℕ). done (value_emsg_0 (number bytes) (number (drop (behind 12 texts) bytes)) texts message) in
     let p = value_first (two_texts bytes 12) (λ texts. fields bytes (behind 12 texts) 16 >>= λ _. message_from bytes long (behind 12 texts + 16) >>= last texts) v e in
     let q = value_first (message_from bytes long (behind 12 p.0 + 16)) (last p.0) v (fields_ok bytes (behind 12 p.0) 16 (λ _. message_from bytes long (behind 12 p.0 + 16) >>= last p.0) v p.2) in
     let D = drop (behind 12 p.0) bytes in
     let are_D : AreBytes D = are_bytes-drop (behind 12 p.0) bytes are in
     let texts = texts_are bytes 12 p.0 p.1 in
-    let made : EmsgBox = value_0 (number bytes) (number D) p.0 q.0 in
+    let made : EmsgBox = value_emsg_0 (number bytes) (number D) p.0 q.0 in
     let can : size_emsg made < 2 ^ 32 → WritableEmsg made = λ small. record {
       fit = (small, (lit< tt, (number-below bytes 8 1 are, (number-below bytes 9 3 are, tt))));
       fit_0 = (number-below D 0 4 are_D, (number-below D 4 4 are_D, (number-below D 8 4 are_D, (number-below D 12 4 are_D, tt))));
@@ -237,18 +237,18 @@ sound_0 bytes long v are zero_is e =
       scheme = texts.0;
       value = texts.1;
     } in
-    subst IsSound (is_value made v q.2) (ap (λ (b : Bool). cond b made (normal_1 made)) zero_is, can)
+    subst IsSound (is_value made v q.2) (ap (λ (b : Bool). cond b made (normal_emsg_1 made)) zero_is, can)
 
-sound_1 : (bytes : List ℕ) (long : ℕ) (v : EmsgBox) → AreBytes bytes → (number bytes 8 1 == 0) ≡ false → (number bytes 8 1 == 1) ≡ true → (reads_1 bytes long).outcome ≡ Ok v → IsSound v
-unfolding reads_1
+sound_1 : (bytes : List ℕ) (long : ℕ) (v : EmsgBox) → AreBytes bytes → (number bytes 8 1 == 0) ≡ false → (number bytes 8 1 == 1) ≡ true → (reads_emsg_1 bytes long).outcome ≡ Ok v → IsSound v
+unfolding reads_emsg_1
 sound_1 bytes long v are other one_is e =
-    let last = λ (texts : List ℕ × List ℕ) (message : List ℕ). done (value_1 (number bytes) (number (drop 12 bytes)) texts message) in
+    let last = λ (texts : List ℕ × List ℕ) (message : List ℕ). done (value_emsg_1 (number bytes) (number (drop 12 bytes)) texts message) in
     let p = value_first (two_texts bytes 32) (λ texts. message_from bytes long (behind 32 texts) >>= last texts) v (fields_ok bytes 12 20 (λ _. two_texts bytes 32 >>= λ texts. message_from bytes long (behind 32 texts) >>= last texts) v e) in
     let q = value_first (message_from bytes long (behind 32 p.0)) (last p.0) v p.2 in
     let D = drop 12 bytes in
     let are_D : AreBytes D = are_bytes-drop 12 bytes are in
     let texts = texts_are bytes 32 p.0 p.1 in
-    let made : EmsgBox = value_1 (number bytes) (number D) p.0 q.0 in
+    let made : EmsgBox = value_emsg_1 (number bytes) (number D) p.0 q.0 in
     let can : size_emsg made < 2 ^ 32 → WritableEmsg made = λ small. record {
       fit = (small, (lit< tt, (number-below bytes 8 1 are, (number-below bytes 9 3 are, tt))));
       fit_0 = (number-below D 0 4 are_D, (lit< tt, (number-below D 12 4 are_D, (number-below D 16 4 are_D, tt))));
@@ -257,10 +257,10 @@ sound_1 bytes long v are other one_is e =
       scheme = texts.0;
       value = texts.1;
     } in
-    subst IsSound (is_value made v q.2) (ap (λ (b : Bool). cond b (normal_0 made) made) other, can)
+    subst IsSound (is_value made v q.2) (ap (λ (b : Bool). cond b (normal_emsg_0 made) made) other, can)
 
 sound_by : (bytes : List ℕ) (long : ℕ) (v : EmsgBox) (a b : Bool) → AreBytes bytes → (number bytes 8 1 == 0) ≡ a → (number bytes 8 1 == 1) ≡ b
-    → (cond a (reads_0 bytes long) (cond b (reads_1 bytes long) (faults Invalid))).outcome ≡ Ok v → IsSound v
+    → (cond a (reads_emsg_0 bytes long) (cond b (reads_emsg_1 bytes long) (faults Invalid))).outcome ≡ Ok v → IsSound v
 sound_by bytes long v true b are p q e = sound_0 bytes long v are p e
 sound_by bytes long v false true are p q e = sound_1 bytes long v are p q e
 sound_by bytes long v false false are p q e = absurd cc
@@ -268,4 +268,4 @@ sound_by bytes long v false false are p q e = absurd cc
 pub sound_emsg : RowIsSound reads_emsg WritableEmsg size_emsg normal_emsg
 unfolding reads_emsg
 sound_emsg bytes start long v are e =
-    sound_by bytes long v (number bytes 8 1 == 0) (number bytes 8 1 == 1) are refl refl (fields_ok bytes 8 4 (λ _. reads_version (number bytes 8 1) bytes long) v e)
+    sound_by bytes long v (number bytes 8 1 == 0) (number bytes 8 1 == 1) are refl refl (fields_ok bytes 8 4 (λ _. reads_emsg_version (number bytes 8 1) bytes long) v e)

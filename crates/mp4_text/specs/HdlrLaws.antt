@@ -1,17 +1,16 @@
 -- The laws of hdlr.
-use Rattle.std.proofs.Common.{◌≡◌, ℕ, zero, suc, ◌+◌, ◌-◌, ◌<◌, ◌≤◌, ◌^◌, Bool, true, List, [], ◌∷◌, ◌++◌, length, Ok, refl, sym, ap, ◌∙◌, subst, arith, length-append, append_assoc, lit<, lit≤}
+use Rattle.std.proofs.Common.{◌≡◌, ℕ, zero, suc, ◌+◌, ◌-◌, ◌<◌, ◌≤◌, ◌^◌, true, List, [], ◌∷◌, ◌++◌, length, Ok, refl, ap, ◌∙◌, subst, arith, length-append, append_assoc, lit<, lit≤}
 use Rattle.std.proofs.lemmas.Bool.{le-leb}
 use Rattle.std.proofs.lemmas.Str.{IsUtf8-from_ascii}
 use Rattle.std.specs.Prelude.{nat_le, codes, slice_index}
 use Rattle.std.specs.Str.{IsUtf8}
-use Rattle.mp4_frame.specs.Bytes.{number, joined, Fit}
-use Rattle.mp4_frame.specs.FourCC.{four_cc_of, number_of, IsFourCC}
-use Rattle.mp4_frame.specs.Laws.{Framed, Normal, RowReadsBack, RowIsSound, AreBytes}
-use Rattle.mp4_frame.specs.Reading.{Reading, ◌>>=◌, fields, test, piece_from, memory, done}
+use Rattle.mp4_frame.specs.Bytes.{number, joined}
+use Rattle.mp4_frame.specs.Laws.{Framed, Normal, RowReadsBack, RowIsSound}
+use Rattle.mp4_frame.specs.Reading.{◌>>=◌, test, piece_from, memory, done}
 use Rattle.mp4_frame.specs.declared.box_type.BoxType.TheVariants as names
 use Rattle.mp4_frame.specs.declared.four_cc.FourCC.{FourCC}
 use Rattle.mp4_frame.proofs.Codes.{four_cc_back, four_cc_is, small_code}
-use Rattle.mp4_frame.proofs.Columns.{found, numbers-joined, fields-joined, length-joined, number-joined, number-below}
+use Rattle.mp4_frame.proofs.Columns.{numbers-joined, fields-joined, length-joined, number-joined, number-below}
 use Rattle.mp4_frame.proofs.Stands.{fields_ok, test_ok, is_value, piece_back}
 use Rattle.mp4_frame.proofs.Tables.{value_first}
 use Rattle.mp4_text.specs.Terminated.{terminated}

@@ -2,8 +2,6 @@ pub mod Terminated
 pub mod TerminatedLaws
 pub mod Ftyp
 pub mod FtypLaws
-pub mod OptionalChild
-pub mod ChildLaws
 pub mod Url
 pub mod UrlLaws
 pub mod Dref

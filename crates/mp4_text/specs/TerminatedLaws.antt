@@ -1,16 +1,16 @@
 -- A text that was written with its zero byte is read back, and what is read can be written so.
-use Rattle.std.proofs.Common.{◌≡◌, ℕ, suc, ◌+◌, ◌≤◌, Bool, true, false, cond, ◌||◌, List, [], ◌∷◌, ◌++◌, length, take, drop, Result, Ok, refl, sym, ap, ◌∙◌, arith, length-append, append_assoc}
+use Rattle.std.proofs.Common.{◌≡◌, ℕ, suc, ◌+◌, ◌≤◌, Bool, true, false, cond, ◌||◌, List, [], ◌∷◌, ◌++◌, length, take, drop, Ok, refl, ap, ◌∙◌, arith, length-append}
 use Rattle.std.proofs.lemmas.Bool.{or_parts}
 use Rattle.std.proofs.lemmas.List.{drop_at, take_at}
 use Rattle.std.proofs.lemmas.Str.{IsUtf8-from_is_utf8}
 use Rattle.std.specs.List.{before_first, list_any, position_or_len}
 use Rattle.std.specs.Prelude.{not}
-use Rattle.std.specs.Str.{IsUtf8, is_utf8}
-use Rattle.mp4_frame.specs.Reading.{Reading, Fault, ◌>>=◌, fields, test, memory, done}
+use Rattle.std.specs.Str.{is_utf8}
+use Rattle.mp4_frame.specs.Reading.{Reading, ◌>>=◌, fields, memory, done}
 use Rattle.mp4_frame.proofs.Stands.{fields_stand, fields_ok, test_ok, is_value}
 use Rattle.mp4_frame.proofs.Tables.{value_first}
 use Rattle.mp4_frame.specs.TextLaws.{utf8_passes}
-use Rattle.mp4_text.specs.Terminated.{is_zero, before_zero, utf8_text, terminated_text, terminated, IsTerminable}
+use Rattle.mp4_text.specs.Terminated.{is_zero, before_zero, utf8_text, terminated_text, IsTerminable}
 
 -- a value for which memory was asked
 abbrev pub taken : {A : Type 0} → A → Reading A

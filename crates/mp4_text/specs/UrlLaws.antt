@@ -1,18 +1,18 @@
 -- The laws of url.
 use Rattle.std.proofs.Common.{◌≡◌, ℕ, ◌+◌, ◌-◌, ◌<◌, ◌≤◌, ◌^◌, Bool, true, false, cond, eqb, ltb, List, [], ◌∷◌, ◌++◌, length, Ok, refl, sym, ap, ◌∙◌, subst, arith, length-append, append_assoc, lit<}
-use Rattle.std.proofs.lemmas.Bool.{lt-ltb, le-ltb, eqb-true}
+use Rattle.std.proofs.lemmas.Bool.{le-ltb, eqb-true}
 use Rattle.std.proofs.lemmas.List.{append-nil}
 use Rattle.std.proofs.lemmas.Str.{IsUtf8-nil}
 use Rattle.std.specs.Str.{IsUtf8}
 use Rattle.mp4_frame.specs.Bytes.{number, joined, width, Fit}
 use Rattle.mp4_frame.specs.Laws.{Framed, Normal, RowReadsBack, RowIsSound, AreBytes}
-use Rattle.mp4_frame.specs.Reading.{Reading, ◌>>=◌, fields, piece_from, memory, done}
+use Rattle.mp4_frame.specs.Reading.{◌>>=◌, fields, piece_from, memory, done}
 use Rattle.mp4_frame.specs.declared.box_type.BoxType.TheVariants as names
 use Rattle.mp4_frame.proofs.Columns.{found, numbers-joined, fields-joined, length-joined, number-joined, number-below}
 use Rattle.mp4_frame.proofs.Stands.{fields_ok, is_value, piece_back}
 use Rattle.mp4_frame.proofs.Tables.{value_first}
 use Rattle.mp4_frame.specs.TextLaws.{text_as_is, IsUtf8-text_or}
-use Rattle.mp4_text.specs.ChildLaws.{IsChild}
+use Rattle.mp4_frame.proofs.ChildLaws.{IsChild}
 use Rattle.mp4_frame.specs.Text.{text_or}
 use Rattle.mp4_text.specs.Url.{reads_url, reads_location, value_url, columns_url, bytes_location, size_url, WritableUrl, bytes_url, normal_url}
 use Rattle.mp4_text.specs.declared.url.UrlBox.{UrlBox}

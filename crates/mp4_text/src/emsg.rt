@@ -4,7 +4,7 @@ ghost use Rattle.std.specs.Prelude.{◌≡◌, ◌↔◌, ◌+◌, ◌-◌, ◌�
 ghost use Rattle.mp4_frame.specs.Bytes.{joined};
 ghost use Rattle.mp4_frame.specs.Reading.{Answers};
 ghost use Rattle.mp4_frame.specs.declared.box_type.BoxType.TheVariants as names;
-ghost use Rattle.mp4_text.specs.Emsg.{two_texts, behind, message_from, reads_0, reads_1, reads_emsg, size_middle, size_emsg, bytes_texts, bytes_middle, WritableEmsg, bytes_emsg, normal_emsg};
+ghost use Rattle.mp4_text.specs.Emsg.{two_texts, behind, message_from, reads_emsg_0, reads_emsg_1, reads_emsg, size_middle, size_emsg, texts_emsg, middle_emsg, WritableEmsg, bytes_emsg, normal_emsg};
 ghost use Rattle.mp4_text.specs.EmsgLaws.{framed_emsg, normal_form_emsg, read_back_emsg, sound_emsg};
 
 use crate::terminated::{is_terminable, put_terminated, terminated_text_at};
@@ -119,10 +119,10 @@ fn message_at(alloc: Global, bytes: &[u8], size: u64, at: usize) -> Result<Entri
 }
 
 /// Reads a box of version 0, in which the texts stand before the numbers.
-#[tactic(auto, unfolding(crate::specs::Emsg::reads_0))]
-fn read_0(alloc: Global, bytes: &[u8], size: u64) -> Result<EmsgBox>
+#[tactic(auto, unfolding(crate::specs::Emsg::reads_emsg_0))]
+fn read_version_0(alloc: Global, bytes: &[u8], size: u64) -> Result<EmsgBox>
     requires { 12 ≤ length bytes.now }
-    ensures { Answers result (reads_0 bytes.now size) }
+    ensures { Answers result (reads_emsg_0 bytes.now size) }
 {
     let (scheme_id_uri, value) = two_texts_at(alloc, bytes, 12)?;
     let at = scheme_id_uri.len() + value.len() + 14;
@@ -144,10 +144,10 @@ fn read_0(alloc: Global, bytes: &[u8], size: u64) -> Result<EmsgBox>
 }
 
 /// Reads a box of version 1, in which the numbers stand before the texts.
-#[tactic(auto, unfolding(crate::specs::Emsg::reads_1))]
-fn read_1(alloc: Global, bytes: &[u8], size: u64) -> Result<EmsgBox>
+#[tactic(auto, unfolding(crate::specs::Emsg::reads_emsg_1))]
+fn read_version_1(alloc: Global, bytes: &[u8], size: u64) -> Result<EmsgBox>
     requires { 12 ≤ length bytes.now }
-    ensures { Answers result (reads_1 bytes.now size) }
+    ensures { Answers result (reads_emsg_1 bytes.now size) }
 {
     fields(bytes, 12, 20)?;
     let (scheme_id_uri, value) = two_texts_at(alloc, bytes, 32)?;
@@ -175,8 +175,8 @@ impl ReadBox for EmsgBox {
     fn read_row(alloc: Global, bytes: &[u8], _start: u64, size: u64) -> Result<EmsgBox> {
         fields(bytes, 8, 4)?;
         match u8_at(bytes, 8) {
-            0 => read_0(alloc, bytes, size),
-            1 => read_1(alloc, bytes, size),
+            0 => read_version_0(alloc, bytes, size),
+            1 => read_version_1(alloc, bytes, size),
             _ => Err(Error::InvalidData("version must be 0 or 1")),
         }
     }
@@ -257,7 +257,7 @@ impl EmsgBox {
     fn put_texts(&self, place: &mut [u8], at: usize) -> usize
         requires { at + length self.now.scheme_id_uri + length self.now.value + 2 ≤ length place.old }
         ensures next { result ≡ at + length self.now.scheme_id_uri + length self.now.value + 2 }
-        ensures put { take result place.new ≡ take at place.old ++ bytes_texts self.now }
+        ensures put { take result place.new ≡ take at place.old ++ texts_emsg self.now }
     {
         let at = put_terminated(place, at, self.scheme_id_uri.as_bytes());
         put_terminated(place, at, self.value.as_bytes())
@@ -267,7 +267,7 @@ impl EmsgBox {
     fn put_middle(&self, place: &mut [u8], at: usize) -> usize
         requires { at + size_middle self.now ≤ length place.old }
         ensures next { result ≡ at + size_middle self.now }
-        ensures put { take result place.new ≡ take at place.old ++ bytes_middle self.now }
+        ensures put { take result place.new ≡ take at place.old ++ middle_emsg self.now }
     {
         if self.version == 0 {
             let delta = self.presentation_time_delta.unwrap_or(0);

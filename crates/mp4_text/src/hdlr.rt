@@ -1,7 +1,6 @@
 //! The handler of a track or of metadata.
 
 ghost use Rattle.std.specs.Prelude.{◌≡◌, ◌↔◌, ◌+◌, ◌-◌, ◌^◌, [], IfOk, IfErr, IsTrue, length, min, replicate};
-ghost use Rattle.std.specs.Str.{IsUtf8};
 ghost use Rattle.mp4_frame.specs.declared.box_type.BoxType.TheVariants as names;
 ghost use Rattle.mp4_text.specs.Hdlr.{reads_hdlr, size_hdlr, WritableHdlr, bytes_hdlr, normal_hdlr};
 ghost use Rattle.mp4_text.specs.HdlrLaws.{framed_hdlr, normal_form_hdlr, read_back_hdlr, sound_hdlr};

@@ -3,8 +3,8 @@
 ghost use Rattle.std.specs.Prelude.{◌≡◌, ◌++◌, IfOk, OnErr};
 ghost use Rattle.mp4_text.specs.Dinf.{bytes_dinf};
 
-use crate::{DataBox, DinfBox, DrefBox, EmsgBox, HdlrBox, Text, UrlBox};
-use mp4_frame::{BoxLaws, BoxType, ByteCursor, Error, FourCC, Mp4Box, ReadBox, WriteBox};
+use crate::{DataBox, DinfBox, DrefBox, EmsgBox, HdlrBox, UrlBox};
+use mp4_frame::{BoxLaws, BoxType, ByteCursor, Error, FourCC, Mp4Box, ReadBox, Text, WriteBox};
 use mp4_media::DataType;
 use std::alloc::Global;
 use std::process::Abort;

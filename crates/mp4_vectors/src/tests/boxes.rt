@@ -1,41 +1,13 @@
 //! Boxes one by one: worked bytes, wrong sizes, and every cut.
 
 use super::kinds::{Kind, ftyp_kind, kind_of, stco_kind};
-use crate::vectors::{VECTORS, Vector};
+use crate::vectors::Vector;
 use mp4_stream::{
-    AnyBox, BoxHeader, BoxType, ByteCursor, Entries, FourCC, FtypBox, Mp4Box, ReadBox, StcoBox,
-    WriteBox,
+    AnyBox, BoxType, ByteCursor, Entries, FourCC, FtypBox, Mp4Box, ReadBox, StcoBox, WriteBox,
 };
-use std::process::Abort;
 use std::test::Fail;
 
 const FTYP: [u8; 24] = *b"\0\0\0\x18ftypisom\0\0\x02\0isommp41";
-
-fn round_trip(rt: &(impl Abort + AllocGlobal), vector: Vector) -> Result<(), Fail> {
-    let bytes = vector.bytes();
-    let original = vector.make(rt.alloc())?;
-    assert_eq!(rt; original.box_size(), bytes.len() as u64, "{vector:?}");
-    let mut out = Vec::new(rt.alloc());
-    assert_eq!(rt;
-        original.write_box(&mut out)?,
-        bytes.len() as u64,
-        "{vector:?}"
-    );
-    assert_eq!(rt; out.as_slice(), bytes, "{vector:?}");
-    let header = BoxHeader::read(&mut ByteCursor::new(&out))?;
-    assert_eq!(rt; header.name, original.box_type(), "{vector:?}");
-    assert_eq!(rt; header.size, original.box_size(), "{vector:?}");
-    assert!(rt; original.try_clone()? == original, "{vector:?}");
-    Ok(())
-}
-
-#[test]
-fn vectors_are_written(rt: HostRuntime) -> Result<(), Fail> {
-    for vector in VECTORS {
-        round_trip(&rt, vector)?;
-    }
-    Ok(())
-}
 
 #[test]
 fn ftyp_of_two_brands(rt: HostRuntime) -> Result<(), Fail> {

@@ -34,27 +34,43 @@ fn laws_of_lists<B: StreamBox>() {
 }
 
 #[test]
-fn laws_hold_of_fixed_fields() {
+fn laws_hold_of_times() {
     laws_of_a_box::<MvhdBox>();
     laws_of_a_box::<TkhdBox>();
     laws_of_a_box::<MdhdBox>();
-    laws_of_a_box::<MehdBox>();
-    laws_of_a_box::<MfhdBox>();
-    laws_of_a_box::<SmhdBox>();
-    laws_of_a_box::<VmhdBox>();
-    laws_of_a_box::<TrexBox>();
-    laws_of_a_box::<TfdtBox>();
 }
 
 #[test]
-fn laws_hold_of_tables() {
+fn laws_hold_of_fragments() {
+    laws_of_a_box::<MehdBox>();
+    laws_of_a_box::<MfhdBox>();
+    laws_of_a_box::<TfdtBox>();
+    laws_of_a_box::<TrexBox>();
+}
+
+#[test]
+fn laws_hold_of_sound_and_picture() {
+    laws_of_a_box::<SmhdBox>();
+    laws_of_a_box::<VmhdBox>();
+}
+
+#[test]
+fn laws_hold_of_chunks() {
     laws_of_a_box::<StcoBox>();
     laws_of_a_box::<Co64Box>();
+    laws_of_a_box::<StscBox>();
+}
+
+#[test]
+fn laws_hold_of_samples() {
     laws_of_a_box::<SttsBox>();
     laws_of_a_box::<CttsBox>();
     laws_of_a_box::<StssBox>();
     laws_of_a_box::<StszBox>();
-    laws_of_a_box::<StscBox>();
+}
+
+#[test]
+fn laws_hold_of_edits_and_runs() {
     laws_of_a_box::<ElstBox>();
     laws_of_a_box::<TfhdBox>();
     laws_of_a_box::<TrunBox>();
@@ -66,6 +82,10 @@ fn laws_hold_of_texts() {
     laws_of_a_box::<HdlrBox>();
     laws_of_a_box::<DataBox>();
     laws_of_a_box::<EmsgBox>();
+}
+
+#[test]
+fn laws_hold_of_references() {
     laws_of_a_box::<UrlBox>();
     laws_of_a_box::<DrefBox>();
     laws_of_a_box::<DinfBox>();

@@ -1,5 +1,5 @@
 use Rattle.std.proofs.Common.{arith}
-use Rattle.mp4_text.specs.ChildLaws.{all_children}
+use Rattle.mp4_frame.proofs.ChildLaws.{all_children}
 use Rattle.mp4_text.specs.Dref.{reads_dref}
 use Rattle.mp4_text.proofs.laws.dinf_is_read_to_its_end.Goals as goal
 

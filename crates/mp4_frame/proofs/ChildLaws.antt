@@ -7,7 +7,7 @@ use Rattle.mp4_frame.specs.Bytes.{number, joined}
 use Rattle.mp4_frame.specs.Children.{child, wanted, last, children}
 use Rattle.mp4_frame.specs.Heads.{head, compact_head, large_head}
 use Rattle.mp4_frame.specs.Laws.{Framed, Normal, RowReadsBack, RowIsSound, AreBytes}
-use Rattle.mp4_frame.specs.Reading.{Reading, Fault, ◌>>=◌, and_then, also, fields, test, done}
+use Rattle.mp4_frame.specs.Reading.{Reading, Fault, ◌>>=◌, and_then, also, test, done}
 use Rattle.mp4_frame.specs.declared.box_type.BoxType.{BoxType}
 use Rattle.mp4_frame.specs.declared.head.Head.{Head}
 use Rattle.mp4_frame.proofs.Chains.{children_none, children_zero}
@@ -15,7 +15,7 @@ use Rattle.mp4_frame.proofs.Children.{only_child, children_sound, ForSome}
 use Rattle.mp4_frame.proofs.Columns.{length-joined}
 use Rattle.mp4_frame.proofs.Stands.{fields_ok, test_ok, is_value}
 use Rattle.mp4_frame.proofs.Tables.{value_first}
-use Rattle.mp4_text.specs.OptionalChild.{count_optional, size_optional, WritableOptional, bytes_optional, normal_optional}
+use Rattle.mp4_frame.specs.OptionalChild.{count_optional, size_optional, WritableOptional, bytes_optional, normal_optional}
 
 abbrev compact : List ℕ → ℕ → Head
 compact bytes o = record { code = number bytes (o + 4) 4; size = number bytes o 4; start = o }

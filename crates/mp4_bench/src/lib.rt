@@ -1,0 +1,79 @@
+//! The codec for a program that measures it: whole streams are read, and written, as often as is asked.
+#![tactic(auto)]
+
+ghost use Rattle.std.specs.Prelude.{◌≡◌, ◌-◌, ◌^◌, ◌⊎◌, List, Ok, take, IfOk};
+ghost use Rattle.mp4_frame.specs.Streams.{stream, boxes};
+ghost use Rattle.mp4_stream.specs.AnyBox.{bytes_any, known_any, reading_any};
+ghost use Rattle.mp4_stream.specs.declared.any_box.AnyBox.{AnyBox};
+
+use mp4_stream::{AnyBox, ByteCursor, Error, Mp4Box, Result, read_boxes, write_boxes};
+use std::alloc::Global;
+
+/// The codes and the sizes of the boxes, added up modulo 2^64.
+fn checksum(boxes: &[AnyBox]) -> u64 {
+    let mut sum: u64 = 0;
+    for b in boxes {
+        let code = u32::from(b.box_type());
+        sum = sum.wrapping_add(u64::from(code)).wrapping_add(b.box_size());
+    }
+    sum
+}
+
+fn read_times(alloc: Global, bytes: &[u8], times: u64) -> Result<u64> {
+    let mut sum: u64 = 0;
+    for _ in 0..times {
+        let boxes = read_boxes(alloc, &mut ByteCursor::new(bytes))?;
+        sum = sum.wrapping_add(checksum(&boxes));
+    }
+    Ok(sum)
+}
+
+fn write_times(alloc: Global, bytes: &[u8], times: u64) -> Result<u64> {
+    let boxes = read_boxes(alloc, &mut ByteCursor::new(bytes))?;
+    let mut sum: u64 = 0;
+    for _ in 0..times {
+        let mut out = Vec::new(alloc);
+        sum = sum.wrapping_add(write_boxes(&boxes, &mut out)?);
+        if let Some(last) = out.last() {
+            sum = sum.wrapping_add(u64::from(*last));
+        }
+    }
+    Ok(sum)
+}
+
+/// Puts what is written of a stream at the front of a place that it fits in, and answers its length.
+fn rewrite(alloc: Global, bytes: &[u8], place: &mut [u8]) -> Result<u64>
+    ensures { IfOk result (λ n. (vs : List AnyBox) × ((boxes known_any reading_any bytes.now 0).outcome ≡ Ok vs) × (take n place.new ≡ stream bytes_any vs)) }
+{
+    let boxes = read_boxes(alloc, &mut ByteCursor::new(bytes))?;
+    let mut out = Vec::new(alloc);
+    let n = write_boxes(&boxes, &mut out)?;
+    if out.len() > place.len() {
+        return Err(Error::OutOfMemory);
+    }
+    place[..out.len()].copy_from_slice(&out);
+    Ok(n)
+}
+
+/// Reads a stream so many times, each time into new boxes, and answers the sum of their checksums. A fault or
+/// want of memory ends it with `u64::MAX`.
+#[unsafe(no_mangle)]
+pub extern "C" fn mp4_read(alloc: Global, bytes: &[u8], times: u64) -> u64 {
+    read_times(alloc, bytes, times).unwrap_or(u64::MAX)
+}
+
+/// Reads a stream once and writes its boxes so many times, each time into a new vector, and answers the sum of
+/// the lengths and of the last bytes. A fault or want of memory ends it with `u64::MAX`.
+#[unsafe(no_mangle)]
+pub extern "C" fn mp4_write(alloc: Global, bytes: &[u8], times: u64) -> u64 {
+    write_times(alloc, bytes, times).unwrap_or(u64::MAX)
+}
+
+/// Reads a stream, puts what its boxes are written in at the front of `place`, and answers the length of that:
+/// 0 if all boxes were skipped. A fault, want of memory or want of room ends it with `u64::MAX`.
+#[unsafe(no_mangle)]
+pub extern "C" fn mp4_rewrite(alloc: Global, bytes: &[u8], place: &mut [u8]) -> u64
+    ensures { (result ≡ 2 ^ 64 - 1) ⊎ ((vs : List AnyBox) × ((boxes known_any reading_any bytes.now 0).outcome ≡ Ok vs) × (take result place.new ≡ stream bytes_any vs)) }
+{
+    rewrite(alloc, bytes, place).unwrap_or(u64::MAX)
+}
