@@ -41,13 +41,6 @@ fn check<B: BoxLaws + PartialEq + Drop>(
     Ok(())
 }
 
-fn copied(header: &MvhdBox) -> Result<MvhdBox, Error>
-    ensures clone { IfOk result (λ clone. clone ≡ header.now) }
-    ensures memory { IfErr result (λ e. e ≡ Error.OutOfMemory) }
-{
-    Ok(header.clone()?)
-}
-
 fn default_extent() -> MehdBox
     ensures { result ≡ record { version = 0; flags = 0; fragment_duration = 0 } }
 {
@@ -111,7 +104,6 @@ fn movie_headers(rt: HostRuntime) -> Result<(), Fail> {
         00010000 00000000 00000000 00000000 00010000 00000000 00000000 00000000 40000000
         00000000 00000000 00000000 00000000 00000000 00000000 00000001",
     )?;
-    assert!(rt; copied(&header)? == header);
     header.version = 2;
     check_refused(&rt, &header, 92);
     assert_eq!(rt; header.get_type(), BoxType::MvhdBox);
