@@ -1,9 +1,7 @@
-pub mod FullBox
 pub mod Time
 pub mod Matrix
 pub mod Language
 pub mod LanguageLaws
-pub mod FieldLaws
 pub mod TimeLaws
 pub mod MatrixLaws
 pub mod Mdhd

@@ -4,7 +4,7 @@ use Rattle.mp4_frame.specs.Bytes.{number}
 use Rattle.mp4_frame.specs.Laws.{AreBytes}
 use Rattle.mp4_frame.proofs.Columns.{found}
 use Rattle.mp4_frame.proofs.Signed.{back32, signed32}
-use Rattle.mp4_flat.specs.FieldLaws.{Origin, Signed32}
+use Rattle.mp4_frame.proofs.Framing.{Origin, Signed32}
 use Rattle.mp4_flat.specs.Matrix.{matrix_at, columns_matrix, IsMatrix}
 use Rattle.mp4_flat.specs.declared.matrix.Matrix.{Matrix}
 

@@ -2,9 +2,8 @@
 -- Version 1 byte, flags 3, creation time t bytes at 12, modification time t, timescale 4, duration t, language 2,
 -- and 2 bytes of zero, which need not stand there to be read.
 use Rattle.std.specs.Prelude.{ℕ, ◌+◌, ◌*◌, List, [], ◌∷◌, ◌++◌, codes}
-use Rattle.mp4_frame.specs.Bytes.{joined}
+use Rattle.mp4_frame.specs.Bytes.{joined, full_box}
 use Rattle.mp4_frame.specs.Reading.{Reading, ◌>>=◌, memory, done}
-use Rattle.mp4_flat.specs.FullBox.{full_box}
 use Rattle.mp4_flat.specs.Language.{language_code, letters}
 use Rattle.mp4_flat.specs.Time.{time_width, timed_size, reads_timed, WritableTimed}
 use Rattle.mp4_flat.specs.declared.mdhd.MdhdBox.{MdhdBox}

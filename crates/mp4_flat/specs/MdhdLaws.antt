@@ -7,7 +7,7 @@ use Rattle.mp4_frame.specs.declared.box_type.BoxType.TheVariants as names
 use Rattle.mp4_frame.proofs.Decided.{outcome_bind}
 use Rattle.mp4_frame.proofs.Stands.{is_value}
 use Rattle.mp4_frame.proofs.Tables.{value_first}
-use Rattle.mp4_flat.specs.FieldLaws.{framed_columns, fits_read, Number, Fitting}
+use Rattle.mp4_frame.proofs.Framing.{framed_columns, fits_read, Number, Fitting}
 use Rattle.mp4_flat.specs.Language.{language_code, letters}
 use Rattle.mp4_flat.specs.LanguageLaws.{language_fits, language_back, letters_back}
 use Rattle.mp4_flat.specs.Time.{time_width, reads_timed, WritableTimed}

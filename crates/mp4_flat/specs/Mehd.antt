@@ -1,9 +1,8 @@
 -- mehd, the movie extends header box (ISO/IEC 14496-12, 8.8.2): version 1 byte, which is 0 or 1, flags 3, and
 -- the duration at 12, in 4 bytes or 8.
 use Rattle.std.specs.Prelude.{ℕ, ◌+◌, List, [], ◌∷◌, ◌++◌}
-use Rattle.mp4_frame.specs.Bytes.{joined}
+use Rattle.mp4_frame.specs.Bytes.{joined, full_box}
 use Rattle.mp4_frame.specs.Reading.{Reading}
-use Rattle.mp4_flat.specs.FullBox.{full_box}
 use Rattle.mp4_flat.specs.Time.{time_width, timed_size, reads_timed, WritableTimed}
 use Rattle.mp4_flat.specs.declared.mehd.MehdBox.{MehdBox}
 

@@ -1,9 +1,9 @@
 -- The laws of mehd, whose time has two widths.
 use Rattle.std.proofs.Common.{◌<◌, ◌^◌, [], ◌∷◌, refl, subst, lit<, lit≤, arith}
 use Rattle.mp4_frame.specs.Bytes.{number}
-use Rattle.mp4_frame.specs.Laws.{Framed, Normal, RowReadsBack, RowIsSound}
+use Rattle.mp4_frame.specs.Laws.{Framed, RowReadsBack, RowIsSound}
 use Rattle.mp4_frame.specs.declared.box_type.BoxType.TheVariants as names
-use Rattle.mp4_flat.specs.FieldLaws.{framed_columns, fits_read, Number}
+use Rattle.mp4_frame.proofs.Framing.{framed_columns, fits_read, Number}
 use Rattle.mp4_flat.specs.Time.{time_width}
 use Rattle.mp4_flat.specs.TimeLaws.{timed_size-known, timed_back, timed_is}
 use Rattle.mp4_flat.specs.Mehd.{value_mehd, reads_mehd, size_mehd, columns_mehd, WritableMehd, bytes_mehd, normal_mehd}
@@ -12,9 +12,6 @@ use Rattle.mp4_flat.specs.declared.mehd.MehdBox.{MehdBox}
 pub framed_mehd : (v : MehdBox) → WritableMehd v → Framed (size_mehd v) names.MehdBox (bytes_mehd v)
 unfolding bytes_mehd
 framed_mehd v w = framed_columns _ w.fit (omega (arith, timed_size-known (λ t. t) v.version w.known))
-
-pub normal_form_mehd : (v : MehdBox) → WritableMehd v → Normal WritableMehd bytes_mehd normal_mehd v
-normal_form_mehd v w = record { writable = w; again = refl; same_bytes = refl }
 
 pub read_back_mehd : (v : MehdBox) → WritableMehd v → RowReadsBack reads_mehd (bytes_mehd v) (size_mehd v) (normal_mehd v)
 unfolding bytes_mehd reads_mehd

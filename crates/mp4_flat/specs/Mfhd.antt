@@ -1,9 +1,8 @@
 -- mfhd, the movie fragment header box (ISO/IEC 14496-12, 8.8.5): version 1 byte, flags 3, and the number of
 -- the fragment in 4 bytes at 12.
 use Rattle.std.specs.Prelude.{ℕ, List, [], ◌∷◌, ◌++◌}
-use Rattle.mp4_frame.specs.Bytes.{number, joined, Fit}
+use Rattle.mp4_frame.specs.Bytes.{number, joined, Fit, full_box}
 use Rattle.mp4_frame.specs.Reading.{Reading, ◌>>=◌, fields, done}
-use Rattle.mp4_flat.specs.FullBox.{full_box}
 use Rattle.mp4_flat.specs.declared.mfhd.MfhdBox.{MfhdBox}
 
 -- the value, by the number n o w of w bytes at o

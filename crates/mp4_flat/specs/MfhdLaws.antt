@@ -1,18 +1,15 @@
 -- The laws of mfhd, which is one run of fields.
 use Rattle.std.proofs.Common.{[], ◌∷◌, refl, subst, lit<, lit≤}
-use Rattle.mp4_frame.specs.Laws.{Framed, Normal, RowReadsBack, RowIsSound}
+use Rattle.mp4_frame.specs.Laws.{Framed, RowReadsBack, RowIsSound}
 use Rattle.mp4_frame.specs.declared.box_type.BoxType.TheVariants as names
 use Rattle.mp4_frame.proofs.Rows.{one_run_again, one_run_is}
-use Rattle.mp4_flat.specs.FieldLaws.{framed_columns, fits_read, Number}
+use Rattle.mp4_frame.proofs.Framing.{framed_columns, fits_read, Number}
 use Rattle.mp4_flat.specs.Mfhd.{value_mfhd, reads_mfhd, size_mfhd, columns_mfhd, WritableMfhd, bytes_mfhd, normal_mfhd}
 use Rattle.mp4_flat.specs.declared.mfhd.MfhdBox.{MfhdBox}
 
 pub framed_mfhd : (v : MfhdBox) → WritableMfhd v → Framed (size_mfhd v) names.MfhdBox (bytes_mfhd v)
 unfolding bytes_mfhd
 framed_mfhd v w = framed_columns _ w refl
-
-pub normal_form_mfhd : (v : MfhdBox) → WritableMfhd v → Normal WritableMfhd bytes_mfhd normal_mfhd v
-normal_form_mfhd v w = record { writable = w; again = refl; same_bytes = refl }
 
 pub read_back_mfhd : (v : MfhdBox) → WritableMfhd v → RowReadsBack reads_mfhd (bytes_mfhd v) (size_mfhd v) (normal_mfhd v)
 unfolding bytes_mfhd reads_mfhd

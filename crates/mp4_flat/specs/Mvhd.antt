@@ -2,9 +2,8 @@
 -- Version 1 byte, flags 3, creation time t bytes at 12, modification time t, timescale 4, duration t, rate 4,
 -- volume 2, 10 of zero, matrix 36, 24 of zero, and the next number of a track in 4.
 use Rattle.std.specs.Prelude.{ℕ, ◌+◌, ◌*◌, List, [], ◌∷◌, ◌++◌}
-use Rattle.mp4_frame.specs.Bytes.{joined}
+use Rattle.mp4_frame.specs.Bytes.{joined, full_box}
 use Rattle.mp4_frame.specs.Reading.{Reading}
-use Rattle.mp4_flat.specs.FullBox.{full_box}
 use Rattle.mp4_flat.specs.Matrix.{matrix_at, columns_matrix, unity, IsMatrix}
 use Rattle.mp4_flat.specs.Time.{time_width, timed_size, reads_timed, WritableTimed}
 use Rattle.mp4_flat.specs.declared.mvhd.MvhdBox.{MvhdBox}

@@ -1,9 +1,9 @@
 -- The laws of mvhd, whose times have two widths.
 use Rattle.std.proofs.Common.{ℕ, ◌+◌, ◌*◌, ◌<◌, ◌^◌, [], ◌∷◌, ◌++◌, refl, ap, subst, lit<, lit≤, arith}
 use Rattle.mp4_frame.specs.Bytes.{number}
-use Rattle.mp4_frame.specs.Laws.{Framed, Normal, RowReadsBack, RowIsSound}
+use Rattle.mp4_frame.specs.Laws.{Framed, RowReadsBack, RowIsSound}
 use Rattle.mp4_frame.specs.declared.box_type.BoxType.TheVariants as names
-use Rattle.mp4_flat.specs.FieldLaws.{framed_columns, fits_read, Number, Fitting}
+use Rattle.mp4_frame.proofs.Framing.{framed_columns, fits_read, Number, Fitting}
 use Rattle.mp4_flat.specs.MatrixLaws.{matrix_back, origins_matrix, matrix_read}
 use Rattle.mp4_flat.specs.Time.{time_width}
 use Rattle.mp4_flat.specs.TimeLaws.{timed_size-known, timed_back, timed_is}
@@ -14,9 +14,6 @@ use Rattle.mp4_flat.specs.declared.mvhd.MvhdBox.{MvhdBox}
 pub framed_mvhd : (v : MvhdBox) → WritableMvhd v → Framed (size_mvhd v) names.MvhdBox (bytes_mvhd v)
 unfolding bytes_mvhd
 framed_mvhd v w = framed_columns _ w.0.fit (omega (arith, timed_size-known (λ t. 4 + 3 * t) v.version w.0.known))
-
-pub normal_form_mvhd : (v : MvhdBox) → WritableMvhd v → Normal WritableMvhd bytes_mvhd normal_mvhd v
-normal_form_mvhd v w = record { writable = w; again = refl; same_bytes = refl }
 
 pub read_back_mvhd : (v : MvhdBox) → WritableMvhd v → RowReadsBack reads_mvhd (bytes_mvhd v) (size_mvhd v) (normal_mvhd v)
 unfolding bytes_mvhd reads_mvhd

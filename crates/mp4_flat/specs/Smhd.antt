@@ -2,9 +2,8 @@
 -- at 12, signed, and 2 bytes of zero, which need not stand there to be read.
 use Rattle.std.specs.Prelude.{ℕ, FitsSigned, List, [], ◌∷◌, ◌++◌}
 use Rattle.std.specs.Int.{w16, cast_signed, cast_unsigned}
-use Rattle.mp4_frame.specs.Bytes.{number, joined, Fit}
+use Rattle.mp4_frame.specs.Bytes.{number, joined, Fit, full_box}
 use Rattle.mp4_frame.specs.Reading.{Reading, ◌>>=◌, fields, done}
-use Rattle.mp4_flat.specs.FullBox.{full_box}
 use Rattle.mp4_flat.specs.declared.smhd.SmhdBox.{SmhdBox}
 
 -- the value, by the number n o w of w bytes at o

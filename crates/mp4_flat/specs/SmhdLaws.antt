@@ -1,20 +1,17 @@
 -- The laws of smhd, which is one run of fields.
 use Rattle.std.proofs.Common.{[], ◌∷◌, refl, ap, subst, lit<, lit≤}
 use Rattle.std.specs.Prelude.{ℤ}
-use Rattle.mp4_frame.specs.Laws.{Framed, Normal, RowReadsBack, RowIsSound}
+use Rattle.mp4_frame.specs.Laws.{Framed, RowReadsBack, RowIsSound}
 use Rattle.mp4_frame.specs.declared.box_type.BoxType.TheVariants as names
 use Rattle.mp4_frame.proofs.Rows.{one_run_again, one_run_is}
 use Rattle.mp4_frame.proofs.Signed.{back16, signed16}
-use Rattle.mp4_flat.specs.FieldLaws.{framed_columns, fits_read, Number, Signed16, Fitting}
+use Rattle.mp4_frame.proofs.Framing.{framed_columns, fits_read, Number, Signed16, Fitting}
 use Rattle.mp4_flat.specs.Smhd.{value_smhd, reads_smhd, size_smhd, columns_smhd, WritableSmhd, bytes_smhd, normal_smhd}
 use Rattle.mp4_flat.specs.declared.smhd.SmhdBox.{SmhdBox}
 
 pub framed_smhd : (v : SmhdBox) → WritableSmhd v → Framed (size_smhd v) names.SmhdBox (bytes_smhd v)
 unfolding bytes_smhd
 framed_smhd v w = framed_columns _ w.0 refl
-
-pub normal_form_smhd : (v : SmhdBox) → WritableSmhd v → Normal WritableSmhd bytes_smhd normal_smhd v
-normal_form_smhd v w = record { writable = w; again = refl; same_bytes = refl }
 
 pub read_back_smhd : (v : SmhdBox) → WritableSmhd v → RowReadsBack reads_smhd (bytes_smhd v) (size_smhd v) (normal_smhd v)
 unfolding bytes_smhd reads_smhd

@@ -1,9 +1,9 @@
 -- The laws of tfdt, whose time has two widths.
 use Rattle.std.proofs.Common.{◌<◌, ◌^◌, [], ◌∷◌, refl, subst, lit<, lit≤, arith}
 use Rattle.mp4_frame.specs.Bytes.{number}
-use Rattle.mp4_frame.specs.Laws.{Framed, Normal, RowReadsBack, RowIsSound}
+use Rattle.mp4_frame.specs.Laws.{Framed, RowReadsBack, RowIsSound}
 use Rattle.mp4_frame.specs.declared.box_type.BoxType.TheVariants as names
-use Rattle.mp4_flat.specs.FieldLaws.{framed_columns, fits_read, Number}
+use Rattle.mp4_frame.proofs.Framing.{framed_columns, fits_read, Number}
 use Rattle.mp4_flat.specs.Time.{time_width}
 use Rattle.mp4_flat.specs.TimeLaws.{timed_back, timed_is}
 use Rattle.mp4_flat.specs.Tfdt.{value_tfdt, reads_tfdt, size_tfdt, columns_tfdt, WritableTfdt, bytes_tfdt, normal_tfdt}
@@ -12,9 +12,6 @@ use Rattle.mp4_flat.specs.declared.tfdt.TfdtBox.{TfdtBox}
 pub framed_tfdt : (v : TfdtBox) → WritableTfdt v → Framed (size_tfdt v) names.TfdtBox (bytes_tfdt v)
 unfolding bytes_tfdt
 framed_tfdt v w = framed_columns _ w.fit (omega arith)
-
-pub normal_form_tfdt : (v : TfdtBox) → WritableTfdt v → Normal WritableTfdt bytes_tfdt normal_tfdt v
-normal_form_tfdt v w = record { writable = w; again = refl; same_bytes = refl }
 
 pub read_back_tfdt : (v : TfdtBox) → WritableTfdt v → RowReadsBack reads_tfdt (bytes_tfdt v) (size_tfdt v) (normal_tfdt v)
 unfolding bytes_tfdt reads_tfdt

@@ -3,9 +3,8 @@
 -- duration t, 8 reserved, layer 2, alternate group 2, volume 2, 2 reserved, matrix 36, width 4, and height 4.
 -- What is reserved has to stand there, and is written as zero.
 use Rattle.std.specs.Prelude.{ℕ, ◌+◌, ◌*◌, List, [], ◌∷◌, ◌++◌}
-use Rattle.mp4_frame.specs.Bytes.{joined}
+use Rattle.mp4_frame.specs.Bytes.{joined, full_box}
 use Rattle.mp4_frame.specs.Reading.{Reading}
-use Rattle.mp4_flat.specs.FullBox.{full_box}
 use Rattle.mp4_flat.specs.Matrix.{matrix_at, columns_matrix, unity, IsMatrix}
 use Rattle.mp4_flat.specs.Time.{time_width, timed_size, reads_timed, WritableTimed}
 use Rattle.mp4_flat.specs.declared.tkhd.TkhdBox.{TkhdBox}

@@ -1,9 +1,9 @@
 -- The laws of tkhd, whose times have two widths.
 use Rattle.std.proofs.Common.{ℕ, ◌+◌, ◌*◌, ◌<◌, ◌^◌, [], ◌∷◌, ◌++◌, refl, ap, subst, lit<, lit≤, arith}
 use Rattle.mp4_frame.specs.Bytes.{number}
-use Rattle.mp4_frame.specs.Laws.{Framed, Normal, RowReadsBack, RowIsSound}
+use Rattle.mp4_frame.specs.Laws.{Framed, RowReadsBack, RowIsSound}
 use Rattle.mp4_frame.specs.declared.box_type.BoxType.TheVariants as names
-use Rattle.mp4_flat.specs.FieldLaws.{framed_columns, fits_read, Number, Fitting}
+use Rattle.mp4_frame.proofs.Framing.{framed_columns, fits_read, Number, Fitting}
 use Rattle.mp4_flat.specs.MatrixLaws.{matrix_back, origins_matrix, matrix_read}
 use Rattle.mp4_flat.specs.Time.{time_width}
 use Rattle.mp4_flat.specs.TimeLaws.{timed_size-known, timed_back, timed_is}
@@ -14,9 +14,6 @@ use Rattle.mp4_flat.specs.declared.tkhd.TkhdBox.{TkhdBox}
 pub framed_tkhd : (v : TkhdBox) → WritableTkhd v → Framed (size_tkhd v) names.TkhdBox (bytes_tkhd v)
 unfolding bytes_tkhd
 framed_tkhd v w = framed_columns _ w.0.fit (omega (arith, timed_size-known (λ t. 8 + 3 * t) v.version w.0.known))
-
-pub normal_form_tkhd : (v : TkhdBox) → WritableTkhd v → Normal WritableTkhd bytes_tkhd normal_tkhd v
-normal_form_tkhd v w = record { writable = w; again = refl; same_bytes = refl }
 
 pub read_back_tkhd : (v : TkhdBox) → WritableTkhd v → RowReadsBack reads_tkhd (bytes_tkhd v) (size_tkhd v) (normal_tkhd v)
 unfolding bytes_tkhd reads_tkhd

@@ -1,18 +1,15 @@
 -- The laws of trex, which is one run of fields.
 use Rattle.std.proofs.Common.{[], ◌∷◌, refl, subst, lit<, lit≤}
-use Rattle.mp4_frame.specs.Laws.{Framed, Normal, RowReadsBack, RowIsSound}
+use Rattle.mp4_frame.specs.Laws.{Framed, RowReadsBack, RowIsSound}
 use Rattle.mp4_frame.specs.declared.box_type.BoxType.TheVariants as names
 use Rattle.mp4_frame.proofs.Rows.{one_run_again, one_run_is}
-use Rattle.mp4_flat.specs.FieldLaws.{framed_columns, fits_read, Number}
+use Rattle.mp4_frame.proofs.Framing.{framed_columns, fits_read, Number}
 use Rattle.mp4_flat.specs.Trex.{value_trex, reads_trex, size_trex, columns_trex, WritableTrex, bytes_trex, normal_trex}
 use Rattle.mp4_flat.specs.declared.trex.TrexBox.{TrexBox}
 
 pub framed_trex : (v : TrexBox) → WritableTrex v → Framed (size_trex v) names.TrexBox (bytes_trex v)
 unfolding bytes_trex
 framed_trex v w = framed_columns _ w refl
-
-pub normal_form_trex : (v : TrexBox) → WritableTrex v → Normal WritableTrex bytes_trex normal_trex v
-normal_form_trex v w = record { writable = w; again = refl; same_bytes = refl }
 
 pub read_back_trex : (v : TrexBox) → WritableTrex v → RowReadsBack reads_trex (bytes_trex v) (size_trex v) (normal_trex v)
 unfolding bytes_trex reads_trex

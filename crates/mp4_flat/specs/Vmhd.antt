@@ -1,9 +1,8 @@
 -- vmhd, the video media header box (ISO/IEC 14496-12, 12.1.2): version 1 byte, flags 3, the graphics mode in
 -- 2 bytes at 12, and a colour in 2 bytes each: red at 14, green at 16, blue at 18.
 use Rattle.std.specs.Prelude.{ℕ, List, [], ◌∷◌, ◌++◌}
-use Rattle.mp4_frame.specs.Bytes.{number, joined, Fit}
+use Rattle.mp4_frame.specs.Bytes.{number, joined, Fit, full_box}
 use Rattle.mp4_frame.specs.Reading.{Reading, ◌>>=◌, fields, done}
-use Rattle.mp4_flat.specs.FullBox.{full_box}
 use Rattle.mp4_flat.specs.declared.vmhd.VmhdBox.{VmhdBox}
 
 -- the value, by the number n o w of w bytes at o

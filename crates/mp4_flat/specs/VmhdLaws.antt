@@ -1,18 +1,15 @@
 -- The laws of vmhd, which is one run of fields.
 use Rattle.std.proofs.Common.{[], ◌∷◌, refl, subst, lit<, lit≤}
-use Rattle.mp4_frame.specs.Laws.{Framed, Normal, RowReadsBack, RowIsSound}
+use Rattle.mp4_frame.specs.Laws.{Framed, RowReadsBack, RowIsSound}
 use Rattle.mp4_frame.specs.declared.box_type.BoxType.TheVariants as names
 use Rattle.mp4_frame.proofs.Rows.{one_run_again, one_run_is}
-use Rattle.mp4_flat.specs.FieldLaws.{framed_columns, fits_read, Number}
+use Rattle.mp4_frame.proofs.Framing.{framed_columns, fits_read, Number}
 use Rattle.mp4_flat.specs.Vmhd.{value_vmhd, reads_vmhd, size_vmhd, columns_vmhd, WritableVmhd, bytes_vmhd, normal_vmhd}
 use Rattle.mp4_flat.specs.declared.vmhd.VmhdBox.{VmhdBox}
 
 pub framed_vmhd : (v : VmhdBox) → WritableVmhd v → Framed (size_vmhd v) names.VmhdBox (bytes_vmhd v)
 unfolding bytes_vmhd
 framed_vmhd v w = framed_columns _ w refl
-
-pub normal_form_vmhd : (v : VmhdBox) → WritableVmhd v → Normal WritableVmhd bytes_vmhd normal_vmhd v
-normal_form_vmhd v w = record { writable = w; again = refl; same_bytes = refl }
 
 pub read_back_vmhd : (v : VmhdBox) → WritableVmhd v → RowReadsBack reads_vmhd (bytes_vmhd v) (size_vmhd v) (normal_vmhd v)
 unfolding bytes_vmhd reads_vmhd

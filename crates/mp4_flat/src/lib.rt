@@ -1,7 +1,6 @@
 //! The flat boxes of an MP4 file: boxes of fixed fields.
 #![tactic(auto)]
 
-mod full_box;
 mod language;
 mod matrix;
 mod mdhd;

@@ -5,12 +5,11 @@ ghost use Rattle.mp4_frame.specs.declared.box_type.BoxType.TheVariants as names;
 ghost use Rattle.mp4_flat.specs.Mdhd.{default_mdhd, reads_mdhd, size_mdhd, WritableMdhd, bytes_mdhd, normal_mdhd};
 ghost use Rattle.mp4_flat.specs.MdhdLaws.{framed_mdhd, normal_form_mdhd, read_back_mdhd, sound_mdhd};
 
-use crate::full_box::put_full_box;
 use crate::language::{language_code, language_string};
 use crate::time::{put_time, time_at, time_fits, version_of_times, width_of_time};
 use mp4_frame::{
-    BoxLaws, BoxType, Error, Mp4Box, ReadBox, Result, Text, WriteBox, fields, put_u16, put_u32,
-    put_zeros, u16_at, u24_at, u32_at,
+    BoxLaws, BoxType, Error, Mp4Box, ReadBox, Result, Text, WriteBox, fields, put_full_box,
+    put_u16, put_u32, put_zeros, u16_at, u24_at, u32_at,
 };
 use std::alloc::Global;
 

@@ -1,13 +1,15 @@
 //! The movie extends header box.
 
-ghost use Rattle.std.specs.Prelude.{◌≡◌};
+ghost use Rattle.std.specs.Prelude.{◌≡◌, refl};
 ghost use Rattle.mp4_frame.specs.declared.box_type.BoxType.TheVariants as names;
+ghost use Rattle.mp4_frame.proofs.Framing.{settled};
 ghost use Rattle.mp4_flat.specs.Mehd.{reads_mehd, size_mehd, WritableMehd, bytes_mehd, normal_mehd};
-ghost use Rattle.mp4_flat.specs.MehdLaws.{framed_mehd, normal_form_mehd, read_back_mehd, sound_mehd};
+ghost use Rattle.mp4_flat.specs.MehdLaws.{framed_mehd, read_back_mehd, sound_mehd};
 
-use crate::full_box::put_full_box;
 use crate::time::{put_time, time_at, time_fits, version_of_times, width_of_time};
-use mp4_frame::{BoxLaws, BoxType, Mp4Box, ReadBox, Result, WriteBox, fields, u24_at};
+use mp4_frame::{
+    BoxLaws, BoxType, Mp4Box, ReadBox, Result, WriteBox, fields, put_full_box, u24_at,
+};
 use std::alloc::Global;
 
 /// How long a movie with fragments is (`mehd`, ISO/IEC 14496-12, 8.8.2).
@@ -90,7 +92,7 @@ impl WriteBox for MehdBox {
 
     ghost framed = { framed_mehd };
 
-    ghost normal_form = { normal_form_mehd };
+    ghost normal_form = { λ v w. settled v refl w };
 }
 
 impl BoxLaws for MehdBox {

@@ -1,13 +1,14 @@
 //! The movie fragment header box.
 
-ghost use Rattle.std.specs.Prelude.{◌≡◌};
+ghost use Rattle.std.specs.Prelude.{◌≡◌, refl};
 ghost use Rattle.mp4_frame.specs.declared.box_type.BoxType.TheVariants as names;
+ghost use Rattle.mp4_frame.proofs.Framing.{settled};
 ghost use Rattle.mp4_flat.specs.Mfhd.{reads_mfhd, size_mfhd, WritableMfhd, bytes_mfhd, normal_mfhd};
-ghost use Rattle.mp4_flat.specs.MfhdLaws.{framed_mfhd, normal_form_mfhd, read_back_mfhd, sound_mfhd};
+ghost use Rattle.mp4_flat.specs.MfhdLaws.{framed_mfhd, read_back_mfhd, sound_mfhd};
 
-use crate::full_box::put_full_box;
 use mp4_frame::{
-    BoxLaws, BoxType, Mp4Box, ReadBox, Result, WriteBox, fields, put_u32, u8_at, u24_at, u32_at,
+    BoxLaws, BoxType, Mp4Box, ReadBox, Result, WriteBox, fields, put_full_box, put_u32, u8_at,
+    u24_at, u32_at,
 };
 use std::alloc::Global;
 
@@ -99,7 +100,7 @@ impl WriteBox for MfhdBox {
 
     ghost framed = { framed_mfhd };
 
-    ghost normal_form = { normal_form_mfhd };
+    ghost normal_form = { λ v w. settled v refl w };
 }
 
 impl BoxLaws for MfhdBox {

@@ -1,16 +1,16 @@
 //! The movie header box.
 
-ghost use Rattle.std.specs.Prelude.{◌≡◌, ◌↔◌, IsTrue};
+ghost use Rattle.std.specs.Prelude.{◌≡◌, ◌↔◌, IsTrue, refl};
 ghost use Rattle.mp4_frame.specs.declared.box_type.BoxType.TheVariants as names;
+ghost use Rattle.mp4_frame.proofs.Framing.{settled};
 ghost use Rattle.mp4_flat.specs.Mvhd.{reads_mvhd, size_mvhd, WritableMvhd, bytes_mvhd, normal_mvhd};
-ghost use Rattle.mp4_flat.specs.MvhdLaws.{framed_mvhd, normal_form_mvhd, read_back_mvhd, sound_mvhd};
+ghost use Rattle.mp4_flat.specs.MvhdLaws.{framed_mvhd, read_back_mvhd, sound_mvhd};
 
-use crate::full_box::put_full_box;
 use crate::matrix::{Matrix, is_matrix, matrix_from, put_matrix};
 use crate::time::{put_time, time_at, time_fits, version_of_times, width_of_time};
 use mp4_frame::{
-    BoxLaws, BoxType, Mp4Box, ReadBox, Result, WriteBox, fields, put_u16, put_u32, put_zeros,
-    u16_at, u24_at, u32_at,
+    BoxLaws, BoxType, Mp4Box, ReadBox, Result, WriteBox, fields, put_full_box, put_u16, put_u32,
+    put_zeros, u16_at, u24_at, u32_at,
 };
 use mp4_media::{FixedPointU8, FixedPointU16};
 use std::alloc::Global;
@@ -178,7 +178,7 @@ impl WriteBox for MvhdBox {
 
     ghost framed = { framed_mvhd };
 
-    ghost normal_form = { normal_form_mvhd };
+    ghost normal_form = { λ v w. settled v refl w };
 }
 
 impl BoxLaws for MvhdBox {

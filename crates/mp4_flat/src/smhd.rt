@@ -1,14 +1,14 @@
 //! The sound media header box.
 
-ghost use Rattle.std.specs.Prelude.{◌≡◌, pos};
+ghost use Rattle.std.specs.Prelude.{◌≡◌, pos, refl};
 ghost use Rattle.mp4_frame.specs.declared.box_type.BoxType.TheVariants as names;
+ghost use Rattle.mp4_frame.proofs.Framing.{settled};
 ghost use Rattle.mp4_flat.specs.Smhd.{reads_smhd, size_smhd, WritableSmhd, bytes_smhd, normal_smhd};
-ghost use Rattle.mp4_flat.specs.SmhdLaws.{framed_smhd, normal_form_smhd, read_back_smhd, sound_smhd};
+ghost use Rattle.mp4_flat.specs.SmhdLaws.{framed_smhd, read_back_smhd, sound_smhd};
 
-use crate::full_box::put_full_box;
 use mp4_frame::{
-    BoxLaws, BoxType, Mp4Box, ReadBox, Result, WriteBox, fields, i16_at, put_i16, put_zeros, u8_at,
-    u24_at,
+    BoxLaws, BoxType, Mp4Box, ReadBox, Result, WriteBox, fields, i16_at, put_full_box, put_i16,
+    put_zeros, u8_at, u24_at,
 };
 use mp4_media::FixedPointI8;
 use std::alloc::Global;
@@ -102,7 +102,7 @@ impl WriteBox for SmhdBox {
 
     ghost framed = { framed_smhd };
 
-    ghost normal_form = { normal_form_smhd };
+    ghost normal_form = { λ v w. settled v refl w };
 }
 
 impl BoxLaws for SmhdBox {

@@ -1,13 +1,15 @@
 //! The track fragment decode time box.
 
-ghost use Rattle.std.specs.Prelude.{◌≡◌};
+ghost use Rattle.std.specs.Prelude.{◌≡◌, refl};
 ghost use Rattle.mp4_frame.specs.declared.box_type.BoxType.TheVariants as names;
+ghost use Rattle.mp4_frame.proofs.Framing.{settled};
 ghost use Rattle.mp4_flat.specs.Tfdt.{reads_tfdt, size_tfdt, WritableTfdt, bytes_tfdt, normal_tfdt};
-ghost use Rattle.mp4_flat.specs.TfdtLaws.{framed_tfdt, normal_form_tfdt, read_back_tfdt, sound_tfdt};
+ghost use Rattle.mp4_flat.specs.TfdtLaws.{framed_tfdt, read_back_tfdt, sound_tfdt};
 
-use crate::full_box::put_full_box;
 use crate::time::{put_time, time_at, time_fits, version_of_times, width_of_time};
-use mp4_frame::{BoxLaws, BoxType, Mp4Box, ReadBox, Result, WriteBox, fields, u24_at};
+use mp4_frame::{
+    BoxLaws, BoxType, Mp4Box, ReadBox, Result, WriteBox, fields, put_full_box, u24_at,
+};
 use std::alloc::Global;
 
 /// When the first sample of a fragment is decoded (`tfdt`, ISO/IEC 14496-12, 8.8.12).
@@ -88,7 +90,7 @@ impl WriteBox for TfdtBox {
 
     ghost framed = { framed_tfdt };
 
-    ghost normal_form = { normal_form_tfdt };
+    ghost normal_form = { λ v w. settled v refl w };
 }
 
 impl BoxLaws for TfdtBox {

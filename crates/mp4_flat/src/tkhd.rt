@@ -1,18 +1,18 @@
 //! The track header box.
 
-ghost use Rattle.std.specs.Prelude.{◌≡◌, ◌↔◌, IsTrue};
+ghost use Rattle.std.specs.Prelude.{◌≡◌, ◌↔◌, IsTrue, refl};
 ghost use Rattle.mp4_frame.specs.declared.box_type.BoxType.TheVariants as names;
 ghost use Rattle.mp4_media.specs.FixedPoint.{scaled};
+ghost use Rattle.mp4_frame.proofs.Framing.{settled};
 ghost use Rattle.mp4_flat.specs.Tkhd.{reads_tkhd, size_tkhd, WritableTkhd, bytes_tkhd, normal_tkhd};
-ghost use Rattle.mp4_flat.specs.TkhdLaws.{framed_tkhd, normal_form_tkhd, read_back_tkhd, sound_tkhd};
+ghost use Rattle.mp4_flat.specs.TkhdLaws.{framed_tkhd, read_back_tkhd, sound_tkhd};
 
-use crate::full_box::put_full_box;
 use crate::matrix::{Matrix, is_matrix, matrix_from, put_matrix};
 use crate::time::{put_time, time_at, time_fits, version_of_times, width_of_time};
 use crate::track_flag::TrackFlag;
 use mp4_frame::{
-    BoxLaws, BoxType, Mp4Box, ReadBox, Result, WriteBox, fields, put_u16, put_u32, put_zeros,
-    u16_at, u24_at, u32_at,
+    BoxLaws, BoxType, Mp4Box, ReadBox, Result, WriteBox, fields, put_full_box, put_u16, put_u32,
+    put_zeros, u16_at, u24_at, u32_at,
 };
 use mp4_media::{FixedPointU8, FixedPointU16};
 use std::alloc::Global;
@@ -206,7 +206,7 @@ impl WriteBox for TkhdBox {
 
     ghost framed = { framed_tkhd };
 
-    ghost normal_form = { normal_form_tkhd };
+    ghost normal_form = { λ v w. settled v refl w };
 }
 
 impl BoxLaws for TkhdBox {

@@ -1,13 +1,14 @@
 //! The track extends box.
 
-ghost use Rattle.std.specs.Prelude.{◌≡◌};
+ghost use Rattle.std.specs.Prelude.{◌≡◌, refl};
 ghost use Rattle.mp4_frame.specs.declared.box_type.BoxType.TheVariants as names;
+ghost use Rattle.mp4_frame.proofs.Framing.{settled};
 ghost use Rattle.mp4_flat.specs.Trex.{reads_trex, size_trex, WritableTrex, bytes_trex, normal_trex};
-ghost use Rattle.mp4_flat.specs.TrexLaws.{framed_trex, normal_form_trex, read_back_trex, sound_trex};
+ghost use Rattle.mp4_flat.specs.TrexLaws.{framed_trex, read_back_trex, sound_trex};
 
-use crate::full_box::put_full_box;
 use mp4_frame::{
-    BoxLaws, BoxType, Mp4Box, ReadBox, Result, WriteBox, fields, put_u32, u8_at, u24_at, u32_at,
+    BoxLaws, BoxType, Mp4Box, ReadBox, Result, WriteBox, fields, put_full_box, put_u32, u8_at,
+    u24_at, u32_at,
 };
 use std::alloc::Global;
 
@@ -108,7 +109,7 @@ impl WriteBox for TrexBox {
 
     ghost framed = { framed_trex };
 
-    ghost normal_form = { normal_form_trex };
+    ghost normal_form = { λ v w. settled v refl w };
 }
 
 impl BoxLaws for TrexBox {

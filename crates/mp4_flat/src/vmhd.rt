@@ -1,14 +1,15 @@
 //! The video media header box.
 
-ghost use Rattle.std.specs.Prelude.{◌≡◌};
+ghost use Rattle.std.specs.Prelude.{◌≡◌, refl};
 ghost use Rattle.mp4_frame.specs.declared.box_type.BoxType.TheVariants as names;
+ghost use Rattle.mp4_frame.proofs.Framing.{settled};
 ghost use Rattle.mp4_flat.specs.Vmhd.{reads_vmhd, size_vmhd, WritableVmhd, bytes_vmhd, normal_vmhd};
-ghost use Rattle.mp4_flat.specs.VmhdLaws.{framed_vmhd, normal_form_vmhd, read_back_vmhd, sound_vmhd};
+ghost use Rattle.mp4_flat.specs.VmhdLaws.{framed_vmhd, read_back_vmhd, sound_vmhd};
 
-use crate::full_box::put_full_box;
 use crate::rgb_color::RgbColor;
 use mp4_frame::{
-    BoxLaws, BoxType, Mp4Box, ReadBox, Result, WriteBox, fields, put_u16, u8_at, u16_at, u24_at,
+    BoxLaws, BoxType, Mp4Box, ReadBox, Result, WriteBox, fields, put_full_box, put_u16, u8_at,
+    u16_at, u24_at,
 };
 use std::alloc::Global;
 
@@ -100,7 +101,7 @@ impl WriteBox for VmhdBox {
 
     ghost framed = { framed_vmhd };
 
-    ghost normal_form = { normal_form_vmhd };
+    ghost normal_form = { λ v w. settled v refl w };
 }
 
 impl BoxLaws for VmhdBox {

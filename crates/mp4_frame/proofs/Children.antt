@@ -1,12 +1,12 @@
 -- A child that was written is read back.
-use Rattle.std.proofs.Common.{◌≡◌, ℕ, zero, suc, ◌+◌, ◌-◌, ◌<◌, ◌≤◌, ◌^◌, Bool, true, false, cond, eqb, ltb, leb, List, [], ◌++◌, length, drop, Ok, Some, None, Result, Option, refl, sym, ap, subst, ◌∙◌, arith, length-append}
-use Rattle.std.specs.Prelude.{◌&&◌, ◌==◌, nat_le, nat_lt}
+use Rattle.std.proofs.Common.{◌≡◌, ℕ, zero, suc, ◌+◌, ◌-◌, ◌<◌, ◌≤◌, ◌^◌, Bool, true, false, cond, eqb, ltb, leb, List, ◌++◌, length, drop, Ok, Some, None, Result, Option, refl, sym, ap, subst, ◌∙◌, arith, length-append}
+use Rattle.std.specs.Prelude.{◌&&◌, ◌==◌, nat_le}
 use Rattle.std.proofs.lemmas.Bool.{le-leb, lt-ltb, ne_eqb, eq-eqb}
-use Rattle.std.proofs.lemmas.List.{drop_at, get_or_append_left}
+use Rattle.std.proofs.lemmas.List.{drop_at}
 use Rattle.mp4_frame.specs.Bytes.{number, joined, width}
 use Rattle.mp4_frame.specs.Children.{child, wanted, last, children}
-use Rattle.mp4_frame.specs.Heads.{head, compact_head, large_head}
-use Rattle.mp4_frame.specs.Reading.{Reading, Fault, ◌>>=◌, fields, test, done}
+use Rattle.mp4_frame.specs.Heads.{head}
+use Rattle.mp4_frame.specs.Reading.{Reading, Fault, ◌>>=◌, done}
 use Rattle.mp4_frame.specs.declared.head.Head.{Head}
 use Rattle.mp4_frame.proofs.Columns.{length-joined}
 use Rattle.mp4_frame.proofs.Numbers.{number-behind, number-front}

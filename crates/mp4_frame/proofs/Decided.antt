@@ -1,7 +1,7 @@
 -- What is still to be read decides what the whole comes to.
-use Rattle.std.proofs.Common.{◌≡◌, ℕ, Bool, true, false, Result, Ok, Err, refl, sym, ap, ◌∙◌}
+use Rattle.std.proofs.Common.{◌≡◌, Bool, true, false, Result, Ok, Err, refl, sym, ap, ◌∙◌}
 use Rattle.std.specs.Prelude.{◌||◌}
-use Rattle.mp4_frame.specs.Reading.{Reading, Fault, ◌>>=◌, Answers, Refuses, and_then, also}
+use Rattle.mp4_frame.specs.Reading.{Reading, Fault, ◌>>=◌, Refuses, and_then, also}
 use Rattle.mp4_frame.specs.declared.error.Error.{Error}
 use Rattle.mp4_frame.specs.declared.error.Error.TheVariants as errors
 

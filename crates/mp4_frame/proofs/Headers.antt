@@ -5,7 +5,7 @@ use Rattle.std.proofs.lemmas.Bool.{le-leb, ltb-true, ltb-false, ne_eqb}
 use Rattle.mp4_frame.specs.Bytes.{number, joined, Fit, width}
 use Rattle.mp4_frame.specs.BoxType.{name_of, code_of}
 use Rattle.mp4_frame.specs.Heads.{head, header, header_length, bytes_header}
-use Rattle.mp4_frame.specs.Reading.{Reading, done}
+use Rattle.mp4_frame.specs.Reading.{done}
 use Rattle.mp4_frame.specs.declared.box_type.BoxType.{BoxType}
 use Rattle.mp4_frame.specs.declared.box_header.BoxHeader.{BoxHeader}
 use Rattle.mp4_frame.proofs.Columns.{found, number-joined, length-joined}

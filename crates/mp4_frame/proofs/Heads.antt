@@ -1,10 +1,10 @@
 -- Heads and frames.
-use Rattle.std.proofs.Common.{◌≡◌, ℕ, ◌+◌, ◌<◌, ◌≤◌, ◌-◌, List, length, Result, Ok, Err, refl, sym, ap, ◌∙◌, arith, Bool, true, false, cond, inl, inr}
+use Rattle.std.proofs.Common.{◌≡◌, ℕ, ◌+◌, ◌<◌, ◌≤◌, ◌-◌, List, length, Result, Ok, Err, refl, ap, ◌∙◌, arith, Bool, true, false, cond, inl, inr}
 use Rattle.std.specs.Prelude.{nat_lt, ◌==◌, ◌⊎◌}
 use Rattle.std.proofs.lemmas.Bool.{lt-ltb, ltb-false, ne_eqb}
 use Rattle.mp4_frame.specs.Bytes.{number}
 use Rattle.mp4_frame.specs.Heads.{head, compact_head, large_head}
-use Rattle.mp4_frame.specs.Reading.{Fault, End, Reading, fields, test, done, faults, ◌>>=◌}
+use Rattle.mp4_frame.specs.Reading.{Fault, End, Reading, test, done, ◌>>=◌}
 use Rattle.mp4_frame.specs.declared.head.Head.{Head}
 use Rattle.mp4_frame.proofs.Stands.{fields_stand, fields_value, test_ok}
 

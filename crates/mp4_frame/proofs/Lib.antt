@@ -16,3 +16,4 @@ pub mod Children
 pub mod ChildLaws
 pub mod Rows
 pub mod Signed
+pub mod Framing

@@ -1,6 +1,5 @@
 -- What was written is read back, for every type of boxes that keeps the laws.
-use Rattle.std.proofs.Common.{◌≡◌, ℕ, zero, suc, ◌+◌, ◌-◌, ◌^◌, ◌<◌, ◌≤◌, Bool, true, false, cond, List, [], ◌∷◌, ◌++◌, length, map, take, drop, All, Result, Ok, Err, refl, sym, ap, subst, ◌∙◌, arith, append_assoc, length-append}
-use Rattle.std.specs.Prelude.{nat_lt, ◌==◌, ◌↔◌}
+use Rattle.std.proofs.Common.{◌≡◌, ℕ, ◌+◌, ◌-◌, ◌^◌, ◌<◌, ◌≤◌, Bool, true, List, [], ◌∷◌, ◌++◌, length, map, take, drop, Result, Ok, Err, refl, sym, ap, ◌∙◌, arith, append_assoc, length-append}
 use Rattle.std.specs.List.{AllByRecursion}
 use Rattle.std.proofs.Common.{inl, inr}
 use Rattle.std.proofs.lemmas.Bool.{cases_lt, lt-ltb, le-ltb, ne_eqb}
@@ -10,16 +9,15 @@ use Rattle.std.proofs.Math.Seq.{take-append-add}
 use Rattle.mp4_frame.specs.Bytes.{number}
 use Rattle.mp4_frame.specs.BoxType.{name_of, code_of}
 use Rattle.mp4_frame.specs.Heads.{framed, frame_of, frame}
-use Rattle.mp4_frame.specs.Reading.{Fault, End, Invalid, Reading, done, faults, also, and_then, ◌>>=◌, memory}
+use Rattle.mp4_frame.specs.Reading.{Fault, End, Reading, done, also, and_then, ◌>>=◌}
 use Rattle.mp4_frame.specs.Laws.{Framed, Normal, OwnName, ReadsBack}
-use Rattle.mp4_frame.specs.Streams.{stream, walk_on, walk, box_of, boxes}
+use Rattle.mp4_frame.specs.Streams.{stream, walk_on, box_of, boxes}
 use Rattle.mp4_frame.specs.declared.box_type.BoxType.{BoxType}
-use Rattle.mp4_frame.specs.declared.box_header.BoxHeader.{BoxHeader}
 use Rattle.mp4_frame.specs.declared.frame.Frame.{Frame}
 use Rattle.mp4_frame.proofs.Numbers.{number-front, number-past, number-among}
 use Rattle.mp4_frame.proofs.Heads.{no_head, short_head}
 use Rattle.mp4_frame.proofs.Walks.{walk_first, walk_none}
-use Rattle.mp4_frame.proofs.Steps.{bind_ok, item_known}
+use Rattle.mp4_frame.proofs.Steps.{item_known}
 
 -- a frame of a box of 8 to 2^32 - 1 bytes
 frame_short : (B : List ℕ) (o size code : ℕ) (name : BoxType) → o + 8 ≤ length B → size ≡ number B o 4 → code ≡ number B (o + 4) 4 → name_of code ≡ name → 8 ≤ size → frame B o ≡ framed (length B) o (record { name = name; size = size })

@@ -1,10 +1,10 @@
 -- Reading boxes one after the other.
-use Rattle.std.proofs.Common.{◌≡◌, ℕ, ◌+◌, ◌-◌, ◌<◌, ◌≤◌, Bool, true, false, cond, List, [], ◌∷◌, ◌++◌, length, Result, Ok, Err, refl, sym, ap, subst, ◌∙◌, arith, append_assoc, length-append, inl, inr}
+use Rattle.std.proofs.Common.{◌≡◌, ℕ, ◌+◌, ◌-◌, ◌<◌, ◌≤◌, Bool, true, false, List, [], ◌∷◌, ◌++◌, length, Result, Ok, Err, refl, sym, ap, subst, ◌∙◌, arith, append_assoc, length-append, inl, inr}
 use Rattle.std.specs.Prelude.{nat_lt, ◌||◌, ◌⊎◌}
 use Rattle.std.proofs.lemmas.Bool.{lt-ltb}
 use Rattle.std.proofs.lemmas.List.{append-nil}
 use Rattle.mp4_frame.specs.Heads.{frame}
-use Rattle.mp4_frame.specs.Reading.{Fault, End, Invalid, NotFound, Reading, done, faults, also, and_then, ◌>>=◌, Refuses, FaultAs, IsFault, AnswersAs, memory}
+use Rattle.mp4_frame.specs.Reading.{Fault, End, Invalid, NotFound, Reading, done, also, and_then, ◌>>=◌, Refuses, FaultAs, IsFault, memory}
 use Rattle.mp4_frame.specs.Streams.{walk_on, walk, box_of, boxes, pushed}
 use Rattle.mp4_frame.specs.declared.box_type.BoxType.{BoxType}
 use Rattle.mp4_frame.specs.declared.frame.Frame.{Frame}

@@ -1,20 +1,19 @@
 -- Counted tables.
-use Rattle.std.proofs.Common.{◌≡◌, ℕ, zero, suc, ◌+◌, ◌*◌, ◌/◌, ◌^◌, ◌-◌, Bool, true, false, ltb, cond, ◌<◌, ◌≤◌, List, [], ◌∷◌, ◌++◌, map, Result, Ok, Err, length, take, drop, get_or, refl, sym, ap, subst, ◌∙◌, ◌&&◌, arith, lit≤}
+use Rattle.std.proofs.Common.{◌≡◌, ℕ, zero, suc, ◌+◌, ◌*◌, ◌/◌, ◌^◌, ◌-◌, Bool, true, false, ltb, ◌<◌, ◌≤◌, List, [], ◌∷◌, ◌++◌, map, Result, Ok, Err, length, take, drop, refl, sym, ap, subst, ◌∙◌, ◌&&◌, arith, lit≤}
 use Rattle.std.proofs.lemmas.List.{take-take, drop-take, drop-drop, length-take, length-drop}
-use Rattle.std.proofs.lemmas.Bool.{or_from, ne_eqb, lt-leb}
 use Rattle.std.proofs.lemmas.Nat.{div-mul-add}
 use Rattle.std.specs.Simd.{first_chunks}
-use Rattle.std.specs.List.{flat_map, All, AllByRecursion}
+use Rattle.std.specs.List.{flat_map, AllByRecursion}
 use Rattle.std.proofs.lemmas.List.Elements.{All-from_recursion, recursion_from_All}
 use Rattle.std.proofs.lemmas.List.{append_assoc, drop_at, take_at, length-append}
-use Rattle.std.proofs.lemmas.Bool.{lt-ltb, le-leb, or_right}
+use Rattle.std.proofs.lemmas.Bool.{lt-ltb, le-leb}
 use Rattle.std.proofs.lemmas.Nat.{le-div}
 use Rattle.std.proofs.Math.Nat.{mul-le-mul_right}
-use Rattle.mp4_frame.specs.Bytes.{number, joined, width, Fit}
+use Rattle.mp4_frame.specs.Bytes.{number, joined, Fit}
 use Rattle.mp4_frame.specs.Laws.{AreBytes, Framed}
 use Rattle.mp4_frame.specs.BoxType.{code_of}
 use Rattle.mp4_frame.specs.declared.box_type.BoxType.{BoxType}
-use Rattle.mp4_frame.specs.Reading.{Fault, End, Reading, fields, piece_from, test, memory, done, faults, also, and_then, ◌>>=◌, Refuses}
+use Rattle.mp4_frame.specs.Reading.{Fault, End, Reading, fields, piece_from, test, memory, done, and_then, ◌>>=◌, Refuses}
 use Rattle.mp4_frame.specs.declared.error.Error.{Error}
 use Rattle.mp4_frame.specs.declared.error.Error.TheVariants as errors
 use Rattle.mp4_frame.specs.Tables.{Table, rows, rows_from, counted, columns_table, reads_table, size_table, WritableTable, bytes_table}

@@ -1,16 +1,13 @@
 -- Walking over the frames of a buffer, as a loop does.
-use Rattle.std.proofs.Common.{◌≡◌, ℕ, zero, suc, ◌+◌, ◌-◌, ◌^◌, ◌<◌, ◌≤◌, Bool, true, false, cond, List, [], ◌∷◌, ◌++◌, length, Result, Ok, Err, refl, sym, ap, subst, ◌∙◌, arith, append_assoc}
-use Rattle.std.specs.Prelude.{nat_lt, nat_le, ◌==◌, ◌||◌, ◌⊎◌}
+use Rattle.std.proofs.Common.{◌≡◌, ℕ, zero, suc, ◌+◌, ◌-◌, ◌^◌, ◌<◌, ◌≤◌, Bool, true, false, cond, List, [], ◌++◌, length, Result, Ok, Err, refl, sym, ap, ◌∙◌, arith}
+use Rattle.std.specs.Prelude.{nat_lt, nat_le, ◌==◌, ◌⊎◌}
 use Rattle.std.proofs.Common.{inl, inr}
 use Rattle.std.proofs.lemmas.Grind.{common_steps}
 use Rattle.std.proofs.lemmas.Bool.{ltb-false}
-use Rattle.std.proofs.lemmas.List.{append-nil}
-use Rattle.mp4_frame.specs.Bytes.{number}
 use Rattle.mp4_frame.specs.Heads.{head}
 use Rattle.mp4_frame.specs.Heads.{framed, frame_of, frame, header_of}
-use Rattle.mp4_frame.specs.Reading.{Fault, End, Invalid, Reading, done, faults, also, and_then, ◌>>=◌}
+use Rattle.mp4_frame.specs.Reading.{Fault, End, Invalid, Reading, done, ◌>>=◌}
 use Rattle.mp4_frame.specs.Streams.{walk_on, walked, walk}
-use Rattle.mp4_frame.specs.declared.box_type.BoxType.{BoxType}
 use Rattle.mp4_frame.specs.declared.box_header.BoxHeader.{BoxHeader}
 use Rattle.mp4_frame.specs.declared.head.Head.{Head}
 use Rattle.mp4_frame.proofs.Heads.{head_room}

@@ -1,6 +1,6 @@
 -- The head of a box (ISO/IEC 14496-12, 4.2), the header that it is read as, and the frame that it gives
 -- at the top level of a buffer.
-use Rattle.std.specs.Prelude.{Bool, ℕ, ◌+◌, ◌-◌, ◌^◌, ◌==◌, ◌||◌, nat_lt, nat_le, List, [], ◌∷◌, length, Result, Ok, Err, if◌then◌else◌}
+use Rattle.std.specs.Prelude.{ℕ, ◌+◌, ◌-◌, ◌^◌, ◌==◌, ◌||◌, nat_lt, nat_le, List, [], ◌∷◌, length, Result, Ok, Err, if◌then◌else◌}
 use Rattle.mp4_frame.specs.Bytes.{number, joined}
 use Rattle.mp4_frame.specs.BoxType.{name_of, code_of}
 use Rattle.mp4_frame.specs.Reading.{Fault, End, Invalid, Reading, ◌>>=◌, fields, test, done}

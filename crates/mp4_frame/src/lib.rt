@@ -35,7 +35,10 @@ pub use four_cc::{FourCC, is_four_cc};
 pub use frame::Frame;
 pub use head::Head;
 pub use number::{i16_at, i32_at, u8_at, u16_at, u24_at, u32_at, u64_at};
-pub use put::{put_bytes, put_i16, put_i32, put_u8, put_u16, put_u24, put_u32, put_u64, put_zeros};
+pub use put::{
+    put_bytes, put_full_box, put_i16, put_i32, put_u8, put_u16, put_u24, put_u32, put_u64,
+    put_zeros,
+};
 pub use read::read_boxes_as;
 pub use reading::{bytes_from, fields, piece_at, test};
 pub use skip::{box_start, skip_box, skip_bytes, skip_bytes_to};

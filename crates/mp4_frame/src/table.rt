@@ -8,7 +8,7 @@ ghost use Rattle.mp4_frame.specs.Tables.{counted, size_table, WritableTable, byt
 use crate::byte_cursor::ByteCursor;
 use crate::error::Result;
 use crate::number::{u8_at, u24_at, u32_at};
-use crate::put::{put_bytes, put_u8, put_u24, put_u32};
+use crate::put::{put_bytes, put_full_box, put_u32};
 use crate::reading::{fields, test};
 
 /// An entry of a table, which a row of `E` bytes spells.
@@ -126,10 +126,8 @@ pub fn put_table<T: TableEntry<E>, const E: usize>(
     requires room { length place.old ≡ size_table E entries.now }
     ensures { place.new ≡ bytes_table T.row_of E code version flags entries.now }
 {
-    let at = put_u32(place, 0, table_size(entries) as u32);
-    let at = put_u32(place, at, code);
-    let at = put_u8(place, at, version);
-    let at = put_u24(place, at, flags);
+    let size = table_size(entries) as u32;
+    let at = put_full_box(place, size, code, version, flags);
     let at = put_u32(place, at, entries.len() as u32);
     put_entries(place, at, entries);
 }

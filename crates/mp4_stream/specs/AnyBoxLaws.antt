@@ -1,48 +1,49 @@
 -- The laws of a box of any type follow from those of its type.
-use Rattle.std.proofs.Common.{◌≡◌, ℕ, ◌<◌, refl, ap}
+use Rattle.std.proofs.Common.{◌≡◌, ◌<◌, refl, ap}
 use Rattle.mp4_frame.specs.BoxType.{name_of}
 use Rattle.mp4_frame.specs.Laws.{Framed, Normal, OwnName, ReadsBack}
+use Rattle.mp4_frame.proofs.Framing.{settled}
 use Rattle.mp4_frame.proofs.Members.{row_back}
 use Rattle.mp4_flat.specs.Mdhd.{size_mdhd, bytes_mdhd, normal_mdhd, reads_mdhd}
 use Rattle.mp4_flat.specs.MdhdLaws.{framed_mdhd, normal_form_mdhd, read_back_mdhd}
 use Rattle.mp4_flat.specs.Mehd.{size_mehd, bytes_mehd, normal_mehd, reads_mehd}
-use Rattle.mp4_flat.specs.MehdLaws.{framed_mehd, normal_form_mehd, read_back_mehd}
+use Rattle.mp4_flat.specs.MehdLaws.{framed_mehd, read_back_mehd}
 use Rattle.mp4_flat.specs.Mfhd.{size_mfhd, bytes_mfhd, normal_mfhd, reads_mfhd}
-use Rattle.mp4_flat.specs.MfhdLaws.{framed_mfhd, normal_form_mfhd, read_back_mfhd}
+use Rattle.mp4_flat.specs.MfhdLaws.{framed_mfhd, read_back_mfhd}
 use Rattle.mp4_flat.specs.Mvhd.{size_mvhd, bytes_mvhd, normal_mvhd, reads_mvhd}
-use Rattle.mp4_flat.specs.MvhdLaws.{framed_mvhd, normal_form_mvhd, read_back_mvhd}
+use Rattle.mp4_flat.specs.MvhdLaws.{framed_mvhd, read_back_mvhd}
 use Rattle.mp4_flat.specs.Smhd.{size_smhd, bytes_smhd, normal_smhd, reads_smhd}
-use Rattle.mp4_flat.specs.SmhdLaws.{framed_smhd, normal_form_smhd, read_back_smhd}
+use Rattle.mp4_flat.specs.SmhdLaws.{framed_smhd, read_back_smhd}
 use Rattle.mp4_flat.specs.Tfdt.{size_tfdt, bytes_tfdt, normal_tfdt, reads_tfdt}
-use Rattle.mp4_flat.specs.TfdtLaws.{framed_tfdt, normal_form_tfdt, read_back_tfdt}
+use Rattle.mp4_flat.specs.TfdtLaws.{framed_tfdt, read_back_tfdt}
 use Rattle.mp4_flat.specs.Tkhd.{size_tkhd, bytes_tkhd, normal_tkhd, reads_tkhd}
-use Rattle.mp4_flat.specs.TkhdLaws.{framed_tkhd, normal_form_tkhd, read_back_tkhd}
+use Rattle.mp4_flat.specs.TkhdLaws.{framed_tkhd, read_back_tkhd}
 use Rattle.mp4_flat.specs.Trex.{size_trex, bytes_trex, normal_trex, reads_trex}
-use Rattle.mp4_flat.specs.TrexLaws.{framed_trex, normal_form_trex, read_back_trex}
+use Rattle.mp4_flat.specs.TrexLaws.{framed_trex, read_back_trex}
 use Rattle.mp4_flat.specs.Vmhd.{size_vmhd, bytes_vmhd, normal_vmhd, reads_vmhd}
-use Rattle.mp4_flat.specs.VmhdLaws.{framed_vmhd, normal_form_vmhd, read_back_vmhd}
+use Rattle.mp4_flat.specs.VmhdLaws.{framed_vmhd, read_back_vmhd}
 use Rattle.mp4_tables.specs.Co64.{size_co64, bytes_co64, normal_co64, reads_co64}
-use Rattle.mp4_tables.specs.Co64Laws.{framed_co64, normal_form_co64, read_back_co64}
+use Rattle.mp4_tables.specs.Co64Laws.{framed_co64, read_back_co64}
 use Rattle.mp4_tables.specs.Ctts.{size_ctts, bytes_ctts, normal_ctts, reads_ctts}
-use Rattle.mp4_tables.specs.CttsLaws.{framed_ctts, normal_form_ctts, read_back_ctts}
+use Rattle.mp4_tables.specs.CttsLaws.{framed_ctts, read_back_ctts}
 use Rattle.mp4_tables.specs.Elst.{size_elst, bytes_elst, normal_elst, reads_elst}
-use Rattle.mp4_tables.specs.ElstLaws.{framed_elst, normal_form_elst, read_back_elst}
+use Rattle.mp4_tables.specs.ElstLaws.{framed_elst, read_back_elst}
 use Rattle.mp4_tables.specs.Stco.{size_stco, bytes_stco, normal_stco, reads_stco}
-use Rattle.mp4_tables.specs.StcoLaws.{framed_stco, normal_form_stco, read_back_stco}
+use Rattle.mp4_tables.specs.StcoLaws.{framed_stco, read_back_stco}
 use Rattle.mp4_tables.specs.Stsc.{size_stsc, bytes_stsc, normal_stsc, reads_stsc}
 use Rattle.mp4_tables.specs.StscLaws.{framed_stsc, normal_form_stsc, read_back_stsc}
 use Rattle.mp4_tables.specs.Stss.{size_stss, bytes_stss, normal_stss, reads_stss}
-use Rattle.mp4_tables.specs.StssLaws.{framed_stss, normal_form_stss, read_back_stss}
+use Rattle.mp4_tables.specs.StssLaws.{framed_stss, read_back_stss}
 use Rattle.mp4_tables.specs.Stsz.{size_stsz, bytes_stsz, normal_stsz, reads_stsz}
-use Rattle.mp4_tables.specs.StszLaws.{framed_stsz, normal_form_stsz, read_back_stsz}
+use Rattle.mp4_tables.specs.StszLaws.{framed_stsz, read_back_stsz}
 use Rattle.mp4_tables.specs.Stts.{size_stts, bytes_stts, normal_stts, reads_stts}
-use Rattle.mp4_tables.specs.SttsLaws.{framed_stts, normal_form_stts, read_back_stts}
+use Rattle.mp4_tables.specs.SttsLaws.{framed_stts, read_back_stts}
 use Rattle.mp4_tables.specs.Tfhd.{size_tfhd, bytes_tfhd, normal_tfhd, reads_tfhd}
-use Rattle.mp4_tables.specs.TfhdLaws.{framed_tfhd, normal_form_tfhd, read_back_tfhd}
+use Rattle.mp4_tables.specs.TfhdLaws.{framed_tfhd, read_back_tfhd}
 use Rattle.mp4_tables.specs.Trun.{size_trun, bytes_trun, normal_trun, reads_trun}
-use Rattle.mp4_tables.specs.TrunLaws.{framed_trun, normal_form_trun, read_back_trun}
+use Rattle.mp4_tables.specs.TrunLaws.{framed_trun, read_back_trun}
 use Rattle.mp4_text.specs.Data.{size_data, bytes_data, normal_data, reads_data}
-use Rattle.mp4_text.specs.DataLaws.{framed_data, normal_form_data, read_back_data}
+use Rattle.mp4_text.specs.DataLaws.{framed_data, read_back_data}
 use Rattle.mp4_text.specs.Dinf.{size_dinf, bytes_dinf, normal_dinf, reads_dinf}
 use Rattle.mp4_text.specs.DinfLaws.{framed_dinf, normal_form_dinf, read_back_dinf}
 use Rattle.mp4_text.specs.Dref.{size_dref, bytes_dref, normal_dref, reads_dref}
@@ -50,11 +51,11 @@ use Rattle.mp4_text.specs.DrefLaws.{framed_dref, normal_form_dref, read_back_dre
 use Rattle.mp4_text.specs.Emsg.{size_emsg, bytes_emsg, normal_emsg, reads_emsg}
 use Rattle.mp4_text.specs.EmsgLaws.{framed_emsg, normal_form_emsg, read_back_emsg}
 use Rattle.mp4_text.specs.Ftyp.{size_ftyp, bytes_ftyp, normal_ftyp, reads_ftyp}
-use Rattle.mp4_text.specs.FtypLaws.{framed_ftyp, normal_form_ftyp, read_back_ftyp}
+use Rattle.mp4_text.specs.FtypLaws.{framed_ftyp, read_back_ftyp}
 use Rattle.mp4_text.specs.Hdlr.{size_hdlr, bytes_hdlr, normal_hdlr, reads_hdlr}
-use Rattle.mp4_text.specs.HdlrLaws.{framed_hdlr, normal_form_hdlr, read_back_hdlr}
+use Rattle.mp4_text.specs.HdlrLaws.{framed_hdlr, read_back_hdlr}
 use Rattle.mp4_text.specs.Url.{size_url, bytes_url, normal_url, reads_url}
-use Rattle.mp4_text.specs.UrlLaws.{framed_url, normal_form_url, read_back_url}
+use Rattle.mp4_text.specs.UrlLaws.{framed_url, read_back_url}
 use Rattle.mp4_stream.specs.declared.any_box.AnyBox.{AnyBox}
 use Rattle.mp4_stream.specs.declared.any_box.AnyBox.TheVariants as any
 use Rattle.mp4_stream.specs.AnyBox.{name_any, size_any, WritableAny, bytes_any, normal_any, known_any, reading_any}
@@ -88,30 +89,30 @@ framed_any (any.DrefBox b) w = framed_dref b w
 framed_any (any.DinfBox b) w = framed_dinf b w
 
 pub normal_form_any : (v : AnyBox) → WritableAny v → Normal WritableAny bytes_any normal_any v
-normal_form_any (any.FtypBox b) w = (let n = normal_form_ftyp b w in record { writable = n.writable; again = ap any.FtypBox n.again; same_bytes = n.same_bytes })
-normal_form_any (any.MvhdBox b) w = (let n = normal_form_mvhd b w in record { writable = n.writable; again = ap any.MvhdBox n.again; same_bytes = n.same_bytes })
-normal_form_any (any.TkhdBox b) w = (let n = normal_form_tkhd b w in record { writable = n.writable; again = ap any.TkhdBox n.again; same_bytes = n.same_bytes })
+normal_form_any (any.FtypBox b) w = settled (any.FtypBox b) refl w
+normal_form_any (any.MvhdBox b) w = settled (any.MvhdBox b) refl w
+normal_form_any (any.TkhdBox b) w = settled (any.TkhdBox b) refl w
 normal_form_any (any.MdhdBox b) w = (let n = normal_form_mdhd b w in record { writable = n.writable; again = ap any.MdhdBox n.again; same_bytes = n.same_bytes })
-normal_form_any (any.MehdBox b) w = (let n = normal_form_mehd b w in record { writable = n.writable; again = ap any.MehdBox n.again; same_bytes = n.same_bytes })
-normal_form_any (any.MfhdBox b) w = (let n = normal_form_mfhd b w in record { writable = n.writable; again = ap any.MfhdBox n.again; same_bytes = n.same_bytes })
-normal_form_any (any.SmhdBox b) w = (let n = normal_form_smhd b w in record { writable = n.writable; again = ap any.SmhdBox n.again; same_bytes = n.same_bytes })
-normal_form_any (any.VmhdBox b) w = (let n = normal_form_vmhd b w in record { writable = n.writable; again = ap any.VmhdBox n.again; same_bytes = n.same_bytes })
-normal_form_any (any.TrexBox b) w = (let n = normal_form_trex b w in record { writable = n.writable; again = ap any.TrexBox n.again; same_bytes = n.same_bytes })
-normal_form_any (any.TfdtBox b) w = (let n = normal_form_tfdt b w in record { writable = n.writable; again = ap any.TfdtBox n.again; same_bytes = n.same_bytes })
-normal_form_any (any.StcoBox b) w = (let n = normal_form_stco b w in record { writable = n.writable; again = ap any.StcoBox n.again; same_bytes = n.same_bytes })
-normal_form_any (any.Co64Box b) w = (let n = normal_form_co64 b w in record { writable = n.writable; again = ap any.Co64Box n.again; same_bytes = n.same_bytes })
-normal_form_any (any.SttsBox b) w = (let n = normal_form_stts b w in record { writable = n.writable; again = ap any.SttsBox n.again; same_bytes = n.same_bytes })
-normal_form_any (any.CttsBox b) w = (let n = normal_form_ctts b w in record { writable = n.writable; again = ap any.CttsBox n.again; same_bytes = n.same_bytes })
-normal_form_any (any.StssBox b) w = (let n = normal_form_stss b w in record { writable = n.writable; again = ap any.StssBox n.again; same_bytes = n.same_bytes })
-normal_form_any (any.StszBox b) w = (let n = normal_form_stsz b w in record { writable = n.writable; again = ap any.StszBox n.again; same_bytes = n.same_bytes })
+normal_form_any (any.MehdBox b) w = settled (any.MehdBox b) refl w
+normal_form_any (any.MfhdBox b) w = settled (any.MfhdBox b) refl w
+normal_form_any (any.SmhdBox b) w = settled (any.SmhdBox b) refl w
+normal_form_any (any.VmhdBox b) w = settled (any.VmhdBox b) refl w
+normal_form_any (any.TrexBox b) w = settled (any.TrexBox b) refl w
+normal_form_any (any.TfdtBox b) w = settled (any.TfdtBox b) refl w
+normal_form_any (any.StcoBox b) w = settled (any.StcoBox b) refl w
+normal_form_any (any.Co64Box b) w = settled (any.Co64Box b) refl w
+normal_form_any (any.SttsBox b) w = settled (any.SttsBox b) refl w
+normal_form_any (any.CttsBox b) w = settled (any.CttsBox b) refl w
+normal_form_any (any.StssBox b) w = settled (any.StssBox b) refl w
+normal_form_any (any.StszBox b) w = settled (any.StszBox b) refl w
 normal_form_any (any.StscBox b) w = (let n = normal_form_stsc b w in record { writable = n.writable; again = ap any.StscBox n.again; same_bytes = n.same_bytes })
-normal_form_any (any.ElstBox b) w = (let n = normal_form_elst b w in record { writable = n.writable; again = ap any.ElstBox n.again; same_bytes = n.same_bytes })
-normal_form_any (any.TfhdBox b) w = (let n = normal_form_tfhd b w in record { writable = n.writable; again = ap any.TfhdBox n.again; same_bytes = n.same_bytes })
-normal_form_any (any.TrunBox b) w = (let n = normal_form_trun b w in record { writable = n.writable; again = ap any.TrunBox n.again; same_bytes = n.same_bytes })
-normal_form_any (any.HdlrBox b) w = (let n = normal_form_hdlr b w in record { writable = n.writable; again = ap any.HdlrBox n.again; same_bytes = n.same_bytes })
-normal_form_any (any.DataBox b) w = (let n = normal_form_data b w in record { writable = n.writable; again = ap any.DataBox n.again; same_bytes = n.same_bytes })
+normal_form_any (any.ElstBox b) w = settled (any.ElstBox b) refl w
+normal_form_any (any.TfhdBox b) w = settled (any.TfhdBox b) refl w
+normal_form_any (any.TrunBox b) w = settled (any.TrunBox b) refl w
+normal_form_any (any.HdlrBox b) w = settled (any.HdlrBox b) refl w
+normal_form_any (any.DataBox b) w = settled (any.DataBox b) refl w
 normal_form_any (any.EmsgBox b) w = (let n = normal_form_emsg b w in record { writable = n.writable; again = ap any.EmsgBox n.again; same_bytes = n.same_bytes })
-normal_form_any (any.UrlBox b) w = (let n = normal_form_url b w in record { writable = n.writable; again = ap any.UrlBox n.again; same_bytes = n.same_bytes })
+normal_form_any (any.UrlBox b) w = settled (any.UrlBox b) refl w
 normal_form_any (any.DrefBox b) w = (let n = normal_form_dref b w in record { writable = n.writable; again = ap any.DrefBox n.again; same_bytes = n.same_bytes })
 normal_form_any (any.DinfBox b) w = (let n = normal_form_dinf b w in record { writable = n.writable; again = ap any.DinfBox n.again; same_bytes = n.same_bytes })
 

@@ -2,7 +2,7 @@
 use Rattle.std.proofs.Common.{◌≡◌, ℕ, ◌<◌, ◌^◌, List, [], length, refl, sym, ap, subst, ◌∙◌, lit<}
 use Rattle.std.proofs.lemmas.List.{append-nil}
 use Rattle.mp4_frame.specs.Bytes.{number, column}
-use Rattle.mp4_frame.specs.Laws.{Framed, Normal, RowReadsBack, RowIsSound}
+use Rattle.mp4_frame.specs.Laws.{Framed, RowReadsBack, RowIsSound}
 use Rattle.mp4_frame.specs.declared.box_type.BoxType.TheVariants as names
 use Rattle.mp4_frame.proofs.Columns.{length-column, number-column, number-below}
 use Rattle.mp4_frame.proofs.Tables.{IsRow, framed_table, table_back, table_read}
@@ -21,9 +21,6 @@ offset_fits row is = number-below row 0 8 is.are
 pub framed_co64 : (v : Co64Box) → WritableCo64 v → Framed (size_co64 v) names.Co64Box (bytes_co64 v)
 unfolding bytes_co64
 framed_co64 v w = framed_table made_co64 (λ offset. column 8 offset) offset_of (λ offset. offset < 2 ^ 64) 8 0x636f3634 (lit< tt) (lit< tt) offset_long offset_back offset_fits names.Co64Box refl v.version v.flags v.entries w
-
-pub normal_form_co64 : (v : Co64Box) → WritableCo64 v → Normal WritableCo64 bytes_co64 normal_co64 v
-normal_form_co64 v w = record { writable = w; again = refl; same_bytes = refl }
 
 pub read_back_co64 : (v : Co64Box) → WritableCo64 v → RowReadsBack reads_co64 (bytes_co64 v) (size_co64 v) (normal_co64 v)
 unfolding bytes_co64 reads_co64

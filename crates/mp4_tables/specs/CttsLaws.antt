@@ -1,7 +1,7 @@
 -- The laws of ctts, by those of its entries.
 use Rattle.std.proofs.Common.{◌≡◌, ℕ, ◌<◌, ◌^◌, List, length, refl, ap, subst, lit<}
 use Rattle.std.specs.Prelude.{ℤ}
-use Rattle.mp4_frame.specs.Laws.{Framed, Normal, RowReadsBack, RowIsSound}
+use Rattle.mp4_frame.specs.Laws.{Framed, RowReadsBack, RowIsSound}
 use Rattle.mp4_frame.specs.declared.box_type.BoxType.TheVariants as names
 use Rattle.mp4_frame.proofs.Columns.{length-joined, number-below}
 use Rattle.mp4_frame.proofs.Signed.{back32, below32, signed32}
@@ -24,9 +24,6 @@ entry_fits row is = ((number-below row 0 4 is.are, (below32 row 4 is.are, tt)), 
 pub framed_ctts : (v : CttsBox) → WritableCtts v → Framed (size_ctts v) names.CttsBox (bytes_ctts v)
 unfolding bytes_ctts
 framed_ctts v w = framed_table made_ctts row_ctts entry_ctts FitsCttsEntry 8 0x63747473 (lit< tt) (lit< tt) entry_long entry_back entry_fits names.CttsBox refl v.version v.flags v.entries w
-
-pub normal_form_ctts : (v : CttsBox) → WritableCtts v → Normal WritableCtts bytes_ctts normal_ctts v
-normal_form_ctts v w = record { writable = w; again = refl; same_bytes = refl }
 
 pub read_back_ctts : (v : CttsBox) → WritableCtts v → RowReadsBack reads_ctts (bytes_ctts v) (size_ctts v) (normal_ctts v)
 unfolding bytes_ctts reads_ctts

@@ -2,7 +2,7 @@
 use Rattle.std.proofs.Common.{◌≡◌, ℕ, ◌<◌, ◌^◌, Bool, true, false, List, [], ◌∷◌, ◌++◌, map, Ok, length, refl, sym, ap, subst, ◌∙◌, append_assoc, lit<}
 use Rattle.std.specs.List.{flat_map}
 use Rattle.mp4_frame.specs.Bytes.{number, joined}
-use Rattle.mp4_frame.specs.Laws.{Framed, Normal, RowReadsBack, RowIsSound}
+use Rattle.mp4_frame.specs.Laws.{Framed, RowReadsBack, RowIsSound}
 use Rattle.mp4_frame.specs.Reading.{Reading, ◌>>=◌, test, memory, done}
 use Rattle.mp4_frame.specs.Tables.{Table, counted, rows_from, columns_table, size_table}
 use Rattle.mp4_frame.specs.declared.box_type.BoxType.TheVariants as names
@@ -36,9 +36,6 @@ unfolding bytes_elst bytes_elst_rows
 framed_elst v w =
     let b = is_long v.version in
     framed_table made_elst (row_elst b) (entry_elst b) (FitsElstEntry b) (row_length b) 0x656c7374 (some_bytes b) (lit< tt) (entry_long b) (entry_back b) (entry_fits b) names.ElstBox refl v.version v.flags v.entries w
-
-pub normal_form_elst : (v : ElstBox) → WritableElst v → Normal WritableElst bytes_elst normal_elst v
-normal_form_elst v w = record { writable = w; again = refl; same_bytes = refl }
 
 pub read_back_elst : (v : ElstBox) → WritableElst v → RowReadsBack reads_elst (bytes_elst v) (size_elst v) (normal_elst v)
 unfolding bytes_elst bytes_elst_rows reads_elst reads_elst_rows

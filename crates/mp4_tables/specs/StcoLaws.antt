@@ -1,7 +1,7 @@
 -- The laws of stco, by those of its offsets.
 use Rattle.std.proofs.Common.{◌<◌, ◌^◌, refl, subst, lit<}
 use Rattle.mp4_frame.specs.Bytes.{column}
-use Rattle.mp4_frame.specs.Laws.{Framed, Normal, RowReadsBack, RowIsSound}
+use Rattle.mp4_frame.specs.Laws.{Framed, RowReadsBack, RowIsSound}
 use Rattle.mp4_frame.specs.declared.box_type.BoxType.TheVariants as names
 use Rattle.mp4_frame.proofs.Tables.{framed_table, table_back, table_read}
 use Rattle.mp4_tables.specs.NumberLaws.{number_long, number_back, number_fits}
@@ -11,9 +11,6 @@ use Rattle.mp4_tables.specs.Stco.{offset_of, made_stco, reads_stco, size_stco, W
 pub framed_stco : (v : StcoBox) → WritableStco v → Framed (size_stco v) names.StcoBox (bytes_stco v)
 unfolding bytes_stco
 framed_stco v w = framed_table made_stco (λ offset. column 4 offset) offset_of (λ offset. offset < 2 ^ 32) 4 0x7374636f (lit< tt) (lit< tt) number_long number_back number_fits names.StcoBox refl v.version v.flags v.entries w
-
-pub normal_form_stco : (v : StcoBox) → WritableStco v → Normal WritableStco bytes_stco normal_stco v
-normal_form_stco v w = record { writable = w; again = refl; same_bytes = refl }
 
 pub read_back_stco : (v : StcoBox) → WritableStco v → RowReadsBack reads_stco (bytes_stco v) (size_stco v) (normal_stco v)
 unfolding bytes_stco reads_stco

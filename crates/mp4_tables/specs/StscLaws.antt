@@ -1,14 +1,14 @@
 -- The laws of stsc. Numbering reads no first sample, so that it is settled once it was done.
 use Rattle.std.proofs.Common.{◌≡◌, ℕ, ◌+◌, ◌-◌, ◌^◌, ◌<◌, Bool, true, ◌&&◌, List, [], ◌∷◌, ◌++◌, length, map, ltb, leb, cond, refl, ap, subst, ◌∙◌, arith, lit<}
 use Rattle.std.specs.List.{flat_map, AllByRecursion, list_all, range_with_len, sum_by}
-use Rattle.std.proofs.lemmas.List.{length-map, length-append}
+use Rattle.std.proofs.lemmas.List.{length-map}
 use Rattle.std.proofs.lemmas.List.Elements.{All-from_recursion, recursion_from_All}
-use Rattle.mp4_frame.specs.Bytes.{joined}
 use Rattle.mp4_frame.specs.Laws.{Framed, Normal, RowReadsBack, RowIsSound}
 use Rattle.mp4_frame.specs.Reading.{◌>>=◌, memory, test, done}
-use Rattle.mp4_frame.specs.Tables.{Table, counted, columns_table, WritableTable}
+use Rattle.mp4_frame.specs.Tables.{Table, counted, WritableTable}
 use Rattle.mp4_frame.specs.declared.box_type.BoxType.TheVariants as names
-use Rattle.mp4_frame.proofs.Columns.{length-joined, number-joined}
+use Rattle.mp4_frame.proofs.Framing.{framed_front, settled}
+use Rattle.mp4_frame.proofs.Columns.{length-joined}
 use Rattle.mp4_frame.proofs.Stands.{test_ok, is_value}
 use Rattle.mp4_frame.proofs.Tables.{IsRow, length_flat, counted_back, counted_read, map_all, length_map, value_first}
 use Rattle.mp4_tables.specs.EntryLaws.{fits_numbers, columns_back}
@@ -89,16 +89,8 @@ table_renumbered h version flags es w =
 pub framed_stsc : (v : StscBox) → WritableStsc v → Framed (size_stsc v) names.StscBox (bytes_stsc v)
 unfolding bytes_stsc
 framed_stsc v w =
-    let cs = columns_table (size_stsc v) 0x73747363 v.version v.flags (length v.entries) in
-    let z = flat_map row_stsc v.entries in
-    let lj : length (joined cs) ≡ 16 = length-joined cs in
-    record {
-      long = omega (arith, length-append (joined cs) z, lj, length_flat row_stsc 12 FitsStscEntry entry_long v.entries (recursion_from_All FitsStscEntry v.entries w.table.each));
-      least = omega arith;
-      most = w.table.fit.0;
-      size_first = number-joined cs z 0 4 w.table.fit;
-      code_next = number-joined cs z 4 4 w.table.fit;
-    }
+    let long = length_flat row_stsc 12 FitsStscEntry entry_long v.entries (recursion_from_All FitsStscEntry v.entries w.table.each) in
+    framed_front _ (flat_map row_stsc v.entries) w.table.fit (omega (arith, long))
 
 pub normal_form_stsc : (v : StscBox) → WritableStsc v → Normal WritableStsc bytes_stsc normal_stsc v
 unfolding bytes_stsc

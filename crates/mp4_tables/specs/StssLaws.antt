@@ -1,7 +1,7 @@
 -- The laws of stss, by those of its sample numbers.
 use Rattle.std.proofs.Common.{◌<◌, ◌^◌, refl, subst, lit<}
 use Rattle.mp4_frame.specs.Bytes.{column}
-use Rattle.mp4_frame.specs.Laws.{Framed, Normal, RowReadsBack, RowIsSound}
+use Rattle.mp4_frame.specs.Laws.{Framed, RowReadsBack, RowIsSound}
 use Rattle.mp4_frame.specs.declared.box_type.BoxType.TheVariants as names
 use Rattle.mp4_frame.proofs.Tables.{framed_table, table_back, table_read}
 use Rattle.mp4_tables.specs.NumberLaws.{number_long, number_back, number_fits}
@@ -11,9 +11,6 @@ use Rattle.mp4_tables.specs.Stss.{sample_of, made_stss, reads_stss, size_stss, W
 pub framed_stss : (v : StssBox) → WritableStss v → Framed (size_stss v) names.StssBox (bytes_stss v)
 unfolding bytes_stss
 framed_stss v w = framed_table made_stss (λ sample. column 4 sample) sample_of (λ sample. sample < 2 ^ 32) 4 0x73747373 (lit< tt) (lit< tt) number_long number_back number_fits names.StssBox refl v.version v.flags v.entries w
-
-pub normal_form_stss : (v : StssBox) → WritableStss v → Normal WritableStss bytes_stss normal_stss v
-normal_form_stss v w = record { writable = w; again = refl; same_bytes = refl }
 
 pub read_back_stss : (v : StssBox) → WritableStss v → RowReadsBack reads_stss (bytes_stss v) (size_stss v) (normal_stss v)
 unfolding bytes_stss reads_stss

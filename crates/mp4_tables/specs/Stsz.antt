@@ -1,7 +1,7 @@
 -- stsz, the sample size box (ISO/IEC 14496-12, 8.7.3.2): version 1 byte, flags 3, sample_size 4 at 12, sample_count
 -- 4 at 16; where sample_size is 0, that many sizes of 4 bytes from 20 on.
 use Rattle.std.specs.Prelude.{◌≡◌, ℕ, ◌+◌, ◌*◌, ◌<◌, ◌^◌, ◌==◌, List, [], ◌∷◌, ◌++◌, All, length, map, flat_map, if◌then◌else◌}
-use Rattle.mp4_frame.specs.Bytes.{number, column, joined, Fit}
+use Rattle.mp4_frame.specs.Bytes.{number, column, joined, Fit, full_box}
 use Rattle.mp4_frame.specs.Reading.{Reading, ◌>>=◌, fields, memory, done}
 use Rattle.mp4_tables.specs.Rows.{rows_within}
 use Rattle.mp4_tables.specs.declared.stsz.StszBox.{StszBox}
@@ -31,7 +31,7 @@ abbrev pub size_stsz : StszBox → ℕ
 size_stsz v = 20 + 4 * length v.sample_sizes
 
 abbrev pub columns_stsz : StszBox → List (ℕ × ℕ)
-columns_stsz v = (4, size_stsz v) ∷ (4, 0x7374737a) ∷ (1, v.version) ∷ (3, v.flags) ∷ (4, v.sample_size) ∷ (4, v.sample_count) ∷ []
+columns_stsz v = full_box (size_stsz v) 0x7374737a v.version v.flags ++ (4, v.sample_size) ∷ (4, v.sample_count) ∷ []
 
 -- how many sizes the list has, by the size of all samples and their count
 abbrev pub count_of_sizes : ℕ → ℕ → ℕ

@@ -1,12 +1,13 @@
 -- The laws of stsz, by those of its sizes.
-use Rattle.std.proofs.Common.{◌≡◌, ℕ, ◌+◌, ◌*◌, ◌<◌, ◌^◌, Bool, true, false, eqb, cond, List, [], ◌∷◌, ◌++◌, map, Ok, length, refl, ap, subst, ◌∙◌, append_assoc, arith, length-append, lit<, lit≤}
+use Rattle.std.proofs.Common.{◌≡◌, ℕ, ◌+◌, ◌*◌, ◌<◌, ◌^◌, Bool, true, false, eqb, cond, List, [], ◌∷◌, ◌++◌, map, Ok, length, refl, ap, subst, ◌∙◌, append_assoc, arith, lit<, lit≤}
 use Rattle.std.specs.List.{flat_map, All, AllByRecursion}
 use Rattle.std.proofs.lemmas.List.Elements.{All-from_recursion, recursion_from_All}
 use Rattle.mp4_frame.specs.Bytes.{number, column, joined}
-use Rattle.mp4_frame.specs.Laws.{AreBytes, Framed, Normal, RowReadsBack, RowIsSound}
+use Rattle.mp4_frame.specs.Laws.{AreBytes, Framed, RowReadsBack, RowIsSound}
 use Rattle.mp4_frame.specs.Reading.{◌>>=◌, memory, done}
 use Rattle.mp4_frame.specs.declared.box_type.BoxType.TheVariants as names
-use Rattle.mp4_frame.proofs.Columns.{found, length-joined, numbers-joined, number-joined, number-below, fields-joined}
+use Rattle.mp4_frame.proofs.Framing.{framed_front}
+use Rattle.mp4_frame.proofs.Columns.{found, length-joined, numbers-joined, number-below, fields-joined}
 use Rattle.mp4_frame.proofs.Stands.{fields_ok, is_value}
 use Rattle.mp4_frame.proofs.Tables.{length_flat, map_back, map_all, length_map, value_first}
 use Rattle.mp4_tables.specs.NumberLaws.{number_long, number_back, number_fits}
@@ -18,19 +19,9 @@ use Rattle.mp4_tables.specs.declared.stsz.StszBox.{StszBox}
 pub framed_stsz : (v : StszBox) → WritableStsz v → Framed (size_stsz v) names.StszBox (bytes_stsz v)
 unfolding bytes_stsz
 framed_stsz v w =
-    let cs = columns_stsz v in
-    let z = flat_map (λ size. column 4 size) v.sample_sizes in
-    let lj : length (joined cs) ≡ 20 = length-joined cs in
-    record {
-      long = omega (arith, length-append (joined cs) z, lj, length_flat (λ size. column 4 size) 4 (λ size. size < 2 ^ 32) number_long v.sample_sizes (recursion_from_All _ v.sample_sizes w.each));
-      least = omega arith;
-      most = w.fit.0;
-      size_first = number-joined cs z 0 4 w.fit;
-      code_next = number-joined cs z 4 4 w.fit;
-    }
-
-pub normal_form_stsz : (v : StszBox) → WritableStsz v → Normal WritableStsz bytes_stsz normal_stsz v
-normal_form_stsz v w = record { writable = w; again = refl; same_bytes = refl }
+    let sizes = flat_map (λ size. column 4 size) v.sample_sizes in
+    let long = length_flat (λ size. column 4 size) 4 (λ size. size < 2 ^ 32) number_long v.sample_sizes (recursion_from_All _ v.sample_sizes w.each) in
+    framed_front _ sizes w.fit (omega (arith, long))
 
 -- the sizes behind p
 sizes_back : (p y : List ℕ) (sizes : List ℕ) (size : ℕ) → length p ≡ 20 → size ≡ 20 + 4 * length sizes → All (λ s. s < 2 ^ 32) sizes → (reads_sizes (p ++ (flat_map (λ s. column 4 s) sizes ++ y)) size (length sizes)).outcome ≡ Ok sizes

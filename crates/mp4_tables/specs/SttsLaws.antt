@@ -1,6 +1,6 @@
 -- The laws of stts, by those of its entries.
 use Rattle.std.proofs.Common.{◌≡◌, ℕ, ◌<◌, ◌^◌, List, [], ◌∷◌, length, refl, subst, lit<}
-use Rattle.mp4_frame.specs.Laws.{Framed, Normal, RowReadsBack, RowIsSound}
+use Rattle.mp4_frame.specs.Laws.{Framed, RowReadsBack, RowIsSound}
 use Rattle.mp4_frame.specs.declared.box_type.BoxType.TheVariants as names
 use Rattle.mp4_frame.proofs.Columns.{length-joined}
 use Rattle.mp4_frame.proofs.Tables.{IsRow, framed_table, table_back, table_read}
@@ -22,9 +22,6 @@ entry_fits row is = fits_numbers row is.are ((0, 4) ∷ (4, 4) ∷ [])
 pub framed_stts : (v : SttsBox) → WritableStts v → Framed (size_stts v) names.SttsBox (bytes_stts v)
 unfolding bytes_stts
 framed_stts v w = framed_table made_stts row_stts entry_stts FitsSttsEntry 8 0x73747473 (lit< tt) (lit< tt) entry_long entry_back entry_fits names.SttsBox refl v.version v.flags v.entries w
-
-pub normal_form_stts : (v : SttsBox) → WritableStts v → Normal WritableStts bytes_stts normal_stts v
-normal_form_stts v w = record { writable = w; again = refl; same_bytes = refl }
 
 pub read_back_stts : (v : SttsBox) → WritableStts v → RowReadsBack reads_stts (bytes_stts v) (size_stts v) (normal_stts v)
 unfolding bytes_stts reads_stts

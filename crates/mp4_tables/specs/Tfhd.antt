@@ -2,7 +2,7 @@
 -- on, one behind the other, each where its flag is set: base_data_offset 8 (0x01), sample_description_index 4
 -- (0x02), default_sample_duration 4 (0x08), default_sample_size 4 (0x10), default_sample_flags 4 (0x20).
 use Rattle.std.specs.Prelude.{ℕ, ◌+◌, ◌-◌, List, [], ◌∷◌, ◌++◌}
-use Rattle.mp4_frame.specs.Bytes.{number, joined, Fit}
+use Rattle.mp4_frame.specs.Bytes.{number, joined, Fit, full_box}
 use Rattle.mp4_frame.specs.Reading.{Reading, ◌>>=◌, fields, done}
 use Rattle.mp4_tables.specs.Flagged.{is_set, width_if, number_if, optional, Stands}
 use Rattle.mp4_tables.specs.declared.tfhd.TfhdBox.{TfhdBox}
@@ -46,7 +46,7 @@ abbrev pub size_tfhd : TfhdBox → ℕ
 size_tfhd v = end_at v.flags
 
 abbrev pub columns_tfhd : TfhdBox → List (ℕ × ℕ)
-columns_tfhd v = (4, size_tfhd v) ∷ (4, 0x74666864) ∷ (1, v.version) ∷ (3, v.flags) ∷ (4, v.track_id) ∷ []
+columns_tfhd v = full_box (size_tfhd v) 0x74666864 v.version v.flags ++ (4, v.track_id) ∷ []
 
 -- each flagged field is there exactly where its flag is set, and its number fits
 pub record FlaggedTfhd (v : TfhdBox) : Type 0 where

@@ -1,9 +1,10 @@
 -- The laws of tfhd, by those of flagged fields.
 use Rattle.std.proofs.Common.{◌≡◌, ℕ, ◌-◌, ◌<◌, ◌≤◌, ◌^◌, List, ◌++◌, length, refl, ap, subst, ◌∙◌, append_assoc, arith, length-append, lit<}
 use Rattle.mp4_frame.specs.Bytes.{number, joined}
-use Rattle.mp4_frame.specs.Laws.{Framed, Normal, RowReadsBack, RowIsSound}
+use Rattle.mp4_frame.specs.Laws.{Framed, RowReadsBack, RowIsSound}
 use Rattle.mp4_frame.specs.Reading.{◌>>=◌, fields, done}
 use Rattle.mp4_frame.specs.declared.box_type.BoxType.TheVariants as names
+use Rattle.mp4_frame.proofs.Framing.{framed_front}
 use Rattle.mp4_frame.proofs.Columns.{length-joined, number-joined, number-below}
 use Rattle.mp4_frame.proofs.Stands.{fields_stand, fields_ok, is_value}
 use Rattle.mp4_tables.specs.FlaggedLaws.{width_most, length_optional, optional_back, number_stands}
@@ -17,30 +18,20 @@ tfhd_is_short flags = omega (arith, width_most (is_set flags 0x01) 8, width_most
 pub framed_tfhd : (v : TfhdBox) → WritableTfhd v → Framed (size_tfhd v) names.TfhdBox (bytes_tfhd v)
 unfolding bytes_tfhd
 framed_tfhd v w =
-    let cs = columns_tfhd v in
     let a = optional 8 v.base_data_offset in
     let b = optional 4 v.sample_description_index in
     let c = optional 4 v.default_sample_duration in
     let d = optional 4 v.default_sample_size in
     let e = optional 4 v.default_sample_flags in
     let z = a ++ (b ++ (c ++ (d ++ e))) in
-    let is : joined cs ++ a ++ b ++ c ++ d ++ e ≡ joined cs ++ z = simp append_assoc in
-    let lj : length (joined cs) ≡ 16 = length-joined cs in
+    let is : joined (columns_tfhd v) ++ z ≡ joined (columns_tfhd v) ++ a ++ b ++ c ++ d ++ e = simp append_assoc in
     let la = length_optional (is_set v.flags 0x01) 8 v.base_data_offset w.flagged.base_data_offset in
     let lb = length_optional (is_set v.flags 0x02) 4 v.sample_description_index w.flagged.sample_description_index in
     let lc = length_optional (is_set v.flags 0x08) 4 v.default_sample_duration w.flagged.default_sample_duration in
     let ld = length_optional (is_set v.flags 0x10) 4 v.default_sample_size w.flagged.default_sample_size in
     let le = length_optional (is_set v.flags 0x20) 4 v.default_sample_flags w.flagged.default_sample_flags in
-    record {
-      long = ap length is ∙ omega (arith, lj, la, lb, lc, ld, le, length-append (joined cs) z, length-append a (b ++ (c ++ (d ++ e))), length-append b (c ++ (d ++ e)), length-append c (d ++ e), length-append d e);
-      least = omega arith;
-      most = w.fit.0;
-      size_first = ap (λ (l : List ℕ). number l 0 4) is ∙ number-joined cs z 0 4 w.fit;
-      code_next = ap (λ (l : List ℕ). number l 4 4) is ∙ number-joined cs z 4 4 w.fit;
-    }
-
-pub normal_form_tfhd : (v : TfhdBox) → WritableTfhd v → Normal WritableTfhd bytes_tfhd normal_tfhd v
-normal_form_tfhd v w = record { writable = w; again = refl; same_bytes = refl }
+    let long = omega (arith, la, lb, lc, ld, le, length-append a (b ++ (c ++ (d ++ e))), length-append b (c ++ (d ++ e)), length-append c (d ++ e), length-append d e) in
+    subst (Framed (size_tfhd v) names.TfhdBox) is (framed_front _ z w.fit long)
 
 pub read_back_tfhd : (v : TfhdBox) → WritableTfhd v → RowReadsBack reads_tfhd (bytes_tfhd v) (size_tfhd v) (normal_tfhd v)
 unfolding bytes_tfhd reads_tfhd

@@ -5,7 +5,7 @@
 use Rattle.std.specs.Prelude.{ℕ, ℤ, ◌+◌, ◌-◌, ◌*◌, List, [], ◌∷◌, ◌++◌, flat_map, slice_get, Option, Some, None, option_map, FitsSigned}
 use Rattle.std.specs.List.{range_with_len}
 use Rattle.std.specs.Int.{w32, cast_signed, cast_unsigned}
-use Rattle.mp4_frame.specs.Bytes.{number, joined, Fit}
+use Rattle.mp4_frame.specs.Bytes.{number, joined, Fit, full_box}
 use Rattle.mp4_frame.specs.Reading.{Reading, ◌>>=◌, fields, done}
 use Rattle.mp4_tables.specs.Flagged.{is_set, width_if, number_if, optional, Stands}
 use Rattle.mp4_tables.specs.TrunLists.{row_length, reads_lists, IsListed}
@@ -44,7 +44,7 @@ abbrev pub size_trun : TrunBox → ℕ
 size_trun v = rows_at v.flags + row_length v.flags * v.sample_count
 
 abbrev pub columns_trun : TrunBox → List (ℕ × ℕ)
-columns_trun v = (4, size_trun v) ∷ (4, 0x7472756e) ∷ (1, v.version) ∷ (3, v.flags) ∷ (4, v.sample_count) ∷ []
+columns_trun v = full_box (size_trun v) 0x7472756e v.version v.flags ++ (4, v.sample_count) ∷ []
 
 -- a signed number that may be there
 abbrev pub FitsOptional : Option ℤ → Type 0

@@ -9,9 +9,10 @@ use Rattle.std.proofs.lemmas.List.FromFn.{length-range_with_len, fill_by_all}
 use Rattle.std.proofs.lemmas.Option.{slice_get_past, slice_get-get_or, get_or_from_slice_get}
 use Rattle.std.proofs.lemmas.Simd.{map-map}
 use Rattle.mp4_frame.specs.Bytes.{number, joined}
-use Rattle.mp4_frame.specs.Laws.{AreBytes, Framed, Normal, RowReadsBack, RowIsSound}
+use Rattle.mp4_frame.specs.Laws.{AreBytes, Framed, RowReadsBack, RowIsSound}
 use Rattle.mp4_frame.specs.Reading.{Reading, ◌>>=◌, fields, memory, done}
 use Rattle.mp4_frame.specs.declared.box_type.BoxType.TheVariants as names
+use Rattle.mp4_frame.proofs.Framing.{framed_front}
 use Rattle.mp4_frame.proofs.Columns.{length-joined, number-joined, number-below}
 use Rattle.mp4_frame.proofs.Signed.{back32, below32, signed32}
 use Rattle.mp4_frame.proofs.Stands.{fields_stand, fields_ok, is_value}
@@ -128,26 +129,15 @@ offset_back (Some z) h = ap (λ (y : ℤ). Some y) (back32 z h)
 pub framed_trun : (v : TrunBox) → WritableTrun v → Framed (size_trun v) names.TrunBox (bytes_trun v)
 unfolding bytes_trun
 framed_trun v w =
-    let cs = columns_trun v in
     let a = optional 4 (unsigned v.data_offset) in
     let b = optional 4 v.first_sample_flags in
     let r = rows_trun v v.sample_count in
-    let z = a ++ (b ++ r) in
-    let is : joined cs ++ a ++ b ++ r ≡ joined cs ++ z = simp append_assoc in
-    let lj : length (joined cs) ≡ 16 = length-joined cs in
+    let is : joined (columns_trun v) ++ (a ++ (b ++ r)) ≡ joined (columns_trun v) ++ a ++ b ++ r = simp append_assoc in
     let la = length_optional (is_set v.flags 0x01) 4 (unsigned v.data_offset) w.flagged.data_offset in
     let lb = length_optional (is_set v.flags 0x04) 4 v.first_sample_flags w.flagged.first_sample_flags in
     let lr = length_rows v w.listed v.sample_count (omega arith) in
-    record {
-      long = ap length is ∙ omega (arith, lj, la, lb, lr, length-append (joined cs) z, length-append a (b ++ r), length-append b r);
-      least = omega arith;
-      most = w.fit.0;
-      size_first = ap (λ (l : List ℕ). number l 0 4) is ∙ number-joined cs z 0 4 w.fit;
-      code_next = ap (λ (l : List ℕ). number l 4 4) is ∙ number-joined cs z 4 4 w.fit;
-    }
-
-pub normal_form_trun : (v : TrunBox) → WritableTrun v → Normal WritableTrun bytes_trun normal_trun v
-normal_form_trun v w = record { writable = w; again = refl; same_bytes = refl }
+    let long = omega (arith, la, lb, lr, length-append a (b ++ r), length-append b r) in
+    subst (Framed (size_trun v) names.TrunBox) is (framed_front _ (a ++ (b ++ r)) w.fit long)
 
 pub read_back_trun : (v : TrunBox) → WritableTrun v → RowReadsBack reads_trun (bytes_trun v) (size_trun v) (normal_trun v)
 unfolding bytes_trun reads_trun reads_lists

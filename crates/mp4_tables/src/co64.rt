@@ -1,9 +1,10 @@
 //! The large chunk offset box.
 
-ghost use Rattle.std.specs.Prelude.{◌≡◌, ◌-◌, ◌^◌, [], IfOk, IfErr, map, min};
+ghost use Rattle.std.specs.Prelude.{◌≡◌, ◌-◌, ◌^◌, [], IfOk, IfErr, map, min, refl};
 ghost use Rattle.mp4_frame.specs.declared.box_type.BoxType.TheVariants as names;
+ghost use Rattle.mp4_frame.proofs.Framing.{settled};
 ghost use Rattle.mp4_tables.specs.Co64.{offset_of, reads_co64, size_co64, WritableCo64, bytes_co64, normal_co64};
-ghost use Rattle.mp4_tables.specs.Co64Laws.{framed_co64, normal_form_co64, read_back_co64, sound_co64};
+ghost use Rattle.mp4_tables.specs.Co64Laws.{framed_co64, read_back_co64, sound_co64};
 
 use mp4_frame::{
     BoxLaws, BoxType, Entries, Error, Mp4Box, ReadBox, Result, WriteBox, is_writable_table,
@@ -137,7 +138,7 @@ impl WriteBox for Co64Box {
 
     ghost framed = { framed_co64 };
 
-    ghost normal_form = { normal_form_co64 };
+    ghost normal_form = { λ v w. settled v refl w };
 }
 
 impl BoxLaws for Co64Box {

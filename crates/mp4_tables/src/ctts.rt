@@ -1,10 +1,11 @@
 //! The composition time to sample box.
 
-ghost use Rattle.std.specs.Prelude.{◌≡◌, ◌-◌, ◌^◌, [], IfOk, IfErr, map, min};
+ghost use Rattle.std.specs.Prelude.{◌≡◌, ◌-◌, ◌^◌, [], IfOk, IfErr, map, min, refl};
 ghost use Rattle.mp4_frame.specs.declared.box_type.BoxType.TheVariants as names;
+ghost use Rattle.mp4_frame.proofs.Framing.{settled};
 ghost use Rattle.mp4_tables.specs.Ctts.{reads_ctts, size_ctts, WritableCtts, bytes_ctts, normal_ctts};
 ghost use Rattle.mp4_tables.specs.CttsEntry.{entry_ctts};
-ghost use Rattle.mp4_tables.specs.CttsLaws.{framed_ctts, normal_form_ctts, read_back_ctts, sound_ctts};
+ghost use Rattle.mp4_tables.specs.CttsLaws.{framed_ctts, read_back_ctts, sound_ctts};
 
 use crate::ctts_entry::CttsEntry;
 use mp4_frame::{
@@ -144,7 +145,7 @@ impl WriteBox for CttsBox {
 
     ghost framed = { framed_ctts };
 
-    ghost normal_form = { normal_form_ctts };
+    ghost normal_form = { λ v w. settled v refl w };
 }
 
 impl BoxLaws for CttsBox {

@@ -1,12 +1,13 @@
 //! The edit list box.
 
-ghost use Rattle.std.specs.Prelude.{◌≡◌, ◌-◌, ◌^◌, [], IfOk, IfErr, map, min, true, false};
+ghost use Rattle.std.specs.Prelude.{◌≡◌, ◌-◌, ◌^◌, [], IfOk, IfErr, map, min, true, false, refl};
 ghost use Rattle.mp4_frame.specs.Bytes.{number};
 ghost use Rattle.mp4_frame.specs.Reading.{Answers};
 ghost use Rattle.mp4_frame.specs.declared.box_type.BoxType.TheVariants as names;
+ghost use Rattle.mp4_frame.proofs.Framing.{settled};
 ghost use Rattle.mp4_tables.specs.Elst.{reads_elst_rows, reads_elst, size_elst, WritableElst, bytes_elst, normal_elst};
 ghost use Rattle.mp4_tables.specs.ElstEntry.{is_long, entry_elst};
-ghost use Rattle.mp4_tables.specs.ElstLaws.{framed_elst, normal_form_elst, read_back_elst, sound_elst};
+ghost use Rattle.mp4_tables.specs.ElstLaws.{framed_elst, read_back_elst, sound_elst};
 
 use crate::elst_entry::ElstEntry;
 use mp4_frame::{
@@ -222,7 +223,7 @@ impl WriteBox for ElstBox {
 
     ghost framed = { framed_elst };
 
-    ghost normal_form = { normal_form_elst };
+    ghost normal_form = { λ v w. settled v refl w };
 }
 
 impl BoxLaws for ElstBox {

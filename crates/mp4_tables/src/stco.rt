@@ -1,10 +1,11 @@
 //! The chunk offset box.
 
-ghost use Rattle.std.specs.Prelude.{◌≡◌, ◌↔◌, ◌<◌, ◌-◌, ◌%◌, ◌^◌, [], All, IsTrue, IfOk, IfErr, OnOk, map, min};
+ghost use Rattle.std.specs.Prelude.{◌≡◌, ◌↔◌, ◌<◌, ◌-◌, ◌%◌, ◌^◌, [], All, IsTrue, IfOk, IfErr, OnOk, map, min, refl};
 ghost use Rattle.mp4_frame.specs.Written.{WriteRefuses};
 ghost use Rattle.mp4_frame.specs.declared.box_type.BoxType.TheVariants as names;
+ghost use Rattle.mp4_frame.proofs.Framing.{settled};
 ghost use Rattle.mp4_tables.specs.Stco.{made_stco, reads_stco, size_stco, WritableStco, bytes_stco, normal_stco};
-ghost use Rattle.mp4_tables.specs.StcoLaws.{framed_stco, normal_form_stco, read_back_stco, sound_stco};
+ghost use Rattle.mp4_tables.specs.StcoLaws.{framed_stco, read_back_stco, sound_stco};
 
 use crate::co64::Co64Box;
 use crate::rows::numbers_of;
@@ -169,7 +170,7 @@ impl WriteBox for StcoBox {
 
     ghost framed = { framed_stco };
 
-    ghost normal_form = { normal_form_stco };
+    ghost normal_form = { λ v w. settled v refl w };
 }
 
 impl BoxLaws for StcoBox {

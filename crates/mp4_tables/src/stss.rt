@@ -1,9 +1,10 @@
 //! The sync sample box.
 
-ghost use Rattle.std.specs.Prelude.{◌≡◌, ◌-◌, ◌^◌, [], IfOk, IfErr, min};
+ghost use Rattle.std.specs.Prelude.{◌≡◌, ◌-◌, ◌^◌, [], IfOk, IfErr, min, refl};
 ghost use Rattle.mp4_frame.specs.declared.box_type.BoxType.TheVariants as names;
+ghost use Rattle.mp4_frame.proofs.Framing.{settled};
 ghost use Rattle.mp4_tables.specs.Stss.{reads_stss, size_stss, WritableStss, bytes_stss, normal_stss};
-ghost use Rattle.mp4_tables.specs.StssLaws.{framed_stss, normal_form_stss, read_back_stss, sound_stss};
+ghost use Rattle.mp4_tables.specs.StssLaws.{framed_stss, read_back_stss, sound_stss};
 
 use crate::rows::numbers_of;
 use mp4_frame::{
@@ -124,7 +125,7 @@ impl WriteBox for StssBox {
 
     ghost framed = { framed_stss };
 
-    ghost normal_form = { normal_form_stss };
+    ghost normal_form = { λ v w. settled v refl w };
 }
 
 impl BoxLaws for StssBox {

@@ -1,15 +1,16 @@
 //! The sample size box.
 
-ghost use Rattle.std.specs.Prelude.{◌≡◌, ◌-◌, ◌^◌, [], IfOk, IfErr, min};
+ghost use Rattle.std.specs.Prelude.{◌≡◌, ◌-◌, ◌^◌, [], IfOk, IfErr, min, refl};
 ghost use Rattle.mp4_frame.specs.Reading.{AnswersAs};
 ghost use Rattle.mp4_frame.specs.declared.box_type.BoxType.TheVariants as names;
+ghost use Rattle.mp4_frame.proofs.Framing.{settled};
 ghost use Rattle.mp4_tables.specs.Stsz.{reads_sizes, count_of_sizes, reads_stsz, size_stsz, WritableStsz, bytes_stsz, normal_stsz};
-ghost use Rattle.mp4_tables.specs.StszLaws.{framed_stsz, normal_form_stsz, read_back_stsz, sound_stsz};
+ghost use Rattle.mp4_tables.specs.StszLaws.{framed_stsz, read_back_stsz, sound_stsz};
 
 use crate::rows::{numbers_of, read_rows};
 use mp4_frame::{
     BoxLaws, BoxType, Entries, Error, Mp4Box, ReadBox, Result, WriteBox, all_fit, fields,
-    put_entries, put_u8, put_u24, put_u32, u8_at, u24_at, u32_at,
+    put_entries, put_full_box, put_u32, u8_at, u24_at, u32_at,
 };
 use std::alloc::Global;
 
@@ -153,10 +154,8 @@ impl WriteBox for StszBox {
 
     #[tactic(auto, unfolding(crate::specs::Stsz::bytes_stsz, mp4_frame::specs::Bytes::joined, mp4_frame::specs::Bytes::joined_onto))]
     fn put_box(&self, place: &mut [u8]) {
-        let at = put_u32(place, 0, self.box_size() as u32);
-        let at = put_u32(place, at, 0x7374_737a);
-        let at = put_u8(place, at, self.version);
-        let at = put_u24(place, at, self.flags);
+        let size = self.box_size() as u32;
+        let at = put_full_box(place, size, 0x7374_737a, self.version, self.flags);
         let at = put_u32(place, at, self.sample_size);
         let at = put_u32(place, at, self.sample_count);
         put_entries(place, at, self.sample_sizes.as_slice());
@@ -164,7 +163,7 @@ impl WriteBox for StszBox {
 
     ghost framed = { framed_stsz };
 
-    ghost normal_form = { normal_form_stsz };
+    ghost normal_form = { λ v w. settled v refl w };
 }
 
 impl BoxLaws for StszBox {

@@ -1,10 +1,11 @@
 //! The decoding time to sample box.
 
-ghost use Rattle.std.specs.Prelude.{◌≡◌, ◌-◌, ◌^◌, [], IfOk, IfErr, map, min};
+ghost use Rattle.std.specs.Prelude.{◌≡◌, ◌-◌, ◌^◌, [], IfOk, IfErr, map, min, refl};
 ghost use Rattle.mp4_frame.specs.declared.box_type.BoxType.TheVariants as names;
+ghost use Rattle.mp4_frame.proofs.Framing.{settled};
 ghost use Rattle.mp4_tables.specs.Stts.{reads_stts, size_stts, WritableStts, bytes_stts, normal_stts};
 ghost use Rattle.mp4_tables.specs.SttsEntry.{entry_stts};
-ghost use Rattle.mp4_tables.specs.SttsLaws.{framed_stts, normal_form_stts, read_back_stts, sound_stts};
+ghost use Rattle.mp4_tables.specs.SttsLaws.{framed_stts, read_back_stts, sound_stts};
 
 use crate::stts_entry::SttsEntry;
 use mp4_frame::{
@@ -144,7 +145,7 @@ impl WriteBox for SttsBox {
 
     ghost framed = { framed_stts };
 
-    ghost normal_form = { normal_form_stts };
+    ghost normal_form = { λ v w. settled v refl w };
 }
 
 impl BoxLaws for SttsBox {

@@ -1,15 +1,16 @@
 //! The track fragment header box.
 
-ghost use Rattle.std.specs.Prelude.{◌≡◌, ◌≤◌, ◌-◌, ◌^◌, ◌↔◌, min, IsTrue};
+ghost use Rattle.std.specs.Prelude.{◌≡◌, ◌≤◌, ◌-◌, ◌^◌, ◌↔◌, min, IsTrue, refl};
 ghost use Rattle.mp4_frame.specs.declared.box_type.BoxType.TheVariants as names;
+ghost use Rattle.mp4_frame.proofs.Framing.{settled};
 ghost use Rattle.mp4_tables.specs.Tfhd.{end_at as end_place, reads_tfhd, size_tfhd, FlaggedTfhd, WritableTfhd, bytes_tfhd, normal_tfhd};
-ghost use Rattle.mp4_tables.specs.TfhdLaws.{framed_tfhd, normal_form_tfhd, read_back_tfhd, sound_tfhd};
+ghost use Rattle.mp4_tables.specs.TfhdLaws.{framed_tfhd, read_back_tfhd, sound_tfhd};
 
 use crate::flagged::{
     is_set, put_optional_u32, put_optional_u64, stands_u32, stands_u64, u32_if, u64_if, width_if,
 };
 use mp4_frame::{
-    BoxLaws, BoxType, Mp4Box, ReadBox, Result, WriteBox, fields, put_u8, put_u24, put_u32, u8_at,
+    BoxLaws, BoxType, Mp4Box, ReadBox, Result, WriteBox, fields, put_full_box, put_u32, u8_at,
     u24_at, u32_at,
 };
 use std::alloc::Global;
@@ -159,10 +160,8 @@ impl WriteBox for TfhdBox {
 
     #[tactic(auto, using(crate::specs::FlaggedLaws::length_optional), unfolding(crate::specs::Tfhd::bytes_tfhd, mp4_frame::specs::Bytes::joined, mp4_frame::specs::Bytes::joined_onto))]
     fn put_box(&self, place: &mut [u8]) {
-        let at = put_u32(place, 0, self.box_size() as u32);
-        let at = put_u32(place, at, 0x7466_6864);
-        let at = put_u8(place, at, self.version);
-        let at = put_u24(place, at, self.flags);
+        let size = self.box_size() as u32;
+        let at = put_full_box(place, size, 0x7466_6864, self.version, self.flags);
         let at = put_u32(place, at, self.track_id);
         let at = put_optional_u64(place, at, self.base_data_offset);
         let at = put_optional_u32(place, at, self.sample_description_index);
@@ -173,7 +172,7 @@ impl WriteBox for TfhdBox {
 
     ghost framed = { framed_tfhd };
 
-    ghost normal_form = { normal_form_tfhd };
+    ghost normal_form = { λ v w. settled v refl w };
 }
 
 impl BoxLaws for TfhdBox {

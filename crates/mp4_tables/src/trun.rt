@@ -1,17 +1,18 @@
 //! The track fragment run box.
 
-ghost use Rattle.std.specs.Prelude.{◌≡◌, ◌≤◌, ◌<◌, ◌+◌, ◌*◌, ◌-◌, ◌^◌, ◌++◌, ◌↔◌, [], None, IsTrue, IfOk, IfErr, length, min, take, is_some, slice_get, option_map};
+ghost use Rattle.std.specs.Prelude.{◌≡◌, ◌≤◌, ◌<◌, ◌+◌, ◌*◌, ◌-◌, ◌^◌, ◌++◌, ◌↔◌, [], None, IsTrue, IfOk, IfErr, length, min, take, is_some, slice_get, option_map, refl};
 ghost use Rattle.std.specs.Int.{w32, cast_signed};
 ghost use Rattle.mp4_frame.specs.declared.box_type.BoxType.TheVariants as names;
+ghost use Rattle.mp4_frame.proofs.Framing.{settled};
 ghost use Rattle.mp4_tables.specs.Flagged.{width_if as width_where, optional, Stands};
 ghost use Rattle.mp4_tables.specs.TrunLists.{row_length as length_of_row};
 ghost use Rattle.mp4_tables.specs.Trun.{first_flags_at as first_flags_place, rows_at as rows_place, unsigned, FitsOptional, FlaggedTrun, reads_trun, size_trun, ListedTrun, WritableTrun, row_trun, rows_trun, bytes_trun, normal_trun};
-ghost use Rattle.mp4_tables.specs.TrunLaws.{framed_trun, normal_form_trun, read_back_trun, sound_trun};
+ghost use Rattle.mp4_tables.specs.TrunLaws.{framed_trun, read_back_trun, sound_trun};
 
 use crate::flagged::{is_set, put_optional_u32, stands_u32, u32_if, width_if};
 use crate::trun_lists::{is_listed, read_lists, row_length};
 use mp4_frame::{
-    BoxLaws, BoxType, Entries, Error, Mp4Box, ReadBox, Result, WriteBox, fields, put_u8, put_u24,
+    BoxLaws, BoxType, Entries, Error, Mp4Box, ReadBox, Result, WriteBox, fields, put_full_box,
     put_u32, u8_at, u24_at, u32_at,
 };
 use std::alloc::Global;
@@ -279,10 +280,8 @@ impl WriteBox for TrunBox {
 
     #[tactic(auto, using(crate::specs::FlaggedLaws::length_optional), unfolding(crate::specs::Trun::bytes_trun, mp4_frame::specs::Bytes::joined, mp4_frame::specs::Bytes::joined_onto))]
     fn put_box(&self, place: &mut [u8]) {
-        let at = put_u32(place, 0, self.box_size() as u32);
-        let at = put_u32(place, at, 0x7472_756e);
-        let at = put_u8(place, at, self.version);
-        let at = put_u24(place, at, self.flags);
+        let size = self.box_size() as u32;
+        let at = put_full_box(place, size, 0x7472_756e, self.version, self.flags);
         let at = put_u32(place, at, self.sample_count);
         let at = put_optional_u32(place, at, unsigned_bits(self.data_offset));
         let at = put_optional_u32(place, at, self.first_sample_flags);
@@ -291,7 +290,7 @@ impl WriteBox for TrunBox {
 
     ghost framed = { framed_trun };
 
-    ghost normal_form = { normal_form_trun };
+    ghost normal_form = { λ v w. settled v refl w };
 }
 
 impl BoxLaws for TrunBox {

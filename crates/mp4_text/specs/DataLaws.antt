@@ -1,10 +1,11 @@
 -- The laws of data.
-use Rattle.std.proofs.Common.{◌≡◌, ℕ, ◌+◌, ◌-◌, ◌<◌, ◌≤◌, ◌^◌, true, List, ◌++◌, length, Some, Ok, refl, ap, ◌∙◌, arith, length-append, append_assoc, lit<, lit≤}
+use Rattle.std.proofs.Common.{◌≡◌, ℕ, ◌+◌, ◌-◌, ◌<◌, ◌≤◌, ◌^◌, true, List, ◌++◌, length, Some, Ok, refl, ap, ◌∙◌, arith, append_assoc, lit<, lit≤}
 use Rattle.std.proofs.lemmas.Bool.{le-leb}
 use Rattle.std.specs.Prelude.{nat_le}
 use Rattle.mp4_frame.specs.Bytes.{number, joined}
-use Rattle.mp4_frame.specs.Laws.{Framed, Normal, RowReadsBack, RowIsSound}
+use Rattle.mp4_frame.specs.Laws.{Framed, RowReadsBack, RowIsSound}
 use Rattle.mp4_frame.specs.declared.box_type.BoxType.TheVariants as names
+use Rattle.mp4_frame.proofs.Framing.{framed_front}
 use Rattle.mp4_frame.proofs.Columns.{fields-joined, length-joined, number-joined}
 use Rattle.mp4_media.specs.DataType.{data_type_of, number_data_type}
 use Rattle.mp4_media.specs.declared.data_type.DataType.{DataType}
@@ -15,18 +16,7 @@ use Rattle.mp4_text.specs.declared.data.DataBox.{DataBox}
 
 pub framed_data : (v : DataBox) → WritableData v → Framed (size_data v) names.DataBox (bytes_data v)
 unfolding bytes_data
-framed_data v w =
-    let cs = columns_data v in
-    record {
-      long = omega (arith, length-append (joined cs) v.data_bytes, length-joined cs);
-      least = omega arith;
-      most = w.0;
-      size_first = number-joined cs v.data_bytes 0 4 w;
-      code_next = number-joined cs v.data_bytes 4 4 w;
-    }
-
-pub normal_form_data : (v : DataBox) → WritableData v → Normal WritableData bytes_data normal_data v
-normal_form_data v w = record { writable = w; again = refl; same_bytes = refl }
+framed_data v w = framed_front _ v.data_bytes w refl
 
 type_back : (data_type : DataType) → data_type_of (number_data_type data_type) ≡ Some data_type
 unfolding data_type_of

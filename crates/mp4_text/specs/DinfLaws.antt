@@ -1,10 +1,11 @@
 -- The laws of dinf, from those of dref alone.
-use Rattle.std.proofs.Common.{◌≡◌, ℕ, ◌+◌, ◌<◌, ◌^◌, List, [], ◌∷◌, ◌++◌, length, Ok, Option, Some, None, refl, sym, ap, subst, ◌∙◌, arith, length-append, append_assoc, lit<}
+use Rattle.std.proofs.Common.{◌≡◌, ℕ, ◌+◌, ◌<◌, ◌^◌, List, [], ◌∷◌, ◌++◌, Ok, Option, Some, None, refl, sym, ap, subst, ◌∙◌, arith, append_assoc, lit<}
 use Rattle.mp4_frame.specs.Bytes.{joined, Fit}
 use Rattle.mp4_frame.specs.Children.{children}
 use Rattle.mp4_frame.specs.Laws.{Framed, Normal, RowReadsBack, RowIsSound}
 use Rattle.mp4_frame.specs.declared.box_type.BoxType.TheVariants as names
-use Rattle.mp4_frame.proofs.Columns.{length-joined, number-joined}
+use Rattle.mp4_frame.proofs.Framing.{framed_front, settled}
+use Rattle.mp4_frame.proofs.Columns.{length-joined}
 use Rattle.mp4_frame.proofs.Decided.{outcome_bind}
 use Rattle.mp4_frame.proofs.Stands.{is_value}
 use Rattle.mp4_frame.proofs.Tables.{value_first}
@@ -18,17 +19,7 @@ use Rattle.mp4_text.specs.declared.dref.DrefBox.{DrefBox}
 
 pub framed_dinf : (v : DinfBox) → WritableDinf v → Framed (size_dinf v) names.DinfBox (bytes_dinf v)
 unfolding bytes_dinf
-framed_dinf v w =
-    let cs = columns_dinf v in
-    let part = bytes_dref v.dref in
-    let long : length part ≡ size_dref v.dref = (laws_dref.framed v.dref w.dref).long in
-    record {
-      long = omega (arith, length-append (joined cs) part, length-joined cs, long);
-      least = omega arith;
-      most = w.fit.0;
-      size_first = number-joined cs part 0 4 w.fit;
-      code_next = number-joined cs part 4 4 w.fit;
-    }
+framed_dinf v w = framed_front _ (bytes_dref v.dref) w.fit (ap (λ (n : ℕ). 8 + n) (laws_dref.framed v.dref w.dref).long)
 
 pub normal_form_dinf : (v : DinfBox) → WritableDinf v → Normal WritableDinf bytes_dinf normal_dinf v
 unfolding bytes_dinf

@@ -1,7 +1,7 @@
 -- dref, the data references (ISO/IEC 14496-12, 8.7.2): version of 1 byte at 8, flags of 3 at 9, a count of 4 at
 -- 12, and from 16 on at most that many boxes, of which the last url is the entry. Written: 1 and the entry, or 0.
 use Rattle.std.specs.Prelude.{ℕ, ◌+◌, List, [], ◌∷◌, ◌++◌, Option}
-use Rattle.mp4_frame.specs.Bytes.{number, joined, Fit}
+use Rattle.mp4_frame.specs.Bytes.{number, joined, Fit, full_box}
 use Rattle.mp4_frame.specs.Children.{children}
 use Rattle.mp4_frame.specs.Reading.{Reading, ◌>>=◌, fields, done}
 use Rattle.mp4_frame.specs.OptionalChild.{count_optional, size_optional, WritableOptional, bytes_optional, normal_optional}
@@ -23,7 +23,7 @@ abbrev pub size_dref : DrefBox → ℕ
 size_dref v = 16 + size_optional size_url v.url
 
 abbrev pub columns_dref : DrefBox → List (ℕ × ℕ)
-columns_dref v = (4, size_dref v) ∷ (4, 0x64726566) ∷ (1, v.version) ∷ (3, v.flags) ∷ (4, count_optional v.url) ∷ []
+columns_dref v = full_box (size_dref v) 0x64726566 v.version v.flags ++ (4, count_optional v.url) ∷ []
 
 -- every number fits its bytes, and the entry can be written
 pub record WritableDref (v : DrefBox) : Type 0 where

@@ -1,11 +1,12 @@
 -- The laws of dref, from those of url alone.
-use Rattle.std.proofs.Common.{◌≡◌, ℕ, ◌+◌, ◌<◌, ◌^◌, List, ◌++◌, length, Ok, Option, Some, refl, sym, ap, subst, ◌∙◌, arith, length-append, append_assoc, lit<, lit≤}
+use Rattle.std.proofs.Common.{◌≡◌, ℕ, ◌+◌, ◌<◌, ◌^◌, List, ◌++◌, length, Ok, Option, Some, refl, sym, ap, subst, ◌∙◌, arith, append_assoc, lit<, lit≤}
 use Rattle.mp4_frame.specs.Bytes.{number, joined, Fit}
 use Rattle.mp4_frame.specs.Children.{children}
 use Rattle.mp4_frame.specs.Laws.{Framed, Normal, RowReadsBack, RowIsSound}
 use Rattle.mp4_frame.specs.Reading.{Reading, ◌>>=◌, fields, done}
 use Rattle.mp4_frame.specs.declared.box_type.BoxType.TheVariants as names
-use Rattle.mp4_frame.proofs.Columns.{found, numbers-joined, fields-joined, length-joined, number-joined, number-below}
+use Rattle.mp4_frame.proofs.Framing.{framed_front, settled}
+use Rattle.mp4_frame.proofs.Columns.{found, numbers-joined, fields-joined, length-joined, number-below}
 use Rattle.mp4_frame.proofs.Decided.{outcome_bind}
 use Rattle.mp4_frame.proofs.Stands.{fields_ok, is_value}
 use Rattle.mp4_frame.proofs.Tables.{value_first}
@@ -21,16 +22,9 @@ use Rattle.mp4_text.specs.declared.url.UrlBox.{UrlBox}
 pub framed_dref : (v : DrefBox) → WritableDref v → Framed (size_dref v) names.DrefBox (bytes_dref v)
 unfolding bytes_dref
 framed_dref v w =
-    let cs = columns_dref v in
     let entry = bytes_optional bytes_url v.url in
     let long : length entry ≡ size_optional size_url v.url = child.optional_long laws_url v.url w.entry in
-    record {
-      long = omega (arith, length-append (joined cs) entry, length-joined cs, long);
-      least = omega arith;
-      most = w.fit.0;
-      size_first = number-joined cs entry 0 4 w.fit;
-      code_next = number-joined cs entry 4 4 w.fit;
-    }
+    framed_front _ entry w.fit (omega (arith, long))
 
 same_columns : (v : DrefBox) → WritableDref v → columns_dref (normal_dref v) ≡ columns_dref v
 same_columns v w =

@@ -3,7 +3,7 @@
 -- each; version 1 has the numbers at 12, with a time of 8 bytes, and the texts from 32 on. Behind them the message
 -- goes up to the end.
 use Rattle.std.specs.Prelude.{◌≡◌, ℕ, ◌+◌, ◌-◌, ◌==◌, ◌&&◌, nat_le, Bool, true, List, [], ◌∷◌, ◌++◌, length, drop, Some, None, is_some, unwrap_or, if◌then◌else◌}
-use Rattle.mp4_frame.specs.Bytes.{number, joined, Fit}
+use Rattle.mp4_frame.specs.Bytes.{number, joined, Fit, full_box}
 use Rattle.mp4_frame.specs.Reading.{Reading, Invalid, ◌>>=◌, fields, test, piece_from, memory, done, faults}
 use Rattle.mp4_text.specs.Terminated.{terminated_text, terminated, IsTerminable}
 use Rattle.mp4_text.specs.declared.emsg.EmsgBox.{EmsgBox}
@@ -67,7 +67,7 @@ abbrev pub size_emsg : EmsgBox → ℕ
 size_emsg v = 12 + size_middle v + length v.message_data
 
 abbrev pub columns_emsg : EmsgBox → List (ℕ × ℕ)
-columns_emsg v = (4, size_emsg v) ∷ (4, 0x656d7367) ∷ (1, v.version) ∷ (3, v.flags) ∷ []
+columns_emsg v = full_box (size_emsg v) 0x656d7367 v.version v.flags
 
 abbrev pub numbers_emsg_0 : EmsgBox → List (ℕ × ℕ)
 numbers_emsg_0 v = (4, v.timescale) ∷ (4, unwrap_or v.presentation_time_delta 0) ∷ (4, v.event_duration) ∷ (4, v.id) ∷ []

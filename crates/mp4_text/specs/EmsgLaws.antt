@@ -7,6 +7,7 @@ use Rattle.mp4_frame.specs.Bytes.{number, joined}
 use Rattle.mp4_frame.specs.Laws.{Framed, Normal, RowReadsBack, RowIsSound, AreBytes}
 use Rattle.mp4_frame.specs.Reading.{Reading, Fault, Invalid, ◌>>=◌, fields, done, faults}
 use Rattle.mp4_frame.specs.declared.box_type.BoxType.TheVariants as names
+use Rattle.mp4_frame.proofs.Framing.{framed_front}
 use Rattle.mp4_frame.proofs.Columns.{found, numbers-joined, fields-joined, length-joined, number-joined, number-below}
 use Rattle.mp4_frame.proofs.Decided.{outcome_bind}
 use Rattle.mp4_frame.proofs.Stands.{fields_stand, fields_ok, is_value, are_bytes-drop, piece_back}
@@ -26,16 +27,8 @@ length_by v false = omega (arith, length-append (joined (numbers_emsg_1 v)) (tex
 pub framed_emsg : (v : EmsgBox) → WritableEmsg v → Framed (size_emsg v) names.EmsgBox (bytes_emsg v)
 unfolding bytes_emsg
 framed_emsg v w =
-    let cs = columns_emsg v in
     let middle : length (middle_emsg v) ≡ size_middle v = length_by v (v.version == 0) in
-    let rest = middle_emsg v ++ v.message_data in
-    record {
-      long = omega (arith, length-append (joined cs) rest, length-append (middle_emsg v) v.message_data, length-joined cs, middle);
-      least = omega arith;
-      most = w.fit.0;
-      size_first = number-joined cs rest 0 4 w.fit;
-      code_next = number-joined cs rest 4 4 w.fit;
-    }
+    framed_front _ (middle_emsg v ++ v.message_data) w.fit (omega (arith, length-append (middle_emsg v) v.message_data, middle))
 
 abbrev normal_emsg_0 : EmsgBox → EmsgBox
 normal_emsg_0 v = record v { presentation_time = None }

@@ -1,18 +1,19 @@
 -- The laws of ftyp.
-use Rattle.std.proofs.Common.{◌≡◌, ℕ, ◌+◌, ◌-◌, ◌*◌, ◌/◌, ◌%◌, ◌<◌, ◌≤◌, ◌^◌, Bool, true, List, [], ◌∷◌, ◌++◌, map, length, Ok, refl, sym, ap, subst, ◌∙◌, arith, length-append, append_assoc, lit<, lit≤}
+use Rattle.std.proofs.Common.{◌≡◌, ℕ, ◌+◌, ◌-◌, ◌*◌, ◌/◌, ◌%◌, ◌<◌, ◌≤◌, ◌^◌, true, List, [], ◌∷◌, ◌++◌, map, length, Ok, refl, ap, subst, ◌∙◌, arith, append_assoc, lit<, lit≤}
 use Rattle.std.specs.Prelude.{nat_le, ◌==◌, ◌&&◌}
 use Rattle.std.specs.List.{flat_map}
 use Rattle.std.proofs.lemmas.Bool.{le-leb, eq-eqb}
 use Rattle.std.proofs.lemmas.List.Elements.{All-from_recursion, recursion_from_All}
-use Rattle.mp4_frame.specs.Bytes.{number, joined, Fit}
-use Rattle.mp4_frame.specs.FourCC.{four_cc_of, number_of, IsFourCC}
-use Rattle.mp4_frame.specs.Laws.{Framed, Normal, RowReadsBack, RowIsSound, AreBytes}
-use Rattle.mp4_frame.specs.Reading.{Reading, ◌>>=◌, test, fields, memory, done}
+use Rattle.mp4_frame.specs.Bytes.{number, joined}
+use Rattle.mp4_frame.specs.FourCC.{IsFourCC}
+use Rattle.mp4_frame.specs.Laws.{Framed, RowReadsBack, RowIsSound}
+use Rattle.mp4_frame.specs.Reading.{◌>>=◌, fields, memory, done}
 use Rattle.mp4_frame.specs.Tables.{rows_from}
 use Rattle.mp4_frame.specs.declared.box_type.BoxType.TheVariants as names
 use Rattle.mp4_frame.specs.declared.four_cc.FourCC.{FourCC}
+use Rattle.mp4_frame.proofs.Framing.{framed_front}
 use Rattle.mp4_frame.proofs.Codes.{four_cc_back, four_cc_is, small_code}
-use Rattle.mp4_frame.proofs.Columns.{found, numbers-joined, number-joined, fields-joined, length-joined, number-below}
+use Rattle.mp4_frame.proofs.Columns.{found, numbers-joined, fields-joined, length-joined, number-below}
 use Rattle.mp4_frame.proofs.Stands.{fields_ok, test_ok, is_value}
 use Rattle.mp4_frame.proofs.Tables.{IsRow, length_flat, rows_from_back, rows_read, map_all, value_first}
 use Rattle.mp4_text.specs.declared.ftyp.FtypBox.{FtypBox}
@@ -27,18 +28,7 @@ length_brands v w = length_flat (λ (brand : FourCC). brand.value) 4 IsFourCC lo
 pub framed_ftyp : (v : FtypBox) → WritableFtyp v → Framed (size_ftyp v) names.FtypBox (bytes_ftyp v)
 unfolding bytes_ftyp
 framed_ftyp v w =
-    let cs = columns_ftyp v in
-    let brands = flat_map (λ (brand : FourCC). brand.value) v.compatible_brands in
-    record {
-      long = omega (arith, length-append (joined cs) brands, length-joined cs, length_brands v w);
-      least = omega arith;
-      most = w.fit.0;
-      size_first = number-joined cs brands 0 4 w.fit;
-      code_next = number-joined cs brands 4 4 w.fit;
-    }
-
-pub normal_form_ftyp : (v : FtypBox) → WritableFtyp v → Normal WritableFtyp bytes_ftyp normal_ftyp v
-normal_form_ftyp v w = record { writable = w; again = refl; same_bytes = refl }
+    framed_front _ (flat_map (λ (brand : FourCC). brand.value) v.compatible_brands) w.fit (omega (arith, length_brands v w))
 
 same_brands : (brands : List FourCC) → map brand_of (map (λ (brand : FourCC). brand.value) brands) ≡ brands
 same_brands [] = refl

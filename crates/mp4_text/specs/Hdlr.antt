@@ -3,7 +3,7 @@
 -- behind it that ends the box.
 use Rattle.std.specs.Prelude.{ℕ, ◌+◌, ◌-◌, nat_le, List, [], ◌∷◌, ◌++◌, length, codes}
 use Rattle.std.specs.Str.{IsUtf8}
-use Rattle.mp4_frame.specs.Bytes.{number, joined, Fit}
+use Rattle.mp4_frame.specs.Bytes.{number, joined, Fit, full_box}
 use Rattle.mp4_frame.specs.FourCC.{four_cc_of, number_of, IsFourCC}
 use Rattle.mp4_frame.specs.Reading.{Reading, ◌>>=◌, fields, test, piece_from, memory, done}
 use Rattle.mp4_text.specs.Terminated.{terminated}
@@ -27,7 +27,7 @@ abbrev pub size_hdlr : HdlrBox → ℕ
 size_hdlr v = 33 + length v.name
 
 abbrev pub columns_hdlr : HdlrBox → List (ℕ × ℕ)
-columns_hdlr v = (4, size_hdlr v) ∷ (4, 0x68646c72) ∷ (1, v.version) ∷ (3, v.flags) ∷ (4, 0) ∷ (4, number_of v.handler_type) ∷ (12, 0) ∷ []
+columns_hdlr v = full_box (size_hdlr v) 0x68646c72 v.version v.flags ++ (4, 0) ∷ (4, number_of v.handler_type) ∷ (12, 0) ∷ []
 
 -- every number fits its bytes, the handler type has four, and the name is UTF-8
 pub record WritableHdlr (v : HdlrBox) : Type 0 where

@@ -5,12 +5,13 @@ use Rattle.std.proofs.lemmas.Str.{IsUtf8-from_ascii}
 use Rattle.std.specs.Prelude.{nat_le, codes, slice_index}
 use Rattle.std.specs.Str.{IsUtf8}
 use Rattle.mp4_frame.specs.Bytes.{number, joined}
-use Rattle.mp4_frame.specs.Laws.{Framed, Normal, RowReadsBack, RowIsSound}
+use Rattle.mp4_frame.specs.Laws.{Framed, RowReadsBack, RowIsSound}
 use Rattle.mp4_frame.specs.Reading.{◌>>=◌, test, piece_from, memory, done}
 use Rattle.mp4_frame.specs.declared.box_type.BoxType.TheVariants as names
 use Rattle.mp4_frame.specs.declared.four_cc.FourCC.{FourCC}
+use Rattle.mp4_frame.proofs.Framing.{framed_front}
 use Rattle.mp4_frame.proofs.Codes.{four_cc_back, four_cc_is, small_code}
-use Rattle.mp4_frame.proofs.Columns.{numbers-joined, fields-joined, length-joined, number-joined, number-below}
+use Rattle.mp4_frame.proofs.Columns.{numbers-joined, fields-joined, length-joined, number-below}
 use Rattle.mp4_frame.proofs.Stands.{fields_ok, test_ok, is_value, piece_back}
 use Rattle.mp4_frame.proofs.Tables.{value_first}
 use Rattle.mp4_text.specs.Terminated.{terminated}
@@ -22,18 +23,7 @@ use Rattle.mp4_text.specs.declared.hdlr.HdlrBox.{HdlrBox}
 pub framed_hdlr : (v : HdlrBox) → WritableHdlr v → Framed (size_hdlr v) names.HdlrBox (bytes_hdlr v)
 unfolding bytes_hdlr
 framed_hdlr v w =
-    let cs = columns_hdlr v in
-    let name = terminated v.name in
-    record {
-      long = omega (arith, length-append (joined cs) name, length-append v.name (0 ∷ []), length-joined cs);
-      least = omega arith;
-      most = w.fit.0;
-      size_first = number-joined cs name 0 4 w.fit;
-      code_next = number-joined cs name 4 4 w.fit;
-    }
-
-pub normal_form_hdlr : (v : HdlrBox) → WritableHdlr v → Normal WritableHdlr bytes_hdlr normal_hdlr v
-normal_form_hdlr v w = record { writable = w; again = refl; same_bytes = refl }
+    framed_front _ (terminated v.name) w.fit (omega (arith, length-append v.name (0 ∷ [])))
 
 pub read_back_hdlr : (v : HdlrBox) → WritableHdlr v → RowReadsBack reads_hdlr (bytes_hdlr v) (size_hdlr v) (normal_hdlr v)
 unfolding bytes_hdlr reads_hdlr

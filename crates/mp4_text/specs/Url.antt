@@ -2,7 +2,7 @@
 -- box of 13 bytes or more, a location from 12 on, with a zero byte behind it that ends the box.
 use Rattle.std.specs.Prelude.{ℕ, ◌+◌, ◌-◌, nat_lt, ◌==◌, List, [], ◌∷◌, ◌++◌, length, if◌then◌else◌}
 use Rattle.std.specs.Str.{IsUtf8}
-use Rattle.mp4_frame.specs.Bytes.{number, joined, Fit}
+use Rattle.mp4_frame.specs.Bytes.{number, joined, Fit, full_box}
 use Rattle.mp4_frame.specs.Reading.{Reading, ◌>>=◌, fields, piece_from, memory, done}
 use Rattle.mp4_text.specs.Terminated.{terminated}
 use Rattle.mp4_frame.specs.Text.{text_or}
@@ -32,7 +32,7 @@ abbrev pub size_url : UrlBox → ℕ
 size_url v = if length v.location == 0 then 12 else 13 + length v.location
 
 abbrev pub columns_url : UrlBox → List (ℕ × ℕ)
-columns_url v = (4, size_url v) ∷ (4, 0x75726c20) ∷ (1, v.version) ∷ (3, v.flags) ∷ []
+columns_url v = full_box (size_url v) 0x75726c20 v.version v.flags
 
 -- every number fits its bytes, and the location is UTF-8
 pub record WritableUrl (v : UrlBox) : Type 0 where

@@ -5,10 +5,11 @@ use Rattle.std.proofs.lemmas.List.{append-nil}
 use Rattle.std.proofs.lemmas.Str.{IsUtf8-nil}
 use Rattle.std.specs.Str.{IsUtf8}
 use Rattle.mp4_frame.specs.Bytes.{number, joined, width, Fit}
-use Rattle.mp4_frame.specs.Laws.{Framed, Normal, RowReadsBack, RowIsSound, AreBytes}
+use Rattle.mp4_frame.specs.Laws.{Framed, RowReadsBack, RowIsSound, AreBytes}
 use Rattle.mp4_frame.specs.Reading.{◌>>=◌, fields, piece_from, memory, done}
 use Rattle.mp4_frame.specs.declared.box_type.BoxType.TheVariants as names
-use Rattle.mp4_frame.proofs.Columns.{found, numbers-joined, fields-joined, length-joined, number-joined, number-below}
+use Rattle.mp4_frame.proofs.Framing.{framed_front, settled}
+use Rattle.mp4_frame.proofs.Columns.{found, numbers-joined, fields-joined, length-joined, number-below}
 use Rattle.mp4_frame.proofs.Stands.{fields_ok, is_value, piece_back}
 use Rattle.mp4_frame.proofs.Tables.{value_first}
 use Rattle.mp4_frame.specs.TextLaws.{text_as_is, IsUtf8-text_or}
@@ -69,19 +70,7 @@ least_by false n = omega arith
 pub framed_url : (v : UrlBox) → WritableUrl v → Framed (size_url v) names.UrlBox (bytes_url v)
 unfolding bytes_url
 framed_url v w =
-    let cs = columns_url v in
-    let rest = bytes_location v.location in
-    let lr : 12 + length rest ≡ size_url v = length_by (length v.location) v.location (eqb (length v.location) 0) refl in
-    record {
-      long = omega (arith, length-append (joined cs) rest, length-joined cs, lr);
-      least = least_by (eqb (length v.location) 0) (length v.location);
-      most = w.fit.0;
-      size_first = number-joined cs rest 0 4 w.fit;
-      code_next = number-joined cs rest 4 4 w.fit;
-    }
-
-pub normal_form_url : (v : UrlBox) → WritableUrl v → Normal WritableUrl bytes_url normal_url v
-normal_form_url v w = record { writable = w; again = refl; same_bytes = refl }
+    framed_front _ (bytes_location v.location) w.fit (length_by (length v.location) v.location (eqb (length v.location) 0) refl)
 
 pub read_back_url : (v : UrlBox) → WritableUrl v → RowReadsBack reads_url (bytes_url v) (size_url v) (normal_url v)
 unfolding bytes_url
@@ -107,4 +96,4 @@ sound_url bytes start long v are e =
     (refl, sound_by bytes (ltb long 13) (long - 13) v are (fields_ok bytes 8 4 rest v e))
 
 pub laws_url : IsChild reads_url size_url WritableUrl bytes_url normal_url names.UrlBox
-laws_url = record { framed = framed_url; normal_form = normal_form_url; read_back = read_back_url; sound = sound_url }
+laws_url = record { framed = framed_url; normal_form = λ v w. settled v refl w; read_back = read_back_url; sound = sound_url }

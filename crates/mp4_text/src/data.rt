@@ -1,11 +1,12 @@
 //! The value of a metadata item.
 
-ghost use Rattle.std.specs.Prelude.{◌≡◌, ◌-◌, ◌^◌, [], IfOk, IfErr, min};
+ghost use Rattle.std.specs.Prelude.{◌≡◌, ◌-◌, ◌^◌, [], IfOk, IfErr, min, refl};
 ghost use Rattle.mp4_frame.specs.declared.box_type.BoxType.TheVariants as names;
 ghost use Rattle.mp4_media.specs.DataType.{number_data_type};
 ghost use Rattle.mp4_media.specs.declared.data_type.DataType.TheVariants as types;
+ghost use Rattle.mp4_frame.proofs.Framing.{settled};
 ghost use Rattle.mp4_text.specs.Data.{reads_data, size_data, WritableData, bytes_data, normal_data};
-ghost use Rattle.mp4_text.specs.DataLaws.{framed_data, normal_form_data, read_back_data, sound_data};
+ghost use Rattle.mp4_text.specs.DataLaws.{framed_data, read_back_data, sound_data};
 
 use mp4_frame::{
     BoxLaws, BoxType, Entries, Error, Mp4Box, ReadBox, Result, WriteBox, fields, piece_at,
@@ -125,7 +126,7 @@ impl WriteBox for DataBox {
 
     ghost framed = { framed_data };
 
-    ghost normal_form = { normal_form_data };
+    ghost normal_form = { λ v w. settled v refl w };
 }
 
 impl BoxLaws for DataBox {

@@ -7,8 +7,8 @@ ghost use Rattle.mp4_text.specs.DrefLaws.{framed_dref, normal_form_dref, read_ba
 
 use crate::url::UrlBox;
 use mp4_frame::{
-    BoxLaws, BoxType, Error, Mp4Box, ReadBox, Result, WriteBox, fields, last_child, put_part,
-    put_u8, put_u24, put_u32, u8_at, u24_at, u32_at,
+    BoxLaws, BoxType, Error, Mp4Box, ReadBox, Result, WriteBox, fields, last_child, put_full_box,
+    put_part, put_u32, u8_at, u24_at, u32_at,
 };
 use std::alloc::Global;
 
@@ -128,10 +128,8 @@ impl WriteBox for DrefBox {
 
     #[tactic(auto, unfolding(crate::specs::Dref::bytes_dref, mp4_frame::specs::Bytes::joined, mp4_frame::specs::Bytes::joined_onto))]
     fn put_box(&self, place: &mut [u8]) {
-        let at = put_u32(place, 0, self.box_size() as u32);
-        let at = put_u32(place, at, 0x6472_6566);
-        let at = put_u8(place, at, self.version);
-        let at = put_u24(place, at, self.flags);
+        let size = self.box_size() as u32;
+        let at = put_full_box(place, size, 0x6472_6566, self.version, self.flags);
         match &self.url {
             Some(url) => {
                 let at = put_u32(place, at, 1);

@@ -10,7 +10,7 @@ ghost use Rattle.mp4_text.specs.EmsgLaws.{framed_emsg, normal_form_emsg, read_ba
 use crate::terminated::{is_terminable, put_terminated, terminated_text_at};
 use mp4_frame::{
     BoxLaws, BoxType, Entries, Error, Mp4Box, ReadBox, Result, Text, WriteBox, bytes_from, fields,
-    piece_at, put_bytes, put_u8, put_u24, put_u32, put_u64, test, u8_at, u24_at, u32_at, u64_at,
+    piece_at, put_bytes, put_full_box, put_u32, put_u64, test, u8_at, u24_at, u32_at, u64_at,
 };
 use std::alloc::Global;
 
@@ -319,10 +319,8 @@ impl WriteBox for EmsgBox {
 
     #[tactic(auto, unfolding(crate::specs::Emsg::bytes_emsg, mp4_frame::specs::Bytes::joined, mp4_frame::specs::Bytes::joined_onto))]
     fn put_box(&self, place: &mut [u8]) {
-        let at = put_u32(place, 0, self.box_size() as u32);
-        let at = put_u32(place, at, 0x656d_7367);
-        let at = put_u8(place, at, self.version);
-        let at = put_u24(place, at, self.flags);
+        let size = self.box_size() as u32;
+        let at = put_full_box(place, size, 0x656d_7367, self.version, self.flags);
         let at = self.put_middle(place, at);
         put_bytes(place, at, self.message_data.as_slice());
     }

@@ -1,9 +1,10 @@
 //! The file type box.
 
-ghost use Rattle.std.specs.Prelude.{◌≡◌, ◌-◌, ◌^◌, ◌↔◌, ◌+◌, ◌*◌, [], IfOk, IfErr, IsTrue, map, min, length, replicate};
+ghost use Rattle.std.specs.Prelude.{◌≡◌, ◌-◌, ◌^◌, ◌↔◌, ◌+◌, ◌*◌, [], IfOk, IfErr, IsTrue, map, min, length, replicate, refl};
 ghost use Rattle.mp4_frame.specs.declared.box_type.BoxType.TheVariants as names;
+ghost use Rattle.mp4_frame.proofs.Framing.{settled};
 ghost use Rattle.mp4_text.specs.Ftyp.{brand_of, reads_ftyp, size_ftyp, WritableFtyp, bytes_ftyp, normal_ftyp};
-ghost use Rattle.mp4_text.specs.FtypLaws.{framed_ftyp, normal_form_ftyp, read_back_ftyp, sound_ftyp};
+ghost use Rattle.mp4_text.specs.FtypLaws.{framed_ftyp, read_back_ftyp, sound_ftyp};
 
 use mp4_frame::{
     BoxLaws, BoxType, ByteCursor, Entries, Error, FourCC, Mp4Box, ReadBox, Result, WriteBox,
@@ -148,7 +149,7 @@ impl WriteBox for FtypBox {
 
     ghost framed = { framed_ftyp };
 
-    ghost normal_form = { normal_form_ftyp };
+    ghost normal_form = { λ v w. settled v refl w };
 }
 
 impl BoxLaws for FtypBox {

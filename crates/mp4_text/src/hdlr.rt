@@ -1,14 +1,15 @@
 //! The handler of a track or of metadata.
 
-ghost use Rattle.std.specs.Prelude.{◌≡◌, ◌↔◌, ◌+◌, ◌-◌, ◌^◌, [], IfOk, IfErr, IsTrue, length, min, replicate};
+ghost use Rattle.std.specs.Prelude.{◌≡◌, ◌↔◌, ◌+◌, ◌-◌, ◌^◌, [], IfOk, IfErr, IsTrue, length, min, replicate, refl};
 ghost use Rattle.mp4_frame.specs.declared.box_type.BoxType.TheVariants as names;
+ghost use Rattle.mp4_frame.proofs.Framing.{settled};
 ghost use Rattle.mp4_text.specs.Hdlr.{reads_hdlr, size_hdlr, WritableHdlr, bytes_hdlr, normal_hdlr};
-ghost use Rattle.mp4_text.specs.HdlrLaws.{framed_hdlr, normal_form_hdlr, read_back_hdlr, sound_hdlr};
+ghost use Rattle.mp4_text.specs.HdlrLaws.{framed_hdlr, read_back_hdlr, sound_hdlr};
 
 use crate::terminated::put_terminated;
 use mp4_frame::{
     BoxLaws, BoxType, Error, FourCC, Mp4Box, ReadBox, Result, Text, WriteBox, fields, is_four_cc,
-    piece_at, put_u8, put_u24, put_u32, put_zeros, test, u8_at, u24_at, u32_at,
+    piece_at, put_full_box, put_u32, put_zeros, test, u8_at, u24_at, u32_at,
 };
 use std::alloc::Global;
 
@@ -125,10 +126,8 @@ impl WriteBox for HdlrBox {
 
     #[tactic(auto, unfolding(crate::specs::Hdlr::bytes_hdlr, mp4_frame::specs::Bytes::joined, mp4_frame::specs::Bytes::joined_onto))]
     fn put_box(&self, place: &mut [u8]) {
-        let at = put_u32(place, 0, self.box_size() as u32);
-        let at = put_u32(place, at, 0x6864_6c72);
-        let at = put_u8(place, at, self.version);
-        let at = put_u24(place, at, self.flags);
+        let size = self.box_size() as u32;
+        let at = put_full_box(place, size, 0x6864_6c72, self.version, self.flags);
         let at = put_u32(place, at, 0);
         let at = put_u32(place, at, u32::from(self.handler_type));
         let at = put_zeros(place, at, 12);
@@ -137,7 +136,7 @@ impl WriteBox for HdlrBox {
 
     ghost framed = { framed_hdlr };
 
-    ghost normal_form = { normal_form_hdlr };
+    ghost normal_form = { λ v w. settled v refl w };
 }
 
 impl BoxLaws for HdlrBox {

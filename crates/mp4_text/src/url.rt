@@ -1,14 +1,15 @@
 //! The data entry that is a URL.
 
-ghost use Rattle.std.specs.Prelude.{◌≡◌, ◌≤◌, ◌+◌, ◌-◌, ◌^◌, ◌++◌, [], IfOk, IfErr, min, length, take};
+ghost use Rattle.std.specs.Prelude.{◌≡◌, ◌≤◌, ◌+◌, ◌-◌, ◌^◌, ◌++◌, [], IfOk, IfErr, min, length, take, refl};
 ghost use Rattle.mp4_frame.specs.declared.box_type.BoxType.TheVariants as names;
+ghost use Rattle.mp4_frame.proofs.Framing.{settled};
 ghost use Rattle.mp4_text.specs.Url.{reads_url, size_url, WritableUrl, bytes_location, bytes_url, normal_url};
-ghost use Rattle.mp4_text.specs.UrlLaws.{framed_url, normal_form_url, read_back_url, sound_url};
+ghost use Rattle.mp4_text.specs.UrlLaws.{framed_url, read_back_url, sound_url};
 
 use crate::terminated::put_terminated;
 use mp4_frame::{
-    BoxLaws, BoxType, Error, Mp4Box, ReadBox, Result, Text, WriteBox, fields, piece_at, put_u8,
-    put_u24, put_u32, u8_at, u24_at,
+    BoxLaws, BoxType, Error, Mp4Box, ReadBox, Result, Text, WriteBox, fields, piece_at,
+    put_full_box, u8_at, u24_at,
 };
 use std::alloc::Global;
 
@@ -129,16 +130,14 @@ impl WriteBox for UrlBox {
 
     #[tactic(auto, unfolding(crate::specs::Url::bytes_url, mp4_frame::specs::Bytes::joined, mp4_frame::specs::Bytes::joined_onto))]
     fn put_box(&self, place: &mut [u8]) {
-        let at = put_u32(place, 0, self.box_size() as u32);
-        let at = put_u32(place, at, 0x7572_6c20);
-        let at = put_u8(place, at, self.version);
-        let at = put_u24(place, at, self.flags);
+        let size = self.box_size() as u32;
+        let at = put_full_box(place, size, 0x7572_6c20, self.version, self.flags);
         put_location(place, at, self.location.as_bytes());
     }
 
     ghost framed = { framed_url };
 
-    ghost normal_form = { normal_form_url };
+    ghost normal_form = { λ v w. settled v refl w };
 }
 
 impl BoxLaws for UrlBox {

@@ -1,8 +1,8 @@
 -- The laws of the box of one number.
-use Rattle.std.proofs.Common.{◌≡◌, ℕ, List, refl, subst, lit<, lit≤}
+use Rattle.std.proofs.Common.{◌≡◌, refl, subst, lit<, lit≤}
 use Rattle.mp4_frame.specs.BoxType.{name_of}
 use Rattle.mp4_frame.specs.Bytes.{number, Fit}
-use Rattle.mp4_frame.specs.Laws.{Framed, Normal, OwnName, ReadsBack, RowReadsBack, RowIsSound}
+use Rattle.mp4_frame.specs.Laws.{Framed, OwnName, ReadsBack, RowReadsBack, RowIsSound}
 use Rattle.mp4_frame.specs.declared.box_type.BoxType.TheVariants as names
 use Rattle.mp4_frame.proofs.Columns.{length-joined, number-columns, number-below}
 use Rattle.mp4_frame.proofs.Rows.{one_run_again, one_run_is}
@@ -13,9 +13,6 @@ use Rattle.mp4_vectors.specs.Mark.{MARK, value_mark, reads_mark, size_mark, colu
 pub framed_mark : (v : MarkBox) → WritableMark v → Framed (size_mark v) (names.UnknownBox MARK) (bytes_mark v)
 unfolding bytes_mark
 framed_mark v w = record { long = length-joined (columns_mark v); least = lit≤ tt; most = lit< tt; size_first = number-columns (columns_mark v) 0 4 w; code_next = number-columns (columns_mark v) 4 4 w }
-
-pub normal_form_mark : (v : MarkBox) → WritableMark v → Normal WritableMark bytes_mark normal_mark v
-normal_form_mark v w = record { writable = w; again = refl; same_bytes = refl }
 
 pub read_back_mark : (v : MarkBox) → WritableMark v → RowReadsBack reads_mark (bytes_mark v) (size_mark v) (normal_mark v)
 unfolding bytes_mark reads_mark

@@ -1,10 +1,11 @@
 //! A box type that isn't one of the codec's: the smallest user of the traits, so that lists of boxes are seen
 //! at a type from outside.
 
-ghost use Rattle.std.specs.Prelude.{◌≡◌};
+ghost use Rattle.std.specs.Prelude.{◌≡◌, refl};
 ghost use Rattle.mp4_frame.specs.declared.box_type.BoxType.TheVariants as names;
+ghost use Rattle.mp4_frame.proofs.Framing.{settled};
 ghost use Rattle.mp4_vectors.specs.Mark.{MARK, reads_mark, size_mark, WritableMark, bytes_mark, normal_mark, known_mark, reading_mark};
-ghost use Rattle.mp4_vectors.specs.MarkLaws.{framed_mark, normal_form_mark, read_back_mark, sound_mark, own_name_mark, named_back_mark};
+ghost use Rattle.mp4_vectors.specs.MarkLaws.{framed_mark, read_back_mark, sound_mark, own_name_mark, named_back_mark};
 
 use mp4_frame::{fields, put_u32, u32_at};
 use mp4_stream::{BoxLaws, BoxType, ByteCursor, Mp4Box, ReadBox, Result, StreamBox, WriteBox};
@@ -63,7 +64,7 @@ impl WriteBox for MarkBox {
 
     ghost framed = { framed_mark };
 
-    ghost normal_form = { normal_form_mark };
+    ghost normal_form = { λ v w. settled v refl w };
 }
 
 impl BoxLaws for MarkBox {

@@ -1,7 +1,5 @@
-use Rattle.std.proofs.Common.{◌≡◌}
 use Rattle.std.proofs.lemmas.Result.{err_from_is_err_and}
-use Rattle.mp4_frame.specs.Reading.{Reading, done}
-use Rattle.mp4_frame.proofs.Chains.{at_first, head_faults, child_faults, next, skipped, kept, wanted_faults, all_read, counted_out}
+use Rattle.mp4_frame.proofs.Chains.{at_first, head_faults, skipped, kept, wanted_faults, all_read, counted_out}
 use Rattle.std.proofs.lemmas.List.{take_rest}
 use Rattle.mp4_frame.proofs.child.last_child.Goals.{then-loop-left-test+else-at-size, else-loop-left-test, then-child-code+in_ok-read_row, else-child-code}
 use Rattle.mp4_frame.proofs.child.last_child.Goals as goal

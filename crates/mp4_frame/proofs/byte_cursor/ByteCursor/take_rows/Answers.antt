@@ -1,4 +1,4 @@
-use Rattle.std.proofs.Common.{◌≡◌, ◌*◌, ◌<◌, ◌^◌, ◌∙◌, ap, length, Ok, arith, rules}
+use Rattle.std.proofs.Common.{◌≡◌, ◌*◌, rules}
 use Rattle.std.proofs.lemmas.Result.{err_from_is_err_and}
 use Rattle.mp4_frame.proofs.Tables.{rows_value, rows_fault, rows_past_all}
 use Rattle.mp4_frame.proofs.byte_cursor.ByteCursor.take_rows.Goals as goal

@@ -1,11 +1,11 @@
--- The laws of boxes of fixed fields.
-use Rattle.std.proofs.Common.{◌≡◌, ℕ, ◌+◌, ◌<◌, ◌^◌, List, [], ◌∷◌, map, arith}
+-- Boxes of fields: size and code in front, and what is known of numbers that were read.
+use Rattle.std.proofs.Common.{◌≡◌, ℕ, ◌+◌, ◌<◌, ◌^◌, List, [], ◌∷◌, ◌++◌, length, map, sym, ap, subst, arith, length-append}
 use Rattle.std.specs.Int.{w16, w32, cast_signed, cast_unsigned}
 use Rattle.mp4_frame.specs.BoxType.{code_of}
 use Rattle.mp4_frame.specs.Bytes.{number, joined, width, Fit}
-use Rattle.mp4_frame.specs.Laws.{AreBytes, Framed}
+use Rattle.mp4_frame.specs.Laws.{AreBytes, Framed, Normal}
 use Rattle.mp4_frame.specs.declared.box_type.BoxType.{BoxType}
-use Rattle.mp4_frame.proofs.Columns.{length-joined, number-columns, number-below}
+use Rattle.mp4_frame.proofs.Columns.{length-joined, number-columns, number-joined, number-below}
 use Rattle.mp4_frame.proofs.Signed.{below16, below32}
 
 -- columns that begin with the size, which counts them all, and the code
@@ -19,6 +19,22 @@ framed_columns {size} {name} cs fits long =
       size_first = number-columns all 0 4 fits;
       code_next = number-columns all 4 4 fits;
     }
+
+-- the same with bytes behind them, which the size counts too
+pub framed_front : {size : ℕ} {name : BoxType} (cs : List (ℕ × ℕ)) (rest : List ℕ) → Fit ((4, size) ∷ (4, code_of name) ∷ cs) → 8 + width cs + length rest ≡ size → Framed size name (joined ((4, size) ∷ (4, code_of name) ∷ cs) ++ rest)
+framed_front {size} {name} cs rest fits long =
+    let all = (4, size) ∷ (4, code_of name) ∷ cs in
+    record {
+      long = omega (arith, length-append (joined all) rest, length-joined all, long);
+      least = omega (arith, long);
+      most = fits.0;
+      size_first = number-joined all rest 0 4 fits;
+      code_next = number-joined all rest 4 4 fits;
+    }
+
+-- a value that is its own normal form
+pub settled : {A : Type 0} {Writable : A → Type 0} {bytes : A → List ℕ} {normal : A → A} (v : A) → normal v ≡ v → Writable v → Normal Writable bytes normal v
+settled {A} {Writable} {bytes} {normal} v is w = record { writable = subst Writable (sym is) w; again = ap normal is; same_bytes = ap bytes is }
 
 -- what stands in a column of a value that was read: the number of w bytes at o, a signed one of 16 or 32 bits at o,
 -- or a number of which it is known that it fits w bytes
