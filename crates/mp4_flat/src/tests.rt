@@ -20,25 +20,70 @@ fn bytes_of(rt: &impl AllocGlobal, hex: &str) -> Result<Vec<u8>, Fail> {
     Ok(bytes)
 }
 
-/// The box is written in these bytes, and is what is read from them.
+/// The box is read whatever size is declared that ends within 64 bits, and the cursor goes to its end.
+fn check_sizes<B: BoxLaws + PartialEq + Drop>(
+    rt: &(impl Abort + AllocGlobal),
+    value: &B,
+    bytes: &[u8],
+) -> Result<(), Fail> {
+    for size in [0, 7, bytes.len() as u64, u64::MAX] {
+        let mut reader = ByteCursor::new(bytes);
+        reader.set_position(8);
+        assert!(rt;
+            B::read_box(rt.alloc(), &mut reader, size)? == *value,
+            "{size}"
+        );
+        assert_eq!(rt; reader.position(), size);
+    }
+    Ok(())
+}
+
+/// The box is read where all but the last `spare` bytes stand, and not where one of the others is missing.
+fn check_cuts<B: BoxLaws + PartialEq + Drop>(
+    rt: &(impl Abort + AllocGlobal),
+    value: &B,
+    bytes: &[u8],
+    spare: usize,
+) -> Result<(), Fail> {
+    for length in 8..bytes.len() {
+        let mut reader = ByteCursor::new(&bytes[..length]);
+        reader.set_position(8);
+        match B::read_box(rt.alloc(), &mut reader, bytes.len() as u64) {
+            Ok(read) => assert!(rt; bytes.len() - length <= spare && read == *value, "{length}"),
+            Err(e) => {
+                assert!(rt;
+                    bytes.len() - length > spare && matches!(e, Error::IoError),
+                    "{length}"
+                );
+                assert_eq!(rt; reader.position(), 8);
+            }
+        }
+    }
+    Ok(())
+}
+
+/// The box is written in these bytes, and is what is read from them, of which the last `spare` need not stand there.
+fn check_spare<B: BoxLaws + PartialEq + Drop>(
+    rt: &(impl Abort + AllocGlobal),
+    value: &B,
+    hex: &str,
+    spare: usize,
+) -> Result<(), Fail> {
+    let bytes = bytes_of(rt, hex)?;
+    let mut written = Vec::new(rt.alloc());
+    assert_eq!(rt; value.write_box(&mut written)?, bytes.len() as u64, "{hex}");
+    assert_eq!(rt; written, bytes, "{hex}");
+    check_sizes(rt, value, &bytes)?;
+    check_cuts(rt, value, &bytes, spare)
+}
+
+/// The box is written in these bytes, and is what is read from all of them.
 fn check<B: BoxLaws + PartialEq + Drop>(
     rt: &(impl Abort + AllocGlobal),
     value: &B,
     hex: &str,
 ) -> Result<(), Fail> {
-    let bytes = bytes_of(rt, hex)?;
-    let size = bytes.len() as u64;
-    let mut written = Vec::new(rt.alloc());
-    assert_eq!(rt; value.write_box(&mut written)?, size, "{hex}");
-    assert_eq!(rt; written, bytes, "{hex}");
-    let mut reader = ByteCursor::new(&bytes);
-    reader.set_position(8);
-    assert!(rt;
-        B::read_box(rt.alloc(), &mut reader, size)? == *value,
-        "{hex}"
-    );
-    assert_eq!(rt; reader.position(), size, "{hex}");
-    Ok(())
+    check_spare(rt, value, hex, 0)
 }
 
 fn default_extent() -> MehdBox
@@ -207,26 +252,29 @@ fn every_field_of_a_track_header(rt: HostRuntime) -> Result<(), Fail> {
 #[test]
 fn media_headers(rt: HostRuntime) -> Result<(), Fail> {
     let mut header = MdhdBox::default_in(rt.alloc())?;
-    check(
+    check_spare(
         &rt,
         &header,
         "00000020 6d646864 00000000 00000000 00000000 000003e8 00000000 55c4 0000",
+        2,
     )?;
     header.creation_time = 100;
     header.modification_time = 200;
     header.timescale = 48000;
     header.duration = 30_439_936;
-    check(
+    check_spare(
         &rt,
         &header,
         "00000020 6d646864 00000000 00000064 000000c8 0000bb80 01d07a00 55c4 0000",
+        2,
     )?;
     header.version = 1;
     header.language = Text::from_str(rt.alloc(), "eng")?;
-    check(
+    check_spare(
         &rt,
         &header,
         "0000002c 6d646864 01000000 0000000000000064 00000000000000c8 0000bb80 0000000001d07a00 15c7 0000",
+        2,
     )?;
     assert!(rt; header.try_clone()? == header);
     header.version = 2;
@@ -314,9 +362,9 @@ fn boxes_of_one_version(rt: HostRuntime) -> Result<(), Fail> {
     assert_eq!(rt; fragment.get_size(), 16);
 
     let mut sound = SmhdBox::default();
-    check(&rt, &sound, "00000010 736d6864 00000000 0000 0000")?;
+    check_spare(&rt, &sound, "00000010 736d6864 00000000 0000 0000", 2)?;
     sound.balance = FixedPointI8::new_raw(-1);
-    check(&rt, &sound, "00000010 736d6864 00000000 ffff 0000")?;
+    check_spare(&rt, &sound, "00000010 736d6864 00000000 ffff 0000", 2)?;
     assert_eq!(rt; sound.get_type(), BoxType::SmhdBox);
     assert_eq!(rt; sound.get_size(), 16);
 
@@ -356,14 +404,7 @@ fn boxes_of_one_version(rt: HostRuntime) -> Result<(), Fail> {
 }
 
 #[test]
-fn any_declared_size_that_ends_in_64_bits(rt: HostRuntime) -> Result<(), Fail> {
-    let bytes = bytes_of(&rt, "00000010 6d666864 00000000 00000001")?;
-    let mut reader = ByteCursor::new(&bytes);
-    reader.set_position(8);
-    let read = MfhdBox::read_box(rt.alloc(), &mut reader, u64::MAX)?;
-    assert_eq!(rt; read, MfhdBox::default());
-    assert_eq!(rt; reader.position(), u64::MAX);
-
+fn boxes_that_end_past_64_bits(rt: HostRuntime) -> Result<(), Fail> {
     let behind = bytes_of(&rt, "ff 00000010 6d666864 00000000 00000001")?;
     let mut reader = ByteCursor::new(&behind);
     reader.set_position(9);
@@ -371,6 +412,44 @@ fn any_declared_size_that_ends_in_64_bits(rt: HostRuntime) -> Result<(), Fail> {
     assert!(rt; matches!(read, Err(Error::InvalidData(_))));
     assert_eq!(rt; reader.position(), 9);
     Ok(())
+}
+
+#[test]
+fn times_past_32_bits(rt: HostRuntime) -> Result<(), Fail> {
+    let long = 1 << 32;
+    let movie = MvhdBox {
+        creation_time: long,
+        ..MvhdBox::default()
+    };
+    check_refused(&rt, &movie, 108);
+    let track = TkhdBox {
+        modification_time: long,
+        ..TkhdBox::default()
+    };
+    check_refused(&rt, &track, 92);
+    let mut media = MdhdBox::default_in(rt.alloc())?;
+    media.duration = long;
+    check_refused(&rt, &media, 32);
+    let time = TfdtBox {
+        base_media_decode_time: long,
+        ..TfdtBox::default()
+    };
+    check_refused(&rt, &time, 16);
+    Ok(())
+}
+
+#[test]
+fn flags_past_24_bits(rt: HostRuntime) {
+    let track = TrexBox {
+        flags: 1 << 24,
+        ..TrexBox::default()
+    };
+    check_refused(&rt, &track, 32);
+    let video = VmhdBox {
+        flags: 1 << 24,
+        ..VmhdBox::default()
+    };
+    check_refused(&rt, &video, 20);
 }
 
 #[test]

@@ -10,7 +10,9 @@ mod refused;
 mod tests;
 mod vectors;
 
-use refused::{write_and_read, write_and_read_marks};
+use refused::{
+    Wrong,     clone_config, make_texts, shorten_offsets, write_and_read, write_and_read_marks,
+};
 use std::process::ExitCode;
 use vectors::VECTORS;
 
@@ -20,7 +22,13 @@ fn main(rt: HostRuntime) -> ExitCode {
             return ExitCode::from(1);
         }
     }
-    if write_and_read_marks(rt.alloc()).is_err() {
+    let others = [
+        write_and_read_marks(rt.alloc()),
+        clone_config(rt.alloc()),
+        shorten_offsets(rt.alloc()),
+        make_texts(rt.alloc()),
+    ];
+    if others.iter().any(|done: &Result<(), Wrong>| done.is_err()) {
         return ExitCode::from(1);
     }
     ExitCode::from(0)

@@ -2,7 +2,10 @@
 
 use crate::mark::MarkBox;
 use crate::vectors::Vector;
-use mp4_stream::{AnyBox, ByteCursor, Error, StreamBox, WriteBox, read_boxes_as, write_boxes};
+use mp4_stream::{
+    AvcConfig, ByteCursor, Co64Box, Error, MdhdBox, MediaConfig, StcoBox, StreamBox, WriteBox,
+    language_string, read_boxes_as, write_boxes,
+};
 use std::alloc::Global;
 use std::slice;
 
@@ -11,19 +14,11 @@ use std::slice;
 #[derive(Debug, Drop)]
 pub struct Wrong;
 
-fn made(alloc: Global, vector: Vector) -> Result<AnyBox, Wrong> {
-    match vector.make(alloc) {
-        Ok(made) => Ok(made),
-        Err(Error::OutOfMemory) => vector.make(alloc).map_err(|_| Wrong),
-        Err(_) => Err(Wrong),
-    }
-}
-
-fn cloned(original: &AnyBox) -> Result<AnyBox, Wrong> {
-    match original.try_clone() {
-        Ok(clone) => Ok(clone),
-        Err(Error::OutOfMemory) => original.try_clone().map_err(|_| Wrong),
-        Err(_) => Err(Wrong),
+/// What a call answers that may be refused memory, once.
+fn again<T: Drop>(call: impl Fn() -> mp4_stream::Result<T>) -> Result<T, Wrong> {
+    match call() {
+        Err(Error::OutOfMemory) => call().map_err(|_| Wrong),
+        answer => answer.map_err(|_| Wrong),
     }
 }
 
@@ -88,15 +83,15 @@ fn round_trip<B: StreamBox + Eq>(alloc: Global, boxes: &[B], bytes: &[u8]) -> Re
 
 /// Makes, clones, writes and reads the vector, and again where memory was refused.
 pub fn write_and_read(alloc: Global, vector: Vector) -> Result<(), Wrong> {
-    let original = made(alloc, vector)?;
-    let clone = cloned(&original)?;
+    let original = again(|| vector.make(alloc))?;
+    let clone = again(|| original.try_clone())?;
     if clone != original {
         return Err(Wrong);
     }
     round_trip(alloc, slice::from_ref(&clone), vector.bytes())
 }
 
-/// The same of a list of boxes of a type from outside.
+/// Writes and reads a list of boxes of a type from outside, and again where memory was refused.
 pub fn write_and_read_marks(alloc: Global) -> Result<(), Wrong> {
     let marks = [MarkBox { mark: 1 }, MarkBox { mark: 0xffff_ffff }];
     round_trip(
@@ -104,4 +99,51 @@ pub fn write_and_read_marks(alloc: Global) -> Result<(), Wrong> {
         marks.as_slice(),
         b"\0\0\0\x0cmark\0\0\0\x01\0\0\0\x0cmark\xff\xff\xff\xff",
     )
+}
+
+fn config(alloc: Global) -> mp4_stream::Result<MediaConfig> {
+    Ok(MediaConfig::AvcConfig(AvcConfig {
+        width: 320,
+        height: 240,
+        seq_param_set: Vec::from_slice(alloc, &[0x67, 0x64, 0])?.into(),
+        pic_param_set: Vec::from_slice(alloc, &[0x68, 0xeb])?.into(),
+    }))
+}
+
+/// Makes what a track is made from, and clones it, and again where memory was refused.
+pub fn clone_config(alloc: Global) -> Result<(), Wrong> {
+    let original = again(|| config(alloc))?;
+    if again(|| original.try_clone())? == original {
+        Ok(())
+    } else {
+        Err(Wrong)
+    }
+}
+
+/// Shortens offsets of chunks to 32 bits, and again where memory was refused.
+pub fn shorten_offsets(alloc: Global) -> Result<(), Wrong> {
+    let offsets = again(|| {
+        Ok(Co64Box {
+            version: 0,
+            flags: 0,
+            entries: Vec::from_slice(alloc, &[267, 1970])?.into(),
+        })
+    })?;
+    let short = again(|| StcoBox::try_from_co64(alloc, &offsets))?;
+    if short.entries.as_slice() == [267, 1970].as_slice() {
+        Ok(())
+    } else {
+        Err(Wrong)
+    }
+}
+
+/// Makes the texts of a language and of a default media header, and again where memory was refused.
+pub fn make_texts(alloc: Global) -> Result<(), Wrong> {
+    let language = again(|| language_string(alloc, 0x55c4))?;
+    let header = again(|| MdhdBox::default_in(alloc))?;
+    if language.as_str() == header.language.as_str() {
+        Ok(())
+    } else {
+        Err(Wrong)
+    }
 }
