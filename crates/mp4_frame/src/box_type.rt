@@ -11,61 +11,117 @@ use std::fmt;
 /// The name of a box: one of the named codes, or the code as a number.
 #[derive(Clone, Copy, PartialEq, Eq)]
 pub enum BoxType {
+    /// `ftyp`: file types that the stream keeps to.
     FtypBox,
+    /// `mvhd`: movie header.
     MvhdBox,
+    /// `mfhd`: movie fragment header.
     MfhdBox,
+    /// `free`: free space.
     FreeBox,
+    /// `mdat`: media data.
     MdatBox,
+    /// `moov`: movie: all metadata.
     MoovBox,
+    /// `mvex`: movie extends: that fragments follow.
     MvexBox,
+    /// `mehd`: movie extends header.
     MehdBox,
+    /// `trex`: track extends: defaults of a track's fragments.
     TrexBox,
+    /// `emsg`: event message (ISO/IEC 23009-1).
     EmsgBox,
+    /// `moof`: movie fragment.
     MoofBox,
+    /// `tkhd`: track header.
     TkhdBox,
+    /// `tfhd`: track fragment header.
     TfhdBox,
+    /// `tfdt`: track fragment decode time.
     TfdtBox,
+    /// `edts`: edits of a track.
     EdtsBox,
+    /// `mdia`: media of a track.
     MdiaBox,
+    /// `elst`: edit list.
     ElstBox,
+    /// `mdhd`: media header.
     MdhdBox,
+    /// `hdlr`: handler: the kind of media.
     HdlrBox,
+    /// `minf`: media information.
     MinfBox,
+    /// `vmhd`: video media header.
     VmhdBox,
+    /// `stbl`: sample table.
     StblBox,
+    /// `stsd`: sample descriptions.
     StsdBox,
+    /// `stts`: decoding times to samples.
     SttsBox,
+    /// `ctts`: composition times to samples.
     CttsBox,
+    /// `stss`: sync samples.
     StssBox,
+    /// `stsc`: samples to chunks.
     StscBox,
+    /// `stsz`: sample sizes.
     StszBox,
+    /// `stco`: chunk offsets of 32 bits.
     StcoBox,
+    /// `co64`: chunk offsets of 64 bits.
     Co64Box,
+    /// `trak`: track.
     TrakBox,
+    /// `traf`: track fragment.
     TrafBox,
+    /// `trun`: track fragment run.
     TrunBox,
+    /// `udta`: user data.
     UdtaBox,
+    /// `meta`: metadata.
     MetaBox,
+    /// `dinf`: data information.
     DinfBox,
+    /// `dref`: data references.
     DrefBox,
+    /// `smhd`: sound media header.
     SmhdBox,
+    /// `avc1`: advanced video (ISO/IEC 14496-15).
     Avc1Box,
+    /// `avcC`: configuration of advanced video.
     AvcCBox,
+    /// `hev1`: high efficiency video (ISO/IEC 14496-15).
     Hev1Box,
+    /// `hvcC`: configuration of high efficiency video.
     HvcCBox,
+    /// `mp4a`: sound of MPEG-4 (ISO/IEC 14496-14).
     Mp4aBox,
+    /// `esds`: elementary stream descriptor (ISO/IEC 14496-14).
     EsdsBox,
+    /// `tx3g`: timed text of 3GPP (3GPP TS 26.245).
     Tx3gBox,
+    /// `vpcC`: configuration of VP8 and VP9.
     VpccBox,
+    /// `vp09`: VP9 video.
     Vp09Box,
+    /// `data`: value of an item of metadata.
     DataBox,
+    /// `ilst`: list of items of metadata.
     IlstBox,
+    /// `covr`: cover picture.
     CovrBox,
+    /// `desc`: description.
     DescBox,
+    /// `wide`: room for a longer header.
     WideBox,
+    /// `url`:  Data reference by location.
     UrlBox,
+    /// `©nam`: name.
     NameBox,
+    /// `©day`: day of release.
     DayBox,
+    /// Any other code, as a number.
     UnknownBox(u32),
 }
 

@@ -9,12 +9,16 @@ use crate::box_type::BoxType;
 use crate::error::{Error, Result};
 use crate::head::Head;
 
-/// A box: its name, the place where a head of eight bytes would start, its size from there, and its end.
+/// Where a box stands in a buffer. All places are counted in bytes from the front of the buffer.
 #[derive(Clone, Copy, Debug)]
 pub struct Frame {
+    /// Its name.
     pub name: BoxType,
+    /// Eight bytes before its content: where it begins, or 8 bytes later where its header has 16 bytes.
     pub start: u64,
+    /// How many bytes it has from `start` on.
     pub size: u64,
+    /// The place behind it.
     pub end: u64,
 }
 

@@ -11,8 +11,11 @@ use crate::sample_freq_index::SampleFreqIndex;
 pub struct AacConfig {
     /// Bits per second.
     pub bitrate: u32,
+    /// The tools that the sound is coded with.
     pub profile: AudioObjectType,
+    /// How many samples a second has.
     pub freq_index: SampleFreqIndex,
+    /// The channels, and how they stand.
     pub chan_conf: ChannelConfig,
 }
 

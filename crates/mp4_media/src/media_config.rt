@@ -13,10 +13,15 @@ use mp4_frame::Result;
 /// What a track is made from, by how its samples are coded.
 #[derive(Debug, PartialEq, Eq, Drop)]
 pub enum MediaConfig {
+    /// Advanced video, H.264.
     AvcConfig(AvcConfig),
+    /// High efficiency video, H.265.
     HevcConfig(HevcConfig),
+    /// VP9 video.
     Vp9Config(Vp9Config),
+    /// Advanced audio.
     AacConfig(AacConfig),
+    /// Timed text.
     TtxtConfig(TtxtConfig),
 }
 

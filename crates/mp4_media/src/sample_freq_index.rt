@@ -5,22 +5,34 @@ ghost use Rattle.mp4_media.specs.SampleFreqIndex.{freq_sample_freq_index};
 
 use mp4_frame::{Error, Result};
 
-/// The sampling frequency of an MPEG-4 audio configuration, by its index (ISO/IEC 14496-3, 1.6.3.4). Each variant is
-/// named after its frequency in hertz.
+/// The sampling frequency of an MPEG-4 audio configuration, by its index (ISO/IEC 14496-3, 1.6.3.4).
 #[derive(Clone, Copy, Debug, PartialEq, Eq)]
 pub enum SampleFreqIndex {
+    /// 96000 samples a second.
     Freq96000 = 0,
+    /// 88200 samples a second.
     Freq88200 = 1,
+    /// 64000 samples a second.
     Freq64000 = 2,
+    /// 48000 samples a second.
     Freq48000 = 3,
+    /// 44100 samples a second.
     Freq44100 = 4,
+    /// 32000 samples a second.
     Freq32000 = 5,
+    /// 24000 samples a second.
     Freq24000 = 6,
+    /// 22050 samples a second.
     Freq22050 = 7,
+    /// 16000 samples a second.
     Freq16000 = 8,
+    /// 12000 samples a second.
     Freq12000 = 9,
+    /// 11025 samples a second.
     Freq11025 = 10,
+    /// 8000 samples a second.
     Freq8000 = 11,
+    /// 7350 samples a second.
     Freq7350 = 12,
 }
 

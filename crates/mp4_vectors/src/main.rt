@@ -11,7 +11,7 @@ mod tests;
 mod vectors;
 
 use refused::{
-    Wrong,     clone_config, make_texts, shorten_offsets, write_and_read, write_and_read_marks,
+    Wrong, clone_config, make_texts, shorten_offsets, write_and_read, write_and_read_marks,
 };
 use std::process::ExitCode;
 use vectors::VECTORS;
