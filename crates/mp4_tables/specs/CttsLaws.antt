@@ -1,10 +1,11 @@
 -- The laws of ctts, by those of its entries.
-use Rattle.std.proofs.Common.{◌≡◌, ℕ, ◌<◌, ◌^◌, List, length, refl, ap, subst, lit<}
+use Rattle.std.proofs.Common.{◌≡◌, ℕ, ◌<◌, ◌^◌, List, [], ◌∷◌, length, refl, ap, subst, lit<}
 use Rattle.std.specs.Prelude.{ℤ}
 use Rattle.mp4_frame.specs.Laws.{Framed, RowReadsBack, RowIsSound}
 use Rattle.mp4_frame.specs.declared.box_type.BoxType.TheVariants as names
-use Rattle.mp4_frame.proofs.Columns.{length-joined, number-below}
-use Rattle.mp4_frame.proofs.Signed.{back32, below32, signed32}
+use Rattle.mp4_frame.proofs.Framing.{fits_read, Number, Signed32}
+use Rattle.mp4_frame.proofs.Columns.{length-joined}
+use Rattle.mp4_frame.proofs.Signed.{back32, signed32}
 use Rattle.mp4_frame.proofs.Tables.{IsRow, framed_table, table_back, table_read}
 use Rattle.mp4_tables.specs.EntryLaws.{columns_back}
 use Rattle.mp4_tables.specs.CttsEntry.{value_ctts_entry, entry_ctts, columns_ctts_entry, row_ctts, FitsCttsEntry}
@@ -19,7 +20,7 @@ entry_back : (e : CttsEntry) → FitsCttsEntry e → entry_ctts (row_ctts e) ≡
 entry_back e fits = columns_back value_ctts_entry (columns_ctts_entry e) e fits.0 (ap (λ (z : ℤ). record e { sample_offset = z }) (back32 e.sample_offset fits.1))
 
 entry_fits : (row : List ℕ) → IsRow 8 row → FitsCttsEntry (entry_ctts row)
-entry_fits row is = ((number-below row 0 4 is.are, (below32 row 4 is.are, tt)), signed32 row 4 is.are)
+entry_fits row is = (fits_read row is.are (Number 0 4 ∷ Signed32 4 ∷ []), signed32 row 4 is.are)
 
 pub framed_ctts : (v : CttsBox) → WritableCtts v → Framed (size_ctts v) names.CttsBox (bytes_ctts v)
 unfolding bytes_ctts

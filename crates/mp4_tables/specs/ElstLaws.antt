@@ -6,10 +6,11 @@ use Rattle.mp4_frame.specs.Laws.{Framed, RowReadsBack, RowIsSound}
 use Rattle.mp4_frame.specs.Reading.{Reading, ◌>>=◌, test, memory, done}
 use Rattle.mp4_frame.specs.Tables.{Table, counted, rows_from, columns_table, size_table}
 use Rattle.mp4_frame.specs.declared.box_type.BoxType.TheVariants as names
+use Rattle.mp4_frame.proofs.Framing.{fits_read, Number}
 use Rattle.mp4_frame.proofs.Columns.{length-joined, number-joined}
 use Rattle.mp4_frame.proofs.Stands.{fields_ok, test_ok, is_value}
 use Rattle.mp4_frame.proofs.Tables.{IsRow, framed_table, table_back, table_read, value_first}
-use Rattle.mp4_tables.specs.EntryLaws.{fits_numbers, columns_back}
+use Rattle.mp4_tables.specs.EntryLaws.{columns_back}
 use Rattle.mp4_tables.specs.ElstEntry.{is_long, row_length, value_elst_entry, entry_elst, columns_elst_entry, row_elst, FitsElstEntry}
 use Rattle.mp4_tables.specs.Elst.{made_elst, reads_elst_rows, reads_elst, size_elst, WritableElstRows, WritableElst, bytes_elst_rows, bytes_elst, normal_elst}
 use Rattle.mp4_tables.specs.declared.elst.ElstBox.{ElstBox}
@@ -28,8 +29,8 @@ entry_back true e fits = columns_back (value_elst_entry 8) (columns_elst_entry t
 entry_back false e fits = columns_back (value_elst_entry 4) (columns_elst_entry false e) e fits refl
 
 entry_fits : (b : Bool) (row : List ℕ) → IsRow (row_length b) row → FitsElstEntry b (entry_elst b row)
-entry_fits true row is = fits_numbers row is.are ((0, 8) ∷ (8, 8) ∷ (16, 2) ∷ (18, 2) ∷ [])
-entry_fits false row is = fits_numbers row is.are ((0, 4) ∷ (4, 4) ∷ (8, 2) ∷ (10, 2) ∷ [])
+entry_fits true row is = fits_read row is.are (Number 0 8 ∷ Number 8 8 ∷ Number 16 2 ∷ Number 18 2 ∷ [])
+entry_fits false row is = fits_read row is.are (Number 0 4 ∷ Number 4 4 ∷ Number 8 2 ∷ Number 10 2 ∷ [])
 
 pub framed_elst : (v : ElstBox) → WritableElst v → Framed (size_elst v) names.ElstBox (bytes_elst v)
 unfolding bytes_elst bytes_elst_rows

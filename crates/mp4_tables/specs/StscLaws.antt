@@ -7,11 +7,11 @@ use Rattle.mp4_frame.specs.Laws.{Framed, Normal, RowReadsBack, RowIsSound}
 use Rattle.mp4_frame.specs.Reading.{◌>>=◌, memory, test, done}
 use Rattle.mp4_frame.specs.Tables.{Table, counted, WritableTable}
 use Rattle.mp4_frame.specs.declared.box_type.BoxType.TheVariants as names
-use Rattle.mp4_frame.proofs.Framing.{framed_front, settled}
+use Rattle.mp4_frame.proofs.Framing.{framed_front, fits_read, Number}
 use Rattle.mp4_frame.proofs.Columns.{length-joined}
 use Rattle.mp4_frame.proofs.Stands.{test_ok, is_value}
 use Rattle.mp4_frame.proofs.Tables.{IsRow, length_flat, counted_back, counted_read, map_all, length_map, value_first}
-use Rattle.mp4_tables.specs.EntryLaws.{fits_numbers, columns_back}
+use Rattle.mp4_tables.specs.EntryLaws.{columns_back}
 use Rattle.mp4_tables.specs.Chunks.{samples_in, begins, sample_at, in_order, chunks_fit, with_sample, numbered}
 use Rattle.mp4_tables.specs.StscEntry.{value_stsc_entry, entry_stsc, columns_stsc_entry, row_stsc, FitsStscEntry}
 use Rattle.mp4_tables.specs.Stsc.{reads_stsc, size_stsc, WritableStsc, bytes_stsc, normal_stsc}
@@ -76,7 +76,7 @@ entries_back [] w = refl
 entries_back (e ∷ es) w = rw (entry_back e w.0, entries_back es w.1) refl
 
 entry_fits : (row : List ℕ) → IsRow 12 row → FitsStscEntry (entry_stsc row)
-entry_fits row is = fits_numbers row is.are ((0, 4) ∷ (4, 4) ∷ (8, 4) ∷ [])
+entry_fits row is = fits_read row is.are (Number 0 4 ∷ Number 4 4 ∷ Number 8 4 ∷ [])
 
 table_renumbered : (h : StscEntry → ℕ) (version flags : ℕ) (es : List StscEntry) → WritableTable FitsStscEntry 12 0x73747363 version flags es → WritableTable FitsStscEntry 12 0x73747363 version flags (renumbered h es)
 table_renumbered h version flags es w =

@@ -6,8 +6,8 @@ use Rattle.mp4_frame.specs.Bytes.{number, column, joined}
 use Rattle.mp4_frame.specs.Laws.{AreBytes, Framed, RowReadsBack, RowIsSound}
 use Rattle.mp4_frame.specs.Reading.{◌>>=◌, memory, done}
 use Rattle.mp4_frame.specs.declared.box_type.BoxType.TheVariants as names
-use Rattle.mp4_frame.proofs.Framing.{framed_front}
-use Rattle.mp4_frame.proofs.Columns.{found, length-joined, numbers-joined, number-below, fields-joined}
+use Rattle.mp4_frame.proofs.Framing.{framed_front, fits_read, Number}
+use Rattle.mp4_frame.proofs.Columns.{found, length-joined, numbers-joined, fields-joined}
 use Rattle.mp4_frame.proofs.Stands.{fields_ok, is_value}
 use Rattle.mp4_frame.proofs.Tables.{length_flat, map_back, map_all, length_map, value_first}
 use Rattle.mp4_tables.specs.NumberLaws.{number_long, number_back, number_fits}
@@ -83,7 +83,7 @@ sound_stsz bytes start long v are read =
     let is : made ≡ v = is_value made v p.2 in
     let r = sizes_read bytes long (number bytes 12 4) (number bytes 16 4) p.0 are p.1 in
     let can : size_stsz made < 2 ^ 32 → WritableStsz made = λ small. record {
-      fit = (small, (lit< tt, (number-below bytes 8 1 are, (number-below bytes 9 3 are, (number-below bytes 12 4 are, (number-below bytes 16 4 are, tt))))));
+      fit = (small, (lit< tt, fits_read bytes are (Number 8 1 ∷ Number 9 3 ∷ Number 12 4 ∷ Number 16 4 ∷ [])));
       each = All-from_recursion (λ s. s < 2 ^ 32) p.0 r.0;
       in_sync = r.1;
     } in

@@ -2,9 +2,10 @@
 use Rattle.std.proofs.Common.{◌≡◌, ℕ, ◌<◌, ◌^◌, List, [], ◌∷◌, length, refl, subst, lit<}
 use Rattle.mp4_frame.specs.Laws.{Framed, RowReadsBack, RowIsSound}
 use Rattle.mp4_frame.specs.declared.box_type.BoxType.TheVariants as names
+use Rattle.mp4_frame.proofs.Framing.{fits_read, Number}
 use Rattle.mp4_frame.proofs.Columns.{length-joined}
 use Rattle.mp4_frame.proofs.Tables.{IsRow, framed_table, table_back, table_read}
-use Rattle.mp4_tables.specs.EntryLaws.{fits_numbers, columns_back}
+use Rattle.mp4_tables.specs.EntryLaws.{columns_back}
 use Rattle.mp4_tables.specs.SttsEntry.{value_stts_entry, entry_stts, columns_stts_entry, row_stts, FitsSttsEntry}
 use Rattle.mp4_tables.specs.declared.stts.SttsBox.{SttsBox}
 use Rattle.mp4_tables.specs.declared.stts_entry.SttsEntry.{SttsEntry}
@@ -17,7 +18,7 @@ entry_back : (e : SttsEntry) → FitsSttsEntry e → entry_stts (row_stts e) ≡
 entry_back e fits = columns_back value_stts_entry (columns_stts_entry e) e fits refl
 
 entry_fits : (row : List ℕ) → IsRow 8 row → FitsSttsEntry (entry_stts row)
-entry_fits row is = fits_numbers row is.are ((0, 4) ∷ (4, 4) ∷ [])
+entry_fits row is = fits_read row is.are (Number 0 4 ∷ Number 4 4 ∷ [])
 
 pub framed_stts : (v : SttsBox) → WritableStts v → Framed (size_stts v) names.SttsBox (bytes_stts v)
 unfolding bytes_stts

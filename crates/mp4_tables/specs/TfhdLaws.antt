@@ -1,11 +1,11 @@
 -- The laws of tfhd, by those of flagged fields.
-use Rattle.std.proofs.Common.{◌≡◌, ℕ, ◌-◌, ◌<◌, ◌≤◌, ◌^◌, List, ◌++◌, length, refl, ap, subst, ◌∙◌, append_assoc, arith, length-append, lit<}
+use Rattle.std.proofs.Common.{◌≡◌, ℕ, ◌-◌, ◌<◌, ◌≤◌, ◌^◌, List, [], ◌∷◌, ◌++◌, length, refl, ap, subst, ◌∙◌, append_assoc, arith, length-append, lit<}
 use Rattle.mp4_frame.specs.Bytes.{number, joined}
 use Rattle.mp4_frame.specs.Laws.{Framed, RowReadsBack, RowIsSound}
 use Rattle.mp4_frame.specs.Reading.{◌>>=◌, fields, done}
 use Rattle.mp4_frame.specs.declared.box_type.BoxType.TheVariants as names
-use Rattle.mp4_frame.proofs.Framing.{framed_front}
-use Rattle.mp4_frame.proofs.Columns.{length-joined, number-joined, number-below}
+use Rattle.mp4_frame.proofs.Framing.{framed_front, fits_read, Number}
+use Rattle.mp4_frame.proofs.Columns.{length-joined, number-joined}
 use Rattle.mp4_frame.proofs.Stands.{fields_stand, fields_ok, is_value}
 use Rattle.mp4_tables.specs.FlaggedLaws.{width_most, length_optional, optional_back, number_stands}
 use Rattle.mp4_tables.specs.Flagged.{is_set, optional}
@@ -30,8 +30,8 @@ framed_tfhd v w =
     let lc = length_optional (is_set v.flags 0x08) 4 v.default_sample_duration w.flagged.default_sample_duration in
     let ld = length_optional (is_set v.flags 0x10) 4 v.default_sample_size w.flagged.default_sample_size in
     let le = length_optional (is_set v.flags 0x20) 4 v.default_sample_flags w.flagged.default_sample_flags in
-    let long = omega (arith, la, lb, lc, ld, le, length-append a (b ++ (c ++ (d ++ e))), length-append b (c ++ (d ++ e)), length-append c (d ++ e), length-append d e) in
-    subst (Framed (size_tfhd v) names.TfhdBox) is (framed_front _ z w.fit long)
+    subst (Framed (size_tfhd v) names.TfhdBox) is
+    (framed_front _ z w.fit (omega (arith, la, lb, lc, ld, le, length-append a (b ++ (c ++ (d ++ e))), length-append b (c ++ (d ++ e)), length-append c (d ++ e), length-append d e)))
 
 pub read_back_tfhd : (v : TfhdBox) → WritableTfhd v → RowReadsBack reads_tfhd (bytes_tfhd v) (size_tfhd v) (normal_tfhd v)
 unfolding bytes_tfhd reads_tfhd
@@ -84,7 +84,7 @@ sound_tfhd bytes start long v are read =
     let is : made ≡ v = is_value made v (fields_ok bytes 16 (end_at f - 16) (λ _. done made) v one) in
     let short : end_at f < 256 ^ 4 = omega (arith, tfhd_is_short f) in
     let can : WritableTfhd made = record {
-      fit = (short, (lit< tt, (number-below bytes 8 1 are, (number-below bytes 9 3 are, (number-below bytes 12 4 are, tt)))));
+      fit = (short, (lit< tt, fits_read bytes are (Number 8 1 ∷ Number 9 3 ∷ Number 12 4 ∷ [])));
       flagged = record {
         base_data_offset = number_stands bytes (is_set f 0x01) 16 8 are;
         sample_description_index = number_stands bytes (is_set f 0x02) (index_at f) 4 are;

@@ -12,7 +12,7 @@ use Rattle.mp4_frame.specs.Bytes.{number, joined}
 use Rattle.mp4_frame.specs.Laws.{AreBytes, Framed, RowReadsBack, RowIsSound}
 use Rattle.mp4_frame.specs.Reading.{Reading, ◌>>=◌, fields, memory, done}
 use Rattle.mp4_frame.specs.declared.box_type.BoxType.TheVariants as names
-use Rattle.mp4_frame.proofs.Framing.{framed_front}
+use Rattle.mp4_frame.proofs.Framing.{framed_front, fits_read, Number}
 use Rattle.mp4_frame.proofs.Columns.{length-joined, number-joined, number-below}
 use Rattle.mp4_frame.proofs.Signed.{back32, below32, signed32}
 use Rattle.mp4_frame.proofs.Stands.{fields_stand, fields_ok, is_value}
@@ -136,8 +136,7 @@ framed_trun v w =
     let la = length_optional (is_set v.flags 0x01) 4 (unsigned v.data_offset) w.flagged.data_offset in
     let lb = length_optional (is_set v.flags 0x04) 4 v.first_sample_flags w.flagged.first_sample_flags in
     let lr = length_rows v w.listed v.sample_count (omega arith) in
-    let long = omega (arith, la, lb, lr, length-append a (b ++ r), length-append b r) in
-    subst (Framed (size_trun v) names.TrunBox) is (framed_front _ (a ++ (b ++ r)) w.fit long)
+    subst (Framed (size_trun v) names.TrunBox) is (framed_front _ (a ++ (b ++ r)) w.fit (omega (arith, la, lb, lr, length-append a (b ++ r), length-append b r)))
 
 pub read_back_trun : (v : TrunBox) → WritableTrun v → RowReadsBack reads_trun (bytes_trun v) (size_trun v) (normal_trun v)
 unfolding bytes_trun reads_trun reads_lists
@@ -215,7 +214,7 @@ sound_trun bytes start long v are read =
     let is : t ≡ v = ap (value_trun f (number bytes)) is_lists ∙ is_value _ v p.2 in
     let offset = offset_fits bytes (is_set f 0x01) 16 are in
     let can : size_trun t < 2 ^ 32 → WritableTrun t = λ small. record {
-      fit = (small, (lit< tt, (number-below bytes 8 1 are, (number-below bytes 9 3 are, (number-below bytes 12 4 are, tt)))));
+      fit = (small, (lit< tt, fits_read bytes are (Number 8 1 ∷ Number 9 3 ∷ Number 12 4 ∷ [])));
       flagged = record { data_offset = offset.0; signed = offset.1; first_sample_flags = number_stands bytes (is_set f 0x04) (first_flags_at f) 4 are };
       listed = record {
         durations = column_listed (is_set f 0x100) 0 (row_length f) n rows (λ e. here (omega (arith, full (is_set f 0x100) e)));

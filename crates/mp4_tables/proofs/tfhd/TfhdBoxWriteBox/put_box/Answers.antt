@@ -18,8 +18,8 @@ returns c =
     let duration = length_optional (is_set v.flags 0x08) 4 v.default_sample_duration w.default_sample_duration in
     let size = length_optional (is_set v.flags 0x10) 4 v.default_sample_size w.default_sample_size in
     let flags = length_optional (is_set v.flags 0x20) 4 v.default_sample_flags w.default_sample_flags in
-    let long : c.box_size.result ≡ size_tfhd v = omega (arith, c.box_size.ensures, tfhd_is_short v.flags) in
+    let long : c.box_size-size.result ≡ size_tfhd v = omega (arith, c.box_size-size.ensures, tfhd_is_short v.flags) in
     let end : length c.put_optional_u32.new.place ≤ c.put_optional_u32.result =
-    omega (arith, c.put_u32-at.ensures.next, c.put_u32-at-2.ensures.next, c.put_u8-at.ensures.next, c.put_u24-at.ensures.next, c.put_u32-at-3.ensures.next, c.put_optional_u64-at.ensures.next, c.put_optional_u32-at.ensures.next, c.put_optional_u32-at-2.ensures.next, c.put_optional_u32-at-3.ensures.next, c.put_optional_u32.ensures.next, base, index, duration, size, flags) in
+    omega (arith, c.put_full_box-at.ensures.next, c.put_u32-at.ensures.next, c.put_optional_u64-at.ensures.next, c.put_optional_u32-at.ensures.next, c.put_optional_u32-at-2.ensures.next, c.put_optional_u32-at-3.ensures.next, c.put_optional_u32.ensures.next, base, index, duration, size, flags) in
     sym (take_all c.put_optional_u32.result c.put_optional_u32.new.place end)
-    ∙ (rw (c.put_optional_u32.ensures.put, c.put_optional_u32-at-3.ensures.put, c.put_optional_u32-at-2.ensures.put, c.put_optional_u32-at.ensures.put, c.put_optional_u64-at.ensures.put, c.put_u32-at-3.ensures.put, c.put_u24-at.ensures.put, c.put_u8-at.ensures.put, c.put_u32-at-2.ensures.put, c.put_u32-at.ensures.put, long) refl)
+    ∙ (rw (c.put_optional_u32.ensures.put, c.put_optional_u32-at-3.ensures.put, c.put_optional_u32-at-2.ensures.put, c.put_optional_u32-at.ensures.put, c.put_optional_u64-at.ensures.put, c.put_u32-at.ensures.put, c.put_full_box-at.ensures.put, long) refl)
