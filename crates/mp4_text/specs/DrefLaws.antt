@@ -1,11 +1,11 @@
 -- The laws of dref, from those of url alone.
-use Rattle.std.proofs.Common.{◌≡◌, ℕ, ◌+◌, ◌<◌, ◌^◌, List, ◌++◌, length, Ok, Option, Some, refl, sym, ap, subst, ◌∙◌, arith, append_assoc, lit<, lit≤}
+use Rattle.std.proofs.Common.{◌≡◌, ℕ, ◌<◌, ◌^◌, List, ◌++◌, length, Ok, Option, Some, refl, sym, ap, subst, ◌∙◌, arith, append_assoc, lit<, lit≤}
 use Rattle.mp4_frame.specs.Bytes.{number, joined, Fit}
 use Rattle.mp4_frame.specs.Children.{children}
 use Rattle.mp4_frame.specs.Laws.{Framed, Normal, RowReadsBack, RowIsSound}
 use Rattle.mp4_frame.specs.Reading.{Reading, ◌>>=◌, fields, done}
 use Rattle.mp4_frame.specs.declared.box_type.BoxType.TheVariants as names
-use Rattle.mp4_frame.proofs.Framing.{framed_front, settled}
+use Rattle.mp4_frame.proofs.Framing.{framed_front}
 use Rattle.mp4_frame.proofs.Columns.{found, numbers-joined, fields-joined, length-joined, number-below}
 use Rattle.mp4_frame.proofs.Decided.{outcome_bind}
 use Rattle.mp4_frame.proofs.Stands.{fields_ok, is_value}

@@ -1,5 +1,5 @@
 -- The laws of ftyp.
-use Rattle.std.proofs.Common.{◌≡◌, ℕ, ◌+◌, ◌-◌, ◌*◌, ◌/◌, ◌%◌, ◌<◌, ◌≤◌, ◌^◌, true, List, [], ◌∷◌, ◌++◌, map, length, Ok, refl, ap, subst, ◌∙◌, arith, append_assoc, lit<, lit≤}
+use Rattle.std.proofs.Common.{◌≡◌, ℕ, ◌+◌, ◌-◌, ◌*◌, ◌/◌, ◌%◌, ◌<◌, ◌^◌, true, List, [], ◌∷◌, ◌++◌, map, length, Ok, refl, ap, subst, ◌∙◌, arith, append_assoc, lit<, lit≤}
 use Rattle.std.specs.Prelude.{nat_le, ◌==◌, ◌&&◌}
 use Rattle.std.specs.List.{flat_map}
 use Rattle.std.proofs.lemmas.Bool.{le-leb, eq-eqb}
@@ -13,7 +13,7 @@ use Rattle.mp4_frame.specs.declared.box_type.BoxType.TheVariants as names
 use Rattle.mp4_frame.specs.declared.four_cc.FourCC.{FourCC}
 use Rattle.mp4_frame.proofs.Framing.{framed_front}
 use Rattle.mp4_frame.proofs.Codes.{four_cc_back, four_cc_is, small_code}
-use Rattle.mp4_frame.proofs.Columns.{found, numbers-joined, fields-joined, length-joined, number-below}
+use Rattle.mp4_frame.proofs.Columns.{numbers-joined, fields-joined, length-joined, number-below}
 use Rattle.mp4_frame.proofs.Stands.{fields_ok, test_ok, is_value}
 use Rattle.mp4_frame.proofs.Tables.{IsRow, length_flat, rows_from_back, rows_read, map_all, value_first}
 use Rattle.mp4_text.specs.declared.ftyp.FtypBox.{FtypBox}

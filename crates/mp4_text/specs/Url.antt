@@ -1,6 +1,6 @@
 -- url, a data entry that is a URL (ISO/IEC 14496-12, 8.7.2): version of 1 byte at 8, flags of 3 at 9, and, in a
 -- box of 13 bytes or more, a location from 12 on, with a zero byte behind it that ends the box.
-use Rattle.std.specs.Prelude.{ℕ, ◌+◌, ◌-◌, nat_lt, ◌==◌, List, [], ◌∷◌, ◌++◌, length, if◌then◌else◌}
+use Rattle.std.specs.Prelude.{ℕ, ◌+◌, ◌-◌, nat_lt, ◌==◌, List, [], ◌++◌, length, if◌then◌else◌}
 use Rattle.std.specs.Str.{IsUtf8}
 use Rattle.mp4_frame.specs.Bytes.{number, joined, Fit, full_box}
 use Rattle.mp4_frame.specs.Reading.{Reading, ◌>>=◌, fields, piece_from, memory, done}

@@ -1,5 +1,5 @@
 -- The laws of url.
-use Rattle.std.proofs.Common.{◌≡◌, ℕ, ◌+◌, ◌-◌, ◌<◌, ◌≤◌, ◌^◌, Bool, true, false, cond, eqb, ltb, List, [], ◌∷◌, ◌++◌, length, Ok, refl, sym, ap, ◌∙◌, subst, arith, length-append, append_assoc, lit<}
+use Rattle.std.proofs.Common.{◌≡◌, ℕ, ◌+◌, ◌-◌, ◌<◌, ◌^◌, Bool, true, false, cond, eqb, ltb, List, [], ◌∷◌, ◌++◌, length, Ok, refl, sym, ap, ◌∙◌, subst, arith, length-append, append_assoc, lit<}
 use Rattle.std.proofs.lemmas.Bool.{le-ltb, eqb-true}
 use Rattle.std.proofs.lemmas.List.{append-nil}
 use Rattle.std.proofs.lemmas.Str.{IsUtf8-nil}
@@ -62,10 +62,6 @@ back_by v rest start false e fits text =
 length_by : (n : ℕ) (location : List ℕ) (b : Bool) → length location ≡ n → 12 + length (cond b [] (location ++ 0 ∷ [])) ≡ cond b 12 (13 + n)
 length_by n location true long = refl
 length_by n location false long = omega (arith, length-append location (0 ∷ []), long)
-
-least_by : (b : Bool) (n : ℕ) → 8 ≤ cond b 12 (13 + n)
-least_by true n = omega arith
-least_by false n = omega arith
 
 pub framed_url : (v : UrlBox) → WritableUrl v → Framed (size_url v) names.UrlBox (bytes_url v)
 unfolding bytes_url
