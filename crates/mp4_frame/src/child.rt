@@ -12,14 +12,15 @@ use std::alloc::Global;
 
 /// Reads the head of a child at a place of a box, of which `bytes` begins with the first byte. Invalid data
 /// where the child has fewer than 8 bytes, is larger than its parent, or ends past 64 bits. `too_large` is
-/// the text of the first two.
+/// the text of the second.
 #[tactic(auto, unfolding(crate::specs::Children::child))]
 fn child_at(bytes: &[u8], start: u64, size: u64, at: u64, too_large: &'static str) -> Result<Head>
     ensures value { Answers result (child bytes.now start size at) }
     ensures room { IfOk result (λ c. (at ≤ c.start) × (c.start + 8 ≤ length bytes.now) × (8 ≤ c.size) × (start + c.start + c.size < 2 ^ 64)) }
 {
     let child = Head::at(bytes, at)?;
-    test(child.size >= 8 && child.size <= size, too_large)?;
+    test(child.size >= 8, "child box too small")?;
+    test(child.size <= size, too_large)?;
     test(
         start <= u64::MAX - child.size && child.start <= u64::MAX - child.size - start,
         "box end past 64 bits",
@@ -28,7 +29,7 @@ fn child_at(bytes: &[u8], start: u64, size: u64, at: u64, too_large: &'static st
 }
 
 /// The last child with this code among those from a place on, at most `most`. Others are skipped by their
-/// size. `too_large` is the text of the refusal of a child that doesn't fit into its parent.
+/// size. `too_large` is the text of the refusal of a child that is larger than its parent.
 pub fn last_child<T: ReadBox + Drop>(
     alloc: Global,
     bytes: &[u8],

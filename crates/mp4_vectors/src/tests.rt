@@ -4,4 +4,5 @@ mod headers;
 mod kinds;
 mod laws;
 mod memory;
+mod refusals;
 mod streams;
