@@ -124,7 +124,7 @@ fn refused_fields(rt: HostRuntime) {
     check(
         &rt,
         &[
-            (b"\0\0\0\x6cmvhd\x02\0\0\0", "version must be 0 or 1"),
+            (b"\0\0\0\x0cmvhd\x02\0\0\0", "version must be 0 or 1"),
             (b"\0\0\0\x0cemsg\x02\0\0\0", "version must be 0 or 1"),
             (
                 b"\0\0\0\x12ftypisom\0\0\0\0\0\0",
