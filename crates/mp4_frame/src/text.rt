@@ -11,6 +11,7 @@ use crate::error::Result;
 use std::alloc::Global;
 use std::fmt;
 use std::marker::Model;
+use std::ops::Deref;
 
 /// A text, which clauses see as its bytes in UTF-8. Two are equal where their bytes are. It is made from a
 /// `String` by `into()` and turned into one by `into_string()`, which take no memory.
@@ -118,6 +119,17 @@ impl From<String> for Text {
 
     fn from(string: String) -> Text {
         Text { string }
+    }
+}
+
+/// A text is used as a string that is only read.
+impl Deref for Text {
+    type Target = String;
+
+    ghost deref_gives = { λ t s. string_bytes s ≡ t };
+
+    fn deref(&self) -> &String {
+        &self.string
     }
 }
 

@@ -15,11 +15,13 @@ use std::slice;
 pub struct Wrong;
 
 /// What a call answers that may be refused memory, once.
-fn again<T: Drop>(call: impl Fn() -> mp4_stream::Result<T>) -> Result<T, Wrong> {
-    match call() {
-        Err(Error::OutOfMemory) => call().map_err(|_| Wrong),
-        answer => answer.map_err(|_| Wrong),
-    }
+macro_rules! again {
+    ($call:expr) => {
+        match $call {
+            Err(Error::OutOfMemory) => $call.map_err(|_| Wrong),
+            answer => answer.map_err(|_| Wrong),
+        }
+    };
 }
 
 /// Appends the bytes of the boxes, as a list or one by one, to what stands in `out`.
@@ -83,8 +85,8 @@ fn round_trip<B: StreamBox + Eq>(alloc: Global, boxes: &[B], bytes: &[u8]) -> Re
 
 /// Makes, clones, writes and reads the vector, and again where memory was refused.
 pub fn write_and_read(alloc: Global, vector: Vector) -> Result<(), Wrong> {
-    let original = again(|| vector.make(alloc))?;
-    let clone = again(|| original.try_clone())?;
+    let original = again!(vector.make(alloc))?;
+    let clone = again!(original.try_clone())?;
     if clone != original {
         return Err(Wrong);
     }
@@ -112,24 +114,26 @@ fn config(alloc: Global) -> mp4_stream::Result<MediaConfig> {
 
 /// Makes what a track is made from, and clones it, and again where memory was refused.
 pub fn clone_config(alloc: Global) -> Result<(), Wrong> {
-    let original = again(|| config(alloc))?;
-    if again(|| original.try_clone())? == original {
+    let original = again!(config(alloc))?;
+    if again!(original.try_clone())? == original {
         Ok(())
     } else {
         Err(Wrong)
     }
 }
 
+fn offsets(alloc: Global) -> mp4_stream::Result<Co64Box> {
+    Ok(Co64Box {
+        version: 0,
+        flags: 0,
+        entries: Vec::from_slice(alloc, &[267, 1970])?.into(),
+    })
+}
+
 /// Shortens offsets of chunks to 32 bits, and again where memory was refused.
 pub fn shorten_offsets(alloc: Global) -> Result<(), Wrong> {
-    let offsets = again(|| {
-        Ok(Co64Box {
-            version: 0,
-            flags: 0,
-            entries: Vec::from_slice(alloc, &[267, 1970])?.into(),
-        })
-    })?;
-    let short = again(|| StcoBox::try_from_co64(alloc, &offsets))?;
+    let offsets = again!(offsets(alloc))?;
+    let short = again!(StcoBox::try_from_co64(alloc, &offsets))?;
     if short.entries.as_slice() == [267, 1970].as_slice() {
         Ok(())
     } else {
@@ -139,8 +143,8 @@ pub fn shorten_offsets(alloc: Global) -> Result<(), Wrong> {
 
 /// Makes the texts of a language and of a default media header, and again where memory was refused.
 pub fn make_texts(alloc: Global) -> Result<(), Wrong> {
-    let language = again(|| language_string(alloc, 0x55c4))?;
-    let header = again(|| MdhdBox::default_in(alloc))?;
+    let language = again!(language_string(alloc, 0x55c4))?;
+    let header = again!(MdhdBox::default_in(alloc))?;
     if language.as_str() == header.language.as_str() {
         Ok(())
     } else {
