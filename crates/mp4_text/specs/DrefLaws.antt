@@ -1,12 +1,12 @@
 -- The laws of dref, from those of url alone.
-use Rattle.std.proofs.Common.{◌≡◌, ℕ, ◌<◌, ◌^◌, List, ◌++◌, length, Ok, Option, Some, refl, sym, ap, subst, ◌∙◌, arith, append_assoc, lit<, lit≤}
+use Rattle.std.proofs.Common.{◌≡◌, ℕ, ◌<◌, ◌^◌, List, [], ◌∷◌, ◌++◌, length, Ok, Option, Some, refl, sym, ap, subst, ◌∙◌, arith, append_assoc, lit<, lit≤}
 use Rattle.mp4_frame.specs.Bytes.{number, joined, Fit}
 use Rattle.mp4_frame.specs.Children.{children}
 use Rattle.mp4_frame.specs.Laws.{Framed, Normal, RowReadsBack, RowIsSound}
 use Rattle.mp4_frame.specs.Reading.{Reading, ◌>>=◌, fields, done}
 use Rattle.mp4_frame.specs.declared.box_type.BoxType.TheVariants as names
-use Rattle.mp4_frame.proofs.Framing.{framed_front}
-use Rattle.mp4_frame.proofs.Columns.{found, numbers-joined, fields-joined, length-joined, number-below}
+use Rattle.mp4_frame.proofs.Framing.{framed_front, fits_read, Number, Fitting}
+use Rattle.mp4_frame.proofs.Columns.{found, numbers-joined, fields-joined, length-joined}
 use Rattle.mp4_frame.proofs.Decided.{outcome_bind}
 use Rattle.mp4_frame.proofs.Stands.{fields_ok, is_value}
 use Rattle.mp4_frame.proofs.Tables.{value_first}
@@ -70,7 +70,7 @@ sound_dref bytes start long v are e =
     let entry = child.optional_sound laws_url 0x75726c20 bytes start long (number bytes 12 4) 16 p.0 are p.1 in
     let made : DrefBox = value_dref (number bytes) p.0 in
     let settled : normal_dref made ≡ made = ap (λ (url : Option UrlBox). record made { url = url }) entry.0 in
-    let can : size_dref made < 2 ^ 32 → WritableDref made = λ small. record { fit = (small, (lit< tt, (number-below bytes 8 1 are, (number-below bytes 9 3 are, (small_count p.0, tt))))); entry = entry.1 (omega (arith, small)) } in
+    let can : size_dref made < 2 ^ 32 → WritableDref made = λ small. record { fit = (small, (lit< tt, fits_read bytes are (Number 8 1 ∷ Number 9 3 ∷ Fitting 4 (count_optional p.0) (small_count p.0) ∷ []))); entry = entry.1 (omega (arith, small)) } in
     subst (λ (w : DrefBox). (normal_dref w ≡ w) × (size_dref w < 2 ^ 32 → WritableDref w)) (is_value made v p.2) (settled, can)
 
 pub laws_dref : IsChild reads_dref size_dref WritableDref bytes_dref normal_dref names.DrefBox

@@ -1,18 +1,18 @@
 -- The laws of emsg.
 use Rattle.std.proofs.Common.{◌≡◌, ℕ, ◌+◌, ◌-◌, ◌<◌, ◌^◌, Bool, true, false, cond, ◌&&◌, List, [], ◌∷◌, ◌++◌, length, drop, Option, Some, None, Result, Ok, refl, sym, ap, ◌∙◌, subst, arith, length-append, append_assoc, lit<, lit≤}
-use Rattle.std.proofs.lemmas.Bool.{le-leb}
+use Rattle.std.proofs.lemmas.Bool.{le-leb, and_parts}
 use Rattle.std.proofs.lemmas.List.{drop_at}
 use Rattle.std.specs.Prelude.{◌==◌, nat_le, is_some, unwrap_or}
 use Rattle.mp4_frame.specs.Bytes.{number, joined}
 use Rattle.mp4_frame.specs.Laws.{Framed, Normal, RowReadsBack, RowIsSound, AreBytes}
 use Rattle.mp4_frame.specs.Reading.{Reading, Fault, Invalid, ◌>>=◌, fields, done, faults}
 use Rattle.mp4_frame.specs.declared.box_type.BoxType.TheVariants as names
-use Rattle.mp4_frame.proofs.Framing.{framed_front}
-use Rattle.mp4_frame.proofs.Columns.{found, numbers-joined, fields-joined, length-joined, number-joined, number-below}
+use Rattle.mp4_frame.proofs.Framing.{framed_front, fits_read, Number, Fitting}
+use Rattle.mp4_frame.proofs.Columns.{found, numbers-joined, fields-joined, length-joined, number-joined}
 use Rattle.mp4_frame.proofs.Decided.{outcome_bind}
 use Rattle.mp4_frame.proofs.Stands.{fields_stand, fields_ok, is_value, are_bytes-drop, piece_back}
 use Rattle.mp4_frame.proofs.Tables.{value_first}
-use Rattle.mp4_text.specs.Emsg.{two_texts, behind, message_from, value_emsg_0, value_emsg_1, reads_emsg_0, reads_emsg_1, reads_emsg_version, reads_emsg, size_middle, size_emsg, columns_emsg, numbers_emsg_0, numbers_emsg_1, texts_emsg, middle_emsg, has_time, WritableEmsg, bytes_emsg, normal_emsg}
+use Rattle.mp4_text.specs.Emsg.{two_texts, behind, message_from, value_emsg_0, value_emsg_1, reads_emsg_0, reads_emsg_1, reads_emsg_version, reads_emsg, size_middle, size_emsg, columns_emsg, numbers_emsg_0, numbers_emsg_1, texts_emsg, middle_emsg, WritableEmsg, bytes_emsg, normal_emsg}
 use Rattle.mp4_text.specs.Terminated.{terminated_text, terminated, IsTerminable}
 use Rattle.mp4_text.specs.TerminatedLaws.{taken, text_back, text_is}
 use Rattle.mp4_text.specs.declared.emsg.EmsgBox.{EmsgBox}
@@ -37,11 +37,8 @@ abbrev normal_emsg_1 : EmsgBox → EmsgBox
 normal_emsg_1 v = record v { presentation_time_delta = None }
 
 -- the version decides which time there is
-time_0 : (v : EmsgBox) → (v.version == 0) ≡ true → has_time v ≡ true → is_some v.presentation_time_delta ≡ true
-time_0 v e h = sym (ap (λ (b : Bool). cond b (is_some v.presentation_time_delta) ((v.version == 1) && is_some v.presentation_time)) e) ∙ h
-
-time_1 : (v : EmsgBox) → (v.version == 0) ≡ false → has_time v ≡ true → ((v.version == 1) && is_some v.presentation_time) ≡ true
-time_1 v e h = sym (ap (λ (b : Bool). cond b (is_some v.presentation_time_delta) ((v.version == 1) && is_some v.presentation_time)) e) ∙ h
+time_is : (v : EmsgBox) (b : Bool) → (v.version == 0) ≡ b → WritableEmsg v → cond b (is_some v.presentation_time_delta) ((v.version == 1) && is_some v.presentation_time) ≡ true
+time_is v b e w = sym (ap (λ (b : Bool). cond b (is_some v.presentation_time_delta) ((v.version == 1) && is_some v.presentation_time)) e) ∙ w.time
 
 is_normal : (v n : EmsgBox) → normal_emsg v ≡ n → WritableEmsg n → normal_emsg n ≡ n → bytes_emsg n ≡ bytes_emsg v → Normal WritableEmsg bytes_emsg normal_emsg v
 is_normal v n is w again same = record { writable = subst WritableEmsg (sym is) w; again = ap normal_emsg is ∙ again ∙ sym is; same_bytes = ap bytes_emsg is ∙ same }
@@ -56,7 +53,7 @@ normal_by v true e w =
       fit = w.fit;
       fit_0 = w.fit_0;
       fit_1 = (w.fit_1.0, (lit< tt, w.fit_1.1.1));
-      time = ap (λ (b : Bool). cond b (is_some v.presentation_time_delta) ((v.version == 1) && false)) e ∙ time_0 v e w.time;
+      time = ap (λ (b : Bool). cond b (is_some v.presentation_time_delta) ((v.version == 1) && false)) e ∙ time_is v true e w;
       scheme = w.scheme;
       value = w.value;
     })
@@ -70,7 +67,7 @@ normal_by v false e w =
       fit = w.fit;
       fit_0 = (w.fit_0.0, (lit< tt, w.fit_0.1.1));
       fit_1 = w.fit_1;
-      time = ap (λ (b : Bool). cond b false ((v.version == 1) && is_some v.presentation_time)) e ∙ time_1 v e w.time;
+      time = ap (λ (b : Bool). cond b false ((v.version == 1) && is_some v.presentation_time)) e ∙ time_is v false e w;
       scheme = w.scheme;
       value = w.value;
     })
@@ -133,15 +130,7 @@ back_0 v rest w e =
     let message : message_from B (size_emsg v) (at + 16) ≡ taken v.message_data = ap (λ (l : List ℕ). message_from l (size_emsg v) (at + 16)) split_more ∙ message_back (front ++ joined ns) v.message_data rest (size_emsg v) (at + 16) behind_numbers size in
     let head : number B ≡ found cs (texts_emsg v ++ (joined ns ++ tail)) = numbers-joined cs (texts_emsg v ++ (joined ns ++ tail)) w.fit in
     let numbers : number (drop at B) ≡ found ns tail = ap (λ (l : List ℕ). number (drop at l)) split ∙ ap number (drop_at front (joined ns ++ tail) at long) ∙ numbers-joined ns tail w.fit_0 in
-    rw (two, stands, message, head, numbers) (ap (λ (time : Option ℕ). Ok (record v { presentation_time = None; presentation_time_delta = time })) (some_is v.presentation_time_delta (time_0 v e w.time)))
-
-and_first : (a b : Bool) → (a && b) ≡ true → a ≡ true
-and_first true b e = refl
-and_first false b e = absurd cc
-
-and_second : (a b : Bool) → (a && b) ≡ true → b ≡ true
-and_second true b e = e
-and_second false b e = absurd cc
+    rw (two, stands, message, head, numbers) (ap (λ (time : Option ℕ). Ok (record v { presentation_time = None; presentation_time_delta = time })) (some_is v.presentation_time_delta (time_is v true e w)))
 
 back_1 : (v : EmsgBox) (rest : List ℕ) → WritableEmsg v → (v.version == 0) ≡ false
     → (reads_emsg_1 (joined (columns_emsg v) ++ (joined (numbers_emsg_1 v) ++ (texts_emsg v ++ (v.message_data ++ rest)))) (size_emsg v)).outcome ≡ Ok (normal_emsg_1 v)
@@ -164,7 +153,7 @@ back_1 v rest w e =
     let message : message_from B (size_emsg v) at ≡ taken v.message_data = ap (λ (l : List ℕ). message_from l (size_emsg v) at) split_more ∙ message_back (front ++ texts_emsg v) v.message_data rest (size_emsg v) at behind_texts size in
     let head : number B ≡ found cs (joined ns ++ tail) = numbers-joined cs (joined ns ++ tail) w.fit in
     let numbers : number (drop 12 B) ≡ found ns tail = ap number (drop_at (joined cs) (joined ns ++ tail) 12 (length-joined cs)) ∙ numbers-joined ns tail w.fit_1 in
-    let time : is_some v.presentation_time ≡ true = and_second (v.version == 1) (is_some v.presentation_time) (time_1 v e w.time) in
+    let time : is_some v.presentation_time ≡ true = (and_parts (v.version == 1) (is_some v.presentation_time) (time_is v false e w)).1 in
     rw (stands, two, message, head, numbers) (ap (λ (time : Option ℕ). Ok (record v { presentation_time = time; presentation_time_delta = None })) (some_is v.presentation_time time))
 
 -- version and flags, and then what follows
@@ -177,36 +166,26 @@ begun v tail start o w later =
     outcome_bind (fields B 8 4) (λ _. reads_emsg_version (number B 8 1) B (size_emsg v)) tt o (ap (λ (r : Reading (Unit {0})). r.outcome) (fields-joined cs tail 8 4 (lit≤ tt)))
     (ap (λ (version : ℕ). (reads_emsg_version version B (size_emsg v)).outcome) (number-joined cs tail 8 1 w.fit) ∙ later)
 
-back_by : (v : EmsgBox) (rest : List ℕ) (start : ℕ) (b : Bool) → (v.version == 0) ≡ b → WritableEmsg v → (reads_emsg (bytes_emsg v ++ rest) start (size_emsg v)).outcome ≡ Ok (normal_emsg v)
-unfolding bytes_emsg
-back_by v rest start true e w =
-    let J = joined (columns_emsg v) in
-    let T = texts_emsg v in
-    let N = joined (numbers_emsg_0 v) in
-    let m = v.message_data in
-    let B = J ++ (T ++ (N ++ (m ++ rest))) in
-    let is : bytes_emsg v ≡ J ++ ((T ++ N) ++ m) = ap (λ (b : Bool). J ++ (cond b (T ++ N) (joined (numbers_emsg_1 v) ++ T) ++ m)) e in
-    let regroup : (J ++ ((T ++ N) ++ m)) ++ rest ≡ B = simp append_assoc in
-    ap (λ (l : List ℕ). (reads_emsg (l ++ rest) start (size_emsg v)).outcome) is
-    ∙ ap (λ (l : List ℕ). (reads_emsg l start (size_emsg v)).outcome) regroup
-    ∙ begun v (T ++ (N ++ (m ++ rest))) start (Ok (normal_emsg_0 v)) w (ap (λ (b : Bool). (cond b (reads_emsg_0 B (size_emsg v)) (cond (v.version == 1) (reads_emsg_1 B (size_emsg v)) (faults Invalid))).outcome) e ∙ back_0 v rest w e)
-    ∙ ap (λ (b : Bool). Ok (cond b (normal_emsg_0 v) (normal_emsg_1 v))) (sym e)
-back_by v rest start false e w =
-    let J = joined (columns_emsg v) in
-    let T = texts_emsg v in
-    let N = joined (numbers_emsg_1 v) in
-    let m = v.message_data in
-    let B = J ++ (N ++ (T ++ (m ++ rest))) in
-    let is : bytes_emsg v ≡ J ++ ((N ++ T) ++ m) = ap (λ (b : Bool). J ++ (cond b (T ++ joined (numbers_emsg_0 v)) (N ++ T) ++ m)) e in
-    let regroup : (J ++ ((N ++ T) ++ m)) ++ rest ≡ B = simp append_assoc in
-    let one : (v.version == 1) ≡ true = and_first (v.version == 1) (is_some v.presentation_time) (time_1 v e w.time) in
-    ap (λ (l : List ℕ). (reads_emsg (l ++ rest) start (size_emsg v)).outcome) is
-    ∙ ap (λ (l : List ℕ). (reads_emsg l start (size_emsg v)).outcome) regroup
-    ∙ begun v (N ++ (T ++ (m ++ rest))) start (Ok (normal_emsg_1 v)) w (ap (λ (b : Bool). (cond b (reads_emsg_0 B (size_emsg v)) (cond (v.version == 1) (reads_emsg_1 B (size_emsg v)) (faults Invalid))).outcome) e ∙ ap (λ (b : Bool). (cond b (reads_emsg_1 B (size_emsg v)) (faults Invalid)).outcome) one ∙ back_1 v rest w e)
-    ∙ ap (λ (b : Bool). Ok (cond b (normal_emsg_0 v) (normal_emsg_1 v))) (sym e)
+-- what the version puts behind version and flags
+by_version : (v : EmsgBox) (rest : List ℕ) (b : Bool) → (v.version == 0) ≡ b → WritableEmsg v
+    → (let B = joined (columns_emsg v) ++ (cond b (texts_emsg v ++ joined (numbers_emsg_0 v)) (joined (numbers_emsg_1 v) ++ texts_emsg v) ++ (v.message_data ++ rest)) in
+    (cond b (reads_emsg_0 B (size_emsg v)) (cond (v.version == 1) (reads_emsg_1 B (size_emsg v)) (faults Invalid))).outcome ≡ Ok (cond b (normal_emsg_0 v) (normal_emsg_1 v)))
+by_version v rest true e w =
+    ap (λ (l : List ℕ). (reads_emsg_0 (joined (columns_emsg v) ++ l) (size_emsg v)).outcome) (append_assoc (texts_emsg v) (joined (numbers_emsg_0 v)) (v.message_data ++ rest))
+    ∙ back_0 v rest w e
+by_version v rest false e w =
+    let one : (v.version == 1) ≡ true = (and_parts (v.version == 1) (is_some v.presentation_time) (time_is v false e w)).0 in
+    rw one (ap (λ (l : List ℕ). (reads_emsg_1 (joined (columns_emsg v) ++ l) (size_emsg v)).outcome) (append_assoc (joined (numbers_emsg_1 v)) (texts_emsg v) (v.message_data ++ rest))
+    ∙ back_1 v rest w e)
 
 pub read_back_emsg : (v : EmsgBox) → WritableEmsg v → RowReadsBack reads_emsg (bytes_emsg v) (size_emsg v) (normal_emsg v)
-read_back_emsg v w rest start top = back_by v rest start (v.version == 0) refl w
+unfolding bytes_emsg
+read_back_emsg v w rest start top =
+    let J = joined (columns_emsg v) in
+    let m = v.message_data in
+    let grouped : (J ++ (middle_emsg v ++ m)) ++ rest ≡ J ++ (middle_emsg v ++ (m ++ rest)) = append_assoc J (middle_emsg v ++ m) rest ∙ ap (λ (l : List ℕ). J ++ l) (append_assoc (middle_emsg v) m rest) in
+    ap (λ (l : List ℕ). (reads_emsg l start (size_emsg v)).outcome) grouped
+    ∙ begun v (middle_emsg v ++ (m ++ rest)) start (Ok (normal_emsg v)) w (by_version v rest (v.version == 0) refl w)
 
 -- what is read is its own normal form, and writable unless it is too long
 abbrev IsSound : EmsgBox → Type 0
@@ -223,9 +202,9 @@ sound_0 bytes long v are zero_is e =
     let texts = texts_are bytes 12 p.0 p.1 in
     let made : EmsgBox = value_emsg_0 (number bytes) (number D) p.0 q.0 in
     let can : size_emsg made < 2 ^ 32 → WritableEmsg made = λ small. record {
-      fit = (small, (lit< tt, (number-below bytes 8 1 are, (number-below bytes 9 3 are, tt))));
-      fit_0 = (number-below D 0 4 are_D, (number-below D 4 4 are_D, (number-below D 8 4 are_D, (number-below D 12 4 are_D, tt))));
-      fit_1 = (number-below D 0 4 are_D, (lit< tt, (number-below D 8 4 are_D, (number-below D 12 4 are_D, tt))));
+      fit = (small, (lit< tt, fits_read bytes are (Number 8 1 ∷ Number 9 3 ∷ [])));
+      fit_0 = fits_read D are_D (Number 0 4 ∷ Number 4 4 ∷ Number 8 4 ∷ Number 12 4 ∷ []);
+      fit_1 = fits_read D are_D (Number 0 4 ∷ Fitting 8 0 (lit< tt) ∷ Number 8 4 ∷ Number 12 4 ∷ []);
       time = ap (λ (b : Bool). cond b true ((number bytes 8 1 == 1) && false)) zero_is;
       scheme = texts.0;
       value = texts.1;
@@ -243,9 +222,9 @@ sound_1 bytes long v are other one_is e =
     let texts = texts_are bytes 32 p.0 p.1 in
     let made : EmsgBox = value_emsg_1 (number bytes) (number D) p.0 q.0 in
     let can : size_emsg made < 2 ^ 32 → WritableEmsg made = λ small. record {
-      fit = (small, (lit< tt, (number-below bytes 8 1 are, (number-below bytes 9 3 are, tt))));
-      fit_0 = (number-below D 0 4 are_D, (lit< tt, (number-below D 12 4 are_D, (number-below D 16 4 are_D, tt))));
-      fit_1 = (number-below D 0 4 are_D, (number-below D 4 8 are_D, (number-below D 12 4 are_D, (number-below D 16 4 are_D, tt))));
+      fit = (small, (lit< tt, fits_read bytes are (Number 8 1 ∷ Number 9 3 ∷ [])));
+      fit_0 = fits_read D are_D (Number 0 4 ∷ Fitting 4 0 (lit< tt) ∷ Number 12 4 ∷ Number 16 4 ∷ []);
+      fit_1 = fits_read D are_D (Number 0 4 ∷ Number 4 8 ∷ Number 12 4 ∷ Number 16 4 ∷ []);
       time = ap (λ (b : Bool). cond b false ((number bytes 8 1 == 1) && true)) other ∙ ap (λ (b : Bool). b && true) one_is;
       scheme = texts.0;
       value = texts.1;

@@ -5,13 +5,14 @@ use Rattle.std.proofs.lemmas.Str.{IsUtf8-from_ascii}
 use Rattle.std.specs.Prelude.{nat_le, codes, slice_index}
 use Rattle.std.specs.Str.{IsUtf8}
 use Rattle.mp4_frame.specs.Bytes.{number, joined}
+use Rattle.mp4_frame.specs.FourCC.{number_of}
 use Rattle.mp4_frame.specs.Laws.{Framed, RowReadsBack, RowIsSound}
 use Rattle.mp4_frame.specs.Reading.{◌>>=◌, test, piece_from, memory, done}
 use Rattle.mp4_frame.specs.declared.box_type.BoxType.TheVariants as names
 use Rattle.mp4_frame.specs.declared.four_cc.FourCC.{FourCC}
-use Rattle.mp4_frame.proofs.Framing.{framed_front}
+use Rattle.mp4_frame.proofs.Framing.{framed_front, fits_read, Number, Fitting}
 use Rattle.mp4_frame.proofs.Codes.{four_cc_back, four_cc_is, small_code}
-use Rattle.mp4_frame.proofs.Columns.{numbers-joined, fields-joined, length-joined, number-below}
+use Rattle.mp4_frame.proofs.Columns.{numbers-joined, fields-joined, length-joined}
 use Rattle.mp4_frame.proofs.Stands.{fields_ok, test_ok, is_value, piece_back}
 use Rattle.mp4_frame.proofs.Tables.{value_first}
 use Rattle.mp4_text.specs.Terminated.{terminated}
@@ -60,5 +61,5 @@ sound_hdlr bytes start long v are e = (refl, by)
         let p = value_first (piece_from bytes 32 (long - 33)) last v b.1 in
         let made : HdlrBox = value_hdlr (number bytes) (text_or (codes "null") p.0) in
         let handler = four_cc_is (number bytes 16 4) in
-        let can : size_hdlr made < 2 ^ 32 → WritableHdlr made = λ small. record { fit = (small, (lit< tt, (number-below bytes 8 1 are, (number-below bytes 9 3 are, (lit< tt, (small_code made.handler_type handler, (lit< tt, tt))))))); handler = handler; text = IsUtf8-text_or (codes "null") p.0 null_is_text } in
+        let can : size_hdlr made < 2 ^ 32 → WritableHdlr made = λ small. record { fit = (small, (lit< tt, fits_read bytes are (Number 8 1 ∷ Number 9 3 ∷ Fitting 4 0 (lit< tt) ∷ Fitting 4 (number_of made.handler_type) (small_code made.handler_type handler) ∷ Fitting 12 0 (lit< tt) ∷ []))); handler = handler; text = IsUtf8-text_or (codes "null") p.0 null_is_text } in
         subst (λ (w : HdlrBox). size_hdlr w < 2 ^ 32 → WritableHdlr w) (is_value made v p.2) can
