@@ -5,19 +5,8 @@
 use Rattle.std.specs.Prelude.{◌≡◌, ℕ, ◌+◌, ◌-◌, ◌==◌, ◌&&◌, nat_le, Bool, true, List, [], ◌∷◌, ◌++◌, length, drop, Some, None, is_some, unwrap_or, if◌then◌else◌}
 use Rattle.mp4_frame.specs.Bytes.{number, joined, Fit, full_box}
 use Rattle.mp4_frame.specs.Reading.{Reading, Invalid, ◌>>=◌, fields, test, piece_from, memory, done, faults}
-use Rattle.mp4_text.specs.Terminated.{terminated_text, terminated, IsTerminable}
+use Rattle.mp4_text.specs.Terminated.{two_texts, behind, terminated, IsTerminable}
 use Rattle.mp4_text.specs.declared.emsg.EmsgBox.{EmsgBox}
-
--- two texts, one behind the other
-unfoldable pub two_texts : List ℕ → ℕ → Reading (List ℕ × List ℕ)
-two_texts bytes o = do
-  first ← terminated_text bytes o
-  second ← terminated_text bytes (o + length first + 1)
-  done (first, second)
-
--- the place behind two texts from o on
-abbrev pub behind : ℕ → List ℕ × List ℕ → ℕ
-behind o texts = o + length texts.0 + length texts.1 + 2
 
 -- the message from o on, in a box of this size
 unfoldable pub message_from : List ℕ → ℕ → ℕ → Reading (List ℕ)

@@ -12,9 +12,9 @@ use Rattle.mp4_frame.proofs.Columns.{found, numbers-joined, fields-joined, lengt
 use Rattle.mp4_frame.proofs.Decided.{outcome_bind}
 use Rattle.mp4_frame.proofs.Stands.{fields_stand, fields_ok, is_value, are_bytes-drop, piece_back}
 use Rattle.mp4_frame.proofs.Tables.{value_first}
-use Rattle.mp4_text.specs.Emsg.{two_texts, behind, message_from, value_emsg_0, value_emsg_1, reads_emsg_0, reads_emsg_1, reads_emsg_version, reads_emsg, size_middle, size_emsg, columns_emsg, numbers_emsg_0, numbers_emsg_1, texts_emsg, middle_emsg, WritableEmsg, bytes_emsg, normal_emsg}
-use Rattle.mp4_text.specs.Terminated.{terminated_text, terminated, IsTerminable}
-use Rattle.mp4_text.specs.TerminatedLaws.{taken, text_back, text_is}
+use Rattle.mp4_text.specs.Emsg.{message_from, value_emsg_0, value_emsg_1, reads_emsg_0, reads_emsg_1, reads_emsg_version, reads_emsg, size_middle, size_emsg, columns_emsg, numbers_emsg_0, numbers_emsg_1, texts_emsg, middle_emsg, WritableEmsg, bytes_emsg, normal_emsg}
+use Rattle.mp4_text.specs.Terminated.{two_texts, behind, terminated}
+use Rattle.mp4_text.specs.TerminatedLaws.{taken, two_back, texts_are}
 use Rattle.mp4_text.specs.declared.emsg.EmsgBox.{EmsgBox}
 
 length_texts : (v : EmsgBox) → length (texts_emsg v) ≡ length v.scheme_id_uri + length v.value + 2
@@ -43,11 +43,14 @@ time_is v b e w = sym (ap (λ (b : Bool). cond b (is_some v.presentation_time_de
 is_normal : (v n : EmsgBox) → normal_emsg v ≡ n → WritableEmsg n → normal_emsg n ≡ n → bytes_emsg n ≡ bytes_emsg v → Normal WritableEmsg bytes_emsg normal_emsg v
 is_normal v n is w again same = record { writable = subst WritableEmsg (sym is) w; again = ap normal_emsg is ∙ again ∙ sym is; same_bytes = ap bytes_emsg is ∙ same }
 
+-- the bytes by the version, with the time of each version from a value of its own
+abbrev written : EmsgBox → EmsgBox → EmsgBox → Bool → List ℕ
+written v v0 v1 b = joined (columns_emsg v) ++ (cond b (texts_emsg v ++ joined (numbers_emsg_0 v0)) (joined (numbers_emsg_1 v1) ++ texts_emsg v) ++ v.message_data)
+
 normal_by : (v : EmsgBox) (b : Bool) → (v.version == 0) ≡ b → WritableEmsg v → Normal WritableEmsg bytes_emsg normal_emsg v
 unfolding bytes_emsg
 normal_by v true e w =
     let n = normal_emsg_0 v in
-    let written = λ (m : EmsgBox) (b : Bool). joined (columns_emsg v) ++ (cond b (texts_emsg v ++ joined (numbers_emsg_0 v)) (joined (numbers_emsg_1 m) ++ texts_emsg v) ++ v.message_data) in
     is_normal v n (ap (λ (b : Bool). cond b (normal_emsg_0 v) (normal_emsg_1 v)) e)
     (record {
       fit = w.fit;
@@ -58,10 +61,9 @@ normal_by v true e w =
       value = w.value;
     })
     (ap (λ (b : Bool). cond b n (normal_emsg_1 n)) e)
-    (ap (written n) e ∙ sym (ap (written v) e))
+    (ap (written v v n) e ∙ sym (ap (written v v v) e))
 normal_by v false e w =
     let n = normal_emsg_1 v in
-    let written = λ (m : EmsgBox) (b : Bool). joined (columns_emsg v) ++ (cond b (texts_emsg v ++ joined (numbers_emsg_0 m)) (joined (numbers_emsg_1 v) ++ texts_emsg v) ++ v.message_data) in
     is_normal v n (ap (λ (b : Bool). cond b (normal_emsg_0 v) (normal_emsg_1 v)) e)
     (record {
       fit = w.fit;
@@ -72,30 +74,10 @@ normal_by v false e w =
       value = w.value;
     })
     (ap (λ (b : Bool). cond b (normal_emsg_0 n) n) e)
-    (ap (written n) e ∙ sym (ap (written v) e))
+    (ap (written v n v) e ∙ sym (ap (written v v v) e))
 
 pub normal_form_emsg : (v : EmsgBox) → WritableEmsg v → Normal WritableEmsg bytes_emsg normal_emsg v
 normal_form_emsg v w = normal_by v (v.version == 0) refl w
-
--- two texts are read back
-two_back : (x s t y : List ℕ) (o : ℕ) → length x ≡ o → IsTerminable s → IsTerminable t → two_texts (x ++ ((terminated s ++ terminated t) ++ y)) o ≡ taken (s, t)
-unfolding two_texts
-two_back x s t y o at is it =
-    let B = x ++ ((terminated s ++ terminated t) ++ y) in
-    let here : B ≡ x ++ (s ++ 0 ∷ (terminated t ++ y)) = simp append_assoc in
-    let there : B ≡ (x ++ terminated s) ++ (t ++ 0 ∷ y) = simp append_assoc in
-    let next : length (x ++ terminated s) ≡ o + length s + 1 = omega (arith, length-append x (terminated s), length-append s (0 ∷ []), at) in
-    let first : terminated_text B o ≡ taken s = ap (λ (l : List ℕ). terminated_text l o) here ∙ text_back x s (terminated t ++ y) o at is in
-    let second : terminated_text B (o + length s + 1) ≡ taken t = ap (λ (l : List ℕ). terminated_text l (o + length s + 1)) there ∙ text_back (x ++ terminated s) t y (o + length s + 1) next it in
-    rw (first, second) refl
-
-texts_are : (bytes : List ℕ) (o : ℕ) (texts : List ℕ × List ℕ) → (two_texts bytes o).outcome ≡ Ok texts → IsTerminable texts.0 × IsTerminable texts.1
-unfolding two_texts
-texts_are bytes o texts e =
-    let p = value_first (terminated_text bytes o) (λ first. terminated_text bytes (o + length first + 1) >>= λ second. done (first, second)) texts e in
-    let q = value_first (terminated_text bytes (o + length p.0 + 1)) (λ second. done (p.0, second)) texts p.2 in
-    let is : (p.0, q.0) ≡ texts = is_value (p.0, q.0) texts q.2 in
-    subst (λ (ts : List ℕ × List ℕ). IsTerminable ts.0 × IsTerminable ts.1) is (text_is bytes o p.0 p.1, text_is bytes (o + length p.0 + 1) q.0 q.1)
 
 -- a message up to the end is read back
 message_back : (x message y : List ℕ) (size o : ℕ) → length x ≡ o → size ≡ o + length message → message_from (x ++ (message ++ y)) size o ≡ taken message
@@ -124,7 +106,7 @@ back_0 v rest w e =
     let behind_numbers : length (front ++ joined ns) ≡ at + 16 = omega (arith, length-append front (joined ns), length-joined ns, long) in
     let split : B ≡ front ++ (joined ns ++ tail) = simp append_assoc in
     let split_more : B ≡ (front ++ joined ns) ++ (v.message_data ++ rest) = simp append_assoc in
-    let size : size_emsg v ≡ at + 16 + length v.message_data = ap (λ (b : Bool). 12 + (cond b 18 22 + length v.scheme_id_uri + length v.value) + length v.message_data) e ∙ (let n : 12 + (18 + length v.scheme_id_uri + length v.value) + length v.message_data ≡ at + 16 + length v.message_data = omega arith in n) in
+    let size : size_emsg v ≡ at + 16 + length v.message_data = omega (arith, ap {B = ℕ} (λ (b : Bool). cond b 18 22) e) in
     let two : two_texts B 12 ≡ taken texts = two_back (joined cs) v.scheme_id_uri v.value (joined ns ++ tail) 12 (length-joined cs) w.scheme w.value in
     let stands : fields B at 16 ≡ done tt = fields_stand B at 16 (omega (arith, ap length split_more, length-append (front ++ joined ns) (v.message_data ++ rest), behind_numbers)) in
     let message : message_from B (size_emsg v) (at + 16) ≡ taken v.message_data = ap (λ (l : List ℕ). message_from l (size_emsg v) (at + 16)) split_more ∙ message_back (front ++ joined ns) v.message_data rest (size_emsg v) (at + 16) behind_numbers size in
@@ -147,7 +129,7 @@ back_1 v rest w e =
     let behind_texts : length (front ++ texts_emsg v) ≡ at = omega (arith, length-append front (texts_emsg v), length_texts v, long) in
     let split : B ≡ front ++ (texts_emsg v ++ (v.message_data ++ rest)) = simp append_assoc in
     let split_more : B ≡ (front ++ texts_emsg v) ++ (v.message_data ++ rest) = simp append_assoc in
-    let size : size_emsg v ≡ at + length v.message_data = ap (λ (b : Bool). 12 + (cond b 18 22 + length v.scheme_id_uri + length v.value) + length v.message_data) e ∙ (let n : 12 + (22 + length v.scheme_id_uri + length v.value) + length v.message_data ≡ at + length v.message_data = omega arith in n) in
+    let size : size_emsg v ≡ at + length v.message_data = omega (arith, ap {B = ℕ} (λ (b : Bool). cond b 18 22) e) in
     let stands : fields B 12 20 ≡ done tt = fields_stand B 12 20 (omega (arith, ap length split_more, length-append (front ++ texts_emsg v) (v.message_data ++ rest), behind_texts)) in
     let two : two_texts B 32 ≡ taken texts = ap (λ (l : List ℕ). two_texts l 32) split ∙ two_back front v.scheme_id_uri v.value (v.message_data ++ rest) 32 long w.scheme w.value in
     let message : message_from B (size_emsg v) at ≡ taken v.message_data = ap (λ (l : List ℕ). message_from l (size_emsg v) at) split_more ∙ message_back (front ++ texts_emsg v) v.message_data rest (size_emsg v) at behind_texts size in

@@ -25,6 +25,17 @@ terminated_text bytes o = do
   _ ← memory
   done text
 
+-- two texts, one behind the other
+unfoldable pub two_texts : List ℕ → ℕ → Reading (List ℕ × List ℕ)
+two_texts bytes o = do
+  first ← terminated_text bytes o
+  second ← terminated_text bytes (o + length first + 1)
+  done (first, second)
+
+-- the place behind two texts from o on
+abbrev pub behind : ℕ → List ℕ × List ℕ → ℕ
+behind o texts = o + length texts.0 + length texts.1 + 2
+
 -- a text as it is written
 abbrev pub terminated : List ℕ → List ℕ
 terminated text = text ++ 0 ∷ []

@@ -1,5 +1,5 @@
 -- A text that was written with its zero byte is read back, and what is read can be written so.
-use Rattle.std.proofs.Common.{◌≡◌, ℕ, suc, ◌+◌, ◌≤◌, Bool, true, false, cond, ◌||◌, List, [], ◌∷◌, ◌++◌, length, take, drop, Ok, refl, ap, ◌∙◌, arith, length-append}
+use Rattle.std.proofs.Common.{◌≡◌, ℕ, suc, ◌+◌, ◌≤◌, Bool, true, false, cond, ◌||◌, List, [], ◌∷◌, ◌++◌, length, take, drop, Ok, refl, ap, subst, ◌∙◌, arith, length-append, append_assoc}
 use Rattle.std.proofs.lemmas.Bool.{or_parts}
 use Rattle.std.proofs.lemmas.List.{drop_at, take_at}
 use Rattle.std.proofs.lemmas.Str.{IsUtf8-from_is_utf8}
@@ -10,7 +10,7 @@ use Rattle.mp4_frame.specs.Reading.{Reading, ◌>>=◌, fields, memory, done}
 use Rattle.mp4_frame.proofs.Stands.{fields_stand, fields_ok, test_ok, is_value}
 use Rattle.mp4_frame.proofs.Tables.{value_first}
 use Rattle.mp4_frame.specs.TextLaws.{utf8_passes}
-use Rattle.mp4_text.specs.Terminated.{is_zero, before_zero, utf8_text, terminated_text, IsTerminable}
+use Rattle.mp4_text.specs.Terminated.{is_zero, before_zero, utf8_text, terminated_text, two_texts, terminated, IsTerminable}
 
 -- a value for which memory was asked
 abbrev pub taken : {A : Type 0} → A → Reading A
@@ -34,6 +34,18 @@ text_back x text y o at is =
     ap (λ (l : List ℕ). fields B o (length l + 1) >>= λ _. utf8_text l >>= λ text. memory >>= λ _. done text) t
     ∙ rw (fields_stand B o (length text + 1) room, utf8_passes text is.utf8) refl
 
+-- two texts are read back
+pub two_back : (x s t y : List ℕ) (o : ℕ) → length x ≡ o → IsTerminable s → IsTerminable t → two_texts (x ++ ((terminated s ++ terminated t) ++ y)) o ≡ taken (s, t)
+unfolding two_texts
+two_back x s t y o at is it =
+    let B = x ++ ((terminated s ++ terminated t) ++ y) in
+    let here : B ≡ x ++ (s ++ 0 ∷ (terminated t ++ y)) = simp append_assoc in
+    let there : B ≡ (x ++ terminated s) ++ (t ++ 0 ∷ y) = simp append_assoc in
+    let next : length (x ++ terminated s) ≡ o + length s + 1 = omega (arith, length-append x (terminated s), length-append s (0 ∷ []), at) in
+    let first : terminated_text B o ≡ taken s = ap (λ (l : List ℕ). terminated_text l o) here ∙ text_back x s (terminated t ++ y) o at is in
+    let second : terminated_text B (o + length s + 1) ≡ taken t = ap (λ (l : List ℕ). terminated_text l (o + length s + 1)) there ∙ text_back (x ++ terminated s) t y (o + length s + 1) next it in
+    rw (first, second) refl
+
 none_by : (b n : ℕ) (xs : List ℕ) (z : Bool) → is_zero b ≡ z → list_any is_zero (take n xs) ≡ false → list_any is_zero (take (cond (not z) (1 + n) 0) (b ∷ xs)) ≡ false
 none_by b n xs true e later = refl
 none_by b n xs false e later =
@@ -53,3 +65,11 @@ text_is bytes o text e =
     let t = test_ok (is_utf8 z) (λ _. done z) p.0 p.1 in
     let same : z ≡ text = is_value z p.0 t.1 ∙ is_value p.0 text p.2 in
     rw (← same) (record { utf8 = IsUtf8-from_is_utf8 z t.0; no_zero = none_before (drop o bytes) })
+
+pub texts_are : (bytes : List ℕ) (o : ℕ) (texts : List ℕ × List ℕ) → (two_texts bytes o).outcome ≡ Ok texts → IsTerminable texts.0 × IsTerminable texts.1
+unfolding two_texts
+texts_are bytes o texts e =
+    let p = value_first (terminated_text bytes o) (λ first. terminated_text bytes (o + length first + 1) >>= λ second. done (first, second)) texts e in
+    let q = value_first (terminated_text bytes (o + length p.0 + 1)) (λ second. done (p.0, second)) texts p.2 in
+    let is : (p.0, q.0) ≡ texts = is_value (p.0, q.0) texts q.2 in
+    subst (λ (ts : List ℕ × List ℕ). IsTerminable ts.0 × IsTerminable ts.1) is (text_is bytes o p.0 p.1, text_is bytes (o + length p.0 + 1) q.0 q.1)

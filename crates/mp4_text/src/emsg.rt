@@ -4,10 +4,10 @@ ghost use Rattle.std.specs.Prelude.{◌≡◌, ◌↔◌, ◌+◌, ◌-◌, ◌�
 ghost use Rattle.mp4_frame.specs.Bytes.{joined};
 ghost use Rattle.mp4_frame.specs.Reading.{Answers};
 ghost use Rattle.mp4_frame.specs.declared.box_type.BoxType.TheVariants as names;
-ghost use Rattle.mp4_text.specs.Emsg.{two_texts, behind, message_from, reads_emsg_0, reads_emsg_1, reads_emsg, size_middle, size_emsg, texts_emsg, middle_emsg, WritableEmsg, bytes_emsg, normal_emsg};
+ghost use Rattle.mp4_text.specs.Emsg.{message_from, reads_emsg_0, reads_emsg_1, reads_emsg, size_middle, size_emsg, texts_emsg, middle_emsg, WritableEmsg, bytes_emsg, normal_emsg};
 ghost use Rattle.mp4_text.specs.EmsgLaws.{framed_emsg, normal_form_emsg, read_back_emsg, sound_emsg};
 
-use crate::terminated::{is_terminable, put_terminated, terminated_text_at};
+use crate::terminated::{is_terminable, put_terminated, two_texts_at};
 use mp4_frame::{
     BoxLaws, BoxType, Entries, Error, Mp4Box, ReadBox, Result, Text, WriteBox, bytes_from, fields,
     piece_at, put_bytes, put_full_box, put_u32, put_u64, test, u8_at, u24_at, u32_at, u64_at,
@@ -95,17 +95,6 @@ impl Mp4Box for EmsgBox {
             .saturating_add(self.value.len() as u64)
             .saturating_add(self.message_data.len() as u64)
     }
-}
-
-/// Reads two texts, one behind the other.
-#[tactic(auto, unfolding(crate::specs::Emsg::two_texts))]
-fn two_texts_at(alloc: Global, bytes: &[u8], at: usize) -> Result<(Text, Text)>
-    ensures texts { Answers result (two_texts bytes.now at) }
-    ensures room { IfOk result (λ texts. behind at texts ≤ length bytes.now) }
-{
-    let first = terminated_text_at(alloc, bytes, at)?;
-    let second = terminated_text_at(alloc, bytes, at + first.len() + 1)?;
-    Ok((first, second))
 }
 
 /// Reads the message from a place on, in a box of this size.

@@ -2,7 +2,7 @@
 
 ghost use Rattle.std.specs.Prelude.{◌≡◌, ◌↔◌, ◌≤◌, ◌+◌, ◌++◌, IfOk, IsTrue, length, position, take};
 ghost use Rattle.mp4_frame.specs.Reading.{Answers, AnswersAs};
-ghost use Rattle.mp4_text.specs.Terminated.{is_zero, before_zero, utf8_text, terminated_text, terminated, IsTerminable};
+ghost use Rattle.mp4_text.specs.Terminated.{is_zero, before_zero, utf8_text, terminated_text, two_texts, behind, terminated, IsTerminable};
 
 use mp4_frame::{Error, Result, Text, fields, put_bytes, put_u8};
 use std::alloc::Global;
@@ -40,13 +40,24 @@ fn utf8_text(bytes: &[u8]) -> Result<&str>
 
 /// Reads the text from a place up to the first zero byte.
 #[tactic(auto, unfolding(crate::specs::Terminated::terminated_text))]
-pub(crate) fn terminated_text_at(alloc: Global, bytes: &[u8], at: usize) -> Result<Text>
+fn terminated_text_at(alloc: Global, bytes: &[u8], at: usize) -> Result<Text>
     ensures text { Answers result (terminated_text bytes.now at) }
     ensures room { IfOk result (λ text. at + length text + 1 ≤ length bytes.now) }
 {
     let text = before_zero(bytes, at);
     fields(bytes, at, text.len() + 1)?;
     Text::from_str(alloc, utf8_text(text)?)
+}
+
+/// Reads two texts, one behind the other.
+#[tactic(auto, unfolding(crate::specs::Terminated::two_texts))]
+pub(crate) fn two_texts_at(alloc: Global, bytes: &[u8], at: usize) -> Result<(Text, Text)>
+    ensures texts { Answers result (two_texts bytes.now at) }
+    ensures room { IfOk result (λ texts. behind at texts ≤ length bytes.now) }
+{
+    let first = terminated_text_at(alloc, bytes, at)?;
+    let second = terminated_text_at(alloc, bytes, at + first.len() + 1)?;
+    Ok((first, second))
 }
 
 /// A text that a zero byte can end: none is inside it.
