@@ -1,14 +1,17 @@
 -- Rows of samples, one after the other, and rows of no bytes.
-use Rattle.std.proofs.Common.{◌≡◌, ℕ, zero, suc, ◌+◌, ◌*◌, ◌-◌, ◌<◌, ◌≤◌, Bool, true, false, leb, List, [], ◌∷◌, ◌++◌, length, take, Ok, refl, sym, ap, ◌∙◌, arith}
+use Rattle.std.proofs.Common.{◌≡◌, ℕ, zero, suc, ◌+◌, ◌*◌, ◌-◌, ◌<◌, ◌≤◌, Bool, true, false, leb, List, [], ◌∷◌, ◌++◌, length, get_or, map, take, Ok, refl, sym, ap, ◌∙◌, arith}
+use Rattle.std.specs.Prelude.{slice_get}
 use Rattle.std.specs.List.{flat_map, range_with_len}
 use Rattle.std.proofs.lemmas.Bool.{le-leb}
+use Rattle.std.proofs.lemmas.Option.{slice_get-get_or}
 use Rattle.std.proofs.Math.Nat.{mul-le-mul_left}
-use Rattle.std.proofs.lemmas.List.{append-nil, append_assoc, take_all}
+use Rattle.std.proofs.lemmas.List.{append-nil, append_assoc, map-append, take_all}
+use Rattle.mp4_frame.specs.Bytes.{number, column}
 use Rattle.mp4_frame.specs.Reading.{memory, done, ◌>>=◌}
 use Rattle.mp4_frame.specs.Tables.{rows, rows_from}
-use Rattle.mp4_tables.specs.Flagged.{is_set, width_if}
+use Rattle.mp4_tables.specs.Flagged.{is_set, width_if, optional}
 use Rattle.mp4_tables.specs.Rows.{rows_within}
-use Rattle.mp4_tables.specs.TrunLists.{size_in_row, flags_in_row, cts_in_row, row_length, column_if, lists_of, reads_lists}
+use Rattle.mp4_tables.specs.TrunLists.{size_in_row, flags_in_row, cts_in_row, row_length, column_if, lists_of, reads_lists, IsListed, HasAt}
 use Rattle.mp4_tables.specs.Trun.{ListedTrun, row_trun, rows_trun}
 use Rattle.mp4_tables.specs.TrunLaws.{length_rows}
 use Rattle.mp4_tables.specs.declared.trun.TrunBox.{TrunBox}
@@ -31,6 +34,28 @@ rows_more v i =
 nothing : (xs : List ℕ) → length xs ≡ 0 → xs ≡ []
 nothing [] h = refl
 nothing (x ∷ xs) h = absurd (omega arith)
+
+-- a number of a list that is there, and one of none
+pub number_put : (xs : List ℕ) (i d : ℕ) → i < length xs → optional 4 (slice_get xs i) ≡ column 4 (get_or xs i d)
+unfolding optional
+number_put xs i d lt = rw (slice_get-get_or xs i d lt) refl
+
+pub nothing_put_at : (b : Bool) (i : ℕ) (xs front : List ℕ) → b ≡ false → HasAt b i xs → front ≡ front ++ optional 4 (slice_get xs i)
+unfolding optional
+nothing_put_at true i xs front is has = absurd cc
+nothing_put_at false i [] front is has = sym (append-nil front)
+nothing_put_at false i (x ∷ xs) front is has = absurd (omega arith)
+
+pub has_at : (d b : Bool) (count i : ℕ) (xs : List ℕ) → d ≡ b → IsListed b count xs → i < count → HasAt d i xs
+has_at d true count i xs is h lt = rw is (omega (arith, h.long))
+has_at d false count i xs is h lt = rw is h.long
+
+-- one more row, number by number
+pub row_put : (v : TrunBox) (i : ℕ) (front : List ℕ)
+    → front ++ rows_trun v i ++ optional 4 (slice_get v.sample_durations i) ++ optional 4 (slice_get v.sample_sizes i) ++ optional 4 (slice_get v.sample_flags i) ++ optional 4 (slice_get v.sample_cts i)
+    ≡ front ++ rows_trun v (i + 1)
+unfolding row_trun
+row_put v i front = rw (rows_more v i) (simp append_assoc)
 
 -- rows of no bytes
 pub no_rows : (v : TrunBox) → ListedTrun v → row_length v.flags ≡ 0 → rows_trun v v.sample_count ≡ []
@@ -105,3 +130,18 @@ no_lists bytes size flags o count n4 n8 n12 n16 =
     let dd = unset (is_set flags 0x800) (cts_in_row flags) found (omega (arith, none)) in
     ap (λ (k : ℕ). (rows_within bytes size o k count >>= λ rows. memory >>= λ _. done (lists_of flags rows)).outcome) none
     ∙ (rw (empty_rows bytes size o count, da, db, dc, dd) refl)
+
+-- numbers in front that grow by those of a part of the rows
+pub column_moves : (b : Bool) (o : ℕ) (part behind rest : List (List ℕ)) (front all : List ℕ) → rest ≡ part ++ behind → front ++ column_if b o rest ≡ all → front ++ column_if b o part ++ column_if b o behind ≡ all
+unfolding column_if
+column_moves true o part behind rest front all is h =
+    append_assoc front (map (λ row. number row o 4) part) (map (λ row. number row o 4) behind)
+    ∙ ap (λ (l : List ℕ). front ++ l) (sym (map-append (λ row. number row o 4) part behind) ∙ ap (λ (l : List (List ℕ)). map (λ row. number row o 4) l) (sym is)) ∙ h
+column_moves false o part behind rest front all is h = append-nil (front ++ []) ∙ h
+
+-- numbers in front of those of no rows
+pub column_ends : (b : Bool) (o : ℕ) (rest : List (List ℕ)) (front all : List ℕ) → length rest ≡ 0 → front ++ column_if b o rest ≡ all → front ≡ all
+unfolding column_if
+column_ends true o [] front all none h = sym (append-nil front) ∙ h
+column_ends true o (row ∷ rest) front all none h = absurd (omega arith)
+column_ends false o rest front all none h = sym (append-nil front) ∙ h

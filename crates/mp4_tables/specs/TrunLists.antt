@@ -1,5 +1,5 @@
 -- The lists of a trun box: from a row for each sample, the numbers that its flags announce.
-use Rattle.std.specs.Prelude.{◌≡◌, ℕ, ◌+◌, ◌<◌, ◌^◌, Bool, List, [], All, length, map, if◌then◌else◌}
+use Rattle.std.specs.Prelude.{◌≡◌, ℕ, ◌+◌, ◌<◌, ◌^◌, Bool, true, false, List, [], All, length, map, if◌then◌else◌}
 use Rattle.mp4_frame.specs.Bytes.{number}
 use Rattle.mp4_frame.specs.Reading.{Reading, ◌>>=◌, memory, done}
 use Rattle.mp4_tables.specs.Flagged.{is_set, width_if}
@@ -45,3 +45,15 @@ count_if there count = if there then count else 0
 pub record IsListed (there : Bool) (count : ℕ) (numbers : List ℕ) : Type 0 where
   pub long : length numbers ≡ count_if there count
   pub each : All (λ n. n < 2 ^ 32) numbers
+
+-- a list has an i-th number where its flag is set, else none at all
+abbrev pub HasAt : Bool → ℕ → List ℕ → Type 0
+HasAt true i numbers = i < length numbers
+HasAt false i numbers = length numbers ≡ 0
+
+-- which lists the flags announce
+pub record HasLists (durations sizes sample_flags cts : Bool) (flags : ℕ) : Type 0 where
+  pub durations_set : durations ≡ is_set flags 0x100
+  pub sizes_set : sizes ≡ is_set flags 0x200
+  pub flags_set : sample_flags ≡ is_set flags 0x400
+  pub cts_set : cts ≡ is_set flags 0x800

@@ -1,6 +1,6 @@
 //! Rows behind the fields of a box.
 
-ghost use Rattle.std.specs.Prelude.{◌≡◌, ◌≤◌, ◌<◌, ◌+◌, IfOk, IfErr, map};
+ghost use Rattle.std.specs.Prelude.{◌≡◌, ◌≤◌, ◌<◌, ◌+◌, ◌++◌, IfOk, IfErr, OnOk, map};
 ghost use Rattle.mp4_frame.specs.Bytes.{number};
 ghost use Rattle.mp4_frame.specs.Reading.{AnswersAs};
 ghost use Rattle.mp4_tables.specs.Rows.{rows_within};
@@ -29,24 +29,33 @@ pub(crate) fn read_rows<'a, const E: usize>(
     reader.take_rows::<E>(count)
 }
 
-/// The number of four bytes at one place of each row.
-pub(crate) fn numbers_of<const E: usize>(
-    alloc: Global,
+/// Appends the number of four bytes at one place of each row.
+pub(crate) fn append_numbers<const E: usize>(
+    numbers: &mut Vec<u32>,
     rows: &[[u8; E]],
     at: usize,
-) -> Result<Vec<u32>>
+) -> Result<()>
     requires { at + 4 ≤ E }
-    ensures value { IfOk result (λ numbers. numbers.items ≡ map (λ row. number row at 4) rows.now) }
+    ensures ok { OnOk result (numbers.new.items ≡ numbers.old.items ++ map (λ row. number row at 4) rows.now) }
     ensures memory { IfErr result (λ e. e ≡ Error.OutOfMemory) }
 {
-    let numbers: Vec<u32> = rows
-        .iter()
-        .map(
+    numbers.extend(
+        rows.iter().map(
             |row: &[u8; E]| -> u32
                 requires { at + 4 ≤ E }
                 ensures { result ≡ number row.now at 4 }
             { u32_at(row, at) },
-        )
-        .collect(alloc)?;
+        ),
+    )?;
+    Ok(())
+}
+
+/// The number of four bytes in each row.
+pub(crate) fn numbers_of(alloc: Global, rows: &[[u8; 4]]) -> Result<Vec<u32>>
+    ensures value { IfOk result (λ numbers. numbers.items ≡ map (λ row. number row 0 4) rows.now) }
+    ensures memory { IfErr result (λ e. e ≡ Error.OutOfMemory) }
+{
+    let mut numbers = Vec::new(alloc);
+    append_numbers(&mut numbers, rows, 0)?;
     Ok(numbers)
 }

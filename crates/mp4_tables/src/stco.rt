@@ -136,7 +136,7 @@ impl ReadBox for StcoBox {
         Ok(StcoBox {
             version,
             flags,
-            entries: numbers_of(alloc, rows, 0)?.into(),
+            entries: numbers_of(alloc, rows)?.into(),
         })
     }
 }

@@ -91,7 +91,7 @@ impl ReadBox for StssBox {
         Ok(StssBox {
             version,
             flags,
-            entries: numbers_of(alloc, rows, 0)?.into(),
+            entries: numbers_of(alloc, rows)?.into(),
         })
     }
 }

@@ -111,7 +111,7 @@ fn read_sizes(alloc: Global, bytes: &[u8], size: u64, count: u32) -> Result<Vec<
         count,
         "stsz sample_count indicates more values than could fit in the box",
     )?;
-    numbers_of(alloc, rows, 0)
+    numbers_of(alloc, rows)
 }
 
 impl ReadBox for StszBox {

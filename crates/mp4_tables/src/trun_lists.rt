@@ -1,15 +1,18 @@
 //! The lists of the track fragment run box.
 
-ghost use Rattle.std.specs.Prelude.{◌≡◌, ◌≤◌, ◌<◌, ◌+◌, ◌↔◌, IsTrue, IfOk, IfErr};
+ghost use Rattle.std.specs.Prelude.{◌≡◌, ◌≤◌, ◌<◌, ◌+◌, ◌++◌, ◌↔◌, [], IsTrue, IfOk, IfErr, OnOk};
 ghost use Rattle.mp4_frame.specs.Reading.{Answers};
 ghost use Rattle.mp4_tables.specs.Flagged.{width_if as width_where};
-ghost use Rattle.mp4_tables.specs.TrunLists.{row_length as length_of_row, column_if as column_where, reads_lists, count_if, IsListed};
+ghost use Rattle.mp4_tables.specs.TrunLists.{row_length as length_of_row, column_if, lists_of, reads_lists, count_if, IsListed};
 
 use crate::flagged::{is_set, width_if};
-use crate::rows::{numbers_of, read_rows};
+use crate::rows::{append_numbers, read_rows};
 use crate::trun::TrunBox;
 use mp4_frame::{Entries, Error, Result, all_fit};
 use std::alloc::Global;
+
+/// How many rows are read at a time, of at most 16 bytes each.
+const PART: usize = 256;
 
 /// What the rows of a run hold, a list for each flag.
 #[derive(Drop)]
@@ -31,23 +34,71 @@ pub(crate) fn row_length(flags: u32) -> usize
         + width_if(is_set(flags, TrunBox::FLAG_SAMPLE_CTS), 4)
 }
 
-/// The numbers at one place of the rows, where they are there.
-#[tactic(auto, unfolding(crate::specs::TrunLists::column_if, crate::specs::Flagged::width_if))]
-fn column_if<const E: usize>(
-    alloc: Global,
-    rows: &[[u8; E]],
-    there: bool,
-    at: usize,
-) -> Result<Entries<u32>>
-    requires { at + width_where there 4 ≤ E }
-    ensures value { IfOk result (λ numbers. numbers ≡ column_where there at rows.now) }
+/// No numbers yet, and memory for as many as there will be.
+fn numbers_for(alloc: Global, there: bool, count: usize) -> Result<Vec<u32>>
+    ensures empty { IfOk result (λ numbers. numbers.items ≡ []) }
     ensures memory { IfErr result (λ e. e ≡ Error.OutOfMemory) }
 {
     if there {
-        Ok(numbers_of(alloc, rows, at)?.into())
+        Ok(Vec::with_capacity(alloc, count)?)
     } else {
-        Ok(Entries::new(alloc))
+        Ok(Vec::new(alloc))
     }
+}
+
+/// Appends the numbers at one place of the rows, where they are there.
+#[tactic(auto, unfolding(crate::specs::TrunLists::column_if, crate::specs::Flagged::width_if))]
+fn append_column<const E: usize>(
+    numbers: &mut Vec<u32>,
+    rows: &[[u8; E]],
+    there: bool,
+    at: usize,
+) -> Result<()>
+    requires { at + width_where there 4 ≤ E }
+    ensures ok { OnOk result (numbers.new.items ≡ numbers.old.items ++ column_if there at rows.now) }
+    ensures memory { IfErr result (λ e. e ≡ Error.OutOfMemory) }
+{
+    if there {
+        append_numbers(numbers, rows, at)?;
+    }
+    Ok(())
+}
+
+/// The lists of rows. They are filled by one part of the rows after the other, which stays in the nearest cache
+/// until each list has its numbers of it.
+#[tactic(auto, using(crate::proofs::TrunRows::column_moves), unfolding(crate::specs::TrunLists::column_if))]
+fn lists_of_rows<const E: usize>(alloc: Global, rows: &[[u8; E]], flags: u32) -> Result<TrunLists>
+    requires { E ≡ length_of_row flags }
+    ensures value { IfOk result (λ lists. lists ≡ lists_of flags rows.now) }
+    ensures memory { IfErr result (λ e. e ≡ Error.OutOfMemory) }
+{
+    let has_duration = is_set(flags, TrunBox::FLAG_SAMPLE_DURATION);
+    let has_size = is_set(flags, TrunBox::FLAG_SAMPLE_SIZE);
+    let has_flags = is_set(flags, TrunBox::FLAG_SAMPLE_FLAGS);
+    let has_cts = is_set(flags, TrunBox::FLAG_SAMPLE_CTS);
+    let size_at = width_if(has_duration, 4);
+    let flags_at = size_at + width_if(has_size, 4);
+    let cts_at = flags_at + width_if(has_flags, 4);
+    let _end = cts_at + width_if(has_cts, 4);
+    let mut durations = numbers_for(alloc, has_duration, rows.len())?;
+    let mut sizes = numbers_for(alloc, has_size, rows.len())?;
+    let mut sample_flags = numbers_for(alloc, has_flags, rows.len())?;
+    let mut cts = numbers_for(alloc, has_cts, rows.len())?;
+    let mut rest = rows;
+    while !rest.is_empty() {
+        let (part, behind) = rest.split_at(rest.len().min(PART));
+        append_column(&mut durations, part, has_duration, 0)?;
+        append_column(&mut sizes, part, has_size, size_at)?;
+        append_column(&mut sample_flags, part, has_flags, flags_at)?;
+        append_column(&mut cts, part, has_cts, cts_at)?;
+        rest = behind;
+    }
+    Ok(TrunLists {
+        durations: durations.into(),
+        sizes: sizes.into(),
+        flags: sample_flags.into(),
+        cts: cts.into(),
+    })
 }
 
 /// The lists of rows of `E` bytes.
@@ -64,14 +115,7 @@ fn read_rows_of<const E: usize>(
     requires length { E ≡ length_of_row flags }
     ensures { Answers result (reads_lists bytes.now size flags at count) }
 {
-    let has_duration = is_set(flags, TrunBox::FLAG_SAMPLE_DURATION);
-    let has_size = is_set(flags, TrunBox::FLAG_SAMPLE_SIZE);
-    let has_flags = is_set(flags, TrunBox::FLAG_SAMPLE_FLAGS);
-    let has_cts = is_set(flags, TrunBox::FLAG_SAMPLE_CTS);
-    let size_at = width_if(has_duration, 4);
-    let flags_at = size_at + width_if(has_size, 4);
-    let cts_at = flags_at + width_if(has_flags, 4);
-    let _end = cts_at + width_if(has_cts, 4);
+    let _length = row_length(flags);
     let rows = read_rows::<E>(
         bytes,
         size,
@@ -79,12 +123,7 @@ fn read_rows_of<const E: usize>(
         count,
         "trun sample_count indicates more values than could fit in the box",
     )?;
-    Ok(TrunLists {
-        durations: column_if(alloc, rows, has_duration, 0)?,
-        sizes: column_if(alloc, rows, has_size, size_at)?,
-        flags: column_if(alloc, rows, has_flags, flags_at)?,
-        cts: column_if(alloc, rows, has_cts, cts_at)?,
-    })
+    lists_of_rows(alloc, rows, flags)
 }
 
 /// The lists of as many rows as counted. Where a row has no bytes, none is visited.

@@ -1,10 +1,10 @@
 use Rattle.std.proofs.Common.{◌≡◌, ◌+◌, ◌*◌, ◌++◌, take}
 use Rattle.mp4_tables.specs.Trun.{rows_trun}
 use Rattle.mp4_tables.specs.TrunLists.{row_length}
-use Rattle.mp4_tables.proofs.trun.put_rows.Given as goal
+use Rattle.mp4_tables.proofs.trun.put_rows_of.Given as goal
 
 abbrev pub invariant-loop-i : goal.invariant-loop-i
-invariant-loop-i l = record {
+invariant-loop-i g l = record {
   place : l.next ≡ l.at + row_length l.trun.flags * l.i;
   written : take l.next l.place ≡ take l.at l.initial.place ++ rows_trun l.trun l.i;
 }
