@@ -12,7 +12,7 @@ use mp4_frame::{Entries, Error, Result, all_fit};
 use std::alloc::Global;
 
 /// How many rows are read at a time, of at most 16 bytes each.
-const PART: usize = 256;
+const PART: usize = 512;
 
 /// What the rows of a run hold, a list for each flag.
 #[derive(Drop)]
