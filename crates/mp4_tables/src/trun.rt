@@ -268,6 +268,7 @@ fn put_rows_of<const DURATION: bool, const SIZE: bool, const FLAGS: bool, const 
     }
 }
 
+/// Puts the rows where it is known which of the three lists in front are there.
 fn put_rows_by_cts<const DURATION: bool, const SIZE: bool, const FLAGS: bool>(
     place: &mut [u8],
     at: usize,
@@ -287,6 +288,7 @@ fn put_rows_by_cts<const DURATION: bool, const SIZE: bool, const FLAGS: bool>(
     }
 }
 
+/// Puts the rows where it is known whether durations and sizes are there.
 fn put_rows_by_flags<const DURATION: bool, const SIZE: bool>(
     place: &mut [u8],
     at: usize,
@@ -305,6 +307,7 @@ fn put_rows_by_flags<const DURATION: bool, const SIZE: bool>(
     }
 }
 
+/// Puts the rows where it is known whether durations are there.
 fn put_rows_by_size<const DURATION: bool>(place: &mut [u8], at: usize, trun: &TrunBox)
     requires listed { ListedTrun trun.now }
     requires duration { DURATION ≡ flag_is_set trun.now.flags 0x100 }

@@ -1,4 +1,4 @@
-use Rattle.std.proofs.Common.{◌∙◌, ℕ, Bool, ap, take, arith}
+use Rattle.std.proofs.Common.{◌∙◌, Bool, ap, take, arith}
 use Rattle.mp4_tables.specs.Flagged.{width_if}
 use Rattle.mp4_tables.specs.TrunLists.{row_length}
 use Rattle.mp4_tables.proofs.TrunRows.{row_put, one_more}
