@@ -1,6 +1,6 @@
 -- What a box takes over from the laws of a child, whether it always has one or may lack it.
 use Rattle.std.proofs.Common.{◌≡◌, ℕ, zero, suc, ◌+◌, ◌-◌, ◌<◌, ◌≤◌, ◌^◌, Bool, true, false, cond, ◌&&◌, ◌||◌, List, [], ◌++◌, length, Result, Ok, Err, Option, Some, None, refl, sym, ap, subst, ◌∙◌, arith, lit<}
-use Rattle.std.proofs.lemmas.Bool.{leb-true}
+use Rattle.std.proofs.lemmas.Bool.{leb-true, and_parts}
 use Rattle.std.specs.Prelude.{◌==◌, nat_le, nat_lt}
 use Rattle.mp4_frame.specs.BoxType.{code_of}
 use Rattle.mp4_frame.specs.Bytes.{number, joined}
@@ -23,10 +23,6 @@ compact bytes o = record { code = number bytes (o + 4) 4; size = number bytes o 
 abbrev large : List ℕ → ℕ → Head
 large bytes o = record { code = number bytes (o + 4) 4; size = number bytes (o + 8) 8 - 8; start = o + 8 }
 
-and_first : (a b : Bool) → (a && b) ≡ true → a ≡ true
-and_first true b e = refl
-and_first false b e = absurd cc
-
 start_by : (bytes : List ℕ) (o : ℕ) (b : Bool) (h : Head) → (cond b (large_head bytes o) (compact_head bytes o)).outcome ≡ Ok h → o ≤ h.start
 start_by bytes o false h e = (let is : compact bytes o ≡ h = is_value (compact bytes o) h e in subst (λ (k : Head). o ≤ k.start) is (omega arith))
 start_by bytes o true h e =
@@ -48,7 +44,7 @@ child_end bytes start size o c e =
     let p = value_first (head bytes o) (λ h. test (small h) >>= λ _. ends h) c e in
     let q = test_ok (small p.0) (λ _. ends p.0) c p.2 in
     let r = test_ok (nat_lt (start + p.0.start + p.0.size) (2 ^ 64)) (λ _. done p.0) c q.1 in
-    let least : 8 ≤ p.0.size = leb-true 8 p.0.size (and_first (nat_le 8 p.0.size) (nat_le p.0.size size) q.0) in
+    let least : 8 ≤ p.0.size = leb-true 8 p.0.size (and_parts (nat_le 8 p.0.size) (nat_le p.0.size size) q.0).0 in
     let first : o ≤ p.0.start = head_start bytes o p.0 p.1 in
     subst (λ (h : Head). o + 8 ≤ h.start + h.size) (is_value p.0 c r.1) (omega (arith, least, first))
 
