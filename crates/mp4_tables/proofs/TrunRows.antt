@@ -4,14 +4,13 @@ use Rattle.std.specs.Prelude.{slice_get}
 use Rattle.std.specs.List.{flat_map, range_with_len}
 use Rattle.std.proofs.lemmas.Bool.{le-leb}
 use Rattle.std.proofs.lemmas.Option.{slice_get-get_or}
-use Rattle.std.proofs.Math.Nat.{mul-le-mul_left}
 use Rattle.std.proofs.lemmas.List.{append-nil, append_assoc, map-append, take_all}
 use Rattle.mp4_frame.specs.Bytes.{number, column}
 use Rattle.mp4_frame.specs.Reading.{memory, done, ◌>>=◌}
 use Rattle.mp4_frame.specs.Tables.{rows, rows_from}
 use Rattle.mp4_tables.specs.Flagged.{is_set, width_if, optional}
 use Rattle.mp4_tables.specs.Rows.{rows_within}
-use Rattle.mp4_tables.specs.TrunLists.{size_in_row, flags_in_row, cts_in_row, row_length, column_if, lists_of, reads_lists, IsListed, HasAt}
+use Rattle.mp4_tables.specs.TrunLists.{size_in_row, flags_in_row, cts_in_row, row_length, column_if, lists_of, reads_lists, HasAt}
 use Rattle.mp4_tables.specs.Trun.{ListedTrun, row_trun, rows_trun}
 use Rattle.mp4_tables.specs.TrunLaws.{length_rows}
 use Rattle.mp4_tables.specs.declared.trun.TrunBox.{TrunBox}
@@ -46,10 +45,6 @@ nothing_put_at true i xs front is has = absurd cc
 nothing_put_at false i [] front is has = sym (append-nil front)
 nothing_put_at false i (x ∷ xs) front is has = absurd (omega arith)
 
-pub has_at : (d b : Bool) (count i : ℕ) (xs : List ℕ) → d ≡ b → IsListed b count xs → i < count → HasAt d i xs
-has_at d true count i xs is h lt = rw is (omega (arith, h.long))
-has_at d false count i xs is h lt = rw is h.long
-
 -- one more row, number by number
 pub row_put : (v : TrunBox) (i : ℕ) (front : List ℕ)
     → front ++ rows_trun v i ++ optional 4 (slice_get v.sample_durations i) ++ optional 4 (slice_get v.sample_sizes i) ++ optional 4 (slice_get v.sample_flags i) ++ optional 4 (slice_get v.sample_cts i)
@@ -71,21 +66,8 @@ nothing_put v w place at none room =
     let whole : take at place ≡ place = take_all at place (omega (arith, room, zero_bytes)) in
     rw (no_rows v w none, whole) (sym (append-nil place))
 
--- what is put of all rows
-pub all_put : (v : TrunBox) (new old : List ℕ) (at next i : ℕ) → v.sample_count ≡ i → next ≡ at + row_length v.flags * i → at + row_length v.flags * v.sample_count ≡ length old → length new ≡ length old
-    → take next new ≡ take at old ++ rows_trun v i → new ≡ take at old ++ rows_trun v v.sample_count
-all_put v new old at next i is here room long put =
-    let size : row_length v.flags * v.sample_count ≡ row_length v.flags * i = ap (λ (k : ℕ). row_length v.flags * k) is in
-    let whole : take next new ≡ new = take_all next new (omega (arith, here, room, long, size)) in
-    sym whole ∙ put ∙ ap (λ (k : ℕ). take at old ++ rows_trun v k) (sym is)
-
 pub one_more : (k i : ℕ) → k * (i + 1) ≡ k * i + k
 one_more k i = omega arith
-
-pub room_left : (k i n : ℕ) → i < n → k * i + k ≤ k * n
-room_left k i n lt =
-    let le : k * (i + 1) ≤ k * n = mul-le-mul_left k (omega arith) in
-    omega (arith, le, one_more k i)
 
 four : (b : Bool) → width_if b 4 ≡ 4 * width_if b 1
 unfolding width_if
