@@ -18,6 +18,7 @@ mod stts_entry;
 mod tfhd;
 mod trun;
 mod trun_lists;
+mod trun_rows;
 
 pub use co64::Co64Box;
 pub use ctts::CttsBox;

@@ -1,16 +1,15 @@
 //! The track fragment run box.
 
-ghost use Rattle.std.specs.Prelude.{◌≡◌, ◌≤◌, ◌<◌, ◌+◌, ◌*◌, ◌-◌, ◌^◌, ◌++◌, ◌↔◌, [], None, IsTrue, IfOk, IfErr, length, min, take, is_some, slice_get, option_map, refl};
+ghost use Rattle.std.specs.Prelude.{◌≡◌, ◌≤◌, ◌-◌, ◌^◌, ◌↔◌, [], None, IsTrue, IfOk, IfErr, min, option_map, refl};
 ghost use Rattle.std.specs.Int.{w32, cast_signed};
 ghost use Rattle.mp4_frame.specs.declared.box_type.BoxType.TheVariants as names;
 ghost use Rattle.mp4_frame.proofs.Framing.{settled};
-ghost use Rattle.mp4_tables.specs.Flagged.{is_set as flag_is_set, width_if as width_where, optional, Stands};
-ghost use Rattle.mp4_tables.specs.TrunLists.{row_length as length_of_row, HasAt, HasLists};
-ghost use Rattle.mp4_tables.specs.Trun.{first_flags_at as first_flags_place, rows_at as rows_place, unsigned, FitsOptional, FlaggedTrun, reads_trun, size_trun, ListedTrun, WritableTrun, row_trun, rows_trun, bytes_trun, normal_trun};
+ghost use Rattle.mp4_tables.specs.Trun.{rows_at as rows_place, unsigned, FitsOptional, FlaggedTrun, reads_trun, size_trun, ListedTrun, WritableTrun, bytes_trun, normal_trun};
 ghost use Rattle.mp4_tables.specs.TrunLaws.{framed_trun, read_back_trun, sound_trun};
 
 use crate::flagged::{is_set, put_optional_u32, stands_u32, u32_if, width_if};
 use crate::trun_lists::{is_listed, read_lists, row_length};
+use crate::trun_rows::put_rows;
 use mp4_frame::{
     BoxLaws, BoxType, Entries, Error, Mp4Box, ReadBox, Result, WriteBox, fields, put_full_box,
     put_u32, u8_at, u24_at, u32_at,
@@ -225,116 +224,6 @@ fn has_flagged_fields(flags: u32, data_offset: Option<i32>, first_sample_flags: 
             is_set(flags, TrunBox::FLAG_FIRST_SAMPLE_FLAGS),
             first_sample_flags,
         )
-}
-
-/// Puts the i-th number of a list that may be there, and answers the place behind it.
-#[tactic(auto, using(crate::proofs::TrunRows::number_put), unfolding(crate::specs::Flagged::width_if))]
-fn put_number<const THERE: bool>(place: &mut [u8], at: usize, numbers: &[u32], i: usize) -> usize
-    requires has { HasAt THERE i numbers.now }
-    requires room { at + width_where THERE 4 ≤ length place.old }
-    ensures next { result ≡ at + width_where THERE 4 }
-    ensures put { take result place.new ≡ take at place.old ++ optional 4 (slice_get numbers.now i) }
-{
-    if THERE {
-        put_u32(place, at, numbers[i])
-    } else {
-        at
-    }
-}
-
-/// Puts the rows of a run, whose lists are there as the constants say. So a row has one length, and no flag is
-/// tested in it.
-#[tactic(auto)]
-fn put_rows_of<const DURATION: bool, const SIZE: bool, const FLAGS: bool, const CTS: bool>(
-    place: &mut [u8],
-    at: usize,
-    trun: &TrunBox,
-)
-    requires listed { ListedTrun trun.now }
-    requires lists { HasLists DURATION SIZE FLAGS CTS trun.now.flags }
-    requires room { at + length_of_row trun.now.flags * trun.now.sample_count ≡ length place.old }
-    ensures { place.new ≡ take at place.old ++ rows_trun trun.now trun.now.sample_count }
-{
-    let durations = trun.sample_durations.as_slice();
-    let sizes = trun.sample_sizes.as_slice();
-    let flags = trun.sample_flags.as_slice();
-    let cts = trun.sample_cts.as_slice();
-    let mut next = at;
-    for i in 0..trun.sample_count as usize {
-        let size_at = put_number::<DURATION>(place, next, durations, i);
-        let flags_at = put_number::<SIZE>(place, size_at, sizes, i);
-        let cts_at = put_number::<FLAGS>(place, flags_at, flags, i);
-        next = put_number::<CTS>(place, cts_at, cts, i);
-    }
-}
-
-/// Puts the rows where it is known which of the three lists in front are there.
-fn put_rows_by_cts<const DURATION: bool, const SIZE: bool, const FLAGS: bool>(
-    place: &mut [u8],
-    at: usize,
-    trun: &TrunBox,
-)
-    requires listed { ListedTrun trun.now }
-    requires duration { DURATION ≡ flag_is_set trun.now.flags 0x100 }
-    requires size { SIZE ≡ flag_is_set trun.now.flags 0x200 }
-    requires flags { FLAGS ≡ flag_is_set trun.now.flags 0x400 }
-    requires room { at + length_of_row trun.now.flags * trun.now.sample_count ≡ length place.old }
-    ensures { place.new ≡ take at place.old ++ rows_trun trun.now trun.now.sample_count }
-{
-    if is_set(trun.flags, TrunBox::FLAG_SAMPLE_CTS) {
-        put_rows_of::<DURATION, SIZE, FLAGS, true>(place, at, trun);
-    } else {
-        put_rows_of::<DURATION, SIZE, FLAGS, false>(place, at, trun);
-    }
-}
-
-/// Puts the rows where it is known whether durations and sizes are there.
-fn put_rows_by_flags<const DURATION: bool, const SIZE: bool>(
-    place: &mut [u8],
-    at: usize,
-    trun: &TrunBox,
-)
-    requires listed { ListedTrun trun.now }
-    requires duration { DURATION ≡ flag_is_set trun.now.flags 0x100 }
-    requires size { SIZE ≡ flag_is_set trun.now.flags 0x200 }
-    requires room { at + length_of_row trun.now.flags * trun.now.sample_count ≡ length place.old }
-    ensures { place.new ≡ take at place.old ++ rows_trun trun.now trun.now.sample_count }
-{
-    if is_set(trun.flags, TrunBox::FLAG_SAMPLE_FLAGS) {
-        put_rows_by_cts::<DURATION, SIZE, true>(place, at, trun);
-    } else {
-        put_rows_by_cts::<DURATION, SIZE, false>(place, at, trun);
-    }
-}
-
-/// Puts the rows where it is known whether durations are there.
-fn put_rows_by_size<const DURATION: bool>(place: &mut [u8], at: usize, trun: &TrunBox)
-    requires listed { ListedTrun trun.now }
-    requires duration { DURATION ≡ flag_is_set trun.now.flags 0x100 }
-    requires room { at + length_of_row trun.now.flags * trun.now.sample_count ≡ length place.old }
-    ensures { place.new ≡ take at place.old ++ rows_trun trun.now trun.now.sample_count }
-{
-    if is_set(trun.flags, TrunBox::FLAG_SAMPLE_SIZE) {
-        put_rows_by_flags::<DURATION, true>(place, at, trun);
-    } else {
-        put_rows_by_flags::<DURATION, false>(place, at, trun);
-    }
-}
-
-/// Puts the rows. Where they have no bytes, none is visited.
-fn put_rows(place: &mut [u8], at: usize, trun: &TrunBox)
-    requires listed { ListedTrun trun.now }
-    requires room { at + length_of_row trun.now.flags * trun.now.sample_count ≡ length place.old }
-    ensures { place.new ≡ take at place.old ++ rows_trun trun.now trun.now.sample_count }
-{
-    if row_length(trun.flags) == 0 {
-        return;
-    }
-    if is_set(trun.flags, TrunBox::FLAG_SAMPLE_DURATION) {
-        put_rows_by_size::<true>(place, at, trun);
-    } else {
-        put_rows_by_size::<false>(place, at, trun);
-    }
 }
 
 impl WriteBox for TrunBox {

@@ -1,4 +1,5 @@
 use Rattle.std.proofs.Common.{◌≡◌, length, refl, rules}
+use Rattle.mp4_tables.specs.TrunLists.{lists_of}
 use Rattle.mp4_tables.proofs.TrunRows.{column_ends}
 use Rattle.mp4_tables.proofs.trun_lists.lists_of_rows.Goals as goal
 
@@ -10,4 +11,4 @@ returns-clause-value g c =
     let sizes = column_ends _ _ rest c.loop-rest.sizes.items _ none c.loop-rest.invariant.sizes in
     let flags = column_ends _ _ rest c.loop-rest.sample_flags.items _ none c.loop-rest.invariant.sample_flags in
     let cts = column_ends _ _ rest c.loop-rest.cts.items _ none c.loop-rest.invariant.cts in
-    rw (c.into.ensures, c.into-2.ensures, c.into-3.ensures, c.into-4.ensures, durations, sizes, flags, cts) refl
+    rw (c.into.ensures, c.into-2.ensures, c.into-3.ensures, c.into-4.ensures, durations, sizes, flags, cts) (refl {a = lists_of c.args.flags c.args.rows.now})

@@ -2,7 +2,7 @@ use Rattle.std.proofs.Common.{◌∙◌, Bool, ap, take, arith}
 use Rattle.mp4_tables.specs.Flagged.{width_if}
 use Rattle.mp4_tables.specs.TrunLists.{row_length}
 use Rattle.mp4_tables.proofs.TrunRows.{row_put, one_more}
-use Rattle.mp4_tables.proofs.trun.put_rows_of.Goals as goal
+use Rattle.mp4_tables.proofs.trun_rows.put_rows_of.Goals as goal
 
 pub loop-i-preserved : goal.loop-i-preserved
 loop-i-preserved g c =

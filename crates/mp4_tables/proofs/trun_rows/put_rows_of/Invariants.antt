@@ -1,7 +1,7 @@
 use Rattle.std.proofs.Common.{◌≡◌, ◌+◌, ◌*◌, ◌++◌, take}
 use Rattle.mp4_tables.specs.Trun.{rows_trun}
 use Rattle.mp4_tables.specs.TrunLists.{row_length}
-use Rattle.mp4_tables.proofs.trun.put_rows_of.Given as goal
+use Rattle.mp4_tables.proofs.trun_rows.put_rows_of.Given as goal
 
 abbrev pub invariant-loop-i : goal.invariant-loop-i
 invariant-loop-i g l = record {
