@@ -8,7 +8,7 @@ use Rattle.mp4_tables.specs.declared.co64.Co64Box.{Co64Box}
 
 -- the offset in a row
 abbrev pub offset_of : List ℕ → ℕ
-offset_of row = number row 0 8
+offset_of entry = number entry 0 8
 
 abbrev pub made_co64 : ℕ → ℕ → List ℕ → Co64Box
 made_co64 version flags offsets = record { version = version; flags = flags; entries = offsets }

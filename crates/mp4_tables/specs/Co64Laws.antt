@@ -10,13 +10,13 @@ use Rattle.mp4_tables.specs.declared.co64.Co64Box.{Co64Box}
 use Rattle.mp4_tables.specs.Co64.{offset_of, made_co64, reads_co64, size_co64, WritableCo64, bytes_co64, normal_co64}
 
 offset_back : (offset : ℕ) → offset < 2 ^ 64 → offset_of (column 8 offset) ≡ offset
-offset_back offset fits = ap (λ (row : List ℕ). number row 0 8) (sym (append-nil (column 8 offset))) ∙ number-column 8 offset [] fits
+offset_back offset fits = ap (λ (entry : List ℕ). number entry 0 8) (sym (append-nil (column 8 offset))) ∙ number-column 8 offset [] fits
 
 offset_long : (offset : ℕ) → offset < 2 ^ 64 → length (column 8 offset) ≡ 8
 offset_long offset fits = length-column 8 offset
 
 offset_fits : (row : List ℕ) → IsRow 8 row → offset_of row < 2 ^ 64
-offset_fits row is = number-below row 0 8 is.are
+offset_fits entry is = number-below entry 0 8 is.are
 
 pub framed_co64 : (v : Co64Box) → WritableCo64 v → Framed (size_co64 v) names.Co64Box (bytes_co64 v)
 unfolding bytes_co64

@@ -20,7 +20,7 @@ entry_back : (e : CttsEntry) → FitsCttsEntry e → entry_ctts (row_ctts e) ≡
 entry_back e fits = columns_back value_ctts_entry (columns_ctts_entry e) e fits.0 (ap (λ (z : ℤ). record e { sample_offset = z }) (back32 e.sample_offset fits.1))
 
 entry_fits : (row : List ℕ) → IsRow 8 row → FitsCttsEntry (entry_ctts row)
-entry_fits row is = (fits_read row is.are (Number 0 4 ∷ Signed32 4 ∷ []), signed32 row 4 is.are)
+entry_fits entry is = (fits_read entry is.are (Number 0 4 ∷ Signed32 4 ∷ []), signed32 entry 4 is.are)
 
 pub framed_ctts : (v : CttsBox) → WritableCtts v → Framed (size_ctts v) names.CttsBox (bytes_ctts v)
 unfolding bytes_ctts

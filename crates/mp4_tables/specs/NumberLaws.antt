@@ -9,7 +9,7 @@ pub number_long : (n : ℕ) → n < 2 ^ 32 → length (column 4 n) ≡ 4
 number_long n fits = length-column 4 n
 
 pub number_back : (n : ℕ) → n < 2 ^ 32 → number (column 4 n) 0 4 ≡ n
-number_back n fits = ap (λ (row : List ℕ). number row 0 4) (sym (append-nil (column 4 n))) ∙ number-column 4 n [] fits
+number_back n fits = ap (λ (entry : List ℕ). number entry 0 4) (sym (append-nil (column 4 n))) ∙ number-column 4 n [] fits
 
-pub number_fits : (row : List ℕ) → IsRow 4 row → number row 0 4 < 2 ^ 32
-number_fits row is = number-below row 0 4 is.are
+pub number_fits : (entry : List ℕ) → IsRow 4 entry → number entry 0 4 < 2 ^ 32
+number_fits entry is = number-below entry 0 4 is.are

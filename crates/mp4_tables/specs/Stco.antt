@@ -8,7 +8,7 @@ use Rattle.mp4_tables.specs.declared.stco.StcoBox.{StcoBox}
 
 -- the offset in a row
 abbrev pub offset_of : List ℕ → ℕ
-offset_of row = number row 0 4
+offset_of entry = number entry 0 4
 
 abbrev pub made_stco : ℕ → ℕ → List ℕ → StcoBox
 made_stco version flags offsets = record { version = version; flags = flags; entries = offsets }

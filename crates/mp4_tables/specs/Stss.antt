@@ -8,7 +8,7 @@ use Rattle.mp4_tables.specs.declared.stss.StssBox.{StssBox}
 
 -- the sample number in a row
 abbrev pub sample_of : List ℕ → ℕ
-sample_of row = number row 0 4
+sample_of entry = number entry 0 4
 
 abbrev pub made_stss : ℕ → ℕ → List ℕ → StssBox
 made_stss version flags samples = record { version = version; flags = flags; entries = samples }

@@ -11,7 +11,7 @@ unfoldable pub reads_sizes : List ℕ → ℕ → ℕ → Reading (List ℕ)
 reads_sizes bytes size count = do
   rows ← rows_within bytes size 20 4 count
   _ ← memory
-  done (map (λ row. number row 0 4) rows)
+  done (map (λ entry. number entry 0 4) rows)
 
 -- the sizes, by the size of all samples and their count
 abbrev pub listed : List ℕ → ℕ → ℕ → ℕ → Reading (List ℕ)

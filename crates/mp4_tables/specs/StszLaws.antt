@@ -29,7 +29,7 @@ unfolding reads_sizes
 sizes_back p y sizes size at is each =
     let by = recursion_from_All (λ s. s < 2 ^ 32) sizes each in
     let rows = rows_within_back (λ s. column 4 s) 4 (λ s. s < 2 ^ 32) number_long p sizes y 20 size by at is in
-    let es : map (λ row. number row 0 4) (map (λ s. column 4 s) sizes) ≡ sizes = map_back (λ s. column 4 s) (λ row. number row 0 4) (λ s. s < 2 ^ 32) number_back sizes by in
+    let es : map (λ entry. number entry 0 4) (map (λ s. column 4 s) sizes) ≡ sizes = map_back (λ s. column 4 s) (λ entry. number entry 0 4) (λ s. s < 2 ^ 32) number_back sizes by in
     rw (rows, es) refl
 
 no_sizes : (sizes : List ℕ) → length sizes ≡ 0 → [] ≡ sizes
@@ -68,10 +68,10 @@ sizes_read bytes size sample_size count sizes are h = by (eqb sample_size 0) h
   where
     by : (b : Bool) → (cond b (reads_sizes bytes size count) (done [])).outcome ≡ Ok sizes → AllByRecursion (λ s. s < 2 ^ 32) sizes × (length sizes ≡ cond b count 0)
     by true e =
-        let p = value_first (rows_within bytes size 20 4 count) (λ rows. memory >>= λ _. done (map (λ row. number row 0 4) rows)) sizes e in
+        let p = value_first (rows_within bytes size 20 4 count) (λ rows. memory >>= λ _. done (map (λ entry. number entry 0 4) rows)) sizes e in
         let r = rows_within_read bytes size 20 4 count p.0 (lit< tt) are p.1 in
-        let is : map (λ row. number row 0 4) p.0 ≡ sizes = is_value _ sizes p.2 in
-        rw (← is) (map_all 4 (λ row. number row 0 4) (λ s. s < 2 ^ 32) number_fits p.0 r.0, length_map (λ row. number row 0 4) p.0 ∙ r.1)
+        let is : map (λ entry. number entry 0 4) p.0 ≡ sizes = is_value _ sizes p.2 in
+        rw (← is) (map_all 4 (λ entry. number entry 0 4) (λ s. s < 2 ^ 32) number_fits p.0 r.0, length_map (λ entry. number entry 0 4) p.0 ∙ r.1)
     by false e = let is : [] ≡ sizes = is_value [] sizes e in rw (← is) (tt, refl)
 
 pub sound_stsz : RowIsSound reads_stsz WritableStsz size_stsz normal_stsz

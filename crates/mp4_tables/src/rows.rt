@@ -52,7 +52,7 @@ pub(crate) fn append_numbers<const E: usize>(
 
 /// The number of four bytes in each row.
 pub(crate) fn numbers_of(alloc: Global, rows: &[[u8; 4]]) -> Result<Vec<u32>>
-    ensures value { IfOk result (λ numbers. numbers.items ≡ map (λ row. number row 0 4) rows.now) }
+    ensures value { IfOk result (λ numbers. numbers.items ≡ map (λ entry. number entry 0 4) rows.now) }
     ensures memory { IfErr result (λ e. e ≡ Error.OutOfMemory) }
 {
     let mut numbers = Vec::new(alloc);
