@@ -41,39 +41,39 @@ fn write_times(alloc: Global, bytes: &[u8], times: u64) -> Result<u64> {
     Ok(sum)
 }
 
-/// Puts what is written of a stream at the front of a place that it fits in, and answers its length.
-fn rewrite(alloc: Global, bytes: &[u8], place: &mut [u8]) -> Result<u64>
-    ensures { IfOk result (λ n. (vs : List AnyBox) × ((boxes known_any reading_any bytes.now 0).outcome ≡ Ok vs) × (take n place.new ≡ stream bytes_any vs)) }
+/// Puts what is written of a stream at the front of a place that it fits in, and returns its length.
+fn rewrite(alloc: Global, bytes: &[u8], out: &mut [u8]) -> Result<u64>
+    ensures { IfOk result (λ n. (vs : List AnyBox) × ((boxes known_any reading_any bytes.now 0).outcome ≡ Ok vs) × (take n out.new ≡ stream bytes_any vs)) }
 {
     let boxes = read_boxes(alloc, &mut ByteCursor::new(bytes))?;
     let mut out = Vec::new(alloc);
     let n = write_boxes(&boxes, &mut out)?;
-    if out.len() > place.len() {
+    if out.len() > out.len() {
         return Err(Error::OutOfMemory);
     }
-    place[..out.len()].copy_from_slice(&out);
+    out[..out.len()].copy_from_slice(&out);
     Ok(n)
 }
 
-/// Reads a stream so many times, each time into new boxes, and answers the sum of their checksums. A fault or
-/// want of memory ends it with `u64::MAX`.
+/// Reads a stream so many times, each time into new boxes, and returns the sum of their checksums. A fault or
+/// out of memory ends it with `u64::MAX`.
 #[unsafe(no_mangle)]
 pub extern "C" fn mp4_read(alloc: Global, bytes: &[u8], times: u64) -> u64 {
     read_times(alloc, bytes, times).unwrap_or(u64::MAX)
 }
 
-/// Reads a stream once and writes its boxes so many times, each time into a new vector, and answers the sum of
-/// the lengths and of the last bytes. A fault or want of memory ends it with `u64::MAX`.
+/// Reads a stream once and writes its boxes so many times, each time into a new vector, and returns the sum of
+/// the lengths and of the last bytes. A fault or out of memory ends it with `u64::MAX`.
 #[unsafe(no_mangle)]
 pub extern "C" fn mp4_write(alloc: Global, bytes: &[u8], times: u64) -> u64 {
     write_times(alloc, bytes, times).unwrap_or(u64::MAX)
 }
 
-/// Reads a stream, puts what its boxes are written in at the front of `place`, and answers the length of that:
-/// 0 if all boxes were skipped. A fault, want of memory or want of room ends it with `u64::MAX`.
+/// Reads a stream, puts what its boxes are written in at the front of `place`, and returns the length of that:
+/// 0 if all boxes were skipped. A fault, out of memory or want of room ends it with `u64::MAX`.
 #[unsafe(no_mangle)]
-pub extern "C" fn mp4_rewrite(alloc: Global, bytes: &[u8], place: &mut [u8]) -> u64
-    ensures { (result ≡ 2 ^ 64 - 1) ⊎ ((vs : List AnyBox) × ((boxes known_any reading_any bytes.now 0).outcome ≡ Ok vs) × (take result place.new ≡ stream bytes_any vs)) }
+pub extern "C" fn mp4_rewrite(alloc: Global, bytes: &[u8], out: &mut [u8]) -> u64
+    ensures { (result ≡ 2 ^ 64 - 1) ⊎ ((vs : List AnyBox) × ((boxes known_any reading_any bytes.now 0).outcome ≡ Ok vs) × (take result out.new ≡ stream bytes_any vs)) }
 {
-    rewrite(alloc, bytes, place).unwrap_or(u64::MAX)
+    rewrite(alloc, bytes, out).unwrap_or(u64::MAX)
 }

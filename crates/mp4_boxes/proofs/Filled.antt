@@ -9,8 +9,8 @@ use Rattle.std.proofs.KnownBytes.{Consumes-trans, Consumes-all}
 pub filled_more : (a b c : Option (List ℕ)) (xs ys : List ℕ) (f n : ℕ) → take f ys ≡ take f xs
     → Consumes a b (take f xs) → Consumes b c (take n (drop f ys)) → Consumes a c (take (f + n) ys)
 filled_more a b c xs ys f n front before read =
-    let joined = take-add f n ys ∙ ap (λ l. l ++ take n (drop f ys)) front in
-    subst (Consumes a c) (sym joined) (Consumes-trans a b c _ _ before read)
+    let bytes_of_fields = take-add f n ys ∙ ap (λ l. l ++ take n (drop f ys)) front in
+    subst (Consumes a c) (sym bytes_of_fields) (Consumes-trans a b c _ _ before read)
 
 -- nothing came any more, so what is filled is all that there was
 pub filled_all : (a b c : Option (List ℕ)) (xs ys zs : List ℕ) (f n : ℕ) → n ≡ 0 → take f ys ≡ take f xs

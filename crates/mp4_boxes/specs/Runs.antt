@@ -1,4 +1,4 @@
--- What a run reads, writes and answers: for any command first, and then for `normal`.
+-- What a run reads, writes and returns: for any command first, and then for `normal`.
 --
 -- A command is given by two relations: `Makes B out` says that it writes `out` for the input B, and
 -- `Refusal B e` that it may refuse B with the error e. The bytes that a reader has left and that a
@@ -42,7 +42,7 @@ abbrev pub is_write : {A : Type 0} → Result A RunFault → Bool
 is_write (Err faults.Write) = true
 is_write _ = false
 
--- what reading to the end answers: all bytes of the input, or a failed read, or want of memory
+-- what reading to the end returns: all bytes of the input, or a failed read, or out of memory
 abbrev pub ReadsAll : {V : Type 0} → (V → List ℕ)
     → Option (List ℕ) → Option (List ℕ) → Result V RunFault → Type 0
 ReadsAll items old new (Ok v) = IfSome old (λ B. items v ≡ B) × IsAtEnd new
@@ -50,13 +50,13 @@ ReadsAll items old new (Err faults.Read) = ⊤
 ReadsAll items old new (Err faults.Write) = ⊥
 ReadsAll items old new (Err (faults.Boxes e)) = e ≡ errors.OutOfMemory
 
--- what writing all of out answers: its length, or a failed write, which appended a beginning of it
+-- what writing all of out returns: its length, or a failed write, which appended a beginning of it
 abbrev pub WritesAll : Option (List ℕ) → Option (List ℕ) → Result ℕ RunFault → List ℕ → Type 0
 WritesAll old new (Ok n) out = Appends old new out × (n ≡ length out)
 WritesAll old new (Err faults.Write) out = (k : ℕ) × Appends old new (take k out)
 WritesAll old new (Err _) out = ⊥
 
--- what making the output of the input B answers
+-- what making the output of the input B returns
 abbrev pub Rewrites : {V : Type 0} → (List ℕ → List ℕ → Type 0) → (List ℕ → Error → Type 0)
     → (V → List ℕ) → List ℕ → Result V Error → Type 0
 Rewrites Makes Refusal items B (Ok v) = Makes B (items v)
@@ -71,7 +71,7 @@ abbrev pub Normalizes : List ℕ → List ℕ → Type 0
 Normalizes B out = (vs : List AnyBox) × ((boxes_of B).outcome ≡ Ok vs) × All WritableAny vs
     × (out ≡ stream bytes_any vs)
 
--- `normal` may refuse B for want of memory, as the first fault of its boxes, or as invalid data where
+-- `normal` may refuse B for out of memory, as the first fault of its boxes, or as invalid data where
 -- a box that was read can't be written
 abbrev pub NormalRefusal : List ℕ → Error → Type 0
 NormalRefusal B errors.OutOfMemory = ⊤

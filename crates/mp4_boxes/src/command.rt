@@ -18,7 +18,7 @@ pub enum Command {
     Normal,
 }
 
-/// The command that the words behind the program's name ask for, which are exactly one.
+/// The command that the words after the program's name ask for, which are exactly one.
 pub fn judge(mut words: Args) -> Option<Command>
     ensures normal { (result ≡ Some Command.Normal)
         ↔ (map string_bytes (into_iter_items words) ≡ codes "normal" ∷ []) }

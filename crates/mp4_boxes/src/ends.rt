@@ -37,15 +37,15 @@ impl<R: Read> Input<R> {
         }
     }
 
-    /// Reads once, to the front of `place`. Answers how many bytes came, which is 0 at the input's
+    /// Reads once, to the front of `place`. Returns how many bytes came, which is 0 at the input's
     /// end and where `place` is empty, or None where the call failed, an interrupted one too.
-    pub fn pull(&mut self, place: &mut [u8]) -> Option<usize>
-        ensures bound { IfSome result (λ n. n ≤ length place.new) }
+    pub fn pull(&mut self, buf: &mut [u8]) -> Option<usize>
+        ensures bound { IfSome result (λ n. n ≤ length buf.new) }
         ensures bytes { Pulled (R.remaining self.old.inner) (R.remaining self.new.inner) result
-            place.new }
+            buf.new }
         ensures failed { self.new.failed ≡ (self.old.failed || is_none result) }
     {
-        match self.inner.read(place) {
+        match self.inner.read(buf) {
             Ok(n) => Some(n),
             Err(_) => {
                 self.failed = true;
@@ -67,7 +67,7 @@ impl<W: Write> Output<W> {
         }
     }
 
-    /// Writes once, from the front of `piece`. Answers how many bytes were taken, or None where the
+    /// Writes once, from the front of `piece`. Returns how many bytes were taken, or None where the
     /// call failed, an interrupted one too, and where no byte was taken of a piece that has some.
     pub fn push(&mut self, piece: &[u8]) -> Option<usize>
         ensures bound { IfSome result (λ n. n ≤ length piece.now) }

@@ -33,7 +33,7 @@ fn make_room<A: Allocator>(bytes: &mut Vec<u8, A>, filled: usize) -> mp4_stream:
     Ok(())
 }
 
-/// Pulls once, to the place behind the bytes that are filled.
+/// Pulls once, to the place after the bytes that are filled.
 fn pull_behind<R: Read, A: Allocator>(
     input: &mut Input<R>,
     bytes: &mut Vec<u8, A>,
@@ -50,7 +50,7 @@ fn pull_behind<R: Read, A: Allocator>(
     input.pull(&mut bytes[filled..])
 }
 
-/// Reads to the input's end. A reader without an end is refused as want of memory.
+/// Reads to the input's end. A reader without an end is refused as out of memory.
 pub fn read_all<R: Read, A: Allocator>(
     alloc: A,
     input: &mut Input<R>,
@@ -75,7 +75,7 @@ pub fn read_all<R: Read, A: Allocator>(
     Err(RunFault::Boxes(Error::OutOfMemory))
 }
 
-/// Writes all bytes, and answers how many they are.
+/// Writes all bytes, and returns how many they are.
 pub fn write_all<W: Write>(output: &mut Output<W>, bytes: &[u8]) -> Result<u64, RunFault>
     ensures bytes { WritesAll (W.contents output.old.inner) (W.contents output.new.inner) result
         bytes.now }
@@ -117,11 +117,11 @@ fn normalize(alloc: Global, bytes: Vec<u8>) -> mp4_stream::Result<Vec<u8>>
 }
 
 /// Reads all boxes of the input, and writes them to the output in their normal form. Boxes of other
-/// names are left out. Answers how many bytes were written.
+/// names are left out. Returns how many bytes were written.
 ///
 /// All input is read and all output made before any of it is written, so a refusal leaves the output
 /// as it was, and a failed write leaves the beginning that the writer took. A reader without an end
-/// is refused as want of memory.
+/// is refused as out of memory.
 pub fn run_normal<R: Read, W: Write>(
     alloc: Global,
     input: &mut Input<R>,

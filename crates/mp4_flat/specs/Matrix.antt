@@ -3,7 +3,7 @@ use Rattle.std.specs.Prelude.{ℕ, ◌+◌, ℤ, pos, FitsSigned, List, [], ◌�
 use Rattle.std.specs.Int.{w32, cast_signed, cast_unsigned}
 use Rattle.mp4_flat.specs.declared.matrix.Matrix.{Matrix}
 
--- the matrix at o, by the number n o w of w bytes at o
+-- the matrix at o, where `at o w` is the number of w bytes at offset o
 abbrev pub matrix_at : (ℕ → ℕ → ℕ) → ℕ → Matrix
 matrix_at n o = record {
   a = cast_signed w32 (n o 4);
@@ -20,8 +20,8 @@ matrix_at n o = record {
 abbrev pub numbers_matrix : Matrix → List ℤ
 numbers_matrix m = m.a ∷ m.b ∷ m.u ∷ m.c ∷ m.d ∷ m.v ∷ m.x ∷ m.y ∷ m.w ∷ []
 
-abbrev pub columns_matrix : Matrix → List (ℕ × ℕ)
-columns_matrix m = map (λ z. (4, cast_unsigned w32 z)) (numbers_matrix m)
+abbrev pub fields_matrix : Matrix → List (ℕ × ℕ)
+fields_matrix m = map (λ z. (4, cast_unsigned w32 z)) (numbers_matrix m)
 
 -- each number is one of 32 bits
 abbrev pub AreSigned : List ℤ → Type 0

@@ -2,14 +2,14 @@
 use Rattle.std.proofs.Common.{◌≡◌, ℕ, ◌+◌, List, [], ◌∷◌}
 use Rattle.mp4_frame.specs.Bytes.{number}
 use Rattle.mp4_frame.specs.Laws.{AreBytes}
-use Rattle.mp4_frame.proofs.Columns.{found}
+use Rattle.mp4_frame.proofs.Fields.{found}
 use Rattle.mp4_frame.proofs.Signed.{back32, signed32}
 use Rattle.mp4_frame.proofs.Framing.{Origin, Signed32}
-use Rattle.mp4_flat.specs.Matrix.{matrix_at, columns_matrix, IsMatrix}
+use Rattle.mp4_flat.specs.Matrix.{matrix_at, fields_matrix, IsMatrix}
 use Rattle.mp4_flat.specs.declared.matrix.Matrix.{Matrix}
 
 -- a matrix that was written is read back
-pub matrix_back : (m : Matrix) → IsMatrix m → matrix_at (found (columns_matrix m) []) 0 ≡ m
+pub matrix_back : (m : Matrix) → IsMatrix m → matrix_at (found (fields_matrix m) []) 0 ≡ m
 matrix_back m (a, (b, (u, (c, (d, (v, (x, (y, (w, z))))))))) = λ i. record {
   a = back32 m.a a i;
   b = back32 m.b b i;

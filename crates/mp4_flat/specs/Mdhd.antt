@@ -1,17 +1,17 @@
 -- mdhd, the media header box (ISO/IEC 14496-12, 8.4.2). Its times take t bytes each: 4 in version 0, 8 in version 1.
 -- Version 1 byte, flags 3, creation time t bytes at 12, modification time t, timescale 4, duration t, language 2,
--- and 2 bytes of zero, which need not stand there to be read.
+-- and 2 bytes of zero, which need not are present to be read.
 use Rattle.std.specs.Prelude.{ℕ, ◌+◌, ◌*◌, List, [], ◌∷◌, ◌++◌, codes}
-use Rattle.mp4_frame.specs.Bytes.{joined, full_box}
+use Rattle.mp4_frame.specs.Bytes.{bytes_of_fields, full_box}
 use Rattle.mp4_frame.specs.Reading.{Reading, ◌>>=◌, memory, done}
 use Rattle.mp4_flat.specs.Language.{language_code, letters}
 use Rattle.mp4_flat.specs.Time.{time_width, timed_size, reads_timed, WritableTimed}
 use Rattle.mp4_flat.specs.declared.mdhd.MdhdBox.{MdhdBox}
 
--- the value, where a time takes t bytes, by the number n o w of w bytes at o
+-- the value, where a time takes t bytes, where `at o w` is the number of w bytes at offset o
 abbrev pub value_mdhd : ℕ → (ℕ → ℕ → ℕ) → MdhdBox
-value_mdhd t n = record {
-  version = n 8 1;
+value_mdhd t at = record {
+  version = at 8 1;
   flags = n 9 3;
   creation_time = n 12 t;
   modification_time = n (12 + t) t;
@@ -29,8 +29,8 @@ reads_mdhd bytes start size = do
 abbrev pub size_mdhd : MdhdBox → ℕ
 size_mdhd v = 16 + timed_size (λ t. 4 + 3 * t) v.version
 
-abbrev pub columns_mdhd : MdhdBox → List (ℕ × ℕ)
-columns_mdhd v =
+abbrev pub fields_mdhd : MdhdBox → List (ℕ × ℕ)
+fields_mdhd v =
     let t = time_width v.version in
     full_box (size_mdhd v) 0x6d646864 v.version v.flags
     ++ (t, v.creation_time) ∷ (t, v.modification_time) ∷ (4, v.timescale) ∷ (t, v.duration)
@@ -40,10 +40,10 @@ abbrev pub default_mdhd : MdhdBox
 default_mdhd = record { version = 0; flags = 0; creation_time = 0; modification_time = 0; timescale = 1000; duration = 0; language = codes "und" }
 
 abbrev pub WritableMdhd : MdhdBox → Type 0
-WritableMdhd v = WritableTimed v.version (columns_mdhd v)
+WritableMdhd v = WritableTimed v.version (fields_mdhd v)
 
 unfoldable pub bytes_mdhd : MdhdBox → List ℕ
-bytes_mdhd v = joined (columns_mdhd v)
+bytes_mdhd v = bytes_of_fields (fields_mdhd v)
 
 -- the language is the one that is read
 abbrev pub normal_mdhd : MdhdBox → MdhdBox

@@ -1,42 +1,42 @@
 -- The laws of mdhd, whose times have two widths, and whose language is read by its letters.
 use Rattle.std.proofs.Common.{◌≡◌, ℕ, ◌+◌, ◌*◌, ◌<◌, ◌^◌, List, [], ◌∷◌, ◌++◌, Ok, refl, sym, ap, subst, ◌∙◌, lit<, lit≤, arith}
-use Rattle.mp4_frame.specs.Bytes.{number, joined}
-use Rattle.mp4_frame.specs.Laws.{Framed, Normal, RowReadsBack, RowIsSound}
+use Rattle.mp4_frame.specs.Bytes.{number, bytes_of_fields}
+use Rattle.mp4_frame.specs.Laws.{BeginsWithHeader, Normal, ContentReadsBack, ContentIsSound}
 use Rattle.mp4_frame.specs.Reading.{◌>>=◌, memory, done}
 use Rattle.mp4_frame.specs.declared.box_type.BoxType.TheVariants as names
 use Rattle.mp4_frame.proofs.Decided.{outcome_bind}
-use Rattle.mp4_frame.proofs.Stands.{is_value}
+use Rattle.mp4_frame.proofs.Checks.{is_value}
 use Rattle.mp4_frame.proofs.Tables.{value_first}
-use Rattle.mp4_frame.proofs.Framing.{framed_columns, fits_read, Number, Fitting}
+use Rattle.mp4_frame.proofs.Framing.{header_of_fields, fits_read, Number, Fitting}
 use Rattle.mp4_flat.specs.Language.{language_code, letters}
 use Rattle.mp4_flat.specs.LanguageLaws.{language_fits, language_back, letters_back}
 use Rattle.mp4_flat.specs.Time.{time_width, reads_timed, WritableTimed}
 use Rattle.mp4_flat.specs.TimeLaws.{timed_size-known, timed_back, timed_is}
-use Rattle.mp4_flat.specs.Mdhd.{value_mdhd, reads_mdhd, size_mdhd, columns_mdhd, WritableMdhd, bytes_mdhd, normal_mdhd}
+use Rattle.mp4_flat.specs.Mdhd.{value_mdhd, reads_mdhd, size_mdhd, fields_mdhd, WritableMdhd, bytes_mdhd, normal_mdhd}
 use Rattle.mp4_flat.specs.declared.mdhd.MdhdBox.{MdhdBox}
 
-pub framed_mdhd : (v : MdhdBox) → WritableMdhd v → Framed (size_mdhd v) names.MdhdBox (bytes_mdhd v)
+pub header_mdhd : (v : MdhdBox) → WritableMdhd v → BeginsWithHeader (size_mdhd v) names.MdhdBox (bytes_mdhd v)
 unfolding bytes_mdhd
-framed_mdhd v w = framed_columns _ w.fit (omega (arith, timed_size-known (λ t. 4 + 3 * t) v.version w.known))
+header_mdhd v w = header_of_fields _ w.fit (omega (arith, timed_size-known (λ t. 4 + 3 * t) v.version w.known))
 
-same_columns : (v : MdhdBox) → columns_mdhd (normal_mdhd v) ≡ columns_mdhd v
-same_columns v = rw (language_back v.language) refl
+same_fields : (v : MdhdBox) → fields_mdhd (normal_mdhd v) ≡ fields_mdhd v
+same_fields v = rw (language_back v.language) refl
 
 pub normal_form_mdhd : (v : MdhdBox) → WritableMdhd v → Normal WritableMdhd bytes_mdhd normal_mdhd v
 unfolding bytes_mdhd
 normal_form_mdhd v w = record {
-  writable = subst (WritableTimed v.version) (sym (same_columns v)) w;
+  writable = subst (WritableTimed v.version) (sym (same_fields v)) w;
   again = ap (λ (code : ℕ). record v { language = letters code }) (language_back v.language);
-  same_bytes = ap joined (same_columns v);
+  same_bytes = ap bytes_of_fields (same_fields v);
 }
 
-pub read_back_mdhd : (v : MdhdBox) → WritableMdhd v → RowReadsBack reads_mdhd (bytes_mdhd v) (size_mdhd v) (normal_mdhd v)
+pub read_back_mdhd : (v : MdhdBox) → WritableMdhd v → ContentReadsBack reads_mdhd (bytes_mdhd v) (size_mdhd v) (normal_mdhd v)
 unfolding bytes_mdhd reads_mdhd
 read_back_mdhd v w rest start top =
-    let timed = timed_back (λ t. 6 + 3 * t) value_mdhd columns_mdhd normal_mdhd (λ k. record v { version = k }) rest v.version w (refl, lit≤ tt, refl) (refl, lit≤ tt, refl) in
-    outcome_bind (reads_timed (λ t. 6 + 3 * t) value_mdhd (joined (columns_mdhd v) ++ rest)) (λ x. memory >>= λ _. done x) (normal_mdhd v) (Ok (normal_mdhd v)) timed refl
+    let timed = timed_back (λ t. 6 + 3 * t) value_mdhd fields_mdhd normal_mdhd (λ k. record v { version = k }) rest v.version w (refl, lit≤ tt, refl) (refl, lit≤ tt, refl) in
+    outcome_bind (reads_timed (λ t. 6 + 3 * t) value_mdhd (bytes_of_fields (fields_mdhd v) ++ rest)) (λ x. memory >>= λ _. done x) (normal_mdhd v) (Ok (normal_mdhd v)) timed refl
 
-pub sound_mdhd : RowIsSound reads_mdhd WritableMdhd size_mdhd normal_mdhd
+pub sound_mdhd : ContentIsSound reads_mdhd WritableMdhd size_mdhd normal_mdhd
 unfolding reads_mdhd
 sound_mdhd bytes start long v are e =
     let t = time_width (number bytes 8 1) in

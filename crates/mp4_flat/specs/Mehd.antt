@@ -1,14 +1,14 @@
 -- mehd, the movie extends header box (ISO/IEC 14496-12, 8.8.2): version 1 byte, which is 0 or 1, flags 3, and
 -- the duration at 12, in 4 bytes or 8.
 use Rattle.std.specs.Prelude.{ℕ, ◌+◌, List, [], ◌∷◌, ◌++◌}
-use Rattle.mp4_frame.specs.Bytes.{joined, full_box}
+use Rattle.mp4_frame.specs.Bytes.{bytes_of_fields, full_box}
 use Rattle.mp4_frame.specs.Reading.{Reading}
 use Rattle.mp4_flat.specs.Time.{time_width, timed_size, reads_timed, WritableTimed}
 use Rattle.mp4_flat.specs.declared.mehd.MehdBox.{MehdBox}
 
--- the value, where a time takes t bytes, by the number n o w of w bytes at o
+-- the value, where a time takes t bytes, where `at o w` is the number of w bytes at offset o
 abbrev pub value_mehd : ℕ → (ℕ → ℕ → ℕ) → MehdBox
-value_mehd t n = record { version = n 8 1; flags = n 9 3; fragment_duration = n 12 t }
+value_mehd t at = record { version = at 8 1; flags = at 9 3; fragment_duration = at 12 t }
 
 unfoldable pub reads_mehd : List ℕ → ℕ → ℕ → Reading MehdBox
 reads_mehd bytes start size = reads_timed (λ t. t) value_mehd bytes
@@ -16,14 +16,14 @@ reads_mehd bytes start size = reads_timed (λ t. t) value_mehd bytes
 abbrev pub size_mehd : MehdBox → ℕ
 size_mehd v = 12 + timed_size (λ t. t) v.version
 
-abbrev pub columns_mehd : MehdBox → List (ℕ × ℕ)
-columns_mehd v = full_box (size_mehd v) 0x6d656864 v.version v.flags ++ (time_width v.version, v.fragment_duration) ∷ []
+abbrev pub fields_mehd : MehdBox → List (ℕ × ℕ)
+fields_mehd v = full_box (size_mehd v) 0x6d656864 v.version v.flags ++ (time_width v.version, v.fragment_duration) ∷ []
 
 abbrev pub WritableMehd : MehdBox → Type 0
-WritableMehd v = WritableTimed v.version (columns_mehd v)
+WritableMehd v = WritableTimed v.version (fields_mehd v)
 
 unfoldable pub bytes_mehd : MehdBox → List ℕ
-bytes_mehd v = joined (columns_mehd v)
+bytes_mehd v = bytes_of_fields (fields_mehd v)
 
 abbrev pub normal_mehd : MehdBox → MehdBox
 normal_mehd v = v

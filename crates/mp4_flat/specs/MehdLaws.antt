@@ -1,23 +1,23 @@
 -- The laws of mehd, whose time has two widths.
 use Rattle.std.proofs.Common.{◌<◌, ◌^◌, [], ◌∷◌, refl, subst, lit<, lit≤, arith}
 use Rattle.mp4_frame.specs.Bytes.{number}
-use Rattle.mp4_frame.specs.Laws.{Framed, RowReadsBack, RowIsSound}
+use Rattle.mp4_frame.specs.Laws.{BeginsWithHeader, ContentReadsBack, ContentIsSound}
 use Rattle.mp4_frame.specs.declared.box_type.BoxType.TheVariants as names
-use Rattle.mp4_frame.proofs.Framing.{framed_columns, fits_read, Number}
+use Rattle.mp4_frame.proofs.Framing.{header_of_fields, fits_read, Number}
 use Rattle.mp4_flat.specs.Time.{time_width}
 use Rattle.mp4_flat.specs.TimeLaws.{timed_size-known, timed_back, timed_is}
-use Rattle.mp4_flat.specs.Mehd.{value_mehd, reads_mehd, size_mehd, columns_mehd, WritableMehd, bytes_mehd, normal_mehd}
+use Rattle.mp4_flat.specs.Mehd.{value_mehd, reads_mehd, size_mehd, fields_mehd, WritableMehd, bytes_mehd, normal_mehd}
 use Rattle.mp4_flat.specs.declared.mehd.MehdBox.{MehdBox}
 
-pub framed_mehd : (v : MehdBox) → WritableMehd v → Framed (size_mehd v) names.MehdBox (bytes_mehd v)
+pub header_mehd : (v : MehdBox) → WritableMehd v → BeginsWithHeader (size_mehd v) names.MehdBox (bytes_mehd v)
 unfolding bytes_mehd
-framed_mehd v w = framed_columns _ w.fit (omega (arith, timed_size-known (λ t. t) v.version w.known))
+header_mehd v w = header_of_fields _ w.fit (omega (arith, timed_size-known (λ t. t) v.version w.known))
 
-pub read_back_mehd : (v : MehdBox) → WritableMehd v → RowReadsBack reads_mehd (bytes_mehd v) (size_mehd v) (normal_mehd v)
+pub read_back_mehd : (v : MehdBox) → WritableMehd v → ContentReadsBack reads_mehd (bytes_mehd v) (size_mehd v) (normal_mehd v)
 unfolding bytes_mehd reads_mehd
-read_back_mehd v w rest start top = timed_back (λ t. t) value_mehd columns_mehd normal_mehd (λ k. record v { version = k }) rest v.version w (refl, lit≤ tt, refl) (refl, lit≤ tt, refl)
+read_back_mehd v w rest start top = timed_back (λ t. t) value_mehd fields_mehd normal_mehd (λ k. record v { version = k }) rest v.version w (refl, lit≤ tt, refl) (refl, lit≤ tt, refl)
 
-pub sound_mehd : RowIsSound reads_mehd WritableMehd size_mehd normal_mehd
+pub sound_mehd : ContentIsSound reads_mehd WritableMehd size_mehd normal_mehd
 unfolding reads_mehd
 sound_mehd bytes start long v are e =
     let is = timed_is (λ t. t) value_mehd bytes v e in

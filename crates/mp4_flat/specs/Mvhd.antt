@@ -2,16 +2,16 @@
 -- Version 1 byte, flags 3, creation time t bytes at 12, modification time t, timescale 4, duration t, rate 4,
 -- volume 2, 10 of zero, matrix 36, 24 of zero, and the next number of a track in 4.
 use Rattle.std.specs.Prelude.{ℕ, ◌+◌, ◌*◌, List, [], ◌∷◌, ◌++◌}
-use Rattle.mp4_frame.specs.Bytes.{joined, full_box}
+use Rattle.mp4_frame.specs.Bytes.{bytes_of_fields, full_box}
 use Rattle.mp4_frame.specs.Reading.{Reading}
-use Rattle.mp4_flat.specs.Matrix.{matrix_at, columns_matrix, unity, IsMatrix}
+use Rattle.mp4_flat.specs.Matrix.{matrix_at, fields_matrix, unity, IsMatrix}
 use Rattle.mp4_flat.specs.Time.{time_width, timed_size, reads_timed, WritableTimed}
 use Rattle.mp4_flat.specs.declared.mvhd.MvhdBox.{MvhdBox}
 
--- the value, where a time takes t bytes, by the number n o w of w bytes at o
+-- the value, where a time takes t bytes, where `at o w` is the number of w bytes at offset o
 abbrev pub value_mvhd : ℕ → (ℕ → ℕ → ℕ) → MvhdBox
-value_mvhd t n = record {
-  version = n 8 1;
+value_mvhd t at = record {
+  version = at 8 1;
   flags = n 9 3;
   creation_time = n 12 t;
   modification_time = n (12 + t) t;
@@ -29,22 +29,22 @@ reads_mvhd bytes start size = reads_timed (λ t. 84 + 3 * t) value_mvhd bytes
 abbrev pub size_mvhd : MvhdBox → ℕ
 size_mvhd v = 92 + timed_size (λ t. 4 + 3 * t) v.version
 
-abbrev pub columns_mvhd : MvhdBox → List (ℕ × ℕ)
-columns_mvhd v =
+abbrev pub fields_mvhd : MvhdBox → List (ℕ × ℕ)
+fields_mvhd v =
     let t = time_width v.version in
     full_box (size_mvhd v) 0x6d766864 v.version v.flags
     ++ (t, v.creation_time) ∷ (t, v.modification_time) ∷ (4, v.timescale) ∷ (t, v.duration)
     ∷ (4, v.rate) ∷ (2, v.volume) ∷ (10, 0)
-    ∷ columns_matrix v.matrix ++ (24, 0) ∷ (4, v.next_track_id) ∷ []
+    ∷ fields_matrix v.matrix ++ (24, 0) ∷ (4, v.next_track_id) ∷ []
 
 abbrev pub default_mvhd : MvhdBox
 default_mvhd = record { version = 0; flags = 0; creation_time = 0; modification_time = 0; timescale = 1000; duration = 0; rate = 0x10000; volume = 0x100; matrix = unity; next_track_id = 1 }
 
 abbrev pub WritableMvhd : MvhdBox → Type 0
-WritableMvhd v = WritableTimed v.version (columns_mvhd v) × IsMatrix v.matrix
+WritableMvhd v = WritableTimed v.version (fields_mvhd v) × IsMatrix v.matrix
 
 unfoldable pub bytes_mvhd : MvhdBox → List ℕ
-bytes_mvhd v = joined (columns_mvhd v)
+bytes_mvhd v = bytes_of_fields (fields_mvhd v)
 
 abbrev pub normal_mvhd : MvhdBox → MvhdBox
 normal_mvhd v = v

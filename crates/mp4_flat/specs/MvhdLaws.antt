@@ -1,27 +1,27 @@
 -- The laws of mvhd, whose times have two widths.
 use Rattle.std.proofs.Common.{ℕ, ◌+◌, ◌*◌, ◌<◌, ◌^◌, [], ◌∷◌, ◌++◌, refl, ap, subst, lit<, lit≤, arith}
 use Rattle.mp4_frame.specs.Bytes.{number}
-use Rattle.mp4_frame.specs.Laws.{Framed, RowReadsBack, RowIsSound}
+use Rattle.mp4_frame.specs.Laws.{BeginsWithHeader, ContentReadsBack, ContentIsSound}
 use Rattle.mp4_frame.specs.declared.box_type.BoxType.TheVariants as names
-use Rattle.mp4_frame.proofs.Framing.{framed_columns, fits_read, Number, Fitting}
+use Rattle.mp4_frame.proofs.Framing.{header_of_fields, fits_read, Number, Fitting}
 use Rattle.mp4_flat.specs.MatrixLaws.{matrix_back, origins_matrix, matrix_read}
 use Rattle.mp4_flat.specs.Time.{time_width}
 use Rattle.mp4_flat.specs.TimeLaws.{timed_size-known, timed_back, timed_is}
-use Rattle.mp4_flat.specs.Mvhd.{value_mvhd, reads_mvhd, size_mvhd, columns_mvhd, WritableMvhd, bytes_mvhd, normal_mvhd}
+use Rattle.mp4_flat.specs.Mvhd.{value_mvhd, reads_mvhd, size_mvhd, fields_mvhd, WritableMvhd, bytes_mvhd, normal_mvhd}
 use Rattle.mp4_flat.specs.declared.matrix.Matrix.{Matrix}
 use Rattle.mp4_flat.specs.declared.mvhd.MvhdBox.{MvhdBox}
 
-pub framed_mvhd : (v : MvhdBox) → WritableMvhd v → Framed (size_mvhd v) names.MvhdBox (bytes_mvhd v)
+pub header_mvhd : (v : MvhdBox) → WritableMvhd v → BeginsWithHeader (size_mvhd v) names.MvhdBox (bytes_mvhd v)
 unfolding bytes_mvhd
-framed_mvhd v w = framed_columns _ w.0.fit (omega (arith, timed_size-known (λ t. 4 + 3 * t) v.version w.0.known))
+header_mvhd v w = header_of_fields _ w.0.fit (omega (arith, timed_size-known (λ t. 4 + 3 * t) v.version w.0.known))
 
-pub read_back_mvhd : (v : MvhdBox) → WritableMvhd v → RowReadsBack reads_mvhd (bytes_mvhd v) (size_mvhd v) (normal_mvhd v)
+pub read_back_mvhd : (v : MvhdBox) → WritableMvhd v → ContentReadsBack reads_mvhd (bytes_mvhd v) (size_mvhd v) (normal_mvhd v)
 unfolding bytes_mvhd reads_mvhd
 read_back_mvhd v w rest start top =
     let back = λ (k : ℕ). ap (λ (m : Matrix). record v { version = k; matrix = m }) (matrix_back v.matrix w.1) in
-    timed_back (λ t. 84 + 3 * t) value_mvhd columns_mvhd normal_mvhd (λ k. record v { version = k }) rest v.version w.0 (refl, lit≤ tt, back 0) (refl, lit≤ tt, back 1)
+    timed_back (λ t. 84 + 3 * t) value_mvhd fields_mvhd normal_mvhd (λ k. record v { version = k }) rest v.version w.0 (refl, lit≤ tt, back 0) (refl, lit≤ tt, back 1)
 
-pub sound_mvhd : RowIsSound reads_mvhd WritableMvhd size_mvhd normal_mvhd
+pub sound_mvhd : ContentIsSound reads_mvhd WritableMvhd size_mvhd normal_mvhd
 unfolding reads_mvhd
 sound_mvhd bytes start long v are e =
     let is = timed_is (λ t. 84 + 3 * t) value_mvhd bytes v e in

@@ -1,31 +1,31 @@
 -- smhd, the sound media header box (ISO/IEC 14496-12, 12.2.2): version 1 byte, flags 3, the balance in 2 bytes
--- at 12, signed, and 2 bytes of zero, which need not stand there to be read.
+-- at 12, signed, and 2 bytes of zero, which need not are present to be read.
 use Rattle.std.specs.Prelude.{ℕ, FitsSigned, List, [], ◌∷◌, ◌++◌}
 use Rattle.std.specs.Int.{w16, cast_signed, cast_unsigned}
-use Rattle.mp4_frame.specs.Bytes.{number, joined, Fit, full_box}
-use Rattle.mp4_frame.specs.Reading.{Reading, ◌>>=◌, fields, done}
+use Rattle.mp4_frame.specs.Bytes.{number, bytes_of_fields, FieldsFit, full_box}
+use Rattle.mp4_frame.specs.Reading.{Reading, ◌>>=◌, expect_bytes, done}
 use Rattle.mp4_flat.specs.declared.smhd.SmhdBox.{SmhdBox}
 
--- the value, by the number n o w of w bytes at o
+-- the value, where `at o w` is the number of w bytes at offset o
 abbrev pub value_smhd : (ℕ → ℕ → ℕ) → SmhdBox
-value_smhd n = record { version = n 8 1; flags = n 9 3; balance = cast_signed w16 (n 12 2) }
+value_smhd at = record { version = at 8 1; flags = at 9 3; balance = cast_signed w16 (at 12 2) }
 
 unfoldable pub reads_smhd : List ℕ → ℕ → ℕ → Reading SmhdBox
 reads_smhd bytes start size = do
-  _ ← fields bytes 8 6
+  _ ← expect_bytes bytes 8 6
   done (value_smhd (number bytes))
 
 abbrev pub size_smhd : SmhdBox → ℕ
 size_smhd v = 16
 
-abbrev pub columns_smhd : SmhdBox → List (ℕ × ℕ)
-columns_smhd v = full_box 16 0x736d6864 v.version v.flags ++ (2, cast_unsigned w16 v.balance) ∷ (2, 0) ∷ []
+abbrev pub fields_smhd : SmhdBox → List (ℕ × ℕ)
+fields_smhd v = full_box 16 0x736d6864 v.version v.flags ++ (2, cast_unsigned w16 v.balance) ∷ (2, 0) ∷ []
 
 abbrev pub WritableSmhd : SmhdBox → Type 0
-WritableSmhd v = Fit (columns_smhd v) × FitsSigned w16 v.balance
+WritableSmhd v = FieldsFit (fields_smhd v) × FitsSigned w16 v.balance
 
 unfoldable pub bytes_smhd : SmhdBox → List ℕ
-bytes_smhd v = joined (columns_smhd v)
+bytes_smhd v = bytes_of_fields (fields_smhd v)
 
 abbrev pub normal_smhd : SmhdBox → SmhdBox
 normal_smhd v = v

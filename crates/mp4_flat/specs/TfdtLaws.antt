@@ -1,23 +1,23 @@
 -- The laws of tfdt, whose time has two widths.
 use Rattle.std.proofs.Common.{◌<◌, ◌^◌, [], ◌∷◌, refl, subst, lit<, lit≤, arith}
 use Rattle.mp4_frame.specs.Bytes.{number}
-use Rattle.mp4_frame.specs.Laws.{Framed, RowReadsBack, RowIsSound}
+use Rattle.mp4_frame.specs.Laws.{BeginsWithHeader, ContentReadsBack, ContentIsSound}
 use Rattle.mp4_frame.specs.declared.box_type.BoxType.TheVariants as names
-use Rattle.mp4_frame.proofs.Framing.{framed_columns, fits_read, Number}
+use Rattle.mp4_frame.proofs.Framing.{header_of_fields, fits_read, Number}
 use Rattle.mp4_flat.specs.Time.{time_width}
 use Rattle.mp4_flat.specs.TimeLaws.{timed_back, timed_is}
-use Rattle.mp4_flat.specs.Tfdt.{value_tfdt, reads_tfdt, size_tfdt, columns_tfdt, WritableTfdt, bytes_tfdt, normal_tfdt}
+use Rattle.mp4_flat.specs.Tfdt.{value_tfdt, reads_tfdt, size_tfdt, fields_tfdt, WritableTfdt, bytes_tfdt, normal_tfdt}
 use Rattle.mp4_flat.specs.declared.tfdt.TfdtBox.{TfdtBox}
 
-pub framed_tfdt : (v : TfdtBox) → WritableTfdt v → Framed (size_tfdt v) names.TfdtBox (bytes_tfdt v)
+pub header_tfdt : (v : TfdtBox) → WritableTfdt v → BeginsWithHeader (size_tfdt v) names.TfdtBox (bytes_tfdt v)
 unfolding bytes_tfdt
-framed_tfdt v w = framed_columns _ w.fit (omega arith)
+header_tfdt v w = header_of_fields _ w.fit (omega arith)
 
-pub read_back_tfdt : (v : TfdtBox) → WritableTfdt v → RowReadsBack reads_tfdt (bytes_tfdt v) (size_tfdt v) (normal_tfdt v)
+pub read_back_tfdt : (v : TfdtBox) → WritableTfdt v → ContentReadsBack reads_tfdt (bytes_tfdt v) (size_tfdt v) (normal_tfdt v)
 unfolding bytes_tfdt reads_tfdt
-read_back_tfdt v w rest start top = timed_back (λ t. t) value_tfdt columns_tfdt normal_tfdt (λ k. record v { version = k }) rest v.version w (refl, lit≤ tt, refl) (refl, lit≤ tt, refl)
+read_back_tfdt v w rest start top = timed_back (λ t. t) value_tfdt fields_tfdt normal_tfdt (λ k. record v { version = k }) rest v.version w (refl, lit≤ tt, refl) (refl, lit≤ tt, refl)
 
-pub sound_tfdt : RowIsSound reads_tfdt WritableTfdt size_tfdt normal_tfdt
+pub sound_tfdt : ContentIsSound reads_tfdt WritableTfdt size_tfdt normal_tfdt
 unfolding reads_tfdt
 sound_tfdt bytes start long v are e =
     let is = timed_is (λ t. t) value_tfdt bytes v e in

@@ -1,8 +1,8 @@
 -- The laws of boxes that hold times, by their two versions.
 use Rattle.std.proofs.Common.{◌≡◌, ℕ, zero, suc, ◌+◌, ◌<◌, ◌≤◌, ltb, List, ◌++◌, Ok, refl, arith}
 use Rattle.std.proofs.lemmas.Bool.{lt-ltb, ltb-true}
-use Rattle.mp4_frame.specs.Bytes.{number, joined, width}
-use Rattle.mp4_frame.proofs.Columns.{found}
+use Rattle.mp4_frame.specs.Bytes.{number, bytes_of_fields, width_of_fields}
+use Rattle.mp4_frame.proofs.Fields.{found}
 use Rattle.mp4_frame.proofs.Rows.{by_version_again, by_version_is}
 use Rattle.mp4_flat.specs.Time.{time_width, timed_size, reads_timed, WritableTimed}
 
@@ -17,14 +17,14 @@ timed_size-known more = each_version (λ k. timed_size more k ≡ more (time_wid
 
 -- what was written of the box at k reads back as its normal form, where a time is as wide as in version k
 abbrev pub BackAt : {V : Type 0} → (ℕ → ℕ) → (ℕ → (ℕ → ℕ → ℕ) → V) → (V → List (ℕ × ℕ)) → (V → V) → (ℕ → V) → List ℕ → ℕ → Type 0
-BackAt more value columns normal at rest k =
-    (found (columns (at k)) rest 8 1 ≡ k) × (12 + more (time_width k) ≤ width (columns (at k))) × (value (time_width k) (found (columns (at k)) rest) ≡ normal (at k))
+BackAt more value fields normal at rest k =
+    (found (fields (at k)) rest 8 1 ≡ k) × (12 + more (time_width k) ≤ width_of_fields (fields (at k))) × (value (time_width k) (found (fields (at k)) rest) ≡ normal (at k))
 
 -- what holds of a box in version 0 and in version 1 holds of it
-pub timed_back : {V : Type 0} (more : ℕ → ℕ) (value : ℕ → (ℕ → ℕ → ℕ) → V) (columns : V → List (ℕ × ℕ)) (normal : V → V) (at : ℕ → V) (rest : List ℕ) (version : ℕ) → WritableTimed version (columns (at version)) → BackAt more value columns normal at rest 0 → BackAt more value columns normal at rest 1 → (reads_timed more value (joined (columns (at version)) ++ rest)).outcome ≡ Ok (normal (at version))
-timed_back more value columns normal at rest version w zeroth first =
-    let back = each_version (BackAt more value columns normal at rest) zeroth first version w.known in
-    by_version_again (λ k. ltb k 2) (λ k. more (time_width k)) (λ k. value (time_width k)) (columns (at version)) rest version (normal (at version)) w.fit back.0 (lt-ltb version 2 w.known) back.1 back.2
+pub timed_back : {V : Type 0} (more : ℕ → ℕ) (value : ℕ → (ℕ → ℕ → ℕ) → V) (fields : V → List (ℕ × ℕ)) (normal : V → V) (at : ℕ → V) (rest : List ℕ) (version : ℕ) → WritableTimed version (fields (at version)) → BackAt more value fields normal at rest 0 → BackAt more value fields normal at rest 1 → (reads_timed more value (bytes_of_fields (fields (at version)) ++ rest)).outcome ≡ Ok (normal (at version))
+timed_back more value fields normal at rest version w zeroth first =
+    let back = each_version (BackAt more value fields normal at rest) zeroth first version w.known in
+    by_version_again (λ k. ltb k 2) (λ k. more (time_width k)) (λ k. value (time_width k)) (fields (at version)) rest version (normal (at version)) w.fit back.0 (lt-ltb version 2 w.known) back.1 back.2
 
 -- what was read has a known version, and the value of its numbers
 pub timed_is : {V : Type 0} (more : ℕ → ℕ) (value : ℕ → (ℕ → ℕ → ℕ) → V) (bytes : List ℕ) (v : V) → (reads_timed more value bytes).outcome ≡ Ok v → (number bytes 8 1 < 2) × (value (time_width (number bytes 8 1)) (number bytes) ≡ v)

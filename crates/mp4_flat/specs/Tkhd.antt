@@ -1,18 +1,18 @@
 -- tkhd, the track header box (ISO/IEC 14496-12, 8.3.2). Its times take t bytes each: 4 in version 0, 8 in version 1.
 -- Version 1 byte, flags 3, creation time t bytes at 12, modification time t, number of the track 4, 4 reserved,
 -- duration t, 8 reserved, layer 2, alternate group 2, volume 2, 2 reserved, matrix 36, width 4, and height 4.
--- What is reserved has to stand there, and is written as zero.
+-- What is reserved has to are present, and is written as zero.
 use Rattle.std.specs.Prelude.{ℕ, ◌+◌, ◌*◌, List, [], ◌∷◌, ◌++◌}
-use Rattle.mp4_frame.specs.Bytes.{joined, full_box}
+use Rattle.mp4_frame.specs.Bytes.{bytes_of_fields, full_box}
 use Rattle.mp4_frame.specs.Reading.{Reading}
-use Rattle.mp4_flat.specs.Matrix.{matrix_at, columns_matrix, unity, IsMatrix}
+use Rattle.mp4_flat.specs.Matrix.{matrix_at, fields_matrix, unity, IsMatrix}
 use Rattle.mp4_flat.specs.Time.{time_width, timed_size, reads_timed, WritableTimed}
 use Rattle.mp4_flat.specs.declared.tkhd.TkhdBox.{TkhdBox}
 
--- the value, where a time takes t bytes, by the number n o w of w bytes at o
+-- the value, where a time takes t bytes, where `at o w` is the number of w bytes at offset o
 abbrev pub value_tkhd : ℕ → (ℕ → ℕ → ℕ) → TkhdBox
-value_tkhd t n = record {
-  version = n 8 1;
+value_tkhd t at = record {
+  version = at 8 1;
   flags = n 9 3;
   creation_time = n 12 t;
   modification_time = n (12 + t) t;
@@ -32,22 +32,22 @@ reads_tkhd bytes start size = reads_timed (λ t. 68 + 3 * t) value_tkhd bytes
 abbrev pub size_tkhd : TkhdBox → ℕ
 size_tkhd v = 72 + timed_size (λ t. 8 + 3 * t) v.version
 
-abbrev pub columns_tkhd : TkhdBox → List (ℕ × ℕ)
-columns_tkhd v =
+abbrev pub fields_tkhd : TkhdBox → List (ℕ × ℕ)
+fields_tkhd v =
     let t = time_width v.version in
     full_box (size_tkhd v) 0x746b6864 v.version v.flags
     ++ (t, v.creation_time) ∷ (t, v.modification_time) ∷ (4, v.track_id) ∷ (4, 0) ∷ (t, v.duration) ∷ (8, 0)
     ∷ (2, v.layer) ∷ (2, v.alternate_group) ∷ (2, v.volume) ∷ (2, 0)
-    ∷ columns_matrix v.matrix ++ (4, v.width) ∷ (4, v.height) ∷ []
+    ∷ fields_matrix v.matrix ++ (4, v.width) ∷ (4, v.height) ∷ []
 
 abbrev pub default_tkhd : TkhdBox
 default_tkhd = record { version = 0; flags = 1; creation_time = 0; modification_time = 0; track_id = 0; duration = 0; layer = 0; alternate_group = 0; volume = 0x100; matrix = unity; width = 0; height = 0 }
 
 abbrev pub WritableTkhd : TkhdBox → Type 0
-WritableTkhd v = WritableTimed v.version (columns_tkhd v) × IsMatrix v.matrix
+WritableTkhd v = WritableTimed v.version (fields_tkhd v) × IsMatrix v.matrix
 
 unfoldable pub bytes_tkhd : TkhdBox → List ℕ
-bytes_tkhd v = joined (columns_tkhd v)
+bytes_tkhd v = bytes_of_fields (fields_tkhd v)
 
 abbrev pub normal_tkhd : TkhdBox → TkhdBox
 normal_tkhd v = v

@@ -1,27 +1,27 @@
 -- The laws of tkhd, whose times have two widths.
 use Rattle.std.proofs.Common.{ℕ, ◌+◌, ◌*◌, ◌<◌, ◌^◌, [], ◌∷◌, ◌++◌, refl, ap, subst, lit<, lit≤, arith}
 use Rattle.mp4_frame.specs.Bytes.{number}
-use Rattle.mp4_frame.specs.Laws.{Framed, RowReadsBack, RowIsSound}
+use Rattle.mp4_frame.specs.Laws.{BeginsWithHeader, ContentReadsBack, ContentIsSound}
 use Rattle.mp4_frame.specs.declared.box_type.BoxType.TheVariants as names
-use Rattle.mp4_frame.proofs.Framing.{framed_columns, fits_read, Number, Fitting}
+use Rattle.mp4_frame.proofs.Framing.{header_of_fields, fits_read, Number, Fitting}
 use Rattle.mp4_flat.specs.MatrixLaws.{matrix_back, origins_matrix, matrix_read}
 use Rattle.mp4_flat.specs.Time.{time_width}
 use Rattle.mp4_flat.specs.TimeLaws.{timed_size-known, timed_back, timed_is}
-use Rattle.mp4_flat.specs.Tkhd.{value_tkhd, reads_tkhd, size_tkhd, columns_tkhd, WritableTkhd, bytes_tkhd, normal_tkhd}
+use Rattle.mp4_flat.specs.Tkhd.{value_tkhd, reads_tkhd, size_tkhd, fields_tkhd, WritableTkhd, bytes_tkhd, normal_tkhd}
 use Rattle.mp4_flat.specs.declared.matrix.Matrix.{Matrix}
 use Rattle.mp4_flat.specs.declared.tkhd.TkhdBox.{TkhdBox}
 
-pub framed_tkhd : (v : TkhdBox) → WritableTkhd v → Framed (size_tkhd v) names.TkhdBox (bytes_tkhd v)
+pub header_tkhd : (v : TkhdBox) → WritableTkhd v → BeginsWithHeader (size_tkhd v) names.TkhdBox (bytes_tkhd v)
 unfolding bytes_tkhd
-framed_tkhd v w = framed_columns _ w.0.fit (omega (arith, timed_size-known (λ t. 8 + 3 * t) v.version w.0.known))
+header_tkhd v w = header_of_fields _ w.0.fit (omega (arith, timed_size-known (λ t. 8 + 3 * t) v.version w.0.known))
 
-pub read_back_tkhd : (v : TkhdBox) → WritableTkhd v → RowReadsBack reads_tkhd (bytes_tkhd v) (size_tkhd v) (normal_tkhd v)
+pub read_back_tkhd : (v : TkhdBox) → WritableTkhd v → ContentReadsBack reads_tkhd (bytes_tkhd v) (size_tkhd v) (normal_tkhd v)
 unfolding bytes_tkhd reads_tkhd
 read_back_tkhd v w rest start top =
     let back = λ (k : ℕ). ap (λ (m : Matrix). record v { version = k; matrix = m }) (matrix_back v.matrix w.1) in
-    timed_back (λ t. 68 + 3 * t) value_tkhd columns_tkhd normal_tkhd (λ k. record v { version = k }) rest v.version w.0 (refl, lit≤ tt, back 0) (refl, lit≤ tt, back 1)
+    timed_back (λ t. 68 + 3 * t) value_tkhd fields_tkhd normal_tkhd (λ k. record v { version = k }) rest v.version w.0 (refl, lit≤ tt, back 0) (refl, lit≤ tt, back 1)
 
-pub sound_tkhd : RowIsSound reads_tkhd WritableTkhd size_tkhd normal_tkhd
+pub sound_tkhd : ContentIsSound reads_tkhd WritableTkhd size_tkhd normal_tkhd
 unfolding reads_tkhd
 sound_tkhd bytes start long v are e =
     let is = timed_is (λ t. 68 + 3 * t) value_tkhd bytes v e in

@@ -1,15 +1,15 @@
 //! The transformation of a video.
 
 ghost use Rattle.std.specs.Prelude.{◌≡◌, ◌≤◌, ◌+◌, ◌↔◌, IsTrue, length, take};
-ghost use Rattle.mp4_frame.specs.Bytes.{number, joined_onto};
-ghost use Rattle.mp4_flat.specs.Matrix.{matrix_at, columns_matrix, numbers_matrix, IsMatrix};
+ghost use Rattle.mp4_frame.specs.Bytes.{number, bytes_of_fields_onto};
+ghost use Rattle.mp4_flat.specs.Matrix.{matrix_at, fields_matrix, numbers_matrix, IsMatrix};
 
 use mp4_frame::{i32_at, put_i32};
 use std::fmt;
 
 /// How a video is transformed: the point (p, q) goes to (m / z, n / z), where m = a·p + c·q + x,
 /// n = b·p + d·q + y and z = u·p + v·q + w (ISO/IEC 14496-12, 6.2.2). The numbers have a fixed point, with
-/// 16 bits behind it, and 30 bits in u, v and w.
+/// 16 bits after it, and 30 bits in u, v and w.
 #[derive(Clone, Debug, Drop, PartialEq, Eq)]
 pub struct Matrix {
     /// The weight of p in m.
@@ -75,7 +75,7 @@ impl Matrix {
     }
 }
 
-/// Every value is a matrix. The answer is for proofs, which know nothing of the numbers behind a reference.
+/// Every value is a matrix. The result is for the prover, which know nothing of the numbers after a reference.
 pub fn is_matrix(matrix: &Matrix) -> bool
     ensures { IsTrue result ↔ IsMatrix matrix.now }
 {
@@ -101,21 +101,21 @@ pub fn matrix_from(bytes: &[u8], at: usize) -> Matrix
     }
 }
 
-/// Puts a matrix, and answers the place behind it.
-#[tactic(auto, unfolding(mp4_frame::specs::Bytes::joined_onto))]
-pub fn put_matrix(place: &mut [u8], at: usize, matrix: &Matrix) -> usize
+/// Puts a matrix, and returns the offset after it.
+#[tactic(auto, unfolding(mp4_frame::specs::Bytes::bytes_of_fields_onto))]
+pub fn put_matrix(out: &mut [u8], at: usize, matrix: &Matrix) -> usize
     requires matrix { IsMatrix matrix.now }
-    requires room { at + 36 ≤ length place.old }
+    requires room { at + 36 ≤ length out.old }
     ensures next { result ≡ at + 36 }
-    ensures put { take result place.new ≡ joined_onto (take at place.old) (columns_matrix matrix.now) }
+    ensures put { take result out.new ≡ bytes_of_fields_onto (take at out.old) (fields_matrix matrix.now) }
 {
-    let at = put_i32(place, at, matrix.a);
-    let at = put_i32(place, at, matrix.b);
-    let at = put_i32(place, at, matrix.u);
-    let at = put_i32(place, at, matrix.c);
-    let at = put_i32(place, at, matrix.d);
-    let at = put_i32(place, at, matrix.v);
-    let at = put_i32(place, at, matrix.x);
-    let at = put_i32(place, at, matrix.y);
-    put_i32(place, at, matrix.w)
+    let at = put_i32(out, at, matrix.a);
+    let at = put_i32(out, at, matrix.b);
+    let at = put_i32(out, at, matrix.u);
+    let at = put_i32(out, at, matrix.c);
+    let at = put_i32(out, at, matrix.d);
+    let at = put_i32(out, at, matrix.v);
+    let at = put_i32(out, at, matrix.x);
+    let at = put_i32(out, at, matrix.y);
+    put_i32(out, at, matrix.w)
 }

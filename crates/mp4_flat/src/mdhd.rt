@@ -3,12 +3,12 @@
 ghost use Rattle.std.specs.Prelude.{◌≡◌, IfOk, IfErr};
 ghost use Rattle.mp4_frame.specs.declared.box_type.BoxType.TheVariants as names;
 ghost use Rattle.mp4_flat.specs.Mdhd.{default_mdhd, reads_mdhd, size_mdhd, WritableMdhd, bytes_mdhd, normal_mdhd};
-ghost use Rattle.mp4_flat.specs.MdhdLaws.{framed_mdhd, normal_form_mdhd, read_back_mdhd, sound_mdhd};
+ghost use Rattle.mp4_flat.specs.MdhdLaws.{header_mdhd, normal_form_mdhd, read_back_mdhd, sound_mdhd};
 
 use crate::language::{language_code, language_string};
 use crate::time::{put_time, time_at, time_fits, version_of_times, width_of_time};
 use mp4_frame::{
-    BoxLaws, BoxType, Error, Mp4Box, ReadBox, Result, Text, WriteBox, fields, put_full_box,
+    BoxLaws, BoxType, Error, Mp4Box, ReadBox, Result, Text, WriteBox, expect_bytes, put_full_box,
     put_u16, put_u32, put_zeros, u16_at, u24_at, u32_at,
 };
 use std::alloc::Global;
@@ -102,10 +102,10 @@ impl ReadBox for MdhdBox {
     ghost reads = { reads_mdhd };
 
     #[tactic(auto, unfolding(crate::specs::Mdhd::reads_mdhd))]
-    fn read_row(alloc: Global, bytes: &[u8], _start: u64, _size: u64) -> Result<MdhdBox> {
+    fn read_content(alloc: Global, bytes: &[u8], _start: u64, _size: u64) -> Result<MdhdBox> {
         let version = version_of_times(bytes)?;
         let t = width_of_time(version);
-        fields(bytes, 12, 6 + 3 * t)?;
+        expect_bytes(bytes, 12, 6 + 3 * t)?;
         let language = language_string(alloc, u16_at(bytes, 16 + 3 * t))?;
         Ok(MdhdBox {
             version,
@@ -137,19 +137,19 @@ impl WriteBox for MdhdBox {
             && time_fits(self.version, self.duration)
     }
 
-    #[tactic(auto, unfolding(crate::specs::Mdhd::bytes_mdhd, mp4_frame::specs::Bytes::joined, mp4_frame::specs::Bytes::joined_onto))]
-    fn put_box(&self, place: &mut [u8]) {
+    #[tactic(auto, unfolding(crate::specs::Mdhd::bytes_mdhd, mp4_frame::specs::Bytes::bytes_of_fields, mp4_frame::specs::Bytes::bytes_of_fields_onto))]
+    fn put_box(&self, out: &mut [u8]) {
         let size = self.box_size() as u32;
-        let at = put_full_box(place, size, 0x6d64_6864, self.version, self.flags);
-        let at = put_time(place, at, self.version, self.creation_time);
-        let at = put_time(place, at, self.version, self.modification_time);
-        let at = put_u32(place, at, self.timescale);
-        let at = put_time(place, at, self.version, self.duration);
-        let at = put_u16(place, at, language_code(self.language.as_str()));
-        put_zeros(place, at, 2);
+        let at = put_full_box(out, size, 0x6d64_6864, self.version, self.flags);
+        let at = put_time(out, at, self.version, self.creation_time);
+        let at = put_time(out, at, self.version, self.modification_time);
+        let at = put_u32(out, at, self.timescale);
+        let at = put_time(out, at, self.version, self.duration);
+        let at = put_u16(out, at, language_code(self.language.as_str()));
+        put_zeros(out, at, 2);
     }
 
-    ghost framed = { framed_mdhd };
+    ghost header = { header_mdhd };
 
     ghost normal_form = { normal_form_mdhd };
 }

@@ -2,13 +2,13 @@
 
 ghost use Rattle.std.specs.Prelude.{◌≡◌, refl};
 ghost use Rattle.mp4_frame.specs.declared.box_type.BoxType.TheVariants as names;
-ghost use Rattle.mp4_frame.proofs.Framing.{settled};
+ghost use Rattle.mp4_frame.proofs.Framing.{own_normal_form};
 ghost use Rattle.mp4_flat.specs.Mehd.{reads_mehd, size_mehd, WritableMehd, bytes_mehd, normal_mehd};
-ghost use Rattle.mp4_flat.specs.MehdLaws.{framed_mehd, read_back_mehd, sound_mehd};
+ghost use Rattle.mp4_flat.specs.MehdLaws.{header_mehd, read_back_mehd, sound_mehd};
 
 use crate::time::{put_time, time_at, time_fits, version_of_times, width_of_time};
 use mp4_frame::{
-    BoxLaws, BoxType, Mp4Box, ReadBox, Result, WriteBox, fields, put_full_box, u24_at,
+    BoxLaws, BoxType, Mp4Box, ReadBox, Result, WriteBox, expect_bytes, put_full_box, u24_at,
 };
 use std::alloc::Global;
 
@@ -61,9 +61,9 @@ impl ReadBox for MehdBox {
     ghost reads = { reads_mehd };
 
     #[tactic(auto, unfolding(crate::specs::Mehd::reads_mehd))]
-    fn read_row(_alloc: Global, bytes: &[u8], _start: u64, _size: u64) -> Result<MehdBox> {
+    fn read_content(_alloc: Global, bytes: &[u8], _start: u64, _size: u64) -> Result<MehdBox> {
         let version = version_of_times(bytes)?;
-        fields(bytes, 12, width_of_time(version))?;
+        expect_bytes(bytes, 12, width_of_time(version))?;
         Ok(MehdBox {
             version,
             flags: u24_at(bytes, 9),
@@ -83,16 +83,16 @@ impl WriteBox for MehdBox {
         self.version < 2 && self.flags < 1 << 24 && time_fits(self.version, self.fragment_duration)
     }
 
-    #[tactic(auto, unfolding(crate::specs::Mehd::bytes_mehd, mp4_frame::specs::Bytes::joined, mp4_frame::specs::Bytes::joined_onto))]
-    fn put_box(&self, place: &mut [u8]) {
+    #[tactic(auto, unfolding(crate::specs::Mehd::bytes_mehd, mp4_frame::specs::Bytes::bytes_of_fields, mp4_frame::specs::Bytes::bytes_of_fields_onto))]
+    fn put_box(&self, out: &mut [u8]) {
         let size = self.box_size() as u32;
-        let at = put_full_box(place, size, 0x6d65_6864, self.version, self.flags);
-        put_time(place, at, self.version, self.fragment_duration);
+        let at = put_full_box(out, size, 0x6d65_6864, self.version, self.flags);
+        put_time(out, at, self.version, self.fragment_duration);
     }
 
-    ghost framed = { framed_mehd };
+    ghost header = { header_mehd };
 
-    ghost normal_form = { λ v w. settled v refl w };
+    ghost normal_form = { λ v w. own_normal_form v refl w };
 }
 
 impl BoxLaws for MehdBox {

@@ -2,12 +2,12 @@
 
 ghost use Rattle.std.specs.Prelude.{◌≡◌, refl};
 ghost use Rattle.mp4_frame.specs.declared.box_type.BoxType.TheVariants as names;
-ghost use Rattle.mp4_frame.proofs.Framing.{settled};
+ghost use Rattle.mp4_frame.proofs.Framing.{own_normal_form};
 ghost use Rattle.mp4_flat.specs.Mfhd.{reads_mfhd, size_mfhd, WritableMfhd, bytes_mfhd, normal_mfhd};
-ghost use Rattle.mp4_flat.specs.MfhdLaws.{framed_mfhd, read_back_mfhd, sound_mfhd};
+ghost use Rattle.mp4_flat.specs.MfhdLaws.{header_mfhd, read_back_mfhd, sound_mfhd};
 
 use mp4_frame::{
-    BoxLaws, BoxType, Mp4Box, ReadBox, Result, WriteBox, fields, put_full_box, put_u32, u8_at,
+    BoxLaws, BoxType, Mp4Box, ReadBox, Result, WriteBox, expect_bytes, put_full_box, put_u32, u8_at,
     u24_at, u32_at,
 };
 use std::alloc::Global;
@@ -69,8 +69,8 @@ impl ReadBox for MfhdBox {
     ghost reads = { reads_mfhd };
 
     #[tactic(auto, unfolding(crate::specs::Mfhd::reads_mfhd))]
-    fn read_row(_alloc: Global, bytes: &[u8], _start: u64, _size: u64) -> Result<MfhdBox> {
-        fields(bytes, 8, 8)?;
+    fn read_content(_alloc: Global, bytes: &[u8], _start: u64, _size: u64) -> Result<MfhdBox> {
+        expect_bytes(bytes, 8, 8)?;
         Ok(MfhdBox {
             version: u8_at(bytes, 8),
             flags: u24_at(bytes, 9),
@@ -92,15 +92,15 @@ impl WriteBox for MfhdBox {
         self.flags < 1 << 24
     }
 
-    #[tactic(auto, unfolding(crate::specs::Mfhd::bytes_mfhd, mp4_frame::specs::Bytes::joined, mp4_frame::specs::Bytes::joined_onto))]
-    fn put_box(&self, place: &mut [u8]) {
-        let at = put_full_box(place, 16, 0x6d66_6864, self.version, self.flags);
-        put_u32(place, at, self.sequence_number);
+    #[tactic(auto, unfolding(crate::specs::Mfhd::bytes_mfhd, mp4_frame::specs::Bytes::bytes_of_fields, mp4_frame::specs::Bytes::bytes_of_fields_onto))]
+    fn put_box(&self, out: &mut [u8]) {
+        let at = put_full_box(out, 16, 0x6d66_6864, self.version, self.flags);
+        put_u32(out, at, self.sequence_number);
     }
 
-    ghost framed = { framed_mfhd };
+    ghost header = { header_mfhd };
 
-    ghost normal_form = { λ v w. settled v refl w };
+    ghost normal_form = { λ v w. own_normal_form v refl w };
 }
 
 impl BoxLaws for MfhdBox {

@@ -2,14 +2,14 @@
 
 ghost use Rattle.std.specs.Prelude.{◌≡◌, ◌↔◌, IsTrue, refl};
 ghost use Rattle.mp4_frame.specs.declared.box_type.BoxType.TheVariants as names;
-ghost use Rattle.mp4_frame.proofs.Framing.{settled};
+ghost use Rattle.mp4_frame.proofs.Framing.{own_normal_form};
 ghost use Rattle.mp4_flat.specs.Mvhd.{reads_mvhd, size_mvhd, WritableMvhd, bytes_mvhd, normal_mvhd};
-ghost use Rattle.mp4_flat.specs.MvhdLaws.{framed_mvhd, read_back_mvhd, sound_mvhd};
+ghost use Rattle.mp4_flat.specs.MvhdLaws.{header_mvhd, read_back_mvhd, sound_mvhd};
 
 use crate::matrix::{Matrix, is_matrix, matrix_from, put_matrix};
 use crate::time::{put_time, time_at, time_fits, version_of_times, width_of_time};
 use mp4_frame::{
-    BoxLaws, BoxType, Mp4Box, ReadBox, Result, WriteBox, fields, put_full_box, put_u16, put_u32,
+    BoxLaws, BoxType, Mp4Box, ReadBox, Result, WriteBox, expect_bytes, put_full_box, put_u16, put_u32,
     put_zeros, u16_at, u24_at, u32_at,
 };
 use mp4_media::{FixedPointU8, FixedPointU16};
@@ -99,10 +99,10 @@ impl ReadBox for MvhdBox {
     ghost reads = { reads_mvhd };
 
     #[tactic(auto, unfolding(crate::specs::Mvhd::reads_mvhd))]
-    fn read_row(_alloc: Global, bytes: &[u8], _start: u64, _size: u64) -> Result<MvhdBox> {
+    fn read_content(_alloc: Global, bytes: &[u8], _start: u64, _size: u64) -> Result<MvhdBox> {
         let version = version_of_times(bytes)?;
         let t = width_of_time(version);
-        fields(bytes, 12, 84 + 3 * t)?;
+        expect_bytes(bytes, 12, 84 + 3 * t)?;
         Ok(MvhdBox {
             version,
             flags: u24_at(bytes, 9),
@@ -160,25 +160,25 @@ impl WriteBox for MvhdBox {
         )
     }
 
-    #[tactic(auto, unfolding(crate::specs::Mvhd::bytes_mvhd, mp4_frame::specs::Bytes::joined, mp4_frame::specs::Bytes::joined_onto))]
-    fn put_box(&self, place: &mut [u8]) {
+    #[tactic(auto, unfolding(crate::specs::Mvhd::bytes_mvhd, mp4_frame::specs::Bytes::bytes_of_fields, mp4_frame::specs::Bytes::bytes_of_fields_onto))]
+    fn put_box(&self, out: &mut [u8]) {
         let size = self.box_size() as u32;
-        let at = put_full_box(place, size, 0x6d76_6864, self.version, self.flags);
-        let at = put_time(place, at, self.version, self.creation_time);
-        let at = put_time(place, at, self.version, self.modification_time);
-        let at = put_u32(place, at, self.timescale);
-        let at = put_time(place, at, self.version, self.duration);
-        let at = put_u32(place, at, self.rate.raw_value());
-        let at = put_u16(place, at, self.volume.raw_value());
-        let at = put_zeros(place, at, 10);
-        let at = put_matrix(place, at, &self.matrix);
-        let at = put_zeros(place, at, 24);
-        put_u32(place, at, self.next_track_id);
+        let at = put_full_box(out, size, 0x6d76_6864, self.version, self.flags);
+        let at = put_time(out, at, self.version, self.creation_time);
+        let at = put_time(out, at, self.version, self.modification_time);
+        let at = put_u32(out, at, self.timescale);
+        let at = put_time(out, at, self.version, self.duration);
+        let at = put_u32(out, at, self.rate.raw_value());
+        let at = put_u16(out, at, self.volume.raw_value());
+        let at = put_zeros(out, at, 10);
+        let at = put_matrix(out, at, &self.matrix);
+        let at = put_zeros(out, at, 24);
+        put_u32(out, at, self.next_track_id);
     }
 
-    ghost framed = { framed_mvhd };
+    ghost header = { header_mvhd };
 
-    ghost normal_form = { λ v w. settled v refl w };
+    ghost normal_form = { λ v w. own_normal_form v refl w };
 }
 
 impl BoxLaws for MvhdBox {

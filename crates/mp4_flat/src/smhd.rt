@@ -2,12 +2,12 @@
 
 ghost use Rattle.std.specs.Prelude.{◌≡◌, pos, refl};
 ghost use Rattle.mp4_frame.specs.declared.box_type.BoxType.TheVariants as names;
-ghost use Rattle.mp4_frame.proofs.Framing.{settled};
+ghost use Rattle.mp4_frame.proofs.Framing.{own_normal_form};
 ghost use Rattle.mp4_flat.specs.Smhd.{reads_smhd, size_smhd, WritableSmhd, bytes_smhd, normal_smhd};
-ghost use Rattle.mp4_flat.specs.SmhdLaws.{framed_smhd, read_back_smhd, sound_smhd};
+ghost use Rattle.mp4_flat.specs.SmhdLaws.{header_smhd, read_back_smhd, sound_smhd};
 
 use mp4_frame::{
-    BoxLaws, BoxType, Mp4Box, ReadBox, Result, WriteBox, fields, i16_at, put_full_box, put_i16,
+    BoxLaws, BoxType, Mp4Box, ReadBox, Result, WriteBox, expect_bytes, i16_at, put_full_box, put_i16,
     put_zeros, u8_at, u24_at,
 };
 use mp4_media::FixedPointI8;
@@ -70,8 +70,8 @@ impl ReadBox for SmhdBox {
     ghost reads = { reads_smhd };
 
     #[tactic(auto, unfolding(crate::specs::Smhd::reads_smhd))]
-    fn read_row(_alloc: Global, bytes: &[u8], _start: u64, _size: u64) -> Result<SmhdBox> {
-        fields(bytes, 8, 6)?;
+    fn read_content(_alloc: Global, bytes: &[u8], _start: u64, _size: u64) -> Result<SmhdBox> {
+        expect_bytes(bytes, 8, 6)?;
         Ok(SmhdBox {
             version: u8_at(bytes, 8),
             flags: u24_at(bytes, 9),
@@ -93,16 +93,16 @@ impl WriteBox for SmhdBox {
         self.flags < 1 << 24
     }
 
-    #[tactic(auto, unfolding(crate::specs::Smhd::bytes_smhd, mp4_frame::specs::Bytes::joined, mp4_frame::specs::Bytes::joined_onto))]
-    fn put_box(&self, place: &mut [u8]) {
-        let at = put_full_box(place, 16, 0x736d_6864, self.version, self.flags);
-        let at = put_i16(place, at, self.balance.raw_value());
-        put_zeros(place, at, 2);
+    #[tactic(auto, unfolding(crate::specs::Smhd::bytes_smhd, mp4_frame::specs::Bytes::bytes_of_fields, mp4_frame::specs::Bytes::bytes_of_fields_onto))]
+    fn put_box(&self, out: &mut [u8]) {
+        let at = put_full_box(out, 16, 0x736d_6864, self.version, self.flags);
+        let at = put_i16(out, at, self.balance.raw_value());
+        put_zeros(out, at, 2);
     }
 
-    ghost framed = { framed_smhd };
+    ghost header = { header_smhd };
 
-    ghost normal_form = { λ v w. settled v refl w };
+    ghost normal_form = { λ v w. own_normal_form v refl w };
 }
 
 impl BoxLaws for SmhdBox {

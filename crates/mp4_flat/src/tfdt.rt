@@ -2,13 +2,13 @@
 
 ghost use Rattle.std.specs.Prelude.{◌≡◌, refl};
 ghost use Rattle.mp4_frame.specs.declared.box_type.BoxType.TheVariants as names;
-ghost use Rattle.mp4_frame.proofs.Framing.{settled};
+ghost use Rattle.mp4_frame.proofs.Framing.{own_normal_form};
 ghost use Rattle.mp4_flat.specs.Tfdt.{reads_tfdt, size_tfdt, WritableTfdt, bytes_tfdt, normal_tfdt};
-ghost use Rattle.mp4_flat.specs.TfdtLaws.{framed_tfdt, read_back_tfdt, sound_tfdt};
+ghost use Rattle.mp4_flat.specs.TfdtLaws.{header_tfdt, read_back_tfdt, sound_tfdt};
 
 use crate::time::{put_time, time_at, time_fits, version_of_times, width_of_time};
 use mp4_frame::{
-    BoxLaws, BoxType, Mp4Box, ReadBox, Result, WriteBox, fields, put_full_box, u24_at,
+    BoxLaws, BoxType, Mp4Box, ReadBox, Result, WriteBox, expect_bytes, put_full_box, u24_at,
 };
 use std::alloc::Global;
 
@@ -57,9 +57,9 @@ impl ReadBox for TfdtBox {
     ghost reads = { reads_tfdt };
 
     #[tactic(auto, unfolding(crate::specs::Tfdt::reads_tfdt))]
-    fn read_row(_alloc: Global, bytes: &[u8], _start: u64, _size: u64) -> Result<TfdtBox> {
+    fn read_content(_alloc: Global, bytes: &[u8], _start: u64, _size: u64) -> Result<TfdtBox> {
         let version = version_of_times(bytes)?;
-        fields(bytes, 12, width_of_time(version))?;
+        expect_bytes(bytes, 12, width_of_time(version))?;
         Ok(TfdtBox {
             version,
             flags: u24_at(bytes, 9),
@@ -81,16 +81,16 @@ impl WriteBox for TfdtBox {
             && time_fits(self.version, self.base_media_decode_time)
     }
 
-    #[tactic(auto, unfolding(crate::specs::Tfdt::bytes_tfdt, mp4_frame::specs::Bytes::joined, mp4_frame::specs::Bytes::joined_onto))]
-    fn put_box(&self, place: &mut [u8]) {
+    #[tactic(auto, unfolding(crate::specs::Tfdt::bytes_tfdt, mp4_frame::specs::Bytes::bytes_of_fields, mp4_frame::specs::Bytes::bytes_of_fields_onto))]
+    fn put_box(&self, out: &mut [u8]) {
         let size = self.box_size() as u32;
-        let at = put_full_box(place, size, 0x7466_6474, self.version, self.flags);
-        put_time(place, at, self.version, self.base_media_decode_time);
+        let at = put_full_box(out, size, 0x7466_6474, self.version, self.flags);
+        put_time(out, at, self.version, self.base_media_decode_time);
     }
 
-    ghost framed = { framed_tfdt };
+    ghost header = { header_tfdt };
 
-    ghost normal_form = { λ v w. settled v refl w };
+    ghost normal_form = { λ v w. own_normal_form v refl w };
 }
 
 impl BoxLaws for TfdtBox {

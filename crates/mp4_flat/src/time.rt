@@ -1,11 +1,11 @@
 //! Times and durations, whose width a box tells by its version.
 
 ghost use Rattle.std.specs.Prelude.{◌≡◌, ◌↔◌, ◌≤◌, ◌<◌, ◌+◌, ◌^◌, ◌++◌, IsTrue, length, take};
-ghost use Rattle.mp4_frame.specs.Bytes.{number, column};
+ghost use Rattle.mp4_frame.specs.Bytes.{number, be_bytes};
 ghost use Rattle.mp4_frame.specs.Reading.{Answers};
 ghost use Rattle.mp4_flat.specs.Time.{time_width, version_of};
 
-use mp4_frame::{Result, fields, put_u32, put_u64, test, u8_at, u32_at, u64_at};
+use mp4_frame::{Result, expect_bytes, put_u32, put_u64, check, u8_at, u32_at, u64_at};
 
 /// How many bytes a time takes.
 pub fn width_of_time(version: u8) -> usize
@@ -25,9 +25,9 @@ pub fn time_fits(version: u8, time: u64) -> bool
 pub fn version_of_times(bytes: &[u8]) -> Result<u8>
     ensures { Answers result (version_of bytes.now) }
 {
-    fields(bytes, 8, 4)?;
+    expect_bytes(bytes, 8, 4)?;
     let version = u8_at(bytes, 8);
-    test(version < 2, "version must be 0 or 1")?;
+    check(version < 2, "version must be 0 or 1")?;
     Ok(version)
 }
 
@@ -43,16 +43,16 @@ pub fn time_at(bytes: &[u8], at: usize, version: u8) -> u64
     }
 }
 
-/// Puts a time, and answers the place behind it.
-pub fn put_time(place: &mut [u8], at: usize, version: u8, time: u64) -> usize
-    requires room { at + time_width version ≤ length place.old }
+/// Puts a time, and returns the offset after it.
+pub fn put_time(out: &mut [u8], at: usize, version: u8, time: u64) -> usize
+    requires room { at + time_width version ≤ length out.old }
     requires fits { time < 256 ^ time_width version }
     ensures next { result ≡ at + time_width version }
-    ensures put { take result place.new ≡ take at place.old ++ column (time_width version) time }
+    ensures put { take result out.new ≡ take at out.old ++ be_bytes (time_width version) time }
 {
     if version == 1 {
-        put_u64(place, at, time)
+        put_u64(out, at, time)
     } else {
-        put_u32(place, at, time as u32)
+        put_u32(out, at, time as u32)
     }
 }

@@ -3,15 +3,15 @@
 ghost use Rattle.std.specs.Prelude.{◌≡◌, ◌↔◌, IsTrue, refl};
 ghost use Rattle.mp4_frame.specs.declared.box_type.BoxType.TheVariants as names;
 ghost use Rattle.mp4_media.specs.FixedPoint.{scaled};
-ghost use Rattle.mp4_frame.proofs.Framing.{settled};
+ghost use Rattle.mp4_frame.proofs.Framing.{own_normal_form};
 ghost use Rattle.mp4_flat.specs.Tkhd.{reads_tkhd, size_tkhd, WritableTkhd, bytes_tkhd, normal_tkhd};
-ghost use Rattle.mp4_flat.specs.TkhdLaws.{framed_tkhd, read_back_tkhd, sound_tkhd};
+ghost use Rattle.mp4_flat.specs.TkhdLaws.{header_tkhd, read_back_tkhd, sound_tkhd};
 
 use crate::matrix::{Matrix, is_matrix, matrix_from, put_matrix};
 use crate::time::{put_time, time_at, time_fits, version_of_times, width_of_time};
 use crate::track_flag::TrackFlag;
 use mp4_frame::{
-    BoxLaws, BoxType, Mp4Box, ReadBox, Result, WriteBox, fields, put_full_box, put_u16, put_u32,
+    BoxLaws, BoxType, Mp4Box, ReadBox, Result, WriteBox, expect_bytes, put_full_box, put_u16, put_u32,
     put_zeros, u16_at, u24_at, u32_at,
 };
 use mp4_media::{FixedPointU8, FixedPointU16};
@@ -121,10 +121,10 @@ impl ReadBox for TkhdBox {
     ghost reads = { reads_tkhd };
 
     #[tactic(auto, unfolding(crate::specs::Tkhd::reads_tkhd))]
-    fn read_row(_alloc: Global, bytes: &[u8], _start: u64, _size: u64) -> Result<TkhdBox> {
+    fn read_content(_alloc: Global, bytes: &[u8], _start: u64, _size: u64) -> Result<TkhdBox> {
         let version = version_of_times(bytes)?;
         let t = width_of_time(version);
-        fields(bytes, 12, 68 + 3 * t)?;
+        expect_bytes(bytes, 12, 68 + 3 * t)?;
         Ok(TkhdBox {
             version,
             flags: u24_at(bytes, 9),
@@ -185,28 +185,28 @@ impl WriteBox for TkhdBox {
         )
     }
 
-    #[tactic(auto, unfolding(crate::specs::Tkhd::bytes_tkhd, mp4_frame::specs::Bytes::joined, mp4_frame::specs::Bytes::joined_onto))]
-    fn put_box(&self, place: &mut [u8]) {
+    #[tactic(auto, unfolding(crate::specs::Tkhd::bytes_tkhd, mp4_frame::specs::Bytes::bytes_of_fields, mp4_frame::specs::Bytes::bytes_of_fields_onto))]
+    fn put_box(&self, out: &mut [u8]) {
         let size = self.box_size() as u32;
-        let at = put_full_box(place, size, 0x746b_6864, self.version, self.flags);
-        let at = put_time(place, at, self.version, self.creation_time);
-        let at = put_time(place, at, self.version, self.modification_time);
-        let at = put_u32(place, at, self.track_id);
-        let at = put_zeros(place, at, 4);
-        let at = put_time(place, at, self.version, self.duration);
-        let at = put_zeros(place, at, 8);
-        let at = put_u16(place, at, self.layer);
-        let at = put_u16(place, at, self.alternate_group);
-        let at = put_u16(place, at, self.volume.raw_value());
-        let at = put_zeros(place, at, 2);
-        let at = put_matrix(place, at, &self.matrix);
-        let at = put_u32(place, at, self.width.raw_value());
-        put_u32(place, at, self.height.raw_value());
+        let at = put_full_box(out, size, 0x746b_6864, self.version, self.flags);
+        let at = put_time(out, at, self.version, self.creation_time);
+        let at = put_time(out, at, self.version, self.modification_time);
+        let at = put_u32(out, at, self.track_id);
+        let at = put_zeros(out, at, 4);
+        let at = put_time(out, at, self.version, self.duration);
+        let at = put_zeros(out, at, 8);
+        let at = put_u16(out, at, self.layer);
+        let at = put_u16(out, at, self.alternate_group);
+        let at = put_u16(out, at, self.volume.raw_value());
+        let at = put_zeros(out, at, 2);
+        let at = put_matrix(out, at, &self.matrix);
+        let at = put_u32(out, at, self.width.raw_value());
+        put_u32(out, at, self.height.raw_value());
     }
 
-    ghost framed = { framed_tkhd };
+    ghost header = { header_tkhd };
 
-    ghost normal_form = { λ v w. settled v refl w };
+    ghost normal_form = { λ v w. own_normal_form v refl w };
 }
 
 impl BoxLaws for TkhdBox {

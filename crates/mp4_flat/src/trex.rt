@@ -2,12 +2,12 @@
 
 ghost use Rattle.std.specs.Prelude.{◌≡◌, refl};
 ghost use Rattle.mp4_frame.specs.declared.box_type.BoxType.TheVariants as names;
-ghost use Rattle.mp4_frame.proofs.Framing.{settled};
+ghost use Rattle.mp4_frame.proofs.Framing.{own_normal_form};
 ghost use Rattle.mp4_flat.specs.Trex.{reads_trex, size_trex, WritableTrex, bytes_trex, normal_trex};
-ghost use Rattle.mp4_flat.specs.TrexLaws.{framed_trex, read_back_trex, sound_trex};
+ghost use Rattle.mp4_flat.specs.TrexLaws.{header_trex, read_back_trex, sound_trex};
 
 use mp4_frame::{
-    BoxLaws, BoxType, Mp4Box, ReadBox, Result, WriteBox, fields, put_full_box, put_u32, u8_at,
+    BoxLaws, BoxType, Mp4Box, ReadBox, Result, WriteBox, expect_bytes, put_full_box, put_u32, u8_at,
     u24_at, u32_at,
 };
 use std::alloc::Global;
@@ -65,8 +65,8 @@ impl ReadBox for TrexBox {
     ghost reads = { reads_trex };
 
     #[tactic(auto, unfolding(crate::specs::Trex::reads_trex))]
-    fn read_row(_alloc: Global, bytes: &[u8], _start: u64, _size: u64) -> Result<TrexBox> {
-        fields(bytes, 8, 24)?;
+    fn read_content(_alloc: Global, bytes: &[u8], _start: u64, _size: u64) -> Result<TrexBox> {
+        expect_bytes(bytes, 8, 24)?;
         Ok(TrexBox {
             version: u8_at(bytes, 8),
             flags: u24_at(bytes, 9),
@@ -97,19 +97,19 @@ impl WriteBox for TrexBox {
         self.flags < 1 << 24
     }
 
-    #[tactic(auto, unfolding(crate::specs::Trex::bytes_trex, mp4_frame::specs::Bytes::joined, mp4_frame::specs::Bytes::joined_onto))]
-    fn put_box(&self, place: &mut [u8]) {
-        let at = put_full_box(place, 32, 0x7472_6578, self.version, self.flags);
-        let at = put_u32(place, at, self.track_id);
-        let at = put_u32(place, at, self.default_sample_description_index);
-        let at = put_u32(place, at, self.default_sample_duration);
-        let at = put_u32(place, at, self.default_sample_size);
-        put_u32(place, at, self.default_sample_flags);
+    #[tactic(auto, unfolding(crate::specs::Trex::bytes_trex, mp4_frame::specs::Bytes::bytes_of_fields, mp4_frame::specs::Bytes::bytes_of_fields_onto))]
+    fn put_box(&self, out: &mut [u8]) {
+        let at = put_full_box(out, 32, 0x7472_6578, self.version, self.flags);
+        let at = put_u32(out, at, self.track_id);
+        let at = put_u32(out, at, self.default_sample_description_index);
+        let at = put_u32(out, at, self.default_sample_duration);
+        let at = put_u32(out, at, self.default_sample_size);
+        put_u32(out, at, self.default_sample_flags);
     }
 
-    ghost framed = { framed_trex };
+    ghost header = { header_trex };
 
-    ghost normal_form = { λ v w. settled v refl w };
+    ghost normal_form = { λ v w. own_normal_form v refl w };
 }
 
 impl BoxLaws for TrexBox {

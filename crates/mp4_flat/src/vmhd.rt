@@ -2,25 +2,25 @@
 
 ghost use Rattle.std.specs.Prelude.{◌≡◌, refl};
 ghost use Rattle.mp4_frame.specs.declared.box_type.BoxType.TheVariants as names;
-ghost use Rattle.mp4_frame.proofs.Framing.{settled};
+ghost use Rattle.mp4_frame.proofs.Framing.{own_normal_form};
 ghost use Rattle.mp4_flat.specs.Vmhd.{reads_vmhd, size_vmhd, WritableVmhd, bytes_vmhd, normal_vmhd};
-ghost use Rattle.mp4_flat.specs.VmhdLaws.{framed_vmhd, read_back_vmhd, sound_vmhd};
+ghost use Rattle.mp4_flat.specs.VmhdLaws.{header_vmhd, read_back_vmhd, sound_vmhd};
 
 use crate::rgb_color::RgbColor;
 use mp4_frame::{
-    BoxLaws, BoxType, Mp4Box, ReadBox, Result, WriteBox, fields, put_full_box, put_u16, u8_at,
+    BoxLaws, BoxType, Mp4Box, ReadBox, Result, WriteBox, expect_bytes, put_full_box, put_u16, u8_at,
     u16_at, u24_at,
 };
 use std::alloc::Global;
 
-/// How a video is laid over what is behind it (`vmhd`, ISO/IEC 14496-12, 12.1.2).
+/// How a video is laid over what is after it (`vmhd`, ISO/IEC 14496-12, 12.1.2).
 #[derive(Clone, Debug, Default, Drop, PartialEq, Eq)]
 pub struct VmhdBox {
     /// 0 in the standard. Every version is read and written alike.
     pub version: u8,
     /// 24 bits, 1 in the standard.
     pub flags: u32,
-    /// How the video is composed with what is behind it: 0 copies it over.
+    /// How the video is composed with what is after it: 0 copies it over.
     pub graphics_mode: u16,
     /// The colour that the other modes work with.
     pub op_color: RgbColor,
@@ -60,8 +60,8 @@ impl ReadBox for VmhdBox {
     ghost reads = { reads_vmhd };
 
     #[tactic(auto, unfolding(crate::specs::Vmhd::reads_vmhd))]
-    fn read_row(_alloc: Global, bytes: &[u8], _start: u64, _size: u64) -> Result<VmhdBox> {
-        fields(bytes, 8, 12)?;
+    fn read_content(_alloc: Global, bytes: &[u8], _start: u64, _size: u64) -> Result<VmhdBox> {
+        expect_bytes(bytes, 8, 12)?;
         Ok(VmhdBox {
             version: u8_at(bytes, 8),
             flags: u24_at(bytes, 9),
@@ -90,18 +90,18 @@ impl WriteBox for VmhdBox {
         self.flags < 1 << 24
     }
 
-    #[tactic(auto, unfolding(crate::specs::Vmhd::bytes_vmhd, mp4_frame::specs::Bytes::joined, mp4_frame::specs::Bytes::joined_onto))]
-    fn put_box(&self, place: &mut [u8]) {
-        let at = put_full_box(place, 20, 0x766d_6864, self.version, self.flags);
-        let at = put_u16(place, at, self.graphics_mode);
-        let at = put_u16(place, at, self.op_color.red);
-        let at = put_u16(place, at, self.op_color.green);
-        put_u16(place, at, self.op_color.blue);
+    #[tactic(auto, unfolding(crate::specs::Vmhd::bytes_vmhd, mp4_frame::specs::Bytes::bytes_of_fields, mp4_frame::specs::Bytes::bytes_of_fields_onto))]
+    fn put_box(&self, out: &mut [u8]) {
+        let at = put_full_box(out, 20, 0x766d_6864, self.version, self.flags);
+        let at = put_u16(out, at, self.graphics_mode);
+        let at = put_u16(out, at, self.op_color.red);
+        let at = put_u16(out, at, self.op_color.green);
+        put_u16(out, at, self.op_color.blue);
     }
 
-    ghost framed = { framed_vmhd };
+    ghost header = { header_vmhd };
 
-    ghost normal_form = { λ v w. settled v refl w };
+    ghost normal_form = { λ v w. own_normal_form v refl w };
 }
 
 impl BoxLaws for VmhdBox {

@@ -1,7 +1,7 @@
 -- A chain of children, child by child.
 use Rattle.std.proofs.Common.{◌≡◌, ℕ, zero, suc, ◌+◌, ◌-◌, ◌<◌, ◌≤◌, Bool, true, false, cond, List, drop, Result, Ok, Err, Option, Some, None, refl, sym, ap, subst, ◌∙◌, arith}
 use Rattle.std.proofs.lemmas.Bool.{le-leb, lt-leb, eq-eqb, ne_eqb}
-use Rattle.mp4_frame.specs.Children.{child, wanted, last, children}
+use Rattle.mp4_frame.specs.Children.{child, child_if_named, last, children}
 use Rattle.mp4_frame.specs.Reading.{Reading, Fault, ◌>>=◌, Refuses, done, and_then}
 use Rattle.mp4_frame.specs.declared.head.Head.{Head}
 use Rattle.mp4_frame.specs.declared.error.Error.{Error}
@@ -12,7 +12,7 @@ abbrev pub continued : {A : Type 0} → Option A → Reading (Option A) → Read
 continued found r = r >>= λ later. done (last found later)
 
 regroup_by : {A : Type 0} (found mine : Option A) (a : Bool) (o : Result (Option A) Fault)
-    → continued (last found mine) (record { asked = a; outcome = o }) ≡ continued found ((record { asked = a; outcome = o }) >>= λ later. done (last mine later))
+    → continued (last found mine) (record { asks_memory = a; outcome = o }) ≡ continued found ((record { asks_memory = a; outcome = o }) >>= λ later. done (last mine later))
 regroup_by found mine true (Err k) = refl
 regroup_by found mine false (Err k) = refl
 regroup_by found mine true (Ok (Some v)) = refl
@@ -20,7 +20,7 @@ regroup_by found mine false (Ok (Some v)) = refl
 regroup_by found mine true (Ok None) = refl
 regroup_by found mine false (Ok None) = refl
 
-first_by : {A : Type 0} (a : Bool) (o : Result (Option A) Fault) → continued None (record { asked = a; outcome = o }) ≡ record { asked = a; outcome = o }
+first_by : {A : Type 0} (a : Bool) (o : Result (Option A) Fault) → continued None (record { asks_memory = a; outcome = o }) ≡ record { asks_memory = a; outcome = o }
 first_by true (Err k) = refl
 first_by false (Err k) = refl
 first_by true (Ok (Some v)) = refl
@@ -31,23 +31,23 @@ first_by false (Ok None) = refl
 module _ {A : Type 0} (reads : List ℕ → ℕ → ℕ → Reading A) (code : ℕ) (bytes : List ℕ) (start size : ℕ) where
   -- nothing is read so far
   pub at_first : (n o : ℕ) → Decides (continued None (children reads code bytes start size n o)) (children reads code bytes start size n o)
-  at_first n o = let r = children reads code bytes start size n o in decides_same _ _ (first_by r.asked r.outcome)
+  at_first n o = let r = children reads code bytes start size n o in decides_same _ _ (first_by r.asks_memory r.outcome)
 
   rest_of : ℕ → Head → Option A → Reading (Option A)
   rest_of n c mine = children reads code bytes start size n (c.start + c.size) >>= λ later. done (last mine later)
 
   pub children_first : (n o : ℕ) → 0 < n → o < size
-      → children reads code bytes start size n o ≡ (child bytes start size o >>= λ c. wanted reads code bytes start c >>= λ mine. children reads code bytes start size (n - 1) (c.start + c.size) >>= λ later. done (last mine later))
+      → children reads code bytes start size n o ≡ (child bytes start size o >>= λ c. child_if_named reads code bytes start c >>= λ mine. children reads code bytes start size (n - 1) (c.start + c.size) >>= λ later. done (last mine later))
   unfolding children
   children_first zero o more before = absurd (omega arith)
   children_first (suc n) o more before =
       let less : suc n - 1 ≡ n = omega arith in
-      rw less (ap (λ (b : Bool). cond b (done None) (child bytes start size o >>= λ c. wanted reads code bytes start c >>= λ mine. children reads code bytes start size n (c.start + c.size) >>= λ later. done (last mine later))) (lt-leb size o before))
+      rw less (ap (λ (b : Bool). cond b (done None) (child bytes start size o >>= λ c. child_if_named reads code bytes start c >>= λ mine. children reads code bytes start size n (c.start + c.size) >>= λ later. done (last mine later))) (lt-leb size o before))
 
   pub children_none : (n o : ℕ) → size ≤ o → children reads code bytes start size n o ≡ done None
   unfolding children
   children_none zero o le = refl
-  children_none (suc n) o le = ap (λ (b : Bool). cond b (done None) (child bytes start size o >>= λ c. wanted reads code bytes start c >>= λ mine. children reads code bytes start size n (c.start + c.size) >>= λ later. done (last mine later))) (le-leb size o le)
+  children_none (suc n) o le = ap (λ (b : Bool). cond b (done None) (child bytes start size o >>= λ c. child_if_named reads code bytes start c >>= λ mine. children reads code bytes start size n (c.start + c.size) >>= λ later. done (last mine later))) (le-leb size o le)
 
   pub children_zero : (o : ℕ) → children reads code bytes start size 0 o ≡ done None
   unfolding children
@@ -55,7 +55,7 @@ module _ {A : Type 0} (reads : List ℕ → ℕ → ℕ → Reading A) (code : �
 
   module _ (found : Option A) (n o : ℕ) (whole : Reading (Option A)) (more : 0 < n) (before : o < size) (told : Decides (continued found (children reads code bytes start size n o)) whole) where
     after : Head → Reading (Option A)
-    after c = wanted reads code bytes start c >>= λ mine. children reads code bytes start size (n - 1) (c.start + c.size) >>= λ later. done (last mine later)
+    after c = child_if_named reads code bytes start c >>= λ mine. children reads code bytes start size (n - 1) (c.start + c.size) >>= λ later. done (last mine later)
 
     begun : Decides (continued found (child bytes start size o >>= after)) whole
     unfolding after
@@ -70,36 +70,36 @@ module _ {A : Type 0} (reads : List ℕ → ℕ → ℕ → Reading A) (code : �
       behind_head = decides_on _ _ whole (bind_decided (after c) (child bytes start size o >>= after) (λ later. done (last found later)) (decides_bind (child bytes start size o) after c is)) begun
 
       -- the child faults
-      pub child_faults : (e : Error) → Refuses e (wanted reads code bytes start c) → Refuses e whole
+      pub child_faults : (e : Error) → Refuses e (child_if_named reads code bytes start c) → Refuses e whole
       unfolding after
       child_faults e h = decided_fault e _ whole behind_head (first_faults e _ _ (first_faults e _ _ h))
 
       -- the child is read
-      pub next : (mine : Option A) → (wanted reads code bytes start c).outcome ≡ Ok mine → Decides (continued (last found mine) (children reads code bytes start size (n - 1) (c.start + c.size))) whole
+      pub next : (mine : Option A) → (child_if_named reads code bytes start c).outcome ≡ Ok mine → Decides (continued (last found mine) (children reads code bytes start size (n - 1) (c.start + c.size))) whole
       unfolding after
       next mine e =
           let rest = children reads code bytes start size (n - 1) (c.start + c.size) in
           let one : Decides (continued found (rest >>= λ later. done (last mine later))) whole =
-          decides_on _ _ whole (bind_decided _ _ (λ later. done (last found later)) (decides_bind (wanted reads code bytes start c) (λ mine. rest >>= λ later. done (last mine later)) mine e)) behind_head in
-          decides_on _ _ whole (decides_same _ _ (regroup_by found mine rest.asked rest.outcome)) one
+          decides_on _ _ whole (bind_decided _ _ (λ later. done (last found later)) (decides_bind (child_if_named reads code bytes start c) (λ mine. rest >>= λ later. done (last mine later)) mine e)) behind_head in
+          decides_on _ _ whole (decides_same _ _ (regroup_by found mine rest.asks_memory rest.outcome)) one
 
-      is_wanted : c.code ≡ code → wanted reads code bytes start c ≡ (reads (drop c.start bytes) (start + c.start) c.size >>= λ v. done (Some v))
-      is_wanted e = ap (λ (b : Bool). cond b (reads (drop c.start bytes) (start + c.start) c.size >>= λ v. done (Some v)) (done None)) (eq-eqb c.code code e)
+      is_named_child : c.code ≡ code → child_if_named reads code bytes start c ≡ (reads (drop c.start bytes) (start + c.start) c.size >>= λ v. done (Some v))
+      is_named_child e = ap (λ (b : Bool). cond b (reads (drop c.start bytes) (start + c.start) c.size >>= λ v. done (Some v)) (done None)) (eq-eqb c.code code e)
 
-      is_other : (c.code ≡ code → ⊥) → wanted reads code bytes start c ≡ done None
+      is_other : (c.code ≡ code → ⊥) → child_if_named reads code bytes start c ≡ done None
       is_other e = ap (λ (b : Bool). cond b (reads (drop c.start bytes) (start + c.start) c.size >>= λ v. done (Some v)) (done None)) (ne_eqb c.code code e)
 
       -- a wanted child faults
-      pub wanted_faults : (rest : List ℕ) → rest ≡ drop c.start bytes → c.code ≡ code → (e : Error) → Refuses e (reads rest (start + c.start) c.size) → Refuses e whole
-      wanted_faults rest here is_code e h =
+      pub named_child_faults : (rest : List ℕ) → rest ≡ drop c.start bytes → c.code ≡ code → (e : Error) → Refuses e (reads rest (start + c.start) c.size) → Refuses e whole
+      named_child_faults rest here is_code e h =
           let there : Refuses e (reads (drop c.start bytes) (start + c.start) c.size) = subst (λ (xs : List ℕ). Refuses e (reads xs (start + c.start) c.size)) here h in
-          child_faults e (decided_fault e _ _ (decides_same _ _ (sym (is_wanted is_code))) (first_faults e _ _ there))
+          child_faults e (decided_fault e _ _ (decides_same _ _ (sym (is_named_child is_code))) (first_faults e _ _ there))
 
       -- a wanted child is read
       pub kept : (rest : List ℕ) → rest ≡ drop c.start bytes → c.code ≡ code → (v : A) → (reads rest (start + c.start) c.size).outcome ≡ Ok v → Decides (continued (Some v) (children reads code bytes start size (n - 1) (c.start + c.size))) whole
       kept rest here is_code v e =
           let there : (reads (drop c.start bytes) (start + c.start) c.size).outcome ≡ Ok v = ap (λ (xs : List ℕ). (reads xs (start + c.start) c.size).outcome) (sym here) ∙ e in
-          next (Some v) (ap (λ (r : Reading (Option A)). r.outcome) (is_wanted is_code) ∙ ap (λ (o : Result A Fault). (and_then (reads (drop c.start bytes) (start + c.start) c.size).asked o (λ v. done (Some v))).outcome) there)
+          next (Some v) (ap (λ (r : Reading (Option A)). r.outcome) (is_named_child is_code) ∙ ap (λ (o : Result A Fault). (and_then (reads (drop c.start bytes) (start + c.start) c.size).asks_memory o (λ v. done (Some v))).outcome) there)
 
       -- a child is skipped
       pub skipped : (c.code ≡ code → ⊥) → Decides (continued found (children reads code bytes start size (n - 1) (c.start + c.size))) whole
@@ -109,7 +109,7 @@ module _ {A : Type 0} (reads : List ℕ → ℕ → ℕ → Reading A) (code : �
   pub all_read : (found : Option A) (n o : ℕ) (whole : Reading (Option A)) → size ≤ o → Decides (continued found (children reads code bytes start size n o)) whole → whole.outcome ≡ Ok found
   all_read found n o whole le told = sym told.0 ∙ ap (λ (r : Reading (Option A)). (continued found r).outcome) (children_none n o le)
 
-  pub counted_out : (found : Option A) (n o : ℕ) (whole : Reading (Option A)) → n ≤ 0 → Decides (continued found (children reads code bytes start size n o)) whole → whole.outcome ≡ Ok found
-  counted_out found n o whole none told =
+  pub count_is_out : (found : Option A) (n o : ℕ) (whole : Reading (Option A)) → n ≤ 0 → Decides (continued found (children reads code bytes start size n o)) whole → whole.outcome ≡ Ok found
+  count_is_out found n o whole none told =
       let zero_left : n ≡ 0 = omega arith in
       sym told.0 ∙ ap (λ (k : ℕ). (continued found (children reads code bytes start size k o)).outcome) zero_left ∙ ap (λ (r : Reading (Option A)). (continued found r).outcome) (children_zero o)

@@ -3,17 +3,17 @@ use Rattle.std.proofs.Common.{◌≡◌, ℕ, zero, suc, ◌+◌, ◌-◌, ◌<�
 use Rattle.std.proofs.lemmas.Bool.{leb-true, and_parts}
 use Rattle.std.specs.Prelude.{◌==◌, nat_le, nat_lt}
 use Rattle.mp4_frame.specs.BoxType.{code_of}
-use Rattle.mp4_frame.specs.Bytes.{number, joined}
-use Rattle.mp4_frame.specs.Children.{child, wanted, last, children}
+use Rattle.mp4_frame.specs.Bytes.{number, bytes_of_fields}
+use Rattle.mp4_frame.specs.Children.{child, child_if_named, last, children}
 use Rattle.mp4_frame.specs.Heads.{head, compact_head, large_head}
-use Rattle.mp4_frame.specs.Laws.{Framed, Normal, RowReadsBack, RowIsSound, AreBytes}
-use Rattle.mp4_frame.specs.Reading.{Reading, Fault, ◌>>=◌, and_then, also, test, done}
-use Rattle.mp4_frame.specs.declared.box_type.BoxType.{BoxType}
+use Rattle.mp4_frame.specs.Format.{Format, IsBox}
+use Rattle.mp4_frame.specs.Laws.{AreBytes}
+use Rattle.mp4_frame.specs.Reading.{Reading, Fault, ◌>>=◌, and_then, also, check, done}
 use Rattle.mp4_frame.specs.declared.head.Head.{Head}
 use Rattle.mp4_frame.proofs.Chains.{children_none, children_zero}
 use Rattle.mp4_frame.proofs.Children.{only_child, children_sound, ForSome}
-use Rattle.mp4_frame.proofs.Columns.{length-joined}
-use Rattle.mp4_frame.proofs.Stands.{fields_ok, test_ok, is_value}
+use Rattle.mp4_frame.proofs.Fields.{length-fields}
+use Rattle.mp4_frame.proofs.Checks.{expect_bytes_ok, check_ok, is_value}
 use Rattle.mp4_frame.proofs.Tables.{value_first}
 use Rattle.mp4_frame.specs.OptionalChild.{count_optional, size_optional, WritableOptional, bytes_optional, normal_optional}
 
@@ -26,36 +26,36 @@ large bytes o = record { code = number bytes (o + 4) 4; size = number bytes (o +
 start_by : (bytes : List ℕ) (o : ℕ) (b : Bool) (h : Head) → (cond b (large_head bytes o) (compact_head bytes o)).outcome ≡ Ok h → o ≤ h.start
 start_by bytes o false h e = (let is : compact bytes o ≡ h = is_value (compact bytes o) h e in subst (λ (k : Head). o ≤ k.start) is (omega arith))
 start_by bytes o true h e =
-    let tested = (number bytes (o + 8) 8 == 0) || nat_le 16 (number bytes (o + 8) 8) in
-    let a = fields_ok bytes (o + 8) 8 (λ _. test tested >>= λ _. done (large bytes o)) h e in
-    let b = test_ok tested (λ _. done (large bytes o)) h a in
+    let checked = (number bytes (o + 8) 8 == 0) || nat_le 16 (number bytes (o + 8) 8) in
+    let a = expect_bytes_ok bytes (o + 8) 8 (λ _. check checked >>= λ _. done (large bytes o)) h e in
+    let b = check_ok checked (λ _. done (large bytes o)) h a in
     subst (λ (k : Head). o ≤ k.start) (is_value (large bytes o) h b.1) (omega arith)
 
 head_start : (bytes : List ℕ) (o : ℕ) (h : Head) → (head bytes o).outcome ≡ Ok h → o ≤ h.start
 unfolding head
-head_start bytes o h e = start_by bytes o (number bytes o 4 == 1) h (fields_ok bytes o 8 (λ _. cond (number bytes o 4 == 1) (large_head bytes o) (compact_head bytes o)) h e)
+head_start bytes o h e = start_by bytes o (number bytes o 4 == 1) h (expect_bytes_ok bytes o 8 (λ _. cond (number bytes o 4 == 1) (large_head bytes o) (compact_head bytes o)) h e)
 
--- a child ends 8 bytes or more behind the place where it begins
+-- a child ends 8 bytes or more after the place where it begins
 child_end : (bytes : List ℕ) (start size o : ℕ) (c : Head) → (child bytes start size o).outcome ≡ Ok c → o + 8 ≤ c.start + c.size
 unfolding child
 child_end bytes start size o c e =
     let small = λ (h : Head). nat_le 8 h.size && nat_le h.size size in
-    let ends = λ (h : Head). test (nat_lt (start + h.start + h.size) (2 ^ 64)) >>= λ _. done h in
-    let p = value_first (head bytes o) (λ h. test (small h) >>= λ _. ends h) c e in
-    let q = test_ok (small p.0) (λ _. ends p.0) c p.2 in
-    let r = test_ok (nat_lt (start + p.0.start + p.0.size) (2 ^ 64)) (λ _. done p.0) c q.1 in
+    let ends = λ (h : Head). check (nat_lt (start + h.start + h.size) (2 ^ 64)) >>= λ _. done h in
+    let p = value_first (head bytes o) (λ h. check (small h) >>= λ _. ends h) c e in
+    let q = check_ok (small p.0) (λ _. ends p.0) c p.2 in
+    let r = check_ok (nat_lt (start + p.0.start + p.0.size) (2 ^ 64)) (λ _. done p.0) c q.1 in
     let least : 8 ≤ p.0.size = leb-true 8 p.0.size (and_parts (nat_le 8 p.0.size) (nat_le p.0.size size) q.0).0 in
     let first : o ≤ p.0.start = head_start bytes o p.0 p.1 in
     subst (λ (h : Head). o + 8 ≤ h.start + h.size) (is_value p.0 c r.1) (omega (arith, least, first))
 
 module _ {A : Type 0} (reads : List ℕ → ℕ → ℕ → Reading A) (code : ℕ) (bytes : List ℕ) (start size : ℕ) where
   after : ℕ → Head → Reading (Option A)
-  after n c = wanted reads code bytes start c >>= λ mine. children reads code bytes start size n (c.start + c.size) >>= λ later. done (last mine later)
+  after n c = child_if_named reads code bytes start c >>= λ mine. children reads code bytes start size n (c.start + c.size) >>= λ later. done (last mine later)
 
   same_after : (o m n : ℕ) → ((q : ℕ) → o + 8 ≤ q → children reads code bytes start size m q ≡ children reads code bytes start size n q) → (a : Bool) (r : Result Head Fault) → (child bytes start size o).outcome ≡ r → and_then a r (after m) ≡ and_then a r (after n)
   unfolding after
   same_after o m n same a (Err k) e = refl
-  same_after o m n same a (Ok c) e = ap (λ (rest : Reading (Option A)). also a (wanted reads code bytes start c >>= λ mine. rest >>= λ later. done (last mine later))) (same (c.start + c.size) (child_end bytes start size o c e))
+  same_after o m n same a (Ok c) e = ap (λ (rest : Reading (Option A)). also a (child_if_named reads code bytes start c >>= λ mine. rest >>= λ later. done (last mine later))) (same (c.start + c.size) (child_end bytes start size o c e))
 
   -- a count that the bytes up to the end don't exceed ends no chain
   pub all_children : (n more o : ℕ) → size ≤ o + n → children reads code bytes start size (n + more) o ≡ children reads code bytes start size n o
@@ -65,64 +65,58 @@ module _ {A : Type 0} (reads : List ℕ → ℕ → ℕ → Reading A) (code : �
       let count : suc n + more ≡ suc (n + more) = omega arith in
       let c = child bytes start size o in
       ap (λ (k : ℕ). children reads code bytes start size k o) count
-      ∙ ap (λ (r : Reading (Option A)). cond (nat_le size o) (done None) r) (same_after o (n + more) n (λ q behind. all_children n more q (omega (arith, le, behind))) c.asked c.outcome refl)
+      ∙ ap (λ (r : Reading (Option A)). cond (nat_le size o) (done None) r) (same_after o (n + more) n (λ q behind. all_children n more q (omega (arith, le, behind))) c.asks_memory c.outcome refl)
 
--- The laws of a box that stands in others.
-pub record IsChild {A : Type 0} (reads : List ℕ → ℕ → ℕ → Reading A) (size : A → ℕ) (Writable : A → Type 0) (bytes : A → List ℕ) (normal : A → A) (name : BoxType) : Type 0 where
-  pub framed : (v : A) → Writable v → Framed (size v) name (bytes v)
-  pub normal_form : (v : A) → Writable v → Normal Writable bytes normal v
-  pub read_back : (v : A) → Writable v → RowReadsBack reads (bytes v) (size v) (normal v)
-  pub sound : RowIsSound reads Writable size normal
-
-module _ {A : Type 0} {reads : List ℕ → ℕ → ℕ → Reading A} {size : A → ℕ} {Writable : A → Type 0} {bytes : A → List ℕ} {normal : A → A} {name : BoxType} (laws : IsChild reads size Writable bytes normal name) where
+-- Over the laws of the child.
+module _ {A : Type 0} {format : Format A} (laws : IsBox format) where
   -- the normal form is as long
-  pub normal_size : (v : A) → Writable v → size (normal v) ≡ size v
+  pub normal_size : (v : A) → format.Writable v → format.size (format.normal v) ≡ format.size v
   normal_size v w =
       let n = laws.normal_form v w in
-      sym (laws.framed (normal v) n.writable).long ∙ ap length n.same_bytes ∙ (laws.framed v w).long
+      sym (laws.header (format.normal v) n.writable).long ∙ ap length n.same_bytes ∙ (laws.header v w).long
 
-  pub optional_long : (c : Option A) → WritableOptional Writable c → length (bytes_optional bytes c) ≡ size_optional size c
-  optional_long (Some v) w = (laws.framed v w).long
+  pub optional_long : (c : Option A) → WritableOptional format c → length (bytes_optional format c) ≡ size_optional format c
+  optional_long (Some v) w = (laws.header v w).long
   optional_long None w = refl
 
-  pub optional_size : (c : Option A) → WritableOptional Writable c → size_optional size (normal_optional normal c) ≡ size_optional size c
+  pub optional_size : (c : Option A) → WritableOptional format c → size_optional format (normal_optional format c) ≡ size_optional format c
   optional_size (Some v) w = normal_size v w
   optional_size None w = refl
 
-  pub optional_count : (c : Option A) → count_optional (normal_optional normal c) ≡ count_optional c
+  pub optional_count : (c : Option A) → count_optional (normal_optional format c) ≡ count_optional c
   optional_count (Some v) = refl
   optional_count None = refl
 
-  pub optional_writable : (c : Option A) → WritableOptional Writable c → WritableOptional Writable (normal_optional normal c)
+  pub optional_writable : (c : Option A) → WritableOptional format c → WritableOptional format (normal_optional format c)
   optional_writable (Some v) w = (laws.normal_form v w).writable
   optional_writable None w = tt
 
-  pub optional_again : (c : Option A) → WritableOptional Writable c → normal_optional normal (normal_optional normal c) ≡ normal_optional normal c
+  pub optional_again : (c : Option A) → WritableOptional format c → normal_optional format (normal_optional format c) ≡ normal_optional format c
   optional_again (Some v) w = ap (λ (u : A). Some u) (laws.normal_form v w).again
   optional_again None w = refl
 
-  pub optional_bytes : (c : Option A) → WritableOptional Writable c → bytes_optional bytes (normal_optional normal c) ≡ bytes_optional bytes c
+  pub optional_bytes : (c : Option A) → WritableOptional format c → bytes_optional format (normal_optional format c) ≡ bytes_optional format c
   optional_bytes (Some v) w = (laws.normal_form v w).same_bytes
   optional_bytes None w = refl
 
-  module _ (cs : List (ℕ × ℕ)) (k : ℕ) (long : length (joined cs) ≡ k) where
-    -- a child behind columns is read back by the chain of children
-    pub child_back : (v : A) (rest : List ℕ) (start n : ℕ) → Writable v → start + (k + size v) < 2 ^ 64 → 0 < n
-        → (children reads (code_of name) (joined cs ++ (bytes v ++ rest)) start (k + size v) n k).outcome ≡ Ok (Some (normal v))
+  module _ (cs : List (ℕ × ℕ)) (k : ℕ) (long : length (bytes_of_fields cs) ≡ k) where
+    -- a child after fields is read back by the chain of children
+    pub child_back : (v : A) (rest : List ℕ) (start n : ℕ) → format.Writable v → start + (k + format.size v) < 2 ^ 64 → 0 < n
+        → (children format.reads (code_of format.name) (bytes_of_fields cs ++ (format.bytes v ++ rest)) start (k + format.size v) n k).outcome ≡ Ok (Some (format.normal v))
     child_back v rest start n w top more =
-        let f = laws.framed v w in
-        only_child reads (code_of name) cs (bytes v) rest start k (size v) (normal v) (sym (length-joined cs) ∙ long) f.long f.least f.most top f.size_first f.code_next (laws.read_back v w rest (start + k) (omega (arith, top))) n more
+        let f = laws.header v w in
+        only_child format.reads (code_of format.name) cs (format.bytes v) rest start k (format.size v) (format.normal v) (sym (length-fields cs) ∙ long) f.long f.least f.most top f.size_first f.code_next (laws.read_back v w rest (start + k) (omega (arith, top))) n more
 
-    pub optional_back : (c : Option A) (rest : List ℕ) (start : ℕ) → WritableOptional Writable c → start + (k + size_optional size c) < 2 ^ 64
-        → (children reads (code_of name) (joined cs ++ (bytes_optional bytes c ++ rest)) start (k + size_optional size c) (count_optional c) k).outcome ≡ Ok (normal_optional normal c)
+    pub optional_back : (c : Option A) (rest : List ℕ) (start : ℕ) → WritableOptional format c → start + (k + size_optional format c) < 2 ^ 64
+        → (children format.reads (code_of format.name) (bytes_of_fields cs ++ (bytes_optional format c ++ rest)) start (k + size_optional format c) (count_optional c) k).outcome ≡ Ok (normal_optional format c)
     optional_back (Some v) rest start w top = child_back v rest start 1 w top (lit< tt)
-    optional_back None rest start w top = ap (λ (r : Reading (Option A)). r.outcome) (children_zero reads (code_of name) (joined cs ++ ([] ++ rest)) start (k + 0) k)
+    optional_back None rest start w top = ap (λ (r : Reading (Option A)). r.outcome) (children_zero format.reads (code_of format.name) (bytes_of_fields cs ++ ([] ++ rest)) start (k + 0) k)
 
-  module _ (code : ℕ) (input : List ℕ) (start long n o : ℕ) (c : Option A) (are : AreBytes input) (read : (children reads code input start long n o).outcome ≡ Ok c) where
-    by : (d : Option A) → ForSome (λ v. (normal v ≡ v) × (size v < 2 ^ 32 → Writable v)) d → (normal_optional normal d ≡ d) × (size_optional size d < 2 ^ 32 → WritableOptional Writable d)
+  module _ (code : ℕ) (input : List ℕ) (start long n o : ℕ) (c : Option A) (are : AreBytes input) (read : (children format.reads code input start long n o).outcome ≡ Ok c) where
+    by : (d : Option A) → ForSome (λ v. (format.normal v ≡ v) × (format.size v < 2 ^ 32 → format.Writable v)) d → (normal_optional format d ≡ d) × (size_optional format d < 2 ^ 32 → WritableOptional format d)
     by (Some v) is = (ap (λ (u : A). Some u) is.0, is.1)
     by None is = (refl, λ small. tt)
 
     -- what a chain of children holds is its own normal form, and writable unless it is too long
-    pub optional_sound : (normal_optional normal c ≡ c) × (size_optional size c < 2 ^ 32 → WritableOptional Writable c)
-    optional_sound = by c (children_sound reads code input start long (λ v. (normal v ≡ v) × (size v < 2 ^ 32 → Writable v)) laws.sound are n o c read)
+    pub optional_sound : (normal_optional format c ≡ c) × (size_optional format c < 2 ^ 32 → WritableOptional format c)
+    optional_sound = by c (children_sound format.reads code input start long (λ v. (format.normal v ≡ v) × (format.size v < 2 ^ 32 → format.Writable v)) laws.sound are n o c read)

@@ -3,14 +3,14 @@ use Rattle.std.proofs.Common.{◌≡◌, ℕ, zero, suc, ◌+◌, ◌-◌, ◌<�
 use Rattle.std.specs.Prelude.{◌&&◌, ◌==◌, nat_le}
 use Rattle.std.proofs.lemmas.Bool.{le-leb, lt-ltb, ne_eqb, eq-eqb}
 use Rattle.std.proofs.lemmas.List.{drop_at}
-use Rattle.mp4_frame.specs.Bytes.{number, joined, width}
-use Rattle.mp4_frame.specs.Children.{child, wanted, last, children}
+use Rattle.mp4_frame.specs.Bytes.{number, bytes_of_fields, width_of_fields}
+use Rattle.mp4_frame.specs.Children.{child, child_if_named, last, children}
 use Rattle.mp4_frame.specs.Heads.{head}
 use Rattle.mp4_frame.specs.Reading.{Reading, Fault, ◌>>=◌, done}
 use Rattle.mp4_frame.specs.declared.head.Head.{Head}
-use Rattle.mp4_frame.proofs.Columns.{length-joined}
+use Rattle.mp4_frame.proofs.Fields.{length-fields}
 use Rattle.mp4_frame.proofs.Numbers.{number-behind, number-front}
-use Rattle.mp4_frame.proofs.Stands.{fields_stand, is_value, are_bytes-drop}
+use Rattle.mp4_frame.proofs.Checks.{expect_bytes_present, is_value, are_bytes-drop}
 use Rattle.mp4_frame.proofs.Tables.{value_first}
 use Rattle.mp4_frame.specs.Laws.{AreBytes}
 use Rattle.mp4_frame.proofs.Chains.{children_first, children_none}
@@ -24,29 +24,29 @@ and_true true b p q = q
 and_true false b p q = p
 
 module _ {A : Type 0} (reads : List ℕ → ℕ → ℕ → Reading A) (code : ℕ) (cs : List (ℕ × ℕ)) (part rest : List ℕ) (start k m : ℕ) (v : A)
-    (wide : width cs ≡ k) (long : length part ≡ m) (least : 8 ≤ m) (most : m < 2 ^ 32) (top : start + (k + m) < 2 ^ 64)
+    (wide : width_of_fields cs ≡ k) (long : length part ≡ m) (least : 8 ≤ m) (most : m < 2 ^ 32) (top : start + (k + m) < 2 ^ 64)
     (size_first : number part 0 4 ≡ m) (code_next : number part 4 4 ≡ code) (back : (reads (part ++ rest) (start + k) m).outcome ≡ Ok v) where
-  at_front : (o : ℕ) → o + 4 ≤ 8 → number (joined cs ++ (part ++ rest)) (k + o) 4 ≡ number part o 4
+  at_front : (o : ℕ) → o + 4 ≤ 8 → number (bytes_of_fields cs ++ (part ++ rest)) (k + o) 4 ≡ number part o 4
   at_front o le =
-      let lj : length (joined cs) ≡ k = length-joined cs ∙ wide in
+      let lj : length (bytes_of_fields cs) ≡ k = length-fields cs ∙ wide in
       let past : k ≤ k + o = omega arith in
       let o2 : k + o - k ≡ o = omega arith in
       let in_part : o + 4 ≤ length part = omega (arith, long) in
-      number-behind (joined cs) (part ++ rest) k (k + o) 4 lj past ∙ ap (λ (j : ℕ). number (part ++ rest) j 4) o2 ∙ number-front part rest o 4 in_part
+      number-behind (bytes_of_fields cs) (part ++ rest) k (k + o) 4 lj past ∙ ap (λ (j : ℕ). number (part ++ rest) j 4) o2 ∙ number-front part rest o 4 in_part
 
-  head_is : head (joined cs ++ (part ++ rest)) k ≡ done (record { code = code; size = m; start = k })
+  head_is : head (bytes_of_fields cs ++ (part ++ rest)) k ≡ done (record { code = code; size = m; start = k })
   unfolding head
   head_is =
-      let B = joined cs ++ (part ++ rest) in
-      let lj : length (joined cs) ≡ k = length-joined cs ∙ wide in
-      let stands : k + 8 ≤ length B = omega (arith, length-append (joined cs) (part ++ rest), length-append part rest, lj, long) in
+      let B = bytes_of_fields cs ++ (part ++ rest) in
+      let lj : length (bytes_of_fields cs) ≡ k = length-fields cs ∙ wide in
+      let present : k + 8 ≤ length B = omega (arith, length-append (bytes_of_fields cs) (part ++ rest), length-append part rest, lj, long) in
       let zeroth : k + 0 ≡ k = omega arith in
       let s : number B k 4 ≡ m = ap (λ (j : ℕ). number B j 4) (sym zeroth) ∙ at_front 0 (omega arith) ∙ size_first in
       let n : number B (k + 4) 4 ≡ code = at_front 4 (omega arith) ∙ code_next in
       let other : eqb m 1 ≡ false = ne_eqb m 1 (λ e. absurd (omega arith)) in
-      rw (fields_stand B k 8 stands, s, n, other) refl
+      rw (expect_bytes_present B k 8 present, s, n, other) refl
 
-  child_is : child (joined cs ++ (part ++ rest)) start (k + m) k ≡ done (record { code = code; size = m; start = k })
+  child_is : child (bytes_of_fields cs ++ (part ++ rest)) start (k + m) k ≡ done (record { code = code; size = m; start = k })
   unfolding child
   child_is =
       let a : leb 8 m ≡ true = le-leb 8 m least in
@@ -54,22 +54,22 @@ module _ {A : Type 0} (reads : List ℕ → ℕ → ℕ → Reading A) (code : �
       let c : ltb (start + k + m) (2 ^ 64) ≡ true = lt-ltb (start + k + m) (2 ^ 64) (omega arith) in
       rw (head_is, a, b, c) refl
 
-  -- the only child, behind columns
-  pub only_child : (n : ℕ) → 0 < n → (children reads code (joined cs ++ (part ++ rest)) start (k + m) n k).outcome ≡ Ok (Some v)
+  -- the only child, after fields
+  pub only_child : (n : ℕ) → 0 < n → (children reads code (bytes_of_fields cs ++ (part ++ rest)) start (k + m) n k).outcome ≡ Ok (Some v)
   only_child n more =
-      let B = joined cs ++ (part ++ rest) in
-      let lj : length (joined cs) ≡ k = length-joined cs ∙ wide in
-      let d : drop k B ≡ part ++ rest = drop_at (joined cs) (part ++ rest) k lj in
+      let B = bytes_of_fields cs ++ (part ++ rest) in
+      let lj : length (bytes_of_fields cs) ≡ k = length-fields cs ∙ wide in
+      let d : drop k B ≡ part ++ rest = drop_at (bytes_of_fields cs) (part ++ rest) k lj in
       let read : (reads (drop k B) (start + k) m).outcome ≡ Ok v = ap (λ (xs : List ℕ). (reads xs (start + k) m).outcome) d ∙ back in
-      let after = λ (c : Head). wanted reads code B start c >>= λ mine. children reads code B start (k + m) (n - 1) (c.start + c.size) >>= λ later. done (last mine later) in
+      let after = λ (c : Head). child_if_named reads code B start c >>= λ mine. children reads code B start (k + m) (n - 1) (c.start + c.size) >>= λ later. done (last mine later) in
       let c : Head = record { code = code; size = m; start = k } in
       let same : eqb code code ≡ true = eq-eqb code code refl in
-      let w : (wanted reads code B start c).outcome ≡ Ok (Some v) =
+      let w : (child_if_named reads code B start c).outcome ≡ Ok (Some v) =
       ap (λ (b : Bool). (cond b (reads (drop k B) (start + k) m >>= λ v. done (Some v)) (done None)).outcome) same ∙ outcome_bind (reads (drop k B) (start + k) m) (λ v. done (Some v)) v (Ok (Some v)) read refl in
       let none : children reads code B start (k + m) (n - 1) (k + m) ≡ done None = children_none reads code B start (k + m) (n - 1) (k + m) (omega arith) in
       ap (λ (r : Reading (Option A)). r.outcome) (children_first reads code B start (k + m) n k more (omega (arith, least)))
       ∙ outcome_bind (child B start (k + m) k) after c (Ok (Some v)) (ap (λ (r : Reading Head). r.outcome) child_is)
-      (outcome_bind (wanted reads code B start c) (λ mine. children reads code B start (k + m) (n - 1) (k + m) >>= λ later. done (last mine later)) (Some v) (Ok (Some v)) w
+      (outcome_bind (child_if_named reads code B start c) (λ mine. children reads code B start (k + m) (n - 1) (k + m) >>= λ later. done (last mine later)) (Some v) (Ok (Some v)) w
       (ap (λ (r : Reading (Option A)). (r >>= λ later. done (last (Some v) later)).outcome) none))
 
 -- a fact of what is there
@@ -85,12 +85,12 @@ abbrev pub ok_some : {A : Type 0} → Option A → Result (Option A) Fault
 ok_some r = Ok r
 
 module _ {A : Type 0} (reads : List ℕ → ℕ → ℕ → Reading A) (code : ℕ) (bytes : List ℕ) (start size : ℕ) (P : A → Type 0) (each : (part : List ℕ) (from long : ℕ) (v : A) → AreBytes part → (reads part from long).outcome ≡ Ok v → P v) (are : AreBytes bytes) where
-  wanted_sound : (c : Head) (b : Bool) (r : Option A) → (cond b (reads (drop c.start bytes) (start + c.start) c.size >>= λ v. done (Some v)) (done None)).outcome ≡ ok_some r → ForSome P r
-  wanted_sound c true r e =
+  child_if_named_sound : (c : Head) (b : Bool) (r : Option A) → (cond b (reads (drop c.start bytes) (start + c.start) c.size >>= λ v. done (Some v)) (done None)).outcome ≡ ok_some r → ForSome P r
+  child_if_named_sound c true r e =
       let p = value_first (reads (drop c.start bytes) (start + c.start) c.size) (λ v. done (Some v)) r e in
       let is : Some p.0 ≡ r = is_value (Some p.0) r p.2 in
       subst (ForSome P) is (each (drop c.start bytes) (start + c.start) c.size p.0 (are_bytes-drop c.start bytes are) p.1)
-  wanted_sound c false r e =
+  child_if_named_sound c false r e =
       let is : None ≡ r = is_value None r e in
       subst (ForSome P) is tt
 
@@ -100,11 +100,11 @@ module _ {A : Type 0} (reads : List ℕ → ℕ → ℕ → Reading A) (code : �
   children_sound zero o r e = (let is : None ≡ r = is_value None r e in subst (ForSome P) is tt)
   children_sound (suc n) o r e = by (λ q s h. children_sound n q s h) (nat_le size o) e
     where
-      by : ((q : ℕ) (s : Option A) → (children reads code bytes start size n q).outcome ≡ Ok s → ForSome P s) → (b : Bool) → (cond b (done None) (child bytes start size o >>= λ c. wanted reads code bytes start c >>= λ mine. children reads code bytes start size n (c.start + c.size) >>= λ later. done (last mine later))).outcome ≡ Ok r → ForSome P r
+      by : ((q : ℕ) (s : Option A) → (children reads code bytes start size n q).outcome ≡ Ok s → ForSome P s) → (b : Bool) → (cond b (done None) (child bytes start size o >>= λ c. child_if_named reads code bytes start c >>= λ mine. children reads code bytes start size n (c.start + c.size) >>= λ later. done (last mine later))).outcome ≡ Ok r → ForSome P r
       by ih true h = (let is : None ≡ r = is_value None r h in subst (ForSome P) is tt)
       by ih false h =
-          let c = value_first (child bytes start size o) (λ c. wanted reads code bytes start c >>= λ mine. children reads code bytes start size n (c.start + c.size) >>= λ later. done (last mine later)) r h in
-          let m = value_first (wanted reads code bytes start c.0) (λ mine. children reads code bytes start size n (c.0.start + c.0.size) >>= λ later. done (last mine later)) r c.2 in
+          let c = value_first (child bytes start size o) (λ c. child_if_named reads code bytes start c >>= λ mine. children reads code bytes start size n (c.start + c.size) >>= λ later. done (last mine later)) r h in
+          let m = value_first (child_if_named reads code bytes start c.0) (λ mine. children reads code bytes start size n (c.0.start + c.0.size) >>= λ later. done (last mine later)) r c.2 in
           let l = value_first (children reads code bytes start size n (c.0.start + c.0.size)) (λ later. done (last m.0 later)) r m.2 in
           let is : last m.0 l.0 ≡ r = is_value (last m.0 l.0) r l.2 in
-          subst (ForSome P) is (last_of P m.0 l.0 (wanted_sound c.0 (c.0.code == code) m.0 m.1) (ih (c.0.start + c.0.size) l.0 l.1))
+          subst (ForSome P) is (last_of P m.0 l.0 (child_if_named_sound c.0 (c.0.code == code) m.0 m.1) (ih (c.0.start + c.0.size) l.0 l.1))

@@ -4,9 +4,9 @@ use Rattle.std.specs.Prelude.{nat_lt, ◌==◌, ◌⊎◌}
 use Rattle.std.proofs.lemmas.Bool.{lt-ltb, ltb-false, ne_eqb}
 use Rattle.mp4_frame.specs.Bytes.{number}
 use Rattle.mp4_frame.specs.Heads.{head, compact_head, large_head}
-use Rattle.mp4_frame.specs.Reading.{Fault, End, Reading, test, done, ◌>>=◌}
+use Rattle.mp4_frame.specs.Reading.{Fault, End, Reading, check, done, ◌>>=◌}
 use Rattle.mp4_frame.specs.declared.head.Head.{Head}
-use Rattle.mp4_frame.proofs.Stands.{fields_stand, fields_value, test_ok}
+use Rattle.mp4_frame.proofs.Checks.{expect_bytes_present, guard_value, check_ok}
 
 pub no_head : (B : List ℕ) (o : ℕ) → length B < o + 8 → (head B o).outcome ≡ Err End
 unfolding head
@@ -16,7 +16,7 @@ pub short_head : (B : List ℕ) (o size code : ℕ) → o + 8 ≤ length B → s
 unfolding head
 short_head B o size code room is_size is_code short =
     let second = ne_eqb (number B o 4) 1 (λ e. short (is_size ∙ e)) in
-    rw (is_size, is_code) (rw (fields_stand B o 8 room, second) refl)
+    rw (is_size, is_code) (rw (expect_bytes_present B o 8 room, second) refl)
 
 either_reading : {A : Type 0} (b : Bool) (r s : Reading A) (v : A) → (cond b r s).outcome ≡ Ok v → (r.outcome ≡ Ok v) ⊎ (s.outcome ≡ Ok v)
 either_reading true r s v e = inl e
@@ -25,18 +25,18 @@ either_reading false r s v e = inr e
 start_is : (c d : Head) → (done c).outcome ≡ (done d).outcome → c.start ≡ d.start
 start_is c d e = ap (λ (r : Result Head Fault). elim r as (λ _. ℕ) [ Ok g ↦ g.start | Err _ ↦ 0 ]) e
 
--- the 8 bytes from the place of a head on stand there
+-- the 8 bytes from the place of a head on are present
 pub head_room : (B : List ℕ) (o : ℕ) (c : Head) → (head B o).outcome ≡ Ok c → (o ≤ c.start) × (c.start + 8 ≤ length B)
 unfolding head
 head_room B o c e =
-    let first = fields_value (nat_lt (length B) (o + 8)) (λ _. cond (number B o 4 == 1) (large_head B o) (compact_head B o)) c e in
+    let first = guard_value (nat_lt (length B) (o + 8)) (λ _. cond (number B o 4 == 1) (large_head B o) (compact_head B o)) c e in
     let room : o + 8 ≤ length B = ltb-false _ _ first.0 in
     elim (either_reading (number B o 4 == 1) (large_head B o) (compact_head B o) c first.1) [
       | inl l ↦
           (let value : Head = record { code = number B (o + 4) 4; size = number B (o + 8) 8 - 8; start = o + 8 } in
-          let p = fields_value (nat_lt (length B) (o + 8 + 8)) (λ _. test _ >>= λ _. done value) c l in
+          let p = guard_value (nat_lt (length B) (o + 8 + 8)) (λ _. check _ >>= λ _. done value) c l in
           let more : o + 8 + 8 ≤ length B = ltb-false _ _ p.0 in
-          let q = test_ok _ (λ _. done value) c p.1 in
+          let q = check_ok _ (λ _. done value) c p.1 in
           let t : o + 8 ≡ c.start = start_is value c q.1 in
           (omega (arith, t), omega (arith, t, more)))
       | inr s ↦

@@ -1,6 +1,6 @@
 pub mod Numbers
-pub mod Stands
-pub mod Columns
+pub mod Checks
+pub mod Fields
 pub mod Heads
 pub mod Places
 pub mod Walks
@@ -8,8 +8,9 @@ pub mod Steps
 pub mod RoundTrip
 pub mod Members
 pub mod Tables
+pub mod TableLaws
 pub mod Headers
-pub mod Codes
+pub mod CodeNames
 pub mod Decided
 pub mod Chains
 pub mod Children

@@ -8,31 +8,33 @@ use Rattle.std.proofs.lemmas.List.Concat.{flat_map-append}
 use Rattle.std.proofs.Math.Seq.{take-append-add}
 use Rattle.mp4_frame.specs.Bytes.{number}
 use Rattle.mp4_frame.specs.BoxType.{name_of, code_of}
-use Rattle.mp4_frame.specs.Heads.{framed, frame_of, frame}
+use Rattle.mp4_frame.specs.Heads.{frame_of_head, frame_of, frame}
 use Rattle.mp4_frame.specs.Reading.{Fault, End, Reading, done, also, and_then, ◌>>=◌}
-use Rattle.mp4_frame.specs.Laws.{Framed, Normal, OwnName, ReadsBack}
+use Rattle.mp4_frame.specs.Laws.{BeginsWithHeader, Normal, OwnName, ReadsBack}
 use Rattle.mp4_frame.specs.Streams.{stream, walk_on, box_of, boxes}
 use Rattle.mp4_frame.specs.declared.box_type.BoxType.{BoxType}
 use Rattle.mp4_frame.specs.declared.frame.Frame.{Frame}
+use Rattle.mp4_frame.specs.declared.head.Head.{Head}
 use Rattle.mp4_frame.proofs.Numbers.{number-front, number-past, number-among}
 use Rattle.mp4_frame.proofs.Heads.{no_head, short_head}
 use Rattle.mp4_frame.proofs.Walks.{walk_first, walk_none}
 use Rattle.mp4_frame.proofs.Steps.{item_known}
 
--- a frame of a box of 8 to 2^32 - 1 bytes
-frame_short : (B : List ℕ) (o size code : ℕ) (name : BoxType) → o + 8 ≤ length B → size ≡ number B o 4 → code ≡ number B (o + 4) 4 → name_of code ≡ name → 8 ≤ size → frame B o ≡ framed (length B) o (record { name = name; size = size })
-frame_short B o size code name room is_size is_code is_name least =
-    let h = short_head B o size code room is_size is_code (λ e. omega arith) in
-    ap (frame_of (length B)) h ∙ ap (λ (n : BoxType). framed (length B) o (record { name = n; size = size })) is_name
+abbrev pub head_of : ℕ → ℕ → ℕ → Head
+head_of code size o = record { code = code; size = size; start = o }
 
-framed_fits : (len o size : ℕ) (name : BoxType) → 8 ≤ size → o + size < 2 ^ 64 → o + size ≤ len → framed len o (record { name = name; size = size }) ≡ Ok (record { name = name; start = o; size = size; end = o + size })
-unfolding framed
-framed_fits len o size name least top room =
+-- a frame of a box of 8 to 2^32 - 1 bytes
+frame_short : (B : List ℕ) (o size code : ℕ) → o + 8 ≤ length B → size ≡ number B o 4 → code ≡ number B (o + 4) 4 → 8 ≤ size → frame B o ≡ frame_of_head (length B) (head_of code size o)
+frame_short B o size code room is_size is_code least = ap (frame_of (length B)) (short_head B o size code room is_size is_code (λ e. omega arith))
+
+frame_fits : (len o size code : ℕ) → 8 ≤ size → o + size < 2 ^ 64 → o + size ≤ len → frame_of_head len (head_of code size o) ≡ Ok (record { name = name_of code; start = o; size = size; end = o + size })
+unfolding frame_of_head
+frame_fits len o size code least top room =
     rw (ne_eqb size 0 (λ e. omega arith), le-ltb size 8 least, le-ltb (2 ^ 64 - 1) (o + size) (omega arith), le-ltb len (o + size) room) refl
 
-framed_cut : (len o size : ℕ) (name : BoxType) → 8 ≤ size → o + size < 2 ^ 64 → len < o + size → framed len o (record { name = name; size = size }) ≡ Err End
-unfolding framed
-framed_cut len o size name least top cut =
+frame_too_long : (len o size code : ℕ) → 8 ≤ size → o + size < 2 ^ 64 → len < o + size → frame_of_head len (head_of code size o) ≡ Err End
+unfolding frame_of_head
+frame_too_long len o size code least top cut =
     rw (ne_eqb size 0 (λ e. omega arith), le-ltb size 8 least, le-ltb (2 ^ 64 - 1) (o + size) (omega arith), lt-ltb len (o + size) cut) refl
 
 -- a list in front of what is still read
@@ -53,7 +55,7 @@ outcome_ahead a b v (Ok ys) = refl
 outcome_ahead a b v (Err k) = refl
 
 module _ {A : Type 0} (name : A → BoxType) (size : A → ℕ) (Writable : A → Type 0) (bytes : A → List ℕ) (normal : A → A) (known : BoxType → Bool) (reading : BoxType → List ℕ → ℕ → ℕ → Reading A)
-    (framed_law : (v : A) → Writable v → Framed (size v) (name v) (bytes v))
+    (header_law : (v : A) → Writable v → BeginsWithHeader (size v) (name v) (bytes v))
     (normal_law : (v : A) → Writable v → Normal Writable bytes normal v)
     (name_law : (v : A) → Writable v → OwnName known (name v))
     (back_law : (v : A) → Writable v → ReadsBack (reading (name v)) (bytes v) (normal v)) where
@@ -61,7 +63,7 @@ module _ {A : Type 0} (name : A → BoxType) (size : A → ℕ) (Writable : A �
   frame_written : (v : A) → Writable v → (B x y : List ℕ) → B ≡ x ++ (bytes v ++ y) → length x + length (bytes v) < 2 ^ 64
       → frame B (length x) ≡ Ok (record { name = name v; start = length x; size = length (bytes v); end = length x + length (bytes v) })
   frame_written v w B x y is top =
-      let f = framed_law v w in
+      let f = header_law v w in
       let n = name_law v w in
       let long : length B ≡ length x + (length (bytes v) + length y) = omega (arith, ap length is, length-append x (bytes v ++ y), length-append (bytes v) y) in
       let zero_on : length x + 0 ≡ length x = omega arith in
@@ -69,14 +71,15 @@ module _ {A : Type 0} (name : A → BoxType) (size : A → ℕ) (Writable : A �
       f.long ∙ sym (ap (λ (l : List ℕ). number l (length x) 4) is ∙ ap (λ (i : ℕ). number (x ++ (bytes v ++ y)) i 4) (sym zero_on) ∙ number-among x (bytes v) y 0 4 (omega (arith, f.long, f.least)) ∙ f.size_first) in
       let e2 : code_of (name v) ≡ number B (length x + 4) 4 = sym (ap (λ (l : List ℕ). number l (length x + 4) 4) is ∙ number-among x (bytes v) y 4 4 (omega (arith, f.long, f.least)) ∙ f.code_next) in
       let least : 8 ≤ length (bytes v) = omega (arith, f.long, f.least) in
-      frame_short B (length x) (length (bytes v)) (code_of (name v)) (name v) (omega (arith, long, least)) e1 e2 n.is_own least
-      ∙ framed_fits (length B) (length x) (length (bytes v)) (name v) least top (omega (arith, long))
+      frame_short B (length x) (length (bytes v)) (code_of (name v)) (omega (arith, long, least)) e1 e2 least
+      ∙ frame_fits (length B) (length x) (length (bytes v)) (code_of (name v)) least top (omega (arith, long))
+      ∙ ap (λ (own : BoxType). Ok (record { name = own; start = length x; size = length (bytes v); end = length x + length (bytes v) })) n.is_own
 
   -- one box, and then what follows
   one : (v : A) → Writable v → (B x y : List ℕ) → B ≡ x ++ (bytes v ++ y) → length x + length (bytes v) < 2 ^ 64
       → (boxes known reading B (length x)).outcome ≡ ahead (normal v ∷ []) (boxes known reading B (length x + length (bytes v))).outcome
   one v w B x y is top =
-      let f = framed_law v w in
+      let f = header_law v w in
       let n = name_law v w in
       let long : length B ≡ length x + (length (bytes v) + length y) = omega (arith, ap length is, length-append x (bytes v ++ y), length-append (bytes v) y) in
       let fr : Frame = record { name = name v; start = length x; size = length (bytes v); end = length x + length (bytes v) } in
@@ -85,7 +88,7 @@ module _ {A : Type 0} (name : A → BoxType) (size : A → ℕ) (Writable : A �
       let item = item_known known reading B (length x) fr (normal v) n.is_known back in
       let first = walk_first (box_of known reading B) B (length x) (omega (arith, long, f.long, f.least)) ∙ ap (walk_on (box_of known reading B (length x)) (λ e. boxes known reading B e)) (frame_written v w B x y is top) in
       let second = ap (λ (i : Reading (List A)). i >>= λ xs. rest >>= λ ys. done (xs ++ ys)) item in
-      ap (λ (r : Reading (List A)). r.outcome) (first ∙ second) ∙ outcome_ahead true rest.asked (normal v) rest.outcome
+      ap (λ (r : Reading (List A)). r.outcome) (first ∙ second) ∙ outcome_ahead true rest.asks_memory (normal v) rest.outcome
 
   -- a written list, and then what follows
   through : (vs : List A) → AllByRecursion Writable vs → (B x y : List ℕ) → B ≡ x ++ (stream bytes vs ++ y) → length x + length (stream bytes vs) < 2 ^ 64
@@ -117,7 +120,7 @@ module _ {A : Type 0} (name : A → BoxType) (size : A → ℕ) (Writable : A �
   -- the frame of a box that is cut
   frame_cut : (v : A) → Writable v → (x : List ℕ) (k : ℕ) → 0 < k → k < length (bytes v) → length x + length (bytes v) < 2 ^ 64 → frame (x ++ take k (bytes v)) (length x) ≡ Err End
   frame_cut v w x k least most top =
-      let f = framed_law v w in
+      let f = header_law v w in
       let n = name_law v w in
       let y = take k (bytes v) in
       let z = drop k (bytes v) in
@@ -133,8 +136,8 @@ module _ {A : Type 0} (name : A → BoxType) (size : A → ℕ) (Writable : A �
             let e2 : code_of (name v) ≡ number B (length x + 4) 4 =
             sym f.code_next ∙ ap (λ (l : List ℕ). number l 4 4) split ∙ number-front y z 4 4 (omega (arith, ylong)) ∙ sym (number-past x y 4 4) in
             let least : 8 ≤ length (bytes v) = omega (arith, f.long, f.least) in
-            frame_short B (length x) (length (bytes v)) (code_of (name v)) (name v) (omega (arith, long, h)) e1 e2 n.is_own least
-            ∙ framed_cut (length B) (length x) (length (bytes v)) (name v) least top (omega (arith, long)))
+            frame_short B (length x) (length (bytes v)) (code_of (name v)) (omega (arith, long, h)) e1 e2 least
+            ∙ frame_too_long (length B) (length x) (length (bytes v)) (code_of (name v)) least top (omega (arith, long)))
         | inl h ↦ ap (frame_of (length B)) (no_head B (length x) (omega (arith, long, h)))
       ]
 
@@ -171,8 +174,8 @@ module _ {A : Type 0} (name : A → BoxType) (size : A → ℕ) (Writable : A �
   -- equal bytes are bytes of equal normal forms
   pub same_normal : (v w : A) → Writable v → Writable w → bytes v ≡ bytes w → normal v ≡ normal w
   same_normal v w p q e =
-      let f = framed_law v p in
-      let g = framed_law w q in
+      let f = header_law v p in
+      let g = header_law w q in
       let n = name_law v p in
       let m = name_law w q in
       let names : name v ≡ name w = sym n.is_own ∙ ap name_of (sym f.code_next ∙ ap (λ (l : List ℕ). number l 4 4) e ∙ g.code_next) ∙ m.is_own in
@@ -189,8 +192,8 @@ module _ {A : Type 0} (name : A → BoxType) (size : A → ℕ) (Writable : A �
   -- two lists with the same bytes begin with the same box
   first_same : (v w : A) (s t : List ℕ) → Writable v → Writable w → bytes v ++ s ≡ bytes w ++ t → (bytes v ≡ bytes w) × (s ≡ t)
   first_same v w s t p q e =
-      let f = framed_law v p in
-      let g = framed_law w q in
+      let f = header_law v p in
+      let g = header_law w q in
       let sizes : length (bytes v) ≡ length (bytes w) =
       f.long ∙ sym f.size_first ∙ sym (number-front (bytes v) s 0 4 (omega (arith, f.long, f.least))) ∙ ap (λ (l : List ℕ). number l 0 4) e ∙ number-front (bytes w) t 0 4 (omega (arith, g.long, g.least)) ∙ g.size_first ∙ sym g.long in
       let n = length (bytes w) in
@@ -198,7 +201,7 @@ module _ {A : Type 0} (name : A → BoxType) (size : A → ℕ) (Writable : A �
 
   no_first : (v : A) (s : List ℕ) → Writable v → [] ≡ bytes v ++ s → ⊥
   no_first v s p e =
-      let f = framed_law v p in
+      let f = header_law v p in
       let l : 0 ≡ length (bytes v ++ s) = ap length e in
       omega (arith, l, length-append (bytes v) s, f.long, f.least)
 

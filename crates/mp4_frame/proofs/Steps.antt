@@ -5,7 +5,7 @@ use Rattle.std.proofs.lemmas.Bool.{lt-ltb}
 use Rattle.std.proofs.lemmas.List.{append-nil}
 use Rattle.mp4_frame.specs.Heads.{frame}
 use Rattle.mp4_frame.specs.Reading.{Fault, End, Invalid, NotFound, Reading, done, also, and_then, ◌>>=◌, Refuses, FaultAs, IsFault, memory}
-use Rattle.mp4_frame.specs.Streams.{walk_on, walk, box_of, boxes, pushed}
+use Rattle.mp4_frame.specs.Streams.{walk_on, walk, box_of, boxes, append_read}
 use Rattle.mp4_frame.specs.declared.box_type.BoxType.{BoxType}
 use Rattle.mp4_frame.specs.declared.frame.Frame.{Frame}
 use Rattle.mp4_frame.specs.declared.error.Error.{Error}
@@ -14,7 +14,7 @@ use Rattle.mp4_frame.proofs.Walks.{walk_first, walk_none}
 
 -- what was read before, and what is still read
 abbrev pub continued : {X : Type 0} → Bool → List X → Reading (List X) → Reading (List X)
-continued asked front r = also asked (r >>= λ ys. done (front ++ ys))
+continued asks_memory front r = also asks_memory (r >>= λ ys. done (front ++ ys))
 
 or_false : (a : Bool) → (a || false) ≡ a
 or_false true = refl
@@ -24,28 +24,28 @@ or_true : (a : Bool) → (a || true) ≡ true
 or_true true = refl
 or_true false = refl
 
-regroup_asked : (a b c : Bool) → (a || (b || (c || false))) ≡ ((a || b) || (c || false))
-regroup_asked true b c = refl
-regroup_asked false true c = refl
-regroup_asked false false c = refl
+regroup_asks : (a b c : Bool) → (a || (b || (c || false))) ≡ ((a || b) || (c || false))
+regroup_asks true b c = refl
+regroup_asks false true c = refl
+regroup_asks false false c = refl
 
 -- an item that was read
 regroup : {X : Type 0} (a b : Bool) (front xs : List X) (c : Bool) (o : Result (List X) Fault)
-    → continued a front (also b (and_then c o (λ ys. done (xs ++ ys)))) ≡ continued (a || b) (front ++ xs) (record { asked = c; outcome = o })
-regroup true b front xs c (Ok ys) = ap (λ (l : List _). record { asked = true; outcome = Ok l }) (sym (append_assoc front xs ys))
-regroup false true front xs c (Ok ys) = ap (λ (l : List _). record { asked = true; outcome = Ok l }) (sym (append_assoc front xs ys))
-regroup false false front xs true (Ok ys) = ap (λ (l : List _). record { asked = true; outcome = Ok l }) (sym (append_assoc front xs ys))
-regroup false false front xs false (Ok ys) = ap (λ (l : List _). record { asked = false; outcome = Ok l }) (sym (append_assoc front xs ys))
+    → continued a front (also b (and_then c o (λ ys. done (xs ++ ys)))) ≡ continued (a || b) (front ++ xs) (record { asks_memory = c; outcome = o })
+regroup true b front xs c (Ok ys) = ap (λ (l : List _). record { asks_memory = true; outcome = Ok l }) (sym (append_assoc front xs ys))
+regroup false true front xs c (Ok ys) = ap (λ (l : List _). record { asks_memory = true; outcome = Ok l }) (sym (append_assoc front xs ys))
+regroup false false front xs true (Ok ys) = ap (λ (l : List _). record { asks_memory = true; outcome = Ok l }) (sym (append_assoc front xs ys))
+regroup false false front xs false (Ok ys) = ap (λ (l : List _). record { asks_memory = false; outcome = Ok l }) (sym (append_assoc front xs ys))
 regroup true b front xs c (Err k) = refl
 regroup false true front xs c (Err k) = refl
 regroup false false front xs c (Err k) = refl
 
-pub bind_ok : {A C : Type 0} (r : Reading A) (f : A → Reading C) (v : A) → r.outcome ≡ Ok v → (r >>= f) ≡ also r.asked (f v)
-bind_ok r f v e = ap (λ (o : Result _ Fault). and_then r.asked o f) e
+pub bind_ok : {A C : Type 0} (r : Reading A) (f : A → Reading C) (v : A) → r.outcome ≡ Ok v → (r >>= f) ≡ also r.asks_memory (f v)
+bind_ok r f v e = ap (λ (o : Result _ Fault). and_then r.asks_memory o f) e
 
-and_then_asked : {Y Z : Type 0} (asked : Bool) (o : Result Y Fault) (g : Y → Reading Z) → asked ≡ true → (and_then asked o g).asked ≡ true
-and_then_asked asked (Ok y) g is = ap (λ (b : Bool). b || (g y).asked) is
-and_then_asked asked (Err k) g is = is
+and_then_asks : {Y Z : Type 0} (asks_memory : Bool) (o : Result Y Fault) (g : Y → Reading Z) → asks_memory ≡ true → (and_then asks_memory o g).asks_memory ≡ true
+and_then_asks asks_memory (Ok y) g is = ap (λ (b : Bool). b || (g y).asks_memory) is
+and_then_asks asks_memory (Err k) g is = is
 
 refuses_fault : {A : Type 0} (e : Error) (k : Fault) (total : Reading (List A)) → IsFault e k → total.outcome ≡ Err k → Refuses e total
 refuses_fault errors.IoError k total is t = t ∙ ap (λ (k : Fault). Err k) is
@@ -64,12 +64,12 @@ placed reading name bs B p s size same at =
 module _ {X : Type 0} (item : ℕ → Frame → Reading (List X)) (B : List ℕ) where
   -- a step over a frame whose item is read
   pub step : (a : Bool) (front xs : List X) (o : ℕ) (f : Frame) (total : Reading (List X)) → o < length B → frame B o ≡ Ok f → (item o f).outcome ≡ Ok xs
-      → continued a front (walk item B o) ≡ total → continued (a || (item o f).asked) (front ++ xs) (walk item B f.end) ≡ total
+      → continued a front (walk item B o) ≡ total → continued (a || (item o f).asks_memory) (front ++ xs) (walk item B f.end) ≡ total
   step a front xs o f total lt is is_item so_far =
       let rest = walk item B f.end in
       let first : walk item B o ≡ walk_on (item o) (λ e. walk item B e) (Ok f) = walk_first item B o lt ∙ ap (walk_on (item o) (λ e. walk item B e)) is in
       let second = bind_ok (item o f) (λ xs. rest >>= λ ys. done (xs ++ ys)) xs is_item in
-      sym (ap (continued a front) (first ∙ second) ∙ regroup a (item o f).asked front xs rest.asked rest.outcome) ∙ so_far
+      sym (ap (continued a front) (first ∙ second) ∙ regroup a (item o f).asks_memory front xs rest.asks_memory rest.outcome) ∙ so_far
 
   -- the list up to a fault
   fault_at : (a : Bool) (front : List X) (o : ℕ) (r : Result Frame Fault) (total : Reading (List X)) → o < length B → frame B o ≡ r
@@ -89,8 +89,8 @@ module _ {X : Type 0} (item : ℕ → Frame → Reading (List X)) (B : List ℕ)
   walk_faults a front o e total lt fault so_far = walk_faults_at a front o e (frame B o) total lt refl fault so_far
 
   -- nothing is left
-  pub walked_all : (a : Bool) (front : List X) (o : ℕ) (total : Reading (List X)) → length B ≤ o → continued a front (walk item B o) ≡ total → total.outcome ≡ Ok front
-  walked_all a front o total le so_far =
+  pub walk_is_over : (a : Bool) (front : List X) (o : ℕ) (total : Reading (List X)) → length B ≤ o → continued a front (walk item B o) ≡ total → total.outcome ≡ Ok front
+  walk_is_over a front o total le so_far =
       ap (λ (r : Reading (List X)). r.outcome) (sym so_far ∙ ap (continued a front) (walk_none item B o le)) ∙ ap (λ (l : List X). Ok l) (append-nil front)
 
 abbrev pub ok_list : {A : Type 0} → List A → Result (List A) Fault
@@ -109,15 +109,15 @@ module _ {A : Type 0} (known : BoxType → Bool) (reading : BoxType → List ℕ
   skipped front o f total lt is unknown so_far =
       let item : box_of known reading B o f ≡ done [] = rw unknown refl in
       let one = step (box_of known reading B) B (nat_lt 0 (length front)) front [] o f total lt is (ap (λ (r : Reading (List A)). r.outcome) item) so_far in
-      let flag : (nat_lt 0 (length front) || (box_of known reading B o f).asked) ≡ nat_lt 0 (length front) = ap (λ (r : Reading (List A)). nat_lt 0 (length front) || r.asked) item ∙ or_false (nat_lt 0 (length front)) in
+      let flag : (nat_lt 0 (length front) || (box_of known reading B o f).asks_memory) ≡ nat_lt 0 (length front) = ap (λ (r : Reading (List A)). nat_lt 0 (length front) || r.asks_memory) item ∙ or_false (nat_lt 0 (length front)) in
       rw (flag, append-nil front) at one
 
-  pub item_known : (o : ℕ) (f : Frame) (v : A) → known f.name ≡ true → (reading f.name B f.start f.size).outcome ≡ Ok v → box_of known reading B o f ≡ record { asked = true; outcome = Ok (v ∷ []) }
+  pub item_known : (o : ℕ) (f : Frame) (v : A) → known f.name ≡ true → (reading f.name B f.start f.size).outcome ≡ Ok v → box_of known reading B o f ≡ record { asks_memory = true; outcome = Ok (v ∷ []) }
   item_known o f v is_known e =
       let r = reading f.name B f.start f.size in
       let one : box_of known reading B o f ≡ (r >>= λ v. memory >>= λ _. done (v ∷ [])) = rw is_known refl in
       let two = bind_ok r (λ v. memory >>= λ _. done (v ∷ [])) v e in
-      one ∙ two ∙ ap (λ (b : Bool). record { asked = b; outcome = Ok (v ∷ []) }) (or_true r.asked)
+      one ∙ two ∙ ap (λ (b : Bool). record { asks_memory = b; outcome = Ok (v ∷ []) }) (or_true r.asks_memory)
 
   -- a box that is kept
   pub kept : (front : List A) (o : ℕ) (f : Frame) (v : A) (total : Reading (List A)) → o < length B → frame B o ≡ Ok f → known f.name ≡ true → (reading f.name B f.start f.size).outcome ≡ Ok v
@@ -125,37 +125,37 @@ module _ {A : Type 0} (known : BoxType → Bool) (reading : BoxType → List ℕ
   kept front o f v total lt is is_known e so_far =
       let item = item_known o f v is_known e in
       let one = step (box_of known reading B) B (nat_lt 0 (length front)) front (v ∷ []) o f total lt is (ap (λ (r : Reading (List A)). r.outcome) item) so_far in
-      let flag : (nat_lt 0 (length front) || (box_of known reading B o f).asked) ≡ nat_lt 0 (length (front ++ v ∷ [])) =
-      ap (λ (r : Reading (List A)). nat_lt 0 (length front) || r.asked) item ∙ or_true (nat_lt 0 (length front)) ∙ sym (long_enough front v) in
+      let flag : (nat_lt 0 (length front) || (box_of known reading B o f).asks_memory) ≡ nat_lt 0 (length (front ++ v ∷ [])) =
+      ap (λ (r : Reading (List A)). nat_lt 0 (length front) || r.asks_memory) item ∙ or_true (nat_lt 0 (length front)) ∙ sym (long_enough front v) in
       subst (λ (b : Bool). continued b (front ++ v ∷ []) (boxes known reading B f.end) ≡ total) flag one
 
-  -- want of memory for a box that was read
+  -- out of memory for a box that was read
   pub refused : (front : List A) (o : ℕ) (f : Frame) (v : A) (total : Reading (List A)) → o < length B → frame B o ≡ Ok f → known f.name ≡ true → (reading f.name B f.start f.size).outcome ≡ Ok v
-      → continued (nat_lt 0 (length front)) front (boxes known reading B o) ≡ total → total.asked ≡ true
+      → continued (nat_lt 0 (length front)) front (boxes known reading B o) ≡ total → total.asks_memory ≡ true
   refused front o f v total lt is is_known e so_far =
       let one = kept front o f v total lt is is_known e so_far in
       let two : continued (nat_lt 0 (length (front ++ v ∷ []))) (front ++ v ∷ []) (boxes known reading B f.end) ≡ continued true (front ++ v ∷ []) (boxes known reading B f.end) = ap (λ (b : Bool). continued b (front ++ v ∷ []) (boxes known reading B f.end)) (long_enough front v) in
-      ap (λ (r : Reading (List A)). r.asked) (sym one ∙ two)
+      ap (λ (r : Reading (List A)). r.asks_memory) (sym one ∙ two)
 
   item_faults : (a : Bool) (front : List A) (o : ℕ) (f : Frame) (k : Fault) (total : Reading (List A)) → o < length B → frame B o ≡ Ok f → known f.name ≡ true → (reading f.name B f.start f.size).outcome ≡ Err k
       → continued a front (boxes known reading B o) ≡ total → total.outcome ≡ Err k
   item_faults a front o f k total lt is is_known e so_far =
       let r = reading f.name B f.start f.size in
       let one = fault_at (box_of known reading B) B a front o (Ok f) total lt is so_far in
-      let item : box_of known reading B o f ≡ and_then r.asked (Err k) (λ v. memory >>= λ _. done (v ∷ [])) = rw is_known (ap (λ (o : Result A Fault). and_then r.asked o (λ v. memory >>= λ _. done (v ∷ []))) e) in
+      let item : box_of known reading B o f ≡ and_then r.asks_memory (Err k) (λ v. memory >>= λ _. done (v ∷ [])) = rw is_known (ap (λ (o : Result A Fault). and_then r.asks_memory o (λ v. memory >>= λ _. done (v ∷ []))) e) in
       ap (λ (r : Reading (List A)). r.outcome) (sym one ∙ ap (λ (i : Reading (List A)). continued a front (i >>= λ xs. boxes known reading B f.end >>= λ ys. done (xs ++ ys))) item)
 
-  item_asks : (a : Bool) (front : List A) (o : ℕ) (f : Frame) (total : Reading (List A)) → o < length B → frame B o ≡ Ok f → known f.name ≡ true → (reading f.name B f.start f.size).asked ≡ true
-      → continued a front (boxes known reading B o) ≡ total → total.asked ≡ true
+  item_asks : (a : Bool) (front : List A) (o : ℕ) (f : Frame) (total : Reading (List A)) → o < length B → frame B o ≡ Ok f → known f.name ≡ true → (reading f.name B f.start f.size).asks_memory ≡ true
+      → continued a front (boxes known reading B o) ≡ total → total.asks_memory ≡ true
   item_asks a front o f total lt is is_known e so_far =
       let r = reading f.name B f.start f.size in
       let one = fault_at (box_of known reading B) B a front o (Ok f) total lt is so_far in
-      let item : (box_of known reading B o f).asked ≡ true = rw is_known (and_then_asked r.asked r.outcome (λ v. memory >>= λ _. done (v ∷ [])) e) in
+      let item : (box_of known reading B o f).asks_memory ≡ true = rw is_known (and_then_asks r.asks_memory r.outcome (λ v. memory >>= λ _. done (v ∷ [])) e) in
       let i = box_of known reading B o f in
-      let two = and_then_asked i.asked i.outcome (λ xs. boxes known reading B f.end >>= λ ys. done (xs ++ ys)) item in
+      let two = and_then_asks i.asks_memory i.outcome (λ xs. boxes known reading B f.end >>= λ ys. done (xs ++ ys)) item in
       let w = i >>= λ xs. boxes known reading B f.end >>= λ ys. done (xs ++ ys) in
-      let three = and_then_asked w.asked w.outcome (λ ys. done (front ++ ys)) two in
-      ap (λ (r : Reading (List A)). r.asked) (sym one) ∙ ap (λ (b : Bool). a || b) three ∙ or_true a
+      let three = and_then_asks w.asks_memory w.outcome (λ ys. done (front ++ ys)) two in
+      ap (λ (r : Reading (List A)). r.asks_memory) (sym one) ∙ ap (λ (b : Bool). a || b) three ∙ or_true a
 
   -- a frame that faults
   pub frame_faults : (a : Bool) (front : List A) (o : ℕ) (e : Error) (total : Reading (List A)) → o < length B → FaultAs (Err e) (frame B o)
@@ -164,38 +164,38 @@ module _ {A : Type 0} (known : BoxType → Bool) (reading : BoxType → List ℕ
 
   -- nothing is left
   pub all_read : (a : Bool) (front : List A) (o : ℕ) (total : Reading (List A)) → length B ≤ o → continued a front (boxes known reading B o) ≡ total → total.outcome ≡ Ok front
-  all_read = walked_all (box_of known reading B) B
+  all_read = walk_is_over (box_of known reading B) B
 
-  pushed_by : (front new : List A) (a : Bool) (o : Result A Fault) → (pushed front (record { asked = a; outcome = o })).outcome ≡ ok_list new → (v : A) × (o ≡ Ok v) × (front ++ v ∷ [] ≡ new)
-  pushed_by front new a (Ok v) e = (v, refl, cc e)
-  pushed_by front new a (Err k) e = absurd cc
+  append_read_by : (front new : List A) (a : Bool) (o : Result A Fault) → (append_read front (record { asks_memory = a; outcome = o })).outcome ≡ ok_list new → (v : A) × (o ≡ Ok v) × (front ++ v ∷ [] ≡ new)
+  append_read_by front new a (Ok v) e = (v, refl, cc e)
+  append_read_by front new a (Err k) e = absurd cc
 
   -- a box that was read and appended is kept
-  pub pushed_kept : (front new : List A) (o : ℕ) (f : Frame) (total : Reading (List A)) → o < length B → frame B o ≡ Ok f → known f.name ≡ true → (pushed front (reading f.name B f.start f.size)).outcome ≡ Ok new
+  pub append_read_keeps : (front new : List A) (o : ℕ) (f : Frame) (total : Reading (List A)) → o < length B → frame B o ≡ Ok f → known f.name ≡ true → (append_read front (reading f.name B f.start f.size)).outcome ≡ Ok new
       → continued (nat_lt 0 (length front)) front (boxes known reading B o) ≡ total → continued (nat_lt 0 (length new)) new (boxes known reading B f.end) ≡ total
-  pushed_kept front new o f total lt is is_known e so_far =
+  append_read_keeps front new o f total lt is is_known e so_far =
       let r = reading f.name B f.start f.size in
-      let p = pushed_by front new r.asked r.outcome e in
+      let p = append_read_by front new r.asks_memory r.outcome e in
       subst (λ (l : List A). continued (nat_lt 0 (length l)) l (boxes known reading B f.end) ≡ total) p.2 (kept front o f p.0 total lt is is_known p.1 so_far)
 
-  fault_by : (front : List A) (k : Fault) (a : Bool) (o : Result A Fault) → (pushed front (record { asked = a; outcome = o })).outcome ≡ err_list k → o ≡ err_one k
+  fault_by : (front : List A) (k : Fault) (a : Bool) (o : Result A Fault) → (append_read front (record { asks_memory = a; outcome = o })).outcome ≡ err_list k → o ≡ err_one k
   fault_by front k a (Ok v) e = absurd cc
   fault_by front k a (Err l) e = cc e
 
-  asked_by : (front : List A) (a : Bool) (o : Result A Fault) → (pushed front (record { asked = a; outcome = o })).asked ≡ true → (a ≡ true) ⊎ ((v : A) × (o ≡ Ok v))
-  asked_by front a (Ok v) e = inr (v, refl)
-  asked_by front a (Err k) e = inl e
+  asks_by : (front : List A) (a : Bool) (o : Result A Fault) → (append_read front (record { asks_memory = a; outcome = o })).asks_memory ≡ true → (a ≡ true) ⊎ ((v : A) × (o ≡ Ok v))
+  asks_by front a (Ok v) e = inr (v, refl)
+  asks_by front a (Err k) e = inl e
 
   -- a box that could not be read or appended
-  pub pushed_faults : (front : List A) (o : ℕ) (f : Frame) (e : Error) (total : Reading (List A)) → o < length B → frame B o ≡ Ok f → known f.name ≡ true → Refuses e (pushed front (reading f.name B f.start f.size))
+  pub append_read_faults : (front : List A) (o : ℕ) (f : Frame) (e : Error) (total : Reading (List A)) → o < length B → frame B o ≡ Ok f → known f.name ≡ true → Refuses e (append_read front (reading f.name B f.start f.size))
       → continued (nat_lt 0 (length front)) front (boxes known reading B o) ≡ total → Refuses e total
-  pushed_faults front o f errors.IoError total lt is is_known h so_far = (let r = reading f.name B f.start f.size in item_faults _ front o f End total lt is is_known (fault_by front End r.asked r.outcome h) so_far)
-  pushed_faults front o f (errors.InvalidData _) total lt is is_known h so_far = (let r = reading f.name B f.start f.size in item_faults _ front o f Invalid total lt is is_known (fault_by front Invalid r.asked r.outcome h) so_far)
-  pushed_faults front o f (errors.BoxNotFound n) total lt is is_known h so_far = (let r = reading f.name B f.start f.size in (item_faults _ front o f NotFound total lt is is_known (fault_by front NotFound r.asked r.outcome h.0) so_far, h.1))
-  pushed_faults front o f errors.OutOfMemory total lt is is_known h so_far =
+  append_read_faults front o f errors.IoError total lt is is_known h so_far = (let r = reading f.name B f.start f.size in item_faults _ front o f End total lt is is_known (fault_by front End r.asks_memory r.outcome h) so_far)
+  append_read_faults front o f (errors.InvalidData _) total lt is is_known h so_far = (let r = reading f.name B f.start f.size in item_faults _ front o f Invalid total lt is is_known (fault_by front Invalid r.asks_memory r.outcome h) so_far)
+  append_read_faults front o f (errors.BoxNotFound n) total lt is is_known h so_far = (let r = reading f.name B f.start f.size in item_faults _ front o f (NotFound n) total lt is is_known (fault_by front (NotFound n) r.asks_memory r.outcome h) so_far)
+  append_read_faults front o f errors.OutOfMemory total lt is is_known h so_far =
       let r = reading f.name B f.start f.size in
-      elim (asked_by front r.asked r.outcome h) [
+      elim (asks_by front r.asks_memory r.outcome h) [
         | inl a ↦ item_asks _ front o f total lt is is_known a so_far
         | inr p ↦ refused front o f p.0 total lt is is_known p.1 so_far
       ]
-  pushed_faults front o f _ total lt is is_known h so_far = absurd h
+  append_read_faults front o f _ total lt is is_known h so_far = absurd h

@@ -9,16 +9,16 @@ use Rattle.std.proofs.lemmas.List.{append_assoc, drop_at, take_at, length-append
 use Rattle.std.proofs.lemmas.Bool.{lt-ltb, le-leb}
 use Rattle.std.proofs.lemmas.Nat.{le-div}
 use Rattle.std.proofs.Math.Nat.{mul-le-mul_right}
-use Rattle.mp4_frame.specs.Bytes.{number, joined, Fit}
-use Rattle.mp4_frame.specs.Laws.{AreBytes, Framed}
+use Rattle.mp4_frame.specs.Bytes.{number, bytes_of_fields, FieldsFit}
+use Rattle.mp4_frame.specs.Laws.{AreBytes, BeginsWithHeader}
 use Rattle.mp4_frame.specs.BoxType.{code_of}
 use Rattle.mp4_frame.specs.declared.box_type.BoxType.{BoxType}
-use Rattle.mp4_frame.specs.Reading.{Fault, End, Reading, fields, piece_from, test, memory, done, and_then, ◌>>=◌, Refuses}
+use Rattle.mp4_frame.specs.Reading.{Fault, End, Reading, expect_bytes, piece_from, check, memory, done, and_then, ◌>>=◌, Refuses}
 use Rattle.mp4_frame.specs.declared.error.Error.{Error}
 use Rattle.mp4_frame.specs.declared.error.Error.TheVariants as errors
-use Rattle.mp4_frame.specs.Tables.{Table, rows, rows_from, counted, columns_table, reads_table, size_table, WritableTable, bytes_table}
-use Rattle.mp4_frame.proofs.Columns.{found, numbers-joined, number-joined, fields-joined, length-joined, number-below}
-use Rattle.mp4_frame.proofs.Stands.{fields_stand, fields_ok, test_ok, fields_room, is_value, are_bytes-drop, guard}
+use Rattle.mp4_frame.specs.Tables.{Table, rows, rows_from, counted_rows, fields_table, reads_table, size_table, WritableTable, bytes_table}
+use Rattle.mp4_frame.proofs.Fields.{found, numbers-fields, number-fields, expect_bytes-fields, length-fields, number-below}
+use Rattle.mp4_frame.proofs.Checks.{expect_bytes_present, expect_bytes_ok, check_ok, expect_bytes_room, is_value, are_bytes-drop, guard}
 
 first_rows : (B : List ℕ) (o e n : ℕ) → first_chunks e n (take (n * e) (drop o B)) ≡ rows B o e n
 first_rows B o e zero = refl
@@ -32,7 +32,7 @@ first_rows B o e (suc n) =
 
 -- a reading that goes on and gives a value had a value first
 pub value_first : {A C : Type 0} (r : Reading A) (g : A → Reading C) (y : C) → (r >>= g).outcome ≡ Ok y → (x : A) × (r.outcome ≡ Ok x) × ((g x).outcome ≡ Ok y)
-value_first {A = A} {C = C} r g y h = by r.asked r.outcome refl h
+value_first {A = A} {C = C} r g y h = by r.asks_memory r.outcome refl h
   where
     by : (a : Bool) (o : Result A Fault) → r.outcome ≡ o → (and_then a o g).outcome ≡ Ok y → (x : A) × (r.outcome ≡ Ok x) × ((g x).outcome ≡ Ok y)
     by a (Ok x) is e = (x, is, e)
@@ -49,12 +49,12 @@ chunks_are_rows B taken o e n pos is len =
 pub rows_value : (B taken : List ℕ) (o e n w : ℕ) → 0 < e → w ≡ n * e → length taken ≡ w → (piece_from B o w).outcome ≡ Ok taken → (rows_from B o e n).outcome ≡ Ok (first_chunks e (length taken / e) taken)
 unfolding rows_from
 rows_value B taken o e n w pos is long found =
-    let stood = value_first (fields B o w) (λ _. done (take w (drop o B))) taken found in
+    let stood = value_first (expect_bytes B o w) (λ _. done (take w (drop o B))) taken found in
     let piece : take w (drop o B) ≡ taken = is_value _ taken stood.2 in
     let here : taken ≡ take (n * e) (drop o B) = sym piece ∙ ap (λ (k : ℕ). take k (drop o B)) is in
     let made = chunks_are_rows B taken o e n pos here (long ∙ is) in
-    let stands : (fields B o (n * e)).outcome ≡ Ok tt = ap (λ (k : ℕ). (fields B o k).outcome) (sym is) ∙ stood.1 in
-    ap (λ (a : Result (Unit {0}) Fault). (and_then (fields B o (n * e)).asked a (λ _. done (rows B o e n))).outcome) stands ∙ ap (λ (x : List (List ℕ)). Ok x) (sym made)
+    let present : (expect_bytes B o (n * e)).outcome ≡ Ok tt = ap (λ (k : ℕ). (expect_bytes B o k).outcome) (sym is) ∙ stood.1 in
+    ap (λ (a : Result (Unit {0}) Fault). (and_then (expect_bytes B o (n * e)).asks_memory a (λ _. done (rows B o e n))).outcome) present ∙ ap (λ (x : List (List ℕ)). Ok x) (sym made)
 
 fault_same : {A C : Type 0} (b : Bool) (y : A) (z : C) (x : Error) → Refuses x (guard b >>= λ _. done y) → Refuses x (guard b >>= λ _. done z)
 fault_same true y z errors.IoError h = refl
@@ -68,7 +68,7 @@ fault_same false y z (errors.BoxNotFound _) h = absurd cc
 fault_same false y z errors.OutOfMemory h = h
 fault_same false y z _ h = absurd h
 
--- rows whose bytes do not stand there
+-- rows whose bytes do not are present
 pub rows_fault : (B : List ℕ) (o e n w : ℕ) (x : Error) → w ≡ n * e → Refuses x (piece_from B o w) → Refuses x (rows_from B o e n)
 unfolding rows_from
 rows_fault B o e n w x is h =
@@ -105,26 +105,26 @@ module _ {X : Type 0} (f : X → List ℕ) (e : ℕ) (Fits : X → Type 0) (each
   rows_from_back p xs y o h at =
       let B = p ++ (flat_map f xs ++ y) in
       let room : o + length xs * e ≤ length B = omega (arith, length-append p (flat_map f xs ++ y), length-append (flat_map f xs) y, length_flat xs h, at) in
-      rw (fields_stand B o (length xs * e) room, rows_back p xs y o h at) refl
+      rw (expect_bytes_present B o (length xs * e) room, rows_back p xs y o h at) refl
 
   -- what was written as a counted table is read back
-  pub counted_back : (code version flags : ℕ) (xs : List X) (y : List ℕ) → 0 < e → AllByRecursion Fits xs → Fit (columns_table (size_table e xs) code version flags (length xs))
-      → (counted ((joined (columns_table (size_table e xs) code version flags (length xs)) ++ flat_map f xs) ++ y) (size_table e xs) e).outcome ≡ Ok (record { version = version; flags = flags; rows = map f xs })
-  unfolding counted
-  counted_back code version flags xs y pos h fits =
+  pub counted_rows_back : (code version flags : ℕ) (xs : List X) (y : List ℕ) → 0 < e → AllByRecursion Fits xs → FieldsFit (fields_table (size_table e xs) code version flags (length xs))
+      → (counted_rows ((bytes_of_fields (fields_table (size_table e xs) code version flags (length xs)) ++ flat_map f xs) ++ y) (size_table e xs) e).outcome ≡ Ok (record { version = version; flags = flags; rows = map f xs })
+  unfolding counted_rows
+  counted_rows_back code version flags xs y pos h fits =
       let size = size_table e xs in
-      let cs = columns_table size code version flags (length xs) in
+      let cs = fields_table size code version flags (length xs) in
       let z = flat_map f xs ++ y in
-      let B = joined cs ++ z in
-      let numbers : number B ≡ found cs z = numbers-joined cs z fits in
-      let many : number B 12 4 ≡ length xs = ap (λ (n : ℕ → ℕ → ℕ). n 12 4) numbers in
-      let v : number B 8 1 ≡ version = ap (λ (n : ℕ → ℕ → ℕ). n 8 1) numbers in
-      let g : number B 9 3 ≡ flags = ap (λ (n : ℕ → ℕ → ℕ). n 9 3) numbers in
-      let head = fields-joined cs z 8 8 (lit≤ tt) in
+      let B = bytes_of_fields cs ++ z in
+      let numbers : number B ≡ found cs z = numbers-fields cs z fits in
+      let many : number B 12 4 ≡ length xs = ap (λ (at : ℕ → ℕ → ℕ). at 12 4) numbers in
+      let v : number B 8 1 ≡ version = ap (λ (at : ℕ → ℕ → ℕ). at 8 1) numbers in
+      let g : number B 9 3 ≡ flags = ap (λ (at : ℕ → ℕ → ℕ). at 9 3) numbers in
+      let head = expect_bytes-fields cs z 8 8 (lit≤ tt) in
       let fit = le-leb (length xs) ((size - 16) / e) (le-div (length xs) (size - 16) e pos (omega arith)) in
-      let body = rows_from_back (joined cs) xs y 16 h (length-joined cs) in
-      let whole : (counted B size e).outcome ≡ Ok (record { version = version; flags = flags; rows = map f xs }) = rw (head, many, fit, body, v, g) refl in
-      ap (λ (l : List ℕ). (counted l size e).outcome) (append_assoc (joined cs) (flat_map f xs) y) ∙ whole
+      let body = rows_from_back (bytes_of_fields cs) xs y 16 h (length-fields cs) in
+      let whole : (counted_rows B size e).outcome ≡ Ok (record { version = version; flags = flags; rows = map f xs }) = rw (head, many, fit, body, v, g) refl in
+      ap (λ (l : List ℕ). (counted_rows l size e).outcome) (append_assoc (bytes_of_fields cs) (flat_map f xs) y) ∙ whole
 
 -- entries are what their bytes are read as
 pub map_back : {X : Type 0} (f : X → List ℕ) (of_row : List ℕ → X) (Fits : X → Type 0) → ((x : X) → Fits x → of_row (f x) ≡ x) → (xs : List X) → AllByRecursion Fits xs → map of_row (map f xs) ≡ xs
@@ -159,19 +159,19 @@ length-rows B o e (suc n) = ap suc (length-rows B (o + e) e n)
 pub rows_read : (B : List ℕ) (o e n : ℕ) (found : List (List ℕ)) → 0 < e → AreBytes B → (rows_from B o e n).outcome ≡ Ok found → AllByRecursion (IsRow e) found × (length found ≡ n)
 unfolding rows_from
 rows_read B o e n found pos are h =
-    let p = value_first (fields B o (n * e)) (λ _. done (rows B o e n)) found h in
+    let p = value_first (expect_bytes B o (n * e)) (λ _. done (rows B o e n)) found h in
     let is : rows B o e n ≡ found = is_value _ found p.2 in
-    rw (← is) (rows_are B o e n are (λ more. (let one : 1 ≤ n = omega arith in let some : 1 * e ≤ n * e = mul-le-mul_right e one in fields_room B o (n * e) (omega (arith, some)) p.1)), length-rows B o e n)
+    rw (← is) (rows_are B o e n are (λ more. (let one : 1 ≤ n = omega arith in let some : 1 * e ≤ n * e = mul-le-mul_right e one in expect_bytes_room B o (n * e) (omega (arith, some)) p.1)), length-rows B o e n)
 
--- what a counted table is read as has the ranges of its columns
-pub counted_read : (B : List ℕ) (size e : ℕ) (t : Table) → 0 < e → AreBytes B → (counted B size e).outcome ≡ Ok t
+-- what a counted table is read as has the ranges of its fields
+pub counted_rows_read : (B : List ℕ) (size e : ℕ) (t : Table) → 0 < e → AreBytes B → (counted_rows B size e).outcome ≡ Ok t
     → (t.version < 256 ^ 1) × (t.flags < 256 ^ 3) × (length t.rows < 256 ^ 4) × AllByRecursion (IsRow e) t.rows
-unfolding counted
-counted_read B size e t pos are h =
+unfolding counted_rows
+counted_rows_read B size e t pos are h =
     let n = number B 12 4 in
     let made : List (List ℕ) → Reading Table = λ r. done (record { version = number B 8 1; flags = number B 9 3; rows = r }) in
-    let a = fields_ok B 8 8 (λ _. test _ >>= λ _. rows_from B 16 e n >>= made) t h in
-    let b = test_ok _ (λ _. rows_from B 16 e n >>= made) t a in
+    let a = expect_bytes_ok B 8 8 (λ _. check _ >>= λ _. rows_from B 16 e n >>= made) t h in
+    let b = check_ok _ (λ _. rows_from B 16 e n >>= made) t a in
     let c = value_first (rows_from B 16 e n) made t b.1 in
     let found = rows_read B 16 e n c.0 pos are c.1 in
     let count : length c.0 < 256 ^ 4 = omega (arith, number-below B 12 4 are, found.1) in
@@ -198,22 +198,22 @@ few_entries e n pos small =
 -- back of its row, and what is read of bytes fits.
 module _ {X V : Type 0} (make : ℕ → ℕ → List X → V) (row_of : X → List ℕ) (entry_of : List ℕ → X) (Fits : X → Type 0) (e code : ℕ) (pos : 0 < e) (coded : code < 256 ^ 4)
     (long : (x : X) → Fits x → length (row_of x) ≡ e) (back : (x : X) → Fits x → entry_of (row_of x) ≡ x) (fits : (row : List ℕ) → IsRow e row → Fits (entry_of row)) where
-  pub framed_table : (name : BoxType) → code ≡ code_of name → (version flags : ℕ) (xs : List X) → WritableTable Fits e code version flags xs → Framed (size_table e xs) name (bytes_table row_of e code version flags xs)
-  framed_table name named version flags xs w =
-      let cs = columns_table (size_table e xs) code version flags (length xs) in
+  pub header_of_table : (name : BoxType) → code ≡ code_of name → (version flags : ℕ) (xs : List X) → WritableTable Fits e code version flags xs → BeginsWithHeader (size_table e xs) name (bytes_table row_of e code version flags xs)
+  header_of_table name named version flags xs w =
+      let cs = fields_table (size_table e xs) code version flags (length xs) in
       let z = flat_map row_of xs in
-      let lj : length (joined cs) ≡ 16 = length-joined cs in
+      let lj : length (bytes_of_fields cs) ≡ 16 = length-fields cs in
       record {
-        long = omega (arith, length-append (joined cs) z, lj, length_flat row_of e Fits long xs (recursion_from_All Fits xs w.each));
+        long = omega (arith, length-append (bytes_of_fields cs) z, lj, length_flat row_of e Fits long xs (recursion_from_All Fits xs w.each));
         least = omega arith;
         most = w.fit.0;
-        size_first = number-joined cs z 0 4 w.fit;
-        code_next = number-joined cs z 4 4 w.fit ∙ named;
+        size_first = number-fields cs z 0 4 w.fit;
+        code_next = number-fields cs z 4 4 w.fit ∙ named;
       }
 
   pub table_back : (version flags : ℕ) (xs : List X) (rest : List ℕ) → WritableTable Fits e code version flags xs → (reads_table make entry_of e (bytes_table row_of e code version flags xs ++ rest) (size_table e xs)).outcome ≡ Ok (make version flags xs)
   table_back version flags xs rest w =
-      let t = counted_back row_of e Fits long code version flags xs rest pos (recursion_from_All Fits xs w.each) w.fit in
+      let t = counted_rows_back row_of e Fits long code version flags xs rest pos (recursion_from_All Fits xs w.each) w.fit in
       let es = map_back row_of entry_of Fits back xs (recursion_from_All Fits xs w.each) in
       rw (t, es) refl
 
@@ -221,8 +221,8 @@ module _ {X V : Type 0} (make : ℕ → ℕ → List X → V) (row_of : X → Li
   pub table_read : (B : List ℕ) (size : ℕ) (v : V) → AreBytes B → (reads_table make entry_of e B size).outcome ≡ Ok v
       → (version flags : ℕ) × (xs : List X) × (make version flags xs ≡ v) × (size_table e xs < 2 ^ 32 → WritableTable Fits e code version flags xs)
   table_read B size v are h =
-      let p = value_first (counted B size e) (λ (t : Table). memory >>= λ _. done (make t.version t.flags (map entry_of t.rows))) v h in
-      let t = counted_read B size e p.0 pos are p.1 in
+      let p = value_first (counted_rows B size e) (λ (t : Table). memory >>= λ _. done (make t.version t.flags (map entry_of t.rows))) v h in
+      let t = counted_rows_read B size e p.0 pos are p.1 in
       let xs = map entry_of p.0.rows in
       let count : length xs < 256 ^ 4 = omega (arith, t.2, length_map entry_of p.0.rows) in
       (p.0.version, p.0.flags, xs, is_value _ v p.2, λ small. record { fit = (small, (coded, (t.0, (t.1, (count, tt))))); each = All-from_recursion Fits xs (map_all e entry_of Fits fits p.0.rows t.3) })

@@ -3,67 +3,68 @@ use Rattle.std.specs.Prelude.{◌≡◌, ℕ, Bool, true, false, ◌==◌, if◌
 use Rattle.std.specs.List.{list_any}
 use Rattle.std.proofs.Common.{refl, sym, ap, ◌∙◌}
 use Rattle.std.proofs.lemmas.Bool.{eqb-true, or_parts}
+use Rattle.mp4_frame.specs.declared.codes.TheConstants as codes
 use Rattle.mp4_frame.specs.declared.box_type.BoxType.{BoxType}
 use Rattle.mp4_frame.specs.declared.box_type.BoxType.TheVariants as names
 
 -- the table of the named codes
 abbrev pub named : List (ℕ × BoxType)
 named =
-    (0x66747970, names.FtypBox)
-    ∷ (0x6d766864, names.MvhdBox)
-    ∷ (0x6d666864, names.MfhdBox)
-    ∷ (0x66726565, names.FreeBox)
-    ∷ (0x6d646174, names.MdatBox)
-    ∷ (0x6d6f6f76, names.MoovBox)
-    ∷ (0x6d766578, names.MvexBox)
-    ∷ (0x6d656864, names.MehdBox)
-    ∷ (0x74726578, names.TrexBox)
-    ∷ (0x656d7367, names.EmsgBox)
-    ∷ (0x6d6f6f66, names.MoofBox)
-    ∷ (0x746b6864, names.TkhdBox)
-    ∷ (0x74666864, names.TfhdBox)
-    ∷ (0x74666474, names.TfdtBox)
-    ∷ (0x65647473, names.EdtsBox)
-    ∷ (0x6d646961, names.MdiaBox)
-    ∷ (0x656c7374, names.ElstBox)
-    ∷ (0x6d646864, names.MdhdBox)
-    ∷ (0x68646c72, names.HdlrBox)
-    ∷ (0x6d696e66, names.MinfBox)
-    ∷ (0x766d6864, names.VmhdBox)
-    ∷ (0x7374626c, names.StblBox)
-    ∷ (0x73747364, names.StsdBox)
-    ∷ (0x73747473, names.SttsBox)
-    ∷ (0x63747473, names.CttsBox)
-    ∷ (0x73747373, names.StssBox)
-    ∷ (0x73747363, names.StscBox)
-    ∷ (0x7374737a, names.StszBox)
-    ∷ (0x7374636f, names.StcoBox)
-    ∷ (0x636f3634, names.Co64Box)
-    ∷ (0x7472616b, names.TrakBox)
-    ∷ (0x74726166, names.TrafBox)
-    ∷ (0x7472756e, names.TrunBox)
-    ∷ (0x75647461, names.UdtaBox)
-    ∷ (0x6d657461, names.MetaBox)
-    ∷ (0x64696e66, names.DinfBox)
-    ∷ (0x64726566, names.DrefBox)
-    ∷ (0x736d6864, names.SmhdBox)
-    ∷ (0x61766331, names.Avc1Box)
-    ∷ (0x61766343, names.AvcCBox)
-    ∷ (0x68657631, names.Hev1Box)
-    ∷ (0x68766343, names.HvcCBox)
-    ∷ (0x6d703461, names.Mp4aBox)
-    ∷ (0x65736473, names.EsdsBox)
-    ∷ (0x74783367, names.Tx3gBox)
-    ∷ (0x76706343, names.VpccBox)
-    ∷ (0x76703039, names.Vp09Box)
-    ∷ (0x64617461, names.DataBox)
-    ∷ (0x696c7374, names.IlstBox)
-    ∷ (0x636f7672, names.CovrBox)
-    ∷ (0x64657363, names.DescBox)
-    ∷ (0x77696465, names.WideBox)
-    ∷ (0x75726c20, names.UrlBox)
-    ∷ (0xa96e616d, names.NameBox)
-    ∷ (0xa9646179, names.DayBox) ∷ []
+    (codes.FTYP, names.FtypBox)
+    ∷ (codes.MVHD, names.MvhdBox)
+    ∷ (codes.MFHD, names.MfhdBox)
+    ∷ (codes.FREE, names.FreeBox)
+    ∷ (codes.MDAT, names.MdatBox)
+    ∷ (codes.MOOV, names.MoovBox)
+    ∷ (codes.MVEX, names.MvexBox)
+    ∷ (codes.MEHD, names.MehdBox)
+    ∷ (codes.TREX, names.TrexBox)
+    ∷ (codes.EMSG, names.EmsgBox)
+    ∷ (codes.MOOF, names.MoofBox)
+    ∷ (codes.TKHD, names.TkhdBox)
+    ∷ (codes.TFHD, names.TfhdBox)
+    ∷ (codes.TFDT, names.TfdtBox)
+    ∷ (codes.EDTS, names.EdtsBox)
+    ∷ (codes.MDIA, names.MdiaBox)
+    ∷ (codes.ELST, names.ElstBox)
+    ∷ (codes.MDHD, names.MdhdBox)
+    ∷ (codes.HDLR, names.HdlrBox)
+    ∷ (codes.MINF, names.MinfBox)
+    ∷ (codes.VMHD, names.VmhdBox)
+    ∷ (codes.STBL, names.StblBox)
+    ∷ (codes.STSD, names.StsdBox)
+    ∷ (codes.STTS, names.SttsBox)
+    ∷ (codes.CTTS, names.CttsBox)
+    ∷ (codes.STSS, names.StssBox)
+    ∷ (codes.STSC, names.StscBox)
+    ∷ (codes.STSZ, names.StszBox)
+    ∷ (codes.STCO, names.StcoBox)
+    ∷ (codes.CO64, names.Co64Box)
+    ∷ (codes.TRAK, names.TrakBox)
+    ∷ (codes.TRAF, names.TrafBox)
+    ∷ (codes.TRUN, names.TrunBox)
+    ∷ (codes.UDTA, names.UdtaBox)
+    ∷ (codes.META, names.MetaBox)
+    ∷ (codes.DINF, names.DinfBox)
+    ∷ (codes.DREF, names.DrefBox)
+    ∷ (codes.SMHD, names.SmhdBox)
+    ∷ (codes.AVC1, names.Avc1Box)
+    ∷ (codes.AVCC, names.AvcCBox)
+    ∷ (codes.HEV1, names.Hev1Box)
+    ∷ (codes.HVCC, names.HvcCBox)
+    ∷ (codes.MP4A, names.Mp4aBox)
+    ∷ (codes.ESDS, names.EsdsBox)
+    ∷ (codes.TX3G, names.Tx3gBox)
+    ∷ (codes.VPCC, names.VpccBox)
+    ∷ (codes.VP09, names.Vp09Box)
+    ∷ (codes.DATA, names.DataBox)
+    ∷ (codes.ILST, names.IlstBox)
+    ∷ (codes.COVR, names.CovrBox)
+    ∷ (codes.DESC, names.DescBox)
+    ∷ (codes.WIDE, names.WideBox)
+    ∷ (codes.URL, names.UrlBox)
+    ∷ (codes.NAME, names.NameBox)
+    ∷ (codes.DAY, names.DayBox) ∷ []
 
 abbrev pub look_up : List (ℕ × BoxType) → ℕ → BoxType
 look_up [] n = names.UnknownBox n
@@ -75,64 +76,64 @@ name_of n = look_up named n
 
 -- the code of a name
 abbrev pub code_of : BoxType → ℕ
-code_of names.FtypBox = 0x66747970
-code_of names.MvhdBox = 0x6d766864
-code_of names.MfhdBox = 0x6d666864
-code_of names.FreeBox = 0x66726565
-code_of names.MdatBox = 0x6d646174
-code_of names.MoovBox = 0x6d6f6f76
-code_of names.MvexBox = 0x6d766578
-code_of names.MehdBox = 0x6d656864
-code_of names.TrexBox = 0x74726578
-code_of names.EmsgBox = 0x656d7367
-code_of names.MoofBox = 0x6d6f6f66
-code_of names.TkhdBox = 0x746b6864
-code_of names.TfhdBox = 0x74666864
-code_of names.TfdtBox = 0x74666474
-code_of names.EdtsBox = 0x65647473
-code_of names.MdiaBox = 0x6d646961
-code_of names.ElstBox = 0x656c7374
-code_of names.MdhdBox = 0x6d646864
-code_of names.HdlrBox = 0x68646c72
-code_of names.MinfBox = 0x6d696e66
-code_of names.VmhdBox = 0x766d6864
-code_of names.StblBox = 0x7374626c
-code_of names.StsdBox = 0x73747364
-code_of names.SttsBox = 0x73747473
-code_of names.CttsBox = 0x63747473
-code_of names.StssBox = 0x73747373
-code_of names.StscBox = 0x73747363
-code_of names.StszBox = 0x7374737a
-code_of names.StcoBox = 0x7374636f
-code_of names.Co64Box = 0x636f3634
-code_of names.TrakBox = 0x7472616b
-code_of names.TrafBox = 0x74726166
-code_of names.TrunBox = 0x7472756e
-code_of names.UdtaBox = 0x75647461
-code_of names.MetaBox = 0x6d657461
-code_of names.DinfBox = 0x64696e66
-code_of names.DrefBox = 0x64726566
-code_of names.SmhdBox = 0x736d6864
-code_of names.Avc1Box = 0x61766331
-code_of names.AvcCBox = 0x61766343
-code_of names.Hev1Box = 0x68657631
-code_of names.HvcCBox = 0x68766343
-code_of names.Mp4aBox = 0x6d703461
-code_of names.EsdsBox = 0x65736473
-code_of names.Tx3gBox = 0x74783367
-code_of names.VpccBox = 0x76706343
-code_of names.Vp09Box = 0x76703039
-code_of names.DataBox = 0x64617461
-code_of names.IlstBox = 0x696c7374
-code_of names.CovrBox = 0x636f7672
-code_of names.DescBox = 0x64657363
-code_of names.WideBox = 0x77696465
-code_of names.UrlBox = 0x75726c20
-code_of names.NameBox = 0xa96e616d
-code_of names.DayBox = 0xa9646179
+code_of names.FtypBox = codes.FTYP
+code_of names.MvhdBox = codes.MVHD
+code_of names.MfhdBox = codes.MFHD
+code_of names.FreeBox = codes.FREE
+code_of names.MdatBox = codes.MDAT
+code_of names.MoovBox = codes.MOOV
+code_of names.MvexBox = codes.MVEX
+code_of names.MehdBox = codes.MEHD
+code_of names.TrexBox = codes.TREX
+code_of names.EmsgBox = codes.EMSG
+code_of names.MoofBox = codes.MOOF
+code_of names.TkhdBox = codes.TKHD
+code_of names.TfhdBox = codes.TFHD
+code_of names.TfdtBox = codes.TFDT
+code_of names.EdtsBox = codes.EDTS
+code_of names.MdiaBox = codes.MDIA
+code_of names.ElstBox = codes.ELST
+code_of names.MdhdBox = codes.MDHD
+code_of names.HdlrBox = codes.HDLR
+code_of names.MinfBox = codes.MINF
+code_of names.VmhdBox = codes.VMHD
+code_of names.StblBox = codes.STBL
+code_of names.StsdBox = codes.STSD
+code_of names.SttsBox = codes.STTS
+code_of names.CttsBox = codes.CTTS
+code_of names.StssBox = codes.STSS
+code_of names.StscBox = codes.STSC
+code_of names.StszBox = codes.STSZ
+code_of names.StcoBox = codes.STCO
+code_of names.Co64Box = codes.CO64
+code_of names.TrakBox = codes.TRAK
+code_of names.TrafBox = codes.TRAF
+code_of names.TrunBox = codes.TRUN
+code_of names.UdtaBox = codes.UDTA
+code_of names.MetaBox = codes.META
+code_of names.DinfBox = codes.DINF
+code_of names.DrefBox = codes.DREF
+code_of names.SmhdBox = codes.SMHD
+code_of names.Avc1Box = codes.AVC1
+code_of names.AvcCBox = codes.AVCC
+code_of names.Hev1Box = codes.HEV1
+code_of names.HvcCBox = codes.HVCC
+code_of names.Mp4aBox = codes.MP4A
+code_of names.EsdsBox = codes.ESDS
+code_of names.Tx3gBox = codes.TX3G
+code_of names.VpccBox = codes.VPCC
+code_of names.Vp09Box = codes.VP09
+code_of names.DataBox = codes.DATA
+code_of names.IlstBox = codes.ILST
+code_of names.CovrBox = codes.COVR
+code_of names.DescBox = codes.DESC
+code_of names.WideBox = codes.WIDE
+code_of names.UrlBox = codes.URL
+code_of names.NameBox = codes.NAME
+code_of names.DayBox = codes.DAY
 code_of (names.UnknownBox n) = n
 
--- a name that hides a named code behind a number
+-- a name that hides a named code after a number
 abbrev pub is_disguised : BoxType → Bool
 is_disguised (names.UnknownBox n) = list_any (λ c. n == c.0) named
 is_disguised _ = false

@@ -1,6 +1,6 @@
 -- Four-character codes.
 use Rattle.std.specs.Prelude.{◌≡◌, ℕ, List, length, Result, Ok, Err}
-use Rattle.mp4_frame.specs.Bytes.{number, column}
+use Rattle.mp4_frame.specs.Bytes.{number, be_bytes}
 use Rattle.mp4_frame.specs.Laws.{AreBytes}
 use Rattle.mp4_frame.specs.declared.error.Error.{Error}
 use Rattle.mp4_frame.specs.declared.error.Error.TheVariants as errors
@@ -14,7 +14,7 @@ IsFourCCOf text (Err _) = ⊥
 
 -- the code of a number, and the number of a code
 abbrev pub four_cc_of : ℕ → FourCC
-four_cc_of n = record { value = column 4 n }
+four_cc_of n = record { value = be_bytes 4 n }
 
 abbrev pub number_of : FourCC → ℕ
 number_of c = number c.value 0 4

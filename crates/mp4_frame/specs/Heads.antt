@@ -1,9 +1,9 @@
 -- The head of a box (ISO/IEC 14496-12, 4.2), the header that it is read as, and the frame that it gives
 -- at the top level of a buffer.
 use Rattle.std.specs.Prelude.{ℕ, ◌+◌, ◌-◌, ◌^◌, ◌==◌, ◌||◌, nat_lt, nat_le, List, [], ◌∷◌, length, Result, Ok, Err, if◌then◌else◌}
-use Rattle.mp4_frame.specs.Bytes.{number, joined}
+use Rattle.mp4_frame.specs.Bytes.{number, bytes_of_fields}
 use Rattle.mp4_frame.specs.BoxType.{name_of, code_of}
-use Rattle.mp4_frame.specs.Reading.{Fault, End, Invalid, Reading, ◌>>=◌, fields, test, done}
+use Rattle.mp4_frame.specs.Reading.{Fault, End, Invalid, Reading, ◌>>=◌, expect_bytes, check, done}
 use Rattle.mp4_frame.specs.declared.head.Head.{Head}
 use Rattle.mp4_frame.specs.declared.box_header.BoxHeader.{BoxHeader}
 use Rattle.mp4_frame.specs.declared.frame.Frame.{Frame}
@@ -15,17 +15,17 @@ use Rattle.mp4_frame.specs.declared.frame.Frame.{Frame}
 abbrev pub compact_head : List ℕ → ℕ → Reading Head
 compact_head bytes o = done (record { code = number bytes (o + 4) 4; size = number bytes o 4; start = o })
 
--- the size in the eight bytes behind the code: 0, or 16 and more
+-- the size in the eight bytes after the code: 0, or 16 and more
 abbrev pub large_head : List ℕ → ℕ → Reading Head
 large_head bytes o = do
-  _ ← fields bytes (o + 8) 8
-  _ ← test ((number bytes (o + 8) 8 == 0) || nat_le 16 (number bytes (o + 8) 8))
+  _ ← expect_bytes bytes (o + 8) 8
+  _ ← check ((number bytes (o + 8) 8 == 0) || nat_le 16 (number bytes (o + 8) 8))
   done (record { code = number bytes (o + 4) 4; size = number bytes (o + 8) 8 - 8; start = o + 8 })
 
 -- a size of 1 in the four bytes says that the large form follows
 unfoldable pub head : List ℕ → ℕ → Reading Head
 head bytes o = do
-  _ ← fields bytes o 8
+  _ ← expect_bytes bytes o 8
   if number bytes o 4 == 1 then large_head bytes o else compact_head bytes o
 
 abbrev pub header_of : Head → BoxHeader
@@ -40,30 +40,30 @@ abbrev pub header_length : List ℕ → ℕ → ℕ
 header_length bytes o = if number bytes o 4 == 1 then 16 else 8
 
 -- a header as it is written: a size of four bytes, or 1 and a size of eight bytes that counts them too
-abbrev pub columns_header : BoxHeader → List (ℕ × ℕ)
-columns_header h =
+abbrev pub fields_header : BoxHeader → List (ℕ × ℕ)
+fields_header h =
     if nat_lt h.size (2 ^ 32) then (4, h.size) ∷ (4, code_of h.name) ∷ [] else (4, 1) ∷ (4, code_of h.name) ∷ (8, h.size + 8) ∷ []
 
 abbrev pub bytes_header : BoxHeader → List ℕ
-bytes_header h = joined (columns_header h)
+bytes_header h = bytes_of_fields (fields_header h)
 
--- version and flags behind the header of a full box
+-- version and flags after the header of a full box
 abbrev pub header_ext : List ℕ → ℕ → Reading (ℕ × ℕ)
 header_ext bytes o = do
-  _ ← fields bytes o 4
+  _ ← expect_bytes bytes o 4
   done (number bytes o 1, number bytes (o + 1) 3)
 
--- the frame that a header gives, in a buffer of len bytes. A size of 0 is up to the buffer's end
-unfoldable pub framed : ℕ → ℕ → BoxHeader → Result Frame Fault
-framed len start h =
-    if h.size == 0 then Ok (record { name = h.name; start = start; size = len - start; end = len }) else
+-- the frame that a head gives, in a buffer of len bytes. A size of 0 is up to the buffer's end
+unfoldable pub frame_of_head : ℕ → Head → Result Frame Fault
+frame_of_head len h =
+    if h.size == 0 then Ok (record { name = name_of h.code; start = h.start; size = len - h.start; end = len }) else
     if nat_lt h.size 8 then Err Invalid else
-    if nat_lt (2 ^ 64 - 1) (start + h.size) then Err Invalid else
-    if nat_lt len (start + h.size) then Err End else
-    Ok (record { name = h.name; start = start; size = h.size; end = start + h.size })
+    if nat_lt (2 ^ 64 - 1) (h.start + h.size) then Err Invalid else
+    if nat_lt len (h.start + h.size) then Err End else
+    Ok (record { name = name_of h.code; start = h.start; size = h.size; end = h.start + h.size })
 
 abbrev pub frame_of : ℕ → Result Head Fault → Result Frame Fault
-frame_of len (Ok h) = framed len h.start (header_of h)
+frame_of len (Ok h) = frame_of_head len h
 frame_of len (Err k) = Err k
 
 -- the frame at o

@@ -6,7 +6,7 @@ use Rattle.mp4_frame.specs.Reading.{Reading}
 use Rattle.mp4_frame.specs.declared.box_type.BoxType.{BoxType}
 
 -- the bytes of a box begin with its size and its code
-pub record Framed (size : ℕ) (name : BoxType) (bytes : List ℕ) : Type 0 where
+pub record BeginsWithHeader (size : ℕ) (name : BoxType) (bytes : List ℕ) : Type 0 where
   pub long : length bytes ≡ size
   pub least : 8 ≤ size
   pub most : size < 2 ^ 32
@@ -32,10 +32,10 @@ pub record OwnName (known : BoxType → Bool) (name : BoxType) : Type 0 where
 abbrev pub AreBytes : List ℕ → Type 0
 AreBytes bytes = (i : ℕ) → slice_index bytes i < 256
 
--- a row reads what was written as this value, whatever stands behind it, in a box that ends below 2 ^ 64
-abbrev pub RowReadsBack : {A : Type 0} → (List ℕ → ℕ → ℕ → Reading A) → List ℕ → ℕ → A → Type 0
-RowReadsBack reads bytes size v = (rest : List ℕ) (start : ℕ) → start + size < 2 ^ 64 → (reads (bytes ++ rest) start size).outcome ≡ Ok v
+-- a row reads what was written as this value, whatever stands after it, in a box that ends below 2 ^ 64
+abbrev pub ContentReadsBack : {A : Type 0} → (List ℕ → ℕ → ℕ → Reading A) → List ℕ → ℕ → A → Type 0
+ContentReadsBack reads bytes size v = (rest : List ℕ) (start : ℕ) → start + size < 2 ^ 64 → (reads (bytes ++ rest) start size).outcome ≡ Ok v
 
 -- what a row reads of bytes is its own normal form, and writable unless it is too long
-abbrev pub RowIsSound : {A : Type 0} → (List ℕ → ℕ → ℕ → Reading A) → (A → Type 0) → (A → ℕ) → (A → A) → Type 0
-RowIsSound {A} reads Writable size normal = (bytes : List ℕ) (start long : ℕ) (v : A) → AreBytes bytes → (reads bytes start long).outcome ≡ Ok v → (normal v ≡ v) × (size v < 2 ^ 32 → Writable v)
+abbrev pub ContentIsSound : {A : Type 0} → (List ℕ → ℕ → ℕ → Reading A) → (A → Type 0) → (A → ℕ) → (A → A) → Type 0
+ContentIsSound {A} reads Writable size normal = (bytes : List ℕ) (start long : ℕ) (v : A) → AreBytes bytes → (reads bytes start long).outcome ≡ Ok v → (normal v ≡ v) × (size v < 2 ^ 32 → Writable v)

@@ -6,6 +6,8 @@ pub mod BoxType
 pub mod FourCC
 pub mod Text
 pub mod TextLaws
+pub mod Format
+pub mod Members
 pub mod Heads
 pub mod Children
 pub mod OptionalChild

@@ -1,77 +1,77 @@
--- Reading a buffer by places: the first fault decides, and it is known whether memory was asked for before it.
+-- Reading a buffer: the first fault decides, and it is known whether memory was asked for before it.
 use Rattle.std.specs.Prelude.{◌≡◌, ℕ, ◌+◌, Bool, true, false, ◌||◌, ◌&&◌, ◌^◌, nat_lt, List, length, take, drop, Result, Ok, Err, if◌then◌else◌}
 use Rattle.mp4_frame.specs.declared.error.Error.{Error}
 use Rattle.mp4_frame.specs.declared.error.Error.TheVariants as errors
-use Rattle.mp4_frame.specs.declared.box_type.BoxType.TheVariants.{DrefBox}
+use Rattle.mp4_frame.specs.declared.box_type.BoxType.{BoxType}
 
--- what is wrong: a byte is missing, a test failed, or a child is not there
+-- what is wrong: a byte is missing, a check failed, or the child of this name is missing
 pub data Fault : Type 0 where
   End : Fault
   Invalid : Fault
-  NotFound : Fault
+  NotFound : BoxType → Fault
 
 -- what a reading comes to, and whether memory was asked for before the first fault
 pub record Reading (A : Type 0) : Type 0 where
-  pub asked : Bool
+  pub asks_memory : Bool
   pub outcome : Result A Fault
 
 abbrev pub done : {A : Type 0} → A → Reading A
-done v = record { asked = false; outcome = Ok v }
+done v = record { asks_memory = false; outcome = Ok v }
 
 abbrev pub faults : {A : Type 0} → Fault → Reading A
-faults k = record { asked = false; outcome = Err k }
+faults k = record { asks_memory = false; outcome = Err k }
 
 abbrev pub also : {A : Type 0} → Bool → Reading A → Reading A
-also asked r = record { asked = asked || r.asked; outcome = r.outcome }
+also asks_memory r = record { asks_memory = asks_memory || r.asks_memory; outcome = r.outcome }
 
 abbrev pub and_then : {A B : Type 0} → Bool → Result A Fault → (A → Reading B) → Reading B
-and_then asked (Ok v) f = also asked (f v)
-and_then asked (Err k) f = record { asked = asked; outcome = Err k }
+and_then asks_memory (Ok v) f = also asks_memory (f v)
+and_then asks_memory (Err k) f = record { asks_memory = asks_memory; outcome = Err k }
 
 infixl 10 ◌>>=◌
 abbrev pub ◌>>=◌ : {A B : Type 0} → Reading A → (A → Reading B) → Reading B
-r >>= f = and_then r.asked r.outcome f
+r >>= f = and_then r.asks_memory r.outcome f
 
 -- a condition that has to hold
-abbrev pub test : Bool → Reading (Unit {0})
-test b = if b then done tt else faults Invalid
+abbrev pub check : Bool → Reading (Unit {0})
+check b = if b then done tt else faults Invalid
 
 -- w adjoining bytes at o
-abbrev pub fields : List ℕ → ℕ → ℕ → Reading (Unit {0})
-fields B o w = if nat_lt 0 w && nat_lt (length B) (o + w) then faults End else done tt
+abbrev pub expect_bytes : List ℕ → ℕ → ℕ → Reading (Unit {0})
+expect_bytes B o w = if nat_lt 0 w && nat_lt (length B) (o + w) then faults End else done tt
 
--- the w bytes at o, which have to stand there
+-- the w bytes at o, which have to are present
 abbrev pub piece_from : List ℕ → ℕ → ℕ → Reading (List ℕ)
 piece_from bytes o w = do
-  _ ← fields bytes o w
+  _ ← expect_bytes bytes o w
   done (take w (drop o bytes))
 
--- from here on want of memory may be answered
+-- from here on out of memory may be returned
 abbrev pub memory : Reading (Unit {0})
-memory = record { asked = true; outcome = Ok tt }
+memory = record { asks_memory = true; outcome = Ok tt }
 
--- an error that answers a fault
+-- an error that returns a fault
 abbrev pub IsFault : Error → Fault → Type 0
 IsFault errors.IoError k = k ≡ End
 IsFault (errors.InvalidData _) k = k ≡ Invalid
 IsFault _ k = ⊥
 
--- what a call that takes no memory answers
+-- what a call that takes no memory returns
 abbrev pub FaultAs : {A : Type 0} → Result A Error → Result A Fault → Type 0
 FaultAs (Ok v) r = r ≡ Ok v
 FaultAs (Err e) (Ok v) = ⊥
 FaultAs (Err e) (Err k) = IsFault e k
 
 -- a value of one type as one of another
-abbrev pub mapped : {A C : Type 0} → (A → C) → Reading A → Reading C
-mapped f r = r >>= λ v. done (f v)
+abbrev pub map_reading : {A C : Type 0} → (A → C) → Reading A → Reading C
+map_reading f r = r >>= λ v. done (f v)
 
 -- an error that a call may answer for this reading
 abbrev pub Refuses : {A : Type 0} → Error → Reading A → Type 0
 Refuses errors.IoError r = r.outcome ≡ Err End
 Refuses (errors.InvalidData _) r = r.outcome ≡ Err Invalid
-Refuses (errors.BoxNotFound n) r = (r.outcome ≡ Err NotFound) × (n ≡ DrefBox)
-Refuses errors.OutOfMemory r = r.asked ≡ true
+Refuses (errors.BoxNotFound name) r = r.outcome ≡ Err (NotFound name)
+Refuses errors.OutOfMemory r = r.asks_memory ≡ true
 Refuses _ r = ⊥
 
 -- what a call may answer for this reading, its value seen by view
@@ -86,4 +86,4 @@ Answers (Err e) r = Refuses e r
 -- A row of the table reads the bytes from the box's start on. The box ends at `start + size`, which no
 -- place passes that 64 bits can name.
 abbrev pub reading : {A : Type 0} → (List ℕ → ℕ → ℕ → Reading A) → List ℕ → ℕ → ℕ → Reading A
-reading row bytes start size = test (nat_lt (start + size) (2 ^ 64)) >>= λ _. row (drop start bytes) start size
+reading row bytes start size = check (nat_lt (start + size) (2 ^ 64)) >>= λ _. row (drop start bytes) start size

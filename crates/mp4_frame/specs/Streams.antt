@@ -18,14 +18,14 @@ walk_on item rest (Ok f) = do
   ys ← rest f.end
   done (xs ++ ys)
 
--- the frames from o on, n at most, one behind the other
-unfoldable pub walked : {X : Type 0} → (ℕ → Frame → Reading (List X)) → List ℕ → ℕ → ℕ → Reading (List X)
-walked item B zero o = done []
-walked item B (suc n) o = if nat_le (length B) o then done [] else walk_on (item o) (λ e. walked item B n e) (frame B o)
+-- the frames from o on, n at most, one after the other
+unfoldable pub walk_at_most : {X : Type 0} → (ℕ → Frame → Reading (List X)) → List ℕ → ℕ → ℕ → Reading (List X)
+walk_at_most item B zero o = done []
+walk_at_most item B (suc n) o = if nat_le (length B) o then done [] else walk_on (item o) (λ e. walk_at_most item B n e) (frame B o)
 
 -- all frames from o on. Each has a byte at least, so that there are no more than the buffer has bytes
 abbrev pub walk : {X : Type 0} → (ℕ → Frame → Reading (List X)) → List ℕ → ℕ → Reading (List X)
-walk item B o = walked item B (length B) o
+walk item B o = walk_at_most item B (length B) o
 
 -- a box of a known name is read, and kept, which takes memory; any other is skipped
 abbrev pub box_of : {A : Type 0} → (BoxType → Bool) → (BoxType → List ℕ → ℕ → ℕ → Reading A) → List ℕ → ℕ → Frame → Reading (List A)
@@ -40,8 +40,8 @@ abbrev pub boxes : {A : Type 0} → (BoxType → Bool) → (BoxType → List ℕ
 boxes known reading B o = walk (box_of known reading B) B o
 
 -- a box that is read and appended to those in front, for which memory is taken
-abbrev pub pushed : {A : Type 0} → List A → Reading A → Reading (List A)
-pushed front r = do
+abbrev pub append_read : {A : Type 0} → List A → Reading A → Reading (List A)
+append_read front r = do
   v ← r
   kept ← memory
   done (front ++ v ∷ [])

@@ -1,7 +1,7 @@
 //! The header of a box, and what follows it in a full box.
 
 ghost use Rattle.std.specs.Prelude.{◌≡◌, ℕ, ◌+◌, ◌-◌, ◌<◌, ◌≤◌, ◌^◌, ◌++◌, [], ◌∷◌, List, length, OnOk, OnErr};
-ghost use Rattle.mp4_frame.specs.Bytes.{joined};
+ghost use Rattle.mp4_frame.specs.Bytes.{bytes_of_fields};
 ghost use Rattle.mp4_frame.specs.BoxType.{code_of, name_of};
 ghost use Rattle.mp4_frame.specs.Heads.{header, header_length, header_ext, bytes_header};
 ghost use Rattle.mp4_frame.specs.Reading.{Answers, done};
@@ -13,7 +13,7 @@ use crate::error::{Error, Result};
 use crate::head::Head;
 use crate::number::{u8_at, u24_at};
 use crate::put::{put_u8, put_u24, put_u32, put_u64};
-use crate::reading::fields;
+use crate::reading::expect_bytes;
 use crate::write::lengthen;
 use std::alloc::Allocator;
 
@@ -29,7 +29,7 @@ pub struct BoxHeader {
     /// The name.
     pub name: BoxType,
     /// The number of bytes from 8 bytes before the content to the box's end. So a box whose size stands in
-    /// 64 bits, behind the name, has 8 bytes more than this.
+    /// 64 bits, after the name, has 8 bytes more than this.
     pub size: u64,
 }
 
@@ -41,7 +41,7 @@ impl BoxHeader {
         BoxHeader { name, size }
     }
 
-    /// Reads a header, and moves behind it. The size is 0 where the header says 0, in both forms.
+    /// Reads a header, and moves after it. The size is 0 where the header says 0, in both forms.
     pub fn read(reader: &mut ByteCursor) -> Result<BoxHeader>
         ensures answer { Answers result (header reader.old.bytes.now reader.old.position) }
         ensures moved { OnOk result (reader.new.position ≡ reader.old.position + header_length reader.old.bytes.now reader.old.position) }
@@ -58,26 +58,26 @@ impl BoxHeader {
 
     /// Appends the header: 8 bytes, or 16 where the size needs more than 32 bits. Invalid data where the size
     /// is above 2^64 - 9, since the 64-bit form counts 8 bytes more.
-    #[tactic(auto, unfolding(crate::specs::Bytes::joined, crate::specs::Bytes::joined_onto))]
+    #[tactic(auto, unfolding(crate::specs::Bytes::bytes_of_fields, crate::specs::Bytes::bytes_of_fields_onto))]
     pub fn write<A: Allocator>(&self, writer: &mut Vec<u8, A>) -> Result<u64>
         ensures { Writes (self.now.size ≤ 2 ^ 64 - 9) (bytes_header self.now) writer.old.items writer.new.items result }
     {
         let old = writer.len();
         if self.size < 1 << 32 {
             lengthen(writer, 8)?;
-            let place = &mut writer[old..];
-            let at = put_u32(place, 0, self.size as u32);
-            put_u32(place, at, u32::from(self.name));
+            let out = &mut writer[old..];
+            let at = put_u32(out, 0, self.size as u32);
+            put_u32(out, at, u32::from(self.name));
             return Ok(8);
         }
         let Some(size) = self.size.checked_add(8) else {
             return Err(Error::InvalidData("box too large"));
         };
         lengthen(writer, 16)?;
-        let place = &mut writer[old..];
-        let at = put_u32(place, 0, 1);
-        let at = put_u32(place, at, u32::from(self.name));
-        put_u64(place, at, size);
+        let out = &mut writer[old..];
+        let at = put_u32(out, 0, 1);
+        let at = put_u32(out, at, u32::from(self.name));
+        put_u64(out, at, size);
         Ok(16)
     }
 }
@@ -89,7 +89,7 @@ pub fn header_is_read_back()
         → (header (x ++ (bytes_header h ++ y)) (length x) ≡ done h) × (header_length (x ++ (bytes_header h ++ y)) (length x) ≡ length (bytes_header h)) }
 {}
 
-/// Reads version and flags, and moves behind them.
+/// Reads version and flags, and moves after them.
 pub fn read_box_header_ext(reader: &mut ByteCursor) -> Result<(u8, u32)>
     ensures answer { Answers result (header_ext reader.old.bytes.now reader.old.position) }
     ensures moved { OnOk result (reader.new.position ≡ reader.old.position + 4) }
@@ -98,27 +98,27 @@ pub fn read_box_header_ext(reader: &mut ByteCursor) -> Result<(u8, u32)>
 {
     let bytes = reader.bytes();
     let at = reader.position() as usize;
-    fields(bytes, at, 4)?;
+    expect_bytes(bytes, at, 4)?;
     reader.set_position(at as u64 + HEADER_EXT_SIZE);
     Ok((u8_at(bytes, at), u24_at(bytes, at + 1)))
 }
 
-/// Appends version and flags, and answers 4. Invalid data where the flags need more than 24 bits.
-#[tactic(auto, unfolding(crate::specs::Bytes::joined, crate::specs::Bytes::joined_onto))]
+/// Appends version and flags, and returns 4. Invalid data where the flags need more than 24 bits.
+#[tactic(auto, unfolding(crate::specs::Bytes::bytes_of_fields, crate::specs::Bytes::bytes_of_fields_onto))]
 pub fn write_box_header_ext<A: Allocator>(
     writer: &mut Vec<u8, A>,
     version: u8,
     flags: u32,
 ) -> Result<u64>
-    ensures { Writes (flags < 2 ^ 24) (joined ((1, version) ∷ (3, flags) ∷ [])) writer.old.items writer.new.items result }
+    ensures { Writes (flags < 2 ^ 24) (bytes_of_fields ((1, version) ∷ (3, flags) ∷ [])) writer.old.items writer.new.items result }
 {
     if flags >= 1 << 24 {
         return Err(Error::InvalidData("value does not fit its field"));
     }
     let old = writer.len();
     lengthen(writer, 4)?;
-    let place = &mut writer[old..];
-    let at = put_u8(place, 0, version);
-    put_u24(place, at, flags);
+    let out = &mut writer[old..];
+    let at = put_u8(out, 0, version);
+    put_u24(out, at, flags);
     Ok(4)
 }

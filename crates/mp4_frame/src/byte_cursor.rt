@@ -4,8 +4,8 @@ ghost use Rattle.std.specs.Prelude.{◌≡◌, ◌+◌, ◌*◌, ◌<◌, length
 ghost use Rattle.mp4_frame.specs.Reading.{AnswersAs, piece_from};
 ghost use Rattle.mp4_frame.specs.Tables.{rows_from};
 
-use crate::error::{Error, Result};
-use crate::reading::fields;
+use crate::error::Result;
+use crate::reading::{piece_at, rows_at};
 
 /// A place in a buffer. It may lie past the buffer's end.
 #[derive(Debug, Drop)]
@@ -53,13 +53,9 @@ impl<'a> ByteCursor<'a> {
         ensures kept { OnErr result (self.new.position ≡ self.old.position) }
         ensures bytes { self.new.bytes ≡ self.old.bytes }
     {
-        if n == 0 {
-            return Ok(&[]);
-        }
-        let place = self.position as usize;
-        fields(self.bytes, place, n as usize)?;
+        let piece = piece_at(self.bytes, self.position as usize, n as usize)?;
         self.position += n;
-        Ok(&self.bytes[place..place + n as usize])
+        Ok(piece)
     }
 
     /// The next `n` rows of `E` bytes each, which have to stand in the buffer.
@@ -70,11 +66,8 @@ impl<'a> ByteCursor<'a> {
         ensures kept { OnErr result (self.new.position ≡ self.old.position) }
         ensures bytes { self.new.bytes ≡ self.old.bytes }
     {
-        let _len = self.bytes.len();
-        let Some(whole) = n.checked_mul(E as u64) else {
-            return Err(Error::IoError);
-        };
-        let (rows, _) = self.take(whole)?.as_chunks::<E>();
+        let rows = rows_at::<E>(self.bytes, self.position as usize, n)?;
+        self.position += n * E as u64;
         Ok(rows)
     }
 }

@@ -6,50 +6,60 @@ ghost use Rattle.mp4_frame.specs.Reading.{Answers};
 
 use crate::error::Result;
 use crate::head::Head;
-use crate::reading::test;
+use crate::reading::check;
 use crate::traits::ReadBox;
 use std::alloc::Global;
 
-/// Reads the head of a child at a place of a box, of which `bytes` begins with the first byte. Invalid data
-/// where the child has fewer than 8 bytes, is larger than its parent, or ends past 64 bits. `too_large` is
-/// the text of the second.
+/// A box whose children are read.
+#[derive(Clone, Copy, Debug)]
+pub struct Parent<'a> {
+    /// The bytes from its start to the end of the buffer.
+    pub bytes: &'a [u8],
+    /// Its start, as `ReadBox::read_content` has it.
+    pub start: u64,
+    /// Its size.
+    pub size: u64,
+    /// The text of the refusal of a child that is larger than it.
+    pub too_large: &'static str,
+}
+
+/// Reads the head of a child at an offset of its parent. Invalid data where the child has fewer than 8 bytes, is
+/// larger than its parent, or ends past 64 bits.
 #[tactic(auto, unfolding(crate::specs::Children::child))]
-fn child_at(bytes: &[u8], start: u64, size: u64, at: u64, too_large: &'static str) -> Result<Head>
-    ensures value { Answers result (child bytes.now start size at) }
-    ensures room { IfOk result (λ c. (at ≤ c.start) × (c.start + 8 ≤ length bytes.now) × (8 ≤ c.size) × (start + c.start + c.size < 2 ^ 64)) }
+fn child_at(parent: &Parent, at: u64) -> Result<Head>
+    ensures value { Answers result (child parent.now.bytes.now parent.now.start parent.now.size at) }
+    ensures room { IfOk result (λ c. (at ≤ c.start) × (c.start + 8 ≤ length parent.now.bytes.now) × (8 ≤ c.size) × (parent.now.start + c.start + c.size < 2 ^ 64)) }
 {
-    let child = Head::at(bytes, at)?;
-    test(child.size >= 8, "child box too small")?;
-    test(child.size <= size, too_large)?;
-    test(
-        start <= u64::MAX - child.size && child.start <= u64::MAX - child.size - start,
+    let child = Head::at(parent.bytes, at)?;
+    check(child.size >= 8, "child box too small")?;
+    check(child.size <= parent.size, parent.too_large)?;
+    check(
+        parent.start <= u64::MAX - child.size
+            && child.start <= u64::MAX - child.size - parent.start,
         "box end past 64 bits",
     )?;
     Ok(child)
 }
 
-/// The last child with this code among those from a place on, at most `most`. Others are skipped by their
-/// size. `too_large` is the text of the refusal of a child that is larger than its parent.
+/// The last child with this code among those from an offset on, at most `most`. Others are skipped by their size.
 pub fn last_child<T: ReadBox + Drop>(
     alloc: Global,
-    bytes: &[u8],
-    start: u64,
-    size: u64,
+    parent: &Parent,
     code: u32,
     from: u64,
     most: u64,
-    too_large: &'static str,
 ) -> Result<Option<T>>
-    ensures { Answers result (children T.reads code bytes.now start size most from) }
+    ensures { Answers result (children T.reads code parent.now.bytes.now parent.now.start parent.now.size most from) }
 {
     let mut found = None;
     let mut at = from;
     let mut left = most;
-    while left > 0 && at < size {
-        let child = child_at(bytes, start, size, at, too_large)?;
+    while left > 0 && at < parent.size {
+        let child = child_at(parent, at)?;
         if child.code == code {
-            let rest = &bytes[child.start as usize..];
-            found = Some(T::read_row(alloc, rest, start + child.start, child.size)?);
+            let rest = &parent.bytes[child.start as usize..];
+            let start = parent.start + child.start;
+            found = Some(T::read_content(alloc, rest, start, child.size)?);
         }
         at = child.start + child.size;
         left -= 1;

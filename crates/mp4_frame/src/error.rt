@@ -6,7 +6,7 @@ ghost use Rattle.mp4_frame.specs.declared.error.Error.TheVariants.{OutOfMemory};
 use crate::box_type::BoxType;
 use std::alloc::{AllocError, AllocFailed};
 
-/// Why a box could not be read or written. The codec itself answers `IoError`, `InvalidData`, `BoxNotFound`
+/// Why a box could not be read or written. The codec itself returns `IoError`, `InvalidData`, `BoxNotFound`
 /// and `OutOfMemory`; the other variants are for the layers above it.
 #[derive(Debug, Drop, thiserror::Error)]
 pub enum Error {
@@ -48,7 +48,7 @@ pub enum Error {
     OutOfMemory,
 }
 
-/// What a call of this library answers.
+/// What a call of this library returns.
 pub type Result<T> = std::result::Result<T, Error>;
 
 impl From<AllocError> for Error {

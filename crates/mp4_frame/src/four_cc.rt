@@ -44,7 +44,7 @@ impl From<u32> for FourCC {
 
     ghost from_gives = { λ n c. c ≡ four_cc_of n };
 
-    #[tactic(auto, unfolding(crate::specs::Bytes::column))]
+    #[tactic(auto, unfolding(crate::specs::Bytes::be_bytes))]
     fn from(number: u32) -> FourCC {
         FourCC {
             value: number.to_be_bytes(),
@@ -125,7 +125,7 @@ impl TableEntry<4> for FourCC {
     }
 }
 
-/// Every value is a code. The answer is for proofs, which know nothing of the bytes behind a reference.
+/// Every value is a code. The result is for the prover, which know nothing of the bytes after a reference.
 pub fn is_four_cc(code: FourCC) -> bool
     ensures { IsTrue result ↔ IsFourCC code }
 {

@@ -2,14 +2,13 @@
 
 ghost use Rattle.std.specs.Prelude.{◌≡◌, ◌<◌, ◌≤◌, ◌+◌, ◌^◌, length, IfOk};
 ghost use Rattle.mp4_frame.specs.Reading.{FaultAs};
-ghost use Rattle.mp4_frame.specs.Heads.{frame, framed};
+ghost use Rattle.mp4_frame.specs.Heads.{frame, frame_of_head};
 
-use crate::box_header::BoxHeader;
 use crate::box_type::BoxType;
 use crate::error::{Error, Result};
 use crate::head::Head;
 
-/// Where a box stands in a buffer. All places are counted in bytes from the front of the buffer.
+/// The frame of a box in a buffer. All offsets are in bytes from the front of the buffer.
 #[derive(Clone, Copy, Debug)]
 pub struct Frame {
     /// Its name.
@@ -18,17 +17,18 @@ pub struct Frame {
     pub start: u64,
     /// How many bytes it has from `start` on.
     pub size: u64,
-    /// The place behind it.
+    /// The offset after it.
     pub end: u64,
 }
 
-#[tactic(auto, unfolding(crate::specs::Heads::framed))]
-fn frame_of(len: u64, start: u64, header: BoxHeader) -> Result<Frame>
-    requires { start + 8 ≤ len }
-    ensures answer { FaultAs result (framed len start header) }
-    ensures room { IfOk result (λ f. (f.start ≡ start) × (start + 8 ≤ f.end) × (f.end ≤ len)) }
+#[tactic(auto, unfolding(crate::specs::Heads::frame_of_head))]
+fn frame_of(len: u64, head: Head) -> Result<Frame>
+    requires { head.start + 8 ≤ len }
+    ensures answer { FaultAs result (frame_of_head len head) }
+    ensures room { IfOk result (λ f. (f.start ≡ head.start) × (head.start + 8 ≤ f.end) × (f.end ≤ len)) }
 {
-    let BoxHeader { name, size } = header;
+    let Head { code, size, start } = head;
+    let name = BoxType::from(code);
     if size == 0 {
         return Ok(Frame {
             name,
@@ -55,16 +55,11 @@ fn frame_of(len: u64, start: u64, header: BoxHeader) -> Result<Frame>
     })
 }
 
-/// The frame at a place before the buffer's end.
+/// The frame at an offset before the buffer's end.
 pub(crate) fn frame_at(bytes: &[u8], at: usize) -> Result<Frame>
     requires { at < length bytes.now }
     ensures answer { FaultAs result (frame bytes.now at) }
     ensures room { IfOk result (λ f. (f.start + 8 ≤ length bytes.now) × (at + 8 ≤ f.end) × (f.end ≤ length bytes.now)) }
 {
-    let head = Head::at(bytes, at as u64)?;
-    let header = BoxHeader {
-        name: BoxType::from(head.code),
-        size: head.size,
-    };
-    frame_of(bytes.len() as u64, head.start, header)
+    frame_of(bytes.len() as u64, Head::at(bytes, at as u64)?)
 }

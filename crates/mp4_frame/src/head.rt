@@ -5,7 +5,7 @@ ghost use Rattle.mp4_frame.specs.Reading.{Answers, FaultAs};
 
 use crate::error::Result;
 use crate::number::{u32_at, u64_at};
-use crate::reading::{fields, test};
+use crate::reading::{check, expect_bytes};
 
 /// The head of a box (ISO/IEC 14496-12, 4.2).
 #[derive(Clone, Copy, Debug)]
@@ -31,10 +31,10 @@ impl Head {
         ensures behind { IfOk result (λ h. h.start + 8 ≡ at + header_length bytes.now at) }
         ensures room { IfOk result (λ h. (at ≤ h.start) × (h.start + 8 ≤ length bytes.now)) }
     {
-        let place = at as usize;
-        fields(bytes, place, 8)?;
-        let size = u32_at(bytes, place);
-        let code = u32_at(bytes, place + 4);
+        let offset = at as usize;
+        expect_bytes(bytes, offset, 8)?;
+        let size = u32_at(bytes, offset);
+        let code = u32_at(bytes, offset + 4);
         if size != 1 {
             return Ok(Head {
                 code,
@@ -42,9 +42,9 @@ impl Head {
                 start: at,
             });
         }
-        fields(bytes, place + 8, 8)?;
-        let size = u64_at(bytes, place + 8);
-        test(size == 0 || size >= 16, "64-bit box size too small")?;
+        expect_bytes(bytes, offset + 8, 8)?;
+        let size = u64_at(bytes, offset + 8);
+        check(size == 0 || size >= 16, "64-bit box size too small")?;
         Ok(Head {
             code,
             size: size.saturating_sub(8),

@@ -5,6 +5,7 @@
 mod box_header;
 mod box_type;
 mod byte_cursor;
+pub mod codes;
 mod child;
 mod entries;
 mod error;
@@ -12,6 +13,7 @@ mod four_cc;
 mod frame;
 mod head;
 pub mod laws;
+mod member;
 mod number;
 mod put;
 mod read;
@@ -20,6 +22,7 @@ mod skip;
 mod table;
 mod text;
 mod traits;
+mod try_clone;
 mod write;
 
 pub use box_header::{
@@ -28,23 +31,25 @@ pub use box_header::{
 };
 pub use box_type::{BoxType, code_is_kept, name_is_kept};
 pub use byte_cursor::ByteCursor;
-pub use child::last_child;
+pub use child::{Parent, last_child};
 pub use entries::Entries;
 pub use error::{Error, Result};
 pub use four_cc::{FourCC, is_four_cc};
 pub use frame::Frame;
 pub use head::Head;
+pub use member::{Holds, clone_as, push_as, read_as};
 pub use number::{i16_at, i32_at, u8_at, u16_at, u24_at, u32_at, u64_at};
 pub use put::{
-    put_bytes, put_full_box, put_i16, put_i32, put_u8, put_u16, put_u24, put_u32, put_u64,
+    put_bytes, put_child, put_full_box, put_i16, put_i32, put_u8, put_u16, put_u24, put_u32, put_u64,
     put_zeros,
 };
 pub use read::read_boxes_as;
-pub use reading::{bytes_from, fields, piece_at, test};
+pub use reading::{bytes_from, check, expect_bytes, piece_at, rows_at};
 pub use skip::{box_start, skip_box, skip_bytes, skip_bytes_to};
 pub use table::{
     TableEntry, all_fit, is_writable_table, put_entries, put_table, read_table, table_size,
 };
 pub use text::Text;
 pub use traits::{BoxLaws, Mp4Box, ReadBox, StreamBox, WriteBox};
-pub use write::{put_part, write_boxes, write_zeros};
+pub use try_clone::TryClone;
+pub use write::{write_boxes, write_zeros};

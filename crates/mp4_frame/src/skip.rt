@@ -1,12 +1,12 @@
 //! Going on to other places of a buffer.
 
 ghost use Rattle.std.specs.Prelude.{◌≡◌, ◌+◌, ◌-◌, ◌≤◌, ◌^◌, nat_lt, Ok, OnOk, OnErr};
-ghost use Rattle.mp4_frame.specs.Reading.{Answers, test as tested};
+ghost use Rattle.mp4_frame.specs.Reading.{Answers, check as tested};
 
 use crate::box_header::HEADER_SIZE;
 use crate::byte_cursor::ByteCursor;
 use crate::error::Result;
-use crate::reading::test;
+use crate::reading::check;
 
 /// The start of the box whose header was just read: 8 bytes before the place.
 pub fn box_start(reader: &ByteCursor) -> Result<u64>
@@ -24,7 +24,7 @@ pub fn skip_bytes(reader: &mut ByteCursor, size: u64) -> Result<()>
     ensures bytes { reader.new.bytes ≡ reader.old.bytes }
 {
     let position = reader.position();
-    test(size <= u64::MAX - position, "box end past 64 bits")?;
+    check(size <= u64::MAX - position, "box end past 64 bits")?;
     reader.set_position(position + size);
     Ok(())
 }
@@ -49,6 +49,6 @@ pub fn skip_box(reader: &mut ByteCursor, size: u64) -> Result<()>
     ensures bytes { reader.new.bytes ≡ reader.old.bytes }
 {
     let start = box_start(reader)?;
-    test(size <= u64::MAX - start, "box end past 64 bits")?;
+    check(size <= u64::MAX - start, "box end past 64 bits")?;
     skip_bytes_to(reader, start + size)
 }

@@ -1,15 +1,14 @@
 //! Boxes of one counted table: version, flags, a count, and that many rows of one length.
 
 ghost use Rattle.std.specs.Prelude.{◌≡◌, ℕ, ◌≤◌, ◌<◌, ◌+◌, ◌*◌, ◌-◌, ◌^◌, ◌++◌, ◌↔◌, min, All, IsTrue, List, length, take, flat_map};
-ghost use Rattle.mp4_frame.specs.Bytes.{column};
+ghost use Rattle.mp4_frame.specs.Bytes.{be_bytes};
 ghost use Rattle.mp4_frame.specs.Reading.{AnswersAs};
-ghost use Rattle.mp4_frame.specs.Tables.{counted, size_table, WritableTable, bytes_table};
+ghost use Rattle.mp4_frame.specs.Tables.{counted_rows, size_table, WritableTable, bytes_table};
 
-use crate::byte_cursor::ByteCursor;
 use crate::error::Result;
 use crate::number::{u8_at, u24_at, u32_at};
 use crate::put::{put_bytes, put_full_box, put_u32};
-use crate::reading::{fields, test};
+use crate::reading::{check, expect_bytes, rows_at};
 
 /// An entry of a table, which a row of `E` bytes spells.
 pub trait TableEntry<const E: usize>: Copy {
@@ -22,17 +21,17 @@ pub trait TableEntry<const E: usize>: Copy {
     fn to_row(&self) -> [u8; E]
         ensures { result ≡ row_of self.now };
 
-    /// Every entry fits. The answer is for proofs, which know no ranges of the entries of a slice.
+    /// Every entry fits. The result is for the prover, which know no ranges of the entries of a slice.
     fn fits(&self) -> bool
         ensures { IsTrue result ↔ Fits self.now };
 }
 
 impl TableEntry<4> for u32 {
-    ghost row_of = { λ x. column 4 x };
+    ghost row_of = { λ x. be_bytes 4 x };
 
     ghost Fits = { λ x. x < 2 ^ 32 };
 
-    #[tactic(auto, unfolding(crate::specs::Bytes::column))]
+    #[tactic(auto, unfolding(crate::specs::Bytes::be_bytes))]
     fn to_row(&self) -> [u8; 4] {
         self.to_be_bytes()
     }
@@ -44,11 +43,11 @@ impl TableEntry<4> for u32 {
 }
 
 impl TableEntry<8> for u64 {
-    ghost row_of = { λ x. column 8 x };
+    ghost row_of = { λ x. be_bytes 8 x };
 
     ghost Fits = { λ x. x < 2 ^ 64 };
 
-    #[tactic(auto, unfolding(crate::specs::Bytes::column))]
+    #[tactic(auto, unfolding(crate::specs::Bytes::be_bytes))]
     fn to_row(&self) -> [u8; 8] {
         self.to_be_bytes()
     }
@@ -61,21 +60,19 @@ impl TableEntry<8> for u64 {
 
 /// Version, flags and the rows of a box of this size whose one table has rows of `E` bytes. `too_many` is the
 /// text of the refusal where the count is more than the size has room for.
-#[tactic(auto, unfolding(crate::specs::Tables::counted))]
+#[tactic(auto, unfolding(crate::specs::Tables::counted_rows))]
 pub fn read_table<'a, const E: usize>(
     bytes: &'a [u8],
     size: u64,
     too_many: &'static str,
 ) -> Result<(u8, u32, &'a [[u8; E]])>
     requires { 0 < E }
-    ensures { AnswersAs (λ t. record { version = t.0; flags = t.1; rows = t.2.now }) result (counted bytes.now size E) }
+    ensures { AnswersAs (λ t. record { version = t.0; flags = t.1; rows = t.2.now }) result (counted_rows bytes.now size E) }
 {
-    fields(bytes, 8, 8)?;
+    expect_bytes(bytes, 8, 8)?;
     let count = u64::from(u32_at(bytes, 12));
-    test(count <= size.saturating_sub(16) / E as u64, too_many)?;
-    let mut reader = ByteCursor::new(bytes);
-    reader.set_position(16);
-    let rows = reader.take_rows::<E>(count)?;
+    check(count <= size.saturating_sub(16) / E as u64, too_many)?;
+    let rows = rows_at::<E>(bytes, 16, count)?;
     Ok((u8_at(bytes, 8), u24_at(bytes, 9), rows))
 }
 
@@ -88,7 +85,7 @@ pub fn table_size<T: TableEntry<E>, const E: usize>(entries: &[T]) -> u64
         .saturating_add(16)
 }
 
-/// Every list of entries fits. The answer is for proofs, as that of `TableEntry::fits`.
+/// Every list of entries fits. The result is for the prover, as that of `TableEntry::fits`.
 pub fn all_fit<T: TableEntry<E>, const E: usize>(entries: &[T]) -> bool
     ensures { IsTrue result ↔ All T.Fits entries.now }
 {
@@ -114,37 +111,37 @@ pub fn is_writable_table<T: TableEntry<E>, const E: usize>(
 }
 
 /// Fills a place with a box of one table.
-#[tactic(auto, unfolding(crate::specs::Bytes::joined, crate::specs::Bytes::joined_onto))]
+#[tactic(auto, unfolding(crate::specs::Bytes::bytes_of_fields, crate::specs::Bytes::bytes_of_fields_onto))]
 pub fn put_table<T: TableEntry<E>, const E: usize>(
-    place: &mut [u8],
+    out: &mut [u8],
     code: u32,
     version: u8,
     flags: u32,
     entries: &[T],
 )
     requires writable { WritableTable T.Fits E code version flags entries.now }
-    requires room { length place.old ≡ size_table E entries.now }
-    ensures { place.new ≡ bytes_table T.row_of E code version flags entries.now }
+    requires room { length out.old ≡ size_table E entries.now }
+    ensures { out.new ≡ bytes_table T.row_of E code version flags entries.now }
 {
     let size = table_size(entries) as u32;
-    let at = put_full_box(place, size, code, version, flags);
-    let at = put_u32(place, at, entries.len() as u32);
-    put_entries(place, at, entries);
+    let at = put_full_box(out, size, code, version, flags);
+    let at = put_u32(out, at, entries.len() as u32);
+    put_entries(out, at, entries);
 }
 
-/// Puts the rows of entries, and answers the place behind them.
+/// Puts the rows of entries, and returns the offset after them.
 pub fn put_entries<T: TableEntry<E>, const E: usize>(
-    place: &mut [u8],
+    out: &mut [u8],
     at: usize,
     entries: &[T],
 ) -> usize
-    requires { at + E * length entries.now ≤ length place.old }
+    requires { at + E * length entries.now ≤ length out.old }
     ensures next { result ≡ at + E * length entries.now }
-    ensures put { take result place.new ≡ take at place.old ++ flat_map T.row_of entries.now }
+    ensures put { take result out.new ≡ take at out.old ++ flat_map T.row_of entries.now }
 {
     let mut next = at;
     for entry in entries {
-        next = put_bytes(place, next, &entry.to_row());
+        next = put_bytes(out, next, &entry.to_row());
     }
     next
 }

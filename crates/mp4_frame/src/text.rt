@@ -8,6 +8,7 @@ ghost use Rattle.mp4_frame.specs.declared.error.Error.TheVariants.{OutOfMemory};
 ghost use Rattle.mp4_frame.specs.Text.{text_or};
 
 use crate::error::Result;
+use crate::try_clone::TryClone;
 use std::alloc::Global;
 use std::fmt;
 use std::marker::Model;
@@ -95,19 +96,17 @@ impl Text {
         self.as_bytes().is_empty()
     }
 
-    /// Every text is. The answer is for proofs, which see the bytes alone.
+    /// Every text is. The result is for the prover, which see the bytes alone.
     pub fn is_utf8(&self) -> bool
         ensures { IsTrue result ↔ IsUtf8 self.now }
     {
         let _text = self.string.as_str();
         true
     }
+}
 
-    /// An equal text, in memory of its own.
-    pub fn try_clone(&self) -> Result<Text>
-        ensures clone { IfOk result (λ clone. clone ≡ self.now) }
-        ensures memory { IfErr result (λ e. e ≡ OutOfMemory) }
-    {
+impl TryClone for Text {
+    fn try_clone(&self) -> Result<Text> {
         Ok(Text {
             string: self.string.clone()?,
         })

@@ -1,16 +1,16 @@
-//! What is said of a box: how long it is, how it is read, how it is written, and how it stands in lists.
+//! What is said of a box: how long it is, how it is read and written, and how it is read and written in lists.
 
 ghost use Rattle.std.specs.Prelude.{◌≡◌, ℕ, ◌+◌, ◌-◌, ◌^◌, ◌<◌, ◌≤◌, ◌↔◌, min, Bool, IsTrue, List, length, OnOk, OnErr};
 ghost use Rattle.mp4_frame.specs.Reading.{Reading, Answers, AnswersAs, reading};
 ghost use Rattle.mp4_frame.specs.Written.{Writes};
-ghost use Rattle.mp4_frame.specs.Streams.{pushed};
-ghost use Rattle.mp4_frame.specs.Laws.{Framed, Normal, OwnName, ReadsBack, RowReadsBack, RowIsSound};
+ghost use Rattle.mp4_frame.specs.Streams.{append_read};
+ghost use Rattle.mp4_frame.specs.Laws.{BeginsWithHeader, Normal, OwnName, ReadsBack, ContentReadsBack, ContentIsSound};
 ghost use Rattle.mp4_frame.specs.declared.box_type.BoxType.{BoxType};
 
 use crate::box_type::BoxType;
 use crate::byte_cursor::ByteCursor;
 use crate::error::{Error, Result};
-use crate::reading::{bytes_from, test};
+use crate::reading::{bytes_from, check};
 use crate::write::lengthen;
 use std::alloc::{Allocator, Global};
 
@@ -22,7 +22,7 @@ pub trait Mp4Box: Sized {
     /// The number of bytes that it is written in, without a limit.
     ghost size: { Self → ℕ };
 
-    /// The name, which its code in the header stands for.
+    /// The name, which the header holds as a code of four characters.
     fn box_type(&self) -> BoxType
         ensures { result ≡ name self.now };
 
@@ -31,20 +31,21 @@ pub trait Mp4Box: Sized {
         ensures { result ≡ min (size self.now) (2 ^ 64 - 1) };
 }
 
-/// A box is read by its row of the table, behind its header.
+/// A box whose content is read after its header.
 pub trait ReadBox: Sized {
-    /// What the row reads of the bytes from the box's start on, for that start and the box's size.
+    /// What is read of the bytes from the box's start on, for that start and the box's size.
     ghost reads: { List ℕ → ℕ → ℕ → Reading Self };
 
-    /// Reads the box whose header of 8 bytes stands at the front of `bytes`, which `start` and `size` place in a
-    /// stream. Answers the first fault of the row, or want of memory.
-    fn read_row(alloc: Global, bytes: &[u8], start: u64, size: u64) -> Result<Self>
+    /// Reads the content of a box. `bytes` begins with the box's header of 8 bytes and goes on to the buffer's end;
+    /// `start` is the offset of the box in the buffer, and `size` its size. Fields are at fixed offsets of `bytes`,
+    /// and may be read past `size`. Returns the first fault, or out of memory.
+    fn read_content(alloc: Global, bytes: &[u8], start: u64, size: u64) -> Result<Self>
         requires { start + size < 2 ^ 64 }
         ensures { Answers result (reads bytes.now start size) };
 
-    /// Reads the box whose header was just read: `size` is the header's, and the cursor stands behind it. The
-    /// cursor goes to the box's end, and stays where anything is refused: invalid data, end of input, or want of
-    /// memory.
+    /// Reads the box whose header was just read: `size` is the header's, and the cursor is at the end of the header.
+    /// The cursor goes to the box's end, or after an `Err` (invalid data, end of input, out of memory) is where it
+    /// was.
     final fn read_box(alloc: Global, reader: &mut ByteCursor, size: u64) -> Result<Self>
         requires { 8 ≤ reader.old.position }
         ensures answer { Answers result (reading reads reader.old.bytes.now (reader.old.position - 8) size) }
@@ -53,8 +54,8 @@ pub trait ReadBox: Sized {
         ensures bytes { reader.new.bytes ≡ reader.old.bytes }
     {
         let start = reader.position() - 8;
-        test(size <= u64::MAX - start, "box end past 64 bits")?;
-        let value = Self::read_row(alloc, bytes_from(reader.bytes(), start), start, size)?;
+        check(size <= u64::MAX - start, "box end past 64 bits")?;
+        let value = Self::read_content(alloc, bytes_from(reader.bytes(), start), start, size)?;
         reader.set_position(start + size);
         Ok(value)
     }
@@ -68,27 +69,27 @@ pub trait WriteBox: Mp4Box {
     /// The bytes that it is written in.
     ghost bytes: { Self → List ℕ };
 
-    /// What it reads back as: equal but for what the bytes don't hold.
+    /// The value that its bytes are read back as: the same but for what the bytes don't hold.
     ghost normal: { Self → Self };
 
     /// Whether it can be written.
     fn is_writable(&self) -> bool
         ensures { IsTrue result ↔ Writable self.now };
 
-    /// Fills a place of the box's size with its bytes.
-    fn put_box(&self, place: &mut [u8])
+    /// Fills a slice of the box's size with its bytes.
+    fn put_box(&self, out: &mut [u8])
         requires writable { Writable self.now }
-        requires room { length place.old ≡ Self.size self.now }
-        ensures { place.new ≡ bytes self.now };
+        requires room { length out.old ≡ Self.size self.now }
+        ensures { out.new ≡ bytes self.now };
 
     /// Its bytes begin with its size and its code, and are as many.
-    ghost framed: { (v : Self) → Writable v → Framed (Self.size v) (Self.name v) (bytes v) };
+    ghost header: { (v : Self) → Writable v → BeginsWithHeader (Self.size v) (Self.name v) (bytes v) };
 
-    /// Its normal form has the same bytes, and is its own.
+    /// Its normal form can be written, in the same bytes, and is its own normal form.
     ghost normal_form: { (v : Self) → Writable v → Normal Writable bytes normal v };
 
-    /// Appends the box's bytes and answers their number, or leaves the vector as it was: invalid data where the
-    /// box can't be written, else want of memory.
+    /// Appends the box's bytes and returns their number, or leaves the vector as it was: invalid data where the
+    /// box can't be written, else out of memory.
     final fn write_box<A: Allocator>(&self, writer: &mut Vec<u8, A>) -> Result<u64>
         ensures { Writes (Writable self.now) (bytes self.now) writer.old.items writer.new.items result }
     {
@@ -103,12 +104,12 @@ pub trait WriteBox: Mp4Box {
     }
 }
 
-/// A box that stands in lists of boxes.
+/// A box that can be in a list of boxes.
 pub trait StreamBox: WriteBox + Drop {
     /// The names that are read. Boxes of others are skipped.
     ghost known: { BoxType → Bool };
 
-    /// What stands in a buffer under a name, at a start, with a size.
+    /// What is read of a buffer under a name, at a start, with a size.
     ghost named_reading: { BoxType → List ℕ → ℕ → ℕ → Reading Self };
 
     /// Whether boxes of this name are read.
@@ -118,7 +119,7 @@ pub trait StreamBox: WriteBox + Drop {
     /// Reads the box of this name whose header was just read.
     fn read_named(alloc: Global, name: BoxType, reader: &mut ByteCursor, size: u64) -> Result<Self>
         requires known { IsTrue (known name) }
-        requires placed { 8 ≤ reader.old.position }
+        requires after_header { 8 ≤ reader.old.position }
         ensures answer { Answers result (named_reading name reader.old.bytes.now (reader.old.position - 8) size) }
         ensures bytes { reader.new.bytes ≡ reader.old.bytes }
         ensures kept { OnErr result (reader.new.position ≡ reader.old.position) };
@@ -132,8 +133,8 @@ pub trait StreamBox: WriteBox + Drop {
         boxes: &mut Vec<Self>,
     ) -> Result<()>
         requires known { IsTrue (known name) }
-        requires placed { 8 ≤ reader.old.position }
-        ensures answer { AnswersAs (λ _. boxes.new.items) result (pushed boxes.old.items (named_reading name reader.old.bytes.now (reader.old.position - 8) size)) }
+        requires after_header { 8 ≤ reader.old.position }
+        ensures answer { AnswersAs (λ _. boxes.new.items) result (append_read boxes.old.items (named_reading name reader.old.bytes.now (reader.old.position - 8) size)) }
         ensures bytes { reader.new.bytes ≡ reader.old.bytes }
     {
         let value = Self::read_named(alloc, name, reader, size)?;
@@ -145,15 +146,15 @@ pub trait StreamBox: WriteBox + Drop {
     /// Its name is known, and the one that its code stands for.
     ghost own_name: { (v : Self) → Self.Writable v → OwnName known (Self.name v) };
 
-    /// Its bytes are read under its name as its normal form, wherever they stand.
+    /// Its bytes are read under its name as its normal form, whatever bytes are around them.
     ghost read_back: { (v : Self) → Self.Writable v → ReadsBack (named_reading (Self.name v)) (Self.bytes v) (Self.normal v) };
 }
 
 /// A box that is read back as it was written.
 pub trait BoxLaws: ReadBox + WriteBox {
-    /// Its bytes are read by its row as its normal form, wherever they stand.
-    ghost read_back: { (v : Self) → Self.Writable v → RowReadsBack Self.reads (Self.bytes v) (Self.size v) (Self.normal v) };
+    /// Its bytes are read as its normal form, whatever bytes follow them.
+    ghost read_back: { (v : Self) → Self.Writable v → ContentReadsBack Self.reads (Self.bytes v) (Self.size v) (Self.normal v) };
 
-    /// What the row reads is its own normal form, and can be written unless it is too large.
-    ghost sound: { RowIsSound Self.reads Self.Writable Self.size Self.normal };
+    /// What is read is its own normal form, and can be written unless it is too large.
+    ghost sound: { ContentIsSound Self.reads Self.Writable Self.size Self.normal };
 }

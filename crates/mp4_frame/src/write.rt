@@ -3,7 +3,7 @@
 ghost use Rattle.std.specs.Prelude.{◌≡◌, ◌+◌, ◌≤◌, ◌++◌, take, ◌↔◌, length, All, replicate, IsTrue, OnOk, OnErr, IfErr, MatchResult};
 ghost use Rattle.mp4_frame.specs.Streams.{stream};
 ghost use Rattle.mp4_frame.specs.Written.{Writes};
-ghost use Rattle.mp4_frame.specs.Laws.{Framed};
+ghost use Rattle.mp4_frame.specs.Laws.{BeginsWithHeader};
 ghost use Rattle.mp4_frame.specs.declared.error.Error.TheVariants.{OutOfMemory};
 
 use crate::error::{Error, Result};
@@ -52,20 +52,20 @@ fn total_size<B: WriteBox>(boxes: &[B]) -> Result<usize>
     Ok(total)
 }
 
-fn put_boxes<B: WriteBox>(boxes: &[B], place: &mut [u8])
+fn put_boxes<B: WriteBox>(boxes: &[B], out: &mut [u8])
     requires writable { All B.Writable boxes.now }
-    requires room { length place.old ≡ length (stream B.bytes boxes.now) }
-    ensures { place.new ≡ stream B.bytes boxes.now }
+    requires room { length out.old ≡ length (stream B.bytes boxes.now) }
+    ensures { out.new ≡ stream B.bytes boxes.now }
 {
     let mut at: usize = 0;
     for b in boxes {
         let end = at + b.box_size() as usize;
-        b.put_box(&mut place[at..end]);
+        b.put_box(&mut out[at..end]);
         at = end;
     }
 }
 
-/// Appends the boxes, and answers the number of bytes.
+/// Appends the boxes, and returns the number of bytes.
 pub fn write_boxes<B: StreamBox, A: Allocator>(boxes: &[B], writer: &mut Vec<u8, A>) -> Result<u64>
     ensures { Writes (All B.Writable boxes.now) (stream B.bytes boxes.now) writer.old.items writer.new.items result }
 {
@@ -77,16 +77,4 @@ pub fn write_boxes<B: StreamBox, A: Allocator>(boxes: &[B], writer: &mut Vec<u8,
     lengthen(writer, total)?;
     put_boxes(boxes, &mut writer[old..]);
     Ok(total as u64)
-}
-
-/// Puts a box at a place, and answers the place behind it.
-pub fn put_part<B: WriteBox>(place: &mut [u8], at: usize, value: &B) -> usize
-    requires writable { B.Writable value.now }
-    requires room { at + B.size value.now ≤ length place.old }
-    ensures next { result ≡ at + B.size value.now }
-    ensures put { take result place.new ≡ take at place.old ++ B.bytes value.now }
-{
-    let end = at + value.box_size() as usize;
-    value.put_box(&mut place[at..end]);
-    end
 }

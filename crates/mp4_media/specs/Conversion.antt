@@ -1,4 +1,4 @@
--- What a conversion answers that looks a value up by its number, its code or its text.
+-- What a conversion returns that looks a value up by its number, its code or its text.
 use Rattle.std.specs.Prelude.{◌≡◌, ◌≢◌, ◌↔◌, ℕ, Bool, true, false, ◌==◌, List, Option, Some, None, Result, Ok, Err}
 use Rattle.std.specs.List.{find}
 use Rattle.std.specs.Str.{bytes_eq}

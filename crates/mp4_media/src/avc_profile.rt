@@ -20,7 +20,7 @@ pub enum AvcProfile {
     AvcHigh,
 }
 
-/// The profile of a profile number and the byte of constraint flags behind it, whose bit 0x40 is constraint set 1. Any
+/// The profile of a profile number and the byte of constraint flags after it, whose bit 0x40 is constraint set 1. Any
 /// other profile number is invalid data.
 impl TryFrom<(u8, u8)> for AvcProfile {
     ghost use Rattle.mp4_media.specs.Conversion.{IsConversion};

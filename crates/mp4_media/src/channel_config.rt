@@ -14,9 +14,9 @@ pub enum ChannelConfig {
     Stereo = 2,
     /// Three channels: front centre, left and right.
     Three = 3,
-    /// Four channels: three in front, one behind.
+    /// Four channels: three in front, one after.
     Four = 4,
-    /// Five channels: three in front, two behind.
+    /// Five channels: three in front, two after.
     Five = 5,
     /// Five channels and one for low frequencies.
     FiveOne = 6,

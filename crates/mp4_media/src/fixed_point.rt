@@ -11,13 +11,13 @@ pub struct FixedPoint<R> {
     raw: R,
 }
 
-/// 8 bits before the point and 8 behind it, with the denominator 256.
+/// 8 bits before the point and 8 after it, with the denominator 256.
 pub type FixedPointU8 = FixedPoint<u16>;
 
-/// 8 bits before the point, the sign among them, and 8 behind it, with the denominator 256.
+/// 8 bits before the point, the sign among them, and 8 after it, with the denominator 256.
 pub type FixedPointI8 = FixedPoint<i16>;
 
-/// 16 bits before the point and 16 behind it, with the denominator 65536.
+/// 16 bits before the point and 16 after it, with the denominator 65536.
 pub type FixedPointU16 = FixedPoint<u32>;
 
 impl<R> Model for FixedPoint<R> {

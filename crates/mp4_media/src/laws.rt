@@ -63,7 +63,7 @@ pub fn data_types_have_own_numbers()
     ensures { IsInverse number_data_type data_type_of }
 {}
 
-/// A conversion that finds a value answers it, and one that finds none is invalid data.
+/// A conversion that finds a value returns it, and one that finds none is invalid data.
 pub fn conversions_answer_what_they_find<A>()
     ensures value { (v : _) (r : Result A Error) → IsConversion (Some v) r → r ≡ Ok v }
     ensures none { (r : Result A Error) → IsConversion None r → IsErrAnd r IsInvalidData }

@@ -1,6 +1,6 @@
 -- What is said of a box of any type, by its type.
 use Rattle.std.specs.Prelude.{ℕ, List, Bool, true, false}
-use Rattle.mp4_frame.specs.Reading.{Reading, Invalid, faults, mapped, reading}
+use Rattle.mp4_frame.specs.Reading.{Reading, Invalid, faults, map_reading, reading}
 use Rattle.mp4_frame.specs.declared.box_type.BoxType.{BoxType}
 use Rattle.mp4_frame.specs.declared.box_type.BoxType.TheVariants as names
 use Rattle.mp4_flat.specs.Mdhd.{reads_mdhd, size_mdhd, WritableMdhd, bytes_mdhd, normal_mdhd}
@@ -203,30 +203,30 @@ known_any names.DinfBox = true
 known_any _ = false
 
 abbrev pub reading_any : BoxType → List ℕ → ℕ → ℕ → Reading AnyBox
-reading_any names.FtypBox bytes start size = mapped any.FtypBox (reading reads_ftyp bytes start size)
-reading_any names.MvhdBox bytes start size = mapped any.MvhdBox (reading reads_mvhd bytes start size)
-reading_any names.TkhdBox bytes start size = mapped any.TkhdBox (reading reads_tkhd bytes start size)
-reading_any names.MdhdBox bytes start size = mapped any.MdhdBox (reading reads_mdhd bytes start size)
-reading_any names.MehdBox bytes start size = mapped any.MehdBox (reading reads_mehd bytes start size)
-reading_any names.MfhdBox bytes start size = mapped any.MfhdBox (reading reads_mfhd bytes start size)
-reading_any names.SmhdBox bytes start size = mapped any.SmhdBox (reading reads_smhd bytes start size)
-reading_any names.VmhdBox bytes start size = mapped any.VmhdBox (reading reads_vmhd bytes start size)
-reading_any names.TrexBox bytes start size = mapped any.TrexBox (reading reads_trex bytes start size)
-reading_any names.TfdtBox bytes start size = mapped any.TfdtBox (reading reads_tfdt bytes start size)
-reading_any names.StcoBox bytes start size = mapped any.StcoBox (reading reads_stco bytes start size)
-reading_any names.Co64Box bytes start size = mapped any.Co64Box (reading reads_co64 bytes start size)
-reading_any names.SttsBox bytes start size = mapped any.SttsBox (reading reads_stts bytes start size)
-reading_any names.CttsBox bytes start size = mapped any.CttsBox (reading reads_ctts bytes start size)
-reading_any names.StssBox bytes start size = mapped any.StssBox (reading reads_stss bytes start size)
-reading_any names.StszBox bytes start size = mapped any.StszBox (reading reads_stsz bytes start size)
-reading_any names.StscBox bytes start size = mapped any.StscBox (reading reads_stsc bytes start size)
-reading_any names.ElstBox bytes start size = mapped any.ElstBox (reading reads_elst bytes start size)
-reading_any names.TfhdBox bytes start size = mapped any.TfhdBox (reading reads_tfhd bytes start size)
-reading_any names.TrunBox bytes start size = mapped any.TrunBox (reading reads_trun bytes start size)
-reading_any names.HdlrBox bytes start size = mapped any.HdlrBox (reading reads_hdlr bytes start size)
-reading_any names.DataBox bytes start size = mapped any.DataBox (reading reads_data bytes start size)
-reading_any names.EmsgBox bytes start size = mapped any.EmsgBox (reading reads_emsg bytes start size)
-reading_any names.UrlBox bytes start size = mapped any.UrlBox (reading reads_url bytes start size)
-reading_any names.DrefBox bytes start size = mapped any.DrefBox (reading reads_dref bytes start size)
-reading_any names.DinfBox bytes start size = mapped any.DinfBox (reading reads_dinf bytes start size)
+reading_any names.FtypBox bytes start size = map_reading any.FtypBox (reading reads_ftyp bytes start size)
+reading_any names.MvhdBox bytes start size = map_reading any.MvhdBox (reading reads_mvhd bytes start size)
+reading_any names.TkhdBox bytes start size = map_reading any.TkhdBox (reading reads_tkhd bytes start size)
+reading_any names.MdhdBox bytes start size = map_reading any.MdhdBox (reading reads_mdhd bytes start size)
+reading_any names.MehdBox bytes start size = map_reading any.MehdBox (reading reads_mehd bytes start size)
+reading_any names.MfhdBox bytes start size = map_reading any.MfhdBox (reading reads_mfhd bytes start size)
+reading_any names.SmhdBox bytes start size = map_reading any.SmhdBox (reading reads_smhd bytes start size)
+reading_any names.VmhdBox bytes start size = map_reading any.VmhdBox (reading reads_vmhd bytes start size)
+reading_any names.TrexBox bytes start size = map_reading any.TrexBox (reading reads_trex bytes start size)
+reading_any names.TfdtBox bytes start size = map_reading any.TfdtBox (reading reads_tfdt bytes start size)
+reading_any names.StcoBox bytes start size = map_reading any.StcoBox (reading reads_stco bytes start size)
+reading_any names.Co64Box bytes start size = map_reading any.Co64Box (reading reads_co64 bytes start size)
+reading_any names.SttsBox bytes start size = map_reading any.SttsBox (reading reads_stts bytes start size)
+reading_any names.CttsBox bytes start size = map_reading any.CttsBox (reading reads_ctts bytes start size)
+reading_any names.StssBox bytes start size = map_reading any.StssBox (reading reads_stss bytes start size)
+reading_any names.StszBox bytes start size = map_reading any.StszBox (reading reads_stsz bytes start size)
+reading_any names.StscBox bytes start size = map_reading any.StscBox (reading reads_stsc bytes start size)
+reading_any names.ElstBox bytes start size = map_reading any.ElstBox (reading reads_elst bytes start size)
+reading_any names.TfhdBox bytes start size = map_reading any.TfhdBox (reading reads_tfhd bytes start size)
+reading_any names.TrunBox bytes start size = map_reading any.TrunBox (reading reads_trun bytes start size)
+reading_any names.HdlrBox bytes start size = map_reading any.HdlrBox (reading reads_hdlr bytes start size)
+reading_any names.DataBox bytes start size = map_reading any.DataBox (reading reads_data bytes start size)
+reading_any names.EmsgBox bytes start size = map_reading any.EmsgBox (reading reads_emsg bytes start size)
+reading_any names.UrlBox bytes start size = map_reading any.UrlBox (reading reads_url bytes start size)
+reading_any names.DrefBox bytes start size = map_reading any.DrefBox (reading reads_dref bytes start size)
+reading_any names.DinfBox bytes start size = map_reading any.DinfBox (reading reads_dinf bytes start size)
 reading_any _ bytes start size = faults Invalid

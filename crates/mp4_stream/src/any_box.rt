@@ -3,7 +3,7 @@
 ghost use Rattle.std.specs.Prelude.{◌≡◌, IfOk, IfErr};
 ghost use Rattle.mp4_frame.specs.declared.error.Error.TheVariants.{OutOfMemory};
 ghost use Rattle.mp4_stream.specs.AnyBox.{name_any, size_any, WritableAny, bytes_any, normal_any, known_any, reading_any};
-ghost use Rattle.mp4_stream.specs.AnyBoxLaws.{framed_any, normal_form_any, own_name_any, read_back_any};
+ghost use Rattle.mp4_stream.specs.AnyBoxLaws.{header_any, normal_form_any, own_name_any, read_back_any};
 
 use crate::member::{clone_as, push_as, read_as};
 use mp4_flat::{MdhdBox, MehdBox, MfhdBox, MvhdBox, SmhdBox, TfdtBox, TkhdBox, TrexBox, VmhdBox};
@@ -188,38 +188,38 @@ impl WriteBox for AnyBox {
         }
     }
 
-    fn put_box(&self, place: &mut [u8]) {
+    fn put_box(&self, out: &mut [u8]) {
         match self {
-            AnyBox::FtypBox(b) => b.put_box(place),
-            AnyBox::MvhdBox(b) => b.put_box(place),
-            AnyBox::TkhdBox(b) => b.put_box(place),
-            AnyBox::MdhdBox(b) => b.put_box(place),
-            AnyBox::MehdBox(b) => b.put_box(place),
-            AnyBox::MfhdBox(b) => b.put_box(place),
-            AnyBox::SmhdBox(b) => b.put_box(place),
-            AnyBox::VmhdBox(b) => b.put_box(place),
-            AnyBox::TrexBox(b) => b.put_box(place),
-            AnyBox::TfdtBox(b) => b.put_box(place),
-            AnyBox::StcoBox(b) => b.put_box(place),
-            AnyBox::Co64Box(b) => b.put_box(place),
-            AnyBox::SttsBox(b) => b.put_box(place),
-            AnyBox::CttsBox(b) => b.put_box(place),
-            AnyBox::StssBox(b) => b.put_box(place),
-            AnyBox::StszBox(b) => b.put_box(place),
-            AnyBox::StscBox(b) => b.put_box(place),
-            AnyBox::ElstBox(b) => b.put_box(place),
-            AnyBox::TfhdBox(b) => b.put_box(place),
-            AnyBox::TrunBox(b) => b.put_box(place),
-            AnyBox::HdlrBox(b) => b.put_box(place),
-            AnyBox::DataBox(b) => b.put_box(place),
-            AnyBox::EmsgBox(b) => b.put_box(place),
-            AnyBox::UrlBox(b) => b.put_box(place),
-            AnyBox::DrefBox(b) => b.put_box(place),
-            AnyBox::DinfBox(b) => b.put_box(place),
+            AnyBox::FtypBox(b) => b.put_box(out),
+            AnyBox::MvhdBox(b) => b.put_box(out),
+            AnyBox::TkhdBox(b) => b.put_box(out),
+            AnyBox::MdhdBox(b) => b.put_box(out),
+            AnyBox::MehdBox(b) => b.put_box(out),
+            AnyBox::MfhdBox(b) => b.put_box(out),
+            AnyBox::SmhdBox(b) => b.put_box(out),
+            AnyBox::VmhdBox(b) => b.put_box(out),
+            AnyBox::TrexBox(b) => b.put_box(out),
+            AnyBox::TfdtBox(b) => b.put_box(out),
+            AnyBox::StcoBox(b) => b.put_box(out),
+            AnyBox::Co64Box(b) => b.put_box(out),
+            AnyBox::SttsBox(b) => b.put_box(out),
+            AnyBox::CttsBox(b) => b.put_box(out),
+            AnyBox::StssBox(b) => b.put_box(out),
+            AnyBox::StszBox(b) => b.put_box(out),
+            AnyBox::StscBox(b) => b.put_box(out),
+            AnyBox::ElstBox(b) => b.put_box(out),
+            AnyBox::TfhdBox(b) => b.put_box(out),
+            AnyBox::TrunBox(b) => b.put_box(out),
+            AnyBox::HdlrBox(b) => b.put_box(out),
+            AnyBox::DataBox(b) => b.put_box(out),
+            AnyBox::EmsgBox(b) => b.put_box(out),
+            AnyBox::UrlBox(b) => b.put_box(out),
+            AnyBox::DrefBox(b) => b.put_box(out),
+            AnyBox::DinfBox(b) => b.put_box(out),
         }
     }
 
-    ghost framed = { framed_any };
+    ghost header = { header_any };
 
     ghost normal_form = { normal_form_any };
 }

@@ -2,8 +2,8 @@
 //! type each, since a function pays at its entry for all of its locals.
 
 ghost use Rattle.std.specs.Prelude.{◌≡◌, ◌-◌, ◌≤◌, IfOk, IfErr, OnErr};
-ghost use Rattle.mp4_frame.specs.Reading.{Answers, AnswersAs, mapped, reading};
-ghost use Rattle.mp4_frame.specs.Streams.{pushed};
+ghost use Rattle.mp4_frame.specs.Reading.{Answers, AnswersAs, map_reading, reading};
+ghost use Rattle.mp4_frame.specs.Streams.{append_read};
 ghost use Rattle.mp4_frame.specs.declared.error.Error.TheVariants.{OutOfMemory};
 ghost use Rattle.mp4_stream.specs.declared.any_box.AnyBox.TheVariants as any;
 
@@ -351,7 +351,7 @@ pub(crate) fn read_as<T: Member>(
     size: u64,
 ) -> Result<AnyBox>
     requires placed { 8 ≤ reader.old.position }
-    ensures answer { Answers result (mapped T.wrapped (reading T.reads reader.old.bytes.now (reader.old.position - 8) size)) }
+    ensures answer { Answers result (map_reading T.wrapped (reading T.reads reader.old.bytes.now (reader.old.position - 8) size)) }
     ensures kept { OnErr result (reader.new.position ≡ reader.old.position) }
     ensures bytes { reader.new.bytes ≡ reader.old.bytes }
 {
@@ -366,7 +366,7 @@ pub(crate) fn push_as<T: Member>(
     boxes: &mut Vec<AnyBox>,
 ) -> Result<()>
     requires placed { 8 ≤ reader.old.position }
-    ensures answer { AnswersAs (λ _. boxes.new.items) result (pushed boxes.old.items (mapped T.wrapped (reading T.reads reader.old.bytes.now (reader.old.position - 8) size))) }
+    ensures answer { AnswersAs (λ _. boxes.new.items) result (append_read boxes.old.items (map_reading T.wrapped (reading T.reads reader.old.bytes.now (reader.old.position - 8) size))) }
     ensures bytes { reader.new.bytes ≡ reader.old.bytes }
 {
     let value = T::read_box(alloc, reader, size)?;

@@ -1,7 +1,7 @@
 -- co64, the large chunk offset box (ISO/IEC 14496-12, 8.7.5): version 1 byte, flags 3, a count of 4 at 12, and
 -- that many offsets of 8 bytes from 16 on.
 use Rattle.std.specs.Prelude.{ℕ, ◌<◌, ◌^◌, List}
-use Rattle.mp4_frame.specs.Bytes.{number, column}
+use Rattle.mp4_frame.specs.Bytes.{number, be_bytes}
 use Rattle.mp4_frame.specs.Reading.{Reading}
 use Rattle.mp4_frame.specs.Tables.{reads_table, size_table, WritableTable, bytes_table}
 use Rattle.mp4_tables.specs.declared.co64.Co64Box.{Co64Box}
@@ -23,7 +23,7 @@ abbrev pub WritableCo64 : Co64Box → Type 0
 WritableCo64 v = WritableTable (λ offset. offset < 2 ^ 64) 8 0x636f3634 v.version v.flags v.entries
 
 unfoldable pub bytes_co64 : Co64Box → List ℕ
-bytes_co64 v = bytes_table (λ offset. column 8 offset) 8 0x636f3634 v.version v.flags v.entries
+bytes_co64 v = bytes_table (λ offset. be_bytes 8 offset) 8 0x636f3634 v.version v.flags v.entries
 
 abbrev pub normal_co64 : Co64Box → Co64Box
 normal_co64 v = v

@@ -1,7 +1,7 @@
 -- A row of elst. In version 1 it has 20 bytes: segment_duration 8, media_time 8, media_rate 2,
 -- media_rate_fraction 2. In every other version it has 12: 4, 4, 2, 2.
 use Rattle.std.specs.Prelude.{ℕ, ◌+◌, ◌==◌, Bool, List, [], ◌∷◌, if◌then◌else◌}
-use Rattle.mp4_frame.specs.Bytes.{number, joined, Fit}
+use Rattle.mp4_frame.specs.Bytes.{number, bytes_of_fields, FieldsFit}
 use Rattle.mp4_tables.specs.declared.elst_entry.ElstEntry.{ElstEntry}
 
 -- a version has the long rows
@@ -15,18 +15,18 @@ row_length long = if long then 20 else 12
 abbrev pub time_width : Bool → ℕ
 time_width long = if long then 8 else 4
 
--- the entry whose times have w bytes, by the number of w bytes at o of its row
+-- the entry whose times have w bytes, where `at o w` is the number of w bytes at offset o of its row
 abbrev pub value_elst_entry : ℕ → (ℕ → ℕ → ℕ) → ElstEntry
-value_elst_entry w n = record { segment_duration = n 0 w; media_time = n w w; media_rate = n (w + w) 2; media_rate_fraction = n (w + w + 2) 2 }
+value_elst_entry w n = record { segment_duration = at 0 w; media_time = n w w; media_rate = at (w + w) 2; media_rate_fraction = at (w + w + 2) 2 }
 
 abbrev pub entry_elst : Bool → List ℕ → ElstEntry
 entry_elst long row = value_elst_entry (time_width long) (number row)
 
-abbrev pub columns_elst_entry : Bool → ElstEntry → List (ℕ × ℕ)
-columns_elst_entry long e = (time_width long, e.segment_duration) ∷ (time_width long, e.media_time) ∷ (2, e.media_rate) ∷ (2, e.media_rate_fraction) ∷ []
+abbrev pub fields_elst_entry : Bool → ElstEntry → List (ℕ × ℕ)
+fields_elst_entry long e = (time_width long, e.segment_duration) ∷ (time_width long, e.media_time) ∷ (2, e.media_rate) ∷ (2, e.media_rate_fraction) ∷ []
 
 abbrev pub row_elst : Bool → ElstEntry → List ℕ
-row_elst long e = joined (columns_elst_entry long e)
+row_elst long e = bytes_of_fields (fields_elst_entry long e)
 
 abbrev pub FitsElstEntry : Bool → ElstEntry → Type 0
-FitsElstEntry long e = Fit (columns_elst_entry long e)
+FitsElstEntry long e = FieldsFit (fields_elst_entry long e)

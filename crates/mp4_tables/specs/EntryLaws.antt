@@ -1,8 +1,8 @@
--- Numbers in columns are read back.
+-- Numbers in fields are read back.
 use Rattle.std.proofs.Common.{◌≡◌, ℕ, List, [], ap, ◌∙◌}
-use Rattle.mp4_frame.specs.Bytes.{number, joined, Fit}
-use Rattle.mp4_frame.proofs.Columns.{found, number-columns}
+use Rattle.mp4_frame.specs.Bytes.{number, bytes_of_fields, FieldsFit}
+use Rattle.mp4_frame.proofs.Fields.{found, number-fields_alone}
 
--- what is made of the numbers of written columns
-pub columns_back : {X : Type 0} (value : (ℕ → ℕ → ℕ) → X) (cs : List (ℕ × ℕ)) (x : X) → Fit cs → value (found cs []) ≡ x → value (number (joined cs)) ≡ x
-columns_back value cs x fits is = ap value (λ i o w. number-columns cs o w fits i) ∙ is
+-- what is made of the numbers of written fields
+pub fields_back : {X : Type 0} (value : (ℕ → ℕ → ℕ) → X) (cs : List (ℕ × ℕ)) (x : X) → FieldsFit cs → value (found cs []) ≡ x → value (number (bytes_of_fields cs)) ≡ x
+fields_back value cs x fits is = ap value (λ i o w. number-fields_alone cs o w fits i) ∙ is

@@ -1,7 +1,7 @@
 -- stco, the chunk offset box (ISO/IEC 14496-12, 8.7.5): version 1 byte, flags 3, a count of 4 at 12, and
 -- that many offsets of 4 bytes from 16 on.
 use Rattle.std.specs.Prelude.{ℕ, ◌<◌, ◌^◌, List}
-use Rattle.mp4_frame.specs.Bytes.{number, column}
+use Rattle.mp4_frame.specs.Bytes.{number, be_bytes}
 use Rattle.mp4_frame.specs.Reading.{Reading}
 use Rattle.mp4_frame.specs.Tables.{reads_table, size_table, WritableTable, bytes_table}
 use Rattle.mp4_tables.specs.declared.stco.StcoBox.{StcoBox}
@@ -23,7 +23,7 @@ abbrev pub WritableStco : StcoBox → Type 0
 WritableStco v = WritableTable (λ offset. offset < 2 ^ 32) 4 0x7374636f v.version v.flags v.entries
 
 unfoldable pub bytes_stco : StcoBox → List ℕ
-bytes_stco v = bytes_table (λ offset. column 4 offset) 4 0x7374636f v.version v.flags v.entries
+bytes_stco v = bytes_table (λ offset. be_bytes 4 offset) 4 0x7374636f v.version v.flags v.entries
 
 abbrev pub normal_stco : StcoBox → StcoBox
 normal_stco v = v

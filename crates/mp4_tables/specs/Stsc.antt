@@ -1,17 +1,17 @@
 -- stsc, the sample to chunk box (ISO/IEC 14496-12, 8.7.4): version 1 byte, flags 3, a count of 4 at 12, and that
 -- many entries of 12 bytes from 16 on, whose first samples are computed.
 use Rattle.std.specs.Prelude.{ℕ, List, IsTrue, map}
-use Rattle.mp4_frame.specs.Reading.{Reading, ◌>>=◌, memory, test, done}
-use Rattle.mp4_frame.specs.Tables.{counted, size_table, WritableTable, bytes_table}
+use Rattle.mp4_frame.specs.Reading.{Reading, ◌>>=◌, memory, check, done}
+use Rattle.mp4_frame.specs.Tables.{counted_rows, size_table, WritableTable, bytes_table}
 use Rattle.mp4_tables.specs.Chunks.{chunks_fit, numbered}
 use Rattle.mp4_tables.specs.StscEntry.{entry_stsc, row_stsc, FitsStscEntry}
 use Rattle.mp4_tables.specs.declared.stsc.StscBox.{StscBox}
 
 unfoldable pub reads_stsc : List ℕ → ℕ → ℕ → Reading StscBox
 reads_stsc bytes start size = do
-  t ← counted bytes size 12
+  t ← counted_rows bytes size 12
   _ ← memory
-  _ ← test (chunks_fit (map entry_stsc t.rows))
+  _ ← check (chunks_fit (map entry_stsc t.rows))
   done (record { version = t.version; flags = t.flags; entries = numbered (map entry_stsc t.rows) })
 
 abbrev pub size_stsc : StscBox → ℕ

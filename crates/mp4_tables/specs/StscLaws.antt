@@ -3,17 +3,17 @@ use Rattle.std.proofs.Common.{◌≡◌, ℕ, ◌+◌, ◌-◌, ◌^◌, ◌<◌
 use Rattle.std.specs.List.{flat_map, AllByRecursion, list_all, range_with_len, sum_by}
 use Rattle.std.proofs.lemmas.List.{length-map}
 use Rattle.std.proofs.lemmas.List.Elements.{All-from_recursion, recursion_from_All}
-use Rattle.mp4_frame.specs.Laws.{Framed, Normal, RowReadsBack, RowIsSound}
-use Rattle.mp4_frame.specs.Reading.{◌>>=◌, memory, test, done}
-use Rattle.mp4_frame.specs.Tables.{Table, counted, WritableTable}
+use Rattle.mp4_frame.specs.Laws.{BeginsWithHeader, Normal, ContentReadsBack, ContentIsSound}
+use Rattle.mp4_frame.specs.Reading.{◌>>=◌, memory, check, done}
+use Rattle.mp4_frame.specs.Tables.{Table, counted_rows, WritableTable}
 use Rattle.mp4_frame.specs.declared.box_type.BoxType.TheVariants as names
-use Rattle.mp4_frame.proofs.Framing.{framed_front, fits_read, Number}
-use Rattle.mp4_frame.proofs.Columns.{length-joined}
-use Rattle.mp4_frame.proofs.Stands.{test_ok, is_value}
-use Rattle.mp4_frame.proofs.Tables.{IsRow, length_flat, counted_back, counted_read, map_all, length_map, value_first}
-use Rattle.mp4_tables.specs.EntryLaws.{columns_back}
+use Rattle.mp4_frame.proofs.Framing.{header_in_front, fits_read, Number}
+use Rattle.mp4_frame.proofs.Fields.{length-fields}
+use Rattle.mp4_frame.proofs.Checks.{check_ok, is_value}
+use Rattle.mp4_frame.proofs.Tables.{IsRow, length_flat, counted_rows_back, counted_rows_read, map_all, length_map, value_first}
+use Rattle.mp4_tables.specs.EntryLaws.{fields_back}
 use Rattle.mp4_tables.specs.Chunks.{samples_in, begins, sample_at, in_order, chunks_fit, with_sample, numbered}
-use Rattle.mp4_tables.specs.StscEntry.{value_stsc_entry, entry_stsc, columns_stsc_entry, row_stsc, FitsStscEntry}
+use Rattle.mp4_tables.specs.StscEntry.{value_stsc_entry, entry_stsc, fields_stsc_entry, row_stsc, FitsStscEntry}
 use Rattle.mp4_tables.specs.Stsc.{reads_stsc, size_stsc, WritableStsc, bytes_stsc, normal_stsc}
 use Rattle.mp4_tables.specs.declared.stsc.StscBox.{StscBox}
 use Rattle.mp4_tables.specs.declared.stsc_entry.StscEntry.{StscEntry}
@@ -35,8 +35,8 @@ module _ (h : StscEntry → ℕ) where
   same_order k [] = refl
   same_order k (e ∷ es) = ap (λ (b : Bool). leb k e.first_chunk && b) (same_order e.first_chunk es)
 
-  same_place : (es : List StscEntry) → ◌≡◌ {A = ℕ → ℕ} (sample_at (renumbered es)) (sample_at es)
-  same_place es =
+  same_sample_at : (es : List StscEntry) → ◌≡◌ {A = ℕ → ℕ} (sample_at (renumbered es)) (sample_at es)
+  same_sample_at es =
       let each : ◌≡◌ {A = ℕ → ℕ} (samples_in 0 (renumbered es)) (samples_in 0 es) = λ i c. same_samples 0 c es i in
       ap (λ (g : ℕ → ℕ). λ (b : ℕ). 1 + sum_by g (range_with_len (begins (renumbered es)) (b - begins (renumbered es)))) each
       ∙ ap (λ (a : ℕ). λ (b : ℕ). 1 + sum_by (λ c. samples_in 0 es c) (range_with_len a (b - a))) (same_begins es)
@@ -52,10 +52,10 @@ module _ (h : StscEntry → ℕ) where
   same_fit : (es : List StscEntry) → chunks_fit (renumbered es) ≡ chunks_fit es
   same_fit es =
       ap (λ (b : Bool). b && list_all (λ e. ltb (sample_at (renumbered es) e.first_chunk) (2 ^ 32)) (renumbered es)) (same_order 0 es)
-      ∙ ap (λ (b : Bool). in_order 0 es && b) (same_all (λ c. ltb (sample_at (renumbered es) c) (2 ^ 32)) es ∙ ap (λ (n : ℕ → ℕ). list_all (λ e. ltb (n e.first_chunk) (2 ^ 32)) es) (same_place es))
+      ∙ ap (λ (b : Bool). in_order 0 es && b) (same_all (λ c. ltb (sample_at (renumbered es) c) (2 ^ 32)) es ∙ ap (λ (n : ℕ → ℕ). list_all (λ e. ltb (n e.first_chunk) (2 ^ 32)) es) (same_sample_at es))
 
   same_numbers : (es : List StscEntry) → numbered (renumbered es) ≡ numbered es
-  same_numbers es = same_map (λ c. sample_at (renumbered es) c) es ∙ ap (λ (n : ℕ → ℕ). map (λ e. with_sample e (n e.first_chunk)) es) (same_place es)
+  same_numbers es = same_map (λ c. sample_at (renumbered es) c) es ∙ ap (λ (n : ℕ → ℕ). map (λ e. with_sample e (n e.first_chunk)) es) (same_sample_at es)
 
   same_bytes : (es : List StscEntry) → flat_map row_stsc (renumbered es) ≡ flat_map row_stsc es
   same_bytes [] = refl
@@ -66,10 +66,10 @@ module _ (h : StscEntry → ℕ) where
   same_fits (e ∷ es) w = (w.0, same_fits es w.1)
 
 entry_long : (e : StscEntry) → FitsStscEntry e → length (row_stsc e) ≡ 12
-entry_long e fits = length-joined (columns_stsc_entry e)
+entry_long e fits = length-fields (fields_stsc_entry e)
 
 entry_back : (e : StscEntry) → FitsStscEntry e → entry_stsc (row_stsc e) ≡ with_sample e 0
-entry_back e fits = columns_back value_stsc_entry (columns_stsc_entry e) (with_sample e 0) fits refl
+entry_back e fits = fields_back value_stsc_entry (fields_stsc_entry e) (with_sample e 0) fits refl
 
 entries_back : (es : List StscEntry) → AllByRecursion FitsStscEntry es → map entry_stsc (map row_stsc es) ≡ renumbered (λ _. 0) es
 entries_back [] w = refl
@@ -86,11 +86,11 @@ table_renumbered h version flags es w =
       each = All-from_recursion FitsStscEntry (renumbered h es) (same_fits h es (recursion_from_All FitsStscEntry es w.each));
     }
 
-pub framed_stsc : (v : StscBox) → WritableStsc v → Framed (size_stsc v) names.StscBox (bytes_stsc v)
+pub header_stsc : (v : StscBox) → WritableStsc v → BeginsWithHeader (size_stsc v) names.StscBox (bytes_stsc v)
 unfolding bytes_stsc
-framed_stsc v w =
+header_stsc v w =
     let long = length_flat row_stsc 12 FitsStscEntry entry_long v.entries (recursion_from_All FitsStscEntry v.entries w.table.each) in
-    framed_front _ (flat_map row_stsc v.entries) w.table.fit (omega (arith, long))
+    header_in_front _ (flat_map row_stsc v.entries) w.table.fit (omega (arith, long))
 
 pub normal_form_stsc : (v : StscBox) → WritableStsc v → Normal WritableStsc bytes_stsc normal_stsc v
 unfolding bytes_stsc
@@ -103,31 +103,31 @@ normal_form_stsc v w =
       same_bytes = rw (len, same_bytes h v.entries) refl;
     }
 
-pub read_back_stsc : (v : StscBox) → WritableStsc v → RowReadsBack reads_stsc (bytes_stsc v) (size_stsc v) (normal_stsc v)
+pub read_back_stsc : (v : StscBox) → WritableStsc v → ContentReadsBack reads_stsc (bytes_stsc v) (size_stsc v) (normal_stsc v)
 unfolding bytes_stsc reads_stsc
 read_back_stsc v w rest start top =
     let each = recursion_from_All FitsStscEntry v.entries w.table.each in
-    let t = counted_back row_stsc 12 FitsStscEntry entry_long 0x73747363 v.version v.flags v.entries rest (lit< tt) each w.table.fit in
+    let t = counted_rows_back row_stsc 12 FitsStscEntry entry_long 0x73747363 v.version v.flags v.entries rest (lit< tt) each w.table.fit in
     let raw = entries_back v.entries each in
     let fit : chunks_fit (renumbered (λ _. 0) v.entries) ≡ true = same_fit (λ _. 0) v.entries ∙ w.chunks in
     let numbers = same_numbers (λ _. 0) v.entries in
     rw (t, raw, fit, numbers) refl
 
-pub sound_stsc : RowIsSound reads_stsc WritableStsc size_stsc normal_stsc
+pub sound_stsc : ContentIsSound reads_stsc WritableStsc size_stsc normal_stsc
 unfolding reads_stsc
 sound_stsc bytes start long v are read =
-    let p = value_first (counted bytes long 12) (λ (t : Table). memory >>= λ _. test (chunks_fit (map entry_stsc t.rows)) >>= λ _. done (record { version = t.version; flags = t.flags; entries = numbered (map entry_stsc t.rows) })) v read in
-    let t = counted_read bytes long 12 p.0 (lit< tt) are p.1 in
+    let p = value_first (counted_rows bytes long 12) (λ (t : Table). memory >>= λ _. check (chunks_fit (map entry_stsc t.rows)) >>= λ _. done (record { version = t.version; flags = t.flags; entries = numbered (map entry_stsc t.rows) })) v read in
+    let t = counted_rows_read bytes long 12 p.0 (lit< tt) are p.1 in
     let es = map entry_stsc p.0.rows in
     let made : StscBox = record { version = p.0.version; flags = p.0.flags; entries = numbered es } in
-    let q = test_ok (chunks_fit es) (λ _. done made) v p.2 in
+    let q = check_ok (chunks_fit es) (λ _. done made) v p.2 in
     let is : made ≡ v = is_value made v q.1 in
     let h : StscEntry → ℕ = λ e. sample_at es e.first_chunk in
     let len = length-map es (λ (e : StscEntry). with_sample e (sample_at es e.first_chunk)) in
     let count : length (numbered es) < 256 ^ 4 = omega (arith, len, t.2, length_map entry_stsc p.0.rows) in
-    let settled : normal_stsc made ≡ made = ap (λ (xs : List StscEntry). record made { entries = xs }) (same_numbers h es) in
+    let own_normal_form : normal_stsc made ≡ made = ap (λ (xs : List StscEntry). record made { entries = xs }) (same_numbers h es) in
     let can : size_stsc made < 2 ^ 32 → WritableStsc made = λ small. record {
       table = record { fit = (small, (lit< tt, (t.0, (t.1, (count, tt))))); each = All-from_recursion FitsStscEntry (numbered es) (same_fits h es (map_all 12 entry_stsc FitsStscEntry entry_fits p.0.rows t.3)) };
       chunks = same_fit h es ∙ q.0;
     } in
-    subst (λ (w : StscBox). (normal_stsc w ≡ w) × (size_stsc w < 2 ^ 32 → WritableStsc w)) is (settled, can)
+    subst (λ (w : StscBox). (normal_stsc w ≡ w) × (size_stsc w < 2 ^ 32 → WritableStsc w)) is (own_normal_form, can)

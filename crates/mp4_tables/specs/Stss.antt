@@ -1,7 +1,7 @@
 -- stss, the sync sample box (ISO/IEC 14496-12, 8.6.2): version 1 byte, flags 3, a count of 4 at 12, and
 -- that many sample numbers of 4 bytes from 16 on.
 use Rattle.std.specs.Prelude.{ℕ, ◌<◌, ◌^◌, List}
-use Rattle.mp4_frame.specs.Bytes.{number, column}
+use Rattle.mp4_frame.specs.Bytes.{number, be_bytes}
 use Rattle.mp4_frame.specs.Reading.{Reading}
 use Rattle.mp4_frame.specs.Tables.{reads_table, size_table, WritableTable, bytes_table}
 use Rattle.mp4_tables.specs.declared.stss.StssBox.{StssBox}
@@ -23,7 +23,7 @@ abbrev pub WritableStss : StssBox → Type 0
 WritableStss v = WritableTable (λ sample. sample < 2 ^ 32) 4 0x73747373 v.version v.flags v.entries
 
 unfoldable pub bytes_stss : StssBox → List ℕ
-bytes_stss v = bytes_table (λ sample. column 4 sample) 4 0x73747373 v.version v.flags v.entries
+bytes_stss v = bytes_table (λ sample. be_bytes 4 sample) 4 0x73747373 v.version v.flags v.entries
 
 abbrev pub normal_stss : StssBox → StssBox
 normal_stss v = v

@@ -1,8 +1,8 @@
 -- stsz, the sample size box (ISO/IEC 14496-12, 8.7.3.2): version 1 byte, flags 3, sample_size 4 at 12, sample_count
 -- 4 at 16; where sample_size is 0, that many sizes of 4 bytes from 20 on.
 use Rattle.std.specs.Prelude.{◌≡◌, ℕ, ◌+◌, ◌*◌, ◌<◌, ◌^◌, ◌==◌, List, [], ◌∷◌, ◌++◌, All, length, map, flat_map, if◌then◌else◌}
-use Rattle.mp4_frame.specs.Bytes.{number, column, joined, Fit, full_box}
-use Rattle.mp4_frame.specs.Reading.{Reading, ◌>>=◌, fields, memory, done}
+use Rattle.mp4_frame.specs.Bytes.{number, be_bytes, bytes_of_fields, FieldsFit, full_box}
+use Rattle.mp4_frame.specs.Reading.{Reading, ◌>>=◌, expect_bytes, memory, done}
 use Rattle.mp4_tables.specs.Rows.{rows_within}
 use Rattle.mp4_tables.specs.declared.stsz.StszBox.{StszBox}
 
@@ -14,24 +14,24 @@ reads_sizes bytes size count = do
   done (map (λ entry. number entry 0 4) rows)
 
 -- the sizes, by the size of all samples and their count
-abbrev pub listed : List ℕ → ℕ → ℕ → ℕ → Reading (List ℕ)
-listed bytes size sample_size count = if sample_size == 0 then reads_sizes bytes size count else done []
+abbrev pub sizes_if_listed : List ℕ → ℕ → ℕ → ℕ → Reading (List ℕ)
+sizes_if_listed bytes size sample_size count = if sample_size == 0 then reads_sizes bytes size count else done []
 
--- the value with these sizes, by the number of w bytes at o
+-- the value with these sizes, where `at o w` is the number of w bytes at offset o
 abbrev pub value_stsz : (ℕ → ℕ → ℕ) → List ℕ → StszBox
-value_stsz n sizes = record { version = n 8 1; flags = n 9 3; sample_size = n 12 4; sample_count = n 16 4; sample_sizes = sizes }
+value_stsz at sizes = record { version = at 8 1; flags = at 9 3; sample_size = at 12 4; sample_count = at 16 4; sample_sizes = sizes }
 
 unfoldable pub reads_stsz : List ℕ → ℕ → ℕ → Reading StszBox
 reads_stsz bytes start size = do
-  _ ← fields bytes 8 12
-  sizes ← listed bytes size (number bytes 12 4) (number bytes 16 4)
+  _ ← expect_bytes bytes 8 12
+  sizes ← sizes_if_listed bytes size (number bytes 12 4) (number bytes 16 4)
   done (value_stsz (number bytes) sizes)
 
 abbrev pub size_stsz : StszBox → ℕ
 size_stsz v = 20 + 4 * length v.sample_sizes
 
-abbrev pub columns_stsz : StszBox → List (ℕ × ℕ)
-columns_stsz v = full_box (size_stsz v) 0x7374737a v.version v.flags ++ (4, v.sample_size) ∷ (4, v.sample_count) ∷ []
+abbrev pub fields_stsz : StszBox → List (ℕ × ℕ)
+fields_stsz v = full_box (size_stsz v) 0x7374737a v.version v.flags ++ (4, v.sample_size) ∷ (4, v.sample_count) ∷ []
 
 -- how many sizes the list has, by the size of all samples and their count
 abbrev pub count_of_sizes : ℕ → ℕ → ℕ
@@ -39,12 +39,12 @@ count_of_sizes sample_size count = if sample_size == 0 then count else 0
 
 -- every number fits its bytes, and there is a size for each sample or for none
 pub record WritableStsz (v : StszBox) : Type 0 where
-  pub fit : Fit (columns_stsz v)
+  pub fit : FieldsFit (fields_stsz v)
   pub each : All (λ size. size < 2 ^ 32) v.sample_sizes
   pub in_sync : length v.sample_sizes ≡ count_of_sizes v.sample_size v.sample_count
 
 unfoldable pub bytes_stsz : StszBox → List ℕ
-bytes_stsz v = joined (columns_stsz v) ++ flat_map (λ size. column 4 size) v.sample_sizes
+bytes_stsz v = bytes_of_fields (fields_stsz v) ++ flat_map (λ size. be_bytes 4 size) v.sample_sizes
 
 abbrev pub normal_stsz : StszBox → StszBox
 normal_stsz v = v

@@ -1,34 +1,34 @@
 -- The laws of stts, by those of its entries.
 use Rattle.std.proofs.Common.{◌≡◌, ℕ, ◌<◌, ◌^◌, List, [], ◌∷◌, length, refl, subst, lit<}
-use Rattle.mp4_frame.specs.Laws.{Framed, RowReadsBack, RowIsSound}
+use Rattle.mp4_frame.specs.Laws.{BeginsWithHeader, ContentReadsBack, ContentIsSound}
 use Rattle.mp4_frame.specs.declared.box_type.BoxType.TheVariants as names
 use Rattle.mp4_frame.proofs.Framing.{fits_read, Number}
-use Rattle.mp4_frame.proofs.Columns.{length-joined}
-use Rattle.mp4_frame.proofs.Tables.{IsRow, framed_table, table_back, table_read}
-use Rattle.mp4_tables.specs.EntryLaws.{columns_back}
-use Rattle.mp4_tables.specs.SttsEntry.{value_stts_entry, entry_stts, columns_stts_entry, row_stts, FitsSttsEntry}
+use Rattle.mp4_frame.proofs.Fields.{length-fields}
+use Rattle.mp4_frame.proofs.Tables.{IsRow, header_of_table, table_back, table_read}
+use Rattle.mp4_tables.specs.EntryLaws.{fields_back}
+use Rattle.mp4_tables.specs.SttsEntry.{value_stts_entry, entry_stts, fields_stts_entry, row_stts, FitsSttsEntry}
 use Rattle.mp4_tables.specs.declared.stts.SttsBox.{SttsBox}
 use Rattle.mp4_tables.specs.declared.stts_entry.SttsEntry.{SttsEntry}
 use Rattle.mp4_tables.specs.Stts.{made_stts, reads_stts, size_stts, WritableStts, bytes_stts, normal_stts}
 
 entry_long : (e : SttsEntry) → FitsSttsEntry e → length (row_stts e) ≡ 8
-entry_long e fits = length-joined (columns_stts_entry e)
+entry_long e fits = length-fields (fields_stts_entry e)
 
 entry_back : (e : SttsEntry) → FitsSttsEntry e → entry_stts (row_stts e) ≡ e
-entry_back e fits = columns_back value_stts_entry (columns_stts_entry e) e fits refl
+entry_back e fits = fields_back value_stts_entry (fields_stts_entry e) e fits refl
 
 entry_fits : (row : List ℕ) → IsRow 8 row → FitsSttsEntry (entry_stts row)
 entry_fits row is = fits_read row is.are (Number 0 4 ∷ Number 4 4 ∷ [])
 
-pub framed_stts : (v : SttsBox) → WritableStts v → Framed (size_stts v) names.SttsBox (bytes_stts v)
+pub header_stts : (v : SttsBox) → WritableStts v → BeginsWithHeader (size_stts v) names.SttsBox (bytes_stts v)
 unfolding bytes_stts
-framed_stts v w = framed_table made_stts row_stts entry_stts FitsSttsEntry 8 0x73747473 (lit< tt) (lit< tt) entry_long entry_back entry_fits names.SttsBox refl v.version v.flags v.entries w
+header_stts v w = header_of_table made_stts row_stts entry_stts FitsSttsEntry 8 0x73747473 (lit< tt) (lit< tt) entry_long entry_back entry_fits names.SttsBox refl v.version v.flags v.entries w
 
-pub read_back_stts : (v : SttsBox) → WritableStts v → RowReadsBack reads_stts (bytes_stts v) (size_stts v) (normal_stts v)
+pub read_back_stts : (v : SttsBox) → WritableStts v → ContentReadsBack reads_stts (bytes_stts v) (size_stts v) (normal_stts v)
 unfolding bytes_stts reads_stts
 read_back_stts v w rest start top = table_back made_stts row_stts entry_stts FitsSttsEntry 8 0x73747473 (lit< tt) (lit< tt) entry_long entry_back entry_fits v.version v.flags v.entries rest w
 
-pub sound_stts : RowIsSound reads_stts WritableStts size_stts normal_stts
+pub sound_stts : ContentIsSound reads_stts WritableStts size_stts normal_stts
 unfolding reads_stts
 sound_stts bytes start long v are read =
     let p = table_read made_stts row_stts entry_stts FitsSttsEntry 8 0x73747473 (lit< tt) (lit< tt) entry_long entry_back entry_fits bytes long v are read in

@@ -2,9 +2,9 @@
 
 ghost use Rattle.std.specs.Prelude.{◌≡◌, ◌-◌, ◌^◌, [], IfOk, IfErr, map, min, refl};
 ghost use Rattle.mp4_frame.specs.declared.box_type.BoxType.TheVariants as names;
-ghost use Rattle.mp4_frame.proofs.Framing.{settled};
+ghost use Rattle.mp4_frame.proofs.Framing.{own_normal_form};
 ghost use Rattle.mp4_tables.specs.Co64.{offset_of, reads_co64, size_co64, WritableCo64, bytes_co64, normal_co64};
-ghost use Rattle.mp4_tables.specs.Co64Laws.{framed_co64, read_back_co64, sound_co64};
+ghost use Rattle.mp4_tables.specs.Co64Laws.{header_co64, read_back_co64, sound_co64};
 
 use mp4_frame::{
     BoxLaws, BoxType, Entries, Error, Mp4Box, ReadBox, Result, WriteBox, is_writable_table,
@@ -95,7 +95,7 @@ impl ReadBox for Co64Box {
     ghost reads = { reads_co64 };
 
     #[tactic(auto, unfolding(crate::specs::Co64::reads_co64))]
-    fn read_row(alloc: Global, bytes: &[u8], _start: u64, size: u64) -> Result<Co64Box> {
+    fn read_content(alloc: Global, bytes: &[u8], _start: u64, size: u64) -> Result<Co64Box> {
         let (version, flags, rows) = read_table::<8>(
             bytes,
             size,
@@ -126,9 +126,9 @@ impl WriteBox for Co64Box {
     }
 
     #[tactic(auto, unfolding(crate::specs::Co64::bytes_co64))]
-    fn put_box(&self, place: &mut [u8]) {
+    fn put_box(&self, out: &mut [u8]) {
         put_table(
-            place,
+            out,
             0x636f_3634,
             self.version,
             self.flags,
@@ -136,9 +136,9 @@ impl WriteBox for Co64Box {
         );
     }
 
-    ghost framed = { framed_co64 };
+    ghost header = { header_co64 };
 
-    ghost normal_form = { λ v w. settled v refl w };
+    ghost normal_form = { λ v w. own_normal_form v refl w };
 }
 
 impl BoxLaws for Co64Box {

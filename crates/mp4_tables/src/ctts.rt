@@ -2,10 +2,10 @@
 
 ghost use Rattle.std.specs.Prelude.{◌≡◌, ◌-◌, ◌^◌, [], IfOk, IfErr, map, min, refl};
 ghost use Rattle.mp4_frame.specs.declared.box_type.BoxType.TheVariants as names;
-ghost use Rattle.mp4_frame.proofs.Framing.{settled};
+ghost use Rattle.mp4_frame.proofs.Framing.{own_normal_form};
 ghost use Rattle.mp4_tables.specs.Ctts.{reads_ctts, size_ctts, WritableCtts, bytes_ctts, normal_ctts};
 ghost use Rattle.mp4_tables.specs.CttsEntry.{entry_ctts};
-ghost use Rattle.mp4_tables.specs.CttsLaws.{framed_ctts, read_back_ctts, sound_ctts};
+ghost use Rattle.mp4_tables.specs.CttsLaws.{header_ctts, read_back_ctts, sound_ctts};
 
 use crate::ctts_entry::CttsEntry;
 use mp4_frame::{
@@ -102,7 +102,7 @@ impl ReadBox for CttsBox {
     ghost reads = { reads_ctts };
 
     #[tactic(auto, unfolding(crate::specs::Ctts::reads_ctts))]
-    fn read_row(alloc: Global, bytes: &[u8], _start: u64, size: u64) -> Result<CttsBox> {
+    fn read_content(alloc: Global, bytes: &[u8], _start: u64, size: u64) -> Result<CttsBox> {
         let (version, flags, rows) = read_table::<8>(
             bytes,
             size,
@@ -133,9 +133,9 @@ impl WriteBox for CttsBox {
     }
 
     #[tactic(auto, unfolding(crate::specs::Ctts::bytes_ctts))]
-    fn put_box(&self, place: &mut [u8]) {
+    fn put_box(&self, out: &mut [u8]) {
         put_table(
-            place,
+            out,
             0x6374_7473,
             self.version,
             self.flags,
@@ -143,9 +143,9 @@ impl WriteBox for CttsBox {
         );
     }
 
-    ghost framed = { framed_ctts };
+    ghost header = { header_ctts };
 
-    ghost normal_form = { λ v w. settled v refl w };
+    ghost normal_form = { λ v w. own_normal_form v refl w };
 }
 
 impl BoxLaws for CttsBox {

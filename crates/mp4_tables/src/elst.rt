@@ -4,10 +4,10 @@ ghost use Rattle.std.specs.Prelude.{◌≡◌, ◌-◌, ◌^◌, [], IfOk, IfErr
 ghost use Rattle.mp4_frame.specs.Bytes.{number};
 ghost use Rattle.mp4_frame.specs.Reading.{Answers};
 ghost use Rattle.mp4_frame.specs.declared.box_type.BoxType.TheVariants as names;
-ghost use Rattle.mp4_frame.proofs.Framing.{settled};
+ghost use Rattle.mp4_frame.proofs.Framing.{own_normal_form};
 ghost use Rattle.mp4_tables.specs.Elst.{reads_elst_rows, reads_elst, size_elst, WritableElst, bytes_elst, normal_elst};
 ghost use Rattle.mp4_tables.specs.ElstEntry.{is_long, entry_elst};
-ghost use Rattle.mp4_tables.specs.ElstLaws.{framed_elst, read_back_elst, sound_elst};
+ghost use Rattle.mp4_tables.specs.ElstLaws.{header_elst, read_back_elst, sound_elst};
 
 use crate::elst_entry::ElstEntry;
 use mp4_frame::{
@@ -166,7 +166,7 @@ impl ReadBox for ElstBox {
     ghost reads = { reads_elst };
 
     #[tactic(auto, unfolding(crate::specs::Elst::reads_elst))]
-    fn read_row(alloc: Global, bytes: &[u8], _start: u64, size: u64) -> Result<ElstBox> {
+    fn read_content(alloc: Global, bytes: &[u8], _start: u64, size: u64) -> Result<ElstBox> {
         if has_long_rows(bytes) {
             read_long(alloc, bytes, size)
         } else {
@@ -201,10 +201,10 @@ impl WriteBox for ElstBox {
     }
 
     #[tactic(auto, unfolding(crate::specs::Elst::bytes_elst, crate::specs::Elst::bytes_elst_rows))]
-    fn put_box(&self, place: &mut [u8]) {
+    fn put_box(&self, out: &mut [u8]) {
         if self.version == 1 {
             put_table::<ElstEntry, 20>(
-                place,
+                out,
                 0x656c_7374,
                 self.version,
                 self.flags,
@@ -212,7 +212,7 @@ impl WriteBox for ElstBox {
             );
         } else {
             put_table::<ElstEntry, 12>(
-                place,
+                out,
                 0x656c_7374,
                 self.version,
                 self.flags,
@@ -221,9 +221,9 @@ impl WriteBox for ElstBox {
         }
     }
 
-    ghost framed = { framed_elst };
+    ghost header = { header_elst };
 
-    ghost normal_form = { λ v w. settled v refl w };
+    ghost normal_form = { λ v w. own_normal_form v refl w };
 }
 
 impl BoxLaws for ElstBox {

@@ -1,7 +1,7 @@
 //! An entry of the edit list box.
 
 ghost use Rattle.std.specs.Prelude.{◌≡◌, ◌≤◌, ◌+◌, ◌++◌, ◌↔◌, IsTrue, true, false, length, take};
-ghost use Rattle.mp4_frame.specs.Bytes.{column};
+ghost use Rattle.mp4_frame.specs.Bytes.{be_bytes};
 ghost use Rattle.mp4_tables.specs.ElstEntry.{row_elst, FitsElstEntry};
 
 use mp4_frame::{TableEntry, put_bytes, put_u16, put_u64};
@@ -35,14 +35,14 @@ fn has_short_times(entry: ElstEntry) -> bool
     entry.segment_duration < 1 << 32 && entry.media_time < 1 << 32
 }
 
-/// Puts the lowest four bytes of a number, and answers the place behind them.
-#[tactic(auto, unfolding(mp4_frame::specs::Bytes::column))]
-fn put_low_u32(place: &mut [u8], at: usize, n: u64) -> usize
-    requires { at + 4 ≤ length place.old }
+/// Puts the lowest four bytes of a number, and returns the offset after them.
+#[tactic(auto, unfolding(mp4_frame::specs::Bytes::be_bytes))]
+fn put_low_u32(out: &mut [u8], at: usize, n: u64) -> usize
+    requires { at + 4 ≤ length out.old }
     ensures next { result ≡ at + 4 }
-    ensures put { take result place.new ≡ take at place.old ++ column 4 n }
+    ensures put { take result out.new ≡ take at out.old ++ be_bytes 4 n }
 {
-    put_bytes(place, at, &n.to_be_bytes()[4..])
+    put_bytes(out, at, &n.to_be_bytes()[4..])
 }
 
 impl TableEntry<20> for ElstEntry {
@@ -50,7 +50,7 @@ impl TableEntry<20> for ElstEntry {
 
     ghost Fits = { FitsElstEntry true };
 
-    #[tactic(auto, unfolding(mp4_frame::specs::Bytes::joined, mp4_frame::specs::Bytes::joined_onto))]
+    #[tactic(auto, unfolding(mp4_frame::specs::Bytes::bytes_of_fields, mp4_frame::specs::Bytes::bytes_of_fields_onto))]
     fn to_row(&self) -> [u8; 20] {
         let mut row = [0; 20];
         let at = put_u64(&mut row, 0, self.segment_duration);
@@ -70,7 +70,7 @@ impl TableEntry<12> for ElstEntry {
 
     ghost Fits = { FitsElstEntry false };
 
-    #[tactic(auto, unfolding(mp4_frame::specs::Bytes::joined, mp4_frame::specs::Bytes::joined_onto))]
+    #[tactic(auto, unfolding(mp4_frame::specs::Bytes::bytes_of_fields, mp4_frame::specs::Bytes::bytes_of_fields_onto))]
     fn to_row(&self) -> [u8; 12] {
         let mut row = [0; 12];
         let at = put_low_u32(&mut row, 0, self.segment_duration);

@@ -1,11 +1,11 @@
-//! Rows behind the fields of a box.
+//! Rows after the fields of a box.
 
 ghost use Rattle.std.specs.Prelude.{◌≡◌, ◌≤◌, ◌<◌, ◌+◌, ◌++◌, IfOk, IfErr, OnOk, map};
 ghost use Rattle.mp4_frame.specs.Bytes.{number};
 ghost use Rattle.mp4_frame.specs.Reading.{AnswersAs};
 ghost use Rattle.mp4_tables.specs.Rows.{rows_within};
 
-use mp4_frame::{ByteCursor, Error, Result, test, u32_at};
+use mp4_frame::{ByteCursor, Error, Result, check, u32_at};
 use std::alloc::Global;
 
 /// The rows of `E` bytes from `at` on, as many as counted, for which a box of this size has room. `too_many` is
@@ -23,7 +23,7 @@ pub(crate) fn read_rows<'a, const E: usize>(
     ensures { AnswersAs (λ rows. rows.now) result (rows_within bytes.now size at E count) }
 {
     let count = u64::from(count);
-    test(count * E as u64 <= size.saturating_sub(at), too_many)?;
+    check(count * E as u64 <= size.saturating_sub(at), too_many)?;
     let mut reader = ByteCursor::new(bytes);
     reader.set_position(at);
     reader.take_rows::<E>(count)

@@ -3,9 +3,9 @@
 ghost use Rattle.std.specs.Prelude.{◌≡◌, ◌↔◌, ◌<◌, ◌-◌, ◌%◌, ◌^◌, [], All, IsTrue, IfOk, IfErr, OnOk, map, min, refl};
 ghost use Rattle.mp4_frame.specs.Written.{WriteRefuses};
 ghost use Rattle.mp4_frame.specs.declared.box_type.BoxType.TheVariants as names;
-ghost use Rattle.mp4_frame.proofs.Framing.{settled};
+ghost use Rattle.mp4_frame.proofs.Framing.{own_normal_form};
 ghost use Rattle.mp4_tables.specs.Stco.{made_stco, reads_stco, size_stco, WritableStco, bytes_stco, normal_stco};
-ghost use Rattle.mp4_tables.specs.StcoLaws.{framed_stco, read_back_stco, sound_stco};
+ghost use Rattle.mp4_tables.specs.StcoLaws.{header_stco, read_back_stco, sound_stco};
 
 use crate::co64::Co64Box;
 use crate::rows::numbers_of;
@@ -127,7 +127,7 @@ impl ReadBox for StcoBox {
     ghost reads = { reads_stco };
 
     #[tactic(auto, unfolding(crate::specs::Stco::reads_stco))]
-    fn read_row(alloc: Global, bytes: &[u8], _start: u64, size: u64) -> Result<StcoBox> {
+    fn read_content(alloc: Global, bytes: &[u8], _start: u64, size: u64) -> Result<StcoBox> {
         let (version, flags, rows) = read_table::<4>(
             bytes,
             size,
@@ -158,9 +158,9 @@ impl WriteBox for StcoBox {
     }
 
     #[tactic(auto, unfolding(crate::specs::Stco::bytes_stco))]
-    fn put_box(&self, place: &mut [u8]) {
+    fn put_box(&self, out: &mut [u8]) {
         put_table(
-            place,
+            out,
             0x7374_636f,
             self.version,
             self.flags,
@@ -168,9 +168,9 @@ impl WriteBox for StcoBox {
         );
     }
 
-    ghost framed = { framed_stco };
+    ghost header = { header_stco };
 
-    ghost normal_form = { λ v w. settled v refl w };
+    ghost normal_form = { λ v w. own_normal_form v refl w };
 }
 
 impl BoxLaws for StcoBox {

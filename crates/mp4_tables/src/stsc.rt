@@ -6,7 +6,7 @@ ghost use Rattle.mp4_frame.specs.declared.box_type.BoxType.TheVariants as names;
 ghost use Rattle.mp4_tables.specs.Chunks.{chunks_fit, numbered, next_sample as sample_after};
 ghost use Rattle.mp4_tables.specs.Stsc.{reads_stsc, size_stsc, WritableStsc, bytes_stsc, normal_stsc};
 ghost use Rattle.mp4_tables.specs.StscEntry.{entry_stsc};
-ghost use Rattle.mp4_tables.specs.StscLaws.{framed_stsc, normal_form_stsc, read_back_stsc, sound_stsc};
+ghost use Rattle.mp4_tables.specs.StscLaws.{header_stsc, normal_form_stsc, read_back_stsc, sound_stsc};
 
 use crate::stsc_entry::StscEntry;
 use mp4_frame::{
@@ -164,7 +164,7 @@ impl ReadBox for StscBox {
     ghost reads = { reads_stsc };
 
     #[tactic(auto, unfolding(crate::specs::Stsc::reads_stsc))]
-    fn read_row(alloc: Global, bytes: &[u8], _start: u64, size: u64) -> Result<StscBox> {
+    fn read_content(alloc: Global, bytes: &[u8], _start: u64, size: u64) -> Result<StscBox> {
         let (version, flags, rows) = read_table::<12>(
             bytes,
             size,
@@ -197,9 +197,9 @@ impl WriteBox for StscBox {
     }
 
     #[tactic(auto, unfolding(crate::specs::Stsc::bytes_stsc))]
-    fn put_box(&self, place: &mut [u8]) {
+    fn put_box(&self, out: &mut [u8]) {
         put_table(
-            place,
+            out,
             0x7374_7363,
             self.version,
             self.flags,
@@ -207,7 +207,7 @@ impl WriteBox for StscBox {
         );
     }
 
-    ghost framed = { framed_stsc };
+    ghost header = { header_stsc };
 
     ghost normal_form = { normal_form_stsc };
 }

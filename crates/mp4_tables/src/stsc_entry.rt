@@ -32,7 +32,7 @@ impl TableEntry<12> for StscEntry {
 
     ghost Fits = { FitsStscEntry };
 
-    #[tactic(auto, unfolding(mp4_frame::specs::Bytes::joined, mp4_frame::specs::Bytes::joined_onto))]
+    #[tactic(auto, unfolding(mp4_frame::specs::Bytes::bytes_of_fields, mp4_frame::specs::Bytes::bytes_of_fields_onto))]
     fn to_row(&self) -> [u8; 12] {
         let mut row = [0; 12];
         let at = put_u32(&mut row, 0, self.first_chunk);

@@ -2,9 +2,9 @@
 
 ghost use Rattle.std.specs.Prelude.{◌≡◌, ◌-◌, ◌^◌, [], IfOk, IfErr, min, refl};
 ghost use Rattle.mp4_frame.specs.declared.box_type.BoxType.TheVariants as names;
-ghost use Rattle.mp4_frame.proofs.Framing.{settled};
+ghost use Rattle.mp4_frame.proofs.Framing.{own_normal_form};
 ghost use Rattle.mp4_tables.specs.Stss.{reads_stss, size_stss, WritableStss, bytes_stss, normal_stss};
-ghost use Rattle.mp4_tables.specs.StssLaws.{framed_stss, read_back_stss, sound_stss};
+ghost use Rattle.mp4_tables.specs.StssLaws.{header_stss, read_back_stss, sound_stss};
 
 use crate::rows::numbers_of;
 use mp4_frame::{
@@ -82,7 +82,7 @@ impl ReadBox for StssBox {
     ghost reads = { reads_stss };
 
     #[tactic(auto, unfolding(crate::specs::Stss::reads_stss))]
-    fn read_row(alloc: Global, bytes: &[u8], _start: u64, size: u64) -> Result<StssBox> {
+    fn read_content(alloc: Global, bytes: &[u8], _start: u64, size: u64) -> Result<StssBox> {
         let (version, flags, rows) = read_table::<4>(
             bytes,
             size,
@@ -113,9 +113,9 @@ impl WriteBox for StssBox {
     }
 
     #[tactic(auto, unfolding(crate::specs::Stss::bytes_stss))]
-    fn put_box(&self, place: &mut [u8]) {
+    fn put_box(&self, out: &mut [u8]) {
         put_table(
-            place,
+            out,
             0x7374_7373,
             self.version,
             self.flags,
@@ -123,9 +123,9 @@ impl WriteBox for StssBox {
         );
     }
 
-    ghost framed = { framed_stss };
+    ghost header = { header_stss };
 
-    ghost normal_form = { λ v w. settled v refl w };
+    ghost normal_form = { λ v w. own_normal_form v refl w };
 }
 
 impl BoxLaws for StssBox {

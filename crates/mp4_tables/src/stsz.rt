@@ -3,13 +3,13 @@
 ghost use Rattle.std.specs.Prelude.{◌≡◌, ◌-◌, ◌^◌, [], IfOk, IfErr, min, refl};
 ghost use Rattle.mp4_frame.specs.Reading.{AnswersAs};
 ghost use Rattle.mp4_frame.specs.declared.box_type.BoxType.TheVariants as names;
-ghost use Rattle.mp4_frame.proofs.Framing.{settled};
+ghost use Rattle.mp4_frame.proofs.Framing.{own_normal_form};
 ghost use Rattle.mp4_tables.specs.Stsz.{reads_sizes, count_of_sizes, reads_stsz, size_stsz, WritableStsz, bytes_stsz, normal_stsz};
-ghost use Rattle.mp4_tables.specs.StszLaws.{framed_stsz, read_back_stsz, sound_stsz};
+ghost use Rattle.mp4_tables.specs.StszLaws.{header_stsz, read_back_stsz, sound_stsz};
 
 use crate::rows::{numbers_of, read_rows};
 use mp4_frame::{
-    BoxLaws, BoxType, Entries, Error, Mp4Box, ReadBox, Result, WriteBox, all_fit, fields,
+    BoxLaws, BoxType, Entries, Error, Mp4Box, ReadBox, Result, WriteBox, all_fit, expect_bytes,
     put_entries, put_full_box, put_u32, u8_at, u24_at, u32_at,
 };
 use std::alloc::Global;
@@ -118,8 +118,8 @@ impl ReadBox for StszBox {
     ghost reads = { reads_stsz };
 
     #[tactic(auto, unfolding(crate::specs::Stsz::reads_stsz))]
-    fn read_row(alloc: Global, bytes: &[u8], _start: u64, size: u64) -> Result<StszBox> {
-        fields(bytes, 8, 12)?;
+    fn read_content(alloc: Global, bytes: &[u8], _start: u64, size: u64) -> Result<StszBox> {
+        expect_bytes(bytes, 8, 12)?;
         let sample_size = u32_at(bytes, 12);
         let sample_count = u32_at(bytes, 16);
         let sample_sizes = if sample_size == 0 {
@@ -152,18 +152,18 @@ impl WriteBox for StszBox {
             && all_fit(self.sample_sizes.as_slice())
     }
 
-    #[tactic(auto, unfolding(crate::specs::Stsz::bytes_stsz, mp4_frame::specs::Bytes::joined, mp4_frame::specs::Bytes::joined_onto))]
-    fn put_box(&self, place: &mut [u8]) {
+    #[tactic(auto, unfolding(crate::specs::Stsz::bytes_stsz, mp4_frame::specs::Bytes::bytes_of_fields, mp4_frame::specs::Bytes::bytes_of_fields_onto))]
+    fn put_box(&self, out: &mut [u8]) {
         let size = self.box_size() as u32;
-        let at = put_full_box(place, size, 0x7374_737a, self.version, self.flags);
-        let at = put_u32(place, at, self.sample_size);
-        let at = put_u32(place, at, self.sample_count);
-        put_entries(place, at, self.sample_sizes.as_slice());
+        let at = put_full_box(out, size, 0x7374_737a, self.version, self.flags);
+        let at = put_u32(out, at, self.sample_size);
+        let at = put_u32(out, at, self.sample_count);
+        put_entries(out, at, self.sample_sizes.as_slice());
     }
 
-    ghost framed = { framed_stsz };
+    ghost header = { header_stsz };
 
-    ghost normal_form = { λ v w. settled v refl w };
+    ghost normal_form = { λ v w. own_normal_form v refl w };
 }
 
 impl BoxLaws for StszBox {

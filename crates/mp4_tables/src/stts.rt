@@ -2,10 +2,10 @@
 
 ghost use Rattle.std.specs.Prelude.{◌≡◌, ◌-◌, ◌^◌, [], IfOk, IfErr, map, min, refl};
 ghost use Rattle.mp4_frame.specs.declared.box_type.BoxType.TheVariants as names;
-ghost use Rattle.mp4_frame.proofs.Framing.{settled};
+ghost use Rattle.mp4_frame.proofs.Framing.{own_normal_form};
 ghost use Rattle.mp4_tables.specs.Stts.{reads_stts, size_stts, WritableStts, bytes_stts, normal_stts};
 ghost use Rattle.mp4_tables.specs.SttsEntry.{entry_stts};
-ghost use Rattle.mp4_tables.specs.SttsLaws.{framed_stts, read_back_stts, sound_stts};
+ghost use Rattle.mp4_tables.specs.SttsLaws.{header_stts, read_back_stts, sound_stts};
 
 use crate::stts_entry::SttsEntry;
 use mp4_frame::{
@@ -102,7 +102,7 @@ impl ReadBox for SttsBox {
     ghost reads = { reads_stts };
 
     #[tactic(auto, unfolding(crate::specs::Stts::reads_stts))]
-    fn read_row(alloc: Global, bytes: &[u8], _start: u64, size: u64) -> Result<SttsBox> {
+    fn read_content(alloc: Global, bytes: &[u8], _start: u64, size: u64) -> Result<SttsBox> {
         let (version, flags, rows) = read_table::<8>(
             bytes,
             size,
@@ -133,9 +133,9 @@ impl WriteBox for SttsBox {
     }
 
     #[tactic(auto, unfolding(crate::specs::Stts::bytes_stts))]
-    fn put_box(&self, place: &mut [u8]) {
+    fn put_box(&self, out: &mut [u8]) {
         put_table(
-            place,
+            out,
             0x7374_7473,
             self.version,
             self.flags,
@@ -143,9 +143,9 @@ impl WriteBox for SttsBox {
         );
     }
 
-    ghost framed = { framed_stts };
+    ghost header = { header_stts };
 
-    ghost normal_form = { λ v w. settled v refl w };
+    ghost normal_form = { λ v w. own_normal_form v refl w };
 }
 
 impl BoxLaws for SttsBox {

@@ -27,7 +27,7 @@ impl TableEntry<8> for SttsEntry {
 
     ghost Fits = { FitsSttsEntry };
 
-    #[tactic(auto, unfolding(mp4_frame::specs::Bytes::joined, mp4_frame::specs::Bytes::joined_onto))]
+    #[tactic(auto, unfolding(mp4_frame::specs::Bytes::bytes_of_fields, mp4_frame::specs::Bytes::bytes_of_fields_onto))]
     fn to_row(&self) -> [u8; 8] {
         let mut row = [0; 8];
         let at = put_u32(&mut row, 0, self.sample_count);

@@ -170,7 +170,7 @@ impl WriteBox for TfhdBox {
         put_optional_u32(place, at, self.default_sample_flags);
     }
 
-    ghost framed = { framed_tfhd };
+    ghost header = { header_tfhd };
 
     ghost normal_form = { λ v w. settled v refl w };
 }

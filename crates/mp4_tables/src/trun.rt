@@ -252,7 +252,7 @@ impl WriteBox for TrunBox {
         put_rows(place, at, self);
     }
 
-    ghost framed = { framed_trun };
+    ghost header = { header_trun };
 
     ghost normal_form = { λ v w. settled v refl w };
 }

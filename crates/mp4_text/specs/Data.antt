@@ -1,8 +1,8 @@
 -- data, the value of a metadata item (QuickTime's metadata, "Data atom"): the number of a data type of 4 bytes at
 -- 8, 4 reserved bytes at 12, and the bytes of the value from 16 to the end.
 use Rattle.std.specs.Prelude.{ℕ, ◌+◌, ◌-◌, nat_le, List, [], ◌∷◌, ◌++◌, length, Option, Some, None}
-use Rattle.mp4_frame.specs.Bytes.{number, joined, Fit}
-use Rattle.mp4_frame.specs.Reading.{Reading, Invalid, ◌>>=◌, fields, test, piece_from, memory, done, faults}
+use Rattle.mp4_frame.specs.Bytes.{number, bytes_of_fields, FieldsFit}
+use Rattle.mp4_frame.specs.Reading.{Reading, Invalid, ◌>>=◌, expect_bytes, check, piece_from, memory, done, faults}
 use Rattle.mp4_media.specs.DataType.{data_type_of, number_data_type}
 use Rattle.mp4_media.specs.declared.data_type.DataType.{DataType}
 use Rattle.mp4_text.specs.declared.data.DataBox.{DataBox}
@@ -14,10 +14,10 @@ known_type None = faults Invalid
 
 unfoldable pub reads_data : List ℕ → ℕ → ℕ → Reading DataBox
 reads_data bytes start size = do
-  _ ← fields bytes 8 4
+  _ ← expect_bytes bytes 8 4
   data_type ← known_type (data_type_of (number bytes 8 4))
-  _ ← fields bytes 12 4
-  _ ← test (nat_le 16 size)
+  _ ← expect_bytes bytes 12 4
+  _ ← check (nat_le 16 size)
   data_bytes ← piece_from bytes 16 (size - 16)
   _ ← memory
   done (record { data_bytes = data_bytes; data_type = data_type })
@@ -25,15 +25,15 @@ reads_data bytes start size = do
 abbrev pub size_data : DataBox → ℕ
 size_data v = 16 + length v.data_bytes
 
-abbrev pub columns_data : DataBox → List (ℕ × ℕ)
-columns_data v = (4, size_data v) ∷ (4, 0x64617461) ∷ (4, number_data_type v.data_type) ∷ (4, 0) ∷ []
+abbrev pub fields_data : DataBox → List (ℕ × ℕ)
+fields_data v = (4, size_data v) ∷ (4, 0x64617461) ∷ (4, number_data_type v.data_type) ∷ (4, 0) ∷ []
 
 -- every number fits its bytes
 abbrev pub WritableData : DataBox → Type 0
-WritableData v = Fit (columns_data v)
+WritableData v = FieldsFit (fields_data v)
 
 unfoldable pub bytes_data : DataBox → List ℕ
-bytes_data v = joined (columns_data v) ++ v.data_bytes
+bytes_data v = bytes_of_fields (fields_data v) ++ v.data_bytes
 
 abbrev pub normal_data : DataBox → DataBox
 normal_data v = v

@@ -1,6 +1,6 @@
 -- dinf, the box of the data references (ISO/IEC 14496-12, 8.7.1): boxes from 8 on, of which the last dref is kept.
 use Rattle.std.specs.Prelude.{ℕ, ◌+◌, List, [], ◌∷◌, ◌++◌, Option, Some, None}
-use Rattle.mp4_frame.specs.Bytes.{joined, Fit}
+use Rattle.mp4_frame.specs.Bytes.{bytes_of_fields, FieldsFit}
 use Rattle.mp4_frame.specs.Children.{children}
 use Rattle.mp4_frame.specs.Reading.{Reading, NotFound, ◌>>=◌, done, faults}
 use Rattle.mp4_text.specs.Dref.{reads_dref, size_dref, WritableDref, bytes_dref, normal_dref}
@@ -21,16 +21,16 @@ reads_dinf bytes start size = do
 abbrev pub size_dinf : DinfBox → ℕ
 size_dinf v = 8 + size_dref v.dref
 
-abbrev pub columns_dinf : DinfBox → List (ℕ × ℕ)
-columns_dinf v = (4, size_dinf v) ∷ (4, 0x64696e66) ∷ []
+abbrev pub fields_dinf : DinfBox → List (ℕ × ℕ)
+fields_dinf v = (4, size_dinf v) ∷ (4, 0x64696e66) ∷ []
 
 -- the size fits its bytes, and the references can be written
 pub record WritableDinf (v : DinfBox) : Type 0 where
-  pub fit : Fit (columns_dinf v)
+  pub fit : FieldsFit (fields_dinf v)
   pub dref : WritableDref v.dref
 
 unfoldable pub bytes_dinf : DinfBox → List ℕ
-bytes_dinf v = joined (columns_dinf v) ++ bytes_dref v.dref
+bytes_dinf v = bytes_of_fields (fields_dinf v) ++ bytes_dref v.dref
 
 abbrev pub normal_dinf : DinfBox → DinfBox
 normal_dinf v = record { dref = normal_dref v.dref }

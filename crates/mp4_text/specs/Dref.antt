@@ -1,37 +1,37 @@
 -- dref, the data references (ISO/IEC 14496-12, 8.7.2): version of 1 byte at 8, flags of 3 at 9, a count of 4 at
 -- 12, and from 16 on at most that many boxes, of which the last url is the entry. Written: 1 and the entry, or 0.
 use Rattle.std.specs.Prelude.{ℕ, ◌+◌, List, [], ◌∷◌, ◌++◌, Option}
-use Rattle.mp4_frame.specs.Bytes.{number, joined, Fit, full_box}
+use Rattle.mp4_frame.specs.Bytes.{number, bytes_of_fields, FieldsFit, full_box}
 use Rattle.mp4_frame.specs.Children.{children}
-use Rattle.mp4_frame.specs.Reading.{Reading, ◌>>=◌, fields, done}
+use Rattle.mp4_frame.specs.Reading.{Reading, ◌>>=◌, expect_bytes, done}
 use Rattle.mp4_frame.specs.OptionalChild.{count_optional, size_optional, WritableOptional, bytes_optional, normal_optional}
 use Rattle.mp4_text.specs.Url.{reads_url, size_url, WritableUrl, bytes_url, normal_url}
 use Rattle.mp4_text.specs.declared.dref.DrefBox.{DrefBox}
 use Rattle.mp4_text.specs.declared.url.UrlBox.{UrlBox}
 
--- the value, by the number of w bytes at o, and its entry
+-- the value, where `at o w` is the number of w bytes at offset o, and its entry
 abbrev pub value_dref : (ℕ → ℕ → ℕ) → Option UrlBox → DrefBox
-value_dref n url = record { version = n 8 1; flags = n 9 3; url = url }
+value_dref at url = record { version = at 8 1; flags = at 9 3; url = url }
 
 unfoldable pub reads_dref : List ℕ → ℕ → ℕ → Reading DrefBox
 reads_dref bytes start size = do
-  _ ← fields bytes 8 8
+  _ ← expect_bytes bytes 8 8
   url ← children reads_url 0x75726c20 bytes start size (number bytes 12 4) 16
   done (value_dref (number bytes) url)
 
 abbrev pub size_dref : DrefBox → ℕ
 size_dref v = 16 + size_optional size_url v.url
 
-abbrev pub columns_dref : DrefBox → List (ℕ × ℕ)
-columns_dref v = full_box (size_dref v) 0x64726566 v.version v.flags ++ (4, count_optional v.url) ∷ []
+abbrev pub fields_dref : DrefBox → List (ℕ × ℕ)
+fields_dref v = full_box (size_dref v) 0x64726566 v.version v.flags ++ (4, count_optional v.url) ∷ []
 
 -- every number fits its bytes, and the entry can be written
 pub record WritableDref (v : DrefBox) : Type 0 where
-  pub fit : Fit (columns_dref v)
+  pub fit : FieldsFit (fields_dref v)
   pub entry : WritableOptional WritableUrl v.url
 
 unfoldable pub bytes_dref : DrefBox → List ℕ
-bytes_dref v = joined (columns_dref v) ++ bytes_optional bytes_url v.url
+bytes_dref v = bytes_of_fields (fields_dref v) ++ bytes_optional bytes_url v.url
 
 abbrev pub normal_dref : DrefBox → DrefBox
 normal_dref v = record v { url = normal_optional normal_url v.url }

@@ -1,39 +1,39 @@
 -- emsg, an event message (ISO/IEC 23009-1, 5.10.3.3): version of 1 byte at 8, which is 0 or 1, and flags of 3 at 9.
 -- Version 0 has two texts from 12 on and then the numbers timescale, time delta, event duration and id, of 4 bytes
--- each; version 1 has the numbers at 12, with a time of 8 bytes, and the texts from 32 on. Behind them the message
+-- each; version 1 has the numbers at 12, with a time of 8 bytes, and the texts from 32 on. After them the message
 -- goes up to the end.
 use Rattle.std.specs.Prelude.{◌≡◌, ℕ, ◌+◌, ◌-◌, ◌==◌, ◌&&◌, nat_le, Bool, true, List, [], ◌∷◌, ◌++◌, length, drop, Some, None, is_some, unwrap_or, if◌then◌else◌}
-use Rattle.mp4_frame.specs.Bytes.{number, joined, Fit, full_box}
-use Rattle.mp4_frame.specs.Reading.{Reading, Invalid, ◌>>=◌, fields, test, piece_from, memory, done, faults}
+use Rattle.mp4_frame.specs.Bytes.{number, bytes_of_fields, FieldsFit, full_box}
+use Rattle.mp4_frame.specs.Reading.{Reading, Invalid, ◌>>=◌, expect_bytes, check, piece_from, memory, done, faults}
 use Rattle.mp4_text.specs.Terminated.{two_texts, behind, terminated, IsTerminable}
 use Rattle.mp4_text.specs.declared.emsg.EmsgBox.{EmsgBox}
 
 -- the message from o on, in a box of this size
 unfoldable pub message_from : List ℕ → ℕ → ℕ → Reading (List ℕ)
 message_from bytes size o = do
-  _ ← test (nat_le o size)
+  _ ← check (nat_le o size)
   message ← piece_from bytes o (size - o)
   _ ← memory
   done message
 
--- the value in version 0, by the number of w bytes at o of the box and of the numbers
+-- the value in version 0, where `at o w` is the number of w bytes at offset o of the box and of the numbers
 abbrev pub value_emsg_0 : (ℕ → ℕ → ℕ) → (ℕ → ℕ → ℕ) → List ℕ × List ℕ → List ℕ → EmsgBox
-value_emsg_0 n numbers texts message = record { version = n 8 1; flags = n 9 3; timescale = numbers 0 4; presentation_time = None; presentation_time_delta = Some (numbers 4 4); event_duration = numbers 8 4; id = numbers 12 4; scheme_id_uri = texts.0; value = texts.1; message_data = message }
+value_emsg_0 at numbers texts message = record { version = at 8 1; flags = at 9 3; timescale = numbers 0 4; presentation_time = None; presentation_time_delta = Some (numbers 4 4); event_duration = numbers 8 4; id = numbers 12 4; scheme_id_uri = texts.0; value = texts.1; message_data = message }
 
 -- the value in version 1
 abbrev pub value_emsg_1 : (ℕ → ℕ → ℕ) → (ℕ → ℕ → ℕ) → List ℕ × List ℕ → List ℕ → EmsgBox
-value_emsg_1 n numbers texts message = record { version = n 8 1; flags = n 9 3; timescale = numbers 0 4; presentation_time = Some (numbers 4 8); presentation_time_delta = None; event_duration = numbers 12 4; id = numbers 16 4; scheme_id_uri = texts.0; value = texts.1; message_data = message }
+value_emsg_1 at numbers texts message = record { version = at 8 1; flags = at 9 3; timescale = numbers 0 4; presentation_time = Some (numbers 4 8); presentation_time_delta = None; event_duration = numbers 12 4; id = numbers 16 4; scheme_id_uri = texts.0; value = texts.1; message_data = message }
 
 unfoldable pub reads_emsg_0 : List ℕ → ℕ → Reading EmsgBox
 reads_emsg_0 bytes size = do
   texts ← two_texts bytes 12
-  _ ← fields bytes (behind 12 texts) 16
+  _ ← expect_bytes bytes (behind 12 texts) 16
   message ← message_from bytes size (behind 12 texts + 16)
   done (value_emsg_0 (number bytes) (number (drop (behind 12 texts) bytes)) texts message)
 
 unfoldable pub reads_emsg_1 : List ℕ → ℕ → Reading EmsgBox
 reads_emsg_1 bytes size = do
-  _ ← fields bytes 12 20
+  _ ← expect_bytes bytes 12 20
   texts ← two_texts bytes 32
   message ← message_from bytes size (behind 32 texts)
   done (value_emsg_1 (number bytes) (number (drop 12 bytes)) texts message)
@@ -45,7 +45,7 @@ reads_emsg_version version bytes size =
 
 unfoldable pub reads_emsg : List ℕ → ℕ → ℕ → Reading EmsgBox
 reads_emsg bytes start size = do
-  _ ← fields bytes 8 4
+  _ ← expect_bytes bytes 8 4
   reads_emsg_version (number bytes 8 1) bytes size
 
 -- the bytes of the numbers and of the texts with their zero bytes; a version past 1 counts as version 1
@@ -55,8 +55,8 @@ size_middle v = (if v.version == 0 then 18 else 22) + length v.scheme_id_uri + l
 abbrev pub size_emsg : EmsgBox → ℕ
 size_emsg v = 12 + size_middle v + length v.message_data
 
-abbrev pub columns_emsg : EmsgBox → List (ℕ × ℕ)
-columns_emsg v = full_box (size_emsg v) 0x656d7367 v.version v.flags
+abbrev pub fields_emsg : EmsgBox → List (ℕ × ℕ)
+fields_emsg v = full_box (size_emsg v) 0x656d7367 v.version v.flags
 
 abbrev pub numbers_emsg_0 : EmsgBox → List (ℕ × ℕ)
 numbers_emsg_0 v = (4, v.timescale) ∷ (4, unwrap_or v.presentation_time_delta 0) ∷ (4, v.event_duration) ∷ (4, v.id) ∷ []
@@ -69,7 +69,7 @@ texts_emsg v = terminated v.scheme_id_uri ++ terminated v.value
 
 -- the numbers and the texts, in the order of the version
 abbrev pub middle_emsg : EmsgBox → List ℕ
-middle_emsg v = if v.version == 0 then texts_emsg v ++ joined (numbers_emsg_0 v) else joined (numbers_emsg_1 v) ++ texts_emsg v
+middle_emsg v = if v.version == 0 then texts_emsg v ++ bytes_of_fields (numbers_emsg_0 v) else bytes_of_fields (numbers_emsg_1 v) ++ texts_emsg v
 
 -- the version is 0 or 1, and its time is there
 abbrev pub has_time : EmsgBox → Bool
@@ -77,15 +77,15 @@ has_time v = if v.version == 0 then is_some v.presentation_time_delta else (v.ve
 
 -- every number fits its bytes, the version has its time, and zero bytes can end the texts
 pub record WritableEmsg (v : EmsgBox) : Type 0 where
-  pub fit : Fit (columns_emsg v)
-  pub fit_0 : Fit (numbers_emsg_0 v)
-  pub fit_1 : Fit (numbers_emsg_1 v)
+  pub fit : FieldsFit (fields_emsg v)
+  pub fit_0 : FieldsFit (numbers_emsg_0 v)
+  pub fit_1 : FieldsFit (numbers_emsg_1 v)
   pub time : has_time v ≡ true
   pub scheme : IsTerminable v.scheme_id_uri
   pub value : IsTerminable v.value
 
 unfoldable pub bytes_emsg : EmsgBox → List ℕ
-bytes_emsg v = joined (columns_emsg v) ++ (middle_emsg v ++ v.message_data)
+bytes_emsg v = bytes_of_fields (fields_emsg v) ++ (middle_emsg v ++ v.message_data)
 
 -- without the time of the other version
 abbrev pub normal_emsg : EmsgBox → EmsgBox

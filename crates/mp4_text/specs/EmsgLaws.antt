@@ -3,16 +3,16 @@ use Rattle.std.proofs.Common.{◌≡◌, ℕ, ◌+◌, ◌-◌, ◌<◌, ◌^◌
 use Rattle.std.proofs.lemmas.Bool.{le-leb, and_parts}
 use Rattle.std.proofs.lemmas.List.{drop_at}
 use Rattle.std.specs.Prelude.{◌==◌, nat_le, is_some, unwrap_or}
-use Rattle.mp4_frame.specs.Bytes.{number, joined}
-use Rattle.mp4_frame.specs.Laws.{Framed, Normal, RowReadsBack, RowIsSound, AreBytes}
-use Rattle.mp4_frame.specs.Reading.{Reading, Fault, Invalid, ◌>>=◌, fields, done, faults}
+use Rattle.mp4_frame.specs.Bytes.{number, bytes_of_fields}
+use Rattle.mp4_frame.specs.Laws.{BeginsWithHeader, Normal, ContentReadsBack, ContentIsSound, AreBytes}
+use Rattle.mp4_frame.specs.Reading.{Reading, Fault, Invalid, ◌>>=◌, expect_bytes, done, faults}
 use Rattle.mp4_frame.specs.declared.box_type.BoxType.TheVariants as names
-use Rattle.mp4_frame.proofs.Framing.{framed_front, fits_read, Number, Fitting}
-use Rattle.mp4_frame.proofs.Columns.{found, numbers-joined, fields-joined, length-joined, number-joined}
+use Rattle.mp4_frame.proofs.Framing.{header_in_front, fits_read, Number, Fitting}
+use Rattle.mp4_frame.proofs.Fields.{found, numbers-fields, expect_bytes-fields, length-fields, number-fields}
 use Rattle.mp4_frame.proofs.Decided.{outcome_bind}
-use Rattle.mp4_frame.proofs.Stands.{fields_stand, fields_ok, is_value, are_bytes-drop, piece_back}
+use Rattle.mp4_frame.proofs.Checks.{expect_bytes_present, expect_bytes_ok, is_value, are_bytes-drop, piece_back}
 use Rattle.mp4_frame.proofs.Tables.{value_first}
-use Rattle.mp4_text.specs.Emsg.{message_from, value_emsg_0, value_emsg_1, reads_emsg_0, reads_emsg_1, reads_emsg_version, reads_emsg, size_middle, size_emsg, columns_emsg, numbers_emsg_0, numbers_emsg_1, texts_emsg, middle_emsg, WritableEmsg, bytes_emsg, normal_emsg}
+use Rattle.mp4_text.specs.Emsg.{message_from, value_emsg_0, value_emsg_1, reads_emsg_0, reads_emsg_1, reads_emsg_version, reads_emsg, size_middle, size_emsg, fields_emsg, numbers_emsg_0, numbers_emsg_1, texts_emsg, middle_emsg, WritableEmsg, bytes_emsg, normal_emsg}
 use Rattle.mp4_text.specs.Terminated.{two_texts, behind, terminated}
 use Rattle.mp4_text.specs.TerminatedLaws.{taken, two_back, texts_are}
 use Rattle.mp4_text.specs.declared.emsg.EmsgBox.{EmsgBox}
@@ -20,15 +20,15 @@ use Rattle.mp4_text.specs.declared.emsg.EmsgBox.{EmsgBox}
 length_texts : (v : EmsgBox) → length (texts_emsg v) ≡ length v.scheme_id_uri + length v.value + 2
 length_texts v = omega (arith, length-append (terminated v.scheme_id_uri) (terminated v.value), length-append v.scheme_id_uri (0 ∷ []), length-append v.value (0 ∷ []))
 
-length_by : (v : EmsgBox) (b : Bool) → length (cond b (texts_emsg v ++ joined (numbers_emsg_0 v)) (joined (numbers_emsg_1 v) ++ texts_emsg v)) ≡ cond b 18 22 + length v.scheme_id_uri + length v.value
-length_by v true = omega (arith, length-append (texts_emsg v) (joined (numbers_emsg_0 v)), length_texts v, length-joined (numbers_emsg_0 v))
-length_by v false = omega (arith, length-append (joined (numbers_emsg_1 v)) (texts_emsg v), length_texts v, length-joined (numbers_emsg_1 v))
+length_by : (v : EmsgBox) (b : Bool) → length (cond b (texts_emsg v ++ bytes_of_fields (numbers_emsg_0 v)) (bytes_of_fields (numbers_emsg_1 v) ++ texts_emsg v)) ≡ cond b 18 22 + length v.scheme_id_uri + length v.value
+length_by v true = omega (arith, length-append (texts_emsg v) (bytes_of_fields (numbers_emsg_0 v)), length_texts v, length-fields (numbers_emsg_0 v))
+length_by v false = omega (arith, length-append (bytes_of_fields (numbers_emsg_1 v)) (texts_emsg v), length_texts v, length-fields (numbers_emsg_1 v))
 
-pub framed_emsg : (v : EmsgBox) → WritableEmsg v → Framed (size_emsg v) names.EmsgBox (bytes_emsg v)
+pub header_emsg : (v : EmsgBox) → WritableEmsg v → BeginsWithHeader (size_emsg v) names.EmsgBox (bytes_emsg v)
 unfolding bytes_emsg
-framed_emsg v w =
+header_emsg v w =
     let middle : length (middle_emsg v) ≡ size_middle v = length_by v (v.version == 0) in
-    framed_front _ (middle_emsg v ++ v.message_data) w.fit (omega (arith, length-append (middle_emsg v) v.message_data, middle))
+    header_in_front _ (middle_emsg v ++ v.message_data) w.fit (omega (arith, length-append (middle_emsg v) v.message_data, middle))
 
 abbrev normal_emsg_0 : EmsgBox → EmsgBox
 normal_emsg_0 v = record v { presentation_time = None }
@@ -45,7 +45,7 @@ is_normal v n is w again same = record { writable = subst WritableEmsg (sym is) 
 
 -- the bytes by the version, with the time of each version from a value of its own
 abbrev written : EmsgBox → EmsgBox → EmsgBox → Bool → List ℕ
-written v v0 v1 b = joined (columns_emsg v) ++ (cond b (texts_emsg v ++ joined (numbers_emsg_0 v0)) (joined (numbers_emsg_1 v1) ++ texts_emsg v) ++ v.message_data)
+written v v0 v1 b = bytes_of_fields (fields_emsg v) ++ (cond b (texts_emsg v ++ bytes_of_fields (numbers_emsg_0 v0)) (bytes_of_fields (numbers_emsg_1 v1) ++ texts_emsg v) ++ v.message_data)
 
 normal_by : (v : EmsgBox) (b : Bool) → (v.version == 0) ≡ b → WritableEmsg v → Normal WritableEmsg bytes_emsg normal_emsg v
 unfolding bytes_emsg
@@ -92,78 +92,78 @@ some_is (Some t) e = refl
 some_is None e = absurd cc
 
 back_0 : (v : EmsgBox) (rest : List ℕ) → WritableEmsg v → (v.version == 0) ≡ true
-    → (reads_emsg_0 (joined (columns_emsg v) ++ (texts_emsg v ++ (joined (numbers_emsg_0 v) ++ (v.message_data ++ rest)))) (size_emsg v)).outcome ≡ Ok (normal_emsg_0 v)
+    → (reads_emsg_0 (bytes_of_fields (fields_emsg v) ++ (texts_emsg v ++ (bytes_of_fields (numbers_emsg_0 v) ++ (v.message_data ++ rest)))) (size_emsg v)).outcome ≡ Ok (normal_emsg_0 v)
 unfolding reads_emsg_0
 back_0 v rest w e =
-    let cs = columns_emsg v in
+    let cs = fields_emsg v in
     let ns = numbers_emsg_0 v in
     let texts : List ℕ × List ℕ = (v.scheme_id_uri, v.value) in
     let at = behind 12 texts in
     let tail = v.message_data ++ rest in
-    let B = joined cs ++ (texts_emsg v ++ (joined ns ++ tail)) in
-    let front = joined cs ++ texts_emsg v in
-    let long : length front ≡ at = omega (arith, length-append (joined cs) (texts_emsg v), length-joined cs, length_texts v) in
-    let behind_numbers : length (front ++ joined ns) ≡ at + 16 = omega (arith, length-append front (joined ns), length-joined ns, long) in
-    let split : B ≡ front ++ (joined ns ++ tail) = simp append_assoc in
-    let split_more : B ≡ (front ++ joined ns) ++ (v.message_data ++ rest) = simp append_assoc in
+    let B = bytes_of_fields cs ++ (texts_emsg v ++ (bytes_of_fields ns ++ tail)) in
+    let front = bytes_of_fields cs ++ texts_emsg v in
+    let long : length front ≡ at = omega (arith, length-append (bytes_of_fields cs) (texts_emsg v), length-fields cs, length_texts v) in
+    let behind_numbers : length (front ++ bytes_of_fields ns) ≡ at + 16 = omega (arith, length-append front (bytes_of_fields ns), length-fields ns, long) in
+    let split : B ≡ front ++ (bytes_of_fields ns ++ tail) = simp append_assoc in
+    let split_more : B ≡ (front ++ bytes_of_fields ns) ++ (v.message_data ++ rest) = simp append_assoc in
     let size : size_emsg v ≡ at + 16 + length v.message_data = omega (arith, ap {B = ℕ} (λ (b : Bool). cond b 18 22) e) in
-    let two : two_texts B 12 ≡ taken texts = two_back (joined cs) v.scheme_id_uri v.value (joined ns ++ tail) 12 (length-joined cs) w.scheme w.value in
-    let stands : fields B at 16 ≡ done tt = fields_stand B at 16 (omega (arith, ap length split_more, length-append (front ++ joined ns) (v.message_data ++ rest), behind_numbers)) in
-    let message : message_from B (size_emsg v) (at + 16) ≡ taken v.message_data = ap (λ (l : List ℕ). message_from l (size_emsg v) (at + 16)) split_more ∙ message_back (front ++ joined ns) v.message_data rest (size_emsg v) (at + 16) behind_numbers size in
-    let head : number B ≡ found cs (texts_emsg v ++ (joined ns ++ tail)) = numbers-joined cs (texts_emsg v ++ (joined ns ++ tail)) w.fit in
-    let numbers : number (drop at B) ≡ found ns tail = ap (λ (l : List ℕ). number (drop at l)) split ∙ ap number (drop_at front (joined ns ++ tail) at long) ∙ numbers-joined ns tail w.fit_0 in
-    rw (two, stands, message, head, numbers) (ap (λ (time : Option ℕ). Ok (record v { presentation_time = None; presentation_time_delta = time })) (some_is v.presentation_time_delta (time_is v true e w)))
+    let two : two_texts B 12 ≡ taken texts = two_back (bytes_of_fields cs) v.scheme_id_uri v.value (bytes_of_fields ns ++ tail) 12 (length-fields cs) w.scheme w.value in
+    let present : expect_bytes B at 16 ≡ done tt = expect_bytes_present B at 16 (omega (arith, ap length split_more, length-append (front ++ bytes_of_fields ns) (v.message_data ++ rest), behind_numbers)) in
+    let message : message_from B (size_emsg v) (at + 16) ≡ taken v.message_data = ap (λ (l : List ℕ). message_from l (size_emsg v) (at + 16)) split_more ∙ message_back (front ++ bytes_of_fields ns) v.message_data rest (size_emsg v) (at + 16) behind_numbers size in
+    let head : number B ≡ found cs (texts_emsg v ++ (bytes_of_fields ns ++ tail)) = numbers-fields cs (texts_emsg v ++ (bytes_of_fields ns ++ tail)) w.fit in
+    let numbers : number (drop at B) ≡ found ns tail = ap (λ (l : List ℕ). number (drop at l)) split ∙ ap number (drop_at front (bytes_of_fields ns ++ tail) at long) ∙ numbers-fields ns tail w.fit_0 in
+    rw (two, present, message, head, numbers) (ap (λ (time : Option ℕ). Ok (record v { presentation_time = None; presentation_time_delta = time })) (some_is v.presentation_time_delta (time_is v true e w)))
 
 back_1 : (v : EmsgBox) (rest : List ℕ) → WritableEmsg v → (v.version == 0) ≡ false
-    → (reads_emsg_1 (joined (columns_emsg v) ++ (joined (numbers_emsg_1 v) ++ (texts_emsg v ++ (v.message_data ++ rest)))) (size_emsg v)).outcome ≡ Ok (normal_emsg_1 v)
+    → (reads_emsg_1 (bytes_of_fields (fields_emsg v) ++ (bytes_of_fields (numbers_emsg_1 v) ++ (texts_emsg v ++ (v.message_data ++ rest)))) (size_emsg v)).outcome ≡ Ok (normal_emsg_1 v)
 unfolding reads_emsg_1
 back_1 v rest w e =
-    let cs = columns_emsg v in
+    let cs = fields_emsg v in
     let ns = numbers_emsg_1 v in
     let texts : List ℕ × List ℕ = (v.scheme_id_uri, v.value) in
     let at = behind 32 texts in
     let tail = texts_emsg v ++ (v.message_data ++ rest) in
-    let B = joined cs ++ (joined ns ++ tail) in
-    let front = joined cs ++ joined ns in
-    let long : length front ≡ 32 = omega (arith, length-append (joined cs) (joined ns), length-joined cs, length-joined ns) in
+    let B = bytes_of_fields cs ++ (bytes_of_fields ns ++ tail) in
+    let front = bytes_of_fields cs ++ bytes_of_fields ns in
+    let long : length front ≡ 32 = omega (arith, length-append (bytes_of_fields cs) (bytes_of_fields ns), length-fields cs, length-fields ns) in
     let behind_texts : length (front ++ texts_emsg v) ≡ at = omega (arith, length-append front (texts_emsg v), length_texts v, long) in
     let split : B ≡ front ++ (texts_emsg v ++ (v.message_data ++ rest)) = simp append_assoc in
     let split_more : B ≡ (front ++ texts_emsg v) ++ (v.message_data ++ rest) = simp append_assoc in
     let size : size_emsg v ≡ at + length v.message_data = omega (arith, ap {B = ℕ} (λ (b : Bool). cond b 18 22) e) in
-    let stands : fields B 12 20 ≡ done tt = fields_stand B 12 20 (omega (arith, ap length split_more, length-append (front ++ texts_emsg v) (v.message_data ++ rest), behind_texts)) in
+    let present : expect_bytes B 12 20 ≡ done tt = expect_bytes_present B 12 20 (omega (arith, ap length split_more, length-append (front ++ texts_emsg v) (v.message_data ++ rest), behind_texts)) in
     let two : two_texts B 32 ≡ taken texts = ap (λ (l : List ℕ). two_texts l 32) split ∙ two_back front v.scheme_id_uri v.value (v.message_data ++ rest) 32 long w.scheme w.value in
     let message : message_from B (size_emsg v) at ≡ taken v.message_data = ap (λ (l : List ℕ). message_from l (size_emsg v) at) split_more ∙ message_back (front ++ texts_emsg v) v.message_data rest (size_emsg v) at behind_texts size in
-    let head : number B ≡ found cs (joined ns ++ tail) = numbers-joined cs (joined ns ++ tail) w.fit in
-    let numbers : number (drop 12 B) ≡ found ns tail = ap number (drop_at (joined cs) (joined ns ++ tail) 12 (length-joined cs)) ∙ numbers-joined ns tail w.fit_1 in
+    let head : number B ≡ found cs (bytes_of_fields ns ++ tail) = numbers-fields cs (bytes_of_fields ns ++ tail) w.fit in
+    let numbers : number (drop 12 B) ≡ found ns tail = ap number (drop_at (bytes_of_fields cs) (bytes_of_fields ns ++ tail) 12 (length-fields cs)) ∙ numbers-fields ns tail w.fit_1 in
     let time : is_some v.presentation_time ≡ true = (and_parts (v.version == 1) (is_some v.presentation_time) (time_is v false e w)).1 in
-    rw (stands, two, message, head, numbers) (ap (λ (time : Option ℕ). Ok (record v { presentation_time = time; presentation_time_delta = None })) (some_is v.presentation_time time))
+    rw (present, two, message, head, numbers) (ap (λ (time : Option ℕ). Ok (record v { presentation_time = time; presentation_time_delta = None })) (some_is v.presentation_time time))
 
 -- version and flags, and then what follows
 begun : (v : EmsgBox) (tail : List ℕ) (start : ℕ) (o : Result EmsgBox Fault) → WritableEmsg v
-    → (reads_emsg_version v.version (joined (columns_emsg v) ++ tail) (size_emsg v)).outcome ≡ o → (reads_emsg (joined (columns_emsg v) ++ tail) start (size_emsg v)).outcome ≡ o
+    → (reads_emsg_version v.version (bytes_of_fields (fields_emsg v) ++ tail) (size_emsg v)).outcome ≡ o → (reads_emsg (bytes_of_fields (fields_emsg v) ++ tail) start (size_emsg v)).outcome ≡ o
 unfolding reads_emsg
 begun v tail start o w later =
-    let cs = columns_emsg v in
-    let B = joined cs ++ tail in
-    outcome_bind (fields B 8 4) (λ _. reads_emsg_version (number B 8 1) B (size_emsg v)) tt o (ap (λ (r : Reading (Unit {0})). r.outcome) (fields-joined cs tail 8 4 (lit≤ tt)))
-    (ap (λ (version : ℕ). (reads_emsg_version version B (size_emsg v)).outcome) (number-joined cs tail 8 1 w.fit) ∙ later)
+    let cs = fields_emsg v in
+    let B = bytes_of_fields cs ++ tail in
+    outcome_bind (expect_bytes B 8 4) (λ _. reads_emsg_version (number B 8 1) B (size_emsg v)) tt o (ap (λ (r : Reading (Unit {0})). r.outcome) (expect_bytes-fields cs tail 8 4 (lit≤ tt)))
+    (ap (λ (version : ℕ). (reads_emsg_version version B (size_emsg v)).outcome) (number-fields cs tail 8 1 w.fit) ∙ later)
 
--- what the version puts behind version and flags
+-- what the version puts after version and flags
 by_version : (v : EmsgBox) (rest : List ℕ) (b : Bool) → (v.version == 0) ≡ b → WritableEmsg v
-    → (let B = joined (columns_emsg v) ++ (cond b (texts_emsg v ++ joined (numbers_emsg_0 v)) (joined (numbers_emsg_1 v) ++ texts_emsg v) ++ (v.message_data ++ rest)) in
+    → (let B = bytes_of_fields (fields_emsg v) ++ (cond b (texts_emsg v ++ bytes_of_fields (numbers_emsg_0 v)) (bytes_of_fields (numbers_emsg_1 v) ++ texts_emsg v) ++ (v.message_data ++ rest)) in
     (cond b (reads_emsg_0 B (size_emsg v)) (cond (v.version == 1) (reads_emsg_1 B (size_emsg v)) (faults Invalid))).outcome ≡ Ok (cond b (normal_emsg_0 v) (normal_emsg_1 v)))
 by_version v rest true e w =
-    ap (λ (l : List ℕ). (reads_emsg_0 (joined (columns_emsg v) ++ l) (size_emsg v)).outcome) (append_assoc (texts_emsg v) (joined (numbers_emsg_0 v)) (v.message_data ++ rest))
+    ap (λ (l : List ℕ). (reads_emsg_0 (bytes_of_fields (fields_emsg v) ++ l) (size_emsg v)).outcome) (append_assoc (texts_emsg v) (bytes_of_fields (numbers_emsg_0 v)) (v.message_data ++ rest))
     ∙ back_0 v rest w e
 by_version v rest false e w =
     let one : (v.version == 1) ≡ true = (and_parts (v.version == 1) (is_some v.presentation_time) (time_is v false e w)).0 in
-    rw one (ap (λ (l : List ℕ). (reads_emsg_1 (joined (columns_emsg v) ++ l) (size_emsg v)).outcome) (append_assoc (joined (numbers_emsg_1 v)) (texts_emsg v) (v.message_data ++ rest))
+    rw one (ap (λ (l : List ℕ). (reads_emsg_1 (bytes_of_fields (fields_emsg v) ++ l) (size_emsg v)).outcome) (append_assoc (bytes_of_fields (numbers_emsg_1 v)) (texts_emsg v) (v.message_data ++ rest))
     ∙ back_1 v rest w e)
 
-pub read_back_emsg : (v : EmsgBox) → WritableEmsg v → RowReadsBack reads_emsg (bytes_emsg v) (size_emsg v) (normal_emsg v)
+pub read_back_emsg : (v : EmsgBox) → WritableEmsg v → ContentReadsBack reads_emsg (bytes_emsg v) (size_emsg v) (normal_emsg v)
 unfolding bytes_emsg
 read_back_emsg v w rest start top =
-    let J = joined (columns_emsg v) in
+    let J = bytes_of_fields (fields_emsg v) in
     let m = v.message_data in
     let grouped : (J ++ (middle_emsg v ++ m)) ++ rest ≡ J ++ (middle_emsg v ++ (m ++ rest)) = append_assoc J (middle_emsg v ++ m) rest ∙ ap (λ (l : List ℕ). J ++ l) (append_assoc (middle_emsg v) m rest) in
     ap (λ (l : List ℕ). (reads_emsg l start (size_emsg v)).outcome) grouped
@@ -177,8 +177,8 @@ sound_0 : (bytes : List ℕ) (long : ℕ) (v : EmsgBox) → AreBytes bytes → (
 unfolding reads_emsg_0
 sound_0 bytes long v are zero_is e =
     let last = λ (texts : List ℕ × List ℕ) (message : List ℕ). done (value_emsg_0 (number bytes) (number (drop (behind 12 texts) bytes)) texts message) in
-    let p = value_first (two_texts bytes 12) (λ texts. fields bytes (behind 12 texts) 16 >>= λ _. message_from bytes long (behind 12 texts + 16) >>= last texts) v e in
-    let q = value_first (message_from bytes long (behind 12 p.0 + 16)) (last p.0) v (fields_ok bytes (behind 12 p.0) 16 (λ _. message_from bytes long (behind 12 p.0 + 16) >>= last p.0) v p.2) in
+    let p = value_first (two_texts bytes 12) (λ texts. expect_bytes bytes (behind 12 texts) 16 >>= λ _. message_from bytes long (behind 12 texts + 16) >>= last texts) v e in
+    let q = value_first (message_from bytes long (behind 12 p.0 + 16)) (last p.0) v (expect_bytes_ok bytes (behind 12 p.0) 16 (λ _. message_from bytes long (behind 12 p.0 + 16) >>= last p.0) v p.2) in
     let D = drop (behind 12 p.0) bytes in
     let are_D : AreBytes D = are_bytes-drop (behind 12 p.0) bytes are in
     let texts = texts_are bytes 12 p.0 p.1 in
@@ -197,7 +197,7 @@ sound_1 : (bytes : List ℕ) (long : ℕ) (v : EmsgBox) → AreBytes bytes → (
 unfolding reads_emsg_1
 sound_1 bytes long v are other one_is e =
     let last = λ (texts : List ℕ × List ℕ) (message : List ℕ). done (value_emsg_1 (number bytes) (number (drop 12 bytes)) texts message) in
-    let p = value_first (two_texts bytes 32) (λ texts. message_from bytes long (behind 32 texts) >>= last texts) v (fields_ok bytes 12 20 (λ _. two_texts bytes 32 >>= λ texts. message_from bytes long (behind 32 texts) >>= last texts) v e) in
+    let p = value_first (two_texts bytes 32) (λ texts. message_from bytes long (behind 32 texts) >>= last texts) v (expect_bytes_ok bytes 12 20 (λ _. two_texts bytes 32 >>= λ texts. message_from bytes long (behind 32 texts) >>= last texts) v e) in
     let q = value_first (message_from bytes long (behind 32 p.0)) (last p.0) v p.2 in
     let D = drop 12 bytes in
     let are_D : AreBytes D = are_bytes-drop 12 bytes are in
@@ -219,7 +219,7 @@ sound_by bytes long v true b are p q e = sound_0 bytes long v are p e
 sound_by bytes long v false true are p q e = sound_1 bytes long v are p q e
 sound_by bytes long v false false are p q e = absurd cc
 
-pub sound_emsg : RowIsSound reads_emsg WritableEmsg size_emsg normal_emsg
+pub sound_emsg : ContentIsSound reads_emsg WritableEmsg size_emsg normal_emsg
 unfolding reads_emsg
 sound_emsg bytes start long v are e =
-    sound_by bytes long v (number bytes 8 1 == 0) (number bytes 8 1 == 1) are refl refl (fields_ok bytes 8 4 (λ _. reads_emsg_version (number bytes 8 1) bytes long) v e)
+    sound_by bytes long v (number bytes 8 1 == 0) (number bytes 8 1 == 1) are refl refl (expect_bytes_ok bytes 8 4 (λ _. reads_emsg_version (number bytes 8 1) bytes long) v e)

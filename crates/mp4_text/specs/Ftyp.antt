@@ -1,9 +1,9 @@
 -- ftyp, the file type box (ISO/IEC 14496-12, 4.3): a size of at least 16 and a multiple of 4, a major brand
 -- of 4 bytes at 8, a minor version of 4 at 12, and brands of 4 bytes each from 16 to the end.
 use Rattle.std.specs.Prelude.{ℕ, ◌+◌, ◌-◌, ◌*◌, ◌/◌, ◌%◌, ◌==◌, ◌&&◌, nat_le, List, [], ◌∷◌, ◌++◌, All, length, map, flat_map}
-use Rattle.mp4_frame.specs.Bytes.{number, joined, Fit}
+use Rattle.mp4_frame.specs.Bytes.{number, bytes_of_fields, FieldsFit}
 use Rattle.mp4_frame.specs.FourCC.{four_cc_of, number_of, IsFourCC}
-use Rattle.mp4_frame.specs.Reading.{Reading, ◌>>=◌, test, fields, memory, done}
+use Rattle.mp4_frame.specs.Reading.{Reading, ◌>>=◌, check, expect_bytes, memory, done}
 use Rattle.mp4_frame.specs.Tables.{rows_from}
 use Rattle.mp4_frame.specs.declared.four_cc.FourCC.{FourCC}
 use Rattle.mp4_text.specs.declared.ftyp.FtypBox.{FtypBox}
@@ -12,14 +12,14 @@ use Rattle.mp4_text.specs.declared.ftyp.FtypBox.{FtypBox}
 abbrev pub brand_of : List ℕ → FourCC
 brand_of row = record { value = row }
 
--- the value, by the number of w bytes at o, and its brands
+-- the value, where `at o w` is the number of w bytes at offset o, and its brands
 abbrev pub value_ftyp : (ℕ → ℕ → ℕ) → List FourCC → FtypBox
-value_ftyp n brands = record { major_brand = four_cc_of (n 8 4); minor_version = n 12 4; compatible_brands = brands }
+value_ftyp at brands = record { major_brand = four_cc_of (at 8 4); minor_version = at 12 4; compatible_brands = brands }
 
 unfoldable pub reads_ftyp : List ℕ → ℕ → ℕ → Reading FtypBox
 reads_ftyp bytes start size = do
-  _ ← test (nat_le 16 size && (size % 4 == 0))
-  _ ← fields bytes 8 8
+  _ ← check (nat_le 16 size && (size % 4 == 0))
+  _ ← expect_bytes bytes 8 8
   rows ← rows_from bytes 16 4 ((size - 16) / 4)
   _ ← memory
   done (value_ftyp (number bytes) (map brand_of rows))
@@ -27,17 +27,17 @@ reads_ftyp bytes start size = do
 abbrev pub size_ftyp : FtypBox → ℕ
 size_ftyp v = 16 + 4 * length v.compatible_brands
 
-abbrev pub columns_ftyp : FtypBox → List (ℕ × ℕ)
-columns_ftyp v = (4, size_ftyp v) ∷ (4, 0x66747970) ∷ (4, number_of v.major_brand) ∷ (4, v.minor_version) ∷ []
+abbrev pub fields_ftyp : FtypBox → List (ℕ × ℕ)
+fields_ftyp v = (4, size_ftyp v) ∷ (4, 0x66747970) ∷ (4, number_of v.major_brand) ∷ (4, v.minor_version) ∷ []
 
 -- every number fits its bytes, and every brand has four
 pub record WritableFtyp (v : FtypBox) : Type 0 where
-  pub fit : Fit (columns_ftyp v)
+  pub fit : FieldsFit (fields_ftyp v)
   pub major : IsFourCC v.major_brand
   pub each : All IsFourCC v.compatible_brands
 
 unfoldable pub bytes_ftyp : FtypBox → List ℕ
-bytes_ftyp v = joined (columns_ftyp v) ++ flat_map (λ brand. brand.value) v.compatible_brands
+bytes_ftyp v = bytes_of_fields (fields_ftyp v) ++ flat_map (λ brand. brand.value) v.compatible_brands
 
 abbrev pub normal_ftyp : FtypBox → FtypBox
 normal_ftyp v = v

@@ -1,24 +1,24 @@
 -- hdlr, the handler of a track or of metadata (ISO/IEC 14496-12, 8.4.3): version of 1 byte at 8, flags of 3 at 9,
 -- 4 reserved bytes at 12, the handler type of 4 at 16, a gap of 12 at 20, and a name from 32 on, with a zero byte
--- behind it that ends the box.
+-- after it that ends the box.
 use Rattle.std.specs.Prelude.{ℕ, ◌+◌, ◌-◌, nat_le, List, [], ◌∷◌, ◌++◌, length, codes}
 use Rattle.std.specs.Str.{IsUtf8}
-use Rattle.mp4_frame.specs.Bytes.{number, joined, Fit, full_box}
+use Rattle.mp4_frame.specs.Bytes.{number, bytes_of_fields, FieldsFit, full_box}
 use Rattle.mp4_frame.specs.FourCC.{four_cc_of, number_of, IsFourCC}
-use Rattle.mp4_frame.specs.Reading.{Reading, ◌>>=◌, fields, test, piece_from, memory, done}
+use Rattle.mp4_frame.specs.Reading.{Reading, ◌>>=◌, expect_bytes, check, piece_from, memory, done}
 use Rattle.mp4_text.specs.Terminated.{terminated}
 use Rattle.mp4_frame.specs.Text.{text_or}
 use Rattle.mp4_text.specs.declared.hdlr.HdlrBox.{HdlrBox}
 
--- the value, by the number of w bytes at o, and its name
+-- the value, where `at o w` is the number of w bytes at offset o, and its name
 abbrev pub value_hdlr : (ℕ → ℕ → ℕ) → List ℕ → HdlrBox
-value_hdlr n name = record { version = n 8 1; flags = n 9 3; handler_type = four_cc_of (n 16 4); name = name }
+value_hdlr at name = record { version = at 8 1; flags = at 9 3; handler_type = four_cc_of (at 16 4); name = name }
 
 -- a name that is not UTF-8 is read as `null`
 unfoldable pub reads_hdlr : List ℕ → ℕ → ℕ → Reading HdlrBox
 reads_hdlr bytes start size = do
-  _ ← fields bytes 8 12
-  _ ← test (nat_le 33 size)
+  _ ← expect_bytes bytes 8 12
+  _ ← check (nat_le 33 size)
   found ← piece_from bytes 32 (size - 33)
   _ ← memory
   done (value_hdlr (number bytes) (text_or (codes "null") found))
@@ -26,17 +26,17 @@ reads_hdlr bytes start size = do
 abbrev pub size_hdlr : HdlrBox → ℕ
 size_hdlr v = 33 + length v.name
 
-abbrev pub columns_hdlr : HdlrBox → List (ℕ × ℕ)
-columns_hdlr v = full_box (size_hdlr v) 0x68646c72 v.version v.flags ++ (4, 0) ∷ (4, number_of v.handler_type) ∷ (12, 0) ∷ []
+abbrev pub fields_hdlr : HdlrBox → List (ℕ × ℕ)
+fields_hdlr v = full_box (size_hdlr v) 0x68646c72 v.version v.flags ++ (4, 0) ∷ (4, number_of v.handler_type) ∷ (12, 0) ∷ []
 
 -- every number fits its bytes, the handler type has four, and the name is UTF-8
 pub record WritableHdlr (v : HdlrBox) : Type 0 where
-  pub fit : Fit (columns_hdlr v)
+  pub fit : FieldsFit (fields_hdlr v)
   pub handler : IsFourCC v.handler_type
   pub text : IsUtf8 v.name
 
 unfoldable pub bytes_hdlr : HdlrBox → List ℕ
-bytes_hdlr v = joined (columns_hdlr v) ++ terminated v.name
+bytes_hdlr v = bytes_of_fields (fields_hdlr v) ++ terminated v.name
 
 abbrev pub normal_hdlr : HdlrBox → HdlrBox
 normal_hdlr v = v

@@ -6,15 +6,15 @@ use Rattle.std.proofs.lemmas.Str.{IsUtf8-from_is_utf8}
 use Rattle.std.specs.List.{before_first, list_any, position_or_len}
 use Rattle.std.specs.Prelude.{not}
 use Rattle.std.specs.Str.{is_utf8}
-use Rattle.mp4_frame.specs.Reading.{Reading, ◌>>=◌, fields, memory, done}
-use Rattle.mp4_frame.proofs.Stands.{fields_stand, fields_ok, test_ok, is_value}
+use Rattle.mp4_frame.specs.Reading.{Reading, ◌>>=◌, expect_bytes, memory, done}
+use Rattle.mp4_frame.proofs.Checks.{expect_bytes_present, expect_bytes_ok, check_ok, is_value}
 use Rattle.mp4_frame.proofs.Tables.{value_first}
 use Rattle.mp4_frame.specs.TextLaws.{utf8_passes}
 use Rattle.mp4_text.specs.Terminated.{is_zero, before_zero, utf8_text, terminated_text, two_texts, terminated, IsTerminable}
 
 -- a value for which memory was asked
 abbrev pub taken : {A : Type 0} → A → Reading A
-taken v = record { asked = true; outcome = Ok v }
+taken v = record { asks_memory = true; outcome = Ok v }
 
 zero_at : (text rest : List ℕ) → list_any is_zero text ≡ false → position_or_len is_zero (text ++ 0 ∷ rest) ≡ length text
 zero_at [] rest e = refl
@@ -31,8 +31,8 @@ text_back x text y o at is =
     let t : before_zero B o ≡ text =
     ap (λ (l : List ℕ). before_first is_zero l) d ∙ ap (λ (n : ℕ). take n (text ++ 0 ∷ y)) (zero_at text y is.no_zero) ∙ take_at text (0 ∷ y) (length text) refl in
     let room : o + (length text + 1) ≤ length B = omega (arith, length-append x (text ++ 0 ∷ y), length-append text (0 ∷ y), at) in
-    ap (λ (l : List ℕ). fields B o (length l + 1) >>= λ _. utf8_text l >>= λ text. memory >>= λ _. done text) t
-    ∙ rw (fields_stand B o (length text + 1) room, utf8_passes text is.utf8) refl
+    ap (λ (l : List ℕ). expect_bytes B o (length l + 1) >>= λ _. utf8_text l >>= λ text. memory >>= λ _. done text) t
+    ∙ rw (expect_bytes_present B o (length text + 1) room, utf8_passes text is.utf8) refl
 
 -- two texts are read back
 pub two_back : (x s t y : List ℕ) (o : ℕ) → length x ≡ o → IsTerminable s → IsTerminable t → two_texts (x ++ ((terminated s ++ terminated t) ++ y)) o ≡ taken (s, t)
@@ -61,8 +61,8 @@ unfolding terminated_text
 text_is bytes o text e =
     let z = before_zero bytes o in
     let last = λ (text : List ℕ). memory >>= λ _. done text in
-    let p = value_first (utf8_text z) last text (fields_ok bytes o (length z + 1) (λ _. utf8_text z >>= last) text e) in
-    let t = test_ok (is_utf8 z) (λ _. done z) p.0 p.1 in
+    let p = value_first (utf8_text z) last text (expect_bytes_ok bytes o (length z + 1) (λ _. utf8_text z >>= last) text e) in
+    let t = check_ok (is_utf8 z) (λ _. done z) p.0 p.1 in
     let same : z ≡ text = is_value z p.0 t.1 ∙ is_value p.0 text p.2 in
     rw (← same) (record { utf8 = IsUtf8-from_is_utf8 z t.0; no_zero = none_before (drop o bytes) })
 

@@ -1,16 +1,16 @@
 -- url, a data entry that is a URL (ISO/IEC 14496-12, 8.7.2): version of 1 byte at 8, flags of 3 at 9, and, in a
--- box of 13 bytes or more, a location from 12 on, with a zero byte behind it that ends the box.
+-- box of 13 bytes or more, a location from 12 on, with a zero byte after it that ends the box.
 use Rattle.std.specs.Prelude.{ℕ, ◌+◌, ◌-◌, nat_lt, ◌==◌, List, [], ◌++◌, length, if◌then◌else◌}
 use Rattle.std.specs.Str.{IsUtf8}
-use Rattle.mp4_frame.specs.Bytes.{number, joined, Fit, full_box}
-use Rattle.mp4_frame.specs.Reading.{Reading, ◌>>=◌, fields, piece_from, memory, done}
+use Rattle.mp4_frame.specs.Bytes.{number, bytes_of_fields, FieldsFit, full_box}
+use Rattle.mp4_frame.specs.Reading.{Reading, ◌>>=◌, expect_bytes, piece_from, memory, done}
 use Rattle.mp4_text.specs.Terminated.{terminated}
 use Rattle.mp4_frame.specs.Text.{text_or}
 use Rattle.mp4_text.specs.declared.url.UrlBox.{UrlBox}
 
--- the value, by the number of w bytes at o, and its location
+-- the value, where `at o w` is the number of w bytes at offset o, and its location
 abbrev pub value_url : (ℕ → ℕ → ℕ) → List ℕ → UrlBox
-value_url n location = record { version = n 8 1; flags = n 9 3; location = location }
+value_url at location = record { version = at 8 1; flags = at 9 3; location = location }
 
 -- a location of this many bytes, which is empty where they are not UTF-8
 abbrev pub reads_location : List ℕ → ℕ → Reading UrlBox
@@ -21,26 +21,26 @@ reads_location bytes long = do
 
 unfoldable pub reads_url : List ℕ → ℕ → ℕ → Reading UrlBox
 reads_url bytes start size = do
-  _ ← fields bytes 8 4
+  _ ← expect_bytes bytes 8 4
   if nat_lt size 13 then done (value_url (number bytes) []) else reads_location bytes (size - 13)
 
--- a location is written with a zero byte behind it, an empty one not at all
+-- a location is written with a zero byte after it, an empty one not at all
 abbrev pub bytes_location : List ℕ → List ℕ
 bytes_location location = if length location == 0 then [] else terminated location
 
 abbrev pub size_url : UrlBox → ℕ
 size_url v = if length v.location == 0 then 12 else 13 + length v.location
 
-abbrev pub columns_url : UrlBox → List (ℕ × ℕ)
-columns_url v = full_box (size_url v) 0x75726c20 v.version v.flags
+abbrev pub fields_url : UrlBox → List (ℕ × ℕ)
+fields_url v = full_box (size_url v) 0x75726c20 v.version v.flags
 
 -- every number fits its bytes, and the location is UTF-8
 pub record WritableUrl (v : UrlBox) : Type 0 where
-  pub fit : Fit (columns_url v)
+  pub fit : FieldsFit (fields_url v)
   pub text : IsUtf8 v.location
 
 unfoldable pub bytes_url : UrlBox → List ℕ
-bytes_url v = joined (columns_url v) ++ bytes_location v.location
+bytes_url v = bytes_of_fields (fields_url v) ++ bytes_location v.location
 
 abbrev pub normal_url : UrlBox → UrlBox
 normal_url v = v

@@ -4,62 +4,62 @@ use Rattle.std.proofs.lemmas.Bool.{le-ltb, eqb-true}
 use Rattle.std.proofs.lemmas.List.{append-nil, nil_from_length}
 use Rattle.std.proofs.lemmas.Str.{IsUtf8-nil}
 use Rattle.std.specs.Str.{IsUtf8}
-use Rattle.mp4_frame.specs.Bytes.{number, joined, width, Fit}
-use Rattle.mp4_frame.specs.Laws.{Framed, RowReadsBack, RowIsSound, AreBytes}
-use Rattle.mp4_frame.specs.Reading.{◌>>=◌, fields, piece_from, memory, done}
+use Rattle.mp4_frame.specs.Bytes.{number, bytes_of_fields, width_of_fields, FieldsFit}
+use Rattle.mp4_frame.specs.Laws.{BeginsWithHeader, ContentReadsBack, ContentIsSound, AreBytes}
+use Rattle.mp4_frame.specs.Reading.{◌>>=◌, expect_bytes, piece_from, memory, done}
 use Rattle.mp4_frame.specs.declared.box_type.BoxType.TheVariants as names
-use Rattle.mp4_frame.proofs.Framing.{framed_front, settled, fits_read, Number}
-use Rattle.mp4_frame.proofs.Columns.{found, numbers-joined, fields-joined, length-joined}
-use Rattle.mp4_frame.proofs.Stands.{fields_ok, is_value, piece_back}
+use Rattle.mp4_frame.proofs.Framing.{header_in_front, own_normal_form, fits_read, Number}
+use Rattle.mp4_frame.proofs.Fields.{found, numbers-fields, expect_bytes-fields, length-fields}
+use Rattle.mp4_frame.proofs.Checks.{expect_bytes_ok, is_value, piece_back}
 use Rattle.mp4_frame.proofs.Tables.{value_first}
 use Rattle.mp4_frame.specs.TextLaws.{text_as_is, IsUtf8-text_or}
 use Rattle.mp4_frame.proofs.ChildLaws.{IsChild}
 use Rattle.mp4_frame.specs.Text.{text_or}
 use Rattle.mp4_text.specs.Terminated.{terminated}
-use Rattle.mp4_text.specs.Url.{reads_url, reads_location, value_url, columns_url, bytes_location, size_url, WritableUrl, bytes_url, normal_url}
+use Rattle.mp4_text.specs.Url.{reads_url, reads_location, value_url, fields_url, bytes_location, size_url, WritableUrl, bytes_url, normal_url}
 use Rattle.mp4_text.specs.declared.url.UrlBox.{UrlBox}
 
-empty_back : (cs : List (ℕ × ℕ)) (rest : List ℕ) (start : ℕ) → Fit cs → width cs ≡ 12 → (reads_url (joined cs ++ rest) start 12).outcome ≡ Ok (value_url (found cs rest) [])
+empty_back : (cs : List (ℕ × ℕ)) (rest : List ℕ) (start : ℕ) → FieldsFit cs → width_of_fields cs ≡ 12 → (reads_url (bytes_of_fields cs ++ rest) start 12).outcome ≡ Ok (value_url (found cs rest) [])
 unfolding reads_url
 empty_back cs rest start fits wide =
-    let f : fields (joined cs ++ rest) 8 4 ≡ done tt = fields-joined cs rest 8 4 (omega (arith, wide)) in
-    rw (f, numbers-joined cs rest fits) refl
+    let f : expect_bytes (bytes_of_fields cs ++ rest) 8 4 ≡ done tt = expect_bytes-fields cs rest 8 4 (omega (arith, wide)) in
+    rw (f, numbers-fields cs rest fits) refl
 
-full_back : (cs : List (ℕ × ℕ)) (location rest : List ℕ) (start : ℕ) → Fit cs → width cs ≡ 12 → IsUtf8 location → (reads_url (joined cs ++ (location ++ rest)) start (13 + length location)).outcome ≡ Ok (value_url (found cs (location ++ rest)) location)
+full_back : (cs : List (ℕ × ℕ)) (location rest : List ℕ) (start : ℕ) → FieldsFit cs → width_of_fields cs ≡ 12 → IsUtf8 location → (reads_url (bytes_of_fields cs ++ (location ++ rest)) start (13 + length location)).outcome ≡ Ok (value_url (found cs (location ++ rest)) location)
 unfolding reads_url
 full_back cs location rest start fits wide text =
-    let B = joined cs ++ (location ++ rest) in
-    let lj : length (joined cs) ≡ 12 = length-joined cs ∙ wide in
-    let f : fields B 8 4 ≡ done tt = fields-joined cs (location ++ rest) 8 4 (omega (arith, wide)) in
+    let B = bytes_of_fields cs ++ (location ++ rest) in
+    let lj : length (bytes_of_fields cs) ≡ 12 = length-fields cs ∙ wide in
+    let f : expect_bytes B 8 4 ≡ done tt = expect_bytes-fields cs (location ++ rest) 8 4 (omega (arith, wide)) in
     let t : ltb (13 + length location) 13 ≡ false = le-ltb (13 + length location) 13 (omega arith) in
     let k : 13 + length location - 13 ≡ length location = omega arith in
-    rw (f, t, k, piece_back (joined cs) location rest 12 lj, text_as_is [] location text, numbers-joined cs (location ++ rest) fits) refl
+    rw (f, t, k, piece_back (bytes_of_fields cs) location rest 12 lj, text_as_is [] location text, numbers-fields cs (location ++ rest) fits) refl
 
 back_by : (v : UrlBox) (rest : List ℕ) (start : ℕ) (b : Bool) → eqb (length v.location) 0 ≡ b → WritableUrl v
-    → (reads_url ((joined (columns_url v) ++ cond b [] (terminated v.location)) ++ rest) start (cond b 12 (13 + length v.location))).outcome ≡ Ok v
+    → (reads_url ((bytes_of_fields (fields_url v) ++ cond b [] (terminated v.location)) ++ rest) start (cond b 12 (13 + length v.location))).outcome ≡ Ok v
 back_by v rest start true e w =
-    let J = joined (columns_url v) in
+    let J = bytes_of_fields (fields_url v) in
     let nil : v.location ≡ [] = nil_from_length v.location (eqb-true (length v.location) 0 e) in
     ap (λ (xs : List ℕ). (reads_url (xs ++ rest) start 12).outcome) (append-nil J)
-    ∙ empty_back (columns_url v) rest start w.fit refl
+    ∙ empty_back (fields_url v) rest start w.fit refl
     ∙ ap (λ (l : List ℕ). Ok (record v { location = l })) (sym nil)
 back_by v rest start false e w =
-    let J = joined (columns_url v) in
+    let J = bytes_of_fields (fields_url v) in
     let long = v.location in
     let grouped : (J ++ terminated long) ++ rest ≡ J ++ (long ++ 0 ∷ rest) = append_assoc J (terminated long) rest ∙ ap (λ (xs : List ℕ). J ++ xs) (append_assoc long (0 ∷ []) rest) in
     ap (λ (xs : List ℕ). (reads_url xs start (13 + length long)).outcome) grouped
-    ∙ full_back (columns_url v) long (0 ∷ rest) start w.fit refl w.text
+    ∙ full_back (fields_url v) long (0 ∷ rest) start w.fit refl w.text
 
 length_by : (location : List ℕ) (b : Bool) → 12 + length (cond b [] (terminated location)) ≡ cond b 12 (13 + length location)
 length_by location true = refl
 length_by location false = omega (arith, length-append location (0 ∷ []))
 
-pub framed_url : (v : UrlBox) → WritableUrl v → Framed (size_url v) names.UrlBox (bytes_url v)
+pub header_url : (v : UrlBox) → WritableUrl v → BeginsWithHeader (size_url v) names.UrlBox (bytes_url v)
 unfolding bytes_url
-framed_url v w =
-    framed_front _ (bytes_location v.location) w.fit (length_by v.location (eqb (length v.location) 0))
+header_url v w =
+    header_in_front _ (bytes_location v.location) w.fit (length_by v.location (eqb (length v.location) 0))
 
-pub read_back_url : (v : UrlBox) → WritableUrl v → RowReadsBack reads_url (bytes_url v) (size_url v) (normal_url v)
+pub read_back_url : (v : UrlBox) → WritableUrl v → ContentReadsBack reads_url (bytes_url v) (size_url v) (normal_url v)
 unfolding bytes_url
 read_back_url v w rest start top = back_by v rest start (eqb (length v.location) 0) refl w
 
@@ -76,11 +76,11 @@ sound_by bytes false long v are e =
     let is : value_url (number bytes) (text_or [] p.0) ≡ v = is_value _ v p.2 in
     subst (λ (x : UrlBox). size_url x < 2 ^ 32 → WritableUrl x) is (writable bytes (text_or [] p.0) are (IsUtf8-text_or [] p.0 IsUtf8-nil))
 
-pub sound_url : RowIsSound reads_url WritableUrl size_url normal_url
+pub sound_url : ContentIsSound reads_url WritableUrl size_url normal_url
 unfolding reads_url
 sound_url bytes start long v are e =
     let rest = λ (u : Unit {0}). cond (ltb long 13) (done (value_url (number bytes) [])) (reads_location bytes (long - 13)) in
-    (refl, sound_by bytes (ltb long 13) (long - 13) v are (fields_ok bytes 8 4 rest v e))
+    (refl, sound_by bytes (ltb long 13) (long - 13) v are (expect_bytes_ok bytes 8 4 rest v e))
 
 pub laws_url : IsChild reads_url size_url WritableUrl bytes_url normal_url names.UrlBox
-laws_url = record { framed = framed_url; normal_form = λ v w. settled v refl w; read_back = read_back_url; sound = sound_url }
+laws_url = record { header = header_url; normal_form = λ v w. own_normal_form v refl w; read_back = read_back_url; sound = sound_url }

@@ -4,13 +4,13 @@ ghost use Rattle.std.specs.Prelude.{◌≡◌, ◌-◌, ◌^◌, [], IfOk, IfErr
 ghost use Rattle.mp4_frame.specs.declared.box_type.BoxType.TheVariants as names;
 ghost use Rattle.mp4_media.specs.DataType.{number_data_type};
 ghost use Rattle.mp4_media.specs.declared.data_type.DataType.TheVariants as types;
-ghost use Rattle.mp4_frame.proofs.Framing.{settled};
+ghost use Rattle.mp4_frame.proofs.Framing.{own_normal_form};
 ghost use Rattle.mp4_text.specs.Data.{reads_data, size_data, WritableData, bytes_data, normal_data};
-ghost use Rattle.mp4_text.specs.DataLaws.{framed_data, read_back_data, sound_data};
+ghost use Rattle.mp4_text.specs.DataLaws.{header_data, read_back_data, sound_data};
 
 use mp4_frame::{
-    BoxLaws, BoxType, Entries, Error, Mp4Box, ReadBox, Result, WriteBox, fields, piece_at,
-    put_bytes, put_u32, test, u32_at,
+    BoxLaws, BoxType, Entries, Error, Mp4Box, ReadBox, Result, WriteBox, expect_bytes, piece_at,
+    put_bytes, put_u32, check, u32_at,
 };
 use mp4_media::DataType;
 use std::alloc::Global;
@@ -79,11 +79,11 @@ impl ReadBox for DataBox {
     ghost reads = { reads_data };
 
     #[tactic(auto, unfolding(crate::specs::Data::reads_data))]
-    fn read_row(alloc: Global, bytes: &[u8], _start: u64, size: u64) -> Result<DataBox> {
-        fields(bytes, 8, 4)?;
+    fn read_content(alloc: Global, bytes: &[u8], _start: u64, size: u64) -> Result<DataBox> {
+        expect_bytes(bytes, 8, 4)?;
         let data_type = DataType::try_from(u32_at(bytes, 8))?;
-        fields(bytes, 12, 4)?;
-        test(size >= 16, "box size too small")?;
+        expect_bytes(bytes, 12, 4)?;
+        check(size >= 16, "box size too small")?;
         let data_bytes = piece_at(bytes, 16, size as usize - 16)?;
         Ok(DataBox {
             data_bytes: Vec::from_slice(alloc, data_bytes)?.into(),
@@ -115,18 +115,18 @@ impl WriteBox for DataBox {
         self.box_size() < 1 << 32
     }
 
-    #[tactic(auto, unfolding(crate::specs::Data::bytes_data, mp4_frame::specs::Bytes::joined, mp4_frame::specs::Bytes::joined_onto))]
-    fn put_box(&self, place: &mut [u8]) {
-        let at = put_u32(place, 0, self.box_size() as u32);
-        let at = put_u32(place, at, 0x6461_7461);
-        let at = put_u32(place, at, number_of(&self.data_type));
-        let at = put_u32(place, at, 0);
-        put_bytes(place, at, self.data_bytes.as_slice());
+    #[tactic(auto, unfolding(crate::specs::Data::bytes_data, mp4_frame::specs::Bytes::bytes_of_fields, mp4_frame::specs::Bytes::bytes_of_fields_onto))]
+    fn put_box(&self, out: &mut [u8]) {
+        let at = put_u32(out, 0, self.box_size() as u32);
+        let at = put_u32(out, at, 0x6461_7461);
+        let at = put_u32(out, at, number_of(&self.data_type));
+        let at = put_u32(out, at, 0);
+        put_bytes(out, at, self.data_bytes.as_slice());
     }
 
-    ghost framed = { framed_data };
+    ghost header = { header_data };
 
-    ghost normal_form = { λ v w. settled v refl w };
+    ghost normal_form = { λ v w. own_normal_form v refl w };
 }
 
 impl BoxLaws for DataBox {

@@ -3,11 +3,11 @@
 ghost use Rattle.std.specs.Prelude.{◌≡◌, ◌-◌, ◌^◌, [], IfOk, IfErr, min};
 ghost use Rattle.mp4_frame.specs.declared.box_type.BoxType.TheVariants as names;
 ghost use Rattle.mp4_text.specs.Dinf.{reads_dinf, size_dinf, WritableDinf, bytes_dinf, normal_dinf};
-ghost use Rattle.mp4_text.specs.DinfLaws.{framed_dinf, normal_form_dinf, read_back_dinf, sound_dinf};
+ghost use Rattle.mp4_text.specs.DinfLaws.{header_dinf, normal_form_dinf, read_back_dinf, sound_dinf};
 
 use crate::dref::DrefBox;
 use mp4_frame::{
-    BoxLaws, BoxType, Error, Mp4Box, ReadBox, Result, WriteBox, last_child, put_part, put_u32,
+    BoxLaws, BoxType, Error, Mp4Box, ReadBox, Result, WriteBox, last_child, put_child, put_u32,
 };
 use std::alloc::Global;
 
@@ -81,7 +81,7 @@ impl ReadBox for DinfBox {
     ghost reads = { reads_dinf };
 
     #[tactic(auto, unfolding(crate::specs::Dinf::reads_dinf))]
-    fn read_row(alloc: Global, bytes: &[u8], start: u64, size: u64) -> Result<DinfBox> {
+    fn read_content(alloc: Global, bytes: &[u8], start: u64, size: u64) -> Result<DinfBox> {
         let dref = last_child(
             alloc,
             bytes,
@@ -110,14 +110,14 @@ impl WriteBox for DinfBox {
         self.dref.is_writable() && self.box_size() < 1 << 32
     }
 
-    #[tactic(auto, unfolding(crate::specs::Dinf::bytes_dinf, mp4_frame::specs::Bytes::joined, mp4_frame::specs::Bytes::joined_onto))]
-    fn put_box(&self, place: &mut [u8]) {
-        let at = put_u32(place, 0, self.box_size() as u32);
-        let at = put_u32(place, at, 0x6469_6e66);
-        put_part(place, at, &self.dref);
+    #[tactic(auto, unfolding(crate::specs::Dinf::bytes_dinf, mp4_frame::specs::Bytes::bytes_of_fields, mp4_frame::specs::Bytes::bytes_of_fields_onto))]
+    fn put_box(&self, out: &mut [u8]) {
+        let at = put_u32(out, 0, self.box_size() as u32);
+        let at = put_u32(out, at, 0x6469_6e66);
+        put_child(out, at, &self.dref);
     }
 
-    ghost framed = { framed_dinf };
+    ghost header = { header_dinf };
 
     ghost normal_form = { normal_form_dinf };
 }

@@ -3,12 +3,12 @@
 ghost use Rattle.std.specs.Prelude.{◌≡◌, ◌-◌, ◌^◌, [], IfOk, IfErr, min};
 ghost use Rattle.mp4_frame.specs.declared.box_type.BoxType.TheVariants as names;
 ghost use Rattle.mp4_text.specs.Dref.{reads_dref, size_dref, WritableDref, bytes_dref, normal_dref};
-ghost use Rattle.mp4_text.specs.DrefLaws.{framed_dref, normal_form_dref, read_back_dref, sound_dref};
+ghost use Rattle.mp4_text.specs.DrefLaws.{header_dref, normal_form_dref, read_back_dref, sound_dref};
 
 use crate::url::UrlBox;
 use mp4_frame::{
-    BoxLaws, BoxType, Error, Mp4Box, ReadBox, Result, WriteBox, fields, last_child, put_full_box,
-    put_part, put_u32, u8_at, u24_at, u32_at,
+    BoxLaws, BoxType, Error, Mp4Box, ReadBox, Result, WriteBox, expect_bytes, last_child, put_full_box,
+    put_child, put_u32, u8_at, u24_at, u32_at,
 };
 use std::alloc::Global;
 
@@ -88,8 +88,8 @@ impl ReadBox for DrefBox {
     ghost reads = { reads_dref };
 
     #[tactic(auto, unfolding(crate::specs::Dref::reads_dref))]
-    fn read_row(alloc: Global, bytes: &[u8], start: u64, size: u64) -> Result<DrefBox> {
-        fields(bytes, 8, 8)?;
+    fn read_content(alloc: Global, bytes: &[u8], start: u64, size: u64) -> Result<DrefBox> {
+        expect_bytes(bytes, 8, 8)?;
         let count = u64::from(u32_at(bytes, 12));
         let url = last_child(
             alloc,
@@ -126,22 +126,22 @@ impl WriteBox for DrefBox {
         self.flags < 1 << 24 && self.box_size() < 1 << 32
     }
 
-    #[tactic(auto, unfolding(crate::specs::Dref::bytes_dref, mp4_frame::specs::Bytes::joined, mp4_frame::specs::Bytes::joined_onto))]
-    fn put_box(&self, place: &mut [u8]) {
+    #[tactic(auto, unfolding(crate::specs::Dref::bytes_dref, mp4_frame::specs::Bytes::bytes_of_fields, mp4_frame::specs::Bytes::bytes_of_fields_onto))]
+    fn put_box(&self, out: &mut [u8]) {
         let size = self.box_size() as u32;
-        let at = put_full_box(place, size, 0x6472_6566, self.version, self.flags);
+        let at = put_full_box(out, size, 0x6472_6566, self.version, self.flags);
         match &self.url {
             Some(url) => {
-                let at = put_u32(place, at, 1);
-                put_part(place, at, url);
+                let at = put_u32(out, at, 1);
+                put_child(out, at, url);
             }
             None => {
-                put_u32(place, at, 0);
+                put_u32(out, at, 0);
             }
         }
     }
 
-    ghost framed = { framed_dref };
+    ghost header = { header_dref };
 
     ghost normal_form = { normal_form_dref };
 }

@@ -1,16 +1,16 @@
 //! An event message.
 
 ghost use Rattle.std.specs.Prelude.{◌≡◌, ◌↔◌, ◌+◌, ◌-◌, ◌≤◌, ◌^◌, ◌++◌, ◌∷◌, [], None, IfOk, IfErr, IsTrue, length, min, take};
-ghost use Rattle.mp4_frame.specs.Bytes.{joined};
+ghost use Rattle.mp4_frame.specs.Bytes.{bytes_of_fields};
 ghost use Rattle.mp4_frame.specs.Reading.{Answers};
 ghost use Rattle.mp4_frame.specs.declared.box_type.BoxType.TheVariants as names;
 ghost use Rattle.mp4_text.specs.Emsg.{message_from, reads_emsg_0, reads_emsg_1, reads_emsg, size_middle, size_emsg, texts_emsg, middle_emsg, WritableEmsg, bytes_emsg, normal_emsg};
-ghost use Rattle.mp4_text.specs.EmsgLaws.{framed_emsg, normal_form_emsg, read_back_emsg, sound_emsg};
+ghost use Rattle.mp4_text.specs.EmsgLaws.{header_emsg, normal_form_emsg, read_back_emsg, sound_emsg};
 
 use crate::terminated::{is_terminable, put_terminated, two_texts_at};
 use mp4_frame::{
-    BoxLaws, BoxType, Entries, Error, Mp4Box, ReadBox, Result, Text, WriteBox, bytes_from, fields,
-    piece_at, put_bytes, put_full_box, put_u32, put_u64, test, u8_at, u24_at, u32_at, u64_at,
+    BoxLaws, BoxType, Entries, Error, Mp4Box, ReadBox, Result, Text, WriteBox, bytes_from, expect_bytes,
+    piece_at, put_bytes, put_full_box, put_u32, put_u64, check, u8_at, u24_at, u32_at, u64_at,
 };
 use std::alloc::Global;
 
@@ -102,7 +102,7 @@ impl Mp4Box for EmsgBox {
 fn message_at(alloc: Global, bytes: &[u8], size: u64, at: usize) -> Result<Entries<u8>>
     ensures { Answers result (message_from bytes.now size at) }
 {
-    test(at as u64 <= size, "box size too small")?;
+    check(at as u64 <= size, "box size too small")?;
     let message = piece_at(bytes, at, size as usize - at)?;
     Ok(Vec::from_slice(alloc, message)?.into())
 }
@@ -115,7 +115,7 @@ fn read_version_0(alloc: Global, bytes: &[u8], size: u64) -> Result<EmsgBox>
 {
     let (scheme_id_uri, value) = two_texts_at(alloc, bytes, 12)?;
     let at = scheme_id_uri.len() + value.len() + 14;
-    fields(bytes, at, 16)?;
+    expect_bytes(bytes, at, 16)?;
     let message_data = message_at(alloc, bytes, size, at + 16)?;
     let numbers = bytes_from(bytes, at as u64);
     Ok(EmsgBox {
@@ -138,7 +138,7 @@ fn read_version_1(alloc: Global, bytes: &[u8], size: u64) -> Result<EmsgBox>
     requires { 12 ≤ length bytes.now }
     ensures { Answers result (reads_emsg_1 bytes.now size) }
 {
-    fields(bytes, 12, 20)?;
+    expect_bytes(bytes, 12, 20)?;
     let (scheme_id_uri, value) = two_texts_at(alloc, bytes, 32)?;
     let at = scheme_id_uri.len() + value.len() + 34;
     let message_data = message_at(alloc, bytes, size, at)?;
@@ -161,8 +161,8 @@ impl ReadBox for EmsgBox {
     ghost reads = { reads_emsg };
 
     #[tactic(auto, unfolding(crate::specs::Emsg::reads_emsg))]
-    fn read_row(alloc: Global, bytes: &[u8], _start: u64, size: u64) -> Result<EmsgBox> {
-        fields(bytes, 8, 4)?;
+    fn read_content(alloc: Global, bytes: &[u8], _start: u64, size: u64) -> Result<EmsgBox> {
+        expect_bytes(bytes, 8, 4)?;
         match u8_at(bytes, 8) {
             0 => read_version_0(alloc, bytes, size),
             1 => read_version_1(alloc, bytes, size),
@@ -201,68 +201,68 @@ fn fits(
         && is_terminable(value)
 }
 
-/// Puts the numbers of version 0, and answers the place behind them.
-#[tactic(auto, unfolding(mp4_frame::specs::Bytes::joined, mp4_frame::specs::Bytes::joined_onto))]
+/// Puts the numbers of version 0, and returns the offset after them.
+#[tactic(auto, unfolding(mp4_frame::specs::Bytes::bytes_of_fields, mp4_frame::specs::Bytes::bytes_of_fields_onto))]
 fn put_numbers_0(
-    place: &mut [u8],
+    out: &mut [u8],
     at: usize,
     timescale: u32,
     delta: u32,
     event_duration: u32,
     id: u32,
 ) -> usize
-    requires { at + 16 ≤ length place.old }
+    requires { at + 16 ≤ length out.old }
     ensures next { result ≡ at + 16 }
-    ensures put { take result place.new ≡ take at place.old ++ joined ((4, timescale) ∷ (4, delta) ∷ (4, event_duration) ∷ (4, id) ∷ []) }
+    ensures put { take result out.new ≡ take at out.old ++ bytes_of_fields ((4, timescale) ∷ (4, delta) ∷ (4, event_duration) ∷ (4, id) ∷ []) }
 {
-    let at = put_u32(place, at, timescale);
-    let at = put_u32(place, at, delta);
-    let at = put_u32(place, at, event_duration);
-    put_u32(place, at, id)
+    let at = put_u32(out, at, timescale);
+    let at = put_u32(out, at, delta);
+    let at = put_u32(out, at, event_duration);
+    put_u32(out, at, id)
 }
 
-/// Puts the numbers of version 1, and answers the place behind them.
-#[tactic(auto, unfolding(mp4_frame::specs::Bytes::joined, mp4_frame::specs::Bytes::joined_onto))]
+/// Puts the numbers of version 1, and returns the offset after them.
+#[tactic(auto, unfolding(mp4_frame::specs::Bytes::bytes_of_fields, mp4_frame::specs::Bytes::bytes_of_fields_onto))]
 fn put_numbers_1(
-    place: &mut [u8],
+    out: &mut [u8],
     at: usize,
     timescale: u32,
     time: u64,
     event_duration: u32,
     id: u32,
 ) -> usize
-    requires { at + 20 ≤ length place.old }
+    requires { at + 20 ≤ length out.old }
     ensures next { result ≡ at + 20 }
-    ensures put { take result place.new ≡ take at place.old ++ joined ((4, timescale) ∷ (8, time) ∷ (4, event_duration) ∷ (4, id) ∷ []) }
+    ensures put { take result out.new ≡ take at out.old ++ bytes_of_fields ((4, timescale) ∷ (8, time) ∷ (4, event_duration) ∷ (4, id) ∷ []) }
 {
-    let at = put_u32(place, at, timescale);
-    let at = put_u64(place, at, time);
-    let at = put_u32(place, at, event_duration);
-    put_u32(place, at, id)
+    let at = put_u32(out, at, timescale);
+    let at = put_u64(out, at, time);
+    let at = put_u32(out, at, event_duration);
+    put_u32(out, at, id)
 }
 
 impl EmsgBox {
-    /// Puts the two texts, and answers the place behind them.
-    fn put_texts(&self, place: &mut [u8], at: usize) -> usize
-        requires { at + length self.now.scheme_id_uri + length self.now.value + 2 ≤ length place.old }
+    /// Puts the two texts, and returns the offset after them.
+    fn put_texts(&self, out: &mut [u8], at: usize) -> usize
+        requires { at + length self.now.scheme_id_uri + length self.now.value + 2 ≤ length out.old }
         ensures next { result ≡ at + length self.now.scheme_id_uri + length self.now.value + 2 }
-        ensures put { take result place.new ≡ take at place.old ++ texts_emsg self.now }
+        ensures put { take result out.new ≡ take at out.old ++ texts_emsg self.now }
     {
-        let at = put_terminated(place, at, self.scheme_id_uri.as_bytes());
-        put_terminated(place, at, self.value.as_bytes())
+        let at = put_terminated(out, at, self.scheme_id_uri.as_bytes());
+        put_terminated(out, at, self.value.as_bytes())
     }
 
-    /// Puts the numbers and the texts, and answers the place behind them.
-    fn put_middle(&self, place: &mut [u8], at: usize) -> usize
-        requires { at + size_middle self.now ≤ length place.old }
+    /// Puts the numbers and the texts, and returns the offset after them.
+    fn put_middle(&self, out: &mut [u8], at: usize) -> usize
+        requires { at + size_middle self.now ≤ length out.old }
         ensures next { result ≡ at + size_middle self.now }
-        ensures put { take result place.new ≡ take at place.old ++ middle_emsg self.now }
+        ensures put { take result out.new ≡ take at out.old ++ middle_emsg self.now }
     {
         if self.version == 0 {
             let delta = self.presentation_time_delta.unwrap_or(0);
-            let at = self.put_texts(place, at);
+            let at = self.put_texts(out, at);
             return put_numbers_0(
-                place,
+                out,
                 at,
                 self.timescale,
                 delta,
@@ -272,14 +272,14 @@ impl EmsgBox {
         }
         let time = self.presentation_time.unwrap_or(0);
         let at = put_numbers_1(
-            place,
+            out,
             at,
             self.timescale,
             time,
             self.event_duration,
             self.id,
         );
-        self.put_texts(place, at)
+        self.put_texts(out, at)
     }
 }
 
@@ -306,15 +306,15 @@ impl WriteBox for EmsgBox {
         )
     }
 
-    #[tactic(auto, unfolding(crate::specs::Emsg::bytes_emsg, mp4_frame::specs::Bytes::joined, mp4_frame::specs::Bytes::joined_onto))]
-    fn put_box(&self, place: &mut [u8]) {
+    #[tactic(auto, unfolding(crate::specs::Emsg::bytes_emsg, mp4_frame::specs::Bytes::bytes_of_fields, mp4_frame::specs::Bytes::bytes_of_fields_onto))]
+    fn put_box(&self, out: &mut [u8]) {
         let size = self.box_size() as u32;
-        let at = put_full_box(place, size, 0x656d_7367, self.version, self.flags);
-        let at = self.put_middle(place, at);
-        put_bytes(place, at, self.message_data.as_slice());
+        let at = put_full_box(out, size, 0x656d_7367, self.version, self.flags);
+        let at = self.put_middle(out, at);
+        put_bytes(out, at, self.message_data.as_slice());
     }
 
-    ghost framed = { framed_emsg };
+    ghost header = { header_emsg };
 
     ghost normal_form = { normal_form_emsg };
 }

@@ -2,13 +2,13 @@
 
 ghost use Rattle.std.specs.Prelude.{◌≡◌, ◌-◌, ◌^◌, ◌↔◌, ◌+◌, ◌*◌, [], IfOk, IfErr, IsTrue, map, min, length, replicate, refl};
 ghost use Rattle.mp4_frame.specs.declared.box_type.BoxType.TheVariants as names;
-ghost use Rattle.mp4_frame.proofs.Framing.{settled};
+ghost use Rattle.mp4_frame.proofs.Framing.{own_normal_form};
 ghost use Rattle.mp4_text.specs.Ftyp.{brand_of, reads_ftyp, size_ftyp, WritableFtyp, bytes_ftyp, normal_ftyp};
-ghost use Rattle.mp4_text.specs.FtypLaws.{framed_ftyp, read_back_ftyp, sound_ftyp};
+ghost use Rattle.mp4_text.specs.FtypLaws.{header_ftyp, read_back_ftyp, sound_ftyp};
 
 use mp4_frame::{
     BoxLaws, BoxType, ByteCursor, Entries, Error, FourCC, Mp4Box, ReadBox, Result, WriteBox,
-    all_fit, fields, is_four_cc, put_entries, put_u32, test, u32_at,
+    all_fit, expect_bytes, is_four_cc, put_entries, put_u32, check, u32_at,
 };
 use std::alloc::Global;
 
@@ -97,12 +97,12 @@ impl ReadBox for FtypBox {
     ghost reads = { reads_ftyp };
 
     #[tactic(auto, unfolding(crate::specs::Ftyp::reads_ftyp))]
-    fn read_row(alloc: Global, bytes: &[u8], _start: u64, size: u64) -> Result<FtypBox> {
-        test(
+    fn read_content(alloc: Global, bytes: &[u8], _start: u64, size: u64) -> Result<FtypBox> {
+        check(
             size >= 16 && size % 4 == 0,
             "ftyp size too small or not aligned",
         )?;
-        fields(bytes, 8, 8)?;
+        expect_bytes(bytes, 8, 8)?;
         let mut reader = ByteCursor::new(bytes);
         reader.set_position(16);
         let rows = reader.take_rows::<4>((size - 16) / 4)?;
@@ -138,18 +138,18 @@ impl WriteBox for FtypBox {
         )
     }
 
-    #[tactic(auto, unfolding(crate::specs::Ftyp::bytes_ftyp, mp4_frame::specs::Bytes::joined, mp4_frame::specs::Bytes::joined_onto))]
-    fn put_box(&self, place: &mut [u8]) {
-        let at = put_u32(place, 0, self.box_size() as u32);
-        let at = put_u32(place, at, 0x6674_7970);
-        let at = put_u32(place, at, u32::from(self.major_brand));
-        let at = put_u32(place, at, self.minor_version);
-        put_entries(place, at, self.compatible_brands.as_slice());
+    #[tactic(auto, unfolding(crate::specs::Ftyp::bytes_ftyp, mp4_frame::specs::Bytes::bytes_of_fields, mp4_frame::specs::Bytes::bytes_of_fields_onto))]
+    fn put_box(&self, out: &mut [u8]) {
+        let at = put_u32(out, 0, self.box_size() as u32);
+        let at = put_u32(out, at, 0x6674_7970);
+        let at = put_u32(out, at, u32::from(self.major_brand));
+        let at = put_u32(out, at, self.minor_version);
+        put_entries(out, at, self.compatible_brands.as_slice());
     }
 
-    ghost framed = { framed_ftyp };
+    ghost header = { header_ftyp };
 
-    ghost normal_form = { λ v w. settled v refl w };
+    ghost normal_form = { λ v w. own_normal_form v refl w };
 }
 
 impl BoxLaws for FtypBox {

@@ -2,14 +2,14 @@
 
 ghost use Rattle.std.specs.Prelude.{◌≡◌, ◌↔◌, ◌+◌, ◌-◌, ◌^◌, [], IfOk, IfErr, IsTrue, length, min, replicate, refl};
 ghost use Rattle.mp4_frame.specs.declared.box_type.BoxType.TheVariants as names;
-ghost use Rattle.mp4_frame.proofs.Framing.{settled};
+ghost use Rattle.mp4_frame.proofs.Framing.{own_normal_form};
 ghost use Rattle.mp4_text.specs.Hdlr.{reads_hdlr, size_hdlr, WritableHdlr, bytes_hdlr, normal_hdlr};
-ghost use Rattle.mp4_text.specs.HdlrLaws.{framed_hdlr, read_back_hdlr, sound_hdlr};
+ghost use Rattle.mp4_text.specs.HdlrLaws.{header_hdlr, read_back_hdlr, sound_hdlr};
 
 use crate::terminated::put_terminated;
 use mp4_frame::{
-    BoxLaws, BoxType, Error, FourCC, Mp4Box, ReadBox, Result, Text, WriteBox, fields, is_four_cc,
-    piece_at, put_full_box, put_u32, put_zeros, test, u8_at, u24_at, u32_at,
+    BoxLaws, BoxType, Error, FourCC, Mp4Box, ReadBox, Result, Text, WriteBox, expect_bytes, is_four_cc,
+    piece_at, put_full_box, put_u32, put_zeros, check, u8_at, u24_at, u32_at,
 };
 use std::alloc::Global;
 
@@ -85,9 +85,9 @@ impl ReadBox for HdlrBox {
     ghost reads = { reads_hdlr };
 
     #[tactic(auto, unfolding(crate::specs::Hdlr::reads_hdlr))]
-    fn read_row(alloc: Global, bytes: &[u8], _start: u64, size: u64) -> Result<HdlrBox> {
-        fields(bytes, 8, 12)?;
-        test(size >= 33, "hdlr size too small")?;
+    fn read_content(alloc: Global, bytes: &[u8], _start: u64, size: u64) -> Result<HdlrBox> {
+        expect_bytes(bytes, 8, 12)?;
+        check(size >= 33, "hdlr size too small")?;
         let name = piece_at(bytes, 32, size as usize - 33)?;
         Ok(HdlrBox {
             version: u8_at(bytes, 8),
@@ -124,19 +124,19 @@ impl WriteBox for HdlrBox {
         )
     }
 
-    #[tactic(auto, unfolding(crate::specs::Hdlr::bytes_hdlr, mp4_frame::specs::Bytes::joined, mp4_frame::specs::Bytes::joined_onto))]
-    fn put_box(&self, place: &mut [u8]) {
+    #[tactic(auto, unfolding(crate::specs::Hdlr::bytes_hdlr, mp4_frame::specs::Bytes::bytes_of_fields, mp4_frame::specs::Bytes::bytes_of_fields_onto))]
+    fn put_box(&self, out: &mut [u8]) {
         let size = self.box_size() as u32;
-        let at = put_full_box(place, size, 0x6864_6c72, self.version, self.flags);
-        let at = put_u32(place, at, 0);
-        let at = put_u32(place, at, u32::from(self.handler_type));
-        let at = put_zeros(place, at, 12);
-        put_terminated(place, at, self.name.as_bytes());
+        let at = put_full_box(out, size, 0x6864_6c72, self.version, self.flags);
+        let at = put_u32(out, at, 0);
+        let at = put_u32(out, at, u32::from(self.handler_type));
+        let at = put_zeros(out, at, 12);
+        put_terminated(out, at, self.name.as_bytes());
     }
 
-    ghost framed = { framed_hdlr };
+    ghost header = { header_hdlr };
 
-    ghost normal_form = { λ v w. settled v refl w };
+    ghost normal_form = { λ v w. own_normal_form v refl w };
 }
 
 impl BoxLaws for HdlrBox {

@@ -4,7 +4,7 @@ ghost use Rattle.std.specs.Prelude.{◌≡◌, ◌↔◌, ◌≤◌, ◌+◌, �
 ghost use Rattle.mp4_frame.specs.Reading.{Answers, AnswersAs};
 ghost use Rattle.mp4_text.specs.Terminated.{is_zero, before_zero, utf8_text, terminated_text, two_texts, behind, terminated, IsTerminable};
 
-use mp4_frame::{Error, Result, Text, fields, put_bytes, put_u8};
+use mp4_frame::{Error, Result, Text, expect_bytes, put_bytes, put_u8};
 use std::alloc::Global;
 
 /// Where the first zero byte stands.
@@ -45,11 +45,11 @@ fn terminated_text_at(alloc: Global, bytes: &[u8], at: usize) -> Result<Text>
     ensures room { IfOk result (λ text. at + length text + 1 ≤ length bytes.now) }
 {
     let text = before_zero(bytes, at);
-    fields(bytes, at, text.len() + 1)?;
+    expect_bytes(bytes, at, text.len() + 1)?;
     Text::from_str(alloc, utf8_text(text)?)
 }
 
-/// Reads two texts, one behind the other.
+/// Reads two texts, one after the other.
 #[tactic(auto, unfolding(crate::specs::Terminated::two_texts))]
 pub(crate) fn two_texts_at(alloc: Global, bytes: &[u8], at: usize) -> Result<(Text, Text)>
     ensures texts { Answers result (two_texts bytes.now at) }
@@ -67,13 +67,13 @@ pub(crate) fn is_terminable(text: &Text) -> bool
     text.is_utf8() && !text.as_bytes().contains(&0)
 }
 
-/// Puts a text with a zero byte behind it, and answers the place behind that.
-#[tactic(auto, unfolding(mp4_frame::specs::Bytes::column))]
-pub(crate) fn put_terminated(place: &mut [u8], at: usize, text: &[u8]) -> usize
-    requires { at + length (terminated text.now) ≤ length place.old }
+/// Puts a text with a zero byte after it, and returns the place after that.
+#[tactic(auto, unfolding(mp4_frame::specs::Bytes::be_bytes))]
+pub(crate) fn put_terminated(out: &mut [u8], at: usize, text: &[u8]) -> usize
+    requires { at + length (terminated text.now) ≤ length out.old }
     ensures next { result ≡ at + length (terminated text.now) }
-    ensures put { take result place.new ≡ take at place.old ++ terminated text.now }
+    ensures put { take result out.new ≡ take at out.old ++ terminated text.now }
 {
-    let at = put_bytes(place, at, text);
-    put_u8(place, at, 0)
+    let at = put_bytes(out, at, text);
+    put_u8(out, at, 0)
 }

@@ -2,13 +2,13 @@
 
 ghost use Rattle.std.specs.Prelude.{◌≡◌, ◌≤◌, ◌+◌, ◌-◌, ◌^◌, ◌++◌, [], IfOk, IfErr, min, length, take, refl};
 ghost use Rattle.mp4_frame.specs.declared.box_type.BoxType.TheVariants as names;
-ghost use Rattle.mp4_frame.proofs.Framing.{settled};
+ghost use Rattle.mp4_frame.proofs.Framing.{own_normal_form};
 ghost use Rattle.mp4_text.specs.Url.{reads_url, size_url, WritableUrl, bytes_location, bytes_url, normal_url};
-ghost use Rattle.mp4_text.specs.UrlLaws.{framed_url, read_back_url, sound_url};
+ghost use Rattle.mp4_text.specs.UrlLaws.{header_url, read_back_url, sound_url};
 
 use crate::terminated::put_terminated;
 use mp4_frame::{
-    BoxLaws, BoxType, Error, Mp4Box, ReadBox, Result, Text, WriteBox, fields, piece_at,
+    BoxLaws, BoxType, Error, Mp4Box, ReadBox, Result, Text, WriteBox, expect_bytes, piece_at,
     put_full_box, u8_at, u24_at,
 };
 use std::alloc::Global;
@@ -84,8 +84,8 @@ impl ReadBox for UrlBox {
     ghost reads = { reads_url };
 
     #[tactic(auto, unfolding(crate::specs::Url::reads_url))]
-    fn read_row(alloc: Global, bytes: &[u8], _start: u64, size: u64) -> Result<UrlBox> {
-        fields(bytes, 8, 4)?;
+    fn read_content(alloc: Global, bytes: &[u8], _start: u64, size: u64) -> Result<UrlBox> {
+        expect_bytes(bytes, 8, 4)?;
         let version = u8_at(bytes, 8);
         let flags = u24_at(bytes, 9);
         if size < 13 {
@@ -104,16 +104,16 @@ impl ReadBox for UrlBox {
     }
 }
 
-/// Puts a location with a zero byte behind it, or nothing where it is empty, and answers the place behind.
-fn put_location(place: &mut [u8], at: usize, location: &[u8]) -> usize
-    requires { at + length (bytes_location location.now) ≤ length place.old }
+/// Puts a location with a zero byte after it, or nothing where it is empty, and returns the place after.
+fn put_location(out: &mut [u8], at: usize, location: &[u8]) -> usize
+    requires { at + length (bytes_location location.now) ≤ length out.old }
     ensures next { result ≡ at + length (bytes_location location.now) }
-    ensures put { take result place.new ≡ take at place.old ++ bytes_location location.now }
+    ensures put { take result out.new ≡ take at out.old ++ bytes_location location.now }
 {
     if location.is_empty() {
         return at;
     }
-    put_terminated(place, at, location)
+    put_terminated(out, at, location)
 }
 
 impl WriteBox for UrlBox {
@@ -128,16 +128,16 @@ impl WriteBox for UrlBox {
         self.flags < 1 << 24 && self.box_size() < 1 << 32 && self.location.is_utf8()
     }
 
-    #[tactic(auto, unfolding(crate::specs::Url::bytes_url, mp4_frame::specs::Bytes::joined, mp4_frame::specs::Bytes::joined_onto))]
-    fn put_box(&self, place: &mut [u8]) {
+    #[tactic(auto, unfolding(crate::specs::Url::bytes_url, mp4_frame::specs::Bytes::bytes_of_fields, mp4_frame::specs::Bytes::bytes_of_fields_onto))]
+    fn put_box(&self, out: &mut [u8]) {
         let size = self.box_size() as u32;
-        let at = put_full_box(place, size, 0x7572_6c20, self.version, self.flags);
-        put_location(place, at, self.location.as_bytes());
+        let at = put_full_box(out, size, 0x7572_6c20, self.version, self.flags);
+        put_location(out, at, self.location.as_bytes());
     }
 
-    ghost framed = { framed_url };
+    ghost header = { header_url };
 
-    ghost normal_form = { λ v w. settled v refl w };
+    ghost normal_form = { λ v w. own_normal_form v refl w };
 }
 
 impl BoxLaws for UrlBox {

@@ -1,7 +1,7 @@
 -- A box of 12 bytes: the header, and a number of 4.
 use Rattle.std.specs.Prelude.{ℕ, Bool, true, false, ◌==◌, List, [], ◌∷◌}
-use Rattle.mp4_frame.specs.Bytes.{number, joined, Fit}
-use Rattle.mp4_frame.specs.Reading.{Reading, ◌>>=◌, fields, done, reading}
+use Rattle.mp4_frame.specs.Bytes.{number, bytes_of_fields, FieldsFit}
+use Rattle.mp4_frame.specs.Reading.{Reading, ◌>>=◌, expect_bytes, done, reading}
 use Rattle.mp4_frame.specs.declared.box_type.BoxType.{BoxType}
 use Rattle.mp4_frame.specs.declared.box_type.BoxType.TheVariants as names
 use Rattle.mp4_vectors.specs.declared.mark.MarkBox.{MarkBox}
@@ -11,24 +11,24 @@ abbrev pub MARK : ℕ
 MARK = 0x6d61726b
 
 abbrev pub value_mark : (ℕ → ℕ → ℕ) → MarkBox
-value_mark n = record { mark = n 8 4 }
+value_mark at = record { mark = at 8 4 }
 
 unfoldable pub reads_mark : List ℕ → ℕ → ℕ → Reading MarkBox
 reads_mark bytes start size = do
-  _ ← fields bytes 8 4
+  _ ← expect_bytes bytes 8 4
   done (value_mark (number bytes))
 
 abbrev pub size_mark : MarkBox → ℕ
 size_mark v = 12
 
-abbrev pub columns_mark : MarkBox → List (ℕ × ℕ)
-columns_mark v = (4, 12) ∷ (4, MARK) ∷ (4, v.mark) ∷ []
+abbrev pub fields_mark : MarkBox → List (ℕ × ℕ)
+fields_mark v = (4, 12) ∷ (4, MARK) ∷ (4, v.mark) ∷ []
 
 abbrev pub WritableMark : MarkBox → Type 0
-WritableMark v = Fit (columns_mark v)
+WritableMark v = FieldsFit (fields_mark v)
 
 unfoldable pub bytes_mark : MarkBox → List ℕ
-bytes_mark v = joined (columns_mark v)
+bytes_mark v = bytes_of_fields (fields_mark v)
 
 abbrev pub normal_mark : MarkBox → MarkBox
 normal_mark v = v

@@ -62,7 +62,7 @@ impl WriteBox for MarkBox {
         put_u32(place, at, self.mark);
     }
 
-    ghost framed = { framed_mark };
+    ghost header = { header_mark };
 
     ghost normal_form = { λ v w. settled v refl w };
 }

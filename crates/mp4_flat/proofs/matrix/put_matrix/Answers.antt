@@ -1,11 +1,11 @@
 use Rattle.std.proofs.Common.{refl, rules}
 use Rattle.std.specs.Int.{w32}
-use Rattle.mp4_frame.specs.Bytes.{joined_onto}
-use Rattle.mp4_frame.proofs.Columns.{behind_signed}
+use Rattle.mp4_frame.specs.Bytes.{bytes_of_fields_onto}
+use Rattle.mp4_frame.proofs.Fields.{behind_signed}
 use Rattle.mp4_flat.proofs.matrix.put_matrix.Goals as goal
 
 pub returns-clause-put : goal.returns-clause-put
-unfolding joined_onto
+unfolding bytes_of_fields_onto
 returns-clause-put c =
     let m = c.args.matrix.now in
     behind_signed w32 _ _ _ 4 m.w (search rules) c.put_i32.ensures.put

@@ -8,4 +8,4 @@ returns g c =
     let m = g.met.B.WriteBox in
     let s = g.B.StreamBox in
     let t = g.met.B.StreamBox in
-    λ x vs ws v k h w least most top. cut_inside g.B.Mp4Box.name g.B.Mp4Box.size b.Writable b.bytes b.normal s.known s.named_reading m.framed m.normal_form t.own_name t.read_back vs (recursion_from_All b.Writable vs h) v w ws x k least most top
+    λ x vs ws v k h w least most top. cut_inside g.B.Mp4Box.name g.B.Mp4Box.size b.Writable b.bytes b.normal s.known s.named_reading m.header m.normal_form t.own_name t.read_back vs (recursion_from_All b.Writable vs h) v w ws x k least most top

@@ -1,0 +1,62 @@
+//! A type that holds boxes of several types, as an enum of them does: what it does alike for each of them. These are
+//! functions of one type each, since a function pays at its entry for all of its locals.
+
+ghost use Rattle.std.specs.Prelude.{◌≡◌, ◌-◌, ◌≤◌, IfOk, IfErr, OnErr};
+ghost use Rattle.mp4_frame.specs.Reading.{Answers, AnswersAs, map_reading, reading};
+ghost use Rattle.mp4_frame.specs.Streams.{append_read};
+ghost use Rattle.mp4_frame.specs.declared.error.Error.TheVariants.{OutOfMemory};
+
+use crate::byte_cursor::ByteCursor;
+use crate::error::Result;
+use crate::traits::ReadBox;
+use crate::try_clone::TryClone;
+use std::alloc::Global;
+
+/// A type that holds the boxes of type T.
+pub trait Holds<T>: Sized {
+    /// The box as one of this type.
+    ghost wrapped: { T → Self };
+
+    /// The box as one of this type.
+    fn wrap(value: T) -> Self
+        ensures { result ≡ wrapped value };
+}
+
+/// Reads the box whose header was just read, as one of M, as one of E.
+pub fn read_as<T: ReadBox + Drop, M: Holds<T>, E: Holds<M>>(
+    alloc: Global,
+    reader: &mut ByteCursor,
+    size: u64,
+) -> Result<E>
+    requires after_header { 8 ≤ reader.old.position }
+    ensures answer { Answers result (map_reading E.wrapped (map_reading M.wrapped (reading T.reads reader.old.bytes.now (reader.old.position - 8) size))) }
+    ensures kept { OnErr result (reader.new.position ≡ reader.old.position) }
+    ensures bytes { reader.new.bytes ≡ reader.old.bytes }
+{
+    Ok(E::wrap(M::wrap(T::read_box(alloc, reader, size)?)))
+}
+
+/// Reads the box whose header was just read, and appends it, as one of M, as one of E.
+pub fn push_as<T: ReadBox + Drop, M: Holds<T>, E: Holds<M> + Drop>(
+    alloc: Global,
+    reader: &mut ByteCursor,
+    size: u64,
+    boxes: &mut Vec<E>,
+) -> Result<()>
+    requires after_header { 8 ≤ reader.old.position }
+    ensures answer { AnswersAs (λ _. boxes.new.items) result (append_read boxes.old.items (map_reading E.wrapped (map_reading M.wrapped (reading T.reads reader.old.bytes.now (reader.old.position - 8) size)))) }
+    ensures bytes { reader.new.bytes ≡ reader.old.bytes }
+{
+    let value = T::read_box(alloc, reader, size)?;
+    boxes.reserve(1)?;
+    boxes.push_reserved(E::wrap(M::wrap(value)));
+    Ok(())
+}
+
+/// An equal box, in memory of its own, as one of E.
+pub fn clone_as<T: TryClone + Drop, E: Holds<T>>(value: &T) -> Result<E>
+    ensures clone { IfOk result (λ clone. clone ≡ E.wrapped value.now) }
+    ensures memory { IfErr result (λ e. e ≡ OutOfMemory) }
+{
+    Ok(E::wrap(value.try_clone()?))
+}

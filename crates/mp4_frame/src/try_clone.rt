@@ -1,0 +1,14 @@
+//! Cloning, where memory allows.
+
+ghost use Rattle.std.specs.Prelude.{◌≡◌, IfOk, IfErr};
+ghost use Rattle.mp4_frame.specs.declared.error.Error.TheVariants.{OutOfMemory};
+
+use crate::error::Result;
+
+/// A type whose values can be cloned, unless memory is refused.
+pub trait TryClone: Sized {
+    /// An equal value, in memory of its own.
+    fn try_clone(&self) -> Result<Self>
+        ensures clone { IfOk result (λ clone. clone ≡ self.now) }
+        ensures memory { IfErr result (λ e. e ≡ OutOfMemory) };
+}
