@@ -6,18 +6,21 @@ use Rattle.mp4_frame.specs.Bytes.{bytes_of_fields, full_box}
 use Rattle.mp4_frame.specs.Reading.{Reading, ◌>>=◌, memory, done}
 use Rattle.mp4_flat.specs.Language.{language_code, letters}
 use Rattle.mp4_flat.specs.Time.{time_width, timed_size, reads_timed, WritableTimed}
+use Rattle.mp4_frame.specs.Format.{Format}
+use Rattle.mp4_frame.specs.declared.box_type.BoxType.TheVariants as names
+use Rattle.mp4_frame.specs.declared.codes.TheConstants as codes
 use Rattle.mp4_flat.specs.declared.mdhd.MdhdBox.{MdhdBox}
 
 -- the value, where a time takes t bytes, where `at o w` is the number of w bytes at offset o
 abbrev pub value_mdhd : ℕ → (ℕ → ℕ → ℕ) → MdhdBox
 value_mdhd t at = record {
   version = at 8 1;
-  flags = n 9 3;
-  creation_time = n 12 t;
-  modification_time = n (12 + t) t;
-  timescale = n (12 + 2 * t) 4;
-  duration = n (16 + 2 * t) t;
-  language = letters (n (16 + 3 * t) 2);
+  flags = at 9 3;
+  creation_time = at 12 t;
+  modification_time = at (12 + t) t;
+  timescale = at (12 + 2 * t) 4;
+  duration = at (16 + 2 * t) t;
+  language = letters (at (16 + 3 * t) 2);
 }
 
 unfoldable pub reads_mdhd : List ℕ → ℕ → ℕ → Reading MdhdBox
@@ -32,7 +35,7 @@ size_mdhd v = 16 + timed_size (λ t. 4 + 3 * t) v.version
 abbrev pub fields_mdhd : MdhdBox → List (ℕ × ℕ)
 fields_mdhd v =
     let t = time_width v.version in
-    full_box (size_mdhd v) 0x6d646864 v.version v.flags
+    full_box (size_mdhd v) codes.MDHD v.version v.flags
     ++ (t, v.creation_time) ∷ (t, v.modification_time) ∷ (4, v.timescale) ∷ (t, v.duration)
     ∷ (2, language_code v.language) ∷ (2, 0) ∷ []
 
@@ -48,3 +51,6 @@ bytes_mdhd v = bytes_of_fields (fields_mdhd v)
 -- the language is the one that is read
 abbrev pub normal_mdhd : MdhdBox → MdhdBox
 normal_mdhd v = record v { language = letters (language_code v.language) }
+
+abbrev pub format_mdhd : Format MdhdBox
+format_mdhd = record { name = names.MdhdBox; reads = reads_mdhd; size = size_mdhd; Writable = WritableMdhd; bytes = bytes_mdhd; normal = normal_mdhd }

@@ -4,6 +4,9 @@ use Rattle.std.specs.Prelude.{ℕ, ◌+◌, List, [], ◌∷◌, ◌++◌}
 use Rattle.mp4_frame.specs.Bytes.{bytes_of_fields, full_box}
 use Rattle.mp4_frame.specs.Reading.{Reading}
 use Rattle.mp4_flat.specs.Time.{time_width, timed_size, reads_timed, WritableTimed}
+use Rattle.mp4_frame.specs.Format.{Format}
+use Rattle.mp4_frame.specs.declared.box_type.BoxType.TheVariants as names
+use Rattle.mp4_frame.specs.declared.codes.TheConstants as codes
 use Rattle.mp4_flat.specs.declared.mehd.MehdBox.{MehdBox}
 
 -- the value, where a time takes t bytes, where `at o w` is the number of w bytes at offset o
@@ -17,7 +20,7 @@ abbrev pub size_mehd : MehdBox → ℕ
 size_mehd v = 12 + timed_size (λ t. t) v.version
 
 abbrev pub fields_mehd : MehdBox → List (ℕ × ℕ)
-fields_mehd v = full_box (size_mehd v) 0x6d656864 v.version v.flags ++ (time_width v.version, v.fragment_duration) ∷ []
+fields_mehd v = full_box (size_mehd v) codes.MEHD v.version v.flags ++ (time_width v.version, v.fragment_duration) ∷ []
 
 abbrev pub WritableMehd : MehdBox → Type 0
 WritableMehd v = WritableTimed v.version (fields_mehd v)
@@ -25,5 +28,5 @@ WritableMehd v = WritableTimed v.version (fields_mehd v)
 unfoldable pub bytes_mehd : MehdBox → List ℕ
 bytes_mehd v = bytes_of_fields (fields_mehd v)
 
-abbrev pub normal_mehd : MehdBox → MehdBox
-normal_mehd v = v
+abbrev pub format_mehd : Format MehdBox
+format_mehd = record { name = names.MehdBox; reads = reads_mehd; size = size_mehd; Writable = WritableMehd; bytes = bytes_mehd; normal = λ v. v }

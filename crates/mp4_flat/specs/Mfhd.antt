@@ -2,7 +2,10 @@
 -- the fragment in 4 bytes at 12.
 use Rattle.std.specs.Prelude.{ℕ, List, [], ◌∷◌, ◌++◌}
 use Rattle.mp4_frame.specs.Bytes.{number, bytes_of_fields, FieldsFit, full_box}
+use Rattle.mp4_frame.specs.Format.{Format}
 use Rattle.mp4_frame.specs.Reading.{Reading, ◌>>=◌, expect_bytes, done}
+use Rattle.mp4_frame.specs.declared.box_type.BoxType.TheVariants as names
+use Rattle.mp4_frame.specs.declared.codes.TheConstants as codes
 use Rattle.mp4_flat.specs.declared.mfhd.MfhdBox.{MfhdBox}
 
 -- the value, where `at o w` is the number of w bytes at offset o
@@ -18,7 +21,7 @@ abbrev pub size_mfhd : MfhdBox → ℕ
 size_mfhd v = 16
 
 abbrev pub fields_mfhd : MfhdBox → List (ℕ × ℕ)
-fields_mfhd v = full_box 16 0x6d666864 v.version v.flags ++ (4, v.sequence_number) ∷ []
+fields_mfhd v = full_box 16 codes.MFHD v.version v.flags ++ (4, v.sequence_number) ∷ []
 
 abbrev pub WritableMfhd : MfhdBox → Type 0
 WritableMfhd v = FieldsFit (fields_mfhd v)
@@ -26,5 +29,5 @@ WritableMfhd v = FieldsFit (fields_mfhd v)
 unfoldable pub bytes_mfhd : MfhdBox → List ℕ
 bytes_mfhd v = bytes_of_fields (fields_mfhd v)
 
-abbrev pub normal_mfhd : MfhdBox → MfhdBox
-normal_mfhd v = v
+abbrev pub format_mfhd : Format MfhdBox
+format_mfhd = record { name = names.MfhdBox; reads = reads_mfhd; size = size_mfhd; Writable = WritableMfhd; bytes = bytes_mfhd; normal = λ v. v }

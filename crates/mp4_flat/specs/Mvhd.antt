@@ -6,21 +6,24 @@ use Rattle.mp4_frame.specs.Bytes.{bytes_of_fields, full_box}
 use Rattle.mp4_frame.specs.Reading.{Reading}
 use Rattle.mp4_flat.specs.Matrix.{matrix_at, fields_matrix, unity, IsMatrix}
 use Rattle.mp4_flat.specs.Time.{time_width, timed_size, reads_timed, WritableTimed}
+use Rattle.mp4_frame.specs.Format.{Format}
+use Rattle.mp4_frame.specs.declared.box_type.BoxType.TheVariants as names
+use Rattle.mp4_frame.specs.declared.codes.TheConstants as codes
 use Rattle.mp4_flat.specs.declared.mvhd.MvhdBox.{MvhdBox}
 
 -- the value, where a time takes t bytes, where `at o w` is the number of w bytes at offset o
 abbrev pub value_mvhd : ℕ → (ℕ → ℕ → ℕ) → MvhdBox
 value_mvhd t at = record {
   version = at 8 1;
-  flags = n 9 3;
-  creation_time = n 12 t;
-  modification_time = n (12 + t) t;
-  timescale = n (12 + 2 * t) 4;
-  duration = n (16 + 2 * t) t;
-  rate = n (16 + 3 * t) 4;
-  volume = n (20 + 3 * t) 2;
-  matrix = matrix_at n (32 + 3 * t);
-  next_track_id = n (92 + 3 * t) 4;
+  flags = at 9 3;
+  creation_time = at 12 t;
+  modification_time = at (12 + t) t;
+  timescale = at (12 + 2 * t) 4;
+  duration = at (16 + 2 * t) t;
+  rate = at (16 + 3 * t) 4;
+  volume = at (20 + 3 * t) 2;
+  matrix = matrix_at at (32 + 3 * t);
+  next_track_id = at (92 + 3 * t) 4;
 }
 
 unfoldable pub reads_mvhd : List ℕ → ℕ → ℕ → Reading MvhdBox
@@ -32,7 +35,7 @@ size_mvhd v = 92 + timed_size (λ t. 4 + 3 * t) v.version
 abbrev pub fields_mvhd : MvhdBox → List (ℕ × ℕ)
 fields_mvhd v =
     let t = time_width v.version in
-    full_box (size_mvhd v) 0x6d766864 v.version v.flags
+    full_box (size_mvhd v) codes.MVHD v.version v.flags
     ++ (t, v.creation_time) ∷ (t, v.modification_time) ∷ (4, v.timescale) ∷ (t, v.duration)
     ∷ (4, v.rate) ∷ (2, v.volume) ∷ (10, 0)
     ∷ fields_matrix v.matrix ++ (24, 0) ∷ (4, v.next_track_id) ∷ []
@@ -46,5 +49,5 @@ WritableMvhd v = WritableTimed v.version (fields_mvhd v) × IsMatrix v.matrix
 unfoldable pub bytes_mvhd : MvhdBox → List ℕ
 bytes_mvhd v = bytes_of_fields (fields_mvhd v)
 
-abbrev pub normal_mvhd : MvhdBox → MvhdBox
-normal_mvhd v = v
+abbrev pub format_mvhd : Format MvhdBox
+format_mvhd = record { name = names.MvhdBox; reads = reads_mvhd; size = size_mvhd; Writable = WritableMvhd; bytes = bytes_mvhd; normal = λ v. v }

@@ -4,6 +4,9 @@ use Rattle.std.specs.Prelude.{ℕ, FitsSigned, List, [], ◌∷◌, ◌++◌}
 use Rattle.std.specs.Int.{w16, cast_signed, cast_unsigned}
 use Rattle.mp4_frame.specs.Bytes.{number, bytes_of_fields, FieldsFit, full_box}
 use Rattle.mp4_frame.specs.Reading.{Reading, ◌>>=◌, expect_bytes, done}
+use Rattle.mp4_frame.specs.Format.{Format}
+use Rattle.mp4_frame.specs.declared.box_type.BoxType.TheVariants as names
+use Rattle.mp4_frame.specs.declared.codes.TheConstants as codes
 use Rattle.mp4_flat.specs.declared.smhd.SmhdBox.{SmhdBox}
 
 -- the value, where `at o w` is the number of w bytes at offset o
@@ -19,7 +22,7 @@ abbrev pub size_smhd : SmhdBox → ℕ
 size_smhd v = 16
 
 abbrev pub fields_smhd : SmhdBox → List (ℕ × ℕ)
-fields_smhd v = full_box 16 0x736d6864 v.version v.flags ++ (2, cast_unsigned w16 v.balance) ∷ (2, 0) ∷ []
+fields_smhd v = full_box 16 codes.SMHD v.version v.flags ++ (2, cast_unsigned w16 v.balance) ∷ (2, 0) ∷ []
 
 abbrev pub WritableSmhd : SmhdBox → Type 0
 WritableSmhd v = FieldsFit (fields_smhd v) × FitsSigned w16 v.balance
@@ -27,5 +30,5 @@ WritableSmhd v = FieldsFit (fields_smhd v) × FitsSigned w16 v.balance
 unfoldable pub bytes_smhd : SmhdBox → List ℕ
 bytes_smhd v = bytes_of_fields (fields_smhd v)
 
-abbrev pub normal_smhd : SmhdBox → SmhdBox
-normal_smhd v = v
+abbrev pub format_smhd : Format SmhdBox
+format_smhd = record { name = names.SmhdBox; reads = reads_smhd; size = size_smhd; Writable = WritableSmhd; bytes = bytes_smhd; normal = λ v. v }

@@ -4,6 +4,9 @@ use Rattle.std.specs.Prelude.{ℕ, ◌+◌, List, [], ◌∷◌, ◌++◌}
 use Rattle.mp4_frame.specs.Bytes.{bytes_of_fields, full_box}
 use Rattle.mp4_frame.specs.Reading.{Reading}
 use Rattle.mp4_flat.specs.Time.{time_width, reads_timed, WritableTimed}
+use Rattle.mp4_frame.specs.Format.{Format}
+use Rattle.mp4_frame.specs.declared.box_type.BoxType.TheVariants as names
+use Rattle.mp4_frame.specs.declared.codes.TheConstants as codes
 use Rattle.mp4_flat.specs.declared.tfdt.TfdtBox.{TfdtBox}
 
 -- the value, where a time takes t bytes, where `at o w` is the number of w bytes at offset o
@@ -17,7 +20,7 @@ abbrev pub size_tfdt : TfdtBox → ℕ
 size_tfdt v = 12 + time_width v.version
 
 abbrev pub fields_tfdt : TfdtBox → List (ℕ × ℕ)
-fields_tfdt v = full_box (size_tfdt v) 0x74666474 v.version v.flags ++ (time_width v.version, v.base_media_decode_time) ∷ []
+fields_tfdt v = full_box (size_tfdt v) codes.TFDT v.version v.flags ++ (time_width v.version, v.base_media_decode_time) ∷ []
 
 abbrev pub WritableTfdt : TfdtBox → Type 0
 WritableTfdt v = WritableTimed v.version (fields_tfdt v)
@@ -25,5 +28,5 @@ WritableTfdt v = WritableTimed v.version (fields_tfdt v)
 unfoldable pub bytes_tfdt : TfdtBox → List ℕ
 bytes_tfdt v = bytes_of_fields (fields_tfdt v)
 
-abbrev pub normal_tfdt : TfdtBox → TfdtBox
-normal_tfdt v = v
+abbrev pub format_tfdt : Format TfdtBox
+format_tfdt = record { name = names.TfdtBox; reads = reads_tfdt; size = size_tfdt; Writable = WritableTfdt; bytes = bytes_tfdt; normal = λ v. v }

@@ -7,23 +7,26 @@ use Rattle.mp4_frame.specs.Bytes.{bytes_of_fields, full_box}
 use Rattle.mp4_frame.specs.Reading.{Reading}
 use Rattle.mp4_flat.specs.Matrix.{matrix_at, fields_matrix, unity, IsMatrix}
 use Rattle.mp4_flat.specs.Time.{time_width, timed_size, reads_timed, WritableTimed}
+use Rattle.mp4_frame.specs.Format.{Format}
+use Rattle.mp4_frame.specs.declared.box_type.BoxType.TheVariants as names
+use Rattle.mp4_frame.specs.declared.codes.TheConstants as codes
 use Rattle.mp4_flat.specs.declared.tkhd.TkhdBox.{TkhdBox}
 
 -- the value, where a time takes t bytes, where `at o w` is the number of w bytes at offset o
 abbrev pub value_tkhd : ℕ → (ℕ → ℕ → ℕ) → TkhdBox
 value_tkhd t at = record {
   version = at 8 1;
-  flags = n 9 3;
-  creation_time = n 12 t;
-  modification_time = n (12 + t) t;
-  track_id = n (12 + 2 * t) 4;
-  duration = n (20 + 2 * t) t;
-  layer = n (28 + 3 * t) 2;
-  alternate_group = n (30 + 3 * t) 2;
-  volume = n (32 + 3 * t) 2;
-  matrix = matrix_at n (36 + 3 * t);
-  width = n (72 + 3 * t) 4;
-  height = n (76 + 3 * t) 4;
+  flags = at 9 3;
+  creation_time = at 12 t;
+  modification_time = at (12 + t) t;
+  track_id = at (12 + 2 * t) 4;
+  duration = at (20 + 2 * t) t;
+  layer = at (28 + 3 * t) 2;
+  alternate_group = at (30 + 3 * t) 2;
+  volume = at (32 + 3 * t) 2;
+  matrix = matrix_at at (36 + 3 * t);
+  width = at (72 + 3 * t) 4;
+  height = at (76 + 3 * t) 4;
 }
 
 unfoldable pub reads_tkhd : List ℕ → ℕ → ℕ → Reading TkhdBox
@@ -35,7 +38,7 @@ size_tkhd v = 72 + timed_size (λ t. 8 + 3 * t) v.version
 abbrev pub fields_tkhd : TkhdBox → List (ℕ × ℕ)
 fields_tkhd v =
     let t = time_width v.version in
-    full_box (size_tkhd v) 0x746b6864 v.version v.flags
+    full_box (size_tkhd v) codes.TKHD v.version v.flags
     ++ (t, v.creation_time) ∷ (t, v.modification_time) ∷ (4, v.track_id) ∷ (4, 0) ∷ (t, v.duration) ∷ (8, 0)
     ∷ (2, v.layer) ∷ (2, v.alternate_group) ∷ (2, v.volume) ∷ (2, 0)
     ∷ fields_matrix v.matrix ++ (4, v.width) ∷ (4, v.height) ∷ []
@@ -49,5 +52,5 @@ WritableTkhd v = WritableTimed v.version (fields_tkhd v) × IsMatrix v.matrix
 unfoldable pub bytes_tkhd : TkhdBox → List ℕ
 bytes_tkhd v = bytes_of_fields (fields_tkhd v)
 
-abbrev pub normal_tkhd : TkhdBox → TkhdBox
-normal_tkhd v = v
+abbrev pub format_tkhd : Format TkhdBox
+format_tkhd = record { name = names.TkhdBox; reads = reads_tkhd; size = size_tkhd; Writable = WritableTkhd; bytes = bytes_tkhd; normal = λ v. v }

@@ -3,6 +3,9 @@
 use Rattle.std.specs.Prelude.{ℕ, List, [], ◌∷◌, ◌++◌}
 use Rattle.mp4_frame.specs.Bytes.{number, bytes_of_fields, FieldsFit, full_box}
 use Rattle.mp4_frame.specs.Reading.{Reading, ◌>>=◌, expect_bytes, done}
+use Rattle.mp4_frame.specs.Format.{Format}
+use Rattle.mp4_frame.specs.declared.box_type.BoxType.TheVariants as names
+use Rattle.mp4_frame.specs.declared.codes.TheConstants as codes
 use Rattle.mp4_flat.specs.declared.trex.TrexBox.{TrexBox}
 
 -- the value, where `at o w` is the number of w bytes at offset o
@@ -18,7 +21,7 @@ abbrev pub size_trex : TrexBox → ℕ
 size_trex v = 32
 
 abbrev pub fields_trex : TrexBox → List (ℕ × ℕ)
-fields_trex v = full_box 32 0x74726578 v.version v.flags ++ (4, v.track_id) ∷ (4, v.default_sample_description_index) ∷ (4, v.default_sample_duration) ∷ (4, v.default_sample_size) ∷ (4, v.default_sample_flags) ∷ []
+fields_trex v = full_box 32 codes.TREX v.version v.flags ++ (4, v.track_id) ∷ (4, v.default_sample_description_index) ∷ (4, v.default_sample_duration) ∷ (4, v.default_sample_size) ∷ (4, v.default_sample_flags) ∷ []
 
 abbrev pub WritableTrex : TrexBox → Type 0
 WritableTrex v = FieldsFit (fields_trex v)
@@ -26,5 +29,5 @@ WritableTrex v = FieldsFit (fields_trex v)
 unfoldable pub bytes_trex : TrexBox → List ℕ
 bytes_trex v = bytes_of_fields (fields_trex v)
 
-abbrev pub normal_trex : TrexBox → TrexBox
-normal_trex v = v
+abbrev pub format_trex : Format TrexBox
+format_trex = record { name = names.TrexBox; reads = reads_trex; size = size_trex; Writable = WritableTrex; bytes = bytes_trex; normal = λ v. v }

@@ -3,6 +3,9 @@
 use Rattle.std.specs.Prelude.{ℕ, List, [], ◌∷◌, ◌++◌}
 use Rattle.mp4_frame.specs.Bytes.{number, bytes_of_fields, FieldsFit, full_box}
 use Rattle.mp4_frame.specs.Reading.{Reading, ◌>>=◌, expect_bytes, done}
+use Rattle.mp4_frame.specs.Format.{Format}
+use Rattle.mp4_frame.specs.declared.box_type.BoxType.TheVariants as names
+use Rattle.mp4_frame.specs.declared.codes.TheConstants as codes
 use Rattle.mp4_flat.specs.declared.vmhd.VmhdBox.{VmhdBox}
 
 -- the value, where `at o w` is the number of w bytes at offset o
@@ -18,7 +21,7 @@ abbrev pub size_vmhd : VmhdBox → ℕ
 size_vmhd v = 20
 
 abbrev pub fields_vmhd : VmhdBox → List (ℕ × ℕ)
-fields_vmhd v = full_box 20 0x766d6864 v.version v.flags ++ (2, v.graphics_mode) ∷ (2, v.op_color.red) ∷ (2, v.op_color.green) ∷ (2, v.op_color.blue) ∷ []
+fields_vmhd v = full_box 20 codes.VMHD v.version v.flags ++ (2, v.graphics_mode) ∷ (2, v.op_color.red) ∷ (2, v.op_color.green) ∷ (2, v.op_color.blue) ∷ []
 
 abbrev pub WritableVmhd : VmhdBox → Type 0
 WritableVmhd v = FieldsFit (fields_vmhd v)
@@ -26,5 +29,5 @@ WritableVmhd v = FieldsFit (fields_vmhd v)
 unfoldable pub bytes_vmhd : VmhdBox → List ℕ
 bytes_vmhd v = bytes_of_fields (fields_vmhd v)
 
-abbrev pub normal_vmhd : VmhdBox → VmhdBox
-normal_vmhd v = v
+abbrev pub format_vmhd : Format VmhdBox
+format_vmhd = record { name = names.VmhdBox; reads = reads_vmhd; size = size_vmhd; Writable = WritableVmhd; bytes = bytes_vmhd; normal = λ v. v }

@@ -2,15 +2,12 @@
 
 ghost use Rattle.std.specs.Prelude.{◌≡◌, IfOk, IfErr};
 ghost use Rattle.mp4_frame.specs.declared.box_type.BoxType.TheVariants as names;
-ghost use Rattle.mp4_flat.specs.Mdhd.{default_mdhd, reads_mdhd, size_mdhd, WritableMdhd, bytes_mdhd, normal_mdhd};
-ghost use Rattle.mp4_flat.specs.MdhdLaws.{header_mdhd, normal_form_mdhd, read_back_mdhd, sound_mdhd};
+ghost use Rattle.mp4_flat.specs.Mdhd.{default_mdhd, size_mdhd, format_mdhd};
+ghost use Rattle.mp4_flat.specs.MdhdLaws.{laws_mdhd};
 
 use crate::language::{language_code, language_string};
 use crate::time::{put_time, time_at, time_fits, version_of_times, width_of_time};
-use mp4_frame::{
-    BoxLaws, BoxType, Error, Mp4Box, ReadBox, Result, Text, WriteBox, expect_bytes, put_full_box,
-    put_u16, put_u32, put_zeros, u16_at, u24_at, u32_at,
-};
+use mp4_frame::{BoxLaws, BoxType, Error, Mp4Box, ReadBox, Result, Text, WriteBox, expect_bytes, put_full_box, put_u16, put_u32, put_zeros, u16_at, u24_at, u32_at, codes, TryClone};
 use std::alloc::Global;
 
 /// What holds of the media of a track as a whole (`mdhd`, ISO/IEC 14496-12, 8.4.2).
@@ -49,22 +46,6 @@ impl MdhdBox {
         })
     }
 
-    /// An equal box, in memory of its own.
-    pub fn try_clone(&self) -> Result<MdhdBox>
-        ensures clone { IfOk result (λ clone. clone ≡ self.now) }
-        ensures memory { IfErr result (λ e. e ≡ Error.OutOfMemory) }
-    {
-        Ok(MdhdBox {
-            version: self.version,
-            flags: self.flags,
-            creation_time: self.creation_time,
-            modification_time: self.modification_time,
-            timescale: self.timescale,
-            duration: self.duration,
-            language: self.language.try_clone()?,
-        })
-    }
-
     /// As `box_type`.
     pub fn get_type(&self) -> BoxType
         ensures { result ≡ names.MdhdBox }
@@ -80,10 +61,24 @@ impl MdhdBox {
     }
 }
 
-impl Mp4Box for MdhdBox {
-    ghost name = { λ _. names.MdhdBox };
+impl TryClone for MdhdBox {
+    fn try_clone(&self) -> Result<MdhdBox> {
+        Ok(MdhdBox {
+            version: self.version,
+            flags: self.flags,
+            creation_time: self.creation_time,
+            modification_time: self.modification_time,
+            timescale: self.timescale,
+            duration: self.duration,
+            language: self.language.try_clone()?,
+        })
+    }
+}
 
-    ghost size = { size_mdhd };
+impl Mp4Box for MdhdBox {
+    ghost name = { λ _. format_mdhd.name };
+
+    ghost size = { format_mdhd.size };
 
     fn box_type(&self) -> BoxType {
         BoxType::MdhdBox
@@ -99,7 +94,7 @@ impl Mp4Box for MdhdBox {
 }
 
 impl ReadBox for MdhdBox {
-    ghost reads = { reads_mdhd };
+    ghost reads = { format_mdhd.reads };
 
     #[tactic(auto, unfolding(crate::specs::Mdhd::reads_mdhd))]
     fn read_content(alloc: Global, bytes: &[u8], _start: u64, _size: u64) -> Result<MdhdBox> {
@@ -120,11 +115,11 @@ impl ReadBox for MdhdBox {
 }
 
 impl WriteBox for MdhdBox {
-    ghost Writable = { WritableMdhd };
+    ghost Writable = { format_mdhd.Writable };
 
-    ghost bytes = { bytes_mdhd };
+    ghost bytes = { format_mdhd.bytes };
 
-    ghost normal = { normal_mdhd };
+    ghost normal = { format_mdhd.normal };
 
     #[tactic(auto, using(crate::specs::LanguageLaws::language_fits))]
     fn is_writable(&self) -> bool {
@@ -140,7 +135,7 @@ impl WriteBox for MdhdBox {
     #[tactic(auto, unfolding(crate::specs::Mdhd::bytes_mdhd, mp4_frame::specs::Bytes::bytes_of_fields, mp4_frame::specs::Bytes::bytes_of_fields_onto))]
     fn put_box(&self, out: &mut [u8]) {
         let size = self.box_size() as u32;
-        let at = put_full_box(out, size, 0x6d64_6864, self.version, self.flags);
+        let at = put_full_box(out, size, codes::MDHD, self.version, self.flags);
         let at = put_time(out, at, self.version, self.creation_time);
         let at = put_time(out, at, self.version, self.modification_time);
         let at = put_u32(out, at, self.timescale);
@@ -149,13 +144,13 @@ impl WriteBox for MdhdBox {
         put_zeros(out, at, 2);
     }
 
-    ghost header = { header_mdhd };
+    ghost header = { laws_mdhd.header };
 
-    ghost normal_form = { normal_form_mdhd };
+    ghost normal_form = { laws_mdhd.normal_form };
 }
 
 impl BoxLaws for MdhdBox {
-    ghost read_back = { read_back_mdhd };
+    ghost read_back = { laws_mdhd.read_back };
 
-    ghost sound = { sound_mdhd };
+    ghost sound = { laws_mdhd.sound };
 }

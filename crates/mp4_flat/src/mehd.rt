@@ -1,15 +1,12 @@
 //! The movie extends header box.
 
-ghost use Rattle.std.specs.Prelude.{◌≡◌, refl};
+ghost use Rattle.std.specs.Prelude.{◌≡◌};
 ghost use Rattle.mp4_frame.specs.declared.box_type.BoxType.TheVariants as names;
-ghost use Rattle.mp4_frame.proofs.Framing.{own_normal_form};
-ghost use Rattle.mp4_flat.specs.Mehd.{reads_mehd, size_mehd, WritableMehd, bytes_mehd, normal_mehd};
-ghost use Rattle.mp4_flat.specs.MehdLaws.{header_mehd, read_back_mehd, sound_mehd};
+ghost use Rattle.mp4_flat.specs.Mehd.{size_mehd, format_mehd};
+ghost use Rattle.mp4_flat.specs.MehdLaws.{laws_mehd};
 
 use crate::time::{put_time, time_at, time_fits, version_of_times, width_of_time};
-use mp4_frame::{
-    BoxLaws, BoxType, Mp4Box, ReadBox, Result, WriteBox, expect_bytes, put_full_box, u24_at,
-};
+use mp4_frame::{BoxLaws, BoxType, Mp4Box, ReadBox, Result, WriteBox, expect_bytes, put_full_box, u24_at, codes, TryClone};
 use std::alloc::Global;
 
 /// How long a movie with fragments is (`mehd`, ISO/IEC 14496-12, 8.8.2).
@@ -39,10 +36,16 @@ impl MehdBox {
     }
 }
 
-impl Mp4Box for MehdBox {
-    ghost name = { λ _. names.MehdBox };
+impl TryClone for MehdBox {
+    fn try_clone(&self) -> Result<MehdBox> {
+        Ok(self.clone()?)
+    }
+}
 
-    ghost size = { size_mehd };
+impl Mp4Box for MehdBox {
+    ghost name = { λ _. format_mehd.name };
+
+    ghost size = { format_mehd.size };
 
     fn box_type(&self) -> BoxType {
         BoxType::MehdBox
@@ -58,7 +61,7 @@ impl Mp4Box for MehdBox {
 }
 
 impl ReadBox for MehdBox {
-    ghost reads = { reads_mehd };
+    ghost reads = { format_mehd.reads };
 
     #[tactic(auto, unfolding(crate::specs::Mehd::reads_mehd))]
     fn read_content(_alloc: Global, bytes: &[u8], _start: u64, _size: u64) -> Result<MehdBox> {
@@ -73,11 +76,11 @@ impl ReadBox for MehdBox {
 }
 
 impl WriteBox for MehdBox {
-    ghost Writable = { WritableMehd };
+    ghost Writable = { format_mehd.Writable };
 
-    ghost bytes = { bytes_mehd };
+    ghost bytes = { format_mehd.bytes };
 
-    ghost normal = { normal_mehd };
+    ghost normal = { format_mehd.normal };
 
     fn is_writable(&self) -> bool {
         self.version < 2 && self.flags < 1 << 24 && time_fits(self.version, self.fragment_duration)
@@ -86,17 +89,17 @@ impl WriteBox for MehdBox {
     #[tactic(auto, unfolding(crate::specs::Mehd::bytes_mehd, mp4_frame::specs::Bytes::bytes_of_fields, mp4_frame::specs::Bytes::bytes_of_fields_onto))]
     fn put_box(&self, out: &mut [u8]) {
         let size = self.box_size() as u32;
-        let at = put_full_box(out, size, 0x6d65_6864, self.version, self.flags);
+        let at = put_full_box(out, size, codes::MEHD, self.version, self.flags);
         put_time(out, at, self.version, self.fragment_duration);
     }
 
-    ghost header = { header_mehd };
+    ghost header = { laws_mehd.header };
 
-    ghost normal_form = { λ v w. own_normal_form v refl w };
+    ghost normal_form = { laws_mehd.normal_form };
 }
 
 impl BoxLaws for MehdBox {
-    ghost read_back = { read_back_mehd };
+    ghost read_back = { laws_mehd.read_back };
 
-    ghost sound = { sound_mehd };
+    ghost sound = { laws_mehd.sound };
 }

@@ -1,14 +1,13 @@
 //! The movie fragment header box.
 
-ghost use Rattle.std.specs.Prelude.{◌≡◌, refl};
+ghost use Rattle.std.specs.Prelude.{◌≡◌};
 ghost use Rattle.mp4_frame.specs.declared.box_type.BoxType.TheVariants as names;
-ghost use Rattle.mp4_frame.proofs.Framing.{own_normal_form};
-ghost use Rattle.mp4_flat.specs.Mfhd.{reads_mfhd, size_mfhd, WritableMfhd, bytes_mfhd, normal_mfhd};
-ghost use Rattle.mp4_flat.specs.MfhdLaws.{header_mfhd, read_back_mfhd, sound_mfhd};
+ghost use Rattle.mp4_flat.specs.Mfhd.{size_mfhd, format_mfhd};
+ghost use Rattle.mp4_flat.specs.MfhdLaws.{laws_mfhd};
 
 use mp4_frame::{
-    BoxLaws, BoxType, Mp4Box, ReadBox, Result, WriteBox, expect_bytes, put_full_box, put_u32, u8_at,
-    u24_at, u32_at,
+    BoxLaws, BoxType, Mp4Box, ReadBox, Result, TryClone, WriteBox, codes, expect_bytes,
+    put_full_box, put_u32, u8_at, u24_at, u32_at,
 };
 use std::alloc::Global;
 
@@ -51,10 +50,16 @@ impl MfhdBox {
     }
 }
 
-impl Mp4Box for MfhdBox {
-    ghost name = { λ _. names.MfhdBox };
+impl TryClone for MfhdBox {
+    fn try_clone(&self) -> Result<MfhdBox> {
+        Ok(self.clone()?)
+    }
+}
 
-    ghost size = { size_mfhd };
+impl Mp4Box for MfhdBox {
+    ghost name = { λ _. format_mfhd.name };
+
+    ghost size = { format_mfhd.size };
 
     fn box_type(&self) -> BoxType {
         BoxType::MfhdBox
@@ -66,7 +71,7 @@ impl Mp4Box for MfhdBox {
 }
 
 impl ReadBox for MfhdBox {
-    ghost reads = { reads_mfhd };
+    ghost reads = { format_mfhd.reads };
 
     #[tactic(auto, unfolding(crate::specs::Mfhd::reads_mfhd))]
     fn read_content(_alloc: Global, bytes: &[u8], _start: u64, _size: u64) -> Result<MfhdBox> {
@@ -80,11 +85,11 @@ impl ReadBox for MfhdBox {
 }
 
 impl WriteBox for MfhdBox {
-    ghost Writable = { WritableMfhd };
+    ghost Writable = { format_mfhd.Writable };
 
-    ghost bytes = { bytes_mfhd };
+    ghost bytes = { format_mfhd.bytes };
 
-    ghost normal = { normal_mfhd };
+    ghost normal = { format_mfhd.normal };
 
     fn is_writable(&self) -> bool {
         // What a body reads is known to fit its type.
@@ -94,17 +99,17 @@ impl WriteBox for MfhdBox {
 
     #[tactic(auto, unfolding(crate::specs::Mfhd::bytes_mfhd, mp4_frame::specs::Bytes::bytes_of_fields, mp4_frame::specs::Bytes::bytes_of_fields_onto))]
     fn put_box(&self, out: &mut [u8]) {
-        let at = put_full_box(out, 16, 0x6d66_6864, self.version, self.flags);
+        let at = put_full_box(out, 16, codes::MFHD, self.version, self.flags);
         put_u32(out, at, self.sequence_number);
     }
 
-    ghost header = { header_mfhd };
+    ghost header = { laws_mfhd.header };
 
-    ghost normal_form = { λ v w. own_normal_form v refl w };
+    ghost normal_form = { laws_mfhd.normal_form };
 }
 
 impl BoxLaws for MfhdBox {
-    ghost read_back = { read_back_mfhd };
+    ghost read_back = { laws_mfhd.read_back };
 
-    ghost sound = { sound_mfhd };
+    ghost sound = { laws_mfhd.sound };
 }

@@ -1,17 +1,13 @@
 //! The movie header box.
 
-ghost use Rattle.std.specs.Prelude.{◌≡◌, ◌↔◌, IsTrue, refl};
+ghost use Rattle.std.specs.Prelude.{◌≡◌, ◌↔◌, IsTrue};
 ghost use Rattle.mp4_frame.specs.declared.box_type.BoxType.TheVariants as names;
-ghost use Rattle.mp4_frame.proofs.Framing.{own_normal_form};
-ghost use Rattle.mp4_flat.specs.Mvhd.{reads_mvhd, size_mvhd, WritableMvhd, bytes_mvhd, normal_mvhd};
-ghost use Rattle.mp4_flat.specs.MvhdLaws.{header_mvhd, read_back_mvhd, sound_mvhd};
+ghost use Rattle.mp4_flat.specs.Mvhd.{size_mvhd, WritableMvhd, format_mvhd};
+ghost use Rattle.mp4_flat.specs.MvhdLaws.{laws_mvhd};
 
 use crate::matrix::{Matrix, is_matrix, matrix_from, put_matrix};
 use crate::time::{put_time, time_at, time_fits, version_of_times, width_of_time};
-use mp4_frame::{
-    BoxLaws, BoxType, Mp4Box, ReadBox, Result, WriteBox, expect_bytes, put_full_box, put_u16, put_u32,
-    put_zeros, u16_at, u24_at, u32_at,
-};
+use mp4_frame::{BoxLaws, BoxType, Mp4Box, ReadBox, Result, WriteBox, expect_bytes, put_full_box, put_u16, put_u32, put_zeros, u16_at, u24_at, u32_at, codes, TryClone};
 use mp4_media::{FixedPointU8, FixedPointU16};
 use std::alloc::Global;
 
@@ -41,7 +37,7 @@ pub struct MvhdBox {
 }
 
 impl Default for MvhdBox {
-    ghost use Rattle.mp4_flat.specs.Mvhd.{default_mvhd};
+    ghost use Rattle.mp4_flat.specs.Mvhd.{default_mvhd, format_mvhd};
 
     ghost is_default = { λ v. v ≡ default_mvhd };
 
@@ -77,10 +73,16 @@ impl MvhdBox {
     }
 }
 
-impl Mp4Box for MvhdBox {
-    ghost name = { λ _. names.MvhdBox };
+impl TryClone for MvhdBox {
+    fn try_clone(&self) -> Result<MvhdBox> {
+        Ok(self.clone()?)
+    }
+}
 
-    ghost size = { size_mvhd };
+impl Mp4Box for MvhdBox {
+    ghost name = { λ _. format_mvhd.name };
+
+    ghost size = { format_mvhd.size };
 
     fn box_type(&self) -> BoxType {
         BoxType::MvhdBox
@@ -96,7 +98,7 @@ impl Mp4Box for MvhdBox {
 }
 
 impl ReadBox for MvhdBox {
-    ghost reads = { reads_mvhd };
+    ghost reads = { format_mvhd.reads };
 
     #[tactic(auto, unfolding(crate::specs::Mvhd::reads_mvhd))]
     fn read_content(_alloc: Global, bytes: &[u8], _start: u64, _size: u64) -> Result<MvhdBox> {
@@ -141,11 +143,11 @@ fn fits(
 }
 
 impl WriteBox for MvhdBox {
-    ghost Writable = { WritableMvhd };
+    ghost Writable = { format_mvhd.Writable };
 
-    ghost bytes = { bytes_mvhd };
+    ghost bytes = { format_mvhd.bytes };
 
-    ghost normal = { normal_mvhd };
+    ghost normal = { format_mvhd.normal };
 
     fn is_writable(&self) -> bool {
         fits(
@@ -163,7 +165,7 @@ impl WriteBox for MvhdBox {
     #[tactic(auto, unfolding(crate::specs::Mvhd::bytes_mvhd, mp4_frame::specs::Bytes::bytes_of_fields, mp4_frame::specs::Bytes::bytes_of_fields_onto))]
     fn put_box(&self, out: &mut [u8]) {
         let size = self.box_size() as u32;
-        let at = put_full_box(out, size, 0x6d76_6864, self.version, self.flags);
+        let at = put_full_box(out, size, codes::MVHD, self.version, self.flags);
         let at = put_time(out, at, self.version, self.creation_time);
         let at = put_time(out, at, self.version, self.modification_time);
         let at = put_u32(out, at, self.timescale);
@@ -176,13 +178,13 @@ impl WriteBox for MvhdBox {
         put_u32(out, at, self.next_track_id);
     }
 
-    ghost header = { header_mvhd };
+    ghost header = { laws_mvhd.header };
 
-    ghost normal_form = { λ v w. own_normal_form v refl w };
+    ghost normal_form = { laws_mvhd.normal_form };
 }
 
 impl BoxLaws for MvhdBox {
-    ghost read_back = { read_back_mvhd };
+    ghost read_back = { laws_mvhd.read_back };
 
-    ghost sound = { sound_mvhd };
+    ghost sound = { laws_mvhd.sound };
 }

@@ -1,15 +1,11 @@
 //! The sound media header box.
 
-ghost use Rattle.std.specs.Prelude.{◌≡◌, pos, refl};
+ghost use Rattle.std.specs.Prelude.{◌≡◌, pos};
 ghost use Rattle.mp4_frame.specs.declared.box_type.BoxType.TheVariants as names;
-ghost use Rattle.mp4_frame.proofs.Framing.{own_normal_form};
-ghost use Rattle.mp4_flat.specs.Smhd.{reads_smhd, size_smhd, WritableSmhd, bytes_smhd, normal_smhd};
-ghost use Rattle.mp4_flat.specs.SmhdLaws.{header_smhd, read_back_smhd, sound_smhd};
+ghost use Rattle.mp4_flat.specs.Smhd.{size_smhd, format_smhd};
+ghost use Rattle.mp4_flat.specs.SmhdLaws.{laws_smhd};
 
-use mp4_frame::{
-    BoxLaws, BoxType, Mp4Box, ReadBox, Result, WriteBox, expect_bytes, i16_at, put_full_box, put_i16,
-    put_zeros, u8_at, u24_at,
-};
+use mp4_frame::{BoxLaws, BoxType, Mp4Box, ReadBox, Result, WriteBox, expect_bytes, i16_at, put_full_box, put_i16, put_zeros, u8_at, u24_at, codes, TryClone};
 use mp4_media::FixedPointI8;
 use std::alloc::Global;
 
@@ -52,10 +48,16 @@ impl SmhdBox {
     }
 }
 
-impl Mp4Box for SmhdBox {
-    ghost name = { λ _. names.SmhdBox };
+impl TryClone for SmhdBox {
+    fn try_clone(&self) -> Result<SmhdBox> {
+        Ok(self.clone()?)
+    }
+}
 
-    ghost size = { size_smhd };
+impl Mp4Box for SmhdBox {
+    ghost name = { λ _. format_smhd.name };
+
+    ghost size = { format_smhd.size };
 
     fn box_type(&self) -> BoxType {
         BoxType::SmhdBox
@@ -67,7 +69,7 @@ impl Mp4Box for SmhdBox {
 }
 
 impl ReadBox for SmhdBox {
-    ghost reads = { reads_smhd };
+    ghost reads = { format_smhd.reads };
 
     #[tactic(auto, unfolding(crate::specs::Smhd::reads_smhd))]
     fn read_content(_alloc: Global, bytes: &[u8], _start: u64, _size: u64) -> Result<SmhdBox> {
@@ -81,11 +83,11 @@ impl ReadBox for SmhdBox {
 }
 
 impl WriteBox for SmhdBox {
-    ghost Writable = { WritableSmhd };
+    ghost Writable = { format_smhd.Writable };
 
-    ghost bytes = { bytes_smhd };
+    ghost bytes = { format_smhd.bytes };
 
-    ghost normal = { normal_smhd };
+    ghost normal = { format_smhd.normal };
 
     fn is_writable(&self) -> bool {
         // What a body reads is known to fit its type.
@@ -95,18 +97,18 @@ impl WriteBox for SmhdBox {
 
     #[tactic(auto, unfolding(crate::specs::Smhd::bytes_smhd, mp4_frame::specs::Bytes::bytes_of_fields, mp4_frame::specs::Bytes::bytes_of_fields_onto))]
     fn put_box(&self, out: &mut [u8]) {
-        let at = put_full_box(out, 16, 0x736d_6864, self.version, self.flags);
+        let at = put_full_box(out, 16, codes::SMHD, self.version, self.flags);
         let at = put_i16(out, at, self.balance.raw_value());
         put_zeros(out, at, 2);
     }
 
-    ghost header = { header_smhd };
+    ghost header = { laws_smhd.header };
 
-    ghost normal_form = { λ v w. own_normal_form v refl w };
+    ghost normal_form = { laws_smhd.normal_form };
 }
 
 impl BoxLaws for SmhdBox {
-    ghost read_back = { read_back_smhd };
+    ghost read_back = { laws_smhd.read_back };
 
-    ghost sound = { sound_smhd };
+    ghost sound = { laws_smhd.sound };
 }

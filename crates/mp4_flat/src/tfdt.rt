@@ -1,15 +1,12 @@
 //! The track fragment decode time box.
 
-ghost use Rattle.std.specs.Prelude.{◌≡◌, refl};
+ghost use Rattle.std.specs.Prelude.{◌≡◌};
 ghost use Rattle.mp4_frame.specs.declared.box_type.BoxType.TheVariants as names;
-ghost use Rattle.mp4_frame.proofs.Framing.{own_normal_form};
-ghost use Rattle.mp4_flat.specs.Tfdt.{reads_tfdt, size_tfdt, WritableTfdt, bytes_tfdt, normal_tfdt};
-ghost use Rattle.mp4_flat.specs.TfdtLaws.{header_tfdt, read_back_tfdt, sound_tfdt};
+ghost use Rattle.mp4_flat.specs.Tfdt.{size_tfdt, format_tfdt};
+ghost use Rattle.mp4_flat.specs.TfdtLaws.{laws_tfdt};
 
 use crate::time::{put_time, time_at, time_fits, version_of_times, width_of_time};
-use mp4_frame::{
-    BoxLaws, BoxType, Mp4Box, ReadBox, Result, WriteBox, expect_bytes, put_full_box, u24_at,
-};
+use mp4_frame::{BoxLaws, BoxType, Mp4Box, ReadBox, Result, WriteBox, expect_bytes, put_full_box, u24_at, codes, TryClone};
 use std::alloc::Global;
 
 /// When the first sample of a fragment is decoded (`tfdt`, ISO/IEC 14496-12, 8.8.12).
@@ -39,10 +36,16 @@ impl TfdtBox {
     }
 }
 
-impl Mp4Box for TfdtBox {
-    ghost name = { λ _. names.TfdtBox };
+impl TryClone for TfdtBox {
+    fn try_clone(&self) -> Result<TfdtBox> {
+        Ok(self.clone()?)
+    }
+}
 
-    ghost size = { size_tfdt };
+impl Mp4Box for TfdtBox {
+    ghost name = { λ _. format_tfdt.name };
+
+    ghost size = { format_tfdt.size };
 
     fn box_type(&self) -> BoxType {
         BoxType::TfdtBox
@@ -54,7 +57,7 @@ impl Mp4Box for TfdtBox {
 }
 
 impl ReadBox for TfdtBox {
-    ghost reads = { reads_tfdt };
+    ghost reads = { format_tfdt.reads };
 
     #[tactic(auto, unfolding(crate::specs::Tfdt::reads_tfdt))]
     fn read_content(_alloc: Global, bytes: &[u8], _start: u64, _size: u64) -> Result<TfdtBox> {
@@ -69,11 +72,11 @@ impl ReadBox for TfdtBox {
 }
 
 impl WriteBox for TfdtBox {
-    ghost Writable = { WritableTfdt };
+    ghost Writable = { format_tfdt.Writable };
 
-    ghost bytes = { bytes_tfdt };
+    ghost bytes = { format_tfdt.bytes };
 
-    ghost normal = { normal_tfdt };
+    ghost normal = { format_tfdt.normal };
 
     fn is_writable(&self) -> bool {
         self.version < 2
@@ -84,17 +87,17 @@ impl WriteBox for TfdtBox {
     #[tactic(auto, unfolding(crate::specs::Tfdt::bytes_tfdt, mp4_frame::specs::Bytes::bytes_of_fields, mp4_frame::specs::Bytes::bytes_of_fields_onto))]
     fn put_box(&self, out: &mut [u8]) {
         let size = self.box_size() as u32;
-        let at = put_full_box(out, size, 0x7466_6474, self.version, self.flags);
+        let at = put_full_box(out, size, codes::TFDT, self.version, self.flags);
         put_time(out, at, self.version, self.base_media_decode_time);
     }
 
-    ghost header = { header_tfdt };
+    ghost header = { laws_tfdt.header };
 
-    ghost normal_form = { λ v w. own_normal_form v refl w };
+    ghost normal_form = { laws_tfdt.normal_form };
 }
 
 impl BoxLaws for TfdtBox {
-    ghost read_back = { read_back_tfdt };
+    ghost read_back = { laws_tfdt.read_back };
 
-    ghost sound = { sound_tfdt };
+    ghost sound = { laws_tfdt.sound };
 }

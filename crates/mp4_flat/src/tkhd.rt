@@ -1,19 +1,15 @@
 //! The track header box.
 
-ghost use Rattle.std.specs.Prelude.{◌≡◌, ◌↔◌, IsTrue, refl};
+ghost use Rattle.std.specs.Prelude.{◌≡◌, ◌↔◌, IsTrue};
 ghost use Rattle.mp4_frame.specs.declared.box_type.BoxType.TheVariants as names;
 ghost use Rattle.mp4_media.specs.FixedPoint.{scaled};
-ghost use Rattle.mp4_frame.proofs.Framing.{own_normal_form};
-ghost use Rattle.mp4_flat.specs.Tkhd.{reads_tkhd, size_tkhd, WritableTkhd, bytes_tkhd, normal_tkhd};
-ghost use Rattle.mp4_flat.specs.TkhdLaws.{header_tkhd, read_back_tkhd, sound_tkhd};
+ghost use Rattle.mp4_flat.specs.Tkhd.{size_tkhd, WritableTkhd, format_tkhd};
+ghost use Rattle.mp4_flat.specs.TkhdLaws.{laws_tkhd};
 
 use crate::matrix::{Matrix, is_matrix, matrix_from, put_matrix};
 use crate::time::{put_time, time_at, time_fits, version_of_times, width_of_time};
 use crate::track_flag::TrackFlag;
-use mp4_frame::{
-    BoxLaws, BoxType, Mp4Box, ReadBox, Result, WriteBox, expect_bytes, put_full_box, put_u16, put_u32,
-    put_zeros, u16_at, u24_at, u32_at,
-};
+use mp4_frame::{BoxLaws, BoxType, Mp4Box, ReadBox, Result, WriteBox, expect_bytes, put_full_box, put_u16, put_u32, put_zeros, u16_at, u24_at, u32_at, codes, TryClone};
 use mp4_media::{FixedPointU8, FixedPointU16};
 use std::alloc::Global;
 
@@ -47,7 +43,7 @@ pub struct TkhdBox {
 }
 
 impl Default for TkhdBox {
-    ghost use Rattle.mp4_flat.specs.Tkhd.{default_tkhd};
+    ghost use Rattle.mp4_flat.specs.Tkhd.{default_tkhd, format_tkhd};
 
     ghost is_default = { λ v. v ≡ default_tkhd };
 
@@ -99,10 +95,16 @@ impl TkhdBox {
     }
 }
 
-impl Mp4Box for TkhdBox {
-    ghost name = { λ _. names.TkhdBox };
+impl TryClone for TkhdBox {
+    fn try_clone(&self) -> Result<TkhdBox> {
+        Ok(self.clone()?)
+    }
+}
 
-    ghost size = { size_tkhd };
+impl Mp4Box for TkhdBox {
+    ghost name = { λ _. format_tkhd.name };
+
+    ghost size = { format_tkhd.size };
 
     fn box_type(&self) -> BoxType {
         BoxType::TkhdBox
@@ -118,7 +120,7 @@ impl Mp4Box for TkhdBox {
 }
 
 impl ReadBox for TkhdBox {
-    ghost reads = { reads_tkhd };
+    ghost reads = { format_tkhd.reads };
 
     #[tactic(auto, unfolding(crate::specs::Tkhd::reads_tkhd))]
     fn read_content(_alloc: Global, bytes: &[u8], _start: u64, _size: u64) -> Result<TkhdBox> {
@@ -166,11 +168,11 @@ fn fits(
 }
 
 impl WriteBox for TkhdBox {
-    ghost Writable = { WritableTkhd };
+    ghost Writable = { format_tkhd.Writable };
 
-    ghost bytes = { bytes_tkhd };
+    ghost bytes = { format_tkhd.bytes };
 
-    ghost normal = { normal_tkhd };
+    ghost normal = { format_tkhd.normal };
 
     fn is_writable(&self) -> bool {
         fits(
@@ -188,7 +190,7 @@ impl WriteBox for TkhdBox {
     #[tactic(auto, unfolding(crate::specs::Tkhd::bytes_tkhd, mp4_frame::specs::Bytes::bytes_of_fields, mp4_frame::specs::Bytes::bytes_of_fields_onto))]
     fn put_box(&self, out: &mut [u8]) {
         let size = self.box_size() as u32;
-        let at = put_full_box(out, size, 0x746b_6864, self.version, self.flags);
+        let at = put_full_box(out, size, codes::TKHD, self.version, self.flags);
         let at = put_time(out, at, self.version, self.creation_time);
         let at = put_time(out, at, self.version, self.modification_time);
         let at = put_u32(out, at, self.track_id);
@@ -204,13 +206,13 @@ impl WriteBox for TkhdBox {
         put_u32(out, at, self.height.raw_value());
     }
 
-    ghost header = { header_tkhd };
+    ghost header = { laws_tkhd.header };
 
-    ghost normal_form = { λ v w. own_normal_form v refl w };
+    ghost normal_form = { laws_tkhd.normal_form };
 }
 
 impl BoxLaws for TkhdBox {
-    ghost read_back = { read_back_tkhd };
+    ghost read_back = { laws_tkhd.read_back };
 
-    ghost sound = { sound_tkhd };
+    ghost sound = { laws_tkhd.sound };
 }

@@ -1,15 +1,11 @@
 //! The track extends box.
 
-ghost use Rattle.std.specs.Prelude.{◌≡◌, refl};
+ghost use Rattle.std.specs.Prelude.{◌≡◌};
 ghost use Rattle.mp4_frame.specs.declared.box_type.BoxType.TheVariants as names;
-ghost use Rattle.mp4_frame.proofs.Framing.{own_normal_form};
-ghost use Rattle.mp4_flat.specs.Trex.{reads_trex, size_trex, WritableTrex, bytes_trex, normal_trex};
-ghost use Rattle.mp4_flat.specs.TrexLaws.{header_trex, read_back_trex, sound_trex};
+ghost use Rattle.mp4_flat.specs.Trex.{size_trex, format_trex};
+ghost use Rattle.mp4_flat.specs.TrexLaws.{laws_trex};
 
-use mp4_frame::{
-    BoxLaws, BoxType, Mp4Box, ReadBox, Result, WriteBox, expect_bytes, put_full_box, put_u32, u8_at,
-    u24_at, u32_at,
-};
+use mp4_frame::{BoxLaws, BoxType, Mp4Box, ReadBox, Result, WriteBox, expect_bytes, put_full_box, put_u32, u8_at, u24_at, u32_at, codes, TryClone};
 use std::alloc::Global;
 
 /// What holds of the samples of a track where its fragments say nothing else (`trex`, ISO/IEC 14496-12, 8.8.3).
@@ -47,10 +43,16 @@ impl TrexBox {
     }
 }
 
-impl Mp4Box for TrexBox {
-    ghost name = { λ _. names.TrexBox };
+impl TryClone for TrexBox {
+    fn try_clone(&self) -> Result<TrexBox> {
+        Ok(self.clone()?)
+    }
+}
 
-    ghost size = { size_trex };
+impl Mp4Box for TrexBox {
+    ghost name = { λ _. format_trex.name };
+
+    ghost size = { format_trex.size };
 
     fn box_type(&self) -> BoxType {
         BoxType::TrexBox
@@ -62,7 +64,7 @@ impl Mp4Box for TrexBox {
 }
 
 impl ReadBox for TrexBox {
-    ghost reads = { reads_trex };
+    ghost reads = { format_trex.reads };
 
     #[tactic(auto, unfolding(crate::specs::Trex::reads_trex))]
     fn read_content(_alloc: Global, bytes: &[u8], _start: u64, _size: u64) -> Result<TrexBox> {
@@ -80,11 +82,11 @@ impl ReadBox for TrexBox {
 }
 
 impl WriteBox for TrexBox {
-    ghost Writable = { WritableTrex };
+    ghost Writable = { format_trex.Writable };
 
-    ghost bytes = { bytes_trex };
+    ghost bytes = { format_trex.bytes };
 
-    ghost normal = { normal_trex };
+    ghost normal = { format_trex.normal };
 
     fn is_writable(&self) -> bool {
         // What a body reads is known to fit its type.
@@ -99,7 +101,7 @@ impl WriteBox for TrexBox {
 
     #[tactic(auto, unfolding(crate::specs::Trex::bytes_trex, mp4_frame::specs::Bytes::bytes_of_fields, mp4_frame::specs::Bytes::bytes_of_fields_onto))]
     fn put_box(&self, out: &mut [u8]) {
-        let at = put_full_box(out, 32, 0x7472_6578, self.version, self.flags);
+        let at = put_full_box(out, 32, codes::TREX, self.version, self.flags);
         let at = put_u32(out, at, self.track_id);
         let at = put_u32(out, at, self.default_sample_description_index);
         let at = put_u32(out, at, self.default_sample_duration);
@@ -107,13 +109,13 @@ impl WriteBox for TrexBox {
         put_u32(out, at, self.default_sample_flags);
     }
 
-    ghost header = { header_trex };
+    ghost header = { laws_trex.header };
 
-    ghost normal_form = { λ v w. own_normal_form v refl w };
+    ghost normal_form = { laws_trex.normal_form };
 }
 
 impl BoxLaws for TrexBox {
-    ghost read_back = { read_back_trex };
+    ghost read_back = { laws_trex.read_back };
 
-    ghost sound = { sound_trex };
+    ghost sound = { laws_trex.sound };
 }

@@ -1,16 +1,12 @@
 //! The video media header box.
 
-ghost use Rattle.std.specs.Prelude.{◌≡◌, refl};
+ghost use Rattle.std.specs.Prelude.{◌≡◌};
 ghost use Rattle.mp4_frame.specs.declared.box_type.BoxType.TheVariants as names;
-ghost use Rattle.mp4_frame.proofs.Framing.{own_normal_form};
-ghost use Rattle.mp4_flat.specs.Vmhd.{reads_vmhd, size_vmhd, WritableVmhd, bytes_vmhd, normal_vmhd};
-ghost use Rattle.mp4_flat.specs.VmhdLaws.{header_vmhd, read_back_vmhd, sound_vmhd};
+ghost use Rattle.mp4_flat.specs.Vmhd.{size_vmhd, format_vmhd};
+ghost use Rattle.mp4_flat.specs.VmhdLaws.{laws_vmhd};
 
 use crate::rgb_color::RgbColor;
-use mp4_frame::{
-    BoxLaws, BoxType, Mp4Box, ReadBox, Result, WriteBox, expect_bytes, put_full_box, put_u16, u8_at,
-    u16_at, u24_at,
-};
+use mp4_frame::{BoxLaws, BoxType, Mp4Box, ReadBox, Result, WriteBox, expect_bytes, put_full_box, put_u16, u8_at, u16_at, u24_at, codes, TryClone};
 use std::alloc::Global;
 
 /// How a video is laid over what is after it (`vmhd`, ISO/IEC 14496-12, 12.1.2).
@@ -42,10 +38,16 @@ impl VmhdBox {
     }
 }
 
-impl Mp4Box for VmhdBox {
-    ghost name = { λ _. names.VmhdBox };
+impl TryClone for VmhdBox {
+    fn try_clone(&self) -> Result<VmhdBox> {
+        Ok(self.clone()?)
+    }
+}
 
-    ghost size = { size_vmhd };
+impl Mp4Box for VmhdBox {
+    ghost name = { λ _. format_vmhd.name };
+
+    ghost size = { format_vmhd.size };
 
     fn box_type(&self) -> BoxType {
         BoxType::VmhdBox
@@ -57,7 +59,7 @@ impl Mp4Box for VmhdBox {
 }
 
 impl ReadBox for VmhdBox {
-    ghost reads = { reads_vmhd };
+    ghost reads = { format_vmhd.reads };
 
     #[tactic(auto, unfolding(crate::specs::Vmhd::reads_vmhd))]
     fn read_content(_alloc: Global, bytes: &[u8], _start: u64, _size: u64) -> Result<VmhdBox> {
@@ -76,11 +78,11 @@ impl ReadBox for VmhdBox {
 }
 
 impl WriteBox for VmhdBox {
-    ghost Writable = { WritableVmhd };
+    ghost Writable = { format_vmhd.Writable };
 
-    ghost bytes = { bytes_vmhd };
+    ghost bytes = { format_vmhd.bytes };
 
-    ghost normal = { normal_vmhd };
+    ghost normal = { format_vmhd.normal };
 
     fn is_writable(&self) -> bool {
         // What a body reads is known to fit its type.
@@ -92,20 +94,20 @@ impl WriteBox for VmhdBox {
 
     #[tactic(auto, unfolding(crate::specs::Vmhd::bytes_vmhd, mp4_frame::specs::Bytes::bytes_of_fields, mp4_frame::specs::Bytes::bytes_of_fields_onto))]
     fn put_box(&self, out: &mut [u8]) {
-        let at = put_full_box(out, 20, 0x766d_6864, self.version, self.flags);
+        let at = put_full_box(out, 20, codes::VMHD, self.version, self.flags);
         let at = put_u16(out, at, self.graphics_mode);
         let at = put_u16(out, at, self.op_color.red);
         let at = put_u16(out, at, self.op_color.green);
         put_u16(out, at, self.op_color.blue);
     }
 
-    ghost header = { header_vmhd };
+    ghost header = { laws_vmhd.header };
 
-    ghost normal_form = { λ v w. own_normal_form v refl w };
+    ghost normal_form = { laws_vmhd.normal_form };
 }
 
 impl BoxLaws for VmhdBox {
-    ghost read_back = { read_back_vmhd };
+    ghost read_back = { laws_vmhd.read_back };
 
-    ghost sound = { sound_vmhd };
+    ghost sound = { laws_vmhd.sound };
 }

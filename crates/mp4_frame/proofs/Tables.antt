@@ -13,10 +13,10 @@ use Rattle.mp4_frame.specs.Bytes.{number, bytes_of_fields, FieldsFit}
 use Rattle.mp4_frame.specs.Laws.{AreBytes, BeginsWithHeader}
 use Rattle.mp4_frame.specs.BoxType.{code_of}
 use Rattle.mp4_frame.specs.declared.box_type.BoxType.{BoxType}
-use Rattle.mp4_frame.specs.Reading.{Fault, End, Reading, expect_bytes, piece_from, check, memory, done, and_then, ◌>>=◌, Refuses}
+use Rattle.mp4_frame.specs.Reading.{Fault, End, Reading, expect_bytes, piece_at, check, memory, done, and_then, ◌>>=◌, Refuses}
 use Rattle.mp4_frame.specs.declared.error.Error.{Error}
 use Rattle.mp4_frame.specs.declared.error.Error.TheVariants as errors
-use Rattle.mp4_frame.specs.Tables.{Table, rows, rows_from, counted_rows, fields_table, reads_table, size_table, WritableTable, bytes_table}
+use Rattle.mp4_frame.specs.Tables.{Table, rows, rows_at, counted_rows, fields_table, reads_table, size_table, WritableTable, bytes_table}
 use Rattle.mp4_frame.proofs.Fields.{found, numbers-fields, number-fields, expect_bytes-fields, length-fields, number-below}
 use Rattle.mp4_frame.proofs.Checks.{expect_bytes_present, expect_bytes_ok, check_ok, expect_bytes_room, is_value, are_bytes-drop, guard}
 
@@ -46,8 +46,8 @@ chunks_are_rows B taken o e n pos is len =
     rw (count, is) (first_rows B o e n)
 
 -- the rows of bytes that were taken
-pub rows_value : (B taken : List ℕ) (o e n w : ℕ) → 0 < e → w ≡ n * e → length taken ≡ w → (piece_from B o w).outcome ≡ Ok taken → (rows_from B o e n).outcome ≡ Ok (first_chunks e (length taken / e) taken)
-unfolding rows_from
+pub rows_value : (B taken : List ℕ) (o e n w : ℕ) → 0 < e → w ≡ n * e → length taken ≡ w → (piece_at B o w).outcome ≡ Ok taken → (rows_at B o e n).outcome ≡ Ok (first_chunks e (length taken / e) taken)
+unfolding rows_at
 rows_value B taken o e n w pos is long found =
     let stood = value_first (expect_bytes B o w) (λ _. done (take w (drop o B))) taken found in
     let piece : take w (drop o B) ≡ taken = is_value _ taken stood.2 in
@@ -69,14 +69,14 @@ fault_same false y z errors.OutOfMemory h = h
 fault_same false y z _ h = absurd h
 
 -- rows whose bytes do not are present
-pub rows_fault : (B : List ℕ) (o e n w : ℕ) (x : Error) → w ≡ n * e → Refuses x (piece_from B o w) → Refuses x (rows_from B o e n)
-unfolding rows_from
+pub rows_fault : (B : List ℕ) (o e n w : ℕ) (x : Error) → w ≡ n * e → Refuses x (piece_at B o w) → Refuses x (rows_at B o e n)
+unfolding rows_at
 rows_fault B o e n w x is h =
-    fault_same (ltb 0 (n * e) && ltb (length B) (o + n * e)) (take (n * e) (drop o B)) (rows B o e n) x (subst (λ (k : ℕ). Refuses x (piece_from B o k)) is h)
+    fault_same (ltb 0 (n * e) && ltb (length B) (o + n * e)) (take (n * e) (drop o B)) (rows B o e n) x (subst (λ (k : ℕ). Refuses x (piece_at B o k)) is h)
 
 -- fewer than 2 ^ 64 bytes hold no more
-pub rows_past_all : (B : List ℕ) (o e n : ℕ) → length B < 2 ^ 64 → (n * e < 2 ^ 64 → ⊥) → (rows_from B o e n).outcome ≡ Err End
-unfolding rows_from
+pub rows_past_all : (B : List ℕ) (o e n : ℕ) → length B < 2 ^ 64 → (n * e < 2 ^ 64 → ⊥) → (rows_at B o e n).outcome ≡ Err End
+unfolding rows_at
 rows_past_all B o e n fits past =
     let over : ltb (length B) (o + n * e) ≡ true = lt-ltb _ _ (omega arith) in
     let some : ltb 0 (n * e) ≡ true = lt-ltb _ _ (omega arith) in
@@ -100,9 +100,9 @@ module _ {X : Type 0} (f : X → List ℕ) (e : ℕ) (Fits : X → Type 0) (each
       rw (head, rest) refl
 
   -- rows that were written are read back
-  pub rows_from_back : (p : List ℕ) (xs : List X) (y : List ℕ) (o : ℕ) → AllByRecursion Fits xs → length p ≡ o → rows_from (p ++ (flat_map f xs ++ y)) o e (length xs) ≡ done (map f xs)
-  unfolding rows_from
-  rows_from_back p xs y o h at =
+  pub rows_at_back : (p : List ℕ) (xs : List X) (y : List ℕ) (o : ℕ) → AllByRecursion Fits xs → length p ≡ o → rows_at (p ++ (flat_map f xs ++ y)) o e (length xs) ≡ done (map f xs)
+  unfolding rows_at
+  rows_at_back p xs y o h at =
       let B = p ++ (flat_map f xs ++ y) in
       let room : o + length xs * e ≤ length B = omega (arith, length-append p (flat_map f xs ++ y), length-append (flat_map f xs) y, length_flat xs h, at) in
       rw (expect_bytes_present B o (length xs * e) room, rows_back p xs y o h at) refl
@@ -122,7 +122,7 @@ module _ {X : Type 0} (f : X → List ℕ) (e : ℕ) (Fits : X → Type 0) (each
       let g : number B 9 3 ≡ flags = ap (λ (at : ℕ → ℕ → ℕ). at 9 3) numbers in
       let head = expect_bytes-fields cs z 8 8 (lit≤ tt) in
       let fit = le-leb (length xs) ((size - 16) / e) (le-div (length xs) (size - 16) e pos (omega arith)) in
-      let body = rows_from_back (bytes_of_fields cs) xs y 16 h (length-fields cs) in
+      let body = rows_at_back (bytes_of_fields cs) xs y 16 h (length-fields cs) in
       let whole : (counted_rows B size e).outcome ≡ Ok (record { version = version; flags = flags; rows = map f xs }) = rw (head, many, fit, body, v, g) refl in
       ap (λ (l : List ℕ). (counted_rows l size e).outcome) (append_assoc (bytes_of_fields cs) (flat_map f xs) y) ∙ whole
 
@@ -156,8 +156,8 @@ length-rows B o e zero = refl
 length-rows B o e (suc n) = ap suc (length-rows B (o + e) e n)
 
 -- rows that were read of bytes have their length
-pub rows_read : (B : List ℕ) (o e n : ℕ) (found : List (List ℕ)) → 0 < e → AreBytes B → (rows_from B o e n).outcome ≡ Ok found → AllByRecursion (IsRow e) found × (length found ≡ n)
-unfolding rows_from
+pub rows_read : (B : List ℕ) (o e n : ℕ) (found : List (List ℕ)) → 0 < e → AreBytes B → (rows_at B o e n).outcome ≡ Ok found → AllByRecursion (IsRow e) found × (length found ≡ n)
+unfolding rows_at
 rows_read B o e n found pos are h =
     let p = value_first (expect_bytes B o (n * e)) (λ _. done (rows B o e n)) found h in
     let is : rows B o e n ≡ found = is_value _ found p.2 in
@@ -170,9 +170,9 @@ unfolding counted_rows
 counted_rows_read B size e t pos are h =
     let n = number B 12 4 in
     let made : List (List ℕ) → Reading Table = λ r. done (record { version = number B 8 1; flags = number B 9 3; rows = r }) in
-    let a = expect_bytes_ok B 8 8 (λ _. check _ >>= λ _. rows_from B 16 e n >>= made) t h in
-    let b = check_ok _ (λ _. rows_from B 16 e n >>= made) t a in
-    let c = value_first (rows_from B 16 e n) made t b.1 in
+    let a = expect_bytes_ok B 8 8 (λ _. check _ >>= λ _. rows_at B 16 e n >>= made) t h in
+    let b = check_ok _ (λ _. rows_at B 16 e n >>= made) t a in
+    let c = value_first (rows_at B 16 e n) made t b.1 in
     let found = rows_read B 16 e n c.0 pos are c.1 in
     let count : length c.0 < 256 ^ 4 = omega (arith, number-below B 12 4 are, found.1) in
     let is : record { version = number B 8 1; flags = number B 9 3; rows = c.0 } ≡ t = is_value _ t c.2 in

@@ -40,17 +40,17 @@ check b = if b then done tt else faults Invalid
 abbrev pub expect_bytes : List ℕ → ℕ → ℕ → Reading (Unit {0})
 expect_bytes B o w = if nat_lt 0 w && nat_lt (length B) (o + w) then faults End else done tt
 
--- the w bytes at o, which have to are present
-abbrev pub piece_from : List ℕ → ℕ → ℕ → Reading (List ℕ)
-piece_from bytes o w = do
+-- the w bytes at o, which have to be present
+abbrev pub piece_at : List ℕ → ℕ → ℕ → Reading (List ℕ)
+piece_at bytes o w = do
   _ ← expect_bytes bytes o w
   done (take w (drop o bytes))
 
--- from here on out of memory may be returned
+-- from here on a call may be out of memory
 abbrev pub memory : Reading (Unit {0})
 memory = record { asks_memory = true; outcome = Ok tt }
 
--- an error that returns a fault
+-- the error of a fault
 abbrev pub IsFault : Error → Fault → Type 0
 IsFault errors.IoError k = k ≡ End
 IsFault (errors.InvalidData _) k = k ≡ Invalid

@@ -1,8 +1,8 @@
 //! A place in a buffer.
 
 ghost use Rattle.std.specs.Prelude.{◌≡◌, ◌+◌, ◌*◌, ◌<◌, length, IfOk, OnOk, OnErr};
-ghost use Rattle.mp4_frame.specs.Reading.{AnswersAs, piece_from};
-ghost use Rattle.mp4_frame.specs.Tables.{rows_from};
+ghost use Rattle.mp4_frame.specs.Reading.{AnswersAs, piece_at};
+ghost use Rattle.mp4_frame.specs.Tables.{rows_at};
 
 use crate::error::Result;
 use crate::reading::{piece_at, rows_at};
@@ -47,7 +47,7 @@ impl<'a> ByteCursor<'a> {
 
     /// The next `n` bytes, which have to stand in the buffer. No bytes stand at any place.
     pub fn take(&mut self, n: u64) -> Result<&'a [u8]>
-        ensures piece { AnswersAs (λ piece. piece.now) result (piece_from self.old.bytes.now self.old.position n) }
+        ensures piece { AnswersAs (λ piece. piece.now) result (piece_at self.old.bytes.now self.old.position n) }
         ensures long { IfOk result (λ piece. length piece.now ≡ n) }
         ensures moved { OnOk result (self.new.position ≡ self.old.position + n) }
         ensures kept { OnErr result (self.new.position ≡ self.old.position) }
@@ -61,7 +61,7 @@ impl<'a> ByteCursor<'a> {
     /// The next `n` rows of `E` bytes each, which have to stand in the buffer.
     pub fn take_rows<const E: usize>(&mut self, n: u64) -> Result<&'a [[u8; E]]>
         requires { 0 < E }
-        ensures rows { AnswersAs (λ rows. rows.now) result (rows_from self.old.bytes.now self.old.position E n) }
+        ensures rows { AnswersAs (λ rows. rows.now) result (rows_at self.old.bytes.now self.old.position E n) }
         ensures moved { OnOk result (self.new.position ≡ self.old.position + n * E) }
         ensures kept { OnErr result (self.new.position ≡ self.old.position) }
         ensures bytes { self.new.bytes ≡ self.old.bytes }

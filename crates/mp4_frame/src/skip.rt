@@ -1,7 +1,7 @@
 //! Going on to other places of a buffer.
 
 ghost use Rattle.std.specs.Prelude.{◌≡◌, ◌+◌, ◌-◌, ◌≤◌, ◌^◌, nat_lt, Ok, OnOk, OnErr};
-ghost use Rattle.mp4_frame.specs.Reading.{Answers, check as tested};
+ghost use Rattle.mp4_frame.specs.Reading.{Answers, check};
 
 use crate::box_header::HEADER_SIZE;
 use crate::byte_cursor::ByteCursor;
@@ -18,7 +18,7 @@ pub fn box_start(reader: &ByteCursor) -> Result<u64>
 
 /// Goes on by `size` bytes. Invalid data where the place would lie past 2^64 - 1.
 pub fn skip_bytes(reader: &mut ByteCursor, size: u64) -> Result<()>
-    ensures answer { Answers result (tested (nat_lt (reader.old.position + size) (2 ^ 64))) }
+    ensures answer { Answers result (check (nat_lt (reader.old.position + size) (2 ^ 64))) }
     ensures moved { OnOk result (reader.new.position ≡ reader.old.position + size) }
     ensures kept { OnErr result (reader.new.position ≡ reader.old.position) }
     ensures bytes { reader.new.bytes ≡ reader.old.bytes }
@@ -43,7 +43,7 @@ pub fn skip_bytes_to(reader: &mut ByteCursor, position: u64) -> Result<()>
 /// past 2^64 - 1.
 pub fn skip_box(reader: &mut ByteCursor, size: u64) -> Result<()>
     requires { 8 ≤ reader.old.position }
-    ensures answer { Answers result (tested (nat_lt (reader.old.position - 8 + size) (2 ^ 64))) }
+    ensures answer { Answers result (check (nat_lt (reader.old.position - 8 + size) (2 ^ 64))) }
     ensures moved { OnOk result (reader.new.position ≡ reader.old.position - 8 + size) }
     ensures kept { OnErr result (reader.new.position ≡ reader.old.position) }
     ensures bytes { reader.new.bytes ≡ reader.old.bytes }

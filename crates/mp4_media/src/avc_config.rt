@@ -1,9 +1,8 @@
 //! What a track of advanced video is made from.
 
-ghost use Rattle.std.specs.Prelude.{◌≡◌, [], IfOk, IfErr};
-ghost use Rattle.mp4_frame.specs.declared.error.Error.TheVariants.{OutOfMemory};
+ghost use Rattle.std.specs.Prelude.{◌≡◌, []};
 
-use mp4_frame::{Entries, Result};
+use mp4_frame::{Entries, Result, TryClone};
 use std::alloc::Global;
 
 /// What a track of advanced video (ISO/IEC 14496-10) is made from.
@@ -31,12 +30,10 @@ impl AvcConfig {
             pic_param_set: Entries::new(alloc),
         }
     }
+}
 
-    /// The same configuration, in memory of its own.
-    pub fn try_clone(&self) -> Result<Self>
-        ensures ok { IfOk result (λ c. c ≡ self.now) }
-        ensures err { IfErr result (λ e. e ≡ OutOfMemory) }
-    {
+impl TryClone for AvcConfig {
+    fn try_clone(&self) -> Result<AvcConfig> {
         Ok(AvcConfig {
             width: self.width,
             height: self.height,

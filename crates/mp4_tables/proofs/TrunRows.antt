@@ -7,7 +7,7 @@ use Rattle.std.proofs.lemmas.Option.{slice_get-get_or}
 use Rattle.std.proofs.lemmas.List.{append-nil, append_assoc, map-append, take_all}
 use Rattle.mp4_frame.specs.Bytes.{number, column}
 use Rattle.mp4_frame.specs.Reading.{memory, done, ◌>>=◌}
-use Rattle.mp4_frame.specs.Tables.{rows, rows_from}
+use Rattle.mp4_frame.specs.Tables.{rows, rows_at}
 use Rattle.mp4_tables.specs.Flagged.{is_set, width_if, optional}
 use Rattle.mp4_tables.specs.Rows.{rows_within}
 use Rattle.mp4_tables.specs.TrunLists.{size_in_row, flags_in_row, cts_in_row, row_length, column_if, lists_of, reads_lists, HasAt}
@@ -85,7 +85,7 @@ unset true o found h = absurd (omega arith)
 unset false o found h = refl
 
 empty_rows : (bytes : List ℕ) (size o n : ℕ) → rows_within bytes size o 0 n ≡ done (rows bytes o 0 n)
-unfolding rows_within rows_from
+unfolding rows_within rows_at
 empty_rows bytes size o n =
     let none : n * 0 ≡ 0 = omega arith in
     let room : leb 0 (size - o) ≡ true = le-leb 0 (size - o) (omega arith) in

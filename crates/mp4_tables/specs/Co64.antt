@@ -4,6 +4,9 @@ use Rattle.std.specs.Prelude.{ℕ, ◌<◌, ◌^◌, List}
 use Rattle.mp4_frame.specs.Bytes.{number, be_bytes}
 use Rattle.mp4_frame.specs.Reading.{Reading}
 use Rattle.mp4_frame.specs.Tables.{reads_table, size_table, WritableTable, bytes_table}
+use Rattle.mp4_frame.specs.Format.{Format}
+use Rattle.mp4_frame.specs.declared.box_type.BoxType.TheVariants as names
+use Rattle.mp4_frame.specs.declared.codes.TheConstants as codes
 use Rattle.mp4_tables.specs.declared.co64.Co64Box.{Co64Box}
 
 -- the offset in a row
@@ -20,10 +23,10 @@ abbrev pub size_co64 : Co64Box → ℕ
 size_co64 v = size_table 8 v.entries
 
 abbrev pub WritableCo64 : Co64Box → Type 0
-WritableCo64 v = WritableTable (λ offset. offset < 2 ^ 64) 8 0x636f3634 v.version v.flags v.entries
+WritableCo64 v = WritableTable (λ offset. offset < 2 ^ 64) 8 codes.CO64 v.version v.flags v.entries
 
 unfoldable pub bytes_co64 : Co64Box → List ℕ
-bytes_co64 v = bytes_table (λ offset. be_bytes 8 offset) 8 0x636f3634 v.version v.flags v.entries
+bytes_co64 v = bytes_table (λ offset. be_bytes 8 offset) 8 codes.CO64 v.version v.flags v.entries
 
-abbrev pub normal_co64 : Co64Box → Co64Box
-normal_co64 v = v
+abbrev pub format_co64 : Format Co64Box
+format_co64 = record { name = names.Co64Box; reads = reads_co64; size = size_co64; Writable = WritableCo64; bytes = bytes_co64; normal = λ v. v }

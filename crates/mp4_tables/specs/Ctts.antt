@@ -5,6 +5,9 @@ use Rattle.mp4_frame.specs.Reading.{Reading}
 use Rattle.mp4_frame.specs.Tables.{reads_table, size_table, WritableTable, bytes_table}
 use Rattle.mp4_tables.specs.CttsEntry.{entry_ctts, row_ctts, FitsCttsEntry}
 use Rattle.mp4_tables.specs.declared.ctts.CttsBox.{CttsBox}
+use Rattle.mp4_frame.specs.Format.{Format}
+use Rattle.mp4_frame.specs.declared.box_type.BoxType.TheVariants as names
+use Rattle.mp4_frame.specs.declared.codes.TheConstants as codes
 use Rattle.mp4_tables.specs.declared.ctts_entry.CttsEntry.{CttsEntry}
 
 abbrev pub made_ctts : ℕ → ℕ → List CttsEntry → CttsBox
@@ -17,10 +20,10 @@ abbrev pub size_ctts : CttsBox → ℕ
 size_ctts v = size_table 8 v.entries
 
 abbrev pub WritableCtts : CttsBox → Type 0
-WritableCtts v = WritableTable FitsCttsEntry 8 0x63747473 v.version v.flags v.entries
+WritableCtts v = WritableTable FitsCttsEntry 8 codes.CTTS v.version v.flags v.entries
 
 unfoldable pub bytes_ctts : CttsBox → List ℕ
-bytes_ctts v = bytes_table row_ctts 8 0x63747473 v.version v.flags v.entries
+bytes_ctts v = bytes_table row_ctts 8 codes.CTTS v.version v.flags v.entries
 
-abbrev pub normal_ctts : CttsBox → CttsBox
-normal_ctts v = v
+abbrev pub format_ctts : Format CttsBox
+format_ctts = record { name = names.CttsBox; reads = reads_ctts; size = size_ctts; Writable = WritableCtts; bytes = bytes_ctts; normal = λ v. v }

@@ -6,6 +6,9 @@ use Rattle.mp4_frame.specs.Reading.{Reading}
 use Rattle.mp4_frame.specs.Tables.{reads_table, size_table, WritableTable, bytes_table}
 use Rattle.mp4_tables.specs.ElstEntry.{is_long, row_length, entry_elst, row_elst, FitsElstEntry}
 use Rattle.mp4_tables.specs.declared.elst.ElstBox.{ElstBox}
+use Rattle.mp4_frame.specs.Format.{Format}
+use Rattle.mp4_frame.specs.declared.box_type.BoxType.TheVariants as names
+use Rattle.mp4_frame.specs.declared.codes.TheConstants as codes
 use Rattle.mp4_tables.specs.declared.elst_entry.ElstEntry.{ElstEntry}
 
 abbrev pub made_elst : ℕ → ℕ → List ElstEntry → ElstBox
@@ -23,16 +26,16 @@ size_elst v = size_table (row_length (is_long v.version)) v.entries
 
 -- by whether its rows are long
 abbrev pub WritableElstRows : Bool → ElstBox → Type 0
-WritableElstRows long v = WritableTable (FitsElstEntry long) (row_length long) 0x656c7374 v.version v.flags v.entries
+WritableElstRows long v = WritableTable (FitsElstEntry long) (row_length long) codes.ELST v.version v.flags v.entries
 
 abbrev pub WritableElst : ElstBox → Type 0
 WritableElst v = WritableElstRows (is_long v.version) v
 
 unfoldable pub bytes_elst_rows : Bool → ElstBox → List ℕ
-bytes_elst_rows long v = bytes_table (row_elst long) (row_length long) 0x656c7374 v.version v.flags v.entries
+bytes_elst_rows long v = bytes_table (row_elst long) (row_length long) codes.ELST v.version v.flags v.entries
 
 unfoldable pub bytes_elst : ElstBox → List ℕ
 bytes_elst v = bytes_elst_rows (is_long v.version) v
 
-abbrev pub normal_elst : ElstBox → ElstBox
-normal_elst v = v
+abbrev pub format_elst : Format ElstBox
+format_elst = record { name = names.ElstBox; reads = reads_elst; size = size_elst; Writable = WritableElst; bytes = bytes_elst; normal = λ v. v }

@@ -17,7 +17,7 @@ time_width long = if long then 8 else 4
 
 -- the entry whose times have w bytes, where `at o w` is the number of w bytes at offset o of its row
 abbrev pub value_elst_entry : ℕ → (ℕ → ℕ → ℕ) → ElstEntry
-value_elst_entry w n = record { segment_duration = at 0 w; media_time = n w w; media_rate = at (w + w) 2; media_rate_fraction = at (w + w + 2) 2 }
+value_elst_entry w at = record { segment_duration = at 0 w; media_time = at w w; media_rate = at (w + w) 2; media_rate_fraction = at (w + w + 2) 2 }
 
 abbrev pub entry_elst : Bool → List ℕ → ElstEntry
 entry_elst long row = value_elst_entry (time_width long) (number row)

@@ -4,9 +4,9 @@ use Rattle.std.specs.List.{flat_map, AllByRecursion}
 use Rattle.std.proofs.lemmas.Bool.{le-leb}
 use Rattle.mp4_frame.specs.Laws.{AreBytes}
 use Rattle.mp4_frame.specs.Reading.{done}
-use Rattle.mp4_frame.specs.Tables.{rows_from}
+use Rattle.mp4_frame.specs.Tables.{rows_at}
 use Rattle.mp4_frame.proofs.Checks.{check_ok}
-use Rattle.mp4_frame.proofs.Tables.{IsRow, rows_from_back, rows_read}
+use Rattle.mp4_frame.proofs.Tables.{IsRow, rows_at_back, rows_read}
 use Rattle.mp4_tables.specs.Rows.{rows_within}
 
 -- rows that were written after p
@@ -16,11 +16,11 @@ pub rows_within_back : {X : Type 0} (row_of : X → List ℕ) (e : ℕ) (Fits : 
 unfolding rows_within
 rows_within_back row_of e Fits long p xs y o size fits at is =
     let room : leb (length xs * e) (size - o) ≡ true = le-leb (length xs * e) (size - o) (omega arith) in
-    let back : rows_from (p ++ (flat_map row_of xs ++ y)) o e (length xs) ≡ done (map row_of xs) = rows_from_back row_of e Fits long p xs y o fits at in
+    let back : rows_at (p ++ (flat_map row_of xs ++ y)) o e (length xs) ≡ done (map row_of xs) = rows_at_back row_of e Fits long p xs y o fits at in
     rw (room, back) refl
 
 -- rows that were read have their length, and are as many as counted
 pub rows_within_read : (bytes : List ℕ) (size o e n : ℕ) (found : List (List ℕ)) → 0 < e → AreBytes bytes → (rows_within bytes size o e n).outcome ≡ Ok found → AllByRecursion (IsRow e) found × (length found ≡ n)
 unfolding rows_within
 rows_within_read bytes size o e n found pos are h =
-    rows_read bytes o e n found pos are (check_ok (leb (n * e) (size - o)) (λ _. rows_from bytes o e n) found h).1
+    rows_read bytes o e n found pos are (check_ok (leb (n * e) (size - o)) (λ _. rows_at bytes o e n) found h).1

@@ -4,6 +4,9 @@ use Rattle.std.specs.Prelude.{ℕ, ◌<◌, ◌^◌, List}
 use Rattle.mp4_frame.specs.Bytes.{number, be_bytes}
 use Rattle.mp4_frame.specs.Reading.{Reading}
 use Rattle.mp4_frame.specs.Tables.{reads_table, size_table, WritableTable, bytes_table}
+use Rattle.mp4_frame.specs.Format.{Format}
+use Rattle.mp4_frame.specs.declared.box_type.BoxType.TheVariants as names
+use Rattle.mp4_frame.specs.declared.codes.TheConstants as codes
 use Rattle.mp4_tables.specs.declared.stco.StcoBox.{StcoBox}
 
 -- the offset in a row
@@ -20,10 +23,10 @@ abbrev pub size_stco : StcoBox → ℕ
 size_stco v = size_table 4 v.entries
 
 abbrev pub WritableStco : StcoBox → Type 0
-WritableStco v = WritableTable (λ offset. offset < 2 ^ 32) 4 0x7374636f v.version v.flags v.entries
+WritableStco v = WritableTable (λ offset. offset < 2 ^ 32) 4 codes.STCO v.version v.flags v.entries
 
 unfoldable pub bytes_stco : StcoBox → List ℕ
-bytes_stco v = bytes_table (λ offset. be_bytes 4 offset) 4 0x7374636f v.version v.flags v.entries
+bytes_stco v = bytes_table (λ offset. be_bytes 4 offset) 4 codes.STCO v.version v.flags v.entries
 
-abbrev pub normal_stco : StcoBox → StcoBox
-normal_stco v = v
+abbrev pub format_stco : Format StcoBox
+format_stco = record { name = names.StcoBox; reads = reads_stco; size = size_stco; Writable = WritableStco; bytes = bytes_stco; normal = λ v. v }

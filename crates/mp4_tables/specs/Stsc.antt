@@ -5,6 +5,9 @@ use Rattle.mp4_frame.specs.Reading.{Reading, ◌>>=◌, memory, check, done}
 use Rattle.mp4_frame.specs.Tables.{counted_rows, size_table, WritableTable, bytes_table}
 use Rattle.mp4_tables.specs.Chunks.{chunks_fit, numbered}
 use Rattle.mp4_tables.specs.StscEntry.{entry_stsc, row_stsc, FitsStscEntry}
+use Rattle.mp4_frame.specs.Format.{Format}
+use Rattle.mp4_frame.specs.declared.box_type.BoxType.TheVariants as names
+use Rattle.mp4_frame.specs.declared.codes.TheConstants as codes
 use Rattle.mp4_tables.specs.declared.stsc.StscBox.{StscBox}
 
 unfoldable pub reads_stsc : List ℕ → ℕ → ℕ → Reading StscBox
@@ -19,12 +22,15 @@ size_stsc v = size_table 12 v.entries
 
 -- every number fits its bytes, and the first samples can be computed
 pub record WritableStsc (v : StscBox) : Type 0 where
-  pub table : WritableTable FitsStscEntry 12 0x73747363 v.version v.flags v.entries
+  pub table : WritableTable FitsStscEntry 12 codes.STSC v.version v.flags v.entries
   pub chunks : IsTrue (chunks_fit v.entries)
 
 unfoldable pub bytes_stsc : StscBox → List ℕ
-bytes_stsc v = bytes_table row_stsc 12 0x73747363 v.version v.flags v.entries
+bytes_stsc v = bytes_table row_stsc 12 codes.STSC v.version v.flags v.entries
 
 -- the computed first samples
 abbrev pub normal_stsc : StscBox → StscBox
 normal_stsc v = record v { entries = numbered v.entries }
+
+abbrev pub format_stsc : Format StscBox
+format_stsc = record { name = names.StscBox; reads = reads_stsc; size = size_stsc; Writable = WritableStsc; bytes = bytes_stsc; normal = normal_stsc }

@@ -3,10 +3,9 @@ use Rattle.std.proofs.Common.{◌≡◌, ℕ, ◌+◌, ◌-◌, ◌^◌, ◌<◌
 use Rattle.std.specs.List.{flat_map, AllByRecursion, list_all, range_with_len, sum_by}
 use Rattle.std.proofs.lemmas.List.{length-map}
 use Rattle.std.proofs.lemmas.List.Elements.{All-from_recursion, recursion_from_All}
-use Rattle.mp4_frame.specs.Laws.{BeginsWithHeader, Normal, ContentReadsBack, ContentIsSound}
+use Rattle.mp4_frame.specs.Format.{IsBox}
 use Rattle.mp4_frame.specs.Reading.{◌>>=◌, memory, check, done}
 use Rattle.mp4_frame.specs.Tables.{Table, counted_rows, WritableTable}
-use Rattle.mp4_frame.specs.declared.box_type.BoxType.TheVariants as names
 use Rattle.mp4_frame.proofs.Framing.{header_in_front, fits_read, Number}
 use Rattle.mp4_frame.proofs.Fields.{length-fields}
 use Rattle.mp4_frame.proofs.Checks.{check_ok, is_value}
@@ -14,8 +13,9 @@ use Rattle.mp4_frame.proofs.Tables.{IsRow, length_flat, counted_rows_back, count
 use Rattle.mp4_tables.specs.EntryLaws.{fields_back}
 use Rattle.mp4_tables.specs.Chunks.{samples_in, begins, sample_at, in_order, chunks_fit, with_sample, numbered}
 use Rattle.mp4_tables.specs.StscEntry.{value_stsc_entry, entry_stsc, fields_stsc_entry, row_stsc, FitsStscEntry}
-use Rattle.mp4_tables.specs.Stsc.{reads_stsc, size_stsc, WritableStsc, bytes_stsc, normal_stsc}
+use Rattle.mp4_tables.specs.Stsc.{reads_stsc, size_stsc, WritableStsc, bytes_stsc, normal_stsc, format_stsc}
 use Rattle.mp4_tables.specs.declared.stsc.StscBox.{StscBox}
+use Rattle.mp4_frame.specs.declared.codes.TheConstants as codes
 use Rattle.mp4_tables.specs.declared.stsc_entry.StscEntry.{StscEntry}
 
 -- other first samples
@@ -78,7 +78,7 @@ entries_back (e ∷ es) w = rw (entry_back e w.0, entries_back es w.1) refl
 entry_fits : (row : List ℕ) → IsRow 12 row → FitsStscEntry (entry_stsc row)
 entry_fits row is = fits_read row is.are (Number 0 4 ∷ Number 4 4 ∷ Number 8 4 ∷ [])
 
-table_renumbered : (h : StscEntry → ℕ) (version flags : ℕ) (es : List StscEntry) → WritableTable FitsStscEntry 12 0x73747363 version flags es → WritableTable FitsStscEntry 12 0x73747363 version flags (renumbered h es)
+table_renumbered : (h : StscEntry → ℕ) (version flags : ℕ) (es : List StscEntry) → WritableTable FitsStscEntry 12 codes.STSC version flags es → WritableTable FitsStscEntry 12 codes.STSC version flags (renumbered h es)
 table_renumbered h version flags es w =
     let len = length-map es (λ (e : StscEntry). with_sample e (h e)) in
     record {
@@ -86,48 +86,41 @@ table_renumbered h version flags es w =
       each = All-from_recursion FitsStscEntry (renumbered h es) (same_fits h es (recursion_from_All FitsStscEntry es w.each));
     }
 
-pub header_stsc : (v : StscBox) → WritableStsc v → BeginsWithHeader (size_stsc v) names.StscBox (bytes_stsc v)
-unfolding bytes_stsc
-header_stsc v w =
-    let long = length_flat row_stsc 12 FitsStscEntry entry_long v.entries (recursion_from_All FitsStscEntry v.entries w.table.each) in
-    header_in_front _ (flat_map row_stsc v.entries) w.table.fit (omega (arith, long))
-
-pub normal_form_stsc : (v : StscBox) → WritableStsc v → Normal WritableStsc bytes_stsc normal_stsc v
-unfolding bytes_stsc
-normal_form_stsc v w =
-    let h : StscEntry → ℕ = λ e. sample_at v.entries e.first_chunk in
-    let len = length-map v.entries (λ (e : StscEntry). with_sample e (sample_at v.entries e.first_chunk)) in
-    record {
-      writable = record { table = table_renumbered h v.version v.flags v.entries w.table; chunks = same_fit h v.entries ∙ w.chunks };
-      again = ap (λ (es : List StscEntry). record v { entries = es }) (same_numbers h v.entries);
-      same_bytes = rw (len, same_bytes h v.entries) refl;
-    }
-
-pub read_back_stsc : (v : StscBox) → WritableStsc v → ContentReadsBack reads_stsc (bytes_stsc v) (size_stsc v) (normal_stsc v)
+pub laws_stsc : IsBox format_stsc
 unfolding bytes_stsc reads_stsc
-read_back_stsc v w rest start top =
-    let each = recursion_from_All FitsStscEntry v.entries w.table.each in
-    let t = counted_rows_back row_stsc 12 FitsStscEntry entry_long 0x73747363 v.version v.flags v.entries rest (lit< tt) each w.table.fit in
-    let raw = entries_back v.entries each in
-    let fit : chunks_fit (renumbered (λ _. 0) v.entries) ≡ true = same_fit (λ _. 0) v.entries ∙ w.chunks in
-    let numbers = same_numbers (λ _. 0) v.entries in
-    rw (t, raw, fit, numbers) refl
-
-pub sound_stsc : ContentIsSound reads_stsc WritableStsc size_stsc normal_stsc
-unfolding reads_stsc
-sound_stsc bytes start long v are read =
-    let p = value_first (counted_rows bytes long 12) (λ (t : Table). memory >>= λ _. check (chunks_fit (map entry_stsc t.rows)) >>= λ _. done (record { version = t.version; flags = t.flags; entries = numbered (map entry_stsc t.rows) })) v read in
-    let t = counted_rows_read bytes long 12 p.0 (lit< tt) are p.1 in
-    let es = map entry_stsc p.0.rows in
-    let made : StscBox = record { version = p.0.version; flags = p.0.flags; entries = numbered es } in
-    let q = check_ok (chunks_fit es) (λ _. done made) v p.2 in
-    let is : made ≡ v = is_value made v q.1 in
-    let h : StscEntry → ℕ = λ e. sample_at es e.first_chunk in
-    let len = length-map es (λ (e : StscEntry). with_sample e (sample_at es e.first_chunk)) in
-    let count : length (numbered es) < 256 ^ 4 = omega (arith, len, t.2, length_map entry_stsc p.0.rows) in
-    let own_normal_form : normal_stsc made ≡ made = ap (λ (xs : List StscEntry). record made { entries = xs }) (same_numbers h es) in
-    let can : size_stsc made < 2 ^ 32 → WritableStsc made = λ small. record {
-      table = record { fit = (small, (lit< tt, (t.0, (t.1, (count, tt))))); each = All-from_recursion FitsStscEntry (numbered es) (same_fits h es (map_all 12 entry_stsc FitsStscEntry entry_fits p.0.rows t.3)) };
-      chunks = same_fit h es ∙ q.0;
-    } in
-    subst (λ (w : StscBox). (normal_stsc w ≡ w) × (size_stsc w < 2 ^ 32 → WritableStsc w)) is (own_normal_form, can)
+laws_stsc = record {
+  header = λ v w.
+      let long = length_flat row_stsc 12 FitsStscEntry entry_long v.entries (recursion_from_All FitsStscEntry v.entries w.table.each) in
+      header_in_front _ (flat_map row_stsc v.entries) w.table.fit (omega (arith, long));
+  normal_form = λ v w.
+      let h : StscEntry → ℕ = λ e. sample_at v.entries e.first_chunk in
+      let len = length-map v.entries (λ (e : StscEntry). with_sample e (sample_at v.entries e.first_chunk)) in
+      record {
+        writable = record { table = table_renumbered h v.version v.flags v.entries w.table; chunks = same_fit h v.entries ∙ w.chunks };
+        again = ap (λ (es : List StscEntry). record v { entries = es }) (same_numbers h v.entries);
+        same_bytes = rw (len, same_bytes h v.entries) refl;
+      };
+  read_back = λ v w rest start top.
+      let each = recursion_from_All FitsStscEntry v.entries w.table.each in
+      let t = counted_rows_back row_stsc 12 FitsStscEntry entry_long codes.STSC v.version v.flags v.entries rest (lit< tt) each w.table.fit in
+      let raw = entries_back v.entries each in
+      let fit : chunks_fit (renumbered (λ _. 0) v.entries) ≡ true = same_fit (λ _. 0) v.entries ∙ w.chunks in
+      let numbers = same_numbers (λ _. 0) v.entries in
+      rw (t, raw, fit, numbers) refl;
+  sound = λ bytes start long v are read.
+      let p = value_first (counted_rows bytes long 12) (λ (t : Table). memory >>= λ _. check (chunks_fit (map entry_stsc t.rows)) >>= λ _. done (record { version = t.version; flags = t.flags; entries = numbered (map entry_stsc t.rows) })) v read in
+      let t = counted_rows_read bytes long 12 p.0 (lit< tt) are p.1 in
+      let es = map entry_stsc p.0.rows in
+      let made : StscBox = record { version = p.0.version; flags = p.0.flags; entries = numbered es } in
+      let q = check_ok (chunks_fit es) (λ _. done made) v p.2 in
+      let is : made ≡ v = is_value made v q.1 in
+      let h : StscEntry → ℕ = λ e. sample_at es e.first_chunk in
+      let len = length-map es (λ (e : StscEntry). with_sample e (sample_at es e.first_chunk)) in
+      let count : length (numbered es) < 256 ^ 4 = omega (arith, len, t.2, length_map entry_stsc p.0.rows) in
+      let own_normal_form : normal_stsc made ≡ made = ap (λ (xs : List StscEntry). record made { entries = xs }) (same_numbers h es) in
+      let can : size_stsc made < 2 ^ 32 → WritableStsc made = λ small. record {
+        table = record { fit = (small, (lit< tt, (t.0, (t.1, (count, tt))))); each = All-from_recursion FitsStscEntry (numbered es) (same_fits h es (map_all 12 entry_stsc FitsStscEntry entry_fits p.0.rows t.3)) };
+        chunks = same_fit h es ∙ q.0;
+      } in
+      subst (λ (w : StscBox). (normal_stsc w ≡ w) × (size_stsc w < 2 ^ 32 → WritableStsc w)) is (own_normal_form, can);
+}

@@ -4,6 +4,9 @@ use Rattle.std.specs.Prelude.{ℕ, ◌<◌, ◌^◌, List}
 use Rattle.mp4_frame.specs.Bytes.{number, be_bytes}
 use Rattle.mp4_frame.specs.Reading.{Reading}
 use Rattle.mp4_frame.specs.Tables.{reads_table, size_table, WritableTable, bytes_table}
+use Rattle.mp4_frame.specs.Format.{Format}
+use Rattle.mp4_frame.specs.declared.box_type.BoxType.TheVariants as names
+use Rattle.mp4_frame.specs.declared.codes.TheConstants as codes
 use Rattle.mp4_tables.specs.declared.stss.StssBox.{StssBox}
 
 -- the sample number in a row
@@ -20,10 +23,10 @@ abbrev pub size_stss : StssBox → ℕ
 size_stss v = size_table 4 v.entries
 
 abbrev pub WritableStss : StssBox → Type 0
-WritableStss v = WritableTable (λ sample. sample < 2 ^ 32) 4 0x73747373 v.version v.flags v.entries
+WritableStss v = WritableTable (λ sample. sample < 2 ^ 32) 4 codes.STSS v.version v.flags v.entries
 
 unfoldable pub bytes_stss : StssBox → List ℕ
-bytes_stss v = bytes_table (λ sample. be_bytes 4 sample) 4 0x73747373 v.version v.flags v.entries
+bytes_stss v = bytes_table (λ sample. be_bytes 4 sample) 4 codes.STSS v.version v.flags v.entries
 
-abbrev pub normal_stss : StssBox → StssBox
-normal_stss v = v
+abbrev pub format_stss : Format StssBox
+format_stss = record { name = names.StssBox; reads = reads_stss; size = size_stss; Writable = WritableStss; bytes = bytes_stss; normal = λ v. v }

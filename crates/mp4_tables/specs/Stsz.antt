@@ -4,6 +4,9 @@ use Rattle.std.specs.Prelude.{◌≡◌, ℕ, ◌+◌, ◌*◌, ◌<◌, ◌^◌
 use Rattle.mp4_frame.specs.Bytes.{number, be_bytes, bytes_of_fields, FieldsFit, full_box}
 use Rattle.mp4_frame.specs.Reading.{Reading, ◌>>=◌, expect_bytes, memory, done}
 use Rattle.mp4_tables.specs.Rows.{rows_within}
+use Rattle.mp4_frame.specs.Format.{Format}
+use Rattle.mp4_frame.specs.declared.box_type.BoxType.TheVariants as names
+use Rattle.mp4_frame.specs.declared.codes.TheConstants as codes
 use Rattle.mp4_tables.specs.declared.stsz.StszBox.{StszBox}
 
 -- as many sizes as counted
@@ -31,7 +34,7 @@ abbrev pub size_stsz : StszBox → ℕ
 size_stsz v = 20 + 4 * length v.sample_sizes
 
 abbrev pub fields_stsz : StszBox → List (ℕ × ℕ)
-fields_stsz v = full_box (size_stsz v) 0x7374737a v.version v.flags ++ (4, v.sample_size) ∷ (4, v.sample_count) ∷ []
+fields_stsz v = full_box (size_stsz v) codes.STSZ v.version v.flags ++ (4, v.sample_size) ∷ (4, v.sample_count) ∷ []
 
 -- how many sizes the list has, by the size of all samples and their count
 abbrev pub count_of_sizes : ℕ → ℕ → ℕ
@@ -46,5 +49,5 @@ pub record WritableStsz (v : StszBox) : Type 0 where
 unfoldable pub bytes_stsz : StszBox → List ℕ
 bytes_stsz v = bytes_of_fields (fields_stsz v) ++ flat_map (λ size. be_bytes 4 size) v.sample_sizes
 
-abbrev pub normal_stsz : StszBox → StszBox
-normal_stsz v = v
+abbrev pub format_stsz : Format StszBox
+format_stsz = record { name = names.StszBox; reads = reads_stsz; size = size_stsz; Writable = WritableStsz; bytes = bytes_stsz; normal = λ v. v }

@@ -2,26 +2,19 @@
 use Rattle.std.proofs.Common.{◌≡◌, ℕ, ◌+◌, ◌*◌, ◌<◌, ◌^◌, Bool, true, false, eqb, cond, List, [], ◌∷◌, ◌++◌, map, Ok, length, refl, ap, subst, ◌∙◌, append_assoc, arith, lit<, lit≤}
 use Rattle.std.specs.List.{flat_map, All, AllByRecursion}
 use Rattle.std.proofs.lemmas.List.Elements.{All-from_recursion, recursion_from_All}
+use Rattle.mp4_frame.specs.Format.{IsBox}
 use Rattle.mp4_frame.specs.Bytes.{number, be_bytes, bytes_of_fields}
-use Rattle.mp4_frame.specs.Laws.{AreBytes, BeginsWithHeader, ContentReadsBack, ContentIsSound}
+use Rattle.mp4_frame.specs.Laws.{AreBytes}
 use Rattle.mp4_frame.specs.Reading.{◌>>=◌, memory, done}
-use Rattle.mp4_frame.specs.declared.box_type.BoxType.TheVariants as names
-use Rattle.mp4_frame.proofs.Framing.{header_in_front, fits_read, Number}
+use Rattle.mp4_frame.proofs.Framing.{own_normal_form, header_in_front, fits_read, Number}
 use Rattle.mp4_frame.proofs.Fields.{found, length-fields, numbers-fields, expect_bytes-fields}
 use Rattle.mp4_frame.proofs.Checks.{expect_bytes_ok, is_value}
 use Rattle.mp4_frame.proofs.Tables.{length_flat, map_back, map_all, length_map, value_first}
 use Rattle.mp4_tables.specs.NumberLaws.{number_long, number_back, number_fits}
 use Rattle.mp4_tables.specs.Rows.{rows_within}
 use Rattle.mp4_tables.specs.RowsLaws.{rows_within_back, rows_within_read}
-use Rattle.mp4_tables.specs.Stsz.{reads_sizes, sizes_if_listed, value_stsz, reads_stsz, size_stsz, fields_stsz, WritableStsz, bytes_stsz, normal_stsz}
+use Rattle.mp4_tables.specs.Stsz.{reads_sizes, sizes_if_listed, value_stsz, reads_stsz, size_stsz, fields_stsz, WritableStsz, bytes_stsz, format_stsz}
 use Rattle.mp4_tables.specs.declared.stsz.StszBox.{StszBox}
-
-pub header_stsz : (v : StszBox) → WritableStsz v → BeginsWithHeader (size_stsz v) names.StszBox (bytes_stsz v)
-unfolding bytes_stsz
-header_stsz v w =
-    let sizes = flat_map (λ size. be_bytes 4 size) v.sample_sizes in
-    let long = length_flat (λ size. be_bytes 4 size) 4 (λ size. size < 2 ^ 32) number_long v.sample_sizes (recursion_from_All _ v.sample_sizes w.each) in
-    header_in_front _ sizes w.fit (omega (arith, long))
 
 -- the sizes after p
 sizes_back : (p y : List ℕ) (sizes : List ℕ) (size : ℕ) → length p ≡ 20 → size ≡ 20 + 4 * length sizes → All (λ s. s < 2 ^ 32) sizes → (reads_sizes (p ++ (flat_map (λ s. be_bytes 4 s) sizes ++ y)) size (length sizes)).outcome ≡ Ok sizes
@@ -44,22 +37,6 @@ listed_back p y sizes size sample_size count at is each sync = by (eqb sample_si
     by true h = rw (← h) (sizes_back p y sizes size at is each)
     by false h = ap (λ (xs : List ℕ). Ok xs) (no_sizes sizes h)
 
-pub read_back_stsz : (v : StszBox) → WritableStsz v → ContentReadsBack reads_stsz (bytes_stsz v) (size_stsz v) (normal_stsz v)
-unfolding bytes_stsz reads_stsz
-read_back_stsz v w rest start top =
-    let cs = fields_stsz v in
-    let z = flat_map (λ size. be_bytes 4 size) v.sample_sizes in
-    let B = bytes_of_fields cs ++ (z ++ rest) in
-    let numbers : number B ≡ found cs (z ++ rest) = numbers-fields cs (z ++ rest) w.fit in
-    let n8 : number B 8 1 ≡ v.version = ap (λ (at : ℕ → ℕ → ℕ). at 8 1) numbers in
-    let n9 : number B 9 3 ≡ v.flags = ap (λ (at : ℕ → ℕ → ℕ). at 9 3) numbers in
-    let n12 : number B 12 4 ≡ v.sample_size = ap (λ (at : ℕ → ℕ → ℕ). at 12 4) numbers in
-    let n16 : number B 16 4 ≡ v.sample_count = ap (λ (at : ℕ → ℕ → ℕ). at 16 4) numbers in
-    let first = expect_bytes-fields cs (z ++ rest) 8 12 (lit≤ tt) in
-    let sizes : (sizes_if_listed B (size_stsz v) v.sample_size v.sample_count).outcome ≡ Ok v.sample_sizes = listed_back (bytes_of_fields cs) rest v.sample_sizes (size_stsz v) v.sample_size v.sample_count (length-fields cs) refl w.each w.in_sync in
-    let whole : (reads_stsz B start (size_stsz v)).outcome ≡ Ok v = rw (first, n12, n16, sizes, n8, n9) refl in
-    ap (λ (l : List ℕ). (reads_stsz l start (size_stsz v)).outcome) (append_assoc (bytes_of_fields cs) z rest) ∙ whole
-
 -- the sizes that were read
 sizes_read : (bytes : List ℕ) (size sample_size count : ℕ) (sizes : List ℕ) → AreBytes bytes → (sizes_if_listed bytes size sample_size count).outcome ≡ Ok sizes
     → AllByRecursion (λ s. s < 2 ^ 32) sizes × (length sizes ≡ cond (eqb sample_size 0) count 0)
@@ -74,17 +51,37 @@ sizes_read bytes size sample_size count sizes are h = by (eqb sample_size 0) h
         rw (← is) (map_all 4 (λ entry. number entry 0 4) (λ s. s < 2 ^ 32) number_fits p.0 r.0, length_map (λ entry. number entry 0 4) p.0 ∙ r.1)
     by false e = let is : [] ≡ sizes = is_value [] sizes e in rw (← is) (tt, refl)
 
-pub sound_stsz : ContentIsSound reads_stsz WritableStsz size_stsz normal_stsz
-unfolding reads_stsz
-sound_stsz bytes start long v are read =
-    let one = expect_bytes_ok bytes 8 12 (λ _. sizes_if_listed bytes long (number bytes 12 4) (number bytes 16 4) >>= λ sizes. done (value_stsz (number bytes) sizes)) v read in
-    let p = value_first (sizes_if_listed bytes long (number bytes 12 4) (number bytes 16 4)) (λ sizes. done (value_stsz (number bytes) sizes)) v one in
-    let made = value_stsz (number bytes) p.0 in
-    let is : made ≡ v = is_value made v p.2 in
-    let r = sizes_read bytes long (number bytes 12 4) (number bytes 16 4) p.0 are p.1 in
-    let can : size_stsz made < 2 ^ 32 → WritableStsz made = λ small. record {
-      fit = (small, (lit< tt, fits_read bytes are (Number 8 1 ∷ Number 9 3 ∷ Number 12 4 ∷ Number 16 4 ∷ [])));
-      each = All-from_recursion (λ s. s < 2 ^ 32) p.0 r.0;
-      in_sync = r.1;
-    } in
-    (refl, subst (λ (w : StszBox). size_stsz w < 2 ^ 32 → WritableStsz w) is can)
+pub laws_stsz : IsBox format_stsz
+unfolding bytes_stsz reads_stsz
+laws_stsz = record {
+  header = λ v w.
+      let sizes = flat_map (λ size. be_bytes 4 size) v.sample_sizes in
+      let long = length_flat (λ size. be_bytes 4 size) 4 (λ size. size < 2 ^ 32) number_long v.sample_sizes (recursion_from_All _ v.sample_sizes w.each) in
+      header_in_front _ sizes w.fit (omega (arith, long));
+  normal_form = λ v w. own_normal_form v refl w;
+  read_back = λ v w rest start top.
+      let cs = fields_stsz v in
+      let z = flat_map (λ size. be_bytes 4 size) v.sample_sizes in
+      let B = bytes_of_fields cs ++ (z ++ rest) in
+      let numbers : number B ≡ found cs (z ++ rest) = numbers-fields cs (z ++ rest) w.fit in
+      let n8 : number B 8 1 ≡ v.version = ap (λ (at : ℕ → ℕ → ℕ). at 8 1) numbers in
+      let n9 : number B 9 3 ≡ v.flags = ap (λ (at : ℕ → ℕ → ℕ). at 9 3) numbers in
+      let n12 : number B 12 4 ≡ v.sample_size = ap (λ (at : ℕ → ℕ → ℕ). at 12 4) numbers in
+      let n16 : number B 16 4 ≡ v.sample_count = ap (λ (at : ℕ → ℕ → ℕ). at 16 4) numbers in
+      let first = expect_bytes-fields cs (z ++ rest) 8 12 (lit≤ tt) in
+      let sizes : (sizes_if_listed B (size_stsz v) v.sample_size v.sample_count).outcome ≡ Ok v.sample_sizes = listed_back (bytes_of_fields cs) rest v.sample_sizes (size_stsz v) v.sample_size v.sample_count (length-fields cs) refl w.each w.in_sync in
+      let whole : (reads_stsz B start (size_stsz v)).outcome ≡ Ok v = rw (first, n12, n16, sizes, n8, n9) refl in
+      ap (λ (l : List ℕ). (reads_stsz l start (size_stsz v)).outcome) (append_assoc (bytes_of_fields cs) z rest) ∙ whole;
+  sound = λ bytes start long v are read.
+      let one = expect_bytes_ok bytes 8 12 (λ _. sizes_if_listed bytes long (number bytes 12 4) (number bytes 16 4) >>= λ sizes. done (value_stsz (number bytes) sizes)) v read in
+      let p = value_first (sizes_if_listed bytes long (number bytes 12 4) (number bytes 16 4)) (λ sizes. done (value_stsz (number bytes) sizes)) v one in
+      let made = value_stsz (number bytes) p.0 in
+      let is : made ≡ v = is_value made v p.2 in
+      let r = sizes_read bytes long (number bytes 12 4) (number bytes 16 4) p.0 are p.1 in
+      let can : size_stsz made < 2 ^ 32 → WritableStsz made = λ small. record {
+        fit = (small, (lit< tt, fits_read bytes are (Number 8 1 ∷ Number 9 3 ∷ Number 12 4 ∷ Number 16 4 ∷ [])));
+        each = All-from_recursion (λ s. s < 2 ^ 32) p.0 r.0;
+        in_sync = r.1;
+      } in
+      (refl, subst (λ (w : StszBox). size_stsz w < 2 ^ 32 → WritableStsz w) is can);
+}

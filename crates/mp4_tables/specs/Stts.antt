@@ -5,6 +5,9 @@ use Rattle.mp4_frame.specs.Reading.{Reading}
 use Rattle.mp4_frame.specs.Tables.{reads_table, size_table, WritableTable, bytes_table}
 use Rattle.mp4_tables.specs.SttsEntry.{entry_stts, row_stts, FitsSttsEntry}
 use Rattle.mp4_tables.specs.declared.stts.SttsBox.{SttsBox}
+use Rattle.mp4_frame.specs.Format.{Format}
+use Rattle.mp4_frame.specs.declared.box_type.BoxType.TheVariants as names
+use Rattle.mp4_frame.specs.declared.codes.TheConstants as codes
 use Rattle.mp4_tables.specs.declared.stts_entry.SttsEntry.{SttsEntry}
 
 abbrev pub made_stts : ℕ → ℕ → List SttsEntry → SttsBox
@@ -17,10 +20,10 @@ abbrev pub size_stts : SttsBox → ℕ
 size_stts v = size_table 8 v.entries
 
 abbrev pub WritableStts : SttsBox → Type 0
-WritableStts v = WritableTable FitsSttsEntry 8 0x73747473 v.version v.flags v.entries
+WritableStts v = WritableTable FitsSttsEntry 8 codes.STTS v.version v.flags v.entries
 
 unfoldable pub bytes_stts : SttsBox → List ℕ
-bytes_stts v = bytes_table row_stts 8 0x73747473 v.version v.flags v.entries
+bytes_stts v = bytes_table row_stts 8 codes.STTS v.version v.flags v.entries
 
-abbrev pub normal_stts : SttsBox → SttsBox
-normal_stts v = v
+abbrev pub format_stts : Format SttsBox
+format_stts = record { name = names.SttsBox; reads = reads_stts; size = size_stts; Writable = WritableStts; bytes = bytes_stts; normal = λ v. v }

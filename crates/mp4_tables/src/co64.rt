@@ -1,15 +1,11 @@
 //! The large chunk offset box.
 
-ghost use Rattle.std.specs.Prelude.{◌≡◌, ◌-◌, ◌^◌, [], IfOk, IfErr, map, min, refl};
+ghost use Rattle.std.specs.Prelude.{◌≡◌, ◌-◌, ◌^◌, [], IfOk, IfErr, map, min};
 ghost use Rattle.mp4_frame.specs.declared.box_type.BoxType.TheVariants as names;
-ghost use Rattle.mp4_frame.proofs.Framing.{own_normal_form};
-ghost use Rattle.mp4_tables.specs.Co64.{offset_of, reads_co64, size_co64, WritableCo64, bytes_co64, normal_co64};
-ghost use Rattle.mp4_tables.specs.Co64Laws.{header_co64, read_back_co64, sound_co64};
+ghost use Rattle.mp4_tables.specs.Co64.{offset_of, size_co64, format_co64};
+ghost use Rattle.mp4_tables.specs.Co64Laws.{laws_co64};
 
-use mp4_frame::{
-    BoxLaws, BoxType, Entries, Error, Mp4Box, ReadBox, Result, WriteBox, is_writable_table,
-    put_table, read_table, table_size, u64_at,
-};
+use mp4_frame::{BoxLaws, BoxType, Entries, Error, Mp4Box, ReadBox, Result, WriteBox, is_writable_table, put_table, read_table, table_size, u64_at, codes, TryClone};
 use std::alloc::Global;
 
 /// Where the chunks of a track begin, in 64 bits (`co64`, ISO/IEC 14496-12, 8.7.5).
@@ -35,18 +31,6 @@ impl Co64Box {
         }
     }
 
-    /// An equal box, in memory of its own.
-    pub fn try_clone(&self) -> Result<Co64Box>
-        ensures clone { IfOk result (λ clone. clone ≡ self.now) }
-        ensures memory { IfErr result (λ e. e ≡ Error.OutOfMemory) }
-    {
-        Ok(Co64Box {
-            version: self.version,
-            flags: self.flags,
-            entries: self.entries.try_clone()?,
-        })
-    }
-
     /// As `box_type`.
     pub fn get_type(&self) -> BoxType
         ensures { result ≡ names.Co64Box }
@@ -62,10 +46,20 @@ impl Co64Box {
     }
 }
 
-impl Mp4Box for Co64Box {
-    ghost name = { λ _. names.Co64Box };
+impl TryClone for Co64Box {
+    fn try_clone(&self) -> Result<Co64Box> {
+        Ok(Co64Box {
+            version: self.version,
+            flags: self.flags,
+            entries: self.entries.try_clone()?,
+        })
+    }
+}
 
-    ghost size = { size_co64 };
+impl Mp4Box for Co64Box {
+    ghost name = { λ _. format_co64.name };
+
+    ghost size = { format_co64.size };
 
     fn box_type(&self) -> BoxType {
         BoxType::Co64Box
@@ -92,7 +86,7 @@ fn offsets_of(alloc: Global, rows: &[[u8; 8]]) -> Result<Vec<u64>>
 }
 
 impl ReadBox for Co64Box {
-    ghost reads = { reads_co64 };
+    ghost reads = { format_co64.reads };
 
     #[tactic(auto, unfolding(crate::specs::Co64::reads_co64))]
     fn read_content(alloc: Global, bytes: &[u8], _start: u64, size: u64) -> Result<Co64Box> {
@@ -110,15 +104,15 @@ impl ReadBox for Co64Box {
 }
 
 impl WriteBox for Co64Box {
-    ghost Writable = { WritableCo64 };
+    ghost Writable = { format_co64.Writable };
 
-    ghost bytes = { bytes_co64 };
+    ghost bytes = { format_co64.bytes };
 
-    ghost normal = { normal_co64 };
+    ghost normal = { format_co64.normal };
 
     fn is_writable(&self) -> bool {
         is_writable_table(
-            0x636f_3634,
+            codes::CO64,
             self.version,
             self.flags,
             self.entries.as_slice(),
@@ -129,20 +123,20 @@ impl WriteBox for Co64Box {
     fn put_box(&self, out: &mut [u8]) {
         put_table(
             out,
-            0x636f_3634,
+            codes::CO64,
             self.version,
             self.flags,
             self.entries.as_slice(),
         );
     }
 
-    ghost header = { header_co64 };
+    ghost header = { laws_co64.header };
 
-    ghost normal_form = { λ v w. own_normal_form v refl w };
+    ghost normal_form = { laws_co64.normal_form };
 }
 
 impl BoxLaws for Co64Box {
-    ghost read_back = { read_back_co64 };
+    ghost read_back = { laws_co64.read_back };
 
-    ghost sound = { sound_co64 };
+    ghost sound = { laws_co64.sound };
 }

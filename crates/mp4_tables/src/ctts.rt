@@ -1,17 +1,13 @@
 //! The composition time to sample box.
 
-ghost use Rattle.std.specs.Prelude.{◌≡◌, ◌-◌, ◌^◌, [], IfOk, IfErr, map, min, refl};
+ghost use Rattle.std.specs.Prelude.{◌≡◌, ◌-◌, ◌^◌, [], IfOk, IfErr, map, min};
 ghost use Rattle.mp4_frame.specs.declared.box_type.BoxType.TheVariants as names;
-ghost use Rattle.mp4_frame.proofs.Framing.{own_normal_form};
-ghost use Rattle.mp4_tables.specs.Ctts.{reads_ctts, size_ctts, WritableCtts, bytes_ctts, normal_ctts};
+ghost use Rattle.mp4_tables.specs.Ctts.{size_ctts, format_ctts};
 ghost use Rattle.mp4_tables.specs.CttsEntry.{entry_ctts};
-ghost use Rattle.mp4_tables.specs.CttsLaws.{header_ctts, read_back_ctts, sound_ctts};
+ghost use Rattle.mp4_tables.specs.CttsLaws.{laws_ctts};
 
 use crate::ctts_entry::CttsEntry;
-use mp4_frame::{
-    BoxLaws, BoxType, Entries, Error, Mp4Box, ReadBox, Result, WriteBox, i32_at, is_writable_table,
-    put_table, read_table, table_size, u32_at,
-};
+use mp4_frame::{BoxLaws, BoxType, Entries, Error, Mp4Box, ReadBox, Result, WriteBox, i32_at, is_writable_table, put_table, read_table, table_size, u32_at, codes, TryClone};
 use std::alloc::Global;
 
 /// How far the composition times of samples lie from their decoding times (`ctts`, ISO/IEC 14496-12, 8.6.1.3).
@@ -37,18 +33,6 @@ impl CttsBox {
         }
     }
 
-    /// An equal box, in memory of its own.
-    pub fn try_clone(&self) -> Result<CttsBox>
-        ensures clone { IfOk result (λ clone. clone ≡ self.now) }
-        ensures memory { IfErr result (λ e. e ≡ Error.OutOfMemory) }
-    {
-        Ok(CttsBox {
-            version: self.version,
-            flags: self.flags,
-            entries: self.entries.try_clone()?,
-        })
-    }
-
     /// As `box_type`.
     pub fn get_type(&self) -> BoxType
         ensures { result ≡ names.CttsBox }
@@ -64,10 +48,20 @@ impl CttsBox {
     }
 }
 
-impl Mp4Box for CttsBox {
-    ghost name = { λ _. names.CttsBox };
+impl TryClone for CttsBox {
+    fn try_clone(&self) -> Result<CttsBox> {
+        Ok(CttsBox {
+            version: self.version,
+            flags: self.flags,
+            entries: self.entries.try_clone()?,
+        })
+    }
+}
 
-    ghost size = { size_ctts };
+impl Mp4Box for CttsBox {
+    ghost name = { λ _. format_ctts.name };
+
+    ghost size = { format_ctts.size };
 
     fn box_type(&self) -> BoxType {
         BoxType::CttsBox
@@ -99,7 +93,7 @@ fn entries_of(alloc: Global, rows: &[[u8; 8]]) -> Result<Vec<CttsEntry>>
 }
 
 impl ReadBox for CttsBox {
-    ghost reads = { reads_ctts };
+    ghost reads = { format_ctts.reads };
 
     #[tactic(auto, unfolding(crate::specs::Ctts::reads_ctts))]
     fn read_content(alloc: Global, bytes: &[u8], _start: u64, size: u64) -> Result<CttsBox> {
@@ -117,15 +111,15 @@ impl ReadBox for CttsBox {
 }
 
 impl WriteBox for CttsBox {
-    ghost Writable = { WritableCtts };
+    ghost Writable = { format_ctts.Writable };
 
-    ghost bytes = { bytes_ctts };
+    ghost bytes = { format_ctts.bytes };
 
-    ghost normal = { normal_ctts };
+    ghost normal = { format_ctts.normal };
 
     fn is_writable(&self) -> bool {
         is_writable_table(
-            0x6374_7473,
+            codes::CTTS,
             self.version,
             self.flags,
             self.entries.as_slice(),
@@ -136,20 +130,20 @@ impl WriteBox for CttsBox {
     fn put_box(&self, out: &mut [u8]) {
         put_table(
             out,
-            0x6374_7473,
+            codes::CTTS,
             self.version,
             self.flags,
             self.entries.as_slice(),
         );
     }
 
-    ghost header = { header_ctts };
+    ghost header = { laws_ctts.header };
 
-    ghost normal_form = { λ v w. own_normal_form v refl w };
+    ghost normal_form = { laws_ctts.normal_form };
 }
 
 impl BoxLaws for CttsBox {
-    ghost read_back = { read_back_ctts };
+    ghost read_back = { laws_ctts.read_back };
 
-    ghost sound = { sound_ctts };
+    ghost sound = { laws_ctts.sound };
 }

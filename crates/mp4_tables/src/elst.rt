@@ -1,19 +1,15 @@
 //! The edit list box.
 
-ghost use Rattle.std.specs.Prelude.{◌≡◌, ◌-◌, ◌^◌, [], IfOk, IfErr, map, min, true, false, refl};
+ghost use Rattle.std.specs.Prelude.{◌≡◌, ◌-◌, ◌^◌, [], IfOk, IfErr, map, min, true, false};
 ghost use Rattle.mp4_frame.specs.Bytes.{number};
 ghost use Rattle.mp4_frame.specs.Reading.{Answers};
 ghost use Rattle.mp4_frame.specs.declared.box_type.BoxType.TheVariants as names;
-ghost use Rattle.mp4_frame.proofs.Framing.{own_normal_form};
-ghost use Rattle.mp4_tables.specs.Elst.{reads_elst_rows, reads_elst, size_elst, WritableElst, bytes_elst, normal_elst};
+ghost use Rattle.mp4_tables.specs.Elst.{reads_elst_rows, size_elst, format_elst};
 ghost use Rattle.mp4_tables.specs.ElstEntry.{is_long, entry_elst};
-ghost use Rattle.mp4_tables.specs.ElstLaws.{header_elst, read_back_elst, sound_elst};
+ghost use Rattle.mp4_tables.specs.ElstLaws.{laws_elst};
 
 use crate::elst_entry::ElstEntry;
-use mp4_frame::{
-    BoxLaws, BoxType, Entries, Error, Mp4Box, ReadBox, Result, WriteBox, is_writable_table,
-    put_table, read_table, table_size, u16_at, u32_at, u64_at,
-};
+use mp4_frame::{BoxLaws, BoxType, Entries, Error, Mp4Box, ReadBox, Result, WriteBox, is_writable_table, put_table, read_table, table_size, u16_at, u32_at, u64_at, codes, TryClone};
 use std::alloc::Global;
 
 const TOO_MANY: &str = "elst entry_count indicates more entries than could fit in the box";
@@ -41,18 +37,6 @@ impl ElstBox {
         }
     }
 
-    /// An equal box, in memory of its own.
-    pub fn try_clone(&self) -> Result<ElstBox>
-        ensures clone { IfOk result (λ clone. clone ≡ self.now) }
-        ensures memory { IfErr result (λ e. e ≡ Error.OutOfMemory) }
-    {
-        Ok(ElstBox {
-            version: self.version,
-            flags: self.flags,
-            entries: self.entries.try_clone()?,
-        })
-    }
-
     /// As `box_type`.
     pub fn get_type(&self) -> BoxType
         ensures { result ≡ names.ElstBox }
@@ -68,10 +52,20 @@ impl ElstBox {
     }
 }
 
-impl Mp4Box for ElstBox {
-    ghost name = { λ _. names.ElstBox };
+impl TryClone for ElstBox {
+    fn try_clone(&self) -> Result<ElstBox> {
+        Ok(ElstBox {
+            version: self.version,
+            flags: self.flags,
+            entries: self.entries.try_clone()?,
+        })
+    }
+}
 
-    ghost size = { size_elst };
+impl Mp4Box for ElstBox {
+    ghost name = { λ _. format_elst.name };
+
+    ghost size = { format_elst.size };
 
     fn box_type(&self) -> BoxType {
         BoxType::ElstBox
@@ -163,7 +157,7 @@ fn read_short(alloc: Global, bytes: &[u8], size: u64) -> Result<ElstBox>
 }
 
 impl ReadBox for ElstBox {
-    ghost reads = { reads_elst };
+    ghost reads = { format_elst.reads };
 
     #[tactic(auto, unfolding(crate::specs::Elst::reads_elst))]
     fn read_content(alloc: Global, bytes: &[u8], _start: u64, size: u64) -> Result<ElstBox> {
@@ -176,23 +170,23 @@ impl ReadBox for ElstBox {
 }
 
 impl WriteBox for ElstBox {
-    ghost Writable = { WritableElst };
+    ghost Writable = { format_elst.Writable };
 
-    ghost bytes = { bytes_elst };
+    ghost bytes = { format_elst.bytes };
 
-    ghost normal = { normal_elst };
+    ghost normal = { format_elst.normal };
 
     fn is_writable(&self) -> bool {
         if self.version == 1 {
             is_writable_table::<ElstEntry, 20>(
-                0x656c_7374,
+                codes::ELST,
                 self.version,
                 self.flags,
                 self.entries.as_slice(),
             )
         } else {
             is_writable_table::<ElstEntry, 12>(
-                0x656c_7374,
+                codes::ELST,
                 self.version,
                 self.flags,
                 self.entries.as_slice(),
@@ -205,7 +199,7 @@ impl WriteBox for ElstBox {
         if self.version == 1 {
             put_table::<ElstEntry, 20>(
                 out,
-                0x656c_7374,
+                codes::ELST,
                 self.version,
                 self.flags,
                 self.entries.as_slice(),
@@ -213,7 +207,7 @@ impl WriteBox for ElstBox {
         } else {
             put_table::<ElstEntry, 12>(
                 out,
-                0x656c_7374,
+                codes::ELST,
                 self.version,
                 self.flags,
                 self.entries.as_slice(),
@@ -221,13 +215,13 @@ impl WriteBox for ElstBox {
         }
     }
 
-    ghost header = { header_elst };
+    ghost header = { laws_elst.header };
 
-    ghost normal_form = { λ v w. own_normal_form v refl w };
+    ghost normal_form = { laws_elst.normal_form };
 }
 
 impl BoxLaws for ElstBox {
-    ghost read_back = { read_back_elst };
+    ghost read_back = { laws_elst.read_back };
 
-    ghost sound = { sound_elst };
+    ghost sound = { laws_elst.sound };
 }

@@ -1,18 +1,14 @@
 //! The chunk offset box.
 
-ghost use Rattle.std.specs.Prelude.{◌≡◌, ◌↔◌, ◌<◌, ◌-◌, ◌%◌, ◌^◌, [], All, IsTrue, IfOk, IfErr, OnOk, map, min, refl};
+ghost use Rattle.std.specs.Prelude.{◌≡◌, ◌↔◌, ◌<◌, ◌-◌, ◌%◌, ◌^◌, [], All, IsTrue, IfOk, IfErr, OnOk, map, min};
 ghost use Rattle.mp4_frame.specs.Written.{WriteRefuses};
 ghost use Rattle.mp4_frame.specs.declared.box_type.BoxType.TheVariants as names;
-ghost use Rattle.mp4_frame.proofs.Framing.{own_normal_form};
-ghost use Rattle.mp4_tables.specs.Stco.{made_stco, reads_stco, size_stco, WritableStco, bytes_stco, normal_stco};
-ghost use Rattle.mp4_tables.specs.StcoLaws.{header_stco, read_back_stco, sound_stco};
+ghost use Rattle.mp4_tables.specs.Stco.{made_stco, size_stco, format_stco};
+ghost use Rattle.mp4_tables.specs.StcoLaws.{laws_stco};
 
 use crate::co64::Co64Box;
 use crate::rows::numbers_of;
-use mp4_frame::{
-    BoxLaws, BoxType, Entries, Error, Mp4Box, ReadBox, Result, WriteBox, is_writable_table,
-    put_table, read_table, table_size,
-};
+use mp4_frame::{BoxLaws, BoxType, Entries, Error, Mp4Box, ReadBox, Result, WriteBox, is_writable_table, put_table, read_table, table_size, codes, TryClone};
 use std::alloc::Global;
 
 /// Where the chunks of a track begin, in 32 bits (`stco`, ISO/IEC 14496-12, 8.7.5).
@@ -36,18 +32,6 @@ impl StcoBox {
             flags: 0,
             entries: Entries::new(alloc),
         }
-    }
-
-    /// An equal box, in memory of its own.
-    pub fn try_clone(&self) -> Result<StcoBox>
-        ensures clone { IfOk result (λ clone. clone ≡ self.now) }
-        ensures memory { IfErr result (λ e. e ≡ Error.OutOfMemory) }
-    {
-        Ok(StcoBox {
-            version: self.version,
-            flags: self.flags,
-            entries: self.entries.try_clone()?,
-        })
     }
 
     /// The same offsets in a box of version 0 and flags 0. Invalid data where an offset passes 2^32 - 1, before
@@ -84,6 +68,16 @@ impl StcoBox {
     }
 }
 
+impl TryClone for StcoBox {
+    fn try_clone(&self) -> Result<StcoBox> {
+        Ok(StcoBox {
+            version: self.version,
+            flags: self.flags,
+            entries: self.entries.try_clone()?,
+        })
+    }
+}
+
 fn are_short(offsets: &[u64]) -> bool
     ensures { IsTrue result ↔ All (λ offset. offset < 2 ^ 32) offsets.now }
 {
@@ -110,9 +104,9 @@ fn lowest_bits_of(alloc: Global, offsets: &[u64]) -> Result<Vec<u32>>
 }
 
 impl Mp4Box for StcoBox {
-    ghost name = { λ _. names.StcoBox };
+    ghost name = { λ _. format_stco.name };
 
-    ghost size = { size_stco };
+    ghost size = { format_stco.size };
 
     fn box_type(&self) -> BoxType {
         BoxType::StcoBox
@@ -124,7 +118,7 @@ impl Mp4Box for StcoBox {
 }
 
 impl ReadBox for StcoBox {
-    ghost reads = { reads_stco };
+    ghost reads = { format_stco.reads };
 
     #[tactic(auto, unfolding(crate::specs::Stco::reads_stco))]
     fn read_content(alloc: Global, bytes: &[u8], _start: u64, size: u64) -> Result<StcoBox> {
@@ -142,15 +136,15 @@ impl ReadBox for StcoBox {
 }
 
 impl WriteBox for StcoBox {
-    ghost Writable = { WritableStco };
+    ghost Writable = { format_stco.Writable };
 
-    ghost bytes = { bytes_stco };
+    ghost bytes = { format_stco.bytes };
 
-    ghost normal = { normal_stco };
+    ghost normal = { format_stco.normal };
 
     fn is_writable(&self) -> bool {
         is_writable_table(
-            0x7374_636f,
+            codes::STCO,
             self.version,
             self.flags,
             self.entries.as_slice(),
@@ -161,20 +155,20 @@ impl WriteBox for StcoBox {
     fn put_box(&self, out: &mut [u8]) {
         put_table(
             out,
-            0x7374_636f,
+            codes::STCO,
             self.version,
             self.flags,
             self.entries.as_slice(),
         );
     }
 
-    ghost header = { header_stco };
+    ghost header = { laws_stco.header };
 
-    ghost normal_form = { λ v w. own_normal_form v refl w };
+    ghost normal_form = { laws_stco.normal_form };
 }
 
 impl BoxLaws for StcoBox {
-    ghost read_back = { read_back_stco };
+    ghost read_back = { laws_stco.read_back };
 
-    ghost sound = { sound_stco };
+    ghost sound = { laws_stco.sound };
 }

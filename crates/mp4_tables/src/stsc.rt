@@ -4,15 +4,12 @@ ghost use Rattle.std.specs.Prelude.{◌≡◌, ◌-◌, ◌^◌, [], IfOk, IfErr
 ghost use Rattle.mp4_frame.specs.Reading.{Invalid, IsFault};
 ghost use Rattle.mp4_frame.specs.declared.box_type.BoxType.TheVariants as names;
 ghost use Rattle.mp4_tables.specs.Chunks.{chunks_fit, numbered, next_sample as sample_after};
-ghost use Rattle.mp4_tables.specs.Stsc.{reads_stsc, size_stsc, WritableStsc, bytes_stsc, normal_stsc};
+ghost use Rattle.mp4_tables.specs.Stsc.{size_stsc, format_stsc};
 ghost use Rattle.mp4_tables.specs.StscEntry.{entry_stsc};
-ghost use Rattle.mp4_tables.specs.StscLaws.{header_stsc, normal_form_stsc, read_back_stsc, sound_stsc};
+ghost use Rattle.mp4_tables.specs.StscLaws.{laws_stsc};
 
 use crate::stsc_entry::StscEntry;
-use mp4_frame::{
-    BoxLaws, BoxType, Entries, Error, Mp4Box, ReadBox, Result, WriteBox, is_writable_table,
-    put_table, read_table, table_size, u32_at,
-};
+use mp4_frame::{BoxLaws, BoxType, Entries, Error, Mp4Box, ReadBox, Result, WriteBox, is_writable_table, put_table, read_table, table_size, u32_at, codes, TryClone};
 use std::alloc::Global;
 
 /// In which chunks the samples of a track lie (`stsc`, ISO/IEC 14496-12, 8.7.4). A box whose chunks step back, or
@@ -40,18 +37,6 @@ impl StscBox {
         }
     }
 
-    /// An equal box, in memory of its own.
-    pub fn try_clone(&self) -> Result<StscBox>
-        ensures clone { IfOk result (λ clone. clone ≡ self.now) }
-        ensures memory { IfErr result (λ e. e ≡ Error.OutOfMemory) }
-    {
-        Ok(StscBox {
-            version: self.version,
-            flags: self.flags,
-            entries: self.entries.try_clone()?,
-        })
-    }
-
     /// As `box_type`.
     pub fn get_type(&self) -> BoxType
         ensures { result ≡ names.StscBox }
@@ -67,10 +52,20 @@ impl StscBox {
     }
 }
 
-impl Mp4Box for StscBox {
-    ghost name = { λ _. names.StscBox };
+impl TryClone for StscBox {
+    fn try_clone(&self) -> Result<StscBox> {
+        Ok(StscBox {
+            version: self.version,
+            flags: self.flags,
+            entries: self.entries.try_clone()?,
+        })
+    }
+}
 
-    ghost size = { size_stsc };
+impl Mp4Box for StscBox {
+    ghost name = { λ _. format_stsc.name };
+
+    ghost size = { format_stsc.size };
 
     fn box_type(&self) -> BoxType {
         BoxType::StscBox
@@ -161,7 +156,7 @@ fn samples_fit(entries: &[StscEntry]) -> bool
 }
 
 impl ReadBox for StscBox {
-    ghost reads = { reads_stsc };
+    ghost reads = { format_stsc.reads };
 
     #[tactic(auto, unfolding(crate::specs::Stsc::reads_stsc))]
     fn read_content(alloc: Global, bytes: &[u8], _start: u64, size: u64) -> Result<StscBox> {
@@ -181,15 +176,15 @@ impl ReadBox for StscBox {
 }
 
 impl WriteBox for StscBox {
-    ghost Writable = { WritableStsc };
+    ghost Writable = { format_stsc.Writable };
 
-    ghost bytes = { bytes_stsc };
+    ghost bytes = { format_stsc.bytes };
 
-    ghost normal = { normal_stsc };
+    ghost normal = { format_stsc.normal };
 
     fn is_writable(&self) -> bool {
         is_writable_table(
-            0x7374_7363,
+            codes::STSC,
             self.version,
             self.flags,
             self.entries.as_slice(),
@@ -200,20 +195,20 @@ impl WriteBox for StscBox {
     fn put_box(&self, out: &mut [u8]) {
         put_table(
             out,
-            0x7374_7363,
+            codes::STSC,
             self.version,
             self.flags,
             self.entries.as_slice(),
         );
     }
 
-    ghost header = { header_stsc };
+    ghost header = { laws_stsc.header };
 
-    ghost normal_form = { normal_form_stsc };
+    ghost normal_form = { laws_stsc.normal_form };
 }
 
 impl BoxLaws for StscBox {
-    ghost read_back = { read_back_stsc };
+    ghost read_back = { laws_stsc.read_back };
 
-    ghost sound = { sound_stsc };
+    ghost sound = { laws_stsc.sound };
 }

@@ -1,16 +1,12 @@
 //! The sync sample box.
 
-ghost use Rattle.std.specs.Prelude.{◌≡◌, ◌-◌, ◌^◌, [], IfOk, IfErr, min, refl};
+ghost use Rattle.std.specs.Prelude.{◌≡◌, ◌-◌, ◌^◌, [], min};
 ghost use Rattle.mp4_frame.specs.declared.box_type.BoxType.TheVariants as names;
-ghost use Rattle.mp4_frame.proofs.Framing.{own_normal_form};
-ghost use Rattle.mp4_tables.specs.Stss.{reads_stss, size_stss, WritableStss, bytes_stss, normal_stss};
-ghost use Rattle.mp4_tables.specs.StssLaws.{header_stss, read_back_stss, sound_stss};
+ghost use Rattle.mp4_tables.specs.Stss.{size_stss, format_stss};
+ghost use Rattle.mp4_tables.specs.StssLaws.{laws_stss};
 
 use crate::rows::numbers_of;
-use mp4_frame::{
-    BoxLaws, BoxType, Entries, Error, Mp4Box, ReadBox, Result, WriteBox, is_writable_table,
-    put_table, read_table, table_size,
-};
+use mp4_frame::{BoxLaws, BoxType, Entries, Error, Mp4Box, ReadBox, Result, WriteBox, is_writable_table, put_table, read_table, table_size, codes, TryClone};
 use std::alloc::Global;
 
 /// Which samples of a track are sync samples (`stss`, ISO/IEC 14496-12, 8.6.2).
@@ -37,18 +33,6 @@ impl StssBox {
         }
     }
 
-    /// An equal box, in memory of its own.
-    pub fn try_clone(&self) -> Result<StssBox>
-        ensures clone { IfOk result (λ clone. clone ≡ self.now) }
-        ensures memory { IfErr result (λ e. e ≡ Error.OutOfMemory) }
-    {
-        Ok(StssBox {
-            version: self.version,
-            flags: self.flags,
-            entries: self.entries.try_clone()?,
-        })
-    }
-
     /// As `box_type`.
     pub fn get_type(&self) -> BoxType
         ensures { result ≡ names.StssBox }
@@ -64,10 +48,20 @@ impl StssBox {
     }
 }
 
-impl Mp4Box for StssBox {
-    ghost name = { λ _. names.StssBox };
+impl TryClone for StssBox {
+    fn try_clone(&self) -> Result<StssBox> {
+        Ok(StssBox {
+            version: self.version,
+            flags: self.flags,
+            entries: self.entries.try_clone()?,
+        })
+    }
+}
 
-    ghost size = { size_stss };
+impl Mp4Box for StssBox {
+    ghost name = { λ _. format_stss.name };
+
+    ghost size = { format_stss.size };
 
     fn box_type(&self) -> BoxType {
         BoxType::StssBox
@@ -79,7 +73,7 @@ impl Mp4Box for StssBox {
 }
 
 impl ReadBox for StssBox {
-    ghost reads = { reads_stss };
+    ghost reads = { format_stss.reads };
 
     #[tactic(auto, unfolding(crate::specs::Stss::reads_stss))]
     fn read_content(alloc: Global, bytes: &[u8], _start: u64, size: u64) -> Result<StssBox> {
@@ -97,15 +91,15 @@ impl ReadBox for StssBox {
 }
 
 impl WriteBox for StssBox {
-    ghost Writable = { WritableStss };
+    ghost Writable = { format_stss.Writable };
 
-    ghost bytes = { bytes_stss };
+    ghost bytes = { format_stss.bytes };
 
-    ghost normal = { normal_stss };
+    ghost normal = { format_stss.normal };
 
     fn is_writable(&self) -> bool {
         is_writable_table(
-            0x7374_7373,
+            codes::STSS,
             self.version,
             self.flags,
             self.entries.as_slice(),
@@ -116,20 +110,20 @@ impl WriteBox for StssBox {
     fn put_box(&self, out: &mut [u8]) {
         put_table(
             out,
-            0x7374_7373,
+            codes::STSS,
             self.version,
             self.flags,
             self.entries.as_slice(),
         );
     }
 
-    ghost header = { header_stss };
+    ghost header = { laws_stss.header };
 
-    ghost normal_form = { λ v w. own_normal_form v refl w };
+    ghost normal_form = { laws_stss.normal_form };
 }
 
 impl BoxLaws for StssBox {
-    ghost read_back = { read_back_stss };
+    ghost read_back = { laws_stss.read_back };
 
-    ghost sound = { sound_stss };
+    ghost sound = { laws_stss.sound };
 }

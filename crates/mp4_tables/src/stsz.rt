@@ -1,17 +1,13 @@
 //! The sample size box.
 
-ghost use Rattle.std.specs.Prelude.{◌≡◌, ◌-◌, ◌^◌, [], IfOk, IfErr, min, refl};
+ghost use Rattle.std.specs.Prelude.{◌≡◌, ◌-◌, ◌^◌, [], min};
 ghost use Rattle.mp4_frame.specs.Reading.{AnswersAs};
 ghost use Rattle.mp4_frame.specs.declared.box_type.BoxType.TheVariants as names;
-ghost use Rattle.mp4_frame.proofs.Framing.{own_normal_form};
-ghost use Rattle.mp4_tables.specs.Stsz.{reads_sizes, count_of_sizes, reads_stsz, size_stsz, WritableStsz, bytes_stsz, normal_stsz};
-ghost use Rattle.mp4_tables.specs.StszLaws.{header_stsz, read_back_stsz, sound_stsz};
+ghost use Rattle.mp4_tables.specs.Stsz.{reads_sizes, count_of_sizes, size_stsz, format_stsz};
+ghost use Rattle.mp4_tables.specs.StszLaws.{laws_stsz};
 
 use crate::rows::{numbers_of, read_rows};
-use mp4_frame::{
-    BoxLaws, BoxType, Entries, Error, Mp4Box, ReadBox, Result, WriteBox, all_fit, expect_bytes,
-    put_entries, put_full_box, put_u32, u8_at, u24_at, u32_at,
-};
+use mp4_frame::{BoxLaws, BoxType, Entries, Error, Mp4Box, ReadBox, Result, WriteBox, all_fit, expect_bytes, put_entries, put_full_box, put_u32, u8_at, u24_at, u32_at, codes, TryClone};
 use std::alloc::Global;
 
 /// The sizes of the samples of a track (`stsz`, ISO/IEC 14496-12, 8.7.3.2). It is written only where its list is
@@ -44,20 +40,6 @@ impl StszBox {
         }
     }
 
-    /// An equal box, in memory of its own.
-    pub fn try_clone(&self) -> Result<StszBox>
-        ensures clone { IfOk result (λ clone. clone ≡ self.now) }
-        ensures memory { IfErr result (λ e. e ≡ Error.OutOfMemory) }
-    {
-        Ok(StszBox {
-            version: self.version,
-            flags: self.flags,
-            sample_size: self.sample_size,
-            sample_count: self.sample_count,
-            sample_sizes: self.sample_sizes.try_clone()?,
-        })
-    }
-
     /// As `box_type`.
     pub fn get_type(&self) -> BoxType
         ensures { result ≡ names.StszBox }
@@ -73,6 +55,18 @@ impl StszBox {
     }
 }
 
+impl TryClone for StszBox {
+    fn try_clone(&self) -> Result<StszBox> {
+        Ok(StszBox {
+            version: self.version,
+            flags: self.flags,
+            sample_size: self.sample_size,
+            sample_count: self.sample_count,
+            sample_sizes: self.sample_sizes.try_clone()?,
+        })
+    }
+}
+
 /// How many sizes the list has.
 fn listed_count(sample_size: u32, sample_count: u32) -> usize
     ensures { result ≡ count_of_sizes sample_size sample_count }
@@ -85,9 +79,9 @@ fn listed_count(sample_size: u32, sample_count: u32) -> usize
 }
 
 impl Mp4Box for StszBox {
-    ghost name = { λ _. names.StszBox };
+    ghost name = { λ _. format_stsz.name };
 
-    ghost size = { size_stsz };
+    ghost size = { format_stsz.size };
 
     fn box_type(&self) -> BoxType {
         BoxType::StszBox
@@ -115,7 +109,7 @@ fn read_sizes(alloc: Global, bytes: &[u8], size: u64, count: u32) -> Result<Vec<
 }
 
 impl ReadBox for StszBox {
-    ghost reads = { reads_stsz };
+    ghost reads = { format_stsz.reads };
 
     #[tactic(auto, unfolding(crate::specs::Stsz::reads_stsz))]
     fn read_content(alloc: Global, bytes: &[u8], _start: u64, size: u64) -> Result<StszBox> {
@@ -138,11 +132,11 @@ impl ReadBox for StszBox {
 }
 
 impl WriteBox for StszBox {
-    ghost Writable = { WritableStsz };
+    ghost Writable = { format_stsz.Writable };
 
-    ghost bytes = { bytes_stsz };
+    ghost bytes = { format_stsz.bytes };
 
-    ghost normal = { normal_stsz };
+    ghost normal = { format_stsz.normal };
 
     fn is_writable(&self) -> bool {
         let _version = self.version;
@@ -155,19 +149,19 @@ impl WriteBox for StszBox {
     #[tactic(auto, unfolding(crate::specs::Stsz::bytes_stsz, mp4_frame::specs::Bytes::bytes_of_fields, mp4_frame::specs::Bytes::bytes_of_fields_onto))]
     fn put_box(&self, out: &mut [u8]) {
         let size = self.box_size() as u32;
-        let at = put_full_box(out, size, 0x7374_737a, self.version, self.flags);
+        let at = put_full_box(out, size, codes::STSZ, self.version, self.flags);
         let at = put_u32(out, at, self.sample_size);
         let at = put_u32(out, at, self.sample_count);
         put_entries(out, at, self.sample_sizes.as_slice());
     }
 
-    ghost header = { header_stsz };
+    ghost header = { laws_stsz.header };
 
-    ghost normal_form = { λ v w. own_normal_form v refl w };
+    ghost normal_form = { laws_stsz.normal_form };
 }
 
 impl BoxLaws for StszBox {
-    ghost read_back = { read_back_stsz };
+    ghost read_back = { laws_stsz.read_back };
 
-    ghost sound = { sound_stsz };
+    ghost sound = { laws_stsz.sound };
 }

@@ -1,17 +1,13 @@
 //! The decoding time to sample box.
 
-ghost use Rattle.std.specs.Prelude.{◌≡◌, ◌-◌, ◌^◌, [], IfOk, IfErr, map, min, refl};
+ghost use Rattle.std.specs.Prelude.{◌≡◌, ◌-◌, ◌^◌, [], IfOk, IfErr, map, min};
 ghost use Rattle.mp4_frame.specs.declared.box_type.BoxType.TheVariants as names;
-ghost use Rattle.mp4_frame.proofs.Framing.{own_normal_form};
-ghost use Rattle.mp4_tables.specs.Stts.{reads_stts, size_stts, WritableStts, bytes_stts, normal_stts};
+ghost use Rattle.mp4_tables.specs.Stts.{size_stts, format_stts};
 ghost use Rattle.mp4_tables.specs.SttsEntry.{entry_stts};
-ghost use Rattle.mp4_tables.specs.SttsLaws.{header_stts, read_back_stts, sound_stts};
+ghost use Rattle.mp4_tables.specs.SttsLaws.{laws_stts};
 
 use crate::stts_entry::SttsEntry;
-use mp4_frame::{
-    BoxLaws, BoxType, Entries, Error, Mp4Box, ReadBox, Result, WriteBox, is_writable_table,
-    put_table, read_table, table_size, u32_at,
-};
+use mp4_frame::{BoxLaws, BoxType, Entries, Error, Mp4Box, ReadBox, Result, WriteBox, is_writable_table, put_table, read_table, table_size, u32_at, codes, TryClone};
 use std::alloc::Global;
 
 /// How long the samples of a track last (`stts`, ISO/IEC 14496-12, 8.6.1.2).
@@ -37,18 +33,6 @@ impl SttsBox {
         }
     }
 
-    /// An equal box, in memory of its own.
-    pub fn try_clone(&self) -> Result<SttsBox>
-        ensures clone { IfOk result (λ clone. clone ≡ self.now) }
-        ensures memory { IfErr result (λ e. e ≡ Error.OutOfMemory) }
-    {
-        Ok(SttsBox {
-            version: self.version,
-            flags: self.flags,
-            entries: self.entries.try_clone()?,
-        })
-    }
-
     /// As `box_type`.
     pub fn get_type(&self) -> BoxType
         ensures { result ≡ names.SttsBox }
@@ -64,10 +48,20 @@ impl SttsBox {
     }
 }
 
-impl Mp4Box for SttsBox {
-    ghost name = { λ _. names.SttsBox };
+impl TryClone for SttsBox {
+    fn try_clone(&self) -> Result<SttsBox> {
+        Ok(SttsBox {
+            version: self.version,
+            flags: self.flags,
+            entries: self.entries.try_clone()?,
+        })
+    }
+}
 
-    ghost size = { size_stts };
+impl Mp4Box for SttsBox {
+    ghost name = { λ _. format_stts.name };
+
+    ghost size = { format_stts.size };
 
     fn box_type(&self) -> BoxType {
         BoxType::SttsBox
@@ -99,7 +93,7 @@ fn entries_of(alloc: Global, rows: &[[u8; 8]]) -> Result<Vec<SttsEntry>>
 }
 
 impl ReadBox for SttsBox {
-    ghost reads = { reads_stts };
+    ghost reads = { format_stts.reads };
 
     #[tactic(auto, unfolding(crate::specs::Stts::reads_stts))]
     fn read_content(alloc: Global, bytes: &[u8], _start: u64, size: u64) -> Result<SttsBox> {
@@ -117,15 +111,15 @@ impl ReadBox for SttsBox {
 }
 
 impl WriteBox for SttsBox {
-    ghost Writable = { WritableStts };
+    ghost Writable = { format_stts.Writable };
 
-    ghost bytes = { bytes_stts };
+    ghost bytes = { format_stts.bytes };
 
-    ghost normal = { normal_stts };
+    ghost normal = { format_stts.normal };
 
     fn is_writable(&self) -> bool {
         is_writable_table(
-            0x7374_7473,
+            codes::STTS,
             self.version,
             self.flags,
             self.entries.as_slice(),
@@ -136,20 +130,20 @@ impl WriteBox for SttsBox {
     fn put_box(&self, out: &mut [u8]) {
         put_table(
             out,
-            0x7374_7473,
+            codes::STTS,
             self.version,
             self.flags,
             self.entries.as_slice(),
         );
     }
 
-    ghost header = { header_stts };
+    ghost header = { laws_stts.header };
 
-    ghost normal_form = { λ v w. own_normal_form v refl w };
+    ghost normal_form = { laws_stts.normal_form };
 }
 
 impl BoxLaws for SttsBox {
-    ghost read_back = { read_back_stts };
+    ghost read_back = { laws_stts.read_back };
 
-    ghost sound = { sound_stts };
+    ghost sound = { laws_stts.sound };
 }

@@ -2,9 +2,12 @@
 -- 8, 4 reserved bytes at 12, and the bytes of the value from 16 to the end.
 use Rattle.std.specs.Prelude.{ℕ, ◌+◌, ◌-◌, nat_le, List, [], ◌∷◌, ◌++◌, length, Option, Some, None}
 use Rattle.mp4_frame.specs.Bytes.{number, bytes_of_fields, FieldsFit}
-use Rattle.mp4_frame.specs.Reading.{Reading, Invalid, ◌>>=◌, expect_bytes, check, piece_from, memory, done, faults}
+use Rattle.mp4_frame.specs.Reading.{Reading, Invalid, ◌>>=◌, expect_bytes, check, piece_at, memory, done, faults}
 use Rattle.mp4_media.specs.DataType.{data_type_of, number_data_type}
 use Rattle.mp4_media.specs.declared.data_type.DataType.{DataType}
+use Rattle.mp4_frame.specs.Format.{Format}
+use Rattle.mp4_frame.specs.declared.box_type.BoxType.TheVariants as names
+use Rattle.mp4_frame.specs.declared.codes.TheConstants as codes
 use Rattle.mp4_text.specs.declared.data.DataBox.{DataBox}
 
 -- a type that the table of data types has
@@ -18,7 +21,7 @@ reads_data bytes start size = do
   data_type ← known_type (data_type_of (number bytes 8 4))
   _ ← expect_bytes bytes 12 4
   _ ← check (nat_le 16 size)
-  data_bytes ← piece_from bytes 16 (size - 16)
+  data_bytes ← piece_at bytes 16 (size - 16)
   _ ← memory
   done (record { data_bytes = data_bytes; data_type = data_type })
 
@@ -26,7 +29,7 @@ abbrev pub size_data : DataBox → ℕ
 size_data v = 16 + length v.data_bytes
 
 abbrev pub fields_data : DataBox → List (ℕ × ℕ)
-fields_data v = (4, size_data v) ∷ (4, 0x64617461) ∷ (4, number_data_type v.data_type) ∷ (4, 0) ∷ []
+fields_data v = (4, size_data v) ∷ (4, codes.DATA) ∷ (4, number_data_type v.data_type) ∷ (4, 0) ∷ []
 
 -- every number fits its bytes
 abbrev pub WritableData : DataBox → Type 0
@@ -35,5 +38,5 @@ WritableData v = FieldsFit (fields_data v)
 unfoldable pub bytes_data : DataBox → List ℕ
 bytes_data v = bytes_of_fields (fields_data v) ++ v.data_bytes
 
-abbrev pub normal_data : DataBox → DataBox
-normal_data v = v
+abbrev pub format_data : Format DataBox
+format_data = record { name = names.DataBox; reads = reads_data; size = size_data; Writable = WritableData; bytes = bytes_data; normal = λ v. v }

@@ -5,6 +5,9 @@ use Rattle.mp4_frame.specs.Children.{children}
 use Rattle.mp4_frame.specs.Reading.{Reading, NotFound, ◌>>=◌, done, faults}
 use Rattle.mp4_text.specs.Dref.{reads_dref, size_dref, WritableDref, bytes_dref, normal_dref}
 use Rattle.mp4_text.specs.declared.dinf.DinfBox.{DinfBox}
+use Rattle.mp4_frame.specs.Format.{Format}
+use Rattle.mp4_frame.specs.declared.box_type.BoxType.TheVariants as names
+use Rattle.mp4_frame.specs.declared.codes.TheConstants as codes
 use Rattle.mp4_text.specs.declared.dref.DrefBox.{DrefBox}
 
 -- the references have to be there
@@ -15,14 +18,14 @@ with_dref None = faults NotFound
 -- each begins before the end and has 8 bytes at least, so that the size bounds their number
 unfoldable pub reads_dinf : List ℕ → ℕ → ℕ → Reading DinfBox
 reads_dinf bytes start size = do
-  dref ← children reads_dref 0x64726566 bytes start size size 8
+  dref ← children reads_dref codes.DREF bytes start size size 8
   with_dref dref
 
 abbrev pub size_dinf : DinfBox → ℕ
 size_dinf v = 8 + size_dref v.dref
 
 abbrev pub fields_dinf : DinfBox → List (ℕ × ℕ)
-fields_dinf v = (4, size_dinf v) ∷ (4, 0x64696e66) ∷ []
+fields_dinf v = (4, size_dinf v) ∷ (4, codes.DINF) ∷ []
 
 -- the size fits its bytes, and the references can be written
 pub record WritableDinf (v : DinfBox) : Type 0 where
@@ -34,3 +37,6 @@ bytes_dinf v = bytes_of_fields (fields_dinf v) ++ bytes_dref v.dref
 
 abbrev pub normal_dinf : DinfBox → DinfBox
 normal_dinf v = record { dref = normal_dref v.dref }
+
+abbrev pub format_dinf : Format DinfBox
+format_dinf = record { name = names.DinfBox; reads = reads_dinf; size = size_dinf; Writable = WritableDinf; bytes = bytes_dinf; normal = normal_dinf }

@@ -1,9 +1,8 @@
 -- The laws of dinf, from those of dref alone.
 use Rattle.std.proofs.Common.{◌≡◌, ℕ, ◌+◌, ◌<◌, ◌^◌, List, [], ◌∷◌, ◌++◌, Ok, Option, Some, None, refl, sym, ap, subst, ◌∙◌, arith, append_assoc, lit<}
+use Rattle.mp4_frame.specs.Format.{IsBox}
 use Rattle.mp4_frame.specs.Bytes.{bytes_of_fields, FieldsFit}
 use Rattle.mp4_frame.specs.Children.{children}
-use Rattle.mp4_frame.specs.Laws.{BeginsWithHeader, Normal, ContentReadsBack, ContentIsSound}
-use Rattle.mp4_frame.specs.declared.box_type.BoxType.TheVariants as names
 use Rattle.mp4_frame.proofs.Framing.{header_in_front}
 use Rattle.mp4_frame.proofs.Fields.{length-fields}
 use Rattle.mp4_frame.proofs.Decided.{outcome_bind}
@@ -12,36 +11,11 @@ use Rattle.mp4_frame.proofs.Tables.{value_first}
 use Rattle.mp4_frame.proofs.ChildLaws as child
 use Rattle.mp4_text.specs.Dref.{reads_dref, size_dref, WritableDref, bytes_dref, normal_dref}
 use Rattle.mp4_text.specs.DrefLaws.{laws_dref}
-use Rattle.mp4_text.specs.Dinf.{with_dref, reads_dinf, size_dinf, fields_dinf, WritableDinf, bytes_dinf, normal_dinf}
+use Rattle.mp4_text.specs.Dinf.{with_dref, reads_dinf, size_dinf, fields_dinf, WritableDinf, bytes_dinf, normal_dinf, format_dinf}
 use Rattle.mp4_frame.specs.OptionalChild.{size_optional, WritableOptional, normal_optional}
 use Rattle.mp4_text.specs.declared.dinf.DinfBox.{DinfBox}
+use Rattle.mp4_frame.specs.declared.codes.TheConstants as codes
 use Rattle.mp4_text.specs.declared.dref.DrefBox.{DrefBox}
-
-pub header_dinf : (v : DinfBox) → WritableDinf v → BeginsWithHeader (size_dinf v) names.DinfBox (bytes_dinf v)
-unfolding bytes_dinf
-header_dinf v w = header_in_front _ (bytes_dref v.dref) w.fit (ap (λ (n : ℕ). 8 + n) (laws_dref.header v.dref w.dref).long)
-
-pub normal_form_dinf : (v : DinfBox) → WritableDinf v → Normal WritableDinf bytes_dinf normal_dinf v
-unfolding bytes_dinf
-normal_form_dinf v w =
-    let inner = laws_dref.normal_form v.dref w.dref in
-    let same : fields_dinf (normal_dinf v) ≡ fields_dinf v = ap (λ (n : ℕ). (4, 8 + n) ∷ (4, 0x64696e66) ∷ []) (child.normal_size laws_dref v.dref w.dref) in
-    record {
-      writable = record { fit = subst FieldsFit (sym same) w.fit; dref = inner.writable };
-      again = ap (λ (dref : DrefBox). record { dref = dref }) inner.again;
-      same_bytes = ap (λ (cs : List (ℕ × ℕ)). bytes_of_fields cs ++ bytes_dref (normal_dref v.dref)) same ∙ ap (λ (xs : List ℕ). bytes_of_fields (fields_dinf v) ++ xs) inner.same_bytes;
-    }
-
-pub read_back_dinf : (v : DinfBox) → WritableDinf v → ContentReadsBack reads_dinf (bytes_dinf v) (size_dinf v) (normal_dinf v)
-unfolding bytes_dinf reads_dinf
-read_back_dinf v w rest start top =
-    let cs = fields_dinf v in
-    let part = bytes_dref v.dref in
-    let B = bytes_of_fields cs ++ (part ++ rest) in
-    let more : 0 < size_dinf v = omega arith in
-    let there = child.child_back laws_dref cs 8 (length-fields cs) v.dref rest start (size_dinf v) w.dref top more in
-    ap (λ (l : List ℕ). (reads_dinf l start (size_dinf v)).outcome) (append_assoc (bytes_of_fields cs) part rest)
-    ∙ outcome_bind (children reads_dref 0x64726566 B start (size_dinf v) (size_dinf v) 8) with_dref (Some (normal_dref v.dref)) _ there refl
 
 sound_by : (c : Option DrefBox) (v : DinfBox) → (with_dref c).outcome ≡ Ok v → (normal_optional normal_dref c ≡ c) × (size_optional size_dref c < 2 ^ 32 → WritableOptional WritableDref c) → (normal_dinf v ≡ v) × (size_dinf v < 2 ^ 32 → WritableDinf v)
 sound_by (Some dref) v e is =
@@ -52,8 +26,27 @@ sound_by (Some dref) v e is =
     subst (λ (w : DinfBox). (normal_dinf w ≡ w) × (size_dinf w < 2 ^ 32 → WritableDinf w)) (is_value made v e) (own_normal_form, can)
 sound_by None v e is = absurd cc
 
-pub sound_dinf : ContentIsSound reads_dinf WritableDinf size_dinf normal_dinf
-unfolding reads_dinf
-sound_dinf bytes start long v are e =
-    let p = value_first (children reads_dref 0x64726566 bytes start long long 8) with_dref v e in
-    sound_by p.0 v p.2 (child.optional_sound laws_dref 0x64726566 bytes start long long 8 p.0 are p.1)
+pub laws_dinf : IsBox format_dinf
+unfolding bytes_dinf reads_dinf
+laws_dinf = record {
+  header = λ v w. header_in_front _ (bytes_dref v.dref) w.fit (ap (λ (n : ℕ). 8 + n) (laws_dref.header v.dref w.dref).long);
+  normal_form = λ v w.
+      let inner = laws_dref.normal_form v.dref w.dref in
+      let same : fields_dinf (normal_dinf v) ≡ fields_dinf v = ap (λ (n : ℕ). (4, 8 + n) ∷ (4, codes.DINF) ∷ []) (child.normal_size laws_dref v.dref w.dref) in
+      record {
+        writable = record { fit = subst FieldsFit (sym same) w.fit; dref = inner.writable };
+        again = ap (λ (dref : DrefBox). record { dref = dref }) inner.again;
+        same_bytes = ap (λ (cs : List (ℕ × ℕ)). bytes_of_fields cs ++ bytes_dref (normal_dref v.dref)) same ∙ ap (λ (xs : List ℕ). bytes_of_fields (fields_dinf v) ++ xs) inner.same_bytes;
+      };
+  read_back = λ v w rest start top.
+      let cs = fields_dinf v in
+      let part = bytes_dref v.dref in
+      let B = bytes_of_fields cs ++ (part ++ rest) in
+      let more : 0 < size_dinf v = omega arith in
+      let there = child.child_back laws_dref cs 8 (length-fields cs) v.dref rest start (size_dinf v) w.dref top more in
+      ap (λ (l : List ℕ). (reads_dinf l start (size_dinf v)).outcome) (append_assoc (bytes_of_fields cs) part rest)
+      ∙ outcome_bind (children reads_dref codes.DREF B start (size_dinf v) (size_dinf v) 8) with_dref (Some (normal_dref v.dref)) _ there refl;
+  sound = λ bytes start long v are e.
+      let p = value_first (children reads_dref codes.DREF bytes start long long 8) with_dref v e in
+      sound_by p.0 v p.2 (child.optional_sound laws_dref codes.DREF bytes start long long 8 p.0 are p.1);
+}

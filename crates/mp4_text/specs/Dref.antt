@@ -7,6 +7,9 @@ use Rattle.mp4_frame.specs.Reading.{Reading, ◌>>=◌, expect_bytes, done}
 use Rattle.mp4_frame.specs.OptionalChild.{count_optional, size_optional, WritableOptional, bytes_optional, normal_optional}
 use Rattle.mp4_text.specs.Url.{reads_url, size_url, WritableUrl, bytes_url, normal_url}
 use Rattle.mp4_text.specs.declared.dref.DrefBox.{DrefBox}
+use Rattle.mp4_frame.specs.Format.{Format}
+use Rattle.mp4_frame.specs.declared.box_type.BoxType.TheVariants as names
+use Rattle.mp4_frame.specs.declared.codes.TheConstants as codes
 use Rattle.mp4_text.specs.declared.url.UrlBox.{UrlBox}
 
 -- the value, where `at o w` is the number of w bytes at offset o, and its entry
@@ -16,14 +19,14 @@ value_dref at url = record { version = at 8 1; flags = at 9 3; url = url }
 unfoldable pub reads_dref : List ℕ → ℕ → ℕ → Reading DrefBox
 reads_dref bytes start size = do
   _ ← expect_bytes bytes 8 8
-  url ← children reads_url 0x75726c20 bytes start size (number bytes 12 4) 16
+  url ← children reads_url codes.URL bytes start size (number bytes 12 4) 16
   done (value_dref (number bytes) url)
 
 abbrev pub size_dref : DrefBox → ℕ
 size_dref v = 16 + size_optional size_url v.url
 
 abbrev pub fields_dref : DrefBox → List (ℕ × ℕ)
-fields_dref v = full_box (size_dref v) 0x64726566 v.version v.flags ++ (4, count_optional v.url) ∷ []
+fields_dref v = full_box (size_dref v) codes.DREF v.version v.flags ++ (4, count_optional v.url) ∷ []
 
 -- every number fits its bytes, and the entry can be written
 pub record WritableDref (v : DrefBox) : Type 0 where
@@ -35,3 +38,6 @@ bytes_dref v = bytes_of_fields (fields_dref v) ++ bytes_optional bytes_url v.url
 
 abbrev pub normal_dref : DrefBox → DrefBox
 normal_dref v = record v { url = normal_optional normal_url v.url }
+
+abbrev pub format_dref : Format DrefBox
+format_dref = record { name = names.DrefBox; reads = reads_dref; size = size_dref; Writable = WritableDref; bytes = bytes_dref; normal = normal_dref }

@@ -4,15 +4,18 @@
 -- goes up to the end.
 use Rattle.std.specs.Prelude.{◌≡◌, ℕ, ◌+◌, ◌-◌, ◌==◌, ◌&&◌, nat_le, Bool, true, List, [], ◌∷◌, ◌++◌, length, drop, Some, None, is_some, unwrap_or, if◌then◌else◌}
 use Rattle.mp4_frame.specs.Bytes.{number, bytes_of_fields, FieldsFit, full_box}
-use Rattle.mp4_frame.specs.Reading.{Reading, Invalid, ◌>>=◌, expect_bytes, check, piece_from, memory, done, faults}
+use Rattle.mp4_frame.specs.Reading.{Reading, Invalid, ◌>>=◌, expect_bytes, check, piece_at, memory, done, faults}
 use Rattle.mp4_text.specs.Terminated.{two_texts, behind, terminated, IsTerminable}
+use Rattle.mp4_frame.specs.Format.{Format}
+use Rattle.mp4_frame.specs.declared.box_type.BoxType.TheVariants as names
+use Rattle.mp4_frame.specs.declared.codes.TheConstants as codes
 use Rattle.mp4_text.specs.declared.emsg.EmsgBox.{EmsgBox}
 
 -- the message from o on, in a box of this size
 unfoldable pub message_from : List ℕ → ℕ → ℕ → Reading (List ℕ)
 message_from bytes size o = do
   _ ← check (nat_le o size)
-  message ← piece_from bytes o (size - o)
+  message ← piece_at bytes o (size - o)
   _ ← memory
   done message
 
@@ -56,7 +59,7 @@ abbrev pub size_emsg : EmsgBox → ℕ
 size_emsg v = 12 + size_middle v + length v.message_data
 
 abbrev pub fields_emsg : EmsgBox → List (ℕ × ℕ)
-fields_emsg v = full_box (size_emsg v) 0x656d7367 v.version v.flags
+fields_emsg v = full_box (size_emsg v) codes.EMSG v.version v.flags
 
 abbrev pub numbers_emsg_0 : EmsgBox → List (ℕ × ℕ)
 numbers_emsg_0 v = (4, v.timescale) ∷ (4, unwrap_or v.presentation_time_delta 0) ∷ (4, v.event_duration) ∷ (4, v.id) ∷ []
@@ -90,3 +93,6 @@ bytes_emsg v = bytes_of_fields (fields_emsg v) ++ (middle_emsg v ++ v.message_da
 -- without the time of the other version
 abbrev pub normal_emsg : EmsgBox → EmsgBox
 normal_emsg v = if v.version == 0 then record v { presentation_time = None } else record v { presentation_time_delta = None }
+
+abbrev pub format_emsg : Format EmsgBox
+format_emsg = record { name = names.EmsgBox; reads = reads_emsg; size = size_emsg; Writable = WritableEmsg; bytes = bytes_emsg; normal = normal_emsg }

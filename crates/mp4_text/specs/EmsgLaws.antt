@@ -3,16 +3,16 @@ use Rattle.std.proofs.Common.{◌≡◌, ℕ, ◌+◌, ◌-◌, ◌<◌, ◌^◌
 use Rattle.std.proofs.lemmas.Bool.{le-leb, and_parts}
 use Rattle.std.proofs.lemmas.List.{drop_at}
 use Rattle.std.specs.Prelude.{◌==◌, nat_le, is_some, unwrap_or}
+use Rattle.mp4_frame.specs.Format.{IsBox}
 use Rattle.mp4_frame.specs.Bytes.{number, bytes_of_fields}
-use Rattle.mp4_frame.specs.Laws.{BeginsWithHeader, Normal, ContentReadsBack, ContentIsSound, AreBytes}
+use Rattle.mp4_frame.specs.Laws.{Normal, AreBytes}
 use Rattle.mp4_frame.specs.Reading.{Reading, Fault, Invalid, ◌>>=◌, expect_bytes, done, faults}
-use Rattle.mp4_frame.specs.declared.box_type.BoxType.TheVariants as names
 use Rattle.mp4_frame.proofs.Framing.{header_in_front, fits_read, Number, Fitting}
 use Rattle.mp4_frame.proofs.Fields.{found, numbers-fields, expect_bytes-fields, length-fields, number-fields}
 use Rattle.mp4_frame.proofs.Decided.{outcome_bind}
 use Rattle.mp4_frame.proofs.Checks.{expect_bytes_present, expect_bytes_ok, is_value, are_bytes-drop, piece_back}
 use Rattle.mp4_frame.proofs.Tables.{value_first}
-use Rattle.mp4_text.specs.Emsg.{message_from, value_emsg_0, value_emsg_1, reads_emsg_0, reads_emsg_1, reads_emsg_version, reads_emsg, size_middle, size_emsg, fields_emsg, numbers_emsg_0, numbers_emsg_1, texts_emsg, middle_emsg, WritableEmsg, bytes_emsg, normal_emsg}
+use Rattle.mp4_text.specs.Emsg.{message_from, value_emsg_0, value_emsg_1, reads_emsg_0, reads_emsg_1, reads_emsg_version, reads_emsg, size_middle, size_emsg, fields_emsg, numbers_emsg_0, numbers_emsg_1, texts_emsg, middle_emsg, WritableEmsg, bytes_emsg, normal_emsg, format_emsg}
 use Rattle.mp4_text.specs.Terminated.{two_texts, behind, terminated}
 use Rattle.mp4_text.specs.TerminatedLaws.{taken, two_back, texts_are}
 use Rattle.mp4_text.specs.declared.emsg.EmsgBox.{EmsgBox}
@@ -23,12 +23,6 @@ length_texts v = omega (arith, length-append (terminated v.scheme_id_uri) (termi
 length_by : (v : EmsgBox) (b : Bool) → length (cond b (texts_emsg v ++ bytes_of_fields (numbers_emsg_0 v)) (bytes_of_fields (numbers_emsg_1 v) ++ texts_emsg v)) ≡ cond b 18 22 + length v.scheme_id_uri + length v.value
 length_by v true = omega (arith, length-append (texts_emsg v) (bytes_of_fields (numbers_emsg_0 v)), length_texts v, length-fields (numbers_emsg_0 v))
 length_by v false = omega (arith, length-append (bytes_of_fields (numbers_emsg_1 v)) (texts_emsg v), length_texts v, length-fields (numbers_emsg_1 v))
-
-pub header_emsg : (v : EmsgBox) → WritableEmsg v → BeginsWithHeader (size_emsg v) names.EmsgBox (bytes_emsg v)
-unfolding bytes_emsg
-header_emsg v w =
-    let middle : length (middle_emsg v) ≡ size_middle v = length_by v (v.version == 0) in
-    header_in_front _ (middle_emsg v ++ v.message_data) w.fit (omega (arith, length-append (middle_emsg v) v.message_data, middle))
 
 abbrev normal_emsg_0 : EmsgBox → EmsgBox
 normal_emsg_0 v = record v { presentation_time = None }
@@ -75,9 +69,6 @@ normal_by v false e w =
     })
     (ap (λ (b : Bool). cond b (normal_emsg_0 n) n) e)
     (ap (written v n v) e ∙ sym (ap (written v v v) e))
-
-pub normal_form_emsg : (v : EmsgBox) → WritableEmsg v → Normal WritableEmsg bytes_emsg normal_emsg v
-normal_form_emsg v w = normal_by v (v.version == 0) refl w
 
 -- a message up to the end is read back
 message_back : (x message y : List ℕ) (size o : ℕ) → length x ≡ o → size ≡ o + length message → message_from (x ++ (message ++ y)) size o ≡ taken message
@@ -160,15 +151,6 @@ by_version v rest false e w =
     rw one (ap (λ (l : List ℕ). (reads_emsg_1 (bytes_of_fields (fields_emsg v) ++ l) (size_emsg v)).outcome) (append_assoc (bytes_of_fields (numbers_emsg_1 v)) (texts_emsg v) (v.message_data ++ rest))
     ∙ back_1 v rest w e)
 
-pub read_back_emsg : (v : EmsgBox) → WritableEmsg v → ContentReadsBack reads_emsg (bytes_emsg v) (size_emsg v) (normal_emsg v)
-unfolding bytes_emsg
-read_back_emsg v w rest start top =
-    let J = bytes_of_fields (fields_emsg v) in
-    let m = v.message_data in
-    let grouped : (J ++ (middle_emsg v ++ m)) ++ rest ≡ J ++ (middle_emsg v ++ (m ++ rest)) = append_assoc J (middle_emsg v ++ m) rest ∙ ap (λ (l : List ℕ). J ++ l) (append_assoc (middle_emsg v) m rest) in
-    ap (λ (l : List ℕ). (reads_emsg l start (size_emsg v)).outcome) grouped
-    ∙ begun v (middle_emsg v ++ (m ++ rest)) start (Ok (normal_emsg v)) w (by_version v rest (v.version == 0) refl w)
-
 -- what is read is its own normal form, and writable unless it is too long
 abbrev IsSound : EmsgBox → Type 0
 IsSound v = (normal_emsg v ≡ v) × (size_emsg v < 2 ^ 32 → WritableEmsg v)
@@ -219,7 +201,19 @@ sound_by bytes long v true b are p q e = sound_0 bytes long v are p e
 sound_by bytes long v false true are p q e = sound_1 bytes long v are p q e
 sound_by bytes long v false false are p q e = absurd cc
 
-pub sound_emsg : ContentIsSound reads_emsg WritableEmsg size_emsg normal_emsg
-unfolding reads_emsg
-sound_emsg bytes start long v are e =
-    sound_by bytes long v (number bytes 8 1 == 0) (number bytes 8 1 == 1) are refl refl (expect_bytes_ok bytes 8 4 (λ _. reads_emsg_version (number bytes 8 1) bytes long) v e)
+pub laws_emsg : IsBox format_emsg
+unfolding bytes_emsg reads_emsg
+laws_emsg = record {
+  header = λ v w.
+      let middle : length (middle_emsg v) ≡ size_middle v = length_by v (v.version == 0) in
+      header_in_front _ (middle_emsg v ++ v.message_data) w.fit (omega (arith, length-append (middle_emsg v) v.message_data, middle));
+  normal_form = λ v w. normal_by v (v.version == 0) refl w;
+  read_back = λ v w rest start top.
+      let J = bytes_of_fields (fields_emsg v) in
+      let m = v.message_data in
+      let grouped : (J ++ (middle_emsg v ++ m)) ++ rest ≡ J ++ (middle_emsg v ++ (m ++ rest)) = append_assoc J (middle_emsg v ++ m) rest ∙ ap (λ (l : List ℕ). J ++ l) (append_assoc (middle_emsg v) m rest) in
+      ap (λ (l : List ℕ). (reads_emsg l start (size_emsg v)).outcome) grouped
+      ∙ begun v (middle_emsg v ++ (m ++ rest)) start (Ok (normal_emsg v)) w (by_version v rest (v.version == 0) refl w);
+  sound = λ bytes start long v are e.
+      sound_by bytes long v (number bytes 8 1 == 0) (number bytes 8 1 == 1) are refl refl (expect_bytes_ok bytes 8 4 (λ _. reads_emsg_version (number bytes 8 1) bytes long) v e);
+}

@@ -4,8 +4,11 @@ use Rattle.std.specs.Prelude.{ℕ, ◌+◌, ◌-◌, ◌*◌, ◌/◌, ◌%◌, 
 use Rattle.mp4_frame.specs.Bytes.{number, bytes_of_fields, FieldsFit}
 use Rattle.mp4_frame.specs.FourCC.{four_cc_of, number_of, IsFourCC}
 use Rattle.mp4_frame.specs.Reading.{Reading, ◌>>=◌, check, expect_bytes, memory, done}
-use Rattle.mp4_frame.specs.Tables.{rows_from}
+use Rattle.mp4_frame.specs.Tables.{rows_at}
 use Rattle.mp4_frame.specs.declared.four_cc.FourCC.{FourCC}
+use Rattle.mp4_frame.specs.Format.{Format}
+use Rattle.mp4_frame.specs.declared.box_type.BoxType.TheVariants as names
+use Rattle.mp4_frame.specs.declared.codes.TheConstants as codes
 use Rattle.mp4_text.specs.declared.ftyp.FtypBox.{FtypBox}
 
 -- the brand in a row
@@ -20,7 +23,7 @@ unfoldable pub reads_ftyp : List ℕ → ℕ → ℕ → Reading FtypBox
 reads_ftyp bytes start size = do
   _ ← check (nat_le 16 size && (size % 4 == 0))
   _ ← expect_bytes bytes 8 8
-  rows ← rows_from bytes 16 4 ((size - 16) / 4)
+  rows ← rows_at bytes 16 4 ((size - 16) / 4)
   _ ← memory
   done (value_ftyp (number bytes) (map brand_of rows))
 
@@ -28,7 +31,7 @@ abbrev pub size_ftyp : FtypBox → ℕ
 size_ftyp v = 16 + 4 * length v.compatible_brands
 
 abbrev pub fields_ftyp : FtypBox → List (ℕ × ℕ)
-fields_ftyp v = (4, size_ftyp v) ∷ (4, 0x66747970) ∷ (4, number_of v.major_brand) ∷ (4, v.minor_version) ∷ []
+fields_ftyp v = (4, size_ftyp v) ∷ (4, codes.FTYP) ∷ (4, number_of v.major_brand) ∷ (4, v.minor_version) ∷ []
 
 -- every number fits its bytes, and every brand has four
 pub record WritableFtyp (v : FtypBox) : Type 0 where
@@ -39,5 +42,5 @@ pub record WritableFtyp (v : FtypBox) : Type 0 where
 unfoldable pub bytes_ftyp : FtypBox → List ℕ
 bytes_ftyp v = bytes_of_fields (fields_ftyp v) ++ flat_map (λ brand. brand.value) v.compatible_brands
 
-abbrev pub normal_ftyp : FtypBox → FtypBox
-normal_ftyp v = v
+abbrev pub format_ftyp : Format FtypBox
+format_ftyp = record { name = names.FtypBox; reads = reads_ftyp; size = size_ftyp; Writable = WritableFtyp; bytes = bytes_ftyp; normal = λ v. v }

@@ -5,9 +5,12 @@ use Rattle.std.specs.Prelude.{ℕ, ◌+◌, ◌-◌, nat_le, List, [], ◌∷◌
 use Rattle.std.specs.Str.{IsUtf8}
 use Rattle.mp4_frame.specs.Bytes.{number, bytes_of_fields, FieldsFit, full_box}
 use Rattle.mp4_frame.specs.FourCC.{four_cc_of, number_of, IsFourCC}
-use Rattle.mp4_frame.specs.Reading.{Reading, ◌>>=◌, expect_bytes, check, piece_from, memory, done}
+use Rattle.mp4_frame.specs.Reading.{Reading, ◌>>=◌, expect_bytes, check, piece_at, memory, done}
 use Rattle.mp4_text.specs.Terminated.{terminated}
 use Rattle.mp4_frame.specs.Text.{text_or}
+use Rattle.mp4_frame.specs.Format.{Format}
+use Rattle.mp4_frame.specs.declared.box_type.BoxType.TheVariants as names
+use Rattle.mp4_frame.specs.declared.codes.TheConstants as codes
 use Rattle.mp4_text.specs.declared.hdlr.HdlrBox.{HdlrBox}
 
 -- the value, where `at o w` is the number of w bytes at offset o, and its name
@@ -19,7 +22,7 @@ unfoldable pub reads_hdlr : List ℕ → ℕ → ℕ → Reading HdlrBox
 reads_hdlr bytes start size = do
   _ ← expect_bytes bytes 8 12
   _ ← check (nat_le 33 size)
-  found ← piece_from bytes 32 (size - 33)
+  found ← piece_at bytes 32 (size - 33)
   _ ← memory
   done (value_hdlr (number bytes) (text_or (codes "null") found))
 
@@ -27,7 +30,7 @@ abbrev pub size_hdlr : HdlrBox → ℕ
 size_hdlr v = 33 + length v.name
 
 abbrev pub fields_hdlr : HdlrBox → List (ℕ × ℕ)
-fields_hdlr v = full_box (size_hdlr v) 0x68646c72 v.version v.flags ++ (4, 0) ∷ (4, number_of v.handler_type) ∷ (12, 0) ∷ []
+fields_hdlr v = full_box (size_hdlr v) codes.HDLR v.version v.flags ++ (4, 0) ∷ (4, number_of v.handler_type) ∷ (12, 0) ∷ []
 
 -- every number fits its bytes, the handler type has four, and the name is UTF-8
 pub record WritableHdlr (v : HdlrBox) : Type 0 where
@@ -38,5 +41,5 @@ pub record WritableHdlr (v : HdlrBox) : Type 0 where
 unfoldable pub bytes_hdlr : HdlrBox → List ℕ
 bytes_hdlr v = bytes_of_fields (fields_hdlr v) ++ terminated v.name
 
-abbrev pub normal_hdlr : HdlrBox → HdlrBox
-normal_hdlr v = v
+abbrev pub format_hdlr : Format HdlrBox
+format_hdlr = record { name = names.HdlrBox; reads = reads_hdlr; size = size_hdlr; Writable = WritableHdlr; bytes = bytes_hdlr; normal = λ v. v }

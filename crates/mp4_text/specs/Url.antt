@@ -3,9 +3,12 @@
 use Rattle.std.specs.Prelude.{ℕ, ◌+◌, ◌-◌, nat_lt, ◌==◌, List, [], ◌++◌, length, if◌then◌else◌}
 use Rattle.std.specs.Str.{IsUtf8}
 use Rattle.mp4_frame.specs.Bytes.{number, bytes_of_fields, FieldsFit, full_box}
-use Rattle.mp4_frame.specs.Reading.{Reading, ◌>>=◌, expect_bytes, piece_from, memory, done}
+use Rattle.mp4_frame.specs.Reading.{Reading, ◌>>=◌, expect_bytes, piece_at, memory, done}
 use Rattle.mp4_text.specs.Terminated.{terminated}
 use Rattle.mp4_frame.specs.Text.{text_or}
+use Rattle.mp4_frame.specs.Format.{Format}
+use Rattle.mp4_frame.specs.declared.box_type.BoxType.TheVariants as names
+use Rattle.mp4_frame.specs.declared.codes.TheConstants as codes
 use Rattle.mp4_text.specs.declared.url.UrlBox.{UrlBox}
 
 -- the value, where `at o w` is the number of w bytes at offset o, and its location
@@ -15,7 +18,7 @@ value_url at location = record { version = at 8 1; flags = at 9 3; location = lo
 -- a location of this many bytes, which is empty where they are not UTF-8
 abbrev pub reads_location : List ℕ → ℕ → Reading UrlBox
 reads_location bytes long = do
-  found ← piece_from bytes 12 long
+  found ← piece_at bytes 12 long
   _ ← memory
   done (value_url (number bytes) (text_or [] found))
 
@@ -32,7 +35,7 @@ abbrev pub size_url : UrlBox → ℕ
 size_url v = if length v.location == 0 then 12 else 13 + length v.location
 
 abbrev pub fields_url : UrlBox → List (ℕ × ℕ)
-fields_url v = full_box (size_url v) 0x75726c20 v.version v.flags
+fields_url v = full_box (size_url v) codes.URL v.version v.flags
 
 -- every number fits its bytes, and the location is UTF-8
 pub record WritableUrl (v : UrlBox) : Type 0 where
@@ -42,5 +45,5 @@ pub record WritableUrl (v : UrlBox) : Type 0 where
 unfoldable pub bytes_url : UrlBox → List ℕ
 bytes_url v = bytes_of_fields (fields_url v) ++ bytes_location v.location
 
-abbrev pub normal_url : UrlBox → UrlBox
-normal_url v = v
+abbrev pub format_url : Format UrlBox
+format_url = record { name = names.UrlBox; reads = reads_url; size = size_url; Writable = WritableUrl; bytes = bytes_url; normal = λ v. v }

@@ -4,19 +4,18 @@ use Rattle.std.proofs.lemmas.Bool.{le-ltb, eqb-true}
 use Rattle.std.proofs.lemmas.List.{append-nil, nil_from_length}
 use Rattle.std.proofs.lemmas.Str.{IsUtf8-nil}
 use Rattle.std.specs.Str.{IsUtf8}
+use Rattle.mp4_frame.specs.Format.{IsBox}
 use Rattle.mp4_frame.specs.Bytes.{number, bytes_of_fields, width_of_fields, FieldsFit}
-use Rattle.mp4_frame.specs.Laws.{BeginsWithHeader, ContentReadsBack, ContentIsSound, AreBytes}
-use Rattle.mp4_frame.specs.Reading.{◌>>=◌, expect_bytes, piece_from, memory, done}
-use Rattle.mp4_frame.specs.declared.box_type.BoxType.TheVariants as names
+use Rattle.mp4_frame.specs.Laws.{AreBytes}
+use Rattle.mp4_frame.specs.Reading.{◌>>=◌, expect_bytes, piece_at, memory, done}
 use Rattle.mp4_frame.proofs.Framing.{header_in_front, own_normal_form, fits_read, Number}
 use Rattle.mp4_frame.proofs.Fields.{found, numbers-fields, expect_bytes-fields, length-fields}
 use Rattle.mp4_frame.proofs.Checks.{expect_bytes_ok, is_value, piece_back}
 use Rattle.mp4_frame.proofs.Tables.{value_first}
 use Rattle.mp4_frame.specs.TextLaws.{text_as_is, IsUtf8-text_or}
-use Rattle.mp4_frame.proofs.ChildLaws.{IsChild}
 use Rattle.mp4_frame.specs.Text.{text_or}
 use Rattle.mp4_text.specs.Terminated.{terminated}
-use Rattle.mp4_text.specs.Url.{reads_url, reads_location, value_url, fields_url, bytes_location, size_url, WritableUrl, bytes_url, normal_url}
+use Rattle.mp4_text.specs.Url.{reads_url, reads_location, value_url, fields_url, bytes_location, size_url, WritableUrl, bytes_url, format_url}
 use Rattle.mp4_text.specs.declared.url.UrlBox.{UrlBox}
 
 empty_back : (cs : List (ℕ × ℕ)) (rest : List ℕ) (start : ℕ) → FieldsFit cs → width_of_fields cs ≡ 12 → (reads_url (bytes_of_fields cs ++ rest) start 12).outcome ≡ Ok (value_url (found cs rest) [])
@@ -54,15 +53,6 @@ length_by : (location : List ℕ) (b : Bool) → 12 + length (cond b [] (termina
 length_by location true = refl
 length_by location false = omega (arith, length-append location (0 ∷ []))
 
-pub header_url : (v : UrlBox) → WritableUrl v → BeginsWithHeader (size_url v) names.UrlBox (bytes_url v)
-unfolding bytes_url
-header_url v w =
-    header_in_front _ (bytes_location v.location) w.fit (length_by v.location (eqb (length v.location) 0))
-
-pub read_back_url : (v : UrlBox) → WritableUrl v → ContentReadsBack reads_url (bytes_url v) (size_url v) (normal_url v)
-unfolding bytes_url
-read_back_url v w rest start top = back_by v rest start (eqb (length v.location) 0) refl w
-
 writable : (bytes location : List ℕ) → AreBytes bytes → IsUtf8 location → size_url (value_url (number bytes) location) < 2 ^ 32 → WritableUrl (value_url (number bytes) location)
 writable bytes location are text small = record { fit = (small, (lit< tt, fits_read bytes are (Number 8 1 ∷ Number 9 3 ∷ []))); text = text }
 
@@ -72,15 +62,18 @@ sound_by bytes true long v are e =
     subst (λ (x : UrlBox). size_url x < 2 ^ 32 → WritableUrl x) is (writable bytes [] are IsUtf8-nil)
 sound_by bytes false long v are e =
     let last = λ (location : List ℕ). memory >>= λ _. done (value_url (number bytes) (text_or [] location)) in
-    let p = value_first (piece_from bytes 12 long) last v e in
+    let p = value_first (piece_at bytes 12 long) last v e in
     let is : value_url (number bytes) (text_or [] p.0) ≡ v = is_value _ v p.2 in
     subst (λ (x : UrlBox). size_url x < 2 ^ 32 → WritableUrl x) is (writable bytes (text_or [] p.0) are (IsUtf8-text_or [] p.0 IsUtf8-nil))
 
-pub sound_url : ContentIsSound reads_url WritableUrl size_url normal_url
-unfolding reads_url
-sound_url bytes start long v are e =
-    let rest = λ (u : Unit {0}). cond (ltb long 13) (done (value_url (number bytes) [])) (reads_location bytes (long - 13)) in
-    (refl, sound_by bytes (ltb long 13) (long - 13) v are (expect_bytes_ok bytes 8 4 rest v e))
-
-pub laws_url : IsChild reads_url size_url WritableUrl bytes_url normal_url names.UrlBox
-laws_url = record { header = header_url; normal_form = λ v w. own_normal_form v refl w; read_back = read_back_url; sound = sound_url }
+pub laws_url : IsBox format_url
+unfolding bytes_url reads_url
+laws_url = record {
+  header = λ v w.
+      header_in_front _ (bytes_location v.location) w.fit (length_by v.location (eqb (length v.location) 0));
+  normal_form = λ v w. own_normal_form v refl w;
+  read_back = λ v w rest start top. back_by v rest start (eqb (length v.location) 0) refl w;
+  sound = λ bytes start long v are e.
+      let rest = λ (u : Unit {0}). cond (ltb long 13) (done (value_url (number bytes) [])) (reads_location bytes (long - 13)) in
+      (refl, sound_by bytes (ltb long 13) (long - 13) v are (expect_bytes_ok bytes 8 4 rest v e));
+}

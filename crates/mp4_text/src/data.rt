@@ -1,17 +1,13 @@
 //! The value of a metadata item.
 
-ghost use Rattle.std.specs.Prelude.{◌≡◌, ◌-◌, ◌^◌, [], IfOk, IfErr, min, refl};
+ghost use Rattle.std.specs.Prelude.{◌≡◌, ◌-◌, ◌^◌, [], min};
 ghost use Rattle.mp4_frame.specs.declared.box_type.BoxType.TheVariants as names;
 ghost use Rattle.mp4_media.specs.DataType.{number_data_type};
 ghost use Rattle.mp4_media.specs.declared.data_type.DataType.TheVariants as types;
-ghost use Rattle.mp4_frame.proofs.Framing.{own_normal_form};
-ghost use Rattle.mp4_text.specs.Data.{reads_data, size_data, WritableData, bytes_data, normal_data};
-ghost use Rattle.mp4_text.specs.DataLaws.{header_data, read_back_data, sound_data};
+ghost use Rattle.mp4_text.specs.Data.{size_data, format_data};
+ghost use Rattle.mp4_text.specs.DataLaws.{laws_data};
 
-use mp4_frame::{
-    BoxLaws, BoxType, Entries, Error, Mp4Box, ReadBox, Result, WriteBox, expect_bytes, piece_at,
-    put_bytes, put_u32, check, u32_at,
-};
+use mp4_frame::{BoxLaws, BoxType, Entries, Error, Mp4Box, ReadBox, Result, WriteBox, expect_bytes, piece_at, put_bytes, put_u32, check, u32_at, codes, TryClone};
 use mp4_media::DataType;
 use std::alloc::Global;
 
@@ -35,17 +31,6 @@ impl DataBox {
         }
     }
 
-    /// An equal box, in memory of its own.
-    pub fn try_clone(&self) -> Result<DataBox>
-        ensures clone { IfOk result (λ clone. clone ≡ self.now) }
-        ensures memory { IfErr result (λ e. e ≡ Error.OutOfMemory) }
-    {
-        Ok(DataBox {
-            data_bytes: self.data_bytes.try_clone()?,
-            data_type: self.data_type.clone()?,
-        })
-    }
-
     /// As `box_type`.
     pub fn get_type(&self) -> BoxType
         ensures { result ≡ names.DataBox }
@@ -61,10 +46,19 @@ impl DataBox {
     }
 }
 
-impl Mp4Box for DataBox {
-    ghost name = { λ _. names.DataBox };
+impl TryClone for DataBox {
+    fn try_clone(&self) -> Result<DataBox> {
+        Ok(DataBox {
+            data_bytes: self.data_bytes.try_clone()?,
+            data_type: self.data_type.clone()?,
+        })
+    }
+}
 
-    ghost size = { size_data };
+impl Mp4Box for DataBox {
+    ghost name = { λ _. format_data.name };
+
+    ghost size = { format_data.size };
 
     fn box_type(&self) -> BoxType {
         BoxType::DataBox
@@ -76,7 +70,7 @@ impl Mp4Box for DataBox {
 }
 
 impl ReadBox for DataBox {
-    ghost reads = { reads_data };
+    ghost reads = { format_data.reads };
 
     #[tactic(auto, unfolding(crate::specs::Data::reads_data))]
     fn read_content(alloc: Global, bytes: &[u8], _start: u64, size: u64) -> Result<DataBox> {
@@ -105,11 +99,11 @@ fn number_of(data_type: &DataType) -> u32
 }
 
 impl WriteBox for DataBox {
-    ghost Writable = { WritableData };
+    ghost Writable = { format_data.Writable };
 
-    ghost bytes = { bytes_data };
+    ghost bytes = { format_data.bytes };
 
-    ghost normal = { normal_data };
+    ghost normal = { format_data.normal };
 
     fn is_writable(&self) -> bool {
         self.box_size() < 1 << 32
@@ -118,19 +112,19 @@ impl WriteBox for DataBox {
     #[tactic(auto, unfolding(crate::specs::Data::bytes_data, mp4_frame::specs::Bytes::bytes_of_fields, mp4_frame::specs::Bytes::bytes_of_fields_onto))]
     fn put_box(&self, out: &mut [u8]) {
         let at = put_u32(out, 0, self.box_size() as u32);
-        let at = put_u32(out, at, 0x6461_7461);
+        let at = put_u32(out, at, codes::DATA);
         let at = put_u32(out, at, number_of(&self.data_type));
         let at = put_u32(out, at, 0);
         put_bytes(out, at, self.data_bytes.as_slice());
     }
 
-    ghost header = { header_data };
+    ghost header = { laws_data.header };
 
-    ghost normal_form = { λ v w. own_normal_form v refl w };
+    ghost normal_form = { laws_data.normal_form };
 }
 
 impl BoxLaws for DataBox {
-    ghost read_back = { read_back_data };
+    ghost read_back = { laws_data.read_back };
 
-    ghost sound = { sound_data };
+    ghost sound = { laws_data.sound };
 }

@@ -1,14 +1,12 @@
 //! The box of the data references.
 
-ghost use Rattle.std.specs.Prelude.{◌≡◌, ◌-◌, ◌^◌, [], IfOk, IfErr, min};
+ghost use Rattle.std.specs.Prelude.{◌≡◌, ◌-◌, ◌^◌, [], min};
 ghost use Rattle.mp4_frame.specs.declared.box_type.BoxType.TheVariants as names;
-ghost use Rattle.mp4_text.specs.Dinf.{reads_dinf, size_dinf, WritableDinf, bytes_dinf, normal_dinf};
-ghost use Rattle.mp4_text.specs.DinfLaws.{header_dinf, normal_form_dinf, read_back_dinf, sound_dinf};
+ghost use Rattle.mp4_text.specs.Dinf.{size_dinf, format_dinf};
+ghost use Rattle.mp4_text.specs.DinfLaws.{laws_dinf};
 
 use crate::dref::DrefBox;
-use mp4_frame::{
-    BoxLaws, BoxType, Error, Mp4Box, ReadBox, Result, WriteBox, last_child, put_child, put_u32,
-};
+use mp4_frame::{BoxLaws, BoxType, Error, Mp4Box, ReadBox, Result, WriteBox, last_child, put_child, put_u32, codes, TryClone};
 use std::alloc::Global;
 
 /// The box that holds the data references of a track (`dinf`, ISO/IEC 14496-12, 8.7.1). Boxes other than
@@ -40,14 +38,6 @@ impl DinfBox {
         DinfBox::new(DrefBox::default_in(alloc))
     }
 
-    /// An equal box, in memory of its own.
-    pub fn try_clone(&self) -> Result<DinfBox>
-        ensures clone { IfOk result (λ clone. clone ≡ self.now) }
-        ensures memory { IfErr result (λ e. e ≡ Error.OutOfMemory) }
-    {
-        Ok(DinfBox::new(self.dref.try_clone()?))
-    }
-
     /// As `box_type`.
     pub fn get_type(&self) -> BoxType
         ensures { result ≡ names.DinfBox }
@@ -63,10 +53,16 @@ impl DinfBox {
     }
 }
 
-impl Mp4Box for DinfBox {
-    ghost name = { λ _. names.DinfBox };
+impl TryClone for DinfBox {
+    fn try_clone(&self) -> Result<DinfBox> {
+        Ok(DinfBox::new(self.dref.try_clone()?))
+    }
+}
 
-    ghost size = { size_dinf };
+impl Mp4Box for DinfBox {
+    ghost name = { λ _. format_dinf.name };
+
+    ghost size = { format_dinf.size };
 
     fn box_type(&self) -> BoxType {
         BoxType::DinfBox
@@ -78,7 +74,7 @@ impl Mp4Box for DinfBox {
 }
 
 impl ReadBox for DinfBox {
-    ghost reads = { reads_dinf };
+    ghost reads = { format_dinf.reads };
 
     #[tactic(auto, unfolding(crate::specs::Dinf::reads_dinf))]
     fn read_content(alloc: Global, bytes: &[u8], start: u64, size: u64) -> Result<DinfBox> {
@@ -87,7 +83,7 @@ impl ReadBox for DinfBox {
             bytes,
             start,
             size,
-            0x6472_6566,
+            codes::DREF,
             8,
             size,
             "dinf box contains a box with a larger size than it",
@@ -100,11 +96,11 @@ impl ReadBox for DinfBox {
 }
 
 impl WriteBox for DinfBox {
-    ghost Writable = { WritableDinf };
+    ghost Writable = { format_dinf.Writable };
 
-    ghost bytes = { bytes_dinf };
+    ghost bytes = { format_dinf.bytes };
 
-    ghost normal = { normal_dinf };
+    ghost normal = { format_dinf.normal };
 
     fn is_writable(&self) -> bool {
         self.dref.is_writable() && self.box_size() < 1 << 32
@@ -113,17 +109,17 @@ impl WriteBox for DinfBox {
     #[tactic(auto, unfolding(crate::specs::Dinf::bytes_dinf, mp4_frame::specs::Bytes::bytes_of_fields, mp4_frame::specs::Bytes::bytes_of_fields_onto))]
     fn put_box(&self, out: &mut [u8]) {
         let at = put_u32(out, 0, self.box_size() as u32);
-        let at = put_u32(out, at, 0x6469_6e66);
+        let at = put_u32(out, at, codes::DINF);
         put_child(out, at, &self.dref);
     }
 
-    ghost header = { header_dinf };
+    ghost header = { laws_dinf.header };
 
-    ghost normal_form = { normal_form_dinf };
+    ghost normal_form = { laws_dinf.normal_form };
 }
 
 impl BoxLaws for DinfBox {
-    ghost read_back = { read_back_dinf };
+    ghost read_back = { laws_dinf.read_back };
 
-    ghost sound = { sound_dinf };
+    ghost sound = { laws_dinf.sound };
 }

@@ -1,15 +1,12 @@
 //! The data references.
 
-ghost use Rattle.std.specs.Prelude.{◌≡◌, ◌-◌, ◌^◌, [], IfOk, IfErr, min};
+ghost use Rattle.std.specs.Prelude.{◌≡◌, ◌-◌, ◌^◌, [], min};
 ghost use Rattle.mp4_frame.specs.declared.box_type.BoxType.TheVariants as names;
-ghost use Rattle.mp4_text.specs.Dref.{reads_dref, size_dref, WritableDref, bytes_dref, normal_dref};
-ghost use Rattle.mp4_text.specs.DrefLaws.{header_dref, normal_form_dref, read_back_dref, sound_dref};
+ghost use Rattle.mp4_text.specs.Dref.{size_dref, format_dref};
+ghost use Rattle.mp4_text.specs.DrefLaws.{laws_dref};
 
 use crate::url::UrlBox;
-use mp4_frame::{
-    BoxLaws, BoxType, Error, Mp4Box, ReadBox, Result, WriteBox, expect_bytes, last_child, put_full_box,
-    put_child, put_u32, u8_at, u24_at, u32_at,
-};
+use mp4_frame::{BoxLaws, BoxType, Error, Mp4Box, ReadBox, Result, WriteBox, expect_bytes, last_child, put_full_box, put_child, put_u32, u8_at, u24_at, u32_at, codes, TryClone};
 use std::alloc::Global;
 
 /// Where the media data of a track stands (`dref`, ISO/IEC 14496-12, 8.7.2). Entries other than `url ` are
@@ -36,22 +33,6 @@ impl DrefBox {
         }
     }
 
-    /// An equal box, in memory of its own.
-    pub fn try_clone(&self) -> Result<DrefBox>
-        ensures clone { IfOk result (λ clone. clone ≡ self.now) }
-        ensures memory { IfErr result (λ e. e ≡ Error.OutOfMemory) }
-    {
-        let url = match &self.url {
-            Some(url) => Some(url.try_clone()?),
-            None => None,
-        };
-        Ok(DrefBox {
-            version: self.version,
-            flags: self.flags,
-            url,
-        })
-    }
-
     /// As `box_type`.
     pub fn get_type(&self) -> BoxType
         ensures { result ≡ names.DrefBox }
@@ -67,10 +48,24 @@ impl DrefBox {
     }
 }
 
-impl Mp4Box for DrefBox {
-    ghost name = { λ _. names.DrefBox };
+impl TryClone for DrefBox {
+    fn try_clone(&self) -> Result<DrefBox> {
+        let url = match &self.url {
+            Some(url) => Some(url.try_clone()?),
+            None => None,
+        };
+        Ok(DrefBox {
+            version: self.version,
+            flags: self.flags,
+            url,
+        })
+    }
+}
 
-    ghost size = { size_dref };
+impl Mp4Box for DrefBox {
+    ghost name = { λ _. format_dref.name };
+
+    ghost size = { format_dref.size };
 
     fn box_type(&self) -> BoxType {
         BoxType::DrefBox
@@ -85,7 +80,7 @@ impl Mp4Box for DrefBox {
 }
 
 impl ReadBox for DrefBox {
-    ghost reads = { reads_dref };
+    ghost reads = { format_dref.reads };
 
     #[tactic(auto, unfolding(crate::specs::Dref::reads_dref))]
     fn read_content(alloc: Global, bytes: &[u8], start: u64, size: u64) -> Result<DrefBox> {
@@ -96,7 +91,7 @@ impl ReadBox for DrefBox {
             bytes,
             start,
             size,
-            0x7572_6c20,
+            codes::URL,
             16,
             count,
             "dinf box contains a box with a larger size than it",
@@ -110,11 +105,11 @@ impl ReadBox for DrefBox {
 }
 
 impl WriteBox for DrefBox {
-    ghost Writable = { WritableDref };
+    ghost Writable = { format_dref.Writable };
 
-    ghost bytes = { bytes_dref };
+    ghost bytes = { format_dref.bytes };
 
-    ghost normal = { normal_dref };
+    ghost normal = { format_dref.normal };
 
     fn is_writable(&self) -> bool {
         let _version = self.version;
@@ -129,7 +124,7 @@ impl WriteBox for DrefBox {
     #[tactic(auto, unfolding(crate::specs::Dref::bytes_dref, mp4_frame::specs::Bytes::bytes_of_fields, mp4_frame::specs::Bytes::bytes_of_fields_onto))]
     fn put_box(&self, out: &mut [u8]) {
         let size = self.box_size() as u32;
-        let at = put_full_box(out, size, 0x6472_6566, self.version, self.flags);
+        let at = put_full_box(out, size, codes::DREF, self.version, self.flags);
         match &self.url {
             Some(url) => {
                 let at = put_u32(out, at, 1);
@@ -141,13 +136,13 @@ impl WriteBox for DrefBox {
         }
     }
 
-    ghost header = { header_dref };
+    ghost header = { laws_dref.header };
 
-    ghost normal_form = { normal_form_dref };
+    ghost normal_form = { laws_dref.normal_form };
 }
 
 impl BoxLaws for DrefBox {
-    ghost read_back = { read_back_dref };
+    ghost read_back = { laws_dref.read_back };
 
-    ghost sound = { sound_dref };
+    ghost sound = { laws_dref.sound };
 }

@@ -1,17 +1,14 @@
 //! An event message.
 
-ghost use Rattle.std.specs.Prelude.{◌≡◌, ◌↔◌, ◌+◌, ◌-◌, ◌≤◌, ◌^◌, ◌++◌, ◌∷◌, [], None, IfOk, IfErr, IsTrue, length, min, take};
+ghost use Rattle.std.specs.Prelude.{◌≡◌, ◌↔◌, ◌+◌, ◌-◌, ◌≤◌, ◌^◌, ◌++◌, ◌∷◌, [], None, IsTrue, length, min, take};
 ghost use Rattle.mp4_frame.specs.Bytes.{bytes_of_fields};
 ghost use Rattle.mp4_frame.specs.Reading.{Answers};
 ghost use Rattle.mp4_frame.specs.declared.box_type.BoxType.TheVariants as names;
-ghost use Rattle.mp4_text.specs.Emsg.{message_from, reads_emsg_0, reads_emsg_1, reads_emsg, size_middle, size_emsg, texts_emsg, middle_emsg, WritableEmsg, bytes_emsg, normal_emsg};
-ghost use Rattle.mp4_text.specs.EmsgLaws.{header_emsg, normal_form_emsg, read_back_emsg, sound_emsg};
+ghost use Rattle.mp4_text.specs.Emsg.{message_from, reads_emsg_0, reads_emsg_1, size_middle, size_emsg, texts_emsg, middle_emsg, WritableEmsg, format_emsg};
+ghost use Rattle.mp4_text.specs.EmsgLaws.{laws_emsg};
 
 use crate::terminated::{is_terminable, put_terminated, two_texts_at};
-use mp4_frame::{
-    BoxLaws, BoxType, Entries, Error, Mp4Box, ReadBox, Result, Text, WriteBox, bytes_from, expect_bytes,
-    piece_at, put_bytes, put_full_box, put_u32, put_u64, check, u8_at, u24_at, u32_at, u64_at,
-};
+use mp4_frame::{BoxLaws, BoxType, Entries, Error, Mp4Box, ReadBox, Result, Text, WriteBox, bytes_from, expect_bytes, piece_at, put_bytes, put_full_box, put_u32, put_u64, check, u8_at, u24_at, u32_at, u64_at, codes, TryClone};
 use std::alloc::Global;
 
 /// An event message (`emsg`, ISO/IEC 23009-1, 5.10.3.3).
@@ -58,12 +55,10 @@ impl EmsgBox {
             message_data: Entries::new(alloc),
         }
     }
+}
 
-    /// An equal box, in memory of its own.
-    pub fn try_clone(&self) -> Result<EmsgBox>
-        ensures clone { IfOk result (λ clone. clone ≡ self.now) }
-        ensures memory { IfErr result (λ e. e ≡ Error.OutOfMemory) }
-    {
+impl TryClone for EmsgBox {
+    fn try_clone(&self) -> Result<EmsgBox> {
         Ok(EmsgBox {
             version: self.version,
             flags: self.flags,
@@ -80,9 +75,9 @@ impl EmsgBox {
 }
 
 impl Mp4Box for EmsgBox {
-    ghost name = { λ _. names.EmsgBox };
+    ghost name = { λ _. format_emsg.name };
 
-    ghost size = { size_emsg };
+    ghost size = { format_emsg.size };
 
     fn box_type(&self) -> BoxType {
         BoxType::EmsgBox
@@ -158,7 +153,7 @@ fn read_version_1(alloc: Global, bytes: &[u8], size: u64) -> Result<EmsgBox>
 }
 
 impl ReadBox for EmsgBox {
-    ghost reads = { reads_emsg };
+    ghost reads = { format_emsg.reads };
 
     #[tactic(auto, unfolding(crate::specs::Emsg::reads_emsg))]
     fn read_content(alloc: Global, bytes: &[u8], _start: u64, size: u64) -> Result<EmsgBox> {
@@ -284,11 +279,11 @@ impl EmsgBox {
 }
 
 impl WriteBox for EmsgBox {
-    ghost Writable = { WritableEmsg };
+    ghost Writable = { format_emsg.Writable };
 
-    ghost bytes = { bytes_emsg };
+    ghost bytes = { format_emsg.bytes };
 
-    ghost normal = { normal_emsg };
+    ghost normal = { format_emsg.normal };
 
     fn is_writable(&self) -> bool {
         fits(
@@ -309,18 +304,18 @@ impl WriteBox for EmsgBox {
     #[tactic(auto, unfolding(crate::specs::Emsg::bytes_emsg, mp4_frame::specs::Bytes::bytes_of_fields, mp4_frame::specs::Bytes::bytes_of_fields_onto))]
     fn put_box(&self, out: &mut [u8]) {
         let size = self.box_size() as u32;
-        let at = put_full_box(out, size, 0x656d_7367, self.version, self.flags);
+        let at = put_full_box(out, size, codes::EMSG, self.version, self.flags);
         let at = self.put_middle(out, at);
         put_bytes(out, at, self.message_data.as_slice());
     }
 
-    ghost header = { header_emsg };
+    ghost header = { laws_emsg.header };
 
-    ghost normal_form = { normal_form_emsg };
+    ghost normal_form = { laws_emsg.normal_form };
 }
 
 impl BoxLaws for EmsgBox {
-    ghost read_back = { read_back_emsg };
+    ghost read_back = { laws_emsg.read_back };
 
-    ghost sound = { sound_emsg };
+    ghost sound = { laws_emsg.sound };
 }

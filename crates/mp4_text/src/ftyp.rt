@@ -1,15 +1,11 @@
 //! The file type box.
 
-ghost use Rattle.std.specs.Prelude.{◌≡◌, ◌-◌, ◌^◌, ◌↔◌, ◌+◌, ◌*◌, [], IfOk, IfErr, IsTrue, map, min, length, replicate, refl};
+ghost use Rattle.std.specs.Prelude.{◌≡◌, ◌-◌, ◌^◌, ◌↔◌, ◌+◌, ◌*◌, [], IfOk, IfErr, IsTrue, map, min, length, replicate};
 ghost use Rattle.mp4_frame.specs.declared.box_type.BoxType.TheVariants as names;
-ghost use Rattle.mp4_frame.proofs.Framing.{own_normal_form};
-ghost use Rattle.mp4_text.specs.Ftyp.{brand_of, reads_ftyp, size_ftyp, WritableFtyp, bytes_ftyp, normal_ftyp};
-ghost use Rattle.mp4_text.specs.FtypLaws.{header_ftyp, read_back_ftyp, sound_ftyp};
+ghost use Rattle.mp4_text.specs.Ftyp.{brand_of, size_ftyp, WritableFtyp, format_ftyp};
+ghost use Rattle.mp4_text.specs.FtypLaws.{laws_ftyp};
 
-use mp4_frame::{
-    BoxLaws, BoxType, ByteCursor, Entries, Error, FourCC, Mp4Box, ReadBox, Result, WriteBox,
-    all_fit, expect_bytes, is_four_cc, put_entries, put_u32, check, u32_at,
-};
+use mp4_frame::{BoxLaws, BoxType, ByteCursor, Entries, Error, FourCC, Mp4Box, ReadBox, Result, WriteBox, all_fit, expect_bytes, is_four_cc, put_entries, put_u32, check, u32_at, codes, TryClone};
 use std::alloc::Global;
 
 /// Which specifications a file follows (`ftyp`, ISO/IEC 14496-12, 4.3).
@@ -35,18 +31,6 @@ impl FtypBox {
         }
     }
 
-    /// An equal box, in memory of its own.
-    pub fn try_clone(&self) -> Result<FtypBox>
-        ensures clone { IfOk result (λ clone. clone ≡ self.now) }
-        ensures memory { IfErr result (λ e. e ≡ Error.OutOfMemory) }
-    {
-        Ok(FtypBox {
-            major_brand: self.major_brand,
-            minor_version: self.minor_version,
-            compatible_brands: self.compatible_brands.try_clone()?,
-        })
-    }
-
     /// As `box_type`.
     pub fn get_type(&self) -> BoxType
         ensures { result ≡ names.FtypBox }
@@ -62,10 +46,20 @@ impl FtypBox {
     }
 }
 
-impl Mp4Box for FtypBox {
-    ghost name = { λ _. names.FtypBox };
+impl TryClone for FtypBox {
+    fn try_clone(&self) -> Result<FtypBox> {
+        Ok(FtypBox {
+            major_brand: self.major_brand,
+            minor_version: self.minor_version,
+            compatible_brands: self.compatible_brands.try_clone()?,
+        })
+    }
+}
 
-    ghost size = { size_ftyp };
+impl Mp4Box for FtypBox {
+    ghost name = { λ _. format_ftyp.name };
+
+    ghost size = { format_ftyp.size };
 
     fn box_type(&self) -> BoxType {
         BoxType::FtypBox
@@ -94,7 +88,7 @@ fn brands_of(alloc: Global, rows: &[[u8; 4]]) -> Result<Vec<FourCC>>
 }
 
 impl ReadBox for FtypBox {
-    ghost reads = { reads_ftyp };
+    ghost reads = { format_ftyp.reads };
 
     #[tactic(auto, unfolding(crate::specs::Ftyp::reads_ftyp))]
     fn read_content(alloc: Global, bytes: &[u8], _start: u64, size: u64) -> Result<FtypBox> {
@@ -123,11 +117,11 @@ fn fits(major_brand: FourCC, minor_version: u32, size: u64, brands: &[FourCC]) -
 }
 
 impl WriteBox for FtypBox {
-    ghost Writable = { WritableFtyp };
+    ghost Writable = { format_ftyp.Writable };
 
-    ghost bytes = { bytes_ftyp };
+    ghost bytes = { format_ftyp.bytes };
 
-    ghost normal = { normal_ftyp };
+    ghost normal = { format_ftyp.normal };
 
     fn is_writable(&self) -> bool {
         fits(
@@ -141,19 +135,19 @@ impl WriteBox for FtypBox {
     #[tactic(auto, unfolding(crate::specs::Ftyp::bytes_ftyp, mp4_frame::specs::Bytes::bytes_of_fields, mp4_frame::specs::Bytes::bytes_of_fields_onto))]
     fn put_box(&self, out: &mut [u8]) {
         let at = put_u32(out, 0, self.box_size() as u32);
-        let at = put_u32(out, at, 0x6674_7970);
+        let at = put_u32(out, at, codes::FTYP);
         let at = put_u32(out, at, u32::from(self.major_brand));
         let at = put_u32(out, at, self.minor_version);
         put_entries(out, at, self.compatible_brands.as_slice());
     }
 
-    ghost header = { header_ftyp };
+    ghost header = { laws_ftyp.header };
 
-    ghost normal_form = { λ v w. own_normal_form v refl w };
+    ghost normal_form = { laws_ftyp.normal_form };
 }
 
 impl BoxLaws for FtypBox {
-    ghost read_back = { read_back_ftyp };
+    ghost read_back = { laws_ftyp.read_back };
 
-    ghost sound = { sound_ftyp };
+    ghost sound = { laws_ftyp.sound };
 }

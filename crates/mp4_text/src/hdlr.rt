@@ -1,16 +1,12 @@
 //! The handler of a track or of metadata.
 
-ghost use Rattle.std.specs.Prelude.{◌≡◌, ◌↔◌, ◌+◌, ◌-◌, ◌^◌, [], IfOk, IfErr, IsTrue, length, min, replicate, refl};
+ghost use Rattle.std.specs.Prelude.{◌≡◌, ◌↔◌, ◌+◌, ◌-◌, ◌^◌, [], IsTrue, length, min, replicate};
 ghost use Rattle.mp4_frame.specs.declared.box_type.BoxType.TheVariants as names;
-ghost use Rattle.mp4_frame.proofs.Framing.{own_normal_form};
-ghost use Rattle.mp4_text.specs.Hdlr.{reads_hdlr, size_hdlr, WritableHdlr, bytes_hdlr, normal_hdlr};
-ghost use Rattle.mp4_text.specs.HdlrLaws.{header_hdlr, read_back_hdlr, sound_hdlr};
+ghost use Rattle.mp4_text.specs.Hdlr.{size_hdlr, WritableHdlr, format_hdlr};
+ghost use Rattle.mp4_text.specs.HdlrLaws.{laws_hdlr};
 
 use crate::terminated::put_terminated;
-use mp4_frame::{
-    BoxLaws, BoxType, Error, FourCC, Mp4Box, ReadBox, Result, Text, WriteBox, expect_bytes, is_four_cc,
-    piece_at, put_full_box, put_u32, put_zeros, check, u8_at, u24_at, u32_at,
-};
+use mp4_frame::{BoxLaws, BoxType, Error, FourCC, Mp4Box, ReadBox, Result, Text, WriteBox, expect_bytes, is_four_cc, piece_at, put_full_box, put_u32, put_zeros, check, u8_at, u24_at, u32_at, codes, TryClone};
 use std::alloc::Global;
 
 /// What a track or metadata is for (`hdlr`, ISO/IEC 14496-12, 8.4.3).
@@ -39,19 +35,6 @@ impl HdlrBox {
         }
     }
 
-    /// An equal box, in memory of its own.
-    pub fn try_clone(&self) -> Result<HdlrBox>
-        ensures clone { IfOk result (λ clone. clone ≡ self.now) }
-        ensures memory { IfErr result (λ e. e ≡ Error.OutOfMemory) }
-    {
-        Ok(HdlrBox {
-            version: self.version,
-            flags: self.flags,
-            handler_type: self.handler_type,
-            name: self.name.try_clone()?,
-        })
-    }
-
     /// As `box_type`.
     pub fn get_type(&self) -> BoxType
         ensures { result ≡ names.HdlrBox }
@@ -67,10 +50,21 @@ impl HdlrBox {
     }
 }
 
-impl Mp4Box for HdlrBox {
-    ghost name = { λ _. names.HdlrBox };
+impl TryClone for HdlrBox {
+    fn try_clone(&self) -> Result<HdlrBox> {
+        Ok(HdlrBox {
+            version: self.version,
+            flags: self.flags,
+            handler_type: self.handler_type,
+            name: self.name.try_clone()?,
+        })
+    }
+}
 
-    ghost size = { size_hdlr };
+impl Mp4Box for HdlrBox {
+    ghost name = { λ _. format_hdlr.name };
+
+    ghost size = { format_hdlr.size };
 
     fn box_type(&self) -> BoxType {
         BoxType::HdlrBox
@@ -82,7 +76,7 @@ impl Mp4Box for HdlrBox {
 }
 
 impl ReadBox for HdlrBox {
-    ghost reads = { reads_hdlr };
+    ghost reads = { format_hdlr.reads };
 
     #[tactic(auto, unfolding(crate::specs::Hdlr::reads_hdlr))]
     fn read_content(alloc: Global, bytes: &[u8], _start: u64, size: u64) -> Result<HdlrBox> {
@@ -108,11 +102,11 @@ fn fits(version: u8, flags: u32, handler_type: FourCC, size: u64, name: &Text) -
 }
 
 impl WriteBox for HdlrBox {
-    ghost Writable = { WritableHdlr };
+    ghost Writable = { format_hdlr.Writable };
 
-    ghost bytes = { bytes_hdlr };
+    ghost bytes = { format_hdlr.bytes };
 
-    ghost normal = { normal_hdlr };
+    ghost normal = { format_hdlr.normal };
 
     fn is_writable(&self) -> bool {
         fits(
@@ -127,20 +121,20 @@ impl WriteBox for HdlrBox {
     #[tactic(auto, unfolding(crate::specs::Hdlr::bytes_hdlr, mp4_frame::specs::Bytes::bytes_of_fields, mp4_frame::specs::Bytes::bytes_of_fields_onto))]
     fn put_box(&self, out: &mut [u8]) {
         let size = self.box_size() as u32;
-        let at = put_full_box(out, size, 0x6864_6c72, self.version, self.flags);
+        let at = put_full_box(out, size, codes::HDLR, self.version, self.flags);
         let at = put_u32(out, at, 0);
         let at = put_u32(out, at, u32::from(self.handler_type));
         let at = put_zeros(out, at, 12);
         put_terminated(out, at, self.name.as_bytes());
     }
 
-    ghost header = { header_hdlr };
+    ghost header = { laws_hdlr.header };
 
-    ghost normal_form = { λ v w. own_normal_form v refl w };
+    ghost normal_form = { laws_hdlr.normal_form };
 }
 
 impl BoxLaws for HdlrBox {
-    ghost read_back = { read_back_hdlr };
+    ghost read_back = { laws_hdlr.read_back };
 
-    ghost sound = { sound_hdlr };
+    ghost sound = { laws_hdlr.sound };
 }

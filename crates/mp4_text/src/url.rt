@@ -1,16 +1,12 @@
 //! The data entry that is a URL.
 
-ghost use Rattle.std.specs.Prelude.{◌≡◌, ◌≤◌, ◌+◌, ◌-◌, ◌^◌, ◌++◌, [], IfOk, IfErr, min, length, take, refl};
+ghost use Rattle.std.specs.Prelude.{◌≡◌, ◌≤◌, ◌+◌, ◌-◌, ◌^◌, ◌++◌, [], min, length, take};
 ghost use Rattle.mp4_frame.specs.declared.box_type.BoxType.TheVariants as names;
-ghost use Rattle.mp4_frame.proofs.Framing.{own_normal_form};
-ghost use Rattle.mp4_text.specs.Url.{reads_url, size_url, WritableUrl, bytes_location, bytes_url, normal_url};
-ghost use Rattle.mp4_text.specs.UrlLaws.{header_url, read_back_url, sound_url};
+ghost use Rattle.mp4_text.specs.Url.{size_url, bytes_location, format_url};
+ghost use Rattle.mp4_text.specs.UrlLaws.{laws_url};
 
 use crate::terminated::put_terminated;
-use mp4_frame::{
-    BoxLaws, BoxType, Error, Mp4Box, ReadBox, Result, Text, WriteBox, expect_bytes, piece_at,
-    put_full_box, u8_at, u24_at,
-};
+use mp4_frame::{BoxLaws, BoxType, Error, Mp4Box, ReadBox, Result, Text, WriteBox, expect_bytes, piece_at, put_full_box, u8_at, u24_at, codes, TryClone};
 use std::alloc::Global;
 
 /// Where media data stands, by a URL (`url `, ISO/IEC 14496-12, 8.7.2).
@@ -36,18 +32,6 @@ impl UrlBox {
         }
     }
 
-    /// An equal box, in memory of its own.
-    pub fn try_clone(&self) -> Result<UrlBox>
-        ensures clone { IfOk result (λ clone. clone ≡ self.now) }
-        ensures memory { IfErr result (λ e. e ≡ Error.OutOfMemory) }
-    {
-        Ok(UrlBox {
-            version: self.version,
-            flags: self.flags,
-            location: self.location.try_clone()?,
-        })
-    }
-
     /// As `box_type`.
     pub fn get_type(&self) -> BoxType
         ensures { result ≡ names.UrlBox }
@@ -63,10 +47,20 @@ impl UrlBox {
     }
 }
 
-impl Mp4Box for UrlBox {
-    ghost name = { λ _. names.UrlBox };
+impl TryClone for UrlBox {
+    fn try_clone(&self) -> Result<UrlBox> {
+        Ok(UrlBox {
+            version: self.version,
+            flags: self.flags,
+            location: self.location.try_clone()?,
+        })
+    }
+}
 
-    ghost size = { size_url };
+impl Mp4Box for UrlBox {
+    ghost name = { λ _. format_url.name };
+
+    ghost size = { format_url.size };
 
     fn box_type(&self) -> BoxType {
         BoxType::UrlBox
@@ -81,7 +75,7 @@ impl Mp4Box for UrlBox {
 }
 
 impl ReadBox for UrlBox {
-    ghost reads = { reads_url };
+    ghost reads = { format_url.reads };
 
     #[tactic(auto, unfolding(crate::specs::Url::reads_url))]
     fn read_content(alloc: Global, bytes: &[u8], _start: u64, size: u64) -> Result<UrlBox> {
@@ -117,11 +111,11 @@ fn put_location(out: &mut [u8], at: usize, location: &[u8]) -> usize
 }
 
 impl WriteBox for UrlBox {
-    ghost Writable = { WritableUrl };
+    ghost Writable = { format_url.Writable };
 
-    ghost bytes = { bytes_url };
+    ghost bytes = { format_url.bytes };
 
-    ghost normal = { normal_url };
+    ghost normal = { format_url.normal };
 
     fn is_writable(&self) -> bool {
         let _version = self.version;
@@ -131,17 +125,17 @@ impl WriteBox for UrlBox {
     #[tactic(auto, unfolding(crate::specs::Url::bytes_url, mp4_frame::specs::Bytes::bytes_of_fields, mp4_frame::specs::Bytes::bytes_of_fields_onto))]
     fn put_box(&self, out: &mut [u8]) {
         let size = self.box_size() as u32;
-        let at = put_full_box(out, size, 0x7572_6c20, self.version, self.flags);
+        let at = put_full_box(out, size, codes::URL, self.version, self.flags);
         put_location(out, at, self.location.as_bytes());
     }
 
-    ghost header = { header_url };
+    ghost header = { laws_url.header };
 
-    ghost normal_form = { λ v w. own_normal_form v refl w };
+    ghost normal_form = { laws_url.normal_form };
 }
 
 impl BoxLaws for UrlBox {
-    ghost read_back = { read_back_url };
+    ghost read_back = { laws_url.read_back };
 
-    ghost sound = { sound_url };
+    ghost sound = { laws_url.sound };
 }
