@@ -5,7 +5,7 @@ use Rattle.std.proofs.lemmas.Bool.{leb-true, le-leb, lt-leb, and_parts, and_righ
 use Rattle.std.proofs.lemmas.List.Sums.{sum_by-cons}
 use Rattle.mp4_tables.specs.declared.stsc_entry.StscEntry.{StscEntry}
 use Rattle.mp4_tables.proofs.Runs.{front_of, where_some, run}
-use Rattle.mp4_tables.specs.Chunks.{samples_in, begins, sample_at, in_order, chunks_fit, with_sample, numbered}
+use Rattle.mp4_tables.specs.Chunks.{samples_in, begins, sample_at, in_order, chunks_fit, with_sample, number_samples}
 
 -- a sum over neighbouring chunks, in two parts, the second of them all alike
 sum_further : (g : ℕ → ℕ) (m a k n b : ℕ) → a + k ≡ b → ((c : ℕ) → b ≤ c → c < b + n → g c ≡ m) → sum_by g (range_with_len a (k + n)) ≡ sum_by g (range_with_len a k) + n * m
@@ -86,7 +86,7 @@ run_go L pre e (f ∷ es) s is low order at =
     rw (both.0, step) (step_case f (sample_at L f.first_chunk) (λ t. run t f.first_chunk f.samples_per_chunk es) (ltb (sample_at L f.first_chunk) (2 ^ 32)) (list_all (fits_of L) es) (map (number_of L) es) rest)
 
 -- numbering one after the other gives the sums over the chunks, or stops exactly where they do not fit
-pub run_is : (es : List StscEntry) → run 1 (begins es) 0 es ≡ cond (chunks_fit es) (Some (numbered es)) None
+pub run_is : (es : List StscEntry) → run 1 (begins es) 0 es ≡ cond (chunks_fit es) (Some (number_samples es)) None
 unfolding run
 run_is [] = refl
 run_is (e ∷ es) =
@@ -101,7 +101,7 @@ run_is (e ∷ es) =
       | inr bad ↦
           let left : run 1 e.first_chunk 0 (e ∷ es) ≡ None = stops_back 1 e.first_chunk 0 (e ∷ es) (and_right _ _ bad) in
           let right : chunks_fit (e ∷ es) ≡ false = rw (low, bad) refl in
-          left ∙ ap (λ (b : Bool). cond b (Some (numbered (e ∷ es))) None) (sym right)
+          left ∙ ap (λ (b : Bool). cond b (Some (number_samples (e ∷ es))) None) (sym right)
     ]
 
 all_case : (b : Bool) (o : Option (List StscEntry)) (xs ys : List StscEntry) → o ≡ cond b (Some xs) None → o ≡ Some ys → (b ≡ true) × (ys ≡ xs)
@@ -112,15 +112,15 @@ not_case : (b : Bool) (o : Option (List StscEntry)) (xs : List StscEntry) → o 
 not_case true o xs h is = absurd cc
 not_case false o xs h is = refl
 
-pub fit_all : (es ys : List StscEntry) → run 1 (begins es) 0 es ≡ Some ys → (chunks_fit es ≡ true) × (ys ≡ numbered es)
-fit_all es ys h = all_case (chunks_fit es) (run 1 (begins es) 0 es) (numbered es) ys (run_is es) h
+pub fit_all : (es ys : List StscEntry) → run 1 (begins es) 0 es ≡ Some ys → (chunks_fit es ≡ true) × (ys ≡ number_samples es)
+fit_all es ys h = all_case (chunks_fit es) (run 1 (begins es) 0 es) (number_samples es) ys (run_is es) h
 
 pub fit_not : (es : List StscEntry) → run 1 (begins es) 0 es ≡ None → chunks_fit es ≡ false
-fit_not es h = not_case (chunks_fit es) (run 1 (begins es) 0 es) (numbered es) (run_is es) h
+fit_not es h = not_case (chunks_fit es) (run 1 (begins es) 0 es) (number_samples es) (run_is es) h
 
 some_case : (b : Bool) (xs : List StscEntry) → is_some (cond b (Some xs) None) ≡ b
 some_case true xs = refl
 some_case false xs = refl
 
 pub run_fits : (es : List StscEntry) → is_some (run 1 (begins es) 0 es) ≡ chunks_fit es
-run_fits es = ap (λ (o : Option (List StscEntry)). is_some o) (run_is es) ∙ some_case (chunks_fit es) (numbered es)
+run_fits es = ap (λ (o : Option (List StscEntry)). is_some o) (run_is es) ∙ some_case (chunks_fit es) (number_samples es)

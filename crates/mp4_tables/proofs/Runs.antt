@@ -12,12 +12,12 @@ abbrev pub where_some : Option ℕ → (ℕ → Option (List StscEntry)) → Opt
 where_some None f = None
 where_some (Some s) f = f s
 
--- the entries numbered one after the other, where all numbers fit
+-- the entries number_samples one after the other, where all numbers fit
 unfoldable pub run : ℕ → ℕ → ℕ → List StscEntry → Option (List StscEntry)
 run sample chunk samples [] = Some []
 run sample chunk samples (e ∷ es) = where_some (next_sample sample chunk samples e.first_chunk) (λ s. front_of (with_sample e s) (run s e.first_chunk e.samples_per_chunk es))
 
--- what was numbered before, and the rest
+-- what was number_samples before, and the rest
 abbrev pub with_front : List StscEntry → Option (List StscEntry) → Option (List StscEntry)
 with_front front None = None
 with_front front (Some rest) = Some (front ++ rest)

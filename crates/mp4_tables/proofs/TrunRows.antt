@@ -5,7 +5,7 @@ use Rattle.std.specs.List.{flat_map, range_with_len}
 use Rattle.std.proofs.lemmas.Bool.{le-leb}
 use Rattle.std.proofs.lemmas.Option.{slice_get-get_or}
 use Rattle.std.proofs.lemmas.List.{append-nil, append_assoc, map-append, take_all}
-use Rattle.mp4_frame.specs.Bytes.{number, column}
+use Rattle.mp4_frame.specs.Bytes.{number, be_bytes}
 use Rattle.mp4_frame.specs.Reading.{memory, done, ◌>>=◌}
 use Rattle.mp4_frame.specs.Tables.{rows, rows_at}
 use Rattle.mp4_tables.specs.Flagged.{is_set, width_if, optional}
@@ -35,7 +35,7 @@ nothing [] h = refl
 nothing (x ∷ xs) h = absurd (omega arith)
 
 -- a number of a list that is there, and one of none
-pub number_put : (xs : List ℕ) (i d : ℕ) → i < length xs → optional 4 (slice_get xs i) ≡ column 4 (get_or xs i d)
+pub number_put : (xs : List ℕ) (i d : ℕ) → i < length xs → optional 4 (slice_get xs i) ≡ be_bytes 4 (get_or xs i d)
 unfolding optional
 number_put xs i d lt = rw (slice_get-get_or xs i d lt) refl
 
@@ -60,11 +60,11 @@ no_rows v w none =
     nothing (rows_trun v v.sample_count) (length_rows v w v.sample_count le ∙ zero_bytes)
 
 -- what is put of rows of no bytes
-pub nothing_put : (v : TrunBox) → ListedTrun v → (place : List ℕ) (at : ℕ) → row_length v.flags ≡ 0 → at + row_length v.flags * v.sample_count ≡ length place → place ≡ take at place ++ rows_trun v v.sample_count
-nothing_put v w place at none room =
+pub nothing_put : (v : TrunBox) → ListedTrun v → (out : List ℕ) (at : ℕ) → row_length v.flags ≡ 0 → at + row_length v.flags * v.sample_count ≡ length out → out ≡ take at out ++ rows_trun v v.sample_count
+nothing_put v w out at none room =
     let zero_bytes : row_length v.flags * v.sample_count ≡ 0 = ap (λ (k : ℕ). k * v.sample_count) none ∙ omega arith in
-    let whole : take at place ≡ place = take_all at place (omega (arith, room, zero_bytes)) in
-    rw (no_rows v w none, whole) (sym (append-nil place))
+    let whole : take at out ≡ out = take_all at out (omega (arith, room, zero_bytes)) in
+    rw (no_rows v w none, whole) (sym (append-nil out))
 
 pub one_more : (k i : ℕ) → k * (i + 1) ≡ k * i + k
 one_more k i = omega arith

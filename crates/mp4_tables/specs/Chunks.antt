@@ -28,8 +28,8 @@ chunks_fit es = in_order 0 es && list_all (λ e. nat_lt (sample_at es e.first_ch
 abbrev pub with_sample : StscEntry → ℕ → StscEntry
 with_sample e s = record e { first_sample = s }
 
-abbrev pub numbered : List StscEntry → List StscEntry
-numbered es = map (λ e. with_sample e (sample_at es e.first_chunk)) es
+abbrev pub number_samples : List StscEntry → List StscEntry
+number_samples es = map (λ e. with_sample e (sample_at es e.first_chunk)) es
 
 -- the first sample of a run that begins at chunk `first`, from the one of the run before, where it fits
 abbrev pub next_sample : ℕ → ℕ → ℕ → ℕ → Option ℕ

@@ -16,7 +16,6 @@ pub mod FlaggedLaws
 pub mod Rows
 pub mod Tfhd
 pub mod TfhdLaws
-pub mod NumberLaws
 pub mod RowsLaws
 pub mod Stsz
 pub mod StszLaws

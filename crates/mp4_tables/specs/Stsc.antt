@@ -3,7 +3,7 @@
 use Rattle.std.specs.Prelude.{ℕ, List, IsTrue, map}
 use Rattle.mp4_frame.specs.Reading.{Reading, ◌>>=◌, memory, check, done}
 use Rattle.mp4_frame.specs.Tables.{counted_rows, size_table, WritableTable, bytes_table}
-use Rattle.mp4_tables.specs.Chunks.{chunks_fit, numbered}
+use Rattle.mp4_tables.specs.Chunks.{chunks_fit, number_samples}
 use Rattle.mp4_tables.specs.StscEntry.{entry_stsc, row_stsc, FitsStscEntry}
 use Rattle.mp4_frame.specs.Format.{Format}
 use Rattle.mp4_frame.specs.declared.box_type.BoxType.TheVariants as names
@@ -15,7 +15,7 @@ reads_stsc bytes start size = do
   t ← counted_rows bytes size 12
   _ ← memory
   _ ← check (chunks_fit (map entry_stsc t.rows))
-  done (record { version = t.version; flags = t.flags; entries = numbered (map entry_stsc t.rows) })
+  done (record { version = t.version; flags = t.flags; entries = number_samples (map entry_stsc t.rows) })
 
 abbrev pub size_stsc : StscBox → ℕ
 size_stsc v = size_table 12 v.entries
@@ -30,7 +30,7 @@ bytes_stsc v = bytes_table row_stsc 12 codes.STSC v.version v.flags v.entries
 
 -- the computed first samples
 abbrev pub normal_stsc : StscBox → StscBox
-normal_stsc v = record v { entries = numbered v.entries }
+normal_stsc v = record v { entries = number_samples v.entries }
 
 abbrev pub format_stsc : Format StscBox
 format_stsc = record { name = names.StscBox; reads = reads_stsc; size = size_stsc; Writable = WritableStsc; bytes = bytes_stsc; normal = normal_stsc }

@@ -10,7 +10,7 @@ use Rattle.mp4_frame.proofs.Framing.{own_normal_form, header_in_front, fits_read
 use Rattle.mp4_frame.proofs.Fields.{found, length-fields, numbers-fields, expect_bytes-fields}
 use Rattle.mp4_frame.proofs.Checks.{expect_bytes_ok, is_value}
 use Rattle.mp4_frame.proofs.Tables.{length_flat, map_back, map_all, length_map, value_first}
-use Rattle.mp4_tables.specs.NumberLaws.{number_long, number_back, number_fits}
+use Rattle.mp4_frame.proofs.TableLaws.{number_entry}
 use Rattle.mp4_tables.specs.Rows.{rows_within}
 use Rattle.mp4_tables.specs.RowsLaws.{rows_within_back, rows_within_read}
 use Rattle.mp4_tables.specs.Stsz.{reads_sizes, sizes_if_listed, value_stsz, reads_stsz, size_stsz, fields_stsz, WritableStsz, bytes_stsz, format_stsz}
@@ -21,8 +21,8 @@ sizes_back : (p y : List ℕ) (sizes : List ℕ) (size : ℕ) → length p ≡ 2
 unfolding reads_sizes
 sizes_back p y sizes size at is each =
     let by = recursion_from_All (λ s. s < 2 ^ 32) sizes each in
-    let rows = rows_within_back (λ s. be_bytes 4 s) 4 (λ s. s < 2 ^ 32) number_long p sizes y 20 size by at is in
-    let es : map (λ entry. number entry 0 4) (map (λ s. be_bytes 4 s) sizes) ≡ sizes = map_back (λ s. be_bytes 4 s) (λ entry. number entry 0 4) (λ s. s < 2 ^ 32) number_back sizes by in
+    let rows = rows_within_back (λ s. be_bytes 4 s) 4 (λ s. s < 2 ^ 32) (number_entry 4).long p sizes y 20 size by at is in
+    let es : map (λ entry. number entry 0 4) (map (λ s. be_bytes 4 s) sizes) ≡ sizes = map_back (λ s. be_bytes 4 s) (λ entry. number entry 0 4) (λ s. s < 2 ^ 32) (number_entry 4).back sizes by in
     rw (rows, es) refl
 
 no_sizes : (sizes : List ℕ) → length sizes ≡ 0 → [] ≡ sizes
@@ -48,7 +48,7 @@ sizes_read bytes size sample_size count sizes are h = by (eqb sample_size 0) h
         let p = value_first (rows_within bytes size 20 4 count) (λ rows. memory >>= λ _. done (map (λ entry. number entry 0 4) rows)) sizes e in
         let r = rows_within_read bytes size 20 4 count p.0 (lit< tt) are p.1 in
         let is : map (λ entry. number entry 0 4) p.0 ≡ sizes = is_value _ sizes p.2 in
-        rw (← is) (map_all 4 (λ entry. number entry 0 4) (λ s. s < 2 ^ 32) number_fits p.0 r.0, length_map (λ entry. number entry 0 4) p.0 ∙ r.1)
+        rw (← is) (map_all 4 (λ entry. number entry 0 4) (λ s. s < 2 ^ 32) (number_entry 4).fits p.0 r.0, length_map (λ entry. number entry 0 4) p.0 ∙ r.1)
     by false e = let is : [] ≡ sizes = is_value [] sizes e in rw (← is) (tt, refl)
 
 pub laws_stsz : IsBox format_stsz
@@ -56,7 +56,7 @@ unfolding bytes_stsz reads_stsz
 laws_stsz = record {
   header = λ v w.
       let sizes = flat_map (λ size. be_bytes 4 size) v.sample_sizes in
-      let long = length_flat (λ size. be_bytes 4 size) 4 (λ size. size < 2 ^ 32) number_long v.sample_sizes (recursion_from_All _ v.sample_sizes w.each) in
+      let long = length_flat (λ size. be_bytes 4 size) 4 (λ size. size < 2 ^ 32) (number_entry 4).long v.sample_sizes (recursion_from_All _ v.sample_sizes w.each) in
       header_in_front _ sizes w.fit (omega (arith, long));
   normal_form = λ v w. own_normal_form v refl w;
   read_back = λ v w rest start top.

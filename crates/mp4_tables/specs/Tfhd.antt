@@ -1,10 +1,13 @@
 -- tfhd, the track fragment header box (ISO/IEC 14496-12, 8.8.7): version 1 byte, flags 3, track_id 4 at 12. From 16
--- on, one behind the other, each where its flag is set: base_data_offset 8 (0x01), sample_description_index 4
+-- on, one after the other, each where its flag is set: base_data_offset 8 (0x01), sample_description_index 4
 -- (0x02), default_sample_duration 4 (0x08), default_sample_size 4 (0x10), default_sample_flags 4 (0x20).
 use Rattle.std.specs.Prelude.{ℕ, ◌+◌, ◌-◌, List, [], ◌∷◌, ◌++◌}
-use Rattle.mp4_frame.specs.Bytes.{number, joined, Fit, full_box}
-use Rattle.mp4_frame.specs.Reading.{Reading, ◌>>=◌, fields, done}
-use Rattle.mp4_tables.specs.Flagged.{is_set, width_if, number_if, optional, Stands}
+use Rattle.mp4_frame.specs.Bytes.{number, bytes_of_fields, FieldsFit, full_box}
+use Rattle.mp4_frame.specs.Reading.{Reading, ◌>>=◌, expect_bytes, done}
+use Rattle.mp4_tables.specs.Flagged.{is_set, width_if, number_if, optional, IsPresent}
+use Rattle.mp4_frame.specs.Format.{Format}
+use Rattle.mp4_frame.specs.declared.box_type.BoxType.TheVariants as names
+use Rattle.mp4_frame.specs.declared.codes.TheConstants as codes
 use Rattle.mp4_tables.specs.declared.tfhd.TfhdBox.{TfhdBox}
 
 -- where each of the flagged fields stands, and where they end
@@ -23,48 +26,48 @@ flags_at flags = size_at flags + width_if (is_set flags 0x10) 4
 abbrev pub end_at : ℕ → ℕ
 end_at flags = flags_at flags + width_if (is_set flags 0x20) 4
 
--- the value for these flags, by the number of w bytes at o
+-- the value for these flags, where `at o w` is the number of w bytes at offset o
 abbrev pub value_tfhd : ℕ → (ℕ → ℕ → ℕ) → TfhdBox
-value_tfhd flags n = record {
-  version = n 8 1;
+value_tfhd flags at = record {
+  version = at 8 1;
   flags = flags;
-  track_id = n 12 4;
-  base_data_offset = number_if n (is_set flags 0x01) 16 8;
-  sample_description_index = number_if n (is_set flags 0x02) (index_at flags) 4;
-  default_sample_duration = number_if n (is_set flags 0x08) (duration_at flags) 4;
-  default_sample_size = number_if n (is_set flags 0x10) (size_at flags) 4;
-  default_sample_flags = number_if n (is_set flags 0x20) (flags_at flags) 4;
+  track_id = at 12 4;
+  base_data_offset = number_if at (is_set flags 0x01) 16 8;
+  sample_description_index = number_if at (is_set flags 0x02) (index_at flags) 4;
+  default_sample_duration = number_if at (is_set flags 0x08) (duration_at flags) 4;
+  default_sample_size = number_if at (is_set flags 0x10) (size_at flags) 4;
+  default_sample_flags = number_if at (is_set flags 0x20) (flags_at flags) 4;
 }
 
 unfoldable pub reads_tfhd : List ℕ → ℕ → ℕ → Reading TfhdBox
 reads_tfhd bytes start size = do
-  _ ← fields bytes 8 8
-  _ ← fields bytes 16 (end_at (number bytes 9 3) - 16)
+  _ ← expect_bytes bytes 8 8
+  _ ← expect_bytes bytes 16 (end_at (number bytes 9 3) - 16)
   done (value_tfhd (number bytes 9 3) (number bytes))
 
 abbrev pub size_tfhd : TfhdBox → ℕ
 size_tfhd v = end_at v.flags
 
-abbrev pub columns_tfhd : TfhdBox → List (ℕ × ℕ)
-columns_tfhd v = full_box (size_tfhd v) 0x74666864 v.version v.flags ++ (4, v.track_id) ∷ []
+abbrev pub fields_tfhd : TfhdBox → List (ℕ × ℕ)
+fields_tfhd v = full_box (size_tfhd v) codes.TFHD v.version v.flags ++ (4, v.track_id) ∷ []
 
 -- each flagged field is there exactly where its flag is set, and its number fits
 pub record FlaggedTfhd (v : TfhdBox) : Type 0 where
-  pub base_data_offset : Stands (is_set v.flags 0x01) 8 v.base_data_offset
-  pub sample_description_index : Stands (is_set v.flags 0x02) 4 v.sample_description_index
-  pub default_sample_duration : Stands (is_set v.flags 0x08) 4 v.default_sample_duration
-  pub default_sample_size : Stands (is_set v.flags 0x10) 4 v.default_sample_size
-  pub default_sample_flags : Stands (is_set v.flags 0x20) 4 v.default_sample_flags
+  pub base_data_offset : IsPresent (is_set v.flags 0x01) 8 v.base_data_offset
+  pub sample_description_index : IsPresent (is_set v.flags 0x02) 4 v.sample_description_index
+  pub default_sample_duration : IsPresent (is_set v.flags 0x08) 4 v.default_sample_duration
+  pub default_sample_size : IsPresent (is_set v.flags 0x10) 4 v.default_sample_size
+  pub default_sample_flags : IsPresent (is_set v.flags 0x20) 4 v.default_sample_flags
 
 -- every number fits its bytes
 pub record WritableTfhd (v : TfhdBox) : Type 0 where
-  pub fit : Fit (columns_tfhd v)
+  pub fit : FieldsFit (fields_tfhd v)
   pub flagged : FlaggedTfhd v
 
 unfoldable pub bytes_tfhd : TfhdBox → List ℕ
 bytes_tfhd v =
-    joined (columns_tfhd v) ++ optional 8 v.base_data_offset ++ optional 4 v.sample_description_index
+    bytes_of_fields (fields_tfhd v) ++ optional 8 v.base_data_offset ++ optional 4 v.sample_description_index
     ++ optional 4 v.default_sample_duration ++ optional 4 v.default_sample_size ++ optional 4 v.default_sample_flags
 
-abbrev pub normal_tfhd : TfhdBox → TfhdBox
-normal_tfhd v = v
+abbrev pub format_tfhd : Format TfhdBox
+format_tfhd = record { name = names.TfhdBox; reads = reads_tfhd; size = size_tfhd; Writable = WritableTfhd; bytes = bytes_tfhd; normal = λ v. v }

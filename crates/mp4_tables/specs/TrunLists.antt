@@ -6,7 +6,7 @@ use Rattle.mp4_tables.specs.Flagged.{is_set, width_if}
 use Rattle.mp4_tables.specs.Rows.{rows_within}
 use Rattle.mp4_tables.specs.declared.trun_lists.TrunLists.{TrunLists}
 
--- where a sample's numbers stand in its row, behind the duration, and how long the row is
+-- where a sample's numbers stand in its row, after the duration, and how long the row is
 abbrev pub size_in_row : ℕ → ℕ
 size_in_row flags = width_if (is_set flags 0x100) 4
 

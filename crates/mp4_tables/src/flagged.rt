@@ -2,7 +2,7 @@
 
 ghost use Rattle.std.specs.Prelude.{◌≡◌, ◌≤◌, ◌+◌, ◌++◌, ◌↔◌, IsTrue, length, take};
 ghost use Rattle.mp4_frame.specs.Bytes.{number};
-ghost use Rattle.mp4_tables.specs.Flagged.{is_set as flag_is_set, width_if as width_where, number_if, optional, Stands};
+ghost use Rattle.mp4_tables.specs.Flagged.{is_set as flag_is_set, width_if as width_where, number_if, optional, IsPresent};
 
 use mp4_frame::{put_u32, put_u64, u32_at, u64_at};
 
@@ -42,8 +42,8 @@ pub(crate) fn u64_if(bytes: &[u8], at: usize, there: bool) -> Option<u64>
 }
 
 /// A number of four bytes is there exactly where its flag says so.
-pub(crate) fn stands_u32(there: bool, n: Option<u32>) -> bool
-    ensures { IsTrue result ↔ Stands there 4 n }
+pub(crate) fn is_present_u32(there: bool, n: Option<u32>) -> bool
+    ensures { IsTrue result ↔ IsPresent there 4 n }
 {
     match n {
         Some(_n) => there,
@@ -52,8 +52,8 @@ pub(crate) fn stands_u32(there: bool, n: Option<u32>) -> bool
 }
 
 /// A number of eight bytes is there exactly where its flag says so.
-pub(crate) fn stands_u64(there: bool, n: Option<u64>) -> bool
-    ensures { IsTrue result ↔ Stands there 8 n }
+pub(crate) fn is_present_u64(there: bool, n: Option<u64>) -> bool
+    ensures { IsTrue result ↔ IsPresent there 8 n }
 {
     match n {
         Some(_n) => there,
@@ -61,28 +61,28 @@ pub(crate) fn stands_u64(there: bool, n: Option<u64>) -> bool
     }
 }
 
-/// Puts a number of four bytes that may be there, and answers the place behind it.
+/// Puts a number of four bytes that may be there, and returns the offset after it.
 #[tactic(auto, using(crate::specs::FlaggedLaws::length_some), unfolding(crate::specs::Flagged::optional))]
-pub(crate) fn put_optional_u32(place: &mut [u8], at: usize, n: Option<u32>) -> usize
-    requires { at + length (optional 4 n) ≤ length place.old }
+pub(crate) fn put_optional_u32(out: &mut [u8], at: usize, n: Option<u32>) -> usize
+    requires { at + length (optional 4 n) ≤ length out.old }
     ensures next { result ≡ at + length (optional 4 n) }
-    ensures put { take result place.new ≡ take at place.old ++ optional 4 n }
+    ensures put { take result out.new ≡ take at out.old ++ optional 4 n }
 {
     match n {
-        Some(n) => put_u32(place, at, n),
+        Some(n) => put_u32(out, at, n),
         None => at,
     }
 }
 
-/// Puts a number of eight bytes that may be there, and answers the place behind it.
+/// Puts a number of eight bytes that may be there, and returns the offset after it.
 #[tactic(auto, using(crate::specs::FlaggedLaws::length_some), unfolding(crate::specs::Flagged::optional))]
-pub(crate) fn put_optional_u64(place: &mut [u8], at: usize, n: Option<u64>) -> usize
-    requires { at + length (optional 8 n) ≤ length place.old }
+pub(crate) fn put_optional_u64(out: &mut [u8], at: usize, n: Option<u64>) -> usize
+    requires { at + length (optional 8 n) ≤ length out.old }
     ensures next { result ≡ at + length (optional 8 n) }
-    ensures put { take result place.new ≡ take at place.old ++ optional 8 n }
+    ensures put { take result out.new ≡ take at out.old ++ optional 8 n }
 {
     match n {
-        Some(n) => put_u64(place, at, n),
+        Some(n) => put_u64(out, at, n),
         None => at,
     }
 }

@@ -5,7 +5,7 @@ ghost use Rattle.mp4_frame.specs.Bytes.{number};
 ghost use Rattle.mp4_frame.specs.Reading.{AnswersAs};
 ghost use Rattle.mp4_tables.specs.Rows.{rows_within};
 
-use mp4_frame::{ByteCursor, Error, Result, check, u32_at};
+use mp4_frame::{Error, Result, check, rows_at, u32_at};
 use std::alloc::Global;
 
 /// The rows of `E` bytes from `at` on, as many as counted, for which a box of this size has room. `too_many` is
@@ -14,7 +14,7 @@ use std::alloc::Global;
 pub(crate) fn read_rows<'a, const E: usize>(
     bytes: &'a [u8],
     size: u64,
-    at: u64,
+    at: usize,
     count: u32,
     too_many: &'static str,
 ) -> Result<&'a [[u8; E]]>
@@ -23,10 +23,8 @@ pub(crate) fn read_rows<'a, const E: usize>(
     ensures { AnswersAs (λ rows. rows.now) result (rows_within bytes.now size at E count) }
 {
     let count = u64::from(count);
-    check(count * E as u64 <= size.saturating_sub(at), too_many)?;
-    let mut reader = ByteCursor::new(bytes);
-    reader.set_position(at);
-    reader.take_rows::<E>(count)
+    check(count * E as u64 <= size.saturating_sub(at as u64), too_many)?;
+    rows_at::<E>(bytes, at, count)
 }
 
 /// Appends the number of four bytes at one place of each row.

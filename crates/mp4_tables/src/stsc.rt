@@ -3,7 +3,7 @@
 ghost use Rattle.std.specs.Prelude.{◌≡◌, ◌-◌, ◌^◌, [], IfOk, IfErr, OnOk, map, min, true, false};
 ghost use Rattle.mp4_frame.specs.Reading.{Invalid, IsFault};
 ghost use Rattle.mp4_frame.specs.declared.box_type.BoxType.TheVariants as names;
-ghost use Rattle.mp4_tables.specs.Chunks.{chunks_fit, numbered, next_sample as sample_after};
+ghost use Rattle.mp4_tables.specs.Chunks.{chunks_fit, number_samples, next_sample};
 ghost use Rattle.mp4_tables.specs.Stsc.{size_stsc, format_stsc};
 ghost use Rattle.mp4_tables.specs.StscEntry.{entry_stsc};
 ghost use Rattle.mp4_tables.specs.StscLaws.{laws_stsc};
@@ -101,7 +101,7 @@ fn entries_of(alloc: Global, rows: &[[u8; 12]]) -> Result<Vec<StscEntry>>
 /// The first sample of a run that begins at chunk `first`. The run before begins at `chunk` with this sample, and
 /// has that many in each chunk.
 fn next_sample(sample: u32, chunk: u32, samples: u32, first: u32) -> Option<u32>
-    ensures { result ≡ sample_after sample chunk samples first }
+    ensures { result ≡ next_sample sample chunk samples first }
 {
     let skipped = first.checked_sub(chunk)?;
     let next = u64::from(sample) + u64::from(skipped) * u64::from(samples);
@@ -113,7 +113,7 @@ fn next_sample(sample: u32, chunk: u32, samples: u32, first: u32) -> Option<u32>
 
 /// Computes the first samples.
 fn number_samples(entries: &mut [StscEntry]) -> Result<()>
-    ensures ok { OnOk result ((chunks_fit entries.old ≡ true) × (entries.new ≡ numbered entries.old)) }
+    ensures ok { OnOk result ((chunks_fit entries.old ≡ true) × (entries.new ≡ number_samples entries.old)) }
     ensures err { IfErr result (λ e. IsFault e Invalid × (chunks_fit entries.old ≡ false)) }
 {
     let mut sample = 1;

@@ -1,18 +1,14 @@
 //! The track fragment header box.
 
-ghost use Rattle.std.specs.Prelude.{◌≡◌, ◌≤◌, ◌-◌, ◌^◌, ◌↔◌, min, IsTrue, refl};
+ghost use Rattle.std.specs.Prelude.{◌≡◌, ◌≤◌, ◌-◌, ◌^◌, ◌↔◌, min, IsTrue};
 ghost use Rattle.mp4_frame.specs.declared.box_type.BoxType.TheVariants as names;
-ghost use Rattle.mp4_frame.proofs.Framing.{settled};
-ghost use Rattle.mp4_tables.specs.Tfhd.{end_at as end_place, reads_tfhd, size_tfhd, FlaggedTfhd, WritableTfhd, bytes_tfhd, normal_tfhd};
-ghost use Rattle.mp4_tables.specs.TfhdLaws.{framed_tfhd, read_back_tfhd, sound_tfhd};
+ghost use Rattle.mp4_tables.specs.Tfhd.{size_tfhd, FlaggedTfhd, format_tfhd};
+ghost use Rattle.mp4_tables.specs.TfhdLaws.{laws_tfhd};
 
 use crate::flagged::{
-    is_set, put_optional_u32, put_optional_u64, stands_u32, stands_u64, u32_if, u64_if, width_if,
+    is_set, put_optional_u32, put_optional_u64, is_present_u32, is_present_u64, u32_if, u64_if, width_if,
 };
-use mp4_frame::{
-    BoxLaws, BoxType, Mp4Box, ReadBox, Result, WriteBox, fields, put_full_box, put_u32, u8_at,
-    u24_at, u32_at,
-};
+use mp4_frame::{BoxLaws, BoxType, Mp4Box, ReadBox, Result, WriteBox, expect_bytes, put_full_box, put_u32, u8_at, u24_at, u32_at, codes, TryClone};
 use std::alloc::Global;
 
 /// What the samples of a track fragment have in common (`tfhd`, ISO/IEC 14496-12, 8.8.7). It is written only
@@ -64,7 +60,7 @@ impl TfhdBox {
     }
 }
 
-/// The place behind the flagged fields.
+/// The place after the flagged fields.
 fn end_at(flags: u32) -> usize
     ensures place { result ≡ end_place flags }
     ensures most { result ≤ 40 }
@@ -81,28 +77,34 @@ fn has_flagged_fields(tfhd: &TfhdBox) -> bool
     ensures { IsTrue result ↔ FlaggedTfhd tfhd.now }
 {
     let flags = tfhd.flags;
-    stands_u64(
+    is_present_u64(
         is_set(flags, TfhdBox::FLAG_BASE_DATA_OFFSET),
         tfhd.base_data_offset,
-    ) && stands_u32(
+    ) && is_present_u32(
         is_set(flags, TfhdBox::FLAG_SAMPLE_DESCRIPTION_INDEX),
         tfhd.sample_description_index,
-    ) && stands_u32(
+    ) && is_present_u32(
         is_set(flags, TfhdBox::FLAG_DEFAULT_SAMPLE_DURATION),
         tfhd.default_sample_duration,
-    ) && stands_u32(
+    ) && is_present_u32(
         is_set(flags, TfhdBox::FLAG_DEFAULT_SAMPLE_SIZE),
         tfhd.default_sample_size,
-    ) && stands_u32(
+    ) && is_present_u32(
         is_set(flags, TfhdBox::FLAG_DEFAULT_SAMPLE_FLAGS),
         tfhd.default_sample_flags,
     )
 }
 
-impl Mp4Box for TfhdBox {
-    ghost name = { λ _. names.TfhdBox };
+impl TryClone for TfhdBox {
+    fn try_clone(&self) -> Result<TfhdBox> {
+        Ok(self.clone()?)
+    }
+}
 
-    ghost size = { size_tfhd };
+impl Mp4Box for TfhdBox {
+    ghost name = { λ _. format_tfhd.name };
+
+    ghost size = { format_tfhd.size };
 
     fn box_type(&self) -> BoxType {
         BoxType::TfhdBox
@@ -114,11 +116,11 @@ impl Mp4Box for TfhdBox {
 }
 
 impl ReadBox for TfhdBox {
-    ghost reads = { reads_tfhd };
+    ghost reads = { format_tfhd.reads };
 
     #[tactic(auto, unfolding(crate::specs::Tfhd::reads_tfhd))]
-    fn read_row(_alloc: Global, bytes: &[u8], _start: u64, _size: u64) -> Result<TfhdBox> {
-        fields(bytes, 8, 8)?;
+    fn read_content(_alloc: Global, bytes: &[u8], _start: u64, _size: u64) -> Result<TfhdBox> {
+        expect_bytes(bytes, 8, 8)?;
         let flags = u24_at(bytes, 9);
         let has_base = is_set(flags, Self::FLAG_BASE_DATA_OFFSET);
         let has_index = is_set(flags, Self::FLAG_SAMPLE_DESCRIPTION_INDEX);
@@ -130,7 +132,7 @@ impl ReadBox for TfhdBox {
         let size_at = duration_at + width_if(has_duration, 4);
         let flags_at = size_at + width_if(has_size, 4);
         let end = flags_at + width_if(has_flags, 4);
-        fields(bytes, 16, end - 16)?;
+        expect_bytes(bytes, 16, end - 16)?;
         Ok(TfhdBox {
             version: u8_at(bytes, 8),
             flags,
@@ -145,11 +147,11 @@ impl ReadBox for TfhdBox {
 }
 
 impl WriteBox for TfhdBox {
-    ghost Writable = { WritableTfhd };
+    ghost Writable = { format_tfhd.Writable };
 
-    ghost bytes = { bytes_tfhd };
+    ghost bytes = { format_tfhd.bytes };
 
-    ghost normal = { normal_tfhd };
+    ghost normal = { format_tfhd.normal };
 
     #[tactic(auto, using(crate::specs::TfhdLaws::tfhd_is_short))]
     fn is_writable(&self) -> bool {
@@ -158,25 +160,25 @@ impl WriteBox for TfhdBox {
         self.flags < 1 << 24 && has_flagged_fields(self)
     }
 
-    #[tactic(auto, using(crate::specs::FlaggedLaws::length_optional), unfolding(crate::specs::Tfhd::bytes_tfhd, mp4_frame::specs::Bytes::joined, mp4_frame::specs::Bytes::joined_onto))]
-    fn put_box(&self, place: &mut [u8]) {
+    #[tactic(auto, using(crate::specs::FlaggedLaws::length_optional), unfolding(crate::specs::Tfhd::bytes_tfhd, mp4_frame::specs::Bytes::bytes_of_fields, mp4_frame::specs::Bytes::bytes_of_fields_onto))]
+    fn put_box(&self, out: &mut [u8]) {
         let size = self.box_size() as u32;
-        let at = put_full_box(place, size, 0x7466_6864, self.version, self.flags);
-        let at = put_u32(place, at, self.track_id);
-        let at = put_optional_u64(place, at, self.base_data_offset);
-        let at = put_optional_u32(place, at, self.sample_description_index);
-        let at = put_optional_u32(place, at, self.default_sample_duration);
-        let at = put_optional_u32(place, at, self.default_sample_size);
-        put_optional_u32(place, at, self.default_sample_flags);
+        let at = put_full_box(out, size, codes::TFHD, self.version, self.flags);
+        let at = put_u32(out, at, self.track_id);
+        let at = put_optional_u64(out, at, self.base_data_offset);
+        let at = put_optional_u32(out, at, self.sample_description_index);
+        let at = put_optional_u32(out, at, self.default_sample_duration);
+        let at = put_optional_u32(out, at, self.default_sample_size);
+        put_optional_u32(out, at, self.default_sample_flags);
     }
 
-    ghost header = { header_tfhd };
+    ghost header = { laws_tfhd.header };
 
-    ghost normal_form = { λ v w. settled v refl w };
+    ghost normal_form = { laws_tfhd.normal_form };
 }
 
 impl BoxLaws for TfhdBox {
-    ghost read_back = { read_back_tfhd };
+    ghost read_back = { laws_tfhd.read_back };
 
-    ghost sound = { sound_tfhd };
+    ghost sound = { laws_tfhd.sound };
 }

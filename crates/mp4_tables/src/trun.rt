@@ -1,19 +1,15 @@
 //! The track fragment run box.
 
-ghost use Rattle.std.specs.Prelude.{◌≡◌, ◌≤◌, ◌-◌, ◌^◌, ◌↔◌, [], None, IsTrue, IfOk, IfErr, min, option_map, refl};
+ghost use Rattle.std.specs.Prelude.{◌≡◌, ◌≤◌, ◌-◌, ◌^◌, ◌↔◌, [], None, IsTrue, min, option_map};
 ghost use Rattle.std.specs.Int.{w32, cast_signed};
 ghost use Rattle.mp4_frame.specs.declared.box_type.BoxType.TheVariants as names;
-ghost use Rattle.mp4_frame.proofs.Framing.{settled};
-ghost use Rattle.mp4_tables.specs.Trun.{rows_at as rows_place, unsigned, FitsOptional, FlaggedTrun, reads_trun, size_trun, ListedTrun, WritableTrun, bytes_trun, normal_trun};
-ghost use Rattle.mp4_tables.specs.TrunLaws.{framed_trun, read_back_trun, sound_trun};
+ghost use Rattle.mp4_tables.specs.Trun.{unsigned, FitsOptional, FlaggedTrun, size_trun, ListedTrun, format_trun};
+ghost use Rattle.mp4_tables.specs.TrunLaws.{laws_trun};
 
-use crate::flagged::{is_set, put_optional_u32, stands_u32, u32_if, width_if};
+use crate::flagged::{is_set, put_optional_u32, is_present_u32, u32_if, width_if};
 use crate::trun_lists::{is_listed, read_lists, row_length};
 use crate::trun_rows::put_rows;
-use mp4_frame::{
-    BoxLaws, BoxType, Entries, Error, Mp4Box, ReadBox, Result, WriteBox, fields, put_full_box,
-    put_u32, u8_at, u24_at, u32_at,
-};
+use mp4_frame::{BoxLaws, BoxType, Entries, Error, Mp4Box, ReadBox, Result, WriteBox, expect_bytes, put_full_box, put_u32, u8_at, u24_at, u32_at, codes, TryClone};
 use std::alloc::Global;
 
 /// A run of samples of a track fragment (`trun`, ISO/IEC 14496-12, 8.8.8). It is written only where each optional
@@ -73,24 +69,6 @@ impl TrunBox {
         }
     }
 
-    /// An equal box, in memory of its own.
-    pub fn try_clone(&self) -> Result<TrunBox>
-        ensures clone { IfOk result (λ clone. clone ≡ self.now) }
-        ensures memory { IfErr result (λ e. e ≡ Error.OutOfMemory) }
-    {
-        Ok(TrunBox {
-            version: self.version,
-            flags: self.flags,
-            sample_count: self.sample_count,
-            data_offset: self.data_offset,
-            first_sample_flags: self.first_sample_flags,
-            sample_durations: self.sample_durations.try_clone()?,
-            sample_sizes: self.sample_sizes.try_clone()?,
-            sample_flags: self.sample_flags.try_clone()?,
-            sample_cts: self.sample_cts.try_clone()?,
-        })
-    }
-
     /// As `box_type`.
     pub fn get_type(&self) -> BoxType
         ensures { result ≡ names.TrunBox }
@@ -106,6 +84,22 @@ impl TrunBox {
     }
 }
 
+impl TryClone for TrunBox {
+    fn try_clone(&self) -> Result<TrunBox> {
+        Ok(TrunBox {
+            version: self.version,
+            flags: self.flags,
+            sample_count: self.sample_count,
+            data_offset: self.data_offset,
+            first_sample_flags: self.first_sample_flags,
+            sample_durations: self.sample_durations.try_clone()?,
+            sample_sizes: self.sample_sizes.try_clone()?,
+            sample_flags: self.sample_flags.try_clone()?,
+            sample_cts: self.sample_cts.try_clone()?,
+        })
+    }
+}
+
 /// The place of the rows.
 fn rows_at(flags: u32) -> usize
     ensures place { result ≡ rows_place flags }
@@ -116,9 +110,9 @@ fn rows_at(flags: u32) -> usize
 }
 
 impl Mp4Box for TrunBox {
-    ghost name = { λ _. names.TrunBox };
+    ghost name = { λ _. format_trun.name };
 
-    ghost size = { size_trun };
+    ghost size = { format_trun.size };
 
     fn box_type(&self) -> BoxType {
         BoxType::TrunBox
@@ -130,19 +124,19 @@ impl Mp4Box for TrunBox {
 }
 
 impl ReadBox for TrunBox {
-    ghost reads = { reads_trun };
+    ghost reads = { format_trun.reads };
 
     #[tactic(auto, unfolding(crate::specs::Trun::reads_trun))]
-    fn read_row(alloc: Global, bytes: &[u8], _start: u64, size: u64) -> Result<TrunBox> {
-        fields(bytes, 8, 8)?;
+    fn read_content(alloc: Global, bytes: &[u8], _start: u64, size: u64) -> Result<TrunBox> {
+        expect_bytes(bytes, 8, 8)?;
         let flags = u24_at(bytes, 9);
         let sample_count = u32_at(bytes, 12);
         let has_data_offset = is_set(flags, Self::FLAG_DATA_OFFSET);
         let has_first_flags = is_set(flags, Self::FLAG_FIRST_SAMPLE_FLAGS);
         let first_flags_at = 16 + width_if(has_data_offset, 4);
         let rows_at = first_flags_at + width_if(has_first_flags, 4);
-        fields(bytes, 16, rows_at - 16)?;
-        let lists = read_lists(alloc, bytes, size, flags, rows_at as u64, sample_count)?;
+        expect_bytes(bytes, 16, rows_at - 16)?;
+        let lists = read_lists(alloc, bytes, size, flags, rows_at, sample_count)?;
         Ok(TrunBox {
             version: u8_at(bytes, 8),
             flags,
@@ -216,22 +210,22 @@ fn has_flagged_lists(trun: &TrunBox) -> bool
 fn has_flagged_fields(flags: u32, data_offset: Option<i32>, first_sample_flags: Option<u32>) -> bool
     ensures { IsTrue result ↔ FlaggedTrun flags data_offset first_sample_flags }
 {
-    stands_u32(
+    is_present_u32(
         is_set(flags, TrunBox::FLAG_DATA_OFFSET),
         unsigned_bits(data_offset),
     ) && fits_optional(data_offset)
-        && stands_u32(
+        && is_present_u32(
             is_set(flags, TrunBox::FLAG_FIRST_SAMPLE_FLAGS),
             first_sample_flags,
         )
 }
 
 impl WriteBox for TrunBox {
-    ghost Writable = { WritableTrun };
+    ghost Writable = { format_trun.Writable };
 
-    ghost bytes = { bytes_trun };
+    ghost bytes = { format_trun.bytes };
 
-    ghost normal = { normal_trun };
+    ghost normal = { format_trun.normal };
 
     fn is_writable(&self) -> bool {
         let _version = self.version;
@@ -242,23 +236,23 @@ impl WriteBox for TrunBox {
             && has_flagged_lists(self)
     }
 
-    #[tactic(auto, using(crate::specs::FlaggedLaws::length_optional), unfolding(crate::specs::Trun::bytes_trun, mp4_frame::specs::Bytes::joined, mp4_frame::specs::Bytes::joined_onto))]
-    fn put_box(&self, place: &mut [u8]) {
+    #[tactic(auto, using(crate::specs::FlaggedLaws::length_optional), unfolding(crate::specs::Trun::bytes_trun, mp4_frame::specs::Bytes::bytes_of_fields, mp4_frame::specs::Bytes::bytes_of_fields_onto))]
+    fn put_box(&self, out: &mut [u8]) {
         let size = self.box_size() as u32;
-        let at = put_full_box(place, size, 0x7472_756e, self.version, self.flags);
-        let at = put_u32(place, at, self.sample_count);
-        let at = put_optional_u32(place, at, unsigned_bits(self.data_offset));
-        let at = put_optional_u32(place, at, self.first_sample_flags);
-        put_rows(place, at, self);
+        let at = put_full_box(out, size, codes::TRUN, self.version, self.flags);
+        let at = put_u32(out, at, self.sample_count);
+        let at = put_optional_u32(out, at, unsigned_bits(self.data_offset));
+        let at = put_optional_u32(out, at, self.first_sample_flags);
+        put_rows(out, at, self);
     }
 
-    ghost header = { header_trun };
+    ghost header = { laws_trun.header };
 
-    ghost normal_form = { λ v w. settled v refl w };
+    ghost normal_form = { laws_trun.normal_form };
 }
 
 impl BoxLaws for TrunBox {
-    ghost read_back = { read_back_trun };
+    ghost read_back = { laws_trun.read_back };
 
-    ghost sound = { sound_trun };
+    ghost sound = { laws_trun.sound };
 }

@@ -108,7 +108,7 @@ fn read_rows_of<const E: usize>(
     bytes: &[u8],
     size: u64,
     flags: u32,
-    at: u64,
+    at: usize,
     count: u32,
 ) -> Result<TrunLists>
     requires some { 0 < E }
@@ -132,7 +132,7 @@ pub(crate) fn read_lists(
     bytes: &[u8],
     size: u64,
     flags: u32,
-    at: u64,
+    at: usize,
     count: u32,
 ) -> Result<TrunLists>
     ensures { Answers result (reads_lists bytes.now size flags at count) }

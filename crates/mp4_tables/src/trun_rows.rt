@@ -10,16 +10,16 @@ use crate::trun::TrunBox;
 use crate::trun_lists::row_length;
 use mp4_frame::put_u32;
 
-/// Puts the i-th number of a list that may be there, and answers the place behind it.
+/// Puts the i-th number of a list that may be there, and returns the offset after it.
 #[tactic(auto, using(crate::proofs::TrunRows::number_put), unfolding(crate::specs::Flagged::width_if))]
-fn put_number<const THERE: bool>(place: &mut [u8], at: usize, numbers: &[u32], i: usize) -> usize
+fn put_number<const THERE: bool>(out: &mut [u8], at: usize, numbers: &[u32], i: usize) -> usize
     requires has { HasAt THERE i numbers.now }
-    requires room { at + width_where THERE 4 ≤ length place.old }
+    requires room { at + width_where THERE 4 ≤ length out.old }
     ensures next { result ≡ at + width_where THERE 4 }
-    ensures put { take result place.new ≡ take at place.old ++ optional 4 (slice_get numbers.now i) }
+    ensures put { take result out.new ≡ take at out.old ++ optional 4 (slice_get numbers.now i) }
 {
     if THERE {
-        put_u32(place, at, numbers[i])
+        put_u32(out, at, numbers[i])
     } else {
         at
     }
@@ -29,14 +29,14 @@ fn put_number<const THERE: bool>(place: &mut [u8], at: usize, numbers: &[u32], i
 /// tested in it.
 #[tactic(auto)]
 fn put_rows_of<const DURATION: bool, const SIZE: bool, const FLAGS: bool, const CTS: bool>(
-    place: &mut [u8],
+    out: &mut [u8],
     at: usize,
     trun: &TrunBox,
 )
     requires listed { ListedTrun trun.now }
     requires lists { HasLists DURATION SIZE FLAGS CTS trun.now.flags }
-    requires room { at + length_of_row trun.now.flags * trun.now.sample_count ≡ length place.old }
-    ensures { place.new ≡ take at place.old ++ rows_trun trun.now trun.now.sample_count }
+    requires room { at + length_of_row trun.now.flags * trun.now.sample_count ≡ length out.old }
+    ensures { out.new ≡ take at out.old ++ rows_trun trun.now trun.now.sample_count }
 {
     let durations = trun.sample_durations.as_slice();
     let sizes = trun.sample_sizes.as_slice();
@@ -44,16 +44,16 @@ fn put_rows_of<const DURATION: bool, const SIZE: bool, const FLAGS: bool, const 
     let cts = trun.sample_cts.as_slice();
     let mut next = at;
     for i in 0..trun.sample_count as usize {
-        let size_at = put_number::<DURATION>(place, next, durations, i);
-        let flags_at = put_number::<SIZE>(place, size_at, sizes, i);
-        let cts_at = put_number::<FLAGS>(place, flags_at, flags, i);
-        next = put_number::<CTS>(place, cts_at, cts, i);
+        let size_at = put_number::<DURATION>(out, next, durations, i);
+        let flags_at = put_number::<SIZE>(out, size_at, sizes, i);
+        let cts_at = put_number::<FLAGS>(out, flags_at, flags, i);
+        next = put_number::<CTS>(out, cts_at, cts, i);
     }
 }
 
 /// Puts the rows where it is known which of the three lists in front are there.
 fn put_rows_by_cts<const DURATION: bool, const SIZE: bool, const FLAGS: bool>(
-    place: &mut [u8],
+    out: &mut [u8],
     at: usize,
     trun: &TrunBox,
 )
@@ -61,61 +61,61 @@ fn put_rows_by_cts<const DURATION: bool, const SIZE: bool, const FLAGS: bool>(
     requires duration { DURATION ≡ flag_is_set trun.now.flags 0x100 }
     requires size { SIZE ≡ flag_is_set trun.now.flags 0x200 }
     requires flags { FLAGS ≡ flag_is_set trun.now.flags 0x400 }
-    requires room { at + length_of_row trun.now.flags * trun.now.sample_count ≡ length place.old }
-    ensures { place.new ≡ take at place.old ++ rows_trun trun.now trun.now.sample_count }
+    requires room { at + length_of_row trun.now.flags * trun.now.sample_count ≡ length out.old }
+    ensures { out.new ≡ take at out.old ++ rows_trun trun.now trun.now.sample_count }
 {
     if is_set(trun.flags, TrunBox::FLAG_SAMPLE_CTS) {
-        put_rows_of::<DURATION, SIZE, FLAGS, true>(place, at, trun);
+        put_rows_of::<DURATION, SIZE, FLAGS, true>(out, at, trun);
     } else {
-        put_rows_of::<DURATION, SIZE, FLAGS, false>(place, at, trun);
+        put_rows_of::<DURATION, SIZE, FLAGS, false>(out, at, trun);
     }
 }
 
 /// Puts the rows where it is known whether durations and sizes are there.
 fn put_rows_by_flags<const DURATION: bool, const SIZE: bool>(
-    place: &mut [u8],
+    out: &mut [u8],
     at: usize,
     trun: &TrunBox,
 )
     requires listed { ListedTrun trun.now }
     requires duration { DURATION ≡ flag_is_set trun.now.flags 0x100 }
     requires size { SIZE ≡ flag_is_set trun.now.flags 0x200 }
-    requires room { at + length_of_row trun.now.flags * trun.now.sample_count ≡ length place.old }
-    ensures { place.new ≡ take at place.old ++ rows_trun trun.now trun.now.sample_count }
+    requires room { at + length_of_row trun.now.flags * trun.now.sample_count ≡ length out.old }
+    ensures { out.new ≡ take at out.old ++ rows_trun trun.now trun.now.sample_count }
 {
     if is_set(trun.flags, TrunBox::FLAG_SAMPLE_FLAGS) {
-        put_rows_by_cts::<DURATION, SIZE, true>(place, at, trun);
+        put_rows_by_cts::<DURATION, SIZE, true>(out, at, trun);
     } else {
-        put_rows_by_cts::<DURATION, SIZE, false>(place, at, trun);
+        put_rows_by_cts::<DURATION, SIZE, false>(out, at, trun);
     }
 }
 
 /// Puts the rows where it is known whether durations are there.
-fn put_rows_by_size<const DURATION: bool>(place: &mut [u8], at: usize, trun: &TrunBox)
+fn put_rows_by_size<const DURATION: bool>(out: &mut [u8], at: usize, trun: &TrunBox)
     requires listed { ListedTrun trun.now }
     requires duration { DURATION ≡ flag_is_set trun.now.flags 0x100 }
-    requires room { at + length_of_row trun.now.flags * trun.now.sample_count ≡ length place.old }
-    ensures { place.new ≡ take at place.old ++ rows_trun trun.now trun.now.sample_count }
+    requires room { at + length_of_row trun.now.flags * trun.now.sample_count ≡ length out.old }
+    ensures { out.new ≡ take at out.old ++ rows_trun trun.now trun.now.sample_count }
 {
     if is_set(trun.flags, TrunBox::FLAG_SAMPLE_SIZE) {
-        put_rows_by_flags::<DURATION, true>(place, at, trun);
+        put_rows_by_flags::<DURATION, true>(out, at, trun);
     } else {
-        put_rows_by_flags::<DURATION, false>(place, at, trun);
+        put_rows_by_flags::<DURATION, false>(out, at, trun);
     }
 }
 
 /// Puts the rows. Where they have no bytes, none is visited.
-pub(crate) fn put_rows(place: &mut [u8], at: usize, trun: &TrunBox)
+pub(crate) fn put_rows(out: &mut [u8], at: usize, trun: &TrunBox)
     requires listed { ListedTrun trun.now }
-    requires room { at + length_of_row trun.now.flags * trun.now.sample_count ≡ length place.old }
-    ensures { place.new ≡ take at place.old ++ rows_trun trun.now trun.now.sample_count }
+    requires room { at + length_of_row trun.now.flags * trun.now.sample_count ≡ length out.old }
+    ensures { out.new ≡ take at out.old ++ rows_trun trun.now trun.now.sample_count }
 {
     if row_length(trun.flags) == 0 {
         return;
     }
     if is_set(trun.flags, TrunBox::FLAG_SAMPLE_DURATION) {
-        put_rows_by_size::<true>(place, at, trun);
+        put_rows_by_size::<true>(out, at, trun);
     } else {
-        put_rows_by_size::<false>(place, at, trun);
+        put_rows_by_size::<false>(out, at, trun);
     }
 }

@@ -3,7 +3,7 @@ use Rattle.std.specs.Prelude.{ℕ, ◌+◌, List, [], ◌∷◌, ◌++◌, Optio
 use Rattle.mp4_frame.specs.Bytes.{bytes_of_fields, FieldsFit}
 use Rattle.mp4_frame.specs.Children.{children}
 use Rattle.mp4_frame.specs.Reading.{Reading, NotFound, ◌>>=◌, done, faults}
-use Rattle.mp4_text.specs.Dref.{reads_dref, size_dref, WritableDref, bytes_dref, normal_dref}
+use Rattle.mp4_text.specs.Dref.{format_dref}
 use Rattle.mp4_text.specs.declared.dinf.DinfBox.{DinfBox}
 use Rattle.mp4_frame.specs.Format.{Format}
 use Rattle.mp4_frame.specs.declared.box_type.BoxType.TheVariants as names
@@ -13,16 +13,16 @@ use Rattle.mp4_text.specs.declared.dref.DrefBox.{DrefBox}
 -- the references have to be there
 abbrev pub with_dref : Option DrefBox → Reading DinfBox
 with_dref (Some dref) = done (record { dref = dref })
-with_dref None = faults NotFound
+with_dref None = faults (NotFound names.DrefBox)
 
 -- each begins before the end and has 8 bytes at least, so that the size bounds their number
 unfoldable pub reads_dinf : List ℕ → ℕ → ℕ → Reading DinfBox
 reads_dinf bytes start size = do
-  dref ← children reads_dref codes.DREF bytes start size size 8
+  dref ← children format_dref.reads codes.DREF bytes start size size 8
   with_dref dref
 
 abbrev pub size_dinf : DinfBox → ℕ
-size_dinf v = 8 + size_dref v.dref
+size_dinf v = 8 + format_dref.size v.dref
 
 abbrev pub fields_dinf : DinfBox → List (ℕ × ℕ)
 fields_dinf v = (4, size_dinf v) ∷ (4, codes.DINF) ∷ []
@@ -30,13 +30,13 @@ fields_dinf v = (4, size_dinf v) ∷ (4, codes.DINF) ∷ []
 -- the size fits its bytes, and the references can be written
 pub record WritableDinf (v : DinfBox) : Type 0 where
   pub fit : FieldsFit (fields_dinf v)
-  pub dref : WritableDref v.dref
+  pub dref : format_dref.Writable v.dref
 
 unfoldable pub bytes_dinf : DinfBox → List ℕ
-bytes_dinf v = bytes_of_fields (fields_dinf v) ++ bytes_dref v.dref
+bytes_dinf v = bytes_of_fields (fields_dinf v) ++ format_dref.bytes v.dref
 
 abbrev pub normal_dinf : DinfBox → DinfBox
-normal_dinf v = record { dref = normal_dref v.dref }
+normal_dinf v = record { dref = format_dref.normal v.dref }
 
 abbrev pub format_dinf : Format DinfBox
 format_dinf = record { name = names.DinfBox; reads = reads_dinf; size = size_dinf; Writable = WritableDinf; bytes = bytes_dinf; normal = normal_dinf }

@@ -11,7 +11,7 @@ use Rattle.mp4_frame.proofs.Checks.{expect_bytes_ok, is_value}
 use Rattle.mp4_frame.proofs.Tables.{value_first}
 use Rattle.mp4_frame.proofs.ChildLaws as child
 use Rattle.mp4_frame.specs.OptionalChild.{count_optional, size_optional, bytes_optional, normal_optional}
-use Rattle.mp4_text.specs.Url.{reads_url, size_url, bytes_url, normal_url}
+use Rattle.mp4_text.specs.Url.{format_url}
 use Rattle.mp4_text.specs.UrlLaws.{laws_url}
 use Rattle.mp4_text.specs.Dref.{value_dref, reads_dref, size_dref, fields_dref, WritableDref, bytes_dref, normal_dref, format_dref}
 use Rattle.mp4_text.specs.declared.dref.DrefBox.{DrefBox}
@@ -32,30 +32,30 @@ pub laws_dref : IsBox format_dref
 unfolding bytes_dref reads_dref
 laws_dref = record {
   header = λ v w.
-      let entry = bytes_optional bytes_url v.url in
-      let long : length entry ≡ size_optional size_url v.url = child.optional_long laws_url v.url w.entry in
+      let entry = bytes_optional format_url v.url in
+      let long : length entry ≡ size_optional format_url v.url = child.optional_long laws_url v.url w.entry in
       header_in_front _ entry w.fit (omega (arith, long));
   normal_form = λ v w.
       let same = same_fields v w in
       record {
         writable = record { fit = subst FieldsFit (sym same) w.fit; entry = child.optional_writable laws_url v.url w.entry };
         again = ap (λ (url : Option UrlBox). record v { url = url }) (child.optional_again laws_url v.url w.entry);
-        same_bytes = ap (λ (cs : List (ℕ × ℕ)). bytes_of_fields cs ++ bytes_optional bytes_url (normal_optional normal_url v.url)) same ∙ ap (λ (xs : List ℕ). bytes_of_fields (fields_dref v) ++ xs) (child.optional_bytes laws_url v.url w.entry);
+        same_bytes = ap (λ (cs : List (ℕ × ℕ)). bytes_of_fields cs ++ bytes_optional format_url (normal_optional format_url v.url)) same ∙ ap (λ (xs : List ℕ). bytes_of_fields (fields_dref v) ++ xs) (child.optional_bytes laws_url v.url w.entry);
       };
   read_back = λ v w rest start top.
       let cs = fields_dref v in
-      let entry = bytes_optional bytes_url v.url in
+      let entry = bytes_optional format_url v.url in
       let B = bytes_of_fields cs ++ (entry ++ rest) in
       let numbers : number B ≡ found cs (entry ++ rest) = numbers-fields cs (entry ++ rest) w.fit in
       let count : number B 12 4 ≡ count_optional v.url = ap (λ (at : ℕ → ℕ → ℕ). at 12 4) numbers in
-      let chain = λ (n : ℕ). children reads_url codes.URL B start (size_dref v) n 16 in
+      let chain = λ (n : ℕ). children format_url.reads codes.URL B start (size_dref v) n 16 in
       let back = child.optional_back laws_url cs 16 (length-fields cs) v.url rest start w.entry top in
-      let there : (chain (number B 12 4)).outcome ≡ Ok (normal_optional normal_url v.url) = ap (λ (n : ℕ). (chain n).outcome) count ∙ back in
+      let there : (chain (number B 12 4)).outcome ≡ Ok (normal_optional format_url v.url) = ap (λ (n : ℕ). (chain n).outcome) count ∙ back in
       ap (λ (l : List ℕ). (reads_dref l start (size_dref v)).outcome) (append_assoc (bytes_of_fields cs) entry rest)
       ∙ outcome_bind (expect_bytes B 8 8) (λ _. chain (number B 12 4) >>= λ url. done (value_dref (number B) url)) tt _ (ap (λ (r : Reading (Unit {0})). r.outcome) (expect_bytes-fields cs (entry ++ rest) 8 8 (lit≤ tt)))
-      (outcome_bind (chain (number B 12 4)) (λ url. done (value_dref (number B) url)) (normal_optional normal_url v.url) _ there (ap (λ (n : ℕ → ℕ → ℕ). Ok (value_dref n (normal_optional normal_url v.url))) numbers));
+      (outcome_bind (chain (number B 12 4)) (λ url. done (value_dref (number B) url)) (normal_optional format_url v.url) _ there (ap (λ (n : ℕ → ℕ → ℕ). Ok (value_dref n (normal_optional format_url v.url))) numbers));
   sound = λ bytes start long v are e.
-      let chain = children reads_url codes.URL bytes start long (number bytes 12 4) 16 in
+      let chain = children format_url.reads codes.URL bytes start long (number bytes 12 4) 16 in
       let last = λ (url : Option UrlBox). done (value_dref (number bytes) url) in
       let p = value_first chain last v (expect_bytes_ok bytes 8 8 (λ _. chain >>= last) v e) in
       let entry = child.optional_sound laws_url codes.URL bytes start long (number bytes 12 4) 16 p.0 are p.1 in

@@ -5,6 +5,7 @@ use Rattle.std.specs.List.{flat_map}
 use Rattle.std.proofs.lemmas.Bool.{le-leb, eq-eqb}
 use Rattle.std.proofs.lemmas.List.Elements.{All-from_recursion, recursion_from_All}
 use Rattle.mp4_frame.specs.Format.{IsBox}
+use Rattle.mp4_frame.specs.Laws.{AreBytes}
 use Rattle.mp4_frame.specs.Bytes.{number, bytes_of_fields}
 use Rattle.mp4_frame.specs.FourCC.{IsFourCC}
 use Rattle.mp4_frame.specs.Reading.{◌>>=◌, expect_bytes, memory, done}
@@ -40,6 +41,21 @@ count_size n = omega arith
 brand_is : (row : List ℕ) → IsRow 4 row → IsFourCC (brand_of row)
 brand_is row is = record { long = is.long; are = is.are }
 
+writable : (bytes : List ℕ) (start long : ℕ) (v : FtypBox) → AreBytes bytes → (reads_ftyp bytes start long).outcome ≡ Ok v → size_ftyp v < 2 ^ 32 → WritableFtyp v
+unfolding reads_ftyp
+writable bytes start long v are read small =
+    let n = (long - 16) / 4 in
+    let last = λ (rows : List (List ℕ)). memory >>= λ _. done (value_ftyp (number bytes) (map brand_of rows)) in
+    let a = check_ok (nat_le 16 long && (long % 4 == 0)) (λ _. expect_bytes bytes 8 8 >>= λ _. rows_at bytes 16 4 n >>= last) v read in
+    let b = expect_bytes_ok bytes 8 8 (λ _. rows_at bytes 16 4 n >>= last) v a.1 in
+    let c = value_first (rows_at bytes 16 4 n) last v b in
+    let found = rows_read bytes 16 4 n c.0 (lit< tt) are c.1 in
+    let made : FtypBox = value_ftyp (number bytes) (map brand_of c.0) in
+    let is : made ≡ v = is_value made v c.2 in
+    let major = four_cc_is (number bytes 8 4) in
+    let can : size_ftyp made < 2 ^ 32 → WritableFtyp made = λ s. record { fit = (s, (lit< tt, (small_code made.major_brand major, (number-below bytes 12 4 are, tt)))); major = major; each = All-from_recursion IsFourCC (map brand_of c.0) (map_all 4 brand_of IsFourCC brand_is c.0 found.0) } in
+    subst (λ (w : FtypBox). size_ftyp w < 2 ^ 32 → WritableFtyp w) is can small
+
 pub laws_ftyp : IsBox format_ftyp
 unfolding bytes_ftyp reads_ftyp
 laws_ftyp = record {
@@ -58,19 +74,5 @@ laws_ftyp = record {
       let whole : (reads_ftyp B start size).outcome ≡ Ok v =
       rw (aligned, present, count, rows, numbers-fields cs (brands ++ rest) w.fit, same_brands v.compatible_brands) (ap (λ (c : FourCC). Ok (record v { major_brand = c })) (four_cc_back v.major_brand w.major)) in
       ap (λ (bytes : List ℕ). (reads_ftyp bytes start size).outcome) (append_assoc (bytes_of_fields cs) brands rest) ∙ whole;
-  sound = λ bytes start long v are read. (refl, by)
-    where
-      by : size_ftyp v < 2 ^ 32 → WritableFtyp v
-      by small =
-          let n = (long - 16) / 4 in
-          let last = λ (rows : List (List ℕ)). memory >>= λ _. done (value_ftyp (number bytes) (map brand_of rows)) in
-          let a = check_ok (nat_le 16 long && (long % 4 == 0)) (λ _. expect_bytes bytes 8 8 >>= λ _. rows_at bytes 16 4 n >>= last) v read in
-          let b = expect_bytes_ok bytes 8 8 (λ _. rows_at bytes 16 4 n >>= last) v a.1 in
-          let c = value_first (rows_at bytes 16 4 n) last v b in
-          let found = rows_read bytes 16 4 n c.0 (lit< tt) are c.1 in
-          let made : FtypBox = value_ftyp (number bytes) (map brand_of c.0) in
-          let is : made ≡ v = is_value made v c.2 in
-          let major = four_cc_is (number bytes 8 4) in
-          let can : size_ftyp made < 2 ^ 32 → WritableFtyp made = λ s. record { fit = (s, (lit< tt, (small_code made.major_brand major, (number-below bytes 12 4 are, tt)))); major = major; each = All-from_recursion IsFourCC (map brand_of c.0) (map_all 4 brand_of IsFourCC brand_is c.0 found.0) } in
-          subst (λ (w : FtypBox). size_ftyp w < 2 ^ 32 → WritableFtyp w) is can small;
+  sound = λ bytes start long v are read. (refl, writable bytes start long v are read);
 }

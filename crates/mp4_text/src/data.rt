@@ -7,7 +7,10 @@ ghost use Rattle.mp4_media.specs.declared.data_type.DataType.TheVariants as type
 ghost use Rattle.mp4_text.specs.Data.{size_data, format_data};
 ghost use Rattle.mp4_text.specs.DataLaws.{laws_data};
 
-use mp4_frame::{BoxLaws, BoxType, Entries, Error, Mp4Box, ReadBox, Result, WriteBox, expect_bytes, piece_at, put_bytes, put_u32, check, u32_at, codes, TryClone};
+use mp4_frame::{
+    BoxLaws, BoxType, Entries, Error, Mp4Box, ReadBox, Result, TryClone, WriteBox, check, codes,
+    expect_bytes, piece_at, put_bytes, put_u32, u32_at,
+};
 use mp4_media::DataType;
 use std::alloc::Global;
 

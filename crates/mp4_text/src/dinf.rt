@@ -6,7 +6,10 @@ ghost use Rattle.mp4_text.specs.Dinf.{size_dinf, format_dinf};
 ghost use Rattle.mp4_text.specs.DinfLaws.{laws_dinf};
 
 use crate::dref::DrefBox;
-use mp4_frame::{BoxLaws, BoxType, Error, Mp4Box, ReadBox, Result, WriteBox, last_child, put_child, put_u32, codes, TryClone};
+use mp4_frame::{
+    BoxLaws, BoxType, Error, Mp4Box, Parent, ReadBox, Result, TryClone, WriteBox, codes,
+    last_child, put_child, put_u32,
+};
 use std::alloc::Global;
 
 /// The box that holds the data references of a track (`dinf`, ISO/IEC 14496-12, 8.7.1). Boxes other than
@@ -78,16 +81,13 @@ impl ReadBox for DinfBox {
 
     #[tactic(auto, unfolding(crate::specs::Dinf::reads_dinf))]
     fn read_content(alloc: Global, bytes: &[u8], start: u64, size: u64) -> Result<DinfBox> {
-        let dref = last_child(
-            alloc,
+        let parent = Parent {
             bytes,
             start,
             size,
-            codes::DREF,
-            8,
-            size,
-            "dinf box contains a box with a larger size than it",
-        )?;
+            too_large: "dinf box contains a box with a larger size than it",
+        };
+        let dref = last_child(alloc, &parent, codes::DREF, 8, size)?;
         match dref {
             Some(dref) => Ok(DinfBox::new(dref)),
             None => Err(Error::BoxNotFound(BoxType::DrefBox)),

@@ -6,7 +6,10 @@ ghost use Rattle.mp4_text.specs.Dref.{size_dref, format_dref};
 ghost use Rattle.mp4_text.specs.DrefLaws.{laws_dref};
 
 use crate::url::UrlBox;
-use mp4_frame::{BoxLaws, BoxType, Error, Mp4Box, ReadBox, Result, WriteBox, expect_bytes, last_child, put_full_box, put_child, put_u32, u8_at, u24_at, u32_at, codes, TryClone};
+use mp4_frame::{
+    BoxLaws, BoxType, Error, Mp4Box, Parent, ReadBox, Result, TryClone, WriteBox, codes,
+    expect_bytes, last_child, put_child, put_full_box, put_u32, u8_at, u24_at, u32_at,
+};
 use std::alloc::Global;
 
 /// Where the media data of a track stands (`dref`, ISO/IEC 14496-12, 8.7.2). Entries other than `url ` are
@@ -86,16 +89,13 @@ impl ReadBox for DrefBox {
     fn read_content(alloc: Global, bytes: &[u8], start: u64, size: u64) -> Result<DrefBox> {
         expect_bytes(bytes, 8, 8)?;
         let count = u64::from(u32_at(bytes, 12));
-        let url = last_child(
-            alloc,
+        let parent = Parent {
             bytes,
             start,
             size,
-            codes::URL,
-            16,
-            count,
-            "dinf box contains a box with a larger size than it",
-        )?;
+            too_large: "dinf box contains a box with a larger size than it",
+        };
+        let url = last_child(alloc, &parent, codes::URL, 16, count)?;
         Ok(DrefBox {
             version: u8_at(bytes, 8),
             flags: u24_at(bytes, 9),

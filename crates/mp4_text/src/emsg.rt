@@ -8,7 +8,11 @@ ghost use Rattle.mp4_text.specs.Emsg.{message_from, reads_emsg_0, reads_emsg_1, 
 ghost use Rattle.mp4_text.specs.EmsgLaws.{laws_emsg};
 
 use crate::terminated::{is_terminable, put_terminated, two_texts_at};
-use mp4_frame::{BoxLaws, BoxType, Entries, Error, Mp4Box, ReadBox, Result, Text, WriteBox, bytes_from, expect_bytes, piece_at, put_bytes, put_full_box, put_u32, put_u64, check, u8_at, u24_at, u32_at, u64_at, codes, TryClone};
+use mp4_frame::{
+    BoxLaws, BoxType, Entries, Error, Mp4Box, ReadBox, Result, Text, TryClone, WriteBox,
+    bytes_from, check, codes, expect_bytes, piece_at, put_bytes, put_full_box, put_u32, put_u64,
+    u8_at, u24_at, u32_at, u64_at,
+};
 use std::alloc::Global;
 
 /// An event message (`emsg`, ISO/IEC 23009-1, 5.10.3.3).
@@ -109,7 +113,7 @@ fn read_version_0(alloc: Global, bytes: &[u8], size: u64) -> Result<EmsgBox>
     ensures { Answers result (reads_emsg_0 bytes.now size) }
 {
     let (scheme_id_uri, value) = two_texts_at(alloc, bytes, 12)?;
-    let at = scheme_id_uri.len() + value.len() + 14;
+    let at = 12 + scheme_id_uri.len() + value.len() + 2;
     expect_bytes(bytes, at, 16)?;
     let message_data = message_at(alloc, bytes, size, at + 16)?;
     let numbers = bytes_from(bytes, at as u64);
@@ -135,7 +139,7 @@ fn read_version_1(alloc: Global, bytes: &[u8], size: u64) -> Result<EmsgBox>
 {
     expect_bytes(bytes, 12, 20)?;
     let (scheme_id_uri, value) = two_texts_at(alloc, bytes, 32)?;
-    let at = scheme_id_uri.len() + value.len() + 34;
+    let at = 32 + scheme_id_uri.len() + value.len() + 2;
     let message_data = message_at(alloc, bytes, size, at)?;
     let numbers = bytes_from(bytes, 12);
     Ok(EmsgBox {
@@ -256,24 +260,10 @@ impl EmsgBox {
         if self.version == 0 {
             let delta = self.presentation_time_delta.unwrap_or(0);
             let at = self.put_texts(out, at);
-            return put_numbers_0(
-                out,
-                at,
-                self.timescale,
-                delta,
-                self.event_duration,
-                self.id,
-            );
+            return put_numbers_0(out, at, self.timescale, delta, self.event_duration, self.id);
         }
         let time = self.presentation_time.unwrap_or(0);
-        let at = put_numbers_1(
-            out,
-            at,
-            self.timescale,
-            time,
-            self.event_duration,
-            self.id,
-        );
+        let at = put_numbers_1(out, at, self.timescale, time, self.event_duration, self.id);
         self.put_texts(out, at)
     }
 }

@@ -5,7 +5,10 @@ ghost use Rattle.mp4_frame.specs.declared.box_type.BoxType.TheVariants as names;
 ghost use Rattle.mp4_text.specs.Ftyp.{brand_of, size_ftyp, WritableFtyp, format_ftyp};
 ghost use Rattle.mp4_text.specs.FtypLaws.{laws_ftyp};
 
-use mp4_frame::{BoxLaws, BoxType, ByteCursor, Entries, Error, FourCC, Mp4Box, ReadBox, Result, WriteBox, all_fit, expect_bytes, is_four_cc, put_entries, put_u32, check, u32_at, codes, TryClone};
+use mp4_frame::{
+    BoxLaws, BoxType, ByteCursor, Entries, Error, FourCC, Mp4Box, ReadBox, Result, TryClone,
+    WriteBox, all_fit, check, codes, expect_bytes, is_four_cc, put_entries, put_u32, u32_at,
+};
 use std::alloc::Global;
 
 /// Which specifications a file follows (`ftyp`, ISO/IEC 14496-12, 4.3).

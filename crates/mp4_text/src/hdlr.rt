@@ -6,7 +6,11 @@ ghost use Rattle.mp4_text.specs.Hdlr.{size_hdlr, WritableHdlr, format_hdlr};
 ghost use Rattle.mp4_text.specs.HdlrLaws.{laws_hdlr};
 
 use crate::terminated::put_terminated;
-use mp4_frame::{BoxLaws, BoxType, Error, FourCC, Mp4Box, ReadBox, Result, Text, WriteBox, expect_bytes, is_four_cc, piece_at, put_full_box, put_u32, put_zeros, check, u8_at, u24_at, u32_at, codes, TryClone};
+use mp4_frame::{
+    BoxLaws, BoxType, Error, FourCC, Mp4Box, ReadBox, Result, Text, TryClone, WriteBox, check,
+    codes, expect_bytes, is_four_cc, piece_at, put_full_box, put_u32, put_zeros, u8_at, u24_at,
+    u32_at,
+};
 use std::alloc::Global;
 
 /// What a track or metadata is for (`hdlr`, ISO/IEC 14496-12, 8.4.3).

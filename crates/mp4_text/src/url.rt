@@ -6,7 +6,10 @@ ghost use Rattle.mp4_text.specs.Url.{size_url, bytes_location, format_url};
 ghost use Rattle.mp4_text.specs.UrlLaws.{laws_url};
 
 use crate::terminated::put_terminated;
-use mp4_frame::{BoxLaws, BoxType, Error, Mp4Box, ReadBox, Result, Text, WriteBox, expect_bytes, piece_at, put_full_box, u8_at, u24_at, codes, TryClone};
+use mp4_frame::{
+    BoxLaws, BoxType, Error, Mp4Box, ReadBox, Result, Text, TryClone, WriteBox, codes,
+    expect_bytes, piece_at, put_full_box, u8_at, u24_at,
+};
 use std::alloc::Global;
 
 /// Where media data stands, by a URL (`url `, ISO/IEC 14496-12, 8.7.2).

@@ -14,6 +14,6 @@ loop-i-preserved g c =
     let flags = ap width c.requires.lists.flags_set in
     let cts = ap width c.requires.lists.cts_set in
     record {
-      place = omega (arith, c.put_number-size_at.ensures.next, c.put_number-flags_at.ensures.next, c.put_number-cts_at.ensures.next, c.put_number-next.ensures.next, c.loop-i.invariant.place, durations, sizes, flags, cts, one_more (row_length v.flags) i);
-      written = c.put_number-next.ensures.put ∙ (rw (c.put_number-cts_at.ensures.put, c.put_number-flags_at.ensures.put, c.put_number-size_at.ensures.put, c.loop-i.invariant.written, c.as_slice-durations.ensures, c.as_slice-sizes.ensures, c.as_slice-flags.ensures, c.as_slice-cts.ensures) (row_put v i (take c.args.at c.args.place.now)));
+      out = omega (arith, c.put_number-size_at.ensures.next, c.put_number-flags_at.ensures.next, c.put_number-cts_at.ensures.next, c.put_number-next.ensures.next, c.loop-i.invariant.out, durations, sizes, flags, cts, one_more (row_length v.flags) i);
+      written = c.put_number-next.ensures.put ∙ (rw (c.put_number-cts_at.ensures.put, c.put_number-flags_at.ensures.put, c.put_number-size_at.ensures.put, c.loop-i.invariant.written, c.as_slice-durations.ensures, c.as_slice-sizes.ensures, c.as_slice-flags.ensures, c.as_slice-cts.ensures) (row_put v i (take c.args.at c.args.out.now)));
     }

@@ -5,6 +5,6 @@ use Rattle.mp4_tables.proofs.trun_rows.put_rows_of.Given as goal
 
 abbrev pub invariant-loop-i : goal.invariant-loop-i
 invariant-loop-i g l = record {
-  place : l.next ≡ l.at + row_length l.trun.flags * l.i;
-  written : take l.next l.place ≡ take l.at l.initial.place ++ rows_trun l.trun l.i;
+  out : l.next ≡ l.at + row_length l.trun.flags * l.i;
+  written : take l.next l.out ≡ take l.at l.initial.out ++ rows_trun l.trun l.i;
 }
