@@ -1,14 +1,15 @@
-//! The vectors: a box of each type, and the bytes that it is written in. Values and bytes come from the tests
-//! of the Rust crate and from the standard, none from this codec's output.
+//! The vectors: a box of each type, and the bytes that it is written in. Values and bytes come from the tests of the
+//! Rust crate `mp4` and from the standard, and none from what this codec writes.
 
 mod flat;
 mod tables;
 mod text;
 
+use crate::boxes;
 use mp4_stream::{AnyBox, Result};
 use std::alloc::Global;
 
-/// Which box.
+/// The type of a vector.
 #[derive(Clone, Copy, Debug, PartialEq, Eq)]
 pub enum Vector {
     Ftyp,
@@ -73,32 +74,32 @@ impl Vector {
     /// The bytes that the box is written in.
     pub fn bytes(self) -> &'static [u8] {
         match self {
-            Vector::Ftyp => &text::FTYP,
-            Vector::Mvhd => &flat::MVHD,
-            Vector::Tkhd => &flat::TKHD,
-            Vector::Mdhd => &flat::MDHD,
-            Vector::Mehd => &flat::MEHD,
-            Vector::Mfhd => &flat::MFHD,
-            Vector::Smhd => &flat::SMHD,
-            Vector::Vmhd => &flat::VMHD,
-            Vector::Trex => &flat::TREX,
-            Vector::Tfdt => &flat::TFDT,
-            Vector::Stco => &tables::STCO,
-            Vector::Co64 => &tables::CO64,
-            Vector::Stts => &tables::STTS,
-            Vector::Ctts => &tables::CTTS,
-            Vector::Stss => &tables::STSS,
-            Vector::Stsz => &tables::STSZ,
-            Vector::Stsc => &tables::STSC,
-            Vector::Elst => &tables::ELST,
-            Vector::Tfhd => &tables::TFHD,
-            Vector::Trun => &tables::TRUN,
-            Vector::Hdlr => &text::HDLR,
-            Vector::Data => &text::DATA,
-            Vector::Emsg => &text::EMSG,
-            Vector::Url => &text::URL,
-            Vector::Dref => &text::DREF,
-            Vector::Dinf => &text::DINF,
+            Vector::Ftyp => &boxes::text::FTYP,
+            Vector::Mvhd => &boxes::flat::MVHD,
+            Vector::Tkhd => &boxes::flat::TKHD,
+            Vector::Mdhd => &boxes::flat::MDHD,
+            Vector::Mehd => &boxes::flat::MEHD,
+            Vector::Mfhd => &boxes::flat::MFHD,
+            Vector::Smhd => &boxes::flat::SMHD,
+            Vector::Vmhd => &boxes::flat::VMHD,
+            Vector::Trex => &boxes::flat::TREX,
+            Vector::Tfdt => &boxes::flat::TFDT,
+            Vector::Stco => &boxes::tables::STCO,
+            Vector::Co64 => &boxes::tables::CO64,
+            Vector::Stts => &boxes::tables::STTS,
+            Vector::Ctts => &boxes::tables::CTTS,
+            Vector::Stss => &boxes::tables::STSS,
+            Vector::Stsz => &boxes::tables::STSZ,
+            Vector::Stsc => &boxes::tables::STSC,
+            Vector::Elst => &boxes::tables::ELST,
+            Vector::Tfhd => &boxes::tables::TFHD,
+            Vector::Trun => &boxes::tables::TRUN,
+            Vector::Hdlr => &boxes::text::HDLR,
+            Vector::Data => &boxes::text::DATA,
+            Vector::Emsg => &boxes::text::EMSG,
+            Vector::Url => &boxes::text::URL,
+            Vector::Dref => &boxes::text::DREF,
+            Vector::Dinf => &boxes::text::DINF,
         }
     }
 
