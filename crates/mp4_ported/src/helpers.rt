@@ -44,13 +44,25 @@ pub enum Mismatch {
         size: u64,
     },
     /// The cursor is at another position.
-    Position { found: u64, wanted: u64 },
+    Position {
+        found: u64,
+        wanted: u64,
+    },
     /// A box has another size, or is written in another number of bytes.
-    Length { found: u64, wanted: u64 },
+    Length {
+        found: u64,
+        wanted: u64,
+    },
     /// The header of a box has another name.
-    Name { found: BoxType, wanted: BoxType },
+    Name {
+        found: BoxType,
+        wanted: BoxType,
+    },
     /// Another box is read from these many bytes, with this size.
-    OtherBox { bytes: usize, size: u64 },
+    OtherBox {
+        bytes: usize,
+        size: u64,
+    },
     /// Other bytes are written.
     OtherBytes,
 }
@@ -173,7 +185,11 @@ pub fn round_trip<B: BoxLaws + PartialEq + Drop>(
 /// A box of this size can't be written, and the vector that it was to be appended to is as before.
 pub fn refused<B: WriteBox>(alloc: Global, value: &B) -> Result<(), Mismatch> {
     let mut out = Vec::from_slice(alloc, &[7])?;
-    ends(kind_of(&value.write_box(&mut out)), Kind::Invalid, value.box_size())?;
+    ends(
+        kind_of(&value.write_box(&mut out)),
+        Kind::Invalid,
+        value.box_size(),
+    )?;
     if out.as_slice() == [7].as_slice() {
         Ok(())
     } else {

@@ -1,28 +1,10 @@
-//! Texts, and bytes that are none.
+//! Texts in boxes, and bytes that are no text.
 
-use super::{EMSG_0, HDLR, URL_A, kind, read, round_trip, text};
-use crate::{EmsgBox, HdlrBox, UrlBox};
-use mp4_frame::{Error, Text};
+use mp4_ported::boxes::text::{EMSG, HDLR, URL};
+use mp4_ported::helpers::{Kind, kind_of, read, resized, round_trip};
+use mp4_stream::{EmsgBox, Error, HdlrBox, Text, UrlBox, WriteBox};
 use std::alloc::Global;
 use std::test::Fail;
-
-#[test]
-fn texts(rt: HostRuntime) -> Result<(), Fail> {
-    let foo = text(rt.alloc(), "foo")?;
-    assert_eq!(rt;
-        (foo.as_str(), foo.as_bytes(), foo.len()),
-        ("foo", b"foo".as_slice(), 3)
-    );
-    assert!(rt; !foo.is_empty() && foo.is_utf8() && Text::new(rt.alloc()).is_empty());
-    assert!(rt; foo.try_clone()? == foo && foo != Text::new(rt.alloc()));
-    assert!(rt; Text::from(String::from_str(rt.alloc(), "foo")?) == foo);
-    assert_eq!(rt; format!(in rt.alloc(); "{foo:?}")?.as_str(), "\"foo\"");
-    assert_eq!(rt; foo.into_string().as_str(), "foo");
-    let kept = Text::from_utf8_or(rt.alloc(), b"foo", "null")?;
-    let replaced = Text::from_utf8_or(rt.alloc(), b"f\xff", "null")?;
-    assert_eq!(rt; (kept.as_str(), replaced.as_str()), ("foo", "null"));
-    Ok(())
-}
 
 /// Characters of one to four bytes, the first and the last of each length, and those beside the surrogates.
 const CHARACTERS: [&[u8]; 11] = [
@@ -39,8 +21,8 @@ const CHARACTERS: [&[u8]; 11] = [
     b"\xc3\xa9\xe2\x82\xac\xf0\x90\x8d\x88",
 ];
 
-/// Bytes that are no UTF-8: continuations alone, overlong forms, surrogates, numbers past U+10FFFF, bytes that never
-/// stand in UTF-8, and sequences that are cut, by the end or by a letter.
+/// Bytes that are no UTF-8: continuations alone, overlong forms, surrogates, numbers past U+10FFFF, bytes that UTF-8
+/// never has, and sequences that are cut, by the end or by a letter.
 const ILL_FORMED: [&[u8]; 18] = [
     b"\x80",
     b"\xbf",
@@ -72,7 +54,7 @@ fn name_of(alloc: Global, name: &[u8]) -> Result<Text, Error> {
 
 /// The location of a url with these bytes in its place.
 fn location_of(alloc: Global, location: &[u8]) -> Result<Text, Error> {
-    let mut bytes = Vec::from_slice(alloc, &URL_A[..12])?;
+    let mut bytes = Vec::from_slice(alloc, &URL[..12])?;
     bytes.extend_from_slice(location)?;
     let (url, _) = read::<UrlBox>(alloc, &bytes, location.len() as u64 + 13);
     Ok(url?.location)
@@ -80,7 +62,7 @@ fn location_of(alloc: Global, location: &[u8]) -> Result<Text, Error> {
 
 /// An emsg with these bytes in the places of its two texts.
 fn message_of(alloc: Global, scheme: &[u8], value: &[u8]) -> Result<EmsgBox, Error> {
-    let mut bytes = Vec::from_slice(alloc, &EMSG_0[..12])?;
+    let mut bytes = Vec::from_slice(alloc, &EMSG[..12])?;
     bytes.extend_from_slice(scheme)?;
     bytes.push(0)?;
     bytes.extend_from_slice(value)?;
@@ -110,9 +92,9 @@ fn ill_formed_bytes_are_no_text(rt: HostRuntime) -> Result<(), Fail> {
         assert_eq!(rt; name_of(rt.alloc(), bytes)?.as_str(), "null", "{bytes:?}");
         assert!(rt; location_of(rt.alloc(), bytes)?.is_empty(), "{bytes:?}");
         let scheme = message_of(rt.alloc(), bytes, b"b");
-        assert_eq!(rt; kind(scheme), "invalid", "{bytes:?}");
+        assert_eq!(rt; kind_of(&scheme), Kind::Invalid, "{bytes:?}");
         let value = message_of(rt.alloc(), b"b", bytes);
-        assert_eq!(rt; kind(value), "invalid", "{bytes:?}");
+        assert_eq!(rt; kind_of(&value), Kind::Invalid, "{bytes:?}");
     }
     Ok(())
 }
@@ -123,5 +105,26 @@ fn texts_are_written_as_they_are_read(rt: HostRuntime) -> Result<(), Fail> {
     let (url, _) = read::<UrlBox>(rt.alloc(), &bytes, 22);
     let url = url?;
     assert_eq!(rt; url.location.as_str(), "\u{e9}\u{20ac}\u{10348}");
-    round_trip(&rt, &url, &bytes)
+    round_trip(rt.alloc(), &url, &bytes)?;
+    Ok(())
+}
+
+#[test]
+fn name_that_is_no_text(rt: HostRuntime) -> Result<(), Fail> {
+    let mut bytes = [0; 34];
+    bytes[32] = 0xff;
+    let (read, _) = read::<HdlrBox>(rt.alloc(), &bytes, 34);
+    let read = read?;
+    assert_eq!(rt; read.name.as_str(), "null");
+    let mut out = Vec::new(rt.alloc());
+    assert_eq!(rt; read.write_box(&mut out)?, 37);
+    assert_eq!(rt; &out[32..], b"null\0".as_slice());
+    Ok(())
+}
+
+#[test]
+fn location_that_is_no_text(rt: HostRuntime) -> Result<(), Fail> {
+    let no_text = b"\0\0\0\x0eurl \0\0\0\x01\xff\0";
+    resized(rt.alloc(), &UrlBox::default_in(rt.alloc()), no_text, 14)?;
+    Ok(())
 }
