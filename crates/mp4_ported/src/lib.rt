@@ -1,4 +1,4 @@
-//! What the tests of the codec stand on: worked boxes with their bytes, one vector of each type, and helpers that check
+//! What the tests of the codec share: worked boxes with their bytes, one vector of each type, and helpers that check
 //! a box. The tests of this crate are the cases of the Rust crate `mp4`.
 #![tactic(auto)]
 

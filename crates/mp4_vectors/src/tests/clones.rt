@@ -68,11 +68,9 @@ fn clones_of_references(rt: HostRuntime) -> Result<(), Fail> {
 fn clones_of_what_was_read(rt: HostRuntime) -> Result<(), Fail> {
     let (ftyp, _) = read::<FtypBox>(rt.alloc(), &FTYP_OF_TWO, 24);
     let ftyp = ftyp?;
-    assert_eq!(rt; (ftyp.get_type(), ftyp.get_size()), (BoxType::FtypBox, 24));
     assert!(rt; ftyp.try_clone()? == ftyp);
     let (stco, _) = read::<StcoBox>(rt.alloc(), &STCO_OF_ONE, 20);
     let stco = stco?;
-    assert_eq!(rt; (stco.get_type(), stco.get_size()), (BoxType::StcoBox, 20));
     assert!(rt; stco.try_clone()? == stco);
     Ok(())
 }

@@ -11,7 +11,7 @@ use mp4_ported::boxes::text::{
     DINF_URL, DREF_URL, EMSG, URL, dinf_url, dref_of, dref_url, emsg, url,
 };
 use mp4_ported::helpers::{read, resized, round_trip, written};
-use mp4_stream::{FourCC, FtypBox, StcoBox, TrunBox, UrlBox, WriteBox};
+use mp4_stream::{BoxType, FourCC, FtypBox, StcoBox, TrunBox, UrlBox, WriteBox};
 use std::test::Fail;
 
 pub const FTYP_OF_TWO: [u8; 24] = *b"\0\0\0\x18ftypisom\0\0\x02\0isommp41";
@@ -27,6 +27,7 @@ fn ftyp_of_two_brands(rt: HostRuntime) -> Result<(), Fail> {
     assert_eq!(rt; read.minor_version, 512);
     let brands = [FourCC::from(*b"isom"), FourCC::from(*b"mp41")];
     assert_eq!(rt; read.compatible_brands.as_slice(), brands.as_slice());
+    assert_eq!(rt; (read.get_type(), read.get_size()), (BoxType::FtypBox, 24));
     assert!(rt; read.is_writable());
     let mut place = [0xff; 24];
     read.put_box(&mut place);
@@ -42,6 +43,7 @@ fn stco_of_one_chunk(rt: HostRuntime) -> Result<(), Fail> {
     assert_eq!(rt; position, 20);
     assert_eq!(rt; (read.version, read.flags), (1, 5));
     assert_eq!(rt; read.entries.as_slice(), [267].as_slice());
+    assert_eq!(rt; (read.get_type(), read.get_size()), (BoxType::StcoBox, 20));
     assert!(rt; read.is_writable());
     let mut place = [0xff; 20];
     read.put_box(&mut place);
