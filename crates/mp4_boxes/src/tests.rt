@@ -1,4 +1,4 @@
-//! Whole runs over readers and writers that fail, and the words and lines of the program.
+//! Tests of the program: whole runs over readers and writers that fail, and its words and lines.
 
 mod fakes;
 mod program;

@@ -9,8 +9,6 @@ mod mfhd;
 mod mvhd;
 mod rgb_color;
 mod smhd;
-#[cfg(test)]
-mod tests;
 mod tfdt;
 mod time;
 mod tkhd;

@@ -41,6 +41,3 @@ pub use sample_freq_index::SampleFreqIndex;
 pub use track_type::TrackType;
 pub use ttxt_config::TtxtConfig;
 pub use vp9_config::Vp9Config;
-
-#[cfg(test)]
-mod tests;

@@ -34,6 +34,3 @@ pub use stts::SttsBox;
 pub use stts_entry::SttsEntry;
 pub use tfhd::TfhdBox;
 pub use trun::TrunBox;
-
-#[cfg(test)]
-mod tests;

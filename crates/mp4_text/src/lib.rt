@@ -9,8 +9,6 @@ mod ftyp;
 mod hdlr;
 pub mod laws;
 mod terminated;
-#[cfg(test)]
-mod tests;
 mod url;
 
 pub use data::DataBox;

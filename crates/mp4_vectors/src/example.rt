@@ -1,9 +1,15 @@
-//! A caller of the codec.
+//! Callers of the codec, whose contracts are proved. The documents of the crates quote them.
 
 ghost use Rattle.std.specs.Prelude.{◌≡◌, ◌++◌, List, Ok, IfOk, OnErr};
 ghost use Rattle.mp4_frame.specs.Streams.{stream, boxes};
 ghost use Rattle.mp4_stream.specs.AnyBox.{bytes_any, known_any, reading_any};
 ghost use Rattle.mp4_stream.specs.declared.any_box.AnyBox.{AnyBox};
+
+pub mod audio;
+pub mod chunks;
+pub mod defaults;
+pub mod references;
+pub mod times;
 
 use mp4_stream::{ByteCursor, Result, read_boxes, write_boxes};
 use std::alloc::Global;

@@ -1,6 +1,6 @@
-//! What no clause of the codec says, shown by vectors from outside: the tests hold the worked bytes of each
-//! box, cuts, wrong sizes and refused memory. The program writes and reads every vector under an allocator
-//! that may refuse any one request, and ends with status 0 only if each refusal left everything as it was.
+//! What no contract of the codec says. The tests go through worked bytes, cuts, wrong sizes, printed texts and refused
+//! memory. The program writes and reads every vector under an allocator that may refuse any one request, and ends with
+//! status 0 only if each refusal left everything as it was.
 #![tactic(auto)]
 
 mod example;
@@ -8,13 +8,12 @@ mod mark;
 mod refused;
 #[cfg(test)]
 mod tests;
-mod vectors;
 
+use mp4_ported::vectors::VECTORS;
 use refused::{
     Wrong, clone_config, make_texts, shorten_offsets, write_and_read, write_and_read_marks,
 };
 use std::process::ExitCode;
-use vectors::VECTORS;
 
 fn main(rt: HostRuntime) -> ExitCode {
     for vector in VECTORS {

@@ -1,7 +1,7 @@
 //! Each vector is written and read where any one request for memory may be refused.
 
 use crate::mark::MarkBox;
-use crate::vectors::Vector;
+use mp4_ported::vectors::Vector;
 use mp4_stream::{
     AvcConfig, ByteCursor, Co64Box, Error, MdhdBox, MediaConfig, StcoBox, StreamBox, WriteBox,
     language_string, read_boxes_as, write_boxes,
@@ -9,12 +9,12 @@ use mp4_stream::{
 use std::alloc::Global;
 use std::slice;
 
-/// A call that was refused memory and is not to be refused twice, or one whose answer or whose traces are not
-/// those of the call with ample memory.
+/// A call failed though it was refused memory only once, or returned or left something else than the call with ample
+/// memory.
 #[derive(Debug, Drop)]
 pub struct Wrong;
 
-/// What a call answers that may be refused memory, once.
+/// What a call returns that may be refused memory once.
 macro_rules! again {
     ($call:expr) => {
         match $call {
@@ -24,7 +24,7 @@ macro_rules! again {
     };
 }
 
-/// Appends the bytes of the boxes, as a list or one by one, to what stands in `out`.
+/// Appends the bytes of the boxes to `out`, as a list or as a box alone.
 fn append<B: StreamBox>(boxes: &[B], out: &mut Vec<u8>, as_list: bool) -> mp4_stream::Result<u64> {
     match boxes {
         [only] if !as_list => only.write_box(out),
@@ -32,7 +32,7 @@ fn append<B: StreamBox>(boxes: &[B], out: &mut Vec<u8>, as_list: bool) -> mp4_st
     }
 }
 
-/// The bytes of the boxes behind a 7, which stands alone after each refusal.
+/// The bytes of the boxes after a 7. After a refusal the 7 is alone.
 fn written<B: StreamBox>(alloc: Global, boxes: &[B], as_list: bool) -> Result<Vec<u8>, Wrong> {
     let mut out = Vec::new(alloc);
     if out.push(7).is_err() && out.push(7).is_err() {
@@ -51,7 +51,8 @@ fn written<B: StreamBox>(alloc: Global, boxes: &[B], as_list: bool) -> Result<Ve
     }
 }
 
-/// The boxes behind the first byte. The cursor stands there after each refusal, and at the end after an Ok.
+/// The boxes after the first byte. After a refusal the position of the cursor is still 1, and after an Ok it is the
+/// end.
 fn read<B: StreamBox>(alloc: Global, bytes: &[u8]) -> Result<Vec<B>, Wrong> {
     let mut reader = ByteCursor::new(bytes);
     reader.set_position(1);

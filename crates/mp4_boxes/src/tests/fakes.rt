@@ -9,13 +9,13 @@ use std::io::{ErrorKind, Read, Write};
 pub struct Giver<'a> {
     rest: &'a [u8],
     most: usize,
-    fails_at: u64,
+    fails_at: Option<u64>,
     pub calls: u64,
 }
 
 impl<'a> Giver<'a> {
-    /// Gives at most `most` bytes a call. The call of the number `fails_at` fails, where 1 is the first.
-    pub fn new(rest: &'a [u8], most: usize, fails_at: u64) -> Self {
+    /// Gives at most `most` bytes a call. The call of the number `fails_at` fails, where 1 is the first, or none.
+    pub fn new(rest: &'a [u8], most: usize, fails_at: Option<u64>) -> Self {
         Giver {
             rest,
             most,
@@ -28,7 +28,7 @@ impl<'a> Giver<'a> {
 impl Read for Giver<'_> {
     fn read(&mut self, buf: &mut [u8]) -> io::Result<usize> {
         self.calls = self.calls.saturating_add(1);
-        if self.calls == self.fails_at {
+        if self.fails_at == Some(self.calls) {
             return Err(io::Error::from(ErrorKind::Interrupted));
         }
         let n = self.most.min(buf.len());
@@ -36,7 +36,7 @@ impl Read for Giver<'_> {
     }
 }
 
-/// A reader of zeros, as many as are left.
+/// A reader of zeros, which gives as many as are left.
 #[derive(Drop)]
 pub struct Zeros {
     pub left: usize,
@@ -65,15 +65,15 @@ pub enum Refusal {
 pub struct Taker {
     pub taken: Vec<u8>,
     most: usize,
-    fails_at: u64,
+    fails_at: Option<u64>,
     refusal: Refusal,
     pub calls: u64,
 }
 
 impl Taker {
-    /// Takes at most `most` bytes a call. The call of the number `fails_at` is refused, where 1 is the
-    /// first.
-    pub fn new(alloc: Global, most: usize, fails_at: u64, refusal: Refusal) -> Self {
+    /// Takes at most `most` bytes a call. The call of the number `fails_at` is refused, where 1 is the first, or
+    /// none.
+    pub fn new(alloc: Global, most: usize, fails_at: Option<u64>, refusal: Refusal) -> Self {
         Taker {
             taken: Vec::new(alloc),
             most,
@@ -87,7 +87,7 @@ impl Taker {
 impl Write for Taker {
     fn write(&mut self, buf: &[u8]) -> io::Result<usize> {
         self.calls = self.calls.saturating_add(1);
-        if self.calls == self.fails_at {
+        if self.fails_at == Some(self.calls) {
             return match self.refusal {
                 Refusal::Fails => Err(io::Error::from(ErrorKind::Interrupted)),
                 Refusal::TakesNone => Ok(0),
@@ -99,7 +99,7 @@ impl Write for Taker {
 
     fn flush(&mut self) -> io::Result<()> {
         self.calls = self.calls.saturating_add(1);
-        if self.calls == self.fails_at {
+        if self.fails_at == Some(self.calls) {
             return Err(io::Error::from(ErrorKind::Interrupted));
         }
         Ok(())

@@ -1,3 +1,5 @@
+//! The words that the program takes, and the lines and statuses that it ends with.
+
 use crate::command::{Command, argument_fault, judge};
 use crate::fault::RunFault;
 use crate::outcome::Outcome;

@@ -1,3 +1,5 @@
+//! Runs over readers and writers that fail or move few bytes a call.
+
 use super::fakes::{Giver, Refusal, Taker, Zeros};
 use super::{INPUT, OUTPUT};
 use crate::ends::{Input, Output};
@@ -22,8 +24,13 @@ fn each_call_fails_in_turn(rt: HostRuntime) {
     for refusal in [Refusal::Fails, Refusal::TakesNone] {
         for bad_read in 1..reads + 2 {
             for bad_write in 1..writes + 2 {
-                let mut input = Input::new(Giver::new(&INPUT, GIVEN, bad_read));
-                let mut output = Output::new(Taker::new(rt.alloc(), TAKEN, bad_write, refusal));
+                let mut input = Input::new(Giver::new(&INPUT, GIVEN, Some(bad_read)));
+                let mut output = Output::new(Taker::new(
+                    rt.alloc(),
+                    TAKEN,
+                    Some(bad_write),
+                    refusal,
+                ));
                 let answer = run_normal(rt.alloc(), &mut input, &mut output);
                 let case = (refusal, bad_read, bad_write);
                 let taken = output.inner.taken.as_slice();
@@ -64,8 +71,8 @@ fn each_call_fails_in_turn(rt: HostRuntime) {
 
 #[test]
 fn one_byte_a_call(rt: HostRuntime) {
-    let mut input = Input::new(Giver::new(&INPUT, 1, 0));
-    let mut output = Output::new(Taker::new(rt.alloc(), 1, 0, Refusal::Fails));
+    let mut input = Input::new(Giver::new(&INPUT, 1, None));
+    let mut output = Output::new(Taker::new(rt.alloc(), 1, None, Refusal::Fails));
     let answer = run_normal(rt.alloc(), &mut input, &mut output);
     assert!(rt; matches!(answer, Ok(n) if n == OUTPUT.len() as u64));
     assert!(rt; output.inner.taken.as_slice() == OUTPUT.as_slice());
@@ -74,7 +81,7 @@ fn one_byte_a_call(rt: HostRuntime) {
 
 #[test]
 fn one_call_of_an_end(rt: HostRuntime) {
-    let mut input = Input::new(Giver::new(&INPUT, 3, 2));
+    let mut input = Input::new(Giver::new(&INPUT, 3, Some(2)));
     let mut place = [0u8; 8];
     assert_eq!(rt; input.pull(&mut place), Some(3));
     assert!(rt; place == [0x00, 0x00, 0x00, 0, 0, 0, 0, 0]);
@@ -85,7 +92,7 @@ fn one_call_of_an_end(rt: HostRuntime) {
     assert!(rt; place == [0x18, 0x66, 0x74, 0, 0, 0, 0, 0]);
     assert!(rt; input.failed);
 
-    let mut output = Output::new(Taker::new(rt.alloc(), 3, 3, Refusal::TakesNone));
+    let mut output = Output::new(Taker::new(rt.alloc(), 3, Some(3), Refusal::TakesNone));
     assert_eq!(rt; output.push(b"isom"), Some(3));
     assert_eq!(rt; output.push(b""), Some(0));
     assert!(rt; !output.failed);
@@ -96,7 +103,7 @@ fn one_call_of_an_end(rt: HostRuntime) {
     assert!(rt; output.inner.taken.as_slice() == b"isomp".as_slice());
 }
 
-/// What a run over memory answers and writes.
+/// What a run over memory returns and writes.
 fn over_memory(
     rt: &(impl Abort + Alloc<A = Global>),
     bytes: &[u8],
@@ -137,7 +144,7 @@ fn runs_over_memory(rt: HostRuntime) {
 }
 
 #[test]
-fn an_endless_reader_is_want_of_memory(rt: HostRuntime) -> Result<(), Fail> {
+fn an_endless_reader_is_out_of_memory(rt: HostRuntime) -> Result<(), Fail> {
     let heap = LocalHeap::new(rt.alloc(), 1_000_000)?;
     let mut input = Input::new(std::io::repeat(0));
     let answer = read_all(&heap, &mut input);
@@ -181,7 +188,7 @@ fn each_growth_is_refused_in_turn(rt: HostRuntime) -> Result<(), Fail> {
 
 #[test]
 fn a_failed_flush_is_a_failed_write(rt: HostRuntime) {
-    let mut output = Output::new(Taker::new(rt.alloc(), TAKEN, 2, Refusal::Fails));
+    let mut output = Output::new(Taker::new(rt.alloc(), TAKEN, Some(2), Refusal::Fails));
     assert!(rt; finish(&mut output).is_ok());
     assert!(rt; !output.failed);
     assert!(rt; matches!(finish(&mut output), Err(RunFault::Write)));

@@ -1,27 +1,47 @@
 //! Refused memory where the allocator is the caller's.
 
-use super::kinds::{Kind, kind_of};
 use crate::mark::MarkBox;
-use crate::vectors::{VECTORS, Vector};
 use linked_list_allocator::LocalHeap;
+use mp4_ported::helpers::{Kind, kind_of};
+use mp4_ported::vectors::{VECTORS, Vector};
 use mp4_stream::{
     BoxHeader, BoxType, Error, WriteBox, write_box_header_ext, write_boxes, write_zeros,
 };
 use std::test::Fail;
 
-/// Appends by one of the calls that append.
+/// A call that appends.
+#[derive(Clone, Copy, Debug, PartialEq, Eq)]
+enum Call {
+    OneBox,
+    ListOfBoxes,
+    ShortHeader,
+    LongHeader,
+    VersionAndFlags,
+    Zeros,
+}
+
+const CALLS: [Call; 6] = [
+    Call::OneBox,
+    Call::ListOfBoxes,
+    Call::ShortHeader,
+    Call::LongHeader,
+    Call::VersionAndFlags,
+    Call::Zeros,
+];
+
+/// Appends by this call.
 fn append<'a>(
-    which: u8,
+    call: Call,
     original: &MarkBox,
     out: &mut Vec<u8, &'a LocalHeap>,
 ) -> Result<u64, Error> {
-    match which {
-        0 => original.write_box(out),
-        1 => write_boxes(&[MarkBox { mark: 1 }, MarkBox { mark: 2 }], out),
-        2 => BoxHeader::new(BoxType::FreeBox, 8).write(out),
-        3 => BoxHeader::new(BoxType::FreeBox, 1 << 40).write(out),
-        4 => write_box_header_ext(out, 0, 0),
-        _ => {
+    match call {
+        Call::OneBox => original.write_box(out),
+        Call::ListOfBoxes => write_boxes(&[MarkBox { mark: 1 }, MarkBox { mark: 2 }], out),
+        Call::ShortHeader => BoxHeader::new(BoxType::FreeBox, 8).write(out),
+        Call::LongHeader => BoxHeader::new(BoxType::FreeBox, 1 << 40).write(out),
+        Call::VersionAndFlags => write_box_header_ext(out, 0, 0),
+        Call::Zeros => {
             write_zeros(out, 100)?;
             Ok(100)
         }
@@ -30,23 +50,23 @@ fn append<'a>(
 
 #[test]
 fn a_refused_append_leaves_the_vector(rt: HostRuntime) -> Result<(), Fail> {
-    for which in 0..6 {
+    for call in CALLS {
         let heap = LocalHeap::new(rt.alloc(), 256)?;
         let mut out = Vec::from_slice(&heap, &[9])?;
         let mut refused = false;
         for _ in 0..100 {
             let before = out.len();
-            match append(which, &MarkBox { mark: 1 }, &mut out) {
-                Ok(_) => assert!(rt; out.len() > before, "{which}"),
+            match append(call, &MarkBox { mark: 1 }, &mut out) {
+                Ok(_) => assert!(rt; out.len() > before, "{call:?}"),
                 Err(Error::OutOfMemory) => {
                     refused = true;
-                    assert_eq!(rt; out.len(), before, "{which}");
+                    assert_eq!(rt; out.len(), before, "{call:?}");
                 }
-                Err(_) => assert!(rt; false, "{which}"),
+                Err(_) => assert!(rt; false, "{call:?}"),
             }
         }
-        assert!(rt; refused, "{which}");
-        assert_eq!(rt; out.first(), Some(&9), "{which}");
+        assert!(rt; refused, "{call:?}");
+        assert_eq!(rt; out.first(), Some(&9), "{call:?}");
     }
     Ok(())
 }
@@ -56,7 +76,7 @@ fn a_write_takes_one_block(rt: HostRuntime) -> Result<(), Fail> {
     for vector in VECTORS {
         let bytes = vector.bytes();
         let original = vector.make(rt.alloc())?;
-        // what a heap takes for itself and gives in one piece leaves no room to refuse a smaller box
+        // A heap keeps some bytes for itself and gives whole pieces, so that it can't refuse a smaller box.
         if bytes.len() > 32 {
             let small = LocalHeap::new(rt.alloc(), bytes.len() / 2)?;
             let mut out = Vec::new(&small);

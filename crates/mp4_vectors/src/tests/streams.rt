@@ -1,14 +1,34 @@
 //! Lists of boxes as whole streams.
 
-use super::kinds::{Kind, kind_of, rewritten, stream_kind};
+use crate::example::append_normal;
 use crate::mark::MarkBox;
-use crate::vectors::{VECTORS, Vector};
-use mp4_stream::{AnyBox, ByteCursor, Entries, StcoBox, read_boxes, read_boxes_as, write_boxes};
+use mp4_ported::helpers::{Kind, kind_of};
+use mp4_ported::vectors::{VECTORS, Vector};
+use mp4_stream::{
+    AnyBox, ByteCursor, Entries, Error, StcoBox, read_boxes, read_boxes_as, write_boxes,
+};
+use std::alloc::Global;
 use std::test::Fail;
 
 /// ftyp, a free box, and stco.
 const THREE: [u8; 52] =
     *b"\0\0\0\x18ftypisom\0\0\x02\0isommp41\0\0\0\x08free\0\0\0\x14stco\0\0\0\0\0\0\0\x01\0\0\x01\x0b";
+
+/// How reading the whole buffer ends, how many boxes it gives, and the position of the cursor after it.
+fn stream_kind(alloc: Global, bytes: &[u8]) -> (Kind, usize, u64) {
+    let mut reader = ByteCursor::new(bytes);
+    let answer = read_boxes(alloc, &mut reader);
+    let kind = kind_of(&answer);
+    let count = answer.map_or(0, |found| found.len());
+    (kind, count, reader.position())
+}
+
+/// The bytes that the boxes of a buffer are written in.
+fn rewritten(alloc: Global, bytes: &[u8]) -> Result<Vec<u8>, Error> {
+    let mut out = Vec::new(alloc);
+    append_normal(alloc, bytes, &mut out)?;
+    Ok(out)
+}
 
 #[test]
 fn known_boxes_are_kept(rt: HostRuntime) -> Result<(), Fail> {

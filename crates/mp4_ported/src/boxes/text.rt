@@ -1,0 +1,132 @@
+//! Boxes of texts, data and references, each beside the bytes that it is written in.
+
+use mp4_stream::{
+    DataBox, DataType, DinfBox, DrefBox, EmsgBox, Entries, FourCC, FtypBox, HdlrBox, Result, Text,
+    UrlBox,
+};
+use std::alloc::Global;
+
+pub const FTYP: [u8; 32] = *b"\0\0\0\x20ftypisom\0\0\0\0isomiso2avc1mp41";
+
+pub const HDLR: [u8; 45] =
+    *b"\0\0\0-hdlr\0\0\0\0\0\0\0\0vide\0\0\0\0\0\0\0\0\0\0\0\0VideoHandler\0";
+
+pub const DATA: [u8; 25] = *b"\0\0\0\x19data\0\0\0\x01\0\0\0\0test_data";
+
+pub const EMSG: [u8; 39] =
+    *b"\0\0\0'emsg\0\0\0\0foo\0foo\0\0\0\xbb\x80\0\0\0d\0\0\0\xc8\0\0\0\x08\x01\x02\x03";
+
+pub const URL: [u8; 14] = *b"\0\0\0\x0eurl \0\0\0\0a\0";
+
+pub const DREF: [u8; 28] = *b"\0\0\0\x1cdref\0\0\0\0\0\0\0\x01\0\0\0\x0curl \0\0\0\x01";
+
+pub const DINF: [u8; 36] = *b"\0\0\0$dinf\0\0\0\x1cdref\0\0\0\0\0\0\0\x01\0\0\0\x0curl \0\0\0\x01";
+
+pub const EMSG_LONG: [u8; 43] =
+    *b"\0\0\0\x2bemsg\x01\0\0\0\0\0\xbb\x80\0\0\0\0\0\0\xc3\x50\0\0\0\xc8\0\0\0\x08foo\0foo\0\x03\x02\x01";
+
+pub const DREF_URL: [u8; 30] = *b"\0\0\0\x1edref\0\0\0\0\0\0\0\x01\0\0\0\x0eurl \0\0\0\0a\0";
+
+pub const DINF_URL: [u8; 38] =
+    *b"\0\0\0\x26dinf\0\0\0\x1edref\0\0\0\0\0\0\0\x01\0\0\0\x0eurl \0\0\0\0a\0";
+
+/// A file type with four compatible brands.
+pub fn ftyp(alloc: Global) -> Result<FtypBox> {
+    let mut compatible_brands = Entries::new(alloc);
+    for brand in [*b"isom", *b"iso2", *b"avc1", *b"mp41"] {
+        compatible_brands.push(FourCC::from(brand))?;
+    }
+    Ok(FtypBox {
+        major_brand: FourCC::from(*b"isom"),
+        minor_version: 0,
+        compatible_brands,
+    })
+}
+
+/// The handler of a video track.
+pub fn hdlr(alloc: Global) -> Result<HdlrBox> {
+    Ok(HdlrBox {
+        version: 0,
+        flags: 0,
+        handler_type: FourCC::from(*b"vide"),
+        name: Text::from_str(alloc, "VideoHandler")?,
+    })
+}
+
+/// A text of metadata.
+pub fn data_box(alloc: Global) -> Result<DataBox> {
+    Ok(DataBox {
+        data_bytes: Vec::from_slice(alloc, b"test_data")?.into(),
+        data_type: DataType::Text,
+    })
+}
+
+/// An event with a time since the one before it.
+pub fn emsg(alloc: Global) -> Result<EmsgBox> {
+    Ok(EmsgBox {
+        version: 0,
+        flags: 0,
+        timescale: 48000,
+        presentation_time: None,
+        presentation_time_delta: Some(100),
+        event_duration: 200,
+        id: 8,
+        scheme_id_uri: Text::from_str(alloc, "foo")?,
+        value: Text::from_str(alloc, "foo")?,
+        message_data: Vec::from_slice(alloc, &[1, 2, 3])?.into(),
+    })
+}
+
+/// An event with a time of its own.
+pub fn emsg_long(alloc: Global) -> Result<EmsgBox> {
+    Ok(EmsgBox {
+        version: 1,
+        flags: 0,
+        timescale: 48000,
+        presentation_time: Some(50000),
+        presentation_time_delta: None,
+        event_duration: 200,
+        id: 8,
+        scheme_id_uri: Text::from_str(alloc, "foo")?,
+        value: Text::from_str(alloc, "foo")?,
+        message_data: Vec::from_slice(alloc, &[3, 2, 1])?.into(),
+    })
+}
+
+/// The URL `a`.
+pub fn url(alloc: Global) -> Result<UrlBox> {
+    Ok(UrlBox {
+        version: 0,
+        flags: 0,
+        location: Text::from_str(alloc, "a")?,
+    })
+}
+
+/// References to this URL.
+pub fn dref_of(url: Option<UrlBox>) -> DrefBox {
+    DrefBox {
+        version: 0,
+        flags: 0,
+        url,
+    }
+}
+
+/// References to the URL `a`.
+pub fn dref_url(alloc: Global) -> Result<DrefBox> {
+    Ok(dref_of(Some(url(alloc)?)))
+}
+
+/// References to the file itself.
+pub fn dref(alloc: Global) -> DrefBox {
+    DrefBox::default_in(alloc)
+}
+
+/// The box of references to the file itself.
+pub fn dinf(alloc: Global) -> DinfBox {
+    DinfBox::default_in(alloc)
+}
+
+/// The box of references to the URL `a`.
+pub fn dinf_url(alloc: Global) -> Result<DinfBox> {
+    Ok(DinfBox::new(dref_url(alloc)?))
+}

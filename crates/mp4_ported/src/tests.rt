@@ -1,0 +1,6 @@
+//! The cases of the Rust crate `mp4`, module by module.
+
+mod flat;
+mod headers;
+mod tables;
+mod text;

@@ -1,0 +1,121 @@
+//! The cases of the Rust crate for boxes of fixed fields.
+
+use crate::boxes::flat::{
+    MDHD, MDHD_ENGLISH, MFHD, MVHD, MVHD_LONG, SMHD, TFDT_LONG, TKHD_LONG, TKHD_SHORT, TREX, mdhd,
+    mdhd_english, mehd_short, mfhd, mvhd, mvhd_long, smhd, tfdt_of_zero, tkhd_long, tkhd_short,
+    trex, vmhd_black,
+};
+use crate::helpers::round_trip;
+use mp4_stream::{language_code, language_string};
+use std::test::Fail;
+
+#[test]
+fn mvhd32(rt: HostRuntime) -> Result<(), Fail> {
+    round_trip(rt.alloc(), &mvhd(), &MVHD)?;
+    Ok(())
+}
+
+#[test]
+fn mvhd64(rt: HostRuntime) -> Result<(), Fail> {
+    round_trip(rt.alloc(), &mvhd_long(), &MVHD_LONG)?;
+    Ok(())
+}
+
+#[test]
+fn tkhd32(rt: HostRuntime) -> Result<(), Fail> {
+    round_trip(rt.alloc(), &tkhd_short(), &TKHD_SHORT)?;
+    Ok(())
+}
+
+#[test]
+fn tkhd64(rt: HostRuntime) -> Result<(), Fail> {
+    round_trip(rt.alloc(), &tkhd_long(), &TKHD_LONG)?;
+    Ok(())
+}
+
+#[test]
+fn mdhd32(rt: HostRuntime) -> Result<(), Fail> {
+    round_trip(rt.alloc(), &mdhd(rt.alloc())?, &MDHD)?;
+    Ok(())
+}
+
+/// The Rust crate writes it with times of 32 bits too.
+#[test]
+fn mdhd64(rt: HostRuntime) -> Result<(), Fail> {
+    round_trip(rt.alloc(), &mdhd_english(rt.alloc())?, &MDHD_ENGLISH)?;
+    Ok(())
+}
+
+#[test]
+fn language_codes(rt: HostRuntime) -> Result<(), Fail> {
+    for (language, code) in [("und", 0x55c4), ("eng", 0x15c7), ("kor", 0x2df2)] {
+        assert_eq!(rt; language_code(language), code, "{language}");
+        assert_eq!(rt; language_string(rt.alloc(), code)?.as_str(), language);
+    }
+    Ok(())
+}
+
+#[test]
+fn mehd32(rt: HostRuntime) -> Result<(), Fail> {
+    round_trip(
+        rt.alloc(),
+        &mehd_short(32),
+        b"\0\0\0\x10mehd\0\0\0\0\0\0\0\x20",
+    )?;
+    Ok(())
+}
+
+/// The Rust crate writes it with a duration of 32 bits too.
+#[test]
+fn mehd64(rt: HostRuntime) -> Result<(), Fail> {
+    round_trip(
+        rt.alloc(),
+        &mehd_short(30_439_936),
+        b"\0\0\0\x10mehd\0\0\0\0\x01\xd0z\0",
+    )?;
+    Ok(())
+}
+
+#[test]
+fn tfdt32(rt: HostRuntime) -> Result<(), Fail> {
+    round_trip(
+        rt.alloc(),
+        &tfdt_of_zero(0),
+        b"\0\0\0\x10tfdt\0\0\0\0\0\0\0\0",
+    )?;
+    Ok(())
+}
+
+#[test]
+fn tfdt64(rt: HostRuntime) -> Result<(), Fail> {
+    round_trip(rt.alloc(), &tfdt_of_zero(1), &TFDT_LONG)?;
+    Ok(())
+}
+
+#[test]
+fn mfhd_of_one(rt: HostRuntime) -> Result<(), Fail> {
+    round_trip(rt.alloc(), &mfhd(), &MFHD)?;
+    Ok(())
+}
+
+#[test]
+fn smhd_of_a_balance(rt: HostRuntime) -> Result<(), Fail> {
+    round_trip(rt.alloc(), &smhd(), &SMHD)?;
+    Ok(())
+}
+
+#[test]
+fn vmhd_of_black(rt: HostRuntime) -> Result<(), Fail> {
+    round_trip(
+        rt.alloc(),
+        &vmhd_black(),
+        b"\0\0\0\x14vmhd\0\0\0\x01\0\0\0\0\0\0\0\0",
+    )?;
+    Ok(())
+}
+
+#[test]
+fn trex_of_a_track(rt: HostRuntime) -> Result<(), Fail> {
+    round_trip(rt.alloc(), &trex(), &TREX)?;
+    Ok(())
+}

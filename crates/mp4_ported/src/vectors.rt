@@ -1,0 +1,137 @@
+//! The vectors: a box of each type, and the bytes that it is written in. Values and bytes come from the tests of the
+//! Rust crate `mp4` and from the standard, and none from what this codec writes.
+
+mod flat;
+mod tables;
+mod text;
+
+use crate::boxes;
+use mp4_stream::{AnyBox, Result};
+use std::alloc::Global;
+
+/// The type of a vector.
+#[derive(Clone, Copy, Debug, PartialEq, Eq)]
+pub enum Vector {
+    Ftyp,
+    Mvhd,
+    Tkhd,
+    Mdhd,
+    Mehd,
+    Mfhd,
+    Smhd,
+    Vmhd,
+    Trex,
+    Tfdt,
+    Stco,
+    Co64,
+    Stts,
+    Ctts,
+    Stss,
+    Stsz,
+    Stsc,
+    Elst,
+    Tfhd,
+    Trun,
+    Hdlr,
+    Data,
+    Emsg,
+    Url,
+    Dref,
+    Dinf,
+}
+
+/// Every vector.
+pub const VECTORS: [Vector; 26] = [
+    Vector::Ftyp,
+    Vector::Mvhd,
+    Vector::Tkhd,
+    Vector::Mdhd,
+    Vector::Mehd,
+    Vector::Mfhd,
+    Vector::Smhd,
+    Vector::Vmhd,
+    Vector::Trex,
+    Vector::Tfdt,
+    Vector::Stco,
+    Vector::Co64,
+    Vector::Stts,
+    Vector::Ctts,
+    Vector::Stss,
+    Vector::Stsz,
+    Vector::Stsc,
+    Vector::Elst,
+    Vector::Tfhd,
+    Vector::Trun,
+    Vector::Hdlr,
+    Vector::Data,
+    Vector::Emsg,
+    Vector::Url,
+    Vector::Dref,
+    Vector::Dinf,
+];
+
+impl Vector {
+    /// The bytes that the box is written in.
+    pub fn bytes(self) -> &'static [u8] {
+        match self {
+            Vector::Ftyp => &boxes::text::FTYP,
+            Vector::Mvhd => &boxes::flat::MVHD,
+            Vector::Tkhd => &boxes::flat::TKHD,
+            Vector::Mdhd => &boxes::flat::MDHD,
+            Vector::Mehd => &boxes::flat::MEHD,
+            Vector::Mfhd => &boxes::flat::MFHD,
+            Vector::Smhd => &boxes::flat::SMHD,
+            Vector::Vmhd => &boxes::flat::VMHD,
+            Vector::Trex => &boxes::flat::TREX,
+            Vector::Tfdt => &boxes::flat::TFDT,
+            Vector::Stco => &boxes::tables::STCO,
+            Vector::Co64 => &boxes::tables::CO64,
+            Vector::Stts => &boxes::tables::STTS,
+            Vector::Ctts => &boxes::tables::CTTS,
+            Vector::Stss => &boxes::tables::STSS,
+            Vector::Stsz => &boxes::tables::STSZ,
+            Vector::Stsc => &boxes::tables::STSC,
+            Vector::Elst => &boxes::tables::ELST,
+            Vector::Tfhd => &boxes::tables::TFHD,
+            Vector::Trun => &boxes::tables::TRUN,
+            Vector::Hdlr => &boxes::text::HDLR,
+            Vector::Data => &boxes::text::DATA,
+            Vector::Emsg => &boxes::text::EMSG,
+            Vector::Url => &boxes::text::URL,
+            Vector::Dref => &boxes::text::DREF,
+            Vector::Dinf => &boxes::text::DINF,
+        }
+    }
+
+    /// The box.
+    pub fn make(self, alloc: Global) -> Result<AnyBox> {
+        match self {
+            Vector::Ftyp => text::ftyp(alloc),
+            Vector::Mvhd => Ok(flat::mvhd()),
+            Vector::Tkhd => Ok(flat::tkhd()),
+            Vector::Mdhd => flat::mdhd(alloc),
+            Vector::Mehd => Ok(flat::mehd()),
+            Vector::Mfhd => Ok(flat::mfhd()),
+            Vector::Smhd => Ok(flat::smhd()),
+            Vector::Vmhd => Ok(flat::vmhd()),
+            Vector::Trex => Ok(flat::trex()),
+            Vector::Tfdt => Ok(flat::tfdt()),
+            Vector::Stco => tables::stco(alloc),
+            Vector::Co64 => tables::co64(alloc),
+            Vector::Stts => tables::stts(alloc),
+            Vector::Ctts => tables::ctts(alloc),
+            Vector::Stss => tables::stss(alloc),
+            Vector::Stsz => tables::stsz(alloc),
+            Vector::Stsc => tables::stsc(alloc),
+            Vector::Elst => tables::elst(alloc),
+            Vector::Tfhd => Ok(tables::tfhd()),
+            Vector::Trun => tables::trun(alloc),
+            Vector::Hdlr => text::hdlr(alloc),
+            Vector::Data => text::data_box(alloc),
+            Vector::Emsg => text::emsg(alloc),
+            Vector::Url => text::url(alloc),
+            Vector::Dref => Ok(text::dref(alloc)),
+            Vector::Dinf => Ok(text::dinf(alloc)),
+        }
+    }
+}

@@ -1,0 +1,53 @@
+//! The numbers of an audio configuration.
+
+ghost use Rattle.std.specs.Prelude.{◌≡◌, IfOk, Ok};
+ghost use Rattle.mp4_media.specs.AudioObjectType.{number_audio_object_type};
+ghost use Rattle.mp4_media.specs.SampleFreqIndex.{number_sample_freq_index};
+ghost use Rattle.mp4_media.specs.ChannelConfig.{number_channel_config};
+
+use mp4_frame::Error;
+use mp4_media::{AacConfig, AudioObjectType, ChannelConfig, SampleFreqIndex, laws};
+
+/// What the numbers of an audio configuration in a file mean, at a bit rate.
+pub fn aac_config(
+    bitrate: u32,
+    profile: u8,
+    freq_index: u8,
+    chan_conf: u8,
+) -> Result<AacConfig, Error>
+    ensures profile { IfOk result (λ c. number_audio_object_type c.profile ≡ profile) }
+    ensures freq_index { IfOk result (λ c. number_sample_freq_index c.freq_index ≡ freq_index) }
+    ensures chan_conf { IfOk result (λ c. number_channel_config c.chan_conf ≡ chan_conf) }
+{
+    laws::audio_object_types_have_own_numbers();
+    laws::sample_freq_indexes_have_own_numbers();
+    laws::channel_configs_have_own_numbers();
+    Ok(AacConfig {
+        bitrate,
+        profile: AudioObjectType::try_from(profile)?,
+        freq_index: SampleFreqIndex::try_from(freq_index)?,
+        chan_conf: ChannelConfig::try_from(chan_conf)?,
+    })
+}
+
+/// What the numbers of a configuration mean is that configuration.
+pub fn numbers_come_back(config: AacConfig) -> Result<AacConfig, Error>
+    ensures { result ≡ Ok config }
+{
+    laws::conversions_answer_what_they_find::<AudioObjectType>();
+    laws::conversions_answer_what_they_find::<SampleFreqIndex>();
+    laws::conversions_answer_what_they_find::<ChannelConfig>();
+    laws::audio_object_types_have_own_numbers();
+    laws::sample_freq_indexes_have_own_numbers();
+    laws::channel_configs_have_own_numbers();
+    Ok(AacConfig {
+        bitrate: config.bitrate,
+        profile: AudioObjectType::try_from(laws::discriminant_of_audio_object_type(
+            config.profile,
+        ))?,
+        freq_index: SampleFreqIndex::try_from(laws::discriminant_of_sample_freq_index(
+            config.freq_index,
+        ))?,
+        chan_conf: ChannelConfig::try_from(laws::discriminant_of_channel_config(config.chan_conf))?,
+    })
+}

@@ -1,0 +1,19 @@
+//! Defaults, as a proof sees them.
+
+ghost use Rattle.std.specs.Prelude.{◌≡◌};
+
+use mp4_flat::{MehdBox, VmhdBox};
+
+/// A duration of zero.
+pub fn default_extent() -> MehdBox
+    ensures { result ≡ record { version = 0; flags = 0; fragment_duration = 0 } }
+{
+    MehdBox::default()
+}
+
+/// A black color.
+pub fn default_video() -> VmhdBox
+    ensures { result ≡ record { version = 0; flags = 0; graphics_mode = 0; op_color = record { red = 0; green = 0; blue = 0 } } }
+{
+    VmhdBox::default()
+}

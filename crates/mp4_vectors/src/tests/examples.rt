@@ -1,0 +1,80 @@
+//! The example callers on worked values.
+
+use crate::example::audio::{aac_config, numbers_come_back};
+use crate::example::chunks::append_short;
+use crate::example::references::append_reference;
+use crate::example::times::append_decode_time;
+use mp4_ported::boxes::tables::list;
+use mp4_ported::boxes::text::DINF_URL;
+use mp4_ported::helpers::{Kind, kind_of};
+use mp4_stream::{AacConfig, Co64Box, Error, StcoBox};
+use std::alloc::Global;
+use std::test::Fail;
+
+#[test]
+fn decode_times(rt: HostRuntime) -> Result<(), Fail> {
+    let mut written = Vec::new(rt.alloc());
+    assert_eq!(rt; append_decode_time(0xffff_ffff, &mut written)?, 16);
+    assert_eq!(rt; append_decode_time(0x1_0000_0000, &mut written)?, 20);
+    let bytes =
+        *b"\0\0\0\x10tfdt\0\0\0\0\xff\xff\xff\xff\0\0\0\x14tfdt\x01\0\0\0\0\0\0\x01\0\0\0\0";
+    assert_eq!(rt; written.as_slice(), bytes.as_slice());
+    Ok(())
+}
+
+fn long_offsets(alloc: Global, offsets: &[u64]) -> Result<Co64Box, Error> {
+    Ok(Co64Box {
+        version: 1,
+        flags: 5,
+        entries: Vec::from_slice(alloc, offsets)?.into(),
+    })
+}
+
+#[test]
+fn long_offsets_become_short(rt: HostRuntime) -> Result<(), Fail> {
+    let long = long_offsets(rt.alloc(), &[267, 4294967295])?;
+    let short = StcoBox {
+        version: 0,
+        flags: 0,
+        entries: list(rt.alloc(), &[267, 4294967295])?,
+    };
+    assert!(rt; StcoBox::try_from_co64(rt.alloc(), &long)? == short);
+    let mut out = Vec::new(rt.alloc());
+    assert_eq!(rt; append_short(rt.alloc(), &long, &mut out)?, 24);
+    let longer = long_offsets(rt.alloc(), &[4294967296])?;
+    assert_eq!(rt;
+        kind_of(&StcoBox::try_from_co64(rt.alloc(), &longer)),
+        Kind::Invalid
+    );
+    Ok(())
+}
+
+#[test]
+fn references_are_appended(rt: HostRuntime) -> Result<(), Fail> {
+    let mut out = Vec::new(rt.alloc());
+    assert_eq!(rt; append_reference(rt.alloc(), "a", &mut out)?, 38);
+    assert_eq!(rt; out.as_slice(), DINF_URL.as_slice());
+    Ok(())
+}
+
+/// The text of a refusal, or nothing where there was none or another one.
+fn refusal<T: Drop>(outcome: Result<T, Error>) -> Option<&'static str> {
+    match outcome {
+        Err(Error::InvalidData(text)) => Some(text),
+        _ => None,
+    }
+}
+
+#[test]
+fn audio_configurations_are_read(rt: HostRuntime) -> Result<(), Fail> {
+    assert_eq!(rt; aac_config(0, 2, 3, 2)?, AacConfig::default());
+    assert_eq!(rt;
+        refusal(aac_config(0, 2, 13, 2)),
+        Some("invalid sampling frequency index")
+    );
+    assert_eq!(rt;
+        numbers_come_back(AacConfig::default())?,
+        AacConfig::default()
+    );
+    Ok(())
+}

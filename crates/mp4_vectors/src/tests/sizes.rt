@@ -1,0 +1,179 @@
+//! Boxes that are said to have a size other than their own.
+
+use super::worked::FTYP_OF_TWO;
+use crate::example::defaults::{default_extent, default_video};
+use mp4_ported::boxes::flat::{
+    MFHD, mdhd, mdhd_long, mehd, mehd_short, mfhd, mvhd, mvhd_long, smhd, tfdt_of_zero, tkhd_full,
+    tkhd_long, tkhd_short, trex, vmhd_colors,
+};
+use mp4_ported::boxes::tables::{
+    STCO, co64_of_seven, ctts, elst, elst_long, stco, stsc, stss_of_nine, stsz_of_nine,
+    stsz_of_one_size, stts, tfhd, tfhd_all, tfhd_bare, trun, trun_of_four_lists,
+    trun_of_three_lists,
+};
+use mp4_ported::boxes::text::{DATA, DINF_URL, DREF_URL, EMSG, FTYP, HDLR, URL};
+use mp4_ported::helpers::{Kind, Mismatch, kind_of, read, reads_as, resized, sized, sizeless};
+use mp4_stream::{
+    BoxType, ByteCursor, DataBox, DinfBox, DrefBox, EmsgBox, FtypBox, HdlrBox, MdhdBox, MfhdBox,
+    MvhdBox, ReadBox, SmhdBox, StcoBox, TkhdBox, TrunBox, UrlBox,
+};
+use std::alloc::Global;
+use std::test::Fail;
+
+#[test]
+fn headers_of_movies_and_tracks_have_any_size(rt: HostRuntime) -> Result<(), Fail> {
+    sizeless(rt.alloc(), &MvhdBox::default())?;
+    sizeless(rt.alloc(), &mvhd())?;
+    sizeless(rt.alloc(), &mvhd_long())?;
+    sizeless(rt.alloc(), &TkhdBox::default())?;
+    sizeless(rt.alloc(), &tkhd_short())?;
+    sizeless(rt.alloc(), &tkhd_long())?;
+    sizeless(rt.alloc(), &tkhd_full())?;
+    Ok(())
+}
+
+#[test]
+fn headers_of_media_have_any_size(rt: HostRuntime) -> Result<(), Fail> {
+    sizeless(rt.alloc(), &MdhdBox::default_in(rt.alloc())?)?;
+    sizeless(rt.alloc(), &mdhd(rt.alloc())?)?;
+    sizeless(rt.alloc(), &mdhd_long(rt.alloc())?)?;
+    sizeless(rt.alloc(), &SmhdBox::default())?;
+    sizeless(rt.alloc(), &smhd())?;
+    sizeless(rt.alloc(), &default_video())?;
+    sizeless(rt.alloc(), &vmhd_colors())?;
+    Ok(())
+}
+
+#[test]
+fn headers_of_fragments_have_any_size(rt: HostRuntime) -> Result<(), Fail> {
+    sizeless(rt.alloc(), &default_extent())?;
+    sizeless(rt.alloc(), &mehd_short(32))?;
+    sizeless(rt.alloc(), &mehd())?;
+    sizeless(rt.alloc(), &tfdt_of_zero(0))?;
+    sizeless(rt.alloc(), &tfdt_of_zero(1))?;
+    sizeless(rt.alloc(), &mfhd())?;
+    sizeless(rt.alloc(), &trex())?;
+    Ok(())
+}
+
+#[test]
+fn tables_without_lists_have_any_size(rt: HostRuntime) -> Result<(), Fail> {
+    sizeless(rt.alloc(), &tfhd_bare())?;
+    sizeless(rt.alloc(), &tfhd())?;
+    sizeless(rt.alloc(), &tfhd_all())?;
+    sizeless(rt.alloc(), &TrunBox::default_in(rt.alloc()))?;
+    sizeless(rt.alloc(), &stsz_of_one_size(rt.alloc(), 1165, 12))?;
+    Ok(())
+}
+
+#[test]
+fn tables_of_chunks_have_room(rt: HostRuntime) -> Result<(), Fail> {
+    sized(rt.alloc(), &stco(rt.alloc())?)?;
+    sized(rt.alloc(), &co64_of_seven(rt.alloc())?)?;
+    sized(rt.alloc(), &stsc(rt.alloc())?)?;
+    Ok(())
+}
+
+#[test]
+fn tables_of_samples_have_room(rt: HostRuntime) -> Result<(), Fail> {
+    sized(rt.alloc(), &stss_of_nine(rt.alloc())?)?;
+    sized(rt.alloc(), &stts(rt.alloc())?)?;
+    sized(rt.alloc(), &ctts(rt.alloc())?)?;
+    sized(rt.alloc(), &stsz_of_nine(rt.alloc())?)?;
+    sized(rt.alloc(), &elst(rt.alloc())?)?;
+    sized(rt.alloc(), &elst_long(rt.alloc())?)?;
+    Ok(())
+}
+
+#[test]
+fn runs_have_room(rt: HostRuntime) -> Result<(), Fail> {
+    sized(rt.alloc(), &trun(rt.alloc())?)?;
+    sized(rt.alloc(), &trun_of_three_lists(rt.alloc())?)?;
+    sized(rt.alloc(), &trun_of_four_lists(rt.alloc())?)?;
+    Ok(())
+}
+
+/// How a box is read that is said to have 0 or 7 bytes, and how one of the largest size.
+fn ends_of<B: ReadBox + Drop>(
+    alloc: Global,
+    bytes: &[u8],
+    small: Kind,
+    large: Kind,
+) -> Result<(), Mismatch> {
+    for (size, wanted) in [(0, small), (7, small), (u64::MAX, large)] {
+        reads_as::<B>(alloc, bytes, size, wanted)?;
+    }
+    Ok(())
+}
+
+#[test]
+fn sizes_of_texts_and_data(rt: HostRuntime) -> Result<(), Fail> {
+    ends_of::<FtypBox>(rt.alloc(), &FTYP, Kind::Invalid, Kind::Invalid)?;
+    ends_of::<HdlrBox>(rt.alloc(), &HDLR, Kind::Invalid, Kind::End)?;
+    ends_of::<DataBox>(rt.alloc(), &DATA, Kind::Invalid, Kind::End)?;
+    ends_of::<EmsgBox>(rt.alloc(), &EMSG, Kind::Invalid, Kind::End)?;
+    Ok(())
+}
+
+#[test]
+fn sizes_of_references(rt: HostRuntime) -> Result<(), Fail> {
+    let no_dref = Kind::NotFound(BoxType::DrefBox);
+    ends_of::<UrlBox>(rt.alloc(), &URL, Kind::Ok, Kind::End)?;
+    ends_of::<DrefBox>(rt.alloc(), &DREF_URL, Kind::Ok, Kind::Ok)?;
+    ends_of::<DinfBox>(rt.alloc(), &DINF_URL, no_dref, Kind::End)?;
+    for size in [0, 7] {
+        let (url, _) = read::<UrlBox>(rt.alloc(), &URL, size);
+        assert!(rt; url?.location.is_empty());
+        let (dref, _) = read::<DrefBox>(rt.alloc(), &DREF_URL, size);
+        assert!(rt; dref?.url.is_none());
+    }
+    let (whole, _) = read::<DrefBox>(rt.alloc(), &DREF_URL, 30);
+    let (large, _) = read::<DrefBox>(rt.alloc(), &DREF_URL, u64::MAX);
+    assert!(rt; whole? == large?);
+    Ok(())
+}
+
+#[test]
+fn sizes_of_ftyp(rt: HostRuntime) -> Result<(), Fail> {
+    for size in [0, 7, 8, 12, 15, 18, 23, u64::MAX - 8, u64::MAX] {
+        reads_as::<FtypBox>(rt.alloc(), &FTYP_OF_TWO, size, Kind::Invalid)?;
+    }
+    for size in [28, u64::MAX - 11] {
+        reads_as::<FtypBox>(rt.alloc(), &FTYP_OF_TWO, size, Kind::End)?;
+    }
+    for size in [16, 20, 24] {
+        reads_as::<FtypBox>(rt.alloc(), &FTYP_OF_TWO, size, Kind::Ok)?;
+    }
+    reads_as::<FtypBox>(rt.alloc(), b"\0\0\0\x12ftyp", 18, Kind::Invalid)?;
+    reads_as::<FtypBox>(rt.alloc(), b"\0\0\0\x10ftyp", 16, Kind::End)?;
+    Ok(())
+}
+
+#[test]
+fn sizes_of_stco(rt: HostRuntime) -> Result<(), Fail> {
+    for size in [0, 7, 16, 43] {
+        reads_as::<StcoBox>(rt.alloc(), &STCO, size, Kind::Invalid)?;
+    }
+    let stco = stco(rt.alloc())?;
+    for size in [44, 47, 0xffff_ffff, u64::MAX] {
+        resized(rt.alloc(), &stco, &STCO, size)?;
+    }
+    Ok(())
+}
+
+#[test]
+fn boxes_that_end_past_64_bits(rt: HostRuntime) -> Result<(), Fail> {
+    let mut shifted = [0].to_vec(rt.alloc())?;
+    shifted.extend_from_slice(&STCO)?;
+    let mut reader = ByteCursor::new(&shifted);
+    reader.set_position(9);
+    let answer = StcoBox::read_box(rt.alloc(), &mut reader, u64::MAX);
+    assert_eq!(rt; (kind_of(&answer), reader.position()), (Kind::Invalid, 9));
+    let mut shifted = [0xff].to_vec(rt.alloc())?;
+    shifted.extend_from_slice(&MFHD)?;
+    let mut reader = ByteCursor::new(&shifted);
+    reader.set_position(9);
+    let answer = MfhdBox::read_box(rt.alloc(), &mut reader, u64::MAX);
+    assert_eq!(rt; (kind_of(&answer), reader.position()), (Kind::Invalid, 9));
+    Ok(())
+}
