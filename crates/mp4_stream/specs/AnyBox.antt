@@ -1,232 +1,114 @@
--- What is said of a box of any type, by its type.
-use Rattle.std.specs.Prelude.{ℕ, List, Bool, true, false}
-use Rattle.mp4_frame.specs.Reading.{Reading, Invalid, faults, map_reading, reading}
+-- What is said of a box of any type, by its type: two lists of the boxes, and a line for each word.
+use Rattle.std.specs.Prelude.{ℕ, List, Bool}
+use Rattle.mp4_frame.specs.Members.{Known, Unknown, Is, kind, is_known, reading_known, Held, holds}
+use Rattle.mp4_frame.specs.Reading.{Reading}
 use Rattle.mp4_frame.specs.declared.box_type.BoxType.{BoxType}
 use Rattle.mp4_frame.specs.declared.box_type.BoxType.TheVariants as names
-use Rattle.mp4_flat.specs.Mdhd.{reads_mdhd, size_mdhd, WritableMdhd, bytes_mdhd, normal_mdhd}
-use Rattle.mp4_flat.specs.Mehd.{reads_mehd, size_mehd, WritableMehd, bytes_mehd, normal_mehd}
-use Rattle.mp4_flat.specs.Mfhd.{reads_mfhd, size_mfhd, WritableMfhd, bytes_mfhd, normal_mfhd}
-use Rattle.mp4_flat.specs.Mvhd.{reads_mvhd, size_mvhd, WritableMvhd, bytes_mvhd, normal_mvhd}
-use Rattle.mp4_flat.specs.Smhd.{reads_smhd, size_smhd, WritableSmhd, bytes_smhd, normal_smhd}
-use Rattle.mp4_flat.specs.Tfdt.{reads_tfdt, size_tfdt, WritableTfdt, bytes_tfdt, normal_tfdt}
-use Rattle.mp4_flat.specs.Tkhd.{reads_tkhd, size_tkhd, WritableTkhd, bytes_tkhd, normal_tkhd}
-use Rattle.mp4_flat.specs.Trex.{reads_trex, size_trex, WritableTrex, bytes_trex, normal_trex}
-use Rattle.mp4_flat.specs.Vmhd.{reads_vmhd, size_vmhd, WritableVmhd, bytes_vmhd, normal_vmhd}
-use Rattle.mp4_tables.specs.Co64.{reads_co64, size_co64, WritableCo64, bytes_co64, normal_co64}
-use Rattle.mp4_tables.specs.Ctts.{reads_ctts, size_ctts, WritableCtts, bytes_ctts, normal_ctts}
-use Rattle.mp4_tables.specs.Elst.{reads_elst, size_elst, WritableElst, bytes_elst, normal_elst}
-use Rattle.mp4_tables.specs.Stco.{reads_stco, size_stco, WritableStco, bytes_stco, normal_stco}
-use Rattle.mp4_tables.specs.Stsc.{reads_stsc, size_stsc, WritableStsc, bytes_stsc, normal_stsc}
-use Rattle.mp4_tables.specs.Stss.{reads_stss, size_stss, WritableStss, bytes_stss, normal_stss}
-use Rattle.mp4_tables.specs.Stsz.{reads_stsz, size_stsz, WritableStsz, bytes_stsz, normal_stsz}
-use Rattle.mp4_tables.specs.Stts.{reads_stts, size_stts, WritableStts, bytes_stts, normal_stts}
-use Rattle.mp4_tables.specs.Tfhd.{reads_tfhd, size_tfhd, WritableTfhd, bytes_tfhd, normal_tfhd}
-use Rattle.mp4_tables.specs.Trun.{reads_trun, size_trun, WritableTrun, bytes_trun, normal_trun}
-use Rattle.mp4_text.specs.Data.{reads_data, size_data, WritableData, bytes_data, normal_data}
-use Rattle.mp4_text.specs.Dinf.{reads_dinf, size_dinf, WritableDinf, bytes_dinf, normal_dinf}
-use Rattle.mp4_text.specs.Dref.{reads_dref, size_dref, WritableDref, bytes_dref, normal_dref}
-use Rattle.mp4_text.specs.Emsg.{reads_emsg, size_emsg, WritableEmsg, bytes_emsg, normal_emsg}
-use Rattle.mp4_text.specs.Ftyp.{reads_ftyp, size_ftyp, WritableFtyp, bytes_ftyp, normal_ftyp}
-use Rattle.mp4_text.specs.Hdlr.{reads_hdlr, size_hdlr, WritableHdlr, bytes_hdlr, normal_hdlr}
-use Rattle.mp4_text.specs.Url.{reads_url, size_url, WritableUrl, bytes_url, normal_url}
+use Rattle.mp4_flat.specs.Mdhd.{format_mdhd}
+use Rattle.mp4_flat.specs.Mehd.{format_mehd}
+use Rattle.mp4_flat.specs.Mfhd.{format_mfhd}
+use Rattle.mp4_flat.specs.Mvhd.{format_mvhd}
+use Rattle.mp4_flat.specs.Smhd.{format_smhd}
+use Rattle.mp4_flat.specs.Tfdt.{format_tfdt}
+use Rattle.mp4_flat.specs.Tkhd.{format_tkhd}
+use Rattle.mp4_flat.specs.Trex.{format_trex}
+use Rattle.mp4_flat.specs.Vmhd.{format_vmhd}
+use Rattle.mp4_tables.specs.Co64.{format_co64}
+use Rattle.mp4_tables.specs.Ctts.{format_ctts}
+use Rattle.mp4_tables.specs.Elst.{format_elst}
+use Rattle.mp4_tables.specs.Stco.{format_stco}
+use Rattle.mp4_tables.specs.Stsc.{format_stsc}
+use Rattle.mp4_tables.specs.Stss.{format_stss}
+use Rattle.mp4_tables.specs.Stsz.{format_stsz}
+use Rattle.mp4_tables.specs.Stts.{format_stts}
+use Rattle.mp4_tables.specs.Tfhd.{format_tfhd}
+use Rattle.mp4_tables.specs.Trun.{format_trun}
+use Rattle.mp4_text.specs.Data.{format_data}
+use Rattle.mp4_text.specs.Dinf.{format_dinf}
+use Rattle.mp4_text.specs.Dref.{format_dref}
+use Rattle.mp4_text.specs.Emsg.{format_emsg}
+use Rattle.mp4_text.specs.Ftyp.{format_ftyp}
+use Rattle.mp4_text.specs.Hdlr.{format_hdlr}
+use Rattle.mp4_text.specs.Url.{format_url}
 use Rattle.mp4_stream.specs.declared.any_box.AnyBox.{AnyBox}
 use Rattle.mp4_stream.specs.declared.any_box.AnyBox.TheVariants as any
 
+-- the type that a name stands for
+abbrev pub kinds : BoxType → Known AnyBox
+kinds names.FtypBox = Is (kind format_ftyp any.FtypBox)
+kinds names.MvhdBox = Is (kind format_mvhd any.MvhdBox)
+kinds names.TkhdBox = Is (kind format_tkhd any.TkhdBox)
+kinds names.MdhdBox = Is (kind format_mdhd any.MdhdBox)
+kinds names.MehdBox = Is (kind format_mehd any.MehdBox)
+kinds names.MfhdBox = Is (kind format_mfhd any.MfhdBox)
+kinds names.SmhdBox = Is (kind format_smhd any.SmhdBox)
+kinds names.VmhdBox = Is (kind format_vmhd any.VmhdBox)
+kinds names.TrexBox = Is (kind format_trex any.TrexBox)
+kinds names.TfdtBox = Is (kind format_tfdt any.TfdtBox)
+kinds names.StcoBox = Is (kind format_stco any.StcoBox)
+kinds names.Co64Box = Is (kind format_co64 any.Co64Box)
+kinds names.SttsBox = Is (kind format_stts any.SttsBox)
+kinds names.CttsBox = Is (kind format_ctts any.CttsBox)
+kinds names.StssBox = Is (kind format_stss any.StssBox)
+kinds names.StszBox = Is (kind format_stsz any.StszBox)
+kinds names.StscBox = Is (kind format_stsc any.StscBox)
+kinds names.ElstBox = Is (kind format_elst any.ElstBox)
+kinds names.TfhdBox = Is (kind format_tfhd any.TfhdBox)
+kinds names.TrunBox = Is (kind format_trun any.TrunBox)
+kinds names.HdlrBox = Is (kind format_hdlr any.HdlrBox)
+kinds names.DataBox = Is (kind format_data any.DataBox)
+kinds names.EmsgBox = Is (kind format_emsg any.EmsgBox)
+kinds names.UrlBox = Is (kind format_url any.UrlBox)
+kinds names.DrefBox = Is (kind format_dref any.DrefBox)
+kinds names.DinfBox = Is (kind format_dinf any.DinfBox)
+kinds _ = Unknown
+
+-- the box, by its type
+abbrev pub held : AnyBox → Held AnyBox
+held (any.FtypBox b) = holds format_ftyp any.FtypBox b
+held (any.MvhdBox b) = holds format_mvhd any.MvhdBox b
+held (any.TkhdBox b) = holds format_tkhd any.TkhdBox b
+held (any.MdhdBox b) = holds format_mdhd any.MdhdBox b
+held (any.MehdBox b) = holds format_mehd any.MehdBox b
+held (any.MfhdBox b) = holds format_mfhd any.MfhdBox b
+held (any.SmhdBox b) = holds format_smhd any.SmhdBox b
+held (any.VmhdBox b) = holds format_vmhd any.VmhdBox b
+held (any.TrexBox b) = holds format_trex any.TrexBox b
+held (any.TfdtBox b) = holds format_tfdt any.TfdtBox b
+held (any.StcoBox b) = holds format_stco any.StcoBox b
+held (any.Co64Box b) = holds format_co64 any.Co64Box b
+held (any.SttsBox b) = holds format_stts any.SttsBox b
+held (any.CttsBox b) = holds format_ctts any.CttsBox b
+held (any.StssBox b) = holds format_stss any.StssBox b
+held (any.StszBox b) = holds format_stsz any.StszBox b
+held (any.StscBox b) = holds format_stsc any.StscBox b
+held (any.ElstBox b) = holds format_elst any.ElstBox b
+held (any.TfhdBox b) = holds format_tfhd any.TfhdBox b
+held (any.TrunBox b) = holds format_trun any.TrunBox b
+held (any.HdlrBox b) = holds format_hdlr any.HdlrBox b
+held (any.DataBox b) = holds format_data any.DataBox b
+held (any.EmsgBox b) = holds format_emsg any.EmsgBox b
+held (any.UrlBox b) = holds format_url any.UrlBox b
+held (any.DrefBox b) = holds format_dref any.DrefBox b
+held (any.DinfBox b) = holds format_dinf any.DinfBox b
+
 abbrev pub name_any : AnyBox → BoxType
-name_any (any.FtypBox b) = names.FtypBox
-name_any (any.MvhdBox b) = names.MvhdBox
-name_any (any.TkhdBox b) = names.TkhdBox
-name_any (any.MdhdBox b) = names.MdhdBox
-name_any (any.MehdBox b) = names.MehdBox
-name_any (any.MfhdBox b) = names.MfhdBox
-name_any (any.SmhdBox b) = names.SmhdBox
-name_any (any.VmhdBox b) = names.VmhdBox
-name_any (any.TrexBox b) = names.TrexBox
-name_any (any.TfdtBox b) = names.TfdtBox
-name_any (any.StcoBox b) = names.StcoBox
-name_any (any.Co64Box b) = names.Co64Box
-name_any (any.SttsBox b) = names.SttsBox
-name_any (any.CttsBox b) = names.CttsBox
-name_any (any.StssBox b) = names.StssBox
-name_any (any.StszBox b) = names.StszBox
-name_any (any.StscBox b) = names.StscBox
-name_any (any.ElstBox b) = names.ElstBox
-name_any (any.TfhdBox b) = names.TfhdBox
-name_any (any.TrunBox b) = names.TrunBox
-name_any (any.HdlrBox b) = names.HdlrBox
-name_any (any.DataBox b) = names.DataBox
-name_any (any.EmsgBox b) = names.EmsgBox
-name_any (any.UrlBox b) = names.UrlBox
-name_any (any.DrefBox b) = names.DrefBox
-name_any (any.DinfBox b) = names.DinfBox
+name_any v = (held v).name
 
 abbrev pub size_any : AnyBox → ℕ
-size_any (any.FtypBox b) = size_ftyp b
-size_any (any.MvhdBox b) = size_mvhd b
-size_any (any.TkhdBox b) = size_tkhd b
-size_any (any.MdhdBox b) = size_mdhd b
-size_any (any.MehdBox b) = size_mehd b
-size_any (any.MfhdBox b) = size_mfhd b
-size_any (any.SmhdBox b) = size_smhd b
-size_any (any.VmhdBox b) = size_vmhd b
-size_any (any.TrexBox b) = size_trex b
-size_any (any.TfdtBox b) = size_tfdt b
-size_any (any.StcoBox b) = size_stco b
-size_any (any.Co64Box b) = size_co64 b
-size_any (any.SttsBox b) = size_stts b
-size_any (any.CttsBox b) = size_ctts b
-size_any (any.StssBox b) = size_stss b
-size_any (any.StszBox b) = size_stsz b
-size_any (any.StscBox b) = size_stsc b
-size_any (any.ElstBox b) = size_elst b
-size_any (any.TfhdBox b) = size_tfhd b
-size_any (any.TrunBox b) = size_trun b
-size_any (any.HdlrBox b) = size_hdlr b
-size_any (any.DataBox b) = size_data b
-size_any (any.EmsgBox b) = size_emsg b
-size_any (any.UrlBox b) = size_url b
-size_any (any.DrefBox b) = size_dref b
-size_any (any.DinfBox b) = size_dinf b
+size_any v = (held v).size
 
 abbrev pub WritableAny : AnyBox → Type 0
-WritableAny (any.FtypBox b) = WritableFtyp b
-WritableAny (any.MvhdBox b) = WritableMvhd b
-WritableAny (any.TkhdBox b) = WritableTkhd b
-WritableAny (any.MdhdBox b) = WritableMdhd b
-WritableAny (any.MehdBox b) = WritableMehd b
-WritableAny (any.MfhdBox b) = WritableMfhd b
-WritableAny (any.SmhdBox b) = WritableSmhd b
-WritableAny (any.VmhdBox b) = WritableVmhd b
-WritableAny (any.TrexBox b) = WritableTrex b
-WritableAny (any.TfdtBox b) = WritableTfdt b
-WritableAny (any.StcoBox b) = WritableStco b
-WritableAny (any.Co64Box b) = WritableCo64 b
-WritableAny (any.SttsBox b) = WritableStts b
-WritableAny (any.CttsBox b) = WritableCtts b
-WritableAny (any.StssBox b) = WritableStss b
-WritableAny (any.StszBox b) = WritableStsz b
-WritableAny (any.StscBox b) = WritableStsc b
-WritableAny (any.ElstBox b) = WritableElst b
-WritableAny (any.TfhdBox b) = WritableTfhd b
-WritableAny (any.TrunBox b) = WritableTrun b
-WritableAny (any.HdlrBox b) = WritableHdlr b
-WritableAny (any.DataBox b) = WritableData b
-WritableAny (any.EmsgBox b) = WritableEmsg b
-WritableAny (any.UrlBox b) = WritableUrl b
-WritableAny (any.DrefBox b) = WritableDref b
-WritableAny (any.DinfBox b) = WritableDinf b
+WritableAny v = (held v).Writable
 
 abbrev pub bytes_any : AnyBox → List ℕ
-bytes_any (any.FtypBox b) = bytes_ftyp b
-bytes_any (any.MvhdBox b) = bytes_mvhd b
-bytes_any (any.TkhdBox b) = bytes_tkhd b
-bytes_any (any.MdhdBox b) = bytes_mdhd b
-bytes_any (any.MehdBox b) = bytes_mehd b
-bytes_any (any.MfhdBox b) = bytes_mfhd b
-bytes_any (any.SmhdBox b) = bytes_smhd b
-bytes_any (any.VmhdBox b) = bytes_vmhd b
-bytes_any (any.TrexBox b) = bytes_trex b
-bytes_any (any.TfdtBox b) = bytes_tfdt b
-bytes_any (any.StcoBox b) = bytes_stco b
-bytes_any (any.Co64Box b) = bytes_co64 b
-bytes_any (any.SttsBox b) = bytes_stts b
-bytes_any (any.CttsBox b) = bytes_ctts b
-bytes_any (any.StssBox b) = bytes_stss b
-bytes_any (any.StszBox b) = bytes_stsz b
-bytes_any (any.StscBox b) = bytes_stsc b
-bytes_any (any.ElstBox b) = bytes_elst b
-bytes_any (any.TfhdBox b) = bytes_tfhd b
-bytes_any (any.TrunBox b) = bytes_trun b
-bytes_any (any.HdlrBox b) = bytes_hdlr b
-bytes_any (any.DataBox b) = bytes_data b
-bytes_any (any.EmsgBox b) = bytes_emsg b
-bytes_any (any.UrlBox b) = bytes_url b
-bytes_any (any.DrefBox b) = bytes_dref b
-bytes_any (any.DinfBox b) = bytes_dinf b
+bytes_any v = (held v).bytes
 
 abbrev pub normal_any : AnyBox → AnyBox
-normal_any (any.FtypBox b) = any.FtypBox (normal_ftyp b)
-normal_any (any.MvhdBox b) = any.MvhdBox (normal_mvhd b)
-normal_any (any.TkhdBox b) = any.TkhdBox (normal_tkhd b)
-normal_any (any.MdhdBox b) = any.MdhdBox (normal_mdhd b)
-normal_any (any.MehdBox b) = any.MehdBox (normal_mehd b)
-normal_any (any.MfhdBox b) = any.MfhdBox (normal_mfhd b)
-normal_any (any.SmhdBox b) = any.SmhdBox (normal_smhd b)
-normal_any (any.VmhdBox b) = any.VmhdBox (normal_vmhd b)
-normal_any (any.TrexBox b) = any.TrexBox (normal_trex b)
-normal_any (any.TfdtBox b) = any.TfdtBox (normal_tfdt b)
-normal_any (any.StcoBox b) = any.StcoBox (normal_stco b)
-normal_any (any.Co64Box b) = any.Co64Box (normal_co64 b)
-normal_any (any.SttsBox b) = any.SttsBox (normal_stts b)
-normal_any (any.CttsBox b) = any.CttsBox (normal_ctts b)
-normal_any (any.StssBox b) = any.StssBox (normal_stss b)
-normal_any (any.StszBox b) = any.StszBox (normal_stsz b)
-normal_any (any.StscBox b) = any.StscBox (normal_stsc b)
-normal_any (any.ElstBox b) = any.ElstBox (normal_elst b)
-normal_any (any.TfhdBox b) = any.TfhdBox (normal_tfhd b)
-normal_any (any.TrunBox b) = any.TrunBox (normal_trun b)
-normal_any (any.HdlrBox b) = any.HdlrBox (normal_hdlr b)
-normal_any (any.DataBox b) = any.DataBox (normal_data b)
-normal_any (any.EmsgBox b) = any.EmsgBox (normal_emsg b)
-normal_any (any.UrlBox b) = any.UrlBox (normal_url b)
-normal_any (any.DrefBox b) = any.DrefBox (normal_dref b)
-normal_any (any.DinfBox b) = any.DinfBox (normal_dinf b)
+normal_any v = (held v).normal
 
--- the names that are read
 abbrev pub known_any : BoxType → Bool
-known_any names.FtypBox = true
-known_any names.MvhdBox = true
-known_any names.TkhdBox = true
-known_any names.MdhdBox = true
-known_any names.MehdBox = true
-known_any names.MfhdBox = true
-known_any names.SmhdBox = true
-known_any names.VmhdBox = true
-known_any names.TrexBox = true
-known_any names.TfdtBox = true
-known_any names.StcoBox = true
-known_any names.Co64Box = true
-known_any names.SttsBox = true
-known_any names.CttsBox = true
-known_any names.StssBox = true
-known_any names.StszBox = true
-known_any names.StscBox = true
-known_any names.ElstBox = true
-known_any names.TfhdBox = true
-known_any names.TrunBox = true
-known_any names.HdlrBox = true
-known_any names.DataBox = true
-known_any names.EmsgBox = true
-known_any names.UrlBox = true
-known_any names.DrefBox = true
-known_any names.DinfBox = true
-known_any _ = false
+known_any name = is_known (kinds name)
 
 abbrev pub reading_any : BoxType → List ℕ → ℕ → ℕ → Reading AnyBox
-reading_any names.FtypBox bytes start size = map_reading any.FtypBox (reading reads_ftyp bytes start size)
-reading_any names.MvhdBox bytes start size = map_reading any.MvhdBox (reading reads_mvhd bytes start size)
-reading_any names.TkhdBox bytes start size = map_reading any.TkhdBox (reading reads_tkhd bytes start size)
-reading_any names.MdhdBox bytes start size = map_reading any.MdhdBox (reading reads_mdhd bytes start size)
-reading_any names.MehdBox bytes start size = map_reading any.MehdBox (reading reads_mehd bytes start size)
-reading_any names.MfhdBox bytes start size = map_reading any.MfhdBox (reading reads_mfhd bytes start size)
-reading_any names.SmhdBox bytes start size = map_reading any.SmhdBox (reading reads_smhd bytes start size)
-reading_any names.VmhdBox bytes start size = map_reading any.VmhdBox (reading reads_vmhd bytes start size)
-reading_any names.TrexBox bytes start size = map_reading any.TrexBox (reading reads_trex bytes start size)
-reading_any names.TfdtBox bytes start size = map_reading any.TfdtBox (reading reads_tfdt bytes start size)
-reading_any names.StcoBox bytes start size = map_reading any.StcoBox (reading reads_stco bytes start size)
-reading_any names.Co64Box bytes start size = map_reading any.Co64Box (reading reads_co64 bytes start size)
-reading_any names.SttsBox bytes start size = map_reading any.SttsBox (reading reads_stts bytes start size)
-reading_any names.CttsBox bytes start size = map_reading any.CttsBox (reading reads_ctts bytes start size)
-reading_any names.StssBox bytes start size = map_reading any.StssBox (reading reads_stss bytes start size)
-reading_any names.StszBox bytes start size = map_reading any.StszBox (reading reads_stsz bytes start size)
-reading_any names.StscBox bytes start size = map_reading any.StscBox (reading reads_stsc bytes start size)
-reading_any names.ElstBox bytes start size = map_reading any.ElstBox (reading reads_elst bytes start size)
-reading_any names.TfhdBox bytes start size = map_reading any.TfhdBox (reading reads_tfhd bytes start size)
-reading_any names.TrunBox bytes start size = map_reading any.TrunBox (reading reads_trun bytes start size)
-reading_any names.HdlrBox bytes start size = map_reading any.HdlrBox (reading reads_hdlr bytes start size)
-reading_any names.DataBox bytes start size = map_reading any.DataBox (reading reads_data bytes start size)
-reading_any names.EmsgBox bytes start size = map_reading any.EmsgBox (reading reads_emsg bytes start size)
-reading_any names.UrlBox bytes start size = map_reading any.UrlBox (reading reads_url bytes start size)
-reading_any names.DrefBox bytes start size = map_reading any.DrefBox (reading reads_dref bytes start size)
-reading_any names.DinfBox bytes start size = map_reading any.DinfBox (reading reads_dinf bytes start size)
-reading_any _ bytes start size = faults Invalid
+reading_any name = reading_known (kinds name)

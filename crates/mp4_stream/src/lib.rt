@@ -3,20 +3,19 @@
 #![tactic(auto)]
 
 mod any_box;
-mod facade;
 mod member;
+mod read;
 
-pub use any_box::AnyBox;
-pub use facade::read_boxes;
+pub use any_box::{AnyBox, push_any, read_any};
 pub use mp4_flat::{
     Matrix, MdhdBox, MehdBox, MfhdBox, MvhdBox, RgbColor, SmhdBox, TfdtBox, TkhdBox, TrackFlag,
     TrexBox, VmhdBox, language_code, language_string,
 };
 pub use mp4_frame::{
     BoxHeader, BoxLaws, BoxType, ByteCursor, Entries, Error, FourCC, HEADER_EXT_SIZE, HEADER_SIZE,
-    Mp4Box, ReadBox, Result, StreamBox, Text, WriteBox, box_start, laws, read_box_header_ext,
-    read_boxes_as, skip_box, skip_bytes, skip_bytes_to, write_box_header_ext, write_boxes,
-    write_zeros,
+    Holds, Mp4Box, ReadBox, Result, StreamBox, Text, TryClone, WriteBox, box_start, laws,
+    read_box_header_ext, read_boxes_as, skip_box, skip_bytes, skip_bytes_to, write_box_header_ext,
+    write_boxes, write_zeros,
 };
 pub use mp4_media::{
     AacConfig, AudioObjectType, AvcConfig, AvcProfile, Bytes, ChannelConfig, DataType, FixedPoint,
@@ -29,3 +28,4 @@ pub use mp4_tables::{
     SttsBox, SttsEntry, TfhdBox, TrunBox,
 };
 pub use mp4_text::{DataBox, DinfBox, DrefBox, EmsgBox, FtypBox, HdlrBox, UrlBox};
+pub use read::read_boxes;

@@ -1,384 +1,228 @@
-//! The types of boxes that `AnyBox` holds, and what is done alike for each of them. These are functions of one
-//! type each, since a function pays at its entry for all of its locals.
+//! Each type of boxes that `AnyBox` holds, as a variant of it.
 
-ghost use Rattle.std.specs.Prelude.{◌≡◌, ◌-◌, ◌≤◌, IfOk, IfErr, OnErr};
-ghost use Rattle.mp4_frame.specs.Reading.{Answers, AnswersAs, map_reading, reading};
-ghost use Rattle.mp4_frame.specs.Streams.{append_read};
-ghost use Rattle.mp4_frame.specs.declared.error.Error.TheVariants.{OutOfMemory};
+ghost use Rattle.std.specs.Prelude.{◌≡◌};
 ghost use Rattle.mp4_stream.specs.declared.any_box.AnyBox.TheVariants as any;
 
 use crate::any_box::AnyBox;
 use mp4_flat::{MdhdBox, MehdBox, MfhdBox, MvhdBox, SmhdBox, TfdtBox, TkhdBox, TrexBox, VmhdBox};
-use mp4_frame::{ByteCursor, ReadBox, Result};
+use mp4_frame::Holds;
 use mp4_tables::{
     Co64Box, CttsBox, ElstBox, StcoBox, StscBox, StssBox, StszBox, SttsBox, TfhdBox, TrunBox,
 };
 use mp4_text::{DataBox, DinfBox, DrefBox, EmsgBox, FtypBox, HdlrBox, UrlBox};
-use std::alloc::Global;
 
-/// A type of boxes that `AnyBox` holds.
-pub(crate) trait Member: ReadBox + Drop {
-    ghost use Rattle.mp4_stream.specs.declared.any_box.AnyBox.{AnyBox};
+impl Holds<AnyBox> for AnyBox {
+    ghost wrapped = { λ v. v };
 
-    /// The box as one of any type.
-    ghost wrapped: { Self → AnyBox };
-
-    fn wrap(self) -> AnyBox
-        ensures { result ≡ wrapped self };
-
-    /// An equal box, in memory of its own.
-    fn copied(&self) -> Result<Self>
-        ensures clone { IfOk result (λ clone. clone ≡ self.now) }
-        ensures memory { IfErr result (λ e. e ≡ OutOfMemory) };
+    fn wrap(value: AnyBox) -> AnyBox {
+        value
+    }
 }
 
-impl Member for FtypBox {
+impl Holds<FtypBox> for AnyBox {
     ghost wrapped = { any.FtypBox };
 
-    fn wrap(self) -> AnyBox {
-        AnyBox::FtypBox(self)
-    }
-
-    fn copied(&self) -> Result<FtypBox> {
-        self.try_clone()
+    fn wrap(value: FtypBox) -> AnyBox {
+        AnyBox::FtypBox(value)
     }
 }
 
-impl Member for MvhdBox {
+impl Holds<MvhdBox> for AnyBox {
     ghost wrapped = { any.MvhdBox };
 
-    fn wrap(self) -> AnyBox {
-        AnyBox::MvhdBox(self)
-    }
-
-    fn copied(&self) -> Result<MvhdBox> {
-        Ok(self.clone()?)
+    fn wrap(value: MvhdBox) -> AnyBox {
+        AnyBox::MvhdBox(value)
     }
 }
 
-impl Member for TkhdBox {
+impl Holds<TkhdBox> for AnyBox {
     ghost wrapped = { any.TkhdBox };
 
-    fn wrap(self) -> AnyBox {
-        AnyBox::TkhdBox(self)
-    }
-
-    fn copied(&self) -> Result<TkhdBox> {
-        Ok(self.clone()?)
+    fn wrap(value: TkhdBox) -> AnyBox {
+        AnyBox::TkhdBox(value)
     }
 }
 
-impl Member for MdhdBox {
+impl Holds<MdhdBox> for AnyBox {
     ghost wrapped = { any.MdhdBox };
 
-    fn wrap(self) -> AnyBox {
-        AnyBox::MdhdBox(self)
-    }
-
-    fn copied(&self) -> Result<MdhdBox> {
-        self.try_clone()
+    fn wrap(value: MdhdBox) -> AnyBox {
+        AnyBox::MdhdBox(value)
     }
 }
 
-impl Member for MehdBox {
+impl Holds<MehdBox> for AnyBox {
     ghost wrapped = { any.MehdBox };
 
-    fn wrap(self) -> AnyBox {
-        AnyBox::MehdBox(self)
-    }
-
-    fn copied(&self) -> Result<MehdBox> {
-        Ok(self.clone()?)
+    fn wrap(value: MehdBox) -> AnyBox {
+        AnyBox::MehdBox(value)
     }
 }
 
-impl Member for MfhdBox {
+impl Holds<MfhdBox> for AnyBox {
     ghost wrapped = { any.MfhdBox };
 
-    fn wrap(self) -> AnyBox {
-        AnyBox::MfhdBox(self)
-    }
-
-    fn copied(&self) -> Result<MfhdBox> {
-        Ok(self.clone()?)
+    fn wrap(value: MfhdBox) -> AnyBox {
+        AnyBox::MfhdBox(value)
     }
 }
 
-impl Member for SmhdBox {
+impl Holds<SmhdBox> for AnyBox {
     ghost wrapped = { any.SmhdBox };
 
-    fn wrap(self) -> AnyBox {
-        AnyBox::SmhdBox(self)
-    }
-
-    fn copied(&self) -> Result<SmhdBox> {
-        Ok(self.clone()?)
+    fn wrap(value: SmhdBox) -> AnyBox {
+        AnyBox::SmhdBox(value)
     }
 }
 
-impl Member for VmhdBox {
+impl Holds<VmhdBox> for AnyBox {
     ghost wrapped = { any.VmhdBox };
 
-    fn wrap(self) -> AnyBox {
-        AnyBox::VmhdBox(self)
-    }
-
-    fn copied(&self) -> Result<VmhdBox> {
-        Ok(self.clone()?)
+    fn wrap(value: VmhdBox) -> AnyBox {
+        AnyBox::VmhdBox(value)
     }
 }
 
-impl Member for TrexBox {
+impl Holds<TrexBox> for AnyBox {
     ghost wrapped = { any.TrexBox };
 
-    fn wrap(self) -> AnyBox {
-        AnyBox::TrexBox(self)
-    }
-
-    fn copied(&self) -> Result<TrexBox> {
-        Ok(self.clone()?)
+    fn wrap(value: TrexBox) -> AnyBox {
+        AnyBox::TrexBox(value)
     }
 }
 
-impl Member for TfdtBox {
+impl Holds<TfdtBox> for AnyBox {
     ghost wrapped = { any.TfdtBox };
 
-    fn wrap(self) -> AnyBox {
-        AnyBox::TfdtBox(self)
-    }
-
-    fn copied(&self) -> Result<TfdtBox> {
-        Ok(self.clone()?)
+    fn wrap(value: TfdtBox) -> AnyBox {
+        AnyBox::TfdtBox(value)
     }
 }
 
-impl Member for StcoBox {
+impl Holds<StcoBox> for AnyBox {
     ghost wrapped = { any.StcoBox };
 
-    fn wrap(self) -> AnyBox {
-        AnyBox::StcoBox(self)
-    }
-
-    fn copied(&self) -> Result<StcoBox> {
-        self.try_clone()
+    fn wrap(value: StcoBox) -> AnyBox {
+        AnyBox::StcoBox(value)
     }
 }
 
-impl Member for Co64Box {
+impl Holds<Co64Box> for AnyBox {
     ghost wrapped = { any.Co64Box };
 
-    fn wrap(self) -> AnyBox {
-        AnyBox::Co64Box(self)
-    }
-
-    fn copied(&self) -> Result<Co64Box> {
-        self.try_clone()
+    fn wrap(value: Co64Box) -> AnyBox {
+        AnyBox::Co64Box(value)
     }
 }
 
-impl Member for SttsBox {
+impl Holds<SttsBox> for AnyBox {
     ghost wrapped = { any.SttsBox };
 
-    fn wrap(self) -> AnyBox {
-        AnyBox::SttsBox(self)
-    }
-
-    fn copied(&self) -> Result<SttsBox> {
-        self.try_clone()
+    fn wrap(value: SttsBox) -> AnyBox {
+        AnyBox::SttsBox(value)
     }
 }
 
-impl Member for CttsBox {
+impl Holds<CttsBox> for AnyBox {
     ghost wrapped = { any.CttsBox };
 
-    fn wrap(self) -> AnyBox {
-        AnyBox::CttsBox(self)
-    }
-
-    fn copied(&self) -> Result<CttsBox> {
-        self.try_clone()
+    fn wrap(value: CttsBox) -> AnyBox {
+        AnyBox::CttsBox(value)
     }
 }
 
-impl Member for StssBox {
+impl Holds<StssBox> for AnyBox {
     ghost wrapped = { any.StssBox };
 
-    fn wrap(self) -> AnyBox {
-        AnyBox::StssBox(self)
-    }
-
-    fn copied(&self) -> Result<StssBox> {
-        self.try_clone()
+    fn wrap(value: StssBox) -> AnyBox {
+        AnyBox::StssBox(value)
     }
 }
 
-impl Member for StszBox {
+impl Holds<StszBox> for AnyBox {
     ghost wrapped = { any.StszBox };
 
-    fn wrap(self) -> AnyBox {
-        AnyBox::StszBox(self)
-    }
-
-    fn copied(&self) -> Result<StszBox> {
-        self.try_clone()
+    fn wrap(value: StszBox) -> AnyBox {
+        AnyBox::StszBox(value)
     }
 }
 
-impl Member for StscBox {
+impl Holds<StscBox> for AnyBox {
     ghost wrapped = { any.StscBox };
 
-    fn wrap(self) -> AnyBox {
-        AnyBox::StscBox(self)
-    }
-
-    fn copied(&self) -> Result<StscBox> {
-        self.try_clone()
+    fn wrap(value: StscBox) -> AnyBox {
+        AnyBox::StscBox(value)
     }
 }
 
-impl Member for ElstBox {
+impl Holds<ElstBox> for AnyBox {
     ghost wrapped = { any.ElstBox };
 
-    fn wrap(self) -> AnyBox {
-        AnyBox::ElstBox(self)
-    }
-
-    fn copied(&self) -> Result<ElstBox> {
-        self.try_clone()
+    fn wrap(value: ElstBox) -> AnyBox {
+        AnyBox::ElstBox(value)
     }
 }
 
-impl Member for TfhdBox {
+impl Holds<TfhdBox> for AnyBox {
     ghost wrapped = { any.TfhdBox };
 
-    fn wrap(self) -> AnyBox {
-        AnyBox::TfhdBox(self)
-    }
-
-    fn copied(&self) -> Result<TfhdBox> {
-        Ok(self.clone()?)
+    fn wrap(value: TfhdBox) -> AnyBox {
+        AnyBox::TfhdBox(value)
     }
 }
 
-impl Member for TrunBox {
+impl Holds<TrunBox> for AnyBox {
     ghost wrapped = { any.TrunBox };
 
-    fn wrap(self) -> AnyBox {
-        AnyBox::TrunBox(self)
-    }
-
-    fn copied(&self) -> Result<TrunBox> {
-        self.try_clone()
+    fn wrap(value: TrunBox) -> AnyBox {
+        AnyBox::TrunBox(value)
     }
 }
 
-impl Member for HdlrBox {
+impl Holds<HdlrBox> for AnyBox {
     ghost wrapped = { any.HdlrBox };
 
-    fn wrap(self) -> AnyBox {
-        AnyBox::HdlrBox(self)
-    }
-
-    fn copied(&self) -> Result<HdlrBox> {
-        self.try_clone()
+    fn wrap(value: HdlrBox) -> AnyBox {
+        AnyBox::HdlrBox(value)
     }
 }
 
-impl Member for DataBox {
+impl Holds<DataBox> for AnyBox {
     ghost wrapped = { any.DataBox };
 
-    fn wrap(self) -> AnyBox {
-        AnyBox::DataBox(self)
-    }
-
-    fn copied(&self) -> Result<DataBox> {
-        self.try_clone()
+    fn wrap(value: DataBox) -> AnyBox {
+        AnyBox::DataBox(value)
     }
 }
 
-impl Member for EmsgBox {
+impl Holds<EmsgBox> for AnyBox {
     ghost wrapped = { any.EmsgBox };
 
-    fn wrap(self) -> AnyBox {
-        AnyBox::EmsgBox(self)
-    }
-
-    fn copied(&self) -> Result<EmsgBox> {
-        self.try_clone()
+    fn wrap(value: EmsgBox) -> AnyBox {
+        AnyBox::EmsgBox(value)
     }
 }
 
-impl Member for UrlBox {
+impl Holds<UrlBox> for AnyBox {
     ghost wrapped = { any.UrlBox };
 
-    fn wrap(self) -> AnyBox {
-        AnyBox::UrlBox(self)
-    }
-
-    fn copied(&self) -> Result<UrlBox> {
-        self.try_clone()
+    fn wrap(value: UrlBox) -> AnyBox {
+        AnyBox::UrlBox(value)
     }
 }
 
-impl Member for DrefBox {
+impl Holds<DrefBox> for AnyBox {
     ghost wrapped = { any.DrefBox };
 
-    fn wrap(self) -> AnyBox {
-        AnyBox::DrefBox(self)
-    }
-
-    fn copied(&self) -> Result<DrefBox> {
-        self.try_clone()
+    fn wrap(value: DrefBox) -> AnyBox {
+        AnyBox::DrefBox(value)
     }
 }
 
-impl Member for DinfBox {
+impl Holds<DinfBox> for AnyBox {
     ghost wrapped = { any.DinfBox };
 
-    fn wrap(self) -> AnyBox {
-        AnyBox::DinfBox(self)
+    fn wrap(value: DinfBox) -> AnyBox {
+        AnyBox::DinfBox(value)
     }
-
-    fn copied(&self) -> Result<DinfBox> {
-        self.try_clone()
-    }
-}
-
-/// Reads the box whose header was just read.
-pub(crate) fn read_as<T: Member>(
-    alloc: Global,
-    reader: &mut ByteCursor,
-    size: u64,
-) -> Result<AnyBox>
-    requires placed { 8 ≤ reader.old.position }
-    ensures answer { Answers result (map_reading T.wrapped (reading T.reads reader.old.bytes.now (reader.old.position - 8) size)) }
-    ensures kept { OnErr result (reader.new.position ≡ reader.old.position) }
-    ensures bytes { reader.new.bytes ≡ reader.old.bytes }
-{
-    Ok(T::read_box(alloc, reader, size)?.wrap())
-}
-
-/// Reads the box whose header was just read, and appends it.
-pub(crate) fn push_as<T: Member>(
-    alloc: Global,
-    reader: &mut ByteCursor,
-    size: u64,
-    boxes: &mut Vec<AnyBox>,
-) -> Result<()>
-    requires placed { 8 ≤ reader.old.position }
-    ensures answer { AnswersAs (λ _. boxes.new.items) result (append_read boxes.old.items (map_reading T.wrapped (reading T.reads reader.old.bytes.now (reader.old.position - 8) size))) }
-    ensures bytes { reader.new.bytes ≡ reader.old.bytes }
-{
-    let value = T::read_box(alloc, reader, size)?;
-    boxes.reserve(1)?;
-    boxes.push_reserved(value.wrap());
-    Ok(())
-}
-
-/// An equal box, in memory of its own.
-pub(crate) fn clone_as<T: Member>(value: &T) -> Result<AnyBox>
-    ensures clone { IfOk result (λ clone. clone ≡ T.wrapped value.now) }
-    ensures memory { IfErr result (λ e. e ≡ OutOfMemory) }
-{
-    Ok(value.copied()?.wrap())
 }

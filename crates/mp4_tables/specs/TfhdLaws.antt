@@ -7,7 +7,7 @@ use Rattle.mp4_frame.specs.Reading.{◌>>=◌, expect_bytes, done}
 use Rattle.mp4_frame.specs.declared.box_type.BoxType.TheVariants as names
 use Rattle.mp4_frame.proofs.Framing.{own_normal_form, header_in_front, fits_read, Number}
 use Rattle.mp4_frame.proofs.Fields.{length-fields, number-fields}
-use Rattle.mp4_frame.proofs.IsPresent.{expect_bytes_present, expect_bytes_ok, is_value}
+use Rattle.mp4_frame.proofs.Checks.{expect_bytes_present, expect_bytes_ok, is_value}
 use Rattle.mp4_tables.specs.FlaggedLaws.{width_most, length_optional, optional_back, number_is_present}
 use Rattle.mp4_tables.specs.Flagged.{is_set, optional}
 use Rattle.mp4_tables.specs.Tfhd.{index_at, duration_at, size_at, flags_at, end_at, value_tfhd, reads_tfhd, size_tfhd, fields_tfhd, WritableTfhd, bytes_tfhd, format_tfhd}

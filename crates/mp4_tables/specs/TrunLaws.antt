@@ -16,7 +16,7 @@ use Rattle.mp4_frame.specs.declared.box_type.BoxType.TheVariants as names
 use Rattle.mp4_frame.proofs.Framing.{own_normal_form, header_in_front, fits_read, Number}
 use Rattle.mp4_frame.proofs.Fields.{length-fields, number-fields, number-below}
 use Rattle.mp4_frame.proofs.Signed.{back32, below32, signed32}
-use Rattle.mp4_frame.proofs.IsPresent.{expect_bytes_present, expect_bytes_ok, is_value}
+use Rattle.mp4_frame.proofs.Checks.{expect_bytes_present, expect_bytes_ok, is_value}
 use Rattle.mp4_frame.proofs.Tables.{IsRow, length_flat, map_all, length_map, value_first}
 use Rattle.mp4_tables.specs.Flagged.{is_set, width_if, number_if, optional, IsPresent}
 use Rattle.mp4_tables.specs.FlaggedLaws.{length_optional, optional_back, number_is_present}

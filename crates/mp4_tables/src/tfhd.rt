@@ -2,7 +2,7 @@
 
 ghost use Rattle.std.specs.Prelude.{◌≡◌, ◌≤◌, ◌-◌, ◌^◌, ◌↔◌, min, IsTrue};
 ghost use Rattle.mp4_frame.specs.declared.box_type.BoxType.TheVariants as names;
-ghost use Rattle.mp4_tables.specs.Tfhd.{size_tfhd, FlaggedTfhd, format_tfhd};
+ghost use Rattle.mp4_tables.specs.Tfhd.{end_at as end_place, size_tfhd, FlaggedTfhd, format_tfhd};
 ghost use Rattle.mp4_tables.specs.TfhdLaws.{laws_tfhd};
 
 use crate::flagged::{

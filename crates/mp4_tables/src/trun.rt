@@ -3,7 +3,7 @@
 ghost use Rattle.std.specs.Prelude.{◌≡◌, ◌≤◌, ◌-◌, ◌^◌, ◌↔◌, [], None, IsTrue, min, option_map};
 ghost use Rattle.std.specs.Int.{w32, cast_signed};
 ghost use Rattle.mp4_frame.specs.declared.box_type.BoxType.TheVariants as names;
-ghost use Rattle.mp4_tables.specs.Trun.{unsigned, FitsOptional, FlaggedTrun, size_trun, ListedTrun, format_trun};
+ghost use Rattle.mp4_tables.specs.Trun.{rows_at as rows_place, unsigned, FitsOptional, FlaggedTrun, size_trun, ListedTrun, format_trun};
 ghost use Rattle.mp4_tables.specs.TrunLaws.{laws_trun};
 
 use crate::flagged::{is_set, put_optional_u32, is_present_u32, u32_if, width_if};

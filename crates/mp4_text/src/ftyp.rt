@@ -111,7 +111,7 @@ impl ReadBox for FtypBox {
     }
 }
 
-#[tactic(auto, using(mp4_frame::proofs::Codes::small_code))]
+#[tactic(auto, using(mp4_frame::proofs::CodeNames::small_code))]
 fn fits(major_brand: FourCC, minor_version: u32, size: u64, brands: &[FourCC]) -> bool
     requires { size ≡ min (16 + 4 * length brands.now) (2 ^ 64 - 1) }
     ensures { IsTrue result ↔ WritableFtyp (record { major_brand = major_brand; minor_version = minor_version; compatible_brands = brands.now }) }

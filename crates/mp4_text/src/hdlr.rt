@@ -96,7 +96,7 @@ impl ReadBox for HdlrBox {
     }
 }
 
-#[tactic(auto, using(mp4_frame::proofs::Codes::small_code))]
+#[tactic(auto, using(mp4_frame::proofs::CodeNames::small_code))]
 fn fits(version: u8, flags: u32, handler_type: FourCC, size: u64, name: &Text) -> bool
     requires { size ≡ min (33 + length name.now) (2 ^ 64 - 1) }
     ensures { IsTrue result ↔ WritableHdlr (record { version = version; flags = flags; handler_type = handler_type; name = name.now }) }
