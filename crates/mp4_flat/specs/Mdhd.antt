@@ -53,4 +53,4 @@ abbrev pub normal_mdhd : MdhdBox → MdhdBox
 normal_mdhd v = record v { language = letters (language_code v.language) }
 
 abbrev pub format_mdhd : Format MdhdBox
-format_mdhd = record { name = names.MdhdBox; reads = reads_mdhd; size = size_mdhd; Writable = WritableMdhd; bytes = bytes_mdhd; normal = normal_mdhd }
+format_mdhd = record { name = λ _. names.MdhdBox; size = size_mdhd; Writable = WritableMdhd; bytes = bytes_mdhd; normal = normal_mdhd }

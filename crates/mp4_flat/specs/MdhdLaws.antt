@@ -17,7 +17,7 @@ use Rattle.mp4_flat.specs.declared.mdhd.MdhdBox.{MdhdBox}
 same_fields : (v : MdhdBox) → fields_mdhd (normal_mdhd v) ≡ fields_mdhd v
 same_fields v = rw (language_back v.language) refl
 
-pub laws_mdhd : IsBox format_mdhd
+pub laws_mdhd : IsBox reads_mdhd format_mdhd
 unfolding bytes_mdhd reads_mdhd
 laws_mdhd = record {
   header = λ v w. header_of_fields _ w.fit (omega (arith, timed_size-known (λ t. 4 + 3 * t) v.version w.known));

@@ -8,7 +8,7 @@ use Rattle.mp4_flat.specs.TimeLaws.{timed_size-known, timed_back, timed_is}
 use Rattle.mp4_flat.specs.Mehd.{value_mehd, reads_mehd, size_mehd, fields_mehd, WritableMehd, bytes_mehd, format_mehd}
 use Rattle.mp4_flat.specs.declared.mehd.MehdBox.{MehdBox}
 
-pub laws_mehd : IsBox format_mehd
+pub laws_mehd : IsBox reads_mehd format_mehd
 unfolding bytes_mehd reads_mehd
 laws_mehd = record {
   header = λ v w. header_of_fields _ w.fit (omega (arith, timed_size-known (λ t. t) v.version w.known));

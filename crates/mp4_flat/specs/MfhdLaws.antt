@@ -5,7 +5,7 @@ use Rattle.mp4_frame.proofs.Framing.{header_of_fields, own_normal_form, fits_rea
 use Rattle.mp4_frame.proofs.Rows.{one_run_again, one_run_is}
 use Rattle.mp4_flat.specs.Mfhd.{value_mfhd, reads_mfhd, fields_mfhd, WritableMfhd, bytes_mfhd, format_mfhd}
 
-pub laws_mfhd : IsBox format_mfhd
+pub laws_mfhd : IsBox reads_mfhd format_mfhd
 unfolding bytes_mfhd reads_mfhd
 laws_mfhd = record {
   header = λ v w. header_of_fields _ w refl;

@@ -50,4 +50,4 @@ unfoldable pub bytes_mvhd : MvhdBox → List ℕ
 bytes_mvhd v = bytes_of_fields (fields_mvhd v)
 
 abbrev pub format_mvhd : Format MvhdBox
-format_mvhd = record { name = names.MvhdBox; reads = reads_mvhd; size = size_mvhd; Writable = WritableMvhd; bytes = bytes_mvhd; normal = λ v. v }
+format_mvhd = record { name = λ _. names.MvhdBox; size = size_mvhd; Writable = WritableMvhd; bytes = bytes_mvhd; normal = λ v. v }

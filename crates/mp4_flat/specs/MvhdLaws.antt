@@ -10,7 +10,7 @@ use Rattle.mp4_flat.specs.Mvhd.{value_mvhd, reads_mvhd, size_mvhd, fields_mvhd, 
 use Rattle.mp4_flat.specs.declared.matrix.Matrix.{Matrix}
 use Rattle.mp4_flat.specs.declared.mvhd.MvhdBox.{MvhdBox}
 
-pub laws_mvhd : IsBox format_mvhd
+pub laws_mvhd : IsBox reads_mvhd format_mvhd
 unfolding bytes_mvhd reads_mvhd
 laws_mvhd = record {
   header = λ v w. header_of_fields _ w.0.fit (omega (arith, timed_size-known (λ t. 4 + 3 * t) v.version w.0.known));

@@ -7,7 +7,7 @@ use Rattle.mp4_frame.proofs.Signed.{back16, signed16}
 use Rattle.mp4_frame.proofs.Framing.{own_normal_form, header_of_fields, fits_read, Number, Signed16, Fitting}
 use Rattle.mp4_flat.specs.Smhd.{value_smhd, reads_smhd, fields_smhd, WritableSmhd, bytes_smhd, format_smhd}
 
-pub laws_smhd : IsBox format_smhd
+pub laws_smhd : IsBox reads_smhd format_smhd
 unfolding bytes_smhd reads_smhd
 laws_smhd = record {
   header = λ v w. header_of_fields _ w.0 refl;

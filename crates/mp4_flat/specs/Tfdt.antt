@@ -29,4 +29,4 @@ unfoldable pub bytes_tfdt : TfdtBox → List ℕ
 bytes_tfdt v = bytes_of_fields (fields_tfdt v)
 
 abbrev pub format_tfdt : Format TfdtBox
-format_tfdt = record { name = names.TfdtBox; reads = reads_tfdt; size = size_tfdt; Writable = WritableTfdt; bytes = bytes_tfdt; normal = λ v. v }
+format_tfdt = record { name = λ _. names.TfdtBox; size = size_tfdt; Writable = WritableTfdt; bytes = bytes_tfdt; normal = λ v. v }

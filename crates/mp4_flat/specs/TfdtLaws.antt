@@ -8,7 +8,7 @@ use Rattle.mp4_flat.specs.TimeLaws.{timed_back, timed_is}
 use Rattle.mp4_flat.specs.Tfdt.{value_tfdt, reads_tfdt, size_tfdt, fields_tfdt, WritableTfdt, bytes_tfdt, format_tfdt}
 use Rattle.mp4_flat.specs.declared.tfdt.TfdtBox.{TfdtBox}
 
-pub laws_tfdt : IsBox format_tfdt
+pub laws_tfdt : IsBox reads_tfdt format_tfdt
 unfolding bytes_tfdt reads_tfdt
 laws_tfdt = record {
   header = λ v w. header_of_fields _ w.fit (omega arith);

@@ -53,4 +53,4 @@ unfoldable pub bytes_tkhd : TkhdBox → List ℕ
 bytes_tkhd v = bytes_of_fields (fields_tkhd v)
 
 abbrev pub format_tkhd : Format TkhdBox
-format_tkhd = record { name = names.TkhdBox; reads = reads_tkhd; size = size_tkhd; Writable = WritableTkhd; bytes = bytes_tkhd; normal = λ v. v }
+format_tkhd = record { name = λ _. names.TkhdBox; size = size_tkhd; Writable = WritableTkhd; bytes = bytes_tkhd; normal = λ v. v }

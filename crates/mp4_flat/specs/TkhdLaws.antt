@@ -10,7 +10,7 @@ use Rattle.mp4_flat.specs.Tkhd.{value_tkhd, reads_tkhd, size_tkhd, fields_tkhd, 
 use Rattle.mp4_flat.specs.declared.matrix.Matrix.{Matrix}
 use Rattle.mp4_flat.specs.declared.tkhd.TkhdBox.{TkhdBox}
 
-pub laws_tkhd : IsBox format_tkhd
+pub laws_tkhd : IsBox reads_tkhd format_tkhd
 unfolding bytes_tkhd reads_tkhd
 laws_tkhd = record {
   header = λ v w. header_of_fields _ w.0.fit (omega (arith, timed_size-known (λ t. 8 + 3 * t) v.version w.0.known));

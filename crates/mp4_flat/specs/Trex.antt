@@ -30,4 +30,4 @@ unfoldable pub bytes_trex : TrexBox → List ℕ
 bytes_trex v = bytes_of_fields (fields_trex v)
 
 abbrev pub format_trex : Format TrexBox
-format_trex = record { name = names.TrexBox; reads = reads_trex; size = size_trex; Writable = WritableTrex; bytes = bytes_trex; normal = λ v. v }
+format_trex = record { name = λ _. names.TrexBox; size = size_trex; Writable = WritableTrex; bytes = bytes_trex; normal = λ v. v }

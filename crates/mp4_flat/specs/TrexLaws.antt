@@ -5,7 +5,7 @@ use Rattle.mp4_frame.proofs.Rows.{one_run_again, one_run_is}
 use Rattle.mp4_frame.proofs.Framing.{own_normal_form, header_of_fields, fits_read, Number}
 use Rattle.mp4_flat.specs.Trex.{value_trex, reads_trex, fields_trex, WritableTrex, bytes_trex, format_trex}
 
-pub laws_trex : IsBox format_trex
+pub laws_trex : IsBox reads_trex format_trex
 unfolding bytes_trex reads_trex
 laws_trex = record {
   header = λ v w. header_of_fields _ w refl;

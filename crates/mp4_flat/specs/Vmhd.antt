@@ -30,4 +30,4 @@ unfoldable pub bytes_vmhd : VmhdBox → List ℕ
 bytes_vmhd v = bytes_of_fields (fields_vmhd v)
 
 abbrev pub format_vmhd : Format VmhdBox
-format_vmhd = record { name = names.VmhdBox; reads = reads_vmhd; size = size_vmhd; Writable = WritableVmhd; bytes = bytes_vmhd; normal = λ v. v }
+format_vmhd = record { name = λ _. names.VmhdBox; size = size_vmhd; Writable = WritableVmhd; bytes = bytes_vmhd; normal = λ v. v }

@@ -5,7 +5,7 @@ use Rattle.mp4_frame.proofs.Rows.{one_run_again, one_run_is}
 use Rattle.mp4_frame.proofs.Framing.{own_normal_form, header_of_fields, fits_read, Number}
 use Rattle.mp4_flat.specs.Vmhd.{value_vmhd, reads_vmhd, fields_vmhd, WritableVmhd, bytes_vmhd, format_vmhd}
 
-pub laws_vmhd : IsBox format_vmhd
+pub laws_vmhd : IsBox reads_vmhd format_vmhd
 unfolding bytes_vmhd reads_vmhd
 laws_vmhd = record {
   header = λ v w. header_of_fields _ w refl;

@@ -2,12 +2,16 @@
 
 ghost use Rattle.std.specs.Prelude.{◌≡◌, IfOk, IfErr};
 ghost use Rattle.mp4_frame.specs.declared.box_type.BoxType.TheVariants as names;
-ghost use Rattle.mp4_flat.specs.Mdhd.{default_mdhd, size_mdhd, format_mdhd};
+ghost use Rattle.mp4_frame.specs.Format.{write_laws};
+ghost use Rattle.mp4_flat.specs.Mdhd.{default_mdhd, size_mdhd, reads_mdhd, format_mdhd};
 ghost use Rattle.mp4_flat.specs.MdhdLaws.{laws_mdhd};
 
 use crate::language::{language_code, language_string};
 use crate::time::{put_time, time_at, time_fits, version_of_times, width_of_time};
-use mp4_frame::{BoxLaws, BoxType, Error, Mp4Box, ReadBox, Result, Text, WriteBox, expect_bytes, put_full_box, put_u16, put_u32, put_zeros, u16_at, u24_at, u32_at, codes, TryClone};
+use mp4_frame::{
+    BoxLaws, BoxType, Error, Mp4Box, ReadBox, Result, Text, TryClone, WriteBox, codes,
+    expect_bytes, put_full_box, put_u16, put_u32, put_zeros, u16_at, u24_at, u32_at,
+};
 use std::alloc::Global;
 
 /// What holds of the media of a track as a whole (`mdhd`, ISO/IEC 14496-12, 8.4.2).
@@ -76,9 +80,7 @@ impl TryClone for MdhdBox {
 }
 
 impl Mp4Box for MdhdBox {
-    ghost name = { λ _. format_mdhd.name };
-
-    ghost size = { format_mdhd.size };
+    ghost format = { format_mdhd };
 
     fn box_type(&self) -> BoxType {
         BoxType::MdhdBox
@@ -94,7 +96,7 @@ impl Mp4Box for MdhdBox {
 }
 
 impl ReadBox for MdhdBox {
-    ghost reads = { format_mdhd.reads };
+    ghost reads = { reads_mdhd };
 
     #[tactic(auto, unfolding(crate::specs::Mdhd::reads_mdhd))]
     fn read_content(alloc: Global, bytes: &[u8], _start: u64, _size: u64) -> Result<MdhdBox> {
@@ -115,12 +117,6 @@ impl ReadBox for MdhdBox {
 }
 
 impl WriteBox for MdhdBox {
-    ghost Writable = { format_mdhd.Writable };
-
-    ghost bytes = { format_mdhd.bytes };
-
-    ghost normal = { format_mdhd.normal };
-
     #[tactic(auto, using(crate::specs::LanguageLaws::language_fits))]
     fn is_writable(&self) -> bool {
         // What a body reads is known to fit its type.
@@ -144,13 +140,9 @@ impl WriteBox for MdhdBox {
         put_zeros(out, at, 2);
     }
 
-    ghost header = { laws_mdhd.header };
-
-    ghost normal_form = { laws_mdhd.normal_form };
+    ghost write_laws = { write_laws laws_mdhd };
 }
 
 impl BoxLaws for MdhdBox {
-    ghost read_back = { laws_mdhd.read_back };
-
-    ghost sound = { laws_mdhd.sound };
+    ghost laws = { laws_mdhd };
 }

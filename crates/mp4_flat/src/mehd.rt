@@ -2,11 +2,15 @@
 
 ghost use Rattle.std.specs.Prelude.{◌≡◌};
 ghost use Rattle.mp4_frame.specs.declared.box_type.BoxType.TheVariants as names;
-ghost use Rattle.mp4_flat.specs.Mehd.{size_mehd, format_mehd};
+ghost use Rattle.mp4_frame.specs.Format.{write_laws};
+ghost use Rattle.mp4_flat.specs.Mehd.{size_mehd, reads_mehd, format_mehd};
 ghost use Rattle.mp4_flat.specs.MehdLaws.{laws_mehd};
 
 use crate::time::{put_time, time_at, time_fits, version_of_times, width_of_time};
-use mp4_frame::{BoxLaws, BoxType, Mp4Box, ReadBox, Result, WriteBox, expect_bytes, put_full_box, u24_at, codes, TryClone};
+use mp4_frame::{
+    BoxLaws, BoxType, Mp4Box, ReadBox, Result, TryClone, WriteBox, codes, expect_bytes,
+    put_full_box, u24_at,
+};
 use std::alloc::Global;
 
 /// How long a movie with fragments is (`mehd`, ISO/IEC 14496-12, 8.8.2).
@@ -43,9 +47,7 @@ impl TryClone for MehdBox {
 }
 
 impl Mp4Box for MehdBox {
-    ghost name = { λ _. format_mehd.name };
-
-    ghost size = { format_mehd.size };
+    ghost format = { format_mehd };
 
     fn box_type(&self) -> BoxType {
         BoxType::MehdBox
@@ -61,7 +63,7 @@ impl Mp4Box for MehdBox {
 }
 
 impl ReadBox for MehdBox {
-    ghost reads = { format_mehd.reads };
+    ghost reads = { reads_mehd };
 
     #[tactic(auto, unfolding(crate::specs::Mehd::reads_mehd))]
     fn read_content(_alloc: Global, bytes: &[u8], _start: u64, _size: u64) -> Result<MehdBox> {
@@ -76,12 +78,6 @@ impl ReadBox for MehdBox {
 }
 
 impl WriteBox for MehdBox {
-    ghost Writable = { format_mehd.Writable };
-
-    ghost bytes = { format_mehd.bytes };
-
-    ghost normal = { format_mehd.normal };
-
     fn is_writable(&self) -> bool {
         self.version < 2 && self.flags < 1 << 24 && time_fits(self.version, self.fragment_duration)
     }
@@ -93,13 +89,9 @@ impl WriteBox for MehdBox {
         put_time(out, at, self.version, self.fragment_duration);
     }
 
-    ghost header = { laws_mehd.header };
-
-    ghost normal_form = { laws_mehd.normal_form };
+    ghost write_laws = { write_laws laws_mehd };
 }
 
 impl BoxLaws for MehdBox {
-    ghost read_back = { laws_mehd.read_back };
-
-    ghost sound = { laws_mehd.sound };
+    ghost laws = { laws_mehd };
 }

@@ -2,7 +2,8 @@
 
 ghost use Rattle.std.specs.Prelude.{◌≡◌};
 ghost use Rattle.mp4_frame.specs.declared.box_type.BoxType.TheVariants as names;
-ghost use Rattle.mp4_flat.specs.Mfhd.{size_mfhd, format_mfhd};
+ghost use Rattle.mp4_frame.specs.Format.{write_laws};
+ghost use Rattle.mp4_flat.specs.Mfhd.{size_mfhd, reads_mfhd, format_mfhd};
 ghost use Rattle.mp4_flat.specs.MfhdLaws.{laws_mfhd};
 
 use mp4_frame::{
@@ -57,9 +58,7 @@ impl TryClone for MfhdBox {
 }
 
 impl Mp4Box for MfhdBox {
-    ghost name = { λ _. format_mfhd.name };
-
-    ghost size = { format_mfhd.size };
+    ghost format = { format_mfhd };
 
     fn box_type(&self) -> BoxType {
         BoxType::MfhdBox
@@ -71,7 +70,7 @@ impl Mp4Box for MfhdBox {
 }
 
 impl ReadBox for MfhdBox {
-    ghost reads = { format_mfhd.reads };
+    ghost reads = { reads_mfhd };
 
     #[tactic(auto, unfolding(crate::specs::Mfhd::reads_mfhd))]
     fn read_content(_alloc: Global, bytes: &[u8], _start: u64, _size: u64) -> Result<MfhdBox> {
@@ -85,12 +84,6 @@ impl ReadBox for MfhdBox {
 }
 
 impl WriteBox for MfhdBox {
-    ghost Writable = { format_mfhd.Writable };
-
-    ghost bytes = { format_mfhd.bytes };
-
-    ghost normal = { format_mfhd.normal };
-
     fn is_writable(&self) -> bool {
         // What a body reads is known to fit its type.
         let (_version, _sequence_number) = (self.version, self.sequence_number);
@@ -103,13 +96,9 @@ impl WriteBox for MfhdBox {
         put_u32(out, at, self.sequence_number);
     }
 
-    ghost header = { laws_mfhd.header };
-
-    ghost normal_form = { laws_mfhd.normal_form };
+    ghost write_laws = { write_laws laws_mfhd };
 }
 
 impl BoxLaws for MfhdBox {
-    ghost read_back = { laws_mfhd.read_back };
-
-    ghost sound = { laws_mfhd.sound };
+    ghost laws = { laws_mfhd };
 }

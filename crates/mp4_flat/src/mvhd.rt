@@ -2,12 +2,16 @@
 
 ghost use Rattle.std.specs.Prelude.{◌≡◌, ◌↔◌, IsTrue};
 ghost use Rattle.mp4_frame.specs.declared.box_type.BoxType.TheVariants as names;
-ghost use Rattle.mp4_flat.specs.Mvhd.{size_mvhd, WritableMvhd, format_mvhd};
+ghost use Rattle.mp4_frame.specs.Format.{write_laws};
+ghost use Rattle.mp4_flat.specs.Mvhd.{size_mvhd, WritableMvhd, reads_mvhd, format_mvhd};
 ghost use Rattle.mp4_flat.specs.MvhdLaws.{laws_mvhd};
 
 use crate::matrix::{Matrix, is_matrix, matrix_from, put_matrix};
 use crate::time::{put_time, time_at, time_fits, version_of_times, width_of_time};
-use mp4_frame::{BoxLaws, BoxType, Mp4Box, ReadBox, Result, WriteBox, expect_bytes, put_full_box, put_u16, put_u32, put_zeros, u16_at, u24_at, u32_at, codes, TryClone};
+use mp4_frame::{
+    BoxLaws, BoxType, Mp4Box, ReadBox, Result, TryClone, WriteBox, codes, expect_bytes,
+    put_full_box, put_u16, put_u32, put_zeros, u16_at, u24_at, u32_at,
+};
 use mp4_media::{FixedPointU8, FixedPointU16};
 use std::alloc::Global;
 
@@ -80,9 +84,7 @@ impl TryClone for MvhdBox {
 }
 
 impl Mp4Box for MvhdBox {
-    ghost name = { λ _. format_mvhd.name };
-
-    ghost size = { format_mvhd.size };
+    ghost format = { format_mvhd };
 
     fn box_type(&self) -> BoxType {
         BoxType::MvhdBox
@@ -98,7 +100,7 @@ impl Mp4Box for MvhdBox {
 }
 
 impl ReadBox for MvhdBox {
-    ghost reads = { format_mvhd.reads };
+    ghost reads = { reads_mvhd };
 
     #[tactic(auto, unfolding(crate::specs::Mvhd::reads_mvhd))]
     fn read_content(_alloc: Global, bytes: &[u8], _start: u64, _size: u64) -> Result<MvhdBox> {
@@ -143,12 +145,6 @@ fn fits(
 }
 
 impl WriteBox for MvhdBox {
-    ghost Writable = { format_mvhd.Writable };
-
-    ghost bytes = { format_mvhd.bytes };
-
-    ghost normal = { format_mvhd.normal };
-
     fn is_writable(&self) -> bool {
         fits(
             self.version,
@@ -178,13 +174,9 @@ impl WriteBox for MvhdBox {
         put_u32(out, at, self.next_track_id);
     }
 
-    ghost header = { laws_mvhd.header };
-
-    ghost normal_form = { laws_mvhd.normal_form };
+    ghost write_laws = { write_laws laws_mvhd };
 }
 
 impl BoxLaws for MvhdBox {
-    ghost read_back = { laws_mvhd.read_back };
-
-    ghost sound = { laws_mvhd.sound };
+    ghost laws = { laws_mvhd };
 }

@@ -2,10 +2,14 @@
 
 ghost use Rattle.std.specs.Prelude.{◌≡◌, pos};
 ghost use Rattle.mp4_frame.specs.declared.box_type.BoxType.TheVariants as names;
-ghost use Rattle.mp4_flat.specs.Smhd.{size_smhd, format_smhd};
+ghost use Rattle.mp4_frame.specs.Format.{write_laws};
+ghost use Rattle.mp4_flat.specs.Smhd.{size_smhd, reads_smhd, format_smhd};
 ghost use Rattle.mp4_flat.specs.SmhdLaws.{laws_smhd};
 
-use mp4_frame::{BoxLaws, BoxType, Mp4Box, ReadBox, Result, WriteBox, expect_bytes, i16_at, put_full_box, put_i16, put_zeros, u8_at, u24_at, codes, TryClone};
+use mp4_frame::{
+    BoxLaws, BoxType, Mp4Box, ReadBox, Result, TryClone, WriteBox, codes, expect_bytes, i16_at,
+    put_full_box, put_i16, put_zeros, u8_at, u24_at,
+};
 use mp4_media::FixedPointI8;
 use std::alloc::Global;
 
@@ -55,9 +59,7 @@ impl TryClone for SmhdBox {
 }
 
 impl Mp4Box for SmhdBox {
-    ghost name = { λ _. format_smhd.name };
-
-    ghost size = { format_smhd.size };
+    ghost format = { format_smhd };
 
     fn box_type(&self) -> BoxType {
         BoxType::SmhdBox
@@ -69,7 +71,7 @@ impl Mp4Box for SmhdBox {
 }
 
 impl ReadBox for SmhdBox {
-    ghost reads = { format_smhd.reads };
+    ghost reads = { reads_smhd };
 
     #[tactic(auto, unfolding(crate::specs::Smhd::reads_smhd))]
     fn read_content(_alloc: Global, bytes: &[u8], _start: u64, _size: u64) -> Result<SmhdBox> {
@@ -83,12 +85,6 @@ impl ReadBox for SmhdBox {
 }
 
 impl WriteBox for SmhdBox {
-    ghost Writable = { format_smhd.Writable };
-
-    ghost bytes = { format_smhd.bytes };
-
-    ghost normal = { format_smhd.normal };
-
     fn is_writable(&self) -> bool {
         // What a body reads is known to fit its type.
         let (_version, _balance) = (self.version, self.balance.raw_value());
@@ -102,13 +98,9 @@ impl WriteBox for SmhdBox {
         put_zeros(out, at, 2);
     }
 
-    ghost header = { laws_smhd.header };
-
-    ghost normal_form = { laws_smhd.normal_form };
+    ghost write_laws = { write_laws laws_smhd };
 }
 
 impl BoxLaws for SmhdBox {
-    ghost read_back = { laws_smhd.read_back };
-
-    ghost sound = { laws_smhd.sound };
+    ghost laws = { laws_smhd };
 }

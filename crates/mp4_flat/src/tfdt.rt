@@ -2,11 +2,15 @@
 
 ghost use Rattle.std.specs.Prelude.{◌≡◌};
 ghost use Rattle.mp4_frame.specs.declared.box_type.BoxType.TheVariants as names;
-ghost use Rattle.mp4_flat.specs.Tfdt.{size_tfdt, format_tfdt};
+ghost use Rattle.mp4_frame.specs.Format.{write_laws};
+ghost use Rattle.mp4_flat.specs.Tfdt.{size_tfdt, reads_tfdt, format_tfdt};
 ghost use Rattle.mp4_flat.specs.TfdtLaws.{laws_tfdt};
 
 use crate::time::{put_time, time_at, time_fits, version_of_times, width_of_time};
-use mp4_frame::{BoxLaws, BoxType, Mp4Box, ReadBox, Result, WriteBox, expect_bytes, put_full_box, u24_at, codes, TryClone};
+use mp4_frame::{
+    BoxLaws, BoxType, Mp4Box, ReadBox, Result, TryClone, WriteBox, codes, expect_bytes,
+    put_full_box, u24_at,
+};
 use std::alloc::Global;
 
 /// When the first sample of a fragment is decoded (`tfdt`, ISO/IEC 14496-12, 8.8.12).
@@ -43,9 +47,7 @@ impl TryClone for TfdtBox {
 }
 
 impl Mp4Box for TfdtBox {
-    ghost name = { λ _. format_tfdt.name };
-
-    ghost size = { format_tfdt.size };
+    ghost format = { format_tfdt };
 
     fn box_type(&self) -> BoxType {
         BoxType::TfdtBox
@@ -57,7 +59,7 @@ impl Mp4Box for TfdtBox {
 }
 
 impl ReadBox for TfdtBox {
-    ghost reads = { format_tfdt.reads };
+    ghost reads = { reads_tfdt };
 
     #[tactic(auto, unfolding(crate::specs::Tfdt::reads_tfdt))]
     fn read_content(_alloc: Global, bytes: &[u8], _start: u64, _size: u64) -> Result<TfdtBox> {
@@ -72,12 +74,6 @@ impl ReadBox for TfdtBox {
 }
 
 impl WriteBox for TfdtBox {
-    ghost Writable = { format_tfdt.Writable };
-
-    ghost bytes = { format_tfdt.bytes };
-
-    ghost normal = { format_tfdt.normal };
-
     fn is_writable(&self) -> bool {
         self.version < 2
             && self.flags < 1 << 24
@@ -91,13 +87,9 @@ impl WriteBox for TfdtBox {
         put_time(out, at, self.version, self.base_media_decode_time);
     }
 
-    ghost header = { laws_tfdt.header };
-
-    ghost normal_form = { laws_tfdt.normal_form };
+    ghost write_laws = { write_laws laws_tfdt };
 }
 
 impl BoxLaws for TfdtBox {
-    ghost read_back = { laws_tfdt.read_back };
-
-    ghost sound = { laws_tfdt.sound };
+    ghost laws = { laws_tfdt };
 }

@@ -5,7 +5,7 @@ ghost use Rattle.mp4_frame.specs.Bytes.{number, be_bytes};
 ghost use Rattle.mp4_frame.specs.Reading.{Answers};
 ghost use Rattle.mp4_flat.specs.Time.{time_width, version_of};
 
-use mp4_frame::{Result, expect_bytes, put_u32, put_u64, check, u8_at, u32_at, u64_at};
+use mp4_frame::{Result, check, expect_bytes, put_u32, put_u64, u8_at, u32_at, u64_at};
 
 /// How many bytes a time takes.
 pub fn width_of_time(version: u8) -> usize

@@ -3,13 +3,17 @@
 ghost use Rattle.std.specs.Prelude.{◌≡◌, ◌↔◌, IsTrue};
 ghost use Rattle.mp4_frame.specs.declared.box_type.BoxType.TheVariants as names;
 ghost use Rattle.mp4_media.specs.FixedPoint.{scaled};
-ghost use Rattle.mp4_flat.specs.Tkhd.{size_tkhd, WritableTkhd, format_tkhd};
+ghost use Rattle.mp4_frame.specs.Format.{write_laws};
+ghost use Rattle.mp4_flat.specs.Tkhd.{size_tkhd, WritableTkhd, reads_tkhd, format_tkhd};
 ghost use Rattle.mp4_flat.specs.TkhdLaws.{laws_tkhd};
 
 use crate::matrix::{Matrix, is_matrix, matrix_from, put_matrix};
 use crate::time::{put_time, time_at, time_fits, version_of_times, width_of_time};
 use crate::track_flag::TrackFlag;
-use mp4_frame::{BoxLaws, BoxType, Mp4Box, ReadBox, Result, WriteBox, expect_bytes, put_full_box, put_u16, put_u32, put_zeros, u16_at, u24_at, u32_at, codes, TryClone};
+use mp4_frame::{
+    BoxLaws, BoxType, Mp4Box, ReadBox, Result, TryClone, WriteBox, codes, expect_bytes,
+    put_full_box, put_u16, put_u32, put_zeros, u16_at, u24_at, u32_at,
+};
 use mp4_media::{FixedPointU8, FixedPointU16};
 use std::alloc::Global;
 
@@ -102,9 +106,7 @@ impl TryClone for TkhdBox {
 }
 
 impl Mp4Box for TkhdBox {
-    ghost name = { λ _. format_tkhd.name };
-
-    ghost size = { format_tkhd.size };
+    ghost format = { format_tkhd };
 
     fn box_type(&self) -> BoxType {
         BoxType::TkhdBox
@@ -120,7 +122,7 @@ impl Mp4Box for TkhdBox {
 }
 
 impl ReadBox for TkhdBox {
-    ghost reads = { format_tkhd.reads };
+    ghost reads = { reads_tkhd };
 
     #[tactic(auto, unfolding(crate::specs::Tkhd::reads_tkhd))]
     fn read_content(_alloc: Global, bytes: &[u8], _start: u64, _size: u64) -> Result<TkhdBox> {
@@ -168,12 +170,6 @@ fn fits(
 }
 
 impl WriteBox for TkhdBox {
-    ghost Writable = { format_tkhd.Writable };
-
-    ghost bytes = { format_tkhd.bytes };
-
-    ghost normal = { format_tkhd.normal };
-
     fn is_writable(&self) -> bool {
         fits(
             self.version,
@@ -206,13 +202,9 @@ impl WriteBox for TkhdBox {
         put_u32(out, at, self.height.raw_value());
     }
 
-    ghost header = { laws_tkhd.header };
-
-    ghost normal_form = { laws_tkhd.normal_form };
+    ghost write_laws = { write_laws laws_tkhd };
 }
 
 impl BoxLaws for TkhdBox {
-    ghost read_back = { laws_tkhd.read_back };
-
-    ghost sound = { laws_tkhd.sound };
+    ghost laws = { laws_tkhd };
 }

@@ -2,10 +2,14 @@
 
 ghost use Rattle.std.specs.Prelude.{◌≡◌};
 ghost use Rattle.mp4_frame.specs.declared.box_type.BoxType.TheVariants as names;
-ghost use Rattle.mp4_flat.specs.Trex.{size_trex, format_trex};
+ghost use Rattle.mp4_frame.specs.Format.{write_laws};
+ghost use Rattle.mp4_flat.specs.Trex.{size_trex, reads_trex, format_trex};
 ghost use Rattle.mp4_flat.specs.TrexLaws.{laws_trex};
 
-use mp4_frame::{BoxLaws, BoxType, Mp4Box, ReadBox, Result, WriteBox, expect_bytes, put_full_box, put_u32, u8_at, u24_at, u32_at, codes, TryClone};
+use mp4_frame::{
+    BoxLaws, BoxType, Mp4Box, ReadBox, Result, TryClone, WriteBox, codes, expect_bytes,
+    put_full_box, put_u32, u8_at, u24_at, u32_at,
+};
 use std::alloc::Global;
 
 /// What holds of the samples of a track where its fragments say nothing else (`trex`, ISO/IEC 14496-12, 8.8.3).
@@ -50,9 +54,7 @@ impl TryClone for TrexBox {
 }
 
 impl Mp4Box for TrexBox {
-    ghost name = { λ _. format_trex.name };
-
-    ghost size = { format_trex.size };
+    ghost format = { format_trex };
 
     fn box_type(&self) -> BoxType {
         BoxType::TrexBox
@@ -64,7 +66,7 @@ impl Mp4Box for TrexBox {
 }
 
 impl ReadBox for TrexBox {
-    ghost reads = { format_trex.reads };
+    ghost reads = { reads_trex };
 
     #[tactic(auto, unfolding(crate::specs::Trex::reads_trex))]
     fn read_content(_alloc: Global, bytes: &[u8], _start: u64, _size: u64) -> Result<TrexBox> {
@@ -82,12 +84,6 @@ impl ReadBox for TrexBox {
 }
 
 impl WriteBox for TrexBox {
-    ghost Writable = { format_trex.Writable };
-
-    ghost bytes = { format_trex.bytes };
-
-    ghost normal = { format_trex.normal };
-
     fn is_writable(&self) -> bool {
         // What a body reads is known to fit its type.
         let (_version, _track_id) = (self.version, self.track_id);
@@ -109,13 +105,9 @@ impl WriteBox for TrexBox {
         put_u32(out, at, self.default_sample_flags);
     }
 
-    ghost header = { laws_trex.header };
-
-    ghost normal_form = { laws_trex.normal_form };
+    ghost write_laws = { write_laws laws_trex };
 }
 
 impl BoxLaws for TrexBox {
-    ghost read_back = { laws_trex.read_back };
-
-    ghost sound = { laws_trex.sound };
+    ghost laws = { laws_trex };
 }

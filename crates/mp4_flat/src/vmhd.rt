@@ -2,11 +2,15 @@
 
 ghost use Rattle.std.specs.Prelude.{◌≡◌};
 ghost use Rattle.mp4_frame.specs.declared.box_type.BoxType.TheVariants as names;
-ghost use Rattle.mp4_flat.specs.Vmhd.{size_vmhd, format_vmhd};
+ghost use Rattle.mp4_frame.specs.Format.{write_laws};
+ghost use Rattle.mp4_flat.specs.Vmhd.{size_vmhd, reads_vmhd, format_vmhd};
 ghost use Rattle.mp4_flat.specs.VmhdLaws.{laws_vmhd};
 
 use crate::rgb_color::RgbColor;
-use mp4_frame::{BoxLaws, BoxType, Mp4Box, ReadBox, Result, WriteBox, expect_bytes, put_full_box, put_u16, u8_at, u16_at, u24_at, codes, TryClone};
+use mp4_frame::{
+    BoxLaws, BoxType, Mp4Box, ReadBox, Result, TryClone, WriteBox, codes, expect_bytes,
+    put_full_box, put_u16, u8_at, u16_at, u24_at,
+};
 use std::alloc::Global;
 
 /// How a video is laid over what is after it (`vmhd`, ISO/IEC 14496-12, 12.1.2).
@@ -45,9 +49,7 @@ impl TryClone for VmhdBox {
 }
 
 impl Mp4Box for VmhdBox {
-    ghost name = { λ _. format_vmhd.name };
-
-    ghost size = { format_vmhd.size };
+    ghost format = { format_vmhd };
 
     fn box_type(&self) -> BoxType {
         BoxType::VmhdBox
@@ -59,7 +61,7 @@ impl Mp4Box for VmhdBox {
 }
 
 impl ReadBox for VmhdBox {
-    ghost reads = { format_vmhd.reads };
+    ghost reads = { reads_vmhd };
 
     #[tactic(auto, unfolding(crate::specs::Vmhd::reads_vmhd))]
     fn read_content(_alloc: Global, bytes: &[u8], _start: u64, _size: u64) -> Result<VmhdBox> {
@@ -78,12 +80,6 @@ impl ReadBox for VmhdBox {
 }
 
 impl WriteBox for VmhdBox {
-    ghost Writable = { format_vmhd.Writable };
-
-    ghost bytes = { format_vmhd.bytes };
-
-    ghost normal = { format_vmhd.normal };
-
     fn is_writable(&self) -> bool {
         // What a body reads is known to fit its type.
         let (_version, _graphics_mode) = (self.version, self.graphics_mode);
@@ -101,13 +97,9 @@ impl WriteBox for VmhdBox {
         put_u16(out, at, self.op_color.blue);
     }
 
-    ghost header = { laws_vmhd.header };
-
-    ghost normal_form = { laws_vmhd.normal_form };
+    ghost write_laws = { write_laws laws_vmhd };
 }
 
 impl BoxLaws for VmhdBox {
-    ghost read_back = { laws_vmhd.read_back };
-
-    ghost sound = { laws_vmhd.sound };
+    ghost laws = { laws_vmhd };
 }

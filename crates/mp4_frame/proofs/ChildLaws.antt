@@ -68,7 +68,7 @@ module _ {A : Type 0} (reads : List ℕ → ℕ → ℕ → Reading A) (code : �
       ∙ ap (λ (r : Reading (Option A)). cond (nat_le size o) (done None) r) (same_after o (n + more) n (λ q behind. all_children n more q (omega (arith, le, behind))) c.asks_memory c.outcome refl)
 
 -- Over the laws of the child.
-module _ {A : Type 0} {format : Format A} (laws : IsBox format) where
+module _ {A : Type 0} {reads : List ℕ → ℕ → ℕ → Reading A} {format : Format A} (laws : IsBox reads format) where
   -- the normal form is as long
   pub normal_size : (v : A) → format.Writable v → format.size (format.normal v) ≡ format.size v
   normal_size v w =
@@ -99,24 +99,24 @@ module _ {A : Type 0} {format : Format A} (laws : IsBox format) where
   optional_bytes (Some v) w = (laws.normal_form v w).same_bytes
   optional_bytes None w = refl
 
-  module _ (cs : List (ℕ × ℕ)) (k : ℕ) (long : length (bytes_of_fields cs) ≡ k) where
+  module _ (code : ℕ) (coded : (v : A) → code_of (format.name v) ≡ code) (cs : List (ℕ × ℕ)) (k : ℕ) (long : length (bytes_of_fields cs) ≡ k) where
     -- a child after fields is read back by the chain of children
     pub child_back : (v : A) (rest : List ℕ) (start n : ℕ) → format.Writable v → start + (k + format.size v) < 2 ^ 64 → 0 < n
-        → (children format.reads (code_of format.name) (bytes_of_fields cs ++ (format.bytes v ++ rest)) start (k + format.size v) n k).outcome ≡ Ok (Some (format.normal v))
+        → (children reads code (bytes_of_fields cs ++ (format.bytes v ++ rest)) start (k + format.size v) n k).outcome ≡ Ok (Some (format.normal v))
     child_back v rest start n w top more =
         let f = laws.header v w in
-        only_child format.reads (code_of format.name) cs (format.bytes v) rest start k (format.size v) (format.normal v) (sym (length-fields cs) ∙ long) f.long f.least f.most top f.size_first f.code_next (laws.read_back v w rest (start + k) (omega (arith, top))) n more
+        only_child reads code cs (format.bytes v) rest start k (format.size v) (format.normal v) (sym (length-fields cs) ∙ long) f.long f.least f.most top f.size_first (f.code_next ∙ coded v) (laws.read_back v w rest (start + k) (omega (arith, top))) n more
 
     pub optional_back : (c : Option A) (rest : List ℕ) (start : ℕ) → WritableOptional format c → start + (k + size_optional format c) < 2 ^ 64
-        → (children format.reads (code_of format.name) (bytes_of_fields cs ++ (bytes_optional format c ++ rest)) start (k + size_optional format c) (count_optional c) k).outcome ≡ Ok (normal_optional format c)
+        → (children reads code (bytes_of_fields cs ++ (bytes_optional format c ++ rest)) start (k + size_optional format c) (count_optional c) k).outcome ≡ Ok (normal_optional format c)
     optional_back (Some v) rest start w top = child_back v rest start 1 w top (lit< tt)
-    optional_back None rest start w top = ap (λ (r : Reading (Option A)). r.outcome) (children_zero format.reads (code_of format.name) (bytes_of_fields cs ++ ([] ++ rest)) start (k + 0) k)
+    optional_back None rest start w top = ap (λ (r : Reading (Option A)). r.outcome) (children_zero reads code (bytes_of_fields cs ++ ([] ++ rest)) start (k + 0) k)
 
-  module _ (code : ℕ) (input : List ℕ) (start long n o : ℕ) (c : Option A) (are : AreBytes input) (read : (children format.reads code input start long n o).outcome ≡ Ok c) where
+  module _ (code : ℕ) (input : List ℕ) (start long n o : ℕ) (c : Option A) (are : AreBytes input) (read : (children reads code input start long n o).outcome ≡ Ok c) where
     by : (d : Option A) → ForSome (λ v. (format.normal v ≡ v) × (format.size v < 2 ^ 32 → format.Writable v)) d → (normal_optional format d ≡ d) × (size_optional format d < 2 ^ 32 → WritableOptional format d)
     by (Some v) is = (ap (λ (u : A). Some u) is.0, is.1)
     by None is = (refl, λ small. tt)
 
     -- what a chain of children holds is its own normal form, and writable unless it is too long
     pub optional_sound : (normal_optional format c ≡ c) × (size_optional format c < 2 ^ 32 → WritableOptional format c)
-    optional_sound = by c (children_sound format.reads code input start long (λ v. (format.normal v ≡ v) × (format.size v < 2 ^ 32 → format.Writable v)) laws.sound are n o c read)
+    optional_sound = by c (children_sound reads code input start long (λ v. (format.normal v ≡ v) × (format.size v < 2 ^ 32 → format.Writable v)) laws.sound are n o c read)

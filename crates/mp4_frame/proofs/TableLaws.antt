@@ -33,15 +33,14 @@ pub record TableOf (X : Type 0) : Type 0 where
 module _ {X V : Type 0} {row_of : X → List ℕ} {entry_of : List ℕ → X} {Fits : X → Type 0} {e : ℕ} (name : BoxType) (make : ℕ → ℕ → List X → V) (table : V → TableOf X) (entry : IsEntry row_of entry_of Fits e) where
   abbrev pub format_table : Format V
   format_table = record {
-    name = name;
-    reads = λ bytes start size. reads_table make entry_of e bytes size;
+    name = λ _. name;
     size = λ v. size_table e (table v).entries;
     Writable = λ v. WritableTable Fits e (code_of name) (table v).version (table v).flags (table v).entries;
     bytes = λ v. bytes_table row_of e (code_of name) (table v).version (table v).flags (table v).entries;
     normal = λ v. v;
   }
 
-  pub laws_table : ((v : V) → make (table v).version (table v).flags (table v).entries ≡ v) → ((version flags : ℕ) (xs : List X) → table (make version flags xs) ≡ record { version = version; flags = flags; entries = xs }) → 0 < e → code_of name < 256 ^ 4 → IsBox format_table
+  pub laws_table : ((v : V) → make (table v).version (table v).flags (table v).entries ≡ v) → ((version flags : ℕ) (xs : List X) → table (make version flags xs) ≡ record { version = version; flags = flags; entries = xs }) → 0 < e → code_of name < 256 ^ 4 → IsBox (λ bytes start size. reads_table make entry_of e bytes size) format_table
   laws_table whole seen some coded = record {
     header = λ v w. header_of_table make row_of entry_of Fits e (code_of name) some coded entry.long entry.back entry.fits name refl (table v).version (table v).flags (table v).entries w;
     normal_form = λ v w. own_normal_form v refl w;

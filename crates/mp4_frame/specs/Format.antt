@@ -4,21 +4,28 @@ use Rattle.mp4_frame.specs.Laws.{BeginsWithHeader, Normal, ContentReadsBack, Con
 use Rattle.mp4_frame.specs.Reading.{Reading}
 use Rattle.mp4_frame.specs.declared.box_type.BoxType.{BoxType}
 
--- The format of the boxes of a type: their name; what is read of the bytes from a box's start on, for that start
--- and a size; and of a value how many bytes it is written in, whether it can be written, in which bytes, and as
--- which value it is read back.
+-- How the values of a type of boxes are written: their name, the number of bytes, whether a value can be written, in
+-- which bytes, and its normal form, the value that those bytes are read back as.
 pub record Format (A : Type 0) : Type 1 where
-  pub name : BoxType
-  pub reads : List ℕ → ℕ → ℕ → Reading A
+  pub name : A → BoxType
   pub size : A → ℕ
   pub Writable : A → Type 0
   pub bytes : A → List ℕ
   pub normal : A → A
 
--- The laws of a type of boxes: its bytes begin with its size and its code; its normal form has the same bytes, and
--- is its own; its bytes are read back as its normal form; what is read is writable, and its own normal form.
-pub record IsBox {A : Type 0} (format : Format A) : Type 0 where
-  pub header : (v : A) → format.Writable v → BeginsWithHeader (format.size v) format.name (format.bytes v)
+-- The laws of writing: the bytes begin with the size and the code; the normal form has the same bytes, and is its own.
+pub record IsWritten {A : Type 0} (format : Format A) : Type 0 where
+  pub header : (v : A) → format.Writable v → BeginsWithHeader (format.size v) (format.name v) (format.bytes v)
   pub normal_form : (v : A) → format.Writable v → Normal format.Writable format.bytes format.normal v
-  pub read_back : (v : A) → format.Writable v → ContentReadsBack format.reads (format.bytes v) (format.size v) (format.normal v)
-  pub sound : ContentIsSound format.reads format.Writable format.size format.normal
+
+-- The laws of a type of boxes, of which reads says what is read of the bytes from a box's start on, for that start
+-- and a size: also, its bytes are read back as its normal form, and what is read is writable, and its own normal form.
+pub record IsBox {A : Type 0} (reads : List ℕ → ℕ → ℕ → Reading A) (format : Format A) : Type 0 where
+  pub header : (v : A) → format.Writable v → BeginsWithHeader (format.size v) (format.name v) (format.bytes v)
+  pub normal_form : (v : A) → format.Writable v → Normal format.Writable format.bytes format.normal v
+  pub read_back : (v : A) → format.Writable v → ContentReadsBack reads (format.bytes v) (format.size v) (format.normal v)
+  pub sound : ContentIsSound reads format.Writable format.size format.normal
+
+-- of which these are the laws of writing
+abbrev pub write_laws : {A : Type 0} {reads : List ℕ → ℕ → ℕ → Reading A} {format : Format A} → IsBox reads format → IsWritten format
+write_laws laws = record { header = laws.header; normal_form = laws.normal_form }

@@ -1,4 +1,4 @@
-//! The header of a box, and what follows it in a full box.
+//! The header of a box, and the version and flags of a full box.
 
 ghost use Rattle.std.specs.Prelude.{◌≡◌, ℕ, ◌+◌, ◌-◌, ◌<◌, ◌≤◌, ◌^◌, ◌++◌, [], ◌∷◌, List, length, OnOk, OnErr};
 ghost use Rattle.mp4_frame.specs.Bytes.{bytes_of_fields};
@@ -17,7 +17,7 @@ use crate::reading::expect_bytes;
 use crate::write::lengthen;
 use std::alloc::Allocator;
 
-/// The number of bytes of a header with a size of 32 bits.
+/// The number of bytes of a header with a 32-bit size.
 pub const HEADER_SIZE: u64 = 8;
 
 /// The number of bytes of version and flags, which follow the header of a full box.
@@ -28,8 +28,8 @@ pub const HEADER_EXT_SIZE: u64 = 4;
 pub struct BoxHeader {
     /// The name.
     pub name: BoxType,
-    /// The number of bytes from 8 bytes before the content to the box's end. So a box whose size stands in
-    /// 64 bits, after the name, has 8 bytes more than this.
+    /// The number of bytes from 8 bytes before the content to the end of the box. A box whose header has a 64-bit
+    /// size has 8 bytes more than this.
     pub size: u64,
 }
 
@@ -41,7 +41,7 @@ impl BoxHeader {
         BoxHeader { name, size }
     }
 
-    /// Reads a header, and moves after it. The size is 0 where the header says 0, in both forms.
+    /// Reads a header, and moves the cursor to its end. The size is 0 if the header says 0, in both forms.
     pub fn read(reader: &mut ByteCursor) -> Result<BoxHeader>
         ensures answer { Answers result (header reader.old.bytes.now reader.old.position) }
         ensures moved { OnOk result (reader.new.position ≡ reader.old.position + header_length reader.old.bytes.now reader.old.position) }
@@ -56,8 +56,8 @@ impl BoxHeader {
         })
     }
 
-    /// Appends the header: 8 bytes, or 16 where the size needs more than 32 bits. Invalid data where the size
-    /// is above 2^64 - 9, since the 64-bit form counts 8 bytes more.
+    /// Appends the header and returns its length: 8 bytes, or 16 if the size needs more than 32 bits. Invalid data
+    /// if the size is above 2^64 - 9, since the 64-bit form counts 8 bytes more.
     #[tactic(auto, unfolding(crate::specs::Bytes::bytes_of_fields, crate::specs::Bytes::bytes_of_fields_onto))]
     pub fn write<A: Allocator>(&self, writer: &mut Vec<u8, A>) -> Result<u64>
         ensures { Writes (self.now.size ≤ 2 ^ 64 - 9) (bytes_header self.now) writer.old.items writer.new.items result }
@@ -82,14 +82,14 @@ impl BoxHeader {
     }
 }
 
-/// A header is read back from what was written, among any other bytes, unless its size is 1 or its name is
-/// an `UnknownBox` that holds a named code.
+/// A header that was written is read back, with any bytes before and after it. The exceptions are a size of 1
+/// and a name that is an `UnknownBox` with a named code.
 pub fn header_is_read_back()
     ensures { (h : _) (x y : List ℕ) → h.size ≤ 2 ^ 64 - 9 → (h.size ≡ 1 → ⊥) → code_of h.name < 2 ^ 32 → name_of (code_of h.name) ≡ h.name
         → (header (x ++ (bytes_header h ++ y)) (length x) ≡ done h) × (header_length (x ++ (bytes_header h ++ y)) (length x) ≡ length (bytes_header h)) }
 {}
 
-/// Reads version and flags, and moves after them.
+/// Reads version and flags, and moves the cursor after them.
 pub fn read_box_header_ext(reader: &mut ByteCursor) -> Result<(u8, u32)>
     ensures answer { Answers result (header_ext reader.old.bytes.now reader.old.position) }
     ensures moved { OnOk result (reader.new.position ≡ reader.old.position + 4) }
@@ -103,7 +103,7 @@ pub fn read_box_header_ext(reader: &mut ByteCursor) -> Result<(u8, u32)>
     Ok((u8_at(bytes, at), u24_at(bytes, at + 1)))
 }
 
-/// Appends version and flags, and returns 4. Invalid data where the flags need more than 24 bits.
+/// Appends version and flags, and returns 4. Invalid data if the flags need more than 24 bits.
 #[tactic(auto, unfolding(crate::specs::Bytes::bytes_of_fields, crate::specs::Bytes::bytes_of_fields_onto))]
 pub fn write_box_header_ext<A: Allocator>(
     writer: &mut Vec<u8, A>,

@@ -9,10 +9,10 @@ use crate::codes;
 use crate::four_cc::FourCC;
 use std::fmt;
 
-/// The name of a box: one of the named codes, or the code as a number.
+/// The name of a box: a variant for each named code, and `UnknownBox` with the number of any other code.
 #[derive(Clone, Copy, PartialEq, Eq)]
 pub enum BoxType {
-    /// `ftyp`: file types that the stream keeps to.
+    /// `ftyp`: file type and compatible brands.
     FtypBox,
     /// `mvhd`: movie header.
     MvhdBox,
@@ -24,7 +24,7 @@ pub enum BoxType {
     MdatBox,
     /// `moov`: movie: all metadata.
     MoovBox,
-    /// `mvex`: movie extends: that fragments follow.
+    /// `mvex`: movie extends: movie fragments follow.
     MvexBox,
     /// `mehd`: movie extends header.
     MehdBox,
@@ -106,9 +106,9 @@ pub enum BoxType {
     VpccBox,
     /// `vp09`: VP9 video.
     Vp09Box,
-    /// `data`: value of an item of metadata.
+    /// `data`: value of a metadata item.
     DataBox,
-    /// `ilst`: list of items of metadata.
+    /// `ilst`: list of metadata items.
     IlstBox,
     /// `covr`: cover picture.
     CovrBox,
@@ -116,7 +116,7 @@ pub enum BoxType {
     DescBox,
     /// `wide`: room for a longer header.
     WideBox,
-    /// `url`:  Data reference by location.
+    /// `url `: data reference by location.
     UrlBox,
     /// `©nam`: name.
     NameBox,
@@ -261,17 +261,17 @@ impl From<BoxType> for u32 {
     }
 }
 
-/// The code of the name of a code is that code.
+/// Converting a code to a name and back gives the same code.
 pub fn code_is_kept(code: u32)
     ensures { code_of (name_of code) ≡ code }
 {}
 
-/// The name of the code of a name is that name, but for an `UnknownBox` that holds a named code.
+/// Converting a name to a code and back gives the same name, except for an `UnknownBox` with a named code.
 pub fn name_is_kept()
     ensures { (name : _) → is_disguised name ≡ false → name_of (code_of name) ≡ name }
 {}
 
-/// The four characters of the code, with U+FFFD for each piece that is no UTF-8.
+/// The four bytes of the code as UTF-8, with U+FFFD for each piece that is not UTF-8.
 impl fmt::Display for BoxType {
     ghost output = { λ name. Some (encode_utf8_all (lossy_chars (be_bytes 4 (code_of name)))) };
 
@@ -280,7 +280,7 @@ impl fmt::Display for BoxType {
     }
 }
 
-/// As `Display`.
+/// The same as `Display`.
 impl fmt::Debug for BoxType {
     fn fmt<W: fmt::Write>(&self, f: &mut fmt::Formatter<W>) -> fmt::Result {
         fmt::Display::fmt(self, f)

@@ -1,4 +1,4 @@
-//! A place in a buffer.
+//! A cursor over a buffer.
 
 ghost use Rattle.std.specs.Prelude.{◌≡◌, ◌+◌, ◌*◌, ◌<◌, length, IfOk, OnOk, OnErr};
 ghost use Rattle.mp4_frame.specs.Reading.{AnswersAs, piece_at};
@@ -7,7 +7,7 @@ ghost use Rattle.mp4_frame.specs.Tables.{rows_at};
 use crate::error::Result;
 use crate::reading::{piece_at, rows_at};
 
-/// A place in a buffer. It may lie past the buffer's end.
+/// A position in a buffer. It may be past the end of the buffer.
 #[derive(Debug, Drop)]
 pub struct ByteCursor<'a> {
     bytes: &'a [u8],
@@ -15,7 +15,7 @@ pub struct ByteCursor<'a> {
 }
 
 impl<'a> ByteCursor<'a> {
-    /// The front of a buffer.
+    /// A cursor at the front of a buffer.
     pub fn new(bytes: &'a [u8]) -> Self
         ensures all { result.bytes ≡ bytes.entry }
         ensures front { result.position ≡ 0 }
@@ -23,14 +23,14 @@ impl<'a> ByteCursor<'a> {
         ByteCursor { bytes, position: 0 }
     }
 
-    /// How many bytes lie before the place.
+    /// The position: the number of bytes from the front of the buffer.
     pub fn position(&self) -> u64
         ensures { result ≡ self.now.position }
     {
         self.position
     }
 
-    /// Goes to a place of the buffer, or past its end.
+    /// Moves to an offset of the buffer, or past its end.
     pub fn set_position(&mut self, position: u64)
         ensures position { self.new.position ≡ position }
         ensures bytes { self.new.bytes ≡ self.old.bytes }
@@ -45,7 +45,8 @@ impl<'a> ByteCursor<'a> {
         self.bytes
     }
 
-    /// The next `n` bytes, which have to stand in the buffer. No bytes stand at any place.
+    /// Returns the next `n` bytes and moves after them, or end of input unless all of them are present. An `n` of 0
+    /// gives no bytes at every position.
     pub fn take(&mut self, n: u64) -> Result<&'a [u8]>
         ensures piece { AnswersAs (λ piece. piece.now) result (piece_at self.old.bytes.now self.old.position n) }
         ensures long { IfOk result (λ piece. length piece.now ≡ n) }
@@ -58,7 +59,8 @@ impl<'a> ByteCursor<'a> {
         Ok(piece)
     }
 
-    /// The next `n` rows of `E` bytes each, which have to stand in the buffer.
+    /// Returns the next `n` rows of `E` bytes each and moves after them, or end of input unless all of them are
+    /// present.
     pub fn take_rows<const E: usize>(&mut self, n: u64) -> Result<&'a [[u8; E]]>
         requires { 0 < E }
         ensures rows { AnswersAs (λ rows. rows.now) result (rows_at self.old.bytes.now self.old.position E n) }

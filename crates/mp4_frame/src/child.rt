@@ -1,4 +1,4 @@
-//! Children of boxes.
+//! Reading the children of a box.
 
 ghost use Rattle.std.specs.Prelude.{◌≡◌, ◌+◌, ◌<◌, ◌≤◌, ◌^◌, length, IfOk};
 ghost use Rattle.mp4_frame.specs.Children.{child, children};
@@ -13,18 +13,18 @@ use std::alloc::Global;
 /// A box whose children are read.
 #[derive(Clone, Copy, Debug)]
 pub struct Parent<'a> {
-    /// The bytes from its start to the end of the buffer.
+    /// The bytes from the start of the box to the end of the buffer.
     pub bytes: &'a [u8],
-    /// Its start, as `ReadBox::read_content` has it.
+    /// The offset of the box in the buffer, as in `ReadBox::read_content`.
     pub start: u64,
-    /// Its size.
+    /// The number of bytes from `start` to the end of the box.
     pub size: u64,
-    /// The text of the refusal of a child that is larger than it.
+    /// The error's text for a child that is larger than the box.
     pub too_large: &'static str,
 }
 
-/// Reads the head of a child at an offset of its parent. Invalid data where the child has fewer than 8 bytes, is
-/// larger than its parent, or ends past 64 bits.
+/// Reads the head of the child at an offset of its parent. Invalid data if the child has fewer than 8 bytes, is
+/// larger than its parent, or ends past 2^64 - 1.
 #[tactic(auto, unfolding(crate::specs::Children::child))]
 fn child_at(parent: &Parent, at: u64) -> Result<Head>
     ensures value { Answers result (child parent.now.bytes.now parent.now.start parent.now.size at) }
@@ -41,7 +41,8 @@ fn child_at(parent: &Parent, at: u64) -> Result<Head>
     Ok(child)
 }
 
-/// The last child with this code among those from an offset on, at most `most`. Others are skipped by their size.
+/// Reads every child with this code among at most `most` children from offset `from` on, and returns the last one.
+/// Children with other codes are skipped by their size.
 pub fn last_child<T: ReadBox + Drop>(
     alloc: Global,
     parent: &Parent,

@@ -1,4 +1,4 @@
-//! The codes of the named boxes: four characters in a box's header, as a number of four bytes, the highest first
+//! The codes of the named boxes: the four characters in a box's header, as a big-endian number of four bytes
 //! (ISO/IEC 14496-12, 4.2). `BoxType` says what each box is.
 
 /// `ftyp`.

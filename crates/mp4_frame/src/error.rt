@@ -10,10 +10,10 @@ use std::alloc::{AllocError, AllocFailed};
 /// and `OutOfMemory`; the other variants are for the layers above it.
 #[derive(Debug, Drop, thiserror::Error)]
 pub enum Error {
-    /// The input ends before the bytes that a box needs.
+    /// The input ends before all bytes that a box needs.
     #[error("unexpected end of input")]
     IoError,
-    /// A test of the layout failed. The text says which, for a person to read.
+    /// A check of the layout failed. The text says which one, for a person to read.
     #[error("{0}")]
     InvalidData(&'static str),
     /// A box lacks the child of this name.
@@ -43,7 +43,7 @@ pub enum Error {
     /// The box has a version that the reader doesn't know.
     #[error("{0} version {1} is not supported")]
     UnsupportedBoxVersion(BoxType, u8),
-    /// Memory was refused, or no vector can hold what was asked for.
+    /// Memory was refused, or the requested length is more than a vector can hold.
     #[error("out of memory")]
     OutOfMemory,
 }

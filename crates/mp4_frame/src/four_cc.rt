@@ -17,7 +17,7 @@ use std::str::FromStr;
 /// (ISO/IEC 14496-12, 3.1 and 4.2).
 #[derive(Clone, Copy, Default, PartialEq, Eq)]
 pub struct FourCC {
-    /// The four bytes, as they stand in a file.
+    /// The four bytes, in the order of the file.
     pub value: [u8; 4],
 }
 
@@ -90,7 +90,7 @@ impl From<BoxType> for FourCC {
     }
 }
 
-/// The bytes as text, with U+FFFD for each piece that is no UTF-8.
+/// The bytes as UTF-8, with U+FFFD for each piece that is not UTF-8.
 impl fmt::Display for FourCC {
     ghost output = { λ c. Some (encode_utf8_all (lossy_chars c.value)) };
 
@@ -108,7 +108,7 @@ impl fmt::Debug for FourCC {
     }
 }
 
-/// A code in a list of codes.
+/// A code as an entry in a list of codes.
 impl TableEntry<4> for FourCC {
     ghost use Rattle.mp4_frame.specs.FourCC.{IsFourCC};
 
@@ -125,10 +125,11 @@ impl TableEntry<4> for FourCC {
     }
 }
 
-/// Every value is a code. The result is for the prover, which know nothing of the bytes after a reference.
+/// Always true. For the prover: a value that was read has the range of its type.
 pub fn is_four_cc(code: FourCC) -> bool
     ensures { IsTrue result ↔ IsFourCC code }
 {
     let _code = code;
+    // For the prover: a value that was read has the range of its type.
     true
 }

@@ -1,4 +1,4 @@
-//! The frames of the boxes at the top level.
+//! The frame of a box at the top level of a buffer: its name, start, size and end.
 
 ghost use Rattle.std.specs.Prelude.{◌≡◌, ◌<◌, ◌≤◌, ◌+◌, ◌^◌, length, IfOk};
 ghost use Rattle.mp4_frame.specs.Reading.{FaultAs};
@@ -8,16 +8,17 @@ use crate::box_type::BoxType;
 use crate::error::{Error, Result};
 use crate::head::Head;
 
-/// The frame of a box in a buffer. All offsets are in bytes from the front of the buffer.
+/// The frame of a box in a buffer. Offsets are in bytes from the front of the buffer.
 #[derive(Clone, Copy, Debug)]
 pub struct Frame {
-    /// Its name.
+    /// The name of the box.
     pub name: BoxType,
-    /// Eight bytes before its content: where it begins, or 8 bytes later where its header has 16 bytes.
+    /// The offset 8 bytes before the content. This is where the box begins, or 8 bytes after that if its header has
+    /// 16 bytes.
     pub start: u64,
-    /// How many bytes it has from `start` on.
+    /// The number of bytes from `start` to `end`.
     pub size: u64,
-    /// The offset after it.
+    /// The offset after the box.
     pub end: u64,
 }
 
@@ -55,7 +56,7 @@ fn frame_of(len: u64, head: Head) -> Result<Frame>
     })
 }
 
-/// The frame at an offset before the buffer's end.
+/// The frame of the box at an offset before the end of the buffer.
 pub(crate) fn frame_at(bytes: &[u8], at: usize) -> Result<Frame>
     requires { at < length bytes.now }
     ensures answer { FaultAs result (frame bytes.now at) }

@@ -1,4 +1,4 @@
-//! The head of a box.
+//! The head of a box: its code, size and start.
 
 ghost use Rattle.std.specs.Prelude.{◌≡◌, ◌+◌, ◌≤◌, length, IfOk};
 ghost use Rattle.mp4_frame.specs.Reading.{Answers, FaultAs};
@@ -7,23 +7,23 @@ use crate::error::Result;
 use crate::number::{u32_at, u64_at};
 use crate::reading::{check, expect_bytes};
 
-/// The head of a box (ISO/IEC 14496-12, 4.2).
+/// The head of a box: what its header says (ISO/IEC 14496-12, 4.2).
 #[derive(Clone, Copy, Debug)]
 pub struct Head {
-    /// The number of the four characters that name the box.
+    /// The code of the box: its four characters as a number.
     pub code: u32,
-    /// The number of bytes from the start to the box's end. 0 is up to the end of the buffer, where the
-    /// box stands at the top level.
+    /// The number of bytes from `start` to the end of the box. At the top level, 0 means that the box goes to the
+    /// end of the buffer.
     pub size: u64,
-    /// Where a head of 8 bytes would begin: 8 bytes before the content.
+    /// The offset 8 bytes before the content. This is where a header of 8 bytes would begin.
     pub start: u64,
 }
 
 impl Head {
     ghost use Rattle.mp4_frame.specs.Heads.{head, header_length};
 
-    /// Reads the head at a place: 8 bytes, and 8 more where the size is 1. It is invalid data where those
-    /// say a size of 1 to 15.
+    /// Reads the head at offset `at`: 8 bytes, and 8 more if the first 4 hold a size of 1. End of input unless these
+    /// bytes are present; invalid data if the 64-bit size is 1 to 15.
     #[tactic(auto, unfolding(crate::specs::Heads::head))]
     pub fn at(bytes: &[u8], at: u64) -> Result<Head>
         ensures value { Answers result (head bytes.now at) }

@@ -1,5 +1,5 @@
-//! The frame of the boxes of an MP4 file: errors, codes, the cursor, headers, the traits of a box, and lists
-//! of boxes.
+//! What all boxes of an MP4 file share: errors, codes, the cursor, headers, the traits of a box, and lists of
+//! boxes.
 #![tactic(auto)]
 
 mod box_header;

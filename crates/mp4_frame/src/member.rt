@@ -1,5 +1,5 @@
-//! A type that holds boxes of several types, as an enum of them does: what it does alike for each of them. These are
-//! functions of one type each, since a function pays at its entry for all of its locals.
+//! Functions for a type that holds boxes of several types, such as an enum of them. Each function is for one type of
+//! box, since the cost of entering a function grows with all of its locals.
 
 ghost use Rattle.std.specs.Prelude.{◌≡◌, ◌-◌, ◌≤◌, IfOk, IfErr, OnErr};
 ghost use Rattle.mp4_frame.specs.Reading.{Answers, AnswersAs, map_reading, reading};
@@ -12,17 +12,17 @@ use crate::traits::ReadBox;
 use crate::try_clone::TryClone;
 use std::alloc::Global;
 
-/// A type that holds the boxes of type T.
+/// A type that holds boxes of type T.
 pub trait Holds<T>: Sized {
-    /// The box as one of this type.
+    /// The box as a value of this type.
     ghost wrapped: { T → Self };
 
-    /// The box as one of this type.
+    /// The box as a value of this type.
     fn wrap(value: T) -> Self
         ensures { result ≡ wrapped value };
 }
 
-/// Reads the box whose header was just read, as one of M, as one of E.
+/// Reads the box of type T whose header was just read, and returns it as an M inside an E.
 pub fn read_as<T: ReadBox + Drop, M: Holds<T>, E: Holds<M>>(
     alloc: Global,
     reader: &mut ByteCursor,
@@ -36,7 +36,7 @@ pub fn read_as<T: ReadBox + Drop, M: Holds<T>, E: Holds<M>>(
     Ok(E::wrap(M::wrap(T::read_box(alloc, reader, size)?)))
 }
 
-/// Reads the box whose header was just read, and appends it, as one of M, as one of E.
+/// Reads the box of type T whose header was just read, and appends it as an M inside an E.
 pub fn push_as<T: ReadBox + Drop, M: Holds<T>, E: Holds<M> + Drop>(
     alloc: Global,
     reader: &mut ByteCursor,
@@ -53,7 +53,7 @@ pub fn push_as<T: ReadBox + Drop, M: Holds<T>, E: Holds<M> + Drop>(
     Ok(())
 }
 
-/// An equal box, in memory of its own, as one of E.
+/// An equal box, in memory of its own, as an E.
 pub fn clone_as<T: TryClone + Drop, E: Holds<T>>(value: &T) -> Result<E>
     ensures clone { IfOk result (λ clone. clone ≡ E.wrapped value.now) }
     ensures memory { IfErr result (λ e. e ≡ OutOfMemory) }

@@ -1,4 +1,4 @@
-//! Lists of boxes are read up to the first fault.
+//! Reading lists of boxes, up to the first fault.
 
 ghost use Rattle.std.specs.Prelude.{◌≡◌, ◌+◌, max, length, OnOk, OnErr};
 ghost use Rattle.mp4_frame.specs.Reading.{AnswersAs};
@@ -30,7 +30,8 @@ fn read_rest<B: StreamBox>(alloc: Global, reader: &mut ByteCursor) -> Result<Vec
     Ok(boxes)
 }
 
-/// The boxes from the place to the buffer's end, or the first fault. Boxes of other names are skipped.
+/// Reads the boxes from the cursor's position to the end of the buffer, or returns the first fault. Boxes with
+/// names that `B` does not know are skipped.
 pub fn read_boxes_as<B: StreamBox>(alloc: Global, reader: &mut ByteCursor) -> Result<Vec<B>>
     ensures answer { AnswersAs (λ v. v.items) result (boxes B.known B.named_reading reader.old.bytes.now reader.old.position) }
     ensures moved { OnOk result (reader.new.position ≡ max reader.old.position (length reader.old.bytes.now)) }

@@ -1,4 +1,4 @@
-//! Going on to other places of a buffer.
+//! Moving the cursor in its buffer.
 
 ghost use Rattle.std.specs.Prelude.{◌≡◌, ◌+◌, ◌-◌, ◌≤◌, ◌^◌, nat_lt, Ok, OnOk, OnErr};
 ghost use Rattle.mp4_frame.specs.Reading.{Answers, check};
@@ -8,7 +8,7 @@ use crate::byte_cursor::ByteCursor;
 use crate::error::Result;
 use crate::reading::check;
 
-/// The start of the box whose header was just read: 8 bytes before the place.
+/// The start of the box whose header was just read: 8 bytes before the cursor's position.
 pub fn box_start(reader: &ByteCursor) -> Result<u64>
     requires { 8 ≤ reader.now.position }
     ensures { result ≡ Ok (reader.now.position - 8) }
@@ -16,7 +16,7 @@ pub fn box_start(reader: &ByteCursor) -> Result<u64>
     Ok(reader.position() - HEADER_SIZE)
 }
 
-/// Goes on by `size` bytes. Invalid data where the place would lie past 2^64 - 1.
+/// Moves forward by `size` bytes. Invalid data if the position would be past 2^64 - 1.
 pub fn skip_bytes(reader: &mut ByteCursor, size: u64) -> Result<()>
     ensures answer { Answers result (check (nat_lt (reader.old.position + size) (2 ^ 64))) }
     ensures moved { OnOk result (reader.new.position ≡ reader.old.position + size) }
@@ -29,7 +29,7 @@ pub fn skip_bytes(reader: &mut ByteCursor, size: u64) -> Result<()>
     Ok(())
 }
 
-/// Goes to a place of the buffer, or past its end.
+/// Moves to an offset of the buffer, or past its end.
 pub fn skip_bytes_to(reader: &mut ByteCursor, position: u64) -> Result<()>
     ensures answer { result ≡ Ok tt }
     ensures moved { reader.new.position ≡ position }
@@ -39,8 +39,8 @@ pub fn skip_bytes_to(reader: &mut ByteCursor, position: u64) -> Result<()>
     Ok(())
 }
 
-/// Goes to the end of the box of this size whose header was just read. Invalid data where the end would lie
-/// past 2^64 - 1.
+/// Moves to the end of the box of this size whose header was just read. Invalid data if that end would be past
+/// 2^64 - 1.
 pub fn skip_box(reader: &mut ByteCursor, size: u64) -> Result<()>
     requires { 8 ≤ reader.old.position }
     ensures answer { Answers result (check (nat_lt (reader.old.position - 8 + size) (2 ^ 64))) }

@@ -1,4 +1,4 @@
-//! Boxes of one counted table: version, flags, a count, and that many rows of one length.
+//! Boxes with one counted table: version, flags, a count, and that many rows of one length.
 
 ghost use Rattle.std.specs.Prelude.{◌≡◌, ℕ, ◌≤◌, ◌<◌, ◌+◌, ◌*◌, ◌-◌, ◌^◌, ◌++◌, ◌↔◌, min, All, IsTrue, List, length, take, flat_map};
 ghost use Rattle.mp4_frame.specs.Bytes.{be_bytes};
@@ -10,18 +10,18 @@ use crate::number::{u8_at, u24_at, u32_at};
 use crate::put::{put_bytes, put_full_box, put_u32};
 use crate::reading::{check, expect_bytes, rows_at};
 
-/// An entry of a table, which a row of `E` bytes spells.
+/// An entry of a table. Its row has `E` bytes.
 pub trait TableEntry<const E: usize>: Copy {
     /// The bytes of its row.
     ghost row_of: { Self → List ℕ };
 
-    /// Its numbers have the ranges of their types.
+    /// Its numbers are in the ranges of their types.
     ghost Fits: { Self → Type 0 };
 
     fn to_row(&self) -> [u8; E]
         ensures { result ≡ row_of self.now };
 
-    /// Every entry fits. The result is for the prover, which know no ranges of the entries of a slice.
+    /// Always true. For the prover: a value that was read has the range of its type.
     fn fits(&self) -> bool
         ensures { IsTrue result ↔ Fits self.now };
 }
@@ -37,6 +37,7 @@ impl TableEntry<4> for u32 {
     }
 
     fn fits(&self) -> bool {
+        // For the prover: a value that was read has the range of its type.
         let _entry = *self;
         true
     }
@@ -53,13 +54,14 @@ impl TableEntry<8> for u64 {
     }
 
     fn fits(&self) -> bool {
+        // For the prover: a value that was read has the range of its type.
         let _entry = *self;
         true
     }
 }
 
-/// Version, flags and the rows of a box of this size whose one table has rows of `E` bytes. `too_many` is the
-/// text of the refusal where the count is more than the size has room for.
+/// Version, flags and rows of a box of this size that has one table with rows of `E` bytes. `too_many` is the
+/// error's text if the count is more than the size has room for.
 #[tactic(auto, unfolding(crate::specs::Tables::counted_rows))]
 pub fn read_table<'a, const E: usize>(
     bytes: &'a [u8],
@@ -76,7 +78,7 @@ pub fn read_table<'a, const E: usize>(
     Ok((u8_at(bytes, 8), u24_at(bytes, 9), rows))
 }
 
-/// The size of a box of one table with these entries.
+/// The size of a box of one table with these entries, at most 2^64 - 1.
 pub fn table_size<T: TableEntry<E>, const E: usize>(entries: &[T]) -> u64
     ensures { result ≡ min (size_table E entries.now) (2 ^ 64 - 1) }
 {
@@ -85,7 +87,7 @@ pub fn table_size<T: TableEntry<E>, const E: usize>(entries: &[T]) -> u64
         .saturating_add(16)
 }
 
-/// Every list of entries fits. The result is for the prover, as that of `TableEntry::fits`.
+/// Always true. For the prover: a value that was read has the range of its type.
 pub fn all_fit<T: TableEntry<E>, const E: usize>(entries: &[T]) -> bool
     ensures { IsTrue result ↔ All T.Fits entries.now }
 {
@@ -96,7 +98,7 @@ pub fn all_fit<T: TableEntry<E>, const E: usize>(entries: &[T]) -> bool
     )
 }
 
-/// A box of one table with these entries can be written.
+/// Whether a box of one table with these entries can be written.
 #[tactic(auto, using(crate::proofs::Tables::few_entries))]
 pub fn is_writable_table<T: TableEntry<E>, const E: usize>(
     code: u32,
@@ -110,7 +112,7 @@ pub fn is_writable_table<T: TableEntry<E>, const E: usize>(
     flags < 1 << 24 && table_size(entries) < 1 << 32 && all_fit(entries)
 }
 
-/// Fills a place with a box of one table.
+/// Fills `out` with a box of one table.
 #[tactic(auto, unfolding(crate::specs::Bytes::bytes_of_fields, crate::specs::Bytes::bytes_of_fields_onto))]
 pub fn put_table<T: TableEntry<E>, const E: usize>(
     out: &mut [u8],
@@ -129,7 +131,7 @@ pub fn put_table<T: TableEntry<E>, const E: usize>(
     put_entries(out, at, entries);
 }
 
-/// Puts the rows of entries, and returns the offset after them.
+/// Puts the rows of the entries, and returns the offset after them.
 pub fn put_entries<T: TableEntry<E>, const E: usize>(
     out: &mut [u8],
     at: usize,

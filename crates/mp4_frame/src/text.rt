@@ -1,4 +1,4 @@
-//! Texts, seen as their bytes.
+//! Strings. Contracts see only their bytes.
 
 ghost use Rattle.std.specs.Prelude.{◌≡◌, ◌==◌, ◌↔◌, [], IfOk, IfErr, IsTrue, length, nat_eq, string_bytes};
 ghost use Rattle.std.specs.Cmp.{partial_equiv_from_equiv};
@@ -14,8 +14,8 @@ use std::fmt;
 use std::marker::Model;
 use std::ops::Deref;
 
-/// A text, which clauses see as its bytes in UTF-8. Two are equal where their bytes are. It is made from a
-/// `String` by `into()` and turned into one by `into_string()`, which take no memory.
+/// A string, which contracts see as its UTF-8 bytes. `into()` makes it from a `String`, and `into_string()` turns it
+/// into one; neither takes memory. Two are equal if their bytes are equal.
 #[derive(Drop)]
 pub struct Text {
     string: String,
@@ -30,7 +30,7 @@ impl Model for Text {
 }
 
 impl Text {
-    /// No characters, and no memory taken.
+    /// An empty string, which takes no memory.
     pub fn new(alloc: Global) -> Text
         ensures { result ≡ [] }
     {
@@ -39,7 +39,7 @@ impl Text {
         }
     }
 
-    /// A copy of a text.
+    /// A copy of `text`.
     pub fn from_str(alloc: Global, text: &str) -> Result<Text>
         ensures text { IfOk result (λ t. t ≡ text.now) }
         ensures memory { IfErr result (λ e. e ≡ OutOfMemory) }
@@ -49,7 +49,7 @@ impl Text {
         })
     }
 
-    /// A copy of bytes that are UTF-8, and of another text where they aren't.
+    /// A copy of `bytes` if they are UTF-8, else a copy of `other`.
     #[tactic(auto, using(crate::specs::TextLaws::text_as_is, crate::specs::TextLaws::text_replaced))]
     pub fn from_utf8_or(alloc: Global, bytes: &[u8], other: &str) -> Result<Text>
         ensures text { IfOk result (λ t. t ≡ text_or other.now bytes.now) }
@@ -61,21 +61,21 @@ impl Text {
         }
     }
 
-    /// The text as a string.
+    /// The string as a `String`.
     pub fn into_string(self) -> String
         ensures { string_bytes result ≡ self }
     {
         self.string
     }
 
-    /// The text.
+    /// The string as a `&str`.
     pub fn as_str(&self) -> &str
         ensures { result.now ≡ self.now }
     {
         self.string.as_str()
     }
 
-    /// Its bytes.
+    /// Its UTF-8 bytes.
     pub fn as_bytes(&self) -> &[u8]
         ensures { result.now ≡ self.now }
     {
@@ -89,17 +89,18 @@ impl Text {
         self.as_bytes().len()
     }
 
-    /// Whether it has no characters.
+    /// Whether it is empty.
     pub fn is_empty(&self) -> bool
         ensures { result ≡ (length self.now == 0) }
     {
         self.as_bytes().is_empty()
     }
 
-    /// Every text is. The result is for the prover, which see the bytes alone.
+    /// Always true. For the prover: a value that was read has the range of its type.
     pub fn is_utf8(&self) -> bool
         ensures { IsTrue result ↔ IsUtf8 self.now }
     {
+        // For the prover: a value that was read has the range of its type.
         let _text = self.string.as_str();
         true
     }
@@ -121,7 +122,7 @@ impl From<String> for Text {
     }
 }
 
-/// A text is used as a string that is only read.
+/// A `Text` can be used as a `String` that is only read.
 impl Deref for Text {
     type Target = String;
 

@@ -1,10 +1,11 @@
-//! What is said of a box: how long it is, how it is read and written, and how it is read and written in lists.
+//! The traits of a box: its name and size, how it is read and written, and how it is read and written in lists.
 
 ghost use Rattle.std.specs.Prelude.{◌≡◌, ℕ, ◌+◌, ◌-◌, ◌^◌, ◌<◌, ◌≤◌, ◌↔◌, min, Bool, IsTrue, List, length, OnOk, OnErr};
 ghost use Rattle.mp4_frame.specs.Reading.{Reading, Answers, AnswersAs, reading};
 ghost use Rattle.mp4_frame.specs.Written.{Writes};
 ghost use Rattle.mp4_frame.specs.Streams.{append_read};
-ghost use Rattle.mp4_frame.specs.Laws.{BeginsWithHeader, Normal, OwnName, ReadsBack, ContentReadsBack, ContentIsSound};
+ghost use Rattle.mp4_frame.specs.Format.{Format, IsWritten, IsBox};
+ghost use Rattle.mp4_frame.specs.Laws.{OwnName, ReadsBack};
 ghost use Rattle.mp4_frame.specs.declared.box_type.BoxType.{BoxType};
 
 use crate::box_type::BoxType;
@@ -16,36 +17,36 @@ use std::alloc::{Allocator, Global};
 
 /// A box has a name and a size (ISO/IEC 14496-12, 4.2).
 pub trait Mp4Box: Sized {
-    /// The name.
-    ghost name: { Self → BoxType };
+    /// How the values of this type are written: the name; the number of bytes; whether a value can be written; the
+    /// bytes; and the normal form, the value that the bytes are read back as. It differs from the value only in what
+    /// the bytes don't hold.
+    ghost format: { Format Self };
 
-    /// The number of bytes that it is written in, without a limit.
-    ghost size: { Self → ℕ };
-
-    /// The name, which the header holds as a code of four characters.
+    /// The name. The header has it as a code of four characters.
     fn box_type(&self) -> BoxType
-        ensures { result ≡ name self.now };
+        ensures { result ≡ format.name self.now };
 
-    /// The number of bytes that it is written in, with the header; at most 2^64 - 1, where it stops.
+    /// The number of bytes that it is written in, with the header. It saturates at 2^64 - 1.
     fn box_size(&self) -> u64
-        ensures { result ≡ min (size self.now) (2 ^ 64 - 1) };
+        ensures { result ≡ min (format.size self.now) (2 ^ 64 - 1) };
 }
 
 /// A box whose content is read after its header.
 pub trait ReadBox: Sized {
-    /// What is read of the bytes from the box's start on, for that start and the box's size.
+    /// What is read, for the bytes from the box's start on, that start, and the box's size.
     ghost reads: { List ℕ → ℕ → ℕ → Reading Self };
 
-    /// Reads the content of a box. `bytes` begins with the box's header of 8 bytes and goes on to the buffer's end;
-    /// `start` is the offset of the box in the buffer, and `size` its size. Fields are at fixed offsets of `bytes`,
-    /// and may be read past `size`. Returns the first fault, or out of memory.
+    /// Reads the content of a box. `bytes` begins at the box's start, 8 bytes before the content, and goes on to the
+    /// end of the buffer. `start` is the offset of the box's start in the buffer, and `size` its size from there.
+    /// Fields are at fixed offsets of `bytes`, and may be read past `size`. An error is the first fault, or out of
+    /// memory.
     fn read_content(alloc: Global, bytes: &[u8], start: u64, size: u64) -> Result<Self>
         requires { start + size < 2 ^ 64 }
         ensures { Answers result (reads bytes.now start size) };
 
     /// Reads the box whose header was just read: `size` is the header's, and the cursor is at the end of the header.
-    /// The cursor goes to the box's end, or after an `Err` (invalid data, end of input, out of memory) is where it
-    /// was.
+    /// After an `Ok` the cursor is at the end of the box. After an `Err` (invalid data, end of input, a missing
+    /// child, out of memory) it is where it was.
     final fn read_box(alloc: Global, reader: &mut ByteCursor, size: u64) -> Result<Self>
         requires { 8 ≤ reader.old.position }
         ensures answer { Answers result (reading reads reader.old.bytes.now (reader.old.position - 8) size) }
@@ -61,37 +62,26 @@ pub trait ReadBox: Sized {
     }
 }
 
-/// A box is written whole or not at all.
+/// A box that can be written, whole or not at all.
 pub trait WriteBox: Mp4Box {
-    /// It can be written: each number fits its field, and the whole box 32 bits of size.
-    ghost Writable: { Self → Type 0 };
-
-    /// The bytes that it is written in.
-    ghost bytes: { Self → List ℕ };
-
-    /// The value that its bytes are read back as: the same but for what the bytes don't hold.
-    ghost normal: { Self → Self };
-
-    /// Whether it can be written.
+    /// Whether it can be written: each number fits its field, and the size of the whole box fits 32 bits.
     fn is_writable(&self) -> bool
-        ensures { IsTrue result ↔ Writable self.now };
+        ensures { IsTrue result ↔ Self.format.Writable self.now };
 
-    /// Fills a slice of the box's size with its bytes.
+    /// Fills `out`, a slice of the box's size, with the box's bytes.
     fn put_box(&self, out: &mut [u8])
-        requires writable { Writable self.now }
-        requires room { length out.old ≡ Self.size self.now }
-        ensures { out.new ≡ bytes self.now };
+        requires writable { Self.format.Writable self.now }
+        requires room { length out.old ≡ Self.format.size self.now }
+        ensures { out.new ≡ Self.format.bytes self.now };
 
-    /// Its bytes begin with its size and its code, and are as many.
-    ghost header: { (v : Self) → Writable v → BeginsWithHeader (Self.size v) (Self.name v) (bytes v) };
+    /// Its bytes begin with its size and its code, and their number is its size. Its normal form can be written, has
+    /// the same bytes, and is its own normal form.
+    ghost write_laws: { IsWritten Self.format };
 
-    /// Its normal form can be written, in the same bytes, and is its own normal form.
-    ghost normal_form: { (v : Self) → Writable v → Normal Writable bytes normal v };
-
-    /// Appends the box's bytes and returns their number, or leaves the vector as it was: invalid data where the
+    /// Appends the box's bytes and returns their number. After an `Err` the vector is as it was: invalid data if the
     /// box can't be written, else out of memory.
     final fn write_box<A: Allocator>(&self, writer: &mut Vec<u8, A>) -> Result<u64>
-        ensures { Writes (Writable self.now) (bytes self.now) writer.old.items writer.new.items result }
+        ensures { Writes (Self.format.Writable self.now) (Self.format.bytes self.now) writer.old.items writer.new.items result }
     {
         if !self.is_writable() {
             return Err(Error::InvalidData("value does not fit its field"));
@@ -106,10 +96,10 @@ pub trait WriteBox: Mp4Box {
 
 /// A box that can be in a list of boxes.
 pub trait StreamBox: WriteBox + Drop {
-    /// The names that are read. Boxes of others are skipped.
+    /// The names that are read. Boxes with other names are skipped.
     ghost known: { BoxType → Bool };
 
-    /// What is read of a buffer under a name, at a start, with a size.
+    /// What is read under a name, for the bytes of the buffer, the box's start, and its size.
     ghost named_reading: { BoxType → List ℕ → ℕ → ℕ → Reading Self };
 
     /// Whether boxes of this name are read.
@@ -143,18 +133,16 @@ pub trait StreamBox: WriteBox + Drop {
         Ok(())
     }
 
-    /// Its name is known, and the one that its code stands for.
-    ghost own_name: { (v : Self) → Self.Writable v → OwnName known (Self.name v) };
+    /// Its name is known, and is the name that its code is read as.
+    ghost own_name: { (v : Self) → Self.format.Writable v → OwnName known (Self.format.name v) };
 
-    /// Its bytes are read under its name as its normal form, whatever bytes are around them.
-    ghost read_back: { (v : Self) → Self.Writable v → ReadsBack (named_reading (Self.name v)) (Self.bytes v) (Self.normal v) };
+    /// Its bytes are read, under its name, as its normal form, with any bytes before and after them.
+    ghost read_back: { (v : Self) → Self.format.Writable v → ReadsBack (named_reading (Self.format.name v)) (Self.format.bytes v) (Self.format.normal v) };
 }
 
-/// A box that is read back as it was written.
+/// A box with its laws: what was written is read back.
 pub trait BoxLaws: ReadBox + WriteBox {
-    /// Its bytes are read as its normal form, whatever bytes follow them.
-    ghost read_back: { (v : Self) → Self.Writable v → ContentReadsBack Self.reads (Self.bytes v) (Self.size v) (Self.normal v) };
-
-    /// What is read is its own normal form, and can be written unless it is too large.
-    ghost sound: { ContentIsSound Self.reads Self.Writable Self.size Self.normal };
+    /// The laws of writing. Its bytes are read as its normal form, with any bytes after them. A value that was read
+    /// is its own normal form, and can be written unless it is too large.
+    ghost laws: { IsBox Self.reads Self.format };
 }

@@ -1,11 +1,11 @@
-//! Cloning, where memory allows.
+//! Cloning that can be out of memory.
 
 ghost use Rattle.std.specs.Prelude.{◌≡◌, IfOk, IfErr};
 ghost use Rattle.mp4_frame.specs.declared.error.Error.TheVariants.{OutOfMemory};
 
 use crate::error::Result;
 
-/// A type whose values can be cloned, unless memory is refused.
+/// A type whose values can be cloned. The only error is out of memory.
 pub trait TryClone: Sized {
     /// An equal value, in memory of its own.
     fn try_clone(&self) -> Result<Self>

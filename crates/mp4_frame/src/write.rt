@@ -1,4 +1,4 @@
-//! Lists of boxes are written whole or not at all.
+//! Writing lists of boxes, whole or not at all.
 
 ghost use Rattle.std.specs.Prelude.{◌≡◌, ◌+◌, ◌≤◌, ◌++◌, take, ◌↔◌, length, All, replicate, IsTrue, OnOk, OnErr, IfErr, MatchResult};
 ghost use Rattle.mp4_frame.specs.Streams.{stream};
@@ -10,7 +10,7 @@ use crate::error::{Error, Result};
 use crate::traits::{Mp4Box, StreamBox, WriteBox};
 use std::alloc::Allocator;
 
-/// Appends `n` zeros, by one request for memory.
+/// Appends `n` zero bytes, with one request for memory.
 pub(crate) fn lengthen<A: Allocator>(writer: &mut Vec<u8, A>, n: usize) -> Result<()>
     ensures ok { OnOk result (writer.new.items ≡ writer.old.items ++ replicate n 0) }
     ensures err { OnErr result (writer.new.items ≡ writer.old.items) }
@@ -23,7 +23,7 @@ pub(crate) fn lengthen<A: Allocator>(writer: &mut Vec<u8, A>, n: usize) -> Resul
     Ok(())
 }
 
-/// Appends `size` zeros.
+/// Appends `size` zero bytes.
 pub fn write_zeros<A: Allocator>(writer: &mut Vec<u8, A>, size: u64) -> Result<()>
     ensures ok { OnOk result (writer.new.items ≡ writer.old.items ++ replicate size 0) }
     ensures err { OnErr result (writer.new.items ≡ writer.old.items) }
@@ -33,14 +33,14 @@ pub fn write_zeros<A: Allocator>(writer: &mut Vec<u8, A>, size: u64) -> Result<(
 }
 
 fn are_writable<B: WriteBox>(boxes: &[B]) -> bool
-    ensures { IsTrue result ↔ All B.Writable boxes.now }
+    ensures { IsTrue result ↔ All B.format.Writable boxes.now }
 {
     boxes.iter().all(|b| b.is_writable())
 }
 
 fn total_size<B: WriteBox>(boxes: &[B]) -> Result<usize>
-    requires { All B.Writable boxes.now }
-    ensures { MatchResult result (λ n. n ≡ length (stream B.bytes boxes.now)) (λ e. e ≡ OutOfMemory) }
+    requires { All B.format.Writable boxes.now }
+    ensures { MatchResult result (λ n. n ≡ length (stream B.format.bytes boxes.now)) (λ e. e ≡ OutOfMemory) }
 {
     let mut total: usize = 0;
     for b in boxes {
@@ -53,9 +53,9 @@ fn total_size<B: WriteBox>(boxes: &[B]) -> Result<usize>
 }
 
 fn put_boxes<B: WriteBox>(boxes: &[B], out: &mut [u8])
-    requires writable { All B.Writable boxes.now }
-    requires room { length out.old ≡ length (stream B.bytes boxes.now) }
-    ensures { out.new ≡ stream B.bytes boxes.now }
+    requires writable { All B.format.Writable boxes.now }
+    requires room { length out.old ≡ length (stream B.format.bytes boxes.now) }
+    ensures { out.new ≡ stream B.format.bytes boxes.now }
 {
     let mut at: usize = 0;
     for b in boxes {
@@ -65,9 +65,10 @@ fn put_boxes<B: WriteBox>(boxes: &[B], out: &mut [u8])
     }
 }
 
-/// Appends the boxes, and returns the number of bytes.
+/// Appends the boxes' bytes and returns their number. After an `Err` the vector is as it was: invalid data if a box
+/// can't be written, else out of memory.
 pub fn write_boxes<B: StreamBox, A: Allocator>(boxes: &[B], writer: &mut Vec<u8, A>) -> Result<u64>
-    ensures { Writes (All B.Writable boxes.now) (stream B.bytes boxes.now) writer.old.items writer.new.items result }
+    ensures { Writes (All B.format.Writable boxes.now) (stream B.format.bytes boxes.now) writer.old.items writer.new.items result }
 {
     if !are_writable(boxes) {
         return Err(Error::InvalidData("value does not fit its field"));

@@ -8,12 +8,14 @@ use Rattle.std.proofs.lemmas.List.{append-nil, append_assoc, map-append, take_al
 use Rattle.mp4_frame.specs.Bytes.{number, be_bytes}
 use Rattle.mp4_frame.specs.Reading.{memory, done, ◌>>=◌}
 use Rattle.mp4_frame.specs.Tables.{rows, rows_at}
-use Rattle.mp4_tables.specs.Flagged.{is_set, width_if, optional}
+use Rattle.mp4_tables.specs.Flagged.{width_if, optional}
 use Rattle.mp4_tables.specs.Rows.{rows_within}
-use Rattle.mp4_tables.specs.TrunLists.{size_in_row, flags_in_row, cts_in_row, row_length, column_if, lists_of, reads_lists, HasAt}
+use Rattle.mp4_tables.specs.TrunRows.{row_flags, size_in_row, flags_in_row, cts_in_row, row_length}
+use Rattle.mp4_tables.specs.TrunLists.{column_if, lists_of, reads_lists, HasAt}
 use Rattle.mp4_tables.specs.Trun.{ListedTrun, row_trun, rows_trun}
 use Rattle.mp4_tables.specs.TrunLaws.{length_rows}
 use Rattle.mp4_tables.specs.declared.trun.TrunBox.{TrunBox}
+use Rattle.mp4_tables.specs.declared.trun.row_flags.RowFlags.{RowFlags}
 
 more_from : (f : ℕ → List ℕ) (a n : ℕ) → flat_map f (range_with_len a (n + 1)) ≡ flat_map f (range_with_len a n) ++ f (a + n)
 more_from f a zero =
@@ -30,11 +32,11 @@ rows_more v i =
     let here : 0 + i ≡ i = omega arith in
     more_from (row_trun v) 0 i ∙ ap (λ (k : ℕ). rows_trun v i ++ row_trun v k) here
 
-nothing : (xs : List ℕ) → length xs ≡ 0 → xs ≡ []
-nothing [] h = refl
-nothing (x ∷ xs) h = absurd (omega arith)
+is_empty : (xs : List ℕ) → length xs ≡ 0 → xs ≡ []
+is_empty [] h = refl
+is_empty (x ∷ xs) h = absurd (omega arith)
 
--- a number of a list that is there, and one of none
+-- a number of a list whose flag is set, and one of an empty list
 pub number_put : (xs : List ℕ) (i d : ℕ) → i < length xs → optional 4 (slice_get xs i) ≡ be_bytes 4 (get_or xs i d)
 unfolding optional
 number_put xs i d lt = rw (slice_get-get_or xs i d lt) refl
@@ -53,16 +55,20 @@ unfolding row_trun
 row_put v i front = rw (rows_more v i) (simp append_assoc)
 
 -- rows of no bytes
-pub no_rows : (v : TrunBox) → ListedTrun v → row_length v.flags ≡ 0 → rows_trun v v.sample_count ≡ []
+pub no_bytes : (has : RowFlags) → has.duration ≡ false → has.size ≡ false → has.flags ≡ false → has.cts ≡ false → row_length has ≡ 0
+unfolding width_if
+no_bytes has duration size flags cts = rw (duration, size, flags, cts) refl
+
+no_rows : (v : TrunBox) → ListedTrun v → row_length (row_flags v.flags) ≡ 0 → rows_trun v v.sample_count ≡ []
 no_rows v w none =
     let le : v.sample_count ≤ v.sample_count = omega arith in
-    let zero_bytes : row_length v.flags * v.sample_count ≡ 0 = ap (λ (k : ℕ). k * v.sample_count) none ∙ omega arith in
-    nothing (rows_trun v v.sample_count) (length_rows v w v.sample_count le ∙ zero_bytes)
+    let zero_bytes : row_length (row_flags v.flags) * v.sample_count ≡ 0 = ap (λ (k : ℕ). k * v.sample_count) none ∙ omega arith in
+    is_empty (rows_trun v v.sample_count) (length_rows v w v.sample_count le ∙ zero_bytes)
 
 -- what is put of rows of no bytes
-pub nothing_put : (v : TrunBox) → ListedTrun v → (out : List ℕ) (at : ℕ) → row_length v.flags ≡ 0 → at + row_length v.flags * v.sample_count ≡ length out → out ≡ take at out ++ rows_trun v v.sample_count
+pub nothing_put : (v : TrunBox) → ListedTrun v → (out : List ℕ) (at : ℕ) → row_length (row_flags v.flags) ≡ 0 → at + row_length (row_flags v.flags) * v.sample_count ≡ length out → out ≡ take at out ++ rows_trun v v.sample_count
 nothing_put v w out at none room =
-    let zero_bytes : row_length v.flags * v.sample_count ≡ 0 = ap (λ (k : ℕ). k * v.sample_count) none ∙ omega arith in
+    let zero_bytes : row_length (row_flags v.flags) * v.sample_count ≡ 0 = ap (λ (k : ℕ). k * v.sample_count) none ∙ omega arith in
     let whole : take at out ≡ out = take_all at out (omega (arith, room, zero_bytes)) in
     rw (no_rows v w none, whole) (sym (append-nil out))
 
@@ -79,10 +85,10 @@ unfolding width_if
 one true = omega arith
 one false = omega arith
 
-unset : (b : Bool) (o : ℕ) (found : List (List ℕ)) → width_if b 4 ≡ 0 → column_if b o found ≡ []
+no_column : (b : Bool) (o : ℕ) (found : List (List ℕ)) → width_if b 4 ≡ 0 → column_if b o found ≡ []
 unfolding width_if column_if
-unset true o found h = absurd (omega arith)
-unset false o found h = refl
+no_column true o found h = absurd (omega arith)
+no_column false o found h = refl
 
 empty_rows : (bytes : List ℕ) (size o n : ℕ) → rows_within bytes size o 0 n ≡ done (rows bytes o 0 n)
 unfolding rows_within rows_at
@@ -92,36 +98,36 @@ empty_rows bytes size o n =
     rw (none, room) refl
 
 -- what is read of rows of no bytes
-pub no_lists : (bytes : List ℕ) (size flags o count : ℕ) → (row_length flags ≡ 4 → ⊥) → (row_length flags ≡ 8 → ⊥) → (row_length flags ≡ 12 → ⊥) → (row_length flags ≡ 16 → ⊥)
-    → (reads_lists bytes size flags o count).outcome ≡ Ok (record { durations = []; sizes = []; flags = []; cts = [] })
+pub no_lists : (bytes : List ℕ) (size o count : ℕ) (has : RowFlags) → (row_length has ≡ 4 → ⊥) → (row_length has ≡ 8 → ⊥) → (row_length has ≡ 12 → ⊥) → (row_length has ≡ 16 → ⊥)
+    → (reads_lists bytes size has o count).outcome ≡ Ok (record { durations = []; sizes = []; flags = []; cts = [] })
 unfolding reads_lists
-no_lists bytes size flags o count n4 n8 n12 n16 =
-    let fa = four (is_set flags 0x100) in
-    let fb = four (is_set flags 0x200) in
-    let fc = four (is_set flags 0x400) in
-    let fd = four (is_set flags 0x800) in
-    let la = one (is_set flags 0x100) in
-    let lb = one (is_set flags 0x200) in
-    let lc = one (is_set flags 0x400) in
-    let ld = one (is_set flags 0x800) in
-    let none : row_length flags ≡ 0 = omega (arith, fa, fb, fc, fd, la, lb, lc, ld, n4, n8, n12, n16) in
+no_lists bytes size o count has n4 n8 n12 n16 =
+    let fa = four has.duration in
+    let fb = four has.size in
+    let fc = four has.flags in
+    let fd = four has.cts in
+    let la = one has.duration in
+    let lb = one has.size in
+    let lc = one has.flags in
+    let ld = one has.cts in
+    let none : row_length has ≡ 0 = omega (arith, fa, fb, fc, fd, la, lb, lc, ld, n4, n8, n12, n16) in
     let found = rows bytes o 0 count in
-    let da = unset (is_set flags 0x100) 0 found (omega (arith, none)) in
-    let db = unset (is_set flags 0x200) (size_in_row flags) found (omega (arith, none)) in
-    let dc = unset (is_set flags 0x400) (flags_in_row flags) found (omega (arith, none)) in
-    let dd = unset (is_set flags 0x800) (cts_in_row flags) found (omega (arith, none)) in
-    ap (λ (k : ℕ). (rows_within bytes size o k count >>= λ rows. memory >>= λ _. done (lists_of flags rows)).outcome) none
+    let da = no_column has.duration 0 found (omega (arith, none)) in
+    let db = no_column has.size (size_in_row has) found (omega (arith, none)) in
+    let dc = no_column has.flags (flags_in_row has) found (omega (arith, none)) in
+    let dd = no_column has.cts (cts_in_row has) found (omega (arith, none)) in
+    ap (λ (k : ℕ). (rows_within bytes size o k count >>= λ rows. memory >>= λ _. done (lists_of has rows)).outcome) none
     ∙ (rw (empty_rows bytes size o count, da, db, dc, dd) refl)
 
--- numbers in front that grow by those of a part of the rows
-pub column_moves : (b : Bool) (o : ℕ) (part behind rest : List (List ℕ)) (front all : List ℕ) → rest ≡ part ++ behind → front ++ column_if b o rest ≡ all → front ++ column_if b o part ++ column_if b o behind ≡ all
+-- numbers before that grow by those of a part of the rows
+pub column_moves : (b : Bool) (o : ℕ) (part after rest : List (List ℕ)) (front all : List ℕ) → rest ≡ part ++ after → front ++ column_if b o rest ≡ all → front ++ column_if b o part ++ column_if b o after ≡ all
 unfolding column_if
-column_moves true o part behind rest front all is h =
-    append_assoc front (map (λ row. number row o 4) part) (map (λ row. number row o 4) behind)
-    ∙ ap (λ (l : List ℕ). front ++ l) (sym (map-append (λ row. number row o 4) part behind) ∙ ap (λ (l : List (List ℕ)). map (λ row. number row o 4) l) (sym is)) ∙ h
-column_moves false o part behind rest front all is h = append-nil (front ++ []) ∙ h
+column_moves true o part after rest front all is h =
+    append_assoc front (map (λ row. number row o 4) part) (map (λ row. number row o 4) after)
+    ∙ ap (λ (l : List ℕ). front ++ l) (sym (map-append (λ row. number row o 4) part after) ∙ ap (λ (l : List (List ℕ)). map (λ row. number row o 4) l) (sym is)) ∙ h
+column_moves false o part after rest front all is h = append-nil (front ++ []) ∙ h
 
--- numbers in front of those of no rows
+-- numbers before those of no rows
 pub column_ends : (b : Bool) (o : ℕ) (rest : List (List ℕ)) (front all : List ℕ) → length rest ≡ 0 → front ++ column_if b o rest ≡ all → front ≡ all
 unfolding column_if
 column_ends true o [] front all none h = sym (append-nil front) ∙ h

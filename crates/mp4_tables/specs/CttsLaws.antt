@@ -18,6 +18,6 @@ ctts_entry = record {
   fits = λ row is. (fits_read row is.are (Number 0 4 ∷ Signed32 4 ∷ []), signed32 row 4 is.are);
 }
 
-pub laws_ctts : IsBox format_ctts
+pub laws_ctts : IsBox reads_ctts format_ctts
 unfolding bytes_ctts reads_ctts
 laws_ctts = laws_table names.CttsBox made_ctts (λ v. record { version = v.version; flags = v.flags; entries = v.entries }) ctts_entry (λ v. refl) (λ version flags entries. refl) (lit< tt) (lit< tt)

@@ -43,7 +43,7 @@ version_read bytes size e t h =
     let c = value_first (rows_at bytes 16 e (number bytes 12 4)) made t b.1 in
     sym (ap (λ (t : Table). t.version) (is_value _ t c.2))
 
-pub laws_elst : IsBox format_elst
+pub laws_elst : IsBox reads_elst format_elst
 unfolding bytes_elst bytes_elst_rows reads_elst reads_elst_rows
 laws_elst = record {
   header = λ v w.

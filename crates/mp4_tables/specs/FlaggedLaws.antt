@@ -28,18 +28,18 @@ first_back false w (Some n) rest h = absurd cc
 first_back true w None rest h = absurd cc
 first_back false w None rest h = refl
 
-behind : (p q : List ℕ) (b : Bool) (o w : ℕ) → length p ≡ o → number_if (number (p ++ q)) b o w ≡ number_if (number q) b 0 w
+number_if_after : (p q : List ℕ) (b : Bool) (o w : ℕ) → length p ≡ o → number_if (number (p ++ q)) b o w ≡ number_if (number q) b 0 w
 unfolding number_if
-behind p q true o w at =
+number_if_after p q true o w at =
     let same : o ≤ o = omega arith in
     let none : o - o ≡ 0 = omega arith in
     ap (λ (m : ℕ). Some m) (number-behind p q o o w at same ∙ ap (λ (k : ℕ). number q k w) none)
-behind p q false o w at = refl
+number_if_after p q false o w at = refl
 
 -- a field among other bytes
 pub optional_back : (bytes p : List ℕ) (x : Option ℕ) (rest : List ℕ) (b : Bool) (o w : ℕ) → bytes ≡ p ++ (optional w x ++ rest) → length p ≡ o → IsPresent b w x → number_if (number bytes) b o w ≡ x
 optional_back bytes p x rest b o w is at h =
-    ap (λ (l : List ℕ). number_if (number l) b o w) is ∙ behind p (optional w x ++ rest) b o w at ∙ first_back b w x rest h
+    ap (λ (l : List ℕ). number_if (number l) b o w) is ∙ number_if_after p (optional w x ++ rest) b o w at ∙ first_back b w x rest h
 
 -- a field that was read of bytes
 pub number_is_present : (bytes : List ℕ) (b : Bool) (o w : ℕ) → AreBytes bytes → IsPresent b w (number_if (number bytes) b o w)

@@ -26,6 +26,7 @@ pub mod StscEntry
 pub mod Chunks
 pub mod Stsc
 pub mod StscLaws
+pub mod TrunRows
 pub mod TrunLists
 pub mod Trun
 pub mod TrunLaws

@@ -86,7 +86,7 @@ table_of_renumbered h version flags es w =
       each = All-from_recursion FitsStscEntry (renumber h es) (same_fits h es (recursion_from_All FitsStscEntry es w.each));
     }
 
-pub laws_stsc : IsBox format_stsc
+pub laws_stsc : IsBox reads_stsc format_stsc
 unfolding bytes_stsc reads_stsc
 laws_stsc = record {
   header = λ v w.

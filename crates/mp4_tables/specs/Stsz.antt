@@ -50,4 +50,4 @@ unfoldable pub bytes_stsz : StszBox → List ℕ
 bytes_stsz v = bytes_of_fields (fields_stsz v) ++ flat_map (λ size. be_bytes 4 size) v.sample_sizes
 
 abbrev pub format_stsz : Format StszBox
-format_stsz = record { name = names.StszBox; reads = reads_stsz; size = size_stsz; Writable = WritableStsz; bytes = bytes_stsz; normal = λ v. v }
+format_stsz = record { name = λ _. names.StszBox; size = size_stsz; Writable = WritableStsz; bytes = bytes_stsz; normal = λ v. v }

@@ -51,7 +51,7 @@ sizes_read bytes size sample_size count sizes are h = by (eqb sample_size 0) h
         rw (← is) (map_all 4 (λ entry. number entry 0 4) (λ s. s < 2 ^ 32) (number_entry 4).fits p.0 r.0, length_map (λ entry. number entry 0 4) p.0 ∙ r.1)
     by false e = let is : [] ≡ sizes = is_value [] sizes e in rw (← is) (tt, refl)
 
-pub laws_stsz : IsBox format_stsz
+pub laws_stsz : IsBox reads_stsz format_stsz
 unfolding bytes_stsz reads_stsz
 laws_stsz = record {
   header = λ v w.

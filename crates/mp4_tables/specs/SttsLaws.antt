@@ -16,6 +16,6 @@ stts_entry = record {
   fits = λ row is. fits_read row is.are (Number 0 4 ∷ Number 4 4 ∷ []);
 }
 
-pub laws_stts : IsBox format_stts
+pub laws_stts : IsBox reads_stts format_stts
 unfolding bytes_stts reads_stts
 laws_stts = laws_table names.SttsBox made_stts (λ v. record { version = v.version; flags = v.flags; entries = v.entries }) stts_entry (λ v. refl) (λ version flags entries. refl) (lit< tt) (lit< tt)

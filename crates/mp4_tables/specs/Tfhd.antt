@@ -1,42 +1,43 @@
 -- tfhd, the track fragment header box (ISO/IEC 14496-12, 8.8.7): version 1 byte, flags 3, track_id 4 at 12. From 16
--- on, one after the other, each where its flag is set: base_data_offset 8 (0x01), sample_description_index 4
+-- on, one after the other, each if its flag is set: base_data_offset 8 (0x01), sample_description_index 4
 -- (0x02), default_sample_duration 4 (0x08), default_sample_size 4 (0x10), default_sample_flags 4 (0x20).
 use Rattle.std.specs.Prelude.{ℕ, ◌+◌, ◌-◌, List, [], ◌∷◌, ◌++◌}
 use Rattle.mp4_frame.specs.Bytes.{number, bytes_of_fields, FieldsFit, full_box}
 use Rattle.mp4_frame.specs.Reading.{Reading, ◌>>=◌, expect_bytes, done}
 use Rattle.mp4_tables.specs.Flagged.{is_set, width_if, number_if, optional, IsPresent}
+use Rattle.mp4_tables.specs.declared.tfhd.TheConstants.TfhdBox.{FLAG_BASE_DATA_OFFSET, FLAG_SAMPLE_DESCRIPTION_INDEX, FLAG_DEFAULT_SAMPLE_DURATION, FLAG_DEFAULT_SAMPLE_SIZE, FLAG_DEFAULT_SAMPLE_FLAGS}
 use Rattle.mp4_frame.specs.Format.{Format}
 use Rattle.mp4_frame.specs.declared.box_type.BoxType.TheVariants as names
 use Rattle.mp4_frame.specs.declared.codes.TheConstants as codes
 use Rattle.mp4_tables.specs.declared.tfhd.TfhdBox.{TfhdBox}
 
--- where each of the flagged fields stands, and where they end
+-- where each of the flagged fields begins, and where they end
 abbrev pub index_at : ℕ → ℕ
-index_at flags = 16 + width_if (is_set flags 0x01) 8
+index_at flags = 16 + width_if (is_set flags FLAG_BASE_DATA_OFFSET) 8
 
 abbrev pub duration_at : ℕ → ℕ
-duration_at flags = index_at flags + width_if (is_set flags 0x02) 4
+duration_at flags = index_at flags + width_if (is_set flags FLAG_SAMPLE_DESCRIPTION_INDEX) 4
 
 abbrev pub size_at : ℕ → ℕ
-size_at flags = duration_at flags + width_if (is_set flags 0x08) 4
+size_at flags = duration_at flags + width_if (is_set flags FLAG_DEFAULT_SAMPLE_DURATION) 4
 
 abbrev pub flags_at : ℕ → ℕ
-flags_at flags = size_at flags + width_if (is_set flags 0x10) 4
+flags_at flags = size_at flags + width_if (is_set flags FLAG_DEFAULT_SAMPLE_SIZE) 4
 
 abbrev pub end_at : ℕ → ℕ
-end_at flags = flags_at flags + width_if (is_set flags 0x20) 4
+end_at flags = flags_at flags + width_if (is_set flags FLAG_DEFAULT_SAMPLE_FLAGS) 4
 
 -- the value for these flags, where `at o w` is the number of w bytes at offset o
 abbrev pub value_tfhd : ℕ → (ℕ → ℕ → ℕ) → TfhdBox
-value_tfhd flags at = record {
+value_tfhd flags n = record {
   version = at 8 1;
   flags = flags;
-  track_id = at 12 4;
-  base_data_offset = number_if at (is_set flags 0x01) 16 8;
-  sample_description_index = number_if at (is_set flags 0x02) (index_at flags) 4;
-  default_sample_duration = number_if at (is_set flags 0x08) (duration_at flags) 4;
-  default_sample_size = number_if at (is_set flags 0x10) (size_at flags) 4;
-  default_sample_flags = number_if at (is_set flags 0x20) (flags_at flags) 4;
+  track_id = n 12 4;
+  base_data_offset = number_if n (is_set flags FLAG_BASE_DATA_OFFSET) 16 8;
+  sample_description_index = number_if n (is_set flags FLAG_SAMPLE_DESCRIPTION_INDEX) (index_at flags) 4;
+  default_sample_duration = number_if n (is_set flags FLAG_DEFAULT_SAMPLE_DURATION) (duration_at flags) 4;
+  default_sample_size = number_if n (is_set flags FLAG_DEFAULT_SAMPLE_SIZE) (size_at flags) 4;
+  default_sample_flags = number_if n (is_set flags FLAG_DEFAULT_SAMPLE_FLAGS) (flags_at flags) 4;
 }
 
 unfoldable pub reads_tfhd : List ℕ → ℕ → ℕ → Reading TfhdBox
@@ -51,13 +52,13 @@ size_tfhd v = end_at v.flags
 abbrev pub fields_tfhd : TfhdBox → List (ℕ × ℕ)
 fields_tfhd v = full_box (size_tfhd v) codes.TFHD v.version v.flags ++ (4, v.track_id) ∷ []
 
--- each flagged field is there exactly where its flag is set, and its number fits
+-- each flagged field is present exactly if its flag is set, and its number fits
 pub record FlaggedTfhd (v : TfhdBox) : Type 0 where
-  pub base_data_offset : IsPresent (is_set v.flags 0x01) 8 v.base_data_offset
-  pub sample_description_index : IsPresent (is_set v.flags 0x02) 4 v.sample_description_index
-  pub default_sample_duration : IsPresent (is_set v.flags 0x08) 4 v.default_sample_duration
-  pub default_sample_size : IsPresent (is_set v.flags 0x10) 4 v.default_sample_size
-  pub default_sample_flags : IsPresent (is_set v.flags 0x20) 4 v.default_sample_flags
+  pub base_data_offset : IsPresent (is_set v.flags FLAG_BASE_DATA_OFFSET) 8 v.base_data_offset
+  pub sample_description_index : IsPresent (is_set v.flags FLAG_SAMPLE_DESCRIPTION_INDEX) 4 v.sample_description_index
+  pub default_sample_duration : IsPresent (is_set v.flags FLAG_DEFAULT_SAMPLE_DURATION) 4 v.default_sample_duration
+  pub default_sample_size : IsPresent (is_set v.flags FLAG_DEFAULT_SAMPLE_SIZE) 4 v.default_sample_size
+  pub default_sample_flags : IsPresent (is_set v.flags FLAG_DEFAULT_SAMPLE_FLAGS) 4 v.default_sample_flags
 
 -- every number fits its bytes
 pub record WritableTfhd (v : TfhdBox) : Type 0 where
@@ -70,4 +71,4 @@ bytes_tfhd v =
     ++ optional 4 v.default_sample_duration ++ optional 4 v.default_sample_size ++ optional 4 v.default_sample_flags
 
 abbrev pub format_tfhd : Format TfhdBox
-format_tfhd = record { name = names.TfhdBox; reads = reads_tfhd; size = size_tfhd; Writable = WritableTfhd; bytes = bytes_tfhd; normal = λ v. v }
+format_tfhd = record { name = λ _. names.TfhdBox; size = size_tfhd; Writable = WritableTfhd; bytes = bytes_tfhd; normal = λ v. v }

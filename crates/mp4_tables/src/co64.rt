@@ -2,10 +2,14 @@
 
 ghost use Rattle.std.specs.Prelude.{◌≡◌, ◌-◌, ◌^◌, [], IfOk, IfErr, map, min};
 ghost use Rattle.mp4_frame.specs.declared.box_type.BoxType.TheVariants as names;
-ghost use Rattle.mp4_tables.specs.Co64.{offset_of, size_co64, format_co64};
+ghost use Rattle.mp4_frame.specs.Format.{write_laws};
+ghost use Rattle.mp4_tables.specs.Co64.{offset_of, size_co64, reads_co64, format_co64};
 ghost use Rattle.mp4_tables.specs.Co64Laws.{laws_co64};
 
-use mp4_frame::{BoxLaws, BoxType, Entries, Error, Mp4Box, ReadBox, Result, WriteBox, is_writable_table, put_table, read_table, table_size, u64_at, codes, TryClone};
+use mp4_frame::{
+    BoxLaws, BoxType, Entries, Error, Mp4Box, ReadBox, Result, TryClone, WriteBox, codes,
+    is_writable_table, put_table, read_table, table_size, u64_at,
+};
 use std::alloc::Global;
 
 /// Where the chunks of a track begin, in 64 bits (`co64`, ISO/IEC 14496-12, 8.7.5).
@@ -57,9 +61,7 @@ impl TryClone for Co64Box {
 }
 
 impl Mp4Box for Co64Box {
-    ghost name = { λ _. format_co64.name };
-
-    ghost size = { format_co64.size };
+    ghost format = { format_co64 };
 
     fn box_type(&self) -> BoxType {
         BoxType::Co64Box
@@ -86,7 +88,7 @@ fn offsets_of(alloc: Global, rows: &[[u8; 8]]) -> Result<Vec<u64>>
 }
 
 impl ReadBox for Co64Box {
-    ghost reads = { format_co64.reads };
+    ghost reads = { reads_co64 };
 
     #[tactic(auto, unfolding(crate::specs::Co64::reads_co64))]
     fn read_content(alloc: Global, bytes: &[u8], _start: u64, size: u64) -> Result<Co64Box> {
@@ -104,12 +106,6 @@ impl ReadBox for Co64Box {
 }
 
 impl WriteBox for Co64Box {
-    ghost Writable = { format_co64.Writable };
-
-    ghost bytes = { format_co64.bytes };
-
-    ghost normal = { format_co64.normal };
-
     fn is_writable(&self) -> bool {
         is_writable_table(
             codes::CO64,
@@ -130,13 +126,9 @@ impl WriteBox for Co64Box {
         );
     }
 
-    ghost header = { laws_co64.header };
-
-    ghost normal_form = { laws_co64.normal_form };
+    ghost write_laws = { write_laws laws_co64 };
 }
 
 impl BoxLaws for Co64Box {
-    ghost read_back = { laws_co64.read_back };
-
-    ghost sound = { laws_co64.sound };
+    ghost laws = { laws_co64 };
 }

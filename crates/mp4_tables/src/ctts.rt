@@ -2,12 +2,16 @@
 
 ghost use Rattle.std.specs.Prelude.{◌≡◌, ◌-◌, ◌^◌, [], IfOk, IfErr, map, min};
 ghost use Rattle.mp4_frame.specs.declared.box_type.BoxType.TheVariants as names;
-ghost use Rattle.mp4_tables.specs.Ctts.{size_ctts, format_ctts};
+ghost use Rattle.mp4_frame.specs.Format.{write_laws};
+ghost use Rattle.mp4_tables.specs.Ctts.{size_ctts, reads_ctts, format_ctts};
 ghost use Rattle.mp4_tables.specs.CttsEntry.{entry_ctts};
 ghost use Rattle.mp4_tables.specs.CttsLaws.{laws_ctts};
 
 use crate::ctts_entry::CttsEntry;
-use mp4_frame::{BoxLaws, BoxType, Entries, Error, Mp4Box, ReadBox, Result, WriteBox, i32_at, is_writable_table, put_table, read_table, table_size, u32_at, codes, TryClone};
+use mp4_frame::{
+    BoxLaws, BoxType, Entries, Error, Mp4Box, ReadBox, Result, TryClone, WriteBox, codes, i32_at,
+    is_writable_table, put_table, read_table, table_size, u32_at,
+};
 use std::alloc::Global;
 
 /// How far the composition times of samples lie from their decoding times (`ctts`, ISO/IEC 14496-12, 8.6.1.3).
@@ -59,9 +63,7 @@ impl TryClone for CttsBox {
 }
 
 impl Mp4Box for CttsBox {
-    ghost name = { λ _. format_ctts.name };
-
-    ghost size = { format_ctts.size };
+    ghost format = { format_ctts };
 
     fn box_type(&self) -> BoxType {
         BoxType::CttsBox
@@ -93,7 +95,7 @@ fn entries_of(alloc: Global, rows: &[[u8; 8]]) -> Result<Vec<CttsEntry>>
 }
 
 impl ReadBox for CttsBox {
-    ghost reads = { format_ctts.reads };
+    ghost reads = { reads_ctts };
 
     #[tactic(auto, unfolding(crate::specs::Ctts::reads_ctts))]
     fn read_content(alloc: Global, bytes: &[u8], _start: u64, size: u64) -> Result<CttsBox> {
@@ -111,12 +113,6 @@ impl ReadBox for CttsBox {
 }
 
 impl WriteBox for CttsBox {
-    ghost Writable = { format_ctts.Writable };
-
-    ghost bytes = { format_ctts.bytes };
-
-    ghost normal = { format_ctts.normal };
-
     fn is_writable(&self) -> bool {
         is_writable_table(
             codes::CTTS,
@@ -137,13 +133,9 @@ impl WriteBox for CttsBox {
         );
     }
 
-    ghost header = { laws_ctts.header };
-
-    ghost normal_form = { laws_ctts.normal_form };
+    ghost write_laws = { write_laws laws_ctts };
 }
 
 impl BoxLaws for CttsBox {
-    ghost read_back = { laws_ctts.read_back };
-
-    ghost sound = { laws_ctts.sound };
+    ghost laws = { laws_ctts };
 }

@@ -4,12 +4,16 @@ ghost use Rattle.std.specs.Prelude.{◌≡◌, ◌-◌, ◌^◌, [], IfOk, IfErr
 ghost use Rattle.mp4_frame.specs.Bytes.{number};
 ghost use Rattle.mp4_frame.specs.Reading.{Answers};
 ghost use Rattle.mp4_frame.specs.declared.box_type.BoxType.TheVariants as names;
-ghost use Rattle.mp4_tables.specs.Elst.{reads_elst_rows, size_elst, format_elst};
+ghost use Rattle.mp4_frame.specs.Format.{write_laws};
+ghost use Rattle.mp4_tables.specs.Elst.{reads_elst_rows, size_elst, reads_elst, format_elst};
 ghost use Rattle.mp4_tables.specs.ElstEntry.{is_long, entry_elst};
 ghost use Rattle.mp4_tables.specs.ElstLaws.{laws_elst};
 
 use crate::elst_entry::ElstEntry;
-use mp4_frame::{BoxLaws, BoxType, Entries, Error, Mp4Box, ReadBox, Result, WriteBox, is_writable_table, put_table, read_table, table_size, u16_at, u32_at, u64_at, codes, TryClone};
+use mp4_frame::{
+    BoxLaws, BoxType, Entries, Error, Mp4Box, ReadBox, Result, TryClone, WriteBox, codes,
+    is_writable_table, put_table, read_table, table_size, u16_at, u32_at, u64_at,
+};
 use std::alloc::Global;
 
 const TOO_MANY: &str = "elst entry_count indicates more entries than could fit in the box";
@@ -63,9 +67,7 @@ impl TryClone for ElstBox {
 }
 
 impl Mp4Box for ElstBox {
-    ghost name = { λ _. format_elst.name };
-
-    ghost size = { format_elst.size };
+    ghost format = { format_elst };
 
     fn box_type(&self) -> BoxType {
         BoxType::ElstBox
@@ -157,7 +159,7 @@ fn read_short(alloc: Global, bytes: &[u8], size: u64) -> Result<ElstBox>
 }
 
 impl ReadBox for ElstBox {
-    ghost reads = { format_elst.reads };
+    ghost reads = { reads_elst };
 
     #[tactic(auto, unfolding(crate::specs::Elst::reads_elst))]
     fn read_content(alloc: Global, bytes: &[u8], _start: u64, size: u64) -> Result<ElstBox> {
@@ -170,12 +172,6 @@ impl ReadBox for ElstBox {
 }
 
 impl WriteBox for ElstBox {
-    ghost Writable = { format_elst.Writable };
-
-    ghost bytes = { format_elst.bytes };
-
-    ghost normal = { format_elst.normal };
-
     fn is_writable(&self) -> bool {
         if self.version == 1 {
             is_writable_table::<ElstEntry, 20>(
@@ -215,13 +211,9 @@ impl WriteBox for ElstBox {
         }
     }
 
-    ghost header = { laws_elst.header };
-
-    ghost normal_form = { laws_elst.normal_form };
+    ghost write_laws = { write_laws laws_elst };
 }
 
 impl BoxLaws for ElstBox {
-    ghost read_back = { laws_elst.read_back };
-
-    ghost sound = { laws_elst.sound };
+    ghost laws = { laws_elst };
 }

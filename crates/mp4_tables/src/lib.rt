@@ -17,8 +17,6 @@ mod stts;
 mod stts_entry;
 mod tfhd;
 mod trun;
-mod trun_lists;
-mod trun_rows;
 
 pub use co64::Co64Box;
 pub use ctts::CttsBox;

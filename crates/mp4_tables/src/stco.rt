@@ -3,12 +3,16 @@
 ghost use Rattle.std.specs.Prelude.{◌≡◌, ◌↔◌, ◌<◌, ◌-◌, ◌%◌, ◌^◌, [], All, IsTrue, IfOk, IfErr, OnOk, map, min};
 ghost use Rattle.mp4_frame.specs.Written.{WriteRefuses};
 ghost use Rattle.mp4_frame.specs.declared.box_type.BoxType.TheVariants as names;
-ghost use Rattle.mp4_tables.specs.Stco.{made_stco, size_stco, format_stco};
+ghost use Rattle.mp4_frame.specs.Format.{write_laws};
+ghost use Rattle.mp4_tables.specs.Stco.{made_stco, size_stco, reads_stco, format_stco};
 ghost use Rattle.mp4_tables.specs.StcoLaws.{laws_stco};
 
 use crate::co64::Co64Box;
 use crate::rows::numbers_of;
-use mp4_frame::{BoxLaws, BoxType, Entries, Error, Mp4Box, ReadBox, Result, WriteBox, is_writable_table, put_table, read_table, table_size, codes, TryClone};
+use mp4_frame::{
+    BoxLaws, BoxType, Entries, Error, Mp4Box, ReadBox, Result, TryClone, WriteBox, codes,
+    is_writable_table, put_table, read_table, table_size,
+};
 use std::alloc::Global;
 
 /// Where the chunks of a track begin, in 32 bits (`stco`, ISO/IEC 14496-12, 8.7.5).
@@ -104,9 +108,7 @@ fn lowest_bits_of(alloc: Global, offsets: &[u64]) -> Result<Vec<u32>>
 }
 
 impl Mp4Box for StcoBox {
-    ghost name = { λ _. format_stco.name };
-
-    ghost size = { format_stco.size };
+    ghost format = { format_stco };
 
     fn box_type(&self) -> BoxType {
         BoxType::StcoBox
@@ -118,7 +120,7 @@ impl Mp4Box for StcoBox {
 }
 
 impl ReadBox for StcoBox {
-    ghost reads = { format_stco.reads };
+    ghost reads = { reads_stco };
 
     #[tactic(auto, unfolding(crate::specs::Stco::reads_stco))]
     fn read_content(alloc: Global, bytes: &[u8], _start: u64, size: u64) -> Result<StcoBox> {
@@ -136,12 +138,6 @@ impl ReadBox for StcoBox {
 }
 
 impl WriteBox for StcoBox {
-    ghost Writable = { format_stco.Writable };
-
-    ghost bytes = { format_stco.bytes };
-
-    ghost normal = { format_stco.normal };
-
     fn is_writable(&self) -> bool {
         is_writable_table(
             codes::STCO,
@@ -162,13 +158,9 @@ impl WriteBox for StcoBox {
         );
     }
 
-    ghost header = { laws_stco.header };
-
-    ghost normal_form = { laws_stco.normal_form };
+    ghost write_laws = { write_laws laws_stco };
 }
 
 impl BoxLaws for StcoBox {
-    ghost read_back = { laws_stco.read_back };
-
-    ghost sound = { laws_stco.sound };
+    ghost laws = { laws_stco };
 }

@@ -4,12 +4,16 @@ ghost use Rattle.std.specs.Prelude.{◌≡◌, ◌-◌, ◌^◌, [], IfOk, IfErr
 ghost use Rattle.mp4_frame.specs.Reading.{Invalid, IsFault};
 ghost use Rattle.mp4_frame.specs.declared.box_type.BoxType.TheVariants as names;
 ghost use Rattle.mp4_tables.specs.Chunks.{chunks_fit, number_samples, next_sample};
-ghost use Rattle.mp4_tables.specs.Stsc.{size_stsc, format_stsc};
+ghost use Rattle.mp4_frame.specs.Format.{write_laws};
+ghost use Rattle.mp4_tables.specs.Stsc.{size_stsc, reads_stsc, format_stsc};
 ghost use Rattle.mp4_tables.specs.StscEntry.{entry_stsc};
 ghost use Rattle.mp4_tables.specs.StscLaws.{laws_stsc};
 
 use crate::stsc_entry::StscEntry;
-use mp4_frame::{BoxLaws, BoxType, Entries, Error, Mp4Box, ReadBox, Result, WriteBox, is_writable_table, put_table, read_table, table_size, u32_at, codes, TryClone};
+use mp4_frame::{
+    BoxLaws, BoxType, Entries, Error, Mp4Box, ReadBox, Result, TryClone, WriteBox, codes,
+    is_writable_table, put_table, read_table, table_size, u32_at,
+};
 use std::alloc::Global;
 
 /// In which chunks the samples of a track lie (`stsc`, ISO/IEC 14496-12, 8.7.4). A box whose chunks step back, or
@@ -63,9 +67,7 @@ impl TryClone for StscBox {
 }
 
 impl Mp4Box for StscBox {
-    ghost name = { λ _. format_stsc.name };
-
-    ghost size = { format_stsc.size };
+    ghost format = { format_stsc };
 
     fn box_type(&self) -> BoxType {
         BoxType::StscBox
@@ -156,7 +158,7 @@ fn samples_fit(entries: &[StscEntry]) -> bool
 }
 
 impl ReadBox for StscBox {
-    ghost reads = { format_stsc.reads };
+    ghost reads = { reads_stsc };
 
     #[tactic(auto, unfolding(crate::specs::Stsc::reads_stsc))]
     fn read_content(alloc: Global, bytes: &[u8], _start: u64, size: u64) -> Result<StscBox> {
@@ -176,12 +178,6 @@ impl ReadBox for StscBox {
 }
 
 impl WriteBox for StscBox {
-    ghost Writable = { format_stsc.Writable };
-
-    ghost bytes = { format_stsc.bytes };
-
-    ghost normal = { format_stsc.normal };
-
     fn is_writable(&self) -> bool {
         is_writable_table(
             codes::STSC,
@@ -202,13 +198,9 @@ impl WriteBox for StscBox {
         );
     }
 
-    ghost header = { laws_stsc.header };
-
-    ghost normal_form = { laws_stsc.normal_form };
+    ghost write_laws = { write_laws laws_stsc };
 }
 
 impl BoxLaws for StscBox {
-    ghost read_back = { laws_stsc.read_back };
-
-    ghost sound = { laws_stsc.sound };
+    ghost laws = { laws_stsc };
 }

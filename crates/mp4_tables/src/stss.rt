@@ -2,11 +2,15 @@
 
 ghost use Rattle.std.specs.Prelude.{◌≡◌, ◌-◌, ◌^◌, [], min};
 ghost use Rattle.mp4_frame.specs.declared.box_type.BoxType.TheVariants as names;
-ghost use Rattle.mp4_tables.specs.Stss.{size_stss, format_stss};
+ghost use Rattle.mp4_frame.specs.Format.{write_laws};
+ghost use Rattle.mp4_tables.specs.Stss.{size_stss, reads_stss, format_stss};
 ghost use Rattle.mp4_tables.specs.StssLaws.{laws_stss};
 
 use crate::rows::numbers_of;
-use mp4_frame::{BoxLaws, BoxType, Entries, Error, Mp4Box, ReadBox, Result, WriteBox, is_writable_table, put_table, read_table, table_size, codes, TryClone};
+use mp4_frame::{
+    BoxLaws, BoxType, Entries, Error, Mp4Box, ReadBox, Result, TryClone, WriteBox, codes,
+    is_writable_table, put_table, read_table, table_size,
+};
 use std::alloc::Global;
 
 /// Which samples of a track are sync samples (`stss`, ISO/IEC 14496-12, 8.6.2).
@@ -59,9 +63,7 @@ impl TryClone for StssBox {
 }
 
 impl Mp4Box for StssBox {
-    ghost name = { λ _. format_stss.name };
-
-    ghost size = { format_stss.size };
+    ghost format = { format_stss };
 
     fn box_type(&self) -> BoxType {
         BoxType::StssBox
@@ -73,7 +75,7 @@ impl Mp4Box for StssBox {
 }
 
 impl ReadBox for StssBox {
-    ghost reads = { format_stss.reads };
+    ghost reads = { reads_stss };
 
     #[tactic(auto, unfolding(crate::specs::Stss::reads_stss))]
     fn read_content(alloc: Global, bytes: &[u8], _start: u64, size: u64) -> Result<StssBox> {
@@ -91,12 +93,6 @@ impl ReadBox for StssBox {
 }
 
 impl WriteBox for StssBox {
-    ghost Writable = { format_stss.Writable };
-
-    ghost bytes = { format_stss.bytes };
-
-    ghost normal = { format_stss.normal };
-
     fn is_writable(&self) -> bool {
         is_writable_table(
             codes::STSS,
@@ -117,13 +113,9 @@ impl WriteBox for StssBox {
         );
     }
 
-    ghost header = { laws_stss.header };
-
-    ghost normal_form = { laws_stss.normal_form };
+    ghost write_laws = { write_laws laws_stss };
 }
 
 impl BoxLaws for StssBox {
-    ghost read_back = { laws_stss.read_back };
-
-    ghost sound = { laws_stss.sound };
+    ghost laws = { laws_stss };
 }

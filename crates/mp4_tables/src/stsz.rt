@@ -3,11 +3,15 @@
 ghost use Rattle.std.specs.Prelude.{◌≡◌, ◌-◌, ◌^◌, [], min};
 ghost use Rattle.mp4_frame.specs.Reading.{AnswersAs};
 ghost use Rattle.mp4_frame.specs.declared.box_type.BoxType.TheVariants as names;
-ghost use Rattle.mp4_tables.specs.Stsz.{reads_sizes, count_of_sizes, size_stsz, format_stsz};
+ghost use Rattle.mp4_frame.specs.Format.{write_laws};
+ghost use Rattle.mp4_tables.specs.Stsz.{reads_sizes, count_of_sizes, size_stsz, reads_stsz, format_stsz};
 ghost use Rattle.mp4_tables.specs.StszLaws.{laws_stsz};
 
 use crate::rows::{numbers_of, read_rows};
-use mp4_frame::{BoxLaws, BoxType, Entries, Error, Mp4Box, ReadBox, Result, WriteBox, all_fit, expect_bytes, put_entries, put_full_box, put_u32, u8_at, u24_at, u32_at, codes, TryClone};
+use mp4_frame::{
+    BoxLaws, BoxType, Entries, Error, Mp4Box, ReadBox, Result, TryClone, WriteBox, all_fit, codes,
+    expect_bytes, put_entries, put_full_box, put_u32, u8_at, u24_at, u32_at,
+};
 use std::alloc::Global;
 
 /// The sizes of the samples of a track (`stsz`, ISO/IEC 14496-12, 8.7.3.2). It is written only where its list is
@@ -79,9 +83,7 @@ fn listed_count(sample_size: u32, sample_count: u32) -> usize
 }
 
 impl Mp4Box for StszBox {
-    ghost name = { λ _. format_stsz.name };
-
-    ghost size = { format_stsz.size };
+    ghost format = { format_stsz };
 
     fn box_type(&self) -> BoxType {
         BoxType::StszBox
@@ -109,7 +111,7 @@ fn read_sizes(alloc: Global, bytes: &[u8], size: u64, count: u32) -> Result<Vec<
 }
 
 impl ReadBox for StszBox {
-    ghost reads = { format_stsz.reads };
+    ghost reads = { reads_stsz };
 
     #[tactic(auto, unfolding(crate::specs::Stsz::reads_stsz))]
     fn read_content(alloc: Global, bytes: &[u8], _start: u64, size: u64) -> Result<StszBox> {
@@ -132,12 +134,6 @@ impl ReadBox for StszBox {
 }
 
 impl WriteBox for StszBox {
-    ghost Writable = { format_stsz.Writable };
-
-    ghost bytes = { format_stsz.bytes };
-
-    ghost normal = { format_stsz.normal };
-
     fn is_writable(&self) -> bool {
         let _version = self.version;
         self.flags < 1 << 24
@@ -155,13 +151,9 @@ impl WriteBox for StszBox {
         put_entries(out, at, self.sample_sizes.as_slice());
     }
 
-    ghost header = { laws_stsz.header };
-
-    ghost normal_form = { laws_stsz.normal_form };
+    ghost write_laws = { write_laws laws_stsz };
 }
 
 impl BoxLaws for StszBox {
-    ghost read_back = { laws_stsz.read_back };
-
-    ghost sound = { laws_stsz.sound };
+    ghost laws = { laws_stsz };
 }

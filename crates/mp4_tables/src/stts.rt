@@ -2,12 +2,16 @@
 
 ghost use Rattle.std.specs.Prelude.{◌≡◌, ◌-◌, ◌^◌, [], IfOk, IfErr, map, min};
 ghost use Rattle.mp4_frame.specs.declared.box_type.BoxType.TheVariants as names;
-ghost use Rattle.mp4_tables.specs.Stts.{size_stts, format_stts};
+ghost use Rattle.mp4_frame.specs.Format.{write_laws};
+ghost use Rattle.mp4_tables.specs.Stts.{size_stts, reads_stts, format_stts};
 ghost use Rattle.mp4_tables.specs.SttsEntry.{entry_stts};
 ghost use Rattle.mp4_tables.specs.SttsLaws.{laws_stts};
 
 use crate::stts_entry::SttsEntry;
-use mp4_frame::{BoxLaws, BoxType, Entries, Error, Mp4Box, ReadBox, Result, WriteBox, is_writable_table, put_table, read_table, table_size, u32_at, codes, TryClone};
+use mp4_frame::{
+    BoxLaws, BoxType, Entries, Error, Mp4Box, ReadBox, Result, TryClone, WriteBox, codes,
+    is_writable_table, put_table, read_table, table_size, u32_at,
+};
 use std::alloc::Global;
 
 /// How long the samples of a track last (`stts`, ISO/IEC 14496-12, 8.6.1.2).
@@ -59,9 +63,7 @@ impl TryClone for SttsBox {
 }
 
 impl Mp4Box for SttsBox {
-    ghost name = { λ _. format_stts.name };
-
-    ghost size = { format_stts.size };
+    ghost format = { format_stts };
 
     fn box_type(&self) -> BoxType {
         BoxType::SttsBox
@@ -93,7 +95,7 @@ fn entries_of(alloc: Global, rows: &[[u8; 8]]) -> Result<Vec<SttsEntry>>
 }
 
 impl ReadBox for SttsBox {
-    ghost reads = { format_stts.reads };
+    ghost reads = { reads_stts };
 
     #[tactic(auto, unfolding(crate::specs::Stts::reads_stts))]
     fn read_content(alloc: Global, bytes: &[u8], _start: u64, size: u64) -> Result<SttsBox> {
@@ -111,12 +113,6 @@ impl ReadBox for SttsBox {
 }
 
 impl WriteBox for SttsBox {
-    ghost Writable = { format_stts.Writable };
-
-    ghost bytes = { format_stts.bytes };
-
-    ghost normal = { format_stts.normal };
-
     fn is_writable(&self) -> bool {
         is_writable_table(
             codes::STTS,
@@ -137,13 +133,9 @@ impl WriteBox for SttsBox {
         );
     }
 
-    ghost header = { laws_stts.header };
-
-    ghost normal_form = { laws_stts.normal_form };
+    ghost write_laws = { write_laws laws_stts };
 }
 
 impl BoxLaws for SttsBox {
-    ghost read_back = { laws_stts.read_back };
-
-    ghost sound = { laws_stts.sound };
+    ghost laws = { laws_stts };
 }

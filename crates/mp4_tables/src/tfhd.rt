@@ -2,26 +2,31 @@
 
 ghost use Rattle.std.specs.Prelude.{◌≡◌, ◌≤◌, ◌-◌, ◌^◌, ◌↔◌, min, IsTrue};
 ghost use Rattle.mp4_frame.specs.declared.box_type.BoxType.TheVariants as names;
-ghost use Rattle.mp4_tables.specs.Tfhd.{end_at as end_place, size_tfhd, FlaggedTfhd, format_tfhd};
+ghost use Rattle.mp4_frame.specs.Format.{write_laws};
+ghost use Rattle.mp4_tables.specs.Tfhd.{end_at, size_tfhd, FlaggedTfhd, reads_tfhd, format_tfhd};
 ghost use Rattle.mp4_tables.specs.TfhdLaws.{laws_tfhd};
 
 use crate::flagged::{
-    is_set, put_optional_u32, put_optional_u64, is_present_u32, is_present_u64, u32_if, u64_if, width_if,
+    is_present_u32, is_present_u64, is_set, put_optional_u32, put_optional_u64, u32_if, u64_if,
+    width_if,
 };
-use mp4_frame::{BoxLaws, BoxType, Mp4Box, ReadBox, Result, WriteBox, expect_bytes, put_full_box, put_u32, u8_at, u24_at, u32_at, codes, TryClone};
+use mp4_frame::{
+    BoxLaws, BoxType, Mp4Box, ReadBox, Result, TryClone, WriteBox, codes, expect_bytes,
+    put_full_box, put_u32, u8_at, u24_at, u32_at,
+};
 use std::alloc::Global;
 
 /// What the samples of a track fragment have in common (`tfhd`, ISO/IEC 14496-12, 8.8.7). It is written only
-/// where each optional field is there exactly if its flag is set.
+/// when each optional field is present exactly if its flag is set.
 #[derive(Clone, Debug, Default, Drop, PartialEq, Eq)]
 pub struct TfhdBox {
     /// 0 in the standard. Every version is read and written alike.
     pub version: u8,
-    /// 24 bits, which say which of the optional fields are there.
+    /// 24 bits, which say which of the optional fields are present.
     pub flags: u32,
     /// The number of the track, from 1 on in the standard.
     pub track_id: u32,
-    /// The place in the file that data offsets count from, in bytes.
+    /// The offset in the file from which data offsets count, in bytes.
     pub base_data_offset: Option<u64>,
     /// The sample entry that the samples use, counted from 1.
     pub sample_description_index: Option<u32>,
@@ -60,9 +65,9 @@ impl TfhdBox {
     }
 }
 
-/// The place after the flagged fields.
+/// Where the flagged fields end.
 fn end_at(flags: u32) -> usize
-    ensures place { result ≡ end_place flags }
+    ensures offset { result ≡ end_at flags }
     ensures most { result ≤ 40 }
 {
     let index_at = 16 + width_if(is_set(flags, TfhdBox::FLAG_BASE_DATA_OFFSET), 8);
@@ -72,7 +77,7 @@ fn end_at(flags: u32) -> usize
     flags_at + width_if(is_set(flags, TfhdBox::FLAG_DEFAULT_SAMPLE_FLAGS), 4)
 }
 
-/// Each flagged field is there exactly where its flag is set.
+/// Each flagged field is present exactly if its flag is set.
 fn has_flagged_fields(tfhd: &TfhdBox) -> bool
     ensures { IsTrue result ↔ FlaggedTfhd tfhd.now }
 {
@@ -102,9 +107,7 @@ impl TryClone for TfhdBox {
 }
 
 impl Mp4Box for TfhdBox {
-    ghost name = { λ _. format_tfhd.name };
-
-    ghost size = { format_tfhd.size };
+    ghost format = { format_tfhd };
 
     fn box_type(&self) -> BoxType {
         BoxType::TfhdBox
@@ -116,7 +119,7 @@ impl Mp4Box for TfhdBox {
 }
 
 impl ReadBox for TfhdBox {
-    ghost reads = { format_tfhd.reads };
+    ghost reads = { reads_tfhd };
 
     #[tactic(auto, unfolding(crate::specs::Tfhd::reads_tfhd))]
     fn read_content(_alloc: Global, bytes: &[u8], _start: u64, _size: u64) -> Result<TfhdBox> {
@@ -147,14 +150,9 @@ impl ReadBox for TfhdBox {
 }
 
 impl WriteBox for TfhdBox {
-    ghost Writable = { format_tfhd.Writable };
-
-    ghost bytes = { format_tfhd.bytes };
-
-    ghost normal = { format_tfhd.normal };
-
     #[tactic(auto, using(crate::specs::TfhdLaws::tfhd_is_short))]
     fn is_writable(&self) -> bool {
+        // For the prover: a value that was read has the range of its type.
         let _version = self.version;
         let _track_id = self.track_id;
         self.flags < 1 << 24 && has_flagged_fields(self)
@@ -172,13 +170,9 @@ impl WriteBox for TfhdBox {
         put_optional_u32(out, at, self.default_sample_flags);
     }
 
-    ghost header = { laws_tfhd.header };
-
-    ghost normal_form = { laws_tfhd.normal_form };
+    ghost write_laws = { write_laws laws_tfhd };
 }
 
 impl BoxLaws for TfhdBox {
-    ghost read_back = { laws_tfhd.read_back };
-
-    ghost sound = { laws_tfhd.sound };
+    ghost laws = { laws_tfhd };
 }

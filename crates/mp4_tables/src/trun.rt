@@ -1,25 +1,33 @@
 //! The track fragment run box.
 
-ghost use Rattle.std.specs.Prelude.{◌≡◌, ◌≤◌, ◌-◌, ◌^◌, ◌↔◌, [], None, IsTrue, min, option_map};
-ghost use Rattle.std.specs.Int.{w32, cast_signed};
+mod lists;
+mod row_flags;
+mod rows;
+
+ghost use Rattle.std.specs.Prelude.{◌≡◌, ◌≤◌, ◌-◌, ◌^◌, ◌↔◌, [], None, IsTrue, min};
 ghost use Rattle.mp4_frame.specs.declared.box_type.BoxType.TheVariants as names;
-ghost use Rattle.mp4_tables.specs.Trun.{rows_at as rows_place, unsigned, FitsOptional, FlaggedTrun, size_trun, ListedTrun, format_trun};
+ghost use Rattle.mp4_frame.specs.Format.{write_laws};
+ghost use Rattle.mp4_tables.specs.Trun.{rows_at, signed_bits, unsigned_bits, FitsOptional, FlaggedTrun, size_trun, ListedTrun, reads_trun, format_trun};
 ghost use Rattle.mp4_tables.specs.TrunLaws.{laws_trun};
 
-use crate::flagged::{is_set, put_optional_u32, is_present_u32, u32_if, width_if};
-use crate::trun_lists::{is_listed, read_lists, row_length};
-use crate::trun_rows::put_rows;
-use mp4_frame::{BoxLaws, BoxType, Entries, Error, Mp4Box, ReadBox, Result, WriteBox, expect_bytes, put_full_box, put_u32, u8_at, u24_at, u32_at, codes, TryClone};
+use crate::flagged::{is_present_u32, is_set, put_optional_u32, u32_if, width_if};
+use crate::trun::lists::{is_listed, read_lists};
+use crate::trun::row_flags::RowFlags;
+use crate::trun::rows::put_rows;
+use mp4_frame::{
+    BoxLaws, BoxType, Entries, Error, Mp4Box, ReadBox, Result, TryClone, WriteBox, codes,
+    expect_bytes, put_full_box, put_u32, u8_at, u24_at, u32_at,
+};
 use std::alloc::Global;
 
-/// A run of samples of a track fragment (`trun`, ISO/IEC 14496-12, 8.8.8). It is written only where each optional
-/// field is there exactly if its flag is set, and each list is as long as the count if its flag is set and empty
+/// A run of samples of a track fragment (`trun`, ISO/IEC 14496-12, 8.8.8). It is written only when each optional
+/// field is present exactly if its flag is set, and each list is as long as the count if its flag is set and empty
 /// if not.
 #[derive(Debug, Drop, PartialEq, Eq)]
 pub struct TrunBox {
     /// 0 or 1 in the standard. Every version is read and written alike.
     pub version: u8,
-    /// 24 bits, which say which of the fields and lists are there.
+    /// 24 bits, which say which of the fields and lists are present.
     pub flags: u32,
     /// How many samples the run has.
     pub sample_count: u32,
@@ -100,9 +108,9 @@ impl TryClone for TrunBox {
     }
 }
 
-/// The place of the rows.
+/// Where the rows begin.
 fn rows_at(flags: u32) -> usize
-    ensures place { result ≡ rows_place flags }
+    ensures offset { result ≡ rows_at flags }
     ensures most { result ≤ 24 }
 {
     16 + width_if(is_set(flags, TrunBox::FLAG_DATA_OFFSET), 4)
@@ -110,21 +118,20 @@ fn rows_at(flags: u32) -> usize
 }
 
 impl Mp4Box for TrunBox {
-    ghost name = { λ _. format_trun.name };
-
-    ghost size = { format_trun.size };
+    ghost format = { format_trun };
 
     fn box_type(&self) -> BoxType {
         BoxType::TrunBox
     }
 
     fn box_size(&self) -> u64 {
-        rows_at(self.flags) as u64 + row_length(self.flags) as u64 * u64::from(self.sample_count)
+        let row_length = RowFlags::of(self.flags).row_length();
+        rows_at(self.flags) as u64 + row_length as u64 * u64::from(self.sample_count)
     }
 }
 
 impl ReadBox for TrunBox {
-    ghost reads = { format_trun.reads };
+    ghost reads = { reads_trun };
 
     #[tactic(auto, unfolding(crate::specs::Trun::reads_trun))]
     fn read_content(alloc: Global, bytes: &[u8], _start: u64, size: u64) -> Result<TrunBox> {
@@ -136,12 +143,13 @@ impl ReadBox for TrunBox {
         let first_flags_at = 16 + width_if(has_data_offset, 4);
         let rows_at = first_flags_at + width_if(has_first_flags, 4);
         expect_bytes(bytes, 16, rows_at - 16)?;
-        let lists = read_lists(alloc, bytes, size, flags, rows_at, sample_count)?;
+        let has = RowFlags::of(flags);
+        let lists = read_lists(alloc, bytes, size, has, rows_at, sample_count)?;
         Ok(TrunBox {
             version: u8_at(bytes, 8),
             flags,
             sample_count,
-            data_offset: signed(u32_if(bytes, 16, has_data_offset)),
+            data_offset: signed_bits(u32_if(bytes, 16, has_data_offset)),
             first_sample_flags: u32_if(bytes, first_flags_at, has_first_flags),
             sample_durations: lists.durations,
             sample_sizes: lists.sizes,
@@ -152,8 +160,8 @@ impl ReadBox for TrunBox {
 }
 
 /// The signed number of the same bits.
-fn signed(n: Option<u32>) -> Option<i32>
-    ensures { result ≡ option_map (λ bits. cast_signed w32 bits) n }
+fn signed_bits(n: Option<u32>) -> Option<i32>
+    ensures { result ≡ signed_bits n }
 {
     match n {
         Some(bits) => Some(bits.cast_signed()),
@@ -161,9 +169,9 @@ fn signed(n: Option<u32>) -> Option<i32>
     }
 }
 
-/// The number without a sign of the same bits.
+/// The unsigned number of the same bits.
 fn unsigned_bits(n: Option<i32>) -> Option<u32>
-    ensures { result ≡ unsigned n }
+    ensures { result ≡ unsigned_bits n }
 {
     match n {
         Some(n) => Some(n.cast_unsigned()),
@@ -171,63 +179,43 @@ fn unsigned_bits(n: Option<i32>) -> Option<u32>
     }
 }
 
-/// Every number fits. A value that is passed has the range of its type.
+/// A number fits, if there is one.
 fn fits_optional(n: Option<i32>) -> bool
     ensures { IsTrue result ↔ FitsOptional n }
 {
     match n {
+        // For the prover: a value that was read has the range of its type.
         Some(_n) => true,
         None => true,
     }
 }
 
-/// Each list is as long as the count where its flag is set, else empty.
+/// Each list is as long as the count if its flag is set, else empty.
 fn has_flagged_lists(trun: &TrunBox) -> bool
     ensures { IsTrue result ↔ ListedTrun trun.now }
 {
-    let flags = trun.flags;
+    let has = RowFlags::of(trun.flags);
     let count = trun.sample_count;
-    is_listed(
-        is_set(flags, TrunBox::FLAG_SAMPLE_DURATION),
-        count,
-        trun.sample_durations.as_slice(),
-    ) && is_listed(
-        is_set(flags, TrunBox::FLAG_SAMPLE_SIZE),
-        count,
-        trun.sample_sizes.as_slice(),
-    ) && is_listed(
-        is_set(flags, TrunBox::FLAG_SAMPLE_FLAGS),
-        count,
-        trun.sample_flags.as_slice(),
-    ) && is_listed(
-        is_set(flags, TrunBox::FLAG_SAMPLE_CTS),
-        count,
-        trun.sample_cts.as_slice(),
-    )
+    is_listed(has.duration, count, trun.sample_durations.as_slice())
+        && is_listed(has.size, count, trun.sample_sizes.as_slice())
+        && is_listed(has.flags, count, trun.sample_flags.as_slice())
+        && is_listed(has.cts, count, trun.sample_cts.as_slice())
 }
 
-/// Each field is there exactly where its flag is set.
+/// Each field is present exactly if its flag is set.
 fn has_flagged_fields(flags: u32, data_offset: Option<i32>, first_sample_flags: Option<u32>) -> bool
     ensures { IsTrue result ↔ FlaggedTrun flags data_offset first_sample_flags }
 {
-    is_present_u32(
-        is_set(flags, TrunBox::FLAG_DATA_OFFSET),
-        unsigned_bits(data_offset),
-    ) && fits_optional(data_offset)
-        && is_present_u32(
-            is_set(flags, TrunBox::FLAG_FIRST_SAMPLE_FLAGS),
-            first_sample_flags,
-        )
+    let has_data_offset = is_set(flags, TrunBox::FLAG_DATA_OFFSET);
+    let has_first_flags = is_set(flags, TrunBox::FLAG_FIRST_SAMPLE_FLAGS);
+    is_present_u32(has_data_offset, unsigned_bits(data_offset))
+        && fits_optional(data_offset)
+        && is_present_u32(has_first_flags, first_sample_flags)
 }
 
 impl WriteBox for TrunBox {
-    ghost Writable = { format_trun.Writable };
-
-    ghost bytes = { format_trun.bytes };
-
-    ghost normal = { format_trun.normal };
-
     fn is_writable(&self) -> bool {
+        // For the prover: a value that was read has the range of its type.
         let _version = self.version;
         let _sample_count = self.sample_count;
         self.flags < 1 << 24
@@ -246,13 +234,9 @@ impl WriteBox for TrunBox {
         put_rows(out, at, self);
     }
 
-    ghost header = { laws_trun.header };
-
-    ghost normal_form = { laws_trun.normal_form };
+    ghost write_laws = { write_laws laws_trun };
 }
 
 impl BoxLaws for TrunBox {
-    ghost read_back = { laws_trun.read_back };
-
-    ghost sound = { laws_trun.sound };
+    ghost laws = { laws_trun };
 }

@@ -25,7 +25,7 @@ small_number types.Text = lit< tt
 small_number types.Image = lit< tt
 small_number types.TempoCpil = lit< tt
 
-pub laws_data : IsBox format_data
+pub laws_data : IsBox reads_data format_data
 unfolding bytes_data reads_data
 laws_data = record {
   header = λ v w. header_in_front _ v.data_bytes w refl;

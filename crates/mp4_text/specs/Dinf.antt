@@ -3,7 +3,7 @@ use Rattle.std.specs.Prelude.{ℕ, ◌+◌, List, [], ◌∷◌, ◌++◌, Optio
 use Rattle.mp4_frame.specs.Bytes.{bytes_of_fields, FieldsFit}
 use Rattle.mp4_frame.specs.Children.{children}
 use Rattle.mp4_frame.specs.Reading.{Reading, NotFound, ◌>>=◌, done, faults}
-use Rattle.mp4_text.specs.Dref.{format_dref}
+use Rattle.mp4_text.specs.Dref.{reads_dref, format_dref}
 use Rattle.mp4_text.specs.declared.dinf.DinfBox.{DinfBox}
 use Rattle.mp4_frame.specs.Format.{Format}
 use Rattle.mp4_frame.specs.declared.box_type.BoxType.TheVariants as names
@@ -18,7 +18,7 @@ with_dref None = faults (NotFound names.DrefBox)
 -- each begins before the end and has 8 bytes at least, so that the size bounds their number
 unfoldable pub reads_dinf : List ℕ → ℕ → ℕ → Reading DinfBox
 reads_dinf bytes start size = do
-  dref ← children format_dref.reads codes.DREF bytes start size size 8
+  dref ← children reads_dref codes.DREF bytes start size size 8
   with_dref dref
 
 abbrev pub size_dinf : DinfBox → ℕ
@@ -39,4 +39,4 @@ abbrev pub normal_dinf : DinfBox → DinfBox
 normal_dinf v = record { dref = format_dref.normal v.dref }
 
 abbrev pub format_dinf : Format DinfBox
-format_dinf = record { name = names.DinfBox; reads = reads_dinf; size = size_dinf; Writable = WritableDinf; bytes = bytes_dinf; normal = normal_dinf }
+format_dinf = record { name = λ _. names.DinfBox; size = size_dinf; Writable = WritableDinf; bytes = bytes_dinf; normal = normal_dinf }

@@ -9,7 +9,7 @@ use Rattle.mp4_frame.proofs.Decided.{outcome_bind}
 use Rattle.mp4_frame.proofs.Checks.{is_value}
 use Rattle.mp4_frame.proofs.Tables.{value_first}
 use Rattle.mp4_frame.proofs.ChildLaws as child
-use Rattle.mp4_text.specs.Dref.{format_dref}
+use Rattle.mp4_text.specs.Dref.{reads_dref, format_dref}
 use Rattle.mp4_text.specs.DrefLaws.{laws_dref}
 use Rattle.mp4_text.specs.Dinf.{with_dref, reads_dinf, size_dinf, fields_dinf, WritableDinf, bytes_dinf, normal_dinf, format_dinf}
 use Rattle.mp4_frame.specs.OptionalChild.{size_optional, WritableOptional, normal_optional}
@@ -26,7 +26,7 @@ sound_by (Some dref) v e is =
     subst (λ (w : DinfBox). (normal_dinf w ≡ w) × (size_dinf w < 2 ^ 32 → WritableDinf w)) (is_value made v e) (own_normal_form, can)
 sound_by None v e is = absurd cc
 
-pub laws_dinf : IsBox format_dinf
+pub laws_dinf : IsBox reads_dinf format_dinf
 unfolding bytes_dinf reads_dinf
 laws_dinf = record {
   header = λ v w. header_in_front _ (format_dref.bytes v.dref) w.fit (ap (λ (n : ℕ). 8 + n) (laws_dref.header v.dref w.dref).long);
@@ -43,10 +43,10 @@ laws_dinf = record {
       let part = format_dref.bytes v.dref in
       let B = bytes_of_fields cs ++ (part ++ rest) in
       let more : 0 < size_dinf v = omega arith in
-      let there = child.child_back laws_dref cs 8 (length-fields cs) v.dref rest start (size_dinf v) w.dref top more in
+      let there = child.child_back laws_dref codes.DREF (λ v. refl) cs 8 (length-fields cs) v.dref rest start (size_dinf v) w.dref top more in
       ap (λ (l : List ℕ). (reads_dinf l start (size_dinf v)).outcome) (append_assoc (bytes_of_fields cs) part rest)
-      ∙ outcome_bind (children format_dref.reads codes.DREF B start (size_dinf v) (size_dinf v) 8) with_dref (Some (format_dref.normal v.dref)) _ there refl;
+      ∙ outcome_bind (children reads_dref codes.DREF B start (size_dinf v) (size_dinf v) 8) with_dref (Some (format_dref.normal v.dref)) _ there refl;
   sound = λ bytes start long v are e.
-      let p = value_first (children format_dref.reads codes.DREF bytes start long long 8) with_dref v e in
+      let p = value_first (children reads_dref codes.DREF bytes start long long 8) with_dref v e in
       sound_by p.0 v p.2 (child.optional_sound laws_dref codes.DREF bytes start long long 8 p.0 are p.1);
 }

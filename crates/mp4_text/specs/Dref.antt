@@ -5,7 +5,7 @@ use Rattle.mp4_frame.specs.Bytes.{number, bytes_of_fields, FieldsFit, full_box}
 use Rattle.mp4_frame.specs.Children.{children}
 use Rattle.mp4_frame.specs.Reading.{Reading, ◌>>=◌, expect_bytes, done}
 use Rattle.mp4_frame.specs.OptionalChild.{count_optional, size_optional, WritableOptional, bytes_optional, normal_optional}
-use Rattle.mp4_text.specs.Url.{format_url}
+use Rattle.mp4_text.specs.Url.{reads_url, format_url}
 use Rattle.mp4_text.specs.declared.dref.DrefBox.{DrefBox}
 use Rattle.mp4_frame.specs.Format.{Format}
 use Rattle.mp4_frame.specs.declared.box_type.BoxType.TheVariants as names
@@ -19,7 +19,7 @@ value_dref at url = record { version = at 8 1; flags = at 9 3; url = url }
 unfoldable pub reads_dref : List ℕ → ℕ → ℕ → Reading DrefBox
 reads_dref bytes start size = do
   _ ← expect_bytes bytes 8 8
-  url ← children format_url.reads codes.URL bytes start size (number bytes 12 4) 16
+  url ← children reads_url codes.URL bytes start size (number bytes 12 4) 16
   done (value_dref (number bytes) url)
 
 abbrev pub size_dref : DrefBox → ℕ
@@ -40,4 +40,4 @@ abbrev pub normal_dref : DrefBox → DrefBox
 normal_dref v = record v { url = normal_optional format_url v.url }
 
 abbrev pub format_dref : Format DrefBox
-format_dref = record { name = names.DrefBox; reads = reads_dref; size = size_dref; Writable = WritableDref; bytes = bytes_dref; normal = normal_dref }
+format_dref = record { name = λ _. names.DrefBox; size = size_dref; Writable = WritableDref; bytes = bytes_dref; normal = normal_dref }

@@ -11,7 +11,7 @@ use Rattle.mp4_frame.proofs.Checks.{expect_bytes_ok, is_value}
 use Rattle.mp4_frame.proofs.Tables.{value_first}
 use Rattle.mp4_frame.proofs.ChildLaws as child
 use Rattle.mp4_frame.specs.OptionalChild.{count_optional, size_optional, bytes_optional, normal_optional}
-use Rattle.mp4_text.specs.Url.{format_url}
+use Rattle.mp4_text.specs.Url.{reads_url, format_url}
 use Rattle.mp4_text.specs.UrlLaws.{laws_url}
 use Rattle.mp4_text.specs.Dref.{value_dref, reads_dref, size_dref, fields_dref, WritableDref, bytes_dref, normal_dref, format_dref}
 use Rattle.mp4_text.specs.declared.dref.DrefBox.{DrefBox}
@@ -28,7 +28,7 @@ small_count : (url : Option UrlBox) → count_optional url < 256 ^ 4
 small_count (Some url) = lit< tt
 small_count _ = lit< tt
 
-pub laws_dref : IsBox format_dref
+pub laws_dref : IsBox reads_dref format_dref
 unfolding bytes_dref reads_dref
 laws_dref = record {
   header = λ v w.
@@ -48,14 +48,14 @@ laws_dref = record {
       let B = bytes_of_fields cs ++ (entry ++ rest) in
       let numbers : number B ≡ found cs (entry ++ rest) = numbers-fields cs (entry ++ rest) w.fit in
       let count : number B 12 4 ≡ count_optional v.url = ap (λ (at : ℕ → ℕ → ℕ). at 12 4) numbers in
-      let chain = λ (n : ℕ). children format_url.reads codes.URL B start (size_dref v) n 16 in
-      let back = child.optional_back laws_url cs 16 (length-fields cs) v.url rest start w.entry top in
+      let chain = λ (n : ℕ). children reads_url codes.URL B start (size_dref v) n 16 in
+      let back = child.optional_back laws_url codes.URL (λ v. refl) cs 16 (length-fields cs) v.url rest start w.entry top in
       let there : (chain (number B 12 4)).outcome ≡ Ok (normal_optional format_url v.url) = ap (λ (n : ℕ). (chain n).outcome) count ∙ back in
       ap (λ (l : List ℕ). (reads_dref l start (size_dref v)).outcome) (append_assoc (bytes_of_fields cs) entry rest)
       ∙ outcome_bind (expect_bytes B 8 8) (λ _. chain (number B 12 4) >>= λ url. done (value_dref (number B) url)) tt _ (ap (λ (r : Reading (Unit {0})). r.outcome) (expect_bytes-fields cs (entry ++ rest) 8 8 (lit≤ tt)))
       (outcome_bind (chain (number B 12 4)) (λ url. done (value_dref (number B) url)) (normal_optional format_url v.url) _ there (ap (λ (n : ℕ → ℕ → ℕ). Ok (value_dref n (normal_optional format_url v.url))) numbers));
   sound = λ bytes start long v are e.
-      let chain = children format_url.reads codes.URL bytes start long (number bytes 12 4) 16 in
+      let chain = children reads_url codes.URL bytes start long (number bytes 12 4) 16 in
       let last = λ (url : Option UrlBox). done (value_dref (number bytes) url) in
       let p = value_first chain last v (expect_bytes_ok bytes 8 8 (λ _. chain >>= last) v e) in
       let entry = child.optional_sound laws_url codes.URL bytes start long (number bytes 12 4) 16 p.0 are p.1 in

@@ -95,4 +95,4 @@ abbrev pub normal_emsg : EmsgBox → EmsgBox
 normal_emsg v = if v.version == 0 then record v { presentation_time = None } else record v { presentation_time_delta = None }
 
 abbrev pub format_emsg : Format EmsgBox
-format_emsg = record { name = names.EmsgBox; reads = reads_emsg; size = size_emsg; Writable = WritableEmsg; bytes = bytes_emsg; normal = normal_emsg }
+format_emsg = record { name = λ _. names.EmsgBox; size = size_emsg; Writable = WritableEmsg; bytes = bytes_emsg; normal = normal_emsg }

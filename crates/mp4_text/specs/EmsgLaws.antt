@@ -201,7 +201,7 @@ sound_by bytes long v true b are p q e = sound_0 bytes long v are p e
 sound_by bytes long v false true are p q e = sound_1 bytes long v are p q e
 sound_by bytes long v false false are p q e = absurd cc
 
-pub laws_emsg : IsBox format_emsg
+pub laws_emsg : IsBox reads_emsg format_emsg
 unfolding bytes_emsg reads_emsg
 laws_emsg = record {
   header = λ v w.

@@ -43,4 +43,4 @@ unfoldable pub bytes_ftyp : FtypBox → List ℕ
 bytes_ftyp v = bytes_of_fields (fields_ftyp v) ++ flat_map (λ brand. brand.value) v.compatible_brands
 
 abbrev pub format_ftyp : Format FtypBox
-format_ftyp = record { name = names.FtypBox; reads = reads_ftyp; size = size_ftyp; Writable = WritableFtyp; bytes = bytes_ftyp; normal = λ v. v }
+format_ftyp = record { name = λ _. names.FtypBox; size = size_ftyp; Writable = WritableFtyp; bytes = bytes_ftyp; normal = λ v. v }

@@ -42,4 +42,4 @@ unfoldable pub bytes_hdlr : HdlrBox → List ℕ
 bytes_hdlr v = bytes_of_fields (fields_hdlr v) ++ terminated v.name
 
 abbrev pub format_hdlr : Format HdlrBox
-format_hdlr = record { name = names.HdlrBox; reads = reads_hdlr; size = size_hdlr; Writable = WritableHdlr; bytes = bytes_hdlr; normal = λ v. v }
+format_hdlr = record { name = λ _. names.HdlrBox; size = size_hdlr; Writable = WritableHdlr; bytes = bytes_hdlr; normal = λ v. v }

@@ -43,7 +43,7 @@ writable bytes start long v are e =
     let can : size_hdlr made < 2 ^ 32 → WritableHdlr made = λ small. record { fit = (small, (lit< tt, fits_read bytes are (Number 8 1 ∷ Number 9 3 ∷ Fitting 4 0 (lit< tt) ∷ Fitting 4 (number_of made.handler_type) (small_code made.handler_type handler) ∷ Fitting 12 0 (lit< tt) ∷ []))); handler = handler; text = IsUtf8-text_or (codes "null") p.0 null_is_text } in
     subst (λ (w : HdlrBox). size_hdlr w < 2 ^ 32 → WritableHdlr w) (is_value made v p.2) can
 
-pub laws_hdlr : IsBox format_hdlr
+pub laws_hdlr : IsBox reads_hdlr format_hdlr
 unfolding bytes_hdlr reads_hdlr
 laws_hdlr = record {
   header = λ v w.

@@ -66,7 +66,7 @@ sound_by bytes false long v are e =
     let is : value_url (number bytes) (text_or [] p.0) ≡ v = is_value _ v p.2 in
     subst (λ (x : UrlBox). size_url x < 2 ^ 32 → WritableUrl x) is (writable bytes (text_or [] p.0) are (IsUtf8-text_or [] p.0 IsUtf8-nil))
 
-pub laws_url : IsBox format_url
+pub laws_url : IsBox reads_url format_url
 unfolding bytes_url reads_url
 laws_url = record {
   header = λ v w.

@@ -4,7 +4,8 @@ ghost use Rattle.std.specs.Prelude.{◌≡◌, ◌-◌, ◌^◌, [], min};
 ghost use Rattle.mp4_frame.specs.declared.box_type.BoxType.TheVariants as names;
 ghost use Rattle.mp4_media.specs.DataType.{number_data_type};
 ghost use Rattle.mp4_media.specs.declared.data_type.DataType.TheVariants as types;
-ghost use Rattle.mp4_text.specs.Data.{size_data, format_data};
+ghost use Rattle.mp4_frame.specs.Format.{write_laws};
+ghost use Rattle.mp4_text.specs.Data.{size_data, reads_data, format_data};
 ghost use Rattle.mp4_text.specs.DataLaws.{laws_data};
 
 use mp4_frame::{
@@ -59,9 +60,7 @@ impl TryClone for DataBox {
 }
 
 impl Mp4Box for DataBox {
-    ghost name = { λ _. format_data.name };
-
-    ghost size = { format_data.size };
+    ghost format = { format_data };
 
     fn box_type(&self) -> BoxType {
         BoxType::DataBox
@@ -73,7 +72,7 @@ impl Mp4Box for DataBox {
 }
 
 impl ReadBox for DataBox {
-    ghost reads = { format_data.reads };
+    ghost reads = { reads_data };
 
     #[tactic(auto, unfolding(crate::specs::Data::reads_data))]
     fn read_content(alloc: Global, bytes: &[u8], _start: u64, size: u64) -> Result<DataBox> {
@@ -102,12 +101,6 @@ fn number_of(data_type: &DataType) -> u32
 }
 
 impl WriteBox for DataBox {
-    ghost Writable = { format_data.Writable };
-
-    ghost bytes = { format_data.bytes };
-
-    ghost normal = { format_data.normal };
-
     fn is_writable(&self) -> bool {
         self.box_size() < 1 << 32
     }
@@ -121,13 +114,9 @@ impl WriteBox for DataBox {
         put_bytes(out, at, self.data_bytes.as_slice());
     }
 
-    ghost header = { laws_data.header };
-
-    ghost normal_form = { laws_data.normal_form };
+    ghost write_laws = { write_laws laws_data };
 }
 
 impl BoxLaws for DataBox {
-    ghost read_back = { laws_data.read_back };
-
-    ghost sound = { laws_data.sound };
+    ghost laws = { laws_data };
 }

@@ -2,7 +2,8 @@
 
 ghost use Rattle.std.specs.Prelude.{◌≡◌, ◌-◌, ◌^◌, [], min};
 ghost use Rattle.mp4_frame.specs.declared.box_type.BoxType.TheVariants as names;
-ghost use Rattle.mp4_text.specs.Dinf.{size_dinf, format_dinf};
+ghost use Rattle.mp4_frame.specs.Format.{write_laws};
+ghost use Rattle.mp4_text.specs.Dinf.{size_dinf, reads_dinf, format_dinf};
 ghost use Rattle.mp4_text.specs.DinfLaws.{laws_dinf};
 
 use crate::dref::DrefBox;
@@ -63,9 +64,7 @@ impl TryClone for DinfBox {
 }
 
 impl Mp4Box for DinfBox {
-    ghost name = { λ _. format_dinf.name };
-
-    ghost size = { format_dinf.size };
+    ghost format = { format_dinf };
 
     fn box_type(&self) -> BoxType {
         BoxType::DinfBox
@@ -77,7 +76,7 @@ impl Mp4Box for DinfBox {
 }
 
 impl ReadBox for DinfBox {
-    ghost reads = { format_dinf.reads };
+    ghost reads = { reads_dinf };
 
     #[tactic(auto, unfolding(crate::specs::Dinf::reads_dinf))]
     fn read_content(alloc: Global, bytes: &[u8], start: u64, size: u64) -> Result<DinfBox> {
@@ -96,12 +95,6 @@ impl ReadBox for DinfBox {
 }
 
 impl WriteBox for DinfBox {
-    ghost Writable = { format_dinf.Writable };
-
-    ghost bytes = { format_dinf.bytes };
-
-    ghost normal = { format_dinf.normal };
-
     fn is_writable(&self) -> bool {
         self.dref.is_writable() && self.box_size() < 1 << 32
     }
@@ -113,13 +106,9 @@ impl WriteBox for DinfBox {
         put_child(out, at, &self.dref);
     }
 
-    ghost header = { laws_dinf.header };
-
-    ghost normal_form = { laws_dinf.normal_form };
+    ghost write_laws = { write_laws laws_dinf };
 }
 
 impl BoxLaws for DinfBox {
-    ghost read_back = { laws_dinf.read_back };
-
-    ghost sound = { laws_dinf.sound };
+    ghost laws = { laws_dinf };
 }

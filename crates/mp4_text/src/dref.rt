@@ -2,7 +2,8 @@
 
 ghost use Rattle.std.specs.Prelude.{◌≡◌, ◌-◌, ◌^◌, [], min};
 ghost use Rattle.mp4_frame.specs.declared.box_type.BoxType.TheVariants as names;
-ghost use Rattle.mp4_text.specs.Dref.{size_dref, format_dref};
+ghost use Rattle.mp4_frame.specs.Format.{write_laws};
+ghost use Rattle.mp4_text.specs.Dref.{size_dref, reads_dref, format_dref};
 ghost use Rattle.mp4_text.specs.DrefLaws.{laws_dref};
 
 use crate::url::UrlBox;
@@ -66,9 +67,7 @@ impl TryClone for DrefBox {
 }
 
 impl Mp4Box for DrefBox {
-    ghost name = { λ _. format_dref.name };
-
-    ghost size = { format_dref.size };
+    ghost format = { format_dref };
 
     fn box_type(&self) -> BoxType {
         BoxType::DrefBox
@@ -83,7 +82,7 @@ impl Mp4Box for DrefBox {
 }
 
 impl ReadBox for DrefBox {
-    ghost reads = { format_dref.reads };
+    ghost reads = { reads_dref };
 
     #[tactic(auto, unfolding(crate::specs::Dref::reads_dref))]
     fn read_content(alloc: Global, bytes: &[u8], start: u64, size: u64) -> Result<DrefBox> {
@@ -105,12 +104,6 @@ impl ReadBox for DrefBox {
 }
 
 impl WriteBox for DrefBox {
-    ghost Writable = { format_dref.Writable };
-
-    ghost bytes = { format_dref.bytes };
-
-    ghost normal = { format_dref.normal };
-
     fn is_writable(&self) -> bool {
         let _version = self.version;
         if let Some(url) = &self.url {
@@ -136,13 +129,9 @@ impl WriteBox for DrefBox {
         }
     }
 
-    ghost header = { laws_dref.header };
-
-    ghost normal_form = { laws_dref.normal_form };
+    ghost write_laws = { write_laws laws_dref };
 }
 
 impl BoxLaws for DrefBox {
-    ghost read_back = { laws_dref.read_back };
-
-    ghost sound = { laws_dref.sound };
+    ghost laws = { laws_dref };
 }

@@ -4,7 +4,8 @@ ghost use Rattle.std.specs.Prelude.{◌≡◌, ◌↔◌, ◌+◌, ◌-◌, ◌�
 ghost use Rattle.mp4_frame.specs.Bytes.{bytes_of_fields};
 ghost use Rattle.mp4_frame.specs.Reading.{Answers};
 ghost use Rattle.mp4_frame.specs.declared.box_type.BoxType.TheVariants as names;
-ghost use Rattle.mp4_text.specs.Emsg.{message_from, reads_emsg_0, reads_emsg_1, size_middle, size_emsg, texts_emsg, middle_emsg, WritableEmsg, format_emsg};
+ghost use Rattle.mp4_frame.specs.Format.{write_laws};
+ghost use Rattle.mp4_text.specs.Emsg.{message_from, reads_emsg_0, reads_emsg_1, size_middle, size_emsg, texts_emsg, middle_emsg, WritableEmsg, reads_emsg, format_emsg};
 ghost use Rattle.mp4_text.specs.EmsgLaws.{laws_emsg};
 
 use crate::terminated::{is_terminable, put_terminated, two_texts_at};
@@ -79,9 +80,7 @@ impl TryClone for EmsgBox {
 }
 
 impl Mp4Box for EmsgBox {
-    ghost name = { λ _. format_emsg.name };
-
-    ghost size = { format_emsg.size };
+    ghost format = { format_emsg };
 
     fn box_type(&self) -> BoxType {
         BoxType::EmsgBox
@@ -157,7 +156,7 @@ fn read_version_1(alloc: Global, bytes: &[u8], size: u64) -> Result<EmsgBox>
 }
 
 impl ReadBox for EmsgBox {
-    ghost reads = { format_emsg.reads };
+    ghost reads = { reads_emsg };
 
     #[tactic(auto, unfolding(crate::specs::Emsg::reads_emsg))]
     fn read_content(alloc: Global, bytes: &[u8], _start: u64, size: u64) -> Result<EmsgBox> {
@@ -269,12 +268,6 @@ impl EmsgBox {
 }
 
 impl WriteBox for EmsgBox {
-    ghost Writable = { format_emsg.Writable };
-
-    ghost bytes = { format_emsg.bytes };
-
-    ghost normal = { format_emsg.normal };
-
     fn is_writable(&self) -> bool {
         fits(
             self.version,
@@ -299,13 +292,9 @@ impl WriteBox for EmsgBox {
         put_bytes(out, at, self.message_data.as_slice());
     }
 
-    ghost header = { laws_emsg.header };
-
-    ghost normal_form = { laws_emsg.normal_form };
+    ghost write_laws = { write_laws laws_emsg };
 }
 
 impl BoxLaws for EmsgBox {
-    ghost read_back = { laws_emsg.read_back };
-
-    ghost sound = { laws_emsg.sound };
+    ghost laws = { laws_emsg };
 }

@@ -2,7 +2,8 @@
 
 ghost use Rattle.std.specs.Prelude.{◌≡◌, ◌-◌, ◌^◌, ◌↔◌, ◌+◌, ◌*◌, [], IfOk, IfErr, IsTrue, map, min, length, replicate};
 ghost use Rattle.mp4_frame.specs.declared.box_type.BoxType.TheVariants as names;
-ghost use Rattle.mp4_text.specs.Ftyp.{brand_of, size_ftyp, WritableFtyp, format_ftyp};
+ghost use Rattle.mp4_frame.specs.Format.{write_laws};
+ghost use Rattle.mp4_text.specs.Ftyp.{brand_of, size_ftyp, WritableFtyp, reads_ftyp, format_ftyp};
 ghost use Rattle.mp4_text.specs.FtypLaws.{laws_ftyp};
 
 use mp4_frame::{
@@ -60,9 +61,7 @@ impl TryClone for FtypBox {
 }
 
 impl Mp4Box for FtypBox {
-    ghost name = { λ _. format_ftyp.name };
-
-    ghost size = { format_ftyp.size };
+    ghost format = { format_ftyp };
 
     fn box_type(&self) -> BoxType {
         BoxType::FtypBox
@@ -91,7 +90,7 @@ fn brands_of(alloc: Global, rows: &[[u8; 4]]) -> Result<Vec<FourCC>>
 }
 
 impl ReadBox for FtypBox {
-    ghost reads = { format_ftyp.reads };
+    ghost reads = { reads_ftyp };
 
     #[tactic(auto, unfolding(crate::specs::Ftyp::reads_ftyp))]
     fn read_content(alloc: Global, bytes: &[u8], _start: u64, size: u64) -> Result<FtypBox> {
@@ -120,12 +119,6 @@ fn fits(major_brand: FourCC, minor_version: u32, size: u64, brands: &[FourCC]) -
 }
 
 impl WriteBox for FtypBox {
-    ghost Writable = { format_ftyp.Writable };
-
-    ghost bytes = { format_ftyp.bytes };
-
-    ghost normal = { format_ftyp.normal };
-
     fn is_writable(&self) -> bool {
         fits(
             self.major_brand,
@@ -144,13 +137,9 @@ impl WriteBox for FtypBox {
         put_entries(out, at, self.compatible_brands.as_slice());
     }
 
-    ghost header = { laws_ftyp.header };
-
-    ghost normal_form = { laws_ftyp.normal_form };
+    ghost write_laws = { write_laws laws_ftyp };
 }
 
 impl BoxLaws for FtypBox {
-    ghost read_back = { laws_ftyp.read_back };
-
-    ghost sound = { laws_ftyp.sound };
+    ghost laws = { laws_ftyp };
 }

@@ -2,7 +2,8 @@
 
 ghost use Rattle.std.specs.Prelude.{◌≡◌, ◌↔◌, ◌+◌, ◌-◌, ◌^◌, [], IsTrue, length, min, replicate};
 ghost use Rattle.mp4_frame.specs.declared.box_type.BoxType.TheVariants as names;
-ghost use Rattle.mp4_text.specs.Hdlr.{size_hdlr, WritableHdlr, format_hdlr};
+ghost use Rattle.mp4_frame.specs.Format.{write_laws};
+ghost use Rattle.mp4_text.specs.Hdlr.{size_hdlr, WritableHdlr, reads_hdlr, format_hdlr};
 ghost use Rattle.mp4_text.specs.HdlrLaws.{laws_hdlr};
 
 use crate::terminated::put_terminated;
@@ -66,9 +67,7 @@ impl TryClone for HdlrBox {
 }
 
 impl Mp4Box for HdlrBox {
-    ghost name = { λ _. format_hdlr.name };
-
-    ghost size = { format_hdlr.size };
+    ghost format = { format_hdlr };
 
     fn box_type(&self) -> BoxType {
         BoxType::HdlrBox
@@ -80,7 +79,7 @@ impl Mp4Box for HdlrBox {
 }
 
 impl ReadBox for HdlrBox {
-    ghost reads = { format_hdlr.reads };
+    ghost reads = { reads_hdlr };
 
     #[tactic(auto, unfolding(crate::specs::Hdlr::reads_hdlr))]
     fn read_content(alloc: Global, bytes: &[u8], _start: u64, size: u64) -> Result<HdlrBox> {
@@ -106,12 +105,6 @@ fn fits(version: u8, flags: u32, handler_type: FourCC, size: u64, name: &Text) -
 }
 
 impl WriteBox for HdlrBox {
-    ghost Writable = { format_hdlr.Writable };
-
-    ghost bytes = { format_hdlr.bytes };
-
-    ghost normal = { format_hdlr.normal };
-
     fn is_writable(&self) -> bool {
         fits(
             self.version,
@@ -132,13 +125,9 @@ impl WriteBox for HdlrBox {
         put_terminated(out, at, self.name.as_bytes());
     }
 
-    ghost header = { laws_hdlr.header };
-
-    ghost normal_form = { laws_hdlr.normal_form };
+    ghost write_laws = { write_laws laws_hdlr };
 }
 
 impl BoxLaws for HdlrBox {
-    ghost read_back = { laws_hdlr.read_back };
-
-    ghost sound = { laws_hdlr.sound };
+    ghost laws = { laws_hdlr };
 }

@@ -2,7 +2,8 @@
 
 ghost use Rattle.std.specs.Prelude.{◌≡◌, ◌≤◌, ◌+◌, ◌-◌, ◌^◌, ◌++◌, [], min, length, take};
 ghost use Rattle.mp4_frame.specs.declared.box_type.BoxType.TheVariants as names;
-ghost use Rattle.mp4_text.specs.Url.{size_url, bytes_location, format_url};
+ghost use Rattle.mp4_frame.specs.Format.{write_laws};
+ghost use Rattle.mp4_text.specs.Url.{size_url, bytes_location, reads_url, format_url};
 ghost use Rattle.mp4_text.specs.UrlLaws.{laws_url};
 
 use crate::terminated::put_terminated;
@@ -61,9 +62,7 @@ impl TryClone for UrlBox {
 }
 
 impl Mp4Box for UrlBox {
-    ghost name = { λ _. format_url.name };
-
-    ghost size = { format_url.size };
+    ghost format = { format_url };
 
     fn box_type(&self) -> BoxType {
         BoxType::UrlBox
@@ -78,7 +77,7 @@ impl Mp4Box for UrlBox {
 }
 
 impl ReadBox for UrlBox {
-    ghost reads = { format_url.reads };
+    ghost reads = { reads_url };
 
     #[tactic(auto, unfolding(crate::specs::Url::reads_url))]
     fn read_content(alloc: Global, bytes: &[u8], _start: u64, size: u64) -> Result<UrlBox> {
@@ -114,12 +113,6 @@ fn put_location(out: &mut [u8], at: usize, location: &[u8]) -> usize
 }
 
 impl WriteBox for UrlBox {
-    ghost Writable = { format_url.Writable };
-
-    ghost bytes = { format_url.bytes };
-
-    ghost normal = { format_url.normal };
-
     fn is_writable(&self) -> bool {
         let _version = self.version;
         self.flags < 1 << 24 && self.box_size() < 1 << 32 && self.location.is_utf8()
@@ -132,13 +125,9 @@ impl WriteBox for UrlBox {
         put_location(out, at, self.location.as_bytes());
     }
 
-    ghost header = { laws_url.header };
-
-    ghost normal_form = { laws_url.normal_form };
+    ghost write_laws = { write_laws laws_url };
 }
 
 impl BoxLaws for UrlBox {
-    ghost read_back = { laws_url.read_back };
-
-    ghost sound = { laws_url.sound };
+    ghost laws = { laws_url };
 }

@@ -1,0 +1,163 @@
+//! The lists of the track fragment run box, as they are read.
+
+ghost use Rattle.std.specs.Prelude.{◌≡◌, ◌≤◌, ◌<◌, ◌+◌, ◌++◌, ◌↔◌, [], IsTrue, IfOk, IfErr, OnOk};
+ghost use Rattle.mp4_frame.specs.Reading.{Answers};
+ghost use Rattle.mp4_tables.specs.Flagged.{width_if};
+ghost use Rattle.mp4_tables.specs.TrunRows.{row_length};
+ghost use Rattle.mp4_tables.specs.TrunLists.{column_if, lists_of, reads_lists, count_if, IsListed};
+
+use crate::flagged::width_if;
+use crate::rows::{append_numbers, read_rows};
+use crate::trun::row_flags::RowFlags;
+use mp4_frame::{Entries, Error, Result, all_fit};
+use std::alloc::Global;
+
+/// How many rows are read at a time, of at most 16 bytes each.
+const PART: usize = 512;
+
+/// What the rows of a run hold: a list for each flag.
+#[derive(Drop)]
+pub(crate) struct TrunLists {
+    pub(crate) durations: Entries<u32>,
+    pub(crate) sizes: Entries<u32>,
+    pub(crate) flags: Entries<u32>,
+    pub(crate) cts: Entries<u32>,
+}
+
+/// No numbers yet, and memory for as many as there will be.
+fn numbers_for(alloc: Global, is_flagged: bool, count: usize) -> Result<Vec<u32>>
+    ensures empty { IfOk result (λ numbers. numbers.items ≡ []) }
+    ensures memory { IfErr result (λ e. e ≡ Error.OutOfMemory) }
+{
+    if is_flagged {
+        Ok(Vec::with_capacity(alloc, count)?)
+    } else {
+        Ok(Vec::new(alloc))
+    }
+}
+
+/// Appends the numbers of four bytes at one offset of the rows, if their flag is set.
+#[tactic(auto, unfolding(crate::specs::TrunLists::column_if, crate::specs::Flagged::width_if))]
+fn append_column<const E: usize>(
+    numbers: &mut Vec<u32>,
+    rows: &[[u8; E]],
+    is_flagged: bool,
+    at: usize,
+) -> Result<()>
+    requires { at + width_if is_flagged 4 ≤ E }
+    ensures ok { OnOk result (numbers.new.items ≡ numbers.old.items ++ column_if is_flagged at rows.now) }
+    ensures memory { IfErr result (λ e. e ≡ Error.OutOfMemory) }
+{
+    if is_flagged {
+        append_numbers(numbers, rows, at)?;
+    }
+    Ok(())
+}
+
+/// The lists of rows. They are filled by one part of the rows after the other, which stays in the nearest cache
+/// until each list has its numbers of it.
+#[tactic(auto, using(crate::proofs::TrunRows::column_moves), unfolding(crate::specs::TrunLists::column_if))]
+fn lists_of_rows<const E: usize>(
+    alloc: Global,
+    rows: &[[u8; E]],
+    has: RowFlags,
+) -> Result<TrunLists>
+    requires { E ≡ row_length has }
+    ensures value { IfOk result (λ lists. lists ≡ lists_of has rows.now) }
+    ensures memory { IfErr result (λ e. e ≡ Error.OutOfMemory) }
+{
+    let size_at = width_if(has.duration, 4);
+    let flags_at = size_at + width_if(has.size, 4);
+    let cts_at = flags_at + width_if(has.flags, 4);
+    // For the prover: a number at `cts_at` ends within its row.
+    let _end = cts_at + width_if(has.cts, 4);
+    let mut durations = numbers_for(alloc, has.duration, rows.len())?;
+    let mut sizes = numbers_for(alloc, has.size, rows.len())?;
+    let mut flags = numbers_for(alloc, has.flags, rows.len())?;
+    let mut cts = numbers_for(alloc, has.cts, rows.len())?;
+    let mut rest = rows;
+    while !rest.is_empty() {
+        let (part, after) = rest.split_at(rest.len().min(PART));
+        append_column(&mut durations, part, has.duration, 0)?;
+        append_column(&mut sizes, part, has.size, size_at)?;
+        append_column(&mut flags, part, has.flags, flags_at)?;
+        append_column(&mut cts, part, has.cts, cts_at)?;
+        rest = after;
+    }
+    Ok(TrunLists {
+        durations: durations.into(),
+        sizes: sizes.into(),
+        flags: flags.into(),
+        cts: cts.into(),
+    })
+}
+
+/// The lists of rows of `E` bytes.
+#[tactic(auto, unfolding(crate::specs::TrunLists::reads_lists))]
+fn read_rows_of<const E: usize>(
+    alloc: Global,
+    bytes: &[u8],
+    size: u64,
+    has: RowFlags,
+    at: usize,
+    count: u32,
+) -> Result<TrunLists>
+    requires some { 0 < E }
+    requires length { E ≡ row_length has }
+    ensures { Answers result (reads_lists bytes.now size has at count) }
+{
+    // For the prover: a row has at most 16 bytes.
+    let _length = has.row_length();
+    let rows = read_rows::<E>(
+        bytes,
+        size,
+        at,
+        count,
+        "trun sample_count indicates more values than could fit in the box",
+    )?;
+    lists_of_rows(alloc, rows, has)
+}
+
+/// The lists of as many rows as counted. If a row has no bytes, none is visited.
+pub(crate) fn read_lists(
+    alloc: Global,
+    bytes: &[u8],
+    size: u64,
+    has: RowFlags,
+    at: usize,
+    count: u32,
+) -> Result<TrunLists>
+    ensures { Answers result (reads_lists bytes.now size has at count) }
+{
+    let length = has.row_length();
+    if length == 4 {
+        read_rows_of::<4>(alloc, bytes, size, has, at, count)
+    } else if length == 8 {
+        read_rows_of::<8>(alloc, bytes, size, has, at, count)
+    } else if length == 12 {
+        read_rows_of::<12>(alloc, bytes, size, has, at, count)
+    } else if length == 16 {
+        read_rows_of::<16>(alloc, bytes, size, has, at, count)
+    } else {
+        Ok(TrunLists {
+            durations: Entries::new(alloc),
+            sizes: Entries::new(alloc),
+            flags: Entries::new(alloc),
+            cts: Entries::new(alloc),
+        })
+    }
+}
+
+/// How many numbers a list has.
+fn count_if(is_flagged: bool, count: u32) -> usize
+    ensures { result ≡ count_if is_flagged count }
+{
+    if is_flagged { count as usize } else { 0 }
+}
+
+/// A list is as long as the count if its flag is set, else empty.
+pub(crate) fn is_listed(is_flagged: bool, count: u32, numbers: &[u32]) -> bool
+    ensures { IsTrue result ↔ IsListed is_flagged count numbers.now }
+{
+    numbers.len() == count_if(is_flagged, count) && all_fit(numbers)
+}
