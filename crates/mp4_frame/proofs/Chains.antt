@@ -1,4 +1,4 @@
--- A chain of children, child by child.
+-- Children of a box, read one after the other.
 use Rattle.std.proofs.Common.{◌≡◌, ℕ, zero, suc, ◌+◌, ◌-◌, ◌<◌, ◌≤◌, Bool, true, false, cond, List, drop, Result, Ok, Err, Option, Some, None, refl, sym, ap, subst, ◌∙◌, arith}
 use Rattle.std.proofs.lemmas.Bool.{le-leb, lt-leb, eq-eqb, ne_eqb}
 use Rattle.mp4_frame.specs.Children.{child, child_if_named, last, children}
@@ -7,7 +7,7 @@ use Rattle.mp4_frame.specs.declared.head.Head.{Head}
 use Rattle.mp4_frame.specs.declared.error.Error.{Error}
 use Rattle.mp4_frame.proofs.Decided.{Decides, decides_same, decides_on, decides_bind, bind_decided, first_faults, decided_fault}
 
--- what was found, and what is still to be read
+-- the outcome of the children, from the child that was found so far and the reading of the children that are left
 abbrev pub continued : {A : Type 0} → Option A → Reading (Option A) → Reading (Option A)
 continued found r = r >>= λ later. done (last found later)
 
@@ -29,7 +29,7 @@ first_by true (Ok None) = refl
 first_by false (Ok None) = refl
 
 module _ {A : Type 0} (reads : List ℕ → ℕ → ℕ → Reading A) (code : ℕ) (bytes : List ℕ) (start size : ℕ) where
-  -- nothing is read so far
+  -- before the first child is read
   pub at_first : (n o : ℕ) → Decides (continued None (children reads code bytes start size n o)) (children reads code bytes start size n o)
   at_first n o = let r = children reads code bytes start size n o in decides_same _ _ (first_by r.asks_memory r.outcome)
 
@@ -69,12 +69,12 @@ module _ {A : Type 0} (reads : List ℕ → ℕ → ℕ → Reading A) (code : �
       behind_head : Decides (continued found (after c)) whole
       behind_head = decides_on _ _ whole (bind_decided (after c) (child bytes start size o >>= after) (λ later. done (last found later)) (decides_bind (child bytes start size o) after c is)) begun
 
-      -- the child faults
+      -- the child itself faults
       pub child_faults : (e : Error) → Refuses e (child_if_named reads code bytes start c) → Refuses e whole
       unfolding after
       child_faults e h = decided_fault e _ whole behind_head (first_faults e _ _ (first_faults e _ _ h))
 
-      -- the child is read
+      -- the child is read, or skipped
       pub next : (mine : Option A) → (child_if_named reads code bytes start c).outcome ≡ Ok mine → Decides (continued (last found mine) (children reads code bytes start size (n - 1) (c.start + c.size))) whole
       unfolding after
       next mine e =
@@ -89,23 +89,23 @@ module _ {A : Type 0} (reads : List ℕ → ℕ → ℕ → Reading A) (code : �
       is_other : (c.code ≡ code → ⊥) → child_if_named reads code bytes start c ≡ done None
       is_other e = ap (λ (b : Bool). cond b (reads (drop c.start bytes) (start + c.start) c.size >>= λ v. done (Some v)) (done None)) (ne_eqb c.code code e)
 
-      -- a wanted child faults
+      -- a child with the code faults
       pub named_child_faults : (rest : List ℕ) → rest ≡ drop c.start bytes → c.code ≡ code → (e : Error) → Refuses e (reads rest (start + c.start) c.size) → Refuses e whole
       named_child_faults rest here is_code e h =
           let there : Refuses e (reads (drop c.start bytes) (start + c.start) c.size) = subst (λ (xs : List ℕ). Refuses e (reads xs (start + c.start) c.size)) here h in
           child_faults e (decided_fault e _ _ (decides_same _ _ (sym (is_named_child is_code))) (first_faults e _ _ there))
 
-      -- a wanted child is read
+      -- a child with the code is read
       pub kept : (rest : List ℕ) → rest ≡ drop c.start bytes → c.code ≡ code → (v : A) → (reads rest (start + c.start) c.size).outcome ≡ Ok v → Decides (continued (Some v) (children reads code bytes start size (n - 1) (c.start + c.size))) whole
       kept rest here is_code v e =
           let there : (reads (drop c.start bytes) (start + c.start) c.size).outcome ≡ Ok v = ap (λ (xs : List ℕ). (reads xs (start + c.start) c.size).outcome) (sym here) ∙ e in
           next (Some v) (ap (λ (r : Reading (Option A)). r.outcome) (is_named_child is_code) ∙ ap (λ (o : Result A Fault). (and_then (reads (drop c.start bytes) (start + c.start) c.size).asks_memory o (λ v. done (Some v))).outcome) there)
 
-      -- a child is skipped
+      -- a child with another code is skipped
       pub skipped : (c.code ≡ code → ⊥) → Decides (continued found (children reads code bytes start size (n - 1) (c.start + c.size))) whole
       skipped other = next None (ap (λ (r : Reading (Option A)). r.outcome) (is_other other))
 
-  -- nothing is left
+  -- no child is left
   pub all_read : (found : Option A) (n o : ℕ) (whole : Reading (Option A)) → size ≤ o → Decides (continued found (children reads code bytes start size n o)) whole → whole.outcome ≡ Ok found
   all_read found n o whole le told = sym told.0 ∙ ap (λ (r : Reading (Option A)). (continued found r).outcome) (children_none n o le)
 

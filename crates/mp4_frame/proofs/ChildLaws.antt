@@ -1,4 +1,4 @@
--- What a box takes over from the laws of a child, whether it always has one or may lack it.
+-- Laws of a box that follow from the laws of a child, which the box always has or may lack.
 use Rattle.std.proofs.Common.{◌≡◌, ℕ, zero, suc, ◌+◌, ◌-◌, ◌<◌, ◌≤◌, ◌^◌, Bool, true, false, cond, ◌&&◌, ◌||◌, List, [], ◌++◌, length, Result, Ok, Err, Option, Some, None, refl, sym, ap, subst, ◌∙◌, arith, lit<}
 use Rattle.std.proofs.lemmas.Bool.{leb-true, and_parts}
 use Rattle.std.specs.Prelude.{◌==◌, nat_le, nat_lt}
@@ -35,7 +35,7 @@ head_start : (bytes : List ℕ) (o : ℕ) (h : Head) → (head bytes o).outcome 
 unfolding head
 head_start bytes o h e = start_by bytes o (number bytes o 4 == 1) h (expect_bytes_ok bytes o 8 (λ _. cond (number bytes o 4 == 1) (large_head bytes o) (compact_head bytes o)) h e)
 
--- a child ends 8 bytes or more after the place where it begins
+-- a child ends at least 8 bytes after the offset where it begins
 child_end : (bytes : List ℕ) (start size o : ℕ) (c : Head) → (child bytes start size o).outcome ≡ Ok c → o + 8 ≤ c.start + c.size
 unfolding child
 child_end bytes start size o c e =
@@ -57,7 +57,7 @@ module _ {A : Type 0} (reads : List ℕ → ℕ → ℕ → Reading A) (code : �
   same_after o m n same a (Err k) e = refl
   same_after o m n same a (Ok c) e = ap (λ (rest : Reading (Option A)). also a (child_if_named reads code bytes start c >>= λ mine. rest >>= λ later. done (last mine later))) (same (c.start + c.size) (child_end bytes start size o c e))
 
-  -- a count that the bytes up to the end don't exceed ends no chain
+  -- a bound on the number of children changes nothing if it is at least the number of bytes that are left
   pub all_children : (n more o : ℕ) → size ≤ o + n → children reads code bytes start size (n + more) o ≡ children reads code bytes start size n o
   unfolding children after
   all_children zero more o le = children_none reads code bytes start size (0 + more) o (omega (arith, le)) ∙ sym (children_zero reads code bytes start size o)
@@ -67,9 +67,9 @@ module _ {A : Type 0} (reads : List ℕ → ℕ → ℕ → Reading A) (code : �
       ap (λ (k : ℕ). children reads code bytes start size k o) count
       ∙ ap (λ (r : Reading (Option A)). cond (nat_le size o) (done None) r) (same_after o (n + more) n (λ q behind. all_children n more q (omega (arith, le, behind))) c.asks_memory c.outcome refl)
 
--- Over the laws of the child.
+-- From the laws of the child:
 module _ {A : Type 0} {reads : List ℕ → ℕ → ℕ → Reading A} {format : Format A} (laws : IsBox reads format) where
-  -- the normal form is as long
+  -- the normal form has the same size
   pub normal_size : (v : A) → format.Writable v → format.size (format.normal v) ≡ format.size v
   normal_size v w =
       let n = laws.normal_form v w in
@@ -100,7 +100,7 @@ module _ {A : Type 0} {reads : List ℕ → ℕ → ℕ → Reading A} {format :
   optional_bytes None w = refl
 
   module _ (code : ℕ) (coded : (v : A) → code_of (format.name v) ≡ code) (cs : List (ℕ × ℕ)) (k : ℕ) (long : length (bytes_of_fields cs) ≡ k) where
-    -- a child after fields is read back by the chain of children
+    -- a child after fields is read back
     pub child_back : (v : A) (rest : List ℕ) (start n : ℕ) → format.Writable v → start + (k + format.size v) < 2 ^ 64 → 0 < n
         → (children reads code (bytes_of_fields cs ++ (format.bytes v ++ rest)) start (k + format.size v) n k).outcome ≡ Ok (Some (format.normal v))
     child_back v rest start n w top more =
@@ -117,6 +117,6 @@ module _ {A : Type 0} {reads : List ℕ → ℕ → ℕ → Reading A} {format :
     by (Some v) is = (ap (λ (u : A). Some u) is.0, is.1)
     by None is = (refl, λ small. tt)
 
-    -- what a chain of children holds is its own normal form, and writable unless it is too long
+    -- a child that was read is its own normal form, and can be written unless it is too large
     pub optional_sound : (normal_optional format c ≡ c) × (size_optional format c < 2 ^ 32 → WritableOptional format c)
     optional_sound = by c (children_sound reads code input start long (λ v. (format.normal v ≡ v) × (format.size v < 2 ^ 32 → format.Writable v)) laws.sound are n o c read)

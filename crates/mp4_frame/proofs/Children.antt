@@ -54,7 +54,7 @@ module _ {A : Type 0} (reads : List ℕ → ℕ → ℕ → Reading A) (code : �
       let c : ltb (start + k + m) (2 ^ 64) ≡ true = lt-ltb (start + k + m) (2 ^ 64) (omega arith) in
       rw (head_is, a, b, c) refl
 
-  -- the only child, after fields
+  -- the only child, after fields, is read back
   pub only_child : (n : ℕ) → 0 < n → (children reads code (bytes_of_fields cs ++ (part ++ rest)) start (k + m) n k).outcome ≡ Ok (Some v)
   only_child n more =
       let B = bytes_of_fields cs ++ (part ++ rest) in
@@ -72,7 +72,7 @@ module _ {A : Type 0} (reads : List ℕ → ℕ → ℕ → Reading A) (code : �
       (outcome_bind (child_if_named reads code B start c) (λ mine. children reads code B start (k + m) (n - 1) (k + m) >>= λ later. done (last mine later)) (Some v) (Ok (Some v)) w
       (ap (λ (r : Reading (Option A)). (r >>= λ later. done (last (Some v) later)).outcome) none))
 
--- a fact of what is there
+-- a property of the value in a Some
 abbrev pub ForSome : {A : Type 0} → (A → Type 0) → Option A → Type 0
 ForSome P (Some v) = P v
 ForSome P None = Unit {0}
@@ -94,7 +94,7 @@ module _ {A : Type 0} (reads : List ℕ → ℕ → ℕ → Reading A) (code : �
       let is : None ≡ r = is_value None r e in
       subst (ForSome P) is tt
 
-  -- what a chain of children holds was read of some of the bytes
+  -- a property of every value that is read holds for the child that was found
   pub children_sound : (n o : ℕ) (r : Option A) → (children reads code bytes start size n o).outcome ≡ Ok r → ForSome P r
   unfolding children
   children_sound zero o r e = (let is : None ≡ r = is_value None r e in subst (ForSome P) is tt)

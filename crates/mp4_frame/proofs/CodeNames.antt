@@ -17,7 +17,7 @@ number_of_four (a ∷ b ∷ c ∷ []) long = absurd (omega (arith, long))
 number_of_four (a ∷ b ∷ c ∷ d ∷ []) long = omega arith
 number_of_four (a ∷ b ∷ c ∷ d ∷ e ∷ rest) long = absurd (omega (arith, long))
 
--- a code is the one of its number
+-- the code of a code's number is that code
 pub four_cc_back : (c : FourCC) → IsFourCC c → four_cc_of (number_of c) ≡ c
 unfolding be_bytes
 four_cc_back c is = ap (λ (bytes : List ℕ). record { value = bytes }) (be_bytes_4 c.value (number_of c) is.long is.are (number_of_four c.value is.long))
@@ -30,10 +30,10 @@ are_bytes n (suc (suc zero)) = omega arith
 are_bytes n (suc (suc (suc zero))) = omega arith
 are_bytes n (suc (suc (suc (suc i)))) = omega arith
 
--- every number has a code
+-- the code of every number is a code
 pub four_cc_is : (n : ℕ) → IsFourCC (four_cc_of n)
 four_cc_is n = record { long = length-be_bytes 4 n; are = are_bytes n }
 
--- the number of a code has four bytes
+-- the number of a code fits four bytes
 pub small_code : (c : FourCC) → IsFourCC c → number_of c < 2 ^ 32
 small_code c is = number-below c.value 0 4 is.are

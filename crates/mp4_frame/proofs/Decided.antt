@@ -1,4 +1,4 @@
--- What is still to be read decides what the whole comes to.
+-- The rest of a reading decides the outcome of the whole.
 use Rattle.std.proofs.Common.{◌≡◌, Bool, true, false, Result, Ok, Err, refl, sym, ap, ◌∙◌}
 use Rattle.std.specs.Prelude.{◌||◌}
 use Rattle.mp4_frame.specs.Reading.{Reading, Fault, ◌>>=◌, Refuses, and_then, also}
@@ -25,7 +25,7 @@ or_first : (a b : Bool) → a ≡ true → (a || b) ≡ true
 or_first true b e = refl
 or_first false b e = absurd cc
 
--- an item that was read
+-- after a part that has a value, what follows decides
 pub decides_bind : {A B : Type 0} (r : Reading A) (f : A → Reading B) (x : A) → r.outcome ≡ Ok x → Decides (f x) (r >>= f)
 decides_bind r f x e =
     let w : also r.asks_memory (f x) ≡ (r >>= f) = sym (ap (λ (o : Result _ Fault). and_then r.asks_memory o f) e) in
@@ -48,7 +48,7 @@ outcomes a b (Err k) f = refl
 pub bind_decided : {A B : Type 0} (r s : Reading A) (f : A → Reading B) → Decides r s → Decides (r >>= f) (s >>= f)
 bind_decided r s f d = (outcomes r.asks_memory s.asks_memory r.outcome f ∙ ap (λ (o : Result _ Fault). (and_then s.asks_memory o f).outcome) d.0, bind_decided_by r.asks_memory s.asks_memory r.outcome s.outcome f d.0 d.1)
 
--- a part that faults, or is out of memory
+-- a part that faults, or is out of memory, decides
 pub first_faults : {A B : Type 0} (e : Error) (r : Reading A) (f : A → Reading B) → Refuses e r → Refuses e (r >>= f)
 first_faults errors.IoError r f h = ap (λ (o : Result _ Fault). (and_then r.asks_memory o f).outcome) h
 first_faults (errors.InvalidData text) r f h = ap (λ (o : Result _ Fault). (and_then r.asks_memory o f).outcome) h
@@ -63,10 +63,10 @@ decided_fault (errors.BoxNotFound name) r s d h = sym d.0 ∙ h
 decided_fault errors.OutOfMemory r s d h = d.1 h
 decided_fault _ r s d h = absurd h
 
--- the value after an item
+-- the outcome after a part that has a value
 pub outcome_bind : {A B : Type 0} (r : Reading A) (f : A → Reading B) (x : A) (o : Result B Fault) → r.outcome ≡ Ok x → (f x).outcome ≡ o → (r >>= f).outcome ≡ o
 outcome_bind r f x o e h = ap (λ (p : Result _ Fault). (and_then r.asks_memory p f).outcome) e ∙ h
 
--- after bytes that are present, or a test that holds
+-- an error after bytes that are present, or after a check that holds
 pub faults_behind : {A : Type 0} (u : Reading (Unit {0})) (f : Unit {0} → Reading A) → u.outcome ≡ Ok tt → (e : Error) → Refuses e (f tt) → Refuses e (u >>= f)
 faults_behind u f is e h = decided_fault e _ (u >>= f) (decides_bind u f tt is) h

@@ -1,4 +1,4 @@
--- A piece that is written at a place.
+-- Pieces that are put at an offset of a slice, and the numbers in the bytes of fields.
 use Rattle.std.proofs.Common.{◌≡◌, ℕ, zero, suc, Bool, true, false, cond, ltb, eqb, ◌+◌, ◌-◌, ◌<◌, ◌≤◌, ◌^◌, ◌%◌, List, [], ◌∷◌, ◌++◌, length, take, set, replicate, refl, ap, sym, ◌∙◌, append_assoc, arith, length-append}
 use Rattle.std.proofs.lemmas.List.{take_at, append-nil, length-take, length-replicate, take_more_set}
 use Rattle.byteorder.specs.Numbers.{big_from-lt, big_number-reads_back, length-bytes_high_first}
@@ -25,7 +25,7 @@ take_written xs piece rest at w le len =
     let n : length (take at xs ++ piece) ≡ at + w = omega (arith, length-append (take at xs) piece, length-take at xs) in
     ap (take (at + w)) (sym (append_assoc (take at xs) piece rest)) ∙ take_at (take at xs ++ piece) rest (at + w) n
 
--- a number that was written to `place[at..]`
+-- a number that was put at offset at
 pub put_be_bytes : (xs : List ℕ) (at k w n : ℕ) (new rest : List ℕ) → at ≤ length xs → new ≡ big_bytes w n ++ rest → take (at + w) (put_mid at k xs new) ≡ take at xs ++ be_bytes w n
 unfolding be_bytes
 put_be_bytes xs at k w n new rest le e =
@@ -55,9 +55,9 @@ put_zeros xs at k w new le e =
     ∙ take_written xs (replicate w 0) (post_of at k xs) at w le (length-replicate w 0)
     ∙ ap (λ (ys : List ℕ). take at xs ++ ys) (be_bytes-zero w)
 
--- ---- what stands among fields
+-- ---- the numbers in the bytes of fields
 
--- the fields, each in front of the next
+-- the bytes of the fields, joined from the front
 pub concat_fields : List (ℕ × ℕ) → List ℕ
 concat_fields [] = []
 concat_fields (c ∷ cs) = be_bytes c.0 c.1 ++ concat_fields cs
@@ -76,7 +76,8 @@ pub length-fields : (cs : List (ℕ × ℕ)) → length (bytes_of_fields cs) ≡
 unfolding bytes_of_fields
 length-fields cs = ap length (bytes_of_fields_onto-concat [] cs) ∙ length-concat_fields cs
 
--- the number of w bytes at place o of fields and what stands after them, by the column that it is
+-- the number of w bytes at offset o in the bytes of fields and the bytes after them: the number of the field there,
+-- if the field begins at o and has w bytes
 abbrev pub found : List (ℕ × ℕ) → List ℕ → ℕ → ℕ → ℕ
 found [] rest o w = number rest o w
 found (c ∷ cs) rest o w =
@@ -107,17 +108,17 @@ pub number-fields : (cs : List (ℕ × ℕ)) (rest : List ℕ) (o w : ℕ) → F
 unfolding bytes_of_fields
 number-fields cs rest o w fits = ap (λ (xs : List ℕ). number (xs ++ rest) o w) (bytes_of_fields_onto-concat [] cs) ∙ found-concat_fields cs rest o w fits
 
--- all the numbers among fields and what stands after them
+-- every number in the bytes of fields and the bytes after them
 pub numbers-fields : (cs : List (ℕ × ℕ)) (rest : List ℕ) → FieldsFit cs → number (bytes_of_fields cs ++ rest) ≡ found cs rest
 numbers-fields cs rest fits = λ i o w. number-fields cs rest o w fits i
 
--- the fields of fields are present
+-- the bytes of fields are present
 pub expect_bytes-fields : (cs : List (ℕ × ℕ)) (rest : List ℕ) (o w : ℕ) → o + w ≤ width_of_fields cs → expect_bytes (bytes_of_fields cs ++ rest) o w ≡ done tt
 expect_bytes-fields cs rest o w le =
     let n : o + w ≤ length (bytes_of_fields cs ++ rest) = omega (arith, length-append (bytes_of_fields cs) rest, length-fields cs) in
     expect_bytes_present (bytes_of_fields cs ++ rest) o w n
 
--- a number of fields alone
+-- a number in the bytes of fields, with nothing after them
 pub number-fields_alone : (cs : List (ℕ × ℕ)) (o w : ℕ) → FieldsFit cs → number (bytes_of_fields cs) o w ≡ found cs [] o w
 number-fields_alone cs o w fits = ap (λ (xs : List ℕ). number xs o w) (sym (append-nil (bytes_of_fields cs))) ∙ number-fields cs [] o w fits
 
@@ -126,7 +127,7 @@ pub number-below : (xs : List ℕ) (o w : ℕ) → AreBytes xs → number xs o w
 unfolding number
 number-below xs o w h = big_from-lt o w xs h
 
--- a signed number that was passed to be put, after what was put before it
+-- a signed number that was put after other bytes
 pub behind_signed : (v : Width) (xs ys zs : List ℕ) (w : ℕ) (z : ℤ) → SFits v z → xs ≡ ys ++ be_bytes w (of_z v (to_z v (of_z v z))) → ys ≡ zs → xs ≡ zs ++ be_bytes w (of_z v z)
 behind_signed v xs ys zs w z fits p q =
     p ∙ ap (λ (l : List ℕ). l ++ be_bytes w (of_z v (to_z v (of_z v z)))) q ∙ ap (λ (y : ℤ). zs ++ be_bytes w (of_z v y)) (to_z-of_z v z fits)

@@ -1,4 +1,4 @@
--- Boxes of fields: size and code in front, and what is known of numbers that were read.
+-- Boxes of fields: the size and the code in front, and the ranges of numbers that were read.
 use Rattle.std.proofs.Common.{◌≡◌, ℕ, ◌+◌, ◌<◌, ◌^◌, List, [], ◌∷◌, ◌++◌, length, map, sym, ap, subst, arith, length-append}
 use Rattle.std.specs.Int.{w16, w32, cast_signed, cast_unsigned}
 use Rattle.mp4_frame.specs.BoxType.{code_of}
@@ -8,7 +8,7 @@ use Rattle.mp4_frame.specs.declared.box_type.BoxType.{BoxType}
 use Rattle.mp4_frame.proofs.Fields.{length-fields, number-fields_alone, number-fields, number-below}
 use Rattle.mp4_frame.proofs.Signed.{below16, below32}
 
--- fields that begin with the size, which counts them all, and the code
+-- fields that begin with the size, which counts all of their bytes, and the code
 pub header_of_fields : {size : ℕ} {name : BoxType} (cs : List (ℕ × ℕ)) → FieldsFit ((4, size) ∷ (4, code_of name) ∷ cs) → 8 + width_of_fields cs ≡ size → BeginsWithHeader size name (bytes_of_fields ((4, size) ∷ (4, code_of name) ∷ cs))
 header_of_fields {size} {name} cs fits long =
     let all = (4, size) ∷ (4, code_of name) ∷ cs in
@@ -32,12 +32,12 @@ header_in_front {size} {name} cs rest fits long =
       code_next = number-fields all rest 4 4 fits;
     }
 
--- a value that is its own normal form
+-- a writable value that is its own normal form
 pub own_normal_form : {A : Type 0} {Writable : A → Type 0} {bytes : A → List ℕ} {normal : A → A} (v : A) → normal v ≡ v → Writable v → Normal Writable bytes normal v
 own_normal_form {A} {Writable} {bytes} {normal} v is w = record { writable = subst Writable (sym is) w; again = ap normal is; same_bytes = ap bytes is }
 
--- what stands in a column of a value that was read: the number of w bytes at o, a signed one of 16 or 32 bits at o,
--- or a number of which it is known that it fits w bytes
+-- where the number in a field of a value that was read is from: w bytes at o, a signed number of 16 or 32 bits at o,
+-- or a number that fits w bytes
 pub data Origin : Type 0 where
   Number : (o w : ℕ) → Origin
   Signed16 : (o : ℕ) → Origin
@@ -56,7 +56,7 @@ fits_from bytes are (Signed16 o) = below16 bytes o are
 fits_from bytes are (Signed32 o) = below32 bytes o are
 fits_from bytes are (Fitting w n fits) = fits
 
--- the fields of a value that was read fit
+-- the fields of a value that was read: every number fits its field
 pub fits_read : (bytes : List ℕ) → AreBytes bytes → (origins : List Origin) → FieldsFit (map (field_from bytes) origins)
 fits_read bytes are [] = tt
 fits_read bytes are (origin ∷ origins) = (fits_from bytes are origin, fits_read bytes are origins)

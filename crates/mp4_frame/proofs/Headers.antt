@@ -18,7 +18,7 @@ compact h = (4, h.size) ∷ (4, code_of h.name) ∷ []
 abbrev pub large : BoxHeader → List (ℕ × ℕ)
 large h = (4, 1) ∷ (4, code_of h.name) ∷ (8, h.size + 8) ∷ []
 
--- a number of fields that stand among other bytes
+-- a number in the bytes of fields that are among other bytes
 among : (cs : List (ℕ × ℕ)) (x y : List ℕ) (o w : ℕ) → FieldsFit cs → number (x ++ (bytes_of_fields cs ++ y)) (length x + o) w ≡ found cs y o w
 among cs x y o w fits = number-past x (bytes_of_fields cs ++ y) o w ∙ number-fields cs y o w fits
 

@@ -25,7 +25,7 @@ either_reading false r s v e = inr e
 start_is : (c d : Head) → (done c).outcome ≡ (done d).outcome → c.start ≡ d.start
 start_is c d e = ap (λ (r : Result Head Fault). elim r as (λ _. ℕ) [ Ok g ↦ g.start | Err _ ↦ 0 ]) e
 
--- the 8 bytes from the place of a head on are present
+-- the 8 bytes from the start on are present
 pub head_room : (B : List ℕ) (o : ℕ) (c : Head) → (head B o).outcome ≡ Ok c → (o ≤ c.start) × (c.start + 8 ≤ length B)
 unfolding head
 head_room B o c e =

@@ -1,4 +1,4 @@
--- What was written is read back, for every type of boxes that keeps the laws.
+-- What was written is read back, for every type of boxes with the laws.
 use Rattle.std.proofs.Common.{◌≡◌, ℕ, ◌+◌, ◌-◌, ◌^◌, ◌<◌, ◌≤◌, Bool, true, List, [], ◌∷◌, ◌++◌, length, map, take, drop, Result, Ok, Err, refl, sym, ap, ◌∙◌, arith, append_assoc, length-append}
 use Rattle.std.specs.List.{AllByRecursion}
 use Rattle.std.proofs.Common.{inl, inr}
@@ -23,7 +23,7 @@ use Rattle.mp4_frame.proofs.Steps.{item_known}
 abbrev pub head_of : ℕ → ℕ → ℕ → Head
 head_of code size o = record { code = code; size = size; start = o }
 
--- a frame of a box of 8 to 2^32 - 1 bytes
+-- the frame of a box of 8 to 2^32 - 1 bytes
 frame_short : (B : List ℕ) (o size code : ℕ) → o + 8 ≤ length B → size ≡ number B o 4 → code ≡ number B (o + 4) 4 → 8 ≤ size → frame B o ≡ frame_of_head (length B) (head_of code size o)
 frame_short B o size code room is_size is_code least = ap (frame_of (length B)) (short_head B o size code room is_size is_code (λ e. omega arith))
 
@@ -37,7 +37,7 @@ unfolding frame_of_head
 frame_too_long len o size code least top cut =
     rw (ne_eqb size 0 (λ e. omega arith), le-ltb size 8 least, le-ltb (2 ^ 64 - 1) (o + size) (omega arith), lt-ltb len (o + size) cut) refl
 
--- a list in front of what is still read
+-- a list in front of the outcome of the rest
 abbrev pub ahead : {A : Type 0} → List A → Result (List A) Fault → Result (List A) Fault
 ahead front (Ok ys) = Ok (front ++ ys)
 ahead front (Err k) = Err k
@@ -75,7 +75,7 @@ module _ {A : Type 0} (name : A → BoxType) (size : A → ℕ) (Writable : A �
       ∙ frame_fits (length B) (length x) (length (bytes v)) (code_of (name v)) least top (omega (arith, long))
       ∙ ap (λ (own : BoxType). Ok (record { name = own; start = length x; size = length (bytes v); end = length x + length (bytes v) })) n.is_own
 
-  -- one box, and then what follows
+  -- one written box, and then the bytes after it
   one : (v : A) → Writable v → (B x y : List ℕ) → B ≡ x ++ (bytes v ++ y) → length x + length (bytes v) < 2 ^ 64
       → (boxes known reading B (length x)).outcome ≡ ahead (normal v ∷ []) (boxes known reading B (length x + length (bytes v))).outcome
   one v w B x y is top =
@@ -90,7 +90,7 @@ module _ {A : Type 0} (name : A → BoxType) (size : A → ℕ) (Writable : A �
       let second = ap (λ (i : Reading (List A)). i >>= λ xs. rest >>= λ ys. done (xs ++ ys)) item in
       ap (λ (r : Reading (List A)). r.outcome) (first ∙ second) ∙ outcome_ahead true rest.asks_memory (normal v) rest.outcome
 
-  -- a written list, and then what follows
+  -- a written list, and then the bytes after it
   through : (vs : List A) → AllByRecursion Writable vs → (B x y : List ℕ) → B ≡ x ++ (stream bytes vs ++ y) → length x + length (stream bytes vs) < 2 ^ 64
       → (boxes known reading B (length x)).outcome ≡ ahead (map normal vs) (boxes known reading B (length x + length (stream bytes vs))).outcome
   through [] w B x y is top =
@@ -109,7 +109,7 @@ module _ {A : Type 0} (name : A → BoxType) (size : A → ℕ) (Writable : A �
       ∙ ahead_cons (normal v) (map normal vs) (boxes known reading B (length (x ++ bytes v) + length (stream bytes vs))).outcome
       ∙ ap (λ (o : ℕ). ahead (map normal (v ∷ vs)) (boxes known reading B o).outcome) end
 
-  -- a written list at the buffer's end is read as the normal forms
+  -- a written list at the end of the buffer is read as its normal forms
   pub whole : (vs : List A) → AllByRecursion Writable vs → (x : List ℕ) → length x + length (stream bytes vs) < 2 ^ 64 → (boxes known reading (x ++ stream bytes vs) (length x)).outcome ≡ Ok (map normal vs)
   whole vs w x top =
       let B = x ++ stream bytes vs in
@@ -117,7 +117,7 @@ module _ {A : Type 0} (name : A → BoxType) (size : A → ℕ) (Writable : A �
       let none = walk_none (box_of known reading B) B (length x + length (stream bytes vs)) (omega (arith, length-append x (stream bytes vs))) in
       through vs w B x [] is top ∙ ap (λ (r : Reading (List A)). ahead (map normal vs) r.outcome) none ∙ ap (λ (l : List A). Ok l) (append-nil (map normal vs))
 
-  -- the frame of a box that is cut
+  -- the frame of a box that is cut is end of input
   frame_cut : (v : A) → Writable v → (x : List ℕ) (k : ℕ) → 0 < k → k < length (bytes v) → length x + length (bytes v) < 2 ^ 64 → frame (x ++ take k (bytes v)) (length x) ≡ Err End
   frame_cut v w x k least most top =
       let f = header_law v w in
@@ -141,7 +141,7 @@ module _ {A : Type 0} (name : A → BoxType) (size : A → ℕ) (Writable : A �
         | inl h ↦ ap (frame_of (length B)) (no_head B (length x) (omega (arith, long, h)))
       ]
 
-  -- a written list that is cut inside a box ends too early
+  -- a written list that is cut inside a box is read as end of input
   cut : (vs : List A) → AllByRecursion Writable vs → (v : A) → Writable v → (x : List ℕ) (k : ℕ) → 0 < k → k < length (bytes v) → length x + length (stream bytes vs) + length (bytes v) < 2 ^ 64
       → (boxes known reading (x ++ (stream bytes vs ++ take k (bytes v))) (length x)).outcome ≡ Err End
   cut vs ws v w x k least most top =
@@ -155,7 +155,7 @@ module _ {A : Type 0} (name : A → BoxType) (size : A → ℕ) (Writable : A �
       let first = walk_first (box_of known reading B) B (length x') room ∙ ap (walk_on (box_of known reading B (length x')) (λ e. boxes known reading B e)) fr in
       through vs ws B x y refl (omega (arith, top)) ∙ ap (λ (o : ℕ). ahead (map normal vs) (boxes known reading B o).outcome) (sym front) ∙ ap (λ (r : Reading (List A)). ahead (map normal vs) r.outcome) first
 
-  -- a written list that is cut between two boxes is read up to there
+  -- a written list that is cut between two boxes is read up to the cut
   pub cut_between : (vs : List A) → AllByRecursion Writable vs → (ws : List A) (x : List ℕ) → length x + length (stream bytes vs) < 2 ^ 64
       → (boxes known reading (x ++ take (length (stream bytes vs)) (stream bytes (vs ++ ws))) (length x)).outcome ≡ Ok (map normal vs)
   cut_between vs h ws x top =
@@ -163,7 +163,7 @@ module _ {A : Type 0} (name : A → BoxType) (size : A → ℕ) (Writable : A �
       ap (take (length (stream bytes vs))) (flat_map-append bytes vs ws) ∙ take_at (stream bytes vs) (stream bytes ws) (length (stream bytes vs)) refl in
       ap (λ (l : List ℕ). (boxes known reading (x ++ l) (length x)).outcome) front ∙ whole vs h x top
 
-  -- a written list that is cut inside a box ends too early
+  -- the same, with more boxes after the one that is cut
   pub cut_inside : (vs : List A) → AllByRecursion Writable vs → (v : A) → Writable v → (ws : List A) (x : List ℕ) (k : ℕ) → 0 < k → k < length (bytes v) → length x + length (stream bytes vs) + length (bytes v) < 2 ^ 64
       → (boxes known reading (x ++ take (length (stream bytes vs) + k) (stream bytes (vs ++ v ∷ ws))) (length x)).outcome ≡ Err End
   cut_inside vs h v w ws x k least most top =
@@ -171,7 +171,7 @@ module _ {A : Type 0} (name : A → BoxType) (size : A → ℕ) (Writable : A �
       ap (take (length (stream bytes vs) + k)) (flat_map-append bytes vs (v ∷ ws)) ∙ take-append-add (stream bytes vs) (bytes v ++ stream bytes ws) k ∙ ap (λ (l : List ℕ). stream bytes vs ++ l) (take-append-le k (bytes v) (stream bytes ws) (omega arith)) in
       ap (λ (l : List ℕ). (boxes known reading (x ++ l) (length x)).outcome) front ∙ cut vs h v w x k least most top
 
-  -- equal bytes are bytes of equal normal forms
+  -- boxes with the same bytes have the same normal form
   pub same_normal : (v w : A) → Writable v → Writable w → bytes v ≡ bytes w → normal v ≡ normal w
   same_normal v w p q e =
       let f = header_law v p in
@@ -189,7 +189,7 @@ module _ {A : Type 0} (name : A → BoxType) (size : A → ℕ) (Writable : A �
   pub same_bytes : (v w : A) → Writable v → Writable w → normal v ≡ normal w → bytes v ≡ bytes w
   same_bytes v w p q e = sym (normal_law v p).same_bytes ∙ ap bytes e ∙ (normal_law w q).same_bytes
 
-  -- two lists with the same bytes begin with the same box
+  -- lists with the same bytes begin with a box of the same bytes
   first_same : (v w : A) (s t : List ℕ) → Writable v → Writable w → bytes v ++ s ≡ bytes w ++ t → (bytes v ≡ bytes w) × (s ≡ t)
   first_same v w s t p q e =
       let f = header_law v p in

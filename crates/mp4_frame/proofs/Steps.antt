@@ -1,4 +1,4 @@
--- Reading boxes one after the other.
+-- Reading boxes, one after the other.
 use Rattle.std.proofs.Common.{◌≡◌, ℕ, ◌+◌, ◌-◌, ◌<◌, ◌≤◌, Bool, true, false, List, [], ◌∷◌, ◌++◌, length, Result, Ok, Err, refl, sym, ap, subst, ◌∙◌, arith, append_assoc, length-append, inl, inr}
 use Rattle.std.specs.Prelude.{nat_lt, ◌||◌, ◌⊎◌}
 use Rattle.std.proofs.lemmas.Bool.{lt-ltb}
@@ -12,7 +12,7 @@ use Rattle.mp4_frame.specs.declared.error.Error.{Error}
 use Rattle.mp4_frame.specs.declared.error.Error.TheVariants as errors
 use Rattle.mp4_frame.proofs.Walks.{walk_first, walk_none}
 
--- what was read before, and what is still read
+-- the boxes that were read, and then the outcome of the rest
 abbrev pub continued : {X : Type 0} → Bool → List X → Reading (List X) → Reading (List X)
 continued asks_memory front r = also asks_memory (r >>= λ ys. done (front ++ ys))
 
@@ -29,7 +29,7 @@ regroup_asks true b c = refl
 regroup_asks false true c = refl
 regroup_asks false false c = refl
 
--- an item that was read
+-- an item that was read moves to the front
 regroup : {X : Type 0} (a b : Bool) (front xs : List X) (c : Bool) (o : Result (List X) Fault)
     → continued a front (also b (and_then c o (λ ys. done (xs ++ ys)))) ≡ continued (a || b) (front ++ xs) (record { asks_memory = c; outcome = o })
 regroup true b front xs c (Ok ys) = ap (λ (l : List _). record { asks_memory = true; outcome = Ok l }) (sym (append_assoc front xs ys))
@@ -55,14 +55,14 @@ refuses_fault _ k total is t = absurd is
 long_enough : {A : Type 0} (front : List A) (v : A) → nat_lt 0 (length (front ++ v ∷ [])) ≡ true
 long_enough front v = lt-ltb 0 (length (front ++ v ∷ [])) (omega (arith, length-append front (v ∷ [])))
 
--- a reading where the cursor was put
+-- the reading at the position that the cursor was set to
 pub placed : {A : Type 0} (reading : BoxType → List ℕ → ℕ → ℕ → Reading A) (name : BoxType) (bs B : List ℕ) (p s size : ℕ) → bs ≡ B → p ≡ s + 8 → reading name bs (p - 8) size ≡ reading name B s size
 placed reading name bs B p s size same at =
     let k : p - 8 ≡ s = omega arith in
     rw (same, k) refl
 
 module _ {X : Type 0} (item : ℕ → Frame → Reading (List X)) (B : List ℕ) where
-  -- a step over a frame whose item is read
+  -- a step over a frame whose items are read
   pub step : (a : Bool) (front xs : List X) (o : ℕ) (f : Frame) (total : Reading (List X)) → o < length B → frame B o ≡ Ok f → (item o f).outcome ≡ Ok xs
       → continued a front (walk item B o) ≡ total → continued (a || (item o f).asks_memory) (front ++ xs) (walk item B f.end) ≡ total
   step a front xs o f total lt is is_item so_far =
@@ -71,7 +71,7 @@ module _ {X : Type 0} (item : ℕ → Frame → Reading (List X)) (B : List ℕ)
       let second = bind_ok (item o f) (λ xs. rest >>= λ ys. done (xs ++ ys)) xs is_item in
       sym (ap (continued a front) (first ∙ second) ∙ regroup a (item o f).asks_memory front xs rest.asks_memory rest.outcome) ∙ so_far
 
-  -- the list up to a fault
+  -- the list before a fault
   fault_at : (a : Bool) (front : List X) (o : ℕ) (r : Result Frame Fault) (total : Reading (List X)) → o < length B → frame B o ≡ r
       → continued a front (walk item B o) ≡ total → continued a front (walk_on (item o) (λ e. walk item B e) r) ≡ total
   fault_at a front o r total lt is so_far =
@@ -88,7 +88,7 @@ module _ {X : Type 0} (item : ℕ → Frame → Reading (List X)) (B : List ℕ)
       → continued a front (walk item B o) ≡ total → Refuses e total
   walk_faults a front o e total lt fault so_far = walk_faults_at a front o e (frame B o) total lt refl fault so_far
 
-  -- nothing is left
+  -- at the end of the buffer nothing is left
   pub walk_is_over : (a : Bool) (front : List X) (o : ℕ) (total : Reading (List X)) → length B ≤ o → continued a front (walk item B o) ≡ total → total.outcome ≡ Ok front
   walk_is_over a front o total le so_far =
       ap (λ (r : Reading (List X)). r.outcome) (sym so_far ∙ ap (continued a front) (walk_none item B o le)) ∙ ap (λ (l : List X). Ok l) (append-nil front)
@@ -103,7 +103,7 @@ abbrev pub err_one : {A : Type 0} → Fault → Result A Fault
 err_one k = Err k
 
 module _ {A : Type 0} (known : BoxType → Bool) (reading : BoxType → List ℕ → ℕ → ℕ → Reading A) (B : List ℕ) where
-  -- a box that is skipped
+  -- a box is skipped
   pub skipped : (front : List A) (o : ℕ) (f : Frame) (total : Reading (List A)) → o < length B → frame B o ≡ Ok f → known f.name ≡ false
       → continued (nat_lt 0 (length front)) front (boxes known reading B o) ≡ total → continued (nat_lt 0 (length front)) front (boxes known reading B f.end) ≡ total
   skipped front o f total lt is unknown so_far =
@@ -119,7 +119,7 @@ module _ {A : Type 0} (known : BoxType → Bool) (reading : BoxType → List ℕ
       let two = bind_ok r (λ v. memory >>= λ _. done (v ∷ [])) v e in
       one ∙ two ∙ ap (λ (b : Bool). record { asks_memory = b; outcome = Ok (v ∷ []) }) (or_true r.asks_memory)
 
-  -- a box that is kept
+  -- a box is kept
   pub kept : (front : List A) (o : ℕ) (f : Frame) (v : A) (total : Reading (List A)) → o < length B → frame B o ≡ Ok f → known f.name ≡ true → (reading f.name B f.start f.size).outcome ≡ Ok v
       → continued (nat_lt 0 (length front)) front (boxes known reading B o) ≡ total → continued (nat_lt 0 (length (front ++ v ∷ []))) (front ++ v ∷ []) (boxes known reading B f.end) ≡ total
   kept front o f v total lt is is_known e so_far =
@@ -129,7 +129,7 @@ module _ {A : Type 0} (known : BoxType → Bool) (reading : BoxType → List ℕ
       ap (λ (r : Reading (List A)). nat_lt 0 (length front) || r.asks_memory) item ∙ or_true (nat_lt 0 (length front)) ∙ sym (long_enough front v) in
       subst (λ (b : Bool). continued b (front ++ v ∷ []) (boxes known reading B f.end) ≡ total) flag one
 
-  -- out of memory for a box that was read
+  -- out of memory after a box was read
   pub refused : (front : List A) (o : ℕ) (f : Frame) (v : A) (total : Reading (List A)) → o < length B → frame B o ≡ Ok f → known f.name ≡ true → (reading f.name B f.start f.size).outcome ≡ Ok v
       → continued (nat_lt 0 (length front)) front (boxes known reading B o) ≡ total → total.asks_memory ≡ true
   refused front o f v total lt is is_known e so_far =
@@ -157,12 +157,12 @@ module _ {A : Type 0} (known : BoxType → Bool) (reading : BoxType → List ℕ
       let three = and_then_asks w.asks_memory w.outcome (λ ys. done (front ++ ys)) two in
       ap (λ (r : Reading (List A)). r.asks_memory) (sym one) ∙ ap (λ (b : Bool). a || b) three ∙ or_true a
 
-  -- a frame that faults
+  -- a frame faults
   pub frame_faults : (a : Bool) (front : List A) (o : ℕ) (e : Error) (total : Reading (List A)) → o < length B → FaultAs (Err e) (frame B o)
       → continued a front (boxes known reading B o) ≡ total → Refuses e total
   frame_faults = walk_faults (box_of known reading B) B
 
-  -- nothing is left
+  -- at the end of the buffer nothing is left
   pub all_read : (a : Bool) (front : List A) (o : ℕ) (total : Reading (List A)) → length B ≤ o → continued a front (boxes known reading B o) ≡ total → total.outcome ≡ Ok front
   all_read = walk_is_over (box_of known reading B) B
 
@@ -186,7 +186,7 @@ module _ {A : Type 0} (known : BoxType → Bool) (reading : BoxType → List ℕ
   asks_by front a (Ok v) e = inr (v, refl)
   asks_by front a (Err k) e = inl e
 
-  -- a box that could not be read or appended
+  -- a box could not be read or appended
   pub append_read_faults : (front : List A) (o : ℕ) (f : Frame) (e : Error) (total : Reading (List A)) → o < length B → frame B o ≡ Ok f → known f.name ≡ true → Refuses e (append_read front (reading f.name B f.start f.size))
       → continued (nat_lt 0 (length front)) front (boxes known reading B o) ≡ total → Refuses e total
   append_read_faults front o f errors.IoError total lt is is_known h so_far = (let r = reading f.name B f.start f.size in item_faults _ front o f End total lt is is_known (fault_by front End r.asks_memory r.outcome h) so_far)

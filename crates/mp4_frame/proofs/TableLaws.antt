@@ -1,4 +1,4 @@
--- The laws of a box of one counted table, by those of its entries.
+-- The laws of a box of one counted table follow from those of its entries.
 use Rattle.std.proofs.Common.{◌≡◌, ℕ, ◌<◌, ◌^◌, List, [], length, Ok, refl, sym, ap, subst, ◌∙◌}
 use Rattle.std.proofs.lemmas.List.{append-nil}
 use Rattle.mp4_frame.specs.BoxType.{code_of}
@@ -10,13 +10,13 @@ use Rattle.mp4_frame.proofs.Fields.{length-be_bytes, number-be_bytes, number-bel
 use Rattle.mp4_frame.proofs.Framing.{own_normal_form}
 use Rattle.mp4_frame.proofs.Tables.{IsRow, header_of_table, table_back, table_read}
 
--- an entry is written in a row of e bytes, which is read as that entry, and what is read of such a row fits
+-- an entry that fits is written as a row of e bytes and read back from it, and an entry that was read fits
 pub record IsEntry {X : Type 0} (row_of : X → List ℕ) (entry_of : List ℕ → X) (Fits : X → Type 0) (e : ℕ) : Type 0 where
   pub long : (x : X) → Fits x → length (row_of x) ≡ e
   pub back : (x : X) → Fits x → entry_of (row_of x) ≡ x
   pub fits : (row : List ℕ) → IsRow e row → Fits (entry_of row)
 
--- a number of w bytes alone
+-- a number of w bytes as an entry
 pub number_entry : (w : ℕ) → IsEntry (λ n. be_bytes w n) (λ row. number row 0 w) (λ n. n < 256 ^ w) w
 number_entry w = record {
   long = λ n fits. length-be_bytes w n;
@@ -24,7 +24,7 @@ number_entry w = record {
   fits = λ row is. number-below row 0 w is.are;
 }
 
--- what a box of one table holds
+-- the fields of a box of one table
 pub record TableOf (X : Type 0) : Type 0 where
   pub version : ℕ
   pub flags : ℕ

@@ -30,7 +30,7 @@ first_rows B o e (suc n) =
     ap (λ (k : ℕ). drop e (take k (drop o B))) whole ∙ drop-take e (n * e) (drop o B) ∙ ap (take (n * e)) (drop-drop e o B) in
     rw (head, rest, first_rows B (o + e) e n) refl
 
--- a reading that goes on and gives a value had a value first
+-- a reading that has a value in the end has a value in its first part
 pub value_first : {A C : Type 0} (r : Reading A) (g : A → Reading C) (y : C) → (r >>= g).outcome ≡ Ok y → (x : A) × (r.outcome ≡ Ok x) × ((g x).outcome ≡ Ok y)
 value_first {A = A} {C = C} r g y h = by r.asks_memory r.outcome refl h
   where
@@ -38,14 +38,14 @@ value_first {A = A} {C = C} r g y h = by r.asks_memory r.outcome refl h
     by a (Ok x) is e = (x, is, e)
     by a (Err d) is e = absurd cc
 
--- what `as_chunks` makes of the bytes of n rows
+-- the chunks of the bytes of n rows are the rows
 pub chunks_are_rows : (B taken : List ℕ) (o e n : ℕ) → 0 < e → taken ≡ take (n * e) (drop o B) → length taken ≡ n * e
     → first_chunks e (length taken / e) taken ≡ rows B o e n
 chunks_are_rows B taken o e n pos is len =
     let count : length taken / e ≡ n = ap (λ (k : ℕ). k / e) (len ∙ (let z : n * e ≡ n * e + 0 = omega arith in z)) ∙ div-mul-add n e 0 pos in
     rw (count, is) (first_rows B o e n)
 
--- the rows of bytes that were taken
+-- the rows of bytes that are present
 pub rows_value : (B taken : List ℕ) (o e n w : ℕ) → 0 < e → w ≡ n * e → length taken ≡ w → (piece_at B o w).outcome ≡ Ok taken → (rows_at B o e n).outcome ≡ Ok (first_chunks e (length taken / e) taken)
 unfolding rows_at
 rows_value B taken o e n w pos is long found =
@@ -68,13 +68,13 @@ fault_same false y z (errors.BoxNotFound _) h = absurd cc
 fault_same false y z errors.OutOfMemory h = h
 fault_same false y z _ h = absurd h
 
--- rows whose bytes do not are present
+-- the rows of bytes that are not present
 pub rows_fault : (B : List ℕ) (o e n w : ℕ) (x : Error) → w ≡ n * e → Refuses x (piece_at B o w) → Refuses x (rows_at B o e n)
 unfolding rows_at
 rows_fault B o e n w x is h =
     fault_same (ltb 0 (n * e) && ltb (length B) (o + n * e)) (take (n * e) (drop o B)) (rows B o e n) x (subst (λ (k : ℕ). Refuses x (piece_at B o k)) is h)
 
--- fewer than 2 ^ 64 bytes hold no more
+-- rows of 2^64 bytes or more are past the end of a buffer of fewer bytes
 pub rows_past_all : (B : List ℕ) (o e n : ℕ) → length B < 2 ^ 64 → (n * e < 2 ^ 64 → ⊥) → (rows_at B o e n).outcome ≡ Err End
 unfolding rows_at
 rows_past_all B o e n fits past =
@@ -87,7 +87,7 @@ module _ {X : Type 0} (f : X → List ℕ) (e : ℕ) (Fits : X → Type 0) (each
   length_flat [] h = omega arith
   length_flat (x ∷ xs) h = omega (arith, length-append (f x) (flat_map f xs), each x h.0, length_flat xs h.1)
 
-  -- the rows of entries among other bytes
+  -- the rows of entries, among other bytes
   pub rows_back : (p : List ℕ) (xs : List X) (y : List ℕ) (o : ℕ) → AllByRecursion Fits xs → length p ≡ o → rows (p ++ (flat_map f xs ++ y)) o e (length xs) ≡ map f xs
   rows_back p [] y o h at = refl
   rows_back p (x ∷ xs) y o h at =
@@ -126,12 +126,12 @@ module _ {X : Type 0} (f : X → List ℕ) (e : ℕ) (Fits : X → Type 0) (each
       let whole : (counted_rows B size e).outcome ≡ Ok (record { version = version; flags = flags; rows = map f xs }) = rw (head, many, fit, body, v, g) refl in
       ap (λ (l : List ℕ). (counted_rows l size e).outcome) (append_assoc (bytes_of_fields cs) (flat_map f xs) y) ∙ whole
 
--- entries are what their bytes are read as
+-- every entry is read back from its row
 pub map_back : {X : Type 0} (f : X → List ℕ) (of_row : List ℕ → X) (Fits : X → Type 0) → ((x : X) → Fits x → of_row (f x) ≡ x) → (xs : List X) → AllByRecursion Fits xs → map of_row (map f xs) ≡ xs
 map_back f of_row Fits back [] h = refl
 map_back f of_row Fits back (x ∷ xs) h = rw (back x h.0, map_back f of_row Fits back xs h.1) refl
 
--- ---- what is read of bytes
+-- ---- what is read from bytes
 
 -- a row of e bytes
 pub record IsRow (e : ℕ) (row : List ℕ) : Type 0 where
@@ -155,7 +155,7 @@ length-rows : (B : List ℕ) (o e n : ℕ) → length (rows B o e n) ≡ n
 length-rows B o e zero = refl
 length-rows B o e (suc n) = ap suc (length-rows B (o + e) e n)
 
--- rows that were read of bytes have their length
+-- rows that were read have e bytes each
 pub rows_read : (B : List ℕ) (o e n : ℕ) (found : List (List ℕ)) → 0 < e → AreBytes B → (rows_at B o e n).outcome ≡ Ok found → AllByRecursion (IsRow e) found × (length found ≡ n)
 unfolding rows_at
 rows_read B o e n found pos are h =
@@ -163,7 +163,7 @@ rows_read B o e n found pos are h =
     let is : rows B o e n ≡ found = is_value _ found p.2 in
     rw (← is) (rows_are B o e n are (λ more. (let one : 1 ≤ n = omega arith in let some : 1 * e ≤ n * e = mul-le-mul_right e one in expect_bytes_room B o (n * e) (omega (arith, some)) p.1)), length-rows B o e n)
 
--- what a counted table is read as has the ranges of its fields
+-- the fields of a counted table that was read are in their ranges
 pub counted_rows_read : (B : List ℕ) (size e : ℕ) (t : Table) → 0 < e → AreBytes B → (counted_rows B size e).outcome ≡ Ok t
     → (t.version < 256 ^ 1) × (t.flags < 256 ^ 3) × (length t.rows < 256 ^ 4) × AllByRecursion (IsRow e) t.rows
 unfolding counted_rows
@@ -178,7 +178,7 @@ counted_rows_read B size e t pos are h =
     let is : record { version = number B 8 1; flags = number B 9 3; rows = c.0 } ≡ t = is_value _ t c.2 in
     rw (← is) (number-below B 8 1 are, number-below B 9 3 are, count, found.0)
 
--- a fact of each row is one of each entry
+-- a property of each row is a property of each entry
 pub map_all : {X : Type 0} (e : ℕ) (entry_of : List ℕ → X) (Fits : X → Type 0) → ((row : List ℕ) → IsRow e row → Fits (entry_of row)) → (found : List (List ℕ)) → AllByRecursion (IsRow e) found → AllByRecursion Fits (map entry_of found)
 map_all e entry_of Fits each [] h = tt
 map_all e entry_of Fits each (row ∷ found) h = (each row h.0, map_all e entry_of Fits each found h.1)
@@ -194,8 +194,8 @@ few_entries e n pos small =
     let times : 1 * n ≤ e * n = mul-le-mul_right n one in
     omega (arith, times)
 
--- The laws of a box of one table, over the laws of its entries: a row has e bytes, an entry that fits is read
--- back of its row, and what is read of bytes fits.
+-- The laws of a box of one table, from the laws of its entries: a row has e bytes, an entry that fits is read
+-- back from its row, and an entry that was read fits.
 module _ {X V : Type 0} (make : ℕ → ℕ → List X → V) (row_of : X → List ℕ) (entry_of : List ℕ → X) (Fits : X → Type 0) (e code : ℕ) (pos : 0 < e) (coded : code < 256 ^ 4)
     (long : (x : X) → Fits x → length (row_of x) ≡ e) (back : (x : X) → Fits x → entry_of (row_of x) ≡ x) (fits : (row : List ℕ) → IsRow e row → Fits (entry_of row)) where
   pub header_of_table : (name : BoxType) → code ≡ code_of name → (version flags : ℕ) (xs : List X) → WritableTable Fits e code version flags xs → BeginsWithHeader (size_table e xs) name (bytes_table row_of e code version flags xs)
@@ -217,7 +217,7 @@ module _ {X V : Type 0} (make : ℕ → ℕ → List X → V) (row_of : X → Li
       let es = map_back row_of entry_of Fits back xs (recursion_from_All Fits xs w.each) in
       rw (t, es) refl
 
-  -- what is read is made of version, flags and entries, and is writable unless it is too long
+  -- a value that was read is made of version, flags and entries, and can be written unless it is too large
   pub table_read : (B : List ℕ) (size : ℕ) (v : V) → AreBytes B → (reads_table make entry_of e B size).outcome ≡ Ok v
       → (version flags : ℕ) × (xs : List X) × (make version flags xs ≡ v) × (size_table e xs < 2 ^ 32 → WritableTable Fits e code version flags xs)
   table_read B size v are h =

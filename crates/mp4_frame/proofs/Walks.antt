@@ -44,7 +44,7 @@ frame_of_room B o (Ok c) f is e =
     (omega (arith, room.0, t.0), t.1)
 frame_of_room B o (Err k) f is e = absurd cc
 
--- a frame ends later than it begins, within the buffer
+-- a frame ends at least 8 bytes after it begins, and within the buffer
 pub frame_room : (B : List ℕ) (o : ℕ) (f : Frame) → frame B o ≡ Ok f → (o + 8 ≤ f.end) × (f.end ≤ length B)
 frame_room B o f e = frame_of_room B o (head B o).outcome f refl e
 
@@ -63,7 +63,7 @@ module _ {X : Type 0} (item : ℕ → Frame → Reading (List X)) (B : List ℕ)
       let t : nat_le (length B) o ≡ true = grind (arith, common_steps) in
       rw t refl
 
-  -- enough is enough
+  -- any bound that is large enough gives the same walk
   enough : (n m o : ℕ) → length B ≤ n + o → length B ≤ m + o → walk_at_most item B n o ≡ walk_at_most item B m o
   unfolding walk_at_most
   enough zero m o h k = sym (at_end m o (omega arith))
@@ -87,6 +87,6 @@ module _ {X : Type 0} (item : ℕ → Frame → Reading (List X)) (B : List ℕ)
   pub walk_first : (o : ℕ) → o < length B → walk item B o ≡ walk_on (item o) (λ e. walk item B e) (frame B o)
   walk_first o h = (let e : length B ≡ suc (length B - 1) = omega arith in ap (λ (n : ℕ). walk_at_most item B n o) e ∙ one_more (length B - 1) o h) ∙ rest_same o (frame B o) refl
 
-  -- nothing stands at the end
+  -- at the end of the buffer there are no items
   pub walk_none : (o : ℕ) → length B ≤ o → walk item B o ≡ done []
   walk_none o h = at_end (length B) o h

@@ -70,7 +70,7 @@ abbrev pub look_up : List (ℕ × BoxType) → ℕ → BoxType
 look_up [] n = names.UnknownBox n
 look_up (c ∷ cs) n = if n == c.0 then c.1 else look_up cs n
 
--- the box that a code names
+-- the name of a code
 unfoldable pub name_of : ℕ → BoxType
 name_of n = look_up named n
 
@@ -133,12 +133,12 @@ code_of names.NameBox = codes.NAME
 code_of names.DayBox = codes.DAY
 code_of (names.UnknownBox n) = n
 
--- a name that hides a named code after a number
+-- an UnknownBox whose number is a named code
 abbrev pub is_disguised : BoxType → Bool
 is_disguised (names.UnknownBox n) = list_any (λ c. n == c.0) named
 is_disguised _ = false
 
--- each entry has the code of its name
+-- the code of each entry is the code of its name
 abbrev pub AreCoded : List (ℕ × BoxType) → Type 0
 AreCoded [] = Unit {0}
 AreCoded (c ∷ cs) = (code_of c.1 ≡ c.0) × AreCoded cs
@@ -151,17 +151,17 @@ code_of-look_up : (cs : List (ℕ × BoxType)) → AreCoded cs → (n : ℕ) →
 code_of-look_up [] h n = refl
 code_of-look_up (c ∷ cs) h n = chosen (n == c.0) n c.1 (look_up cs n) (λ e. h.0 ∙ sym (eqb-true n c.0 e)) (code_of-look_up cs h.1 n)
 
--- the code of the name of a code
+-- the code of the name of n is n
 pub code_of-name_of : (n : ℕ) → code_of (name_of n) ≡ n
 unfolding name_of
 code_of-name_of n = code_of-look_up named (refl, (refl, (refl, (refl, (refl, (refl, (refl, (refl, (refl, (refl, (refl, (refl, (refl, (refl, (refl, (refl, (refl, (refl, (refl, (refl, (refl, (refl, (refl, (refl, (refl, (refl, (refl, (refl, (refl, (refl, (refl, (refl, (refl, (refl, (refl, (refl, (refl, (refl, (refl, (refl, (refl, (refl, (refl, (refl, (refl, (refl, (refl, (refl, (refl, (refl, (refl, (refl, (refl, (refl, (refl, tt))))))))))))))))))))))))))))))))))))))))))))))))))))))) n
 
--- a number that is no named code is its own name
+-- the name of a number that is no named code is an UnknownBox of that number
 unnamed : (cs : List (ℕ × BoxType)) (n : ℕ) → list_any (λ c. n == c.0) cs ≡ false → look_up cs n ≡ names.UnknownBox n
 unnamed [] n h = refl
 unnamed (c ∷ cs) n h = let p = or_parts (n == c.0) (list_any (λ c. n == c.0) cs) h in ap (λ (b : Bool). if b then c.1 else look_up cs n) p.0 ∙ unnamed cs n p.1
 
--- the name of the code of a name
+-- the name of the code of a name is that name
 pub name_of-code_of : (name : BoxType) → is_disguised name ≡ false → name_of (code_of name) ≡ name
 unfolding name_of
 name_of-code_of (names.UnknownBox n) h = unnamed named n h

@@ -1,4 +1,4 @@
--- What the codec says of a type of boxes, in one record; the laws that it keeps, in another.
+-- How the values of a type of boxes are written, and the laws of such a type.
 use Rattle.std.specs.Prelude.{ℕ, List}
 use Rattle.mp4_frame.specs.Laws.{BeginsWithHeader, Normal, ContentReadsBack, ContentIsSound}
 use Rattle.mp4_frame.specs.Reading.{Reading}
@@ -13,19 +13,21 @@ pub record Format (A : Type 0) : Type 1 where
   pub bytes : A → List ℕ
   pub normal : A → A
 
--- The laws of writing: the bytes begin with the size and the code; the normal form has the same bytes, and is its own.
+-- The laws of writing: the bytes begin with the size and the code; the normal form can be written, has the same
+-- bytes, and is its own normal form.
 pub record IsWritten {A : Type 0} (format : Format A) : Type 0 where
   pub header : (v : A) → format.Writable v → BeginsWithHeader (format.size v) (format.name v) (format.bytes v)
   pub normal_form : (v : A) → format.Writable v → Normal format.Writable format.bytes format.normal v
 
--- The laws of a type of boxes, of which reads says what is read of the bytes from a box's start on, for that start
--- and a size: also, its bytes are read back as its normal form, and what is read is writable, and its own normal form.
+-- The laws of a type of boxes. What is read is reads, for the bytes from a box's start on, that start, and the box's
+-- size. Besides the laws of writing: the bytes are read back as the normal form; a value that was read is its own
+-- normal form, and can be written unless it is too large.
 pub record IsBox {A : Type 0} (reads : List ℕ → ℕ → ℕ → Reading A) (format : Format A) : Type 0 where
   pub header : (v : A) → format.Writable v → BeginsWithHeader (format.size v) (format.name v) (format.bytes v)
   pub normal_form : (v : A) → format.Writable v → Normal format.Writable format.bytes format.normal v
   pub read_back : (v : A) → format.Writable v → ContentReadsBack reads (format.bytes v) (format.size v) (format.normal v)
   pub sound : ContentIsSound reads format.Writable format.size format.normal
 
--- of which these are the laws of writing
+-- the laws of writing among them
 abbrev pub write_laws : {A : Type 0} {reads : List ℕ → ℕ → ℕ → Reading A} {format : Format A} → IsBox reads format → IsWritten format
 write_laws laws = record { header = laws.header; normal_form = laws.normal_form }

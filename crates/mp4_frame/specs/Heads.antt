@@ -8,21 +8,21 @@ use Rattle.mp4_frame.specs.declared.head.Head.{Head}
 use Rattle.mp4_frame.specs.declared.box_header.BoxHeader.{BoxHeader}
 use Rattle.mp4_frame.specs.declared.frame.Frame.{Frame}
 
--- A head at o: the code of the box, its size, and its start. The start lies 8 bytes before the content,
+-- A head at o: the code of the box, its size, and its start. The start is 8 bytes before the content,
 -- so that the box ends at start + size in both forms of a head.
 
--- the size in the four bytes before the code
+-- the form with the size in the four bytes before the code
 abbrev pub compact_head : List ℕ → ℕ → Reading Head
 compact_head bytes o = done (record { code = number bytes (o + 4) 4; size = number bytes o 4; start = o })
 
--- the size in the eight bytes after the code: 0, or 16 and more
+-- the form with the size in the eight bytes after the code: 0, or at least 16
 abbrev pub large_head : List ℕ → ℕ → Reading Head
 large_head bytes o = do
   _ ← expect_bytes bytes (o + 8) 8
   _ ← check ((number bytes (o + 8) 8 == 0) || nat_le 16 (number bytes (o + 8) 8))
   done (record { code = number bytes (o + 4) 4; size = number bytes (o + 8) 8 - 8; start = o + 8 })
 
--- a size of 1 in the four bytes says that the large form follows
+-- a size of 1 in the four bytes before the code means that the form with eight bytes is used
 unfoldable pub head : List ℕ → ℕ → Reading Head
 head bytes o = do
   _ ← expect_bytes bytes o 8
@@ -39,7 +39,8 @@ header bytes o = head bytes o >>= λ h. done (header_of h)
 abbrev pub header_length : List ℕ → ℕ → ℕ
 header_length bytes o = if number bytes o 4 == 1 then 16 else 8
 
--- a header as it is written: a size of four bytes, or 1 and a size of eight bytes that counts them too
+-- the fields of a header as it is written: a size of four bytes, or 1 and a size of eight bytes that counts these
+-- too
 abbrev pub fields_header : BoxHeader → List (ℕ × ℕ)
 fields_header h =
     if nat_lt h.size (2 ^ 32) then (4, h.size) ∷ (4, code_of h.name) ∷ [] else (4, 1) ∷ (4, code_of h.name) ∷ (8, h.size + 8) ∷ []
@@ -47,13 +48,13 @@ fields_header h =
 abbrev pub bytes_header : BoxHeader → List ℕ
 bytes_header h = bytes_of_fields (fields_header h)
 
--- version and flags after the header of a full box
+-- version and flags, which follow the header of a full box
 abbrev pub header_ext : List ℕ → ℕ → Reading (ℕ × ℕ)
 header_ext bytes o = do
   _ ← expect_bytes bytes o 4
   done (number bytes o 1, number bytes (o + 1) 3)
 
--- the frame that a head gives, in a buffer of len bytes. A size of 0 is up to the buffer's end
+-- the frame that a head gives, in a buffer of len bytes. A size of 0 means up to the end of the buffer
 unfoldable pub frame_of_head : ℕ → Head → Result Frame Fault
 frame_of_head len h =
     if h.size == 0 then Ok (record { name = name_of h.code; start = h.start; size = len - h.start; end = len }) else
@@ -66,6 +67,6 @@ abbrev pub frame_of : ℕ → Result Head Fault → Result Frame Fault
 frame_of len (Ok h) = frame_of_head len h
 frame_of len (Err k) = Err k
 
--- the frame at o
+-- the frame of the box at o
 abbrev pub frame : List ℕ → ℕ → Result Frame Fault
 frame bytes o = frame_of (length bytes) (head bytes o).outcome

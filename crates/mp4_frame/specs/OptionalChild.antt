@@ -1,4 +1,4 @@
--- A child that a box may lack, by the format of the child's type.
+-- A child that a box may lack: 0 or 1 of them, with size, bytes and normal form by the format of the child's type.
 use Rattle.std.specs.Prelude.{ℕ, List, [], Option, Some, None}
 use Rattle.mp4_frame.specs.Format.{Format}
 

@@ -1,16 +1,16 @@
--- Reading a buffer: the first fault decides, and it is known whether memory was asked for before it.
+-- Reading a buffer gives a value or the first fault, and says whether memory is asked for before that fault.
 use Rattle.std.specs.Prelude.{◌≡◌, ℕ, ◌+◌, Bool, true, false, ◌||◌, ◌&&◌, ◌^◌, nat_lt, List, length, take, drop, Result, Ok, Err, if◌then◌else◌}
 use Rattle.mp4_frame.specs.declared.error.Error.{Error}
 use Rattle.mp4_frame.specs.declared.error.Error.TheVariants as errors
 use Rattle.mp4_frame.specs.declared.box_type.BoxType.{BoxType}
 
--- what is wrong: a byte is missing, a check failed, or the child of this name is missing
+-- a fault: a byte is missing, a check failed, or the child of this name is missing
 pub data Fault : Type 0 where
   End : Fault
   Invalid : Fault
   NotFound : BoxType → Fault
 
--- what a reading comes to, and whether memory was asked for before the first fault
+-- the outcome of a reading, and whether it asks for memory before the first fault
 pub record Reading (A : Type 0) : Type 0 where
   pub asks_memory : Bool
   pub outcome : Result A Fault
@@ -32,15 +32,15 @@ infixl 10 ◌>>=◌
 abbrev pub ◌>>=◌ : {A B : Type 0} → Reading A → (A → Reading B) → Reading B
 r >>= f = and_then r.asks_memory r.outcome f
 
--- a condition that has to hold
+-- a condition that is checked
 abbrev pub check : Bool → Reading (Unit {0})
 check b = if b then done tt else faults Invalid
 
--- w adjoining bytes at o
+-- the w bytes at o are expected; no bytes are present at every o
 abbrev pub expect_bytes : List ℕ → ℕ → ℕ → Reading (Unit {0})
 expect_bytes B o w = if nat_lt 0 w && nat_lt (length B) (o + w) then faults End else done tt
 
--- the w bytes at o, which have to be present
+-- the w bytes at o, which are expected
 abbrev pub piece_at : List ℕ → ℕ → ℕ → Reading (List ℕ)
 piece_at bytes o w = do
   _ ← expect_bytes bytes o w
@@ -50,23 +50,23 @@ piece_at bytes o w = do
 abbrev pub memory : Reading (Unit {0})
 memory = record { asks_memory = true; outcome = Ok tt }
 
--- the error of a fault
+-- the error of a fault, other than a missing child
 abbrev pub IsFault : Error → Fault → Type 0
 IsFault errors.IoError k = k ≡ End
 IsFault (errors.InvalidData _) k = k ≡ Invalid
 IsFault _ k = ⊥
 
--- what a call that takes no memory returns
+-- the result of a call that takes no memory: the value, or the error of the fault
 abbrev pub FaultAs : {A : Type 0} → Result A Error → Result A Fault → Type 0
 FaultAs (Ok v) r = r ≡ Ok v
 FaultAs (Err e) (Ok v) = ⊥
 FaultAs (Err e) (Err k) = IsFault e k
 
--- a value of one type as one of another
+-- the same reading, with f applied to its value
 abbrev pub map_reading : {A C : Type 0} → (A → C) → Reading A → Reading C
 map_reading f r = r >>= λ v. done (f v)
 
--- an error that a call may answer for this reading
+-- the errors that a call may return for this reading
 abbrev pub Refuses : {A : Type 0} → Error → Reading A → Type 0
 Refuses errors.IoError r = r.outcome ≡ Err End
 Refuses (errors.InvalidData _) r = r.outcome ≡ Err Invalid
@@ -74,7 +74,7 @@ Refuses (errors.BoxNotFound name) r = r.outcome ≡ Err (NotFound name)
 Refuses errors.OutOfMemory r = r.asks_memory ≡ true
 Refuses _ r = ⊥
 
--- what a call may answer for this reading, its value seen by view
+-- what a call may return for this reading: a value whose view is the reading's value, or one of the errors above
 abbrev pub AnswersAs : {A C : Type 0} → (A → C) → Result A Error → Reading C → Type 0
 AnswersAs view (Ok v) r = r.outcome ≡ Ok (view v)
 AnswersAs view (Err e) r = Refuses e r
@@ -83,7 +83,7 @@ abbrev pub Answers : {A : Type 0} → Result A Error → Reading A → Type 0
 Answers (Ok v) r = r.outcome ≡ Ok v
 Answers (Err e) r = Refuses e r
 
--- A row of the table reads the bytes from the box's start on. The box ends at `start + size`, which no
--- place passes that 64 bits can name.
+-- The outcome of reading a box, by what row reads of the bytes from the box's start on. The box ends at
+-- start + size, which is checked to be below 2^64.
 abbrev pub reading : {A : Type 0} → (List ℕ → ℕ → ℕ → Reading A) → List ℕ → ℕ → ℕ → Reading A
 reading row bytes start size = check (nat_lt (start + size) (2 ^ 64)) >>= λ _. row (drop start bytes) start size

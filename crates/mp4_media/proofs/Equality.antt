@@ -1,4 +1,4 @@
--- Derived equality is equality of all fields, where the search for a proof stops short of it.
+-- Derived equality is equality of all fields, for types where the proof search does not find this.
 use Rattle.std.proofs.Common.{rules, ◌≡◌, true, ap}
 use Rattle.std.proofs.lemmas.Bool.{and_parts, eqb-true}
 use denote.Enum.Bare.{same_true}

@@ -8,7 +8,7 @@ use Rattle.mp4_media.specs.declared.avc_profile.AvcProfile.TheVariants as profil
 abbrev pub is_constrained : ℕ → Bool
 is_constrained flags = flags / 64 % 2 == 1
 
--- the table: what the profile number and the constraint flags are
+-- the table: whether a profile has this profile number and these constraint flags
 abbrev pub has_avc_profile : AvcProfile → ℕ × ℕ → Bool
 has_avc_profile profiles.AvcConstrainedBaseline (number, flags) = number == 66 && is_constrained flags
 has_avc_profile profiles.AvcBaseline (number, flags) = number == 66 && not (is_constrained flags)

@@ -1,10 +1,10 @@
--- The arrangements of channels, with their numbers and names (ISO/IEC 14496-3, 1.6.3.5).
+-- The channel configurations, with their numbers and names (ISO/IEC 14496-3, 1.6.3.5).
 use Rattle.std.specs.Prelude.{ℕ, List, [], ◌∷◌, Option, codes}
 use Rattle.mp4_media.specs.Conversion.{by_number}
 use Rattle.mp4_media.specs.declared.channel_config.ChannelConfig.{ChannelConfig}
 use Rattle.mp4_media.specs.declared.channel_config.ChannelConfig.TheVariants as configs
 
--- the table: number and name
+-- the table: numbers, and names
 abbrev pub row_channel_config : ChannelConfig → ℕ × List ℕ
 row_channel_config configs.Mono = (1, codes "mono")
 row_channel_config configs.Stereo = (2, codes "stereo")
@@ -25,6 +25,6 @@ channel_configs =
     configs.Mono ∷ configs.Stereo ∷ configs.Three ∷ configs.Four
     ∷ configs.Five ∷ configs.FiveOne ∷ configs.SevenOne ∷ []
 
--- the arrangement of a number
+-- the channel configuration of a number
 unfoldable pub channel_config_of : ℕ → Option ChannelConfig
 channel_config_of n = by_number number_channel_config channel_configs n

@@ -1,4 +1,4 @@
-//! What a track of advanced audio is made from.
+//! The configuration of a track of advanced audio.
 
 ghost use Rattle.std.specs.Prelude.{◌≡◌};
 
@@ -6,20 +6,20 @@ use crate::audio_object_type::AudioObjectType;
 use crate::channel_config::ChannelConfig;
 use crate::sample_freq_index::SampleFreqIndex;
 
-/// What a track of advanced audio (ISO/IEC 14496-3) is made from.
+/// The configuration of a track of advanced audio (ISO/IEC 14496-3).
 #[derive(Clone, Debug, PartialEq, Eq, Drop)]
 pub struct AacConfig {
-    /// Bits per second.
+    /// The bit rate, in bits per second.
     pub bitrate: u32,
-    /// The tools that the sound is coded with.
+    /// The audio object type: how the sound is coded.
     pub profile: AudioObjectType,
-    /// How many samples a second has.
+    /// The sampling frequency, by its index.
     pub freq_index: SampleFreqIndex,
-    /// The channels, and how they stand.
+    /// The channels and their arrangement.
     pub chan_conf: ChannelConfig,
 }
 
-/// Low complexity, stereo, at 48000 hertz and no bit rate.
+/// Low complexity, stereo, 48000 hertz, and a bit rate of 0.
 impl Default for AacConfig {
     ghost use Rattle.mp4_media.specs.declared.audio_object_type.AudioObjectType.TheVariants.{AacLowComplexity};
     ghost use Rattle.mp4_media.specs.declared.sample_freq_index.SampleFreqIndex.TheVariants.{Freq48000};

@@ -1,4 +1,4 @@
-//! How sound is coded.
+//! Audio object types: how sound is coded.
 
 ghost use Rattle.std.specs.Prelude.{◌≡◌, Some};
 
@@ -26,7 +26,7 @@ pub enum AudioObjectType {
     CodeExcitedLinearPrediction = 8,
     /// Harmonic vector excitation coding, for speech.
     HarmonicVectorExcitationCoding = 9,
-    /// The interface for text to speech.
+    /// Text-to-speech interface.
     TextToSpeechtInterface = 12,
     /// Structured audio, main.
     MainSynthetic = 13,
@@ -94,7 +94,7 @@ pub enum AudioObjectType {
     AudioSync = 46,
 }
 
-/// The type of a number. A number that is no type, as 0, 10, 11, 18, 31 and those from 47 on, is invalid data.
+/// The audio object type of a number. A number without a type (0, 10, 11, 18, 31, and 47 and above) is invalid data.
 impl TryFrom<u8> for AudioObjectType {
     ghost use Rattle.mp4_media.specs.Conversion.{IsConversion};
     ghost use Rattle.mp4_media.specs.AudioObjectType.{audio_object_type_of};
@@ -153,7 +153,7 @@ impl TryFrom<u8> for AudioObjectType {
     }
 }
 
-/// The usual short name.
+/// The usual short name, such as `LC`.
 impl fmt::Display for AudioObjectType {
     ghost use Rattle.mp4_media.specs.AudioObjectType.{text_audio_object_type};
 

@@ -1,25 +1,25 @@
-//! What a track of advanced video is made from.
+//! The configuration of a track of advanced video.
 
 ghost use Rattle.std.specs.Prelude.{◌≡◌, []};
 
 use mp4_frame::{Entries, Result, TryClone};
 use std::alloc::Global;
 
-/// What a track of advanced video (ISO/IEC 14496-10) is made from.
+/// The configuration of a track of advanced video (ISO/IEC 14496-10).
 #[derive(Debug, PartialEq, Eq, Drop)]
 pub struct AvcConfig {
     /// The width of the picture, in pixels.
     pub width: u16,
     /// The height of the picture, in pixels.
     pub height: u16,
-    /// The sequence parameter set, a whole network abstraction unit without its length.
+    /// The sequence parameter set: a whole NAL unit, without its length.
     pub seq_param_set: Entries<u8>,
-    /// The picture parameter set, likewise.
+    /// The picture parameter set: a whole NAL unit, without its length.
     pub pic_param_set: Entries<u8>,
 }
 
 impl AvcConfig {
-    /// No picture and empty sets. It takes no memory.
+    /// Width and height 0, and empty parameter sets. It takes no memory.
     pub fn default_in(alloc: Global) -> Self
         ensures { result ≡ record { width = 0; height = 0; seq_param_set = []; pic_param_set = [] } }
     {

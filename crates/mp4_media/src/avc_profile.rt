@@ -20,8 +20,8 @@ pub enum AvcProfile {
     AvcHigh,
 }
 
-/// The profile of a profile number and the byte of constraint flags after it, whose bit 0x40 is constraint set 1. Any
-/// other profile number is invalid data.
+/// The profile of a pair: the profile number, and the byte of constraint flags that follows it. Bit 0x40 of the
+/// flags is constraint set 1. Any other profile number is invalid data.
 impl TryFrom<(u8, u8)> for AvcProfile {
     ghost use Rattle.mp4_media.specs.Conversion.{IsConversion};
     ghost use Rattle.mp4_media.specs.AvcProfile.{avc_profile_of};
@@ -45,7 +45,7 @@ impl TryFrom<(u8, u8)> for AvcProfile {
     }
 }
 
-/// The profile's name.
+/// The name of the profile, such as `Main`.
 impl fmt::Display for AvcProfile {
     ghost use Rattle.mp4_media.specs.AvcProfile.{text_avc_profile};
 

@@ -1,11 +1,11 @@
-//! Arrangements of channels of sound.
+//! Arrangements of audio channels.
 
 ghost use Rattle.std.specs.Prelude.{Some};
 
 use mp4_frame::{Error, Result};
 use std::fmt;
 
-/// The channels of an MPEG-4 audio configuration, by their number (ISO/IEC 14496-3, 1.6.3.5).
+/// The channel configuration of MPEG-4 audio, by its number (ISO/IEC 14496-3, 1.6.3.5).
 #[derive(Clone, Copy, Debug, PartialEq, Eq)]
 pub enum ChannelConfig {
     /// One channel: front centre.
@@ -14,9 +14,9 @@ pub enum ChannelConfig {
     Stereo = 2,
     /// Three channels: front centre, left and right.
     Three = 3,
-    /// Four channels: three in front, one after.
+    /// Four channels: three in front, one at the back.
     Four = 4,
-    /// Five channels: three in front, two after.
+    /// Five channels: three in front, two at the back.
     Five = 5,
     /// Five channels and one for low frequencies.
     FiveOne = 6,
@@ -24,7 +24,7 @@ pub enum ChannelConfig {
     SevenOne = 7,
 }
 
-/// The arrangement of a number. 0 and the numbers from 8 on are invalid data.
+/// The channel configuration of a number. 0, and 8 and above, are invalid data.
 impl TryFrom<u8> for ChannelConfig {
     ghost use Rattle.mp4_media.specs.Conversion.{IsConversion};
     ghost use Rattle.mp4_media.specs.ChannelConfig.{channel_config_of};
@@ -48,7 +48,7 @@ impl TryFrom<u8> for ChannelConfig {
     }
 }
 
-/// The arrangement's name.
+/// The name of the channel configuration, such as `stereo`.
 impl fmt::Display for ChannelConfig {
     ghost use Rattle.mp4_media.specs.ChannelConfig.{text_channel_config};
 

@@ -1,22 +1,22 @@
-//! What a value of metadata is.
+//! Types of metadata values.
 
 use mp4_frame::{Error, Result};
 
-/// What the bytes of a metadata value are, by the type's number (QuickTime's well-known types).
+/// The type of the bytes of a metadata value, by its number (QuickTime's well-known types).
 #[derive(Clone, Debug, Default, PartialEq, Eq, Drop)]
 pub enum DataType {
-    /// Bytes of a form that the key tells.
+    /// Bytes, whose format depends on the key.
     #[default]
     Binary = 0,
-    /// UTF-8 text.
+    /// A UTF-8 string.
     Text = 1,
     /// A JPEG picture.
     Image = 13,
-    /// A whole number, as a tempo or the mark of a compilation.
+    /// A whole number, such as a tempo or the flag of a compilation.
     TempoCpil = 21,
 }
 
-/// The type of a number. Any number but 0, 1, 13 and 21 is invalid data.
+/// The data type of a number. Any number but 0, 1, 13 and 21 is invalid data.
 impl TryFrom<u32> for DataType {
     ghost use Rattle.mp4_media.specs.Conversion.{IsConversion};
     ghost use Rattle.mp4_media.specs.DataType.{data_type_of};

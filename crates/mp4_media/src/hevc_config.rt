@@ -1,6 +1,6 @@
-//! What a track of high efficiency video is made from.
+//! The configuration of a track of high efficiency video.
 
-/// What a track of high efficiency video (ISO/IEC 23008-2) is made from.
+/// The configuration of a track of high efficiency video (ISO/IEC 23008-2).
 #[derive(Clone, Debug, Default, PartialEq, Eq, Drop)]
 pub struct HevcConfig {
     /// The width of the picture, in pixels.

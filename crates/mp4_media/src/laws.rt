@@ -1,4 +1,4 @@
-//! What holds of the media types and their tables. No function here calls another.
+//! The laws of the media types and their tables. No function here calls another.
 
 ghost use Rattle.std.specs.Prelude.{◌≡◌, ◌<◌, ℕ, ℤ, Some, None, Result, Ok, IsErrAnd, true};
 ghost use Rattle.std.specs.Cmp.{IsEquivalence};
@@ -22,54 +22,59 @@ use crate::{
 };
 use std::hash::Hash;
 
-/// The whole number of a whole number's raw number is that number, at any denominator.
+/// Converting a whole number to fixed point and back gives the same number, for every denominator above 0.
 pub fn whole_numbers_are_kept()
     ensures unsigned { (d value : ℕ) → 0 < d → whole d (scaled d value) ≡ value }
     ensures signed { (d : ℕ) (value : ℤ) → 0 < d → whole_signed d (scaled_signed d value) ≡ value }
 {}
 
-/// A track type and its handler are inverse, and any other handler is none's.
+/// Each track type has its own handler, which is converted back to this type. No type is found for any other
+/// handler.
 pub fn track_types_have_own_handlers()
     ensures { IsInverse handler_track_type track_type_of }
 {}
 
-/// A media type and its text are inverse, and any other text is none's.
+/// Each media type has its own string, which is converted back to this type. No type is found for any other string.
 pub fn media_types_have_own_texts()
     ensures { IsInverse text_media_type media_type_of }
 {}
 
-/// No two profiles have the same profile number and constraint flags, and any other numbers are none's.
+/// No two profiles have the same profile number and constraint flags. No profile is found for any other numbers.
 pub fn avc_profiles_have_own_numbers()
     ensures { Selects has_avc_profile avc_profile_of }
 {}
 
-/// An audio object type and its number are inverse, and any other number is none's.
+/// Each audio object type has its own number, which is converted back to this type. No type is found for any other
+/// number.
 pub fn audio_object_types_have_own_numbers()
     ensures { IsInverse number_audio_object_type audio_object_type_of }
 {}
 
-/// A sampling frequency and its index are inverse, and any other index is none's.
+/// Each sampling frequency has its own index, which is converted back to this frequency. No frequency is found for
+/// any other index.
 pub fn sample_freq_indexes_have_own_numbers()
     ensures { IsInverse number_sample_freq_index sample_freq_index_of }
 {}
 
-/// An arrangement of channels and its number are inverse, and any other number is none's.
+/// Each channel configuration has its own number, which is converted back to this configuration. No configuration is
+/// found for any other number.
 pub fn channel_configs_have_own_numbers()
     ensures { IsInverse number_channel_config channel_config_of }
 {}
 
-/// A type of metadata values and its number are inverse, and any other number is none's.
+/// Each type of metadata values has its own number, which is converted back to this type. No type is found for any
+/// other number.
 pub fn data_types_have_own_numbers()
     ensures { IsInverse number_data_type data_type_of }
 {}
 
-/// A conversion that finds a value returns it, and one that finds none is invalid data.
+/// A conversion returns the value that it finds. If it finds none, it returns invalid data.
 pub fn conversions_answer_what_they_find<A>()
     ensures value { (v : _) (r : Result A Error) → IsConversion (Some v) r → r ≡ Ok v }
     ensures none { (r : Result A Error) → IsConversion None r → IsErrAnd r IsInvalidData }
 {}
 
-/// `==` of two values is equality of all their fields.
+/// `==` of two values compares all of their fields.
 pub fn equality_is_of_all_fields()
     ensures fixed_point_u8 { IsEquality ⟦<FixedPointU8 as PartialEq>⟧.eq }
     ensures fixed_point_i8 { IsEquality ⟦<FixedPointI8 as PartialEq>⟧.eq }
@@ -90,19 +95,19 @@ pub fn equality_is_of_all_fields()
     ensures metadata_key { IsEquality ⟦<MetadataKey as PartialEq>⟧.eq }
 {}
 
-/// `==` of two samples is an equivalence, and looks at the four other fields and the length of the data alone.
+/// `==` of two samples is an equivalence. It compares only the four other fields and the length of the data.
 pub fn sample_equality_is_of_lengths()
     ensures equivalence { IsEquivalence ⟦<Mp4Sample as PartialEq>⟧.eq }
     ensures lengths { Decides ⟦<Mp4Sample as PartialEq>⟧.eq IsSameSample }
 {}
 
-/// Equal keys of metadata hash alike.
+/// Equal metadata keys have equal hashes.
 pub fn equal_metadata_keys_hash_alike()
     ensures { (x y : _) → ⟦<MetadataKey as PartialEq>⟧.eq x y ≡ true
         → ⟦<MetadataKey as Hash>⟧.hash_input x ≡ ⟦<MetadataKey as Hash>⟧.hash_input y }
 {}
 
-/// A reference says what the value says.
+/// The metadata of a reference is that of the value.
 pub fn references_say_the_same<'a, T: Metadata<'a> + 'a>()
     ensures title { (m : _) → ⟦<&'a T as Metadata<'a>>⟧.title m ≡ T.title m.now }
     ensures year { (m : _) → ⟦<&'a T as Metadata<'a>>⟧.year m ≡ T.year m.now }
@@ -110,7 +115,7 @@ pub fn references_say_the_same<'a, T: Metadata<'a> + 'a>()
     ensures summary { (m : _) → ⟦<&'a T as Metadata<'a>>⟧.summary m ≡ T.summary m.now }
 {}
 
-/// An option says what its value says.
+/// The metadata of a `Some` is that of its value.
 pub fn options_say_the_same<'a, T: Metadata<'a>>()
     ensures title { (m : _) → ⟦<Option<T> as Metadata<'a>>⟧.title (Some m) ≡ T.title m }
     ensures year { (m : _) → ⟦<Option<T> as Metadata<'a>>⟧.year (Some m) ≡ T.year m }
@@ -118,7 +123,7 @@ pub fn options_say_the_same<'a, T: Metadata<'a>>()
     ensures summary { (m : _) → ⟦<Option<T> as Metadata<'a>>⟧.summary (Some m) ≡ T.summary m }
 {}
 
-/// An empty option says nothing.
+/// A `None` has no metadata.
 pub fn empty_options_say_nothing<'a, T: Metadata<'a>>()
     ensures title { ⟦<Option<T> as Metadata<'a>>⟧.title None ≡ None }
     ensures year { ⟦<Option<T> as Metadata<'a>>⟧.year None ≡ None }
@@ -140,14 +145,14 @@ pub fn discriminant_of_sample_freq_index(index: SampleFreqIndex) -> u8
     index as u8
 }
 
-/// The discriminant of an arrangement of channels is its number.
+/// The discriminant of a channel configuration is its number.
 pub fn discriminant_of_channel_config(config: ChannelConfig) -> u8
     ensures { result ≡ number_channel_config config }
 {
     config as u8
 }
 
-/// The discriminant of a type of metadata values is its number.
+/// The discriminant of a data type is its number.
 pub fn discriminant_of_data_type(kind: DataType) -> u32
     ensures { result ≡ number_data_type kind }
 {

@@ -1,4 +1,4 @@
-//! What a track is made from.
+//! The configuration of a track.
 
 use crate::aac_config::AacConfig;
 use crate::avc_config::AvcConfig;
@@ -7,7 +7,7 @@ use crate::ttxt_config::TtxtConfig;
 use crate::vp9_config::Vp9Config;
 use mp4_frame::{Result, TryClone};
 
-/// What a track is made from, by how its samples are coded.
+/// The configuration of a track, by how its samples are coded.
 #[derive(Debug, PartialEq, Eq, Drop)]
 pub enum MediaConfig {
     /// Advanced video, H.264.

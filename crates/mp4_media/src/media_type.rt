@@ -1,11 +1,11 @@
-//! How the samples of a track are coded.
+//! Media types: how the samples of a track are coded.
 
 ghost use Rattle.std.specs.Prelude.{◌≡◌, Some};
 
 use mp4_frame::{Error, Result};
 use std::fmt;
 
-/// How the samples of a track are coded.
+/// How the samples of a track are coded. Each type has a string.
 #[derive(Clone, Copy, Debug, PartialEq, Eq)]
 pub enum MediaType {
     /// Advanced video coding (ISO/IEC 14496-10): `h264`.
@@ -20,7 +20,7 @@ pub enum MediaType {
     TTXT,
 }
 
-/// The type's text.
+/// The string of the media type.
 impl fmt::Display for MediaType {
     ghost use Rattle.mp4_media.specs.MediaType.{text_media_type};
 
@@ -31,7 +31,7 @@ impl fmt::Display for MediaType {
     }
 }
 
-/// The type of a text. Any other text is invalid data.
+/// The media type of a string. Any other string is invalid data.
 impl TryFrom<&str> for MediaType {
     ghost use Rattle.mp4_media.specs.Conversion.{IsConversion};
     ghost use Rattle.mp4_media.specs.MediaType.{media_type_of};
@@ -53,7 +53,7 @@ impl TryFrom<&str> for MediaType {
     }
 }
 
-/// The text of a type.
+/// The string of a media type.
 impl From<MediaType> for &'static str {
     ghost use Rattle.mp4_media.specs.MediaType.{text_media_type};
 
@@ -70,7 +70,7 @@ impl From<MediaType> for &'static str {
     }
 }
 
-/// The text of a type.
+/// The string of a media type.
 impl From<&MediaType> for &'static str {
     ghost use Rattle.mp4_media.specs.MediaType.{text_media_type};
 

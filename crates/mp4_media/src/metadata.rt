@@ -1,4 +1,4 @@
-//! What a file says of itself.
+//! The metadata of a file.
 
 ghost use Rattle.std.specs.Prelude.{◌≡◌, ℕ, List, Option, None};
 ghost use Rattle.std.specs.Option.{option_map, option_copied, option_and_then};
@@ -6,7 +6,7 @@ ghost use Rattle.std.specs.Cow.{cow_str_bytes};
 
 use std::borrow::CowStr;
 
-/// What a file says of itself. Clauses see a text as its bytes.
+/// The metadata of a file. In contracts a string is its bytes.
 pub trait Metadata<'a> {
     ghost title: { Self → Option (List ℕ) };
 
@@ -24,7 +24,7 @@ pub trait Metadata<'a> {
     fn year(&self) -> Option<u32>
         ensures { result ≡ year self.now };
 
-    /// The poster, or cover: the bytes of a picture.
+    /// The poster or cover: the bytes of a picture.
     fn poster(&self) -> Option<&[u8]>
         ensures { option_copied result ≡ poster self.now };
 
@@ -33,7 +33,7 @@ pub trait Metadata<'a> {
         ensures { option_map cow_str_bytes result ≡ summary self.now };
 }
 
-/// What the value says.
+/// The metadata of the value that is referred to.
 impl<'a, T: Metadata<'a>> Metadata<'a> for &'a T {
     ghost title = { λ m. T.title m.now };
 
@@ -60,7 +60,7 @@ impl<'a, T: Metadata<'a>> Metadata<'a> for &'a T {
     }
 }
 
-/// What the value says, if there is one; else nothing.
+/// The metadata of the value if there is one, else none.
 impl<'a, T: Metadata<'a>> Metadata<'a> for Option<T> {
     ghost title = { option_and_then T.title };
 

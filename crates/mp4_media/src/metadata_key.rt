@@ -1,4 +1,4 @@
-//! The keys of metadata.
+//! Keys of metadata.
 
 /// A key of a file's metadata.
 #[derive(Clone, Debug, PartialEq, Eq, Hash, Drop)]
@@ -7,7 +7,7 @@ pub enum MetadataKey {
     Title,
     /// The year of release.
     Year,
-    /// The poster, or cover.
+    /// The poster or cover.
     Poster,
     /// The summary.
     Summary,

@@ -10,11 +10,11 @@ use std::fmt;
 /// A sample of a track, with its times in the track's time scale.
 #[derive(Debug, Drop)]
 pub struct Mp4Sample {
-    /// When the sample is decoded, in units of the track's time scale.
+    /// The decoding time, in units of the track's time scale.
     pub start_time: u64,
-    /// How long it lasts, in the same units.
+    /// The duration, in the same units.
     pub duration: u32,
-    /// How much later it is shown than decoded, in the same units.
+    /// The composition time minus the decoding time, in the same units.
     pub rendering_offset: i32,
     /// Whether decoding can start here.
     pub is_sync: bool,
@@ -22,7 +22,8 @@ pub struct Mp4Sample {
     pub bytes: Bytes,
 }
 
-/// Equal where the four other fields and the lengths of the data are. The bytes of the data are not compared.
+/// Two samples are equal if the four other fields and the lengths of the data are equal. The data itself is not
+/// compared.
 impl PartialEq for Mp4Sample {
     ghost use Rattle.mp4_media.specs.Mp4Sample.{eq_mp4_sample};
 
@@ -39,7 +40,7 @@ impl PartialEq for Mp4Sample {
     }
 }
 
-/// The four other fields and the length of the data, as in
+/// The four other fields and the length of the data, such as
 /// `start_time 1, duration 2, rendering_offset -3, is_sync true, length 4`.
 impl fmt::Display for Mp4Sample {
     ghost use Rattle.mp4_media.specs.Mp4Sample.{text_mp4_sample};

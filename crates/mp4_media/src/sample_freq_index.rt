@@ -1,4 +1,4 @@
-//! Sampling frequencies of sound.
+//! Sampling frequencies of audio.
 
 ghost use Rattle.std.specs.Prelude.{◌≡◌};
 ghost use Rattle.mp4_media.specs.SampleFreqIndex.{freq_sample_freq_index};
@@ -36,7 +36,7 @@ pub enum SampleFreqIndex {
     Freq7350 = 12,
 }
 
-/// The frequency of an index. An index from 13 on is invalid data.
+/// The sampling frequency of an index. An index of 13 or above is invalid data.
 impl TryFrom<u8> for SampleFreqIndex {
     ghost use Rattle.mp4_media.specs.Conversion.{IsConversion};
     ghost use Rattle.mp4_media.specs.SampleFreqIndex.{sample_freq_index_of};

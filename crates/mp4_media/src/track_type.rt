@@ -1,22 +1,22 @@
-//! What a track holds.
+//! Track types: what a track contains.
 
 ghost use Rattle.std.specs.Prelude.{◌≡◌, Some};
 
 use mp4_frame::{Error, FourCC, Result};
 use std::fmt;
 
-/// What a track holds, by its handler type (ISO/IEC 14496-12, 8.4.3; `sbtl` is QuickTime's).
+/// What a track contains, by its handler type (ISO/IEC 14496-12, 8.4.3; `sbtl` is QuickTime's).
 #[derive(Clone, Copy, Debug, PartialEq, Eq)]
 pub enum TrackType {
-    /// Pictures: `vide`.
+    /// Video: `vide`.
     Video,
-    /// Sound: `soun`.
+    /// Audio: `soun`.
     Audio,
     /// Subtitles: `sbtl`.
     Subtitle,
 }
 
-/// The type's name: `Video`, `Audio`, `Subtitle`.
+/// The name of the type: `Video`, `Audio` or `Subtitle`.
 impl fmt::Display for TrackType {
     ghost use Rattle.mp4_media.specs.TrackType.{text_track_type};
 
@@ -31,7 +31,7 @@ impl fmt::Display for TrackType {
     }
 }
 
-/// The type of a handler. Any other text is invalid data.
+/// The track type of a handler. Any other string is invalid data.
 impl TryFrom<&str> for TrackType {
     ghost use Rattle.mp4_media.specs.Conversion.{IsConversion};
     ghost use Rattle.mp4_media.specs.TrackType.{track_type_of};
@@ -51,7 +51,7 @@ impl TryFrom<&str> for TrackType {
     }
 }
 
-/// The type of a handler. Any other code is invalid data.
+/// The track type of a handler. Any other code is invalid data.
 impl TryFrom<&FourCC> for TrackType {
     ghost use Rattle.mp4_media.specs.Conversion.{IsConversion};
     ghost use Rattle.mp4_media.specs.TrackType.{track_type_of};
@@ -71,7 +71,7 @@ impl TryFrom<&FourCC> for TrackType {
     }
 }
 
-/// The handler of a type.
+/// The handler of a track type.
 impl From<TrackType> for FourCC {
     ghost use Rattle.mp4_media.specs.TrackType.{handler_track_type};
 

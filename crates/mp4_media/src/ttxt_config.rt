@@ -1,5 +1,5 @@
-//! What a track of timed text is made from.
+//! The configuration of a track of timed text.
 
-/// What a track of timed text (3GPP TS 26.245) is made from: nothing.
+/// The configuration of a track of timed text (3GPP TS 26.245). It has no fields.
 #[derive(Clone, Debug, Default, PartialEq, Eq, Drop)]
 pub struct TtxtConfig {}

@@ -1,6 +1,6 @@
-//! What a track of VP9 video is made from.
+//! The configuration of a track of VP9 video.
 
-/// What a track of VP9 video is made from.
+/// The configuration of a track of VP9 video.
 #[derive(Clone, Debug, Default, PartialEq, Eq, Drop)]
 pub struct Vp9Config {
     /// The width of the picture, in pixels.

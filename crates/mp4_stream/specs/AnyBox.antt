@@ -1,66 +1,67 @@
 -- What is said of a box of any type, by its type: two lists of the boxes, and a line for each word.
 use Rattle.std.specs.Prelude.{ℕ, List, Bool}
+use Rattle.mp4_frame.specs.Format.{Format}
 use Rattle.mp4_frame.specs.Members.{Known, Unknown, Is, kind, is_known, reading_known, Held, holds}
 use Rattle.mp4_frame.specs.Reading.{Reading}
 use Rattle.mp4_frame.specs.declared.box_type.BoxType.{BoxType}
 use Rattle.mp4_frame.specs.declared.box_type.BoxType.TheVariants as names
-use Rattle.mp4_flat.specs.Mdhd.{format_mdhd}
-use Rattle.mp4_flat.specs.Mehd.{format_mehd}
-use Rattle.mp4_flat.specs.Mfhd.{format_mfhd}
-use Rattle.mp4_flat.specs.Mvhd.{format_mvhd}
-use Rattle.mp4_flat.specs.Smhd.{format_smhd}
-use Rattle.mp4_flat.specs.Tfdt.{format_tfdt}
-use Rattle.mp4_flat.specs.Tkhd.{format_tkhd}
-use Rattle.mp4_flat.specs.Trex.{format_trex}
-use Rattle.mp4_flat.specs.Vmhd.{format_vmhd}
-use Rattle.mp4_tables.specs.Co64.{format_co64}
-use Rattle.mp4_tables.specs.Ctts.{format_ctts}
-use Rattle.mp4_tables.specs.Elst.{format_elst}
-use Rattle.mp4_tables.specs.Stco.{format_stco}
-use Rattle.mp4_tables.specs.Stsc.{format_stsc}
-use Rattle.mp4_tables.specs.Stss.{format_stss}
-use Rattle.mp4_tables.specs.Stsz.{format_stsz}
-use Rattle.mp4_tables.specs.Stts.{format_stts}
-use Rattle.mp4_tables.specs.Tfhd.{format_tfhd}
-use Rattle.mp4_tables.specs.Trun.{format_trun}
-use Rattle.mp4_text.specs.Data.{format_data}
-use Rattle.mp4_text.specs.Dinf.{format_dinf}
-use Rattle.mp4_text.specs.Dref.{format_dref}
-use Rattle.mp4_text.specs.Emsg.{format_emsg}
-use Rattle.mp4_text.specs.Ftyp.{format_ftyp}
-use Rattle.mp4_text.specs.Hdlr.{format_hdlr}
-use Rattle.mp4_text.specs.Url.{format_url}
+use Rattle.mp4_flat.specs.Mdhd.{reads_mdhd, format_mdhd}
+use Rattle.mp4_flat.specs.Mehd.{reads_mehd, format_mehd}
+use Rattle.mp4_flat.specs.Mfhd.{reads_mfhd, format_mfhd}
+use Rattle.mp4_flat.specs.Mvhd.{reads_mvhd, format_mvhd}
+use Rattle.mp4_flat.specs.Smhd.{reads_smhd, format_smhd}
+use Rattle.mp4_flat.specs.Tfdt.{reads_tfdt, format_tfdt}
+use Rattle.mp4_flat.specs.Tkhd.{reads_tkhd, format_tkhd}
+use Rattle.mp4_flat.specs.Trex.{reads_trex, format_trex}
+use Rattle.mp4_flat.specs.Vmhd.{reads_vmhd, format_vmhd}
+use Rattle.mp4_tables.specs.Co64.{reads_co64, format_co64}
+use Rattle.mp4_tables.specs.Ctts.{reads_ctts, format_ctts}
+use Rattle.mp4_tables.specs.Elst.{reads_elst, format_elst}
+use Rattle.mp4_tables.specs.Stco.{reads_stco, format_stco}
+use Rattle.mp4_tables.specs.Stsc.{reads_stsc, format_stsc}
+use Rattle.mp4_tables.specs.Stss.{reads_stss, format_stss}
+use Rattle.mp4_tables.specs.Stsz.{reads_stsz, format_stsz}
+use Rattle.mp4_tables.specs.Stts.{reads_stts, format_stts}
+use Rattle.mp4_tables.specs.Tfhd.{reads_tfhd, format_tfhd}
+use Rattle.mp4_tables.specs.Trun.{reads_trun, format_trun}
+use Rattle.mp4_text.specs.Data.{reads_data, format_data}
+use Rattle.mp4_text.specs.Dinf.{reads_dinf, format_dinf}
+use Rattle.mp4_text.specs.Dref.{reads_dref, format_dref}
+use Rattle.mp4_text.specs.Emsg.{reads_emsg, format_emsg}
+use Rattle.mp4_text.specs.Ftyp.{reads_ftyp, format_ftyp}
+use Rattle.mp4_text.specs.Hdlr.{reads_hdlr, format_hdlr}
+use Rattle.mp4_text.specs.Url.{reads_url, format_url}
 use Rattle.mp4_stream.specs.declared.any_box.AnyBox.{AnyBox}
 use Rattle.mp4_stream.specs.declared.any_box.AnyBox.TheVariants as any
 
 -- the type that a name stands for
 abbrev pub kinds : BoxType → Known AnyBox
-kinds names.FtypBox = Is (kind format_ftyp any.FtypBox)
-kinds names.MvhdBox = Is (kind format_mvhd any.MvhdBox)
-kinds names.TkhdBox = Is (kind format_tkhd any.TkhdBox)
-kinds names.MdhdBox = Is (kind format_mdhd any.MdhdBox)
-kinds names.MehdBox = Is (kind format_mehd any.MehdBox)
-kinds names.MfhdBox = Is (kind format_mfhd any.MfhdBox)
-kinds names.SmhdBox = Is (kind format_smhd any.SmhdBox)
-kinds names.VmhdBox = Is (kind format_vmhd any.VmhdBox)
-kinds names.TrexBox = Is (kind format_trex any.TrexBox)
-kinds names.TfdtBox = Is (kind format_tfdt any.TfdtBox)
-kinds names.StcoBox = Is (kind format_stco any.StcoBox)
-kinds names.Co64Box = Is (kind format_co64 any.Co64Box)
-kinds names.SttsBox = Is (kind format_stts any.SttsBox)
-kinds names.CttsBox = Is (kind format_ctts any.CttsBox)
-kinds names.StssBox = Is (kind format_stss any.StssBox)
-kinds names.StszBox = Is (kind format_stsz any.StszBox)
-kinds names.StscBox = Is (kind format_stsc any.StscBox)
-kinds names.ElstBox = Is (kind format_elst any.ElstBox)
-kinds names.TfhdBox = Is (kind format_tfhd any.TfhdBox)
-kinds names.TrunBox = Is (kind format_trun any.TrunBox)
-kinds names.HdlrBox = Is (kind format_hdlr any.HdlrBox)
-kinds names.DataBox = Is (kind format_data any.DataBox)
-kinds names.EmsgBox = Is (kind format_emsg any.EmsgBox)
-kinds names.UrlBox = Is (kind format_url any.UrlBox)
-kinds names.DrefBox = Is (kind format_dref any.DrefBox)
-kinds names.DinfBox = Is (kind format_dinf any.DinfBox)
+kinds names.FtypBox = Is (kind reads_ftyp format_ftyp any.FtypBox)
+kinds names.MvhdBox = Is (kind reads_mvhd format_mvhd any.MvhdBox)
+kinds names.TkhdBox = Is (kind reads_tkhd format_tkhd any.TkhdBox)
+kinds names.MdhdBox = Is (kind reads_mdhd format_mdhd any.MdhdBox)
+kinds names.MehdBox = Is (kind reads_mehd format_mehd any.MehdBox)
+kinds names.MfhdBox = Is (kind reads_mfhd format_mfhd any.MfhdBox)
+kinds names.SmhdBox = Is (kind reads_smhd format_smhd any.SmhdBox)
+kinds names.VmhdBox = Is (kind reads_vmhd format_vmhd any.VmhdBox)
+kinds names.TrexBox = Is (kind reads_trex format_trex any.TrexBox)
+kinds names.TfdtBox = Is (kind reads_tfdt format_tfdt any.TfdtBox)
+kinds names.StcoBox = Is (kind reads_stco format_stco any.StcoBox)
+kinds names.Co64Box = Is (kind reads_co64 format_co64 any.Co64Box)
+kinds names.SttsBox = Is (kind reads_stts format_stts any.SttsBox)
+kinds names.CttsBox = Is (kind reads_ctts format_ctts any.CttsBox)
+kinds names.StssBox = Is (kind reads_stss format_stss any.StssBox)
+kinds names.StszBox = Is (kind reads_stsz format_stsz any.StszBox)
+kinds names.StscBox = Is (kind reads_stsc format_stsc any.StscBox)
+kinds names.ElstBox = Is (kind reads_elst format_elst any.ElstBox)
+kinds names.TfhdBox = Is (kind reads_tfhd format_tfhd any.TfhdBox)
+kinds names.TrunBox = Is (kind reads_trun format_trun any.TrunBox)
+kinds names.HdlrBox = Is (kind reads_hdlr format_hdlr any.HdlrBox)
+kinds names.DataBox = Is (kind reads_data format_data any.DataBox)
+kinds names.EmsgBox = Is (kind reads_emsg format_emsg any.EmsgBox)
+kinds names.UrlBox = Is (kind reads_url format_url any.UrlBox)
+kinds names.DrefBox = Is (kind reads_dref format_dref any.DrefBox)
+kinds names.DinfBox = Is (kind reads_dinf format_dinf any.DinfBox)
 kinds _ = Unknown
 
 -- the box, by its type
@@ -92,20 +93,8 @@ held (any.UrlBox b) = holds format_url any.UrlBox b
 held (any.DrefBox b) = holds format_dref any.DrefBox b
 held (any.DinfBox b) = holds format_dinf any.DinfBox b
 
-abbrev pub name_any : AnyBox → BoxType
-name_any v = (held v).name
-
-abbrev pub size_any : AnyBox → ℕ
-size_any v = (held v).size
-
-abbrev pub WritableAny : AnyBox → Type 0
-WritableAny v = (held v).Writable
-
-abbrev pub bytes_any : AnyBox → List ℕ
-bytes_any v = (held v).bytes
-
-abbrev pub normal_any : AnyBox → AnyBox
-normal_any v = (held v).normal
+abbrev pub format_any : Format AnyBox
+format_any = record { name = λ v. (held v).name; size = λ v. (held v).size; Writable = λ v. (held v).Writable; bytes = λ v. (held v).bytes; normal = λ v. (held v).normal }
 
 abbrev pub known_any : BoxType → Bool
 known_any name = is_known (kinds name)

@@ -3,8 +3,8 @@
 ghost use Rattle.std.specs.Prelude.{◌≡◌, ◌-◌, ◌≤◌, IsTrue, OnErr};
 ghost use Rattle.mp4_frame.specs.Reading.{Answers, AnswersAs, map_reading};
 ghost use Rattle.mp4_frame.specs.Streams.{append_read};
-ghost use Rattle.mp4_frame.proofs.Members.{header_of_member, normal_form_of_member, own_name_of_member, read_back_of_member};
-ghost use Rattle.mp4_stream.specs.AnyBox.{kinds, held, name_any, size_any, WritableAny, bytes_any, normal_any, known_any, reading_any};
+ghost use Rattle.mp4_frame.proofs.Members.{written_member, own_name_of_member, read_back_of_member};
+ghost use Rattle.mp4_stream.specs.AnyBox.{kinds, held, format_any, known_any, reading_any};
 ghost use Rattle.mp4_stream.specs.AnyBoxLaws.{members};
 
 use mp4_flat::{MdhdBox, MehdBox, MfhdBox, MvhdBox, SmhdBox, TfdtBox, TkhdBox, TrexBox, VmhdBox};
@@ -96,9 +96,7 @@ impl TryClone for AnyBox {
 }
 
 impl Mp4Box for AnyBox {
-    ghost name = { name_any };
-
-    ghost size = { size_any };
+    ghost format = { format_any };
 
     fn box_type(&self) -> BoxType {
         of_boxes!(each, self, b => b.box_type())
@@ -110,12 +108,6 @@ impl Mp4Box for AnyBox {
 }
 
 impl WriteBox for AnyBox {
-    ghost Writable = { WritableAny };
-
-    ghost bytes = { bytes_any };
-
-    ghost normal = { normal_any };
-
     fn is_writable(&self) -> bool {
         of_boxes!(each, self, b => b.is_writable())
     }
@@ -124,9 +116,7 @@ impl WriteBox for AnyBox {
         of_boxes!(each, self, b => b.put_box(out))
     }
 
-    ghost header = { header_of_member kinds held members };
-
-    ghost normal_form = { normal_form_of_member kinds held members };
+    ghost write_laws = { written_member kinds held members };
 }
 
 impl StreamBox for AnyBox {

@@ -29,15 +29,15 @@ end_at flags = flags_at flags + width_if (is_set flags FLAG_DEFAULT_SAMPLE_FLAGS
 
 -- the value for these flags, where `at o w` is the number of w bytes at offset o
 abbrev pub value_tfhd : ℕ → (ℕ → ℕ → ℕ) → TfhdBox
-value_tfhd flags n = record {
+value_tfhd flags at = record {
   version = at 8 1;
   flags = flags;
-  track_id = n 12 4;
-  base_data_offset = number_if n (is_set flags FLAG_BASE_DATA_OFFSET) 16 8;
-  sample_description_index = number_if n (is_set flags FLAG_SAMPLE_DESCRIPTION_INDEX) (index_at flags) 4;
-  default_sample_duration = number_if n (is_set flags FLAG_DEFAULT_SAMPLE_DURATION) (duration_at flags) 4;
-  default_sample_size = number_if n (is_set flags FLAG_DEFAULT_SAMPLE_SIZE) (size_at flags) 4;
-  default_sample_flags = number_if n (is_set flags FLAG_DEFAULT_SAMPLE_FLAGS) (flags_at flags) 4;
+  track_id = at 12 4;
+  base_data_offset = number_if at (is_set flags FLAG_BASE_DATA_OFFSET) 16 8;
+  sample_description_index = number_if at (is_set flags FLAG_SAMPLE_DESCRIPTION_INDEX) (index_at flags) 4;
+  default_sample_duration = number_if at (is_set flags FLAG_DEFAULT_SAMPLE_DURATION) (duration_at flags) 4;
+  default_sample_size = number_if at (is_set flags FLAG_DEFAULT_SAMPLE_SIZE) (size_at flags) 4;
+  default_sample_flags = number_if at (is_set flags FLAG_DEFAULT_SAMPLE_FLAGS) (flags_at flags) 4;
 }
 
 unfoldable pub reads_tfhd : List ℕ → ℕ → ℕ → Reading TfhdBox

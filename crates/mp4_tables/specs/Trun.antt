@@ -33,12 +33,12 @@ unsigned_bits n = option_map (λ z. cast_unsigned w32 z) n
 
 -- the value for these flags and lists, where `at o w` is the number of w bytes at offset o
 abbrev pub value_trun : ℕ → (ℕ → ℕ → ℕ) → TrunLists → TrunBox
-value_trun flags n lists = record {
+value_trun flags at lists = record {
   version = at 8 1;
   flags = flags;
-  sample_count = n 12 4;
-  data_offset = signed_bits (number_if n (is_set flags FLAG_DATA_OFFSET) 16 4);
-  first_sample_flags = number_if n (is_set flags FLAG_FIRST_SAMPLE_FLAGS) (first_flags_at flags) 4;
+  sample_count = at 12 4;
+  data_offset = signed_bits (number_if at (is_set flags FLAG_DATA_OFFSET) 16 4);
+  first_sample_flags = number_if at (is_set flags FLAG_FIRST_SAMPLE_FLAGS) (first_flags_at flags) 4;
   sample_durations = lists.durations;
   sample_sizes = lists.sizes;
   sample_flags = lists.flags;
