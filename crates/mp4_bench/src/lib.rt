@@ -3,7 +3,7 @@
 
 ghost use Rattle.std.specs.Prelude.{◌≡◌, ◌-◌, ◌^◌, ◌⊎◌, List, Ok, take, IfOk};
 ghost use Rattle.mp4_frame.specs.Streams.{stream, boxes};
-ghost use Rattle.mp4_stream.specs.AnyBox.{bytes_any, known_any, reading_any};
+ghost use Rattle.mp4_stream.specs.AnyBox.{format_any, known_any, reading_any};
 ghost use Rattle.mp4_stream.specs.declared.any_box.AnyBox.{AnyBox};
 
 use mp4_stream::{AnyBox, ByteCursor, Error, Mp4Box, Result, read_boxes, write_boxes};
@@ -41,22 +41,22 @@ fn write_times(alloc: Global, bytes: &[u8], times: u64) -> Result<u64> {
     Ok(sum)
 }
 
-/// Puts what is written of a stream at the front of a place that it fits in, and returns its length.
+/// Fills the front of a slice with what is written of a stream, and returns its length.
 fn rewrite(alloc: Global, bytes: &[u8], out: &mut [u8]) -> Result<u64>
-    ensures { IfOk result (λ n. (vs : List AnyBox) × ((boxes known_any reading_any bytes.now 0).outcome ≡ Ok vs) × (take n out.new ≡ stream bytes_any vs)) }
+    ensures { IfOk result (λ n. (vs : List AnyBox) × ((boxes known_any reading_any bytes.now 0).outcome ≡ Ok vs) × (take n out.new ≡ stream format_any.bytes vs)) }
 {
     let boxes = read_boxes(alloc, &mut ByteCursor::new(bytes))?;
-    let mut out = Vec::new(alloc);
-    let n = write_boxes(&boxes, &mut out)?;
-    if out.len() > out.len() {
+    let mut stream = Vec::new(alloc);
+    let n = write_boxes(&boxes, &mut stream)?;
+    if stream.len() > out.len() {
         return Err(Error::OutOfMemory);
     }
-    out[..out.len()].copy_from_slice(&out);
+    out[..stream.len()].copy_from_slice(&stream);
     Ok(n)
 }
 
 /// Reads a stream so many times, each time into new boxes, and returns the sum of their checksums. A fault or
-/// out of memory ends it with `u64::MAX`.
+/// no memory ends it with `u64::MAX`.
 #[unsafe(no_mangle)]
 pub extern "C" fn mp4_read(alloc: Global, bytes: &[u8], times: u64) -> u64 {
     read_times(alloc, bytes, times).unwrap_or(u64::MAX)
@@ -69,11 +69,11 @@ pub extern "C" fn mp4_write(alloc: Global, bytes: &[u8], times: u64) -> u64 {
     write_times(alloc, bytes, times).unwrap_or(u64::MAX)
 }
 
-/// Reads a stream, puts what its boxes are written in at the front of `place`, and returns the length of that:
-/// 0 if all boxes were skipped. A fault, out of memory or want of room ends it with `u64::MAX`.
+/// Reads a stream, fills the front of `out` with what its boxes are written in, and returns the length of that:
+/// 0 if all boxes were skipped. A fault, no memory or no room ends it with `u64::MAX`.
 #[unsafe(no_mangle)]
 pub extern "C" fn mp4_rewrite(alloc: Global, bytes: &[u8], out: &mut [u8]) -> u64
-    ensures { (result ≡ 2 ^ 64 - 1) ⊎ ((vs : List AnyBox) × ((boxes known_any reading_any bytes.now 0).outcome ≡ Ok vs) × (take result out.new ≡ stream bytes_any vs)) }
+    ensures { (result ≡ 2 ^ 64 - 1) ⊎ ((vs : List AnyBox) × ((boxes known_any reading_any bytes.now 0).outcome ≡ Ok vs) × (take result out.new ≡ stream format_any.bytes vs)) }
 {
     rewrite(alloc, bytes, out).unwrap_or(u64::MAX)
 }

@@ -1,4 +1,4 @@
--- The units of UTF-16 that an iterator has still to give.
+-- The UTF-16 units that an iterator has not yet returned.
 use Rattle.std.proofs.Common.{◌≡◌, ℕ, List, [], ◌∷◌, ◌++◌, inl, inr, Some, None, length, refl, sym, ap, subst, ◌∙◌, arith}
 use Rattle.std.proofs.lemmas.Str.{chars-nil, chars_past_char, IsUtf8-past_char}
 use Rattle.std.specs.Char.Escape.{encode_utf16}
@@ -12,11 +12,11 @@ no_bytes : (text : List ℕ) → length text ≡ 0 → utf16_units text ≡ []
 no_bytes [] none = ap (flat_map encode_utf16) chars-nil
 no_bytes (b ∷ text) none = absurd (omega (arith, none))
 
--- an iterator that returns nothing has no unit left
+-- an iterator that returns None has no unit left
 pub no_unit : (s t : EncodeUtf16) → encode_utf16_steps s None t → units_left s ≡ []
 no_unit s t (pending, none, same) = rw (pending, no_bytes (encode_utf16_rest s) none) refl
 
--- what it returns is the first of those that were left
+-- a unit that the iterator returns is the first of the units that were left
 pub first_unit : (s t : EncodeUtf16) (x : ℕ) → IsUtf8 (encode_utf16_rest s) → encode_utf16_steps s (Some x) t → (units_left s ≡ x ∷ units_left t) × IsUtf8 (encode_utf16_rest t)
 first_unit s t x text (inl (pending, none, rest)) = (rw (pending, none, rest) refl, subst IsUtf8 (sym rest) text)
 first_unit s t x text (inr (none, (c, rest, units))) =

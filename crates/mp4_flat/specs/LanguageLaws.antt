@@ -8,7 +8,7 @@ use Rattle.std.specs.Prelude.{slice_index}
 use Rattle.std.specs.Str.{IsAscii, IsUtf8}
 use Rattle.mp4_flat.specs.Language.{utf16_units, language_code, letters}
 
--- a code has 15 bits
+-- a code fits 15 bits
 pub language_fits : (text : List ℕ) → language_code text < 2 ^ 15
 unfolding language_code
 language_fits text = omega arith
@@ -20,7 +20,7 @@ letters_are_ascii code (suc zero) = omega arith
 letters_are_ascii code (suc (suc zero)) = omega arith
 letters_are_ascii code (suc (suc (suc i))) = omega arith
 
--- letters are a text
+-- the letters of a code are UTF-8
 pub letters_are_text : (code : ℕ) → IsUtf8 (letters code)
 letters_are_text code = IsUtf8-from_ascii (letters code) (letters_are_ascii code)
 
@@ -38,12 +38,12 @@ units_of_letters code =
 code_of_units : List ℕ → ℕ
 code_of_units units = slice_index units 0 % 32 * 1024 + slice_index units 1 % 32 * 32 + slice_index units 2 % 32
 
--- the code of the letters of a code is its 15 low bits
+-- the code of the letters of a number is the 15 low bits of that number
 code_of_letters : (code : ℕ) → language_code (letters code) ≡ code % 2 ^ 15
 unfolding language_code letters code_of_units
 code_of_letters code = ap code_of_units (units_of_letters code) ∙ omega arith
 
--- a code is the one of its letters
+-- the code of the letters of a code is that code
 pub language_back : (text : List ℕ) → language_code (letters (language_code text)) ≡ language_code text
 language_back text = code_of_letters (language_code text) ∙ omega (arith, language_fits text)
 
@@ -55,6 +55,6 @@ low_letters code =
     let third : code % 2 ^ 15 % 32 ≡ code % 32 = omega arith in
     rw (first, second, third) refl
 
--- letters are those of their code
+-- the letters of the code of letters are those letters
 pub letters_back : (code : ℕ) → letters (language_code (letters code)) ≡ letters code
 letters_back code = ap letters (code_of_letters code) ∙ low_letters code

@@ -23,7 +23,7 @@ numbers_matrix m = m.a ∷ m.b ∷ m.u ∷ m.c ∷ m.d ∷ m.v ∷ m.x ∷ m.y �
 abbrev pub fields_matrix : Matrix → List (ℕ × ℕ)
 fields_matrix m = map (λ z. (4, cast_unsigned w32 z)) (numbers_matrix m)
 
--- each number is one of 32 bits
+-- each number fits 32 bits, with its sign
 abbrev pub AreSigned : List ℤ → Type 0
 AreSigned [] = Unit {0}
 AreSigned (z ∷ zs) = FitsSigned w32 z × AreSigned zs
@@ -31,6 +31,6 @@ AreSigned (z ∷ zs) = FitsSigned w32 z × AreSigned zs
 abbrev pub IsMatrix : Matrix → Type 0
 IsMatrix m = AreSigned (numbers_matrix m)
 
--- the matrix that leaves each point where it is
+-- the identity, which maps each point to itself
 abbrev pub unity : Matrix
 unity = record { a = pos 0x10000; b = pos 0; u = pos 0; c = pos 0; d = pos 0x10000; v = pos 0; x = pos 0; y = pos 0; w = pos 0x40000000 }

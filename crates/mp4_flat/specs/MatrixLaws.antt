@@ -22,11 +22,11 @@ matrix_back m (a, (b, (u, (c, (d, (v, (x, (y, (w, z))))))))) = λ i. record {
   w = back32 m.w w i;
 }
 
--- where the numbers of a matrix at o come from
+-- where the numbers of a matrix at offset o are from
 abbrev pub origins_matrix : ℕ → List Origin
 origins_matrix o = Signed32 o ∷ Signed32 (o + 4) ∷ Signed32 (o + 8) ∷ Signed32 (o + 12) ∷ Signed32 (o + 16) ∷ Signed32 (o + 20) ∷ Signed32 (o + 24) ∷ Signed32 (o + 28) ∷ Signed32 (o + 32) ∷ []
 
--- what was read is a matrix
+-- the numbers of a matrix that was read fit their type
 pub matrix_read : (bytes : List ℕ) (o : ℕ) → AreBytes bytes → IsMatrix (matrix_at (number bytes) o)
 matrix_read bytes o are =
     let z = λ (k : ℕ). signed32 bytes k are in

@@ -1,6 +1,6 @@
 -- mdhd, the media header box (ISO/IEC 14496-12, 8.4.2). Its times take t bytes each: 4 in version 0, 8 in version 1.
--- Version 1 byte, flags 3, creation time t bytes at 12, modification time t, timescale 4, duration t, language 2,
--- and 2 bytes of zero, which need not are present to be read.
+-- The fields are version 1 byte, flags 3, creation time t bytes at 12, modification time t, timescale 4, duration t,
+-- language 2, and 2 bytes that are written as zero and need not be present to be read.
 use Rattle.std.specs.Prelude.{ℕ, ◌+◌, ◌*◌, List, [], ◌∷◌, ◌++◌, codes}
 use Rattle.mp4_frame.specs.Bytes.{bytes_of_fields, full_box}
 use Rattle.mp4_frame.specs.Reading.{Reading, ◌>>=◌, memory, done}
@@ -11,7 +11,7 @@ use Rattle.mp4_frame.specs.declared.box_type.BoxType.TheVariants as names
 use Rattle.mp4_frame.specs.declared.codes.TheConstants as codes
 use Rattle.mp4_flat.specs.declared.mdhd.MdhdBox.{MdhdBox}
 
--- the value, where a time takes t bytes, where `at o w` is the number of w bytes at offset o
+-- the value, for times of t bytes, where `at o w` is the number of w bytes at offset o
 abbrev pub value_mdhd : ℕ → (ℕ → ℕ → ℕ) → MdhdBox
 value_mdhd t at = record {
   version = at 8 1;
@@ -48,7 +48,7 @@ WritableMdhd v = WritableTimed v.version (fields_mdhd v)
 unfoldable pub bytes_mdhd : MdhdBox → List ℕ
 bytes_mdhd v = bytes_of_fields (fields_mdhd v)
 
--- the language is the one that is read
+-- the language is the one that is read back
 abbrev pub normal_mdhd : MdhdBox → MdhdBox
 normal_mdhd v = record v { language = letters (language_code v.language) }
 

@@ -1,4 +1,4 @@
--- The laws of mdhd, whose times have two widths, and whose language is read by its letters.
+-- The laws of mdhd, whose times have two widths, and whose language is read as three letters.
 use Rattle.std.proofs.Common.{◌≡◌, ℕ, ◌+◌, ◌*◌, ◌<◌, ◌^◌, List, [], ◌∷◌, ◌++◌, Ok, refl, sym, ap, subst, ◌∙◌, lit<, lit≤, arith}
 use Rattle.mp4_frame.specs.Format.{IsBox}
 use Rattle.mp4_frame.specs.Bytes.{number, bytes_of_fields}

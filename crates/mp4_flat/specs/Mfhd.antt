@@ -1,5 +1,5 @@
--- mfhd, the movie fragment header box (ISO/IEC 14496-12, 8.8.5): version 1 byte, flags 3, and the number of
--- the fragment in 4 bytes at 12.
+-- mfhd, the movie fragment header box (ISO/IEC 14496-12, 8.8.5). The fields are version 1 byte, flags 3, and the
+-- number of the fragment in 4 bytes at 12.
 use Rattle.std.specs.Prelude.{ℕ, List, [], ◌∷◌, ◌++◌}
 use Rattle.mp4_frame.specs.Bytes.{number, bytes_of_fields, FieldsFit, full_box}
 use Rattle.mp4_frame.specs.Format.{Format}

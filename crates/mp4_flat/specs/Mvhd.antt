@@ -1,6 +1,6 @@
 -- mvhd, the movie header box (ISO/IEC 14496-12, 8.2.2). Its times take t bytes each: 4 in version 0, 8 in version 1.
--- Version 1 byte, flags 3, creation time t bytes at 12, modification time t, timescale 4, duration t, rate 4,
--- volume 2, 10 of zero, matrix 36, 24 of zero, and the next number of a track in 4.
+-- The fields are version 1 byte, flags 3, creation time t bytes at 12, modification time t, timescale 4, duration t,
+-- rate 4, volume 2, 10 bytes of zero, matrix 36, 24 bytes of zero, and the next number of a track in 4.
 use Rattle.std.specs.Prelude.{ℕ, ◌+◌, ◌*◌, List, [], ◌∷◌, ◌++◌}
 use Rattle.mp4_frame.specs.Bytes.{bytes_of_fields, full_box}
 use Rattle.mp4_frame.specs.Reading.{Reading}
@@ -11,7 +11,7 @@ use Rattle.mp4_frame.specs.declared.box_type.BoxType.TheVariants as names
 use Rattle.mp4_frame.specs.declared.codes.TheConstants as codes
 use Rattle.mp4_flat.specs.declared.mvhd.MvhdBox.{MvhdBox}
 
--- the value, where a time takes t bytes, where `at o w` is the number of w bytes at offset o
+-- the value, for times of t bytes, where `at o w` is the number of w bytes at offset o
 abbrev pub value_mvhd : ℕ → (ℕ → ℕ → ℕ) → MvhdBox
 value_mvhd t at = record {
   version = at 8 1;

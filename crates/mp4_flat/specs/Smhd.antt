@@ -1,5 +1,5 @@
--- smhd, the sound media header box (ISO/IEC 14496-12, 12.2.2): version 1 byte, flags 3, the balance in 2 bytes
--- at 12, signed, and 2 bytes of zero, which need not are present to be read.
+-- smhd, the sound media header box (ISO/IEC 14496-12, 12.2.2). The fields are version 1 byte, flags 3, the signed
+-- balance in 2 bytes at 12, and 2 bytes that are written as zero and need not be present to be read.
 use Rattle.std.specs.Prelude.{ℕ, FitsSigned, List, [], ◌∷◌, ◌++◌}
 use Rattle.std.specs.Int.{w16, cast_signed, cast_unsigned}
 use Rattle.mp4_frame.specs.Bytes.{number, bytes_of_fields, FieldsFit, full_box}

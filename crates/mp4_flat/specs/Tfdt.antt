@@ -1,5 +1,5 @@
--- tfdt, the track fragment decode time box (ISO/IEC 14496-12, 8.8.12): version 1 byte, which is 0 or 1,
--- flags 3, and the time at 12, in 4 bytes or 8.
+-- tfdt, the track fragment decode time box (ISO/IEC 14496-12, 8.8.12). The fields are version 1 byte, which is 0
+-- or 1, flags 3, and the time at 12, in 4 bytes (version 0) or 8 (version 1).
 use Rattle.std.specs.Prelude.{ℕ, ◌+◌, List, [], ◌∷◌, ◌++◌}
 use Rattle.mp4_frame.specs.Bytes.{bytes_of_fields, full_box}
 use Rattle.mp4_frame.specs.Reading.{Reading}
@@ -9,7 +9,7 @@ use Rattle.mp4_frame.specs.declared.box_type.BoxType.TheVariants as names
 use Rattle.mp4_frame.specs.declared.codes.TheConstants as codes
 use Rattle.mp4_flat.specs.declared.tfdt.TfdtBox.{TfdtBox}
 
--- the value, where a time takes t bytes, where `at o w` is the number of w bytes at offset o
+-- the value, for times of t bytes, where `at o w` is the number of w bytes at offset o
 abbrev pub value_tfdt : ℕ → (ℕ → ℕ → ℕ) → TfdtBox
 value_tfdt t at = record { version = at 8 1; flags = at 9 3; base_media_decode_time = at 12 t }
 

@@ -1,4 +1,4 @@
--- The laws of boxes that hold times, by their two versions.
+-- The laws of boxes with times, which have two versions.
 use Rattle.std.proofs.Common.{◌≡◌, ℕ, zero, suc, ◌+◌, ◌<◌, ◌≤◌, ltb, List, ◌++◌, Ok, refl, arith}
 use Rattle.std.proofs.lemmas.Bool.{lt-ltb, ltb-true}
 use Rattle.mp4_frame.specs.Bytes.{number, bytes_of_fields, width_of_fields}
@@ -15,18 +15,18 @@ each_version P p q (suc (suc n)) known = absurd (omega (arith, known))
 pub timed_size-known : (more : ℕ → ℕ) (version : ℕ) → version < 2 → timed_size more version ≡ more (time_width version)
 timed_size-known more = each_version (λ k. timed_size more k ≡ more (time_width k)) refl refl
 
--- what was written of the box at k reads back as its normal form, where a time is as wide as in version k
+-- the bytes of the box in version k are read as its normal form, with the width of a time in version k
 abbrev pub BackAt : {V : Type 0} → (ℕ → ℕ) → (ℕ → (ℕ → ℕ → ℕ) → V) → (V → List (ℕ × ℕ)) → (V → V) → (ℕ → V) → List ℕ → ℕ → Type 0
 BackAt more value fields normal at rest k =
     (found (fields (at k)) rest 8 1 ≡ k) × (12 + more (time_width k) ≤ width_of_fields (fields (at k))) × (value (time_width k) (found (fields (at k)) rest) ≡ normal (at k))
 
--- what holds of a box in version 0 and in version 1 holds of it
+-- a box that is read back in version 0 and in version 1 is read back
 pub timed_back : {V : Type 0} (more : ℕ → ℕ) (value : ℕ → (ℕ → ℕ → ℕ) → V) (fields : V → List (ℕ × ℕ)) (normal : V → V) (at : ℕ → V) (rest : List ℕ) (version : ℕ) → WritableTimed version (fields (at version)) → BackAt more value fields normal at rest 0 → BackAt more value fields normal at rest 1 → (reads_timed more value (bytes_of_fields (fields (at version)) ++ rest)).outcome ≡ Ok (normal (at version))
 timed_back more value fields normal at rest version w zeroth first =
     let back = each_version (BackAt more value fields normal at rest) zeroth first version w.known in
     by_version_again (λ k. ltb k 2) (λ k. more (time_width k)) (λ k. value (time_width k)) (fields (at version)) rest version (normal (at version)) w.fit back.0 (lt-ltb version 2 w.known) back.1 back.2
 
--- what was read has a known version, and the value of its numbers
+-- a box that was read has a known version, and is the value of its numbers
 pub timed_is : {V : Type 0} (more : ℕ → ℕ) (value : ℕ → (ℕ → ℕ → ℕ) → V) (bytes : List ℕ) (v : V) → (reads_timed more value bytes).outcome ≡ Ok v → (number bytes 8 1 < 2) × (value (time_width (number bytes 8 1)) (number bytes) ≡ v)
 timed_is more value bytes v e =
     let is = by_version_is (λ k. ltb k 2) (λ k. more (time_width k)) (λ k. value (time_width k)) bytes v e in

@@ -1,5 +1,6 @@
--- trex, the track extends box (ISO/IEC 14496-12, 8.8.3): version 1 byte, flags 3, the track in 4 bytes at 12,
--- and the defaults of a sample in 4 bytes each: description index at 16, duration at 20, size at 24, flags at 28.
+-- trex, the track extends box (ISO/IEC 14496-12, 8.8.3). The fields are version 1 byte, flags 3, the number of the
+-- track in 4 bytes at 12, and the defaults of a sample in 4 bytes each: description index at 16, duration at 20,
+-- size at 24, flags at 28.
 use Rattle.std.specs.Prelude.{ℕ, List, [], ◌∷◌, ◌++◌}
 use Rattle.mp4_frame.specs.Bytes.{number, bytes_of_fields, FieldsFit, full_box}
 use Rattle.mp4_frame.specs.Reading.{Reading, ◌>>=◌, expect_bytes, done}

@@ -1,5 +1,5 @@
--- vmhd, the video media header box (ISO/IEC 14496-12, 12.1.2): version 1 byte, flags 3, the graphics mode in
--- 2 bytes at 12, and a colour in 2 bytes each: red at 14, green at 16, blue at 18.
+-- vmhd, the video media header box (ISO/IEC 14496-12, 12.1.2). The fields are version 1 byte, flags 3, the graphics
+-- mode in 2 bytes at 12, and a colour in 2 bytes each: red at 14, green at 16, blue at 18.
 use Rattle.std.specs.Prelude.{ℕ, List, [], ◌∷◌, ◌++◌}
 use Rattle.mp4_frame.specs.Bytes.{number, bytes_of_fields, FieldsFit, full_box}
 use Rattle.mp4_frame.specs.Reading.{Reading, ◌>>=◌, expect_bytes, done}

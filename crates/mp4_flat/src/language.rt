@@ -1,4 +1,4 @@
-//! Languages, by three letters in one number.
+//! Language codes: three letters in one number.
 
 ghost use Rattle.std.specs.Prelude.{◌≡◌, ◌%◌, IfOk, IfErr, slice_index, drop, string_bytes};
 ghost use Rattle.std.specs.Str.{IsUtf8};
@@ -10,7 +10,7 @@ use mp4_frame::Result;
 use std::alloc::Global;
 use std::str::EncodeUtf16;
 
-/// The five low bits of the next unit, and 0 where there is none.
+/// The five low bits of the next UTF-16 unit; 0 if there is none.
 fn next_letter(units: &mut EncodeUtf16) -> u16
     requires { IsUtf8 (encode_utf16_rest units.old) }
     ensures letter { result ≡ slice_index (units_left units.old) 0 % 32 }
@@ -23,8 +23,8 @@ fn next_letter(units: &mut EncodeUtf16) -> u16
     }
 }
 
-/// The code of a language that is named by three letters (ISO/IEC 14496-12, 8.4.2): five bits of each of its
-/// first three units of UTF-16, the first in the highest place. A missing unit counts as 0.
+/// The code of a language with a name of three letters (ISO/IEC 14496-12, 8.4.2): the five low bits of each of the
+/// first three UTF-16 units, with the first unit in the highest bits. A missing unit counts as 0.
 #[tactic(auto, unfolding(crate::specs::Language::language_code))]
 pub fn language_code(language: &str) -> u16
     ensures { result ≡ language_code language.now }
@@ -36,7 +36,7 @@ pub fn language_code(language: &str) -> u16
     first * 1024 + second * 32 + third
 }
 
-/// The three letters of a code: each is 0x60 and five of its bits.
+/// The three letters of a code: each is 0x60 plus five bits of the code. The only error is out of memory.
 #[tactic(auto, using(crate::specs::LanguageLaws::letters_are_text), unfolding(crate::specs::Language::letters))]
 pub fn language_string(alloc: Global, code: u16) -> Result<String>
     ensures letters { IfOk result (λ text. string_bytes text ≡ letters code) }

@@ -1,4 +1,4 @@
-//! The flat boxes of an MP4 file: boxes of fixed fields.
+//! The flat boxes of an MP4 file: boxes with fixed fields.
 #![tactic(auto)]
 
 mod language;

@@ -1,4 +1,4 @@
-//! The transformation of a video.
+//! Transformation matrices of video.
 
 ghost use Rattle.std.specs.Prelude.{◌≡◌, ◌≤◌, ◌+◌, ◌↔◌, IsTrue, length, take};
 ghost use Rattle.mp4_frame.specs.Bytes.{number, bytes_of_fields_onto};
@@ -7,32 +7,32 @@ ghost use Rattle.mp4_flat.specs.Matrix.{matrix_at, fields_matrix, numbers_matrix
 use mp4_frame::{i32_at, put_i32};
 use std::fmt;
 
-/// How a video is transformed: the point (p, q) goes to (m / z, n / z), where m = a·p + c·q + x,
-/// n = b·p + d·q + y and z = u·p + v·q + w (ISO/IEC 14496-12, 6.2.2). The numbers have a fixed point, with
-/// 16 bits after it, and 30 bits in u, v and w.
+/// A transformation of video: the point (p, q) is mapped to (m / z, n / z), where m = a·p + c·q + x,
+/// n = b·p + d·q + y and z = u·p + v·q + w (ISO/IEC 14496-12, 6.2.2). The numbers are fixed-point: u, v and w have
+/// 30 bits after the point, the others 16.
 #[derive(Clone, Debug, Drop, PartialEq, Eq)]
 pub struct Matrix {
-    /// The weight of p in m.
+    /// The factor of p in m.
     pub a: i32,
-    /// The weight of p in n.
+    /// The factor of p in n.
     pub b: i32,
-    /// The weight of p in z.
+    /// The factor of p in z.
     pub u: i32,
-    /// The weight of q in m.
+    /// The factor of q in m.
     pub c: i32,
-    /// The weight of q in n.
+    /// The factor of q in n.
     pub d: i32,
-    /// The weight of q in z.
+    /// The factor of q in z.
     pub v: i32,
-    /// What is added to m.
+    /// The constant term of m.
     pub x: i32,
-    /// What is added to n.
+    /// The constant term of n.
     pub y: i32,
-    /// What is added to z.
+    /// The constant term of z.
     pub w: i32,
 }
 
-/// The matrix that leaves each point where it is.
+/// The identity: each point is mapped to itself.
 impl Default for Matrix {
     ghost use Rattle.mp4_flat.specs.Matrix.{unity};
 
@@ -53,7 +53,7 @@ impl Default for Matrix {
     }
 }
 
-/// The nine numbers in hexadecimal, those below zero by their two's complement.
+/// The nine numbers in hexadecimal; a negative number is printed as its two's complement.
 impl fmt::Display for Matrix {
     fn fmt<W: fmt::Write>(&self, f: &mut fmt::Formatter<W>) -> fmt::Result {
         write!(
@@ -65,7 +65,7 @@ impl fmt::Display for Matrix {
 }
 
 impl Matrix {
-    /// The numbers in the order of a file.
+    /// The numbers in the order of the file.
     fn numbers(&self) -> [i32; 9]
         ensures { result ≡ numbers_matrix self.now }
     {
@@ -75,15 +75,16 @@ impl Matrix {
     }
 }
 
-/// Every value is a matrix. The result is for the prover, which know nothing of the numbers after a reference.
+/// Always true. For the prover: a value that was read has the range of its type.
 pub fn is_matrix(matrix: &Matrix) -> bool
     ensures { IsTrue result ↔ IsMatrix matrix.now }
 {
+    // For the prover: a value that was read has the range of its type.
     let _numbers = matrix.numbers();
     true
 }
 
-/// The matrix at a place.
+/// The matrix at offset `at`.
 pub fn matrix_from(bytes: &[u8], at: usize) -> Matrix
     requires { at + 36 ≤ length bytes.now }
     ensures { result ≡ matrix_at (number bytes.now) at }

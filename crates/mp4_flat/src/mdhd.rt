@@ -14,27 +14,27 @@ use mp4_frame::{
 };
 use std::alloc::Global;
 
-/// What holds of the media of a track as a whole (`mdhd`, ISO/IEC 14496-12, 8.4.2).
+/// The media header: properties of the media of a track (`mdhd`, ISO/IEC 14496-12, 8.4.2).
 #[derive(Debug, Drop, PartialEq, Eq)]
 pub struct MdhdBox {
     /// 0, or 1 for times of 64 bits.
     pub version: u8,
     /// 24 bits, 0 in the standard.
     pub flags: u32,
-    /// When the media were made, in seconds from the beginning of 1904, UTC. 32 bits in version 0.
+    /// The creation time of the media, in seconds since the beginning of 1904, UTC. 32 bits in version 0.
     pub creation_time: u64,
-    /// When they were last changed, likewise.
+    /// The time of the last change, in seconds since the beginning of 1904, UTC. 32 bits in version 0.
     pub modification_time: u64,
-    /// How many units of time a second has.
+    /// The number of time units per second.
     pub timescale: u32,
-    /// How long the media are, in the timescale. 32 bits in version 0.
+    /// The duration of the media, in the timescale. 32 bits in version 0.
     pub duration: u64,
-    /// The language, by three letters (ISO 639-2/T). What is written is its `language_code`.
+    /// The language, by three letters (ISO 639-2/T). It is written as its `language_code`.
     pub language: Text,
 }
 
 impl MdhdBox {
-    /// Version 0, a timescale of 1000, and the undetermined language `und`; else zeros.
+    /// Version 0, a timescale of 1000, the undetermined language `und`, and zeros for the rest.
     pub fn default_in(alloc: Global) -> Result<MdhdBox>
         ensures default { IfOk result (λ v. v ≡ default_mdhd) }
         ensures memory { IfErr result (λ e. e ≡ Error.OutOfMemory) }
@@ -50,14 +50,14 @@ impl MdhdBox {
         })
     }
 
-    /// As `box_type`.
+    /// The same as `box_type`.
     pub fn get_type(&self) -> BoxType
         ensures { result ≡ names.MdhdBox }
     {
         self.box_type()
     }
 
-    /// As `box_size`.
+    /// The same as `box_size`.
     pub fn get_size(&self) -> u64
         ensures { result ≡ size_mdhd self.now }
     {
@@ -119,7 +119,7 @@ impl ReadBox for MdhdBox {
 impl WriteBox for MdhdBox {
     #[tactic(auto, using(crate::specs::LanguageLaws::language_fits))]
     fn is_writable(&self) -> bool {
-        // What a body reads is known to fit its type.
+        // For the prover: a value that was read has the range of its type.
         let _timescale = self.timescale;
         self.version < 2
             && self.flags < 1 << 24

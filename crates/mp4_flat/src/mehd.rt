@@ -13,26 +13,26 @@ use mp4_frame::{
 };
 use std::alloc::Global;
 
-/// How long a movie with fragments is (`mehd`, ISO/IEC 14496-12, 8.8.2).
+/// The movie extends header: the duration of a movie with fragments (`mehd`, ISO/IEC 14496-12, 8.8.2).
 #[derive(Clone, Debug, Default, Drop, PartialEq, Eq)]
 pub struct MehdBox {
     /// 0, or 1 for a duration of 64 bits.
     pub version: u8,
     /// 24 bits, 0 in the standard.
     pub flags: u32,
-    /// The length of the whole movie, in the timescale of the movie header. 32 bits in version 0.
+    /// The duration of the whole movie, in the timescale of the movie header. 32 bits in version 0.
     pub fragment_duration: u64,
 }
 
 impl MehdBox {
-    /// As `box_type`.
+    /// The same as `box_type`.
     pub fn get_type(&self) -> BoxType
         ensures { result ≡ names.MehdBox }
     {
         self.box_type()
     }
 
-    /// As `box_size`.
+    /// The same as `box_size`.
     pub fn get_size(&self) -> u64
         ensures { result ≡ size_mehd self.now }
     {

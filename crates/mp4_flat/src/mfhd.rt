@@ -12,14 +12,14 @@ use mp4_frame::{
 };
 use std::alloc::Global;
 
-/// Which fragment of a movie this is (`mfhd`, ISO/IEC 14496-12, 8.8.5).
+/// The movie fragment header: the number of a fragment (`mfhd`, ISO/IEC 14496-12, 8.8.5).
 #[derive(Clone, Debug, Drop, PartialEq, Eq)]
 pub struct MfhdBox {
     /// 0 in the standard. Every version is read and written alike.
     pub version: u8,
     /// 24 bits, 0 in the standard.
     pub flags: u32,
-    /// The number of the fragment, larger in each one that follows.
+    /// The number of the fragment. It increases from fragment to fragment.
     pub sequence_number: u32,
 }
 
@@ -36,14 +36,14 @@ impl Default for MfhdBox {
 }
 
 impl MfhdBox {
-    /// As `box_type`.
+    /// The same as `box_type`.
     pub fn get_type(&self) -> BoxType
         ensures { result ≡ names.MfhdBox }
     {
         self.box_type()
     }
 
-    /// As `box_size`.
+    /// The same as `box_size`.
     pub fn get_size(&self) -> u64
         ensures { result ≡ size_mfhd self.now }
     {
@@ -85,7 +85,7 @@ impl ReadBox for MfhdBox {
 
 impl WriteBox for MfhdBox {
     fn is_writable(&self) -> bool {
-        // What a body reads is known to fit its type.
+        // For the prover: a value that was read has the range of its type.
         let (_version, _sequence_number) = (self.version, self.sequence_number);
         self.flags < 1 << 24
     }

@@ -15,28 +15,28 @@ use mp4_frame::{
 use mp4_media::{FixedPointU8, FixedPointU16};
 use std::alloc::Global;
 
-/// What holds of a movie as a whole (`mvhd`, ISO/IEC 14496-12, 8.2.2).
+/// The movie header: properties of the whole movie (`mvhd`, ISO/IEC 14496-12, 8.2.2).
 #[derive(Clone, Debug, Drop, PartialEq, Eq)]
 pub struct MvhdBox {
     /// 0, or 1 for times of 64 bits.
     pub version: u8,
     /// 24 bits, 0 in the standard.
     pub flags: u32,
-    /// When the movie was made, in seconds from the beginning of 1904, UTC. 32 bits in version 0.
+    /// The creation time of the movie, in seconds since the beginning of 1904, UTC. 32 bits in version 0.
     pub creation_time: u64,
-    /// When it was last changed, likewise.
+    /// The time of the last change, in seconds since the beginning of 1904, UTC. 32 bits in version 0.
     pub modification_time: u64,
-    /// How many units of time a second has.
+    /// The number of time units per second.
     pub timescale: u32,
-    /// How long the longest track is, in the timescale. 32 bits in version 0.
+    /// The duration of the longest track, in the timescale. 32 bits in version 0.
     pub duration: u64,
-    /// How fast the movie is to be played: 1 is its own speed.
+    /// The preferred playback rate: 1 is normal speed.
     pub rate: FixedPointU16,
-    /// How loud it is to be played: 1 is full.
+    /// The preferred volume: 1 is full volume.
     pub volume: FixedPointU8,
-    /// How its pictures are transformed.
+    /// The transformation of the video.
     pub matrix: Matrix,
-    /// A number that no track of the movie has.
+    /// A track number that no track of the movie has.
     pub next_track_id: u32,
 }
 
@@ -62,14 +62,14 @@ impl Default for MvhdBox {
 }
 
 impl MvhdBox {
-    /// As `box_type`.
+    /// The same as `box_type`.
     pub fn get_type(&self) -> BoxType
         ensures { result ≡ names.MvhdBox }
     {
         self.box_type()
     }
 
-    /// As `box_size`.
+    /// The same as `box_size`.
     pub fn get_size(&self) -> u64
         ensures { result ≡ size_mvhd self.now }
     {
@@ -134,7 +134,7 @@ fn fits(
 ) -> bool
     ensures { IsTrue result ↔ WritableMvhd (record { version = version; flags = flags; creation_time = times.0; modification_time = times.1; timescale = timescale; duration = times.2; rate = rate; volume = volume; matrix = matrix.now; next_track_id = next_track_id }) }
 {
-    // What a body reads is known to fit its type.
+    // For the prover: a value that was read has the range of its type.
     let (_rate, _volume) = (rate.raw_value(), volume.raw_value());
     version < 2
         && flags < 1 << 24

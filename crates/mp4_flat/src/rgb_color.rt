@@ -1,12 +1,12 @@
-//! A colour.
+//! RGB colours.
 
-/// A colour without transparency. Each part has 16 bits, and 65535 is the brightest.
+/// An RGB colour, without transparency. Each component has 16 bits, and 65535 is the brightest.
 #[derive(Clone, Debug, Default, Drop, PartialEq, Eq)]
 pub struct RgbColor {
-    /// How much red.
+    /// The red component.
     pub red: u16,
-    /// How much green.
+    /// The green component.
     pub green: u16,
-    /// How much blue.
+    /// The blue component.
     pub blue: u16,
 }

@@ -13,14 +13,14 @@ use mp4_frame::{
 use mp4_media::FixedPointI8;
 use std::alloc::Global;
 
-/// Where a sound stands between left and right (`smhd`, ISO/IEC 14496-12, 12.2.2).
+/// The sound media header: the balance between left and right (`smhd`, ISO/IEC 14496-12, 12.2.2).
 #[derive(Clone, Debug, Drop, PartialEq, Eq)]
 pub struct SmhdBox {
     /// 0 in the standard. Every version is read and written alike.
     pub version: u8,
     /// 24 bits, 0 in the standard.
     pub flags: u32,
-    /// 0 is the middle, -1 full left and 1 full right.
+    /// The balance: 0 is the centre, -1 full left and 1 full right.
     pub balance: FixedPointI8,
 }
 
@@ -37,14 +37,14 @@ impl Default for SmhdBox {
 }
 
 impl SmhdBox {
-    /// As `box_type`.
+    /// The same as `box_type`.
     pub fn get_type(&self) -> BoxType
         ensures { result ≡ names.SmhdBox }
     {
         self.box_type()
     }
 
-    /// As `box_size`.
+    /// The same as `box_size`.
     pub fn get_size(&self) -> u64
         ensures { result ≡ size_smhd self.now }
     {
@@ -86,7 +86,7 @@ impl ReadBox for SmhdBox {
 
 impl WriteBox for SmhdBox {
     fn is_writable(&self) -> bool {
-        // What a body reads is known to fit its type.
+        // For the prover: a value that was read has the range of its type.
         let (_version, _balance) = (self.version, self.balance.raw_value());
         self.flags < 1 << 24
     }

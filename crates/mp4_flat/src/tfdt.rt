@@ -13,26 +13,27 @@ use mp4_frame::{
 };
 use std::alloc::Global;
 
-/// When the first sample of a fragment is decoded (`tfdt`, ISO/IEC 14496-12, 8.8.12).
+/// The decode time of the first sample of a track fragment (`tfdt`, ISO/IEC 14496-12, 8.8.12).
 #[derive(Clone, Debug, Default, Drop, PartialEq, Eq)]
 pub struct TfdtBox {
     /// 0, or 1 for a time of 64 bits.
     pub version: u8,
     /// 24 bits, 0 in the standard.
     pub flags: u32,
-    /// How long all earlier samples of the track last, in the timescale of the media. 32 bits in version 0.
+    /// The sum of the durations of all earlier samples of the track, in the timescale of the media. 32 bits in
+    /// version 0.
     pub base_media_decode_time: u64,
 }
 
 impl TfdtBox {
-    /// As `box_type`.
+    /// The same as `box_type`.
     pub fn get_type(&self) -> BoxType
         ensures { result ≡ names.TfdtBox }
     {
         self.box_type()
     }
 
-    /// As `box_size`.
+    /// The same as `box_size`.
     pub fn get_size(&self) -> u64
         ensures { result ≡ size_tfdt self.now }
     {

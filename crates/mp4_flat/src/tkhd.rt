@@ -17,32 +17,32 @@ use mp4_frame::{
 use mp4_media::{FixedPointU8, FixedPointU16};
 use std::alloc::Global;
 
-/// What holds of a track as a whole (`tkhd`, ISO/IEC 14496-12, 8.3.2).
+/// The track header: properties of a track (`tkhd`, ISO/IEC 14496-12, 8.3.2).
 #[derive(Clone, Debug, Drop, PartialEq, Eq)]
 pub struct TkhdBox {
     /// 0, or 1 for times of 64 bits.
     pub version: u8,
-    /// 24 bits, as `TrackFlag` names them.
+    /// 24 bits: the flags of `TrackFlag`.
     pub flags: u32,
-    /// When the track was made, in seconds from the beginning of 1904, UTC. 32 bits in version 0.
+    /// The creation time of the track, in seconds since the beginning of 1904, UTC. 32 bits in version 0.
     pub creation_time: u64,
-    /// When it was last changed, likewise.
+    /// The time of the last change, in seconds since the beginning of 1904, UTC. 32 bits in version 0.
     pub modification_time: u64,
-    /// The number of the track, which is not 0 in the standard.
+    /// The number of the track. It is not 0 in the standard.
     pub track_id: u32,
-    /// How long the track is, in the timescale of the movie header. 32 bits in version 0.
+    /// The duration of the track, in the timescale of the movie header. 32 bits in version 0.
     pub duration: u64,
-    /// Which tracks cover it: those of lower layers, by two's complement.
+    /// The front-to-back order of the track, a two's complement number. Tracks with a lower layer cover this one.
     pub layer: u16,
-    /// The group of tracks of which one is to be played, or 0.
+    /// The group of alternate tracks, of which one is to be played; or 0.
     pub alternate_group: u16,
-    /// How loud the track is to be played: 1 is full.
+    /// The volume of the track: 1 is full volume.
     pub volume: FixedPointU8,
-    /// How its pictures are transformed.
+    /// The transformation of the video.
     pub matrix: Matrix,
-    /// How wide its pictures are shown, in pixels.
+    /// The width at which the video is shown, in pixels.
     pub width: FixedPointU16,
-    /// How high its pictures are shown, in pixels.
+    /// The height at which the video is shown, in pixels.
     pub height: FixedPointU16,
 }
 
@@ -70,28 +70,28 @@ impl Default for TkhdBox {
 }
 
 impl TkhdBox {
-    /// As `box_type`.
+    /// The same as `box_type`.
     pub fn get_type(&self) -> BoxType
         ensures { result ≡ names.TkhdBox }
     {
         self.box_type()
     }
 
-    /// As `box_size`.
+    /// The same as `box_size`.
     pub fn get_size(&self) -> u64
         ensures { result ≡ size_tkhd self.now }
     {
         self.box_size()
     }
 
-    /// Shows the pictures so many pixels wide.
+    /// Sets the width to a whole number of pixels.
     pub fn set_width(&mut self, width: u16)
         ensures { self.new ≡ record self.old { width = scaled 65536 width } }
     {
         self.width = FixedPointU16::new(width);
     }
 
-    /// Shows the pictures so many pixels high.
+    /// Sets the height to a whole number of pixels.
     pub fn set_height(&mut self, height: u16)
         ensures { self.new ≡ record self.old { height = scaled 65536 height } }
     {
@@ -158,7 +158,7 @@ fn fits(
 ) -> bool
     ensures { IsTrue result ↔ WritableTkhd (record { version = version; flags = flags; creation_time = times.0; modification_time = times.1; track_id = track_id; duration = times.2; layer = layers.0; alternate_group = layers.1; volume = volume; matrix = matrix.now; width = shown.0; height = shown.1 }) }
 {
-    // What a body reads is known to fit its type.
+    // For the prover: a value that was read has the range of its type.
     let (_width, _height) = (shown.0.raw_value(), shown.1.raw_value());
     let _volume = volume.raw_value();
     version < 2

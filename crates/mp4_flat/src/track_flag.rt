@@ -1,8 +1,8 @@
-//! The flags of a track.
+//! The flags of a track header.
 
 /// A flag of a track header (ISO/IEC 14496-12, 8.3.2.3).
 #[derive(Drop)]
 pub enum TrackFlag {
-    /// The track is played.
+    /// The track is enabled: it is played.
     TrackEnabled = 1,
 }

@@ -12,18 +12,19 @@ use mp4_frame::{
 };
 use std::alloc::Global;
 
-/// What holds of the samples of a track where its fragments say nothing else (`trex`, ISO/IEC 14496-12, 8.8.3).
+/// The track extends box: the defaults for the samples of a track's fragments, where a fragment has no other value
+/// (`trex`, ISO/IEC 14496-12, 8.8.3).
 #[derive(Clone, Debug, Default, Drop, PartialEq, Eq)]
 pub struct TrexBox {
     /// 0 in the standard. Every version is read and written alike.
     pub version: u8,
     /// 24 bits, 0 in the standard.
     pub flags: u32,
-    /// The track.
+    /// The number of the track.
     pub track_id: u32,
-    /// Which entry of the sample description box describes a sample, from 1 on.
+    /// The index of the entry in the sample description box that describes a sample, from 1 on.
     pub default_sample_description_index: u32,
-    /// How long a sample lasts, in the timescale of the media.
+    /// The duration of a sample, in the timescale of the media.
     pub default_sample_duration: u32,
     /// The size of a sample, in bytes.
     pub default_sample_size: u32,
@@ -32,14 +33,14 @@ pub struct TrexBox {
 }
 
 impl TrexBox {
-    /// As `box_type`.
+    /// The same as `box_type`.
     pub fn get_type(&self) -> BoxType
         ensures { result ≡ names.TrexBox }
     {
         self.box_type()
     }
 
-    /// As `box_size`.
+    /// The same as `box_size`.
     pub fn get_size(&self) -> u64
         ensures { result ≡ size_trex self.now }
     {
@@ -85,7 +86,7 @@ impl ReadBox for TrexBox {
 
 impl WriteBox for TrexBox {
     fn is_writable(&self) -> bool {
-        // What a body reads is known to fit its type.
+        // For the prover: a value that was read has the range of its type.
         let (_version, _track_id) = (self.version, self.track_id);
         let (_index, _duration) = (
             self.default_sample_description_index,

@@ -13,28 +13,28 @@ use mp4_frame::{
 };
 use std::alloc::Global;
 
-/// How a video is laid over what is after it (`vmhd`, ISO/IEC 14496-12, 12.1.2).
+/// The video media header: how the video is composed with the existing image (`vmhd`, ISO/IEC 14496-12, 12.1.2).
 #[derive(Clone, Debug, Default, Drop, PartialEq, Eq)]
 pub struct VmhdBox {
     /// 0 in the standard. Every version is read and written alike.
     pub version: u8,
     /// 24 bits, 1 in the standard.
     pub flags: u32,
-    /// How the video is composed with what is after it: 0 copies it over.
+    /// The composition mode: 0 copies the video over the existing image.
     pub graphics_mode: u16,
-    /// The colour that the other modes work with.
+    /// The colour that the other modes use.
     pub op_color: RgbColor,
 }
 
 impl VmhdBox {
-    /// As `box_type`.
+    /// The same as `box_type`.
     pub fn get_type(&self) -> BoxType
         ensures { result ≡ names.VmhdBox }
     {
         self.box_type()
     }
 
-    /// As `box_size`.
+    /// The same as `box_size`.
     pub fn get_size(&self) -> u64
         ensures { result ≡ size_vmhd self.now }
     {
@@ -81,7 +81,7 @@ impl ReadBox for VmhdBox {
 
 impl WriteBox for VmhdBox {
     fn is_writable(&self) -> bool {
-        // What a body reads is known to fit its type.
+        // For the prover: a value that was read has the range of its type.
         let (_version, _graphics_mode) = (self.version, self.graphics_mode);
         let RgbColor { red, green, blue } = &self.op_color;
         let (_red, _green, _blue) = (*red, *green, *blue);

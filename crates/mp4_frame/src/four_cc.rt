@@ -129,7 +129,7 @@ impl TableEntry<4> for FourCC {
 pub fn is_four_cc(code: FourCC) -> bool
     ensures { IsTrue result ↔ IsFourCC code }
 {
-    let _code = code;
     // For the prover: a value that was read has the range of its type.
+    let _code = code;
     true
 }

@@ -1,4 +1,4 @@
--- A fault of a message is one of its box.
+-- A fault of the message is the fault of its box.
 use Rattle.std.proofs.Common.{◌≡◌, ℕ, ◌+◌, List, Ok, ap, subst, sym, ◌∙◌}
 use Rattle.mp4_frame.specs.Reading.{Refuses, expect_bytes}
 use Rattle.mp4_frame.specs.declared.error.Error.{Error}

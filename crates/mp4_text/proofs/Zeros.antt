@@ -1,4 +1,4 @@
--- Where the first zero byte stands.
+-- The index of the first zero byte.
 use Rattle.std.proofs.Common.{◌≡◌, ℕ, ◌≤◌, Bool, true, false, cond, ltb, List, length, Some, None, refl, arith}
 use Rattle.std.proofs.lemmas.Bool.{ltb-false}
 use Rattle.std.proofs.lemmas.List.Sums.{prefix_len-le-length}
@@ -10,7 +10,7 @@ by : (xs : List ℕ) (b : Bool) → ltb (position_or_len is_zero xs) (length xs)
 by xs true e = refl
 by xs false e = omega (arith, ltb-false (position_or_len is_zero xs) (length xs) e, prefix_len-le-length (λ x. not (is_zero x)) xs)
 
--- the place of the first zero byte, or else the length
+-- the index of the first zero byte, or the length if there is none
 pub place_or_length : (xs : List ℕ) → unwrap_or (position is_zero xs) (length xs) ≡ position_or_len is_zero xs
 place_or_length xs = by xs (ltb (position_or_len is_zero xs) (length xs)) refl
 

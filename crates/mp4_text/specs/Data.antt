@@ -1,5 +1,5 @@
--- data, the value of a metadata item (QuickTime's metadata, "Data atom"): the number of a data type of 4 bytes at
--- 8, 4 reserved bytes at 12, and the bytes of the value from 16 to the end.
+-- data, the value of a metadata item (QuickTime's metadata, "Data atom"). The fields are the number of the data type
+-- in 4 bytes at 8, 4 reserved bytes at 12, and the bytes of the value from 16 to the end.
 use Rattle.std.specs.Prelude.{ℕ, ◌+◌, ◌-◌, nat_le, List, [], ◌∷◌, ◌++◌, length, Option, Some, None}
 use Rattle.mp4_frame.specs.Bytes.{number, bytes_of_fields, FieldsFit}
 use Rattle.mp4_frame.specs.Reading.{Reading, Invalid, ◌>>=◌, expect_bytes, check, piece_at, memory, done, faults}
@@ -10,7 +10,7 @@ use Rattle.mp4_frame.specs.declared.box_type.BoxType.TheVariants as names
 use Rattle.mp4_frame.specs.declared.codes.TheConstants as codes
 use Rattle.mp4_text.specs.declared.data.DataBox.{DataBox}
 
--- a type that the table of data types has
+-- the data type, which is checked to be one of the table
 abbrev pub known_type : Option DataType → Reading DataType
 known_type (Some data_type) = done data_type
 known_type None = faults Invalid
@@ -31,7 +31,7 @@ size_data v = 16 + length v.data_bytes
 abbrev pub fields_data : DataBox → List (ℕ × ℕ)
 fields_data v = (4, size_data v) ∷ (4, codes.DATA) ∷ (4, number_data_type v.data_type) ∷ (4, 0) ∷ []
 
--- every number fits its bytes
+-- every number fits its field
 abbrev pub WritableData : DataBox → Type 0
 WritableData v = FieldsFit (fields_data v)
 

@@ -1,4 +1,4 @@
--- The laws of dinf, from those of dref alone.
+-- The laws of dinf follow from those of dref.
 use Rattle.std.proofs.Common.{◌≡◌, ℕ, ◌+◌, ◌<◌, ◌^◌, List, [], ◌∷◌, ◌++◌, Ok, Option, Some, None, refl, sym, ap, subst, ◌∙◌, arith, append_assoc, lit<}
 use Rattle.mp4_frame.specs.Format.{IsBox}
 use Rattle.mp4_frame.specs.Bytes.{bytes_of_fields, FieldsFit}

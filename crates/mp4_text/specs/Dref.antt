@@ -1,5 +1,6 @@
--- dref, the data references (ISO/IEC 14496-12, 8.7.2): version of 1 byte at 8, flags of 3 at 9, a count of 4 at
--- 12, and from 16 on at most that many boxes, of which the last url is the entry. Written: 1 and the entry, or 0.
+-- dref, the data references (ISO/IEC 14496-12, 8.7.2). The fields are version 1 byte at 8, flags 3 at 9, and a count
+-- of 4 at 12. From 16 on there are at most that many boxes, of which the last url is the entry. Written are the
+-- count 1 and the entry, or the count 0.
 use Rattle.std.specs.Prelude.{ℕ, ◌+◌, List, [], ◌∷◌, ◌++◌, Option}
 use Rattle.mp4_frame.specs.Bytes.{number, bytes_of_fields, FieldsFit, full_box}
 use Rattle.mp4_frame.specs.Children.{children}
@@ -28,7 +29,7 @@ size_dref v = 16 + size_optional format_url v.url
 abbrev pub fields_dref : DrefBox → List (ℕ × ℕ)
 fields_dref v = full_box (size_dref v) codes.DREF v.version v.flags ++ (4, count_optional v.url) ∷ []
 
--- every number fits its bytes, and the entry can be written
+-- every number fits its field, and the entry can be written
 pub record WritableDref (v : DrefBox) : Type 0 where
   pub fit : FieldsFit (fields_dref v)
   pub entry : WritableOptional format_url v.url

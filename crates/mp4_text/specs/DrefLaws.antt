@@ -1,4 +1,4 @@
--- The laws of dref, from those of url alone.
+-- The laws of dref follow from those of url.
 use Rattle.std.proofs.Common.{◌≡◌, ℕ, ◌<◌, ◌^◌, List, [], ◌∷◌, ◌++◌, length, Ok, Option, Some, refl, sym, ap, subst, ◌∙◌, arith, append_assoc, lit<, lit≤}
 use Rattle.mp4_frame.specs.Format.{IsBox}
 use Rattle.mp4_frame.specs.Bytes.{number, bytes_of_fields, FieldsFit}

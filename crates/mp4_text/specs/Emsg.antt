@@ -1,7 +1,7 @@
--- emsg, an event message (ISO/IEC 23009-1, 5.10.3.3): version of 1 byte at 8, which is 0 or 1, and flags of 3 at 9.
--- Version 0 has two texts from 12 on and then the numbers timescale, time delta, event duration and id, of 4 bytes
--- each; version 1 has the numbers at 12, with a time of 8 bytes, and the texts from 32 on. After them the message
--- goes up to the end.
+-- emsg, the event message box (ISO/IEC 23009-1, 5.10.3.3). The fields are version 1 byte at 8, which is 0 or 1, and
+-- flags 3 at 9. Version 0 has two zero-terminated strings from 12 on, and then the numbers timescale, time delta,
+-- event duration and id, of 4 bytes each. Version 1 has the numbers at 12, with a time of 8 bytes, and the strings
+-- from 32 on. The rest, up to the end, is the message.
 use Rattle.std.specs.Prelude.{◌≡◌, ℕ, ◌+◌, ◌-◌, ◌==◌, ◌&&◌, nat_le, Bool, true, List, [], ◌∷◌, ◌++◌, length, drop, Some, None, is_some, unwrap_or, if◌then◌else◌}
 use Rattle.mp4_frame.specs.Bytes.{number, bytes_of_fields, FieldsFit, full_box}
 use Rattle.mp4_frame.specs.Reading.{Reading, Invalid, ◌>>=◌, expect_bytes, check, piece_at, memory, done, faults}
@@ -11,7 +11,7 @@ use Rattle.mp4_frame.specs.declared.box_type.BoxType.TheVariants as names
 use Rattle.mp4_frame.specs.declared.codes.TheConstants as codes
 use Rattle.mp4_text.specs.declared.emsg.EmsgBox.{EmsgBox}
 
--- the message from o on, in a box of this size
+-- the message, from o to the end of a box of this size
 unfoldable pub message_from : List ℕ → ℕ → ℕ → Reading (List ℕ)
 message_from bytes size o = do
   _ ← check (nat_le o size)
@@ -23,7 +23,7 @@ message_from bytes size o = do
 abbrev pub value_emsg_0 : (ℕ → ℕ → ℕ) → (ℕ → ℕ → ℕ) → List ℕ × List ℕ → List ℕ → EmsgBox
 value_emsg_0 at numbers texts message = record { version = at 8 1; flags = at 9 3; timescale = numbers 0 4; presentation_time = None; presentation_time_delta = Some (numbers 4 4); event_duration = numbers 8 4; id = numbers 12 4; scheme_id_uri = texts.0; value = texts.1; message_data = message }
 
--- the value in version 1
+-- the value in version 1, likewise
 abbrev pub value_emsg_1 : (ℕ → ℕ → ℕ) → (ℕ → ℕ → ℕ) → List ℕ × List ℕ → List ℕ → EmsgBox
 value_emsg_1 at numbers texts message = record { version = at 8 1; flags = at 9 3; timescale = numbers 0 4; presentation_time = Some (numbers 4 8); presentation_time_delta = None; event_duration = numbers 12 4; id = numbers 16 4; scheme_id_uri = texts.0; value = texts.1; message_data = message }
 
@@ -41,7 +41,7 @@ reads_emsg_1 bytes size = do
   message ← message_from bytes size (behind 32 texts)
   done (value_emsg_1 (number bytes) (number (drop 12 bytes)) texts message)
 
--- what follows version and flags
+-- the fields after version and flags
 abbrev pub reads_emsg_version : ℕ → List ℕ → ℕ → Reading EmsgBox
 reads_emsg_version version bytes size =
     if version == 0 then reads_emsg_0 bytes size else if version == 1 then reads_emsg_1 bytes size else faults Invalid
@@ -51,7 +51,7 @@ reads_emsg bytes start size = do
   _ ← expect_bytes bytes 8 4
   reads_emsg_version (number bytes 8 1) bytes size
 
--- the bytes of the numbers and of the texts with their zero bytes; a version past 1 counts as version 1
+-- how many bytes the numbers and the zero-terminated strings have; every version but 0 counts as version 1
 abbrev pub size_middle : EmsgBox → ℕ
 size_middle v = (if v.version == 0 then 18 else 22) + length v.scheme_id_uri + length v.value
 
@@ -70,15 +70,15 @@ numbers_emsg_1 v = (4, v.timescale) ∷ (8, unwrap_or v.presentation_time 0) ∷
 abbrev pub texts_emsg : EmsgBox → List ℕ
 texts_emsg v = terminated v.scheme_id_uri ++ terminated v.value
 
--- the numbers and the texts, in the order of the version
+-- the bytes of the numbers and the strings, in the order of the version
 abbrev pub middle_emsg : EmsgBox → List ℕ
 middle_emsg v = if v.version == 0 then texts_emsg v ++ bytes_of_fields (numbers_emsg_0 v) else bytes_of_fields (numbers_emsg_1 v) ++ texts_emsg v
 
--- the version is 0 or 1, and its time is there
+-- the version is 0 or 1, and has its time
 abbrev pub has_time : EmsgBox → Bool
 has_time v = if v.version == 0 then is_some v.presentation_time_delta else (v.version == 1) && is_some v.presentation_time
 
--- every number fits its bytes, the version has its time, and zero bytes can end the texts
+-- every number fits its field, the version has its time, and the strings can be zero-terminated
 pub record WritableEmsg (v : EmsgBox) : Type 0 where
   pub fit : FieldsFit (fields_emsg v)
   pub fit_0 : FieldsFit (numbers_emsg_0 v)
@@ -90,7 +90,7 @@ pub record WritableEmsg (v : EmsgBox) : Type 0 where
 unfoldable pub bytes_emsg : EmsgBox → List ℕ
 bytes_emsg v = bytes_of_fields (fields_emsg v) ++ (middle_emsg v ++ v.message_data)
 
--- without the time of the other version
+-- the normal form lacks the time of the other version
 abbrev pub normal_emsg : EmsgBox → EmsgBox
 normal_emsg v = if v.version == 0 then record v { presentation_time = None } else record v { presentation_time_delta = None }
 

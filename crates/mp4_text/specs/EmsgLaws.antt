@@ -30,14 +30,14 @@ normal_emsg_0 v = record v { presentation_time = None }
 abbrev normal_emsg_1 : EmsgBox → EmsgBox
 normal_emsg_1 v = record v { presentation_time_delta = None }
 
--- the version decides which time there is
+-- the time of the version is present
 time_is : (v : EmsgBox) (b : Bool) → (v.version == 0) ≡ b → WritableEmsg v → cond b (is_some v.presentation_time_delta) ((v.version == 1) && is_some v.presentation_time) ≡ true
 time_is v b e w = sym (ap (λ (b : Bool). cond b (is_some v.presentation_time_delta) ((v.version == 1) && is_some v.presentation_time)) e) ∙ w.time
 
 is_normal : (v n : EmsgBox) → normal_emsg v ≡ n → WritableEmsg n → normal_emsg n ≡ n → bytes_emsg n ≡ bytes_emsg v → Normal WritableEmsg bytes_emsg normal_emsg v
 is_normal v n is w again same = record { writable = subst WritableEmsg (sym is) w; again = ap normal_emsg is ∙ again ∙ sym is; same_bytes = ap bytes_emsg is ∙ same }
 
--- the bytes by the version, with the time of each version from a value of its own
+-- the bytes of v in version 0 (with the numbers of v0) or in version 1 (with the numbers of v1)
 abbrev written : EmsgBox → EmsgBox → EmsgBox → Bool → List ℕ
 written v v0 v1 b = bytes_of_fields (fields_emsg v) ++ (cond b (texts_emsg v ++ bytes_of_fields (numbers_emsg_0 v0)) (bytes_of_fields (numbers_emsg_1 v1) ++ texts_emsg v) ++ v.message_data)
 
@@ -70,7 +70,7 @@ normal_by v false e w =
     (ap (λ (b : Bool). cond b (normal_emsg_0 n) n) e)
     (ap (written v n v) e ∙ sym (ap (written v v v) e))
 
--- a message up to the end is read back
+-- a message that goes up to the end of the box is read back
 message_back : (x message y : List ℕ) (size o : ℕ) → length x ≡ o → size ≡ o + length message → message_from (x ++ (message ++ y)) size o ≡ taken message
 unfolding message_from
 message_back x message y size o at whole =
@@ -129,7 +129,7 @@ back_1 v rest w e =
     let time : is_some v.presentation_time ≡ true = (and_parts (v.version == 1) (is_some v.presentation_time) (time_is v false e w)).1 in
     rw (present, two, message, head, numbers) (ap (λ (time : Option ℕ). Ok (record v { presentation_time = time; presentation_time_delta = None })) (some_is v.presentation_time time))
 
--- version and flags, and then what follows
+-- version and flags, and then the fields after them
 begun : (v : EmsgBox) (tail : List ℕ) (start : ℕ) (o : Result EmsgBox Fault) → WritableEmsg v
     → (reads_emsg_version v.version (bytes_of_fields (fields_emsg v) ++ tail) (size_emsg v)).outcome ≡ o → (reads_emsg (bytes_of_fields (fields_emsg v) ++ tail) start (size_emsg v)).outcome ≡ o
 unfolding reads_emsg
@@ -139,7 +139,7 @@ begun v tail start o w later =
     outcome_bind (expect_bytes B 8 4) (λ _. reads_emsg_version (number B 8 1) B (size_emsg v)) tt o (ap (λ (r : Reading (Unit {0})). r.outcome) (expect_bytes-fields cs tail 8 4 (lit≤ tt)))
     (ap (λ (version : ℕ). (reads_emsg_version version B (size_emsg v)).outcome) (number-fields cs tail 8 1 w.fit) ∙ later)
 
--- what the version puts after version and flags
+-- the fields after version and flags, by the version
 by_version : (v : EmsgBox) (rest : List ℕ) (b : Bool) → (v.version == 0) ≡ b → WritableEmsg v
     → (let B = bytes_of_fields (fields_emsg v) ++ (cond b (texts_emsg v ++ bytes_of_fields (numbers_emsg_0 v)) (bytes_of_fields (numbers_emsg_1 v) ++ texts_emsg v) ++ (v.message_data ++ rest)) in
     (cond b (reads_emsg_0 B (size_emsg v)) (cond (v.version == 1) (reads_emsg_1 B (size_emsg v)) (faults Invalid))).outcome ≡ Ok (cond b (normal_emsg_0 v) (normal_emsg_1 v)))
@@ -151,7 +151,7 @@ by_version v rest false e w =
     rw one (ap (λ (l : List ℕ). (reads_emsg_1 (bytes_of_fields (fields_emsg v) ++ l) (size_emsg v)).outcome) (append_assoc (bytes_of_fields (numbers_emsg_1 v)) (texts_emsg v) (v.message_data ++ rest))
     ∙ back_1 v rest w e)
 
--- what is read is its own normal form, and writable unless it is too long
+-- a value that was read is its own normal form, and can be written unless it is too large
 abbrev IsSound : EmsgBox → Type 0
 IsSound v = (normal_emsg v ≡ v) × (size_emsg v < 2 ^ 32 → WritableEmsg v)
 

@@ -1,5 +1,5 @@
--- ftyp, the file type box (ISO/IEC 14496-12, 4.3): a size of at least 16 and a multiple of 4, a major brand
--- of 4 bytes at 8, a minor version of 4 at 12, and brands of 4 bytes each from 16 to the end.
+-- ftyp, the file type box (ISO/IEC 14496-12, 4.3). Its size is at least 16 and a multiple of 4. The fields are a
+-- major brand of 4 bytes at 8, a minor version of 4 at 12, and brands of 4 bytes each from 16 to the end.
 use Rattle.std.specs.Prelude.{ℕ, ◌+◌, ◌-◌, ◌*◌, ◌/◌, ◌%◌, ◌==◌, ◌&&◌, nat_le, List, [], ◌∷◌, ◌++◌, All, length, map, flat_map}
 use Rattle.mp4_frame.specs.Bytes.{number, bytes_of_fields, FieldsFit}
 use Rattle.mp4_frame.specs.FourCC.{four_cc_of, number_of, IsFourCC}
@@ -11,7 +11,7 @@ use Rattle.mp4_frame.specs.declared.box_type.BoxType.TheVariants as names
 use Rattle.mp4_frame.specs.declared.codes.TheConstants as codes
 use Rattle.mp4_text.specs.declared.ftyp.FtypBox.{FtypBox}
 
--- the brand in a row
+-- the brand that a row holds
 abbrev pub brand_of : List ℕ → FourCC
 brand_of row = record { value = row }
 
@@ -33,7 +33,7 @@ size_ftyp v = 16 + 4 * length v.compatible_brands
 abbrev pub fields_ftyp : FtypBox → List (ℕ × ℕ)
 fields_ftyp v = (4, size_ftyp v) ∷ (4, codes.FTYP) ∷ (4, number_of v.major_brand) ∷ (4, v.minor_version) ∷ []
 
--- every number fits its bytes, and every brand has four
+-- every number fits its field, and every brand has four bytes
 pub record WritableFtyp (v : FtypBox) : Type 0 where
   pub fit : FieldsFit (fields_ftyp v)
   pub major : IsFourCC v.major_brand

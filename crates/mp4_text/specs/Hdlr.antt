@@ -1,6 +1,6 @@
--- hdlr, the handler of a track or of metadata (ISO/IEC 14496-12, 8.4.3): version of 1 byte at 8, flags of 3 at 9,
--- 4 reserved bytes at 12, the handler type of 4 at 16, a gap of 12 at 20, and a name from 32 on, with a zero byte
--- after it that ends the box.
+-- hdlr, the handler box (ISO/IEC 14496-12, 8.4.3). The fields are version 1 byte at 8, flags 3 at 9, 4 reserved
+-- bytes at 12, the handler type of 4 at 16, 12 bytes of zero at 20 which need not be present to be read, and a name
+-- from 32 on. The box ends with a zero byte after the name; this byte too need not be present to be read.
 use Rattle.std.specs.Prelude.{ℕ, ◌+◌, ◌-◌, nat_le, List, [], ◌∷◌, ◌++◌, length, codes}
 use Rattle.std.specs.Str.{IsUtf8}
 use Rattle.mp4_frame.specs.Bytes.{number, bytes_of_fields, FieldsFit, full_box}
@@ -32,7 +32,7 @@ size_hdlr v = 33 + length v.name
 abbrev pub fields_hdlr : HdlrBox → List (ℕ × ℕ)
 fields_hdlr v = full_box (size_hdlr v) codes.HDLR v.version v.flags ++ (4, 0) ∷ (4, number_of v.handler_type) ∷ (12, 0) ∷ []
 
--- every number fits its bytes, the handler type has four, and the name is UTF-8
+-- every number fits its field, the handler type has four bytes, and the name is UTF-8
 pub record WritableHdlr (v : HdlrBox) : Type 0 where
   pub fit : FieldsFit (fields_hdlr v)
   pub handler : IsFourCC v.handler_type

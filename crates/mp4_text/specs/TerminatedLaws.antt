@@ -1,4 +1,4 @@
--- A text that was written with its zero byte is read back, and what is read can be written so.
+-- A zero-terminated string that was written is read back, and a string that was read can be written.
 use Rattle.std.proofs.Common.{◌≡◌, ℕ, suc, ◌+◌, ◌≤◌, Bool, true, false, cond, ◌||◌, List, [], ◌∷◌, ◌++◌, length, take, drop, Ok, refl, ap, subst, ◌∙◌, arith, length-append, append_assoc}
 use Rattle.std.proofs.lemmas.Bool.{or_parts}
 use Rattle.std.proofs.lemmas.List.{drop_at, take_at}
@@ -12,7 +12,7 @@ use Rattle.mp4_frame.proofs.Tables.{value_first}
 use Rattle.mp4_frame.specs.TextLaws.{utf8_passes}
 use Rattle.mp4_text.specs.Terminated.{is_zero, before_zero, utf8_text, terminated_text, two_texts, terminated, IsTerminable}
 
--- a value for which memory was asked
+-- a reading of this value that asks for memory
 abbrev pub taken : {A : Type 0} → A → Reading A
 taken v = record { asks_memory = true; outcome = Ok v }
 
@@ -34,7 +34,7 @@ text_back x text y o at is =
     ap (λ (l : List ℕ). expect_bytes B o (length l + 1) >>= λ _. utf8_text l >>= λ text. memory >>= λ _. done text) t
     ∙ rw (expect_bytes_present B o (length text + 1) room, utf8_passes text is.utf8) refl
 
--- two texts are read back
+-- two strings are read back
 pub two_back : (x s t y : List ℕ) (o : ℕ) → length x ≡ o → IsTerminable s → IsTerminable t → two_texts (x ++ ((terminated s ++ terminated t) ++ y)) o ≡ taken (s, t)
 unfolding two_texts
 two_back x s t y o at is it =

@@ -1,5 +1,6 @@
--- url, a data entry that is a URL (ISO/IEC 14496-12, 8.7.2): version of 1 byte at 8, flags of 3 at 9, and, in a
--- box of 13 bytes or more, a location from 12 on, with a zero byte after it that ends the box.
+-- url, a data entry that is a URL (ISO/IEC 14496-12, 8.7.2). The fields are version 1 byte at 8, flags 3 at 9, and,
+-- in a box of 13 bytes or more, a location from 12 on. Such a box ends with a zero byte after the location, which
+-- need not be present to be read.
 use Rattle.std.specs.Prelude.{ℕ, ◌+◌, ◌-◌, nat_lt, ◌==◌, List, [], ◌++◌, length, if◌then◌else◌}
 use Rattle.std.specs.Str.{IsUtf8}
 use Rattle.mp4_frame.specs.Bytes.{number, bytes_of_fields, FieldsFit, full_box}
@@ -15,7 +16,7 @@ use Rattle.mp4_text.specs.declared.url.UrlBox.{UrlBox}
 abbrev pub value_url : (ℕ → ℕ → ℕ) → List ℕ → UrlBox
 value_url at location = record { version = at 8 1; flags = at 9 3; location = location }
 
--- a location of this many bytes, which is empty where they are not UTF-8
+-- the value with a location of this many bytes; the location is empty if they are not UTF-8
 abbrev pub reads_location : List ℕ → ℕ → Reading UrlBox
 reads_location bytes long = do
   found ← piece_at bytes 12 long
@@ -27,7 +28,7 @@ reads_url bytes start size = do
   _ ← expect_bytes bytes 8 4
   if nat_lt size 13 then done (value_url (number bytes) []) else reads_location bytes (size - 13)
 
--- a location is written with a zero byte after it, an empty one not at all
+-- a location is written with a zero byte after it; for an empty location nothing is written
 abbrev pub bytes_location : List ℕ → List ℕ
 bytes_location location = if length location == 0 then [] else terminated location
 
@@ -37,7 +38,7 @@ size_url v = if length v.location == 0 then 12 else 13 + length v.location
 abbrev pub fields_url : UrlBox → List (ℕ × ℕ)
 fields_url v = full_box (size_url v) codes.URL v.version v.flags
 
--- every number fits its bytes, and the location is UTF-8
+-- every number fits its field, and the location is UTF-8
 pub record WritableUrl (v : UrlBox) : Type 0 where
   pub fit : FieldsFit (fields_url v)
   pub text : IsUtf8 v.location

@@ -20,12 +20,12 @@ use std::alloc::Global;
 pub struct DataBox {
     /// The bytes of the value.
     pub data_bytes: Entries<u8>,
-    /// What the bytes are.
+    /// The type of the bytes.
     pub data_type: DataType,
 }
 
 impl DataBox {
-    /// No bytes, of type `Binary`. No memory is taken.
+    /// No bytes, of type `Binary`. It takes no memory.
     pub fn default_in(alloc: Global) -> DataBox
         ensures { result ≡ record { data_bytes = []; data_type = types.Binary } }
     {
@@ -35,14 +35,14 @@ impl DataBox {
         }
     }
 
-    /// As `box_type`.
+    /// The same as `box_type`.
     pub fn get_type(&self) -> BoxType
         ensures { result ≡ names.DataBox }
     {
         self.box_type()
     }
 
-    /// As `box_size`.
+    /// The same as `box_size`.
     pub fn get_size(&self) -> u64
         ensures { result ≡ min (size_data self.now) (2 ^ 64 - 1) }
     {
@@ -88,7 +88,7 @@ impl ReadBox for DataBox {
     }
 }
 
-/// The number of a type.
+/// The number of a data type.
 fn number_of(data_type: &DataType) -> u32
     ensures { result ≡ number_data_type data_type.now }
 {

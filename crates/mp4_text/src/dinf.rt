@@ -1,4 +1,4 @@
-//! The box of the data references.
+//! The data information box.
 
 ghost use Rattle.std.specs.Prelude.{◌≡◌, ◌-◌, ◌^◌, [], min};
 ghost use Rattle.mp4_frame.specs.declared.box_type.BoxType.TheVariants as names;
@@ -13,43 +13,43 @@ use mp4_frame::{
 };
 use std::alloc::Global;
 
-/// The box that holds the data references of a track (`dinf`, ISO/IEC 14496-12, 8.7.1). Boxes other than
-/// `dref` are skipped in reading; of several `dref` the last is kept.
+/// The data information box, which holds the data references of a track (`dinf`, ISO/IEC 14496-12, 8.7.1). When it
+/// is read, boxes other than `dref` are skipped, and the last of several `dref` is kept.
 #[derive(Debug, Drop, PartialEq, Eq)]
 pub struct DinfBox {
     dref: DrefBox,
 }
 
 impl DinfBox {
-    /// The box of these references.
+    /// The box with these references.
     pub fn new(dref: DrefBox) -> DinfBox
         ensures { result ≡ record { dref = dref } }
     {
         DinfBox { dref }
     }
 
-    /// The references.
+    /// The data references.
     pub fn dref(&self) -> &DrefBox
         ensures { result.now ≡ self.now.dref }
     {
         &self.dref
     }
 
-    /// The box of the default references. No memory is taken.
+    /// The box with the default references. It takes no memory.
     pub fn default_in(alloc: Global) -> DinfBox
         ensures { result ≡ record { dref = record { version = 0; flags = 0; url = Some (record { version = 0; flags = 1; location = [] }) } } }
     {
         DinfBox::new(DrefBox::default_in(alloc))
     }
 
-    /// As `box_type`.
+    /// The same as `box_type`.
     pub fn get_type(&self) -> BoxType
         ensures { result ≡ names.DinfBox }
     {
         self.box_type()
     }
 
-    /// As `box_size`.
+    /// The same as `box_size`.
     pub fn get_size(&self) -> u64
         ensures { result ≡ min (size_dinf self.now) (2 ^ 64 - 1) }
     {

@@ -1,4 +1,4 @@
-//! The data references.
+//! The data reference box.
 
 ghost use Rattle.std.specs.Prelude.{◌≡◌, ◌-◌, ◌^◌, [], min};
 ghost use Rattle.mp4_frame.specs.declared.box_type.BoxType.TheVariants as names;
@@ -13,20 +13,20 @@ use mp4_frame::{
 };
 use std::alloc::Global;
 
-/// Where the media data of a track stands (`dref`, ISO/IEC 14496-12, 8.7.2). Entries other than `url ` are
-/// skipped in reading; of several `url ` the last is kept.
+/// The data references: where the media data of a track is (`dref`, ISO/IEC 14496-12, 8.7.2). When it is read,
+/// entries other than `url ` are skipped, and the last of several `url ` is kept.
 #[derive(Debug, Drop, PartialEq, Eq)]
 pub struct DrefBox {
     /// The version of the box, usually 0. It is kept as it is.
     pub version: u8,
     /// Flags, below 2^24, usually 0.
     pub flags: u32,
-    /// The one entry, if there is one.
+    /// The `url ` entry, if there is one.
     pub url: Option<UrlBox>,
 }
 
 impl DrefBox {
-    /// One entry, which says that the data stands in the same file. No memory is taken.
+    /// One entry, which says that the data is in the same file. It takes no memory.
     pub fn default_in(alloc: Global) -> DrefBox
         ensures { result ≡ record { version = 0; flags = 0; url = Some (record { version = 0; flags = 1; location = [] }) } }
     {
@@ -37,14 +37,14 @@ impl DrefBox {
         }
     }
 
-    /// As `box_type`.
+    /// The same as `box_type`.
     pub fn get_type(&self) -> BoxType
         ensures { result ≡ names.DrefBox }
     {
         self.box_type()
     }
 
-    /// As `box_size`.
+    /// The same as `box_size`.
     pub fn get_size(&self) -> u64
         ensures { result ≡ min (size_dref self.now) (2 ^ 64 - 1) }
     {
@@ -105,6 +105,7 @@ impl ReadBox for DrefBox {
 
 impl WriteBox for DrefBox {
     fn is_writable(&self) -> bool {
+        // For the prover: a value that was read has the range of its type.
         let _version = self.version;
         if let Some(url) = &self.url {
             if !url.is_writable() {

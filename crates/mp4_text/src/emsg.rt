@@ -1,4 +1,4 @@
-//! An event message.
+//! The event message box.
 
 ghost use Rattle.std.specs.Prelude.{◌≡◌, ◌↔◌, ◌+◌, ◌-◌, ◌≤◌, ◌^◌, ◌++◌, ◌∷◌, [], None, IsTrue, length, min, take};
 ghost use Rattle.mp4_frame.specs.Bytes.{bytes_of_fields};
@@ -19,31 +19,31 @@ use std::alloc::Global;
 /// An event message (`emsg`, ISO/IEC 23009-1, 5.10.3.3).
 #[derive(Debug, Drop, PartialEq, Eq)]
 pub struct EmsgBox {
-    /// 0 or 1: which of the two times the box has.
+    /// 0 or 1. It says which of the two times the box has.
     pub version: u8,
     /// Flags, below 2^24, usually 0.
     pub flags: u32,
-    /// The units of the times in a second.
+    /// The number of time units per second.
     pub timescale: u32,
-    /// In version 1, when the event begins, from the start of the presentation on. Version 0 doesn't write it.
+    /// In version 1, the time of the event from the start of the presentation. Version 0 doesn't write it.
     pub presentation_time: Option<u64>,
-    /// In version 0, when the event begins, from the start of the segment on. Version 1 doesn't write it.
+    /// In version 0, the time of the event from the start of the segment. Version 1 doesn't write it.
     pub presentation_time_delta: Option<u32>,
-    /// How long the event lasts.
+    /// The duration of the event.
     pub event_duration: u32,
     /// The number of the event.
     pub id: u32,
-    /// The scheme that says what the message means, with no zero byte in it.
+    /// The scheme, which says what the message means. It has no zero byte in it.
     pub scheme_id_uri: Text,
-    /// The value of the scheme, with no zero byte in it.
+    /// The value for the scheme. It has no zero byte in it.
     pub value: Text,
     /// The message.
     pub message_data: Entries<u8>,
 }
 
 impl EmsgBox {
-    /// Zeros, no times, no texts and no message, which can't be written until the box has a time. No memory is
-    /// taken.
+    /// Zeros, no times, empty strings and no message. It can't be written until the time of its version is set. It
+    /// takes no memory.
     pub fn default_in(alloc: Global) -> EmsgBox
         ensures { result ≡ record { version = 0; flags = 0; timescale = 0; presentation_time = None; presentation_time_delta = None; event_duration = 0; id = 0; scheme_id_uri = []; value = []; message_data = [] } }
     {
@@ -95,7 +95,7 @@ impl Mp4Box for EmsgBox {
     }
 }
 
-/// Reads the message from a place on, in a box of this size.
+/// Reads the message, from offset `at` to the end of a box of this size. Invalid data if the box ends before `at`.
 #[tactic(auto, unfolding(crate::specs::Emsg::message_from))]
 fn message_at(alloc: Global, bytes: &[u8], size: u64, at: usize) -> Result<Entries<u8>>
     ensures { Answers result (message_from bytes.now size at) }
@@ -105,7 +105,7 @@ fn message_at(alloc: Global, bytes: &[u8], size: u64, at: usize) -> Result<Entri
     Ok(Vec::from_slice(alloc, message)?.into())
 }
 
-/// Reads a box of version 0, in which the texts stand before the numbers.
+/// Reads a box of version 0, in which the strings are before the numbers.
 #[tactic(auto, unfolding(crate::specs::Emsg::reads_emsg_0))]
 fn read_version_0(alloc: Global, bytes: &[u8], size: u64) -> Result<EmsgBox>
     requires { 12 ≤ length bytes.now }
@@ -130,7 +130,7 @@ fn read_version_0(alloc: Global, bytes: &[u8], size: u64) -> Result<EmsgBox>
     })
 }
 
-/// Reads a box of version 1, in which the numbers stand before the texts.
+/// Reads a box of version 1, in which the numbers are before the strings.
 #[tactic(auto, unfolding(crate::specs::Emsg::reads_emsg_1))]
 fn read_version_1(alloc: Global, bytes: &[u8], size: u64) -> Result<EmsgBox>
     requires { 12 ≤ length bytes.now }
@@ -185,6 +185,7 @@ fn fits(
     requires { size ≡ min (size_emsg (record { version = version; flags = flags; timescale = timescale; presentation_time = presentation_time; presentation_time_delta = presentation_time_delta; event_duration = event_duration; id = id; scheme_id_uri = scheme_id_uri.now; value = value.now; message_data = message_data.now })) (2 ^ 64 - 1) }
     ensures { IsTrue result ↔ WritableEmsg (record { version = version; flags = flags; timescale = timescale; presentation_time = presentation_time; presentation_time_delta = presentation_time_delta; event_duration = event_duration; id = id; scheme_id_uri = scheme_id_uri.now; value = value.now; message_data = message_data.now }) }
 {
+    // For the prover: a value that was read has the range of its type.
     let _time = presentation_time.unwrap_or(0);
     let _delta = presentation_time_delta.unwrap_or(0);
     let has_time = if version == 0 {
@@ -240,7 +241,7 @@ fn put_numbers_1(
 }
 
 impl EmsgBox {
-    /// Puts the two texts, and returns the offset after them.
+    /// Puts the two strings, and returns the offset after them.
     fn put_texts(&self, out: &mut [u8], at: usize) -> usize
         requires { at + length self.now.scheme_id_uri + length self.now.value + 2 ≤ length out.old }
         ensures next { result ≡ at + length self.now.scheme_id_uri + length self.now.value + 2 }
@@ -250,7 +251,7 @@ impl EmsgBox {
         put_terminated(out, at, self.value.as_bytes())
     }
 
-    /// Puts the numbers and the texts, and returns the offset after them.
+    /// Puts the numbers and the strings, and returns the offset after them.
     fn put_middle(&self, out: &mut [u8], at: usize) -> usize
         requires { at + size_middle self.now ≤ length out.old }
         ensures next { result ≡ at + size_middle self.now }

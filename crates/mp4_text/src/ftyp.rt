@@ -12,19 +12,19 @@ use mp4_frame::{
 };
 use std::alloc::Global;
 
-/// Which specifications a file follows (`ftyp`, ISO/IEC 14496-12, 4.3).
+/// The specifications that a file follows (`ftyp`, ISO/IEC 14496-12, 4.3).
 #[derive(Debug, Drop, PartialEq, Eq)]
 pub struct FtypBox {
-    /// The specification that the file serves best.
+    /// The brand of the specification that suits the file best.
     pub major_brand: FourCC,
     /// The version of that specification, for information only.
     pub minor_version: u32,
-    /// All specifications that the file follows.
+    /// The brands of all specifications that the file follows.
     pub compatible_brands: Entries<FourCC>,
 }
 
 impl FtypBox {
-    /// A brand of four zeros, version 0 and no compatible brands. No memory is taken.
+    /// A brand of four zeros, version 0 and no compatible brands. It takes no memory.
     pub fn default_in(alloc: Global) -> FtypBox
         ensures { result ≡ record { major_brand = record { value = replicate 4 0 }; minor_version = 0; compatible_brands = [] } }
     {
@@ -35,14 +35,14 @@ impl FtypBox {
         }
     }
 
-    /// As `box_type`.
+    /// The same as `box_type`.
     pub fn get_type(&self) -> BoxType
         ensures { result ≡ names.FtypBox }
     {
         self.box_type()
     }
 
-    /// As `box_size`.
+    /// The same as `box_size`.
     pub fn get_size(&self) -> u64
         ensures { result ≡ min (size_ftyp self.now) (2 ^ 64 - 1) }
     {

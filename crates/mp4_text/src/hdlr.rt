@@ -1,4 +1,4 @@
-//! The handler of a track or of metadata.
+//! The handler box.
 
 ghost use Rattle.std.specs.Prelude.{◌≡◌, ◌↔◌, ◌+◌, ◌-◌, ◌^◌, [], IsTrue, length, min, replicate};
 ghost use Rattle.mp4_frame.specs.declared.box_type.BoxType.TheVariants as names;
@@ -14,21 +14,21 @@ use mp4_frame::{
 };
 use std::alloc::Global;
 
-/// What a track or metadata is for (`hdlr`, ISO/IEC 14496-12, 8.4.3).
+/// The handler of a track or of metadata (`hdlr`, ISO/IEC 14496-12, 8.4.3).
 #[derive(Debug, Drop, PartialEq, Eq)]
 pub struct HdlrBox {
     /// The version of the box, usually 0. It is kept as it is.
     pub version: u8,
     /// Flags, below 2^24, usually 0.
     pub flags: u32,
-    /// The kind of media, as `vide` or `soun`.
+    /// The kind of media, such as `vide` or `soun`.
     pub handler_type: FourCC,
     /// A name for a person to read.
     pub name: Text,
 }
 
 impl HdlrBox {
-    /// Zeros, and no name. No memory is taken.
+    /// Zeros, and an empty name. It takes no memory.
     pub fn default_in(alloc: Global) -> HdlrBox
         ensures { result ≡ record { version = 0; flags = 0; handler_type = record { value = replicate 4 0 }; name = [] } }
     {
@@ -40,14 +40,14 @@ impl HdlrBox {
         }
     }
 
-    /// As `box_type`.
+    /// The same as `box_type`.
     pub fn get_type(&self) -> BoxType
         ensures { result ≡ names.HdlrBox }
     {
         self.box_type()
     }
 
-    /// As `box_size`.
+    /// The same as `box_size`.
     pub fn get_size(&self) -> u64
         ensures { result ≡ min (size_hdlr self.now) (2 ^ 64 - 1) }
     {
@@ -100,6 +100,7 @@ fn fits(version: u8, flags: u32, handler_type: FourCC, size: u64, name: &Text) -
     requires { size ≡ min (33 + length name.now) (2 ^ 64 - 1) }
     ensures { IsTrue result ↔ WritableHdlr (record { version = version; flags = flags; handler_type = handler_type; name = name.now }) }
 {
+    // For the prover: a value that was read has the range of its type.
     let _version = version;
     size < 1 << 32 && flags < 1 << 24 && is_four_cc(handler_type) && name.is_utf8()
 }

@@ -1,4 +1,4 @@
-//! Texts, data and references.
+//! The boxes of strings, data and references.
 #![tactic(auto)]
 
 mod data;

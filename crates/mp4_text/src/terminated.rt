@@ -1,4 +1,4 @@
-//! Texts that a zero byte ends.
+//! Zero-terminated strings.
 
 ghost use Rattle.std.specs.Prelude.{◌≡◌, ◌↔◌, ◌≤◌, ◌+◌, ◌++◌, IfOk, IsTrue, length, position, take};
 ghost use Rattle.mp4_frame.specs.Reading.{Answers, AnswersAs};
@@ -7,14 +7,14 @@ ghost use Rattle.mp4_text.specs.Terminated.{is_zero, before_zero, utf8_text, ter
 use mp4_frame::{Error, Result, Text, expect_bytes, put_bytes, put_u8};
 use std::alloc::Global;
 
-/// Where the first zero byte stands.
+/// The index of the first zero byte.
 fn first_zero(bytes: &[u8]) -> Option<usize>
     ensures { result ≡ position is_zero bytes.now }
 {
     bytes.iter().position(|byte| *byte == 0)
 }
 
-/// The bytes from a place on that stand before the first zero byte, or all where there is none.
+/// The bytes from offset `at` up to the first zero byte, without it; up to the end if there is none.
 #[tactic(auto, using(crate::proofs::Zeros::place_or_length, crate::proofs::Zeros::place_within))]
 fn before_zero(bytes: &[u8], at: usize) -> &[u8]
     ensures { result.now ≡ before_zero bytes.now at }
@@ -27,7 +27,7 @@ fn before_zero(bytes: &[u8], at: usize) -> &[u8]
     &rest[..long]
 }
 
-/// Bytes that have to be UTF-8, as a text.
+/// The bytes as a string. Invalid data unless they are UTF-8.
 #[tactic(auto, using(mp4_frame::specs::TextLaws::utf8_passes, mp4_frame::specs::TextLaws::other_fails))]
 fn utf8_text(bytes: &[u8]) -> Result<&str>
     ensures { AnswersAs (λ text. text.now) result (utf8_text bytes.now) }
@@ -38,7 +38,8 @@ fn utf8_text(bytes: &[u8]) -> Result<&str>
     }
 }
 
-/// Reads the text from a place up to the first zero byte.
+/// Reads the zero-terminated string at offset `at`. End of input if there is no zero byte; invalid data unless the
+/// string is UTF-8.
 #[tactic(auto, unfolding(crate::specs::Terminated::terminated_text))]
 fn terminated_text_at(alloc: Global, bytes: &[u8], at: usize) -> Result<Text>
     ensures text { Answers result (terminated_text bytes.now at) }
@@ -49,7 +50,7 @@ fn terminated_text_at(alloc: Global, bytes: &[u8], at: usize) -> Result<Text>
     Text::from_str(alloc, utf8_text(text)?)
 }
 
-/// Reads two texts, one after the other.
+/// Reads two zero-terminated strings, the second after the first.
 #[tactic(auto, unfolding(crate::specs::Terminated::two_texts))]
 pub(crate) fn two_texts_at(alloc: Global, bytes: &[u8], at: usize) -> Result<(Text, Text)>
     ensures texts { Answers result (two_texts bytes.now at) }
@@ -60,14 +61,14 @@ pub(crate) fn two_texts_at(alloc: Global, bytes: &[u8], at: usize) -> Result<(Te
     Ok((first, second))
 }
 
-/// A text that a zero byte can end: none is inside it.
+/// Whether a zero byte can end the string: no byte in it is zero.
 pub(crate) fn is_terminable(text: &Text) -> bool
     ensures { IsTrue result ↔ IsTerminable text.now }
 {
     text.is_utf8() && !text.as_bytes().contains(&0)
 }
 
-/// Puts a text with a zero byte after it, and returns the place after that.
+/// Puts a string and a zero byte, and returns the offset after them.
 #[tactic(auto, unfolding(mp4_frame::specs::Bytes::be_bytes))]
 pub(crate) fn put_terminated(out: &mut [u8], at: usize, text: &[u8]) -> usize
     requires { at + length (terminated text.now) ≤ length out.old }

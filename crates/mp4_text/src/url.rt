@@ -1,4 +1,4 @@
-//! The data entry that is a URL.
+//! The data entry URL box.
 
 ghost use Rattle.std.specs.Prelude.{◌≡◌, ◌≤◌, ◌+◌, ◌-◌, ◌^◌, ◌++◌, [], min, length, take};
 ghost use Rattle.mp4_frame.specs.declared.box_type.BoxType.TheVariants as names;
@@ -13,19 +13,19 @@ use mp4_frame::{
 };
 use std::alloc::Global;
 
-/// Where media data stands, by a URL (`url `, ISO/IEC 14496-12, 8.7.2).
+/// A data reference by URL: where media data is (`url `, ISO/IEC 14496-12, 8.7.2).
 #[derive(Debug, Drop, PartialEq, Eq)]
 pub struct UrlBox {
     /// The version of the box, usually 0. It is kept as it is.
     pub version: u8,
-    /// Flags, below 2^24. 1 says that the data stands in the same file, without a location.
+    /// Flags, below 2^24. 1 means that the data is in the same file, without a location.
     pub flags: u32,
-    /// The URL; empty where none is given.
+    /// The URL; empty if there is none.
     pub location: Text,
 }
 
 impl UrlBox {
-    /// Data in the same file: flags 1 and no location. No memory is taken.
+    /// Data in the same file: flags 1 and no location. It takes no memory.
     pub fn default_in(alloc: Global) -> UrlBox
         ensures { result ≡ record { version = 0; flags = 1; location = [] } }
     {
@@ -36,14 +36,14 @@ impl UrlBox {
         }
     }
 
-    /// As `box_type`.
+    /// The same as `box_type`.
     pub fn get_type(&self) -> BoxType
         ensures { result ≡ names.UrlBox }
     {
         self.box_type()
     }
 
-    /// As `box_size`.
+    /// The same as `box_size`.
     pub fn get_size(&self) -> u64
         ensures { result ≡ min (size_url self.now) (2 ^ 64 - 1) }
     {
@@ -100,7 +100,7 @@ impl ReadBox for UrlBox {
     }
 }
 
-/// Puts a location with a zero byte after it, or nothing where it is empty, and returns the place after.
+/// Puts a location and a zero byte, or nothing if the location is empty, and returns the offset after them.
 fn put_location(out: &mut [u8], at: usize, location: &[u8]) -> usize
     requires { at + length (bytes_location location.now) ≤ length out.old }
     ensures next { result ≡ at + length (bytes_location location.now) }
@@ -114,6 +114,7 @@ fn put_location(out: &mut [u8], at: usize, location: &[u8]) -> usize
 
 impl WriteBox for UrlBox {
     fn is_writable(&self) -> bool {
+        // For the prover: a value that was read has the range of its type.
         let _version = self.version;
         self.flags < 1 << 24 && self.box_size() < 1 << 32 && self.location.is_utf8()
     }
