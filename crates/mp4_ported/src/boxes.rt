@@ -1,5 +1,4 @@
-//! Worked boxes: values, and the bytes that they are written in, from the tests of the Rust crate `mp4` and from the
-//! standard.
+//! Boxes, and the bytes that they are written in, from the tests of the Rust crate `mp4` and from the standard.
 
 pub mod flat;
 pub mod tables;

@@ -1,28 +1,28 @@
-//! Checks that the tests of boxes share. A check that fails returns what it found in place of what it wanted.
+//! Checks that the tests of boxes share. A check that fails returns what it found and what it expected.
 
 use mp4_stream::{BoxHeader, BoxLaws, BoxType, ByteCursor, Error, ReadBox, WriteBox};
 use std::alloc::{AllocError, Global};
 
-/// How a call ended.
+/// The kind of a result: an `Ok`, or an error without its text.
 #[derive(Clone, Copy, Debug, PartialEq, Eq)]
 pub enum Kind {
-    /// It succeeded.
+    /// An `Ok`.
     Ok,
-    /// The input ends too early.
+    /// End of input.
     End,
-    /// The data is invalid.
+    /// Invalid data.
     Invalid,
-    /// A box lacks the child of this name.
+    /// A missing child of this name.
     NotFound(BoxType),
-    /// Memory was refused.
+    /// Out of memory.
     Memory,
-    /// It failed in another way.
+    /// Any other error.
     Other,
 }
 
-/// How a call ended that returned this.
-pub fn kind_of<T>(answer: &Result<T, Error>) -> Kind {
-    match answer {
+/// The kind of this result.
+pub fn kind_of<T>(result: &Result<T, Error>) -> Kind {
+    match result {
         Ok(_) => Kind::Ok,
         Err(Error::IoError) => Kind::End,
         Err(Error::InvalidData(_)) => Kind::Invalid,
@@ -32,35 +32,35 @@ pub fn kind_of<T>(answer: &Result<T, Error>) -> Kind {
     }
 }
 
-/// What a check found that is not as it has to be.
+/// How what a check found differs from what it expected.
 #[derive(Debug, Drop)]
 pub enum Mismatch {
-    /// A call failed that has to succeed.
+    /// A call failed that was expected to succeed.
     Failed(Error),
-    /// Reading a box of this size ended in another way.
+    /// Reading a box of this size had a result of another kind.
     Ending {
         found: Kind,
-        wanted: Kind,
+        expected: Kind,
         size: u64,
     },
     /// The cursor is at another position.
     Position {
         found: u64,
-        wanted: u64,
+        expected: u64,
     },
     /// A box has another size, or is written in another number of bytes.
     Length {
         found: u64,
-        wanted: u64,
+        expected: u64,
     },
     /// The header of a box has another name.
     Name {
         found: BoxType,
-        wanted: BoxType,
+        expected: BoxType,
     },
-    /// Another box is read from these many bytes, with this size.
+    /// Another box is read from a buffer of this length, with this size.
     OtherBox {
-        bytes: usize,
+        length: usize,
         size: u64,
     },
     /// Other bytes are written.
@@ -79,102 +79,104 @@ impl From<AllocError> for Mismatch {
     }
 }
 
-fn is_at(found: u64, wanted: u64) -> Result<(), Mismatch> {
-    if found == wanted {
+fn expect_position(found: u64, expected: u64) -> Result<(), Mismatch> {
+    if found == expected {
         Ok(())
     } else {
-        Err(Mismatch::Position { found, wanted })
+        Err(Mismatch::Position { found, expected })
     }
 }
 
-fn is_long(found: u64, wanted: u64) -> Result<(), Mismatch> {
-    if found == wanted {
+fn expect_length(found: u64, expected: u64) -> Result<(), Mismatch> {
+    if found == expected {
         Ok(())
     } else {
-        Err(Mismatch::Length { found, wanted })
+        Err(Mismatch::Length { found, expected })
     }
 }
 
-fn ends(found: Kind, wanted: Kind, size: u64) -> Result<(), Mismatch> {
-    if found == wanted {
+fn expect_ending(found: Kind, expected: Kind, size: u64) -> Result<(), Mismatch> {
+    if found == expected {
         Ok(())
     } else {
         Err(Mismatch::Ending {
             found,
-            wanted,
+            expected,
             size,
         })
     }
 }
 
-/// Reads a box of this size after its header of 8 bytes. Returns what the call returns, and the position of the cursor
-/// after it.
+/// Reads the box at the front of a buffer, after its header of 8 bytes, with this size. Returns the result and the
+/// position of the cursor after the call.
 pub fn read<B: ReadBox + Drop>(alloc: Global, bytes: &[u8], size: u64) -> (Result<B, Error>, u64) {
     let mut reader = ByteCursor::new(bytes);
     reader.set_position(8);
-    let answer = B::read_box(alloc, &mut reader, size);
-    (answer, reader.position())
+    let result = B::read_box(alloc, &mut reader, size);
+    (result, reader.position())
 }
 
-/// Reading a box of this size ends in this way: with the cursor at the box's end after an Ok, and else where it was.
-pub fn reads_as<B: ReadBox + Drop>(
+/// Expects a result of this kind from reading a box of this size. After an `Ok` the cursor is at the end of the box,
+/// and after an error it is where it was.
+pub fn expect_kind<B: ReadBox + Drop>(
     alloc: Global,
     bytes: &[u8],
     size: u64,
-    wanted: Kind,
+    expected: Kind,
 ) -> Result<(), Mismatch> {
-    let (answer, position) = read::<B>(alloc, bytes, size);
-    ends(kind_of(&answer), wanted, size)?;
-    is_at(position, if wanted == Kind::Ok { size } else { 8 })
+    let (result, position) = read::<B>(alloc, bytes, size);
+    expect_ending(kind_of(&result), expected, size)?;
+    expect_position(position, if expected == Kind::Ok { size } else { 8 })
 }
 
-/// A box of this size is read as the value, and the cursor is at the box's end.
-pub fn resized<B: BoxLaws + PartialEq + Drop>(
+/// Expects that a box of this size is read as the value, and that the cursor is then at the end of the box.
+pub fn expect_value<B: BoxLaws + PartialEq + Drop>(
     alloc: Global,
     value: &B,
     bytes: &[u8],
     size: u64,
 ) -> Result<(), Mismatch> {
-    let (answer, position) = read::<B>(alloc, bytes, size);
-    if answer? == *value {
-        is_at(position, size)
+    let (result, position) = read::<B>(alloc, bytes, size);
+    if result? == *value {
+        expect_position(position, size)
     } else {
         Err(Mismatch::OtherBox {
-            bytes: bytes.len(),
+            length: bytes.len(),
             size,
         })
     }
 }
 
-/// A box is written in as many bytes, which begin with its header, and is read back from them. Returns the bytes.
-pub fn written<B: BoxLaws + PartialEq + Drop>(
+/// Expects that a box is written in `size` bytes, which begin with its header, and is read back from them. Returns the
+/// bytes.
+pub fn expect_written<B: BoxLaws + PartialEq + Drop>(
     alloc: Global,
     value: &B,
     size: u64,
 ) -> Result<Vec<u8>, Mismatch> {
     let mut out = Vec::new(alloc);
-    is_long(value.write_box(&mut out)?, size)?;
-    is_long(out.len() as u64, size)?;
-    is_long(value.box_size(), size)?;
+    expect_length(value.write_box(&mut out)?, size)?;
+    expect_length(out.len() as u64, size)?;
+    expect_length(value.box_size(), size)?;
     let header = BoxHeader::read(&mut ByteCursor::new(&out))?;
-    is_long(header.size, size)?;
+    expect_length(header.size, size)?;
     if header.name != value.box_type() {
         return Err(Mismatch::Name {
             found: header.name,
-            wanted: value.box_type(),
+            expected: value.box_type(),
         });
     }
-    resized(alloc, value, out.as_slice(), size)?;
+    expect_value(alloc, value, out.as_slice(), size)?;
     Ok(out)
 }
 
-/// A box is written in these bytes, and read back from them.
-pub fn round_trip<B: BoxLaws + PartialEq + Drop>(
+/// Expects that a box is written in these bytes, and read back from them.
+pub fn expect_round_trip<B: BoxLaws + PartialEq + Drop>(
     alloc: Global,
     value: &B,
     bytes: &[u8],
 ) -> Result<(), Mismatch> {
-    let out = written(alloc, value, bytes.len() as u64)?;
+    let out = expect_written(alloc, value, bytes.len() as u64)?;
     if out.as_slice() == bytes {
         Ok(())
     } else {
@@ -182,10 +184,10 @@ pub fn round_trip<B: BoxLaws + PartialEq + Drop>(
     }
 }
 
-/// A box of this size can't be written, and the vector that it was to be appended to is as before.
-pub fn refused<B: WriteBox>(alloc: Global, value: &B) -> Result<(), Mismatch> {
+/// Expects that writing a box is invalid data, and leaves the vector as it was.
+pub fn expect_unwritable<B: WriteBox>(alloc: Global, value: &B) -> Result<(), Mismatch> {
     let mut out = Vec::from_slice(alloc, &[7])?;
-    ends(
+    expect_ending(
         kind_of(&value.write_box(&mut out)),
         Kind::Invalid,
         value.box_size(),
@@ -197,49 +199,59 @@ pub fn refused<B: WriteBox>(alloc: Global, value: &B) -> Result<(), Mismatch> {
     }
 }
 
-/// A box of this size can't be written.
-pub fn refused_at_size<B: WriteBox>(alloc: Global, value: &B, size: u64) -> Result<(), Mismatch> {
-    is_long(value.box_size(), size)?;
-    refused(alloc, value)
+/// Expects that a box has this size, and that writing it is invalid data and leaves the vector as it was.
+pub fn expect_unwritable_of_size<B: WriteBox>(
+    alloc: Global,
+    value: &B,
+    size: u64,
+) -> Result<(), Mismatch> {
+    expect_length(value.box_size(), size)?;
+    expect_unwritable(alloc, value)
 }
 
-/// A box that is cut is the end of the input where fewer bytes than `needed` are present. From more of its bytes it is
-/// read whole.
-pub fn cut<B: BoxLaws + PartialEq + Drop>(
+/// Cuts the bytes of a box at every length. Expects end of input where fewer than `needed` bytes are left, and the box
+/// where `needed` or more are left.
+pub fn expect_end_at_cuts_below<B: BoxLaws + PartialEq + Drop>(
     alloc: Global,
     value: &B,
     needed: usize,
 ) -> Result<(), Mismatch> {
     let mut out = Vec::new(alloc);
     let size = value.write_box(&mut out)?;
-    for long in 0..out.len() {
-        let bytes = &out[..long];
-        if long < needed {
-            reads_as::<B>(alloc, bytes, size, Kind::End)?;
+    for length in 0..out.len() {
+        let bytes = &out[..length];
+        if length < needed {
+            expect_kind::<B>(alloc, bytes, size, Kind::End)?;
         } else {
-            resized(alloc, value, bytes, size)?;
+            expect_value(alloc, value, bytes, size)?;
         }
     }
     Ok(())
 }
 
-/// A box is read as itself whatever size it is said to have: 0, 7, its own, or the largest.
-pub fn sizeless<B: BoxLaws + PartialEq + Drop>(alloc: Global, value: &B) -> Result<(), Mismatch> {
+/// Expects that the bytes of a box are read as the box with any size: 0, 7, its own, and the largest.
+pub fn expect_value_at_any_size<B: BoxLaws + PartialEq + Drop>(
+    alloc: Global,
+    value: &B,
+) -> Result<(), Mismatch> {
     let mut out = Vec::new(alloc);
     let own = value.write_box(&mut out)?;
     for size in [0, 7, own, u64::MAX] {
-        resized(alloc, value, &out, size)?;
+        expect_value(alloc, value, &out, size)?;
     }
     Ok(())
 }
 
-/// A box is invalid data where it is said to have 0 or 7 bytes, and is read as itself where it is said to have the
-/// largest size.
-pub fn sized<B: BoxLaws + PartialEq + Drop>(alloc: Global, value: &B) -> Result<(), Mismatch> {
+/// Expects that the bytes of a box are invalid data with a size of 0 or 7, and are read as the box with the largest
+/// size.
+pub fn expect_invalid_at_small_sizes<B: BoxLaws + PartialEq + Drop>(
+    alloc: Global,
+    value: &B,
+) -> Result<(), Mismatch> {
     let mut out = Vec::new(alloc);
     value.write_box(&mut out)?;
     for size in [0, 7] {
-        reads_as::<B>(alloc, &out, size, Kind::Invalid)?;
+        expect_kind::<B>(alloc, &out, size, Kind::Invalid)?;
     }
-    resized(alloc, value, &out, u64::MAX)
+    expect_value(alloc, value, &out, u64::MAX)
 }

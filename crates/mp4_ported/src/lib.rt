@@ -1,5 +1,5 @@
-//! What the tests of the codec share: worked boxes with their bytes, one vector of each type, and helpers that check
-//! a box. The tests of this crate are the cases of the Rust crate `mp4`.
+//! What the tests of the codec share: boxes with the bytes that they are written in, a vector of each type, and helpers
+//! that check a box. The tests of this crate are the tests of the Rust crate `mp4`.
 #![tactic(auto)]
 
 pub mod boxes;

@@ -1,4 +1,4 @@
-//! The cases of the Rust crate `mp4`, module by module.
+//! The tests of the Rust crate `mp4`, module by module.
 
 mod flat;
 mod headers;

@@ -1,5 +1,5 @@
-//! The vectors: a box of each type, and the bytes that it is written in. Values and bytes come from the tests of the
-//! Rust crate `mp4` and from the standard, and none from what this codec writes.
+//! The vectors: a box of each type, and the bytes that it is written in. Values and bytes are from the tests of the
+//! Rust crate `mp4` and from the standard, and not from what this codec writes.
 
 mod flat;
 mod tables;
@@ -9,7 +9,7 @@ use crate::boxes;
 use mp4_stream::{AnyBox, Result};
 use std::alloc::Global;
 
-/// The type of a vector.
+/// A vector, by the type of its box.
 #[derive(Clone, Copy, Debug, PartialEq, Eq)]
 pub enum Vector {
     Ftyp,

@@ -7,8 +7,8 @@ ghost use Rattle.mp4_text.specs.Ftyp.{brand_of, size_ftyp, WritableFtyp, reads_f
 ghost use Rattle.mp4_text.specs.FtypLaws.{laws_ftyp};
 
 use mp4_frame::{
-    BoxLaws, BoxType, ByteCursor, Entries, Error, FourCC, Mp4Box, ReadBox, Result, TryClone,
-    WriteBox, all_fit, check, codes, expect_bytes, is_four_cc, put_entries, put_u32, u32_at,
+    BoxLaws, BoxType, Entries, Error, FourCC, Mp4Box, ReadBox, Result, TryClone, WriteBox, all_fit,
+    check, codes, expect_bytes, is_four_cc, put_entries, put_u32, rows_at, u32_at,
 };
 use std::alloc::Global;
 
@@ -99,9 +99,7 @@ impl ReadBox for FtypBox {
             "ftyp size too small or not aligned",
         )?;
         expect_bytes(bytes, 8, 8)?;
-        let mut reader = ByteCursor::new(bytes);
-        reader.set_position(16);
-        let rows = reader.take_rows::<4>((size - 16) / 4)?;
+        let rows = rows_at::<4>(bytes, 16, (size - 16) / 4)?;
         Ok(FtypBox {
             major_brand: FourCC::from(u32_at(bytes, 8)),
             minor_version: u32_at(bytes, 12),

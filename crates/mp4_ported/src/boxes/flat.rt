@@ -1,4 +1,4 @@
-//! Boxes of fixed fields, each beside the bytes that it is written in.
+//! Boxes of fixed fields, and the bytes that they are written in.
 
 use mp4_stream::{
     FixedPointI8, FixedPointU8, FixedPointU16, Matrix, MdhdBox, MehdBox, MfhdBox, MvhdBox, Result,
@@ -79,7 +79,7 @@ pub fn mvhd_long() -> MvhdBox {
     }
 }
 
-/// A track header with times of 64 bits, for a picture that is turned by a quarter.
+/// A track header with times of 64 bits, for a picture that is rotated by 90 degrees.
 pub fn tkhd() -> TkhdBox {
     TkhdBox {
         version: 1,
@@ -123,7 +123,7 @@ pub fn tkhd_long() -> TkhdBox {
     }
 }
 
-/// A track header of which each field has a value of its own.
+/// A track header whose fields all have different values.
 pub fn tkhd_full() -> TkhdBox {
     TkhdBox {
         version: 0,
@@ -151,7 +151,7 @@ pub fn tkhd_full() -> TkhdBox {
     }
 }
 
-/// A media header with times of 32 bits, for a track in this language.
+/// The media header of a track in this language, with times of 32 bits.
 fn mdhd_in(alloc: Global, language: &str) -> Result<MdhdBox> {
     Ok(MdhdBox {
         version: 0,
@@ -164,24 +164,24 @@ fn mdhd_in(alloc: Global, language: &str) -> Result<MdhdBox> {
     })
 }
 
-/// A media header with times of 32 bits.
+/// The media header of a track of no certain language, with times of 32 bits.
 pub fn mdhd(alloc: Global) -> Result<MdhdBox> {
     mdhd_in(alloc, "und")
 }
 
-/// The same header for a track in English.
+/// The media header of a track in English, with times of 32 bits.
 pub fn mdhd_english(alloc: Global) -> Result<MdhdBox> {
     mdhd_in(alloc, "eng")
 }
 
-/// The same header for a track in English, with times of 64 bits.
+/// The media header of a track in English, with times of 64 bits.
 pub fn mdhd_long(alloc: Global) -> Result<MdhdBox> {
     let mut header = mdhd_in(alloc, "eng")?;
     header.version = 1;
     Ok(header)
 }
 
-/// A duration that needs more than 32 bits.
+/// A movie of a duration that needs more than 32 bits.
 pub fn mehd() -> MehdBox {
     MehdBox {
         version: 1,
@@ -190,7 +190,7 @@ pub fn mehd() -> MehdBox {
     }
 }
 
-/// A duration in 32 bits.
+/// A movie of this duration, in 32 bits.
 pub fn mehd_short(fragment_duration: u64) -> MehdBox {
     MehdBox {
         version: 0,
@@ -199,7 +199,7 @@ pub fn mehd_short(fragment_duration: u64) -> MehdBox {
     }
 }
 
-/// The first fragment.
+/// The first fragment of a movie.
 pub fn mfhd() -> MfhdBox {
     MfhdBox {
         version: 0,
@@ -208,7 +208,7 @@ pub fn mfhd() -> MfhdBox {
     }
 }
 
-/// A balance a little to the left.
+/// Sound whose balance is a little to the left.
 pub fn smhd() -> SmhdBox {
     SmhdBox {
         version: 0,
@@ -226,7 +226,7 @@ fn vmhd_of(red: u16, green: u16, blue: u16) -> VmhdBox {
     }
 }
 
-/// A color with bytes that differ.
+/// A color whose bytes differ.
 pub fn vmhd() -> VmhdBox {
     vmhd_of(0, 0x100, 0xffff)
 }
@@ -241,7 +241,7 @@ pub fn vmhd_black() -> VmhdBox {
     vmhd_of(0, 0, 0)
 }
 
-/// What samples of a track have where nothing else is said.
+/// Defaults for the samples of a track.
 pub fn trex() -> TrexBox {
     TrexBox {
         version: 0,
@@ -254,7 +254,7 @@ pub fn trex() -> TrexBox {
     }
 }
 
-/// A decode time in 32 bits.
+/// A decode time, in 32 bits.
 pub fn tfdt() -> TfdtBox {
     TfdtBox {
         version: 0,
@@ -263,7 +263,7 @@ pub fn tfdt() -> TfdtBox {
     }
 }
 
-/// A decode time of 0 in this version.
+/// A decode time of 0, in this version.
 pub fn tfdt_of_zero(version: u8) -> TfdtBox {
     TfdtBox {
         version,

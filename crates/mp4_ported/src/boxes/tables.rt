@@ -1,4 +1,4 @@
-//! Counted and flagged tables, each beside the bytes that it is written in.
+//! Tables with a count or with flags, and the bytes that they are written in.
 
 use mp4_stream::{
     Co64Box, CttsBox, CttsEntry, ElstBox, ElstEntry, Entries, Result, StcoBox, StscBox, StscEntry,
@@ -43,7 +43,7 @@ pub const TRUN_TWO: [u8; 32] =
 pub const TRUN_THREE: [u8; 48] =
     *b"\0\0\0\x30trun\0\0\x0b\x05\0\0\0\x02\xff\xff\xff\xf8\x02\0\0\0\0\0\x04\0\0\0\0\x0a\0\0\x02\0\0\0\x04\x01\0\0\0\x14\xff\xff\xff\xff";
 
-/// Sizes of samples.
+/// The sizes of nine samples.
 const SIZES: [u32; 9] = [1165, 11, 11, 8545, 10126, 10866, 9643, 9351, 7730];
 
 /// A list of numbers.
@@ -51,7 +51,7 @@ pub fn list(alloc: Global, numbers: &[u32]) -> Result<Entries<u32>> {
     Ok(Vec::from_slice(alloc, numbers)?.into())
 }
 
-/// Where seven chunks begin.
+/// The offsets of seven chunks.
 pub fn stco(alloc: Global) -> Result<StcoBox> {
     let offsets = [267, 1970, 2535, 2803, 11843, 22223, 33584];
     Ok(StcoBox {
@@ -69,17 +69,17 @@ fn co64_of(alloc: Global, offsets: &[u64]) -> Result<Co64Box> {
     })
 }
 
-/// Where two chunks begin, one of them past 32 bits.
+/// The offsets of two chunks, one of them past 32 bits.
 pub fn co64(alloc: Global) -> Result<Co64Box> {
     co64_of(alloc, &[267, 0x1_0000_07b2])
 }
 
-/// Where seven chunks begin, in 64 bits.
+/// The offsets of seven chunks, in 64 bits.
 pub fn co64_of_seven(alloc: Global) -> Result<Co64Box> {
     co64_of(alloc, &[267, 1970, 2535, 2803, 11843, 22223, 33584])
 }
 
-/// The time between samples, in two runs.
+/// The time between samples, for two runs of samples.
 pub fn stts(alloc: Global) -> Result<SttsBox> {
     let entries = [
         SttsEntry {
@@ -98,7 +98,7 @@ pub fn stts(alloc: Global) -> Result<SttsBox> {
     })
 }
 
-/// Offsets of times, in two runs, one of them below zero.
+/// Composition offsets of two runs of samples, one of them negative.
 pub fn ctts(alloc: Global) -> Result<CttsBox> {
     let entries = [
         CttsEntry {
@@ -146,7 +146,7 @@ pub fn stsz(alloc: Global) -> Result<StszBox> {
     })
 }
 
-/// The sizes of nine samples.
+/// Nine samples of these sizes.
 pub fn stsz_of_nine(alloc: Global) -> Result<StszBox> {
     Ok(StszBox {
         version: 0,
@@ -157,7 +157,7 @@ pub fn stsz_of_nine(alloc: Global) -> Result<StszBox> {
     })
 }
 
-/// One size for all of these samples, so that no list is needed.
+/// As many samples, all of one size, so that there is no list of sizes.
 pub fn stsz_of_one_size(alloc: Global, sample_size: u32, sample_count: u32) -> StszBox {
     let mut stsz = StszBox::default_in(alloc);
     stsz.sample_size = sample_size;
@@ -165,7 +165,7 @@ pub fn stsz_of_one_size(alloc: Global, sample_size: u32, sample_count: u32) -> S
     stsz
 }
 
-/// A run of chunks with as many samples each, of the first description.
+/// A run of chunks with as many samples each, all of the first sample description.
 pub fn chunk_run(first_chunk: u32, samples_per_chunk: u32, first_sample: u32) -> StscEntry {
     StscEntry {
         first_chunk,
@@ -189,7 +189,7 @@ pub fn stsc(alloc: Global) -> Result<StscBox> {
     stsc_of(alloc, &[chunk_run(1, 1, 1), chunk_run(19026, 14, 19026)])
 }
 
-/// A list of one edit, in a version.
+/// A list of one edit, in this version.
 pub fn elst_of(alloc: Global, version: u8, media_time: u64) -> Result<ElstBox> {
     let entries = [ElstEntry {
         segment_duration: 634_634,
@@ -209,7 +209,7 @@ pub fn elst(alloc: Global) -> Result<ElstBox> {
     elst_of(alloc, 0, 0)
 }
 
-/// The same list with times of 64 bits.
+/// A list of one edit, with times of 64 bits.
 pub fn elst_long(alloc: Global) -> Result<ElstBox> {
     elst_of(alloc, 1, 0)
 }

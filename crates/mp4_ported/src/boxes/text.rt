@@ -1,4 +1,4 @@
-//! Boxes of texts, data and references, each beside the bytes that it is written in.
+//! Boxes of texts, data and references, and the bytes that they are written in.
 
 use mp4_stream::{
     DataBox, DataType, DinfBox, DrefBox, EmsgBox, Entries, FourCC, FtypBox, HdlrBox, Result, Text,
@@ -53,7 +53,7 @@ pub fn hdlr(alloc: Global) -> Result<HdlrBox> {
     })
 }
 
-/// A text of metadata.
+/// A metadata value that is a text.
 pub fn data_box(alloc: Global) -> Result<DataBox> {
     Ok(DataBox {
         data_bytes: Vec::from_slice(alloc, b"test_data")?.into(),
@@ -61,7 +61,7 @@ pub fn data_box(alloc: Global) -> Result<DataBox> {
     })
 }
 
-/// An event with a time since the one before it.
+/// An event of version 0, which has a time relative to its segment.
 pub fn emsg(alloc: Global) -> Result<EmsgBox> {
     Ok(EmsgBox {
         version: 0,
@@ -77,7 +77,7 @@ pub fn emsg(alloc: Global) -> Result<EmsgBox> {
     })
 }
 
-/// An event with a time of its own.
+/// An event of version 1, which has a time in its presentation.
 pub fn emsg_long(alloc: Global) -> Result<EmsgBox> {
     Ok(EmsgBox {
         version: 1,
@@ -102,7 +102,7 @@ pub fn url(alloc: Global) -> Result<UrlBox> {
     })
 }
 
-/// References to this URL.
+/// Data references with this entry, or with none.
 pub fn dref_of(url: Option<UrlBox>) -> DrefBox {
     DrefBox {
         version: 0,
@@ -111,22 +111,22 @@ pub fn dref_of(url: Option<UrlBox>) -> DrefBox {
     }
 }
 
-/// References to the URL `a`.
+/// Data references with the URL `a`.
 pub fn dref_url(alloc: Global) -> Result<DrefBox> {
     Ok(dref_of(Some(url(alloc)?)))
 }
 
-/// References to the file itself.
+/// Data references that say that the data is in the same file.
 pub fn dref(alloc: Global) -> DrefBox {
     DrefBox::default_in(alloc)
 }
 
-/// The box of references to the file itself.
+/// Data information that says that the data is in the same file.
 pub fn dinf(alloc: Global) -> DinfBox {
     DinfBox::default_in(alloc)
 }
 
-/// The box of references to the URL `a`.
+/// Data information with the URL `a`.
 pub fn dinf_url(alloc: Global) -> Result<DinfBox> {
     Ok(DinfBox::new(dref_url(alloc)?))
 }

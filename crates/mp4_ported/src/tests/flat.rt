@@ -1,48 +1,48 @@
-//! The cases of the Rust crate for boxes of fixed fields.
+//! The tests of the Rust crate for boxes of fixed fields.
 
 use crate::boxes::flat::{
     MDHD, MDHD_ENGLISH, MFHD, MVHD, MVHD_LONG, SMHD, TFDT_LONG, TKHD_LONG, TKHD_SHORT, TREX, mdhd,
     mdhd_english, mehd_short, mfhd, mvhd, mvhd_long, smhd, tfdt_of_zero, tkhd_long, tkhd_short,
     trex, vmhd_black,
 };
-use crate::helpers::round_trip;
+use crate::helpers::expect_round_trip;
 use mp4_stream::{language_code, language_string};
 use std::test::Fail;
 
 #[test]
 fn mvhd32(rt: HostRuntime) -> Result<(), Fail> {
-    round_trip(rt.alloc(), &mvhd(), &MVHD)?;
+    expect_round_trip(rt.alloc(), &mvhd(), &MVHD)?;
     Ok(())
 }
 
 #[test]
 fn mvhd64(rt: HostRuntime) -> Result<(), Fail> {
-    round_trip(rt.alloc(), &mvhd_long(), &MVHD_LONG)?;
+    expect_round_trip(rt.alloc(), &mvhd_long(), &MVHD_LONG)?;
     Ok(())
 }
 
 #[test]
 fn tkhd32(rt: HostRuntime) -> Result<(), Fail> {
-    round_trip(rt.alloc(), &tkhd_short(), &TKHD_SHORT)?;
+    expect_round_trip(rt.alloc(), &tkhd_short(), &TKHD_SHORT)?;
     Ok(())
 }
 
 #[test]
 fn tkhd64(rt: HostRuntime) -> Result<(), Fail> {
-    round_trip(rt.alloc(), &tkhd_long(), &TKHD_LONG)?;
+    expect_round_trip(rt.alloc(), &tkhd_long(), &TKHD_LONG)?;
     Ok(())
 }
 
 #[test]
 fn mdhd32(rt: HostRuntime) -> Result<(), Fail> {
-    round_trip(rt.alloc(), &mdhd(rt.alloc())?, &MDHD)?;
+    expect_round_trip(rt.alloc(), &mdhd(rt.alloc())?, &MDHD)?;
     Ok(())
 }
 
-/// The Rust crate writes it with times of 32 bits too.
+/// In the Rust crate too, this test has times of 32 bits.
 #[test]
 fn mdhd64(rt: HostRuntime) -> Result<(), Fail> {
-    round_trip(rt.alloc(), &mdhd_english(rt.alloc())?, &MDHD_ENGLISH)?;
+    expect_round_trip(rt.alloc(), &mdhd_english(rt.alloc())?, &MDHD_ENGLISH)?;
     Ok(())
 }
 
@@ -57,7 +57,7 @@ fn language_codes(rt: HostRuntime) -> Result<(), Fail> {
 
 #[test]
 fn mehd32(rt: HostRuntime) -> Result<(), Fail> {
-    round_trip(
+    expect_round_trip(
         rt.alloc(),
         &mehd_short(32),
         b"\0\0\0\x10mehd\0\0\0\0\0\0\0\x20",
@@ -65,10 +65,10 @@ fn mehd32(rt: HostRuntime) -> Result<(), Fail> {
     Ok(())
 }
 
-/// The Rust crate writes it with a duration of 32 bits too.
+/// In the Rust crate too, this test has a duration of 32 bits.
 #[test]
 fn mehd64(rt: HostRuntime) -> Result<(), Fail> {
-    round_trip(
+    expect_round_trip(
         rt.alloc(),
         &mehd_short(30_439_936),
         b"\0\0\0\x10mehd\0\0\0\0\x01\xd0z\0",
@@ -78,7 +78,7 @@ fn mehd64(rt: HostRuntime) -> Result<(), Fail> {
 
 #[test]
 fn tfdt32(rt: HostRuntime) -> Result<(), Fail> {
-    round_trip(
+    expect_round_trip(
         rt.alloc(),
         &tfdt_of_zero(0),
         b"\0\0\0\x10tfdt\0\0\0\0\0\0\0\0",
@@ -88,25 +88,25 @@ fn tfdt32(rt: HostRuntime) -> Result<(), Fail> {
 
 #[test]
 fn tfdt64(rt: HostRuntime) -> Result<(), Fail> {
-    round_trip(rt.alloc(), &tfdt_of_zero(1), &TFDT_LONG)?;
+    expect_round_trip(rt.alloc(), &tfdt_of_zero(1), &TFDT_LONG)?;
     Ok(())
 }
 
 #[test]
 fn mfhd_of_one(rt: HostRuntime) -> Result<(), Fail> {
-    round_trip(rt.alloc(), &mfhd(), &MFHD)?;
+    expect_round_trip(rt.alloc(), &mfhd(), &MFHD)?;
     Ok(())
 }
 
 #[test]
 fn smhd_of_a_balance(rt: HostRuntime) -> Result<(), Fail> {
-    round_trip(rt.alloc(), &smhd(), &SMHD)?;
+    expect_round_trip(rt.alloc(), &smhd(), &SMHD)?;
     Ok(())
 }
 
 #[test]
 fn vmhd_of_black(rt: HostRuntime) -> Result<(), Fail> {
-    round_trip(
+    expect_round_trip(
         rt.alloc(),
         &vmhd_black(),
         b"\0\0\0\x14vmhd\0\0\0\x01\0\0\0\0\0\0\0\0",
@@ -116,6 +116,6 @@ fn vmhd_of_black(rt: HostRuntime) -> Result<(), Fail> {
 
 #[test]
 fn trex_of_a_track(rt: HostRuntime) -> Result<(), Fail> {
-    round_trip(rt.alloc(), &trex(), &TREX)?;
+    expect_round_trip(rt.alloc(), &trex(), &TREX)?;
     Ok(())
 }

@@ -1,4 +1,4 @@
-//! The cases of the Rust crate for codes and headers.
+//! The tests of the Rust crate for codes and headers.
 
 use crate::helpers::{Kind, kind_of};
 use mp4_stream::{BoxHeader, BoxType, ByteCursor, FourCC};
@@ -11,7 +11,7 @@ fn four_cc(rt: HostRuntime) {
     assert_eq!(rt; u32::from(ftyp), 0x6674_7970);
 }
 
-/// The Rust crate has the sizes 7, 8 and 15.
+/// The test of the Rust crate has the sizes 7, 8 and 15 only.
 #[test]
 fn large_sizes_that_are_too_small(rt: HostRuntime) {
     for size in 1..16 {

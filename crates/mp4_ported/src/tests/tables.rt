@@ -1,93 +1,93 @@
-//! The cases of the Rust crate for tables.
+//! The tests of the Rust crate for tables.
 
 use crate::boxes::tables::{
     CTTS, ELST, STCO, STSC, STTS, TFHD, co64_of_seven, ctts, elst, elst_long, stco, stsc,
     stss_of_nine, stsz_of_nine, stsz_of_one_size, stts, tfhd, tfhd_bare, trun_of_four_lists,
 };
-use crate::helpers::{round_trip, written};
+use crate::helpers::{expect_round_trip, expect_written};
 use mp4_stream::TrunBox;
 use std::test::Fail;
 
 #[test]
 fn stco_of_offsets(rt: HostRuntime) -> Result<(), Fail> {
-    round_trip(rt.alloc(), &stco(rt.alloc())?, &STCO)?;
+    expect_round_trip(rt.alloc(), &stco(rt.alloc())?, &STCO)?;
     Ok(())
 }
 
 #[test]
 fn co64_of_offsets(rt: HostRuntime) -> Result<(), Fail> {
-    written(rt.alloc(), &co64_of_seven(rt.alloc())?, 72)?;
+    expect_written(rt.alloc(), &co64_of_seven(rt.alloc())?, 72)?;
     Ok(())
 }
 
 #[test]
 fn stts_of_runs(rt: HostRuntime) -> Result<(), Fail> {
-    round_trip(rt.alloc(), &stts(rt.alloc())?, &STTS)?;
+    expect_round_trip(rt.alloc(), &stts(rt.alloc())?, &STTS)?;
     Ok(())
 }
 
 #[test]
 fn ctts_of_runs(rt: HostRuntime) -> Result<(), Fail> {
-    round_trip(rt.alloc(), &ctts(rt.alloc())?, &CTTS)?;
+    expect_round_trip(rt.alloc(), &ctts(rt.alloc())?, &CTTS)?;
     Ok(())
 }
 
 #[test]
 fn stss_of_samples(rt: HostRuntime) -> Result<(), Fail> {
-    written(rt.alloc(), &stss_of_nine(rt.alloc())?, 52)?;
+    expect_written(rt.alloc(), &stss_of_nine(rt.alloc())?, 52)?;
     Ok(())
 }
 
 #[test]
 fn stsz_same_size(rt: HostRuntime) -> Result<(), Fail> {
-    written(rt.alloc(), &stsz_of_one_size(rt.alloc(), 1165, 12), 20)?;
+    expect_written(rt.alloc(), &stsz_of_one_size(rt.alloc(), 1165, 12), 20)?;
     Ok(())
 }
 
 #[test]
 fn stsz_many_sizes(rt: HostRuntime) -> Result<(), Fail> {
-    written(rt.alloc(), &stsz_of_nine(rt.alloc())?, 56)?;
+    expect_written(rt.alloc(), &stsz_of_nine(rt.alloc())?, 56)?;
     Ok(())
 }
 
 #[test]
 fn stsc_of_chunks(rt: HostRuntime) -> Result<(), Fail> {
-    round_trip(rt.alloc(), &stsc(rt.alloc())?, &STSC)?;
+    expect_round_trip(rt.alloc(), &stsc(rt.alloc())?, &STSC)?;
     Ok(())
 }
 
 #[test]
 fn elst32(rt: HostRuntime) -> Result<(), Fail> {
-    round_trip(rt.alloc(), &elst(rt.alloc())?, &ELST)?;
+    expect_round_trip(rt.alloc(), &elst(rt.alloc())?, &ELST)?;
     Ok(())
 }
 
 #[test]
 fn elst64(rt: HostRuntime) -> Result<(), Fail> {
-    written(rt.alloc(), &elst_long(rt.alloc())?, 36)?;
+    expect_written(rt.alloc(), &elst_long(rt.alloc())?, 36)?;
     Ok(())
 }
 
 #[test]
 fn tfhd_without_flags(rt: HostRuntime) -> Result<(), Fail> {
-    written(rt.alloc(), &tfhd_bare(), 16)?;
+    expect_written(rt.alloc(), &tfhd_bare(), 16)?;
     Ok(())
 }
 
 #[test]
 fn tfhd_with_flags(rt: HostRuntime) -> Result<(), Fail> {
-    round_trip(rt.alloc(), &tfhd(), &TFHD)?;
+    expect_round_trip(rt.alloc(), &tfhd(), &TFHD)?;
     Ok(())
 }
 
 #[test]
 fn trun_same_size(rt: HostRuntime) -> Result<(), Fail> {
-    written(rt.alloc(), &TrunBox::default_in(rt.alloc()), 16)?;
+    expect_written(rt.alloc(), &TrunBox::default_in(rt.alloc()), 16)?;
     Ok(())
 }
 
 #[test]
 fn trun_many_sizes(rt: HostRuntime) -> Result<(), Fail> {
-    written(rt.alloc(), &trun_of_four_lists(rt.alloc())?, 160)?;
+    expect_written(rt.alloc(), &trun_of_four_lists(rt.alloc())?, 160)?;
     Ok(())
 }

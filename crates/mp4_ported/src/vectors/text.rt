@@ -1,4 +1,4 @@
-//! Vectors of texts, data and references.
+//! Vectors of boxes of texts, data and references.
 
 use crate::boxes::text;
 use mp4_stream::{AnyBox, Result};
