@@ -1,4 +1,4 @@
--- What the program returns and says at its end.
+-- The exit status of the program, and what it writes to standard error.
 use Rattle.std.specs.Prelude.{ℕ, List, [], ◌∷◌, ◌++◌, codes}
 use Rattle.mp4_boxes.specs.declared.outcome.Outcome.{Outcome}
 use Rattle.mp4_boxes.specs.declared.outcome.Outcome.TheVariants as outcomes

@@ -11,15 +11,15 @@ use std::env::Args;
 use std::io;
 use std::io::ErrorKind;
 
-/// What the program can be asked for.
+/// What the program can do.
 #[derive(Clone, Copy, Debug, PartialEq, Eq)]
 pub enum Command {
     /// The boxes of the input, written in their normal form.
     Normal,
 }
 
-/// The command that the words after the program's name ask for, which are exactly one.
-pub fn judge(mut words: Args) -> Option<Command>
+/// The command that the words after the program's name are, or None if they are no command.
+pub fn parse_command(mut words: Args) -> Option<Command>
     ensures normal { (result ≡ Some Command.Normal)
         ↔ (map string_bytes (into_iter_items words) ≡ codes "normal" ∷ []) }
 {
@@ -33,7 +33,7 @@ pub fn judge(mut words: Args) -> Option<Command>
     }
 }
 
-/// What it means that the arguments could not be had: memory was refused, or they could not be read.
+/// The fault of a run whose arguments could not be read: out of memory, or a failed read.
 pub fn argument_fault(error: &io::Error) -> RunFault
     ensures memory { error_kind error.now ≡ ErrorKind.OutOfMemory → result ≡ RunFault.Boxes OutOfMemory }
     ensures read { error_kind error.now ≢ ErrorKind.OutOfMemory → result ≡ RunFault.Read }

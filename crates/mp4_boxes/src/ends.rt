@@ -1,26 +1,25 @@
-//! The two ends of a run: a reader and a writer, each with a mark that says whether a call of it
-//! failed.
+//! The two ends of a run: a reader and a writer, each with a mark that says whether a call of it has failed.
 
 ghost use Rattle.std.specs.Prelude.{◌≡◌, ◌≤◌, ◌||◌, false, length, is_none, IfSome};
-ghost use Rattle.mp4_boxes.specs.Ends.{Pulled, Pushed};
+ghost use Rattle.mp4_boxes.specs.Ends.{Pulls, Pushes};
 
 use std::io::{Read, Write};
 
-/// Where the input comes from.
+/// The input: a reader, and whether a call of it has failed.
 #[derive(Drop)]
 pub struct Input<R: Read> {
     /// The reader.
     pub inner: R,
-    /// A call of the reader failed. Once set, it stays set.
+    /// Whether a call of the reader has failed. Once set, it stays set.
     pub failed: bool,
 }
 
-/// Where the output goes to.
+/// The output: a writer, and whether a call of it has failed.
 #[derive(Drop)]
 pub struct Output<W: Write> {
     /// The writer.
     pub inner: W,
-    /// A call of the writer failed, or took no byte of a piece that has some. Once set, it stays
+    /// Whether a call of the writer has failed, or has taken no byte of a piece that is not empty. Once set, it stays
     /// set.
     pub failed: bool,
 }
@@ -37,12 +36,11 @@ impl<R: Read> Input<R> {
         }
     }
 
-    /// Reads once, to the front of `place`. Returns how many bytes came, which is 0 at the input's
-    /// end and where `place` is empty, or None where the call failed, an interrupted one too.
+    /// Reads once, to the front of `buf`, and returns how many bytes were read: 0 at the end of the input, or if `buf`
+    /// is empty. None if the call failed, also if it was interrupted.
     pub fn pull(&mut self, buf: &mut [u8]) -> Option<usize>
         ensures bound { IfSome result (λ n. n ≤ length buf.new) }
-        ensures bytes { Pulled (R.remaining self.old.inner) (R.remaining self.new.inner) result
-            buf.new }
+        ensures bytes { Pulls (R.remaining self.old.inner) (R.remaining self.new.inner) result buf.new }
         ensures failed { self.new.failed ≡ (self.old.failed || is_none result) }
     {
         match self.inner.read(buf) {
@@ -67,12 +65,11 @@ impl<W: Write> Output<W> {
         }
     }
 
-    /// Writes once, from the front of `piece`. Returns how many bytes were taken, or None where the
-    /// call failed, an interrupted one too, and where no byte was taken of a piece that has some.
+    /// Writes once, from the front of `piece`, and returns how many bytes were taken. None if the call failed, also if
+    /// it was interrupted, or if it took no byte of a piece that is not empty.
     pub fn push(&mut self, piece: &[u8]) -> Option<usize>
         ensures bound { IfSome result (λ n. n ≤ length piece.now) }
-        ensures bytes { Pushed (W.contents self.old.inner) (W.contents self.new.inner) result
-            piece.now }
+        ensures bytes { Pushes (W.contents self.old.inner) (W.contents self.new.inner) result piece.now }
         ensures failed { self.new.failed ≡ (self.old.failed || is_none result) }
     {
         match self.inner.write(piece) {

@@ -1,9 +1,9 @@
-//! The runs of the commands: all input is read, the output is made of it, and all output is written.
+//! Runs of commands: all input is read, then the output is made, and then all output is written.
 
 ghost use Rattle.std.specs.Prelude.{◌+◌, ◌≡◌, ◌≤◌, ◌<◌, ◌||◌, drop, is_none, is_err, length, take, IfSome, IfErr, OnOk, vec_len};
 ghost use Rattle.std.specs.Io.KnownBytes.{Keeps};
 ghost use Rattle.mp4_frame.specs.declared.error.Error.TheVariants.{OutOfMemory};
-ghost use Rattle.mp4_boxes.specs.Ends.{PulledInto};
+ghost use Rattle.mp4_boxes.specs.Ends.{PullsInto};
 ghost use Rattle.mp4_boxes.specs.Runs.{Runs, ReachesEnd, ReadsAll, WritesAll, Rewrites, Normalizes, NormalRefusal, is_read, is_write};
 
 use crate::ends::{Input, Output};
@@ -12,10 +12,10 @@ use mp4_stream::{ByteCursor, Error, read_boxes, write_boxes};
 use std::alloc::{Allocator, Global};
 use std::io::{Read, Write};
 
-/// How many bytes the vector is lengthened by, and so the most that one pull asks for.
+/// The number of bytes that a full vector is lengthened by, and so the most that one pull asks for.
 const BLOCK: usize = 65536;
 
-/// Lengthens the vector by a block where all of it is filled.
+/// Lengthens the vector by a block if all of it is filled.
 fn make_room<A: Allocator>(bytes: &mut Vec<u8, A>, filled: usize) -> mp4_stream::Result<()>
     requires { filled ≤ vec_len bytes.old }
     ensures room { OnOk result (filled < vec_len bytes.new) }
@@ -33,8 +33,8 @@ fn make_room<A: Allocator>(bytes: &mut Vec<u8, A>, filled: usize) -> mp4_stream:
     Ok(())
 }
 
-/// Pulls once, to the place after the bytes that are filled.
-fn pull_behind<R: Read, A: Allocator>(
+/// Pulls once, into the bytes after those that are filled.
+fn pull_after<R: Read, A: Allocator>(
     input: &mut Input<R>,
     bytes: &mut Vec<u8, A>,
     filled: usize,
@@ -43,27 +43,25 @@ fn pull_behind<R: Read, A: Allocator>(
     ensures front { take filled bytes.new.items ≡ take filled bytes.old.items }
     ensures len { vec_len bytes.new ≡ vec_len bytes.old }
     ensures bound { IfSome result (λ n. filled + n ≤ vec_len bytes.new) }
-    ensures bytes { PulledInto (R.remaining input.old.inner) (R.remaining input.new.inner) result
-        (drop filled bytes.new.items) }
+    ensures bytes { PullsInto (R.remaining input.old.inner) (R.remaining input.new.inner) result (drop filled bytes.new.items) }
     ensures failed { input.new.failed ≡ (input.old.failed || is_none result) }
 {
     input.pull(&mut bytes[filled..])
 }
 
-/// Reads to the input's end. A reader without an end is refused as out of memory.
+/// Reads to the end of the input. A reader without an end is out of memory.
 pub fn read_all<R: Read, A: Allocator>(
     alloc: A,
     input: &mut Input<R>,
 ) -> Result<Vec<u8, A>, RunFault>
-    ensures bytes { ReadsAll (λ v. v.items) (R.remaining input.old.inner) (R.remaining input.new.inner)
-        result }
+    ensures bytes { ReadsAll (λ v. v.items) (R.remaining input.old.inner) (R.remaining input.new.inner) result }
     ensures failed { input.new.failed ≡ (input.old.failed || is_read result) }
 {
     let mut bytes = Vec::new(alloc);
     let mut filled = 0;
     for _ in 0..u64::MAX {
         make_room(&mut bytes, filled)?;
-        match pull_behind(input, &mut bytes, filled) {
+        match pull_after(input, &mut bytes, filled) {
             None => return Err(RunFault::Read),
             Some(0) => {
                 bytes.truncate(filled);
@@ -75,10 +73,9 @@ pub fn read_all<R: Read, A: Allocator>(
     Err(RunFault::Boxes(Error::OutOfMemory))
 }
 
-/// Writes all bytes, and returns how many they are.
+/// Writes all bytes, and returns their number.
 pub fn write_all<W: Write>(output: &mut Output<W>, bytes: &[u8]) -> Result<u64, RunFault>
-    ensures bytes { WritesAll (W.contents output.old.inner) (W.contents output.new.inner) result
-        bytes.now }
+    ensures bytes { WritesAll (W.contents output.old.inner) (W.contents output.new.inner) result bytes.now }
     ensures failed { output.new.failed ≡ (output.old.failed || is_write result) }
 {
     let mut at = 0;
@@ -91,7 +88,7 @@ pub fn write_all<W: Write>(output: &mut Output<W>, bytes: &[u8]) -> Result<u64, 
     Ok(bytes.len() as u64)
 }
 
-/// Flushes what was written. A flush that fails is a failed write.
+/// Flushes what was written. A failed flush is a failed write.
 pub fn finish<W: Write>(output: &mut Output<W>) -> Result<(), RunFault>
     ensures error { IfErr result (λ fault. fault ≡ RunFault.Write) }
     ensures bytes { Keeps (W.contents output.old.inner) (W.contents output.new.inner) }
@@ -104,8 +101,7 @@ pub fn finish<W: Write>(output: &mut Output<W>) -> Result<(), RunFault>
     Ok(())
 }
 
-/// The boxes of the bytes, written in their normal form. The bytes are let go before the output is
-/// made.
+/// The boxes of the bytes, written in their normal form. The bytes are dropped before the output is made.
 fn normalize(alloc: Global, bytes: Vec<u8>) -> mp4_stream::Result<Vec<u8>>
     ensures { Rewrites Normalizes NormalRefusal (λ v. v.items) bytes.items result }
 {
@@ -116,19 +112,17 @@ fn normalize(alloc: Global, bytes: Vec<u8>) -> mp4_stream::Result<Vec<u8>>
     Ok(out)
 }
 
-/// Reads all boxes of the input, and writes them to the output in their normal form. Boxes of other
-/// names are left out. Returns how many bytes were written.
+/// Reads all boxes of the input, and writes them to the output in their normal form. Boxes with names that the codec
+/// does not know are left out. Returns the number of bytes that were written.
 ///
-/// All input is read and all output made before any of it is written, so a refusal leaves the output
-/// as it was, and a failed write leaves the beginning that the writer took. A reader without an end
-/// is refused as out of memory.
+/// All output is made before any of it is written. So after a failed write the output has a beginning of it, and after
+/// any other fault it is as it was. A reader without an end is out of memory.
 pub fn run_normal<R: Read, W: Write>(
     alloc: Global,
     input: &mut Input<R>,
     output: &mut Output<W>,
 ) -> Result<u64, RunFault>
-    ensures run { Runs Normalizes NormalRefusal (R.remaining input.old.inner)
-        (W.contents output.old.inner) (W.contents output.new.inner) result }
+    ensures run { Runs Normalizes NormalRefusal (R.remaining input.old.inner) (W.contents output.old.inner) (W.contents output.new.inner) result }
     ensures all_read { ReachesEnd (R.remaining input.new.inner) result }
     ensures read_failed { input.new.failed ≡ (input.old.failed || is_read result) }
     ensures write_failed { output.new.failed ≡ (output.old.failed || is_write result) }

@@ -12,9 +12,9 @@ use std::fmt;
 pub enum RunFault {
     /// A call of the reader failed.
     Read,
-    /// A call of the writer failed, or took no byte.
+    /// A call of the writer failed, or took no byte of a piece that is not empty.
     Write,
-    /// The boxes could not be read or written, or memory was refused.
+    /// The boxes could not be read or written, or there was no memory.
     Boxes(Error),
 }
 
@@ -36,7 +36,7 @@ impl fmt::Display for RunFault {
             RunFault::Boxes(Error::IoError) => f.write_str("end of input"),
             RunFault::Boxes(Error::InvalidData(_)) => f.write_str("invalid data"),
             RunFault::Boxes(Error::OutOfMemory) => f.write_str("out of memory"),
-            // The one other error that boxes are refused with is a dinf box without its dref.
+            // The only other error of the codec is a dinf box without its dref child.
             RunFault::Boxes(_) => f.write_str("dref not found"),
         }
     }

@@ -1,5 +1,4 @@
-//! `mp4boxes normal` reads MP4 boxes from standard input, and writes them in their normal form to
-//! standard output.
+//! `mp4boxes normal` reads MP4 boxes from standard input, and writes them in their normal form to standard output.
 #![tactic(auto)]
 
 mod command;
@@ -8,7 +7,7 @@ mod engine;
 mod fault;
 mod outcome;
 
-use command::{Command, argument_fault, judge};
+use command::{Command, argument_fault, parse_command};
 use ends::{Input, Output};
 use engine::{finish, run_normal};
 use fault::RunFault;
@@ -16,7 +15,7 @@ use outcome::Outcome;
 use std::env;
 use std::process::ExitCode;
 
-/// From standard input to standard output, and flushed.
+/// Runs `normal` from standard input to standard output, and flushes.
 fn normal(rt: &HostRuntime) -> Result<(), RunFault> {
     let mut input = Input::new(rt.stdin());
     let mut output = Output::new(rt.stdout());
@@ -24,18 +23,18 @@ fn normal(rt: &HostRuntime) -> Result<(), RunFault> {
     finish(&mut output)
 }
 
-/// Judges the arguments, and then runs the command that they name.
+/// Runs the command that the arguments name.
 fn run(rt: &HostRuntime) -> Outcome {
     let mut words = match env::args(rt) {
         Ok(words) => words,
         Err(e) => return Outcome::Failed(argument_fault(&e)),
     };
     let _program = words.next();
-    let answer = match judge(words) {
+    let result = match parse_command(words) {
         Some(Command::Normal) => normal(rt),
         None => return Outcome::Misused,
     };
-    match answer {
+    match result {
         Ok(()) => Outcome::Done,
         Err(fault) => Outcome::Failed(fault),
     }

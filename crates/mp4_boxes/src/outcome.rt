@@ -1,4 +1,4 @@
-//! What the program came to, and what it says of it.
+//! How a run of the program ends, and what it says of it.
 
 ghost use Rattle.std.specs.Prelude.{◌≡◌, IsOk, OnOk};
 ghost use Rattle.std.specs.Io.KnownBytes.{Appends};
@@ -8,19 +8,19 @@ use crate::fault::RunFault;
 use std::io;
 use std::io::Write;
 
-/// What the program came to.
+/// How a run of the program ends.
 #[derive(Debug, Drop)]
 pub enum Outcome {
-    /// The command ran to its end.
+    /// The command succeeded.
     Done,
-    /// The arguments name no command.
+    /// The arguments are no command.
     Misused,
-    /// The run ended early.
+    /// The command failed.
     Failed(RunFault),
 }
 
 impl Outcome {
-    /// The exit status: 0, 2 for arguments that name no command, 1 for a run that ended early.
+    /// The exit status: 0 if the command succeeded, 1 if it failed, 2 if the arguments are no command.
     pub fn status(&self) -> u8
         ensures { result ≡ status_of self.now }
     {
@@ -31,10 +31,9 @@ impl Outcome {
         }
     }
 
-    /// Writes the line for standard error: none where the command ran to its end.
+    /// Writes the line for standard error, if there is one: none if the command succeeded.
     pub fn report<W: Write>(&self, errors: &mut W) -> io::Result<()>
-        ensures message { OnOk result
-            (Appends (W.contents errors.old) (W.contents errors.new) (message_of self.now)) }
+        ensures message { OnOk result (Appends (W.contents errors.old) (W.contents errors.new) (message_of self.now)) }
         ensures done { self.now ≡ Outcome.Done → IsOk result }
     {
         match self {

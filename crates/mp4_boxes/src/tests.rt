@@ -1,4 +1,4 @@
-//! Tests of the program: whole runs over readers and writers that fail, and its words and lines.
+//! Tests of the program: runs over readers and writers that fail, the words that it takes, and the lines that it writes.
 
 mod fakes;
 mod program;
@@ -8,6 +8,6 @@ mod runs;
 const INPUT: [u8; 52] =
     *b"\0\0\0\x18ftypisom\0\0\x02\0isommp41\0\0\0\x08free\0\0\0\x14stco\0\0\0\0\0\0\0\x01\0\0\x01\x0b";
 
-/// What the run over it writes.
+/// What a run over it writes.
 const OUTPUT: [u8; 44] =
     *b"\0\0\0\x18ftypisom\0\0\x02\0isommp41\0\0\0\x14stco\0\0\0\0\0\0\0\x01\0\0\x01\x0b";

@@ -22,3 +22,4 @@ pub mod Trex
 pub mod TrexLaws
 pub mod Vmhd
 pub mod VmhdLaws
+pub mod Boxes

@@ -15,7 +15,7 @@ use std::alloc::Global;
 /// The movie fragment header: the number of a fragment (`mfhd`, ISO/IEC 14496-12, 8.8.5).
 #[derive(Clone, Debug, Drop, PartialEq, Eq)]
 pub struct MfhdBox {
-    /// 0 in the standard. Every version is read and written alike.
+    /// 0 in the standard. Every version is read and written in the same way.
     pub version: u8,
     /// 24 bits, 0 in the standard.
     pub flags: u32,

@@ -16,7 +16,7 @@ use std::alloc::Global;
 /// The sound media header: the balance between left and right (`smhd`, ISO/IEC 14496-12, 12.2.2).
 #[derive(Clone, Debug, Drop, PartialEq, Eq)]
 pub struct SmhdBox {
-    /// 0 in the standard. Every version is read and written alike.
+    /// 0 in the standard. Every version is read and written in the same way.
     pub version: u8,
     /// 24 bits, 0 in the standard.
     pub flags: u32,

@@ -16,7 +16,7 @@ use std::alloc::Global;
 /// (`trex`, ISO/IEC 14496-12, 8.8.3).
 #[derive(Clone, Debug, Default, Drop, PartialEq, Eq)]
 pub struct TrexBox {
-    /// 0 in the standard. Every version is read and written alike.
+    /// 0 in the standard. Every version is read and written in the same way.
     pub version: u8,
     /// 24 bits, 0 in the standard.
     pub flags: u32,

@@ -16,7 +16,7 @@ use std::alloc::Global;
 /// The video media header: how the video is composed with the existing image (`vmhd`, ISO/IEC 14496-12, 12.1.2).
 #[derive(Clone, Debug, Default, Drop, PartialEq, Eq)]
 pub struct VmhdBox {
-    /// 0 in the standard. Every version is read and written alike.
+    /// 0 in the standard. Every version is read and written in the same way.
     pub version: u8,
     /// 24 bits, 1 in the standard.
     pub flags: u32,

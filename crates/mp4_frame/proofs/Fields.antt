@@ -25,7 +25,7 @@ take_written xs piece rest at w le len =
     let n : length (take at xs ++ piece) ≡ at + w = omega (arith, length-append (take at xs) piece, length-take at xs) in
     ap (take (at + w)) (sym (append_assoc (take at xs) piece rest)) ∙ take_at (take at xs ++ piece) rest (at + w) n
 
--- a number that was put at offset at
+-- a number that was put at offset `at`
 pub put_be_bytes : (xs : List ℕ) (at k w n : ℕ) (new rest : List ℕ) → at ≤ length xs → new ≡ big_bytes w n ++ rest → take (at + w) (put_mid at k xs new) ≡ take at xs ++ be_bytes w n
 unfolding be_bytes
 put_be_bytes xs at k w n new rest le e =

@@ -19,7 +19,7 @@ pub record IsWritten {A : Type 0} (format : Format A) : Type 0 where
   pub header : (v : A) → format.Writable v → BeginsWithHeader (format.size v) (format.name v) (format.bytes v)
   pub normal_form : (v : A) → format.Writable v → Normal format.Writable format.bytes format.normal v
 
--- The laws of a type of boxes. What is read is reads, for the bytes from a box's start on, that start, and the box's
+-- The laws of a type of boxes. `reads` is what is read, for the bytes from a box's start on, that start, and the box's
 -- size. Besides the laws of writing: the bytes are read back as the normal form; a value that was read is its own
 -- normal form, and can be written unless it is too large.
 pub record IsBox {A : Type 0} (reads : List ℕ → ℕ → ℕ → Reading A) (format : Format A) : Type 0 where

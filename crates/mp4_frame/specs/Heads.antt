@@ -39,8 +39,7 @@ header bytes o = head bytes o >>= λ h. done (header_of h)
 abbrev pub header_length : List ℕ → ℕ → ℕ
 header_length bytes o = if number bytes o 4 == 1 then 16 else 8
 
--- the fields of a header as it is written: a size of four bytes, or 1 and a size of eight bytes that counts these
--- too
+-- the fields of a header as it is written: a size of 4 bytes, or 1 and a size of 8 bytes that counts these 8 too
 abbrev pub fields_header : BoxHeader → List (ℕ × ℕ)
 fields_header h =
     if nat_lt h.size (2 ^ 32) then (4, h.size) ∷ (4, code_of h.name) ∷ [] else (4, 1) ∷ (4, code_of h.name) ∷ (8, h.size + 8) ∷ []

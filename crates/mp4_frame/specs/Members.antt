@@ -14,7 +14,7 @@ pub record Kind (E : Type 0) : Type 1 where
 abbrev pub kind : {A E : Type 0} → (List ℕ → ℕ → ℕ → Reading A) → Format A → (A → E) → Kind E
 kind {A} reads format wrap = record { Value = A; reads = reads; format = format; wrap = wrap }
 
--- the type of the boxes of a name, if E holds it
+-- the type of boxes that a name gives, if E holds one
 pub data Known (E : Type 0) : Type 1 where
   Unknown : Known E
   Is : Kind E → Known E
@@ -27,7 +27,7 @@ abbrev pub reading_known : {E : Type 0} → Known E → List ℕ → ℕ → ℕ
 reading_known (Is k) bytes start size = map_reading k.wrap (reading k.reads bytes start size)
 reading_known Unknown bytes start size = faults Invalid
 
--- the format of one member of E, applied to it; its normal form is a member of E too
+-- what the format says of one member of E; its normal form is a member of E too
 pub record Held (E : Type 0) : Type 1 where
   pub name : BoxType
   pub size : ℕ

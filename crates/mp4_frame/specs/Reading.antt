@@ -36,7 +36,7 @@ r >>= f = and_then r.asks_memory r.outcome f
 abbrev pub check : Bool → Reading (Unit {0})
 check b = if b then done tt else faults Invalid
 
--- the w bytes at o are expected; no bytes are present at every o
+-- the w bytes at o are expected; this never fails where w is 0
 abbrev pub expect_bytes : List ℕ → ℕ → ℕ → Reading (Unit {0})
 expect_bytes B o w = if nat_lt 0 w && nat_lt (length B) (o + w) then faults End else done tt
 
@@ -83,7 +83,7 @@ abbrev pub Answers : {A : Type 0} → Result A Error → Reading A → Type 0
 Answers (Ok v) r = r.outcome ≡ Ok v
 Answers (Err e) r = Refuses e r
 
--- The outcome of reading a box, by what row reads of the bytes from the box's start on. The box ends at
--- start + size, which is checked to be below 2^64.
+-- Reading a box: the function `row` reads the bytes from the box's start on. The box's end, start + size, is checked
+-- to be below 2^64.
 abbrev pub reading : {A : Type 0} → (List ℕ → ℕ → ℕ → Reading A) → List ℕ → ℕ → ℕ → Reading A
 reading row bytes start size = check (nat_lt (start + size) (2 ^ 64)) >>= λ _. row (drop start bytes) start size

@@ -23,8 +23,7 @@ unfoldable pub walk_at_most : {X : Type 0} → (ℕ → Frame → Reading (List 
 walk_at_most item B zero o = done []
 walk_at_most item B (suc n) o = if nat_le (length B) o then done [] else walk_on (item o) (λ e. walk_at_most item B n e) (frame B o)
 
--- the items of all frames from o on. Each frame has at least one byte, so there are no more than the buffer has
--- bytes
+-- the items of all frames from o on. Each frame has at least one byte, so the buffer's length bounds their number
 abbrev pub walk : {X : Type 0} → (ℕ → Frame → Reading (List X)) → List ℕ → ℕ → Reading (List X)
 walk item B o = walk_at_most item B (length B) o
 

@@ -45,8 +45,8 @@ impl<'a> ByteCursor<'a> {
         self.bytes
     }
 
-    /// Returns the next `n` bytes and moves after them, or end of input unless all of them are present. An `n` of 0
-    /// gives no bytes at every position.
+    /// Returns the next `n` bytes and moves after them, or end of input unless all of them are present. If `n` is 0,
+    /// the result is empty at every position.
     pub fn take(&mut self, n: u64) -> Result<&'a [u8]>
         ensures piece { AnswersAs (λ piece. piece.now) result (piece_at self.old.bytes.now self.old.position n) }
         ensures long { IfOk result (λ piece. length piece.now ≡ n) }

@@ -100,7 +100,7 @@ impl fmt::Display for FourCC {
     }
 }
 
-/// The text and the number, as in `isom / 0x69736F6D`.
+/// The characters and the number, as in `isom / 0x69736F6D`.
 impl fmt::Debug for FourCC {
     fn fmt<W: fmt::Write>(&self, f: &mut fmt::Formatter<W>) -> fmt::Result {
         let code = u32::from(self);

@@ -5,8 +5,8 @@
 mod box_header;
 mod box_type;
 mod byte_cursor;
-pub mod codes;
 mod child;
+pub mod codes;
 mod entries;
 mod error;
 mod four_cc;
@@ -40,8 +40,8 @@ pub use head::Head;
 pub use member::{Holds, clone_as, push_as, read_as};
 pub use number::{i16_at, i32_at, u8_at, u16_at, u24_at, u32_at, u64_at};
 pub use put::{
-    put_bytes, put_child, put_full_box, put_i16, put_i32, put_u8, put_u16, put_u24, put_u32, put_u64,
-    put_zeros,
+    put_bytes, put_child, put_full_box, put_i16, put_i32, put_u8, put_u16, put_u24, put_u32,
+    put_u64, put_zeros,
 };
 pub use read::read_boxes_as;
 pub use reading::{bytes_from, check, expect_bytes, piece_at, rows_at};

@@ -38,8 +38,8 @@ pub trait ReadBox: Sized {
 
     /// Reads the content of a box. `bytes` begins at the box's start, 8 bytes before the content, and goes on to the
     /// end of the buffer. `start` is the offset of the box's start in the buffer, and `size` its size from there.
-    /// Fields are at fixed offsets of `bytes`, and may be read past `size`. An error is the first fault, or out of
-    /// memory.
+    /// Fields are at fixed offsets of `bytes`, and may be read past `size`. An error is the first fault (missing
+    /// bytes, a check that failed, a missing child), or out of memory.
     fn read_content(alloc: Global, bytes: &[u8], start: u64, size: u64) -> Result<Self>
         requires { start + size < 2 ^ 64 }
         ensures { Answers result (reads bytes.now start size) };

@@ -21,8 +21,8 @@ pub enum Kind {
 }
 
 /// The kind of this result.
-pub fn kind_of<T>(result: &Result<T, Error>) -> Kind {
-    match result {
+pub fn kind_of<T>(outcome: &Result<T, Error>) -> Kind {
+    match outcome {
         Ok(_) => Kind::Ok,
         Err(Error::IoError) => Kind::End,
         Err(Error::InvalidData(_)) => Kind::Invalid,

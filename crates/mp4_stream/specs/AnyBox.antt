@@ -5,32 +5,9 @@ use Rattle.mp4_frame.specs.Members.{Known, Unknown, Is, kind, is_known, reading_
 use Rattle.mp4_frame.specs.Reading.{Reading}
 use Rattle.mp4_frame.specs.declared.box_type.BoxType.{BoxType}
 use Rattle.mp4_frame.specs.declared.box_type.BoxType.TheVariants as names
-use Rattle.mp4_flat.specs.Mdhd.{reads_mdhd, format_mdhd}
-use Rattle.mp4_flat.specs.Mehd.{reads_mehd, format_mehd}
-use Rattle.mp4_flat.specs.Mfhd.{reads_mfhd, format_mfhd}
-use Rattle.mp4_flat.specs.Mvhd.{reads_mvhd, format_mvhd}
-use Rattle.mp4_flat.specs.Smhd.{reads_smhd, format_smhd}
-use Rattle.mp4_flat.specs.Tfdt.{reads_tfdt, format_tfdt}
-use Rattle.mp4_flat.specs.Tkhd.{reads_tkhd, format_tkhd}
-use Rattle.mp4_flat.specs.Trex.{reads_trex, format_trex}
-use Rattle.mp4_flat.specs.Vmhd.{reads_vmhd, format_vmhd}
-use Rattle.mp4_tables.specs.Co64.{reads_co64, format_co64}
-use Rattle.mp4_tables.specs.Ctts.{reads_ctts, format_ctts}
-use Rattle.mp4_tables.specs.Elst.{reads_elst, format_elst}
-use Rattle.mp4_tables.specs.Stco.{reads_stco, format_stco}
-use Rattle.mp4_tables.specs.Stsc.{reads_stsc, format_stsc}
-use Rattle.mp4_tables.specs.Stss.{reads_stss, format_stss}
-use Rattle.mp4_tables.specs.Stsz.{reads_stsz, format_stsz}
-use Rattle.mp4_tables.specs.Stts.{reads_stts, format_stts}
-use Rattle.mp4_tables.specs.Tfhd.{reads_tfhd, format_tfhd}
-use Rattle.mp4_tables.specs.Trun.{reads_trun, format_trun}
-use Rattle.mp4_text.specs.Data.{reads_data, format_data}
-use Rattle.mp4_text.specs.Dinf.{reads_dinf, format_dinf}
-use Rattle.mp4_text.specs.Dref.{reads_dref, format_dref}
-use Rattle.mp4_text.specs.Emsg.{reads_emsg, format_emsg}
-use Rattle.mp4_text.specs.Ftyp.{reads_ftyp, format_ftyp}
-use Rattle.mp4_text.specs.Hdlr.{reads_hdlr, format_hdlr}
-use Rattle.mp4_text.specs.Url.{reads_url, format_url}
+use Rattle.mp4_flat.specs.Boxes.{reads_mvhd, format_mvhd, reads_tkhd, format_tkhd, reads_mdhd, format_mdhd, reads_mehd, format_mehd, reads_mfhd, format_mfhd, reads_smhd, format_smhd, reads_vmhd, format_vmhd, reads_trex, format_trex, reads_tfdt, format_tfdt}
+use Rattle.mp4_tables.specs.Boxes.{reads_stco, format_stco, reads_co64, format_co64, reads_stts, format_stts, reads_ctts, format_ctts, reads_stss, format_stss, reads_stsz, format_stsz, reads_stsc, format_stsc, reads_elst, format_elst, reads_tfhd, format_tfhd, reads_trun, format_trun}
+use Rattle.mp4_text.specs.Boxes.{reads_ftyp, format_ftyp, reads_hdlr, format_hdlr, reads_data, format_data, reads_emsg, format_emsg, reads_url, format_url, reads_dref, format_dref, reads_dinf, format_dinf}
 use Rattle.mp4_stream.specs.declared.any_box.AnyBox.{AnyBox}
 use Rattle.mp4_stream.specs.declared.any_box.AnyBox.TheVariants as any
 

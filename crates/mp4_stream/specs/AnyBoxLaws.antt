@@ -1,32 +1,9 @@
 -- The laws of a box of any type follow from those of its type.
 use Rattle.std.proofs.Common.{refl}
 use Rattle.mp4_frame.proofs.Members.{IsMember, member}
-use Rattle.mp4_flat.specs.MdhdLaws.{laws_mdhd}
-use Rattle.mp4_flat.specs.MehdLaws.{laws_mehd}
-use Rattle.mp4_flat.specs.MfhdLaws.{laws_mfhd}
-use Rattle.mp4_flat.specs.MvhdLaws.{laws_mvhd}
-use Rattle.mp4_flat.specs.SmhdLaws.{laws_smhd}
-use Rattle.mp4_flat.specs.TfdtLaws.{laws_tfdt}
-use Rattle.mp4_flat.specs.TkhdLaws.{laws_tkhd}
-use Rattle.mp4_flat.specs.TrexLaws.{laws_trex}
-use Rattle.mp4_flat.specs.VmhdLaws.{laws_vmhd}
-use Rattle.mp4_tables.specs.Co64Laws.{laws_co64}
-use Rattle.mp4_tables.specs.CttsLaws.{laws_ctts}
-use Rattle.mp4_tables.specs.ElstLaws.{laws_elst}
-use Rattle.mp4_tables.specs.StcoLaws.{laws_stco}
-use Rattle.mp4_tables.specs.StscLaws.{laws_stsc}
-use Rattle.mp4_tables.specs.StssLaws.{laws_stss}
-use Rattle.mp4_tables.specs.StszLaws.{laws_stsz}
-use Rattle.mp4_tables.specs.SttsLaws.{laws_stts}
-use Rattle.mp4_tables.specs.TfhdLaws.{laws_tfhd}
-use Rattle.mp4_tables.specs.TrunLaws.{laws_trun}
-use Rattle.mp4_text.specs.DataLaws.{laws_data}
-use Rattle.mp4_text.specs.DinfLaws.{laws_dinf}
-use Rattle.mp4_text.specs.DrefLaws.{laws_dref}
-use Rattle.mp4_text.specs.EmsgLaws.{laws_emsg}
-use Rattle.mp4_text.specs.FtypLaws.{laws_ftyp}
-use Rattle.mp4_text.specs.HdlrLaws.{laws_hdlr}
-use Rattle.mp4_text.specs.UrlLaws.{laws_url}
+use Rattle.mp4_flat.specs.Boxes.{laws_mvhd, laws_tkhd, laws_mdhd, laws_mehd, laws_mfhd, laws_smhd, laws_vmhd, laws_trex, laws_tfdt}
+use Rattle.mp4_tables.specs.Boxes.{laws_stco, laws_co64, laws_stts, laws_ctts, laws_stss, laws_stsz, laws_stsc, laws_elst, laws_tfhd, laws_trun}
+use Rattle.mp4_text.specs.Boxes.{laws_ftyp, laws_hdlr, laws_data, laws_emsg, laws_url, laws_dref, laws_dinf}
 use Rattle.mp4_stream.specs.AnyBox.{kinds, held}
 use Rattle.mp4_stream.specs.declared.any_box.AnyBox.{AnyBox}
 use Rattle.mp4_stream.specs.declared.any_box.AnyBox.TheVariants as any

@@ -30,3 +30,4 @@ pub mod TrunRows
 pub mod TrunLists
 pub mod Trun
 pub mod TrunLaws
+pub mod Boxes

@@ -19,7 +19,8 @@ message_from bytes size o = do
   _ ← memory
   done message
 
--- the value in version 0, where `at o w` is the number of w bytes at offset o of the box and of the numbers
+-- the value in version 0, where `at o w` is the number of w bytes at offset o of the box, and `numbers o w` the same
+-- from the first of the four numbers on
 abbrev pub value_emsg_0 : (ℕ → ℕ → ℕ) → (ℕ → ℕ → ℕ) → List ℕ × List ℕ → List ℕ → EmsgBox
 value_emsg_0 at numbers texts message = record { version = at 8 1; flags = at 9 3; timescale = numbers 0 4; presentation_time = None; presentation_time_delta = Some (numbers 4 4); event_duration = numbers 8 4; id = numbers 12 4; scheme_id_uri = texts.0; value = texts.1; message_data = message }
 

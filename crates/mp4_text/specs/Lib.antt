@@ -14,3 +14,4 @@ pub mod Hdlr
 pub mod HdlrLaws
 pub mod Emsg
 pub mod EmsgLaws
+pub mod Boxes

@@ -25,11 +25,13 @@ pub struct EmsgBox {
     pub flags: u32,
     /// The number of time units per second.
     pub timescale: u32,
-    /// In version 1, the time of the event from the start of the presentation. Version 0 doesn't write it.
+    /// In version 1, the time of the event from the start of the presentation, in the timescale. Version 0 doesn't
+    /// write it.
     pub presentation_time: Option<u64>,
-    /// In version 0, the time of the event from the start of the segment. Version 1 doesn't write it.
+    /// In version 0, the time of the event from the start of the segment, in the timescale. Version 1 doesn't write
+    /// it.
     pub presentation_time_delta: Option<u32>,
-    /// The duration of the event.
+    /// The duration of the event, in the timescale.
     pub event_duration: u32,
     /// The number of the event.
     pub id: u32,

@@ -1,4 +1,4 @@
-//! Readers and writers that move few bytes a call, count their calls, and fail at a chosen one.
+//! Readers and writers for tests: they move few bytes a call, count their calls, and fail at a chosen call.
 
 use std::alloc::Global;
 use std::io;
@@ -14,7 +14,8 @@ pub struct Giver<'a> {
 }
 
 impl<'a> Giver<'a> {
-    /// Gives at most `most` bytes a call. The call of the number `fails_at` fails, where 1 is the first, or none.
+    /// Gives at most `most` bytes a call. The call of the number `fails_at` fails, where 1 is the first; None if no call
+    /// fails.
     pub fn new(rest: &'a [u8], most: usize, fails_at: Option<u64>) -> Self {
         Giver {
             rest,
@@ -36,7 +37,7 @@ impl Read for Giver<'_> {
     }
 }
 
-/// A reader of zeros, which gives as many as are left.
+/// A reader of as many zeros as are left.
 #[derive(Drop)]
 pub struct Zeros {
     pub left: usize,
@@ -71,8 +72,8 @@ pub struct Taker {
 }
 
 impl Taker {
-    /// Takes at most `most` bytes a call. The call of the number `fails_at` is refused, where 1 is the first, or
-    /// none.
+    /// Takes at most `most` bytes a call. The call of the number `fails_at` goes wrong, where 1 is the first; None if no
+    /// call does.
     pub fn new(alloc: Global, most: usize, fails_at: Option<u64>, refusal: Refusal) -> Self {
         Taker {
             taken: Vec::new(alloc),

@@ -1,6 +1,6 @@
-//! The words that the program takes, and the lines and statuses that it ends with.
+//! The words that the program takes, and the line and the status that it ends with.
 
-use crate::command::{Command, argument_fault, judge};
+use crate::command::{Command, argument_fault, parse_command};
 use crate::fault::RunFault;
 use crate::outcome::Outcome;
 use mp4_stream::{BoxType, Error};
@@ -50,7 +50,7 @@ fn statuses_and_lines(rt: HostRuntime) -> Result<(), Fail> {
 }
 
 #[test]
-fn words(rt: HostRuntime) -> Result<(), Fail> {
+fn words_are_parsed(rt: HostRuntime) -> Result<(), Fail> {
     let table: [(&[&str], bool); 8] = [
         (&["normal"], true),
         (&[], false),
@@ -71,13 +71,13 @@ fn words(rt: HostRuntime) -> Result<(), Fail> {
         } else {
             None
         };
-        assert_eq!(rt; judge(words.into_iter()), want, "{given:?}");
+        assert_eq!(rt; parse_command(words.into_iter()), want, "{given:?}");
     }
     Ok(())
 }
 
 #[test]
-fn arguments_that_cannot_be_had(rt: HostRuntime) {
+fn arguments_that_cannot_be_read(rt: HostRuntime) {
     let fault = argument_fault(&io::Error::from(ErrorKind::InvalidData));
     assert!(rt; matches!(fault, RunFault::Read));
     let fault = argument_fault(&io::Error::from(ErrorKind::OutOfMemory));

@@ -11,14 +11,15 @@ use std::alloc::Global;
 use std::process::Abort;
 use std::test::Fail;
 
-/// How many bytes a call of the reader gives, and one of the writer takes.
+/// The most bytes that a call of the reader gives.
 const GIVEN: usize = 10;
 
+/// The most bytes that a call of the writer takes.
 const TAKEN: usize = 7;
 
 #[test]
 fn each_call_fails_in_turn(rt: HostRuntime) {
-    // The reader's last call finds the input's end.
+    // The last call of the reader is at the end of the input.
     let reads = INPUT.len().div_ceil(GIVEN) as u64 + 1;
     let writes = OUTPUT.len().div_ceil(TAKEN) as u64;
     for refusal in [Refusal::Fails, Refusal::TakesNone] {
@@ -31,23 +32,23 @@ fn each_call_fails_in_turn(rt: HostRuntime) {
                     Some(bad_write),
                     refusal,
                 ));
-                let answer = run_normal(rt.alloc(), &mut input, &mut output);
+                let result = run_normal(rt.alloc(), &mut input, &mut output);
                 let case = (refusal, bad_read, bad_write);
                 let taken = output.inner.taken.as_slice();
                 if bad_read <= reads {
-                    assert!(rt; matches!(answer, Err(RunFault::Read)), "{case:?}");
+                    assert!(rt; matches!(result, Err(RunFault::Read)), "{case:?}");
                     assert_eq!(rt; input.inner.calls, bad_read, "{case:?}");
                     assert_eq!(rt; output.inner.calls, 0, "{case:?}");
                     assert!(rt; taken.is_empty(), "{case:?}");
                 } else if bad_write <= writes {
-                    assert!(rt; matches!(answer, Err(RunFault::Write)), "{case:?}");
+                    assert!(rt; matches!(result, Err(RunFault::Write)), "{case:?}");
                     assert_eq!(rt; input.inner.calls, reads, "{case:?}");
                     assert_eq!(rt; output.inner.calls, bad_write, "{case:?}");
                     let end = (bad_write as usize - 1) * TAKEN;
                     assert!(rt; taken == &OUTPUT[..end], "{case:?}");
                 } else {
                     assert!(rt;
-                        matches!(answer, Ok(n) if n == OUTPUT.len() as u64),
+                        matches!(result, Ok(n) if n == OUTPUT.len() as u64),
                         "{case:?}"
                     );
                     assert_eq!(rt; input.inner.calls, reads, "{case:?}");
@@ -56,12 +57,12 @@ fn each_call_fails_in_turn(rt: HostRuntime) {
                 }
                 assert_eq!(rt;
                     input.failed,
-                    matches!(answer, Err(RunFault::Read)),
+                    matches!(result, Err(RunFault::Read)),
                     "{case:?}"
                 );
                 assert_eq!(rt;
                     output.failed,
-                    matches!(answer, Err(RunFault::Write)),
+                    matches!(result, Err(RunFault::Write)),
                     "{case:?}"
                 );
             }
@@ -73,8 +74,8 @@ fn each_call_fails_in_turn(rt: HostRuntime) {
 fn one_byte_a_call(rt: HostRuntime) {
     let mut input = Input::new(Giver::new(&INPUT, 1, None));
     let mut output = Output::new(Taker::new(rt.alloc(), 1, None, Refusal::Fails));
-    let answer = run_normal(rt.alloc(), &mut input, &mut output);
-    assert!(rt; matches!(answer, Ok(n) if n == OUTPUT.len() as u64));
+    let result = run_normal(rt.alloc(), &mut input, &mut output);
+    assert!(rt; matches!(result, Ok(n) if n == OUTPUT.len() as u64));
     assert!(rt; output.inner.taken.as_slice() == OUTPUT.as_slice());
     assert!(rt; !input.failed && !output.failed);
 }
@@ -82,14 +83,14 @@ fn one_byte_a_call(rt: HostRuntime) {
 #[test]
 fn one_call_of_an_end(rt: HostRuntime) {
     let mut input = Input::new(Giver::new(&INPUT, 3, Some(2)));
-    let mut place = [0u8; 8];
-    assert_eq!(rt; input.pull(&mut place), Some(3));
-    assert!(rt; place == [0x00, 0x00, 0x00, 0, 0, 0, 0, 0]);
+    let mut buf = [0u8; 8];
+    assert_eq!(rt; input.pull(&mut buf), Some(3));
+    assert!(rt; buf == [0x00, 0x00, 0x00, 0, 0, 0, 0, 0]);
     assert!(rt; !input.failed);
-    assert_eq!(rt; input.pull(&mut place), None);
+    assert_eq!(rt; input.pull(&mut buf), None);
     assert!(rt; input.failed);
-    assert_eq!(rt; input.pull(&mut place), Some(3));
-    assert!(rt; place == [0x18, 0x66, 0x74, 0, 0, 0, 0, 0]);
+    assert_eq!(rt; input.pull(&mut buf), Some(3));
+    assert!(rt; buf == [0x18, 0x66, 0x74, 0, 0, 0, 0, 0]);
     assert!(rt; input.failed);
 
     let mut output = Output::new(Taker::new(rt.alloc(), 3, Some(3), Refusal::TakesNone));
@@ -104,42 +105,42 @@ fn one_call_of_an_end(rt: HostRuntime) {
 }
 
 /// What a run over memory returns and writes.
-fn over_memory(
+fn run_over_memory(
     rt: &(impl Abort + Alloc<A = Global>),
     bytes: &[u8],
 ) -> (Result<u64, RunFault>, Vec<u8>) {
     let mut input = Input::new(bytes);
     let mut output = Output::new(Vec::new(rt.alloc()));
-    let answer = run_normal(rt.alloc(), &mut input, &mut output);
+    let result = run_normal(rt.alloc(), &mut input, &mut output);
     assert!(rt; !input.failed && !output.failed);
-    (answer, output.inner)
+    (result, output.inner)
 }
 
 #[test]
 fn runs_over_memory(rt: HostRuntime) {
-    let (answer, written) = over_memory(&rt, &INPUT);
-    assert!(rt; matches!(answer, Ok(n) if n == OUTPUT.len() as u64));
+    let (result, written) = run_over_memory(&rt, &INPUT);
+    assert!(rt; matches!(result, Ok(n) if n == OUTPUT.len() as u64));
     assert!(rt; written.as_slice() == OUTPUT.as_slice());
 
-    let (answer, written) = over_memory(&rt, &[]);
-    assert!(rt; matches!(answer, Ok(0)));
+    let (result, written) = run_over_memory(&rt, &[]);
+    assert!(rt; matches!(result, Ok(0)));
     assert!(rt; written.is_empty());
 
-    // A border: the boxes before it.
-    let (answer, written) = over_memory(&rt, &INPUT[..32]);
-    assert!(rt; matches!(answer, Ok(n) if n == OUTPUT.len() as u64 - 20));
+    // A cut between two boxes: the boxes before the cut.
+    let (result, written) = run_over_memory(&rt, &INPUT[..32]);
+    assert!(rt; matches!(result, Ok(n) if n == OUTPUT.len() as u64 - 20));
     assert!(rt; written.as_slice() == &OUTPUT[..OUTPUT.len() - 20]);
 
-    // The last byte is missing.
-    let (answer, written) = over_memory(&rt, &INPUT[..51]);
-    assert!(rt; matches!(answer, Err(RunFault::Boxes(Error::IoError))));
+    // A cut inside a box.
+    let (result, written) = run_over_memory(&rt, &INPUT[..51]);
+    assert!(rt; matches!(result, Err(RunFault::Boxes(Error::IoError))));
     assert!(rt; written.is_empty());
 
     // A box of size 2, which is less than its header.
     let mut bytes = INPUT;
     bytes[35] = 2;
-    let (answer, written) = over_memory(&rt, &bytes);
-    assert!(rt; matches!(answer, Err(RunFault::Boxes(Error::InvalidData(_)))));
+    let (result, written) = run_over_memory(&rt, &bytes);
+    assert!(rt; matches!(result, Err(RunFault::Boxes(Error::InvalidData(_)))));
     assert!(rt; written.is_empty());
 }
 
@@ -147,18 +148,18 @@ fn runs_over_memory(rt: HostRuntime) {
 fn an_endless_reader_is_out_of_memory(rt: HostRuntime) -> Result<(), Fail> {
     let heap = LocalHeap::new(rt.alloc(), 1_000_000)?;
     let mut input = Input::new(std::io::repeat(0));
-    let answer = read_all(&heap, &mut input);
-    assert!(rt; matches!(answer, Err(RunFault::Boxes(Error::OutOfMemory))));
+    let result = read_all(&heap, &mut input);
+    assert!(rt; matches!(result, Err(RunFault::Boxes(Error::OutOfMemory))));
     assert!(rt; !input.failed);
     Ok(())
 }
 
-/// Heaps of growing size refuse the first request, then the second, and so on, until one has room
-/// for all.
+/// Heaps of growing size: the first has no room for the first request, later ones have none for the second and so on,
+/// and the last have room for all.
 #[test]
 fn each_growth_is_refused_in_turn(rt: HostRuntime) -> Result<(), Fail> {
     const ALL: usize = 200_000;
-    // How much was read before each request that was refused.
+    // The number of bytes that were read before each request that was refused.
     let mut refusals: Vec<usize> = Vec::new(rt.alloc());
     let mut is_read = false;
     for blocks in 1..32 {

@@ -135,7 +135,7 @@ pub fn stss_of_nine(alloc: Global) -> Result<StssBox> {
     stss_of(alloc, &[1, 61, 121, 181, 241, 301, 361, 421, 481])
 }
 
-/// The sizes of three samples.
+/// A table of the sizes of three samples.
 pub fn stsz(alloc: Global) -> Result<StszBox> {
     Ok(StszBox {
         version: 0,
@@ -146,7 +146,7 @@ pub fn stsz(alloc: Global) -> Result<StszBox> {
     })
 }
 
-/// Nine samples of these sizes.
+/// A table of the sizes of nine samples.
 pub fn stsz_of_nine(alloc: Global) -> Result<StszBox> {
     Ok(StszBox {
         version: 0,

@@ -1,4 +1,4 @@
--- What is filled is what was read.
+-- The bytes that are filled are those that were read.
 use Rattle.std.proofs.Common.{◌≡◌, ◌≤◌, take, vec_len}
 use Rattle.std.specs.Io.KnownBytes.{Consumes}
 use Rattle.mp4_boxes.proofs.engine.read_all.Given as goal

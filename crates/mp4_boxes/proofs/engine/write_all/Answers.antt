@@ -10,9 +10,9 @@ loop-at-preserved g c =
     let bytes = c.args.bytes.now in
     let at = c.loop-at.at in
     let n = c.in-Some.n in
-    let bytes_of_fields = take-add at n bytes ∙ ap (λ l. take at bytes ++ take n l) (sym (take_rest bytes at)) in
+    let more = take-add at n bytes ∙ ap (λ l. take at bytes ++ take n l) (sym (take_rest bytes at)) in
     record {
       within = search rules;
-      front = subst (Appends _ _) (sym bytes_of_fields) (Appends-trans _ _ _ _ _ c.loop-at.invariant.front c.in-Some.ensures.bytes.0);
+      front = subst (Appends _ _) (sym more) (Appends-trans _ _ _ _ _ c.loop-at.invariant.front c.in-Some.ensures.bytes.0);
       mark = search rules;
     }

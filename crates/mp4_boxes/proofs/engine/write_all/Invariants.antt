@@ -1,4 +1,4 @@
--- What stands before the place is written.
+-- The bytes before the offset are written.
 use Rattle.std.proofs.Common.{◌≡◌, ◌-◌, ◌≤◌, take, length}
 use Rattle.std.specs.Io.KnownBytes.{Appends}
 use Rattle.mp4_boxes.proofs.engine.write_all.Given as goal
