@@ -9,7 +9,7 @@ use Rattle.mp4_frame.specs.Heads.{head}
 use Rattle.mp4_frame.specs.Reading.{Reading, Fault, ◌>>=◌, done}
 use Rattle.mp4_frame.specs.declared.head.Head.{Head}
 use Rattle.mp4_frame.proofs.Fields.{length-fields}
-use Rattle.mp4_frame.proofs.Numbers.{number-behind, number-front}
+use Rattle.mp4_frame.proofs.Numbers.{number-after, number-front}
 use Rattle.mp4_frame.proofs.Checks.{expect_bytes_present, is_value, are_bytes-drop}
 use Rattle.mp4_frame.proofs.Tables.{value_first}
 use Rattle.mp4_frame.specs.Laws.{AreBytes}
@@ -32,7 +32,7 @@ module _ {A : Type 0} (reads : List ℕ → ℕ → ℕ → Reading A) (code : �
       let past : k ≤ k + o = omega arith in
       let o2 : k + o - k ≡ o = omega arith in
       let in_part : o + 4 ≤ length part = omega (arith, long) in
-      number-behind (bytes_of_fields cs) (part ++ rest) k (k + o) 4 lj past ∙ ap (λ (j : ℕ). number (part ++ rest) j 4) o2 ∙ number-front part rest o 4 in_part
+      number-after (bytes_of_fields cs) (part ++ rest) k (k + o) 4 lj past ∙ ap (λ (j : ℕ). number (part ++ rest) j 4) o2 ∙ number-front part rest o 4 in_part
 
   head_is : head (bytes_of_fields cs ++ (part ++ rest)) k ≡ done (record { code = code; size = m; start = k })
   unfolding head

@@ -68,5 +68,5 @@ pub outcome_bind : {A B : Type 0} (r : Reading A) (f : A → Reading B) (x : A) 
 outcome_bind r f x o e h = ap (λ (p : Result _ Fault). (and_then r.asks_memory p f).outcome) e ∙ h
 
 -- an error after bytes that are present, or after a check that holds
-pub faults_behind : {A : Type 0} (u : Reading (Unit {0})) (f : Unit {0} → Reading A) → u.outcome ≡ Ok tt → (e : Error) → Refuses e (f tt) → Refuses e (u >>= f)
-faults_behind u f is e h = decided_fault e _ (u >>= f) (decides_bind u f tt is) h
+pub faults_after : {A : Type 0} (u : Reading (Unit {0})) (f : Unit {0} → Reading A) → u.outcome ≡ Ok tt → (e : Error) → Refuses e (f tt) → Refuses e (u >>= f)
+faults_after u f is e h = decided_fault e _ (u >>= f) (decides_bind u f tt is) h

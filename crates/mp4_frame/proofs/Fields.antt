@@ -13,7 +13,7 @@ use borrow.Rule.Slice.PartMut.{put_mid, post_of}
 use Rattle.mp4_frame.specs.Reading.{expect_bytes, done}
 use Rattle.mp4_frame.specs.Laws.{AreBytes}
 use Rattle.mp4_frame.proofs.Checks.{expect_bytes_present}
-use Rattle.mp4_frame.proofs.Numbers.{number-behind}
+use Rattle.mp4_frame.proofs.Numbers.{number-after}
 use Rattle.mp4_frame.specs.Bytes.{number, be_bytes, bytes_of_fields, bytes_of_fields_onto, width_of_fields, FieldsFit}
 
 pub length-be_bytes : (w n : ℕ) → length (be_bytes w n) ≡ w
@@ -102,7 +102,7 @@ found-concat_fields (c ∷ cs) rest o w fits =
     (λ f. ap (λ (xs : List ℕ). number xs o w) regrouped ∙ ap (λ (k : ℕ). number (be_bytes c.0 c.1 ++ (concat_fields cs ++ rest)) k w) (eqb-true o 0 e) ∙ ap (number (be_bytes c.0 c.1 ++ (concat_fields cs ++ rest)) 0) (eqb-true w c.0 f) ∙ number-be_bytes c.0 c.1 (concat_fields cs ++ rest) fits.0)
     (λ f. refl))
     (λ e. refl))
-    (λ ge. ap (λ (xs : List ℕ). number xs o w) regrouped ∙ number-behind (be_bytes c.0 c.1) (concat_fields cs ++ rest) c.0 o w (length-be_bytes c.0 c.1) (ltb-false o c.0 ge) ∙ found-concat_fields cs rest (o - c.0) w fits.1)
+    (λ ge. ap (λ (xs : List ℕ). number xs o w) regrouped ∙ number-after (be_bytes c.0 c.1) (concat_fields cs ++ rest) c.0 o w (length-be_bytes c.0 c.1) (ltb-false o c.0 ge) ∙ found-concat_fields cs rest (o - c.0) w fits.1)
 
 pub number-fields : (cs : List (ℕ × ℕ)) (rest : List ℕ) (o w : ℕ) → FieldsFit cs → number (bytes_of_fields cs ++ rest) o w ≡ found cs rest o w
 unfolding bytes_of_fields
@@ -128,6 +128,6 @@ unfolding number
 number-below xs o w h = big_from-lt o w xs h
 
 -- a signed number that was put after other bytes
-pub behind_signed : (v : Width) (xs ys zs : List ℕ) (w : ℕ) (z : ℤ) → SFits v z → xs ≡ ys ++ be_bytes w (of_z v (to_z v (of_z v z))) → ys ≡ zs → xs ≡ zs ++ be_bytes w (of_z v z)
-behind_signed v xs ys zs w z fits p q =
+pub signed_after : (v : Width) (xs ys zs : List ℕ) (w : ℕ) (z : ℤ) → SFits v z → xs ≡ ys ++ be_bytes w (of_z v (to_z v (of_z v z))) → ys ≡ zs → xs ≡ zs ++ be_bytes w (of_z v z)
+signed_after v xs ys zs w z fits p q =
     p ∙ ap (λ (l : List ℕ). l ++ be_bytes w (of_z v (to_z v (of_z v z)))) q ∙ ap (λ (y : ℤ). zs ++ be_bytes w (of_z v y)) (to_z-of_z v z fits)

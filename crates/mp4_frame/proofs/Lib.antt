@@ -2,7 +2,7 @@ pub mod Numbers
 pub mod Checks
 pub mod Fields
 pub mod Heads
-pub mod Places
+pub mod Puts
 pub mod Walks
 pub mod Steps
 pub mod RoundTrip

@@ -13,8 +13,8 @@ use Rattle.mp4_frame.specs.declared.error.Error.TheVariants as errors
 use Rattle.mp4_frame.proofs.Walks.{walk_first, walk_none}
 
 -- the boxes that were read, and then the outcome of the rest
-abbrev pub continued : {X : Type 0} → Bool → List X → Reading (List X) → Reading (List X)
-continued asks_memory front r = also asks_memory (r >>= λ ys. done (front ++ ys))
+abbrev pub continue_with : {X : Type 0} → Bool → List X → Reading (List X) → Reading (List X)
+continue_with asks_memory front r = also asks_memory (r >>= λ ys. done (front ++ ys))
 
 or_false : (a : Bool) → (a || false) ≡ a
 or_false true = refl
@@ -31,7 +31,7 @@ regroup_asks false false c = refl
 
 -- an item that was read moves to the front
 regroup : {X : Type 0} (a b : Bool) (front xs : List X) (c : Bool) (o : Result (List X) Fault)
-    → continued a front (also b (and_then c o (λ ys. done (xs ++ ys)))) ≡ continued (a || b) (front ++ xs) (record { asks_memory = c; outcome = o })
+    → continue_with a front (also b (and_then c o (λ ys. done (xs ++ ys)))) ≡ continue_with (a || b) (front ++ xs) (record { asks_memory = c; outcome = o })
 regroup true b front xs c (Ok ys) = ap (λ (l : List _). record { asks_memory = true; outcome = Ok l }) (sym (append_assoc front xs ys))
 regroup false true front xs c (Ok ys) = ap (λ (l : List _). record { asks_memory = true; outcome = Ok l }) (sym (append_assoc front xs ys))
 regroup false false front xs true (Ok ys) = ap (λ (l : List _). record { asks_memory = true; outcome = Ok l }) (sym (append_assoc front xs ys))
@@ -64,34 +64,34 @@ placed reading name bs B p s size same at =
 module _ {X : Type 0} (item : ℕ → Frame → Reading (List X)) (B : List ℕ) where
   -- a step over a frame whose items are read
   pub step : (a : Bool) (front xs : List X) (o : ℕ) (f : Frame) (total : Reading (List X)) → o < length B → frame B o ≡ Ok f → (item o f).outcome ≡ Ok xs
-      → continued a front (walk item B o) ≡ total → continued (a || (item o f).asks_memory) (front ++ xs) (walk item B f.end) ≡ total
+      → continue_with a front (walk item B o) ≡ total → continue_with (a || (item o f).asks_memory) (front ++ xs) (walk item B f.end) ≡ total
   step a front xs o f total lt is is_item so_far =
       let rest = walk item B f.end in
       let first : walk item B o ≡ walk_on (item o) (λ e. walk item B e) (Ok f) = walk_first item B o lt ∙ ap (walk_on (item o) (λ e. walk item B e)) is in
       let second = bind_ok (item o f) (λ xs. rest >>= λ ys. done (xs ++ ys)) xs is_item in
-      sym (ap (continued a front) (first ∙ second) ∙ regroup a (item o f).asks_memory front xs rest.asks_memory rest.outcome) ∙ so_far
+      sym (ap (continue_with a front) (first ∙ second) ∙ regroup a (item o f).asks_memory front xs rest.asks_memory rest.outcome) ∙ so_far
 
   -- the list before a fault
   fault_at : (a : Bool) (front : List X) (o : ℕ) (r : Result Frame Fault) (total : Reading (List X)) → o < length B → frame B o ≡ r
-      → continued a front (walk item B o) ≡ total → continued a front (walk_on (item o) (λ e. walk item B e) r) ≡ total
+      → continue_with a front (walk item B o) ≡ total → continue_with a front (walk_on (item o) (λ e. walk item B e) r) ≡ total
   fault_at a front o r total lt is so_far =
-      sym (ap (continued a front) (walk_first item B o lt ∙ ap (walk_on (item o) (λ e. walk item B e)) is)) ∙ so_far
+      sym (ap (continue_with a front) (walk_first item B o lt ∙ ap (walk_on (item o) (λ e. walk item B e)) is)) ∙ so_far
 
   -- a frame that faults
   walk_faults_at : (a : Bool) (front : List X) (o : ℕ) (e : Error) (r : Result Frame Fault) (total : Reading (List X)) → o < length B → frame B o ≡ r → FaultAs (Err e) r
-      → continued a front (walk item B o) ≡ total → Refuses e total
+      → continue_with a front (walk item B o) ≡ total → Refuses e total
   walk_faults_at a front o e (Ok f) total lt is fault so_far = absurd fault
   walk_faults_at a front o e (Err k) total lt is fault so_far =
       refuses_fault e k total fault (ap (λ (r : Reading (List X)). r.outcome) (sym (fault_at a front o (Err k) total lt is so_far)))
 
   pub walk_faults : (a : Bool) (front : List X) (o : ℕ) (e : Error) (total : Reading (List X)) → o < length B → FaultAs (Err e) (frame B o)
-      → continued a front (walk item B o) ≡ total → Refuses e total
+      → continue_with a front (walk item B o) ≡ total → Refuses e total
   walk_faults a front o e total lt fault so_far = walk_faults_at a front o e (frame B o) total lt refl fault so_far
 
   -- at the end of the buffer nothing is left
-  pub walk_is_over : (a : Bool) (front : List X) (o : ℕ) (total : Reading (List X)) → length B ≤ o → continued a front (walk item B o) ≡ total → total.outcome ≡ Ok front
+  pub walk_is_over : (a : Bool) (front : List X) (o : ℕ) (total : Reading (List X)) → length B ≤ o → continue_with a front (walk item B o) ≡ total → total.outcome ≡ Ok front
   walk_is_over a front o total le so_far =
-      ap (λ (r : Reading (List X)). r.outcome) (sym so_far ∙ ap (continued a front) (walk_none item B o le)) ∙ ap (λ (l : List X). Ok l) (append-nil front)
+      ap (λ (r : Reading (List X)). r.outcome) (sym so_far ∙ ap (continue_with a front) (walk_none item B o le)) ∙ ap (λ (l : List X). Ok l) (append-nil front)
 
 abbrev pub ok_list : {A : Type 0} → List A → Result (List A) Fault
 ok_list l = Ok l
@@ -105,7 +105,7 @@ err_one k = Err k
 module _ {A : Type 0} (known : BoxType → Bool) (reading : BoxType → List ℕ → ℕ → ℕ → Reading A) (B : List ℕ) where
   -- a box is skipped
   pub skipped : (front : List A) (o : ℕ) (f : Frame) (total : Reading (List A)) → o < length B → frame B o ≡ Ok f → known f.name ≡ false
-      → continued (nat_lt 0 (length front)) front (boxes known reading B o) ≡ total → continued (nat_lt 0 (length front)) front (boxes known reading B f.end) ≡ total
+      → continue_with (nat_lt 0 (length front)) front (boxes known reading B o) ≡ total → continue_with (nat_lt 0 (length front)) front (boxes known reading B f.end) ≡ total
   skipped front o f total lt is unknown so_far =
       let item : box_of known reading B o f ≡ done [] = rw unknown refl in
       let one = step (box_of known reading B) B (nat_lt 0 (length front)) front [] o f total lt is (ap (λ (r : Reading (List A)). r.outcome) item) so_far in
@@ -121,32 +121,32 @@ module _ {A : Type 0} (known : BoxType → Bool) (reading : BoxType → List ℕ
 
   -- a box is kept
   pub kept : (front : List A) (o : ℕ) (f : Frame) (v : A) (total : Reading (List A)) → o < length B → frame B o ≡ Ok f → known f.name ≡ true → (reading f.name B f.start f.size).outcome ≡ Ok v
-      → continued (nat_lt 0 (length front)) front (boxes known reading B o) ≡ total → continued (nat_lt 0 (length (front ++ v ∷ []))) (front ++ v ∷ []) (boxes known reading B f.end) ≡ total
+      → continue_with (nat_lt 0 (length front)) front (boxes known reading B o) ≡ total → continue_with (nat_lt 0 (length (front ++ v ∷ []))) (front ++ v ∷ []) (boxes known reading B f.end) ≡ total
   kept front o f v total lt is is_known e so_far =
       let item = item_known o f v is_known e in
       let one = step (box_of known reading B) B (nat_lt 0 (length front)) front (v ∷ []) o f total lt is (ap (λ (r : Reading (List A)). r.outcome) item) so_far in
       let flag : (nat_lt 0 (length front) || (box_of known reading B o f).asks_memory) ≡ nat_lt 0 (length (front ++ v ∷ [])) =
       ap (λ (r : Reading (List A)). nat_lt 0 (length front) || r.asks_memory) item ∙ or_true (nat_lt 0 (length front)) ∙ sym (long_enough front v) in
-      subst (λ (b : Bool). continued b (front ++ v ∷ []) (boxes known reading B f.end) ≡ total) flag one
+      subst (λ (b : Bool). continue_with b (front ++ v ∷ []) (boxes known reading B f.end) ≡ total) flag one
 
   -- out of memory after a box was read
   pub refused : (front : List A) (o : ℕ) (f : Frame) (v : A) (total : Reading (List A)) → o < length B → frame B o ≡ Ok f → known f.name ≡ true → (reading f.name B f.start f.size).outcome ≡ Ok v
-      → continued (nat_lt 0 (length front)) front (boxes known reading B o) ≡ total → total.asks_memory ≡ true
+      → continue_with (nat_lt 0 (length front)) front (boxes known reading B o) ≡ total → total.asks_memory ≡ true
   refused front o f v total lt is is_known e so_far =
       let one = kept front o f v total lt is is_known e so_far in
-      let two : continued (nat_lt 0 (length (front ++ v ∷ []))) (front ++ v ∷ []) (boxes known reading B f.end) ≡ continued true (front ++ v ∷ []) (boxes known reading B f.end) = ap (λ (b : Bool). continued b (front ++ v ∷ []) (boxes known reading B f.end)) (long_enough front v) in
+      let two : continue_with (nat_lt 0 (length (front ++ v ∷ []))) (front ++ v ∷ []) (boxes known reading B f.end) ≡ continue_with true (front ++ v ∷ []) (boxes known reading B f.end) = ap (λ (b : Bool). continue_with b (front ++ v ∷ []) (boxes known reading B f.end)) (long_enough front v) in
       ap (λ (r : Reading (List A)). r.asks_memory) (sym one ∙ two)
 
   item_faults : (a : Bool) (front : List A) (o : ℕ) (f : Frame) (k : Fault) (total : Reading (List A)) → o < length B → frame B o ≡ Ok f → known f.name ≡ true → (reading f.name B f.start f.size).outcome ≡ Err k
-      → continued a front (boxes known reading B o) ≡ total → total.outcome ≡ Err k
+      → continue_with a front (boxes known reading B o) ≡ total → total.outcome ≡ Err k
   item_faults a front o f k total lt is is_known e so_far =
       let r = reading f.name B f.start f.size in
       let one = fault_at (box_of known reading B) B a front o (Ok f) total lt is so_far in
       let item : box_of known reading B o f ≡ and_then r.asks_memory (Err k) (λ v. memory >>= λ _. done (v ∷ [])) = rw is_known (ap (λ (o : Result A Fault). and_then r.asks_memory o (λ v. memory >>= λ _. done (v ∷ []))) e) in
-      ap (λ (r : Reading (List A)). r.outcome) (sym one ∙ ap (λ (i : Reading (List A)). continued a front (i >>= λ xs. boxes known reading B f.end >>= λ ys. done (xs ++ ys))) item)
+      ap (λ (r : Reading (List A)). r.outcome) (sym one ∙ ap (λ (i : Reading (List A)). continue_with a front (i >>= λ xs. boxes known reading B f.end >>= λ ys. done (xs ++ ys))) item)
 
   item_asks : (a : Bool) (front : List A) (o : ℕ) (f : Frame) (total : Reading (List A)) → o < length B → frame B o ≡ Ok f → known f.name ≡ true → (reading f.name B f.start f.size).asks_memory ≡ true
-      → continued a front (boxes known reading B o) ≡ total → total.asks_memory ≡ true
+      → continue_with a front (boxes known reading B o) ≡ total → total.asks_memory ≡ true
   item_asks a front o f total lt is is_known e so_far =
       let r = reading f.name B f.start f.size in
       let one = fault_at (box_of known reading B) B a front o (Ok f) total lt is so_far in
@@ -159,11 +159,11 @@ module _ {A : Type 0} (known : BoxType → Bool) (reading : BoxType → List ℕ
 
   -- a frame faults
   pub frame_faults : (a : Bool) (front : List A) (o : ℕ) (e : Error) (total : Reading (List A)) → o < length B → FaultAs (Err e) (frame B o)
-      → continued a front (boxes known reading B o) ≡ total → Refuses e total
+      → continue_with a front (boxes known reading B o) ≡ total → Refuses e total
   frame_faults = walk_faults (box_of known reading B) B
 
   -- at the end of the buffer nothing is left
-  pub all_read : (a : Bool) (front : List A) (o : ℕ) (total : Reading (List A)) → length B ≤ o → continued a front (boxes known reading B o) ≡ total → total.outcome ≡ Ok front
+  pub all_read : (a : Bool) (front : List A) (o : ℕ) (total : Reading (List A)) → length B ≤ o → continue_with a front (boxes known reading B o) ≡ total → total.outcome ≡ Ok front
   all_read = walk_is_over (box_of known reading B) B
 
   append_read_by : (front new : List A) (a : Bool) (o : Result A Fault) → (append_read front (record { asks_memory = a; outcome = o })).outcome ≡ ok_list new → (v : A) × (o ≡ Ok v) × (front ++ v ∷ [] ≡ new)
@@ -172,11 +172,11 @@ module _ {A : Type 0} (known : BoxType → Bool) (reading : BoxType → List ℕ
 
   -- a box that was read and appended is kept
   pub append_read_keeps : (front new : List A) (o : ℕ) (f : Frame) (total : Reading (List A)) → o < length B → frame B o ≡ Ok f → known f.name ≡ true → (append_read front (reading f.name B f.start f.size)).outcome ≡ Ok new
-      → continued (nat_lt 0 (length front)) front (boxes known reading B o) ≡ total → continued (nat_lt 0 (length new)) new (boxes known reading B f.end) ≡ total
+      → continue_with (nat_lt 0 (length front)) front (boxes known reading B o) ≡ total → continue_with (nat_lt 0 (length new)) new (boxes known reading B f.end) ≡ total
   append_read_keeps front new o f total lt is is_known e so_far =
       let r = reading f.name B f.start f.size in
       let p = append_read_by front new r.asks_memory r.outcome e in
-      subst (λ (l : List A). continued (nat_lt 0 (length l)) l (boxes known reading B f.end) ≡ total) p.2 (kept front o f p.0 total lt is is_known p.1 so_far)
+      subst (λ (l : List A). continue_with (nat_lt 0 (length l)) l (boxes known reading B f.end) ≡ total) p.2 (kept front o f p.0 total lt is is_known p.1 so_far)
 
   fault_by : (front : List A) (k : Fault) (a : Bool) (o : Result A Fault) → (append_read front (record { asks_memory = a; outcome = o })).outcome ≡ err_list k → o ≡ err_one k
   fault_by front k a (Ok v) e = absurd cc
@@ -188,7 +188,7 @@ module _ {A : Type 0} (known : BoxType → Bool) (reading : BoxType → List ℕ
 
   -- a box could not be read or appended
   pub append_read_faults : (front : List A) (o : ℕ) (f : Frame) (e : Error) (total : Reading (List A)) → o < length B → frame B o ≡ Ok f → known f.name ≡ true → Refuses e (append_read front (reading f.name B f.start f.size))
-      → continued (nat_lt 0 (length front)) front (boxes known reading B o) ≡ total → Refuses e total
+      → continue_with (nat_lt 0 (length front)) front (boxes known reading B o) ≡ total → Refuses e total
   append_read_faults front o f errors.IoError total lt is is_known h so_far = (let r = reading f.name B f.start f.size in item_faults _ front o f End total lt is is_known (fault_by front End r.asks_memory r.outcome h) so_far)
   append_read_faults front o f (errors.InvalidData _) total lt is is_known h so_far = (let r = reading f.name B f.start f.size in item_faults _ front o f Invalid total lt is is_known (fault_by front Invalid r.asks_memory r.outcome h) so_far)
   append_read_faults front o f (errors.BoxNotFound n) total lt is is_known h so_far = (let r = reading f.name B f.start f.size in item_faults _ front o f (NotFound n) total lt is is_known (fault_by front (NotFound n) r.asks_memory r.outcome h) so_far)

@@ -8,8 +8,8 @@ use Rattle.mp4_frame.specs.declared.box_type.BoxType.{BoxType}
 use Rattle.mp4_frame.specs.declared.box_type.BoxType.TheVariants as names
 
 -- the table of the named codes
-abbrev pub named : List (ℕ × BoxType)
-named =
+abbrev pub named_codes : List (ℕ × BoxType)
+named_codes =
     (codes.FTYP, names.FtypBox)
     ∷ (codes.MVHD, names.MvhdBox)
     ∷ (codes.MFHD, names.MfhdBox)
@@ -72,7 +72,7 @@ look_up (c ∷ cs) n = if n == c.0 then c.1 else look_up cs n
 
 -- the name of a code
 unfoldable pub name_of : ℕ → BoxType
-name_of n = look_up named n
+name_of n = look_up named_codes n
 
 -- the code of a name
 abbrev pub code_of : BoxType → ℕ
@@ -135,7 +135,7 @@ code_of (names.UnknownBox n) = n
 
 -- an UnknownBox whose number is a named code
 abbrev pub is_disguised : BoxType → Bool
-is_disguised (names.UnknownBox n) = list_any (λ c. n == c.0) named
+is_disguised (names.UnknownBox n) = list_any (λ c. n == c.0) named_codes
 is_disguised _ = false
 
 -- the code of each entry is the code of its name
@@ -154,7 +154,7 @@ code_of-look_up (c ∷ cs) h n = chosen (n == c.0) n c.1 (look_up cs n) (λ e. h
 -- the code of the name of n is n
 pub code_of-name_of : (n : ℕ) → code_of (name_of n) ≡ n
 unfolding name_of
-code_of-name_of n = code_of-look_up named (refl, (refl, (refl, (refl, (refl, (refl, (refl, (refl, (refl, (refl, (refl, (refl, (refl, (refl, (refl, (refl, (refl, (refl, (refl, (refl, (refl, (refl, (refl, (refl, (refl, (refl, (refl, (refl, (refl, (refl, (refl, (refl, (refl, (refl, (refl, (refl, (refl, (refl, (refl, (refl, (refl, (refl, (refl, (refl, (refl, (refl, (refl, (refl, (refl, (refl, (refl, (refl, (refl, (refl, (refl, tt))))))))))))))))))))))))))))))))))))))))))))))))))))))) n
+code_of-name_of n = code_of-look_up named_codes (refl, (refl, (refl, (refl, (refl, (refl, (refl, (refl, (refl, (refl, (refl, (refl, (refl, (refl, (refl, (refl, (refl, (refl, (refl, (refl, (refl, (refl, (refl, (refl, (refl, (refl, (refl, (refl, (refl, (refl, (refl, (refl, (refl, (refl, (refl, (refl, (refl, (refl, (refl, (refl, (refl, (refl, (refl, (refl, (refl, (refl, (refl, (refl, (refl, (refl, (refl, (refl, (refl, (refl, (refl, tt))))))))))))))))))))))))))))))))))))))))))))))))))))))) n
 
 -- the name of a number that is no named code is an UnknownBox of that number
 unnamed : (cs : List (ℕ × BoxType)) (n : ℕ) → list_any (λ c. n == c.0) cs ≡ false → look_up cs n ≡ names.UnknownBox n
@@ -164,5 +164,5 @@ unnamed (c ∷ cs) n h = let p = or_parts (n == c.0) (list_any (λ c. n == c.0) 
 -- the name of the code of a name is that name
 pub name_of-code_of : (name : BoxType) → is_disguised name ≡ false → name_of (code_of name) ≡ name
 unfolding name_of
-name_of-code_of (names.UnknownBox n) h = unnamed named n h
+name_of-code_of (names.UnknownBox n) h = unnamed named_codes n h
 name_of-code_of _ h = refl

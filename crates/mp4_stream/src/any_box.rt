@@ -89,6 +89,14 @@ pub enum AnyBox {
     DinfBox(DinfBox),
 }
 
+impl Holds<AnyBox> for AnyBox {
+    ghost wrapped = { λ v. v };
+
+    fn wrap(value: AnyBox) -> AnyBox {
+        value
+    }
+}
+
 impl TryClone for AnyBox {
     fn try_clone(&self) -> Result<AnyBox> {
         of_boxes!(each, self, b => clone_as(b))

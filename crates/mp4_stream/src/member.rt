@@ -3,21 +3,12 @@
 ghost use Rattle.std.specs.Prelude.{◌≡◌};
 ghost use Rattle.mp4_stream.specs.declared.any_box.AnyBox.TheVariants as any;
 
-use crate::any_box::AnyBox;
-use mp4_flat::{MdhdBox, MehdBox, MfhdBox, MvhdBox, SmhdBox, TfdtBox, TkhdBox, TrexBox, VmhdBox};
-use mp4_frame::Holds;
-use mp4_tables::{
-    Co64Box, CttsBox, ElstBox, StcoBox, StscBox, StssBox, StszBox, SttsBox, TfhdBox, TrunBox,
+use crate::{
+    AnyBox, Co64Box, CttsBox, DataBox, DinfBox, DrefBox, ElstBox, EmsgBox, FtypBox, HdlrBox,
+    MdhdBox, MehdBox, MfhdBox, MvhdBox, SmhdBox, StcoBox, StscBox, StssBox, StszBox, SttsBox,
+    TfdtBox, TfhdBox, TkhdBox, TrexBox, TrunBox, UrlBox, VmhdBox,
 };
-use mp4_text::{DataBox, DinfBox, DrefBox, EmsgBox, FtypBox, HdlrBox, UrlBox};
-
-impl Holds<AnyBox> for AnyBox {
-    ghost wrapped = { λ v. v };
-
-    fn wrap(value: AnyBox) -> AnyBox {
-        value
-    }
-}
+use mp4_frame::Holds;
 
 impl Holds<FtypBox> for AnyBox {
     ghost wrapped = { any.FtypBox };

@@ -3,7 +3,7 @@ use Rattle.std.proofs.Common.{◌≡◌, ℕ, ◌-◌, ◌≤◌, Bool, true, fa
 use Rattle.mp4_frame.specs.Bytes.{number, be_bytes}
 use Rattle.mp4_frame.specs.Laws.{AreBytes}
 use Rattle.mp4_frame.proofs.Fields.{length-be_bytes, number-be_bytes, number-below}
-use Rattle.mp4_frame.proofs.Numbers.{number-behind}
+use Rattle.mp4_frame.proofs.Numbers.{number-after}
 use Rattle.mp4_tables.specs.Flagged.{width_if, number_if, optional, IsPresent}
 
 pub width_most : (b : Bool) (w : ℕ) → width_if b w ≤ w
@@ -33,7 +33,7 @@ unfolding number_if
 number_if_after p q true o w at =
     let same : o ≤ o = omega arith in
     let none : o - o ≡ 0 = omega arith in
-    ap (λ (m : ℕ). Some m) (number-behind p q o o w at same ∙ ap (λ (k : ℕ). number q k w) none)
+    ap (λ (m : ℕ). Some m) (number-after p q o o w at same ∙ ap (λ (k : ℕ). number q k w) none)
 number_if_after p q false o w at = refl
 
 -- a field among other bytes

@@ -12,7 +12,7 @@ use mp4_frame::{
 };
 use std::alloc::Global;
 
-/// Where the chunks of a track begin, in 64 bits (`co64`, ISO/IEC 14496-12, 8.7.5).
+/// The offsets of the chunks of a track, in 64 bits each (`co64`, ISO/IEC 14496-12, 8.7.5).
 #[derive(Debug, Drop, PartialEq, Eq)]
 pub struct Co64Box {
     /// 0 in the standard. Every version is read and written alike.
@@ -24,7 +24,7 @@ pub struct Co64Box {
 }
 
 impl Co64Box {
-    /// Version 0, flags 0 and no chunks. No memory is taken.
+    /// Version 0, flags 0 and no chunks. It takes no memory.
     pub fn default_in(alloc: Global) -> Co64Box
         ensures { result ≡ record { version = 0; flags = 0; entries = [] } }
     {
@@ -35,14 +35,14 @@ impl Co64Box {
         }
     }
 
-    /// As `box_type`.
+    /// The same as `box_type`.
     pub fn get_type(&self) -> BoxType
         ensures { result ≡ names.Co64Box }
     {
         self.box_type()
     }
 
-    /// As `box_size`.
+    /// The same as `box_size`.
     pub fn get_size(&self) -> u64
         ensures { result ≡ min (size_co64 self.now) (2 ^ 64 - 1) }
     {

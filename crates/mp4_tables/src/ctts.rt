@@ -14,19 +14,20 @@ use mp4_frame::{
 };
 use std::alloc::Global;
 
-/// How far the composition times of samples lie from their decoding times (`ctts`, ISO/IEC 14496-12, 8.6.1.3).
+/// The composition times of the samples of a track, as offsets from their decoding times (`ctts`, ISO/IEC 14496-12,
+/// 8.6.1.3).
 #[derive(Debug, Drop, PartialEq, Eq)]
 pub struct CttsBox {
     /// 0 in the standard. Every version is read and written alike.
     pub version: u8,
     /// 24 bits, 0 in the standard.
     pub flags: u32,
-    /// The runs of samples of one offset, in decoding order.
+    /// Runs of samples with the same offset, in decoding order.
     pub entries: Entries<CttsEntry>,
 }
 
 impl CttsBox {
-    /// Version 0, flags 0 and no entries. No memory is taken.
+    /// Version 0, flags 0 and no entries. It takes no memory.
     pub fn default_in(alloc: Global) -> CttsBox
         ensures { result ≡ record { version = 0; flags = 0; entries = [] } }
     {
@@ -37,14 +38,14 @@ impl CttsBox {
         }
     }
 
-    /// As `box_type`.
+    /// The same as `box_type`.
     pub fn get_type(&self) -> BoxType
         ensures { result ≡ names.CttsBox }
     {
         self.box_type()
     }
 
-    /// As `box_size`.
+    /// The same as `box_size`.
     pub fn get_size(&self) -> u64
         ensures { result ≡ min (size_ctts self.now) (2 ^ 64 - 1) }
     {

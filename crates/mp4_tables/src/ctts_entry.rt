@@ -5,20 +5,21 @@ ghost use Rattle.mp4_tables.specs.CttsEntry.{row_ctts, FitsCttsEntry};
 
 use mp4_frame::{TableEntry, put_i32, put_u32};
 
-/// A run of samples of one composition offset (ISO/IEC 14496-12, 8.6.1.3).
+/// A run of consecutive samples with the same composition offset (ISO/IEC 14496-12, 8.6.1.3).
 #[derive(Clone, Copy, Debug, Default, PartialEq, Eq)]
 pub struct CttsEntry {
-    /// How many samples follow one another.
+    /// The number of samples in the run.
     pub sample_count: u32,
-    /// Composition time minus decoding time of each of them, in the time units of the track's media. It is signed
-    /// in every version.
+    /// The composition time of each of them minus its decoding time, in the timescale of the media. It is signed in
+    /// every version.
     pub sample_offset: i32,
 }
 
-/// Every entry has. A value that is passed has the ranges of its types.
+/// Always true. For the prover: a value that was read has the range of its type.
 fn has_fitting_numbers(entry: CttsEntry) -> bool
     ensures { IsTrue result ↔ FitsCttsEntry entry }
 {
+    // For the prover: a value that was read has the range of its type.
     let _entry = entry;
     true
 }

@@ -18,19 +18,19 @@ use std::alloc::Global;
 
 const TOO_MANY: &str = "elst entry_count indicates more entries than could fit in the box";
 
-/// Which parts of its media a track presents, and in which order (`elst`, ISO/IEC 14496-12, 8.6.6).
+/// The edit list: which parts of its media a track presents, and in which order (`elst`, ISO/IEC 14496-12, 8.6.6).
 #[derive(Debug, Drop, PartialEq, Eq)]
 pub struct ElstBox {
-    /// 0 or 1 in the standard. Version 1 has times of 64 bits, every other has times of 32.
+    /// 0 or 1 in the standard. Version 1 has times of 64 bits, and every other version has times of 32 bits.
     pub version: u8,
     /// 24 bits, 0 in the standard.
     pub flags: u32,
-    /// The parts, in the order of presentation.
+    /// The parts of the media, in the order of presentation.
     pub entries: Entries<ElstEntry>,
 }
 
 impl ElstBox {
-    /// Version 0, flags 0 and no entries. No memory is taken.
+    /// Version 0, flags 0 and no entries. It takes no memory.
     pub fn default_in(alloc: Global) -> ElstBox
         ensures { result ≡ record { version = 0; flags = 0; entries = [] } }
     {
@@ -41,14 +41,14 @@ impl ElstBox {
         }
     }
 
-    /// As `box_type`.
+    /// The same as `box_type`.
     pub fn get_type(&self) -> BoxType
         ensures { result ≡ names.ElstBox }
     {
         self.box_type()
     }
 
-    /// As `box_size`.
+    /// The same as `box_size`.
     pub fn get_size(&self) -> u64
         ensures { result ≡ min (size_elst self.now) (2 ^ 64 - 1) }
     {
@@ -82,7 +82,7 @@ impl Mp4Box for ElstBox {
     }
 }
 
-/// The version is 1, whose rows are long. It is 0 where its byte is missing.
+/// Whether the version is 1, which has long rows. The version counts as 0 if its byte is not present.
 #[tactic(auto, unfolding(mp4_frame::specs::Bytes::number))]
 fn has_long_rows(bytes: &[u8]) -> bool
     ensures { result ≡ is_long (number bytes.now 8 1) }

@@ -6,31 +6,35 @@ ghost use Rattle.mp4_tables.specs.ElstEntry.{row_elst, FitsElstEntry};
 
 use mp4_frame::{TableEntry, put_bytes, put_u16, put_u64};
 
-/// A part of a track's media, as it is presented (ISO/IEC 14496-12, 8.6.6).
+/// An edit: a part of a track's media, and how it is presented (ISO/IEC 14496-12, 8.6.6).
 #[derive(Clone, Copy, Debug, Default, PartialEq, Eq)]
 pub struct ElstEntry {
-    /// How long the part lasts, in the time units of the movie. 32 bits where the box's version is not 1.
+    /// The duration of the part, in the timescale of the movie header. 32 bits unless the box has version 1.
     pub segment_duration: u64,
-    /// Where the part begins in the media, in the time units of the track's media. 32 bits where the box's version
-    /// is not 1. It has no sign: an empty part has the largest number of its width.
+    /// The time in the media at which the part begins, in the timescale of the media. 32 bits unless the box has
+    /// version 1. The number is unsigned: an empty part (-1 in the standard) has the largest number of its width.
     pub media_time: u64,
-    /// How fast the media is played, in whole numbers: 1 as it is, 0 for a part that stands still.
+    /// The whole part of the playback rate. 1 is normal speed; 0 means that the media at `media_time` is shown for
+    /// the whole duration.
     pub media_rate: u16,
-    /// The fraction of the rate, 0 in the standard.
+    /// The fraction of the playback rate, 0 in the standard.
     pub media_rate_fraction: u16,
 }
 
-/// Every entry has. A value that is passed has the ranges of its types.
+/// Always true. For the prover: a value that was read has the range of its type.
 fn has_fitting_numbers(entry: ElstEntry) -> bool
     ensures { IsTrue result ↔ FitsElstEntry true entry }
 {
+    // For the prover: a value that was read has the range of its type.
     let _entry = entry;
     true
 }
 
+/// Whether both times fit 32 bits.
 fn has_short_times(entry: ElstEntry) -> bool
     ensures { IsTrue result ↔ FitsElstEntry false entry }
 {
+    // For the prover: a value that was read has the range of its type.
     let _entry = entry;
     entry.segment_duration < 1 << 32 && entry.media_time < 1 << 32
 }

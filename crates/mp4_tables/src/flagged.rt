@@ -6,7 +6,7 @@ ghost use Rattle.mp4_tables.specs.Flagged.{is_set, width_if, number_if, optional
 
 use mp4_frame::{put_u32, put_u64, u32_at, u64_at};
 
-/// One of the flags is set.
+/// Whether `flag` is set in `flags`.
 #[tactic(auto, unfolding(crate::specs::Flagged::is_set))]
 pub(crate) fn is_set(flags: u32, flag: u32) -> bool
     ensures { result ≡ is_set flags flag }
@@ -14,7 +14,7 @@ pub(crate) fn is_set(flags: u32, flag: u32) -> bool
     flags & flag > 0
 }
 
-/// How many bytes a field takes.
+/// The number of bytes of a field: `width` if its flag is set, else 0.
 #[tactic(auto, unfolding(crate::specs::Flagged::width_if))]
 pub(crate) fn width_if(is_flagged: bool, width: usize) -> usize
     ensures width { result ≡ width_if is_flagged width }
@@ -23,7 +23,7 @@ pub(crate) fn width_if(is_flagged: bool, width: usize) -> usize
     if is_flagged { width } else { 0 }
 }
 
-/// A number of four bytes, if its flag is set.
+/// The number of four bytes at offset `at`, if its flag is set.
 #[tactic(auto, unfolding(crate::specs::Flagged::width_if, crate::specs::Flagged::number_if))]
 pub(crate) fn u32_if(bytes: &[u8], at: usize, is_flagged: bool) -> Option<u32>
     requires { at + width_if is_flagged 4 ≤ length bytes.now }
@@ -36,7 +36,7 @@ pub(crate) fn u32_if(bytes: &[u8], at: usize, is_flagged: bool) -> Option<u32>
     }
 }
 
-/// A number of eight bytes, if its flag is set.
+/// The number of eight bytes at offset `at`, if its flag is set.
 #[tactic(auto, unfolding(crate::specs::Flagged::width_if, crate::specs::Flagged::number_if))]
 pub(crate) fn u64_if(bytes: &[u8], at: usize, is_flagged: bool) -> Option<u64>
     requires { at + width_if is_flagged 8 ≤ length bytes.now }
@@ -49,7 +49,7 @@ pub(crate) fn u64_if(bytes: &[u8], at: usize, is_flagged: bool) -> Option<u64>
     }
 }
 
-/// A number of four bytes is present exactly if its flag is set.
+/// Whether a number of four bytes agrees with its flag: it is present exactly if the flag is set.
 pub(crate) fn is_present_u32(is_flagged: bool, n: Option<u32>) -> bool
     ensures { IsTrue result ↔ IsPresent is_flagged 4 n }
 {
@@ -60,7 +60,7 @@ pub(crate) fn is_present_u32(is_flagged: bool, n: Option<u32>) -> bool
     }
 }
 
-/// A number of eight bytes is present exactly if its flag is set.
+/// Whether a number of eight bytes agrees with its flag: it is present exactly if the flag is set.
 pub(crate) fn is_present_u64(is_flagged: bool, n: Option<u64>) -> bool
     ensures { IsTrue result ↔ IsPresent is_flagged 8 n }
 {
@@ -71,7 +71,7 @@ pub(crate) fn is_present_u64(is_flagged: bool, n: Option<u64>) -> bool
     }
 }
 
-/// Writes a number of four bytes, if there is one, at `at`, and returns the offset after it.
+/// Puts a number of four bytes at offset `at`, if there is one, and returns the offset after it.
 #[tactic(auto, using(crate::specs::FlaggedLaws::length_some), unfolding(crate::specs::Flagged::optional))]
 pub(crate) fn put_optional_u32(out: &mut [u8], at: usize, n: Option<u32>) -> usize
     requires { at + length (optional 4 n) ≤ length out.old }
@@ -84,7 +84,7 @@ pub(crate) fn put_optional_u32(out: &mut [u8], at: usize, n: Option<u32>) -> usi
     }
 }
 
-/// Writes a number of eight bytes, if there is one, at `at`, and returns the offset after it.
+/// Puts a number of eight bytes at offset `at`, if there is one, and returns the offset after it.
 #[tactic(auto, using(crate::specs::FlaggedLaws::length_some), unfolding(crate::specs::Flagged::optional))]
 pub(crate) fn put_optional_u64(out: &mut [u8], at: usize, n: Option<u64>) -> usize
     requires { at + length (optional 8 n) ≤ length out.old }

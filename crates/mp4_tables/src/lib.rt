@@ -1,4 +1,5 @@
-//! The counted and flagged tables: boxes of rows that a count or the flags announce.
+//! The boxes with a counted table of entries, and the boxes `tfhd` and `trun`, whose flags say which of their fields
+//! and lists are present.
 #![tactic(auto)]
 
 mod co64;

@@ -1,4 +1,4 @@
-//! Rows after the fields of a box.
+//! Reading rows, and the numbers in them.
 
 ghost use Rattle.std.specs.Prelude.{◌≡◌, ◌≤◌, ◌<◌, ◌+◌, ◌++◌, IfOk, IfErr, OnOk, map};
 ghost use Rattle.mp4_frame.specs.Bytes.{number};
@@ -8,8 +8,8 @@ ghost use Rattle.mp4_tables.specs.Rows.{rows_within};
 use mp4_frame::{Error, Result, check, rows_at, u32_at};
 use std::alloc::Global;
 
-/// The rows of `E` bytes from `at` on, as many as counted, for which a box of this size has room. `too_many` is
-/// the text of the refusal where it hasn't.
+/// The `count` rows of `E` bytes each from offset `at` on. Invalid data with the text `too_many` if a box of this
+/// size has no room for them; end of input unless all of them are present.
 #[tactic(auto, unfolding(crate::specs::Rows::rows_within))]
 pub(crate) fn read_rows<'a, const E: usize>(
     bytes: &'a [u8],
@@ -27,7 +27,7 @@ pub(crate) fn read_rows<'a, const E: usize>(
     rows_at::<E>(bytes, at, count)
 }
 
-/// Appends the number of four bytes at one place of each row.
+/// Appends the number of four bytes at offset `at` of each row. The only error is out of memory.
 pub(crate) fn append_numbers<const E: usize>(
     numbers: &mut Vec<u32>,
     rows: &[[u8; E]],
@@ -48,7 +48,7 @@ pub(crate) fn append_numbers<const E: usize>(
     Ok(())
 }
 
-/// The number of four bytes in each row.
+/// The number in each row. The only error is out of memory.
 pub(crate) fn numbers_of(alloc: Global, rows: &[[u8; 4]]) -> Result<Vec<u32>>
     ensures value { IfOk result (λ numbers. numbers.items ≡ map (λ entry. number entry 0 4) rows.now) }
     ensures memory { IfErr result (λ e. e ≡ Error.OutOfMemory) }

@@ -15,7 +15,7 @@ use mp4_frame::{
 };
 use std::alloc::Global;
 
-/// Where the chunks of a track begin, in 32 bits (`stco`, ISO/IEC 14496-12, 8.7.5).
+/// The offsets of the chunks of a track, in 32 bits each (`stco`, ISO/IEC 14496-12, 8.7.5).
 #[derive(Debug, Drop, PartialEq, Eq)]
 pub struct StcoBox {
     /// 0 in the standard. Every version is read and written alike.
@@ -27,7 +27,7 @@ pub struct StcoBox {
 }
 
 impl StcoBox {
-    /// Version 0, flags 0 and no chunks. No memory is taken.
+    /// Version 0, flags 0 and no chunks. It takes no memory.
     pub fn default_in(alloc: Global) -> StcoBox
         ensures { result ≡ record { version = 0; flags = 0; entries = [] } }
     {
@@ -38,8 +38,8 @@ impl StcoBox {
         }
     }
 
-    /// The same offsets in a box of version 0 and flags 0. Invalid data where an offset passes 2^32 - 1, before
-    /// memory is asked for.
+    /// The same offsets in a box of version 0 and flags 0. Invalid data if an offset is above 2^32 - 1, which is
+    /// checked before memory is asked for; else out of memory is the only error.
     #[tactic(auto, using(crate::proofs::Offsets::lowest_bits))]
     pub fn try_from_co64(alloc: Global, co64: &Co64Box) -> Result<StcoBox>
         ensures value { IfOk result (λ stco. stco ≡ made_stco 0 0 co64.now.entries) }
@@ -57,14 +57,14 @@ impl StcoBox {
         })
     }
 
-    /// As `box_type`.
+    /// The same as `box_type`.
     pub fn get_type(&self) -> BoxType
         ensures { result ≡ names.StcoBox }
     {
         self.box_type()
     }
 
-    /// As `box_size`.
+    /// The same as `box_size`.
     pub fn get_size(&self) -> u64
         ensures { result ≡ min (size_stco self.now) (2 ^ 64 - 1) }
     {

@@ -16,21 +16,22 @@ use mp4_frame::{
 };
 use std::alloc::Global;
 
-/// In which chunks the samples of a track lie (`stsc`, ISO/IEC 14496-12, 8.7.4). A box whose chunks step back, or
-/// whose first samples pass 2^32 - 1, is neither read nor written.
+/// The chunks that the samples of a track are in (`stsc`, ISO/IEC 14496-12, 8.7.4). A box is invalid data, in
+/// reading and in writing, if an entry has a first chunk below that of the entry before it, or a first sample above
+/// 2^32 - 1.
 #[derive(Debug, Drop, PartialEq, Eq)]
 pub struct StscBox {
     /// 0 in the standard. Every version is read and written alike.
     pub version: u8,
     /// 24 bits, 0 in the standard.
     pub flags: u32,
-    /// The runs of chunks that hold equally many samples. Their first samples are computed where a box is read,
-    /// and are of no account where it is written.
+    /// Runs of chunks with equally many samples. The first sample of each run is computed when a box is read, and
+    /// ignored when it is written.
     pub entries: Entries<StscEntry>,
 }
 
 impl StscBox {
-    /// Version 0, flags 0 and no entries. No memory is taken.
+    /// Version 0, flags 0 and no entries. It takes no memory.
     pub fn default_in(alloc: Global) -> StscBox
         ensures { result ≡ record { version = 0; flags = 0; entries = [] } }
     {
@@ -41,14 +42,14 @@ impl StscBox {
         }
     }
 
-    /// As `box_type`.
+    /// The same as `box_type`.
     pub fn get_type(&self) -> BoxType
         ensures { result ≡ names.StscBox }
     {
         self.box_type()
     }
 
-    /// As `box_size`.
+    /// The same as `box_size`.
     pub fn get_size(&self) -> u64
         ensures { result ≡ min (size_stsc self.now) (2 ^ 64 - 1) }
     {
@@ -100,8 +101,9 @@ fn entries_of(alloc: Global, rows: &[[u8; 12]]) -> Result<Vec<StscEntry>>
     Ok(entries)
 }
 
-/// The first sample of a run that begins at chunk `first`. The run before begins at `chunk` with this sample, and
-/// has that many in each chunk.
+/// The number of the first sample of a run that begins at chunk `first`. The run before it begins at the chunk
+/// `chunk` with the sample `sample`, and has `samples` samples in each chunk. `None` if `first` is below `chunk`, or
+/// if the number is above 2^32 - 1.
 fn next_sample(sample: u32, chunk: u32, samples: u32, first: u32) -> Option<u32>
     ensures { result ≡ next_sample sample chunk samples first }
 {
@@ -113,7 +115,8 @@ fn next_sample(sample: u32, chunk: u32, samples: u32, first: u32) -> Option<u32>
     Some(next as u32)
 }
 
-/// Computes the first samples.
+/// Sets the first sample of each entry. Invalid data if a first chunk is below the one before it, or if a first
+/// sample is above 2^32 - 1.
 fn number_samples(entries: &mut [StscEntry]) -> Result<()>
     ensures ok { OnOk result ((chunks_fit entries.old ≡ true) × (entries.new ≡ number_samples entries.old)) }
     ensures err { IfErr result (λ e. IsFault e Invalid × (chunks_fit entries.old ≡ false)) }
@@ -136,7 +139,8 @@ fn number_samples(entries: &mut [StscEntry]) -> Result<()>
     Ok(())
 }
 
-/// The first samples can be computed.
+/// Whether the first samples can be computed: no first chunk is below the one before it, and no first sample is
+/// above 2^32 - 1.
 fn samples_fit(entries: &[StscEntry]) -> bool
     ensures { result ≡ chunks_fit entries.now }
 {

@@ -5,24 +5,25 @@ ghost use Rattle.mp4_tables.specs.StscEntry.{row_stsc, FitsStscEntry};
 
 use mp4_frame::{TableEntry, put_u32};
 
-/// A run of chunks that hold equally many samples (ISO/IEC 14496-12, 8.7.4).
+/// A run of consecutive chunks with equally many samples (ISO/IEC 14496-12, 8.7.4).
 #[derive(Clone, Copy, Debug, Default, PartialEq, Eq)]
 pub struct StscEntry {
-    /// The number of the run's first chunk, counted from 1 in the standard. The run goes up to the next entry's.
+    /// The number of the run's first chunk, counted from 1 in the standard. The run ends before the first chunk of
+    /// the next entry.
     pub first_chunk: u32,
-    /// How many samples each chunk of the run holds.
+    /// The number of samples in each chunk of the run.
     pub samples_per_chunk: u32,
-    /// The sample entry that the samples use, counted from 1.
+    /// The index of the sample entry that the samples use, counted from 1.
     pub sample_description_index: u32,
-    /// The number of the run's first sample, counted from 1. It is computed where a box is read, and isn't
-    /// written.
+    /// The number of the run's first sample, counted from 1. It is computed when a box is read, and is not written.
     pub first_sample: u32,
 }
 
-/// Every entry has. A value that is passed has the ranges of its types.
+/// Always true. For the prover: a value that was read has the range of its type.
 fn has_fitting_numbers(entry: StscEntry) -> bool
     ensures { IsTrue result ↔ FitsStscEntry entry }
 {
+    // For the prover: a value that was read has the range of its type.
     let _entry = entry;
     true
 }

@@ -20,13 +20,13 @@ pub struct StssBox {
     pub version: u8,
     /// 24 bits, 0 in the standard.
     pub flags: u32,
-    /// The number of each sync sample, counted from 1, in rising order in the standard. Any order is read and
-    /// written.
+    /// The number of each sync sample, counted from 1. In the standard the numbers increase; here every order is
+    /// read and written.
     pub entries: Entries<u32>,
 }
 
 impl StssBox {
-    /// Version 0, flags 0 and no samples. No memory is taken.
+    /// Version 0, flags 0 and no samples. It takes no memory.
     pub fn default_in(alloc: Global) -> StssBox
         ensures { result ≡ record { version = 0; flags = 0; entries = [] } }
     {
@@ -37,14 +37,14 @@ impl StssBox {
         }
     }
 
-    /// As `box_type`.
+    /// The same as `box_type`.
     pub fn get_type(&self) -> BoxType
         ensures { result ≡ names.StssBox }
     {
         self.box_type()
     }
 
-    /// As `box_size`.
+    /// The same as `box_size`.
     pub fn get_size(&self) -> u64
         ensures { result ≡ min (size_stss self.now) (2 ^ 64 - 1) }
     {

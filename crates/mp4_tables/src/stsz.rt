@@ -14,24 +14,24 @@ use mp4_frame::{
 };
 use std::alloc::Global;
 
-/// The sizes of the samples of a track (`stsz`, ISO/IEC 14496-12, 8.7.3.2). It is written only where its list is
-/// as long as its count if `sample_size` is 0, and is empty if not.
+/// The sizes of the samples of a track (`stsz`, ISO/IEC 14496-12, 8.7.3.2). If `sample_size` is 0, it can be written
+/// only with `sample_count` entries in `sample_sizes`, else only with none.
 #[derive(Debug, Drop, PartialEq, Eq)]
 pub struct StszBox {
     /// 0 in the standard. Every version is read and written alike.
     pub version: u8,
     /// 24 bits, 0 in the standard.
     pub flags: u32,
-    /// The size of every sample, in bytes, or 0 where each has a size of its own.
+    /// The size of every sample, in bytes; 0 if each sample has a size of its own.
     pub sample_size: u32,
-    /// How many samples the track has.
+    /// The number of samples of the track.
     pub sample_count: u32,
-    /// The size of each sample, in bytes, where `sample_size` is 0.
+    /// The size of each sample, in bytes, if `sample_size` is 0.
     pub sample_sizes: Entries<u32>,
 }
 
 impl StszBox {
-    /// Version 0, flags 0, sample size 0 and no samples. No memory is taken.
+    /// Version 0, flags 0, sample size 0 and no samples. It takes no memory.
     pub fn default_in(alloc: Global) -> StszBox
         ensures { result ≡ record { version = 0; flags = 0; sample_size = 0; sample_count = 0; sample_sizes = [] } }
     {
@@ -44,14 +44,14 @@ impl StszBox {
         }
     }
 
-    /// As `box_type`.
+    /// The same as `box_type`.
     pub fn get_type(&self) -> BoxType
         ensures { result ≡ names.StszBox }
     {
         self.box_type()
     }
 
-    /// As `box_size`.
+    /// The same as `box_size`.
     pub fn get_size(&self) -> u64
         ensures { result ≡ min (size_stsz self.now) (2 ^ 64 - 1) }
     {
@@ -71,7 +71,7 @@ impl TryClone for StszBox {
     }
 }
 
-/// How many sizes the list has.
+/// The number of sizes that the list has to have: `sample_count` if `sample_size` is 0, else 0.
 fn listed_count(sample_size: u32, sample_count: u32) -> usize
     ensures { result ≡ count_of_sizes sample_size sample_count }
 {
@@ -135,6 +135,7 @@ impl ReadBox for StszBox {
 
 impl WriteBox for StszBox {
     fn is_writable(&self) -> bool {
+        // For the prover: a value that was read has the range of its type.
         let _version = self.version;
         self.flags < 1 << 24
             && self.box_size() < 1 << 32

@@ -14,19 +14,19 @@ use mp4_frame::{
 };
 use std::alloc::Global;
 
-/// How long the samples of a track last (`stts`, ISO/IEC 14496-12, 8.6.1.2).
+/// The durations of the samples of a track (`stts`, ISO/IEC 14496-12, 8.6.1.2).
 #[derive(Debug, Drop, PartialEq, Eq)]
 pub struct SttsBox {
     /// 0 in the standard. Every version is read and written alike.
     pub version: u8,
     /// 24 bits, 0 in the standard.
     pub flags: u32,
-    /// The runs of samples of one duration, in decoding order.
+    /// Runs of samples with the same duration, in decoding order.
     pub entries: Entries<SttsEntry>,
 }
 
 impl SttsBox {
-    /// Version 0, flags 0 and no entries. No memory is taken.
+    /// Version 0, flags 0 and no entries. It takes no memory.
     pub fn default_in(alloc: Global) -> SttsBox
         ensures { result ≡ record { version = 0; flags = 0; entries = [] } }
     {
@@ -37,14 +37,14 @@ impl SttsBox {
         }
     }
 
-    /// As `box_type`.
+    /// The same as `box_type`.
     pub fn get_type(&self) -> BoxType
         ensures { result ≡ names.SttsBox }
     {
         self.box_type()
     }
 
-    /// As `box_size`.
+    /// The same as `box_size`.
     pub fn get_size(&self) -> u64
         ensures { result ≡ min (size_stts self.now) (2 ^ 64 - 1) }
     {

@@ -5,19 +5,20 @@ ghost use Rattle.mp4_tables.specs.SttsEntry.{row_stts, FitsSttsEntry};
 
 use mp4_frame::{TableEntry, put_u32};
 
-/// A run of samples of one duration (ISO/IEC 14496-12, 8.6.1.2).
+/// A run of consecutive samples with the same duration (ISO/IEC 14496-12, 8.6.1.2).
 #[derive(Clone, Copy, Debug, Default, PartialEq, Eq)]
 pub struct SttsEntry {
-    /// How many samples follow one another.
+    /// The number of samples in the run.
     pub sample_count: u32,
-    /// How long each of them lasts, in the time units of the track's media.
+    /// The duration of each of them, in the timescale of the media.
     pub sample_delta: u32,
 }
 
-/// Every entry has. A value that is passed has the ranges of its types.
+/// Always true. For the prover: a value that was read has the range of its type.
 fn has_fitting_numbers(entry: SttsEntry) -> bool
     ensures { IsTrue result ↔ FitsSttsEntry entry }
 {
+    // For the prover: a value that was read has the range of its type.
     let _entry = entry;
     true
 }

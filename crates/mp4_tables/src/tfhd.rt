@@ -16,25 +16,25 @@ use mp4_frame::{
 };
 use std::alloc::Global;
 
-/// What the samples of a track fragment have in common (`tfhd`, ISO/IEC 14496-12, 8.8.7). It is written only
-/// when each optional field is present exactly if its flag is set.
+/// The track fragment header: the track of a fragment, and the defaults for its samples (`tfhd`, ISO/IEC 14496-12,
+/// 8.8.7). It can be written only if each optional field is present exactly if its flag is set.
 #[derive(Clone, Debug, Default, Drop, PartialEq, Eq)]
 pub struct TfhdBox {
     /// 0 in the standard. Every version is read and written alike.
     pub version: u8,
-    /// 24 bits, which say which of the optional fields are present.
+    /// 24 bits. They say which of the optional fields are present.
     pub flags: u32,
-    /// The number of the track, from 1 on in the standard.
+    /// The number of the track. It is not 0 in the standard.
     pub track_id: u32,
-    /// The offset in the file from which data offsets count, in bytes.
+    /// The offset in the file that data offsets are counted from, in bytes.
     pub base_data_offset: Option<u64>,
-    /// The sample entry that the samples use, counted from 1.
+    /// The index of the sample entry that the samples use, counted from 1.
     pub sample_description_index: Option<u32>,
-    /// How long a sample lasts, in the time units of the track's media.
+    /// The duration of a sample, in the timescale of the media.
     pub default_sample_duration: Option<u32>,
     /// The size of a sample, in bytes.
     pub default_sample_size: Option<u32>,
-    /// What a sample depends on, and whether it is a sync sample (8.8.3).
+    /// The flags of a sample: what it depends on, and whether it is a sync sample (8.8.3).
     pub default_sample_flags: Option<u32>,
 }
 
@@ -50,14 +50,14 @@ impl TfhdBox {
     /// The flag of `default_sample_flags`.
     pub const FLAG_DEFAULT_SAMPLE_FLAGS: u32 = 0x20;
 
-    /// As `box_type`.
+    /// The same as `box_type`.
     pub fn get_type(&self) -> BoxType
         ensures { result ≡ names.TfhdBox }
     {
         self.box_type()
     }
 
-    /// As `box_size`.
+    /// The same as `box_size`.
     pub fn get_size(&self) -> u64
         ensures { result ≡ min (size_tfhd self.now) (2 ^ 64 - 1) }
     {
@@ -65,7 +65,7 @@ impl TfhdBox {
     }
 }
 
-/// Where the flagged fields end.
+/// The offset after the optional fields.
 fn end_at(flags: u32) -> usize
     ensures offset { result ≡ end_at flags }
     ensures most { result ≤ 40 }
@@ -77,7 +77,7 @@ fn end_at(flags: u32) -> usize
     flags_at + width_if(is_set(flags, TfhdBox::FLAG_DEFAULT_SAMPLE_FLAGS), 4)
 }
 
-/// Each flagged field is present exactly if its flag is set.
+/// Whether each optional field is present exactly if its flag is set.
 fn has_flagged_fields(tfhd: &TfhdBox) -> bool
     ensures { IsTrue result ↔ FlaggedTfhd tfhd.now }
 {

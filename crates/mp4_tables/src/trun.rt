@@ -20,29 +20,29 @@ use mp4_frame::{
 };
 use std::alloc::Global;
 
-/// A run of samples of a track fragment (`trun`, ISO/IEC 14496-12, 8.8.8). It is written only when each optional
-/// field is present exactly if its flag is set, and each list is as long as the count if its flag is set and empty
-/// if not.
+/// A run of samples of a track fragment (`trun`, ISO/IEC 14496-12, 8.8.8). It can be written only if its flags say
+/// what it has: each optional field is present exactly if its flag is set, and each list has `sample_count` entries
+/// if its flag is set, else none.
 #[derive(Debug, Drop, PartialEq, Eq)]
 pub struct TrunBox {
     /// 0 or 1 in the standard. Every version is read and written alike.
     pub version: u8,
-    /// 24 bits, which say which of the fields and lists are present.
+    /// 24 bits. They say which of the optional fields and of the lists are present.
     pub flags: u32,
-    /// How many samples the run has.
+    /// The number of samples in the run.
     pub sample_count: u32,
-    /// Where the data of the run begin, in bytes from the fragment's base.
+    /// The offset of the run's data, in bytes from the base data offset of the fragment.
     pub data_offset: Option<i32>,
-    /// The flags of the first sample, in place of the default.
+    /// The flags of the first sample, in place of the default flags.
     pub first_sample_flags: Option<u32>,
-    /// How long each sample lasts, in the time units of the track's media.
+    /// The duration of each sample, in the timescale of the media.
     pub sample_durations: Entries<u32>,
     /// The size of each sample, in bytes.
     pub sample_sizes: Entries<u32>,
-    /// What each sample depends on, and whether it is a sync sample (8.8.3).
+    /// The flags of each sample: what it depends on, and whether it is a sync sample (8.8.3).
     pub sample_flags: Entries<u32>,
-    /// Composition time minus decoding time of each sample, in the time units of the track's media. It has no sign:
-    /// a negative offset of version 1 is a number above 2^31.
+    /// The composition time of each sample minus its decoding time, in the timescale of the media. The numbers are
+    /// unsigned: a negative offset of version 1 is read as its two's complement, which is 2^31 or above.
     pub sample_cts: Entries<u32>,
 }
 
@@ -60,7 +60,7 @@ impl TrunBox {
     /// The flag of `sample_cts`.
     pub const FLAG_SAMPLE_CTS: u32 = 0x800;
 
-    /// Version 0, flags 0 and no samples. No memory is taken.
+    /// Version 0, flags 0 and no samples. It takes no memory.
     pub fn default_in(alloc: Global) -> TrunBox
         ensures { result ≡ record { version = 0; flags = 0; sample_count = 0; data_offset = None; first_sample_flags = None; sample_durations = []; sample_sizes = []; sample_flags = []; sample_cts = [] } }
     {
@@ -77,14 +77,14 @@ impl TrunBox {
         }
     }
 
-    /// As `box_type`.
+    /// The same as `box_type`.
     pub fn get_type(&self) -> BoxType
         ensures { result ≡ names.TrunBox }
     {
         self.box_type()
     }
 
-    /// As `box_size`.
+    /// The same as `box_size`.
     pub fn get_size(&self) -> u64
         ensures { result ≡ min (size_trun self.now) (2 ^ 64 - 1) }
     {
@@ -108,7 +108,7 @@ impl TryClone for TrunBox {
     }
 }
 
-/// Where the rows begin.
+/// The offset of the first row.
 fn rows_at(flags: u32) -> usize
     ensures offset { result ≡ rows_at flags }
     ensures most { result ≤ 24 }
@@ -159,7 +159,7 @@ impl ReadBox for TrunBox {
     }
 }
 
-/// The signed number of the same bits.
+/// The signed number with the same bits.
 fn signed_bits(n: Option<u32>) -> Option<i32>
     ensures { result ≡ signed_bits n }
 {
@@ -169,7 +169,7 @@ fn signed_bits(n: Option<u32>) -> Option<i32>
     }
 }
 
-/// The unsigned number of the same bits.
+/// The unsigned number with the same bits.
 fn unsigned_bits(n: Option<i32>) -> Option<u32>
     ensures { result ≡ unsigned_bits n }
 {
@@ -179,7 +179,7 @@ fn unsigned_bits(n: Option<i32>) -> Option<u32>
     }
 }
 
-/// A number fits, if there is one.
+/// Always true. For the prover: a value that was read has the range of its type.
 fn fits_optional(n: Option<i32>) -> bool
     ensures { IsTrue result ↔ FitsOptional n }
 {
@@ -190,7 +190,7 @@ fn fits_optional(n: Option<i32>) -> bool
     }
 }
 
-/// Each list is as long as the count if its flag is set, else empty.
+/// Whether each list has `sample_count` entries if its flag is set, else none.
 fn has_flagged_lists(trun: &TrunBox) -> bool
     ensures { IsTrue result ↔ ListedTrun trun.now }
 {
@@ -202,7 +202,7 @@ fn has_flagged_lists(trun: &TrunBox) -> bool
         && is_listed(has.cts, count, trun.sample_cts.as_slice())
 }
 
-/// Each field is present exactly if its flag is set.
+/// Whether each optional field is present exactly if its flag is set.
 fn has_flagged_fields(flags: u32, data_offset: Option<i32>, first_sample_flags: Option<u32>) -> bool
     ensures { IsTrue result ↔ FlaggedTrun flags data_offset first_sample_flags }
 {

@@ -11,8 +11,8 @@ by xs true e = refl
 by xs false e = omega (arith, ltb-false (position_or_len is_zero xs) (length xs) e, prefix_len-le-length (λ x. not (is_zero x)) xs)
 
 -- the index of the first zero byte, or the length if there is none
-pub place_or_length : (xs : List ℕ) → unwrap_or (position is_zero xs) (length xs) ≡ position_or_len is_zero xs
-place_or_length xs = by xs (ltb (position_or_len is_zero xs) (length xs)) refl
+pub offset_or_length : (xs : List ℕ) → unwrap_or (position is_zero xs) (length xs) ≡ position_or_len is_zero xs
+offset_or_length xs = by xs (ltb (position_or_len is_zero xs) (length xs)) refl
 
-pub place_within : (xs : List ℕ) → position_or_len is_zero xs ≤ length xs
-place_within xs = prefix_len-le-length (λ x. not (is_zero x)) xs
+pub offset_within : (xs : List ℕ) → position_or_len is_zero xs ≤ length xs
+offset_within xs = prefix_len-le-length (λ x. not (is_zero x)) xs

@@ -5,7 +5,7 @@
 use Rattle.std.specs.Prelude.{◌≡◌, ℕ, ◌+◌, ◌-◌, ◌==◌, ◌&&◌, nat_le, Bool, true, List, [], ◌∷◌, ◌++◌, length, drop, Some, None, is_some, unwrap_or, if◌then◌else◌}
 use Rattle.mp4_frame.specs.Bytes.{number, bytes_of_fields, FieldsFit, full_box}
 use Rattle.mp4_frame.specs.Reading.{Reading, Invalid, ◌>>=◌, expect_bytes, check, piece_at, memory, done, faults}
-use Rattle.mp4_text.specs.Terminated.{two_texts, behind, terminated, IsTerminable}
+use Rattle.mp4_text.specs.Terminated.{two_texts, after_texts, text_and_zero, IsTerminable}
 use Rattle.mp4_frame.specs.Format.{Format}
 use Rattle.mp4_frame.specs.declared.box_type.BoxType.TheVariants as names
 use Rattle.mp4_frame.specs.declared.codes.TheConstants as codes
@@ -31,15 +31,15 @@ value_emsg_1 at numbers texts message = record { version = at 8 1; flags = at 9 
 unfoldable pub reads_emsg_0 : List ℕ → ℕ → Reading EmsgBox
 reads_emsg_0 bytes size = do
   texts ← two_texts bytes 12
-  _ ← expect_bytes bytes (behind 12 texts) 16
-  message ← message_from bytes size (behind 12 texts + 16)
-  done (value_emsg_0 (number bytes) (number (drop (behind 12 texts) bytes)) texts message)
+  _ ← expect_bytes bytes (after_texts 12 texts) 16
+  message ← message_from bytes size (after_texts 12 texts + 16)
+  done (value_emsg_0 (number bytes) (number (drop (after_texts 12 texts) bytes)) texts message)
 
 unfoldable pub reads_emsg_1 : List ℕ → ℕ → Reading EmsgBox
 reads_emsg_1 bytes size = do
   _ ← expect_bytes bytes 12 20
   texts ← two_texts bytes 32
-  message ← message_from bytes size (behind 32 texts)
+  message ← message_from bytes size (after_texts 32 texts)
   done (value_emsg_1 (number bytes) (number (drop 12 bytes)) texts message)
 
 -- the fields after version and flags
@@ -69,7 +69,7 @@ abbrev pub numbers_emsg_1 : EmsgBox → List (ℕ × ℕ)
 numbers_emsg_1 v = (4, v.timescale) ∷ (8, unwrap_or v.presentation_time 0) ∷ (4, v.event_duration) ∷ (4, v.id) ∷ []
 
 abbrev pub texts_emsg : EmsgBox → List ℕ
-texts_emsg v = terminated v.scheme_id_uri ++ terminated v.value
+texts_emsg v = text_and_zero v.scheme_id_uri ++ text_and_zero v.value
 
 -- the bytes of the numbers and the strings, in the order of the version
 abbrev pub middle_emsg : EmsgBox → List ℕ

@@ -13,12 +13,12 @@ use Rattle.mp4_frame.proofs.Decided.{outcome_bind}
 use Rattle.mp4_frame.proofs.Checks.{expect_bytes_present, expect_bytes_ok, is_value, are_bytes-drop, piece_back}
 use Rattle.mp4_frame.proofs.Tables.{value_first}
 use Rattle.mp4_text.specs.Emsg.{message_from, value_emsg_0, value_emsg_1, reads_emsg_0, reads_emsg_1, reads_emsg_version, reads_emsg, size_middle, size_emsg, fields_emsg, numbers_emsg_0, numbers_emsg_1, texts_emsg, middle_emsg, WritableEmsg, bytes_emsg, normal_emsg, format_emsg}
-use Rattle.mp4_text.specs.Terminated.{two_texts, behind, terminated}
+use Rattle.mp4_text.specs.Terminated.{two_texts, after_texts, text_and_zero}
 use Rattle.mp4_text.specs.TerminatedLaws.{taken, two_back, texts_are}
 use Rattle.mp4_text.specs.declared.emsg.EmsgBox.{EmsgBox}
 
 length_texts : (v : EmsgBox) → length (texts_emsg v) ≡ length v.scheme_id_uri + length v.value + 2
-length_texts v = omega (arith, length-append (terminated v.scheme_id_uri) (terminated v.value), length-append v.scheme_id_uri (0 ∷ []), length-append v.value (0 ∷ []))
+length_texts v = omega (arith, length-append (text_and_zero v.scheme_id_uri) (text_and_zero v.value), length-append v.scheme_id_uri (0 ∷ []), length-append v.value (0 ∷ []))
 
 length_by : (v : EmsgBox) (b : Bool) → length (cond b (texts_emsg v ++ bytes_of_fields (numbers_emsg_0 v)) (bytes_of_fields (numbers_emsg_1 v) ++ texts_emsg v)) ≡ cond b 18 22 + length v.scheme_id_uri + length v.value
 length_by v true = omega (arith, length-append (texts_emsg v) (bytes_of_fields (numbers_emsg_0 v)), length_texts v, length-fields (numbers_emsg_0 v))
@@ -89,7 +89,7 @@ back_0 v rest w e =
     let cs = fields_emsg v in
     let ns = numbers_emsg_0 v in
     let texts : List ℕ × List ℕ = (v.scheme_id_uri, v.value) in
-    let at = behind 12 texts in
+    let at = after_texts 12 texts in
     let tail = v.message_data ++ rest in
     let B = bytes_of_fields cs ++ (texts_emsg v ++ (bytes_of_fields ns ++ tail)) in
     let front = bytes_of_fields cs ++ texts_emsg v in
@@ -112,7 +112,7 @@ back_1 v rest w e =
     let cs = fields_emsg v in
     let ns = numbers_emsg_1 v in
     let texts : List ℕ × List ℕ = (v.scheme_id_uri, v.value) in
-    let at = behind 32 texts in
+    let at = after_texts 32 texts in
     let tail = texts_emsg v ++ (v.message_data ++ rest) in
     let B = bytes_of_fields cs ++ (bytes_of_fields ns ++ tail) in
     let front = bytes_of_fields cs ++ bytes_of_fields ns in
@@ -158,11 +158,11 @@ IsSound v = (normal_emsg v ≡ v) × (size_emsg v < 2 ^ 32 → WritableEmsg v)
 sound_0 : (bytes : List ℕ) (long : ℕ) (v : EmsgBox) → AreBytes bytes → (number bytes 8 1 == 0) ≡ true → (reads_emsg_0 bytes long).outcome ≡ Ok v → IsSound v
 unfolding reads_emsg_0
 sound_0 bytes long v are zero_is e =
-    let last = λ (texts : List ℕ × List ℕ) (message : List ℕ). done (value_emsg_0 (number bytes) (number (drop (behind 12 texts) bytes)) texts message) in
-    let p = value_first (two_texts bytes 12) (λ texts. expect_bytes bytes (behind 12 texts) 16 >>= λ _. message_from bytes long (behind 12 texts + 16) >>= last texts) v e in
-    let q = value_first (message_from bytes long (behind 12 p.0 + 16)) (last p.0) v (expect_bytes_ok bytes (behind 12 p.0) 16 (λ _. message_from bytes long (behind 12 p.0 + 16) >>= last p.0) v p.2) in
-    let D = drop (behind 12 p.0) bytes in
-    let are_D : AreBytes D = are_bytes-drop (behind 12 p.0) bytes are in
+    let last = λ (texts : List ℕ × List ℕ) (message : List ℕ). done (value_emsg_0 (number bytes) (number (drop (after_texts 12 texts) bytes)) texts message) in
+    let p = value_first (two_texts bytes 12) (λ texts. expect_bytes bytes (after_texts 12 texts) 16 >>= λ _. message_from bytes long (after_texts 12 texts + 16) >>= last texts) v e in
+    let q = value_first (message_from bytes long (after_texts 12 p.0 + 16)) (last p.0) v (expect_bytes_ok bytes (after_texts 12 p.0) 16 (λ _. message_from bytes long (after_texts 12 p.0 + 16) >>= last p.0) v p.2) in
+    let D = drop (after_texts 12 p.0) bytes in
+    let are_D : AreBytes D = are_bytes-drop (after_texts 12 p.0) bytes are in
     let texts = texts_are bytes 12 p.0 p.1 in
     let made : EmsgBox = value_emsg_0 (number bytes) (number D) p.0 q.0 in
     let can : size_emsg made < 2 ^ 32 → WritableEmsg made = λ small. record {
@@ -179,8 +179,8 @@ sound_1 : (bytes : List ℕ) (long : ℕ) (v : EmsgBox) → AreBytes bytes → (
 unfolding reads_emsg_1
 sound_1 bytes long v are other one_is e =
     let last = λ (texts : List ℕ × List ℕ) (message : List ℕ). done (value_emsg_1 (number bytes) (number (drop 12 bytes)) texts message) in
-    let p = value_first (two_texts bytes 32) (λ texts. message_from bytes long (behind 32 texts) >>= last texts) v (expect_bytes_ok bytes 12 20 (λ _. two_texts bytes 32 >>= λ texts. message_from bytes long (behind 32 texts) >>= last texts) v e) in
-    let q = value_first (message_from bytes long (behind 32 p.0)) (last p.0) v p.2 in
+    let p = value_first (two_texts bytes 32) (λ texts. message_from bytes long (after_texts 32 texts) >>= last texts) v (expect_bytes_ok bytes 12 20 (λ _. two_texts bytes 32 >>= λ texts. message_from bytes long (after_texts 32 texts) >>= last texts) v e) in
+    let q = value_first (message_from bytes long (after_texts 32 p.0)) (last p.0) v p.2 in
     let D = drop 12 bytes in
     let are_D : AreBytes D = are_bytes-drop 12 bytes are in
     let texts = texts_are bytes 32 p.0 p.1 in

@@ -6,7 +6,7 @@ use Rattle.std.specs.Str.{IsUtf8}
 use Rattle.mp4_frame.specs.Bytes.{number, bytes_of_fields, FieldsFit, full_box}
 use Rattle.mp4_frame.specs.FourCC.{four_cc_of, number_of, IsFourCC}
 use Rattle.mp4_frame.specs.Reading.{Reading, ◌>>=◌, expect_bytes, check, piece_at, memory, done}
-use Rattle.mp4_text.specs.Terminated.{terminated}
+use Rattle.mp4_text.specs.Terminated.{text_and_zero}
 use Rattle.mp4_frame.specs.Text.{text_or}
 use Rattle.mp4_frame.specs.Format.{Format}
 use Rattle.mp4_frame.specs.declared.box_type.BoxType.TheVariants as names
@@ -39,7 +39,7 @@ pub record WritableHdlr (v : HdlrBox) : Type 0 where
   pub text : IsUtf8 v.name
 
 unfoldable pub bytes_hdlr : HdlrBox → List ℕ
-bytes_hdlr v = bytes_of_fields (fields_hdlr v) ++ terminated v.name
+bytes_hdlr v = bytes_of_fields (fields_hdlr v) ++ text_and_zero v.name
 
 abbrev pub format_hdlr : Format HdlrBox
 format_hdlr = record { name = λ _. names.HdlrBox; size = size_hdlr; Writable = WritableHdlr; bytes = bytes_hdlr; normal = λ v. v }

@@ -15,7 +15,7 @@ use Rattle.mp4_frame.proofs.CodeNames.{four_cc_back, four_cc_is, small_code}
 use Rattle.mp4_frame.proofs.Fields.{numbers-fields, expect_bytes-fields, length-fields}
 use Rattle.mp4_frame.proofs.Checks.{expect_bytes_ok, check_ok, is_value, piece_back}
 use Rattle.mp4_frame.proofs.Tables.{value_first}
-use Rattle.mp4_text.specs.Terminated.{terminated}
+use Rattle.mp4_text.specs.Terminated.{text_and_zero}
 use Rattle.mp4_frame.specs.Text.{text_or}
 use Rattle.mp4_frame.specs.TextLaws.{text_as_is, IsUtf8-text_or}
 use Rattle.mp4_text.specs.Hdlr.{value_hdlr, reads_hdlr, size_hdlr, fields_hdlr, WritableHdlr, bytes_hdlr, format_hdlr}
@@ -47,7 +47,7 @@ pub laws_hdlr : IsBox reads_hdlr format_hdlr
 unfolding bytes_hdlr reads_hdlr
 laws_hdlr = record {
   header = λ v w.
-      header_in_front _ (terminated v.name) w.fit (omega (arith, length-append v.name (0 ∷ [])));
+      header_in_front _ (text_and_zero v.name) w.fit (omega (arith, length-append v.name (0 ∷ [])));
   normal_form = λ v w. own_normal_form v refl w;
   read_back = λ v w rest start top.
       let cs = fields_hdlr v in
@@ -57,7 +57,7 @@ laws_hdlr = record {
       let long : 33 + n - 33 ≡ n = omega arith in
       let whole : (reads_hdlr (bytes_of_fields cs ++ tail) start (size_hdlr v)).outcome ≡ Ok v =
       rw (expect_bytes-fields cs tail 8 12 (lit≤ tt), enough, long, piece_back (bytes_of_fields cs) v.name (0 ∷ rest) 32 (length-fields cs), text_as_is (codes "null") v.name w.text, numbers-fields cs tail w.fit) (ap (λ (c : FourCC). Ok (record v { handler_type = c })) (four_cc_back v.handler_type w.handler)) in
-      ap (λ (l : List ℕ). (reads_hdlr l start (size_hdlr v)).outcome) (append_assoc (bytes_of_fields cs) (terminated v.name) rest ∙ ap (λ (l : List ℕ). bytes_of_fields cs ++ l) (append_assoc v.name (0 ∷ []) rest))
+      ap (λ (l : List ℕ). (reads_hdlr l start (size_hdlr v)).outcome) (append_assoc (bytes_of_fields cs) (text_and_zero v.name) rest ∙ ap (λ (l : List ℕ). bytes_of_fields cs ++ l) (append_assoc v.name (0 ∷ []) rest))
       ∙ whole;
   sound = λ bytes start long v are e. (refl, writable bytes start long v are e);
 }

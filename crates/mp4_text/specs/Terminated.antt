@@ -33,12 +33,12 @@ two_texts bytes o = do
   done (first, second)
 
 -- the offset after two strings that begin at o
-abbrev pub behind : ℕ → List ℕ × List ℕ → ℕ
-behind o texts = o + length texts.0 + length texts.1 + 2
+abbrev pub after_texts : ℕ → List ℕ × List ℕ → ℕ
+after_texts o texts = o + length texts.0 + length texts.1 + 2
 
 -- a string as it is written
-abbrev pub terminated : List ℕ → List ℕ
-terminated text = text ++ 0 ∷ []
+abbrev pub text_and_zero : List ℕ → List ℕ
+text_and_zero text = text ++ 0 ∷ []
 
 -- a UTF-8 string with no zero byte in it
 pub record IsTerminable (text : List ℕ) : Type 0 where

@@ -10,11 +10,11 @@ use Rattle.mp4_frame.specs.Reading.{Reading, ◌>>=◌, expect_bytes, memory, do
 use Rattle.mp4_frame.proofs.Checks.{expect_bytes_present, expect_bytes_ok, check_ok, is_value}
 use Rattle.mp4_frame.proofs.Tables.{value_first}
 use Rattle.mp4_frame.specs.TextLaws.{utf8_passes}
-use Rattle.mp4_text.specs.Terminated.{is_zero, before_zero, utf8_text, terminated_text, two_texts, terminated, IsTerminable}
+use Rattle.mp4_text.specs.Terminated.{is_zero, before_zero, utf8_text, terminated_text, two_texts, text_and_zero, IsTerminable}
 
 -- a reading of this value that asks for memory
-abbrev pub taken : {A : Type 0} → A → Reading A
-taken v = record { asks_memory = true; outcome = Ok v }
+abbrev pub with_value : {A : Type 0} → A → Reading A
+with_value v = record { asks_memory = true; outcome = Ok v }
 
 zero_at : (text rest : List ℕ) → list_any is_zero text ≡ false → position_or_len is_zero (text ++ 0 ∷ rest) ≡ length text
 zero_at [] rest e = refl
@@ -23,7 +23,7 @@ zero_at (b ∷ text) rest e =
     let later : position_or_len is_zero (text ++ 0 ∷ rest) ≡ length text = zero_at text rest p.1 in
     ap (λ (z : Bool). cond (not z) (1 + position_or_len is_zero (text ++ 0 ∷ rest)) 0) p.0 ∙ (let n : 1 + position_or_len is_zero (text ++ 0 ∷ rest) ≡ length (b ∷ text) = omega (arith, later) in n)
 
-pub text_back : (x text y : List ℕ) (o : ℕ) → length x ≡ o → IsTerminable text → terminated_text (x ++ (text ++ 0 ∷ y)) o ≡ taken text
+pub text_back : (x text y : List ℕ) (o : ℕ) → length x ≡ o → IsTerminable text → terminated_text (x ++ (text ++ 0 ∷ y)) o ≡ with_value text
 unfolding terminated_text
 text_back x text y o at is =
     let B = x ++ (text ++ 0 ∷ y) in
@@ -35,15 +35,15 @@ text_back x text y o at is =
     ∙ rw (expect_bytes_present B o (length text + 1) room, utf8_passes text is.utf8) refl
 
 -- two strings are read back
-pub two_back : (x s t y : List ℕ) (o : ℕ) → length x ≡ o → IsTerminable s → IsTerminable t → two_texts (x ++ ((terminated s ++ terminated t) ++ y)) o ≡ taken (s, t)
+pub two_back : (x s t y : List ℕ) (o : ℕ) → length x ≡ o → IsTerminable s → IsTerminable t → two_texts (x ++ ((text_and_zero s ++ text_and_zero t) ++ y)) o ≡ with_value (s, t)
 unfolding two_texts
 two_back x s t y o at is it =
-    let B = x ++ ((terminated s ++ terminated t) ++ y) in
-    let here : B ≡ x ++ (s ++ 0 ∷ (terminated t ++ y)) = simp append_assoc in
-    let there : B ≡ (x ++ terminated s) ++ (t ++ 0 ∷ y) = simp append_assoc in
-    let next : length (x ++ terminated s) ≡ o + length s + 1 = omega (arith, length-append x (terminated s), length-append s (0 ∷ []), at) in
-    let first : terminated_text B o ≡ taken s = ap (λ (l : List ℕ). terminated_text l o) here ∙ text_back x s (terminated t ++ y) o at is in
-    let second : terminated_text B (o + length s + 1) ≡ taken t = ap (λ (l : List ℕ). terminated_text l (o + length s + 1)) there ∙ text_back (x ++ terminated s) t y (o + length s + 1) next it in
+    let B = x ++ ((text_and_zero s ++ text_and_zero t) ++ y) in
+    let here : B ≡ x ++ (s ++ 0 ∷ (text_and_zero t ++ y)) = simp append_assoc in
+    let there : B ≡ (x ++ text_and_zero s) ++ (t ++ 0 ∷ y) = simp append_assoc in
+    let next : length (x ++ text_and_zero s) ≡ o + length s + 1 = omega (arith, length-append x (text_and_zero s), length-append s (0 ∷ []), at) in
+    let first : terminated_text B o ≡ with_value s = ap (λ (l : List ℕ). terminated_text l o) here ∙ text_back x s (text_and_zero t ++ y) o at is in
+    let second : terminated_text B (o + length s + 1) ≡ with_value t = ap (λ (l : List ℕ). terminated_text l (o + length s + 1)) there ∙ text_back (x ++ text_and_zero s) t y (o + length s + 1) next it in
     rw (first, second) refl
 
 none_by : (b n : ℕ) (xs : List ℕ) (z : Bool) → is_zero b ≡ z → list_any is_zero (take n xs) ≡ false → list_any is_zero (take (cond (not z) (1 + n) 0) (b ∷ xs)) ≡ false

@@ -5,7 +5,7 @@ use Rattle.std.specs.Prelude.{ℕ, ◌+◌, ◌-◌, nat_lt, ◌==◌, List, [],
 use Rattle.std.specs.Str.{IsUtf8}
 use Rattle.mp4_frame.specs.Bytes.{number, bytes_of_fields, FieldsFit, full_box}
 use Rattle.mp4_frame.specs.Reading.{Reading, ◌>>=◌, expect_bytes, piece_at, memory, done}
-use Rattle.mp4_text.specs.Terminated.{terminated}
+use Rattle.mp4_text.specs.Terminated.{text_and_zero}
 use Rattle.mp4_frame.specs.Text.{text_or}
 use Rattle.mp4_frame.specs.Format.{Format}
 use Rattle.mp4_frame.specs.declared.box_type.BoxType.TheVariants as names
@@ -30,7 +30,7 @@ reads_url bytes start size = do
 
 -- a location is written with a zero byte after it; for an empty location nothing is written
 abbrev pub bytes_location : List ℕ → List ℕ
-bytes_location location = if length location == 0 then [] else terminated location
+bytes_location location = if length location == 0 then [] else text_and_zero location
 
 abbrev pub size_url : UrlBox → ℕ
 size_url v = if length v.location == 0 then 12 else 13 + length v.location

@@ -14,7 +14,7 @@ use Rattle.mp4_frame.proofs.Checks.{expect_bytes_ok, is_value, piece_back}
 use Rattle.mp4_frame.proofs.Tables.{value_first}
 use Rattle.mp4_frame.specs.TextLaws.{text_as_is, IsUtf8-text_or}
 use Rattle.mp4_frame.specs.Text.{text_or}
-use Rattle.mp4_text.specs.Terminated.{terminated}
+use Rattle.mp4_text.specs.Terminated.{text_and_zero}
 use Rattle.mp4_text.specs.Url.{reads_url, reads_location, value_url, fields_url, bytes_location, size_url, WritableUrl, bytes_url, format_url}
 use Rattle.mp4_text.specs.declared.url.UrlBox.{UrlBox}
 
@@ -35,7 +35,7 @@ full_back cs location rest start fits wide text =
     rw (f, t, k, piece_back (bytes_of_fields cs) location rest 12 lj, text_as_is [] location text, numbers-fields cs (location ++ rest) fits) refl
 
 back_by : (v : UrlBox) (rest : List ℕ) (start : ℕ) (b : Bool) → eqb (length v.location) 0 ≡ b → WritableUrl v
-    → (reads_url ((bytes_of_fields (fields_url v) ++ cond b [] (terminated v.location)) ++ rest) start (cond b 12 (13 + length v.location))).outcome ≡ Ok v
+    → (reads_url ((bytes_of_fields (fields_url v) ++ cond b [] (text_and_zero v.location)) ++ rest) start (cond b 12 (13 + length v.location))).outcome ≡ Ok v
 back_by v rest start true e w =
     let J = bytes_of_fields (fields_url v) in
     let nil : v.location ≡ [] = nil_from_length v.location (eqb-true (length v.location) 0 e) in
@@ -45,11 +45,11 @@ back_by v rest start true e w =
 back_by v rest start false e w =
     let J = bytes_of_fields (fields_url v) in
     let long = v.location in
-    let grouped : (J ++ terminated long) ++ rest ≡ J ++ (long ++ 0 ∷ rest) = append_assoc J (terminated long) rest ∙ ap (λ (xs : List ℕ). J ++ xs) (append_assoc long (0 ∷ []) rest) in
+    let grouped : (J ++ text_and_zero long) ++ rest ≡ J ++ (long ++ 0 ∷ rest) = append_assoc J (text_and_zero long) rest ∙ ap (λ (xs : List ℕ). J ++ xs) (append_assoc long (0 ∷ []) rest) in
     ap (λ (xs : List ℕ). (reads_url xs start (13 + length long)).outcome) grouped
     ∙ full_back (fields_url v) long (0 ∷ rest) start w.fit refl w.text
 
-length_by : (location : List ℕ) (b : Bool) → 12 + length (cond b [] (terminated location)) ≡ cond b 12 (13 + length location)
+length_by : (location : List ℕ) (b : Bool) → 12 + length (cond b [] (text_and_zero location)) ≡ cond b 12 (13 + length location)
 length_by location true = refl
 length_by location false = omega (arith, length-append location (0 ∷ []))
 

@@ -2,7 +2,7 @@
 
 ghost use Rattle.std.specs.Prelude.{◌≡◌, ◌↔◌, ◌≤◌, ◌+◌, ◌++◌, IfOk, IsTrue, length, position, take};
 ghost use Rattle.mp4_frame.specs.Reading.{Answers, AnswersAs};
-ghost use Rattle.mp4_text.specs.Terminated.{is_zero, before_zero, utf8_text, terminated_text, two_texts, behind, terminated, IsTerminable};
+ghost use Rattle.mp4_text.specs.Terminated.{is_zero, before_zero, utf8_text, terminated_text, two_texts, after_texts, text_and_zero, IsTerminable};
 
 use mp4_frame::{Error, Result, Text, expect_bytes, put_bytes, put_u8};
 use std::alloc::Global;
@@ -15,7 +15,7 @@ fn first_zero(bytes: &[u8]) -> Option<usize>
 }
 
 /// The bytes from offset `at` up to the first zero byte, without it; up to the end if there is none.
-#[tactic(auto, using(crate::proofs::Zeros::place_or_length, crate::proofs::Zeros::place_within))]
+#[tactic(auto, using(crate::proofs::Zeros::offset_or_length, crate::proofs::Zeros::offset_within))]
 fn before_zero(bytes: &[u8], at: usize) -> &[u8]
     ensures { result.now ≡ before_zero bytes.now at }
 {
@@ -54,7 +54,7 @@ fn terminated_text_at(alloc: Global, bytes: &[u8], at: usize) -> Result<Text>
 #[tactic(auto, unfolding(crate::specs::Terminated::two_texts))]
 pub(crate) fn two_texts_at(alloc: Global, bytes: &[u8], at: usize) -> Result<(Text, Text)>
     ensures texts { Answers result (two_texts bytes.now at) }
-    ensures room { IfOk result (λ texts. behind at texts ≤ length bytes.now) }
+    ensures room { IfOk result (λ texts. after_texts at texts ≤ length bytes.now) }
 {
     let first = terminated_text_at(alloc, bytes, at)?;
     let second = terminated_text_at(alloc, bytes, at + first.len() + 1)?;
@@ -71,9 +71,9 @@ pub(crate) fn is_terminable(text: &Text) -> bool
 /// Puts a string and a zero byte, and returns the offset after them.
 #[tactic(auto, unfolding(mp4_frame::specs::Bytes::be_bytes))]
 pub(crate) fn put_terminated(out: &mut [u8], at: usize, text: &[u8]) -> usize
-    requires { at + length (terminated text.now) ≤ length out.old }
-    ensures next { result ≡ at + length (terminated text.now) }
-    ensures put { take result out.new ≡ take at out.old ++ terminated text.now }
+    requires { at + length (text_and_zero text.now) ≤ length out.old }
+    ensures next { result ≡ at + length (text_and_zero text.now) }
+    ensures put { take result out.new ≡ take at out.old ++ text_and_zero text.now }
 {
     let at = put_bytes(out, at, text);
     put_u8(out, at, 0)

@@ -1,4 +1,4 @@
-//! The lists of the track fragment run box, as they are read.
+//! Reading the lists of the track fragment run box.
 
 ghost use Rattle.std.specs.Prelude.{◌≡◌, ◌≤◌, ◌<◌, ◌+◌, ◌++◌, ◌↔◌, [], IsTrue, IfOk, IfErr, OnOk};
 ghost use Rattle.mp4_frame.specs.Reading.{Answers};
@@ -12,10 +12,10 @@ use crate::trun::row_flags::RowFlags;
 use mp4_frame::{Entries, Error, Result, all_fit};
 use std::alloc::Global;
 
-/// How many rows are read at a time, of at most 16 bytes each.
+/// The number of rows that are read at a time. A row has at most 16 bytes.
 const PART: usize = 512;
 
-/// What the rows of a run hold: a list for each flag.
+/// The numbers in the rows of a run: a list for each list flag.
 #[derive(Drop)]
 pub(crate) struct TrunLists {
     pub(crate) durations: Entries<u32>,
@@ -24,7 +24,7 @@ pub(crate) struct TrunLists {
     pub(crate) cts: Entries<u32>,
 }
 
-/// No numbers yet, and memory for as many as there will be.
+/// An empty list, with memory for `count` numbers if the flag of the list is set.
 fn numbers_for(alloc: Global, is_flagged: bool, count: usize) -> Result<Vec<u32>>
     ensures empty { IfOk result (λ numbers. numbers.items ≡ []) }
     ensures memory { IfErr result (λ e. e ≡ Error.OutOfMemory) }
@@ -36,7 +36,7 @@ fn numbers_for(alloc: Global, is_flagged: bool, count: usize) -> Result<Vec<u32>
     }
 }
 
-/// Appends the numbers of four bytes at one offset of the rows, if their flag is set.
+/// Appends the number of four bytes at offset `at` of each row, if the flag of the list is set.
 #[tactic(auto, unfolding(crate::specs::TrunLists::column_if, crate::specs::Flagged::width_if))]
 fn append_column<const E: usize>(
     numbers: &mut Vec<u32>,
@@ -54,8 +54,8 @@ fn append_column<const E: usize>(
     Ok(())
 }
 
-/// The lists of rows. They are filled by one part of the rows after the other, which stays in the nearest cache
-/// until each list has its numbers of it.
+/// The lists of these rows. They are filled from one part of the rows after the other. A part stays in the nearest
+/// cache until each list has the numbers of that part.
 #[tactic(auto, using(crate::proofs::TrunRows::column_moves), unfolding(crate::specs::TrunLists::column_if))]
 fn lists_of_rows<const E: usize>(
     alloc: Global,
@@ -92,7 +92,7 @@ fn lists_of_rows<const E: usize>(
     })
 }
 
-/// The lists of rows of `E` bytes.
+/// Reads the lists of `count` rows of `E` bytes each from offset `at` on.
 #[tactic(auto, unfolding(crate::specs::TrunLists::reads_lists))]
 fn read_rows_of<const E: usize>(
     alloc: Global,
@@ -118,7 +118,7 @@ fn read_rows_of<const E: usize>(
     lists_of_rows(alloc, rows, has)
 }
 
-/// The lists of as many rows as counted. If a row has no bytes, none is visited.
+/// Reads the lists of `count` rows from offset `at` on. If a row has no bytes, no row is visited.
 pub(crate) fn read_lists(
     alloc: Global,
     bytes: &[u8],
@@ -148,14 +148,14 @@ pub(crate) fn read_lists(
     }
 }
 
-/// How many numbers a list has.
+/// The number of entries that a list has to have: `count` if its flag is set, else 0.
 fn count_if(is_flagged: bool, count: u32) -> usize
     ensures { result ≡ count_if is_flagged count }
 {
     if is_flagged { count as usize } else { 0 }
 }
 
-/// A list is as long as the count if its flag is set, else empty.
+/// Whether a list has `count` entries if its flag is set, else none.
 pub(crate) fn is_listed(is_flagged: bool, count: u32, numbers: &[u32]) -> bool
     ensures { IsTrue result ↔ IsListed is_flagged count numbers.now }
 {

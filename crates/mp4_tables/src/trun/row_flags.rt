@@ -6,7 +6,7 @@ ghost use Rattle.mp4_tables.specs.TrunRows.{row_flags, row_length};
 use crate::flagged::{is_set, width_if};
 use crate::trun::TrunBox;
 
-/// For each of the four lists of a run, whether its flag is set. Then each row has a number of it.
+/// For each of the four lists of a run, whether its flag is set. If it is, each row has a number of that list.
 #[derive(Clone, Copy)]
 pub(crate) struct RowFlags {
     pub(crate) duration: bool,
@@ -28,7 +28,7 @@ impl RowFlags {
         }
     }
 
-    /// How many bytes a row has.
+    /// The number of bytes of a row.
     pub(crate) fn row_length(self) -> usize
         ensures length { result ≡ row_length self }
         ensures most { result ≤ 16 }

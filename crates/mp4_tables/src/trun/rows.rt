@@ -1,4 +1,4 @@
-//! The rows of the track fragment run box, as they are written.
+//! Writing the rows of the track fragment run box.
 
 ghost use Rattle.std.specs.Prelude.{◌≡◌, ◌≤◌, ◌+◌, ◌*◌, ◌++◌, length, take, slice_get};
 ghost use Rattle.mp4_tables.specs.Flagged.{width_if, optional};
@@ -10,7 +10,7 @@ use crate::trun::TrunBox;
 use crate::trun::row_flags::RowFlags;
 use mp4_frame::put_u32;
 
-/// Writes the i-th number of a list at `at`, if its flag is set, and returns the offset after it.
+/// Puts the i-th number of a list at offset `at`, if the flag of the list is set, and returns the offset after it.
 #[tactic(auto, using(crate::proofs::TrunRows::number_put), unfolding(crate::specs::Flagged::width_if))]
 fn put_number(out: &mut [u8], at: usize, is_flagged: bool, numbers: &[u32], i: usize) -> usize
     requires has { HasAt is_flagged i numbers.now }
@@ -25,8 +25,8 @@ fn put_number(out: &mut [u8], at: usize, is_flagged: bool, numbers: &[u32], i: u
     }
 }
 
-/// Writes the rows of a run whose list flags are the constants, from `at` to the end of `out`. With constants each
-/// row has one length and no flag is tested in it.
+/// Puts the rows of a run from offset `at` to the end of `out`. The flags of its lists are the constants, so the
+/// length of a row is a constant too, and no flag is checked for each row.
 fn put_rows_of<const DURATION: bool, const SIZE: bool, const FLAGS: bool, const CTS: bool>(
     out: &mut [u8],
     at: usize,
@@ -50,7 +50,8 @@ fn put_rows_of<const DURATION: bool, const SIZE: bool, const FLAGS: bool, const 
     }
 }
 
-/// Writes the rows of a run from `at` to the end of `out`, each form of rows by a loop of its own.
+/// Puts the rows of a run from offset `at` to the end of `out`. Each combination of list flags has a loop of its
+/// own.
 pub(crate) fn put_rows(out: &mut [u8], at: usize, trun: &TrunBox)
     requires listed { ListedTrun trun.now }
     requires room { at + row_length (row_flags trun.now.flags) * trun.now.sample_count ≡ length out.old }
@@ -73,7 +74,7 @@ pub(crate) fn put_rows(out: &mut [u8], at: usize, trun: &TrunBox)
         (false, false, true, true) => put_rows_of::<false, false, true, true>(out, at, trun),
         (false, false, true, false) => put_rows_of::<false, false, true, false>(out, at, trun),
         (false, false, false, true) => put_rows_of::<false, false, false, true>(out, at, trun),
-        // Rows of no bytes: none is visited.
+        // The rows have no bytes, so none is visited.
         (false, false, false, false) => {}
     }
 }
