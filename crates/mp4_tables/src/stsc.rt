@@ -16,8 +16,8 @@ use mp4_frame::{
 };
 use std::alloc::Global;
 
-/// The chunks that the samples of a track are in (`stsc`, ISO/IEC 14496-12, 8.7.4). A box is invalid data, in
-/// reading and in writing, if an entry has a first chunk below that of the entry before it, or a first sample above
+/// The chunks that hold the samples of a track (`stsc`, ISO/IEC 14496-12, 8.7.4). A box is invalid data, in reading
+/// and in writing, if an entry has a first chunk below that of the entry before it, or a first sample above
 /// 2^32 - 1.
 #[derive(Debug, Drop, PartialEq, Eq)]
 pub struct StscBox {

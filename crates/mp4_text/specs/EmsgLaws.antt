@@ -14,7 +14,7 @@ use Rattle.mp4_frame.proofs.Checks.{expect_bytes_present, expect_bytes_ok, is_va
 use Rattle.mp4_frame.proofs.Tables.{value_first}
 use Rattle.mp4_text.specs.Emsg.{message_from, value_emsg_0, value_emsg_1, reads_emsg_0, reads_emsg_1, reads_emsg_version, reads_emsg, size_middle, size_emsg, fields_emsg, numbers_emsg_0, numbers_emsg_1, texts_emsg, middle_emsg, WritableEmsg, bytes_emsg, normal_emsg, format_emsg}
 use Rattle.mp4_text.specs.Terminated.{two_texts, after_texts, text_and_zero}
-use Rattle.mp4_text.specs.TerminatedLaws.{taken, two_back, texts_are}
+use Rattle.mp4_text.specs.TerminatedLaws.{with_value, two_back, texts_are}
 use Rattle.mp4_text.specs.declared.emsg.EmsgBox.{EmsgBox}
 
 length_texts : (v : EmsgBox) → length (texts_emsg v) ≡ length v.scheme_id_uri + length v.value + 2
@@ -71,7 +71,7 @@ normal_by v false e w =
     (ap (written v n v) e ∙ sym (ap (written v v v) e))
 
 -- a message that goes up to the end of the box is read back
-message_back : (x message y : List ℕ) (size o : ℕ) → length x ≡ o → size ≡ o + length message → message_from (x ++ (message ++ y)) size o ≡ taken message
+message_back : (x message y : List ℕ) (size o : ℕ) → length x ≡ o → size ≡ o + length message → message_from (x ++ (message ++ y)) size o ≡ with_value message
 unfolding message_from
 message_back x message y size o at whole =
     let within : nat_le o size ≡ true = le-leb o size (omega (arith, whole)) in
@@ -98,9 +98,9 @@ back_0 v rest w e =
     let split : B ≡ front ++ (bytes_of_fields ns ++ tail) = simp append_assoc in
     let split_more : B ≡ (front ++ bytes_of_fields ns) ++ (v.message_data ++ rest) = simp append_assoc in
     let size : size_emsg v ≡ at + 16 + length v.message_data = omega (arith, ap {B = ℕ} (λ (b : Bool). cond b 18 22) e) in
-    let two : two_texts B 12 ≡ taken texts = two_back (bytes_of_fields cs) v.scheme_id_uri v.value (bytes_of_fields ns ++ tail) 12 (length-fields cs) w.scheme w.value in
+    let two : two_texts B 12 ≡ with_value texts = two_back (bytes_of_fields cs) v.scheme_id_uri v.value (bytes_of_fields ns ++ tail) 12 (length-fields cs) w.scheme w.value in
     let present : expect_bytes B at 16 ≡ done tt = expect_bytes_present B at 16 (omega (arith, ap length split_more, length-append (front ++ bytes_of_fields ns) (v.message_data ++ rest), behind_numbers)) in
-    let message : message_from B (size_emsg v) (at + 16) ≡ taken v.message_data = ap (λ (l : List ℕ). message_from l (size_emsg v) (at + 16)) split_more ∙ message_back (front ++ bytes_of_fields ns) v.message_data rest (size_emsg v) (at + 16) behind_numbers size in
+    let message : message_from B (size_emsg v) (at + 16) ≡ with_value v.message_data = ap (λ (l : List ℕ). message_from l (size_emsg v) (at + 16)) split_more ∙ message_back (front ++ bytes_of_fields ns) v.message_data rest (size_emsg v) (at + 16) behind_numbers size in
     let head : number B ≡ found cs (texts_emsg v ++ (bytes_of_fields ns ++ tail)) = numbers-fields cs (texts_emsg v ++ (bytes_of_fields ns ++ tail)) w.fit in
     let numbers : number (drop at B) ≡ found ns tail = ap (λ (l : List ℕ). number (drop at l)) split ∙ ap number (drop_at front (bytes_of_fields ns ++ tail) at long) ∙ numbers-fields ns tail w.fit_0 in
     rw (two, present, message, head, numbers) (ap (λ (time : Option ℕ). Ok (record v { presentation_time = None; presentation_time_delta = time })) (some_is v.presentation_time_delta (time_is v true e w)))
@@ -122,8 +122,8 @@ back_1 v rest w e =
     let split_more : B ≡ (front ++ texts_emsg v) ++ (v.message_data ++ rest) = simp append_assoc in
     let size : size_emsg v ≡ at + length v.message_data = omega (arith, ap {B = ℕ} (λ (b : Bool). cond b 18 22) e) in
     let present : expect_bytes B 12 20 ≡ done tt = expect_bytes_present B 12 20 (omega (arith, ap length split_more, length-append (front ++ texts_emsg v) (v.message_data ++ rest), behind_texts)) in
-    let two : two_texts B 32 ≡ taken texts = ap (λ (l : List ℕ). two_texts l 32) split ∙ two_back front v.scheme_id_uri v.value (v.message_data ++ rest) 32 long w.scheme w.value in
-    let message : message_from B (size_emsg v) at ≡ taken v.message_data = ap (λ (l : List ℕ). message_from l (size_emsg v) at) split_more ∙ message_back (front ++ texts_emsg v) v.message_data rest (size_emsg v) at behind_texts size in
+    let two : two_texts B 32 ≡ with_value texts = ap (λ (l : List ℕ). two_texts l 32) split ∙ two_back front v.scheme_id_uri v.value (v.message_data ++ rest) 32 long w.scheme w.value in
+    let message : message_from B (size_emsg v) at ≡ with_value v.message_data = ap (λ (l : List ℕ). message_from l (size_emsg v) at) split_more ∙ message_back (front ++ texts_emsg v) v.message_data rest (size_emsg v) at behind_texts size in
     let head : number B ≡ found cs (bytes_of_fields ns ++ tail) = numbers-fields cs (bytes_of_fields ns ++ tail) w.fit in
     let numbers : number (drop 12 B) ≡ found ns tail = ap number (drop_at (bytes_of_fields cs) (bytes_of_fields ns ++ tail) 12 (length-fields cs)) ∙ numbers-fields ns tail w.fit_1 in
     let time : is_some v.presentation_time ≡ true = (and_parts (v.version == 1) (is_some v.presentation_time) (time_is v false e w)).1 in
