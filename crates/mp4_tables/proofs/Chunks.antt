@@ -1,4 +1,4 @@
--- The running count of samples is the sum over the chunks.
+-- Counting samples entry by entry gives the sum over the chunks.
 use Rattle.std.proofs.Common.{◌≡◌, ℕ, zero, suc, ◌+◌, ◌-◌, ◌*◌, ◌^◌, ◌<◌, ◌≤◌, Bool, true, false, ◌&&◌, cond, List, [], ◌∷◌, ◌++◌, map, ltb, leb, Option, Some, None, is_some, refl, sym, ap, ◌∙◌, append_assoc, arith, inl, inr}
 use Rattle.std.specs.List.{range_with_len, sum_by, list_all}
 use Rattle.std.proofs.lemmas.Bool.{leb-true, le-leb, lt-leb, and_parts, and_right, cases_Bool}
@@ -7,7 +7,7 @@ use Rattle.mp4_tables.specs.declared.stsc_entry.StscEntry.{StscEntry}
 use Rattle.mp4_tables.proofs.Runs.{front_of, where_some, run}
 use Rattle.mp4_tables.specs.Chunks.{samples_in, begins, sample_at, in_order, chunks_fit, with_sample, number_samples}
 
--- a sum over neighbouring chunks, in two parts, the second of them all alike
+-- a sum over k + n consecutive chunks, where each of the last n chunks has m samples
 sum_further : (g : ℕ → ℕ) (m a k n b : ℕ) → a + k ≡ b → ((c : ℕ) → b ≤ c → c < b + n → g c ≡ m) → sum_by g (range_with_len a (k + n)) ≡ sum_by g (range_with_len a k) + n * m
 sum_further g m a zero zero b at alike = omega arith
 sum_further g m a zero (suc n) b at alike =
@@ -26,7 +26,7 @@ sum_further g m a (suc k) n b at alike =
     let part : sum_by g (range_with_len a (suc k)) ≡ g a + sum_by g (range_with_len (a + 1) k) = sum_by-cons g a (range_with_len (a + 1) k) in
     rw (whole, now, part, rest) (omega arith)
 
--- entries that begin later say nothing of a chunk
+-- entries that begin after a chunk do not change its samples
 later : (s k c : ℕ) (es : List StscEntry) → c < k → in_order k es ≡ true → samples_in s es c ≡ s
 later s k c [] lt order = refl
 later s k c (e ∷ es) lt order =
@@ -39,7 +39,8 @@ in_parts : (s c : ℕ) (xs ys : List StscEntry) → samples_in s (xs ++ ys) c �
 in_parts s c [] ys = refl
 in_parts s c (x ∷ xs) ys = in_parts (cond (leb x.first_chunk c) x.samples_per_chunk s) c xs ys
 
--- the samples in a chunk from where e begins up to where the next entry does
+-- a chunk has as many samples as e says, if it is not before the first chunk of e, and is before that of the next
+-- entry f
 in_run : (pre : List StscEntry) (e f : StscEntry) (es : List StscEntry) (c : ℕ) → e.first_chunk ≤ c → c < f.first_chunk → in_order f.first_chunk es ≡ true → samples_in 0 (pre ++ e ∷ f ∷ es) c ≡ e.samples_per_chunk
 in_run pre e f es c low high order =
     let yes : leb e.first_chunk c ≡ true = le-leb e.first_chunk c low in
@@ -52,7 +53,7 @@ back_case e v R false d i rest h = refl
 back_case e v R true false i rest h = refl
 back_case e v R true true i rest h = rw (rest h v) refl
 
--- where a chunk steps back, numbering stops
+-- if a first chunk is below the one before it, run has no result
 stops_back : (s k m : ℕ) (es : List StscEntry) → in_order k es ≡ false → run s k m es ≡ None
 unfolding run
 stops_back s k m [] order = absurd cc
@@ -85,7 +86,7 @@ run_go L pre e (f ∷ es) s is low order at =
     let rest = run_go L (pre ++ e ∷ []) f es (sample_at L f.first_chunk) (is ∙ sym (append_assoc pre (e ∷ []) (f ∷ es))) (omega arith) both.1 refl in
     rw (both.0, step) (step_case f (sample_at L f.first_chunk) (λ t. run t f.first_chunk f.samples_per_chunk es) (ltb (sample_at L f.first_chunk) (2 ^ 32)) (list_all (fits_of L) es) (map (number_of L) es) rest)
 
--- numbering one after the other gives the sums over the chunks, or stops exactly where they do not fit
+-- run gives the entries with the sums over the chunks as first samples, or None exactly if chunks_fit is false
 pub run_is : (es : List StscEntry) → run 1 (begins es) 0 es ≡ cond (chunks_fit es) (Some (number_samples es)) None
 unfolding run
 run_is [] = refl

@@ -1,4 +1,4 @@
--- Offsets below 2 ^ 32 are their own lowest 32 bits.
+-- The lowest 32 bits of an offset below 2 ^ 32 are the offset itself.
 use Rattle.std.proofs.Common.{◌≡◌, ℕ, ◌<◌, ◌^◌, ◌%◌, List, [], ◌∷◌, map, refl, arith}
 use Rattle.std.specs.List.{All, AllByRecursion}
 use Rattle.std.proofs.lemmas.List.Elements.{recursion_from_All}

@@ -1,4 +1,4 @@
--- Numbering entries one after the other.
+-- Computing the first samples of entries, one entry after the other.
 use Rattle.std.proofs.Common.{◌≡◌, ℕ, ◌+◌, ◌<◌, ◌≤◌, List, [], ◌∷◌, ◌++◌, length, take, drop, set, get_or, Option, Some, None, is_some, Bool, true, false, refl, sym, ap, ◌∙◌, append_assoc, arith}
 use Rattle.std.proofs.lemmas.List.{append-nil, drop_more, drop_all, take_all, take_more_set, drop-set-lt}
 use Rattle.mp4_tables.specs.declared.stsc_entry.StscEntry.{StscEntry}
@@ -12,12 +12,13 @@ abbrev pub where_some : Option ℕ → (ℕ → Option (List StscEntry)) → Opt
 where_some None f = None
 where_some (Some s) f = f s
 
--- the entries number_samples one after the other, where all numbers fit
+-- the entries with their first samples, which are computed one after the other; None if one does not fit. The run
+-- before the entries begins at this chunk with this sample, and has that many samples in each chunk
 unfoldable pub run : ℕ → ℕ → ℕ → List StscEntry → Option (List StscEntry)
 run sample chunk samples [] = Some []
 run sample chunk samples (e ∷ es) = where_some (next_sample sample chunk samples e.first_chunk) (λ s. front_of (with_sample e s) (run s e.first_chunk e.samples_per_chunk es))
 
--- what was number_samples before, and the rest
+-- the entries whose first samples were computed before, and then the rest
 abbrev pub with_front : List StscEntry → Option (List StscEntry) → Option (List StscEntry)
 with_front front None = None
 with_front front (Some rest) = Some (front ++ rest)
@@ -26,7 +27,7 @@ front_more : (front : List StscEntry) (e : StscEntry) (rest : Option (List StscE
 front_more front e None = refl
 front_more front e (Some rest) = ap (λ (es : List StscEntry). Some es) (sym (append_assoc front (e ∷ []) rest))
 
--- one step
+-- an entry whose first sample fits
 pub goes_on : (es : List StscEntry) (i s k m n : ℕ) (e d : StscEntry) (total : Option (List StscEntry)) → i < length es → e ≡ get_or es i d → next_sample s k m e.first_chunk ≡ Some n
     → with_front (take i es) (run s k m (drop i es)) ≡ total
     → with_front (take (i + 1) (set es i (with_sample e n))) (run n e.first_chunk e.samples_per_chunk (drop (i + 1) (set es i (with_sample e n)))) ≡ total
@@ -38,7 +39,7 @@ goes_on es i s k m n e d total lt is next so_far =
     let one : with_front (take i es) (run s k m (drop i es)) ≡ with_front (take i es) (front_of (with_sample e n) (run n e.first_chunk e.samples_per_chunk (drop (i + 1) es))) = rw (now, next) refl in
     rw (front, after) (sym (front_more (take i es) (with_sample e n) (run n e.first_chunk e.samples_per_chunk (drop (i + 1) es))) ∙ sym one ∙ so_far)
 
--- a number that does not fit
+-- an entry whose first sample does not fit
 pub stops : (es : List StscEntry) (i s k m : ℕ) (e d : StscEntry) (total : Option (List StscEntry)) → i < length es → e ≡ get_or es i d → next_sample s k m e.first_chunk ≡ None
     → with_front (take i es) (run s k m (drop i es)) ≡ total → total ≡ None
 unfolding run
@@ -53,7 +54,7 @@ ends es i s k m total le so_far =
     let one : with_front (take i es) (run s k m (drop i es)) ≡ Some es = rw (drop_all i es le, take_all i es le) (ap (λ (xs : List StscEntry). Some xs) (append-nil es)) in
     sym so_far ∙ one
 
--- the same where only the outcome is kept
+-- the same for the check that all first samples fit, which does not compute the entries
 is_some-front_of : (e : StscEntry) (o : Option (List StscEntry)) → is_some (front_of e o) ≡ is_some o
 is_some-front_of e None = refl
 is_some-front_of e (Some es) = refl

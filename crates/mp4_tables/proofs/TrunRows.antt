@@ -1,4 +1,4 @@
--- Rows of samples, read list by list and put number by number, and rows of no bytes.
+-- The rows of a trun box, which are read list by list and put number by number; and rows of no bytes.
 use Rattle.std.proofs.Common.{◌≡◌, ℕ, zero, suc, ◌+◌, ◌*◌, ◌-◌, ◌<◌, ◌≤◌, Bool, true, false, leb, List, [], ◌∷◌, ◌++◌, length, get_or, map, take, Ok, refl, sym, ap, ◌∙◌, arith}
 use Rattle.std.specs.Prelude.{slice_get}
 use Rattle.std.specs.List.{flat_map, range_with_len}
@@ -26,7 +26,7 @@ more_from f a (suc n) =
     let there : a + suc n ≡ a + 1 + n = omega arith in
     rw (one, there, more_from f (a + 1) n) (sym (append_assoc (f a) (flat_map f (range_with_len (a + 1) n)) (f (a + 1 + n))))
 
--- one more row
+-- the rows of i + 1 samples are those of i samples and one more row
 pub rows_more : (v : TrunBox) (i : ℕ) → rows_trun v (i + 1) ≡ rows_trun v i ++ row_trun v i
 rows_more v i =
     let here : 0 + i ≡ i = omega arith in
@@ -36,7 +36,7 @@ is_empty : (xs : List ℕ) → length xs ≡ 0 → xs ≡ []
 is_empty [] h = refl
 is_empty (x ∷ xs) h = absurd (omega arith)
 
--- a number of a list whose flag is set, and one of an empty list
+-- what is put for the i-th number of a list: four bytes if the list has it, and nothing if the list is empty
 pub number_put : (xs : List ℕ) (i d : ℕ) → i < length xs → optional 4 (slice_get xs i) ≡ be_bytes 4 (get_or xs i d)
 unfolding optional
 number_put xs i d lt = rw (slice_get-get_or xs i d lt) refl
@@ -47,14 +47,14 @@ nothing_put_at true i xs front is has = absurd cc
 nothing_put_at false i [] front is has = sym (append-nil front)
 nothing_put_at false i (x ∷ xs) front is has = absurd (omega arith)
 
--- one more row, number by number
+-- one more row is put, number by number
 pub row_put : (v : TrunBox) (i : ℕ) (front : List ℕ)
     → front ++ rows_trun v i ++ optional 4 (slice_get v.sample_durations i) ++ optional 4 (slice_get v.sample_sizes i) ++ optional 4 (slice_get v.sample_flags i) ++ optional 4 (slice_get v.sample_cts i)
     ≡ front ++ rows_trun v (i + 1)
 unfolding row_trun
 row_put v i front = rw (rows_more v i) (simp append_assoc)
 
--- rows of no bytes
+-- a row has no bytes if none of its flags is set
 pub no_bytes : (has : RowFlags) → has.duration ≡ false → has.size ≡ false → has.flags ≡ false → has.cts ≡ false → row_length has ≡ 0
 unfolding width_if
 no_bytes has duration size flags cts = rw (duration, size, flags, cts) refl
@@ -65,7 +65,7 @@ no_rows v w none =
     let zero_bytes : row_length (row_flags v.flags) * v.sample_count ≡ 0 = ap (λ (k : ℕ). k * v.sample_count) none ∙ omega arith in
     is_empty (rows_trun v v.sample_count) (length_rows v w v.sample_count le ∙ zero_bytes)
 
--- what is put of rows of no bytes
+-- rows of no bytes: nothing is put
 pub nothing_put : (v : TrunBox) → ListedTrun v → (out : List ℕ) (at : ℕ) → row_length (row_flags v.flags) ≡ 0 → at + row_length (row_flags v.flags) * v.sample_count ≡ length out → out ≡ take at out ++ rows_trun v v.sample_count
 nothing_put v w out at none room =
     let zero_bytes : row_length (row_flags v.flags) * v.sample_count ≡ 0 = ap (λ (k : ℕ). k * v.sample_count) none ∙ omega arith in
@@ -97,7 +97,7 @@ empty_rows bytes size o n =
     let room : leb 0 (size - o) ≡ true = le-leb 0 (size - o) (omega arith) in
     rw (none, room) refl
 
--- what is read of rows of no bytes
+-- rows of no bytes: all lists are read as empty
 pub no_lists : (bytes : List ℕ) (size o count : ℕ) (has : RowFlags) → (row_length has ≡ 4 → ⊥) → (row_length has ≡ 8 → ⊥) → (row_length has ≡ 12 → ⊥) → (row_length has ≡ 16 → ⊥)
     → (reads_lists bytes size has o count).outcome ≡ Ok (record { durations = []; sizes = []; flags = []; cts = [] })
 unfolding reads_lists
@@ -119,7 +119,7 @@ no_lists bytes size o count has n4 n8 n12 n16 =
     ap (λ (k : ℕ). (rows_within bytes size o k count >>= λ rows. memory >>= λ _. done (lists_of has rows)).outcome) none
     ∙ (rw (empty_rows bytes size o count, da, db, dc, dd) refl)
 
--- numbers before that grow by those of a part of the rows
+-- the numbers of a list in front, and then those of a part of the rows, and then those of the rows after it
 pub column_moves : (b : Bool) (o : ℕ) (part after rest : List (List ℕ)) (front all : List ℕ) → rest ≡ part ++ after → front ++ column_if b o rest ≡ all → front ++ column_if b o part ++ column_if b o after ≡ all
 unfolding column_if
 column_moves true o part after rest front all is h =
@@ -127,7 +127,7 @@ column_moves true o part after rest front all is h =
     ∙ ap (λ (l : List ℕ). front ++ l) (sym (map-append (λ row. number row o 4) part after) ∙ ap (λ (l : List (List ℕ)). map (λ row. number row o 4) l) (sym is)) ∙ h
 column_moves false o part after rest front all is h = append-nil (front ++ []) ∙ h
 
--- numbers before those of no rows
+-- the numbers of a list in front are all numbers if no row is left
 pub column_ends : (b : Bool) (o : ℕ) (rest : List (List ℕ)) (front all : List ℕ) → length rest ≡ 0 → front ++ column_if b o rest ≡ all → front ≡ all
 unfolding column_if
 column_ends true o [] front all none h = sym (append-nil front) ∙ h

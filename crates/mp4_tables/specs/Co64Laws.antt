@@ -1,4 +1,4 @@
--- The laws of co64, by those of its offsets.
+-- The laws of co64 follow from those of its offsets.
 use Rattle.std.proofs.Common.{refl, lit<}
 use Rattle.mp4_frame.specs.Format.{IsBox}
 use Rattle.mp4_frame.specs.declared.box_type.BoxType.TheVariants as names

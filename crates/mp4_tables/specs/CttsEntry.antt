@@ -1,4 +1,4 @@
--- A row of ctts, 8 bytes: sample_count 4, sample_offset 4, signed.
+-- A row of ctts has 8 bytes: sample_count 4, and sample_offset 4, which is signed.
 use Rattle.std.specs.Prelude.{ℕ, List, [], ◌∷◌, FitsSigned}
 use Rattle.std.specs.Int.{w32, cast_signed, cast_unsigned}
 use Rattle.mp4_frame.specs.Bytes.{number, bytes_of_fields, FieldsFit}

@@ -1,4 +1,4 @@
--- The laws of ctts, by those of its entries.
+-- The laws of ctts follow from those of its entries.
 use Rattle.std.proofs.Common.{[], ◌∷◌, refl, ap, lit<}
 use Rattle.std.specs.Prelude.{ℤ}
 use Rattle.mp4_frame.specs.Format.{IsBox}

@@ -1,17 +1,17 @@
--- A row of elst. In version 1 it has 20 bytes: segment_duration 8, media_time 8, media_rate 2,
--- media_rate_fraction 2. In every other version it has 12: 4, 4, 2, 2.
+-- A row of elst has 20 bytes in version 1: segment_duration 8, media_time 8, media_rate 2, media_rate_fraction 2. In
+-- every other version it has 12 bytes: 4, 4, 2, 2.
 use Rattle.std.specs.Prelude.{ℕ, ◌+◌, ◌==◌, Bool, List, [], ◌∷◌, if◌then◌else◌}
 use Rattle.mp4_frame.specs.Bytes.{number, bytes_of_fields, FieldsFit}
 use Rattle.mp4_tables.specs.declared.elst_entry.ElstEntry.{ElstEntry}
 
--- a version has the long rows
+-- whether the rows of a version are long
 abbrev pub is_long : ℕ → Bool
 is_long version = version == 1
 
 abbrev pub row_length : Bool → ℕ
 row_length long = if long then 20 else 12
 
--- the bytes of a duration and of a time
+-- the number of bytes of a duration and of a time
 abbrev pub time_width : Bool → ℕ
 time_width long = if long then 8 else 4
 

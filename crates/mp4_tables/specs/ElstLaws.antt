@@ -1,4 +1,4 @@
--- The laws of elst, by those of its entries.
+-- The laws of elst follow from those of its entries.
 use Rattle.std.proofs.Common.{◌≡◌, ℕ, ◌<◌, ◌^◌, Bool, true, false, List, [], ◌∷◌, ◌++◌, map, Ok, length, refl, sym, ap, subst, ◌∙◌, append_assoc, lit<}
 use Rattle.std.specs.List.{flat_map}
 use Rattle.mp4_frame.specs.Format.{IsBox}
@@ -33,7 +33,7 @@ entry_fits : (b : Bool) (row : List ℕ) → IsRow (row_length b) row → FitsEl
 entry_fits true row is = fits_read row is.are (Number 0 8 ∷ Number 8 8 ∷ Number 16 2 ∷ Number 18 2 ∷ [])
 entry_fits false row is = fits_read row is.are (Number 0 4 ∷ Number 4 4 ∷ Number 8 2 ∷ Number 10 2 ∷ [])
 
--- the version of a table that was read
+-- the version of a table that was read is the number at offset 8
 version_read : (bytes : List ℕ) (size e : ℕ) (t : Table) → (counted_rows bytes size e).outcome ≡ Ok t → t.version ≡ number bytes 8 1
 unfolding counted_rows
 version_read bytes size e t h =

@@ -1,4 +1,4 @@
--- Flagged fields are read back as they were written.
+-- The laws of optional fields: what was written is read back.
 use Rattle.std.proofs.Common.{◌≡◌, ℕ, ◌-◌, ◌≤◌, Bool, true, false, List, ◌++◌, length, Option, Some, None, refl, ap, ◌∙◌, arith}
 use Rattle.mp4_frame.specs.Bytes.{number, be_bytes}
 use Rattle.mp4_frame.specs.Laws.{AreBytes}
@@ -36,12 +36,12 @@ number_if_after p q true o w at =
     ap (λ (m : ℕ). Some m) (number-after p q o o w at same ∙ ap (λ (k : ℕ). number q k w) none)
 number_if_after p q false o w at = refl
 
--- a field among other bytes
+-- a field that was written among other bytes is read back
 pub optional_back : (bytes p : List ℕ) (x : Option ℕ) (rest : List ℕ) (b : Bool) (o w : ℕ) → bytes ≡ p ++ (optional w x ++ rest) → length p ≡ o → IsPresent b w x → number_if (number bytes) b o w ≡ x
 optional_back bytes p x rest b o w is at h =
     ap (λ (l : List ℕ). number_if (number l) b o w) is ∙ number_if_after p (optional w x ++ rest) b o w at ∙ first_back b w x rest h
 
--- a field that was read of bytes
+-- a field that was read is present exactly if its flag is set, and its number fits
 pub number_is_present : (bytes : List ℕ) (b : Bool) (o w : ℕ) → AreBytes bytes → IsPresent b w (number_if (number bytes) b o w)
 unfolding number_if
 number_is_present bytes true o w are = (refl, number-below bytes o w are)

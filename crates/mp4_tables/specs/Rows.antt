@@ -1,9 +1,9 @@
--- Rows after the fields of a box, where the count does not stand at 12.
+-- Rows that begin at any offset of a box, with a count from any field.
 use Rattle.std.specs.Prelude.{ℕ, ◌-◌, ◌*◌, List, nat_le}
 use Rattle.mp4_frame.specs.Reading.{Reading, ◌>>=◌, check}
 use Rattle.mp4_frame.specs.Tables.{rows_at}
 
--- n rows of e bytes from o on, for which a box of this size has room
+-- the n rows of e bytes each from o on; the size is checked to have room for them
 unfoldable pub rows_within : List ℕ → ℕ → ℕ → ℕ → ℕ → Reading (List (List ℕ))
 rows_within bytes size o e n = do
   _ ← check (nat_le (n * e) (size - o))

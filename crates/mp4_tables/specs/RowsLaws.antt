@@ -1,4 +1,4 @@
--- Rows after the fields of a box, with room in it, and what is read of them.
+-- The laws of rows that begin at any offset of a box.
 use Rattle.std.proofs.Common.{◌≡◌, ℕ, ◌+◌, ◌*◌, ◌-◌, ◌<◌, true, leb, List, ◌++◌, map, Ok, length, refl, arith}
 use Rattle.std.specs.List.{flat_map, AllByRecursion}
 use Rattle.std.proofs.lemmas.Bool.{le-leb}
@@ -9,7 +9,7 @@ use Rattle.mp4_frame.proofs.Checks.{check_ok}
 use Rattle.mp4_frame.proofs.Tables.{IsRow, rows_at_back, rows_read}
 use Rattle.mp4_tables.specs.Rows.{rows_within}
 
--- rows that were written after p
+-- rows that were written after p are read back
 pub rows_within_back : {X : Type 0} (row_of : X → List ℕ) (e : ℕ) (Fits : X → Type 0) → ((x : X) → Fits x → length (row_of x) ≡ e)
     → (p : List ℕ) (xs : List X) (y : List ℕ) (o size : ℕ) → AllByRecursion Fits xs → length p ≡ o → size ≡ o + e * length xs
     → rows_within (p ++ (flat_map row_of xs ++ y)) size o e (length xs) ≡ done (map row_of xs)
@@ -19,7 +19,7 @@ rows_within_back row_of e Fits long p xs y o size fits at is =
     let back : rows_at (p ++ (flat_map row_of xs ++ y)) o e (length xs) ≡ done (map row_of xs) = rows_at_back row_of e Fits long p xs y o fits at in
     rw (room, back) refl
 
--- rows that were read have their length, and are as many as counted
+-- n rows that were read have e bytes each, and there are n of them
 pub rows_within_read : (bytes : List ℕ) (size o e n : ℕ) (found : List (List ℕ)) → 0 < e → AreBytes bytes → (rows_within bytes size o e n).outcome ≡ Ok found → AllByRecursion (IsRow e) found × (length found ≡ n)
 unfolding rows_within
 rows_within_read bytes size o e n found pos are h =

@@ -1,4 +1,4 @@
--- The laws of stco, by those of its offsets.
+-- The laws of stco follow from those of its offsets.
 use Rattle.std.proofs.Common.{refl, lit<}
 use Rattle.mp4_frame.specs.Format.{IsBox}
 use Rattle.mp4_frame.specs.declared.box_type.BoxType.TheVariants as names

@@ -1,5 +1,5 @@
--- stsc, the sample to chunk box (ISO/IEC 14496-12, 8.7.4): version 1 byte, flags 3, a count of 4 at 12, and that
--- many entries of 12 bytes from 16 on, whose first samples are computed.
+-- stsc, the sample to chunk box (ISO/IEC 14496-12, 8.7.4). The fields are version 1 byte, flags 3, a count of 4 at
+-- 12, and that many entries of 12 bytes each from 16 on. The first samples of the entries are computed.
 use Rattle.std.specs.Prelude.{ℕ, List, IsTrue, map}
 use Rattle.mp4_frame.specs.Reading.{Reading, ◌>>=◌, memory, check, done}
 use Rattle.mp4_frame.specs.Tables.{counted_rows, size_table, WritableTable, bytes_table}
@@ -20,7 +20,7 @@ reads_stsc bytes start size = do
 abbrev pub size_stsc : StscBox → ℕ
 size_stsc v = size_table 12 v.entries
 
--- every number fits its bytes, and the first samples can be computed
+-- every number fits its field, and the first samples can be computed
 pub record WritableStsc (v : StscBox) : Type 0 where
   pub table : WritableTable FitsStscEntry 12 codes.STSC v.version v.flags v.entries
   pub chunks : IsTrue (chunks_fit v.entries)
@@ -28,7 +28,7 @@ pub record WritableStsc (v : StscBox) : Type 0 where
 unfoldable pub bytes_stsc : StscBox → List ℕ
 bytes_stsc v = bytes_table row_stsc 12 codes.STSC v.version v.flags v.entries
 
--- the computed first samples
+-- the same box, with the computed first samples
 abbrev pub normal_stsc : StscBox → StscBox
 normal_stsc v = record v { entries = number_samples v.entries }
 

@@ -1,10 +1,10 @@
--- A row of stsc, 12 bytes: first_chunk 4, samples_per_chunk 4, sample_description_index 4. The first sample isn't
--- written.
+-- A row of stsc has 12 bytes: first_chunk 4, samples_per_chunk 4, sample_description_index 4. The first sample is
+-- not written.
 use Rattle.std.specs.Prelude.{ℕ, List, [], ◌∷◌}
 use Rattle.mp4_frame.specs.Bytes.{number, bytes_of_fields, FieldsFit}
 use Rattle.mp4_tables.specs.declared.stsc_entry.StscEntry.{StscEntry}
 
--- the entry, not yet number_samples, where `at o w` is the number of w bytes at offset o of its row
+-- the entry, whose first sample is not yet computed, where `at o w` is the number of w bytes at offset o of its row
 abbrev pub value_stsc_entry : (ℕ → ℕ → ℕ) → StscEntry
 value_stsc_entry at = record { first_chunk = at 0 4; samples_per_chunk = at 4 4; sample_description_index = at 8 4; first_sample = 0 }
 

@@ -1,4 +1,5 @@
--- The laws of stsc. Numbering reads no first sample, so that it is settled once it was done.
+-- The laws of stsc. The computed first samples do not depend on the first samples that the entries have. So a box
+-- with computed first samples is its own normal form.
 use Rattle.std.proofs.Common.{◌≡◌, ℕ, ◌+◌, ◌-◌, ◌^◌, ◌<◌, Bool, true, ◌&&◌, List, [], ◌∷◌, ◌++◌, length, map, ltb, leb, cond, refl, ap, subst, ◌∙◌, arith, lit<}
 use Rattle.std.specs.List.{flat_map, AllByRecursion, list_all, range_with_len, sum_by}
 use Rattle.std.proofs.lemmas.List.{length-map}
@@ -18,7 +19,7 @@ use Rattle.mp4_tables.specs.declared.stsc.StscBox.{StscBox}
 use Rattle.mp4_frame.specs.declared.codes.TheConstants as codes
 use Rattle.mp4_tables.specs.declared.stsc_entry.StscEntry.{StscEntry}
 
--- other first samples
+-- other first samples in the same entries change nothing else
 module _ (h : StscEntry → ℕ) where
   abbrev renumber : List StscEntry → List StscEntry
   renumber es = map (λ e. with_sample e (h e)) es

@@ -1,4 +1,4 @@
--- The laws of stss, by those of its sample numbers.
+-- The laws of stss follow from those of its sample numbers.
 use Rattle.std.proofs.Common.{refl, lit<}
 use Rattle.mp4_frame.specs.Format.{IsBox}
 use Rattle.mp4_frame.specs.declared.box_type.BoxType.TheVariants as names

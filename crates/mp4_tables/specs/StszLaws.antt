@@ -1,4 +1,4 @@
--- The laws of stsz, by those of its sizes.
+-- The laws of stsz follow from those of its sizes.
 use Rattle.std.proofs.Common.{◌≡◌, ℕ, ◌+◌, ◌*◌, ◌<◌, ◌^◌, Bool, true, false, eqb, cond, List, [], ◌∷◌, ◌++◌, map, Ok, length, refl, ap, subst, ◌∙◌, append_assoc, arith, lit<, lit≤}
 use Rattle.std.specs.List.{flat_map, All, AllByRecursion}
 use Rattle.std.proofs.lemmas.List.Elements.{All-from_recursion, recursion_from_All}
@@ -16,7 +16,7 @@ use Rattle.mp4_tables.specs.RowsLaws.{rows_within_back, rows_within_read}
 use Rattle.mp4_tables.specs.Stsz.{reads_sizes, sizes_if_listed, value_stsz, reads_stsz, size_stsz, fields_stsz, WritableStsz, bytes_stsz, format_stsz}
 use Rattle.mp4_tables.specs.declared.stsz.StszBox.{StszBox}
 
--- the sizes after p
+-- sizes that were written after p are read back
 sizes_back : (p y : List ℕ) (sizes : List ℕ) (size : ℕ) → length p ≡ 20 → size ≡ 20 + 4 * length sizes → All (λ s. s < 2 ^ 32) sizes → (reads_sizes (p ++ (flat_map (λ s. be_bytes 4 s) sizes ++ y)) size (length sizes)).outcome ≡ Ok sizes
 unfolding reads_sizes
 sizes_back p y sizes size at is each =
@@ -37,7 +37,7 @@ listed_back p y sizes size sample_size count at is each sync = by (eqb sample_si
     by true h = rw (← h) (sizes_back p y sizes size at is each)
     by false h = ap (λ (xs : List ℕ). Ok xs) (no_sizes sizes h)
 
--- the sizes that were read
+-- sizes that were read fit 32 bits, and there are as many as there have to be
 sizes_read : (bytes : List ℕ) (size sample_size count : ℕ) (sizes : List ℕ) → AreBytes bytes → (sizes_if_listed bytes size sample_size count).outcome ≡ Ok sizes
     → AllByRecursion (λ s. s < 2 ^ 32) sizes × (length sizes ≡ cond (eqb sample_size 0) count 0)
 unfolding reads_sizes

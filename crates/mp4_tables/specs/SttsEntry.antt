@@ -1,4 +1,4 @@
--- A row of stts, 8 bytes: sample_count 4, sample_delta 4.
+-- A row of stts has 8 bytes: sample_count 4, sample_delta 4.
 use Rattle.std.specs.Prelude.{ℕ, List, [], ◌∷◌}
 use Rattle.mp4_frame.specs.Bytes.{number, bytes_of_fields, FieldsFit}
 use Rattle.mp4_tables.specs.declared.stts_entry.SttsEntry.{SttsEntry}

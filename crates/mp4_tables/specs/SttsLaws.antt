@@ -1,4 +1,4 @@
--- The laws of stts, by those of its entries.
+-- The laws of stts follow from those of its entries.
 use Rattle.std.proofs.Common.{[], ◌∷◌, refl, lit<}
 use Rattle.mp4_frame.specs.Format.{IsBox}
 use Rattle.mp4_frame.specs.declared.box_type.BoxType.TheVariants as names

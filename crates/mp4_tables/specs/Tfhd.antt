@@ -1,6 +1,7 @@
--- tfhd, the track fragment header box (ISO/IEC 14496-12, 8.8.7): version 1 byte, flags 3, track_id 4 at 12. From 16
--- on, one after the other, each if its flag is set: base_data_offset 8 (0x01), sample_description_index 4
--- (0x02), default_sample_duration 4 (0x08), default_sample_size 4 (0x10), default_sample_flags 4 (0x20).
+-- tfhd, the track fragment header box (ISO/IEC 14496-12, 8.8.7). The fields are version 1 byte, flags 3, and
+-- track_id 4 at 12. From 16 on there are optional fields, one after the other, each if its flag is set:
+-- base_data_offset 8 (flag 0x01), sample_description_index 4 (0x02), default_sample_duration 4 (0x08),
+-- default_sample_size 4 (0x10), default_sample_flags 4 (0x20).
 use Rattle.std.specs.Prelude.{ℕ, ◌+◌, ◌-◌, List, [], ◌∷◌, ◌++◌}
 use Rattle.mp4_frame.specs.Bytes.{number, bytes_of_fields, FieldsFit, full_box}
 use Rattle.mp4_frame.specs.Reading.{Reading, ◌>>=◌, expect_bytes, done}
@@ -11,7 +12,7 @@ use Rattle.mp4_frame.specs.declared.box_type.BoxType.TheVariants as names
 use Rattle.mp4_frame.specs.declared.codes.TheConstants as codes
 use Rattle.mp4_tables.specs.declared.tfhd.TfhdBox.{TfhdBox}
 
--- where each of the flagged fields begins, and where they end
+-- the offsets of the optional fields after base_data_offset, and the offset after the last one
 abbrev pub index_at : ℕ → ℕ
 index_at flags = 16 + width_if (is_set flags FLAG_BASE_DATA_OFFSET) 8
 
@@ -52,7 +53,7 @@ size_tfhd v = end_at v.flags
 abbrev pub fields_tfhd : TfhdBox → List (ℕ × ℕ)
 fields_tfhd v = full_box (size_tfhd v) codes.TFHD v.version v.flags ++ (4, v.track_id) ∷ []
 
--- each flagged field is present exactly if its flag is set, and its number fits
+-- each optional field is present exactly if its flag is set, and its number fits
 pub record FlaggedTfhd (v : TfhdBox) : Type 0 where
   pub base_data_offset : IsPresent (is_set v.flags FLAG_BASE_DATA_OFFSET) 8 v.base_data_offset
   pub sample_description_index : IsPresent (is_set v.flags FLAG_SAMPLE_DESCRIPTION_INDEX) 4 v.sample_description_index
@@ -60,7 +61,7 @@ pub record FlaggedTfhd (v : TfhdBox) : Type 0 where
   pub default_sample_size : IsPresent (is_set v.flags FLAG_DEFAULT_SAMPLE_SIZE) 4 v.default_sample_size
   pub default_sample_flags : IsPresent (is_set v.flags FLAG_DEFAULT_SAMPLE_FLAGS) 4 v.default_sample_flags
 
--- every number fits its bytes
+-- every number fits its field, and each optional field agrees with its flag
 pub record WritableTfhd (v : TfhdBox) : Type 0 where
   pub fit : FieldsFit (fields_tfhd v)
   pub flagged : FlaggedTfhd v

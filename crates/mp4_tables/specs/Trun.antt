@@ -1,7 +1,8 @@
--- trun, the track fragment run box (ISO/IEC 14496-12, 8.8.8): version 1 byte, flags 3, sample_count 4 at 12. From
--- 16 on, one after the other, each if its flag is set: data_offset 4, signed (0x01), first_sample_flags 4
--- (0x04). Then a row for each sample: its duration 4 (0x100), size 4 (0x200), flags 4 (0x400) and composition time
--- offset 4 (0x800), each if its flag is set.
+-- trun, the track fragment run box (ISO/IEC 14496-12, 8.8.8). The fields are version 1 byte, flags 3, and
+-- sample_count 4 at 12. From 16 on there are two optional fields, one after the other, each if its flag is set:
+-- data_offset 4, signed (flag 0x01), and first_sample_flags 4 (0x04). Then there is a row for each sample: its
+-- duration 4 (0x100), size 4 (0x200), flags 4 (0x400) and composition time offset 4 (0x800), each if its flag is
+-- set.
 use Rattle.std.specs.Prelude.{ℕ, ℤ, ◌+◌, ◌-◌, ◌*◌, List, [], ◌∷◌, ◌++◌, flat_map, slice_get, Option, Some, None, option_map, FitsSigned}
 use Rattle.std.specs.List.{range_with_len}
 use Rattle.std.specs.Int.{w32, cast_signed, cast_unsigned}
@@ -17,14 +18,14 @@ use Rattle.mp4_frame.specs.declared.box_type.BoxType.TheVariants as names
 use Rattle.mp4_frame.specs.declared.codes.TheConstants as codes
 use Rattle.mp4_tables.specs.declared.trun.lists.TrunLists.{TrunLists}
 
--- where the first sample's flags begin, and the rows
+-- the offsets of first_sample_flags and of the first row
 abbrev pub first_flags_at : ℕ → ℕ
 first_flags_at flags = 16 + width_if (is_set flags FLAG_DATA_OFFSET) 4
 
 abbrev pub rows_at : ℕ → ℕ
 rows_at flags = first_flags_at flags + width_if (is_set flags FLAG_FIRST_SAMPLE_FLAGS) 4
 
--- a number of 32 bits, if there is one, as a signed number of the same bits, and the other way
+-- the signed number with the same 32 bits as an unsigned number, if there is one; and the other way round
 abbrev pub signed_bits : Option ℕ → Option ℤ
 signed_bits n = option_map (λ bits. cast_signed w32 bits) n
 
@@ -58,25 +59,25 @@ size_trun v = rows_at v.flags + row_length (row_flags v.flags) * v.sample_count
 abbrev pub fields_trun : TrunBox → List (ℕ × ℕ)
 fields_trun v = full_box (size_trun v) codes.TRUN v.version v.flags ++ (4, v.sample_count) ∷ []
 
--- a signed number fits, if there is one
+-- a signed number fits 32 bits, if there is one
 abbrev pub FitsOptional : Option ℤ → Type 0
 FitsOptional (Some z) = FitsSigned w32 z
 FitsOptional None = Unit {0}
 
--- each list is as long as the count if its flag is set, else empty
+-- each list has sample_count entries if its flag is set, else none
 pub record ListedTrun (v : TrunBox) : Type 0 where
   pub durations : IsListed (row_flags v.flags).duration v.sample_count v.sample_durations
   pub sizes : IsListed (row_flags v.flags).size v.sample_count v.sample_sizes
   pub flags : IsListed (row_flags v.flags).flags v.sample_count v.sample_flags
   pub cts : IsListed (row_flags v.flags).cts v.sample_count v.sample_cts
 
--- each field is present exactly if its flag is set, and its number fits
+-- each optional field is present exactly if its flag is set, and its number fits
 pub record FlaggedTrun (flags : ℕ) (offset : Option ℤ) (first_flags : Option ℕ) : Type 0 where
   pub data_offset : IsPresent (is_set flags FLAG_DATA_OFFSET) 4 (unsigned_bits offset)
   pub offset_fits : FitsOptional offset
   pub first_sample_flags : IsPresent (is_set flags FLAG_FIRST_SAMPLE_FLAGS) 4 first_flags
 
--- every number fits its bytes
+-- every number fits its field, and the optional fields and the lists agree with their flags
 pub record WritableTrun (v : TrunBox) : Type 0 where
   pub fit : FieldsFit (fields_trun v)
   pub flagged : FlaggedTrun v.flags v.data_offset v.first_sample_flags

@@ -1,4 +1,4 @@
--- The laws of trun, by those of flagged fields and of rows.
+-- The laws of trun follow from those of optional fields and of rows.
 use Rattle.std.proofs.Common.{◌≡◌, ℕ, zero, suc, ◌+◌, ◌*◌, ◌-◌, ◌<◌, ◌≤◌, ◌^◌, Bool, true, false, List, [], ◌∷◌, ◌++◌, map, length, Ok, Option, Some, None, refl, sym, ap, subst, ◌∙◌, append_assoc, arith, length-append, lit<}
 use Rattle.std.specs.Prelude.{ℤ, slice_get}
 use Rattle.std.specs.List.{range_with_len, AllByRecursion}
@@ -28,7 +28,7 @@ use Rattle.mp4_tables.specs.declared.trun.TheConstants.TrunBox.{FLAG_DATA_OFFSET
 use Rattle.mp4_tables.specs.declared.trun.TrunBox.{TrunBox}
 use Rattle.mp4_tables.specs.declared.trun.lists.TrunLists.{TrunLists}
 
--- the number of a sample is present exactly if the flag of its list is set
+-- the i-th number of a list is present exactly if the flag of the list is set
 item_is_present : (b : Bool) (count i : ℕ) (xs : List ℕ) → IsListed b count xs → i < count → IsPresent b 4 (slice_get xs i)
 item_is_present true count i xs h lt =
     let here : i < length xs = omega (arith, h.long) in
@@ -59,7 +59,7 @@ length_rows v w n le =
     length_flat (row_trun v) (row_length (row_flags v.flags)) (λ i. i < v.sample_count) (length_row v w) (range_with_len 0 n) (all_range 0 n v.sample_count (omega arith))
     ∙ ap (λ (k : ℕ). row_length (row_flags v.flags) * k) (length-range_with_len 0 n)
 
--- the numbers of each row, at its place
+-- a list is read back, if the number of each row is read back
 column_back : (v : TrunBox) (b : Bool) (o : ℕ) (xs : List ℕ) → IsListed b v.sample_count xs → ((i : ℕ) → i < v.sample_count → number_if (number (row_trun v i)) b o 4 ≡ slice_get xs i)
     → column_if b o (map (row_trun v) (range_with_len 0 v.sample_count)) ≡ xs
 unfolding column_if number_if
@@ -133,7 +133,7 @@ unfolding width_if
 full true e = refl
 full false e = absurd cc
 
--- a list that was read of rows
+-- a list that was read from rows has count entries if its flag is set, else none
 column_listed : (b : Bool) (o k count : ℕ) (rows : List (List ℕ)) → (b ≡ true → AllByRecursion (IsRow k) rows × (length rows ≡ count)) → IsListed b count (column_if b o rows)
 unfolding column_if
 column_listed true o k count rows h =

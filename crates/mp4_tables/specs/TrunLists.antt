@@ -1,4 +1,4 @@
--- The lists of a trun box: from a row for each sample, the numbers that its flags announce.
+-- The lists of a trun box: each has one number of each row, if its flag is set.
 use Rattle.std.specs.Prelude.{◌≡◌, ℕ, ◌<◌, ◌^◌, Bool, true, false, List, [], All, length, map, if◌then◌else◌}
 use Rattle.mp4_frame.specs.Bytes.{number}
 use Rattle.mp4_frame.specs.Reading.{Reading, ◌>>=◌, memory, done}
@@ -7,7 +7,7 @@ use Rattle.mp4_tables.specs.TrunRows.{size_in_row, flags_in_row, cts_in_row, row
 use Rattle.mp4_tables.specs.declared.trun.row_flags.RowFlags.{RowFlags}
 use Rattle.mp4_tables.specs.declared.trun.lists.TrunLists.{TrunLists}
 
--- the numbers at o of the rows, if their flag is set
+-- the numbers of 4 bytes at offset o of the rows if the flag is set, else none
 unfoldable pub column_if : Bool → ℕ → List (List ℕ) → List ℕ
 column_if is_flagged o rows = if is_flagged then map (λ row. number row o 4) rows else []
 
@@ -19,14 +19,14 @@ lists_of has rows = record {
   cts = column_if has.cts (cts_in_row has) rows;
 }
 
--- of as many rows as counted, from o on
+-- the lists of as many rows as the count says, from o on
 unfoldable pub reads_lists : List ℕ → ℕ → RowFlags → ℕ → ℕ → Reading TrunLists
 reads_lists bytes size has o count = do
   rows ← rows_within bytes size o (row_length has) count
   _ ← memory
   done (lists_of has rows)
 
--- as many numbers as counted if the flag is set, else none
+-- how many numbers a list has: count if its flag is set, else 0
 abbrev pub count_if : Bool → ℕ → ℕ
 count_if is_flagged count = if is_flagged then count else 0
 
@@ -34,7 +34,7 @@ pub record IsListed (is_flagged : Bool) (count : ℕ) (numbers : List ℕ) : Typ
   pub long : length numbers ≡ count_if is_flagged count
   pub each : All (λ n. n < 2 ^ 32) numbers
 
--- a list has an i-th number if its flag is set, else none at all
+-- a list has an i-th number if its flag is set, and is empty if not
 abbrev pub HasAt : Bool → ℕ → List ℕ → Type 0
 HasAt true i numbers = i < length numbers
 HasAt false i numbers = length numbers ≡ 0

@@ -1,4 +1,5 @@
--- The rows of a trun box: which numbers the flags of the box announce, and where each begins in its row.
+-- The rows of a trun box: which numbers a row has, by the flags of the box, and at which offset of the row each
+-- number is.
 use Rattle.std.specs.Prelude.{ℕ, ◌+◌}
 use Rattle.mp4_tables.specs.Flagged.{is_set, width_if}
 use Rattle.mp4_tables.specs.declared.trun.TheConstants.TrunBox.{FLAG_SAMPLE_DURATION, FLAG_SAMPLE_SIZE, FLAG_SAMPLE_FLAGS, FLAG_SAMPLE_CTS}
@@ -12,8 +13,8 @@ row_flags flags = record {
   cts = is_set flags FLAG_SAMPLE_CTS;
 }
 
--- the duration is at 0; then, each after the one before, where the size, the flags and the composition time offset
--- begin, and where the row ends
+-- The duration is at offset 0 of the row. Next are the offsets of the size, the flags and the composition time
+-- offset, each after the number before it, and the length of the row.
 abbrev pub size_in_row : RowFlags → ℕ
 size_in_row has = width_if has.duration 4
 
