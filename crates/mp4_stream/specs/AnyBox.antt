@@ -1,4 +1,5 @@
--- What is said of a box of any type, by its type: two lists of the boxes, and a line for each word.
+-- A box of any type is read and written as its type says. Two tables have a line for each type: by the name of a
+-- box, and by the variant of an AnyBox.
 use Rattle.std.specs.Prelude.{ℕ, List, Bool}
 use Rattle.mp4_frame.specs.Format.{Format}
 use Rattle.mp4_frame.specs.Members.{Known, Unknown, Is, kind, is_known, reading_known, Held, holds}
@@ -11,7 +12,7 @@ use Rattle.mp4_text.specs.Boxes.{reads_ftyp, format_ftyp, reads_hdlr, format_hdl
 use Rattle.mp4_stream.specs.declared.any_box.AnyBox.{AnyBox}
 use Rattle.mp4_stream.specs.declared.any_box.AnyBox.TheVariants as any
 
--- the type that a name stands for
+-- the type of the boxes of a name
 abbrev pub kinds : BoxType → Known AnyBox
 kinds names.FtypBox = Is (kind reads_ftyp format_ftyp any.FtypBox)
 kinds names.MvhdBox = Is (kind reads_mvhd format_mvhd any.MvhdBox)
@@ -41,7 +42,7 @@ kinds names.DrefBox = Is (kind reads_dref format_dref any.DrefBox)
 kinds names.DinfBox = Is (kind reads_dinf format_dinf any.DinfBox)
 kinds _ = Unknown
 
--- the box, by its type
+-- what the format of its type says of a box
 abbrev pub held : AnyBox → Held AnyBox
 held (any.FtypBox b) = holds format_ftyp any.FtypBox b
 held (any.MvhdBox b) = holds format_mvhd any.MvhdBox b

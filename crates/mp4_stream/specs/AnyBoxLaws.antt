@@ -1,4 +1,4 @@
--- The laws of a box of any type follow from those of its type.
+-- The laws of a box of any type follow from the laws of its type.
 use Rattle.std.proofs.Common.{refl}
 use Rattle.mp4_frame.proofs.Members.{IsMember, member}
 use Rattle.mp4_flat.specs.Boxes.{laws_mvhd, laws_tkhd, laws_mdhd, laws_mehd, laws_mfhd, laws_smhd, laws_vmhd, laws_trex, laws_tfdt}

@@ -1,4 +1,4 @@
-//! A box of any type, and lists of them.
+//! A box of any type, alone and in lists.
 
 ghost use Rattle.std.specs.Prelude.{◌≡◌, ◌-◌, ◌≤◌, IsTrue, OnErr};
 ghost use Rattle.mp4_frame.specs.Reading.{Answers, AnswersAs, map_reading};
@@ -18,7 +18,7 @@ use mp4_tables::{
 use mp4_text::{DataBox, DinfBox, DrefBox, EmsgBox, FtypBox, HdlrBox, UrlBox};
 use std::alloc::Global;
 
-/// The macro on the boxes, then on the arguments.
+/// Calls a macro with the list of all box types in brackets, followed by the other arguments.
 macro_rules! of_boxes {
     ($go:ident, $($rest:tt)*) => {
         $go! {
@@ -32,7 +32,7 @@ macro_rules! of_boxes {
     };
 }
 
-/// For the box inside, of each of the types.
+/// A match on an `AnyBox`, with an arm for each variant: binds the box inside, and evaluates the expression.
 macro_rules! each {
     ([$($held:ident)*] $any:expr, $value:ident => $answer:expr) => {
         match $any {
@@ -41,7 +41,8 @@ macro_rules! each {
     };
 }
 
-/// For the type of the name, a call of a function of one type.
+/// A match on a name, with an arm for each box type: calls the function for the box type of this name. The caller
+/// ensures that there is one.
 macro_rules! by_name {
     ([$($held:ident)*] $name:expr, $call:ident $values:tt) => {
         match $name {
@@ -51,7 +52,7 @@ macro_rules! by_name {
     };
 }
 
-/// Whether the name is one of the boxes'.
+/// Whether there is a box type of this name.
 macro_rules! is_named {
     ([$($held:ident)*] $name:expr) => {
         matches!($name, $(BoxType::$held)|*)
@@ -162,7 +163,8 @@ impl StreamBox for AnyBox {
     ghost read_back = { read_back_of_member kinds held members };
 }
 
-/// Reads the box of this name whose header was just read, as one of a type that holds any box.
+/// Reads the box of this name whose header was just read, and returns it as an `E`, a type that holds any box. The
+/// caller ensures that the name is known. After an `Err` the cursor is where it was.
 pub fn read_any<E: Holds<AnyBox>>(
     alloc: Global,
     name: BoxType,
@@ -178,7 +180,8 @@ pub fn read_any<E: Holds<AnyBox>>(
     of_boxes!(by_name, name, read_as(alloc, reader, size))
 }
 
-/// The same, appended.
+/// Reads the box of this name whose header was just read, and appends it as an `E`. The caller ensures that the name
+/// is known.
 pub fn push_any<E: Holds<AnyBox> + Drop>(
     alloc: Global,
     name: BoxType,

@@ -1,5 +1,5 @@
-//! The boxes of an MP4 file as one type, lists of them as whole streams, and every public item of the codec
-//! under the name that it has in the Rust crate `mp4`.
+//! The boxes of an MP4 file as one type, `AnyBox`, and streams of them as lists. Every public item of the codec is
+//! here too, under the name that it has in the Rust crate `mp4`.
 #![tactic(auto)]
 
 mod any_box;

@@ -1,4 +1,4 @@
-//! Lists of any of the boxes.
+//! Reading lists of boxes of any type.
 
 ghost use Rattle.std.specs.Prelude.{◌≡◌, OnOk, OnErr, length, max};
 ghost use Rattle.mp4_frame.specs.Reading.{AnswersAs};
@@ -9,8 +9,10 @@ use crate::any_box::AnyBox;
 use mp4_frame::{ByteCursor, Result, read_boxes_as};
 use std::alloc::Global;
 
-/// The boxes from the place to the buffer's end, or the first fault. Boxes of names that the codec doesn't
-/// read are skipped by their size. A box of size 0 goes up to the buffer's end.
+/// Reads the boxes from the cursor's position to the end of the buffer, or returns the first fault. Boxes with names
+/// that the codec does not read are skipped by their size. A box of size 0 goes up to the end of the buffer. After
+/// an `Ok` the cursor is at the end of the buffer, or where it was if that is past the end. After an `Err` it is
+/// where it was.
 pub fn read_boxes(alloc: Global, reader: &mut ByteCursor) -> Result<Vec<AnyBox>>
     ensures answer { AnswersAs (λ found. found.items) result (boxes known_any reading_any reader.old.bytes.now reader.old.position) }
     ensures moved { OnOk result (reader.new.position ≡ max reader.old.position (length reader.old.bytes.now)) }
