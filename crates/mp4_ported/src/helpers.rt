@@ -3,7 +3,7 @@
 use mp4_stream::{BoxHeader, BoxLaws, BoxType, ByteCursor, Error, ReadBox, WriteBox};
 use std::alloc::{AllocError, Global};
 
-/// The kind of a result: an `Ok`, or an error without its text.
+/// The kind of the outcome of a call: an `Ok`, or an error without its text.
 #[derive(Clone, Copy, Debug, PartialEq, Eq)]
 pub enum Kind {
     /// An `Ok`.
@@ -20,7 +20,7 @@ pub enum Kind {
     Other,
 }
 
-/// The kind of this result.
+/// The kind of this outcome.
 pub fn kind_of<T>(outcome: &Result<T, Error>) -> Kind {
     match outcome {
         Ok(_) => Kind::Ok,
@@ -29,6 +29,14 @@ pub fn kind_of<T>(outcome: &Result<T, Error>) -> Kind {
         Err(Error::BoxNotFound(name)) => Kind::NotFound(*name),
         Err(Error::OutOfMemory) => Kind::Memory,
         Err(_) => Kind::Other,
+    }
+}
+
+/// The text of an outcome that is invalid data.
+pub fn invalid_text<T>(outcome: &Result<T, Error>) -> Option<&'static str> {
+    match outcome {
+        Err(Error::InvalidData(text)) => Some(text),
+        _ => None,
     }
 }
 

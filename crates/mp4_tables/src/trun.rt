@@ -33,7 +33,7 @@ pub struct TrunBox {
     pub sample_count: u32,
     /// The offset of the run's data, in bytes from the base data offset of the fragment.
     pub data_offset: Option<i32>,
-    /// The flags of the first sample, in place of the default flags.
+    /// The flags of the first sample, instead of the default flags.
     pub first_sample_flags: Option<u32>,
     /// The duration of each sample, in the timescale of the media.
     pub sample_durations: Entries<u32>,

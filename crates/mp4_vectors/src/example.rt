@@ -1,8 +1,8 @@
-//! Callers of the codec, whose contracts are proved. The documents of the crates quote them.
+//! Callers of the codec with their contracts. The CALLING.md of each crate quotes one of them.
 
 ghost use Rattle.std.specs.Prelude.{◌≡◌, ◌++◌, List, Ok, IfOk, OnErr};
 ghost use Rattle.mp4_frame.specs.Streams.{stream, boxes};
-ghost use Rattle.mp4_stream.specs.AnyBox.{bytes_any, known_any, reading_any};
+ghost use Rattle.mp4_stream.specs.AnyBox.{format_any, known_any, reading_any};
 ghost use Rattle.mp4_stream.specs.declared.any_box.AnyBox.{AnyBox};
 
 pub mod audio;
@@ -14,9 +14,9 @@ pub mod times;
 use mp4_stream::{ByteCursor, Result, read_boxes, write_boxes};
 use std::alloc::Global;
 
-/// Appends the boxes of a file, in their normal form, to what is there.
+/// Appends the boxes of a file, in their normal form.
 pub fn append_normal(alloc: Global, file: &[u8], out: &mut Vec<u8>) -> Result<u64>
-    ensures ok { IfOk result (λ _. (vs : List AnyBox) × ((boxes known_any reading_any file.now 0).outcome ≡ Ok vs) × (out.new.items ≡ out.old.items ++ stream bytes_any vs)) }
+    ensures ok { IfOk result (λ _. (vs : List AnyBox) × ((boxes known_any reading_any file.now 0).outcome ≡ Ok vs) × (out.new.items ≡ out.old.items ++ stream format_any.bytes vs)) }
     ensures err { OnErr result (out.new.items ≡ out.old.items) }
 {
     let boxes = read_boxes(alloc, &mut ByteCursor::new(file))?;

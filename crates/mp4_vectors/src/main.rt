@@ -1,16 +1,16 @@
-//! What no contract of the codec says. The tests go through worked bytes, cuts, wrong sizes, printed texts and refused
-//! memory. The program writes and reads every vector under an allocator that may refuse any one request, and ends with
-//! status 0 only if each refusal left everything as it was.
+//! What no contract of the codec says. The tests have boxes with their bytes, cuts, wrong sizes, printed texts and
+//! refused memory. The program writes and reads every vector. From outside, one request for memory may be refused. It
+//! ends with status 0 only if that leaves everything as it was, and the same call then has its usual result.
 #![tactic(auto)]
 
 mod example;
 mod mark;
-mod refused;
+mod refused_memory;
 #[cfg(test)]
 mod tests;
 
 use mp4_ported::vectors::VECTORS;
-use refused::{
+use refused_memory::{
     Wrong, clone_config, make_texts, shorten_offsets, write_and_read, write_and_read_marks,
 };
 use std::process::ExitCode;
@@ -27,7 +27,10 @@ fn main(rt: HostRuntime) -> ExitCode {
         shorten_offsets(rt.alloc()),
         make_texts(rt.alloc()),
     ];
-    if others.iter().any(|done: &Result<(), Wrong>| done.is_err()) {
+    if others
+        .iter()
+        .any(|outcome: &Result<(), Wrong>| outcome.is_err())
+    {
         return ExitCode::from(1);
     }
     ExitCode::from(0)

@@ -1,15 +1,15 @@
-//! A box type that isn't one of the codec's: the smallest user of the traits, so that lists of boxes are seen
-//! at a type from outside.
+//! A box type from outside the codec: the smallest type that keeps the traits. The tests read and write lists of it.
 
-ghost use Rattle.std.specs.Prelude.{◌≡◌, refl};
-ghost use Rattle.mp4_frame.specs.declared.box_type.BoxType.TheVariants as names;
-ghost use Rattle.mp4_frame.proofs.Framing.{settled};
-ghost use Rattle.mp4_vectors.specs.Mark.{MARK, reads_mark, size_mark, WritableMark, bytes_mark, normal_mark, known_mark, reading_mark};
-ghost use Rattle.mp4_vectors.specs.MarkLaws.{framed_mark, read_back_mark, sound_mark, own_name_mark, named_back_mark};
+ghost use Rattle.mp4_frame.specs.Format.{write_laws};
+ghost use Rattle.mp4_vectors.specs.Mark.{reads_mark, format_mark, known_mark, reading_mark};
+ghost use Rattle.mp4_vectors.specs.MarkLaws.{laws_mark, own_name_mark, read_back_mark};
 
-use mp4_frame::{fields, put_u32, u32_at};
+use mp4_frame::{expect_bytes, put_u32, u32_at};
 use mp4_stream::{BoxLaws, BoxType, ByteCursor, Mp4Box, ReadBox, Result, StreamBox, WriteBox};
 use std::alloc::Global;
+
+/// The code: `mark`.
+pub const MARK: u32 = 0x6d61_726b;
 
 /// A number under the code `mark`.
 #[derive(Clone, Copy, Debug, PartialEq, Eq)]
@@ -18,12 +18,10 @@ pub struct MarkBox {
 }
 
 impl Mp4Box for MarkBox {
-    ghost name = { λ _. names.UnknownBox MARK };
-
-    ghost size = { size_mark };
+    ghost format = { format_mark };
 
     fn box_type(&self) -> BoxType {
-        BoxType::UnknownBox(0x6d61_726b)
+        BoxType::UnknownBox(MARK)
     }
 
     fn box_size(&self) -> u64 {
@@ -35,8 +33,8 @@ impl ReadBox for MarkBox {
     ghost reads = { reads_mark };
 
     #[tactic(auto, unfolding(crate::specs::Mark::reads_mark))]
-    fn read_row(_alloc: Global, bytes: &[u8], _start: u64, _size: u64) -> Result<MarkBox> {
-        fields(bytes, 8, 4)?;
+    fn read_content(_alloc: Global, bytes: &[u8], _start: u64, _size: u64) -> Result<MarkBox> {
+        expect_bytes(bytes, 8, 4)?;
         Ok(MarkBox {
             mark: u32_at(bytes, 8),
         })
@@ -44,33 +42,24 @@ impl ReadBox for MarkBox {
 }
 
 impl WriteBox for MarkBox {
-    ghost Writable = { WritableMark };
-
-    ghost bytes = { bytes_mark };
-
-    ghost normal = { normal_mark };
-
     fn is_writable(&self) -> bool {
+        // For the prover: a value that was read has the range of its type.
         let _mark = self.mark;
         true
     }
 
-    #[tactic(auto, unfolding(crate::specs::Mark::bytes_mark, mp4_frame::specs::Bytes::joined, mp4_frame::specs::Bytes::joined_onto))]
-    fn put_box(&self, place: &mut [u8]) {
-        let at = put_u32(place, 0, 12);
-        let at = put_u32(place, at, 0x6d61_726b);
-        put_u32(place, at, self.mark);
+    #[tactic(auto, unfolding(crate::specs::Mark::bytes_mark, mp4_frame::specs::Bytes::bytes_of_fields, mp4_frame::specs::Bytes::bytes_of_fields_onto))]
+    fn put_box(&self, out: &mut [u8]) {
+        let at = put_u32(out, 0, 12);
+        let at = put_u32(out, at, MARK);
+        put_u32(out, at, self.mark);
     }
 
-    ghost header = { header_mark };
-
-    ghost normal_form = { λ v w. settled v refl w };
+    ghost write_laws = { write_laws laws_mark };
 }
 
 impl BoxLaws for MarkBox {
-    ghost read_back = { read_back_mark };
-
-    ghost sound = { sound_mark };
+    ghost laws = { laws_mark };
 }
 
 impl StreamBox for MarkBox {
@@ -79,7 +68,7 @@ impl StreamBox for MarkBox {
     ghost named_reading = { reading_mark };
 
     fn knows(name: BoxType) -> bool {
-        matches!(name, BoxType::UnknownBox(0x6d61_726b))
+        matches!(name, BoxType::UnknownBox(MARK))
     }
 
     fn read_named(
@@ -93,5 +82,5 @@ impl StreamBox for MarkBox {
 
     ghost own_name = { own_name_mark };
 
-    ghost read_back = { named_back_mark };
+    ghost read_back = { read_back_mark };
 }

@@ -1,4 +1,4 @@
-//! What no contract says, a file for each thing that is tested.
+//! Tests of what no contract says, a file for each thing that is tested.
 
 mod children;
 mod chunks;
@@ -12,12 +12,12 @@ mod examples;
 mod faults;
 mod fixed_points;
 mod headers;
+mod invalid_texts;
 mod laws;
 mod media_tables;
 mod memory;
 mod metadata;
 mod printed;
-mod refusals;
 mod samples;
 mod sizes;
 mod streams;

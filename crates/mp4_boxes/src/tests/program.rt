@@ -66,12 +66,12 @@ fn words_are_parsed(rt: HostRuntime) -> Result<(), Fail> {
         for word in given {
             words.push(String::from_str(rt.alloc(), word)?)?;
         }
-        let want = if is_normal {
+        let expected = if is_normal {
             Some(Command::Normal)
         } else {
             None
         };
-        assert_eq!(rt; parse_command(words.into_iter()), want, "{given:?}");
+        assert_eq!(rt; parse_command(words.into_iter()), expected, "{given:?}");
     }
     Ok(())
 }

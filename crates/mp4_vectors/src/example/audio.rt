@@ -1,4 +1,4 @@
-//! The numbers of an audio configuration.
+//! A caller of `mp4_media`: the numbers of an audio configuration.
 
 ghost use Rattle.std.specs.Prelude.{◌≡◌, IfOk, Ok};
 ghost use Rattle.mp4_media.specs.AudioObjectType.{number_audio_object_type};
@@ -8,7 +8,7 @@ ghost use Rattle.mp4_media.specs.ChannelConfig.{number_channel_config};
 use mp4_frame::Error;
 use mp4_media::{AacConfig, AudioObjectType, ChannelConfig, SampleFreqIndex, laws};
 
-/// What the numbers of an audio configuration in a file mean, at a bit rate.
+/// The audio configuration of the numbers in a file, with a bit rate.
 pub fn aac_config(
     bitrate: u32,
     profile: u8,
@@ -30,8 +30,8 @@ pub fn aac_config(
     })
 }
 
-/// What the numbers of a configuration mean is that configuration.
-pub fn numbers_come_back(config: AacConfig) -> Result<AacConfig, Error>
+/// The audio configuration of the numbers of a configuration, which is the same configuration.
+pub fn aac_config_again(config: AacConfig) -> Result<AacConfig, Error>
     ensures { result ≡ Ok config }
 {
     laws::conversions_answer_what_they_find::<AudioObjectType>();

@@ -1,4 +1,4 @@
-//! Defaults, as a proof sees them.
+//! Defaults with their values in contracts.
 
 ghost use Rattle.std.specs.Prelude.{◌≡◌};
 

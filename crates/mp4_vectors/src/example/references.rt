@@ -1,4 +1,4 @@
-//! The references of a track.
+//! A caller of `mp4_text`: the data references of a track.
 
 ghost use Rattle.std.specs.Prelude.{◌≡◌, ◌++◌, IfOk, OnErr};
 ghost use Rattle.mp4_text.specs.Dinf.{bytes_dinf};
@@ -7,7 +7,7 @@ use mp4_frame::{Result, Text, WriteBox};
 use mp4_text::{DinfBox, DrefBox, UrlBox};
 use std::alloc::Global;
 
-/// Appends the references of a track whose media data is at a URL.
+/// Appends the data references of a track whose media data is at a URL.
 pub fn append_reference(alloc: Global, url: &str, out: &mut Vec<u8>) -> Result<u64>
     ensures ok { IfOk result (λ _. out.new.items ≡ out.old.items ++ bytes_dinf (record { dref = record { version = 0; flags = 0; url = Some (record { version = 0; flags = 0; location = url.now }) } })) }
     ensures err { OnErr result (out.new.items ≡ out.old.items) }

@@ -1,41 +1,42 @@
-//! Children that are too small or too large, that pass their parent or the buffer, and that end before or after
-//! what is read of them.
+//! Children that are too small or too large, that end past their parent or past the buffer, and that end before or after
+//! the bytes that are read of them.
 
-use mp4_ported::boxes::text::{DINF_URL, dref_of as dref_box};
-use mp4_ported::helpers::{Kind, kind_of, read, reads_as, resized};
+use mp4_ported::boxes::text::{DINF_URL, dref_of};
+use mp4_ported::helpers::{Kind, expect_kind, expect_value, kind_of, read};
 use mp4_stream::{BoxType, DinfBox, DrefBox, Error, Text};
 use std::alloc::Global;
 use std::test::Fail;
 
 const NO_DREF: Kind = Kind::NotFound(BoxType::DrefBox);
 
-/// How a dref of this count, these children and this size is read, and the flags of its url, which tell the urls of a
-/// test apart.
-fn dref_of(alloc: Global, count: u8, children: &[u8], size: u64) -> Result<(Kind, u32), Error> {
+/// Reads a dref of this count, these children and this size. Returns the kind of the outcome, and the flags of the url
+/// that was read, by which a test tells several urls apart.
+fn read_dref(alloc: Global, count: u8, children: &[u8], size: u64) -> Result<(Kind, u32), Error> {
     let mut bytes = Vec::from_slice(alloc, b"\0\0\0\0dref\0\0\0\0\0\0\0")?;
     bytes.push(count)?;
     bytes.extend_from_slice(children)?;
-    let (answer, _) = read::<DrefBox>(alloc, &bytes, size);
-    let flags = match &answer {
+    let (outcome, _) = read::<DrefBox>(alloc, &bytes, size);
+    let flags = match &outcome {
         Ok(dref) => match &dref.url {
             Some(url) => url.flags,
             None => 0,
         },
         Err(_) => 0,
     };
-    Ok((kind_of(&answer), flags))
+    Ok((kind_of(&outcome), flags))
 }
 
-/// How a dinf of these children and this size is read, and the flags of its dref.
-fn dinf_of(alloc: Global, children: &[u8], size: u64) -> Result<(Kind, u32), Error> {
+/// Reads a dinf of these children and this size. Returns the kind of the outcome, and the flags of the dref that was
+/// read.
+fn read_dinf(alloc: Global, children: &[u8], size: u64) -> Result<(Kind, u32), Error> {
     let mut bytes = Vec::from_slice(alloc, b"\0\0\0\0dinf")?;
     bytes.extend_from_slice(children)?;
-    let (answer, _) = read::<DinfBox>(alloc, &bytes, size);
-    let flags = match &answer {
+    let (outcome, _) = read::<DinfBox>(alloc, &bytes, size);
+    let flags = match &outcome {
         Ok(dinf) => dinf.dref().flags,
         Err(_) => 0,
     };
-    Ok((kind_of(&answer), flags))
+    Ok((kind_of(&outcome), flags))
 }
 
 #[test]
@@ -53,9 +54,9 @@ fn child_of_less_than_8_bytes(rt: HostRuntime) -> Result<(), Fail> {
         (8, (Kind::Ok, 5), (NO_DREF, 0)),
     ] {
         url[3] = size;
-        assert_eq!(rt; dref_of(rt.alloc(), 1, &url, 28)?, of_url, "{size}");
+        assert_eq!(rt; read_dref(rt.alloc(), 1, &url, 28)?, of_url, "{size}");
         free[3] = size;
-        assert_eq!(rt; dinf_of(rt.alloc(), &free, 16)?, of_free, "{size}");
+        assert_eq!(rt; read_dinf(rt.alloc(), &free, 16)?, of_free, "{size}");
     }
     Ok(())
 }
@@ -75,17 +76,17 @@ fn child_with_a_size_of_64_bits(rt: HostRuntime) -> Result<(), Fail> {
         (45, (Kind::Invalid, 0), (Kind::Invalid, 0)),
     ] {
         url[15] = size;
-        assert_eq!(rt; dref_of(rt.alloc(), 1, &url, 36)?, of_url, "{size}");
+        assert_eq!(rt; read_dref(rt.alloc(), 1, &url, 36)?, of_url, "{size}");
         free[15] = size;
-        assert_eq!(rt; dinf_of(rt.alloc(), &free, 24)?, of_free, "{size}");
+        assert_eq!(rt; read_dinf(rt.alloc(), &free, 24)?, of_free, "{size}");
     }
-    assert_eq!(rt; dref_of(rt.alloc(), 1, &url[..15], 36)?, (Kind::End, 0));
+    assert_eq!(rt; read_dref(rt.alloc(), 1, &url[..15], 36)?, (Kind::End, 0));
     Ok(())
 }
 
 #[test]
 fn child_up_to_the_end_of_64_bits(rt: HostRuntime) -> Result<(), Fail> {
-    // A child that ends before the box of the largest size is followed by another.
+    // The box has the largest size. A child that ends before the end of the box is followed by another.
     let mut child = *b"\0\0\0\x01free\xff\xff\xff\xff\xff\xff\xff\xff";
     for (low, of_dref, of_dinf) in [
         (0xef, Kind::Ok, Kind::End),
@@ -95,9 +96,9 @@ fn child_up_to_the_end_of_64_bits(rt: HostRuntime) -> Result<(), Fail> {
         (0xff, Kind::Invalid, Kind::Invalid),
     ] {
         child[15] = low;
-        let (dref, _) = dref_of(rt.alloc(), 1, &child, u64::MAX)?;
+        let (dref, _) = read_dref(rt.alloc(), 1, &child, u64::MAX)?;
         assert_eq!(rt; dref, of_dref, "{low}");
-        let (dinf, _) = dinf_of(rt.alloc(), &child, u64::MAX)?;
+        let (dinf, _) = read_dinf(rt.alloc(), &child, u64::MAX)?;
         assert_eq!(rt; dinf, of_dinf, "{low}");
     }
     Ok(())
@@ -106,31 +107,31 @@ fn child_up_to_the_end_of_64_bits(rt: HostRuntime) -> Result<(), Fail> {
 #[test]
 fn child_larger_than_its_parent_or_ending_past_it(rt: HostRuntime) -> Result<(), Fail> {
     let url = *b"\0\0\0\x18url \0\0\0\x05eleven long\0";
-    for (size, want) in [
+    for (size, expected) in [
         (16, (Kind::Ok, 0)),
         (17, (Kind::Invalid, 0)),
         (23, (Kind::Invalid, 0)),
         (24, (Kind::Ok, 5)),
         (40, (Kind::Ok, 5)),
     ] {
-        assert_eq!(rt; dref_of(rt.alloc(), 1, &url, size)?, want, "{size}");
+        assert_eq!(rt; read_dref(rt.alloc(), 1, &url, size)?, expected, "{size}");
     }
     let dref = *b"\0\0\0\x10dref\0\0\0\x05\0\0\0\0";
-    for (size, want) in [
+    for (size, expected) in [
         (8, (NO_DREF, 0)),
         (9, (Kind::Invalid, 0)),
         (15, (Kind::Invalid, 0)),
         (16, (Kind::Ok, 5)),
         (24, (Kind::Ok, 5)),
     ] {
-        assert_eq!(rt; dinf_of(rt.alloc(), &dref, size)?, want, "{size}");
+        assert_eq!(rt; read_dinf(rt.alloc(), &dref, size)?, expected, "{size}");
     }
     Ok(())
 }
 
 #[test]
 fn child_of_a_child(rt: HostRuntime) -> Result<(), Fail> {
-    for (size, size_of_url, want) in [
+    for (size, size_of_url, expected) in [
         (30, 14, Kind::Ok),
         (29, 14, Kind::Invalid),
         (38, 15, Kind::Ok),
@@ -139,7 +140,7 @@ fn child_of_a_child(rt: HostRuntime) -> Result<(), Fail> {
     ] {
         let mut bytes = DINF_URL;
         bytes[27] = size_of_url;
-        reads_as::<DinfBox>(rt.alloc(), &bytes, size, want)?;
+        expect_kind::<DinfBox>(rt.alloc(), &bytes, size, expected)?;
     }
     Ok(())
 }
@@ -148,37 +149,45 @@ fn child_of_a_child(rt: HostRuntime) -> Result<(), Fail> {
 fn child_ending_before_what_is_read_of_it(rt: HostRuntime) -> Result<(), Fail> {
     // The second child begins at the version and flags of the first.
     let urls = *b"\0\0\0\x08url \0\0\0\x0curl \0\0\0\x05";
-    for (count, want) in [(1, (Kind::Ok, 12)), (2, (Kind::Ok, 5)), (3, (Kind::Ok, 5))] {
-        assert_eq!(rt; dref_of(rt.alloc(), count, &urls, 36)?, want, "{count}");
+    for (count, expected) in [(1, (Kind::Ok, 12)), (2, (Kind::Ok, 5)), (3, (Kind::Ok, 5))] {
+        assert_eq!(rt;
+            read_dref(rt.alloc(), count, &urls, 36)?,
+            expected,
+            "{count}"
+        );
     }
     let drefs = *b"\0\0\0\x08dref\0\0\0\x10dref\0\0\0\x05\0\0\0\0";
-    for (size, want) in [
+    for (size, expected) in [
         (16, (Kind::Ok, 16)),
         (17, (Kind::Ok, 5)),
         (32, (Kind::Ok, 5)),
     ] {
-        assert_eq!(rt; dinf_of(rt.alloc(), &drefs, size)?, want, "{size}");
+        assert_eq!(rt; read_dinf(rt.alloc(), &drefs, size)?, expected, "{size}");
     }
     let skipped = *b"\0\0\0\x08dref\0\0\0\x18free";
-    assert_eq!(rt; dinf_of(rt.alloc(), &skipped, 40)?, (Kind::Ok, 24));
+    assert_eq!(rt; read_dinf(rt.alloc(), &skipped, 40)?, (Kind::Ok, 24));
     Ok(())
 }
 
 #[test]
 fn child_ending_after_what_is_read_of_it(rt: HostRuntime) -> Result<(), Fail> {
-    // Zero bytes are part of a location, and bytes after a dref of no entries are passed over.
+    // Zero bytes can be part of a location. Bytes after the entries of a dref are skipped.
     let urls = *b"\0\0\0\x14url \0\0\0\x03a\0b\0c\0d\0\0\0\0\x0curl \0\0\0\x05";
-    for (count, want) in [(1, (Kind::Ok, 3)), (2, (Kind::Ok, 5))] {
-        assert_eq!(rt; dref_of(rt.alloc(), count, &urls, 48)?, want, "{count}");
+    for (count, expected) in [(1, (Kind::Ok, 3)), (2, (Kind::Ok, 5))] {
+        assert_eq!(rt;
+            read_dref(rt.alloc(), count, &urls, 48)?,
+            expected,
+            "{count}"
+        );
     }
     let drefs =
         *b"\0\0\0\x14dref\0\0\0\x03\0\0\0\0\xff\xff\xff\xff\0\0\0\x10dref\0\0\0\x05\0\0\0\0";
-    for (size, want) in [
+    for (size, expected) in [
         (28, (Kind::Ok, 3)),
         (29, (Kind::Ok, 5)),
         (44, (Kind::Ok, 5)),
     ] {
-        assert_eq!(rt; dinf_of(rt.alloc(), &drefs, size)?, want, "{size}");
+        assert_eq!(rt; read_dinf(rt.alloc(), &drefs, size)?, expected, "{size}");
     }
     Ok(())
 }
@@ -188,7 +197,7 @@ fn entries_past_the_buffer(rt: HostRuntime) -> Result<(), Fail> {
     let url = b"\0\0\0\x0curl \0\0\0\x05".as_slice();
     let long = b"\0\0\0\x28free".as_slice();
     let second_is_small = b"\0\0\0\x0curl \0\0\0\x05\0\0\0\x07url ".as_slice();
-    for (count, children, size, want) in [
+    for (count, children, size, expected) in [
         (1, url, 100, (Kind::Ok, 5)),
         (2, url, 28, (Kind::Ok, 5)),
         (2, url, 29, (Kind::End, 0)),
@@ -202,8 +211,8 @@ fn entries_past_the_buffer(rt: HostRuntime) -> Result<(), Fail> {
         (2, second_is_small, 100, (Kind::Invalid, 0)),
     ] {
         assert_eq!(rt;
-            dref_of(rt.alloc(), count, children, size)?,
-            want,
+            read_dref(rt.alloc(), count, children, size)?,
+            expected,
             "{count} {size}"
         );
     }
@@ -214,7 +223,7 @@ fn entries_past_the_buffer(rt: HostRuntime) -> Result<(), Fail> {
 fn references_past_the_buffer(rt: HostRuntime) -> Result<(), Fail> {
     let dref = b"\0\0\0\x10dref\0\0\0\x05\0\0\0\0".as_slice();
     let free = b"\0\0\0\x10free".as_slice();
-    for (children, size, want) in [
+    for (children, size, expected) in [
         (dref, 24, (Kind::Ok, 5)),
         (dref, 25, (Kind::End, 0)),
         (&dref[..15], 24, (Kind::End, 0)),
@@ -222,7 +231,7 @@ fn references_past_the_buffer(rt: HostRuntime) -> Result<(), Fail> {
         (free, 24, (NO_DREF, 0)),
         (free, 25, (Kind::End, 0)),
     ] {
-        assert_eq!(rt; dinf_of(rt.alloc(), children, size)?, want, "{size}");
+        assert_eq!(rt; read_dinf(rt.alloc(), children, size)?, expected, "{size}");
     }
     Ok(())
 }
@@ -230,26 +239,26 @@ fn references_past_the_buffer(rt: HostRuntime) -> Result<(), Fail> {
 #[test]
 fn dref_of_no_entries_has_no_children(rt: HostRuntime) -> Result<(), Fail> {
     let bytes = *b"\0\0\0\x10dref\0\0\0\0\0\0\0\0\0\0\0\x0curl \0\0\0\x01";
-    resized(rt.alloc(), &dref_box(None), &bytes, 16)?;
+    expect_value(rt.alloc(), &dref_of(None), &bytes, 16)?;
     Ok(())
 }
 
-/// A dref of an `urn ` box, and of two `url ` boxes, the second of them with a size of 64 bits.
+/// A dref of one `urn ` and two `url ` boxes. The second `url ` has a 64-bit size.
 const ENTRIES: [u8; 62] =
     *b"\0\0\0\x3edref\0\0\0\0\0\0\0\x03\0\0\0\x08urn \0\0\0\x0eurl \0\0\0\0a\0\0\0\0\x01url \0\0\0\0\0\0\0\x18\0\0\0\0bcd\0";
 
 #[test]
 fn entries_of_dref(rt: HostRuntime) -> Result<(), Fail> {
     let bytes = ENTRIES;
-    for (count, want) in [(0, ""), (1, ""), (2, "a"), (3, "bcd"), (4, "bcd")] {
+    for (count, expected) in [(0, ""), (1, ""), (2, "a"), (3, "bcd"), (4, "bcd")] {
         let mut bytes = bytes;
         bytes[15] = count;
-        let (answer, _) = read::<DrefBox>(rt.alloc(), &bytes, 62);
-        let location = match answer?.url {
+        let (outcome, _) = read::<DrefBox>(rt.alloc(), &bytes, 62);
+        let location = match outcome?.url {
             Some(url) => url.location,
             None => Text::new(rt.alloc()),
         };
-        assert_eq!(rt; location.as_str(), want, "{count}");
+        assert_eq!(rt; location.as_str(), expected, "{count}");
     }
     Ok(())
 }
@@ -257,7 +266,7 @@ fn entries_of_dref(rt: HostRuntime) -> Result<(), Fail> {
 #[test]
 fn wrong_sizes_of_entries_of_dref(rt: HostRuntime) {
     let bytes = ENTRIES;
-    for (at, byte, want) in [
+    for (at, byte, expected) in [
         (19, 7, Kind::Invalid),
         (19, 63, Kind::Invalid),
         (19, 0, Kind::Invalid),
@@ -268,18 +277,18 @@ fn wrong_sizes_of_entries_of_dref(rt: HostRuntime) {
     ] {
         let mut bytes = bytes;
         bytes[at] = byte;
-        let (answer, _) = read::<DrefBox>(rt.alloc(), &bytes, 62);
-        assert_eq!(rt; kind_of(&answer), want, "{at}");
+        let (outcome, _) = read::<DrefBox>(rt.alloc(), &bytes, 62);
+        assert_eq!(rt; kind_of(&outcome), expected, "{at}");
     }
 }
 
 #[test]
 fn dinf_without_dref(rt: HostRuntime) -> Result<(), Fail> {
-    reads_as::<DinfBox>(rt.alloc(), b"\0\0\0\x08dinf", 8, NO_DREF)?;
-    reads_as::<DinfBox>(rt.alloc(), b"\0\0\0\x10dinf\0\0\0\0free", 16, Kind::Invalid)?;
-    reads_as::<DinfBox>(rt.alloc(), b"", 9, Kind::End)?;
+    expect_kind::<DinfBox>(rt.alloc(), b"\0\0\0\x08dinf", 8, NO_DREF)?;
+    expect_kind::<DinfBox>(rt.alloc(), b"\0\0\0\x10dinf\0\0\0\0free", 16, Kind::Invalid)?;
+    expect_kind::<DinfBox>(rt.alloc(), b"", 9, Kind::End)?;
     let large = *b"\0\0\0\x08dinf\0\0\0\x01free\xff\xff\xff\xff\xff\xff\xff\xff";
-    reads_as::<DinfBox>(rt.alloc(), &large, u64::MAX, Kind::Invalid)?;
+    expect_kind::<DinfBox>(rt.alloc(), &large, u64::MAX, Kind::Invalid)?;
     Ok(())
 }
 

@@ -1,4 +1,4 @@
-//! Clones of boxes, and what a box says of its own type and size.
+//! Clones of boxes, and the type and the size that a box returns.
 
 use super::worked::{FTYP_OF_TWO, STCO_OF_ONE};
 use mp4_ported::boxes::flat::{mdhd_long, mfhd, smhd, trex, vmhd_colors};
@@ -7,7 +7,9 @@ use mp4_ported::boxes::tables::{
 };
 use mp4_ported::boxes::text::{data_box, dinf, dref_of, emsg, ftyp, hdlr, url};
 use mp4_ported::helpers::read;
-use mp4_stream::{BoxType, FtypBox, MdhdBox, MehdBox, MvhdBox, StcoBox, TfdtBox, TkhdBox};
+use mp4_stream::{
+    BoxType, FtypBox, MdhdBox, MehdBox, MvhdBox, StcoBox, TfdtBox, TkhdBox, TryClone,
+};
 use std::test::Fail;
 
 #[test]
@@ -65,7 +67,7 @@ fn clones_of_references(rt: HostRuntime) -> Result<(), Fail> {
 }
 
 #[test]
-fn clones_of_what_was_read(rt: HostRuntime) -> Result<(), Fail> {
+fn clones_of_boxes_that_were_read(rt: HostRuntime) -> Result<(), Fail> {
     let (ftyp, _) = read::<FtypBox>(rt.alloc(), &FTYP_OF_TWO, 24);
     let ftyp = ftyp?;
     assert!(rt; ftyp.try_clone()? == ftyp);
@@ -99,7 +101,7 @@ fn types_and_sizes_of_headers(rt: HostRuntime) {
     );
 }
 
-/// A box of an unknown version has a size too.
+/// A box of an unknown version has a size, though it can't be written.
 #[test]
 fn types_and_sizes_of_unknown_versions(rt: HostRuntime) -> Result<(), Fail> {
     let mut movie = MvhdBox::default();

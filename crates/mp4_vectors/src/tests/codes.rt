@@ -1,9 +1,9 @@
-//! Codes, as they convert.
+//! Conversions of codes.
 
 use mp4_stream::{BoxType, Error, FourCC};
 use std::test::Fail;
 
-fn is_refused(text: &str) -> bool {
+fn is_invalid(text: &str) -> bool {
     let code: Result<FourCC, Error> = text.parse();
     matches!(code, Err(Error::InvalidData(_)))
 }
@@ -14,7 +14,7 @@ fn codes_convert(rt: HostRuntime) -> Result<(), Fail> {
     assert_eq!(rt; isom.value, *b"isom");
     assert_eq!(rt; FourCC::default().value, [0; 4]);
     for text in ["iso", "isomx", "", "is\u{e9}o"] {
-        assert!(rt; is_refused(text), "{text}");
+        assert!(rt; is_invalid(text), "{text}");
     }
     let ftyp = FourCC::from(0x6674_7970);
     assert_eq!(rt; u32::from(&ftyp), 0x6674_7970);

@@ -1,14 +1,14 @@
-//! What tracks are made from: defaults, clones, and how they print.
+//! Configurations of tracks: defaults, clones, and how they print.
 
 use mp4_stream::{
     AacConfig, AudioObjectType, AvcConfig, ChannelConfig, Entries, HevcConfig, MediaConfig,
-    SampleFreqIndex, TtxtConfig, Vp9Config,
+    SampleFreqIndex, TryClone, TtxtConfig, Vp9Config,
 };
 use std::alloc::{AllocError, Global};
 use std::fmt::Debug;
 use std::test::Fail;
 
-/// The text that Debug prints.
+/// The text that `Debug` prints.
 fn debug_text(alloc: Global, value: &impl Debug) -> Result<String, AllocError> {
     format!(in alloc; "{value:?}")
 }

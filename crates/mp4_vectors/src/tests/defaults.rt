@@ -3,7 +3,7 @@
 use crate::example::defaults::{default_extent, default_video};
 use mp4_ported::boxes::flat::MFHD;
 use mp4_ported::boxes::text::DINF;
-use mp4_ported::helpers::{round_trip, written};
+use mp4_ported::helpers::{expect_round_trip, expect_written};
 use mp4_stream::{
     DinfBox, DrefBox, FtypBox, HdlrBox, MdhdBox, MfhdBox, MvhdBox, SmhdBox, StcoBox, StscBox,
     TfdtBox, TkhdBox, UrlBox, WriteBox,
@@ -21,24 +21,24 @@ const TKHD: [u8; 92] =
 
 #[test]
 fn headers_of_movies_and_tracks(rt: HostRuntime) -> Result<(), Fail> {
-    round_trip(rt.alloc(), &MvhdBox::default(), &MVHD)?;
-    round_trip(rt.alloc(), &TkhdBox::default(), &TKHD)?;
+    expect_round_trip(rt.alloc(), &MvhdBox::default(), &MVHD)?;
+    expect_round_trip(rt.alloc(), &TkhdBox::default(), &TKHD)?;
     Ok(())
 }
 
 #[test]
 fn headers_of_media(rt: HostRuntime) -> Result<(), Fail> {
-    round_trip(
+    expect_round_trip(
         rt.alloc(),
         &MdhdBox::default_in(rt.alloc())?,
         b"\0\0\0\x20mdhd\0\0\0\0\0\0\0\0\0\0\0\0\0\0\x03\xe8\0\0\0\0U\xc4\0\0",
     )?;
-    round_trip(
+    expect_round_trip(
         rt.alloc(),
         &SmhdBox::default(),
         b"\0\0\0\x10smhd\0\0\0\0\0\0\0\0",
     )?;
-    round_trip(
+    expect_round_trip(
         rt.alloc(),
         &default_video(),
         b"\0\0\0\x14vmhd\0\0\0\0\0\0\0\0\0\0\0\0",
@@ -48,13 +48,13 @@ fn headers_of_media(rt: HostRuntime) -> Result<(), Fail> {
 
 #[test]
 fn headers_of_fragments(rt: HostRuntime) -> Result<(), Fail> {
-    round_trip(
+    expect_round_trip(
         rt.alloc(),
         &default_extent(),
         b"\0\0\0\x10mehd\0\0\0\0\0\0\0\0",
     )?;
-    round_trip(rt.alloc(), &MfhdBox::default(), &MFHD)?;
-    round_trip(
+    expect_round_trip(rt.alloc(), &MfhdBox::default(), &MFHD)?;
+    expect_round_trip(
         rt.alloc(),
         &TfdtBox::default(),
         b"\0\0\0\x10tfdt\0\0\0\0\0\0\0\0",
@@ -69,9 +69,9 @@ fn file_types_and_tables(rt: HostRuntime) -> Result<(), Fail> {
     assert_eq!(rt; StcoBox::default_in(rt.alloc()).write_box(&mut out)?, 16);
     assert_eq!(rt; &out[..16], b"\0\0\0\x10ftyp\0\0\0\0\0\0\0\0".as_slice());
     assert_eq!(rt; &out[16..], b"\0\0\0\x10stco\0\0\0\0\0\0\0\0".as_slice());
-    written(rt.alloc(), &FtypBox::default_in(rt.alloc()), 16)?;
-    written(rt.alloc(), &StcoBox::default_in(rt.alloc()), 16)?;
-    written(rt.alloc(), &StscBox::default_in(rt.alloc()), 16)?;
+    expect_written(rt.alloc(), &FtypBox::default_in(rt.alloc()), 16)?;
+    expect_written(rt.alloc(), &StcoBox::default_in(rt.alloc()), 16)?;
+    expect_written(rt.alloc(), &StscBox::default_in(rt.alloc()), 16)?;
     Ok(())
 }
 
@@ -79,9 +79,9 @@ fn file_types_and_tables(rt: HostRuntime) -> Result<(), Fail> {
 fn handlers_and_references(rt: HostRuntime) -> Result<(), Fail> {
     assert_eq!(rt; HdlrBox::default_in(rt.alloc()).get_size(), 33);
     let same_file = UrlBox::default_in(rt.alloc());
-    round_trip(rt.alloc(), &same_file, b"\0\0\0\x0curl \0\0\0\x01")?;
+    expect_round_trip(rt.alloc(), &same_file, b"\0\0\0\x0curl \0\0\0\x01")?;
     let dinf = DinfBox::new(DrefBox::default_in(rt.alloc()));
-    round_trip(rt.alloc(), &dinf, &DINF)?;
+    expect_round_trip(rt.alloc(), &dinf, &DINF)?;
     assert!(rt; dinf == DinfBox::default_in(rt.alloc()));
     assert!(rt; *dinf.dref() == DrefBox::default_in(rt.alloc()));
     Ok(())

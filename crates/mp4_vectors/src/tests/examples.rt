@@ -1,24 +1,24 @@
-//! The example callers on worked values.
+//! The example callers.
 
-use crate::example::audio::{aac_config, numbers_come_back};
+use crate::example::audio::{aac_config, aac_config_again};
 use crate::example::chunks::append_short;
 use crate::example::references::append_reference;
 use crate::example::times::append_decode_time;
 use mp4_ported::boxes::tables::list;
 use mp4_ported::boxes::text::DINF_URL;
-use mp4_ported::helpers::{Kind, kind_of};
+use mp4_ported::helpers::{Kind, invalid_text, kind_of};
 use mp4_stream::{AacConfig, Co64Box, Error, StcoBox};
 use std::alloc::Global;
 use std::test::Fail;
 
 #[test]
 fn decode_times(rt: HostRuntime) -> Result<(), Fail> {
-    let mut written = Vec::new(rt.alloc());
-    assert_eq!(rt; append_decode_time(0xffff_ffff, &mut written)?, 16);
-    assert_eq!(rt; append_decode_time(0x1_0000_0000, &mut written)?, 20);
+    let mut out = Vec::new(rt.alloc());
+    assert_eq!(rt; append_decode_time(0xffff_ffff, &mut out)?, 16);
+    assert_eq!(rt; append_decode_time(0x1_0000_0000, &mut out)?, 20);
     let bytes =
         *b"\0\0\0\x10tfdt\0\0\0\0\xff\xff\xff\xff\0\0\0\x14tfdt\x01\0\0\0\0\0\0\x01\0\0\0\0";
-    assert_eq!(rt; written.as_slice(), bytes.as_slice());
+    assert_eq!(rt; out.as_slice(), bytes.as_slice());
     Ok(())
 }
 
@@ -57,23 +57,15 @@ fn references_are_appended(rt: HostRuntime) -> Result<(), Fail> {
     Ok(())
 }
 
-/// The text of a refusal, or nothing where there was none or another one.
-fn refusal<T: Drop>(outcome: Result<T, Error>) -> Option<&'static str> {
-    match outcome {
-        Err(Error::InvalidData(text)) => Some(text),
-        _ => None,
-    }
-}
-
 #[test]
-fn audio_configurations_are_read(rt: HostRuntime) -> Result<(), Fail> {
+fn audio_configurations_are_made(rt: HostRuntime) -> Result<(), Fail> {
     assert_eq!(rt; aac_config(0, 2, 3, 2)?, AacConfig::default());
     assert_eq!(rt;
-        refusal(aac_config(0, 2, 13, 2)),
+        invalid_text(&aac_config(0, 2, 13, 2)),
         Some("invalid sampling frequency index")
     );
     assert_eq!(rt;
-        numbers_come_back(AacConfig::default())?,
+        aac_config_again(AacConfig::default())?,
         AacConfig::default()
     );
     Ok(())

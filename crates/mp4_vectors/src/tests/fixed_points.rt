@@ -25,7 +25,7 @@ fn fixed_points_have_raw_numbers(rt: HostRuntime) {
 }
 
 #[test]
-fn raw_numbers_are_cut_towards_zero(rt: HostRuntime) {
+fn raw_numbers_are_rounded_towards_zero(rt: HostRuntime) {
     for (raw, value) in [
         (0, 0),
         (255, 0),
@@ -69,7 +69,7 @@ fn raw_numbers_are_cut_towards_zero(rt: HostRuntime) {
 }
 
 #[test]
-fn fixed_points_show_raw_numbers(rt: HostRuntime) -> Result<(), Fail> {
+fn fixed_points_print_raw_numbers(rt: HostRuntime) -> Result<(), Fail> {
     assert_eq!(rt;
         format!(in rt.alloc(); "{:?}", FixedPointU8::new(1))?.as_str(),
         "FixedPoint { raw: 256 }"

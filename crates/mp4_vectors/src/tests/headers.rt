@@ -1,4 +1,4 @@
-//! The cursor, the headers of boxes, and going on to other positions.
+//! The cursor, and the headers of boxes.
 
 use mp4_ported::helpers::{Kind, kind_of};
 use mp4_stream::{
@@ -72,7 +72,7 @@ fn cut_headers(rt: HostRuntime) {
 
 #[test]
 fn headers_are_read(rt: HostRuntime) -> Result<(), Fail> {
-    let read: [(&[u8], u64, u64); 4] = [
+    let headers: [(&[u8], u64, u64); 4] = [
         (b"\0\0\0\x01\x01\x02\x03\x04\0\0\0\0\0\0\0\0", 0, 16),
         (
             b"\0\0\0\x01\x01\x02\x03\x04\xff\xff\xff\xff\xff\xff\xff\xff",
@@ -82,7 +82,7 @@ fn headers_are_read(rt: HostRuntime) -> Result<(), Fail> {
         (b"\0\0\0\0\x01\x02\x03\x04", 0, 8),
         (b"\xff\xff\xff\xff\x01\x02\x03\x04", 0xffff_ffff, 8),
     ];
-    for (bytes, size, position) in &read {
+    for (bytes, size, position) in &headers {
         let mut reader = ByteCursor::new(bytes);
         let header = BoxHeader::read(&mut reader)?;
         assert_eq!(rt; header.name, BoxType::UnknownBox(0x0102_0304));
@@ -94,7 +94,7 @@ fn headers_are_read(rt: HostRuntime) -> Result<(), Fail> {
 
 #[test]
 fn headers_are_written(rt: HostRuntime) -> Result<(), Fail> {
-    let written: [(u64, &[u8]); 4] = [
+    let headers: [(u64, &[u8]); 4] = [
         (8, b"\0\0\0\x08free"),
         (0xffff_ffff, b"\xff\xff\xff\xfffree"),
         (1 << 32, b"\0\0\0\x01free\0\0\0\x01\0\0\0\x08"),
@@ -103,15 +103,15 @@ fn headers_are_written(rt: HostRuntime) -> Result<(), Fail> {
             b"\0\0\0\x01free\xff\xff\xff\xff\xff\xff\xff\xff",
         ),
     ];
-    for (size, bytes) in &written {
+    for (size, bytes) in &headers {
         let mut out = Vec::new(rt.alloc());
         let count = BoxHeader::new(BoxType::FreeBox, *size).write(&mut out)?;
         assert_eq!(rt; count, bytes.len() as u64);
         assert_eq!(rt; out.as_slice(), *bytes);
     }
     let mut out = [9].to_vec(rt.alloc())?;
-    let answer = BoxHeader::new(BoxType::FreeBox, u64::MAX - 7).write(&mut out);
-    assert_eq!(rt; kind_of(&answer), Kind::Invalid);
+    let outcome = BoxHeader::new(BoxType::FreeBox, u64::MAX - 7).write(&mut out);
+    assert_eq!(rt; kind_of(&outcome), Kind::Invalid);
     assert_eq!(rt; out.as_slice(), [9].as_slice());
     Ok(())
 }

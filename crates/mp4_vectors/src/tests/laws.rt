@@ -1,10 +1,10 @@
-//! The laws at concrete types: the calls do nothing, and are proved to be allowed.
+//! The laws at concrete types. The calls do nothing. That they are proved shows that these types keep the traits.
 
 use crate::mark::MarkBox;
 use mp4_stream::laws::{
-    boxes_follow_frames, cut_at_a_border, cut_inside_a_box, equal_boxes, equal_streams,
-    has_own_name, have_same_bytes, is_framed, is_read_back, is_read_by_name, is_settled, is_sound,
-    written_is_read,
+    begins_with_header, boxes_follow_frames, cut_at_a_border, cut_inside_a_box, equal_boxes,
+    equal_streams, has_normal_form, has_own_name, have_same_bytes, is_read_back, is_read_by_name,
+    is_sound, written_is_read,
 };
 use mp4_stream::{
     AnyBox, BoxLaws, Co64Box, CttsBox, DataBox, DinfBox, DrefBox, ElstBox, EmsgBox, FtypBox,
@@ -13,16 +13,16 @@ use mp4_stream::{
 };
 
 fn laws_of_a_box<B: BoxLaws>() {
-    is_framed::<B>();
-    is_settled::<B>();
+    begins_with_header::<B>();
+    has_normal_form::<B>();
     is_read_back::<B>();
     is_sound::<B>();
     have_same_bytes::<B>();
 }
 
 fn laws_of_lists<B: StreamBox>() {
-    is_framed::<B>();
-    is_settled::<B>();
+    begins_with_header::<B>();
+    has_normal_form::<B>();
     has_own_name::<B>();
     is_read_by_name::<B>();
     equal_boxes::<B>();

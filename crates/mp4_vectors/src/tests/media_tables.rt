@@ -1,22 +1,15 @@
-//! The tables of plain media types: which numbers, codes and texts have a meaning, and how they print.
+//! The tables of plain media types: the numbers, codes and texts that convert, and how the values print.
 
+use mp4_ported::helpers::invalid_text;
 use mp4_stream::{
-    AudioObjectType, AvcProfile, ChannelConfig, DataType, Error, FourCC, MediaType,
-    SampleFreqIndex, TrackType,
+    AudioObjectType, AvcProfile, ChannelConfig, DataType, FourCC, MediaType, SampleFreqIndex,
+    TrackType,
 };
 use std::alloc::{AllocError, Global};
 use std::fmt::Debug;
 use std::test::Fail;
 
-/// The text of a refusal, or nothing where there was none or another one.
-fn refusal<T: Drop>(outcome: Result<T, Error>) -> Option<&'static str> {
-    match outcome {
-        Err(Error::InvalidData(text)) => Some(text),
-        _ => None,
-    }
-}
-
-/// The text that Debug prints.
+/// The text that `Debug` prints.
 fn debug_text(alloc: Global, value: &impl Debug) -> Result<String, AllocError> {
     format!(in alloc; "{value:?}")
 }
@@ -36,7 +29,7 @@ fn track_types_have_handlers(rt: HostRuntime) -> Result<(), Fail> {
     }
     for handler in ["", "vid", "video", "VIDE", "hint", "meta"] {
         assert_eq!(rt;
-            refusal(TrackType::try_from(handler)),
+            invalid_text(&TrackType::try_from(handler)),
             Some("unsupported handler type"),
             "of {handler}"
         );
@@ -52,7 +45,7 @@ fn track_types_have_handlers(rt: HostRuntime) -> Result<(), Fail> {
         0x6869_6e74,
     ] {
         assert_eq!(rt;
-            refusal(TrackType::try_from(&FourCC::from(code))),
+            invalid_text(&TrackType::try_from(&FourCC::from(code))),
             Some("unsupported handler type"),
             "of {code}"
         );
@@ -79,7 +72,7 @@ fn media_types_have_texts(rt: HostRuntime) -> Result<(), Fail> {
         "", "h26", "h263", "h266", "h2645", "H264", "vp8", "aacp", "ttx",
     ] {
         assert_eq!(rt;
-            refusal(MediaType::try_from(text)),
+            invalid_text(&MediaType::try_from(text)),
             Some("unsupported media type"),
             "of {text}"
         );
@@ -111,12 +104,12 @@ fn avc_profiles_have_numbers(rt: HostRuntime) -> Result<(), Fail> {
     for number in 0..=255 {
         if ![66, 77, 88, 100].contains(&number) {
             assert_eq!(rt;
-                refusal(AvcProfile::try_from((number, 0))),
+                invalid_text(&AvcProfile::try_from((number, 0))),
                 Some("unsupported avc profile"),
                 "of {number}"
             );
             assert_eq!(rt;
-                refusal(AvcProfile::try_from((number, 0x40))),
+                invalid_text(&AvcProfile::try_from((number, 0x40))),
                 Some("unsupported avc profile")
             );
         }
@@ -193,7 +186,7 @@ fn audio_object_types_have_numbers(rt: HostRuntime) -> Result<(), Fail> {
                 assert_eq!(rt; object as u8, number);
                 writeln!(table, "{number} {object:?} {object}")?;
             }
-            outcome => assert_eq!(rt; refusal(outcome), Some("invalid audio object type")),
+            outcome => assert_eq!(rt; invalid_text(&outcome), Some("invalid audio object type")),
         }
     }
     assert_eq!(rt; table.as_str(), AUDIO_OBJECT_TYPES);
@@ -227,7 +220,10 @@ fn sampling_frequencies_have_indexes(rt: HostRuntime) -> Result<(), Fail> {
                 let freq = index.freq();
                 writeln!(table, "{number} {index:?} {freq}")?;
             }
-            outcome => assert_eq!(rt; refusal(outcome), Some("invalid sampling frequency index")),
+            outcome => assert_eq!(rt;
+                invalid_text(&outcome),
+                Some("invalid sampling frequency index")
+            ),
         }
     }
     assert_eq!(rt; table.as_str(), SAMPLE_FREQ_INDEXES);
@@ -254,7 +250,10 @@ fn channel_configs_have_numbers(rt: HostRuntime) -> Result<(), Fail> {
                 assert_eq!(rt; config as u8, number);
                 writeln!(table, "{number} {config:?} {config}")?;
             }
-            outcome => assert_eq!(rt; refusal(outcome), Some("invalid channel configuration")),
+            outcome => assert_eq!(rt;
+                invalid_text(&outcome),
+                Some("invalid channel configuration")
+            ),
         }
     }
     assert_eq!(rt; table.as_str(), CHANNEL_CONFIGS);
@@ -276,7 +275,7 @@ fn data_types_have_numbers(rt: HostRuntime) -> Result<(), Fail> {
     }
     for number in [2, 12, 14, 20, 22, 0x0100_0000, 0x0100_0001, u32::MAX] {
         assert_eq!(rt;
-            refusal(DataType::try_from(number)),
+            invalid_text(&DataType::try_from(number)),
             Some("invalid data type"),
             "of {number}"
         );

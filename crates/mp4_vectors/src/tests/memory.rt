@@ -1,4 +1,4 @@
-//! Refused memory where the allocator is the caller's.
+//! Refused memory, with allocators that have little room.
 
 use crate::mark::MarkBox;
 use linked_list_allocator::LocalHeap;
@@ -29,7 +29,7 @@ const CALLS: [Call; 6] = [
     Call::Zeros,
 ];
 
-/// Appends by this call.
+/// Appends to the vector by this call.
 fn append<'a>(
     call: Call,
     original: &MarkBox,
@@ -53,19 +53,19 @@ fn a_refused_append_leaves_the_vector(rt: HostRuntime) -> Result<(), Fail> {
     for call in CALLS {
         let heap = LocalHeap::new(rt.alloc(), 256)?;
         let mut out = Vec::from_slice(&heap, &[9])?;
-        let mut refused = false;
+        let mut is_refused = false;
         for _ in 0..100 {
             let before = out.len();
             match append(call, &MarkBox { mark: 1 }, &mut out) {
                 Ok(_) => assert!(rt; out.len() > before, "{call:?}"),
                 Err(Error::OutOfMemory) => {
-                    refused = true;
+                    is_refused = true;
                     assert_eq!(rt; out.len(), before, "{call:?}");
                 }
                 Err(_) => assert!(rt; false, "{call:?}"),
             }
         }
-        assert!(rt; refused, "{call:?}");
+        assert!(rt; is_refused, "{call:?}");
         assert_eq!(rt; out.first(), Some(&9), "{call:?}");
     }
     Ok(())
@@ -76,7 +76,7 @@ fn a_write_takes_one_block(rt: HostRuntime) -> Result<(), Fail> {
     for vector in VECTORS {
         let bytes = vector.bytes();
         let original = vector.make(rt.alloc())?;
-        // A heap keeps some bytes for itself and gives whole pieces, so that it can't refuse a smaller box.
+        // A heap can't refuse a smaller box: it keeps some bytes for itself, and gives pieces of certain sizes.
         if bytes.len() > 32 {
             let small = LocalHeap::new(rt.alloc(), bytes.len() / 2)?;
             let mut out = Vec::new(&small);

@@ -1,4 +1,4 @@
-//! Metadata of files, and the keys of its parts.
+//! Metadata, and the keys of its parts.
 
 use mp4_stream::{Metadata, MetadataKey};
 use std::borrow::CowStr;
@@ -61,10 +61,10 @@ impl<'a> Metadata<'a> for Film {
     }
 }
 
-/// Whether the title and the year are those of the film, and there is nothing else.
-fn says<'a, M: Metadata<'a>>(metadata: &M, title: Option<&str>, year: Option<u32>) -> bool {
+/// Whether the metadata has this title and this year, and nothing else.
+fn has_only<'a, M: Metadata<'a>>(metadata: &M, title: Option<&str>, year: Option<u32>) -> bool {
     let same_title = match (metadata.title(), title) {
-        (Some(text), Some(want)) => text.as_str() == want,
+        (Some(found), Some(expected)) => found.as_str() == expected,
         (None, None) => true,
         _ => false,
     };
@@ -80,8 +80,8 @@ fn metadata_is_passed_on(rt: HostRuntime) {
         title: "Metropolis",
         year: 1927,
     };
-    assert!(rt; says(&film, Some("Metropolis"), Some(1927)));
-    assert!(rt; says(&&film, Some("Metropolis"), Some(1927)));
-    assert!(rt; says(&Some(film), Some("Metropolis"), Some(1927)));
-    assert!(rt; says(&None::<Film>, None, None));
+    assert!(rt; has_only(&film, Some("Metropolis"), Some(1927)));
+    assert!(rt; has_only(&&film, Some("Metropolis"), Some(1927)));
+    assert!(rt; has_only(&Some(film), Some("Metropolis"), Some(1927)));
+    assert!(rt; has_only(&None::<Film>, None, None));
 }

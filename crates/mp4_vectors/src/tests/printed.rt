@@ -1,11 +1,12 @@
-//! Errors, names, codes and matrices as they print.
+//! How errors, names, codes and matrices print.
 
 use mp4_stream::{BoxType, Error, FourCC, Matrix};
 use std::fmt::Display;
 use std::process::Abort;
 use std::test::Fail;
 
-fn prints(
+/// Expects that a value prints as this text.
+fn expect_printed(
     rt: &(impl Abort + AllocGlobal),
     value: impl Display + Drop,
     text: &str,
@@ -16,53 +17,53 @@ fn prints(
 }
 
 #[test]
-fn faults_print_their_texts(rt: HostRuntime) -> Result<(), Fail> {
+fn errors_print_their_texts(rt: HostRuntime) -> Result<(), Fail> {
     let (stsd, moov) = (BoxType::StsdBox, BoxType::MoovBox);
-    prints(&rt, Error::IoError, "unexpected end of input")?;
-    prints(
+    expect_printed(&rt, Error::IoError, "unexpected end of input")?;
+    expect_printed(
         &rt,
         Error::InvalidData("box size too small"),
         "box size too small",
     )?;
-    prints(&rt, Error::BoxNotFound(BoxType::DrefBox), "dref not found")?;
-    prints(
+    expect_printed(&rt, Error::BoxNotFound(BoxType::DrefBox), "dref not found")?;
+    expect_printed(
         &rt,
         Error::Box2NotFound(moov, stsd),
         "moov and stsd not found",
     )?;
-    prints(
+    expect_printed(
         &rt,
         Error::UnsupportedBoxVersion(stsd, 9),
         "stsd version 9 is not supported",
     )?;
-    prints(&rt, Error::OutOfMemory, "out of memory")
+    expect_printed(&rt, Error::OutOfMemory, "out of memory")
 }
 
 #[test]
 fn missing_parts_of_tracks_print_their_texts(rt: HostRuntime) -> Result<(), Fail> {
     let (stsd, trun) = (BoxType::StsdBox, BoxType::TrunBox);
-    prints(&rt, Error::TrakNotFound(3), "trak[3] not found")?;
-    prints(
+    expect_printed(&rt, Error::TrakNotFound(3), "trak[3] not found")?;
+    expect_printed(
         &rt,
         Error::BoxInTrakNotFound(3, stsd),
         "trak[3].stsd not found",
     )?;
-    prints(
+    expect_printed(
         &rt,
         Error::BoxInTrafNotFound(3, trun),
         "traf[3].trun not found",
     )?;
-    prints(
+    expect_printed(
         &rt,
         Error::BoxInStblNotFound(3, stsd),
         "trak[3].stbl.stsd not found",
     )?;
-    prints(
+    expect_printed(
         &rt,
         Error::EntryInStblNotFound(3, stsd, 4),
         "trak[3].stbl.stsd.entry[4] not found",
     )?;
-    prints(
+    expect_printed(
         &rt,
         Error::EntryInTrunNotFound(3, trun, 4),
         "traf[3].trun.trun.entry[4] not found",
@@ -71,19 +72,19 @@ fn missing_parts_of_tracks_print_their_texts(rt: HostRuntime) -> Result<(), Fail
 
 #[test]
 fn names_print_their_codes(rt: HostRuntime) -> Result<(), Fail> {
-    prints(&rt, BoxType::FtypBox, "ftyp")?;
-    prints(&rt, BoxType::UrlBox, "url ")?;
-    prints(&rt, BoxType::NameBox, "\u{fffd}nam")?;
-    prints(&rt, BoxType::UnknownBox(0x6d61_726b), "mark")?;
-    prints(&rt, BoxType::UnknownBox(0xf09f_a680), "\u{1f980}")?;
-    prints(&rt, BoxType::UnknownBox(0xe282_00ff), "\u{fffd}\0\u{fffd}")?;
+    expect_printed(&rt, BoxType::FtypBox, "ftyp")?;
+    expect_printed(&rt, BoxType::UrlBox, "url ")?;
+    expect_printed(&rt, BoxType::NameBox, "\u{fffd}nam")?;
+    expect_printed(&rt, BoxType::UnknownBox(0x6d61_726b), "mark")?;
+    expect_printed(&rt, BoxType::UnknownBox(0xf09f_a680), "\u{1f980}")?;
+    expect_printed(&rt, BoxType::UnknownBox(0xe282_00ff), "\u{fffd}\0\u{fffd}")?;
     let name = BoxType::DayBox;
     let debug = format!(in rt.alloc(); "{name:?}")?;
     assert_eq!(rt; debug.as_str(), "\u{fffd}day");
     let isom = FourCC::from(*b"isom");
     let debug = format!(in rt.alloc(); "{isom:?}")?;
     assert_eq!(rt; debug.as_str(), "isom / 0x69736F6D");
-    prints(&rt, isom, "isom")
+    expect_printed(&rt, isom, "isom")
 }
 
 #[test]

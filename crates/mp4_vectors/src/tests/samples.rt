@@ -1,4 +1,4 @@
-//! Samples: equality and how they print. Times of creation.
+//! Samples: when they are equal, and how they print. Times of creation.
 
 use mp4_stream::{Bytes, Mp4Sample, creation_time};
 use std::test::Fail;
@@ -55,7 +55,7 @@ fn samples_are_printed(rt: HostRuntime) -> Result<(), Fail> {
 
 #[test]
 fn creation_times_count_from_1970(rt: HostRuntime) {
-    for (time, want) in [
+    for (time, expected) in [
         (0, 0),
         (5, 5),
         (2_082_844_799, 2_082_844_799),
@@ -63,6 +63,6 @@ fn creation_times_count_from_1970(rt: HostRuntime) {
         (2_082_844_801, 1),
         (u64::MAX, u64::MAX - 2_082_844_800),
     ] {
-        assert_eq!(rt; creation_time(time), want, "of {time}");
+        assert_eq!(rt; creation_time(time), expected, "of {time}");
     }
 }

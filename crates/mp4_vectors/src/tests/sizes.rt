@@ -1,4 +1,4 @@
-//! Boxes that are said to have a size other than their own.
+//! Boxes that are read with a size other than their own.
 
 use super::worked::FTYP_OF_TWO;
 use crate::example::defaults::{default_extent, default_video};
@@ -12,7 +12,10 @@ use mp4_ported::boxes::tables::{
     trun_of_three_lists,
 };
 use mp4_ported::boxes::text::{DATA, DINF_URL, DREF_URL, EMSG, FTYP, HDLR, URL};
-use mp4_ported::helpers::{Kind, Mismatch, kind_of, read, reads_as, resized, sized, sizeless};
+use mp4_ported::helpers::{
+    Kind, Mismatch, expect_invalid_at_small_sizes, expect_kind, expect_value,
+    expect_value_at_any_size, kind_of, read,
+};
 use mp4_stream::{
     BoxType, ByteCursor, DataBox, DinfBox, DrefBox, EmsgBox, FtypBox, HdlrBox, MdhdBox, MfhdBox,
     MvhdBox, ReadBox, SmhdBox, StcoBox, TkhdBox, TrunBox, UrlBox,
@@ -22,105 +25,105 @@ use std::test::Fail;
 
 #[test]
 fn headers_of_movies_and_tracks_have_any_size(rt: HostRuntime) -> Result<(), Fail> {
-    sizeless(rt.alloc(), &MvhdBox::default())?;
-    sizeless(rt.alloc(), &mvhd())?;
-    sizeless(rt.alloc(), &mvhd_long())?;
-    sizeless(rt.alloc(), &TkhdBox::default())?;
-    sizeless(rt.alloc(), &tkhd_short())?;
-    sizeless(rt.alloc(), &tkhd_long())?;
-    sizeless(rt.alloc(), &tkhd_full())?;
+    expect_value_at_any_size(rt.alloc(), &MvhdBox::default())?;
+    expect_value_at_any_size(rt.alloc(), &mvhd())?;
+    expect_value_at_any_size(rt.alloc(), &mvhd_long())?;
+    expect_value_at_any_size(rt.alloc(), &TkhdBox::default())?;
+    expect_value_at_any_size(rt.alloc(), &tkhd_short())?;
+    expect_value_at_any_size(rt.alloc(), &tkhd_long())?;
+    expect_value_at_any_size(rt.alloc(), &tkhd_full())?;
     Ok(())
 }
 
 #[test]
 fn headers_of_media_have_any_size(rt: HostRuntime) -> Result<(), Fail> {
-    sizeless(rt.alloc(), &MdhdBox::default_in(rt.alloc())?)?;
-    sizeless(rt.alloc(), &mdhd(rt.alloc())?)?;
-    sizeless(rt.alloc(), &mdhd_long(rt.alloc())?)?;
-    sizeless(rt.alloc(), &SmhdBox::default())?;
-    sizeless(rt.alloc(), &smhd())?;
-    sizeless(rt.alloc(), &default_video())?;
-    sizeless(rt.alloc(), &vmhd_colors())?;
+    expect_value_at_any_size(rt.alloc(), &MdhdBox::default_in(rt.alloc())?)?;
+    expect_value_at_any_size(rt.alloc(), &mdhd(rt.alloc())?)?;
+    expect_value_at_any_size(rt.alloc(), &mdhd_long(rt.alloc())?)?;
+    expect_value_at_any_size(rt.alloc(), &SmhdBox::default())?;
+    expect_value_at_any_size(rt.alloc(), &smhd())?;
+    expect_value_at_any_size(rt.alloc(), &default_video())?;
+    expect_value_at_any_size(rt.alloc(), &vmhd_colors())?;
     Ok(())
 }
 
 #[test]
 fn headers_of_fragments_have_any_size(rt: HostRuntime) -> Result<(), Fail> {
-    sizeless(rt.alloc(), &default_extent())?;
-    sizeless(rt.alloc(), &mehd_short(32))?;
-    sizeless(rt.alloc(), &mehd())?;
-    sizeless(rt.alloc(), &tfdt_of_zero(0))?;
-    sizeless(rt.alloc(), &tfdt_of_zero(1))?;
-    sizeless(rt.alloc(), &mfhd())?;
-    sizeless(rt.alloc(), &trex())?;
+    expect_value_at_any_size(rt.alloc(), &default_extent())?;
+    expect_value_at_any_size(rt.alloc(), &mehd_short(32))?;
+    expect_value_at_any_size(rt.alloc(), &mehd())?;
+    expect_value_at_any_size(rt.alloc(), &tfdt_of_zero(0))?;
+    expect_value_at_any_size(rt.alloc(), &tfdt_of_zero(1))?;
+    expect_value_at_any_size(rt.alloc(), &mfhd())?;
+    expect_value_at_any_size(rt.alloc(), &trex())?;
     Ok(())
 }
 
 #[test]
 fn tables_without_lists_have_any_size(rt: HostRuntime) -> Result<(), Fail> {
-    sizeless(rt.alloc(), &tfhd_bare())?;
-    sizeless(rt.alloc(), &tfhd())?;
-    sizeless(rt.alloc(), &tfhd_all())?;
-    sizeless(rt.alloc(), &TrunBox::default_in(rt.alloc()))?;
-    sizeless(rt.alloc(), &stsz_of_one_size(rt.alloc(), 1165, 12))?;
+    expect_value_at_any_size(rt.alloc(), &tfhd_bare())?;
+    expect_value_at_any_size(rt.alloc(), &tfhd())?;
+    expect_value_at_any_size(rt.alloc(), &tfhd_all())?;
+    expect_value_at_any_size(rt.alloc(), &TrunBox::default_in(rt.alloc()))?;
+    expect_value_at_any_size(rt.alloc(), &stsz_of_one_size(rt.alloc(), 1165, 12))?;
     Ok(())
 }
 
 #[test]
 fn tables_of_chunks_have_room(rt: HostRuntime) -> Result<(), Fail> {
-    sized(rt.alloc(), &stco(rt.alloc())?)?;
-    sized(rt.alloc(), &co64_of_seven(rt.alloc())?)?;
-    sized(rt.alloc(), &stsc(rt.alloc())?)?;
+    expect_invalid_at_small_sizes(rt.alloc(), &stco(rt.alloc())?)?;
+    expect_invalid_at_small_sizes(rt.alloc(), &co64_of_seven(rt.alloc())?)?;
+    expect_invalid_at_small_sizes(rt.alloc(), &stsc(rt.alloc())?)?;
     Ok(())
 }
 
 #[test]
 fn tables_of_samples_have_room(rt: HostRuntime) -> Result<(), Fail> {
-    sized(rt.alloc(), &stss_of_nine(rt.alloc())?)?;
-    sized(rt.alloc(), &stts(rt.alloc())?)?;
-    sized(rt.alloc(), &ctts(rt.alloc())?)?;
-    sized(rt.alloc(), &stsz_of_nine(rt.alloc())?)?;
-    sized(rt.alloc(), &elst(rt.alloc())?)?;
-    sized(rt.alloc(), &elst_long(rt.alloc())?)?;
+    expect_invalid_at_small_sizes(rt.alloc(), &stss_of_nine(rt.alloc())?)?;
+    expect_invalid_at_small_sizes(rt.alloc(), &stts(rt.alloc())?)?;
+    expect_invalid_at_small_sizes(rt.alloc(), &ctts(rt.alloc())?)?;
+    expect_invalid_at_small_sizes(rt.alloc(), &stsz_of_nine(rt.alloc())?)?;
+    expect_invalid_at_small_sizes(rt.alloc(), &elst(rt.alloc())?)?;
+    expect_invalid_at_small_sizes(rt.alloc(), &elst_long(rt.alloc())?)?;
     Ok(())
 }
 
 #[test]
 fn runs_have_room(rt: HostRuntime) -> Result<(), Fail> {
-    sized(rt.alloc(), &trun(rt.alloc())?)?;
-    sized(rt.alloc(), &trun_of_three_lists(rt.alloc())?)?;
-    sized(rt.alloc(), &trun_of_four_lists(rt.alloc())?)?;
+    expect_invalid_at_small_sizes(rt.alloc(), &trun(rt.alloc())?)?;
+    expect_invalid_at_small_sizes(rt.alloc(), &trun_of_three_lists(rt.alloc())?)?;
+    expect_invalid_at_small_sizes(rt.alloc(), &trun_of_four_lists(rt.alloc())?)?;
     Ok(())
 }
 
-/// How a box is read that is said to have 0 or 7 bytes, and how one of the largest size.
-fn ends_of<B: ReadBox + Drop>(
+/// Expects one kind of outcome from reading a box with a size of 0 or 7, and one with the largest size.
+fn expect_kinds<B: ReadBox + Drop>(
     alloc: Global,
     bytes: &[u8],
     small: Kind,
     large: Kind,
 ) -> Result<(), Mismatch> {
-    for (size, wanted) in [(0, small), (7, small), (u64::MAX, large)] {
-        reads_as::<B>(alloc, bytes, size, wanted)?;
+    for (size, expected) in [(0, small), (7, small), (u64::MAX, large)] {
+        expect_kind::<B>(alloc, bytes, size, expected)?;
     }
     Ok(())
 }
 
 #[test]
 fn sizes_of_texts_and_data(rt: HostRuntime) -> Result<(), Fail> {
-    ends_of::<FtypBox>(rt.alloc(), &FTYP, Kind::Invalid, Kind::Invalid)?;
-    ends_of::<HdlrBox>(rt.alloc(), &HDLR, Kind::Invalid, Kind::End)?;
-    ends_of::<DataBox>(rt.alloc(), &DATA, Kind::Invalid, Kind::End)?;
-    ends_of::<EmsgBox>(rt.alloc(), &EMSG, Kind::Invalid, Kind::End)?;
+    expect_kinds::<FtypBox>(rt.alloc(), &FTYP, Kind::Invalid, Kind::Invalid)?;
+    expect_kinds::<HdlrBox>(rt.alloc(), &HDLR, Kind::Invalid, Kind::End)?;
+    expect_kinds::<DataBox>(rt.alloc(), &DATA, Kind::Invalid, Kind::End)?;
+    expect_kinds::<EmsgBox>(rt.alloc(), &EMSG, Kind::Invalid, Kind::End)?;
     Ok(())
 }
 
 #[test]
 fn sizes_of_references(rt: HostRuntime) -> Result<(), Fail> {
     let no_dref = Kind::NotFound(BoxType::DrefBox);
-    ends_of::<UrlBox>(rt.alloc(), &URL, Kind::Ok, Kind::End)?;
-    ends_of::<DrefBox>(rt.alloc(), &DREF_URL, Kind::Ok, Kind::Ok)?;
-    ends_of::<DinfBox>(rt.alloc(), &DINF_URL, no_dref, Kind::End)?;
+    expect_kinds::<UrlBox>(rt.alloc(), &URL, Kind::Ok, Kind::End)?;
+    expect_kinds::<DrefBox>(rt.alloc(), &DREF_URL, Kind::Ok, Kind::Ok)?;
+    expect_kinds::<DinfBox>(rt.alloc(), &DINF_URL, no_dref, Kind::End)?;
     for size in [0, 7] {
         let (url, _) = read::<UrlBox>(rt.alloc(), &URL, size);
         assert!(rt; url?.location.is_empty());
@@ -136,27 +139,27 @@ fn sizes_of_references(rt: HostRuntime) -> Result<(), Fail> {
 #[test]
 fn sizes_of_ftyp(rt: HostRuntime) -> Result<(), Fail> {
     for size in [0, 7, 8, 12, 15, 18, 23, u64::MAX - 8, u64::MAX] {
-        reads_as::<FtypBox>(rt.alloc(), &FTYP_OF_TWO, size, Kind::Invalid)?;
+        expect_kind::<FtypBox>(rt.alloc(), &FTYP_OF_TWO, size, Kind::Invalid)?;
     }
     for size in [28, u64::MAX - 11] {
-        reads_as::<FtypBox>(rt.alloc(), &FTYP_OF_TWO, size, Kind::End)?;
+        expect_kind::<FtypBox>(rt.alloc(), &FTYP_OF_TWO, size, Kind::End)?;
     }
     for size in [16, 20, 24] {
-        reads_as::<FtypBox>(rt.alloc(), &FTYP_OF_TWO, size, Kind::Ok)?;
+        expect_kind::<FtypBox>(rt.alloc(), &FTYP_OF_TWO, size, Kind::Ok)?;
     }
-    reads_as::<FtypBox>(rt.alloc(), b"\0\0\0\x12ftyp", 18, Kind::Invalid)?;
-    reads_as::<FtypBox>(rt.alloc(), b"\0\0\0\x10ftyp", 16, Kind::End)?;
+    expect_kind::<FtypBox>(rt.alloc(), b"\0\0\0\x12ftyp", 18, Kind::Invalid)?;
+    expect_kind::<FtypBox>(rt.alloc(), b"\0\0\0\x10ftyp", 16, Kind::End)?;
     Ok(())
 }
 
 #[test]
 fn sizes_of_stco(rt: HostRuntime) -> Result<(), Fail> {
     for size in [0, 7, 16, 43] {
-        reads_as::<StcoBox>(rt.alloc(), &STCO, size, Kind::Invalid)?;
+        expect_kind::<StcoBox>(rt.alloc(), &STCO, size, Kind::Invalid)?;
     }
     let stco = stco(rt.alloc())?;
     for size in [44, 47, 0xffff_ffff, u64::MAX] {
-        resized(rt.alloc(), &stco, &STCO, size)?;
+        expect_value(rt.alloc(), &stco, &STCO, size)?;
     }
     Ok(())
 }
@@ -167,13 +170,13 @@ fn boxes_that_end_past_64_bits(rt: HostRuntime) -> Result<(), Fail> {
     shifted.extend_from_slice(&STCO)?;
     let mut reader = ByteCursor::new(&shifted);
     reader.set_position(9);
-    let answer = StcoBox::read_box(rt.alloc(), &mut reader, u64::MAX);
-    assert_eq!(rt; (kind_of(&answer), reader.position()), (Kind::Invalid, 9));
+    let outcome = StcoBox::read_box(rt.alloc(), &mut reader, u64::MAX);
+    assert_eq!(rt; (kind_of(&outcome), reader.position()), (Kind::Invalid, 9));
     let mut shifted = [0xff].to_vec(rt.alloc())?;
     shifted.extend_from_slice(&MFHD)?;
     let mut reader = ByteCursor::new(&shifted);
     reader.set_position(9);
-    let answer = MfhdBox::read_box(rt.alloc(), &mut reader, u64::MAX);
-    assert_eq!(rt; (kind_of(&answer), reader.position()), (Kind::Invalid, 9));
+    let outcome = MfhdBox::read_box(rt.alloc(), &mut reader, u64::MAX);
+    assert_eq!(rt; (kind_of(&outcome), reader.position()), (Kind::Invalid, 9));
     Ok(())
 }

@@ -1,4 +1,4 @@
-//! Lists of boxes as whole streams.
+//! Lists of boxes.
 
 use crate::example::append_normal;
 use crate::mark::MarkBox;
@@ -10,21 +10,22 @@ use mp4_stream::{
 use std::alloc::Global;
 use std::test::Fail;
 
-/// ftyp, a free box, and stco.
+/// An ftyp, a free and a stco box.
 const THREE: [u8; 52] =
     *b"\0\0\0\x18ftypisom\0\0\x02\0isommp41\0\0\0\x08free\0\0\0\x14stco\0\0\0\0\0\0\0\x01\0\0\x01\x0b";
 
-/// How reading the whole buffer ends, how many boxes it gives, and the position of the cursor after it.
-fn stream_kind(alloc: Global, bytes: &[u8]) -> (Kind, usize, u64) {
+/// Reads the boxes of a buffer. Returns the kind of the outcome, the number of boxes, and the position of the cursor
+/// after the call.
+fn read_stream(alloc: Global, bytes: &[u8]) -> (Kind, usize, u64) {
     let mut reader = ByteCursor::new(bytes);
-    let answer = read_boxes(alloc, &mut reader);
-    let kind = kind_of(&answer);
-    let count = answer.map_or(0, |found| found.len());
+    let outcome = read_boxes(alloc, &mut reader);
+    let kind = kind_of(&outcome);
+    let count = outcome.map_or(0, |found| found.len());
     (kind, count, reader.position())
 }
 
-/// The bytes that the boxes of a buffer are written in.
-fn rewritten(alloc: Global, bytes: &[u8]) -> Result<Vec<u8>, Error> {
+/// Reads the boxes of a buffer, and returns the bytes that they are written in.
+fn rewrite(alloc: Global, bytes: &[u8]) -> Result<Vec<u8>, Error> {
     let mut out = Vec::new(alloc);
     append_normal(alloc, bytes, &mut out)?;
     Ok(out)
@@ -32,8 +33,8 @@ fn rewritten(alloc: Global, bytes: &[u8]) -> Result<Vec<u8>, Error> {
 
 #[test]
 fn known_boxes_are_kept(rt: HostRuntime) -> Result<(), Fail> {
-    assert_eq!(rt; stream_kind(rt.alloc(), &THREE), (Kind::Ok, 2, 52));
-    let out = rewritten(rt.alloc(), &THREE)?;
+    assert_eq!(rt; read_stream(rt.alloc(), &THREE), (Kind::Ok, 2, 52));
+    let out = rewrite(rt.alloc(), &THREE)?;
     assert_eq!(rt; out.len(), 44);
     assert_eq!(rt; &out[..24], &THREE[..24]);
     assert_eq!(rt; &out[24..], &THREE[32..]);
@@ -71,21 +72,21 @@ fn a_list_is_written_whole_or_not_at_all(rt: HostRuntime) -> Result<(), Fail> {
 }
 
 #[test]
-fn a_stream_cut_at_a_border_is_shorter(rt: HostRuntime) -> Result<(), Fail> {
+fn a_stream_cut_between_two_boxes_has_the_boxes_before(rt: HostRuntime) -> Result<(), Fail> {
     let mut stream = Vec::new(rt.alloc());
     for (count, vector) in VECTORS.into_iter().enumerate() {
         let border = stream.len();
-        let want = (Kind::Ok, count, border as u64);
-        assert_eq!(rt; stream_kind(rt.alloc(), &stream), want, "{vector:?}");
+        let expected = (Kind::Ok, count, border as u64);
+        assert_eq!(rt; read_stream(rt.alloc(), &stream), expected, "{vector:?}");
         stream.extend_from_slice(vector.bytes())?;
         for len in border + 1..stream.len() {
-            let cut = stream_kind(rt.alloc(), &stream[..len]);
+            let cut = read_stream(rt.alloc(), &stream[..len]);
             assert_eq!(rt; cut, (Kind::End, 0, 0), "{vector:?} {len}");
         }
     }
     let whole = (Kind::Ok, VECTORS.len(), stream.len() as u64);
-    assert_eq!(rt; stream_kind(rt.alloc(), &stream), whole);
-    assert_eq!(rt; rewritten(rt.alloc(), &stream)?, stream);
+    assert_eq!(rt; read_stream(rt.alloc(), &stream), whole);
+    assert_eq!(rt; rewrite(rt.alloc(), &stream)?, stream);
     Ok(())
 }
 
@@ -101,8 +102,8 @@ fn skipped_boxes(rt: HostRuntime) {
         b"\0\0\0\x01mdat\0\0\0\0\0\0\0\0\x01\x02\x03",
     ];
     for bytes in skipped {
-        let want = (Kind::Ok, 0, bytes.len() as u64);
-        assert_eq!(rt; stream_kind(rt.alloc(), bytes), want, "{bytes:?}");
+        let expected = (Kind::Ok, 0, bytes.len() as u64);
+        assert_eq!(rt; read_stream(rt.alloc(), bytes), expected, "{bytes:?}");
     }
 }
 
@@ -118,7 +119,7 @@ fn invalid_sizes(rt: HostRuntime) {
     ];
     for bytes in invalid {
         assert_eq!(rt;
-            stream_kind(rt.alloc(), bytes),
+            read_stream(rt.alloc(), bytes),
             (Kind::Invalid, 0, 0),
             "{bytes:?}"
         );
@@ -139,7 +140,7 @@ fn missing_bytes(rt: HostRuntime) {
     ];
     for bytes in short {
         assert_eq!(rt;
-            stream_kind(rt.alloc(), bytes),
+            read_stream(rt.alloc(), bytes),
             (Kind::End, 0, 0),
             "{bytes:?}"
         );
@@ -150,11 +151,11 @@ fn missing_bytes(rt: HostRuntime) {
 fn a_size_of_zero_goes_to_the_end(rt: HostRuntime) -> Result<(), Fail> {
     let mut bytes = Vec::from_slice(rt.alloc(), &THREE[..24])?;
     bytes.extend_from_slice(b"\0\0\0\0mdat\x01\x02\x03")?;
-    assert_eq!(rt; stream_kind(rt.alloc(), &bytes), (Kind::Ok, 1, 35));
+    assert_eq!(rt; read_stream(rt.alloc(), &bytes), (Kind::Ok, 1, 35));
     let compact = b"\0\0\0\0stco\0\0\0\0\0\0\0\x01\0\0\x01\x0b";
-    assert_eq!(rt; rewritten(rt.alloc(), compact)?.as_slice(), &THREE[32..]);
+    assert_eq!(rt; rewrite(rt.alloc(), compact)?.as_slice(), &THREE[32..]);
     let large = b"\0\0\0\x01stco\0\0\0\0\0\0\0\0\0\0\0\0\0\0\0\x01\0\0\x01\x0b";
-    assert_eq!(rt; rewritten(rt.alloc(), large)?.as_slice(), &THREE[32..]);
+    assert_eq!(rt; rewrite(rt.alloc(), large)?.as_slice(), &THREE[32..]);
     Ok(())
 }
 
@@ -170,6 +171,6 @@ fn a_type_from_outside(rt: HostRuntime) -> Result<(), Fail> {
     let found: Vec<MarkBox> = read_boxes_as(rt.alloc(), &mut reader)?;
     assert_eq!(rt; found.as_slice(), marks.as_slice());
     assert_eq!(rt; reader.position(), 76);
-    assert_eq!(rt; stream_kind(rt.alloc(), &out), (Kind::Ok, 2, 76));
+    assert_eq!(rt; read_stream(rt.alloc(), &out), (Kind::Ok, 2, 76));
     Ok(())
 }

@@ -1,7 +1,7 @@
-//! Texts as values, and the languages of media headers.
+//! Texts, and the languages of media headers.
 
 use mp4_ported::helpers::read;
-use mp4_stream::{MdhdBox, Text, WriteBox, language_code, language_string};
+use mp4_stream::{MdhdBox, Text, TryClone, WriteBox, language_code, language_string};
 use std::test::Fail;
 
 #[test]
@@ -26,14 +26,14 @@ fn texts_are_strings(rt: HostRuntime) -> Result<(), Fail> {
 fn longer_languages_are_cut(rt: HostRuntime) -> Result<(), Fail> {
     let mut header = MdhdBox::default_in(rt.alloc())?;
     header.language = Text::from_str(rt.alloc(), "undefined")?;
-    let mut written = Vec::new(rt.alloc());
-    header.write_box(&mut written)?;
-    let (answer, _) = read::<MdhdBox>(rt.alloc(), &written, 32);
-    let read = answer?;
-    assert_eq!(rt; read.language.as_str(), "und");
-    assert_eq!(rt; read, MdhdBox::default_in(rt.alloc())?);
+    let mut out = Vec::new(rt.alloc());
+    header.write_box(&mut out)?;
+    let (mdhd, _) = read::<MdhdBox>(rt.alloc(), &out, 32);
+    let mdhd = mdhd?;
+    assert_eq!(rt; mdhd.language.as_str(), "und");
+    assert_eq!(rt; mdhd, MdhdBox::default_in(rt.alloc())?);
     assert_eq!(rt;
-        format!(in rt.alloc(); "{:?}", read.language)?.as_str(),
+        format!(in rt.alloc(); "{:?}", mdhd.language)?.as_str(),
         "\"und\""
     );
     Ok(())

@@ -1,4 +1,4 @@
-//! Boxes that can't be written: the vector that they were to be appended to is as before.
+//! Boxes that can't be written. Writing one leaves the vector as it was.
 
 use mp4_ported::boxes::flat::mehd_short;
 use mp4_ported::boxes::tables::{
@@ -6,7 +6,7 @@ use mp4_ported::boxes::tables::{
     trun_of_three_lists,
 };
 use mp4_ported::boxes::text::{dref_of, dref_url, emsg, emsg_long, hdlr, url};
-use mp4_ported::helpers::{refused, refused_at_size};
+use mp4_ported::helpers::{expect_unwritable, expect_unwritable_of_size};
 use mp4_stream::{
     DinfBox, EmsgBox, Entries, MdhdBox, MehdBox, MvhdBox, StcoBox, Text, TfdtBox, TkhdBox, TrexBox,
     TrunBox, UrlBox, VmhdBox,
@@ -20,22 +20,22 @@ fn times_past_32_bits(rt: HostRuntime) -> Result<(), Fail> {
         creation_time: long,
         ..MvhdBox::default()
     };
-    refused_at_size(rt.alloc(), &movie, 108)?;
+    expect_unwritable_of_size(rt.alloc(), &movie, 108)?;
     let track = TkhdBox {
         modification_time: long,
         ..TkhdBox::default()
     };
-    refused_at_size(rt.alloc(), &track, 92)?;
+    expect_unwritable_of_size(rt.alloc(), &track, 92)?;
     let mut media = MdhdBox::default_in(rt.alloc())?;
     media.duration = long;
-    refused_at_size(rt.alloc(), &media, 32)?;
+    expect_unwritable_of_size(rt.alloc(), &media, 32)?;
     let time = TfdtBox {
         base_media_decode_time: long,
         ..TfdtBox::default()
     };
-    refused_at_size(rt.alloc(), &time, 16)?;
-    refused_at_size(rt.alloc(), &mehd_short(long), 16)?;
-    refused(rt.alloc(), &elst_of(rt.alloc(), 2, long)?)?;
+    expect_unwritable_of_size(rt.alloc(), &time, 16)?;
+    expect_unwritable_of_size(rt.alloc(), &mehd_short(long), 16)?;
+    expect_unwritable(rt.alloc(), &elst_of(rt.alloc(), 2, long)?)?;
     Ok(())
 }
 
@@ -45,26 +45,26 @@ fn unknown_versions_of_headers(rt: HostRuntime) -> Result<(), Fail> {
         version: 2,
         ..MvhdBox::default()
     };
-    refused_at_size(rt.alloc(), &movie, 92)?;
+    expect_unwritable_of_size(rt.alloc(), &movie, 92)?;
     let track = TkhdBox {
         version: 2,
         ..TkhdBox::default()
     };
-    refused_at_size(rt.alloc(), &track, 72)?;
+    expect_unwritable_of_size(rt.alloc(), &track, 72)?;
     let mut media = MdhdBox::default_in(rt.alloc())?;
     media.version = 2;
-    refused_at_size(rt.alloc(), &media, 16)?;
+    expect_unwritable_of_size(rt.alloc(), &media, 16)?;
     let extent = MehdBox {
         version: 2,
         flags: 0,
         fragment_duration: 1 << 32,
     };
-    refused_at_size(rt.alloc(), &extent, 12)?;
+    expect_unwritable_of_size(rt.alloc(), &extent, 12)?;
     let time = TfdtBox {
         version: 2,
         ..TfdtBox::default()
     };
-    refused_at_size(rt.alloc(), &time, 16)?;
+    expect_unwritable_of_size(rt.alloc(), &time, 16)?;
     Ok(())
 }
 
@@ -74,12 +74,12 @@ fn flags_past_24_bits_in_headers(rt: HostRuntime) -> Result<(), Fail> {
         flags: 1 << 24,
         ..TrexBox::default()
     };
-    refused_at_size(rt.alloc(), &track, 32)?;
+    expect_unwritable_of_size(rt.alloc(), &track, 32)?;
     let video = VmhdBox {
         flags: 1 << 24,
         ..VmhdBox::default()
     };
-    refused_at_size(rt.alloc(), &video, 20)?;
+    expect_unwritable_of_size(rt.alloc(), &video, 20)?;
     Ok(())
 }
 
@@ -90,16 +90,16 @@ fn flags_past_24_bits_in_tables_and_texts(rt: HostRuntime) -> Result<(), Fail> {
         flags: 1 << 24,
         entries: Entries::new(rt.alloc()),
     };
-    refused_at_size(rt.alloc(), &empty, 16)?;
+    expect_unwritable_of_size(rt.alloc(), &empty, 16)?;
     let mut stco = stco(rt.alloc())?;
     stco.flags = 1 << 24;
-    refused(rt.alloc(), &stco)?;
+    expect_unwritable(rt.alloc(), &stco)?;
     let mut hdlr = hdlr(rt.alloc())?;
     hdlr.flags = 1 << 24;
-    refused(rt.alloc(), &hdlr)?;
+    expect_unwritable(rt.alloc(), &hdlr)?;
     let mut emsg = emsg_long(rt.alloc())?;
     emsg.flags = 1 << 24;
-    refused(rt.alloc(), &emsg)?;
+    expect_unwritable(rt.alloc(), &emsg)?;
     Ok(())
 }
 
@@ -107,89 +107,89 @@ fn flags_past_24_bits_in_tables_and_texts(rt: HostRuntime) -> Result<(), Fail> {
 fn flags_past_24_bits_in_references(rt: HostRuntime) -> Result<(), Fail> {
     let mut a = url(rt.alloc())?;
     a.flags = 1 << 24;
-    refused(rt.alloc(), &a)?;
+    expect_unwritable(rt.alloc(), &a)?;
     let mut dref = dref_url(rt.alloc())?;
     dref.flags = 1 << 24;
-    refused(rt.alloc(), &dref)?;
-    refused(rt.alloc(), &DinfBox::new(dref))?;
+    expect_unwritable(rt.alloc(), &dref)?;
+    expect_unwritable(rt.alloc(), &DinfBox::new(dref))?;
     let mut same_file = UrlBox::default_in(rt.alloc());
     same_file.flags = 1 << 24;
     let dref = dref_of(Some(same_file));
-    refused(rt.alloc(), &dref)?;
-    refused(rt.alloc(), &DinfBox::new(dref))?;
+    expect_unwritable(rt.alloc(), &dref)?;
+    expect_unwritable(rt.alloc(), &DinfBox::new(dref))?;
     Ok(())
 }
 
 #[test]
-fn sizes_that_are_not_as_many_as_counted(rt: HostRuntime) -> Result<(), Fail> {
+fn sizes_that_differ_in_number_from_the_count(rt: HostRuntime) -> Result<(), Fail> {
     let mut stsz = stsz_of_nine(rt.alloc())?;
     stsz.sample_sizes = list(rt.alloc(), &[1165, 11, 11, 8545, 10126, 10866, 9643, 9351])?;
-    refused(rt.alloc(), &stsz)?;
+    expect_unwritable(rt.alloc(), &stsz)?;
     stsz.sample_size = 1165;
-    refused(rt.alloc(), &stsz)?;
+    expect_unwritable(rt.alloc(), &stsz)?;
     Ok(())
 }
 
 #[test]
 fn first_samples_past_32_bits_and_chunks_that_step_back(rt: HostRuntime) -> Result<(), Fail> {
     let past = [chunk_run(1, 4294967295, 1), chunk_run(2, 1, 1)];
-    refused(rt.alloc(), &stsc_of(rt.alloc(), &past)?)?;
+    expect_unwritable(rt.alloc(), &stsc_of(rt.alloc(), &past)?)?;
     let back = [chunk_run(2, 1, 1), chunk_run(1, 1, 1)];
-    refused(rt.alloc(), &stsc_of(rt.alloc(), &back)?)?;
+    expect_unwritable(rt.alloc(), &stsc_of(rt.alloc(), &back)?)?;
     Ok(())
 }
 
 #[test]
-fn fields_of_tfhd_that_the_flags_do_not_say(rt: HostRuntime) -> Result<(), Fail> {
+fn fields_of_tfhd_without_their_flags(rt: HostRuntime) -> Result<(), Fail> {
     let mut flagged = tfhd();
     flagged.flags = 0x0a;
-    refused(rt.alloc(), &flagged)?;
+    expect_unwritable(rt.alloc(), &flagged)?;
     let mut all = tfhd_all();
     all.default_sample_flags = None;
-    refused(rt.alloc(), &all)?;
+    expect_unwritable(rt.alloc(), &all)?;
     Ok(())
 }
 
 #[test]
-fn lists_of_trun_that_the_flags_do_not_say(rt: HostRuntime) -> Result<(), Fail> {
+fn lists_of_trun_without_their_flags(rt: HostRuntime) -> Result<(), Fail> {
     let mut duration = trun_of_durations(rt.alloc())?;
     duration.sample_sizes = list(rt.alloc(), &[1])?;
-    refused(rt.alloc(), &duration)?;
+    expect_unwritable(rt.alloc(), &duration)?;
     let mut trun = trun_of_three_lists(rt.alloc())?;
     trun.first_sample_flags = None;
-    refused(rt.alloc(), &trun)?;
+    expect_unwritable(rt.alloc(), &trun)?;
     Ok(())
 }
 
 #[test]
-fn lists_of_trun_that_are_longer_than_counted(rt: HostRuntime) -> Result<(), Fail> {
+fn lists_of_trun_that_are_longer_than_the_count(rt: HostRuntime) -> Result<(), Fail> {
     let numbers: Vec<u32> = (0..1030u32).collect(rt.alloc())?;
     let mut trun = TrunBox::default_in(rt.alloc());
     trun.flags = TrunBox::FLAG_SAMPLE_SIZE | TrunBox::FLAG_SAMPLE_CTS;
     trun.sample_count = 1029;
     trun.sample_sizes = list(rt.alloc(), &numbers)?;
     trun.sample_cts = list(rt.alloc(), &numbers)?;
-    refused(rt.alloc(), &trun)?;
+    expect_unwritable(rt.alloc(), &trun)?;
     Ok(())
 }
 
 #[test]
 fn emsg_without_its_time(rt: HostRuntime) -> Result<(), Fail> {
     let mut no_time = EmsgBox::default_in(rt.alloc());
-    refused(rt.alloc(), &no_time)?;
+    expect_unwritable(rt.alloc(), &no_time)?;
     no_time.version = 2;
-    refused_at_size(rt.alloc(), &no_time, 34)?;
+    expect_unwritable_of_size(rt.alloc(), &no_time, 34)?;
     let mut other_time = emsg(rt.alloc())?;
     other_time.message_data = Entries::new(rt.alloc());
     other_time.version = 1;
-    refused(rt.alloc(), &other_time)?;
+    expect_unwritable(rt.alloc(), &other_time)?;
     Ok(())
 }
 
 #[test]
-fn zero_byte_in_a_text_of_emsg(rt: HostRuntime) -> Result<(), Fail> {
+fn zero_byte_in_a_string_of_emsg(rt: HostRuntime) -> Result<(), Fail> {
     let mut inner_zero = emsg(rt.alloc())?;
     inner_zero.value = Text::from_str(rt.alloc(), "a\0b")?;
-    refused(rt.alloc(), &inner_zero)?;
+    expect_unwritable(rt.alloc(), &inner_zero)?;
     Ok(())
 }

@@ -1,12 +1,12 @@
-//! Texts in boxes, and bytes that are no text.
+//! Strings in boxes, and bytes that are not UTF-8.
 
 use mp4_ported::boxes::text::{EMSG, HDLR, URL};
-use mp4_ported::helpers::{Kind, kind_of, read, resized, round_trip};
+use mp4_ported::helpers::{Kind, expect_round_trip, expect_value, kind_of, read};
 use mp4_stream::{EmsgBox, Error, HdlrBox, Text, UrlBox, WriteBox};
 use std::alloc::Global;
 use std::test::Fail;
 
-/// Characters of one to four bytes, the first and the last of each length, and those beside the surrogates.
+/// Characters of one to four bytes: the first and the last of each length, and those beside the surrogates.
 const CHARACTERS: [&[u8]; 11] = [
     b"a",
     b"\x7f",
@@ -21,9 +21,9 @@ const CHARACTERS: [&[u8]; 11] = [
     b"\xc3\xa9\xe2\x82\xac\xf0\x90\x8d\x88",
 ];
 
-/// Bytes that are no UTF-8: continuations alone, overlong forms, surrogates, numbers past U+10FFFF, bytes that UTF-8
-/// never has, and sequences that are cut, by the end or by a letter.
-const ILL_FORMED: [&[u8]; 18] = [
+/// Bytes that are not UTF-8: continuations alone, overlong forms, surrogates, numbers past U+10FFFF, bytes that UTF-8
+/// never has, and sequences that are cut by the end or by a letter.
+const NOT_UTF8: [&[u8]; 18] = [
     b"\x80",
     b"\xbf",
     b"a\xbf",
@@ -44,7 +44,7 @@ const ILL_FORMED: [&[u8]; 18] = [
     b"\xf0\x90\x8da",
 ];
 
-/// The name of an hdlr with these bytes in its place.
+/// The name that an hdlr with these bytes is read with.
 fn name_of(alloc: Global, name: &[u8]) -> Result<Text, Error> {
     let mut bytes = Vec::from_slice(alloc, &HDLR[..32])?;
     bytes.extend_from_slice(name)?;
@@ -52,7 +52,7 @@ fn name_of(alloc: Global, name: &[u8]) -> Result<Text, Error> {
     Ok(hdlr?.name)
 }
 
-/// The location of a url with these bytes in its place.
+/// The location that a url with these bytes is read with.
 fn location_of(alloc: Global, location: &[u8]) -> Result<Text, Error> {
     let mut bytes = Vec::from_slice(alloc, &URL[..12])?;
     bytes.extend_from_slice(location)?;
@@ -60,7 +60,7 @@ fn location_of(alloc: Global, location: &[u8]) -> Result<Text, Error> {
     Ok(url?.location)
 }
 
-/// An emsg with these bytes in the places of its two texts.
+/// The emsg that is read, with these bytes for its two strings.
 fn message_of(alloc: Global, scheme: &[u8], value: &[u8]) -> Result<EmsgBox, Error> {
     let mut bytes = Vec::from_slice(alloc, &EMSG[..12])?;
     bytes.extend_from_slice(scheme)?;
@@ -87,8 +87,8 @@ fn characters_are_read(rt: HostRuntime) -> Result<(), Fail> {
 }
 
 #[test]
-fn ill_formed_bytes_are_no_text(rt: HostRuntime) -> Result<(), Fail> {
-    for bytes in ILL_FORMED {
+fn other_bytes_are_not_read(rt: HostRuntime) -> Result<(), Fail> {
+    for bytes in NOT_UTF8 {
         assert_eq!(rt; name_of(rt.alloc(), bytes)?.as_str(), "null", "{bytes:?}");
         assert!(rt; location_of(rt.alloc(), bytes)?.is_empty(), "{bytes:?}");
         let scheme = message_of(rt.alloc(), bytes, b"b");
@@ -100,31 +100,31 @@ fn ill_formed_bytes_are_no_text(rt: HostRuntime) -> Result<(), Fail> {
 }
 
 #[test]
-fn texts_are_written_as_they_are_read(rt: HostRuntime) -> Result<(), Fail> {
+fn strings_are_written_as_they_are_read(rt: HostRuntime) -> Result<(), Fail> {
     let bytes = *b"\0\0\0\x16url \0\0\0\0\xc3\xa9\xe2\x82\xac\xf0\x90\x8d\x88\0";
     let (url, _) = read::<UrlBox>(rt.alloc(), &bytes, 22);
     let url = url?;
     assert_eq!(rt; url.location.as_str(), "\u{e9}\u{20ac}\u{10348}");
-    round_trip(rt.alloc(), &url, &bytes)?;
+    expect_round_trip(rt.alloc(), &url, &bytes)?;
     Ok(())
 }
 
 #[test]
-fn name_that_is_no_text(rt: HostRuntime) -> Result<(), Fail> {
+fn name_that_is_not_utf8(rt: HostRuntime) -> Result<(), Fail> {
     let mut bytes = [0; 34];
     bytes[32] = 0xff;
-    let (read, _) = read::<HdlrBox>(rt.alloc(), &bytes, 34);
-    let read = read?;
-    assert_eq!(rt; read.name.as_str(), "null");
+    let (hdlr, _) = read::<HdlrBox>(rt.alloc(), &bytes, 34);
+    let hdlr = hdlr?;
+    assert_eq!(rt; hdlr.name.as_str(), "null");
     let mut out = Vec::new(rt.alloc());
-    assert_eq!(rt; read.write_box(&mut out)?, 37);
+    assert_eq!(rt; hdlr.write_box(&mut out)?, 37);
     assert_eq!(rt; &out[32..], b"null\0".as_slice());
     Ok(())
 }
 
 #[test]
-fn location_that_is_no_text(rt: HostRuntime) -> Result<(), Fail> {
-    let no_text = b"\0\0\0\x0eurl \0\0\0\x01\xff\0";
-    resized(rt.alloc(), &UrlBox::default_in(rt.alloc()), no_text, 14)?;
+fn location_that_is_not_utf8(rt: HostRuntime) -> Result<(), Fail> {
+    let bytes = b"\0\0\0\x0eurl \0\0\0\x01\xff\0";
+    expect_value(rt.alloc(), &UrlBox::default_in(rt.alloc()), bytes, 14)?;
     Ok(())
 }

@@ -1,4 +1,4 @@
-//! Worked bytes of boxes that are not among the cases of the Rust crate, in both directions.
+//! Boxes with their bytes, written and read, that are not in the tests of the Rust crate.
 
 use mp4_ported::boxes::flat::{
     MDHD_LONG, MEHD, TKHD_FULL, VMHD_COLORS, mdhd_long, mehd, tkhd_full, vmhd_colors,
@@ -10,7 +10,7 @@ use mp4_ported::boxes::tables::{
 use mp4_ported::boxes::text::{
     DINF_URL, DREF_URL, EMSG, URL, dinf_url, dref_of, dref_url, emsg, url,
 };
-use mp4_ported::helpers::{read, resized, round_trip, written};
+use mp4_ported::helpers::{expect_round_trip, expect_value, expect_written, read};
 use mp4_stream::{BoxType, FourCC, FtypBox, StcoBox, TrunBox, UrlBox, WriteBox};
 use std::test::Fail;
 
@@ -20,62 +20,62 @@ pub const STCO_OF_ONE: [u8; 20] = *b"\0\0\0\x14stco\x01\0\0\x05\0\0\0\x01\0\0\x0
 
 #[test]
 fn ftyp_of_two_brands(rt: HostRuntime) -> Result<(), Fail> {
-    let (answer, position) = read::<FtypBox>(rt.alloc(), &FTYP_OF_TWO, 24);
-    let read = answer?;
+    let (ftyp, position) = read::<FtypBox>(rt.alloc(), &FTYP_OF_TWO, 24);
+    let ftyp = ftyp?;
     assert_eq!(rt; position, 24);
-    assert_eq!(rt; read.major_brand, FourCC::from(*b"isom"));
-    assert_eq!(rt; read.minor_version, 512);
+    assert_eq!(rt; ftyp.major_brand, FourCC::from(*b"isom"));
+    assert_eq!(rt; ftyp.minor_version, 512);
     let brands = [FourCC::from(*b"isom"), FourCC::from(*b"mp41")];
-    assert_eq!(rt; read.compatible_brands.as_slice(), brands.as_slice());
-    assert_eq!(rt; (read.get_type(), read.get_size()), (BoxType::FtypBox, 24));
-    assert!(rt; read.is_writable());
-    let mut place = [0xff; 24];
-    read.put_box(&mut place);
-    assert_eq!(rt; place, FTYP_OF_TWO);
-    round_trip(rt.alloc(), &read, &FTYP_OF_TWO)?;
+    assert_eq!(rt; ftyp.compatible_brands.as_slice(), brands.as_slice());
+    assert_eq!(rt; (ftyp.get_type(), ftyp.get_size()), (BoxType::FtypBox, 24));
+    assert!(rt; ftyp.is_writable());
+    let mut out = [0xff; 24];
+    ftyp.put_box(&mut out);
+    assert_eq!(rt; out, FTYP_OF_TWO);
+    expect_round_trip(rt.alloc(), &ftyp, &FTYP_OF_TWO)?;
     Ok(())
 }
 
 #[test]
 fn stco_of_one_chunk(rt: HostRuntime) -> Result<(), Fail> {
-    let (answer, position) = read::<StcoBox>(rt.alloc(), &STCO_OF_ONE, 20);
-    let read = answer?;
+    let (stco, position) = read::<StcoBox>(rt.alloc(), &STCO_OF_ONE, 20);
+    let stco = stco?;
     assert_eq!(rt; position, 20);
-    assert_eq!(rt; (read.version, read.flags), (1, 5));
-    assert_eq!(rt; read.entries.as_slice(), [267].as_slice());
-    assert_eq!(rt; (read.get_type(), read.get_size()), (BoxType::StcoBox, 20));
-    assert!(rt; read.is_writable());
-    let mut place = [0xff; 20];
-    read.put_box(&mut place);
-    assert_eq!(rt; place, STCO_OF_ONE);
+    assert_eq!(rt; (stco.version, stco.flags), (1, 5));
+    assert_eq!(rt; stco.entries.as_slice(), [267].as_slice());
+    assert_eq!(rt; (stco.get_type(), stco.get_size()), (BoxType::StcoBox, 20));
+    assert!(rt; stco.is_writable());
+    let mut out = [0xff; 20];
+    stco.put_box(&mut out);
+    assert_eq!(rt; out, STCO_OF_ONE);
     Ok(())
 }
 
 #[test]
 fn every_field_of_a_track_header(rt: HostRuntime) -> Result<(), Fail> {
-    round_trip(rt.alloc(), &tkhd_full(), &TKHD_FULL)?;
+    expect_round_trip(rt.alloc(), &tkhd_full(), &TKHD_FULL)?;
     Ok(())
 }
 
 #[test]
 fn times_of_64_bits_and_colors(rt: HostRuntime) -> Result<(), Fail> {
-    round_trip(rt.alloc(), &mdhd_long(rt.alloc())?, &MDHD_LONG)?;
-    round_trip(rt.alloc(), &mehd(), &MEHD)?;
-    round_trip(rt.alloc(), &vmhd_colors(), &VMHD_COLORS)?;
+    expect_round_trip(rt.alloc(), &mdhd_long(rt.alloc())?, &MDHD_LONG)?;
+    expect_round_trip(rt.alloc(), &mehd(), &MEHD)?;
+    expect_round_trip(rt.alloc(), &vmhd_colors(), &VMHD_COLORS)?;
     Ok(())
 }
 
 #[test]
 fn edits_of_other_versions(rt: HostRuntime) -> Result<(), Fail> {
-    written(rt.alloc(), &elst_of(rt.alloc(), 2, 0)?, 28)?;
-    written(rt.alloc(), &elst_of(rt.alloc(), 1, 1 << 32)?, 36)?;
+    expect_written(rt.alloc(), &elst_of(rt.alloc(), 2, 0)?, 28)?;
+    expect_written(rt.alloc(), &elst_of(rt.alloc(), 1, 1 << 32)?, 36)?;
     Ok(())
 }
 
 #[test]
 fn samples_of_one_size_take_no_list(rt: HostRuntime) -> Result<(), Fail> {
     let one_size = stsz_of_one_size(rt.alloc(), 1, 4294967295);
-    round_trip(
+    expect_round_trip(
         rt.alloc(),
         &one_size,
         b"\0\0\0\x14stsz\0\0\0\0\0\0\0\x01\xff\xff\xff\xff",
@@ -85,21 +85,21 @@ fn samples_of_one_size_take_no_list(rt: HostRuntime) -> Result<(), Fail> {
 
 #[test]
 fn tfhd_of_all_fields(rt: HostRuntime) -> Result<(), Fail> {
-    round_trip(rt.alloc(), &tfhd_all(), &TFHD_ALL)?;
+    expect_round_trip(rt.alloc(), &tfhd_all(), &TFHD_ALL)?;
     Ok(())
 }
 
 #[test]
 fn trun_of_one_list(rt: HostRuntime) -> Result<(), Fail> {
-    round_trip(rt.alloc(), &trun(rt.alloc())?, &TRUN)?;
-    round_trip(rt.alloc(), &trun_of_durations(rt.alloc())?, &TRUN_DURATION)?;
+    expect_round_trip(rt.alloc(), &trun(rt.alloc())?, &TRUN)?;
+    expect_round_trip(rt.alloc(), &trun_of_durations(rt.alloc())?, &TRUN_DURATION)?;
     Ok(())
 }
 
 #[test]
 fn trun_of_more_lists(rt: HostRuntime) -> Result<(), Fail> {
-    round_trip(rt.alloc(), &trun_of_two_lists(rt.alloc())?, &TRUN_TWO)?;
-    round_trip(rt.alloc(), &trun_of_three_lists(rt.alloc())?, &TRUN_THREE)?;
+    expect_round_trip(rt.alloc(), &trun_of_two_lists(rt.alloc())?, &TRUN_TWO)?;
+    expect_round_trip(rt.alloc(), &trun_of_three_lists(rt.alloc())?, &TRUN_THREE)?;
     Ok(())
 }
 
@@ -107,7 +107,7 @@ fn trun_of_more_lists(rt: HostRuntime) -> Result<(), Fail> {
 fn trun_of_no_list(rt: HostRuntime) -> Result<(), Fail> {
     let mut trun = TrunBox::default_in(rt.alloc());
     trun.sample_count = 4294967295;
-    round_trip(rt.alloc(), &trun, b"\0\0\0\x10trun\0\0\0\0\xff\xff\xff\xff")?;
+    expect_round_trip(rt.alloc(), &trun, b"\0\0\0\x10trun\0\0\0\0\xff\xff\xff\xff")?;
     Ok(())
 }
 
@@ -119,7 +119,7 @@ fn trun_of_many_samples(rt: HostRuntime) -> Result<(), Fail> {
     trun.sample_count = 1030;
     trun.sample_sizes = list(rt.alloc(), &numbers)?;
     trun.sample_cts = list(rt.alloc(), &numbers)?;
-    let out = written(rt.alloc(), &trun, 8256)?;
+    let out = expect_written(rt.alloc(), &trun, 8256)?;
     let middle = b"\0\0\x02\0\0\0\x02\0\0\0\x02\x01\0\0\x02\x01";
     assert!(rt; out.get(4112..4128) == Some(middle.as_slice()));
     Ok(())
@@ -137,9 +137,9 @@ fn emsg_of_two_times_has_that_of_its_version(rt: HostRuntime) -> Result<(), Fail
 
 #[test]
 fn references_of_a_url(rt: HostRuntime) -> Result<(), Fail> {
-    round_trip(rt.alloc(), &url(rt.alloc())?, &URL)?;
-    round_trip(rt.alloc(), &dref_url(rt.alloc())?, &DREF_URL)?;
-    round_trip(rt.alloc(), &dinf_url(rt.alloc())?, &DINF_URL)?;
+    expect_round_trip(rt.alloc(), &url(rt.alloc())?, &URL)?;
+    expect_round_trip(rt.alloc(), &dref_url(rt.alloc())?, &DREF_URL)?;
+    expect_round_trip(rt.alloc(), &dinf_url(rt.alloc())?, &DINF_URL)?;
     Ok(())
 }
 
@@ -147,13 +147,13 @@ fn references_of_a_url(rt: HostRuntime) -> Result<(), Fail> {
 fn empty_location_is_the_same_file(rt: HostRuntime) -> Result<(), Fail> {
     let same_file = UrlBox::default_in(rt.alloc());
     let empty = b"\0\0\0\x0durl \0\0\0\x01\0";
-    resized(rt.alloc(), &same_file, empty, 13)?;
+    expect_value(rt.alloc(), &same_file, empty, 13)?;
     Ok(())
 }
 
 #[test]
 fn dref_without_url(rt: HostRuntime) -> Result<(), Fail> {
-    round_trip(
+    expect_round_trip(
         rt.alloc(),
         &dref_of(None),
         b"\0\0\0\x10dref\0\0\0\0\0\0\0\0",

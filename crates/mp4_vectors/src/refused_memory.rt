@@ -1,30 +1,31 @@
-//! Each vector is written and read where any one request for memory may be refused.
+//! Calls of the codec that may be refused one request for memory. A call that is out of memory leaves everything as it
+//! was, and has its usual result when it is made again.
 
 use crate::mark::MarkBox;
 use mp4_ported::vectors::Vector;
 use mp4_stream::{
-    AvcConfig, ByteCursor, Co64Box, Error, MdhdBox, MediaConfig, StcoBox, StreamBox, WriteBox,
-    language_string, read_boxes_as, write_boxes,
+    AvcConfig, ByteCursor, Co64Box, Error, MdhdBox, MediaConfig, StcoBox, StreamBox, TryClone,
+    WriteBox, language_string, read_boxes_as, write_boxes,
 };
 use std::alloc::Global;
 use std::slice;
 
-/// A call failed though it was refused memory only once, or returned or left something else than the call with ample
-/// memory.
+/// A call failed twice, or for another reason than memory, or it returned or left something wrong.
 #[derive(Debug, Drop)]
 pub struct Wrong;
 
-/// What a call returns that may be refused memory once.
+/// The result of a call, which is made again if it is out of memory.
 macro_rules! again {
     ($call:expr) => {
         match $call {
             Err(Error::OutOfMemory) => $call.map_err(|_| Wrong),
-            answer => answer.map_err(|_| Wrong),
+            outcome => outcome.map_err(|_| Wrong),
         }
     };
 }
 
-/// Appends the bytes of the boxes to `out`, as a list or as a box alone.
+/// Appends the bytes of the boxes to `out`: by `write_box` if it is one box and `as_list` is false, else by
+/// `write_boxes`.
 fn append<B: StreamBox>(boxes: &[B], out: &mut Vec<u8>, as_list: bool) -> mp4_stream::Result<u64> {
     match boxes {
         [only] if !as_list => only.write_box(out),
@@ -32,47 +33,47 @@ fn append<B: StreamBox>(boxes: &[B], out: &mut Vec<u8>, as_list: bool) -> mp4_st
     }
 }
 
-/// The bytes of the boxes after a 7. After a refusal the 7 is alone.
-fn written<B: StreamBox>(alloc: Global, boxes: &[B], as_list: bool) -> Result<Vec<u8>, Wrong> {
+/// Appends the bytes of the boxes to a 7, and again if that is out of memory and leaves the 7 alone.
+fn write<B: StreamBox>(alloc: Global, boxes: &[B], as_list: bool) -> Result<Vec<u8>, Wrong> {
     let mut out = Vec::new(alloc);
     if out.push(7).is_err() && out.push(7).is_err() {
         return Err(Wrong);
     }
-    let mut answer = append(boxes, &mut out, as_list);
-    if matches!(answer, Err(Error::OutOfMemory)) {
+    let mut outcome = append(boxes, &mut out, as_list);
+    if matches!(outcome, Err(Error::OutOfMemory)) {
         if out.as_slice() != [7].as_slice() {
             return Err(Wrong);
         }
-        answer = append(boxes, &mut out, as_list);
+        outcome = append(boxes, &mut out, as_list);
     }
-    match answer {
+    match outcome {
         Ok(_) => Ok(out),
         Err(_) => Err(Wrong),
     }
 }
 
-/// The boxes after the first byte. After a refusal the position of the cursor is still 1, and after an Ok it is the
-/// end.
+/// Reads the boxes after the first byte, and again if that is out of memory and leaves the cursor after the first byte.
+/// At the end the cursor is at the end of the buffer.
 fn read<B: StreamBox>(alloc: Global, bytes: &[u8]) -> Result<Vec<B>, Wrong> {
     let mut reader = ByteCursor::new(bytes);
     reader.set_position(1);
-    let mut answer = read_boxes_as(alloc, &mut reader);
-    if matches!(answer, Err(Error::OutOfMemory)) {
+    let mut outcome = read_boxes_as(alloc, &mut reader);
+    if matches!(outcome, Err(Error::OutOfMemory)) {
         if reader.position() != 1 {
             return Err(Wrong);
         }
-        answer = read_boxes_as(alloc, &mut reader);
+        outcome = read_boxes_as(alloc, &mut reader);
     }
-    match answer {
+    match outcome {
         Ok(found) if reader.position() == bytes.len() as u64 => Ok(found),
         _ => Err(Wrong),
     }
 }
 
-/// Writes the boxes, compares the bytes, and reads them back.
+/// Writes the boxes, compares the bytes, and reads the boxes back.
 fn round_trip<B: StreamBox + Eq>(alloc: Global, boxes: &[B], bytes: &[u8]) -> Result<(), Wrong> {
     for as_list in [false, true] {
-        let out = written(alloc, boxes, as_list)?;
+        let out = write(alloc, boxes, as_list)?;
         if out.as_slice().split_first() != Some((&7, bytes)) {
             return Err(Wrong);
         }
@@ -84,7 +85,7 @@ fn round_trip<B: StreamBox + Eq>(alloc: Global, boxes: &[B], bytes: &[u8]) -> Re
     Ok(())
 }
 
-/// Makes, clones, writes and reads the vector, and again where memory was refused.
+/// Makes, clones, writes and reads a vector.
 pub fn write_and_read(alloc: Global, vector: Vector) -> Result<(), Wrong> {
     let original = again!(vector.make(alloc))?;
     let clone = again!(original.try_clone())?;
@@ -94,7 +95,7 @@ pub fn write_and_read(alloc: Global, vector: Vector) -> Result<(), Wrong> {
     round_trip(alloc, slice::from_ref(&clone), vector.bytes())
 }
 
-/// Writes and reads a list of boxes of a type from outside, and again where memory was refused.
+/// Writes and reads a list of boxes of a type from outside the codec.
 pub fn write_and_read_marks(alloc: Global) -> Result<(), Wrong> {
     let marks = [MarkBox { mark: 1 }, MarkBox { mark: 0xffff_ffff }];
     round_trip(
@@ -113,7 +114,7 @@ fn config(alloc: Global) -> mp4_stream::Result<MediaConfig> {
     }))
 }
 
-/// Makes what a track is made from, and clones it, and again where memory was refused.
+/// Makes and clones the configuration of a track.
 pub fn clone_config(alloc: Global) -> Result<(), Wrong> {
     let original = again!(config(alloc))?;
     if again!(original.try_clone())? == original {
@@ -131,7 +132,7 @@ fn offsets(alloc: Global) -> mp4_stream::Result<Co64Box> {
     })
 }
 
-/// Shortens offsets of chunks to 32 bits, and again where memory was refused.
+/// Converts offsets of chunks to 32 bits.
 pub fn shorten_offsets(alloc: Global) -> Result<(), Wrong> {
     let offsets = again!(offsets(alloc))?;
     let short = again!(StcoBox::try_from_co64(alloc, &offsets))?;
@@ -142,7 +143,7 @@ pub fn shorten_offsets(alloc: Global) -> Result<(), Wrong> {
     }
 }
 
-/// Makes the texts of a language and of a default media header, and again where memory was refused.
+/// Makes the text of a language and a default media header, which has that language.
 pub fn make_texts(alloc: Global) -> Result<(), Wrong> {
     let language = again!(language_string(alloc, 0x55c4))?;
     let header = again!(MdhdBox::default_in(alloc))?;

@@ -1,34 +1,22 @@
-//! The texts that refusals carry.
+//! The texts of invalid data.
 
-use mp4_stream::{BoxHeader, BoxType, ByteCursor, Error, FourCC, read_boxes, write_box_header_ext};
-use std::alloc::Global;
+use mp4_ported::helpers::invalid_text;
+use mp4_stream::{BoxHeader, BoxType, ByteCursor, FourCC, read_boxes, write_box_header_ext};
 use std::process::Abort;
 use std::str::FromStr;
 use std::test::Fail;
 
-/// The text of a refusal as invalid data.
-fn text_of<T>(answer: &Result<T, Error>) -> &'static str {
-    match answer {
-        Err(Error::InvalidData(text)) => text,
-        _ => "",
-    }
-}
-
-/// The text that a buffer of boxes is refused with.
-fn refusal(alloc: Global, bytes: &[u8]) -> &'static str {
-    text_of(&read_boxes(alloc, &mut ByteCursor::new(bytes)))
-}
-
-/// Each buffer is refused with its text.
-fn check(rt: &(impl Abort + AllocGlobal), refused: &[(&[u8], &str)]) {
-    for (bytes, text) in refused {
-        assert_eq!(rt; refusal(rt.alloc(), bytes), *text);
+/// Expects that each buffer is invalid data with its text.
+fn expect_texts(rt: &(impl Abort + AllocGlobal), invalid: &[(&[u8], &str)]) {
+    for (bytes, text) in invalid {
+        let outcome = read_boxes(rt.alloc(), &mut ByteCursor::new(bytes));
+        assert_eq!(rt; invalid_text(&outcome), Some(*text));
     }
 }
 
 #[test]
-fn refused_frames(rt: HostRuntime) {
-    check(
+fn invalid_frames(rt: HostRuntime) {
+    expect_texts(
         &rt,
         &[
             (b"\0\0\0\x07free", "box size too small"),
@@ -45,9 +33,9 @@ fn refused_frames(rt: HostRuntime) {
 }
 
 #[test]
-fn refused_children(rt: HostRuntime) {
+fn invalid_children(rt: HostRuntime) {
     let too_large = "dinf box contains a box with a larger size than it";
-    check(
+    expect_texts(
         &rt,
         &[
             (b"\0\0\0\x10dinf\0\0\0\x11dref", too_large),
@@ -62,8 +50,8 @@ fn refused_children(rt: HostRuntime) {
 }
 
 #[test]
-fn refused_counts_of_entries(rt: HostRuntime) {
-    check(
+fn invalid_counts_of_entries(rt: HostRuntime) {
+    expect_texts(
         &rt,
         &[
             (
@@ -99,8 +87,8 @@ fn refused_counts_of_entries(rt: HostRuntime) {
 }
 
 #[test]
-fn refused_tables(rt: HostRuntime) {
-    check(
+fn invalid_tables(rt: HostRuntime) {
+    expect_texts(
         &rt,
         &[
             (
@@ -120,8 +108,8 @@ fn refused_tables(rt: HostRuntime) {
 }
 
 #[test]
-fn refused_fields(rt: HostRuntime) {
-    check(
+fn invalid_fields(rt: HostRuntime) {
+    expect_texts(
         &rt,
         &[
             (b"\0\0\0\x0cmvhd\x02\0\0\0", "version must be 0 or 1"),
@@ -141,16 +129,19 @@ fn refused_fields(rt: HostRuntime) {
 }
 
 #[test]
-fn refused_headers(rt: HostRuntime) {
+fn invalid_headers(rt: HostRuntime) {
     let mut out = Vec::new(rt.alloc());
     let largest = BoxHeader::new(BoxType::FreeBox, u64::MAX);
-    assert_eq!(rt; text_of(&largest.write(&mut out)), "box too large");
     assert_eq!(rt;
-        text_of(&write_box_header_ext(&mut out, 0, 1 << 24)),
-        "value does not fit its field"
+        invalid_text(&largest.write(&mut out)),
+        Some("box too large")
     );
     assert_eq!(rt;
-        text_of(&FourCC::from_str("abc")),
-        "expected exactly four bytes in string"
+        invalid_text(&write_box_header_ext(&mut out, 0, 1 << 24)),
+        Some("value does not fit its field")
+    );
+    assert_eq!(rt;
+        invalid_text(&FourCC::from_str("abc")),
+        Some("expected exactly four bytes in string")
     );
 }
