@@ -1,4 +1,4 @@
-//! The codec for a program that measures it: whole streams are read, and written, as often as is asked.
+//! The codec for a program that measures its speed. A stream is read, or written, a number of times.
 #![tactic(auto)]
 
 ghost use Rattle.std.specs.Prelude.{◌≡◌, ◌-◌, ◌^◌, ◌⊎◌, List, Ok, take, IfOk};
@@ -9,7 +9,7 @@ ghost use Rattle.mp4_stream.specs.declared.any_box.AnyBox.{AnyBox};
 use mp4_stream::{AnyBox, ByteCursor, Error, Mp4Box, Result, read_boxes, write_boxes};
 use std::alloc::Global;
 
-/// The codes and the sizes of the boxes, added up modulo 2^64.
+/// The sum of the codes and the sizes of the boxes, modulo 2^64.
 fn checksum(boxes: &[AnyBox]) -> u64 {
     let mut sum: u64 = 0;
     for b in boxes {
@@ -41,7 +41,8 @@ fn write_times(alloc: Global, bytes: &[u8], times: u64) -> Result<u64> {
     Ok(sum)
 }
 
-/// Fills the front of a slice with what is written of a stream, and returns its length.
+/// Reads a stream, and fills the front of `out` with the bytes that its boxes are written in. Returns their number.
+/// Out of memory also if `out` has no room for them.
 fn rewrite(alloc: Global, bytes: &[u8], out: &mut [u8]) -> Result<u64>
     ensures { IfOk result (λ n. (vs : List AnyBox) × ((boxes known_any reading_any bytes.now 0).outcome ≡ Ok vs) × (take n out.new ≡ stream format_any.bytes vs)) }
 {
@@ -55,22 +56,22 @@ fn rewrite(alloc: Global, bytes: &[u8], out: &mut [u8]) -> Result<u64>
     Ok(n)
 }
 
-/// Reads a stream so many times, each time into new boxes, and returns the sum of their checksums. A fault or
-/// no memory ends it with `u64::MAX`.
+/// Reads a stream `times` times, each time into new boxes, and returns the sum of their checksums; `u64::MAX` after an
+/// error.
 #[unsafe(no_mangle)]
 pub extern "C" fn mp4_read(alloc: Global, bytes: &[u8], times: u64) -> u64 {
     read_times(alloc, bytes, times).unwrap_or(u64::MAX)
 }
 
-/// Reads a stream once and writes its boxes so many times, each time into a new vector, and returns the sum of
-/// the lengths and of the last bytes. A fault or out of memory ends it with `u64::MAX`.
+/// Reads a stream once and writes its boxes `times` times, each time into a new vector. Returns the sum of the lengths
+/// and of the last bytes; `u64::MAX` after an error.
 #[unsafe(no_mangle)]
 pub extern "C" fn mp4_write(alloc: Global, bytes: &[u8], times: u64) -> u64 {
     write_times(alloc, bytes, times).unwrap_or(u64::MAX)
 }
 
-/// Reads a stream, fills the front of `out` with what its boxes are written in, and returns the length of that:
-/// 0 if all boxes were skipped. A fault, no memory or no room ends it with `u64::MAX`.
+/// Reads a stream, and fills the front of `out` with the bytes that its boxes are written in. Returns their number, which
+/// is 0 if all boxes were skipped; `u64::MAX` after an error, or if `out` has no room for them.
 #[unsafe(no_mangle)]
 pub extern "C" fn mp4_rewrite(alloc: Global, bytes: &[u8], out: &mut [u8]) -> u64
     ensures { (result ≡ 2 ^ 64 - 1) ⊎ ((vs : List AnyBox) × ((boxes known_any reading_any bytes.now 0).outcome ≡ Ok vs) × (take result out.new ≡ stream format_any.bytes vs)) }

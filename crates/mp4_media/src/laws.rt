@@ -69,7 +69,7 @@ pub fn data_types_have_own_numbers()
 {}
 
 /// A conversion returns the value that it finds. If it finds none, it returns invalid data.
-pub fn conversions_answer_what_they_find<A>()
+pub fn conversions_return_what_they_find<A>()
     ensures value { (v : _) (r : Result A Error) → IsConversion (Some v) r → r ≡ Ok v }
     ensures none { (r : Result A Error) → IsConversion None r → IsErrAnd r IsInvalidData }
 {}

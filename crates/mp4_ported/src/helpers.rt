@@ -2,6 +2,7 @@
 
 use mp4_stream::{BoxHeader, BoxLaws, BoxType, ByteCursor, Error, ReadBox, WriteBox};
 use std::alloc::{AllocError, Global};
+use std::fmt::Debug;
 
 /// The kind of the outcome of a call: an `Ok`, or an error without its text.
 #[derive(Clone, Copy, Debug, PartialEq, Eq)]
@@ -38,6 +39,11 @@ pub fn invalid_text<T>(outcome: &Result<T, Error>) -> Option<&'static str> {
         Err(Error::InvalidData(text)) => Some(text),
         _ => None,
     }
+}
+
+/// The text that `Debug` prints.
+pub fn debug_text(alloc: Global, value: &impl Debug) -> Result<String, AllocError> {
+    format!(in alloc; "{value:?}")
 }
 
 /// How what a check found differs from what it expected.

@@ -1,6 +1,6 @@
 //! A caller of `mp4_media`: the numbers of an audio configuration.
 
-ghost use Rattle.std.specs.Prelude.{◌≡◌, IfOk, Ok};
+ghost use Rattle.std.specs.Prelude.{◌≡◌, IfOk};
 ghost use Rattle.mp4_media.specs.AudioObjectType.{number_audio_object_type};
 ghost use Rattle.mp4_media.specs.SampleFreqIndex.{number_sample_freq_index};
 ghost use Rattle.mp4_media.specs.ChannelConfig.{number_channel_config};
@@ -27,27 +27,5 @@ pub fn aac_config(
         profile: AudioObjectType::try_from(profile)?,
         freq_index: SampleFreqIndex::try_from(freq_index)?,
         chan_conf: ChannelConfig::try_from(chan_conf)?,
-    })
-}
-
-/// The audio configuration of the numbers of a configuration, which is the same configuration.
-pub fn aac_config_again(config: AacConfig) -> Result<AacConfig, Error>
-    ensures { result ≡ Ok config }
-{
-    laws::conversions_answer_what_they_find::<AudioObjectType>();
-    laws::conversions_answer_what_they_find::<SampleFreqIndex>();
-    laws::conversions_answer_what_they_find::<ChannelConfig>();
-    laws::audio_object_types_have_own_numbers();
-    laws::sample_freq_indexes_have_own_numbers();
-    laws::channel_configs_have_own_numbers();
-    Ok(AacConfig {
-        bitrate: config.bitrate,
-        profile: AudioObjectType::try_from(laws::discriminant_of_audio_object_type(
-            config.profile,
-        ))?,
-        freq_index: SampleFreqIndex::try_from(laws::discriminant_of_sample_freq_index(
-            config.freq_index,
-        ))?,
-        chan_conf: ChannelConfig::try_from(laws::discriminant_of_channel_config(config.chan_conf))?,
     })
 }

@@ -1,6 +1,6 @@
 //! A caller of `mp4_flat`: the decode time of a fragment.
 
-ghost use Rattle.std.specs.Prelude.{◌≡◌, ◌++◌, ◌<◌, ◌^◌, nat_lt, if◌then◌else◌, IfOk, IfErr, OnErr};
+ghost use Rattle.std.specs.Prelude.{◌≡◌, ◌++◌, ◌^◌, nat_lt, if◌then◌else◌, IfOk, IfErr, OnErr};
 ghost use Rattle.mp4_flat.specs.Tfdt.{bytes_tfdt};
 
 use mp4_flat::TfdtBox;

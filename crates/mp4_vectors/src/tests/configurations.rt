@@ -1,17 +1,11 @@
 //! Configurations of tracks: defaults, clones, and how they print.
 
+use mp4_ported::helpers::debug_text;
 use mp4_stream::{
     AacConfig, AudioObjectType, AvcConfig, ChannelConfig, Entries, HevcConfig, MediaConfig,
     SampleFreqIndex, TryClone, TtxtConfig, Vp9Config,
 };
-use std::alloc::{AllocError, Global};
-use std::fmt::Debug;
 use std::test::Fail;
-
-/// The text that `Debug` prints.
-fn debug_text(alloc: Global, value: &impl Debug) -> Result<String, AllocError> {
-    format!(in alloc; "{value:?}")
-}
 
 #[test]
 fn configurations_have_defaults(rt: HostRuntime) -> Result<(), Fail> {

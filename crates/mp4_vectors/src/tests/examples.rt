@@ -1,7 +1,8 @@
 //! The example callers.
 
-use crate::example::audio::{aac_config, aac_config_again};
+use crate::example::audio::aac_config;
 use crate::example::chunks::append_short;
+use crate::example::numbers::aac_config_again;
 use crate::example::references::append_reference;
 use crate::example::times::append_decode_time;
 use mp4_ported::boxes::tables::list;

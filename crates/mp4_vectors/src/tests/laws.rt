@@ -12,7 +12,7 @@ use mp4_stream::{
     StszBox, SttsBox, TfdtBox, TfhdBox, TkhdBox, TrexBox, TrunBox, UrlBox, VmhdBox,
 };
 
-fn laws_of_a_box<B: BoxLaws>() {
+fn call_laws_of_box<B: BoxLaws>() {
     begins_with_header::<B>();
     has_normal_form::<B>();
     is_read_back::<B>();
@@ -20,7 +20,7 @@ fn laws_of_a_box<B: BoxLaws>() {
     have_same_bytes::<B>();
 }
 
-fn laws_of_lists<B: StreamBox>() {
+fn call_laws_of_lists<B: StreamBox>() {
     begins_with_header::<B>();
     has_normal_form::<B>();
     has_own_name::<B>();
@@ -35,65 +35,65 @@ fn laws_of_lists<B: StreamBox>() {
 
 #[test]
 fn laws_hold_of_times() {
-    laws_of_a_box::<MvhdBox>();
-    laws_of_a_box::<TkhdBox>();
-    laws_of_a_box::<MdhdBox>();
+    call_laws_of_box::<MvhdBox>();
+    call_laws_of_box::<TkhdBox>();
+    call_laws_of_box::<MdhdBox>();
 }
 
 #[test]
 fn laws_hold_of_fragments() {
-    laws_of_a_box::<MehdBox>();
-    laws_of_a_box::<MfhdBox>();
-    laws_of_a_box::<TfdtBox>();
-    laws_of_a_box::<TrexBox>();
+    call_laws_of_box::<MehdBox>();
+    call_laws_of_box::<MfhdBox>();
+    call_laws_of_box::<TfdtBox>();
+    call_laws_of_box::<TrexBox>();
 }
 
 #[test]
 fn laws_hold_of_sound_and_picture() {
-    laws_of_a_box::<SmhdBox>();
-    laws_of_a_box::<VmhdBox>();
+    call_laws_of_box::<SmhdBox>();
+    call_laws_of_box::<VmhdBox>();
 }
 
 #[test]
 fn laws_hold_of_chunks() {
-    laws_of_a_box::<StcoBox>();
-    laws_of_a_box::<Co64Box>();
-    laws_of_a_box::<StscBox>();
+    call_laws_of_box::<StcoBox>();
+    call_laws_of_box::<Co64Box>();
+    call_laws_of_box::<StscBox>();
 }
 
 #[test]
 fn laws_hold_of_samples() {
-    laws_of_a_box::<SttsBox>();
-    laws_of_a_box::<CttsBox>();
-    laws_of_a_box::<StssBox>();
-    laws_of_a_box::<StszBox>();
+    call_laws_of_box::<SttsBox>();
+    call_laws_of_box::<CttsBox>();
+    call_laws_of_box::<StssBox>();
+    call_laws_of_box::<StszBox>();
 }
 
 #[test]
 fn laws_hold_of_edits_and_runs() {
-    laws_of_a_box::<ElstBox>();
-    laws_of_a_box::<TfhdBox>();
-    laws_of_a_box::<TrunBox>();
+    call_laws_of_box::<ElstBox>();
+    call_laws_of_box::<TfhdBox>();
+    call_laws_of_box::<TrunBox>();
 }
 
 #[test]
 fn laws_hold_of_texts() {
-    laws_of_a_box::<FtypBox>();
-    laws_of_a_box::<HdlrBox>();
-    laws_of_a_box::<DataBox>();
-    laws_of_a_box::<EmsgBox>();
+    call_laws_of_box::<FtypBox>();
+    call_laws_of_box::<HdlrBox>();
+    call_laws_of_box::<DataBox>();
+    call_laws_of_box::<EmsgBox>();
 }
 
 #[test]
 fn laws_hold_of_references() {
-    laws_of_a_box::<UrlBox>();
-    laws_of_a_box::<DrefBox>();
-    laws_of_a_box::<DinfBox>();
+    call_laws_of_box::<UrlBox>();
+    call_laws_of_box::<DrefBox>();
+    call_laws_of_box::<DinfBox>();
 }
 
 #[test]
 fn laws_hold_of_lists_and_of_a_type_from_outside() {
-    laws_of_a_box::<MarkBox>();
-    laws_of_lists::<AnyBox>();
-    laws_of_lists::<MarkBox>();
+    call_laws_of_box::<MarkBox>();
+    call_laws_of_lists::<AnyBox>();
+    call_laws_of_lists::<MarkBox>();
 }

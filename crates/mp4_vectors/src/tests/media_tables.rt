@@ -1,18 +1,11 @@
 //! The tables of plain media types: the numbers, codes and texts that convert, and how the values print.
 
-use mp4_ported::helpers::invalid_text;
+use mp4_ported::helpers::{debug_text, invalid_text};
 use mp4_stream::{
     AudioObjectType, AvcProfile, ChannelConfig, DataType, FourCC, MediaType, SampleFreqIndex,
     TrackType,
 };
-use std::alloc::{AllocError, Global};
-use std::fmt::Debug;
 use std::test::Fail;
-
-/// The text that `Debug` prints.
-fn debug_text(alloc: Global, value: &impl Debug) -> Result<String, AllocError> {
-    format!(in alloc; "{value:?}")
-}
 
 #[test]
 fn track_types_have_handlers(rt: HostRuntime) -> Result<(), Fail> {

@@ -131,7 +131,7 @@ fn sizes_that_differ_in_number_from_the_count(rt: HostRuntime) -> Result<(), Fai
 }
 
 #[test]
-fn first_samples_past_32_bits_and_chunks_that_step_back(rt: HostRuntime) -> Result<(), Fail> {
+fn first_samples_past_32_bits_and_chunks_out_of_order(rt: HostRuntime) -> Result<(), Fail> {
     let past = [chunk_run(1, 4294967295, 1), chunk_run(2, 1, 1)];
     expect_unwritable(rt.alloc(), &stsc_of(rt.alloc(), &past)?)?;
     let back = [chunk_run(2, 1, 1), chunk_run(1, 1, 1)];
@@ -140,7 +140,7 @@ fn first_samples_past_32_bits_and_chunks_that_step_back(rt: HostRuntime) -> Resu
 }
 
 #[test]
-fn fields_of_tfhd_without_their_flags(rt: HostRuntime) -> Result<(), Fail> {
+fn fields_of_tfhd_that_differ_from_the_flags(rt: HostRuntime) -> Result<(), Fail> {
     let mut flagged = tfhd();
     flagged.flags = 0x0a;
     expect_unwritable(rt.alloc(), &flagged)?;
@@ -151,7 +151,7 @@ fn fields_of_tfhd_without_their_flags(rt: HostRuntime) -> Result<(), Fail> {
 }
 
 #[test]
-fn lists_of_trun_without_their_flags(rt: HostRuntime) -> Result<(), Fail> {
+fn lists_of_trun_that_differ_from_the_flags(rt: HostRuntime) -> Result<(), Fail> {
     let mut duration = trun_of_durations(rt.alloc())?;
     duration.sample_sizes = list(rt.alloc(), &[1])?;
     expect_unwritable(rt.alloc(), &duration)?;

@@ -3,7 +3,7 @@ use Rattle.std.specs.Prelude.{IsErrAnd}
 use Rattle.mp4_frame.specs.declared.error.Error.{Error}
 use Rattle.mp4_frame.specs.declared.error.Error.TheVariants as errors
 use Rattle.mp4_media.specs.Conversion.{IsConversion, IsInvalidData}
-use Rattle.mp4_media.proofs.laws.conversions_answer_what_they_find.Goals as goal
+use Rattle.mp4_media.proofs.laws.conversions_return_what_they_find.Goals as goal
 
 value : {A : Type 0} (v : A) (r : Result A Error) → IsConversion (Some v) r → r ≡ Ok v
 value v (Ok w) h = cc
