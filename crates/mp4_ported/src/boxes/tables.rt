@@ -6,6 +6,8 @@ use mp4_stream::{
 };
 use std::alloc::Global;
 
+pub const STCO_OF_ONE: [u8; 20] = *b"\0\0\0\x14stco\x01\0\0\x05\0\0\0\x01\0\0\x01\x0b";
+
 pub const STCO: [u8; 44] =
     *b"\0\0\0\x2cstco\0\0\0\0\0\0\0\x07\0\0\x01\x0b\0\0\x07\xb2\0\0\x09\xe7\0\0\x0a\xf3\0\0\x2e\x43\0\0\x56\xcf\0\0\x83\x30";
 

@@ -8,6 +8,8 @@ use std::alloc::Global;
 
 pub const FTYP: [u8; 32] = *b"\0\0\0\x20ftypisom\0\0\0\0isomiso2avc1mp41";
 
+pub const FTYP_OF_TWO: [u8; 24] = *b"\0\0\0\x18ftypisom\0\0\x02\0isommp41";
+
 pub const HDLR: [u8; 45] =
     *b"\0\0\0-hdlr\0\0\0\0\0\0\0\0vide\0\0\0\0\0\0\0\0\0\0\0\0VideoHandler\0";
 

@@ -1,6 +1,5 @@
 //! Boxes that are read with a size other than their own.
 
-use super::worked::FTYP_OF_TWO;
 use crate::example::defaults::{default_extent, default_video};
 use mp4_ported::boxes::flat::{
     MFHD, mdhd, mdhd_long, mehd, mehd_short, mfhd, mvhd, mvhd_long, smhd, tfdt_of_zero, tkhd_full,
@@ -11,7 +10,7 @@ use mp4_ported::boxes::tables::{
     stsz_of_one_size, stts, tfhd, tfhd_all, tfhd_bare, trun, trun_of_four_lists,
     trun_of_three_lists,
 };
-use mp4_ported::boxes::text::{DATA, DINF_URL, DREF_URL, EMSG, FTYP, HDLR, URL};
+use mp4_ported::boxes::text::{DATA, DINF_URL, DREF_URL, EMSG, FTYP, FTYP_OF_TWO, HDLR, URL};
 use mp4_ported::helpers::{
     Kind, Mismatch, expect_invalid_at_small_sizes, expect_kind, expect_value,
     expect_value_at_any_size, kind_of, read,

@@ -4,19 +4,15 @@ use mp4_ported::boxes::flat::{
     MDHD_LONG, MEHD, TKHD_FULL, VMHD_COLORS, mdhd_long, mehd, tkhd_full, vmhd_colors,
 };
 use mp4_ported::boxes::tables::{
-    TFHD_ALL, TRUN, TRUN_DURATION, TRUN_THREE, TRUN_TWO, elst_of, list, stsz_of_one_size, tfhd_all,
-    trun, trun_of_durations, trun_of_three_lists, trun_of_two_lists,
+    STCO_OF_ONE, STCO_OF_ONE, TFHD_ALL, TRUN, TRUN_DURATION, TRUN_THREE, TRUN_TWO, elst_of, list,
+    stsz_of_one_size, tfhd_all, trun, trun_of_durations, trun_of_three_lists, trun_of_two_lists,
 };
 use mp4_ported::boxes::text::{
-    DINF_URL, DREF_URL, EMSG, URL, dinf_url, dref_of, dref_url, emsg, url,
+    DINF_URL, DREF_URL, EMSG, FTYP_OF_TWO, FTYP_OF_TWO, URL, dinf_url, dref_of, dref_url, emsg, url,
 };
 use mp4_ported::helpers::{expect_round_trip, expect_value, expect_written, read};
 use mp4_stream::{BoxType, FourCC, FtypBox, StcoBox, TrunBox, UrlBox, WriteBox};
 use std::test::Fail;
-
-pub const FTYP_OF_TWO: [u8; 24] = *b"\0\0\0\x18ftypisom\0\0\x02\0isommp41";
-
-pub const STCO_OF_ONE: [u8; 20] = *b"\0\0\0\x14stco\x01\0\0\x05\0\0\0\x01\0\0\x01\x0b";
 
 #[test]
 fn ftyp_of_two_brands(rt: HostRuntime) -> Result<(), Fail> {
