@@ -4,11 +4,11 @@ use mp4_ported::boxes::flat::{
     MDHD_LONG, MEHD, TKHD_FULL, VMHD_COLORS, mdhd_long, mehd, tkhd_full, vmhd_colors,
 };
 use mp4_ported::boxes::tables::{
-    STCO_OF_ONE, STCO_OF_ONE, TFHD_ALL, TRUN, TRUN_DURATION, TRUN_THREE, TRUN_TWO, elst_of, list,
+    STCO_OF_ONE, TFHD_ALL, TRUN, TRUN_DURATION, TRUN_THREE, TRUN_TWO, elst_of, list,
     stsz_of_one_size, tfhd_all, trun, trun_of_durations, trun_of_three_lists, trun_of_two_lists,
 };
 use mp4_ported::boxes::text::{
-    DINF_URL, DREF_URL, EMSG, FTYP_OF_TWO, FTYP_OF_TWO, URL, dinf_url, dref_of, dref_url, emsg, url,
+    DINF_URL, DREF_URL, EMSG, FTYP_OF_TWO, URL, dinf_url, dref_of, dref_url, emsg, url,
 };
 use mp4_ported::helpers::{expect_round_trip, expect_value, expect_written, read};
 use mp4_stream::{BoxType, FourCC, FtypBox, StcoBox, TrunBox, UrlBox, WriteBox};
