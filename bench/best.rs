@@ -14,7 +14,7 @@ fn fields(bytes: &[u8], at: usize, len: usize) -> Result<&[u8]> {
     bytes.get(at..at + len).ok_or(Error::Io)
 }
 
-/// The rows of a table behind its count, which is tested against the box's size before any memory is asked for.
+/// The rows of a table after its count, which is checked against the box's size before any memory is asked for.
 fn rows<const E: usize>(bytes: &[u8], size: u64, at: usize, count: u32) -> Result<&[[u8; E]]> {
     test(u64::from(count) <= size.saturating_sub(at as u64) / E as u64)?;
     let (rows, _) = fields(bytes, at, count as usize * E)?.as_chunks::<E>();
@@ -85,11 +85,11 @@ fn read_columns<const E: usize>(
         }
     }
     for block in rows.chunks(512) {
-        let mut place = 0;
+        let mut at = 0;
         for (flag, column) in &mut columns {
             if flags & *flag != 0 {
-                column.extend(block.iter().map(|row| u32_at(row, place)));
-                place += 4;
+                column.extend(block.iter().map(|row| u32_at(row, at)));
+                at += 4;
             }
         }
     }
@@ -240,17 +240,17 @@ pub fn read_boxes(bytes: &[u8]) -> Result<Vec<AnyBox>> {
     Ok(boxes)
 }
 
-fn put_u32(place: &mut [u8], at: usize, number: u32) {
-    place[at..at + 4].copy_from_slice(&number.to_be_bytes());
+fn put_u32(out: &mut [u8], at: usize, number: u32) {
+    out[at..at + 4].copy_from_slice(&number.to_be_bytes());
 }
 
-fn put_u64(place: &mut [u8], at: usize, number: u64) {
-    place[at..at + 8].copy_from_slice(&number.to_be_bytes());
+fn put_u64(out: &mut [u8], at: usize, number: u64) {
+    out[at..at + 8].copy_from_slice(&number.to_be_bytes());
 }
 
-/// The size, the code, the version and the flags, and the number that stands behind them in all of these boxes.
-fn put_head(place: &mut [u8], size: u64, code: u32, version: u8, flags: u32, number: u32) {
-    let head: &mut [u8; 16] = place.first_chunk_mut().unwrap();
+/// The size, the code, the version and the flags, and the number that follows them in all of these boxes.
+fn put_head(out: &mut [u8], size: u64, code: u32, version: u8, flags: u32, number: u32) {
+    let head: &mut [u8; 16] = out.first_chunk_mut().unwrap();
     put_u32(head, 0, size as u32);
     put_u32(head, 4, code);
     put_u32(head, 8, u32::from(version) << 24 | flags);
@@ -258,36 +258,36 @@ fn put_head(place: &mut [u8], size: u64, code: u32, version: u8, flags: u32, num
 }
 
 fn put_table<const E: usize, T>(
-    place: &mut [u8],
+    out: &mut [u8],
     code: u32,
     table: &Table<T>,
     put: impl Fn(&mut [u8; E], &T),
 ) -> usize {
     let size = table.size(E as u64);
     put_head(
-        place,
+        out,
         size,
         code,
         table.version,
         table.flags,
         table.entries.len() as u32,
     );
-    let (rows, _) = place[16..size as usize].as_chunks_mut::<E>();
+    let (rows, _) = out[16..size as usize].as_chunks_mut::<E>();
     for (row, entry) in rows.iter_mut().zip(&table.entries) {
         put(row, entry);
     }
     size as usize
 }
 
-fn put_options(place: &mut [u8], options: &[Option<u32>], mut at: usize) {
+fn put_options(out: &mut [u8], options: &[Option<u32>], mut at: usize) {
     for number in options.iter().flatten() {
-        put_u32(place, at, *number);
+        put_u32(out, at, *number);
         at += 4;
     }
 }
 
-fn put_columns<const E: usize>(place: &mut [u8], run: &TrunBox) {
-    let (rows, _) = place.as_chunks_mut::<E>();
+fn put_columns<const E: usize>(out: &mut [u8], run: &TrunBox) {
+    let (rows, _) = out.as_chunks_mut::<E>();
     let mut at = 0;
     for (flag, column) in run.columns() {
         if run.flags & flag != 0 {
@@ -300,8 +300,8 @@ fn put_columns<const E: usize>(place: &mut [u8], run: &TrunBox) {
 }
 
 /// All four lists at once.
-fn put_full_rows(place: &mut [u8], run: &TrunBox) {
-    let (rows, _) = place.as_chunks_mut::<16>();
+fn put_full_rows(out: &mut [u8], run: &TrunBox) {
+    let (rows, _) = out.as_chunks_mut::<16>();
     let first = run.sample_durations.iter().zip(&run.sample_sizes);
     let last = run.sample_flags.iter().zip(&run.sample_cts);
     for (row, ((duration, size), (flags, cts))) in rows.iter_mut().zip(first.zip(last)) {
@@ -312,34 +312,34 @@ fn put_full_rows(place: &mut [u8], run: &TrunBox) {
     }
 }
 
-fn put_trun(place: &mut [u8], run: &TrunBox) -> usize {
+fn put_trun(out: &mut [u8], run: &TrunBox) -> usize {
     let size = run.size();
-    put_head(place, size, TRUN, run.version, run.flags, run.sample_count);
+    put_head(out, size, TRUN, run.version, run.flags, run.sample_count);
     put_options(
-        place,
+        out,
         &[
             run.data_offset.map(|offset| offset as u32),
             run.first_sample_flags,
         ],
         16,
     );
-    let place = &mut place[run.head()..size as usize];
+    let out = &mut out[run.head()..size as usize];
     match run.row() {
         0 => {}
-        4 => put_columns::<4>(place, run),
-        8 => put_columns::<8>(place, run),
-        12 => put_columns::<12>(place, run),
-        _ => put_full_rows(place, run),
+        4 => put_columns::<4>(out, run),
+        8 => put_columns::<8>(out, run),
+        12 => put_columns::<12>(out, run),
+        _ => put_full_rows(out, run),
     }
     size as usize
 }
 
-fn put_tfhd(place: &mut [u8], b: &TfhdBox) -> usize {
+fn put_tfhd(out: &mut [u8], b: &TfhdBox) -> usize {
     let size = b.size();
-    put_head(place, size, TFHD, b.version, b.flags, b.track_id);
+    put_head(out, size, TFHD, b.version, b.flags, b.track_id);
     let mut at = 16;
     if let Some(offset) = b.base_data_offset {
-        put_u64(place, at, offset);
+        put_u64(out, at, offset);
         at += 8;
     }
     let options = [
@@ -348,25 +348,25 @@ fn put_tfhd(place: &mut [u8], b: &TfhdBox) -> usize {
         b.default_sample_size,
         b.default_sample_flags,
     ];
-    put_options(place, &options, at);
+    put_options(out, &options, at);
     size as usize
 }
 
-fn put_tfdt(place: &mut [u8], b: &TfdtBox) -> usize {
+fn put_tfdt(out: &mut [u8], b: &TfdtBox) -> usize {
     if b.version == 1 {
         put_head(
-            place,
+            out,
             20,
             TFDT,
             b.version,
             b.flags,
             (b.base_media_decode_time >> 32) as u32,
         );
-        put_u32(place, 16, b.base_media_decode_time as u32);
+        put_u32(out, 16, b.base_media_decode_time as u32);
         20
     } else {
         put_head(
-            place,
+            out,
             16,
             TFDT,
             b.version,
@@ -377,44 +377,44 @@ fn put_tfdt(place: &mut [u8], b: &TfdtBox) -> usize {
     }
 }
 
-fn put_stsz(place: &mut [u8], b: &StszBox) -> usize {
+fn put_stsz(out: &mut [u8], b: &StszBox) -> usize {
     let size = 20 + 4 * b.sample_sizes.len();
-    put_head(place, size as u64, STSZ, b.version, b.flags, b.sample_size);
-    put_u32(place, 16, b.sample_count);
-    let (rows, _) = place[20..size].as_chunks_mut::<4>();
+    put_head(out, size as u64, STSZ, b.version, b.flags, b.sample_size);
+    put_u32(out, 16, b.sample_count);
+    let (rows, _) = out[20..size].as_chunks_mut::<4>();
     for (row, size) in rows.iter_mut().zip(&b.sample_sizes) {
         *row = size.to_be_bytes();
     }
     size
 }
 
-/// Puts a box at the front of a place, and answers its size.
-fn put_box(place: &mut [u8], value: &AnyBox) -> usize {
+/// Puts a box at the front of a slice, and returns its size.
+fn put_box(out: &mut [u8], value: &AnyBox) -> usize {
     match value {
         AnyBox::Mfhd(b) => {
-            put_head(place, 16, MFHD, b.version, b.flags, b.sequence_number);
+            put_head(out, 16, MFHD, b.version, b.flags, b.sequence_number);
             16
         }
-        AnyBox::Tfhd(b) => put_tfhd(place, b),
-        AnyBox::Tfdt(b) => put_tfdt(place, b),
-        AnyBox::Trun(b) => put_trun(place, b),
-        AnyBox::Stsz(b) => put_stsz(place, b),
-        AnyBox::Stco(b) => put_table(place, STCO, b, |row, offset| {
+        AnyBox::Tfhd(b) => put_tfhd(out, b),
+        AnyBox::Tfdt(b) => put_tfdt(out, b),
+        AnyBox::Trun(b) => put_trun(out, b),
+        AnyBox::Stsz(b) => put_stsz(out, b),
+        AnyBox::Stco(b) => put_table(out, STCO, b, |row, offset| {
             *row = u32::to_be_bytes(*offset)
         }),
-        AnyBox::Co64(b) => put_table(place, CO64, b, |row, offset| {
+        AnyBox::Co64(b) => put_table(out, CO64, b, |row, offset| {
             *row = u64::to_be_bytes(*offset)
         }),
-        AnyBox::Stsc(b) => put_table(place, STSC, b, |row: &mut [u8; 12], entry| {
+        AnyBox::Stsc(b) => put_table(out, STSC, b, |row: &mut [u8; 12], entry| {
             put_u32(row, 0, entry.first_chunk);
             put_u32(row, 4, entry.samples_per_chunk);
             put_u32(row, 8, entry.sample_description_index);
         }),
-        AnyBox::Stts(b) => put_table(place, STTS, b, |row: &mut [u8; 8], entry| {
+        AnyBox::Stts(b) => put_table(out, STTS, b, |row: &mut [u8; 8], entry| {
             put_u32(row, 0, entry.sample_count);
             put_u32(row, 4, entry.sample_delta);
         }),
-        AnyBox::Ctts(b) => put_table(place, CTTS, b, |row: &mut [u8; 8], entry| {
+        AnyBox::Ctts(b) => put_table(out, CTTS, b, |row: &mut [u8; 8], entry| {
             put_u32(row, 0, entry.sample_count);
             put_u32(row, 4, entry.sample_offset as u32);
         }),

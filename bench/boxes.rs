@@ -133,7 +133,7 @@ impl TfhdBox {
             + width(self.default_sample_flags.is_some(), 4)
     }
 
-    /// An option stands exactly where its flag is set.
+    /// An option is present exactly if its flag is set.
     pub fn is_writable(&self) -> bool {
         let has = |flag: u32| self.flags & flag != 0;
         self.flags < 1 << 24

@@ -14,7 +14,7 @@ use streams::{streams, Kind, Stream};
 extern "C" {
     fn mp4_read(bytes: *const u8, len: usize, times: u64) -> u64;
     fn mp4_write(bytes: *const u8, len: usize, times: u64) -> u64;
-    fn mp4_rewrite(bytes: *const u8, len: usize, place: *mut u8, room: usize) -> u64;
+    fn mp4_rewrite(bytes: *const u8, len: usize, out: *mut u8, room: usize) -> u64;
 }
 
 const ROUNDS: usize = 61;
@@ -55,11 +55,11 @@ fn codec_write(bytes: &[u8], times: u64) -> u64 {
 
 /// What the codec writes of what it reads.
 fn codec_rewrite(bytes: &[u8]) -> Vec<u8> {
-    let mut place = vec![0; bytes.len()];
-    let len = unsafe { mp4_rewrite(bytes.as_ptr(), bytes.len(), place.as_mut_ptr(), place.len()) };
+    let mut out = vec![0; bytes.len()];
+    let len = unsafe { mp4_rewrite(bytes.as_ptr(), bytes.len(), out.as_mut_ptr(), out.len()) };
     assert_ne!(len, u64::MAX, "the codec refuses the stream");
-    place.truncate(len as usize);
-    place
+    out.truncate(len as usize);
+    out
 }
 
 /// All ways have to agree on the stream before any of them is timed.

@@ -354,7 +354,7 @@ fn put_box<W: Write>(writer: &mut W, value: &AnyBox) -> Result<()> {
     }
 }
 
-/// The boxes one behind the other, each tested before it is written.
+/// The boxes one after the other, each checked before it is written.
 pub fn write_boxes(boxes: &[AnyBox]) -> Result<Vec<u8>> {
     let mut out = Vec::new();
     for value in boxes {

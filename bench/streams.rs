@@ -33,7 +33,7 @@ fn put_u32(bytes: &mut Vec<u8>, number: u32) {
     bytes.extend(number.to_be_bytes());
 }
 
-/// A box of a version and flags, with the content behind them.
+/// A box of a version and flags, with the content after them.
 fn put_box(bytes: &mut Vec<u8>, code: u32, version: u8, flags: u32, content: &[u32]) {
     put_u32(bytes, 12 + 4 * content.len() as u32);
     put_u32(bytes, code);
