@@ -28,7 +28,7 @@ impl Head {
     pub fn at(bytes: &[u8], at: u64) -> Result<Head>
         ensures value { Answers result (head bytes.now at) }
         ensures fault { FaultAs result (head bytes.now at).outcome }
-        ensures behind { IfOk result (λ h. h.start + 8 ≡ at + header_length bytes.now at) }
+        ensures after { IfOk result (λ h. h.start + 8 ≡ at + header_length bytes.now at) }
         ensures room { IfOk result (λ h. (at ≤ h.start) × (h.start + 8 ≤ length bytes.now)) }
     {
         let offset = at as usize;
