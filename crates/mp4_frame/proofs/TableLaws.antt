@@ -17,11 +17,11 @@ pub record IsEntry {X : Type 0} (row_of : X → List ℕ) (entry_of : List ℕ �
   pub fits : (row : List ℕ) → IsRow e row → Fits (entry_of row)
 
 -- a number of w bytes as an entry
-pub number_entry : (w : ℕ) → IsEntry (λ n. be_bytes w n) (λ row. number row 0 w) (λ n. n < 256 ^ w) w
+pub number_entry : (w : ℕ) → IsEntry (λ n. be_bytes w n) (λ entry. number entry 0 w) (λ n. n < 256 ^ w) w
 number_entry w = record {
   long = λ n fits. length-be_bytes w n;
-  back = λ n fits. ap (λ (row : List ℕ). number row 0 w) (sym (append-nil (be_bytes w n))) ∙ number-be_bytes w n [] fits;
-  fits = λ row is. number-below row 0 w is.are;
+  back = λ n fits. ap (λ (entry : List ℕ). number entry 0 w) (sym (append-nil (be_bytes w n))) ∙ number-be_bytes w n [] fits;
+  fits = λ entry is. number-below entry 0 w is.are;
 }
 
 -- the fields of a box of one table

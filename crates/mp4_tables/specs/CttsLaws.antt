@@ -15,7 +15,7 @@ ctts_entry : IsEntry row_ctts entry_ctts FitsCttsEntry 8
 ctts_entry = record {
   long = λ e fits. length-fields (fields_ctts_entry e);
   back = λ e fits. fields_back value_ctts_entry (fields_ctts_entry e) e fits.0 (ap (λ (z : ℤ). record e { sample_offset = z }) (back32 e.sample_offset fits.1));
-  fits = λ row is. (fits_read row is.are (Number 0 4 ∷ Signed32 4 ∷ []), signed32 row 4 is.are);
+  fits = λ entry is. (fits_read entry is.are (Number 0 4 ∷ Signed32 4 ∷ []), signed32 entry 4 is.are);
 }
 
 pub laws_ctts : IsBox reads_ctts format_ctts
