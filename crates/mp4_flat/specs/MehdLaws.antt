@@ -1,12 +1,13 @@
 -- The laws of mehd, whose time has two widths.
-use Rattle.std.proofs.Common.{◌<◌, ◌^◌, [], ◌∷◌, refl, subst, lit<, lit≤, arith}
+use Rattle.std.proofs.Common.{◌<◌, ◌^◌, [], ◌∷◌, refl, subst, lit<, lit≤, arith, ℕ, List}
 use Rattle.mp4_frame.specs.Format.{IsBox}
 use Rattle.mp4_frame.specs.Bytes.{number}
 use Rattle.mp4_frame.proofs.Framing.{own_normal_form, header_of_fields, fits_read, Number}
 use Rattle.mp4_flat.specs.Time.{time_width}
-use Rattle.mp4_flat.specs.TimeLaws.{timed_size-known, timed_back, timed_is}
+use Rattle.mp4_flat.specs.TimeLaws.{timed_size-known, timed_back, timed_is, timed_takes_none}
 use Rattle.mp4_flat.specs.Mehd.{value_mehd, reads_mehd, size_mehd, fields_mehd, WritableMehd, bytes_mehd, format_mehd}
 use Rattle.mp4_flat.specs.declared.mehd.MehdBox.{MehdBox}
+use Rattle.mp4_frame.specs.Reading.{TakesNone}
 
 pub laws_mehd : IsBox reads_mehd format_mehd
 unfolding bytes_mehd reads_mehd
@@ -19,3 +20,8 @@ laws_mehd = record {
       let t = time_width (number bytes 8 1) in
       (refl, subst (λ (x : MehdBox). size_mehd x < 2 ^ 32 → WritableMehd x) is.1 (λ small. record { known = is.0; fit = (small, (lit< tt, fits_read bytes are (Number 8 1 ∷ Number 9 3 ∷ Number 12 t ∷ []))) }));
 }
+
+-- reading it takes no memory
+pub mehd_takes_none : (bytes : List ℕ) (start size : ℕ) → TakesNone (reads_mehd bytes start size)
+unfolding reads_mehd
+mehd_takes_none bytes start size = timed_takes_none (λ t. t) value_mehd bytes

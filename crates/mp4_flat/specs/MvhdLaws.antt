@@ -1,14 +1,15 @@
 -- The laws of mvhd, whose times have two widths.
-use Rattle.std.proofs.Common.{ℕ, ◌+◌, ◌*◌, ◌<◌, ◌^◌, [], ◌∷◌, ◌++◌, refl, ap, subst, lit<, lit≤, arith}
+use Rattle.std.proofs.Common.{ℕ, ◌+◌, ◌*◌, ◌<◌, ◌^◌, [], ◌∷◌, ◌++◌, refl, ap, subst, lit<, lit≤, arith, List}
 use Rattle.mp4_frame.specs.Format.{IsBox}
 use Rattle.mp4_frame.specs.Bytes.{number}
 use Rattle.mp4_frame.proofs.Framing.{own_normal_form, header_of_fields, fits_read, Number, Fitting}
 use Rattle.mp4_flat.specs.MatrixLaws.{matrix_back, origins_matrix, matrix_read}
 use Rattle.mp4_flat.specs.Time.{time_width}
-use Rattle.mp4_flat.specs.TimeLaws.{timed_size-known, timed_back, timed_is}
+use Rattle.mp4_flat.specs.TimeLaws.{timed_size-known, timed_back, timed_is, timed_takes_none}
 use Rattle.mp4_flat.specs.Mvhd.{value_mvhd, reads_mvhd, size_mvhd, fields_mvhd, WritableMvhd, bytes_mvhd, format_mvhd}
 use Rattle.mp4_flat.specs.declared.matrix.Matrix.{Matrix}
 use Rattle.mp4_flat.specs.declared.mvhd.MvhdBox.{MvhdBox}
+use Rattle.mp4_frame.specs.Reading.{TakesNone}
 
 pub laws_mvhd : IsBox reads_mvhd format_mvhd
 unfolding bytes_mvhd reads_mvhd
@@ -26,3 +27,8 @@ laws_mvhd = record {
       ∷ Number (16 + 3 * t) 4 ∷ Number (20 + 3 * t) 2 ∷ Fitting 10 0 (lit< tt) ∷ origins_matrix (32 + 3 * t) ++ Fitting 24 0 (lit< tt) ∷ Number (92 + 3 * t) 4 ∷ []) in
       (refl, subst (λ (x : MvhdBox). size_mvhd x < 2 ^ 32 → WritableMvhd x) is.1 (λ small. (record { known = is.0; fit = (small, (lit< tt, fits)) }, matrix_read bytes (32 + 3 * t) are)));
 }
+
+-- reading it takes no memory
+pub mvhd_takes_none : (bytes : List ℕ) (start size : ℕ) → TakesNone (reads_mvhd bytes start size)
+unfolding reads_mvhd
+mvhd_takes_none bytes start size = timed_takes_none (λ t. 84 + 3 * t) value_mvhd bytes

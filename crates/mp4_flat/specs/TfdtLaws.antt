@@ -1,12 +1,13 @@
 -- The laws of tfdt, whose time has two widths.
-use Rattle.std.proofs.Common.{◌<◌, ◌^◌, [], ◌∷◌, refl, subst, lit<, lit≤, arith}
+use Rattle.std.proofs.Common.{◌<◌, ◌^◌, [], ◌∷◌, refl, subst, lit<, lit≤, arith, ℕ, List}
 use Rattle.mp4_frame.specs.Format.{IsBox}
 use Rattle.mp4_frame.specs.Bytes.{number}
 use Rattle.mp4_frame.proofs.Framing.{own_normal_form, header_of_fields, fits_read, Number}
 use Rattle.mp4_flat.specs.Time.{time_width}
-use Rattle.mp4_flat.specs.TimeLaws.{timed_back, timed_is}
+use Rattle.mp4_flat.specs.TimeLaws.{timed_back, timed_is, timed_takes_none}
 use Rattle.mp4_flat.specs.Tfdt.{value_tfdt, reads_tfdt, size_tfdt, fields_tfdt, WritableTfdt, bytes_tfdt, format_tfdt}
 use Rattle.mp4_flat.specs.declared.tfdt.TfdtBox.{TfdtBox}
+use Rattle.mp4_frame.specs.Reading.{TakesNone}
 
 pub laws_tfdt : IsBox reads_tfdt format_tfdt
 unfolding bytes_tfdt reads_tfdt
@@ -19,3 +20,8 @@ laws_tfdt = record {
       let t = time_width (number bytes 8 1) in
       (refl, subst (λ (x : TfdtBox). size_tfdt x < 2 ^ 32 → WritableTfdt x) is.1 (λ small. record { known = is.0; fit = (small, (lit< tt, fits_read bytes are (Number 8 1 ∷ Number 9 3 ∷ Number 12 t ∷ []))) }));
 }
+
+-- reading it takes no memory
+pub tfdt_takes_none : (bytes : List ℕ) (start size : ℕ) → TakesNone (reads_tfdt bytes start size)
+unfolding reads_tfdt
+tfdt_takes_none bytes start size = timed_takes_none (λ t. t) value_tfdt bytes

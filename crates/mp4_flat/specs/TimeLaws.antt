@@ -1,8 +1,11 @@
 -- The laws of boxes with times, which have two versions.
 use Rattle.std.proofs.Common.{◌≡◌, ℕ, zero, suc, ◌+◌, ◌<◌, ◌≤◌, ltb, List, ◌++◌, Ok, refl, arith}
 use Rattle.std.proofs.lemmas.Bool.{lt-ltb, ltb-true}
+use Rattle.std.specs.Prelude.{nat_lt}
 use Rattle.mp4_frame.specs.Bytes.{number, bytes_of_fields, width_of_fields}
 use Rattle.mp4_frame.proofs.Fields.{found}
+use Rattle.mp4_frame.specs.Reading.{TakesNone, expect_bytes, check}
+use Rattle.mp4_frame.proofs.NoMemory.{bind_takes_none, expect_bytes_takes_none, check_takes_none, fields_take_none}
 use Rattle.mp4_frame.proofs.Rows.{by_version_again, by_version_is}
 use Rattle.mp4_flat.specs.Time.{time_width, timed_size, reads_timed, WritableTimed}
 
@@ -31,3 +34,9 @@ pub timed_is : {V : Type 0} (more : ℕ → ℕ) (value : ℕ → (ℕ → ℕ �
 timed_is more value bytes v e =
     let is = by_version_is (λ k. ltb k 2) (λ k. more (time_width k)) (λ k. value (time_width k)) bytes v e in
     (ltb-true (number bytes 8 1) 2 is.0, is.1)
+
+-- reading it takes no memory
+pub timed_takes_none : {V : Type 0} (more : ℕ → ℕ) (value : ℕ → (ℕ → ℕ → ℕ) → V) (bytes : List ℕ) → TakesNone (reads_timed more value bytes)
+timed_takes_none more value bytes =
+    let version = number bytes 8 1 in
+    bind_takes_none (expect_bytes bytes 8 4) _ (expect_bytes_takes_none bytes 8 4) (λ _. bind_takes_none (check (nat_lt version 2)) _ (check_takes_none (nat_lt version 2)) (λ _. fields_take_none bytes 12 (more (time_width version)) (value (time_width version) (number bytes))))

@@ -1,14 +1,15 @@
 -- The laws of tkhd, whose times have two widths.
-use Rattle.std.proofs.Common.{ℕ, ◌+◌, ◌*◌, ◌<◌, ◌^◌, [], ◌∷◌, ◌++◌, refl, ap, subst, lit<, lit≤, arith}
+use Rattle.std.proofs.Common.{ℕ, ◌+◌, ◌*◌, ◌<◌, ◌^◌, [], ◌∷◌, ◌++◌, refl, ap, subst, lit<, lit≤, arith, List}
 use Rattle.mp4_frame.specs.Format.{IsBox}
 use Rattle.mp4_frame.specs.Bytes.{number}
 use Rattle.mp4_frame.proofs.Framing.{own_normal_form, header_of_fields, fits_read, Number, Fitting}
 use Rattle.mp4_flat.specs.MatrixLaws.{matrix_back, origins_matrix, matrix_read}
 use Rattle.mp4_flat.specs.Time.{time_width}
-use Rattle.mp4_flat.specs.TimeLaws.{timed_size-known, timed_back, timed_is}
+use Rattle.mp4_flat.specs.TimeLaws.{timed_size-known, timed_back, timed_is, timed_takes_none}
 use Rattle.mp4_flat.specs.Tkhd.{value_tkhd, reads_tkhd, size_tkhd, fields_tkhd, WritableTkhd, bytes_tkhd, format_tkhd}
 use Rattle.mp4_flat.specs.declared.matrix.Matrix.{Matrix}
 use Rattle.mp4_flat.specs.declared.tkhd.TkhdBox.{TkhdBox}
+use Rattle.mp4_frame.specs.Reading.{TakesNone}
 
 pub laws_tkhd : IsBox reads_tkhd format_tkhd
 unfolding bytes_tkhd reads_tkhd
@@ -27,3 +28,8 @@ laws_tkhd = record {
       ∷ origins_matrix (36 + 3 * t) ++ Number (72 + 3 * t) 4 ∷ Number (76 + 3 * t) 4 ∷ []) in
       (refl, subst (λ (x : TkhdBox). size_tkhd x < 2 ^ 32 → WritableTkhd x) is.1 (λ small. (record { known = is.0; fit = (small, (lit< tt, fits)) }, matrix_read bytes (36 + 3 * t) are)));
 }
+
+-- reading it takes no memory
+pub tkhd_takes_none : (bytes : List ℕ) (start size : ℕ) → TakesNone (reads_tkhd bytes start size)
+unfolding reads_tkhd
+tkhd_takes_none bytes start size = timed_takes_none (λ t. 68 + 3 * t) value_tkhd bytes

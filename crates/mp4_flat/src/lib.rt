@@ -2,6 +2,7 @@
 #![tactic(auto)]
 
 mod language;
+pub mod laws;
 mod matrix;
 mod mdhd;
 mod mehd;

@@ -98,6 +98,8 @@ impl Mp4Box for MdhdBox {
 impl ReadBox for MdhdBox {
     ghost reads = { reads_mdhd };
 
+    const LEAST: u64 = 0;
+
     #[tactic(auto, unfolding(crate::specs::Mdhd::reads_mdhd))]
     fn read_content(alloc: Global, bytes: &[u8], _start: u64, _size: u64) -> Result<MdhdBox> {
         let version = version_of_times(bytes)?;

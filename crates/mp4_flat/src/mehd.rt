@@ -4,12 +4,12 @@ ghost use Rattle.std.specs.Prelude.{◌≡◌};
 ghost use Rattle.mp4_frame.specs.declared.box_type.BoxType.TheVariants as names;
 ghost use Rattle.mp4_frame.specs.Format.{write_laws};
 ghost use Rattle.mp4_flat.specs.Mehd.{size_mehd, reads_mehd, format_mehd};
-ghost use Rattle.mp4_flat.specs.MehdLaws.{laws_mehd};
+ghost use Rattle.mp4_flat.specs.MehdLaws.{laws_mehd, mehd_takes_none};
 
 use crate::time::{put_time, time_at, time_fits, version_of_times, width_of_time};
 use mp4_frame::{
-    BoxLaws, BoxType, Mp4Box, ReadBox, Result, TryClone, WriteBox, codes, expect_bytes,
-    put_full_box, u24_at,
+    BoxLaws, BoxType, Mp4Box, ReadBox, ReadsWithoutMemory, Result, TryClone, WriteBox, codes,
+    expect_bytes, put_full_box, u24_at,
 };
 use std::alloc::Global;
 
@@ -65,6 +65,8 @@ impl Mp4Box for MehdBox {
 impl ReadBox for MehdBox {
     ghost reads = { reads_mehd };
 
+    const LEAST: u64 = 0;
+
     #[tactic(auto, unfolding(crate::specs::Mehd::reads_mehd))]
     fn read_content(_alloc: Global, bytes: &[u8], _start: u64, _size: u64) -> Result<MehdBox> {
         let version = version_of_times(bytes)?;
@@ -75,6 +77,10 @@ impl ReadBox for MehdBox {
             fragment_duration: time_at(bytes, 12, version),
         })
     }
+}
+
+impl ReadsWithoutMemory for MehdBox {
+    ghost takes_none = { mehd_takes_none };
 }
 
 impl WriteBox for MehdBox {

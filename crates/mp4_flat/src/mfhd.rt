@@ -4,11 +4,11 @@ ghost use Rattle.std.specs.Prelude.{◌≡◌};
 ghost use Rattle.mp4_frame.specs.declared.box_type.BoxType.TheVariants as names;
 ghost use Rattle.mp4_frame.specs.Format.{write_laws};
 ghost use Rattle.mp4_flat.specs.Mfhd.{size_mfhd, reads_mfhd, format_mfhd};
-ghost use Rattle.mp4_flat.specs.MfhdLaws.{laws_mfhd};
+ghost use Rattle.mp4_flat.specs.MfhdLaws.{laws_mfhd, mfhd_takes_none};
 
 use mp4_frame::{
-    BoxLaws, BoxType, Mp4Box, ReadBox, Result, TryClone, WriteBox, codes, expect_bytes,
-    put_full_box, put_u32, u8_at, u24_at, u32_at,
+    BoxLaws, BoxType, Mp4Box, ReadBox, ReadsWithoutMemory, Result, TryClone, WriteBox, codes,
+    expect_bytes, put_full_box, put_u32, u8_at, u24_at, u32_at,
 };
 use std::alloc::Global;
 
@@ -72,6 +72,8 @@ impl Mp4Box for MfhdBox {
 impl ReadBox for MfhdBox {
     ghost reads = { reads_mfhd };
 
+    const LEAST: u64 = 0;
+
     #[tactic(auto, unfolding(crate::specs::Mfhd::reads_mfhd))]
     fn read_content(_alloc: Global, bytes: &[u8], _start: u64, _size: u64) -> Result<MfhdBox> {
         expect_bytes(bytes, 8, 8)?;
@@ -81,6 +83,10 @@ impl ReadBox for MfhdBox {
             sequence_number: u32_at(bytes, 12),
         })
     }
+}
+
+impl ReadsWithoutMemory for MfhdBox {
+    ghost takes_none = { mfhd_takes_none };
 }
 
 impl WriteBox for MfhdBox {

@@ -4,13 +4,13 @@ ghost use Rattle.std.specs.Prelude.{◌≡◌, ◌↔◌, IsTrue};
 ghost use Rattle.mp4_frame.specs.declared.box_type.BoxType.TheVariants as names;
 ghost use Rattle.mp4_frame.specs.Format.{write_laws};
 ghost use Rattle.mp4_flat.specs.Mvhd.{size_mvhd, WritableMvhd, reads_mvhd, format_mvhd};
-ghost use Rattle.mp4_flat.specs.MvhdLaws.{laws_mvhd};
+ghost use Rattle.mp4_flat.specs.MvhdLaws.{laws_mvhd, mvhd_takes_none};
 
 use crate::matrix::{Matrix, is_matrix, matrix_from, put_matrix};
 use crate::time::{put_time, time_at, time_fits, version_of_times, width_of_time};
 use mp4_frame::{
-    BoxLaws, BoxType, Mp4Box, ReadBox, Result, TryClone, WriteBox, codes, expect_bytes,
-    put_full_box, put_u16, put_u32, put_zeros, u16_at, u24_at, u32_at,
+    BoxLaws, BoxType, Mp4Box, ReadBox, ReadsWithoutMemory, Result, TryClone, WriteBox, codes,
+    expect_bytes, put_full_box, put_u16, put_u32, put_zeros, u16_at, u24_at, u32_at,
 };
 use mp4_media::{FixedPointU8, FixedPointU16};
 use std::alloc::Global;
@@ -102,6 +102,8 @@ impl Mp4Box for MvhdBox {
 impl ReadBox for MvhdBox {
     ghost reads = { reads_mvhd };
 
+    const LEAST: u64 = 0;
+
     #[tactic(auto, unfolding(crate::specs::Mvhd::reads_mvhd))]
     fn read_content(_alloc: Global, bytes: &[u8], _start: u64, _size: u64) -> Result<MvhdBox> {
         let version = version_of_times(bytes)?;
@@ -142,6 +144,10 @@ fn fits(
         && time_fits(version, times.1)
         && time_fits(version, times.2)
         && is_matrix(matrix)
+}
+
+impl ReadsWithoutMemory for MvhdBox {
+    ghost takes_none = { mvhd_takes_none };
 }
 
 impl WriteBox for MvhdBox {

@@ -4,11 +4,11 @@ ghost use Rattle.std.specs.Prelude.{◌≡◌, pos};
 ghost use Rattle.mp4_frame.specs.declared.box_type.BoxType.TheVariants as names;
 ghost use Rattle.mp4_frame.specs.Format.{write_laws};
 ghost use Rattle.mp4_flat.specs.Smhd.{size_smhd, reads_smhd, format_smhd};
-ghost use Rattle.mp4_flat.specs.SmhdLaws.{laws_smhd};
+ghost use Rattle.mp4_flat.specs.SmhdLaws.{laws_smhd, smhd_takes_none};
 
 use mp4_frame::{
-    BoxLaws, BoxType, Mp4Box, ReadBox, Result, TryClone, WriteBox, codes, expect_bytes, i16_at,
-    put_full_box, put_i16, put_zeros, u8_at, u24_at,
+    BoxLaws, BoxType, Mp4Box, ReadBox, ReadsWithoutMemory, Result, TryClone, WriteBox, codes,
+    expect_bytes, i16_at, put_full_box, put_i16, put_zeros, u8_at, u24_at,
 };
 use mp4_media::FixedPointI8;
 use std::alloc::Global;
@@ -73,6 +73,8 @@ impl Mp4Box for SmhdBox {
 impl ReadBox for SmhdBox {
     ghost reads = { reads_smhd };
 
+    const LEAST: u64 = 0;
+
     #[tactic(auto, unfolding(crate::specs::Smhd::reads_smhd))]
     fn read_content(_alloc: Global, bytes: &[u8], _start: u64, _size: u64) -> Result<SmhdBox> {
         expect_bytes(bytes, 8, 6)?;
@@ -82,6 +84,10 @@ impl ReadBox for SmhdBox {
             balance: FixedPointI8::new_raw(i16_at(bytes, 12)),
         })
     }
+}
+
+impl ReadsWithoutMemory for SmhdBox {
+    ghost takes_none = { smhd_takes_none };
 }
 
 impl WriteBox for SmhdBox {

@@ -4,12 +4,12 @@ ghost use Rattle.std.specs.Prelude.{◌≡◌};
 ghost use Rattle.mp4_frame.specs.declared.box_type.BoxType.TheVariants as names;
 ghost use Rattle.mp4_frame.specs.Format.{write_laws};
 ghost use Rattle.mp4_flat.specs.Tfdt.{size_tfdt, reads_tfdt, format_tfdt};
-ghost use Rattle.mp4_flat.specs.TfdtLaws.{laws_tfdt};
+ghost use Rattle.mp4_flat.specs.TfdtLaws.{laws_tfdt, tfdt_takes_none};
 
 use crate::time::{put_time, time_at, time_fits, version_of_times, width_of_time};
 use mp4_frame::{
-    BoxLaws, BoxType, Mp4Box, ReadBox, Result, TryClone, WriteBox, codes, expect_bytes,
-    put_full_box, u24_at,
+    BoxLaws, BoxType, Mp4Box, ReadBox, ReadsWithoutMemory, Result, TryClone, WriteBox, codes,
+    expect_bytes, put_full_box, u24_at,
 };
 use std::alloc::Global;
 
@@ -62,6 +62,8 @@ impl Mp4Box for TfdtBox {
 impl ReadBox for TfdtBox {
     ghost reads = { reads_tfdt };
 
+    const LEAST: u64 = 0;
+
     #[tactic(auto, unfolding(crate::specs::Tfdt::reads_tfdt))]
     fn read_content(_alloc: Global, bytes: &[u8], _start: u64, _size: u64) -> Result<TfdtBox> {
         let version = version_of_times(bytes)?;
@@ -72,6 +74,10 @@ impl ReadBox for TfdtBox {
             base_media_decode_time: time_at(bytes, 12, version),
         })
     }
+}
+
+impl ReadsWithoutMemory for TfdtBox {
+    ghost takes_none = { tfdt_takes_none };
 }
 
 impl WriteBox for TfdtBox {

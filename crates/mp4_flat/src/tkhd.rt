@@ -5,14 +5,14 @@ ghost use Rattle.mp4_frame.specs.declared.box_type.BoxType.TheVariants as names;
 ghost use Rattle.mp4_media.specs.FixedPoint.{scaled};
 ghost use Rattle.mp4_frame.specs.Format.{write_laws};
 ghost use Rattle.mp4_flat.specs.Tkhd.{size_tkhd, WritableTkhd, reads_tkhd, format_tkhd};
-ghost use Rattle.mp4_flat.specs.TkhdLaws.{laws_tkhd};
+ghost use Rattle.mp4_flat.specs.TkhdLaws.{laws_tkhd, tkhd_takes_none};
 
 use crate::matrix::{Matrix, is_matrix, matrix_from, put_matrix};
 use crate::time::{put_time, time_at, time_fits, version_of_times, width_of_time};
 use crate::track_flag::TrackFlag;
 use mp4_frame::{
-    BoxLaws, BoxType, Mp4Box, ReadBox, Result, TryClone, WriteBox, codes, expect_bytes,
-    put_full_box, put_u16, put_u32, put_zeros, u16_at, u24_at, u32_at,
+    BoxLaws, BoxType, Mp4Box, ReadBox, ReadsWithoutMemory, Result, TryClone, WriteBox, codes,
+    expect_bytes, put_full_box, put_u16, put_u32, put_zeros, u16_at, u24_at, u32_at,
 };
 use mp4_media::{FixedPointU8, FixedPointU16};
 use std::alloc::Global;
@@ -124,6 +124,8 @@ impl Mp4Box for TkhdBox {
 impl ReadBox for TkhdBox {
     ghost reads = { reads_tkhd };
 
+    const LEAST: u64 = 0;
+
     #[tactic(auto, unfolding(crate::specs::Tkhd::reads_tkhd))]
     fn read_content(_alloc: Global, bytes: &[u8], _start: u64, _size: u64) -> Result<TkhdBox> {
         let version = version_of_times(bytes)?;
@@ -167,6 +169,10 @@ fn fits(
         && time_fits(version, times.1)
         && time_fits(version, times.2)
         && is_matrix(matrix)
+}
+
+impl ReadsWithoutMemory for TkhdBox {
+    ghost takes_none = { tkhd_takes_none };
 }
 
 impl WriteBox for TkhdBox {

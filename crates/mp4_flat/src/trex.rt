@@ -4,11 +4,11 @@ ghost use Rattle.std.specs.Prelude.{◌≡◌};
 ghost use Rattle.mp4_frame.specs.declared.box_type.BoxType.TheVariants as names;
 ghost use Rattle.mp4_frame.specs.Format.{write_laws};
 ghost use Rattle.mp4_flat.specs.Trex.{size_trex, reads_trex, format_trex};
-ghost use Rattle.mp4_flat.specs.TrexLaws.{laws_trex};
+ghost use Rattle.mp4_flat.specs.TrexLaws.{laws_trex, trex_takes_none};
 
 use mp4_frame::{
-    BoxLaws, BoxType, Mp4Box, ReadBox, Result, TryClone, WriteBox, codes, expect_bytes,
-    put_full_box, put_u32, u8_at, u24_at, u32_at,
+    BoxLaws, BoxType, Mp4Box, ReadBox, ReadsWithoutMemory, Result, TryClone, WriteBox, codes,
+    expect_bytes, put_full_box, put_u32, u8_at, u24_at, u32_at,
 };
 use std::alloc::Global;
 
@@ -69,6 +69,8 @@ impl Mp4Box for TrexBox {
 impl ReadBox for TrexBox {
     ghost reads = { reads_trex };
 
+    const LEAST: u64 = 0;
+
     #[tactic(auto, unfolding(crate::specs::Trex::reads_trex))]
     fn read_content(_alloc: Global, bytes: &[u8], _start: u64, _size: u64) -> Result<TrexBox> {
         expect_bytes(bytes, 8, 24)?;
@@ -82,6 +84,10 @@ impl ReadBox for TrexBox {
             default_sample_flags: u32_at(bytes, 28),
         })
     }
+}
+
+impl ReadsWithoutMemory for TrexBox {
+    ghost takes_none = { trex_takes_none };
 }
 
 impl WriteBox for TrexBox {

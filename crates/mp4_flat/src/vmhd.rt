@@ -4,12 +4,12 @@ ghost use Rattle.std.specs.Prelude.{◌≡◌};
 ghost use Rattle.mp4_frame.specs.declared.box_type.BoxType.TheVariants as names;
 ghost use Rattle.mp4_frame.specs.Format.{write_laws};
 ghost use Rattle.mp4_flat.specs.Vmhd.{size_vmhd, reads_vmhd, format_vmhd};
-ghost use Rattle.mp4_flat.specs.VmhdLaws.{laws_vmhd};
+ghost use Rattle.mp4_flat.specs.VmhdLaws.{laws_vmhd, vmhd_takes_none};
 
 use crate::rgb_color::RgbColor;
 use mp4_frame::{
-    BoxLaws, BoxType, Mp4Box, ReadBox, Result, TryClone, WriteBox, codes, expect_bytes,
-    put_full_box, put_u16, u8_at, u16_at, u24_at,
+    BoxLaws, BoxType, Mp4Box, ReadBox, ReadsWithoutMemory, Result, TryClone, WriteBox, codes,
+    expect_bytes, put_full_box, put_u16, u8_at, u16_at, u24_at,
 };
 use std::alloc::Global;
 
@@ -63,6 +63,8 @@ impl Mp4Box for VmhdBox {
 impl ReadBox for VmhdBox {
     ghost reads = { reads_vmhd };
 
+    const LEAST: u64 = 0;
+
     #[tactic(auto, unfolding(crate::specs::Vmhd::reads_vmhd))]
     fn read_content(_alloc: Global, bytes: &[u8], _start: u64, _size: u64) -> Result<VmhdBox> {
         expect_bytes(bytes, 8, 12)?;
@@ -77,6 +79,10 @@ impl ReadBox for VmhdBox {
             },
         })
     }
+}
+
+impl ReadsWithoutMemory for VmhdBox {
+    ghost takes_none = { vmhd_takes_none };
 }
 
 impl WriteBox for VmhdBox {

@@ -1,11 +1,11 @@
 -- Laws of a box that follow from the laws of a child, which the box always has or may lack.
-use Rattle.std.proofs.Common.{◌≡◌, ℕ, zero, suc, ◌+◌, ◌-◌, ◌<◌, ◌≤◌, ◌^◌, Bool, true, false, cond, ◌&&◌, ◌||◌, List, [], ◌++◌, length, Result, Ok, Err, Option, Some, None, refl, sym, ap, subst, ◌∙◌, arith, lit<}
+use Rattle.std.proofs.Common.{◌≡◌, ℕ, zero, suc, ◌+◌, ◌<◌, ◌≤◌, ◌^◌, Bool, cond, ◌&&◌, List, [], ◌++◌, length, Result, Ok, Err, Option, Some, None, refl, sym, ap, subst, ◌∙◌, arith, lit<}
 use Rattle.std.proofs.lemmas.Bool.{leb-true, and_parts}
-use Rattle.std.specs.Prelude.{◌==◌, nat_le, nat_lt}
+use Rattle.std.specs.Prelude.{nat_le, nat_lt}
 use Rattle.mp4_frame.specs.BoxType.{code_of}
-use Rattle.mp4_frame.specs.Bytes.{number, bytes_of_fields}
+use Rattle.mp4_frame.specs.Bytes.{bytes_of_fields}
 use Rattle.mp4_frame.specs.Children.{child, child_if_named, last, children}
-use Rattle.mp4_frame.specs.Heads.{head, compact_head, large_head}
+use Rattle.mp4_frame.specs.Heads.{head}
 use Rattle.mp4_frame.specs.Format.{Format, IsBox}
 use Rattle.mp4_frame.specs.Laws.{AreBytes}
 use Rattle.mp4_frame.specs.Reading.{Reading, Fault, ◌>>=◌, and_then, also, check, done}
@@ -13,27 +13,10 @@ use Rattle.mp4_frame.specs.declared.head.Head.{Head}
 use Rattle.mp4_frame.proofs.Chains.{children_none, children_zero}
 use Rattle.mp4_frame.proofs.Children.{only_child, children_sound, ForSome}
 use Rattle.mp4_frame.proofs.Fields.{length-fields}
-use Rattle.mp4_frame.proofs.Checks.{expect_bytes_ok, check_ok, is_value}
+use Rattle.mp4_frame.proofs.Checks.{check_ok, is_value}
+use Rattle.mp4_frame.proofs.Heads.{head_room}
 use Rattle.mp4_frame.proofs.Tables.{value_first}
 use Rattle.mp4_frame.specs.OptionalChild.{count_optional, size_optional, WritableOptional, bytes_optional, normal_optional}
-
-abbrev compact : List ℕ → ℕ → Head
-compact bytes o = record { code = number bytes (o + 4) 4; size = number bytes o 4; start = o }
-
-abbrev large : List ℕ → ℕ → Head
-large bytes o = record { code = number bytes (o + 4) 4; size = number bytes (o + 8) 8 - 8; start = o + 8 }
-
-start_by : (bytes : List ℕ) (o : ℕ) (b : Bool) (h : Head) → (cond b (large_head bytes o) (compact_head bytes o)).outcome ≡ Ok h → o ≤ h.start
-start_by bytes o false h e = (let is : compact bytes o ≡ h = is_value (compact bytes o) h e in subst (λ (k : Head). o ≤ k.start) is (omega arith))
-start_by bytes o true h e =
-    let checked = (number bytes (o + 8) 8 == 0) || nat_le 16 (number bytes (o + 8) 8) in
-    let a = expect_bytes_ok bytes (o + 8) 8 (λ _. check checked >>= λ _. done (large bytes o)) h e in
-    let b = check_ok checked (λ _. done (large bytes o)) h a in
-    subst (λ (k : Head). o ≤ k.start) (is_value (large bytes o) h b.1) (omega arith)
-
-head_start : (bytes : List ℕ) (o : ℕ) (h : Head) → (head bytes o).outcome ≡ Ok h → o ≤ h.start
-unfolding head
-head_start bytes o h e = start_by bytes o (number bytes o 4 == 1) h (expect_bytes_ok bytes o 8 (λ _. cond (number bytes o 4 == 1) (large_head bytes o) (compact_head bytes o)) h e)
 
 -- a child ends at least 8 bytes after the offset where it begins
 child_end : (bytes : List ℕ) (start size o : ℕ) (c : Head) → (child bytes start size o).outcome ≡ Ok c → o + 8 ≤ c.start + c.size
@@ -45,7 +28,7 @@ child_end bytes start size o c e =
     let q = check_ok (small p.0) (λ _. ends p.0) c p.2 in
     let r = check_ok (nat_lt (start + p.0.start + p.0.size) (2 ^ 64)) (λ _. done p.0) c q.1 in
     let least : 8 ≤ p.0.size = leb-true 8 p.0.size (and_parts (nat_le 8 p.0.size) (nat_le p.0.size size) q.0).0 in
-    let first : o ≤ p.0.start = head_start bytes o p.0 p.1 in
+    let first : o ≤ p.0.start = (head_room bytes o p.0 p.1).0 in
     subst (λ (h : Head). o + 8 ≤ h.start + h.size) (is_value p.0 c r.1) (omega (arith, least, first))
 
 module _ {A : Type 0} (reads : List ℕ → ℕ → ℕ → Reading A) (code : ℕ) (bytes : List ℕ) (start size : ℕ) where

@@ -1,16 +1,15 @@
 -- A child that was written is read back.
-use Rattle.std.proofs.Common.{◌≡◌, ℕ, zero, suc, ◌+◌, ◌-◌, ◌<◌, ◌≤◌, ◌^◌, Bool, true, false, cond, eqb, ltb, leb, List, ◌++◌, length, drop, Ok, Some, None, Result, Option, refl, sym, ap, subst, ◌∙◌, arith, length-append}
+use Rattle.std.proofs.Common.{◌≡◌, ℕ, zero, suc, ◌+◌, ◌-◌, ◌<◌, ◌≤◌, ◌^◌, Bool, true, false, cond, eqb, ltb, leb, List, ◌++◌, length, drop, Ok, Some, None, Result, Option, refl, ap, subst, ◌∙◌, arith}
 use Rattle.std.specs.Prelude.{◌&&◌, ◌==◌, nat_le}
-use Rattle.std.proofs.lemmas.Bool.{le-leb, lt-ltb, ne_eqb, eq-eqb}
+use Rattle.std.proofs.lemmas.Bool.{le-leb, lt-ltb, eq-eqb}
 use Rattle.std.proofs.lemmas.List.{drop_at}
 use Rattle.mp4_frame.specs.Bytes.{number, bytes_of_fields, width_of_fields}
 use Rattle.mp4_frame.specs.Children.{child, child_if_named, last, children}
-use Rattle.mp4_frame.specs.Heads.{head}
 use Rattle.mp4_frame.specs.Reading.{Reading, Fault, ◌>>=◌, done}
 use Rattle.mp4_frame.specs.declared.head.Head.{Head}
 use Rattle.mp4_frame.proofs.Fields.{length-fields}
-use Rattle.mp4_frame.proofs.Numbers.{number-after, number-front}
-use Rattle.mp4_frame.proofs.Checks.{expect_bytes_present, is_value, are_bytes-drop}
+use Rattle.mp4_frame.proofs.Heads.{head_among}
+use Rattle.mp4_frame.proofs.Checks.{is_value, are_bytes-drop}
 use Rattle.mp4_frame.proofs.Tables.{value_first}
 use Rattle.mp4_frame.specs.Laws.{AreBytes}
 use Rattle.mp4_frame.proofs.Chains.{children_first, children_none}
@@ -26,33 +25,14 @@ and_true false b p q = p
 module _ {A : Type 0} (reads : List ℕ → ℕ → ℕ → Reading A) (code : ℕ) (cs : List (ℕ × ℕ)) (part rest : List ℕ) (start k m : ℕ) (v : A)
     (wide : width_of_fields cs ≡ k) (long : length part ≡ m) (least : 8 ≤ m) (most : m < 2 ^ 32) (top : start + (k + m) < 2 ^ 64)
     (size_first : number part 0 4 ≡ m) (code_next : number part 4 4 ≡ code) (back : (reads (part ++ rest) (start + k) m).outcome ≡ Ok v) where
-  at_front : (o : ℕ) → o + 4 ≤ 8 → number (bytes_of_fields cs ++ (part ++ rest)) (k + o) 4 ≡ number part o 4
-  at_front o le =
-      let lj : length (bytes_of_fields cs) ≡ k = length-fields cs ∙ wide in
-      let past : k ≤ k + o = omega arith in
-      let o2 : k + o - k ≡ o = omega arith in
-      let in_part : o + 4 ≤ length part = omega (arith, long) in
-      number-after (bytes_of_fields cs) (part ++ rest) k (k + o) 4 lj past ∙ ap (λ (j : ℕ). number (part ++ rest) j 4) o2 ∙ number-front part rest o 4 in_part
-
-  head_is : head (bytes_of_fields cs ++ (part ++ rest)) k ≡ done (record { code = code; size = m; start = k })
-  unfolding head
-  head_is =
-      let B = bytes_of_fields cs ++ (part ++ rest) in
-      let lj : length (bytes_of_fields cs) ≡ k = length-fields cs ∙ wide in
-      let present : k + 8 ≤ length B = omega (arith, length-append (bytes_of_fields cs) (part ++ rest), length-append part rest, lj, long) in
-      let zeroth : k + 0 ≡ k = omega arith in
-      let s : number B k 4 ≡ m = ap (λ (j : ℕ). number B j 4) (sym zeroth) ∙ at_front 0 (omega arith) ∙ size_first in
-      let n : number B (k + 4) 4 ≡ code = at_front 4 (omega arith) ∙ code_next in
-      let other : eqb m 1 ≡ false = ne_eqb m 1 (λ e. absurd (omega arith)) in
-      rw (expect_bytes_present B k 8 present, s, n, other) refl
-
   child_is : child (bytes_of_fields cs ++ (part ++ rest)) start (k + m) k ≡ done (record { code = code; size = m; start = k })
   unfolding child
   child_is =
       let a : leb 8 m ≡ true = le-leb 8 m least in
       let b : leb m (k + m) ≡ true = le-leb m (k + m) (omega arith) in
       let c : ltb (start + k + m) (2 ^ 64) ≡ true = lt-ltb (start + k + m) (2 ^ 64) (omega arith) in
-      rw (head_is, a, b, c) refl
+      let h = head_among (bytes_of_fields cs) part rest k m code (length-fields cs ∙ wide) long least size_first code_next in
+      rw (h, a, b, c) refl
 
   -- the only child, after fields, is read back
   pub only_child : (n : ℕ) → 0 < n → (children reads code (bytes_of_fields cs ++ (part ++ rest)) start (k + m) n k).outcome ≡ Ok (Some v)

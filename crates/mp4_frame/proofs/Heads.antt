@@ -1,5 +1,5 @@
 -- Heads and frames.
-use Rattle.std.proofs.Common.{◌≡◌, ℕ, ◌+◌, ◌<◌, ◌≤◌, ◌-◌, List, length, Result, Ok, Err, refl, ap, ◌∙◌, arith, Bool, true, false, cond, inl, inr}
+use Rattle.std.proofs.Common.{◌≡◌, ℕ, ◌+◌, ◌<◌, ◌≤◌, ◌-◌, List, ◌++◌, length, Result, Ok, Err, refl, ap, ◌∙◌, arith, length-append, eqb, Bool, true, false, cond, inl, inr}
 use Rattle.std.specs.Prelude.{nat_lt, ◌==◌, ◌⊎◌}
 use Rattle.std.proofs.lemmas.Bool.{lt-ltb, ltb-false, ne_eqb}
 use Rattle.mp4_frame.specs.Bytes.{number}
@@ -7,6 +7,7 @@ use Rattle.mp4_frame.specs.Heads.{head, compact_head, large_head}
 use Rattle.mp4_frame.specs.Reading.{Fault, End, Reading, check, done, ◌>>=◌}
 use Rattle.mp4_frame.specs.declared.head.Head.{Head}
 use Rattle.mp4_frame.proofs.Checks.{expect_bytes_present, guard_value, check_ok}
+use Rattle.mp4_frame.proofs.Numbers.{number-among}
 
 pub no_head : (B : List ℕ) (o : ℕ) → length B < o + 8 → (head B o).outcome ≡ Err End
 unfolding head
@@ -43,3 +44,17 @@ head_room B o c e =
           (let t : o ≡ c.start = start_is (record { code = number B (o + 4) 4; size = number B o 4; start = o }) c s in
           (omega (arith, t), omega (arith, t, room)))
     ]
+
+-- bytes that begin with a size and a code, after and before other bytes: their head
+pub head_among : (x part rest : List ℕ) (k m code : ℕ) → length x ≡ k → length part ≡ m → 8 ≤ m → number part 0 4 ≡ m → number part 4 4 ≡ code
+    → head (x ++ (part ++ rest)) k ≡ done (record { code = code; size = m; start = k })
+unfolding head
+head_among x part rest k m code front long least size_first code_next =
+    let B = x ++ (part ++ rest) in
+    let present : k + 8 ≤ length B = omega (arith, length-append x (part ++ rest), length-append part rest, front, long) in
+    let first : k ≡ length x + 0 = omega (arith, front) in
+    let next : k + 4 ≡ length x + 4 = omega (arith, front) in
+    let s : number B k 4 ≡ m = ap (λ (j : ℕ). number B j 4) first ∙ number-among x part rest 0 4 (omega (arith, long)) ∙ size_first in
+    let n : number B (k + 4) 4 ≡ code = ap (λ (j : ℕ). number B j 4) next ∙ number-among x part rest 4 4 (omega (arith, long)) ∙ code_next in
+    let other : eqb m 1 ≡ false = ne_eqb m 1 (λ e. absurd (omega arith)) in
+    rw (expect_bytes_present B k 8 present, s, n, other) refl

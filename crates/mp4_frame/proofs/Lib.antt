@@ -15,6 +15,10 @@ pub mod Decided
 pub mod Chains
 pub mod Children
 pub mod ChildLaws
+pub mod OneChildLaws
+pub mod ParentLaws
+pub mod NoMemory
 pub mod Rows
 pub mod Signed
 pub mod Framing
+pub mod Equality

@@ -1,5 +1,5 @@
 -- Reading boxes, one after the other.
-use Rattle.std.proofs.Common.{◌≡◌, ℕ, ◌+◌, ◌-◌, ◌<◌, ◌≤◌, Bool, true, false, List, [], ◌∷◌, ◌++◌, length, Result, Ok, Err, refl, sym, ap, subst, ◌∙◌, arith, append_assoc, length-append, inl, inr}
+use Rattle.std.proofs.Common.{◌≡◌, ℕ, ◌<◌, ◌≤◌, Bool, true, false, List, [], ◌∷◌, ◌++◌, length, Result, Ok, Err, refl, sym, ap, subst, ◌∙◌, arith, append_assoc, length-append, inl, inr}
 use Rattle.std.specs.Prelude.{nat_lt, ◌||◌, ◌⊎◌}
 use Rattle.std.proofs.lemmas.Bool.{lt-ltb}
 use Rattle.std.proofs.lemmas.List.{append-nil}
@@ -54,12 +54,6 @@ refuses_fault _ k total is t = absurd is
 
 long_enough : {A : Type 0} (front : List A) (v : A) → nat_lt 0 (length (front ++ v ∷ [])) ≡ true
 long_enough front v = lt-ltb 0 (length (front ++ v ∷ [])) (omega (arith, length-append front (v ∷ [])))
-
--- the reading at the position that the cursor was set to
-pub placed : {A : Type 0} (reading : BoxType → List ℕ → ℕ → ℕ → Reading A) (name : BoxType) (bs B : List ℕ) (p s size : ℕ) → bs ≡ B → p ≡ s + 8 → reading name bs (p - 8) size ≡ reading name B s size
-placed reading name bs B p s size same at =
-    let k : p - 8 ≡ s = omega arith in
-    rw (same, k) refl
 
 module _ {X : Type 0} (item : ℕ → Frame → Reading (List X)) (B : List ℕ) where
   -- a step over a frame whose items are read

@@ -23,6 +23,10 @@ pub record Normal {A : Type 0} (Writable : A → Type 0) (bytes : A → List ℕ
 abbrev pub ReadsBack : {A : Type 0} → (List ℕ → ℕ → ℕ → Reading A) → List ℕ → A → Type 0
 ReadsBack reading bytes v = (x y : List ℕ) → length x + length bytes < 2 ^ 64 → (reading (x ++ (bytes ++ y)) (length x) (length bytes)).outcome ≡ Ok v
 
+-- the same with no bytes after them
+abbrev pub ReadsBackAtEnd : {A : Type 0} → (List ℕ → ℕ → ℕ → Reading A) → List ℕ → A → Type 0
+ReadsBackAtEnd reading bytes v = (x : List ℕ) → length x + length bytes < 2 ^ 64 → (reading (x ++ bytes) (length x) (length bytes)).outcome ≡ Ok v
+
 -- the name is known, and is the name that its code is read as
 pub record OwnName (known : BoxType → Bool) (name : BoxType) : Type 0 where
   pub is_known : known name ≡ true

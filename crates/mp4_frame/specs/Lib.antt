@@ -2,6 +2,7 @@ pub mod Bytes
 pub mod Reading
 pub mod Written
 pub mod Laws
+pub mod Equality
 pub mod BoxType
 pub mod FourCC
 pub mod Text
@@ -10,6 +11,8 @@ pub mod Format
 pub mod Members
 pub mod Heads
 pub mod Children
+pub mod OneChild
 pub mod OptionalChild
+pub mod Parent
 pub mod Streams
 pub mod Tables

@@ -83,6 +83,15 @@ abbrev pub Answers : {A : Type 0} → Result A Error → Reading A → Type 0
 Answers (Ok v) r = r.outcome ≡ Ok v
 Answers (Err e) r = Refuses e r
 
+-- the result of a call that is never out of memory
+abbrev pub NeverOutOfMemory : {A : Type 0} → Result A Error → Type 0
+NeverOutOfMemory (Err errors.OutOfMemory) = ⊥
+NeverOutOfMemory _ = Unit {0}
+
+-- a reading that asks for no memory
+abbrev pub TakesNone : {A : Type 0} → Reading A → Type 0
+TakesNone r = r.asks_memory ≡ false
+
 -- Reading a box: the function `row` reads the bytes from the box's start on. The box's end, start + size, is checked
 -- to be below 2^64.
 abbrev pub reading : {A : Type 0} → (List ℕ → ℕ → ℕ → Reading A) → List ℕ → ℕ → ℕ → Reading A

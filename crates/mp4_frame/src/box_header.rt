@@ -4,7 +4,7 @@ ghost use Rattle.std.specs.Prelude.{◌≡◌, ℕ, ◌+◌, ◌-◌, ◌<◌, �
 ghost use Rattle.mp4_frame.specs.Bytes.{bytes_of_fields};
 ghost use Rattle.mp4_frame.specs.BoxType.{code_of, name_of};
 ghost use Rattle.mp4_frame.specs.Heads.{header, header_length, header_ext, bytes_header};
-ghost use Rattle.mp4_frame.specs.Reading.{Answers, done};
+ghost use Rattle.mp4_frame.specs.Reading.{Answers, NeverOutOfMemory, done};
 ghost use Rattle.mp4_frame.specs.Written.{Writes};
 
 use crate::box_type::BoxType;
@@ -46,6 +46,7 @@ impl BoxHeader {
         ensures answer { Answers result (header reader.old.bytes.now reader.old.position) }
         ensures moved { OnOk result (reader.new.position ≡ reader.old.position + header_length reader.old.bytes.now reader.old.position) }
         ensures kept { OnErr result (reader.new.position ≡ reader.old.position) }
+        ensures memory { NeverOutOfMemory result }
         ensures bytes { reader.new.bytes ≡ reader.old.bytes }
     {
         let head = Head::at(reader.bytes(), reader.position())?;
@@ -94,6 +95,7 @@ pub fn read_box_header_ext(reader: &mut ByteCursor) -> Result<(u8, u32)>
     ensures answer { Answers result (header_ext reader.old.bytes.now reader.old.position) }
     ensures moved { OnOk result (reader.new.position ≡ reader.old.position + 4) }
     ensures kept { OnErr result (reader.new.position ≡ reader.old.position) }
+    ensures memory { NeverOutOfMemory result }
     ensures bytes { reader.new.bytes ≡ reader.old.bytes }
 {
     let bytes = reader.bytes();

@@ -1,7 +1,7 @@
 //! A cursor over a buffer.
 
 ghost use Rattle.std.specs.Prelude.{◌≡◌, ◌+◌, ◌*◌, ◌<◌, length, IfOk, OnOk, OnErr};
-ghost use Rattle.mp4_frame.specs.Reading.{AnswersAs, piece_at};
+ghost use Rattle.mp4_frame.specs.Reading.{AnswersAs, NeverOutOfMemory, piece_at};
 ghost use Rattle.mp4_frame.specs.Tables.{rows_at};
 
 use crate::error::Result;
@@ -52,6 +52,7 @@ impl<'a> ByteCursor<'a> {
         ensures long { IfOk result (λ piece. length piece.now ≡ n) }
         ensures moved { OnOk result (self.new.position ≡ self.old.position + n) }
         ensures kept { OnErr result (self.new.position ≡ self.old.position) }
+        ensures memory { NeverOutOfMemory result }
         ensures bytes { self.new.bytes ≡ self.old.bytes }
     {
         let piece = piece_at(self.bytes, self.position as usize, n as usize)?;
@@ -66,6 +67,7 @@ impl<'a> ByteCursor<'a> {
         ensures rows { AnswersAs (λ rows. rows.now) result (rows_at self.old.bytes.now self.old.position E n) }
         ensures moved { OnOk result (self.new.position ≡ self.old.position + n * E) }
         ensures kept { OnErr result (self.new.position ≡ self.old.position) }
+        ensures memory { NeverOutOfMemory result }
         ensures bytes { self.new.bytes ≡ self.old.bytes }
     {
         let rows = rows_at::<E>(self.bytes, self.position as usize, n)?;

@@ -26,6 +26,7 @@ pub struct Frame {
 fn frame_of(len: u64, head: Head) -> Result<Frame>
     requires { head.start + 8 ≤ len }
     ensures answer { FaultAs result (frame_of_head len head) }
+    ensures end { IfOk result (λ f. f.start + f.size ≡ f.end) }
     ensures room { IfOk result (λ f. (f.start ≡ head.start) × (head.start + 8 ≤ f.end) × (f.end ≤ len)) }
 {
     let Head { code, size, start } = head;
@@ -60,6 +61,7 @@ fn frame_of(len: u64, head: Head) -> Result<Frame>
 pub(crate) fn frame_at(bytes: &[u8], at: usize) -> Result<Frame>
     requires { at < length bytes.now }
     ensures answer { FaultAs result (frame bytes.now at) }
+    ensures end { IfOk result (λ f. f.start + f.size ≡ f.end) }
     ensures room { IfOk result (λ f. (f.start + 8 ≤ length bytes.now) × (at + 8 ≤ f.end) × (f.end ≤ length bytes.now)) }
 {
     frame_of(bytes.len() as u64, Head::at(bytes, at as u64)?)

@@ -15,6 +15,7 @@ mod head;
 pub mod laws;
 mod member;
 mod number;
+mod one_child;
 mod put;
 mod read;
 mod reading;
@@ -37,11 +38,12 @@ pub use error::{Error, Result};
 pub use four_cc::{FourCC, is_four_cc};
 pub use frame::Frame;
 pub use head::Head;
-pub use member::{Holds, clone_as, push_as, read_as};
-pub use number::{i16_at, i32_at, u8_at, u16_at, u24_at, u32_at, u64_at};
+pub use member::{Holds, clone_as, push_as, push_inside, read_as};
+pub use number::{i8_at, i16_at, i32_at, u8_at, u16_at, u24_at, u32_at, u64_at};
+pub use one_child::{any_child, child_content, child_head, named_child, optional_child};
 pub use put::{
-    put_bytes, put_child, put_full_box, put_i16, put_i32, put_u8, put_u16, put_u24, put_u32,
-    put_u64, put_zeros,
+    put_bytes, put_child, put_full_box, put_i8, put_i16, put_i32, put_u8, put_u16, put_u24,
+    put_u32, put_u64, put_zeros,
 };
 pub use read::read_boxes_as;
 pub use reading::{bytes_from, check, expect_bytes, piece_at, rows_at};
@@ -50,6 +52,6 @@ pub use table::{
     TableEntry, all_fit, is_writable_table, put_entries, put_table, read_table, table_size,
 };
 pub use text::Text;
-pub use traits::{BoxLaws, Mp4Box, ReadBox, StreamBox, WriteBox};
+pub use traits::{BoxLaws, Mp4Box, ReadBox, ReadsWithoutMemory, StreamBox, WriteBox};
 pub use try_clone::TryClone;
 pub use write::{write_boxes, write_zeros};

@@ -10,26 +10,6 @@ use crate::frame::frame_at;
 use crate::traits::StreamBox;
 use std::alloc::Global;
 
-fn read_rest<B: StreamBox>(alloc: Global, reader: &mut ByteCursor) -> Result<Vec<B>>
-    ensures answer { AnswersAs (λ v. v.items) result (boxes B.known B.named_reading reader.old.bytes.now reader.old.position) }
-    ensures moved { OnOk result (reader.new.position ≡ max reader.old.position (length reader.old.bytes.now)) }
-    ensures bytes { reader.new.bytes ≡ reader.old.bytes }
-{
-    let mut boxes = Vec::new(alloc);
-    let bytes = reader.bytes();
-    let mut at = reader.position();
-    while at < bytes.len() as u64 {
-        let frame = frame_at(bytes, at as usize)?;
-        if B::knows(frame.name) {
-            reader.set_position(frame.start + 8);
-            B::push_named(alloc, frame.name, reader, frame.size, &mut boxes)?;
-        }
-        at = frame.end;
-    }
-    reader.set_position(at);
-    Ok(boxes)
-}
-
 /// Reads the boxes from the cursor's position to the end of the buffer, or returns the first fault. Boxes with
 /// names that `B` does not know are skipped.
 pub fn read_boxes_as<B: StreamBox>(alloc: Global, reader: &mut ByteCursor) -> Result<Vec<B>>
@@ -38,10 +18,23 @@ pub fn read_boxes_as<B: StreamBox>(alloc: Global, reader: &mut ByteCursor) -> Re
     ensures kept { OnErr result (reader.new.position ≡ reader.old.position) }
     ensures bytes { reader.new.bytes ≡ reader.old.bytes }
 {
-    let start = reader.position();
-    let answer = read_rest(alloc, reader);
-    if answer.is_err() {
-        reader.set_position(start);
+    let mut boxes = Vec::new(alloc);
+    let bytes = reader.bytes();
+    let mut at = reader.position();
+    while at < bytes.len() as u64 {
+        let frame = frame_at(bytes, at as usize)?;
+        if B::knows(frame.name) {
+            B::push_named(
+                alloc,
+                frame.name,
+                bytes,
+                frame.start,
+                frame.size,
+                &mut boxes,
+            )?;
+        }
+        at = frame.end;
     }
-    answer
+    reader.set_position(at);
+    Ok(boxes)
 }

@@ -1,7 +1,7 @@
 //! Moving the cursor in its buffer.
 
 ghost use Rattle.std.specs.Prelude.{◌≡◌, ◌+◌, ◌-◌, ◌≤◌, ◌^◌, nat_lt, Ok, OnOk, OnErr};
-ghost use Rattle.mp4_frame.specs.Reading.{Answers, check};
+ghost use Rattle.mp4_frame.specs.Reading.{Answers, NeverOutOfMemory, check};
 
 use crate::box_header::HEADER_SIZE;
 use crate::byte_cursor::ByteCursor;
@@ -21,6 +21,7 @@ pub fn skip_bytes(reader: &mut ByteCursor, size: u64) -> Result<()>
     ensures answer { Answers result (check (nat_lt (reader.old.position + size) (2 ^ 64))) }
     ensures moved { OnOk result (reader.new.position ≡ reader.old.position + size) }
     ensures kept { OnErr result (reader.new.position ≡ reader.old.position) }
+    ensures memory { NeverOutOfMemory result }
     ensures bytes { reader.new.bytes ≡ reader.old.bytes }
 {
     let position = reader.position();
@@ -46,6 +47,7 @@ pub fn skip_box(reader: &mut ByteCursor, size: u64) -> Result<()>
     ensures answer { Answers result (check (nat_lt (reader.old.position - 8 + size) (2 ^ 64))) }
     ensures moved { OnOk result (reader.new.position ≡ reader.old.position - 8 + size) }
     ensures kept { OnErr result (reader.new.position ≡ reader.old.position) }
+    ensures memory { NeverOutOfMemory result }
     ensures bytes { reader.new.bytes ≡ reader.old.bytes }
 {
     let start = box_start(reader)?;

@@ -1,7 +1,7 @@
 //! The traits of a box: its name and size, how it is read and written, and how it is read and written in lists.
 
-ghost use Rattle.std.specs.Prelude.{◌≡◌, ℕ, ◌+◌, ◌-◌, ◌^◌, ◌<◌, ◌≤◌, ◌↔◌, min, Bool, IsTrue, List, length, OnOk, OnErr};
-ghost use Rattle.mp4_frame.specs.Reading.{Reading, Answers, AnswersAs, reading};
+ghost use Rattle.std.specs.Prelude.{◌≡◌, ℕ, ◌+◌, ◌-◌, ◌^◌, ◌<◌, ◌≤◌, ◌↔◌, min, max, Bool, IsTrue, List, length, OnOk, OnErr};
+ghost use Rattle.mp4_frame.specs.Reading.{Reading, Answers, AnswersAs, TakesNone, reading};
 ghost use Rattle.mp4_frame.specs.Written.{Writes};
 ghost use Rattle.mp4_frame.specs.Streams.{append_read};
 ghost use Rattle.mp4_frame.specs.Format.{Format, IsWritten, IsBox};
@@ -36,30 +36,44 @@ pub trait ReadBox: Sized {
     /// What is read, for the bytes from the box's start on, that start, and the box's size.
     ghost reads: { List ℕ → ℕ → ℕ → Reading Self };
 
+    /// The number of bytes that a box has at least, whatever its size says.
+    ghost LEAST: { ℕ } = { 0 };
+
+    /// The number of bytes that a box has at least, whatever its size says. It is 0 where the size alone tells where
+    /// the box ends.
+    const LEAST: u64;
+
     /// Reads the content of a box. `bytes` begins at the box's start, 8 bytes before the content, and goes on to the
     /// end of the buffer. `start` is the offset of the box's start in the buffer, and `size` its size from there.
     /// Fields are at fixed offsets of `bytes`, and may be read past `size`. An error is the first fault (missing
     /// bytes, a check that failed, a missing child), or out of memory.
     fn read_content(alloc: Global, bytes: &[u8], start: u64, size: u64) -> Result<Self>
         requires { start + size < 2 ^ 64 }
-        ensures { Answers result (reads bytes.now start size) };
+        ensures answer { Answers result (reads bytes.now start size) }
+        ensures least { OnOk result (LEAST ≤ length bytes.now) };
 
     /// Reads the box whose header was just read: `size` is the header's, and the cursor is at the end of the header.
-    /// After an `Ok` the cursor is at the end of the box. After an `Err` (invalid data, end of input, a missing
-    /// child, out of memory) it is where it was.
+    /// After an `Ok` the cursor is at the end of the box, which has at least `LEAST` bytes. After an `Err` (invalid
+    /// data, end of input, a missing child, out of memory) it is where it was.
     final fn read_box(alloc: Global, reader: &mut ByteCursor, size: u64) -> Result<Self>
         requires { 8 ≤ reader.old.position }
         ensures answer { Answers result (reading reads reader.old.bytes.now (reader.old.position - 8) size) }
-        ensures moved { OnOk result (reader.new.position ≡ reader.old.position - 8 + size) }
+        ensures moved { OnOk result (reader.new.position ≡ reader.old.position - 8 + max LEAST size) }
         ensures kept { OnErr result (reader.new.position ≡ reader.old.position) }
         ensures bytes { reader.new.bytes ≡ reader.old.bytes }
     {
         let start = reader.position() - 8;
         check(size <= u64::MAX - start, "box end past 64 bits")?;
         let value = Self::read_content(alloc, bytes_from(reader.bytes(), start), start, size)?;
-        reader.set_position(start + size);
+        reader.set_position(start + size.max(Self::LEAST));
         Ok(value)
     }
+}
+
+/// A box that is read without memory.
+pub trait ReadsWithoutMemory: ReadBox {
+    /// Its reading asks for no memory.
+    ghost takes_none: { (bytes : List ℕ) (start size : ℕ) → TakesNone (Self.reads bytes start size) };
 }
 
 /// A box that can be written, whole or not at all.
@@ -114,20 +128,25 @@ pub trait StreamBox: WriteBox + Drop {
         ensures bytes { reader.new.bytes ≡ reader.old.bytes }
         ensures kept { OnErr result (reader.new.position ≡ reader.old.position) };
 
-    /// Reads the box of this name whose header was just read, and appends it.
+    /// Reads the box of this name that begins at an offset of the buffer, 8 bytes before its content, and has this size
+    /// from there. Appends it. After an `Err` the list is as it was.
     fn push_named(
         alloc: Global,
         name: BoxType,
-        reader: &mut ByteCursor,
+        bytes: &[u8],
+        start: u64,
         size: u64,
         boxes: &mut Vec<Self>,
     ) -> Result<()>
         requires known { IsTrue (known name) }
-        requires after_header { 8 ≤ reader.old.position }
-        ensures answer { AnswersAs (λ _. boxes.new.items) result (append_read boxes.old.items (named_reading name reader.old.bytes.now (reader.old.position - 8) size)) }
-        ensures bytes { reader.new.bytes ≡ reader.old.bytes }
+        requires header { start + 8 ≤ length bytes.now }
+        requires room { start + size ≤ length bytes.now }
+        ensures answer { AnswersAs (λ _. boxes.new.items) result (append_read boxes.old.items (named_reading name bytes.now start size)) }
+        ensures kept { OnErr result (boxes.new.items ≡ boxes.old.items) }
     {
-        let value = Self::read_named(alloc, name, reader, size)?;
+        let mut reader = ByteCursor::new(bytes);
+        reader.set_position(start + 8);
+        let value = Self::read_named(alloc, name, &mut reader, size)?;
         boxes.reserve(1)?;
         boxes.push_reserved(value);
         Ok(())

@@ -2,7 +2,7 @@
 use Rattle.std.proofs.Common.{rules, ◌≡◌, true, ap}
 use Rattle.std.proofs.lemmas.Bool.{and_parts, eqb-true}
 use denote.Enum.Bare.{same_true}
-use Rattle.mp4_media.specs.Equality.{IsEquality}
+use Rattle.mp4_frame.specs.Equality.{IsEquality}
 use Rattle.mp4_media.specs.declared.media_config.MediaConfig.{MediaConfig}
 use Rattle.mp4_media.specs.declared.media_config.MediaConfig.TheVariants as configs
 use Rattle.mp4_media.specs.contracts.audio_object_type.AudioObjectType as profile

@@ -8,4 +8,3 @@ pub mod SampleFreqIndex
 pub mod ChannelConfig
 pub mod DataType
 pub mod Mp4Sample
-pub mod Equality

@@ -4,7 +4,7 @@ ghost use Rattle.std.specs.Prelude.{◌≡◌, ◌<◌, ℕ, ℤ, Some, None, Re
 ghost use Rattle.std.specs.Cmp.{IsEquivalence};
 ghost use Rattle.mp4_frame.specs.declared.error.Error.{Error};
 ghost use Rattle.mp4_media.specs.Conversion.{IsConversion, IsInvalidData, IsInverse, Selects};
-ghost use Rattle.mp4_media.specs.Equality.{IsEquality, Decides};
+ghost use Rattle.mp4_frame.specs.Equality.{IsEquality, Decides};
 ghost use Rattle.mp4_media.specs.FixedPoint.{scaled, scaled_signed, whole, whole_signed};
 ghost use Rattle.mp4_media.specs.TrackType.{handler_track_type, track_type_of};
 ghost use Rattle.mp4_media.specs.MediaType.{text_media_type, media_type_of};

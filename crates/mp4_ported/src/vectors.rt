@@ -1,6 +1,7 @@
 //! The vectors: a box of each type, and the bytes that it is written in. Values and bytes are from the tests of the
 //! Rust crate `mp4` and from the standard, and not from what this codec writes.
 
+mod entries;
 mod flat;
 mod tables;
 mod text;
@@ -38,10 +39,17 @@ pub enum Vector {
     Url,
     Dref,
     Dinf,
+    Avcc,
+    Avc1,
+    Hvcc,
+    Hev1,
+    Vpcc,
+    Vp09,
+    Tx3g,
 }
 
 /// Every vector.
-pub const VECTORS: [Vector; 26] = [
+pub const VECTORS: [Vector; 33] = [
     Vector::Ftyp,
     Vector::Mvhd,
     Vector::Tkhd,
@@ -68,6 +76,13 @@ pub const VECTORS: [Vector; 26] = [
     Vector::Url,
     Vector::Dref,
     Vector::Dinf,
+    Vector::Avcc,
+    Vector::Avc1,
+    Vector::Hvcc,
+    Vector::Hev1,
+    Vector::Vpcc,
+    Vector::Vp09,
+    Vector::Tx3g,
 ];
 
 impl Vector {
@@ -100,6 +115,13 @@ impl Vector {
             Vector::Url => &boxes::text::URL,
             Vector::Dref => &boxes::text::DREF,
             Vector::Dinf => &boxes::text::DINF,
+            Vector::Avcc => &boxes::entries::AVCC,
+            Vector::Avc1 => &boxes::entries::AVC1,
+            Vector::Hvcc => &boxes::entries::HVCC,
+            Vector::Hev1 => &boxes::entries::HEV1,
+            Vector::Vpcc => &boxes::entries::VPCC,
+            Vector::Vp09 => &boxes::entries::VP09,
+            Vector::Tx3g => &boxes::entries::TX3G,
         }
     }
 
@@ -132,6 +154,13 @@ impl Vector {
             Vector::Url => text::url(alloc),
             Vector::Dref => Ok(text::dref(alloc)),
             Vector::Dinf => Ok(text::dinf(alloc)),
+            Vector::Avcc => entries::avcc(alloc),
+            Vector::Avc1 => entries::avc1(alloc),
+            Vector::Hvcc => Ok(entries::hvcc()),
+            Vector::Hev1 => Ok(entries::hev1()),
+            Vector::Vpcc => Ok(entries::vpcc()),
+            Vector::Vp09 => Ok(entries::vp09()),
+            Vector::Tx3g => Ok(entries::tx3g()),
         }
     }
 }

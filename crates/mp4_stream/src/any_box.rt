@@ -1,16 +1,17 @@
 //! A box of any type, alone and in lists.
 
-ghost use Rattle.std.specs.Prelude.{◌≡◌, ◌-◌, ◌≤◌, IsTrue, OnErr};
-ghost use Rattle.mp4_frame.specs.Reading.{Answers, AnswersAs, map_reading};
+ghost use Rattle.std.specs.Prelude.{◌≡◌, ◌+◌, ◌≤◌, length, IsTrue, OnErr};
+ghost use Rattle.mp4_frame.specs.Reading.{AnswersAs, map_reading};
 ghost use Rattle.mp4_frame.specs.Streams.{append_read};
 ghost use Rattle.mp4_frame.proofs.Members.{written_member, own_name_of_member, read_back_of_member};
 ghost use Rattle.mp4_stream.specs.AnyBox.{kinds, held, format_any, known_any, reading_any};
 ghost use Rattle.mp4_stream.specs.AnyBoxLaws.{members};
 
+use mp4_entries::{Avc1Box, AvcCBox, Hev1Box, HvcCBox, Tx3gBox, Vp09Box, VpccBox};
 use mp4_flat::{MdhdBox, MehdBox, MfhdBox, MvhdBox, SmhdBox, TfdtBox, TkhdBox, TrexBox, VmhdBox};
 use mp4_frame::{
     BoxType, ByteCursor, Holds, Mp4Box, Result, StreamBox, TryClone, WriteBox, clone_as, push_as,
-    read_as,
+    push_inside, read_as,
 };
 use mp4_tables::{
     Co64Box, CttsBox, ElstBox, StcoBox, StscBox, StssBox, StszBox, SttsBox, TfhdBox, TrunBox,
@@ -25,7 +26,8 @@ macro_rules! of_boxes {
             [
                 FtypBox MvhdBox TkhdBox MdhdBox MehdBox MfhdBox SmhdBox VmhdBox TrexBox TfdtBox
                 StcoBox Co64Box SttsBox CttsBox StssBox StszBox StscBox ElstBox TfhdBox TrunBox
-                HdlrBox DataBox EmsgBox UrlBox DrefBox DinfBox
+                HdlrBox DataBox EmsgBox UrlBox DrefBox DinfBox AvcCBox Avc1Box HvcCBox Hev1Box
+                VpccBox Vp09Box Tx3gBox
             ]
             $($rest)*
         }
@@ -41,12 +43,18 @@ macro_rules! each {
     };
 }
 
-/// A match on a name, with an arm for each box type: calls the function for the box type of this name. The caller
-/// ensures that there is one.
+/// A match on a name, with an arm for each box type: calls the function for the box type of this name and one or two
+/// more types. The caller ensures that there is a box type of this name.
 macro_rules! by_name {
-    ([$($held:ident)*] $name:expr, $call:ident $values:tt) => {
+    ([$($held:ident)*] $name:expr, $call:ident [$first:ident] $values:tt) => {
         match $name {
-            $(BoxType::$held => $call::<$held, AnyBox, _> $values,)*
+            $(BoxType::$held => $call::<$held, $first> $values,)*
+            _ => unreachable!(),
+        }
+    };
+    ([$($held:ident)*] $name:expr, $call:ident [$first:ident $second:ident] $values:tt) => {
+        match $name {
+            $(BoxType::$held => $call::<$held, $first, $second> $values,)*
             _ => unreachable!(),
         }
     };
@@ -88,14 +96,13 @@ pub enum AnyBox {
     UrlBox(UrlBox),
     DrefBox(DrefBox),
     DinfBox(DinfBox),
-}
-
-impl Holds<AnyBox> for AnyBox {
-    ghost wrapped = { λ v. v };
-
-    fn wrap(value: AnyBox) -> AnyBox {
-        value
-    }
+    AvcCBox(AvcCBox),
+    Avc1Box(Avc1Box),
+    HvcCBox(HvcCBox),
+    Hev1Box(Hev1Box),
+    VpccBox(VpccBox),
+    Vp09Box(Vp09Box),
+    Tx3gBox(Tx3gBox),
 }
 
 impl TryClone for AnyBox {
@@ -137,25 +144,28 @@ impl StreamBox for AnyBox {
         of_boxes!(is_named, name)
     }
 
-    #[tactic(auto, using(mp4_frame::proofs::Members::map_reading_same))]
     fn read_named(
         alloc: Global,
         name: BoxType,
         reader: &mut ByteCursor,
         size: u64,
     ) -> Result<AnyBox> {
-        read_any(alloc, name, reader, size)
+        of_boxes!(by_name, name, read_as[AnyBox](alloc, reader, size))
     }
 
-    #[tactic(auto, using(mp4_frame::proofs::Members::map_reading_same))]
     fn push_named(
         alloc: Global,
         name: BoxType,
-        reader: &mut ByteCursor,
+        bytes: &[u8],
+        start: u64,
         size: u64,
         boxes: &mut Vec<AnyBox>,
     ) -> Result<()> {
-        push_any(alloc, name, reader, size, boxes)
+        of_boxes!(
+            by_name,
+            name,
+            push_as[AnyBox](alloc, bytes, start, size, boxes)
+        )
     }
 
     ghost own_name = { own_name_of_member kinds held members };
@@ -163,36 +173,20 @@ impl StreamBox for AnyBox {
     ghost read_back = { read_back_of_member kinds held members };
 }
 
-/// Reads the box of this name whose header was just read, and returns it as an `E`, a type that holds any box. The
-/// caller ensures that the name is known. After an `Err` the cursor is where it was.
-pub fn read_any<E: Holds<AnyBox>>(
-    alloc: Global,
-    name: BoxType,
-    reader: &mut ByteCursor,
-    size: u64,
-) -> Result<E>
-    requires known { IsTrue (known_any name) }
-    requires after_header { 8 ≤ reader.old.position }
-    ensures answer { Answers result (map_reading E.wrapped (reading_any name reader.old.bytes.now (reader.old.position - 8) size)) }
-    ensures kept { OnErr result (reader.new.position ≡ reader.old.position) }
-    ensures bytes { reader.new.bytes ≡ reader.old.bytes }
-{
-    of_boxes!(by_name, name, read_as(alloc, reader, size))
-}
-
-/// Reads the box of this name whose header was just read, and appends it as an `E`. The caller ensures that the name
-/// is known.
+/// Reads the box of this name at an offset of the buffer, as in `StreamBox::push_named`, and appends it as an `E`, a type
+/// that holds any box. The caller ensures that the name is known.
 pub fn push_any<E: Holds<AnyBox> + Drop>(
     alloc: Global,
     name: BoxType,
-    reader: &mut ByteCursor,
+    bytes: &[u8],
+    start: u64,
     size: u64,
     boxes: &mut Vec<E>,
 ) -> Result<()>
     requires known { IsTrue (known_any name) }
-    requires after_header { 8 ≤ reader.old.position }
-    ensures answer { AnswersAs (λ _. boxes.new.items) result (append_read boxes.old.items (map_reading E.wrapped (reading_any name reader.old.bytes.now (reader.old.position - 8) size))) }
-    ensures bytes { reader.new.bytes ≡ reader.old.bytes }
+    requires room { start + size ≤ length bytes.now }
+    ensures answer { AnswersAs (λ _. boxes.new.items) result (append_read boxes.old.items (map_reading E.wrapped (reading_any name bytes.now start size))) }
+    ensures kept { OnErr result (boxes.new.items ≡ boxes.old.items) }
 {
-    of_boxes!(by_name, name, push_as(alloc, reader, size, boxes))
+    of_boxes!(by_name, name, push_inside [AnyBox E] (alloc, bytes, start, size, boxes))
 }

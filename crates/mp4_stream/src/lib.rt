@@ -6,26 +6,104 @@ mod any_box;
 mod member;
 mod read;
 
-pub use any_box::{AnyBox, push_any, read_any};
-pub use mp4_flat::{
-    Matrix, MdhdBox, MehdBox, MfhdBox, MvhdBox, RgbColor, SmhdBox, TfdtBox, TkhdBox, TrackFlag,
-    TrexBox, VmhdBox, language_code, language_string,
-};
-pub use mp4_frame::{
-    BoxHeader, BoxLaws, BoxType, ByteCursor, Entries, Error, FourCC, HEADER_EXT_SIZE, HEADER_SIZE,
-    Holds, Mp4Box, ReadBox, Result, StreamBox, Text, TryClone, WriteBox, box_start, laws,
-    read_box_header_ext, read_boxes_as, skip_box, skip_bytes, skip_bytes_to, write_box_header_ext,
-    write_boxes, write_zeros,
-};
-pub use mp4_media::{
-    AacConfig, AudioObjectType, AvcConfig, AvcProfile, Bytes, ChannelConfig, DataType, FixedPoint,
-    FixedPointI8, FixedPointU8, FixedPointU16, HevcConfig, MediaConfig, MediaType, Metadata,
-    MetadataKey, Mp4Sample, SampleFreqIndex, TrackType, TtxtConfig, Vp9Config, creation_time,
-    laws as media_laws,
-};
-pub use mp4_tables::{
-    Co64Box, CttsBox, CttsEntry, ElstBox, ElstEntry, StcoBox, StscBox, StscEntry, StssBox, StszBox,
-    SttsBox, SttsEntry, TfhdBox, TrunBox,
-};
-pub use mp4_text::{DataBox, DinfBox, DrefBox, EmsgBox, FtypBox, HdlrBox, UrlBox};
+pub use any_box::AnyBox;
+pub use any_box::push_any;
+pub use mp4_entries::Avc1Box;
+pub use mp4_entries::AvcCBox;
+pub use mp4_entries::Hev1Box;
+pub use mp4_entries::HvcCBox;
+pub use mp4_entries::NalUnit;
+pub use mp4_entries::RgbaColor;
+pub use mp4_entries::Tx3gBox;
+pub use mp4_entries::Vp09Box;
+pub use mp4_entries::VpccBox;
+pub use mp4_flat::Matrix;
+pub use mp4_flat::MdhdBox;
+pub use mp4_flat::MehdBox;
+pub use mp4_flat::MfhdBox;
+pub use mp4_flat::MvhdBox;
+pub use mp4_flat::RgbColor;
+pub use mp4_flat::SmhdBox;
+pub use mp4_flat::TfdtBox;
+pub use mp4_flat::TkhdBox;
+pub use mp4_flat::TrackFlag;
+pub use mp4_flat::TrexBox;
+pub use mp4_flat::VmhdBox;
+pub use mp4_flat::language_code;
+pub use mp4_flat::language_string;
+pub use mp4_flat::laws as flat_laws;
+pub use mp4_frame::BoxHeader;
+pub use mp4_frame::BoxLaws;
+pub use mp4_frame::BoxType;
+pub use mp4_frame::ByteCursor;
+pub use mp4_frame::Entries;
+pub use mp4_frame::Error;
+pub use mp4_frame::FourCC;
+pub use mp4_frame::HEADER_EXT_SIZE;
+pub use mp4_frame::HEADER_SIZE;
+pub use mp4_frame::Holds;
+pub use mp4_frame::Mp4Box;
+pub use mp4_frame::ReadBox;
+pub use mp4_frame::ReadsWithoutMemory;
+pub use mp4_frame::Result;
+pub use mp4_frame::StreamBox;
+pub use mp4_frame::Text;
+pub use mp4_frame::TryClone;
+pub use mp4_frame::WriteBox;
+pub use mp4_frame::box_start;
+pub use mp4_frame::laws;
+pub use mp4_frame::read_box_header_ext;
+pub use mp4_frame::read_boxes_as;
+pub use mp4_frame::skip_box;
+pub use mp4_frame::skip_bytes;
+pub use mp4_frame::skip_bytes_to;
+pub use mp4_frame::write_box_header_ext;
+pub use mp4_frame::write_boxes;
+pub use mp4_frame::write_zeros;
+pub use mp4_media::AacConfig;
+pub use mp4_media::AudioObjectType;
+pub use mp4_media::AvcConfig;
+pub use mp4_media::AvcProfile;
+pub use mp4_media::Bytes;
+pub use mp4_media::ChannelConfig;
+pub use mp4_media::DataType;
+pub use mp4_media::FixedPoint;
+pub use mp4_media::FixedPointI8;
+pub use mp4_media::FixedPointU8;
+pub use mp4_media::FixedPointU16;
+pub use mp4_media::HevcConfig;
+pub use mp4_media::MediaConfig;
+pub use mp4_media::MediaType;
+pub use mp4_media::Metadata;
+pub use mp4_media::MetadataKey;
+pub use mp4_media::Mp4Sample;
+pub use mp4_media::SampleFreqIndex;
+pub use mp4_media::TrackType;
+pub use mp4_media::TtxtConfig;
+pub use mp4_media::Vp9Config;
+pub use mp4_media::creation_time;
+pub use mp4_media::laws as media_laws;
+pub use mp4_tables::Co64Box;
+pub use mp4_tables::CttsBox;
+pub use mp4_tables::CttsEntry;
+pub use mp4_tables::ElstBox;
+pub use mp4_tables::ElstEntry;
+pub use mp4_tables::StcoBox;
+pub use mp4_tables::StscBox;
+pub use mp4_tables::StscEntry;
+pub use mp4_tables::StssBox;
+pub use mp4_tables::StszBox;
+pub use mp4_tables::SttsBox;
+pub use mp4_tables::SttsEntry;
+pub use mp4_tables::TfhdBox;
+pub use mp4_tables::TrunBox;
+pub use mp4_tables::laws as table_laws;
+pub use mp4_text::DataBox;
+pub use mp4_text::DinfBox;
+pub use mp4_text::DrefBox;
+pub use mp4_text::EmsgBox;
+pub use mp4_text::FtypBox;
+pub use mp4_text::HdlrBox;
+pub use mp4_text::UrlBox;
+pub use mp4_text::laws as text_laws;
 pub use read::read_boxes;

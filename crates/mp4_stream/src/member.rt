@@ -4,9 +4,10 @@ ghost use Rattle.std.specs.Prelude.{◌≡◌};
 ghost use Rattle.mp4_stream.specs.declared.any_box.AnyBox.TheVariants as any;
 
 use crate::{
-    AnyBox, Co64Box, CttsBox, DataBox, DinfBox, DrefBox, ElstBox, EmsgBox, FtypBox, HdlrBox,
-    MdhdBox, MehdBox, MfhdBox, MvhdBox, SmhdBox, StcoBox, StscBox, StssBox, StszBox, SttsBox,
-    TfdtBox, TfhdBox, TkhdBox, TrexBox, TrunBox, UrlBox, VmhdBox,
+    AnyBox, Avc1Box, AvcCBox, Co64Box, CttsBox, DataBox, DinfBox, DrefBox, ElstBox, EmsgBox,
+    FtypBox, HdlrBox, Hev1Box, HvcCBox, MdhdBox, MehdBox, MfhdBox, MvhdBox, SmhdBox, StcoBox,
+    StscBox, StssBox, StszBox, SttsBox, TfdtBox, TfhdBox, TkhdBox, TrexBox, TrunBox, Tx3gBox,
+    UrlBox, VmhdBox, Vp09Box, VpccBox,
 };
 use mp4_frame::Holds;
 
@@ -215,5 +216,61 @@ impl Holds<DinfBox> for AnyBox {
 
     fn wrap(value: DinfBox) -> AnyBox {
         AnyBox::DinfBox(value)
+    }
+}
+
+impl Holds<AvcCBox> for AnyBox {
+    ghost wrapped = { any.AvcCBox };
+
+    fn wrap(value: AvcCBox) -> AnyBox {
+        AnyBox::AvcCBox(value)
+    }
+}
+
+impl Holds<Avc1Box> for AnyBox {
+    ghost wrapped = { any.Avc1Box };
+
+    fn wrap(value: Avc1Box) -> AnyBox {
+        AnyBox::Avc1Box(value)
+    }
+}
+
+impl Holds<HvcCBox> for AnyBox {
+    ghost wrapped = { any.HvcCBox };
+
+    fn wrap(value: HvcCBox) -> AnyBox {
+        AnyBox::HvcCBox(value)
+    }
+}
+
+impl Holds<Hev1Box> for AnyBox {
+    ghost wrapped = { any.Hev1Box };
+
+    fn wrap(value: Hev1Box) -> AnyBox {
+        AnyBox::Hev1Box(value)
+    }
+}
+
+impl Holds<VpccBox> for AnyBox {
+    ghost wrapped = { any.VpccBox };
+
+    fn wrap(value: VpccBox) -> AnyBox {
+        AnyBox::VpccBox(value)
+    }
+}
+
+impl Holds<Vp09Box> for AnyBox {
+    ghost wrapped = { any.Vp09Box };
+
+    fn wrap(value: Vp09Box) -> AnyBox {
+        AnyBox::Vp09Box(value)
+    }
+}
+
+impl Holds<Tx3gBox> for AnyBox {
+    ghost wrapped = { any.Tx3gBox };
+
+    fn wrap(value: Tx3gBox) -> AnyBox {
+        AnyBox::Tx3gBox(value)
     }
 }

@@ -2,3 +2,4 @@ pub mod Offsets
 pub mod Runs
 pub mod Chunks
 pub mod TrunRows
+pub mod Equality

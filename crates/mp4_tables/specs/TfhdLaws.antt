@@ -3,7 +3,8 @@ use Rattle.std.proofs.Common.{◌≡◌, ℕ, ◌-◌, ◌<◌, ◌≤◌, ◌^�
 use Rattle.mp4_frame.specs.Format.{IsBox}
 use Rattle.mp4_frame.specs.Bytes.{number, bytes_of_fields}
 use Rattle.mp4_frame.specs.Laws.{BeginsWithHeader}
-use Rattle.mp4_frame.specs.Reading.{◌>>=◌, expect_bytes, done}
+use Rattle.mp4_frame.specs.Reading.{TakesNone, ◌>>=◌, expect_bytes, done}
+use Rattle.mp4_frame.proofs.NoMemory.{bind_takes_none, expect_bytes_takes_none, fields_take_none}
 use Rattle.mp4_frame.specs.declared.box_type.BoxType.TheVariants as names
 use Rattle.mp4_frame.proofs.Framing.{own_normal_form, header_in_front, fits_read, Number}
 use Rattle.mp4_frame.proofs.Fields.{length-fields, number-fields}
@@ -12,7 +13,6 @@ use Rattle.mp4_tables.specs.FlaggedLaws.{width_most, length_optional, optional_b
 use Rattle.mp4_tables.specs.Flagged.{is_set, optional}
 use Rattle.mp4_tables.specs.Tfhd.{index_at, duration_at, size_at, flags_at, end_at, value_tfhd, reads_tfhd, size_tfhd, fields_tfhd, WritableTfhd, bytes_tfhd, format_tfhd}
 use Rattle.mp4_tables.specs.declared.tfhd.TheConstants.TfhdBox.{FLAG_BASE_DATA_OFFSET, FLAG_SAMPLE_DESCRIPTION_INDEX, FLAG_DEFAULT_SAMPLE_DURATION, FLAG_DEFAULT_SAMPLE_SIZE, FLAG_DEFAULT_SAMPLE_FLAGS}
-use Rattle.mp4_tables.specs.declared.tfhd.TfhdBox.{TfhdBox}
 
 pub tfhd_is_short : (flags : ℕ) → end_at flags ≤ 40
 tfhd_is_short flags = omega (arith, width_most (is_set flags FLAG_BASE_DATA_OFFSET) 8, width_most (is_set flags FLAG_SAMPLE_DESCRIPTION_INDEX) 4, width_most (is_set flags FLAG_DEFAULT_SAMPLE_DURATION) 4, width_most (is_set flags FLAG_DEFAULT_SAMPLE_SIZE) 4, width_most (is_set flags FLAG_DEFAULT_SAMPLE_FLAGS) 4)
@@ -93,3 +93,10 @@ laws_tfhd = record {
       } in
       (refl, λ _. subst WritableTfhd is can);
 }
+
+-- reading it takes no memory
+pub tfhd_takes_none : (bytes : List ℕ) (start size : ℕ) → TakesNone (reads_tfhd bytes start size)
+unfolding reads_tfhd
+tfhd_takes_none bytes start size =
+    let flags = number bytes 9 3 in
+    bind_takes_none (expect_bytes bytes 8 8) _ (expect_bytes_takes_none bytes 8 8) (λ _. fields_take_none bytes 16 (end_at flags - 16) (value_tfhd flags (number bytes)))

@@ -90,6 +90,8 @@ fn offsets_of(alloc: Global, rows: &[[u8; 8]]) -> Result<Vec<u64>>
 impl ReadBox for Co64Box {
     ghost reads = { reads_co64 };
 
+    const LEAST: u64 = 0;
+
     #[tactic(auto, unfolding(crate::specs::Co64::reads_co64))]
     fn read_content(alloc: Global, bytes: &[u8], _start: u64, size: u64) -> Result<Co64Box> {
         let (version, flags, rows) = read_table::<8>(

@@ -98,6 +98,8 @@ fn entries_of(alloc: Global, rows: &[[u8; 8]]) -> Result<Vec<CttsEntry>>
 impl ReadBox for CttsBox {
     ghost reads = { reads_ctts };
 
+    const LEAST: u64 = 0;
+
     #[tactic(auto, unfolding(crate::specs::Ctts::reads_ctts))]
     fn read_content(alloc: Global, bytes: &[u8], _start: u64, size: u64) -> Result<CttsBox> {
         let (version, flags, rows) = read_table::<8>(

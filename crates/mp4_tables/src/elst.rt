@@ -161,6 +161,8 @@ fn read_short(alloc: Global, bytes: &[u8], size: u64) -> Result<ElstBox>
 impl ReadBox for ElstBox {
     ghost reads = { reads_elst };
 
+    const LEAST: u64 = 0;
+
     #[tactic(auto, unfolding(crate::specs::Elst::reads_elst))]
     fn read_content(alloc: Global, bytes: &[u8], _start: u64, size: u64) -> Result<ElstBox> {
         if has_long_rows(bytes) {

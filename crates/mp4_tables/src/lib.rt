@@ -8,6 +8,7 @@ mod ctts_entry;
 mod elst;
 mod elst_entry;
 mod flagged;
+pub mod laws;
 mod rows;
 mod stco;
 mod stsc;

@@ -122,6 +122,8 @@ impl Mp4Box for StcoBox {
 impl ReadBox for StcoBox {
     ghost reads = { reads_stco };
 
+    const LEAST: u64 = 0;
+
     #[tactic(auto, unfolding(crate::specs::Stco::reads_stco))]
     fn read_content(alloc: Global, bytes: &[u8], _start: u64, size: u64) -> Result<StcoBox> {
         let (version, flags, rows) = read_table::<4>(

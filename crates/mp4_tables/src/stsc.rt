@@ -164,6 +164,8 @@ fn samples_fit(entries: &[StscEntry]) -> bool
 impl ReadBox for StscBox {
     ghost reads = { reads_stsc };
 
+    const LEAST: u64 = 0;
+
     #[tactic(auto, unfolding(crate::specs::Stsc::reads_stsc))]
     fn read_content(alloc: Global, bytes: &[u8], _start: u64, size: u64) -> Result<StscBox> {
         let (version, flags, rows) = read_table::<12>(

@@ -77,6 +77,8 @@ impl Mp4Box for StssBox {
 impl ReadBox for StssBox {
     ghost reads = { reads_stss };
 
+    const LEAST: u64 = 0;
+
     #[tactic(auto, unfolding(crate::specs::Stss::reads_stss))]
     fn read_content(alloc: Global, bytes: &[u8], _start: u64, size: u64) -> Result<StssBox> {
         let (version, flags, rows) = read_table::<4>(

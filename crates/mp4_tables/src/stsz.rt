@@ -113,6 +113,8 @@ fn read_sizes(alloc: Global, bytes: &[u8], size: u64, count: u32) -> Result<Vec<
 impl ReadBox for StszBox {
     ghost reads = { reads_stsz };
 
+    const LEAST: u64 = 0;
+
     #[tactic(auto, unfolding(crate::specs::Stsz::reads_stsz))]
     fn read_content(alloc: Global, bytes: &[u8], _start: u64, size: u64) -> Result<StszBox> {
         expect_bytes(bytes, 8, 12)?;

@@ -97,6 +97,8 @@ fn entries_of(alloc: Global, rows: &[[u8; 8]]) -> Result<Vec<SttsEntry>>
 impl ReadBox for SttsBox {
     ghost reads = { reads_stts };
 
+    const LEAST: u64 = 0;
+
     #[tactic(auto, unfolding(crate::specs::Stts::reads_stts))]
     fn read_content(alloc: Global, bytes: &[u8], _start: u64, size: u64) -> Result<SttsBox> {
         let (version, flags, rows) = read_table::<8>(

@@ -4,15 +4,15 @@ ghost use Rattle.std.specs.Prelude.{◌≡◌, ◌≤◌, ◌-◌, ◌^◌, ◌�
 ghost use Rattle.mp4_frame.specs.declared.box_type.BoxType.TheVariants as names;
 ghost use Rattle.mp4_frame.specs.Format.{write_laws};
 ghost use Rattle.mp4_tables.specs.Tfhd.{end_at, size_tfhd, FlaggedTfhd, reads_tfhd, format_tfhd};
-ghost use Rattle.mp4_tables.specs.TfhdLaws.{laws_tfhd};
+ghost use Rattle.mp4_tables.specs.TfhdLaws.{laws_tfhd, tfhd_takes_none};
 
 use crate::flagged::{
     is_present_u32, is_present_u64, is_set, put_optional_u32, put_optional_u64, u32_if, u64_if,
     width_if,
 };
 use mp4_frame::{
-    BoxLaws, BoxType, Mp4Box, ReadBox, Result, TryClone, WriteBox, codes, expect_bytes,
-    put_full_box, put_u32, u8_at, u24_at, u32_at,
+    BoxLaws, BoxType, Mp4Box, ReadBox, ReadsWithoutMemory, Result, TryClone, WriteBox, codes,
+    expect_bytes, put_full_box, put_u32, u8_at, u24_at, u32_at,
 };
 use std::alloc::Global;
 
@@ -121,6 +121,8 @@ impl Mp4Box for TfhdBox {
 impl ReadBox for TfhdBox {
     ghost reads = { reads_tfhd };
 
+    const LEAST: u64 = 0;
+
     #[tactic(auto, unfolding(crate::specs::Tfhd::reads_tfhd))]
     fn read_content(_alloc: Global, bytes: &[u8], _start: u64, _size: u64) -> Result<TfhdBox> {
         expect_bytes(bytes, 8, 8)?;
@@ -147,6 +149,10 @@ impl ReadBox for TfhdBox {
             default_sample_flags: u32_if(bytes, flags_at, has_flags),
         })
     }
+}
+
+impl ReadsWithoutMemory for TfhdBox {
+    ghost takes_none = { tfhd_takes_none };
 }
 
 impl WriteBox for TfhdBox {

@@ -133,6 +133,8 @@ impl Mp4Box for TrunBox {
 impl ReadBox for TrunBox {
     ghost reads = { reads_trun };
 
+    const LEAST: u64 = 0;
+
     #[tactic(auto, unfolding(crate::specs::Trun::reads_trun))]
     fn read_content(alloc: Global, bytes: &[u8], _start: u64, size: u64) -> Result<TrunBox> {
         expect_bytes(bytes, 8, 8)?;
@@ -143,8 +145,7 @@ impl ReadBox for TrunBox {
         let first_flags_at = 16 + width_if(has_data_offset, 4);
         let rows_at = first_flags_at + width_if(has_first_flags, 4);
         expect_bytes(bytes, 16, rows_at - 16)?;
-        let has = RowFlags::of(flags);
-        let lists = read_lists(alloc, bytes, size, has, rows_at, sample_count)?;
+        let lists = read_lists(alloc, bytes, size, flags, rows_at, sample_count)?;
         Ok(TrunBox {
             version: u8_at(bytes, 8),
             flags,

@@ -1,2 +1,3 @@
 pub mod Zeros
 mod Messages
+pub mod Equality

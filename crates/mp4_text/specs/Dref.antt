@@ -2,8 +2,9 @@
 -- of 4 at 12. From 16 on there are at most that many boxes, of which the last url is the entry. Written are the
 -- count 1 and the entry, or the count 0.
 use Rattle.std.specs.Prelude.{ℕ, ◌+◌, List, [], ◌∷◌, ◌++◌, Option}
-use Rattle.mp4_frame.specs.Bytes.{number, bytes_of_fields, FieldsFit, full_box}
+use Rattle.mp4_frame.specs.Bytes.{number, bytes_of_fields, full_box}
 use Rattle.mp4_frame.specs.Children.{children}
+use Rattle.mp4_frame.specs.Parent.{WritableParent}
 use Rattle.mp4_frame.specs.Reading.{Reading, ◌>>=◌, expect_bytes, done}
 use Rattle.mp4_frame.specs.OptionalChild.{count_optional, size_optional, WritableOptional, bytes_optional, normal_optional}
 use Rattle.mp4_text.specs.Url.{reads_url, format_url}
@@ -30,9 +31,8 @@ abbrev pub fields_dref : DrefBox → List (ℕ × ℕ)
 fields_dref v = full_box (size_dref v) codes.DREF v.version v.flags ++ (4, count_optional v.url) ∷ []
 
 -- every number fits its field, and the entry can be written
-pub record WritableDref (v : DrefBox) : Type 0 where
-  pub fit : FieldsFit (fields_dref v)
-  pub entry : WritableOptional format_url v.url
+abbrev pub WritableDref : DrefBox → Type 0
+WritableDref v = WritableParent (WritableOptional format_url) (fields_dref v) v.url
 
 unfoldable pub bytes_dref : DrefBox → List ℕ
 bytes_dref v = bytes_of_fields (fields_dref v) ++ bytes_optional format_url v.url

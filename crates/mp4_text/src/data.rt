@@ -74,6 +74,8 @@ impl Mp4Box for DataBox {
 impl ReadBox for DataBox {
     ghost reads = { reads_data };
 
+    const LEAST: u64 = 0;
+
     #[tactic(auto, unfolding(crate::specs::Data::reads_data))]
     fn read_content(alloc: Global, bytes: &[u8], _start: u64, size: u64) -> Result<DataBox> {
         expect_bytes(bytes, 8, 4)?;

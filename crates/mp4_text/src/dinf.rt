@@ -78,6 +78,8 @@ impl Mp4Box for DinfBox {
 impl ReadBox for DinfBox {
     ghost reads = { reads_dinf };
 
+    const LEAST: u64 = 0;
+
     #[tactic(auto, unfolding(crate::specs::Dinf::reads_dinf))]
     fn read_content(alloc: Global, bytes: &[u8], start: u64, size: u64) -> Result<DinfBox> {
         let parent = Parent {

@@ -84,6 +84,8 @@ impl Mp4Box for DrefBox {
 impl ReadBox for DrefBox {
     ghost reads = { reads_dref };
 
+    const LEAST: u64 = 0;
+
     #[tactic(auto, unfolding(crate::specs::Dref::reads_dref))]
     fn read_content(alloc: Global, bytes: &[u8], start: u64, size: u64) -> Result<DrefBox> {
         expect_bytes(bytes, 8, 8)?;

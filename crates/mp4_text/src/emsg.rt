@@ -160,6 +160,8 @@ fn read_version_1(alloc: Global, bytes: &[u8], size: u64) -> Result<EmsgBox>
 impl ReadBox for EmsgBox {
     ghost reads = { reads_emsg };
 
+    const LEAST: u64 = 0;
+
     #[tactic(auto, unfolding(crate::specs::Emsg::reads_emsg))]
     fn read_content(alloc: Global, bytes: &[u8], _start: u64, size: u64) -> Result<EmsgBox> {
         expect_bytes(bytes, 8, 4)?;

@@ -92,6 +92,8 @@ fn brands_of(alloc: Global, rows: &[[u8; 4]]) -> Result<Vec<FourCC>>
 impl ReadBox for FtypBox {
     ghost reads = { reads_ftyp };
 
+    const LEAST: u64 = 0;
+
     #[tactic(auto, unfolding(crate::specs::Ftyp::reads_ftyp))]
     fn read_content(alloc: Global, bytes: &[u8], _start: u64, size: u64) -> Result<FtypBox> {
         check(

@@ -81,6 +81,8 @@ impl Mp4Box for HdlrBox {
 impl ReadBox for HdlrBox {
     ghost reads = { reads_hdlr };
 
+    const LEAST: u64 = 0;
+
     #[tactic(auto, unfolding(crate::specs::Hdlr::reads_hdlr))]
     fn read_content(alloc: Global, bytes: &[u8], _start: u64, size: u64) -> Result<HdlrBox> {
         expect_bytes(bytes, 8, 12)?;

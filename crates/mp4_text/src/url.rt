@@ -79,6 +79,8 @@ impl Mp4Box for UrlBox {
 impl ReadBox for UrlBox {
     ghost reads = { reads_url };
 
+    const LEAST: u64 = 0;
+
     #[tactic(auto, unfolding(crate::specs::Url::reads_url))]
     fn read_content(alloc: Global, bytes: &[u8], _start: u64, size: u64) -> Result<UrlBox> {
         expect_bytes(bytes, 8, 4)?;

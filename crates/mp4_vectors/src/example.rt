@@ -8,6 +8,7 @@ ghost use Rattle.mp4_stream.specs.declared.any_box.AnyBox.{AnyBox};
 pub mod audio;
 pub mod chunks;
 pub mod defaults;
+pub mod entries;
 pub mod numbers;
 pub mod references;
 pub mod times;

@@ -32,6 +32,8 @@ impl Mp4Box for MarkBox {
 impl ReadBox for MarkBox {
     ghost reads = { reads_mark };
 
+    const LEAST: u64 = 0;
+
     #[tactic(auto, unfolding(crate::specs::Mark::reads_mark))]
     fn read_content(_alloc: Global, bytes: &[u8], _start: u64, _size: u64) -> Result<MarkBox> {
         expect_bytes(bytes, 8, 4)?;

@@ -3,7 +3,7 @@
 ghost use Rattle.std.specs.Prelude.{◌≡◌, ◌≤◌, ◌<◌, ◌+◌, ◌++◌, ◌↔◌, [], IsTrue, IfOk, IfErr, OnOk};
 ghost use Rattle.mp4_frame.specs.Reading.{Answers};
 ghost use Rattle.mp4_tables.specs.Flagged.{width_if};
-ghost use Rattle.mp4_tables.specs.TrunRows.{row_length};
+ghost use Rattle.mp4_tables.specs.TrunRows.{row_flags, row_length};
 ghost use Rattle.mp4_tables.specs.TrunLists.{column_if, lists_of, reads_lists, count_if, IsListed};
 
 use crate::flagged::width_if;
@@ -57,15 +57,12 @@ fn append_column<const E: usize>(
 /// The lists of these rows. They are filled from one part of the rows after the other. A part stays in the nearest
 /// cache until each list has the numbers of that part.
 #[tactic(auto, using(crate::proofs::TrunRows::column_moves), unfolding(crate::specs::TrunLists::column_if))]
-fn lists_of_rows<const E: usize>(
-    alloc: Global,
-    rows: &[[u8; E]],
-    has: RowFlags,
-) -> Result<TrunLists>
-    requires { E ≡ row_length has }
-    ensures value { IfOk result (λ lists. lists ≡ lists_of has rows.now) }
+fn lists_of_rows<const E: usize>(alloc: Global, rows: &[[u8; E]], flags: u32) -> Result<TrunLists>
+    requires { E ≡ row_length (row_flags flags) }
+    ensures value { IfOk result (λ lists. lists ≡ lists_of (row_flags flags) rows.now) }
     ensures memory { IfErr result (λ e. e ≡ Error.OutOfMemory) }
 {
+    let has = RowFlags::of(flags);
     let size_at = width_if(has.duration, 4);
     let flags_at = size_at + width_if(has.size, 4);
     let cts_at = flags_at + width_if(has.flags, 4);
@@ -73,21 +70,21 @@ fn lists_of_rows<const E: usize>(
     let _end = cts_at + width_if(has.cts, 4);
     let mut durations = numbers_for(alloc, has.duration, rows.len())?;
     let mut sizes = numbers_for(alloc, has.size, rows.len())?;
-    let mut flags = numbers_for(alloc, has.flags, rows.len())?;
+    let mut sample_flags = numbers_for(alloc, has.flags, rows.len())?;
     let mut cts = numbers_for(alloc, has.cts, rows.len())?;
     let mut rest = rows;
     while !rest.is_empty() {
         let (part, after) = rest.split_at(rest.len().min(PART));
         append_column(&mut durations, part, has.duration, 0)?;
         append_column(&mut sizes, part, has.size, size_at)?;
-        append_column(&mut flags, part, has.flags, flags_at)?;
+        append_column(&mut sample_flags, part, has.flags, flags_at)?;
         append_column(&mut cts, part, has.cts, cts_at)?;
         rest = after;
     }
     Ok(TrunLists {
         durations: durations.into(),
         sizes: sizes.into(),
-        flags: flags.into(),
+        flags: sample_flags.into(),
         cts: cts.into(),
     })
 }
@@ -98,16 +95,16 @@ fn read_rows_of<const E: usize>(
     alloc: Global,
     bytes: &[u8],
     size: u64,
-    has: RowFlags,
+    flags: u32,
     at: usize,
     count: u32,
 ) -> Result<TrunLists>
     requires some { 0 < E }
-    requires length { E ≡ row_length has }
-    ensures { Answers result (reads_lists bytes.now size has at count) }
+    requires length { E ≡ row_length (row_flags flags) }
+    ensures { Answers result (reads_lists bytes.now size (row_flags flags) at count) }
 {
     // For the prover: a row has at most 16 bytes.
-    let _length = has.row_length();
+    let _length = RowFlags::of(flags).row_length();
     let rows = read_rows::<E>(
         bytes,
         size,
@@ -115,7 +112,7 @@ fn read_rows_of<const E: usize>(
         count,
         "trun sample_count indicates more values than could fit in the box",
     )?;
-    lists_of_rows(alloc, rows, has)
+    lists_of_rows(alloc, rows, flags)
 }
 
 /// Reads the lists of `count` rows from offset `at` on. If a row has no bytes, no row is visited.
@@ -123,21 +120,21 @@ pub(crate) fn read_lists(
     alloc: Global,
     bytes: &[u8],
     size: u64,
-    has: RowFlags,
+    flags: u32,
     at: usize,
     count: u32,
 ) -> Result<TrunLists>
-    ensures { Answers result (reads_lists bytes.now size has at count) }
+    ensures { Answers result (reads_lists bytes.now size (row_flags flags) at count) }
 {
-    let length = has.row_length();
+    let length = RowFlags::of(flags).row_length();
     if length == 4 {
-        read_rows_of::<4>(alloc, bytes, size, has, at, count)
+        read_rows_of::<4>(alloc, bytes, size, flags, at, count)
     } else if length == 8 {
-        read_rows_of::<8>(alloc, bytes, size, has, at, count)
+        read_rows_of::<8>(alloc, bytes, size, flags, at, count)
     } else if length == 12 {
-        read_rows_of::<12>(alloc, bytes, size, has, at, count)
+        read_rows_of::<12>(alloc, bytes, size, flags, at, count)
     } else if length == 16 {
-        read_rows_of::<16>(alloc, bytes, size, has, at, count)
+        read_rows_of::<16>(alloc, bytes, size, flags, at, count)
     } else {
         Ok(TrunLists {
             durations: Entries::new(alloc),

@@ -3,19 +3,22 @@
 use crate::mark::MarkBox;
 use mp4_stream::laws::{
     begins_with_header, boxes_follow_frames, cut_at_a_border, cut_inside_a_box, equal_boxes,
-    equal_streams, has_normal_form, has_own_name, have_same_bytes, is_read_back, is_read_by_name,
+    equal_streams, has_normal_form, has_own_name, have_same_bytes, is_read_back,
+    is_read_back_at_the_end, is_read_by_name, is_read_by_name_at_the_end, is_read_without_memory,
     is_sound, written_is_read,
 };
 use mp4_stream::{
-    AnyBox, BoxLaws, Co64Box, CttsBox, DataBox, DinfBox, DrefBox, ElstBox, EmsgBox, FtypBox,
-    HdlrBox, MdhdBox, MehdBox, MfhdBox, MvhdBox, SmhdBox, StcoBox, StreamBox, StscBox, StssBox,
-    StszBox, SttsBox, TfdtBox, TfhdBox, TkhdBox, TrexBox, TrunBox, UrlBox, VmhdBox,
+    AnyBox, Avc1Box, AvcCBox, BoxLaws, Co64Box, CttsBox, DataBox, DinfBox, DrefBox, ElstBox,
+    EmsgBox, FtypBox, HdlrBox, Hev1Box, HvcCBox, MdhdBox, MehdBox, MfhdBox, MvhdBox, SmhdBox,
+    StcoBox, StreamBox, StscBox, StssBox, StszBox, SttsBox, TfdtBox, TfhdBox, TkhdBox, TrexBox,
+    TrunBox, Tx3gBox, UrlBox, VmhdBox, Vp09Box, VpccBox, flat_laws, laws, table_laws, text_laws,
 };
 
 fn call_laws_of_box<B: BoxLaws>() {
     begins_with_header::<B>();
     has_normal_form::<B>();
     is_read_back::<B>();
+    is_read_back_at_the_end::<B>();
     is_sound::<B>();
     have_same_bytes::<B>();
 }
@@ -25,6 +28,7 @@ fn call_laws_of_lists<B: StreamBox>() {
     has_normal_form::<B>();
     has_own_name::<B>();
     is_read_by_name::<B>();
+    is_read_by_name_at_the_end::<B>();
     equal_boxes::<B>();
     written_is_read::<B>();
     cut_at_a_border::<B>();
@@ -52,6 +56,53 @@ fn laws_hold_of_fragments() {
 fn laws_hold_of_sound_and_picture() {
     call_laws_of_box::<SmhdBox>();
     call_laws_of_box::<VmhdBox>();
+}
+
+#[test]
+fn laws_hold_of_video_entries() {
+    call_laws_of_box::<AvcCBox>();
+    call_laws_of_box::<Avc1Box>();
+    call_laws_of_box::<HvcCBox>();
+    call_laws_of_box::<Hev1Box>();
+}
+
+#[test]
+fn laws_hold_of_other_entries() {
+    call_laws_of_box::<VpccBox>();
+    call_laws_of_box::<Vp09Box>();
+    call_laws_of_box::<Tx3gBox>();
+}
+
+#[test]
+fn some_boxes_are_read_without_memory() {
+    is_read_without_memory::<MvhdBox>();
+    is_read_without_memory::<TkhdBox>();
+    is_read_without_memory::<MehdBox>();
+    is_read_without_memory::<MfhdBox>();
+    is_read_without_memory::<SmhdBox>();
+    is_read_without_memory::<VmhdBox>();
+    is_read_without_memory::<TrexBox>();
+    is_read_without_memory::<TfdtBox>();
+    is_read_without_memory::<TfhdBox>();
+}
+
+#[test]
+fn some_entries_are_read_without_memory() {
+    is_read_without_memory::<HvcCBox>();
+    is_read_without_memory::<Hev1Box>();
+    is_read_without_memory::<VpccBox>();
+    is_read_without_memory::<Vp09Box>();
+    is_read_without_memory::<Tx3gBox>();
+}
+
+#[test]
+fn equality_is_of_all_fields() {
+    laws::equality_is_of_all_fields();
+    laws::equality_of_lists_is_of_entries::<u32>();
+    flat_laws::equality_is_of_all_fields();
+    table_laws::equality_of_entries_is_of_all_fields();
+    table_laws::equality_is_of_all_fields();
+    text_laws::equality_is_of_all_fields();
 }
 
 #[test]

@@ -15,12 +15,12 @@ returns-in_err-child g c =
 pub returns-in_err-read_content : goal.returns-in_err-read_content
 returns-in_err-read_content g c =
     let p = err_from_is_err_and c.from_residual-in_err-read_content.result c.from_residual-in_err-read_content.ensures.1 in
-    rw (p.1, p.2) (named_child_faults g.T.ReadBox.reads c.args.code c.args.parent.now.bytes.now c.args.parent.now.start c.args.parent.now.size c.loop-left.found c.loop-left.left c.loop-left.at _ c.loop-left-test.true c.if-at-parent.true c.loop-left.invariant c.in_ok-child.child c.in_ok-child.ensures.value _ (take_rest c.args.parent.now.bytes.now c.in_ok-child.child.start) c.if-child-code.true c.in_err-read_content.field-0.0 c.in_err-read_content.ensures)
+    rw (p.1, p.2) (named_child_faults g.T.ReadBox.reads c.args.code c.args.parent.now.bytes.now c.args.parent.now.start c.args.parent.now.size c.loop-left.found c.loop-left.left c.loop-left.at _ c.loop-left-test.true c.if-at-parent.true c.loop-left.invariant c.in_ok-child.child c.in_ok-child.ensures.value _ (take_rest c.args.parent.now.bytes.now c.in_ok-child.child.start) c.if-child-code.true c.in_err-read_content.field-0.0 c.in_err-read_content.ensures.answer)
 
 pub loop-left-preserved : goal.loop-left-preserved
 loop-left-preserved g c =
     elim c.if-child-code.branch [
-      | then-child-code+in_ok-read_content w ↦ rw w.found-is (kept g.T.ReadBox.reads c.args.code c.args.parent.now.bytes.now c.args.parent.now.start c.args.parent.now.size c.loop-left.found c.loop-left.left c.loop-left.at _ c.loop-left-test.true c.if-at-parent.true c.loop-left.invariant c.in_ok-child.child c.in_ok-child.ensures.value _ (take_rest c.args.parent.now.bytes.now c.in_ok-child.child.start) w.if-child-code.true _ w.in_ok-read_content.ensures)
+      | then-child-code+in_ok-read_content w ↦ rw w.found-is (kept g.T.ReadBox.reads c.args.code c.args.parent.now.bytes.now c.args.parent.now.start c.args.parent.now.size c.loop-left.found c.loop-left.left c.loop-left.at _ c.loop-left-test.true c.if-at-parent.true c.loop-left.invariant c.in_ok-child.child c.in_ok-child.ensures.value _ (take_rest c.args.parent.now.bytes.now c.in_ok-child.child.start) w.if-child-code.true _ w.in_ok-read_content.ensures.answer)
       | else-child-code w ↦ rw w.found-is (skipped g.T.ReadBox.reads c.args.code c.args.parent.now.bytes.now c.args.parent.now.start c.args.parent.now.size c.loop-left.found c.loop-left.left c.loop-left.at _ c.loop-left-test.true c.if-at-parent.true c.loop-left.invariant c.in_ok-child.child c.in_ok-child.ensures.value w.if-child-code.false)
     ]
 

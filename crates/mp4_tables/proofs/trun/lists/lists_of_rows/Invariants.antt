@@ -7,7 +7,7 @@ abbrev pub invariant-loop-rest : goal.invariant-loop-rest
 invariant-loop-rest g l = record {
   durations : l.durations.items ++ column_if l.has.duration 0 l.rest ≡ column_if l.has.duration 0 l.rows;
   sizes : l.sizes.items ++ column_if l.has.size (size_in_row l.has) l.rest ≡ column_if l.has.size (size_in_row l.has) l.rows;
-  flags : l.flags.items ++ column_if l.has.flags (flags_in_row l.has) l.rest ≡ column_if l.has.flags (flags_in_row l.has) l.rows;
+  flags : l.sample_flags.items ++ column_if l.has.flags (flags_in_row l.has) l.rest ≡ column_if l.has.flags (flags_in_row l.has) l.rows;
   cts : l.cts.items ++ column_if l.has.cts (cts_in_row l.has) l.rest ≡ column_if l.has.cts (cts_in_row l.has) l.rows;
 }
 

@@ -1,0 +1,85 @@
+//! Reading one child at an offset of a box.
+
+ghost use Rattle.std.specs.Prelude.{◌≡◌, ◌+◌, ◌≤◌, length, IfOk};
+ghost use Rattle.mp4_frame.specs.OneChild.{child_head, child_content, any_child, named_child, optional_child};
+ghost use Rattle.mp4_frame.specs.Reading.{Answers};
+
+use crate::child::Parent;
+use crate::error::Result;
+use crate::head::Head;
+use crate::reading::check;
+use crate::traits::ReadBox;
+use std::alloc::Global;
+
+/// Reads the head of the child at an offset of its parent. Invalid data if the child is larger than its parent. It
+/// may have fewer than 8 bytes.
+#[tactic(auto, unfolding(crate::specs::OneChild::child_head))]
+pub fn child_head(parent: &Parent, at: u64) -> Result<Head>
+    ensures value { Answers result (child_head parent.now.bytes.now parent.now.size at) }
+    ensures room { IfOk result (λ c. c.start + 8 ≤ length parent.now.bytes.now) }
+{
+    let child = Head::at(parent.bytes, at)?;
+    check(child.size <= parent.size, parent.too_large)?;
+    Ok(child)
+}
+
+/// Reads the content of the child with this head, also past the end of its parent. Invalid data if the child ends
+/// past 2^64 - 1.
+#[tactic(auto, unfolding(crate::specs::OneChild::child_content))]
+pub fn child_content<T: ReadBox>(alloc: Global, parent: &Parent, child: Head) -> Result<T>
+    requires { child.start ≤ length parent.now.bytes.now }
+    ensures { Answers result (child_content T.reads parent.now.bytes.now parent.now.start child) }
+{
+    check(
+        parent.start <= u64::MAX - child.size
+            && child.start <= u64::MAX - child.size - parent.start,
+        "box end past 64 bits",
+    )?;
+    let rest = &parent.bytes[child.start as usize..];
+    T::read_content(alloc, rest, parent.start + child.start, child.size)
+}
+
+/// Reads the child at an offset of its parent, whatever its code.
+#[tactic(auto, unfolding(crate::specs::OneChild::any_child))]
+pub fn any_child<T: ReadBox>(alloc: Global, parent: &Parent, at: u64) -> Result<T>
+    ensures { Answers result (any_child T.reads parent.now.bytes.now parent.now.start parent.now.size at) }
+{
+    let child = child_head(parent, at)?;
+    child_content(alloc, parent, child)
+}
+
+/// Reads the child at an offset of its parent. Invalid data with the text `not_found` if it has another code.
+#[tactic(auto, unfolding(crate::specs::OneChild::named_child))]
+pub fn named_child<T: ReadBox>(
+    alloc: Global,
+    parent: &Parent,
+    code: u32,
+    at: u64,
+    not_found: &'static str,
+) -> Result<T>
+    ensures { Answers result (named_child T.reads code parent.now.bytes.now parent.now.start parent.now.size at) }
+{
+    let child = child_head(parent, at)?;
+    check(child.code == code, not_found)?;
+    child_content(alloc, parent, child)
+}
+
+/// Reads the child at an offset of its parent, if the parent goes on there. A child with another code is not read.
+#[tactic(auto, unfolding(crate::specs::OneChild::optional_child))]
+pub fn optional_child<T: ReadBox>(
+    alloc: Global,
+    parent: &Parent,
+    code: u32,
+    at: u64,
+) -> Result<Option<T>>
+    ensures { Answers result (optional_child T.reads code parent.now.bytes.now parent.now.start parent.now.size at) }
+{
+    if parent.size <= at {
+        return Ok(None);
+    }
+    let child = child_head(parent, at)?;
+    if child.code != code {
+        return Ok(None);
+    }
+    Ok(Some(child_content(alloc, parent, child)?))
+}

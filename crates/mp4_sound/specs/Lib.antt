@@ -1,0 +1,13 @@
+pub mod Counted
+pub mod DescriptorHeader
+pub mod Walk
+pub mod DecoderSpecific
+pub mod DecoderSpecificLaws
+pub mod WalkLaws
+pub mod DecoderConfig
+pub mod EsDescriptor
+pub mod Esds
+pub mod EsdsLaws
+pub mod Mp4a
+pub mod Mp4aLaws
+pub mod Boxes
