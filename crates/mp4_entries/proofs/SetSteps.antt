@@ -61,9 +61,9 @@ module _ (bytes : List ℕ) where
     pub set_faults : (e : Error) → Refuses e (set_at bytes o) → Refuses e whole
     set_faults e h = decided_fault e _ whole begun (first_faults e _ _ (first_faults e _ (after (n - 1) o) h))
 
-    -- it is read, and wants memory
-    pub set_wants : (e : Error) (mine : NalUnit) → e ≡ errors.OutOfMemory → (set_at bytes o).outcome ≡ Ok mine → Refuses e whole
-    set_wants e mine is h = set_faults e (subst (λ (x : Error). Refuses x (set_at bytes o)) (sym is) (set_asked o mine h))
+    -- it is read, and then the call is out of memory
+    pub set_out_of_memory : (e : Error) (mine : NalUnit) → e ≡ errors.OutOfMemory → (set_at bytes o).outcome ≡ Ok mine → Refuses e whole
+    set_out_of_memory e mine is h = set_faults e (subst (λ (x : Error). Refuses x (set_at bytes o)) (sym is) (set_asked o mine h))
 
     -- it is read
     pub set_read : (mine : NalUnit) (next : List NalUnit) (k : ℕ) → (set_at bytes o).outcome ≡ Ok mine → next ≡ front ++ mine ∷ [] → k ≡ o + 2 + length mine.bytes → Decides (continued next (sets bytes (n - 1) k)) whole

@@ -20,7 +20,7 @@ no_unit s t (pending, none, same) = rw (pending, no_bytes (encode_utf16_rest s) 
 pub first_unit : (s t : EncodeUtf16) (x : ℕ) → IsUtf8 (encode_utf16_rest s) → encode_utf16_steps s (Some x) t → (units_left s ≡ x ∷ units_left t) × IsUtf8 (encode_utf16_rest t)
 first_unit s t x text (inl (pending, none, rest)) = (rw (pending, none, rest) refl, subst IsUtf8 (sym rest) text)
 first_unit s t x text (inr (none, (c, rest, units))) =
-    let behind : utf16_units (encode_utf16_rest s) ≡ encode_utf16 c ++ utf16_units (encode_utf16_rest t) = ap (flat_map encode_utf16) (chars_past_char (encode_utf16_rest s) (encode_utf16_rest t) c text rest) in
+    let rest_units : utf16_units (encode_utf16_rest s) ≡ encode_utf16 c ++ utf16_units (encode_utf16_rest t) = ap (flat_map encode_utf16) (chars_past_char (encode_utf16_rest s) (encode_utf16_rest t) c text rest) in
     let front : units_left s ≡ utf16_units (encode_utf16_rest s) = ap (λ (us : List ℕ). us ++ utf16_units (encode_utf16_rest s)) none in
     let first : encode_utf16 c ++ utf16_units (encode_utf16_rest t) ≡ x ∷ units_left t = ap (λ (us : List ℕ). us ++ utf16_units (encode_utf16_rest t)) units in
-    (front ∙ behind ∙ first, IsUtf8-past_char (encode_utf16_rest s) (encode_utf16_rest t) c text rest)
+    (front ∙ rest_units ∙ first, IsUtf8-past_char (encode_utf16_rest s) (encode_utf16_rest t) c text rest)

@@ -66,13 +66,13 @@ module _ {A : Type 0} (reads : List ℕ → ℕ → ℕ → Reading A) (code : �
     head_faults e h = decided_fault e _ whole begun (first_faults e _ _ (first_faults e _ after h))
 
     module _ (c : Head) (is : (child bytes start size o).outcome ≡ Ok c) where
-      behind_head : Decides (continue_with found (after c)) whole
-      behind_head = decides_on _ _ whole (bind_decided (after c) (child bytes start size o >>= after) (λ later. done (last found later)) (decides_bind (child bytes start size o) after c is)) begun
+      after_head : Decides (continue_with found (after c)) whole
+      after_head = decides_on _ _ whole (bind_decided (after c) (child bytes start size o >>= after) (λ later. done (last found later)) (decides_bind (child bytes start size o) after c is)) begun
 
       -- the child itself faults
       pub child_faults : (e : Error) → Refuses e (child_if_named reads code bytes start c) → Refuses e whole
       unfolding after
-      child_faults e h = decided_fault e _ whole behind_head (first_faults e _ _ (first_faults e _ _ h))
+      child_faults e h = decided_fault e _ whole after_head (first_faults e _ _ (first_faults e _ _ h))
 
       -- the child is read, or skipped
       pub next : (mine : Option A) → (child_if_named reads code bytes start c).outcome ≡ Ok mine → Decides (continue_with (last found mine) (children reads code bytes start size (n - 1) (c.start + c.size))) whole
@@ -80,7 +80,7 @@ module _ {A : Type 0} (reads : List ℕ → ℕ → ℕ → Reading A) (code : �
       next mine e =
           let rest = children reads code bytes start size (n - 1) (c.start + c.size) in
           let one : Decides (continue_with found (rest >>= λ later. done (last mine later))) whole =
-          decides_on _ _ whole (bind_decided _ _ (λ later. done (last found later)) (decides_bind (child_if_named reads code bytes start c) (λ mine. rest >>= λ later. done (last mine later)) mine e)) behind_head in
+          decides_on _ _ whole (bind_decided _ _ (λ later. done (last found later)) (decides_bind (child_if_named reads code bytes start c) (λ mine. rest >>= λ later. done (last mine later)) mine e)) after_head in
           decides_on _ _ whole (decides_same _ _ (regroup_by found mine rest.asks_memory rest.outcome)) one
 
       is_named_child : c.code ≡ code → child_if_named reads code bytes start c ≡ (reads (drop c.start bytes) (start + c.start) c.size >>= λ v. done (Some v))

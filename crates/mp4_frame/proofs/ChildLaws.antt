@@ -48,7 +48,7 @@ module _ {A : Type 0} (reads : List ℕ → ℕ → ℕ → Reading A) (code : �
       let count : suc n + more ≡ suc (n + more) = omega arith in
       let c = child bytes start size o in
       ap (λ (k : ℕ). children reads code bytes start size k o) count
-      ∙ ap (λ (r : Reading (Option A)). cond (nat_le size o) (done None) r) (same_after o (n + more) n (λ q behind. all_children n more q (omega (arith, le, behind))) c.asks_memory c.outcome refl)
+      ∙ ap (λ (r : Reading (Option A)). cond (nat_le size o) (done None) r) (same_after o (n + more) n (λ q later. all_children n more q (omega (arith, le, later))) c.asks_memory c.outcome refl)
 
 -- From the laws of the child:
 module _ {A : Type 0} {reads : List ℕ → ℕ → ℕ → Reading A} {format : Format A} (laws : IsBox reads format) where

@@ -49,11 +49,11 @@ header_by h x y false e most other code own =
     let named : number bytes (length x + 4) 4 ≡ code_of h.name = among cs x y 4 4 fits in
     let size : number bytes (length x + 8) 8 ≡ h.size + 8 = among cs x y 8 8 fits in
     let present = expect_bytes_present bytes (length x) 8 (omega (arith, long cs x y)) in
-    let behind = expect_bytes_present bytes (length x + 8) 8 (omega (arith, long cs x y)) in
+    let after_length = expect_bytes_present bytes (length x + 8) 8 (omega (arith, long cs x y)) in
     let some : (h.size + 8 == 0) ≡ false = ne_eqb (h.size + 8) 0 (λ z. absurd (omega arith)) in
     let enough : nat_le 16 (h.size + 8) ≡ true = le-leb 16 (h.size + 8) (omega arith) in
     let counted : h.size + 8 - 8 ≡ h.size = omega arith in
-    (rw (present, one, behind, named, size, some, enough, counted) (ap (λ (n : BoxType). done (record { name = n; size = h.size })) own), rw one (sym (length-fields cs)))
+    (rw (present, one, after_length, named, size, some, enough, counted) (ap (λ (n : BoxType). done (record { name = n; size = h.size })) own), rw one (sym (length-fields cs)))
 
 pub header_back : (h : BoxHeader) (x y : List ℕ) → h.size ≤ 2 ^ 64 - 9 → (h.size ≡ 1 → ⊥) → code_of h.name < 2 ^ 32 → name_of (code_of h.name) ≡ h.name
     → (header (x ++ (bytes_header h ++ y)) (length x) ≡ done h) × (header_length (x ++ (bytes_header h ++ y)) (length x) ≡ length (bytes_header h))

@@ -49,11 +49,11 @@ chunks_are_rows B taken o e n pos is len =
 pub rows_value : (B taken : List ℕ) (o e n w : ℕ) → 0 < e → w ≡ n * e → length taken ≡ w → (piece_at B o w).outcome ≡ Ok taken → (rows_at B o e n).outcome ≡ Ok (first_chunks e (length taken / e) taken)
 unfolding rows_at
 rows_value B taken o e n w pos is long found =
-    let stood = value_first (expect_bytes B o w) (λ _. done (take w (drop o B))) taken found in
-    let piece : take w (drop o B) ≡ taken = is_value _ taken stood.2 in
+    let is_read = value_first (expect_bytes B o w) (λ _. done (take w (drop o B))) taken found in
+    let piece : take w (drop o B) ≡ taken = is_value _ taken is_read.2 in
     let here : taken ≡ take (n * e) (drop o B) = sym piece ∙ ap (λ (k : ℕ). take k (drop o B)) is in
     let made = chunks_are_rows B taken o e n pos here (long ∙ is) in
-    let present : (expect_bytes B o (n * e)).outcome ≡ Ok tt = ap (λ (k : ℕ). (expect_bytes B o k).outcome) (sym is) ∙ stood.1 in
+    let present : (expect_bytes B o (n * e)).outcome ≡ Ok tt = ap (λ (k : ℕ). (expect_bytes B o k).outcome) (sym is) ∙ is_read.1 in
     ap (λ (a : Result (Unit {0}) Fault). (and_then (expect_bytes B o (n * e)).asks_memory a (λ _. done (rows B o e n))).outcome) present ∙ ap (λ (x : List (List ℕ)). Ok x) (sym made)
 
 fault_same : {A C : Type 0} (b : Bool) (y : A) (z : C) (x : Error) → Refuses x (guard b >>= λ _. done y) → Refuses x (guard b >>= λ _. done z)

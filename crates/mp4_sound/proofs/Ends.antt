@@ -83,10 +83,10 @@ module _ {A : Type 0} (content : List ℕ → ℕ → DescriptorHeader → Count
   enough_by : (n more o : ℕ) → length bytes < o + suc n → walk content bytes bound (suc n + more) o ≡ walk content bytes bound (suc n) o
   enough_by zero more o le =
       let count : suc zero + more ≡ suc more = omega arith in
-      ap (λ (k : ℕ). walk content bytes bound k o) count ∙ one_more more zero o (λ p behind there. absurd (omega (arith, le, there)))
+      ap (λ (k : ℕ). walk content bytes bound k o) count ∙ one_more more zero o (λ p inside there. absurd (omega (arith, le, there)))
   enough_by (suc n) more o le =
       let count : suc (suc n) + more ≡ suc (suc n + more) = omega arith in
-      ap (λ (k : ℕ). walk content bytes bound k o) count ∙ one_more (suc n + more) (suc n) o (λ p behind there. enough_by n more p (omega (arith, le, behind)))
+      ap (λ (k : ℕ). walk content bytes bound k o) count ∙ one_more (suc n + more) (suc n) o (λ p inside there. enough_by n more p (omega (arith, le, inside)))
 
   -- a bound on the number of descriptors changes nothing if the bytes that are left are fewer
   pub enough : (n more o : ℕ) → 0 < n → length bytes < o + n → walk content bytes bound (n + more) o ≡ walk content bytes bound n o

@@ -94,13 +94,13 @@ back_0 v rest w e =
     let B = bytes_of_fields cs ++ (texts_emsg v ++ (bytes_of_fields ns ++ tail)) in
     let front = bytes_of_fields cs ++ texts_emsg v in
     let long : length front ≡ at = omega (arith, length-append (bytes_of_fields cs) (texts_emsg v), length-fields cs, length_texts v) in
-    let behind_numbers : length (front ++ bytes_of_fields ns) ≡ at + 16 = omega (arith, length-append front (bytes_of_fields ns), length-fields ns, long) in
+    let after_numbers : length (front ++ bytes_of_fields ns) ≡ at + 16 = omega (arith, length-append front (bytes_of_fields ns), length-fields ns, long) in
     let split : B ≡ front ++ (bytes_of_fields ns ++ tail) = simp append_assoc in
     let split_more : B ≡ (front ++ bytes_of_fields ns) ++ (v.message_data ++ rest) = simp append_assoc in
     let size : size_emsg v ≡ at + 16 + length v.message_data = omega (arith, ap {B = ℕ} (λ (b : Bool). cond b 18 22) e) in
     let two : two_texts B 12 ≡ with_value texts = two_back (bytes_of_fields cs) v.scheme_id_uri v.value (bytes_of_fields ns ++ tail) 12 (length-fields cs) w.scheme w.value in
-    let present : expect_bytes B at 16 ≡ done tt = expect_bytes_present B at 16 (omega (arith, ap length split_more, length-append (front ++ bytes_of_fields ns) (v.message_data ++ rest), behind_numbers)) in
-    let message : message_from B (size_emsg v) (at + 16) ≡ with_value v.message_data = ap (λ (l : List ℕ). message_from l (size_emsg v) (at + 16)) split_more ∙ message_back (front ++ bytes_of_fields ns) v.message_data rest (size_emsg v) (at + 16) behind_numbers size in
+    let present : expect_bytes B at 16 ≡ done tt = expect_bytes_present B at 16 (omega (arith, ap length split_more, length-append (front ++ bytes_of_fields ns) (v.message_data ++ rest), after_numbers)) in
+    let message : message_from B (size_emsg v) (at + 16) ≡ with_value v.message_data = ap (λ (l : List ℕ). message_from l (size_emsg v) (at + 16)) split_more ∙ message_back (front ++ bytes_of_fields ns) v.message_data rest (size_emsg v) (at + 16) after_numbers size in
     let head : number B ≡ found cs (texts_emsg v ++ (bytes_of_fields ns ++ tail)) = numbers-fields cs (texts_emsg v ++ (bytes_of_fields ns ++ tail)) w.fit in
     let numbers : number (drop at B) ≡ found ns tail = ap (λ (l : List ℕ). number (drop at l)) split ∙ ap number (drop_at front (bytes_of_fields ns ++ tail) at long) ∙ numbers-fields ns tail w.fit_0 in
     rw (two, present, message, head, numbers) (ap (λ (time : Option ℕ). Ok (record v { presentation_time = None; presentation_time_delta = time })) (some_is v.presentation_time_delta (time_is v true e w)))
@@ -117,13 +117,13 @@ back_1 v rest w e =
     let B = bytes_of_fields cs ++ (bytes_of_fields ns ++ tail) in
     let front = bytes_of_fields cs ++ bytes_of_fields ns in
     let long : length front ≡ 32 = omega (arith, length-append (bytes_of_fields cs) (bytes_of_fields ns), length-fields cs, length-fields ns) in
-    let behind_texts : length (front ++ texts_emsg v) ≡ at = omega (arith, length-append front (texts_emsg v), length_texts v, long) in
+    let end_of_texts : length (front ++ texts_emsg v) ≡ at = omega (arith, length-append front (texts_emsg v), length_texts v, long) in
     let split : B ≡ front ++ (texts_emsg v ++ (v.message_data ++ rest)) = simp append_assoc in
     let split_more : B ≡ (front ++ texts_emsg v) ++ (v.message_data ++ rest) = simp append_assoc in
     let size : size_emsg v ≡ at + length v.message_data = omega (arith, ap {B = ℕ} (λ (b : Bool). cond b 18 22) e) in
-    let present : expect_bytes B 12 20 ≡ done tt = expect_bytes_present B 12 20 (omega (arith, ap length split_more, length-append (front ++ texts_emsg v) (v.message_data ++ rest), behind_texts)) in
+    let present : expect_bytes B 12 20 ≡ done tt = expect_bytes_present B 12 20 (omega (arith, ap length split_more, length-append (front ++ texts_emsg v) (v.message_data ++ rest), end_of_texts)) in
     let two : two_texts B 32 ≡ with_value texts = ap (λ (l : List ℕ). two_texts l 32) split ∙ two_back front v.scheme_id_uri v.value (v.message_data ++ rest) 32 long w.scheme w.value in
-    let message : message_from B (size_emsg v) at ≡ with_value v.message_data = ap (λ (l : List ℕ). message_from l (size_emsg v) at) split_more ∙ message_back (front ++ texts_emsg v) v.message_data rest (size_emsg v) at behind_texts size in
+    let message : message_from B (size_emsg v) at ≡ with_value v.message_data = ap (λ (l : List ℕ). message_from l (size_emsg v) at) split_more ∙ message_back (front ++ texts_emsg v) v.message_data rest (size_emsg v) at end_of_texts size in
     let head : number B ≡ found cs (bytes_of_fields ns ++ tail) = numbers-fields cs (bytes_of_fields ns ++ tail) w.fit in
     let numbers : number (drop 12 B) ≡ found ns tail = ap number (drop_at (bytes_of_fields cs) (bytes_of_fields ns ++ tail) 12 (length-fields cs)) ∙ numbers-fields ns tail w.fit_1 in
     let time : is_some v.presentation_time ≡ true = (and_parts (v.version == 1) (is_some v.presentation_time) (time_is v false e w)).1 in

@@ -10,7 +10,7 @@ fn avc1(rt: HostRuntime) -> Result<(), Fail> {
     let avcc = avcc_of_two(rt.alloc(), 3)?;
     let out = expect_written(rt.alloc(), &avc1_of(rt.alloc(), avcc), 135)?;
     let front = *b"\0\0\0\x31avcC\x01\x64\0\x0d\xff\xe1\0\x18";
-    assert!(rt; out.as_slice()[86..102] == front.as_slice()[..16]);
+    assert!(rt; out.get(86..102) == Some(front.as_slice()));
     Ok(())
 }
 

@@ -28,8 +28,9 @@ fn expect_value_at_sizes<B: BoxLaws + PartialEq + Drop>(
     alloc: Global,
     value: &B,
     bytes: &[u8],
-    child: u64,
+    child: u32,
 ) -> Result<(), Mismatch> {
+    let child = u64::from(child);
     for size in [child, child + 1, bytes.len() as u64, u64::MAX - 8] {
         expect_kind::<B>(alloc, bytes, size, Kind::Ok)?;
         let (result, _) = read::<B>(alloc, bytes, size);
