@@ -1,7 +1,8 @@
 /*
- * A preloaded allocator that refuses one request for memory: the Nth call of malloc, calloc or realloc that
- * asks for any, where N is the number in the variable REFUSE (0 or none: it refuses nothing). When the
- * program ends it writes the number of requests to the file that the variable REQUESTS names.
+ * A preloaded allocator that refuses requests for memory: the Nth call of malloc, calloc or realloc that asks for
+ * any, where N is the number in the variable REFUSE (0 or none: it refuses nothing), and if the variable AND_LATER is
+ * set, all calls after it. When the program ends it writes the number of requests to the file that the variable
+ * REQUESTS names.
  */
 #define _GNU_SOURCE
 #include <dlfcn.h>
@@ -12,9 +13,10 @@
 static unsigned long requests;
 
 static int refused(void) {
-    const char *nth = getenv("REFUSE");
+    const char *text = getenv("REFUSE");
+    unsigned long nth = text == NULL ? 0 : strtoul(text, NULL, 10);
     requests += 1;
-    if (nth != NULL && strtoul(nth, NULL, 10) == requests) {
+    if (nth != 0 && (nth == requests || (nth < requests && getenv("AND_LATER") != NULL))) {
         errno = ENOMEM;
         return 1;
     }

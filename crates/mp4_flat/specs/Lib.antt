@@ -1,6 +1,7 @@
 pub mod Time
 pub mod Matrix
 pub mod Language
+pub mod TrackFlag
 pub mod LanguageLaws
 pub mod TimeLaws
 pub mod MatrixLaws

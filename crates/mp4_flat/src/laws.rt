@@ -1,10 +1,12 @@
-//! The laws of equality of the flat boxes. No function here calls another.
+//! The laws of equality of the flat boxes, and the numbers of flags. No function here calls another.
 
+ghost use Rattle.std.specs.Prelude.{◌≡◌};
 ghost use Rattle.mp4_frame.specs.Equality.{IsEquality};
+ghost use Rattle.mp4_flat.specs.TrackFlag.{number_track_flag};
 
 use crate::{
-    Matrix, MdhdBox, MehdBox, MfhdBox, MvhdBox, RgbColor, SmhdBox, TfdtBox, TkhdBox, TrexBox,
-    VmhdBox,
+    Matrix, MdhdBox, MehdBox, MfhdBox, MvhdBox, RgbColor, SmhdBox, TfdtBox, TkhdBox, TrackFlag,
+    TrexBox, VmhdBox,
 };
 
 /// `==` of two values compares all of their fields.
@@ -21,3 +23,10 @@ pub fn equality_is_of_all_fields()
     ensures matrix { IsEquality ⟦<Matrix as PartialEq>⟧.eq }
     ensures rgb_color { IsEquality ⟦<RgbColor as PartialEq>⟧.eq }
 {}
+
+/// The discriminant of a flag of a track header is its bit.
+pub fn discriminant_of_track_flag(flag: TrackFlag) -> u32
+    ensures { result ≡ number_track_flag flag }
+{
+    flag as u32
+}

@@ -1,6 +1,7 @@
 //! What no contract of the codec says. The tests have boxes with their bytes, cuts, wrong sizes, printed texts and
-//! refused memory. The program writes and reads every vector. From outside, one request for memory may be refused. It
-//! ends with status 0 only if that leaves everything as it was, and the same call then has its usual result.
+//! refused memory. The program writes and reads every vector, alone and all as one stream. From outside, requests for
+//! memory may be refused to it. Its status is 0 if every call has its usual result, be it at the second try; 1 if a call
+//! is out of memory twice; and 2 if a call has any other result, or leaves anything that it shouldn't.
 #![tactic(auto)]
 
 mod example;
@@ -11,27 +12,34 @@ mod tests;
 
 use mp4_ported::vectors::VECTORS;
 use refused_memory::{
-    Wrong, clone_config, make_texts, shorten_offsets, write_and_read, write_and_read_marks,
+    Ending, clone_config, make_texts, read_without_memory, shorten_offsets, write_and_read,
+    write_and_read_all, write_and_read_marks,
 };
 use std::process::ExitCode;
 
+fn status(outcome: &Result<(), Ending>) -> u8 {
+    match outcome {
+        Ok(()) => 0,
+        Err(Ending::Refused) => 1,
+        Err(Ending::Wrong) => 2,
+    }
+}
+
 fn main(rt: HostRuntime) -> ExitCode {
+    let mut worst = 0;
     for vector in VECTORS {
-        if write_and_read(rt.alloc(), vector).is_err() {
-            return ExitCode::from(1);
-        }
+        worst = worst.max(status(&write_and_read(rt.alloc(), vector)));
     }
     let others = [
+        write_and_read_all(rt.alloc()),
         write_and_read_marks(rt.alloc()),
+        read_without_memory(rt.alloc()),
         clone_config(rt.alloc()),
         shorten_offsets(rt.alloc()),
         make_texts(rt.alloc()),
     ];
-    if others
-        .iter()
-        .any(|outcome: &Result<(), Wrong>| outcome.is_err())
-    {
-        return ExitCode::from(1);
+    for outcome in &others {
+        worst = worst.max(status(outcome));
     }
-    ExitCode::from(0)
+    ExitCode::from(worst)
 }

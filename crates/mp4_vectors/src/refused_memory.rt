@@ -1,25 +1,38 @@
-//! Calls of the codec that may be refused one request for memory. A call that is out of memory leaves everything as it
-//! was, and has its usual result when it is made again.
+//! Calls of the codec that may be refused a request for memory, or one and all after it. A call that is out of memory
+//! leaves everything as it was, and is made again: then it has its usual result, or is out of memory once more.
 
 use crate::mark::MarkBox;
-use mp4_ported::vectors::Vector;
+use mp4_ported::vectors::{VECTORS, Vector};
 use mp4_stream::{
-    AvcConfig, ByteCursor, Co64Box, Error, MdhdBox, MediaConfig, StcoBox, StreamBox, TryClone,
-    WriteBox, language_string, read_boxes_as, write_boxes,
+    AnyBox, AvcConfig, BoxHeader, ByteCursor, Co64Box, Error, MdhdBox, MediaConfig, StcoBox,
+    StreamBox, TryClone, WriteBox, language_string, read_boxes_as, write_boxes,
 };
 use std::alloc::Global;
 use std::slice;
 
-/// A call failed twice, or for another reason than memory, or it returned or left something wrong.
+/// Why calls of the codec ended before their end.
 #[derive(Debug, Drop)]
-pub struct Wrong;
+pub enum Ending {
+    /// A call was out of memory twice, and left everything as it was.
+    Refused,
+    /// A call failed for another reason than memory, or it returned or left something wrong.
+    Wrong,
+}
+
+/// Out of memory, or something wrong.
+fn ending(error: Error) -> Ending {
+    match error {
+        Error::OutOfMemory => Ending::Refused,
+        _ => Ending::Wrong,
+    }
+}
 
 /// The result of a call, which is made again if it is out of memory.
 macro_rules! again {
     ($call:expr) => {
         match $call {
-            Err(Error::OutOfMemory) => $call.map_err(|_| Wrong),
-            outcome => outcome.map_err(|_| Wrong),
+            Err(Error::OutOfMemory) => $call.map_err(ending),
+            outcome => outcome.map_err(ending),
         }
     };
 }
@@ -34,69 +47,138 @@ fn append<B: StreamBox>(boxes: &[B], out: &mut Vec<u8>, as_list: bool) -> mp4_st
 }
 
 /// Appends the bytes of the boxes to a 7, and again if that is out of memory and leaves the 7 alone.
-fn write<B: StreamBox>(alloc: Global, boxes: &[B], as_list: bool) -> Result<Vec<u8>, Wrong> {
+fn write<B: StreamBox>(alloc: Global, boxes: &[B], as_list: bool) -> Result<Vec<u8>, Ending> {
     let mut out = Vec::new(alloc);
     if out.push(7).is_err() && out.push(7).is_err() {
-        return Err(Wrong);
+        return Err(Ending::Refused);
     }
-    let mut outcome = append(boxes, &mut out, as_list);
-    if matches!(outcome, Err(Error::OutOfMemory)) {
-        if out.as_slice() != [7].as_slice() {
-            return Err(Wrong);
+    for is_last in [false, true] {
+        match append(boxes, &mut out, as_list) {
+            Ok(_) => return Ok(out),
+            Err(_) if out.as_slice() != [7].as_slice() => return Err(Ending::Wrong),
+            Err(Error::OutOfMemory) if !is_last => {}
+            Err(e) => return Err(ending(e)),
         }
-        outcome = append(boxes, &mut out, as_list);
     }
-    match outcome {
-        Ok(_) => Ok(out),
-        Err(_) => Err(Wrong),
-    }
+    Err(Ending::Wrong)
 }
 
 /// Reads the boxes after the first byte, and again if that is out of memory and leaves the cursor after the first byte.
 /// At the end the cursor is at the end of the buffer.
-fn read<B: StreamBox>(alloc: Global, bytes: &[u8]) -> Result<Vec<B>, Wrong> {
+fn read<B: StreamBox>(alloc: Global, bytes: &[u8]) -> Result<Vec<B>, Ending> {
     let mut reader = ByteCursor::new(bytes);
     reader.set_position(1);
-    let mut outcome = read_boxes_as(alloc, &mut reader);
-    if matches!(outcome, Err(Error::OutOfMemory)) {
-        if reader.position() != 1 {
-            return Err(Wrong);
+    for is_last in [false, true] {
+        match read_boxes_as(alloc, &mut reader) {
+            Ok(found) if reader.position() == bytes.len() as u64 => return Ok(found),
+            Err(Error::OutOfMemory) if reader.position() == 1 && !is_last => {}
+            Err(e) if reader.position() == 1 => return Err(ending(e)),
+            _ => return Err(Ending::Wrong),
         }
-        outcome = read_boxes_as(alloc, &mut reader);
     }
-    match outcome {
-        Ok(found) if reader.position() == bytes.len() as u64 => Ok(found),
-        _ => Err(Wrong),
-    }
+    Err(Ending::Wrong)
 }
 
 /// Writes the boxes, compares the bytes, and reads the boxes back.
-fn round_trip<B: StreamBox + Eq>(alloc: Global, boxes: &[B], bytes: &[u8]) -> Result<(), Wrong> {
+fn round_trip<B: StreamBox + Eq>(alloc: Global, boxes: &[B], bytes: &[u8]) -> Result<(), Ending> {
     for as_list in [false, true] {
         let out = write(alloc, boxes, as_list)?;
         if out.as_slice().split_first() != Some((&7, bytes)) {
-            return Err(Wrong);
+            return Err(Ending::Wrong);
         }
         let found = read::<B>(alloc, &out)?;
         if found.as_slice() != boxes {
-            return Err(Wrong);
+            return Err(Ending::Wrong);
         }
     }
     Ok(())
 }
 
+fn boxes_of_all(alloc: Global) -> mp4_stream::Result<Vec<AnyBox>> {
+    let mut boxes = Vec::new(alloc);
+    for vector in VECTORS {
+        boxes.push(vector.make(alloc)?)?;
+    }
+    Ok(boxes)
+}
+
+fn bytes_of_all(alloc: Global) -> mp4_stream::Result<Vec<u8>> {
+    let mut bytes = Vec::new(alloc);
+    for vector in VECTORS {
+        bytes.extend_from_slice(vector.bytes())?;
+    }
+    Ok(bytes)
+}
+
+/// Writes and reads all vectors as one stream.
+pub fn write_and_read_all(alloc: Global) -> Result<(), Ending> {
+    let boxes = again!(boxes_of_all(alloc))?;
+    let bytes = again!(bytes_of_all(alloc))?;
+    round_trip(alloc, &boxes, &bytes)
+}
+
+/// Boxes that are read without memory for their lists and strings: runs without fields and samples of one size,
+/// however many; a reference and a configuration that hold nothing.
+const WITHOUT_MEMORY: [&[u8]; 4] = [
+    b"\0\0\0\x10trun\0\0\0\0\xff\xff\xff\xff",
+    b"\0\0\0\x14stsz\0\0\0\0\0\0\x01\x0b\xff\xff\xff\xff",
+    b"\0\0\0\x0curl \0\0\0\x01",
+    b"\0\0\0\x0favcC\x01\x64\0\x0d\xff\xe0\0",
+];
+
+/// Whether the vector is of a type whose boxes are read without memory.
+fn asks_no_memory(vector: Vector) -> bool {
+    matches!(
+        vector,
+        Vector::Mvhd
+            | Vector::Tkhd
+            | Vector::Mehd
+            | Vector::Mfhd
+            | Vector::Smhd
+            | Vector::Vmhd
+            | Vector::Trex
+            | Vector::Tfdt
+            | Vector::Tfhd
+            | Vector::Hvcc
+            | Vector::Hev1
+            | Vector::Vpcc
+            | Vector::Vp09
+            | Vector::Tx3g
+    )
+}
+
+fn read_one(alloc: Global, bytes: &[u8]) -> mp4_stream::Result<AnyBox> {
+    let mut reader = ByteCursor::new(bytes);
+    let header = BoxHeader::read(&mut reader)?;
+    AnyBox::read_named(alloc, header.name, &mut reader, header.size)
+}
+
+/// Reads boxes that never ask for memory: also where every request is refused.
+pub fn read_without_memory(alloc: Global) -> Result<(), Ending> {
+    let refused = WITHOUT_MEMORY
+        .iter()
+        .any(|bytes| read_one(alloc, bytes).is_err());
+    let vector_refused = VECTORS.iter().any(|vector| asks_no_memory(*vector)
+        && read_one(alloc, vector.bytes()).is_err());
+    if refused || vector_refused {
+        Err(Ending::Wrong)
+    } else {
+        Ok(())
+    }
+}
+
 /// Makes, clones, writes and reads a vector.
-pub fn write_and_read(alloc: Global, vector: Vector) -> Result<(), Wrong> {
+pub fn write_and_read(alloc: Global, vector: Vector) -> Result<(), Ending> {
     let original = again!(vector.make(alloc))?;
     let clone = again!(original.try_clone())?;
     if clone != original {
-        return Err(Wrong);
+        return Err(Ending::Wrong);
     }
     round_trip(alloc, slice::from_ref(&clone), vector.bytes())
 }
 
 /// Writes and reads a list of boxes of a type from outside the codec.
-pub fn write_and_read_marks(alloc: Global) -> Result<(), Wrong> {
+pub fn write_and_read_marks(alloc: Global) -> Result<(), Ending> {
     let marks = [MarkBox { mark: 1 }, MarkBox { mark: 0xffff_ffff }];
     round_trip(
         alloc,
@@ -115,12 +197,12 @@ fn config(alloc: Global) -> mp4_stream::Result<MediaConfig> {
 }
 
 /// Makes and clones the configuration of a track.
-pub fn clone_config(alloc: Global) -> Result<(), Wrong> {
+pub fn clone_config(alloc: Global) -> Result<(), Ending> {
     let original = again!(config(alloc))?;
     if again!(original.try_clone())? == original {
         Ok(())
     } else {
-        Err(Wrong)
+        Err(Ending::Wrong)
     }
 }
 
@@ -133,23 +215,23 @@ fn offsets(alloc: Global) -> mp4_stream::Result<Co64Box> {
 }
 
 /// Converts offsets of chunks to 32 bits.
-pub fn shorten_offsets(alloc: Global) -> Result<(), Wrong> {
+pub fn shorten_offsets(alloc: Global) -> Result<(), Ending> {
     let offsets = again!(offsets(alloc))?;
     let short = again!(StcoBox::try_from_co64(alloc, &offsets))?;
     if short.entries.as_slice() == [267, 1970].as_slice() {
         Ok(())
     } else {
-        Err(Wrong)
+        Err(Ending::Wrong)
     }
 }
 
 /// Makes the text of a language and a default media header, which has that language.
-pub fn make_texts(alloc: Global) -> Result<(), Wrong> {
+pub fn make_texts(alloc: Global) -> Result<(), Ending> {
     let language = again!(language_string(alloc, 0x55c4))?;
     let header = again!(MdhdBox::default_in(alloc))?;
     if language.as_str() == header.language.as_str() {
         Ok(())
     } else {
-        Err(Wrong)
+        Err(Ending::Wrong)
     }
 }

@@ -5,7 +5,8 @@ use linked_list_allocator::LocalHeap;
 use mp4_ported::helpers::{Kind, kind_of};
 use mp4_ported::vectors::{VECTORS, Vector};
 use mp4_stream::{
-    BoxHeader, BoxType, Error, WriteBox, write_box_header_ext, write_boxes, write_zeros,
+    AnyBox, BoxHeader, BoxType, Error, MfhdBox, WriteBox, write_box_header_ext, write_boxes,
+    write_zeros,
 };
 use std::test::Fail;
 
@@ -108,6 +109,17 @@ fn an_unwritable_box_asks_for_no_memory(rt: HostRuntime) -> Result<(), Fail> {
     );
     let header = BoxHeader::new(BoxType::FreeBox, u64::MAX);
     assert_eq!(rt; kind_of(&header.write(&mut out)), Kind::Invalid);
+    let flagged = MfhdBox {
+        version: 0,
+        flags: 1 << 24,
+        sequence_number: 1,
+    };
+    assert_eq!(rt; kind_of(&flagged.write_box(&mut out)), Kind::Invalid);
+    let last_is_unwritable = [Vector::Ftyp.make(rt.alloc())?, AnyBox::MfhdBox(flagged)];
+    assert_eq!(rt;
+        kind_of(&write_boxes(&last_is_unwritable, &mut out)),
+        Kind::Invalid
+    );
     assert_eq!(rt; heap.used(), 0);
     let boxes = [
         Vector::Ftyp.make(rt.alloc())?,

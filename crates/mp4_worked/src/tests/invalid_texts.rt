@@ -1,7 +1,11 @@
 //! The texts of invalid data.
 
-use mp4_ported::helpers::invalid_text;
-use mp4_stream::{BoxHeader, BoxType, ByteCursor, FourCC, read_boxes, write_box_header_ext};
+use mp4_ported::boxes::entries::AVC1;
+use mp4_ported::helpers::{invalid_text, read};
+use mp4_stream::{
+    AnyBox, Avc1Box, BoxHeader, BoxType, ByteCursor, Co64Box, DinfBox, FourCC, MfhdBox, ReadBox,
+    StcoBox, WriteBox, read_boxes, skip_box, skip_bytes, write_box_header_ext, write_boxes,
+};
 use std::process::Abort;
 use std::str::FromStr;
 use std::test::Fail;
@@ -144,4 +148,46 @@ fn invalid_headers(rt: HostRuntime) {
         invalid_text(&FourCC::from_str("abc")),
         Some("expected exactly four bytes in string")
     );
+}
+
+#[test]
+fn boxes_that_end_past_64_bits(rt: HostRuntime) -> Result<(), Fail> {
+    let text = Some("box end past 64 bits");
+    let mut reader = ByteCursor::new(b"\0\0\0\0\x10mfhd\0\0\0\0\0\0\0\x01");
+    reader.set_position(9);
+    assert_eq!(rt; invalid_text(&skip_bytes(&mut reader, u64::MAX)), text);
+    assert_eq!(rt; invalid_text(&skip_box(&mut reader, u64::MAX)), text);
+    let header = MfhdBox::read_box(rt.alloc(), &mut reader, u64::MAX);
+    assert_eq!(rt; invalid_text(&header), text);
+    // A child of the largest size, in a parent of the largest size.
+    let child = *b"\0\0\0\x08dinf\0\0\0\x01dref\xff\xff\xff\xff\xff\xff\xff\xff";
+    let (dinf, _) = read::<DinfBox>(rt.alloc(), &child, u64::MAX);
+    assert_eq!(rt; invalid_text(&dinf), text);
+    let mut bytes = Vec::from_slice(rt.alloc(), &AVC1[..86])?;
+    bytes.extend_from_slice(b"\0\0\0\x01avcC\xff\xff\xff\xff\xff\xff\xff\xff")?;
+    let (avc1, _) = read::<Avc1Box>(rt.alloc(), &bytes, u64::MAX);
+    assert_eq!(rt; invalid_text(&avc1), text);
+    Ok(())
+}
+
+#[test]
+fn values_that_do_not_fit(rt: HostRuntime) -> Result<(), Fail> {
+    let text = Some("value does not fit its field");
+    let flagged = MfhdBox {
+        version: 0,
+        flags: 1 << 24,
+        sequence_number: 1,
+    };
+    let mut out = Vec::new(rt.alloc());
+    assert_eq!(rt; invalid_text(&flagged.write_box(&mut out)), text);
+    let boxes = [AnyBox::MfhdBox(flagged)];
+    assert_eq!(rt; invalid_text(&write_boxes(&boxes, &mut out)), text);
+    let offsets = Co64Box {
+        version: 0,
+        flags: 0,
+        entries: Vec::from_slice(rt.alloc(), &[1 << 32])?.into(),
+    };
+    let short = StcoBox::try_from_co64(rt.alloc(), &offsets);
+    assert_eq!(rt; invalid_text(&short), text);
+    Ok(())
 }
