@@ -150,6 +150,9 @@ fn asks_no_memory(vector: Vector) -> bool {
 fn read_one(alloc: Global, bytes: &[u8]) -> mp4_stream::Result<AnyBox> {
     let mut reader = ByteCursor::new(bytes);
     let header = BoxHeader::read(&mut reader)?;
+    if !AnyBox::knows(header.name) {
+        return Err(Error::BoxNotFound(header.name));
+    }
     AnyBox::read_named(alloc, header.name, &mut reader, header.size)
 }
 
