@@ -13,6 +13,7 @@ mod media_tables;
 mod metadata;
 mod printed;
 mod samples;
+mod sound;
 mod texts;
 mod unwritable;
 mod utf8;
