@@ -13,7 +13,7 @@ use mp4_frame::{
     BoxType, ByteCursor, Holds, Mp4Box, Result, StreamBox, TryClone, WriteBox, clone_as, push_as,
     push_inside, read_as,
 };
-use mp4_sound::{EsdsBox, Mp4aBox};
+use mp4_sound::{EsdsBox, Mp4aBox, StsdBox};
 use mp4_tables::{
     Co64Box, CttsBox, ElstBox, StcoBox, StscBox, StssBox, StszBox, SttsBox, TfhdBox, TrunBox,
 };
@@ -28,7 +28,7 @@ macro_rules! of_boxes {
                 FtypBox MvhdBox TkhdBox MdhdBox MehdBox MfhdBox SmhdBox VmhdBox TrexBox TfdtBox
                 StcoBox Co64Box SttsBox CttsBox StssBox StszBox StscBox ElstBox TfhdBox TrunBox
                 HdlrBox DataBox EmsgBox UrlBox DrefBox DinfBox AvcCBox Avc1Box HvcCBox Hev1Box
-                VpccBox Vp09Box Tx3gBox EsdsBox Mp4aBox
+                VpccBox Vp09Box Tx3gBox EsdsBox Mp4aBox StsdBox
             ]
             $($rest)*
         }
@@ -106,6 +106,7 @@ pub enum AnyBox {
     Tx3gBox(Tx3gBox),
     EsdsBox(EsdsBox),
     Mp4aBox(Mp4aBox),
+    StsdBox(StsdBox),
 }
 
 impl TryClone for AnyBox {

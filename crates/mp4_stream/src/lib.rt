@@ -89,6 +89,7 @@ pub use mp4_sound::ESDescriptor;
 pub use mp4_sound::EsdsBox;
 pub use mp4_sound::Mp4aBox;
 pub use mp4_sound::SLConfigDescriptor;
+pub use mp4_sound::StsdBox;
 pub use mp4_sound::laws as sound_laws;
 pub use mp4_tables::Co64Box;
 pub use mp4_tables::CttsBox;

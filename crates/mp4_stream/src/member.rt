@@ -6,8 +6,8 @@ ghost use Rattle.mp4_stream.specs.declared.any_box.AnyBox.TheVariants as any;
 use crate::{
     AnyBox, Avc1Box, AvcCBox, Co64Box, CttsBox, DataBox, DinfBox, DrefBox, ElstBox, EmsgBox,
     EsdsBox, FtypBox, HdlrBox, Hev1Box, HvcCBox, MdhdBox, MehdBox, MfhdBox, Mp4aBox, MvhdBox,
-    SmhdBox, StcoBox, StscBox, StssBox, StszBox, SttsBox, TfdtBox, TfhdBox, TkhdBox, TrexBox,
-    TrunBox, Tx3gBox, UrlBox, VmhdBox, Vp09Box, VpccBox,
+    SmhdBox, StcoBox, StscBox, StsdBox, StssBox, StszBox, SttsBox, TfdtBox, TfhdBox, TkhdBox,
+    TrexBox, TrunBox, Tx3gBox, UrlBox, VmhdBox, Vp09Box, VpccBox,
 };
 use mp4_frame::Holds;
 
@@ -288,5 +288,13 @@ impl Holds<Mp4aBox> for AnyBox {
 
     fn wrap(value: Mp4aBox) -> AnyBox {
         AnyBox::Mp4aBox(value)
+    }
+}
+
+impl Holds<StsdBox> for AnyBox {
+    ghost wrapped = { any.StsdBox };
+
+    fn wrap(value: StsdBox) -> AnyBox {
+        AnyBox::StsdBox(value)
     }
 }
