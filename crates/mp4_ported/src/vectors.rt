@@ -49,10 +49,11 @@ pub enum Vector {
     Tx3g,
     Esds,
     Mp4a,
+    Stsd,
 }
 
 /// Every vector.
-pub const VECTORS: [Vector; 35] = [
+pub const VECTORS: [Vector; 36] = [
     Vector::Ftyp,
     Vector::Mvhd,
     Vector::Tkhd,
@@ -88,6 +89,7 @@ pub const VECTORS: [Vector; 35] = [
     Vector::Tx3g,
     Vector::Esds,
     Vector::Mp4a,
+    Vector::Stsd,
 ];
 
 impl Vector {
@@ -129,6 +131,7 @@ impl Vector {
             Vector::Tx3g => &boxes::entries::TX3G,
             Vector::Esds => &boxes::sound::ESDS,
             Vector::Mp4a => &boxes::sound::MP4A,
+            Vector::Stsd => &boxes::sound::STSD,
         }
     }
 
@@ -170,6 +173,7 @@ impl Vector {
             Vector::Tx3g => Ok(entries::tx3g()),
             Vector::Esds => Ok(sound::esds()),
             Vector::Mp4a => Ok(sound::mp4a()),
+            Vector::Stsd => Ok(sound::stsd()),
         }
     }
 }

@@ -1,4 +1,4 @@
-//! Vectors of the sample entry of audio and its descriptors.
+//! Vectors of the sample entry of audio, its descriptors, and a sample description.
 
 use crate::boxes::sound;
 use mp4_stream::AnyBox;
@@ -9,4 +9,8 @@ pub fn esds() -> AnyBox {
 
 pub fn mp4a() -> AnyBox {
     AnyBox::Mp4aBox(sound::mp4a())
+}
+
+pub fn stsd() -> AnyBox {
+    AnyBox::StsdBox(sound::stsd())
 }

@@ -6,6 +6,7 @@ use mp4_ported::helpers::{Kind, expect_kind, expect_round_trip, expect_value};
 use mp4_stream::{
     AacConfig, AudioObjectType, ChannelConfig, DecoderConfigDescriptor, DecoderSpecificDescriptor,
     ESDescriptor, Error, EsdsBox, FixedPointU16, Mp4aBox, SLConfigDescriptor, SampleFreqIndex,
+    StsdBox,
 };
 use std::alloc::Global;
 use std::test::Fail;
@@ -295,5 +296,59 @@ fn mp4a_of_a_configuration(rt: HostRuntime) -> Result<(), Fail> {
         esds: Some(esds),
     };
     assert!(rt; made == value);
+    Ok(())
+}
+
+/// The bytes of version and flags count up from 0xb1, since the entry has bytes from 0x81 on.
+const STSD: [u8; 16] = *b"\0\0\0\x34stsd\xb1\xb2\xb3\xb4\0\0\0\x01";
+
+#[test]
+fn stsd_of_every_field(rt: HostRuntime) -> Result<(), Fail> {
+    let value = StsdBox {
+        version: 0xb1,
+        flags: 0xb2_b3b4,
+        avc1: None,
+        hev1: None,
+        vp09: None,
+        mp4a: Some(mp4a()),
+        tx3g: None,
+    };
+    let mut bytes = Vec::from_slice(rt.alloc(), &STSD)?;
+    bytes.extend_from_slice(&MP4A)?;
+    expect_round_trip(rt.alloc(), &value, &bytes)?;
+    Ok(())
+}
+
+#[test]
+fn stsd_without_an_entry(rt: HostRuntime) -> Result<(), Fail> {
+    let value = StsdBox {
+        version: 0xb1,
+        flags: 0xb2_b3b4,
+        avc1: None,
+        hev1: None,
+        vp09: None,
+        mp4a: None,
+        tx3g: None,
+    };
+    let bytes = *b"\0\0\0\x10stsd\xb1\xb2\xb3\xb4\0\0\0\0";
+    expect_round_trip(rt.alloc(), &value, &bytes)?;
+    // The count is ignored.
+    let counted = *b"\0\0\0\x10stsd\xb1\xb2\xb3\xb4\xb5\xb6\xb7\xb8";
+    expect_value(rt.alloc(), &value, &counted, 16)?;
+    Ok(())
+}
+
+#[test]
+fn default_stsd(rt: HostRuntime) -> Result<(), Fail> {
+    let value = StsdBox {
+        version: 0,
+        flags: 0,
+        avc1: None,
+        hev1: None,
+        vp09: None,
+        mp4a: None,
+        tx3g: None,
+    };
+    assert!(rt; StsdBox::default() == value);
     Ok(())
 }

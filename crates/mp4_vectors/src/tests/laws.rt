@@ -10,9 +10,9 @@ use mp4_stream::laws::{
 use mp4_stream::{
     AnyBox, Avc1Box, AvcCBox, BoxLaws, Co64Box, CttsBox, DataBox, DinfBox, DrefBox, ElstBox,
     EmsgBox, EsdsBox, FtypBox, HdlrBox, Hev1Box, HvcCBox, MdhdBox, MehdBox, MfhdBox, Mp4aBox,
-    MvhdBox, SmhdBox, StcoBox, StreamBox, StscBox, StssBox, StszBox, SttsBox, TfdtBox, TfhdBox,
-    TkhdBox, TrexBox, TrunBox, Tx3gBox, UrlBox, VmhdBox, Vp09Box, VpccBox, flat_laws, laws,
-    sound_laws, table_laws, text_laws,
+    MvhdBox, SmhdBox, StcoBox, StreamBox, StscBox, StsdBox, StssBox, StszBox, SttsBox, TfdtBox,
+    TfhdBox, TkhdBox, TrexBox, TrunBox, Tx3gBox, UrlBox, VmhdBox, Vp09Box, VpccBox, flat_laws,
+    laws, sound_laws, table_laws, text_laws,
 };
 
 fn call_laws_of_box<B: BoxLaws>() {
@@ -78,6 +78,7 @@ fn laws_hold_of_other_entries() {
 fn laws_hold_of_audio_entries() {
     call_laws_of_box::<EsdsBox>();
     call_laws_of_box::<Mp4aBox>();
+    call_laws_of_box::<StsdBox>();
     sound_laws::descriptors_are_read_to_their_end();
 }
 
