@@ -19,8 +19,8 @@ pub enum Ending {
     Wrong,
 }
 
-/// Out of memory, or something wrong.
-fn ending(error: Error) -> Ending {
+/// Why calls ended, from the error of the last.
+fn why(error: Error) -> Ending {
     match error {
         Error::OutOfMemory => Ending::Refused,
         _ => Ending::Wrong,
@@ -31,8 +31,8 @@ fn ending(error: Error) -> Ending {
 macro_rules! again {
     ($call:expr) => {
         match $call {
-            Err(Error::OutOfMemory) => $call.map_err(ending),
-            outcome => outcome.map_err(ending),
+            Err(Error::OutOfMemory) => $call.map_err(why),
+            outcome => outcome.map_err(why),
         }
     };
 }
@@ -57,7 +57,7 @@ fn write<B: StreamBox>(alloc: Global, boxes: &[B], as_list: bool) -> Result<Vec<
             Ok(_) => return Ok(out),
             Err(_) if out.as_slice() != [7].as_slice() => return Err(Ending::Wrong),
             Err(Error::OutOfMemory) if !is_last => {}
-            Err(e) => return Err(ending(e)),
+            Err(e) => return Err(why(e)),
         }
     }
     Err(Ending::Wrong)
@@ -72,7 +72,7 @@ fn read<B: StreamBox>(alloc: Global, bytes: &[u8]) -> Result<Vec<B>, Ending> {
         match read_boxes_as(alloc, &mut reader) {
             Ok(found) if reader.position() == bytes.len() as u64 => return Ok(found),
             Err(Error::OutOfMemory) if reader.position() == 1 && !is_last => {}
-            Err(e) if reader.position() == 1 => return Err(ending(e)),
+            Err(e) if reader.position() == 1 => return Err(why(e)),
             _ => return Err(Ending::Wrong),
         }
     }

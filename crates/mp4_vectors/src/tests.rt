@@ -5,7 +5,6 @@ mod cuts;
 mod defaults;
 mod examples;
 mod headers;
-mod large;
 mod laws;
 mod memory;
 mod sizes;
