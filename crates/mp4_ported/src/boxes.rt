@@ -2,5 +2,6 @@
 
 pub mod entries;
 pub mod flat;
+pub mod sound;
 pub mod tables;
 pub mod text;

@@ -3,5 +3,6 @@
 mod entries;
 mod flat;
 mod headers;
+mod sound;
 mod tables;
 mod text;

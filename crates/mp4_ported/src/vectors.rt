@@ -3,6 +3,7 @@
 
 mod entries;
 mod flat;
+mod sound;
 mod tables;
 mod text;
 
@@ -46,10 +47,13 @@ pub enum Vector {
     Vpcc,
     Vp09,
     Tx3g,
+    Esds,
+    Mp4a,
+    Stsd,
 }
 
 /// Every vector.
-pub const VECTORS: [Vector; 33] = [
+pub const VECTORS: [Vector; 36] = [
     Vector::Ftyp,
     Vector::Mvhd,
     Vector::Tkhd,
@@ -83,6 +87,9 @@ pub const VECTORS: [Vector; 33] = [
     Vector::Vpcc,
     Vector::Vp09,
     Vector::Tx3g,
+    Vector::Esds,
+    Vector::Mp4a,
+    Vector::Stsd,
 ];
 
 impl Vector {
@@ -122,6 +129,9 @@ impl Vector {
             Vector::Vpcc => &boxes::entries::VPCC,
             Vector::Vp09 => &boxes::entries::VP09,
             Vector::Tx3g => &boxes::entries::TX3G,
+            Vector::Esds => &boxes::sound::ESDS,
+            Vector::Mp4a => &boxes::sound::MP4A,
+            Vector::Stsd => &boxes::sound::STSD,
         }
     }
 
@@ -161,6 +171,9 @@ impl Vector {
             Vector::Vpcc => Ok(entries::vpcc()),
             Vector::Vp09 => Ok(entries::vp09()),
             Vector::Tx3g => Ok(entries::tx3g()),
+            Vector::Esds => Ok(sound::esds()),
+            Vector::Mp4a => Ok(sound::mp4a()),
+            Vector::Stsd => Ok(sound::stsd()),
         }
     }
 }

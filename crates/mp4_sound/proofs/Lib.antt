@@ -1,3 +1,4 @@
 pub mod Walks
 mod HeaderRoom
 mod Ends
+mod Kept

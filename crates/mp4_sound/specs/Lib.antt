@@ -10,4 +10,6 @@ pub mod Esds
 pub mod EsdsLaws
 pub mod Mp4a
 pub mod Mp4aLaws
+pub mod Stsd
+pub mod StsdLaws
 pub mod Boxes

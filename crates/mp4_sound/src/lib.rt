@@ -1,4 +1,4 @@
-//! The boxes of sound: MPEG-4 audio sample entries and their descriptors.
+//! The boxes of sound, MPEG-4 audio sample entries and their descriptors, and the sample description box.
 #![tactic(auto)]
 
 mod decoder_config;
@@ -9,6 +9,7 @@ mod esds;
 pub mod laws;
 mod mp4a;
 mod sl_config;
+mod stsd;
 mod uint;
 mod walk;
 
@@ -18,3 +19,4 @@ pub use es_descriptor::ESDescriptor;
 pub use esds::EsdsBox;
 pub use mp4a::Mp4aBox;
 pub use sl_config::SLConfigDescriptor;
+pub use stsd::StsdBox;

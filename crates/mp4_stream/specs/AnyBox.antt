@@ -10,6 +10,7 @@ use Rattle.mp4_flat.specs.Boxes.{reads_mvhd, format_mvhd, reads_tkhd, format_tkh
 use Rattle.mp4_tables.specs.Boxes.{reads_stco, format_stco, reads_co64, format_co64, reads_stts, format_stts, reads_ctts, format_ctts, reads_stss, format_stss, reads_stsz, format_stsz, reads_stsc, format_stsc, reads_elst, format_elst, reads_tfhd, format_tfhd, reads_trun, format_trun}
 use Rattle.mp4_text.specs.Boxes.{reads_ftyp, format_ftyp, reads_hdlr, format_hdlr, reads_data, format_data, reads_emsg, format_emsg, reads_url, format_url, reads_dref, format_dref, reads_dinf, format_dinf}
 use Rattle.mp4_entries.specs.Boxes.{reads_avcc, format_avcc, reads_avc1, format_avc1, reads_hvcc, format_hvcc, reads_hev1, format_hev1, reads_vpcc, format_vpcc, reads_vp09, format_vp09, reads_tx3g, format_tx3g}
+use Rattle.mp4_sound.specs.Boxes.{reads_esds, format_esds, reads_mp4a, format_mp4a, reads_stsd, format_stsd}
 use Rattle.mp4_stream.specs.declared.any_box.AnyBox.{AnyBox}
 use Rattle.mp4_stream.specs.declared.any_box.AnyBox.TheVariants as any
 
@@ -48,6 +49,9 @@ kinds names.Hev1Box = Is (kind reads_hev1 format_hev1 any.Hev1Box)
 kinds names.VpccBox = Is (kind reads_vpcc format_vpcc any.VpccBox)
 kinds names.Vp09Box = Is (kind reads_vp09 format_vp09 any.Vp09Box)
 kinds names.Tx3gBox = Is (kind reads_tx3g format_tx3g any.Tx3gBox)
+kinds names.EsdsBox = Is (kind reads_esds format_esds any.EsdsBox)
+kinds names.Mp4aBox = Is (kind reads_mp4a format_mp4a any.Mp4aBox)
+kinds names.StsdBox = Is (kind reads_stsd format_stsd any.StsdBox)
 kinds _ = Unknown
 
 -- what the format of its type says of a box
@@ -85,6 +89,9 @@ held (any.Hev1Box b) = holds format_hev1 any.Hev1Box b
 held (any.VpccBox b) = holds format_vpcc any.VpccBox b
 held (any.Vp09Box b) = holds format_vp09 any.Vp09Box b
 held (any.Tx3gBox b) = holds format_tx3g any.Tx3gBox b
+held (any.EsdsBox b) = holds format_esds any.EsdsBox b
+held (any.Mp4aBox b) = holds format_mp4a any.Mp4aBox b
+held (any.StsdBox b) = holds format_stsd any.StsdBox b
 
 abbrev pub format_any : Format AnyBox
 format_any = record { name = λ v. (held v).name; size = λ v. (held v).size; Writable = λ v. (held v).Writable; bytes = λ v. (held v).bytes; normal = λ v. (held v).normal }

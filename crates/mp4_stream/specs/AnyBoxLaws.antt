@@ -5,6 +5,7 @@ use Rattle.mp4_flat.specs.Boxes.{laws_mvhd, laws_tkhd, laws_mdhd, laws_mehd, law
 use Rattle.mp4_tables.specs.Boxes.{laws_stco, laws_co64, laws_stts, laws_ctts, laws_stss, laws_stsz, laws_stsc, laws_elst, laws_tfhd, laws_trun}
 use Rattle.mp4_text.specs.Boxes.{laws_ftyp, laws_hdlr, laws_data, laws_emsg, laws_url, laws_dref, laws_dinf}
 use Rattle.mp4_entries.specs.Boxes.{laws_avcc, laws_avc1, laws_hvcc, laws_hev1, laws_vpcc, laws_vp09, laws_tx3g}
+use Rattle.mp4_sound.specs.Boxes.{laws_esds, laws_mp4a, laws_stsd}
 use Rattle.mp4_stream.specs.AnyBox.{kinds, held}
 use Rattle.mp4_stream.specs.declared.any_box.AnyBox.{AnyBox}
 use Rattle.mp4_stream.specs.declared.any_box.AnyBox.TheVariants as any
@@ -43,3 +44,6 @@ members (any.Hev1Box b) = member kinds held any.Hev1Box laws_hev1 (λ _. refl) (
 members (any.VpccBox b) = member kinds held any.VpccBox laws_vpcc (λ _. refl) (λ _. refl) (λ _. refl) b
 members (any.Vp09Box b) = member kinds held any.Vp09Box laws_vp09 (λ _. refl) (λ _. refl) (λ _. refl) b
 members (any.Tx3gBox b) = member kinds held any.Tx3gBox laws_tx3g (λ _. refl) (λ _. refl) (λ _. refl) b
+members (any.EsdsBox b) = member kinds held any.EsdsBox laws_esds (λ _. refl) (λ _. refl) (λ _. refl) b
+members (any.Mp4aBox b) = member kinds held any.Mp4aBox laws_mp4a (λ _. refl) (λ _. refl) (λ _. refl) b
+members (any.StsdBox b) = member kinds held any.StsdBox laws_stsd (λ _. refl) (λ _. refl) (λ _. refl) b

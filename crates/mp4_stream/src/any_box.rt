@@ -13,6 +13,7 @@ use mp4_frame::{
     BoxType, ByteCursor, Holds, Mp4Box, Result, StreamBox, TryClone, WriteBox, clone_as, push_as,
     push_inside, read_as,
 };
+use mp4_sound::{EsdsBox, Mp4aBox, StsdBox};
 use mp4_tables::{
     Co64Box, CttsBox, ElstBox, StcoBox, StscBox, StssBox, StszBox, SttsBox, TfhdBox, TrunBox,
 };
@@ -27,7 +28,7 @@ macro_rules! of_boxes {
                 FtypBox MvhdBox TkhdBox MdhdBox MehdBox MfhdBox SmhdBox VmhdBox TrexBox TfdtBox
                 StcoBox Co64Box SttsBox CttsBox StssBox StszBox StscBox ElstBox TfhdBox TrunBox
                 HdlrBox DataBox EmsgBox UrlBox DrefBox DinfBox AvcCBox Avc1Box HvcCBox Hev1Box
-                VpccBox Vp09Box Tx3gBox
+                VpccBox Vp09Box Tx3gBox EsdsBox Mp4aBox StsdBox
             ]
             $($rest)*
         }
@@ -103,6 +104,9 @@ pub enum AnyBox {
     VpccBox(VpccBox),
     Vp09Box(Vp09Box),
     Tx3gBox(Tx3gBox),
+    EsdsBox(EsdsBox),
+    Mp4aBox(Mp4aBox),
+    StsdBox(StsdBox),
 }
 
 impl TryClone for AnyBox {

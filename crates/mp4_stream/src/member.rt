@@ -5,9 +5,9 @@ ghost use Rattle.mp4_stream.specs.declared.any_box.AnyBox.TheVariants as any;
 
 use crate::{
     AnyBox, Avc1Box, AvcCBox, Co64Box, CttsBox, DataBox, DinfBox, DrefBox, ElstBox, EmsgBox,
-    FtypBox, HdlrBox, Hev1Box, HvcCBox, MdhdBox, MehdBox, MfhdBox, MvhdBox, SmhdBox, StcoBox,
-    StscBox, StssBox, StszBox, SttsBox, TfdtBox, TfhdBox, TkhdBox, TrexBox, TrunBox, Tx3gBox,
-    UrlBox, VmhdBox, Vp09Box, VpccBox,
+    EsdsBox, FtypBox, HdlrBox, Hev1Box, HvcCBox, MdhdBox, MehdBox, MfhdBox, Mp4aBox, MvhdBox,
+    SmhdBox, StcoBox, StscBox, StsdBox, StssBox, StszBox, SttsBox, TfdtBox, TfhdBox, TkhdBox,
+    TrexBox, TrunBox, Tx3gBox, UrlBox, VmhdBox, Vp09Box, VpccBox,
 };
 use mp4_frame::Holds;
 
@@ -272,5 +272,29 @@ impl Holds<Tx3gBox> for AnyBox {
 
     fn wrap(value: Tx3gBox) -> AnyBox {
         AnyBox::Tx3gBox(value)
+    }
+}
+
+impl Holds<EsdsBox> for AnyBox {
+    ghost wrapped = { any.EsdsBox };
+
+    fn wrap(value: EsdsBox) -> AnyBox {
+        AnyBox::EsdsBox(value)
+    }
+}
+
+impl Holds<Mp4aBox> for AnyBox {
+    ghost wrapped = { any.Mp4aBox };
+
+    fn wrap(value: Mp4aBox) -> AnyBox {
+        AnyBox::Mp4aBox(value)
+    }
+}
+
+impl Holds<StsdBox> for AnyBox {
+    ghost wrapped = { any.StsdBox };
+
+    fn wrap(value: StsdBox) -> AnyBox {
+        AnyBox::StsdBox(value)
     }
 }

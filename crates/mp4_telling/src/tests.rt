@@ -10,5 +10,6 @@ mod flat;
 mod fragments;
 mod languages;
 mod short_tables;
+mod sound;
 mod tables;
 mod texts;

@@ -11,6 +11,7 @@ pub mod defaults;
 pub mod entries;
 pub mod numbers;
 pub mod references;
+pub mod sound;
 pub mod times;
 
 use mp4_stream::{ByteCursor, Result, read_boxes, write_boxes};

@@ -4,11 +4,13 @@ use crate::example::audio::aac_config;
 use crate::example::chunks::append_short;
 use crate::example::numbers::aac_config_again;
 use crate::example::references::append_reference;
+use crate::example::sound::read_small_esds;
 use crate::example::times::append_decode_time;
+use mp4_ported::boxes::sound::{ESDS, esds};
 use mp4_ported::boxes::tables::list;
 use mp4_ported::boxes::text::DINF_URL;
 use mp4_ported::helpers::{Kind, invalid_text, kind_of};
-use mp4_stream::{AacConfig, Co64Box, Error, StcoBox};
+use mp4_stream::{AacConfig, ByteCursor, Co64Box, Error, StcoBox};
 use std::alloc::Global;
 use std::test::Fail;
 
@@ -69,5 +71,17 @@ fn audio_configurations_are_made(rt: HostRuntime) -> Result<(), Fail> {
         aac_config_again(AacConfig::default())?,
         AacConfig::default()
     );
+    Ok(())
+}
+
+#[test]
+fn descriptors_are_bounded(rt: HostRuntime) -> Result<(), Fail> {
+    let mut reader = ByteCursor::new(&ESDS);
+    reader.set_position(8);
+    let few = read_small_esds(&mut reader, 43, 3);
+    assert_eq!(rt; invalid_text(&few), Some("too many descriptors"));
+    let mut reader = ByteCursor::new(&ESDS);
+    reader.set_position(8);
+    assert!(rt; read_small_esds(&mut reader, 43, 4)? == esds());
     Ok(())
 }

@@ -9,9 +9,10 @@ use mp4_stream::laws::{
 };
 use mp4_stream::{
     AnyBox, Avc1Box, AvcCBox, BoxLaws, Co64Box, CttsBox, DataBox, DinfBox, DrefBox, ElstBox,
-    EmsgBox, FtypBox, HdlrBox, Hev1Box, HvcCBox, MdhdBox, MehdBox, MfhdBox, MvhdBox, SmhdBox,
-    StcoBox, StreamBox, StscBox, StssBox, StszBox, SttsBox, TfdtBox, TfhdBox, TkhdBox, TrexBox,
-    TrunBox, Tx3gBox, UrlBox, VmhdBox, Vp09Box, VpccBox, flat_laws, laws, table_laws, text_laws,
+    EmsgBox, EsdsBox, FtypBox, HdlrBox, Hev1Box, HvcCBox, MdhdBox, MehdBox, MfhdBox, Mp4aBox,
+    MvhdBox, SmhdBox, StcoBox, StreamBox, StscBox, StsdBox, StssBox, StszBox, SttsBox, TfdtBox,
+    TfhdBox, TkhdBox, TrexBox, TrunBox, Tx3gBox, UrlBox, VmhdBox, Vp09Box, VpccBox, flat_laws,
+    laws, sound_laws, table_laws, text_laws,
 };
 
 fn call_laws_of_box<B: BoxLaws>() {
@@ -74,6 +75,14 @@ fn laws_hold_of_other_entries() {
 }
 
 #[test]
+fn laws_hold_of_audio_entries() {
+    call_laws_of_box::<EsdsBox>();
+    call_laws_of_box::<Mp4aBox>();
+    call_laws_of_box::<StsdBox>();
+    sound_laws::descriptors_are_read_to_their_end();
+}
+
+#[test]
 fn some_boxes_are_read_without_memory() {
     is_read_without_memory::<MvhdBox>();
     is_read_without_memory::<TkhdBox>();
@@ -93,6 +102,8 @@ fn some_entries_are_read_without_memory() {
     is_read_without_memory::<VpccBox>();
     is_read_without_memory::<Vp09Box>();
     is_read_without_memory::<Tx3gBox>();
+    is_read_without_memory::<EsdsBox>();
+    is_read_without_memory::<Mp4aBox>();
 }
 
 #[test]
