@@ -2,3 +2,4 @@ pub mod Walks
 mod HeaderRoom
 mod Ends
 mod Kept
+mod StsdMemory

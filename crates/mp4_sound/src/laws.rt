@@ -1,10 +1,15 @@
 //! Laws of the boxes of this crate, besides those of every box. Nothing here reads or writes: each function's
 //! contract is a law, and its body is empty.
 
-ghost use Rattle.std.specs.Prelude.{◌≡◌, ◌+◌, ◌<◌, ◌≤◌, ℕ, List, length};
+ghost use Rattle.std.specs.Prelude.{◌≡◌, ◌+◌, ◌<◌, ◌≤◌, ℕ, List, length, Ok};
+ghost use Rattle.mp4_frame.specs.OneChild.{child_head};
+ghost use Rattle.mp4_frame.specs.Reading.{TakesNone};
+ghost use Rattle.mp4_frame.specs.declared.codes.TheConstants as codes;
+ghost use Rattle.mp4_frame.specs.declared.head.Head.{Head};
 ghost use Rattle.mp4_sound.specs.DecoderConfig.{in_decoder_config};
 ghost use Rattle.mp4_sound.specs.EsDescriptor.{in_es_descriptor};
 ghost use Rattle.mp4_sound.specs.Esds.{in_esds};
+ghost use Rattle.mp4_sound.specs.Stsd.{reads_stsd};
 ghost use Rattle.mp4_sound.specs.Walk.{walk};
 
 /// Every descriptor of a walk is read: looking for more descriptors than there are bytes changes nothing.
@@ -12,4 +17,9 @@ pub fn descriptors_are_read_to_their_end()
     ensures in_esds { (bytes : List ℕ) (bound from more : ℕ) → 0 < from → from ≤ length bytes → walk in_esds bytes bound (length bytes + more) from ≡ walk in_esds bytes bound (length bytes) from }
     ensures in_es_descriptor { (bytes : List ℕ) (bound from more : ℕ) → 0 < from → from ≤ length bytes → walk in_es_descriptor bytes bound (length bytes + more) from ≡ walk in_es_descriptor bytes bound (length bytes) from }
     ensures in_decoder_config { (bytes : List ℕ) (bound from more : ℕ) → 0 < from → from ≤ length bytes → walk in_decoder_config bytes bound (length bytes + more) from ≡ walk in_decoder_config bytes bound (length bytes) from }
+{}
+
+/// Reading an `stsd` takes no memory, unless its entry is an `avc1`.
+pub fn only_avc1_takes_memory()
+    ensures { (bytes : List ℕ) (start size : ℕ) → (16 < size → (entry : Head) → (child_head bytes size 16).outcome ≡ Ok entry → ¬ (entry.code ≡ codes.AVC1)) → TakesNone (reads_stsd bytes start size) }
 {}
