@@ -1,4 +1,4 @@
--- avc1, the sample entry of AVC video (ISO/IEC 14496-15, 5.3.4): a visual sample entry with the child avcC.
+-- avc1, the sample entry of AVC video (ISO/IEC 14496-15, 5.4.2): a visual sample entry with the child avcC.
 use Rattle.std.specs.Prelude.{ℕ, List}
 use Rattle.mp4_frame.specs.Format.{Format}
 use Rattle.mp4_frame.specs.Reading.{Reading}

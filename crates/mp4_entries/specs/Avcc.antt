@@ -1,4 +1,4 @@
--- avcC, the AVC decoder configuration (ISO/IEC 14496-15, 5.3.3). The fields are a version in 1 byte at 8, profile,
+-- avcC, the AVC decoder configuration (ISO/IEC 14496-15, 5.3.3.1). The fields are a version in 1 byte at 8, profile,
 -- compatibility and level 1 each, and a byte at 12 whose two low bits are the length size minus one. The five low
 -- bits of the byte at 13 count the sequence sets, which follow at 14. The byte after them counts the picture sets,
 -- which follow it. The other bits at 12 and 13 are written as ones.

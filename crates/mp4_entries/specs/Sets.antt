@@ -1,4 +1,4 @@
--- Parameter sets, one after the other (ISO/IEC 14496-15, 5.3.3): each is a length of 2 bytes and as many bytes.
+-- Parameter sets, one after the other (ISO/IEC 14496-15, 5.3.3.1): each is a length of 2 bytes and as many bytes.
 use Rattle.std.specs.Prelude.{ℕ, zero, suc, ◌+◌, ◌<◌, ◌^◌, List, [], ◌∷◌, ◌++◌, length, flat_map}
 use Rattle.std.specs.List.{sum_by}
 use Rattle.mp4_frame.specs.Bytes.{number, be_bytes}

@@ -17,7 +17,7 @@ use mp4_frame::{
 use mp4_media::{AvcConfig, FixedPointU16};
 use std::alloc::Global;
 
-/// The sample entry of AVC video (`avc1`, ISO/IEC 14496-15, 5.3.4). Boxes after its `avcC` are neither read nor written.
+/// The sample entry of AVC video (`avc1`, ISO/IEC 14496-15, 5.4.2). Boxes after its `avcC` are neither read nor written.
 #[derive(Debug, Drop, PartialEq, Eq)]
 pub struct Avc1Box {
     /// Which data reference the samples are in, from 1 on.

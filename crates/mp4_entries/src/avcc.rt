@@ -15,7 +15,7 @@ use mp4_frame::{
 };
 use std::alloc::Global;
 
-/// The configuration of an AVC decoder (`avcC`, ISO/IEC 14496-15, 5.3.3). What follows the picture sets is neither read
+/// The configuration of an AVC decoder (`avcC`, ISO/IEC 14496-15, 5.3.3.1). What follows the picture sets is neither read
 /// nor written.
 #[derive(Debug, Drop, PartialEq, Eq)]
 pub struct AvcCBox {

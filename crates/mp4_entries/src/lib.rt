@@ -6,6 +6,7 @@ mod avc1;
 mod avcc;
 mod hev1;
 mod hvcc;
+pub mod laws;
 mod nal_unit;
 mod rgba_color;
 mod sets;

@@ -6,7 +6,7 @@ ghost use Rattle.mp4_frame.specs.declared.error.Error.TheVariants.{OutOfMemory};
 use mp4_frame::{Entries, Result, TryClone};
 use std::alloc::Global;
 
-/// A unit of the network abstraction layer, here a parameter set (ISO/IEC 14496-15, 5.3.3).
+/// A unit of the network abstraction layer, here a parameter set (ISO/IEC 14496-15, 5.3.3.1).
 #[derive(Debug, Drop, PartialEq, Eq)]
 pub struct NalUnit {
     /// The bytes of the unit, without its length. At most 65535 bytes can be written.

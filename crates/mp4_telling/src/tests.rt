@@ -5,6 +5,8 @@
 
 mod codes;
 mod defaults;
+mod entries;
+mod entry_defaults;
 mod equality;
 mod flat;
 mod fragments;

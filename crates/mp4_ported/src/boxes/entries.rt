@@ -64,12 +64,12 @@ pub const SEQUENCE: [u8; 24] = [
 /// The picture set of the Rust crate's test.
 pub const PICTURE: [u8; 6] = [0x68, 0xeb, 0xe3, 0xcb, 0x22, 0xc0];
 
-/// A list of three sets.
-pub fn sets_of_three(alloc: Global, sets: [&[u8]; 3]) -> Result<Entries<NalUnit>> {
+/// A list of sets of these bytes.
+pub fn list_of_sets(alloc: Global, sets: &[&[u8]]) -> Result<Entries<NalUnit>> {
     let mut list = Entries::new(alloc);
-    list.push(NalUnit::from_bytes(alloc, sets[0])?)?;
-    list.push(NalUnit::from_bytes(alloc, sets[1])?)?;
-    list.push(NalUnit::from_bytes(alloc, sets[2])?)?;
+    for set in sets {
+        list.push(NalUnit::from_bytes(alloc, set)?)?;
+    }
     Ok(list)
 }
 
@@ -90,11 +90,11 @@ pub fn avcc(alloc: Global) -> Result<AvcCBox> {
         profile_compatibility: 0xc3,
         avc_level_indication: 0x25,
         length_size_minus_one: 2,
-        sequence_parameter_sets: sets_of_three(
+        sequence_parameter_sets: list_of_sets(
             alloc,
-            [&[0x67, 0x91], &[0x68], &[0x69, 0x92, 0xa3]],
+            &[&[0x67, 0x91], &[0x68], &[0x69, 0x92, 0xa3]],
         )?,
-        picture_parameter_sets: sets_of_three(alloc, [&[0x12], &[], &[0x34, 0x56]])?,
+        picture_parameter_sets: list_of_sets(alloc, &[&[0x12], &[], &[0x34, 0x56]])?,
     })
 }
 
