@@ -10,7 +10,7 @@ mod refused_memory;
 #[cfg(test)]
 mod tests;
 
-use mp4_ported::vectors::VECTORS;
+use mp4_fixtures::vectors::VECTORS;
 use refused_memory::{
     Ending, clone_config, make_texts, read_without_memory, shorten_offsets, write_and_read,
     write_and_read_all, write_and_read_marks,

@@ -2,7 +2,7 @@
 //! leaves everything as it was, and is made again: then it has its usual result, or is out of memory once more.
 
 use crate::mark::MarkBox;
-use mp4_ported::vectors::{VECTORS, Vector};
+use mp4_fixtures::vectors::{VECTORS, Vector};
 use mp4_stream::{
     AnyBox, AvcConfig, BoxHeader, ByteCursor, Co64Box, Error, MdhdBox, MediaConfig, StcoBox,
     StreamBox, TryClone, WriteBox, language_string, read_boxes_as, write_boxes,

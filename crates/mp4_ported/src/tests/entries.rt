@@ -1,7 +1,7 @@
 //! The tests of the Rust crate for sample entries.
 
-use crate::boxes::entries::{avc1_of, avcc_of_two, vp09_of_config};
-use crate::helpers::{expect_round_trip, expect_written};
+use mp4_fixtures::boxes::entries::{avc1_of, avcc_of_two, vp09_of_config};
+use mp4_fixtures::helpers::{expect_round_trip, expect_written};
 use mp4_stream::{Hev1Box, HevcConfig, Tx3gBox, VpccBox};
 use std::test::Fail;
 

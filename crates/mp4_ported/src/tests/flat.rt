@@ -1,11 +1,11 @@
 //! The tests of the Rust crate for boxes of fixed fields.
 
-use crate::boxes::flat::{
+use mp4_fixtures::boxes::flat::{
     MDHD, MDHD_ENGLISH, MFHD, MVHD, MVHD_LONG, SMHD, TFDT_LONG, TKHD_LONG, TKHD_SHORT, TREX, mdhd,
     mdhd_english, mehd_short, mfhd, mvhd, mvhd_long, smhd, tfdt_of_zero, tkhd_long, tkhd_short,
     trex, vmhd_black,
 };
-use crate::helpers::expect_round_trip;
+use mp4_fixtures::helpers::expect_round_trip;
 use mp4_stream::{language_code, language_string};
 use std::test::Fail;
 

@@ -1,7 +1,7 @@
 //! The tests of the Rust crate for the sample entry of audio.
 
-use crate::boxes::sound::{MP4A_OF_TEST, MP4A_WITHOUT_ESDS, mp4a_of, mp4a_of_test};
-use crate::helpers::expect_round_trip;
+use mp4_fixtures::boxes::sound::{MP4A_OF_TEST, MP4A_WITHOUT_ESDS, mp4a_of, mp4a_of_test};
+use mp4_fixtures::helpers::expect_round_trip;
 use std::test::Fail;
 
 #[test]

@@ -1,10 +1,10 @@
 //! The tests of the Rust crate for tables.
 
-use crate::boxes::tables::{
+use mp4_fixtures::boxes::tables::{
     CTTS, ELST, STCO, STSC, STTS, TFHD, co64_of_seven, ctts, elst, elst_long, stco, stsc,
     stss_of_nine, stsz_of_nine, stsz_of_one_size, stts, tfhd, tfhd_bare, trun_of_four_lists,
 };
-use crate::helpers::{expect_round_trip, expect_written};
+use mp4_fixtures::helpers::{expect_round_trip, expect_written};
 use mp4_stream::TrunBox;
 use std::test::Fail;
 

@@ -1,9 +1,9 @@
 //! The tests of the Rust crate for texts and data.
 
-use crate::boxes::text::{
+use mp4_fixtures::boxes::text::{
     DATA, EMSG, EMSG_LONG, FTYP, HDLR, data_box, emsg, emsg_long, ftyp, hdlr,
 };
-use crate::helpers::expect_round_trip;
+use mp4_fixtures::helpers::expect_round_trip;
 use mp4_stream::DataBox;
 use std::test::Fail;
 

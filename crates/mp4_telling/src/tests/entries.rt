@@ -1,8 +1,8 @@
 //! Sample entries of video and subtitles. The bytes of the fields count up from 0x81 in the order of the layout table, but
 //! for the counts and lengths of parameter sets, which differ from one another.
 
-use mp4_ported::boxes::entries::{empty_sets, list_of_sets};
-use mp4_ported::helpers::{expect_round_trip, expect_value};
+use mp4_fixtures::boxes::entries::{empty_sets, list_of_sets};
+use mp4_fixtures::helpers::{expect_round_trip, expect_value};
 use mp4_stream::{
     Avc1Box, AvcCBox, Entries, Error, FixedPointU16, Hev1Box, HvcCBox, NalUnit, RgbaColor, Tx3gBox,
     Vp09Box, VpccBox,

@@ -1,6 +1,6 @@
 //! Defaults, constants and constructors of sample entries, field by field.
 
-use mp4_ported::boxes::entries::list_of_sets;
+use mp4_fixtures::boxes::entries::list_of_sets;
 use mp4_stream::{
     Avc1Box, AvcCBox, AvcConfig, Entries, Error, FixedPointU16, Hev1Box, HevcConfig, HvcCBox,
     NalUnit, RgbaColor, Tx3gBox, Vp09Box, Vp9Config, VpccBox,

@@ -1,7 +1,7 @@
 //! Boxes of fixed fields. The bytes of the fields count up from 0x81 in the order of the layout table, after the version
 //! where that is 0 or 1.
 
-use mp4_ported::helpers::{Kind, Mismatch, expect_kind, expect_round_trip, expect_value};
+use mp4_fixtures::helpers::{Kind, Mismatch, expect_kind, expect_round_trip, expect_value};
 use mp4_stream::{
     Error, FixedPointI8, FixedPointU8, FixedPointU16, Matrix, MdhdBox, MehdBox, MfhdBox, MvhdBox,
     ReadBox, RgbColor, SmhdBox, Text, TfdtBox, TkhdBox, TrexBox, VmhdBox,

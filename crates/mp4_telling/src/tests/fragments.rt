@@ -2,8 +2,8 @@
 //! standard, and not the constants of the codec; other bits are set beside them. After the flags, and apart from counts,
 //! the bytes of the fields count up from 0x82 in the order of the layout table.
 
-use mp4_ported::boxes::tables::list;
-use mp4_ported::helpers::expect_round_trip;
+use mp4_fixtures::boxes::tables::list;
+use mp4_fixtures::helpers::expect_round_trip;
 use mp4_stream::{Entries, TfhdBox, TrunBox};
 use std::alloc::Global;
 use std::test::Fail;

@@ -3,8 +3,8 @@
 
 use super::fragments::{TRUN_ALL, TRUN_SAMPLE_SIZES};
 use super::tables::{CO64, CTTS, ELST, ELST_LONG, ELST_OTHER, STCO, STSC, STSS, STSZ, STTS};
-use mp4_ported::boxes::tables::{TRUN_THREE, TRUN_TWO};
-use mp4_ported::helpers::{Kind, Mismatch, expect_kind, expect_value_at_any_size};
+use mp4_fixtures::boxes::tables::{TRUN_THREE, TRUN_TWO};
+use mp4_fixtures::helpers::{Kind, Mismatch, expect_kind, expect_value_at_any_size};
 use mp4_stream::{
     Co64Box, CttsBox, ElstBox, ReadBox, StcoBox, StscBox, StssBox, StszBox, SttsBox, TrunBox,
 };

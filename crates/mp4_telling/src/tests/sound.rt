@@ -1,8 +1,8 @@
 //! The sample entry of audio and its descriptors. The bytes of the fields count up from 0x81 in the order of the layout
 //! table, but for those of an audio configuration, whose fields are some bits of them.
 
-use mp4_ported::boxes::sound::specific;
-use mp4_ported::helpers::{Kind, expect_kind, expect_round_trip, expect_value};
+use mp4_fixtures::boxes::sound::specific;
+use mp4_fixtures::helpers::{Kind, expect_kind, expect_round_trip, expect_value};
 use mp4_stream::{
     AacConfig, AudioObjectType, ChannelConfig, DecoderConfigDescriptor, DecoderSpecificDescriptor,
     ESDescriptor, Error, EsdsBox, FixedPointU16, Mp4aBox, SLConfigDescriptor, SampleFreqIndex,

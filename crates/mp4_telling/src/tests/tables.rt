@@ -1,7 +1,7 @@
 //! Counted tables of three entries. After the version and the flags, and apart from counts, the bytes of the fields count
 //! up from 0x85 in the order of the layout table, or from 0x84 where the version is 0 or 1.
 
-use mp4_ported::helpers::expect_round_trip;
+use mp4_fixtures::helpers::expect_round_trip;
 use mp4_stream::{
     Co64Box, CttsBox, CttsEntry, ElstBox, ElstEntry, Entries, Error, StcoBox, StscBox, StscEntry,
     StssBox, StszBox, SttsBox, SttsEntry,

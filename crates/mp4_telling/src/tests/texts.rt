@@ -1,7 +1,7 @@
 //! Boxes of strings, data and references. The strings have letters past U+007F. The bytes of the other fields count up
 //! from 0x81 in the order of the layout table, after the version where that is 0 or 1.
 
-use mp4_ported::helpers::{Kind, Mismatch, expect_kind, expect_round_trip, expect_value};
+use mp4_fixtures::helpers::{Kind, Mismatch, expect_kind, expect_round_trip, expect_value};
 use mp4_stream::{
     DataBox, DataType, DinfBox, DrefBox, EmsgBox, Error, FourCC, FtypBox, HdlrBox, Text, UrlBox,
 };

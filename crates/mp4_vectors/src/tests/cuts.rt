@@ -2,16 +2,16 @@
 //! after those.
 
 use crate::example::defaults::{default_extent, default_video};
-use mp4_ported::boxes::flat::{
+use mp4_fixtures::boxes::flat::{
     mdhd, mdhd_long, mehd, mehd_short, mfhd, mvhd, mvhd_long, smhd, tfdt_of_zero, tkhd_full,
     tkhd_long, tkhd_short, trex, vmhd_colors,
 };
-use mp4_ported::boxes::tables::{
+use mp4_fixtures::boxes::tables::{
     co64_of_seven, ctts, elst, elst_long, stco, stsc, stss_of_nine, stsz_of_nine, stsz_of_one_size,
     stts, tfhd, tfhd_all, tfhd_bare, trun, trun_of_four_lists, trun_of_three_lists,
 };
-use mp4_ported::boxes::text::{data_box, dinf_url, dref_url, emsg, emsg_long, ftyp, hdlr, url};
-use mp4_ported::helpers::expect_end_at_cuts_below;
+use mp4_fixtures::boxes::text::{data_box, dinf_url, dref_url, emsg, emsg_long, ftyp, hdlr, url};
+use mp4_fixtures::helpers::expect_end_at_cuts_below;
 use mp4_stream::{MdhdBox, MvhdBox, SmhdBox, TkhdBox, TrunBox};
 use std::test::Fail;
 

@@ -1,9 +1,9 @@
 //! Default boxes.
 
 use crate::example::defaults::{default_extent, default_video};
-use mp4_ported::boxes::flat::MFHD;
-use mp4_ported::boxes::text::DINF;
-use mp4_ported::helpers::{expect_round_trip, expect_written};
+use mp4_fixtures::boxes::flat::MFHD;
+use mp4_fixtures::boxes::text::DINF;
+use mp4_fixtures::helpers::{expect_round_trip, expect_written};
 use mp4_stream::{
     DinfBox, DrefBox, FtypBox, HdlrBox, MdhdBox, MfhdBox, MvhdBox, SmhdBox, StcoBox, StscBox,
     TfdtBox, TkhdBox, UrlBox, WriteBox,

@@ -1,6 +1,6 @@
 //! The cursor, and the headers of boxes.
 
-use mp4_ported::helpers::{Kind, kind_of};
+use mp4_fixtures::helpers::{Kind, kind_of};
 use mp4_stream::{
     BoxHeader, BoxType, ByteCursor, HEADER_EXT_SIZE, HEADER_SIZE, box_start, read_box_header_ext,
     skip_box, skip_bytes, skip_bytes_to, write_box_header_ext, write_zeros,

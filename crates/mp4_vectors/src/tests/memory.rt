@@ -2,8 +2,8 @@
 
 use crate::mark::MarkBox;
 use linked_list_allocator::LocalHeap;
-use mp4_ported::helpers::{Kind, kind_of};
-use mp4_ported::vectors::{VECTORS, Vector};
+use mp4_fixtures::helpers::{Kind, kind_of};
+use mp4_fixtures::vectors::{VECTORS, Vector};
 use mp4_stream::{
     AnyBox, BoxHeader, BoxType, Error, MfhdBox, WriteBox, write_box_header_ext, write_boxes,
     write_zeros,

@@ -1,17 +1,17 @@
 //! Boxes that are read with a size other than their own.
 
 use crate::example::defaults::{default_extent, default_video};
-use mp4_ported::boxes::flat::{
+use mp4_fixtures::boxes::flat::{
     MFHD, mdhd, mdhd_long, mehd, mehd_short, mfhd, mvhd, mvhd_long, smhd, tfdt_of_zero, tkhd_full,
     tkhd_long, tkhd_short, trex, vmhd_colors,
 };
-use mp4_ported::boxes::tables::{
+use mp4_fixtures::boxes::tables::{
     STCO, co64_of_seven, ctts, elst, elst_long, stco, stsc, stss_of_nine, stsz_of_nine,
     stsz_of_one_size, stts, tfhd, tfhd_all, tfhd_bare, trun, trun_of_four_lists,
     trun_of_three_lists,
 };
-use mp4_ported::boxes::text::{DATA, DINF_URL, DREF_URL, EMSG, FTYP, FTYP_OF_TWO, HDLR, URL};
-use mp4_ported::helpers::{
+use mp4_fixtures::boxes::text::{DATA, DINF_URL, DREF_URL, EMSG, FTYP, FTYP_OF_TWO, HDLR, URL};
+use mp4_fixtures::helpers::{
     Kind, Mismatch, expect_invalid_at_small_sizes, expect_kind, expect_value,
     expect_value_at_any_size, kind_of, read,
 };

@@ -2,8 +2,8 @@
 
 use crate::example::append_normal;
 use crate::mark::MarkBox;
-use mp4_ported::helpers::{Kind, kind_of};
-use mp4_ported::vectors::{VECTORS, Vector};
+use mp4_fixtures::helpers::{Kind, kind_of};
+use mp4_fixtures::vectors::{VECTORS, Vector};
 use mp4_stream::{
     AnyBox, ByteCursor, Entries, Error, StcoBox, read_boxes, read_boxes_as, write_boxes,
 };

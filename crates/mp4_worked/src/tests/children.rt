@@ -1,8 +1,8 @@
 //! Children that are too small or too large, that end past their parent or past the buffer, and that end before or after
 //! the bytes that are read of them.
 
-use mp4_ported::boxes::text::{DINF_URL, dref_of};
-use mp4_ported::helpers::{Kind, expect_kind, expect_value, kind_of, read};
+use mp4_fixtures::boxes::text::{DINF_URL, dref_of};
+use mp4_fixtures::helpers::{Kind, expect_kind, expect_value, kind_of, read};
 use mp4_stream::{BoxType, DinfBox, DrefBox, Error, Text};
 use std::alloc::Global;
 use std::test::Fail;

@@ -1,7 +1,7 @@
 //! The first samples of chunks, which are computed when a box is read, and ignored when it is written.
 
-use mp4_ported::boxes::tables::{STSC, chunk_run, stsc_of};
-use mp4_ported::helpers::{Kind, expect_kind, expect_written};
+use mp4_fixtures::boxes::tables::{STSC, chunk_run, stsc_of};
+use mp4_fixtures::helpers::{Kind, expect_kind, expect_written};
 use mp4_stream::{StscBox, WriteBox};
 use std::test::Fail;
 

@@ -1,12 +1,12 @@
 //! Clones of boxes, and the type and the size that a box returns.
 
-use mp4_ported::boxes::flat::{mdhd_long, mfhd, smhd, trex, vmhd_colors};
-use mp4_ported::boxes::tables::{
+use mp4_fixtures::boxes::flat::{mdhd_long, mfhd, smhd, trex, vmhd_colors};
+use mp4_fixtures::boxes::tables::{
     STCO_OF_ONE, co64_of_seven, ctts, elst_long, stco, stsc, stss_of_nine, stsz_of_nine, stts,
     tfhd, trun,
 };
-use mp4_ported::boxes::text::{FTYP_OF_TWO, data_box, dinf, dref_of, emsg, ftyp, hdlr, url};
-use mp4_ported::helpers::read;
+use mp4_fixtures::boxes::text::{FTYP_OF_TWO, data_box, dinf, dref_of, emsg, ftyp, hdlr, url};
+use mp4_fixtures::helpers::read;
 use mp4_stream::{
     BoxType, FtypBox, MdhdBox, MehdBox, MvhdBox, StcoBox, TfdtBox, TkhdBox, TryClone,
 };

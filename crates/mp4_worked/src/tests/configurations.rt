@@ -1,6 +1,6 @@
 //! Configurations of tracks: defaults, clones, and how they print.
 
-use mp4_ported::helpers::debug_text;
+use mp4_fixtures::helpers::debug_text;
 use mp4_stream::{
     AacConfig, AudioObjectType, AvcConfig, ChannelConfig, Entries, HevcConfig, MediaConfig,
     SampleFreqIndex, TryClone, TtxtConfig, Vp9Config,

@@ -1,7 +1,7 @@
 //! Counts of more rows than the box has room for, or than are present in the buffer.
 
-use mp4_ported::boxes::tables::TRUN;
-use mp4_ported::helpers::{Kind, Mismatch, expect_kind};
+use mp4_fixtures::boxes::tables::TRUN;
+use mp4_fixtures::helpers::{Kind, Mismatch, expect_kind};
 use mp4_stream::{
     Co64Box, CttsBox, ElstBox, ReadBox, StcoBox, StscBox, StssBox, StszBox, SttsBox, TrunBox,
 };

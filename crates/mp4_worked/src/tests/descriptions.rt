@@ -1,12 +1,12 @@
 //! Sample descriptions: which entry is written, and which is read, with counts, sizes and cuts.
 
-use mp4_ported::boxes::entries::{
+use mp4_fixtures::boxes::entries::{
     AVC1, HEV1, TX3G, VP09, avc1, avc1_of, avcc_of_two, hev1, tx3g, vp09,
 };
-use mp4_ported::boxes::sound::{
+use mp4_fixtures::boxes::sound::{
     ESDS, MP4A, MP4A_OF_TEST, MP4A_WITHOUT_ESDS, mp4a, mp4a_of, mp4a_of_test,
 };
-use mp4_ported::helpers::{
+use mp4_fixtures::helpers::{
     Kind, Mismatch, expect_kind, expect_round_trip, expect_unwritable, expect_unwritable_of_size,
     expect_value, expect_written, invalid_text, kind_of, read,
 };

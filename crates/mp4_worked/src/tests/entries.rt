@@ -1,10 +1,10 @@
 //! Sample entries: their children, their sets, and constructors.
 
-use mp4_ported::boxes::entries::{
+use mp4_fixtures::boxes::entries::{
     AVC1, AVCC, HEV1, PICTURE, SEQUENCE, TX3G, VP09, VPCC, avc1, avc1_of, avcc, avcc_of_two,
     empty_sets, hev1, tx3g, vp09, vp09_of_config, vpcc,
 };
-use mp4_ported::helpers::{
+use mp4_fixtures::helpers::{
     Kind, Mismatch, expect_kind, expect_round_trip, expect_unwritable, expect_unwritable_of_size,
     expect_value, expect_written, invalid_text, read,
 };

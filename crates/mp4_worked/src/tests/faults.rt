@@ -1,8 +1,8 @@
 //! Boxes with several faults, such as missing bytes, an unknown version or bytes that are not UTF-8: which fault is the
 //! first.
 
-use mp4_ported::boxes::text::{DATA, EMSG, EMSG_LONG};
-use mp4_ported::helpers::{Kind, expect_kind, read};
+use mp4_fixtures::boxes::text::{DATA, EMSG, EMSG_LONG};
+use mp4_fixtures::helpers::{Kind, expect_kind, read};
 use mp4_stream::{DataBox, EmsgBox, FourCC, HdlrBox, MvhdBox};
 use std::test::Fail;
 

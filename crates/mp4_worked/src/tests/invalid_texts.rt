@@ -1,7 +1,7 @@
 //! The texts of invalid data.
 
-use mp4_ported::boxes::entries::AVC1;
-use mp4_ported::helpers::{invalid_text, read};
+use mp4_fixtures::boxes::entries::AVC1;
+use mp4_fixtures::helpers::{invalid_text, read};
 use mp4_stream::{
     AnyBox, Avc1Box, BoxHeader, BoxType, ByteCursor, Co64Box, DinfBox, FourCC, MfhdBox, ReadBox,
     StcoBox, WriteBox, read_boxes, skip_box, skip_bytes, write_box_header_ext, write_boxes,

@@ -1,10 +1,10 @@
 //! Sample entries of audio and their descriptors: lengths in every form and lengths that lie, audio configurations, cuts,
 //! sizes and children.
 
-use mp4_ported::boxes::sound::{
+use mp4_fixtures::boxes::sound::{
     ESDS, MP4A, MP4A_WITHOUT_ESDS, esds, esds_of, mp4a, mp4a_of, mp4a_of_test, specific,
 };
-use mp4_ported::helpers::{
+use mp4_fixtures::helpers::{
     Kind, Mismatch, expect_kind, expect_round_trip, expect_unwritable, expect_unwritable_of_size,
     expect_value, expect_written, invalid_text, kind_of, read,
 };

@@ -1,6 +1,6 @@
 //! Texts, and the languages of media headers.
 
-use mp4_ported::helpers::read;
+use mp4_fixtures::helpers::read;
 use mp4_stream::{MdhdBox, Text, TryClone, WriteBox, language_code, language_string};
 use std::test::Fail;
 

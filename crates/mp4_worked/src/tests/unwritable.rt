@@ -1,12 +1,12 @@
 //! Boxes that can't be written. Writing one leaves the vector as it was.
 
-use mp4_ported::boxes::flat::mehd_short;
-use mp4_ported::boxes::tables::{
+use mp4_fixtures::boxes::flat::mehd_short;
+use mp4_fixtures::boxes::tables::{
     chunk_run, elst_of, list, stco, stsc_of, stsz_of_nine, tfhd, tfhd_all, trun_of_durations,
     trun_of_three_lists,
 };
-use mp4_ported::boxes::text::{dref_of, dref_url, emsg, emsg_long, hdlr, url};
-use mp4_ported::helpers::{expect_unwritable, expect_unwritable_of_size};
+use mp4_fixtures::boxes::text::{dref_of, dref_url, emsg, emsg_long, hdlr, url};
+use mp4_fixtures::helpers::{expect_unwritable, expect_unwritable_of_size};
 use mp4_stream::{
     DinfBox, EmsgBox, Entries, MdhdBox, MehdBox, MvhdBox, StcoBox, Text, TfdtBox, TkhdBox, TrexBox,
     TrunBox, UrlBox, VmhdBox,

@@ -1,7 +1,7 @@
 //! Strings in boxes, and bytes that are not UTF-8.
 
-use mp4_ported::boxes::text::{EMSG, HDLR, URL};
-use mp4_ported::helpers::{Kind, expect_round_trip, expect_value, kind_of, read};
+use mp4_fixtures::boxes::text::{EMSG, HDLR, URL};
+use mp4_fixtures::helpers::{Kind, expect_round_trip, expect_value, kind_of, read};
 use mp4_stream::{EmsgBox, Error, HdlrBox, Text, UrlBox, WriteBox};
 use std::alloc::Global;
 use std::test::Fail;

@@ -1,16 +1,16 @@
 //! Boxes with their bytes, written and read, that are not in the tests of the Rust crate.
 
-use mp4_ported::boxes::flat::{
+use mp4_fixtures::boxes::flat::{
     MDHD_LONG, MEHD, TKHD_FULL, VMHD_COLORS, mdhd_long, mehd, tkhd_full, vmhd_colors,
 };
-use mp4_ported::boxes::tables::{
+use mp4_fixtures::boxes::tables::{
     STCO_OF_ONE, TFHD_ALL, TRUN, TRUN_DURATION, TRUN_THREE, TRUN_TWO, elst_of, list,
     stsz_of_one_size, tfhd_all, trun, trun_of_durations, trun_of_three_lists, trun_of_two_lists,
 };
-use mp4_ported::boxes::text::{
+use mp4_fixtures::boxes::text::{
     DINF_URL, DREF_URL, EMSG, FTYP_OF_TWO, URL, dinf_url, dref_of, dref_url, emsg, url,
 };
-use mp4_ported::helpers::{expect_round_trip, expect_value, expect_written, read};
+use mp4_fixtures::helpers::{expect_round_trip, expect_value, expect_written, read};
 use mp4_stream::{BoxType, FourCC, FtypBox, StcoBox, TrunBox, UrlBox, WriteBox};
 use std::test::Fail;
 
