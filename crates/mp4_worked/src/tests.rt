@@ -6,6 +6,7 @@ mod clones;
 mod configurations;
 mod counts;
 mod entries;
+mod entry_sizes;
 mod faults;
 mod fixed_points;
 mod invalid_texts;
