@@ -7,6 +7,7 @@ mod configurations;
 mod counts;
 mod descriptions;
 mod entries;
+mod entry_sizes;
 mod faults;
 mod fixed_points;
 mod invalid_texts;
