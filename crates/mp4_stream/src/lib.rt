@@ -17,6 +17,7 @@ pub use mp4_entries::RgbaColor;
 pub use mp4_entries::Tx3gBox;
 pub use mp4_entries::Vp09Box;
 pub use mp4_entries::VpccBox;
+pub use mp4_entries::laws as entry_laws;
 pub use mp4_flat::Matrix;
 pub use mp4_flat::MdhdBox;
 pub use mp4_flat::MehdBox;

@@ -252,7 +252,8 @@ fn default_esds(rt: HostRuntime) -> Result<(), Fail> {
             sl_config: SLConfigDescriptor::new(),
         },
     };
-    assert!(rt; EsdsBox::default() == value);
+    let made = EsdsBox::default();
+    assert!(rt; made == value);
     let bytes =
         *b"\0\0\0\x27esds\0\0\0\0\x03\x19\0\0\0\x04\x11\0\x01\0\0\0\0\0\0\0\0\0\0\0\x05\x02\0\0\x06\0\0";
     expect_round_trip(rt.alloc(), &value, &bytes)?;
@@ -268,7 +269,8 @@ fn default_mp4a(rt: HostRuntime) -> Result<(), Fail> {
         samplerate: FixedPointU16::new_raw(0xbb80_0000),
         esds: Some(EsdsBox::default()),
     };
-    assert!(rt; Mp4aBox::default() == value);
+    let made = Mp4aBox::default();
+    assert!(rt; made == value);
     Ok(())
 }
 
@@ -349,6 +351,7 @@ fn default_stsd(rt: HostRuntime) -> Result<(), Fail> {
         mp4a: None,
         tx3g: None,
     };
-    assert!(rt; StsdBox::default() == value);
+    let made = StsdBox::default();
+    assert!(rt; made == value);
     Ok(())
 }

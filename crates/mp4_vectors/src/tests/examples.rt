@@ -4,9 +4,9 @@ use crate::example::audio::aac_config;
 use crate::example::chunks::append_short;
 use crate::example::numbers::aac_config_again;
 use crate::example::references::append_reference;
-use crate::example::sound::read_small_esds;
+use crate::example::sound::{audio_configuration, read_small_esds};
 use crate::example::times::append_decode_time;
-use mp4_fixtures::boxes::sound::{ESDS, esds};
+use mp4_fixtures::boxes::sound::{ESDS, STSD, esds, specific};
 use mp4_fixtures::boxes::tables::list;
 use mp4_fixtures::boxes::text::DINF_URL;
 use mp4_fixtures::helpers::{Kind, invalid_text, kind_of};
@@ -82,6 +82,30 @@ fn descriptors_are_bounded(rt: HostRuntime) -> Result<(), Fail> {
     assert_eq!(rt; invalid_text(&few), Some("too many descriptors"));
     let mut reader = ByteCursor::new(&ESDS);
     reader.set_position(8);
-    assert!(rt; read_small_esds(&mut reader, 43, 4)? == esds());
+    let (found, expected) = (read_small_esds(&mut reader, 43, 4)?, esds());
+    assert!(rt; found == expected);
     Ok(())
+}
+
+#[test]
+fn sound_is_configured(rt: HostRuntime) -> Result<(), Fail> {
+    let mut reader = ByteCursor::new(&STSD);
+    reader.set_position(8);
+    let config = audio_configuration(rt.alloc(), &mut reader, 95)?;
+    let expected = specific(85, 15, Some(0xc3_2435), 11);
+    assert!(rt; config == expected);
+    let mut reader = ByteCursor::new(&STSD);
+    reader.set_position(8);
+    let none = audio_configuration(rt.alloc(), &mut reader, 16);
+    assert_eq!(rt; invalid_text(&none), Some("no sound"));
+    Ok(())
+}
+
+#[test]
+fn sizes(rt: HostRuntime) {
+    let sizes = [
+        std::mem::size_of::<mp4_stream::AnyBox>(),
+        std::mem::size_of::<mp4_stream::StsdBox>(),
+    ];
+    assert_eq!(rt; sizes, [0; 2]);
 }
