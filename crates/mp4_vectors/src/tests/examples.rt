@@ -100,12 +100,3 @@ fn sound_is_configured(rt: HostRuntime) -> Result<(), Fail> {
     assert_eq!(rt; invalid_text(&none), Some("no sound"));
     Ok(())
 }
-
-#[test]
-fn sizes(rt: HostRuntime) {
-    let sizes = [
-        std::mem::size_of::<mp4_stream::AnyBox>(),
-        std::mem::size_of::<mp4_stream::StsdBox>(),
-    ];
-    assert_eq!(rt; sizes, [0; 2]);
-}
