@@ -170,13 +170,25 @@ pub fn read_without_memory(alloc: Global) -> Result<(), Ending> {
     }
 }
 
+/// Makes a vector.
+fn made(alloc: Global, vector: Vector) -> Result<AnyBox, Ending> {
+    again!(vector.make(alloc))
+}
+
+/// Clones a value, and compares the clone.
+fn clone_of<T: TryClone + PartialEq + Drop>(original: &T) -> Result<T, Ending> {
+    let clone = again!(original.try_clone())?;
+    if clone == *original {
+        Ok(clone)
+    } else {
+        Err(Ending::Wrong)
+    }
+}
+
 /// Makes, clones, writes and reads a vector.
 pub fn write_and_read(alloc: Global, vector: Vector) -> Result<(), Ending> {
-    let original = again!(vector.make(alloc))?;
-    let clone = again!(original.try_clone())?;
-    if clone != original {
-        return Err(Ending::Wrong);
-    }
+    let original = made(alloc, vector)?;
+    let clone = clone_of(&original)?;
     round_trip(alloc, slice::from_ref(&clone), vector.bytes())
 }
 
