@@ -102,22 +102,38 @@ fn stsd_without_an_entry(rt: HostRuntime) -> Result<(), Fail> {
     Ok(())
 }
 
-#[test]
-fn other_entries_need_not_be_writable(rt: HostRuntime) -> Result<(), Fail> {
-    let mut unwritable = mp4a_of_test();
-    if let Some(esds) = &mut unwritable.esds {
+/// An entry of video alone.
+fn stsd_of_two_sets(alloc: Global) -> Result<StsdBox, Error> {
+    let mut stsd = StsdBox::default();
+    stsd.avc1 = Some(avc1_of(alloc, avcc_of_two(alloc, 3)?));
+    Ok(stsd)
+}
+
+/// An entry of audio that can't be written.
+fn unwritable_mp4a() -> Mp4aBox {
+    let mut mp4a = mp4a_of_test();
+    if let Some(esds) = &mut mp4a.esds {
         esds.flags = 1 << 24;
     }
-    let avcc = avcc_of_two(rt.alloc(), 3)?;
-    let mut stsd = stsd_of(unwritable);
-    expect_unwritable_of_size(rt.alloc(), &stsd, 91)?;
-    stsd.avc1 = Some(avc1_of(rt.alloc(), avcc.try_clone()?));
-    let mut alone = StsdBox::default();
-    alone.avc1 = Some(avc1_of(rt.alloc(), avcc));
+    mp4a
+}
+
+#[test]
+fn other_entries_need_not_be_writable(rt: HostRuntime) -> Result<(), Fail> {
+    let alone = stsd_of_two_sets(rt.alloc())?;
     let bytes = expect_written(rt.alloc(), &alone, 151)?;
+    let mut stsd = stsd_of_two_sets(rt.alloc())?;
+    stsd.mp4a = Some(unwritable_mp4a());
     expect_written_alone(rt.alloc(), &stsd, &alone, &bytes)?;
-    alone.flags = 1 << 24;
-    expect_unwritable(rt.alloc(), &alone)?;
+    Ok(())
+}
+
+#[test]
+fn unwritable_stsd(rt: HostRuntime) -> Result<(), Fail> {
+    expect_unwritable_of_size(rt.alloc(), &stsd_of(unwritable_mp4a()), 91)?;
+    let mut flagged = StsdBox::default();
+    flagged.flags = 1 << 24;
+    expect_unwritable(rt.alloc(), &flagged)?;
     Ok(())
 }
 
