@@ -1,3 +1,4 @@
+pub mod Equality
 pub mod Walks
 mod HeaderRoom
 mod Ends

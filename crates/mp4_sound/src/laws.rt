@@ -2,6 +2,7 @@
 //! contract is a law, and its body is empty.
 
 ghost use Rattle.std.specs.Prelude.{◌≡◌, ◌+◌, ◌<◌, ◌≤◌, ℕ, List, length, Ok};
+ghost use Rattle.mp4_frame.specs.Equality.{IsEquality};
 ghost use Rattle.mp4_frame.specs.OneChild.{child_head};
 ghost use Rattle.mp4_frame.specs.Reading.{TakesNone};
 ghost use Rattle.mp4_frame.specs.declared.codes.TheConstants as codes;
@@ -11,6 +12,11 @@ ghost use Rattle.mp4_sound.specs.EsDescriptor.{in_es_descriptor};
 ghost use Rattle.mp4_sound.specs.Esds.{in_esds};
 ghost use Rattle.mp4_sound.specs.Stsd.{reads_stsd};
 ghost use Rattle.mp4_sound.specs.Walk.{walk};
+
+use crate::{
+    DecoderConfigDescriptor, DecoderSpecificDescriptor, ESDescriptor, EsdsBox, Mp4aBox,
+    SLConfigDescriptor, StsdBox,
+};
 
 /// Every descriptor of a walk is read: looking for more descriptors than there are bytes changes nothing.
 pub fn descriptors_are_read_to_their_end()
@@ -22,4 +28,15 @@ pub fn descriptors_are_read_to_their_end()
 /// Reading an `stsd` takes no memory, unless its entry is an `avc1`.
 pub fn only_avc1_takes_memory()
     ensures { (bytes : List ℕ) (start size : ℕ) → (16 < size → (entry : Head) → (child_head bytes size 16).outcome ≡ Ok entry → ¬ (entry.code ≡ codes.AVC1)) → TakesNone (reads_stsd bytes start size) }
+{}
+
+/// `==` of two values compares all of their fields.
+pub fn equality_is_of_all_fields()
+    ensures esds { IsEquality ⟦<EsdsBox as PartialEq>⟧.eq }
+    ensures mp4a { IsEquality ⟦<Mp4aBox as PartialEq>⟧.eq }
+    ensures stsd { IsEquality ⟦<StsdBox as PartialEq>⟧.eq }
+    ensures es_descriptor { IsEquality ⟦<ESDescriptor as PartialEq>⟧.eq }
+    ensures decoder_config { IsEquality ⟦<DecoderConfigDescriptor as PartialEq>⟧.eq }
+    ensures decoder_specific { IsEquality ⟦<DecoderSpecificDescriptor as PartialEq>⟧.eq }
+    ensures sl_config { IsEquality ⟦<SLConfigDescriptor as PartialEq>⟧.eq }
 {}

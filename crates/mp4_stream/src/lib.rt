@@ -3,6 +3,7 @@
 #![tactic(auto)]
 
 mod any_box;
+pub mod any_laws;
 mod member;
 mod read;
 

@@ -11,8 +11,8 @@ use mp4_stream::{
     AnyBox, Avc1Box, AvcCBox, BoxLaws, Co64Box, CttsBox, DataBox, DinfBox, DrefBox, ElstBox,
     EmsgBox, EsdsBox, FtypBox, HdlrBox, Hev1Box, HvcCBox, MdhdBox, MehdBox, MfhdBox, Mp4aBox,
     MvhdBox, SmhdBox, StcoBox, StreamBox, StscBox, StsdBox, StssBox, StszBox, SttsBox, TfdtBox,
-    TfhdBox, TkhdBox, TrexBox, TrunBox, Tx3gBox, UrlBox, VmhdBox, Vp09Box, VpccBox, flat_laws,
-    laws, sound_laws, table_laws, text_laws,
+    TfhdBox, TkhdBox, TrackFlag, TrexBox, TrunBox, Tx3gBox, UrlBox, VmhdBox, Vp09Box, VpccBox,
+    any_laws, entry_laws, flat_laws, laws, sound_laws, table_laws, text_laws,
 };
 
 fn call_laws_of_box<B: BoxLaws>() {
@@ -107,6 +107,14 @@ fn some_entries_are_read_without_memory() {
 }
 
 #[test]
+fn flags_have_their_numbers(rt: HostRuntime) {
+    assert_eq!(rt;
+        flat_laws::discriminant_of_track_flag(TrackFlag::TrackEnabled),
+        1
+    );
+}
+
+#[test]
 fn equality_is_of_all_fields() {
     laws::equality_is_of_all_fields();
     laws::equality_of_lists_is_of_entries::<u32>();
@@ -114,6 +122,9 @@ fn equality_is_of_all_fields() {
     table_laws::equality_of_entries_is_of_all_fields();
     table_laws::equality_is_of_all_fields();
     text_laws::equality_is_of_all_fields();
+    entry_laws::equality_is_of_all_fields();
+    sound_laws::equality_is_of_all_fields();
+    any_laws::equality_is_of_all_fields();
 }
 
 #[test]
