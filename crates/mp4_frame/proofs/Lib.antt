@@ -6,6 +6,7 @@ pub mod Puts
 pub mod Walks
 pub mod Steps
 pub mod RoundTrip
+pub mod Listing
 pub mod Members
 pub mod Tables
 pub mod TableLaws

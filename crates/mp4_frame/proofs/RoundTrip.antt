@@ -11,14 +11,14 @@ use Rattle.mp4_frame.specs.BoxType.{name_of, code_of}
 use Rattle.mp4_frame.specs.Heads.{frame_of_head, frame_of, frame}
 use Rattle.mp4_frame.specs.Reading.{Fault, End, Reading, done, also, and_then, ◌>>=◌}
 use Rattle.mp4_frame.specs.Laws.{BeginsWithHeader, Normal, OwnName, ReadsBack}
-use Rattle.mp4_frame.specs.Streams.{stream, walk_on, box_of, boxes}
+use Rattle.mp4_frame.specs.Streams.{stream, walk_on, walk, box_of, boxes}
 use Rattle.mp4_frame.specs.declared.box_type.BoxType.{BoxType}
 use Rattle.mp4_frame.specs.declared.frame.Frame.{Frame}
 use Rattle.mp4_frame.specs.declared.head.Head.{Head}
 use Rattle.mp4_frame.proofs.Numbers.{number-front, number-past, number-among}
 use Rattle.mp4_frame.proofs.Heads.{no_head, short_head}
 use Rattle.mp4_frame.proofs.Walks.{walk_first, walk_none}
-use Rattle.mp4_frame.proofs.Steps.{item_known}
+use Rattle.mp4_frame.proofs.Steps.{item_known, bind_ok}
 
 abbrev pub head_of : ℕ → ℕ → ℕ → Head
 head_of code size o = record { code = code; size = size; start = o }
@@ -59,9 +59,11 @@ module _ {A : Type 0} (name : A → BoxType) (size : A → ℕ) (Writable : A �
     (normal_law : (v : A) → Writable v → Normal Writable bytes normal v)
     (name_law : (v : A) → Writable v → OwnName known (name v))
     (back_law : (v : A) → Writable v → ReadsBack (reading (name v)) (bytes v) (normal v)) where
+  abbrev pub written_frame : A → ℕ → Frame
+  written_frame v o = record { name = name v; start = o; size = length (bytes v); end = o + length (bytes v) }
+
   -- the frame of a box among other bytes
-  frame_written : (v : A) → Writable v → (B x y : List ℕ) → B ≡ x ++ (bytes v ++ y) → length x + length (bytes v) < 2 ^ 64
-      → frame B (length x) ≡ Ok (record { name = name v; start = length x; size = length (bytes v); end = length x + length (bytes v) })
+  frame_written : (v : A) → Writable v → (B x y : List ℕ) → B ≡ x ++ (bytes v ++ y) → length x + length (bytes v) < 2 ^ 64 → frame B (length x) ≡ Ok (written_frame v (length x))
   frame_written v w B x y is top =
       let f = header_law v w in
       let n = name_law v w in
@@ -75,47 +77,67 @@ module _ {A : Type 0} (name : A → BoxType) (size : A → ℕ) (Writable : A �
       ∙ frame_fits (length B) (length x) (length (bytes v)) (code_of (name v)) least top (omega (arith, long))
       ∙ ap (λ (own : BoxType). Ok (record { name = own; start = length x; size = length (bytes v); end = length x + length (bytes v) })) n.is_own
 
-  -- one written box, and then the bytes after it
-  one : (v : A) → Writable v → (B x y : List ℕ) → B ≡ x ++ (bytes v ++ y) → length x + length (bytes v) < 2 ^ 64
-      → (boxes known reading B (length x)).outcome ≡ ahead (normal v ∷ []) (boxes known reading B (length x + length (bytes v))).outcome
-  one v w B x y is top =
-      let f = header_law v w in
-      let n = name_law v w in
-      let long : length B ≡ length x + (length (bytes v) + length y) = omega (arith, ap length is, length-append x (bytes v ++ y), length-append (bytes v) y) in
-      let fr : Frame = record { name = name v; start = length x; size = length (bytes v); end = length x + length (bytes v) } in
-      let rest = boxes known reading B (length x + length (bytes v)) in
-      let back : (reading (name v) B (length x) (length (bytes v))).outcome ≡ Ok (normal v) = ap (λ (C : List ℕ). (reading (name v) C (length x) (length (bytes v))).outcome) is ∙ back_law v w x y top in
-      let item = item_known known reading B (length x) fr (normal v) n.is_known back in
-      let first = walk_first (box_of known reading B) B (length x) (omega (arith, long, f.long, f.least)) ∙ ap (walk_on (box_of known reading B (length x)) (λ e. boxes known reading B e)) (frame_written v w B x y is top) in
-      let second = ap (λ (i : Reading (List A)). i >>= λ xs. rest >>= λ ys. done (xs ++ ys)) item in
-      ap (λ (r : Reading (List A)). r.outcome) (first ∙ second) ∙ outcome_ahead true rest.asks_memory (normal v) rest.outcome
+  -- A walk over a written list, where the item of a box is one value. The place of the box and the box decide that value.
+  module _ {X : Type 0} (item : List ℕ → ℕ → Frame → Reading (List X)) (value : ℕ → A → X) (values : ℕ → List A → List X)
+      (no_values : (o : ℕ) → values o [] ≡ [])
+      (more_values : (o : ℕ) (v : A) (vs : List A) → Writable v → values o (v ∷ vs) ≡ value o v ∷ values (o + length (bytes v)) vs)
+      (item_law : (v : A) → Writable v → (x y : List ℕ) → length x + length (bytes v) < 2 ^ 64 → (item (x ++ (bytes v ++ y)) (length x) (written_frame v (length x))).outcome ≡ Ok (value (length x) v ∷ [])) where
+    -- one written box, and then the bytes after it
+    walk_one : (v : A) → Writable v → (B x y : List ℕ) → B ≡ x ++ (bytes v ++ y) → length x + length (bytes v) < 2 ^ 64
+        → (walk (item B) B (length x)).outcome ≡ ahead (value (length x) v ∷ []) (walk (item B) B (length x + length (bytes v))).outcome
+    walk_one v w B x y is top =
+        let f = header_law v w in
+        let long : length B ≡ length x + (length (bytes v) + length y) = omega (arith, ap length is, length-append x (bytes v ++ y), length-append (bytes v) y) in
+        let rest = walk (item B) B (length x + length (bytes v)) in
+        let i = item B (length x) (written_frame v (length x)) in
+        let found : i.outcome ≡ Ok (value (length x) v ∷ []) = ap (λ (C : List ℕ). (item C (length x) (written_frame v (length x))).outcome) is ∙ item_law v w x y top in
+        let first = walk_first (item B) B (length x) (omega (arith, long, f.long, f.least)) ∙ ap (walk_on (item B (length x)) (λ e. walk (item B) B e)) (frame_written v w B x y is top) in
+        let second = bind_ok i (λ xs. rest >>= λ ys. done (xs ++ ys)) (value (length x) v ∷ []) found in
+        ap (λ (r : Reading (List X)). r.outcome) (first ∙ second) ∙ outcome_ahead i.asks_memory rest.asks_memory (value (length x) v) rest.outcome
 
-  -- a written list, and then the bytes after it
+    -- a written list, and then the bytes after it
+    walk_through : (vs : List A) → AllByRecursion Writable vs → (B x y : List ℕ) → B ≡ x ++ (stream bytes vs ++ y) → length x + length (stream bytes vs) < 2 ^ 64
+        → (walk (item B) B (length x)).outcome ≡ ahead (values (length x) vs) (walk (item B) B (length x + length (stream bytes vs))).outcome
+    walk_through [] w B x y is top =
+        let k : length x ≡ length x + 0 = omega arith in
+        let rest = (walk (item B) B (length x + 0)).outcome in
+        ap (λ (o : ℕ). (walk (item B) B o).outcome) k ∙ ahead_none rest ∙ ap (λ (l : List X). ahead l rest) (sym (no_values (length x)))
+    walk_through (v ∷ vs) w B x y is top =
+        let part = length-append (bytes v) (stream bytes vs) in
+        let here : B ≡ x ++ (bytes v ++ (stream bytes vs ++ y)) = is ∙ ap (λ (l : List ℕ). x ++ l) (append_assoc (bytes v) (stream bytes vs) y) in
+        let there : B ≡ (x ++ bytes v) ++ (stream bytes vs ++ y) = here ∙ sym (append_assoc x (bytes v) (stream bytes vs ++ y)) in
+        let front = length-append x (bytes v) in
+        let first = walk_one v w.0 B x (stream bytes vs ++ y) here (omega (arith, part)) in
+        let second = walk_through vs w.1 B (x ++ bytes v) y there (omega (arith, part, front)) in
+        let at : length x + length (bytes v) ≡ length (x ++ bytes v) = sym front in
+        let rest = (walk (item B) B (length (x ++ bytes v) + length (stream bytes vs))).outcome in
+        let end : length (x ++ bytes v) + length (stream bytes vs) ≡ length x + length (stream bytes (v ∷ vs)) = omega (arith, part, front) in
+        let joined : value (length x) v ∷ values (length (x ++ bytes v)) vs ≡ values (length x) (v ∷ vs) = ap (λ (o : ℕ). value (length x) v ∷ values o vs) front ∙ sym (more_values (length x) v vs w.0) in
+        first ∙ ap (λ (o : ℕ). ahead (value (length x) v ∷ []) (walk (item B) B o).outcome) at ∙ ap (ahead (value (length x) v ∷ [])) second
+        ∙ ahead_cons (value (length x) v) (values (length (x ++ bytes v)) vs) rest
+        ∙ ap (λ (l : List X). ahead l rest) joined
+        ∙ ap (λ (o : ℕ). ahead (values (length x) (v ∷ vs)) (walk (item B) B o).outcome) end
+
+    -- a written list at the end of the buffer
+    pub walk_whole : (vs : List A) → AllByRecursion Writable vs → (x : List ℕ) → length x + length (stream bytes vs) < 2 ^ 64 → (walk (item (x ++ stream bytes vs)) (x ++ stream bytes vs) (length x)).outcome ≡ Ok (values (length x) vs)
+    walk_whole vs w x top =
+        let B = x ++ stream bytes vs in
+        let is : B ≡ x ++ (stream bytes vs ++ []) = ap (λ (l : List ℕ). x ++ l) (sym (append-nil (stream bytes vs))) in
+        let none = walk_none (item B) B (length x + length (stream bytes vs)) (omega (arith, length-append x (stream bytes vs))) in
+        walk_through vs w B x [] is top ∙ ap (λ (r : Reading (List X)). ahead (values (length x) vs) r.outcome) none ∙ ap (λ (l : List X). Ok l) (append-nil (values (length x) vs))
+
+  -- a box among other bytes is read as its normal form
+  normal_item : (v : A) → Writable v → (x y : List ℕ) → length x + length (bytes v) < 2 ^ 64 → (box_of known reading (x ++ (bytes v ++ y)) (length x) (written_frame v (length x))).outcome ≡ Ok (normal v ∷ [])
+  normal_item v w x y top =
+      ap (λ (r : Reading (List A)). r.outcome) (item_known known reading (x ++ (bytes v ++ y)) (length x) (written_frame v (length x)) (normal v) (name_law v w).is_known (back_law v w x y top))
+
   through : (vs : List A) → AllByRecursion Writable vs → (B x y : List ℕ) → B ≡ x ++ (stream bytes vs ++ y) → length x + length (stream bytes vs) < 2 ^ 64
       → (boxes known reading B (length x)).outcome ≡ ahead (map normal vs) (boxes known reading B (length x + length (stream bytes vs))).outcome
-  through [] w B x y is top =
-      let k : length x ≡ length x + 0 = omega arith in
-      ap (λ (o : ℕ). (boxes known reading B o).outcome) k ∙ ahead_none (boxes known reading B (length x + 0)).outcome
-  through (v ∷ vs) w B x y is top =
-      let part = length-append (bytes v) (stream bytes vs) in
-      let here : B ≡ x ++ (bytes v ++ (stream bytes vs ++ y)) = is ∙ ap (λ (l : List ℕ). x ++ l) (append_assoc (bytes v) (stream bytes vs) y) in
-      let there : B ≡ (x ++ bytes v) ++ (stream bytes vs ++ y) = here ∙ sym (append_assoc x (bytes v) (stream bytes vs ++ y)) in
-      let front = length-append x (bytes v) in
-      let first = one v w.0 B x (stream bytes vs ++ y) here (omega (arith, part)) in
-      let second = through vs w.1 B (x ++ bytes v) y there (omega (arith, part, front)) in
-      let at : length x + length (bytes v) ≡ length (x ++ bytes v) = sym front in
-      let end : length (x ++ bytes v) + length (stream bytes vs) ≡ length x + length (stream bytes (v ∷ vs)) = omega (arith, part, front) in
-      first ∙ ap (λ (o : ℕ). ahead (normal v ∷ []) (boxes known reading B o).outcome) at ∙ ap (ahead (normal v ∷ [])) second
-      ∙ ahead_cons (normal v) (map normal vs) (boxes known reading B (length (x ++ bytes v) + length (stream bytes vs))).outcome
-      ∙ ap (λ (o : ℕ). ahead (map normal (v ∷ vs)) (boxes known reading B o).outcome) end
+  through = walk_through (box_of known reading) (λ o. normal) (λ o. map normal) (λ o. refl) (λ o v vs w. refl) normal_item
 
   -- a written list at the end of the buffer is read as its normal forms
   pub whole : (vs : List A) → AllByRecursion Writable vs → (x : List ℕ) → length x + length (stream bytes vs) < 2 ^ 64 → (boxes known reading (x ++ stream bytes vs) (length x)).outcome ≡ Ok (map normal vs)
-  whole vs w x top =
-      let B = x ++ stream bytes vs in
-      let is : B ≡ x ++ (stream bytes vs ++ []) = ap (λ (l : List ℕ). x ++ l) (sym (append-nil (stream bytes vs))) in
-      let none = walk_none (box_of known reading B) B (length x + length (stream bytes vs)) (omega (arith, length-append x (stream bytes vs))) in
-      through vs w B x [] is top ∙ ap (λ (r : Reading (List A)). ahead (map normal vs) r.outcome) none ∙ ap (λ (l : List A). Ok l) (append-nil (map normal vs))
+  whole = walk_whole (box_of known reading) (λ o. normal) (λ o. map normal) (λ o. refl) (λ o v vs w. refl) normal_item
 
   -- the frame of a box that is cut is end of input
   frame_cut : (v : A) → Writable v → (x : List ℕ) (k : ℕ) → 0 < k → k < length (bytes v) → length x + length (bytes v) < 2 ^ 64 → frame (x ++ take k (bytes v)) (length x) ≡ Err End

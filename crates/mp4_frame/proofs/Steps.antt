@@ -87,6 +87,23 @@ module _ {X : Type 0} (item : ℕ → Frame → Reading (List X)) (B : List ℕ)
   walk_is_over a front o total le so_far =
       ap (λ (r : Reading (List X)). r.outcome) (sym so_far ∙ ap (continue_with a front) (walk_none item B o le)) ∙ ap (λ (l : List X). Ok l) (append-nil front)
 
+  -- an item that takes memory and gives one value, which is kept
+  pub one_kept : (front : List X) (x : X) (o : ℕ) (f : Frame) (total : Reading (List X)) → o < length B → frame B o ≡ Ok f → item o f ≡ record { asks_memory = true; outcome = Ok (x ∷ []) }
+      → continue_with (nat_lt 0 (length front)) front (walk item B o) ≡ total → continue_with (nat_lt 0 (length (front ++ x ∷ []))) (front ++ x ∷ []) (walk item B f.end) ≡ total
+  one_kept front x o f total lt is is_item so_far =
+      let one = step (nat_lt 0 (length front)) front (x ∷ []) o f total lt is (ap (λ (r : Reading (List X)). r.outcome) is_item) so_far in
+      let flag : (nat_lt 0 (length front) || (item o f).asks_memory) ≡ nat_lt 0 (length (front ++ x ∷ [])) =
+      ap (λ (r : Reading (List X)). nat_lt 0 (length front) || r.asks_memory) is_item ∙ or_true (nat_lt 0 (length front)) ∙ sym (long_enough front x) in
+      subst (λ (b : Bool). continue_with b (front ++ x ∷ []) (walk item B f.end) ≡ total) flag one
+
+  -- out of memory after such an item was read
+  pub one_refused : (front : List X) (x : X) (o : ℕ) (f : Frame) (total : Reading (List X)) → o < length B → frame B o ≡ Ok f → item o f ≡ record { asks_memory = true; outcome = Ok (x ∷ []) }
+      → continue_with (nat_lt 0 (length front)) front (walk item B o) ≡ total → total.asks_memory ≡ true
+  one_refused front x o f total lt is is_item so_far =
+      let one = one_kept front x o f total lt is is_item so_far in
+      let two : continue_with (nat_lt 0 (length (front ++ x ∷ []))) (front ++ x ∷ []) (walk item B f.end) ≡ continue_with true (front ++ x ∷ []) (walk item B f.end) = ap (λ (b : Bool). continue_with b (front ++ x ∷ []) (walk item B f.end)) (long_enough front x) in
+      ap (λ (r : Reading (List X)). r.asks_memory) (sym one ∙ two)
+
 abbrev pub ok_list : {A : Type 0} → List A → Result (List A) Fault
 ok_list l = Ok l
 
@@ -112,24 +129,6 @@ module _ {A : Type 0} (known : BoxType → Bool) (reading : BoxType → List ℕ
       let one : box_of known reading B o f ≡ (r >>= λ v. memory >>= λ _. done (v ∷ [])) = rw is_known refl in
       let two = bind_ok r (λ v. memory >>= λ _. done (v ∷ [])) v e in
       one ∙ two ∙ ap (λ (b : Bool). record { asks_memory = b; outcome = Ok (v ∷ []) }) (or_true r.asks_memory)
-
-  -- a box is kept
-  pub kept : (front : List A) (o : ℕ) (f : Frame) (v : A) (total : Reading (List A)) → o < length B → frame B o ≡ Ok f → known f.name ≡ true → (reading f.name B f.start f.size).outcome ≡ Ok v
-      → continue_with (nat_lt 0 (length front)) front (boxes known reading B o) ≡ total → continue_with (nat_lt 0 (length (front ++ v ∷ []))) (front ++ v ∷ []) (boxes known reading B f.end) ≡ total
-  kept front o f v total lt is is_known e so_far =
-      let item = item_known o f v is_known e in
-      let one = step (box_of known reading B) B (nat_lt 0 (length front)) front (v ∷ []) o f total lt is (ap (λ (r : Reading (List A)). r.outcome) item) so_far in
-      let flag : (nat_lt 0 (length front) || (box_of known reading B o f).asks_memory) ≡ nat_lt 0 (length (front ++ v ∷ [])) =
-      ap (λ (r : Reading (List A)). nat_lt 0 (length front) || r.asks_memory) item ∙ or_true (nat_lt 0 (length front)) ∙ sym (long_enough front v) in
-      subst (λ (b : Bool). continue_with b (front ++ v ∷ []) (boxes known reading B f.end) ≡ total) flag one
-
-  -- out of memory after a box was read
-  pub refused : (front : List A) (o : ℕ) (f : Frame) (v : A) (total : Reading (List A)) → o < length B → frame B o ≡ Ok f → known f.name ≡ true → (reading f.name B f.start f.size).outcome ≡ Ok v
-      → continue_with (nat_lt 0 (length front)) front (boxes known reading B o) ≡ total → total.asks_memory ≡ true
-  refused front o f v total lt is is_known e so_far =
-      let one = kept front o f v total lt is is_known e so_far in
-      let two : continue_with (nat_lt 0 (length (front ++ v ∷ []))) (front ++ v ∷ []) (boxes known reading B f.end) ≡ continue_with true (front ++ v ∷ []) (boxes known reading B f.end) = ap (λ (b : Bool). continue_with b (front ++ v ∷ []) (boxes known reading B f.end)) (long_enough front v) in
-      ap (λ (r : Reading (List A)). r.asks_memory) (sym one ∙ two)
 
   item_faults : (a : Bool) (front : List A) (o : ℕ) (f : Frame) (k : Fault) (total : Reading (List A)) → o < length B → frame B o ≡ Ok f → known f.name ≡ true → (reading f.name B f.start f.size).outcome ≡ Err k
       → continue_with a front (boxes known reading B o) ≡ total → total.outcome ≡ Err k
@@ -170,7 +169,7 @@ module _ {A : Type 0} (known : BoxType → Bool) (reading : BoxType → List ℕ
   append_read_keeps front new o f total lt is is_known e so_far =
       let r = reading f.name B f.start f.size in
       let p = append_read_by front new r.asks_memory r.outcome e in
-      subst (λ (l : List A). continue_with (nat_lt 0 (length l)) l (boxes known reading B f.end) ≡ total) p.2 (kept front o f p.0 total lt is is_known p.1 so_far)
+      subst (λ (l : List A). continue_with (nat_lt 0 (length l)) l (boxes known reading B f.end) ≡ total) p.2 (one_kept (box_of known reading B) B front p.0 o f total lt is (item_known o f p.0 is_known p.1) so_far)
 
   fault_by : (front : List A) (k : Fault) (a : Bool) (o : Result A Fault) → (append_read front (record { asks_memory = a; outcome = o })).outcome ≡ err_list k → o ≡ err_one k
   fault_by front k a (Ok v) e = absurd cc
@@ -190,6 +189,6 @@ module _ {A : Type 0} (known : BoxType → Bool) (reading : BoxType → List ℕ
       let r = reading f.name B f.start f.size in
       elim (asks_by front r.asks_memory r.outcome h) [
         | inl a ↦ item_asks _ front o f total lt is is_known a so_far
-        | inr p ↦ refused front o f p.0 total lt is is_known p.1 so_far
+        | inr p ↦ one_refused (box_of known reading B) B front p.0 o f total lt is (item_known o f p.0 is_known p.1) so_far
       ]
   append_read_faults front o f _ total lt is is_known h so_far = absurd h

@@ -15,4 +15,5 @@ pub mod OneChild
 pub mod OptionalChild
 pub mod Parent
 pub mod Streams
+pub mod Spans
 pub mod Tables

@@ -1,0 +1,26 @@
+-- Where the boxes of a buffer are: their places and names, without their contents.
+use Rattle.std.specs.Prelude.{ℕ, ◌+◌, ◌-◌, List, [], ◌∷◌}
+use Rattle.mp4_frame.specs.Format.{Format}
+use Rattle.mp4_frame.specs.Reading.{Reading, done, memory, ◌>>=◌}
+use Rattle.mp4_frame.specs.Streams.{walk}
+use Rattle.mp4_frame.specs.declared.frame.Frame.{Frame}
+use Rattle.mp4_frame.specs.declared.list.BoxSpan.{BoxSpan}
+
+-- the place of the box at o, from its first byte to the end of its frame
+abbrev pub span_of : ℕ → Frame → BoxSpan
+span_of o f = record { position = o; length = f.end - o; name = f.name }
+
+-- every box's place is kept, which takes memory
+abbrev pub span_item : ℕ → Frame → Reading (List BoxSpan)
+span_item o f = do
+  kept ← memory
+  done (span_of o f ∷ [])
+
+-- the places of the boxes from o on
+abbrev pub spans : List ℕ → ℕ → Reading (List BoxSpan)
+spans B o = walk span_item B o
+
+-- the places of boxes that are written one after the other from o on
+abbrev pub places : {A : Type 0} → Format A → ℕ → List A → List BoxSpan
+places format o [] = []
+places format o (v ∷ vs) = record { position = o; length = format.size v; name = format.name v } ∷ places format (o + format.size v) vs

@@ -1,0 +1,48 @@
+//! Listing boxes: where they are in a buffer, without their contents.
+
+ghost use Rattle.std.specs.Prelude.{◌≡◌, max, length, OnOk, OnErr};
+ghost use Rattle.mp4_frame.specs.Reading.{AnswersAs};
+ghost use Rattle.mp4_frame.specs.Spans.{spans};
+
+use crate::box_type::BoxType;
+use crate::byte_cursor::ByteCursor;
+use crate::error::Result;
+use crate::frame::frame_at;
+use std::alloc::Allocator;
+
+/// The place of a box in a buffer, and its name. Positions and lengths are in bytes.
+#[derive(Clone, Copy, Debug, PartialEq, Eq)]
+pub struct BoxSpan {
+    /// The offset of the first byte of the box, which is that of its header.
+    pub position: u64,
+    /// The number of bytes from `position` to the end of the box, with its header.
+    pub length: u64,
+    /// The name of the box.
+    pub name: BoxType,
+}
+
+/// Lists the boxes from the cursor's position to the end of the buffer, or returns the first fault of their headers
+/// (ISO/IEC 14496-12, 4.2): end of input if a header or a box is cut, invalid data if a size is too small or too
+/// large. The last box may have a size of 0, and then goes to the end of the buffer. Contents are not read, so a box
+/// that is listed may still be refused by `read_boxes`; and boxes inside others are not listed.
+pub fn list_boxes<A: Allocator>(alloc: A, reader: &mut ByteCursor) -> Result<Vec<BoxSpan, A>>
+    ensures answer { AnswersAs (λ v. v.items) result (spans reader.old.bytes.now reader.old.position) }
+    ensures moved { OnOk result (reader.new.position ≡ max reader.old.position (length reader.old.bytes.now)) }
+    ensures kept { OnErr result (reader.new.position ≡ reader.old.position) }
+    ensures bytes { reader.new.bytes ≡ reader.old.bytes }
+{
+    let mut spans = Vec::new(alloc);
+    let bytes = reader.bytes();
+    let mut at = reader.position();
+    while at < bytes.len() as u64 {
+        let frame = frame_at(bytes, at as usize)?;
+        spans.push(BoxSpan {
+            position: at,
+            length: frame.end - at,
+            name: frame.name,
+        })?;
+        at = frame.end;
+    }
+    reader.set_position(at);
+    Ok(spans)
+}
