@@ -5,6 +5,7 @@ pub mod Laws
 pub mod Equality
 pub mod BoxType
 pub mod FourCC
+pub mod Entries
 pub mod Text
 pub mod TextLaws
 pub mod Format
