@@ -1,129 +1,29 @@
-//! Checks that the tests of boxes share. A check that fails returns what it found and what it expected.
+//! Checks that the tests of boxes share. A check that succeeds has found what it expected: its contract says what that
+//! is, over the definitions. A check that fails returns what it found and what it expected, or the error of a call that
+//! was expected to succeed.
 
-use mp4_stream::{BoxHeader, BoxLaws, BoxType, ByteCursor, Error, ReadBox, WriteBox};
-use std::alloc::{AllocError, Global};
-use std::fmt::Debug;
+ghost use Rattle.std.specs.Prelude.{◌≡◌, ℕ, ◌-◌, ◌^◌, ◌<◌, ◌≤◌, [], ◌∷◌, All, min, max, length, IfOk, OnOk, OnErr};
+ghost use Rattle.mp4_frame.specs.Reading.{Answers, reading};
+ghost use Rattle.mp4_fixtures.specs.Checks.{EndsIn, ReadsAs, cut_reading};
+ghost use Rattle.mp4_fixtures.specs.declared.helpers.outcomes.Kind.TheVariants as kinds;
 
-/// The kind of the outcome of a call: an `Ok`, or an error without its text.
-#[derive(Clone, Copy, Debug, PartialEq, Eq)]
-pub enum Kind {
-    /// An `Ok`.
-    Ok,
-    /// End of input.
-    End,
-    /// Invalid data.
-    Invalid,
-    /// A missing child of this name.
-    NotFound(BoxType),
-    /// Out of memory.
-    Memory,
-    /// Any other error.
-    Other,
-}
+mod mismatches;
+mod outcomes;
 
-/// The kind of this outcome.
-pub fn kind_of<T>(outcome: &Result<T, Error>) -> Kind {
-    match outcome {
-        Ok(_) => Kind::Ok,
-        Err(Error::IoError) => Kind::End,
-        Err(Error::InvalidData(_)) => Kind::Invalid,
-        Err(Error::BoxNotFound(name)) => Kind::NotFound(*name),
-        Err(Error::OutOfMemory) => Kind::Memory,
-        Err(_) => Kind::Other,
-    }
-}
+pub use mismatches::Mismatch;
+pub use outcomes::{Kind, debug_text, invalid_text, kind_of};
 
-/// The text of an outcome that is invalid data.
-pub fn invalid_text<T>(outcome: &Result<T, Error>) -> Option<&'static str> {
-    match outcome {
-        Err(Error::InvalidData(text)) => Some(text),
-        _ => None,
-    }
-}
-
-/// The text that `Debug` prints.
-pub fn debug_text(alloc: Global, value: &impl Debug) -> Result<String, AllocError> {
-    format!(in alloc; "{value:?}")
-}
-
-/// How what a check found differs from what it expected.
-#[derive(Debug, Drop)]
-pub enum Mismatch {
-    /// A call failed that was expected to succeed.
-    Failed(Error),
-    /// Reading a box of this size had a result of another kind.
-    Ending {
-        found: Kind,
-        expected: Kind,
-        size: u64,
-    },
-    /// The cursor is at another position.
-    Position {
-        found: u64,
-        expected: u64,
-    },
-    /// A box has another size, or is written in another number of bytes.
-    Length {
-        found: u64,
-        expected: u64,
-    },
-    /// The header of a box has another name.
-    Name {
-        found: BoxType,
-        expected: BoxType,
-    },
-    /// Another box is read from a buffer of this length, with this size.
-    OtherBox {
-        length: usize,
-        size: u64,
-    },
-    /// Other bytes are written.
-    OtherBytes,
-}
-
-impl From<Error> for Mismatch {
-    fn from(error: Error) -> Mismatch {
-        Mismatch::Failed(error)
-    }
-}
-
-impl From<AllocError> for Mismatch {
-    fn from(error: AllocError) -> Mismatch {
-        Mismatch::Failed(Error::from(error))
-    }
-}
-
-fn expect_position(found: u64, expected: u64) -> Result<(), Mismatch> {
-    if found == expected {
-        Ok(())
-    } else {
-        Err(Mismatch::Position { found, expected })
-    }
-}
-
-fn expect_length(found: u64, expected: u64) -> Result<(), Mismatch> {
-    if found == expected {
-        Ok(())
-    } else {
-        Err(Mismatch::Length { found, expected })
-    }
-}
-
-fn expect_ending(found: Kind, expected: Kind, size: u64) -> Result<(), Mismatch> {
-    if found == expected {
-        Ok(())
-    } else {
-        Err(Mismatch::Ending {
-            found,
-            expected,
-            size,
-        })
-    }
-}
+use mismatches::{expect_ending, expect_length, expect_position};
+use mp4_stream::{BoxHeader, BoxLaws, ByteCursor, Error, ReadBox, WriteBox};
+use std::alloc::Global;
 
 /// Reads the box at the front of a buffer, after its header of 8 bytes, with this size. Returns the result and the
 /// position of the cursor after the call.
-pub fn read<B: ReadBox + Drop>(alloc: Global, bytes: &[u8], size: u64) -> (Result<B, Error>, u64) {
+pub fn read<B: ReadBox + Drop>(alloc: Global, bytes: &[u8], size: u64) -> (Result<B, Error>, u64)
+    ensures answer { Answers result.0 (reading B.reads bytes.now 0 size) }
+    ensures moved { OnOk result.0 (result.1 ≡ max B.LEAST size) }
+    ensures kept { OnErr result.0 (result.1 ≡ 8) }
+{
     let mut reader = ByteCursor::new(bytes);
     reader.set_position(8);
     let result = B::read_box(alloc, &mut reader, size);
@@ -137,7 +37,10 @@ pub fn expect_kind<B: ReadBox + Drop>(
     bytes: &[u8],
     size: u64,
     expected: Kind,
-) -> Result<(), Mismatch> {
+) -> Result<(), Mismatch>
+    ensures ending { OnOk result (EndsIn expected (reading B.reads bytes.now 0 size)) }
+    ensures cursor { OnOk result (expected ≡ kinds.Ok → B.LEAST ≤ size) }
+{
     let (result, position) = read::<B>(alloc, bytes, size);
     expect_ending(kind_of(&result), expected, size)?;
     expect_position(position, if expected == Kind::Ok { size } else { 8 })
@@ -149,7 +52,10 @@ pub fn expect_value<B: BoxLaws + PartialEq + Drop>(
     value: &B,
     bytes: &[u8],
     size: u64,
-) -> Result<(), Mismatch> {
+) -> Result<(), Mismatch>
+    ensures value { OnOk result (ReadsAs B.eq (reading B.reads bytes.now 0 size) value.now) }
+    ensures cursor { OnOk result (B.LEAST ≤ size) }
+{
     let (result, position) = read::<B>(alloc, bytes, size);
     if result? == *value {
         expect_position(position, size)
@@ -167,7 +73,12 @@ pub fn expect_written<B: BoxLaws + PartialEq + Drop>(
     alloc: Global,
     value: &B,
     size: u64,
-) -> Result<Vec<u8>, Mismatch> {
+) -> Result<Vec<u8>, Mismatch>
+    ensures writable { OnOk result (B.format.Writable value.now) }
+    ensures bytes { IfOk result (λ out. out.items ≡ B.format.bytes value.now) }
+    ensures size { OnOk result (length (B.format.bytes value.now) ≡ size) }
+    ensures read_back { OnOk result (ReadsAs B.eq (reading B.reads (B.format.bytes value.now) 0 size) value.now) }
+{
     let mut out = Vec::new(alloc);
     expect_length(value.write_box(&mut out)?, size)?;
     expect_length(out.len() as u64, size)?;
@@ -189,7 +100,11 @@ pub fn expect_round_trip<B: BoxLaws + PartialEq + Drop>(
     alloc: Global,
     value: &B,
     bytes: &[u8],
-) -> Result<(), Mismatch> {
+) -> Result<(), Mismatch>
+    ensures writable { OnOk result (B.format.Writable value.now) }
+    ensures bytes { OnOk result (B.format.bytes value.now ≡ bytes.now) }
+    ensures read_back { OnOk result (ReadsAs B.eq (reading B.reads bytes.now 0 (length bytes.now)) value.now) }
+{
     let out = expect_written(alloc, value, bytes.len() as u64)?;
     if out.as_slice() == bytes {
         Ok(())
@@ -199,7 +114,9 @@ pub fn expect_round_trip<B: BoxLaws + PartialEq + Drop>(
 }
 
 /// Expects that writing a box is invalid data, and leaves the vector as it was.
-pub fn expect_unwritable<B: WriteBox>(alloc: Global, value: &B) -> Result<(), Mismatch> {
+pub fn expect_unwritable<B: WriteBox>(alloc: Global, value: &B) -> Result<(), Mismatch>
+    ensures { OnOk result (¬ B.format.Writable value.now) }
+{
     let mut out = Vec::from_slice(alloc, &[7])?;
     expect_ending(
         kind_of(&value.write_box(&mut out)),
@@ -218,7 +135,10 @@ pub fn expect_unwritable_of_size<B: WriteBox>(
     alloc: Global,
     value: &B,
     size: u64,
-) -> Result<(), Mismatch> {
+) -> Result<(), Mismatch>
+    ensures size { OnOk result (min (B.format.size value.now) (2 ^ 64 - 1) ≡ size) }
+    ensures unwritable { OnOk result (¬ B.format.Writable value.now) }
+{
     expect_length(value.box_size(), size)?;
     expect_unwritable(alloc, value)
 }
@@ -229,7 +149,11 @@ pub fn expect_end_at_cuts_below<B: BoxLaws + PartialEq + Drop>(
     alloc: Global,
     value: &B,
     needed: usize,
-) -> Result<(), Mismatch> {
+) -> Result<(), Mismatch>
+    ensures writable { OnOk result (B.format.Writable value.now) }
+    ensures ends { OnOk result ((n : ℕ) → n < needed → n < length (B.format.bytes value.now) → EndsIn kinds.End (cut_reading B.reads (B.format.bytes value.now) n)) }
+    ensures values { OnOk result ((n : ℕ) → needed ≤ n → n < length (B.format.bytes value.now) → ReadsAs B.eq (cut_reading B.reads (B.format.bytes value.now) n) value.now) }
+{
     let mut out = Vec::new(alloc);
     let size = value.write_box(&mut out)?;
     for length in 0..out.len() {
@@ -247,7 +171,10 @@ pub fn expect_end_at_cuts_below<B: BoxLaws + PartialEq + Drop>(
 pub fn expect_value_at_any_size<B: BoxLaws + PartialEq + Drop>(
     alloc: Global,
     value: &B,
-) -> Result<(), Mismatch> {
+) -> Result<(), Mismatch>
+    ensures writable { OnOk result (B.format.Writable value.now) }
+    ensures values { OnOk result (All (λ size. ReadsAs B.eq (reading B.reads (B.format.bytes value.now) 0 size) value.now) (0 ∷ 7 ∷ length (B.format.bytes value.now) ∷ (2 ^ 64 - 1) ∷ [])) }
+{
     let mut out = Vec::new(alloc);
     let own = value.write_box(&mut out)?;
     for size in [0, 7, own, u64::MAX] {
@@ -261,7 +188,11 @@ pub fn expect_value_at_any_size<B: BoxLaws + PartialEq + Drop>(
 pub fn expect_invalid_at_small_sizes<B: BoxLaws + PartialEq + Drop>(
     alloc: Global,
     value: &B,
-) -> Result<(), Mismatch> {
+) -> Result<(), Mismatch>
+    ensures writable { OnOk result (B.format.Writable value.now) }
+    ensures invalid { OnOk result (All (λ size. EndsIn kinds.Invalid (reading B.reads (B.format.bytes value.now) 0 size)) (0 ∷ 7 ∷ [])) }
+    ensures value { OnOk result (ReadsAs B.eq (reading B.reads (B.format.bytes value.now) 0 (2 ^ 64 - 1)) value.now) }
+{
     let mut out = Vec::new(alloc);
     value.write_box(&mut out)?;
     for size in [0, 7] {

@@ -6,12 +6,14 @@ use mp4_stream::{
 };
 use std::alloc::Global;
 
+/// `avcC`, version 0x81: three unlike sets of each kind, one of them empty.
 pub const AVCC: [u8; 36] = [
     0x00, 0x00, 0x00, 0x24, 0x61, 0x76, 0x63, 0x43, 0x81, 0x42, 0xc3, 0x25, 0xfe, 0xe3, 0x00, 0x02,
     0x67, 0x91, 0x00, 0x01, 0x68, 0x00, 0x03, 0x69, 0x92, 0xa3, 0x03, 0x00, 0x01, 0x12, 0x00, 0x00,
     0x00, 0x02, 0x34, 0x56,
 ];
 
+/// `avc1`: every field has another value.
 pub const AVC1: [u8; 122] = [
     0x00, 0x00, 0x00, 0x7a, 0x61, 0x76, 0x63, 0x31, 0x00, 0x00, 0x00, 0x00, 0x00, 0x00, 0x81, 0x02,
     0x00, 0x00, 0x00, 0x00, 0x00, 0x00, 0x00, 0x00, 0x00, 0x00, 0x00, 0x00, 0x00, 0x00, 0x00, 0x00,
@@ -23,8 +25,10 @@ pub const AVC1: [u8; 122] = [
     0x03, 0x00, 0x01, 0x12, 0x00, 0x00, 0x00, 0x02, 0x34, 0x56,
 ];
 
+/// `hvcC`: the version alone, which is 0x8a.
 pub const HVCC: [u8; 9] = [0x00, 0x00, 0x00, 0x09, 0x68, 0x76, 0x63, 0x43, 0x8a];
 
+/// `hev1`: every field has another value.
 pub const HEV1: [u8; 95] = [
     0x00, 0x00, 0x00, 0x5f, 0x68, 0x65, 0x76, 0x31, 0x00, 0x00, 0x00, 0x00, 0x00, 0x00, 0x82, 0x03,
     0x00, 0x00, 0x00, 0x00, 0x00, 0x00, 0x00, 0x00, 0x00, 0x00, 0x00, 0x00, 0x00, 0x00, 0x00, 0x00,
@@ -34,11 +38,13 @@ pub const HEV1: [u8; 95] = [
     0x00, 0x00, 0xd4, 0x07, 0xff, 0xff, 0x00, 0x00, 0x00, 0x09, 0x68, 0x76, 0x63, 0x43, 0x8a,
 ];
 
+/// `vpcC`, version 0x81: every field has another value.
 pub const VPCC: [u8; 20] = [
     0x00, 0x00, 0x00, 0x14, 0x76, 0x70, 0x63, 0x43, 0x81, 0x92, 0x03, 0x04, 0xa5, 0xb6, 0xa7, 0xc8,
     0xd9, 0xea, 0xfb, 0x0c,
 ];
 
+/// `vp09`, version 0x8b: every field has another value.
 pub const VP09: [u8; 106] = [
     0x00, 0x00, 0x00, 0x6a, 0x76, 0x70, 0x30, 0x39, 0x8b, 0x9c, 0x0d, 0x0e, 0xad, 0x1f, 0xbe, 0x2a,
     0x11, 0x12, 0x13, 0x14, 0x15, 0x16, 0x17, 0x18, 0x19, 0x1a, 0x1b, 0x1c, 0x1d, 0x1e, 0x1f, 0x20,
@@ -49,6 +55,7 @@ pub const VP09: [u8; 106] = [
     0x03, 0x04, 0xa5, 0xb6, 0xa7, 0xc8, 0xd9, 0xea, 0xfb, 0x0c,
 ];
 
+/// `tx3g`: every field has another value, some of them below 0.
 pub const TX3G: [u8; 46] = [
     0x00, 0x00, 0x00, 0x2e, 0x74, 0x78, 0x33, 0x67, 0x00, 0x00, 0x00, 0x00, 0x00, 0x00, 0x8d, 0x01,
     0x9e, 0x02, 0x13, 0xf4, 0x9c, 0xc8, 0xa1, 0xb2, 0xd3, 0xe4, 0x8a, 0xd0, 0x01, 0x02, 0xff, 0xfe,
@@ -82,7 +89,7 @@ pub fn empty_sets(alloc: Global, count: usize) -> Result<Entries<NalUnit>> {
     Ok(list)
 }
 
-/// A decoder configuration with three unlike sets of each kind.
+/// `avcC`, version 0x81: a decoder configuration with three unlike sets of each kind.
 pub fn avcc(alloc: Global) -> Result<AvcCBox> {
     Ok(AvcCBox {
         configuration_version: 0x81,
@@ -98,14 +105,14 @@ pub fn avcc(alloc: Global) -> Result<AvcCBox> {
     })
 }
 
-/// The decoder configuration of the Rust crate's test, with this size of lengths.
+/// `avcC`, version 1: the decoder configuration of the Rust crate's test, with this size of lengths.
 pub fn avcc_of_two(alloc: Global, length_size_minus_one: u8) -> Result<AvcCBox> {
     let mut avcc = AvcCBox::new(alloc, &SEQUENCE, &PICTURE)?;
     avcc.length_size_minus_one = length_size_minus_one;
     Ok(avcc)
 }
 
-/// A video entry whose fields are all unlike.
+/// `avc1`: a video entry whose fields are all unlike.
 pub fn avc1(alloc: Global) -> Result<Avc1Box> {
     Ok(Avc1Box {
         data_reference_index: 0x8102,
@@ -119,7 +126,7 @@ pub fn avc1(alloc: Global) -> Result<Avc1Box> {
     })
 }
 
-/// The video entry of the Rust crate's test, of 320 by 240 pixels, with this decoder configuration.
+/// `avc1`: the video entry of the Rust crate's test, of 320 by 240 pixels, with this decoder configuration.
 pub fn avc1_of(alloc: Global, avcc: AvcCBox) -> Avc1Box {
     let mut entry = Avc1Box::default_in(alloc);
     entry.data_reference_index = 1;
@@ -129,14 +136,14 @@ pub fn avc1_of(alloc: Global, avcc: AvcCBox) -> Avc1Box {
     entry
 }
 
-/// A decoder configuration of HEVC.
+/// `hvcC`, version 0x8a: a decoder configuration of HEVC, which is its version alone.
 pub fn hvcc() -> HvcCBox {
     HvcCBox {
         configuration_version: 0x8a,
     }
 }
 
-/// A video entry of HEVC whose fields are all unlike.
+/// `hev1`: a video entry of HEVC whose fields are all unlike.
 pub fn hev1() -> Hev1Box {
     Hev1Box {
         data_reference_index: 0x8203,
@@ -150,7 +157,7 @@ pub fn hev1() -> Hev1Box {
     }
 }
 
-/// A decoder configuration of VP9 whose fields are all unlike.
+/// `vpcC`, version 0x81: a decoder configuration of VP9 whose fields are all unlike.
 pub fn vpcc() -> VpccBox {
     VpccBox {
         version: 0x81,
@@ -167,7 +174,7 @@ pub fn vpcc() -> VpccBox {
     }
 }
 
-/// A video entry of VP9 whose fields are all unlike.
+/// `vp09`, version 0x8b: a video entry of VP9 whose fields are all unlike.
 pub fn vp09() -> Vp09Box {
     Vp09Box {
         version: 0x8b,
@@ -195,7 +202,7 @@ pub fn vp09() -> Vp09Box {
     }
 }
 
-/// The video entry of the Rust crate's test, of 1920 by 1080 pixels.
+/// `vp09`: the video entry of the Rust crate's test, of 1920 by 1080 pixels.
 pub fn vp09_of_config() -> Vp09Box {
     Vp09Box::new(&Vp9Config {
         width: 1920,
@@ -203,7 +210,7 @@ pub fn vp09_of_config() -> Vp09Box {
     })
 }
 
-/// A text entry whose fields are all unlike.
+/// `tx3g`: a text entry whose fields are all unlike.
 pub fn tx3g() -> Tx3gBox {
     Tx3gBox {
         data_reference_index: 0x8d01,

@@ -6,62 +6,79 @@ use mp4_stream::{
 };
 use std::alloc::Global;
 
+/// `mvhd`, version 0: times of 32 bits.
 pub const MVHD: [u8; 108] =
     *b"\0\0\0lmvhd\0\0\0\0\0\0\0d\0\0\0\xc8\0\0\x03\xe8\0\x09\xaf\x0a\0\x01\0\0\x01\0\0\0\0\0\0\0\0\0\0\0\0\
 \x01\0\0\0\0\0\0\0\0\0\0\0\0\0\0\0\x01\0\0\0\0\0\0\0\0\0\0\0\0\0\0@\0\0\0\0\0\0\0\0\0\0\0\0\0\0\0\0\
 \0\0\0\0\0\0\0\0\0\0\0\0\0\0\x01";
 
+/// `mvhd`, version 1: the same header with times of 64 bits.
 pub const MVHD_LONG: [u8; 120] =
     *b"\0\0\0xmvhd\x01\0\0\0\0\0\0\0\0\0\0d\0\0\0\0\0\0\0\xc8\0\0\x03\xe8\0\0\0\0\0\x09\xaf\x0a\0\x01\0\0\
 \x01\0\0\0\0\0\0\0\0\0\0\0\0\x01\0\0\0\0\0\0\0\0\0\0\0\0\0\0\0\x01\0\0\0\0\0\0\0\0\0\0\0\0\0\0@\0\0\
 \0\0\0\0\0\0\0\0\0\0\0\0\0\0\0\0\0\0\0\0\0\0\0\0\0\0\0\0\x01";
 
+/// `tkhd`, version 1: times of 64 bits, and a picture that is rotated by 90 degrees.
 pub const TKHD: [u8; 104] =
     *b"\0\0\0htkhd\x01\0\0\x01\0\0\0\0\0\0\0d\0\0\0\0\0\0\0\xc8\0\0\0\x01\0\0\0\0\0\0\0\0\0\x09\xaf\x0a\0\0\
 \0\0\0\0\0\0\0\0\0\0\x01\0\0\0\0\0\0\0\0\x01\0\0\0\0\0\0\xff\xff\0\0\0\0\0\0\0\0\0\0\0\0\0\0\0\0\0\0\
 @\0\0\0\x02\0\0\0\x01 \0\0";
 
+/// `tkhd`, version 0: times of 32 bits.
 pub const TKHD_SHORT: [u8; 92] =
     *b"\0\0\0\\tkhd\0\0\0\x01\0\0\0d\0\0\0\xc8\0\0\0\x01\0\0\0\0\0\x09\xaf\x0a\0\0\0\0\0\0\0\0\0\0\0\0\x01\
 \0\0\0\0\x01\0\0\0\0\0\0\0\0\0\0\0\0\0\0\0\x01\0\0\0\0\0\0\0\0\0\0\0\0\0\0@\0\0\0\x02\0\0\0\x01\x20\
 \0\0";
 
+/// `tkhd`, version 1: the same header with times of 64 bits.
 pub const TKHD_LONG: [u8; 104] =
     *b"\0\0\0htkhd\x01\0\0\x01\0\0\0\0\0\0\0d\0\0\0\0\0\0\0\xc8\0\0\0\x01\0\0\0\0\0\0\0\0\0\x09\xaf\x0a\0\
 \0\0\0\0\0\0\0\0\0\0\0\x01\0\0\0\0\x01\0\0\0\0\0\0\0\0\0\0\0\0\0\0\0\x01\0\0\0\0\0\0\0\0\0\0\0\0\0\
 \0@\0\0\0\x02\0\0\0\x01\x20\0\0";
 
+/// `tkhd`, version 0: every field has another value.
 pub const TKHD_FULL: [u8; 92] =
     *b"\0\0\0\\tkhd\0\0\0\x07\x01\x02\x03\x04\x05\x06\x07\x08\x09\x0a\x0b\x0c\0\0\0\0\x0d\x0e\x0f\x10\0\0\
 \0\0\0\0\0\0\x11\x12\x13\x14\x15\x16\0\0\0\0\0\x01\xff\xff\xff\xff\0\0\0\x02\xff\xff\xff\xfe\0\0\0\
 \x03\xff\xff\xff\xfd\x7f\xff\xff\xff\x80\0\0\0\0\0\0\x04\x17\x18\x19\x20!\"#$";
 
+/// `mdhd`, version 0: times of 32 bits, no certain language.
 pub const MDHD: [u8; 32] = *b"\0\0\0 mdhd\0\0\0\0\0\0\0d\0\0\0\xc8\0\0\xbb\x80\x01\xd0z\0U\xc4\0\0";
 
+/// `mdhd`, version 0: times of 32 bits, English.
 pub const MDHD_ENGLISH: [u8; 32] =
     *b"\0\0\0\x20mdhd\0\0\0\0\0\0\0d\0\0\0\xc8\0\0\xbb\x80\x01\xd0z\0\x15\xc7\0\0";
 
+/// `mdhd`, version 1: times of 64 bits, English.
 pub const MDHD_LONG: [u8; 44] =
     *b"\0\0\0,mdhd\x01\0\0\0\0\0\0\0\0\0\0d\0\0\0\0\0\0\0\xc8\0\0\xbb\x80\0\0\0\0\x01\xd0z\0\x15\xc7\0\0";
 
+/// `mehd`, version 1: a duration of 2^32, in 64 bits.
 pub const MEHD: [u8; 20] = *b"\0\0\0\x14mehd\x01\0\0\0\0\0\0\x01\0\0\0\0";
 
+/// `mfhd`, version 0: the first fragment.
 pub const MFHD: [u8; 16] = *b"\0\0\0\x10mfhd\0\0\0\0\0\0\0\x01";
 
+/// `smhd`, version 0: a balance below 0.
 pub const SMHD: [u8; 16] = *b"\0\0\0\x10smhd\0\0\0\0\xff\xff\0\0";
 
+/// `vmhd`, version 0: a color with 0, a low byte of 0, and the largest number.
 pub const VMHD: [u8; 20] = *b"\0\0\0\x14vmhd\0\0\0\x01\0\0\0\0\x01\0\xff\xff";
 
+/// `vmhd`, version 0: three unlike numbers as a color.
 pub const VMHD_COLORS: [u8; 20] = *b"\0\0\0\x14vmhd\0\0\0\x01\0\0\0\x01\0\x02\0\x03";
 
+/// `trex`, version 0: defaults for the samples of a track.
 pub const TREX: [u8; 32] =
     *b"\0\0\0 trex\0\0\0\0\0\0\0\x01\0\0\0\x01\0\0\x03\xe8\0\0\0\0\0\x01\0\0";
 
+/// `tfdt`, version 0: a time of 32 bits.
 pub const TFDT: [u8; 16] = *b"\0\0\0\x10tfdt\0\0\0\0\0\0\x04\xd2";
 
+/// `tfdt`, version 1: a time of 0, in 64 bits.
 pub const TFDT_LONG: [u8; 20] = *b"\0\0\0\x14tfdt\x01\0\0\0\0\0\0\0\0\0\0\0";
 
-/// A movie header with times of 32 bits.
+/// `mvhd`, version 0: a movie header with times of 32 bits.
 pub fn mvhd() -> MvhdBox {
     MvhdBox {
         creation_time: 100,
@@ -71,7 +88,7 @@ pub fn mvhd() -> MvhdBox {
     }
 }
 
-/// The same header with times of 64 bits.
+/// `mvhd`, version 1: the same header with times of 64 bits.
 pub fn mvhd_long() -> MvhdBox {
     MvhdBox {
         version: 1,
@@ -79,7 +96,7 @@ pub fn mvhd_long() -> MvhdBox {
     }
 }
 
-/// A track header with times of 64 bits, for a picture that is rotated by 90 degrees.
+/// `tkhd`, version 1: a track header with times of 64 bits, for a picture that is rotated by 90 degrees.
 pub fn tkhd() -> TkhdBox {
     TkhdBox {
         version: 1,
@@ -103,7 +120,7 @@ pub fn tkhd() -> TkhdBox {
     }
 }
 
-/// A track header with times of 32 bits.
+/// `tkhd`, version 0: a track header with times of 32 bits.
 pub fn tkhd_short() -> TkhdBox {
     let mut header = TkhdBox::default();
     header.creation_time = 100;
@@ -115,7 +132,7 @@ pub fn tkhd_short() -> TkhdBox {
     header
 }
 
-/// The same header with times of 64 bits.
+/// `tkhd`, version 1: the same header with times of 64 bits.
 pub fn tkhd_long() -> TkhdBox {
     TkhdBox {
         version: 1,
@@ -123,7 +140,7 @@ pub fn tkhd_long() -> TkhdBox {
     }
 }
 
-/// A track header whose fields all have different values.
+/// `tkhd`, version 0: a track header whose fields all have different values.
 pub fn tkhd_full() -> TkhdBox {
     TkhdBox {
         version: 0,
@@ -164,24 +181,24 @@ fn mdhd_in(alloc: Global, language: &str) -> Result<MdhdBox> {
     })
 }
 
-/// The media header of a track of no certain language, with times of 32 bits.
+/// `mdhd`, version 0: the media header of a track of no certain language, with times of 32 bits.
 pub fn mdhd(alloc: Global) -> Result<MdhdBox> {
     mdhd_in(alloc, "und")
 }
 
-/// The media header of a track in English, with times of 32 bits.
+/// `mdhd`, version 0: the media header of a track in English, with times of 32 bits.
 pub fn mdhd_english(alloc: Global) -> Result<MdhdBox> {
     mdhd_in(alloc, "eng")
 }
 
-/// The media header of a track in English, with times of 64 bits.
+/// `mdhd`, version 1: the media header of a track in English, with times of 64 bits.
 pub fn mdhd_long(alloc: Global) -> Result<MdhdBox> {
     let mut header = mdhd_in(alloc, "eng")?;
     header.version = 1;
     Ok(header)
 }
 
-/// A movie of a duration that needs more than 32 bits.
+/// `mehd`, version 1: a movie of a duration that needs more than 32 bits.
 pub fn mehd() -> MehdBox {
     MehdBox {
         version: 1,
@@ -190,7 +207,7 @@ pub fn mehd() -> MehdBox {
     }
 }
 
-/// A movie of this duration, in 32 bits.
+/// `mehd`, version 0: a movie of this duration, in 32 bits.
 pub fn mehd_short(fragment_duration: u64) -> MehdBox {
     MehdBox {
         version: 0,
@@ -199,7 +216,7 @@ pub fn mehd_short(fragment_duration: u64) -> MehdBox {
     }
 }
 
-/// The first fragment of a movie.
+/// `mfhd`, version 0: the first fragment of a movie.
 pub fn mfhd() -> MfhdBox {
     MfhdBox {
         version: 0,
@@ -208,7 +225,7 @@ pub fn mfhd() -> MfhdBox {
     }
 }
 
-/// Sound whose balance is a little to the left.
+/// `smhd`, version 0: sound whose balance is a little to the left.
 pub fn smhd() -> SmhdBox {
     SmhdBox {
         version: 0,
@@ -226,22 +243,22 @@ fn vmhd_of(red: u16, green: u16, blue: u16) -> VmhdBox {
     }
 }
 
-/// A color whose bytes differ.
+/// `vmhd`, version 0: a color of 0, 0x100 and the largest number.
 pub fn vmhd() -> VmhdBox {
     vmhd_of(0, 0x100, 0xffff)
 }
 
-/// A dark color.
+/// `vmhd`, version 0: a dark color of three unlike numbers.
 pub fn vmhd_colors() -> VmhdBox {
     vmhd_of(1, 2, 3)
 }
 
-/// Black.
+/// `vmhd`, version 0: black.
 pub fn vmhd_black() -> VmhdBox {
     vmhd_of(0, 0, 0)
 }
 
-/// Defaults for the samples of a track.
+/// `trex`, version 0: defaults for the samples of a track.
 pub fn trex() -> TrexBox {
     TrexBox {
         version: 0,
@@ -254,7 +271,7 @@ pub fn trex() -> TrexBox {
     }
 }
 
-/// A decode time, in 32 bits.
+/// `tfdt`, version 0: a decode time, in 32 bits.
 pub fn tfdt() -> TfdtBox {
     TfdtBox {
         version: 0,
@@ -263,7 +280,7 @@ pub fn tfdt() -> TfdtBox {
     }
 }
 
-/// A decode time of 0, in this version.
+/// `tfdt`, in this version: a decode time of 0.
 pub fn tfdt_of_zero(version: u8) -> TfdtBox {
     TfdtBox {
         version,

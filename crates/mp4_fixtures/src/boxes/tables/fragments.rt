@@ -1,0 +1,133 @@
+//! The tables of fragments, and the bytes that they are written in.
+
+use super::{SIZES, list};
+use mp4_stream::{Entries, Result, TfhdBox, TrunBox};
+use std::alloc::Global;
+
+/// `tfhd`, version 0: three of the five optional fields.
+pub const TFHD: [u8; 28] = *b"\0\0\0\x1ctfhd\0\0\0*\0\0\0\x01\0\0\0\x01\0\0\x02\0\x01\x01\0\0";
+
+/// `trun`, version 0: a data offset, and the sizes of two samples.
+pub const TRUN: [u8; 28] = *b"\0\0\0\x1ctrun\0\0\x02\x01\0\0\0\x02\0\0\0d\0\0\0\x0a\0\0\0\x14";
+
+/// `tfhd`, version 0: all five optional fields.
+pub const TFHD_ALL: [u8; 40] =
+    *b"\0\0\0\x28tfhd\0\0\0\x3b\0\0\0\x01\0\0\0\x02\0\0\0\0\0\0\0\x02\0\0\0\x03\0\0\0\x04\0\0\0\x05";
+
+/// `trun`, version 0: the duration of one sample, and no optional field.
+pub const TRUN_DURATION: [u8; 20] = *b"\0\0\0\x14trun\0\0\x01\0\0\0\0\x01\0\0\x04\0";
+
+/// `trun`, version 0: sizes and flags of two samples.
+pub const TRUN_TWO: [u8; 32] =
+    *b"\0\0\0\x20trun\0\0\x06\0\0\0\0\x02\0\0\0\x0a\x01\x01\0\0\0\0\0\x14\x02\0\0\0";
+
+/// `trun`, version 0: both optional fields, and durations, sizes and composition times of two samples.
+pub const TRUN_THREE: [u8; 48] =
+    *b"\0\0\0\x30trun\0\0\x0b\x05\0\0\0\x02\xff\xff\xff\xf8\x02\0\0\0\0\0\x04\0\0\0\0\x0a\0\0\x02\0\0\0\x04\x01\0\0\0\x14\xff\xff\xff\xff";
+
+/// `tfhd`, version 0: a track fragment with three of the five optional fields.
+pub fn tfhd() -> TfhdBox {
+    TfhdBox {
+        version: 0,
+        flags: TfhdBox::FLAG_SAMPLE_DESCRIPTION_INDEX
+            | TfhdBox::FLAG_DEFAULT_SAMPLE_DURATION
+            | TfhdBox::FLAG_DEFAULT_SAMPLE_FLAGS,
+        track_id: 1,
+        base_data_offset: None,
+        sample_description_index: Some(1),
+        default_sample_duration: Some(512),
+        default_sample_size: None,
+        default_sample_flags: Some(0x101_0000),
+    }
+}
+
+/// `tfhd`, version 0: a track fragment with none of the optional fields.
+pub fn tfhd_bare() -> TfhdBox {
+    let mut tfhd = TfhdBox::default();
+    tfhd.track_id = 1;
+    tfhd
+}
+
+/// `tfhd`, version 0: a track fragment with all of the optional fields.
+pub fn tfhd_all() -> TfhdBox {
+    TfhdBox {
+        version: 0,
+        flags: TfhdBox::FLAG_BASE_DATA_OFFSET
+            | TfhdBox::FLAG_SAMPLE_DESCRIPTION_INDEX
+            | TfhdBox::FLAG_DEFAULT_SAMPLE_DURATION
+            | TfhdBox::FLAG_DEFAULT_SAMPLE_SIZE
+            | TfhdBox::FLAG_DEFAULT_SAMPLE_FLAGS,
+        track_id: 1,
+        base_data_offset: Some(1 << 33),
+        sample_description_index: Some(2),
+        default_sample_duration: Some(3),
+        default_sample_size: Some(4),
+        default_sample_flags: Some(5),
+    }
+}
+
+/// `trun`, version 0: a run of two samples with a data offset and their sizes.
+pub fn trun(alloc: Global) -> Result<TrunBox> {
+    Ok(TrunBox {
+        version: 0,
+        flags: TrunBox::FLAG_DATA_OFFSET | TrunBox::FLAG_SAMPLE_SIZE,
+        sample_count: 2,
+        data_offset: Some(100),
+        first_sample_flags: None,
+        sample_durations: Entries::new(alloc),
+        sample_sizes: list(alloc, &[10, 20])?,
+        sample_flags: Entries::new(alloc),
+        sample_cts: Entries::new(alloc),
+    })
+}
+
+/// `trun`, version 0: a run of one sample with its duration.
+pub fn trun_of_durations(alloc: Global) -> Result<TrunBox> {
+    let mut duration = TrunBox::default_in(alloc);
+    duration.flags = TrunBox::FLAG_SAMPLE_DURATION;
+    duration.sample_count = 1;
+    duration.sample_durations = list(alloc, &[1024])?;
+    Ok(duration)
+}
+
+/// `trun`, version 0: a run of two samples with their sizes and flags.
+pub fn trun_of_two_lists(alloc: Global) -> Result<TrunBox> {
+    let mut trun = TrunBox::default_in(alloc);
+    trun.flags = TrunBox::FLAG_SAMPLE_SIZE | TrunBox::FLAG_SAMPLE_FLAGS;
+    trun.sample_count = 2;
+    trun.sample_sizes = list(alloc, &[10, 20])?;
+    trun.sample_flags = list(alloc, &[0x0101_0000, 0x0200_0000])?;
+    Ok(trun)
+}
+
+/// `trun`, version 0: a run of two samples with both optional fields, durations, sizes and composition times.
+pub fn trun_of_three_lists(alloc: Global) -> Result<TrunBox> {
+    let mut trun = TrunBox::default_in(alloc);
+    trun.flags = TrunBox::FLAG_DATA_OFFSET
+        | TrunBox::FLAG_FIRST_SAMPLE_FLAGS
+        | TrunBox::FLAG_SAMPLE_DURATION
+        | TrunBox::FLAG_SAMPLE_SIZE
+        | TrunBox::FLAG_SAMPLE_CTS;
+    trun.sample_count = 2;
+    trun.data_offset = Some(-8);
+    trun.first_sample_flags = Some(0x0200_0000);
+    trun.sample_durations = list(alloc, &[1024, 1025])?;
+    trun.sample_sizes = list(alloc, &[10, 20])?;
+    trun.sample_cts = list(alloc, &[512, 4294967295])?;
+    Ok(trun)
+}
+
+/// `trun`, version 0: a run of nine samples with all four lists.
+pub fn trun_of_four_lists(alloc: Global) -> Result<TrunBox> {
+    let mut trun = TrunBox::default_in(alloc);
+    trun.flags = TrunBox::FLAG_SAMPLE_DURATION
+        | TrunBox::FLAG_SAMPLE_SIZE
+        | TrunBox::FLAG_SAMPLE_FLAGS
+        | TrunBox::FLAG_SAMPLE_CTS;
+    trun.sample_count = 9;
+    trun.sample_durations = list(alloc, &SIZES)?;
+    trun.sample_sizes = list(alloc, &SIZES)?;
+    trun.sample_flags = list(alloc, &SIZES)?;
+    trun.sample_cts = list(alloc, &SIZES)?;
+    Ok(trun)
+}
