@@ -1,6 +1,6 @@
 -- Boxes that are listed.
 use Rattle.std.proofs.Common.{◌≡◌, ℕ, zero, suc, ◌+◌, ◌-◌, ◌^◌, ◌<◌, Bool, true, false, cond, List, [], ◌∷◌, ◌++◌, length, Result, Ok, Err, refl, sym, ap, arith}
-use Rattle.std.specs.Prelude.{nat_le, is_ok, IsOk}
+use Rattle.std.specs.Prelude.{nat_le, IsOk}
 use Rattle.std.specs.List.{AllByRecursion}
 use Rattle.mp4_frame.specs.Format.{Format}
 use Rattle.mp4_frame.specs.Heads.{frame}
@@ -11,7 +11,7 @@ use Rattle.mp4_frame.specs.Streams.{stream, walk_on, walk_at_most}
 use Rattle.mp4_frame.specs.declared.box_type.BoxType.{BoxType}
 use Rattle.mp4_frame.specs.declared.frame.Frame.{Frame}
 use Rattle.mp4_frame.specs.declared.list.BoxSpan.{BoxSpan}
-use Rattle.mp4_frame.proofs.RoundTrip.{written_frame, walk_whole}
+use Rattle.mp4_frame.proofs.RoundTrip.{walk_whole}
 
 abbrev pub place : {A : Type 0} → Format A → ℕ → A → BoxSpan
 place format o v = record { position = o; length = format.size v; name = format.name v }
