@@ -1,2 +1,13 @@
 pub mod AnyBox
 pub mod AnyBoxLaws
+pub use Rattle.mp4_frame.specs.BoxType
+pub use Rattle.mp4_frame.specs.Bytes
+pub use Rattle.mp4_frame.specs.Equality
+pub use Rattle.mp4_frame.specs.Format
+pub use Rattle.mp4_frame.specs.FourCC
+pub use Rattle.mp4_frame.specs.Heads
+pub use Rattle.mp4_frame.specs.Laws
+pub use Rattle.mp4_frame.specs.Reading
+pub use Rattle.mp4_frame.specs.Streams
+pub use Rattle.mp4_frame.specs.Text
+pub use Rattle.mp4_frame.specs.Written

@@ -1,7 +1,7 @@
 //! Callers of the codec with their contracts. The CALLING.md of each crate quotes one of them.
 
 ghost use Rattle.std.specs.Prelude.{◌≡◌, ◌++◌, List, Ok, IfOk, OnErr};
-ghost use Rattle.mp4_frame.specs.Streams.{stream, boxes};
+ghost use Rattle.mp4_stream.specs.Streams.{stream, boxes};
 ghost use Rattle.mp4_stream.specs.AnyBox.{format_any, known_any, reading_any};
 ghost use Rattle.mp4_stream.specs.declared.any_box.AnyBox.{AnyBox};
 
