@@ -1,2 +1,10 @@
 pub mod AnyBox
 pub mod AnyBoxLaws
+pub mod Other
+pub mod OtherBox
+pub mod OtherBoxLaws
+pub mod NameLaws
+pub mod KeptBox
+pub mod KeptBoxLaws
+pub mod Sound
+pub mod SoundLaws
