@@ -1,5 +1,13 @@
 pub mod AnyBox
 pub mod AnyBoxLaws
+pub mod Other
+pub mod OtherBox
+pub mod OtherBoxLaws
+pub mod NameLaws
+pub mod KeptBox
+pub mod KeptBoxLaws
+pub mod Sound
+pub mod SoundLaws
 pub use Rattle.mp4_frame.specs.BoxType
 pub use Rattle.mp4_frame.specs.Bytes
 pub use Rattle.mp4_frame.specs.Equality

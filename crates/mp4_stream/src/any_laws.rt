@@ -1,12 +1,16 @@
-//! The laws of `AnyBox`, besides those of every box.
+//! The laws of `AnyBox`, `OtherBox` and `KeptBox`, besides those of every box.
 
 ghost use Rattle.mp4_frame.specs.Equality.{IsEquality};
 
 use crate::any_box::AnyBox;
+use crate::kept_box::KeptBox;
+use crate::other_box::OtherBox;
 
 /// `==` of two boxes compares their types and all of their fields.
 pub fn equality_is_of_all_fields()
-    ensures { IsEquality ⟦<AnyBox as PartialEq>⟧.eq }
+    ensures any { IsEquality ⟦<AnyBox as PartialEq>⟧.eq }
+    ensures other { IsEquality ⟦<OtherBox as PartialEq>⟧.eq }
+    ensures kept { IsEquality ⟦<KeptBox as PartialEq>⟧.eq }
 {
     mp4_flat::laws::equality_is_of_all_fields();
     mp4_tables::laws::equality_is_of_all_fields();

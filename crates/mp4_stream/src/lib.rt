@@ -4,11 +4,16 @@
 
 mod any_box;
 pub mod any_laws;
+mod kept_box;
+pub mod list_laws;
 mod member;
+mod other_box;
 mod read;
+mod sound_stream;
 
 pub use any_box::AnyBox;
 pub use any_box::push_any;
+pub use kept_box::KeptBox;
 pub use mp4_entries::Avc1Box;
 pub use mp4_entries::AvcCBox;
 pub use mp4_entries::Hev1Box;
@@ -116,4 +121,6 @@ pub use mp4_text::FtypBox;
 pub use mp4_text::HdlrBox;
 pub use mp4_text::UrlBox;
 pub use mp4_text::laws as text_laws;
+pub use other_box::OtherBox;
 pub use read::read_boxes;
+pub use sound_stream::SoundStream;

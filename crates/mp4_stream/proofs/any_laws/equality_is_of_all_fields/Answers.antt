@@ -1,9 +1,18 @@
-use Rattle.std.proofs.Common.{◌≡◌, true, ap}
+use Rattle.std.proofs.Common.{rules, ◌≡◌, true, ap}
+use Rattle.mp4_frame.specs.Equality.{IsEquality}
 use Rattle.mp4_stream.specs.contracts.any_box.AnyBoxPartialEq.TheImpl as any_eq
 use Rattle.mp4_stream.specs.contracts.any_box.AnyBoxEq.TheImpl.Laws as any_eq_laws
+use Rattle.mp4_stream.specs.contracts.kept_box.KeptBoxPartialEq.TheImpl as kept_eq
+use Rattle.mp4_stream.specs.contracts.kept_box.KeptBoxEq.TheImpl.Laws as kept_eq_laws
+use Rattle.mp4_stream.specs.contracts.other_box.OtherBoxPartialEq.TheImpl as other_eq
 use Rattle.mp4_stream.specs.declared.any_box.AnyBox.{AnyBox}
 use Rattle.mp4_stream.specs.declared.any_box.AnyBox.TheVariants as any
+use Rattle.mp4_stream.specs.declared.kept_box.KeptBox.{KeptBox}
+use Rattle.mp4_stream.specs.declared.kept_box.KeptBox.TheVariants as kept
 use Rattle.mp4_stream.proofs.any_laws.equality_is_of_all_fields.Goals as goal
+
+other_equality : IsEquality (other_eq.ghosts).eq
+other_equality = search rules
 
 module _ (c : goal.After-equality_is_of_all_fields-5) where
   same : (x y : AnyBox) → (any_eq.ghosts).eq x y ≡ true → x ≡ y
@@ -45,5 +54,16 @@ module _ (c : goal.After-equality_is_of_all_fields-5) where
   same (any.StsdBox a) (any.StsdBox b) h = ap any.StsdBox ((c.equality_is_of_all_fields-5.ensures.stsd a b).0 h)
   same _ _ h = cc
 
-pub returns : goal.returns
-returns c = λ x y. (same c x y, λ e. rw e (any_eq_laws.laws-law.refl y))
+  same_kept : (x y : KeptBox) → (kept_eq.ghosts).eq x y ≡ true → x ≡ y
+  same_kept (kept.Any a) (kept.Any b) h = ap kept.Any (same a b h)
+  same_kept (kept.Other a) (kept.Other b) h = ap kept.Other ((other_equality a b).0 h)
+  same_kept _ _ h = cc
+
+pub returns-clause-any : goal.returns-clause-any
+returns-clause-any c = λ x y. (same c x y, λ e. rw e (any_eq_laws.laws-law.refl y))
+
+pub returns-clause-other : goal.returns-clause-other
+returns-clause-other c = other_equality
+
+pub returns-clause-kept : goal.returns-clause-kept
+returns-clause-kept c = λ x y. (same_kept c x y, λ e. rw e (kept_eq_laws.laws-law.refl y))

@@ -1,0 +1,20 @@
+//! The laws of lists of boxes that were read, where the reading of a box is sound. Nothing here reads or writes: each
+//! function's contract is a law, and its body is empty.
+
+ghost use Rattle.std.specs.Prelude.{◌≡◌, ℕ, ◌^◌, ◌<◌, Ok, List, All, length, map};
+ghost use Rattle.mp4_frame.specs.Laws.{AreBytes};
+ghost use Rattle.mp4_frame.specs.Streams.{stream, boxes};
+
+use crate::sound_stream::SoundStream;
+
+/// The boxes that were read are their own normal forms. They can be written unless one is too large.
+pub fn read_list_is_sound<B: SoundStream>()
+    ensures normal { (bytes : List ℕ) (o : ℕ) (vs : List _) → AreBytes bytes → (boxes B.known B.named_reading bytes o).outcome ≡ Ok vs → map B.format.normal vs ≡ vs }
+    ensures writable { (bytes : List ℕ) (o : ℕ) (vs : List _) → AreBytes bytes → (boxes B.known B.named_reading bytes o).outcome ≡ Ok vs → All (λ v. B.format.size v < 2 ^ 32) vs → All B.format.Writable vs }
+{}
+
+/// What is written of boxes that were read is read as the same boxes. So writing them again gives the same bytes.
+pub fn normal_stream_is_kept<B: SoundStream>()
+    ensures { (bytes : List ℕ) (o : ℕ) (vs : List _) → AreBytes bytes → (boxes B.known B.named_reading bytes o).outcome ≡ Ok vs → All B.format.Writable vs → length (stream B.format.bytes vs) < 2 ^ 64
+        → (boxes B.known B.named_reading (stream B.format.bytes vs) 0).outcome ≡ Ok vs }
+{}
