@@ -1,4 +1,4 @@
-"""Makes inputs for tests/differential: the worked bytes of the tests, cut, grown, swapped and with other numbers in them."""
+"""Makes inputs for tests/differential: the worked bytes of the tests, cut, grown, swapped and with other numbers."""
 
 import glob
 import os
@@ -8,7 +8,7 @@ import re
 from slow_reader import READERS
 
 TOP = os.path.dirname(os.path.dirname(os.path.abspath(__file__)))
-SOURCES = ["crates/mp4_fixtures/src/boxes/*.rt", "crates/mp4_telling/src/tests/*.rt", "crates/mp4_worked/src/tests/*.rt"]
+SOURCES = ["mp4_fixtures/src/boxes/*.rt", "mp4_telling/src/tests/*.rt", "mp4_worked/src/tests/*.rt"]
 CONSTANT = re.compile(r'const \w+: \[u8; (\d+)\] =\s*(?:\*b"((?:[^"\\]|\\.)*)"|\[([^\]]*)\]);', re.S)
 ESCAPE = re.compile(rb"\\(?:x(..)|\n\s*|(.))", re.S)
 LETTERS = {b"0": b"\0", b"n": b"\n", b"r": b"\r", b"t": b"\t"}
@@ -23,13 +23,16 @@ POSITIONS = [1, 8, 2**32 - 8, 2**32, 2**63, 2**64 - 16, 2**64 - 9, 2**64 - 8, 2*
 
 
 def unescaped(text):
-    return ESCAPE.sub(lambda it: bytes([int(it[1], 16)]) if it[1] else LETTERS.get(it[2], it[2]) if it[2] else b"", text)
+    def byte(it):
+        return bytes([int(it[1], 16)]) if it[1] else LETTERS.get(it[2], it[2] or b"")
+
+    return ESCAPE.sub(byte, text)
 
 
 def worked_bytes():
     """The constants of the tests that are the bytes of a box."""
     found = []
-    for path in sorted(path for source in SOURCES for path in glob.glob(os.path.join(TOP, source))):
+    for path in sorted(path for source in SOURCES for path in glob.glob(os.path.join(TOP, "crates", source))):
         with open(path, encoding="utf-8") as file:
             for length, text, numbers in CONSTANT.findall(file.read()):
                 box = unescaped(text.encode()) if text else bytes(int(it, 0) for it in re.findall(r"\w+", numbers))
@@ -67,7 +70,8 @@ class Maker:
         return self.random.randbytes(length) if one is None else bytes([one]) * length
 
     def some_code(self):
-        return self.choice([self.choice(CODES), self.choice(CODES), self.choice([b"free", b"mdat", self.random.randbytes(4)])])
+        unknown = self.choice([b"free", b"mdat", self.random.randbytes(4)])
+        return self.choice([self.choice(CODES), self.choice(CODES), unknown])
 
     def descriptors(self, depth):
         """Some descriptors, most of the tags that are read at this depth, with lengths that may be wrong."""
@@ -77,15 +81,24 @@ class Maker:
             front = {3: 3, 4: 13, 6: 1}.get(tag, 0)
             front = bytes([self.choice(BYTES) if self.below(4) else self.below(256) for _ in range(front)])
             if tag == 5:
-                front = self.random.getrandbits(16) | self.choice([0, 0xF800, 0x0780, 0xF81E, 0x001E])
-                front = front.to_bytes(2, "big") + self.random.randbytes(self.choice([0, 0, 1, 3, 4, 5]))
+                front = self.configuration()
             inner = front + (self.descriptors(depth + 1) if depth < 3 else b"")
             length = len(inner) if self.below(3) else self.choice([0, 1, 2, 3, 13, len(inner) + 1, 127, 128, 2**28 - 1])
-            digits = [length >> 21 & 127, length >> 14 & 127, length >> 7 & 127, length & 127]
-            digits = digits[min(self.below(5), 3, next((at for at, it in enumerate(digits) if it), 3)):]
-            last = digits.pop() | (128 if len(digits) == 3 and self.below(8) == 0 else 0)
-            out += bytes([tag, *(it | 128 for it in digits), last]) + inner
+            out += bytes([tag]) + self.length_of(length) + inner
         return out
+
+    def length_of(self, length):
+        """The length of a descriptor, sometimes in more bytes than it needs, or with a high bit in the fourth."""
+        count = self.choice([max(1, (length.bit_length() + 6) // 7), 4])
+        digits = [length >> 7 * place & 127 | 128 for place in reversed(range(count))]
+        if count < 4 or self.below(8):
+            digits[-1] &= 127
+        return bytes(digits)
+
+    def configuration(self):
+        """The bytes of an audio configuration of each form, and perhaps too few of them."""
+        bits = self.random.getrandbits(16) | self.choice([0, 0xF800, 0x0780, 0xF81E])
+        return bits.to_bytes(2, "big") + self.random.randbytes(self.choice([0, 1, 3, 4, 5]))
 
     def nested(self):
         """A box with children or descriptors of several kinds."""
@@ -97,11 +110,13 @@ class Maker:
         pieces = [self.choice(of_name(b"url ", b"dref")) for _ in range(self.below(4))]
         pieces = b"".join(self.mutated(it) if self.below(3) == 0 else it for it in pieces)
         if kind == 2:
-            return box_of(b"dref", self.random.randbytes(4) + self.choice([0, 1, 2, 3, 4, 2**32 - 1]).to_bytes(4, "big") + pieces)
+            count = self.choice([0, 1, 2, 3, 4, 2**32 - 1])
+            return box_of(b"dref", self.random.randbytes(4) + count.to_bytes(4, "big") + pieces)
         return box_of(b"dinf", pieces)
 
     def size_near(self, length):
-        return self.choice([length, length - 1, length + 1, length + 8, self.below(length + 17), self.choice(SIZES)]) % 2**32
+        near = self.choice([length, length - 1, length + 1, length + 8, self.below(length + 17)])
+        return self.choice([near, near, near, self.choice(SIZES)]) % 2**32
 
     def large_header(self, box, at):
         """The box with a header of 16 bytes in the place of the one at this offset."""
@@ -133,7 +148,8 @@ class Maker:
         if kind == 4:
             first, second = sorted([at, self.below(len(box))])
             n = min(self.choice([1, 2, 4, 8]), second - first)
-            return box[:first] + box[second:second + n] + box[first + n:second] + box[first:first + n] + box[second + n:]
+            front = box[:first] + box[second:second + n]
+            return front + box[first + n:second] + box[first:first + n] + box[second + n:]
         if kind in (5, 6):
             return box[:at] + bytes([self.choice([self.choice(BYTES), self.below(256)])]) + box[at + 1:]
         if kind == 7:
@@ -166,4 +182,5 @@ class Maker:
         if self.below(10):
             return 0, buffer
         front = self.some_bytes()
-        return self.choice([len(front), len(front), self.below(len(buffer) + 9), self.choice(POSITIONS)]), front + buffer
+        other = self.choice([self.below(len(buffer) + 9), self.choice(POSITIONS)])
+        return self.choice([len(front), other]), front + buffer

@@ -31,9 +31,6 @@ class Row:
     def numbers(self, offset, length, count, signed=False):
         return [self.number(offset + length * index, length, signed) for index in range(count)]
 
-    def child(self, offset):
-        return Header(self.buffer, self.start + offset)
-
 
 class Header:
     """A header at a position of a buffer: the code, and the start and the size of the box."""
@@ -56,8 +53,8 @@ class Header:
 
 @functools.cache
 def table(text):
-    """The fields of a table, between commas: one offset, or those of versions 0 and 1; the number of bytes, `t` for a time,
-    with `i` before it if signed, and `x` and a number after it for an array; the name, `-` if the bytes are ignored."""
+    """The fields of a table, between commas: one offset, or those of versions 0 and 1; the number of bytes, `t` for a
+    time, with `i` before it if signed, and `x` and a number after it for an array; the name, `-` for ignored bytes."""
     fields = []
     for field in text.split(","):
         *offsets, width, name = field.split()
@@ -104,7 +101,8 @@ FIXED = {
         50 1x32 compressorname, 82 2 depth, 84 2 end_code"""),
     "tx3g": table("""8 6 -, 14 2 data_reference_index, 16 4 display_flags, 20 i1 horizontal_justification,
         21 i1 vertical_justification, 22 1x4 bg_color_rgba, 26 i2x4 box_record, 34 1x12 style_record"""),
-    "mp4a": table("8 6 -, 14 2 data_reference_index, 16 8 -, 24 2 channelcount, 26 2 samplesize, 28 4 -, 32 4 samplerate"),
+    "mp4a": table("""8 6 -, 14 2 data_reference_index, 16 8 -, 24 2 channelcount, 26 2 samplesize, 28 4 -,
+        32 4 samplerate"""),
     "visual": table("""8 6 -, 14 2 data_reference_index, 16 16 -, 32 2 width, 34 2 height, 36 4 horizresolution,
         40 4 vertresolution, 44 4 -, 48 2 frame_count, 50 32 -, 82 2 depth, 84 2 -"""),
 }
@@ -145,7 +143,8 @@ def counted(row, name):
     version = 1 if name == "elst" and box["version"] == 1 else 0
     width += 8 * version
     count = row.number(12, 4)
-    check(count <= max(row.size - 16, 0) // width, name + " entry_count indicates more entries than could fit in the box")
+    text = name + " entry_count indicates more entries than could fit in the box"
+    check(count <= max(row.size - 16, 0) // width, text)
     rows = row.piece(16, count * width)
     if fields is None:
         box["entries"] = Row(rows, 0, 0).numbers(0, width, count)
@@ -167,6 +166,15 @@ def number_samples(entries):
             sample += chunks * one["samples_per_chunk"]
         check(sample < 2**32, text)
         entry["first_sample"] = sample
+
+
+def ftyp(row):
+    check(row.size >= 16 and row.size % 4 == 0, "ftyp size too small or not aligned")
+    box = read_fields(row, table("8 4 major_brand, 12 4 minor_version"))
+    count = (row.size - 16) // 4
+    row.piece(16, 4 * count)
+    box["compatible_brands"] = row.numbers(16, 4, count)
+    return box
 
 
 def stsz(row):

@@ -1,24 +1,16 @@
 """Reads boxes slowly and plainly, by docs/LAYOUT.md alone: a second reader to compare the codec with.
 
-A box is a dictionary of its fields, under the names of the struct. Times, codes and fixed-point numbers are raw numbers, a
+A box is a dictionary of its fields, under the names of the struct. Codes and fixed-point numbers are raw numbers, a
 missing option is None, and a value of an enum is its name. `read_box` reads one box, and `read_boxes` a list of boxes.
 """
 
 from functools import partial
 
-from slow_fields import FIXED, FULL, TABLES, Fault, Header, Row, check, counted, fixed, read_fields, stsz, table, tfhd, trun
+from slow_fields import FIXED, FULL, TABLES, Fault, Header, Row, check, counted, fixed, ftyp, read_fields, stsz, table
+from slow_fields import tfhd, trun
 
 SAMPLE_ENTRIES = ["avc1", "hev1", "vp09", "mp4a", "tx3g"]
 DATA_TYPES = {0: "Binary", 1: "Text", 13: "Image", 21: "TempoCpil"}
-
-
-def ftyp(row):
-    check(row.size >= 16 and row.size % 4 == 0, "ftyp size too small or not aligned")
-    box = read_fields(row, table("8 4 major_brand, 12 4 minor_version"))
-    count = (row.size - 16) // 4
-    row.piece(16, 4 * count)
-    box["compatible_brands"] = row.numbers(16, 4, count)
-    return box
 
 
 def text_or(found, other):
@@ -83,7 +75,7 @@ def children(row, offset, most, name):
     """The children of `dref` and `dinf`: reads those of the name, skips others, and returns the last."""
     last = None
     while most > 0 and offset < row.size:
-        child = row.child(offset)
+        child = Header(row.buffer, row.start + offset)
         check(child.size >= 8, "child box too small")
         check(child.size <= row.size, "dinf box contains a box with a larger size than it")
         check(child.start + child.size <= 2**64 - 1, "box end past 64 bits")
@@ -117,8 +109,8 @@ def sets(row, offset, count):
 
 
 def avcc(row):
-    box = read_fields(row, table("8 1 configuration_version, 9 1 avc_profile_indication, 10 1 profile_compatibility"))
-    box.update(read_fields(row, table("11 1 avc_level_indication, 12 1 length_size_minus_one, 13 1 count")))
+    box = read_fields(row, table("""8 1 configuration_version, 9 1 avc_profile_indication, 10 1 profile_compatibility,
+        11 1 avc_level_indication, 12 1 length_size_minus_one, 13 1 count"""))
     box["length_size_minus_one"] &= 3
     box["sequence_parameter_sets"], then = sets(row, 14, box.pop("count") & 0x1F)
     box["picture_parameter_sets"], _ = sets(row, then + 1, row.number(then, 1))
@@ -126,8 +118,8 @@ def avcc(row):
 
 
 def child_of(row, offset, name, code=None, text=None):
-    """The header of the child at an offset of a box of this name: it is not larger, and has the code if one is given."""
-    child = row.child(offset)
+    """The header of the child at an offset of a box of this name: not larger, and of this code if one is given."""
+    child = Header(row.buffer, row.start + offset)
     check(child.size <= row.size, name + " box contains a box with a larger size than it")
     check(code in (None, child.name), text)
     return child
@@ -158,8 +150,7 @@ def stsd(row):
 
 
 def mp4a(row):
-    box = fixed(row, "mp4a")
-    box["esds"] = None
+    box = dict(fixed(row, "mp4a"), esds=None)
     if row.size > 36:
         child = child_of(row, 36, "mp4a")
         if child.name == "esds":
@@ -183,8 +174,7 @@ class Descriptor:
 
 
 def esds(row):
-    box = read_fields(row, FULL)
-    box["es_desc"] = None
+    box = dict(read_fields(row, FULL), es_desc=None)
     offset = 12
     while offset < row.size:
         descriptor = Descriptor(row, offset)
@@ -271,8 +261,8 @@ def read_row(buffer, header):
 
 
 def read_box(buffer, position):
-    """Reads the box whose header is at a position. Returns a pair of its name and value, or None if the name isn't known, or
-    the first fault; and the position of the cursor after it."""
+    """Reads the box whose header is at a position. Returns a pair of its name and value, or None if the name isn't
+    known, or the first fault; and the position of the cursor after it."""
     try:
         header = Header(buffer, position)
     except Fault as fault:
@@ -289,8 +279,8 @@ def read_box(buffer, position):
 
 
 def read_boxes(buffer, position):
-    """Reads the boxes from a position on. Returns the list of their names and values, or the first fault; and the position
-    of the cursor after it."""
+    """Reads the boxes from a position on. Returns the list of their names and values, or the first fault; and the
+    position of the cursor after it."""
     boxes, at = [], position
     try:
         while at < len(buffer):
