@@ -1,0 +1,186 @@
+"""Makes inputs for tests/differential: the worked bytes of the tests, cut, grown, swapped and with other numbers."""
+
+import glob
+import os
+import random
+import re
+
+from slow_reader import READERS
+
+TOP = os.path.dirname(os.path.dirname(os.path.abspath(__file__)))
+SOURCES = ["mp4_fixtures/src/boxes/*.rt", "mp4_telling/src/tests/*.rt", "mp4_worked/src/tests/*.rt"]
+CONSTANT = re.compile(r'const \w+: \[u8; (\d+)\] =\s*(?:\*b"((?:[^"\\]|\\.)*)"|\[([^\]]*)\]);', re.S)
+ESCAPE = re.compile(rb"\\(?:x(..)|\n\s*|(.))", re.S)
+LETTERS = {b"0": b"\0", b"n": b"\n", b"r": b"\r", b"t": b"\t"}
+CODES = [name.encode() for name in READERS]
+HEADERS = re.compile(b"(?=....(" + b"|".join(CODES) + b"))", re.S)
+ENTRIES = [b"avc1", b"hev1", b"vp09", b"mp4a", b"tx3g"]
+BYTES = [0, 1, 2, 3, 4, 5, 6, 0x1F, 0x7F, 0x80, 0x81, 0xC3, 0xE2, 0xF0, 0xFF]
+COUNTS = [0, 1, 2, 3, 4, 5, 2**16, 2**28, 2**29 + 1, 2**30, 2**30 + 1, 2**31 - 1, 2**31, 2**32 - 1]
+SIZES = [0, 1, 2, 7, 8, 9, 11, 12, 13, 14, 15, 16, 17, 20, 24, 32, 33, 34, 36, 37, 2**31, 2**32 - 1]
+LARGE_SIZES = SIZES + [0, 15, 16, 2**32, 2**63, 2**64 - 25, 2**64 - 17, 2**64 - 16, 2**64 - 9, 2**64 - 8, 2**64 - 1]
+POSITIONS = [1, 8, 2**32 - 8, 2**32, 2**63, 2**64 - 16, 2**64 - 9, 2**64 - 8, 2**64 - 1]
+
+
+def unescaped(text):
+    def byte(it):
+        return bytes([int(it[1], 16)]) if it[1] else LETTERS.get(it[2], it[2] or b"")
+
+    return ESCAPE.sub(byte, text)
+
+
+def worked_bytes():
+    """The constants of the tests that are the bytes of a box."""
+    found = []
+    for path in sorted(path for source in SOURCES for path in glob.glob(os.path.join(TOP, "crates", source))):
+        with open(path, encoding="utf-8") as file:
+            for length, text, numbers in CONSTANT.findall(file.read()):
+                box = unescaped(text.encode()) if text else bytes(int(it, 0) for it in re.findall(r"\w+", numbers))
+                if len(box) != int(length):
+                    raise ValueError(f"{path}: {text or numbers} has {len(box)} bytes")
+                if box[4:8] in CODES:
+                    found.append(box)
+    return found
+
+
+VECTORS = worked_bytes()
+
+
+def of_name(*names):
+    return [box for box in VECTORS if box[4:8] in names]
+
+
+def box_of(code, content):
+    return (8 + len(content)).to_bytes(4, "big") + code + content
+
+
+class Maker:
+    """Makes inputs one after the other. The same seed gives the same inputs."""
+
+    def __init__(self, seed):
+        self.random = random.Random(seed)
+        self.choice = self.random.choice
+
+    def below(self, limit):
+        return self.random.randrange(limit)
+
+    def some_bytes(self):
+        length = self.choice([1, 1, 2, 3, 4, 8, 16, 40])
+        one = self.choice([0, 0, 0xFF, None, None])
+        return self.random.randbytes(length) if one is None else bytes([one]) * length
+
+    def some_code(self):
+        unknown = self.choice([b"free", b"mdat", self.random.randbytes(4)])
+        return self.choice([self.choice(CODES), self.choice(CODES), unknown])
+
+    def descriptors(self, depth):
+        """Some descriptors, most of the tags that are read at this depth, with lengths that may be wrong."""
+        out = b""
+        for _ in range(self.choice([0, 1, 1, 1, 2, 3])):
+            tag = self.choice([[3, 3, 3, 4], [4, 4, 6, 5, 7], [5, 5, 5, 4, 9], [0]][depth])
+            front = {3: 3, 4: 13, 6: 1}.get(tag, 0)
+            front = bytes([self.choice(BYTES) if self.below(4) else self.below(256) for _ in range(front)])
+            if tag == 5:
+                front = self.configuration()
+            inner = front + (self.descriptors(depth + 1) if depth < 3 else b"")
+            length = len(inner) if self.below(3) else self.choice([0, 1, 2, 3, 13, len(inner) + 1, 127, 128, 2**28 - 1])
+            out += bytes([tag]) + self.length_of(length) + inner
+        return out
+
+    def length_of(self, length):
+        """The length of a descriptor, sometimes in more bytes than it needs, or with a high bit in the fourth."""
+        count = self.choice([max(1, (length.bit_length() + 6) // 7), 4])
+        digits = [length >> 7 * place & 127 | 128 for place in reversed(range(count))]
+        if count < 4 or self.below(8):
+            digits[-1] &= 127
+        return bytes(digits)
+
+    def configuration(self):
+        """The bytes of an audio configuration of each form, and perhaps too few of them."""
+        bits = self.random.getrandbits(16) | self.choice([0, 0xF800, 0x0780, 0xF81E])
+        return bits.to_bytes(2, "big") + self.random.randbytes(self.choice([0, 1, 3, 4, 5]))
+
+    def nested(self):
+        """A box with children or descriptors of several kinds."""
+        kind = self.below(4)
+        if kind == 0:
+            return box_of(b"stsd", self.choice(of_name(b"stsd"))[8:16] + self.mutated(self.choice(of_name(*ENTRIES))))
+        if kind == 1:
+            return box_of(b"esds", self.random.randbytes(4) + self.descriptors(0))
+        pieces = [self.choice(of_name(b"url ", b"dref")) for _ in range(self.below(4))]
+        pieces = b"".join(self.mutated(it) if self.below(3) == 0 else it for it in pieces)
+        if kind == 2:
+            count = self.choice([0, 1, 2, 3, 4, 2**32 - 1])
+            return box_of(b"dref", self.random.randbytes(4) + count.to_bytes(4, "big") + pieces)
+        return box_of(b"dinf", pieces)
+
+    def size_near(self, length):
+        near = self.choice([length, length - 1, length + 1, length + 8, self.below(length + 17)])
+        return self.choice([near, near, near, self.choice(SIZES)]) % 2**32
+
+    def large_header(self, box, at):
+        """The box with a header of 16 bytes in the place of the one at this offset."""
+        size = int.from_bytes(box[at:at + 4], "big")
+        size = self.choice([size + 8, size + 8, size + 7, size, self.choice(LARGE_SIZES)])
+        if at > 0 and self.below(2):
+            box = self.fitted(box, 8)
+            size = self.choice([size, 2**64 - 1 - at])
+        return box[:at] + b"\0\0\0\1" + box[at + 4:at + 8] + (size % 2**64).to_bytes(8, "big") + box[at + 8:]
+
+    def fitted(self, box, more=0):
+        """The box with the number of its bytes, and some more, as its size."""
+        return (len(box) + more).to_bytes(4, "big") + box[4:]
+
+    def mutated(self, box):
+        """The box with one change."""
+        if len(box) < 16:
+            return box + self.some_bytes()
+        at, kind = self.below(len(box)), self.below(12)
+        header = self.choice([it.start() for it in HEADERS.finditer(box)] or [0])
+        if kind == 0:
+            return box[:at]
+        if kind == 1:
+            return box + self.choice([self.some_bytes(), self.choice(VECTORS)])
+        if kind == 2:
+            return box[:at] + self.some_bytes() + box[at:]
+        if kind == 3:
+            return box[:at] + box[at + self.choice([1, 2, 4, 8, 16]):]
+        if kind == 4:
+            first, second = sorted([at, self.below(len(box))])
+            n = min(self.choice([1, 2, 4, 8]), second - first)
+            front = box[:first] + box[second:second + n]
+            return front + box[first + n:second] + box[first:first + n] + box[second + n:]
+        if kind in (5, 6):
+            return box[:at] + bytes([self.choice([self.choice(BYTES), self.below(256)])]) + box[at + 1:]
+        if kind == 7:
+            return box[:header] + self.size_near(len(box) - header).to_bytes(4, "big") + box[header + 4:]
+        if kind == 8:
+            return self.large_header(box, header)
+        if kind == 9:
+            at = header + self.choice([8, 12, 12, 12, 16, 16, 20])
+            return box[:at] + self.choice([self.choice(COUNTS), self.below(8)]).to_bytes(4, "big") + box[at + 4:]
+        if kind == 10:
+            number = self.choice([0, 0, 1, 1, 2, 0xFF]) << 24 | self.random.getrandbits(self.choice([0, 6, 12, 12, 24]))
+            return box[:header + 8] + number.to_bytes(4, "big") + box[header + 12:]
+        return box[:header + 4] + self.some_code() + box[header + 8:]
+
+    def boxes(self):
+        """One box, or several one after the other."""
+        out = b""
+        for _ in range(self.choice([1, 1, 1, 1, 1, 2, 3])):
+            box = self.choice(VECTORS) if self.below(5) else self.nested()
+            for _ in range(self.choice([0, 1, 1, 1, 2, 3])):
+                box = self.mutated(box)
+            if self.below(4) and len(box) > 8 and box[:4] != b"\0\0\0\1":
+                box = self.fitted(box)
+            out += box if self.below(16) else box_of(self.some_code(), box)
+        return out
+
+    def input(self):
+        """A position and the bytes of a buffer. Most boxes are at the front of it."""
+        buffer = self.boxes()
+        if self.below(10):
+            return 0, buffer
+        front = self.some_bytes()
+        other = self.choice([self.below(len(buffer) + 9), self.choice(POSITIONS)])
+        return self.choice([len(front), other]), front + buffer
