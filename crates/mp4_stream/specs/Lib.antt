@@ -16,6 +16,7 @@ pub use Rattle.mp4_frame.specs.FourCC
 pub use Rattle.mp4_frame.specs.Heads
 pub use Rattle.mp4_frame.specs.Laws
 pub use Rattle.mp4_frame.specs.Reading
+pub use Rattle.mp4_frame.specs.Spans
 pub use Rattle.mp4_frame.specs.Streams
 pub use Rattle.mp4_frame.specs.Text
 pub use Rattle.mp4_frame.specs.Written
