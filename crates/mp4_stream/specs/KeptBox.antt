@@ -19,7 +19,7 @@ abbrev pub format_kept : Format KeptBox
 format_kept = record { name = λ v. (held_kept v).name; size = λ v. (held_kept v).size; Writable = λ v. (held_kept v).Writable; bytes = λ v. (held_kept v).bytes; normal = λ v. (held_kept v).normal }
 
 -- every name is known but an UnknownBox that holds a named code
-unfoldable pub known_kept : BoxType → Bool
+abbrev pub known_kept : BoxType → Bool
 known_kept name = not (is_disguised name)
 
 abbrev pub reading_kept : BoxType → List ℕ → ℕ → ℕ → Reading KeptBox

@@ -1,10 +1,9 @@
 -- The laws of a KeptBox follow from those of an AnyBox and of an OtherBox.
-use Rattle.std.proofs.Common.{◌≡◌, ℕ, true, false, not, List, refl, sym, ap, subst, ◌∙◌}
-use Rattle.std.proofs.lemmas.Bool.{not-true, not_from_false, cond-true, cond-false}
+use Rattle.std.proofs.Common.{◌≡◌, true, false, refl, ap, ◌∙◌}
+use Rattle.std.proofs.lemmas.Bool.{not-true, not_from_false}
 use Rattle.mp4_frame.specs.BoxType.{name_of, code_of, is_disguised, code_of-name_of, name_of-code_of}
 use Rattle.mp4_frame.specs.Format.{IsWritten}
 use Rattle.mp4_frame.specs.Laws.{BeginsWithHeader, Normal, OwnName, ReadsBack}
-use Rattle.mp4_frame.specs.Reading.{Reading, map_reading, reading}
 use Rattle.mp4_frame.specs.declared.box_type.BoxType.{BoxType}
 use Rattle.mp4_frame.specs.declared.box_type.BoxType.TheVariants as names
 use Rattle.mp4_frame.proofs.Members.{member_back, content_back, written_member, own_name_of_member, read_back_of_member}
@@ -39,11 +38,9 @@ plain_any _ h = refl
 
 -- the code of another name is that of no type
 pub untyped_code : (name : BoxType) → known_kept name ≡ true → known_any name ≡ false → is_typed (code_of name) ≡ false
-unfolding known_kept
 untyped_code name known other = ap known_any (name_of-code_of name (not-true (is_disguised name) known)) ∙ other
 
 pub own_name_kept : (v : KeptBox) → format_kept.Writable v → OwnName known_kept (format_kept.name v)
-unfolding known_kept
 own_name_kept (kept.Any b) w = (let n = own_name_of_member kinds held members b w in record { is_known = not_from_false _ (plain_any (format_any.name b) n.is_known); is_own = n.is_own })
 own_name_kept (kept.Other b) w = record { is_known = not_from_false _ (plain_name b.code); is_own = ap name_of (code_of-name_of b.code) }
 

@@ -1,9 +1,9 @@
 -- What is read as an AnyBox or a KeptBox is sound.
-use Rattle.std.proofs.Common.{rules, ◌≡◌, ℕ, ◌<◌, ◌^◌, Bool, true, false, List, Ok, Result, cond, refl, sym, ap, subst, ◌∙◌}
+use Rattle.std.proofs.Common.{◌≡◌, ℕ, ◌<◌, ◌^◌, Bool, true, false, List, Ok, cond, refl, sym, ap, subst, ◌∙◌}
 use Rattle.mp4_frame.specs.BoxType.{code_of}
 use Rattle.mp4_frame.specs.Laws.{AreBytes}
 use Rattle.mp4_frame.specs.Members.{Known, Is, Unknown, kind, Held, holds, reading_known}
-use Rattle.mp4_frame.specs.Reading.{Reading, Fault, map_reading, reading, ◌>>=◌, done}
+use Rattle.mp4_frame.specs.Reading.{Reading, map_reading, reading, done}
 use Rattle.mp4_frame.specs.declared.box_type.BoxType.{BoxType}
 use Rattle.mp4_frame.proofs.Checks.{are_bytes-drop, reads_ok, is_value}
 use Rattle.mp4_frame.proofs.Tables.{value_first}
@@ -22,13 +22,13 @@ use Rattle.mp4_stream.specs.declared.kept_box.KeptBox.TheVariants as kept
 mapped_value : {A C : Type 0} (f : A → C) (r : Reading A) (v : C) → (map_reading f r).outcome ≡ Ok v → (x : A) × (r.outcome ≡ Ok x) × (f x ≡ v)
 mapped_value f r v e = (let p = value_first r (λ x. done (f x)) v e in (p.0, p.1, is_value (f p.0) v p.2))
 
--- the boxes of a name's type have this name
+-- the boxes of a name's type have this name; of a name that gives no type nothing is said
 abbrev HasName : BoxType → Known AnyBox → Type 0
 HasName name (Is k) = (x : k.Value) → (held (k.wrap x)).name ≡ name
-HasName name Unknown = Unit {0}
+HasName name Unknown = Unit {0} → name ≡ name
 
 has_name : (name : BoxType) → HasName name (kinds name)
-has_name _ = search rules
+has_name _ = λ x. refl
 
 name_read : (name : BoxType) (k : Known AnyBox) → HasName name k → (bytes : List ℕ) (start size : ℕ) (v : AnyBox) → (reading_known k bytes start size).outcome ≡ Ok v → (held v).name ≡ name
 name_read name (Is k) own bytes start size v e =

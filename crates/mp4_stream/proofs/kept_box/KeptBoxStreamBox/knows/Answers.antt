@@ -6,12 +6,10 @@ use Rattle.mp4_stream.specs.NameLaws.{unknown_name}
 use Rattle.mp4_stream.proofs.kept_box.KeptBoxStreamBox.knows.Goals as goal
 
 known_by_name : (name : BoxType) → ((n : ℕ) → name ≡ names.UnknownBox n → ⊥) → true ≡ known_kept name
-unfolding known_kept
 known_by_name (names.UnknownBox n) h = absurd (h n refl)
 known_by_name _ h = refl
 
 pub returns-in-UnknownBox : goal.returns-in-UnknownBox
-unfolding known_kept
 returns-in-UnknownBox c = c.is_unnamed.ensures ∙ unknown_name c.in-UnknownBox.code ∙ ap known_kept (sym c.in-UnknownBox.is)
 
 pub returns-in_default : goal.returns-in_default
