@@ -1,4 +1,6 @@
+pub mod Command
 pub mod Ends
 pub mod Fault
+pub mod Lines
 pub mod Outcome
 pub mod Runs

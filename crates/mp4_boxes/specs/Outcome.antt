@@ -17,5 +17,5 @@ line text = text ++ 10 ∷ []
 -- what goes to standard error
 abbrev pub message_of : Outcome → List ℕ
 message_of outcomes.Done = []
-message_of outcomes.Misused = line (codes "usage: mp4boxes normal")
+message_of outcomes.Misused = line (codes "usage: mp4boxes normal|list")
 message_of (outcomes.Failed fault) = line (codes "mp4boxes: " ++ fault_text fault)

@@ -1,4 +1,4 @@
--- What a run reads, writes and returns: for any command first, and then for `normal`.
+-- What a run reads, writes and returns: for any command first, and then for `normal` and for `list`.
 --
 -- A command is given by two relations: `Makes B out` says that it writes `out` for the input B, and `Refusal B e` that
 -- it may refuse B with the error e. The bytes that a reader has left, and those that a writer has, are `Some` if they
@@ -8,12 +8,19 @@ use Rattle.std.specs.declared.option.Option.{Option}
 use Rattle.std.specs.Io.KnownBytes.{Keeps, Appends, IsAtEnd}
 use Rattle.mp4_frame.specs.Reading.{Reading, Invalid, Refuses}
 use Rattle.mp4_frame.specs.Streams.{stream, boxes}
+use Rattle.mp4_frame.specs.Spans.{spans}
 use Rattle.mp4_frame.specs.declared.error.Error.{Error}
 use Rattle.mp4_frame.specs.declared.error.Error.TheVariants as errors
+use Rattle.mp4_frame.specs.declared.list.BoxSpan.{BoxSpan}
 use Rattle.mp4_stream.specs.declared.any_box.AnyBox.{AnyBox}
 use Rattle.mp4_stream.specs.AnyBox.{format_any, known_any, reading_any}
+use Rattle.mp4_boxes.specs.declared.command.Command.{Command}
+use Rattle.mp4_boxes.specs.declared.command.Command.TheVariants as commands
 use Rattle.mp4_boxes.specs.declared.fault.RunFault.{RunFault}
 use Rattle.mp4_boxes.specs.declared.fault.RunFault.TheVariants as faults
+use Rattle.mp4_boxes.specs.declared.outcome.Outcome.{Outcome}
+use Rattle.mp4_boxes.specs.declared.outcome.Outcome.TheVariants as outcomes
+use Rattle.mp4_boxes.specs.Lines.{lines}
 
 -- what a run appends to the output: after an Ok the n bytes that the command makes, after a failed write a beginning of
 -- them, and after any other fault nothing
@@ -78,3 +85,28 @@ NormalRefusal B errors.OutOfMemory = ⊤
 NormalRefusal B (errors.InvalidData _) = ((boxes_of B).outcome ≡ Err Invalid)
     ⊎ ((vs : List AnyBox) × ((boxes_of B).outcome ≡ Ok vs) × (¬ All format_any.Writable vs))
 NormalRefusal B e = Refuses e (boxes_of B)
+
+-- the boxes of B can be listed, and out is their lines
+abbrev pub Lists : List ℕ → List ℕ → Type 0
+Lists B out = (found : List BoxSpan) × ((spans B 0).outcome ≡ Ok found) × (out ≡ lines found)
+
+-- `list` may refuse B with the first fault of its spans, and with out of memory
+abbrev pub ListRefusal : List ℕ → Error → Type 0
+ListRefusal B errors.OutOfMemory = ⊤
+ListRefusal B e = Refuses e (spans B 0)
+
+-- what a command writes for B
+abbrev pub Makes : Command → List ℕ → List ℕ → Type 0
+Makes commands.Normal = Normalizes
+Makes commands.List = Lists
+
+-- the errors with which a command may refuse B
+abbrev pub MayRefuse : Command → List ℕ → Error → Type 0
+MayRefuse commands.Normal = NormalRefusal
+MayRefuse commands.List = ListRefusal
+
+-- how a run of a command ends: all is written, or the fault is the outcome
+abbrev pub EndsAs : Command → Option (List ℕ) → Option (List ℕ) → Option (List ℕ) → Outcome → Type 0
+EndsAs command input old new outcomes.Done = (n : ℕ) × Runs (Makes command) (MayRefuse command) input old new (Ok n)
+EndsAs command input old new (outcomes.Failed fault) = Runs (Makes command) (MayRefuse command) input old new (Err fault)
+EndsAs command input old new outcomes.Misused = ⊥

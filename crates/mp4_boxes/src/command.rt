@@ -1,9 +1,10 @@
 //! The commands, and how the arguments name them.
 
-ghost use Rattle.std.specs.Prelude.{◌≡◌, ◌≢◌, ◌↔◌, [], ◌∷◌, Some, map, codes, string_bytes};
+ghost use Rattle.std.specs.Prelude.{◌≡◌, ◌≢◌, ◌↔◌, Some, map, string_bytes};
 ghost use Rattle.std.specs.Vec.Iter.{into_iter_items};
 ghost use Rattle.std.specs.IoError.{error_kind};
 ghost use Rattle.mp4_frame.specs.declared.error.Error.TheVariants.{OutOfMemory};
+ghost use Rattle.mp4_boxes.specs.Command.{Names};
 
 use crate::fault::RunFault;
 use mp4_stream::Error;
@@ -16,12 +17,13 @@ use std::io::ErrorKind;
 pub enum Command {
     /// The boxes of the input, written in their normal form.
     Normal,
+    /// The places and names of the boxes of the input, a line for each.
+    List,
 }
 
 /// The command that the words after the program's name are, or None if they are no command.
 pub fn parse_command(mut words: Args) -> Option<Command>
-    ensures normal { (result ≡ Some Command.Normal)
-        ↔ (map string_bytes (into_iter_items words) ≡ codes "normal" ∷ []) }
+    ensures { (command : Command) → (result ≡ Some command) ↔ Names (map string_bytes (into_iter_items words)) command }
 {
     let word = words.next()?;
     if words.next().is_some() {
@@ -29,6 +31,7 @@ pub fn parse_command(mut words: Args) -> Option<Command>
     }
     match word.as_str() {
         "normal" => Some(Command::Normal),
+        "list" => Some(Command::List),
         _ => None,
     }
 }

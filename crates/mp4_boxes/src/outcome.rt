@@ -38,7 +38,7 @@ impl Outcome {
     {
         match self {
             Outcome::Done => Ok(()),
-            Outcome::Misused => writeln!(errors, "usage: mp4boxes normal"),
+            Outcome::Misused => writeln!(errors, "usage: mp4boxes normal|list"),
             Outcome::Failed(fault) => writeln!(errors, "mp4boxes: {fault}"),
         }
     }

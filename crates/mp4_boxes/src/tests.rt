@@ -1,6 +1,7 @@
 //! Tests of the program: runs over readers and writers that fail, the words that it takes, and the lines that it writes.
 
 mod fakes;
+mod lines;
 mod program;
 mod runs;
 
@@ -8,6 +9,9 @@ mod runs;
 const INPUT: [u8; 52] =
     *b"\0\0\0\x18ftypisom\0\0\x02\0isommp41\0\0\0\x08free\0\0\0\x14stco\0\0\0\0\0\0\0\x01\0\0\x01\x0b";
 
-/// What a run over it writes.
-const OUTPUT: [u8; 44] =
+/// What `normal` writes of it.
+const NORMAL: [u8; 44] =
     *b"\0\0\0\x18ftypisom\0\0\x02\0isommp41\0\0\0\x14stco\0\0\0\0\0\0\0\x01\0\0\x01\x0b";
+
+/// What `list` writes of it.
+const LISTED: [u8; 31] = *b"0 24 ftyp\n24 8 free\n32 20 stco\n";

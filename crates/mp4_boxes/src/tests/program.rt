@@ -16,7 +16,7 @@ fn failed(error: Error) -> Outcome {
 fn statuses_and_lines(rt: HostRuntime) -> Result<(), Fail> {
     let table = [
         (Outcome::Done, 0, ""),
-        (Outcome::Misused, 2, "usage: mp4boxes normal\n"),
+        (Outcome::Misused, 2, "usage: mp4boxes normal|list\n"),
         (
             Outcome::Failed(RunFault::Read),
             1,
@@ -51,27 +51,23 @@ fn statuses_and_lines(rt: HostRuntime) -> Result<(), Fail> {
 
 #[test]
 fn words_are_parsed(rt: HostRuntime) -> Result<(), Fail> {
-    let table: [(&[&str], bool); 8] = [
-        (&["normal"], true),
-        (&[], false),
-        (&[""], false),
-        (&["Normal"], false),
-        (&["normal "], false),
-        (&["list"], false),
-        (&["normal", "normal"], false),
-        (&["normal", ""], false),
+    let table: [(&[&str], Option<Command>); 9] = [
+        (&["normal"], Some(Command::Normal)),
+        (&["list"], Some(Command::List)),
+        (&[], None),
+        (&[""], None),
+        (&["Normal"], None),
+        (&["normal "], None),
+        (&["normal", "normal"], None),
+        (&["list", "normal"], None),
+        (&["list", ""], None),
     ];
-    for (given, is_normal) in table {
+    for (given, command) in table {
         let mut words = Vec::new(rt.alloc());
         for word in given {
             words.push(String::from_str(rt.alloc(), word)?)?;
         }
-        let expected = if is_normal {
-            Some(Command::Normal)
-        } else {
-            None
-        };
-        assert_eq!(rt; parse_command(words.into_iter()), expected, "{given:?}");
+        assert_eq!(rt; parse_command(words.into_iter()), command, "{given:?}");
     }
     Ok(())
 }

@@ -1,15 +1,20 @@
 //! Runs over readers and writers that fail or move few bytes a call.
 
 use super::fakes::{Giver, Refusal, Taker, Zeros};
-use super::{INPUT, OUTPUT};
+use super::{INPUT, LISTED, NORMAL};
+use crate::command::Command;
 use crate::ends::{Input, Output};
-use crate::engine::{finish, read_all, run_normal};
+use crate::engine::{finish, read_all};
 use crate::fault::RunFault;
+use crate::program::run_command;
 use linked_list_allocator::LocalHeap;
 use mp4_stream::Error;
 use std::alloc::Global;
 use std::process::Abort;
 use std::test::Fail;
+
+/// The commands, and what each writes of the stored input.
+const COMMANDS: [(Command, &[u8]); 2] = [(Command::Normal, &NORMAL), (Command::List, &LISTED)];
 
 /// The most bytes that a call of the reader gives.
 const GIVEN: usize = 10;
@@ -17,54 +22,66 @@ const GIVEN: usize = 10;
 /// The most bytes that a call of the writer takes.
 const TAKEN: usize = 7;
 
+/// More calls of an end than a run over the stored input makes.
+const CALLS: u64 = 9;
+
+/// A run over the stored input, where the calls of these numbers go wrong.
+fn run_with_bad_calls(
+    rt: &(impl Abort + Alloc<A = Global>),
+    command: Command,
+    expected: &[u8],
+    refusal: Refusal,
+    bad_read: u64,
+    bad_write: u64,
+) {
+    let mut input = Input::new(Giver::new(&INPUT, GIVEN, Some(bad_read)));
+    let mut output = Output::new(Taker::new(rt.alloc(), TAKEN, Some(bad_write), refusal));
+    let result = run_command(rt.alloc(), command, &mut input, &mut output);
+    // The last call of the reader is at the end of the input, and the last call of the writer is the flush.
+    let reads = INPUT.len().div_ceil(GIVEN) as u64 + 1;
+    let pieces = expected.len().div_ceil(TAKEN) as u64;
+    let case = (command, refusal, bad_read, bad_write);
+    let taken = output.inner.taken.as_slice();
+    if bad_read <= reads {
+        assert!(rt; matches!(result, Err(RunFault::Read)), "{case:?}");
+        assert_eq!(rt; input.inner.calls, bad_read, "{case:?}");
+        assert_eq!(rt; output.inner.calls, 0, "{case:?}");
+        assert!(rt; taken.is_empty(), "{case:?}");
+    } else if bad_write.saturating_sub(1) <= pieces {
+        assert!(rt; matches!(result, Err(RunFault::Write)), "{case:?}");
+        assert_eq!(rt; input.inner.calls, reads, "{case:?}");
+        assert_eq!(rt; output.inner.calls, bad_write, "{case:?}");
+        let end = (bad_write.saturating_sub(1) as usize).saturating_mul(TAKEN);
+        assert!(rt; taken == &expected[..end.min(expected.len())], "{case:?}");
+    } else {
+        assert!(rt;
+            matches!(result, Ok(n) if n == expected.len() as u64),
+            "{case:?}"
+        );
+        assert_eq!(rt; input.inner.calls, reads, "{case:?}");
+        assert_eq!(rt; output.inner.calls.saturating_sub(1), pieces, "{case:?}");
+        assert!(rt; taken == expected, "{case:?}");
+    }
+    assert_eq!(rt;
+        input.failed,
+        matches!(result, Err(RunFault::Read)),
+        "{case:?}"
+    );
+    assert_eq!(rt;
+        output.failed,
+        matches!(result, Err(RunFault::Write)),
+        "{case:?}"
+    );
+}
+
 #[test]
 fn each_call_fails_in_turn(rt: HostRuntime) {
-    // The last call of the reader is at the end of the input.
-    let reads = INPUT.len().div_ceil(GIVEN) as u64 + 1;
-    let writes = OUTPUT.len().div_ceil(TAKEN) as u64;
-    for refusal in [Refusal::Fails, Refusal::TakesNone] {
-        for bad_read in 1..reads + 2 {
-            for bad_write in 1..writes + 2 {
-                let mut input = Input::new(Giver::new(&INPUT, GIVEN, Some(bad_read)));
-                let mut output = Output::new(Taker::new(
-                    rt.alloc(),
-                    TAKEN,
-                    Some(bad_write),
-                    refusal,
-                ));
-                let result = run_normal(rt.alloc(), &mut input, &mut output);
-                let case = (refusal, bad_read, bad_write);
-                let taken = output.inner.taken.as_slice();
-                if bad_read <= reads {
-                    assert!(rt; matches!(result, Err(RunFault::Read)), "{case:?}");
-                    assert_eq!(rt; input.inner.calls, bad_read, "{case:?}");
-                    assert_eq!(rt; output.inner.calls, 0, "{case:?}");
-                    assert!(rt; taken.is_empty(), "{case:?}");
-                } else if bad_write <= writes {
-                    assert!(rt; matches!(result, Err(RunFault::Write)), "{case:?}");
-                    assert_eq!(rt; input.inner.calls, reads, "{case:?}");
-                    assert_eq!(rt; output.inner.calls, bad_write, "{case:?}");
-                    let end = (bad_write as usize - 1) * TAKEN;
-                    assert!(rt; taken == &OUTPUT[..end], "{case:?}");
-                } else {
-                    assert!(rt;
-                        matches!(result, Ok(n) if n == OUTPUT.len() as u64),
-                        "{case:?}"
-                    );
-                    assert_eq!(rt; input.inner.calls, reads, "{case:?}");
-                    assert_eq!(rt; output.inner.calls, writes, "{case:?}");
-                    assert!(rt; taken == OUTPUT.as_slice(), "{case:?}");
+    for (command, expected) in COMMANDS {
+        for refusal in [Refusal::Fails, Refusal::TakesNone] {
+            for bad_read in 1..CALLS {
+                for bad_write in 1..CALLS + 1 {
+                    run_with_bad_calls(&rt, command, expected, refusal, bad_read, bad_write);
                 }
-                assert_eq!(rt;
-                    input.failed,
-                    matches!(result, Err(RunFault::Read)),
-                    "{case:?}"
-                );
-                assert_eq!(rt;
-                    output.failed,
-                    matches!(result, Err(RunFault::Write)),
-                    "{case:?}"
-                );
             }
         }
     }
@@ -72,12 +89,14 @@ fn each_call_fails_in_turn(rt: HostRuntime) {
 
 #[test]
 fn one_byte_a_call(rt: HostRuntime) {
-    let mut input = Input::new(Giver::new(&INPUT, 1, None));
-    let mut output = Output::new(Taker::new(rt.alloc(), 1, None, Refusal::Fails));
-    let result = run_normal(rt.alloc(), &mut input, &mut output);
-    assert!(rt; matches!(result, Ok(n) if n == OUTPUT.len() as u64));
-    assert!(rt; output.inner.taken.as_slice() == OUTPUT.as_slice());
-    assert!(rt; !input.failed && !output.failed);
+    for (command, expected) in COMMANDS {
+        let mut input = Input::new(Giver::new(&INPUT, 1, None));
+        let mut output = Output::new(Taker::new(rt.alloc(), 1, None, Refusal::Fails));
+        let result = run_command(rt.alloc(), command, &mut input, &mut output);
+        assert!(rt; matches!(result, Ok(n) if n == expected.len() as u64));
+        assert!(rt; output.inner.taken.as_slice() == expected);
+        assert!(rt; !input.failed && !output.failed);
+    }
 }
 
 #[test]
@@ -105,43 +124,57 @@ fn one_call_of_an_end(rt: HostRuntime) {
 }
 
 /// What a run over memory returns and writes.
-fn run_over_memory(
+pub fn run_over_memory(
     rt: &(impl Abort + Alloc<A = Global>),
+    command: Command,
     bytes: &[u8],
 ) -> (Result<u64, RunFault>, Vec<u8>) {
     let mut input = Input::new(bytes);
     let mut output = Output::new(Vec::new(rt.alloc()));
-    let result = run_normal(rt.alloc(), &mut input, &mut output);
+    let result = run_command(rt.alloc(), command, &mut input, &mut output);
     assert!(rt; !input.failed && !output.failed);
     (result, output.inner)
 }
 
-#[test]
-fn runs_over_memory(rt: HostRuntime) {
-    let (result, written) = run_over_memory(&rt, &INPUT);
-    assert!(rt; matches!(result, Ok(n) if n == OUTPUT.len() as u64));
-    assert!(rt; written.as_slice() == OUTPUT.as_slice());
+/// Runs over the stored input, over no input, and over the input cut between two boxes.
+fn runs_that_succeed(
+    rt: &(impl Abort + Alloc<A = Global>),
+    command: Command,
+    expected: &[u8],
+    of_two_boxes: &[u8],
+) {
+    let (result, written) = run_over_memory(rt, command, &INPUT);
+    assert!(rt; matches!(result, Ok(n) if n == expected.len() as u64));
+    assert!(rt; written.as_slice() == expected);
 
-    let (result, written) = run_over_memory(&rt, &[]);
+    let (result, written) = run_over_memory(rt, command, &[]);
     assert!(rt; matches!(result, Ok(0)));
     assert!(rt; written.is_empty());
 
-    // A cut between two boxes: the boxes before the cut.
-    let (result, written) = run_over_memory(&rt, &INPUT[..32]);
-    assert!(rt; matches!(result, Ok(n) if n == OUTPUT.len() as u64 - 20));
-    assert!(rt; written.as_slice() == &OUTPUT[..OUTPUT.len() - 20]);
+    let (result, written) = run_over_memory(rt, command, &INPUT[..32]);
+    assert!(rt; matches!(result, Ok(n) if n == of_two_boxes.len() as u64));
+    assert!(rt; written.as_slice() == of_two_boxes);
+}
 
-    // A cut inside a box.
-    let (result, written) = run_over_memory(&rt, &INPUT[..51]);
+/// Runs over the input cut inside a box, and with a box of size 2, which is less than its header.
+fn runs_that_fail(rt: &(impl Abort + Alloc<A = Global>), command: Command) {
+    let (result, written) = run_over_memory(rt, command, &INPUT[..51]);
     assert!(rt; matches!(result, Err(RunFault::Boxes(Error::IoError))));
     assert!(rt; written.is_empty());
 
-    // A box of size 2, which is less than its header.
     let mut bytes = INPUT;
     bytes[35] = 2;
-    let (result, written) = run_over_memory(&rt, &bytes);
+    let (result, written) = run_over_memory(rt, command, &bytes);
     assert!(rt; matches!(result, Err(RunFault::Boxes(Error::InvalidData(_)))));
     assert!(rt; written.is_empty());
+}
+
+#[test]
+fn runs_over_memory(rt: HostRuntime) {
+    runs_that_succeed(&rt, Command::Normal, &NORMAL, &NORMAL[..24]);
+    runs_that_fail(&rt, Command::Normal);
+    runs_that_succeed(&rt, Command::List, &LISTED, &LISTED[..20]);
+    runs_that_fail(&rt, Command::List);
 }
 
 #[test]

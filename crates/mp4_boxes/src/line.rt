@@ -1,0 +1,78 @@
+//! The lines of a list of boxes.
+
+ghost use Rattle.std.specs.Prelude.{◌≡◌, ◌+◌, ◌≤◌, ◌++◌, drop, length, IfErr, IfOk};
+ghost use Rattle.std.specs.List.{list_all};
+ghost use Rattle.mp4_frame.specs.declared.error.Error.TheVariants.{OutOfMemory};
+ghost use Rattle.mp4_boxes.specs.Lines.{is_printable, code_text, line_of, lines};
+
+use itoa::write_digits;
+use mp4_frame::BoxSpan;
+use mp4_stream::{FourCC, Result};
+use std::alloc::Global;
+
+/// The most bytes that a line has: two numbers of at most 20 digits, a name of at most 10 characters, two spaces and a
+/// line feed.
+const LONGEST: usize = 53;
+
+/// Puts bytes before those from `end` on, and returns where they begin.
+fn put_before(line: &mut [u8], end: usize, bytes: &[u8]) -> usize
+    requires room { length bytes.now ≤ end }
+    requires within { end ≤ length line.old }
+    ensures start { result + length bytes.now ≡ end }
+    ensures text { drop result line.new ≡ bytes.now ++ drop end line.old }
+{
+    let start = end - bytes.len();
+    line[start..end].copy_from_slice(bytes);
+    start
+}
+
+/// Whether all four characters of a code are printable.
+fn is_printable(code: &[u8; 4]) -> bool
+    ensures { result ≡ list_all is_printable code.now }
+{
+    code.iter().all(|byte| matches!(byte, 0x20..=0x7E))
+}
+
+/// Puts the text of a code before the bytes from `end` on, and returns where it begins.
+fn put_code(line: &mut [u8], end: usize, code: [u8; 4]) -> usize
+    requires room { 10 ≤ end }
+    requires within { end ≤ length line.old }
+    ensures within { result ≤ end }
+    ensures start { end ≤ result + 10 }
+    ensures text { drop result line.new ≡ code_text code ++ drop end line.old }
+{
+    if is_printable(&code) {
+        return put_before(line, end, &code);
+    }
+    let mut digits = [0; 8];
+    let _ = hex::encode_to_slice(code, &mut digits);
+    let at = put_before(line, end, &digits);
+    put_before(line, at, b"0x")
+}
+
+/// Puts the line of a box at the end of `line`, and returns where it begins.
+fn put_line(line: &mut [u8; LONGEST], span: BoxSpan) -> usize
+    ensures within { result ≤ LONGEST }
+    ensures text { drop result line.new ≡ line_of span }
+{
+    let at = put_before(line, LONGEST, b"\n");
+    let at = put_code(line, at, FourCC::from(span.name).value);
+    let at = put_before(line, at, b" ");
+    let at = write_digits(span.length, line, at);
+    let at = put_before(line, at, b" ");
+    write_digits(span.position, line, at)
+}
+
+/// The lines of a list of boxes.
+pub fn lines_of(alloc: Global, spans: &[BoxSpan]) -> Result<Vec<u8>>
+    ensures ok { IfOk result (λ text. text.items ≡ lines spans.now) }
+    ensures error { IfErr result (λ e. e ≡ OutOfMemory) }
+{
+    let mut text = Vec::new(alloc);
+    let mut line = [0; LONGEST];
+    for span in spans {
+        let start = put_line(&mut line, *span);
+        text.extend_from_slice(&line[start..])?;
+    }
+    Ok(text)
+}
