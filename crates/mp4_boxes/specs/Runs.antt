@@ -12,8 +12,8 @@ use Rattle.mp4_frame.specs.Spans.{spans}
 use Rattle.mp4_frame.specs.declared.error.Error.{Error}
 use Rattle.mp4_frame.specs.declared.error.Error.TheVariants as errors
 use Rattle.mp4_frame.specs.declared.list.BoxSpan.{BoxSpan}
-use Rattle.mp4_stream.specs.declared.any_box.AnyBox.{AnyBox}
-use Rattle.mp4_stream.specs.AnyBox.{format_any, known_any, reading_any}
+use Rattle.mp4_stream.specs.declared.kept_box.KeptBox.{KeptBox}
+use Rattle.mp4_stream.specs.KeptBox.{format_kept, known_kept, reading_kept}
 use Rattle.mp4_boxes.specs.declared.command.Command.{Command}
 use Rattle.mp4_boxes.specs.declared.command.Command.TheVariants as commands
 use Rattle.mp4_boxes.specs.declared.fault.RunFault.{RunFault}
@@ -70,20 +70,20 @@ Rewrites Makes Refusal items B (Ok v) = Makes B (items v)
 Rewrites Makes Refusal items B (Err e) = Refusal B e
 
 -- the boxes of an input
-abbrev pub boxes_of : List ℕ → Reading (List AnyBox)
-boxes_of B = boxes known_any reading_any B 0
+abbrev pub boxes_of : List ℕ → Reading (List KeptBox)
+boxes_of B = boxes known_kept reading_kept B 0
 
 -- the boxes of B can all be written, and out is their bytes
 abbrev pub Normalizes : List ℕ → List ℕ → Type 0
-Normalizes B out = (vs : List AnyBox) × ((boxes_of B).outcome ≡ Ok vs) × All format_any.Writable vs
-    × (out ≡ stream format_any.bytes vs)
+Normalizes B out = (vs : List KeptBox) × ((boxes_of B).outcome ≡ Ok vs) × All format_kept.Writable vs
+    × (out ≡ stream format_kept.bytes vs)
 
 -- `normal` may refuse B with the first fault of its boxes, with invalid data if a box that was read can't be written,
 -- and with out of memory
 abbrev pub NormalRefusal : List ℕ → Error → Type 0
 NormalRefusal B errors.OutOfMemory = ⊤
 NormalRefusal B (errors.InvalidData _) = ((boxes_of B).outcome ≡ Err Invalid)
-    ⊎ ((vs : List AnyBox) × ((boxes_of B).outcome ≡ Ok vs) × (¬ All format_any.Writable vs))
+    ⊎ ((vs : List KeptBox) × ((boxes_of B).outcome ≡ Ok vs) × (¬ All format_kept.Writable vs))
 NormalRefusal B e = Refuses e (boxes_of B)
 
 -- the boxes of B can be listed, and out is their lines

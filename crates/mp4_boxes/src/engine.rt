@@ -8,7 +8,7 @@ ghost use Rattle.mp4_boxes.specs.Runs.{Runs, ReachesEnd, ReadsAll, WritesAll, Re
 
 use crate::ends::{Input, Output};
 use crate::fault::RunFault;
-use mp4_stream::{ByteCursor, Error, read_boxes, write_boxes};
+use mp4_stream::{ByteCursor, Error, KeptBox, read_boxes_as, write_boxes};
 use std::alloc::{Allocator, Global};
 use std::io::{Read, Write};
 
@@ -105,15 +105,15 @@ pub fn finish<W: Write>(output: &mut Output<W>) -> Result<(), RunFault>
 fn normalize(alloc: Global, bytes: Vec<u8>) -> mp4_stream::Result<Vec<u8>>
     ensures { Rewrites Normalizes NormalRefusal (λ v. v.items) bytes.items result }
 {
-    let boxes = read_boxes(alloc, &mut ByteCursor::new(&bytes))?;
+    let boxes: Vec<KeptBox> = read_boxes_as(alloc, &mut ByteCursor::new(&bytes))?;
     drop(bytes);
     let mut out = Vec::new(alloc);
     write_boxes(&boxes, &mut out)?;
     Ok(out)
 }
 
-/// Reads all boxes of the input, and writes them to the output in their normal form. Boxes with names that the codec
-/// does not know are left out. Returns the number of bytes that were written.
+/// Reads all boxes of the input, and writes them to the output in their normal form: boxes of types that the codec does
+/// not read are written as they were. Returns the number of bytes that were written.
 ///
 /// All output is made before any of it is written. So after a failed write the output has a beginning of it, and after
 /// any other fault it is as it was. A reader without an end is out of memory.

@@ -7,8 +7,7 @@ use crate::ends::{Input, Output};
 use crate::engine::{read_all, write_all};
 use crate::fault::RunFault;
 use crate::line::lines_of;
-use mp4_frame::list_boxes;
-use mp4_stream::ByteCursor;
+use mp4_stream::{ByteCursor, list_boxes};
 use std::alloc::Global;
 use std::io::{Read, Write};
 

@@ -5,13 +5,9 @@ mod lines;
 mod program;
 mod runs;
 
-/// An ftyp box, a free box, which is left out, and a stco box.
+/// An ftyp box, a free box, which is kept as it is, and a stco box. It is what `normal` writes of it too.
 const INPUT: [u8; 52] =
     *b"\0\0\0\x18ftypisom\0\0\x02\0isommp41\0\0\0\x08free\0\0\0\x14stco\0\0\0\0\0\0\0\x01\0\0\x01\x0b";
-
-/// What `normal` writes of it.
-const NORMAL: [u8; 44] =
-    *b"\0\0\0\x18ftypisom\0\0\x02\0isommp41\0\0\0\x14stco\0\0\0\0\0\0\0\x01\0\0\x01\x0b";
 
 /// What `list` writes of it.
 const LISTED: [u8; 31] = *b"0 24 ftyp\n24 8 free\n32 20 stco\n";

@@ -1,7 +1,7 @@
 //! Runs over readers and writers that fail or move few bytes a call.
 
 use super::fakes::{Giver, Refusal, Taker, Zeros};
-use super::{INPUT, LISTED, NORMAL};
+use super::{INPUT, LISTED};
 use crate::command::Command;
 use crate::ends::{Input, Output};
 use crate::engine::{finish, read_all};
@@ -14,7 +14,7 @@ use std::process::Abort;
 use std::test::Fail;
 
 /// The commands, and what each writes of the stored input.
-const COMMANDS: [(Command, &[u8]); 2] = [(Command::Normal, &NORMAL), (Command::List, &LISTED)];
+const COMMANDS: [(Command, &[u8]); 2] = [(Command::Normal, &INPUT), (Command::List, &LISTED)];
 
 /// The most bytes that a call of the reader gives.
 const GIVEN: usize = 10;
@@ -23,7 +23,7 @@ const GIVEN: usize = 10;
 const TAKEN: usize = 7;
 
 /// More calls of an end than a run over the stored input makes.
-const CALLS: u64 = 9;
+const CALLS: u64 = 10;
 
 /// A run over the stored input, where the calls of these numbers go wrong.
 fn run_with_bad_calls(
@@ -171,7 +171,7 @@ fn runs_that_fail(rt: &(impl Abort + Alloc<A = Global>), command: Command) {
 
 #[test]
 fn runs_over_memory(rt: HostRuntime) {
-    runs_that_succeed(&rt, Command::Normal, &NORMAL, &NORMAL[..24]);
+    runs_that_succeed(&rt, Command::Normal, &INPUT, &INPUT[..32]);
     runs_that_fail(&rt, Command::Normal);
     runs_that_succeed(&rt, Command::List, &LISTED, &LISTED[..20]);
     runs_that_fail(&rt, Command::List);
