@@ -13,18 +13,19 @@ use std::alloc::Allocator;
 /// The place of a box in a buffer, and its name. Positions and lengths are in bytes.
 #[derive(Clone, Copy, Debug, PartialEq, Eq)]
 pub struct BoxSpan {
-    /// The offset of the first byte of the box, which is that of its header.
+    /// The offset of the first byte of the box, where its header begins.
     pub position: u64,
-    /// The number of bytes from `position` to the end of the box, with its header.
+    /// The number of bytes from `position` to the end of the box.
     pub length: u64,
     /// The name of the box.
     pub name: BoxType,
 }
 
-/// Lists the boxes from the cursor's position to the end of the buffer, or returns the first fault of their headers
-/// (ISO/IEC 14496-12, 4.2): end of input if a header or a box is cut, invalid data if a size is too small or too
-/// large. The last box may have a size of 0, and then goes to the end of the buffer. Contents are not read, so a box
-/// that is listed may still be refused by `read_boxes`; and boxes inside others are not listed.
+/// Lists the boxes from the cursor's position to the end of the buffer, or returns the first fault: end of input if a
+/// header or a box is cut, invalid data if a size is too small or a box ends past 2^64 - 1 (ISO/IEC 14496-12, 4.2). A
+/// box of size 0 goes up to the end of the buffer. Contents are not read: a box that is listed may still be refused by
+/// `read_boxes_as`, and children are not listed. After an `Ok` the cursor is at the end of the buffer, or where it was
+/// if that is past the end. After an `Err` it is where it was.
 pub fn list_boxes<A: Allocator>(alloc: A, reader: &mut ByteCursor) -> Result<Vec<BoxSpan, A>>
     ensures answer { AnswersAs (λ v. v.items) result (spans reader.old.bytes.now reader.old.position) }
     ensures moved { OnOk result (reader.new.position ≡ max reader.old.position (length reader.old.bytes.now)) }
