@@ -8,12 +8,13 @@ import re
 from slow_reader import READERS
 
 TOP = os.path.dirname(os.path.dirname(os.path.abspath(__file__)))
-SOURCES = ["mp4_fixtures/src/boxes/*.rt", "mp4_telling/src/tests/*.rt", "mp4_worked/src/tests/*.rt"]
-CONSTANT = re.compile(r'const \w+: \[u8; (\d+)\] =\s*(?:\*b"((?:[^"\\]|\\.)*)"|\[([^\]]*)\]);', re.S)
+SOURCES = os.path.join(TOP, "crates/*/src/**/*.rt")
+CONSTANT = re.compile(r'const \w+: \[u8; (\d+)\] =\s*(?:\*b"((?:[^"\\]|\\.)*)"|\[([^\];]*)\]);', re.S)
 ESCAPE = re.compile(rb"\\(?:x(..)|\n\s*|(.))", re.S)
 LETTERS = {b"0": b"\0", b"n": b"\n", b"r": b"\r", b"t": b"\t"}
 CODES = [name.encode() for name in READERS]
 HEADERS = re.compile(b"(?=....(" + b"|".join(CODES) + b"))", re.S)
+WITH_VERSIONS = [b"mvhd", b"tkhd", b"mdhd", b"mehd", b"tfdt", b"elst", b"emsg"]
 ENTRIES = [b"avc1", b"hev1", b"vp09", b"mp4a", b"tx3g"]
 BYTES = [0, 1, 2, 3, 4, 5, 6, 0x1F, 0x7F, 0x80, 0x81, 0xC3, 0xE2, 0xF0, 0xFF]
 COUNTS = [0, 1, 2, 3, 4, 5, 2**16, 2**28, 2**29 + 1, 2**30, 2**30 + 1, 2**31 - 1, 2**31, 2**32 - 1]
@@ -30,9 +31,9 @@ def unescaped(text):
 
 
 def worked_bytes():
-    """The constants of the tests that are the bytes of a box."""
+    """The constants of the crates that are a box's bytes: of each type, and of versions 0 and 1 where they differ."""
     found = []
-    for path in sorted(path for source in SOURCES for path in glob.glob(os.path.join(TOP, "crates", source))):
+    for path in sorted(glob.glob(SOURCES, recursive=True)):
         with open(path, encoding="utf-8") as file:
             for length, text, numbers in CONSTANT.findall(file.read()):
                 box = unescaped(text.encode()) if text else bytes(int(it, 0) for it in re.findall(r"\w+", numbers))
@@ -40,6 +41,10 @@ def worked_bytes():
                     raise ValueError(f"{path}: {text or numbers} has {len(box)} bytes")
                 if box[4:8] in CODES:
                     found.append(box)
+    for code in CODES:
+        versions = {box[8] for box in found if box[4:8] == code}
+        if not versions or code in WITH_VERSIONS and not versions >= {0, 1}:
+            raise ValueError(f"there are no worked bytes of {code} in some version")
     return found
 
 
