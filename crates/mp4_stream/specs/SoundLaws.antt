@@ -5,6 +5,7 @@ use Rattle.mp4_frame.specs.Laws.{AreBytes}
 use Rattle.mp4_frame.specs.Members.{Known, Is, Unknown, kind, Held, holds, reading_known}
 use Rattle.mp4_frame.specs.Reading.{Reading, map_reading, reading, done}
 use Rattle.mp4_frame.specs.declared.box_type.BoxType.{BoxType}
+use Rattle.mp4_frame.specs.declared.box_type.BoxType.TheVariants as names
 use Rattle.mp4_frame.proofs.Checks.{are_bytes-drop, reads_ok, is_value}
 use Rattle.mp4_frame.proofs.Tables.{value_first}
 use Rattle.mp4_stream.specs.AnyBox.{kinds, held, format_any, known_any, reading_any}
@@ -22,15 +23,20 @@ use Rattle.mp4_stream.specs.declared.kept_box.KeptBox.TheVariants as kept
 mapped_value : {A C : Type 0} (f : A → C) (r : Reading A) (v : C) → (map_reading f r).outcome ≡ Ok v → (x : A) × (r.outcome ≡ Ok x) × (f x ≡ v)
 mapped_value f r v e = (let p = value_first r (λ x. done (f x)) v e in (p.0, p.1, is_value (f p.0) v p.2))
 
--- the boxes of a name's type have this name; of a name that gives no type nothing is said
-abbrev HasName : BoxType → Known AnyBox → Type 0
-HasName name (Is k) = (x : k.Value) → (held (k.wrap x)).name ≡ name
-HasName name Unknown = Unit {0} → name ≡ name
+-- the values of the type that a name gives, and the name that such a box has; any name where there is no type
+abbrev ValueOf : Known AnyBox → Type 0
+ValueOf (Is k) = k.Value
+ValueOf Unknown = Unit {0}
 
-has_name : (name : BoxType) → HasName name (kinds name)
-has_name _ = λ x. refl
+abbrev name_of_value : BoxType → (k : Known AnyBox) → ValueOf k → BoxType
+name_of_value name (Is k) x = (held (k.wrap x)).name
+name_of_value name Unknown x = name
 
-name_read : (name : BoxType) (k : Known AnyBox) → HasName name k → (bytes : List ℕ) (start size : ℕ) (v : AnyBox) → (reading_known k bytes start size).outcome ≡ Ok v → (held v).name ≡ name
+own_name : (name : BoxType) (x : ValueOf (kinds name)) → name_of_value name (kinds name) x ≡ name
+own_name (names.UnknownBox n) x = refl
+own_name _ x = refl
+
+name_read : (name : BoxType) (k : Known AnyBox) → ((x : ValueOf k) → name_of_value name k x ≡ name) → (bytes : List ℕ) (start size : ℕ) (v : AnyBox) → (reading_known k bytes start size).outcome ≡ Ok v → (held v).name ≡ name
 name_read name (Is k) own bytes start size v e =
     let p = mapped_value k.wrap (reading k.reads bytes start size) v e in
     ap (λ (u : AnyBox). (held u).name) (sym p.2) ∙ own p.0
@@ -41,7 +47,7 @@ pub sound_any : ReadsSoundly known_any reading_any format_any
 sound_any name known fits bytes start size v are e =
     let m = members v in
     let is : held v ≡ holds m.format m.wrap m.value = ap held m.is ∙ m.is_held m.value in
-    let own : m.format.name m.value ≡ name = sym (ap (λ (h : Held AnyBox). h.name) is) ∙ name_read name (kinds name) (has_name name) bytes start size v e in
+    let own : m.format.name m.value ≡ name = sym (ap (λ (h : Held AnyBox). h.name) is) ∙ name_read name (kinds name) (own_name name) bytes start size v e in
     let is_kind : kinds name ≡ Is (kind m.reads m.format m.wrap) = ap kinds (sym own) ∙ m.is_kind m.value in
     let read : (map_reading m.wrap (reading m.reads bytes start size)).outcome ≡ Ok v = subst (λ (k : Known AnyBox). (reading_known k bytes start size).outcome ≡ Ok v) is_kind e in
     let p = mapped_value m.wrap (reading m.reads bytes start size) v read in

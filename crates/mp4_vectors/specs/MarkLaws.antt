@@ -4,9 +4,10 @@ use Rattle.mp4_frame.specs.BoxType.{name_of-code_of}
 use Rattle.mp4_frame.specs.Format.{IsBox}
 use Rattle.mp4_frame.specs.Laws.{OwnName, ReadsBack}
 use Rattle.mp4_frame.specs.declared.box_type.BoxType.TheVariants as names
-use Rattle.mp4_frame.proofs.Checks.{reads_back}
+use Rattle.mp4_frame.proofs.Checks.{are_bytes-drop, reads_ok, reads_back}
 use Rattle.mp4_frame.proofs.Framing.{header_of_fields, own_normal_form, fits_read, Number}
 use Rattle.mp4_frame.proofs.Rows.{one_run_again, one_run_is}
+use Rattle.mp4_stream.specs.Sound.{ReadsSoundly}
 use Rattle.mp4_vectors.specs.declared.mark.TheConstants.{MARK}
 use Rattle.mp4_vectors.specs.declared.mark.MarkBox.{MarkBox}
 use Rattle.mp4_vectors.specs.Mark.{value_mark, reads_mark, fields_mark, WritableMark, bytes_mark, format_mark, known_mark, reading_mark}
@@ -25,3 +26,6 @@ own_name_mark v w = record { is_known = refl; is_own = name_of-code_of (names.Un
 
 pub read_back_mark : (v : MarkBox) → WritableMark v → ReadsBack (reading_mark (names.UnknownBox MARK)) (bytes_mark v) v
 read_back_mark v w = reads_back reads_mark (bytes_mark v) 12 v (laws_mark.header v w).long (laws_mark.read_back v w)
+
+pub sound_mark : ReadsSoundly known_mark reading_mark format_mark
+sound_mark name known fits bytes start size v are e = laws_mark.sound _ start size v (are_bytes-drop start bytes are) (reads_ok reads_mark bytes start size v e)

@@ -2,10 +2,12 @@
 
 ghost use Rattle.mp4_frame.specs.Format.{write_laws};
 ghost use Rattle.mp4_vectors.specs.Mark.{reads_mark, format_mark, known_mark, reading_mark};
-ghost use Rattle.mp4_vectors.specs.MarkLaws.{laws_mark, own_name_mark, read_back_mark};
+ghost use Rattle.mp4_vectors.specs.MarkLaws.{laws_mark, own_name_mark, read_back_mark, sound_mark};
 
 use mp4_frame::{expect_bytes, put_u32, u32_at};
-use mp4_stream::{BoxLaws, BoxType, ByteCursor, Mp4Box, ReadBox, Result, StreamBox, WriteBox};
+use mp4_stream::{
+    BoxLaws, BoxType, ByteCursor, Mp4Box, ReadBox, Result, SoundStream, StreamBox, WriteBox,
+};
 use std::alloc::Global;
 
 /// The code: `mark`.
@@ -85,4 +87,8 @@ impl StreamBox for MarkBox {
     ghost own_name = { own_name_mark };
 
     ghost read_back = { read_back_mark };
+}
+
+impl SoundStream for MarkBox {
+    ghost sound = { sound_mark };
 }

@@ -5,6 +5,7 @@ mod cuts;
 mod defaults;
 mod examples;
 mod headers;
+mod kept;
 mod laws;
 mod memory;
 mod sizes;

@@ -7,12 +7,13 @@ use mp4_stream::laws::{
     is_read_back_at_the_end, is_read_by_name, is_read_by_name_at_the_end, is_read_without_memory,
     is_sound, written_is_read,
 };
+use mp4_stream::list_laws::{normal_stream_is_kept, read_list_is_sound};
 use mp4_stream::{
     AnyBox, Avc1Box, AvcCBox, BoxLaws, Co64Box, CttsBox, DataBox, DinfBox, DrefBox, ElstBox,
-    EmsgBox, EsdsBox, FtypBox, HdlrBox, Hev1Box, HvcCBox, MdhdBox, MehdBox, MfhdBox, Mp4aBox,
-    MvhdBox, SmhdBox, StcoBox, StreamBox, StscBox, StsdBox, StssBox, StszBox, SttsBox, TfdtBox,
-    TfhdBox, TkhdBox, TrackFlag, TrexBox, TrunBox, Tx3gBox, UrlBox, VmhdBox, Vp09Box, VpccBox,
-    any_laws, entry_laws, flat_laws, laws, sound_laws, table_laws, text_laws,
+    EmsgBox, EsdsBox, FtypBox, HdlrBox, Hev1Box, HvcCBox, KeptBox, MdhdBox, MehdBox, MfhdBox,
+    Mp4aBox, MvhdBox, SmhdBox, SoundStream, StcoBox, StreamBox, StscBox, StsdBox, StssBox, StszBox,
+    SttsBox, TfdtBox, TfhdBox, TkhdBox, TrackFlag, TrexBox, TrunBox, Tx3gBox, UrlBox, VmhdBox,
+    Vp09Box, VpccBox, any_laws, entry_laws, flat_laws, laws, sound_laws, table_laws, text_laws,
 };
 
 fn call_laws_of_box<B: BoxLaws>() {
@@ -36,6 +37,11 @@ fn call_laws_of_lists<B: StreamBox>() {
     cut_inside_a_box::<B>();
     equal_streams::<B>();
     boxes_follow_frames::<B>();
+}
+
+fn call_laws_of_read_lists<B: SoundStream>() {
+    read_list_is_sound::<B>();
+    normal_stream_is_kept::<B>();
 }
 
 #[test]
@@ -169,4 +175,16 @@ fn laws_hold_of_lists_and_of_a_type_from_outside() {
     call_laws_of_box::<MarkBox>();
     call_laws_of_lists::<AnyBox>();
     call_laws_of_lists::<MarkBox>();
+}
+
+#[test]
+fn laws_hold_of_lists_of_kept_boxes() {
+    call_laws_of_lists::<KeptBox>();
+}
+
+#[test]
+fn laws_hold_of_lists_that_were_read() {
+    call_laws_of_read_lists::<AnyBox>();
+    call_laws_of_read_lists::<KeptBox>();
+    call_laws_of_read_lists::<MarkBox>();
 }

@@ -11,7 +11,7 @@ use std::alloc::Global;
 use std::test::Fail;
 
 /// An ftyp, a free and a stco box.
-const THREE: [u8; 52] =
+pub const THREE: [u8; 52] =
     *b"\0\0\0\x18ftypisom\0\0\x02\0isommp41\0\0\0\x08free\0\0\0\x14stco\0\0\0\0\0\0\0\x01\0\0\x01\x0b";
 
 /// Reads the boxes of a buffer. Returns the kind of the outcome, the number of boxes, and the position of the cursor

@@ -1,0 +1,83 @@
+//! Boxes of types that the codec does not read, which are kept as their bytes.
+
+use crate::tests::streams::THREE;
+use mp4_fixtures::helpers::{Kind, kind_of};
+use mp4_stream::{
+    BoxType, ByteCursor, Error, KeptBox, OtherBox, StreamBox, TryClone, WriteBox, read_boxes_as,
+    write_boxes,
+};
+use std::alloc::Global;
+use std::test::Fail;
+
+/// Reads all boxes of a buffer. Returns their number and the bytes that they are written in.
+fn rewrite(alloc: Global, bytes: &[u8]) -> Result<(usize, Vec<u8>), Error> {
+    let boxes: Vec<KeptBox> = read_boxes_as(alloc, &mut ByteCursor::new(bytes))?;
+    let mut out = Vec::new(alloc);
+    write_boxes(&boxes, &mut out)?;
+    Ok((boxes.len(), out))
+}
+
+#[test]
+fn a_box_with_a_type_of_its_own_is_no_other(rt: HostRuntime) {
+    let outcome = OtherBox::copy_of(rt.alloc(), 0x6674_7970, &[]);
+    assert_eq!(rt; kind_of(&outcome), Kind::Invalid);
+}
+
+#[test]
+fn another_box_has_a_code_and_a_content(rt: HostRuntime) -> Result<(), Fail> {
+    let other = OtherBox::copy_of(rt.alloc(), 0x6d6f_6f76, &[0xaa])?;
+    assert_eq!(rt; other.name(), BoxType::MoovBox);
+    assert_eq!(rt; other.content(), [0xaa].as_slice());
+    assert_eq!(rt; other.try_clone()?, other);
+    let mut out = Vec::new(rt.alloc());
+    assert_eq!(rt; other.write_box(&mut out)?, 9);
+    assert_eq!(rt; out.as_slice(), b"\0\0\0\x09moov\xaa".as_slice());
+    Ok(())
+}
+
+#[test]
+fn a_kept_box_is_written_as_it_is(rt: HostRuntime) -> Result<(), Fail> {
+    let kept = KeptBox::Other(OtherBox::copy_of(rt.alloc(), 0x6d6f_6f76, &[0xaa])?);
+    assert_eq!(rt; kept.try_clone()?, kept);
+    let mut out = Vec::new(rt.alloc());
+    assert_eq!(rt; kept.write_box(&mut out)?, 9);
+    assert_eq!(rt; out.as_slice(), b"\0\0\0\x09moov\xaa".as_slice());
+    Ok(())
+}
+
+/// The kind of the outcome of reading a free box of 8 bytes with this size, and the position of the cursor after it.
+fn read_free(alloc: Global, size: u64) -> (Kind, u64) {
+    let mut reader = ByteCursor::new(b"\0\0\0\x08free");
+    reader.set_position(8);
+    let outcome = KeptBox::read_named(alloc, BoxType::FreeBox, &mut reader, size);
+    (kind_of(&outcome), reader.position())
+}
+
+#[test]
+fn the_size_of_a_kept_box_is_checked(rt: HostRuntime) {
+    assert_eq!(rt; read_free(rt.alloc(), 7), (Kind::Invalid, 8));
+    assert_eq!(rt; read_free(rt.alloc(), 8), (Kind::Ok, 8));
+    assert_eq!(rt; read_free(rt.alloc(), 9), (Kind::End, 8));
+}
+
+#[test]
+fn all_boxes_of_a_stream_are_kept(rt: HostRuntime) -> Result<(), Fail> {
+    let (count, out) = rewrite(rt.alloc(), &THREE)?;
+    assert_eq!(rt; count, 3);
+    assert_eq!(rt; out.as_slice(), THREE.as_slice());
+    Ok(())
+}
+
+#[test]
+fn headers_are_written_in_8_bytes(rt: HostRuntime) -> Result<(), Fail> {
+    let forms: [&[u8]; 2] = [
+        b"\0\0\0\x01mdat\0\0\0\0\0\0\0\x13\x01\x02\x03",
+        b"\0\0\0\0mdat\x01\x02\x03",
+    ];
+    for bytes in forms {
+        let (count, out) = rewrite(rt.alloc(), bytes)?;
+        assert_eq!(rt; count, 1);
+        assert_eq!(rt; out.as_slice(), b"\0\0\0\x0bmdat\x01\x02\x03".as_slice());
+    }
+    Ok(())
+}
