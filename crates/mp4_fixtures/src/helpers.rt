@@ -11,10 +11,9 @@ mod mismatches;
 mod outcomes;
 
 pub use mismatches::Mismatch;
-pub use outcomes::{Kind, debug_text, invalid_text, kind_of};
-
 use mismatches::{expect_ending, expect_length, expect_position};
 use mp4_stream::{BoxHeader, BoxLaws, ByteCursor, Error, ReadBox, WriteBox};
+pub use outcomes::{Kind, debug_text, invalid_text, kind_of};
 use std::alloc::Global;
 
 /// Reads the box at the front of a buffer, after its header of 8 bytes, with this size. Returns the result and the
