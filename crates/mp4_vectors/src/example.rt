@@ -9,6 +9,7 @@ pub mod audio;
 pub mod chunks;
 pub mod defaults;
 pub mod entries;
+pub mod lists;
 pub mod numbers;
 pub mod references;
 pub mod sound;
