@@ -9,13 +9,15 @@ mod mark;
 mod refused_memory;
 #[cfg(test)]
 mod tests;
+mod without_memory;
 
 use mp4_fixtures::vectors::VECTORS;
 use refused_memory::{
-    Ending, clone_config, make_texts, read_without_memory, shorten_offsets, write_and_read,
+    Ending, clone_config, keep_all, list_all, make_texts, shorten_offsets, write_and_read,
     write_and_read_all, write_and_read_marks,
 };
 use std::process::ExitCode;
+use without_memory::{read_lists_without_memory, read_without_memory};
 
 fn status(outcome: &Result<(), Ending>) -> u8 {
     match outcome {
@@ -33,7 +35,10 @@ fn main(rt: HostRuntime) -> ExitCode {
     let others = [
         write_and_read_all(rt.alloc()),
         write_and_read_marks(rt.alloc()),
+        list_all(rt.alloc()),
+        keep_all(rt.alloc()),
         read_without_memory(rt.alloc()),
+        read_lists_without_memory(rt.alloc()),
         clone_config(rt.alloc()),
         shorten_offsets(rt.alloc()),
         make_texts(rt.alloc()),

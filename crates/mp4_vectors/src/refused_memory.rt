@@ -4,8 +4,8 @@
 use crate::mark::MarkBox;
 use mp4_fixtures::vectors::{VECTORS, Vector};
 use mp4_stream::{
-    AnyBox, AvcConfig, BoxHeader, ByteCursor, Co64Box, Error, MdhdBox, MediaConfig, StcoBox,
-    StreamBox, TryClone, WriteBox, language_string, read_boxes_as, write_boxes,
+    AnyBox, AvcConfig, ByteCursor, Co64Box, Error, KeptBox, MdhdBox, MediaConfig, StcoBox,
+    StreamBox, TryClone, WriteBox, language_string, list_boxes, read_boxes_as, write_boxes,
 };
 use std::alloc::Global;
 use std::slice;
@@ -117,56 +117,37 @@ pub fn write_and_read_all(alloc: Global) -> Result<(), Ending> {
     round_trip(alloc, &boxes, &bytes)
 }
 
-/// Boxes that are read without memory for their lists and strings: runs without fields and samples of one size,
-/// however many; a reference and a configuration that hold nothing.
-const WITHOUT_MEMORY: [&[u8]; 4] = [
-    b"\0\0\0\x10trun\0\0\0\0\xff\xff\xff\xff",
-    b"\0\0\0\x14stsz\0\0\0\0\0\0\x01\x0b\xff\xff\xff\xff",
-    b"\0\0\0\x0curl \0\0\0\x01",
-    b"\0\0\0\x0favcC\x01\x64\0\x0d\xff\xe0\0",
-];
-
-/// Whether the vector is of a type whose boxes are read without memory.
-fn asks_no_memory(vector: Vector) -> bool {
-    matches!(
-        vector,
-        Vector::Mvhd
-            | Vector::Tkhd
-            | Vector::Mehd
-            | Vector::Mfhd
-            | Vector::Smhd
-            | Vector::Vmhd
-            | Vector::Trex
-            | Vector::Tfdt
-            | Vector::Tfhd
-            | Vector::Hvcc
-            | Vector::Hev1
-            | Vector::Vpcc
-            | Vector::Vp09
-            | Vector::Tx3g
-    )
-}
-
-fn read_one(alloc: Global, bytes: &[u8]) -> mp4_stream::Result<AnyBox> {
-    let mut reader = ByteCursor::new(bytes);
-    let header = BoxHeader::read(&mut reader)?;
-    if !AnyBox::knows(header.name) {
-        return Err(Error::BoxNotFound(header.name));
-    }
-    AnyBox::read_named(alloc, header.name, &mut reader, header.size)
-}
-
-/// Reads boxes that never ask for memory: also where every request is refused.
-pub fn read_without_memory(alloc: Global) -> Result<(), Ending> {
-    let refused = WITHOUT_MEMORY
-        .iter()
-        .any(|bytes| read_one(alloc, bytes).is_err());
-    let vector_refused = VECTORS.iter().any(|vector| asks_no_memory(*vector)
-        && read_one(alloc, vector.bytes()).is_err());
-    if refused || vector_refused {
-        Err(Ending::Wrong)
-    } else {
+/// Lists all vectors as one stream.
+pub fn list_all(alloc: Global) -> Result<(), Ending> {
+    let bytes = again!(bytes_of_all(alloc))?;
+    let mut reader = ByteCursor::new(&bytes);
+    let spans = again!(list_boxes(alloc, &mut reader))?;
+    if spans.len() == VECTORS.len() && reader.position() == bytes.len() as u64 {
         Ok(())
+    } else {
+        Err(Ending::Wrong)
+    }
+}
+
+/// The bytes of all vectors and of a box that has no type of its own.
+fn bytes_to_keep(alloc: Global) -> mp4_stream::Result<Vec<u8>> {
+    let mut bytes = bytes_of_all(alloc)?;
+    bytes.extend_from_slice(b"\0\0\0\x09moov\xaa")?;
+    Ok(bytes)
+}
+
+fn kept_boxes(alloc: Global, bytes: &[u8]) -> mp4_stream::Result<Vec<KeptBox>> {
+    read_boxes_as(alloc, &mut ByteCursor::new(bytes))
+}
+
+/// Reads all vectors and a box that has no type of its own as one stream, and writes and reads what was read.
+pub fn keep_all(alloc: Global) -> Result<(), Ending> {
+    let bytes = again!(bytes_to_keep(alloc))?;
+    let boxes = again!(kept_boxes(alloc, &bytes))?;
+    if boxes.len() == VECTORS.len() + 1 {
+        round_trip(alloc, &boxes, &bytes)
+    } else {
+        Err(Ending::Wrong)
     }
 }
 
