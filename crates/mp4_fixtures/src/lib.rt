@@ -4,4 +4,5 @@
 
 pub mod boxes;
 pub mod helpers;
+pub mod made;
 pub mod vectors;

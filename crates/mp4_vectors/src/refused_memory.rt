@@ -1,7 +1,7 @@
 //! Calls of the codec that may be refused a request for memory, or one and all after it. A call that is out of memory
 //! leaves everything as it was, and is made again: then it has its usual result, or is out of memory once more.
 
-use crate::mark::MarkBox;
+use mp4_examples::mark::MarkBox;
 use mp4_fixtures::vectors::{VECTORS, Vector};
 use mp4_stream::{
     AnyBox, AvcConfig, ByteCursor, Co64Box, Error, KeptBox, MdhdBox, MediaConfig, StcoBox,
@@ -166,11 +166,20 @@ fn clone_of<T: TryClone + PartialEq + Drop>(original: &T) -> Result<T, Ending> {
     }
 }
 
+/// Clones a box, and writes and reads the clone.
+fn write_and_read_clone<B: StreamBox + Eq + TryClone + Drop>(
+    alloc: Global,
+    original: &B,
+    bytes: &[u8],
+) -> Result<(), Ending> {
+    let clone = clone_of(original)?;
+    round_trip(alloc, slice::from_ref(&clone), bytes)
+}
+
 /// Makes, clones, writes and reads a vector.
 pub fn write_and_read(alloc: Global, vector: Vector) -> Result<(), Ending> {
     let original = made(alloc, vector)?;
-    let clone = clone_of(&original)?;
-    round_trip(alloc, slice::from_ref(&clone), vector.bytes())
+    write_and_read_clone(alloc, &original, vector.bytes())
 }
 
 /// Writes and reads a list of boxes of a type from outside the codec.

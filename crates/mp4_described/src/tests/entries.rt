@@ -1,33 +1,53 @@
 //! Sample entries: the names of their children, their sets, and constructors.
 
+use crate::tests::invalid_text_of;
 use mp4_fixtures::boxes::entries::{
     AVC1, HEV1, PICTURE, SEQUENCE, VP09, avc1, avc1_of, avcc, avcc_of_two, empty_sets, hev1,
     list_of_sets, tx3g, vp09, vp09_of_config, vpcc,
 };
 use mp4_fixtures::helpers::{
-    Kind, Mismatch, expect_kind, expect_round_trip, expect_unwritable, expect_unwritable_of_size,
-    expect_value, expect_written, invalid_text, read,
+    Kind, expect_kind, expect_round_trip, expect_unwritable, expect_unwritable_of_size,
+    expect_value, expect_written, read,
 };
+use mp4_fixtures::made;
 use mp4_stream::{
-    Avc1Box, AvcCBox, AvcConfig, Hev1Box, TryClone, Tx3gBox, Vp09Box, VpccBox, WriteBox,
+    Avc1Box, AvcCBox, AvcConfig, Entries, Error, Hev1Box, NalUnit, Tx3gBox, Vp09Box, VpccBox,
+    WriteBox,
 };
+use std::alloc::Global;
 use std::test::Fail;
 
+/// The bytes of an entry with this name in the header of its child.
+fn with_child(alloc: Global, entry: &[u8], name: &[u8]) -> Result<Vec<u8>, Error> {
+    let mut bytes = Vec::from_slice(alloc, entry.get(..90).unwrap_or_default())?;
+    bytes.extend_from_slice(name)?;
+    bytes.extend_from_slice(entry.get(94..).unwrap_or_default())?;
+    Ok(bytes)
+}
+
 #[test]
-fn child_of_another_name(rt: HostRuntime) -> Result<(), Fail> {
-    let mut video = AVC1;
-    video[90..94].copy_from_slice(b"free");
-    let (other, _) = read::<Avc1Box>(rt.alloc(), &video, 122);
-    assert_eq!(rt; invalid_text(&other), Some("avcc not found"));
+fn child_of_avc1_of_another_name(rt: HostRuntime) -> Result<(), Fail> {
+    let bytes = with_child(rt.alloc(), &AVC1, b"free")?;
+    let text = invalid_text_of::<Avc1Box>(rt.alloc(), &bytes, 122);
+    assert_eq!(rt; text, Some("avcc not found"));
     // The name is checked before the content.
-    expect_kind::<Avc1Box>(rt.alloc(), &video[..94], 122, Kind::Invalid)?;
-    let mut high = HEV1;
-    high[90..94].copy_from_slice(b"avcC");
-    let (other, _) = read::<Hev1Box>(rt.alloc(), &high, 95);
-    assert_eq!(rt; invalid_text(&other), Some("hvcc not found"));
-    // The child of a vp09 is read whatever its name.
-    let mut bytes = VP09;
-    bytes[90..94].copy_from_slice(b"free");
+    let cut = bytes.get(..94).unwrap_or_default();
+    expect_kind::<Avc1Box>(rt.alloc(), cut, 122, Kind::Invalid)?;
+    Ok(())
+}
+
+#[test]
+fn child_of_hev1_of_another_name(rt: HostRuntime) -> Result<(), Fail> {
+    let bytes = with_child(rt.alloc(), &HEV1, b"avcC")?;
+    let text = invalid_text_of::<Hev1Box>(rt.alloc(), &bytes, 95);
+    assert_eq!(rt; text, Some("hvcc not found"));
+    Ok(())
+}
+
+/// The child of a vp09 is read whatever its name.
+#[test]
+fn child_of_vp09_of_another_name(rt: HostRuntime) -> Result<(), Fail> {
+    let bytes = with_child(rt.alloc(), &VP09, b"free")?;
     expect_value(rt.alloc(), &vp09(), &bytes, 106)?;
     Ok(())
 }
@@ -63,68 +83,114 @@ fn counts_of_sets_with_nothing_after_them(rt: HostRuntime) -> Result<(), Fail> {
     Ok(())
 }
 
+/// A decoder configuration of zeros and these sets.
+fn avcc_of_sets(sequence: Entries<NalUnit>, picture: Entries<NalUnit>) -> AvcCBox {
+    AvcCBox {
+        configuration_version: 0,
+        avc_profile_indication: 0,
+        profile_compatibility: 0,
+        avc_level_indication: 0,
+        length_size_minus_one: 0,
+        sequence_parameter_sets: sequence,
+        picture_parameter_sets: picture,
+    }
+}
+
+/// A decoder configuration of as many empty sets.
+fn avcc_of_empty(alloc: Global, sequence: usize, picture: usize) -> Result<AvcCBox, Error> {
+    let sequence = empty_sets(alloc, sequence)?;
+    let picture = empty_sets(alloc, picture)?;
+    Ok(avcc_of_sets(sequence, picture))
+}
+
 #[test]
 fn sets_without_bytes(rt: HostRuntime) -> Result<(), Fail> {
-    let mut value = AvcCBox::default_in(rt.alloc());
-    value.sequence_parameter_sets = empty_sets(rt.alloc(), 31)?;
-    expect_written(rt.alloc(), &value, 77)?;
-    value.sequence_parameter_sets = empty_sets(rt.alloc(), 32)?;
-    expect_unwritable_of_size(rt.alloc(), &value, 79)?;
-    value.sequence_parameter_sets = empty_sets(rt.alloc(), 0)?;
-    value.picture_parameter_sets = empty_sets(rt.alloc(), 255)?;
-    expect_written(rt.alloc(), &value, 525)?;
-    value.picture_parameter_sets = empty_sets(rt.alloc(), 256)?;
-    expect_unwritable_of_size(rt.alloc(), &value, 527)?;
+    for (sequence, picture, size) in [(31, 0, 77), (0, 255, 525)] {
+        let value = avcc_of_empty(rt.alloc(), sequence, picture)?;
+        expect_written(rt.alloc(), &value, size)?;
+    }
+    for (sequence, picture, size) in [(32, 0, 79), (0, 256, 527)] {
+        let value = avcc_of_empty(rt.alloc(), sequence, picture)?;
+        expect_unwritable_of_size(rt.alloc(), &value, size)?;
+    }
     Ok(())
+}
+
+/// A decoder configuration of one picture set of as many zeros.
+fn avcc_of_zeros(alloc: Global, count: usize) -> Result<AvcCBox, Error> {
+    let mut zeros = Vec::new(alloc);
+    zeros.resize(count, 0)?;
+    let picture = list_of_sets(alloc, &[zeros.as_slice()])?;
+    Ok(avcc_of_sets(Entries::new(alloc), picture))
 }
 
 #[test]
 fn set_of_65536_bytes(rt: HostRuntime) -> Result<(), Fail> {
-    let mut zeros = Vec::new(rt.alloc());
-    zeros.resize(65535, 0)?;
-    let mut value = AvcCBox::default_in(rt.alloc());
-    value.picture_parameter_sets = list_of_sets(rt.alloc(), &[zeros.as_slice()])?;
-    expect_written(rt.alloc(), &value, 65552)?;
-    zeros.push(0)?;
-    value.picture_parameter_sets = list_of_sets(rt.alloc(), &[zeros.as_slice()])?;
-    expect_unwritable_of_size(rt.alloc(), &value, 65553)?;
+    let alloc = rt.alloc();
+    made::written(alloc, avcc_of_zeros(alloc, 65535), 65552).and(made::unwritable_of_size(
+        alloc,
+        avcc_of_zeros(alloc, 65536),
+        65553,
+    ))?;
     Ok(())
+}
+
+/// What the configuration of two sets with this size of lengths is written in.
+fn written_of_two(alloc: Global, length_size_minus_one: u8) -> Result<Vec<u8>, Error> {
+    let mut out = Vec::new(alloc);
+    avcc_of_two(alloc, length_size_minus_one)?.write_box(&mut out)?;
+    Ok(out)
 }
 
 #[test]
 fn normal_form_of_the_size_of_lengths(rt: HostRuntime) -> Result<(), Fail> {
-    let kept = avcc_of_two(rt.alloc(), 3)?;
-    let made = avcc_of_two(rt.alloc(), 0xff)?;
-    let (mut short, mut long) = (Vec::new(rt.alloc()), Vec::new(rt.alloc()));
-    kept.write_box(&mut short)?;
-    made.write_box(&mut long)?;
-    assert!(rt; short.as_slice() == long.as_slice());
-    expect_value(rt.alloc(), &kept, &long, 49)?;
+    let long = written_of_two(rt.alloc(), 0xff)?;
+    assert!(rt; written_of_two(rt.alloc(), 3)?.as_slice() == long.as_slice());
+    made::value(rt.alloc(), avcc_of_two(rt.alloc(), 3), &long, 49)?;
     Ok(())
 }
+
+const TWO_SETS: [u8; 24] =
+    *b"\0\0\0\x18avcC\x01\x64\0\x0d\xff\xe1\0\x04\x67\x64\0\x0d\x01\0\x01\x68";
 
 #[test]
 fn configuration_of_two_sets(rt: HostRuntime) -> Result<(), Fail> {
     let made = AvcCBox::new(rt.alloc(), &[0x67, 0x64, 0x00, 0x0d], &[0x68])?;
     let mut out = Vec::new(rt.alloc());
     made.write_box(&mut out)?;
-    let bytes = *b"\0\0\0\x18avcC\x01\x64\0\x0d\xff\xe1\0\x04\x67\x64\0\x0d\x01\0\x01\x68";
-    assert!(rt; out.as_slice() == bytes.as_slice());
-    let (found, _) = read::<AvcCBox>(rt.alloc(), &bytes, 24);
+    assert!(rt; out.as_slice() == TWO_SETS.as_slice());
+    Ok(())
+}
+
+#[test]
+fn lengths_of_four_bytes_are_read(rt: HostRuntime) -> Result<(), Fail> {
+    let (found, _) = read::<AvcCBox>(rt.alloc(), &TWO_SETS, 24);
     assert_eq!(rt; found?.length_size_minus_one, 3);
-    expect_written(
-        rt.alloc(),
-        &avc1_of(rt.alloc(), avcc_of_two(rt.alloc(), 3)?),
-        135,
-    )?;
+    Ok(())
+}
+
+#[test]
+fn entry_of_two_sets(rt: HostRuntime) -> Result<(), Fail> {
+    let entry = avc1_of(rt.alloc(), avcc_of_two(rt.alloc(), 3)?);
+    expect_written(rt.alloc(), &entry, 135)?;
+    Ok(())
+}
+
+/// The entry that is made of the configuration of two sets.
+fn made_entry(alloc: Global) -> Result<Avc1Box, Error> {
     let config = AvcConfig {
         width: 320,
         height: 240,
-        seq_param_set: Vec::from_slice(rt.alloc(), &SEQUENCE)?.into(),
-        pic_param_set: Vec::from_slice(rt.alloc(), &PICTURE)?.into(),
+        seq_param_set: Vec::from_slice(alloc, &SEQUENCE)?.into(),
+        pic_param_set: Vec::from_slice(alloc, &PICTURE)?.into(),
     };
+    Avc1Box::new(alloc, &config)
+}
+
+#[test]
+fn entry_of_a_configuration(rt: HostRuntime) -> Result<(), Fail> {
     let expected = avc1_of(rt.alloc(), avcc_of_two(rt.alloc(), 0xff)?);
-    assert!(rt; Avc1Box::new(rt.alloc(), &config)? == expected);
+    assert!(rt; made_entry(rt.alloc())? == expected);
     Ok(())
 }
 
@@ -137,9 +203,11 @@ fn unwritable_entries(rt: HostRuntime) -> Result<(), Fail> {
             flags,
             ..VpccBox::default()
         };
-        let mut entry = vp09_of_config();
-        entry.vpcc = child.clone()?;
         expect_unwritable(rt.alloc(), &child)?;
+        let entry = Vp09Box {
+            vpcc: child,
+            ..vp09_of_config()
+        };
         expect_unwritable(rt.alloc(), &entry)?;
     }
     let mut entry = vp09_of_config();
@@ -148,35 +216,27 @@ fn unwritable_entries(rt: HostRuntime) -> Result<(), Fail> {
     Ok(())
 }
 
-/// Expects that a clone is equal.
-fn expect_clone<B: TryClone + PartialEq + Drop>(value: &B) -> Result<(), Mismatch> {
-    if value.try_clone()? == *value {
-        Ok(())
-    } else {
-        Err(Mismatch::OtherBytes)
-    }
-}
-
 #[test]
 fn clones_of_entries(rt: HostRuntime) -> Result<(), Fail> {
-    expect_clone(&avcc(rt.alloc())?)?;
-    expect_clone(&avc1(rt.alloc())?)?;
-    expect_clone(&hev1())?;
-    expect_clone(&vpcc())?;
-    expect_clone(&vp09())?;
-    expect_clone(&tx3g())?;
+    made::cloned(avcc(rt.alloc()))
+        .and(made::cloned(avc1(rt.alloc())))
+        .and(made::cloned(Ok(hev1())))
+        .and(made::cloned(Ok(vpcc())))
+        .and(made::cloned(Ok(vp09())))
+        .and(made::cloned(Ok(tx3g())))?;
     Ok(())
 }
 
 #[test]
 fn default_entries(rt: HostRuntime) -> Result<(), Fail> {
-    expect_written(rt.alloc(), &Avc1Box::default_in(rt.alloc()), 101)?;
-    expect_written(rt.alloc(), &Hev1Box::default(), 95)?;
-    expect_written(rt.alloc(), &Vp09Box::default(), 106)?;
-    expect_round_trip(
-        rt.alloc(),
-        &Tx3gBox::default(),
-        b"\0\0\0\x2etx3g\0\0\0\0\0\0\0\0\0\0\0\0\x01\xff\0\0\0\xff\0\0\0\0\0\0\0\0\0\0\0\0\0\x01\0\x10\xff\xff\xff\xff",
-    )?;
+    let alloc = rt.alloc();
+    made::written(alloc, Ok(Avc1Box::default_in(alloc)), 101)
+        .and(expect_written(alloc, &Hev1Box::default(), 95))
+        .and(expect_written(alloc, &Vp09Box::default(), 106))
+        .and(expect_round_trip(
+            alloc,
+            &Tx3gBox::default(),
+            b"\0\0\0\x2etx3g\0\0\0\0\0\0\0\0\0\0\0\0\x01\xff\0\0\0\xff\0\0\0\0\0\0\0\0\0\0\0\0\0\x01\0\x10\xff\xff\xff\xff",
+        ))?;
     Ok(())
 }

@@ -1,9 +1,10 @@
 //! Sample entries that are cut, and that are read by other sizes and other forms of headers than their own.
 
+use crate::tests::invalid_text_of;
 use mp4_fixtures::boxes::entries::{
     AVC1, AVCC, HEV1, HVCC, TX3G, VP09, VPCC, avc1, avcc, hev1, hvcc, tx3g, vp09, vpcc,
 };
-use mp4_fixtures::helpers::{Kind, Mismatch, expect_kind, expect_value, invalid_text, read};
+use mp4_fixtures::helpers::{Kind, Mismatch, expect_kind, expect_value};
 use mp4_stream::{
     Avc1Box, AvcCBox, BoxHeader, BoxLaws, ByteCursor, Error, Hev1Box, HvcCBox, ReadBox, Tx3gBox,
     Vp09Box, VpccBox,
@@ -38,13 +39,14 @@ fn expect_end_at_every_cut<B: ReadBox + Drop>(alloc: Global, bytes: &[u8]) -> Re
 
 #[test]
 fn cut_entries(rt: HostRuntime) -> Result<(), Fail> {
-    expect_end_at_every_cut::<AvcCBox>(rt.alloc(), &AVCC)?;
-    expect_end_at_every_cut::<Avc1Box>(rt.alloc(), &AVC1)?;
-    expect_end_at_every_cut::<HvcCBox>(rt.alloc(), &HVCC)?;
-    expect_end_at_every_cut::<Hev1Box>(rt.alloc(), &HEV1)?;
-    expect_end_at_every_cut::<VpccBox>(rt.alloc(), &VPCC)?;
-    expect_end_at_every_cut::<Vp09Box>(rt.alloc(), &VP09)?;
-    expect_end_at_every_cut::<Tx3gBox>(rt.alloc(), &TX3G)?;
+    let alloc = rt.alloc();
+    expect_end_at_every_cut::<AvcCBox>(alloc, &AVCC)
+        .and(expect_end_at_every_cut::<Avc1Box>(alloc, &AVC1))
+        .and(expect_end_at_every_cut::<HvcCBox>(alloc, &HVCC))
+        .and(expect_end_at_every_cut::<Hev1Box>(alloc, &HEV1))
+        .and(expect_end_at_every_cut::<VpccBox>(alloc, &VPCC))
+        .and(expect_end_at_every_cut::<Vp09Box>(alloc, &VP09))
+        .and(expect_end_at_every_cut::<Tx3gBox>(alloc, &TX3G))?;
     Ok(())
 }
 
@@ -150,21 +152,21 @@ fn expect_value_from<B: BoxLaws + PartialEq + Drop>(
 
 #[test]
 fn configurations_and_texts_have_any_size(rt: HostRuntime) -> Result<(), Fail> {
-    expect_value_from(rt.alloc(), &avcc(rt.alloc())?, &AVCC, 0)?;
-    expect_value_from(rt.alloc(), &hvcc(), &HVCC, 0)?;
-    expect_value_from(rt.alloc(), &vpcc(), &VPCC, 0)?;
-    expect_value_from(rt.alloc(), &tx3g(), &TX3G, 0)?;
+    let alloc = rt.alloc();
+    expect_value_from(alloc, &avcc(alloc)?, &AVCC, 0)?;
+    expect_value_from(alloc, &hvcc(), &HVCC, 0)
+        .and(expect_value_from(alloc, &vpcc(), &VPCC, 0))
+        .and(expect_value_from(alloc, &tx3g(), &TX3G, 0))?;
     Ok(())
 }
 
 #[test]
 fn child_larger_than_its_entry(rt: HostRuntime) -> Result<(), Fail> {
-    expect_value_from(rt.alloc(), &avc1(rt.alloc())?, &AVC1, 36)?;
-    expect_value_from(rt.alloc(), &hev1(), &HEV1, 9)?;
-    expect_value_from(rt.alloc(), &vp09(), &VP09, 20)?;
-    let (large, _) = read::<Avc1Box>(rt.alloc(), &AVC1, 35);
+    let alloc = rt.alloc();
+    expect_value_from(alloc, &avc1(alloc)?, &AVC1, 36)?;
+    expect_value_from(alloc, &hev1(), &HEV1, 9).and(expect_value_from(alloc, &vp09(), &VP09, 20))?;
     let text = "avc1 box contains a box with a larger size than it";
-    assert_eq!(rt; invalid_text(&large), Some(text));
+    assert_eq!(rt; invalid_text_of::<Avc1Box>(alloc, &AVC1, 35), Some(text));
     Ok(())
 }
 
@@ -206,9 +208,13 @@ fn expect_child_by_its_size<B: BoxLaws + PartialEq + Drop>(
 
 #[test]
 fn child_by_its_size(rt: HostRuntime) -> Result<(), Fail> {
-    expect_child_by_its_size(rt.alloc(), &avc1(rt.alloc())?, &AVC1)?;
-    expect_child_by_its_size(rt.alloc(), &hev1(), &HEV1)?;
-    expect_child_by_its_size(rt.alloc(), &vp09(), &VP09)?;
+    let alloc = rt.alloc();
+    expect_child_by_its_size(alloc, &avc1(alloc)?, &AVC1)?;
+    expect_child_by_its_size(alloc, &hev1(), &HEV1).and(expect_child_by_its_size(
+        alloc,
+        &vp09(),
+        &VP09,
+    ))?;
     Ok(())
 }
 

@@ -1,16 +1,18 @@
 //! Sample entries of audio and their descriptors: lengths in every form and lengths that lie, audio configurations, cuts,
 //! sizes and children.
 
+use crate::tests::invalid_text_of;
 use mp4_fixtures::boxes::sound::{
     ESDS, MP4A, MP4A_WITHOUT_ESDS, esds, esds_of, mp4a, mp4a_of, mp4a_of_test, specific,
 };
 use mp4_fixtures::helpers::{
     Kind, Mismatch, expect_kind, expect_round_trip, expect_unwritable, expect_unwritable_of_size,
-    expect_value, expect_written, invalid_text, kind_of, read,
+    expect_value, expect_written, kind_of, read,
 };
+use mp4_fixtures::made;
 use mp4_stream::{
     AacConfig, AnyBox, AudioObjectType, BoxType, ByteCursor, ChannelConfig, Error, EsdsBox, Mp4Box,
-    Mp4aBox, SampleFreqIndex, TryClone, WriteBox, read_boxes,
+    Mp4aBox, SampleFreqIndex, WriteBox, read_boxes,
 };
 use std::alloc::Global;
 use std::test::Fail;
@@ -24,37 +26,43 @@ fn stereo() -> EsdsBox {
 const STEREO: [u8; 39] = *b"\0\0\0\x27esds\0\0\0\0\x03\x19\0\x01\0\x04\x11\x40\x15\0\0\0\
 \0\x01\xf4\0\0\x01\xf4\0\x05\x02\x11\x90\x06\0\0";
 
+/// The numbers of stream, object type and profile. Zeros if there are none.
+fn told(result: &Result<EsdsBox, Error>) -> (u16, u8, u8) {
+    match result {
+        Ok(esds) => (
+            esds.es_desc.es_id,
+            esds.es_desc.dec_config.object_type_indication,
+            esds.es_desc.dec_config.dec_specific.profile,
+        ),
+        Err(_) => (0, 0, 0),
+    }
+}
+
+/// Whether both results are the same box, or both are an error of the same kind.
+fn are_same(found: &Result<EsdsBox, Error>, expected: &Result<EsdsBox, Error>) -> bool {
+    match (found, expected) {
+        (Ok(found), Ok(expected)) => found == expected,
+        _ => kind_of(found) == kind_of(expected),
+    }
+}
+
 /// Reads an `esds` of this size by both calls, and expects the same from them. Returns the kind of the result, the number
 /// of headers, and what tells several descriptors apart: the numbers of stream, object type and profile.
 fn count(alloc: Global, bytes: &[u8], size: u64) -> Result<(Kind, u64, (u16, u8, u8)), Mismatch> {
     let mut reader = ByteCursor::new(bytes);
     reader.set_position(8);
     let (counted, headers) = EsdsBox::read_counted(&mut reader, size);
-    let kind = kind_of(&counted);
-    expect_kind::<EsdsBox>(alloc, bytes, size, kind)?;
     let (plain, position) = read::<EsdsBox>(alloc, bytes, size);
-    if reader.position() != position {
-        return Err(Mismatch::Position {
-            found: reader.position(),
-            expected: position,
-        });
-    }
-    let (Ok(found), Ok(expected)) = (counted, plain) else {
-        return Ok((kind, headers, (0, 0, 0)));
-    };
-    if found != expected {
+    let kind = kind_of(&counted);
+    let found = (kind, headers, told(&counted));
+    if reader.position() != position || !are_same(&counted, &plain) {
         return Err(Mismatch::OtherBox {
             length: bytes.len(),
             size,
         });
     }
-    let config = &found.es_desc.dec_config;
-    let told = (
-        found.es_desc.es_id,
-        config.object_type_indication,
-        config.dec_specific.profile,
-    );
-    Ok((kind, headers, told))
+    expect_kind::<EsdsBox>(alloc, bytes, size, kind)?;
+    Ok(found)
 }
 
 /// An `esds` of these descriptors.
@@ -73,12 +81,17 @@ fn descriptors_of_encoders(rt: HostRuntime) -> Result<(), Fail> {
     let tail =
         b"\0\0\0\x36esds\0\0\0\0\x03\x80\x80\x80\x25\0\x01\0\x04\x80\x80\x80\x17\x40\x15\0\0\0\
 \0\x01\xf4\0\0\x01\xf4\0\x05\x80\x80\x80\x05\x11\x90\x56\xe5\0\x06\x80\x80\x80\x01\x02";
+    let expected = (Kind::Ok, 4, (1, 0x40, 2));
     for bytes in [long.as_slice(), tail.as_slice(), STEREO.as_slice()] {
         let size = bytes.len() as u64;
-        let expected = (Kind::Ok, 4, (1, 0x40, 2));
         assert_eq!(rt; count(rt.alloc(), bytes, size)?, expected, "{size}");
         expect_value(rt.alloc(), &stereo(), bytes, size)?;
     }
+    Ok(())
+}
+
+#[test]
+fn descriptors_are_written_with_short_lengths(rt: HostRuntime) -> Result<(), Fail> {
     expect_round_trip(rt.alloc(), &stereo(), &STEREO)?;
     Ok(())
 }
@@ -95,41 +108,52 @@ fn hundred_descriptors(rt: HostRuntime) -> Result<(), Fail> {
     Ok(())
 }
 
+/// Reads an `esds` of these descriptors, which are given in two parts, by both calls.
+fn count_after(
+    alloc: Global,
+    first: &[u8],
+    last: &[u8],
+    size: u64,
+) -> Result<(Kind, u64, (u16, u8, u8)), Mismatch> {
+    let mut bytes = esds_bytes(alloc, first)?;
+    bytes.extend_from_slice(last)?;
+    count(alloc, &bytes, size)
+}
+
 #[test]
 fn lengths_in_every_form(rt: HostRuntime) -> Result<(), Fail> {
-    let forms: [(&[u8], u64); 6] = [
-        (b"\x03\x19", 39),
-        (b"\x03\x80\x19", 40),
-        (b"\x03\x80\x80\x19", 41),
-        (b"\x03\x80\x80\x80\x19", 42),
+    let all = (Kind::Ok, 4, (1, 0x40, 2));
+    let forms: [(&[u8], u64, (Kind, u64, (u16, u8, u8))); 6] = [
+        (b"\x03\x19", 39, all),
+        (b"\x03\x80\x19", 40, all),
+        (b"\x03\x80\x80\x19", 41, all),
+        (b"\x03\x80\x80\x80\x19", 42, all),
         // The high bit of the fourth byte is ignored.
-        (b"\x03\x80\x80\x80\x99", 42),
+        (b"\x03\x80\x80\x80\x99", 42, all),
         // A length of 2^28 - 1 goes past the end, where a header is missing.
-        (b"\x03\xff\xff\xff\xff", 42),
+        (b"\x03\xff\xff\xff\xff", 42, (Kind::End, 4, (0, 0, 0))),
     ];
-    for (header, size) in forms {
-        let mut bytes = esds_bytes(rt.alloc(), header)?;
-        bytes.extend_from_slice(&STEREO[14..])?;
-        let expected = if header == [3, 0xff, 0xff, 0xff, 0xff].as_slice() {
-            (Kind::End, 4, (0, 0, 0))
-        } else {
-            (Kind::Ok, 4, (1, 0x40, 2))
-        };
-        assert_eq!(rt; count(rt.alloc(), &bytes, size)?, expected, "{header:?}");
+    for (header, size, expected) in forms {
+        let found = count_after(rt.alloc(), header, &STEREO[14..], size)?;
+        assert_eq!(rt; found, expected, "{header:?}");
     }
-    // A gap of 300 bytes, and one of 16384, in an elementary stream descriptor that ends where the gap begins.
+    Ok(())
+}
+
+/// A gap of 300 bytes, and one of 16384, in an elementary stream descriptor that ends where the gap begins.
+#[test]
+fn lengths_of_gaps_in_every_form(rt: HostRuntime) -> Result<(), Fail> {
     for (header, end) in [
         (b"\x07\x82\x2c\0\0".as_slice(), 320),
         (b"\x07\x81\x80\0\0".as_slice(), 16405),
         (b"\x07\x80\x81\x80\0".as_slice(), 16406),
         (b"\x07\x81\x80\x80\0".as_slice(), 2097174),
     ] {
-        let mut bytes = esds_bytes(rt.alloc(), b"\x03\x04\0\x01\0")?;
-        bytes.extend_from_slice(header)?;
-        let told = (Kind::Ok, 2, (1, 0, 0));
-        assert_eq!(rt; count(rt.alloc(), &bytes, end)?, told, "{end}");
-        let past = (Kind::End, 2, (0, 0, 0));
-        assert_eq!(rt; count(rt.alloc(), &bytes, end + 1)?, past, "{end}");
+        let stream = b"\x03\x04\0\x01\0".as_slice();
+        let found = count_after(rt.alloc(), stream, header, end)?;
+        assert_eq!(rt; found, (Kind::Ok, 2, (1, 0, 0)), "{end}");
+        let past = count_after(rt.alloc(), stream, header, end + 1)?;
+        assert_eq!(rt; past, (Kind::End, 2, (0, 0, 0)), "{end}");
     }
     Ok(())
 }
@@ -221,8 +245,13 @@ fn headers_before_a_fault_are_counted(rt: HostRuntime) -> Result<(), Fail> {
         count(rt.alloc(), &none[..13], 14)?,
         (Kind::End, 0, (0, 0, 0))
     );
-    let (missing, _) = read::<EsdsBox>(rt.alloc(), none, 14);
-    assert_eq!(rt; invalid_text(&missing), Some("ESDescriptor not found"));
+    let text = invalid_text_of::<EsdsBox>(rt.alloc(), none, 14);
+    assert_eq!(rt; text, Some("ESDescriptor not found"));
+    Ok(())
+}
+
+#[test]
+fn headers_of_wrong_sizes_are_counted(rt: HostRuntime) -> Result<(), Fail> {
     for (size, kind, headers) in [
         (0, Kind::Invalid, 0),
         (7, Kind::Invalid, 0),
@@ -237,6 +266,11 @@ fn headers_before_a_fault_are_counted(rt: HostRuntime) -> Result<(), Fail> {
         let (found, count, _) = count(rt.alloc(), &ESDS, size)?;
         assert_eq!(rt; (found, count), (kind, headers), "{size}");
     }
+    Ok(())
+}
+
+#[test]
+fn headers_past_64_bits_are_counted(rt: HostRuntime) {
     let mut reader = ByteCursor::new(&ESDS);
     reader.set_position(9);
     let (result, headers) = EsdsBox::read_counted(&mut reader, u64::MAX);
@@ -244,7 +278,6 @@ fn headers_before_a_fault_are_counted(rt: HostRuntime) -> Result<(), Fail> {
         (kind_of(&result), headers, reader.position()),
         (Kind::Invalid, 0, 9)
     );
-    Ok(())
 }
 
 #[test]
@@ -261,6 +294,11 @@ fn cut_descriptors(rt: HostRuntime) -> Result<(), Fail> {
         let (kind, found, _) = count(rt.alloc(), &ESDS[..length], 43)?;
         assert_eq!(rt; (kind, found), (Kind::End, headers), "{length}");
     }
+    Ok(())
+}
+
+#[test]
+fn cut_mp4a(rt: HostRuntime) -> Result<(), Fail> {
     for length in 0..MP4A.len() {
         expect_kind::<Mp4aBox>(rt.alloc(), &MP4A[..length], 79, Kind::End)?;
     }
@@ -336,12 +374,25 @@ fn other_bits_of_an_audio_configuration(rt: HostRuntime) -> Result<(), Fail> {
     ] {
         let bytes = configured(rt.alloc(), lengths, bytes)?;
         let written = configured(rt.alloc(), lengths, written)?;
+        let (found, _) = read::<EsdsBox>(rt.alloc(), &bytes, bytes.len() as u64);
+        made::round_trip(rt.alloc(), found, &written)?;
+    }
+    Ok(())
+}
+
+/// All bytes of the configuration are expected, whatever follows.
+#[test]
+fn cut_audio_configurations(rt: HostRuntime) -> Result<(), Fail> {
+    for (lengths, written) in [
+        (LENGTHS[0], b"\x11\x90".as_slice()),
+        (LENGTHS[1], b"\xf8\x40\x40"),
+        (LENGTHS[2], b"\x17\x80\x61\xa8\x10"),
+        (LENGTHS[3], b"\xf9\x5e\x01\x86\xa0\xc0"),
+    ] {
+        let bytes = configured(rt.alloc(), lengths, written)?;
         let size = bytes.len() as u64;
-        let (found, _) = read::<EsdsBox>(rt.alloc(), &bytes, size);
-        expect_round_trip(rt.alloc(), &found?, &written)?;
-        // All bytes of the configuration are expected, whatever follows.
-        for length in 34..written.len().saturating_sub(3) {
-            let cut = written.get(..length).unwrap_or_default();
+        for length in 34..bytes.len().saturating_sub(3) {
+            let cut = bytes.get(..length).unwrap_or_default();
             expect_kind::<EsdsBox>(rt.alloc(), cut, size, Kind::End)?;
         }
     }
@@ -436,11 +487,22 @@ fn sizes_of_mp4a(rt: HostRuntime) -> Result<(), Fail> {
     ] {
         assert_eq!(rt; read_mp4a(rt.alloc(), child, size)?, expected, "{size}");
     }
-    expect_value(rt.alloc(), &mp4a(), &MP4A, 79)?;
-    expect_value(rt.alloc(), &mp4a(), &MP4A, u64::MAX)?;
-    let (large, _) = read::<Mp4aBox>(rt.alloc(), &MP4A, 42);
+    Ok(())
+}
+
+#[test]
+fn child_larger_than_its_mp4a(rt: HostRuntime) -> Result<(), Fail> {
+    expect_value(rt.alloc(), &mp4a(), &MP4A, 79).and(expect_value(
+        rt.alloc(),
+        &mp4a(),
+        &MP4A,
+        u64::MAX,
+    ))?;
     let text = "mp4a box contains a box with a larger size than it";
-    assert_eq!(rt; invalid_text(&large), Some(text));
+    assert_eq!(rt;
+        invalid_text_of::<Mp4aBox>(rt.alloc(), &MP4A, 42),
+        Some(text)
+    );
     Ok(())
 }
 
@@ -510,26 +572,33 @@ fn child_of_mp4a_of_another_name(rt: HostRuntime) -> Result<(), Fail> {
     Ok(())
 }
 
+/// An `mp4a` without descriptors, of 20 bytes by its size. In a list the next box begins at 20. It has 17 bytes.
+const SHORT_MP4A: [u8; 37] =
+    *b"\0\0\0\x14mp4a\0\0\0\0\0\0\0\x01\0\0\0\0\0\0\0\x11\0\x02\0\x10\0\0\0\0\xbb\x80\0\0\0";
+
 #[test]
 fn mp4a_that_ends_after_its_size(rt: HostRuntime) -> Result<(), Fail> {
-    let mut bytes = Vec::from_slice(rt.alloc(), &MP4A_WITHOUT_ESDS)?;
-    bytes[3] = 20;
-    bytes[23] = 17;
-    let (found, position) = read::<Mp4aBox>(rt.alloc(), &bytes, 20);
+    let (found, position) = read::<Mp4aBox>(rt.alloc(), &SHORT_MP4A[..36], 20);
     assert_eq!(rt; position, 36);
-    let expected = mp4a_of(None);
-    assert!(rt; matches!(&found, Ok(entry) if *entry == expected));
-    // In a list the next box begins at 20. It has 17 bytes.
-    let mut reader = ByteCursor::new(&bytes);
-    let outcome = read_boxes(rt.alloc(), &mut reader);
-    assert_eq!(rt; (kind_of(&outcome), reader.position()), (Kind::End, 0));
-    bytes.push(0)?;
-    let mut reader = ByteCursor::new(&bytes);
-    let boxes = read_boxes(rt.alloc(), &mut reader)?;
-    assert_eq!(rt; reader.position(), 37);
-    let expected = [AnyBox::Mp4aBox(expected)];
-    assert!(rt; boxes.as_slice() == expected.as_slice());
+    made::same(found, mp4a_of(None))?;
     Ok(())
+}
+
+/// Reads the boxes of a buffer. Returns the kind of the outcome, whether it is the `mp4a` alone, and the position of the
+/// cursor.
+fn read_list(alloc: Global, bytes: &[u8]) -> (Kind, bool, u64) {
+    let mut reader = ByteCursor::new(bytes);
+    let outcome = read_boxes(alloc, &mut reader);
+    let expected = [AnyBox::Mp4aBox(mp4a_of(None))];
+    let is_alone = matches!(&outcome, Ok(boxes) if boxes.as_slice() == expected.as_slice());
+    (kind_of(&outcome), is_alone, reader.position())
+}
+
+#[test]
+fn list_of_an_mp4a_that_ends_after_its_size(rt: HostRuntime) {
+    let short = read_list(rt.alloc(), &SHORT_MP4A[..36]);
+    assert_eq!(rt; short, (Kind::End, false, 0));
+    assert_eq!(rt; read_list(rt.alloc(), &SHORT_MP4A), (Kind::Ok, true, 37));
 }
 
 #[test]
@@ -561,12 +630,9 @@ fn descriptors_of_configurations(rt: HostRuntime) -> Result<(), Fail> {
 
 #[test]
 fn clones_of_sound(rt: HostRuntime) -> Result<(), Fail> {
-    let esds = esds();
-    let clone = esds.try_clone()?;
-    assert!(rt; clone == esds);
-    for entry in [mp4a(), mp4a_of_test(), mp4a_of(None)] {
-        let clone = entry.try_clone();
-        assert!(rt; matches!(&clone, Ok(clone) if *clone == entry));
-    }
+    made::cloned(Ok(esds()))
+        .and(made::cloned(Ok(mp4a())))
+        .and(made::cloned(Ok(mp4a_of_test())))
+        .and(made::cloned(Ok(mp4a_of(None))))?;
     Ok(())
 }

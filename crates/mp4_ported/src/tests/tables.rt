@@ -5,66 +5,67 @@ use mp4_fixtures::boxes::tables::{
     stss_of_nine, stsz_of_nine, stsz_of_one_size, stts, tfhd, tfhd_bare, trun_of_four_lists,
 };
 use mp4_fixtures::helpers::{expect_round_trip, expect_written};
+use mp4_fixtures::made;
 use mp4_stream::TrunBox;
 use std::test::Fail;
 
 #[test]
 fn stco_of_offsets(rt: HostRuntime) -> Result<(), Fail> {
-    expect_round_trip(rt.alloc(), &stco(rt.alloc())?, &STCO)?;
+    made::round_trip(rt.alloc(), stco(rt.alloc()), &STCO)?;
     Ok(())
 }
 
 #[test]
 fn co64_of_offsets(rt: HostRuntime) -> Result<(), Fail> {
-    expect_written(rt.alloc(), &co64_of_seven(rt.alloc())?, 72)?;
+    made::written(rt.alloc(), co64_of_seven(rt.alloc()), 72)?;
     Ok(())
 }
 
 #[test]
 fn stts_of_runs(rt: HostRuntime) -> Result<(), Fail> {
-    expect_round_trip(rt.alloc(), &stts(rt.alloc())?, &STTS)?;
+    made::round_trip(rt.alloc(), stts(rt.alloc()), &STTS)?;
     Ok(())
 }
 
 #[test]
 fn ctts_of_runs(rt: HostRuntime) -> Result<(), Fail> {
-    expect_round_trip(rt.alloc(), &ctts(rt.alloc())?, &CTTS)?;
+    made::round_trip(rt.alloc(), ctts(rt.alloc()), &CTTS)?;
     Ok(())
 }
 
 #[test]
 fn stss_of_samples(rt: HostRuntime) -> Result<(), Fail> {
-    expect_written(rt.alloc(), &stss_of_nine(rt.alloc())?, 52)?;
+    made::written(rt.alloc(), stss_of_nine(rt.alloc()), 52)?;
     Ok(())
 }
 
 #[test]
 fn stsz_same_size(rt: HostRuntime) -> Result<(), Fail> {
-    expect_written(rt.alloc(), &stsz_of_one_size(rt.alloc(), 1165, 12), 20)?;
+    made::written(rt.alloc(), Ok(stsz_of_one_size(rt.alloc(), 1165, 12)), 20)?;
     Ok(())
 }
 
 #[test]
 fn stsz_many_sizes(rt: HostRuntime) -> Result<(), Fail> {
-    expect_written(rt.alloc(), &stsz_of_nine(rt.alloc())?, 56)?;
+    made::written(rt.alloc(), stsz_of_nine(rt.alloc()), 56)?;
     Ok(())
 }
 
 #[test]
 fn stsc_of_chunks(rt: HostRuntime) -> Result<(), Fail> {
-    expect_round_trip(rt.alloc(), &stsc(rt.alloc())?, &STSC)?;
+    made::round_trip(rt.alloc(), stsc(rt.alloc()), &STSC)?;
     Ok(())
 }
 
 #[test]
 fn elst32(rt: HostRuntime) -> Result<(), Fail> {
-    expect_round_trip(rt.alloc(), &elst(rt.alloc())?, &ELST)?;
+    made::round_trip(rt.alloc(), elst(rt.alloc()), &ELST)?;
     Ok(())
 }
 
 #[test]
 fn elst64(rt: HostRuntime) -> Result<(), Fail> {
-    expect_written(rt.alloc(), &elst_long(rt.alloc())?, 36)?;
+    made::written(rt.alloc(), elst_long(rt.alloc()), 36)?;
     Ok(())
 }
 
@@ -82,12 +83,12 @@ fn tfhd_with_flags(rt: HostRuntime) -> Result<(), Fail> {
 
 #[test]
 fn trun_same_size(rt: HostRuntime) -> Result<(), Fail> {
-    expect_written(rt.alloc(), &TrunBox::default_in(rt.alloc()), 16)?;
+    made::written(rt.alloc(), Ok(TrunBox::default_in(rt.alloc())), 16)?;
     Ok(())
 }
 
 #[test]
 fn trun_many_sizes(rt: HostRuntime) -> Result<(), Fail> {
-    expect_written(rt.alloc(), &trun_of_four_lists(rt.alloc())?, 160)?;
+    made::written(rt.alloc(), trun_of_four_lists(rt.alloc()), 160)?;
     Ok(())
 }

@@ -76,12 +76,18 @@ fn names_have_their_codes(rt: HostRuntime) -> Result<(), Fail> {
     Ok(())
 }
 
+/// The name of four bytes, from their number and from their code.
+fn names_of(bytes: [u8; 4]) -> [BoxType; 2] {
+    [
+        BoxType::from(u32::from_be_bytes(bytes)),
+        BoxType::from(u32::from(&FourCC::from(bytes))),
+    ]
+}
+
 #[test]
 fn codes_have_their_names(rt: HostRuntime) -> Result<(), Fail> {
     for (name, bytes, text) in CODES {
-        assert_eq!(rt; BoxType::from(u32::from_be_bytes(bytes)), name, "{text}");
-        let code = FourCC::from(bytes);
-        assert_eq!(rt; BoxType::from(u32::from(&code)), name, "{text}");
+        assert_eq!(rt; names_of(bytes), [name, name], "{text}");
     }
     Ok(())
 }

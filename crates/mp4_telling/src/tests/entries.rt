@@ -3,6 +3,7 @@
 
 use mp4_fixtures::boxes::entries::{empty_sets, list_of_sets};
 use mp4_fixtures::helpers::{expect_round_trip, expect_value};
+use mp4_fixtures::made;
 use mp4_stream::{
     Avc1Box, AvcCBox, Entries, Error, FixedPointU16, Hev1Box, HvcCBox, NalUnit, RgbaColor, Tx3gBox,
     Vp09Box, VpccBox,
@@ -66,7 +67,7 @@ fn avcc(alloc: Global, length_size_minus_one: u8) -> Result<AvcCBox, Error> {
 
 #[test]
 fn avcc_of_every_field(rt: HostRuntime) -> Result<(), Fail> {
-    expect_round_trip(rt.alloc(), &avcc(rt.alloc(), 2)?, &AVCC)?;
+    made::round_trip(rt.alloc(), avcc(rt.alloc(), 2), &AVCC)?;
     Ok(())
 }
 
@@ -163,7 +164,7 @@ fn avc1(alloc: Global) -> Result<Avc1Box, Error> {
 
 #[test]
 fn avc1_of_every_field(rt: HostRuntime) -> Result<(), Fail> {
-    expect_round_trip(rt.alloc(), &avc1(rt.alloc())?, &AVC1)?;
+    made::round_trip(rt.alloc(), avc1(rt.alloc()), &AVC1)?;
     Ok(())
 }
 
@@ -175,7 +176,7 @@ fn reserved_bytes_of_avc1_are_ignored(rt: HostRuntime) -> Result<(), Fail> {
     bytes[44..48].fill(0xc3);
     bytes[50..82].fill(0xc3);
     bytes[84..86].fill(0xc3);
-    expect_value(rt.alloc(), &avc1(rt.alloc())?, &bytes, 113)?;
+    made::value(rt.alloc(), avc1(rt.alloc()), &bytes, 113)?;
     Ok(())
 }
 

@@ -37,11 +37,16 @@ fn codes_differ_in_every_byte(rt: HostRuntime) -> Result<(), Fail> {
 }
 
 #[test]
-fn boxes_differ_in_strings_and_lists(rt: HostRuntime) -> Result<(), Fail> {
+fn boxes_differ_in_strings(rt: HostRuntime) -> Result<(), Fail> {
     let hdlr = HdlrBox::default_in(rt.alloc());
     let mut other = hdlr.try_clone()?;
     other.name = Text::from_str(rt.alloc(), "a")?;
     assert!(rt; hdlr != other);
+    Ok(())
+}
+
+#[test]
+fn boxes_differ_in_lists(rt: HostRuntime) -> Result<(), Fail> {
     let stco = StcoBox::default_in(rt.alloc());
     let mut other = stco.try_clone()?;
     other.entries = Entries::from(Vec::from_slice(rt.alloc(), &[1])?);

@@ -2,6 +2,7 @@
 //! where that is 0 or 1.
 
 use mp4_fixtures::helpers::{Kind, Mismatch, expect_kind, expect_round_trip, expect_value};
+use mp4_fixtures::made;
 use mp4_stream::{
     Error, FixedPointI8, FixedPointU8, FixedPointU16, Matrix, MdhdBox, MehdBox, MfhdBox, MvhdBox,
     ReadBox, RgbColor, SmhdBox, Text, TfdtBox, TkhdBox, TrexBox, VmhdBox,
@@ -186,22 +187,32 @@ fn mdhd_long(alloc: Global) -> Result<MdhdBox, Error> {
 
 #[test]
 fn mvhd_of_both_versions(rt: HostRuntime) -> Result<(), Fail> {
-    expect_round_trip(rt.alloc(), &mvhd(), &MVHD)?;
-    expect_round_trip(rt.alloc(), &mvhd_long(), &MVHD_LONG)?;
+    expect_round_trip(rt.alloc(), &mvhd(), &MVHD).and(expect_round_trip(
+        rt.alloc(),
+        &mvhd_long(),
+        &MVHD_LONG,
+    ))?;
     Ok(())
 }
 
 #[test]
 fn tkhd_of_both_versions(rt: HostRuntime) -> Result<(), Fail> {
-    expect_round_trip(rt.alloc(), &tkhd(), &TKHD)?;
-    expect_round_trip(rt.alloc(), &tkhd_long(), &TKHD_LONG)?;
+    expect_round_trip(rt.alloc(), &tkhd(), &TKHD).and(expect_round_trip(
+        rt.alloc(),
+        &tkhd_long(),
+        &TKHD_LONG,
+    ))?;
     Ok(())
 }
 
 #[test]
 fn mdhd_of_both_versions(rt: HostRuntime) -> Result<(), Fail> {
-    expect_round_trip(rt.alloc(), &mdhd(rt.alloc())?, &MDHD)?;
-    expect_round_trip(rt.alloc(), &mdhd_long(rt.alloc())?, &MDHD_LONG)?;
+    let alloc = rt.alloc();
+    made::round_trip(alloc, mdhd(alloc), &MDHD).and(made::round_trip(
+        alloc,
+        mdhd_long(alloc),
+        &MDHD_LONG,
+    ))?;
     Ok(())
 }
 
@@ -329,11 +340,11 @@ fn reserved_bytes_of_media_are_ignored(rt: HostRuntime) -> Result<(), Fail> {
     let mut bytes = MDHD;
     bytes[28] = 0xce;
     bytes[30..32].fill(0xff);
-    expect_value(rt.alloc(), &mdhd(rt.alloc())?, &bytes, 32)?;
+    made::value(rt.alloc(), mdhd(rt.alloc()), &bytes, 32)?;
     let mut bytes = MDHD_LONG;
     bytes[40] = 0xce;
     bytes[42..44].fill(0xff);
-    expect_value(rt.alloc(), &mdhd_long(rt.alloc())?, &bytes, 44)?;
+    made::value(rt.alloc(), mdhd_long(rt.alloc()), &bytes, 44)?;
     let mut bytes = SMHD;
     bytes[14..16].fill(0xff);
     expect_value(rt.alloc(), &smhd(), &bytes, 16)?;
@@ -354,10 +365,11 @@ fn expect_no_other_version<B: ReadBox + Drop>(alloc: Global, bytes: &[u8]) -> Re
 
 #[test]
 fn other_versions_of_boxes_with_times_are_invalid(rt: HostRuntime) -> Result<(), Fail> {
-    expect_no_other_version::<MvhdBox>(rt.alloc(), &MVHD_LONG)?;
-    expect_no_other_version::<TkhdBox>(rt.alloc(), &TKHD_LONG)?;
-    expect_no_other_version::<MdhdBox>(rt.alloc(), &MDHD_LONG)?;
-    expect_no_other_version::<MehdBox>(rt.alloc(), &MEHD_LONG)?;
-    expect_no_other_version::<TfdtBox>(rt.alloc(), &TFDT_LONG)?;
+    let alloc = rt.alloc();
+    expect_no_other_version::<MvhdBox>(alloc, &MVHD_LONG)
+        .and(expect_no_other_version::<TkhdBox>(alloc, &TKHD_LONG))
+        .and(expect_no_other_version::<MdhdBox>(alloc, &MDHD_LONG))
+        .and(expect_no_other_version::<MehdBox>(alloc, &MEHD_LONG))
+        .and(expect_no_other_version::<TfdtBox>(alloc, &TFDT_LONG))?;
     Ok(())
 }

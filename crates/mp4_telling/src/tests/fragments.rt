@@ -4,7 +4,7 @@
 
 use mp4_fixtures::boxes::tables::list;
 use mp4_fixtures::helpers::expect_round_trip;
-use mp4_stream::{Entries, TfhdBox, TrunBox};
+use mp4_stream::{Entries, Error, TfhdBox, TrunBox};
 use std::alloc::Global;
 use std::test::Fail;
 
@@ -162,47 +162,68 @@ fn trun_of_first_sample_flags(rt: HostRuntime) -> Result<(), Fail> {
     Ok(())
 }
 
+/// A `trun` of three samples and these flags, with these lists and without optional fields.
+fn trun_of_lists(
+    alloc: Global,
+    flags: u32,
+    [durations, sizes, sample_flags, cts]: [&[u32]; 4],
+) -> Result<TrunBox, Error> {
+    Ok(TrunBox {
+        version: 0x81,
+        flags,
+        sample_count: 3,
+        data_offset: None,
+        first_sample_flags: None,
+        sample_durations: list(alloc, durations)?,
+        sample_sizes: list(alloc, sizes)?,
+        sample_flags: list(alloc, sample_flags)?,
+        sample_cts: list(alloc, cts)?,
+    })
+}
+
+const NONE: &[u32] = &[];
+
+const THREE: &[u32] = &[0x8283_8485, 0x8687_8889, 0x8a8b_8c8d];
+
 #[test]
 fn trun_of_sample_durations(rt: HostRuntime) -> Result<(), Fail> {
-    let mut trun = trun(rt.alloc(), 0xa5_f1fa);
-    trun.sample_durations = list(rt.alloc(), &[0x8283_8485, 0x8687_8889, 0x8a8b_8c8d])?;
+    let trun = trun_of_lists(rt.alloc(), 0xa5_f1fa, [THREE, NONE, NONE, NONE])?;
     expect_round_trip(rt.alloc(), &trun, &TRUN_SAMPLE_DURATIONS)?;
     Ok(())
 }
 
 #[test]
 fn trun_of_sample_sizes(rt: HostRuntime) -> Result<(), Fail> {
-    let mut trun = trun(rt.alloc(), 0xa5_f2fa);
-    trun.sample_sizes = list(rt.alloc(), &[0x8283_8485, 0x8687_8889, 0x8a8b_8c8d])?;
+    let trun = trun_of_lists(rt.alloc(), 0xa5_f2fa, [NONE, THREE, NONE, NONE])?;
     expect_round_trip(rt.alloc(), &trun, &TRUN_SAMPLE_SIZES)?;
     Ok(())
 }
 
 #[test]
 fn trun_of_sample_flags(rt: HostRuntime) -> Result<(), Fail> {
-    let mut trun = trun(rt.alloc(), 0xa5_f4fa);
-    trun.sample_flags = list(rt.alloc(), &[0x8283_8485, 0x8687_8889, 0x8a8b_8c8d])?;
+    let trun = trun_of_lists(rt.alloc(), 0xa5_f4fa, [NONE, NONE, THREE, NONE])?;
     expect_round_trip(rt.alloc(), &trun, &TRUN_SAMPLE_FLAGS)?;
     Ok(())
 }
 
 #[test]
 fn trun_of_sample_cts(rt: HostRuntime) -> Result<(), Fail> {
-    let mut trun = trun(rt.alloc(), 0xa5_f8fa);
-    trun.sample_cts = list(rt.alloc(), &[0x8283_8485, 0x8687_8889, 0x8a8b_8c8d])?;
+    let trun = trun_of_lists(rt.alloc(), 0xa5_f8fa, [NONE, NONE, NONE, THREE])?;
     expect_round_trip(rt.alloc(), &trun, &TRUN_SAMPLE_CTS)?;
     Ok(())
 }
 
 #[test]
 fn trun_of_all_fields_and_lists(rt: HostRuntime) -> Result<(), Fail> {
-    let mut trun = trun(rt.alloc(), 0xa5_ffff);
+    let lists: [&[u32]; 4] = [
+        &[0x8a8b_8c8d, 0x9a9b_9c9d, 0xaaab_acad],
+        &[0x8e8f_9091, 0x9e9f_a0a1, 0xaeaf_b0b1],
+        &[0x9293_9495, 0xa2a3_a4a5, 0xb2b3_b4b5],
+        &[0x9697_9899, 0xa6a7_a8a9, 0xb6b7_b8b9],
+    ];
+    let mut trun = trun_of_lists(rt.alloc(), 0xa5_ffff, lists)?;
     trun.data_offset = Some(0x8283_8485_u32.cast_signed());
     trun.first_sample_flags = Some(0x8687_8889);
-    trun.sample_durations = list(rt.alloc(), &[0x8a8b_8c8d, 0x9a9b_9c9d, 0xaaab_acad])?;
-    trun.sample_sizes = list(rt.alloc(), &[0x8e8f_9091, 0x9e9f_a0a1, 0xaeaf_b0b1])?;
-    trun.sample_flags = list(rt.alloc(), &[0x9293_9495, 0xa2a3_a4a5, 0xb2b3_b4b5])?;
-    trun.sample_cts = list(rt.alloc(), &[0x9697_9899, 0xa6a7_a8a9, 0xb6b7_b8b9])?;
     expect_round_trip(rt.alloc(), &trun, &TRUN_ALL)?;
     Ok(())
 }

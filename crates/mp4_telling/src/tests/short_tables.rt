@@ -4,7 +4,8 @@
 use super::fragments::{TRUN_ALL, TRUN_SAMPLE_SIZES};
 use super::tables::{CO64, CTTS, ELST, ELST_LONG, ELST_OTHER, STCO, STSC, STSS, STSZ, STTS};
 use mp4_fixtures::boxes::tables::{TRUN_THREE, TRUN_TWO};
-use mp4_fixtures::helpers::{Kind, Mismatch, expect_kind, expect_value_at_any_size};
+use mp4_fixtures::helpers::{Kind, Mismatch, expect_kind};
+use mp4_fixtures::made;
 use mp4_stream::{
     Co64Box, CttsBox, ElstBox, ReadBox, StcoBox, StscBox, StssBox, StszBox, SttsBox, TrunBox,
 };
@@ -31,9 +32,10 @@ fn expect_whole_entries<B: ReadBox + Drop>(
 
 #[test]
 fn tables_of_numbers_one_short(rt: HostRuntime) -> Result<(), Fail> {
-    expect_whole_entries::<StcoBox>(rt.alloc(), &STCO, 4)?;
-    expect_whole_entries::<Co64Box>(rt.alloc(), &CO64, 8)?;
-    expect_whole_entries::<StssBox>(rt.alloc(), &STSS, 4)?;
+    let alloc = rt.alloc();
+    expect_whole_entries::<StcoBox>(alloc, &STCO, 4)
+        .and(expect_whole_entries::<Co64Box>(alloc, &CO64, 8))
+        .and(expect_whole_entries::<StssBox>(alloc, &STSS, 4))?;
     Ok(())
 }
 
@@ -45,8 +47,11 @@ fn stsz_one_short(rt: HostRuntime) -> Result<(), Fail> {
 
 #[test]
 fn tables_of_times_one_short(rt: HostRuntime) -> Result<(), Fail> {
-    expect_whole_entries::<SttsBox>(rt.alloc(), &STTS, 8)?;
-    expect_whole_entries::<CttsBox>(rt.alloc(), &CTTS, 8)?;
+    expect_whole_entries::<SttsBox>(rt.alloc(), &STTS, 8).and(expect_whole_entries::<CttsBox>(
+        rt.alloc(),
+        &CTTS,
+        8,
+    ))?;
     Ok(())
 }
 
@@ -58,26 +63,29 @@ fn stsc_one_short(rt: HostRuntime) -> Result<(), Fail> {
 
 #[test]
 fn elst_one_short(rt: HostRuntime) -> Result<(), Fail> {
-    expect_whole_entries::<ElstBox>(rt.alloc(), &ELST, 12)?;
-    expect_whole_entries::<ElstBox>(rt.alloc(), &ELST_OTHER, 12)?;
-    expect_whole_entries::<ElstBox>(rt.alloc(), &ELST_LONG, 20)?;
+    let alloc = rt.alloc();
+    expect_whole_entries::<ElstBox>(alloc, &ELST, 12)
+        .and(expect_whole_entries::<ElstBox>(alloc, &ELST_OTHER, 12))
+        .and(expect_whole_entries::<ElstBox>(alloc, &ELST_LONG, 20))?;
     Ok(())
 }
 
 #[test]
 fn trun_one_short(rt: HostRuntime) -> Result<(), Fail> {
-    expect_whole_entries::<TrunBox>(rt.alloc(), &TRUN_SAMPLE_SIZES, 4)?;
-    expect_whole_entries::<TrunBox>(rt.alloc(), &TRUN_TWO, 8)?;
-    expect_whole_entries::<TrunBox>(rt.alloc(), &TRUN_THREE, 12)?;
-    expect_whole_entries::<TrunBox>(rt.alloc(), &TRUN_ALL, 16)?;
+    let alloc = rt.alloc();
+    expect_whole_entries::<TrunBox>(alloc, &TRUN_SAMPLE_SIZES, 4)
+        .and(expect_whole_entries::<TrunBox>(alloc, &TRUN_TWO, 8))
+        .and(expect_whole_entries::<TrunBox>(alloc, &TRUN_THREE, 12))
+        .and(expect_whole_entries::<TrunBox>(alloc, &TRUN_ALL, 16))?;
     Ok(())
 }
 
 #[test]
 fn empty_tables_of_any_size(rt: HostRuntime) -> Result<(), Fail> {
-    expect_value_at_any_size(rt.alloc(), &StcoBox::default_in(rt.alloc()))?;
-    expect_value_at_any_size(rt.alloc(), &StscBox::default_in(rt.alloc()))?;
-    expect_value_at_any_size(rt.alloc(), &StszBox::default_in(rt.alloc()))?;
-    expect_value_at_any_size(rt.alloc(), &ElstBox::default_in(rt.alloc()))?;
+    let alloc = rt.alloc();
+    made::value_at_any_size(alloc, Ok(StcoBox::default_in(alloc)))
+        .and(made::value_at_any_size(alloc, Ok(StscBox::default_in(alloc))))
+        .and(made::value_at_any_size(alloc, Ok(StszBox::default_in(alloc))))
+        .and(made::value_at_any_size(alloc, Ok(ElstBox::default_in(alloc))))?;
     Ok(())
 }

@@ -104,6 +104,11 @@ fn esds_of_one_bit_of_an_audio_configuration(rt: HostRuntime) -> Result<(), Fail
         let esds = esds(specific(profile, index, None, channels));
         expect_round_trip(rt.alloc(), &esds, &bytes)?;
     }
+    Ok(())
+}
+
+#[test]
+fn esds_of_one_bit_of_a_long_audio_configuration(rt: HostRuntime) -> Result<(), Fail> {
     for ((profile, index, channels), bytes) in [
         ((33, 0, 0), *b"\xf8\x20\0"),
         ((64, 0, 0), *b"\xfc\0\0"),
@@ -131,6 +136,11 @@ fn esds_of_one_bit_of_a_sampling_rate(rt: HostRuntime) -> Result<(), Fail> {
         let esds = esds(specific(profile, 15, Some(rate), channels));
         expect_round_trip(rt.alloc(), &esds, &bytes)?;
     }
+    Ok(())
+}
+
+#[test]
+fn esds_of_one_bit_of_a_sampling_rate_of_a_long_one(rt: HostRuntime) -> Result<(), Fail> {
     for ((profile, rate, channels), bytes) in [
         ((32, 1, 0), *b"\xf8\x1e\0\0\x02\0"),
         ((32, 0x80_0000, 0), *b"\xf8\x1f\0\0\0\0"),

@@ -284,11 +284,12 @@ fn wrong_sizes_of_entries_of_dref(rt: HostRuntime) {
 
 #[test]
 fn dinf_without_dref(rt: HostRuntime) -> Result<(), Fail> {
-    expect_kind::<DinfBox>(rt.alloc(), b"\0\0\0\x08dinf", 8, NO_DREF)?;
-    expect_kind::<DinfBox>(rt.alloc(), b"\0\0\0\x10dinf\0\0\0\0free", 16, Kind::Invalid)?;
-    expect_kind::<DinfBox>(rt.alloc(), b"", 9, Kind::End)?;
+    let alloc = rt.alloc();
+    expect_kind::<DinfBox>(alloc, b"\0\0\0\x08dinf", 8, NO_DREF)
+        .and(expect_kind::<DinfBox>(alloc, b"\0\0\0\x10dinf\0\0\0\0free", 16, Kind::Invalid))
+        .and(expect_kind::<DinfBox>(alloc, b"", 9, Kind::End))?;
     let large = *b"\0\0\0\x08dinf\0\0\0\x01free\xff\xff\xff\xff\xff\xff\xff\xff";
-    expect_kind::<DinfBox>(rt.alloc(), &large, u64::MAX, Kind::Invalid)?;
+    expect_kind::<DinfBox>(alloc, &large, u64::MAX, Kind::Invalid)?;
     Ok(())
 }
 

@@ -1,14 +1,15 @@
 //! The first samples of chunks, which are computed when a box is read, and ignored when it is written.
 
 use mp4_fixtures::boxes::tables::{STSC, chunk_run, stsc_of};
-use mp4_fixtures::helpers::{Kind, expect_kind, expect_written};
+use mp4_fixtures::helpers::{Kind, expect_kind};
+use mp4_fixtures::made;
 use mp4_stream::{StscBox, WriteBox};
 use std::test::Fail;
 
 #[test]
 fn last_first_sample(rt: HostRuntime) -> Result<(), Fail> {
     let last = [chunk_run(1, 4294967294, 1), chunk_run(2, 1, 4294967295)];
-    expect_written(rt.alloc(), &stsc_of(rt.alloc(), &last)?, 40)?;
+    made::written(rt.alloc(), stsc_of(rt.alloc(), &last), 40)?;
     Ok(())
 }
 
@@ -23,12 +24,17 @@ fn first_samples_are_not_written(rt: HostRuntime) -> Result<(), Fail> {
 
 #[test]
 fn first_samples_are_computed(rt: HostRuntime) -> Result<(), Fail> {
+    let alloc = rt.alloc();
     let past =
         b"\0\0\0\x28stsc\0\0\0\0\0\0\0\x02\0\0\0\x01\xff\xff\xff\xff\0\0\0\x01\0\0\0\x02\0\0\0\x01\0\0\0\x01";
-    expect_kind::<StscBox>(rt.alloc(), past, 40, Kind::Invalid)?;
+    expect_kind::<StscBox>(alloc, past, 40, Kind::Invalid)?;
     let back =
         b"\0\0\0\x28stsc\0\0\0\0\0\0\0\x02\0\0\0\x02\0\0\0\x01\0\0\0\x01\0\0\0\x01\0\0\0\x01\0\0\0\x01";
-    expect_kind::<StscBox>(rt.alloc(), back, 40, Kind::Invalid)?;
-    expect_kind::<StscBox>(rt.alloc(), &back[..39], 40, Kind::End)?;
+    expect_kind::<StscBox>(alloc, back, 40, Kind::Invalid).and(expect_kind::<StscBox>(
+        alloc,
+        &back[..39],
+        40,
+        Kind::End,
+    ))?;
     Ok(())
 }

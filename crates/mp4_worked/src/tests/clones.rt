@@ -7,73 +7,56 @@ use mp4_fixtures::boxes::tables::{
 };
 use mp4_fixtures::boxes::text::{FTYP_OF_TWO, data_box, dinf, dref_of, emsg, ftyp, hdlr, url};
 use mp4_fixtures::helpers::read;
-use mp4_stream::{
-    BoxType, FtypBox, MdhdBox, MehdBox, MvhdBox, StcoBox, TfdtBox, TkhdBox, TryClone,
-};
+use mp4_fixtures::made;
+use mp4_stream::{BoxType, FtypBox, MdhdBox, MehdBox, MvhdBox, StcoBox, TfdtBox, TkhdBox};
 use std::test::Fail;
 
 #[test]
 fn clones_of_tables(rt: HostRuntime) -> Result<(), Fail> {
-    let stco = stco(rt.alloc())?;
-    assert!(rt; stco.try_clone()? == stco);
-    let co64 = co64_of_seven(rt.alloc())?;
-    assert!(rt; co64.try_clone()? == co64);
-    let stsc = stsc(rt.alloc())?;
-    assert!(rt; stsc.try_clone()? == stsc);
-    let trun = trun(rt.alloc())?;
-    assert!(rt; trun.try_clone()? == trun);
+    let alloc = rt.alloc();
+    made::cloned(stco(alloc))
+        .and(made::cloned(co64_of_seven(alloc)))
+        .and(made::cloned(stsc(alloc)))
+        .and(made::cloned(trun(alloc)))?;
     Ok(())
 }
 
 #[test]
 fn clones_of_tables_of_samples(rt: HostRuntime) -> Result<(), Fail> {
-    let stss = stss_of_nine(rt.alloc())?;
-    assert!(rt; stss.try_clone()? == stss);
-    let stts = stts(rt.alloc())?;
-    assert!(rt; stts.try_clone()? == stts);
-    let ctts = ctts(rt.alloc())?;
-    assert!(rt; ctts.try_clone()? == ctts);
-    let stsz = stsz_of_nine(rt.alloc())?;
-    assert!(rt; stsz.try_clone()? == stsz);
-    let elst = elst_long(rt.alloc())?;
-    assert!(rt; elst.try_clone()? == elst);
+    let alloc = rt.alloc();
+    made::cloned(stss_of_nine(alloc))
+        .and(made::cloned(stts(alloc)))
+        .and(made::cloned(ctts(alloc)))
+        .and(made::cloned(stsz_of_nine(alloc)))
+        .and(made::cloned(elst_long(alloc)))?;
     Ok(())
 }
 
 #[test]
 fn clones_of_texts(rt: HostRuntime) -> Result<(), Fail> {
-    let mdhd = mdhd_long(rt.alloc())?;
-    assert!(rt; mdhd.try_clone()? == mdhd);
-    let ftyp = ftyp(rt.alloc())?;
-    assert!(rt; ftyp.try_clone()? == ftyp);
-    let data = data_box(rt.alloc())?;
-    assert!(rt; data.try_clone()? == data);
-    let hdlr = hdlr(rt.alloc())?;
-    assert!(rt; hdlr.try_clone()? == hdlr);
-    let emsg = emsg(rt.alloc())?;
-    assert!(rt; emsg.try_clone()? == emsg);
+    let alloc = rt.alloc();
+    made::cloned(mdhd_long(alloc))
+        .and(made::cloned(ftyp(alloc)))
+        .and(made::cloned(data_box(alloc)))
+        .and(made::cloned(hdlr(alloc)))
+        .and(made::cloned(emsg(alloc)))?;
     Ok(())
 }
 
 #[test]
 fn clones_of_references(rt: HostRuntime) -> Result<(), Fail> {
-    let url = url(rt.alloc())?;
-    assert!(rt; url.try_clone()? == url);
-    let dref = dref_of(None);
-    assert!(rt; dref.try_clone()? == dref);
-    let dinf = dinf(rt.alloc());
-    assert!(rt; dinf.try_clone()? == dinf);
+    let alloc = rt.alloc();
+    made::cloned(url(alloc))
+        .and(made::cloned(Ok(dref_of(None))))
+        .and(made::cloned(Ok(dinf(alloc))))?;
     Ok(())
 }
 
 #[test]
 fn clones_of_boxes_that_were_read(rt: HostRuntime) -> Result<(), Fail> {
     let (ftyp, _) = read::<FtypBox>(rt.alloc(), &FTYP_OF_TWO, 24);
-    let ftyp = ftyp?;
-    assert!(rt; ftyp.try_clone()? == ftyp);
     let (stco, _) = read::<StcoBox>(rt.alloc(), &STCO_OF_ONE, 20);
-    let stco = stco?;
-    assert!(rt; stco.try_clone()? == stco);
+    made::cloned(ftyp).and(made::cloned(stco))?;
     Ok(())
 }
 
@@ -134,46 +117,56 @@ fn types_and_sizes_of_unknown_versions(rt: HostRuntime) -> Result<(), Fail> {
     Ok(())
 }
 
+/// The type and the size that a box returns, which is made.
+macro_rules! type_and_size {
+    ($made:expr) => {{
+        let made = $made?;
+        (made.get_type(), made.get_size())
+    }};
+}
+
 #[test]
 fn types_and_sizes_of_tables(rt: HostRuntime) -> Result<(), Fail> {
-    let stco = stco(rt.alloc())?;
-    assert_eq!(rt; (stco.get_type(), stco.get_size()), (BoxType::StcoBox, 44));
-    let co64 = co64_of_seven(rt.alloc())?;
-    assert_eq!(rt; (co64.get_type(), co64.get_size()), (BoxType::Co64Box, 72));
-    let stsc = stsc(rt.alloc())?;
-    assert_eq!(rt; (stsc.get_type(), stsc.get_size()), (BoxType::StscBox, 40));
+    assert_eq!(rt; type_and_size!(stco(rt.alloc())), (BoxType::StcoBox, 44));
+    assert_eq!(rt;
+        type_and_size!(co64_of_seven(rt.alloc())),
+        (BoxType::Co64Box, 72)
+    );
+    assert_eq!(rt; type_and_size!(stsc(rt.alloc())), (BoxType::StscBox, 40));
     let tfhd = tfhd();
     assert_eq!(rt; (tfhd.get_type(), tfhd.get_size()), (BoxType::TfhdBox, 28));
-    let trun = trun(rt.alloc())?;
-    assert_eq!(rt; (trun.get_type(), trun.get_size()), (BoxType::TrunBox, 28));
+    assert_eq!(rt; type_and_size!(trun(rt.alloc())), (BoxType::TrunBox, 28));
     Ok(())
 }
 
 #[test]
 fn types_and_sizes_of_tables_of_samples(rt: HostRuntime) -> Result<(), Fail> {
-    let stss = stss_of_nine(rt.alloc())?;
-    assert_eq!(rt; (stss.get_type(), stss.get_size()), (BoxType::StssBox, 52));
-    let stts = stts(rt.alloc())?;
-    assert_eq!(rt; (stts.get_type(), stts.get_size()), (BoxType::SttsBox, 32));
-    let ctts = ctts(rt.alloc())?;
-    assert_eq!(rt; (ctts.get_type(), ctts.get_size()), (BoxType::CttsBox, 32));
-    let stsz = stsz_of_nine(rt.alloc())?;
-    assert_eq!(rt; (stsz.get_type(), stsz.get_size()), (BoxType::StszBox, 56));
-    let elst = elst_long(rt.alloc())?;
-    assert_eq!(rt; (elst.get_type(), elst.get_size()), (BoxType::ElstBox, 36));
+    assert_eq!(rt;
+        type_and_size!(stss_of_nine(rt.alloc())),
+        (BoxType::StssBox, 52)
+    );
+    assert_eq!(rt; type_and_size!(stts(rt.alloc())), (BoxType::SttsBox, 32));
+    assert_eq!(rt; type_and_size!(ctts(rt.alloc())), (BoxType::CttsBox, 32));
+    assert_eq!(rt;
+        type_and_size!(stsz_of_nine(rt.alloc())),
+        (BoxType::StszBox, 56)
+    );
+    assert_eq!(rt;
+        type_and_size!(elst_long(rt.alloc())),
+        (BoxType::ElstBox, 36)
+    );
     Ok(())
 }
 
 #[test]
 fn types_and_sizes_of_texts_and_references(rt: HostRuntime) -> Result<(), Fail> {
-    let ftyp = ftyp(rt.alloc())?;
-    assert_eq!(rt; (ftyp.get_type(), ftyp.get_size()), (BoxType::FtypBox, 32));
-    let data = data_box(rt.alloc())?;
-    assert_eq!(rt; (data.get_type(), data.get_size()), (BoxType::DataBox, 25));
-    let hdlr = hdlr(rt.alloc())?;
-    assert_eq!(rt; (hdlr.get_type(), hdlr.get_size()), (BoxType::HdlrBox, 45));
-    let url = url(rt.alloc())?;
-    assert_eq!(rt; (url.get_type(), url.get_size()), (BoxType::UrlBox, 14));
+    assert_eq!(rt; type_and_size!(ftyp(rt.alloc())), (BoxType::FtypBox, 32));
+    assert_eq!(rt;
+        type_and_size!(data_box(rt.alloc())),
+        (BoxType::DataBox, 25)
+    );
+    assert_eq!(rt; type_and_size!(hdlr(rt.alloc())), (BoxType::HdlrBox, 45));
+    assert_eq!(rt; type_and_size!(url(rt.alloc())), (BoxType::UrlBox, 14));
     let dref = dref_of(None);
     assert_eq!(rt; (dref.get_type(), dref.get_size()), (BoxType::DrefBox, 16));
     let dinf = dinf(rt.alloc());

@@ -1,10 +1,12 @@
 //! Configurations of tracks: defaults, clones, and how they print.
 
 use mp4_fixtures::helpers::debug_text;
+use mp4_fixtures::made;
 use mp4_stream::{
-    AacConfig, AudioObjectType, AvcConfig, ChannelConfig, Entries, HevcConfig, MediaConfig,
-    SampleFreqIndex, TryClone, TtxtConfig, Vp9Config,
+    AacConfig, AudioObjectType, AvcConfig, ChannelConfig, Entries, Error, HevcConfig, MediaConfig,
+    SampleFreqIndex, TtxtConfig, Vp9Config,
 };
+use std::alloc::Global;
 use std::test::Fail;
 
 #[test]
@@ -54,42 +56,60 @@ fn configurations_have_defaults(rt: HostRuntime) -> Result<(), Fail> {
     Ok(())
 }
 
-#[test]
-fn configurations_are_cloned(rt: HostRuntime) -> Result<(), Fail> {
-    let avc = AvcConfig {
+fn avc_config(alloc: Global) -> Result<AvcConfig, Error> {
+    Ok(AvcConfig {
         width: 320,
         height: 240,
-        seq_param_set: Entries::from(vec![in rt.alloc(); 0x67, 100, 0, 13]?),
-        pic_param_set: Entries::from(vec![in rt.alloc(); 0x68]?),
-    };
-    assert_eq!(rt; avc.try_clone()?, avc);
-    assert_ne!(rt; avc, AvcConfig::default_in(rt.alloc()));
+        seq_param_set: Entries::from(vec![in alloc; 0x67, 100, 0, 13]?),
+        pic_param_set: Entries::from(vec![in alloc; 0x68]?),
+    })
+}
+
+#[test]
+fn configurations_are_printed(rt: HostRuntime) -> Result<(), Fail> {
+    let avc = avc_config(rt.alloc())?;
     assert_eq!(rt;
         debug_text(rt.alloc(), &avc)?.as_str(),
         "AvcConfig { width: 320, height: 240, seq_param_set: [103, 100, 0, 13], pic_param_set: [104] }"
     );
-    let aac = AacConfig {
-        bitrate: 67695,
-        ..AacConfig::default()
-    };
-    for config in [
-        MediaConfig::AvcConfig(avc),
-        MediaConfig::HevcConfig(HevcConfig {
-            width: 320,
-            height: 240,
-        }),
-        MediaConfig::Vp9Config(Vp9Config {
-            width: 1920,
-            height: 1080,
-        }),
-        MediaConfig::AacConfig(aac),
-        MediaConfig::TtxtConfig(TtxtConfig {}),
-    ] {
-        assert_eq!(rt; config.try_clone()?, config);
-    }
     assert_eq!(rt;
         debug_text(rt.alloc(), &MediaConfig::TtxtConfig(TtxtConfig {}))?.as_str(),
         "TtxtConfig(TtxtConfig)"
     );
+    Ok(())
+}
+
+#[test]
+fn configurations_are_compared(rt: HostRuntime) -> Result<(), Fail> {
+    let avc = avc_config(rt.alloc())?;
+    assert_ne!(rt; avc, AvcConfig::default_in(rt.alloc()));
+    Ok(())
+}
+
+/// The configuration as one of a track.
+fn media_config(alloc: Global) -> Result<MediaConfig, Error> {
+    Ok(MediaConfig::AvcConfig(avc_config(alloc)?))
+}
+
+#[test]
+fn configurations_are_cloned(rt: HostRuntime) -> Result<(), Fail> {
+    let hevc = MediaConfig::HevcConfig(HevcConfig {
+        width: 320,
+        height: 240,
+    });
+    let vp9 = MediaConfig::Vp9Config(Vp9Config {
+        width: 1920,
+        height: 1080,
+    });
+    let aac = MediaConfig::AacConfig(AacConfig {
+        bitrate: 67695,
+        ..AacConfig::default()
+    });
+    made::cloned(avc_config(rt.alloc()))
+        .and(made::cloned(media_config(rt.alloc())))
+        .and(made::cloned(Ok(hevc)))
+        .and(made::cloned(Ok(vp9)))
+        .and(made::cloned(Ok(aac)))
+        .and(made::cloned(Ok(MediaConfig::TtxtConfig(TtxtConfig {}))))?;
     Ok(())
 }

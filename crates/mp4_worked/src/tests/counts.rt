@@ -26,43 +26,39 @@ fn expect_large_count_is_refused<B: ReadBox + Drop>(
 
 #[test]
 fn large_counts_of_numbers(rt: HostRuntime) -> Result<(), Fail> {
-    expect_large_count_is_refused::<StcoBox>(
-        rt.alloc(),
-        b"\0\0\0\x64stco\0\0\0\0\xff\xff\xff\xff",
-    )?;
-    expect_large_count_is_refused::<Co64Box>(
-        rt.alloc(),
-        b"\0\0\0\x64co64\0\0\0\0\xff\xff\xff\xff",
-    )?;
-    expect_large_count_is_refused::<StssBox>(
-        rt.alloc(),
-        b"\0\0\0\x64stss\0\0\0\0\xff\xff\xff\xff",
-    )?;
-    expect_large_count_is_refused::<StszBox>(
-        rt.alloc(),
-        b"\0\0\0\x64stsz\0\0\0\0\0\0\0\0\xff\xff\xff\xff",
-    )?;
+    let alloc = rt.alloc();
+    expect_large_count_is_refused::<StcoBox>(alloc, b"\0\0\0\x64stco\0\0\0\0\xff\xff\xff\xff")
+        .and(expect_large_count_is_refused::<Co64Box>(
+            alloc,
+            b"\0\0\0\x64co64\0\0\0\0\xff\xff\xff\xff",
+        ))
+        .and(expect_large_count_is_refused::<StssBox>(
+            alloc,
+            b"\0\0\0\x64stss\0\0\0\0\xff\xff\xff\xff",
+        ))
+        .and(expect_large_count_is_refused::<StszBox>(
+            alloc,
+            b"\0\0\0\x64stsz\0\0\0\0\0\0\0\0\xff\xff\xff\xff",
+        ))?;
     Ok(())
 }
 
 #[test]
 fn large_counts_of_entries(rt: HostRuntime) -> Result<(), Fail> {
-    expect_large_count_is_refused::<SttsBox>(
-        rt.alloc(),
-        b"\0\0\0\x64stts\0\0\0\0\xff\xff\xff\xff",
-    )?;
-    expect_large_count_is_refused::<CttsBox>(
-        rt.alloc(),
-        b"\0\0\0\x64ctts\0\0\0\0\xff\xff\xff\xff",
-    )?;
-    expect_large_count_is_refused::<StscBox>(
-        rt.alloc(),
-        b"\0\0\0\x64stsc\0\0\0\0\xff\xff\xff\xff",
-    )?;
-    expect_large_count_is_refused::<ElstBox>(
-        rt.alloc(),
-        b"\0\0\0\x64elst\x01\0\0\0\xff\xff\xff\xff",
-    )?;
+    let alloc = rt.alloc();
+    expect_large_count_is_refused::<SttsBox>(alloc, b"\0\0\0\x64stts\0\0\0\0\xff\xff\xff\xff")
+        .and(expect_large_count_is_refused::<CttsBox>(
+            alloc,
+            b"\0\0\0\x64ctts\0\0\0\0\xff\xff\xff\xff",
+        ))
+        .and(expect_large_count_is_refused::<StscBox>(
+            alloc,
+            b"\0\0\0\x64stsc\0\0\0\0\xff\xff\xff\xff",
+        ))
+        .and(expect_large_count_is_refused::<ElstBox>(
+            alloc,
+            b"\0\0\0\x64elst\x01\0\0\0\xff\xff\xff\xff",
+        ))?;
     Ok(())
 }
 
@@ -71,23 +67,27 @@ fn large_counts_of_samples(rt: HostRuntime) -> Result<(), Fail> {
     expect_large_count_is_refused::<TrunBox>(
         rt.alloc(),
         b"\0\0\0\x64trun\0\0\x01\0\xff\xff\xff\xff",
-    )?;
-    expect_large_count_is_refused::<TrunBox>(
+    ).and(expect_large_count_is_refused::<TrunBox>(
         rt.alloc(),
         b"\0\0\0\x64trun\0\0\x0f\0\xff\xff\xff\xff",
-    )?;
+    ))?;
     Ok(())
 }
 
 #[test]
 fn counts_of_stco(rt: HostRuntime) -> Result<(), Fail> {
+    let alloc = rt.alloc();
     let two = b"\0\0\0\x14stco\0\0\0\0\0\0\0\x02\0\0\x01\x0b";
-    expect_kind::<StcoBox>(rt.alloc(), two, 20, Kind::Invalid)?;
-    expect_kind::<StcoBox>(rt.alloc(), two, 24, Kind::End)?;
-    expect_kind::<StcoBox>(rt.alloc(), two, u64::MAX, Kind::End)?;
+    expect_kind::<StcoBox>(alloc, two, 20, Kind::Invalid)
+        .and(expect_kind::<StcoBox>(alloc, two, 24, Kind::End))
+        .and(expect_kind::<StcoBox>(alloc, two, u64::MAX, Kind::End))?;
     let many = b"\0\0\0\x14stco\0\0\0\0\xff\xff\xff\xff\0\0\x01\x0b";
-    expect_kind::<StcoBox>(rt.alloc(), many, 20, Kind::Invalid)?;
-    expect_kind::<StcoBox>(rt.alloc(), many, u64::MAX, Kind::End)?;
+    expect_kind::<StcoBox>(alloc, many, 20, Kind::Invalid).and(expect_kind::<StcoBox>(
+        alloc,
+        many,
+        u64::MAX,
+        Kind::End,
+    ))?;
     Ok(())
 }
 
@@ -100,10 +100,11 @@ fn entries_of_64_bits_have_no_room(rt: HostRuntime) -> Result<(), Fail> {
 
 #[test]
 fn rows_of_two_lists_have_no_room(rt: HostRuntime) -> Result<(), Fail> {
+    let alloc = rt.alloc();
     let mut bytes = TRUN;
     bytes[10] = 3;
-    expect_kind::<TrunBox>(rt.alloc(), &bytes, 28, Kind::Invalid)?;
-    expect_kind::<TrunBox>(rt.alloc(), &bytes[..16], 28, Kind::End)?;
-    expect_kind::<TrunBox>(rt.alloc(), &bytes, 36, Kind::End)?;
+    expect_kind::<TrunBox>(alloc, &bytes, 28, Kind::Invalid)
+        .and(expect_kind::<TrunBox>(alloc, &bytes[..16], 28, Kind::End))
+        .and(expect_kind::<TrunBox>(alloc, &bytes, 36, Kind::End))?;
     Ok(())
 }

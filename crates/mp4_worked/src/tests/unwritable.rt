@@ -1,70 +1,79 @@
 //! Boxes that can't be written. Writing one leaves the vector as it was.
 
+use crate::tests::trun_of_numbers;
 use mp4_fixtures::boxes::flat::mehd_short;
 use mp4_fixtures::boxes::tables::{
-    chunk_run, elst_of, list, stco, stsc_of, stsz_of_nine, tfhd, tfhd_all, trun_of_durations,
-    trun_of_three_lists,
+    chunk_run, elst_of, list, stco, stsc_of, tfhd, tfhd_all, trun_of_durations, trun_of_three_lists,
 };
 use mp4_fixtures::boxes::text::{dref_of, dref_url, emsg, emsg_long, hdlr, url};
-use mp4_fixtures::helpers::{expect_unwritable, expect_unwritable_of_size};
+use mp4_fixtures::helpers::{Mismatch, expect_unwritable, expect_unwritable_of_size};
+use mp4_fixtures::made;
 use mp4_stream::{
-    DinfBox, EmsgBox, Entries, MdhdBox, MehdBox, MvhdBox, StcoBox, Text, TfdtBox, TkhdBox, TrexBox,
-    TrunBox, UrlBox, VmhdBox,
+    DinfBox, DrefBox, EmsgBox, Entries, Error, HdlrBox, MdhdBox, MehdBox, MvhdBox, StcoBox,
+    StszBox, Text, TfdtBox, TkhdBox, TrexBox, TrunBox, UrlBox, VmhdBox,
 };
+use std::alloc::Global;
 use std::test::Fail;
+
+/// A media header of this version and duration.
+fn media_header(alloc: Global, version: u8, duration: u64) -> Result<MdhdBox, Error> {
+    let mut media = MdhdBox::default_in(alloc)?;
+    media.version = version;
+    media.duration = duration;
+    Ok(media)
+}
+
+/// A decode time of this version.
+fn decode_time(version: u8, base_media_decode_time: u64) -> TfdtBox {
+    TfdtBox {
+        version,
+        flags: 0,
+        base_media_decode_time,
+    }
+}
 
 #[test]
 fn times_past_32_bits(rt: HostRuntime) -> Result<(), Fail> {
+    let alloc = rt.alloc();
     let long = 1 << 32;
     let movie = MvhdBox {
         creation_time: long,
         ..MvhdBox::default()
     };
-    expect_unwritable_of_size(rt.alloc(), &movie, 108)?;
     let track = TkhdBox {
         modification_time: long,
         ..TkhdBox::default()
     };
-    expect_unwritable_of_size(rt.alloc(), &track, 92)?;
-    let mut media = MdhdBox::default_in(rt.alloc())?;
-    media.duration = long;
-    expect_unwritable_of_size(rt.alloc(), &media, 32)?;
-    let time = TfdtBox {
-        base_media_decode_time: long,
-        ..TfdtBox::default()
-    };
-    expect_unwritable_of_size(rt.alloc(), &time, 16)?;
-    expect_unwritable_of_size(rt.alloc(), &mehd_short(long), 16)?;
-    expect_unwritable(rt.alloc(), &elst_of(rt.alloc(), 2, long)?)?;
+    expect_unwritable_of_size(alloc, &movie, 108)
+        .and(expect_unwritable_of_size(alloc, &track, 92))
+        .and(made::unwritable_of_size(alloc, media_header(alloc, 0, long), 32))
+        .and(expect_unwritable_of_size(alloc, &decode_time(0, long), 16))
+        .and(expect_unwritable_of_size(alloc, &mehd_short(long), 16))
+        .and(made::unwritable(alloc, elst_of(alloc, 2, long)))?;
     Ok(())
 }
 
 #[test]
 fn unknown_versions_of_headers(rt: HostRuntime) -> Result<(), Fail> {
+    let alloc = rt.alloc();
     let movie = MvhdBox {
         version: 2,
         ..MvhdBox::default()
     };
-    expect_unwritable_of_size(rt.alloc(), &movie, 92)?;
     let track = TkhdBox {
         version: 2,
         ..TkhdBox::default()
     };
-    expect_unwritable_of_size(rt.alloc(), &track, 72)?;
-    let mut media = MdhdBox::default_in(rt.alloc())?;
-    media.version = 2;
-    expect_unwritable_of_size(rt.alloc(), &media, 16)?;
     let extent = MehdBox {
         version: 2,
         flags: 0,
         fragment_duration: 1 << 32,
     };
-    expect_unwritable_of_size(rt.alloc(), &extent, 12)?;
-    let time = TfdtBox {
-        version: 2,
-        ..TfdtBox::default()
-    };
-    expect_unwritable_of_size(rt.alloc(), &time, 16)?;
+    expect_unwritable_of_size(alloc, &movie, 92)
+        .and(expect_unwritable_of_size(alloc, &track, 72))
+        .and(made::unwritable_of_size(alloc, media_header(alloc, 2, 0), 16))
+        .and(expect_unwritable_of_size(alloc, &extent, 12))
+        .and(expect_unwritable_of_size(alloc, &decode_time(2, 0), 16))?;
     Ok(())
 }
 
@@ -83,59 +92,100 @@ fn flags_past_24_bits_in_headers(rt: HostRuntime) -> Result<(), Fail> {
     Ok(())
 }
 
+/// The box with flags that don't fit.
+macro_rules! flagged {
+    ($made:expr) => {{
+        let mut made = $made?;
+        made.flags = 1 << 24;
+        Ok(made)
+    }};
+}
+
+fn flagged_stco(alloc: Global) -> Result<StcoBox, Error> {
+    flagged!(stco(alloc))
+}
+
+fn flagged_hdlr(alloc: Global) -> Result<HdlrBox, Error> {
+    flagged!(hdlr(alloc))
+}
+
+fn flagged_emsg(alloc: Global) -> Result<EmsgBox, Error> {
+    flagged!(emsg_long(alloc))
+}
+
+fn flagged_url(alloc: Global) -> Result<UrlBox, Error> {
+    flagged!(url(alloc))
+}
+
+fn flagged_dref(alloc: Global) -> Result<DrefBox, Error> {
+    flagged!(dref_url(alloc))
+}
+
 #[test]
 fn flags_past_24_bits_in_tables_and_texts(rt: HostRuntime) -> Result<(), Fail> {
+    let alloc = rt.alloc();
     let empty = StcoBox {
         version: 0,
         flags: 1 << 24,
-        entries: Entries::new(rt.alloc()),
+        entries: Entries::new(alloc),
     };
-    expect_unwritable_of_size(rt.alloc(), &empty, 16)?;
-    let mut stco = stco(rt.alloc())?;
-    stco.flags = 1 << 24;
-    expect_unwritable(rt.alloc(), &stco)?;
-    let mut hdlr = hdlr(rt.alloc())?;
-    hdlr.flags = 1 << 24;
-    expect_unwritable(rt.alloc(), &hdlr)?;
-    let mut emsg = emsg_long(rt.alloc())?;
-    emsg.flags = 1 << 24;
-    expect_unwritable(rt.alloc(), &emsg)?;
+    expect_unwritable_of_size(alloc, &empty, 16)
+        .and(made::unwritable(alloc, flagged_stco(alloc)))
+        .and(made::unwritable(alloc, flagged_hdlr(alloc)))
+        .and(made::unwritable(alloc, flagged_emsg(alloc)))?;
     Ok(())
+}
+
+/// Expects that a dref can't be written, and neither a dinf of it.
+fn expect_unwritable_dref(alloc: Global, made: Result<DrefBox, Error>) -> Result<(), Mismatch> {
+    let dref = made?;
+    expect_unwritable(alloc, &dref).and(expect_unwritable(alloc, &DinfBox::new(dref)))
 }
 
 #[test]
 fn flags_past_24_bits_in_references(rt: HostRuntime) -> Result<(), Fail> {
-    let mut a = url(rt.alloc())?;
-    a.flags = 1 << 24;
-    expect_unwritable(rt.alloc(), &a)?;
-    let mut dref = dref_url(rt.alloc())?;
-    dref.flags = 1 << 24;
-    expect_unwritable(rt.alloc(), &dref)?;
-    expect_unwritable(rt.alloc(), &DinfBox::new(dref))?;
-    let mut same_file = UrlBox::default_in(rt.alloc());
-    same_file.flags = 1 << 24;
-    let dref = dref_of(Some(same_file));
-    expect_unwritable(rt.alloc(), &dref)?;
-    expect_unwritable(rt.alloc(), &DinfBox::new(dref))?;
+    let alloc = rt.alloc();
+    let same_file = UrlBox {
+        version: 0,
+        flags: 1 << 24,
+        location: Text::new(alloc),
+    };
+    made::unwritable(alloc, flagged_url(alloc))
+        .and(expect_unwritable_dref(alloc, flagged_dref(alloc)))
+        .and(expect_unwritable_dref(alloc, Ok(dref_of(Some(same_file)))))?;
     Ok(())
+}
+
+/// A `stsz` of nine samples, with eight sizes.
+fn stsz_of_eight(alloc: Global, sample_size: u32) -> Result<StszBox, Error> {
+    let sizes = [1165, 11, 11, 8545, 10126, 10866, 9643, 9351];
+    Ok(StszBox {
+        version: 0,
+        flags: 0,
+        sample_size,
+        sample_count: 9,
+        sample_sizes: list(alloc, &sizes)?,
+    })
 }
 
 #[test]
 fn sizes_that_differ_in_number_from_the_count(rt: HostRuntime) -> Result<(), Fail> {
-    let mut stsz = stsz_of_nine(rt.alloc())?;
-    stsz.sample_sizes = list(rt.alloc(), &[1165, 11, 11, 8545, 10126, 10866, 9643, 9351])?;
-    expect_unwritable(rt.alloc(), &stsz)?;
-    stsz.sample_size = 1165;
-    expect_unwritable(rt.alloc(), &stsz)?;
+    let alloc = rt.alloc();
+    made::unwritable(alloc, stsz_of_eight(alloc, 0)).and(made::unwritable(
+        alloc,
+        stsz_of_eight(alloc, 1165),
+    ))?;
     Ok(())
 }
 
 #[test]
 fn first_samples_past_32_bits_and_chunks_out_of_order(rt: HostRuntime) -> Result<(), Fail> {
     let past = [chunk_run(1, 4294967295, 1), chunk_run(2, 1, 1)];
-    expect_unwritable(rt.alloc(), &stsc_of(rt.alloc(), &past)?)?;
     let back = [chunk_run(2, 1, 1), chunk_run(1, 1, 1)];
-    expect_unwritable(rt.alloc(), &stsc_of(rt.alloc(), &back)?)?;
+    made::unwritable(rt.alloc(), stsc_of(rt.alloc(), &past)).and(made::unwritable(
+        rt.alloc(),
+        stsc_of(rt.alloc(), &back),
+    ))?;
     Ok(())
 }
 
@@ -150,26 +200,34 @@ fn fields_of_tfhd_that_differ_from_the_flags(rt: HostRuntime) -> Result<(), Fail
     Ok(())
 }
 
+/// A `trun` whose flags have no sizes, and which has one.
+fn trun_of_a_size_too(alloc: Global) -> Result<TrunBox, Error> {
+    let mut trun = trun_of_durations(alloc)?;
+    trun.sample_sizes = list(alloc, &[1])?;
+    Ok(trun)
+}
+
+/// A `trun` whose flags have the flags of the first sample, which it lacks.
+fn trun_without_first_flags(alloc: Global) -> Result<TrunBox, Error> {
+    let mut trun = trun_of_three_lists(alloc)?;
+    trun.first_sample_flags = None;
+    Ok(trun)
+}
+
 #[test]
 fn lists_of_trun_that_differ_from_the_flags(rt: HostRuntime) -> Result<(), Fail> {
-    let mut duration = trun_of_durations(rt.alloc())?;
-    duration.sample_sizes = list(rt.alloc(), &[1])?;
-    expect_unwritable(rt.alloc(), &duration)?;
-    let mut trun = trun_of_three_lists(rt.alloc())?;
-    trun.first_sample_flags = None;
-    expect_unwritable(rt.alloc(), &trun)?;
+    let alloc = rt.alloc();
+    made::unwritable(alloc, trun_of_a_size_too(alloc)).and(made::unwritable(
+        alloc,
+        trun_without_first_flags(alloc),
+    ))?;
     Ok(())
 }
 
 #[test]
 fn lists_of_trun_that_are_longer_than_the_count(rt: HostRuntime) -> Result<(), Fail> {
-    let numbers: Vec<u32> = (0..1030u32).collect(rt.alloc())?;
-    let mut trun = TrunBox::default_in(rt.alloc());
-    trun.flags = TrunBox::FLAG_SAMPLE_SIZE | TrunBox::FLAG_SAMPLE_CTS;
-    trun.sample_count = 1029;
-    trun.sample_sizes = list(rt.alloc(), &numbers)?;
-    trun.sample_cts = list(rt.alloc(), &numbers)?;
-    expect_unwritable(rt.alloc(), &trun)?;
+    let alloc = rt.alloc();
+    made::unwritable(alloc, trun_of_numbers(alloc, 1029, 1030))?;
     Ok(())
 }
 
@@ -179,6 +237,11 @@ fn emsg_without_its_time(rt: HostRuntime) -> Result<(), Fail> {
     expect_unwritable(rt.alloc(), &no_time)?;
     no_time.version = 2;
     expect_unwritable_of_size(rt.alloc(), &no_time, 34)?;
+    Ok(())
+}
+
+#[test]
+fn emsg_of_the_time_of_another_version(rt: HostRuntime) -> Result<(), Fail> {
     let mut other_time = emsg(rt.alloc())?;
     other_time.message_data = Entries::new(rt.alloc());
     other_time.version = 1;

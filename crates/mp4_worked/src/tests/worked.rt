@@ -1,16 +1,18 @@
 //! Boxes with their bytes, written and read, that are not in the tests of the Rust crate.
 
+use crate::tests::trun_of_numbers;
 use mp4_fixtures::boxes::flat::{
     MDHD_LONG, MEHD, TKHD_FULL, VMHD_COLORS, mdhd_long, mehd, tkhd_full, vmhd_colors,
 };
 use mp4_fixtures::boxes::tables::{
-    STCO_OF_ONE, TFHD_ALL, TRUN, TRUN_DURATION, TRUN_THREE, TRUN_TWO, elst_of, list,
-    stsz_of_one_size, tfhd_all, trun, trun_of_durations, trun_of_three_lists, trun_of_two_lists,
+    STCO_OF_ONE, TFHD_ALL, TRUN, TRUN_DURATION, TRUN_THREE, TRUN_TWO, elst_of, stsz_of_one_size,
+    tfhd_all, trun, trun_of_durations, trun_of_three_lists, trun_of_two_lists,
 };
 use mp4_fixtures::boxes::text::{
     DINF_URL, DREF_URL, EMSG, FTYP_OF_TWO, URL, dinf_url, dref_of, dref_url, emsg, url,
 };
 use mp4_fixtures::helpers::{expect_round_trip, expect_value, expect_written, read};
+use mp4_fixtures::made;
 use mp4_stream::{BoxType, FourCC, FtypBox, StcoBox, TrunBox, UrlBox, WriteBox};
 use std::test::Fail;
 
@@ -24,6 +26,13 @@ fn ftyp_of_two_brands(rt: HostRuntime) -> Result<(), Fail> {
     let brands = [FourCC::from(*b"isom"), FourCC::from(*b"mp41")];
     assert_eq!(rt; ftyp.compatible_brands.as_slice(), brands.as_slice());
     assert_eq!(rt; (ftyp.get_type(), ftyp.get_size()), (BoxType::FtypBox, 24));
+    Ok(())
+}
+
+#[test]
+fn ftyp_of_two_brands_is_written(rt: HostRuntime) -> Result<(), Fail> {
+    let (ftyp, _) = read::<FtypBox>(rt.alloc(), &FTYP_OF_TWO, 24);
+    let ftyp = ftyp?;
     assert!(rt; ftyp.is_writable());
     let mut out = [0xff; 24];
     ftyp.put_box(&mut out);
@@ -55,16 +64,21 @@ fn every_field_of_a_track_header(rt: HostRuntime) -> Result<(), Fail> {
 
 #[test]
 fn times_of_64_bits_and_colors(rt: HostRuntime) -> Result<(), Fail> {
-    expect_round_trip(rt.alloc(), &mdhd_long(rt.alloc())?, &MDHD_LONG)?;
-    expect_round_trip(rt.alloc(), &mehd(), &MEHD)?;
-    expect_round_trip(rt.alloc(), &vmhd_colors(), &VMHD_COLORS)?;
+    let alloc = rt.alloc();
+    made::round_trip(alloc, mdhd_long(alloc), &MDHD_LONG)
+        .and(expect_round_trip(alloc, &mehd(), &MEHD))
+        .and(expect_round_trip(alloc, &vmhd_colors(), &VMHD_COLORS))?;
     Ok(())
 }
 
 #[test]
 fn edits_of_other_versions(rt: HostRuntime) -> Result<(), Fail> {
-    expect_written(rt.alloc(), &elst_of(rt.alloc(), 2, 0)?, 28)?;
-    expect_written(rt.alloc(), &elst_of(rt.alloc(), 1, 1 << 32)?, 36)?;
+    let alloc = rt.alloc();
+    made::written(alloc, elst_of(alloc, 2, 0), 28).and(made::written(
+        alloc,
+        elst_of(alloc, 1, 1 << 32),
+        36,
+    ))?;
     Ok(())
 }
 
@@ -87,15 +101,23 @@ fn tfhd_of_all_fields(rt: HostRuntime) -> Result<(), Fail> {
 
 #[test]
 fn trun_of_one_list(rt: HostRuntime) -> Result<(), Fail> {
-    expect_round_trip(rt.alloc(), &trun(rt.alloc())?, &TRUN)?;
-    expect_round_trip(rt.alloc(), &trun_of_durations(rt.alloc())?, &TRUN_DURATION)?;
+    let alloc = rt.alloc();
+    made::round_trip(alloc, trun(alloc), &TRUN).and(made::round_trip(
+        alloc,
+        trun_of_durations(alloc),
+        &TRUN_DURATION,
+    ))?;
     Ok(())
 }
 
 #[test]
 fn trun_of_more_lists(rt: HostRuntime) -> Result<(), Fail> {
-    expect_round_trip(rt.alloc(), &trun_of_two_lists(rt.alloc())?, &TRUN_TWO)?;
-    expect_round_trip(rt.alloc(), &trun_of_three_lists(rt.alloc())?, &TRUN_THREE)?;
+    let alloc = rt.alloc();
+    made::round_trip(alloc, trun_of_two_lists(alloc), &TRUN_TWO).and(made::round_trip(
+        alloc,
+        trun_of_three_lists(alloc),
+        &TRUN_THREE,
+    ))?;
     Ok(())
 }
 
@@ -109,12 +131,7 @@ fn trun_of_no_list(rt: HostRuntime) -> Result<(), Fail> {
 
 #[test]
 fn trun_of_many_samples(rt: HostRuntime) -> Result<(), Fail> {
-    let numbers: Vec<u32> = (0..1030u32).collect(rt.alloc())?;
-    let mut trun = TrunBox::default_in(rt.alloc());
-    trun.flags = TrunBox::FLAG_SAMPLE_SIZE | TrunBox::FLAG_SAMPLE_CTS;
-    trun.sample_count = 1030;
-    trun.sample_sizes = list(rt.alloc(), &numbers)?;
-    trun.sample_cts = list(rt.alloc(), &numbers)?;
+    let trun = trun_of_numbers(rt.alloc(), 1030, 1030)?;
     let out = expect_written(rt.alloc(), &trun, 8256)?;
     let middle = b"\0\0\x02\0\0\0\x02\0\0\0\x02\x01\0\0\x02\x01";
     assert!(rt; out.get(4112..4128) == Some(middle.as_slice()));
@@ -133,9 +150,10 @@ fn emsg_of_two_times_has_that_of_its_version(rt: HostRuntime) -> Result<(), Fail
 
 #[test]
 fn references_of_a_url(rt: HostRuntime) -> Result<(), Fail> {
-    expect_round_trip(rt.alloc(), &url(rt.alloc())?, &URL)?;
-    expect_round_trip(rt.alloc(), &dref_url(rt.alloc())?, &DREF_URL)?;
-    expect_round_trip(rt.alloc(), &dinf_url(rt.alloc())?, &DINF_URL)?;
+    let alloc = rt.alloc();
+    made::round_trip(alloc, url(alloc), &URL)
+        .and(made::round_trip(alloc, dref_url(alloc), &DREF_URL))
+        .and(made::round_trip(alloc, dinf_url(alloc), &DINF_URL))?;
     Ok(())
 }
 

@@ -1,6 +1,6 @@
 //! The laws at concrete types. The calls do nothing. That they are proved shows that these types keep the traits.
 
-use crate::mark::MarkBox;
+use mp4_examples::mark::MarkBox;
 use mp4_stream::laws::{
     begins_with_header, boxes_follow_frames, cut_at_a_border, cut_inside_a_box, equal_boxes,
     equal_streams, has_normal_form, has_own_name, have_same_bytes, is_read_back,

@@ -5,8 +5,8 @@ use Rattle.mp4_frame.specs.Format.{Format}
 use Rattle.mp4_frame.specs.Reading.{Reading, ◌>>=◌, expect_bytes, done, reading}
 use Rattle.mp4_frame.specs.declared.box_type.BoxType.{BoxType}
 use Rattle.mp4_frame.specs.declared.box_type.BoxType.TheVariants as names
-use Rattle.mp4_vectors.specs.declared.mark.TheConstants.{MARK}
-use Rattle.mp4_vectors.specs.declared.mark.MarkBox.{MarkBox}
+use Rattle.mp4_examples.specs.declared.mark.TheConstants.{MARK}
+use Rattle.mp4_examples.specs.declared.mark.MarkBox.{MarkBox}
 
 -- the value, where `at o w` is the number of w bytes at offset o
 abbrev pub value_mark : (ℕ → ℕ → ℕ) → MarkBox

@@ -8,9 +8,9 @@ use Rattle.mp4_frame.proofs.Checks.{are_bytes-drop, reads_ok, reads_back}
 use Rattle.mp4_frame.proofs.Framing.{header_of_fields, own_normal_form, fits_read, Number}
 use Rattle.mp4_frame.proofs.Rows.{one_run_again, one_run_is}
 use Rattle.mp4_stream.specs.Sound.{ReadsSoundly}
-use Rattle.mp4_vectors.specs.declared.mark.TheConstants.{MARK}
-use Rattle.mp4_vectors.specs.declared.mark.MarkBox.{MarkBox}
-use Rattle.mp4_vectors.specs.Mark.{value_mark, reads_mark, fields_mark, WritableMark, bytes_mark, format_mark, known_mark, reading_mark}
+use Rattle.mp4_examples.specs.declared.mark.TheConstants.{MARK}
+use Rattle.mp4_examples.specs.declared.mark.MarkBox.{MarkBox}
+use Rattle.mp4_examples.specs.Mark.{value_mark, reads_mark, fields_mark, WritableMark, bytes_mark, format_mark, known_mark, reading_mark}
 
 pub laws_mark : IsBox reads_mark format_mark
 unfolding bytes_mark reads_mark

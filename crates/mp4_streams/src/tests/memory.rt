@@ -1,13 +1,14 @@
 //! Refused memory, with allocators that have little room.
 
-use crate::mark::MarkBox;
 use linked_list_allocator::LocalHeap;
+use mp4_examples::mark::MarkBox;
 use mp4_fixtures::helpers::{Kind, kind_of};
 use mp4_fixtures::vectors::{VECTORS, Vector};
 use mp4_stream::{
-    AnyBox, BoxHeader, BoxType, Error, MfhdBox, WriteBox, write_box_header_ext, write_boxes,
-    write_zeros,
+    AnyBox, BoxHeader, BoxType, Error, MfhdBox, StreamBox, WriteBox, write_box_header_ext,
+    write_boxes, write_zeros,
 };
+use std::alloc::Global;
 use std::test::Fail;
 
 /// A call that appends.
@@ -72,31 +73,60 @@ fn a_refused_append_leaves_the_vector(rt: HostRuntime) -> Result<(), Fail> {
     Ok(())
 }
 
+/// Writes a box over a heap of as many bytes. Returns the kind of the outcome, and whether these bytes were written and
+/// counted.
+fn write_over<B: WriteBox>(
+    alloc: Global,
+    original: &B,
+    room: usize,
+    bytes: &[u8],
+) -> Result<(Kind, bool), Error> {
+    let heap = LocalHeap::new(alloc, room)?;
+    let mut out = Vec::new(&heap);
+    let outcome = original.write_box(&mut out);
+    let counted = !matches!(outcome, Ok(count) if count != bytes.len() as u64);
+    Ok((kind_of(&outcome), counted && out.as_slice() == bytes))
+}
+
+/// Writes a box of these bytes over a heap with room for half of its bytes, if they are more than 32, and over one with room for all.
+fn write_over_two<B: WriteBox + Drop>(
+    alloc: Global,
+    made: Result<B, Error>,
+    bytes: &[u8],
+) -> Result<[(Kind, bool); 2], Error> {
+    let original = made?;
+    // A heap can't refuse a smaller box: it keeps some bytes for itself, and gives pieces of certain sizes.
+    let half = if bytes.len() > 32 {
+        write_over(alloc, &original, bytes.len() / 2, &[])?
+    } else {
+        (Kind::Memory, true)
+    };
+    let whole = write_over(alloc, &original, bytes.len().saturating_add(32), bytes)?;
+    Ok([half, whole])
+}
+
 #[test]
 fn a_write_takes_one_block(rt: HostRuntime) -> Result<(), Fail> {
     for vector in VECTORS {
-        let bytes = vector.bytes();
-        let original = vector.make(rt.alloc())?;
-        // A heap can't refuse a smaller box: it keeps some bytes for itself, and gives pieces of certain sizes.
-        if bytes.len() > 32 {
-            let small = LocalHeap::new(rt.alloc(), bytes.len() / 2)?;
-            let mut out = Vec::new(&small);
-            assert!(rt;
-                matches!(original.write_box(&mut out), Err(Error::OutOfMemory)),
-                "{vector:?}"
-            );
-            assert!(rt; out.is_empty(), "{vector:?}");
-        }
-        let heap = LocalHeap::new(rt.alloc(), bytes.len().saturating_add(32))?;
-        let mut out = Vec::new(&heap);
+        let made = vector.make(rt.alloc());
+        let found = write_over_two(rt.alloc(), made, vector.bytes())?;
         assert_eq!(rt;
-            original.write_box(&mut out)?,
-            bytes.len() as u64,
+            found,
+            [(Kind::Memory, true), (Kind::Ok, true)],
             "{vector:?}"
         );
-        assert_eq!(rt; out.as_slice(), bytes, "{vector:?}");
     }
     Ok(())
+}
+
+/// Appends two boxes as a list. Returns the kind of the outcome.
+fn append_two<'a, B: StreamBox + Drop>(
+    first: Result<B, Error>,
+    last: Result<B, Error>,
+    out: &mut Vec<u8, &'a LocalHeap>,
+) -> Result<Kind, Error> {
+    let boxes = [first?, last?];
+    Ok(kind_of(&write_boxes(&boxes, out)))
 }
 
 #[test]
@@ -115,17 +145,18 @@ fn an_unwritable_box_asks_for_no_memory(rt: HostRuntime) -> Result<(), Fail> {
         sequence_number: 1,
     };
     assert_eq!(rt; kind_of(&flagged.write_box(&mut out)), Kind::Invalid);
-    let last_is_unwritable = [Vector::Ftyp.make(rt.alloc())?, AnyBox::MfhdBox(flagged)];
-    assert_eq!(rt;
-        kind_of(&write_boxes(&last_is_unwritable, &mut out)),
-        Kind::Invalid
-    );
+    let (first, last) = (Vector::Ftyp.make(rt.alloc()), Ok(AnyBox::MfhdBox(flagged)));
+    assert_eq!(rt; append_two(first, last, &mut out)?, Kind::Invalid);
     assert_eq!(rt; heap.used(), 0);
-    let boxes = [
-        Vector::Ftyp.make(rt.alloc())?,
-        Vector::Stco.make(rt.alloc())?,
-    ];
-    assert_eq!(rt; kind_of(&write_boxes(&boxes, &mut out)), Kind::Memory);
+    Ok(())
+}
+
+#[test]
+fn a_list_asks_for_one_block(rt: HostRuntime) -> Result<(), Fail> {
+    let heap = LocalHeap::new(rt.alloc(), 64)?;
+    let mut out = Vec::new(&heap);
+    let (first, last) = (Vector::Ftyp.make(rt.alloc()), Vector::Stco.make(rt.alloc()));
+    assert_eq!(rt; append_two(first, last, &mut out)?, Kind::Memory);
     assert!(rt; out.is_empty());
     assert_eq!(rt; heap.used(), 0);
     Ok(())

@@ -1,8 +1,8 @@
 //! A box type from outside the codec: the smallest type that keeps the traits. The tests read and write lists of it.
 
 ghost use Rattle.mp4_frame.specs.Format.{write_laws};
-ghost use Rattle.mp4_vectors.specs.Mark.{reads_mark, format_mark, known_mark, reading_mark};
-ghost use Rattle.mp4_vectors.specs.MarkLaws.{laws_mark, own_name_mark, read_back_mark, sound_mark};
+ghost use Rattle.mp4_examples.specs.Mark.{reads_mark, format_mark, known_mark, reading_mark};
+ghost use Rattle.mp4_examples.specs.MarkLaws.{laws_mark, own_name_mark, read_back_mark, sound_mark};
 
 use mp4_frame::{expect_bytes, put_u32, u32_at};
 use mp4_stream::{

@@ -1,11 +1,11 @@
 //! The example callers.
 
-use crate::example::audio::aac_config;
-use crate::example::chunks::append_short;
-use crate::example::numbers::aac_config_again;
-use crate::example::references::append_reference;
-use crate::example::sound::{audio_configuration, read_small_esds};
-use crate::example::times::append_decode_time;
+use mp4_examples::audio::aac_config;
+use mp4_examples::chunks::append_short;
+use mp4_examples::numbers::aac_config_again;
+use mp4_examples::references::append_reference;
+use mp4_examples::sound::{audio_configuration, read_small_esds};
+use mp4_examples::times::append_decode_time;
 use mp4_fixtures::boxes::sound::{ESDS, STSD, esds, specific};
 use mp4_fixtures::boxes::tables::list;
 use mp4_fixtures::boxes::text::DINF_URL;

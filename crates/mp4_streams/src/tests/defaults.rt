@@ -1,9 +1,10 @@
 //! Default boxes.
 
-use crate::example::defaults::{default_extent, default_video};
+use mp4_examples::defaults::{default_extent, default_video};
 use mp4_fixtures::boxes::flat::MFHD;
 use mp4_fixtures::boxes::text::DINF;
-use mp4_fixtures::helpers::{expect_round_trip, expect_written};
+use mp4_fixtures::helpers::expect_round_trip;
+use mp4_fixtures::made;
 use mp4_stream::{
     DinfBox, DrefBox, FtypBox, HdlrBox, MdhdBox, MfhdBox, MvhdBox, SmhdBox, StcoBox, StscBox,
     TfdtBox, TkhdBox, UrlBox, WriteBox,
@@ -21,57 +22,59 @@ const TKHD: [u8; 92] =
 
 #[test]
 fn headers_of_movies_and_tracks(rt: HostRuntime) -> Result<(), Fail> {
-    expect_round_trip(rt.alloc(), &MvhdBox::default(), &MVHD)?;
-    expect_round_trip(rt.alloc(), &TkhdBox::default(), &TKHD)?;
+    expect_round_trip(rt.alloc(), &MvhdBox::default(), &MVHD).and(expect_round_trip(
+        rt.alloc(),
+        &TkhdBox::default(),
+        &TKHD,
+    ))?;
     Ok(())
 }
 
 #[test]
 fn headers_of_media(rt: HostRuntime) -> Result<(), Fail> {
-    expect_round_trip(
-        rt.alloc(),
-        &MdhdBox::default_in(rt.alloc())?,
+    let alloc = rt.alloc();
+    made::round_trip(
+        alloc,
+        MdhdBox::default_in(alloc),
         b"\0\0\0\x20mdhd\0\0\0\0\0\0\0\0\0\0\0\0\0\0\x03\xe8\0\0\0\0U\xc4\0\0",
-    )?;
-    expect_round_trip(
-        rt.alloc(),
+    )
+    .and(expect_round_trip(
+        alloc,
         &SmhdBox::default(),
         b"\0\0\0\x10smhd\0\0\0\0\0\0\0\0",
-    )?;
-    expect_round_trip(
-        rt.alloc(),
+    ))
+    .and(expect_round_trip(
+        alloc,
         &default_video(),
         b"\0\0\0\x14vmhd\0\0\0\0\0\0\0\0\0\0\0\0",
-    )?;
+    ))?;
     Ok(())
 }
 
 #[test]
 fn headers_of_fragments(rt: HostRuntime) -> Result<(), Fail> {
-    expect_round_trip(
-        rt.alloc(),
-        &default_extent(),
-        b"\0\0\0\x10mehd\0\0\0\0\0\0\0\0",
-    )?;
-    expect_round_trip(rt.alloc(), &MfhdBox::default(), &MFHD)?;
-    expect_round_trip(
-        rt.alloc(),
-        &TfdtBox::default(),
-        b"\0\0\0\x10tfdt\0\0\0\0\0\0\0\0",
-    )?;
+    let alloc = rt.alloc();
+    expect_round_trip(alloc, &default_extent(), b"\0\0\0\x10mehd\0\0\0\0\0\0\0\0")
+        .and(expect_round_trip(alloc, &MfhdBox::default(), &MFHD))
+        .and(expect_round_trip(
+            alloc,
+            &TfdtBox::default(),
+            b"\0\0\0\x10tfdt\0\0\0\0\0\0\0\0",
+        ))?;
     Ok(())
 }
 
 #[test]
 fn file_types_and_tables(rt: HostRuntime) -> Result<(), Fail> {
-    let mut out = Vec::new(rt.alloc());
-    assert_eq!(rt; FtypBox::default_in(rt.alloc()).write_box(&mut out)?, 16);
-    assert_eq!(rt; StcoBox::default_in(rt.alloc()).write_box(&mut out)?, 16);
+    let alloc = rt.alloc();
+    let mut out = Vec::new(alloc);
+    assert_eq!(rt; FtypBox::default_in(alloc).write_box(&mut out)?, 16);
+    assert_eq!(rt; StcoBox::default_in(alloc).write_box(&mut out)?, 16);
     assert_eq!(rt; &out[..16], b"\0\0\0\x10ftyp\0\0\0\0\0\0\0\0".as_slice());
     assert_eq!(rt; &out[16..], b"\0\0\0\x10stco\0\0\0\0\0\0\0\0".as_slice());
-    expect_written(rt.alloc(), &FtypBox::default_in(rt.alloc()), 16)?;
-    expect_written(rt.alloc(), &StcoBox::default_in(rt.alloc()), 16)?;
-    expect_written(rt.alloc(), &StscBox::default_in(rt.alloc()), 16)?;
+    made::written(alloc, Ok(FtypBox::default_in(alloc)), 16)
+        .and(made::written(alloc, Ok(StcoBox::default_in(alloc)), 16))
+        .and(made::written(alloc, Ok(StscBox::default_in(alloc)), 16))?;
     Ok(())
 }
 

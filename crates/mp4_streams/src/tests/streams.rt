@@ -1,11 +1,11 @@
 //! Lists of boxes.
 
-use crate::example::append_normal;
-use crate::mark::MarkBox;
+use mp4_examples::append_normal;
+use mp4_examples::mark::MarkBox;
 use mp4_fixtures::helpers::{Kind, kind_of};
 use mp4_fixtures::vectors::{VECTORS, Vector};
 use mp4_stream::{
-    AnyBox, ByteCursor, Entries, Error, StcoBox, read_boxes, read_boxes_as, write_boxes,
+    AnyBox, ByteCursor, Entries, Error, StcoBox, StreamBox, read_boxes, read_boxes_as, write_boxes,
 };
 use std::alloc::Global;
 use std::test::Fail;
@@ -54,16 +54,31 @@ fn reading_begins_at_the_cursor(rt: HostRuntime) -> Result<(), Fail> {
     Ok(())
 }
 
-#[test]
-fn a_list_is_written_whole_or_not_at_all(rt: HostRuntime) -> Result<(), Fail> {
-    let flagged = AnyBox::StcoBox(StcoBox {
+/// Appends two boxes as a list. Returns the kind of the outcome.
+fn append_two<B: StreamBox + Drop>(
+    first: Result<B, Error>,
+    last: B,
+    out: &mut Vec<u8>,
+) -> Result<Kind, Error> {
+    let boxes = [first?, last];
+    Ok(kind_of(&write_boxes(&boxes, out)))
+}
+
+/// A stco that can't be written.
+fn flagged(alloc: Global) -> AnyBox {
+    AnyBox::StcoBox(StcoBox {
         version: 0,
         flags: 1 << 24,
-        entries: Entries::new(rt.alloc()),
-    });
-    let boxes = [Vector::Ftyp.make(rt.alloc())?, flagged];
+        entries: Entries::new(alloc),
+    })
+}
+
+#[test]
+fn a_list_is_written_whole_or_not_at_all(rt: HostRuntime) -> Result<(), Fail> {
     let mut out = [9].to_vec(rt.alloc())?;
-    assert_eq!(rt; kind_of(&write_boxes(&boxes, &mut out)), Kind::Invalid);
+    let ftyp = Vector::Ftyp.make(rt.alloc());
+    let found = append_two(ftyp, flagged(rt.alloc()), &mut out)?;
+    assert_eq!(rt; found, Kind::Invalid);
     assert_eq!(rt; out.as_slice(), [9].as_slice());
     let none: [AnyBox; 0] = [];
     assert_eq!(rt; write_boxes(&none, &mut out)?, 0);

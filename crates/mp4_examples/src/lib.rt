@@ -1,4 +1,6 @@
-//! Callers of the codec with their contracts. The CALLING.md of each crate quotes one of them.
+//! Callers of the codec with their contracts, and a box type from outside it. The CALLING.md of each crate quotes one of
+//! them.
+#![tactic(auto)]
 
 ghost use Rattle.std.specs.Prelude.{◌≡◌, ◌++◌, List, Ok, IfOk, OnErr};
 ghost use Rattle.mp4_stream.specs.Streams.{stream, boxes};
@@ -10,6 +12,7 @@ pub mod chunks;
 pub mod defaults;
 pub mod entries;
 pub mod lists;
+pub mod mark;
 pub mod numbers;
 pub mod references;
 pub mod sound;
