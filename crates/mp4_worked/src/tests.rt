@@ -5,6 +5,7 @@ mod chunks;
 mod clones;
 mod configurations;
 mod counts;
+mod entries;
 mod faults;
 mod fixed_points;
 mod invalid_texts;

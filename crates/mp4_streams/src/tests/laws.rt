@@ -5,7 +5,7 @@ use mp4_stream::laws::{
     begins_with_header, boxes_follow_frames, cut_at_a_border, cut_inside_a_box, equal_boxes,
     equal_streams, has_normal_form, has_own_name, have_same_bytes, is_read_back,
     is_read_back_at_the_end, is_read_by_name, is_read_by_name_at_the_end, is_read_without_memory,
-    is_sound, written_is_read,
+    is_sound, spans_follow_frames, spans_of_a_written_list, spans_of_what_is_read, written_is_read,
 };
 use mp4_stream::list_laws::{normal_stream_is_kept, read_list_is_sound};
 use mp4_stream::{
@@ -37,6 +37,8 @@ fn call_laws_of_lists<B: StreamBox>() {
     cut_inside_a_box::<B>();
     equal_streams::<B>();
     boxes_follow_frames::<B>();
+    spans_of_a_written_list::<B>();
+    spans_of_what_is_read::<B>();
 }
 
 fn call_laws_of_read_lists<B: SoundStream>() {
@@ -175,6 +177,7 @@ fn laws_hold_of_lists_and_of_a_type_from_outside() {
     call_laws_of_box::<MarkBox>();
     call_laws_of_lists::<AnyBox>();
     call_laws_of_lists::<MarkBox>();
+    spans_follow_frames();
 }
 
 #[test]

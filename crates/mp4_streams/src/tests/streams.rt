@@ -16,7 +16,7 @@ pub const THREE: [u8; 52] =
 
 /// Reads the boxes of a buffer. Returns the kind of the outcome, the number of boxes, and the position of the cursor
 /// after the call.
-fn read_stream(alloc: Global, bytes: &[u8]) -> (Kind, usize, u64) {
+pub fn read_stream(alloc: Global, bytes: &[u8]) -> (Kind, usize, u64) {
     let mut reader = ByteCursor::new(bytes);
     let outcome = read_boxes(alloc, &mut reader);
     let kind = kind_of(&outcome);
@@ -87,20 +87,11 @@ fn a_list_is_written_whole_or_not_at_all(rt: HostRuntime) -> Result<(), Fail> {
 }
 
 #[test]
-fn a_stream_cut_between_two_boxes_has_the_boxes_before(rt: HostRuntime) -> Result<(), Fail> {
+fn all_vectors_are_rewritten(rt: HostRuntime) -> Result<(), Fail> {
     let mut stream = Vec::new(rt.alloc());
-    for (count, vector) in VECTORS.into_iter().enumerate() {
-        let border = stream.len();
-        let expected = (Kind::Ok, count, border as u64);
-        assert_eq!(rt; read_stream(rt.alloc(), &stream), expected, "{vector:?}");
+    for vector in VECTORS {
         stream.extend_from_slice(vector.bytes())?;
-        for len in border + 1..stream.len() {
-            let cut = read_stream(rt.alloc(), &stream[..len]);
-            assert_eq!(rt; cut, (Kind::End, 0, 0), "{vector:?} {len}");
-        }
     }
-    let whole = (Kind::Ok, VECTORS.len(), stream.len() as u64);
-    assert_eq!(rt; read_stream(rt.alloc(), &stream), whole);
     assert_eq!(rt; rewrite(rt.alloc(), &stream)?, stream);
     Ok(())
 }

@@ -1,0 +1,75 @@
+//! All vectors as one stream, which is cut at every length.
+
+use super::lists::list_from;
+use super::streams::read_stream;
+use mp4_fixtures::helpers::{Kind, kind_of};
+use mp4_fixtures::vectors::VECTORS;
+use mp4_stream::{ByteCursor, Error, KeptBox, read_boxes_as};
+use std::alloc::Global;
+use std::test::Fail;
+
+/// The stream, and for each length of a cut the number of boxes before it, or None if the cut is inside a box.
+fn all_cuts(alloc: Global) -> Result<(Vec<u8>, Vec<Option<usize>>), Error> {
+    let mut stream = Vec::new(alloc);
+    let mut counts = Vec::new(alloc);
+    for (count, vector) in VECTORS.into_iter().enumerate() {
+        counts.push(Some(count))?;
+        for _ in 1..vector.bytes().len() {
+            counts.push(None)?;
+        }
+        stream.extend_from_slice(vector.bytes())?;
+    }
+    counts.push(Some(VECTORS.len()))?;
+    Ok((stream, counts))
+}
+
+/// What is found in a stream that is cut there: the kind of the outcome, the number of boxes, and the position of the
+/// cursor after the call.
+fn expected_of(cut: usize, count: Option<usize>) -> (Kind, usize, u64) {
+    match count {
+        Some(count) => (Kind::Ok, count, cut as u64),
+        None => (Kind::End, 0, 0),
+    }
+}
+
+/// Reads the boxes of a buffer and keeps all of them. Returns the same as `expected_of`.
+fn keep_stream(alloc: Global, bytes: &[u8]) -> (Kind, usize, u64) {
+    let mut reader = ByteCursor::new(bytes);
+    let outcome = read_boxes_as::<KeptBox>(alloc, &mut reader);
+    let kind = kind_of(&outcome);
+    let count = outcome.map_or(0, |found| found.len());
+    (kind, count, reader.position())
+}
+
+#[test]
+fn boxes_before_a_cut_are_read(rt: HostRuntime) -> Result<(), Fail> {
+    let (stream, counts) = all_cuts(rt.alloc())?;
+    for (cut, count) in counts.iter().enumerate() {
+        let bytes = stream.get(..cut).unwrap_or(&[]);
+        let found = read_stream(rt.alloc(), bytes);
+        assert_eq!(rt; found, expected_of(cut, *count), "{cut}");
+    }
+    Ok(())
+}
+
+#[test]
+fn boxes_before_a_cut_are_kept(rt: HostRuntime) -> Result<(), Fail> {
+    let (stream, counts) = all_cuts(rt.alloc())?;
+    for (cut, count) in counts.iter().enumerate() {
+        let bytes = stream.get(..cut).unwrap_or(&[]);
+        let found = keep_stream(rt.alloc(), bytes);
+        assert_eq!(rt; found, expected_of(cut, *count), "{cut}");
+    }
+    Ok(())
+}
+
+#[test]
+fn boxes_before_a_cut_are_listed(rt: HostRuntime) -> Result<(), Fail> {
+    let (stream, counts) = all_cuts(rt.alloc())?;
+    for (cut, count) in counts.iter().enumerate() {
+        let bytes = stream.get(..cut).unwrap_or(&[]);
+        let found = list_from(rt.alloc(), bytes, 0);
+        assert_eq!(rt; found, expected_of(cut, *count), "{cut}");
+    }
+    Ok(())
+}
