@@ -45,13 +45,12 @@ pub fn unwritable<B: WriteBox + Drop>(alloc: Global, made: Made<B>) -> Result<()
 
 /// Expects that a clone of the box is equal to it.
 pub fn cloned<B: TryClone + PartialEq + Drop>(made: Made<B>) -> Result<(), Mismatch> {
-    let original = made?;
-    same(original.try_clone(), original)
+    clone_of(&made?)
 }
 
-/// Expects that the box is equal to another.
-pub fn same<B: PartialEq + Drop>(made: Made<B>, expected: B) -> Result<(), Mismatch> {
-    if made? == expected {
+/// Expects that a clone of a box is equal to it, where its making takes no memory.
+pub fn clone_of<B: TryClone + PartialEq + Drop>(original: &B) -> Result<(), Mismatch> {
+    if original.try_clone()? == *original {
         Ok(())
     } else {
         Err(Mismatch::OtherBytes)

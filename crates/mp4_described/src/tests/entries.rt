@@ -220,10 +220,10 @@ fn unwritable_entries(rt: HostRuntime) -> Result<(), Fail> {
 fn clones_of_entries(rt: HostRuntime) -> Result<(), Fail> {
     made::cloned(avcc(rt.alloc()))
         .and(made::cloned(avc1(rt.alloc())))
-        .and(made::cloned(Ok(hev1())))
-        .and(made::cloned(Ok(vpcc())))
-        .and(made::cloned(Ok(vp09())))
-        .and(made::cloned(Ok(tx3g())))?;
+        .and(made::clone_of(&hev1()))
+        .and(made::clone_of(&vpcc()))
+        .and(made::clone_of(&vp09()))
+        .and(made::clone_of(&tx3g()))?;
     Ok(())
 }
 
