@@ -1,8 +1,8 @@
--- Equality of numbers, of options of them, and of enums.
+-- Equality of numbers, of options of them, of enums, and of places.
 use Rattle.std.proofs.Common.{rules, ◌≡◌, ℕ, ℤ, Bool, true, false, nat_eq, List, [], ◌∷◌, Option, Some, None, refl, ap}
 use Rattle.std.specs.Option.{option_eq}
 use Rattle.std.specs.Ordering.{int_eq}
-use Rattle.std.proofs.lemmas.Bool.{eqb-true}
+use Rattle.std.proofs.lemmas.Bool.{and_parts, eqb-true}
 use denote.Enum.Compared.{Each, by}
 use denote.Enum.Declared.{Choice, Record, values_one}
 use denote.Struct.Field.{Field}
@@ -12,6 +12,8 @@ use Rattle.mp4_frame.specs.Equality.{IsEquality}
 use Rattle.mp4_frame.specs.contracts.box_type.BoxType as box_type
 use Rattle.mp4_frame.specs.contracts.box_type.BoxTypePartialEq.TheImpl as box_type_eq
 use Rattle.mp4_frame.specs.contracts.box_type.BoxTypeEq.TheImpl.Laws as box_type_laws
+use Rattle.mp4_frame.specs.contracts.list.BoxSpanPartialEq.TheImpl as box_span_eq
+use Rattle.mp4_frame.specs.contracts.list.BoxSpanEq.TheImpl.Laws as box_span_laws
 
 pub same_option : (x y : Option ℕ) → option_eq nat_eq x y ≡ true → x ≡ y
 same_option (Some a) (Some b) h = ap (λ (n : ℕ). Some n) (eqb-true a b h)
@@ -53,4 +55,16 @@ pub box_type_equality : IsEquality (box_type_eq.ghosts).eq
 box_type_equality x y = (
   λ h. same_variant box_type.enum _ ((λ m n e. ap (λ (k : ℕ). (k, tt)) (eqb-true m.0 n.0 e)), tt) x y h,
   λ e. rw e (box_type_laws.laws-law.refl y),
+)
+
+pub box_span_equality : IsEquality (box_span_eq.ghosts).eq
+box_span_equality x y = (
+  (λ h.
+      let p1 = and_parts _ _ h in
+      let p2 = and_parts _ _ p1.1 in
+      let e_position : x.position ≡ y.position = eqb-true _ _ p1.0 in
+      let e_length : x.length ≡ y.length = eqb-true _ _ p2.0 in
+      let e_name : x.name ≡ y.name = (box_type_equality _ _).0 p2.1 in
+      search rules),
+  (λ e. rw e (box_span_laws.laws-law.refl y)),
 )
