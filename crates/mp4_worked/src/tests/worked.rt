@@ -33,6 +33,7 @@ fn ftyp_of_two_brands(rt: HostRuntime) -> Result<(), Fail> {
 fn ftyp_of_two_brands_is_written(rt: HostRuntime) -> Result<(), Fail> {
     let (ftyp, _) = read::<FtypBox>(rt.alloc(), &FTYP_OF_TWO, 24);
     let ftyp = ftyp?;
+    assert_eq!(rt; ftyp.get_size(), 24);
     assert!(rt; ftyp.is_writable());
     let mut out = [0xff; 24];
     ftyp.put_box(&mut out);
