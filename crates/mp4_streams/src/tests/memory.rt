@@ -1,12 +1,13 @@
 //! Refused memory, with allocators that have little room.
 
+use super::streams::append_two;
 use linked_list_allocator::LocalHeap;
 use mp4_examples::mark::MarkBox;
 use mp4_fixtures::helpers::{Kind, kind_of};
 use mp4_fixtures::vectors::{VECTORS, Vector};
 use mp4_stream::{
-    AnyBox, BoxHeader, BoxType, Error, MfhdBox, StreamBox, WriteBox, write_box_header_ext,
-    write_boxes, write_zeros,
+    AnyBox, BoxHeader, BoxType, Error, MfhdBox, WriteBox, write_box_header_ext, write_boxes,
+    write_zeros,
 };
 use std::alloc::Global;
 use std::test::Fail;
@@ -122,16 +123,6 @@ fn a_write_takes_one_block(rt: HostRuntime) -> Result<(), Fail> {
     Ok(())
 }
 
-/// Appends two boxes as a list. Returns the kind of the outcome.
-fn append_two<'a, B: StreamBox + Drop>(
-    first: Result<B, Error>,
-    last: Result<B, Error>,
-    out: &mut Vec<u8, &'a LocalHeap>,
-) -> Result<Kind, Error> {
-    let boxes = [first?, last?];
-    Ok(kind_of(&write_boxes(&boxes, out)))
-}
-
 #[test]
 fn an_unwritable_box_asks_for_no_memory(rt: HostRuntime) -> Result<(), Fail> {
     let heap = LocalHeap::new(rt.alloc(), 64)?;
@@ -148,8 +139,11 @@ fn an_unwritable_box_asks_for_no_memory(rt: HostRuntime) -> Result<(), Fail> {
         sequence_number: 1,
     };
     assert_eq!(rt; kind_of(&flagged.write_box(&mut out)), Kind::Invalid);
-    let (first, last) = (Vector::Ftyp.make(rt.alloc()), Ok(AnyBox::MfhdBox(flagged)));
-    assert_eq!(rt; append_two(first, last, &mut out)?, Kind::Invalid);
+    let (first, last) = (Vector::Ftyp.make(rt.alloc()), AnyBox::MfhdBox(flagged));
+    assert_eq!(rt;
+        append_two(rt.alloc(), first, last, &mut out)?,
+        Kind::Invalid
+    );
     assert_eq!(rt; heap.used(), 0);
     Ok(())
 }

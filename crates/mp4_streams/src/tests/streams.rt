@@ -7,7 +7,7 @@ use mp4_fixtures::vectors::{VECTORS, Vector};
 use mp4_stream::{
     AnyBox, ByteCursor, Entries, Error, StcoBox, StreamBox, read_boxes, read_boxes_as, write_boxes,
 };
-use std::alloc::Global;
+use std::alloc::{Allocator, Global};
 use std::test::Fail;
 
 /// An ftyp, a free and a stco box.
@@ -55,12 +55,15 @@ fn reading_begins_at_the_cursor(rt: HostRuntime) -> Result<(), Fail> {
 }
 
 /// Appends two boxes as a list. Returns the kind of the outcome.
-fn append_two<B: StreamBox + Drop>(
+pub fn append_two<B: StreamBox + Drop, A: Allocator>(
+    alloc: Global,
     first: Result<B, Error>,
     last: B,
-    out: &mut Vec<u8>,
+    out: &mut Vec<u8, A>,
 ) -> Result<Kind, Error> {
-    let boxes = [first?, last];
+    let mut boxes = Vec::new(alloc);
+    boxes.push(first?)?;
+    boxes.push(last)?;
     Ok(kind_of(&write_boxes(&boxes, out)))
 }
 
@@ -77,7 +80,7 @@ fn flagged(alloc: Global) -> AnyBox {
 fn a_list_is_written_whole_or_not_at_all(rt: HostRuntime) -> Result<(), Fail> {
     let mut out = [9].to_vec(rt.alloc())?;
     let ftyp = Vector::Ftyp.make(rt.alloc());
-    let found = append_two(ftyp, flagged(rt.alloc()), &mut out)?;
+    let found = append_two(rt.alloc(), ftyp, flagged(rt.alloc()), &mut out)?;
     assert_eq!(rt; found, Kind::Invalid);
     assert_eq!(rt; out.as_slice(), [9].as_slice());
     let none: [AnyBox; 0] = [];
