@@ -166,20 +166,11 @@ fn clone_of<T: TryClone + PartialEq + Drop>(original: &T) -> Result<T, Ending> {
     }
 }
 
-/// Clones a box, and writes and reads the clone.
-fn write_and_read_clone<B: StreamBox + Eq + TryClone + Drop>(
-    alloc: Global,
-    original: &B,
-    bytes: &[u8],
-) -> Result<(), Ending> {
-    let clone = clone_of(original)?;
-    round_trip(alloc, slice::from_ref(&clone), bytes)
-}
-
 /// Makes, clones, writes and reads a vector.
 pub fn write_and_read(alloc: Global, vector: Vector) -> Result<(), Ending> {
     let original = made(alloc, vector)?;
-    write_and_read_clone(alloc, &original, vector.bytes())
+    let clone = clone_of(&original)?;
+    round_trip(alloc, slice::from_ref(&clone), vector.bytes())
 }
 
 /// Writes and reads a list of boxes of a type from outside the codec.
