@@ -24,7 +24,7 @@ fn places(alloc: Global, bytes: &[u8]) -> Result<Vec<BoxSpan>, Error> {
 
 /// Lists the boxes of a buffer from a position on. Returns the kind of the outcome, the number of boxes, and the
 /// position of the cursor after the call.
-pub fn list_from<A: Allocator>(alloc: A, bytes: &[u8], position: u64) -> (Kind, usize, u64) {
+pub(super) fn list_from<A: Allocator>(alloc: A, bytes: &[u8], position: u64) -> (Kind, usize, u64) {
     let mut reader = ByteCursor::new(bytes);
     reader.set_position(position);
     let outcome = list_boxes(alloc, &mut reader);

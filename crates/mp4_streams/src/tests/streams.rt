@@ -11,12 +11,12 @@ use std::alloc::{Allocator, Global};
 use std::test::Fail;
 
 /// An ftyp, a free and a stco box.
-pub const THREE: [u8; 52] =
+pub(super) const THREE: [u8; 52] =
     *b"\0\0\0\x18ftypisom\0\0\x02\0isommp41\0\0\0\x08free\0\0\0\x14stco\0\0\0\0\0\0\0\x01\0\0\x01\x0b";
 
 /// Reads the boxes of a buffer. Returns the kind of the outcome, the number of boxes, and the position of the cursor
 /// after the call.
-pub fn read_stream(alloc: Global, bytes: &[u8]) -> (Kind, usize, u64) {
+pub(super) fn read_stream(alloc: Global, bytes: &[u8]) -> (Kind, usize, u64) {
     let mut reader = ByteCursor::new(bytes);
     let outcome = read_boxes(alloc, &mut reader);
     let kind = kind_of(&outcome);
@@ -55,7 +55,7 @@ fn reading_begins_at_the_cursor(rt: HostRuntime) -> Result<(), Fail> {
 }
 
 /// Appends two boxes as a list. Returns the kind of the outcome.
-pub fn append_two<B: StreamBox + Drop, A: Allocator>(
+pub(super) fn append_two<B: StreamBox + Drop, A: Allocator>(
     alloc: Global,
     first: Result<B, Error>,
     last: B,
