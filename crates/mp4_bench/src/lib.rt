@@ -4,13 +4,18 @@
 ghost use Rattle.std.specs.Prelude.{◌≡◌, ◌-◌, ◌^◌, ◌⊎◌, List, Ok, take, IfOk};
 ghost use Rattle.mp4_frame.specs.Streams.{stream, boxes};
 ghost use Rattle.mp4_stream.specs.AnyBox.{format_any, known_any, reading_any};
+ghost use Rattle.mp4_stream.specs.KeptBox.{format_kept, known_kept, reading_kept};
 ghost use Rattle.mp4_stream.specs.declared.any_box.AnyBox.{AnyBox};
+ghost use Rattle.mp4_stream.specs.declared.kept_box.KeptBox.{KeptBox};
 
-use mp4_stream::{AnyBox, ByteCursor, Error, Mp4Box, Result, read_boxes, write_boxes};
+use mp4_stream::{
+    AnyBox, ByteCursor, Error, KeptBox, Mp4Box, Result, StreamBox, read_boxes_as, write_boxes,
+};
 use std::alloc::Global;
+use std::mem::size_of;
 
 /// The sum of the codes and the sizes of the boxes, modulo 2^64.
-fn checksum(boxes: &[AnyBox]) -> u64 {
+fn checksum<B: Mp4Box>(boxes: &[B]) -> u64 {
     let mut sum: u64 = 0;
     for b in boxes {
         let code = u32::from(b.box_type());
@@ -19,17 +24,17 @@ fn checksum(boxes: &[AnyBox]) -> u64 {
     sum
 }
 
-fn read_times(alloc: Global, bytes: &[u8], times: u64) -> Result<u64> {
+fn read_times<B: StreamBox>(alloc: Global, bytes: &[u8], times: u64) -> Result<u64> {
     let mut sum: u64 = 0;
     for _ in 0..times {
-        let boxes = read_boxes(alloc, &mut ByteCursor::new(bytes))?;
+        let boxes = read_boxes_as::<B>(alloc, &mut ByteCursor::new(bytes))?;
         sum = sum.wrapping_add(checksum(&boxes));
     }
     Ok(sum)
 }
 
-fn write_times(alloc: Global, bytes: &[u8], times: u64) -> Result<u64> {
-    let boxes = read_boxes(alloc, &mut ByteCursor::new(bytes))?;
+fn write_times<B: StreamBox>(alloc: Global, bytes: &[u8], times: u64) -> Result<u64> {
+    let boxes = read_boxes_as::<B>(alloc, &mut ByteCursor::new(bytes))?;
     let mut sum: u64 = 0;
     for _ in 0..times {
         let mut out = Vec::new(alloc);
@@ -43,10 +48,10 @@ fn write_times(alloc: Global, bytes: &[u8], times: u64) -> Result<u64> {
 
 /// Reads a stream, and fills the front of `out` with the bytes that its boxes are written in. Returns their number.
 /// Out of memory also if `out` has no room for them.
-fn rewrite(alloc: Global, bytes: &[u8], out: &mut [u8]) -> Result<u64>
-    ensures { IfOk result (λ n. (vs : List AnyBox) × ((boxes known_any reading_any bytes.now 0).outcome ≡ Ok vs) × (take n out.new ≡ stream format_any.bytes vs)) }
+fn rewrite<B: StreamBox>(alloc: Global, bytes: &[u8], out: &mut [u8]) -> Result<u64>
+    ensures { IfOk result (λ n. (vs : List B) × ((boxes B.known B.named_reading bytes.now 0).outcome ≡ Ok vs) × (take n out.new ≡ stream B.format.bytes vs)) }
 {
-    let boxes = read_boxes(alloc, &mut ByteCursor::new(bytes))?;
+    let boxes = read_boxes_as::<B>(alloc, &mut ByteCursor::new(bytes))?;
     let mut stream = Vec::new(alloc);
     let n = write_boxes(&boxes, &mut stream)?;
     if stream.len() > out.len() {
@@ -60,14 +65,26 @@ fn rewrite(alloc: Global, bytes: &[u8], out: &mut [u8]) -> Result<u64>
 /// error.
 #[unsafe(no_mangle)]
 pub extern "C" fn mp4_read(alloc: Global, bytes: &[u8], times: u64) -> u64 {
-    read_times(alloc, bytes, times).unwrap_or(u64::MAX)
+    read_times::<AnyBox>(alloc, bytes, times).unwrap_or(u64::MAX)
+}
+
+/// The same, with boxes of other types kept.
+#[unsafe(no_mangle)]
+pub extern "C" fn mp4_read_kept(alloc: Global, bytes: &[u8], times: u64) -> u64 {
+    read_times::<KeptBox>(alloc, bytes, times).unwrap_or(u64::MAX)
 }
 
 /// Reads a stream once and writes its boxes `times` times, each time into a new vector. Returns the sum of the lengths
 /// and of the last bytes; `u64::MAX` after an error.
 #[unsafe(no_mangle)]
 pub extern "C" fn mp4_write(alloc: Global, bytes: &[u8], times: u64) -> u64 {
-    write_times(alloc, bytes, times).unwrap_or(u64::MAX)
+    write_times::<AnyBox>(alloc, bytes, times).unwrap_or(u64::MAX)
+}
+
+/// The same, with boxes of other types kept.
+#[unsafe(no_mangle)]
+pub extern "C" fn mp4_write_kept(alloc: Global, bytes: &[u8], times: u64) -> u64 {
+    write_times::<KeptBox>(alloc, bytes, times).unwrap_or(u64::MAX)
 }
 
 /// Reads a stream, and fills the front of `out` with the bytes that its boxes are written in. Returns their number, which
@@ -76,5 +93,25 @@ pub extern "C" fn mp4_write(alloc: Global, bytes: &[u8], times: u64) -> u64 {
 pub extern "C" fn mp4_rewrite(alloc: Global, bytes: &[u8], out: &mut [u8]) -> u64
     ensures { (result ≡ 2 ^ 64 - 1) ⊎ ((vs : List AnyBox) × ((boxes known_any reading_any bytes.now 0).outcome ≡ Ok vs) × (take result out.new ≡ stream format_any.bytes vs)) }
 {
-    rewrite(alloc, bytes, out).unwrap_or(u64::MAX)
+    rewrite::<AnyBox>(alloc, bytes, out).unwrap_or(u64::MAX)
+}
+
+/// The same, with boxes of other types kept.
+#[unsafe(no_mangle)]
+pub extern "C" fn mp4_rewrite_kept(alloc: Global, bytes: &[u8], out: &mut [u8]) -> u64
+    ensures { (result ≡ 2 ^ 64 - 1) ⊎ ((vs : List KeptBox) × ((boxes known_kept reading_kept bytes.now 0).outcome ≡ Ok vs) × (take result out.new ≡ stream format_kept.bytes vs)) }
+{
+    rewrite::<KeptBox>(alloc, bytes, out).unwrap_or(u64::MAX)
+}
+
+/// The number of bytes of a member of a list of boxes.
+#[unsafe(no_mangle)]
+pub extern "C" fn mp4_member_size() -> u64 {
+    size_of::<AnyBox>() as u64
+}
+
+/// The same, with boxes of other types kept.
+#[unsafe(no_mangle)]
+pub extern "C" fn mp4_kept_member_size() -> u64 {
+    size_of::<KeptBox>() as u64
 }

@@ -1,0 +1,83 @@
+//! The measured streams. All are in normal form, so that writing gives the bytes that were read.
+
+mod builder;
+mod fragments;
+mod movies;
+mod tables;
+
+use builder::{boxes_of, without};
+
+/// The numbers of entries of a table.
+pub const LENGTHS: [u32; 4] = [1_000, 10_000, 100_000, 1_000_000];
+
+/// The most that the codec is to take, as parts of the time of the best effort.
+#[derive(Clone, Copy)]
+pub struct Aims {
+    pub reading: f64,
+    pub writing: f64,
+}
+
+pub struct Stream {
+    pub name: String,
+    /// The number of entries, if the stream is one table.
+    pub entries: Option<u32>,
+    /// The number of boxes.
+    pub boxes: usize,
+    pub aims: Option<Aims>,
+    /// Whether boxes of other types are kept. Else they are skipped.
+    pub is_kept: bool,
+    pub bytes: Vec<u8>,
+    /// What is written of its boxes: the stream, without the boxes that are skipped.
+    pub written: Vec<u8>,
+}
+
+impl Stream {
+    fn new(name: &str, bytes: Vec<u8>) -> Stream {
+        Stream {
+            name: name.to_owned(),
+            entries: None,
+            boxes: boxes_of(&bytes).count(),
+            aims: None,
+            is_kept: false,
+            written: bytes.clone(),
+            bytes,
+        }
+    }
+
+    fn with_aims(self, reading: f64, writing: f64) -> Stream {
+        let aims = Some(Aims { reading, writing });
+        Stream { aims, ..self }
+    }
+}
+
+/// One table of so many entries, for each kind of table. `elst` has two, for its two rows.
+pub fn tables(entries: u32) -> Vec<Stream> {
+    let table = |(name, bytes)| {
+        let mut stream = Stream::new(name, bytes);
+        stream.entries = Some(entries);
+        if entries == 10_000 {
+            stream = stream.with_aims(1.1, 1.0);
+        }
+        stream
+    };
+    tables::of_length(entries).into_iter().map(table).collect()
+}
+
+/// Streams of boxes of one type, of several types in turn, and the contents of a `moof` and of a `moov`.
+pub fn small() -> Vec<Stream> {
+    let mut streams: Vec<Stream> = fragments::of_one_type(8_000)
+        .into_iter()
+        .map(|(name, bytes)| Stream::new(name, bytes))
+        .collect();
+    streams.push(Stream::new("mix", fragments::mix(8_000)).with_aims(1.15, 1.0));
+    streams.push(Stream::new("mix", fragments::mix(100_000)).with_aims(1.0, 1.0));
+    streams.push(Stream::new("moof content", fragments::moofs(1_000)));
+    let movies = movies::movies(150);
+    let mut skipping = Stream::new("moov content", movies.clone());
+    skipping.written = without(&movies, &movies::OTHER);
+    streams.push(skipping);
+    let mut keeping = Stream::new("moov content, all kept", movies);
+    keeping.is_kept = true;
+    streams.push(keeping);
+    streams
+}

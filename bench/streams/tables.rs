@@ -1,0 +1,61 @@
+//! Streams of one table.
+
+use super::builder::{Builder, Numbers};
+
+/// A table of rows of so many random numbers each, after the numbers in front of its count.
+fn random(code: &[u8; 4], version: u8, entries: u32, front: &[u32], width: u32) -> Vec<u8> {
+    let mut numbers = Numbers(u64::from(u32::from_be_bytes(*code)));
+    let mut b = Builder::default();
+    b.full(code, version, 0, |b| {
+        b.numbers(front);
+        b.u32(entries);
+        for _ in 0..entries * width {
+            b.u32(numbers.next());
+        }
+    });
+    b.bytes
+}
+
+/// Chunks in order, of 1 to 16 samples each.
+fn chunks(entries: u32) -> Vec<u8> {
+    let mut numbers = Numbers(2);
+    let mut b = Builder::default();
+    b.full(b"stsc", 0, 0, |b| {
+        b.u32(entries);
+        let mut chunk = 1;
+        for _ in 0..entries {
+            b.numbers(&[chunk, numbers.between(1, 17), 1]);
+            chunk += numbers.between(1, 5);
+        }
+    });
+    b.bytes
+}
+
+/// A run of samples, each with its duration, size, flags and composition time.
+fn run(entries: u32) -> Vec<u8> {
+    let mut numbers = Numbers(3);
+    let mut b = Builder::default();
+    b.full(b"trun", 0, 0xf01, |b| {
+        b.numbers(&[entries, numbers.next()]);
+        for _ in 0..entries * 4 {
+            b.u32(numbers.next());
+        }
+    });
+    b.bytes
+}
+
+/// A stream of one table of so many entries for each kind, with its name.
+pub fn of_length(entries: u32) -> Vec<(&'static str, Vec<u8>)> {
+    vec![
+        ("stsz", random(b"stsz", 0, entries, &[0], 1)),
+        ("stco", random(b"stco", 0, entries, &[], 1)),
+        ("co64", random(b"co64", 0, entries, &[], 2)),
+        ("stss", random(b"stss", 0, entries, &[], 1)),
+        ("stsc", chunks(entries)),
+        ("stts", random(b"stts", 0, entries, &[], 2)),
+        ("ctts", random(b"ctts", 0, entries, &[], 2)),
+        ("elst, version 0", random(b"elst", 0, entries, &[], 3)),
+        ("elst, version 1", random(b"elst", 1, entries, &[], 5)),
+        ("trun", run(entries)),
+    ]
+}

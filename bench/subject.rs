@@ -1,0 +1,74 @@
+//! A stream with its boxes, checked before it is timed.
+
+use crate::boxes::{checksum, AnyBox, KeptBox, Member};
+use crate::codec::Codec;
+use crate::streams::Stream;
+use crate::timing::{CodecWrite, Times};
+use crate::{best, naive};
+use std::fmt::Debug;
+
+pub struct Subject {
+    pub stream: Stream,
+    pub codec: Codec,
+    pub boxes: List,
+    pub times: Times,
+}
+
+/// The boxes of a stream, by plain Rust.
+pub enum List {
+    Skipping(Vec<AnyBox>),
+    Keeping(Vec<KeptBox>),
+}
+
+impl Subject {
+    pub fn new(stream: Stream) -> Subject {
+        let is_kept = stream.is_kept;
+        let codec = Codec { is_kept };
+        let boxes = if is_kept {
+            List::Keeping(checked(&stream, codec))
+        } else {
+            List::Skipping(checked(&stream, codec))
+        };
+        let times = Times::new(CodecWrite::of(codec, &stream.bytes));
+        Subject {
+            stream,
+            codec,
+            boxes,
+            times,
+        }
+    }
+}
+
+/// All ways have to agree on a stream before any of them is timed.
+fn checked<M: Member + Debug + PartialEq>(stream: &Stream, codec: Codec) -> Vec<M> {
+    let (name, bytes, written) = (&stream.name, &stream.bytes, &stream.written);
+    let boxes = best::read_boxes(bytes).expect("the best-effort reader refuses the stream");
+    let others = naive::read_boxes(bytes).expect("the naive reader refuses the stream");
+    assert!(boxes == others, "{name}: the two Rust readers differ");
+    assert_eq!(
+        codec.read(bytes, 1),
+        checksum(&boxes),
+        "{name}: the checksums differ"
+    );
+    let by_best = best::write_boxes(&boxes).expect("the best-effort writer refuses the boxes");
+    assert!(
+        by_best == *written,
+        "{name}: the best-effort writer gives other bytes"
+    );
+    let by_naive = naive::write_boxes(&boxes).expect("the naive writer refuses the boxes");
+    assert!(
+        by_naive == *written,
+        "{name}: the naive writer gives other bytes"
+    );
+    assert!(
+        codec.rewrite(bytes) == *written,
+        "{name}: the codec writes other bytes"
+    );
+    let last = written.last().map_or(0, |last| u64::from(*last));
+    assert_eq!(
+        codec.write(bytes, 1),
+        written.len() as u64 + last,
+        "{name}: the lengths differ"
+    );
+    boxes
+}
