@@ -18,16 +18,16 @@ use std::alloc::Global;
 /// The sample entry of HEVC video (`hev1`, ISO/IEC 14496-15, 8.4.1). Boxes after its `hvcC` are neither read nor written.
 #[derive(Debug, Drop, PartialEq, Eq)]
 pub struct Hev1Box {
+    /// The horizontal resolution, in pixels an inch, usually 72.
+    pub horizresolution: FixedPointU16,
+    /// The vertical resolution, in pixels an inch, usually 72.
+    pub vertresolution: FixedPointU16,
     /// Which data reference the samples are in, from 1 on.
     pub data_reference_index: u16,
     /// The width, in pixels.
     pub width: u16,
     /// The height, in pixels.
     pub height: u16,
-    /// The horizontal resolution, in pixels an inch, usually 72.
-    pub horizresolution: FixedPointU16,
-    /// The vertical resolution, in pixels an inch, usually 72.
-    pub vertresolution: FixedPointU16,
     /// How many frames a sample has, usually 1.
     pub frame_count: u16,
     /// How many bits a pixel has, usually 24.

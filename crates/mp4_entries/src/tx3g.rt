@@ -19,18 +19,18 @@ use std::alloc::Global;
 /// The sample entry of timed text (`tx3g`, 3GPP TS 26.245, 5.16). Boxes in it are neither read nor written.
 #[derive(Clone, Debug, Drop, PartialEq, Eq)]
 pub struct Tx3gBox {
-    /// Which data reference the samples are in, from 1 on.
-    pub data_reference_index: u16,
     /// Flags of scrolling, of karaoke and of the direction of the text.
     pub display_flags: u32,
+    /// Which data reference the samples are in, from 1 on.
+    pub data_reference_index: u16,
+    /// The box of the text, in pixels: its top, left, bottom and right.
+    pub box_record: [i16; 4],
     /// Where the text is in its box, across: 0 is left, 1 the centre, -1 right.
     pub horizontal_justification: i8,
     /// Where the text is in its box, up and down: 0 is the top, 1 the centre, -1 the bottom.
     pub vertical_justification: i8,
     /// The colour behind the text.
     pub bg_color_rgba: RgbaColor,
-    /// The box of the text, in pixels: its top, left, bottom and right.
-    pub box_record: [i16; 4],
     /// The style of the text: the first and the last character in 2 bytes each, the font in 2, its style flags in 1, its
     /// size in 1, and its colour in 4.
     pub style_record: [u8; 12],

@@ -19,16 +19,14 @@ use std::alloc::Global;
 /// box is read as a `vpcC`, whatever its code; boxes after it are neither read nor written.
 #[derive(Clone, Debug, Default, Drop, PartialEq, Eq)]
 pub struct Vp09Box {
-    /// The first of the six reserved bytes of a sample entry, usually 0. It is kept as it is.
-    pub version: u8,
     /// The next three of them, as a number below 2^24, usually 0.
     pub flags: u32,
+    /// The configuration of the decoder.
+    pub vpcc: VpccBox,
     /// The last two of them, usually 0.
     pub start_code: u16,
     /// Which data reference the samples are in, from 1 on.
     pub data_reference_index: u16,
-    /// Reserved bytes, usually 0. They are kept as they are.
-    pub reserved0: [u8; 16],
     /// The width, in pixels.
     pub width: u16,
     /// The height, in pixels.
@@ -37,18 +35,20 @@ pub struct Vp09Box {
     pub horizresolution: (u16, u16),
     /// The vertical resolution, in pixels an inch: its whole part, and its fraction of 65536.
     pub vertresolution: (u16, u16),
-    /// Reserved bytes, usually 0. They are kept as they are.
-    pub reserved1: [u8; 4],
     /// How many frames a sample has, usually 1.
     pub frame_count: u16,
-    /// The name of the compressor: the number of its bytes, the name, and zeros.
-    pub compressorname: [u8; 32],
     /// How many bits a pixel has, usually 24.
     pub depth: u16,
     /// Two bytes that are ones in the standard. They are kept as they are.
     pub end_code: u16,
-    /// The configuration of the decoder.
-    pub vpcc: VpccBox,
+    /// The first of the six reserved bytes of a sample entry, usually 0. It is kept as it is.
+    pub version: u8,
+    /// Reserved bytes, usually 0. They are kept as they are.
+    pub reserved0: [u8; 16],
+    /// Reserved bytes, usually 0. They are kept as they are.
+    pub reserved1: [u8; 4],
+    /// The name of the compressor: the number of its bytes, the name, and zeros.
+    pub compressorname: [u8; 32],
 }
 
 impl Vp09Box {

@@ -14,10 +14,12 @@ use std::alloc::Global;
 /// The configuration of a VP9 decoder (`vpcC`, VP Codec ISO Media File Format Binding, "VP Codec Configuration Box").
 #[derive(Clone, Debug, Default, Drop, PartialEq, Eq)]
 pub struct VpccBox {
-    /// 1 in the standard. Every version is read and written in the same way.
-    pub version: u8,
     /// Flags, below 2^24, 0 in the standard.
     pub flags: u32,
+    /// The number of bytes of data for initialization: 0 for VP9. Such bytes are neither read nor written.
+    pub codec_initialization_data_size: u16,
+    /// 1 in the standard. Every version is read and written in the same way.
+    pub version: u8,
     /// The profile of VP9.
     pub profile: u8,
     /// The level of VP9, times 10.
@@ -34,8 +36,6 @@ pub struct VpccBox {
     pub transfer_characteristics: u8,
     /// The matrix coefficients, as in ISO/IEC 23091-2, 8.3.
     pub matrix_coefficients: u8,
-    /// The number of bytes of data for initialization: 0 for VP9. Such bytes are neither read nor written.
-    pub codec_initialization_data_size: u16,
 }
 
 impl VpccBox {

@@ -35,9 +35,9 @@ specific_equality x y = (
       let p1 = and_parts _ _ h in
       let p2 = and_parts _ _ p1.1 in
       let p3 = and_parts _ _ p2.1 in
-      let e_profile : x.profile ≡ y.profile = eqb-true _ _ p1.0 in
-      let e_freq_index : x.freq_index ≡ y.freq_index = eqb-true _ _ p2.0 in
-      let e_sample_rate : x.sample_rate ≡ y.sample_rate = same_option _ _ p3.0 in
+      let e_sample_rate : x.sample_rate ≡ y.sample_rate = same_option _ _ p1.0 in
+      let e_profile : x.profile ≡ y.profile = eqb-true _ _ p2.0 in
+      let e_freq_index : x.freq_index ≡ y.freq_index = eqb-true _ _ p3.0 in
       let e_chan_conf : x.chan_conf ≡ y.chan_conf = eqb-true _ _ p3.1 in
       search rules),
   (λ e. rw e (specific_laws.laws-law.refl y)),
@@ -52,13 +52,13 @@ config_equality x y = (
       let p4 = and_parts _ _ p3.1 in
       let p5 = and_parts _ _ p4.1 in
       let p6 = and_parts _ _ p5.1 in
-      let e_object_type_indication : x.object_type_indication ≡ y.object_type_indication = eqb-true _ _ p1.0 in
-      let e_stream_type : x.stream_type ≡ y.stream_type = eqb-true _ _ p2.0 in
-      let e_up_stream : x.up_stream ≡ y.up_stream = eqb-true _ _ p3.0 in
-      let e_buffer_size_db : x.buffer_size_db ≡ y.buffer_size_db = eqb-true _ _ p4.0 in
-      let e_max_bitrate : x.max_bitrate ≡ y.max_bitrate = eqb-true _ _ p5.0 in
-      let e_avg_bitrate : x.avg_bitrate ≡ y.avg_bitrate = eqb-true _ _ p6.0 in
-      let e_dec_specific : x.dec_specific ≡ y.dec_specific = (specific_equality _ _).0 p6.1 in
+      let e_buffer_size_db : x.buffer_size_db ≡ y.buffer_size_db = eqb-true _ _ p1.0 in
+      let e_max_bitrate : x.max_bitrate ≡ y.max_bitrate = eqb-true _ _ p2.0 in
+      let e_avg_bitrate : x.avg_bitrate ≡ y.avg_bitrate = eqb-true _ _ p3.0 in
+      let e_dec_specific : x.dec_specific ≡ y.dec_specific = (specific_equality _ _).0 p4.0 in
+      let e_object_type_indication : x.object_type_indication ≡ y.object_type_indication = eqb-true _ _ p5.0 in
+      let e_stream_type : x.stream_type ≡ y.stream_type = eqb-true _ _ p6.0 in
+      let e_up_stream : x.up_stream ≡ y.up_stream = eqb-true _ _ p6.1 in
       search rules),
   (λ e. rw e (config_laws.laws-law.refl y)),
 )
@@ -68,8 +68,8 @@ es_descriptor_equality x y = (
   (λ h.
       let p1 = and_parts _ _ h in
       let p2 = and_parts _ _ p1.1 in
-      let e_es_id : x.es_id ≡ y.es_id = eqb-true _ _ p1.0 in
-      let e_dec_config : x.dec_config ≡ y.dec_config = (config_equality _ _).0 p2.0 in
+      let e_dec_config : x.dec_config ≡ y.dec_config = (config_equality _ _).0 p1.0 in
+      let e_es_id : x.es_id ≡ y.es_id = eqb-true _ _ p2.0 in
       let e_sl_config : x.sl_config ≡ y.sl_config = (sl_config_equality _ _).0 p2.1 in
       search rules),
   (λ e. rw e (es_descriptor_laws.laws-law.refl y)),
@@ -80,9 +80,9 @@ esds_equality x y = (
   (λ h.
       let p1 = and_parts _ _ h in
       let p2 = and_parts _ _ p1.1 in
-      let e_version : x.version ≡ y.version = eqb-true _ _ p1.0 in
-      let e_flags : x.flags ≡ y.flags = eqb-true _ _ p2.0 in
-      let e_es_desc : x.es_desc ≡ y.es_desc = (es_descriptor_equality _ _).0 p2.1 in
+      let e_flags : x.flags ≡ y.flags = eqb-true _ _ p1.0 in
+      let e_es_desc : x.es_desc ≡ y.es_desc = (es_descriptor_equality _ _).0 p2.0 in
+      let e_version : x.version ≡ y.version = eqb-true _ _ p2.1 in
       search rules),
   (λ e. rw e (esds_laws.laws-law.refl y)),
 )

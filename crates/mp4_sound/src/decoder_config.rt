@@ -15,12 +15,6 @@ use mp4_media::AacConfig;
 /// The decoder configuration descriptor (tag 4; ISO/IEC 14496-1, 7.2.6.6).
 #[derive(Clone, Debug, Default, Drop, PartialEq, Eq)]
 pub struct DecoderConfigDescriptor {
-    /// How the stream is coded: 0x40 is MPEG-4 audio.
-    pub object_type_indication: u8,
-    /// What the stream conveys, at most 63: 5 is sound.
-    pub stream_type: u8,
-    /// 2 for a stream from the receiver to the sender, else 0. The other bits are not written.
-    pub up_stream: u8,
     /// The size of the decoding buffer, in bytes, below 2^24.
     pub buffer_size_db: u32,
     /// The maximum bit rate, in bits per second.
@@ -29,6 +23,12 @@ pub struct DecoderConfigDescriptor {
     pub avg_bitrate: u32,
     /// The configuration of the decoder.
     pub dec_specific: DecoderSpecificDescriptor,
+    /// How the stream is coded: 0x40 is MPEG-4 audio.
+    pub object_type_indication: u8,
+    /// What the stream conveys, at most 63: 5 is sound.
+    pub stream_type: u8,
+    /// 2 for a stream from the receiver to the sender, else 0. The other bits are not written.
+    pub up_stream: u8,
 }
 
 impl DecoderConfigDescriptor {

@@ -17,13 +17,13 @@ use mp4_media::{AacConfig, AudioObjectType};
 /// 1.6.2.1). What may follow them there is not read.
 #[derive(Clone, Debug, Default, Drop, PartialEq, Eq)]
 pub struct DecoderSpecificDescriptor {
+    /// The sampling frequency, in hertz, below 2^24. It is present exactly if `freq_index` is 15.
+    pub sample_rate: Option<u32>,
     /// The audio object type: 0 to 95, but not 31. `AudioObjectType` names them.
     pub profile: u8,
     /// The index of the sampling frequency, at most 15. `SampleFreqIndex` names 0 to 12; 15 means that `sample_rate`
     /// has the frequency.
     pub freq_index: u8,
-    /// The sampling frequency, in hertz, below 2^24. It is present exactly if `freq_index` is 15.
-    pub sample_rate: Option<u32>,
     /// The channel configuration, at most 15. `ChannelConfig` names 1 to 7.
     pub chan_conf: u8,
 }

@@ -16,10 +16,10 @@ use mp4_media::AacConfig;
 /// The elementary stream descriptor (tag 3; ISO/IEC 14496-1, 7.2.6.5).
 #[derive(Clone, Debug, Default, Drop, PartialEq, Eq)]
 pub struct ESDescriptor {
-    /// The number of the stream. The standard has 0, or the low bits of the number of the track.
-    pub es_id: u16,
     /// How the stream is decoded.
     pub dec_config: DecoderConfigDescriptor,
+    /// The number of the stream. The standard has 0, or the low bits of the number of the track.
+    pub es_id: u16,
     /// The configuration of the sync layer.
     pub sl_config: SLConfigDescriptor,
 }

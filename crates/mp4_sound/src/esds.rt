@@ -23,12 +23,12 @@ use std::alloc::Global;
 /// lengths are declared.
 #[derive(Clone, Debug, Default, Drop, PartialEq, Eq)]
 pub struct EsdsBox {
-    /// The version of the box, usually 0. It is kept as it is.
-    pub version: u8,
     /// 24 bits, 0 in the standard.
     pub flags: u32,
     /// The descriptor of the stream.
     pub es_desc: ESDescriptor,
+    /// The version of the box, usually 0. It is kept as it is.
+    pub version: u8,
 }
 
 impl EsdsBox {
