@@ -5,11 +5,11 @@ use Rattle.std.specs.Prelude.{nat_lt, nat_le, ◌==◌}
 use Rattle.std.proofs.lemmas.Bool.{cond_both}
 use Rattle.mp4_frame.specs.BoxType.{name_of, code_of, code_of-name_of}
 use Rattle.mp4_frame.specs.Bytes.{number}
-use Rattle.mp4_frame.specs.Format.{Format}
+use Rattle.mp4_frame.specs.Format.{Format, IsWritten}
 use Rattle.mp4_frame.specs.Heads.{head, compact_head, large_head, frame_of_head, frame_of, frame}
 use Rattle.mp4_frame.specs.Laws.{AreBytes}
 use Rattle.mp4_frame.specs.Reading.{Reading, Fault, ◌>>=◌, check, memory, done}
-use Rattle.mp4_frame.specs.Streams.{walk_on, walk_at_most, box_of, boxes}
+use Rattle.mp4_frame.specs.Streams.{walk_on, walk_at_most, box_of, boxes, stream}
 use Rattle.mp4_frame.specs.declared.box_type.BoxType.{BoxType}
 use Rattle.mp4_frame.specs.declared.frame.Frame.{Frame}
 use Rattle.mp4_frame.specs.declared.head.Head.{Head}
@@ -104,3 +104,16 @@ module _ {A : Type 0} (format : Format A) (known : BoxType → Bool) (reading : 
     -- all boxes of a list that was read are sound
     pub read_lists_are_sound : (o : ℕ) (vs : List A) → (boxes known reading B o).outcome ≡ Ok vs → AreSound vs
     read_lists_are_sound o vs e = walk_sound (length B) o vs e
+
+-- ---- normal forms of a list
+
+module _ {A : Type 0} (format : Format A) (laws : IsWritten format) where
+  pub normals_are_writable : (vs : List A) → AllByRecursion format.Writable vs → AllByRecursion format.Writable (map format.normal vs)
+  normals_are_writable [] w = tt
+  normals_are_writable (v ∷ vs) w = ((laws.normal_form v w.0).writable, normals_are_writable vs w.1)
+
+  pub normals_have_same_bytes : (vs : List A) → AllByRecursion format.Writable vs → stream format.bytes (map format.normal vs) ≡ stream format.bytes vs
+  normals_have_same_bytes [] w = refl
+  normals_have_same_bytes (v ∷ vs) w =
+      ap (λ (xs : List ℕ). xs ++ stream format.bytes (map format.normal vs)) (laws.normal_form v w.0).same_bytes
+      ∙ ap (λ (ys : List ℕ). format.bytes v ++ ys) (normals_have_same_bytes vs w.1)

@@ -7,7 +7,13 @@ pub mod NameLaws
 pub mod KeptBox
 pub mod KeptBoxLaws
 pub mod Sound
+pub mod Coded
+pub mod MemberLaws
 pub mod SoundLaws
+pub mod Listed
+pub mod ListedLaws
+pub mod Boxes
+pub mod Author
 pub use Rattle.mp4_frame.specs.BoxType
 pub use Rattle.mp4_frame.specs.Bytes
 pub use Rattle.mp4_frame.specs.Equality

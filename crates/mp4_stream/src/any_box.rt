@@ -19,6 +19,7 @@ use mp4_tables::{
 };
 use mp4_text::{DataBox, DinfBox, DrefBox, EmsgBox, FtypBox, HdlrBox, UrlBox};
 use std::alloc::Global;
+use std::fmt;
 
 /// Calls a macro with the list of all box types in brackets, followed by the other arguments.
 macro_rules! of_boxes {
@@ -68,8 +69,17 @@ macro_rules! is_named {
     };
 }
 
+/// Prints an `AnyBox` as its variant, with the box inside.
+macro_rules! print_any {
+    ([$($held:ident)*] $any:expr, $f:expr) => {
+        match $any {
+            $(AnyBox::$held(value) => print_variant($f, stringify!($held), value),)*
+        }
+    };
+}
+
 /// A box of any of the types that the codec reads.
-#[derive(Debug, Drop, PartialEq, Eq)]
+#[derive(Drop, PartialEq, Eq)]
 pub enum AnyBox {
     FtypBox(FtypBox),
     MvhdBox(MvhdBox),
@@ -107,6 +117,21 @@ pub enum AnyBox {
     EsdsBox(EsdsBox),
     Mp4aBox(Mp4aBox),
     StsdBox(StsdBox),
+}
+
+/// Prints a variant of this name, with this value inside.
+fn print_variant<W: fmt::Write>(
+    f: &mut fmt::Formatter<W>,
+    name: &str,
+    value: &impl fmt::Debug,
+) -> fmt::Result {
+    f.debug_tuple(name).field(value).finish()
+}
+
+impl fmt::Debug for AnyBox {
+    fn fmt<W: fmt::Write>(&self, f: &mut fmt::Formatter<W>) -> fmt::Result {
+        of_boxes!(print_any, self, f)
+    }
 }
 
 impl TryClone for AnyBox {

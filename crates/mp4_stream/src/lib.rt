@@ -4,6 +4,7 @@
 
 mod any_box;
 pub mod any_laws;
+pub mod author;
 mod kept_box;
 pub mod list_laws;
 mod member;

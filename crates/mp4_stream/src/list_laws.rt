@@ -6,6 +6,7 @@ ghost use Rattle.mp4_frame.specs.Laws.{AreBytes};
 ghost use Rattle.mp4_frame.specs.Streams.{stream, boxes};
 
 use crate::sound_stream::SoundStream;
+use mp4_frame::StreamBox;
 
 /// The boxes that were read are their own normal forms. They can be written unless one is too large.
 pub fn read_list_is_sound<B: SoundStream>()
@@ -17,4 +18,12 @@ pub fn read_list_is_sound<B: SoundStream>()
 pub fn normal_stream_is_kept<B: SoundStream>()
     ensures { (bytes : List ℕ) (o : ℕ) (vs : List _) → AreBytes bytes → (boxes B.known B.named_reading bytes o).outcome ≡ Ok vs → All B.format.Writable vs → length (stream B.format.bytes vs) < 2 ^ 64
         → (boxes B.known B.named_reading (stream B.format.bytes vs) 0).outcome ≡ Ok vs }
+{}
+
+/// A stream of boxes that can be written comes out as it is: what is read of it can be written, in the same bytes.
+pub fn written_stream_is_kept<B: StreamBox>()
+    ensures writable { (vs ws : List _) → All B.format.Writable vs → length (stream B.format.bytes vs) < 2 ^ 64
+        → (boxes B.known B.named_reading (stream B.format.bytes vs) 0).outcome ≡ Ok ws → All B.format.Writable ws }
+    ensures bytes { (vs ws : List _) → All B.format.Writable vs → length (stream B.format.bytes vs) < 2 ^ 64
+        → (boxes B.known B.named_reading (stream B.format.bytes vs) 0).outcome ≡ Ok ws → stream B.format.bytes ws ≡ stream B.format.bytes vs }
 {}

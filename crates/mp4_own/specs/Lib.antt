@@ -1,0 +1,4 @@
+pub mod Sidx
+pub mod SidxLaws
+pub mod Segment
+pub mod SegmentLaws

@@ -1,0 +1,50 @@
+-- What the author of a box type needs besides what contracts of callers name. Definitions come first, and then the
+-- lemmas that the laws of a box are made of. docs/OWN-BOX.md goes through a box that is made of these.
+
+-- numbers and fields in bytes
+unfoldable pub use Rattle.mp4_frame.specs.Bytes.{number, be_bytes, bytes_of_fields, bytes_of_fields_onto}
+pub use Rattle.mp4_frame.specs.Bytes.{width_of_fields, FieldsFit, full_box}
+-- reading
+pub use Rattle.mp4_frame.specs.Reading.{Reading, ◌>>=◌, done, check, expect_bytes, piece_at, memory, reading, Answers, AnswersAs, TakesNone}
+unfoldable pub use Rattle.mp4_frame.specs.Tables.{rows_at}
+pub use Rattle.mp4_frame.specs.Tables.{reads_table, size_table, WritableTable, bytes_table}
+pub use Rattle.mp4_flat.specs.Time.{time_width, version_of, reads_timed, WritableTimed}
+unfoldable pub use Rattle.mp4_tables.specs.Rows.{rows_within}
+unfoldable pub use Rattle.mp4_stream.specs.Listed.{reads_entries}
+pub use Rattle.mp4_stream.specs.Listed.{WritableListed, bytes_listed}
+-- children
+pub use Rattle.mp4_frame.specs.Children
+pub use Rattle.mp4_frame.specs.OneChild
+pub use Rattle.mp4_frame.specs.OptionalChild
+pub use Rattle.mp4_frame.specs.Parent
+-- names, formats, and types that hold boxes of several types
+pub use Rattle.mp4_frame.specs.BoxType.{name_of, code_of, is_disguised, name_of-code_of}
+pub use Rattle.mp4_frame.specs.declared.box_type.BoxType.{BoxType}
+pub use Rattle.mp4_frame.specs.declared.box_type.BoxType.TheVariants as names
+pub use Rattle.mp4_frame.specs.declared.codes.TheConstants as codes
+pub use Rattle.mp4_frame.specs.declared.error.Error.TheVariants as errors
+pub use Rattle.mp4_frame.specs.Format.{Format, IsBox, write_laws}
+pub use Rattle.mp4_frame.specs.Laws.{OwnName, ReadsBack, AreBytes}
+pub use Rattle.mp4_frame.specs.Members.{Kind, Known, Unknown, Is, kind, is_known, reading_known, Held, holds}
+pub use Rattle.mp4_stream.specs.Coded.{known_if, of_code}
+-- the laws of a box of fields
+pub use Rattle.mp4_frame.proofs.Fields.{found, length-fields, number-fields, number-fields_alone, numbers-fields, expect_bytes-fields, number-below}
+pub use Rattle.mp4_frame.proofs.Framing.{header_of_fields, header_in_front, own_normal_form, Number, Signed8, Signed16, Signed32, Fitting, fits_read}
+pub use Rattle.mp4_frame.proofs.Rows.{one_run_again, one_run_is, by_version_again, by_version_is}
+pub use Rattle.mp4_frame.proofs.Checks.{past, past_check, expect_bytes_ok, check_ok, is_value, are_bytes-drop, reads_ok, reads_back}
+pub use Rattle.mp4_frame.proofs.NoMemory.{bind_takes_none, expect_bytes_takes_none, check_takes_none, fields_take_none}
+pub use Rattle.mp4_flat.specs.TimeLaws.{each_version, timed_back, timed_is, timed_takes_none}
+-- the laws of a box with a list
+pub use Rattle.mp4_frame.proofs.Tables.{IsRow, length_flat, map_back, map_all, value_first, rows_at_back, rows_read}
+pub use Rattle.mp4_frame.proofs.TableLaws.{IsEntry, number_entry, TableOf, format_table, laws_table}
+pub use Rattle.mp4_tables.specs.EntryLaws.{fields_back}
+pub use Rattle.mp4_tables.specs.RowsLaws.{rows_within_back, rows_within_read}
+pub use Rattle.mp4_stream.specs.ListedLaws.{entries_back, entries_read, listed_back, listed_read}
+-- the laws of a box with children
+pub use Rattle.mp4_frame.proofs.ChildLaws
+pub use Rattle.mp4_frame.proofs.OneChildLaws
+pub use Rattle.mp4_frame.proofs.ParentLaws
+-- the laws of a type that holds boxes of several types
+pub use Rattle.mp4_frame.proofs.Members.{IsMember, member, written_member, own_name_of_member, read_back_of_member}
+pub use Rattle.mp4_stream.specs.MemberLaws.{ValueOf, name_of_value, own_code, sound_member}
+pub use Rattle.mp4_stream.specs.Sound.{ReadsSoundly}
