@@ -101,15 +101,14 @@ pub fn finish<W: Write>(output: &mut Output<W>) -> Result<(), RunFault>
     Ok(())
 }
 
-/// The boxes of the bytes, written in their normal form. The bytes are dropped before the output is made.
-fn normalize(alloc: Global, bytes: Vec<u8>) -> mp4_stream::Result<Vec<u8>>
+/// The boxes of the bytes, written in their normal form, to the vector that the bytes were in.
+fn normalize(alloc: Global, mut bytes: Vec<u8>) -> mp4_stream::Result<Vec<u8>>
     ensures { Rewrites Normalizes NormalRefusal (λ v. v.items) bytes.items result }
 {
     let boxes: Vec<KeptBox> = read_boxes_as(alloc, &mut ByteCursor::new(&bytes))?;
-    drop(bytes);
-    let mut out = Vec::new(alloc);
-    write_boxes(&boxes, &mut out)?;
-    Ok(out)
+    bytes.clear();
+    write_boxes(&boxes, &mut bytes)?;
+    Ok(bytes)
 }
 
 /// Reads all boxes of the input, and writes them to the output in their normal form: boxes of types that the codec does
