@@ -5,12 +5,15 @@ import os
 import random
 import re
 
+from rows_of import rows
 from slow_reader import READERS
 
 TOP = os.path.dirname(os.path.dirname(os.path.abspath(__file__)))
 SOURCES = os.path.join(TOP, "crates/*/src/**/*.rt")
 CONSTANT = re.compile(r'const \w+: \[u8; (\d+)\] =\s*(?:\*b"((?:[^"\\]|\\.)*)"|\[([^\];]*)\]);', re.S)
 ESCAPE = re.compile(rb"\\(?:x(..)|\n\s*|(.))", re.S)
+# The largest box of the rows that is taken.
+MOST = 200
 LETTERS = {b"0": b"\0", b"n": b"\n", b"r": b"\r", b"t": b"\t"}
 CODES = [name.encode() for name in READERS]
 HEADERS = re.compile(b"(?=....(" + b"|".join(CODES) + b"))", re.S)
@@ -31,8 +34,9 @@ def unescaped(text):
 
 
 def worked_bytes():
-    """The constants of the crates that are a box's bytes: of each type, and of versions 0 and 1 where they differ."""
-    found = []
+    """The constants of the crates that are a box's bytes, and the boxes of the rows that are written in the same bytes:
+    of each type, and of versions 0 and 1 where they differ."""
+    found = [row.buffer for _, row in rows() if row.written == row.buffer and len(row.buffer) <= MOST]
     for path in sorted(glob.glob(SOURCES, recursive=True)):
         with open(path, encoding="utf-8") as file:
             for length, text, numbers in CONSTANT.findall(file.read()):

@@ -1,14 +1,18 @@
 //! Reads records from standard input, and writes records to standard output that say what the codec reads in them.
-//! `tests/differential` compares these with what a second reader reads.
+//! `tests/rows` compares these with what is expected, and `tests/differential` with what a second reader reads.
 //!
-//! A record of the input is a position, a number of bytes, and these bytes. It gives two records of the output, each a
-//! number of bytes and a text of these bytes: what is read as the box whose header is at the position, if its name is
-//! known, and what is read as the list of the boxes from the position on. A text is the result as `Debug` prints it, a
-//! space, and the cursor's position after the call. Numbers have 8 bytes and are big-endian. The program ends at the first
-//! record that isn't whole.
+//! A record of the input is a position, a number of bytes, and these bytes. It gives four records of the output, each a
+//! number of bytes and a text of these bytes. The first is what is read as the box whose header is at the position, if its
+//! name is known; the second, what is read as the list of the boxes from the position on: the result as `Debug` prints it,
+//! a space, and the cursor's position after the call. The third is what this list is written in: the result of the call,
+//! a space, and the list of the bytes; it is empty if there is no list. The fourth is what `read_counted` reads of the box,
+//! as the first, with a space and the number of headers after it; it is empty if the box isn't an `esds`. Numbers have 8
+//! bytes and are big-endian. The program ends at the first record that isn't whole.
 #![tactic(auto)]
 
-use mp4_stream::{AnyBox, BoxHeader, ByteCursor, StreamBox, read_boxes};
+use mp4_stream::{
+    AnyBox, BoxHeader, BoxType, ByteCursor, EsdsBox, StreamBox, read_boxes, write_boxes,
+};
 use std::alloc::{AllocError, Global};
 use std::fmt::Debug;
 use std::io;
@@ -23,13 +27,18 @@ fn first_record(input: &[u8]) -> Option<(u64, &[u8], &[u8])> {
 }
 
 /// Reads the box whose header is at the cursor, if its name is known.
-fn read_one(alloc: Global, reader: &mut ByteCursor) -> mp4_stream::Result<Option<AnyBox>> {
+fn read_one<B: StreamBox>(alloc: Global, reader: &mut ByteCursor) -> mp4_stream::Result<Option<B>> {
     let header = BoxHeader::read(reader)?;
-    if !AnyBox::knows(header.name) {
+    if !B::knows(header.name) {
         return Ok(None);
     }
-    let found = AnyBox::read_named(alloc, header.name, reader, header.size)?;
-    Ok(Some(found))
+    B::read_named(alloc, header.name, reader, header.size).map(Some)
+}
+
+/// Appends a record of this text.
+fn push_record(text: &str, out: &mut Vec<u8>) -> Result<(), AllocError> {
+    out.extend_from_slice(&(text.len() as u64).to_be_bytes())?;
+    out.extend_from_slice(text.as_bytes())
 }
 
 /// Appends a record: the result of a call, and the cursor's position after it.
@@ -40,12 +49,63 @@ fn show(
     out: &mut Vec<u8>,
 ) -> Result<(), AllocError> {
     let text = format!(in alloc; "{found:?} {}", reader.position())?;
-    out.extend_from_slice(&(text.len() as u64).to_be_bytes())?;
-    out.extend_from_slice(text.as_bytes())
+    push_record(&text, out)
 }
 
-/// Appends the two records of these bytes.
-fn show_both(
+/// Appends a record: the result of writing these boxes, and the bytes that were written.
+fn show_written<B: StreamBox>(
+    alloc: Global,
+    boxes: &[B],
+    out: &mut Vec<u8>,
+) -> Result<(), AllocError> {
+    let mut written = Vec::new(alloc);
+    let result = write_boxes(boxes, &mut written);
+    let text = format!(in alloc; "{result:?} {written:?}")?;
+    push_record(&text, out)
+}
+
+/// Appends a record: the result of reading the box whose header is at the cursor, and the cursor's position after it.
+fn show_box<B: StreamBox + Debug + Drop>(
+    alloc: Global,
+    reader: &mut ByteCursor,
+    out: &mut Vec<u8>,
+) -> Result<(), AllocError> {
+    let found = read_one::<B>(alloc, reader);
+    show(alloc, &found, reader, out)
+}
+
+/// Appends two records: the result of reading a list and the cursor's position after it, and the result of writing it.
+fn show_list<B: StreamBox + Debug + Drop>(
+    alloc: Global,
+    found: &mp4_stream::Result<Vec<B>>,
+    reader: &ByteCursor,
+    out: &mut Vec<u8>,
+) -> Result<(), AllocError> {
+    show(alloc, found, reader, out)?;
+    match found {
+        Ok(boxes) => show_written(alloc, boxes, out),
+        Err(_) => push_record("", out),
+    }
+}
+
+/// Appends a record: the result of reading the box whose header is at the cursor, the cursor's position after it, and how
+/// many headers of descriptors are read, if it is an `esds`.
+fn show_counted(
+    alloc: Global,
+    reader: &mut ByteCursor,
+    out: &mut Vec<u8>,
+) -> Result<(), AllocError> {
+    let size = match BoxHeader::read(reader) {
+        Ok(header) if header.name == BoxType::EsdsBox => header.size,
+        _ => return push_record("", out),
+    };
+    let (found, headers) = EsdsBox::read_counted(reader, size);
+    let text = format!(in alloc; "{found:?} {} {headers}", reader.position())?;
+    push_record(&text, out)
+}
+
+/// Appends the four records of these bytes.
+fn show_all(
     alloc: Global,
     position: u64,
     bytes: &[u8],
@@ -53,11 +113,12 @@ fn show_both(
 ) -> Result<(), AllocError> {
     let mut reader = ByteCursor::new(bytes);
     reader.set_position(position);
-    let found = read_one(alloc, &mut reader);
-    show(alloc, &found, &reader, out)?;
+    show_box::<AnyBox>(alloc, &mut reader, out)?;
     reader.set_position(position);
     let found = read_boxes(alloc, &mut reader);
-    show(alloc, &found, &reader, out)
+    show_list(alloc, &found, &reader, out)?;
+    reader.set_position(position);
+    show_counted(alloc, &mut reader, out)
 }
 
 fn main(rt: HostRuntime) -> io::Result<()> {
@@ -69,7 +130,7 @@ fn main(rt: HostRuntime) -> io::Result<()> {
         let Some((position, bytes, after)) = first_record(rest) else {
             break;
         };
-        show_both(rt.alloc(), position, bytes, &mut out)?;
+        show_all(rt.alloc(), position, bytes, &mut out)?;
         rest = after;
     }
     rt.stdout().write_all(&out)

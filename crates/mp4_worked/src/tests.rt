@@ -1,21 +1,20 @@
 //! Tests of what no contract says, a file for each thing that is tested.
 
-mod children;
 mod chunks;
 mod clones;
 mod configurations;
-mod counts;
+mod descriptions;
 mod entries;
-mod faults;
 mod fixed_points;
 mod invalid_texts;
 mod media_tables;
 mod metadata;
 mod printed;
+mod sample_entries;
 mod samples;
+mod sound;
 mod texts;
 mod unwritable;
-mod utf8;
 mod worked;
 
 use mp4_fixtures::boxes::tables::list;

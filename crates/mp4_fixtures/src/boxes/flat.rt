@@ -36,22 +36,12 @@ pub const TKHD_LONG: [u8; 104] =
 \0\0\0\0\0\0\0\0\0\0\0\x01\0\0\0\0\x01\0\0\0\0\0\0\0\0\0\0\0\0\0\0\0\x01\0\0\0\0\0\0\0\0\0\0\0\0\0\
 \0@\0\0\0\x02\0\0\0\x01\x20\0\0";
 
-/// `tkhd`, version 0: every field has another value.
-pub const TKHD_FULL: [u8; 92] =
-    *b"\0\0\0\\tkhd\0\0\0\x07\x01\x02\x03\x04\x05\x06\x07\x08\x09\x0a\x0b\x0c\0\0\0\0\x0d\x0e\x0f\x10\0\0\
-\0\0\0\0\0\0\x11\x12\x13\x14\x15\x16\0\0\0\0\0\x01\xff\xff\xff\xff\0\0\0\x02\xff\xff\xff\xfe\0\0\0\
-\x03\xff\xff\xff\xfd\x7f\xff\xff\xff\x80\0\0\0\0\0\0\x04\x17\x18\x19\x20!\"#$";
-
 /// `mdhd`, version 0: times of 32 bits, no certain language.
 pub const MDHD: [u8; 32] = *b"\0\0\0 mdhd\0\0\0\0\0\0\0d\0\0\0\xc8\0\0\xbb\x80\x01\xd0z\0U\xc4\0\0";
 
 /// `mdhd`, version 0: times of 32 bits, English.
 pub const MDHD_ENGLISH: [u8; 32] =
     *b"\0\0\0\x20mdhd\0\0\0\0\0\0\0d\0\0\0\xc8\0\0\xbb\x80\x01\xd0z\0\x15\xc7\0\0";
-
-/// `mdhd`, version 1: times of 64 bits, English.
-pub const MDHD_LONG: [u8; 44] =
-    *b"\0\0\0,mdhd\x01\0\0\0\0\0\0\0\0\0\0d\0\0\0\0\0\0\0\xc8\0\0\xbb\x80\0\0\0\0\x01\xd0z\0\x15\xc7\0\0";
 
 /// `mehd`, version 1: a duration of 2^32, in 64 bits.
 pub const MEHD: [u8; 20] = *b"\0\0\0\x14mehd\x01\0\0\0\0\0\0\x01\0\0\0\0";
@@ -64,9 +54,6 @@ pub const SMHD: [u8; 16] = *b"\0\0\0\x10smhd\0\0\0\0\xff\xff\0\0";
 
 /// `vmhd`, version 0: a color with 0, a low byte of 0, and the largest number.
 pub const VMHD: [u8; 20] = *b"\0\0\0\x14vmhd\0\0\0\x01\0\0\0\0\x01\0\xff\xff";
-
-/// `vmhd`, version 0: three unlike numbers as a color.
-pub const VMHD_COLORS: [u8; 20] = *b"\0\0\0\x14vmhd\0\0\0\x01\0\0\0\x01\0\x02\0\x03";
 
 /// `trex`, version 0: defaults for the samples of a track.
 pub const TREX: [u8; 32] =

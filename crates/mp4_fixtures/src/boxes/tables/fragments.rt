@@ -10,13 +10,6 @@ pub const TFHD: [u8; 28] = *b"\0\0\0\x1ctfhd\0\0\0*\0\0\0\x01\0\0\0\x01\0\0\x02\
 /// `trun`, version 0: a data offset, and the sizes of two samples.
 pub const TRUN: [u8; 28] = *b"\0\0\0\x1ctrun\0\0\x02\x01\0\0\0\x02\0\0\0d\0\0\0\x0a\0\0\0\x14";
 
-/// `tfhd`, version 0: all five optional fields.
-pub const TFHD_ALL: [u8; 40] =
-    *b"\0\0\0\x28tfhd\0\0\0\x3b\0\0\0\x01\0\0\0\x02\0\0\0\0\0\0\0\x02\0\0\0\x03\0\0\0\x04\0\0\0\x05";
-
-/// `trun`, version 0: the duration of one sample, and no optional field.
-pub const TRUN_DURATION: [u8; 20] = *b"\0\0\0\x14trun\0\0\x01\0\0\0\0\x01\0\0\x04\0";
-
 /// `trun`, version 0: sizes and flags of two samples.
 pub const TRUN_TWO: [u8; 32] =
     *b"\0\0\0\x20trun\0\0\x06\0\0\0\0\x02\0\0\0\x0a\x01\x01\0\0\0\0\0\x14\x02\0\0\0";
@@ -88,16 +81,6 @@ pub fn trun_of_durations(alloc: Global) -> Result<TrunBox> {
     duration.sample_count = 1;
     duration.sample_durations = list(alloc, &[1024])?;
     Ok(duration)
-}
-
-/// `trun`, version 0: a run of two samples with their sizes and flags.
-pub fn trun_of_two_lists(alloc: Global) -> Result<TrunBox> {
-    let mut trun = TrunBox::default_in(alloc);
-    trun.flags = TrunBox::FLAG_SAMPLE_SIZE | TrunBox::FLAG_SAMPLE_FLAGS;
-    trun.sample_count = 2;
-    trun.sample_sizes = list(alloc, &[10, 20])?;
-    trun.sample_flags = list(alloc, &[0x0101_0000, 0x0200_0000])?;
-    Ok(trun)
 }
 
 /// `trun`, version 0: a run of two samples with both optional fields, durations, sizes and composition times.

@@ -1,13 +1,11 @@
-//! Sample entries: the names of their children, their sets, and constructors.
+//! Sample entries: their sets, constructors, defaults and clones.
 
-use crate::tests::invalid_text_of;
 use mp4_fixtures::boxes::entries::{
-    AVC1, HEV1, PICTURE, SEQUENCE, VP09, avc1, avc1_of, avcc, avcc_of_two, empty_sets, hev1,
-    list_of_sets, tx3g, vp09, vp09_of_config, vpcc,
+    PICTURE, SEQUENCE, avc1, avc1_of, avcc, avcc_of_two, empty_sets, hev1, list_of_sets, tx3g,
+    vp09, vp09_of_config, vpcc,
 };
 use mp4_fixtures::helpers::{
-    Kind, expect_kind, expect_round_trip, expect_unwritable, expect_unwritable_of_size,
-    expect_value, expect_written, read,
+    expect_round_trip, expect_unwritable, expect_unwritable_of_size, expect_written,
 };
 use mp4_fixtures::made;
 use mp4_stream::{
@@ -16,72 +14,6 @@ use mp4_stream::{
 };
 use std::alloc::Global;
 use std::test::Fail;
-
-/// The bytes of an entry with this name in the header of its child.
-fn with_child(alloc: Global, entry: &[u8], name: &[u8]) -> Result<Vec<u8>, Error> {
-    let mut bytes = Vec::from_slice(alloc, entry.get(..90).unwrap_or_default())?;
-    bytes.extend_from_slice(name)?;
-    bytes.extend_from_slice(entry.get(94..).unwrap_or_default())?;
-    Ok(bytes)
-}
-
-#[test]
-fn child_of_avc1_of_another_name(rt: HostRuntime) -> Result<(), Fail> {
-    let bytes = with_child(rt.alloc(), &AVC1, b"free")?;
-    let text = invalid_text_of::<Avc1Box>(rt.alloc(), &bytes, 122);
-    assert_eq!(rt; text, Some("avcc not found"));
-    // The name is checked before the content.
-    let cut = bytes.get(..94).unwrap_or_default();
-    expect_kind::<Avc1Box>(rt.alloc(), cut, 122, Kind::Invalid)?;
-    Ok(())
-}
-
-#[test]
-fn child_of_hev1_of_another_name(rt: HostRuntime) -> Result<(), Fail> {
-    let bytes = with_child(rt.alloc(), &HEV1, b"avcC")?;
-    let text = invalid_text_of::<Hev1Box>(rt.alloc(), &bytes, 95);
-    assert_eq!(rt; text, Some("hvcc not found"));
-    Ok(())
-}
-
-/// The child of a vp09 is read whatever its name.
-#[test]
-fn child_of_vp09_of_another_name(rt: HostRuntime) -> Result<(), Fail> {
-    let bytes = with_child(rt.alloc(), &VP09, b"free")?;
-    expect_value(rt.alloc(), &vp09(), &bytes, 106)?;
-    Ok(())
-}
-
-#[test]
-fn counts_of_sets_with_nothing_after_them(rt: HostRuntime) -> Result<(), Fail> {
-    let head = *b"\0\0\0\x0favcC\x01\x64\0\x0d\xff";
-    for count in [1, 2, 31, 255] {
-        let mut bytes = Vec::from_slice(rt.alloc(), &head)?;
-        bytes.push(count)?;
-        expect_kind::<AvcCBox>(rt.alloc(), &bytes, 15, Kind::End)?;
-    }
-    // The high bits of the first count are ignored, those of the second are not.
-    expect_kind::<AvcCBox>(
-        rt.alloc(),
-        b"\0\0\0\x0favcC\x01\x64\0\x0d\xff\xe0\0",
-        15,
-        Kind::Ok,
-    )?;
-    expect_kind::<AvcCBox>(
-        rt.alloc(),
-        b"\0\0\0\x0favcC\x01\x64\0\x0d\xff\0\xe0",
-        15,
-        Kind::End,
-    )?;
-    // A set runs past the buffer.
-    expect_kind::<AvcCBox>(
-        rt.alloc(),
-        b"\0\0\0\x13avcC\x01\x64\0\x0d\xff\xe1\xff\xff\x67\x64",
-        19,
-        Kind::End,
-    )?;
-    Ok(())
-}
 
 /// A decoder configuration of zeros and these sets.
 fn avcc_of_sets(sequence: Entries<NalUnit>, picture: Entries<NalUnit>) -> AvcCBox {
@@ -104,11 +36,7 @@ fn avcc_of_empty(alloc: Global, sequence: usize, picture: usize) -> Result<AvcCB
 }
 
 #[test]
-fn sets_without_bytes(rt: HostRuntime) -> Result<(), Fail> {
-    for (sequence, picture, size) in [(31, 0, 77), (0, 255, 525)] {
-        let value = avcc_of_empty(rt.alloc(), sequence, picture)?;
-        expect_written(rt.alloc(), &value, size)?;
-    }
+fn more_sets_than_their_count_can_say(rt: HostRuntime) -> Result<(), Fail> {
     for (sequence, picture, size) in [(32, 0, 79), (0, 256, 527)] {
         let value = avcc_of_empty(rt.alloc(), sequence, picture)?;
         expect_unwritable_of_size(rt.alloc(), &value, size)?;
@@ -127,11 +55,7 @@ fn avcc_of_zeros(alloc: Global, count: usize) -> Result<AvcCBox, Error> {
 #[test]
 fn set_of_65536_bytes(rt: HostRuntime) -> Result<(), Fail> {
     let alloc = rt.alloc();
-    made::written(alloc, avcc_of_zeros(alloc, 65535), 65552).and(made::unwritable_of_size(
-        alloc,
-        avcc_of_zeros(alloc, 65536),
-        65553,
-    ))?;
+    made::unwritable_of_size(alloc, avcc_of_zeros(alloc, 65536), 65553)?;
     Ok(())
 }
 
@@ -159,20 +83,6 @@ fn configuration_of_two_sets(rt: HostRuntime) -> Result<(), Fail> {
     let mut out = Vec::new(rt.alloc());
     made.write_box(&mut out)?;
     assert!(rt; out.as_slice() == TWO_SETS.as_slice());
-    Ok(())
-}
-
-#[test]
-fn lengths_of_four_bytes_are_read(rt: HostRuntime) -> Result<(), Fail> {
-    let (found, _) = read::<AvcCBox>(rt.alloc(), &TWO_SETS, 24);
-    assert_eq!(rt; found?.length_size_minus_one, 3);
-    Ok(())
-}
-
-#[test]
-fn entry_of_two_sets(rt: HostRuntime) -> Result<(), Fail> {
-    let entry = avc1_of(rt.alloc(), avcc_of_two(rt.alloc(), 3)?);
-    expect_written(rt.alloc(), &entry, 135)?;
     Ok(())
 }
 

@@ -1,0 +1,88 @@
+"""Sample descriptions: which entry is read, with counts, sizes and cuts."""
+
+from rows_of.entry_values import (
+    AVC1, AVC1_OF_TEST, AVC1_OF_TEST_VALUE, AVC1_VALUE, ESDS, HEV1, HEV1_VALUE, MP4A, MP4A_OF_TEST, MP4A_OF_TEST_VALUE,
+    MP4A_VALUE, MP4A_WITHOUT_ESDS, MP4A_WITHOUT_ESDS_VALUE, TX3G, TX3G_VALUE, VP09, VP09_VALUE, stsd, stsd_bytes,
+)
+from rows_of.making import END, LARGEST, PAST_64_BITS, box, changed, full, large, larger_child, one, round_trip, u32
+
+TOO_LARGE = larger_child("stsd")
+
+
+def entries_are_written_alone():
+    yield round_trip(stsd_bytes(AVC1), stsd(avc1=AVC1_VALUE))
+    yield round_trip(stsd_bytes(HEV1), stsd(hev1=HEV1_VALUE))
+    yield round_trip(stsd_bytes(VP09), stsd(vp09=VP09_VALUE))
+    yield round_trip(stsd_bytes(MP4A), stsd(mp4a=MP4A_VALUE))
+    yield round_trip(stsd_bytes(AVC1_OF_TEST), stsd(avc1=AVC1_OF_TEST_VALUE))
+
+
+def tx3g_is_written_alone():
+    yield round_trip(stsd_bytes(TX3G), stsd(tx3g=TX3G_VALUE))
+
+
+def stsd_without_an_entry():
+    """What follows is not read, whatever the count says."""
+    yield round_trip(full(b"stsd", u32(0)), stsd())
+    yield one(stsd_bytes(MP4A, size=16), stsd())
+
+
+def count_of_entries_is_not_used():
+    for count in (0, 1, 2, 255):
+        yield one(stsd_bytes(MP4A_OF_TEST, count=count), stsd(mp4a=MP4A_OF_TEST_VALUE))
+
+
+def cut_stsd():
+    buffer = stsd_bytes(MP4A)
+    for length in range(len(buffer)):
+        yield one(buffer[:length], END)
+
+
+def sizes_of_stsd():
+    for size, expected in [
+        (0, stsd()),
+        (7, stsd()),
+        (15, stsd()),
+        (16, stsd()),
+        (17, TOO_LARGE),
+        (78, TOO_LARGE),
+        (79, stsd(mp4a=MP4A_VALUE)),
+        (95, stsd(mp4a=MP4A_VALUE)),
+        (LARGEST, stsd(mp4a=MP4A_VALUE)),
+    ]:
+        yield one(stsd_bytes(MP4A, size=size), expected)
+
+
+def entry_larger_than_its_stsd():
+    yield one(stsd_bytes(MP4A, size=78), TOO_LARGE)
+
+
+def children_of_stsd():
+    for child, size, expected in [
+        (b"", 17, END),
+        (MP4A[:7], 95, END),
+        (ESDS, 59, stsd()),
+        (box(b"free", size=0), 24, stsd()),
+        (box(b"free", size=7), 24, stsd()),
+        (box(b"free", size=24), 24, stsd()),
+        (box(b"free", size=25), 24, TOO_LARGE),
+    ]:
+        yield one(stsd_bytes(child, size=size), expected)
+
+
+def children_of_stsd_up_to_the_end_of_64_bits():
+    """A child whose content isn't read may end past 2^64 - 1. The content of an entry begins at 40, and it ends at
+    2^64 - 1 or past it."""
+    for code, number, expected in [
+        (b"free", 2**64 - 1, stsd()),
+        (b"mp4a", 2**64 - 1, PAST_64_BITS),
+        (b"mp4a", 2**64 - 25, END),
+        (b"mp4a", 2**64 - 24, PAST_64_BITS),
+    ]:
+        yield one(stsd_bytes(large(code, number=number), size=LARGEST), expected)
+
+
+def entries_of_less_than_36_bytes():
+    """An entry of less than 36 bytes has its fields all the same."""
+    for size in (0, 7, 15, 16, 36):
+        yield one(stsd_bytes(changed(MP4A_WITHOUT_ESDS, {3: size})), stsd(mp4a=MP4A_WITHOUT_ESDS_VALUE))

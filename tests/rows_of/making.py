@@ -1,0 +1,140 @@
+"""What rows are made of: bytes of boxes, and what is expected of them."""
+
+import collections
+
+from slow_fields import Fault, Header
+
+# The largest size of a box at the front of a buffer: its header has 16 bytes, and the box ends at 2^64 - 1.
+LARGEST = 2**64 - 9
+
+END = ("End",)
+NO_DREF = ("NotFound", "dref")
+
+# The bytes of a buffer and a position, and what is expected there: as one box and as a list of boxes, each an outcome
+# and the position of the cursor; the bytes that the list is written in; and how many headers of descriptors are read.
+# What is None isn't looked at.
+Row = collections.namedtuple("Row", "buffer at box boxes written headers", defaults=[0, None, None, None, None])
+
+
+class Box(dict):
+    """A box that is expected: its code, and its fields by their names in the struct."""
+
+    def __init__(self, code, **fields):
+        super().__init__(fields)
+        self.code = code
+
+
+def outcome(expected):
+    """A value in the form in which it is found, or the fault."""
+    if isinstance(expected, list):
+        return [outcome(box) for box in expected]
+    return (expected.code, dict(expected)) if isinstance(expected, Box) else expected
+
+
+def invalid(text):
+    """Invalid data with this text."""
+    return ("Invalid", text)
+
+
+TOO_SMALL = invalid("box size too small")
+LARGE_TOO_SMALL = invalid("64-bit box size too small")
+PAST_64_BITS = invalid("box end past 64 bits")
+WRONG_VERSION = invalid("version must be 0 or 1")
+NOT_UTF8 = invalid("invalid utf8")
+
+
+def larger_child(name):
+    """The fault of a child that is larger than its box."""
+    return invalid(name + " box contains a box with a larger size than it")
+
+
+def too_many(name, count="entry_count", rows="entries"):
+    """The fault of a count of more rows than the box has room for."""
+    return invalid(f"{name} {count} indicates more {rows} than could fit in the box")
+
+
+def cursor(buffer, at, expected):
+    """Where the cursor is after reading the box whose header is at a position: after a value at the box's end, after a
+    fault at the end of the header, and after a fault of the header where it was."""
+    try:
+        header = Header(buffer, at)
+    except Fault:
+        return at
+    return header.start + (8 if isinstance(expected, tuple) else header.size)
+
+
+def one(buffer, expected, after=None, at=0, headers=None):
+    """The box whose header is at a position is read as this value or has this fault."""
+    position = cursor(buffer, at, expected) if after is None else after
+    return Row(buffer, at, box=(outcome(expected), position), headers=headers)
+
+
+def listed(buffer, expected):
+    """The list of the boxes of a buffer is read as these values or has this fault."""
+    return Row(buffer, boxes=(outcome(expected), 0 if isinstance(expected, tuple) else len(buffer)))
+
+
+def written_as(buffer, value, written):
+    """A buffer of one box is read as the value, alone and as a list, and the list is written in these bytes."""
+    position = cursor(buffer, 0, value)
+    return Row(buffer, 0, (outcome(value), position), ([outcome(value)], len(buffer)), written)
+
+
+def round_trip(buffer, value):
+    """A buffer of one box is read as the value, alone and as a list, and the list is written in the same bytes."""
+    return written_as(buffer, value, buffer)
+
+
+def u8(*numbers):
+    return bytes(numbers)
+
+
+def u16(*numbers):
+    return b"".join(number.to_bytes(2, "big") for number in numbers)
+
+
+def u24(number):
+    return number.to_bytes(3, "big")
+
+
+def u32(*numbers):
+    return b"".join(number.to_bytes(4, "big") for number in numbers)
+
+
+def u64(*numbers):
+    return b"".join(number.to_bytes(8, "big") for number in numbers)
+
+
+def box(code, *contents, size=None):
+    """A box with this size, by its bytes if none is given. A size that 32 bits can't hold has a header of 16 bytes."""
+    content = b"".join(contents)
+    size = 8 + len(content) if size is None else size
+    if size > 2**32 - 1:
+        return large(code, content, number=size + 8)
+    if size == 1:
+        raise ValueError("no header says a size of 1")
+    return u32(size) + code + content
+
+
+def large(code, *contents, number=None):
+    """A box with a header of 16 bytes and this number in it, by its bytes if none is given."""
+    content = b"".join(contents)
+    return u32(1) + code + u64(16 + len(content) if number is None else number) + content
+
+
+def full(code, *contents, version=0, flags=0, size=None):
+    """A box with version and flags, and this size."""
+    return box(code, u8(version), u24(flags), *contents, size=size)
+
+
+def resized(bytes_of_a_box, size):
+    """The bytes of a box with a header of 8 bytes, with another size."""
+    return box(bytes_of_a_box[4:8], bytes_of_a_box[8:], size=size)
+
+
+def changed(buffer, places):
+    """The bytes with others at some places, as `{15: 7}`."""
+    out = bytearray(buffer)
+    for place, byte in places.items():
+        out[place] = byte
+    return bytes(out)

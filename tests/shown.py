@@ -1,0 +1,166 @@
+"""What the program mp4_show prints, and how its texts are read: values, faults, positions, and bytes that were
+written."""
+
+import os
+import re
+import subprocess
+
+from inputs import TOP
+
+WORD = re.compile(r"-?\w+")
+CODE = re.compile(r"(.{1,4}?) / 0x([0-9A-F]{8})", re.S)
+STRING = re.compile(r'"((?:[^"\\]|\\.)*)"', re.S)
+ESCAPE = re.compile(r"\\(?:u\{(\w+)\}|(.))")
+LETTERS = {"0": "\0", "n": "\n", "r": "\r", "t": "\t"}
+FAULTS = {"InvalidData": "Invalid", "BoxNotFound": "NotFound"}
+CODES = {"major_brand", "compatible_brands", "handler_type"}
+
+
+def names():
+    """The names of codes, as docs/LAYOUT.md has them."""
+    with open(os.path.join(TOP, "docs/LAYOUT.md"), encoding="utf-8") as layout:
+        section = layout.read().split("\n## Codes\n")[1].split("\n## ")[0]
+    return {word + "Box": code for word, code in re.findall(r"(\w+) `(.{4})`", section)}
+
+
+NAMES = names()
+
+
+class Printed:
+    """A text that `Debug` printed, read from the front on. Structs are dictionaries, and lists and tuples are lists."""
+
+    def __init__(self, text):
+        self.text, self.at = text, 0
+
+    def take(self, piece):
+        if self.text.startswith(piece, self.at):
+            self.at += len(piece)
+            return True
+        return False
+
+    def match(self, pattern):
+        found = pattern.match(self.text, self.at)
+        if found is None:
+            raise ValueError(f"unexpected at {self.at}: {self.text}")
+        self.at = found.end()
+        return found
+
+    def values(self, end):
+        found = []
+        while not self.take(end):
+            found.append(self.value())
+            self.take(", ")
+        return found
+
+    def value(self):
+        if self.take("["):
+            return self.values("]")
+        if self.take("("):
+            return self.values(")")
+        if self.text[self.at] == '"':
+            return ESCAPE.sub(unescaped, self.match(STRING)[1])
+        word = self.match(WORD)[0]
+        if self.take("("):
+            (inner,) = self.values(")")
+            return inner if word in ("Ok", "Some") else (word, inner)
+        if self.take(" { "):
+            return self.fields(word)
+        if word.lstrip("-").isdigit():
+            return int(word)
+        return {"None": None, "true": True, "false": False, "SLConfigDescriptor": {}}.get(word, word)
+
+    def fields(self, word):
+        found = {}
+        while not self.take(" }"):
+            name = self.match(WORD)[0]
+            self.take(": ")
+            if name in CODES:
+                found[name] = self.codes() if name == "compatible_brands" else self.code()
+            else:
+                found[name] = self.value()
+            self.take(", ")
+        return found["raw"] if word == "FixedPoint" else found
+
+    def codes(self):
+        self.take("[")
+        found = []
+        while CODE.match(self.text, self.at):
+            found.append(self.code())
+            self.take(", ")
+        self.take("]")
+        return found
+
+    def code(self):
+        text, number = self.match(CODE).groups()
+        number = int(number, 16)
+        if text != number.to_bytes(4, "big").decode("utf-8", "replace"):
+            raise ValueError(f"the code {number:#x} is printed as {text!r}")
+        return number
+
+
+def unescaped(found):
+    return chr(int(found[1], 16)) if found[1] else LETTERS.get(found[2], found[2])
+
+
+def named(box):
+    """A box with its code in the place of its name."""
+    return None if box is None else (NAMES[box[0]], box[1])
+
+
+def fault_of(error):
+    """The fault that an error says: its kind, and its text or the code of the missing child."""
+    return ("End",) if error == "IoError" else (FAULTS[error[0]], error[1])
+
+
+def outcome_of(text):
+    """The value or the fault that the codec's text says, and the position of the cursor."""
+    text, position = text.rsplit(" ", 1)
+    found = Printed(text).value()
+    if isinstance(found, tuple) and found[0] == "Err":
+        return fault_of(found[1]), int(position)
+    return ([named(box) for box in found] if isinstance(found, list) else named(found)), int(position)
+
+
+def written_of(text):
+    """The bytes that the list is written in, or the fault of writing it, or None if there is no list."""
+    if not text:
+        return None
+    if text.startswith("Err"):
+        return fault_of(Printed(text).value()[1])
+    length, numbers = text.removeprefix("Ok(").removesuffix("]").split(") [")
+    found = bytes(int(number) for number in numbers.split(", ") if number)
+    if len(found) != int(length):
+        raise ValueError(f"{len(found)} bytes were written, and the call returned {length}")
+    return found
+
+
+def counted_of(text):
+    """What `read_counted` reads, with the cursor's position, and the number of headers. None if the box isn't an
+    `esds`."""
+    if not text:
+        return None
+    text, position, headers = text.rsplit(" ", 2)
+    found = Printed(text).value()
+    found = fault_of(found[1]) if isinstance(found, tuple) else ("esds", found)
+    return (found, int(position)), int(headers)
+
+
+def shown(program, inputs):
+    """The texts that the program prints for inputs, each a position and bytes: four for each."""
+    records = b"".join(at.to_bytes(8, "big") + len(buffer).to_bytes(8, "big") + buffer for at, buffer in inputs)
+    out = subprocess.run([program], input=records, stdout=subprocess.PIPE, check=True).stdout
+    texts, at = [], 0
+    while at < len(out):
+        end = at + 8 + int.from_bytes(out[at:at + 8], "big")
+        texts.append(out[at + 8:end].decode("utf-8"))
+        at = end
+    if len(texts) != 4 * len(inputs):
+        raise ValueError(f"{len(texts)} texts for {len(inputs)} inputs")
+    return [texts[at:at + 4] for at in range(0, len(texts), 4)]
+
+
+def built(script):
+    """The path of the program, which is built where no gate has. The script is the one that asks for it."""
+    text = f'name={script}; . "{TOP}/tests/built"; built mp4_show "{TOP}/crates/mp4_show/stdin"'
+    subprocess.run(["sh", "-c", text, os.path.join(TOP, "tests", script)], check=True, stdout=subprocess.DEVNULL)
+    return os.path.join(TOP, "crates/mp4_show/out/mp4_show")
