@@ -26,6 +26,7 @@ pub use mvhd::MvhdBox;
 pub use rgb_color::RgbColor;
 pub use smhd::SmhdBox;
 pub use tfdt::TfdtBox;
+pub use time::{put_time, time_at, time_fits, version_of_times, width_of_time};
 pub use tkhd::TkhdBox;
 pub use track_flag::TrackFlag;
 pub use trex::TrexBox;

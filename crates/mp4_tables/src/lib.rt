@@ -25,6 +25,7 @@ pub use ctts::CttsBox;
 pub use ctts_entry::CttsEntry;
 pub use elst::ElstBox;
 pub use elst_entry::ElstEntry;
+pub use rows::read_rows;
 pub use stco::StcoBox;
 pub use stsc::StscBox;
 pub use stsc_entry::StscEntry;

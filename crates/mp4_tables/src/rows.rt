@@ -11,7 +11,7 @@ use std::alloc::Global;
 /// The `count` rows of `E` bytes each from offset `at` on. Invalid data with the text `too_many` if a box of this
 /// size has no room for them; end of input unless all of them are present.
 #[tactic(auto, unfolding(crate::specs::Rows::rows_within))]
-pub(crate) fn read_rows<'a, const E: usize>(
+pub fn read_rows<'a, const E: usize>(
     bytes: &'a [u8],
     size: u64,
     at: usize,
