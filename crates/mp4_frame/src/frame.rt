@@ -67,7 +67,7 @@ pub fn frame_at(bytes: &[u8], at: usize) -> Result<Frame>
     ensures answer { FaultAs result (frame bytes.now at) }
     ensures end { IfOk result (λ f. f.start + f.size ≡ f.end) }
     ensures room { IfOk result (λ f. (f.start + 8 ≤ length bytes.now) × (at + 8 ≤ f.end) × (f.end ≤ length bytes.now)) }
-    ensures begins { IfOk result (λ f. at ≤ f.start) }
+    ensures begins { IfOk result (λ f. (at ≤ f.start) × (f.start + 8 ≤ f.end)) }
     ensures name { IfOk result (λ f. f.name ≡ name_of (number bytes.now (at + 4) 4)) }
 {
     frame_of(bytes.len() as u64, Head::at(bytes, at as u64)?)
