@@ -24,8 +24,10 @@ pub struct Frame {
     pub end: u64,
 }
 
+/// The frame of the box with this head, in a buffer of this length. Invalid data if its size is too small or it ends past
+/// 2^64 - 1, end of input if it ends past the buffer.
 #[tactic(auto, unfolding(crate::specs::Heads::frame_of_head))]
-fn frame_of(len: u64, head: Head) -> Result<Frame>
+pub fn frame_of_head(len: u64, head: Head) -> Result<Frame>
     requires { head.start + 8 ≤ len }
     ensures answer { FaultAs result (frame_of_head len head) }
     ensures end { IfOk result (λ f. f.start + f.size ≡ f.end) }
@@ -70,5 +72,5 @@ pub fn frame_at(bytes: &[u8], at: usize) -> Result<Frame>
     ensures begins { IfOk result (λ f. (at ≤ f.start) × (f.start + 8 ≤ f.end)) }
     ensures name { IfOk result (λ f. f.name ≡ name_of (number bytes.now (at + 4) 4)) }
 {
-    frame_of(bytes.len() as u64, Head::at(bytes, at as u64)?)
+    frame_of_head(bytes.len() as u64, Head::at(bytes, at as u64)?)
 }
