@@ -1,0 +1,4 @@
+pub mod Failure
+pub mod Outcome
+pub mod Text
+pub mod Tree
