@@ -1,6 +1,6 @@
 //! Writing lists of boxes, whole or not at all.
 
-ghost use Rattle.std.specs.Prelude.{◌≡◌, ◌+◌, ◌≤◌, ◌++◌, take, ◌↔◌, length, All, replicate, IsTrue, OnOk, OnErr, IfErr, MatchResult};
+ghost use Rattle.std.specs.Prelude.{◌≡◌, ◌-◌, ◌^◌, ◌++◌, min, None, length, All, replicate, IfSome, OnOk, OnErr, IfErr};
 ghost use Rattle.mp4_frame.specs.Streams.{stream};
 ghost use Rattle.mp4_frame.specs.Written.{Writes};
 ghost use Rattle.mp4_frame.specs.Laws.{BeginsWithHeader};
@@ -32,24 +32,20 @@ pub fn write_zeros<A: Allocator>(writer: &mut Vec<u8, A>, size: u64) -> Result<(
     lengthen(writer, size as usize)
 }
 
-fn are_writable<B: WriteBox>(boxes: &[B]) -> bool
-    ensures { IsTrue result ↔ All B.format.Writable boxes.now }
+/// The number of bytes of all boxes, at most 2^64 - 1; none if one of them can't be written.
+fn writable_size<B: WriteBox>(boxes: &[B]) -> Option<u64>
+    ensures all { IfSome result (λ n. All B.format.Writable boxes.now) }
+    ensures size { IfSome result (λ n. n ≡ min (length (stream B.format.bytes boxes.now)) (2 ^ 64 - 1)) }
+    ensures none { result ≡ None → ¬ All B.format.Writable boxes.now }
 {
-    boxes.iter().all(|b| b.is_writable())
-}
-
-fn total_size<B: WriteBox>(boxes: &[B]) -> Result<usize>
-    requires { All B.format.Writable boxes.now }
-    ensures { MatchResult result (λ n. n ≡ length (stream B.format.bytes boxes.now)) (λ e. e ≡ OutOfMemory) }
-{
-    let mut total: usize = 0;
+    let mut total: u64 = 0;
     for b in boxes {
-        let Some(more) = total.checked_add(b.box_size() as usize) else {
-            return Err(Error::OutOfMemory);
-        };
-        total = more;
+        if !b.is_writable() {
+            return None;
+        }
+        total = total.saturating_add(b.box_size());
     }
-    Ok(total)
+    Some(total)
 }
 
 fn put_boxes<B: WriteBox>(boxes: &[B], out: &mut [u8])
@@ -70,12 +66,14 @@ fn put_boxes<B: WriteBox>(boxes: &[B], out: &mut [u8])
 pub fn write_boxes<B: StreamBox, A: Allocator>(boxes: &[B], writer: &mut Vec<u8, A>) -> Result<u64>
     ensures { Writes (All B.format.Writable boxes.now) (stream B.format.bytes boxes.now) writer.old.items writer.new.items result }
 {
-    if !are_writable(boxes) {
+    let Some(total) = writable_size(boxes) else {
         return Err(Error::InvalidData("value does not fit its field"));
+    };
+    if total == u64::MAX {
+        return Err(Error::OutOfMemory);
     }
-    let total = total_size(boxes)?;
     let old = writer.len();
-    lengthen(writer, total)?;
+    lengthen(writer, total as usize)?;
     put_boxes(boxes, &mut writer[old..]);
-    Ok(total as u64)
+    Ok(total)
 }
