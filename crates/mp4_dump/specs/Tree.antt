@@ -73,7 +73,7 @@ abbrev pub ended : List ℕ → Level → ℕ → Found → Step
 ended B l o why = record {
   line = record { depth = l.depth; position = o; length = l.end - o; name = name_at B l o; found = why };
   inner = None;
-  at = l.end
+  at = l.end;
 }
 
 -- what is found where a whole box of this name is

@@ -1,10 +1,8 @@
 //! The walk over a file: a line for each box, in the order of the file.
 
-ghost use Rattle.std.specs.Prelude.{◌≡◌, ◌+◌, ◌<◌, ◌≤◌, length, min, IfOk, IfErr, MatchOption};
-ghost use Rattle.mp4_frame.specs.Heads.{head};
-ghost use Rattle.mp4_frame.specs.BoxType.{name_of};
+ghost use Rattle.std.specs.Prelude.{◌≡◌, ◌+◌, ◌<◌, ◌≤◌, ◌∷◌, ◌++◌, length, option_to_list, vec_len, OnOk, IfOk, IfErr};
 ghost use Rattle.mp4_frame.specs.declared.error.Error.TheVariants.{OutOfMemory};
-ghost use Rattle.mp4_dump.specs.Tree.{is_container, holds_boxes, is_entered, is_quicktime, children_start, name_at, level_in, ended, boxed, whole_found, cut_found, step_of_head, step, lines_of};
+ghost use Rattle.mp4_dump.specs.Tree.{is_container, holds_boxes, is_quicktime, children_start, name_at, level_in, ended, whole, line_at, boxed, step_of_head, step, lines_of};
 
 use crate::found::Found;
 use crate::level::Level;
@@ -168,6 +166,7 @@ fn line_at(level: Level, at: u64, name: BoxType, length: u64, found: Found) -> L
 }
 
 /// The step at an offset, by the head that is there.
+#[tactic(auto, unfolding(crate::specs::Tree::step_of_head))]
 fn step_of_head(bytes: &[u8], level: Level, at: u64, head: Head) -> Step
     requires within { level.end ≤ length bytes.now }
     requires start { at ≤ head.start }
@@ -185,7 +184,13 @@ fn step_of_head(bytes: &[u8], level: Level, at: u64, head: Head) -> Step
         return ended(bytes, level, at, Found::Small);
     }
     if size > level.end - start {
-        let line = line_at(level, at, name, (start - at).saturating_add(size), Found::Cut);
+        let line = line_at(
+            level,
+            at,
+            name,
+            (start - at).saturating_add(size),
+            Found::Cut,
+        );
         return boxed(bytes, level, line, name, content, level.end);
     }
     let end = start + size;
@@ -206,6 +211,19 @@ pub fn step(bytes: &[u8], level: Level, at: u64) -> Step
     }
 }
 
+/// Pushes the level that was popped again, and the level inside it, if there is one.
+fn push_levels(levels: &mut Vec<Level>, level: Level, inner: Option<Level>) -> Result<()>
+    ensures ok { OnOk result (levels.new.items ≡ levels.old.items ++ level ∷ option_to_list inner) }
+    ensures long { OnOk result (vec_len levels.new ≤ vec_len levels.old + 2) }
+    ensures error { IfErr result (λ e. e ≡ OutOfMemory) }
+{
+    levels.push(level)?;
+    if let Some(inner) = inner {
+        levels.push(inner)?;
+    }
+    Ok(())
+}
+
 /// The lines of a file, in its order: of each box, and after it those of the boxes in it.
 pub fn walk(alloc: Global, bytes: &[u8]) -> Result<Vec<Line>>
     ensures lines { IfOk result (λ lines. lines.items ≡ lines_of bytes.now) }
@@ -223,10 +241,7 @@ pub fn walk(alloc: Global, bytes: &[u8]) -> Result<Vec<Line>>
         if at < level.end {
             let step = step(bytes, level, at);
             lines.push(step.line)?;
-            levels.push(level)?;
-            if let Some(inner) = step.inner {
-                levels.push(inner)?;
-            }
+            push_levels(&mut levels, level, step.inner)?;
             at = step.at;
         }
     }
