@@ -1,4 +1,6 @@
 pub mod Failure
 pub mod Outcome
+pub mod Runs
+pub mod Shown
 pub mod Text
 pub mod Tree

@@ -12,9 +12,11 @@ mod step;
 mod text;
 mod walk;
 
+use failure::Failure;
 use outcome::Outcome;
 use program::{read_failure, run_words};
 use std::env;
+use std::io::BufWriter;
 use std::process::ExitCode;
 
 /// Dumps standard input to standard output, unless there are arguments.
@@ -24,7 +26,10 @@ fn run(rt: &HostRuntime) -> Outcome {
         Err(e) => return Outcome::Failed(read_failure(&e)),
     };
     let _program = words.next();
-    run_words(rt.alloc(), words, &mut rt.stdin(), &mut rt.stdout())
+    match BufWriter::new(rt.alloc(), rt.stdout()) {
+        Ok(mut output) => run_words(rt.alloc(), words, &mut rt.stdin(), &mut output),
+        Err(_) => Outcome::Failed(Failure::Memory),
+    }
 }
 
 fn main(rt: HostRuntime) -> ExitCode {

@@ -1,20 +1,28 @@
 //! The program, between a reader and a writer.
 
+ghost use Rattle.std.specs.Prelude.{◌≡◌, ◌≢◌, ◌↔◌, ◌∷◌, [], length, IfOk, OnOk, IfErr, IfSome};
+ghost use Rattle.std.specs.IoError.{error_kind};
+ghost use Rattle.std.specs.Io.KnownBytes.{Appends, Keeps, IsAtEnd};
+ghost use Rattle.std.specs.Vec.Iter.{into_iter_items};
+ghost use Rattle.mp4_dump.specs.Runs.{WritesLines, Dumps, EndsAs};
+
 use crate::failure::Failure;
 use crate::line::Line;
 use crate::outcome::Outcome;
 use crate::shown::push_line;
 use crate::walk::walk;
+use mp4_stream::{AnyBox, StreamBox};
 use std::alloc::Global;
 use std::env::Args;
+use std::fmt::Debug;
 use std::io;
 use std::io::{ErrorKind, Read, Write};
 
-/// How many bytes of text are gathered, at least, before they are written.
-const BLOCK: usize = 65536;
-
 /// The failure of a read.
-pub fn read_failure(error: &io::Error) -> Failure {
+pub fn read_failure(error: &io::Error) -> Failure
+    ensures memory { error_kind error.now ≡ ErrorKind.OutOfMemory → result ≡ Failure.Memory }
+    ensures read { error_kind error.now ≢ ErrorKind.OutOfMemory → result ≡ Failure.Read }
+{
     match error.kind() {
         ErrorKind::OutOfMemory => Failure::Memory,
         _ => Failure::Read,
@@ -22,7 +30,10 @@ pub fn read_failure(error: &io::Error) -> Failure {
 }
 
 /// Reads the whole input.
-fn read_all<R: Read>(alloc: Global, input: &mut R) -> Result<Vec<u8>, Failure> {
+fn read_all<R: Read>(alloc: Global, input: &mut R) -> Result<Vec<u8>, Failure>
+    ensures bytes { IfOk result (λ bytes. IfSome (R.remaining input.old) (λ B. bytes.items ≡ B)) }
+    ensures end { OnOk result (IsAtEnd (R.remaining input.new)) }
+{
     let mut bytes = Vec::new(alloc);
     match input.read_to_end(&mut bytes) {
         Ok(_) => Ok(bytes),
@@ -30,49 +41,69 @@ fn read_all<R: Read>(alloc: Global, input: &mut R) -> Result<Vec<u8>, Failure> {
     }
 }
 
-/// Writes a text, and empties it.
-fn write_out<W: Write>(text: &mut Vec<u8>, output: &mut W) -> Result<(), Failure> {
-    if output.write_all(text).is_err() {
-        return Err(Failure::Write);
+/// Writes a text.
+fn write_text<W: Write>(text: &[u8], output: &mut W) -> Result<(), Failure>
+    ensures bytes { OnOk result (Appends (W.contents output.old) (W.contents output.new) text.now) }
+    ensures error { IfErr result (λ failure. failure ≡ Failure.Write) }
+{
+    match output.write_all(text) {
+        Ok(()) => Ok(()),
+        Err(_) => Err(Failure::Write),
     }
-    text.clear();
-    Ok(())
 }
 
-/// Writes the lines of a file. Returns whether one of them has a fault.
-fn write_lines<W: Write>(
+/// Writes the text of a line, which is made in `text`. Returns whether it shows a fault.
+fn write_line<B: StreamBox + Debug, W: Write>(
+    alloc: Global,
+    bytes: &[u8],
+    line: Line,
+    text: &mut Vec<u8>,
+    output: &mut W,
+) -> Result<bool, Failure>
+    ensures { IfOk result (λ faulty. WritesLines B.known B.named_reading bytes.now (line ∷ []) (W.contents output.old) (W.contents output.new) faulty) }
+{
+    text.clear();
+    let faulty = push_line::<B>(alloc, bytes, line, text)?;
+    write_text(text, output)?;
+    Ok(faulty)
+}
+
+/// Writes the lines of a file. Returns whether one of them shows a fault.
+fn write_lines<B: StreamBox + Debug, W: Write>(
     alloc: Global,
     bytes: &[u8],
     lines: &[Line],
     output: &mut W,
-) -> Result<bool, Failure> {
+) -> Result<bool, Failure>
+    ensures { IfOk result (λ faulty. WritesLines B.known B.named_reading bytes.now lines.now (W.contents output.old) (W.contents output.new) faulty) }
+{
     let mut faulty = false;
     let mut text = Vec::new(alloc);
     for line in lines {
-        if push_line(alloc, bytes, *line, &mut text)? {
+        if write_line::<B, W>(alloc, bytes, *line, &mut text, output)? {
             faulty = true;
         }
-        if text.len() >= BLOCK {
-            write_out(&mut text, output)?;
-        }
     }
-    write_out(&mut text, output)?;
     Ok(faulty)
 }
 
-/// Writes the tree of the input. Returns whether a box of it has a fault.
+/// Writes the tree of the input: the lines of its boxes, in its order. Returns whether one of them shows a fault. The whole
+/// input is read first, so after a failed read nothing is written.
 pub fn dump<R: Read, W: Write>(
     alloc: Global,
     input: &mut R,
     output: &mut W,
-) -> Result<bool, Failure> {
+) -> Result<bool, Failure>
+    ensures run { Dumps (R.remaining input.old) (W.contents output.old) (W.contents output.new) result }
+    ensures all_read { OnOk result (IsAtEnd (R.remaining input.new)) }
+{
     let bytes = read_all(alloc, input)?;
     let lines = walk(alloc, &bytes)?;
-    let faulty = write_lines(alloc, &bytes, &lines, output)?;
-    if output.flush().is_err() {
-        return Err(Failure::Write);
+    let faulty = write_lines::<AnyBox, W>(alloc, &bytes, &lines, output)?;
+    match output.flush() {
+        Ok(()) => Ok(faulty),
+        Err(_) => Err(Failure::Write),
     }
-    Ok(faulty)
 }
 
 /// Writes the tree of the input, if there are no words after the program's name. If there are, nothing is read or
@@ -82,7 +113,11 @@ pub fn run_words<R: Read, W: Write>(
     mut words: Args,
     input: &mut R,
     output: &mut W,
-) -> Outcome {
+) -> Outcome
+    ensures run { into_iter_items words ≡ [] → EndsAs (R.remaining input.old) (W.contents output.old) (W.contents output.new) result }
+    ensures misused { (result ≡ Outcome.Misused) ↔ (into_iter_items words ≢ []) }
+    ensures untouched { result ≡ Outcome.Misused → (input.new ≡ input.old) × (output.new ≡ output.old) }
+{
     if words.next().is_some() {
         return Outcome::Misused;
     }

@@ -1,32 +1,40 @@
 //! What is shown of a box: its fields, or its fault.
 
+ghost use Rattle.std.specs.Prelude.{◌≡◌, ◌×◌, ◌++◌, List, ℕ, IsTrue, is_err, IfOk, OnOk};
+ghost use Rattle.mp4_frame.specs.Reading.{Answers};
+ghost use Rattle.mp4_dump.specs.Shown.{in_line, text_in_line, leaf, ShowsReading, ShowsLeaf, Shows, Tells};
+
 use crate::found::Found;
 use crate::line::Line;
 use crate::text::push_head;
-use mp4_stream::{AnyBox, BoxHeader, BoxType, ByteCursor, Result, StreamBox};
+use mp4_stream::{BoxHeader, BoxType, ByteCursor, Result, StreamBox};
 use std::alloc::Global;
-use std::fmt::{Debug, Display};
+use std::fmt::Debug;
 
-/// The fields in the text of a box: what is between the first brace and the last.
+/// The fields in the text of a box: what is between its first brace and its last.
 fn fields_of(text: &[u8]) -> &[u8] {
     let first = text.iter().position(|byte| *byte == b'{');
     let last = text.iter().rposition(|byte| *byte == b'}');
     match (first, last) {
-        (Some(first), Some(last)) if first + 2 < last => &text[first + 2..last - 1],
+        (Some(first), Some(last)) if last - first >= 3 => &text[first + 2..last - 1],
         _ => text,
     }
 }
 
-/// A byte of a text as a line has it: a point in the place of a control character, which would end the line or move it.
-fn in_line(byte: u8) -> u8 {
+/// A byte as a line has it: a point in the place of a control character, which would end the line or move in it.
+fn in_line(byte: u8) -> u8
+    ensures { result ≡ in_line byte }
+{
     match byte {
         0..=0x1F | 0x7F => b'.',
         _ => byte,
     }
 }
 
-/// Appends a space and a text.
-fn push_text(text: &[u8], out: &mut Vec<u8>) -> Result<()> {
+/// Appends a text as a line has it, after a space.
+fn push_text(text: &[u8], out: &mut Vec<u8>) -> Result<()>
+    ensures { OnOk result (out.new.items ≡ out.old.items ++ text_in_line text.now) }
+{
     out.push(b' ')?;
     for byte in text {
         out.push(in_line(*byte))?;
@@ -34,74 +42,98 @@ fn push_text(text: &[u8], out: &mut Vec<u8>) -> Result<()> {
     Ok(())
 }
 
-/// Appends a fault.
-fn push_fault(alloc: Global, fault: &impl Display, out: &mut Vec<u8>) -> Result<()> {
-    let text = format!(in alloc; "fault: {fault}")?;
-    push_text(text.as_bytes(), out)
-}
-
-/// Appends what is read in the box that is the whole end of these bytes: its fields, with the first eight entries of each list, or
-/// its fault. Returns whether it has one.
-fn push_read<B: StreamBox + Debug>(
+/// Reads the box of this name whose header is at an offset, in bytes that end where the box does.
+fn read_leaf<B: StreamBox>(
     alloc: Global,
-    bytes: &[u8],
+    own: &[u8],
     position: u64,
     name: BoxType,
-    out: &mut Vec<u8>,
-) -> Result<bool> {
-    let mut reader = ByteCursor::new(bytes);
+) -> Result<B>
+    requires { IsTrue (B.known name) }
+    ensures { Answers result (leaf B.named_reading name own.now position) }
+{
+    let mut reader = ByteCursor::new(own);
     reader.set_position(position);
-    let _header = BoxHeader::read(&mut reader)?;
-    let size = (bytes.len() as u64).saturating_sub(reader.position() - 8);
-    match B::read_named(alloc, name, &mut reader, size) {
+    BoxHeader::read(&mut reader)?;
+    let start = reader.position() - 8;
+    B::read_named(alloc, name, &mut reader, (own.len() as u64).saturating_sub(start))
+}
+
+/// Appends what is shown of a box that was read, or of its fault. Returns whether it is a fault.
+fn push_outcome<B: Debug>(alloc: Global, outcome: &Result<B>, out: &mut Vec<u8>) -> Result<bool>
+    ensures fault { IfOk result (λ faulty. faulty ≡ is_err outcome.now) }
+    ensures text { OnOk result ((text : List ℕ) × (out.new.items ≡ out.old.items ++ text_in_line text)) }
+{
+    match outcome {
         Ok(value) => {
             let text = format!(in alloc; "{value:.8?}")?;
             push_text(fields_of(text.as_bytes()), out)?;
             Ok(false)
         }
         Err(fault) => {
-            push_fault(alloc, &fault, out)?;
+            let text = format!(in alloc; "fault: {fault}")?;
+            push_text(text.as_bytes(), out)?;
             Ok(true)
         }
     }
 }
 
-/// Appends what is shown of a box that is not gone into: what is read in it, if its name is known. Returns whether it
-/// has a fault.
+/// Appends what is shown of a box that is not gone into: what is read in it, if its name is known. Returns whether that
+/// is a fault. The header is at an offset, in bytes that end where the box does.
 fn push_leaf<B: StreamBox + Debug>(
     alloc: Global,
-    bytes: &[u8],
-    line: Line,
+    own: &[u8],
+    position: u64,
+    name: Option<BoxType>,
     out: &mut Vec<u8>,
-) -> Result<bool> {
-    match line.name {
+) -> Result<bool>
+    ensures { IfOk result (λ faulty. (shown : List ℕ) × ShowsLeaf B.known B.named_reading own.now position name shown faulty × (out.new.items ≡ out.old.items ++ shown)) }
+{
+    match name {
         Some(name) if B::knows(name) => {
-            let end = line.position + line.length;
-            push_read::<B>(alloc, &bytes[..end as usize], line.position, name, out)
+            let outcome = read_leaf::<B>(alloc, own, position, name);
+            push_outcome(alloc, &outcome, out)
         }
         _ => Ok(false),
     }
 }
 
-/// Appends a line. Returns whether it has a fault.
-pub fn push_line(alloc: Global, bytes: &[u8], line: Line, out: &mut Vec<u8>) -> Result<bool> {
-    push_head(line, out)?;
-    let faulty = match line.found {
-        Found::Leaf => push_leaf::<AnyBox>(alloc, bytes, line, out)?,
-        Found::Parent => false,
+/// Appends what is shown after the name of a line. Returns whether that is a fault.
+fn push_shown<B: StreamBox + Debug>(
+    alloc: Global,
+    bytes: &[u8],
+    line: Line,
+    out: &mut Vec<u8>,
+) -> Result<bool>
+    ensures { IfOk result (λ faulty. (shown : List ℕ) × Shows B.known B.named_reading bytes.now line line.found shown faulty × (out.new.items ≡ out.old.items ++ shown)) }
+{
+    match line.found {
+        Found::Parent => return Ok(false),
         Found::Deep => {
             push_text(b"not gone into: in 32 boxes", out)?;
-            false
+            return Ok(false);
         }
-        Found::Cut | Found::Headless => {
-            push_fault(alloc, &"unexpected end of input", out)?;
-            true
+        Found::Leaf => {
+            let end = line.position.saturating_add(line.length).min(bytes.len() as u64);
+            return push_leaf::<B>(alloc, &bytes[..end as usize], line.position, line.name, out);
         }
-        Found::Small => {
-            push_fault(alloc, &"box size too small", out)?;
-            true
-        }
-    };
+        Found::Cut | Found::Headless => push_text(b"fault: unexpected end of input", out)?,
+        Found::Small => push_text(b"fault: box size too small", out)?,
+    }
+    Ok(true)
+}
+
+/// Appends the text of a line. Returns whether it shows a fault.
+pub fn push_line<B: StreamBox + Debug>(
+    alloc: Global,
+    bytes: &[u8],
+    line: Line,
+    out: &mut Vec<u8>,
+) -> Result<bool>
+    ensures { IfOk result (λ faulty. (text : List ℕ) × Tells B.known B.named_reading bytes.now line text faulty × (out.new.items ≡ out.old.items ++ text)) }
+{
+    push_head(line, out)?;
+    let faulty = push_shown::<B>(alloc, bytes, line, out)?;
     out.push(b'\n')?;
     Ok(faulty)
 }
