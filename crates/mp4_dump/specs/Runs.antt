@@ -14,9 +14,18 @@ use Rattle.mp4_dump.specs.declared.line.Line.{Line}
 use Rattle.mp4_dump.specs.declared.outcome.Outcome.{Outcome}
 use Rattle.mp4_dump.specs.declared.outcome.Outcome.TheVariants as outcomes
 
+-- the text of this line is written, and whether it shows a fault
+abbrev pub WritesLine : {A : Type 0} → (BoxType → Bool) → (BoxType → List ℕ → ℕ → ℕ → Reading A) → List ℕ → Line → Option (List ℕ) → Option (List ℕ) → Bool → Type 0
+WritesLine known reading B line old new faulty = (text : List ℕ) × Tells known reading B line text faulty × Appends old new text
+
 -- the texts of these lines are written, and a fault is shown exactly if there is one
 abbrev pub WritesLines : {A : Type 0} → (BoxType → Bool) → (BoxType → List ℕ → ℕ → ℕ → Reading A) → List ℕ → List Line → Option (List ℕ) → Option (List ℕ) → Bool → Type 0
 WritesLines known reading B lines old new faulty = (text : List ℕ) × TellsAll known reading B lines text faulty × Appends old new text
+
+-- the reader has not failed
+abbrev pub IsNotRead : Failure → Type 0
+IsNotRead failures.Read = ⊥
+IsNotRead _ = ⊤
 
 -- a run over an input: the lines of its tree are written, each with what is shown of its box. After a failed read nothing
 -- is written

@@ -1,5 +1,5 @@
 -- The text of a line: what it begins with, what is shown of the box, and a line feed.
-use Rattle.std.specs.Prelude.{◌≡◌, ℕ, ◌+◌, ◌-◌, ◌==◌, Bool, true, false, nat_le, ◌&&◌, ◌||◌, not, List, [], ◌∷◌, ◌++◌, length, take, map, None, Some, IsOk, codes, if◌then◌else◌}
+use Rattle.std.specs.Prelude.{◌≡◌, ℕ, ◌+◌, ◌-◌, ◌==◌, Bool, true, false, nat_le, ◌&&◌, ◌||◌, not, List, [], ◌∷◌, ◌++◌, length, take, map, None, Some, IsOk, MatchBool, codes, if◌then◌else◌}
 use Rattle.std.specs.declared.option.Option.{Option}
 use Rattle.mp4_frame.specs.Heads.{header, header_length}
 use Rattle.mp4_frame.specs.Reading.{Reading, Refuses, ◌>>=◌}
@@ -36,7 +36,7 @@ ShowsNothing shown faulty = (shown ≡ []) × (faulty ≡ false)
 abbrev pub ShowsLeaf : {A : Type 0} → (BoxType → Bool) → (BoxType → List ℕ → ℕ → ℕ → Reading A) → List ℕ → ℕ → Option BoxType → List ℕ → Bool → Type 0
 ShowsLeaf known reading own o None shown faulty = ShowsNothing shown faulty
 ShowsLeaf known reading own o (Some name) shown faulty =
-    if known name then ShowsReading (leaf reading name own o) shown faulty else ShowsNothing shown faulty
+    MatchBool (known name) (ShowsReading (leaf reading name own o) shown faulty) (ShowsNothing shown faulty)
 
 -- what is shown after the name of a line, and whether that is a fault
 abbrev pub Shows : {A : Type 0} → (BoxType → Bool) → (BoxType → List ℕ → ℕ → ℕ → Reading A) → List ℕ → Line → Found → List ℕ → Bool → Type 0

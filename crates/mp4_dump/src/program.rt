@@ -1,10 +1,10 @@
 //! The program, between a reader and a writer.
 
-ghost use Rattle.std.specs.Prelude.{◌≡◌, ◌≢◌, ◌↔◌, ◌∷◌, [], length, IfOk, OnOk, IfErr, IfSome};
+ghost use Rattle.std.specs.Prelude.{◌≡◌, ◌≢◌, ◌↔◌, ◌||◌, [], IfOk, OnOk, IfErr, IfSome};
 ghost use Rattle.std.specs.IoError.{error_kind};
 ghost use Rattle.std.specs.Io.KnownBytes.{Appends, Keeps, IsAtEnd};
 ghost use Rattle.std.specs.Vec.Iter.{into_iter_items};
-ghost use Rattle.mp4_dump.specs.Runs.{WritesLines, Dumps, EndsAs};
+ghost use Rattle.mp4_dump.specs.Runs.{WritesLine, WritesLines, IsNotRead, Dumps, EndsAs};
 
 use crate::failure::Failure;
 use crate::line::Line;
@@ -60,12 +60,20 @@ fn write_line<B: StreamBox + Debug, W: Write>(
     text: &mut Vec<u8>,
     output: &mut W,
 ) -> Result<bool, Failure>
-    ensures { IfOk result (λ faulty. WritesLines B.known B.named_reading bytes.now (line ∷ []) (W.contents output.old) (W.contents output.new) faulty) }
+    ensures text { IfOk result (λ faulty. WritesLine B.known B.named_reading bytes.now line (W.contents output.old) (W.contents output.new) faulty) }
+    ensures error { IfErr result (λ failure. IsNotRead failure) }
 {
     text.clear();
     let faulty = push_line::<B>(alloc, bytes, line, text)?;
     write_text(text, output)?;
     Ok(faulty)
+}
+
+/// Whether one of two is true.
+fn either(first: bool, second: bool) -> bool
+    ensures { result ≡ (first || second) }
+{
+    first || second
 }
 
 /// Writes the lines of a file. Returns whether one of them shows a fault.
@@ -75,14 +83,14 @@ fn write_lines<B: StreamBox + Debug, W: Write>(
     lines: &[Line],
     output: &mut W,
 ) -> Result<bool, Failure>
-    ensures { IfOk result (λ faulty. WritesLines B.known B.named_reading bytes.now lines.now (W.contents output.old) (W.contents output.new) faulty) }
+    ensures texts { IfOk result (λ faulty. WritesLines B.known B.named_reading bytes.now lines.now (W.contents output.old) (W.contents output.new) faulty) }
+    ensures error { IfErr result (λ failure. IsNotRead failure) }
 {
     let mut faulty = false;
     let mut text = Vec::new(alloc);
     for line in lines {
-        if write_line::<B, W>(alloc, bytes, *line, &mut text, output)? {
-            faulty = true;
-        }
+        let here = write_line::<B, W>(alloc, bytes, *line, &mut text, output)?;
+        faulty = either(faulty, here);
     }
     Ok(faulty)
 }

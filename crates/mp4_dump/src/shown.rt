@@ -1,6 +1,6 @@
 //! What is shown of a box: its fields, or its fault.
 
-ghost use Rattle.std.specs.Prelude.{◌≡◌, ◌×◌, ◌++◌, List, ℕ, IsTrue, is_err, IfOk, OnOk};
+ghost use Rattle.std.specs.Prelude.{◌≡◌, ◌+◌, ◌++◌, List, ℕ, take, IsTrue, is_err, IfOk, OnOk};
 ghost use Rattle.mp4_frame.specs.Reading.{Answers};
 ghost use Rattle.mp4_dump.specs.Shown.{in_line, text_in_line, leaf, ShowsReading, ShowsLeaf, Shows, Tells};
 
@@ -16,7 +16,7 @@ fn fields_of(text: &[u8]) -> &[u8] {
     let first = text.iter().position(|byte| *byte == b'{');
     let last = text.iter().rposition(|byte| *byte == b'}');
     match (first, last) {
-        (Some(first), Some(last)) if last - first >= 3 => &text[first + 2..last - 1],
+        (Some(first), Some(last)) if last.saturating_sub(first) >= 3 => &text[first + 2..last - 1],
         _ => text,
     }
 }
@@ -98,6 +98,18 @@ fn push_leaf<B: StreamBox + Debug>(
     }
 }
 
+/// The bytes of the file up to the end of the box of a line.
+fn own_bytes(bytes: &[u8], line: Line) -> &[u8]
+    ensures { result.now ≡ take (line.position + line.length) bytes.now }
+{
+    let left = (bytes.len() as u64).saturating_sub(line.position);
+    if line.length < left {
+        &bytes[..(line.position + line.length) as usize]
+    } else {
+        bytes
+    }
+}
+
 /// Appends what is shown after the name of a line. Returns whether that is a fault.
 fn push_shown<B: StreamBox + Debug>(
     alloc: Global,
@@ -114,8 +126,7 @@ fn push_shown<B: StreamBox + Debug>(
             return Ok(false);
         }
         Found::Leaf => {
-            let end = line.position.saturating_add(line.length).min(bytes.len() as u64);
-            return push_leaf::<B>(alloc, &bytes[..end as usize], line.position, line.name, out);
+            return push_leaf::<B>(alloc, own_bytes(bytes, line), line.position, line.name, out);
         }
         Found::Cut | Found::Headless => push_text(b"fault: unexpected end of input", out)?,
         Found::Small => push_text(b"fault: box size too small", out)?,

@@ -2,17 +2,14 @@
 
 ghost use Rattle.std.specs.Prelude.{◌≡◌, ◌++◌, OnOk};
 ghost use Rattle.std.specs.List.{list_all};
-ghost use Rattle.std.specs.Fmt.{decimal};
-ghost use Rattle.mp4_frame.specs.BoxType.{code_of};
-ghost use Rattle.mp4_frame.specs.Bytes.{be_bytes};
-ghost use Rattle.mp4_dump.specs.Text.{is_printable, code_text, name_text, head_text};
+ghost use Rattle.mp4_dump.specs.Text.{is_printable, code_text, name_text, number_text, head_text};
 
 use crate::line::Line;
 use mp4_stream::{BoxType, FourCC, Result};
 
 /// Appends a number and a space.
 fn push_number(number: u64, out: &mut Vec<u8>) -> Result<()>
-    ensures { OnOk result (out.new.items ≡ out.old.items ++ decimal number ++ 32 ∷ []) }
+    ensures { OnOk result (out.new.items ≡ out.old.items ++ number_text number) }
 {
     let mut buffer = itoa::Buffer::new();
     out.extend_from_slice(buffer.format(number).as_bytes())?;
