@@ -1,9 +1,9 @@
 -- Each line is in the content of a box of an earlier line, or at the top level, and there it is a frame if its box is whole.
-use Rattle.std.proofs.Common.{◌≡◌, ℕ, zero, suc, ◌+◌, ◌-◌, ◌^◌, ◌<◌, ◌≤◌, Bool, true, false, cond, List, [], ◌∷◌, ◌++◌, length, take, None, Some, Result, Ok, Err, refl, sym, ap, ◌∙◌, arith, min, subst, inl, inr}
+use Rattle.std.proofs.Common.{◌≡◌, ℕ, zero, suc, ◌+◌, ◌-◌, ◌^◌, ◌<◌, ◌≤◌, Bool, true, false, cond, List, [], ◌∷◌, length, take, None, Some, Result, Ok, Err, refl, sym, ap, ◌∙◌, arith, min, subst, inl, inr}
 use Rattle.std.specs.Prelude.{nat_lt, nat_le, ◌==◌, ◌&&◌, All}
 use Rattle.std.specs.List.{Contains}
 use Rattle.std.specs.declared.option.Option.{Option}
-use Rattle.std.proofs.lemmas.Bool.{cond_both, and_parts, leb-true, leb-false, ltb-true, ltb-false, le-ltb, ne_eqb}
+use Rattle.std.proofs.lemmas.Bool.{cond_both, and_parts, leb-false, ltb-true, ltb-false, le-ltb, ne_eqb}
 use Rattle.std.proofs.lemmas.Grind.{common_steps}
 use Rattle.std.proofs.lemmas.List.Elements.{All-nil, All-cons, All-append, Contains-append_left, Contains-append_right}
 use Rattle.mp4_frame.specs.BoxType.{name_of}
@@ -15,8 +15,7 @@ use Rattle.mp4_frame.specs.declared.head.Head.{Head}
 use Rattle.mp4_frame.proofs.Heads.{head_room}
 use Rattle.mp4_dump.specs.Places.{IsAround, IsFrame, IsPlaced}
 use Rattle.mp4_dump.specs.Tops.{is_whole}
-use Rattle.mp4_dump.specs.Tree.{is_entered, level_in, children_start, line_at, whole, ended, boxed, step_of_head, step_of, step, lines_after, lines_by, lines_at_most, lines_in, lines_of, top}
-use Rattle.mp4_dump.specs.declared.found.Found.{Found}
+use Rattle.mp4_dump.specs.Tree.{is_entered, line_at, whole, boxed, step_of_head, step_of, step, lines_after, lines_at_most, lines_of, top}
 use Rattle.mp4_dump.specs.declared.found.Found.TheVariants as found
 use Rattle.mp4_dump.specs.declared.level.Level.{Level}
 use Rattle.mp4_dump.specs.declared.line.Line.{Line}
@@ -109,7 +108,7 @@ module _ (B : List ℕ) (short : length B < 2 ^ 64) (all : List Line) where
   Among xs = (x : Line) → Contains xs x → Contains all x
 
   if_not_over : (b : Bool) (xs : List Line) → Among (cond b [] xs) → (b ≡ false → Among xs → All (IsPlaced B all) xs) → All (IsPlaced B all) (cond b [] xs)
-  if_not_over true xs among f = All-nil _
+  if_not_over true xs among f = All-nil (IsPlaced B all)
   if_not_over false xs among f = f refl among
 
   placed_after : (lines : Level → ℕ → List Line) → ((m : Level) (e : ℕ) → m.end ≤ length B → AroundFrom m e → Among (lines m e) → All (IsPlaced B all) (lines m e))
@@ -117,9 +116,9 @@ module _ (B : List ℕ) (short : length B < 2 ^ 64) (all : List Line) where
       → All (IsPlaced B all) (lines_after lines l at inner)
   placed_after lines each l line at None within stays inside around here among = each l at within around among
   placed_after lines each l line at (Some m) within stays inside around here among =
-      All-append _ (lines m at) (lines l m.end)
+      All-append (IsPlaced B all) (lines m at) (lines l m.end)
           (each m at (omega (arith, stays.1, within))
-              (λ e after. inr (line, here, inside.0, omega (arith, inside.1.0, after), inside.1.1))
+              (λ e after. inr (line, here, inside.0, omega (arith, inside.1, after), inside.2))
               (λ x mem. among x (Contains-append_left (lines m at) (lines l m.end) x mem)))
           (each l m.end within (λ e after. around e (omega (arith, stays.0, after)))
               (λ x mem. among x (Contains-append_right (lines m at) (lines l m.end) x mem)))
@@ -127,7 +126,7 @@ module _ (B : List ℕ) (short : length B < 2 ^ 64) (all : List Line) where
   -- the lines of a level from o on are placed
   placed_at_most : (n : ℕ) (l : Level) (o : ℕ) → l.end ≤ length B → AroundFrom l o → Among (lines_at_most n B l o) → All (IsPlaced B all) (lines_at_most n B l o)
   unfolding lines_at_most
-  placed_at_most zero l o within around among = All-nil _
+  placed_at_most zero l o within around among = All-nil (IsPlaced B all)
   placed_at_most (suc n) l o within around among =
       let s = step B l o in
       let lines = λ (m : Level) (e : ℕ). lines_at_most n B m e in
@@ -137,9 +136,9 @@ module _ (B : List ℕ) (short : length B < 2 ^ 64) (all : List Line) where
           let inside : o < l.end = leb-false l.end o before in
           let stands = step_stands B short l o within inside in
           let goes = step_goes_on B l o within inside in
-          let place : IsPlaced B all s.line = (l, subst (IsAround B all l) (sym stands.1.0) (around o (omega arith)), stands.0, omega (arith, stands.1.0, inside), within, stands.1.1.0) in
-          All-cons _ s.line rest place
-              (placed_after lines (λ m e. placed_at_most n m e) l s.line s.at s.inner within goes.1 stands.1.1.1
+          let place : IsPlaced B all s.line = (l, subst (IsAround B all l) (sym stands.1) (around o (omega arith)), stands.0, omega (arith, stands.1, inside), within, stands.2) in
+          All-cons (IsPlaced B all) s.line rest place
+              (placed_after lines (λ m e. placed_at_most n m e) l s.line s.at s.inner within goes.1 stands.3
                   (λ e after. around e (omega (arith, goes.0, after)))
                   (found s.line (0, omega arith, refl))
                   (λ x mem. found x (Contains-append_right (s.line ∷ []) rest x mem))))

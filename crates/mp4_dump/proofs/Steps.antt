@@ -26,7 +26,8 @@ StaysIn l at (Some inner) = (at ≤ inner.end) × (inner.end ≤ l.end)
 abbrev pub GoesOn : Level → ℕ → Step → Type 0
 GoesOn l o s = (o < s.at) × StaysIn l s.at s.inner
 
-children_inside : (B : List ℕ) (name : BoxType) (content end : ℕ) → content ≤ end → (content ≤ children_start B name content end) × (children_start B name content end ≤ end)
+-- where the first box begins is in the content
+pub children_inside : (B : List ℕ) (name : BoxType) (content end : ℕ) → content ≤ end → (content ≤ children_start B name content end) × (children_start B name content end ≤ end)
 children_inside B name content end h =
     let long = nat_le 4 (end - content) in
     let full = not (is_quicktime B content end) in

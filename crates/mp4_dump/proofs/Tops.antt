@@ -1,7 +1,6 @@
 -- The whole boxes of depth 0 among the lines of a file are the frames of its top level, up to the first fault.
-use Rattle.std.proofs.Common.{◌≡◌, ℕ, zero, suc, ◌+◌, ◌-◌, ◌^◌, ◌<◌, ◌≤◌, Bool, true, false, cond, List, [], ◌∷◌, ◌++◌, length, take, None, Some, Result, Ok, Err, refl, sym, ap, ◌∙◌, arith, min, subst}
+use Rattle.std.proofs.Common.{◌≡◌, ℕ, zero, suc, ◌+◌, ◌-◌, ◌^◌, ◌<◌, Bool, true, false, cond, List, [], ◌∷◌, ◌++◌, length, take, None, Some, Result, Ok, Err, refl, sym, ap, ◌∙◌, arith, min}
 use Rattle.std.specs.Prelude.{nat_lt, nat_le, ◌==◌, ◌&&◌, not}
-use Rattle.std.specs.List.{flat_map}
 use Rattle.std.specs.declared.option.Option.{Option}
 use Rattle.std.proofs.lemmas.Bool.{cond_both, lt-ltb, ltb-true, ne_eqb}
 use Rattle.std.proofs.lemmas.Grind.{flat_map-append}
@@ -15,8 +14,7 @@ use Rattle.mp4_frame.specs.declared.frame.Frame.{Frame}
 use Rattle.mp4_frame.specs.declared.head.Head.{Head}
 use Rattle.mp4_frame.specs.declared.list.BoxSpan.{BoxSpan}
 use Rattle.mp4_dump.specs.Tops.{framed, frames_at_most, top_frames, is_whole, place_of, top_box, top_boxes}
-use Rattle.mp4_dump.specs.Tree.{holds_boxes, is_entered, level_in, children_start, line_at, whole, ended, boxed, step_of_head, step_of, step, lines_after, lines_by, lines_at_most, lines_of, top}
-use Rattle.mp4_dump.specs.declared.found.Found.{Found}
+use Rattle.mp4_dump.specs.Tree.{holds_boxes, is_entered, level_in, children_start, line_at, whole, boxed, step_of_head, step_of, step, lines_after, lines_by, lines_at_most, lines_of, top}
 use Rattle.mp4_dump.specs.declared.found.Found.TheVariants as found
 use Rattle.mp4_dump.specs.declared.level.Level.{Level}
 use Rattle.mp4_dump.specs.declared.line.Line.{Line}

@@ -1,6 +1,6 @@
 -- What the program reads and writes. The bytes that a reader has left, and those that a writer has, are `Some` if they are
 -- known. Nothing is said of them if they are not.
-use Rattle.std.specs.Prelude.{◌≡◌, ℕ, Bool, true, false, List, [], Result, Ok, Err, IfSome, ⊤}
+use Rattle.std.specs.Prelude.{ℕ, Bool, true, false, List, Result, Ok, Err, IfSome, ⊤}
 use Rattle.std.specs.declared.option.Option.{Option}
 use Rattle.std.specs.Io.KnownBytes.{Appends, Keeps}
 use Rattle.mp4_frame.specs.Reading.{Reading}

@@ -1,7 +1,9 @@
 //! The walk over a file: a line for each box, in the order of the file.
 
-ghost use Rattle.std.specs.Prelude.{◌≡◌, ◌+◌, ◌<◌, ◌≤◌, ◌∷◌, ◌++◌, length, option_to_list, vec_len, OnOk, IfOk, IfErr};
+ghost use Rattle.std.specs.Prelude.{◌≡◌, ◌+◌, ◌<◌, ◌≤◌, ◌∷◌, ◌++◌, length, option_to_list, vec_len, All, OnOk, IfOk, IfErr};
 ghost use Rattle.mp4_frame.specs.declared.error.Error.TheVariants.{OutOfMemory};
+ghost use Rattle.mp4_dump.specs.Places.{IsPlaced};
+ghost use Rattle.mp4_dump.specs.Tops.{top_boxes, top_frames};
 ghost use Rattle.mp4_dump.specs.Tree.{is_container, holds_boxes, is_quicktime, children_start, name_at, level_in, ended, whole, line_at, boxed, step_of_head, step, lines_of};
 
 use crate::found::Found;
@@ -224,8 +226,8 @@ fn push_levels(levels: &mut Vec<Level>, level: Level, inner: Option<Level>) -> R
     Ok(())
 }
 
-/// The lines of a file, in its order: of each box, and after it those of the boxes in it.
-pub fn walk(alloc: Global, bytes: &[u8]) -> Result<Vec<Line>>
+/// The lines of a file, by the levels that are open, the innermost last.
+fn walk_levels(alloc: Global, bytes: &[u8]) -> Result<Vec<Line>>
     ensures lines { IfOk result (λ lines. lines.items ≡ lines_of bytes.now) }
     ensures error { IfErr result (λ e. e ≡ OutOfMemory) }
 {
@@ -245,5 +247,20 @@ pub fn walk(alloc: Global, bytes: &[u8]) -> Result<Vec<Line>>
             at = step.at;
         }
     }
+    Ok(lines)
+}
+
+/// The lines of a file, in its order: of each box, and after it those of the boxes in it. The frames of the top level are
+/// all there, in order, up to the first that has a fault. Each whole box is a frame of the content of an earlier line's box,
+/// or of the top level.
+pub fn walk(alloc: Global, bytes: &[u8]) -> Result<Vec<Line>>
+    ensures lines { IfOk result (λ lines. lines.items ≡ lines_of bytes.now) }
+    ensures top { IfOk result (λ lines. top_boxes lines.items ≡ top_frames bytes.now) }
+    ensures placed { IfOk result (λ lines. All (IsPlaced bytes.now lines.items) lines.items) }
+    ensures error { IfErr result (λ e. e ≡ OutOfMemory) }
+{
+    let lines = walk_levels(alloc, bytes)?;
+    // For the prover: the length of a slice fits its type.
+    let _length = bytes.len();
     Ok(lines)
 }

@@ -1,5 +1,4 @@
-use Rattle.std.proofs.Common.{rules, ap, subst, sym, get_or}
-use Rattle.mp4_dump.specs.Runs.{WritesLines}
+use Rattle.std.proofs.Common.{rules}
 use Rattle.mp4_dump.proofs.Written.{writes_none, writes_more}
 use Rattle.mp4_dump.proofs.program.write_lines.Goals as goal
 
