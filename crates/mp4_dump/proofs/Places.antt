@@ -69,23 +69,23 @@ module _ (B : List ℕ) (short : length B < 2 ^ 64) (l : Level) (o : ℕ) (withi
       let sized : Frame = record { name = name; start = h.start; size = h.size; end = end } in
       cond_both ((h.size == 0) && (l.depth == 0)) _ _ (Stands own l o)
       (λ t. boxed_stands B own l (line_at l o name (l.end - o) (whole l name)) name o content l.end refl refl
-          (λ _. (to_the_end, frame_by h to_the_end is (frame_to_the_end l.end h (and_parts (h.size == 0) (l.depth == 0) t).0), refl, omega arith))
-          (omega arith) room (omega arith))
+      (λ _. (to_the_end, frame_by h to_the_end is (frame_to_the_end l.end h (and_parts (h.size == 0) (l.depth == 0) t).0), refl, omega arith))
+      (omega arith) room (omega arith))
       (λ _. cond_both (nat_lt h.size 8) _ _ (Stands own l o)
-          (λ _. (refl, refl, (λ e. absurd cc), tt))
-          (λ large. cond_both (nat_lt l.end end) _ _ (Stands own l o)
-              (λ far.
-                  let beyond = ltb-true l.end end far in
-                  boxed_stands B own l (line_at l o name (min (h.start - o + h.size) (2 ^ 64 - 1)) found.Cut) name o content l.end refl refl (λ e. absurd cc)
-                      (omega arith) room (omega (arith, beyond, short)))
-              (λ near.
-                  let least = ltb-false h.size 8 large in
-                  let most = ltb-false l.end end near in
-                  let some : (h.size == 0) ≡ false = ne_eqb h.size 0 (λ e. absurd (omega (arith, least, e))) in
-                  let fits : nat_lt (2 ^ 64 - 1) end ≡ false = le-ltb (2 ^ 64 - 1) end (omega (arith, most, short)) in
-                  boxed_stands B own l (line_at l o name (end - o) (whole l name)) name o content end refl refl
-                      (λ _. (sized, frame_by h sized is (frame_of_size l.end h some large fits near), refl, omega (arith, least)))
-                      (omega arith) (omega (arith, least)) (omega (arith, least)))))
+      (λ _. (refl, refl, (λ e. absurd cc), tt))
+      (λ large. cond_both (nat_lt l.end end) _ _ (Stands own l o)
+      (λ far.
+      let beyond = ltb-true l.end end far in
+      boxed_stands B own l (line_at l o name (min (h.start - o + h.size) (2 ^ 64 - 1)) found.Cut) name o content l.end refl refl (λ e. absurd cc)
+      (omega arith) room (omega (arith, beyond, short)))
+      (λ near.
+      let least = ltb-false h.size 8 large in
+      let most = ltb-false l.end end near in
+      let some : (h.size == 0) ≡ false = ne_eqb h.size 0 (λ e. absurd (omega (arith, least, e))) in
+      let fits : nat_lt (2 ^ 64 - 1) end ≡ false = le-ltb (2 ^ 64 - 1) end (omega (arith, most, short)) in
+      boxed_stands B own l (line_at l o name (end - o) (whole l name)) name o content end refl refl
+      (λ _. (sized, frame_by h sized is (frame_of_size l.end h some large fits near), refl, omega (arith, least)))
+      (omega arith) (omega (arith, least)) (omega (arith, least)))))
 
   step_of_stands : (r : Result Head Fault) → (head own o).outcome ≡ r → Stands own l o (step_of B l o r)
   step_of_stands (Ok h) is =
@@ -117,11 +117,11 @@ module _ (B : List ℕ) (short : length B < 2 ^ 64) (all : List Line) where
   placed_after lines each l line at None within stays inside around here among = each l at within around among
   placed_after lines each l line at (Some m) within stays inside around here among =
       All-append (IsPlaced B all) (lines m at) (lines l m.end)
-          (each m at (omega (arith, stays.1, within))
-              (λ e after. inr (line, here, inside.0, omega (arith, inside.1, after), inside.2))
-              (λ x mem. among x (Contains-append_left (lines m at) (lines l m.end) x mem)))
-          (each l m.end within (λ e after. around e (omega (arith, stays.0, after)))
-              (λ x mem. among x (Contains-append_right (lines m at) (lines l m.end) x mem)))
+      (each m at (omega (arith, stays.1, within))
+      (λ e after. inr (line, here, inside.0, omega (arith, inside.1, after), inside.2))
+      (λ x mem. among x (Contains-append_left (lines m at) (lines l m.end) x mem)))
+      (each l m.end within (λ e after. around e (omega (arith, stays.0, after)))
+      (λ x mem. among x (Contains-append_right (lines m at) (lines l m.end) x mem)))
 
   -- the lines of a level from o on are placed
   placed_at_most : (n : ℕ) (l : Level) (o : ℕ) → l.end ≤ length B → AroundFrom l o → Among (lines_at_most n B l o) → All (IsPlaced B all) (lines_at_most n B l o)
@@ -133,15 +133,15 @@ module _ (B : List ℕ) (short : length B < 2 ^ 64) (all : List Line) where
       let rest = lines_after lines l s.at s.inner in
       if_not_over (nat_le l.end o) (s.line ∷ rest) among
       (λ before found.
-          let inside : o < l.end = leb-false l.end o before in
-          let stands = step_stands B short l o within inside in
-          let goes = step_goes_on B l o within inside in
-          let place : IsPlaced B all s.line = (l, subst (IsAround B all l) (sym stands.1) (around o (omega arith)), stands.0, omega (arith, stands.1, inside), within, stands.2) in
-          All-cons (IsPlaced B all) s.line rest place
-              (placed_after lines (λ m e. placed_at_most n m e) l s.line s.at s.inner within goes.1 stands.3
-                  (λ e after. around e (omega (arith, goes.0, after)))
-                  (found s.line (0, omega arith, refl))
-                  (λ x mem. found x (Contains-append_right (s.line ∷ []) rest x mem))))
+      let inside : o < l.end = leb-false l.end o before in
+      let stands = step_stands B short l o within inside in
+      let goes = step_goes_on B l o within inside in
+      let place : IsPlaced B all s.line = (l, subst (IsAround B all l) (sym stands.1) (around o (omega arith)), stands.0, omega (arith, stands.1, inside), within, stands.2) in
+      All-cons (IsPlaced B all) s.line rest place
+      (placed_after lines (λ m e. placed_at_most n m e) l s.line s.at s.inner within goes.1 stands.3
+      (λ e after. around e (omega (arith, goes.0, after)))
+      (found s.line (0, omega arith, refl))
+      (λ x mem. found x (Contains-append_right (s.line ∷ []) rest x mem))))
 
 -- every line of a file is placed among them
 pub placed : (B : List ℕ) → length B < 2 ^ 64 → All (IsPlaced B (lines_of B)) (lines_of B)

@@ -41,10 +41,10 @@ step_of_head_depth B l o h =
     cond_both ((h.size == 0) && (l.depth == 0)) _ _ (OfDepth l.depth)
     (λ _. boxed_depth B l (line_at l o name (l.end - o) (whole l name)) name (h.start + 8) l.end refl)
     (λ _. cond_both (nat_lt h.size 8) _ _ (OfDepth l.depth)
-        (λ _. (refl, tt))
-        (λ _. cond_both (nat_lt l.end (h.start + h.size)) _ _ (OfDepth l.depth)
-            (λ _. boxed_depth B l (line_at l o name (min (h.start - o + h.size) (2 ^ 64 - 1)) found.Cut) name (h.start + 8) l.end refl)
-            (λ _. boxed_depth B l (line_at l o name (h.start + h.size - o) (whole l name)) name (h.start + 8) (h.start + h.size) refl)))
+    (λ _. (refl, tt))
+    (λ _. cond_both (nat_lt l.end (h.start + h.size)) _ _ (OfDepth l.depth)
+    (λ _. boxed_depth B l (line_at l o name (min (h.start - o + h.size) (2 ^ 64 - 1)) found.Cut) name (h.start + 8) l.end refl)
+    (λ _. boxed_depth B l (line_at l o name (h.start + h.size - o) (whole l name)) name (h.start + 8) (h.start + h.size) refl)))
 
 step_of_depth : (B : List ℕ) (l : Level) (o : ℕ) (r : Result Head Fault) → OfDepth l.depth (step_of B l o r)
 step_of_depth B l o (Ok h) = step_of_head_depth B l o h
@@ -71,10 +71,10 @@ no_tops B (suc n) l o h =
     let depth = step_depth B l o in
     let first : top_box s.line ≡ [] = deep_line s.line (omega (arith, depth.0, h)) in
     let after : (inner : Option Level) → Deeper l.depth inner → top_boxes (lines_after (λ m e. lines_at_most n B m e) l s.at inner) ≡ [] =
-        λ inner. elim inner as (λ i. Deeper l.depth i → top_boxes (lines_after (λ m e. lines_at_most n B m e) l s.at i) ≡ []) [
-          | None ↦ (λ _. no_tops B n l s.at h)
-          | Some m ↦ (λ deeper. none_of_both (lines_at_most n B m s.at) (lines_at_most n B l m.end) (no_tops B n m s.at (omega (arith, deeper))) (no_tops B n l m.end h))
-        ] in
+    λ inner. elim inner as (λ i. Deeper l.depth i → top_boxes (lines_after (λ m e. lines_at_most n B m e) l s.at i) ≡ []) [
+      | None ↦ (λ _. no_tops B n l s.at h)
+      | Some m ↦ (λ deeper. none_of_both (lines_at_most n B m s.at) (lines_at_most n B l m.end) (no_tops B n m s.at (omega (arith, deeper))) (no_tops B n l m.end h))
+    ] in
     cond_both (nat_le l.end o) [] (lines_by (λ m e. lines_at_most n B m e) l s) (λ xs. top_boxes xs ≡ [])
     (λ _. refl)
     (λ _. ap (λ (zs : List BoxSpan). zs ++ top_boxes (lines_after (λ m e. lines_at_most n B m e) l s.at s.inner)) first ∙ after s.inner depth.1)
@@ -96,10 +96,10 @@ module _ (B : List ℕ) (short : length B < 2 ^ 64) (n o : ℕ) (ih : (e : ℕ) 
   box_first line name content end =
       cond_both (is_entered (top B) name) _ _ (λ s. top_boxes (lines_by lines (top B) s) ≡ top_box line ++ top_boxes (lines (top B) end))
       (λ _.
-          let m = level_in (top B) name end in
-          let at = children_start B name content end in
-          ap (λ (zs : List BoxSpan). top_box line ++ zs)
-              (flat_map-append top_box (lines m at) (lines (top B) end) ∙ ap (λ (zs : List BoxSpan). zs ++ top_boxes (lines (top B) end)) (no_tops B n m at (omega arith))))
+      let m = level_in (top B) name end in
+      let at = children_start B name content end in
+      ap (λ (zs : List BoxSpan). top_box line ++ zs)
+      (flat_map-append top_box (lines m at) (lines (top B) end) ∙ ap (λ (zs : List BoxSpan). zs ++ top_boxes (lines (top B) end)) (no_tops B n m at (omega arith))))
       (λ _. refl)
 
   whole_box : (name : BoxType) (content end : ℕ) (f : Frame) → f.name ≡ name → f.end ≡ end → Same (boxed B (top B) (line_at (top B) o name (end - o) (whole (top B) name)) name content end) (Ok f)

@@ -26,10 +26,16 @@ module _ {A : Type 0} (known : BoxType → Bool) (reading : BoxType → List ℕ
       → TellsAll known reading B (lines ++ line ∷ []) (text ++ last) (faulty || here)
   tells_more [] text faulty line last here (none, sound) tells =
       (last, [], here, false, tells, (refl, refl), ap (λ (xs : List ℕ). xs ++ last) none ∙ sym (append-nil last), ap (λ (b : Bool). b || here) sound ∙ or_false here)
-  tells_more (l ∷ lines) text faulty line last here (first, rest, one, more, tells_one, tells_rest, is_text, is_faulty) tells =
-      (first, rest ++ last, one, (more || here), tells_one, tells_more lines rest more line last here tells_rest tells,
-          ap (λ (xs : List ℕ). xs ++ last) is_text ∙ append_assoc first rest last,
-          ap (λ (b : Bool). b || here) is_faulty ∙ or_assoc one more here)
+  tells_more (l ∷ lines) text faulty line last here (first, rest, one, more, tells_one, tells_rest, is_text, is_faulty) tells = (
+    first,
+    rest ++ last,
+    one,
+    (more || here),
+    tells_one,
+    tells_more lines rest more line last here tells_rest tells,
+    ap (λ (xs : List ℕ). xs ++ last) is_text ∙ append_assoc first rest last,
+    ap (λ (b : Bool). b || here) is_faulty ∙ or_assoc one more here,
+  )
 
   -- nothing is written of no lines
   pub writes_none : (a : Option (List ℕ)) → WritesLines known reading B [] a a false
@@ -39,10 +45,11 @@ module _ {A : Type 0} (known : BoxType → Bool) (reading : BoxType → List ℕ
   pub writes_more : (lines : List Line) (i : ℕ) (line : Line) (a b c : Option (List ℕ)) (faulty here : Bool) → i < length lines
       → WritesLines known reading B (take i lines) a b faulty → WritesLine known reading B (get_or lines i line) b c here → WritesLines known reading B (take (i + 1) lines) a c (faulty || here)
   writes_more lines i line a b c faulty here inside (text, tells, appends) (last, tells_last, appends_last) =
-      let all = take_more lines i line inside in
-      (text ++ last,
-          subst (λ (xs : List Line). TellsAll known reading B xs (text ++ last) (faulty || here)) (sym all) (tells_more (take i lines) text faulty (get_or lines i line) last here tells tells_last),
-          Appends-trans a b c text last appends appends_last)
+      let all = take_more lines i line inside in (
+        text ++ last,
+        subst (λ (xs : List Line). TellsAll known reading B xs (text ++ last) (faulty || here)) (sym all) (tells_more (take i lines) text faulty (get_or lines i line) last here tells tells_last),
+        Appends-trans a b c text last appends appends_last,
+      )
 
 -- a run whose writing fails, or that has no memory for it
 pub dumps_failed : (input old new : Option (List ℕ)) (failure : Failure) → IsNotRead failure → Dumps input old new (Err failure)

@@ -43,12 +43,7 @@ fn push_text(text: &[u8], out: &mut Vec<u8>) -> Result<()>
 }
 
 /// Reads the box of this name whose header is at an offset, in bytes that end where the box does.
-fn read_leaf<B: StreamBox>(
-    alloc: Global,
-    own: &[u8],
-    position: u64,
-    name: BoxType,
-) -> Result<B>
+fn read_leaf<B: StreamBox>(alloc: Global, own: &[u8], position: u64, name: BoxType) -> Result<B>
     requires { IsTrue (B.known name) }
     ensures { Answers result (leaf B.named_reading name own.now position) }
 {
@@ -56,7 +51,12 @@ fn read_leaf<B: StreamBox>(
     reader.set_position(position);
     BoxHeader::read(&mut reader)?;
     let start = reader.position() - 8;
-    B::read_named(alloc, name, &mut reader, (own.len() as u64).saturating_sub(start))
+    B::read_named(
+        alloc,
+        name,
+        &mut reader,
+        (own.len() as u64).saturating_sub(start),
+    )
 }
 
 /// Appends what is shown of a box that was read, or of its fault. Returns whether it is a fault.
