@@ -251,8 +251,8 @@ fn walk_levels(alloc: Global, bytes: &[u8]) -> Result<Vec<Line>>
 }
 
 /// The lines of a file, in its order: of each box, and after it those of the boxes in it. The frames of the top level are
-/// all there, in order, up to the first that has a fault. Each whole box is a frame of the content of an earlier line's box,
-/// or of the top level.
+/// all there, in order, up to the first that has a fault. Each whole box is a frame of the content of a box that has a line
+/// and is one less deep, or of the top level.
 pub fn walk(alloc: Global, bytes: &[u8]) -> Result<Vec<Line>>
     ensures lines { IfOk result (λ lines. lines.items ≡ lines_of bytes.now) }
     ensures top { IfOk result (λ lines. top_boxes lines.items ≡ top_frames bytes.now) }
