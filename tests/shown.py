@@ -159,8 +159,8 @@ def shown(program, inputs):
     return [texts[at:at + 4] for at in range(0, len(texts), 4)]
 
 
-def built(script):
-    """The path of the program, which is built where no gate has. The script is the one that asks for it."""
-    text = f'name={script}; . "{TOP}/tests/built"; built mp4_show "{TOP}/crates/mp4_show/stdin"'
+def built(script, program="mp4_show"):
+    """The path of a program, which is built where no gate has. The script is the one that asks for it."""
+    text = f'name={script}; . "{TOP}/tests/built"; built {program} "{TOP}/crates/{program}/stdin"'
     subprocess.run(["sh", "-c", text, os.path.join(TOP, "tests", script)], check=True, stdout=subprocess.DEVNULL)
-    return os.path.join(TOP, "crates/mp4_show/out/mp4_show")
+    return os.path.join(TOP, "crates", program, "out", program)

@@ -1,0 +1,5 @@
+pub mod Places
+pub mod Steps
+pub mod Tops
+pub mod Unwound
+pub mod Written
