@@ -1,6 +1,6 @@
 //! The samples of a run of a track fragment.
 
-ghost use Rattle.std.specs.Prelude.{◌≡◌, slice_index};
+ghost use Rattle.std.specs.Prelude.{◌≡◌, pos, slice_index, unwrap_or};
 ghost use Rattle.mp4_frame.specs.declared.codes.TheConstants as codes;
 ghost use Rattle.mp4_stream.specs.Boxes.{reads_trun};
 ghost use Rattle.mp4_c.specs.Front.{front_box};
@@ -58,16 +58,28 @@ fn number_at(numbers: &[u32], index: usize) -> u32
     }
 }
 
+/// The offset, or 0 if there is none.
+fn offset_or_zero(offset: Option<i32>) -> i32
+    ensures { result ≡ unwrap_or offset (pos 0) }
+{
+    match offset {
+        Some(n) => n,
+        None => 0,
+    }
+}
+
 impl Handed<TrunRow, TrunTable> for TrunBox {
     ghost rows = { rows_trun };
 
     ghost head = { table_trun };
 
+    #[tactic(auto, using(crate::proofs::Runs::length_of_rows))]
     fn count(&self) -> usize {
         let first = self.sample_durations.len().max(self.sample_sizes.len());
         first.max(self.sample_flags.len().max(self.sample_cts.len()))
     }
 
+    #[tactic(auto, using(crate::proofs::Runs::row_of_rows))]
     fn row(&self, index: usize) -> TrunRow {
         TrunRow {
             duration: number_at(self.sample_durations.as_slice(), index),
@@ -77,12 +89,13 @@ impl Handed<TrunRow, TrunTable> for TrunBox {
         }
     }
 
+    #[tactic(auto, using(crate::proofs::Runs::length_of_rows))]
     fn head(&self) -> TrunTable {
         TrunTable {
             count: self.count(),
             flags: self.flags,
             sample_count: self.sample_count,
-            data_offset: self.data_offset.unwrap_or(0),
+            data_offset: offset_or_zero(self.data_offset),
             first_sample_flags: self.first_sample_flags.unwrap_or(0),
             version: self.version,
         }
