@@ -19,6 +19,7 @@
 
 static long asked;   /* requests since the last call of `allow` */
 static long refused; /* the request that is refused, counted from 1; 0: none */
+static int later;    /* whether all requests after it are refused too */
 static long held;    /* blocks that were taken and not given back */
 
 void *__real_malloc(size_t size);
@@ -30,7 +31,7 @@ void __wrap_free(void *block);
 
 static int refuses(void) {
     asked += 1;
-    return asked == refused;
+    return asked == refused || (later && refused != 0 && asked > refused);
 }
 
 void *__wrap_malloc(size_t size) {
@@ -50,9 +51,10 @@ void __wrap_free(void *block) {
     __real_free(block);
 }
 
-static void refuse(long request) {
+static void refuse(long request, int and_later) {
     asked = 0;
     refused = request;
+    later = and_later;
 }
 
 /* Checks. */
@@ -114,6 +116,7 @@ struct subject {
     size_t count;                                       /* the number of rows */
     const uint8_t *bytes;
     size_t length;
+    size_t borders[2];                                  /* where a cut is between two boxes, and no fault */
 };
 
 /* One call over the first bytes, with this many places: its status, and all that it may not change. */
@@ -148,7 +151,7 @@ static void try_subject(const struct subject *s) {
     size_t cut;
     long request, most;
     subject = s->name;
-    refuse(0);
+    refuse(0, 0);
     EXPECT(call_with(s, s->bytes, s->length, s->count) == MP4_OK);
     most = asked;
     EXPECT(most > 0);
@@ -156,12 +159,16 @@ static void try_subject(const struct subject *s) {
     EXPECT(call_with(s, s->bytes, s->length, 0) == MP4_NO_ROOM);
     EXPECT(call_with(s, s->bytes, s->length, s->count - 1) == MP4_NO_ROOM);
     for (request = 1; request <= most; request++) {
-        refuse(request);
+        uint32_t status;
+        refuse(request, 0);
+        status = call_with(s, s->bytes, s->length, s->count);
+        EXPECT(status == MP4_OUT_OF_MEMORY || status == MP4_OK);
+        refuse(request, 1);
         EXPECT(call_with(s, s->bytes, s->length, s->count) == MP4_OUT_OF_MEMORY);
     }
-    refuse(0);
+    refuse(0, 0);
     for (cut = 1; cut < s->length; cut++)
-        if (s->bytes[cut - 1] != '|')
+        if (cut != s->borders[0] && cut != s->borders[1])
             EXPECT(call_with(s, s->bytes, cut, s->count) == MP4_END_OF_INPUT);
 }
 
@@ -228,7 +235,7 @@ AS_CALL(list, struct mp4_span, size_t)
 /* mp4_normal: the header of 16 bytes comes out in 8, and all else as it is. */
 
 static const char NORMAL[] =
-    "\0\0\0\x18ftypisom\0\0\2\0isommp41"
+    "\0\0\0\x18" "ftypisom\0\0\2\0isommp41"
     "\0\0\0\x0A\251nam|!"
     "\0\0\0\x14stco\0\0\0\0\0\0\0\1\0\0\1\x0B";
 
@@ -334,25 +341,25 @@ static const struct {
     size_t count_at; /* the offset of the number of rows */
 } TABLES[] = {
     {{"mp4_stsz", call_stsz, 4, sizeof(struct mp4_stsz_table), are_sizes, is_stsz, 2,
-      BYTES("\0\0\0\x1Cstsz\x85\x86\x87\x88\0\0\0\0\0\0\0\2\x81\x82\x83\x84\x91\x92\x93\x94")}, 16},
+      BYTES("\0\0\0\x1Cstsz\x85\x86\x87\x88\0\0\0\0\0\0\0\2\x81\x82\x83\x84\x91\x92\x93\x94"), {0, 0}}, 16},
     {{"mp4_stco", call_stco, 4, sizeof(struct mp4_table), are_sizes, is_two, 2,
-      BYTES("\0\0\0\x18stco\x85\x86\x87\x88\0\0\0\2\x81\x82\x83\x84\x91\x92\x93\x94")}, 12},
+      BYTES("\0\0\0\x18stco\x85\x86\x87\x88\0\0\0\2\x81\x82\x83\x84\x91\x92\x93\x94"), {0, 0}}, 12},
     {{"mp4_stss", call_stss, 4, sizeof(struct mp4_table), are_sizes, is_two, 2,
-      BYTES("\0\0\0\x18stss\x85\x86\x87\x88\0\0\0\2\x81\x82\x83\x84\x91\x92\x93\x94")}, 12},
+      BYTES("\0\0\0\x18stss\x85\x86\x87\x88\0\0\0\2\x81\x82\x83\x84\x91\x92\x93\x94"), {0, 0}}, 12},
     {{"mp4_co64", call_co64, 8, sizeof(struct mp4_table), are_long_offsets, is_two, 2,
-      BYTES("\0\0\0\x20" "co64\x85\x86\x87\x88\0\0\0\2\x81\x82\x83\x84\x85\x86\x87\x88\x91\x92\x93\x94\x95\x96\x97\x98")}, 12},
+      BYTES("\0\0\0\x20" "co64\x85\x86\x87\x88\0\0\0\2\x81\x82\x83\x84\x85\x86\x87\x88\x91\x92\x93\x94\x95\x96\x97\x98"), {0, 0}}, 12},
     {{"mp4_stts", call_stts, sizeof(struct mp4_stts_row), sizeof(struct mp4_table), are_durations, is_two, 2,
-      BYTES("\0\0\0\x20stts\x85\x86\x87\x88\0\0\0\2\x81\x82\x83\x84\x85\x86\x87\x88\x91\x92\x93\x94\x95\x96\x97\x98")}, 12},
+      BYTES("\0\0\0\x20stts\x85\x86\x87\x88\0\0\0\2\x81\x82\x83\x84\x85\x86\x87\x88\x91\x92\x93\x94\x95\x96\x97\x98"), {0, 0}}, 12},
     {{"mp4_ctts", call_ctts, sizeof(struct mp4_ctts_row), sizeof(struct mp4_table), are_compositions, is_two, 2,
-      BYTES("\0\0\0\x20" "ctts\x85\x86\x87\x88\0\0\0\2\x81\x82\x83\x84\xFF\xFF\xFF\xFE\x91\x92\x93\x94\x15\x96\x97\x98")}, 12},
+      BYTES("\0\0\0\x20" "ctts\x85\x86\x87\x88\0\0\0\2\x81\x82\x83\x84\xFF\xFF\xFF\xFE\x91\x92\x93\x94\x15\x96\x97\x98"), {0, 0}}, 12},
     {{"mp4_stsc", call_stsc, sizeof(struct mp4_stsc_row), sizeof(struct mp4_table), are_chunks, is_two, 2,
-      BYTES("\0\0\0\x28stsc\x85\x86\x87\x88\0\0\0\2\0\0\0\1\0\0\0\3\x81\x82\x83\x84\0\0\0\5\x91\x92\x93\x94\0\0\0\2")}, 12},
+      BYTES("\0\0\0\x28stsc\x85\x86\x87\x88\0\0\0\2\0\0\0\1\0\0\0\3\x81\x82\x83\x84\0\0\0\5\x91\x92\x93\x94\0\0\0\2"), {0, 0}}, 12},
     {{"mp4_elst", call_elst, sizeof(struct mp4_elst_row), sizeof(struct mp4_table), are_edits, are_two_edits, 2,
       BYTES("\0\0\0\x38" "elst\1\x86\x87\x88\0\0\0\2\x81\x82\x83\x84\x85\x86\x87\x88\xFF\xFF\xFF\xFF\xFF\xFF\xFF\xFF\x89\x8A\x8B\x8C"
-            "\0\0\0\0\0\0\0\7\x91\x92\x93\x94\x95\x96\x97\x98\0\1\0\0")}, 12},
+            "\0\0\0\0\0\0\0\7\x91\x92\x93\x94\x95\x96\x97\x98\0\1\0\0"), {0, 0}}, 12},
     {{"mp4_trun", call_trun, sizeof(struct mp4_trun_row), sizeof(struct mp4_trun_table), are_samples, is_run, 2,
       BYTES("\0\0\0\x30trun\1\0\x0D\5\0\0\0\2\xFF\xFF\xFF\xF0\1\2\3\4\x81\x82\x83\x84\x85\x86\x87\x88\xFF\xFF\xFF\xFE"
-            "\x91\x92\x93\x94\x95\x96\x97\x98\0\0\0\3")}, 12},
+            "\x91\x92\x93\x94\x95\x96\x97\x98\0\0\0\3"), {0, 0}}, 12},
 };
 
 /* Tables without rows. */
@@ -391,21 +398,25 @@ static void try_check(void) {
     EXPECT(check("\0\0\0\x08" "dinf", 8) == MP4_BOX_NOT_FOUND);
     for (cut = 1; cut < sizeof STREAM - 1; cut++)
         EXPECT(check(STREAM, cut) == (cut == 32 || cut == 42 ? MP4_OK : MP4_END_OF_INPUT));
-    refuse(0);
+    refuse(0, 0);
     EXPECT(check(STREAM, sizeof STREAM - 1) == MP4_OK);
     most = asked;
     EXPECT(most > 0);
     for (request = 1; request <= most; request++) {
-        refuse(request);
+        uint32_t status;
+        refuse(request, 0);
+        status = check(STREAM, sizeof STREAM - 1);
+        EXPECT(status == MP4_OUT_OF_MEMORY || status == MP4_OK);
+        refuse(request, 1);
         EXPECT(check(STREAM, sizeof STREAM - 1) == MP4_OUT_OF_MEMORY);
     }
-    refuse(0);
+    refuse(0, 0);
 }
 
 /* mp4_list and mp4_normal: each fault, and no bytes. */
 static void try_streams(void) {
-    struct subject list = {"mp4_list", call_list, sizeof(struct mp4_span), sizeof(size_t), are_spans, is_three, 3, BYTES(STREAM)};
-    struct subject normal = {"mp4_normal", call_normal, 1, sizeof(size_t), is_normal, is_normal_long, sizeof NORMAL - 1, BYTES(STREAM)};
+    struct subject list = {"mp4_list", call_list, sizeof(struct mp4_span), sizeof(size_t), are_spans, is_three, 3, BYTES(STREAM), {32, 42}};
+    struct subject normal = {"mp4_normal", call_normal, 1, sizeof(size_t), is_normal, is_normal_long, sizeof NORMAL - 1, BYTES(STREAM), {32, 42}};
     size_t count = 7;
     struct mp4_span span = {1, 2, 3};
     uint8_t byte = 4;
