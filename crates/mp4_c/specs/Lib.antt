@@ -1,4 +1,5 @@
 pub mod Status
+pub mod Tells
 pub mod Handed
 pub mod Front
 pub mod Normal

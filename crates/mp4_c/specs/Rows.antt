@@ -23,7 +23,7 @@ use Rattle.mp4_c.specs.declared.stts.SttsRow.{SttsRow}
 use Rattle.mp4_c.specs.declared.ctts.CttsRow.{CttsRow}
 use Rattle.mp4_c.specs.declared.stsc.StscRow.{StscRow}
 use Rattle.mp4_c.specs.declared.elst.ElstRow.{ElstRow}
-use Rattle.mp4_c.specs.declared.trun.TrunRow.{TrunRow}
+use Rattle.mp4_c.specs.declared.trun_row.TrunRow.{TrunRow}
 use Rattle.mp4_c.specs.declared.trun.TrunTable.{TrunTable}
 
 -- the place of a box, and its code

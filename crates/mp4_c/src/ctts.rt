@@ -42,11 +42,7 @@ impl Handed<CttsRow, Table> for CttsBox {
     }
 
     fn head(&self) -> Table {
-        Table {
-            count: self.entries.len(),
-            flags: self.flags,
-            version: self.version,
-        }
+        Table::of(self.version, self.flags, self.entries.len())
     }
 }
 

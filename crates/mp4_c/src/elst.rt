@@ -48,11 +48,7 @@ impl Handed<ElstRow, Table> for ElstBox {
     }
 
     fn head(&self) -> Table {
-        Table {
-            count: self.entries.len(),
-            flags: self.flags,
-            version: self.version,
-        }
+        Table::of(self.version, self.flags, self.entries.len())
     }
 }
 

@@ -47,11 +47,7 @@ impl Handed<StscRow, Table> for StscBox {
     }
 
     fn head(&self) -> Table {
-        Table {
-            count: self.entries.len(),
-            flags: self.flags,
-            version: self.version,
-        }
+        Table::of(self.version, self.flags, self.entries.len())
     }
 }
 

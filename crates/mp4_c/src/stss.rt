@@ -27,11 +27,7 @@ impl Handed<u32, Table> for StssBox {
     }
 
     fn head(&self) -> Table {
-        Table {
-            count: self.entries.len(),
-            flags: self.flags,
-            version: self.version,
-        }
+        Table::of(self.version, self.flags, self.entries.len())
     }
 }
 

@@ -41,11 +41,7 @@ impl Handed<SttsRow, Table> for SttsBox {
     }
 
     fn head(&self) -> Table {
-        Table {
-            count: self.entries.len(),
-            flags: self.flags,
-            version: self.version,
-        }
+        Table::of(self.version, self.flags, self.entries.len())
     }
 }
 

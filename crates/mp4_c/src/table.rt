@@ -1,5 +1,6 @@
 //! Tables of samples: what is read of them for the caller.
 
+ghost use Rattle.std.specs.Prelude.{◌≡◌};
 ghost use Rattle.mp4_c.specs.Front.{front_box};
 ghost use Rattle.mp4_c.specs.Handed.{HandsReading};
 
@@ -18,6 +19,19 @@ pub struct Table {
     pub flags: u32,
     /// The version of the box.
     pub version: u8,
+}
+
+impl Table {
+    /// What is told of a table of so many rows.
+    pub fn of(version: u8, flags: u32, count: usize) -> Table
+        ensures { result ≡ record { count = count; flags = flags; version = version } }
+    {
+        Table {
+            count,
+            flags,
+            version,
+        }
+    }
 }
 
 /// Hands over the table in the box at the front of a buffer, which is expected to have this code.

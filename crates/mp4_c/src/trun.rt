@@ -9,6 +9,7 @@ ghost use Rattle.mp4_c.specs.Rows.{count_trun, row_trun, rows_trun, table_trun};
 
 use crate::handed::Handed;
 use crate::table::read_table;
+use crate::trun_row::TrunRow;
 use mp4_frame::codes;
 use mp4_stream::TrunBox;
 use std::alloc::Global;
@@ -30,21 +31,6 @@ pub struct TrunTable {
     pub first_sample_flags: u32,
     /// The version of the box. In version 1 composition offsets are signed.
     pub version: u8,
-}
-
-/// What a run has for one sample: 0 for what it doesn't have.
-#[repr(C)]
-#[derive(Clone, Copy)]
-pub struct TrunRow {
-    /// The duration, in the timescale of the media.
-    pub duration: u32,
-    /// The size, in bytes.
-    pub size: u32,
-    /// The flags: what the sample depends on, and whether it is a sync sample (8.8.3).
-    pub flags: u32,
-    /// The composition time minus the decoding time, in the timescale of the media. A negative number of version 1 is its
-    /// two's complement.
-    pub composition_offset: u32,
 }
 
 /// The number at an index; 0 past the end.
