@@ -1,5 +1,5 @@
 -- What the number of an error tells, by the cases of the error.
-use Rattle.std.proofs.Common.{◌≡◌, ℕ, refl, inl, inr, arith}
+use Rattle.std.proofs.Common.{refl, inl, inr, arith}
 use Rattle.mp4_frame.specs.Reading.{Reading, Refuses}
 use Rattle.mp4_frame.specs.declared.error.Error.{Error}
 use Rattle.mp4_frame.specs.declared.error.Error.TheVariants as errors

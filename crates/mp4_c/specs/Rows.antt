@@ -1,5 +1,5 @@
 -- The rows of the boxes' tables as C has them, and what is told of a table beside its rows.
-use Rattle.std.specs.Prelude.{ℕ, ℤ, pos, List, length, map, max, slice_index, unwrap_or}
+use Rattle.std.specs.Prelude.{ℕ, pos, List, length, map, max, slice_index, unwrap_or}
 use Rattle.std.specs.List.{range_with_len}
 use Rattle.mp4_frame.specs.BoxType.{code_of}
 use Rattle.mp4_frame.specs.declared.list.BoxSpan.{BoxSpan}

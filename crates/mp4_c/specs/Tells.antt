@@ -1,5 +1,5 @@
 -- What the status of a refused reading tells.
-use Rattle.std.specs.Prelude.{◌≡◌, ℕ, Bool, true, ◌⊎◌, Err}
+use Rattle.std.specs.Prelude.{◌≡◌, ℕ, true, ◌⊎◌, Err}
 use Rattle.mp4_frame.specs.Reading.{Reading, End, Invalid, NotFound}
 use Rattle.mp4_frame.specs.declared.box_type.BoxType.{BoxType}
 use Rattle.mp4_c.specs.declared.status.TheConstants.{END_OF_INPUT, INVALID_DATA, BOX_NOT_FOUND, OUT_OF_MEMORY}
