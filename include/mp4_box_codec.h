@@ -26,7 +26,7 @@
  *  - After MP4_NO_ROOM the array is as it was, and the number of rows, and what else is told, is as after MP4_OK.
  *  - After any other status everything is as it was.
  *
- * Numbers are those of the machine, which has 64 bits. Link the program with libmp4_box_codec.a.
+ * Link the program with libmp4_box_codec.a, which is for x86-64.
  */
 #ifndef MP4_BOX_CODEC_H
 #define MP4_BOX_CODEC_H
@@ -37,6 +37,9 @@
 #ifdef __cplusplus
 extern "C" {
 #endif
+
+/* Lengths and numbers of rows have 64 bits. */
+typedef char mp4_size_has_64_bits[sizeof(size_t) == 8 ? 1 : -1];
 
 /* The statuses. An error of the codec has the number of its place among the variants of its Error, counted from 1. The
    numbers from 4 to 11 are those of errors that no function here returns. */
