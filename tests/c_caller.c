@@ -60,7 +60,7 @@ static void refuse(long request, int and_later) {
 /* Checks. */
 
 static const char *subject;
-static long checks;
+static long checks, calls;
 
 static void expect(int holds, const char *text, int line) {
     checks += 1;
@@ -125,6 +125,7 @@ static uint32_t call_with(const struct subject *s, const uint8_t *bytes, size_t 
     uint8_t *input = at_page_end(length), *rows = at_page_end(size), *told = at_page_end(s->told);
     uint32_t status;
     memcpy(input, bytes, length);
+    calls += 1;
     status = s->function(input, length, rows, places, told);
     EXPECT(held == 0);
     EXPECT(memcmp(input, bytes, length) == 0);
@@ -383,6 +384,7 @@ static uint32_t check(const char *text, size_t length) {
     uint8_t *bytes = at_page_end(length);
     uint32_t status;
     memcpy(bytes, text, length);
+    calls += 1;
     status = mp4_check(bytes, length);
     EXPECT(held == 0);
     give_back(bytes, length);
@@ -439,6 +441,6 @@ int main(void) {
     for (i = 0; i < sizeof TABLES / sizeof TABLES[0]; i++)
         try_table(&TABLES[i].subject, TABLES[i].count_at);
     try_empty_tables();
-    printf("c_caller: %ld checks of 12 functions\n", checks);
+    printf("c_caller: %ld calls of 12 functions, %ld checks\n", calls, checks);
     return 0;
 }
