@@ -7,9 +7,7 @@ use mp4_stream::laws::{
     is_read_back_at_the_end, is_read_by_name, is_read_by_name_at_the_end, is_read_without_memory,
     is_sound, spans_follow_frames, spans_of_a_written_list, spans_of_what_is_read, written_is_read,
 };
-use mp4_stream::list_laws::{
-    normal_stream_is_kept, read_list_is_sound, written_stream_is_kept,
-};
+use mp4_stream::list_laws::{normal_stream_is_kept, read_list_is_sound, written_stream_is_kept};
 use mp4_stream::{
     AnyBox, Avc1Box, AvcCBox, BoxLaws, Co64Box, CttsBox, DataBox, DinfBox, DrefBox, ElstBox,
     EmsgBox, EsdsBox, FtypBox, HdlrBox, Hev1Box, HvcCBox, KeptBox, MdhdBox, MehdBox, MfhdBox,
