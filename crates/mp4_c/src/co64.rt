@@ -16,7 +16,7 @@ use std::alloc::Global;
 impl Handed<u64, Table> for Co64Box {
     ghost rows = { λ v. v.entries };
 
-    ghost head = { table_co64 };
+    ghost summary = { table_co64 };
 
     fn count(&self) -> usize {
         self.entries.len()
@@ -26,7 +26,7 @@ impl Handed<u64, Table> for Co64Box {
         self.entries.as_slice()[index]
     }
 
-    fn head(&self) -> Table {
+    fn summary(&self) -> Table {
         Table::of(self.version, self.flags, self.entries.len())
     }
 }

@@ -27,7 +27,7 @@ pub struct CttsRow {
 impl Handed<CttsRow, Table> for CttsBox {
     ghost rows = { λ v. map row_ctts v.entries };
 
-    ghost head = { table_ctts };
+    ghost summary = { table_ctts };
 
     fn count(&self) -> usize {
         self.entries.len()
@@ -41,7 +41,7 @@ impl Handed<CttsRow, Table> for CttsBox {
         }
     }
 
-    fn head(&self) -> Table {
+    fn summary(&self) -> Table {
         Table::of(self.version, self.flags, self.entries.len())
     }
 }

@@ -31,7 +31,7 @@ pub struct ElstRow {
 impl Handed<ElstRow, Table> for ElstBox {
     ghost rows = { λ v. map row_elst v.entries };
 
-    ghost head = { table_elst };
+    ghost summary = { table_elst };
 
     fn count(&self) -> usize {
         self.entries.len()
@@ -47,7 +47,7 @@ impl Handed<ElstRow, Table> for ElstBox {
         }
     }
 
-    fn head(&self) -> Table {
+    fn summary(&self) -> Table {
         Table::of(self.version, self.flags, self.entries.len())
     }
 }

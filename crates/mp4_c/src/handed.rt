@@ -6,13 +6,13 @@ ghost use Rattle.mp4_c.specs.Handed.{Fills, Hands};
 use crate::status::{NO_ROOM, OK, number_of};
 use mp4_stream::Result;
 
-/// What a caller is handed: rows, and a head that says how many there are.
-pub trait Handed<R, H>: Sized {
+/// What a caller is handed: rows, and a summary that says how many there are.
+pub trait Handed<R, S>: Sized {
     /// The rows.
     ghost rows: { Self → List R };
 
-    /// The head.
-    ghost head: { Self → H };
+    /// The summary.
+    ghost summary: { Self → S };
 
     /// The number of rows.
     fn count(&self) -> usize
@@ -23,13 +23,13 @@ pub trait Handed<R, H>: Sized {
         requires { index < length (rows self.now) }
         ensures { slice_get (rows self.now) index ≡ Some result };
 
-    /// The head.
-    fn head(&self) -> H
-        ensures { result ≡ head self.now };
+    /// The summary.
+    fn summary(&self) -> S
+        ensures { result ≡ summary self.now };
 }
 
 /// Puts all rows at the front of an array that has room for them.
-fn put_rows<V: Handed<R, H>, R: Copy, H>(value: &V, rows: &mut [R])
+fn put_rows<V: Handed<R, S>, R: Copy, S>(value: &V, rows: &mut [R])
     requires { length (V.rows value.now) ≤ length rows.old }
     ensures { rows.new ≡ V.rows value.now ++ drop (length (V.rows value.now)) rows.old }
 {
@@ -39,7 +39,7 @@ fn put_rows<V: Handed<R, H>, R: Copy, H>(value: &V, rows: &mut [R])
 }
 
 /// Fills the front of the array with all rows, or leaves it as it was if it is too short. Returns the status.
-fn fill<V: Handed<R, H>, R: Copy, H>(value: &V, rows: &mut [R]) -> u32
+fn fill<V: Handed<R, S>, R: Copy, S>(value: &V, rows: &mut [R]) -> u32
     ensures { Fills result (V.rows value.now) rows.old rows.new }
 {
     if rows.len() < value.count() {
@@ -49,17 +49,17 @@ fn fill<V: Handed<R, H>, R: Copy, H>(value: &V, rows: &mut [R]) -> u32
     OK
 }
 
-/// Hands over what a call has returned: head and rows, or the number of its error.
-pub fn hand_over<V: Handed<R, H> + Drop, R: Copy, H: Copy>(
+/// Hands over what a call has returned: summary and rows, or the number of its error.
+pub fn hand_over<V: Handed<R, S> + Drop, R: Copy, S: Copy>(
     found: Result<V>,
     rows: &mut [R],
-    head: &mut H,
+    summary: &mut S,
 ) -> u32
-    ensures { Hands V.rows V.head found result rows.old rows.new head.old head.new }
+    ensures { Hands V.rows V.summary found result rows.old rows.new summary.old summary.new }
 {
     match found {
         Ok(value) => {
-            *head = value.head();
+            *summary = value.summary();
             fill(&value, rows)
         }
         Err(error) => number_of(&error),

@@ -2,7 +2,7 @@
 //! here, and says what the caller ensures; `docs/C.md` goes through a caller.
 //!
 //! Every function returns a status (`status`). What it finds goes into the caller's memory: rows into an array, whose
-//! length the caller says, and a head that says how many rows there are. If the array is too short, nothing is written to
+//! length the caller says, and a summary that says how many rows there are. If the array is too short, nothing is written to
 //! it, so a caller asks with an array of length 0 first. Memory that the codec takes is given back before a function
 //! returns, and no function keeps a pointer.
 #![tactic(auto)]

@@ -24,7 +24,7 @@ pub struct Span {
 impl Handed<Span, usize> for Vec<BoxSpan> {
     ghost rows = { λ v. map span_row v.items };
 
-    ghost head = { λ v. length v.items };
+    ghost summary = { λ v. length v.items };
 
     fn count(&self) -> usize {
         self.len()
@@ -39,7 +39,7 @@ impl Handed<Span, usize> for Vec<BoxSpan> {
         }
     }
 
-    fn head(&self) -> usize {
+    fn summary(&self) -> usize {
         self.len()
     }
 }

@@ -11,7 +11,7 @@ use std::alloc::Global;
 impl Handed<u8, usize> for Vec<u8> {
     ghost rows = { λ v. v.items };
 
-    ghost head = { λ v. length v.items };
+    ghost summary = { λ v. length v.items };
 
     fn count(&self) -> usize {
         self.len()
@@ -21,7 +21,7 @@ impl Handed<u8, usize> for Vec<u8> {
         self[index]
     }
 
-    fn head(&self) -> usize {
+    fn summary(&self) -> usize {
         self.len()
     }
 }

@@ -16,7 +16,7 @@ use std::alloc::Global;
 impl Handed<u32, Table> for StcoBox {
     ghost rows = { λ v. v.entries };
 
-    ghost head = { table_stco };
+    ghost summary = { table_stco };
 
     fn count(&self) -> usize {
         self.entries.len()
@@ -26,7 +26,7 @@ impl Handed<u32, Table> for StcoBox {
         self.entries.as_slice()[index]
     }
 
-    fn head(&self) -> Table {
+    fn summary(&self) -> Table {
         Table::of(self.version, self.flags, self.entries.len())
     }
 }

@@ -30,7 +30,7 @@ pub struct StscRow {
 impl Handed<StscRow, Table> for StscBox {
     ghost rows = { λ v. map row_stsc v.entries };
 
-    ghost head = { table_stsc };
+    ghost summary = { table_stsc };
 
     fn count(&self) -> usize {
         self.entries.len()
@@ -46,7 +46,7 @@ impl Handed<StscRow, Table> for StscBox {
         }
     }
 
-    fn head(&self) -> Table {
+    fn summary(&self) -> Table {
         Table::of(self.version, self.flags, self.entries.len())
     }
 }

@@ -32,7 +32,7 @@ pub struct StszTable {
 impl Handed<u32, StszTable> for StszBox {
     ghost rows = { λ v. v.sample_sizes };
 
-    ghost head = { table_stsz };
+    ghost summary = { table_stsz };
 
     fn count(&self) -> usize {
         self.sample_sizes.len()
@@ -42,7 +42,7 @@ impl Handed<u32, StszTable> for StszBox {
         self.sample_sizes.as_slice()[index]
     }
 
-    fn head(&self) -> StszTable {
+    fn summary(&self) -> StszTable {
         StszTable {
             count: self.sample_sizes.len(),
             flags: self.flags,

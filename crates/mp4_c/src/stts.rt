@@ -26,7 +26,7 @@ pub struct SttsRow {
 impl Handed<SttsRow, Table> for SttsBox {
     ghost rows = { λ v. map row_stts v.entries };
 
-    ghost head = { table_stts };
+    ghost summary = { table_stts };
 
     fn count(&self) -> usize {
         self.entries.len()
@@ -40,7 +40,7 @@ impl Handed<SttsRow, Table> for SttsBox {
         }
     }
 
-    fn head(&self) -> Table {
+    fn summary(&self) -> Table {
         Table::of(self.version, self.flags, self.entries.len())
     }
 }

@@ -35,14 +35,14 @@ impl Table {
 }
 
 /// Hands over the table in the box at the front of a buffer, which is expected to have this code.
-pub fn read_table<B: ReadBox + Handed<R, H> + Drop, R: Copy, H: Copy>(
+pub fn read_table<B: ReadBox + Handed<R, S> + Drop, R: Copy, S: Copy>(
     alloc: Global,
     code: u32,
     bytes: &[u8],
     rows: &mut [R],
-    table: &mut H,
+    table: &mut S,
 ) -> u32
-    ensures { HandsReading (front_box B.reads code bytes.now) B.rows B.head result rows.old rows.new table.old table.new }
+    ensures { HandsReading (front_box B.reads code bytes.now) B.rows B.summary result rows.old rows.new table.old table.new }
 {
     hand_over(front_box::<B>(alloc, code, bytes), rows, table)
 }

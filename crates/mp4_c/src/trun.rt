@@ -57,7 +57,7 @@ fn offset_or_zero(offset: Option<i32>) -> i32
 impl Handed<TrunRow, TrunTable> for TrunBox {
     ghost rows = { rows_trun };
 
-    ghost head = { table_trun };
+    ghost summary = { table_trun };
 
     #[tactic(auto, using(crate::proofs::Runs::length_of_rows))]
     fn count(&self) -> usize {
@@ -76,7 +76,7 @@ impl Handed<TrunRow, TrunTable> for TrunBox {
     }
 
     #[tactic(auto, using(crate::proofs::Runs::length_of_rows))]
-    fn head(&self) -> TrunTable {
+    fn summary(&self) -> TrunTable {
         TrunTable {
             count: self.count(),
             flags: self.flags,
