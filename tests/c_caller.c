@@ -434,6 +434,46 @@ static void try_streams(void) {
     EXPECT(count == 0 && byte == 4);
 }
 
+static void put_number(uint8_t *bytes, size_t number) {
+    int i;
+    for (i = 3; i >= 0; i--, number >>= 8)
+        bytes[i] = (uint8_t)number;
+}
+
+/* A table of a million rows, and 100,000 boxes. */
+static void try_large(void) {
+    size_t rows = 1000000, boxes = 100000, i, wrong = 0, count = 0;
+    uint8_t *bytes = at_page_end(16 + 4 * rows), *out = at_page_end(8 * boxes);
+    uint32_t *offsets = at_page_end(4 * rows);
+    struct mp4_span *spans = at_page_end(boxes * sizeof *spans);
+    struct mp4_table table = {0, 0, 0};
+    subject = "large inputs";
+    put_number(bytes, 16 + 4 * rows);
+    memcpy(bytes + 4, "stco\1\2\3\4", 8);
+    put_number(bytes + 12, rows);
+    for (i = 0; i < rows; i++)
+        put_number(bytes + 16 + 4 * i, i * 4294);
+    EXPECT(mp4_stco(bytes, 16 + 4 * rows, offsets, rows, &table) == MP4_OK);
+    EXPECT(table.count == rows && table.flags == 0x020304 && table.version == 1);
+    for (i = 0; i < rows; i++)
+        wrong += offsets[i] != i * 4294;
+    EXPECT(wrong == 0);
+    for (i = 0; i < boxes; i++)
+        memcpy(bytes + 8 * i, "\0\0\0\x08" "free", 8);
+    EXPECT(mp4_check(bytes, 8 * boxes) == MP4_OK);
+    EXPECT(mp4_list(bytes, 8 * boxes, spans, boxes, &count) == MP4_OK && count == boxes);
+    for (i = 0; i < boxes; i++)
+        wrong += spans[i].position != 8 * i || spans[i].length != 8 || spans[i].code != 0x66726565;
+    EXPECT(wrong == 0);
+    EXPECT(mp4_normal(bytes, 8 * boxes, out, 8 * boxes, &count) == MP4_OK && count == 8 * boxes);
+    EXPECT(memcmp(bytes, out, 8 * boxes) == 0);
+    EXPECT(held == 0);
+    give_back(bytes, 16 + 4 * rows);
+    give_back(out, 8 * boxes);
+    give_back(offsets, 4 * rows);
+    give_back(spans, boxes * sizeof *spans);
+}
+
 int main(void) {
     size_t i;
     try_check();
@@ -441,6 +481,7 @@ int main(void) {
     for (i = 0; i < sizeof TABLES / sizeof TABLES[0]; i++)
         try_table(&TABLES[i].subject, TABLES[i].count_at);
     try_empty_tables();
+    try_large();
     printf("c_caller: %ld calls of 12 functions, %ld checks\n", calls, checks);
     return 0;
 }
