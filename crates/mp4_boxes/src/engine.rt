@@ -4,11 +4,12 @@ ghost use Rattle.std.specs.Prelude.{◌+◌, ◌≡◌, ◌≤◌, ◌<◌, ◌|
 ghost use Rattle.std.specs.Io.KnownBytes.{Keeps};
 ghost use Rattle.mp4_frame.specs.declared.error.Error.TheVariants.{OutOfMemory};
 ghost use Rattle.mp4_boxes.specs.Ends.{PullsInto};
-ghost use Rattle.mp4_boxes.specs.Runs.{Runs, ReachesEnd, ReadsAll, WritesAll, Rewrites, Normalizes, NormalRefusal, is_read, is_write};
+ghost use Rattle.mp4_boxes.specs.Runs.{Runs, ReachesEnd, ReadsAll, WritesAll, Normalizes, NormalRefusal, is_read, is_write};
 
 use crate::ends::{Input, Output};
 use crate::fault::RunFault;
-use mp4_stream::{ByteCursor, Error, KeptBox, read_boxes_as, write_boxes};
+use crate::normal::normalize;
+use mp4_stream::Error;
 use std::alloc::{Allocator, Global};
 use std::io::{Read, Write};
 
@@ -99,16 +100,6 @@ pub fn finish<W: Write>(output: &mut Output<W>) -> Result<(), RunFault>
         return Err(RunFault::Write);
     }
     Ok(())
-}
-
-/// The boxes of the bytes, written in their normal form, to the vector that the bytes were in.
-fn normalize(alloc: Global, mut bytes: Vec<u8>) -> mp4_stream::Result<Vec<u8>>
-    ensures { Rewrites Normalizes NormalRefusal (λ v. v.items) bytes.items result }
-{
-    let boxes: Vec<KeptBox> = read_boxes_as(alloc, &mut ByteCursor::new(&bytes))?;
-    bytes.clear();
-    write_boxes(&boxes, &mut bytes)?;
-    Ok(bytes)
 }
 
 /// Reads all boxes of the input, and writes them to the output in their normal form: boxes of types that the codec does

@@ -8,6 +8,7 @@ mod engine;
 mod fault;
 mod line;
 mod list;
+mod normal;
 mod outcome;
 mod program;
 

@@ -1,6 +1,8 @@
 //! The frame of a box at the top level of a buffer: its name, start, size and end.
 
 ghost use Rattle.std.specs.Prelude.{◌≡◌, ◌<◌, ◌≤◌, ◌+◌, ◌^◌, length, IfOk};
+ghost use Rattle.mp4_frame.specs.BoxType.{name_of};
+ghost use Rattle.mp4_frame.specs.Bytes.{number};
 ghost use Rattle.mp4_frame.specs.Reading.{FaultAs};
 ghost use Rattle.mp4_frame.specs.Heads.{frame, frame_of_head};
 
@@ -22,12 +24,15 @@ pub struct Frame {
     pub end: u64,
 }
 
+/// The frame of the box with this head, in a buffer of this length. Invalid data if its size is too small or it ends past
+/// 2^64 - 1, end of input if it ends past the buffer.
 #[tactic(auto, unfolding(crate::specs::Heads::frame_of_head))]
-fn frame_of(len: u64, head: Head) -> Result<Frame>
+pub fn frame_of_head(len: u64, head: Head) -> Result<Frame>
     requires { head.start + 8 ≤ len }
     ensures answer { FaultAs result (frame_of_head len head) }
     ensures end { IfOk result (λ f. f.start + f.size ≡ f.end) }
     ensures room { IfOk result (λ f. (f.start ≡ head.start) × (head.start + 8 ≤ f.end) × (f.end ≤ len)) }
+    ensures name { IfOk result (λ f. f.name ≡ name_of head.code) }
 {
     let Head { code, size, start } = head;
     let name = BoxType::from(code);
@@ -57,12 +62,15 @@ fn frame_of(len: u64, head: Head) -> Result<Frame>
     })
 }
 
-/// The frame of the box at an offset before the end of the buffer.
-pub(crate) fn frame_at(bytes: &[u8], at: usize) -> Result<Frame>
+/// The frame of the box at an offset before the end of the buffer. End of input if the header or the box is cut, invalid
+/// data if the size is too small or the box ends past 2^64 - 1.
+pub fn frame_at(bytes: &[u8], at: usize) -> Result<Frame>
     requires { at < length bytes.now }
     ensures answer { FaultAs result (frame bytes.now at) }
     ensures end { IfOk result (λ f. f.start + f.size ≡ f.end) }
     ensures room { IfOk result (λ f. (f.start + 8 ≤ length bytes.now) × (at + 8 ≤ f.end) × (f.end ≤ length bytes.now)) }
+    ensures begins { IfOk result (λ f. (at ≤ f.start) × (f.start + 8 ≤ f.end)) }
+    ensures name { IfOk result (λ f. f.name ≡ name_of (number bytes.now (at + 4) 4)) }
 {
-    frame_of(bytes.len() as u64, Head::at(bytes, at as u64)?)
+    frame_of_head(bytes.len() as u64, Head::at(bytes, at as u64)?)
 }

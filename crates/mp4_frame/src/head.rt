@@ -20,6 +20,7 @@ pub struct Head {
 }
 
 impl Head {
+    ghost use Rattle.mp4_frame.specs.Bytes.{number};
     ghost use Rattle.mp4_frame.specs.Heads.{head, header_length};
 
     /// Reads the head at offset `at`: 8 bytes, and 8 more if the first 4 hold a size of 1. End of input unless these
@@ -28,6 +29,7 @@ impl Head {
     pub fn at(bytes: &[u8], at: u64) -> Result<Head>
         ensures value { Answers result (head bytes.now at) }
         ensures fault { FaultAs result (head bytes.now at).outcome }
+        ensures code { IfOk result (λ h. h.code ≡ number bytes.now (at + 4) 4) }
         ensures after { IfOk result (λ h. h.start + 8 ≡ at + header_length bytes.now at) }
         ensures room { IfOk result (λ h. (at ≤ h.start) × (h.start + 8 ≤ length bytes.now)) }
     {

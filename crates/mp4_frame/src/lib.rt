@@ -37,7 +37,7 @@ pub use child::{Parent, last_child};
 pub use entries::Entries;
 pub use error::{Error, Result};
 pub use four_cc::{FourCC, is_four_cc};
-pub use frame::Frame;
+pub use frame::{Frame, frame_at, frame_of_head};
 pub use head::Head;
 pub use list::{BoxSpan, list_boxes};
 pub use member::{Holds, clone_as, push_as, push_inside, read_as};

@@ -1,8 +1,10 @@
 -- The header of a descriptor (ISO/IEC 14496-1, 8.3.3): a tag of 1 byte, then the length of the content in 1 to 4 bytes.
 -- Each has 7 bits of the length, the highest first. Its high bit says that another follows; that of the fourth is ignored.
-use Rattle.std.specs.Prelude.{ℕ, ◌+◌, ◌*◌, ◌%◌, nat_lt, List, if◌then◌else◌}
+use Rattle.std.specs.Prelude.{◌≡◌, ℕ, ◌+◌, ◌*◌, ◌%◌, ◌^◌, ◌<◌, ◌≤◌, nat_lt, List, length, if◌then◌else◌, Err}
 use Rattle.mp4_frame.specs.Bytes.{number}
-use Rattle.mp4_frame.specs.Reading.{Reading, ◌>>=◌, expect_bytes, done}
+use Rattle.mp4_frame.specs.Reading.{Reading, ◌>>=◌, expect_bytes, done, End}
+use Rattle.mp4_frame.specs.declared.error.Error.{Error}
+use Rattle.mp4_frame.specs.declared.error.Error.TheVariants.{IoError}
 use Rattle.mp4_sound.specs.declared.descriptor_header.DescriptorHeader.{DescriptorHeader}
 
 -- a header of k bytes at o with this length
@@ -33,3 +35,11 @@ unfoldable pub descriptor_header : List ℕ → ℕ → Reading DescriptorHeader
 descriptor_header bytes o = do
   _ ← expect_bytes bytes o 2
   if nat_lt (number bytes (o + 1) 1) 128 then done (header_of_bytes bytes o 2 (number bytes (o + 1) 1 % 128)) else second_length bytes o (number bytes (o + 1) 1 % 128)
+
+-- a header at o that is read is there whole, and its length has 28 bits
+abbrev pub IsWhole : List ℕ → ℕ → DescriptorHeader → Type 0
+IsWhole bytes o d = (o + 2 ≤ d.content) × (d.content ≤ length bytes) × (d.length < 2 ^ 28)
+
+-- the error of a header that is not read: its bytes are not all present
+abbrev pub FaultOf : Error → Reading DescriptorHeader → Type 0
+FaultOf e header = (e ≡ IoError) × (header.outcome ≡ Err End)

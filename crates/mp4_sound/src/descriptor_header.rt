@@ -1,9 +1,8 @@
 //! The header of a descriptor: its tag and length.
 
-ghost use Rattle.std.specs.Prelude.{◌≡◌, ◌+◌, ◌<◌, ◌≤◌, ◌^◌, length, IfOk, IfErr, Err};
-ghost use Rattle.mp4_frame.specs.Reading.{Answers, End};
-ghost use Rattle.mp4_frame.specs.declared.error.Error.TheVariants.{IoError};
-ghost use Rattle.mp4_sound.specs.DescriptorHeader.{descriptor_header};
+ghost use Rattle.std.specs.Prelude.{◌≡◌, ◌+◌, ◌<◌, ◌≤◌, ◌^◌, length, IfOk, IfErr};
+ghost use Rattle.mp4_frame.specs.Reading.{Answers};
+ghost use Rattle.mp4_sound.specs.DescriptorHeader.{FaultOf, IsWhole, descriptor_header, fourth_length, header_of_bytes, longer, second_length, third_length};
 
 use mp4_frame::{Result, expect_bytes, u8_at};
 
@@ -18,53 +17,90 @@ pub struct DescriptorHeader {
     pub content: u64,
 }
 
+/// The header of `head` bytes at an offset, with this length.
+fn header_of(bytes: &[u8], at: u64, head: u64, declared: u64) -> DescriptorHeader
+    requires some { 0 < head }
+    requires present { at + head ≤ length bytes.now }
+    ensures { result ≡ header_of_bytes bytes.now at head declared }
+{
+    DescriptorHeader {
+        tag: u8_at(bytes, at as usize),
+        length: declared,
+        content: at + head,
+    }
+}
+
+/// What a length of at most three bytes and the byte after them come to: that byte has 7 bits more.
+fn longer(bytes: &[u8], at: usize, declared: u64) -> u64
+    requires present { at < length bytes.now }
+    requires short { declared < 2 ^ 21 }
+    ensures { result ≡ longer bytes.now at declared }
+{
+    declared * 128 + u64::from(u8_at(bytes, at) % 128)
+}
+
+/// Reads the fourth byte of a length, whose first three come to `declared`.
+fn fourth_length(bytes: &[u8], at: u64, declared: u64) -> Result<DescriptorHeader>
+    requires present { at + 4 ≤ length bytes.now }
+    requires short { declared < 2 ^ 21 }
+    ensures value { Answers result (fourth_length bytes.now at declared) }
+    ensures fault { IfErr result (λ e. FaultOf e (fourth_length bytes.now at declared)) }
+    ensures whole { IfOk result (IsWhole bytes.now at) }
+{
+    let offset = at as usize + 4;
+    expect_bytes(bytes, offset, 1)?;
+    Ok(header_of(bytes, at, 5, longer(bytes, offset, declared)))
+}
+
+/// Reads the third byte of a length, whose first two come to `declared`, and the byte after it if there is one.
+fn third_length(bytes: &[u8], at: u64, declared: u64) -> Result<DescriptorHeader>
+    requires present { at + 3 ≤ length bytes.now }
+    requires short { declared < 2 ^ 14 }
+    ensures value { Answers result (third_length bytes.now at declared) }
+    ensures fault { IfErr result (λ e. FaultOf e (third_length bytes.now at declared)) }
+    ensures whole { IfOk result (IsWhole bytes.now at) }
+{
+    let offset = at as usize + 3;
+    expect_bytes(bytes, offset, 1)?;
+    let declared = longer(bytes, offset, declared);
+    if u8_at(bytes, offset) < 128 {
+        return Ok(header_of(bytes, at, 4, declared));
+    }
+    fourth_length(bytes, at, declared)
+}
+
+/// Reads the second byte of a length, whose first comes to `declared`, and the bytes after it if there are any.
+fn second_length(bytes: &[u8], at: u64, declared: u64) -> Result<DescriptorHeader>
+    requires present { at + 2 ≤ length bytes.now }
+    requires short { declared < 2 ^ 7 }
+    ensures value { Answers result (second_length bytes.now at declared) }
+    ensures fault { IfErr result (λ e. FaultOf e (second_length bytes.now at declared)) }
+    ensures whole { IfOk result (IsWhole bytes.now at) }
+{
+    let offset = at as usize + 2;
+    expect_bytes(bytes, offset, 1)?;
+    let declared = longer(bytes, offset, declared);
+    if u8_at(bytes, offset) < 128 {
+        return Ok(header_of(bytes, at, 3, declared));
+    }
+    third_length(bytes, at, declared)
+}
+
 impl DescriptorHeader {
     /// Reads the header at an offset. End of input unless its 2 to 5 bytes are present.
     #[tactic(auto, unfolding(crate::specs::DescriptorHeader::descriptor_header))]
     pub fn at(bytes: &[u8], at: u64) -> Result<DescriptorHeader>
         ensures value { Answers result (descriptor_header bytes.now at) }
-        ensures fault { IfErr result (λ e. (e ≡ IoError) × ((descriptor_header bytes.now at).outcome ≡ Err End)) }
-        ensures room { IfOk result (λ d. (at + 2 ≤ d.content) × (d.content ≤ length bytes.now) × (d.length < 2 ^ 28)) }
+        ensures fault { IfErr result (λ e. FaultOf e (descriptor_header bytes.now at)) }
+        ensures whole { IfOk result (IsWhole bytes.now at) }
     {
         let offset = at as usize;
         expect_bytes(bytes, offset, 2)?;
-        let tag = u8_at(bytes, offset);
         let first = u8_at(bytes, offset + 1);
-        let length = u64::from(first % 128);
+        let declared = u64::from(first % 128);
         if first < 128 {
-            return Ok(DescriptorHeader {
-                tag,
-                length,
-                content: at + 2,
-            });
+            return Ok(header_of(bytes, at, 2, declared));
         }
-        expect_bytes(bytes, offset + 2, 1)?;
-        let second = u8_at(bytes, offset + 2);
-        let length = length * 128 + u64::from(second % 128);
-        if second < 128 {
-            return Ok(DescriptorHeader {
-                tag,
-                length,
-                content: at + 3,
-            });
-        }
-        expect_bytes(bytes, offset + 3, 1)?;
-        let third = u8_at(bytes, offset + 3);
-        let length = length * 128 + u64::from(third % 128);
-        if third < 128 {
-            return Ok(DescriptorHeader {
-                tag,
-                length,
-                content: at + 4,
-            });
-        }
-        expect_bytes(bytes, offset + 4, 1)?;
-        let fourth = u8_at(bytes, offset + 4);
-        let length = length * 128 + u64::from(fourth % 128);
-        Ok(DescriptorHeader {
-            tag,
-            length,
-            content: at + 5,
-        })
+        second_length(bytes, at, declared)
     }
 }

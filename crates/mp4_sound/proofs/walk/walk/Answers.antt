@@ -47,7 +47,7 @@ loop-left-preserved g c =
     record {
       told = rw kept (t ∙ c.loop-left.invariant.told);
       headers = omega (arith, c.loop-left.invariant.headers, n, c.in_ok-mine.ensures.headers);
-      begun = omega (arith, c.loop-left.invariant.begun, c.in_ok-mine.ensures.few.0, c.in_ok-header.ensures.room.0);
+      begun = omega (arith, c.loop-left.invariant.begun, c.in_ok-mine.ensures.few.0, c.in_ok-header.ensures.whole.0);
       few = search rules;
     }
 
