@@ -30,6 +30,7 @@ pub record SoFar (B bytes : List ℕ) (m : Made) (can : Bool) (at : ℕ) : Type 
   pub made : MadeIf vs (made_so_far m bytes) can
   pub rest : drop at bytes ≡ drop at B
   pub len : length bytes ≡ length B
+  pub order : m.begin ≤ m.done
   pub behind : m.done ≤ at
   pub within : at ≤ length B
 
@@ -99,9 +100,10 @@ module _ (B bytes : List ℕ) (m : Made) (can : Bool) (at : ℕ) (so_far : SoFar
           vs = so_far.vs ++ h.0 ∷ [];
           told = one_kept (box_of known_kept reading_kept B) B so_far.vs h.0 at f (boxes_of B) before here (item_known known_kept reading_kept B at f h.0 (ap not plain) read) so_far.told;
           made = made_more so_far.vs h.0 (made_so_far m bytes) (made_so_far n after) can fits so_far.made h.2;
-          rest = keeps.2 ∙ drop_from bytes B at f.end le so_far.rest;
-          len = keeps.1 ∙ so_far.len;
-          behind = keeps.0;
+          rest = keeps.3 ∙ drop_from bytes B at f.end le so_far.rest;
+          len = keeps.2 ∙ so_far.len;
+          order = keeps.0;
+          behind = keeps.1;
           within = omega (arith, within, so_far.len);
         }
 

@@ -9,11 +9,11 @@ use Rattle.mp4_boxes.specs.declared.normal.Made.{Made}
 
 -- what is made so far
 abbrev pub made_so_far : Made → List ℕ → List ℕ
-made_so_far m bytes = m.front.items ++ take m.done bytes
+made_so_far m bytes = m.front.items ++ drop m.begin (take m.done bytes)
 
 -- the bytes from `end` on are as they were, and what is made ends before them
 abbrev pub KeepsRest : ℕ → List ℕ → Made → List ℕ → Type 0
-KeepsRest end old m new = (m.done ≤ end) × (length new ≡ length old) × (drop end new ≡ drop end old)
+KeepsRest end old m new = (m.begin ≤ m.done) × (m.done ≤ end) × (length new ≡ length old) × (drop end new ≡ drop end old)
 
 -- the bytes of v are appended if it can be written
 abbrev pub AppendsIf : {A : Type 0} → Format A → A → List ℕ → List ℕ → Bool → Type 0

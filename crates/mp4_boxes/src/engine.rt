@@ -119,5 +119,5 @@ pub fn run_normal<R: Read, W: Write>(
 {
     let bytes = read_all(alloc, input)?;
     let out = normalize(alloc, bytes)?;
-    write_all(output, &out)
+    write_all(output, &out.bytes[out.begin..])
 }

@@ -1,6 +1,6 @@
 //! The normal form of a stream, made in the bytes of the stream, one box after the other.
 
-ghost use Rattle.std.specs.Prelude.{◌≡◌, ◌+◌, ◌-◌, ◌^◌, ◌<◌, ◌≤◌, ◌++◌, ◌∷◌, [], false, length, take, drop, IsTrue, IfOk, IfErr, OnOk};
+ghost use Rattle.std.specs.Prelude.{◌≡◌, ◌+◌, ◌-◌, ◌^◌, ◌<◌, ◌≤◌, ◌++◌, ◌∷◌, [], false, length, take, drop, IsTrue, IfOk, IfErr, OnOk, vec_len};
 ghost use Rattle.mp4_frame.specs.BoxType.{code_of, is_disguised};
 ghost use Rattle.mp4_frame.specs.Bytes.{bytes_of_fields};
 ghost use Rattle.mp4_frame.specs.Laws.{AreBytes};
@@ -15,12 +15,22 @@ use mp4_frame::{Frame, frame_at, put_u32};
 use mp4_stream::{AnyBox, Error, Result, StreamBox, WriteBox};
 use std::alloc::Global;
 
-/// What is made of a stream so far: `front`, and then the first `done` of the stream's bytes, which give way to it. The
-/// bytes that are not yet read are where they were, after these.
+/// What is made of a stream so far: `front`, and then of the stream's bytes, which give way to it, those from `begin` to
+/// `done`. The bytes that are not yet read are where they were, after these.
 #[derive(Drop)]
 pub struct Made {
     front: Vec<u8>,
+    begin: usize,
     done: usize,
+}
+
+/// A stream that was made: the bytes of a vector from an offset on.
+#[derive(Drop)]
+pub struct Stream {
+    /// The vector that has the stream at its end.
+    pub bytes: Vec<u8>,
+    /// Where the stream begins.
+    pub begin: usize,
 }
 
 /// Puts the bytes of a box of this size at offset `done`.
@@ -35,12 +45,25 @@ fn put_at<B: WriteBox>(bytes: &mut [u8], done: usize, value: &B, size: usize)
     value.put_box(&mut bytes[done..done + size]);
 }
 
+/// Appends the bytes from `begin` to `done` to a vector. The only error is out of memory.
+fn append_part(front: &mut Vec<u8>, bytes: &[u8], begin: usize, done: usize) -> Result<()>
+    requires order { begin ≤ done }
+    requires within { done ≤ length bytes.now }
+    ensures ok { OnOk result (front.new.items ≡ front.old.items ++ drop begin (take done bytes.now)) }
+    ensures error { IfErr result (λ e. e ≡ OutOfMemory) }
+{
+    front.extend_from_slice(&bytes[begin..done])?;
+    Ok(())
+}
+
 /// Makes place for a box of this size before `end`, if need be by moving what is made out of the stream's bytes. Returns
 /// whether there is place for it. The only error is out of memory.
 fn make_place(made: &mut Made, bytes: &[u8], size: usize, end: usize) -> Result<bool>
+    requires order { made.old.begin ≤ made.old.done }
     requires behind { made.old.done ≤ end }
     requires within { end ≤ length bytes.now }
     ensures made { OnOk result (made_so_far made.new bytes.now ≡ made_so_far made.old bytes.now) }
+    ensures order { OnOk result (made.new.begin ≤ made.new.done) }
     ensures place { IfOk result (λ has. IsTrue has → made.new.done + size ≤ end) }
     ensures none { IfOk result (λ has. (has ≡ false) → made.new.done ≡ 0) }
     ensures error { IfErr result (λ e. e ≡ OutOfMemory) }
@@ -48,7 +71,8 @@ fn make_place(made: &mut Made, bytes: &[u8], size: usize, end: usize) -> Result<
     if size <= end - made.done {
         return Ok(true);
     }
-    made.front.extend_from_slice(&bytes[..made.done])?;
+    append_part(&mut made.front, bytes, made.begin, made.done)?;
+    made.begin = 0;
     made.done = 0;
     Ok(size <= end)
 }
@@ -57,6 +81,7 @@ fn make_place(made: &mut Made, bytes: &[u8], size: usize, end: usize) -> Result<
 /// stay as they are. The only error is out of memory.
 fn append<B: WriteBox>(made: &mut Made, bytes: &mut [u8], value: &B, end: usize) -> Result<()>
     requires writable { B.format.Writable value.now }
+    requires order { made.old.begin ≤ made.old.done }
     requires behind { made.old.done ≤ end }
     requires within { end ≤ length bytes.old }
     ensures made { OnOk result (made_so_far made.new bytes.new ≡ made_so_far made.old bytes.old ++ B.format.bytes value.now) }
@@ -120,10 +145,30 @@ fn are_bytes(bytes: &[u8])
     let _length = bytes.len();
 }
 
+/// Moves what is made up to `start`, if that is less than the bytes of the box that begins there.
+fn close_gap(made: &mut Made, bytes: &mut [u8], start: usize, size: usize)
+    requires order { made.old.begin ≤ made.old.done }
+    requires behind { made.old.done ≤ start }
+    requires within { start ≤ length bytes.old }
+    ensures made { made_so_far made.new bytes.new ≡ made_so_far made.old bytes.old }
+    ensures order { made.new.begin ≤ made.new.done }
+    ensures behind { made.new.done ≤ start }
+    ensures len { length bytes.new ≡ length bytes.old }
+    ensures rest { drop start bytes.new ≡ drop start bytes.old }
+{
+    let gap = start - made.done;
+    if gap > 0 && made.done - made.begin < size {
+        bytes.copy_within(made.begin..made.done, made.begin + gap);
+        made.begin += gap;
+        made.done = start;
+    }
+}
+
 /// Appends a box of this code to what is made, with the content of the box of this size that begins at `start`. The
 /// bytes from the end of that box on stay as they are.
 fn keep(made: &mut Made, bytes: &mut [u8], code: u32, start: usize, size: u32)
     requires untyped { is_typed code ≡ false }
+    requires order { made.old.begin ≤ made.old.done }
     requires behind { made.old.done ≤ start }
     requires least { 8 ≤ size }
     requires within { start + size ≤ length bytes.old }
@@ -132,6 +177,7 @@ fn keep(made: &mut Made, bytes: &mut [u8], code: u32, start: usize, size: u32)
     ensures rest { KeepsRest (start + size) bytes.old made.new bytes.new }
 {
     are_bytes(bytes);
+    close_gap(made, bytes, start, size as usize);
     keep_at(bytes, made.done, code, start, size);
     made.done += size as usize;
 }
@@ -139,6 +185,7 @@ fn keep(made: &mut Made, bytes: &mut [u8], code: u32, start: usize, size: u32)
 /// Appends the box of another code in this frame to what is made, with its content. Returns whether it can be written.
 fn normalize_other(made: &mut Made, bytes: &mut [u8], frame: &Frame) -> bool
     requires untyped { is_typed (code_of frame.now.name) ≡ false }
+    requires order { made.old.begin ≤ made.old.done }
     requires behind { made.old.done ≤ frame.now.start }
     requires end { frame.now.start + frame.now.size ≡ frame.now.end }
     requires least { 8 ≤ frame.now.size }
@@ -164,6 +211,7 @@ fn normalize_typed<B: StreamBox>(
     slot: &mut Vec<B>,
 ) -> Result<bool>
     requires known { IsTrue (B.known frame.now.name) }
+    requires order { made.old.begin ≤ made.old.done }
     requires behind { made.old.done ≤ frame.now.end }
     requires end { frame.now.start + frame.now.size ≡ frame.now.end }
     requires header { frame.now.start + 8 ≤ frame.now.end }
@@ -190,6 +238,7 @@ fn normalize_box(
     slot: &mut Vec<AnyBox>,
 ) -> Result<bool>
     requires plain { is_disguised frame.now.name ≡ false }
+    requires order { made.old.begin ≤ made.old.done }
     requires behind { made.old.done ≤ frame.now.start }
     requires end { frame.now.start + frame.now.size ≡ frame.now.end }
     requires header { frame.now.start + 8 ≤ frame.now.end }
@@ -208,10 +257,12 @@ fn normalize_box(
 /// Makes the normal form of a stream in its bytes.
 fn normalize_bytes(alloc: Global, bytes: &mut [u8]) -> Result<Made>
     ensures rewrites { Rewrites Normalizes NormalRefusal (λ m. made_so_far m bytes.new) bytes.old result }
+    ensures order { IfOk result (λ m. m.begin ≤ m.done) }
     ensures within { IfOk result (λ m. m.done ≤ length bytes.new) }
 {
     let mut made = Made {
         front: Vec::new(alloc),
+        begin: 0,
         done: 0,
     };
     let mut slot = Vec::new(alloc);
@@ -230,14 +281,22 @@ fn normalize_bytes(alloc: Global, bytes: &mut [u8]) -> Result<Made>
 }
 
 /// The boxes of the bytes, written in their normal form: in the vector that the bytes are in, as long as they fit there.
-pub fn normalize(alloc: Global, mut bytes: Vec<u8>) -> Result<Vec<u8>>
-    ensures { Rewrites Normalizes NormalRefusal (λ v. v.items) bytes.items result }
+pub fn normalize(alloc: Global, mut bytes: Vec<u8>) -> Result<Stream>
+    ensures rewrites { Rewrites Normalizes NormalRefusal (λ s. drop s.begin s.bytes.items) bytes.items result }
+    ensures within { IfOk result (λ s. s.begin ≤ vec_len s.bytes) }
 {
-    let Made { mut front, done } = normalize_bytes(alloc, &mut bytes)?;
+    let Made {
+        mut front,
+        begin,
+        done,
+    } = normalize_bytes(alloc, &mut bytes)?;
     if front.is_empty() {
         bytes.truncate(done);
-        return Ok(bytes);
+        return Ok(Stream { bytes, begin });
     }
-    front.extend_from_slice(&bytes[..done])?;
-    Ok(front)
+    append_part(&mut front, &bytes, begin, done)?;
+    Ok(Stream {
+        bytes: front,
+        begin: 0,
+    })
 }
