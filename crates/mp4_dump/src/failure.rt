@@ -18,7 +18,7 @@ pub enum Failure {
     Memory,
 }
 
-/// The walk and the texts fail for want of memory alone.
+/// The walk and the texts fail only when out of memory.
 impl From<Error> for Failure {
     ghost from_gives = { λ _ failure. failure ≡ Memory };
 

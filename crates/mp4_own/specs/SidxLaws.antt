@@ -42,7 +42,7 @@ entry_laws = record {
         sap_type = type_back e.starts_with_sap e.sap_type e.sap_delta_time fits.type i;
         sap_delta_time = delta_back e.starts_with_sap e.sap_type e.sap_delta_time fits.delta i;
       });
-  fits = λ row is. record { size = omega arith; duration = number-below row 4 4 is.are; type = omega arith; delta = omega arith };
+  fits = λ bytes is. record { size = omega arith; duration = number-below bytes 4 4 is.are; type = omega arith; delta = omega arith };
 }
 
 pub laws_sidx : IsBox reads_sidx format_sidx
