@@ -143,37 +143,26 @@ fn size_of_version(version: u8, sizes: [u64; 2]) -> u64 {
     sizes[usize::from(version == 1)]
 }
 
-impl Measured for MvhdBox {
-    fn size(&self) -> u64 {
-        size_of_version(self.version, [108, 120])
-    }
+/// A box of these sizes with a creation time, a modification time and a duration.
+macro_rules! measure_timed {
+    ($($timed:ident $sizes:expr,)*) => {
+        $(impl Measured for $timed {
+            fn size(&self) -> u64 {
+                size_of_version(self.version, $sizes)
+            }
 
-    fn is_writable(&self) -> bool {
-        let times = [self.creation_time, self.modification_time, self.duration];
-        times_fit(self.version, self.flags, &times)
-    }
+            fn is_writable(&self) -> bool {
+                let times = [self.creation_time, self.modification_time, self.duration];
+                times_fit(self.version, self.flags, &times)
+            }
+        })*
+    };
 }
 
-impl Measured for TkhdBox {
-    fn size(&self) -> u64 {
-        size_of_version(self.version, [92, 104])
-    }
-
-    fn is_writable(&self) -> bool {
-        let times = [self.creation_time, self.modification_time, self.duration];
-        times_fit(self.version, self.flags, &times)
-    }
-}
-
-impl Measured for MdhdBox {
-    fn size(&self) -> u64 {
-        size_of_version(self.version, [32, 44])
-    }
-
-    fn is_writable(&self) -> bool {
-        let times = [self.creation_time, self.modification_time, self.duration];
-        times_fit(self.version, self.flags, &times)
-    }
+measure_timed! {
+    MvhdBox [108, 120],
+    TkhdBox [92, 104],
+    MdhdBox [32, 44],
 }
 
 impl Measured for MehdBox {
