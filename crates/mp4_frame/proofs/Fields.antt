@@ -25,14 +25,17 @@ take_written xs piece rest at w le len =
     let n : length (take at xs ++ piece) ≡ at + w = omega (arith, length-append (take at xs) piece, length-take at xs) in
     ap (take (at + w)) (sym (append_assoc (take at xs) piece rest)) ∙ take_at (take at xs ++ piece) rest (at + w) n
 
+-- a piece that was put at offset `at`
+pub put_piece : (xs piece : List ℕ) (at k w : ℕ) (new rest : List ℕ) → at ≤ length xs → length piece ≡ w → new ≡ piece ++ rest → take (at + w) (put_mid at k xs new) ≡ take at xs ++ piece
+put_piece xs piece at k w new rest le len e =
+    ap (λ (ys : List ℕ). take (at + w) (put_mid at k xs ys)) e
+    ∙ ap (λ (ys : List ℕ). take (at + w) (take at xs ++ ys)) (append_assoc piece rest (post_of at k xs))
+    ∙ take_written xs piece (rest ++ post_of at k xs) at w le len
+
 -- a number that was put at offset `at`
 pub put_be_bytes : (xs : List ℕ) (at k w n : ℕ) (new rest : List ℕ) → at ≤ length xs → new ≡ big_bytes w n ++ rest → take (at + w) (put_mid at k xs new) ≡ take at xs ++ be_bytes w n
 unfolding be_bytes
-put_be_bytes xs at k w n new rest le e =
-    let len : length (big_bytes w n) ≡ w = length-bytes_high_first w n in
-    ap (λ (ys : List ℕ). take (at + w) (put_mid at k xs ys)) e
-    ∙ ap (λ (ys : List ℕ). take (at + w) (take at xs ++ ys)) (append_assoc (big_bytes w n) rest (post_of at k xs))
-    ∙ take_written xs (big_bytes w n) (rest ++ post_of at k xs) at w le len
+put_be_bytes xs at k w n new rest le e = put_piece xs (big_bytes w n) at k w new rest le (length-bytes_high_first w n) e
 
 pub put_byte : (xs : List ℕ) (at n : ℕ) → at < length xs → n < 2 ^ 8 → take (at + 1) (set xs at n) ≡ take at xs ++ be_bytes 1 n
 unfolding be_bytes

@@ -1,6 +1,6 @@
 //! The traits of a box: its name and size, how it is read and written, and how it is read and written in lists.
 
-ghost use Rattle.std.specs.Prelude.{◌≡◌, ℕ, ◌+◌, ◌-◌, ◌^◌, ◌<◌, ◌≤◌, ◌↔◌, min, max, Bool, IsTrue, List, length, OnOk, OnErr};
+ghost use Rattle.std.specs.Prelude.{◌≡◌, ℕ, ◌+◌, ◌-◌, ◌^◌, ◌<◌, ◌≤◌, ◌↔◌, min, max, Bool, IsTrue, List, length, ◌++◌, drop, None, IfSome, OnOk, OnErr};
 ghost use Rattle.mp4_frame.specs.Reading.{Reading, Answers, AnswersAs, TakesNone, reading};
 ghost use Rattle.mp4_frame.specs.Written.{Writes};
 ghost use Rattle.mp4_frame.specs.Streams.{append_read};
@@ -88,6 +88,31 @@ pub trait WriteBox: Mp4Box {
         requires room { length out.old ≡ Self.format.size self.now }
         ensures { out.new ≡ Self.format.bytes self.now };
 
+    /// The number of its bytes, if it can be written.
+    fn writable_size(&self) -> Option<u64>
+        ensures size { IfSome result (λ n. n ≡ Self.format.size self.now) }
+        ensures some { IfSome result (λ _. Self.format.Writable self.now) }
+        ensures none { result ≡ None → ¬ Self.format.Writable self.now }
+    {
+        if self.is_writable() {
+            Some(self.box_size())
+        } else {
+            None
+        }
+    }
+
+    /// Puts the box's bytes at the front of `out`, and returns their number.
+    fn put_at_front(&self, out: &mut [u8]) -> usize
+        requires writable { Self.format.Writable self.now }
+        requires room { Self.format.size self.now ≤ length out.old }
+        ensures size { result ≡ Self.format.size self.now }
+        ensures front { out.new ≡ Self.format.bytes self.now ++ drop (Self.format.size self.now) out.old }
+    {
+        let size = self.box_size() as usize;
+        self.put_box(&mut out[..size]);
+        size
+    }
+
     /// Its bytes begin with its size and its code, and their number is its size. Its normal form can be written, has
     /// the same bytes, and is its own normal form.
     ghost write_laws: { IsWritten Self.format };
@@ -97,10 +122,9 @@ pub trait WriteBox: Mp4Box {
     final fn write_box<A: Allocator>(&self, writer: &mut Vec<u8, A>) -> Result<u64>
         ensures { Writes (Self.format.Writable self.now) (Self.format.bytes self.now) writer.old.items writer.new.items result }
     {
-        if !self.is_writable() {
+        let Some(size) = self.writable_size() else {
             return Err(Error::InvalidData("value does not fit its field"));
-        }
-        let size = self.box_size();
+        };
         let old = writer.len();
         lengthen(writer, size as usize)?;
         self.put_box(&mut writer[old..]);

@@ -33,17 +33,14 @@ pub fn write_zeros<A: Allocator>(writer: &mut Vec<u8, A>, size: u64) -> Result<(
 }
 
 /// The number of bytes of all boxes, at most 2^64 - 1; none if one of them can't be written.
-fn writable_size<B: WriteBox>(boxes: &[B]) -> Option<u64>
+fn writable_total<B: WriteBox>(boxes: &[B]) -> Option<u64>
     ensures all { IfSome result (λ n. All B.format.Writable boxes.now) }
     ensures size { IfSome result (λ n. n ≡ min (length (stream B.format.bytes boxes.now)) (2 ^ 64 - 1)) }
     ensures none { result ≡ None → ¬ All B.format.Writable boxes.now }
 {
     let mut total: u64 = 0;
     for b in boxes {
-        if !b.is_writable() {
-            return None;
-        }
-        total = total.saturating_add(b.box_size());
+        total = total.saturating_add(b.writable_size()?);
     }
     Some(total)
 }
@@ -55,9 +52,7 @@ fn put_boxes<B: WriteBox>(boxes: &[B], out: &mut [u8])
 {
     let mut at: usize = 0;
     for b in boxes {
-        let end = at + b.box_size() as usize;
-        b.put_box(&mut out[at..end]);
-        at = end;
+        at += b.put_at_front(&mut out[at..]);
     }
 }
 
@@ -66,7 +61,7 @@ fn put_boxes<B: WriteBox>(boxes: &[B], out: &mut [u8])
 pub fn write_boxes<B: StreamBox, A: Allocator>(boxes: &[B], writer: &mut Vec<u8, A>) -> Result<u64>
     ensures { Writes (All B.format.Writable boxes.now) (stream B.format.bytes boxes.now) writer.old.items writer.new.items result }
 {
-    let Some(total) = writable_size(boxes) else {
+    let Some(total) = writable_total(boxes) else {
         return Err(Error::InvalidData("value does not fit its field"));
     };
     if total == u64::MAX {

@@ -154,11 +154,19 @@ impl Mp4Box for AnyBox {
 
 impl WriteBox for AnyBox {
     fn is_writable(&self) -> bool {
-        of_boxes!(each, self, b => b.is_writable())
+        self.writable_size().is_some()
     }
 
     fn put_box(&self, out: &mut [u8]) {
-        of_boxes!(each, self, b => b.put_box(out))
+        self.put_at_front(out);
+    }
+
+    fn writable_size(&self) -> Option<u64> {
+        of_boxes!(each, self, b => b.writable_size())
+    }
+
+    fn put_at_front(&self, out: &mut [u8]) -> usize {
+        of_boxes!(each, self, b => b.put_at_front(out))
     }
 
     ghost write_laws = { written_member kinds held members };

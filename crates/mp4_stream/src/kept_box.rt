@@ -73,16 +73,24 @@ impl Mp4Box for KeptBox {
 
 impl WriteBox for KeptBox {
     fn is_writable(&self) -> bool {
-        match self {
-            KeptBox::Any(b) => b.is_writable(),
-            KeptBox::Other(b) => b.is_writable(),
-        }
+        self.writable_size().is_some()
     }
 
     fn put_box(&self, out: &mut [u8]) {
+        self.put_at_front(out);
+    }
+
+    fn writable_size(&self) -> Option<u64> {
         match self {
-            KeptBox::Any(b) => b.put_box(out),
-            KeptBox::Other(b) => b.put_box(out),
+            KeptBox::Any(b) => b.writable_size(),
+            KeptBox::Other(b) => b.writable_size(),
+        }
+    }
+
+    fn put_at_front(&self, out: &mut [u8]) -> usize {
+        match self {
+            KeptBox::Any(b) => b.put_at_front(out),
+            KeptBox::Other(b) => b.put_at_front(out),
         }
     }
 
