@@ -56,12 +56,23 @@ name_of_value held name Unknown x = name
 abbrev pub NamedAsRead : {E : Type 0} → (BoxType → Known E) → (E → Held E) → Type 0
 NamedAsRead kinds held = (name : BoxType) (x : ValueOf (kinds name)) → name_of_value held name (kinds name) x ≡ name
 
--- How one box of any type is written: its name, the number of bytes, whether it can be written, and in which bytes.
-pub record Facts : Type 1 where
-  pub name : BoxType
-  pub size : ℕ
-  pub Writable : Type 0
-  pub bytes : List ℕ
+-- a box of some type, and the format of that type
+pub record SomeBox : Type 1 where
+  pub Value : Type 0
+  pub format : Format Value
+  pub value : Value
 
-abbrev pub facts_of : {A : Type 0} → Format A → A → Facts
-facts_of format v = record { name = format.name v; size = format.size v; Writable = format.Writable v; bytes = format.bytes v }
+abbrev pub some_box : {A : Type 0} → Format A → A → SomeBox
+some_box {A} format v = record { Value = A; format = format; value = v }
+
+-- the box inside a member of E, and how the values of its type become members of E
+pub record Inside (E : Type 0) : Type 1 where
+  pub box : SomeBox
+  pub wrap : box.Value → E
+
+abbrev pub boxed : {A E : Type 0} → Format A → (A → E) → A → Inside E
+boxed format wrap v = record { box = some_box format v; wrap = wrap }
+
+-- what its format says of the box inside a member
+abbrev pub held_inside : {E : Type 0} → (E → Inside E) → E → Held E
+held_inside inside v = holds (inside v).box.format (inside v).wrap (inside v).box.value

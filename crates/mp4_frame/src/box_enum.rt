@@ -1,7 +1,7 @@
 //! A type that holds boxes of several types, such as an enum of them, is read and written as these boxes are.
 
 ghost use Rattle.std.specs.Prelude.{◌≡◌, ℕ, ◌+◌, ◌-◌, ◌^◌, ◌≤◌, ◌↔◌, min, IsTrue, List, length, OnErr};
-ghost use Rattle.mp4_frame.specs.Members.{Known, is_known, reading_known, Held, format_held, NamedAsRead, Facts, facts_of};
+ghost use Rattle.mp4_frame.specs.Members.{Known, is_known, reading_known, format_held, NamedAsRead, SomeBox, some_box, Inside, held_inside};
 ghost use Rattle.mp4_frame.specs.MemberLaws.{IsMember, written_member, own_name_of_member, read_back_of_member};
 ghost use Rattle.mp4_frame.specs.Reading.{Answers};
 ghost use Rattle.mp4_frame.specs.declared.box_type.BoxType.{BoxType};
@@ -18,15 +18,15 @@ pub trait Question {
     type Answer;
 
     /// What has to hold of the box, and of the length of the slice.
-    ghost can_ask: { Facts → ℕ → Type 0 } = { λ _ _. Unit {0} };
+    ghost can_ask: { SomeBox → ℕ → Type 0 } = { λ _ _. Unit {0} };
 
     /// What holds of the box, the bytes of the slice afterwards, and the answer.
-    ghost answers: { Facts → List ℕ → Self.Answer → Type 0 };
+    ghost answers: { SomeBox → List ℕ → Self.Answer → Type 0 };
 
     /// Asks a box. The slice is for an answer in bytes.
     fn ask<B: WriteBox>(value: &B, out: &mut [u8]) -> Self::Answer
-        requires { can_ask (facts_of B.format value.now) (length out.old) }
-        ensures { answers (facts_of B.format value.now) out.new result };
+        requires { can_ask (some_box B.format value.now) (length out.old) }
+        ensures { answers (some_box B.format value.now) out.new result };
 }
 
 /// What is its name?
@@ -35,7 +35,7 @@ struct Name;
 impl Question for Name {
     type Answer = BoxType;
 
-    ghost answers = { λ facts _ answer. answer ≡ facts.name };
+    ghost answers = { λ box _ answer. answer ≡ box.format.name box.value };
 
     fn ask<B: WriteBox>(value: &B, _out: &mut [u8]) -> BoxType {
         value.box_type()
@@ -48,7 +48,7 @@ struct Size;
 impl Question for Size {
     type Answer = u64;
 
-    ghost answers = { λ facts _ answer. answer ≡ min facts.size (2 ^ 64 - 1) };
+    ghost answers = { λ box _ answer. answer ≡ min (box.format.size box.value) (2 ^ 64 - 1) };
 
     fn ask<B: WriteBox>(value: &B, _out: &mut [u8]) -> u64 {
         value.box_size()
@@ -61,7 +61,7 @@ struct CanWrite;
 impl Question for CanWrite {
     type Answer = bool;
 
-    ghost answers = { λ facts _ answer. IsTrue answer ↔ facts.Writable };
+    ghost answers = { λ box _ answer. IsTrue answer ↔ box.format.Writable box.value };
 
     fn ask<B: WriteBox>(value: &B, _out: &mut [u8]) -> bool {
         value.is_writable()
@@ -74,9 +74,9 @@ struct Put;
 impl Question for Put {
     type Answer = ();
 
-    ghost can_ask = { λ facts room. facts.Writable × (room ≡ facts.size) };
+    ghost can_ask = { λ box room. box.format.Writable box.value × (room ≡ box.format.size box.value) };
 
-    ghost answers = { λ facts out _. out ≡ facts.bytes };
+    ghost answers = { λ box out _. out ≡ box.format.bytes box.value };
 
     fn ask<B: WriteBox>(value: &B, out: &mut [u8]) {
         value.put_box(out)
@@ -88,11 +88,11 @@ pub trait BoxEnum: Drop {
     /// The type of the boxes of a name.
     ghost kinds: { BoxType → Known Self };
 
-    /// What the format of its type says of a box.
-    ghost held: { Self → Held Self };
+    /// The box inside.
+    ghost inside: { Self → Inside Self };
 
     /// Each value is of one of these types.
-    ghost members: { (v : Self) → IsMember kinds held v };
+    ghost members: { (v : Self) → IsMember kinds (held_inside inside) v };
 
     /// Whether it holds boxes of this name.
     fn holds(name: BoxType) -> bool
@@ -108,15 +108,15 @@ pub trait BoxEnum: Drop {
 
     /// Asks the box inside.
     fn ask<Q: Question>(&self, out: &mut [u8]) -> Q::Answer
-        requires { Q.can_ask (facts_of (format_held held) self.now) (length out.old) }
-        ensures { Q.answers (facts_of (format_held held) self.now) out.new result };
+        requires { Q.can_ask (inside self.now).box (length out.old) }
+        ensures { Q.answers (inside self.now).box out.new result };
 
     /// A box that is read under a name has that name.
-    ghost named: { NamedAsRead kinds held };
+    ghost named: { NamedAsRead kinds (held_inside inside) };
 }
 
 impl<E: BoxEnum> Mp4Box for E {
-    ghost format = { format_held E.held };
+    ghost format = { format_held (held_inside E.inside) };
 
     fn box_type(&self) -> BoxType {
         self.ask::<Name>(&mut [])
@@ -136,7 +136,7 @@ impl<E: BoxEnum> WriteBox for E {
         self.ask::<Put>(out)
     }
 
-    ghost write_laws = { written_member E.kinds E.held E.members };
+    ghost write_laws = { written_member E.kinds (held_inside E.inside) E.members };
 }
 
 impl<E: BoxEnum> StreamBox for E {
@@ -152,7 +152,7 @@ impl<E: BoxEnum> StreamBox for E {
         E::read(alloc, name, reader, size)
     }
 
-    ghost own_name = { own_name_of_member E.kinds E.held E.members };
+    ghost own_name = { own_name_of_member E.kinds (held_inside E.inside) E.members };
 
-    ghost read_back = { read_back_of_member E.kinds E.held E.members };
+    ghost read_back = { read_back_of_member E.kinds (held_inside E.inside) E.members };
 }
