@@ -7,7 +7,6 @@ pub mod Walks
 pub mod Steps
 pub mod RoundTrip
 pub mod Listing
-pub mod Members
 pub mod Tables
 pub mod TableLaws
 pub mod Headers

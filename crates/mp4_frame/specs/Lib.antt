@@ -10,6 +10,8 @@ pub mod Text
 pub mod TextLaws
 pub mod Format
 pub mod Members
+pub mod ReadingLaws
+pub mod MemberLaws
 pub mod Heads
 pub mod Children
 pub mod OneChild

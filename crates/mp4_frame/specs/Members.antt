@@ -1,5 +1,5 @@
 -- A type that holds boxes of several types, such as an enum of them.
-use Rattle.std.specs.Prelude.{ℕ, List, Bool, true, false}
+use Rattle.std.specs.Prelude.{◌≡◌, ℕ, List, Bool, true, false}
 use Rattle.mp4_frame.specs.Format.{Format}
 use Rattle.mp4_frame.specs.Reading.{Reading, Invalid, faults, map_reading, reading}
 use Rattle.mp4_frame.specs.declared.box_type.BoxType.{BoxType}
@@ -37,3 +37,42 @@ pub record Held (E : Type 0) : Type 1 where
 
 abbrev pub holds : {A E : Type 0} → Format A → (A → E) → A → Held E
 holds format wrap v = record { name = format.name v; size = format.size v; Writable = format.Writable v; bytes = format.bytes v; normal = wrap (format.normal v) }
+
+-- the format of E
+abbrev pub format_held : {E : Type 0} → (E → Held E) → Format E
+format_held held = record { name = λ v. (held v).name; size = λ v. (held v).size; Writable = λ v. (held v).Writable; bytes = λ v. (held v).bytes; normal = λ v. (held v).normal }
+
+-- the values of the type that a name gives; any value where there is no type
+abbrev pub ValueOf : {E : Type 0} → Known E → Type 0
+ValueOf (Is k) = k.Value
+ValueOf Unknown = Unit {0}
+
+-- the name that such a value has as a member; the given name where there is no type
+abbrev pub name_of_value : {E : Type 0} → (E → Held E) → BoxType → (k : Known E) → ValueOf k → BoxType
+name_of_value held name (Is k) x = (held (k.wrap x)).name
+name_of_value held name Unknown x = name
+
+-- a box that is read under a name has that name
+abbrev pub NamedAsRead : {E : Type 0} → (BoxType → Known E) → (E → Held E) → Type 0
+NamedAsRead kinds held = (name : BoxType) (x : ValueOf (kinds name)) → name_of_value held name (kinds name) x ≡ name
+
+-- a box of some type, and the format of that type
+pub record SomeBox : Type 1 where
+  pub Value : Type 0
+  pub format : Format Value
+  pub value : Value
+
+abbrev pub some_box : {A : Type 0} → Format A → A → SomeBox
+some_box {A} format v = record { Value = A; format = format; value = v }
+
+-- the box inside a member of E, and how the values of its type become members of E
+pub record Inside (E : Type 0) : Type 1 where
+  pub box : SomeBox
+  pub wrap : box.Value → E
+
+abbrev pub boxed : {A E : Type 0} → Format A → (A → E) → A → Inside E
+boxed format wrap v = record { box = some_box format v; wrap = wrap }
+
+-- what its format says of the box inside a member
+abbrev pub held_inside : {E : Type 0} → (E → Inside E) → E → Held E
+held_inside inside v = holds (inside v).box.format (inside v).wrap (inside v).box.value

@@ -2,6 +2,7 @@
 //! boxes.
 #![tactic(auto)]
 
+mod box_enum;
 mod box_header;
 mod box_type;
 mod byte_cursor;
@@ -27,6 +28,7 @@ mod traits;
 mod try_clone;
 mod write;
 
+pub use box_enum::{BoxEnum, Question};
 pub use box_header::{
     BoxHeader, HEADER_EXT_SIZE, HEADER_SIZE, header_is_read_back, read_box_header_ext,
     write_box_header_ext,

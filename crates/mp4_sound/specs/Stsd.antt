@@ -6,7 +6,7 @@ use Rattle.std.specs.Prelude.{ℕ, ◌+◌, nat_lt, List, [], ◌∷◌, ◌++�
 use Rattle.mp4_frame.specs.BoxType.{name_of}
 use Rattle.mp4_frame.specs.Bytes.{number, bytes_of_fields, full_box}
 use Rattle.mp4_frame.specs.Format.{Format}
-use Rattle.mp4_frame.specs.Members.{Known, Unknown, Is, kind, Held, holds}
+use Rattle.mp4_frame.specs.Members.{Known, Unknown, Is, kind, Held, holds, format_held}
 use Rattle.mp4_frame.specs.OneChild.{child_head, child_content}
 use Rattle.mp4_frame.specs.OptionalChild.{count_optional, size_optional, WritableOptional, bytes_optional, normal_optional}
 use Rattle.mp4_frame.specs.Parent.{WritableParent}
@@ -50,7 +50,7 @@ held_entry (Mp4a b) = holds format_mp4a Mp4a b
 held_entry (Tx3g b) = holds format_tx3g Tx3g b
 
 abbrev pub format_entry : Format Entry
-format_entry = record { name = λ v. (held_entry v).name; size = λ v. (held_entry v).size; Writable = λ v. (held_entry v).Writable; bytes = λ v. (held_entry v).bytes; normal = λ v. (held_entry v).normal }
+format_entry = format_held held_entry
 
 -- what a child with this head is read as: an entry of the type that its name gives, or none
 abbrev pub entry_if_known : Known Entry → List ℕ → ℕ → Head → Reading (Option Entry)

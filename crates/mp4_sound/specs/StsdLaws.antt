@@ -18,7 +18,7 @@ use Rattle.mp4_frame.proofs.Checks.{check_ok, is_value}
 use Rattle.mp4_frame.proofs.Decided.{outcome_bind}
 use Rattle.mp4_frame.proofs.Fields.{length-fields}
 use Rattle.mp4_frame.proofs.Framing.{header_in_front, fits_read, Number, Fitting}
-use Rattle.mp4_frame.proofs.Members.{IsMember, member, written_member}
+use Rattle.mp4_frame.specs.MemberLaws.{IsMember, member, written_member}
 use Rattle.mp4_frame.proofs.OneChildLaws.{IsSoundOptional, named_back, content_sound}
 use Rattle.mp4_frame.proofs.ParentLaws.{IsPart, same_size, parent_normal_form, parent_back, parent_sound}
 use Rattle.mp4_frame.proofs.Tables.{value_first}

@@ -2,7 +2,7 @@
 -- box, and by the variant of an AnyBox.
 use Rattle.std.specs.Prelude.{ℕ, List, Bool}
 use Rattle.mp4_frame.specs.Format.{Format}
-use Rattle.mp4_frame.specs.Members.{Known, Unknown, Is, kind, is_known, reading_known, Held, holds}
+use Rattle.mp4_frame.specs.Members.{Known, Unknown, Is, kind, is_known, reading_known, Held, holds, format_held}
 use Rattle.mp4_frame.specs.Reading.{Reading}
 use Rattle.mp4_frame.specs.declared.box_type.BoxType.{BoxType}
 use Rattle.mp4_frame.specs.declared.box_type.BoxType.TheVariants as names
@@ -94,7 +94,7 @@ held (any.Mp4aBox b) = holds format_mp4a any.Mp4aBox b
 held (any.StsdBox b) = holds format_stsd any.StsdBox b
 
 abbrev pub format_any : Format AnyBox
-format_any = record { name = λ v. (held v).name; size = λ v. (held v).size; Writable = λ v. (held v).Writable; bytes = λ v. (held v).bytes; normal = λ v. (held v).normal }
+format_any = format_held held
 
 abbrev pub known_any : BoxType → Bool
 known_any name = is_known (kinds name)

@@ -1,6 +1,6 @@
 -- The laws of a box of any type follow from the laws of its type.
 use Rattle.std.proofs.Common.{refl}
-use Rattle.mp4_frame.proofs.Members.{IsMember, member}
+use Rattle.mp4_frame.specs.MemberLaws.{IsMember, member}
 use Rattle.mp4_flat.specs.Boxes.{laws_mvhd, laws_tkhd, laws_mdhd, laws_mehd, laws_mfhd, laws_smhd, laws_vmhd, laws_trex, laws_tfdt}
 use Rattle.mp4_tables.specs.Boxes.{laws_stco, laws_co64, laws_stts, laws_ctts, laws_stss, laws_stsz, laws_stsc, laws_elst, laws_tfhd, laws_trun}
 use Rattle.mp4_text.specs.Boxes.{laws_ftyp, laws_hdlr, laws_data, laws_emsg, laws_url, laws_dref, laws_dinf}

@@ -25,7 +25,7 @@ pub use Rattle.mp4_frame.specs.declared.codes.TheConstants as codes
 pub use Rattle.mp4_frame.specs.declared.error.Error.TheVariants as errors
 pub use Rattle.mp4_frame.specs.Format.{Format, IsBox, write_laws}
 pub use Rattle.mp4_frame.specs.Laws.{OwnName, ReadsBack, AreBytes}
-pub use Rattle.mp4_frame.specs.Members.{Kind, Known, Unknown, Is, kind, is_known, reading_known, Held, holds}
+pub use Rattle.mp4_frame.specs.Members.{Kind, Known, Unknown, Is, kind, is_known, reading_known, Held, holds, format_held, NamedAsRead, Inside, boxed, held_inside}
 pub use Rattle.mp4_stream.specs.Coded.{known_if, of_code}
 -- the laws of a box of fields
 pub use Rattle.mp4_frame.proofs.Fields.{found, length-fields, number-fields, number-fields_alone, numbers-fields, expect_bytes-fields, number-below}
@@ -45,6 +45,6 @@ pub use Rattle.mp4_frame.proofs.ChildLaws
 pub use Rattle.mp4_frame.proofs.OneChildLaws
 pub use Rattle.mp4_frame.proofs.ParentLaws
 -- the laws of a type that holds boxes of several types
-pub use Rattle.mp4_frame.proofs.Members.{IsMember, member, written_member, own_name_of_member, read_back_of_member}
-pub use Rattle.mp4_stream.specs.MemberLaws.{ValueOf, name_of_value, own_code, sound_member}
-pub use Rattle.mp4_stream.specs.Sound.{ReadsSoundly}
+pub use Rattle.mp4_frame.specs.MemberLaws.{IsMember, member, written_member, own_name_of_member, read_back_of_member}
+pub use Rattle.mp4_stream.specs.MemberLaws.{own_code, sound_member, code_of_member}
+pub use Rattle.mp4_stream.specs.Sound.{ReadsSoundly, ReadsOwnCode}

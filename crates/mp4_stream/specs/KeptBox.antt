@@ -2,7 +2,7 @@
 use Rattle.std.specs.Prelude.{ℕ, List, Bool, not, if◌then◌else◌}
 use Rattle.mp4_frame.specs.BoxType.{code_of, is_disguised}
 use Rattle.mp4_frame.specs.Format.{Format}
-use Rattle.mp4_frame.specs.Members.{Held, holds}
+use Rattle.mp4_frame.specs.Members.{Held, holds, format_held}
 use Rattle.mp4_frame.specs.Reading.{Reading, map_reading, reading}
 use Rattle.mp4_frame.specs.declared.box_type.BoxType.{BoxType}
 use Rattle.mp4_stream.specs.AnyBox.{format_any, known_any, reading_any}
@@ -16,7 +16,7 @@ held_kept (kept.Any b) = holds format_any kept.Any b
 held_kept (kept.Other b) = holds format_other kept.Other b
 
 abbrev pub format_kept : Format KeptBox
-format_kept = record { name = λ v. (held_kept v).name; size = λ v. (held_kept v).size; Writable = λ v. (held_kept v).Writable; bytes = λ v. (held_kept v).bytes; normal = λ v. (held_kept v).normal }
+format_kept = format_held held_kept
 
 -- every name is known but an UnknownBox that holds a named code
 abbrev pub known_kept : BoxType → Bool

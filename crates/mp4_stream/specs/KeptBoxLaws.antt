@@ -6,7 +6,7 @@ use Rattle.mp4_frame.specs.Format.{IsWritten}
 use Rattle.mp4_frame.specs.Laws.{BeginsWithHeader, Normal, OwnName, ReadsBack}
 use Rattle.mp4_frame.specs.declared.box_type.BoxType.{BoxType}
 use Rattle.mp4_frame.specs.declared.box_type.BoxType.TheVariants as names
-use Rattle.mp4_frame.proofs.Members.{member_back, content_back, written_member, own_name_of_member, read_back_of_member}
+use Rattle.mp4_frame.specs.MemberLaws.{member_back, content_back, written_member, own_name_of_member, read_back_of_member}
 use Rattle.mp4_stream.specs.AnyBox.{kinds, held, format_any, known_any, reading_any}
 use Rattle.mp4_stream.specs.AnyBoxLaws.{members}
 use Rattle.mp4_stream.specs.NameLaws.{plain_name}

@@ -10,6 +10,8 @@ pub mod Sound
 pub mod Coded
 pub mod MemberLaws
 pub mod SoundLaws
+pub mod OwnOr
+pub mod OwnOrLaws
 pub mod Listed
 pub mod ListedLaws
 pub mod Boxes

@@ -47,6 +47,15 @@ back_other v w rest start top =
     rw (enough, long, piece_back (bytes_of_fields cs) v.content rest 8 (length-fields cs)) refl in
     ap (λ (l : List ℕ). (reads_other v.code l start (size_other v)).outcome) (append_assoc (bytes_of_fields cs) v.content rest) ∙ whole
 
+-- what is read has the code that it is read with
+pub code_other : (code : ℕ) (bytes : List ℕ) (start size : ℕ) (v : OtherBox) → (reads_other code bytes start size).outcome ≡ Ok v → v.code ≡ code
+unfolding content_other
+code_other code bytes start size v e =
+    let last = λ (content : List ℕ). memory >>= λ _. done (record { code = code; content = content }) in
+    let a = check_ok (nat_le 8 size) (λ _. piece_at bytes 8 (size - 8) >>= last) v e in
+    let b = value_first (piece_at bytes 8 (size - 8)) last v a.1 in
+    ap (λ (u : OtherBox). u.code) (sym (is_value _ v b.2))
+
 pub sound_other : (code : ℕ) → code < 2 ^ 32 → is_typed code ≡ false → ContentIsSound (reads_other code) WritableOther size_other (λ v. v)
 unfolding content_other
 sound_other code fits untyped bytes start size v are e = (

@@ -1,7 +1,8 @@
 -- What is read as an AnyBox or a KeptBox is sound.
-use Rattle.std.proofs.Common.{◌≡◌, ℕ, ◌<◌, ◌^◌, Bool, true, false, List, Ok, cond, refl, ap, subst}
-use Rattle.mp4_frame.specs.BoxType.{code_of}
+use Rattle.std.proofs.Common.{◌≡◌, ℕ, ◌<◌, ◌^◌, Bool, true, false, List, Ok, cond, refl, ap, subst, ◌∙◌}
+use Rattle.mp4_frame.specs.BoxType.{code_of, code_of-name_of}
 use Rattle.mp4_frame.specs.Laws.{AreBytes}
+use Rattle.mp4_frame.specs.Members.{NamedAsRead}
 use Rattle.mp4_frame.specs.Reading.{map_reading, reading}
 use Rattle.mp4_frame.specs.declared.box_type.BoxType.{BoxType}
 use Rattle.mp4_frame.specs.declared.box_type.BoxType.TheVariants as names
@@ -9,20 +10,23 @@ use Rattle.mp4_frame.proofs.Checks.{are_bytes-drop, reads_ok}
 use Rattle.mp4_stream.specs.AnyBox.{kinds, held, format_any, known_any, reading_any}
 use Rattle.mp4_stream.specs.AnyBoxLaws.{members}
 use Rattle.mp4_stream.specs.OtherBox.{reads_other}
-use Rattle.mp4_stream.specs.OtherBoxLaws.{sound_other}
+use Rattle.mp4_stream.specs.OtherBoxLaws.{sound_other, code_other}
 use Rattle.mp4_stream.specs.KeptBox.{format_kept, known_kept, reading_kept}
 use Rattle.mp4_stream.specs.KeptBoxLaws.{untyped_code}
-use Rattle.mp4_stream.specs.MemberLaws.{mapped_value, ValueOf, name_of_value, sound_member}
-use Rattle.mp4_stream.specs.Sound.{ReadsSoundly}
+use Rattle.mp4_stream.specs.MemberLaws.{mapped_value, sound_member, code_of_member}
+use Rattle.mp4_stream.specs.Sound.{ReadsSoundly, ReadsOwnCode}
 use Rattle.mp4_stream.specs.declared.kept_box.KeptBox.{KeptBox}
 use Rattle.mp4_stream.specs.declared.kept_box.KeptBox.TheVariants as kept
 
-own_name : (name : BoxType) (x : ValueOf (kinds name)) → name_of_value kinds held name (kinds name) x ≡ name
-own_name (names.UnknownBox n) x = refl
-own_name _ x = refl
+named : NamedAsRead kinds held
+named (names.UnknownBox n) x = refl
+named _ x = refl
 
 pub sound_any : ReadsSoundly known_any reading_any format_any
-sound_any = sound_member kinds held members own_name
+sound_any = sound_member kinds held members named
+
+pub code_any : ReadsOwnCode known_any reading_any format_any
+code_any = code_of_member kinds held named
 
 abbrev IsSound : KeptBox → Type 0
 IsSound v = (format_kept.normal v ≡ v) × (format_kept.size v < 2 ^ 32 → format_kept.Writable v)
@@ -41,3 +45,16 @@ sound_by name known fits bytes start size v are false is e =
 
 pub sound_kept : ReadsSoundly known_kept reading_kept format_kept
 sound_kept name known fits bytes start size v are e = sound_by name known fits bytes start size v are (known_any name) refl e
+
+code_by : (name : BoxType) (bytes : List ℕ) (start size : ℕ) (v : KeptBox) → (b : Bool) → known_any name ≡ b
+    → (cond b (map_reading kept.Any (reading_any name bytes start size)) (map_reading kept.Other (reading (reads_other (code_of name)) bytes start size))).outcome ≡ Ok v → code_of (format_kept.name v) ≡ code_of name
+code_by name bytes start size v true is e =
+    let p = mapped_value kept.Any (reading_any name bytes start size) v e in
+    subst (λ (u : KeptBox). code_of (format_kept.name u) ≡ code_of name) p.2 (code_any name is bytes start size p.0 p.1)
+code_by name bytes start size v false is e =
+    let code = code_of name in
+    let p = mapped_value kept.Other (reading (reads_other code) bytes start size) v e in
+    subst (λ (u : KeptBox). code_of (format_kept.name u) ≡ code) p.2 (code_of-name_of p.0.code ∙ code_other code _ start size p.0 (reads_ok (reads_other code) bytes start size p.0 p.1))
+
+pub code_kept : ReadsOwnCode known_kept reading_kept format_kept
+code_kept name known bytes start size v e = code_by name bytes start size v (known_any name) refl e

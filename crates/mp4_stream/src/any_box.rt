@@ -3,7 +3,7 @@
 ghost use Rattle.std.specs.Prelude.{◌≡◌, ◌+◌, ◌≤◌, length, IsTrue, OnErr};
 ghost use Rattle.mp4_frame.specs.Reading.{AnswersAs, map_reading};
 ghost use Rattle.mp4_frame.specs.Streams.{append_read};
-ghost use Rattle.mp4_frame.proofs.Members.{written_member, own_name_of_member, read_back_of_member};
+ghost use Rattle.mp4_frame.specs.MemberLaws.{written_member, own_name_of_member, read_back_of_member};
 ghost use Rattle.mp4_stream.specs.AnyBox.{kinds, held, format_any, known_any, reading_any};
 ghost use Rattle.mp4_stream.specs.AnyBoxLaws.{members};
 

@@ -9,6 +9,7 @@ mod kept_box;
 pub mod list_laws;
 mod member;
 mod other_box;
+mod own_or;
 mod read;
 mod sound_stream;
 
@@ -125,5 +126,7 @@ pub use mp4_text::HdlrBox;
 pub use mp4_text::UrlBox;
 pub use mp4_text::laws as text_laws;
 pub use other_box::OtherBox;
+pub use own_or::CodedBox;
+pub use own_or::OwnOr;
 pub use read::read_boxes;
 pub use sound_stream::SoundStream;
