@@ -10,7 +10,7 @@ use Rattle.mp4_frame.specs.Reading.{Reading, map_reading, reading}
 use Rattle.mp4_frame.specs.declared.box_type.BoxType.{BoxType}
 use Rattle.mp4_frame.proofs.Checks.{are_bytes-drop, reads_ok}
 use Rattle.mp4_stream.specs.MemberLaws.{mapped_value}
-use Rattle.mp4_stream.specs.OwnOr.{held_or, format_or, known_or, reading_or}
+use Rattle.mp4_stream.specs.OwnOr.{format_or, known_or, reading_or}
 use Rattle.mp4_stream.specs.Sound.{ReadsSoundly, ReadsOwnCode}
 use Rattle.mp4_stream.specs.declared.own_or.OwnOr.{OwnOr}
 use Rattle.mp4_stream.specs.declared.own_or.OwnOr.TheVariants as own_or
