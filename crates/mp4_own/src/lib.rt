@@ -4,9 +4,11 @@
 
 mod segment;
 mod sidx;
+mod sidx_or_any;
 
 pub use segment::SegmentBox;
 pub use sidx::{SIDX, SidxBox, SidxEntry};
+pub use sidx_or_any::SidxOrAny;
 
 #[cfg(test)]
 mod tests;

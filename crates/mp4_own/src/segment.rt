@@ -1,27 +1,12 @@
 //! The boxes of a segment as one type.
 
-ghost use Rattle.mp4_stream.specs.Author.{written_member, own_name_of_member, read_back_of_member};
-ghost use Rattle.mp4_own.specs.Segment.{kinds, held, format_segment, known_segment, reading_segment};
-ghost use Rattle.mp4_own.specs.SegmentLaws.{members, sound_segment};
+ghost use Rattle.mp4_own.specs.Segment.{kinds, inside};
+ghost use Rattle.mp4_own.specs.SegmentLaws.{members, named};
 
 use crate::sidx::{SIDX, SidxBox};
-use mp4_stream::{
-    BoxType, ByteCursor, MfhdBox, Mp4Box, ReadBox, Result, SoundStream, StreamBox, TfdtBox,
-    TrunBox, WriteBox,
-};
+use mp4_stream::author::{BoxEnum, Question};
+use mp4_stream::{BoxType, ByteCursor, MfhdBox, ReadBox, Result, TfdtBox, TrunBox};
 use std::alloc::Global;
-
-/// A match on a `SegmentBox`: binds the box inside, and evaluates the expression.
-macro_rules! each {
-    ($any:expr, $value:ident => $answer:expr) => {
-        match $any {
-            SegmentBox::SidxBox($value) => $answer,
-            SegmentBox::MfhdBox($value) => $answer,
-            SegmentBox::TfdtBox($value) => $answer,
-            SegmentBox::TrunBox($value) => $answer,
-        }
-    };
-}
 
 /// A box of a segment: an index, or one of three boxes of a fragment.
 #[derive(Debug, Drop, PartialEq, Eq)]
@@ -32,48 +17,21 @@ pub enum SegmentBox {
     TrunBox(TrunBox),
 }
 
-impl Mp4Box for SegmentBox {
-    ghost format = { format_segment };
+impl BoxEnum for SegmentBox {
+    ghost kinds = { kinds };
 
-    fn box_type(&self) -> BoxType {
-        each!(self, b => b.box_type())
-    }
+    ghost inside = { inside };
 
-    fn box_size(&self) -> u64 {
-        each!(self, b => b.box_size())
-    }
-}
+    ghost members = { members };
 
-impl WriteBox for SegmentBox {
-    fn is_writable(&self) -> bool {
-        each!(self, b => b.is_writable())
-    }
-
-    fn put_box(&self, out: &mut [u8]) {
-        each!(self, b => b.put_box(out))
-    }
-
-    ghost write_laws = { written_member kinds held members };
-}
-
-impl StreamBox for SegmentBox {
-    ghost known = { known_segment };
-
-    ghost named_reading = { reading_segment };
-
-    fn knows(name: BoxType) -> bool {
+    fn holds(name: BoxType) -> bool {
         matches!(
             name,
             BoxType::UnknownBox(SIDX) | BoxType::MfhdBox | BoxType::TfdtBox | BoxType::TrunBox
         )
     }
 
-    fn read_named(
-        alloc: Global,
-        name: BoxType,
-        reader: &mut ByteCursor,
-        size: u64,
-    ) -> Result<SegmentBox> {
+    fn read(alloc: Global, name: BoxType, reader: &mut ByteCursor, size: u64) -> Result<Self> {
         Ok(match name {
             BoxType::MfhdBox => SegmentBox::MfhdBox(MfhdBox::read_box(alloc, reader, size)?),
             BoxType::TfdtBox => SegmentBox::TfdtBox(TfdtBox::read_box(alloc, reader, size)?),
@@ -82,11 +40,14 @@ impl StreamBox for SegmentBox {
         })
     }
 
-    ghost own_name = { own_name_of_member kinds held members };
+    fn ask<Q: Question>(&self, out: &mut [u8]) -> Q::Answer {
+        match self {
+            SegmentBox::SidxBox(b) => Q::ask(b, out),
+            SegmentBox::MfhdBox(b) => Q::ask(b, out),
+            SegmentBox::TfdtBox(b) => Q::ask(b, out),
+            SegmentBox::TrunBox(b) => Q::ask(b, out),
+        }
+    }
 
-    ghost read_back = { read_back_of_member kinds held members };
-}
-
-impl SoundStream for SegmentBox {
-    ghost sound = { sound_segment };
+    ghost named = { named };
 }

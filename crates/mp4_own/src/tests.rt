@@ -3,6 +3,7 @@
 mod laws;
 mod limits;
 mod lists;
+mod sidx_or_any;
 mod vectors;
 
 use crate::{SidxBox, SidxEntry};

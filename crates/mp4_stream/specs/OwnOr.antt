@@ -1,13 +1,17 @@
 -- A box of one's own type, or a box of another type that is in lists. The own type has one code: boxes of that code are
 -- its, and boxes of the other codes those of the other type.
 use Rattle.std.specs.Prelude.{◌≡◌, ℕ, ◌==◌, Bool, false, ◌||◌, List, if◌then◌else◌}
-use Rattle.mp4_frame.specs.BoxType.{code_of}
+use Rattle.mp4_frame.specs.BoxType.{code_of, is_disguised}
 use Rattle.mp4_frame.specs.Format.{Format}
 use Rattle.mp4_frame.specs.Members.{Held, holds, format_held}
 use Rattle.mp4_frame.specs.Reading.{Reading, map_reading, reading}
 use Rattle.mp4_frame.specs.declared.box_type.BoxType.{BoxType}
 use Rattle.mp4_stream.specs.declared.own_or.OwnOr.{OwnOr}
 use Rattle.mp4_stream.specs.declared.own_or.OwnOr.TheVariants as own_or
+
+-- the name has this code, and is no UnknownBox with a named code
+abbrev pub HasCode : ℕ → BoxType → Type 0
+HasCode code name = (code_of name ≡ code) × (is_disguised name ≡ false)
 
 -- what the format of its type says of a box; a box of the other type can be written only with another code
 abbrev pub held_or : {A B : Type 0} → ℕ → Format A → Format B → OwnOr A B → Held (OwnOr A B)

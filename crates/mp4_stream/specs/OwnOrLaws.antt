@@ -1,7 +1,7 @@
 -- The laws of an OwnOr follow from those of its two types.
 use Rattle.std.proofs.Common.{◌≡◌, ℕ, ◌<◌, ◌^◌, Bool, true, false, cond, ◌||◌, eqb, List, Ok, refl, sym, ap, subst, ◌∙◌}
 use Rattle.std.proofs.lemmas.Bool.{eqb-true, eq-eqb}
-use Rattle.mp4_frame.specs.BoxType.{name_of, code_of, code_of-name_of}
+use Rattle.mp4_frame.specs.BoxType.{code_of, name_of-code_of}
 use Rattle.mp4_frame.specs.Bytes.{number}
 use Rattle.mp4_frame.specs.Format.{Format, IsWritten, IsBox}
 use Rattle.mp4_frame.specs.Laws.{AreBytes, BeginsWithHeader, Normal, OwnName, ReadsBack}
@@ -10,7 +10,7 @@ use Rattle.mp4_frame.specs.Reading.{Reading, map_reading, reading}
 use Rattle.mp4_frame.specs.declared.box_type.BoxType.{BoxType}
 use Rattle.mp4_frame.proofs.Checks.{are_bytes-drop, reads_ok}
 use Rattle.mp4_stream.specs.MemberLaws.{mapped_value}
-use Rattle.mp4_stream.specs.OwnOr.{held_or, format_or, known_or, reading_or}
+use Rattle.mp4_stream.specs.OwnOr.{HasCode, format_or, known_or, reading_or}
 use Rattle.mp4_stream.specs.Sound.{ReadsSoundly, ReadsOwnCode}
 use Rattle.mp4_stream.specs.declared.own_or.OwnOr.{OwnOr}
 use Rattle.mp4_stream.specs.declared.own_or.OwnOr.TheVariants as own_or
@@ -35,17 +35,14 @@ module _ {A B : Type 0} (code : ℕ) {reads : List ℕ → ℕ → ℕ → Readi
     pub written_or : IsWritten (format_or code own rest)
     written_or = record { header = header_or; normal_form = normal_form_or }
 
-  module _ (coded : (a : A) → own.name a ≡ name_of code) (known : BoxType → Bool) (named_reading : BoxType → List ℕ → ℕ → ℕ → Reading B) where
-    own_code : (a : A) → code_of (own.name a) ≡ code
-    own_code a = ap code_of (coded a) ∙ code_of-name_of code
-
+  module _ (coded : (a : A) → HasCode code (own.name a)) (known : BoxType → Bool) (named_reading : BoxType → List ℕ → ℕ → ℕ → Reading B) where
     pub own_name_or : ((b : B) → rest.Writable b → OwnName known (rest.name b)) → (v : OwnOr A B) → format.Writable v → OwnName (known_or code known) (format.name v)
-    own_name_or named (own_or.Own a) w = record { is_known = rw (eq-eqb _ _ (own_code a)) refl; is_own = ap name_of (own_code a) ∙ sym (coded a) }
+    own_name_or named (own_or.Own a) w = record { is_known = rw (eq-eqb _ _ (coded a).0) refl; is_own = name_of-code_of (own.name a) (coded a).1 }
     own_name_or named (own_or.Rest b) w = (let n = named b w.0 in record { is_known = rw w.1 n.is_known; is_own = n.is_own })
 
     pub read_back_or : ((b : B) → rest.Writable b → ReadsBack (named_reading (rest.name b)) (rest.bytes b) (rest.normal b)) → (v : OwnOr A B) → format.Writable v
         → ReadsBack (reading_or code reads named_reading (format.name v)) (format.bytes v) (format.normal v)
-    read_back_or back (own_or.Own a) w = rw (eq-eqb _ _ (own_code a)) (content_back own_or.Own reads (own.bytes a) (own.size a) (own.normal a) (laws.header a w).long (laws.read_back a w))
+    read_back_or back (own_or.Own a) w = rw (eq-eqb _ _ (coded a).0) (content_back own_or.Own reads (own.bytes a) (own.size a) (own.normal a) (laws.header a w).long (laws.read_back a w))
     read_back_or back (own_or.Rest b) w = rw w.1 (member_back own_or.Rest (named_reading (rest.name b)) (rest.bytes b) (rest.normal b) (back b w.0))
 
     abbrev IsRead : OwnOr A B → Type 0
@@ -55,7 +52,7 @@ module _ {A B : Type 0} (code : ℕ) {reads : List ℕ → ℕ → ℕ → Readi
         → (cond b (map_reading own_or.Own (reading reads bytes start size)) (map_reading own_or.Rest (named_reading name bytes start size))).outcome ≡ Ok v → code_of (format.name v) ≡ code_of name
     code_by codes name is_known bytes start size v true is e =
         let p = mapped_value own_or.Own (reading reads bytes start size) v e in
-        subst (λ (u : OwnOr A B). code_of (format.name u) ≡ code_of name) p.2 (own_code p.0 ∙ sym (eqb-true _ _ is))
+        subst (λ (u : OwnOr A B). code_of (format.name u) ≡ code_of name) p.2 ((coded p.0).0 ∙ sym (eqb-true _ _ is))
     code_by codes name is_known bytes start size v false is e =
         let p = mapped_value own_or.Rest (named_reading name bytes start size) v e in
         let k : known name ≡ true = subst (λ (b : Bool). (b || known name) ≡ true) is is_known in

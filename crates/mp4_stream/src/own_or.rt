@@ -1,8 +1,7 @@
 //! Boxes of one's own beside those of another type that is in lists, such as `AnyBox`.
 
-ghost use Rattle.std.specs.Prelude.{◌≡◌, ℕ};
-ghost use Rattle.mp4_frame.specs.BoxType.{name_of};
-ghost use Rattle.mp4_stream.specs.OwnOr.{format_or, known_or, reading_or};
+ghost use Rattle.std.specs.Prelude.{ℕ};
+ghost use Rattle.mp4_stream.specs.OwnOr.{HasCode, format_or, known_or, reading_or};
 ghost use Rattle.mp4_stream.specs.OwnOrLaws.{written_or, own_name_or, read_back_or, sound_or, code_or};
 
 use crate::sound_stream::SoundStream;
@@ -17,8 +16,8 @@ pub trait CodedBox: BoxLaws + Drop {
     /// The code.
     const CODE: u32;
 
-    /// Each box has the name of the code.
-    ghost coded: { (v : Self) → Self.format.name v ≡ name_of CODE };
+    /// Each box has this code.
+    ghost coded: { (v : Self) → HasCode CODE (Self.format.name v) };
 }
 
 /// A box of type `A`, or a box of `B`. In a list the boxes with the code of `A` are read as `A`, and all others as `B`.

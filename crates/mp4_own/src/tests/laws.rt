@@ -1,6 +1,6 @@
 //! The laws at these types. The calls do nothing. That they are proved shows that the types keep the traits.
 
-use crate::{SegmentBox, SidxBox};
+use crate::{SegmentBox, SidxBox, SidxOrAny};
 use mp4_stream::laws::{
     begins_with_header, boxes_follow_frames, cut_at_a_border, cut_inside_a_box, equal_boxes,
     equal_streams, has_normal_form, has_own_name, have_same_bytes, is_read_back,
@@ -41,4 +41,16 @@ fn laws_hold_of_lists() {
 fn laws_hold_of_lists_that_were_read() {
     read_list_is_sound::<SegmentBox>();
     normal_stream_is_kept::<SegmentBox>();
+}
+
+#[test]
+fn laws_hold_of_lists_with_the_boxes_of_the_codec() {
+    has_normal_form::<SidxOrAny>();
+    has_own_name::<SidxOrAny>();
+    is_read_by_name::<SidxOrAny>();
+    written_is_read::<SidxOrAny>();
+    cut_inside_a_box::<SidxOrAny>();
+    equal_streams::<SidxOrAny>();
+    read_list_is_sound::<SidxOrAny>();
+    normal_stream_is_kept::<SidxOrAny>();
 }
