@@ -2,13 +2,10 @@
 
 mod codes;
 mod cut_streams;
-mod cuts;
-mod defaults;
 mod examples;
 mod headers;
 mod kept;
 mod laws;
 mod lists;
 mod memory;
-mod sizes;
 mod streams;

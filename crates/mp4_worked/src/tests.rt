@@ -2,17 +2,23 @@
 
 mod chunks;
 mod clones;
+mod codes;
 mod configurations;
+mod defaults;
 mod descriptions;
 mod entries;
+mod entry_defaults;
+mod equality;
 mod fixed_points;
 mod invalid_texts;
+mod languages;
 mod media_tables;
 mod metadata;
 mod printed;
 mod sample_entries;
 mod samples;
 mod sound;
+mod sound_defaults;
 mod texts;
 mod unwritable;
 mod worked;

@@ -1,62 +1,21 @@
 //! Clones of boxes, and the type and the size that a box returns.
 
-use mp4_fixtures::boxes::flat::{mdhd_long, mfhd, smhd, trex, vmhd_colors};
+use mp4_fixtures::boxes::flat::{mfhd, smhd, trex, vmhd_colors};
 use mp4_fixtures::boxes::tables::{
-    STCO_OF_ONE, co64_of_seven, ctts, elst_long, stco, stsc, stss_of_nine, stsz_of_nine, stts,
-    tfhd, trun,
+    co64_of_seven, ctts, elst_long, stco, stsc, stss_of_nine, stsz_of_nine, stts, tfhd, trun,
 };
-use mp4_fixtures::boxes::text::{FTYP_OF_TWO, data_box, dinf, dref_of, emsg, ftyp, hdlr, url};
-use mp4_fixtures::helpers::read;
+use mp4_fixtures::boxes::text::{data_box, dinf, dref_of, ftyp, hdlr, url};
 use mp4_fixtures::made;
-use mp4_stream::{BoxType, FtypBox, MdhdBox, MehdBox, MvhdBox, StcoBox, TfdtBox, TkhdBox};
+use mp4_fixtures::vectors::VECTORS;
+use mp4_stream::{BoxType, MdhdBox, MehdBox, MvhdBox, TfdtBox, TkhdBox};
 use std::test::Fail;
 
+/// Each type of boxes is one of the vectors.
 #[test]
-fn clones_of_tables(rt: HostRuntime) -> Result<(), Fail> {
-    let alloc = rt.alloc();
-    made::cloned(stco(alloc))
-        .and(made::cloned(co64_of_seven(alloc)))
-        .and(made::cloned(stsc(alloc)))
-        .and(made::cloned(trun(alloc)))?;
-    Ok(())
-}
-
-#[test]
-fn clones_of_tables_of_samples(rt: HostRuntime) -> Result<(), Fail> {
-    let alloc = rt.alloc();
-    made::cloned(stss_of_nine(alloc))
-        .and(made::cloned(stts(alloc)))
-        .and(made::cloned(ctts(alloc)))
-        .and(made::cloned(stsz_of_nine(alloc)))
-        .and(made::cloned(elst_long(alloc)))?;
-    Ok(())
-}
-
-#[test]
-fn clones_of_texts(rt: HostRuntime) -> Result<(), Fail> {
-    let alloc = rt.alloc();
-    made::cloned(mdhd_long(alloc))
-        .and(made::cloned(ftyp(alloc)))
-        .and(made::cloned(data_box(alloc)))
-        .and(made::cloned(hdlr(alloc)))
-        .and(made::cloned(emsg(alloc)))?;
-    Ok(())
-}
-
-#[test]
-fn clones_of_references(rt: HostRuntime) -> Result<(), Fail> {
-    let alloc = rt.alloc();
-    made::cloned(url(alloc))
-        .and(made::cloned(Ok(dref_of(None))))
-        .and(made::cloned(Ok(dinf(alloc))))?;
-    Ok(())
-}
-
-#[test]
-fn clones_of_boxes_that_were_read(rt: HostRuntime) -> Result<(), Fail> {
-    let (ftyp, _) = read::<FtypBox>(rt.alloc(), &FTYP_OF_TWO, 24);
-    let (stco, _) = read::<StcoBox>(rt.alloc(), &STCO_OF_ONE, 20);
-    made::cloned(ftyp).and(made::cloned(stco))?;
+fn clones_of_all_vectors(rt: HostRuntime) -> Result<(), Fail> {
+    for vector in VECTORS {
+        made::cloned(vector.make(rt.alloc()))?;
+    }
     Ok(())
 }
 
