@@ -1,6 +1,5 @@
 //! Tests of what no contract says, a file for each thing that is tested.
 
-mod codes;
 mod cut_streams;
 mod examples;
 mod headers;

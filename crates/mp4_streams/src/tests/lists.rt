@@ -1,10 +1,10 @@
 //! Where the boxes of a buffer are.
 
-use super::streams::THREE;
+use super::streams::{THREE, read_stream, stream_of_vectors};
 use linked_list_allocator::LocalHeap;
 use mp4_fixtures::helpers::{Kind, kind_of};
 use mp4_fixtures::vectors::VECTORS;
-use mp4_stream::{BoxSpan, BoxType, ByteCursor, Error, Mp4Box, list_boxes, read_boxes};
+use mp4_stream::{BoxSpan, BoxType, ByteCursor, Error, Mp4Box, list_boxes};
 use std::alloc::{Allocator, Global};
 use std::test::Fail;
 
@@ -123,26 +123,33 @@ fn headers_with_faults_are_not_listed(rt: HostRuntime) {
 }
 
 #[test]
-fn a_box_that_is_listed_may_be_refused_when_it_is_read(rt: HostRuntime) -> Result<(), Fail> {
+fn a_box_that_is_listed_may_be_refused_when_it_is_read(rt: HostRuntime) {
     let bytes = b"\0\0\0\x12ftyp\0\x01\x02\x03\x04\x05\x06\x07\x08\x09";
-    let expected = [span(0, 18, BoxType::FtypBox)];
-    assert_eq!(rt; places(rt.alloc(), bytes)?.as_slice(), expected.as_slice());
-    let read = read_boxes(rt.alloc(), &mut ByteCursor::new(bytes));
-    assert_eq!(rt; kind_of(&read), Kind::Invalid);
-    Ok(())
+    assert_eq!(rt; list_from(rt.alloc(), bytes, 0), (Kind::Ok, 1, 18));
+    assert_eq!(rt; read_stream(rt.alloc(), bytes), (Kind::Invalid, 0, 0));
+}
+
+/// The name of a box that is made by a call.
+fn name_of<B: Mp4Box + Drop>(made: Result<B, Error>) -> Result<BoxType, Error> {
+    Ok(made?.box_type())
+}
+
+/// The place of the box of each vector in the stream of all.
+fn places_of_vectors(alloc: Global) -> Result<Vec<BoxSpan>, Error> {
+    let mut spans = Vec::new(alloc);
+    let mut position = 0u64;
+    for vector in VECTORS {
+        let length = vector.bytes().len() as u64;
+        spans.push(span(position, length, name_of(vector.make(alloc))?))?;
+        position = position.saturating_add(length);
+    }
+    Ok(spans)
 }
 
 #[test]
 fn all_vectors_are_listed(rt: HostRuntime) -> Result<(), Fail> {
-    let mut stream = Vec::new(rt.alloc());
-    let mut expected = Vec::new(rt.alloc());
-    for vector in VECTORS {
-        let position = stream.len() as u64;
-        stream.extend_from_slice(vector.bytes())?;
-        let name = vector.make(rt.alloc())?.box_type();
-        expected.push(span(position, vector.bytes().len() as u64, name))?;
-    }
-    assert_eq!(rt; places(rt.alloc(), &stream)?, expected);
+    let found = places(rt.alloc(), &stream_of_vectors(rt.alloc())?)?;
+    assert!(rt; found == places_of_vectors(rt.alloc())?);
     Ok(())
 }
 
@@ -177,21 +184,28 @@ fn memory_is_asked_for_at_the_first_box(rt: HostRuntime) -> Result<(), Fail> {
     Ok(())
 }
 
+/// Lists as many free boxes over a heap with room for a few. Returns the same as `list_over_none`.
+fn list_free_boxes(alloc: Global, count: usize) -> Result<((Kind, usize, u64), usize), Error> {
+    let mut stream = Vec::new(alloc);
+    for _ in 0..count {
+        stream.extend_from_slice(b"\0\0\0\x08free")?;
+    }
+    let heap = LocalHeap::new(alloc, 256)?;
+    let found = list_from(&heap, &stream, 0);
+    Ok((found, heap.used()))
+}
+
 #[test]
 fn a_list_that_is_out_of_memory_gives_its_memory_back(rt: HostRuntime) -> Result<(), Fail> {
-    let heap = LocalHeap::new(rt.alloc(), 256)?;
-    let mut stream = Vec::new(rt.alloc());
-    for count in 0..4 {
-        assert_eq!(rt;
-            list_from(&heap, &stream, 0),
-            (Kind::Ok, count, stream.len() as u64)
-        );
-        stream.extend_from_slice(b"\0\0\0\x08free")?;
+    for (boxes, expected) in [
+        (0, (Kind::Ok, 0, 0)),
+        (1, (Kind::Ok, 1, 8)),
+        (2, (Kind::Ok, 2, 16)),
+        (3, (Kind::Ok, 3, 24)),
+        (12, (Kind::Memory, 0, 0)),
+    ] {
+        let found = list_free_boxes(rt.alloc(), boxes)?;
+        assert_eq!(rt; found, (expected, 0), "{boxes}");
     }
-    for _ in 0..8 {
-        stream.extend_from_slice(b"\0\0\0\x08free")?;
-    }
-    assert_eq!(rt; list_from(&heap, &stream, 0), (Kind::Memory, 0, 0));
-    assert_eq!(rt; heap.used(), 0);
     Ok(())
 }

@@ -53,41 +53,67 @@ fn flagged(alloc: Global) -> AnyBox {
     })
 }
 
+/// Appends a box that can be written and one that can't to a vector of one byte. Returns the kind of the outcome, and
+/// whether the vector is as it was.
+fn append_flagged(alloc: Global) -> Result<(Kind, bool), Error> {
+    let mut out = [9].to_vec(alloc)?;
+    let found = append_two(alloc, Vector::Ftyp.make(alloc), flagged(alloc), &mut out)?;
+    Ok((found, out.as_slice() == [9].as_slice()))
+}
+
+/// How many bytes an empty list appends to a vector of one byte, and whether the vector is as it was.
+fn append_none(alloc: Global) -> Result<(u64, bool), Error> {
+    let mut out = [9].to_vec(alloc)?;
+    let none: [AnyBox; 0] = [];
+    let count = write_boxes(&none, &mut out)?;
+    Ok((count, out.as_slice() == [9].as_slice()))
+}
+
 #[test]
 fn a_list_is_written_whole_or_not_at_all(rt: HostRuntime) -> Result<(), Fail> {
-    let mut out = [9].to_vec(rt.alloc())?;
-    let ftyp = Vector::Ftyp.make(rt.alloc());
-    let found = append_two(rt.alloc(), ftyp, flagged(rt.alloc()), &mut out)?;
-    assert_eq!(rt; found, Kind::Invalid);
-    assert_eq!(rt; out.as_slice(), [9].as_slice());
-    let none: [AnyBox; 0] = [];
-    assert_eq!(rt; write_boxes(&none, &mut out)?, 0);
-    assert_eq!(rt; out.as_slice(), [9].as_slice());
+    assert_eq!(rt; append_flagged(rt.alloc())?, (Kind::Invalid, true));
+    assert!(rt; append_none(rt.alloc())? == (0, true));
     Ok(())
+}
+
+/// The bytes of all vectors.
+pub(super) fn stream_of_vectors(alloc: Global) -> Result<Vec<u8>, Error> {
+    let mut stream = Vec::new(alloc);
+    for vector in VECTORS {
+        stream.extend_from_slice(vector.bytes())?;
+    }
+    Ok(stream)
 }
 
 #[test]
 fn all_vectors_are_rewritten(rt: HostRuntime) -> Result<(), Fail> {
-    let mut stream = Vec::new(rt.alloc());
-    for vector in VECTORS {
-        stream.extend_from_slice(vector.bytes())?;
-    }
-    assert_eq!(rt; rewrite(rt.alloc(), &stream)?, stream);
+    let stream = stream_of_vectors(rt.alloc())?;
+    assert!(rt; rewrite(rt.alloc(), &stream)? == stream);
     Ok(())
+}
+
+/// Two boxes of a type from outside as a list: whether they are written in these bytes.
+fn are_marks_in(alloc: Global, marks: &[MarkBox], bytes: &[u8]) -> Result<bool, Error> {
+    let mut out = Vec::new(alloc);
+    let count = write_boxes(marks, &mut out)?;
+    Ok(count == bytes.len() as u64 && out.as_slice() == bytes)
+}
+
+/// Whether the boxes of a buffer of a type from outside are these.
+fn are_read_as_marks(alloc: Global, bytes: &[u8], marks: &[MarkBox]) -> Result<bool, Error> {
+    let mut reader = ByteCursor::new(bytes);
+    let found: Vec<MarkBox> = read_boxes_as(alloc, &mut reader)?;
+    Ok(found.as_slice() == marks && reader.position() == bytes.len() as u64)
 }
 
 #[test]
 fn a_type_from_outside(rt: HostRuntime) -> Result<(), Fail> {
     let marks = [MarkBox { mark: 7 }, MarkBox { mark: 8 }];
-    let mut out = Vec::new(rt.alloc());
-    assert_eq!(rt; write_boxes(&marks, &mut out)?, 24);
     let bytes = b"\0\0\0\x0cmark\0\0\0\x07\0\0\0\x0cmark\0\0\0\x08";
-    assert_eq!(rt; out.as_slice(), bytes.as_slice());
-    out.extend_from_slice(&THREE)?;
-    let mut reader = ByteCursor::new(&out);
-    let found: Vec<MarkBox> = read_boxes_as(rt.alloc(), &mut reader)?;
-    assert_eq!(rt; found.as_slice(), marks.as_slice());
-    assert_eq!(rt; reader.position(), 76);
-    assert_eq!(rt; read_stream(rt.alloc(), &out), (Kind::Ok, 2, 76));
+    assert!(rt; are_marks_in(rt.alloc(), &marks, bytes)?);
+    let mixed =
+        b"\0\0\0\x0cmark\0\0\0\x07\0\0\0\x09free1\0\0\0\x0cmark\0\0\0\x08\0\0\0\x10stco\0\0\0\0\0\0\0\0";
+    assert!(rt; are_read_as_marks(rt.alloc(), mixed, &marks)?);
+    assert_eq!(rt; read_stream(rt.alloc(), mixed), (Kind::Ok, 1, 49));
     Ok(())
 }

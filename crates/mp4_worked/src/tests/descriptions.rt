@@ -1,5 +1,6 @@
 //! Sample descriptions: which entry is written of several.
 
+use super::expect_bytes;
 use mp4_fixtures::boxes::entries::{
     AVC1, HEV1, VP09, avc1, avc1_of, avcc_of_two, hev1, tx3g, vp09,
 };
@@ -56,21 +57,6 @@ fn stsd_bytes(alloc: Global, size: u8, child: &[u8]) -> Result<Vec<u8>, Error> {
     }
     bytes.extend_from_slice(child)?;
     Ok(bytes)
-}
-
-/// Expects that the box is written in these bytes.
-fn expect_bytes<B: WriteBox + Drop>(
-    alloc: Global,
-    made: Result<B, Error>,
-    bytes: &[u8],
-) -> Result<(), Mismatch> {
-    let mut out = Vec::new(alloc);
-    made?.write_box(&mut out)?;
-    if out.as_slice() == bytes {
-        Ok(())
-    } else {
-        Err(Mismatch::OtherBytes)
-    }
 }
 
 /// Expects that the box is written with a child of these bytes alone, in this size.

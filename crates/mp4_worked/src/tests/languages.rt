@@ -1,7 +1,13 @@
 //! Languages: three letters in 15 bits, worked out by hand.
 
-use mp4_stream::{MdhdBox, Text, WriteBox, language_code, language_string};
+use mp4_stream::{Error, MdhdBox, Text, WriteBox, language_code, language_string};
+use std::alloc::Global;
 use std::test::Fail;
+
+/// Whether this is the language of a code.
+fn is_language_of(alloc: Global, code: u16, language: &str) -> Result<bool, Error> {
+    Ok(language_string(alloc, code)?.as_str() == language)
+}
 
 #[test]
 fn letters_are_five_bits_each(rt: HostRuntime) -> Result<(), Fail> {
@@ -12,15 +18,28 @@ fn letters_are_five_bits_each(rt: HostRuntime) -> Result<(), Fail> {
         ("zul", 0x6aac),
         ("abc", 0x0443),
     ] {
-        assert_eq!(rt; language_code(language), code, "{language}");
-        assert_eq!(rt; language_string(rt.alloc(), code)?.as_str(), language);
+        assert!(rt; language_code(language) == code, "{language}");
         // The highest bit is not a letter's.
-        assert_eq!(rt;
-            language_string(rt.alloc(), code | 0x8000)?.as_str(),
-            language
-        );
+        for same in [code, code | 0x8000] {
+            assert!(rt; is_language_of(rt.alloc(), same, language)?, "{language}");
+        }
     }
     Ok(())
+}
+
+/// What the media header of a track in this language is written in.
+pub(super) fn header_in(alloc: Global, language: &str) -> Result<Vec<u8>, Error> {
+    let mut header = MdhdBox::default_in(alloc)?;
+    header.language = Text::from_str(alloc, language)?;
+    let mut out = Vec::new(alloc);
+    header.write_box(&mut out)?;
+    Ok(out)
+}
+
+/// Whether the media header of a track in this language has these bytes for it.
+fn is_written_as(alloc: Global, language: &str, code: u16) -> Result<bool, Error> {
+    let bytes = u16::to_be_bytes(code);
+    Ok(header_in(alloc, language)?.get(28..30) == Some(bytes.as_slice()))
 }
 
 #[test]
@@ -33,13 +52,8 @@ fn letters_past_ascii_are_utf16_units(rt: HostRuntime) -> Result<(), Fail> {
         ("z\u{10348}x", 0x6808),
         ("zz\u{10348}", 0x6b40),
     ] {
-        assert_eq!(rt; language_code(language), code, "{language}");
-        let mut mdhd = MdhdBox::default_in(rt.alloc())?;
-        mdhd.language = Text::from_str(rt.alloc(), language)?;
-        let mut out = Vec::new(rt.alloc());
-        mdhd.write_box(&mut out)?;
-        let bytes = u16::to_be_bytes(code);
-        assert!(rt; out.get(28..30) == Some(bytes.as_slice()), "{language}");
+        assert!(rt; language_code(language) == code, "{language}");
+        assert!(rt; is_written_as(rt.alloc(), language, code)?, "{language}");
     }
     Ok(())
 }
@@ -47,7 +61,7 @@ fn letters_past_ascii_are_utf16_units(rt: HostRuntime) -> Result<(), Fail> {
 #[test]
 fn missing_letters_are_zero(rt: HostRuntime) -> Result<(), Fail> {
     for (language, code) in [("", 0), ("s", 0x4c00), ("sw", 0x4ee0), ("swede", 0x4ee5)] {
-        assert_eq!(rt; language_code(language), code, "{language}");
+        assert!(rt; language_code(language) == code, "{language}");
     }
     Ok(())
 }
