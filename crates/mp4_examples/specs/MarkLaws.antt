@@ -1,5 +1,6 @@
 -- The laws of mark, which is one run of fields.
-use Rattle.std.proofs.Common.{[], ◌∷◌, refl, subst, lit<, lit≤}
+use Rattle.std.proofs.Common.{[], ◌∷◌, refl, sym, subst, lit<, lit≤}
+use Rattle.std.proofs.lemmas.Bool.{eqb-true}
 use Rattle.mp4_frame.specs.BoxType.{name_of-code_of}
 use Rattle.mp4_frame.specs.Format.{IsBox}
 use Rattle.mp4_frame.specs.Laws.{OwnName, ReadsBack}
@@ -7,7 +8,7 @@ use Rattle.mp4_frame.specs.declared.box_type.BoxType.TheVariants as names
 use Rattle.mp4_frame.proofs.Checks.{are_bytes-drop, reads_ok, reads_back}
 use Rattle.mp4_frame.proofs.Framing.{header_of_fields, own_normal_form, fits_read, Number}
 use Rattle.mp4_frame.proofs.Rows.{one_run_again, one_run_is}
-use Rattle.mp4_stream.specs.Sound.{ReadsSoundly}
+use Rattle.mp4_stream.specs.Sound.{ReadsSoundly, ReadsOwnCode}
 use Rattle.mp4_examples.specs.declared.mark.TheConstants.{MARK}
 use Rattle.mp4_examples.specs.declared.mark.MarkBox.{MarkBox}
 use Rattle.mp4_examples.specs.Mark.{value_mark, reads_mark, fields_mark, WritableMark, bytes_mark, format_mark, known_mark, reading_mark}
@@ -29,3 +30,7 @@ read_back_mark v w = reads_back reads_mark (bytes_mark v) 12 v (laws_mark.header
 
 pub sound_mark : ReadsSoundly known_mark reading_mark format_mark
 sound_mark name known fits bytes start size v are e = laws_mark.sound _ start size v (are_bytes-drop start bytes are) (reads_ok reads_mark bytes start size v e)
+
+pub code_mark : ReadsOwnCode known_mark reading_mark format_mark
+code_mark (names.UnknownBox code) known bytes start size v e = sym (eqb-true code MARK known)
+code_mark _ known bytes start size v e = absurd cc

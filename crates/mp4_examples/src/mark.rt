@@ -2,7 +2,7 @@
 
 ghost use Rattle.mp4_frame.specs.Format.{write_laws};
 ghost use Rattle.mp4_examples.specs.Mark.{reads_mark, format_mark, known_mark, reading_mark};
-ghost use Rattle.mp4_examples.specs.MarkLaws.{laws_mark, own_name_mark, read_back_mark, sound_mark};
+ghost use Rattle.mp4_examples.specs.MarkLaws.{laws_mark, own_name_mark, read_back_mark, sound_mark, code_mark};
 
 use mp4_frame::{expect_bytes, put_u32, u32_at};
 use mp4_stream::{
@@ -91,4 +91,6 @@ impl StreamBox for MarkBox {
 
 impl SoundStream for MarkBox {
     ghost sound = { sound_mark };
+
+    ghost own_code = { code_mark };
 }
