@@ -1,5 +1,5 @@
 -- Numbers of so many bits each, one after the other, the highest bits first. The widths are in bits.
-use Rattle.std.specs.Prelude.{ℕ, ◌+◌, ◌*◌, ◌/◌, ◌%◌, ◌^◌, ◌<◌, ◌==◌, ◌&&◌, nat_le, Bool, List, [], ◌∷◌}
+use Rattle.std.specs.Prelude.{ℕ, ◌+◌, ◌*◌, ◌/◌, ◌%◌, ◌^◌, ◌<◌, ◌==◌, ◌&&◌, nat_le, nat_lt, Bool, List, [], ◌∷◌}
 
 -- how many bits the fields take, and how many bytes
 abbrev pub bits : List ℕ → ℕ
@@ -30,3 +30,7 @@ NumbersFit _ _ = ⊥
 abbrev pub are_whole : ℕ → List ℕ → Bool
 are_whole from [] = from % 8 == 0
 are_whole from (w ∷ ws) = nat_le (from % 8 + w) 64 && are_whole (from + w) ws
+
+-- the same of fields from the front of a byte on, of fewer than 2 ^ 32 bits in all
+abbrev pub are_fields : List ℕ → Bool
+are_fields ws = are_whole 0 ws && nat_lt (bits ws) (2 ^ 32)

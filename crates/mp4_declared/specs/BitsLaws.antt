@@ -3,14 +3,14 @@ use Rattle.std.proofs.Common.{◌≡◌, ℕ, zero, suc, ◌+◌, ◌-◌, ◌*�
 use Rattle.std.proofs.lemmas.Nat.{pow-add, mod-pow-add, div-mul-add, mod-mul-add, div-add-mod'}
 use Rattle.std.proofs.Math.Nat.{div-div-eq-div-mul, mod-lt, mul-add-mod_self_right, mul-add-div_right, mul_assoc, mul_comm, add-mul, zero-div, div-one, mod-eq_of_lt, mul-le-mul_right}
 use Rattle.std.proofs.Math.Pow.{pow_pos}
-use Rattle.std.proofs.lemmas.Bool.{eqb-true, leb-true}
+use Rattle.std.proofs.lemmas.Bool.{eqb-true, leb-true, ltb-true}
 use Rattle.std.proofs.lemmas.List.{append_assoc}
 use Rattle.std.specs.Int.{byte_at}
 use Rattle.byteorder.specs.Endian.{big_from, big_bytes}
 use Rattle.mp4_frame.specs.Bytes.{number, be_bytes}
 use Rattle.mp4_frame.specs.Laws.{AreBytes}
 use Rattle.mp4_frame.proofs.Fields.{number-below}
-use Rattle.mp4_declared.specs.Bits.{bits, bytes_in, joined, split, NumbersFit, are_whole}
+use Rattle.mp4_declared.specs.Bits.{bits, bytes_in, joined, split, NumbersFit, are_whole, are_fields}
 
 pub pow256 : (n : ℕ) → 256 ^ n ≡ 2 ^ (8 * n)
 pow256 zero = refl
@@ -95,11 +95,11 @@ all_fit (w ∷ ws) (n ∷ ns) same each = (each 0 (omega arith), all_fit ws ns (
 
 -- ---- whole bytes
 
-and_first : (a b : Bool) → (a && b) ≡ true → a ≡ true
+pub and_first : (a b : Bool) → (a && b) ≡ true → a ≡ true
 and_first true b h = refl
 and_first false b h = absurd cc
 
-and_second : (a b : Bool) → (a && b) ≡ true → b ≡ true
+pub and_second : (a b : Bool) → (a && b) ≡ true → b ≡ true
 and_second true b h = h
 and_second false b h = absurd cc
 
@@ -115,6 +115,12 @@ ends_whole (w ∷ ws) from h = let r = ends_whole ws (from + w) (rest_is_whole f
 
 pub bits_in : (ws : List ℕ) → are_whole 0 ws ≡ true → 8 * bytes_in ws ≡ bits ws
 bits_in ws h = let r = ends_whole ws 0 h in omega (arith, r)
+
+pub fields_whole : (ws : List ℕ) → are_fields ws ≡ true → are_whole 0 ws ≡ true
+fields_whole ws h = and_first _ _ h
+
+pub fields_few : (ws : List ℕ) → are_fields ws ≡ true → bits ws < 2 ^ 32
+fields_few ws h = ltb-true (bits ws) (2 ^ 32) (and_second (are_whole 0 ws) _ h)
 
 -- ---- numbers of bytes
 
