@@ -1,1 +1,2 @@
 pub mod BitSteps
+pub mod EntrySteps

@@ -30,11 +30,12 @@ pub flag_fits : (flag : Bool) → bit flag < 2
 flag_fits true = lit< tt
 flag_fits false = lit< tt
 
--- The facts that the author of an entry shows: its fields fill whole bytes, an entry is made of its numbers, and the numbers
+-- The facts that the author of an entry shows: its fields fill e bytes, an entry is made of its numbers, and the numbers
 -- of an entry fit where those fit that it is made of.
-pub record IsEntryLayout {X : Type 0} (l : EntryLayout X) : Type 0 where
+pub record IsEntryLayout {X : Type 0} (l : EntryLayout X) (e : ℕ) : Type 0 where
+  pub long : bytes_in l.widths ≡ e
   pub fields : are_fields l.widths ≡ true
-  pub some : 0 < bytes_in l.widths
+  pub some : 0 < e
   pub back : (x : X) → l.value (slice_index (l.numbers x)) ≡ x
   pub fit : (n : ℕ → ℕ) → ((k : ℕ) → n k < 2 ^ slice_index l.widths k) → NumbersFit l.widths (l.numbers (l.value n))
 
@@ -43,13 +44,13 @@ joined_small ws ns fields fit =
     let power : 256 ^ bytes_in ws ≡ 2 ^ bits ws = pow256 (bytes_in ws) ∙ ap (λ (k : ℕ). 2 ^ k) (bits_in ws (fields_whole ws fields)) in
     rw power (joined-lt ws ns fit)
 
-pub entry_laws : {X : Type 0} (l : EntryLayout X) → IsEntryLayout l → IsEntry (row_of l) (entry_of l) (FitsEntry l) (bytes_in l.widths)
-entry_laws {X} l is = record {
+pub entry_laws : {X : Type 0} (l : EntryLayout X) {e : ℕ} → IsEntryLayout l e → IsEntry (row_of l) (entry_of l) (FitsEntry l) (bytes_in l.widths)
+entry_laws {X} l {e} is = record {
   long = λ x fits. length-be_bytes (bytes_in l.widths) (joined l.widths (l.numbers x));
   back = λ x fits.
-      let e = bytes_in l.widths in
+      let w = bytes_in l.widths in
       let j = joined l.widths (l.numbers x) in
-      let whole : number (be_bytes e j) 0 e ≡ j = ap (λ (row : List ℕ). number row 0 e) (sym (append-nil (be_bytes e j))) ∙ number-be_bytes e j [] (joined_small l.widths (l.numbers x) is.fields fits) in
+      let whole : number (be_bytes w j) 0 w ≡ j = ap (λ (row : List ℕ). number row 0 w) (sym (append-nil (be_bytes w j))) ∙ number-be_bytes w j [] (joined_small l.widths (l.numbers x) is.fields fits) in
       ap (λ (n : ℕ). l.value (slice_index (split l.widths n))) whole ∙ ap (λ (ns : List ℕ). l.value (slice_index ns)) (split-joined l.widths (l.numbers x) fits) ∙ is.back x;
   fits = λ row read. is.fit (slice_index (split l.widths (number row 0 (bytes_in l.widths)))) (split-below l.widths (number row 0 (bytes_in l.widths)));
 }
@@ -58,12 +59,12 @@ abbrev pub all_are_fields : List (List ℕ) → Bool
 all_are_fields [] = true
 all_are_fields (ws ∷ wss) = are_fields ws && all_are_fields wss
 
--- The facts that the author of a box shows: the fields of each version fill whole bytes, the entries are as above, a box is
+-- The facts that the author of a box shows: the fields of each version fill whole bytes, a box is
 -- made of its parts, and the numbers of a box fit, in each version, where those fit that it is made of.
 pub record IsBoxLayout {V X : Type 0} (l : BoxLayout V X) : Type 0 where
   pub fields : all_are_fields l.widths ≡ true
   pub coded : l.code < 2 ^ 32
-  pub entry : IsEntryLayout l.entry
+  pub counted : (1 ≤ l.count_width) × (l.count_width ≤ 4)
   pub back : (v : V) → l.value (l.parts v).version (l.parts v).flags (slice_index (l.parts v).numbers) (l.parts v).entries ≡ v
   pub parts : (version flags : ℕ) (n : ℕ → ℕ) (xs : List X) → l.parts (l.value version flags n xs) ≡ record { version = version; flags = flags; numbers = (l.parts (l.value version flags n xs)).numbers; entries = xs }
   pub fit : (version flags : ℕ) (n : ℕ → ℕ) (xs : List X) → AllByRecursion (λ ws. ((k : ℕ) → n k < 2 ^ slice_index ws k) → NumbersFit ws (l.parts (l.value version flags n xs)).numbers) l.widths
@@ -85,11 +86,11 @@ number_put_after : (p z : List ℕ) (o w n : ℕ) → length p ≡ o → n < 256
 number_put_after p z o w n is fits =
     number-after p (be_bytes w n ++ z) o o w is (omega arith) ∙ ap (λ (k : ℕ). number (be_bytes w n ++ z) k w) (let none : o - o ≡ 0 = omega arith in none) ∙ number-be_bytes w n z fits
 
-module _ {V X : Type 0} (l : BoxLayout V X) (is : IsBoxLayout l) where
-  rows_long : (p : Parts X) → WritableParts l p → length (flat_map (row_of l.entry) p.entries) ≡ bytes_in l.entry.widths * length p.entries
-  rows_long p w = length_flat (row_of l.entry) (bytes_in l.entry.widths) (FitsEntry l.entry) (entry_laws l.entry is.entry).long p.entries (recursion_from_All (FitsEntry l.entry) p.entries w.each)
+module _ {V X : Type 0} (e : EntryLayout X) (l : BoxLayout V X) {row : ℕ} (entry : IsEntryLayout e row) (is : IsBoxLayout l) where
+  rows_long : (p : Parts X) → WritableParts e l p → length (flat_map (row_of e) p.entries) ≡ bytes_in e.widths * length p.entries
+  rows_long p w = length_flat (row_of e) (bytes_in e.widths) (FitsEntry e) (entry_laws e entry).long p.entries (recursion_from_All (FitsEntry e) p.entries w.each)
 
-  parts_back : (p : Parts X) (rest : List ℕ) (start : ℕ) → WritableParts l p → (reads_layout l (bytes_of_parts l p ++ rest) start (size_of_parts l p)).outcome ≡ Ok (l.value p.version p.flags (slice_index p.numbers) p.entries)
+  parts_back : (p : Parts X) (rest : List ℕ) (start : ℕ) → WritableParts e l p → (reads_layout e l (bytes_of_parts e l p ++ rest) start (size_of_parts e l p)).outcome ≡ Ok (l.value p.version p.flags (slice_index p.numbers) p.entries)
   unfolding reads_layout bytes_of_parts
   parts_back p rest start w =
       let ws = widths_of l.widths p.version in
@@ -97,9 +98,9 @@ module _ {V X : Type 0} (l : BoxLayout V X) (is : IsBoxLayout l) where
       let J = joined ws p.numbers in
       let c = l.count_width in
       let n = length p.entries in
-      let size = size_of_parts l p in
+      let size = size_of_parts e l p in
       let front = bytes_of_fields (full_box size l.code p.version p.flags) in
-      let rows = flat_map (row_of l.entry) p.entries in
+      let rows = flat_map (row_of e) p.entries in
       let z = rows ++ rest in
       let P = front ++ (be_bytes W J ++ be_bytes c n) in
       let B = P ++ z in
@@ -119,14 +120,14 @@ module _ {V X : Type 0} (l : BoxLayout V X) (is : IsBoxLayout l) where
       let nC : number B (12 + W) c ≡ n = ap (λ (xs : List ℕ). number xs (12 + W) c) byCount ∙ number_put_after (front ++ be_bytes W J) z (12 + W) c n longF w.count in
       let apart = split-joined ws p.numbers w.fit in
       let known : ltb p.version (length l.widths) ≡ true = lt-ltb p.version (length l.widths) w.known in
-      let head : expect_bytes B 8 4 ≡ done tt = expect_bytes_present B 8 4 (omega (arith, longB)) in
+      let first : expect_bytes B 8 4 ≡ done tt = expect_bytes_present B 8 4 (omega (arith, longB)) in
       let body : expect_bytes B 12 (W + c) ≡ done tt = expect_bytes_present B 12 (W + c) (omega (arith, longB)) in
-      let es : (reads_entries (entry_of l.entry) (bytes_in l.entry.widths) B size (12 + W + c) n).outcome ≡ Ok p.entries = entries_back (entry_laws l.entry is.entry) is.entry.some P rest p.entries size (12 + W + c) longP refl w.each in
-      let whole : (reads_layout l B start size).outcome ≡ Ok (l.value p.version p.flags (slice_index p.numbers) p.entries) = rw (head, n8, known, body, nC, es, n9, nW, apart) refl in
+      let es : (reads_entries (entry_of e) (bytes_in e.widths) B size (12 + W + c) n).outcome ≡ Ok p.entries = entries_back (entry_laws e entry) (rw entry.long entry.some) P rest p.entries size (12 + W + c) longP refl w.each in
+      let whole : (reads_layout e l B start size).outcome ≡ Ok (l.value p.version p.flags (slice_index p.numbers) p.entries) = rw (first, n8, known, body, nC, es, n9, nW, apart) refl in
       let same : (front ++ (be_bytes W J ++ (be_bytes c n ++ rows))) ++ rest ≡ B = simp append_assoc in
-      ap (λ (xs : List ℕ). (reads_layout l xs start size).outcome) same ∙ whole
+      ap (λ (xs : List ℕ). (reads_layout e l xs start size).outcome) same ∙ whole
 
-  parts_sound : (bytes : List ℕ) (start long : ℕ) (v : V) → AreBytes bytes → (reads_layout l bytes start long).outcome ≡ Ok v → size_of_parts l (l.parts v) < 2 ^ 32 → WritableParts l (l.parts v)
+  parts_sound : (bytes : List ℕ) (start long : ℕ) (v : V) → AreBytes bytes → (reads_layout e l bytes start long).outcome ≡ Ok v → size_of_parts e l (l.parts v) < 2 ^ 32 → WritableParts e l (l.parts v)
   unfolding reads_layout
   parts_sound bytes start long v are h =
       let version = number bytes 8 1 in
@@ -135,38 +136,38 @@ module _ {V X : Type 0} (l : BoxLayout V X) (is : IsBoxLayout l) where
       let c = l.count_width in
       let x = number bytes 12 W in
       let made : List X → V = λ xs. l.value version (number bytes 9 3) (slice_index (split ws x)) xs in
-      let list = reads_entries (entry_of l.entry) (bytes_in l.entry.widths) bytes long (12 + W + c) (number bytes (12 + W) c) in
+      let list = reads_entries (entry_of e) (bytes_in e.widths) bytes long (12 + W + c) (number bytes (12 + W) c) in
       let last : List X → Reading V = λ xs. done (made xs) in
-      let a = expect_bytes_ok bytes 8 4 (λ _. check (ltb version (length l.widths)) >>= λ _. reads_fields l ws bytes long) v h in
-      let b = check_ok (ltb version (length l.widths)) (λ _. reads_fields l ws bytes long) v a in
+      let a = expect_bytes_ok bytes 8 4 (λ _. check (ltb version (length l.widths)) >>= λ _. reads_fields e l ws bytes long) v h in
+      let b = check_ok (ltb version (length l.widths)) (λ _. reads_fields e l ws bytes long) v a in
       let d = expect_bytes_ok bytes 12 (W + c) (λ _. list >>= last) v b.1 in
       let p = value_first list last v d in
-      let r = entries_read (entry_laws l.entry is.entry) is.entry.some bytes long (12 + W + c) (number bytes (12 + W) c) p.0 are p.1 in
+      let r = entries_read (entry_laws e entry) (rw entry.long entry.some) bytes long (12 + W + c) (number bytes (12 + W) c) p.0 are p.1 in
       let known = ltb-true version (length l.widths) b.0 in
       let same = is.parts version (number bytes 9 3) (slice_index (split ws x)) p.0 in
       let fit = at_version (λ us. ((k : ℕ) → slice_index (split ws x) k < 2 ^ slice_index us k) → NumbersFit us (l.parts (made p.0)).numbers) l.widths version (is.fit version (number bytes 9 3) (slice_index (split ws x)) p.0) known (split-below ws x) in
       let count : length p.0 < 256 ^ c = rw r.1 (number-below bytes (12 + W) c are) in
-      let can : size_of_parts l (record { version = version; flags = number bytes 9 3; numbers = (l.parts (made p.0)).numbers; entries = p.0 }) < 2 ^ 32 → WritableParts l (record { version = version; flags = number bytes 9 3; numbers = (l.parts (made p.0)).numbers; entries = p.0 }) = λ small. record {
+      let can : size_of_parts e l (record { version = version; flags = number bytes 9 3; numbers = (l.parts (made p.0)).numbers; entries = p.0 }) < 2 ^ 32 → WritableParts e l (record { version = version; flags = number bytes 9 3; numbers = (l.parts (made p.0)).numbers; entries = p.0 }) = λ small. record {
         known = known;
         front = (small, (is.coded, (number-below bytes 8 1 are, (number-below bytes 9 3 are, tt))));
         fit = fit;
         count = count;
         each = r.0;
       } in
-      let all : size_of_parts l (l.parts (made p.0)) < 2 ^ 32 → WritableParts l (l.parts (made p.0)) = subst (λ (q : Parts X). size_of_parts l q < 2 ^ 32 → WritableParts l q) (sym same) can in
-      subst (λ (u : V). size_of_parts l (l.parts u) < 2 ^ 32 → WritableParts l (l.parts u)) (is_value (made p.0) v p.2) all
+      let all : size_of_parts e l (l.parts (made p.0)) < 2 ^ 32 → WritableParts e l (l.parts (made p.0)) = subst (λ (q : Parts X). size_of_parts e l q < 2 ^ 32 → WritableParts e l q) (sym same) can in
+      subst (λ (u : V). size_of_parts e l (l.parts u) < 2 ^ 32 → WritableParts e l (l.parts u)) (is_value (made p.0) v p.2) all
 
-  pub laws_layout : IsBox (reads_layout l) (format_layout l)
+  pub laws_layout : IsBox (reads_layout e l) (format_layout e l)
   unfolding bytes_of_parts
   laws_layout = record {
     header = λ v w.
         let p = l.parts v in
         let ws = widths_of l.widths p.version in
-        let rows = flat_map (row_of l.entry) p.entries in
+        let rows = flat_map (row_of e) p.entries in
         let fields = be_bytes (bytes_in ws) (joined ws p.numbers) in
         let count = be_bytes l.count_width (length p.entries) in
         header_in_front _ (fields ++ (count ++ rows)) w.front (omega (arith, length-append fields (count ++ rows), length-append count rows, length-be_bytes (bytes_in ws) (joined ws p.numbers), length-be_bytes l.count_width (length p.entries), rows_long p w));
     normal_form = λ v w. own_normal_form v refl w;
     read_back = λ v w rest start top. parts_back (l.parts v) rest start w ∙ ap (λ (u : V). Ok u) (is.back v);
-    sound = λ bytes start long v are e. (refl, parts_sound bytes start long v are e);
+    sound = λ bytes start long v are read. (refl, parts_sound bytes start long v are read);
   }

@@ -4,3 +4,4 @@ pub mod Listed
 pub mod ListedLaws
 pub mod Layout
 pub mod LayoutLaws
+pub mod Lent

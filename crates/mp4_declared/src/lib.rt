@@ -2,3 +2,9 @@
 #![tactic(auto)]
 
 mod bits;
+mod entries;
+mod full_box;
+mod layout;
+
+pub use full_box::FullBox;
+pub use layout::{BoxLayout, EntryLayout};

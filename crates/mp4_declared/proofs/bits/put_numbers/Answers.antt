@@ -13,7 +13,7 @@ shifted-requires g c =
 pub overflow_add-word : goal.overflow_add-word
 overflow_add-word g c =
     let h = word_at c.args.widths.now c.args.numbers.now c.args.at c.args.out.now c.loop-k.k c.loop-k.next c.loop-k.word c.loop-k.count c.loop-k.out c.requires.fields c.requires.fit (omega arith) c.loop-k.invariant in
-    rw (c.shifted.ensures, c.from-width.ensures) h.fits
+    rw (c.shifted.ensures, c.from-width.ensures) (omega (arith, h.fits))
 
 pub overflow_add-count : goal.overflow_add-count
 overflow_add-count g c =
