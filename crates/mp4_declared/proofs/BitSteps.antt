@@ -72,7 +72,7 @@ number_read ws ns bytes at k from d are fields lt r is =
       sofar = f.next;
       whole = f.whole;
       numbers = ap (λ (l : List ℕ). l ++ split (drop (k + 1) ws) x) more ∙ append_assoc (take k ns) (d ∷ []) (split (drop (k + 1) ws) x)
-      ∙ ap (λ (e : ℕ). take k ns ++ e ∷ split (drop (k + 1) ws) x) digit ∙ ap (λ (l : List ℕ). take k ns ++ l) (sym parts) ∙ r.numbers;
+          ∙ ap (λ (e : ℕ). take k ns ++ e ∷ split (drop (k + 1) ws) x) digit ∙ ap (λ (l : List ℕ). take k ns ++ l) (sym parts) ∙ r.numbers;
     }
 
 pub all_read : (ws ns : List ℕ) (x k from : ℕ) → length ws ≤ k → NumbersRead ws x k from ns → ns ≡ split ws x
@@ -176,10 +176,10 @@ number_put ws ns at old k next word count out new fields fit lt p put =
       whole = subst (λ (b : ℕ). are_whole b (drop (k + 1) ws) ≡ true) sofar f.whole;
       left = ap (λ (x : ℕ). x % 2 ^ c) h.is_word ∙ ap (λ (e : ℕ). J / 2 ^ R % 2 ^ e % 2 ^ c) (in_bytes t) ∙ cut_again (J / 2 ^ R) (8 * q) c;
       put = put ∙ ap (λ (l : List ℕ). l ++ be_bytes q ((word * 2 ^ w + n) / 2 ^ c)) p.put
-      ∙ append_assoc (take at old) (be_bytes m (J / 2 ^ (bits (drop k ws) + count))) (be_bytes q ((word * 2 ^ w + n) / 2 ^ c))
-      ∙ ap (λ (l : List ℕ). take at old ++ (be_bytes m (J / 2 ^ (bits (drop k ws) + count)) ++ l)) last
-      ∙ ap (λ (l : List ℕ). take at old ++ l) (sym joint)
-      ∙ ap (λ (i : ℕ). take at old ++ be_bytes i (J / 2 ^ (R + c))) long;
+          ∙ append_assoc (take at old) (be_bytes m (J / 2 ^ (bits (drop k ws) + count))) (be_bytes q ((word * 2 ^ w + n) / 2 ^ c))
+          ∙ ap (λ (l : List ℕ). take at old ++ (be_bytes m (J / 2 ^ (bits (drop k ws) + count)) ++ l)) last
+          ∙ ap (λ (l : List ℕ). take at old ++ l) (sym joint)
+          ∙ ap (λ (i : ℕ). take at old ++ be_bytes i (J / 2 ^ (R + c))) long;
     }
 
 pub none_put : (ws ns : List ℕ) (at : ℕ) (old : List ℕ) → are_fields ws ≡ true → NumbersPut ws ns at old 0 at 0 0 old

@@ -1,2 +1,1 @@
 pub mod BitSteps
-pub mod EntrySteps

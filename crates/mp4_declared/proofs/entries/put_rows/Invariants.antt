@@ -1,7 +1,7 @@
 use Rattle.std.proofs.Common.{◌≡◌, ◌+◌, ◌*◌, ◌++◌, take}
 use Rattle.std.specs.List.{flat_map}
 use Rattle.mp4_declared.specs.Layout.{row_of}
-use Rattle.mp4_declared.proofs.entries.put_entries.Given as goal
+use Rattle.mp4_declared.proofs.entries.put_rows.Given as goal
 
 abbrev pub invariant-loop-entry : goal.invariant-loop-entry
 invariant-loop-entry g l = record {
