@@ -138,6 +138,7 @@ impl ReadBox for SidxBox {
         expect_bytes(bytes, 12, 12 + 2 * t)?;
         let count = u32::from(u16_at(bytes, 22 + 2 * t));
         let rows = read_rows::<12>(bytes, size, 24 + 2 * t, count, TOO_MANY)?;
+        let entries: Vec<SidxEntry> = entries_of(alloc, rows)?;
         Ok(SidxBox {
             version,
             flags: u24_at(bytes, 9),
@@ -145,7 +146,7 @@ impl ReadBox for SidxBox {
             timescale: u32_at(bytes, 16),
             earliest_presentation_time: time_at(bytes, 20, version),
             first_offset: time_at(bytes, 20 + t, version),
-            entries: entries_of(alloc, rows)?.into(),
+            entries: entries.into(),
         })
     }
 }
