@@ -5,46 +5,27 @@
 -- An entry has reference_type in the highest bit of its first 4 bytes and referenced_size in the other 31 bits,
 -- subsegment_duration in the next 4 bytes, and in its last 4, from the highest bit down, starts_with_SAP in 1 bit,
 -- SAP_type in 3 and SAP_delta_time in 28.
-use Rattle.std.specs.Prelude.{ℕ, ◌+◌, ◌*◌, ◌/◌, ◌%◌, ◌<◌, ◌^◌, ◌==◌, nat_lt, Bool, if◌then◌else◌, List, [], ◌∷◌, ◌++◌, length}
-use Rattle.mp4_stream.specs.Author.{number, bytes_of_fields, full_box, Reading, ◌>>=◌, done, check, expect_bytes, time_width, reads_entries, WritableListed, bytes_listed, Format}
+use Rattle.std.specs.Prelude.{ℕ, ◌+◌, ◌*◌, ◌==◌, nat_lt, List, [], ◌∷◌, ◌++◌, length}
+use Rattle.mp4_stream.specs.Author.{number, full_box, Reading, ◌>>=◌, done, check, expect_bytes, time_width, bit, EntryLayout, row_of, entry_of, FitsEntry, reads_entries, WritableListed, bytes_listed, Format}
 use Rattle.mp4_stream.specs.Author.names
 use Rattle.mp4_own.specs.declared.sidx.TheConstants.{SIDX}
 use Rattle.mp4_own.specs.declared.sidx.SidxBox.{SidxBox}
 use Rattle.mp4_own.specs.declared.sidx.SidxEntry.{SidxEntry}
 
--- the entry, where `at o w` is the number of w bytes at offset o of its row
-abbrev pub value_sidx_entry : (ℕ → ℕ → ℕ) → SidxEntry
-value_sidx_entry at = record {
-  reference_type = at 0 4 / 2 ^ 31 == 1;
-  referenced_size = at 0 4 % 2 ^ 31;
-  subsegment_duration = at 4 4;
-  starts_with_sap = at 8 4 / 2 ^ 31 == 1;
-  sap_type = at 8 4 / 2 ^ 28 % 8;
-  sap_delta_time = at 8 4 % 2 ^ 28;
+-- the entry: the widths of its fields in bits, the entry with these numbers, where n k is the k-th from 0 on, and its numbers
+abbrev pub entry_sidx : EntryLayout SidxEntry
+entry_sidx = record {
+  widths = 1 ∷ 31 ∷ 32 ∷ 1 ∷ 3 ∷ 28 ∷ [];
+  value = λ n. record {
+    reference_type = n 0 == 1;
+    referenced_size = n 1;
+    subsegment_duration = n 2;
+    starts_with_sap = n 3 == 1;
+    sap_type = n 4;
+    sap_delta_time = n 5;
+  };
+  numbers = λ e. bit e.reference_type ∷ e.referenced_size ∷ e.subsegment_duration ∷ bit e.starts_with_sap ∷ e.sap_type ∷ e.sap_delta_time ∷ [];
 }
-
-abbrev pub entry_sidx : List ℕ → SidxEntry
-entry_sidx row = value_sidx_entry (number row)
-
--- a flag in the highest of 32 bits
-abbrev pub top_bit : Bool → ℕ
-top_bit flag = if flag then 2 ^ 31 else 0
-
--- each number is cut to its bits
-abbrev pub fields_sidx_entry : SidxEntry → List (ℕ × ℕ)
-fields_sidx_entry e =
-    (4, top_bit e.reference_type + e.referenced_size % 2 ^ 31) ∷ (4, e.subsegment_duration)
-    ∷ (4, top_bit e.starts_with_sap + (e.sap_type % 8 * 2 ^ 28 + e.sap_delta_time % 2 ^ 28)) ∷ []
-
-abbrev pub row_sidx : SidxEntry → List ℕ
-row_sidx e = bytes_of_fields (fields_sidx_entry e)
-
--- every number fits its bits
-pub record FitsSidxEntry (e : SidxEntry) : Type 0 where
-  pub size : e.referenced_size < 2 ^ 31
-  pub duration : e.subsegment_duration < 2 ^ 32
-  pub type : e.sap_type < 8
-  pub delta : e.sap_delta_time < 2 ^ 28
 
 -- the offsets of first_offset, of reference_count and of the entries, where times have t bytes
 abbrev pub offset_at : ℕ → ℕ
@@ -73,7 +54,7 @@ reads_sidx bytes start size = do
   _ ← expect_bytes bytes 8 4
   _ ← check (nat_lt (number bytes 8 1) 2)
   _ ← expect_bytes bytes 12 (12 + 2 * time_width (number bytes 8 1))
-  entries ← reads_entries entry_sidx 12 bytes size (entries_at (time_width (number bytes 8 1))) (number bytes (count_at (time_width (number bytes 8 1))) 2)
+  entries ← reads_entries (entry_of entry_sidx) 12 bytes size (entries_at (time_width (number bytes 8 1))) (number bytes (count_at (time_width (number bytes 8 1))) 2)
   done (value_sidx (time_width (number bytes 8 1)) (number bytes) entries)
 
 abbrev pub size_sidx : SidxBox → ℕ
@@ -86,10 +67,10 @@ fields_sidx v =
     ∷ (2, 0) ∷ (2, length v.entries) ∷ []
 
 abbrev pub WritableSidx : SidxBox → Type 0
-WritableSidx v = WritableListed FitsSidxEntry v.version (fields_sidx v) v.entries
+WritableSidx v = WritableListed (FitsEntry entry_sidx) v.version (fields_sidx v) v.entries
 
 unfoldable pub bytes_sidx : SidxBox → List ℕ
-bytes_sidx v = bytes_listed row_sidx (fields_sidx v) v.entries
+bytes_sidx v = bytes_listed (row_of entry_sidx) (fields_sidx v) v.entries
 
 abbrev pub format_sidx : Format SidxBox
 format_sidx = record { name = λ _. names.UnknownBox SIDX; size = size_sidx; Writable = WritableSidx; bytes = bytes_sidx; normal = λ v. v }

@@ -1,16 +1,16 @@
 //! The segment index box.
 
-ghost use Rattle.std.specs.Prelude.{◌≡◌, [], IfOk, IfErr, map};
+ghost use Rattle.std.specs.Prelude.{◌≡◌, []};
 ghost use Rattle.mp4_stream.specs.Author.{write_laws};
-ghost use Rattle.mp4_own.specs.Sidx.{entry_sidx, top_bit, row_sidx, FitsSidxEntry, reads_sidx, format_sidx};
-ghost use Rattle.mp4_own.specs.SidxLaws.{laws_sidx};
+ghost use Rattle.mp4_own.specs.Sidx.{entry_sidx, reads_sidx, format_sidx};
+ghost use Rattle.mp4_own.specs.SidxLaws.{laws_entry, laws_sidx};
 
 use mp4_stream::author::{
-    TableEntry, all_fit, expect_bytes, put_entries, put_full_box, put_time, put_u16, put_u32,
-    put_zeros, read_rows, time_at, time_fits, u16_at, u24_at, u32_at, version_of_times,
+    EntryLayout, entries_fit, entries_of, expect_bytes, put_full_box, put_rows, put_time, put_u16,
+    put_u32, put_zeros, read_rows, time_at, time_fits, u16_at, u24_at, u32_at, version_of_times,
     width_of_time,
 };
-use mp4_stream::{BoxLaws, BoxType, Entries, Error, Mp4Box, ReadBox, Result, TryClone, WriteBox};
+use mp4_stream::{BoxLaws, BoxType, Entries, Mp4Box, ReadBox, Result, TryClone, WriteBox};
 use std::alloc::Global;
 
 /// The code: `sidx`.
@@ -36,34 +36,36 @@ pub struct SidxEntry {
     pub sap_delta_time: u32,
 }
 
-/// A flag in the highest of 32 bits.
-fn top_bit(flag: bool) -> u32
-    ensures { result ≡ top_bit flag }
-{
-    if flag { 1 << 31 } else { 0 }
-}
+impl EntryLayout<6, 12> for SidxEntry {
+    ghost entry = { entry_sidx };
 
-impl TableEntry<12> for SidxEntry {
-    ghost row_of = { row_sidx };
-
-    ghost Fits = { FitsSidxEntry };
-
-    #[tactic(auto, unfolding(mp4_stream::specs::Author::bytes_of_fields, mp4_stream::specs::Author::bytes_of_fields_onto))]
-    fn to_row(&self) -> [u8; 12] {
-        let first = top_bit(self.reference_type) + self.referenced_size % (1 << 31);
-        let sap = u32::from(self.sap_type % 8) * (1 << 28) + self.sap_delta_time % (1 << 28);
-        let mut row = [0; 12];
-        let at = put_u32(&mut row, 0, first);
-        let at = put_u32(&mut row, at, self.subsegment_duration);
-        put_u32(&mut row, at, top_bit(self.starts_with_sap) + sap);
-        row
+    fn widths() -> [u8; 6] {
+        [1, 31, 32, 1, 3, 28]
     }
 
-    fn fits(&self) -> bool {
-        // For the prover: a value that was read has the range of its type.
-        let _duration = self.subsegment_duration;
-        self.referenced_size < 1 << 31 && self.sap_type < 8 && self.sap_delta_time < 1 << 28
+    fn numbers(&self) -> [u64; 6] {
+        [
+            self.reference_type.into(),
+            self.referenced_size.into(),
+            self.subsegment_duration.into(),
+            self.starts_with_sap.into(),
+            self.sap_type.into(),
+            self.sap_delta_time.into(),
+        ]
     }
+
+    fn from_numbers(n: &[u64; 6]) -> SidxEntry {
+        SidxEntry {
+            reference_type: n[0] == 1,
+            referenced_size: n[1] as u32,
+            subsegment_duration: n[2] as u32,
+            starts_with_sap: n[3] == 1,
+            sap_type: n[4] as u8,
+            sap_delta_time: n[5] as u32,
+        }
+    }
+
+    ghost entry_laws = { laws_entry };
 }
 
 /// The segment index: where the parts of a segment's media are, and when they are presented (`sidx`, ISO/IEC 14496-12,
@@ -105,15 +107,8 @@ impl SidxBox {
 
 impl TryClone for SidxBox {
     fn try_clone(&self) -> Result<SidxBox> {
-        Ok(SidxBox {
-            version: self.version,
-            flags: self.flags,
-            reference_id: self.reference_id,
-            timescale: self.timescale,
-            earliest_presentation_time: self.earliest_presentation_time,
-            first_offset: self.first_offset,
-            entries: self.entries.try_clone()?,
-        })
+        let entries = self.entries.try_clone()?;
+        Ok(SidxBox { entries, ..*self })
     }
 }
 
@@ -131,33 +126,6 @@ impl Mp4Box for SidxBox {
     }
 }
 
-/// The entries of these rows. The only error is out of memory.
-fn entries_of(alloc: Global, rows: &[[u8; 12]]) -> Result<Vec<SidxEntry>>
-    ensures value { IfOk result (λ entries. entries.items ≡ map entry_sidx rows.now) }
-    ensures memory { IfErr result (λ e. e ≡ Error.OutOfMemory) }
-{
-    let entries: Vec<SidxEntry> = rows
-        .iter()
-        .map(
-            |row: &[u8; 12]| -> SidxEntry
-                ensures { result ≡ entry_sidx row.now }
-            {
-                let first = u32_at(row, 0);
-                let sap = u32_at(row, 8);
-                SidxEntry {
-                    reference_type: first / (1 << 31) == 1,
-                    referenced_size: first % (1 << 31),
-                    subsegment_duration: u32_at(row, 4),
-                    starts_with_sap: sap / (1 << 31) == 1,
-                    sap_type: (sap / (1 << 28) % 8) as u8,
-                    sap_delta_time: sap % (1 << 28),
-                }
-            },
-        )
-        .collect(alloc)?;
-    Ok(entries)
-}
-
 impl ReadBox for SidxBox {
     ghost reads = { reads_sidx };
 
@@ -170,6 +138,7 @@ impl ReadBox for SidxBox {
         expect_bytes(bytes, 12, 12 + 2 * t)?;
         let count = u32::from(u16_at(bytes, 22 + 2 * t));
         let rows = read_rows::<12>(bytes, size, 24 + 2 * t, count, TOO_MANY)?;
+        let entries: Vec<SidxEntry> = entries_of(alloc, rows)?;
         Ok(SidxBox {
             version,
             flags: u24_at(bytes, 9),
@@ -177,7 +146,7 @@ impl ReadBox for SidxBox {
             timescale: u32_at(bytes, 16),
             earliest_presentation_time: time_at(bytes, 20, version),
             first_offset: time_at(bytes, 20 + t, version),
-            entries: entries_of(alloc, rows)?.into(),
+            entries: entries.into(),
         })
     }
 }
@@ -191,7 +160,7 @@ impl WriteBox for SidxBox {
             && time_fits(self.version, self.earliest_presentation_time)
             && time_fits(self.version, self.first_offset)
             && self.entries.len() < 1 << 16
-            && all_fit(self.entries.as_slice())
+            && entries_fit(self.entries.as_slice())
     }
 
     #[tactic(auto, unfolding(crate::specs::Sidx::bytes_sidx, mp4_stream::specs::Author::bytes_of_fields, mp4_stream::specs::Author::bytes_of_fields_onto))]
@@ -204,7 +173,7 @@ impl WriteBox for SidxBox {
         let at = put_time(out, at, self.version, self.first_offset);
         let at = put_zeros(out, at, 2);
         let at = put_u16(out, at, self.entries.len() as u16);
-        put_entries(out, at, self.entries.as_slice());
+        put_rows(out, at, self.entries.as_slice());
     }
 
     ghost write_laws = { write_laws laws_sidx };

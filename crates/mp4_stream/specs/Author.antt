@@ -12,6 +12,8 @@ pub use Rattle.mp4_flat.specs.Time.{time_width, version_of, reads_timed, Writabl
 unfoldable pub use Rattle.mp4_tables.specs.Rows.{rows_within}
 unfoldable pub use Rattle.mp4_stream.specs.Listed.{reads_entries}
 pub use Rattle.mp4_stream.specs.Listed.{WritableListed, bytes_listed}
+-- entries that are declared
+pub use Rattle.mp4_declared.specs.Layout.{bit, EntryLayout, row_of, entry_of, FitsEntry}
 -- children
 pub use Rattle.mp4_frame.specs.Children
 pub use Rattle.mp4_frame.specs.OneChild
@@ -38,6 +40,7 @@ pub use Rattle.mp4_flat.specs.TimeLaws.{each_version, timed_back, timed_is, time
 pub use Rattle.mp4_frame.proofs.Tables.{IsRow, length_flat, map_back, map_all, value_first, rows_at_back, rows_read}
 pub use Rattle.mp4_frame.proofs.TableLaws.{IsEntry, number_entry, TableOf, format_table, laws_table}
 pub use Rattle.mp4_tables.specs.EntryLaws.{fields_back}
+pub use Rattle.mp4_declared.specs.LayoutLaws.{flag_back, flag_fits, IsEntryLayout, entry_laws}
 pub use Rattle.mp4_tables.specs.RowsLaws.{rows_within_back, rows_within_read}
 pub use Rattle.mp4_stream.specs.ListedLaws.{entries_back, entries_read, listed_back, listed_read}
 -- the laws of a box with children

@@ -1,0 +1,4 @@
+pub mod Bits
+pub mod BitsLaws
+pub mod Layout
+pub mod LayoutLaws

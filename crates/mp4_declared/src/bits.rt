@@ -1,0 +1,116 @@
+//! Numbers of so many bits each, one after the other, the highest bits first. The widths are in bits.
+
+ghost use Rattle.std.specs.Prelude.{◌≡◌, true, ◌≤◌, ◌<◌, ◌+◌, ◌-◌, ◌*◌, ◌/◌, ◌%◌, ◌^◌, ◌++◌, ◌↔◌, IsTrue, length, take};
+ghost use Rattle.mp4_frame.specs.Bytes.{number, be_bytes};
+ghost use Rattle.mp4_declared.specs.Bits.{bits, bytes_in, joined, split, NumbersFit, are_fields};
+
+use byteorder::{BigEndian, ByteOrder};
+
+/// The lowest `width` bits of a number.
+fn low_bits(n: u64, width: usize) -> u64
+    requires { width ≤ 64 }
+    ensures { result ≡ n % 2 ^ width }
+{
+    if width < 64 { n % (1 << width) } else { n }
+}
+
+/// Whether a number fits `width` bits.
+fn fits(n: u64, width: usize) -> bool
+    ensures { IsTrue result ↔ (n < 2 ^ width) }
+{
+    if width < 64 { n < 1 << width } else { true }
+}
+
+/// The number of `width` bits, `from` bits after the front of the byte at offset `at`.
+fn bits_at(bytes: &[u8], at: usize, from: usize, width: usize) -> u64
+    requires short { from % 8 + width ≤ 64 }
+    requires room { at + from / 8 + (from % 8 + width + 7) / 8 ≤ length bytes.now }
+    ensures { result ≡ number bytes.now (at + from / 8) ((from % 8 + width + 7) / 8) / 2 ^ (8 * ((from % 8 + width + 7) / 8) - (from % 8 + width)) % 2 ^ width }
+{
+    let end = from % 8 + width;
+    let count = (end + 7) / 8;
+    if count == 0 {
+        return 0;
+    }
+    let word = BigEndian::read_uint(&bytes[at + from / 8..], count);
+    low_bits(word >> (8 * count - end), width)
+}
+
+/// Puts a number of `width` bytes, and returns the offset after it.
+fn put_number(out: &mut [u8], at: usize, n: u64, width: usize) -> usize
+    requires short { width ≤ 8 }
+    requires fits { n < 256 ^ width }
+    requires room { at + width ≤ length out.old }
+    ensures next { result ≡ at + width }
+    ensures put { take result out.new ≡ take at out.old ++ be_bytes width n }
+{
+    if width == 0 {
+        return at;
+    }
+    BigEndian::write_uint(&mut out[at..], n, width);
+    at + width
+}
+
+/// The numbers in the fields of these widths from offset `at` on.
+pub(crate) fn numbers_at<const N: usize>(bytes: &[u8], at: usize, widths: &[u8; N]) -> [u64; N]
+    requires fields { are_fields widths.now ≡ true }
+    requires room { at + bytes_in widths.now ≤ length bytes.now }
+    ensures { result ≡ split widths.now (number bytes.now at (bytes_in widths.now)) }
+{
+    let mut numbers = [0; N];
+    let mut from = 0;
+    for k in 0..N {
+        let width = usize::from(widths[k]);
+        numbers[k] = bits_at(bytes, at, from, width);
+        from += width;
+    }
+    numbers
+}
+
+/// Whether each number fits its field.
+pub(crate) fn numbers_fit<const N: usize>(widths: &[u8; N], numbers: &[u64; N]) -> bool
+    ensures { IsTrue result ↔ NumbersFit widths.now numbers.now }
+{
+    for k in 0..N {
+        if !fits(numbers[k], usize::from(widths[k])) {
+            return false;
+        }
+    }
+    true
+}
+
+/// Puts numbers in fields of these widths, and returns the offset after them.
+pub(crate) fn put_numbers<const N: usize>(
+    out: &mut [u8],
+    at: usize,
+    widths: &[u8; N],
+    numbers: &[u64; N],
+) -> usize
+    requires fields { are_fields widths.now ≡ true }
+    requires fit { NumbersFit widths.now numbers.now }
+    requires room { at + bytes_in widths.now ≤ length out.old }
+    ensures next { result ≡ at + bytes_in widths.now }
+    ensures put { take result out.new ≡ take at out.old ++ be_bytes (bytes_in widths.now) (joined widths.now numbers.now) }
+{
+    let mut next = at;
+    // The bits that don't fill a byte yet, and how many they are.
+    let mut word = 0;
+    let mut count = 0;
+    for k in 0..N {
+        let width = usize::from(widths[k]);
+        word = shifted(word, width) + numbers[k];
+        count += width;
+        next = put_number(out, next, word >> (count % 8), count / 8);
+        count %= 8;
+        word = low_bits(word, count);
+    }
+    next
+}
+
+/// A number with `width` bits of 0 after it.
+fn shifted(n: u64, width: usize) -> u64
+    requires { n * 2 ^ width < 2 ^ 64 }
+    ensures { result ≡ n * 2 ^ width }
+{
+    if width < 64 { n << width } else { 0 }
+}

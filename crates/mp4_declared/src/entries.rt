@@ -1,0 +1,108 @@
+//! Entries that are declared, and their rows. Widths are in bits.
+
+ghost use Rattle.std.specs.Prelude.{◌≡◌, ℕ, ◌<◌, ◌≤◌, ◌+◌, ◌*◌, ◌^◌, ◌++◌, ◌↔◌, All, IfOk, IfErr, IsTrue, flat_map, length, map, slice_index, take};
+ghost use Rattle.mp4_declared.specs.Layout.{EntryLayout, row_of, entry_of, FitsEntry};
+ghost use Rattle.mp4_declared.specs.LayoutLaws.{IsEntryLayout};
+
+use crate::bits::{numbers_at, numbers_fit, put_numbers};
+use mp4_frame::{Error, Result};
+use std::alloc::Global;
+
+/// An entry of `N` numbers, in a row of `E` bytes.
+pub trait EntryLayout<const N: usize, const E: usize>: Copy + Drop {
+    /// The widths of its fields, the entry of some numbers, and the numbers of an entry.
+    ghost entry: { EntryLayout Self };
+
+    /// The widths of its fields.
+    fn widths() -> [u8; N]
+        ensures { result ≡ entry.widths };
+
+    /// The numbers in its fields.
+    fn numbers(&self) -> [u64; N]
+        ensures { result ≡ entry.numbers self.now };
+
+    /// The entry of these numbers.
+    fn from_numbers(numbers: &[u64; N]) -> Self
+        requires { (k : ℕ) → slice_index numbers.now k < 2 ^ slice_index entry.widths k }
+        ensures { result ≡ entry.value (slice_index numbers.now) };
+
+    /// Its fields fill its row, and its numbers are read back.
+    ghost entry_laws: { IsEntryLayout entry E };
+}
+
+/// The entry in this row.
+fn entry_at<X: EntryLayout<N, E>, const N: usize, const E: usize>(row: &[u8; E]) -> X
+    requires { N * 8 < 2 ^ 63 }
+    ensures { result ≡ entry_of X.entry row.now }
+{
+    let numbers = numbers_at(row, 0, &X::widths());
+    X::from_numbers(&numbers)
+}
+
+/// The entries in these rows. The only error is out of memory.
+pub fn entries_of<X: EntryLayout<N, E>, const N: usize, const E: usize>(
+    alloc: Global,
+    rows: &[[u8; E]],
+) -> Result<Vec<X>>
+    requires { N * 8 < 2 ^ 63 }
+    ensures value { IfOk result (λ entries. entries.items ≡ map (entry_of X.entry) rows.now) }
+    ensures memory { IfErr result (λ e. e ≡ Error.OutOfMemory) }
+{
+    let entries: Vec<X> = rows
+        .iter()
+        .map(
+            |row: &[u8; E]| -> X
+                requires { N * 8 < 2 ^ 63 }
+                ensures { result ≡ entry_of X.entry row.now }
+            { entry_at(row) },
+        )
+        .collect(alloc)?;
+    Ok(entries)
+}
+
+/// Whether the numbers of each entry fit their fields.
+pub fn entries_fit<X: EntryLayout<N, E>, const N: usize, const E: usize>(entries: &[X]) -> bool
+    requires { N * 8 < 2 ^ 63 }
+    ensures { IsTrue result ↔ All (FitsEntry X.entry) entries.now }
+{
+    entries.iter().all(
+        |entry: &X| -> bool
+            requires { N * 8 < 2 ^ 63 }
+            ensures { IsTrue result ↔ FitsEntry X.entry entry.now }
+        { numbers_fit(&X::widths(), &entry.numbers()) },
+    )
+}
+
+/// Puts the row of an entry, and returns the offset after it.
+fn put_row<X: EntryLayout<N, E>, const N: usize, const E: usize>(
+    out: &mut [u8],
+    at: usize,
+    entry: &X,
+) -> usize
+    requires short { N * 8 < 2 ^ 63 }
+    requires fits { FitsEntry X.entry entry.now }
+    requires room { at + E ≤ length out.old }
+    ensures next { result ≡ at + E }
+    ensures put { take result out.new ≡ take at out.old ++ row_of X.entry entry.now }
+{
+    put_numbers(out, at, &X::widths(), &entry.numbers())
+}
+
+/// Puts the rows of the entries, and returns the offset after them.
+pub fn put_rows<X: EntryLayout<N, E>, const N: usize, const E: usize>(
+    out: &mut [u8],
+    at: usize,
+    entries: &[X],
+) -> usize
+    requires short { N * 8 < 2 ^ 63 }
+    requires fit { All (FitsEntry X.entry) entries.now }
+    requires room { at + E * length entries.now ≤ length out.old }
+    ensures next { result ≡ at + E * length entries.now }
+    ensures put { take result out.new ≡ take at out.old ++ flat_map (row_of X.entry) entries.now }
+{
+    let mut next = at;
+    for entry in entries {
+        next = put_row(out, next, entry);
+    }
+    next
+}

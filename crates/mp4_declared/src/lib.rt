@@ -1,0 +1,7 @@
+//! Entries that are declared: the widths of their fields, from which their code and laws follow.
+#![tactic(auto)]
+
+mod bits;
+mod entries;
+
+pub use entries::{EntryLayout, entries_fit, entries_of, put_rows};
