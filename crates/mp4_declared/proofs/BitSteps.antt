@@ -1,15 +1,15 @@
 -- One field after the other: its number is read from the bytes, or put in them.
-use Rattle.std.proofs.Common.{◌≡◌, ℕ, zero, suc, ◌+◌, ◌-◌, ◌*◌, ◌/◌, ◌%◌, ◌^◌, ◌<◌, ◌≤◌, Bool, true, List, [], ◌∷◌, ◌++◌, length, get_or, take, drop, set, slice_index, refl, sym, ap, subst, ◌∙◌, append_assoc, arith}
+use Rattle.std.proofs.Common.{◌≡◌, ℕ, zero, suc, ◌+◌, ◌-◌, ◌*◌, ◌/◌, ◌%◌, ◌^◌, ◌<◌, ◌≤◌, true, List, [], ◌∷◌, ◌++◌, length, take, drop, set, slice_index, refl, sym, ap, subst, ◌∙◌, append_assoc, arith}
 use Rattle.std.proofs.lemmas.Nat.{pow-add, mod-pow-add}
 use Rattle.std.proofs.lemmas.Bool.{eqb-true}
 use Rattle.std.proofs.lemmas.List.{drop_more, drop_all, take_more_set, append-nil, length-set}
-use Rattle.std.proofs.Math.Nat.{div-div-eq-div-mul, mod-lt, div-one, mul-le-mul_right, mod-eq_of_lt}
+use Rattle.std.proofs.Math.Nat.{div-div-eq-div-mul, mod-lt, div-one, mul-le-mul_right}
 use Rattle.std.proofs.Math.Pow.{pow_pos, pow_mono}
 use Rattle.std.proofs.Math.Seq.{take_all}
 use Rattle.mp4_frame.specs.Bytes.{number, be_bytes}
 use Rattle.mp4_frame.specs.Laws.{AreBytes}
 use Rattle.mp4_declared.specs.Bits.{bits, bytes_in, joined, split, NumbersFit, are_whole, are_fields}
-use Rattle.mp4_declared.specs.BitsLaws.{pow256, split-joined, field_is_short, rest_is_whole, bits_in, bits_at_offset, be_bytes-parts, be_bytes-mod, cut_twice, cut_again, fields_whole, number_fits, length-fit}
+use Rattle.mp4_declared.specs.BitsLaws.{pow256, split-joined, field_is_short, rest_is_whole, bits_in, bits_at_offset, be_bytes-parts, be_bytes-mod, cut_twice, cut_again, fields_whole}
 
 pub below_wide : (n w : ℕ) → n < 2 ^ 64 → 64 ≤ w → n < 2 ^ w
 below_wide n w small wide = let p : 2 ^ 64 ≤ 2 ^ w = pow_mono wide in omega (arith, p)

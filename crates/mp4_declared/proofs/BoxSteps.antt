@@ -1,5 +1,5 @@
 -- The widths of a version, and zeros in fields.
-use Rattle.std.proofs.Common.{◌≡◌, ℕ, zero, suc, ◌+◌, ◌-◌, ◌*◌, ◌/◌, ◌<◌, ◌≤◌, ◌^◌, true, List, [], ◌∷◌, length, map, get_or, slice_index, Ok, refl, sym, ap, subst, ◌∙◌, max, arith, lit<}
+use Rattle.std.proofs.Common.{◌≡◌, ℕ, zero, suc, ◌+◌, ◌-◌, ◌<◌, ◌≤◌, ◌^◌, true, List, [], ◌∷◌, length, map, get_or, slice_index, Ok, refl, sym, ap, subst, ◌∙◌, arith, lit<}
 use Rattle.std.specs.List.{All}
 use Rattle.std.proofs.Math.ListN.{replicate}
 use Rattle.std.proofs.Math.Pow.{pow_mono}
@@ -8,7 +8,7 @@ use Rattle.mp4_frame.specs.Reading.{Reading, ◌>>=◌, Refuses, done, memory, e
 use Rattle.mp4_frame.specs.declared.error.Error.{Error}
 use Rattle.mp4_frame.proofs.Decided.{first_faults, faults_after}
 use Rattle.mp4_tables.specs.Rows.{rows_within}
-use Rattle.mp4_declared.specs.Bits.{bits, bytes_in, split, are_fields, NumbersFit}
+use Rattle.mp4_declared.specs.Bits.{bytes_in, split, are_fields, NumbersFit}
 use Rattle.mp4_declared.specs.BitsLaws.{and_first, and_second, fields_few}
 use Rattle.mp4_declared.specs.Layout.{EntryLayout, entry_of, FitsEntry}
 use Rattle.mp4_declared.specs.BoxLayout.{Parts, BoxLayout, WritableParts, size_of_parts, widths_of, widest, reads_fields}

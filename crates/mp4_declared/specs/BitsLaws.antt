@@ -1,10 +1,9 @@
 -- Numbers that were joined are split again, and bytes of a number are numbers of its bits.
-use Rattle.std.proofs.Common.{◌≡◌, ℕ, zero, suc, ◌+◌, ◌-◌, ◌*◌, ◌/◌, ◌%◌, ◌^◌, ◌<◌, ◌≤◌, Bool, true, false, ◌&&◌, List, [], ◌∷◌, ◌++◌, length, get_or, take, drop, slice_index, refl, sym, ap, ◌∙◌, arith}
-use Rattle.std.proofs.lemmas.Nat.{pow-add, mod-pow-add, div-mul-add, mod-mul-add, div-add-mod'}
-use Rattle.std.proofs.Math.Nat.{div-div-eq-div-mul, mod-lt, mul-add-mod_self_right, mul-add-div_right, mul_assoc, mul_comm, add-mul, zero-div, div-one, mod-eq_of_lt, mul-le-mul_right}
+use Rattle.std.proofs.Common.{◌≡◌, ℕ, zero, suc, ◌+◌, ◌-◌, ◌*◌, ◌/◌, ◌%◌, ◌^◌, ◌<◌, ◌≤◌, Bool, true, false, ◌&&◌, List, [], ◌∷◌, ◌++◌, length, slice_index, refl, sym, ap, ◌∙◌, arith}
+use Rattle.std.proofs.lemmas.Nat.{pow-add, mod-pow-add, div-mul-add, mod-mul-add}
+use Rattle.std.proofs.Math.Nat.{div-div-eq-div-mul, mod-lt, mul-add-mod_self_right, mul-add-div_right, mul_assoc, mul_comm, add-mul, div-one, mod-eq_of_lt, mul-le-mul_right}
 use Rattle.std.proofs.Math.Pow.{pow_pos}
 use Rattle.std.proofs.lemmas.Bool.{eqb-true, leb-true, ltb-true}
-use Rattle.std.proofs.lemmas.List.{append_assoc}
 use Rattle.std.specs.Int.{byte_at}
 use Rattle.byteorder.specs.Endian.{big_from, big_bytes}
 use Rattle.mp4_frame.specs.Bytes.{number, be_bytes}

@@ -1,10 +1,8 @@
 -- The laws of a full box that is declared follow from a few facts about its layout.
-use Rattle.std.proofs.Common.{◌≡◌, ℕ, zero, suc, ◌+◌, ◌-◌, ◌*◌, ◌<◌, ◌≤◌, ◌^◌, Bool, true, false, ◌&&◌, eqb, ltb, List, [], ◌∷◌, ◌++◌, length, get_or, slice_index, Ok, refl, sym, ap, subst, ◌∙◌, append_assoc, arith, lit<, length-append}
-use Rattle.std.specs.List.{flat_map, All, AllByRecursion}
+use Rattle.std.proofs.Common.{◌≡◌, ℕ, zero, suc, ◌+◌, ◌-◌, ◌*◌, ◌<◌, ◌≤◌, ◌^◌, Bool, true, false, ◌&&◌, ltb, List, [], ◌∷◌, ◌++◌, length, slice_index, Ok, refl, sym, ap, subst, ◌∙◌, append_assoc, arith, length-append}
+use Rattle.std.specs.List.{flat_map, AllByRecursion}
 use Rattle.std.proofs.lemmas.Bool.{lt-ltb, ltb-true}
-use Rattle.std.proofs.lemmas.List.{append-nil}
 use Rattle.std.proofs.lemmas.List.Elements.{recursion_from_All}
-use Rattle.std.specs.Prelude.{◌==◌}
 use Rattle.mp4_frame.specs.Bytes.{number, be_bytes, bytes_of_fields, full_box}
 use Rattle.mp4_frame.specs.BoxType.{is_disguised}
 use Rattle.mp4_frame.specs.declared.box_type.BoxType.TheVariants as names
@@ -13,15 +11,14 @@ use Rattle.mp4_frame.specs.Laws.{AreBytes}
 use Rattle.mp4_frame.specs.Reading.{Reading, ◌>>=◌, expect_bytes, check, done}
 use Rattle.mp4_frame.proofs.Checks.{expect_bytes_present, expect_bytes_ok, check_ok, is_value}
 use Rattle.mp4_frame.proofs.Fields.{found, numbers-fields, length-fields, length-be_bytes, number-be_bytes, number-below}
-use Rattle.mp4_frame.proofs.Framing.{header_in_front, own_normal_form, fits_read, Number, Fitting}
+use Rattle.mp4_frame.proofs.Framing.{header_in_front, own_normal_form}
 use Rattle.mp4_frame.proofs.Numbers.{number-after}
-use Rattle.mp4_frame.proofs.TableLaws.{IsEntry}
 use Rattle.mp4_frame.proofs.Tables.{length_flat, value_first}
-use Rattle.mp4_declared.specs.Bits.{bits, bytes_in, joined, split, NumbersFit, are_fields}
-use Rattle.mp4_declared.specs.BitsLaws.{pow256, joined-lt, split-joined, split-below, bits_in, fields_whole, and_first, and_second}
+use Rattle.mp4_declared.specs.Bits.{bytes_in, joined, split, NumbersFit, are_fields}
+use Rattle.mp4_declared.specs.BitsLaws.{split-joined, split-below, and_first, and_second}
 use Rattle.mp4_declared.specs.Layout.{EntryLayout, row_of, entry_of, FitsEntry}
 use Rattle.mp4_declared.specs.LayoutLaws.{IsEntryLayout, entry_laws, joined_small}
-use Rattle.mp4_declared.specs.BoxLayout.{Parts, BoxLayout, widths_of, count_at, reads_fields, reads_layout, size_of_parts, WritableParts, bytes_of_parts, format_layout}
+use Rattle.mp4_declared.specs.BoxLayout.{Parts, BoxLayout, widths_of, reads_fields, reads_layout, size_of_parts, WritableParts, bytes_of_parts, format_layout}
 use Rattle.mp4_declared.specs.Listed.{reads_entries}
 use Rattle.mp4_declared.specs.ListedLaws.{entries_back, entries_read}
 

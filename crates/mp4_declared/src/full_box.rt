@@ -109,8 +109,7 @@ impl<T: BoxLayout<N, M, E>, const N: usize, const M: usize, const E: usize> Full
 }
 
 impl<T: BoxLayout<N, M, E>, const N: usize, const M: usize, const E: usize> TryClone
-    for FullBox<T, N, M, E>
-{
+    for FullBox<T, N, M, E> {
     fn try_clone(&self) -> Result<Self> {
         let (_, _, _, entries) = self.fields.parts();
         let entries = entries.try_clone()?;
@@ -119,8 +118,7 @@ impl<T: BoxLayout<N, M, E>, const N: usize, const M: usize, const E: usize> TryC
 }
 
 impl<T: BoxLayout<N, M, E>, const N: usize, const M: usize, const E: usize> Mp4Box
-    for FullBox<T, N, M, E>
-{
+    for FullBox<T, N, M, E> {
     ghost format = { format_layout T.Entry.entry T.layout };
 
     fn box_type(&self) -> BoxType {
@@ -137,8 +135,7 @@ impl<T: BoxLayout<N, M, E>, const N: usize, const M: usize, const E: usize> Mp4B
 }
 
 impl<T: BoxLayout<N, M, E>, const N: usize, const M: usize, const E: usize> ReadBox
-    for FullBox<T, N, M, E>
-{
+    for FullBox<T, N, M, E> {
     ghost reads = { reads_layout T.Entry.entry T.layout };
 
     const LEAST: u64 = 0;
@@ -154,8 +151,7 @@ impl<T: BoxLayout<N, M, E>, const N: usize, const M: usize, const E: usize> Read
 }
 
 impl<T: BoxLayout<N, M, E>, const N: usize, const M: usize, const E: usize> WriteBox
-    for FullBox<T, N, M, E>
-{
+    for FullBox<T, N, M, E> {
     fn is_writable(&self) -> bool {
         let (version, flags, numbers, entries) = self.fields.parts();
         let all = T::widths();
@@ -192,7 +188,6 @@ impl<T: BoxLayout<N, M, E>, const N: usize, const M: usize, const E: usize> Writ
 }
 
 impl<T: BoxLayout<N, M, E>, const N: usize, const M: usize, const E: usize> BoxLaws
-    for FullBox<T, N, M, E>
-{
+    for FullBox<T, N, M, E> {
     ghost laws = { laws_layout T.Entry.entry T.layout T.Entry.entry_laws T.layout_laws };
 }

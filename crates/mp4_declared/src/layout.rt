@@ -37,7 +37,12 @@ pub trait BoxLayout<const N: usize, const M: usize, const E: usize>: Sized + Dro
         ensures { record { version = result.0; flags = result.1; numbers = result.2; entries = result.3.now } ≡ layout.parts self.now };
 
     /// The box of these parts.
-    fn from_parts(version: u8, flags: u32, numbers: &[u64; N], entries: Entries<Self::Entry>) -> Self
+    fn from_parts(
+        version: u8,
+        flags: u32,
+        numbers: &[u64; N],
+        entries: Entries<Self::Entry>,
+    ) -> Self
         requires { (k : ℕ) → slice_index numbers.now k < 2 ^ widest layout.widths k }
         ensures { result ≡ layout.value version flags (slice_index numbers.now) entries };
 

@@ -1,4 +1,4 @@
-use Rattle.std.proofs.Common.{◌<◌, ◌^◌, refl, arith}
+use Rattle.std.proofs.Common.{refl, arith}
 use Rattle.mp4_declared.proofs.BitSteps.{below_wide}
 use Rattle.mp4_declared.proofs.bits.fits.Goals as goal
 

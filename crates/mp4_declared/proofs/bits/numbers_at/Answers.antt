@@ -1,4 +1,4 @@
-use Rattle.std.proofs.Common.{◌<◌, ◌≤◌, length, arith}
+use Rattle.std.proofs.Common.{arith}
 use Rattle.mp4_declared.specs.BitsLaws.{fields_few}
 use Rattle.mp4_declared.proofs.BitSteps.{field_at, number_read, all_read}
 use Rattle.mp4_declared.proofs.bits.numbers_at.Goals as goal

@@ -1,4 +1,4 @@
-use Rattle.std.proofs.Common.{ℕ, ◌<◌, ◌≤◌, ◌^◌, length, slice_index, refl, arith, sym, ◌∙◌}
+use Rattle.std.proofs.Common.{ℕ, ◌<◌, ◌^◌, slice_index, refl, arith, sym, ◌∙◌}
 use borrow.Author.Count.{below_more}
 use Rattle.mp4_declared.specs.BitsLaws.{number_fits, all_fit}
 use Rattle.mp4_declared.proofs.bits.numbers_fit.Goals as goal

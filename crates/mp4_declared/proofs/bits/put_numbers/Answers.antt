@@ -1,4 +1,4 @@
-use Rattle.std.proofs.Common.{◌≡◌, ◌<◌, ◌≤◌, ◌+◌, ◌*◌, ◌^◌, ◌/◌, ◌%◌, length, slice_index, arith}
+use Rattle.std.proofs.Common.{arith}
 use Rattle.mp4_declared.proofs.BitSteps.{word_at, none_put, number_put, all_put}
 use Rattle.mp4_declared.proofs.bits.put_numbers.Goals as goal
 

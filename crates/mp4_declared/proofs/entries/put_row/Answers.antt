@@ -1,4 +1,4 @@
-use Rattle.std.proofs.Common.{◌≡◌, true, ◌+◌, ◌≤◌, length, rules, arith}
+use Rattle.std.proofs.Common.{◌≡◌, true, ◌+◌, ◌≤◌, length, rules}
 use Rattle.mp4_declared.specs.Bits.{are_fields, bytes_in, NumbersFit}
 use Rattle.mp4_declared.proofs.entries.put_row.Goals as goal
 

@@ -1,12 +1,12 @@
-use Rattle.std.proofs.Common.{rules, ◌≡◌, ℕ, true, ◌+◌, ◌-◌, ◌*◌, ◌<◌, ◌≤◌, ◌^◌, length, slice_index, refl, sym, ap, ◌∙◌, arith, []}
+use Rattle.std.proofs.Common.{rules, ◌≡◌, ℕ, true, ◌+◌, ◌-◌, ◌<◌, ◌≤◌, ◌^◌, length, slice_index, sym, ap, ◌∙◌, arith}
 use Rattle.std.proofs.lemmas.Result.{err_from_is_err_and}
 use Rattle.mp4_frame.specs.Bytes.{number}
 use Rattle.mp4_frame.proofs.Checks.{expect_bytes_room}
-use Rattle.mp4_declared.specs.Bits.{bytes_in, are_fields, NumbersFit}
-use Rattle.mp4_declared.specs.BitsLaws.{split-below, pow256}
-use Rattle.mp4_declared.specs.BoxLayout.{Parts, widths_of, widest}
+use Rattle.mp4_declared.specs.Bits.{bytes_in, are_fields}
+use Rattle.mp4_declared.specs.BitsLaws.{split-below}
+use Rattle.mp4_declared.specs.BoxLayout.{widths_of, widest}
 use Rattle.mp4_declared.specs.BoxLayoutLaws.{version_fields}
-use Rattle.mp4_declared.proofs.BoxSteps.{few_bytes, zeros, below_widest, rows_refused}
+use Rattle.mp4_declared.proofs.BoxSteps.{few_bytes, below_widest, rows_refused}
 use Rattle.mp4_declared.proofs.full_box.read_fields.Goals as goal
 
 pub bytes_in-count_at-requires : goal.bytes_in-count_at-requires
@@ -34,7 +34,7 @@ pub from_parts-requires : goal.from_parts-requires
 from_parts-requires g c =
     let few = c.requires.short.0 in
     let below : (k : ℕ) → slice_index c.numbers_at-numbers.result k < 2 ^ widest g.T.BoxLayout.layout.widths k =
-        λ k. below_widest g.T.BoxLayout.layout.widths (number c.args.bytes.now 8 1) k _ c.requires.known (rw (c.numbers_at-numbers.ensures, c.requires.is) (split-below (widths_of g.T.BoxLayout.layout.widths (number c.args.bytes.now 8 1)) _ k)) in
+    λ k. below_widest g.T.BoxLayout.layout.widths (number c.args.bytes.now 8 1) k _ c.requires.known (rw (c.numbers_at-numbers.ensures, c.requires.is) (split-below (widths_of g.T.BoxLayout.layout.widths (number c.args.bytes.now 8 1)) _ k)) in
     search rules
 
 pub returns-in_err-rows : goal.returns-in_err-rows

@@ -1,11 +1,7 @@
-use Rattle.std.proofs.Common.{rules, ◌≡◌, ℕ, true, ◌+◌, ◌*◌, ◌<◌, ◌≤◌, ◌^◌, length, slice_index, refl, sym, ap, ◌∙◌, arith, []}
+use Rattle.std.proofs.Common.{rules, ℕ, ◌<◌, ◌^◌, slice_index, ap, ◌∙◌, []}
 use Rattle.std.proofs.Math.Pow.{pow_pos}
-use Rattle.mp4_frame.specs.Bytes.{number}
-use Rattle.mp4_declared.specs.Bits.{bytes_in, are_fields, NumbersFit}
-use Rattle.mp4_declared.specs.BitsLaws.{split-below, pow256}
-use Rattle.mp4_declared.specs.BoxLayout.{Parts, widths_of, widest}
-use Rattle.mp4_declared.specs.BoxLayoutLaws.{version_fields}
-use Rattle.mp4_declared.proofs.BoxSteps.{few_bytes, zeros, version_at, writable_at, below_widest}
+use Rattle.mp4_declared.specs.BoxLayout.{widest}
+use Rattle.mp4_declared.proofs.BoxSteps.{zeros}
 use Rattle.mp4_declared.proofs.full_box.FullBox.default_in.Goals as goal
 
 pub from_parts-requires : goal.from_parts-requires

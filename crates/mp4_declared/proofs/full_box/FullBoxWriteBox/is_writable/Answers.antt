@@ -1,11 +1,8 @@
-use Rattle.std.proofs.Common.{rules, ◌≡◌, ℕ, true, ◌+◌, ◌*◌, ◌<◌, ◌≤◌, ◌^◌, length, slice_index, refl, sym, ap, ◌∙◌, arith, []}
-use Rattle.std.proofs.Math.Pow.{pow_pos}
-use Rattle.mp4_frame.specs.Bytes.{number}
-use Rattle.mp4_declared.specs.Bits.{bytes_in, are_fields, NumbersFit}
-use Rattle.mp4_declared.specs.BitsLaws.{split-below, pow256}
+use Rattle.std.proofs.Common.{◌≡◌, ◌*◌, ◌<◌, ◌^◌, length, sym, ap, ◌∙◌, arith}
+use Rattle.mp4_declared.specs.Bits.{NumbersFit}
+use Rattle.mp4_declared.specs.BitsLaws.{pow256}
 use Rattle.mp4_declared.specs.BoxLayout.{Parts, widths_of, size_of_parts}
-use Rattle.mp4_declared.specs.BoxLayoutLaws.{version_fields}
-use Rattle.mp4_declared.proofs.BoxSteps.{few_bytes, zeros, version_at, can_be_written, below_widest}
+use Rattle.mp4_declared.proofs.BoxSteps.{version_at, can_be_written}
 use Rattle.mp4_declared.proofs.full_box.FullBoxWriteBox.is_writable.Goals as goal
 
 pub returns-then-not-fits : goal.returns-then-not-fits
@@ -25,6 +22,7 @@ returns g c =
     let size : size_of_parts g.T.Entry.EntryLayout.entry l (l.parts c.args.self.now) < 2 ^ 32 = omega (arith, c.box_size.ensures, c.if-box_size.false) in
     let fit : NumbersFit (widths_of l.widths c.parts-version.result.0) c.parts-version.result.2 = rw (← here) (c.numbers_fit.ensures.0 c.if-not-numbers_fit.false) in
     let few : c.len.result < 2 ^ (8 * c.count_width.result) = c.fits.ensures.0 c.if-not-fits.false in
-    let count : length c.parts-version.result.3.now < 256 ^ l.count_width = rw (← c.len.ensures, pow256 l.count_width, ← c.count_width.ensures) few in
-    ((λ h. can_be_written g.T.Entry.EntryLayout.entry l _ _ same laws.coded known byte c.if-flags.false size fit count (rw (← c.as_slice.ensures) (c.entries_fit.ensures.0 h))),
-    (λ w. c.entries_fit.ensures.1 (rw (c.as_slice.ensures, ap (λ (q : Parts g.row.T-Entry.Denot). q.entries) same) w.each)))
+    let count : length c.parts-version.result.3.now < 256 ^ l.count_width = rw (← c.len.ensures, pow256 l.count_width, ← c.count_width.ensures) few in (
+      (λ h. can_be_written g.T.Entry.EntryLayout.entry l _ _ same laws.coded known byte c.if-flags.false size fit count (rw (← c.as_slice.ensures) (c.entries_fit.ensures.0 h))),
+      (λ w. c.entries_fit.ensures.1 (rw (c.as_slice.ensures, ap (λ (q : Parts g.row.T-Entry.Denot). q.entries) same) w.each)),
+    )

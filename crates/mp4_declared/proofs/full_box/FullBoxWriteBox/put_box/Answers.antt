@@ -1,11 +1,6 @@
-use Rattle.std.proofs.Common.{rules, ◌≡◌, ℕ, true, ◌+◌, ◌*◌, ◌<◌, ◌≤◌, ◌^◌, length, slice_index, refl, sym, ap, ◌∙◌, arith, []}
-use Rattle.std.proofs.Math.Pow.{pow_pos}
-use Rattle.mp4_frame.specs.Bytes.{number}
+use Rattle.std.proofs.Common.{rules, ◌≡◌, true, ◌+◌, ◌≤◌, length, ap, ◌∙◌, arith}
 use Rattle.mp4_declared.specs.Bits.{bytes_in, are_fields, NumbersFit}
-use Rattle.mp4_declared.specs.BitsLaws.{split-below, pow256}
-use Rattle.mp4_declared.specs.BoxLayout.{Parts, widths_of, widest}
-use Rattle.mp4_declared.specs.BoxLayoutLaws.{version_fields}
-use Rattle.mp4_declared.proofs.BoxSteps.{few_bytes, zeros, version_at, writable_at, below_widest}
+use Rattle.mp4_declared.proofs.BoxSteps.{writable_at}
 use Rattle.mp4_declared.proofs.full_box.FullBoxWriteBox.put_box.Goals as goal
 
 pub put_numbers-at-requires : goal.put_numbers-at-requires
