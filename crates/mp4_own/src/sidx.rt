@@ -1,6 +1,7 @@
 //! The segment index box.
 
 ghost use Rattle.std.proofs.Common.{refl, lit<};
+ghost use Rattle.std.specs.Prelude.{◌≡◌, ℕ, ◌<◌, ◌^◌, [], ◌∷◌, max, slice_index};
 ghost use Rattle.mp4_own.specs.Sidx.{entry_sidx, layout_sidx};
 ghost use Rattle.mp4_own.specs.SidxLaws.{laws_entry, laws_layout_sidx};
 
@@ -111,7 +112,10 @@ impl BoxLayout<5, 6, 12> for Sidx {
         (self.version, self.flags, numbers, &self.entries)
     }
 
-    fn from_parts(version: u8, flags: u32, n: &[u64; 5], entries: Entries<SidxEntry>) -> Sidx {
+    fn from_parts(version: u8, flags: u32, n: &[u64; 5], entries: Entries<SidxEntry>) -> Sidx
+        requires { (k : ℕ) → slice_index n.now k < 2 ^ max (slice_index (32 ∷ 32 ∷ 32 ∷ 32 ∷ 16 ∷ []) k) (max (slice_index (32 ∷ 32 ∷ 64 ∷ 64 ∷ 16 ∷ []) k) 0) }
+        ensures { result ≡ layout_sidx.value version flags (slice_index n.now) entries }
+    {
         Sidx {
             version,
             flags,
@@ -123,7 +127,9 @@ impl BoxLayout<5, 6, 12> for Sidx {
         }
     }
 
-    fn with_entries(&self, entries: Entries<SidxEntry>) -> Sidx {
+    fn with_entries(&self, entries: Entries<SidxEntry>) -> Sidx
+        ensures { entries ≡ self.now.entries → result ≡ self.now }
+    {
         Sidx { entries, ..*self }
     }
 
