@@ -15,14 +15,7 @@ use Rattle.mp4_own.specs.declared.sidx.SidxEntry.{SidxEntry}
 abbrev pub entry_sidx : EntryLayout SidxEntry
 entry_sidx = record {
   widths = 1 ∷ 31 ∷ 32 ∷ 1 ∷ 3 ∷ 28 ∷ [];
-  value = λ n. record {
-    reference_type = n 0 == 1;
-    referenced_size = n 1;
-    subsegment_duration = n 2;
-    starts_with_sap = n 3 == 1;
-    sap_type = n 4;
-    sap_delta_time = n 5;
-  };
+  value = λ n. record { reference_type = n 0 == 1; referenced_size = n 1; subsegment_duration = n 2; starts_with_sap = n 3 == 1; sap_type = n 4; sap_delta_time = n 5 };
   numbers = λ e. bit e.reference_type ∷ e.referenced_size ∷ e.subsegment_duration ∷ bit e.starts_with_sap ∷ e.sap_type ∷ e.sap_delta_time ∷ [];
 }
 
