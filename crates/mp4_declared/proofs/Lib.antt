@@ -1,1 +1,3 @@
 pub mod BitSteps
+pub mod EntrySteps
+pub mod BoxSteps

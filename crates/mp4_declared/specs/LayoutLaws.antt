@@ -27,7 +27,7 @@ pub record IsEntryLayout {X : Type 0} (l : EntryLayout X) (e : ℕ) : Type 0 whe
   pub back : (x : X) → l.value (slice_index (l.numbers x)) ≡ x
   pub fit : (n : ℕ → ℕ) → ((k : ℕ) → n k < 2 ^ slice_index l.widths k) → NumbersFit l.widths (l.numbers (l.value n))
 
-joined_small : (ws ns : List ℕ) → are_fields ws ≡ true → NumbersFit ws ns → joined ws ns < 256 ^ bytes_in ws
+pub joined_small : (ws ns : List ℕ) → are_fields ws ≡ true → NumbersFit ws ns → joined ws ns < 256 ^ bytes_in ws
 joined_small ws ns fields fit =
     let power : 256 ^ bytes_in ws ≡ 2 ^ bits ws = pow256 (bytes_in ws) ∙ ap (λ (k : ℕ). 2 ^ k) (bits_in ws (fields_whole ws fields)) in
     rw power (joined-lt ws ns fit)

@@ -6,6 +6,18 @@ ghost use Rattle.mp4_declared.specs.Bits.{bits, bytes_in, joined, split, Numbers
 
 use byteorder::{BigEndian, ByteOrder};
 
+/// How many bytes fields of these widths take.
+pub(crate) fn bytes_in<const N: usize>(widths: &[u8; N]) -> usize
+    requires { are_fields widths.now ≡ true }
+    ensures { result ≡ bytes_in widths.now }
+{
+    let mut total = 0;
+    for k in 0..N {
+        total += usize::from(widths[k]);
+    }
+    total / 8
+}
+
 /// The lowest `width` bits of a number.
 fn low_bits(n: u64, width: usize) -> u64
     requires { width ≤ 64 }
@@ -15,7 +27,7 @@ fn low_bits(n: u64, width: usize) -> u64
 }
 
 /// Whether a number fits `width` bits.
-fn fits(n: u64, width: usize) -> bool
+pub(crate) fn fits(n: u64, width: usize) -> bool
     ensures { IsTrue result ↔ (n < 2 ^ width) }
 {
     if width < 64 { n < 1 << width } else { true }
@@ -36,8 +48,18 @@ fn bits_at(bytes: &[u8], at: usize, from: usize, width: usize) -> u64
     low_bits(word >> (8 * count - end), width)
 }
 
+/// The number of `width` bytes at offset `at`.
+pub(crate) fn number_at(bytes: &[u8], at: usize, width: usize) -> u64
+    requires least { 1 ≤ width }
+    requires most { width ≤ 8 }
+    requires room { at + width ≤ length bytes.now }
+    ensures { result ≡ number bytes.now at width }
+{
+    BigEndian::read_uint(&bytes[at..], width)
+}
+
 /// Puts a number of `width` bytes, and returns the offset after it.
-fn put_number(out: &mut [u8], at: usize, n: u64, width: usize) -> usize
+pub(crate) fn put_number(out: &mut [u8], at: usize, n: u64, width: usize) -> usize
     requires short { width ≤ 8 }
     requires fits { n < 256 ^ width }
     requires room { at + width ≤ length out.old }

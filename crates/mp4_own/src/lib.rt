@@ -7,7 +7,7 @@ mod sidx;
 mod sidx_or_any;
 
 pub use segment::SegmentBox;
-pub use sidx::{SIDX, SidxBox, SidxEntry};
+pub use sidx::{SIDX, Sidx, SidxBox, SidxEntry};
 pub use sidx_or_any::SidxOrAny;
 
 #[cfg(test)]

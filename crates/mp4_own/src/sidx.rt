@@ -1,22 +1,15 @@
 //! The segment index box.
 
-ghost use Rattle.std.specs.Prelude.{◌≡◌, []};
-ghost use Rattle.mp4_stream.specs.Author.{write_laws};
-ghost use Rattle.mp4_own.specs.Sidx.{entry_sidx, reads_sidx, format_sidx};
-ghost use Rattle.mp4_own.specs.SidxLaws.{laws_entry, laws_sidx};
+ghost use Rattle.std.proofs.Common.{refl, lit<};
+ghost use Rattle.std.specs.Prelude.{◌≡◌, ℕ, ◌<◌, ◌^◌, [], ◌∷◌, max, slice_index};
+ghost use Rattle.mp4_own.specs.Sidx.{entry_sidx, layout_sidx};
+ghost use Rattle.mp4_own.specs.SidxLaws.{laws_entry, laws_layout_sidx};
 
-use mp4_stream::author::{
-    EntryLayout, entries_fit, entries_of, expect_bytes, put_full_box, put_rows, put_time, put_u16,
-    put_u32, put_zeros, read_rows, time_at, time_fits, u16_at, u24_at, u32_at, version_of_times,
-    width_of_time,
-};
-use mp4_stream::{BoxLaws, BoxType, Entries, Mp4Box, ReadBox, Result, TryClone, WriteBox};
-use std::alloc::Global;
+use mp4_stream::Entries;
+use mp4_stream::author::{BoxLayout, EntryLayout, FullBox};
 
 /// The code: `sidx`.
 pub const SIDX: u32 = 0x7369_6478;
-
-const TOO_MANY: &str = "sidx reference_count indicates more entries than could fit in the box";
 
 /// A reference of a segment index: to a part of the media, or to another index (ISO/IEC 14496-12, 8.16.3).
 #[derive(Clone, Copy, Debug, Default, PartialEq, Eq)]
@@ -68,10 +61,10 @@ impl EntryLayout<6, 12> for SidxEntry {
     ghost entry_laws = { laws_entry };
 }
 
-/// The segment index: where the parts of a segment's media are, and when they are presented (`sidx`, ISO/IEC 14496-12,
-/// 8.16.3).
+/// The fields of a segment index: where the parts of a segment's media are, and when they are presented (`sidx`,
+/// ISO/IEC 14496-12, 8.16.3).
 #[derive(Debug, Drop, PartialEq, Eq)]
-pub struct SidxBox {
+pub struct Sidx {
     /// 0, or 1 for a time and an offset of 64 bits.
     pub version: u8,
     /// 24 bits, 0 in the standard.
@@ -88,97 +81,64 @@ pub struct SidxBox {
     pub entries: Entries<SidxEntry>,
 }
 
-impl SidxBox {
-    /// Version 0, numbers of 0 and no entries. It takes no memory.
-    pub fn default_in(alloc: Global) -> SidxBox
-        ensures { result ≡ record { version = 0; flags = 0; reference_id = 0; timescale = 0; earliest_presentation_time = 0; first_offset = 0; entries = [] } }
+impl BoxLayout<5, 6, 12> for Sidx {
+    type Entry = SidxEntry;
+
+    ghost layout = { layout_sidx };
+
+    ghost CODE = { layout_sidx.code };
+
+    const CODE: u32 = SIDX;
+
+    const TOO_MANY: &'static str =
+        "sidx reference_count indicates more entries than could fit in the box";
+
+    fn count_width() -> usize {
+        2
+    }
+
+    fn widths() -> &'static [[u8; 5]] {
+        &[[32, 32, 32, 32, 16], [32, 32, 64, 64, 16]]
+    }
+
+    fn parts(&self) -> (u8, u32, [u64; 5], &Entries<SidxEntry>) {
+        let numbers = [
+            self.reference_id.into(),
+            self.timescale.into(),
+            self.earliest_presentation_time,
+            self.first_offset,
+            0,
+        ];
+        (self.version, self.flags, numbers, &self.entries)
+    }
+
+    fn from_parts(version: u8, flags: u32, n: &[u64; 5], entries: Entries<SidxEntry>) -> Sidx
+        requires { (k : ℕ) → slice_index n.now k < 2 ^ max (slice_index (32 ∷ 32 ∷ 32 ∷ 32 ∷ 16 ∷ []) k) (max (slice_index (32 ∷ 32 ∷ 64 ∷ 64 ∷ 16 ∷ []) k) 0) }
+        ensures { result ≡ layout_sidx.value version flags (slice_index n.now) entries }
     {
-        SidxBox {
-            version: 0,
-            flags: 0,
-            reference_id: 0,
-            timescale: 0,
-            earliest_presentation_time: 0,
-            first_offset: 0,
-            entries: Entries::new(alloc),
+        Sidx {
+            version,
+            flags,
+            reference_id: n[0] as u32,
+            timescale: n[1] as u32,
+            earliest_presentation_time: n[2],
+            first_offset: n[3],
+            entries,
         }
     }
-}
 
-impl TryClone for SidxBox {
-    fn try_clone(&self) -> Result<SidxBox> {
-        let entries = self.entries.try_clone()?;
-        Ok(SidxBox { entries, ..*self })
-    }
-}
-
-impl Mp4Box for SidxBox {
-    ghost format = { format_sidx };
-
-    fn box_type(&self) -> BoxType {
-        BoxType::UnknownBox(SIDX)
+    fn with_entries(&self, entries: Entries<SidxEntry>) -> Sidx
+        ensures { entries ≡ self.now.entries → result ≡ self.now }
+    {
+        Sidx { entries, ..*self }
     }
 
-    fn box_size(&self) -> u64 {
-        (self.entries.len() as u64)
-            .saturating_mul(12)
-            .saturating_add(24 + 2 * width_of_time(self.version) as u64)
-    }
+    ghost few = { (lit< tt, lit< tt) };
+
+    ghost coded = { refl };
+
+    ghost layout_laws = { laws_layout_sidx };
 }
 
-impl ReadBox for SidxBox {
-    ghost reads = { reads_sidx };
-
-    const LEAST: u64 = 0;
-
-    #[tactic(auto, unfolding(crate::specs::Sidx::reads_sidx, mp4_stream::specs::Author::reads_entries))]
-    fn read_content(alloc: Global, bytes: &[u8], _start: u64, size: u64) -> Result<SidxBox> {
-        let version = version_of_times(bytes)?;
-        let t = width_of_time(version);
-        expect_bytes(bytes, 12, 12 + 2 * t)?;
-        let count = u32::from(u16_at(bytes, 22 + 2 * t));
-        let rows = read_rows::<12>(bytes, size, 24 + 2 * t, count, TOO_MANY)?;
-        let entries: Vec<SidxEntry> = entries_of(alloc, rows)?;
-        Ok(SidxBox {
-            version,
-            flags: u24_at(bytes, 9),
-            reference_id: u32_at(bytes, 12),
-            timescale: u32_at(bytes, 16),
-            earliest_presentation_time: time_at(bytes, 20, version),
-            first_offset: time_at(bytes, 20 + t, version),
-            entries: entries.into(),
-        })
-    }
-}
-
-impl WriteBox for SidxBox {
-    fn is_writable(&self) -> bool {
-        // For the prover: a value that was read has the range of its type.
-        let (_reference_id, _timescale) = (self.reference_id, self.timescale);
-        self.version < 2
-            && self.flags < 1 << 24
-            && time_fits(self.version, self.earliest_presentation_time)
-            && time_fits(self.version, self.first_offset)
-            && self.entries.len() < 1 << 16
-            && entries_fit(self.entries.as_slice())
-    }
-
-    #[tactic(auto, unfolding(crate::specs::Sidx::bytes_sidx, mp4_stream::specs::Author::bytes_of_fields, mp4_stream::specs::Author::bytes_of_fields_onto))]
-    fn put_box(&self, out: &mut [u8]) {
-        let size = self.box_size() as u32;
-        let at = put_full_box(out, size, SIDX, self.version, self.flags);
-        let at = put_u32(out, at, self.reference_id);
-        let at = put_u32(out, at, self.timescale);
-        let at = put_time(out, at, self.version, self.earliest_presentation_time);
-        let at = put_time(out, at, self.version, self.first_offset);
-        let at = put_zeros(out, at, 2);
-        let at = put_u16(out, at, self.entries.len() as u16);
-        put_rows(out, at, self.entries.as_slice());
-    }
-
-    ghost write_laws = { write_laws laws_sidx };
-}
-
-impl BoxLaws for SidxBox {
-    ghost laws = { laws_sidx };
-}
+/// The segment index box.
+pub type SidxBox = FullBox<Sidx, 5, 6, 12>;

@@ -6,7 +6,7 @@ mod lists;
 mod sidx_or_any;
 mod vectors;
 
-use crate::{SidxBox, SidxEntry};
+use crate::{Sidx, SidxBox, SidxEntry};
 use mp4_stream::{ByteCursor, Error, ReadBox, Result as Made, WriteBox};
 use std::alloc::Global;
 
@@ -53,7 +53,7 @@ pub(crate) fn short(alloc: Global) -> Made<SidxBox> {
             sap_delta_time: 0x4b5_b6b7,
         },
     ];
-    Ok(SidxBox {
+    Ok(SidxBox::new(Sidx {
         version: 0,
         flags: 0x81_8283,
         reference_id: 0x8485_8687,
@@ -61,7 +61,7 @@ pub(crate) fn short(alloc: Global) -> Made<SidxBox> {
         earliest_presentation_time: 0x8c8d_8e8f,
         first_offset: 0x9091_9293,
         entries: Vec::from_slice(alloc, &entries)?.into(),
-    })
+    }))
 }
 
 /// The box of `LONG`.
@@ -92,7 +92,7 @@ pub(crate) fn long(alloc: Global) -> Made<SidxBox> {
             sap_delta_time: 0xcbd_bebf,
         },
     ];
-    Ok(SidxBox {
+    Ok(SidxBox::new(Sidx {
         version: 1,
         flags: 0x81_8283,
         reference_id: 0x8485_8687,
@@ -100,7 +100,7 @@ pub(crate) fn long(alloc: Global) -> Made<SidxBox> {
         earliest_presentation_time: 0x8c8d_8e8f_9091_9293,
         first_offset: 0x9495_9697_9899_9a9b,
         entries: Vec::from_slice(alloc, &entries)?.into(),
-    })
+    }))
 }
 
 /// Reads the box at the front of a buffer, after its header of 8 bytes, with this size.

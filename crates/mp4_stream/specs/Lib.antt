@@ -12,8 +12,6 @@ pub mod MemberLaws
 pub mod SoundLaws
 pub mod OwnOr
 pub mod OwnOrLaws
-pub mod Listed
-pub mod ListedLaws
 pub mod Boxes
 pub mod Author
 pub use Rattle.mp4_frame.specs.BoxType

@@ -5,6 +5,7 @@ ghost use Rattle.mp4_stream.specs.OwnOr.{HasCode, format_or, known_or, reading_o
 ghost use Rattle.mp4_stream.specs.OwnOrLaws.{written_or, own_name_or, read_back_or, sound_or, code_or};
 
 use crate::sound_stream::SoundStream;
+use mp4_declared::{BoxLayout, FullBox};
 use mp4_frame::{BoxLaws, BoxType, ByteCursor, Mp4Box, Result, StreamBox, TryClone, WriteBox};
 use std::alloc::Global;
 
@@ -18,6 +19,17 @@ pub trait CodedBox: BoxLaws + Drop {
 
     /// Each box has this code.
     ghost coded: { (v : Self) → HasCode CODE (Self.format.name v) };
+}
+
+/// A box that is declared.
+impl<T: BoxLayout<N, M, E>, const N: usize, const M: usize, const E: usize> CodedBox
+    for FullBox<T, N, M, E>
+{
+    ghost CODE = { T.CODE };
+
+    const CODE: u32 = T::CODE;
+
+    ghost coded = { λ _. (T.coded, T.layout_laws.own) };
 }
 
 /// A box of type `A`, or a box of `B`. In a list the boxes with the code of `A` are read as `A`, and all others as `B`.

@@ -51,7 +51,7 @@ fn a_count_of_one_more(rt: HostRuntime) -> Result<(), Fail> {
 /// An index of version 0 with one reference.
 fn index_of(alloc: Global, entry: SidxEntry) -> Made<SidxBox> {
     let mut sidx = SidxBox::default_in(alloc);
-    sidx.entries.push(entry)?;
+    sidx.fields.entries.push(entry)?;
     Ok(sidx)
 }
 
@@ -110,10 +110,10 @@ fn ending_of_change(alloc: Global, made: Made<SidxBox>, change: Change) -> &'sta
         return "out of memory";
     };
     match change {
-        Change::Version(version) => sidx.version = version,
-        Change::Flags(flags) => sidx.flags = flags,
-        Change::Time(time) => sidx.earliest_presentation_time = time,
-        Change::Offset(offset) => sidx.first_offset = offset,
+        Change::Version(version) => sidx.fields.version = version,
+        Change::Flags(flags) => sidx.fields.flags = flags,
+        Change::Time(time) => sidx.fields.earliest_presentation_time = time,
+        Change::Offset(offset) => sidx.fields.first_offset = offset,
     }
     ending_of_write(alloc, &sidx)
 }
@@ -172,9 +172,9 @@ fn more_references_than_can_be_counted(rt: HostRuntime) -> Result<(), Fail> {
     let mut sidx = SidxBox::default_in(alloc);
     let mut entries = Vec::new(alloc);
     entries.resize(65535, SidxEntry::default())?;
-    sidx.entries = entries.into();
+    sidx.fields.entries = entries.into();
     assert_eq!(rt; ending_of_write(alloc, &sidx), "ok");
-    sidx.entries.push(SidxEntry::default())?;
+    sidx.fields.entries.push(SidxEntry::default())?;
     assert_eq!(rt; ending_of_write(alloc, &sidx), UNFIT);
     Ok(())
 }

@@ -36,7 +36,7 @@ fn reading_ends_at_the_end_of_the_box(rt: HostRuntime) -> Result<(), Fail> {
     reader.set_position(8);
     let sidx = SidxBox::read_box(rt.alloc(), &mut reader, 68)?;
     assert_eq!(rt; reader.position(), 68);
-    assert_eq!(rt; sidx.entries.len(), 3);
+    assert_eq!(rt; sidx.fields.entries.len(), 3);
     Ok(())
 }
 
