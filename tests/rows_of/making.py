@@ -53,11 +53,6 @@ def too_many(name, count="entry_count", rows="entries"):
     return invalid(f"{name} {count} indicates more {rows} than could fit in the box")
 
 
-def no_room(name):
-    """The same of the table of this name."""
-    return too_many(name, "sample_count", "values") if name in ("stsz", "trun") else too_many(name)
-
-
 def cursor(buffer, at, expected):
     """Where the cursor is after reading the box whose header is at a position: after a value at the box's end, after a
     fault at the end of the header, and after a fault of the header where it was."""
@@ -88,16 +83,6 @@ def written_as(buffer, value, written):
 def round_trip(buffer, value):
     """A buffer of one box is read as the value, alone and as a list, and the list is written in the same bytes."""
     return written_as(buffer, value, buffer)
-
-
-def signed(number, bits):
-    """The number with a sign of which these are the bits."""
-    return number - (number >> bits - 1 << bits)
-
-
-def up(first, last):
-    """Bytes that count up from one to another."""
-    return bytes(range(first, last + 1))
 
 
 def u8(*numbers):
@@ -153,8 +138,3 @@ def changed(buffer, places):
     for place, byte in places.items():
         out[place] = byte
     return bytes(out)
-
-
-def filled(buffer, *places, byte=0xFF):
-    """The bytes with this byte from each of these places up to another."""
-    return changed(buffer, {at: byte for first, end in places for at in range(first, end)})

@@ -74,13 +74,3 @@ HDLR = full(b"hdlr", u32(0), b"vide", bytes(12), b"VideoHandler\0")
 EMSG = full(b"emsg", b"foo\0foo\0", u32(48000, 100, 200, 8), b"\1\2\3")
 EMSG_LONG = full(b"emsg", u32(48000), u64(50000), u32(200, 8), b"foo\0foo\0\3\2\1", version=1)
 TRUN = full(b"trun", u32(2, 100, 10, 20), flags=0x201)
-TRUN_VALUE = trun(0x201, 2, data_offset=100, sample_sizes=[10, 20])
-TRUN_TWO = full(b"trun", u32(2, 10, 0x01010000, 20, 0x02000000), flags=0x600)
-TRUN_TWO_VALUE = trun(0x600, 2, sample_sizes=[10, 20], sample_flags=[0x01010000, 0x02000000])
-TRUN_THREE = full(
-    b"trun", u32(2, 2**32 - 8, 0x02000000), u32(1024, 10, 512), u32(1025, 20, 2**32 - 1), flags=0xB05,
-)
-TRUN_THREE_VALUE = trun(
-    0xB05, 2, data_offset=-8, first_sample_flags=0x02000000, sample_durations=[1024, 1025], sample_sizes=[10, 20],
-    sample_cts=[512, 2**32 - 1],
-)

@@ -1,10 +1,7 @@
 """Boxes with their bytes, read and written, that are not in the tests of the Rust crate."""
 
 from rows_of.making import box, full, round_trip, u16, u32, u64, written_as
-from rows_of.values import (
-    DINF_URL, DREF_URL, TRUN, TRUN_THREE, TRUN_THREE_VALUE, TRUN_TWO, TRUN_TWO_VALUE, TRUN_VALUE, URL, dinf, dref, elst,
-    ftyp, full_box, trun, url,
-)
+from rows_of.values import DINF_URL, DREF_URL, TRUN, URL, dinf, dref, elst, ftyp, full_box, trun, url
 
 
 def ftyp_of_two_brands():
@@ -62,13 +59,16 @@ def tfhd_of_all_fields():
 
 
 def trun_of_one_list():
-    yield round_trip(TRUN, TRUN_VALUE)
+    yield round_trip(TRUN, trun(0x201, 2, data_offset=100, sample_sizes=[10, 20]))
     yield round_trip(full(b"trun", u32(1, 1024), flags=0x100), trun(0x100, 1, sample_durations=[1024]))
 
 
 def trun_of_more_lists():
-    yield round_trip(TRUN_TWO, TRUN_TWO_VALUE)
-    yield round_trip(TRUN_THREE, TRUN_THREE_VALUE)
+    given = full(b"trun", u32(2, 10, 0x01010000, 20, 0x02000000), flags=0x600)
+    yield round_trip(given, trun(0x600, 2, sample_sizes=[10, 20], sample_flags=[0x01010000, 0x02000000]))
+    given = full(b"trun", u32(2, 2**32 - 8, 0x02000000), u32(1024, 10, 512), u32(1025, 20, 2**32 - 1), flags=0xB05)
+    lists = {"sample_durations": [1024, 1025], "sample_sizes": [10, 20], "sample_cts": [512, 2**32 - 1]}
+    yield round_trip(given, trun(0xB05, 2, data_offset=-8, first_sample_flags=0x02000000, **lists))
 
 
 def trun_of_no_list():

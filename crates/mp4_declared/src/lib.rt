@@ -1,4 +1,4 @@
-//! Entries that are declared: the widths of their fields, from which their code and laws follow.
+//! Boxes and entries that are declared: the widths of their fields, from which their code and laws follow.
 #![tactic(auto)]
 
 mod bits;

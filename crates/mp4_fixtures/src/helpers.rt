@@ -2,9 +2,10 @@
 //! is, over the definitions. A check that fails returns what it found and what it expected, or the error of a call that
 //! was expected to succeed.
 
-ghost use Rattle.std.specs.Prelude.{◌≡◌, ◌-◌, ◌^◌, ◌≤◌, min, max, length, IfOk, OnOk, OnErr};
+ghost use Rattle.std.specs.Prelude.{◌≡◌, ℕ, ◌-◌, ◌^◌, ◌<◌, ◌≤◌, [], ◌∷◌, All, min, max, length, IfOk, OnOk, OnErr};
 ghost use Rattle.mp4_frame.specs.Reading.{Answers, reading};
-ghost use Rattle.mp4_fixtures.specs.Checks.{ReadsAs};
+ghost use Rattle.mp4_fixtures.specs.Checks.{EndsIn, ReadsAs, cut_reading};
+ghost use Rattle.mp4_fixtures.specs.declared.helpers.outcomes.Kind.TheVariants as kinds;
 
 mod mismatches;
 mod outcomes;
@@ -26,6 +27,22 @@ pub fn read<B: ReadBox + Drop>(alloc: Global, bytes: &[u8], size: u64) -> (Resul
     reader.set_position(8);
     let result = B::read_box(alloc, &mut reader, size);
     (result, reader.position())
+}
+
+/// Expects a result of this kind from reading a box of this size. After an `Ok` the cursor is at the end of the box,
+/// and after an error it is where it was.
+pub fn expect_kind<B: ReadBox + Drop>(
+    alloc: Global,
+    bytes: &[u8],
+    size: u64,
+    expected: Kind,
+) -> Result<(), Mismatch>
+    ensures ending { OnOk result (EndsIn expected (reading B.reads bytes.now 0 size)) }
+    ensures cursor { OnOk result (expected ≡ kinds.Ok → B.LEAST ≤ size) }
+{
+    let (result, position) = read::<B>(alloc, bytes, size);
+    expect_ending(kind_of(&result), expected, size)?;
+    expect_position(position, if expected == Kind::Ok { size } else { 8 })
 }
 
 /// Expects that a box of this size is read as the value, and that the cursor is then at the end of the box.
@@ -123,4 +140,62 @@ pub fn expect_unwritable_of_size<B: WriteBox>(
 {
     expect_length(value.box_size(), size)?;
     expect_unwritable(alloc, value)
+}
+
+/// Cuts the bytes of a box at every length. Expects end of input where fewer than `needed` bytes are left, and the box
+/// where `needed` or more are left.
+pub fn expect_end_at_cuts_below<B: BoxLaws + PartialEq + Drop>(
+    alloc: Global,
+    value: &B,
+    needed: usize,
+) -> Result<(), Mismatch>
+    ensures writable { OnOk result (B.format.Writable value.now) }
+    ensures ends { OnOk result ((n : ℕ) → n < needed → n < length (B.format.bytes value.now) → EndsIn kinds.End (cut_reading B.reads (B.format.bytes value.now) n)) }
+    ensures values { OnOk result ((n : ℕ) → needed ≤ n → n < length (B.format.bytes value.now) → ReadsAs B.eq (cut_reading B.reads (B.format.bytes value.now) n) value.now) }
+{
+    let mut out = Vec::new(alloc);
+    let size = value.write_box(&mut out)?;
+    for length in 0..out.len() {
+        let bytes = &out[..length];
+        if length < needed {
+            expect_kind::<B>(alloc, bytes, size, Kind::End)?;
+        } else {
+            expect_value(alloc, value, bytes, size)?;
+        }
+    }
+    Ok(())
+}
+
+/// Expects that the bytes of a box are read as the box with any size: 0, 7, its own, and the largest.
+pub fn expect_value_at_any_size<B: BoxLaws + PartialEq + Drop>(
+    alloc: Global,
+    value: &B,
+) -> Result<(), Mismatch>
+    ensures writable { OnOk result (B.format.Writable value.now) }
+    ensures values { OnOk result (All (λ size. ReadsAs B.eq (reading B.reads (B.format.bytes value.now) 0 size) value.now) (0 ∷ 7 ∷ length (B.format.bytes value.now) ∷ (2 ^ 64 - 1) ∷ [])) }
+{
+    let mut out = Vec::new(alloc);
+    let own = value.write_box(&mut out)?;
+    for size in [0, 7, own, u64::MAX] {
+        expect_value(alloc, value, &out, size)?;
+    }
+    Ok(())
+}
+
+/// Expects that the bytes of a box are invalid data with a size of 0 or 7, and are read as the box with the largest
+/// size.
+pub fn expect_invalid_at_small_sizes<B: BoxLaws + PartialEq + Drop>(
+    alloc: Global,
+    value: &B,
+) -> Result<(), Mismatch>
+    ensures writable { OnOk result (B.format.Writable value.now) }
+    ensures invalid { OnOk result (All (λ size. EndsIn kinds.Invalid (reading B.reads (B.format.bytes value.now) 0 size)) (0 ∷ 7 ∷ [])) }
+    ensures value { OnOk result (ReadsAs B.eq (reading B.reads (B.format.bytes value.now) 0 (2 ^ 64 - 1)) value.now) }
+{
+    let mut out = Vec::new(alloc);
+    value.write_box(&mut out)?;
+    for size in [0, 7] {
+        expect_kind::<B>(alloc, &out, size, Kind::Invalid)?;
+    }
+    expect_value(alloc, value, &out, u64::MAX)
 }

@@ -2,7 +2,8 @@
 //! is handed on here, in a function that is proved once, and not in each test.
 
 use crate::helpers::{
-    Mismatch, expect_round_trip, expect_unwritable, expect_unwritable_of_size, expect_value,
+    Mismatch, expect_end_at_cuts_below, expect_invalid_at_small_sizes, expect_round_trip,
+    expect_unwritable, expect_unwritable_of_size, expect_value, expect_value_at_any_size,
     expect_written,
 };
 use mp4_stream::{BoxLaws, Result as Made, TryClone, WriteBox};
@@ -47,8 +48,8 @@ pub fn cloned<B: TryClone + PartialEq + Drop>(made: Made<B>) -> Result<(), Misma
     clone_of(&made?)
 }
 
-/// Expects that a clone of a box is equal to it.
-fn clone_of<B: TryClone + PartialEq + Drop>(original: &B) -> Result<(), Mismatch> {
+/// Expects that a clone of a box is equal to it, where its making takes no memory.
+pub fn clone_of<B: TryClone + PartialEq + Drop>(original: &B) -> Result<(), Mismatch> {
     if original.try_clone()? == *original {
         Ok(())
     } else {
@@ -63,4 +64,30 @@ pub fn unwritable_of_size<B: WriteBox + Drop>(
     size: u64,
 ) -> Result<(), Mismatch> {
     expect_unwritable_of_size(alloc, &made?, size)
+}
+
+/// Cuts the bytes of the box at every length. Expects end of input where fewer than `needed` bytes are left, and the box
+/// where `needed` or more are left.
+pub fn end_at_cuts_below<B: BoxLaws + PartialEq + Drop>(
+    alloc: Global,
+    made: Made<B>,
+    needed: usize,
+) -> Result<(), Mismatch> {
+    expect_end_at_cuts_below(alloc, &made?, needed)
+}
+
+/// Expects that the bytes of the box are read as the box with any size: 0, 7, its own, and the largest.
+pub fn value_at_any_size<B: BoxLaws + PartialEq + Drop>(
+    alloc: Global,
+    made: Made<B>,
+) -> Result<(), Mismatch> {
+    expect_value_at_any_size(alloc, &made?)
+}
+
+/// Expects that the bytes of the box are invalid data with a size of 0 or 7, and are read as the box with the largest size.
+pub fn invalid_at_small_sizes<B: BoxLaws + PartialEq + Drop>(
+    alloc: Global,
+    made: Made<B>,
+) -> Result<(), Mismatch> {
+    expect_invalid_at_small_sizes(alloc, &made?)
 }

@@ -23,8 +23,7 @@ pub trait CodedBox: BoxLaws + Drop {
 
 /// A box that is declared.
 impl<T: BoxLayout<N, M, E>, const N: usize, const M: usize, const E: usize> CodedBox
-    for FullBox<T, N, M, E>
-{
+    for FullBox<T, N, M, E> {
     ghost CODE = { T.CODE };
 
     const CODE: u32 = T::CODE;

@@ -2,19 +2,13 @@
 
 mod chunks;
 mod clones;
-mod codes;
 mod configurations;
-mod constructors;
-mod defaults;
 mod descriptions;
 mod entries;
-mod equality;
 mod fixed_points;
 mod invalid_texts;
-mod languages;
 mod media_tables;
 mod metadata;
-mod ported;
 mod printed;
 mod sample_entries;
 mod samples;
@@ -24,24 +18,8 @@ mod unwritable;
 mod worked;
 
 use mp4_fixtures::boxes::tables::list;
-use mp4_fixtures::helpers::Mismatch;
-use mp4_stream::{Entries, Error, TrunBox, WriteBox};
+use mp4_stream::{Entries, Error, TrunBox};
 use std::alloc::Global;
-
-/// Expects that the box is written in these bytes.
-fn expect_bytes<B: WriteBox + Drop>(
-    alloc: Global,
-    made: Result<B, Error>,
-    bytes: &[u8],
-) -> Result<(), Mismatch> {
-    let mut out = Vec::new(alloc);
-    made?.write_box(&mut out)?;
-    if out.as_slice() == bytes {
-        Ok(())
-    } else {
-        Err(Mismatch::OtherBytes)
-    }
-}
 
 /// A `trun` of this count, with two lists of as many numbers from 0 on.
 fn trun_of_numbers(alloc: Global, sample_count: u32, length: u32) -> Result<TrunBox, Error> {

@@ -127,6 +127,34 @@ pub fn tkhd_long() -> TkhdBox {
     }
 }
 
+/// `tkhd`, version 0: a track header whose fields all have different values.
+pub fn tkhd_full() -> TkhdBox {
+    TkhdBox {
+        version: 0,
+        flags: 7,
+        creation_time: 0x0102_0304,
+        modification_time: 0x0506_0708,
+        track_id: 0x090a_0b0c,
+        duration: 0x0d0e_0f10,
+        layer: 0x1112,
+        alternate_group: 0x1314,
+        volume: FixedPointU8::new_raw(0x1516),
+        matrix: Matrix {
+            a: 1,
+            b: -1,
+            u: 2,
+            c: -2,
+            d: 3,
+            v: -3,
+            x: 0x7fff_ffff,
+            y: -0x8000_0000,
+            w: 4,
+        },
+        width: FixedPointU16::new_raw(0x1718_1920),
+        height: FixedPointU16::new_raw(0x2122_2324),
+    }
+}
+
 /// The media header of a track in this language, with times of 32 bits.
 fn mdhd_in(alloc: Global, language: &str) -> Result<MdhdBox> {
     Ok(MdhdBox {

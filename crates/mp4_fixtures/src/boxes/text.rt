@@ -36,6 +36,9 @@ pub const DINF: [u8; 36] = *b"\0\0\0$dinf\0\0\0\x1cdref\0\0\0\0\0\0\0\x01\0\0\0\
 pub const EMSG_LONG: [u8; 43] =
     *b"\0\0\0\x2bemsg\x01\0\0\0\0\0\xbb\x80\0\0\0\0\0\0\xc3\x50\0\0\0\xc8\0\0\0\x08foo\0foo\0\x03\x02\x01";
 
+/// `dref`, version 0: the location `a`.
+pub const DREF_URL: [u8; 30] = *b"\0\0\0\x1edref\0\0\0\0\0\0\0\x01\0\0\0\x0eurl \0\0\0\0a\0";
+
 /// `dinf`: the location `a`.
 pub const DINF_URL: [u8; 38] =
     *b"\0\0\0\x26dinf\0\0\0\x1edref\0\0\0\0\0\0\0\x01\0\0\0\x0eurl \0\0\0\0a\0";
@@ -134,4 +137,9 @@ pub fn dref(alloc: Global) -> DrefBox {
 /// `dinf`: data information that says that the data is in the same file.
 pub fn dinf(alloc: Global) -> DinfBox {
     DinfBox::default_in(alloc)
+}
+
+/// `dinf`: data information with the location `a`.
+pub fn dinf_url(alloc: Global) -> Result<DinfBox> {
+    Ok(DinfBox::new(dref_url(alloc)?))
 }

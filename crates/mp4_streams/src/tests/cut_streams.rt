@@ -41,39 +41,35 @@ fn keep_stream(alloc: Global, bytes: &[u8]) -> (Kind, usize, u64) {
     (kind, count, reader.position())
 }
 
-/// A call that goes over the boxes of a buffer.
-#[derive(Clone, Copy, Debug)]
-enum Call {
-    Read,
-    Keep,
-    List,
-}
-
-/// What the call finds in a buffer. Returns the same as `expected_of`.
-fn found_by(call: Call, alloc: Global, bytes: &[u8]) -> (Kind, usize, u64) {
-    match call {
-        Call::Read => read_stream(alloc, bytes),
-        Call::Keep => keep_stream(alloc, bytes),
-        Call::List => list_from(alloc, bytes, 0),
-    }
-}
-
-/// The first cut of the stream at which the call finds something else than expected.
-fn wrong_cut(call: Call, alloc: Global) -> Result<Option<usize>, Error> {
-    let (stream, counts) = all_cuts(alloc)?;
+#[test]
+fn boxes_before_a_cut_are_read(rt: HostRuntime) -> Result<(), Fail> {
+    let (stream, counts) = all_cuts(rt.alloc())?;
     for (cut, count) in counts.iter().enumerate() {
         let bytes = stream.get(..cut).unwrap_or(&[]);
-        if found_by(call, alloc, bytes) != expected_of(cut, *count) {
-            return Ok(Some(cut));
-        }
+        let found = read_stream(rt.alloc(), bytes);
+        assert_eq!(rt; found, expected_of(cut, *count), "{cut}");
     }
-    Ok(None)
+    Ok(())
 }
 
 #[test]
-fn boxes_before_a_cut_are_found(rt: HostRuntime) -> Result<(), Fail> {
-    for call in [Call::Read, Call::Keep, Call::List] {
-        assert_eq!(rt; wrong_cut(call, rt.alloc())?, None, "{call:?}");
+fn boxes_before_a_cut_are_kept(rt: HostRuntime) -> Result<(), Fail> {
+    let (stream, counts) = all_cuts(rt.alloc())?;
+    for (cut, count) in counts.iter().enumerate() {
+        let bytes = stream.get(..cut).unwrap_or(&[]);
+        let found = keep_stream(rt.alloc(), bytes);
+        assert_eq!(rt; found, expected_of(cut, *count), "{cut}");
+    }
+    Ok(())
+}
+
+#[test]
+fn boxes_before_a_cut_are_listed(rt: HostRuntime) -> Result<(), Fail> {
+    let (stream, counts) = all_cuts(rt.alloc())?;
+    for (cut, count) in counts.iter().enumerate() {
+        let bytes = stream.get(..cut).unwrap_or(&[]);
+        let found = list_from(rt.alloc(), bytes, 0);
+        assert_eq!(rt; found, expected_of(cut, *count), "{cut}");
     }
     Ok(())
 }

@@ -2,7 +2,6 @@
 
 use mp4_examples::audio::aac_config;
 use mp4_examples::chunks::append_short;
-use mp4_examples::defaults::{default_extent, default_video};
 use mp4_examples::numbers::aac_config_again;
 use mp4_examples::references::append_reference;
 use mp4_examples::sound::{audio_configuration, read_small_esds};
@@ -11,15 +10,9 @@ use mp4_fixtures::boxes::sound::{ESDS, STSD, esds, specific};
 use mp4_fixtures::boxes::tables::list;
 use mp4_fixtures::boxes::text::DINF_URL;
 use mp4_fixtures::helpers::{Kind, invalid_text, kind_of};
-use mp4_stream::{AacConfig, ByteCursor, Co64Box, Error, MehdBox, StcoBox, VmhdBox};
+use mp4_stream::{AacConfig, ByteCursor, Co64Box, Error, StcoBox};
 use std::alloc::Global;
 use std::test::Fail;
-
-#[test]
-fn defaults_are_made(rt: HostRuntime) {
-    assert!(rt; default_extent() == MehdBox::default());
-    assert!(rt; default_video() == VmhdBox::default());
-}
 
 #[test]
 fn decode_times(rt: HostRuntime) -> Result<(), Fail> {

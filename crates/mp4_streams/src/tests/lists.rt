@@ -1,10 +1,10 @@
 //! Where the boxes of a buffer are.
 
-use super::streams::{THREE, read_stream, stream_of_vectors};
+use super::streams::THREE;
 use linked_list_allocator::LocalHeap;
 use mp4_fixtures::helpers::{Kind, kind_of};
 use mp4_fixtures::vectors::VECTORS;
-use mp4_stream::{BoxSpan, BoxType, ByteCursor, Error, Mp4Box, list_boxes};
+use mp4_stream::{BoxSpan, BoxType, ByteCursor, Error, Mp4Box, list_boxes, read_boxes};
 use std::alloc::{Allocator, Global};
 use std::test::Fail;
 
@@ -42,6 +42,7 @@ fn boxes_that_are_skipped_are_listed_too(rt: HostRuntime) -> Result<(), Fail> {
     ];
     let found = places(rt.alloc(), &THREE)?;
     assert_eq!(rt; found.as_slice(), expected.as_slice());
+    assert_eq!(rt; list_from(rt.alloc(), &THREE, 0), (Kind::Ok, 3, 52));
     Ok(())
 }
 
@@ -51,21 +52,12 @@ fn listing_begins_at_the_cursor(rt: HostRuntime) -> Result<(), Fail> {
     reader.set_position(24);
     let found = list_boxes(rt.alloc(), &mut reader)?;
     assert_eq!(rt; found.first(), Some(&span(24, 8, BoxType::FreeBox)));
+    assert_eq!(rt; reader.position(), 52);
+    assert_eq!(rt; list_from(rt.alloc(), &THREE, 24), (Kind::Ok, 2, 52));
+    assert_eq!(rt; list_from(rt.alloc(), &THREE, 52), (Kind::Ok, 0, 52));
+    assert_eq!(rt; list_from(rt.alloc(), &THREE, 99), (Kind::Ok, 0, 99));
+    assert_eq!(rt; list_from(rt.alloc(), &THREE, 25), (Kind::End, 0, 25));
     Ok(())
-}
-
-#[test]
-fn listing_moves_the_cursor_to_the_end(rt: HostRuntime) {
-    for (position, expected) in [
-        (0, (Kind::Ok, 3, 52)),
-        (24, (Kind::Ok, 2, 52)),
-        (52, (Kind::Ok, 0, 52)),
-        (99, (Kind::Ok, 0, 99)),
-        (25, (Kind::End, 0, 25)),
-    ] {
-        let found = list_from(rt.alloc(), &THREE, position);
-        assert_eq!(rt; found, expected, "{position}");
-    }
 }
 
 #[test]
@@ -94,118 +86,119 @@ fn a_size_of_zero_is_listed_to_the_end(rt: HostRuntime) -> Result<(), Fail> {
     Ok(())
 }
 
-/// The last two have two faults, of which the first counts.
 #[test]
-fn headers_with_faults_are_not_listed(rt: HostRuntime) {
-    let faults: [(&[u8], Kind); 14] = [
-        (b"\0\0\0\x02free", Kind::Invalid),
-        (b"\0\0\0\x07free", Kind::Invalid),
-        (b"\0\0\0\x01free\0\0\0\0\0\0\0\x01", Kind::Invalid),
-        (b"\0\0\0\x01free\0\0\0\0\0\0\0\x0f", Kind::Invalid),
-        (
-            b"\0\0\0\x08free\0\0\0\x01free\xff\xff\xff\xff\xff\xff\xff\xff",
-            Kind::Invalid,
-        ),
-        (b"\0", Kind::End),
-        (b"\0\0\0\0\0\0\0", Kind::End),
-        (b"\0\0\0\x01free", Kind::End),
-        (b"\0\0\0\x01free\0\0\0\0\0\0\0", Kind::End),
-        (b"\0\0\0\x09free", Kind::End),
-        (b"\0\0\0\x08free\xff\xff\xff\xfffree", Kind::End),
-        (b"\0\0\0\x01free\xff\xff\xff\xff\xff\xff\xff\xff", Kind::End),
-        (b"\0\0\0\x08free\0\0\0\x02free\0\0\0\x09free", Kind::Invalid),
-        (b"\0\0\0\x08free\0\0\0\xfffree\0\0\0\x02free", Kind::End),
+fn invalid_sizes_are_not_listed(rt: HostRuntime) {
+    let invalid: [&[u8]; 5] = [
+        b"\0\0\0\x02free",
+        b"\0\0\0\x07free",
+        b"\0\0\0\x01free\0\0\0\0\0\0\0\x01",
+        b"\0\0\0\x01free\0\0\0\0\0\0\0\x0f",
+        b"\0\0\0\x08free\0\0\0\x01free\xff\xff\xff\xff\xff\xff\xff\xff",
     ];
-    for (bytes, kind) in faults {
-        let found = list_from(rt.alloc(), bytes, 0);
-        assert_eq!(rt; found, (kind, 0, 0), "{bytes:?}");
+    for bytes in invalid {
+        assert_eq!(rt;
+            list_from(rt.alloc(), bytes, 0),
+            (Kind::Invalid, 0, 0),
+            "{bytes:?}"
+        );
     }
 }
 
 #[test]
-fn a_box_that_is_listed_may_be_refused_when_it_is_read(rt: HostRuntime) {
-    let bytes = b"\0\0\0\x12ftyp\0\x01\x02\x03\x04\x05\x06\x07\x08\x09";
-    assert_eq!(rt; list_from(rt.alloc(), bytes, 0), (Kind::Ok, 1, 18));
-    assert_eq!(rt; read_stream(rt.alloc(), bytes), (Kind::Invalid, 0, 0));
-}
-
-/// The name of a box that is made by a call.
-fn name_of<B: Mp4Box + Drop>(made: Result<B, Error>) -> Result<BoxType, Error> {
-    Ok(made?.box_type())
-}
-
-/// The place of the box of each vector in the stream of all.
-fn places_of_vectors(alloc: Global) -> Result<Vec<BoxSpan>, Error> {
-    let mut spans = Vec::new(alloc);
-    let mut position = 0u64;
-    for vector in VECTORS {
-        let length = vector.bytes().len() as u64;
-        spans.push(span(position, length, name_of(vector.make(alloc))?))?;
-        position = position.saturating_add(length);
+fn boxes_that_are_cut_are_not_listed(rt: HostRuntime) {
+    let short: [&[u8]; 7] = [
+        b"\0",
+        b"\0\0\0\0\0\0\0",
+        b"\0\0\0\x01free",
+        b"\0\0\0\x01free\0\0\0\0\0\0\0",
+        b"\0\0\0\x09free",
+        b"\0\0\0\x08free\xff\xff\xff\xfffree",
+        b"\0\0\0\x01free\xff\xff\xff\xff\xff\xff\xff\xff",
+    ];
+    for bytes in short {
+        assert_eq!(rt;
+            list_from(rt.alloc(), bytes, 0),
+            (Kind::End, 0, 0),
+            "{bytes:?}"
+        );
     }
-    Ok(spans)
+}
+
+#[test]
+fn the_first_fault_is_that_of_the_first_bad_box(rt: HostRuntime) {
+    let size_then_cut = b"\0\0\0\x08free\0\0\0\x02free\0\0\0\x09free";
+    assert_eq!(rt;
+        list_from(rt.alloc(), size_then_cut, 0),
+        (Kind::Invalid, 0, 0)
+    );
+    let cut_then_size = b"\0\0\0\x08free\0\0\0\xfffree\0\0\0\x02free";
+    assert_eq!(rt; list_from(rt.alloc(), cut_then_size, 0), (Kind::End, 0, 0));
+}
+
+#[test]
+fn a_box_that_is_listed_may_be_refused_when_it_is_read(rt: HostRuntime) -> Result<(), Fail> {
+    let bytes = b"\0\0\0\x12ftyp\0\x01\x02\x03\x04\x05\x06\x07\x08\x09";
+    let expected = [span(0, 18, BoxType::FtypBox)];
+    assert_eq!(rt; places(rt.alloc(), bytes)?.as_slice(), expected.as_slice());
+    let read = read_boxes(rt.alloc(), &mut ByteCursor::new(bytes));
+    assert_eq!(rt; kind_of(&read), Kind::Invalid);
+    Ok(())
 }
 
 #[test]
 fn all_vectors_are_listed(rt: HostRuntime) -> Result<(), Fail> {
-    let found = places(rt.alloc(), &stream_of_vectors(rt.alloc())?)?;
-    assert!(rt; found == places_of_vectors(rt.alloc())?);
+    let mut stream = Vec::new(rt.alloc());
+    let mut expected = Vec::new(rt.alloc());
+    for vector in VECTORS {
+        let position = stream.len() as u64;
+        stream.extend_from_slice(vector.bytes())?;
+        let name = vector.make(rt.alloc())?.box_type();
+        expected.push(span(position, vector.bytes().len() as u64, name))?;
+    }
+    assert_eq!(rt; places(rt.alloc(), &stream)?, expected);
     Ok(())
 }
 
-/// Lists the boxes of a buffer from a position on, over a heap with no room. Returns the same as `list_from`, and how much
-/// of the heap is in use after the call.
-fn list_over_none(
-    alloc: Global,
-    bytes: &[u8],
-    position: u64,
-) -> Result<((Kind, usize, u64), usize), Error> {
-    let heap = LocalHeap::new(alloc, 32)?;
-    let found = list_from(&heap, bytes, position);
-    Ok((found, heap.used()))
-}
-
-/// The first box takes memory, also where a fault is after it. Before it none is asked for.
 #[test]
-fn memory_is_asked_for_at_the_first_box(rt: HostRuntime) -> Result<(), Fail> {
-    let cases: [(&[u8], u64, (Kind, usize, u64)); 7] = [
-        (b"\0\0\0\x08free", 0, (Kind::Memory, 0, 0)),
-        (b"\0\0\0\x08free\0\0\0\x02free", 0, (Kind::Memory, 0, 0)),
-        (b"", 0, (Kind::Ok, 0, 0)),
-        (b"\0\0\0\x08free", 8, (Kind::Ok, 0, 8)),
-        (b"\0\0\0\x02free", 0, (Kind::Invalid, 0, 0)),
-        (b"\0\0\0\x09free", 0, (Kind::End, 0, 0)),
-        (b"\0\0\0", 0, (Kind::End, 0, 0)),
-    ];
-    for (bytes, position, expected) in cases {
-        let found = list_over_none(rt.alloc(), bytes, position)?;
-        assert_eq!(rt; found, (expected, 0), "{bytes:?}");
-    }
+fn a_first_box_takes_memory(rt: HostRuntime) -> Result<(), Fail> {
+    let heap = LocalHeap::new(rt.alloc(), 32)?;
+    let alone = b"\0\0\0\x08free";
+    assert_eq!(rt; list_from(&heap, alone, 0), (Kind::Memory, 0, 0));
+    let before_a_fault = b"\0\0\0\x08free\0\0\0\x02free";
+    assert_eq!(rt; list_from(&heap, before_a_fault, 0), (Kind::Memory, 0, 0));
+    assert_eq!(rt; heap.used(), 0);
     Ok(())
 }
 
-/// Lists as many free boxes over a heap with room for a few. Returns the same as `list_over_none`.
-fn list_free_boxes(alloc: Global, count: usize) -> Result<((Kind, usize, u64), usize), Error> {
-    let mut stream = Vec::new(alloc);
-    for _ in 0..count {
-        stream.extend_from_slice(b"\0\0\0\x08free")?;
-    }
-    let heap = LocalHeap::new(alloc, 256)?;
-    let found = list_from(&heap, &stream, 0);
-    Ok((found, heap.used()))
+#[test]
+fn no_memory_is_asked_for_before_the_first_box(rt: HostRuntime) -> Result<(), Fail> {
+    let heap = LocalHeap::new(rt.alloc(), 32)?;
+    assert_eq!(rt; list_from(&heap, b"", 0), (Kind::Ok, 0, 0));
+    assert_eq!(rt; list_from(&heap, b"\0\0\0\x08free", 8), (Kind::Ok, 0, 8));
+    assert_eq!(rt;
+        list_from(&heap, b"\0\0\0\x02free", 0),
+        (Kind::Invalid, 0, 0)
+    );
+    assert_eq!(rt; list_from(&heap, b"\0\0\0\x09free", 0), (Kind::End, 0, 0));
+    assert_eq!(rt; list_from(&heap, b"\0\0\0", 0), (Kind::End, 0, 0));
+    Ok(())
 }
 
 #[test]
 fn a_list_that_is_out_of_memory_gives_its_memory_back(rt: HostRuntime) -> Result<(), Fail> {
-    for (boxes, expected) in [
-        (0, (Kind::Ok, 0, 0)),
-        (1, (Kind::Ok, 1, 8)),
-        (2, (Kind::Ok, 2, 16)),
-        (3, (Kind::Ok, 3, 24)),
-        (12, (Kind::Memory, 0, 0)),
-    ] {
-        let found = list_free_boxes(rt.alloc(), boxes)?;
-        assert_eq!(rt; found, (expected, 0), "{boxes}");
+    let heap = LocalHeap::new(rt.alloc(), 256)?;
+    let mut stream = Vec::new(rt.alloc());
+    for count in 0..4 {
+        assert_eq!(rt;
+            list_from(&heap, &stream, 0),
+            (Kind::Ok, count, stream.len() as u64)
+        );
+        stream.extend_from_slice(b"\0\0\0\x08free")?;
     }
+    for _ in 0..8 {
+        stream.extend_from_slice(b"\0\0\0\x08free")?;
+    }
+    assert_eq!(rt; list_from(&heap, &stream, 0), (Kind::Memory, 0, 0));
+    assert_eq!(rt; heap.used(), 0);
     Ok(())
 }

@@ -6,8 +6,8 @@ use mp4_examples::mark::MarkBox;
 use mp4_fixtures::helpers::{Kind, kind_of};
 use mp4_fixtures::vectors::{VECTORS, Vector};
 use mp4_stream::{
-    AnyBox, BoxHeader, BoxType, Error, MfhdBox, StreamBox, WriteBox, write_box_header_ext,
-    write_boxes, write_zeros,
+    AnyBox, BoxHeader, BoxType, Error, MfhdBox, WriteBox, write_box_header_ext, write_boxes,
+    write_zeros,
 };
 use std::alloc::Global;
 use std::test::Fail;
@@ -51,49 +51,25 @@ fn append<'a>(
     }
 }
 
-/// What an append does to the length of a vector.
-#[derive(Clone, Copy, Debug, PartialEq, Eq)]
-enum Growth {
-    /// An `Ok`, and the vector is longer.
-    Longer,
-    /// Out of memory, and the vector is as long as before.
-    Refused,
-    /// Anything else.
-    Wrong,
-}
-
-/// Appends to the vector by this call.
-fn growth_of<'a>(call: Call, out: &mut Vec<u8, &'a LocalHeap>) -> Growth {
-    let before = out.len();
-    match append(call, &MarkBox { mark: 1 }, out) {
-        Ok(_) if out.len() > before => Growth::Longer,
-        Err(Error::OutOfMemory) if out.len() == before => Growth::Refused,
-        _ => Growth::Wrong,
-    }
-}
-
-/// Appends by this call over a small heap, again and again. Returns how often it was wrong, whether it was refused, and
-/// the first byte, which is 9 before.
-fn append_often(call: Call, alloc: Global) -> Result<(usize, bool, Option<u8>), Error> {
-    let heap = LocalHeap::new(alloc, 256)?;
-    let mut out = Vec::from_slice(&heap, &[9])?;
-    let mut wrong = 0usize;
-    let mut is_refused = false;
-    for _ in 0..100 {
-        match growth_of(call, &mut out) {
-            Growth::Longer => {}
-            Growth::Refused => is_refused = true,
-            Growth::Wrong => wrong = wrong.saturating_add(1),
-        }
-    }
-    Ok((wrong, is_refused, out.first().copied()))
-}
-
 #[test]
 fn a_refused_append_leaves_the_vector(rt: HostRuntime) -> Result<(), Fail> {
     for call in CALLS {
-        let found = append_often(call, rt.alloc())?;
-        assert!(rt; found == (0, true, Some(9)), "{call:?}");
+        let heap = LocalHeap::new(rt.alloc(), 256)?;
+        let mut out = Vec::from_slice(&heap, &[9])?;
+        let mut is_refused = false;
+        for _ in 0..100 {
+            let before = out.len();
+            match append(call, &MarkBox { mark: 1 }, &mut out) {
+                Ok(_) => assert!(rt; out.len() > before, "{call:?}"),
+                Err(Error::OutOfMemory) => {
+                    is_refused = true;
+                    assert_eq!(rt; out.len(), before, "{call:?}");
+                }
+                Err(_) => assert!(rt; false, "{call:?}"),
+            }
+        }
+        assert!(rt; is_refused, "{call:?}");
+        assert_eq!(rt; out.first(), Some(&9), "{call:?}");
     }
     Ok(())
 }
@@ -147,65 +123,57 @@ fn a_write_takes_one_block(rt: HostRuntime) -> Result<(), Fail> {
     Ok(())
 }
 
-/// Writes what can't be written over a heap. Returns the kinds of the outcomes, and how much of the heap is in use.
-fn write_unwritable(alloc: Global) -> Result<([Kind; 4], usize), Error> {
-    let heap = LocalHeap::new(alloc, 64)?;
+#[test]
+fn an_unwritable_box_asks_for_no_memory(rt: HostRuntime) -> Result<(), Fail> {
+    let heap = LocalHeap::new(rt.alloc(), 64)?;
     let mut out = Vec::new(&heap);
-    let flags = kind_of(&write_box_header_ext(&mut out, 0, 1 << 24));
-    let header = kind_of(&BoxHeader::new(BoxType::FreeBox, u64::MAX).write(&mut out));
+    assert_eq!(rt;
+        kind_of(&write_box_header_ext(&mut out, 0, 1 << 24)),
+        Kind::Invalid
+    );
+    let header = BoxHeader::new(BoxType::FreeBox, u64::MAX);
+    assert_eq!(rt; kind_of(&header.write(&mut out)), Kind::Invalid);
     let flagged = MfhdBox {
         version: 0,
         flags: 1 << 24,
         sequence_number: 1,
     };
-    let one = kind_of(&flagged.write_box(&mut out));
-    let first = Vector::Ftyp.make(alloc);
-    let list = append_two(alloc, first, AnyBox::MfhdBox(flagged), &mut out)?;
-    Ok(([flags, header, one, list], heap.used()))
-}
-
-#[test]
-fn what_is_unwritable_asks_for_no_memory(rt: HostRuntime) -> Result<(), Fail> {
-    assert_eq!(rt; write_unwritable(rt.alloc())?, ([Kind::Invalid; 4], 0));
+    assert_eq!(rt; kind_of(&flagged.write_box(&mut out)), Kind::Invalid);
+    let (first, last) = (Vector::Ftyp.make(rt.alloc()), AnyBox::MfhdBox(flagged));
+    assert_eq!(rt;
+        append_two(rt.alloc(), first, last, &mut out)?,
+        Kind::Invalid
+    );
+    assert_eq!(rt; heap.used(), 0);
     Ok(())
 }
 
-/// Appends a box that is made by a call.
-fn push<B: Drop>(boxes: &mut Vec<B>, made: Result<B, Error>) -> Result<(), Error> {
-    boxes.push(made?)?;
-    Ok(())
+/// All vectors as a list, and their bytes.
+fn all_vectors(alloc: Global) -> Result<(Vec<AnyBox>, Vec<u8>), Error> {
+    let mut boxes = Vec::new(alloc);
+    let mut bytes = Vec::new(alloc);
+    for vector in VECTORS {
+        boxes.push(vector.make(alloc)?)?;
+        bytes.extend_from_slice(vector.bytes())?;
+    }
+    Ok((boxes, bytes))
 }
 
-/// Writes a list over a heap of this size. Returns the kind of the outcome, and how many bytes are written.
-fn write_list_over<B: StreamBox>(
-    alloc: Global,
-    boxes: &[B],
-    room: usize,
-) -> Result<(Kind, usize), Error> {
+/// Writes a list over a heap of this size.
+fn write_list_over(alloc: Global, boxes: &[AnyBox], room: usize) -> Result<(Kind, usize), Error> {
     let heap = LocalHeap::new(alloc, room)?;
     let mut out = Vec::new(&heap);
     let outcome = write_boxes(boxes, &mut out);
     Ok((kind_of(&outcome), out.len()))
 }
 
-/// The same of the list of all vectors.
-fn write_vectors_over(alloc: Global, room: usize) -> Result<(Kind, usize), Error> {
-    let mut boxes = Vec::new(alloc);
-    for vector in VECTORS {
-        push(&mut boxes, vector.make(alloc))?;
-    }
-    write_list_over(alloc, &boxes, room)
-}
-
 #[test]
 fn a_list_asks_for_one_block(rt: HostRuntime) -> Result<(), Fail> {
-    let room = VECTORS
-        .iter()
-        .fold(0, |sum: usize, it| sum.saturating_add(it.bytes().len()));
-    assert_eq!(rt; write_vectors_over(rt.alloc(), room)?, (Kind::Ok, room));
-    assert_eq!(rt;
-        write_vectors_over(rt.alloc(), room / 2)?,
-        (Kind::Memory, 0)
-    );
+    let (boxes, bytes) = all_vectors(rt.alloc())?;
+    let room = bytes.len();
+    let found = write_list_over(rt.alloc(), &boxes, room)?;
+    assert_eq!(rt; found, (Kind::Ok, room));
+    let found = write_list_over(rt.alloc(), &boxes, room / 2)?;
+    assert_eq!(rt; found, (Kind::Memory, 0));
     Ok(())
 }

@@ -31,6 +31,29 @@ fn rewrite(alloc: Global, bytes: &[u8]) -> Result<Vec<u8>, Error> {
     Ok(out)
 }
 
+#[test]
+fn known_boxes_are_kept(rt: HostRuntime) -> Result<(), Fail> {
+    assert_eq!(rt; read_stream(rt.alloc(), &THREE), (Kind::Ok, 2, 52));
+    let out = rewrite(rt.alloc(), &THREE)?;
+    assert_eq!(rt; out.len(), 44);
+    assert_eq!(rt; &out[..24], &THREE[..24]);
+    assert_eq!(rt; &out[24..], &THREE[32..]);
+    Ok(())
+}
+
+#[test]
+fn reading_begins_at_the_cursor(rt: HostRuntime) -> Result<(), Fail> {
+    let mut reader = ByteCursor::new(&THREE);
+    reader.set_position(24);
+    let found = read_boxes(rt.alloc(), &mut reader)?;
+    assert!(rt; matches!(found.as_slice(), [AnyBox::StcoBox(_)]));
+    assert_eq!(rt; reader.position(), 52);
+    reader.set_position(99);
+    assert!(rt; read_boxes(rt.alloc(), &mut reader)?.is_empty());
+    assert_eq!(rt; reader.position(), 99);
+    Ok(())
+}
+
 /// Appends two boxes as a list. Returns the kind of the outcome.
 pub(super) fn append_two<B: StreamBox + Drop, A: Allocator>(
     alloc: Global,
@@ -53,67 +76,110 @@ fn flagged(alloc: Global) -> AnyBox {
     })
 }
 
-/// Appends a box that can be written and one that can't to a vector of one byte. Returns the kind of the outcome, and
-/// whether the vector is as it was.
-fn append_flagged(alloc: Global) -> Result<(Kind, bool), Error> {
-    let mut out = [9].to_vec(alloc)?;
-    let found = append_two(alloc, Vector::Ftyp.make(alloc), flagged(alloc), &mut out)?;
-    Ok((found, out.as_slice() == [9].as_slice()))
-}
-
-/// How many bytes an empty list appends to a vector of one byte, and whether the vector is as it was.
-fn append_none(alloc: Global) -> Result<(u64, bool), Error> {
-    let mut out = [9].to_vec(alloc)?;
-    let none: [AnyBox; 0] = [];
-    let count = write_boxes(&none, &mut out)?;
-    Ok((count, out.as_slice() == [9].as_slice()))
-}
-
 #[test]
 fn a_list_is_written_whole_or_not_at_all(rt: HostRuntime) -> Result<(), Fail> {
-    assert_eq!(rt; append_flagged(rt.alloc())?, (Kind::Invalid, true));
-    assert!(rt; append_none(rt.alloc())? == (0, true));
+    let mut out = [9].to_vec(rt.alloc())?;
+    let ftyp = Vector::Ftyp.make(rt.alloc());
+    let found = append_two(rt.alloc(), ftyp, flagged(rt.alloc()), &mut out)?;
+    assert_eq!(rt; found, Kind::Invalid);
+    assert_eq!(rt; out.as_slice(), [9].as_slice());
+    let none: [AnyBox; 0] = [];
+    assert_eq!(rt; write_boxes(&none, &mut out)?, 0);
+    assert_eq!(rt; out.as_slice(), [9].as_slice());
     Ok(())
-}
-
-/// The bytes of all vectors.
-pub(super) fn stream_of_vectors(alloc: Global) -> Result<Vec<u8>, Error> {
-    let mut stream = Vec::new(alloc);
-    for vector in VECTORS {
-        stream.extend_from_slice(vector.bytes())?;
-    }
-    Ok(stream)
 }
 
 #[test]
 fn all_vectors_are_rewritten(rt: HostRuntime) -> Result<(), Fail> {
-    let stream = stream_of_vectors(rt.alloc())?;
-    assert!(rt; rewrite(rt.alloc(), &stream)? == stream);
+    let mut stream = Vec::new(rt.alloc());
+    for vector in VECTORS {
+        stream.extend_from_slice(vector.bytes())?;
+    }
+    assert_eq!(rt; rewrite(rt.alloc(), &stream)?, stream);
     Ok(())
 }
 
-/// Two boxes of a type from outside as a list: whether they are written in these bytes.
-fn are_marks_in(alloc: Global, marks: &[MarkBox], bytes: &[u8]) -> Result<bool, Error> {
-    let mut out = Vec::new(alloc);
-    let count = write_boxes(marks, &mut out)?;
-    Ok(count == bytes.len() as u64 && out.as_slice() == bytes)
+#[test]
+fn skipped_boxes(rt: HostRuntime) {
+    let skipped: [&[u8]; 7] = [
+        b"",
+        b"\0\0\0\x08free",
+        b"\0\0\0\x0ffree1234567",
+        b"\0\0\0\x10free12345678",
+        b"\0\0\0\0free123",
+        b"\0\0\0\x01mdat\0\0\0\0\0\0\0\x13\x01\x02\x03",
+        b"\0\0\0\x01mdat\0\0\0\0\0\0\0\0\x01\x02\x03",
+    ];
+    for bytes in skipped {
+        let expected = (Kind::Ok, 0, bytes.len() as u64);
+        assert_eq!(rt; read_stream(rt.alloc(), bytes), expected, "{bytes:?}");
+    }
 }
 
-/// Whether the boxes of a buffer of a type from outside are these.
-fn are_read_as_marks(alloc: Global, bytes: &[u8], marks: &[MarkBox]) -> Result<bool, Error> {
-    let mut reader = ByteCursor::new(bytes);
-    let found: Vec<MarkBox> = read_boxes_as(alloc, &mut reader)?;
-    Ok(found.as_slice() == marks && reader.position() == bytes.len() as u64)
+#[test]
+fn invalid_sizes(rt: HostRuntime) {
+    let invalid: [&[u8]; 6] = [
+        b"\0\0\0\x02free",
+        b"\0\0\0\x07free",
+        b"\0\0\0\x01free\0\0\0\0\0\0\0\x01",
+        b"\0\0\0\x01free\0\0\0\0\0\0\0\x0f",
+        b"\0\0\0\x08free\0\0\0\x01free\xff\xff\xff\xff\xff\xff\xff\xff",
+        b"\0\0\0\x08free\0\0\0\0stco\0\0\0\0\0\0\0\x02\0\0\x01\x0b",
+    ];
+    for bytes in invalid {
+        assert_eq!(rt;
+            read_stream(rt.alloc(), bytes),
+            (Kind::Invalid, 0, 0),
+            "{bytes:?}"
+        );
+    }
+}
+
+#[test]
+fn missing_bytes(rt: HostRuntime) {
+    let short: [&[u8]; 8] = [
+        b"\0",
+        b"\0\0\0\0\0\0\0",
+        b"\0\0\0\x01free",
+        b"\0\0\0\x01free\0\0\0\0\0\0\0",
+        b"\0\0\0\x09free",
+        b"\0\0\0\x10free1234567",
+        b"\xff\xff\xff\xfffree",
+        b"\0\0\0\x01free\xff\xff\xff\xff\xff\xff\xff\xff",
+    ];
+    for bytes in short {
+        assert_eq!(rt;
+            read_stream(rt.alloc(), bytes),
+            (Kind::End, 0, 0),
+            "{bytes:?}"
+        );
+    }
+}
+
+#[test]
+fn a_size_of_zero_goes_to_the_end(rt: HostRuntime) -> Result<(), Fail> {
+    let mut bytes = Vec::from_slice(rt.alloc(), &THREE[..24])?;
+    bytes.extend_from_slice(b"\0\0\0\0mdat\x01\x02\x03")?;
+    assert_eq!(rt; read_stream(rt.alloc(), &bytes), (Kind::Ok, 1, 35));
+    let compact = b"\0\0\0\0stco\0\0\0\0\0\0\0\x01\0\0\x01\x0b";
+    assert_eq!(rt; rewrite(rt.alloc(), compact)?.as_slice(), &THREE[32..]);
+    let large = b"\0\0\0\x01stco\0\0\0\0\0\0\0\0\0\0\0\0\0\0\0\x01\0\0\x01\x0b";
+    assert_eq!(rt; rewrite(rt.alloc(), large)?.as_slice(), &THREE[32..]);
+    Ok(())
 }
 
 #[test]
 fn a_type_from_outside(rt: HostRuntime) -> Result<(), Fail> {
     let marks = [MarkBox { mark: 7 }, MarkBox { mark: 8 }];
+    let mut out = Vec::new(rt.alloc());
+    assert_eq!(rt; write_boxes(&marks, &mut out)?, 24);
     let bytes = b"\0\0\0\x0cmark\0\0\0\x07\0\0\0\x0cmark\0\0\0\x08";
-    assert!(rt; are_marks_in(rt.alloc(), &marks, bytes)?);
-    let mixed =
-        b"\0\0\0\x0cmark\0\0\0\x07\0\0\0\x09free1\0\0\0\x0cmark\0\0\0\x08\0\0\0\x10stco\0\0\0\0\0\0\0\0";
-    assert!(rt; are_read_as_marks(rt.alloc(), mixed, &marks)?);
-    assert_eq!(rt; read_stream(rt.alloc(), mixed), (Kind::Ok, 1, 49));
+    assert_eq!(rt; out.as_slice(), bytes.as_slice());
+    out.extend_from_slice(&THREE)?;
+    let mut reader = ByteCursor::new(&out);
+    let found: Vec<MarkBox> = read_boxes_as(rt.alloc(), &mut reader)?;
+    assert_eq!(rt; found.as_slice(), marks.as_slice());
+    assert_eq!(rt; reader.position(), 76);
+    assert_eq!(rt; read_stream(rt.alloc(), &out), (Kind::Ok, 2, 76));
     Ok(())
 }

@@ -1,13 +1,12 @@
 //! Sample descriptions: which entry is written of several.
 
-use super::expect_bytes;
 use mp4_fixtures::boxes::entries::{
     AVC1, HEV1, VP09, avc1, avc1_of, avcc_of_two, hev1, tx3g, vp09,
 };
 use mp4_fixtures::boxes::sound::{MP4A, mp4a, mp4a_of_test};
 use mp4_fixtures::helpers::{Mismatch, expect_round_trip};
 use mp4_fixtures::made;
-use mp4_stream::{Avc1Box, BoxType, Error, Mp4aBox, StsdBox, WriteBox};
+use mp4_stream::{Avc1Box, BoxType, Error, Mp4aBox, StsdBox, TryClone, WriteBox};
 use std::alloc::Global;
 use std::test::Fail;
 
@@ -57,6 +56,21 @@ fn stsd_bytes(alloc: Global, size: u8, child: &[u8]) -> Result<Vec<u8>, Error> {
     }
     bytes.extend_from_slice(child)?;
     Ok(bytes)
+}
+
+/// Expects that the box is written in these bytes.
+fn expect_bytes<B: WriteBox + Drop>(
+    alloc: Global,
+    made: Result<B, Error>,
+    bytes: &[u8],
+) -> Result<(), Mismatch> {
+    let mut out = Vec::new(alloc);
+    made?.write_box(&mut out)?;
+    if out.as_slice() == bytes {
+        Ok(())
+    } else {
+        Err(Mismatch::OtherBytes)
+    }
 }
 
 /// Expects that the box is written with a child of these bytes alone, in this size.
@@ -156,6 +170,13 @@ fn unwritable_stsd(rt: HostRuntime) -> Result<(), Fail> {
 
 #[test]
 fn clones_of_stsd(rt: HostRuntime) -> Result<(), Fail> {
-    made::cloned(stsd_of_all(rt.alloc()))?;
+    let all = stsd_of_all(rt.alloc())?;
+    let clone = all.try_clone()?;
+    assert!(rt; clone == all);
+    let other = StsdBox {
+        tx3g: None,
+        ..clone
+    };
+    assert!(rt; other != all);
     Ok(())
 }

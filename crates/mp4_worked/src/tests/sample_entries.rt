@@ -1,12 +1,16 @@
-//! Sample entries: their sets and constructors.
+//! Sample entries: their sets, constructors, defaults and clones.
 
 use mp4_fixtures::boxes::entries::{
-    PICTURE, SEQUENCE, avc1_of, avcc_of_two, empty_sets, list_of_sets, vp09_of_config,
+    PICTURE, SEQUENCE, avc1, avc1_of, avcc, avcc_of_two, empty_sets, hev1, list_of_sets, tx3g,
+    vp09, vp09_of_config, vpcc,
 };
-use mp4_fixtures::helpers::{expect_unwritable, expect_unwritable_of_size};
+use mp4_fixtures::helpers::{
+    expect_round_trip, expect_unwritable, expect_unwritable_of_size, expect_written,
+};
 use mp4_fixtures::made;
 use mp4_stream::{
-    Avc1Box, AvcCBox, AvcConfig, Entries, Error, NalUnit, Vp09Box, VpccBox, WriteBox,
+    Avc1Box, AvcCBox, AvcConfig, Entries, Error, Hev1Box, NalUnit, Tx3gBox, Vp09Box, VpccBox,
+    WriteBox,
 };
 use std::alloc::Global;
 use std::test::Fail;
@@ -119,5 +123,30 @@ fn unwritable_entries(rt: HostRuntime) -> Result<(), Fail> {
     let mut entry = vp09_of_config();
     entry.flags = 1 << 24;
     expect_unwritable_of_size(rt.alloc(), &entry, 106)?;
+    Ok(())
+}
+
+#[test]
+fn clones_of_entries(rt: HostRuntime) -> Result<(), Fail> {
+    made::cloned(avcc(rt.alloc()))
+        .and(made::cloned(avc1(rt.alloc())))
+        .and(made::clone_of(&hev1()))
+        .and(made::clone_of(&vpcc()))
+        .and(made::clone_of(&vp09()))
+        .and(made::clone_of(&tx3g()))?;
+    Ok(())
+}
+
+#[test]
+fn default_entries(rt: HostRuntime) -> Result<(), Fail> {
+    let alloc = rt.alloc();
+    made::written(alloc, Ok(Avc1Box::default_in(alloc)), 101)
+        .and(expect_written(alloc, &Hev1Box::default(), 95))
+        .and(expect_written(alloc, &Vp09Box::default(), 106))
+        .and(expect_round_trip(
+            alloc,
+            &Tx3gBox::default(),
+            b"\0\0\0\x2etx3g\0\0\0\0\0\0\0\0\0\0\0\0\x01\xff\0\0\0\xff\0\0\0\0\0\0\0\0\0\0\0\0\0\x01\0\x10\xff\xff\xff\xff",
+        ))?;
     Ok(())
 }

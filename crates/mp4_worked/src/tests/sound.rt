@@ -1,7 +1,8 @@
-//! Sample entries of audio and their descriptors: those that can't be written, and constructors.
+//! Sample entries of audio and their descriptors: those that can't be written, constructors and clones.
 
-use mp4_fixtures::boxes::sound::{esds_of, mp4a_of, specific};
+use mp4_fixtures::boxes::sound::{esds, esds_of, mp4a, mp4a_of, mp4a_of_test, specific};
 use mp4_fixtures::helpers::{expect_unwritable, expect_unwritable_of_size, expect_value};
+use mp4_fixtures::made;
 use mp4_stream::{
     AacConfig, AudioObjectType, BoxType, ChannelConfig, EsdsBox, Mp4aBox, SampleFreqIndex, WriteBox,
 };
@@ -90,5 +91,14 @@ fn descriptors_of_configurations(rt: HostRuntime) -> Result<(), Fail> {
     expected.channelcount = 7;
     assert!(rt; made == expected);
     assert_eq!(rt; (made.get_type(), made.get_size()), (BoxType::Mp4aBox, 76));
+    Ok(())
+}
+
+#[test]
+fn clones_of_sound(rt: HostRuntime) -> Result<(), Fail> {
+    made::clone_of(&esds())
+        .and(made::clone_of(&mp4a()))
+        .and(made::clone_of(&mp4a_of_test()))
+        .and(made::clone_of(&mp4a_of(None)))?;
     Ok(())
 }

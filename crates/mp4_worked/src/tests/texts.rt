@@ -1,8 +1,8 @@
 //! Texts, and the languages of media headers.
 
-use super::languages::header_in;
 use mp4_fixtures::helpers::read;
-use mp4_stream::{Error, MdhdBox, Text, TryClone, language_code, language_string};
+use mp4_fixtures::made;
+use mp4_stream::{Error, MdhdBox, Text, TryClone, WriteBox, language_code, language_string};
 use std::alloc::Global;
 use std::test::Fail;
 
@@ -41,16 +41,29 @@ fn bytes_that_are_not_utf8_are_replaced(rt: HostRuntime) -> Result<(), Fail> {
     Ok(())
 }
 
-/// Whether the media header in these bytes is of this language.
-fn is_read_in(alloc: Global, bytes: &[u8], language: &str) -> Result<bool, Error> {
-    let (mdhd, _) = read::<MdhdBox>(alloc, bytes, 32);
-    Ok(mdhd?.language.as_str() == language)
+/// What a media header of a language with nine letters is written in.
+fn written_in_nine_letters(alloc: Global) -> Result<Vec<u8>, Error> {
+    let mut header = MdhdBox::default_in(alloc)?;
+    header.language = Text::from_str(alloc, "undefined")?;
+    let mut out = Vec::new(alloc);
+    header.write_box(&mut out)?;
+    Ok(out)
 }
 
 #[test]
 fn longer_languages_are_cut(rt: HostRuntime) -> Result<(), Fail> {
-    let bytes = header_in(rt.alloc(), "undefined")?;
-    assert!(rt; is_read_in(rt.alloc(), &bytes, "und")?);
+    let bytes = written_in_nine_letters(rt.alloc())?;
+    let (mdhd, _) = read::<MdhdBox>(rt.alloc(), &bytes, 32);
+    let language = mdhd?.language;
+    assert_eq!(rt; language.as_str(), "und");
+    assert_eq!(rt; format!(in rt.alloc(); "{language:?}")?.as_str(), "\"und\"");
+    Ok(())
+}
+
+#[test]
+fn header_of_a_longer_language(rt: HostRuntime) -> Result<(), Fail> {
+    let bytes = written_in_nine_letters(rt.alloc())?;
+    made::value(rt.alloc(), MdhdBox::default_in(rt.alloc()), &bytes, 32)?;
     Ok(())
 }
 

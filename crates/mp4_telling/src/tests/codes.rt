@@ -112,17 +112,3 @@ fn codes_with_another_first_or_last_byte_have_no_name(rt: HostRuntime) -> Result
     }
     Ok(())
 }
-
-/// The four bytes of a text as a code, if it has as many.
-fn parsed(text: &str) -> Option<[u8; 4]> {
-    let code: Result<FourCC, Error> = text.parse();
-    code.ok().map(|code| code.value)
-}
-
-#[test]
-fn codes_are_parsed(rt: HostRuntime) {
-    assert!(rt; parsed("isom") == Some(*b"isom"));
-    for text in ["iso", "isomx", "", "is\u{e9}o"] {
-        assert!(rt; parsed(text).is_none(), "{text}");
-    }
-}

@@ -1,4 +1,4 @@
-//! The tests of the Rust crate `mp4` 0.14.0, module by module.
+//! The tests of the Rust crate `mp4`, module by module.
 
 mod entries;
 mod flat;

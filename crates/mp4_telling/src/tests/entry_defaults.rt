@@ -1,11 +1,9 @@
-//! Constants and constructors of sample entries, field by field.
+//! Defaults, constants and constructors of sample entries, field by field.
 
 use mp4_fixtures::boxes::entries::list_of_sets;
-use mp4_fixtures::boxes::sound::specific;
 use mp4_stream::{
-    AacConfig, AudioObjectType, Avc1Box, AvcCBox, AvcConfig, ChannelConfig, Error, EsdsBox,
-    FixedPointU16, Hev1Box, HevcConfig, HvcCBox, Mp4aBox, NalUnit, RgbaColor, SampleFreqIndex,
-    Vp09Box, Vp9Config, VpccBox,
+    Avc1Box, AvcCBox, AvcConfig, Entries, Error, FixedPointU16, Hev1Box, HevcConfig, HvcCBox,
+    NalUnit, RgbaColor, Tx3gBox, Vp09Box, Vp9Config, VpccBox,
 };
 use std::alloc::Global;
 use std::test::Fail;
@@ -15,12 +13,11 @@ const SEQUENCE: [u8; 5] = [0x67, 0x81, 0x82, 0x83, 0x84];
 const PICTURE: [u8; 2] = [0x68, 0x85];
 
 #[test]
-fn a_default_unit_is_empty(rt: HostRuntime) {
-    assert!(rt; NalUnit::default_in(rt.alloc()).bytes.is_empty());
-}
-
-#[test]
-fn a_default_color_is_transparent(rt: HostRuntime) {
+fn default_units_and_colors(rt: HostRuntime) -> Result<(), Fail> {
+    let unit = NalUnit {
+        bytes: Entries::new(rt.alloc()),
+    };
+    assert!(rt; NalUnit::default_in(rt.alloc()) == unit);
     let color = RgbaColor {
         red: 0,
         green: 0,
@@ -28,6 +25,20 @@ fn a_default_color_is_transparent(rt: HostRuntime) {
         alpha: 0,
     };
     assert!(rt; RgbaColor::default() == color);
+    Ok(())
+}
+
+/// Zeros and no sets.
+fn no_sets(alloc: Global) -> AvcCBox {
+    AvcCBox {
+        configuration_version: 0,
+        avc_profile_indication: 0,
+        profile_compatibility: 0,
+        avc_level_indication: 0,
+        length_size_minus_one: 0,
+        sequence_parameter_sets: Entries::new(alloc),
+        picture_parameter_sets: Entries::new(alloc),
+    }
 }
 
 /// The configuration of `SEQUENCE` and `PICTURE`.
@@ -44,7 +55,8 @@ fn two_sets(alloc: Global) -> Result<AvcCBox, Error> {
 }
 
 #[test]
-fn new_avcc(rt: HostRuntime) -> Result<(), Fail> {
+fn default_and_new_avcc(rt: HostRuntime) -> Result<(), Fail> {
+    assert!(rt; AvcCBox::default_in(rt.alloc()) == no_sets(rt.alloc()));
     let made = AvcCBox::new(rt.alloc(), &SEQUENCE, &PICTURE)?;
     assert!(rt; made == two_sets(rt.alloc())?);
     Ok(())
@@ -65,7 +77,9 @@ fn avc1(data_reference_index: u16, width: u16, height: u16, avcc: AvcCBox) -> Av
 }
 
 #[test]
-fn new_avc1(rt: HostRuntime) -> Result<(), Fail> {
+fn default_and_new_avc1(rt: HostRuntime) -> Result<(), Fail> {
+    let zeros = avc1(0, 0, 0, no_sets(rt.alloc()));
+    assert!(rt; Avc1Box::default_in(rt.alloc()) == zeros);
     let config = AvcConfig {
         width: 0x8182,
         height: 0x8384,
@@ -85,7 +99,8 @@ fn hvcc(configuration_version: u8) -> HvcCBox {
 }
 
 #[test]
-fn new_hvcc(rt: HostRuntime) -> Result<(), Fail> {
+fn default_and_new_hvcc(rt: HostRuntime) -> Result<(), Fail> {
+    assert!(rt; HvcCBox::default() == hvcc(0));
     assert!(rt; HvcCBox::new() == hvcc(1));
     Ok(())
 }
@@ -105,7 +120,8 @@ fn hev1(data_reference_index: u16, width: u16, height: u16, hvcc: HvcCBox) -> He
 }
 
 #[test]
-fn new_hev1(rt: HostRuntime) -> Result<(), Fail> {
+fn default_and_new_hev1(rt: HostRuntime) -> Result<(), Fail> {
+    assert!(rt; Hev1Box::default() == hev1(0, 0, 0, hvcc(0)));
     let config = HevcConfig {
         width: 0x8182,
         height: 0x8384,
@@ -133,8 +149,32 @@ fn vpcc(version: u8, level: u8, bit_depth: u8) -> VpccBox {
 }
 
 #[test]
-fn constants_of_vpcc(rt: HostRuntime) -> Result<(), Fail> {
+fn default_vpcc(rt: HostRuntime) -> Result<(), Fail> {
+    assert!(rt; VpccBox::default() == vpcc(0, 0, 0));
     assert!(rt; (VpccBox::DEFAULT_VERSION, VpccBox::DEFAULT_BIT_DEPTH) == (1, 8));
+    Ok(())
+}
+
+#[test]
+fn default_vp09(rt: HostRuntime) -> Result<(), Fail> {
+    let zeros = Vp09Box {
+        version: 0,
+        flags: 0,
+        start_code: 0,
+        data_reference_index: 0,
+        reserved0: [0; 16],
+        width: 0,
+        height: 0,
+        horizresolution: (0, 0),
+        vertresolution: (0, 0),
+        reserved1: [0; 4],
+        frame_count: 0,
+        compressorname: [0; 32],
+        depth: 0,
+        end_code: 0,
+        vpcc: vpcc(0, 0, 0),
+    };
+    assert!(rt; Vp09Box::default() == zeros);
     Ok(())
 }
 
@@ -178,29 +218,22 @@ fn constants_of_vp09(rt: HostRuntime) -> Result<(), Fail> {
     Ok(())
 }
 
-/// Each field is that of the configuration or a number that is told apart from the others.
 #[test]
-fn mp4a_of_a_configuration(rt: HostRuntime) -> Result<(), Fail> {
-    let made = Mp4aBox::new(&AacConfig {
-        bitrate: 0x8182_8384,
-        profile: AudioObjectType::UnifiedSpeechAudioCoding,
-        freq_index: SampleFreqIndex::Freq96000,
-        chan_conf: ChannelConfig::FiveOne,
-    });
-    let mut esds = EsdsBox::default();
-    esds.es_desc.es_id = 1;
-    esds.es_desc.dec_config.object_type_indication = 0x40;
-    esds.es_desc.dec_config.stream_type = 5;
-    esds.es_desc.dec_config.max_bitrate = 0x8182_8384;
-    esds.es_desc.dec_config.avg_bitrate = 0x8182_8384;
-    esds.es_desc.dec_config.dec_specific = specific(42, 0, None, 6);
-    let value = Mp4aBox {
-        data_reference_index: 1,
-        channelcount: 6,
-        samplesize: 16,
-        samplerate: FixedPointU16::new_raw(0x7700_0000),
-        esds: Some(esds),
+fn default_tx3g(rt: HostRuntime) -> Result<(), Fail> {
+    let tx3g = Tx3gBox {
+        data_reference_index: 0,
+        display_flags: 0,
+        horizontal_justification: 1,
+        vertical_justification: -1,
+        bg_color_rgba: RgbaColor {
+            red: 0,
+            green: 0,
+            blue: 0,
+            alpha: 255,
+        },
+        box_record: [0, 0, 0, 0],
+        style_record: [0, 0, 0, 0, 0, 1, 0, 16, 255, 255, 255, 255],
     };
-    assert!(rt; made == value);
+    assert!(rt; Tx3gBox::default() == tx3g);
     Ok(())
 }

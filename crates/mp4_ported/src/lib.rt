@@ -1,0 +1,5 @@
+//! The tests of the Rust crate `mp4` 0.14.0.
+#![tactic(auto)]
+
+#[cfg(test)]
+mod tests;

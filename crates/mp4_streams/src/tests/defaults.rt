@@ -1,0 +1,91 @@
+//! Default boxes.
+
+use mp4_examples::defaults::{default_extent, default_video};
+use mp4_fixtures::boxes::flat::MFHD;
+use mp4_fixtures::boxes::text::DINF;
+use mp4_fixtures::helpers::expect_round_trip;
+use mp4_fixtures::made;
+use mp4_stream::{
+    DinfBox, DrefBox, FtypBox, HdlrBox, MdhdBox, MfhdBox, MvhdBox, SmhdBox, StcoBox, StscBox,
+    TfdtBox, TkhdBox, UrlBox, WriteBox,
+};
+use std::test::Fail;
+
+const MVHD: [u8; 108] =
+    *b"\0\0\0lmvhd\0\0\0\0\0\0\0\0\0\0\0\0\0\0\x03\xe8\0\0\0\0\0\x01\0\0\x01\0\0\0\0\0\0\0\0\0\0\0\0\x01\0\
+\0\0\0\0\0\0\0\0\0\0\0\0\0\0\x01\0\0\0\0\0\0\0\0\0\0\0\0\0\0@\0\0\0\0\0\0\0\0\0\0\0\0\0\0\0\0\0\0\0\
+\0\0\0\0\0\0\0\0\0\0\0\x01";
+
+const TKHD: [u8; 92] =
+    *b"\0\0\0\\tkhd\0\0\0\x01\0\0\0\0\0\0\0\0\0\0\0\0\0\0\0\0\0\0\0\0\0\0\0\0\0\0\0\0\0\0\0\0\x01\0\0\0\0\
+\x01\0\0\0\0\0\0\0\0\0\0\0\0\0\0\0\x01\0\0\0\0\0\0\0\0\0\0\0\0\0\0@\0\0\0\0\0\0\0\0\0\0\0";
+
+#[test]
+fn headers_of_movies_and_tracks(rt: HostRuntime) -> Result<(), Fail> {
+    expect_round_trip(rt.alloc(), &MvhdBox::default(), &MVHD).and(expect_round_trip(
+        rt.alloc(),
+        &TkhdBox::default(),
+        &TKHD,
+    ))?;
+    Ok(())
+}
+
+#[test]
+fn headers_of_media(rt: HostRuntime) -> Result<(), Fail> {
+    let alloc = rt.alloc();
+    made::round_trip(
+        alloc,
+        MdhdBox::default_in(alloc),
+        b"\0\0\0\x20mdhd\0\0\0\0\0\0\0\0\0\0\0\0\0\0\x03\xe8\0\0\0\0U\xc4\0\0",
+    )
+    .and(expect_round_trip(
+        alloc,
+        &SmhdBox::default(),
+        b"\0\0\0\x10smhd\0\0\0\0\0\0\0\0",
+    ))
+    .and(expect_round_trip(
+        alloc,
+        &default_video(),
+        b"\0\0\0\x14vmhd\0\0\0\0\0\0\0\0\0\0\0\0",
+    ))?;
+    Ok(())
+}
+
+#[test]
+fn headers_of_fragments(rt: HostRuntime) -> Result<(), Fail> {
+    let alloc = rt.alloc();
+    expect_round_trip(alloc, &default_extent(), b"\0\0\0\x10mehd\0\0\0\0\0\0\0\0")
+        .and(expect_round_trip(alloc, &MfhdBox::default(), &MFHD))
+        .and(expect_round_trip(
+            alloc,
+            &TfdtBox::default(),
+            b"\0\0\0\x10tfdt\0\0\0\0\0\0\0\0",
+        ))?;
+    Ok(())
+}
+
+#[test]
+fn file_types_and_tables(rt: HostRuntime) -> Result<(), Fail> {
+    let alloc = rt.alloc();
+    let mut out = Vec::new(alloc);
+    assert_eq!(rt; FtypBox::default_in(alloc).write_box(&mut out)?, 16);
+    assert_eq!(rt; StcoBox::default_in(alloc).write_box(&mut out)?, 16);
+    assert_eq!(rt; &out[..16], b"\0\0\0\x10ftyp\0\0\0\0\0\0\0\0".as_slice());
+    assert_eq!(rt; &out[16..], b"\0\0\0\x10stco\0\0\0\0\0\0\0\0".as_slice());
+    made::written(alloc, Ok(FtypBox::default_in(alloc)), 16)
+        .and(made::written(alloc, Ok(StcoBox::default_in(alloc)), 16))
+        .and(made::written(alloc, Ok(StscBox::default_in(alloc)), 16))?;
+    Ok(())
+}
+
+#[test]
+fn handlers_and_references(rt: HostRuntime) -> Result<(), Fail> {
+    assert_eq!(rt; HdlrBox::default_in(rt.alloc()).get_size(), 33);
+    let same_file = UrlBox::default_in(rt.alloc());
+    expect_round_trip(rt.alloc(), &same_file, b"\0\0\0\x0curl \0\0\0\x01")?;
+    let dinf = DinfBox::new(DrefBox::default_in(rt.alloc()));
+    expect_round_trip(rt.alloc(), &dinf, &DINF)?;
+    assert!(rt; dinf == DinfBox::default_in(rt.alloc()));
+    assert!(rt; *dinf.dref() == DrefBox::default_in(rt.alloc()));
+    Ok(())
+}

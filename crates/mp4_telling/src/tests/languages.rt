@@ -1,0 +1,53 @@
+//! Languages: three letters in 15 bits, worked out by hand.
+
+use mp4_stream::{MdhdBox, Text, WriteBox, language_code, language_string};
+use std::test::Fail;
+
+#[test]
+fn letters_are_five_bits_each(rt: HostRuntime) -> Result<(), Fail> {
+    for (language, code) in [
+        // a is 1, b is 2, and so on: the first letter times 1024, the second times 32, and the third.
+        ("swe", 0x4ee5),
+        ("deu", 0x10b5),
+        ("zul", 0x6aac),
+        ("abc", 0x0443),
+    ] {
+        assert_eq!(rt; language_code(language), code, "{language}");
+        assert_eq!(rt; language_string(rt.alloc(), code)?.as_str(), language);
+        // The highest bit is not a letter's.
+        assert_eq!(rt;
+            language_string(rt.alloc(), code | 0x8000)?.as_str(),
+            language
+        );
+    }
+    Ok(())
+}
+
+#[test]
+fn letters_past_ascii_are_utf16_units(rt: HostRuntime) -> Result<(), Fail> {
+    // U+00E9 has the five low bits 9, U+20AC has 12; U+10348 is the two units 0xD800 and 0xDF48, with 0 and 8.
+    for (language, code) in [
+        ("\u{e9}\u{20ac}z", 0x259a),
+        ("a\u{e9}\u{20ac}", 0x052c),
+        ("\u{10348}x", 0x0118),
+        ("z\u{10348}x", 0x6808),
+        ("zz\u{10348}", 0x6b40),
+    ] {
+        assert_eq!(rt; language_code(language), code, "{language}");
+        let mut mdhd = MdhdBox::default_in(rt.alloc())?;
+        mdhd.language = Text::from_str(rt.alloc(), language)?;
+        let mut out = Vec::new(rt.alloc());
+        mdhd.write_box(&mut out)?;
+        let bytes = u16::to_be_bytes(code);
+        assert!(rt; out.get(28..30) == Some(bytes.as_slice()), "{language}");
+    }
+    Ok(())
+}
+
+#[test]
+fn missing_letters_are_zero(rt: HostRuntime) -> Result<(), Fail> {
+    for (language, code) in [("", 0), ("s", 0x4c00), ("sw", 0x4ee0), ("swede", 0x4ee5)] {
+        assert_eq!(rt; language_code(language), code, "{language}");
+    }
+    Ok(())
+}
