@@ -18,7 +18,7 @@ abbrev pub row_of : {X : Type 0} → EntryLayout X → X → List ℕ
 row_of l x = be_bytes (bytes_in l.widths) (joined l.widths (l.numbers x))
 
 abbrev pub entry_of : {X : Type 0} → EntryLayout X → List ℕ → X
-entry_of l row = l.value (slice_index (split l.widths (number row 0 (bytes_in l.widths))))
+entry_of l bytes = l.value (slice_index (split l.widths (number bytes 0 (bytes_in l.widths))))
 
 abbrev pub FitsEntry : {X : Type 0} → EntryLayout X → X → Type 0
 FitsEntry l x = NumbersFit l.widths (l.numbers x)

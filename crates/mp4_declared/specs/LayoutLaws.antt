@@ -38,7 +38,7 @@ entry_laws {X} l {e} is = record {
   back = λ x fits.
       let w = bytes_in l.widths in
       let j = joined l.widths (l.numbers x) in
-      let whole : number (be_bytes w j) 0 w ≡ j = ap (λ (row : List ℕ). number row 0 w) (sym (append-nil (be_bytes w j))) ∙ number-be_bytes w j [] (joined_small l.widths (l.numbers x) is.fields fits) in
+      let whole : number (be_bytes w j) 0 w ≡ j = ap (λ (bytes : List ℕ). number bytes 0 w) (sym (append-nil (be_bytes w j))) ∙ number-be_bytes w j [] (joined_small l.widths (l.numbers x) is.fields fits) in
       ap (λ (n : ℕ). l.value (slice_index (split l.widths n))) whole ∙ ap (λ (ns : List ℕ). l.value (slice_index ns)) (split-joined l.widths (l.numbers x) fits) ∙ is.back x;
-  fits = λ row read. is.fit (slice_index (split l.widths (number row 0 (bytes_in l.widths)))) (split-below l.widths (number row 0 (bytes_in l.widths)));
+  fits = λ bytes read. is.fit (slice_index (split l.widths (number bytes 0 (bytes_in l.widths)))) (split-below l.widths (number bytes 0 (bytes_in l.widths)));
 }
