@@ -1,14 +1,15 @@
 //! The large chunk offset box.
 
-ghost use Rattle.std.specs.Prelude.{◌≡◌, ◌-◌, ◌^◌, [], IfOk, IfErr, map, min};
+ghost use Rattle.std.specs.Prelude.{◌≡◌, ◌-◌, ◌^◌, [], min};
 ghost use Rattle.mp4_frame.specs.declared.box_type.BoxType.TheVariants as names;
 ghost use Rattle.mp4_frame.specs.Format.{write_laws};
-ghost use Rattle.mp4_tables.specs.Co64.{offset_of, size_co64, reads_co64, format_co64};
+ghost use Rattle.mp4_tables.specs.Co64.{size_co64, reads_co64, format_co64};
 ghost use Rattle.mp4_tables.specs.Co64Laws.{laws_co64};
 
+use crate::rows::entries_of;
 use mp4_frame::{
-    BoxLaws, BoxType, Entries, Error, Mp4Box, ReadBox, Result, TryClone, WriteBox, codes,
-    is_writable_table, put_table, read_table, table_size, u64_at,
+    BoxLaws, BoxType, Entries, Mp4Box, ReadBox, Result, TryClone, WriteBox, codes,
+    is_writable_table, put_table, read_table, table_size,
 };
 use std::alloc::Global;
 
@@ -72,21 +73,6 @@ impl Mp4Box for Co64Box {
     }
 }
 
-fn offsets_of(alloc: Global, rows: &[[u8; 8]]) -> Result<Vec<u64>>
-    ensures value { IfOk result (λ offsets. offsets.items ≡ map offset_of rows.now) }
-    ensures memory { IfErr result (λ e. e ≡ Error.OutOfMemory) }
-{
-    let offsets: Vec<u64> = rows
-        .iter()
-        .map(
-            |row: &[u8; 8]| -> u64
-                ensures { result ≡ offset_of row.now }
-            { u64_at(row, 0) },
-        )
-        .collect(alloc)?;
-    Ok(offsets)
-}
-
 impl ReadBox for Co64Box {
     ghost reads = { reads_co64 };
 
@@ -102,7 +88,7 @@ impl ReadBox for Co64Box {
         Ok(Co64Box {
             version,
             flags,
-            entries: offsets_of(alloc, rows)?.into(),
+            entries: entries_of(alloc, rows)?.into(),
         })
     }
 }

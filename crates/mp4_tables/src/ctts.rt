@@ -1,16 +1,16 @@
 //! The composition time to sample box.
 
-ghost use Rattle.std.specs.Prelude.{◌≡◌, ◌-◌, ◌^◌, [], IfOk, IfErr, map, min};
+ghost use Rattle.std.specs.Prelude.{◌≡◌, ◌-◌, ◌^◌, [], min};
 ghost use Rattle.mp4_frame.specs.declared.box_type.BoxType.TheVariants as names;
 ghost use Rattle.mp4_frame.specs.Format.{write_laws};
 ghost use Rattle.mp4_tables.specs.Ctts.{size_ctts, reads_ctts, format_ctts};
-ghost use Rattle.mp4_tables.specs.CttsEntry.{entry_ctts};
 ghost use Rattle.mp4_tables.specs.CttsLaws.{laws_ctts};
 
 use crate::ctts_entry::CttsEntry;
+use crate::rows::entries_of;
 use mp4_frame::{
-    BoxLaws, BoxType, Entries, Error, Mp4Box, ReadBox, Result, TryClone, WriteBox, codes, i32_at,
-    is_writable_table, put_table, read_table, table_size, u32_at,
+    BoxLaws, BoxType, Entries, Mp4Box, ReadBox, Result, TryClone, WriteBox, codes,
+    is_writable_table, put_table, read_table, table_size,
 };
 use std::alloc::Global;
 
@@ -73,26 +73,6 @@ impl Mp4Box for CttsBox {
     fn box_size(&self) -> u64 {
         table_size(self.entries.as_slice())
     }
-}
-
-fn entries_of(alloc: Global, rows: &[[u8; 8]]) -> Result<Vec<CttsEntry>>
-    ensures value { IfOk result (λ entries. entries.items ≡ map entry_ctts rows.now) }
-    ensures memory { IfErr result (λ e. e ≡ Error.OutOfMemory) }
-{
-    let entries: Vec<CttsEntry> = rows
-        .iter()
-        .map(
-            |row: &[u8; 8]| -> CttsEntry
-                ensures { result ≡ entry_ctts row.now }
-            {
-                CttsEntry {
-                    sample_count: u32_at(row, 0),
-                    sample_offset: i32_at(row, 4),
-                }
-            },
-        )
-        .collect(alloc)?;
-    Ok(entries)
 }
 
 impl ReadBox for CttsBox {

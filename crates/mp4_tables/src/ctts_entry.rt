@@ -1,9 +1,10 @@
 //! An entry of the composition time to sample box.
 
 ghost use Rattle.std.specs.Prelude.{◌↔◌, IsTrue};
-ghost use Rattle.mp4_tables.specs.CttsEntry.{row_ctts, FitsCttsEntry};
+ghost use Rattle.mp4_tables.specs.CttsEntry.{entry_ctts, row_ctts, FitsCttsEntry};
 
-use mp4_frame::{TableEntry, put_i32, put_u32};
+use crate::rows::RowEntry;
+use mp4_frame::{TableEntry, i32_at, put_i32, put_u32, u32_at};
 
 /// A run of consecutive samples with the same composition offset (ISO/IEC 14496-12, 8.6.1.3).
 #[derive(Clone, Copy, Debug, Default, PartialEq, Eq)]
@@ -39,5 +40,16 @@ impl TableEntry<8> for CttsEntry {
 
     fn fits(&self) -> bool {
         has_fitting_numbers(*self)
+    }
+}
+
+impl RowEntry<8> for CttsEntry {
+    ghost entry_of = { entry_ctts };
+
+    fn from_row(row: &[u8; 8]) -> CttsEntry {
+        CttsEntry {
+            sample_count: u32_at(row, 0),
+            sample_offset: i32_at(row, 4),
+        }
     }
 }

@@ -1,18 +1,19 @@
 //! The edit list box.
 
-ghost use Rattle.std.specs.Prelude.{◌≡◌, ◌-◌, ◌^◌, [], IfOk, IfErr, map, min, true, false};
+ghost use Rattle.std.specs.Prelude.{◌≡◌, ◌-◌, ◌^◌, [], min, true, false};
 ghost use Rattle.mp4_frame.specs.Bytes.{number};
 ghost use Rattle.mp4_frame.specs.Reading.{Answers};
 ghost use Rattle.mp4_frame.specs.declared.box_type.BoxType.TheVariants as names;
 ghost use Rattle.mp4_frame.specs.Format.{write_laws};
 ghost use Rattle.mp4_tables.specs.Elst.{reads_elst_rows, size_elst, reads_elst, format_elst};
-ghost use Rattle.mp4_tables.specs.ElstEntry.{is_long, entry_elst};
+ghost use Rattle.mp4_tables.specs.ElstEntry.{is_long};
 ghost use Rattle.mp4_tables.specs.ElstLaws.{laws_elst};
 
 use crate::elst_entry::ElstEntry;
+use crate::rows::entries_of;
 use mp4_frame::{
-    BoxLaws, BoxType, Entries, Error, Mp4Box, ReadBox, Result, TryClone, WriteBox, codes,
-    is_writable_table, put_table, read_table, table_size, u16_at, u32_at, u64_at,
+    BoxLaws, BoxType, Entries, Mp4Box, ReadBox, Result, TryClone, WriteBox, codes,
+    is_writable_table, put_table, read_table, table_size,
 };
 use std::alloc::Global;
 
@@ -90,50 +91,6 @@ fn has_long_rows(bytes: &[u8]) -> bool
     bytes.len() > 8 && bytes[8] == 1
 }
 
-fn long_entries_of(alloc: Global, rows: &[[u8; 20]]) -> Result<Vec<ElstEntry>>
-    ensures value { IfOk result (λ entries. entries.items ≡ map (entry_elst true) rows.now) }
-    ensures memory { IfErr result (λ e. e ≡ Error.OutOfMemory) }
-{
-    let entries: Vec<ElstEntry> = rows
-        .iter()
-        .map(
-            |row: &[u8; 20]| -> ElstEntry
-                ensures { result ≡ entry_elst true row.now }
-            {
-                ElstEntry {
-                    segment_duration: u64_at(row, 0),
-                    media_time: u64_at(row, 8),
-                    media_rate: u16_at(row, 16),
-                    media_rate_fraction: u16_at(row, 18),
-                }
-            },
-        )
-        .collect(alloc)?;
-    Ok(entries)
-}
-
-fn short_entries_of(alloc: Global, rows: &[[u8; 12]]) -> Result<Vec<ElstEntry>>
-    ensures value { IfOk result (λ entries. entries.items ≡ map (entry_elst false) rows.now) }
-    ensures memory { IfErr result (λ e. e ≡ Error.OutOfMemory) }
-{
-    let entries: Vec<ElstEntry> = rows
-        .iter()
-        .map(
-            |row: &[u8; 12]| -> ElstEntry
-                ensures { result ≡ entry_elst false row.now }
-            {
-                ElstEntry {
-                    segment_duration: u64::from(u32_at(row, 0)),
-                    media_time: u64::from(u32_at(row, 4)),
-                    media_rate: u16_at(row, 8),
-                    media_rate_fraction: u16_at(row, 10),
-                }
-            },
-        )
-        .collect(alloc)?;
-    Ok(entries)
-}
-
 #[tactic(auto, unfolding(crate::specs::Elst::reads_elst_rows))]
 fn read_long(alloc: Global, bytes: &[u8], size: u64) -> Result<ElstBox>
     ensures { Answers result (reads_elst_rows true bytes.now size) }
@@ -142,7 +99,7 @@ fn read_long(alloc: Global, bytes: &[u8], size: u64) -> Result<ElstBox>
     Ok(ElstBox {
         version,
         flags,
-        entries: long_entries_of(alloc, rows)?.into(),
+        entries: entries_of::<ElstEntry, 20>(alloc, rows)?.into(),
     })
 }
 
@@ -154,7 +111,7 @@ fn read_short(alloc: Global, bytes: &[u8], size: u64) -> Result<ElstBox>
     Ok(ElstBox {
         version,
         flags,
-        entries: short_entries_of(alloc, rows)?.into(),
+        entries: entries_of::<ElstEntry, 12>(alloc, rows)?.into(),
     })
 }
 

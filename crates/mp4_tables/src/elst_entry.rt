@@ -2,9 +2,10 @@
 
 ghost use Rattle.std.specs.Prelude.{◌≡◌, ◌≤◌, ◌+◌, ◌++◌, ◌↔◌, IsTrue, true, false, length, take};
 ghost use Rattle.mp4_frame.specs.Bytes.{be_bytes};
-ghost use Rattle.mp4_tables.specs.ElstEntry.{row_elst, FitsElstEntry};
+ghost use Rattle.mp4_tables.specs.ElstEntry.{entry_elst, row_elst, FitsElstEntry};
 
-use mp4_frame::{TableEntry, put_bytes, put_u16, put_u64};
+use crate::rows::RowEntry;
+use mp4_frame::{TableEntry, put_bytes, put_u16, put_u64, u16_at, u32_at, u64_at};
 
 /// An edit: a part of a track's media, and how it is presented (ISO/IEC 14496-12, 8.6.6).
 #[derive(Clone, Copy, Debug, Default, PartialEq, Eq)]
@@ -86,5 +87,31 @@ impl TableEntry<12> for ElstEntry {
 
     fn fits(&self) -> bool {
         has_short_times(*self)
+    }
+}
+
+impl RowEntry<20> for ElstEntry {
+    ghost entry_of = { entry_elst true };
+
+    fn from_row(row: &[u8; 20]) -> ElstEntry {
+        ElstEntry {
+            segment_duration: u64_at(row, 0),
+            media_time: u64_at(row, 8),
+            media_rate: u16_at(row, 16),
+            media_rate_fraction: u16_at(row, 18),
+        }
+    }
+}
+
+impl RowEntry<12> for ElstEntry {
+    ghost entry_of = { entry_elst false };
+
+    fn from_row(row: &[u8; 12]) -> ElstEntry {
+        ElstEntry {
+            segment_duration: u64::from(u32_at(row, 0)),
+            media_time: u64::from(u32_at(row, 4)),
+            media_rate: u16_at(row, 8),
+            media_rate_fraction: u16_at(row, 10),
+        }
     }
 }

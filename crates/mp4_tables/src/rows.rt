@@ -1,11 +1,11 @@
-//! Reading rows, and the numbers in them.
+//! Reading rows, and the entries in them.
 
-ghost use Rattle.std.specs.Prelude.{◌≡◌, ◌≤◌, ◌<◌, ◌+◌, ◌++◌, IfOk, IfErr, OnOk, map};
+ghost use Rattle.std.specs.Prelude.{◌≡◌, ℕ, ◌≤◌, ◌<◌, ◌+◌, ◌++◌, IfOk, IfErr, OnOk, List, map};
 ghost use Rattle.mp4_frame.specs.Bytes.{number};
 ghost use Rattle.mp4_frame.specs.Reading.{AnswersAs};
 ghost use Rattle.mp4_tables.specs.Rows.{rows_within};
 
-use mp4_frame::{Error, Result, check, rows_at, u32_at};
+use mp4_frame::{Error, Result, check, rows_at, u32_at, u64_at};
 use std::alloc::Global;
 
 /// The `count` rows of `E` bytes each from offset `at` on. Invalid data with the text `too_many` if a box of this
@@ -48,12 +48,44 @@ pub(crate) fn append_numbers<const E: usize>(
     Ok(())
 }
 
-/// The number in each row. The only error is out of memory.
-pub(crate) fn numbers_of(alloc: Global, rows: &[[u8; 4]]) -> Result<Vec<u32>>
-    ensures value { IfOk result (λ numbers. numbers.items ≡ map (λ entry. number entry 0 4) rows.now) }
+/// An entry that is read from a row of `E` bytes.
+pub(crate) trait RowEntry<const E: usize>: Drop {
+    /// The entry that a row holds.
+    ghost entry_of: { List ℕ → Self };
+
+    fn from_row(row: &[u8; E]) -> Self
+        ensures { result ≡ entry_of row.now };
+}
+
+impl RowEntry<4> for u32 {
+    ghost entry_of = { λ row. number row 0 4 };
+
+    fn from_row(row: &[u8; 4]) -> u32 {
+        u32_at(row, 0)
+    }
+}
+
+impl RowEntry<8> for u64 {
+    ghost entry_of = { λ row. number row 0 8 };
+
+    fn from_row(row: &[u8; 8]) -> u64 {
+        u64_at(row, 0)
+    }
+}
+
+/// The entry in each row. The memory for all of them is asked for first, so that the loop has no step that may fail.
+/// In a function of its own the loop keeps its constants in registers. The only error is out of memory.
+#[inline(never)]
+pub(crate) fn entries_of<T: RowEntry<E>, const E: usize>(
+    alloc: Global,
+    rows: &[[u8; E]],
+) -> Result<Vec<T>>
+    ensures value { IfOk result (λ entries. entries.items ≡ map T.entry_of rows.now) }
     ensures memory { IfErr result (λ e. e ≡ Error.OutOfMemory) }
 {
-    let mut numbers = Vec::new(alloc);
-    append_numbers(&mut numbers, rows, 0)?;
-    Ok(numbers)
+    let mut entries = Vec::with_capacity(alloc, rows.len())?;
+    for row in rows {
+        entries.push_reserved(T::from_row(row));
+    }
+    Ok(entries)
 }

@@ -8,7 +8,7 @@ ghost use Rattle.mp4_tables.specs.Stco.{made_stco, size_stco, reads_stco, format
 ghost use Rattle.mp4_tables.specs.StcoLaws.{laws_stco};
 
 use crate::co64::Co64Box;
-use crate::rows::numbers_of;
+use crate::rows::entries_of;
 use mp4_frame::{
     BoxLaws, BoxType, Entries, Error, Mp4Box, ReadBox, Result, TryClone, WriteBox, codes,
     is_writable_table, put_table, read_table, table_size,
@@ -134,7 +134,7 @@ impl ReadBox for StcoBox {
         Ok(StcoBox {
             version,
             flags,
-            entries: numbers_of(alloc, rows)?.into(),
+            entries: entries_of(alloc, rows)?.into(),
         })
     }
 }

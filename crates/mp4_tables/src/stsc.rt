@@ -1,18 +1,18 @@
 //! The sample to chunk box.
 
-ghost use Rattle.std.specs.Prelude.{◌≡◌, ◌-◌, ◌^◌, [], IfOk, IfErr, OnOk, map, min, true, false};
+ghost use Rattle.std.specs.Prelude.{◌≡◌, ◌-◌, ◌^◌, [], IfErr, OnOk, min, true, false};
 ghost use Rattle.mp4_frame.specs.Reading.{Invalid, IsFault};
 ghost use Rattle.mp4_frame.specs.declared.box_type.BoxType.TheVariants as names;
 ghost use Rattle.mp4_tables.specs.Chunks.{chunks_fit, number_samples, next_sample};
 ghost use Rattle.mp4_frame.specs.Format.{write_laws};
 ghost use Rattle.mp4_tables.specs.Stsc.{size_stsc, reads_stsc, format_stsc};
-ghost use Rattle.mp4_tables.specs.StscEntry.{entry_stsc};
 ghost use Rattle.mp4_tables.specs.StscLaws.{laws_stsc};
 
+use crate::rows::entries_of;
 use crate::stsc_entry::StscEntry;
 use mp4_frame::{
     BoxLaws, BoxType, Entries, Error, Mp4Box, ReadBox, Result, TryClone, WriteBox, codes,
-    is_writable_table, put_table, read_table, table_size, u32_at,
+    is_writable_table, put_table, read_table, table_size,
 };
 use std::alloc::Global;
 
@@ -79,28 +79,6 @@ impl Mp4Box for StscBox {
     }
 }
 
-fn entries_of(alloc: Global, rows: &[[u8; 12]]) -> Result<Vec<StscEntry>>
-    ensures value { IfOk result (λ entries. entries.items ≡ map entry_stsc rows.now) }
-    ensures memory { IfErr result (λ e. e ≡ Error.OutOfMemory) }
-{
-    let entries: Vec<StscEntry> = rows
-        .iter()
-        .map(
-            |row: &[u8; 12]| -> StscEntry
-                ensures { result ≡ entry_stsc row.now }
-            {
-                StscEntry {
-                    first_chunk: u32_at(row, 0),
-                    samples_per_chunk: u32_at(row, 4),
-                    sample_description_index: u32_at(row, 8),
-                    first_sample: 0,
-                }
-            },
-        )
-        .collect(alloc)?;
-    Ok(entries)
-}
-
 /// The number of the first sample of a run that begins at chunk `first`. The run before it begins at the chunk
 /// `chunk` with the sample `sample`, and has `samples` samples in each chunk. `None` if `first` is below `chunk`, or
 /// if the number is above 2^32 - 1.
@@ -117,6 +95,7 @@ fn next_sample(sample: u32, chunk: u32, samples: u32, first: u32) -> Option<u32>
 
 /// Sets the first sample of each entry. Invalid data if a first chunk is below the one before it, or if a first
 /// sample is above 2^32 - 1.
+#[inline(never)]
 fn number_samples(entries: &mut [StscEntry]) -> Result<()>
     ensures ok { OnOk result ((chunks_fit entries.old ≡ true) × (entries.new ≡ number_samples entries.old)) }
     ensures err { IfErr result (λ e. IsFault e Invalid × (chunks_fit entries.old ≡ false)) }

@@ -1,9 +1,10 @@
 //! An entry of the sample to chunk box.
 
 ghost use Rattle.std.specs.Prelude.{◌↔◌, IsTrue};
-ghost use Rattle.mp4_tables.specs.StscEntry.{row_stsc, FitsStscEntry};
+ghost use Rattle.mp4_tables.specs.StscEntry.{entry_stsc, row_stsc, FitsStscEntry};
 
-use mp4_frame::{TableEntry, put_u32};
+use crate::rows::RowEntry;
+use mp4_frame::{TableEntry, put_u32, u32_at};
 
 /// A run of consecutive chunks with equally many samples (ISO/IEC 14496-12, 8.7.4).
 #[derive(Clone, Copy, Debug, Default, PartialEq, Eq)]
@@ -44,5 +45,18 @@ impl TableEntry<12> for StscEntry {
 
     fn fits(&self) -> bool {
         has_fitting_numbers(*self)
+    }
+}
+
+impl RowEntry<12> for StscEntry {
+    ghost entry_of = { entry_stsc };
+
+    fn from_row(row: &[u8; 12]) -> StscEntry {
+        StscEntry {
+            first_chunk: u32_at(row, 0),
+            samples_per_chunk: u32_at(row, 4),
+            sample_description_index: u32_at(row, 8),
+            first_sample: 0,
+        }
     }
 }

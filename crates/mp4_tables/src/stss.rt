@@ -6,9 +6,9 @@ ghost use Rattle.mp4_frame.specs.Format.{write_laws};
 ghost use Rattle.mp4_tables.specs.Stss.{size_stss, reads_stss, format_stss};
 ghost use Rattle.mp4_tables.specs.StssLaws.{laws_stss};
 
-use crate::rows::numbers_of;
+use crate::rows::entries_of;
 use mp4_frame::{
-    BoxLaws, BoxType, Entries, Error, Mp4Box, ReadBox, Result, TryClone, WriteBox, codes,
+    BoxLaws, BoxType, Entries, Mp4Box, ReadBox, Result, TryClone, WriteBox, codes,
     is_writable_table, put_table, read_table, table_size,
 };
 use std::alloc::Global;
@@ -89,7 +89,7 @@ impl ReadBox for StssBox {
         Ok(StssBox {
             version,
             flags,
-            entries: numbers_of(alloc, rows)?.into(),
+            entries: entries_of(alloc, rows)?.into(),
         })
     }
 }

@@ -7,9 +7,9 @@ ghost use Rattle.mp4_frame.specs.Format.{write_laws};
 ghost use Rattle.mp4_tables.specs.Stsz.{reads_sizes, count_of_sizes, size_stsz, reads_stsz, format_stsz};
 ghost use Rattle.mp4_tables.specs.StszLaws.{laws_stsz};
 
-use crate::rows::{numbers_of, read_rows};
+use crate::rows::{entries_of, read_rows};
 use mp4_frame::{
-    BoxLaws, BoxType, Entries, Error, Mp4Box, ReadBox, Result, TryClone, WriteBox, all_fit, codes,
+    BoxLaws, BoxType, Entries, Mp4Box, ReadBox, Result, TryClone, WriteBox, all_fit, codes,
     expect_bytes, put_entries, put_full_box, put_u32, u8_at, u24_at, u32_at,
 };
 use std::alloc::Global;
@@ -107,7 +107,7 @@ fn read_sizes(alloc: Global, bytes: &[u8], size: u64, count: u32) -> Result<Vec<
         count,
         "stsz sample_count indicates more values than could fit in the box",
     )?;
-    numbers_of(alloc, rows)
+    entries_of(alloc, rows)
 }
 
 impl ReadBox for StszBox {

@@ -1,16 +1,16 @@
 //! The decoding time to sample box.
 
-ghost use Rattle.std.specs.Prelude.{◌≡◌, ◌-◌, ◌^◌, [], IfOk, IfErr, map, min};
+ghost use Rattle.std.specs.Prelude.{◌≡◌, ◌-◌, ◌^◌, [], min};
 ghost use Rattle.mp4_frame.specs.declared.box_type.BoxType.TheVariants as names;
 ghost use Rattle.mp4_frame.specs.Format.{write_laws};
 ghost use Rattle.mp4_tables.specs.Stts.{size_stts, reads_stts, format_stts};
-ghost use Rattle.mp4_tables.specs.SttsEntry.{entry_stts};
 ghost use Rattle.mp4_tables.specs.SttsLaws.{laws_stts};
 
+use crate::rows::entries_of;
 use crate::stts_entry::SttsEntry;
 use mp4_frame::{
-    BoxLaws, BoxType, Entries, Error, Mp4Box, ReadBox, Result, TryClone, WriteBox, codes,
-    is_writable_table, put_table, read_table, table_size, u32_at,
+    BoxLaws, BoxType, Entries, Mp4Box, ReadBox, Result, TryClone, WriteBox, codes,
+    is_writable_table, put_table, read_table, table_size,
 };
 use std::alloc::Global;
 
@@ -72,26 +72,6 @@ impl Mp4Box for SttsBox {
     fn box_size(&self) -> u64 {
         table_size(self.entries.as_slice())
     }
-}
-
-fn entries_of(alloc: Global, rows: &[[u8; 8]]) -> Result<Vec<SttsEntry>>
-    ensures value { IfOk result (λ entries. entries.items ≡ map entry_stts rows.now) }
-    ensures memory { IfErr result (λ e. e ≡ Error.OutOfMemory) }
-{
-    let entries: Vec<SttsEntry> = rows
-        .iter()
-        .map(
-            |row: &[u8; 8]| -> SttsEntry
-                ensures { result ≡ entry_stts row.now }
-            {
-                SttsEntry {
-                    sample_count: u32_at(row, 0),
-                    sample_delta: u32_at(row, 4),
-                }
-            },
-        )
-        .collect(alloc)?;
-    Ok(entries)
 }
 
 impl ReadBox for SttsBox {

@@ -1,9 +1,10 @@
 //! An entry of the decoding time to sample box.
 
 ghost use Rattle.std.specs.Prelude.{◌↔◌, IsTrue};
-ghost use Rattle.mp4_tables.specs.SttsEntry.{row_stts, FitsSttsEntry};
+ghost use Rattle.mp4_tables.specs.SttsEntry.{entry_stts, row_stts, FitsSttsEntry};
 
-use mp4_frame::{TableEntry, put_u32};
+use crate::rows::RowEntry;
+use mp4_frame::{TableEntry, put_u32, u32_at};
 
 /// A run of consecutive samples with the same duration (ISO/IEC 14496-12, 8.6.1.2).
 #[derive(Clone, Copy, Debug, Default, PartialEq, Eq)]
@@ -38,5 +39,16 @@ impl TableEntry<8> for SttsEntry {
 
     fn fits(&self) -> bool {
         has_fitting_numbers(*self)
+    }
+}
+
+impl RowEntry<8> for SttsEntry {
+    ghost entry_of = { entry_stts };
+
+    fn from_row(row: &[u8; 8]) -> SttsEntry {
+        SttsEntry {
+            sample_count: u32_at(row, 0),
+            sample_delta: u32_at(row, 4),
+        }
     }
 }
