@@ -131,7 +131,9 @@ pub fn put_table<T: TableEntry<E>, const E: usize>(
     put_entries(out, at, entries);
 }
 
-/// Puts the rows of the entries, and returns the offset after them.
+/// Puts the rows of the entries, and returns the offset after them. In a function of its own the loop is aligned, and
+/// keeps its constants in registers.
+#[inline(never)]
 pub fn put_entries<T: TableEntry<E>, const E: usize>(
     out: &mut [u8],
     at: usize,
