@@ -50,15 +50,16 @@ pub(crate) fn append_numbers<const E: usize>(
 
 /// An entry that is read from a row of `E` bytes.
 pub(crate) trait RowEntry<const E: usize>: Drop {
-    /// The entry that a row holds.
+    /// The entry whose row has these bytes.
     ghost entry_of: { List ℕ → Self };
 
+    /// The entry that this row holds.
     fn from_row(row: &[u8; E]) -> Self
         ensures { result ≡ entry_of row.now };
 }
 
 impl RowEntry<4> for u32 {
-    ghost entry_of = { λ row. number row 0 4 };
+    ghost entry_of = { λ bytes. number bytes 0 4 };
 
     fn from_row(row: &[u8; 4]) -> u32 {
         u32_at(row, 0)
@@ -66,7 +67,7 @@ impl RowEntry<4> for u32 {
 }
 
 impl RowEntry<8> for u64 {
-    ghost entry_of = { λ row. number row 0 8 };
+    ghost entry_of = { λ bytes. number bytes 0 8 };
 
     fn from_row(row: &[u8; 8]) -> u64 {
         u64_at(row, 0)

@@ -94,7 +94,7 @@ fn next_sample(sample: u32, chunk: u32, samples: u32, first: u32) -> Option<u32>
 }
 
 /// Sets the first sample of each entry. Invalid data if a first chunk is below the one before it, or if a first
-/// sample is above 2^32 - 1.
+/// sample is above 2^32 - 1. It is not inlined, as `entries_of` isn't.
 #[inline(never)]
 fn number_samples(entries: &mut [StscEntry]) -> Result<()>
     ensures ok { OnOk result ((chunks_fit entries.old ≡ true) × (entries.new ≡ number_samples entries.old)) }
