@@ -63,13 +63,18 @@ const CODES: [(BoxType, [u8; 4], &str); 55] = [
     (BoxType::DayBox, *b"\xa9day", "\u{fffd}day"),
 ];
 
+/// The rows of `CODES`, in one place: a constant that a test names is written out where it stands.
+fn codes() -> &'static [(BoxType, [u8; 4], &'static str)] {
+    &CODES
+}
+
 fn printed(alloc: Global, name: BoxType) -> Result<String, Error> {
     Ok(format!(in alloc; "{name}")?)
 }
 
 #[test]
 fn names_have_their_codes(rt: HostRuntime) -> Result<(), Fail> {
-    for (name, bytes, text) in CODES {
+    for &(name, bytes, text) in codes() {
         assert_eq!(rt; u32::from(name), u32::from_be_bytes(bytes), "{text}");
         assert_eq!(rt; FourCC::from(name).value, bytes, "{text}");
     }
@@ -86,7 +91,7 @@ fn names_of(bytes: [u8; 4]) -> [BoxType; 2] {
 
 #[test]
 fn codes_have_their_names(rt: HostRuntime) -> Result<(), Fail> {
-    for (name, bytes, text) in CODES {
+    for &(name, bytes, text) in codes() {
         assert_eq!(rt; names_of(bytes), [name, name], "{text}");
     }
     Ok(())
@@ -94,7 +99,7 @@ fn codes_have_their_names(rt: HostRuntime) -> Result<(), Fail> {
 
 #[test]
 fn names_are_printed_as_their_codes(rt: HostRuntime) -> Result<(), Fail> {
-    for (name, _, text) in CODES {
+    for &(name, _, text) in codes() {
         assert_eq!(rt; printed(rt.alloc(), name)?.as_str(), text);
     }
     Ok(())
@@ -102,7 +107,7 @@ fn names_are_printed_as_their_codes(rt: HostRuntime) -> Result<(), Fail> {
 
 #[test]
 fn codes_with_another_first_or_last_byte_have_no_name(rt: HostRuntime) -> Result<(), Fail> {
-    for (_, bytes, text) in CODES {
+    for &(_, bytes, text) in codes() {
         for bit in [0x80, 0x8000_0000] {
             let other = u32::from_be_bytes(bytes) ^ bit;
             let unknown = BoxType::UnknownBox(other);

@@ -77,17 +77,26 @@ fn avc1(data_reference_index: u16, width: u16, height: u16, avcc: AvcCBox) -> Av
 }
 
 #[test]
-fn default_and_new_avc1(rt: HostRuntime) -> Result<(), Fail> {
+fn default_avc1(rt: HostRuntime) {
     let zeros = avc1(0, 0, 0, no_sets(rt.alloc()));
     assert!(rt; Avc1Box::default_in(rt.alloc()) == zeros);
-    let config = AvcConfig {
+}
+
+/// A configuration of a sequence and a picture parameter set.
+fn config_of_two_sets(alloc: Global) -> Result<AvcConfig, Error> {
+    Ok(AvcConfig {
         width: 0x8182,
         height: 0x8384,
-        seq_param_set: Vec::from_slice(rt.alloc(), &SEQUENCE)?.into(),
-        pic_param_set: Vec::from_slice(rt.alloc(), &PICTURE)?.into(),
-    };
-    let made = avc1(1, 0x8182, 0x8384, two_sets(rt.alloc())?);
-    assert!(rt; Avc1Box::new(rt.alloc(), &config)? == made);
+        seq_param_set: Vec::from_slice(alloc, &SEQUENCE)?.into(),
+        pic_param_set: Vec::from_slice(alloc, &PICTURE)?.into(),
+    })
+}
+
+#[test]
+fn new_avc1(rt: HostRuntime) -> Result<(), Fail> {
+    let made = Avc1Box::new(rt.alloc(), &config_of_two_sets(rt.alloc())?)?;
+    let expected = avc1(1, 0x8182, 0x8384, two_sets(rt.alloc())?);
+    assert!(rt; made == expected);
     Ok(())
 }
 

@@ -60,116 +60,107 @@ fn clones_of_boxes_that_were_read(rt: HostRuntime) -> Result<(), Fail> {
     Ok(())
 }
 
+/// The type and the size that a box returns.
+macro_rules! type_and_size {
+    ($value:expr) => {{
+        let value = $value;
+        (value.get_type(), value.get_size())
+    }};
+}
+
 #[test]
 fn types_and_sizes_of_headers(rt: HostRuntime) {
-    let fragment = mfhd();
-    assert_eq!(rt;
-        (fragment.get_type(), fragment.get_size()),
-        (BoxType::MfhdBox, 16)
-    );
-    let sound = smhd();
-    assert_eq!(rt;
-        (sound.get_type(), sound.get_size()),
-        (BoxType::SmhdBox, 16)
-    );
-    let video = vmhd_colors();
-    assert_eq!(rt;
-        (video.get_type(), video.get_size()),
-        (BoxType::VmhdBox, 20)
-    );
-    let track = trex();
-    assert_eq!(rt;
-        (track.get_type(), track.get_size()),
-        (BoxType::TrexBox, 32)
-    );
+    for (found, expected) in [
+        (type_and_size!(mfhd()), (BoxType::MfhdBox, 16)),
+        (type_and_size!(smhd()), (BoxType::SmhdBox, 16)),
+        (type_and_size!(vmhd_colors()), (BoxType::VmhdBox, 20)),
+        (type_and_size!(trex()), (BoxType::TrexBox, 32)),
+        (type_and_size!(tfhd()), (BoxType::TfhdBox, 28)),
+    ] {
+        assert_eq!(rt; found, expected);
+    }
+}
+
+/// The type and the size of a box of an unknown version.
+macro_rules! of_version_2 {
+    ($value:expr) => {{
+        let mut value = $value;
+        value.version = 2;
+        (value.get_type(), value.get_size())
+    }};
 }
 
 /// A box of an unknown version has a size, though it can't be written.
 #[test]
 fn types_and_sizes_of_unknown_versions(rt: HostRuntime) -> Result<(), Fail> {
-    let mut movie = MvhdBox::default();
-    movie.version = 2;
-    assert_eq!(rt;
-        (movie.get_type(), movie.get_size()),
-        (BoxType::MvhdBox, 92)
-    );
-    let mut track = TkhdBox::default();
-    track.version = 2;
-    assert_eq!(rt;
-        (track.get_type(), track.get_size()),
-        (BoxType::TkhdBox, 72)
-    );
-    let mut media = MdhdBox::default_in(rt.alloc())?;
-    media.version = 2;
-    assert_eq!(rt;
-        (media.get_type(), media.get_size()),
-        (BoxType::MdhdBox, 16)
-    );
-    let mut extent = MehdBox::default();
-    extent.version = 2;
-    assert_eq!(rt;
-        (extent.get_type(), extent.get_size()),
-        (BoxType::MehdBox, 12)
-    );
-    let mut time = TfdtBox::default();
-    time.version = 2;
-    assert_eq!(rt; (time.get_type(), time.get_size()), (BoxType::TfdtBox, 16));
+    for (found, expected) in [
+        (of_version_2!(MvhdBox::default()), (BoxType::MvhdBox, 92)),
+        (of_version_2!(TkhdBox::default()), (BoxType::TkhdBox, 72)),
+        (
+            of_version_2!(MdhdBox::default_in(rt.alloc())?),
+            (BoxType::MdhdBox, 16),
+        ),
+        (of_version_2!(MehdBox::default()), (BoxType::MehdBox, 12)),
+        (of_version_2!(TfdtBox::default()), (BoxType::TfdtBox, 16)),
+    ] {
+        assert_eq!(rt; found, expected);
+    }
     Ok(())
-}
-
-/// The type and the size that a box returns, which is made.
-macro_rules! type_and_size {
-    ($made:expr) => {{
-        let made = $made?;
-        (made.get_type(), made.get_size())
-    }};
 }
 
 #[test]
 fn types_and_sizes_of_tables(rt: HostRuntime) -> Result<(), Fail> {
-    assert_eq!(rt; type_and_size!(stco(rt.alloc())), (BoxType::StcoBox, 44));
-    assert_eq!(rt;
-        type_and_size!(co64_of_seven(rt.alloc())),
-        (BoxType::Co64Box, 72)
-    );
-    assert_eq!(rt; type_and_size!(stsc(rt.alloc())), (BoxType::StscBox, 40));
-    let tfhd = tfhd();
-    assert_eq!(rt; (tfhd.get_type(), tfhd.get_size()), (BoxType::TfhdBox, 28));
-    assert_eq!(rt; type_and_size!(trun(rt.alloc())), (BoxType::TrunBox, 28));
+    for (found, expected) in [
+        (type_and_size!(stco(rt.alloc())?), (BoxType::StcoBox, 44)),
+        (
+            type_and_size!(co64_of_seven(rt.alloc())?),
+            (BoxType::Co64Box, 72),
+        ),
+        (type_and_size!(stsc(rt.alloc())?), (BoxType::StscBox, 40)),
+        (type_and_size!(trun(rt.alloc())?), (BoxType::TrunBox, 28)),
+    ] {
+        assert_eq!(rt; found, expected);
+    }
     Ok(())
 }
 
 #[test]
 fn types_and_sizes_of_tables_of_samples(rt: HostRuntime) -> Result<(), Fail> {
-    assert_eq!(rt;
-        type_and_size!(stss_of_nine(rt.alloc())),
-        (BoxType::StssBox, 52)
-    );
-    assert_eq!(rt; type_and_size!(stts(rt.alloc())), (BoxType::SttsBox, 32));
-    assert_eq!(rt; type_and_size!(ctts(rt.alloc())), (BoxType::CttsBox, 32));
-    assert_eq!(rt;
-        type_and_size!(stsz_of_nine(rt.alloc())),
-        (BoxType::StszBox, 56)
-    );
-    assert_eq!(rt;
-        type_and_size!(elst_long(rt.alloc())),
-        (BoxType::ElstBox, 36)
-    );
+    for (found, expected) in [
+        (
+            type_and_size!(stss_of_nine(rt.alloc())?),
+            (BoxType::StssBox, 52),
+        ),
+        (type_and_size!(stts(rt.alloc())?), (BoxType::SttsBox, 32)),
+        (type_and_size!(ctts(rt.alloc())?), (BoxType::CttsBox, 32)),
+        (
+            type_and_size!(stsz_of_nine(rt.alloc())?),
+            (BoxType::StszBox, 56),
+        ),
+        (
+            type_and_size!(elst_long(rt.alloc())?),
+            (BoxType::ElstBox, 36),
+        ),
+    ] {
+        assert_eq!(rt; found, expected);
+    }
     Ok(())
 }
 
 #[test]
 fn types_and_sizes_of_texts_and_references(rt: HostRuntime) -> Result<(), Fail> {
-    assert_eq!(rt; type_and_size!(ftyp(rt.alloc())), (BoxType::FtypBox, 32));
-    assert_eq!(rt;
-        type_and_size!(data_box(rt.alloc())),
-        (BoxType::DataBox, 25)
-    );
-    assert_eq!(rt; type_and_size!(hdlr(rt.alloc())), (BoxType::HdlrBox, 45));
-    assert_eq!(rt; type_and_size!(url(rt.alloc())), (BoxType::UrlBox, 14));
-    let dref = dref_of(None);
-    assert_eq!(rt; (dref.get_type(), dref.get_size()), (BoxType::DrefBox, 16));
-    let dinf = dinf(rt.alloc());
-    assert_eq!(rt; (dinf.get_type(), dinf.get_size()), (BoxType::DinfBox, 36));
+    for (found, expected) in [
+        (type_and_size!(ftyp(rt.alloc())?), (BoxType::FtypBox, 32)),
+        (
+            type_and_size!(data_box(rt.alloc())?),
+            (BoxType::DataBox, 25),
+        ),
+        (type_and_size!(hdlr(rt.alloc())?), (BoxType::HdlrBox, 45)),
+        (type_and_size!(url(rt.alloc())?), (BoxType::UrlBox, 14)),
+        (type_and_size!(dref_of(None)), (BoxType::DrefBox, 16)),
+        (type_and_size!(dinf(rt.alloc())), (BoxType::DinfBox, 36)),
+    ] {
+        assert_eq!(rt; found, expected);
+    }
     Ok(())
 }

@@ -10,31 +10,23 @@ use std::alloc::Global;
 use std::test::Fail;
 
 #[test]
-fn configurations_have_defaults(rt: HostRuntime) -> Result<(), Fail> {
+fn default_avc_configuration_is_empty(rt: HostRuntime) {
     let avc = AvcConfig::default_in(rt.alloc());
-    assert_eq!(rt;
-        (
-            avc.width,
-            avc.height,
-            avc.seq_param_set.len(),
-            avc.pic_param_set.len()
-        ),
-        (0, 0, 0, 0)
-    );
-    assert_eq!(rt;
-        HevcConfig::default(),
-        HevcConfig {
-            width: 0,
-            height: 0
-        }
-    );
-    assert_eq!(rt;
-        Vp9Config::default(),
-        Vp9Config {
-            width: 0,
-            height: 0
-        }
-    );
+    let sizes = (avc.width, avc.height);
+    let sets = (avc.seq_param_set.len(), avc.pic_param_set.len());
+    assert_eq!(rt; (sizes, sets), ((0, 0), (0, 0)));
+}
+
+#[test]
+fn default_configurations_have_no_size(rt: HostRuntime) {
+    let (width, height) = (0, 0);
+    assert_eq!(rt; HevcConfig::default(), HevcConfig { width, height });
+    assert_eq!(rt; Vp9Config::default(), Vp9Config { width, height });
+    assert_eq!(rt; TtxtConfig::default(), TtxtConfig {});
+}
+
+#[test]
+fn default_aac_configuration_is_of_two_channels(rt: HostRuntime) {
     assert_eq!(rt;
         AacConfig::default(),
         AacConfig {
@@ -44,15 +36,19 @@ fn configurations_have_defaults(rt: HostRuntime) -> Result<(), Fail> {
             chan_conf: ChannelConfig::Stereo,
         }
     );
-    assert_eq!(rt; TtxtConfig::default(), TtxtConfig {});
-    assert_eq!(rt;
-        debug_text(rt.alloc(), &TtxtConfig {})?.as_str(),
-        "TtxtConfig"
-    );
-    assert_eq!(rt;
-        debug_text(rt.alloc(), &Vp9Config::default())?.as_str(),
-        "Vp9Config { width: 0, height: 0 }"
-    );
+}
+
+#[test]
+fn small_configurations_are_printed(rt: HostRuntime) -> Result<(), Fail> {
+    for (made, text) in [
+        (debug_text(rt.alloc(), &TtxtConfig {})?, "TtxtConfig"),
+        (
+            debug_text(rt.alloc(), &Vp9Config::default())?,
+            "Vp9Config { width: 0, height: 0 }",
+        ),
+    ] {
+        assert_eq!(rt; made.as_str(), text);
+    }
     Ok(())
 }
 

@@ -35,24 +35,38 @@ fn skips_that_end_past_64_bits(rt: HostRuntime) {
     assert_eq!(rt; invalid_text(&skip_box(&mut reader, u64::MAX)), text);
 }
 
-#[test]
-fn values_that_do_not_fit(rt: HostRuntime) -> Result<(), Fail> {
-    let text = Some("value does not fit its field");
-    let flagged = MfhdBox {
+const DOES_NOT_FIT: Option<&str> = Some("value does not fit its field");
+
+/// A box whose flags have 25 bits.
+fn flagged() -> MfhdBox {
+    MfhdBox {
         version: 0,
         flags: 1 << 24,
         sequence_number: 1,
-    };
+    }
+}
+
+#[test]
+fn a_value_that_does_not_fit(rt: HostRuntime) {
     let mut out = Vec::new(rt.alloc());
-    assert_eq!(rt; invalid_text(&flagged.write_box(&mut out)), text);
-    let boxes = [AnyBox::MfhdBox(flagged)];
-    assert_eq!(rt; invalid_text(&write_boxes(&boxes, &mut out)), text);
+    assert_eq!(rt; invalid_text(&flagged().write_box(&mut out)), DOES_NOT_FIT);
+}
+
+#[test]
+fn a_value_in_a_list_that_does_not_fit(rt: HostRuntime) {
+    let mut out = Vec::new(rt.alloc());
+    let boxes = [AnyBox::MfhdBox(flagged())];
+    assert_eq!(rt; invalid_text(&write_boxes(&boxes, &mut out)), DOES_NOT_FIT);
+}
+
+#[test]
+fn an_offset_that_does_not_fit(rt: HostRuntime) -> Result<(), Fail> {
     let offsets = Co64Box {
         version: 0,
         flags: 0,
         entries: Vec::from_slice(rt.alloc(), &[1 << 32])?.into(),
     };
     let short = StcoBox::try_from_co64(rt.alloc(), &offsets);
-    assert_eq!(rt; invalid_text(&short), text);
+    assert_eq!(rt; invalid_text(&short), DOES_NOT_FIT);
     Ok(())
 }
