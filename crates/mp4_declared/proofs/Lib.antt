@@ -1,3 +1,2 @@
 pub mod BitSteps
-pub mod EntrySteps
 pub mod BoxSteps

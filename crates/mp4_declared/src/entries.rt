@@ -1,13 +1,11 @@
 //! Entries that are declared, and their rows. Widths are in bits.
 
 ghost use Rattle.std.specs.Prelude.{◌≡◌, ℕ, ◌<◌, ◌≤◌, ◌+◌, ◌*◌, ◌^◌, ◌++◌, ◌↔◌, All, IfOk, IfErr, IsTrue, flat_map, length, map, slice_index, take};
-ghost use Rattle.mp4_frame.specs.Reading.{AnswersAs};
-ghost use Rattle.mp4_tables.specs.Rows.{rows_within};
 ghost use Rattle.mp4_declared.specs.Layout.{EntryLayout, row_of, entry_of, FitsEntry};
 ghost use Rattle.mp4_declared.specs.LayoutLaws.{IsEntryLayout};
 
 use crate::bits::{numbers_at, numbers_fit, put_numbers};
-use mp4_frame::{Error, Result, check, rows_at};
+use mp4_frame::{Error, Result};
 use std::alloc::Global;
 
 /// An entry of `N` numbers, in a row of `E` bytes.
@@ -30,23 +28,6 @@ pub trait EntryLayout<const N: usize, const E: usize>: Copy + Drop {
 
     /// Its fields fill its row, and its numbers are read back.
     ghost entry_laws: { IsEntryLayout entry E };
-}
-
-/// The `count` rows of `E` bytes each from offset `at` on. Invalid data with the text `too_many` if a box of this
-/// size has no room for them; end of input unless all of them are present.
-#[tactic(auto, using(crate::proofs::EntrySteps::same_room), unfolding(mp4_tables::specs::Rows::rows_within))]
-pub(crate) fn read_rows<'a, const E: usize>(
-    bytes: &'a [u8],
-    size: u64,
-    at: usize,
-    count: u64,
-    too_many: &'static str,
-) -> Result<&'a [[u8; E]]>
-    requires { 0 < E }
-    ensures { AnswersAs (λ rows. rows.now) result (rows_within bytes.now size at E count) }
-{
-    check(count <= size.saturating_sub(at as u64) / E as u64, too_many)?;
-    rows_at::<E>(bytes, at, count)
 }
 
 /// The entry in this row.

@@ -9,12 +9,13 @@ ghost use Rattle.mp4_declared.specs.BoxLayout.{widths_of, reads_fields, reads_la
 ghost use Rattle.mp4_declared.specs.BoxLayoutLaws.{laws_layout};
 
 use crate::bits::{bytes_in, fits, number_at, numbers_at, numbers_fit, put_number, put_numbers};
-use crate::entries::{entries_fit, entries_of, put_rows, read_rows};
+use crate::entries::{entries_fit, entries_of, put_rows};
 use crate::layout::BoxLayout;
 use mp4_frame::{
     BoxLaws, BoxType, Entries, Error, Mp4Box, ReadBox, Result, TryClone, WriteBox, check,
     expect_bytes, put_full_box, u8_at, u24_at,
 };
+use mp4_tables::read_rows;
 use std::alloc::Global;
 use std::marker::Model;
 

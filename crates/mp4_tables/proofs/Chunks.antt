@@ -1,10 +1,13 @@
 -- Counting samples entry by entry gives the sum over the chunks.
-use Rattle.std.proofs.Common.{◌≡◌, ℕ, zero, suc, ◌+◌, ◌-◌, ◌*◌, ◌^◌, ◌<◌, ◌≤◌, Bool, true, false, ◌&&◌, cond, List, [], ◌∷◌, ◌++◌, map, ltb, leb, Option, Some, None, is_some, refl, sym, ap, ◌∙◌, append_assoc, arith, inl, inr}
+use Rattle.std.proofs.Common.{◌≡◌, ℕ, zero, suc, ◌+◌, ◌-◌, ◌*◌, ◌^◌, ◌<◌, ◌≤◌, Bool, true, false, ◌&&◌, cond, List, [], ◌∷◌, ◌++◌, map, ltb, leb, Option, Some, None, is_some, Ok, Err, refl, sym, ap, ◌∙◌, append_assoc, arith, inl, inr}
 use Rattle.std.specs.List.{range_with_len, sum_by, list_all}
 use Rattle.std.proofs.lemmas.Bool.{leb-true, le-leb, lt-leb, and_parts, and_right, cases_Bool}
 use Rattle.std.proofs.lemmas.List.Sums.{sum_by-cons}
 use Rattle.mp4_tables.specs.declared.stsc_entry.StscEntry.{StscEntry}
 use Rattle.mp4_tables.proofs.Runs.{front_of, where_some, run}
+use Rattle.mp4_frame.specs.Reading.{Invalid}
+use Rattle.mp4_tables.specs.StscEntry.{entry_stsc}
+use Rattle.mp4_tables.specs.Stsc.{numbered_entries}
 use Rattle.mp4_tables.specs.Chunks.{samples_in, begins, sample_at, in_order, chunks_fit, with_sample, number_samples}
 
 -- a sum over k + n consecutive chunks, where each of the last n chunks has m samples
@@ -113,11 +116,20 @@ not_case : (b : Bool) (o : Option (List StscEntry)) (xs : List StscEntry) → o 
 not_case true o xs h is = absurd cc
 not_case false o xs h is = refl
 
-pub fit_all : (es ys : List StscEntry) → run 1 (begins es) 0 es ≡ Some ys → (chunks_fit es ≡ true) × (ys ≡ number_samples es)
+fit_all : (es ys : List StscEntry) → run 1 (begins es) 0 es ≡ Some ys → (chunks_fit es ≡ true) × (ys ≡ number_samples es)
 fit_all es ys h = all_case (chunks_fit es) (run 1 (begins es) 0 es) (number_samples es) ys (run_is es) h
 
-pub fit_not : (es : List StscEntry) → run 1 (begins es) 0 es ≡ None → chunks_fit es ≡ false
+fit_not : (es : List StscEntry) → run 1 (begins es) 0 es ≡ None → chunks_fit es ≡ false
 fit_not es h = not_case (chunks_fit es) (run 1 (begins es) 0 es) (number_samples es) (run_is es) h
+
+-- what reading rows gives, by what run gives of their entries
+pub numbered : (rows : List (List ℕ)) (ys : List StscEntry) → run 1 (begins (map entry_stsc rows)) 0 (map entry_stsc rows) ≡ Some ys → (numbered_entries rows).outcome ≡ Ok ys
+numbered rows ys h =
+    let both = fit_all (map entry_stsc rows) ys h in
+    rw (both.0, both.1) refl
+
+pub refused : (rows : List (List ℕ)) → run 1 (begins (map entry_stsc rows)) 0 (map entry_stsc rows) ≡ None → (numbered_entries rows).outcome ≡ Err Invalid
+refused rows h = rw (fit_not (map entry_stsc rows) h) refl
 
 some_case : (b : Bool) (xs : List StscEntry) → is_some (cond b (Some xs) None) ≡ b
 some_case true xs = refl

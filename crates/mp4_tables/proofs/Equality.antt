@@ -1,9 +1,6 @@
 -- Derived equality is equality of all fields, for types where the proof search does not find this.
-use Rattle.std.proofs.Common.{rules, ◌≡◌, ℕ, ℤ, Bool, true, nat_eq, Option, Some, None, refl, ap}
-use Rattle.std.specs.Option.{option_eq}
-use Rattle.std.specs.Ordering.{int_eq}
+use Rattle.std.proofs.Common.{rules, ◌≡◌}
 use Rattle.std.proofs.lemmas.Bool.{and_parts, eqb-true}
-use Rattle.std.proofs.lemmas.Bool.Decides.{Decides-int_eq}
 use lib.Pointwise.{pointwise_decides, bytes_decides}
 use Rattle.mp4_frame.specs.Equality.{IsEquality}
 use Rattle.mp4_frame.proofs.Equality.{same_option, same_signed_option}

@@ -1,4 +1,5 @@
 pub mod Offsets
+pub mod Room
 pub mod Runs
 pub mod Chunks
 pub mod TrunRows

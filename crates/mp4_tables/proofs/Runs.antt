@@ -1,8 +1,9 @@
 -- Computing the first samples of entries, one entry after the other.
-use Rattle.std.proofs.Common.{◌≡◌, ℕ, ◌+◌, ◌<◌, ◌≤◌, List, [], ◌∷◌, ◌++◌, length, take, drop, set, get_or, Option, Some, None, is_some, Bool, true, false, refl, sym, ap, ◌∙◌, append_assoc, arith}
-use Rattle.std.proofs.lemmas.List.{append-nil, drop_more, drop_all, take_all, take_more_set, drop-set-lt}
+use Rattle.std.proofs.Common.{◌≡◌, ℕ, ◌+◌, ◌<◌, ◌≤◌, List, [], ◌∷◌, ◌++◌, length, map, drop, get_or, Option, Some, None, is_some, Bool, true, false, refl, sym, ap, ◌∙◌, append_assoc}
+use Rattle.std.proofs.lemmas.List.{append-nil, drop_more, drop_all}
 use Rattle.mp4_tables.specs.declared.stsc_entry.StscEntry.{StscEntry}
 use Rattle.mp4_tables.specs.Chunks.{next_sample, with_sample}
+use Rattle.mp4_tables.specs.StscEntry.{entry_stsc}
 
 abbrev pub front_of : StscEntry → Option (List StscEntry) → Option (List StscEntry)
 front_of e None = None
@@ -27,31 +28,36 @@ front_more : (front : List StscEntry) (e : StscEntry) (rest : Option (List StscE
 front_more front e None = refl
 front_more front e (Some rest) = ap (λ (es : List StscEntry). Some es) (sym (append_assoc front (e ∷ []) rest))
 
--- an entry whose first sample fits
-pub goes_on : (es : List StscEntry) (i s k m n : ℕ) (e d : StscEntry) (total : Option (List StscEntry)) → i < length es → e ≡ get_or es i d → next_sample s k m e.first_chunk ≡ Some n
-    → with_front (take i es) (run s k m (drop i es)) ≡ total
-    → with_front (take (i + 1) (set es i (with_sample e n))) (run n e.first_chunk e.samples_per_chunk (drop (i + 1) (set es i (with_sample e n)))) ≡ total
-unfolding run
-goes_on es i s k m n e d total lt is next so_far =
-    let now : drop i es ≡ e ∷ drop (i + 1) es = drop_more es i d lt ∙ ap (λ (x : StscEntry). x ∷ drop (i + 1) es) (sym is) in
-    let front = take_more_set es i (with_sample e n) lt in
-    let after = drop-set-lt (i + 1) es i (with_sample e n) (omega arith) in
-    let one : with_front (take i es) (run s k m (drop i es)) ≡ with_front (take i es) (front_of (with_sample e n) (run n e.first_chunk e.samples_per_chunk (drop (i + 1) es))) = rw (now, next) refl in
-    rw (front, after) (sym (front_more (take i es) (with_sample e n) (run n e.first_chunk e.samples_per_chunk (drop (i + 1) es))) ∙ sym one ∙ so_far)
+-- the entries of the rows from one on are its entry, and those of the rows after it
+entries_more : (rows : List (List ℕ)) (i : ℕ) (e : StscEntry) (d : List ℕ) → i < length rows → e ≡ entry_stsc (get_or rows i d)
+    → map entry_stsc (drop i rows) ≡ e ∷ map entry_stsc (drop (i + 1) rows)
+entries_more rows i e d lt is =
+    ap (λ (rs : List (List ℕ)). map entry_stsc rs) (drop_more rows i d lt) ∙ ap (λ (x : StscEntry). x ∷ map entry_stsc (drop (i + 1) rows)) (sym is)
 
--- an entry whose first sample does not fit
-pub stops : (es : List StscEntry) (i s k m : ℕ) (e d : StscEntry) (total : Option (List StscEntry)) → i < length es → e ≡ get_or es i d → next_sample s k m e.first_chunk ≡ None
-    → with_front (take i es) (run s k m (drop i es)) ≡ total → total ≡ None
+-- a row whose entry has a first sample that fits
+pub goes_on : (rows : List (List ℕ)) (i s k m n : ℕ) (e : StscEntry) (d : List ℕ) (front : List StscEntry) (total : Option (List StscEntry)) → i < length rows → e ≡ entry_stsc (get_or rows i d) → next_sample s k m e.first_chunk ≡ Some n
+    → with_front front (run s k m (map entry_stsc (drop i rows))) ≡ total
+    → with_front (front ++ with_sample e n ∷ []) (run n e.first_chunk e.samples_per_chunk (map entry_stsc (drop (i + 1) rows))) ≡ total
 unfolding run
-stops es i s k m e d total lt is next so_far =
-    let now : drop i es ≡ e ∷ drop (i + 1) es = drop_more es i d lt ∙ ap (λ (x : StscEntry). x ∷ drop (i + 1) es) (sym is) in
-    let one : with_front (take i es) (run s k m (drop i es)) ≡ None = rw (now, next) refl in
+goes_on rows i s k m n e d front total lt is next so_far =
+    let rest = map entry_stsc (drop (i + 1) rows) in
+    let now = entries_more rows i e d lt is in
+    let one : with_front front (run s k m (map entry_stsc (drop i rows))) ≡ with_front front (front_of (with_sample e n) (run n e.first_chunk e.samples_per_chunk rest)) = rw (now, next) refl in
+    sym (front_more front (with_sample e n) (run n e.first_chunk e.samples_per_chunk rest)) ∙ sym one ∙ so_far
+
+-- a row whose entry has a first sample that does not fit
+pub stops : (rows : List (List ℕ)) (i s k m : ℕ) (e : StscEntry) (d : List ℕ) (front : List StscEntry) (total : Option (List StscEntry)) → i < length rows → e ≡ entry_stsc (get_or rows i d) → next_sample s k m e.first_chunk ≡ None
+    → with_front front (run s k m (map entry_stsc (drop i rows))) ≡ total → total ≡ None
+unfolding run
+stops rows i s k m e d front total lt is next so_far =
+    let now = entries_more rows i e d lt is in
+    let one : with_front front (run s k m (map entry_stsc (drop i rows))) ≡ None = rw (now, next) refl in
     sym so_far ∙ one
 
-pub ends : (es : List StscEntry) (i s k m : ℕ) (total : Option (List StscEntry)) → length es ≤ i → with_front (take i es) (run s k m (drop i es)) ≡ total → total ≡ Some es
+pub ends : (rows : List (List ℕ)) (i s k m : ℕ) (front : List StscEntry) (total : Option (List StscEntry)) → length rows ≤ i → with_front front (run s k m (map entry_stsc (drop i rows))) ≡ total → total ≡ Some front
 unfolding run
-ends es i s k m total le so_far =
-    let one : with_front (take i es) (run s k m (drop i es)) ≡ Some es = rw (drop_all i es le, take_all i es le) (ap (λ (xs : List StscEntry). Some xs) (append-nil es)) in
+ends rows i s k m front total le so_far =
+    let one : with_front front (run s k m (map entry_stsc (drop i rows))) ≡ Some front = rw (drop_all i rows le) (ap (λ (xs : List StscEntry). Some xs) (append-nil front)) in
     sym so_far ∙ one
 
 -- the same for the check that all first samples fit, which does not compute the entries

@@ -4,14 +4,14 @@ use Rattle.std.specs.Prelude.{slice_get}
 use Rattle.std.specs.List.{flat_map, range_with_len}
 use Rattle.std.proofs.lemmas.Bool.{le-leb}
 use Rattle.std.proofs.lemmas.Option.{slice_get-get_or}
-use Rattle.std.proofs.lemmas.List.{append-nil, append_assoc, map-append, take_all}
+use Rattle.std.proofs.lemmas.List.{append-nil, append_assoc, length-append, map-append, take_all}
 use Rattle.mp4_frame.specs.Bytes.{number, be_bytes}
 use Rattle.mp4_frame.specs.Reading.{memory, done, ◌>>=◌}
 use Rattle.mp4_frame.specs.Tables.{rows, rows_at}
 use Rattle.mp4_tables.specs.Flagged.{width_if, optional}
 use Rattle.mp4_tables.specs.Rows.{rows_within}
 use Rattle.mp4_tables.specs.TrunRows.{row_flags, size_in_row, flags_in_row, cts_in_row, row_length}
-use Rattle.mp4_tables.specs.TrunLists.{column_if, lists_of, reads_lists, HasAt}
+use Rattle.mp4_tables.specs.TrunLists.{column_if, lists_of, reads_lists, count_if, HasAt}
 use Rattle.mp4_tables.specs.Trun.{ListedTrun, row_trun, rows_trun}
 use Rattle.mp4_tables.specs.TrunLaws.{length_rows}
 use Rattle.mp4_tables.specs.declared.trun.TrunBox.{TrunBox}
@@ -126,6 +126,19 @@ column_moves true o part after rest front all is h =
     append_assoc front (map (λ row. number row o 4) part) (map (λ row. number row o 4) after)
     ∙ ap (λ (l : List ℕ). front ++ l) (sym (map-append (λ row. number row o 4) part after) ∙ ap (λ (l : List (List ℕ)). map (λ row. number row o 4) l) (sym is)) ∙ h
 column_moves false o part after rest front all is h = append-nil (front ++ []) ∙ h
+
+-- a list with room for the numbers of the rows has room for those of a part, and then for those of the rows after it
+pub room_for_part : (b : Bool) (len room : ℕ) (part after rest : List (List ℕ)) → rest ≡ part ++ after → len + count_if b (length rest) ≤ room → len + count_if b (length part) ≤ room
+room_for_part true len room part after rest is h =
+    let long : length rest ≡ length part + length after = ap (λ (rows : List (List ℕ)). length rows) is ∙ length-append part after in
+    omega (arith, long, h)
+room_for_part false len room part after rest is h = h
+
+pub room_after : (b : Bool) (len room : ℕ) (part after rest : List (List ℕ)) → rest ≡ part ++ after → len + count_if b (length rest) ≤ room → len + count_if b (length part) + count_if b (length after) ≤ room
+room_after true len room part after rest is h =
+    let long : length rest ≡ length part + length after = ap (λ (rows : List (List ℕ)). length rows) is ∙ length-append part after in
+    omega (arith, long, h)
+room_after false len room part after rest is h = omega (arith, h)
 
 -- the numbers of a list in front are all numbers if no row is left
 pub column_ends : (b : Bool) (o : ℕ) (rest : List (List ℕ)) (front all : List ℕ) → length rest ≡ 0 → front ++ column_if b o rest ≡ all → front ≡ all

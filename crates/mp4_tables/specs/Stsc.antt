@@ -8,14 +8,21 @@ use Rattle.mp4_tables.specs.StscEntry.{entry_stsc, row_stsc, FitsStscEntry}
 use Rattle.mp4_frame.specs.Format.{Format}
 use Rattle.mp4_frame.specs.declared.box_type.BoxType.TheVariants as names
 use Rattle.mp4_frame.specs.declared.codes.TheConstants as codes
+use Rattle.mp4_tables.specs.declared.stsc_entry.StscEntry.{StscEntry}
 use Rattle.mp4_tables.specs.declared.stsc.StscBox.{StscBox}
+
+-- the entries in these rows with their first samples, which are computed once there is memory for all entries
+abbrev pub numbered_entries : List (List ℕ) → Reading (List StscEntry)
+numbered_entries rows = do
+  _ ← memory
+  _ ← check (chunks_fit (map entry_stsc rows))
+  done (number_samples (map entry_stsc rows))
 
 unfoldable pub reads_stsc : List ℕ → ℕ → ℕ → Reading StscBox
 reads_stsc bytes start size = do
   t ← counted_rows bytes size 12
-  _ ← memory
-  _ ← check (chunks_fit (map entry_stsc t.rows))
-  done (record { version = t.version; flags = t.flags; entries = number_samples (map entry_stsc t.rows) })
+  entries ← numbered_entries t.rows
+  done (record { version = t.version; flags = t.flags; entries = entries })
 
 abbrev pub size_stsc : StscBox → ℕ
 size_stsc v = size_table 12 v.entries

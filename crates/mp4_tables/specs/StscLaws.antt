@@ -5,7 +5,7 @@ use Rattle.std.specs.List.{flat_map, AllByRecursion, list_all, range_with_len, s
 use Rattle.std.proofs.lemmas.List.{length-map}
 use Rattle.std.proofs.lemmas.List.Elements.{All-from_recursion, recursion_from_All}
 use Rattle.mp4_frame.specs.Format.{IsBox}
-use Rattle.mp4_frame.specs.Reading.{◌>>=◌, memory, check, done}
+use Rattle.mp4_frame.specs.Reading.{◌>>=◌, done}
 use Rattle.mp4_frame.specs.Tables.{Table, counted_rows, WritableTable}
 use Rattle.mp4_frame.proofs.Framing.{header_in_front, fits_read, Number}
 use Rattle.mp4_frame.proofs.Fields.{length-fields}
@@ -14,7 +14,7 @@ use Rattle.mp4_frame.proofs.Tables.{IsRow, length_flat, counted_rows_back, count
 use Rattle.mp4_tables.specs.EntryLaws.{fields_back}
 use Rattle.mp4_tables.specs.Chunks.{samples_in, begins, sample_at, in_order, chunks_fit, with_sample, number_samples}
 use Rattle.mp4_tables.specs.StscEntry.{value_stsc_entry, entry_stsc, fields_stsc_entry, row_stsc, FitsStscEntry}
-use Rattle.mp4_tables.specs.Stsc.{reads_stsc, size_stsc, WritableStsc, bytes_stsc, normal_stsc, format_stsc}
+use Rattle.mp4_tables.specs.Stsc.{numbered_entries, reads_stsc, size_stsc, WritableStsc, bytes_stsc, normal_stsc, format_stsc}
 use Rattle.mp4_tables.specs.declared.stsc.StscBox.{StscBox}
 use Rattle.mp4_frame.specs.declared.codes.TheConstants as codes
 use Rattle.mp4_tables.specs.declared.stsc_entry.StscEntry.{StscEntry}
@@ -109,12 +109,14 @@ laws_stsc = record {
       let numbers = same_numbers (λ _. 0) v.entries in
       rw (t, raw, fit, numbers) refl;
   sound = λ bytes start long v are read.
-      let p = value_first (counted_rows bytes long 12) (λ (t : Table). memory >>= λ _. check (chunks_fit (map entry_stsc t.rows)) >>= λ _. done (record { version = t.version; flags = t.flags; entries = number_samples (map entry_stsc t.rows) })) v read in
+      let p = value_first (counted_rows bytes long 12) (λ (t : Table). numbered_entries t.rows >>= λ entries. done (record { version = t.version; flags = t.flags; entries = entries })) v read in
       let t = counted_rows_read bytes long 12 p.0 (lit< tt) are p.1 in
       let es = map entry_stsc p.0.rows in
-      let made : StscBox = record { version = p.0.version; flags = p.0.flags; entries = number_samples es } in
-      let q = check_ok (chunks_fit es) (λ _. done made) v p.2 in
-      let is : made ≡ v = is_value made v q.1 in
+      let box : List StscEntry → StscBox = λ xs. record { version = p.0.version; flags = p.0.flags; entries = xs } in
+      let n = value_first (numbered_entries p.0.rows) (λ entries. done (box entries)) v p.2 in
+      let q = check_ok (chunks_fit es) (λ _. done (number_samples es)) n.0 n.1 in
+      let made : StscBox = box (number_samples es) in
+      let is : made ≡ v = ap box (is_value (number_samples es) n.0 q.1) ∙ is_value (box n.0) v n.2 in
       let h : StscEntry → ℕ = λ e. sample_at es e.first_chunk in
       let len = length-map es (λ (e : StscEntry). with_sample e (sample_at es e.first_chunk)) in
       let count : length (number_samples es) < 256 ^ 4 = omega (arith, len, t.2, length_map entry_stsc p.0.rows) in

@@ -1,6 +1,6 @@
 //! Reading rows, and the entries in them.
 
-ghost use Rattle.std.specs.Prelude.{◌≡◌, ℕ, ◌≤◌, ◌<◌, ◌+◌, ◌++◌, IfOk, IfErr, OnOk, List, map};
+ghost use Rattle.std.specs.Prelude.{◌≡◌, ℕ, ◌≤◌, ◌<◌, ◌+◌, ◌++◌, IfOk, IfErr, List, length, map, vec_capacity, vec_len};
 ghost use Rattle.mp4_frame.specs.Bytes.{number};
 ghost use Rattle.mp4_frame.specs.Reading.{AnswersAs};
 ghost use Rattle.mp4_tables.specs.Rows.{rows_within};
@@ -10,42 +10,31 @@ use std::alloc::Global;
 
 /// The `count` rows of `E` bytes each from offset `at` on. Invalid data with the text `too_many` if a box of this
 /// size has no room for them; end of input unless all of them are present.
-#[tactic(auto, unfolding(crate::specs::Rows::rows_within))]
+#[tactic(auto, using(crate::proofs::Room::same_room), unfolding(crate::specs::Rows::rows_within))]
 pub fn read_rows<'a, const E: usize>(
     bytes: &'a [u8],
     size: u64,
     at: usize,
-    count: u32,
+    count: u64,
     too_many: &'static str,
 ) -> Result<&'a [[u8; E]]>
-    requires some { 0 < E }
-    requires short { E ≤ 16 }
+    requires { 0 < E }
     ensures { AnswersAs (λ rows. rows.now) result (rows_within bytes.now size at E count) }
 {
-    let count = u64::from(count);
-    check(count * E as u64 <= size.saturating_sub(at as u64), too_many)?;
+    check(count <= size.saturating_sub(at as u64) / E as u64, too_many)?;
     rows_at::<E>(bytes, at, count)
 }
 
-/// Appends the number of four bytes at offset `at` of each row. The only error is out of memory.
-pub(crate) fn append_numbers<const E: usize>(
-    numbers: &mut Vec<u32>,
-    rows: &[[u8; E]],
-    at: usize,
-) -> Result<()>
-    requires { at + 4 ≤ E }
-    ensures ok { OnOk result (numbers.new.items ≡ numbers.old.items ++ map (λ row. number row at 4) rows.now) }
-    ensures memory { IfErr result (λ e. e ≡ Error.OutOfMemory) }
+/// Appends the number of four bytes at offset `at` of each row. The vector has room for them.
+pub(crate) fn append_numbers<const E: usize>(numbers: &mut Vec<u32>, rows: &[[u8; E]], at: usize)
+    requires within { at + 4 ≤ E }
+    requires room { vec_len numbers.old + length rows.now ≤ vec_capacity numbers.old }
+    ensures appended { numbers.new.items ≡ numbers.old.items ++ map (λ row. number row at 4) rows.now }
+    ensures capacity { vec_capacity numbers.new ≡ vec_capacity numbers.old }
 {
-    numbers.extend(
-        rows.iter().map(
-            |row: &[u8; E]| -> u32
-                requires { at + 4 ≤ E }
-                ensures { result ≡ number row.now at 4 }
-            { u32_at(row, at) },
-        ),
-    )?;
-    Ok(())
+    for row in rows {
+        numbers.push_reserved(u32_at(row, at));
+    }
 }
 
 /// An entry that is read from a row of `E` bytes.

@@ -1,18 +1,18 @@
 //! The sample to chunk box.
 
-ghost use Rattle.std.specs.Prelude.{◌≡◌, ◌-◌, ◌^◌, [], IfErr, OnOk, min, true, false};
-ghost use Rattle.mp4_frame.specs.Reading.{Invalid, IsFault};
+ghost use Rattle.std.specs.Prelude.{◌≡◌, ◌-◌, ◌^◌, [], min};
+ghost use Rattle.mp4_frame.specs.Reading.{AnswersAs};
 ghost use Rattle.mp4_frame.specs.declared.box_type.BoxType.TheVariants as names;
-ghost use Rattle.mp4_tables.specs.Chunks.{chunks_fit, number_samples, next_sample};
+ghost use Rattle.mp4_tables.specs.Chunks.{chunks_fit, next_sample};
 ghost use Rattle.mp4_frame.specs.Format.{write_laws};
-ghost use Rattle.mp4_tables.specs.Stsc.{size_stsc, reads_stsc, format_stsc};
+ghost use Rattle.mp4_tables.specs.Stsc.{numbered_entries, size_stsc, reads_stsc, format_stsc};
 ghost use Rattle.mp4_tables.specs.StscLaws.{laws_stsc};
 
-use crate::rows::entries_of;
+use crate::rows::RowEntry;
 use crate::stsc_entry::StscEntry;
 use mp4_frame::{
     BoxLaws, BoxType, Entries, Error, Mp4Box, ReadBox, Result, TryClone, WriteBox, codes,
-    is_writable_table, put_table, read_table, table_size,
+    is_writable_table, put_table, read_table, table_size, u32_at,
 };
 use std::alloc::Global;
 
@@ -93,20 +93,22 @@ fn next_sample(sample: u32, chunk: u32, samples: u32, first: u32) -> Option<u32>
     Some(next as u32)
 }
 
-/// Sets the first sample of each entry. Invalid data if a first chunk is below the one before it, or if a first
-/// sample is above 2^32 - 1. It is not inlined, as `entries_of` isn't.
+/// The entry in each row, with its first sample. The memory for all of them is asked for first, so that the loop has no
+/// step that may run out of it. Invalid data if a first chunk is below the one before it, or if a first sample is above
+/// 2^32 - 1. It is not inlined, as `entries_of` isn't.
 #[inline(never)]
-fn number_samples(entries: &mut [StscEntry]) -> Result<()>
-    ensures ok { OnOk result ((chunks_fit entries.old ≡ true) × (entries.new ≡ number_samples entries.old)) }
-    ensures err { IfErr result (λ e. IsFault e Invalid × (chunks_fit entries.old ≡ false)) }
+fn numbered_entries(alloc: Global, rows: &[[u8; 12]]) -> Result<Vec<StscEntry>>
+    ensures { AnswersAs (λ entries. entries.items) result (numbered_entries rows.now) }
 {
+    let mut entries = Vec::with_capacity(alloc, rows.len())?;
     let mut sample = 1;
-    let mut chunk = match entries.first() {
-        Some(entry) => entry.first_chunk,
+    let mut chunk = match rows.first() {
+        Some(row) => u32_at(row, 0),
         None => 0,
     };
     let mut samples = 0;
-    for entry in entries.iter_mut() {
+    for row in rows {
+        let mut entry = StscEntry::from_row(row);
         let Some(next) = next_sample(sample, chunk, samples, entry.first_chunk) else {
             return Err(Error::InvalidData("attempt to calculate stsc sample_id with overflow"));
         };
@@ -114,8 +116,9 @@ fn number_samples(entries: &mut [StscEntry]) -> Result<()>
         sample = next;
         chunk = entry.first_chunk;
         samples = entry.samples_per_chunk;
+        entries.push_reserved(entry);
     }
-    Ok(())
+    Ok(entries)
 }
 
 /// Whether the first samples can be computed: no first chunk is below the one before it, and no first sample is
@@ -152,12 +155,10 @@ impl ReadBox for StscBox {
             size,
             "stsc entry_count indicates more entries than could fit in the box",
         )?;
-        let mut entries = entries_of(alloc, rows)?;
-        number_samples(entries.as_mut_slice())?;
         Ok(StscBox {
             version,
             flags,
-            entries: entries.into(),
+            entries: numbered_entries(alloc, rows)?.into(),
         })
     }
 }

@@ -104,7 +104,7 @@ fn read_sizes(alloc: Global, bytes: &[u8], size: u64, count: u32) -> Result<Vec<
         bytes,
         size,
         20,
-        count,
+        u64::from(count),
         "stsz sample_count indicates more values than could fit in the box",
     )?;
     entries_of(alloc, rows)

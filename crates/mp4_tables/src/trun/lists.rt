@@ -1,6 +1,6 @@
 //! Reading the lists of the track fragment run box.
 
-ghost use Rattle.std.specs.Prelude.{◌≡◌, ◌≤◌, ◌<◌, ◌+◌, ◌++◌, ◌↔◌, [], IsTrue, IfOk, IfErr, OnOk};
+ghost use Rattle.std.specs.Prelude.{◌≡◌, ◌≤◌, ◌<◌, ◌+◌, ◌++◌, ◌↔◌, [], IsTrue, IfOk, IfErr, length, vec_capacity, vec_len};
 ghost use Rattle.mp4_frame.specs.Reading.{Answers};
 ghost use Rattle.mp4_tables.specs.Flagged.{width_if};
 ghost use Rattle.mp4_tables.specs.TrunRows.{row_flags, row_length};
@@ -27,6 +27,7 @@ pub(crate) struct TrunLists {
 /// An empty list, with memory for `count` numbers if the flag of the list is set.
 fn numbers_for(alloc: Global, is_flagged: bool, count: usize) -> Result<Vec<u32>>
     ensures empty { IfOk result (λ numbers. numbers.items ≡ []) }
+    ensures room { IfOk result (λ numbers. count_if is_flagged count ≤ vec_capacity numbers) }
     ensures memory { IfErr result (λ e. e ≡ Error.OutOfMemory) }
 {
     if is_flagged {
@@ -36,27 +37,29 @@ fn numbers_for(alloc: Global, is_flagged: bool, count: usize) -> Result<Vec<u32>
     }
 }
 
-/// Appends the number of four bytes at offset `at` of each row, if the flag of the list is set.
+/// Appends the number of four bytes at offset `at` of each row, if the flag of the list is set. The list has room for
+/// them.
 #[tactic(auto, unfolding(crate::specs::TrunLists::column_if, crate::specs::Flagged::width_if))]
 fn append_column<const E: usize>(
     numbers: &mut Vec<u32>,
     rows: &[[u8; E]],
     is_flagged: bool,
     at: usize,
-) -> Result<()>
-    requires { at + width_if is_flagged 4 ≤ E }
-    ensures ok { OnOk result (numbers.new.items ≡ numbers.old.items ++ column_if is_flagged at rows.now) }
-    ensures memory { IfErr result (λ e. e ≡ Error.OutOfMemory) }
+)
+    requires within { at + width_if is_flagged 4 ≤ E }
+    requires room { vec_len numbers.old + count_if is_flagged (length rows.now) ≤ vec_capacity numbers.old }
+    ensures appended { numbers.new.items ≡ numbers.old.items ++ column_if is_flagged at rows.now }
+    ensures len { vec_len numbers.new ≡ vec_len numbers.old + count_if is_flagged (length rows.now) }
+    ensures capacity { vec_capacity numbers.new ≡ vec_capacity numbers.old }
 {
     if is_flagged {
-        append_numbers(numbers, rows, at)?;
+        append_numbers(numbers, rows, at);
     }
-    Ok(())
 }
 
 /// The lists of these rows. They are filled from one part of the rows after the other. A part stays in the nearest
 /// cache until each list has the numbers of that part.
-#[tactic(auto, using(crate::proofs::TrunRows::column_moves), unfolding(crate::specs::TrunLists::column_if))]
+#[tactic(auto, using(crate::proofs::TrunRows::column_moves, crate::proofs::TrunRows::room_for_part, crate::proofs::TrunRows::room_after), unfolding(crate::specs::TrunLists::column_if))]
 fn lists_of_rows<const E: usize>(alloc: Global, rows: &[[u8; E]], flags: u32) -> Result<TrunLists>
     requires { E ≡ row_length (row_flags flags) }
     ensures value { IfOk result (λ lists. lists ≡ lists_of (row_flags flags) rows.now) }
@@ -75,10 +78,10 @@ fn lists_of_rows<const E: usize>(alloc: Global, rows: &[[u8; E]], flags: u32) ->
     let mut rest = rows;
     while !rest.is_empty() {
         let (part, after) = rest.split_at(rest.len().min(PART));
-        append_column(&mut durations, part, has.duration, 0)?;
-        append_column(&mut sizes, part, has.size, size_at)?;
-        append_column(&mut sample_flags, part, has.flags, flags_at)?;
-        append_column(&mut cts, part, has.cts, cts_at)?;
+        append_column(&mut durations, part, has.duration, 0);
+        append_column(&mut sizes, part, has.size, size_at);
+        append_column(&mut sample_flags, part, has.flags, flags_at);
+        append_column(&mut cts, part, has.cts, cts_at);
         rest = after;
     }
     Ok(TrunLists {
@@ -109,7 +112,7 @@ fn read_rows_of<const E: usize>(
         bytes,
         size,
         at,
-        count,
+        u64::from(count),
         "trun sample_count indicates more values than could fit in the box",
     )?;
     lists_of_rows(alloc, rows, flags)
