@@ -1,5 +1,5 @@
 -- Pieces that are put at an offset of a slice, and the numbers in the bytes of fields.
-use Rattle.std.proofs.Common.{◌≡◌, ℕ, zero, suc, Bool, true, false, cond, ltb, eqb, ◌+◌, ◌-◌, ◌<◌, ◌≤◌, ◌^◌, ◌%◌, List, [], ◌∷◌, ◌++◌, length, take, set, replicate, refl, ap, sym, ◌∙◌, append_assoc, arith, length-append}
+use Rattle.std.proofs.Common.{◌≡◌, ℕ, zero, suc, Bool, true, false, cond, ltb, eqb, ◌+◌, ◌-◌, ◌*◌, ◌<◌, ◌≤◌, ◌^◌, ◌/◌, ◌%◌, List, [], ◌∷◌, ◌++◌, length, take, set, replicate, refl, ap, sym, ◌∙◌, append_assoc, arith, length-append}
 use Rattle.std.proofs.lemmas.List.{take_at, append-nil, length-take, length-replicate, take_more_set}
 use Rattle.byteorder.specs.Numbers.{big_from-lt, big_number-reads_back, length-bytes_high_first}
 use Rattle.std.proofs.lemmas.Bool.{eqb-true, ltb-false}
@@ -42,6 +42,19 @@ unfolding be_bytes
 put_byte xs at n lt fits =
     let e : n ≡ n % 256 = omega arith in
     take_more_set xs at n lt ∙ ap (λ (b : ℕ). take at xs ++ b ∷ []) e
+
+-- a version of one byte and flags of three, as one number of four
+pub version_and_flags : (front : List ℕ) (version flags : ℕ) → version < 2 ^ 8 → flags < 2 ^ 24
+    → front ++ be_bytes 4 (version * 2 ^ 24 + flags) ≡ (front ++ be_bytes 1 version) ++ be_bytes 3 flags
+unfolding be_bytes
+version_and_flags front version flags v f =
+    let n = version * 16777216 + flags in
+    let first : n / 16777216 % 256 ≡ version % 256 = omega (arith, v, f) in
+    let second : n / 65536 % 256 ≡ flags / 65536 % 256 = omega (arith, v, f) in
+    let third : n / 256 % 256 ≡ flags / 256 % 256 = omega (arith, v, f) in
+    let last : n % 256 ≡ flags % 256 = omega (arith, v, f) in
+    ap (λ (bytes : List ℕ). front ++ bytes) (rw (first, second, third, last) refl)
+    ∙ sym (append_assoc front (be_bytes 1 version) (be_bytes 3 flags))
 
 byte_at-zero : (k : ℕ) → byte_at k 0 ≡ 0
 byte_at-zero zero = refl

@@ -12,7 +12,7 @@ use crate::byte_cursor::ByteCursor;
 use crate::error::{Error, Result};
 use crate::head::Head;
 use crate::number::{u8_at, u24_at};
-use crate::put::{put_u8, put_u24, put_u32, put_u64};
+use crate::put::{put_u32, put_u64, put_version_and_flags};
 use crate::reading::expect_bytes;
 use crate::write::lengthen;
 use std::alloc::Allocator;
@@ -119,8 +119,6 @@ pub fn write_box_header_ext<A: Allocator>(
     }
     let old = writer.len();
     lengthen(writer, 4)?;
-    let out = &mut writer[old..];
-    let at = put_u8(out, 0, version);
-    put_u24(out, at, flags);
+    put_version_and_flags(&mut writer[old..], 0, version, flags);
     Ok(4)
 }
