@@ -82,21 +82,16 @@ fn default_avc1(rt: HostRuntime) {
     assert!(rt; Avc1Box::default_in(rt.alloc()) == zeros);
 }
 
-/// A configuration of a sequence and a picture parameter set.
-fn config_of_two_sets(alloc: Global) -> Result<AvcConfig, Error> {
-    Ok(AvcConfig {
-        width: 0x8182,
-        height: 0x8384,
-        seq_param_set: Vec::from_slice(alloc, &SEQUENCE)?.into(),
-        pic_param_set: Vec::from_slice(alloc, &PICTURE)?.into(),
-    })
-}
-
 #[test]
 fn new_avc1(rt: HostRuntime) -> Result<(), Fail> {
-    let made = Avc1Box::new(rt.alloc(), &config_of_two_sets(rt.alloc())?)?;
-    let expected = avc1(1, 0x8182, 0x8384, two_sets(rt.alloc())?);
-    assert!(rt; made == expected);
+    let config = AvcConfig {
+        width: 0x8182,
+        height: 0x8384,
+        seq_param_set: Vec::from_slice(rt.alloc(), &SEQUENCE)?.into(),
+        pic_param_set: Vec::from_slice(rt.alloc(), &PICTURE)?.into(),
+    };
+    let made = avc1(1, 0x8182, 0x8384, two_sets(rt.alloc())?);
+    assert!(rt; Avc1Box::new(rt.alloc(), &config)? == made);
     Ok(())
 }
 
