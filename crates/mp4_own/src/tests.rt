@@ -7,7 +7,7 @@ mod sidx_or_any;
 mod vectors;
 
 use crate::{Sidx, SidxBox, SidxEntry};
-use mp4_stream::{ByteCursor, Error, ReadBox, Result as Made, WriteBox};
+use mp4_stream::{ByteCursor, Error, Mp4Box, ReadBox, Result as Made, WriteBox};
 use std::alloc::Global;
 
 /// Version 0, with three references: the first to another index, the second to media that begins with an access point,
@@ -123,4 +123,14 @@ pub(crate) fn outcome_of<T>(outcome: &Made<T>) -> &'static str {
 /// How writing the box ends, by `outcome_of`.
 pub(crate) fn ending_of_write(alloc: Global, sidx: &SidxBox) -> &'static str {
     outcome_of(&sidx.write_box(&mut Vec::new(alloc)))
+}
+
+/// Whether the box is written in these bytes, and read from them.
+pub(crate) fn is_in(alloc: Global, made: Made<SidxBox>, bytes: &[u8]) -> Made<bool> {
+    let sidx = made?;
+    let mut out = Vec::new(alloc);
+    let written = sidx.write_box(&mut out)?;
+    let found = read(alloc, bytes, bytes.len() as u64)?;
+    let length = bytes.len() as u64;
+    Ok(out.as_slice() == bytes && found == sidx && written == length && sidx.box_size() == length)
 }

@@ -1,8 +1,8 @@
 //! Boxes that are one byte or one entry short, and numbers that just fit or don't.
 
-use crate::tests::{LONG, SHORT, ending_of_write, long, outcome_of, read, short};
+use crate::tests::{LONG, SHORT, ending_of_write, is_in, long, outcome_of, read, short};
 use crate::{SidxBox, SidxEntry};
-use mp4_stream::{Result as Made, WriteBox};
+use mp4_stream::Result as Made;
 use std::alloc::Global;
 use std::test::Fail;
 
@@ -17,34 +17,37 @@ fn ending_of_cut(alloc: Global, bytes: &[u8], length: usize, size: u64) -> &'sta
 
 #[test]
 fn a_byte_short(rt: HostRuntime) -> Result<(), Fail> {
-    let alloc = rt.alloc();
-    assert_eq!(rt; ending_of_cut(alloc, &SHORT, 67, 68), "end");
-    assert_eq!(rt; ending_of_cut(alloc, &SHORT, 31, 68), "end");
-    assert_eq!(rt; ending_of_cut(alloc, &SHORT, 11, 68), "end");
-    assert_eq!(rt; ending_of_cut(alloc, &LONG, 75, 76), "end");
-    assert_eq!(rt; ending_of_cut(alloc, &LONG, 39, 76), "end");
+    for length in [67, 31, 11] {
+        assert_eq!(rt; ending_of_cut(rt.alloc(), &SHORT, length, 68), "end");
+    }
+    for length in [75, 39] {
+        assert_eq!(rt; ending_of_cut(rt.alloc(), &LONG, length, 76), "end");
+    }
     Ok(())
 }
 
 #[test]
 fn a_size_that_is_a_byte_short(rt: HostRuntime) -> Result<(), Fail> {
-    let alloc = rt.alloc();
-    assert_eq!(rt; ending_of_cut(alloc, &SHORT, 68, 67), TOO_MANY);
-    assert_eq!(rt; ending_of_cut(alloc, &LONG, 76, 75), TOO_MANY);
-    assert_eq!(rt; ending_of_cut(alloc, &SHORT, 68, 68), "ok");
-    assert_eq!(rt; ending_of_cut(alloc, &LONG, 76, 76), "ok");
+    for (size, ending) in [(67, TOO_MANY), (68, "ok")] {
+        assert_eq!(rt; ending_of_cut(rt.alloc(), &SHORT, 68, size), ending);
+    }
+    for (size, ending) in [(75, TOO_MANY), (76, "ok")] {
+        assert_eq!(rt; ending_of_cut(rt.alloc(), &LONG, 76, size), ending);
+    }
     Ok(())
 }
 
 #[test]
-fn a_count_of_one_more(rt: HostRuntime) -> Result<(), Fail> {
-    let alloc = rt.alloc();
+fn a_count_of_more(rt: HostRuntime) -> Result<(), Fail> {
     let mut bytes = SHORT;
-    bytes[31] = 4;
-    assert_eq!(rt; ending_of_cut(alloc, &bytes, 68, 68), TOO_MANY);
-    assert_eq!(rt; ending_of_cut(alloc, &bytes, 68, 80), "end");
-    bytes[30] = 0xff;
-    assert_eq!(rt; ending_of_cut(alloc, &bytes, 68, 80), TOO_MANY);
+    for (count, size, ending) in [
+        ([0, 4], 68, TOO_MANY),
+        ([0, 4], 80, "end"),
+        ([0xff, 4], 80, TOO_MANY),
+    ] {
+        [bytes[30], bytes[31]] = count;
+        assert_eq!(rt; ending_of_cut(rt.alloc(), &bytes, 68, size), ending);
+    }
     Ok(())
 }
 
@@ -55,9 +58,9 @@ fn index_of(alloc: Global, entry: SidxEntry) -> Made<SidxBox> {
     Ok(sidx)
 }
 
-/// How writing an index with this reference ends.
-fn ending_of_entry(alloc: Global, entry: SidxEntry) -> &'static str {
-    match index_of(alloc, entry) {
+/// How writing what was made ends.
+fn ending_of(alloc: Global, made: Made<SidxBox>) -> &'static str {
+    match made {
         Ok(sidx) => ending_of_write(alloc, &sidx),
         Err(_) => "out of memory",
     }
@@ -66,26 +69,28 @@ fn ending_of_entry(alloc: Global, entry: SidxEntry) -> &'static str {
 #[test]
 fn numbers_past_their_bits(rt: HostRuntime) -> Result<(), Fail> {
     let alloc = rt.alloc();
-    let size = SidxEntry {
-        referenced_size: 1 << 31,
-        ..SidxEntry::default()
-    };
-    let sap_type = SidxEntry {
-        sap_type: 8,
-        ..SidxEntry::default()
-    };
-    let delta = SidxEntry {
-        sap_delta_time: 1 << 28,
-        ..SidxEntry::default()
-    };
-    assert_eq!(rt; ending_of_entry(alloc, size), UNFIT);
-    assert_eq!(rt; ending_of_entry(alloc, sap_type), UNFIT);
-    assert_eq!(rt; ending_of_entry(alloc, delta), UNFIT);
+    for entry in [
+        SidxEntry {
+            referenced_size: 1 << 31,
+            ..SidxEntry::default()
+        },
+        SidxEntry {
+            sap_type: 8,
+            ..SidxEntry::default()
+        },
+        SidxEntry {
+            sap_delta_time: 1 << 28,
+            ..SidxEntry::default()
+        },
+    ] {
+        assert_eq!(rt; ending_of(alloc, index_of(alloc, entry)), UNFIT);
+    }
     Ok(())
 }
 
 #[test]
 fn the_largest_numbers(rt: HostRuntime) -> Result<(), Fail> {
+    let alloc = rt.alloc();
     let entry = SidxEntry {
         reference_type: false,
         referenced_size: 0x7fff_ffff,
@@ -94,13 +99,9 @@ fn the_largest_numbers(rt: HostRuntime) -> Result<(), Fail> {
         sap_type: 7,
         sap_delta_time: 0xfff_ffff,
     };
-    let sidx = index_of(rt.alloc(), entry)?;
-    let mut out = Vec::new(rt.alloc());
-    sidx.write_box(&mut out)?;
     let bytes = b"\0\0\0\x2csidx\0\0\0\0\0\0\0\0\0\0\0\0\0\0\0\0\0\0\0\0\0\0\0\x01\
 \x7f\xff\xff\xff\xff\xff\xff\xff\x7f\xff\xff\xff";
-    assert_eq!(rt; out.as_slice(), bytes.as_slice());
-    assert!(rt; read(rt.alloc(), &out, 44)? == sidx);
+    assert!(rt; is_in(alloc, index_of(alloc, entry), bytes)?);
     Ok(())
 }
 
@@ -166,15 +167,18 @@ fn fields_that_just_fit(rt: HostRuntime) -> Result<(), Fail> {
     Ok(())
 }
 
+/// An index of this many references.
+fn index_of_zeros(alloc: Global, count: usize) -> Made<SidxBox> {
+    let mut sidx = SidxBox::default_in(alloc);
+    sidx.fields.entries.resize(count, SidxEntry::default())?;
+    Ok(sidx)
+}
+
 #[test]
 fn more_references_than_can_be_counted(rt: HostRuntime) -> Result<(), Fail> {
     let alloc = rt.alloc();
-    let mut sidx = SidxBox::default_in(alloc);
-    let mut entries = Vec::new(alloc);
-    entries.resize(65535, SidxEntry::default())?;
-    sidx.fields.entries = entries.into();
-    assert_eq!(rt; ending_of_write(alloc, &sidx), "ok");
-    sidx.fields.entries.push(SidxEntry::default())?;
-    assert_eq!(rt; ending_of_write(alloc, &sidx), UNFIT);
+    for (count, ending) in [(65535, "ok"), (65536, UNFIT)] {
+        assert_eq!(rt; ending_of(alloc, index_of_zeros(alloc, count)), ending);
+    }
     Ok(())
 }

@@ -14,27 +14,34 @@ const FRAGMENT: [u8; 60] = *b"\0\0\0\x10mfhd\0\0\0\0\xc1\xc2\xc3\xc4\
 \0\0\0\x14tfdt\x01\0\0\0\xd1\xd2\xd3\xd4\xd5\xd6\xd7\xd8\
 \0\0\0\x18trun\0\0\x02\0\0\0\0\x02\xe1\xe2\xe3\xe4\xe5\xe6\xe7\xe8";
 
-/// The boxes of `SHORT` and `FRAGMENT`.
-fn segment(alloc: Global) -> Made<Vec<SegmentBox>> {
-    let mfhd = MfhdBox {
-        version: 0,
-        flags: 0,
-        sequence_number: 0xc1c2_c3c4,
-    };
-    let tfdt = TfdtBox {
-        version: 1,
-        flags: 0,
-        base_media_decode_time: 0xd1d2_d3d4_d5d6_d7d8,
-    };
+const MFHD: MfhdBox = MfhdBox {
+    version: 0,
+    flags: 0,
+    sequence_number: 0xc1c2_c3c4,
+};
+
+const TFDT: TfdtBox = TfdtBox {
+    version: 1,
+    flags: 0,
+    base_media_decode_time: 0xd1d2_d3d4_d5d6_d7d8,
+};
+
+/// The `trun` of `FRAGMENT`.
+fn two_samples(alloc: Global) -> Made<TrunBox> {
     let mut trun = TrunBox::default_in(alloc);
     trun.flags = TrunBox::FLAG_SAMPLE_SIZE;
     trun.sample_count = 2;
     trun.sample_sizes = Vec::from_slice(alloc, &[0xe1e2_e3e4, 0xe5e6_e7e8])?.into();
+    Ok(trun)
+}
+
+/// The boxes of `SHORT` and `FRAGMENT`.
+fn segment(alloc: Global) -> Made<Vec<SegmentBox>> {
     let mut boxes = Vec::new(alloc);
     boxes.push(SegmentBox::SidxBox(short(alloc)?))?;
-    boxes.push(SegmentBox::MfhdBox(mfhd))?;
-    boxes.push(SegmentBox::TfdtBox(tfdt))?;
-    boxes.push(SegmentBox::TrunBox(trun))?;
+    boxes.push(SegmentBox::MfhdBox(MFHD))?;
+    boxes.push(SegmentBox::TfdtBox(TFDT))?;
+    boxes.push(SegmentBox::TrunBox(two_samples(alloc)?))?;
     Ok(boxes)
 }
 

@@ -1,20 +1,9 @@
 //! The bytes that an index is written in, and the index that bytes are read as.
 
-use crate::tests::{LONG, SHORT, long, outcome_of, read, short};
+use crate::tests::{LONG, SHORT, is_in, long, outcome_of, read, short};
 use crate::{SIDX, SidxBox, SidxEntry};
 use mp4_stream::{BoxType, ByteCursor, Mp4Box, ReadBox, Result as Made, TryClone, WriteBox};
-use std::alloc::Global;
 use std::test::Fail;
-
-/// Whether the box is written in these bytes, and read from them.
-fn is_in(alloc: Global, made: Made<SidxBox>, bytes: &[u8]) -> Made<bool> {
-    let sidx = made?;
-    let mut out = Vec::new(alloc);
-    let written = sidx.write_box(&mut out)?;
-    let found = read(alloc, bytes, bytes.len() as u64)?;
-    let length = bytes.len() as u64;
-    Ok(out.as_slice() == bytes && found == sidx && written == length && sidx.box_size() == length)
-}
 
 #[test]
 fn version_0(rt: HostRuntime) -> Result<(), Fail> {
