@@ -12,7 +12,7 @@ use std::test::Fail;
 fn all_cuts(alloc: Global) -> Result<(Vec<u8>, Vec<Option<usize>>), Error> {
     let mut stream = Vec::new(alloc);
     let mut counts = Vec::new(alloc);
-    for (count, vector) in VECTORS.into_iter().enumerate() {
+    for (count, vector) in VECTORS.iter().enumerate() {
         counts.push(Some(count))?;
         for _ in 1..vector.bytes().len() {
             counts.push(None)?;
@@ -37,7 +37,10 @@ fn keep_stream(alloc: Global, bytes: &[u8]) -> (Kind, usize, u64) {
     let mut reader = ByteCursor::new(bytes);
     let outcome = read_boxes_as::<KeptBox>(alloc, &mut reader);
     let kind = kind_of(&outcome);
-    let count = outcome.map_or(0, |found| found.len());
+    let count = match outcome {
+        Ok(found) => found.len(),
+        Err(_) => 0,
+    };
     (kind, count, reader.position())
 }
 

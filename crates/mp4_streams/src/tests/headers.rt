@@ -10,10 +10,6 @@ use std::test::Fail;
 #[test]
 fn the_cursor_takes(rt: HostRuntime) -> Result<(), Fail> {
     let mut reader = ByteCursor::new(b"\0\0\0\x01");
-    reader.set_position(9);
-    assert_eq!(rt; reader.take(0)?, [].as_slice());
-    assert_eq!(rt; kind_of(&reader.take(1)), Kind::End);
-    assert_eq!(rt; reader.position(), 9);
     reader.set_position(2);
     assert_eq!(rt; reader.take(2)?, [0, 1].as_slice());
     assert_eq!(rt; reader.position(), 4);
@@ -21,43 +17,64 @@ fn the_cursor_takes(rt: HostRuntime) -> Result<(), Fail> {
 }
 
 #[test]
+fn the_cursor_takes_nothing_past_the_end(rt: HostRuntime) -> Result<(), Fail> {
+    let mut reader = ByteCursor::new(b"\0\0\0\x01");
+    reader.set_position(9);
+    assert!(rt; reader.take(0)?.is_empty());
+    assert!(rt; reader.take_rows::<4>(0)?.is_empty());
+    assert_eq!(rt; kind_of(&reader.take(1)), Kind::End);
+    assert_eq!(rt; reader.position(), 9);
+    Ok(())
+}
+
+#[test]
 fn the_cursor_skips(rt: HostRuntime) -> Result<(), Fail> {
     let mut reader = ByteCursor::new(b"");
-    skip_bytes(&mut reader, 9)?;
-    assert_eq!(rt;
-        kind_of(&skip_bytes(&mut reader, u64::MAX - 8)),
-        Kind::Invalid
-    );
-    assert_eq!(rt; reader.position(), 9);
-    skip_bytes(&mut reader, u64::MAX - 9)?;
-    assert_eq!(rt; reader.position(), u64::MAX);
+    for (count, position) in [(9, 9), (u64::MAX - 9, u64::MAX)] {
+        skip_bytes(&mut reader, count)?;
+        assert_eq!(rt; reader.position(), position);
+    }
+    Ok(())
+}
+
+#[test]
+fn the_cursor_skips_boxes(rt: HostRuntime) -> Result<(), Fail> {
+    let mut reader = ByteCursor::new(b"");
     skip_bytes_to(&mut reader, 8)?;
     assert_eq!(rt; box_start(&reader)?, 0);
     skip_box(&mut reader, 24)?;
-    assert_eq!(rt; reader.position(), 24);
-    assert_eq!(rt;
-        kind_of(&skip_box(&mut reader, u64::MAX - 15)),
-        Kind::Invalid
-    );
     assert_eq!(rt; reader.position(), 24);
     Ok(())
 }
 
 #[test]
+fn skips_past_64_bits_are_invalid(rt: HostRuntime) {
+    let mut reader = ByteCursor::new(b"");
+    reader.set_position(24);
+    for outcome in [
+        skip_bytes(&mut reader, u64::MAX - 23),
+        skip_box(&mut reader, u64::MAX - 15),
+    ] {
+        assert_eq!(rt; kind_of(&outcome), Kind::Invalid);
+    }
+    assert_eq!(rt; reader.position(), 24);
+}
+
+#[test]
 fn the_cursor_takes_rows(rt: HostRuntime) -> Result<(), Fail> {
+    let mut reader = ByteCursor::new(b"0123456789abcdef");
+    let rows = reader.take_rows::<8>(2)?;
+    assert_eq!(rt; rows, [*b"01234567", *b"89abcdef"].as_slice());
+    assert_eq!(rt; reader.position(), 16);
+    Ok(())
+}
+
+#[test]
+fn rows_that_are_missing_are_not_taken(rt: HostRuntime) {
     let mut reader = ByteCursor::new(b"0123456789abcdef");
     assert_eq!(rt; kind_of(&reader.take_rows::<12>(2)), Kind::End);
     assert_eq!(rt; kind_of(&reader.take_rows::<16>(1 << 63)), Kind::End);
     assert_eq!(rt; reader.position(), 0);
-    assert_eq!(rt;
-        reader.take_rows::<8>(2)?,
-        [*b"01234567", *b"89abcdef"].as_slice()
-    );
-    assert_eq!(rt; reader.position(), 16);
-    reader.set_position(20);
-    assert!(rt; reader.take_rows::<4>(0)?.is_empty());
-    assert_eq!(rt; reader.position(), 20);
-    Ok(())
 }
 
 #[test]

@@ -2,9 +2,9 @@
 
 use super::streams::THREE;
 use mp4_fixtures::helpers::{Kind, kind_of};
+use mp4_fixtures::made;
 use mp4_stream::{
-    BoxType, ByteCursor, Error, KeptBox, OtherBox, StreamBox, TryClone, WriteBox, read_boxes_as,
-    write_boxes,
+    BoxType, ByteCursor, Error, KeptBox, OtherBox, StreamBox, WriteBox, read_boxes_as, write_boxes,
 };
 use std::alloc::Global;
 use std::test::Fail;
@@ -23,25 +23,46 @@ fn a_box_with_a_type_of_its_own_is_no_other(rt: HostRuntime) {
     assert_eq!(rt; kind_of(&outcome), Kind::Invalid);
 }
 
+const MOOV: [u8; 9] = *b"\0\0\0\x09moov\xaa";
+
+/// The box of `MOOV`.
+fn moov(alloc: Global) -> Result<OtherBox, Error> {
+    OtherBox::copy_of(alloc, 0x6d6f_6f76, &[0xaa])
+}
+
 #[test]
 fn another_box_has_a_code_and_a_content(rt: HostRuntime) -> Result<(), Fail> {
-    let other = OtherBox::copy_of(rt.alloc(), 0x6d6f_6f76, &[0xaa])?;
+    let other = moov(rt.alloc())?;
     assert_eq!(rt; other.name(), BoxType::MoovBox);
     assert_eq!(rt; other.content(), [0xaa].as_slice());
-    assert_eq!(rt; other.try_clone()?, other);
-    let mut out = Vec::new(rt.alloc());
-    assert_eq!(rt; other.write_box(&mut out)?, 9);
-    assert_eq!(rt; out.as_slice(), b"\0\0\0\x09moov\xaa".as_slice());
     Ok(())
+}
+
+/// Whether the box is written in `MOOV`.
+fn is_moov<B: WriteBox + Drop>(alloc: Global, made: Result<B, Error>) -> Result<bool, Error> {
+    let mut out = Vec::new(alloc);
+    let count = made?.write_box(&mut out)?;
+    Ok(count == 9 && out.as_slice() == MOOV.as_slice())
+}
+
+#[test]
+fn another_box_is_written_as_it_is(rt: HostRuntime) -> Result<(), Fail> {
+    let alloc = rt.alloc();
+    made::cloned(moov(alloc))?;
+    assert!(rt; is_moov(alloc, moov(alloc))?);
+    Ok(())
+}
+
+/// The same among the boxes of a stream.
+fn kept_moov(alloc: Global) -> Result<KeptBox, Error> {
+    Ok(KeptBox::Other(moov(alloc)?))
 }
 
 #[test]
 fn a_kept_box_is_written_as_it_is(rt: HostRuntime) -> Result<(), Fail> {
-    let kept = KeptBox::Other(OtherBox::copy_of(rt.alloc(), 0x6d6f_6f76, &[0xaa])?);
-    assert_eq!(rt; kept.try_clone()?, kept);
-    let mut out = Vec::new(rt.alloc());
-    assert_eq!(rt; kept.write_box(&mut out)?, 9);
-    assert_eq!(rt; out.as_slice(), b"\0\0\0\x09moov\xaa".as_slice());
+    let alloc = rt.alloc();
+    made::cloned(kept_moov(alloc))?;
+    assert!(rt; is_moov(alloc, kept_moov(alloc))?);
     Ok(())
 }
 

@@ -20,7 +20,10 @@ pub(super) fn read_stream(alloc: Global, bytes: &[u8]) -> (Kind, usize, u64) {
     let mut reader = ByteCursor::new(bytes);
     let outcome = read_boxes(alloc, &mut reader);
     let kind = kind_of(&outcome);
-    let count = outcome.map_or(0, |found| found.len());
+    let count = match outcome {
+        Ok(found) => found.len(),
+        Err(_) => 0,
+    };
     (kind, count, reader.position())
 }
 

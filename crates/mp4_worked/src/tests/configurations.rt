@@ -75,10 +75,16 @@ fn configurations_are_printed(rt: HostRuntime) -> Result<(), Fail> {
     Ok(())
 }
 
+/// Whether what was made is the default.
+fn is_default(alloc: Global, made: Result<AvcConfig, Error>) -> Result<bool, Error> {
+    Ok(made? == AvcConfig::default_in(alloc))
+}
+
 #[test]
 fn configurations_are_compared(rt: HostRuntime) -> Result<(), Fail> {
-    let avc = avc_config(rt.alloc())?;
-    assert_ne!(rt; avc, AvcConfig::default_in(rt.alloc()));
+    let alloc = rt.alloc();
+    assert!(rt; !is_default(alloc, avc_config(alloc))?);
+    assert!(rt; is_default(alloc, Ok(AvcConfig::default_in(alloc)))?);
     Ok(())
 }
 

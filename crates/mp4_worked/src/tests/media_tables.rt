@@ -9,17 +9,33 @@ use std::test::Fail;
 
 #[test]
 fn track_types_have_handlers(rt: HostRuntime) -> Result<(), Fail> {
-    for (track, handler, code, name) in [
-        (TrackType::Video, "vide", 0x7669_6465, "Video"),
-        (TrackType::Audio, "soun", 0x736f_756e, "Audio"),
-        (TrackType::Subtitle, "sbtl", 0x7362_746c, "Subtitle"),
+    for (track, handler, code) in [
+        (TrackType::Video, "vide", 0x7669_6465),
+        (TrackType::Audio, "soun", 0x736f_756e),
+        (TrackType::Subtitle, "sbtl", 0x7362_746c),
     ] {
         assert_eq!(rt; TrackType::try_from(handler)?, track);
         assert_eq!(rt; TrackType::try_from(&FourCC::from(code))?, track);
         assert_eq!(rt; u32::from(FourCC::from(track)), code);
+    }
+    Ok(())
+}
+
+#[test]
+fn track_types_are_printed(rt: HostRuntime) -> Result<(), Fail> {
+    for (track, name) in [
+        (TrackType::Video, "Video"),
+        (TrackType::Audio, "Audio"),
+        (TrackType::Subtitle, "Subtitle"),
+    ] {
         assert_eq!(rt; track.to_string(rt.alloc())?.as_str(), name);
         assert_eq!(rt; debug_text(rt.alloc(), &track)?.as_str(), name);
     }
+    Ok(())
+}
+
+#[test]
+fn other_handlers_have_no_track_type(rt: HostRuntime) {
     for handler in ["", "vid", "video", "VIDE", "hint", "meta"] {
         assert_eq!(rt;
             invalid_text(&TrackType::try_from(handler)),
@@ -27,6 +43,10 @@ fn track_types_have_handlers(rt: HostRuntime) -> Result<(), Fail> {
             "of {handler}"
         );
     }
+}
+
+#[test]
+fn other_codes_have_no_track_type(rt: HostRuntime) {
     for code in [
         0,
         0x7669_6464,
@@ -43,11 +63,26 @@ fn track_types_have_handlers(rt: HostRuntime) -> Result<(), Fail> {
             "of {code}"
         );
     }
-    Ok(())
 }
 
 #[test]
 fn media_types_have_texts(rt: HostRuntime) -> Result<(), Fail> {
+    for (media, text) in [
+        (MediaType::H264, "h264"),
+        (MediaType::H265, "h265"),
+        (MediaType::VP9, "vp9"),
+        (MediaType::AAC, "aac"),
+        (MediaType::TTXT, "ttxt"),
+    ] {
+        assert_eq!(rt; MediaType::try_from(text)?, media);
+        assert_eq!(rt; <&str>::from(media), text);
+        assert_eq!(rt; <&str>::from(&media), text);
+    }
+    Ok(())
+}
+
+#[test]
+fn media_types_are_printed(rt: HostRuntime) -> Result<(), Fail> {
     for (media, text, name) in [
         (MediaType::H264, "h264", "H264"),
         (MediaType::H265, "h265", "H265"),
@@ -55,12 +90,14 @@ fn media_types_have_texts(rt: HostRuntime) -> Result<(), Fail> {
         (MediaType::AAC, "aac", "AAC"),
         (MediaType::TTXT, "ttxt", "TTXT"),
     ] {
-        assert_eq!(rt; MediaType::try_from(text)?, media);
-        assert_eq!(rt; <&str>::from(media), text);
-        assert_eq!(rt; <&str>::from(&media), text);
         assert_eq!(rt; media.to_string(rt.alloc())?.as_str(), text);
         assert_eq!(rt; debug_text(rt.alloc(), &media)?.as_str(), name);
     }
+    Ok(())
+}
+
+#[test]
+fn other_texts_have_no_media_type(rt: HostRuntime) {
     for text in [
         "", "h26", "h263", "h266", "h2645", "H264", "vp8", "aacp", "ttx",
     ] {
@@ -70,7 +107,6 @@ fn media_types_have_texts(rt: HostRuntime) -> Result<(), Fail> {
             "of {text}"
         );
     }
-    Ok(())
 }
 
 #[test]
@@ -94,19 +130,27 @@ fn avc_profiles_have_numbers(rt: HostRuntime) -> Result<(), Fail> {
             "of {number}, {constraints}"
         );
     }
+    Ok(())
+}
+
+#[test]
+fn other_numbers_have_no_avc_profile(rt: HostRuntime) {
     for number in 0..=255 {
-        if ![66, 77, 88, 100].contains(&number) {
+        if [66, 77, 88, 100].contains(&number) {
+            continue;
+        }
+        for constraints in [0, 0x40] {
             assert_eq!(rt;
-                invalid_text(&AvcProfile::try_from((number, 0))),
+                invalid_text(&AvcProfile::try_from((number, constraints))),
                 Some("unsupported avc profile"),
-                "of {number}"
-            );
-            assert_eq!(rt;
-                invalid_text(&AvcProfile::try_from((number, 0x40))),
-                Some("unsupported avc profile")
+                "of {number}, {constraints}"
             );
         }
     }
+}
+
+#[test]
+fn avc_profiles_are_printed(rt: HostRuntime) -> Result<(), Fail> {
     for (profile, text, name) in [
         (
             AvcProfile::AvcConstrainedBaseline,
@@ -266,6 +310,11 @@ fn data_types_have_numbers(rt: HostRuntime) -> Result<(), Fail> {
         assert_eq!(rt; debug_text(rt.alloc(), &kind)?.as_str(), name);
         assert_eq!(rt; kind as u32, number);
     }
+    Ok(())
+}
+
+#[test]
+fn other_numbers_have_no_data_type(rt: HostRuntime) {
     for number in [2, 12, 14, 20, 22, 0x0100_0000, 0x0100_0001, u32::MAX] {
         assert_eq!(rt;
             invalid_text(&DataType::try_from(number)),
@@ -273,5 +322,4 @@ fn data_types_have_numbers(rt: HostRuntime) -> Result<(), Fail> {
             "of {number}"
         );
     }
-    Ok(())
 }

@@ -231,28 +231,47 @@ fn lists_of_trun_that_are_longer_than_the_count(rt: HostRuntime) -> Result<(), F
     Ok(())
 }
 
+/// An `emsg` of this version, without a time.
+fn emsg_without_time(alloc: Global, version: u8) -> Result<EmsgBox, Error> {
+    let mut made = EmsgBox::default_in(alloc);
+    made.version = version;
+    Ok(made)
+}
+
 #[test]
 fn emsg_without_its_time(rt: HostRuntime) -> Result<(), Fail> {
-    let mut no_time = EmsgBox::default_in(rt.alloc());
-    expect_unwritable(rt.alloc(), &no_time)?;
-    no_time.version = 2;
-    expect_unwritable_of_size(rt.alloc(), &no_time, 34)?;
+    let alloc = rt.alloc();
+    made::unwritable(alloc, emsg_without_time(alloc, 0)).and(made::unwritable_of_size(
+        alloc,
+        emsg_without_time(alloc, 2),
+        34,
+    ))?;
     Ok(())
+}
+
+/// An `emsg` of version 1, with the time of version 0.
+fn emsg_of_other_time(alloc: Global) -> Result<EmsgBox, Error> {
+    let mut made = emsg(alloc)?;
+    made.message_data = Entries::new(alloc);
+    made.version = 1;
+    Ok(made)
 }
 
 #[test]
 fn emsg_of_the_time_of_another_version(rt: HostRuntime) -> Result<(), Fail> {
-    let mut other_time = emsg(rt.alloc())?;
-    other_time.message_data = Entries::new(rt.alloc());
-    other_time.version = 1;
-    expect_unwritable(rt.alloc(), &other_time)?;
+    made::unwritable(rt.alloc(), emsg_of_other_time(rt.alloc()))?;
     Ok(())
+}
+
+/// An `emsg` with a zero byte in a string.
+fn emsg_of_inner_zero(alloc: Global) -> Result<EmsgBox, Error> {
+    let mut made = emsg(alloc)?;
+    made.value = Text::from_str(alloc, "a\0b")?;
+    Ok(made)
 }
 
 #[test]
 fn zero_byte_in_a_string_of_emsg(rt: HostRuntime) -> Result<(), Fail> {
-    let mut inner_zero = emsg(rt.alloc())?;
-    inner_zero.value = Text::from_str(rt.alloc(), "a\0b")?;
-    expect_unwritable(rt.alloc(), &inner_zero)?;
+    made::unwritable(rt.alloc(), emsg_of_inner_zero(rt.alloc()))?;
     Ok(())
 }
