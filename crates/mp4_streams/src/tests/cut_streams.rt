@@ -1,8 +1,8 @@
 //! All vectors as one stream, which is cut at every length.
 
 use super::lists::list_from;
-use super::streams::read_stream;
-use mp4_fixtures::helpers::{Kind, kind_of};
+use super::streams::{kind_and_count, read_stream};
+use mp4_fixtures::helpers::Kind;
 use mp4_fixtures::vectors::VECTORS;
 use mp4_stream::{ByteCursor, Error, KeptBox, read_boxes_as};
 use std::alloc::Global;
@@ -35,12 +35,7 @@ fn expected_of(cut: usize, count: Option<usize>) -> (Kind, usize, u64) {
 /// Reads the boxes of a buffer and keeps all of them. Returns the same as `expected_of`.
 fn keep_stream(alloc: Global, bytes: &[u8]) -> (Kind, usize, u64) {
     let mut reader = ByteCursor::new(bytes);
-    let outcome = read_boxes_as::<KeptBox>(alloc, &mut reader);
-    let kind = kind_of(&outcome);
-    let count = match outcome {
-        Ok(found) => found.len(),
-        Err(_) => 0,
-    };
+    let (kind, count) = kind_and_count(read_boxes_as::<KeptBox>(alloc, &mut reader));
     (kind, count, reader.position())
 }
 

@@ -1,6 +1,6 @@
 //! Where the boxes of a buffer are.
 
-use super::streams::THREE;
+use super::streams::{THREE, kind_and_count};
 use linked_list_allocator::LocalHeap;
 use mp4_fixtures::helpers::{Kind, kind_of};
 use mp4_fixtures::vectors::{VECTORS, Vector};
@@ -27,12 +27,7 @@ fn places(alloc: Global, bytes: &[u8]) -> Result<Vec<BoxSpan>, Error> {
 pub(super) fn list_from<A: Allocator>(alloc: A, bytes: &[u8], position: u64) -> (Kind, usize, u64) {
     let mut reader = ByteCursor::new(bytes);
     reader.set_position(position);
-    let outcome = list_boxes(alloc, &mut reader);
-    let kind = kind_of(&outcome);
-    let count = match outcome {
-        Ok(spans) => spans.len(),
-        Err(_) => 0,
-    };
+    let (kind, count) = kind_and_count(list_boxes(alloc, &mut reader));
     (kind, count, reader.position())
 }
 

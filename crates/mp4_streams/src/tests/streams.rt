@@ -14,16 +14,22 @@ use std::test::Fail;
 pub(super) const THREE: [u8; 52] =
     *b"\0\0\0\x18ftypisom\0\0\x02\0isommp41\0\0\0\x08free\0\0\0\x14stco\0\0\0\0\0\0\0\x01\0\0\x01\x0b";
 
+/// The kind of an outcome, and how many items the list has, if there is one.
+pub(super) fn kind_and_count<T: Drop, A: Allocator>(
+    outcome: Result<Vec<T, A>, Error>,
+) -> (Kind, usize) {
+    let kind = kind_of(&outcome);
+    match outcome {
+        Ok(found) => (kind, found.len()),
+        Err(_) => (kind, 0),
+    }
+}
+
 /// Reads the boxes of a buffer. Returns the kind of the outcome, the number of boxes, and the position of the cursor
 /// after the call.
 pub(super) fn read_stream(alloc: Global, bytes: &[u8]) -> (Kind, usize, u64) {
     let mut reader = ByteCursor::new(bytes);
-    let outcome = read_boxes(alloc, &mut reader);
-    let kind = kind_of(&outcome);
-    let count = match outcome {
-        Ok(found) => found.len(),
-        Err(_) => 0,
-    };
+    let (kind, count) = kind_and_count(read_boxes(alloc, &mut reader));
     (kind, count, reader.position())
 }
 
