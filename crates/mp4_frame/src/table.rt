@@ -15,13 +15,14 @@ pub trait TableEntry<const E: usize>: Copy {
     /// The bytes of its row.
     ghost row_of: { Self → List ℕ };
 
-    /// Its numbers are in the ranges of their types.
+    /// Its numbers fit their fields in the row.
     ghost Fits: { Self → Type 0 };
 
     fn to_row(&self) -> [u8; E]
         ensures { result ≡ row_of self.now };
 
-    /// Always true. For the prover: a value that was read has the range of its type.
+    /// Whether its numbers fit their fields. Where the fields fill their types it is always true, and for the prover: a
+    /// value that was read has the range of its type.
     fn fits(&self) -> bool
         ensures { IsTrue result ↔ Fits self.now };
 }
@@ -87,7 +88,7 @@ pub fn table_size<T: TableEntry<E>, const E: usize>(entries: &[T]) -> u64
         .saturating_add(16)
 }
 
-/// Always true. For the prover: a value that was read has the range of its type.
+/// Whether the numbers of each entry fit their fields: always true where the fields fill their types.
 pub fn all_fit<T: TableEntry<E>, const E: usize>(entries: &[T]) -> bool
     ensures { IsTrue result ↔ All T.Fits entries.now }
 {
