@@ -131,7 +131,8 @@ struct mp4_trun_row {
 };
 
 /* Reads all boxes from the front of the bytes to their end, and returns the status of the first fault, or MP4_OK. Boxes of
-   types that the codec doesn't read are skipped by their size. */
+   types that the codec doesn't read are skipped by their size: so a moov is not looked into. Call it over the content of
+   such a box to check what is in it. */
 uint32_t mp4_check(const uint8_t *bytes, size_t length);
 
 /* Lists the boxes at the top level of the bytes, in their order, without reading what is in them. The children of a box
