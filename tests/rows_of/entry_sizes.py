@@ -1,26 +1,9 @@
-"""Sample entries that are cut, and that are read by other sizes and other forms of headers than their own."""
+"""Sample entries that are read by other sizes and other forms of headers than their own."""
 
-from rows_of.entry_values import (
-    AVC1, AVC1_VALUE, AVCC, AVCC_VALUE, HEV1, HEV1_VALUE, HVCC, HVCC_VALUE, TX3G, TX3G_VALUE, VP09, VP09_VALUE, VPCC,
-    VPCC_VALUE,
-)
-from rows_of.making import (
-    END, LARGE_TOO_SMALL, LARGEST, PAST_64_BITS, large, larger_child, one, resized, u32, u64,
-)
+from rows_of.making import LARGE_TOO_SMALL, LARGEST, PAST_64_BITS, cuts, large, larger_child, one, resized, u32, u64
 
 # Sizes around those of a header and of the children: 9, 20 and 36.
 SIZES = [0, 7, 8, 9, 15, 16, 19, 20, 35, 36, 37, LARGEST]
-
-
-def cuts(buffer):
-    """Wherever the bytes are cut, it is end of input."""
-    for length in range(len(buffer)):
-        yield one(buffer[:length], END)
-
-
-def cut_entries():
-    for buffer in (AVCC, AVC1, HVCC, HEV1, VPCC, VP09, TX3G):
-        yield from cuts(buffer)
 
 
 def value_from(value, buffer, least):
@@ -33,19 +16,6 @@ def value_from(value, buffer, least):
         yield one(large(buffer[4:8], buffer[8:], number=number), value if size >= least else too_large)
     for number in (7, 15):
         yield one(large(buffer[4:8], buffer[8:], number=number), LARGE_TOO_SMALL)
-
-
-def configurations_and_texts_have_any_size():
-    yield from value_from(AVCC_VALUE, AVCC, 0)
-    yield from value_from(HVCC_VALUE, HVCC, 0)
-    yield from value_from(VPCC_VALUE, VPCC, 0)
-    yield from value_from(TX3G_VALUE, TX3G, 0)
-
-
-def child_larger_than_its_entry():
-    yield from value_from(AVC1_VALUE, AVC1, 36)
-    yield from value_from(HEV1_VALUE, HEV1, 9)
-    yield from value_from(VP09_VALUE, VP09, 20)
 
 
 def with_child(buffer, number):
@@ -78,13 +48,3 @@ def sizes_of_child(value, buffer):
         yield one(resized(with_large_child(buffer, number), LARGEST), expected_in_largest)
     with_16 = with_large_child(buffer, 16)
     yield from cuts(resized(with_16, len(with_16)))
-
-
-def child_by_its_size():
-    yield from sizes_of_child(AVC1_VALUE, AVC1)
-    yield from sizes_of_child(HEV1_VALUE, HEV1)
-    yield from sizes_of_child(VP09_VALUE, VP09)
-
-
-def child_of_a_size_of_1_without_its_large_size():
-    yield one(with_child(HEV1, 1), END)

@@ -162,3 +162,14 @@ def stsd(version=0, flags=0, **entry):
 
 def stsd_bytes(child, size=None, count=1):
     return full(b"stsd", u32(count), child, size=size)
+
+# Audio configurations of each form: profile, index of the frequency, sampling rate, channels, and the bytes.
+AUDIO_CONFIGURATIONS = [
+    (2, 3, None, 2, b"\x11\x90"),
+    (30, 14, None, 15, b"\xf7\x78"),
+    (34, 0, None, 2, b"\xf8\x40\x40"),
+    (95, 0, None, 15, b"\xff\xe1\xe0"),
+    (2, 15, 50000, 2, b"\x17\x80\x61\xa8\x10"),
+    (2, 15, 16777215, 1, b"\x17\xff\xff\xff\x88"),
+    (42, 15, 50000, 6, b"\xf9\x5e\x01\x86\xa0\xc0"),
+]

@@ -40,6 +40,7 @@ TOO_SMALL = invalid("box size too small")
 LARGE_TOO_SMALL = invalid("64-bit box size too small")
 PAST_64_BITS = invalid("box end past 64 bits")
 WRONG_VERSION = invalid("version must be 0 or 1")
+CHILD_TOO_SMALL = invalid("child box too small")
 NOT_UTF8 = invalid("invalid utf8")
 
 
@@ -83,6 +84,48 @@ def written_as(buffer, value, written):
 def round_trip(buffer, value):
     """A buffer of one box is read as the value, alone and as a list, and the list is written in the same bytes."""
     return written_as(buffer, value, buffer)
+
+
+def cuts(buffer):
+    """Wherever the bytes are cut, it is end of input."""
+    for length in range(len(buffer)):
+        yield one(buffer[:length], END)
+
+
+def any_size(buffer, value):
+    """The value is read with any size: 0, 7, its own, and the largest."""
+    for size in (0, 7, len(buffer), LARGEST):
+        yield one(resized(buffer, size), value)
+
+
+def versions_above_1(buffer):
+    """Every version above 1 is invalid data."""
+    for version in range(2, 256):
+        yield one(changed(buffer, {8: version}), WRONG_VERSION)
+
+
+def one_row_short(buffer, value, length, fault):
+    """A table that is one row of this length short, by a byte, by three, and by all of it. If the buffer is too short
+    it is end of input, and if the size is too small it is this fault. With a larger size it is read as it is."""
+    size = len(buffer)
+    for part in (1, 3, length):
+        yield one(buffer[:-part], END)
+        yield one(resized(buffer, size - part), fault)
+        yield one(resized(buffer, size + part), value)
+
+
+def large_count(name, *numbers, version=0, flags=0, fault=None):
+    """A count of 2^32 - 1 is invalid data if the size has no room for as many rows, and else end of input, with and
+    without bytes after it. The count is after these numbers."""
+    head = u32(*numbers, 2**32 - 1)
+    for content in (head, head.ljust(88, b"\0")):
+        for size, expected in [(100, fault or too_many(name)), (2**32 - 1, fault or too_many(name)), (LARGEST, END)]:
+            yield one(full(name.encode(), content, version=version, flags=flags, size=size), expected)
+
+
+def counting(first, last):
+    """The bytes from the first to the last, each one more than the one before it."""
+    return bytes(range(first, last + 1))
 
 
 def u8(*numbers):
@@ -138,3 +181,8 @@ def changed(buffer, places):
     for place, byte in places.items():
         out[place] = byte
     return bytes(out)
+
+
+def filled(buffer, byte, *places):
+    """The bytes with this byte at the places of some ranges, as `range(8, 14)`."""
+    return changed(buffer, {place: byte for among in places for place in among})

@@ -12,6 +12,12 @@ def full_box(code, version=0, flags=0, **fields):
     return Box(code, version=version, flags=flags, **fields)
 
 
+def matrix(*numbers):
+    """A matrix of these nine numbers, the highest bit of each its sign."""
+    signed = [number - (number >> 31 << 32) for number in numbers]
+    return dict(zip("abucdvxyw", signed))
+
+
 def ftyp(major_brand, minor_version, compatible_brands):
     brands = [number_of(brand) for brand in compatible_brands]
     return Box("ftyp", major_brand=number_of(major_brand), minor_version=minor_version, compatible_brands=brands)
@@ -57,11 +63,11 @@ def elst(version, segment_duration, media_time):
     return full_box("elst", version=version, entries=[dict(times, media_rate=1, media_rate_fraction=0)])
 
 
-def trun(flags, sample_count, **fields):
+def trun(flags, sample_count, version=0, **fields):
     """A run of samples: the fields that are given, and no others."""
     lists = {"sample_durations": [], "sample_sizes": [], "sample_flags": [], "sample_cts": []}
     none = {"data_offset": None, "first_sample_flags": None}
-    return full_box("trun", flags=flags, sample_count=sample_count, **{**none, **lists, **fields})
+    return full_box("trun", version, flags, sample_count=sample_count, **{**none, **lists, **fields})
 
 
 # Boxes of the location `a`.
@@ -74,3 +80,11 @@ HDLR = full(b"hdlr", u32(0), b"vide", bytes(12), b"VideoHandler\0")
 EMSG = full(b"emsg", b"foo\0foo\0", u32(48000, 100, 200, 8), b"\1\2\3")
 EMSG_LONG = full(b"emsg", u32(48000), u64(50000), u32(200, 8), b"foo\0foo\0\3\2\1", version=1)
 TRUN = full(b"trun", u32(2, 100, 10, 20), flags=0x201)
+
+# The matrices of boxes whose bytes count up, in versions 0 and 1.
+SHORT_MATRIX = matrix(
+    0x9A9B9C9D, 0x9E9FA0A1, 0xA2A3A4A5, 0xA6A7A8A9, 0xAAABACAD, 0xAEAFB0B1, 0xB2B3B4B5, 0xB6B7B8B9, 0xBABBBCBD,
+)
+LONG_MATRIX = matrix(
+    0xA6A7A8A9, 0xAAABACAD, 0xAEAFB0B1, 0xB2B3B4B5, 0xB6B7B8B9, 0xBABBBCBD, 0xBEBFC0C1, 0xC2C3C4C5, 0xC6C7C8C9,
+)

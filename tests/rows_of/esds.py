@@ -1,13 +1,13 @@
-"""Sample entries of audio and their descriptors: lengths in every form and lengths that lie, audio configurations,
-cuts, sizes and children. How many headers of descriptors are read is counted."""
+"""`esds`, the descriptors of an elementary stream: lengths in every form and lengths that lie, audio configurations,
+cuts and sizes. How many headers of descriptors are read is counted. In `COUNTED` the bytes of the fields count up from
+0x81, but for those of an audio configuration, whose fields are some bits of them."""
 
 from rows_of.entry_values import (
-    ESDS, ESDS_VALUE, MP4A, MP4A_VALUE, MP4A_WITHOUT_ESDS, TEST_FIELDS, config, esds, esds_bytes, esds_bytes_of,
-    esds_of, mp4a, mp4a_bytes, specific,
+    AUDIO_CONFIGURATIONS, ESDS, ESDS_VALUE, config, esds, esds_bytes, esds_bytes_of, esds_of, specific,
 )
 from rows_of.making import (
-    END, LARGE_TOO_SMALL, LARGEST, PAST_64_BITS, box, changed, invalid, large, larger_child, listed, one, resized,
-    round_trip, u8, u16, u24, u32, written_as,
+    END, LARGEST, PAST_64_BITS, box, changed, counting, invalid, large, one, resized, round_trip, u8, u16, u24, u32,
+    written_as,
 )
 
 NOT_FOUND = invalid("ESDescriptor not found")
@@ -15,6 +15,112 @@ NOT_FOUND = invalid("ESDescriptor not found")
 # The descriptors of stream 1, of low complexity at 48000 hertz in stereo.
 STEREO = esds_bytes_of(1, 128000, b"\x11\x90")
 STEREO_VALUE = esds_of(1, 128000, specific(2, 3, None, 2))
+
+# The audio configuration has 2 bytes: object type 22, index 13, channels 12.
+COUNTED = box(
+    b"esds", counting(0x81, 0x84), u8(3, 25), counting(0x85, 0x86), u8(0, 4, 17), u8(0x87, 0x8B), counting(0x88, 0x8A),
+    counting(0x8C, 0x93), u8(5, 2, 0xB6, 0xE0, 6, 0, 0),
+)
+
+
+def counted(dec_specific, stream_type=34, up_stream=2):
+    """What is read of `COUNTED`, with this audio configuration and this stream type."""
+    stream = config(0x87, stream_type, up_stream, 0x88898A, 0x8C8D8E8F, 0x90919293, dec_specific)
+    return esds(0x8586, stream, version=0x81, flags=0x828384)
+
+
+COUNTED_VALUE = counted(specific(22, 13, None, 12))
+
+
+def configured(content):
+    """The bytes of `COUNTED` with an audio configuration of these bytes."""
+    n = len(content)
+    lengths = {13: 23 + n, 18: 15 + n, 33: n}
+    return resized(changed(COUNTED[:34], lengths) + content + u8(6, 0, 0), 37 + n)
+
+
+def every_field():
+    yield round_trip(COUNTED, COUNTED_VALUE)
+
+
+def descriptors_of_zeros():
+    given = box(b"esds", bytes(4), u8(3, 25), bytes(3), u8(4, 17, 0, 1), bytes(11), u8(5, 2, 0, 0, 6, 0, 0))
+    yield round_trip(given, esds(0))
+
+
+def every_form_of_an_audio_configuration():
+    for audio, content in [
+        ((84, 11, None, 14), b"\xfe\x97\xc0"),
+        ((22, 15, 0xC32435, 12), b"\xb7\xe1\x92\x1a\xe0"),
+        ((84, 15, 0xA5C317, 14), b"\xfe\x9f\x4b\x86\x2f\xc0"),
+    ]:
+        yield round_trip(configured(content), counted(specific(*audio)))
+
+
+def one_bit_of_an_audio_configuration():
+    for audio, content in [
+        ((1, 0, None, 0), b"\x08\0"),
+        ((16, 0, None, 0), b"\x80\0"),
+        ((0, 1, None, 0), b"\0\x80"),
+        ((0, 8, None, 0), b"\x04\0"),
+        ((0, 0, None, 1), b"\0\x08"),
+        ((0, 0, None, 8), b"\0\x40"),
+    ]:
+        yield round_trip(configured(content), counted(specific(*audio)))
+
+
+def one_bit_of_a_long_audio_configuration():
+    for audio, content in [
+        ((33, 0, None, 0), b"\xf8\x20\0"),
+        ((64, 0, None, 0), b"\xfc\0\0"),
+        ((32, 1, None, 0), b"\xf8\x02\0"),
+        ((32, 8, None, 0), b"\xf8\x10\0"),
+        ((32, 0, None, 1), b"\xf8\0\x20"),
+        ((32, 0, None, 8), b"\xf8\x01\0"),
+    ]:
+        yield round_trip(configured(content), counted(specific(*audio)))
+
+
+def one_bit_of_a_sampling_rate():
+    for audio, content in [
+        ((0, 15, 1, 0), b"\x07\x80\0\0\x80"),
+        ((0, 15, 0x800000, 0), b"\x07\xc0\0\0\0"),
+        ((1, 15, 0, 0), b"\x0f\x80\0\0\0"),
+        ((0, 15, 0, 1), b"\x07\x80\0\0\x08"),
+    ]:
+        yield round_trip(configured(content), counted(specific(*audio)))
+
+
+def one_bit_of_a_sampling_rate_in_a_long_configuration():
+    for audio, content in [
+        ((32, 15, 1, 0), b"\xf8\x1e\0\0\x02\0"),
+        ((32, 15, 0x800000, 0), b"\xf8\x1f\0\0\0\0"),
+        ((33, 15, 0, 0), b"\xf8\x3e\0\0\0\0"),
+        ((32, 15, 0, 1), b"\xf8\x1e\0\0\0\x20"),
+    ]:
+        yield round_trip(configured(content), counted(specific(*audio)))
+
+
+def stream_types_and_directions():
+    """The lowest bit is ignored."""
+    for stream_type, up_stream, byte in [(0, 0, 0x01), (0, 2, 0x03), (1, 0, 0x05), (32, 0, 0x81), (63, 2, 0xFF)]:
+        value = counted(specific(22, 13, None, 12), stream_type, up_stream)
+        given = changed(COUNTED, {20: byte})
+        yield round_trip(given, value)
+        yield written_as(changed(COUNTED, {20: byte - 1}), value, given)
+
+
+def reserved_bytes_are_ignored():
+    """The flags of an elementary stream descriptor, and the content of a sync layer configuration."""
+    for place in (16, 38):
+        yield written_as(changed(COUNTED, {place: 0xA5}), COUNTED_VALUE, COUNTED)
+
+
+def other_tags():
+    """With another tag in one place there is no descriptor there."""
+    yield one(changed(COUNTED, {12: 0x83}), NOT_FOUND)
+    yield one(changed(COUNTED, {17: 0x84}), esds(0x8586, version=0x81, flags=0x828384))
+    yield one(changed(COUNTED, {32: 0x85}), counted(specific()))
 
 
 def descriptors_of_encoders():
@@ -155,25 +261,9 @@ def cut_descriptors():
         yield one(ESDS[:length], END)
 
 
-def cut_mp4a():
-    for length in range(len(MP4A)):
-        yield one(MP4A[:length], END)
-
-
 def audio_configurations():
-    for profile, freq_index, sample_rate, chan_conf, content in [
-        (2, 3, None, 2, b"\x11\x90"),
-        (30, 14, None, 15, b"\xf7\x78"),
-        (34, 0, None, 2, b"\xf8\x40\x40"),
-        (95, 0, None, 15, b"\xff\xe1\xe0"),
-        (2, 15, 50000, 2, b"\x17\x80\x61\xa8\x10"),
-        (2, 15, 16777215, 1, b"\x17\xff\xff\xff\x88"),
-        (42, 15, 50000, 6, b"\xf9\x5e\x01\x86\xa0\xc0"),
-    ]:
-        given = esds_bytes_of(1, 128000, content)
-        value = esds_of(1, 128000, specific(profile, freq_index, sample_rate, chan_conf))
-        yield round_trip(given, value)
-        yield round_trip(mp4a_bytes(*TEST_FIELDS, given), mp4a(*TEST_FIELDS, value))
+    for *audio, content in AUDIO_CONFIGURATIONS:
+        yield round_trip(esds_bytes_of(1, 128000, content), esds_of(1, 128000, specific(*audio)))
 
 
 def other_bits_of_an_audio_configuration():
@@ -194,111 +284,3 @@ def cut_audio_configurations():
         given = esds_bytes_of(1, 128000, content)
         for length in range(34, 34 + len(content)):
             yield one(given[:length], END)
-
-
-def mp4a_of(child, size, expected):
-    """An `mp4a` of this size, with these bytes after its fields. The cursor is after the fields if the size is below
-    36."""
-    after = 36 if size < 36 else None
-    return one(mp4a_bytes(*TEST_FIELDS, child, size=size), expected, after)
-
-
-NO_ESDS = mp4a(*TEST_FIELDS)
-WITH_ESDS = mp4a(*TEST_FIELDS, ESDS_VALUE)
-TOO_LARGE = larger_child("mp4a")
-
-
-def sizes_of_mp4a():
-    for child, size, expected in [
-        (b"", 0, NO_ESDS),
-        (b"", 7, NO_ESDS),
-        (b"", 20, NO_ESDS),
-        (b"", 36, NO_ESDS),
-        (b"", 37, END),
-        (b"", LARGEST, END),
-        (ESDS, 0, NO_ESDS),
-        (ESDS, 7, NO_ESDS),
-        (ESDS, 15, NO_ESDS),
-        (ESDS, 16, NO_ESDS),
-        (ESDS, 36, NO_ESDS),
-        (ESDS, 37, TOO_LARGE),
-        (ESDS, 42, TOO_LARGE),
-        (ESDS, 43, WITH_ESDS),
-        (ESDS, 79, WITH_ESDS),
-        (ESDS, 80, WITH_ESDS),
-        (ESDS, LARGEST, WITH_ESDS),
-    ]:
-        yield mp4a_of(child, size, expected)
-
-
-def child_larger_than_its_mp4a():
-    yield one(MP4A, MP4A_VALUE, after=79)
-    yield one(resized(MP4A, LARGEST), MP4A_VALUE, after=2**64 - 1)
-    yield one(resized(MP4A, 42), TOO_LARGE, after=8)
-
-
-def sizes_of_the_child_of_mp4a():
-    for size, expected in [
-        (0, NOT_FOUND),
-        # The first bytes of the content are read as a size of 64 bits.
-        (1, TOO_LARGE),
-        (7, NOT_FOUND),
-        (12, NOT_FOUND),
-        (13, WITH_ESDS),
-        (15, WITH_ESDS),
-        (16, WITH_ESDS),
-        (43, WITH_ESDS),
-        (44, END),
-        (79, END),
-        (80, TOO_LARGE),
-    ]:
-        yield mp4a_of(changed(ESDS, {3: size}), 79, expected)
-
-
-def child_of_mp4a_with_a_size_of_64_bits():
-    """In a box of the largest size the content of the child begins at 60."""
-    for number, size, expected in [
-        (0, 87, NOT_FOUND),
-        (1, 87, LARGE_TOO_SMALL),
-        (15, 87, LARGE_TOO_SMALL),
-        (16, 87, NOT_FOUND),
-        (21, 87, WITH_ESDS),
-        (51, 87, WITH_ESDS),
-        (52, 87, END),
-        (95, 87, END),
-        (96, 87, TOO_LARGE),
-        # The largest child that ends below 2^64, the next, and the largest.
-        (2**64 - 45, LARGEST, END),
-        (2**64 - 44, LARGEST, PAST_64_BITS),
-        (2**64 - 1, LARGEST, PAST_64_BITS),
-    ]:
-        yield mp4a_of(large(b"esds", ESDS[8:], number=number), size, expected)
-
-
-def child_of_mp4a_of_another_name():
-    largest = large(b"free", number=2**64 - 1)
-    for child, size, expected in [
-        (box(b"free", size=0), 44, NO_ESDS),
-        (box(b"free", size=7), 44, NO_ESDS),
-        (box(b"free", size=44), 44, NO_ESDS),
-        (box(b"free", size=45), 44, TOO_LARGE),
-        (box(b"free")[:7], 44, END),
-        # Where its content isn't read, it may end past 2^64 - 1.
-        (largest, LARGEST, NO_ESDS),
-        (largest, LARGEST - 1, TOO_LARGE),
-        (largest[:15], LARGEST, END),
-    ]:
-        yield mp4a_of(child, size, expected)
-
-
-# An `mp4a` without descriptors, of 20 bytes by its size. In a list the next box begins at 20. It has 17 bytes.
-SHORT_MP4A = changed(MP4A_WITHOUT_ESDS, {3: 20, 23: 17}) + b"\0"
-
-
-def mp4a_that_ends_after_its_size():
-    yield one(SHORT_MP4A[:36], NO_ESDS, after=36)
-
-
-def list_of_an_mp4a_that_ends_after_its_size():
-    yield listed(SHORT_MP4A[:36], END)
-    yield listed(SHORT_MP4A, [NO_ESDS])

@@ -1,12 +1,29 @@
-"""Sample descriptions: which entry is read, with counts, sizes and cuts."""
+"""`stsd`, the sample descriptions: which entry is read, with counts, sizes and cuts."""
 
 from rows_of.entry_values import (
     AVC1, AVC1_OF_TEST, AVC1_OF_TEST_VALUE, AVC1_VALUE, ESDS, HEV1, HEV1_VALUE, MP4A, MP4A_OF_TEST, MP4A_OF_TEST_VALUE,
-    MP4A_VALUE, MP4A_WITHOUT_ESDS, MP4A_WITHOUT_ESDS_VALUE, TX3G, TX3G_VALUE, VP09, VP09_VALUE, stsd, stsd_bytes,
+    MP4A_VALUE, MP4A_WITHOUT_ESDS, MP4A_WITHOUT_ESDS_VALUE, TX3G, TX3G_VALUE, VP09, VP09_VALUE, mp4a, stsd, stsd_bytes,
 )
-from rows_of.making import END, LARGEST, PAST_64_BITS, box, changed, full, large, larger_child, one, round_trip, u32
+from rows_of.making import (
+    END, LARGEST, PAST_64_BITS, box, changed, counting, cuts, full, large, larger_child, one, round_trip, u32,
+    written_as,
+)
+from rows_of.mp4a import COUNTED as COUNTED_ENTRY, COUNTED_FIELDS as COUNTED_ENTRY_FIELDS
 
 TOO_LARGE = larger_child("stsd")
+
+
+def every_field():
+    """Version and flags count up from 0xB1, since the entry has bytes from 0x81 on."""
+    given = box(b"stsd", counting(0xB1, 0xB4), u32(1), COUNTED_ENTRY)
+    yield round_trip(given, stsd(0xB1, 0xB2B3B4, mp4a=mp4a(*COUNTED_ENTRY_FIELDS)))
+
+
+def no_entry_and_any_count():
+    """The count is ignored."""
+    given = box(b"stsd", counting(0xB1, 0xB4), u32(0))
+    yield round_trip(given, stsd(0xB1, 0xB2B3B4))
+    yield written_as(box(b"stsd", counting(0xB1, 0xB8)), stsd(0xB1, 0xB2B3B4), given)
 
 
 def entries_are_written_alone():
@@ -21,7 +38,7 @@ def tx3g_is_written_alone():
     yield round_trip(stsd_bytes(TX3G), stsd(tx3g=TX3G_VALUE))
 
 
-def stsd_without_an_entry():
+def no_entry():
     """What follows is not read, whatever the count says."""
     yield round_trip(full(b"stsd", u32(0)), stsd())
     yield one(stsd_bytes(MP4A, size=16), stsd())
@@ -32,13 +49,11 @@ def count_of_entries_is_not_used():
         yield one(stsd_bytes(MP4A_OF_TEST, count=count), stsd(mp4a=MP4A_OF_TEST_VALUE))
 
 
-def cut_stsd():
-    buffer = stsd_bytes(MP4A)
-    for length in range(len(buffer)):
-        yield one(buffer[:length], END)
+def cut_anywhere():
+    yield from cuts(stsd_bytes(MP4A))
 
 
-def sizes_of_stsd():
+def sizes():
     for size, expected in [
         (0, stsd()),
         (7, stsd()),
@@ -57,7 +72,7 @@ def entry_larger_than_its_stsd():
     yield one(stsd_bytes(MP4A, size=78), TOO_LARGE)
 
 
-def children_of_stsd():
+def children():
     for child, size, expected in [
         (b"", 17, END),
         (MP4A[:7], 95, END),
@@ -70,7 +85,7 @@ def children_of_stsd():
         yield one(stsd_bytes(child, size=size), expected)
 
 
-def children_of_stsd_up_to_the_end_of_64_bits():
+def children_up_to_the_end_of_64_bits():
     """A child whose content isn't read may end past 2^64 - 1. The content of an entry begins at 40, and it ends at
     2^64 - 1 or past it."""
     for code, number, expected in [
