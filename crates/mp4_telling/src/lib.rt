@@ -1,4 +1,4 @@
-//! Tests of boxes whose bytes tell every field apart, of codes, defaults and short tables. They use the helpers of
+//! Tests of codes, defaults, constructors and equality, whose numbers tell every field apart. They use the helpers of
 //! `mp4_fixtures`.
 #![tactic(auto)]
 

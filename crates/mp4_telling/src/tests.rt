@@ -1,17 +1,9 @@
-//! Boxes that tell fields apart. Each field is not zero, differs from every other field and from itself with its bytes in
-//! the other order, and has its highest bit set; where there is a list, it has three entries or more that differ. The bytes
-//! were worked out from the layout table, and not by this codec. So a definition in which two fields are swapped, or one is
-//! read in another order, width or place, has other bytes than these, also where the code does the same.
+//! Tests of what no bytes show: codes, constants, constructors, defaults, `==`, and languages of other letters and lengths.
+//! Their numbers count up from 0x81, so that no two of a box are the same, and were worked out from the layout table and the
+//! Rust crate, and not by this codec.
 
 mod codes;
+mod constructors;
 mod defaults;
-mod entries;
-mod entry_defaults;
 mod equality;
-mod flat;
-mod fragments;
 mod languages;
-mod short_tables;
-mod sound;
-mod tables;
-mod texts;

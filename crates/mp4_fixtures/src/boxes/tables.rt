@@ -3,8 +3,8 @@
 mod fragments;
 
 pub use fragments::{
-    TFHD, TRUN, TRUN_THREE, TRUN_TWO, tfhd, tfhd_all, tfhd_bare, trun, trun_of_durations,
-    trun_of_four_lists, trun_of_three_lists,
+    TFHD, TRUN, tfhd, tfhd_all, tfhd_bare, trun, trun_of_durations, trun_of_four_lists,
+    trun_of_three_lists,
 };
 use mp4_stream::{
     Co64Box, CttsBox, CttsEntry, ElstBox, ElstEntry, Entries, Result, StcoBox, StscBox, StscEntry,

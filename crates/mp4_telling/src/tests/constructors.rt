@@ -1,9 +1,11 @@
-//! Defaults, constants and constructors of sample entries, field by field.
+//! Constants and constructors of sample entries, field by field.
 
 use mp4_fixtures::boxes::entries::list_of_sets;
+use mp4_fixtures::boxes::sound::specific;
 use mp4_stream::{
-    Avc1Box, AvcCBox, AvcConfig, Entries, Error, FixedPointU16, Hev1Box, HevcConfig, HvcCBox,
-    NalUnit, RgbaColor, Tx3gBox, Vp09Box, Vp9Config, VpccBox,
+    AacConfig, AudioObjectType, Avc1Box, AvcCBox, AvcConfig, ChannelConfig, Error, EsdsBox,
+    FixedPointU16, Hev1Box, HevcConfig, HvcCBox, Mp4aBox, SampleFreqIndex, Vp09Box, Vp9Config,
+    VpccBox,
 };
 use std::alloc::Global;
 use std::test::Fail;
@@ -11,35 +13,6 @@ use std::test::Fail;
 const SEQUENCE: [u8; 5] = [0x67, 0x81, 0x82, 0x83, 0x84];
 
 const PICTURE: [u8; 2] = [0x68, 0x85];
-
-#[test]
-fn default_units_and_colors(rt: HostRuntime) -> Result<(), Fail> {
-    let unit = NalUnit {
-        bytes: Entries::new(rt.alloc()),
-    };
-    assert!(rt; NalUnit::default_in(rt.alloc()) == unit);
-    let color = RgbaColor {
-        red: 0,
-        green: 0,
-        blue: 0,
-        alpha: 0,
-    };
-    assert!(rt; RgbaColor::default() == color);
-    Ok(())
-}
-
-/// Zeros and no sets.
-fn no_sets(alloc: Global) -> AvcCBox {
-    AvcCBox {
-        configuration_version: 0,
-        avc_profile_indication: 0,
-        profile_compatibility: 0,
-        avc_level_indication: 0,
-        length_size_minus_one: 0,
-        sequence_parameter_sets: Entries::new(alloc),
-        picture_parameter_sets: Entries::new(alloc),
-    }
-}
 
 /// The configuration of `SEQUENCE` and `PICTURE`.
 fn two_sets(alloc: Global) -> Result<AvcCBox, Error> {
@@ -55,31 +28,10 @@ fn two_sets(alloc: Global) -> Result<AvcCBox, Error> {
 }
 
 #[test]
-fn default_and_new_avcc(rt: HostRuntime) -> Result<(), Fail> {
-    assert!(rt; AvcCBox::default_in(rt.alloc()) == no_sets(rt.alloc()));
+fn new_avcc(rt: HostRuntime) -> Result<(), Fail> {
     let made = AvcCBox::new(rt.alloc(), &SEQUENCE, &PICTURE)?;
     assert!(rt; made == two_sets(rt.alloc())?);
     Ok(())
-}
-
-/// 72 pixels an inch, one frame, and 24 bits, beside these fields.
-fn avc1(data_reference_index: u16, width: u16, height: u16, avcc: AvcCBox) -> Avc1Box {
-    Avc1Box {
-        data_reference_index,
-        width,
-        height,
-        horizresolution: FixedPointU16::new_raw(0x48_0000),
-        vertresolution: FixedPointU16::new_raw(0x48_0000),
-        frame_count: 1,
-        depth: 24,
-        avcc,
-    }
-}
-
-#[test]
-fn default_avc1(rt: HostRuntime) {
-    let zeros = avc1(0, 0, 0, no_sets(rt.alloc()));
-    assert!(rt; Avc1Box::default_in(rt.alloc()) == zeros);
 }
 
 #[test]
@@ -90,96 +42,56 @@ fn new_avc1(rt: HostRuntime) -> Result<(), Fail> {
         seq_param_set: Vec::from_slice(rt.alloc(), &SEQUENCE)?.into(),
         pic_param_set: Vec::from_slice(rt.alloc(), &PICTURE)?.into(),
     };
-    let made = avc1(1, 0x8182, 0x8384, two_sets(rt.alloc())?);
-    assert!(rt; Avc1Box::new(rt.alloc(), &config)? == made);
-    Ok(())
-}
-
-/// A configuration of this version.
-fn hvcc(configuration_version: u8) -> HvcCBox {
-    HvcCBox {
-        configuration_version,
-    }
-}
-
-#[test]
-fn default_and_new_hvcc(rt: HostRuntime) -> Result<(), Fail> {
-    assert!(rt; HvcCBox::default() == hvcc(0));
-    assert!(rt; HvcCBox::new() == hvcc(1));
-    Ok(())
-}
-
-/// 72 pixels an inch, one frame, and 24 bits, beside these fields.
-fn hev1(data_reference_index: u16, width: u16, height: u16, hvcc: HvcCBox) -> Hev1Box {
-    Hev1Box {
-        data_reference_index,
-        width,
-        height,
+    // 72 pixels an inch, one frame, and 24 bits.
+    let made = Avc1Box {
+        data_reference_index: 1,
+        width: 0x8182,
+        height: 0x8384,
         horizresolution: FixedPointU16::new_raw(0x48_0000),
         vertresolution: FixedPointU16::new_raw(0x48_0000),
         frame_count: 1,
         depth: 24,
-        hvcc,
+        avcc: two_sets(rt.alloc())?,
+    };
+    assert!(rt; Avc1Box::new(rt.alloc(), &config)? == made);
+    Ok(())
+}
+
+/// A configuration of version 1.
+fn hvcc() -> HvcCBox {
+    HvcCBox {
+        configuration_version: 1,
     }
 }
 
 #[test]
-fn default_and_new_hev1(rt: HostRuntime) -> Result<(), Fail> {
-    assert!(rt; Hev1Box::default() == hev1(0, 0, 0, hvcc(0)));
+fn new_hvcc(rt: HostRuntime) {
+    assert!(rt; HvcCBox::new() == hvcc());
+}
+
+#[test]
+fn new_hev1(rt: HostRuntime) {
     let config = HevcConfig {
         width: 0x8182,
         height: 0x8384,
     };
-    let made = hev1(1, 0x8182, 0x8384, hvcc(1));
-    assert!(rt; Hev1Box::new(&config) == made);
-    Ok(())
-}
-
-/// Zeros, beside these fields.
-fn vpcc(version: u8, level: u8, bit_depth: u8) -> VpccBox {
-    VpccBox {
-        version,
-        flags: 0,
-        profile: 0,
-        level,
-        bit_depth,
-        chroma_subsampling: 0,
-        video_full_range_flag: false,
-        color_primaries: 0,
-        transfer_characteristics: 0,
-        matrix_coefficients: 0,
-        codec_initialization_data_size: 0,
-    }
-}
-
-#[test]
-fn default_vpcc(rt: HostRuntime) -> Result<(), Fail> {
-    assert!(rt; VpccBox::default() == vpcc(0, 0, 0));
-    assert!(rt; (VpccBox::DEFAULT_VERSION, VpccBox::DEFAULT_BIT_DEPTH) == (1, 8));
-    Ok(())
-}
-
-#[test]
-fn default_vp09(rt: HostRuntime) -> Result<(), Fail> {
-    let zeros = Vp09Box {
-        version: 0,
-        flags: 0,
-        start_code: 0,
-        data_reference_index: 0,
-        reserved0: [0; 16],
-        width: 0,
-        height: 0,
-        horizresolution: (0, 0),
-        vertresolution: (0, 0),
-        reserved1: [0; 4],
-        frame_count: 0,
-        compressorname: [0; 32],
-        depth: 0,
-        end_code: 0,
-        vpcc: vpcc(0, 0, 0),
+    // 72 pixels an inch, one frame, and 24 bits.
+    let made = Hev1Box {
+        data_reference_index: 1,
+        width: 0x8182,
+        height: 0x8384,
+        horizresolution: FixedPointU16::new_raw(0x48_0000),
+        vertresolution: FixedPointU16::new_raw(0x48_0000),
+        frame_count: 1,
+        depth: 24,
+        hvcc: hvcc(),
     };
-    assert!(rt; Vp09Box::default() == zeros);
-    Ok(())
+    assert!(rt; Hev1Box::new(&config) == made);
+}
+
+#[test]
+fn constants_of_vpcc(rt: HostRuntime) {
+    assert!(rt; (VpccBox::DEFAULT_VERSION, VpccBox::DEFAULT_BIT_DEPTH) == (1, 8));
 }
 
 #[test]
@@ -199,7 +111,19 @@ fn new_vp09(rt: HostRuntime) -> Result<(), Fail> {
         compressorname: [0; 32],
         depth: 24,
         end_code: 0xffff,
-        vpcc: vpcc(1, 31, 8),
+        vpcc: VpccBox {
+            version: 1,
+            flags: 0,
+            profile: 0,
+            level: 31,
+            bit_depth: 8,
+            chroma_subsampling: 0,
+            video_full_range_flag: false,
+            color_primaries: 0,
+            transfer_characteristics: 0,
+            matrix_coefficients: 0,
+            codec_initialization_data_size: 0,
+        },
     };
     let config = Vp9Config {
         width: 0x8182,
@@ -222,22 +146,28 @@ fn constants_of_vp09(rt: HostRuntime) -> Result<(), Fail> {
     Ok(())
 }
 
+/// Each field is that of the configuration or a number that is told apart from the others.
 #[test]
-fn default_tx3g(rt: HostRuntime) -> Result<(), Fail> {
-    let tx3g = Tx3gBox {
-        data_reference_index: 0,
-        display_flags: 0,
-        horizontal_justification: 1,
-        vertical_justification: -1,
-        bg_color_rgba: RgbaColor {
-            red: 0,
-            green: 0,
-            blue: 0,
-            alpha: 255,
-        },
-        box_record: [0, 0, 0, 0],
-        style_record: [0, 0, 0, 0, 0, 1, 0, 16, 255, 255, 255, 255],
+fn new_mp4a(rt: HostRuntime) {
+    let made = Mp4aBox::new(&AacConfig {
+        bitrate: 0x8182_8384,
+        profile: AudioObjectType::UnifiedSpeechAudioCoding,
+        freq_index: SampleFreqIndex::Freq96000,
+        chan_conf: ChannelConfig::FiveOne,
+    });
+    let mut esds = EsdsBox::default();
+    esds.es_desc.es_id = 1;
+    esds.es_desc.dec_config.object_type_indication = 0x40;
+    esds.es_desc.dec_config.stream_type = 5;
+    esds.es_desc.dec_config.max_bitrate = 0x8182_8384;
+    esds.es_desc.dec_config.avg_bitrate = 0x8182_8384;
+    esds.es_desc.dec_config.dec_specific = specific(42, 0, None, 6);
+    let value = Mp4aBox {
+        data_reference_index: 1,
+        channelcount: 6,
+        samplesize: 16,
+        samplerate: FixedPointU16::new_raw(0x7700_0000),
+        esds: Some(esds),
     };
-    assert!(rt; Tx3gBox::default() == tx3g);
-    Ok(())
+    assert!(rt; made == value);
 }

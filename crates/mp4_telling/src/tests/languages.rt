@@ -1,27 +1,7 @@
-//! Languages: three letters in 15 bits, worked out by hand.
+//! Languages of other letters and other lengths than bytes can say, worked out by hand.
 
-use mp4_stream::{MdhdBox, Text, WriteBox, language_code, language_string};
+use mp4_stream::{MdhdBox, Text, WriteBox, language_code};
 use std::test::Fail;
-
-#[test]
-fn letters_are_five_bits_each(rt: HostRuntime) -> Result<(), Fail> {
-    for (language, code) in [
-        // a is 1, b is 2, and so on: the first letter times 1024, the second times 32, and the third.
-        ("swe", 0x4ee5),
-        ("deu", 0x10b5),
-        ("zul", 0x6aac),
-        ("abc", 0x0443),
-    ] {
-        assert_eq!(rt; language_code(language), code, "{language}");
-        assert_eq!(rt; language_string(rt.alloc(), code)?.as_str(), language);
-        // The highest bit is not a letter's.
-        assert_eq!(rt;
-            language_string(rt.alloc(), code | 0x8000)?.as_str(),
-            language
-        );
-    }
-    Ok(())
-}
 
 #[test]
 fn letters_past_ascii_are_utf16_units(rt: HostRuntime) -> Result<(), Fail> {

@@ -10,14 +10,6 @@ pub const TFHD: [u8; 28] = *b"\0\0\0\x1ctfhd\0\0\0*\0\0\0\x01\0\0\0\x01\0\0\x02\
 /// `trun`, version 0: a data offset, and the sizes of two samples.
 pub const TRUN: [u8; 28] = *b"\0\0\0\x1ctrun\0\0\x02\x01\0\0\0\x02\0\0\0d\0\0\0\x0a\0\0\0\x14";
 
-/// `trun`, version 0: sizes and flags of two samples.
-pub const TRUN_TWO: [u8; 32] =
-    *b"\0\0\0\x20trun\0\0\x06\0\0\0\0\x02\0\0\0\x0a\x01\x01\0\0\0\0\0\x14\x02\0\0\0";
-
-/// `trun`, version 0: both optional fields, and durations, sizes and composition times of two samples.
-pub const TRUN_THREE: [u8; 48] =
-    *b"\0\0\0\x30trun\0\0\x0b\x05\0\0\0\x02\xff\xff\xff\xf8\x02\0\0\0\0\0\x04\0\0\0\0\x0a\0\0\x02\0\0\0\x04\x01\0\0\0\x14\xff\xff\xff\xff";
-
 /// `tfhd`, version 0: a track fragment with three of the five optional fields.
 pub fn tfhd() -> TfhdBox {
     TfhdBox {
