@@ -75,6 +75,11 @@ def listed(buffer, expected):
     return Row(buffer, boxes=(outcome(expected), 0 if isinstance(expected, tuple) else len(buffer)))
 
 
+def list_written_as(buffer, values, written, at=0):
+    """The list of the boxes of a buffer from a position on is read as these values, and written in these bytes."""
+    return Row(buffer, at, boxes=(outcome(values), max(at, len(buffer))), written=written)
+
+
 def written_as(buffer, value, written):
     """A buffer of one box is read as the value, alone and as a list, and the list is written in these bytes."""
     position = cursor(buffer, 0, value)

@@ -77,16 +77,6 @@ fn rows_that_are_missing_are_not_taken(rt: HostRuntime) {
     assert_eq!(rt; reader.position(), 0);
 }
 
-#[test]
-fn cut_headers(rt: HostRuntime) {
-    for len in 0..16 {
-        let bytes = b"\0\0\0\x01\x01\x02\x03\x04\0\0\0\0\0\0\0\x10";
-        let mut reader = ByteCursor::new(&bytes[..len]);
-        let kind = kind_of(&BoxHeader::read(&mut reader));
-        assert_eq!(rt; (kind, reader.position()), (Kind::End, 0), "{len}");
-    }
-}
-
 /// Reads a header. Returns its name, its size, and the position of the cursor after the call.
 fn read_header(bytes: &[u8]) -> Result<(BoxType, u64, u64), Error> {
     let mut reader = ByteCursor::new(bytes);

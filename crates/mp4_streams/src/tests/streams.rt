@@ -40,29 +40,6 @@ fn rewrite(alloc: Global, bytes: &[u8]) -> Result<Vec<u8>, Error> {
     Ok(out)
 }
 
-#[test]
-fn known_boxes_are_kept(rt: HostRuntime) -> Result<(), Fail> {
-    assert_eq!(rt; read_stream(rt.alloc(), &THREE), (Kind::Ok, 2, 52));
-    let out = rewrite(rt.alloc(), &THREE)?;
-    assert_eq!(rt; out.len(), 44);
-    assert_eq!(rt; &out[..24], &THREE[..24]);
-    assert_eq!(rt; &out[24..], &THREE[32..]);
-    Ok(())
-}
-
-#[test]
-fn reading_begins_at_the_cursor(rt: HostRuntime) -> Result<(), Fail> {
-    let mut reader = ByteCursor::new(&THREE);
-    reader.set_position(24);
-    let found = read_boxes(rt.alloc(), &mut reader)?;
-    assert!(rt; matches!(found.as_slice(), [AnyBox::StcoBox(_)]));
-    assert_eq!(rt; reader.position(), 52);
-    reader.set_position(99);
-    assert!(rt; read_boxes(rt.alloc(), &mut reader)?.is_empty());
-    assert_eq!(rt; reader.position(), 99);
-    Ok(())
-}
-
 /// Appends two boxes as a list. Returns the kind of the outcome.
 pub(super) fn append_two<B: StreamBox + Drop, A: Allocator>(
     alloc: Global,
@@ -105,75 +82,6 @@ fn all_vectors_are_rewritten(rt: HostRuntime) -> Result<(), Fail> {
         stream.extend_from_slice(vector.bytes())?;
     }
     assert_eq!(rt; rewrite(rt.alloc(), &stream)?, stream);
-    Ok(())
-}
-
-#[test]
-fn skipped_boxes(rt: HostRuntime) {
-    let skipped: [&[u8]; 7] = [
-        b"",
-        b"\0\0\0\x08free",
-        b"\0\0\0\x0ffree1234567",
-        b"\0\0\0\x10free12345678",
-        b"\0\0\0\0free123",
-        b"\0\0\0\x01mdat\0\0\0\0\0\0\0\x13\x01\x02\x03",
-        b"\0\0\0\x01mdat\0\0\0\0\0\0\0\0\x01\x02\x03",
-    ];
-    for bytes in skipped {
-        let expected = (Kind::Ok, 0, bytes.len() as u64);
-        assert_eq!(rt; read_stream(rt.alloc(), bytes), expected, "{bytes:?}");
-    }
-}
-
-#[test]
-fn invalid_sizes(rt: HostRuntime) {
-    let invalid: [&[u8]; 6] = [
-        b"\0\0\0\x02free",
-        b"\0\0\0\x07free",
-        b"\0\0\0\x01free\0\0\0\0\0\0\0\x01",
-        b"\0\0\0\x01free\0\0\0\0\0\0\0\x0f",
-        b"\0\0\0\x08free\0\0\0\x01free\xff\xff\xff\xff\xff\xff\xff\xff",
-        b"\0\0\0\x08free\0\0\0\0stco\0\0\0\0\0\0\0\x02\0\0\x01\x0b",
-    ];
-    for bytes in invalid {
-        assert_eq!(rt;
-            read_stream(rt.alloc(), bytes),
-            (Kind::Invalid, 0, 0),
-            "{bytes:?}"
-        );
-    }
-}
-
-#[test]
-fn missing_bytes(rt: HostRuntime) {
-    let short: [&[u8]; 8] = [
-        b"\0",
-        b"\0\0\0\0\0\0\0",
-        b"\0\0\0\x01free",
-        b"\0\0\0\x01free\0\0\0\0\0\0\0",
-        b"\0\0\0\x09free",
-        b"\0\0\0\x10free1234567",
-        b"\xff\xff\xff\xfffree",
-        b"\0\0\0\x01free\xff\xff\xff\xff\xff\xff\xff\xff",
-    ];
-    for bytes in short {
-        assert_eq!(rt;
-            read_stream(rt.alloc(), bytes),
-            (Kind::End, 0, 0),
-            "{bytes:?}"
-        );
-    }
-}
-
-#[test]
-fn a_size_of_zero_goes_to_the_end(rt: HostRuntime) -> Result<(), Fail> {
-    let mut bytes = Vec::from_slice(rt.alloc(), &THREE[..24])?;
-    bytes.extend_from_slice(b"\0\0\0\0mdat\x01\x02\x03")?;
-    assert_eq!(rt; read_stream(rt.alloc(), &bytes), (Kind::Ok, 1, 35));
-    let compact = b"\0\0\0\0stco\0\0\0\0\0\0\0\x01\0\0\x01\x0b";
-    assert_eq!(rt; rewrite(rt.alloc(), compact)?.as_slice(), &THREE[32..]);
-    let large = b"\0\0\0\x01stco\0\0\0\0\0\0\0\0\0\0\0\0\0\0\0\x01\0\0\x01\x0b";
-    assert_eq!(rt; rewrite(rt.alloc(), large)?.as_slice(), &THREE[32..]);
     Ok(())
 }
 

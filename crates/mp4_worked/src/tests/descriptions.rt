@@ -4,9 +4,9 @@ use mp4_fixtures::boxes::entries::{
     AVC1, HEV1, VP09, avc1, avc1_of, avcc_of_two, hev1, tx3g, vp09,
 };
 use mp4_fixtures::boxes::sound::{MP4A, mp4a, mp4a_of_test};
-use mp4_fixtures::helpers::{Mismatch, expect_round_trip};
+use mp4_fixtures::helpers::Mismatch;
 use mp4_fixtures::made;
-use mp4_stream::{Avc1Box, BoxType, Error, Mp4aBox, StsdBox, TryClone, WriteBox};
+use mp4_stream::{Avc1Box, Error, Mp4aBox, StsdBox, TryClone, WriteBox};
 use std::alloc::Global;
 use std::test::Fail;
 
@@ -113,15 +113,6 @@ fn mp4a_is_written_before_text(rt: HostRuntime) -> Result<(), Fail> {
         ..StsdBox::default()
     };
     expect_written_alone(rt.alloc(), Ok(stsd), 95, &MP4A)?;
-    Ok(())
-}
-
-#[test]
-fn stsd_without_an_entry(rt: HostRuntime) -> Result<(), Fail> {
-    let none = StsdBox::default();
-    let bytes = *b"\0\0\0\x10stsd\0\0\0\0\0\0\0\0";
-    expect_round_trip(rt.alloc(), &none, &bytes)?;
-    assert_eq!(rt; (none.get_type(), none.get_size()), (BoxType::StsdBox, 16));
     Ok(())
 }
 

@@ -1,16 +1,13 @@
-//! Sample entries: their sets, constructors, defaults and clones.
+//! Sample entries: their sets, constructors and clones.
 
 use mp4_fixtures::boxes::entries::{
     PICTURE, SEQUENCE, avc1, avc1_of, avcc, avcc_of_two, empty_sets, hev1, list_of_sets, tx3g,
     vp09, vp09_of_config, vpcc,
 };
-use mp4_fixtures::helpers::{
-    expect_round_trip, expect_unwritable, expect_unwritable_of_size, expect_written,
-};
+use mp4_fixtures::helpers::{expect_unwritable, expect_unwritable_of_size};
 use mp4_fixtures::made;
 use mp4_stream::{
-    Avc1Box, AvcCBox, AvcConfig, Entries, Error, Hev1Box, NalUnit, Tx3gBox, Vp09Box, VpccBox,
-    WriteBox,
+    Avc1Box, AvcCBox, AvcConfig, Entries, Error, NalUnit, Vp09Box, VpccBox, WriteBox,
 };
 use std::alloc::Global;
 use std::test::Fail;
@@ -134,19 +131,5 @@ fn clones_of_entries(rt: HostRuntime) -> Result<(), Fail> {
         .and(made::clone_of(&vpcc()))
         .and(made::clone_of(&vp09()))
         .and(made::clone_of(&tx3g()))?;
-    Ok(())
-}
-
-#[test]
-fn default_entries(rt: HostRuntime) -> Result<(), Fail> {
-    let alloc = rt.alloc();
-    made::written(alloc, Ok(Avc1Box::default_in(alloc)), 101)
-        .and(expect_written(alloc, &Hev1Box::default(), 95))
-        .and(expect_written(alloc, &Vp09Box::default(), 106))
-        .and(expect_round_trip(
-            alloc,
-            &Tx3gBox::default(),
-            b"\0\0\0\x2etx3g\0\0\0\0\0\0\0\0\0\0\0\0\x01\xff\0\0\0\xff\0\0\0\0\0\0\0\0\0\0\0\0\0\x01\0\x10\xff\xff\xff\xff",
-        ))?;
     Ok(())
 }
