@@ -37,6 +37,7 @@ def worked_bytes():
     """The constants of the crates that are a box's bytes, and the boxes of the rows that are written in the same bytes:
     of each type, and of versions 0 and 1 where they differ."""
     found = [row.buffer for _, row in rows() if row.written == row.buffer and len(row.buffer) <= MOST]
+    found = [buffer for buffer in found if buffer[4:8] in CODES]
     for path in sorted(glob.glob(SOURCES, recursive=True)):
         with open(path, encoding="utf-8") as file:
             for length, text, numbers in CONSTANT.findall(file.read()):
@@ -57,6 +58,10 @@ VECTORS = worked_bytes()
 
 def of_name(*names):
     return [box for box in VECTORS if box[4:8] in names]
+
+
+# Of some types there are many more than of others.
+OF_CODE = {code: of_name(code) for code in CODES}
 
 
 def box_of(code, content):
@@ -177,7 +182,7 @@ class Maker:
         """One box, or several one after the other."""
         out = b""
         for _ in range(self.choice([1, 1, 1, 1, 1, 2, 3])):
-            box = self.choice(VECTORS) if self.below(5) else self.nested()
+            box = self.choice(OF_CODE[self.choice(CODES)]) if self.below(5) else self.nested()
             for _ in range(self.choice([0, 1, 1, 1, 2, 3])):
                 box = self.mutated(box)
             if self.below(4) and len(box) > 8 and box[:4] != b"\0\0\0\1":
