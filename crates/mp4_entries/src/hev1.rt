@@ -16,7 +16,7 @@ use mp4_media::{FixedPointU16, HevcConfig};
 use std::alloc::Global;
 
 /// The sample entry of HEVC video (`hev1`, ISO/IEC 14496-15, 8.4.1). Boxes after its `hvcC` are neither read nor written.
-#[derive(Debug, Drop, PartialEq, Eq)]
+#[derive(Clone, Debug, Drop, PartialEq, Eq)]
 pub struct Hev1Box {
     /// The horizontal resolution, in pixels an inch, usually 72.
     pub horizresolution: FixedPointU16,
@@ -110,7 +110,7 @@ impl Hev1Box {
 
 impl TryClone for Hev1Box {
     fn try_clone(&self) -> Result<Hev1Box> {
-        Ok(hev1_of(self.visual(), self.hvcc.try_clone()?))
+        Ok(self.clone()?)
     }
 }
 

@@ -8,7 +8,7 @@ use crate::error::Result;
 use crate::reading::{piece_at, rows_at};
 
 /// A position in a buffer. It may be past the end of the buffer.
-#[derive(Debug, Drop)]
+#[derive(Drop)]
 pub struct ByteCursor<'a> {
     bytes: &'a [u8],
     position: u64,

@@ -1,6 +1,6 @@
 //! The sample description box.
 
-ghost use Rattle.std.specs.Prelude.{◌≡◌, ◌+◌, ◌-◌, ◌^◌, ◌≤◌, Some, length, min, take, ◌++◌, ◌↔◌, IsTrue, IfOk, IfErr};
+ghost use Rattle.std.specs.Prelude.{◌≡◌, ◌+◌, ◌-◌, ◌^◌, ◌≤◌, Some, None, length, min, take, ◌++◌, ◌↔◌, IsTrue, IfOk, IfErr};
 ghost use Rattle.mp4_frame.specs.Bytes.{be_bytes};
 ghost use Rattle.mp4_frame.specs.Format.{write_laws};
 ghost use Rattle.mp4_frame.specs.OneChild.{child_content};
@@ -42,7 +42,7 @@ macro_rules! first_entry {
 /// The sample descriptions of a track (`stsd`, ISO/IEC 14496-12, 8.5.2). When it is read, the first entry is kept if it is
 /// of one of the five types here, also where it ends after the `stsd`. Entries after it are not read. When it is written, the
 /// first entry that is present is, in the order of the fields, and it alone has to be writable.
-#[derive(Debug, Default, Drop, PartialEq, Eq)]
+#[derive(Debug, Drop, PartialEq, Eq)]
 pub struct StsdBox {
     /// The version of the box, usually 0. It is kept as it is.
     pub version: u8,
@@ -61,6 +61,28 @@ pub struct StsdBox {
 }
 
 impl StsdBox {
+    /// Version 0, flags 0 and no entry.
+    fn empty() -> StsdBox
+        ensures { result ≡ record { version = 0; flags = 0; avc1 = None; hev1 = None; vp09 = None; mp4a = None; tx3g = None } }
+    {
+        StsdBox {
+            version: 0,
+            flags: 0,
+            avc1: None,
+            hev1: None,
+            vp09: None,
+            mp4a: None,
+            tx3g: None,
+        }
+    }
+
+    /// Version 0, flags 0 and no entry. It takes no memory.
+    pub fn default_in(_alloc: Global) -> StsdBox
+        ensures { result ≡ record { version = 0; flags = 0; avc1 = None; hev1 = None; vp09 = None; mp4a = None; tx3g = None } }
+    {
+        StsdBox::empty()
+    }
+
     /// Whether the entry that is written can be written, if there is one.
     fn is_entry_writable(&self) -> bool
         ensures { IsTrue result ↔ WritableOptional format_entry (entry_stsd self.now) }
@@ -97,7 +119,7 @@ fn clone_entry<T: TryClone + Drop>(entry: &Option<T>, clone: &mut Option<T>) -> 
 
 impl TryClone for StsdBox {
     fn try_clone(&self) -> Result<StsdBox> {
-        let mut clone = StsdBox::default();
+        let mut clone = StsdBox::empty();
         clone.version = self.version;
         clone.flags = self.flags;
         clone_entry(&self.avc1, &mut clone.avc1)?;
@@ -164,7 +186,7 @@ impl ReadBox for StsdBox {
     #[tactic(auto, unfolding(crate::specs::Stsd::reads_stsd))]
     fn read_content(alloc: Global, bytes: &[u8], start: u64, size: u64) -> Result<StsdBox> {
         expect_bytes(bytes, 8, 8)?;
-        let mut stsd = StsdBox::default();
+        let mut stsd = StsdBox::default_in(alloc);
         stsd.version = u8_at(bytes, 8);
         stsd.flags = u24_at(bytes, 9);
         if size > 16 {

@@ -33,18 +33,18 @@ fn stsd_of_all(alloc: Global) -> Result<StsdBox, Error> {
 }
 
 /// An entry of audio alone.
-fn stsd_of(mp4a: Mp4aBox) -> StsdBox {
+fn stsd_of(alloc: Global, mp4a: Mp4aBox) -> StsdBox {
     StsdBox {
         mp4a: Some(mp4a),
-        ..StsdBox::default()
+        ..StsdBox::default_in(alloc)
     }
 }
 
 /// An entry of video alone.
-fn stsd_of_video(avc1: Avc1Box) -> StsdBox {
+fn stsd_of_video(alloc: Global, avc1: Avc1Box) -> StsdBox {
     StsdBox {
         avc1: Some(avc1),
-        ..StsdBox::default()
+        ..StsdBox::default_in(alloc)
     }
 }
 
@@ -110,7 +110,7 @@ fn mp4a_is_written_before_text(rt: HostRuntime) -> Result<(), Fail> {
     let stsd = StsdBox {
         mp4a: Some(mp4a()),
         tx3g: Some(tx3g()),
-        ..StsdBox::default()
+        ..StsdBox::default_in(rt.alloc())
     };
     expect_written_alone(rt.alloc(), Ok(stsd), 95, &MP4A)?;
     Ok(())
@@ -118,7 +118,7 @@ fn mp4a_is_written_before_text(rt: HostRuntime) -> Result<(), Fail> {
 
 /// An entry of video of the Rust crate's test alone.
 fn stsd_of_two_sets(alloc: Global) -> Result<StsdBox, Error> {
-    Ok(stsd_of_video(avc1_of(alloc, avcc_of_two(alloc, 3)?)))
+    Ok(stsd_of_video(alloc, avc1_of(alloc, avcc_of_two(alloc, 3)?)))
 }
 
 /// An entry of audio that can't be written.
@@ -150,12 +150,11 @@ fn other_entries_need_not_be_writable(rt: HostRuntime) -> Result<(), Fail> {
 fn unwritable_stsd(rt: HostRuntime) -> Result<(), Fail> {
     let flagged = StsdBox {
         flags: 1 << 24,
-        ..StsdBox::default()
+        ..StsdBox::default_in(rt.alloc())
     };
-    made::unwritable_of_size(rt.alloc(), Ok(stsd_of(unwritable_mp4a())), 91).and(made::unwritable(
-        rt.alloc(),
-        Ok(flagged),
-    ))?;
+    made::unwritable_of_size(rt.alloc(), Ok(stsd_of(rt.alloc(), unwritable_mp4a())), 91).and(
+        made::unwritable(rt.alloc(), Ok(flagged)),
+    )?;
     Ok(())
 }
 
