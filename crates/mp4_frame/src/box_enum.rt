@@ -1,6 +1,6 @@
 //! A type that holds boxes of several types, such as an enum of them, is read and written as these boxes are.
 
-ghost use Rattle.std.specs.Prelude.{◌≡◌, ℕ, ◌+◌, ◌-◌, ◌^◌, ◌≤◌, ◌↔◌, min, IsTrue, List, length, OnErr};
+ghost use Rattle.std.specs.Prelude.{◌≡◌, ℕ, ◌+◌, ◌-◌, ◌^◌, ◌≤◌, ◌↔◌, min, max, IsTrue, List, length, OnOk, OnErr};
 ghost use Rattle.mp4_frame.specs.Members.{Known, is_known, reading_known, format_held, NamedAsRead, SomeBox, some_box, Inside, held_inside};
 ghost use Rattle.mp4_frame.specs.MemberLaws.{IsMember, written_member, own_name_of_member, read_back_of_member};
 ghost use Rattle.mp4_frame.specs.Reading.{Answers};
@@ -88,6 +88,9 @@ pub trait BoxEnum: Drop {
     /// The type of the boxes of a name.
     ghost kinds: { BoxType → Known Self };
 
+    /// The number of bytes that a box of a name has at least, whatever its size says: the `LEAST` of its type.
+    ghost least: { BoxType → ℕ } = { λ _. 0 };
+
     /// The box inside.
     ghost inside: { Self → Inside Self };
 
@@ -98,13 +101,15 @@ pub trait BoxEnum: Drop {
     fn holds(name: BoxType) -> bool
         ensures { result ≡ is_known (kinds name) };
 
-    /// Reads the box of this name whose header was just read.
+    /// Reads the box of this name whose header was just read. After an `Ok` the cursor is at the end of the box, which
+    /// has at least as many bytes as `least` says. After an `Err` it is where it was.
     fn read(alloc: Global, name: BoxType, reader: &mut ByteCursor, size: u64) -> Result<Self>
         requires known { IsTrue (is_known (kinds name)) }
         requires after_header { 8 ≤ reader.old.position }
         ensures answer { Answers result (reading_known (kinds name) reader.old.bytes.now (reader.old.position - 8) size) }
-        ensures bytes { reader.new.bytes ≡ reader.old.bytes }
-        ensures kept { OnErr result (reader.new.position ≡ reader.old.position) };
+        ensures moved { OnOk result (reader.new.position ≡ reader.old.position - 8 + max (least name) size) }
+        ensures kept { OnErr result (reader.new.position ≡ reader.old.position) }
+        ensures bytes { reader.new.bytes ≡ reader.old.bytes };
 
     /// Asks the box inside.
     fn ask<Q: Question>(&self, out: &mut [u8]) -> Q::Answer
@@ -143,6 +148,8 @@ impl<E: BoxEnum> StreamBox for E {
     ghost known = { λ name. is_known (E.kinds name) };
 
     ghost named_reading = { λ name. reading_known (E.kinds name) };
+
+    ghost least = { E.least };
 
     fn knows(name: BoxType) -> bool {
         E::holds(name)

@@ -1,7 +1,7 @@
 //! Functions for a type that holds boxes of several types, such as an enum of them. Each function is for one type of
 //! box, since the cost of entering a function grows with all of its locals.
 
-ghost use Rattle.std.specs.Prelude.{◌≡◌, ◌+◌, ◌-◌, ◌≤◌, length, IfOk, IfErr, OnErr};
+ghost use Rattle.std.specs.Prelude.{◌≡◌, ◌+◌, ◌-◌, ◌≤◌, max, length, IfOk, IfErr, OnOk, OnErr};
 ghost use Rattle.mp4_frame.specs.Reading.{Answers, AnswersAs, map_reading, reading};
 ghost use Rattle.mp4_frame.specs.Streams.{append_read};
 ghost use Rattle.mp4_frame.specs.declared.error.Error.TheVariants.{OutOfMemory};
@@ -22,7 +22,7 @@ pub trait Holds<T>: Sized {
         ensures { result ≡ wrapped value };
 }
 
-/// Reads the box of type T whose header was just read, and returns it as an E.
+/// Reads the box of type T whose header was just read, as `ReadBox::read_box`, and returns it as an E.
 pub fn read_as<T: ReadBox + Drop, E: Holds<T>>(
     alloc: Global,
     reader: &mut ByteCursor,
@@ -30,6 +30,7 @@ pub fn read_as<T: ReadBox + Drop, E: Holds<T>>(
 ) -> Result<E>
     requires after_header { 8 ≤ reader.old.position }
     ensures answer { Answers result (map_reading E.wrapped (reading T.reads reader.old.bytes.now (reader.old.position - 8) size)) }
+    ensures moved { OnOk result (reader.new.position ≡ reader.old.position - 8 + max T.LEAST size) }
     ensures kept { OnErr result (reader.new.position ≡ reader.old.position) }
     ensures bytes { reader.new.bytes ≡ reader.old.bytes }
 {

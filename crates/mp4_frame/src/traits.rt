@@ -140,17 +140,22 @@ pub trait StreamBox: WriteBox + Drop {
     /// What is read under a name, for the bytes of the buffer, the box's start, and its size.
     ghost named_reading: { BoxType → List ℕ → ℕ → ℕ → Reading Self };
 
+    /// The number of bytes that a box of a name has at least, whatever its size says.
+    ghost least: { BoxType → ℕ } = { λ _. 0 };
+
     /// Whether boxes of this name are read.
     fn knows(name: BoxType) -> bool
         ensures { result ≡ known name };
 
-    /// Reads the box of this name whose header was just read.
+    /// Reads the box of this name whose header was just read. After an `Ok` the cursor is at the end of the box, which
+    /// has at least as many bytes as `least` says. After an `Err` it is where it was.
     fn read_named(alloc: Global, name: BoxType, reader: &mut ByteCursor, size: u64) -> Result<Self>
         requires known { IsTrue (known name) }
         requires after_header { 8 ≤ reader.old.position }
         ensures answer { Answers result (named_reading name reader.old.bytes.now (reader.old.position - 8) size) }
-        ensures bytes { reader.new.bytes ≡ reader.old.bytes }
-        ensures kept { OnErr result (reader.new.position ≡ reader.old.position) };
+        ensures moved { OnOk result (reader.new.position ≡ reader.old.position - 8 + max (least name) size) }
+        ensures kept { OnErr result (reader.new.position ≡ reader.old.position) }
+        ensures bytes { reader.new.bytes ≡ reader.old.bytes };
 
     /// Reads the box of this name that begins at an offset of the buffer, 8 bytes before its content, and has this size
     /// from there. Appends it. After an `Err` the list is as it was.

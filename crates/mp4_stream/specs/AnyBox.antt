@@ -93,6 +93,11 @@ held (any.EsdsBox b) = holds format_esds any.EsdsBox b
 held (any.Mp4aBox b) = holds format_mp4a any.Mp4aBox b
 held (any.StsdBox b) = holds format_stsd any.StsdBox b
 
+-- the number of bytes that a box of a name has at least, whatever its size says
+abbrev pub least_any : BoxType → ℕ
+least_any names.Mp4aBox = 36
+least_any _ = 0
+
 abbrev pub format_any : Format AnyBox
 format_any = format_held held
 

@@ -7,7 +7,7 @@ use Rattle.mp4_frame.specs.Laws.{BeginsWithHeader, Normal, OwnName, ReadsBack}
 use Rattle.mp4_frame.specs.declared.box_type.BoxType.{BoxType}
 use Rattle.mp4_frame.specs.declared.box_type.BoxType.TheVariants as names
 use Rattle.mp4_frame.specs.MemberLaws.{member_back, content_back, written_member, own_name_of_member, read_back_of_member}
-use Rattle.mp4_stream.specs.AnyBox.{kinds, held, format_any, known_any, reading_any}
+use Rattle.mp4_stream.specs.AnyBox.{kinds, held, least_any, format_any, known_any, reading_any}
 use Rattle.mp4_stream.specs.AnyBoxLaws.{members}
 use Rattle.mp4_stream.specs.NameLaws.{plain_name}
 use Rattle.mp4_stream.specs.Other.{is_typed}
@@ -39,6 +39,11 @@ plain_any _ h = refl
 -- the code of another name is that of no type
 pub untyped_code : (name : BoxType) → known_kept name ≡ true → known_any name ≡ false → is_typed (code_of name) ≡ false
 untyped_code name known other = ap known_any (name_of-code_of name (not-true (is_disguised name) known)) ∙ other
+
+-- a box of another name has as many bytes as its size says
+pub least_of_other : (name : BoxType) → known_any name ≡ false → least_any name ≡ 0
+least_of_other names.Mp4aBox other = absurd cc
+least_of_other _ other = refl
 
 pub own_name_kept : (v : KeptBox) → format_kept.Writable v → OwnName known_kept (format_kept.name v)
 own_name_kept (kept.Any b) w = (let n = own_name_of_member kinds held members b w in record { is_known = not_from_false _ (plain_any (format_any.name b) n.is_known); is_own = n.is_own })

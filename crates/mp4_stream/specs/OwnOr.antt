@@ -24,6 +24,10 @@ format_or code own rest = format_held (held_or code own rest)
 abbrev pub known_or : ℕ → (BoxType → Bool) → BoxType → Bool
 known_or code known name = code_of name == code || known name
 
+-- the number of bytes that a box of a name has at least: `own` for the own type, and else as for the other type
+abbrev pub least_or : ℕ → ℕ → (BoxType → ℕ) → BoxType → ℕ
+least_or code own least name = if code_of name == code then own else least name
+
 abbrev pub reading_or : {A B : Type 0} → ℕ → (List ℕ → ℕ → ℕ → Reading A) → (BoxType → List ℕ → ℕ → ℕ → Reading B) → BoxType → List ℕ → ℕ → ℕ → Reading (OwnOr A B)
 reading_or code reads named_reading name bytes start size =
     if code_of name == code then map_reading own_or.Own (reading reads bytes start size) else map_reading own_or.Rest (named_reading name bytes start size)

@@ -4,7 +4,7 @@ ghost use Rattle.std.specs.Prelude.{◌≡◌, ◌+◌, ◌≤◌, length, IsTru
 ghost use Rattle.mp4_frame.specs.Reading.{AnswersAs, map_reading};
 ghost use Rattle.mp4_frame.specs.Streams.{append_read};
 ghost use Rattle.mp4_frame.specs.MemberLaws.{written_member, own_name_of_member, read_back_of_member};
-ghost use Rattle.mp4_stream.specs.AnyBox.{kinds, held, format_any, known_any, reading_any};
+ghost use Rattle.mp4_stream.specs.AnyBox.{kinds, held, least_any, format_any, known_any, reading_any};
 ghost use Rattle.mp4_stream.specs.AnyBoxLaws.{members};
 
 use mp4_entries::{Avc1Box, AvcCBox, Hev1Box, HvcCBox, Tx3gBox, Vp09Box, VpccBox};
@@ -176,6 +176,8 @@ impl StreamBox for AnyBox {
     ghost known = { known_any };
 
     ghost named_reading = { reading_any };
+
+    ghost least = { least_any };
 
     fn knows(name: BoxType) -> bool {
         of_boxes!(is_named, name)

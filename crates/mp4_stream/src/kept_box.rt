@@ -1,10 +1,10 @@
 //! A box of any type, alone and in lists: boxes of types that the codec does not read are kept as their bytes.
 
-ghost use Rattle.std.specs.Prelude.{◌≡◌, ◌+◌, ◌-◌, ◌≤◌, false, length, IsTrue, OnErr};
+ghost use Rattle.std.specs.Prelude.{◌≡◌, ◌+◌, ◌-◌, ◌≤◌, false, max, length, IsTrue, OnOk, OnErr};
 ghost use Rattle.mp4_frame.specs.BoxType.{name_of};
 ghost use Rattle.mp4_frame.specs.Reading.{Answers, AnswersAs, map_reading, reading};
 ghost use Rattle.mp4_frame.specs.Streams.{append_read};
-ghost use Rattle.mp4_stream.specs.AnyBox.{known_any, reading_any};
+ghost use Rattle.mp4_stream.specs.AnyBox.{known_any, least_any, reading_any};
 ghost use Rattle.mp4_stream.specs.Other.{is_typed};
 ghost use Rattle.mp4_stream.specs.OtherBox.{reads_other};
 ghost use Rattle.mp4_stream.specs.KeptBox.{format_kept, known_kept, reading_kept};
@@ -109,6 +109,7 @@ fn read_any(alloc: Global, name: BoxType, reader: &mut ByteCursor, size: u64) ->
     requires known { IsTrue (known_any name) }
     requires after_header { 8 ≤ reader.old.position }
     ensures answer { Answers result (map_reading kept.Any (reading_any name reader.old.bytes.now (reader.old.position - 8) size)) }
+    ensures moved { OnOk result (reader.new.position ≡ reader.old.position - 8 + max (least_any name) size) }
     ensures kept { OnErr result (reader.new.position ≡ reader.old.position) }
     ensures bytes { reader.new.bytes ≡ reader.old.bytes }
 {
@@ -120,6 +121,7 @@ fn read_other(alloc: Global, code: u32, reader: &mut ByteCursor, size: u64) -> R
     requires untyped { is_typed code ≡ false }
     requires after_header { 8 ≤ reader.old.position }
     ensures answer { Answers result (map_reading kept.Other (reading (reads_other code) reader.old.bytes.now (reader.old.position - 8) size)) }
+    ensures moved { OnOk result (reader.new.position ≡ reader.old.position - 8 + size) }
     ensures kept { OnErr result (reader.new.position ≡ reader.old.position) }
     ensures bytes { reader.new.bytes ≡ reader.old.bytes }
 {
@@ -151,6 +153,8 @@ impl StreamBox for KeptBox {
 
     ghost named_reading = { reading_kept };
 
+    ghost least = { least_any };
+
     fn knows(name: BoxType) -> bool {
         match name {
             BoxType::UnknownBox(code) => is_unnamed(code),
@@ -158,7 +162,7 @@ impl StreamBox for KeptBox {
         }
     }
 
-    #[tactic(auto, using(crate::specs::KeptBoxLaws::untyped_code))]
+    #[tactic(auto, using(crate::specs::KeptBoxLaws::untyped_code, crate::specs::KeptBoxLaws::least_of_other))]
     fn read_named(
         alloc: Global,
         name: BoxType,

@@ -1,7 +1,7 @@
 //! Boxes of one's own beside those of another type that is in lists, such as `AnyBox`.
 
 ghost use Rattle.std.specs.Prelude.{ℕ};
-ghost use Rattle.mp4_stream.specs.OwnOr.{HasCode, format_or, known_or, reading_or};
+ghost use Rattle.mp4_stream.specs.OwnOr.{HasCode, format_or, known_or, least_or, reading_or};
 ghost use Rattle.mp4_stream.specs.OwnOrLaws.{written_or, own_name_or, read_back_or, sound_or, code_or};
 
 use crate::sound_stream::SoundStream;
@@ -89,6 +89,8 @@ impl<A: CodedBox, B: StreamBox> StreamBox for OwnOr<A, B> {
     ghost known = { known_or A.CODE B.known };
 
     ghost named_reading = { reading_or A.CODE A.reads B.named_reading };
+
+    ghost least = { least_or A.CODE A.LEAST B.least };
 
     fn knows(name: BoxType) -> bool {
         u32::from(name) == A::CODE || B::knows(name)

@@ -66,9 +66,10 @@ fn a_kept_box_is_written_as_it_is(rt: HostRuntime) -> Result<(), Fail> {
     Ok(())
 }
 
-/// The kind of the outcome of reading a free box of 8 bytes with this size, and the position of the cursor after it.
-fn read_free(alloc: Global, size: u64) -> (Kind, u64) {
-    let mut reader = ByteCursor::new(b"\0\0\0\x08free");
+/// The kind of the outcome of reading the free box at the front of a buffer with this size, and the position of the cursor
+/// after it.
+fn read_free(alloc: Global, bytes: &[u8], size: u64) -> (Kind, u64) {
+    let mut reader = ByteCursor::new(bytes);
     reader.set_position(8);
     let outcome = KeptBox::read_named(alloc, BoxType::FreeBox, &mut reader, size);
     (kind_of(&outcome), reader.position())
@@ -76,9 +77,16 @@ fn read_free(alloc: Global, size: u64) -> (Kind, u64) {
 
 #[test]
 fn the_size_of_a_kept_box_is_checked(rt: HostRuntime) {
-    assert_eq!(rt; read_free(rt.alloc(), 7), (Kind::Invalid, 8));
-    assert_eq!(rt; read_free(rt.alloc(), 8), (Kind::Ok, 8));
-    assert_eq!(rt; read_free(rt.alloc(), 9), (Kind::End, 8));
+    let bytes = b"\0\0\0\x08free";
+    assert_eq!(rt; read_free(rt.alloc(), bytes, 7), (Kind::Invalid, 8));
+    assert_eq!(rt; read_free(rt.alloc(), bytes, 8), (Kind::Ok, 8));
+    assert_eq!(rt; read_free(rt.alloc(), bytes, 9), (Kind::End, 8));
+}
+
+#[test]
+fn the_cursor_is_after_a_kept_box(rt: HostRuntime) {
+    let bytes = b"\0\0\0\x0bfree\x01\x02\x03\0\0\0\x08wide";
+    assert_eq!(rt; read_free(rt.alloc(), bytes, 11), (Kind::Ok, 11));
 }
 
 #[test]

@@ -9,11 +9,12 @@ use mp4_stream::laws::{
 };
 use mp4_stream::list_laws::{normal_stream_is_kept, read_list_is_sound, written_stream_is_kept};
 use mp4_stream::{
-    AnyBox, Avc1Box, AvcCBox, BoxLaws, Co64Box, CttsBox, DataBox, DinfBox, DrefBox, ElstBox,
-    EmsgBox, EsdsBox, FtypBox, HdlrBox, Hev1Box, HvcCBox, KeptBox, MdhdBox, MehdBox, MfhdBox,
-    Mp4aBox, MvhdBox, SmhdBox, SoundStream, StcoBox, StreamBox, StscBox, StsdBox, StssBox, StszBox,
-    SttsBox, TfdtBox, TfhdBox, TkhdBox, TrackFlag, TrexBox, TrunBox, Tx3gBox, UrlBox, VmhdBox,
-    Vp09Box, VpccBox, any_laws, entry_laws, flat_laws, laws, sound_laws, table_laws, text_laws,
+    AnyBox, Avc1Box, AvcCBox, BoxLaws, BoxType, Co64Box, CttsBox, DataBox, DinfBox, DrefBox,
+    ElstBox, EmsgBox, EsdsBox, FtypBox, HdlrBox, Hev1Box, HvcCBox, KeptBox, MdhdBox, MehdBox,
+    MfhdBox, Mp4aBox, MvhdBox, SmhdBox, SoundStream, StcoBox, StreamBox, StscBox, StsdBox, StssBox,
+    StszBox, SttsBox, TfdtBox, TfhdBox, TkhdBox, TrackFlag, TrexBox, TrunBox, Tx3gBox, UrlBox,
+    VmhdBox, Vp09Box, VpccBox, any_laws, code_is_kept, entry_laws, flat_laws, header_is_read_back,
+    laws, name_is_kept, sound_laws, table_laws, text_laws,
 };
 
 fn call_laws_of_box<B: BoxLaws>() {
@@ -121,6 +122,17 @@ fn flags_have_their_numbers(rt: HostRuntime) {
         flat_laws::discriminant_of_track_flag(TrackFlag::TrackEnabled),
         1
     );
+    table_laws::flags_of_tfhd();
+    table_laws::flags_of_trun();
+}
+
+#[test]
+fn codes_have_their_numbers(rt: HostRuntime) {
+    assert_eq!(rt; laws::codes_of_names(BoxType::FtypBox), 0x6674_7970);
+    code_is_kept(0x6674_7970);
+    name_is_kept();
+    header_is_read_back();
+    laws::sizes_of_headers();
 }
 
 #[test]
