@@ -5,3 +5,7 @@ pub mod flat;
 pub mod sound;
 pub mod tables;
 pub mod text;
+
+/// An `ftyp`, a `free` and a `stco`, as a stream.
+pub const THREE: [u8; 52] =
+    *b"\0\0\0\x18ftypisom\0\0\x02\0isommp41\0\0\0\x08free\0\0\0\x14stco\0\0\0\0\0\0\0\x01\0\0\x01\x0b";

@@ -7,9 +7,11 @@ ghost use Rattle.mp4_frame.specs.Reading.{Answers, reading};
 ghost use Rattle.mp4_fixtures.specs.Checks.{EndsIn, ReadsAs, cut_reading};
 ghost use Rattle.mp4_fixtures.specs.declared.helpers.outcomes.Kind.TheVariants as kinds;
 
+mod lists;
 mod mismatches;
 mod outcomes;
 
+pub use lists::{expect_list, expect_list_kind};
 pub use mismatches::Mismatch;
 use mismatches::{expect_ending, expect_length, expect_position};
 use mp4_stream::{BoxHeader, BoxLaws, ByteCursor, Error, ReadBox, WriteBox};
@@ -55,9 +57,24 @@ pub fn expect_value<B: BoxLaws + PartialEq + Drop>(
     ensures value { OnOk result (ReadsAs B.eq (reading B.reads bytes.now 0 size) value.now) }
     ensures cursor { OnOk result (B.LEAST ≤ size) }
 {
+    expect_value_to(alloc, value, bytes, size, size)
+}
+
+/// Expects that a box of this size is read as the value, and that the cursor is then at `end`: after the size, or after the
+/// bytes that a box has at least.
+pub fn expect_value_to<B: BoxLaws + PartialEq + Drop>(
+    alloc: Global,
+    value: &B,
+    bytes: &[u8],
+    size: u64,
+    end: u64,
+) -> Result<(), Mismatch>
+    ensures value { OnOk result (ReadsAs B.eq (reading B.reads bytes.now 0 size) value.now) }
+    ensures cursor { OnOk result (max B.LEAST size ≡ end) }
+{
     let (result, position) = read::<B>(alloc, bytes, size);
     if result? == *value {
-        expect_position(position, size)
+        expect_position(position, end)
     } else {
         Err(Mismatch::OtherBox {
             length: bytes.len(),
@@ -110,6 +127,25 @@ pub fn expect_round_trip<B: BoxLaws + PartialEq + Drop>(
     } else {
         Err(Mismatch::OtherBytes)
     }
+}
+
+/// Expects that a box is written in these bytes, and that its normal form is read back from them.
+pub fn expect_normal_form<B: BoxLaws + PartialEq + Drop>(
+    alloc: Global,
+    value: &B,
+    normal: &B,
+    bytes: &[u8],
+) -> Result<(), Mismatch>
+    ensures writable { OnOk result (B.format.Writable value.now) }
+    ensures written { OnOk result (B.format.bytes value.now ≡ bytes.now) }
+    ensures read_back { OnOk result (ReadsAs B.eq (reading B.reads bytes.now 0 (length bytes.now)) normal.now) }
+{
+    let mut out = Vec::new(alloc);
+    expect_length(value.write_box(&mut out)?, value.box_size())?;
+    if out.as_slice() != bytes {
+        return Err(Mismatch::OtherBytes);
+    }
+    expect_value(alloc, normal, bytes, bytes.len() as u64)
 }
 
 /// Expects that writing a box is invalid data, and leaves the vector as it was.

@@ -2,9 +2,9 @@
 //! is handed on here, in a function that is proved once, and not in each test.
 
 use crate::helpers::{
-    Mismatch, expect_end_at_cuts_below, expect_invalid_at_small_sizes, expect_round_trip,
-    expect_unwritable, expect_unwritable_of_size, expect_value, expect_value_at_any_size,
-    expect_written,
+    Mismatch, expect_end_at_cuts_below, expect_invalid_at_small_sizes, expect_normal_form,
+    expect_round_trip, expect_unwritable, expect_unwritable_of_size, expect_value,
+    expect_value_at_any_size, expect_written,
 };
 use mp4_stream::{BoxLaws, Result as Made, TryClone, WriteBox};
 use std::alloc::Global;
@@ -36,6 +36,16 @@ pub fn value<B: BoxLaws + PartialEq + Drop>(
     size: u64,
 ) -> Result<(), Mismatch> {
     expect_value(alloc, &made?, bytes, size)
+}
+
+/// Expects that the box is written in these bytes, and that its normal form is read back from them.
+pub fn normal_form<B: BoxLaws + PartialEq + Drop>(
+    alloc: Global,
+    made: Made<B>,
+    normal: Made<B>,
+    bytes: &[u8],
+) -> Result<(), Mismatch> {
+    expect_normal_form(alloc, &made?, &normal?, bytes)
 }
 
 /// Expects that writing the box is invalid data, and leaves the vector as it was.

@@ -65,6 +65,15 @@ pub const TFDT: [u8; 16] = *b"\0\0\0\x10tfdt\0\0\0\0\0\0\x04\xd2";
 /// `tfdt`, version 1: a time of 0, in 64 bits.
 pub const TFDT_LONG: [u8; 20] = *b"\0\0\0\x14tfdt\x01\0\0\0\0\0\0\0\0\0\0\0";
 
+/// `mehd`, version 0: a duration of 32, in 32 bits.
+pub const MEHD_SHORT: [u8; 16] = *b"\0\0\0\x10mehd\0\0\0\0\0\0\0\x20";
+
+/// `vmhd`, version 0: black.
+pub const VMHD_BLACK: [u8; 20] = *b"\0\0\0\x14vmhd\0\0\0\x01\0\0\0\0\0\0\0\0";
+
+/// `tfdt`, version 0: a time of 0, in 32 bits.
+pub const TFDT_OF_ZERO: [u8; 16] = *b"\0\0\0\x10tfdt\0\0\0\0\0\0\0\0";
+
 /// `mvhd`, version 0: a movie header with times of 32 bits.
 pub fn mvhd() -> MvhdBox {
     MvhdBox {

@@ -1,9 +1,9 @@
 //! The tests of the Rust crate for boxes of fixed fields.
 
 use mp4_fixtures::boxes::flat::{
-    MDHD, MDHD_ENGLISH, MFHD, MVHD, MVHD_LONG, SMHD, TFDT_LONG, TKHD_LONG, TKHD_SHORT, TREX, mdhd,
-    mdhd_english, mehd_short, mfhd, mvhd, mvhd_long, smhd, tfdt_of_zero, tkhd_long, tkhd_short,
-    trex, vmhd_black,
+    MDHD, MDHD_ENGLISH, MEHD_SHORT, MFHD, MVHD, MVHD_LONG, SMHD, TFDT_LONG, TFDT_OF_ZERO,
+    TKHD_LONG, TKHD_SHORT, TREX, VMHD_BLACK, mdhd, mdhd_english, mehd_short, mfhd, mvhd, mvhd_long,
+    smhd, tfdt_of_zero, tkhd_long, tkhd_short, trex, vmhd_black,
 };
 use mp4_fixtures::helpers::expect_round_trip;
 use mp4_fixtures::made;
@@ -58,11 +58,7 @@ fn language_codes(rt: HostRuntime) -> Result<(), Fail> {
 
 #[test]
 fn mehd32(rt: HostRuntime) -> Result<(), Fail> {
-    expect_round_trip(
-        rt.alloc(),
-        &mehd_short(32),
-        b"\0\0\0\x10mehd\0\0\0\0\0\0\0\x20",
-    )?;
+    expect_round_trip(rt.alloc(), &mehd_short(32), &MEHD_SHORT)?;
     Ok(())
 }
 
@@ -79,11 +75,7 @@ fn mehd64(rt: HostRuntime) -> Result<(), Fail> {
 
 #[test]
 fn tfdt32(rt: HostRuntime) -> Result<(), Fail> {
-    expect_round_trip(
-        rt.alloc(),
-        &tfdt_of_zero(0),
-        b"\0\0\0\x10tfdt\0\0\0\0\0\0\0\0",
-    )?;
+    expect_round_trip(rt.alloc(), &tfdt_of_zero(0), &TFDT_OF_ZERO)?;
     Ok(())
 }
 
@@ -107,11 +99,7 @@ fn smhd_of_a_balance(rt: HostRuntime) -> Result<(), Fail> {
 
 #[test]
 fn vmhd_of_black(rt: HostRuntime) -> Result<(), Fail> {
-    expect_round_trip(
-        rt.alloc(),
-        &vmhd_black(),
-        b"\0\0\0\x14vmhd\0\0\0\x01\0\0\0\0\0\0\0\0",
-    )?;
+    expect_round_trip(rt.alloc(), &vmhd_black(), &VMHD_BLACK)?;
     Ok(())
 }
 

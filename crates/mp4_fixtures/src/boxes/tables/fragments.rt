@@ -10,6 +10,16 @@ pub const TFHD: [u8; 28] = *b"\0\0\0\x1ctfhd\0\0\0*\0\0\0\x01\0\0\0\x01\0\0\x02\
 /// `trun`, version 0: a data offset, and the sizes of two samples.
 pub const TRUN: [u8; 28] = *b"\0\0\0\x1ctrun\0\0\x02\x01\0\0\0\x02\0\0\0d\0\0\0\x0a\0\0\0\x14";
 
+/// `tfhd`, version 0: none of the five optional fields.
+pub const TFHD_BARE: [u8; 16] = *b"\0\0\0\x10tfhd\0\0\0\0\0\0\0\x01";
+
+/// `trun`, version 0: no samples, and none of the lists.
+pub const TRUN_NONE: [u8; 16] = *b"\0\0\0\x10trun\0\0\0\0\0\0\0\0";
+
+/// `trun`, version 0: durations, sizes, flags and composition times of nine samples.
+pub const TRUN_OF_FOUR_LISTS: [u8; 160] =
+    *b"\0\0\0\xa0trun\0\0\x0f\0\0\0\0\x09\0\0\x04\x8d\0\0\x04\x8d\0\0\x04\x8d\0\0\x04\x8d\0\0\0\x0b\0\0\0\x0b\0\0\0\x0b\0\0\0\x0b\0\0\0\x0b\0\0\0\x0b\0\0\0\x0b\0\0\0\x0b\0\0\x21\x61\0\0\x21\x61\0\0\x21\x61\0\0\x21\x61\0\0\x27\x8e\0\0\x27\x8e\0\0\x27\x8e\0\0\x27\x8e\0\0\x2a\x72\0\0\x2a\x72\0\0\x2a\x72\0\0\x2a\x72\0\0\x25\xab\0\0\x25\xab\0\0\x25\xab\0\0\x25\xab\0\0\x24\x87\0\0\x24\x87\0\0\x24\x87\0\0\x24\x87\0\0\x1e\x32\0\0\x1e\x32\0\0\x1e\x32\0\0\x1e\x32";
+
 /// `tfhd`, version 0: a track fragment with three of the five optional fields.
 pub fn tfhd() -> TfhdBox {
     TfhdBox {
