@@ -1,4 +1,3 @@
-pub mod Failure
 pub mod Outcome
 pub mod Places
 pub mod Runs

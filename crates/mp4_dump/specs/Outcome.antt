@@ -2,7 +2,7 @@
 use Rattle.std.specs.Prelude.{ℕ, List, [], ◌∷◌, ◌++◌, codes}
 use Rattle.mp4_dump.specs.declared.outcome.Outcome.{Outcome}
 use Rattle.mp4_dump.specs.declared.outcome.Outcome.TheVariants as outcomes
-use Rattle.mp4_dump.specs.Failure.{failure_text}
+use Rattle.mp4_io.specs.Failure.{failure_text}
 
 -- the exit status
 abbrev pub status_of : Outcome → ℕ

@@ -1,7 +1,6 @@
 //! `mp4dump` reads an MP4 file from standard input, and writes its tree to standard output: a line for each box.
 #![tactic(auto)]
 
-mod failure;
 mod found;
 mod level;
 mod line;
@@ -12,7 +11,7 @@ mod step;
 mod text;
 mod walk;
 
-use failure::Failure;
+use mp4_io::{Failure, Input, Output};
 use outcome::Outcome;
 use program::{read_failure, run_words};
 use std::env;
@@ -26,10 +25,12 @@ fn run(rt: &HostRuntime) -> Outcome {
         Err(e) => return Outcome::Failed(read_failure(&e)),
     };
     let _program = words.next();
-    match BufWriter::new(rt.alloc(), rt.stdout()) {
-        Ok(mut output) => run_words(rt.alloc(), words, &mut rt.stdin(), &mut output),
-        Err(_) => Outcome::Failed(Failure::Memory),
-    }
+    let Ok(writer) = BufWriter::new(rt.alloc(), rt.stdout()) else {
+        return Outcome::Failed(Failure::Memory);
+    };
+    let mut input = Input::new(rt.stdin());
+    let mut output = Output::new(writer);
+    run_words(rt.alloc(), words, &mut input, &mut output)
 }
 
 fn main(rt: HostRuntime) -> ExitCode {

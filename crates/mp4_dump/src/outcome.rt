@@ -4,7 +4,7 @@ ghost use Rattle.std.specs.Prelude.{◌≡◌, OnOk};
 ghost use Rattle.std.specs.Io.KnownBytes.{Appends};
 ghost use Rattle.mp4_dump.specs.Outcome.{status_of, message_of};
 
-use crate::failure::Failure;
+use mp4_io::Failure;
 use std::io;
 use std::io::Write;
 

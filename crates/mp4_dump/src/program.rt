@@ -1,16 +1,16 @@
 //! The program, between a reader and a writer.
 
-ghost use Rattle.std.specs.Prelude.{◌≡◌, ◌≢◌, ◌↔◌, ◌||◌, [], IfOk, OnOk, IfErr, IfSome};
+ghost use Rattle.std.specs.Prelude.{◌≡◌, ◌≢◌, ◌↔◌, ◌||◌, false, [], Ok, IfOk, OnErr, IfErr};
 ghost use Rattle.std.specs.IoError.{error_kind};
-ghost use Rattle.std.specs.Io.KnownBytes.{Appends, Keeps, IsAtEnd};
 ghost use Rattle.std.specs.Vec.Iter.{into_iter_items};
-ghost use Rattle.mp4_dump.specs.Runs.{WritesLine, WritesLines, IsNotRead, Dumps, EndsAs};
+ghost use Rattle.mp4_io.specs.Ends.{is_read, is_write};
+ghost use Rattle.mp4_dump.specs.Runs.{BeginsLine, BeginsLines, WritesLine, WritesLines, Dumps, EndsAs, ReachesEnd, failed_read, failed_write};
 
-use crate::failure::Failure;
 use crate::line::Line;
 use crate::outcome::Outcome;
 use crate::shown::push_line;
 use crate::walk::walk;
+use mp4_io::{Failure, Input, Output, flush, read_all, write_all};
 use mp4_stream::{AnyBox, StreamBox};
 use std::alloc::Global;
 use std::env::Args;
@@ -29,43 +29,34 @@ pub fn read_failure(error: &io::Error) -> Failure
     }
 }
 
-/// Reads the whole input.
-fn read_all<R: Read>(alloc: Global, input: &mut R) -> Result<Vec<u8>, Failure>
-    ensures bytes { IfOk result (λ bytes. IfSome (R.remaining input.old) (λ B. bytes.items ≡ B)) }
-    ensures end { OnOk result (IsAtEnd (R.remaining input.new)) }
+/// What a call returned that fails only when out of memory.
+fn or_memory<T: Drop>(outcome: mp4_stream::Result<T>) -> Result<T, Failure>
+    ensures ok { IfOk result (λ value. outcome ≡ Ok value) }
+    ensures error { IfErr result (λ failure. failure ≡ Failure.Memory) }
 {
-    let mut bytes = Vec::new(alloc);
-    match input.read_to_end(&mut bytes) {
-        Ok(_) => Ok(bytes),
-        Err(e) => Err(read_failure(&e)),
+    match outcome {
+        Ok(value) => Ok(value),
+        Err(_) => Err(Failure::Memory),
     }
 }
 
-/// Writes a text.
-fn write_text<W: Write>(text: &[u8], output: &mut W) -> Result<(), Failure>
-    ensures bytes { OnOk result (Appends (W.contents output.old) (W.contents output.new) text.now) }
-    ensures error { IfErr result (λ failure. failure ≡ Failure.Write) }
-{
-    match output.write_all(text) {
-        Ok(()) => Ok(()),
-        Err(_) => Err(Failure::Write),
-    }
-}
-
-/// Writes the text of a line, which is made in `text`. Returns whether it shows a fault.
+/// Writes the text of a line, which is made in `text`. Returns whether it shows a fault. After an error a beginning of the
+/// text is written, or nothing.
 fn write_line<B: StreamBox + Debug, W: Write>(
     alloc: Global,
     bytes: &[u8],
     line: Line,
     text: &mut Vec<u8>,
-    output: &mut W,
+    output: &mut Output<W>,
 ) -> Result<bool, Failure>
-    ensures text { IfOk result (λ faulty. WritesLine B.known B.named_reading bytes.now line (W.contents output.old) (W.contents output.new) faulty) }
-    ensures error { IfErr result (λ failure. IsNotRead failure) }
+    ensures text { IfOk result (λ faulty. WritesLine B.known B.named_reading bytes.now line (W.contents output.old.inner) (W.contents output.new.inner) faulty) }
+    ensures beginning { OnErr result (BeginsLine B.known B.named_reading bytes.now line (W.contents output.old.inner) (W.contents output.new.inner)) }
+    ensures not_read { is_read result ≡ false }
+    ensures failed { output.new.failed ≡ (output.old.failed || is_write result) }
 {
     text.clear();
-    let faulty = push_line::<B>(alloc, bytes, line, text)?;
-    write_text(text, output)?;
+    let faulty = or_memory(push_line::<B>(alloc, bytes, line, text))?;
+    write_all(output, text)?;
     Ok(faulty)
 }
 
@@ -76,15 +67,18 @@ fn either(first: bool, second: bool) -> bool
     first || second
 }
 
-/// Writes the lines of a file. Returns whether one of them shows a fault.
+/// Writes the lines of a file. Returns whether one of them shows a fault. After an error a beginning of the lines is
+/// written.
 fn write_lines<B: StreamBox + Debug, W: Write>(
     alloc: Global,
     bytes: &[u8],
     lines: &[Line],
-    output: &mut W,
+    output: &mut Output<W>,
 ) -> Result<bool, Failure>
-    ensures texts { IfOk result (λ faulty. WritesLines B.known B.named_reading bytes.now lines.now (W.contents output.old) (W.contents output.new) faulty) }
-    ensures error { IfErr result (λ failure. IsNotRead failure) }
+    ensures texts { IfOk result (λ faulty. WritesLines B.known B.named_reading bytes.now lines.now (W.contents output.old.inner) (W.contents output.new.inner) faulty) }
+    ensures beginning { OnErr result (BeginsLines B.known B.named_reading bytes.now lines.now (W.contents output.old.inner) (W.contents output.new.inner)) }
+    ensures not_read { is_read result ≡ false }
+    ensures failed { output.new.failed ≡ (output.old.failed || is_write result) }
 {
     let mut faulty = false;
     let mut text = Vec::new(alloc);
@@ -96,33 +90,35 @@ fn write_lines<B: StreamBox + Debug, W: Write>(
 }
 
 /// Writes the tree of the input: the lines of its boxes, in its order. Returns whether one of them shows a fault. The whole
-/// input is read first, so after a failed read nothing is written.
+/// input is read first, so after a failed read nothing is written; after any other failure a beginning of the lines is.
 pub fn dump<R: Read, W: Write>(
     alloc: Global,
-    input: &mut R,
-    output: &mut W,
+    input: &mut Input<R>,
+    output: &mut Output<W>,
 ) -> Result<bool, Failure>
-    ensures run { Dumps (R.remaining input.old) (W.contents output.old) (W.contents output.new) result }
-    ensures all_read { OnOk result (IsAtEnd (R.remaining input.new)) }
+    ensures run { Dumps (R.remaining input.old.inner) (W.contents output.old.inner) (W.contents output.new.inner) result }
+    ensures all_read { ReachesEnd (R.remaining input.new.inner) result }
+    ensures read_failed { input.new.failed ≡ (input.old.failed || is_read result) }
+    ensures write_failed { output.new.failed ≡ (output.old.failed || is_write result) }
 {
     let bytes = read_all(alloc, input)?;
-    let lines = walk(alloc, &bytes)?;
+    let lines = or_memory(walk(alloc, &bytes))?;
     let faulty = write_lines::<AnyBox, W>(alloc, &bytes, &lines, output)?;
-    match output.flush() {
-        Ok(()) => Ok(faulty),
-        Err(_) => Err(Failure::Write),
-    }
+    flush(output)?;
+    Ok(faulty)
 }
 
 /// Writes the tree of the input, if there are no words after the program's name. If there are, nothing is read or
-/// written.
+/// written. The mark of an end is set exactly where the run fails by that end.
 pub fn run_words<R: Read, W: Write>(
     alloc: Global,
     mut words: Args,
-    input: &mut R,
-    output: &mut W,
+    input: &mut Input<R>,
+    output: &mut Output<W>,
 ) -> Outcome
-    ensures run { into_iter_items words ≡ [] → EndsAs (R.remaining input.old) (W.contents output.old) (W.contents output.new) result }
+    ensures run { into_iter_items words ≡ [] → EndsAs (R.remaining input.old.inner) (W.contents output.old.inner) (W.contents output.new.inner) result }
+    ensures read_failed { input.new.failed ≡ (input.old.failed || failed_read result) }
+    ensures write_failed { output.new.failed ≡ (output.old.failed || failed_write result) }
     ensures misused { (result ≡ Outcome.Misused) ↔ (into_iter_items words ≢ []) }
     ensures untouched { result ≡ Outcome.Misused → (input.new ≡ input.old) × (output.new ≡ output.old) }
 {

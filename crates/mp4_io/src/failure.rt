@@ -1,28 +1,27 @@
-//! Why the tree of a file was not written.
+//! Why a run ended before all was read and written.
 
 ghost use Rattle.std.specs.Prelude.{◌≡◌, Some};
-ghost use Rattle.mp4_dump.specs.declared.failure.Failure.TheVariants.{Memory};
-ghost use Rattle.mp4_dump.specs.Failure.{failure_text};
+ghost use Rattle.mp4_io.specs.declared.failure.Failure.TheVariants.{Memory};
+ghost use Rattle.mp4_io.specs.Failure.{failure_text};
 
-use mp4_stream::Error;
+use std::alloc::AllocError;
 use std::fmt;
 
-/// Why the tree of a file was not written, or not all of it.
+/// Why a run ended before all was read and written.
 #[derive(Clone, Copy, Debug, PartialEq, Eq)]
 pub enum Failure {
     /// A call of the reader failed.
     Read,
-    /// A call of the writer failed.
+    /// A call of the writer failed, or took no byte of a piece that is not empty.
     Write,
     /// There was no memory.
     Memory,
 }
 
-/// The walk and the texts fail only when out of memory.
-impl From<Error> for Failure {
+impl From<AllocError> for Failure {
     ghost from_gives = { λ _ failure. failure ≡ Memory };
 
-    fn from(_e: Error) -> Failure {
+    fn from(_e: AllocError) -> Failure {
         Failure::Memory
     }
 }

@@ -1,7 +1,7 @@
--- What the program says of a failure.
+-- What a program says of a failure.
 use Rattle.std.specs.Prelude.{ℕ, List, codes}
-use Rattle.mp4_dump.specs.declared.failure.Failure.{Failure}
-use Rattle.mp4_dump.specs.declared.failure.Failure.TheVariants as failures
+use Rattle.mp4_io.specs.declared.failure.Failure.{Failure}
+use Rattle.mp4_io.specs.declared.failure.Failure.TheVariants as failures
 
 -- the text of a failure: each has its own
 abbrev pub failure_text : Failure → List ℕ
