@@ -1,21 +1,15 @@
 //! Tests of what no contract says, a file for each thing that is tested.
 
-mod chunks;
 mod clones;
 mod configurations;
 mod descriptions;
 mod entries;
-mod fixed_points;
 mod invalid_texts;
-mod media_tables;
 mod metadata;
-mod printed;
 mod sample_entries;
-mod samples;
 mod sound;
 mod texts;
 mod unwritable;
-mod worked;
 
 use mp4_fixtures::boxes::tables::list;
 use mp4_stream::{Entries, Error, TrunBox};

@@ -1,26 +1,46 @@
-//! All vectors as one stream, which is cut at every length.
+//! All vectors as one stream, the first of each type before the second ones, which is cut at every length.
 
 use super::lists::list_from;
 use super::streams::{kind_and_count, read_stream};
 use mp4_fixtures::helpers::Kind;
-use mp4_fixtures::vectors::VECTORS;
+use mp4_fixtures::vectors::{SECOND_VECTORS, Vector};
+use mp4_ported::vectors::VECTORS;
 use mp4_stream::{ByteCursor, Error, KeptBox, read_boxes_as};
 use std::alloc::Global;
 use std::test::Fail;
 
-/// The stream, and for each length of a cut the number of boxes before it, or None if the cut is inside a box.
-fn all_cuts(alloc: Global) -> Result<(Vec<u8>, Vec<Option<usize>>), Error> {
-    let mut stream = Vec::new(alloc);
-    let mut counts = Vec::new(alloc);
-    for (count, vector) in VECTORS.iter().enumerate() {
-        counts.push(Some(count))?;
-        for _ in 1..vector.bytes().len() {
-            counts.push(None)?;
+/// A stream, and for each length of a cut before its end the number of boxes before it, or None if the cut is inside a box.
+#[derive(Drop)]
+struct Cuts {
+    stream: Vec<u8>,
+    counts: Vec<Option<usize>>,
+}
+
+impl Cuts {
+    /// Appends these vectors, behind `front` boxes.
+    fn append<V: Vector>(&mut self, front: usize, vectors: &[V]) -> Result<(), Error> {
+        for (place, vector) in vectors.iter().enumerate() {
+            self.counts.push(Some(front.saturating_add(place)))?;
+            for _ in 1..vector.bytes().len() {
+                self.counts.push(None)?;
+            }
+            self.stream.extend_from_slice(vector.bytes())?;
         }
-        stream.extend_from_slice(vector.bytes())?;
+        Ok(())
     }
-    counts.push(Some(VECTORS.len()))?;
-    Ok((stream, counts))
+}
+
+/// The stream of all vectors, and for each length of a cut, to the whole stream, the same.
+fn all_cuts(alloc: Global) -> Result<(Vec<u8>, Vec<Option<usize>>), Error> {
+    let mut cuts = Cuts {
+        stream: Vec::new(alloc),
+        counts: Vec::new(alloc),
+    };
+    cuts.append(0, &VECTORS)?;
+    cuts.append(VECTORS.len(), &SECOND_VECTORS)?;
+    cuts.counts
+        .push(Some(VECTORS.len() + SECOND_VECTORS.len()))?;
+    Ok((cuts.stream, cuts.counts))
 }
 
 /// What is found in a stream that is cut there: the kind of the outcome, the number of boxes, and the position of the

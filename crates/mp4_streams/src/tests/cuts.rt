@@ -2,18 +2,26 @@
 //! after those.
 
 use mp4_examples::defaults::{default_extent, default_video};
+use mp4_fixtures::boxes::entries::{
+    avc1, avc1_of_two, avcc, avcc_of_two, hev1, hev1_of_config, hvcc, tx3g, tx3g_of_test, vp09,
+    vp09_of_config, vpcc, vpcc_of_test,
+};
 use mp4_fixtures::boxes::flat::{
-    mdhd, mdhd_long, mehd, mehd_short, mfhd, mvhd, mvhd_long, smhd, tfdt_of_zero, tkhd_full,
-    tkhd_long, tkhd_short, trex, vmhd_colors,
+    mdhd, mdhd_long, mehd, mehd_short, mfhd, mvhd, mvhd_long, smhd, tfdt, tfdt_of_zero, tkhd,
+    tkhd_full, tkhd_long, tkhd_short, trex, vmhd, vmhd_black,
 };
+use mp4_fixtures::boxes::sound::{esds, esds_of_test, mp4a, mp4a_of_test, stsd, stsd_of};
 use mp4_fixtures::boxes::tables::{
-    co64_of_seven, ctts, elst, elst_long, stco, stsc, stss_of_nine, stsz_of_nine, stsz_of_one_size,
-    stts, tfhd, tfhd_all, tfhd_bare, trun, trun_of_four_lists, trun_of_three_lists,
+    co64, co64_of_seven, ctts, elst, elst_long, stco, stsc, stss, stss_of_nine, stsz, stsz_of_nine,
+    stsz_of_one_size, stts, tfhd, tfhd_all, tfhd_bare, trun, trun_of_four_lists,
+    trun_of_three_lists,
 };
-use mp4_fixtures::boxes::text::{data_box, dinf_url, dref_url, emsg, emsg_long, ftyp, hdlr, url};
+use mp4_fixtures::boxes::text::{
+    data_box, dinf, dinf_url, dref, dref_url, emsg, emsg_long, ftyp, hdlr, url,
+};
 use mp4_fixtures::helpers::expect_end_at_cuts_below;
 use mp4_fixtures::made;
-use mp4_stream::{MdhdBox, MvhdBox, SmhdBox, TkhdBox, TrunBox};
+use mp4_stream::{HvcCBox, MdhdBox, MvhdBox, SmhdBox, TkhdBox, TrunBox};
 use std::test::Fail;
 
 #[test]
@@ -25,7 +33,8 @@ fn cut_headers_of_movies_and_tracks(rt: HostRuntime) -> Result<(), Fail> {
         .and(expect_end_at_cuts_below(alloc, &TkhdBox::default(), 92))
         .and(expect_end_at_cuts_below(alloc, &tkhd_short(), 92))
         .and(expect_end_at_cuts_below(alloc, &tkhd_long(), 104))
-        .and(expect_end_at_cuts_below(alloc, &tkhd_full(), 92))?;
+        .and(expect_end_at_cuts_below(alloc, &tkhd_full(), 92))
+        .and(expect_end_at_cuts_below(alloc, &tkhd(), 104))?;
     Ok(())
 }
 
@@ -39,7 +48,8 @@ fn cut_headers_of_media(rt: HostRuntime) -> Result<(), Fail> {
         .and(expect_end_at_cuts_below(alloc, &SmhdBox::default(), 14))
         .and(expect_end_at_cuts_below(alloc, &smhd(), 14))
         .and(expect_end_at_cuts_below(alloc, &default_video(), 20))
-        .and(expect_end_at_cuts_below(alloc, &vmhd_colors(), 20))?;
+        .and(expect_end_at_cuts_below(alloc, &vmhd_black(), 20))
+        .and(expect_end_at_cuts_below(alloc, &vmhd(), 20))?;
     Ok(())
 }
 
@@ -51,6 +61,7 @@ fn cut_headers_of_fragments(rt: HostRuntime) -> Result<(), Fail> {
         .and(expect_end_at_cuts_below(alloc, &mehd(), 20))
         .and(expect_end_at_cuts_below(alloc, &tfdt_of_zero(0), 16))
         .and(expect_end_at_cuts_below(alloc, &tfdt_of_zero(1), 20))
+        .and(expect_end_at_cuts_below(alloc, &tfdt(), 16))
         .and(expect_end_at_cuts_below(alloc, &mfhd(), 16))
         .and(expect_end_at_cuts_below(alloc, &trex(), 32))
         .and(expect_end_at_cuts_below(alloc, &tfhd_bare(), 16))
@@ -64,6 +75,7 @@ fn cut_tables_of_chunks(rt: HostRuntime) -> Result<(), Fail> {
     let alloc = rt.alloc();
     made::end_at_cuts_below(alloc, stco(alloc), 44)
         .and(made::end_at_cuts_below(alloc, co64_of_seven(alloc), 72))
+        .and(made::end_at_cuts_below(alloc, co64(alloc), 32))
         .and(made::end_at_cuts_below(alloc, stsc(alloc), 40))?;
     Ok(())
 }
@@ -72,10 +84,12 @@ fn cut_tables_of_chunks(rt: HostRuntime) -> Result<(), Fail> {
 fn cut_tables_of_samples(rt: HostRuntime) -> Result<(), Fail> {
     let alloc = rt.alloc();
     made::end_at_cuts_below(alloc, stss_of_nine(alloc), 52)
+        .and(made::end_at_cuts_below(alloc, stss(alloc), 36))
         .and(made::end_at_cuts_below(alloc, stts(alloc), 32))
         .and(made::end_at_cuts_below(alloc, ctts(alloc), 32))
         .and(made::end_at_cuts_below(alloc, Ok(stsz_of_one_size(alloc, 1165, 12)), 20))
         .and(made::end_at_cuts_below(alloc, stsz_of_nine(alloc), 56))
+        .and(made::end_at_cuts_below(alloc, stsz(alloc), 32))
         .and(made::end_at_cuts_below(alloc, elst(alloc), 28))
         .and(made::end_at_cuts_below(alloc, elst_long(alloc), 36))?;
     Ok(())
@@ -108,6 +122,46 @@ fn cut_references(rt: HostRuntime) -> Result<(), Fail> {
     let alloc = rt.alloc();
     made::end_at_cuts_below(alloc, url(alloc), 13)
         .and(made::end_at_cuts_below(alloc, dref_url(alloc), 29))
-        .and(made::end_at_cuts_below(alloc, dinf_url(alloc), 37))?;
+        .and(made::end_at_cuts_below(alloc, dinf_url(alloc), 37))
+        .and(made::end_at_cuts_below(alloc, Ok(dref(alloc)), 28))
+        .and(made::end_at_cuts_below(alloc, Ok(dinf(alloc)), 36))?;
+    Ok(())
+}
+
+#[test]
+fn cut_entries_of_video(rt: HostRuntime) -> Result<(), Fail> {
+    let alloc = rt.alloc();
+    made::end_at_cuts_below(alloc, avcc_of_two(alloc, 3), 49)
+        .and(made::end_at_cuts_below(alloc, avcc(alloc), 36))
+        .and(made::end_at_cuts_below(alloc, avc1_of_two(alloc, 3), 135))
+        .and(made::end_at_cuts_below(alloc, avc1(alloc), 122))
+        .and(expect_end_at_cuts_below(alloc, &HvcCBox::new(), 9))
+        .and(expect_end_at_cuts_below(alloc, &hvcc(), 9))
+        .and(expect_end_at_cuts_below(alloc, &hev1_of_config(), 95))
+        .and(expect_end_at_cuts_below(alloc, &hev1(), 95))?;
+    Ok(())
+}
+
+#[test]
+fn cut_entries_of_vp9_and_text(rt: HostRuntime) -> Result<(), Fail> {
+    let alloc = rt.alloc();
+    expect_end_at_cuts_below(alloc, &vpcc_of_test(), 20)
+        .and(expect_end_at_cuts_below(alloc, &vpcc(), 20))
+        .and(expect_end_at_cuts_below(alloc, &vp09_of_config(), 106))
+        .and(expect_end_at_cuts_below(alloc, &vp09(), 106))
+        .and(expect_end_at_cuts_below(alloc, &tx3g_of_test(), 46))
+        .and(expect_end_at_cuts_below(alloc, &tx3g(), 46))?;
+    Ok(())
+}
+
+#[test]
+fn cut_entries_of_sound(rt: HostRuntime) -> Result<(), Fail> {
+    let alloc = rt.alloc();
+    expect_end_at_cuts_below(alloc, &esds_of_test(), 39)
+        .and(expect_end_at_cuts_below(alloc, &esds(), 43))
+        .and(expect_end_at_cuts_below(alloc, &mp4a_of_test(), 75))
+        .and(expect_end_at_cuts_below(alloc, &mp4a(), 79))
+        .and(expect_end_at_cuts_below(alloc, &stsd_of(mp4a_of_test()), 91))
+        .and(expect_end_at_cuts_below(alloc, &stsd(), 95))?;
     Ok(())
 }

@@ -2,13 +2,9 @@
 
 use mp4_examples::defaults::{default_extent, default_video};
 use mp4_fixtures::boxes::flat::MFHD;
-use mp4_fixtures::boxes::text::DINF;
 use mp4_fixtures::helpers::expect_round_trip;
 use mp4_fixtures::made;
-use mp4_stream::{
-    DinfBox, DrefBox, FtypBox, HdlrBox, MdhdBox, MfhdBox, MvhdBox, SmhdBox, StcoBox, StscBox,
-    TfdtBox, TkhdBox, UrlBox,
-};
+use mp4_stream::{FtypBox, MdhdBox, MfhdBox, MvhdBox, SmhdBox, StcoBox, StscBox, TfdtBox, TkhdBox};
 use std::test::Fail;
 
 const MVHD: [u8; 108] =
@@ -83,23 +79,4 @@ fn file_types_and_tables(rt: HostRuntime) -> Result<(), Fail> {
         b"\0\0\0\x10stsc\0\0\0\0\0\0\0\0",
     ))?;
     Ok(())
-}
-
-#[test]
-fn handlers_and_references(rt: HostRuntime) -> Result<(), Fail> {
-    let alloc = rt.alloc();
-    assert_eq!(rt; HdlrBox::default_in(alloc).get_size(), 33);
-    made::round_trip(
-        alloc,
-        Ok(UrlBox::default_in(alloc)),
-        b"\0\0\0\x0curl \0\0\0\x01",
-    )
-    .and(made::round_trip(alloc, Ok(DinfBox::new(DrefBox::default_in(alloc))), &DINF))?;
-    Ok(())
-}
-
-#[test]
-fn default_dinf_has_a_default_dref(rt: HostRuntime) {
-    let dinf = DinfBox::default_in(rt.alloc());
-    assert!(rt; *dinf.dref() == DrefBox::default_in(rt.alloc()));
 }

@@ -32,25 +32,6 @@ fn long_offsets(alloc: Global, offsets: &[u64]) -> Result<Co64Box, Error> {
     })
 }
 
-/// The short offsets of these.
-fn shortened(alloc: Global, offsets: &[u64]) -> Result<StcoBox, Error> {
-    StcoBox::try_from_co64(alloc, &long_offsets(alloc, offsets)?)
-}
-
-#[test]
-fn long_offsets_become_short(rt: HostRuntime) -> Result<(), Fail> {
-    let short = shortened(rt.alloc(), &[267, 4294967295])?;
-    assert_eq!(rt; (short.version, short.flags), (0, 0));
-    assert_eq!(rt; short.entries.as_slice(), [267, 4294967295].as_slice());
-    Ok(())
-}
-
-#[test]
-fn offsets_past_32_bits_stay_long(rt: HostRuntime) {
-    let outcome = shortened(rt.alloc(), &[267, 4294967296]);
-    assert_eq!(rt; kind_of(&outcome), Kind::Invalid);
-}
-
 #[test]
 fn short_offsets_are_appended(rt: HostRuntime) -> Result<(), Fail> {
     let long = long_offsets(rt.alloc(), &[267, 4294967295])?;

@@ -1,9 +1,11 @@
 //! Where the boxes of a buffer are.
 
-use super::streams::{THREE, kind_and_count};
+use super::streams::kind_and_count;
 use linked_list_allocator::LocalHeap;
+use mp4_fixtures::boxes::THREE;
 use mp4_fixtures::helpers::{Kind, kind_of};
-use mp4_fixtures::vectors::{VECTORS, Vector};
+use mp4_fixtures::vectors::{SECOND_VECTORS, Vector};
+use mp4_ported::vectors::VECTORS;
 use mp4_stream::{BoxSpan, BoxType, ByteCursor, Error, Mp4Box, list_boxes, read_boxes};
 use std::alloc::{Allocator, Global};
 use std::test::Fail;
@@ -144,19 +146,31 @@ fn a_box_that_is_listed_may_be_refused_when_it_is_read(rt: HostRuntime) -> Resul
 }
 
 /// The name of the box that a vector holds.
-fn name_of(alloc: Global, vector: Vector) -> Result<BoxType, Error> {
+fn name_of<V: Vector>(alloc: Global, vector: V) -> Result<BoxType, Error> {
     Ok(vector.make(alloc)?.box_type())
+}
+
+/// Appends these vectors to the stream, and the places of their boxes to the list.
+fn append_vectors<V: Vector>(
+    alloc: Global,
+    vectors: &[V],
+    stream: &mut Vec<u8>,
+    spans: &mut Vec<BoxSpan>,
+) -> Result<(), Error> {
+    for vector in vectors {
+        let (position, size) = (stream.len() as u64, vector.bytes().len() as u64);
+        stream.extend_from_slice(vector.bytes())?;
+        spans.push(span(position, size, name_of(alloc, *vector)?))?;
+    }
+    Ok(())
 }
 
 /// All vectors as one stream, and the places of their boxes.
 fn all_vectors(alloc: Global) -> Result<(Vec<u8>, Vec<BoxSpan>), Error> {
     let mut stream = Vec::new(alloc);
     let mut spans = Vec::new(alloc);
-    for vector in VECTORS {
-        let (position, size) = (stream.len() as u64, vector.bytes().len() as u64);
-        stream.extend_from_slice(vector.bytes())?;
-        spans.push(span(position, size, name_of(alloc, vector)?))?;
-    }
+    append_vectors(alloc, &VECTORS, &mut stream, &mut spans)?;
+    append_vectors(alloc, &SECOND_VECTORS, &mut stream, &mut spans)?;
     Ok((stream, spans))
 }
 

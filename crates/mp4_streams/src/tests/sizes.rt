@@ -1,26 +1,110 @@
 //! Boxes that are read with a size other than their own.
 
-use mp4_examples::defaults::{default_extent, default_video};
-use mp4_fixtures::boxes::flat::{
-    MFHD, mdhd, mdhd_long, mehd, mehd_short, mfhd, mvhd, mvhd_long, smhd, tfdt_of_zero, tkhd_full,
-    tkhd_long, tkhd_short, trex, vmhd_colors,
-};
-use mp4_fixtures::boxes::tables::{
-    STCO, co64_of_seven, ctts, elst, elst_long, stco, stsc, stss_of_nine, stsz_of_nine,
-    stsz_of_one_size, stts, tfhd, tfhd_all, tfhd_bare, trun, trun_of_four_lists,
-    trun_of_three_lists,
-};
-use mp4_fixtures::boxes::text::{
-    DATA, DINF_URL, DREF_URL, EMSG, FTYP, FTYP_OF_TWO, HDLR, URL, dref_url,
-};
-use mp4_fixtures::helpers::{
-    Kind, Mismatch, expect_kind, expect_value, expect_value_at_any_size, kind_of, read,
-};
+use mp4_examples::defaults::default_extent;
+use mp4_examples::defaults::default_video;
+use mp4_fixtures::boxes::entries::avc1;
+use mp4_fixtures::boxes::entries::avc1_of_two;
+use mp4_fixtures::boxes::entries::avcc;
+use mp4_fixtures::boxes::entries::avcc_of_two;
+use mp4_fixtures::boxes::entries::hev1;
+use mp4_fixtures::boxes::entries::hev1_of_config;
+use mp4_fixtures::boxes::entries::hvcc;
+use mp4_fixtures::boxes::entries::tx3g;
+use mp4_fixtures::boxes::entries::tx3g_of_test;
+use mp4_fixtures::boxes::entries::vp09;
+use mp4_fixtures::boxes::entries::vp09_of_config;
+use mp4_fixtures::boxes::entries::vpcc;
+use mp4_fixtures::boxes::entries::vpcc_of_test;
+use mp4_fixtures::boxes::flat::mdhd;
+use mp4_fixtures::boxes::flat::mdhd_long;
+use mp4_fixtures::boxes::flat::mehd;
+use mp4_fixtures::boxes::flat::mehd_short;
+use mp4_fixtures::boxes::flat::mfhd;
+use mp4_fixtures::boxes::flat::mvhd;
+use mp4_fixtures::boxes::flat::mvhd_long;
+use mp4_fixtures::boxes::flat::smhd;
+use mp4_fixtures::boxes::flat::tfdt;
+use mp4_fixtures::boxes::flat::tfdt_of_zero;
+use mp4_fixtures::boxes::flat::tkhd;
+use mp4_fixtures::boxes::flat::tkhd_full;
+use mp4_fixtures::boxes::flat::tkhd_long;
+use mp4_fixtures::boxes::flat::tkhd_short;
+use mp4_fixtures::boxes::flat::trex;
+use mp4_fixtures::boxes::flat::vmhd;
+use mp4_fixtures::boxes::flat::vmhd_black;
+use mp4_fixtures::boxes::sound::ESDS;
+use mp4_fixtures::boxes::sound::ESDS_OF_TEST;
+use mp4_fixtures::boxes::sound::MP4A;
+use mp4_fixtures::boxes::sound::MP4A_OF_TEST;
+use mp4_fixtures::boxes::sound::MP4A_WITHOUT_ESDS;
+use mp4_fixtures::boxes::sound::STSD;
+use mp4_fixtures::boxes::sound::STSD_OF_TEST;
+use mp4_fixtures::boxes::sound::mp4a;
+use mp4_fixtures::boxes::sound::mp4a_of;
+use mp4_fixtures::boxes::sound::mp4a_of_test;
+use mp4_fixtures::boxes::sound::stsd;
+use mp4_fixtures::boxes::sound::stsd_of;
+use mp4_fixtures::boxes::tables::STCO;
+use mp4_fixtures::boxes::tables::co64;
+use mp4_fixtures::boxes::tables::co64_of_seven;
+use mp4_fixtures::boxes::tables::ctts;
+use mp4_fixtures::boxes::tables::elst;
+use mp4_fixtures::boxes::tables::elst_long;
+use mp4_fixtures::boxes::tables::stco;
+use mp4_fixtures::boxes::tables::stsc;
+use mp4_fixtures::boxes::tables::stss;
+use mp4_fixtures::boxes::tables::stss_of_nine;
+use mp4_fixtures::boxes::tables::stsz;
+use mp4_fixtures::boxes::tables::stsz_of_nine;
+use mp4_fixtures::boxes::tables::stsz_of_one_size;
+use mp4_fixtures::boxes::tables::stts;
+use mp4_fixtures::boxes::tables::tfhd;
+use mp4_fixtures::boxes::tables::tfhd_all;
+use mp4_fixtures::boxes::tables::tfhd_bare;
+use mp4_fixtures::boxes::tables::trun;
+use mp4_fixtures::boxes::tables::trun_of_four_lists;
+use mp4_fixtures::boxes::tables::trun_of_three_lists;
+use mp4_fixtures::boxes::text::DATA;
+use mp4_fixtures::boxes::text::DINF;
+use mp4_fixtures::boxes::text::DINF_URL;
+use mp4_fixtures::boxes::text::DREF;
+use mp4_fixtures::boxes::text::DREF_URL;
+use mp4_fixtures::boxes::text::EMSG;
+use mp4_fixtures::boxes::text::FTYP;
+use mp4_fixtures::boxes::text::FTYP_OF_TWO;
+use mp4_fixtures::boxes::text::HDLR;
+use mp4_fixtures::boxes::text::URL;
+use mp4_fixtures::boxes::text::dref;
+use mp4_fixtures::boxes::text::dref_of;
+use mp4_fixtures::boxes::text::dref_url;
+use mp4_fixtures::helpers::Kind;
+use mp4_fixtures::helpers::Mismatch;
+use mp4_fixtures::helpers::expect_invalid_at_small_sizes;
+use mp4_fixtures::helpers::expect_kind;
+use mp4_fixtures::helpers::expect_value;
+use mp4_fixtures::helpers::expect_value_at_any_size;
+use mp4_fixtures::helpers::expect_value_to;
 use mp4_fixtures::made;
-use mp4_stream::{
-    BoxType, ByteCursor, DataBox, DinfBox, DrefBox, EmsgBox, Error, FtypBox, HdlrBox, MdhdBox,
-    MfhdBox, MvhdBox, ReadBox, SmhdBox, StcoBox, TkhdBox, TrunBox, UrlBox,
-};
+use mp4_stream::BoxLaws;
+use mp4_stream::BoxType;
+use mp4_stream::DataBox;
+use mp4_stream::DinfBox;
+use mp4_stream::EmsgBox;
+use mp4_stream::EsdsBox;
+use mp4_stream::FtypBox;
+use mp4_stream::HdlrBox;
+use mp4_stream::HvcCBox;
+use mp4_stream::MdhdBox;
+use mp4_stream::Mp4aBox;
+use mp4_stream::MvhdBox;
+use mp4_stream::ReadBox;
+use mp4_stream::SmhdBox;
+use mp4_stream::StcoBox;
+use mp4_stream::StsdBox;
+use mp4_stream::Text;
+use mp4_stream::TkhdBox;
+use mp4_stream::TrunBox;
+use mp4_stream::UrlBox;
 use std::alloc::Global;
 use std::test::Fail;
 
@@ -33,6 +117,7 @@ fn headers_of_movies_and_tracks_have_any_size(rt: HostRuntime) -> Result<(), Fai
         .and(expect_value_at_any_size(alloc, &TkhdBox::default()))
         .and(expect_value_at_any_size(alloc, &tkhd_short()))
         .and(expect_value_at_any_size(alloc, &tkhd_long()))
+        .and(expect_value_at_any_size(alloc, &tkhd()))
         .and(expect_value_at_any_size(alloc, &tkhd_full()))?;
     Ok(())
 }
@@ -46,7 +131,8 @@ fn headers_of_media_have_any_size(rt: HostRuntime) -> Result<(), Fail> {
         .and(expect_value_at_any_size(alloc, &SmhdBox::default()))
         .and(expect_value_at_any_size(alloc, &smhd()))
         .and(expect_value_at_any_size(alloc, &default_video()))
-        .and(expect_value_at_any_size(alloc, &vmhd_colors()))?;
+        .and(expect_value_at_any_size(alloc, &vmhd_black()))
+        .and(expect_value_at_any_size(alloc, &vmhd()))?;
     Ok(())
 }
 
@@ -58,6 +144,7 @@ fn headers_of_fragments_have_any_size(rt: HostRuntime) -> Result<(), Fail> {
         .and(expect_value_at_any_size(alloc, &mehd()))
         .and(expect_value_at_any_size(alloc, &tfdt_of_zero(0)))
         .and(expect_value_at_any_size(alloc, &tfdt_of_zero(1)))
+        .and(expect_value_at_any_size(alloc, &tfdt()))
         .and(expect_value_at_any_size(alloc, &mfhd()))
         .and(expect_value_at_any_size(alloc, &trex()))?;
     Ok(())
@@ -79,6 +166,7 @@ fn tables_of_chunks_have_room(rt: HostRuntime) -> Result<(), Fail> {
     let alloc = rt.alloc();
     made::invalid_at_small_sizes(alloc, stco(alloc))
         .and(made::invalid_at_small_sizes(alloc, co64_of_seven(alloc)))
+        .and(made::invalid_at_small_sizes(alloc, co64(alloc)))
         .and(made::invalid_at_small_sizes(alloc, stsc(alloc)))?;
     Ok(())
 }
@@ -87,9 +175,11 @@ fn tables_of_chunks_have_room(rt: HostRuntime) -> Result<(), Fail> {
 fn tables_of_samples_have_room(rt: HostRuntime) -> Result<(), Fail> {
     let alloc = rt.alloc();
     made::invalid_at_small_sizes(alloc, stss_of_nine(alloc))
+        .and(made::invalid_at_small_sizes(alloc, stss(alloc)))
         .and(made::invalid_at_small_sizes(alloc, stts(alloc)))
         .and(made::invalid_at_small_sizes(alloc, ctts(alloc)))
         .and(made::invalid_at_small_sizes(alloc, stsz_of_nine(alloc)))
+        .and(made::invalid_at_small_sizes(alloc, stsz(alloc)))
         .and(made::invalid_at_small_sizes(alloc, elst(alloc)))
         .and(made::invalid_at_small_sizes(alloc, elst_long(alloc)))?;
     Ok(())
@@ -101,6 +191,80 @@ fn runs_have_room(rt: HostRuntime) -> Result<(), Fail> {
     made::invalid_at_small_sizes(alloc, trun(alloc))
         .and(made::invalid_at_small_sizes(alloc, trun_of_three_lists(alloc)))
         .and(made::invalid_at_small_sizes(alloc, trun_of_four_lists(alloc)))?;
+    Ok(())
+}
+
+#[test]
+fn configurations_and_texts_have_any_size(rt: HostRuntime) -> Result<(), Fail> {
+    let alloc = rt.alloc();
+    expect_value_at_any_size(alloc, &tx3g_of_test())
+        .and(expect_value_at_any_size(alloc, &tx3g()))
+        .and(expect_value_at_any_size(alloc, &HvcCBox::new()))
+        .and(expect_value_at_any_size(alloc, &hvcc()))
+        .and(expect_value_at_any_size(alloc, &vpcc_of_test()))
+        .and(expect_value_at_any_size(alloc, &vpcc()))
+        .and(made::value_at_any_size(alloc, avcc_of_two(alloc, 3)))
+        .and(made::value_at_any_size(alloc, avcc(alloc)))?;
+    Ok(())
+}
+
+#[test]
+fn entries_of_video_have_room_for_their_child(rt: HostRuntime) -> Result<(), Fail> {
+    let alloc = rt.alloc();
+    made::invalid_at_small_sizes(alloc, avc1_of_two(alloc, 3))
+        .and(made::invalid_at_small_sizes(alloc, avc1(alloc)))
+        .and(expect_invalid_at_small_sizes(alloc, &hev1_of_config()))
+        .and(expect_invalid_at_small_sizes(alloc, &hev1()))
+        .and(expect_invalid_at_small_sizes(alloc, &vp09_of_config()))
+        .and(expect_invalid_at_small_sizes(alloc, &vp09()))?;
+    Ok(())
+}
+
+/// Expects that a box is read as one value with a size of 0 or 7, and as another with the largest size.
+fn expect_values<B: BoxLaws + PartialEq + Drop>(
+    alloc: Global,
+    bytes: &[u8],
+    small: &B,
+    large: &B,
+) -> Result<(), Mismatch> {
+    for size in [0, 7] {
+        expect_value_to(alloc, small, bytes, size, size.max(B::LEAST))?;
+    }
+    expect_value(alloc, large, bytes, u64::MAX)
+}
+
+#[test]
+fn sizes_of_mp4a(rt: HostRuntime) -> Result<(), Fail> {
+    let alloc = rt.alloc();
+    let (none, second) = (mp4a_of(None), mp4a());
+    let without = Mp4aBox {
+        esds: None,
+        ..mp4a()
+    };
+    expect_values(alloc, &MP4A_OF_TEST, &none, &mp4a_of_test())
+        .and(expect_values(alloc, &MP4A, &without, &second))
+        .and(expect_value_to(alloc, &none, &MP4A_WITHOUT_ESDS, 0, 36))
+        .and(expect_value_to(alloc, &none, &MP4A_WITHOUT_ESDS, 7, 36))
+        .and(expect_kind::<Mp4aBox>(alloc, &MP4A_WITHOUT_ESDS, u64::MAX, Kind::End))?;
+    Ok(())
+}
+
+#[test]
+fn sizes_of_stsd_and_esds(rt: HostRuntime) -> Result<(), Fail> {
+    let alloc = rt.alloc();
+    let without = StsdBox {
+        mp4a: None,
+        ..stsd()
+    };
+    expect_values(
+        alloc,
+        &STSD_OF_TEST,
+        &StsdBox::default(),
+        &stsd_of(mp4a_of_test()),
+    )
+    .and(expect_values(alloc, &STSD, &without, &stsd()))
+    .and(expect_kinds::<EsdsBox>(alloc, &ESDS_OF_TEST, Kind::Invalid, Kind::End))
+    .and(expect_kinds::<EsdsBox>(alloc, &ESDS, Kind::Invalid, Kind::End))?;
     Ok(())
 }
 
@@ -132,29 +296,29 @@ fn sizes_of_references(rt: HostRuntime) -> Result<(), Fail> {
     let alloc = rt.alloc();
     let no_dref = Kind::NotFound(BoxType::DrefBox);
     expect_kinds::<UrlBox>(alloc, &URL, Kind::Ok, Kind::End)
-        .and(expect_kinds::<DrefBox>(alloc, &DREF_URL, Kind::Ok, Kind::Ok))
-        .and(expect_kinds::<DinfBox>(alloc, &DINF_URL, no_dref, Kind::End))?;
+        .and(expect_kinds::<DinfBox>(alloc, &DINF_URL, no_dref, Kind::End))
+        .and(expect_kinds::<DinfBox>(alloc, &DINF, no_dref, Kind::End))?;
     Ok(())
 }
 
-#[test]
-fn references_of_small_sizes_are_empty(rt: HostRuntime) {
-    for size in [0, 7] {
-        let (url, _) = read::<UrlBox>(rt.alloc(), &URL, size);
-        assert!(rt; matches!(&url, Ok(url) if url.location.is_empty()));
-        let (dref, _) = read::<DrefBox>(rt.alloc(), &DREF_URL, size);
-        assert!(rt; matches!(&dref, Ok(dref) if dref.url.is_none()));
+/// A `url ` with no location.
+fn url_of_nothing(alloc: Global) -> UrlBox {
+    UrlBox {
+        version: 0,
+        flags: 0,
+        location: Text::new(alloc),
     }
 }
 
 #[test]
-fn references_have_the_largest_size_too(rt: HostRuntime) -> Result<(), Fail> {
-    made::value(rt.alloc(), dref_url(rt.alloc()), &DREF_URL, 30).and(made::value(
-        rt.alloc(),
-        dref_url(rt.alloc()),
-        &DREF_URL,
-        u64::MAX,
-    ))?;
+fn references_of_small_sizes_are_empty(rt: HostRuntime) -> Result<(), Fail> {
+    let alloc = rt.alloc();
+    made::value(alloc, Ok(url_of_nothing(alloc)), &URL, 0)
+        .and(made::value(alloc, Ok(url_of_nothing(alloc)), &URL, 7))
+        .and(made::value(alloc, Ok(dref_of(None)), &DREF_URL, 0))
+        .and(made::value(alloc, Ok(dref_of(None)), &DREF_URL, 7))
+        .and(made::value(alloc, dref_url(alloc), &DREF_URL, u64::MAX))
+        .and(made::value(alloc, Ok(dref(alloc)), &DREF, u64::MAX))?;
     Ok(())
 }
 
@@ -182,18 +346,6 @@ fn sizes_of_ftyp(rt: HostRuntime) -> Result<(), Fail> {
 }
 
 #[test]
-fn sizes_of_ftyp_without_its_fields(rt: HostRuntime) -> Result<(), Fail> {
-    let (short, long) = (b"\0\0\0\x10ftyp", b"\0\0\0\x12ftyp");
-    expect_kind::<FtypBox>(rt.alloc(), long, 18, Kind::Invalid).and(expect_kind::<FtypBox>(
-        rt.alloc(),
-        short,
-        16,
-        Kind::End,
-    ))?;
-    Ok(())
-}
-
-#[test]
 fn sizes_of_stco(rt: HostRuntime) -> Result<(), Fail> {
     for size in [0, 7, 16, 43] {
         expect_kind::<StcoBox>(rt.alloc(), &STCO, size, Kind::Invalid)?;
@@ -202,29 +354,5 @@ fn sizes_of_stco(rt: HostRuntime) -> Result<(), Fail> {
     for size in [44, 47, 0xffff_ffff, u64::MAX] {
         expect_value(rt.alloc(), &stco, &STCO, size)?;
     }
-    Ok(())
-}
-
-/// Reads a box of the largest size with this byte before its header. Returns the kind of the outcome, and the position of
-/// the cursor, which is 9 before the call.
-fn read_after<B: ReadBox + Drop>(
-    alloc: Global,
-    byte: u8,
-    bytes: &[u8],
-) -> Result<(Kind, u64), Error> {
-    let mut shifted = [byte].to_vec(alloc)?;
-    shifted.extend_from_slice(bytes)?;
-    let mut reader = ByteCursor::new(&shifted);
-    reader.set_position(9);
-    let outcome = B::read_box(alloc, &mut reader, u64::MAX);
-    Ok((kind_of(&outcome), reader.position()))
-}
-
-#[test]
-fn boxes_that_end_past_64_bits(rt: HostRuntime) -> Result<(), Fail> {
-    let stco = read_after::<StcoBox>(rt.alloc(), 0, &STCO)?;
-    assert_eq!(rt; stco, (Kind::Invalid, 9));
-    let mfhd = read_after::<MfhdBox>(rt.alloc(), 0xff, &MFHD)?;
-    assert_eq!(rt; mfhd, (Kind::Invalid, 9));
     Ok(())
 }

@@ -1,12 +1,10 @@
 //! Sample descriptions: which entry is written of several.
 
-use mp4_fixtures::boxes::entries::{
-    AVC1, HEV1, VP09, avc1, avc1_of, avcc_of_two, hev1, tx3g, vp09,
-};
-use mp4_fixtures::boxes::sound::{MP4A, mp4a, mp4a_of_test};
+use mp4_fixtures::boxes::entries::{AVC1, HEV1, VP09, avc1, hev1, tx3g, vp09};
+use mp4_fixtures::boxes::sound::{MP4A, mp4a, mp4a_of_test, stsd_of};
 use mp4_fixtures::helpers::Mismatch;
 use mp4_fixtures::made;
-use mp4_stream::{Avc1Box, Error, Mp4aBox, StsdBox, TryClone, WriteBox};
+use mp4_stream::{Error, Mp4aBox, StsdBox, TryClone, WriteBox};
 use std::alloc::Global;
 use std::test::Fail;
 
@@ -30,22 +28,6 @@ fn stsd_of_all(alloc: Global) -> Result<StsdBox, Error> {
         avc1,
         ..stsd_after_avc1()
     })
-}
-
-/// An entry of audio alone.
-fn stsd_of(alloc: Global, mp4a: Mp4aBox) -> StsdBox {
-    StsdBox {
-        mp4a: Some(mp4a),
-        ..StsdBox::default_in(alloc)
-    }
-}
-
-/// An entry of video alone.
-fn stsd_of_video(alloc: Global, avc1: Avc1Box) -> StsdBox {
-    StsdBox {
-        avc1: Some(avc1),
-        ..StsdBox::default_in(alloc)
-    }
 }
 
 /// What an `stsd` of this size with a child of these bytes is written in, worked out from the layout table.
@@ -116,11 +98,6 @@ fn mp4a_is_written_before_text(rt: HostRuntime) -> Result<(), Fail> {
     Ok(())
 }
 
-/// An entry of video of the Rust crate's test alone.
-fn stsd_of_two_sets(alloc: Global) -> Result<StsdBox, Error> {
-    Ok(stsd_of_video(alloc, avc1_of(alloc, avcc_of_two(alloc, 3)?)))
-}
-
 /// An entry of audio that can't be written.
 fn unwritable_mp4a() -> Mp4aBox {
     let mut mp4a = mp4a_of_test();
@@ -128,22 +105,6 @@ fn unwritable_mp4a() -> Mp4aBox {
         esds.flags = 1 << 24;
     }
     mp4a
-}
-
-/// An entry of video that can be written, and one of audio that can't.
-fn stsd_of_unwritable_sound(alloc: Global) -> Result<StsdBox, Error> {
-    Ok(StsdBox {
-        mp4a: Some(unwritable_mp4a()),
-        ..stsd_of_two_sets(alloc)?
-    })
-}
-
-#[test]
-fn other_entries_need_not_be_writable(rt: HostRuntime) -> Result<(), Fail> {
-    let mut bytes = Vec::new(rt.alloc());
-    stsd_of_two_sets(rt.alloc())?.write_box(&mut bytes)?;
-    expect_bytes(rt.alloc(), stsd_of_unwritable_sound(rt.alloc()), &bytes)?;
-    Ok(())
 }
 
 #[test]

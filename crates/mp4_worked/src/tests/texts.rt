@@ -40,38 +40,3 @@ fn bytes_that_are_not_utf8_are_replaced(rt: HostRuntime) -> Result<(), Fail> {
     assert_eq!(rt; (kept.as_str(), replaced.as_str()), ("foo", "null"));
     Ok(())
 }
-
-/// What a media header of a language with nine letters is written in.
-fn written_in_nine_letters(alloc: Global) -> Result<Vec<u8>, Error> {
-    let mut header = MdhdBox::default_in(alloc)?;
-    header.language = Text::from_str(alloc, "undefined")?;
-    let mut out = Vec::new(alloc);
-    header.write_box(&mut out)?;
-    Ok(out)
-}
-
-#[test]
-fn longer_languages_are_cut(rt: HostRuntime) -> Result<(), Fail> {
-    let bytes = written_in_nine_letters(rt.alloc())?;
-    let (mdhd, _) = read::<MdhdBox>(rt.alloc(), &bytes, 32);
-    let language = mdhd?.language;
-    assert_eq!(rt; language.as_str(), "und");
-    assert_eq!(rt; format!(in rt.alloc(); "{language:?}")?.as_str(), "\"und\"");
-    Ok(())
-}
-
-#[test]
-fn header_of_a_longer_language(rt: HostRuntime) -> Result<(), Fail> {
-    let bytes = written_in_nine_letters(rt.alloc())?;
-    made::value(rt.alloc(), MdhdBox::default_in(rt.alloc()), &bytes, 32)?;
-    Ok(())
-}
-
-#[test]
-fn empty_languages(rt: HostRuntime) -> Result<(), Fail> {
-    assert_eq!(rt;
-        language_string(rt.alloc(), language_code(""))?.as_str(),
-        "```"
-    );
-    Ok(())
-}

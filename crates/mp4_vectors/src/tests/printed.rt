@@ -75,6 +75,7 @@ fn names_print_their_codes(rt: HostRuntime) -> Result<(), Fail> {
     expect_printed(&rt, BoxType::FtypBox, "ftyp")?;
     expect_printed(&rt, BoxType::UrlBox, "url ")?;
     expect_printed(&rt, BoxType::NameBox, "\u{fffd}nam")?;
+    expect_printed(&rt, FourCC::from(0xa96e_616d), "\u{fffd}nam")?;
     expect_printed(&rt, BoxType::UnknownBox(0x6d61_726b), "mark")?;
     expect_printed(&rt, BoxType::UnknownBox(0xf09f_a680), "\u{1f980}")?;
     expect_printed(&rt, BoxType::UnknownBox(0xe282_00ff), "\u{fffd}\0\u{fffd}")?;

@@ -1,6 +1,6 @@
 //! Boxes of types that the codec does not read, which are kept as their bytes.
 
-use super::streams::THREE;
+use mp4_fixtures::boxes::THREE;
 use mp4_fixtures::helpers::{Kind, kind_of};
 use mp4_fixtures::made;
 use mp4_stream::{

@@ -2,9 +2,9 @@
 //! leaves everything as it was, and is made again: then it has its usual result, or is out of memory once more.
 
 use mp4_examples::mark::MarkBox;
-use mp4_fixtures::vectors::{VECTORS, Vector};
+use mp4_fixtures::vectors::Vector;
 use mp4_stream::{
-    AnyBox, AvcConfig, ByteCursor, Co64Box, Error, KeptBox, MdhdBox, MediaConfig, StcoBox,
+    AnyBox, AvcConfig, ByteCursor, Co64Box, Error, KeptBox, MdhdBox, MediaConfig, NalUnit, StcoBox,
     StreamBox, TryClone, WriteBox, language_string, list_boxes, read_boxes_as, write_boxes,
 };
 use std::alloc::Global;
@@ -94,35 +94,35 @@ fn round_trip<B: StreamBox + Eq>(alloc: Global, boxes: &[B], bytes: &[u8]) -> Re
     Ok(())
 }
 
-fn boxes_of_all(alloc: Global) -> mp4_stream::Result<Vec<AnyBox>> {
+fn boxes_of_all<V: Vector>(alloc: Global, vectors: &[V]) -> mp4_stream::Result<Vec<AnyBox>> {
     let mut boxes = Vec::new(alloc);
-    for vector in VECTORS {
+    for vector in vectors {
         boxes.push(vector.make(alloc)?)?;
     }
     Ok(boxes)
 }
 
-fn bytes_of_all(alloc: Global) -> mp4_stream::Result<Vec<u8>> {
+fn bytes_of_all<V: Vector>(alloc: Global, vectors: &[V]) -> mp4_stream::Result<Vec<u8>> {
     let mut bytes = Vec::new(alloc);
-    for vector in VECTORS {
+    for vector in vectors {
         bytes.extend_from_slice(vector.bytes())?;
     }
     Ok(bytes)
 }
 
 /// Writes and reads all vectors as one stream.
-pub fn write_and_read_all(alloc: Global) -> Result<(), Ending> {
-    let boxes = again!(boxes_of_all(alloc))?;
-    let bytes = again!(bytes_of_all(alloc))?;
+pub fn write_and_read_all<V: Vector>(alloc: Global, vectors: &[V]) -> Result<(), Ending> {
+    let boxes = again!(boxes_of_all(alloc, vectors))?;
+    let bytes = again!(bytes_of_all(alloc, vectors))?;
     round_trip(alloc, &boxes, &bytes)
 }
 
 /// Lists all vectors as one stream.
-pub fn list_all(alloc: Global) -> Result<(), Ending> {
-    let bytes = again!(bytes_of_all(alloc))?;
+pub fn list_all<V: Vector>(alloc: Global, vectors: &[V]) -> Result<(), Ending> {
+    let bytes = again!(bytes_of_all(alloc, vectors))?;
     let mut reader = ByteCursor::new(&bytes);
     let spans = again!(list_boxes(alloc, &mut reader))?;
-    if spans.len() == VECTORS.len() && reader.position() == bytes.len() as u64 {
+    if spans.len() == vectors.len() && reader.position() == bytes.len() as u64 {
         Ok(())
     } else {
         Err(Ending::Wrong)
@@ -130,8 +130,8 @@ pub fn list_all(alloc: Global) -> Result<(), Ending> {
 }
 
 /// The bytes of all vectors and of a box that has no type of its own.
-fn bytes_to_keep(alloc: Global) -> mp4_stream::Result<Vec<u8>> {
-    let mut bytes = bytes_of_all(alloc)?;
+fn bytes_to_keep<V: Vector>(alloc: Global, vectors: &[V]) -> mp4_stream::Result<Vec<u8>> {
+    let mut bytes = bytes_of_all(alloc, vectors)?;
     bytes.extend_from_slice(b"\0\0\0\x09moov\xaa")?;
     Ok(bytes)
 }
@@ -141,10 +141,10 @@ fn kept_boxes(alloc: Global, bytes: &[u8]) -> mp4_stream::Result<Vec<KeptBox>> {
 }
 
 /// Reads all vectors and a box that has no type of its own as one stream, and writes and reads what was read.
-pub fn keep_all(alloc: Global) -> Result<(), Ending> {
-    let bytes = again!(bytes_to_keep(alloc))?;
+pub fn keep_all<V: Vector>(alloc: Global, vectors: &[V]) -> Result<(), Ending> {
+    let bytes = again!(bytes_to_keep(alloc, vectors))?;
     let boxes = again!(kept_boxes(alloc, &bytes))?;
-    if boxes.len() == VECTORS.len() + 1 {
+    if boxes.len().saturating_sub(1) == vectors.len() {
         round_trip(alloc, &boxes, &bytes)
     } else {
         Err(Ending::Wrong)
@@ -152,7 +152,7 @@ pub fn keep_all(alloc: Global) -> Result<(), Ending> {
 }
 
 /// Makes a vector.
-fn made(alloc: Global, vector: Vector) -> Result<AnyBox, Ending> {
+fn made<V: Vector>(alloc: Global, vector: V) -> Result<AnyBox, Ending> {
     again!(vector.make(alloc))
 }
 
@@ -167,10 +167,23 @@ fn clone_of<T: TryClone + PartialEq + Drop>(original: &T) -> Result<T, Ending> {
 }
 
 /// Makes, clones, writes and reads a vector.
-pub fn write_and_read(alloc: Global, vector: Vector) -> Result<(), Ending> {
+fn write_and_read<V: Vector>(alloc: Global, vector: V) -> Result<(), Ending> {
     let original = made(alloc, vector)?;
     let clone = clone_of(&original)?;
     round_trip(alloc, slice::from_ref(&clone), vector.bytes())
+}
+
+/// Makes, clones, writes and reads each vector alone, also after one that was out of memory.
+pub fn write_and_read_each<V: Vector>(alloc: Global, vectors: &[V]) -> Result<(), Ending> {
+    let mut outcome = Ok(());
+    for vector in vectors {
+        match write_and_read(alloc, *vector) {
+            Ok(()) => {}
+            Err(Ending::Refused) => outcome = Err(Ending::Refused),
+            Err(Ending::Wrong) => return Err(Ending::Wrong),
+        }
+    }
+    outcome
 }
 
 /// Writes and reads a list of boxes of a type from outside the codec.
@@ -195,11 +208,15 @@ fn config(alloc: Global) -> mp4_stream::Result<MediaConfig> {
 /// Makes and clones the configuration of a track.
 pub fn clone_config(alloc: Global) -> Result<(), Ending> {
     let original = again!(config(alloc))?;
-    if again!(original.try_clone())? == original {
-        Ok(())
-    } else {
-        Err(Ending::Wrong)
-    }
+    clone_of(&original)?;
+    Ok(())
+}
+
+/// Makes and clones a parameter set.
+pub fn clone_set(alloc: Global) -> Result<(), Ending> {
+    let original = again!(NalUnit::from_bytes(alloc, &[0x67, 0x64, 0, 0x0d]))?;
+    clone_of(&original)?;
+    Ok(())
 }
 
 fn offsets(alloc: Global) -> mp4_stream::Result<Co64Box> {

@@ -1,0 +1,24 @@
+//! Worked cases, a file for each box or subject.
+
+mod codes;
+mod cursor;
+mod entries;
+mod esds;
+mod fixed_points;
+mod flat;
+mod ftyp;
+mod headers;
+mod in_place;
+mod kept;
+mod media_tables;
+mod memory;
+mod mp4a;
+mod printed;
+mod references;
+mod samples;
+mod stco;
+mod streams;
+mod stsc;
+mod stsd;
+mod tables;
+mod texts;

@@ -1,0 +1,185 @@
+//! `esds`: the descriptors of an elementary stream, and audio configurations.
+
+use mp4_fixtures::boxes::sound::{esds_of, mp4a_of, specific};
+use mp4_fixtures::helpers::{
+    Kind, expect_kind, expect_round_trip, expect_unwritable, expect_unwritable_of_size,
+    expect_value, kind_of,
+};
+use mp4_stream::{
+    ByteCursor, DecoderConfigDescriptor, ESDescriptor, EsdsBox, SLConfigDescriptor, WriteBox,
+};
+use std::test::Fail;
+
+/// Stream 1, of low complexity at 48000 hertz in stereo, as this codec writes it.
+const STEREO: [u8; 39] = *b"\0\0\0\x27esds\0\0\0\0\x03\x19\0\x01\0\x04\x11\x40\x15\0\0\0\
+\0\x01\xf4\0\0\x01\xf4\0\x05\x02\x11\x90\x06\0\0";
+
+/// The value of `STEREO`.
+fn stereo() -> EsdsBox {
+    EsdsBox {
+        version: 0,
+        flags: 0,
+        es_desc: ESDescriptor {
+            es_id: 1,
+            dec_config: DecoderConfigDescriptor {
+                object_type_indication: 0x40,
+                stream_type: 5,
+                up_stream: 0,
+                buffer_size_db: 0,
+                max_bitrate: 128000,
+                avg_bitrate: 128000,
+                dec_specific: specific(2, 3, None, 2),
+            },
+            sl_config: SLConfigDescriptor {},
+        },
+    }
+}
+
+/// Reads the box and counts the headers of its descriptors. Returns the kind of the outcome, the count, and the position of the
+/// cursor, which is 8 before the call.
+fn counted(bytes: &[u8], size: u64) -> (Kind, u64, u64) {
+    let mut reader = ByteCursor::new(bytes);
+    reader.set_position(8);
+    let (result, headers) = EsdsBox::read_counted(&mut reader, size);
+    (kind_of(&result), headers, reader.position())
+}
+
+/// Lengths of four bytes. The last three bits of the audio configuration are not read.
+#[test]
+fn descriptors_of_long_lengths(rt: HostRuntime) -> Result<(), Fail> {
+    let bytes =
+        b"\0\0\0\x33esds\0\0\0\0\x03\x80\x80\x80\x22\0\x01\0\x04\x80\x80\x80\x14\x40\x15\0\0\0\
+\0\x01\xf4\0\0\x01\xf4\0\x05\x80\x80\x80\x02\x11\x90\x06\x80\x80\x80\x01\x02";
+    let other_bits =
+        b"\0\0\0\x33esds\0\0\0\0\x03\x80\x80\x80\x22\0\x01\0\x04\x80\x80\x80\x14\x40\x15\0\0\0\
+\0\x01\xf4\0\0\x01\xf4\0\x05\x80\x80\x80\x02\x11\x97\x06\x80\x80\x80\x01\x02";
+    expect_value(rt.alloc(), &stereo(), bytes, 51)
+        .and(expect_value(rt.alloc(), &stereo(), other_bits, 51))
+        .and(expect_round_trip(rt.alloc(), &stereo(), &STEREO))?;
+    assert_eq!(rt; counted(bytes, 51), (Kind::Ok, 4, 51));
+    Ok(())
+}
+
+/// An audio configuration of five bytes. The last three are read as a header of length 12928, and so as a gap to after the end.
+#[test]
+fn descriptors_of_a_usual_encoder(rt: HostRuntime) -> Result<(), Fail> {
+    let bytes =
+        b"\0\0\0\x36esds\0\0\0\0\x03\x80\x80\x80\x25\0\x01\0\x04\x80\x80\x80\x17\x40\x15\0\0\0\
+\0\x01\xf4\0\0\x01\xf4\0\x05\x80\x80\x80\x05\x11\x90\x56\xe5\0\x06\x80\x80\x80\x01\x02";
+    expect_value(rt.alloc(), &stereo(), bytes, 54)?;
+    assert_eq!(rt; counted(bytes, 54), (Kind::Ok, 4, 54));
+    Ok(())
+}
+
+#[test]
+fn headers_before_a_fault_are_counted(rt: HostRuntime) {
+    let bytes = b"\0\0\0\x0eesds\0\0\0\0\x04\0";
+    assert_eq!(rt; counted(bytes, 14), (Kind::Invalid, 1, 8));
+    assert_eq!(rt; counted(&bytes[..13], 14), (Kind::End, 0, 8));
+}
+
+/// A descriptor of a stream, and a hundred empty ones behind it.
+const HUNDRED: [u8; 217] = *b"\0\0\0\xd9esds\0\0\0\0\x03\x7f\0\x01\0\
+\x07\0\x07\0\x07\0\x07\0\x07\0\x07\0\x07\0\x07\0\x07\0\x07\0\x07\0\x07\0\x07\0\x07\0\x07\0\x07\0\x07\0\x07\0\x07\0\x07\0\
+\x07\0\x07\0\x07\0\x07\0\x07\0\x07\0\x07\0\x07\0\x07\0\x07\0\x07\0\x07\0\x07\0\x07\0\x07\0\x07\0\x07\0\x07\0\x07\0\x07\0\
+\x07\0\x07\0\x07\0\x07\0\x07\0\x07\0\x07\0\x07\0\x07\0\x07\0\x07\0\x07\0\x07\0\x07\0\x07\0\x07\0\x07\0\x07\0\x07\0\x07\0\
+\x07\0\x07\0\x07\0\x07\0\x07\0\x07\0\x07\0\x07\0\x07\0\x07\0\x07\0\x07\0\x07\0\x07\0\x07\0\x07\0\x07\0\x07\0\x07\0\x07\0\
+\x07\0\x07\0\x07\0\x07\0\x07\0\x07\0\x07\0\x07\0\x07\0\x07\0\x07\0\x07\0\x07\0\x07\0\x07\0\x07\0\x07\0\x07\0\x07\0\x07\0";
+
+/// 62 of the hundred are in the first, and the next ends the reading.
+#[test]
+fn a_hundred_descriptors(rt: HostRuntime) -> Result<(), Fail> {
+    let mut first = EsdsBox::default();
+    first.es_desc.es_id = 1;
+    expect_value(rt.alloc(), &first, &HUNDRED, 217)?;
+    assert_eq!(rt; counted(&HUNDRED, 217), (Kind::Ok, 64, 217));
+    Ok(())
+}
+
+#[test]
+fn audio_object_type_of_34(rt: HostRuntime) -> Result<(), Fail> {
+    let bytes = b"\0\0\0\x28esds\0\0\0\0\x03\x1a\0\x01\0\x04\x12\x40\x15\0\0\0\
+\0\0\0\0\0\0\0\0\x05\x03\xf8\x40\x40\x06\0\0";
+    expect_round_trip(rt.alloc(), &esds_of(1, 0, specific(34, 0, None, 2)), bytes)?;
+    Ok(())
+}
+
+/// Stream 1 with a sampling rate of 50000 hertz.
+const OF_50000: [u8; 42] = *b"\0\0\0\x2aesds\0\0\0\0\x03\x1c\0\x01\0\x04\x14\x40\x15\0\0\0\
+\0\x01\xf4\0\0\x01\xf4\0\x05\x05\x17\x80\x61\xa8\x10\x06\0\0";
+
+#[test]
+fn explicit_sampling_rate(rt: HostRuntime) -> Result<(), Fail> {
+    let esds = esds_of(1, 128000, specific(2, 15, Some(50000), 2));
+    expect_round_trip(rt.alloc(), &esds, &OF_50000).and(expect_kind::<EsdsBox>(
+        rt.alloc(),
+        &OF_50000[..37],
+        42,
+        Kind::End,
+    ))?;
+    Ok(())
+}
+
+#[test]
+fn audio_configurations_of_each_length(rt: HostRuntime) -> Result<(), Fail> {
+    let alloc = rt.alloc();
+    let of_3 = b"\0\0\0\x28esds\0\0\0\0\x03\x1a\0\x01\0\x04\x12\x40\x15\0\0\0\
+\0\x01\xf4\0\0\x01\xf4\0\x05\x03\xff\xe1\xe0\x06\0\0";
+    let of_5 = b"\0\0\0\x2aesds\0\0\0\0\x03\x1c\0\x01\0\x04\x14\x40\x15\0\0\0\
+\0\x01\xf4\0\0\x01\xf4\0\x05\x05\x17\xff\xff\xff\x88\x06\0\0";
+    let of_6 = b"\0\0\0\x2besds\0\0\0\0\x03\x1d\0\x01\0\x04\x15\x40\x15\0\0\0\
+\0\x01\xf4\0\0\x01\xf4\0\x05\x06\xf9\x5e\x01\x86\xa0\xc0\x06\0\0";
+    expect_round_trip(alloc, &esds_of(1, 128000, specific(95, 0, None, 15)), of_3)
+        .and(expect_round_trip(
+            alloc,
+            &esds_of(1, 128000, specific(2, 15, Some(16777215), 1)),
+            of_5,
+        ))
+        .and(expect_round_trip(
+            alloc,
+            &esds_of(1, 128000, specific(42, 15, Some(50000), 6)),
+            of_6,
+        ))?;
+    Ok(())
+}
+
+#[test]
+fn unwritable_audio_configurations(rt: HostRuntime) -> Result<(), Fail> {
+    for (profile, freq_index, sample_rate, chan_conf, size) in [
+        (31, 3, None, 2, 39),
+        (96, 3, None, 2, 40),
+        (255, 3, None, 2, 40),
+        (2, 15, None, 2, 42),
+        (2, 3, Some(48000), 2, 39),
+        (2, 15, Some(1 << 24), 2, 42),
+        (34, 15, Some(1 << 24), 2, 43),
+        (2, 16, None, 2, 39),
+        (2, 3, None, 16, 39),
+    ] {
+        let config = specific(profile, freq_index, sample_rate, chan_conf);
+        let esds = esds_of(1, 128000, config);
+        expect_unwritable_of_size(rt.alloc(), &esds, size)?;
+        expect_unwritable(rt.alloc(), &mp4a_of(Some(esds)))?;
+    }
+    Ok(())
+}
+
+#[test]
+fn one_bit_of_the_direction_is_kept(rt: HostRuntime) -> Result<(), Fail> {
+    for (up_stream, byte, kept) in [
+        (0, 0x15, 0),
+        (1, 0x15, 0),
+        (2, 0x17, 2),
+        (3, 0x17, 2),
+        (255, 0x17, 2),
+    ] {
+        let mut esds = stereo();
+        esds.es_desc.dec_config.up_stream = up_stream;
+        let mut out = Vec::new(rt.alloc());
+        esds.write_box(&mut out)?;
+        assert_eq!(rt; out.get(20), Some(&byte), "{up_stream}");
+        esds.es_desc.dec_config.up_stream = kept;
+        expect_value(rt.alloc(), &esds, &out, 39)?;
+    }
+    Ok(())
+}

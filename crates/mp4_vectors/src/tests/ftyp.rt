@@ -1,0 +1,41 @@
+//! `ftyp`: two brands, and sizes that are not those of whole brands.
+
+use mp4_fixtures::helpers::{Kind, expect_kind};
+use mp4_fixtures::made;
+use mp4_stream::{Error, FourCC, FtypBox};
+use std::alloc::Global;
+use std::test::Fail;
+
+/// The file type `isom`, of minor version 512, with two brands.
+fn isom(alloc: Global) -> Result<FtypBox, Error> {
+    let brands = [FourCC::from(*b"isom"), FourCC::from(*b"mp41")];
+    Ok(FtypBox {
+        major_brand: FourCC::from(*b"isom"),
+        minor_version: 512,
+        compatible_brands: Vec::from_slice(alloc, &brands)?.into(),
+    })
+}
+
+#[test]
+fn ftyp_of_two_brands(rt: HostRuntime) -> Result<(), Fail> {
+    let bytes = b"\0\0\0\x18ftypisom\0\0\x02\0isommp41";
+    made::round_trip(rt.alloc(), isom(rt.alloc()), bytes).and(expect_kind::<FtypBox>(
+        rt.alloc(),
+        bytes,
+        18,
+        Kind::Invalid,
+    ))?;
+    Ok(())
+}
+
+#[test]
+fn sizes_of_ftyp_without_its_fields(rt: HostRuntime) -> Result<(), Fail> {
+    let (short, long) = (b"\0\0\0\x10ftyp", b"\0\0\0\x12ftyp");
+    expect_kind::<FtypBox>(rt.alloc(), long, 18, Kind::Invalid).and(expect_kind::<FtypBox>(
+        rt.alloc(),
+        short,
+        16,
+        Kind::End,
+    ))?;
+    Ok(())
+}

@@ -1,0 +1,97 @@
+//! Writing asks for memory once, and leaves the vector as it was where that is refused.
+
+use linked_list_allocator::LocalHeap;
+use mp4_fixtures::helpers::{Kind, kind_of};
+use mp4_fixtures::vectors::{SECOND_VECTORS, Vector};
+use mp4_ported::vectors::VECTORS;
+use mp4_stream::{AnyBox, Error, WriteBox, write_boxes};
+use std::alloc::Global;
+use std::test::Fail;
+
+/// Writes a box over a heap with no room. Returns the kind of the outcome, and whether nothing was written.
+fn write_over_none<B: WriteBox>(alloc: Global, original: &B) -> Result<(Kind, bool), Error> {
+    let heap = LocalHeap::new(alloc, 16)?;
+    let _all = Vec::from_slice(&heap, &[7])?;
+    let mut out = Vec::new(&heap);
+    let outcome = original.write_box(&mut out);
+    Ok((kind_of(&outcome), out.is_empty()))
+}
+
+/// Writes a box over a heap with room for its bytes, and no more than fills up its last block of 16 bytes. Returns the
+/// kind of the outcome, and whether these bytes were written.
+fn write_over_one<B: WriteBox>(
+    alloc: Global,
+    original: &B,
+    bytes: &[u8],
+) -> Result<(Kind, bool), Error> {
+    let heap = LocalHeap::new(alloc, bytes.len())?;
+    let mut out = Vec::new(&heap);
+    let outcome = original.write_box(&mut out);
+    Ok((kind_of(&outcome), out.as_slice() == bytes))
+}
+
+/// Writes a box of these bytes over both heaps.
+fn write_over_two<B: WriteBox + Drop>(
+    alloc: Global,
+    made: Result<B, Error>,
+    bytes: &[u8],
+) -> Result<[(Kind, bool); 2], Error> {
+    let original = made?;
+    let none = write_over_none(alloc, &original)?;
+    let one = write_over_one(alloc, &original, bytes)?;
+    Ok([none, one])
+}
+
+/// Whether each vector is out of memory over the first heap and written over the second.
+fn are_written_at_once<V: Vector>(alloc: Global, vectors: &[V]) -> Result<bool, Error> {
+    for vector in vectors {
+        let found = write_over_two(alloc, vector.make(alloc), vector.bytes())?;
+        if found != [(Kind::Memory, true), (Kind::Ok, true)] {
+            return Ok(false);
+        }
+    }
+    Ok(true)
+}
+
+/// A second request would not be granted: the heap has room for one.
+#[test]
+fn a_write_takes_one_block(rt: HostRuntime) -> Result<(), Fail> {
+    assert!(rt; are_written_at_once(rt.alloc(), &VECTORS)?);
+    assert!(rt; are_written_at_once(rt.alloc(), &SECOND_VECTORS)?);
+    Ok(())
+}
+
+/// Writes a list over a heap of this size.
+fn write_list_over(alloc: Global, boxes: &[AnyBox], room: usize) -> Result<(Kind, usize), Error> {
+    let heap = LocalHeap::new(alloc, room)?;
+    let mut out = Vec::new(&heap);
+    let outcome = write_boxes(boxes, &mut out);
+    Ok((kind_of(&outcome), out.len()))
+}
+
+/// All vectors as a list, and the number of their bytes.
+fn list_of<V: Vector>(alloc: Global, vectors: &[V]) -> Result<(Vec<AnyBox>, usize), Error> {
+    let mut boxes = Vec::new(alloc);
+    let mut room: usize = 0;
+    for vector in vectors {
+        boxes.push(vector.make(alloc)?)?;
+        room = room.saturating_add(vector.bytes().len());
+    }
+    Ok((boxes, room))
+}
+
+/// Whether the list of the vectors is written over a heap with room for its bytes alone, and out of memory over one of half the
+/// room.
+fn is_written_at_once<V: Vector>(alloc: Global, vectors: &[V]) -> Result<bool, Error> {
+    let (boxes, room) = list_of(alloc, vectors)?;
+    let whole = write_list_over(alloc, &boxes, room)?;
+    let half = write_list_over(alloc, &boxes, room / 2)?;
+    Ok((whole, half) == ((Kind::Ok, room), (Kind::Memory, 0)))
+}
+
+#[test]
+fn a_list_asks_for_one_block(rt: HostRuntime) -> Result<(), Fail> {
+    assert!(rt; is_written_at_once(rt.alloc(), &VECTORS)?);
+    assert!(rt; is_written_at_once(rt.alloc(), &SECOND_VECTORS)?);
+    Ok(())
+}

@@ -1,0 +1,82 @@
+//! References: `url `, `dref` and `dinf`.
+
+use mp4_fixtures::boxes::text::{dref_of, url};
+use mp4_fixtures::helpers::{Kind, expect_kind, expect_list};
+use mp4_fixtures::made;
+use mp4_stream::{BoxType, DinfBox, DrefBox, Error, Text, UrlBox};
+use std::alloc::Global;
+use std::test::Fail;
+
+/// The data is in the same file.
+fn same_file(alloc: Global) -> UrlBox {
+    UrlBox {
+        version: 0,
+        flags: 1,
+        location: Text::new(alloc),
+    }
+}
+
+#[test]
+fn url_of_an_empty_location(rt: HostRuntime) -> Result<(), Fail> {
+    let alloc = rt.alloc();
+    let (read, written) = (b"\0\0\0\x0durl \0\0\0\x01\0", b"\0\0\0\x0curl \0\0\0\x01");
+    made::value(alloc, Ok(same_file(alloc)), read, 13)
+        .and(made::round_trip(alloc, Ok(same_file(alloc)), written))
+        .and(made::round_trip(alloc, url(alloc), b"\0\0\0\x0eurl \0\0\0\0a\0"))?;
+    Ok(())
+}
+
+#[test]
+fn dref_of_no_entry(rt: HostRuntime) -> Result<(), Fail> {
+    let alone = b"\0\0\0\x10dref\0\0\0\0\0\0\0\0";
+    let followed = b"\0\0\0\x10dref\0\0\0\0\0\0\0\0\0\0\0\x0curl \0\0\0\x01";
+    made::round_trip(rt.alloc(), Ok(dref_of(None)), alone).and(made::value(
+        rt.alloc(),
+        Ok(dref_of(None)),
+        followed,
+        16,
+    ))?;
+    Ok(())
+}
+
+/// References with the location `abc`.
+fn dref_of_abc(alloc: Global) -> Result<DrefBox, Error> {
+    let mut child = url(alloc)?;
+    child.location = Text::from_str(alloc, "abc")?;
+    Ok(dref_of(Some(child)))
+}
+
+/// The `url ` ends 8 bytes after its `dref`. In a list a header of size 0 stands there: a box up to the end, which is skipped.
+#[test]
+fn url_that_ends_after_its_dref(rt: HostRuntime) -> Result<(), Fail> {
+    let alloc = rt.alloc();
+    let bytes = b"\0\0\0\x18dref\0\0\0\0\0\0\0\x01\0\0\0\x10url \0\0\0\0abc\0";
+    let written = b"\0\0\0\x20dref\0\0\0\0\0\0\0\x01\0\0\0\x10url \0\0\0\0abc\0";
+    made::value(alloc, dref_of_abc(alloc), bytes, 24)
+        .and(made::round_trip(alloc, dref_of_abc(alloc), written))
+        .and(expect_list(alloc, bytes, written))?;
+    Ok(())
+}
+
+#[test]
+fn dinf_without_dref(rt: HostRuntime) -> Result<(), Fail> {
+    let alloc = rt.alloc();
+    let empty = b"\0\0\0\x08dinf";
+    let small = b"\0\0\0\x10dinf\0\0\0\0free";
+    let largest = b"\0\0\0\x08dinf\0\0\0\x01free\xff\xff\xff\xff\xff\xff\xff\xff";
+    expect_kind::<DinfBox>(alloc, empty, 8, Kind::NotFound(BoxType::DrefBox))
+        .and(expect_kind::<DinfBox>(alloc, small, 16, Kind::Invalid))
+        .and(expect_kind::<DinfBox>(alloc, largest, 0xffff_ffff_ffff_ffff, Kind::Invalid))?;
+    Ok(())
+}
+
+#[test]
+fn dinf_of_the_same_file(rt: HostRuntime) -> Result<(), Fail> {
+    let alloc = rt.alloc();
+    made::round_trip(
+        alloc,
+        Ok(DinfBox::new(DrefBox::default_in(alloc))),
+        b"\0\0\0\x24dinf\0\0\0\x1cdref\0\0\0\0\0\0\0\x01\0\0\0\x0curl \0\0\0\x01",
+    )?;
+    Ok(())
+}

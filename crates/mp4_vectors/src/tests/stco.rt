@@ -1,0 +1,45 @@
+//! `stco`: a count of more entries than there is room for, and offsets of 64 bits that become short.
+
+use mp4_fixtures::helpers::{Kind, expect_kind, kind_of};
+use mp4_stream::{Co64Box, Error, StcoBox};
+use std::alloc::Global;
+use std::test::Fail;
+
+#[test]
+fn stco_of_more_entries_than_there_is_room_for(rt: HostRuntime) -> Result<(), Fail> {
+    let (short, long) = (
+        b"\0\0\0\x14stco\0\0\0\0\0\0\0\x02\0\0\x01\x0b",
+        b"\0\0\0\x18stco\0\0\0\0\0\0\0\x02\0\0\x01\x0b",
+    );
+    expect_kind::<StcoBox>(rt.alloc(), short, 20, Kind::Invalid).and(expect_kind::<StcoBox>(
+        rt.alloc(),
+        long,
+        24,
+        Kind::End,
+    ))?;
+    Ok(())
+}
+
+/// The short offsets of these.
+fn shortened(alloc: Global, offsets: &[u64]) -> Result<StcoBox, Error> {
+    let long = Co64Box {
+        version: 1,
+        flags: 5,
+        entries: Vec::from_slice(alloc, offsets)?.into(),
+    };
+    StcoBox::try_from_co64(alloc, &long)
+}
+
+#[test]
+fn long_offsets_become_short(rt: HostRuntime) -> Result<(), Fail> {
+    let short = shortened(rt.alloc(), &[267, 4294967295])?;
+    assert_eq!(rt; (short.version, short.flags), (0, 0));
+    assert_eq!(rt; short.entries.as_slice(), [267, 4294967295].as_slice());
+    Ok(())
+}
+
+#[test]
+fn offsets_past_32_bits_stay_long(rt: HostRuntime) {
+    let outcome = shortened(rt.alloc(), &[4294967296]);
+    assert_eq!(rt; kind_of(&outcome), Kind::Invalid);
+}

@@ -1,0 +1,78 @@
+//! Lists of boxes.
+
+use mp4_fixtures::boxes::flat::{mehd_short, mfhd};
+use mp4_fixtures::helpers::{Kind, expect_list, expect_list_kind, kind_of};
+use mp4_stream::{AnyBox, Error, StreamBox, write_boxes};
+use std::alloc::Global;
+use std::test::Fail;
+
+const MFHD: [u8; 16] = *b"\0\0\0\x10mfhd\0\0\0\0\0\0\0\x01";
+
+/// An `mfhd`, a `free` and an `smhd`.
+const THREE: [u8; 40] =
+    *b"\0\0\0\x10mfhd\0\0\0\0\0\0\0\x01\0\0\0\x08free\0\0\0\x10smhd\0\0\0\0\xff\xff\0\0";
+
+#[test]
+fn a_box_of_an_unread_type_is_skipped(rt: HostRuntime) -> Result<(), Fail> {
+    let two = b"\0\0\0\x10mfhd\0\0\0\0\0\0\0\x01\0\0\0\x10smhd\0\0\0\0\xff\xff\0\0";
+    expect_list(rt.alloc(), &THREE, two)?;
+    Ok(())
+}
+
+#[test]
+fn a_list_is_cut(rt: HostRuntime) -> Result<(), Fail> {
+    let alloc = rt.alloc();
+    expect_list(alloc, &THREE[..24], &MFHD)
+        .and(expect_list(alloc, &THREE[..16], &MFHD))
+        .and(expect_list_kind(alloc, &THREE[..17], Kind::End))
+        .and(expect_list(alloc, &THREE[..0], b""))?;
+    Ok(())
+}
+
+/// Appends two boxes as a list to a vector of a 9. Returns the kind of the outcome, and whether the vector is as before.
+fn append_two<B: StreamBox>(alloc: Global, first: B, last: B) -> Result<(Kind, bool), Error> {
+    let mut out = [9].to_vec(alloc)?;
+    let outcome = write_boxes(&[first, last], &mut out);
+    Ok((kind_of(&outcome), out.as_slice() == [9].as_slice()))
+}
+
+#[test]
+fn a_list_of_an_unwritable_box_is_not_written(rt: HostRuntime) -> Result<(), Fail> {
+    let (first, last) = (
+        AnyBox::MfhdBox(mfhd()),
+        AnyBox::MehdBox(mehd_short(1 << 32)),
+    );
+    assert_eq!(rt; append_two(rt.alloc(), first, last)?, (Kind::Invalid, true));
+    let none: [AnyBox; 0] = [];
+    let mut out = [9].to_vec(rt.alloc())?;
+    assert_eq!(rt; write_boxes(&none, &mut out)?, 0);
+    assert_eq!(rt; out.as_slice(), [9].as_slice());
+    Ok(())
+}
+
+#[test]
+fn a_size_of_zero_goes_to_the_end(rt: HostRuntime) -> Result<(), Fail> {
+    let alloc = rt.alloc();
+    let ftyp = b"\0\0\0\x18ftypisom\0\0\x02\0isommp41";
+    let two = b"\0\0\0\x18ftypisom\0\0\x02\0isommp41\0\0\0\0mdat\x01\x02\x03";
+    expect_list(alloc, b"\0\0\0\0mfhd\0\0\0\0\0\0\0\x01", &MFHD)
+        .and(expect_list(
+            alloc,
+            b"\0\0\0\x01mfhd\0\0\0\0\0\0\0\0\0\0\0\0\0\0\0\x01",
+            &MFHD,
+        ))
+        .and(expect_list(alloc, two, ftyp))?;
+    Ok(())
+}
+
+#[test]
+fn sizes_that_are_invalid(rt: HostRuntime) -> Result<(), Fail> {
+    let alloc = rt.alloc();
+    expect_list_kind(
+        alloc,
+        b"\0\0\0\0stco\0\0\0\0\0\0\0\x02\0\0\x01\x0b",
+        Kind::Invalid,
+    )
+    .and(expect_list_kind(alloc, b"\0\0\0\x02free", Kind::Invalid))?;
+    Ok(())
+}

@@ -1,0 +1,62 @@
+//! `stsc`: the first samples of chunks, which are computed when a box is read, and ignored when it is written.
+
+use mp4_fixtures::boxes::tables::{chunk_run, stsc_of};
+use mp4_fixtures::helpers::{Kind, expect_kind};
+use mp4_fixtures::made;
+use mp4_stream::StscBox;
+use std::test::Fail;
+
+/// Two runs of chunks of one size, which begin at the chunks 1 and 19026.
+const TWO_RUNS: [u8; 40] = *b"\0\0\0\x28stsc\0\0\0\0\0\0\0\x02\0\0\0\x01\0\0\0\x01\0\0\0\x01\
+\0\0\x4a\x52\0\0\0\x0e\0\0\0\x01";
+
+#[test]
+fn first_samples_are_computed(rt: HostRuntime) -> Result<(), Fail> {
+    let alloc = rt.alloc();
+    let two = [chunk_run(1, 1, 1), chunk_run(19026, 14, 19026)];
+    let last = [chunk_run(1, 4294967294, 1), chunk_run(2, 1, 4294967295)];
+    made::round_trip(alloc, stsc_of(alloc, &two), &TWO_RUNS).and(made::round_trip(
+        alloc,
+        stsc_of(alloc, &last),
+        b"\0\0\0\x28stsc\0\0\0\0\0\0\0\x02\0\0\0\x01\xff\xff\xff\xfe\0\0\0\x01\0\0\0\x02\0\0\0\x01\0\0\0\x01",
+    ))?;
+    Ok(())
+}
+
+#[test]
+fn first_samples_past_32_bits_and_chunks_out_of_order(rt: HostRuntime) -> Result<(), Fail> {
+    let alloc = rt.alloc();
+    let past =
+        b"\0\0\0\x28stsc\0\0\0\0\0\0\0\x02\0\0\0\x01\xff\xff\xff\xff\0\0\0\x01\0\0\0\x02\0\0\0\x01\0\0\0\x01";
+    let back =
+        b"\0\0\0\x28stsc\0\0\0\0\0\0\0\x02\0\0\0\x02\0\0\0\x01\0\0\0\x01\0\0\0\x01\0\0\0\x01\0\0\0\x01";
+    expect_kind::<StscBox>(alloc, past, 40, Kind::Invalid)
+        .and(expect_kind::<StscBox>(alloc, back, 40, Kind::Invalid))
+        .and(expect_kind::<StscBox>(alloc, &back[..39], 40, Kind::End))?;
+    let past = [chunk_run(1, 4294967295, 1), chunk_run(2, 1, 1)];
+    let back = [chunk_run(2, 1, 1), chunk_run(1, 1, 1)];
+    made::unwritable(alloc, stsc_of(alloc, &past)).and(made::unwritable(
+        alloc,
+        stsc_of(alloc, &back),
+    ))?;
+    Ok(())
+}
+
+#[test]
+fn first_samples_are_not_written(rt: HostRuntime) -> Result<(), Fail> {
+    let alloc = rt.alloc();
+    let nine = [chunk_run(1, 1, 9), chunk_run(19026, 14, 9)];
+    let two = [chunk_run(1, 1, 1), chunk_run(19026, 14, 19026)];
+    made::normal_form(
+        alloc,
+        stsc_of(alloc, &nine),
+        stsc_of(alloc, &two),
+        &TWO_RUNS,
+    )
+    .and(made::round_trip(
+        alloc,
+        Ok(StscBox::default_in(alloc)),
+        b"\0\0\0\x10stsc\0\0\0\0\0\0\0\0",
+    ))?;
+    Ok(())
+}

@@ -1,0 +1,103 @@
+//! Calls of the codec that never ask for memory.
+
+use crate::refused_memory::Ending;
+use mp4_fixtures::vectors::Vector;
+use mp4_stream::{AnyBox, BoxHeader, ByteCursor, Error, StreamBox, read_boxes};
+use std::alloc::Global;
+
+/// Boxes that are read without memory for their lists and strings: runs without fields and samples of one size,
+/// however many; a reference and a configuration that hold nothing.
+const WITHOUT_MEMORY: [&[u8]; 4] = [
+    b"\0\0\0\x10trun\0\0\0\0\xff\xff\xff\xff",
+    b"\0\0\0\x14stsz\0\0\0\0\0\0\x01\x0b\xff\xff\xff\xff",
+    b"\0\0\0\x0curl \0\0\0\x01",
+    b"\0\0\0\x0favcC\x01\x64\0\x0d\xff\xe0\0",
+];
+
+/// The codes of the types whose boxes are all read without memory.
+const CODES_WITHOUT_MEMORY: [&[u8]; 16] = [
+    b"mvhd", b"tkhd", b"mehd", b"mfhd", b"smhd", b"vmhd", b"trex", b"tfdt", b"tfhd", b"hvcC",
+    b"hev1", b"vpcC", b"vp09", b"tx3g", b"esds", b"mp4a",
+];
+
+/// Whether a vector is of a type whose boxes are all read without memory.
+fn asks_no_memory(bytes: &[u8]) -> bool {
+    let code = bytes.get(4..8);
+    CODES_WITHOUT_MEMORY
+        .iter()
+        .any(|other| code == Some(*other))
+}
+
+fn read_one(alloc: Global, bytes: &[u8]) -> mp4_stream::Result<AnyBox> {
+    let mut reader = ByteCursor::new(bytes);
+    let header = BoxHeader::read(&mut reader)?;
+    if !AnyBox::knows(header.name) {
+        return Err(Error::BoxNotFound(header.name));
+    }
+    AnyBox::read_named(alloc, header.name, &mut reader, header.size)
+}
+
+/// Streams that are invalid data before memory is asked for: a size of 2, a version that `mvhd` does not have, and counts of
+/// two rows where there is room for one.
+const INVALID: [&[u8]; 5] = [
+    b"\0\0\0\x02free",
+    b"\0\0\0\x0cmvhd\x02\0\0\0",
+    b"\0\0\0\x14stco\0\0\0\0\0\0\0\x02\0\0\x01\x0b",
+    b"\0\0\0\x18stsz\0\0\0\0\0\0\0\0\0\0\0\x02\0\0\x04\x8d",
+    b"\0\0\0\x14trun\0\0\x01\0\0\0\0\x02\0\0\x04\0",
+];
+
+/// An `avcC` whose count is one set, and which ends within the length of that set: end of input.
+const NO_SET: &[u8] = b"\0\0\0\x0favcC\x01\x64\0\x0d\xff\xe1\0";
+
+fn is_invalid(alloc: Global, bytes: &[u8]) -> bool {
+    let outcome = read_boxes(alloc, &mut ByteCursor::new(bytes));
+    matches!(outcome, Err(Error::InvalidData(_)))
+}
+
+fn is_end(alloc: Global, bytes: &[u8]) -> bool {
+    let outcome = read_boxes(alloc, &mut ByteCursor::new(bytes));
+    matches!(outcome, Err(Error::IoError))
+}
+
+fn is_skipped(alloc: Global, bytes: &[u8]) -> bool {
+    match read_boxes(alloc, &mut ByteCursor::new(bytes)) {
+        Ok(found) => found.is_empty(),
+        Err(_error) => false,
+    }
+}
+
+/// Reads streams that never ask for memory: a box that is skipped, and streams that have a fault first.
+pub fn read_lists_without_memory(alloc: Global) -> Result<(), Ending> {
+    if is_skipped(alloc, b"\0\0\0\x08free")
+        && INVALID.iter().all(|bytes| is_invalid(alloc, bytes))
+        && is_end(alloc, NO_SET)
+    {
+        Ok(())
+    } else {
+        Err(Ending::Wrong)
+    }
+}
+
+/// Reads boxes that never ask for memory: also where every request is refused.
+pub fn read_without_memory(alloc: Global) -> Result<(), Ending> {
+    if WITHOUT_MEMORY
+        .iter()
+        .any(|bytes| read_one(alloc, bytes).is_err())
+    {
+        Err(Ending::Wrong)
+    } else {
+        Ok(())
+    }
+}
+
+/// Reads the vectors of the types that never ask for memory.
+pub fn read_vectors_without_memory<V: Vector>(alloc: Global, vectors: &[V]) -> Result<(), Ending> {
+    for vector in vectors {
+        let bytes = vector.bytes();
+        if asks_no_memory(bytes) && read_one(alloc, bytes).is_err() {
+            return Err(Ending::Wrong);
+        }
+    }
+    Ok(())
+}
