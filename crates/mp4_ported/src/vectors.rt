@@ -8,7 +8,7 @@ use mp4_stream::{AnyBox, HvcCBox, Result, TrunBox};
 use std::alloc::Global;
 
 /// A vector, by the type of its box.
-#[derive(Clone, Copy, Debug, PartialEq, Eq)]
+#[derive(Clone, Copy, Debug)]
 pub enum First {
     Mvhd,
     Tkhd,
