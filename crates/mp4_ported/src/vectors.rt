@@ -166,7 +166,7 @@ impl Vector for First {
             First::Hev1 => AnyBox::Hev1Box(entries::hev1_of_config()),
             First::Vp09 => AnyBox::Vp09Box(entries::vp09_of_config()),
             First::Mp4a => AnyBox::Mp4aBox(sound::mp4a_of_test()),
-            First::Stsd => AnyBox::StsdBox(sound::stsd_of(sound::mp4a_of_test())),
+            First::Stsd => AnyBox::StsdBox(sound::stsd_of(alloc, sound::mp4a_of_test())),
             First::Esds => AnyBox::EsdsBox(sound::esds_of_test()),
         })
     }

@@ -5,6 +5,7 @@ use mp4_stream::{
     DecoderConfigDescriptor, DecoderSpecificDescriptor, ESDescriptor, EsdsBox, FixedPointU16,
     Mp4aBox, SLConfigDescriptor, StsdBox,
 };
+use std::alloc::Global;
 
 /// `esds`, version 0x81: every field has another value, and a sampling rate is written out.
 pub const ESDS: [u8; 43] = [
@@ -168,9 +169,9 @@ pub fn mp4a_of_test() -> Mp4aBox {
 }
 
 /// `stsd`, version 0: a sample description with this entry of audio alone.
-pub fn stsd_of(mp4a: Mp4aBox) -> StsdBox {
+pub fn stsd_of(alloc: Global, mp4a: Mp4aBox) -> StsdBox {
     StsdBox {
         mp4a: Some(mp4a),
-        ..StsdBox::default()
+        ..StsdBox::default_in(alloc)
     }
 }

@@ -259,8 +259,8 @@ fn sizes_of_stsd_and_esds(rt: HostRuntime) -> Result<(), Fail> {
     expect_values(
         alloc,
         &STSD_OF_TEST,
-        &StsdBox::default(),
-        &stsd_of(mp4a_of_test()),
+        &StsdBox::default_in(alloc),
+        &stsd_of(alloc, mp4a_of_test()),
     )
     .and(expect_values(alloc, &STSD, &without, &stsd()))
     .and(expect_kinds::<EsdsBox>(alloc, &ESDS_OF_TEST, Kind::Invalid, Kind::End))

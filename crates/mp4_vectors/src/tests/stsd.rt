@@ -10,7 +10,7 @@ use std::test::Fail;
 
 #[test]
 fn stsd_without_an_entry(rt: HostRuntime) -> Result<(), Fail> {
-    let none = StsdBox::default();
+    let none = StsdBox::default_in(rt.alloc());
     let alone = b"\0\0\0\x10stsd\0\0\0\0\0\0\0\0";
     let followed = b"\0\0\0\x10stsd\0\0\0\0\0\0\0\0\
 \0\0\0\x24mp4a\0\0\0\0\0\0\0\x01\0\0\0\0\0\0\0\0\0\x02\0\x10\0\0\0\0\xbb\x80\0\0";
@@ -38,7 +38,7 @@ fn stsd_of_video_and(alloc: Global, mp4a: Option<Mp4aBox>) -> Result<StsdBox, Er
     Ok(StsdBox {
         avc1: Some(avc1_of_two(alloc, 3)?),
         mp4a,
-        ..StsdBox::default()
+        ..StsdBox::default_in(alloc)
     })
 }
 
