@@ -1,5 +1,5 @@
-"""Rows: bytes, and what is read of them. A module has the tests of one subject. A test is a generator function without
-parameters; it gives rows, and their name is that of the module and its own."""
+"""Rows: bytes, and what is read of them. A module has the tests of one box, or those of headers and lists. A test is a
+generator function without parameters; it gives rows, and their name is that of the module and its own."""
 
 import importlib
 import inspect
