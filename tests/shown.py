@@ -9,11 +9,14 @@ from inputs import TOP
 
 WORD = re.compile(r"-?\w+")
 CODE = re.compile(r"(.{1,4}?) / 0x([0-9A-F]{8})", re.S)
+NUMBERS = re.compile(r"(\d+(?:, \d+)*)[\])]")
 STRING = re.compile(r'"((?:[^"\\]|\\.)*)"', re.S)
 ESCAPE = re.compile(r"\\(?:u\{(\w+)\}|(.))")
 LETTERS = {"0": "\0", "n": "\n", "r": "\r", "t": "\t"}
 FAULTS = {"InvalidData": "Invalid", "BoxNotFound": "NotFound"}
 CODES = {"major_brand", "compatible_brands", "handler_type"}
+# How many texts are printed for an input.
+TEXTS = 7
 
 
 def names():
@@ -46,6 +49,10 @@ class Printed:
         return found
 
     def values(self, end):
+        numbers = NUMBERS.match(self.text, self.at)
+        if numbers:
+            self.at = numbers.end()
+            return [int(it) for it in numbers[1].split(", ")]
         found = []
         while not self.take(end):
             found.append(self.value())
@@ -103,8 +110,13 @@ def unescaped(found):
 
 
 def named(box):
-    """A box with its code in the place of its name."""
-    return None if box is None else (NAMES[box[0]], box[1])
+    """A box with its code in the place of its name. A kept box of no type of its own is named `other`."""
+    if box is None:
+        return None
+    if box[0] == "Other":
+        return "other", box[1]
+    name, fields = box[1] if box[0] == "Any" else box
+    return NAMES[name], fields
 
 
 def fault_of(error):
@@ -146,7 +158,7 @@ def counted_of(text):
 
 
 def shown(program, inputs):
-    """The texts that the program prints for inputs, each a position and bytes: four for each."""
+    """The texts that the program prints for inputs, each a position and bytes: `TEXTS` for each."""
     records = b"".join(at.to_bytes(8, "big") + len(buffer).to_bytes(8, "big") + buffer for at, buffer in inputs)
     out = subprocess.run([program], input=records, stdout=subprocess.PIPE, check=True).stdout
     texts, at = [], 0
@@ -154,9 +166,9 @@ def shown(program, inputs):
         end = at + 8 + int.from_bytes(out[at:at + 8], "big")
         texts.append(out[at + 8:end].decode("utf-8"))
         at = end
-    if len(texts) != 4 * len(inputs):
+    if len(texts) != TEXTS * len(inputs):
         raise ValueError(f"{len(texts)} texts for {len(inputs)} inputs")
-    return [texts[at:at + 4] for at in range(0, len(texts), 4)]
+    return [texts[at:at + TEXTS] for at in range(0, len(texts), TEXTS)]
 
 
 def built(script, program="mp4_show"):

@@ -1,10 +1,11 @@
 """Reads boxes slowly and plainly, by docs/LAYOUT.md alone: a second reader to compare the codec with.
 
 A box is a dictionary of its fields, under the names of the struct. Codes and fixed-point numbers are raw numbers, a
-missing option is None, and a value of an enum is its name. `read_box` reads one box, and `read_boxes` a list of boxes.
+missing option is None, and a value of an enum is its name. `read_box` reads one box, and `read_boxes` a list of boxes,
+of which boxes of other types are kept or skipped.
 """
 
-from functools import partial
+from functools import lru_cache, partial
 
 from slow_fields import FIXED, FULL, TABLES, Fault, Header, Row, check, counted, fixed, ftyp, read_fields, stsz, table
 from slow_fields import tfhd, trun
@@ -260,27 +261,43 @@ def read_row(buffer, header):
     return READERS[header.name](Row(buffer, header.start, header.size))
 
 
-def read_box(buffer, position):
-    """Reads the box whose header is at a position. Returns a pair of its name and value, or None if the name isn't
-    known, or the first fault; and the position of the cursor after it."""
+def other(row, code):
+    """A box of a type without a table: its code, and its bytes."""
+    check(row.size >= 8, "box size too small")
+    return {"code": code, "content": list(row.piece(8, row.size - 8))}
+
+
+@lru_cache(64)
+def outcome(buffer, name, start, size):
+    """The box of this header, or its first fault. The same box is read alone and in a list, so it is kept for a while."""
+    try:
+        row = Row(buffer, start, size)
+        if name in READERS:
+            return name, READERS[name](row)
+        return "other", other(row, int.from_bytes(name.encode("latin-1"), "big"))
+    except Fault as fault:
+        return fault
+
+
+def read_box(buffer, position, keep=False):
+    """Reads the box whose header is at a position. Returns a pair of its name and value, or the first fault; None if
+    its name has no table and other boxes aren't kept; and the position of the cursor after it."""
     try:
         header = Header(buffer, position)
     except Fault as fault:
         return fault, position
-    after = header.start + 8
-    if header.name not in READERS:
-        return None, after
-    try:
-        value = read_row(buffer, header)
-    except Fault as fault:
-        return fault, after
+    if header.name not in READERS and not keep:
+        return None, header.start + 8
+    found = outcome(buffer, header.name, header.start, header.size)
+    if isinstance(found, Fault):
+        return found, header.start + 8
     size = 36 if header.name == "mp4a" and header.size < 36 else header.size
-    return (header.name, value), header.start + size
+    return found, header.start + size
 
 
-def read_boxes(buffer, position):
+def read_boxes(buffer, position, keep=False):
     """Reads the boxes from a position on. Returns the list of their names and values, or the first fault; and the
-    position of the cursor after it."""
+    position of the cursor after it. Boxes whose name has no table are kept or skipped."""
     boxes, at = [], position
     try:
         while at < len(buffer):
@@ -292,8 +309,11 @@ def read_boxes(buffer, position):
                 check(header.start + header.size <= 2**64 - 1, "box end past 64 bits")
                 if header.start + header.size > len(buffer):
                     raise Fault("End")
-            if header.name in READERS:
-                boxes.append((header.name, read_row(buffer, header)))
+            if header.name in READERS or keep:
+                found = outcome(buffer, header.name, header.start, header.size)
+                if isinstance(found, Fault):
+                    raise found
+                boxes.append(found)
             at = header.start + header.size
     except Fault as fault:
         return fault, position

@@ -31,3 +31,39 @@ def few_bytes():
 
 def text_of_another_type():
     yield listed(box(b"data", u32(9, 0)), INVALID_TYPE)
+
+
+UNKNOWN = invalid("invalid data type")
+TYPES = {0: "Binary", 1: "Text", 13: "Image", 21: "TempoCpil"}
+
+
+def data_type_has_32_bits():
+    """A type of the table with one bit more is none, and neither is the number of a type in other bytes."""
+    for number, name in TYPES.items():
+        yield one(box(b"data", u32(number, 0)), data(name, b""))
+        for bit in range(8, 32):
+            yield one(box(b"data", u32(number | 1 << bit, 0)), UNKNOWN)
+        for shift in (8, 16, 24):
+            if number:
+                yield one(box(b"data", u32(number << shift, 0)), UNKNOWN)
+    yield one(box(b"data", u32(0x01000001, 0)), UNKNOWN)
+    yield one(box(b"data", u32(0x0100000D, 0)), UNKNOWN)
+
+
+def every_other_type_of_a_byte_is_unknown():
+    for number in range(256):
+        if number not in TYPES:
+            yield one(box(b"data", u32(number, 0)), UNKNOWN)
+
+
+def reserved_bytes_come_before_the_size():
+    for size in (8, 11, 12, 15):
+        for length in range(8):
+            yield one(box(b"data", u32(1, 0)[:length], size=size), END)
+        yield one(box(b"data", u32(1, 0), size=size), TOO_SMALL)
+
+
+def type_comes_before_the_reserved_bytes():
+    for size in (8, 12, 15, 16):
+        yield one(box(b"data", u32(2), size=size), UNKNOWN)
+        yield one(box(b"data", u32(2)[:3], size=size), END)

@@ -2,7 +2,7 @@
 that end before or after the bytes that are read of them."""
 
 from rows_of.making import (
-    CHILD_TOO_SMALL, END, LARGE_TOO_SMALL, LARGEST, NO_DREF, PAST_64_BITS, box, changed, counting, full, large,
+    CHILD_TOO_SMALL, END, LARGEST, LARGE_TOO_SMALL, NO_DREF, PAST_64_BITS, box, changed, counting, full, large,
     larger_child, listed, one, resized, round_trip, u32,
 )
 from rows_of.values import DINF_URL, dinf, dref, full_box, url
@@ -121,3 +121,18 @@ def references_past_the_buffer():
         (free, 25, END),
     ]:
         yield one(dinf_bytes(children, size), expected)
+
+
+LAST = full(b"dref", u32(0), flags=2)
+
+
+def last_of_twenty_boxes_is_kept():
+    for child in (box(b"free"), full(b"url ", flags=1), full(b"dref", u32(0), flags=1)):
+        yield one(box(b"dinf", *[child] * 19, LAST), dinf(dref(None, flags=2)))
+
+
+def references_among_thousands_of_boxes():
+    many = [box(b"free")] * 3000
+    yield one(box(b"dinf", *many, LAST), dinf(dref(None, flags=2)))
+    yield one(box(b"dinf", LAST, *many), dinf(dref(None, flags=2)))
+    yield one(box(b"dinf", *many), NO_DREF)

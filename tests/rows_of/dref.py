@@ -2,7 +2,7 @@
 box or past the buffer, and that end before or after the bytes that are read of them."""
 
 from rows_of.making import (
-    CHILD_TOO_SMALL, END, LARGE_TOO_SMALL, LARGEST, PAST_64_BITS, box, changed, counting, full, large, larger_child,
+    CHILD_TOO_SMALL, END, LARGEST, LARGE_TOO_SMALL, PAST_64_BITS, box, changed, counting, full, large, larger_child,
     listed, one, round_trip, u32,
 )
 from rows_of.values import DREF_URL, dref, full_box, url
@@ -141,3 +141,33 @@ def wrong_sizes_of_entries():
         (37, 255, dref(url(location="bcd"))),
     ]:
         yield one(changed(ENTRIES, {at: byte}), expected)
+
+
+MANY = 3000
+
+
+def references(count, *children):
+    """A `dref` of this count and these children."""
+    return full(b"dref", u32(count), *children)
+
+
+def last_of_twenty_entries_is_kept():
+    last = full(b"url ", b"last\0", flags=2)
+    for child in (box(b"urn "), full(b"url ", flags=1), full(b"url ", b"other\0")):
+        yield one(references(20, *[child] * 19, last), dref(url(flags=2, location="last")))
+
+
+def last_of_thousands_of_entries_is_kept():
+    """All of them have a location of their own."""
+    urls = [full(b"url ", b"%d\0" % number) for number in range(MANY)]
+    yield one(references(MANY, *urls), dref(url(location=str(MANY - 1))))
+    yield one(references(MANY - 1, *urls), dref(url(location=str(MANY - 2))))
+    yield one(references(MANY, *[box(b"urn ")] * (MANY - 1), full(b"url ", flags=7)), dref(url(flags=7)))
+
+
+def entry_count_has_32_bits():
+    """With all but one of its bits 0 the count is still of more entries than the two that are there."""
+    children = [full(b"url ", flags=1), full(b"url ", flags=2)]
+    for bit in range(1, 32):
+        yield one(references(1 << bit, *children), dref(url(flags=2)))
+    yield one(references(1, *children), dref(url(flags=1)))

@@ -6,7 +6,7 @@ from rows_of.entry_values import (
     AUDIO_CONFIGURATIONS, ESDS, ESDS_VALUE, config, esds, esds_bytes, esds_bytes_of, esds_of, specific,
 )
 from rows_of.making import (
-    END, LARGEST, PAST_64_BITS, box, changed, counting, invalid, large, one, resized, round_trip, u8, u16, u24, u32,
+    END, LARGEST, PAST_64_BITS, box, changed, counting, invalid, large, one, resized, round_trip, u16, u24, u32, u8,
     written_as,
 )
 
@@ -284,3 +284,67 @@ def cut_audio_configurations():
         given = esds_bytes_of(1, 128000, content)
         for length in range(34, 34 + len(content)):
             yield one(given[:length], END)
+
+
+MANY = 3000
+GAP = b"\7\0"
+DECODER = b"\x41\x15" + bytes(11)
+AUDIO = b"\5\2\x11\x90"
+WITH_CONFIG = esds(1, config(0x41, 5))
+WITH_AUDIO = esds(1, config(0x41, 5, dec_specific=specific(2, 3, None, 2)))
+
+
+def described(tag, content):
+    """A descriptor, with its length in two bytes."""
+    return bytes([tag, 0x80 | len(content) >> 7, len(content) & 0x7F]) + content
+
+
+def stream(es_id, *descriptors):
+    """An elementary stream descriptor."""
+    return described(3, u16(es_id) + b"\0" + b"".join(descriptors))
+
+
+def last_of_thousands_of_streams_is_kept():
+    streams = [stream(number) for number in range(MANY)]
+    yield one(esds_bytes(*streams), esds(MANY - 1), headers=MANY)
+    yield one(esds_bytes(*streams, GAP, stream(7)), esds(MANY - 1), headers=MANY + 1)
+
+
+def thousands_of_gaps_in_a_stream():
+    yield one(esds_bytes(stream(1, GAP * MANY, described(4, DECODER))), WITH_CONFIG, headers=MANY + 2)
+
+
+def thousands_of_gaps_in_a_decoder_configuration():
+    configured = described(4, DECODER + GAP * MANY + AUDIO)
+    yield one(esds_bytes(stream(1, configured)), WITH_AUDIO, headers=MANY + 3)
+
+
+def last_of_thousands_of_configurations_is_kept():
+    """Each of them is 16 bytes long, so that a thousand are as many as a length of two bytes says."""
+    first = described(4, b"\x40" + bytes(12)) * 999
+    yield one(esds_bytes(stream(1, first, described(4, DECODER))), WITH_CONFIG, headers=1001)
+    audio = b"\5\2\x19\x90" * MANY + AUDIO
+    yield one(esds_bytes(stream(1, described(4, DECODER + audio))), WITH_AUDIO, headers=MANY + 3)
+
+
+def sync_layer_configuration_has_a_byte_whatever_its_length():
+    """The descriptor after the byte is read, also where the length goes past it or past the end."""
+    for length in (0, 1, 2, 3, 15, 16, 17, 18, 100, 127):
+        layers = bytes([6, length, 2])
+        yield one(esds_bytes(stream(1, layers, described(4, DECODER))), WITH_CONFIG, headers=3)
+        yield one(esds_bytes(stream(1, layers, layers, described(4, DECODER), layers)), WITH_CONFIG, headers=5)
+
+
+def every_other_tag_is_a_gap():
+    for tag in range(256):
+        gap = bytes([tag, 2, 0xFF, 0xFF])
+        if tag not in (4, 6):
+            yield one(esds_bytes(stream(1, gap, described(4, DECODER))), WITH_CONFIG, headers=3)
+        if tag != 5:
+            yield one(esds_bytes(stream(1, described(4, DECODER + gap + AUDIO))), WITH_AUDIO, headers=4)
+
+
+def every_other_tag_ends_the_streams():
+    for tag in range(256):
+        if tag != 3:
+            yield one(esds_bytes(stream(1), bytes([tag, 0]), stream(2)), esds(1), headers=2)

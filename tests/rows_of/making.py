@@ -11,15 +11,16 @@ END = ("End",)
 NO_DREF = ("NotFound", "dref")
 
 # The bytes of a buffer and a position, and what is expected there: as one box and as a list of boxes, each an outcome
-# and the position of the cursor; the bytes that the list is written in; and how many headers of descriptors are read.
-# What is None isn't looked at.
-Row = collections.namedtuple("Row", "buffer at box boxes written headers", defaults=[0, None, None, None, None])
+# and the position of the cursor; the bytes that the list is written in; the same three of boxes that are kept; and how
+# many headers of descriptors are read. What is None isn't looked at.
+FIELDS = "buffer at box boxes written kept_box kept_boxes kept_written headers"
+Row = collections.namedtuple("Row", FIELDS, defaults=[0, *[None] * 7])
 
 
 class Box(dict):
     """A box that is expected: its code, and its fields by their names in the struct."""
 
-    def __init__(self, code, **fields):
+    def __init__(self, code, /, **fields):
         super().__init__(fields)
         self.code = code
 
@@ -65,14 +66,17 @@ def cursor(buffer, at, expected):
 
 
 def one(buffer, expected, after=None, at=0, headers=None):
-    """The box whose header is at a position is read as this value or has this fault."""
+    """The box whose header is at a position is read as this value or has this fault, and is kept as the same."""
     position = cursor(buffer, at, expected) if after is None else after
-    return Row(buffer, at, box=(outcome(expected), position), headers=headers)
+    found = outcome(expected), position
+    return Row(buffer, at, box=found, kept_box=found, headers=headers)
 
 
-def listed(buffer, expected):
-    """The list of the boxes of a buffer is read as these values or has this fault."""
-    return Row(buffer, boxes=(outcome(expected), 0 if isinstance(expected, tuple) else len(buffer)))
+def listed(buffer, expected, kept_as=None):
+    """The list of the boxes of a buffer is read as these values or has this fault, and is kept as the same, or as these
+    values."""
+    found = outcome(expected), 0 if isinstance(expected, tuple) else len(buffer)
+    return Row(buffer, boxes=found, kept_boxes=found if kept_as is None else (outcome(kept_as), len(buffer)))
 
 
 def list_written_as(buffer, values, written, at=0):
@@ -81,9 +85,11 @@ def list_written_as(buffer, values, written, at=0):
 
 
 def written_as(buffer, value, written):
-    """A buffer of one box is read as the value, alone and as a list, and the list is written in these bytes."""
-    position = cursor(buffer, 0, value)
-    return Row(buffer, 0, (outcome(value), position), ([outcome(value)], len(buffer)), written)
+    """A buffer of one box is read as the value, alone and as a list, and the list is written in these bytes. It is kept
+    as the same."""
+    found = outcome(value), cursor(buffer, 0, value)
+    of_list = [outcome(value)], len(buffer)
+    return Row(buffer, 0, found, of_list, written, found, of_list, written)
 
 
 def round_trip(buffer, value):
@@ -131,6 +137,19 @@ def large_count(name, *numbers, version=0, flags=0, fault=None):
 def counting(first, last):
     """The bytes from the first to the last, each one more than the one before it."""
     return bytes(range(first, last + 1))
+
+
+def kept(buffer, expected, at=0):
+    """The box whose header is at a position is of no type of its own. It is kept as this value or has this fault."""
+    position = cursor(buffer, at, expected)
+    after_header = cursor(buffer, at, END)
+    return Row(buffer, at, box=(None, after_header), kept_box=(outcome(expected), position))
+
+
+def kept_list(buffer, expected, written=None):
+    """The boxes of a buffer are kept as these values, and written in these bytes, or have this fault."""
+    found = outcome(expected), 0 if isinstance(expected, tuple) else len(buffer)
+    return Row(buffer, kept_boxes=found, kept_written=written)
 
 
 def u8(*numbers):

@@ -2,7 +2,7 @@
 Swedish."""
 
 from rows_of.making import (
-    box, changed, counting, filled, full, round_trip, u8, u16, u32, u64, versions_above_1, written_as,
+    box, changed, counting, filled, full, one, round_trip, u16, u32, u64, u8, versions_above_1, written_as,
 )
 from rows_of.values import full_box
 
@@ -49,3 +49,21 @@ def times_of_64_bits():
     given = full(b"mdhd", u64(100, 200), u32(48000), u64(30439936), u16(5 << 10 | 14 << 5 | 7, 0), version=1)
     times = {"creation_time": 100, "modification_time": 200, "timescale": 48000, "duration": 30439936}
     yield round_trip(given, full_box("mdhd", 1, language="eng", **times))
+
+
+TIMES = {"creation_time": 1, "modification_time": 2, "timescale": 3, "duration": 4}
+
+
+def media_header(code):
+    """An `mdhd` of this code of a language."""
+    return full(b"mdhd", u32(*TIMES.values()), u16(code, 0))
+
+
+def every_letter_in_each_place():
+    """A letter is 0x60 and its five bits, also where that is no letter. The highest bit is read, and not written."""
+    for first in range(32):
+        letters = [first, (first + 11) % 32, (first + 22) % 32]
+        code = letters[0] << 10 | letters[1] << 5 | letters[2]
+        value = full_box("mdhd", language="".join(chr(0x60 + letter) for letter in letters), **TIMES)
+        yield one(media_header(code), value)
+        yield written_as(media_header(0x8000 | code), value, media_header(code))

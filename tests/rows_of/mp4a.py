@@ -1,13 +1,13 @@
 """`mp4a`, the sample entry of MPEG-4 audio: its sizes, and children. The bytes of the fields count up from 0x81."""
 
 from rows_of.entry_values import (
-    AUDIO_CONFIGURATIONS, ESDS, ESDS_VALUE, MP4A, MP4A_VALUE, MP4A_WITHOUT_ESDS, TEST_FIELDS, esds_bytes_of, esds_of,
-    mp4a, mp4a_bytes, specific,
+    AUDIO_CONFIGURATIONS, ESDS, ESDS_VALUE, MP4A, MP4A_VALUE, MP4A_WITHOUT_ESDS, TEST_FIELDS, esds_bytes_of,
+    esds_of, mp4a, mp4a_bytes, specific,
 )
-from rows_of.esds import COUNTED as COUNTED_ESDS, COUNTED_VALUE as COUNTED_ESDS_VALUE, NOT_FOUND
+from rows_of.esds import NOT_FOUND, COUNTED as COUNTED_ESDS, COUNTED_VALUE as COUNTED_ESDS_VALUE
 from rows_of.making import (
-    END, LARGE_TOO_SMALL, LARGEST, PAST_64_BITS, box, changed, counting, cuts, large, larger_child, listed, one,
-    resized, round_trip, written_as,
+    END, LARGEST, LARGE_TOO_SMALL, PAST_64_BITS, box, changed, counting, cuts, large, larger_child, listed, one,
+    resized, round_trip, u16, u32, written_as,
 )
 
 COUNTED = box(
@@ -146,3 +146,33 @@ def entry_that_ends_after_its_size():
 def list_of_an_entry_that_ends_after_its_size():
     yield listed(SHORT_MP4A[:36], END)
     yield listed(SHORT_MP4A, [NO_ESDS])
+
+
+def quicktime(version, *after):
+    """An `mp4a` of this version, with these bytes from 36 on."""
+    index, channels, sample_size, rate = TEST_FIELDS
+    head = bytes(6) + u16(index, version, 0) + bytes(4)
+    return box(b"mp4a", head, u16(channels, sample_size, 0, 0), u32(rate), *after)
+
+
+def version_is_ignored():
+    for version in (1, 2, 0xFFFF):
+        yield one(quicktime(version, ESDS), WITH_ESDS)
+        yield one(quicktime(version), NO_ESDS)
+
+
+def fields_of_version_1_are_read_as_a_child():
+    """They are samples a packet, and bytes a packet, a frame and a sample: of the child, its size, its code and 8 bytes
+    more."""
+    for version in (0, 1):
+        for fields, expected in [
+            ((1024, 1024, 2048, 2), larger_child("mp4a")),
+            ((16, 0, 0, 2), NO_ESDS),
+            ((0, 0, 0, 2), NO_ESDS),
+            # The two last fields are a size of 64 bits.
+            ((1, 1, 0, 2), LARGE_TOO_SMALL),
+            ((1, 1, 2, 2), larger_child("mp4a")),
+            ((1, 1, 0, 16), NO_ESDS),
+        ]:
+            yield one(quicktime(version, u32(*fields), ESDS), expected)
+        yield one(quicktime(version, u32(1, 1, 0)), END)

@@ -71,3 +71,35 @@ def first_samples_are_computed():
     yield one(back, OVERFLOW)
     yield one(back[:39], END)
     yield listed(back, OVERFLOW)
+
+
+MANY = 3000
+
+
+def runs(*given):
+    """A `stsc` of these runs: first chunk, and samples per chunk."""
+    return full(b"stsc", u32(len(given)), *(u32(*run, 1) for run in given))
+
+
+def samples_of_a_power_of_two():
+    """The first sample of the second run would be 1 and a power of two: modulo any smaller power it is 1."""
+    for power in range(32, 63):
+        gap = power // 2
+        yield one(runs((0, 1 << power - gap), (1 << gap, 1)), OVERFLOW)
+    yield one(runs((0, 2**32 - 1), (2**32 - 1, 1)), OVERFLOW)
+
+
+def samples_of_several_runs():
+    """Each run has fewer than 2^32 samples, and all together have a multiple of 2^40 and a few more."""
+    yield one(runs(*((number, 2**31) for number in range(513))), OVERFLOW)
+    yield one(runs((0, 2**32 - 1), (1, 1), (2, 1)), OVERFLOW)
+
+
+def samples_of_thousands_of_runs():
+    given = [(number, number % 5 + 1) for number in range(1, MANY + 1)]
+    samples = [1]
+    for _, count in given:
+        samples.append(samples[-1] + count)
+    value = stsc(*((*run, sample) for run, sample in zip(given, samples)))
+    yield round_trip(runs(*given), value)
+    yield one(runs(*given, (MANY - 1, 1)), OVERFLOW)

@@ -1,8 +1,9 @@
 """`stsd`, the sample descriptions: which entry is read, with counts, sizes and cuts."""
 
 from rows_of.entry_values import (
-    AVC1, AVC1_OF_TEST, AVC1_OF_TEST_VALUE, AVC1_VALUE, ESDS, HEV1, HEV1_VALUE, MP4A, MP4A_OF_TEST, MP4A_OF_TEST_VALUE,
-    MP4A_VALUE, MP4A_WITHOUT_ESDS, MP4A_WITHOUT_ESDS_VALUE, TX3G, TX3G_VALUE, VP09, VP09_VALUE, mp4a, stsd, stsd_bytes,
+    AVC1, AVC1_OF_TEST, AVC1_OF_TEST_VALUE, AVC1_VALUE, ESDS, HEV1, HEV1_VALUE, MP4A, MP4A_OF_TEST,
+    MP4A_OF_TEST_VALUE, MP4A_VALUE, MP4A_WITHOUT_ESDS, MP4A_WITHOUT_ESDS_VALUE, TX3G, TX3G_VALUE, VP09, VP09_VALUE,
+    mp4a, stsd, stsd_bytes,
 )
 from rows_of.making import (
     END, LARGEST, PAST_64_BITS, box, changed, counting, cuts, full, large, larger_child, one, round_trip, u32,
@@ -101,3 +102,49 @@ def entries_of_less_than_36_bytes():
     """An entry of less than 36 bytes has its fields all the same."""
     for size in (0, 7, 15, 16, 36):
         yield one(stsd_bytes(changed(MP4A_WITHOUT_ESDS, {3: size})), stsd(mp4a=MP4A_WITHOUT_ESDS_VALUE))
+
+
+ENTRIES = {
+    "avc1": (AVC1, AVC1_VALUE), "hev1": (HEV1, HEV1_VALUE), "vp09": (VP09, VP09_VALUE), "mp4a": (MP4A, MP4A_VALUE),
+    "tx3g": (TX3G, TX3G_VALUE),
+}
+
+
+def descriptions(*entries):
+    """A `stsd` of these entries, which it counts."""
+    return full(b"stsd", u32(len(entries)), *entries)
+
+
+def first_of_two_entries_is_read():
+    for name, (first, value) in ENTRIES.items():
+        for second, _ in ENTRIES.values():
+            yield one(descriptions(first, second), stsd(**{name: value}))
+            yield one(descriptions(first, *[second] * 20), stsd(**{name: value}))
+
+
+def entry_after_one_of_another_type_is_not_read():
+    others = [box(b"encv", AVC1[8:]), box(b"enca", MP4A[8:]), box(b"free"), large(b"free", b"12345678")]
+    for known, _ in ENTRIES.values():
+        for other in others:
+            yield one(descriptions(other, known), stsd())
+            yield one(descriptions(other, other, known), stsd())
+
+
+def entry_before_one_of_another_type_is_read():
+    for name, (known, value) in ENTRIES.items():
+        yield one(descriptions(known, box(b"encv", AVC1[8:])), stsd(**{name: value}))
+        # The next entry isn't looked at, whatever its size is.
+        yield one(descriptions(known, box(b"free", size=2**31)), stsd(**{name: value}))
+
+
+def entry_may_end_past_its_box():
+    """An entry is no larger than its box, and may end 16 bytes after it."""
+    for name, (entry, value) in ENTRIES.items():
+        for size in (len(entry), len(entry) + 1, len(entry) + 15, len(entry) + 16):
+            yield one(stsd_bytes(entry, size=size), stsd(**{name: value}))
+
+
+def entry_may_end_before_its_box():
+    for name, (entry, value) in ENTRIES.items():
+        for rest in (b"\0", bytes(7), bytes(100), b"\0\0\0\2free"):
+            yield one(full(b"stsd", u32(1), entry, rest), stsd(**{name: value}))

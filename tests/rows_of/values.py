@@ -18,6 +18,11 @@ def matrix(*numbers):
     return dict(zip("abucdvxyw", signed))
 
 
+def other(code, content=b""):
+    """A box of no type of its own, which is kept."""
+    return Box("other", code=number_of(code), content=list(content))
+
+
 def ftyp(major_brand, minor_version, compatible_brands):
     brands = [number_of(brand) for brand in compatible_brands]
     return Box("ftyp", major_brand=number_of(major_brand), minor_version=minor_version, compatible_brands=brands)

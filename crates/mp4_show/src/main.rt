@@ -1,17 +1,19 @@
 //! Reads records from standard input, and writes records to standard output that say what the codec reads in them.
 //! `tests/rows` compares these with what is expected, and `tests/differential` with what a second reader reads.
 //!
-//! A record of the input is a position, a number of bytes, and these bytes. It gives four records of the output, each a
+//! A record of the input is a position, a number of bytes, and these bytes. It gives seven records of the output, each a
 //! number of bytes and a text of these bytes. The first is what is read as the box whose header is at the position, if its
 //! name is known; the second, what is read as the list of the boxes from the position on: the result as `Debug` prints it,
 //! a space, and the cursor's position after the call. The third is what this list is written in: the result of the call,
-//! a space, and the list of the bytes; it is empty if there is no list. The fourth is what `read_counted` reads of the box,
-//! as the first, with a space and the number of headers after it; it is empty if the box isn't an `esds`. Numbers have 8
-//! bytes and are big-endian. The program ends at the first record that isn't whole.
+//! a space, and the list of the bytes; it is empty if there is no list. The next three are the same of boxes that are kept:
+//! as the first three, with `KeptBox` in the place of `AnyBox`. The last is what `read_counted` reads of the box, as the
+//! first, with a space and the number of headers after it; it is empty if the box isn't an `esds`. Numbers have 8 bytes
+//! and are big-endian. The program ends at the first record that isn't whole.
 #![tactic(auto)]
 
 use mp4_stream::{
-    AnyBox, BoxHeader, BoxType, ByteCursor, EsdsBox, StreamBox, read_boxes, write_boxes,
+    AnyBox, BoxHeader, BoxType, ByteCursor, EsdsBox, KeptBox, StreamBox, read_boxes, read_boxes_as,
+    write_boxes,
 };
 use std::alloc::{AllocError, Global};
 use std::fmt::Debug;
@@ -104,7 +106,7 @@ fn show_counted(
     push_record(&text, out)
 }
 
-/// Appends the four records of these bytes.
+/// Appends the seven records of these bytes.
 fn show_all(
     alloc: Global,
     position: u64,
@@ -117,6 +119,11 @@ fn show_all(
     reader.set_position(position);
     let found = read_boxes(alloc, &mut reader);
     show_list(alloc, &found, &reader, out)?;
+    reader.set_position(position);
+    show_box::<KeptBox>(alloc, &mut reader, out)?;
+    reader.set_position(position);
+    let kept = read_boxes_as::<KeptBox>(alloc, &mut reader);
+    show_list(alloc, &kept, &reader, out)?;
     reader.set_position(position);
     show_counted(alloc, &mut reader, out)
 }
