@@ -157,18 +157,27 @@ def counted_of(text):
     return (found, int(position)), int(headers)
 
 
-def shown(program, inputs):
-    """The texts that the program prints for inputs, each a position and bytes: `TEXTS` for each."""
-    records = b"".join(at.to_bytes(8, "big") + len(buffer).to_bytes(8, "big") + buffer for at, buffer in inputs)
-    out = subprocess.run([program], input=records, stdout=subprocess.PIPE, check=True).stdout
+def records(inputs):
+    """What the program reads of inputs, each a position and bytes."""
+    return b"".join(at.to_bytes(8, "big") + len(buffer).to_bytes(8, "big") + buffer for at, buffer in inputs)
+
+
+def texts_of(out, count):
+    """The texts at the front of what the program prints for so many inputs: `TEXTS` for each."""
     texts, at = [], 0
-    while at < len(out):
+    while at < len(out) and len(texts) < TEXTS * count:
         end = at + 8 + int.from_bytes(out[at:at + 8], "big")
         texts.append(out[at + 8:end].decode("utf-8"))
         at = end
-    if len(texts) != TEXTS * len(inputs):
-        raise ValueError(f"{len(texts)} texts for {len(inputs)} inputs")
+    if len(texts) != TEXTS * count:
+        raise ValueError(f"{len(texts)} texts for {count} inputs")
     return [texts[at:at + TEXTS] for at in range(0, len(texts), TEXTS)]
+
+
+def shown(program, inputs):
+    """The texts that the program prints for inputs."""
+    out = subprocess.run([program], input=records(inputs), stdout=subprocess.PIPE, check=True).stdout
+    return texts_of(out, len(inputs))
 
 
 def built(script, program="mp4_show"):

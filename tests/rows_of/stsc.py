@@ -73,7 +73,7 @@ def first_samples_are_computed():
     yield listed(back, OVERFLOW)
 
 
-MANY = 3000
+MANY = 1000
 
 
 def runs(*given):
@@ -95,7 +95,7 @@ def samples_of_several_runs():
     yield one(runs((0, 2**32 - 1), (1, 1), (2, 1)), OVERFLOW)
 
 
-def samples_of_thousands_of_runs():
+def samples_of_a_thousand_runs():
     given = [(number, number % 5 + 1) for number in range(1, MANY + 1)]
     samples = [1]
     for _, count in given:

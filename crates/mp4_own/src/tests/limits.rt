@@ -2,13 +2,15 @@
 
 use crate::tests::{LONG, SHORT, ending_of_write, is_in, long, outcome_of, read, short};
 use crate::{SidxBox, SidxEntry};
-use mp4_stream::Result as Made;
+use mp4_stream::{Result as Made, TryClone, WriteBox};
 use std::alloc::Global;
 use std::test::Fail;
 
 const TOO_MANY: &str = "sidx reference_count indicates more entries than could fit in the box";
 
 const UNFIT: &str = "value does not fit its field";
+
+const UNKNOWN: &str = "version must be 0 or 1";
 
 /// How reading the first `length` of these bytes ends, in a box of this size.
 fn ending_of_cut(alloc: Global, bytes: &[u8], length: usize, size: u64) -> &'static str {
@@ -33,6 +35,28 @@ fn a_size_that_is_a_byte_short(rt: HostRuntime) -> Result<(), Fail> {
     }
     for (size, ending) in [(75, TOO_MANY), (76, "ok")] {
         assert_eq!(rt; ending_of_cut(rt.alloc(), &LONG, 76, size), ending);
+    }
+    Ok(())
+}
+
+#[test]
+fn a_version_is_judged_once_its_flags_are_there(rt: HostRuntime) -> Result<(), Fail> {
+    let mut bytes = SHORT;
+    bytes[8] = 2;
+    for (length, ending) in [(8, "end"), (9, "end"), (11, "end"), (12, UNKNOWN)] {
+        assert_eq!(rt; ending_of_cut(rt.alloc(), &bytes, length, 68), ending);
+        assert_eq!(rt; ending_of_cut(rt.alloc(), &bytes, length, 8), ending);
+    }
+    Ok(())
+}
+
+#[test]
+fn a_size_that_is_smaller_than_the_fields(rt: HostRuntime) -> Result<(), Fail> {
+    let mut bytes = SHORT;
+    bytes[31] = 0;
+    for size in [0, 8, 12, 31, 32] {
+        assert_eq!(rt; ending_of_cut(rt.alloc(), &bytes, 32, size), "ok");
+        assert_eq!(rt; ending_of_cut(rt.alloc(), &bytes, 31, size), "end");
     }
     Ok(())
 }
@@ -180,5 +204,21 @@ fn more_references_than_can_be_counted(rt: HostRuntime) -> Result<(), Fail> {
     for (count, ending) in [(65535, "ok"), (65536, UNFIT)] {
         assert_eq!(rt; ending_of(alloc, index_of_zeros(alloc, count)), ending);
     }
+    Ok(())
+}
+
+/// Whether the box is read from the bytes that it is written in, and cloned.
+fn is_kept(alloc: Global, made: Made<SidxBox>) -> Made<bool> {
+    let sidx = made?;
+    let mut out = Vec::new(alloc);
+    let size = sidx.write_box(&mut out)?;
+    Ok(read(alloc, &out, size)? == sidx && sidx.try_clone()? == sidx)
+}
+
+#[test]
+fn many_references_are_read_and_cloned(rt: HostRuntime) -> Result<(), Fail> {
+    let alloc = rt.alloc();
+    assert!(rt; is_kept(alloc, index_of_zeros(alloc, 1000))?);
+    assert!(rt; is_kept(alloc, index_of_zeros(alloc, 65535))?);
     Ok(())
 }

@@ -25,6 +25,22 @@ fn letters_past_ascii_are_utf16_units(rt: HostRuntime) -> Result<(), Fail> {
 }
 
 #[test]
+fn only_five_bits_of_a_letter_are_written(rt: HostRuntime) -> Result<(), Fail> {
+    // A capital letter is 0x20 below the small one, and a digit 0x30 and its number.
+    for (language, code, letters) in [
+        ("SWE", 0x4ee5, "swe"),
+        ("Zul", 0x6aac, "zul"),
+        ("aBC", 0x0443, "abc"),
+        ("159", 0x46b9, "quy"),
+        ("@[~", 0x037e, "`{~"),
+    ] {
+        assert_eq!(rt; language_code(language), code, "{language}");
+        assert_eq!(rt; language_string(rt.alloc(), code)?.as_str(), letters);
+    }
+    Ok(())
+}
+
+#[test]
 fn missing_letters_are_zero(rt: HostRuntime) -> Result<(), Fail> {
     for (language, code) in [("", 0), ("s", 0x4c00), ("sw", 0x4ee0), ("swede", 0x4ee5)] {
         assert_eq!(rt; language_code(language), code, "{language}");

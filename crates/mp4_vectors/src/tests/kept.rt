@@ -10,7 +10,7 @@ use std::alloc::Global;
 use std::test::Fail;
 
 /// Reads all boxes of a buffer. Returns their number and the bytes that they are written in.
-fn rewrite(alloc: Global, bytes: &[u8]) -> Result<(usize, Vec<u8>), Error> {
+pub(super) fn rewrite(alloc: Global, bytes: &[u8]) -> Result<(usize, Vec<u8>), Error> {
     let boxes: Vec<KeptBox> = read_boxes_as(alloc, &mut ByteCursor::new(bytes))?;
     let mut out = Vec::new(alloc);
     write_boxes(&boxes, &mut out)?;

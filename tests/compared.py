@@ -1,0 +1,56 @@
+"""Compares what the program mp4_show prints of an input with what a row expects, and with what the slow reader finds."""
+
+from functools import partial
+
+from shown import counted_of, outcome_of, written_of
+from slow_reader import Fault, read_box, read_boxes
+
+# What each text of the program says, and how it is read.
+LOOKED_AT = ["one box", "the list", "written", "one kept box", "the kept list", "written as it was kept", "counted"]
+TEXTS = [outcome_of, outcome_of, written_of, outcome_of, outcome_of, written_of, counted_of]
+# What the slow reader does, and which text of the program says the same.
+CALLS = {
+    "box": (read_box, 0), "boxes": (read_boxes, 1),
+    "kept box": (partial(read_box, keep=True), 3), "kept boxes": (partial(read_boxes, keep=True), 4),
+}
+
+
+def parsed(read, text):
+    try:
+        return read(text)
+    except (ValueError, KeyError) as why:
+        return f"{why}: {text!r}"
+
+
+def differences(row, texts):
+    """What was found and differs from what a row expects: words, what was expected and what was found."""
+    counted = None if row.headers is None else (row.box, row.headers)
+    for words, expected, read, text in zip(LOOKED_AT, [*row[2:-1], counted], TEXTS, texts):
+        found = parsed(read, text) if expected is not None else None
+        if found != expected:
+            yield words, expected, found
+
+
+def outcome_by_layout(read, buffer, position):
+    """The value or the fault that the slow reader finds, and the position of the cursor."""
+    found, after = read(buffer, position)
+    return found.args if isinstance(found, Fault) else found, after
+
+
+def outcomes_by_layout(buffer, position):
+    """What the slow reader finds by each call."""
+    return {call: outcome_by_layout(read, buffer, position) for call, (read, _) in CALLS.items()}
+
+
+def otherwise(outcomes, texts):
+    """Where the codec found something else than the slow reader, or wrote a list in bytes in which the slow reader finds
+    another: the call, the codec's text, and what the slow reader found."""
+    for call, expected in outcomes.items():
+        read, number = CALLS[call]
+        if parsed(outcome_of, texts[number]) != expected:
+            yield call, texts[number], expected
+        if isinstance(expected[0], list):
+            written = parsed(written_of, texts[number + 1])
+            again = outcome_by_layout(read, written, 0)[0] if isinstance(written, bytes) else written
+            if again != expected[0]:
+                yield "written, " + call, texts[number + 1], expected

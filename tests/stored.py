@@ -1,0 +1,26 @@
+"""The stored files of tests/dump_of and their dumps."""
+
+import glob
+import os
+import re
+
+FILES = os.path.join(os.path.dirname(os.path.abspath(__file__)), "dump_of")
+
+
+def stored_names():
+    """The names of the stored files."""
+    return sorted(os.path.basename(path)[:-4] for path in glob.glob(os.path.join(FILES, "*.hex")))
+
+
+def stored(name):
+    """The bytes of a stored file: hexadecimal digits, texts between quotes, and comments."""
+    with open(os.path.join(FILES, name + ".hex"), encoding="utf-8") as file:
+        text = re.sub("#.*", "", file.read())
+    pieces = re.findall(r"'[^']*'|\S+", text)
+    return b"".join(piece[1:-1].encode() if piece[0] == "'" else bytes.fromhex(piece) for piece in pieces)
+
+
+def stored_dump(name):
+    """The text of its dump."""
+    with open(os.path.join(FILES, name + ".dump"), encoding="utf-8") as file:
+        return file.read()
