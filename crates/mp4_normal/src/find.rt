@@ -1,0 +1,160 @@
+//! The first walk over a stream: what changes in it.
+
+ghost use Rattle.std.specs.Prelude.{◌≡◌, ◌+◌, ◌<◌, ◌≤◌, ◌^◌, ◌++◌, ◌∷◌, [], false, length, IsTrue, MatchResult, OnOk, IfErr, IfOk};
+ghost use Rattle.mp4_frame.specs.BoxType.{code_of, is_disguised};
+ghost use Rattle.mp4_frame.specs.Bytes.{bytes_of_fields};
+ghost use Rattle.mp4_frame.specs.Laws.{AreBytes};
+ghost use Rattle.mp4_frame.specs.declared.error.Error.TheVariants.{OutOfMemory};
+ghost use Rattle.mp4_stream.specs.KeptBox.{reading_kept, format_kept};
+ghost use Rattle.mp4_stream.specs.Other.{is_typed};
+ghost use Rattle.mp4_stream.specs.OtherBox.{format_other};
+ghost use Rattle.mp4_normal.specs.Changes.{AppendsIf, AreBefore, OneMade, made_of, other_at};
+ghost use Rattle.mp4_normal.specs.Normal.{Normalizes, NormalRefuses};
+
+use crate::change::Changes;
+use mp4_frame::{BoxHeader, Frame, frame_at};
+use mp4_stream::{AnyBox, Error, Result, StreamBox, WriteBox};
+use std::alloc::Global;
+
+/// For the prover: the numbers in a slice of bytes are bytes, and its length is one of 64 bits.
+fn are_bytes(bytes: &[u8])
+    ensures are { AreBytes bytes.now }
+    ensures short { length bytes.now < 2 ^ 64 }
+{
+    let _length = bytes.len();
+}
+
+/// Has the bytes of a box replace the stream's from `begin` to `end`. The only error is out of memory.
+fn replace_by<B: WriteBox>(
+    changes: &mut Changes,
+    stream: &[u8],
+    value: &B,
+    begin: usize,
+    end: usize,
+) -> Result<()>
+    requires writable { B.format.Writable value.now }
+    requires order { begin ≤ end }
+    requires within { end ≤ length stream.now }
+    requires before { AreBefore changes.old (length changes.old.fresh.items) begin }
+    ensures made { OnOk result (made_of changes.new stream.now end ≡ made_of changes.old stream.now begin ++ B.format.bytes value.now) }
+    ensures before { OnOk result (AreBefore changes.new (length changes.new.fresh.items) end) }
+    ensures error { IfErr result (λ e. e ≡ OutOfMemory) }
+{
+    let from = changes.fresh.len();
+    value.write_box(&mut changes.fresh)?;
+    changes.replace(stream, from, begin, end)
+}
+
+/// Has a header of 8 bytes replace the one of the box of this frame that begins at `at`. The only error is out of memory.
+fn replace_header(changes: &mut Changes, stream: &[u8], at: usize, frame: &Frame) -> Result<()>
+    requires small { frame.now.size < 2 ^ 32 }
+    requires begins { at ≤ frame.now.start }
+    requires within { frame.now.start + 8 ≤ length stream.now }
+    requires before { AreBefore changes.old (length changes.old.fresh.items) at }
+    ensures made { OnOk result (made_of changes.new stream.now (frame.now.start + 8) ≡ made_of changes.old stream.now at ++ bytes_of_fields ((4, frame.now.size) ∷ (4, code_of frame.now.name) ∷ [])) }
+    ensures before { OnOk result (AreBefore changes.new (length changes.new.fresh.items) (frame.now.start + 8)) }
+    ensures error { IfErr result (λ e. e ≡ OutOfMemory) }
+{
+    let from = changes.fresh.len();
+    BoxHeader::new(frame.name, frame.size).write(&mut changes.fresh)?;
+    changes.replace(stream, from, at, frame.start as usize + 8)
+}
+
+/// Finds what changes in the box of another code that begins at `at`: its header at most. Returns whether the box can be
+/// written. The only error is out of memory.
+fn find_in_other(changes: &mut Changes, stream: &[u8], at: usize, frame: &Frame) -> Result<bool>
+    requires untyped { is_typed (code_of frame.now.name) ≡ false }
+    requires begins { at ≤ frame.now.start }
+    requires end { frame.now.start + frame.now.size ≡ frame.now.end }
+    requires least { 8 ≤ frame.now.size }
+    requires within { frame.now.end ≤ length stream.now }
+    requires before { AreBefore changes.old (length changes.old.fresh.items) at }
+    ensures made { IfOk result (λ can. AppendsIf format_other (other_at (code_of frame.now.name) stream.now frame.now.start frame.now.size) (made_of changes.old stream.now at) (made_of changes.new stream.now frame.now.end) can) }
+    ensures before { OnOk result (AreBefore changes.new (length changes.new.fresh.items) frame.now.end) }
+    ensures error { IfErr result (λ e. e ≡ OutOfMemory) }
+{
+    are_bytes(stream);
+    let _code = u32::from(frame.name);
+    if frame.size >= 1 << 32 {
+        return Ok(false);
+    }
+    replace_header(changes, stream, at, frame)?;
+    Ok(true)
+}
+
+/// Finds what changes in the box of a type of the codec that begins at `at`. Returns whether the box can be written.
+/// `slot` is where it is read to.
+fn find_in_typed<B: StreamBox>(
+    alloc: Global,
+    changes: &mut Changes,
+    stream: &[u8],
+    at: usize,
+    frame: &Frame,
+    slot: &mut Vec<B>,
+) -> Result<bool>
+    requires known { IsTrue (B.known frame.now.name) }
+    requires begins { at ≤ frame.now.start }
+    requires end { frame.now.start + frame.now.size ≡ frame.now.end }
+    requires header { frame.now.start + 8 ≤ frame.now.end }
+    requires within { frame.now.end ≤ length stream.now }
+    requires before { AreBefore changes.old (length changes.old.fresh.items) at }
+    ensures made { OneMade B.format (B.named_reading frame.now.name stream.now frame.now.start frame.now.size) (made_of changes.old stream.now at) (made_of changes.new stream.now frame.now.end) result }
+    ensures before { OnOk result (AreBefore changes.new (length changes.new.fresh.items) frame.now.end) }
+{
+    slot.clear();
+    B::push_named(alloc, frame.name, stream, frame.start, frame.size, slot)?;
+    let value = &slot[0];
+    if !value.is_writable() {
+        return Ok(false);
+    }
+    replace_by(changes, stream, value, at, frame.end as usize)?;
+    Ok(true)
+}
+
+/// Finds what changes in the box that begins at `at`. Returns whether the box can be written.
+fn find_in_box(
+    alloc: Global,
+    changes: &mut Changes,
+    stream: &[u8],
+    at: usize,
+    frame: &Frame,
+    slot: &mut Vec<AnyBox>,
+) -> Result<bool>
+    requires plain { is_disguised frame.now.name ≡ false }
+    requires begins { at ≤ frame.now.start }
+    requires end { frame.now.start + frame.now.size ≡ frame.now.end }
+    requires header { frame.now.start + 8 ≤ frame.now.end }
+    requires within { frame.now.end ≤ length stream.now }
+    requires before { AreBefore changes.old (length changes.old.fresh.items) at }
+    ensures made { OneMade format_kept (reading_kept frame.now.name stream.now frame.now.start frame.now.size) (made_of changes.old stream.now at) (made_of changes.new stream.now frame.now.end) result }
+    ensures before { OnOk result (AreBefore changes.new (length changes.new.fresh.items) frame.now.end) }
+{
+    if AnyBox::knows(frame.name) {
+        find_in_typed(alloc, changes, stream, at, frame, slot)
+    } else {
+        are_bytes(stream);
+        find_in_other(changes, stream, at, frame)
+    }
+}
+
+/// What changes in a stream when it becomes that of its boxes in their normal form. Invalid data also if a box that was
+/// read can't be written.
+pub fn find_changes(alloc: Global, stream: &[u8]) -> Result<Changes>
+    ensures answer { MatchResult result (λ c. Normalizes stream.now (made_of c stream.now (length stream.now))) (λ e. NormalRefuses stream.now e) }
+    ensures before { IfOk result (λ c. AreBefore c (length c.fresh.items) (length stream.now)) }
+{
+    let mut changes = Changes::none(alloc);
+    let mut slot = Vec::new(alloc);
+    let mut can = true;
+    let mut at = 0;
+    while at < stream.len() {
+        let frame = frame_at(stream, at)?;
+        let fits = find_in_box(alloc, &mut changes, stream, at, &frame, &mut slot)?;
+        can = can && fits;
+        at = frame.end as usize;
+    }
+    if !can {
+        return Err(Error::InvalidData("value does not fit its field"));
+    }
+    Ok(changes)
+}
