@@ -3,17 +3,15 @@
 -- A command is given by two relations: `Makes B out` says that it writes `out` for the input B, and `Refusal B e` that
 -- it may refuse B with the error e. The bytes that a reader has left, and those that a writer has, are `Some` if they
 -- are known. Nothing is claimed of them if they are not.
-use Rattle.std.specs.Prelude.{◌≡◌, ℕ, Bool, true, false, List, length, take, All, Result, Ok, Err, IfSome, ◌⊎◌, ⊤}
+use Rattle.std.specs.Prelude.{◌≡◌, ℕ, Bool, true, false, List, length, take, Result, Ok, Err, IfSome, ⊤}
 use Rattle.std.specs.declared.option.Option.{Option}
 use Rattle.std.specs.Io.KnownBytes.{Keeps, Appends, IsAtEnd}
-use Rattle.mp4_frame.specs.Reading.{Reading, Invalid, Refuses}
-use Rattle.mp4_frame.specs.Streams.{stream, boxes}
+use Rattle.mp4_frame.specs.Reading.{Refuses}
 use Rattle.mp4_frame.specs.Spans.{spans}
 use Rattle.mp4_frame.specs.declared.error.Error.{Error}
 use Rattle.mp4_frame.specs.declared.error.Error.TheVariants as errors
 use Rattle.mp4_frame.specs.declared.list.BoxSpan.{BoxSpan}
-use Rattle.mp4_stream.specs.declared.kept_box.KeptBox.{KeptBox}
-use Rattle.mp4_stream.specs.KeptBox.{format_kept, known_kept, reading_kept}
+pub use Rattle.mp4_normal.specs.Normal.{Normalizes, NormalRefusal}
 use Rattle.mp4_boxes.specs.declared.command.Command.{Command}
 use Rattle.mp4_boxes.specs.declared.command.Command.TheVariants as commands
 use Rattle.mp4_boxes.specs.declared.fault.RunFault.{RunFault}
@@ -68,23 +66,6 @@ abbrev pub Rewrites : {V : Type 0} → (List ℕ → List ℕ → Type 0) → (L
     → (V → List ℕ) → List ℕ → Result V Error → Type 0
 Rewrites Makes Refusal items B (Ok v) = Makes B (items v)
 Rewrites Makes Refusal items B (Err e) = Refusal B e
-
--- the boxes of an input
-abbrev pub boxes_of : List ℕ → Reading (List KeptBox)
-boxes_of B = boxes known_kept reading_kept B 0
-
--- the boxes of B can all be written, and out is their bytes
-abbrev pub Normalizes : List ℕ → List ℕ → Type 0
-Normalizes B out = (vs : List KeptBox) × ((boxes_of B).outcome ≡ Ok vs) × All format_kept.Writable vs
-    × (out ≡ stream format_kept.bytes vs)
-
--- `normal` may refuse B with the first fault of its boxes, with invalid data if a box that was read can't be written,
--- and with out of memory
-abbrev pub NormalRefusal : List ℕ → Error → Type 0
-NormalRefusal B errors.OutOfMemory = ⊤
-NormalRefusal B (errors.InvalidData _) = ((boxes_of B).outcome ≡ Err Invalid)
-    ⊎ ((vs : List KeptBox) × ((boxes_of B).outcome ≡ Ok vs) × (¬ All format_kept.Writable vs))
-NormalRefusal B e = Refuses e (boxes_of B)
 
 -- the boxes of B can be listed, and out is their lines
 abbrev pub Lists : List ℕ → List ℕ → Type 0

@@ -8,7 +8,7 @@ ghost use Rattle.mp4_boxes.specs.Runs.{Runs, ReachesEnd, ReadsAll, WritesAll, No
 
 use crate::ends::{Input, Output};
 use crate::fault::RunFault;
-use crate::normal::normalize;
+use mp4_normal::normalize;
 use mp4_stream::Error;
 use std::alloc::{Allocator, Global};
 use std::io::{Read, Write};
@@ -117,7 +117,7 @@ pub fn run_normal<R: Read, W: Write>(
     ensures read_failed { input.new.failed ≡ (input.old.failed || is_read result) }
     ensures write_failed { output.new.failed ≡ (output.old.failed || is_write result) }
 {
-    let bytes = read_all(alloc, input)?;
-    let out = normalize(alloc, bytes)?;
-    write_all(output, &out.bytes[out.begin..])
+    let mut bytes = read_all(alloc, input)?;
+    normalize(alloc, &mut bytes)?;
+    write_all(output, &bytes)
 }

@@ -8,7 +8,6 @@ mod engine;
 mod fault;
 mod line;
 mod list;
-mod normal;
 mod outcome;
 mod program;
 

@@ -1,6 +1,7 @@
 //! Tests of the program: runs over readers and writers that fail, the words that it takes, and the lines that it writes.
 
 mod fakes;
+mod in_place;
 mod lines;
 mod program;
 mod runs;

@@ -2,5 +2,4 @@ pub mod Status
 pub mod Tells
 pub mod Handed
 pub mod Front
-pub mod Normal
 pub mod Rows

@@ -1,11 +1,11 @@
 //! The normal form of boxes.
 
-ghost use Rattle.std.specs.Prelude.{◌≡◌, length, MatchResult};
+ghost use Rattle.std.specs.Prelude.{◌≡◌, length};
 ghost use Rattle.mp4_c.specs.Handed.{HandsOver};
-ghost use Rattle.mp4_c.specs.Normal.{IsNormalForm, NormalRefuses};
+ghost use Rattle.mp4_normal.specs.Normal.{Normalizes, NormalRefuses};
 
 use crate::handed::{Handed, hand_over};
-use mp4_stream::{ByteCursor, KeptBox, Result, read_boxes_as, write_boxes};
+use mp4_normal::normal_form;
 use std::alloc::Global;
 
 impl Handed<u8, usize> for Vec<u8> {
@@ -26,21 +26,11 @@ impl Handed<u8, usize> for Vec<u8> {
     }
 }
 
-/// The boxes of the bytes, written in their normal form.
-fn normal_form(alloc: Global, bytes: &[u8]) -> Result<Vec<u8>>
-    ensures { MatchResult result (λ out. IsNormalForm bytes.now out.items) (λ e. NormalRefuses bytes.now e) }
-{
-    let boxes: Vec<KeptBox> = read_boxes_as(alloc, &mut ByteCursor::new(bytes))?;
-    let mut out = Vec::new(alloc);
-    write_boxes(&boxes, &mut out)?;
-    Ok(out)
-}
-
 /// Hands over the boxes of the bytes in their normal form, boxes of types that the codec doesn't read as they are. Invalid
 /// data also if a box that was read can't be written, as it is too large.
 #[unsafe(no_mangle)]
 pub extern "C" fn mp4_normal(alloc: Global, bytes: &[u8], out: &mut [u8], count: &mut usize) -> u32
-    ensures { HandsOver (λ found. IsNormalForm bytes.now found) (λ e. NormalRefuses bytes.now e) (λ found. found) (λ found. length found) result out.old out.new count.old count.new }
+    ensures { HandsOver (λ found. Normalizes bytes.now found) (λ e. NormalRefuses bytes.now e) (λ found. found) (λ found. length found) result out.old out.new count.old count.new }
 {
     hand_over(normal_form(alloc, bytes), out, count)
 }
