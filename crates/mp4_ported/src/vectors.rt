@@ -1,6 +1,7 @@
-//! The vectors: the first box of each type in the tests of the Rust crate `mp4`, and the bytes that it is written in, which are
-//! worked out from the layout table. They are in its order. Of `avcC`, `hvcC`, `vpcC` and `esds` it is the child in the test of the
-//! sample entry; of `dref`, `dinf` and `stsd`, which have no test there, a box of the `url ` and of the `mp4a`.
+//! The vectors: the first box of each type in the tests of the Rust crate `mp4`, and the bytes that it is written in,
+//! which are worked out from the layout table. They are in its order. Of `avcC`, `hvcC`, `vpcC` and `esds` it is the child
+//! in the test of the sample entry. `url `, `dref`, `dinf` and `stsd` have no test there: it is the location `a`, a `dref`
+//! and a `dinf` of it, and an `stsd` of the `mp4a`.
 
 use mp4_fixtures::boxes::{entries, flat, sound, tables, text};
 use mp4_fixtures::vectors::Vector;

@@ -9,7 +9,8 @@ use mp4_stream::{ByteCursor, Error, KeptBox, read_boxes_as};
 use std::alloc::Global;
 use std::test::Fail;
 
-/// A stream, and for each length of a cut before its end the number of boxes before it, or None if the cut is inside a box.
+/// A stream, and for each length of a cut before its end the number of boxes before it, or None if the cut is inside a
+/// box.
 #[derive(Drop)]
 struct Cuts {
     stream: Vec<u8>,

@@ -35,8 +35,8 @@ fn stereo() -> EsdsBox {
     }
 }
 
-/// Reads the box and counts the headers of its descriptors. Returns the kind of the outcome, the count, and the position of the
-/// cursor, which is 8 before the call.
+/// Reads the box and counts the headers of its descriptors. Returns the kind of the outcome, the count, and the position
+/// of the cursor, which is 8 before the call.
 fn counted(bytes: &[u8], size: u64) -> (Kind, u64, u64) {
     let mut reader = ByteCursor::new(bytes);
     reader.set_position(8);
@@ -60,7 +60,8 @@ fn descriptors_of_long_lengths(rt: HostRuntime) -> Result<(), Fail> {
     Ok(())
 }
 
-/// An audio configuration of five bytes. The last three are read as a header of length 12928, and so as a gap to after the end.
+/// An audio configuration of five bytes. The last three are read as a header of length 12928, and so as a gap to after
+/// the end.
 #[test]
 fn descriptors_of_a_usual_encoder(rt: HostRuntime) -> Result<(), Fail> {
     let bytes =

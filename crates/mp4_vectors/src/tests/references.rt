@@ -46,7 +46,8 @@ fn dref_of_abc(alloc: Global) -> Result<DrefBox, Error> {
     Ok(dref_of(Some(child)))
 }
 
-/// The `url ` ends 8 bytes after its `dref`. In a list a header of size 0 stands there: a box up to the end, which is skipped.
+/// The `url ` ends 8 bytes after its `dref`. In a list a header of size 0 stands there: a box up to the end, which is
+/// skipped.
 #[test]
 fn url_that_ends_after_its_dref(rt: HostRuntime) -> Result<(), Fail> {
     let alloc = rt.alloc();

@@ -29,7 +29,8 @@ fn a_list_is_cut(rt: HostRuntime) -> Result<(), Fail> {
     Ok(())
 }
 
-/// Appends two boxes as a list to a vector of a 9. Returns the kind of the outcome, and whether the vector is as before.
+/// Appends two boxes as a list to a vector of a 9. Returns the kind of the outcome, and whether the vector is as
+/// before.
 fn append_two<B: StreamBox>(alloc: Global, first: B, last: B) -> Result<(Kind, bool), Error> {
     let mut out = [9].to_vec(alloc)?;
     let outcome = write_boxes(&[first, last], &mut out);
