@@ -4,7 +4,7 @@ ghost use Rattle.std.specs.Prelude.{◌+◌, ◌≡◌, ◌≤◌, ◌<◌, ◌|
 ghost use Rattle.std.specs.Io.KnownBytes.{Keeps};
 ghost use Rattle.mp4_frame.specs.declared.error.Error.TheVariants.{OutOfMemory};
 ghost use Rattle.mp4_boxes.specs.Ends.{PullsInto};
-ghost use Rattle.mp4_boxes.specs.Runs.{Runs, ReachesEnd, ReadsAll, WritesAll, Normalizes, NormalRefusal, is_read, is_write};
+ghost use Rattle.mp4_boxes.specs.Runs.{Runs, ReachesEnd, ReadsAll, Rewrites, WritesAll, Normalizes, NormalRefusal, is_read, is_write};
 
 use crate::ends::{Input, Output};
 use crate::fault::RunFault;
@@ -102,6 +102,14 @@ pub fn finish<W: Write>(output: &mut Output<W>) -> Result<(), RunFault>
     Ok(())
 }
 
+/// The boxes of the bytes in their normal form, in the vector that the bytes are in.
+fn normal(alloc: Global, mut bytes: Vec<u8>) -> mp4_stream::Result<Vec<u8>>
+    ensures { Rewrites Normalizes NormalRefusal (λ v. v.items) bytes.items result }
+{
+    normalize(alloc, &mut bytes)?;
+    Ok(bytes)
+}
+
 /// Reads all boxes of the input, and writes them to the output in their normal form: boxes of types that the codec does
 /// not read are written as they were. Returns the number of bytes that were written.
 ///
@@ -117,7 +125,7 @@ pub fn run_normal<R: Read, W: Write>(
     ensures read_failed { input.new.failed ≡ (input.old.failed || is_read result) }
     ensures write_failed { output.new.failed ≡ (output.old.failed || is_write result) }
 {
-    let mut bytes = read_all(alloc, input)?;
-    normalize(alloc, &mut bytes)?;
-    write_all(output, &bytes)
+    let bytes = read_all(alloc, input)?;
+    let out = normal(alloc, bytes)?;
+    write_all(output, &out)
 }
