@@ -1,7 +1,7 @@
 //! The normal form of a stream, made in the vector that it is in.
 
 use mp4_normal::{normal_form, normalize};
-use mp4_stream::{Error, Result};
+use mp4_stream::Error;
 use std::alloc::Global;
 use std::test::Fail;
 
@@ -12,7 +12,7 @@ const LARGE_FIRST: [u8; 25] = *b"\0\0\0\x01free\0\0\0\0\0\0\0\x11x\0\0\0\x08skip
 const SMALL_FIRST: [u8; 17] = *b"\0\0\0\x09freex\0\0\0\x08skip";
 
 /// Whether these bytes stay as they are when their normal form is refused with end of input.
-fn stays_as_it_was(alloc: Global, bytes: &[u8]) -> Result<bool> {
+fn stays_as_it_was(alloc: Global, bytes: &[u8]) -> Result<bool, Error> {
     let mut stream = Vec::from_slice(alloc, bytes)?;
     let refused = matches!(normalize(alloc, &mut stream), Err(Error::IoError));
     Ok(refused && stream.as_slice() == bytes)
