@@ -1,6 +1,6 @@
 //! Languages of other letters and other lengths than bytes can say, worked out by hand.
 
-use mp4_stream::{MdhdBox, Text, WriteBox, language_code};
+use mp4_stream::{MdhdBox, Text, WriteBox, language_code, language_string};
 use std::test::Fail;
 
 #[test]
