@@ -1,6 +1,6 @@
 //! Boxes of many parts and lists of many boxes, with ample memory: each is read, cloned and written.
 
-use super::kept::rewrite;
+use super::streams::rewrite;
 use mp4_fixtures::helpers::{Mismatch, read};
 use mp4_fixtures::made;
 use mp4_stream::{AvcCBox, Error, FtypBox, HdlrBox, KeptBox, OtherBox, ReadBox, StcoBox, TryClone};
@@ -81,15 +81,13 @@ fn a_large_content_is_cloned(rt: HostRuntime) -> Result<(), Fail> {
 }
 
 #[test]
-fn a_list_of_65537_boxes_is_read_and_written(rt: HostRuntime) -> Result<(), Fail> {
+fn a_list_of_131074_boxes_is_read_and_written(rt: HostRuntime) -> Result<(), Fail> {
     let bytes = repeated(
         rt.alloc(),
         &[],
-        b"\0\0\0\x0cfreefree\0\0\0\x10mfhd\0\0\0\0\0\0\0\x01",
+        b"\0\0\0\x10mfhd\0\0\0\0\0\0\0\x01\0\0\0\x10stco\0\0\0\0\0\0\0\0",
         65_537,
     )?;
-    let (count, out) = rewrite(rt.alloc(), &bytes)?;
-    assert_eq!(rt; count, 131_074);
-    assert!(rt; out.as_slice() == bytes.as_slice());
+    assert!(rt; rewrite(rt.alloc(), &bytes)?.as_slice() == bytes.as_slice());
     Ok(())
 }

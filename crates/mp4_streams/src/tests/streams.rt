@@ -30,7 +30,7 @@ pub(super) fn read_stream(alloc: Global, bytes: &[u8]) -> (Kind, usize, u64) {
 }
 
 /// Reads the boxes of a buffer, and returns the bytes that they are written in.
-fn rewrite(alloc: Global, bytes: &[u8]) -> Result<Vec<u8>, Error> {
+pub(super) fn rewrite(alloc: Global, bytes: &[u8]) -> Result<Vec<u8>, Error> {
     let mut out = Vec::new(alloc);
     append_normal(alloc, bytes, &mut out)?;
     Ok(out)
