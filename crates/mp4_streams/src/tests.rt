@@ -5,6 +5,7 @@ mod cuts;
 mod defaults;
 mod examples;
 mod headers;
+mod iterator;
 mod large;
 mod laws;
 mod lists;

@@ -1,0 +1,4 @@
+pub mod Items
+pub mod Progress
+pub mod Seeks
+pub mod Collected

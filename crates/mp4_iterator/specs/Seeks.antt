@@ -1,0 +1,18 @@
+-- What is found where the boxes of unknown names are skipped.
+use Rattle.std.specs.Prelude.{ℕ, ◌≡◌, ◌+◌, ◌≤◌, Bool, true, List, [], ◌∷◌, length, max, Option, Some, None, Result, Ok, Err}
+use Rattle.mp4_frame.specs.Reading.{Fault, Reading, Refuses}
+use Rattle.mp4_frame.specs.declared.box_type.BoxType.{BoxType}
+use Rattle.mp4_frame.specs.declared.error.Error.{Error}
+use Rattle.mp4_frame.specs.declared.frame.Frame.{Frame}
+use Rattle.mp4_iterator.specs.Items.{box_item, fault_item, items}
+
+module _ {A : Type 0} (known : BoxType → Bool) (reading : BoxType → List ℕ → ℕ → ℕ → Reading A) where
+  -- From o on the first item is at p, and it is this frame of a known name, or a fault, which is the last. If there is
+  -- none, p is the end of the buffer, or o if that is past the end.
+  abbrev pub Seeks : List ℕ → ℕ → ℕ → Result (Option Frame) Error → Type 0
+  Seeks B o p (Ok None) = (items known reading B o ≡ []) × (p ≡ max o (length B))
+  Seeks B o p (Ok (Some f)) =
+      (items known reading B o ≡ box_item reading B p f ∷ items known reading B f.end) × (known f.name ≡ true)
+      × (f.start + 8 ≤ length B) × (f.start + f.size ≡ f.end) × (f.end ≤ length B)
+  Seeks B o p (Err e) =
+      (k : Fault) × (items known reading B o ≡ fault_item p k ∷ []) × Refuses e (fault_item {A = A} p k).reading

@@ -1,0 +1,9 @@
+//! The boxes of a buffer one at a time, with no list of them.
+#![tactic(auto)]
+
+mod boxes;
+mod collect;
+pub mod laws;
+
+pub use boxes::{Boxes, boxes_as};
+pub use collect::collect_boxes;
