@@ -6,7 +6,7 @@ from rows_of.entry_values import (
     AUDIO_CONFIGURATIONS, ESDS, ESDS_VALUE, config, esds, esds_bytes, esds_bytes_of, esds_of, specific,
 )
 from rows_of.making import (
-    END, LARGEST, PAST_64_BITS, box, changed, counting, invalid, large, one, resized, round_trip, u16, u24, u32, u8,
+    END, LARGEST, PAST_64_BITS, box, changed, counting, invalid, large, one, resized, round_trip, u8, u16, u24, u32,
     written_as,
 )
 

@@ -97,6 +97,19 @@ def round_trip(buffer, value):
     return written_as(buffer, value, buffer)
 
 
+def kept(buffer, expected, at=0):
+    """The box whose header is at a position is of no type of its own. It is kept as this value or has this fault."""
+    position = cursor(buffer, at, expected)
+    after_header = cursor(buffer, at, END)
+    return Row(buffer, at, box=(None, after_header), kept_box=(outcome(expected), position))
+
+
+def kept_list(buffer, expected, written=None):
+    """The boxes of a buffer are kept as these values, and written in these bytes, or have this fault."""
+    found = outcome(expected), 0 if isinstance(expected, tuple) else len(buffer)
+    return Row(buffer, kept_boxes=found, kept_written=written)
+
+
 def cuts(buffer):
     """Wherever the bytes are cut, it is end of input."""
     for length in range(len(buffer)):
@@ -137,19 +150,6 @@ def large_count(name, *numbers, version=0, flags=0, fault=None):
 def counting(first, last):
     """The bytes from the first to the last, each one more than the one before it."""
     return bytes(range(first, last + 1))
-
-
-def kept(buffer, expected, at=0):
-    """The box whose header is at a position is of no type of its own. It is kept as this value or has this fault."""
-    position = cursor(buffer, at, expected)
-    after_header = cursor(buffer, at, END)
-    return Row(buffer, at, box=(None, after_header), kept_box=(outcome(expected), position))
-
-
-def kept_list(buffer, expected, written=None):
-    """The boxes of a buffer are kept as these values, and written in these bytes, or have this fault."""
-    found = outcome(expected), 0 if isinstance(expected, tuple) else len(buffer)
-    return Row(buffer, kept_boxes=found, kept_written=written)
 
 
 def u8(*numbers):

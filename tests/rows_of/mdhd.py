@@ -2,7 +2,7 @@
 Swedish."""
 
 from rows_of.making import (
-    box, changed, counting, filled, full, one, round_trip, u16, u32, u64, u8, versions_above_1, written_as,
+    box, changed, counting, filled, full, one, round_trip, u8, u16, u32, u64, versions_above_1, written_as,
 )
 from rows_of.values import full_box
 

@@ -1,14 +1,15 @@
 """`mp4a`, the sample entry of MPEG-4 audio: its sizes, and children. The bytes of the fields count up from 0x81."""
 
 from rows_of.entry_values import (
-    AUDIO_CONFIGURATIONS, ESDS, ESDS_VALUE, MP4A, MP4A_VALUE, MP4A_WITHOUT_ESDS, TEST_FIELDS, esds_bytes_of,
-    esds_of, mp4a, mp4a_bytes, specific,
+    AUDIO_CONFIGURATIONS, ESDS, ESDS_VALUE, MP4A, MP4A_VALUE, MP4A_WITHOUT_ESDS, TEST_FIELDS, esds_bytes_of, esds_of,
+    mp4a, mp4a_bytes, specific,
 )
-from rows_of.esds import NOT_FOUND, COUNTED as COUNTED_ESDS, COUNTED_VALUE as COUNTED_ESDS_VALUE
+from rows_of.esds import COUNTED as COUNTED_ESDS, COUNTED_VALUE as COUNTED_ESDS_VALUE, NOT_FOUND
 from rows_of.making import (
     END, LARGEST, LARGE_TOO_SMALL, PAST_64_BITS, box, changed, counting, cuts, large, larger_child, listed, one,
     resized, round_trip, u16, u32, written_as,
 )
+from rows_of.values import other
 
 COUNTED = box(
     b"mp4a", bytes(6), counting(0x81, 0x82), bytes(8), counting(0x83, 0x86), bytes(4), counting(0x87, 0x8A),
@@ -145,7 +146,8 @@ def entry_that_ends_after_its_size():
 
 def list_of_an_entry_that_ends_after_its_size():
     yield listed(SHORT_MP4A[:36], END)
-    yield listed(SHORT_MP4A, [NO_ESDS])
+    next_box = other(b"\0\2\0\x10", bytes(4) + u32(48000 << 16) + b"\0")
+    yield listed(SHORT_MP4A, [NO_ESDS], kept_as=[NO_ESDS, next_box])
 
 
 def quicktime(version, *after):

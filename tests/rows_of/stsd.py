@@ -1,9 +1,8 @@
 """`stsd`, the sample descriptions: which entry is read, with counts, sizes and cuts."""
 
 from rows_of.entry_values import (
-    AVC1, AVC1_OF_TEST, AVC1_OF_TEST_VALUE, AVC1_VALUE, ESDS, HEV1, HEV1_VALUE, MP4A, MP4A_OF_TEST,
-    MP4A_OF_TEST_VALUE, MP4A_VALUE, MP4A_WITHOUT_ESDS, MP4A_WITHOUT_ESDS_VALUE, TX3G, TX3G_VALUE, VP09, VP09_VALUE,
-    mp4a, stsd, stsd_bytes,
+    AVC1, AVC1_OF_TEST, AVC1_OF_TEST_VALUE, AVC1_VALUE, ESDS, HEV1, HEV1_VALUE, MP4A, MP4A_OF_TEST, MP4A_OF_TEST_VALUE,
+    MP4A_VALUE, MP4A_WITHOUT_ESDS, MP4A_WITHOUT_ESDS_VALUE, TX3G, TX3G_VALUE, VP09, VP09_VALUE, mp4a, stsd, stsd_bytes,
 )
 from rows_of.making import (
     END, LARGEST, PAST_64_BITS, box, changed, counting, cuts, full, large, larger_child, one, round_trip, u32,

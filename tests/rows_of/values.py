@@ -12,15 +12,15 @@ def full_box(code, version=0, flags=0, **fields):
     return Box(code, version=version, flags=flags, **fields)
 
 
+def other(code, content=b""):
+    """A box of no type of its own, which is kept."""
+    return Box("other", code=number_of(code), content=list(content))
+
+
 def matrix(*numbers):
     """A matrix of these nine numbers, the highest bit of each its sign."""
     signed = [number - (number >> 31 << 32) for number in numbers]
     return dict(zip("abucdvxyw", signed))
-
-
-def other(code, content=b""):
-    """A box of no type of its own, which is kept."""
-    return Box("other", code=number_of(code), content=list(content))
 
 
 def ftyp(major_brand, minor_version, compatible_brands):

@@ -32,8 +32,11 @@ fn a_list_is_cut(rt: HostRuntime) -> Result<(), Fail> {
 /// Appends two boxes as a list to a vector of a 9. Returns the kind of the outcome, and whether the vector is as
 /// before.
 fn append_two<B: StreamBox>(alloc: Global, first: B, last: B) -> Result<(Kind, bool), Error> {
+    let mut boxes = Vec::new(alloc);
+    boxes.push(first)?;
+    boxes.push(last)?;
     let mut out = [9].to_vec(alloc)?;
-    let outcome = write_boxes(&[first, last], &mut out);
+    let outcome = write_boxes(&boxes, &mut out);
     Ok((kind_of(&outcome), out.as_slice() == [9].as_slice()))
 }
 
