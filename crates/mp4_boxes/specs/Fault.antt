@@ -1,8 +1,16 @@
--- What the program says of a fault.
+-- The fault of a failed end, and what the program says of a fault.
 use Rattle.std.specs.Prelude.{ℕ, List, codes}
 use Rattle.mp4_frame.specs.declared.error.Error.TheVariants as errors
 use Rattle.mp4_boxes.specs.declared.fault.RunFault.{RunFault}
+use Rattle.mp4_io.specs.declared.failure.Failure.{Failure}
+use Rattle.mp4_io.specs.declared.failure.Failure.TheVariants as failures
 use Rattle.mp4_boxes.specs.declared.fault.RunFault.TheVariants as faults
+
+-- the fault of a failure
+abbrev pub fault_of : Failure → RunFault
+fault_of failures.Read = faults.Read
+fault_of failures.Write = faults.Write
+fault_of failures.Memory = faults.Boxes errors.OutOfMemory
 
 -- the text of a fault: each kind has its own
 abbrev pub fault_text : RunFault → List ℕ

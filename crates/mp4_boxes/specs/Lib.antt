@@ -1,5 +1,4 @@
 pub mod Command
-pub mod Ends
 pub mod Fault
 pub mod Lines
 pub mod Outcome

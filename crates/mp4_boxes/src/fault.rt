@@ -2,8 +2,9 @@
 
 ghost use Rattle.std.specs.Prelude.{◌≡◌, Some};
 ghost use Rattle.mp4_boxes.specs.declared.fault.RunFault.TheVariants.{Boxes};
-ghost use Rattle.mp4_boxes.specs.Fault.{fault_text};
+ghost use Rattle.mp4_boxes.specs.Fault.{fault_of, fault_text};
 
+use mp4_io::Failure;
 use mp4_stream::Error;
 use std::fmt;
 
@@ -23,6 +24,18 @@ impl From<Error> for RunFault {
 
     fn from(e: Error) -> RunFault {
         RunFault::Boxes(e)
+    }
+}
+
+impl From<Failure> for RunFault {
+    ghost from_gives = { λ failure fault. fault ≡ fault_of failure };
+
+    fn from(failure: Failure) -> RunFault {
+        match failure {
+            Failure::Read => RunFault::Read,
+            Failure::Write => RunFault::Write,
+            Failure::Memory => RunFault::Boxes(Error::OutOfMemory),
+        }
     }
 }
 

@@ -3,10 +3,10 @@
 ghost use Rattle.std.specs.Prelude.{◌≡◌, ◌||◌};
 ghost use Rattle.mp4_boxes.specs.Runs.{Runs, ReachesEnd, Rewrites, Lists, ListRefusal, is_read, is_write};
 
-use crate::ends::{Input, Output};
 use crate::engine::{read_all, write_all};
 use crate::fault::RunFault;
 use crate::line::lines_of;
+use mp4_io::{Input, Output};
 use mp4_stream::{ByteCursor, list_boxes};
 use std::alloc::Global;
 use std::io::{Read, Write};

@@ -3,7 +3,6 @@
 #![tactic(auto)]
 
 mod command;
-mod ends;
 mod engine;
 mod fault;
 mod line;
@@ -12,7 +11,7 @@ mod outcome;
 mod program;
 
 use command::argument_fault;
-use ends::{Input, Output};
+use mp4_io::{Input, Output};
 use outcome::Outcome;
 use program::run_words;
 use std::env;

@@ -6,11 +6,11 @@ ghost use Rattle.mp4_boxes.specs.Command.{Names};
 ghost use Rattle.mp4_boxes.specs.Runs.{Runs, ReachesEnd, Makes, MayRefuse, EndsAs, is_read, is_write};
 
 use crate::command::{Command, parse_command};
-use crate::ends::{Input, Output};
 use crate::engine::{finish, run_normal};
 use crate::fault::RunFault;
 use crate::list::run_list;
 use crate::outcome::Outcome;
+use mp4_io::{Input, Output};
 use std::alloc::Global;
 use std::env::Args;
 use std::io::{Read, Write};

@@ -3,11 +3,11 @@
 use super::fakes::{Giver, Refusal, Taker, Zeros};
 use super::{INPUT, LISTED};
 use crate::command::Command;
-use crate::ends::{Input, Output};
 use crate::engine::{finish, read_all};
 use crate::fault::RunFault;
 use crate::program::run_command;
 use linked_list_allocator::LocalHeap;
+use mp4_io::{Input, Output};
 use mp4_stream::Error;
 use std::alloc::Global;
 use std::process::Abort;
