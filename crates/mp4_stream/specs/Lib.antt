@@ -12,6 +12,8 @@ pub mod MemberLaws
 pub mod SoundLaws
 pub mod OwnOr
 pub mod OwnOrLaws
+pub mod FragmentBox
+pub mod FragmentBoxLaws
 pub mod Boxes
 pub mod Author
 pub use Rattle.mp4_frame.specs.BoxType
@@ -26,3 +28,6 @@ pub use Rattle.mp4_frame.specs.Spans
 pub use Rattle.mp4_frame.specs.Streams
 pub use Rattle.mp4_frame.specs.Text
 pub use Rattle.mp4_frame.specs.Written
+pub use Rattle.mp4_iterator.specs.Collected
+pub use Rattle.mp4_iterator.specs.Items
+pub use Rattle.mp4_iterator.specs.Progress

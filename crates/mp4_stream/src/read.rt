@@ -1,12 +1,14 @@
-//! Reading lists of boxes of any type.
+//! Reading boxes of any type: a list of them, and one at a time.
 
 ghost use Rattle.std.specs.Prelude.{◌≡◌, OnOk, OnErr, length, max};
 ghost use Rattle.mp4_frame.specs.Reading.{AnswersAs};
 ghost use Rattle.mp4_frame.specs.Streams.{boxes};
+ghost use Rattle.mp4_iterator.specs.Progress.{begins_at};
 ghost use Rattle.mp4_stream.specs.AnyBox.{known_any, reading_any};
 
 use crate::any_box::AnyBox;
 use mp4_frame::{ByteCursor, Result, read_boxes_as};
+use mp4_iterator::{Boxes, boxes_as};
 use std::alloc::Global;
 
 /// Reads the boxes from the cursor's position to the end of the buffer, or returns the first fault. Boxes with names
@@ -20,4 +22,13 @@ pub fn read_boxes(alloc: Global, reader: &mut ByteCursor) -> Result<Vec<AnyBox>>
     ensures bytes { reader.new.bytes ≡ reader.old.bytes }
 {
     read_boxes_as(alloc, reader)
+}
+
+/// The boxes of a buffer, one after the other, with no list of them: an item is a box, or the first fault, and after a
+/// fault nothing comes. Boxes with names that the codec does not read are skipped by their size, and contents are not
+/// looked into. `Boxes::next_into` reads into a place that is used again.
+pub fn boxes(alloc: Global, bytes: &[u8]) -> Boxes<'_, AnyBox>
+    ensures { result ≡ begins_at bytes.now 0 }
+{
+    boxes_as(alloc, bytes)
 }
