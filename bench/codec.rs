@@ -4,12 +4,16 @@
 extern "C" {
     fn mp4_read(bytes: *const u8, len: usize, times: u64) -> u64;
     fn mp4_read_kept(bytes: *const u8, len: usize, times: u64) -> u64;
+    fn mp4_read_each(bytes: *const u8, len: usize, times: u64) -> u64;
+    fn mp4_read_each_kept(bytes: *const u8, len: usize, times: u64) -> u64;
+    fn mp4_read_fragments(bytes: *const u8, len: usize, times: u64) -> u64;
     fn mp4_write(bytes: *const u8, len: usize, times: u64) -> u64;
     fn mp4_write_kept(bytes: *const u8, len: usize, times: u64) -> u64;
     fn mp4_rewrite(bytes: *const u8, len: usize, out: *mut u8, room: usize) -> u64;
     fn mp4_rewrite_kept(bytes: *const u8, len: usize, out: *mut u8, room: usize) -> u64;
     fn mp4_member_size() -> u64;
     fn mp4_kept_member_size() -> u64;
+    fn mp4_fragment_member_size() -> u64;
 }
 
 /// The codec for lists that skip boxes of other types, or that keep them.
@@ -28,6 +32,19 @@ impl Codec {
                 mp4_read_kept(start, len, times)
             } else {
                 mp4_read(start, len, times)
+            }
+        }
+    }
+
+    /// Reads a stream so many times, one box at a time into one place. Returns the sum of the checksums of its boxes.
+    pub fn read_each(self, bytes: &[u8], times: u64) -> u64 {
+        let (start, len) = (bytes.as_ptr(), bytes.len());
+        // SAFETY: the pointer and the length are those of a slice.
+        unsafe {
+            if self.is_kept {
+                mp4_read_each_kept(start, len, times)
+            } else {
+                mp4_read_each(start, len, times)
             }
         }
     }
@@ -63,6 +80,13 @@ impl Codec {
     }
 }
 
+/// Reads a stream of boxes of fragments so many times into lists of these boxes alone. Returns the sum of the checksums of
+/// its boxes.
+pub fn read_fragments(bytes: &[u8], times: u64) -> u64 {
+    // SAFETY: the pointer and the length are those of a slice.
+    unsafe { mp4_read_fragments(bytes.as_ptr(), bytes.len(), times) }
+}
+
 /// The number of bytes of a member of a list.
 pub fn member_size() -> u64 {
     // SAFETY: the function takes nothing.
@@ -73,4 +97,10 @@ pub fn member_size() -> u64 {
 pub fn kept_member_size() -> u64 {
     // SAFETY: the function takes nothing.
     unsafe { mp4_kept_member_size() }
+}
+
+/// The number of bytes of a member of a list of boxes of fragments.
+pub fn fragment_member_size() -> u64 {
+    // SAFETY: the function takes nothing.
+    unsafe { mp4_fragment_member_size() }
 }

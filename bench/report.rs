@@ -1,7 +1,26 @@
 //! The tables of results.
 
 use crate::streams::Stream;
-use crate::subject::Subject;
+use crate::timing::Times;
+
+/// A stream, and its times.
+pub struct Line<'a> {
+    pub stream: &'a Stream,
+    times: Times,
+}
+
+impl<'a> Line<'a> {
+    pub fn new(stream: &'a Stream, times: Times) -> Line<'a> {
+        Line { stream, times }
+    }
+
+    /// The number of entries of its one table, or of its boxes.
+    fn count(&self) -> usize {
+        self.stream
+            .entries
+            .map_or(self.stream.boxes, |entries| entries as usize)
+    }
+}
 
 /// A number with commas after the thousands.
 fn grouped(number: usize) -> String {
@@ -41,8 +60,8 @@ fn aim(stream: &Stream, is_reading: bool, ratio: f64) -> String {
     format!("{most:.2}: {outcome}")
 }
 
-pub fn print(title: &str, subjects: &[Subject], is_reading: bool) {
-    let of = if subjects.iter().all(|s| s.stream.entries.is_some()) {
+pub fn print(title: &str, lines: &[Line], is_reading: bool) {
+    let of = if lines.iter().all(|s| s.stream.entries.is_some()) {
         "entries"
     } else {
         "boxes"
@@ -50,18 +69,17 @@ pub fn print(title: &str, subjects: &[Subject], is_reading: bool) {
     println!("\n{title}:\n");
     println!("| stream | {of} | copy, µs | codec, µs | best effort, µs | naive, µs | codec / copy | codec / best effort | naive / codec | aim |");
     println!("|---|--:|--:|--:|--:|--:|--:|--:|--:|---|");
-    for s in subjects {
+    for s in lines {
         let seconds = if is_reading {
             s.times.read
         } else {
             s.times.write
         };
         let [copy, codec, best, naive] = seconds;
-        let count = s.stream.entries.map_or(s.stream.boxes, |n| n as usize);
         println!(
             "| {} | {} | {} | {} | {} | {} | {:.2} | **{:.2}** | {:.1} | {} |",
             s.stream.name,
-            grouped(count),
+            grouped(s.count()),
             micros(copy),
             micros(codec),
             micros(best),
@@ -70,6 +88,32 @@ pub fn print(title: &str, subjects: &[Subject], is_reading: bool) {
             codec / best,
             naive / codec,
             aim(&s.stream, is_reading, codec / best),
+        );
+    }
+}
+
+/// Small boxes that are read one at a time, beside a list of them, and into a list of boxes of fragments alone.
+pub fn print_each(lines: &[Line]) {
+    println!("\nReading small boxes one at a time:\n");
+    println!("| stream | boxes | list, µs | one at a time, µs | best effort, one at a time, µs | list / one at a time | one at a time / best effort | list of `FragmentBox`, µs | list / that |");
+    println!("|---|--:|--:|--:|--:|--:|--:|--:|--:|");
+    for s in lines {
+        let [_, list, _, _] = s.times.read;
+        let [each, best, fragments] = s.times.small;
+        let (of_fragments, gain) = if fragments == f64::MAX {
+            (String::new(), String::new())
+        } else {
+            (micros(fragments), format!("{:.2}", list / fragments))
+        };
+        println!(
+            "| {} | {} | {} | {} | {} | **{:.2}** | **{:.2}** | {of_fragments} | {gain} |",
+            s.stream.name,
+            grouped(s.count()),
+            micros(list),
+            micros(each),
+            micros(best),
+            list / each,
+            each / best,
         );
     }
 }

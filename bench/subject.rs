@@ -1,9 +1,8 @@
 //! A stream with its boxes, checked before it is timed.
 
 use crate::boxes::{checksum, AnyBox, KeptBox, Member};
-use crate::codec::Codec;
+use crate::codec::{read_fragments, Codec};
 use crate::streams::Stream;
-use crate::timing::{CodecWrite, Times};
 use crate::{best, naive};
 use std::fmt::Debug;
 
@@ -11,7 +10,8 @@ pub struct Subject {
     pub stream: Stream,
     pub codec: Codec,
     pub boxes: List,
-    pub times: Times,
+    /// Whether it has boxes of fragments alone.
+    pub is_of_fragments: bool,
 }
 
 /// The boxes of a stream, by plain Rust.
@@ -29,12 +29,13 @@ impl Subject {
         } else {
             List::Skipping(checked(&stream, codec))
         };
-        let times = Times::new(CodecWrite::of(codec, &stream.bytes));
+        let is_of_fragments = stream.entries.is_none()
+            && read_fragments(&stream.bytes, 1) == codec.read(&stream.bytes, 1);
         Subject {
             stream,
             codec,
             boxes,
-            times,
+            is_of_fragments,
         }
     }
 }
@@ -49,6 +50,17 @@ fn checked<M: Member + Debug + PartialEq>(stream: &Stream, codec: Codec) -> Vec<
         codec.read(bytes, 1),
         checksum(&boxes),
         "{name}: the checksums differ"
+    );
+    let by_one = best::sum_of_each::<M>(bytes, checksum).expect("the best effort refuses a box");
+    assert_eq!(
+        by_one,
+        checksum(&boxes),
+        "{name}: the checksums of each differ"
+    );
+    assert_eq!(
+        codec.read_each(bytes, 1),
+        by_one,
+        "{name}: the codec reads others one at a time"
     );
     let by_best = best::write_boxes(&boxes).expect("the best-effort writer refuses the boxes");
     assert!(

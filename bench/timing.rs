@@ -1,7 +1,7 @@
-//! The timing of all ways over all streams, in rounds.
+//! The timing of all ways over a stream, in rounds. Before each timed run of passes is one that is not timed.
 
 use crate::boxes::{checksum, AnyBox, KeptBox, Member};
-use crate::codec::Codec;
+use crate::codec::{read_fragments, Codec};
 use crate::subject::{List, Subject};
 use crate::{best, naive};
 use std::hint::black_box;
@@ -17,7 +17,7 @@ pub fn rounds_of_large(rounds: usize) -> usize {
     rounds.div_ceil(4)
 }
 
-/// What is timed, in the order of the columns.
+/// A way of reading or writing lists, in the order of the columns.
 #[derive(Clone, Copy)]
 enum Way {
     Copy,
@@ -28,21 +28,26 @@ enum Way {
 
 const WAYS: [Way; 4] = [Way::Copy, Way::Codec, Way::Best, Way::Naive];
 
+/// A way of reading small boxes without a list of all types, in the order of the columns.
+#[derive(Clone, Copy)]
+enum SmallWay {
+    /// The codec, one box at a time into one place.
+    CodecEach,
+    /// The best effort, in the same way.
+    BestEach,
+    /// The codec, into a list of boxes of fragments alone.
+    Fragments,
+}
+
+const SMALL_WAYS: [SmallWay; 3] = [SmallWay::CodecEach, SmallWay::BestEach, SmallWay::Fragments];
+
 /// The least seconds of one pass, by way.
+#[derive(Clone, Copy)]
 pub struct Times {
     pub read: [f64; 4],
     pub write: [f64; 4],
-    codec_write: CodecWrite,
-}
-
-impl Times {
-    pub fn new(codec_write: CodecWrite) -> Times {
-        Times {
-            read: [f64::MAX; 4],
-            write: [f64::MAX; 4],
-            codec_write,
-        }
-    }
+    /// Of small boxes alone, and the last of boxes of fragments alone; else `f64::MAX`.
+    pub small: [f64; 3],
 }
 
 /// The codec writes only what it has read in the same call. So one reading with one writing is timed, and one reading
@@ -71,6 +76,7 @@ impl CodecWrite {
     }
 
     fn time(&mut self, codec: Codec, bytes: &[u8]) {
+        black_box(codec.write(bytes, 1));
         let once = seconds_inside(1, || codec.write(bytes, 1));
         let more = seconds_inside(1, || codec.write(bytes, 1 + self.more));
         self.least_once = self.least_once.min(once);
@@ -89,8 +95,9 @@ impl CodecWrite {
     }
 }
 
-/// The seconds of one of so many passes.
+/// The seconds of one of so many passes, after one that is not timed.
 fn seconds<T>(times: u64, mut pass: impl FnMut() -> T) -> f64 {
+    black_box(pass());
     let begin = Instant::now();
     for _ in 0..times {
         black_box(pass());
@@ -105,8 +112,18 @@ fn seconds_inside(times: u64, passes: impl FnOnce() -> u64) -> f64 {
     begin.elapsed().as_secs_f64() / times as f64
 }
 
+/// The same, after a pass that is not timed.
+fn seconds_of_codec(times: u64, passes: impl Fn(u64) -> u64) -> f64 {
+    black_box(passes(1));
+    seconds_inside(times, || passes(times))
+}
+
 fn read_best<M: Member>(bytes: &[u8]) -> u64 {
     checksum(&best::read_boxes::<M>(black_box(bytes)).unwrap())
+}
+
+fn each_best<M: Member>(bytes: &[u8]) -> u64 {
+    best::sum_of_each::<M>(black_box(bytes), checksum).unwrap()
 }
 
 fn read_naive<M: Member>(bytes: &[u8]) -> u64 {
@@ -125,11 +142,23 @@ fn time_reading(way: Way, s: &Subject, times: u64) -> f64 {
     let bytes = &s.stream.bytes[..];
     match (way, &s.boxes) {
         (Way::Copy, _) => seconds(times, || black_box(bytes).to_vec()),
-        (Way::Codec, _) => seconds_inside(times, || s.codec.read(bytes, times)),
+        (Way::Codec, _) => seconds_of_codec(times, |times| s.codec.read(bytes, times)),
         (Way::Best, List::Skipping(_)) => seconds(times, || read_best::<AnyBox>(bytes)),
         (Way::Best, List::Keeping(_)) => seconds(times, || read_best::<KeptBox>(bytes)),
         (Way::Naive, List::Skipping(_)) => seconds(times, || read_naive::<AnyBox>(bytes)),
         (Way::Naive, List::Keeping(_)) => seconds(times, || read_naive::<KeptBox>(bytes)),
+    }
+}
+
+fn time_small(way: SmallWay, s: &Subject, times: u64) -> f64 {
+    let bytes = &s.stream.bytes[..];
+    match (way, &s.boxes) {
+        (SmallWay::CodecEach, _) => {
+            seconds_of_codec(times, |times| s.codec.read_each(bytes, times))
+        }
+        (SmallWay::BestEach, List::Skipping(_)) => seconds(times, || each_best::<AnyBox>(bytes)),
+        (SmallWay::BestEach, List::Keeping(_)) => seconds(times, || each_best::<KeptBox>(bytes)),
+        (SmallWay::Fragments, _) => seconds_of_codec(times, |times| read_fragments(bytes, times)),
     }
 }
 
@@ -155,35 +184,50 @@ fn passes(least: f64) -> u64 {
     }
 }
 
-/// One round of a stream. The order of the ways rotates from round to round.
-fn round_of(s: &mut Subject, round: usize) {
+/// One round. The order of the ways rotates from round to round.
+fn round_of(s: &Subject, times: &mut Times, codec_write: &mut CodecWrite, round: usize) {
     for turn in 0..WAYS.len() {
         let way = WAYS[(round + turn) % WAYS.len()];
         let i = way as usize;
-        let read = time_reading(way, s, passes(s.times.read[i]));
-        s.times.read[i] = s.times.read[i].min(read);
+        let read = time_reading(way, s, passes(times.read[i]));
+        times.read[i] = times.read[i].min(read);
         if matches!(way, Way::Codec) {
-            s.times.codec_write.time(s.codec, &s.stream.bytes);
+            codec_write.time(s.codec, &s.stream.bytes);
         } else {
-            let write = time_writing(way, s, passes(s.times.write[i]));
-            s.times.write[i] = s.times.write[i].min(write);
+            let write = time_writing(way, s, passes(times.write[i]));
+            times.write[i] = times.write[i].min(write);
+        }
+    }
+    for turn in 0..SMALL_WAYS.len() {
+        let way = SMALL_WAYS[(round + turn) % SMALL_WAYS.len()];
+        let is_timed = match way {
+            SmallWay::Fragments => s.is_of_fragments,
+            _ => s.stream.entries.is_none(),
+        };
+        if is_timed {
+            let i = way as usize;
+            let read = time_small(way, s, passes(times.small[i]));
+            times.small[i] = times.small[i].min(read);
         }
     }
 }
 
-/// One round goes through all streams and all ways, so that what changes on the machine meanwhile hits them alike.
-pub fn measure(tables: &mut [Subject], small: &mut [Subject], rounds: usize) {
+/// The least times of so many rounds, or of a quarter of them if the stream is large.
+pub fn measure(s: &Subject, rounds: usize) -> Times {
+    let mut times = Times {
+        read: [f64::MAX; 4],
+        write: [f64::MAX; 4],
+        small: [f64::MAX; 3],
+    };
+    let mut codec_write = CodecWrite::of(s.codec, &s.stream.bytes);
+    let rounds = if s.stream.bytes.len() > LARGE {
+        rounds_of_large(rounds)
+    } else {
+        rounds
+    };
     for round in 0..rounds {
-        for s in tables.iter_mut().chain(small.iter_mut()) {
-            let large = s.stream.bytes.len() > LARGE;
-            if !large {
-                round_of(s, round);
-            } else if round % 4 == 0 {
-                round_of(s, round / 4);
-            }
-        }
+        round_of(s, &mut times, &mut codec_write, round);
     }
-    for s in tables.iter_mut().chain(small.iter_mut()) {
-        s.times.write[Way::Codec as usize] = s.times.codec_write.seconds();
-    }
+    times.write[Way::Codec as usize] = codec_write.seconds();
+    times
 }

@@ -190,6 +190,7 @@ pub fn append_trun(out: &mut Vec<u8>, run: &TrunBox) {
     }
     for start in (0..samples).step_by(BLOCK) {
         let rows = BLOCK.min(samples - start);
-        put_rows(zeros(out, row * rows), run, start);
+        // SAFETY: each row is put whole.
+        put_rows(unsafe { room(out, row * rows) }, run, start);
     }
 }

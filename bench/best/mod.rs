@@ -112,31 +112,50 @@ fn push_any<M: Member>(boxes: &mut Vec<M>, code: u32, b: &[u8], size: u64) -> Re
     Ok(true)
 }
 
+/// Reads the box at an offset behind the members of `boxes`, unless it is of another type and `M` has none of it, and
+/// returns where it ends.
+fn push_at<M: Member>(boxes: &mut Vec<M>, bytes: &[u8], at: usize) -> Result<usize> {
+    let head = header(bytes, at)?;
+    let size = if head.size == 0 {
+        (bytes.len() - head.start) as u64
+    } else {
+        head.size
+    };
+    test(size >= 8)?;
+    let end = (head.start as u64)
+        .checked_add(size)
+        .ok_or(Error::InvalidData)?;
+    if end > bytes.len() as u64 {
+        return Err(Error::Io);
+    }
+    if !push_any(boxes, head.code, &bytes[head.start..], size)? {
+        let content = &bytes[head.start + 8..end as usize];
+        boxes.extend(M::from_other(head.code, content));
+    }
+    Ok(end as usize)
+}
+
 /// The boxes of a stream.
 pub fn read_boxes<M: Member>(bytes: &[u8]) -> Result<Vec<M>> {
     let mut boxes = Vec::new();
     let mut at = 0;
     while at < bytes.len() {
-        let head = header(bytes, at)?;
-        let size = if head.size == 0 {
-            (bytes.len() - head.start) as u64
-        } else {
-            head.size
-        };
-        test(size >= 8)?;
-        let end = (head.start as u64)
-            .checked_add(size)
-            .ok_or(Error::InvalidData)?;
-        if end > bytes.len() as u64 {
-            return Err(Error::Io);
-        }
-        if !push_any(&mut boxes, head.code, &bytes[head.start..], size)? {
-            let content = &bytes[head.start + 8..end as usize];
-            boxes.extend(M::from_other(head.code, content));
-        }
-        at = end as usize;
+        at = push_at(&mut boxes, bytes, at)?;
     }
     Ok(boxes)
+}
+
+/// The sum of what `each` says of the boxes of a stream, which are read one at a time into one place.
+pub fn sum_of_each<M: Member>(bytes: &[u8], each: impl Fn(&[M]) -> u64) -> Result<u64> {
+    let mut place = Vec::with_capacity(1);
+    let mut sum: u64 = 0;
+    let mut at = 0;
+    while at < bytes.len() {
+        place.clear();
+        at = push_at(&mut place, bytes, at)?;
+        sum = sum.wrapping_add(each(&place));
+    }
+    Ok(sum)
 }
 
 fn put_u16(out: &mut [u8], at: usize, number: u16) {
@@ -172,6 +191,18 @@ fn put_full(out: &mut [u8], code: u32, version: u8, flags: u32) {
 fn zeros(out: &mut Vec<u8>, count: usize) -> &mut [u8] {
     let start = out.len();
     out.resize(start + count, 0);
+    &mut out[start..]
+}
+
+/// So many bytes at the end of the output, which hold anything.
+///
+/// # Safety
+///
+/// Each of them is put before any is read.
+unsafe fn room(out: &mut Vec<u8>, count: usize) -> &mut [u8] {
+    out.reserve(count);
+    let start = out.len();
+    out.set_len(start + count);
     &mut out[start..]
 }
 

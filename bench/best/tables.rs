@@ -12,7 +12,7 @@ pub fn rows<const E: usize>(bytes: &[u8], size: u64, at: usize, count: u32) -> R
 fn read_table<const E: usize, T>(
     bytes: &[u8],
     size: u64,
-    entry: impl Fn(&[u8; E]) -> T,
+    entry: impl FnMut(&[u8; E]) -> T,
 ) -> Result<Table<T>> {
     let head = fields(bytes, 8, 8)?;
     let rows = rows::<E>(bytes, size, 16, u32_at(head, 4))?;
@@ -45,14 +45,23 @@ pub fn read_ctts(bytes: &[u8], size: u64) -> Result<CttsBox> {
     })
 }
 
+/// In one loop: each entry is read, and numbered by what those before it come to.
 pub fn read_stsc(bytes: &[u8], size: u64) -> Result<StscBox> {
-    let mut table = read_table(bytes, size, |row: &[u8; 12]| StscEntry {
-        first_chunk: u32_at(row, 0),
-        samples_per_chunk: u32_at(row, 4),
-        sample_description_index: u32_at(row, 8),
-        first_sample: 0,
+    let first_chunk = bytes.get(16..20).map_or(0, |first| u32_at(first, 0));
+    let mut numbering = Numbering::from(first_chunk);
+    let mut is_numbered = true;
+    let table = read_table(bytes, size, |row: &[u8; 12]| {
+        let (first_chunk, samples_per_chunk) = (u32_at(row, 0), u32_at(row, 4));
+        let first_sample = numbering.next(first_chunk, samples_per_chunk);
+        is_numbered &= first_sample.is_some();
+        StscEntry {
+            first_chunk,
+            samples_per_chunk,
+            sample_description_index: u32_at(row, 8),
+            first_sample: first_sample.unwrap_or(0),
+        }
     })?;
-    number_chunks(&mut table.entries).ok_or(Error::InvalidData)?;
+    test(is_numbered)?;
     Ok(table)
 }
 
@@ -104,7 +113,7 @@ pub fn read_elst(bytes: &[u8], size: u64) -> Result<ElstBox> {
     })
 }
 
-/// How many rows are put at a time, into zeros that are still in the nearest cache.
+/// How many rows are put at a time where a row comes from several lists, so that they stay in the nearest cache.
 pub const BLOCK: usize = 512;
 
 fn append_rows<const E: usize, T>(
@@ -112,11 +121,11 @@ fn append_rows<const E: usize, T>(
     entries: &[T],
     put: impl Fn(&mut [u8; E], &T),
 ) {
-    for block in entries.chunks(BLOCK) {
-        let (rows, _) = zeros(out, E * block.len()).as_chunks_mut::<E>();
-        for (row, entry) in rows.iter_mut().zip(block) {
-            put(row, entry);
-        }
+    // SAFETY: each row is put whole.
+    let room = unsafe { room(out, E * entries.len()) };
+    let (rows, _) = room.as_chunks_mut::<E>();
+    for (row, entry) in rows.iter_mut().zip(entries) {
+        put(row, entry);
     }
 }
 

@@ -92,8 +92,10 @@ impl Entry for StscEntry {
     const ROW: u64 = 12;
 
     fn all_fit(entries: &[StscEntry]) -> bool {
-        let mut numbering = Numbering::of(entries);
-        entries.iter().all(|entry| numbering.next(entry).is_some())
+        let mut numbering = Numbering::before(entries);
+        let mut next =
+            |entry: &StscEntry| numbering.next(entry.first_chunk, entry.samples_per_chunk);
+        entries.iter().all(|entry| next(entry).is_some())
     }
 }
 
@@ -145,39 +147,43 @@ impl Measured for ElstBox {
 }
 
 /// The first samples of the entries of a sample-to-chunk box, one after the other.
-struct Numbering {
+pub struct Numbering {
     sample: u32,
     chunk: u32,
     samples_per_chunk: u32,
 }
 
 impl Numbering {
-    fn of(entries: &[StscEntry]) -> Numbering {
+    fn before(entries: &[StscEntry]) -> Numbering {
+        Numbering::from(entries.first().map_or(0, |entry| entry.first_chunk))
+    }
+
+    /// Before the first entry, which begins with this chunk.
+    pub fn from(chunk: u32) -> Numbering {
         Numbering {
             sample: 1,
-            chunk: entries.first().map_or(0, |entry| entry.first_chunk),
+            chunk,
             samples_per_chunk: 0,
         }
     }
 
     /// The first sample of the next entry. None if the chunks decrease or a number passes 32 bits.
-    fn next(&mut self, entry: &StscEntry) -> Option<u32> {
-        self.sample = entry
-            .first_chunk
+    pub fn next(&mut self, first_chunk: u32, samples_per_chunk: u32) -> Option<u32> {
+        self.sample = first_chunk
             .checked_sub(self.chunk)?
             .checked_mul(self.samples_per_chunk)?
             .checked_add(self.sample)?;
-        self.chunk = entry.first_chunk;
-        self.samples_per_chunk = entry.samples_per_chunk;
+        self.chunk = first_chunk;
+        self.samples_per_chunk = samples_per_chunk;
         Some(self.sample)
     }
 }
 
 /// Fills in the first samples of the entries. None where they can't be computed.
 pub fn number_chunks(entries: &mut [StscEntry]) -> Option<()> {
-    let mut numbering = Numbering::of(entries);
+    let mut numbering = Numbering::before(entries);
     for entry in entries {
-        entry.first_sample = numbering.next(entry)?;
+        entry.first_sample = numbering.next(entry.first_chunk, entry.samples_per_chunk)?;
     }
     Some(())
 }

@@ -8,7 +8,7 @@ mod tables;
 use builder::{boxes_of, without};
 
 /// The numbers of entries of a table.
-pub const LENGTHS: [u32; 4] = [1_000, 10_000, 100_000, 1_000_000];
+const LENGTHS: [u32; 4] = [1_000, 10_000, 100_000, 1_000_000];
 
 /// The most that the codec is to take, as parts of the time of the best effort.
 #[derive(Clone, Copy)]
@@ -50,8 +50,17 @@ impl Stream {
     }
 }
 
+/// All streams: the tables of each length, and then small boxes.
+pub fn all() -> Vec<Stream> {
+    LENGTHS
+        .into_iter()
+        .flat_map(tables)
+        .chain(small())
+        .collect()
+}
+
 /// One table of so many entries, for each kind of table. `elst` has two, for its two rows.
-pub fn tables(entries: u32) -> Vec<Stream> {
+fn tables(entries: u32) -> Vec<Stream> {
     let table = |(name, bytes)| {
         let mut stream = Stream::new(name, bytes);
         stream.entries = Some(entries);
@@ -64,7 +73,7 @@ pub fn tables(entries: u32) -> Vec<Stream> {
 }
 
 /// Streams of boxes of one type, of several types in turn, and the contents of a `moof` and of a `moov`.
-pub fn small() -> Vec<Stream> {
+fn small() -> Vec<Stream> {
     let mut streams: Vec<Stream> = fragments::of_one_type(8_000)
         .into_iter()
         .map(|(name, bytes)| Stream::new(name, bytes))

@@ -9,7 +9,8 @@ ghost use Rattle.mp4_stream.specs.declared.any_box.AnyBox.{AnyBox};
 ghost use Rattle.mp4_stream.specs.declared.kept_box.KeptBox.{KeptBox};
 
 use mp4_stream::{
-    AnyBox, ByteCursor, Error, KeptBox, Mp4Box, Result, StreamBox, read_boxes_as, write_boxes,
+    AnyBox, ByteCursor, Error, FragmentBox, KeptBox, Mp4Box, Result, StreamBox, boxes_as,
+    read_boxes_as, write_boxes,
 };
 use std::alloc::Global;
 use std::mem::size_of;
@@ -29,6 +30,22 @@ fn read_times<B: StreamBox>(alloc: Global, bytes: &[u8], times: u64) -> Result<u
     for _ in 0..times {
         let boxes = read_boxes_as::<B>(alloc, &mut ByteCursor::new(bytes))?;
         sum = sum.wrapping_add(checksum(&boxes));
+    }
+    Ok(sum)
+}
+
+/// The same, one box at a time into one place.
+fn read_each_times<B: StreamBox>(alloc: Global, bytes: &[u8], times: u64) -> Result<u64> {
+    let mut place = Vec::new(alloc);
+    let mut sum: u64 = 0;
+    for _ in 0..times {
+        let mut boxes = boxes_as::<B>(alloc, bytes);
+        for _ in 0..bytes.len() {
+            if !boxes.next_into(&mut place)? {
+                break;
+            }
+            sum = sum.wrapping_add(checksum(&place));
+        }
     }
     Ok(sum)
 }
@@ -74,6 +91,25 @@ pub extern "C" fn mp4_read_kept(alloc: Global, bytes: &[u8], times: u64) -> u64 
     read_times::<KeptBox>(alloc, bytes, times).unwrap_or(u64::MAX)
 }
 
+/// Reads a stream `times` times, one box at a time into one place, and returns the sum of the checksums of the boxes;
+/// `u64::MAX` after an error.
+#[unsafe(no_mangle)]
+pub extern "C" fn mp4_read_each(alloc: Global, bytes: &[u8], times: u64) -> u64 {
+    read_each_times::<AnyBox>(alloc, bytes, times).unwrap_or(u64::MAX)
+}
+
+/// The same, with boxes of other types kept.
+#[unsafe(no_mangle)]
+pub extern "C" fn mp4_read_each_kept(alloc: Global, bytes: &[u8], times: u64) -> u64 {
+    read_each_times::<KeptBox>(alloc, bytes, times).unwrap_or(u64::MAX)
+}
+
+/// As `mp4_read`, with lists that have boxes of fragments alone.
+#[unsafe(no_mangle)]
+pub extern "C" fn mp4_read_fragments(alloc: Global, bytes: &[u8], times: u64) -> u64 {
+    read_times::<FragmentBox>(alloc, bytes, times).unwrap_or(u64::MAX)
+}
+
 /// Reads a stream once and writes its boxes `times` times, each time into a new vector. Returns the sum of the lengths
 /// and of the last bytes; `u64::MAX` after an error.
 #[unsafe(no_mangle)]
@@ -114,4 +150,10 @@ pub extern "C" fn mp4_member_size() -> u64 {
 #[unsafe(no_mangle)]
 pub extern "C" fn mp4_kept_member_size() -> u64 {
     size_of::<KeptBox>() as u64
+}
+
+/// The same, of a list of boxes of fragments alone.
+#[unsafe(no_mangle)]
+pub extern "C" fn mp4_fragment_member_size() -> u64 {
+    size_of::<FragmentBox>() as u64
 }
