@@ -1,4 +1,4 @@
-"""Compares what the program mp4_show prints of an input with what a row expects, and with what the slow reader finds."""
+"""Compares what the program test_probe prints of an input with what a row expects, and with what the slow reader finds."""
 
 from functools import partial
 

@@ -1,4 +1,4 @@
-"""What the program mp4_show prints, and how its texts are read: values, faults, positions, and bytes that were
+"""What the program test_probe prints, and how its texts are read: values, faults, positions, and bytes that were
 written."""
 
 import os
@@ -180,7 +180,7 @@ def shown(program, inputs):
     return texts_of(out, len(inputs))
 
 
-def built(script, program="mp4_show"):
+def built(script, program="test_probe"):
     """The path of a program, which is built where no gate has. The script is the one that asks for it."""
     text = f'name={script}; . "{TOP}/tests/built"; built {program} "{TOP}/crates/{program}/stdin"'
     subprocess.run(["sh", "-c", text, os.path.join(TOP, "tests", script)], check=True, stdout=subprocess.DEVNULL)

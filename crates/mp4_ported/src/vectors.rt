@@ -1,174 +1,18 @@
-//! The vectors: the first box of each type in the tests of the Rust crate `mp4`, and the bytes that it is written in,
-//! which are worked out from the layout table. They are in its order. Of `avcC`, `hvcC`, `vpcC` and `esds` it is the child
-//! in the test of the sample entry. `url `, `dref`, `dinf` and `stsd` have no test there: it is the location `a`, a `dref`
-//! and a `dinf` of it, and an `stsd` of the `mp4a`.
+//! Boxes whose bytes are known: what a vector is, and two vectors of each type.
 
-use mp4_fixtures::boxes::{entries, flat, sound, tables, text};
-use mp4_fixtures::vectors::Vector;
-use mp4_stream::{AnyBox, HvcCBox, Result, TrunBox};
+mod first;
+mod second;
+
+pub use first::{FIRST_VECTORS, First};
+use mp4_stream::{AnyBox, Result};
+pub use second::{SECOND_VECTORS, Second};
 use std::alloc::Global;
 
-/// A vector, by the type of its box.
-#[derive(Clone, Copy, Debug)]
-pub enum First {
-    Mvhd,
-    Tkhd,
-    Mdhd,
-    Mehd,
-    Tfdt,
-    Mfhd,
-    Smhd,
-    Vmhd,
-    Trex,
-    Tx3g,
-    Hvcc,
-    Vpcc,
-    Stco,
-    Stss,
-    Co64,
-    Stts,
-    Ctts,
-    Stsc,
-    Elst,
-    Stsz,
-    Tfhd,
-    Trun,
-    Ftyp,
-    Hdlr,
-    Url,
-    Data,
-    Emsg,
-    Dref,
-    Dinf,
-    Avcc,
-    Avc1,
-    Hev1,
-    Vp09,
-    Mp4a,
-    Stsd,
-    Esds,
-}
+/// A box, and the bytes that it is written in. They are worked out from the layout table, and are not what this codec writes.
+pub trait Vector: Copy {
+    /// The bytes that the box is written in.
+    fn bytes(self) -> &'static [u8];
 
-/// Every vector.
-pub const VECTORS: [First; 36] = [
-    First::Mvhd,
-    First::Tkhd,
-    First::Mdhd,
-    First::Mehd,
-    First::Tfdt,
-    First::Mfhd,
-    First::Smhd,
-    First::Vmhd,
-    First::Trex,
-    First::Tx3g,
-    First::Hvcc,
-    First::Vpcc,
-    First::Stco,
-    First::Stss,
-    First::Co64,
-    First::Stts,
-    First::Ctts,
-    First::Stsc,
-    First::Elst,
-    First::Stsz,
-    First::Tfhd,
-    First::Trun,
-    First::Ftyp,
-    First::Hdlr,
-    First::Url,
-    First::Data,
-    First::Emsg,
-    First::Dref,
-    First::Dinf,
-    First::Avcc,
-    First::Avc1,
-    First::Hev1,
-    First::Vp09,
-    First::Mp4a,
-    First::Stsd,
-    First::Esds,
-];
-
-impl Vector for First {
-    fn bytes(self) -> &'static [u8] {
-        match self {
-            First::Mvhd => &flat::MVHD,
-            First::Tkhd => &flat::TKHD_SHORT,
-            First::Mdhd => &flat::MDHD,
-            First::Mehd => &flat::MEHD_SHORT,
-            First::Tfdt => &flat::TFDT_OF_ZERO,
-            First::Mfhd => &flat::MFHD,
-            First::Smhd => &flat::SMHD,
-            First::Vmhd => &flat::VMHD_BLACK,
-            First::Trex => &flat::TREX,
-            First::Tx3g => &entries::TX3G_OF_TEST,
-            First::Hvcc => &entries::HVCC_OF_TEST,
-            First::Vpcc => &entries::VPCC_OF_TEST,
-            First::Stco => &tables::STCO,
-            First::Stss => &tables::STSS_OF_NINE,
-            First::Co64 => &tables::CO64_OF_SEVEN,
-            First::Stts => &tables::STTS,
-            First::Ctts => &tables::CTTS,
-            First::Stsc => &tables::STSC,
-            First::Elst => &tables::ELST,
-            First::Stsz => &tables::STSZ_OF_ONE_SIZE,
-            First::Tfhd => &tables::TFHD_BARE,
-            First::Trun => &tables::TRUN_NONE,
-            First::Ftyp => &text::FTYP,
-            First::Hdlr => &text::HDLR,
-            First::Url => &text::URL,
-            First::Data => &text::DATA,
-            First::Emsg => &text::EMSG,
-            First::Dref => &text::DREF_URL,
-            First::Dinf => &text::DINF_URL,
-            First::Avcc => &entries::AVCC_OF_TEST,
-            First::Avc1 => &entries::AVC1_OF_TEST,
-            First::Hev1 => &entries::HEV1_OF_TEST,
-            First::Vp09 => &entries::VP09_OF_TEST,
-            First::Mp4a => &sound::MP4A_OF_TEST,
-            First::Stsd => &sound::STSD_OF_TEST,
-            First::Esds => &sound::ESDS_OF_TEST,
-        }
-    }
-
-    fn make(self, alloc: Global) -> Result<AnyBox> {
-        Ok(match self {
-            First::Mvhd => AnyBox::MvhdBox(flat::mvhd()),
-            First::Tkhd => AnyBox::TkhdBox(flat::tkhd_short()),
-            First::Mdhd => AnyBox::MdhdBox(flat::mdhd(alloc)?),
-            First::Mehd => AnyBox::MehdBox(flat::mehd_short(32)),
-            First::Tfdt => AnyBox::TfdtBox(flat::tfdt_of_zero(0)),
-            First::Mfhd => AnyBox::MfhdBox(flat::mfhd()),
-            First::Smhd => AnyBox::SmhdBox(flat::smhd()),
-            First::Vmhd => AnyBox::VmhdBox(flat::vmhd_black()),
-            First::Trex => AnyBox::TrexBox(flat::trex()),
-            First::Tx3g => AnyBox::Tx3gBox(entries::tx3g_of_test()),
-            First::Hvcc => AnyBox::HvcCBox(HvcCBox::new()),
-            First::Vpcc => AnyBox::VpccBox(entries::vpcc_of_test()),
-            First::Stco => AnyBox::StcoBox(tables::stco(alloc)?),
-            First::Stss => AnyBox::StssBox(tables::stss_of_nine(alloc)?),
-            First::Co64 => AnyBox::Co64Box(tables::co64_of_seven(alloc)?),
-            First::Stts => AnyBox::SttsBox(tables::stts(alloc)?),
-            First::Ctts => AnyBox::CttsBox(tables::ctts(alloc)?),
-            First::Stsc => AnyBox::StscBox(tables::stsc(alloc)?),
-            First::Elst => AnyBox::ElstBox(tables::elst(alloc)?),
-            First::Stsz => AnyBox::StszBox(tables::stsz_of_one_size(alloc, 1165, 12)),
-            First::Tfhd => AnyBox::TfhdBox(tables::tfhd_bare()),
-            First::Trun => AnyBox::TrunBox(TrunBox::default_in(alloc)),
-            First::Ftyp => AnyBox::FtypBox(text::ftyp(alloc)?),
-            First::Hdlr => AnyBox::HdlrBox(text::hdlr(alloc)?),
-            First::Url => AnyBox::UrlBox(text::url(alloc)?),
-            First::Data => AnyBox::DataBox(text::data_box(alloc)?),
-            First::Emsg => AnyBox::EmsgBox(text::emsg(alloc)?),
-            First::Dref => AnyBox::DrefBox(text::dref_url(alloc)?),
-            First::Dinf => AnyBox::DinfBox(text::dinf_url(alloc)?),
-            First::Avcc => AnyBox::AvcCBox(entries::avcc_of_two(alloc, 3)?),
-            First::Avc1 => AnyBox::Avc1Box(entries::avc1_of_two(alloc, 3)?),
-            First::Hev1 => AnyBox::Hev1Box(entries::hev1_of_config()),
-            First::Vp09 => AnyBox::Vp09Box(entries::vp09_of_config()),
-            First::Mp4a => AnyBox::Mp4aBox(sound::mp4a_of_test()),
-            First::Stsd => AnyBox::StsdBox(sound::stsd_of(alloc, sound::mp4a_of_test())),
-            First::Esds => AnyBox::EsdsBox(sound::esds_of_test()),
-        })
-    }
+    /// The box.
+    fn make(self, alloc: Global) -> Result<AnyBox>;
 }

@@ -6,8 +6,7 @@
 mod refused_memory;
 mod without_memory;
 
-use mp4_fixtures::vectors::{SECOND_VECTORS, Vector};
-use mp4_ported::vectors::VECTORS;
+use mp4_ported::vectors::{FIRST_VECTORS, SECOND_VECTORS, Vector};
 use refused_memory::{
     Ending, clone_config, clone_set, keep_all, list_all, make_texts, shorten_offsets,
     write_and_read_all, write_and_read_each, write_and_read_marks,
@@ -59,7 +58,7 @@ fn use_others(alloc: Global) -> u8 {
 
 fn main(rt: HostRuntime) -> ExitCode {
     let alloc = rt.alloc();
-    let first = use_vectors(alloc, &VECTORS);
+    let first = use_vectors(alloc, &FIRST_VECTORS);
     let second = use_vectors(alloc, &SECOND_VECTORS);
     ExitCode::from(first.max(second).max(use_others(alloc)))
 }

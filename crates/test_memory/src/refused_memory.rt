@@ -1,8 +1,8 @@
 //! Calls of the codec that may be refused a request for memory, or one and all after it. A call that is out of memory
 //! leaves everything as it was, and is made again: then it has its usual result, or is out of memory once more.
 
-use mp4_examples::mark::MarkBox;
-use mp4_fixtures::vectors::Vector;
+use example_callers::mark::MarkBox;
+use mp4_ported::vectors::Vector;
 use mp4_stream::{
     AnyBox, AvcConfig, ByteCursor, Co64Box, Error, KeptBox, MdhdBox, MediaConfig, NalUnit, StcoBox,
     StreamBox, TryClone, WriteBox, language_string, list_boxes, read_boxes_as, write_boxes,

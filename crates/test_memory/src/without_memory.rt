@@ -1,7 +1,7 @@
 //! Calls of the codec that never ask for memory.
 
 use crate::refused_memory::Ending;
-use mp4_fixtures::vectors::Vector;
+use mp4_ported::vectors::Vector;
 use mp4_stream::{AnyBox, BoxHeader, ByteCursor, Error, StreamBox, read_boxes};
 use std::alloc::Global;
 

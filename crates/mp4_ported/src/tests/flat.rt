@@ -1,49 +1,46 @@
 //! The tests of the Rust crate for boxes of fixed fields.
 
-use mp4_fixtures::boxes::flat::{
+use crate::boxes::flat::{
     MDHD, MDHD_ENGLISH, MEHD_SHORT, MFHD, MVHD, MVHD_LONG, SMHD, TFDT_LONG, TFDT_OF_ZERO,
     TKHD_LONG, TKHD_SHORT, TREX, VMHD_BLACK, mdhd, mdhd_english, mehd_short, mfhd, mvhd, mvhd_long,
     smhd, tfdt_of_zero, tkhd_long, tkhd_short, trex, vmhd_black,
 };
-use mp4_fixtures::helpers::expect_round_trip;
-use mp4_fixtures::made;
+use crate::helpers::expect_round_trip;
+use crate::made;
 use mp4_stream::{language_code, language_string};
 use std::test::Fail;
 
 #[test]
-fn mvhd32(rt: HostRuntime) -> Result<(), Fail> {
-    expect_round_trip(rt.alloc(), &mvhd(), &MVHD)?;
+fn mvhd32_and_mvhd64(rt: HostRuntime) -> Result<(), Fail> {
+    let alloc = rt.alloc();
+    expect_round_trip(alloc, &mvhd(), &MVHD).and(expect_round_trip(
+        alloc,
+        &mvhd_long(),
+        &MVHD_LONG,
+    ))?;
     Ok(())
 }
 
 #[test]
-fn mvhd64(rt: HostRuntime) -> Result<(), Fail> {
-    expect_round_trip(rt.alloc(), &mvhd_long(), &MVHD_LONG)?;
+fn tkhd32_and_tkhd64(rt: HostRuntime) -> Result<(), Fail> {
+    let alloc = rt.alloc();
+    expect_round_trip(alloc, &tkhd_short(), &TKHD_SHORT).and(expect_round_trip(
+        alloc,
+        &tkhd_long(),
+        &TKHD_LONG,
+    ))?;
     Ok(())
 }
 
+/// In the Rust crate too, both tests have times of 32 bits.
 #[test]
-fn tkhd32(rt: HostRuntime) -> Result<(), Fail> {
-    expect_round_trip(rt.alloc(), &tkhd_short(), &TKHD_SHORT)?;
-    Ok(())
-}
-
-#[test]
-fn tkhd64(rt: HostRuntime) -> Result<(), Fail> {
-    expect_round_trip(rt.alloc(), &tkhd_long(), &TKHD_LONG)?;
-    Ok(())
-}
-
-#[test]
-fn mdhd32(rt: HostRuntime) -> Result<(), Fail> {
-    made::round_trip(rt.alloc(), mdhd(rt.alloc()), &MDHD)?;
-    Ok(())
-}
-
-/// In the Rust crate too, this test has times of 32 bits.
-#[test]
-fn mdhd64(rt: HostRuntime) -> Result<(), Fail> {
-    made::round_trip(rt.alloc(), mdhd_english(rt.alloc()), &MDHD_ENGLISH)?;
+fn mdhd32_and_mdhd64(rt: HostRuntime) -> Result<(), Fail> {
+    let alloc = rt.alloc();
+    made::round_trip(alloc, mdhd(alloc), &MDHD).and(made::round_trip(
+        alloc,
+        mdhd_english(alloc),
+        &MDHD_ENGLISH,
+    ))?;
     Ok(())
 }
 
@@ -56,55 +53,36 @@ fn language_codes(rt: HostRuntime) -> Result<(), Fail> {
     Ok(())
 }
 
+/// In the Rust crate too, both tests have a duration of 32 bits.
 #[test]
-fn mehd32(rt: HostRuntime) -> Result<(), Fail> {
-    expect_round_trip(rt.alloc(), &mehd_short(32), &MEHD_SHORT)?;
-    Ok(())
-}
-
-/// In the Rust crate too, this test has a duration of 32 bits.
-#[test]
-fn mehd64(rt: HostRuntime) -> Result<(), Fail> {
-    expect_round_trip(
-        rt.alloc(),
+fn mehd32_and_mehd64(rt: HostRuntime) -> Result<(), Fail> {
+    let alloc = rt.alloc();
+    let bytes = b"\0\0\0\x10mehd\0\0\0\0\x01\xd0z\0";
+    expect_round_trip(alloc, &mehd_short(32), &MEHD_SHORT).and(expect_round_trip(
+        alloc,
         &mehd_short(30_439_936),
-        b"\0\0\0\x10mehd\0\0\0\0\x01\xd0z\0",
-    )?;
+        bytes,
+    ))?;
     Ok(())
 }
 
 #[test]
-fn tfdt32(rt: HostRuntime) -> Result<(), Fail> {
-    expect_round_trip(rt.alloc(), &tfdt_of_zero(0), &TFDT_OF_ZERO)?;
+fn tfdt32_and_tfdt64(rt: HostRuntime) -> Result<(), Fail> {
+    let alloc = rt.alloc();
+    expect_round_trip(alloc, &tfdt_of_zero(0), &TFDT_OF_ZERO).and(expect_round_trip(
+        alloc,
+        &tfdt_of_zero(1),
+        &TFDT_LONG,
+    ))?;
     Ok(())
 }
 
 #[test]
-fn tfdt64(rt: HostRuntime) -> Result<(), Fail> {
-    expect_round_trip(rt.alloc(), &tfdt_of_zero(1), &TFDT_LONG)?;
-    Ok(())
-}
-
-#[test]
-fn mfhd_of_one(rt: HostRuntime) -> Result<(), Fail> {
-    expect_round_trip(rt.alloc(), &mfhd(), &MFHD)?;
-    Ok(())
-}
-
-#[test]
-fn smhd_of_a_balance(rt: HostRuntime) -> Result<(), Fail> {
-    expect_round_trip(rt.alloc(), &smhd(), &SMHD)?;
-    Ok(())
-}
-
-#[test]
-fn vmhd_of_black(rt: HostRuntime) -> Result<(), Fail> {
-    expect_round_trip(rt.alloc(), &vmhd_black(), &VMHD_BLACK)?;
-    Ok(())
-}
-
-#[test]
-fn trex_of_a_track(rt: HostRuntime) -> Result<(), Fail> {
-    expect_round_trip(rt.alloc(), &trex(), &TREX)?;
+fn mfhd_smhd_vmhd_and_trex(rt: HostRuntime) -> Result<(), Fail> {
+    let alloc = rt.alloc();
+    expect_round_trip(alloc, &mfhd(), &MFHD)
+        .and(expect_round_trip(alloc, &smhd(), &SMHD))
+        .and(expect_round_trip(alloc, &vmhd_black(), &VMHD_BLACK))
+        .and(expect_round_trip(alloc, &trex(), &TREX))?;
     Ok(())
 }

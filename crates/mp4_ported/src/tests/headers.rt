@@ -1,6 +1,6 @@
 //! The tests of the Rust crate for codes and headers.
 
-use mp4_fixtures::helpers::{Kind, kind_of};
+use crate::helpers::{Kind, kind_of};
 use mp4_stream::{BoxHeader, BoxType, ByteCursor, FourCC};
 use std::test::Fail;
 

@@ -1,104 +1,75 @@
 //! The tests of the Rust crate for tables.
 
-use mp4_fixtures::boxes::tables::{
+use crate::boxes::tables::{
     CO64_OF_SEVEN, CTTS, ELST, ELST_LONG, STCO, STSC, STSS_OF_NINE, STSZ_OF_NINE, STSZ_OF_ONE_SIZE,
     STTS, TFHD, TFHD_BARE, TRUN_NONE, TRUN_OF_FOUR_LISTS, co64_of_seven, ctts, elst, elst_long,
     stco, stsc, stss_of_nine, stsz_of_nine, stsz_of_one_size, stts, tfhd, tfhd_bare,
     trun_of_four_lists,
 };
-use mp4_fixtures::helpers::expect_round_trip;
-use mp4_fixtures::made;
+use crate::helpers::expect_round_trip;
+use crate::made;
 use mp4_stream::TrunBox;
 use std::test::Fail;
 
 #[test]
-fn stco_of_offsets(rt: HostRuntime) -> Result<(), Fail> {
-    made::round_trip(rt.alloc(), stco(rt.alloc()), &STCO)?;
+fn stco_co64_and_stsc(rt: HostRuntime) -> Result<(), Fail> {
+    let alloc = rt.alloc();
+    made::round_trip(alloc, stco(alloc), &STCO)
+        .and(made::round_trip(alloc, co64_of_seven(alloc), &CO64_OF_SEVEN))
+        .and(made::round_trip(alloc, stsc(alloc), &STSC))?;
     Ok(())
 }
 
 #[test]
-fn co64_of_offsets(rt: HostRuntime) -> Result<(), Fail> {
-    made::round_trip(rt.alloc(), co64_of_seven(rt.alloc()), &CO64_OF_SEVEN)?;
+fn stts_ctts_and_stss(rt: HostRuntime) -> Result<(), Fail> {
+    let alloc = rt.alloc();
+    made::round_trip(alloc, stts(alloc), &STTS)
+        .and(made::round_trip(alloc, ctts(alloc), &CTTS))
+        .and(made::round_trip(alloc, stss_of_nine(alloc), &STSS_OF_NINE))?;
     Ok(())
 }
 
 #[test]
-fn stts_of_runs(rt: HostRuntime) -> Result<(), Fail> {
-    made::round_trip(rt.alloc(), stts(rt.alloc()), &STTS)?;
-    Ok(())
-}
-
-#[test]
-fn ctts_of_runs(rt: HostRuntime) -> Result<(), Fail> {
-    made::round_trip(rt.alloc(), ctts(rt.alloc()), &CTTS)?;
-    Ok(())
-}
-
-#[test]
-fn stss_of_samples(rt: HostRuntime) -> Result<(), Fail> {
-    made::round_trip(rt.alloc(), stss_of_nine(rt.alloc()), &STSS_OF_NINE)?;
-    Ok(())
-}
-
-#[test]
-fn stsz_same_size(rt: HostRuntime) -> Result<(), Fail> {
+fn stsz_same_size_and_many_sizes(rt: HostRuntime) -> Result<(), Fail> {
+    let alloc = rt.alloc();
     made::round_trip(
-        rt.alloc(),
-        Ok(stsz_of_one_size(rt.alloc(), 1165, 12)),
+        alloc,
+        Ok(stsz_of_one_size(alloc, 1165, 12)),
         &STSZ_OF_ONE_SIZE,
-    )?;
+    )
+    .and(made::round_trip(alloc, stsz_of_nine(alloc), &STSZ_OF_NINE))?;
     Ok(())
 }
 
 #[test]
-fn stsz_many_sizes(rt: HostRuntime) -> Result<(), Fail> {
-    made::round_trip(rt.alloc(), stsz_of_nine(rt.alloc()), &STSZ_OF_NINE)?;
+fn elst32_and_elst64(rt: HostRuntime) -> Result<(), Fail> {
+    let alloc = rt.alloc();
+    made::round_trip(alloc, elst(alloc), &ELST).and(made::round_trip(
+        alloc,
+        elst_long(alloc),
+        &ELST_LONG,
+    ))?;
     Ok(())
 }
 
 #[test]
-fn stsc_of_chunks(rt: HostRuntime) -> Result<(), Fail> {
-    made::round_trip(rt.alloc(), stsc(rt.alloc()), &STSC)?;
+fn tfhd_with_and_without_flags(rt: HostRuntime) -> Result<(), Fail> {
+    let alloc = rt.alloc();
+    expect_round_trip(alloc, &tfhd_bare(), &TFHD_BARE).and(expect_round_trip(
+        alloc,
+        &tfhd(),
+        &TFHD,
+    ))?;
     Ok(())
 }
 
 #[test]
-fn elst32(rt: HostRuntime) -> Result<(), Fail> {
-    made::round_trip(rt.alloc(), elst(rt.alloc()), &ELST)?;
-    Ok(())
-}
-
-#[test]
-fn elst64(rt: HostRuntime) -> Result<(), Fail> {
-    made::round_trip(rt.alloc(), elst_long(rt.alloc()), &ELST_LONG)?;
-    Ok(())
-}
-
-#[test]
-fn tfhd_without_flags(rt: HostRuntime) -> Result<(), Fail> {
-    expect_round_trip(rt.alloc(), &tfhd_bare(), &TFHD_BARE)?;
-    Ok(())
-}
-
-#[test]
-fn tfhd_with_flags(rt: HostRuntime) -> Result<(), Fail> {
-    expect_round_trip(rt.alloc(), &tfhd(), &TFHD)?;
-    Ok(())
-}
-
-#[test]
-fn trun_same_size(rt: HostRuntime) -> Result<(), Fail> {
-    made::round_trip(rt.alloc(), Ok(TrunBox::default_in(rt.alloc())), &TRUN_NONE)?;
-    Ok(())
-}
-
-#[test]
-fn trun_many_sizes(rt: HostRuntime) -> Result<(), Fail> {
-    made::round_trip(
-        rt.alloc(),
-        trun_of_four_lists(rt.alloc()),
+fn trun_same_size_and_many_sizes(rt: HostRuntime) -> Result<(), Fail> {
+    let alloc = rt.alloc();
+    made::round_trip(alloc, Ok(TrunBox::default_in(alloc)), &TRUN_NONE).and(made::round_trip(
+        alloc,
+        trun_of_four_lists(alloc),
         &TRUN_OF_FOUR_LISTS,
-    )?;
+    ))?;
     Ok(())
 }

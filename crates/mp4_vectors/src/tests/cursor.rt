@@ -1,6 +1,6 @@
 //! The cursor: taking bytes and rows, and skipping.
 
-use mp4_fixtures::helpers::{Kind, kind_of};
+use mp4_ported::helpers::{Kind, kind_of};
 use mp4_stream::{ByteCursor, skip_bytes};
 use std::test::Fail;
 

@@ -1,12 +1,12 @@
 //! Sample entries of video: `vpcC`, `vp09`, `avcC` and `avc1`.
 
-use mp4_fixtures::boxes::entries::{
+use mp4_ported::boxes::entries::{
     AVC1_OF_TEST, avc1_of_two, empty_sets, list_of_sets, vp09_of_config,
 };
-use mp4_fixtures::helpers::{
+use mp4_ported::helpers::{
     expect_round_trip, expect_unwritable_of_size, expect_value, expect_written,
 };
-use mp4_fixtures::made;
+use mp4_ported::made;
 use mp4_stream::{Avc1Box, AvcCBox, AvcConfig, Entries, Error, Mp4Box, NalUnit, VpccBox, WriteBox};
 use std::alloc::Global;
 use std::test::Fail;

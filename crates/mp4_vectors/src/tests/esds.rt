@@ -1,7 +1,7 @@
 //! `esds`: the descriptors of an elementary stream, and audio configurations.
 
-use mp4_fixtures::boxes::sound::{esds_of, mp4a_of, specific};
-use mp4_fixtures::helpers::{
+use mp4_ported::boxes::sound::{esds_of, mp4a_of, specific};
+use mp4_ported::helpers::{
     Kind, expect_kind, expect_round_trip, expect_unwritable, expect_unwritable_of_size,
     expect_value, kind_of,
 };

@@ -1,10 +1,10 @@
 //! Boxes of fixed fields: `mfhd`, `smhd`, `mehd`, `mvhd` and `mdhd`, and the codes of languages.
 
-use mp4_fixtures::boxes::flat::{mdhd, mehd, mfhd, smhd};
-use mp4_fixtures::helpers::{
+use mp4_ported::boxes::flat::{mdhd, mehd, mfhd, smhd};
+use mp4_ported::helpers::{
     Kind, expect_kind, expect_round_trip, expect_unwritable_of_size, expect_value, kind_of,
 };
-use mp4_fixtures::made;
+use mp4_ported::made;
 use mp4_stream::{
     ByteCursor, Error, MdhdBox, MehdBox, MfhdBox, MvhdBox, ReadBox, Text, language_code,
     language_string,

@@ -1,7 +1,7 @@
 //! `ftyp`: two brands, and sizes that are not those of whole brands.
 
-use mp4_fixtures::helpers::{Kind, expect_kind};
-use mp4_fixtures::made;
+use mp4_ported::helpers::{Kind, expect_kind};
+use mp4_ported::made;
 use mp4_stream::{Error, FourCC, FtypBox};
 use std::alloc::Global;
 use std::test::Fail;

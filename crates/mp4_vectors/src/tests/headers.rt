@@ -1,6 +1,6 @@
 //! Headers of boxes, and version and flags.
 
-use mp4_fixtures::helpers::{Kind, kind_of};
+use mp4_ported::helpers::{Kind, kind_of};
 use mp4_stream::{
     BoxHeader, BoxType, ByteCursor, HEADER_EXT_SIZE, HEADER_SIZE, write_box_header_ext, write_zeros,
 };

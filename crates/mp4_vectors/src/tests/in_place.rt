@@ -1,6 +1,6 @@
 //! Boxes that are put into a slice of their size, whatever stood there.
 
-use mp4_fixtures::boxes::flat::mfhd;
+use mp4_ported::boxes::flat::mfhd;
 use mp4_stream::{Tx3gBox, WriteBox};
 use std::test::Fail;
 

@@ -1,8 +1,8 @@
 //! Boxes of types that the codec does not read, which are kept as their bytes.
 
-use mp4_fixtures::boxes::THREE;
-use mp4_fixtures::helpers::{Kind, kind_of};
-use mp4_fixtures::made;
+use mp4_ported::boxes::THREE;
+use mp4_ported::helpers::{Kind, kind_of};
+use mp4_ported::made;
 use mp4_stream::{
     BoxType, ByteCursor, Error, KeptBox, OtherBox, StreamBox, WriteBox, read_boxes_as, write_boxes,
 };

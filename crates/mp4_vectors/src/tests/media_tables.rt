@@ -1,6 +1,6 @@
 //! The tables of plain media types: the numbers, codes and texts that convert, and how the values print.
 
-use mp4_fixtures::helpers::{debug_text, invalid_text};
+use mp4_ported::helpers::{debug_text, invalid_text};
 use mp4_stream::{
     AudioObjectType, AvcProfile, ChannelConfig, DataType, FourCC, MediaType, SampleFreqIndex,
     TrackType,

@@ -1,9 +1,8 @@
 //! Writing asks for memory once, and leaves the vector as it was where that is refused.
 
 use linked_list_allocator::LocalHeap;
-use mp4_fixtures::helpers::{Kind, kind_of};
-use mp4_fixtures::vectors::{SECOND_VECTORS, Vector};
-use mp4_ported::vectors::VECTORS;
+use mp4_ported::helpers::{Kind, kind_of};
+use mp4_ported::vectors::{FIRST_VECTORS, SECOND_VECTORS, Vector};
 use mp4_stream::{AnyBox, Error, WriteBox, write_boxes};
 use std::alloc::Global;
 use std::test::Fail;
@@ -56,7 +55,7 @@ fn are_written_at_once<V: Vector>(alloc: Global, vectors: &[V]) -> Result<bool, 
 /// A second request would not be granted: the heap has room for one.
 #[test]
 fn a_write_takes_one_block(rt: HostRuntime) -> Result<(), Fail> {
-    assert!(rt; are_written_at_once(rt.alloc(), &VECTORS)?);
+    assert!(rt; are_written_at_once(rt.alloc(), &FIRST_VECTORS)?);
     assert!(rt; are_written_at_once(rt.alloc(), &SECOND_VECTORS)?);
     Ok(())
 }
@@ -91,7 +90,7 @@ fn is_written_at_once<V: Vector>(alloc: Global, vectors: &[V]) -> Result<bool, E
 
 #[test]
 fn a_list_asks_for_one_block(rt: HostRuntime) -> Result<(), Fail> {
-    assert!(rt; is_written_at_once(rt.alloc(), &VECTORS)?);
+    assert!(rt; is_written_at_once(rt.alloc(), &FIRST_VECTORS)?);
     assert!(rt; is_written_at_once(rt.alloc(), &SECOND_VECTORS)?);
     Ok(())
 }

@@ -1,7 +1,7 @@
 //! `mp4a`: a sample entry of audio, with and without descriptors.
 
-use mp4_fixtures::boxes::sound::{MP4A_OF_TEST, esds_of, mp4a_of, mp4a_of_test, specific};
-use mp4_fixtures::helpers::{
+use mp4_ported::boxes::sound::{MP4A_OF_TEST, esds_of, mp4a_of, mp4a_of_test, specific};
+use mp4_ported::helpers::{
     Kind, expect_list_kind, expect_round_trip, expect_value, expect_value_to,
 };
 use mp4_stream::{

@@ -1,8 +1,8 @@
 //! References: `url `, `dref` and `dinf`.
 
-use mp4_fixtures::boxes::text::{dref_of, url};
-use mp4_fixtures::helpers::{Kind, expect_kind, expect_list};
-use mp4_fixtures::made;
+use mp4_ported::boxes::text::{dref_of, url};
+use mp4_ported::helpers::{Kind, expect_kind, expect_list};
+use mp4_ported::made;
 use mp4_stream::{BoxType, DinfBox, DrefBox, Error, Text, UrlBox};
 use std::alloc::Global;
 use std::test::Fail;

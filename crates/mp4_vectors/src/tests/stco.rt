@@ -1,6 +1,6 @@
 //! `stco`: a count of more entries than there is room for, and offsets of 64 bits that become short.
 
-use mp4_fixtures::helpers::{Kind, expect_kind, kind_of};
+use mp4_ported::helpers::{Kind, expect_kind, kind_of};
 use mp4_stream::{Co64Box, Error, StcoBox};
 use std::alloc::Global;
 use std::test::Fail;

@@ -1,7 +1,7 @@
 //! Lists of boxes.
 
-use mp4_fixtures::boxes::flat::{mehd_short, mfhd};
-use mp4_fixtures::helpers::{Kind, expect_list, expect_list_kind, kind_of};
+use mp4_ported::boxes::flat::{mehd_short, mfhd};
+use mp4_ported::helpers::{Kind, expect_list, expect_list_kind, kind_of};
 use mp4_stream::{AnyBox, Error, StreamBox, write_boxes};
 use std::alloc::Global;
 use std::test::Fail;

@@ -1,8 +1,8 @@
 //! `stsc`: the first samples of chunks, which are computed when a box is read, and ignored when it is written.
 
-use mp4_fixtures::boxes::tables::{chunk_run, stsc_of};
-use mp4_fixtures::helpers::{Kind, expect_kind};
-use mp4_fixtures::made;
+use mp4_ported::boxes::tables::{chunk_run, stsc_of};
+use mp4_ported::helpers::{Kind, expect_kind};
+use mp4_ported::made;
 use mp4_stream::StscBox;
 use std::test::Fail;
 

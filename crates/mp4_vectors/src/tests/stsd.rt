@@ -1,9 +1,9 @@
 //! `stsd`: a sample description with no entry, and with more entries than are written.
 
-use mp4_fixtures::boxes::entries::avc1_of_two;
-use mp4_fixtures::boxes::sound::{mp4a_of, mp4a_of_test};
-use mp4_fixtures::helpers::{expect_round_trip, expect_value};
-use mp4_fixtures::made;
+use mp4_ported::boxes::entries::avc1_of_two;
+use mp4_ported::boxes::sound::{mp4a_of, mp4a_of_test};
+use mp4_ported::helpers::{expect_round_trip, expect_value};
+use mp4_ported::made;
 use mp4_stream::{BoxType, Error, Mp4aBox, StsdBox};
 use std::alloc::Global;
 use std::test::Fail;

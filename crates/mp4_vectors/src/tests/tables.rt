@@ -1,10 +1,10 @@
 //! Tables with a count or with flags: `ctts`, `stsz`, `elst`, `tfhd` and `trun`.
 
-use mp4_fixtures::boxes::tables::{
+use mp4_ported::boxes::tables::{
     ctts, elst, elst_of, list, stsz_of_one_size, tfhd, trun, trun_of_durations,
 };
-use mp4_fixtures::helpers::{Kind, expect_kind, expect_round_trip, expect_unwritable};
-use mp4_fixtures::made;
+use mp4_ported::helpers::{Kind, expect_kind, expect_round_trip, expect_unwritable};
+use mp4_ported::made;
 use mp4_stream::{ElstBox, Error, StszBox, TfhdBox, TrunBox};
 use std::alloc::Global;
 use std::test::Fail;

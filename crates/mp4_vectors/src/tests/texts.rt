@@ -1,8 +1,8 @@
 //! Strings and data: `hdlr`, `data` and `emsg`.
 
-use mp4_fixtures::boxes::text::emsg;
-use mp4_fixtures::helpers::{Kind, expect_kind, expect_list_kind};
-use mp4_fixtures::made;
+use mp4_ported::boxes::text::emsg;
+use mp4_ported::helpers::{Kind, expect_kind, expect_list_kind};
+use mp4_ported::made;
 use mp4_stream::{DataBox, EmsgBox, Error, FourCC, HdlrBox, Text};
 use std::alloc::Global;
 use std::test::Fail;

@@ -1,0 +1,117 @@
+//! Configurations of tracks: defaults, clones, and how they print.
+
+use mp4_ported::helpers::debug_text;
+use mp4_ported::made;
+use mp4_stream::{
+    AacConfig, AudioObjectType, AvcConfig, ChannelConfig, Entries, Error, HevcConfig, MediaConfig,
+    SampleFreqIndex, TtxtConfig, Vp9Config,
+};
+use std::alloc::Global;
+use std::test::Fail;
+
+#[test]
+fn default_avc_configuration_is_empty(rt: HostRuntime) {
+    let avc = AvcConfig::default_in(rt.alloc());
+    let sizes = (avc.width, avc.height);
+    let sets = (avc.seq_param_set.len(), avc.pic_param_set.len());
+    assert_eq!(rt; (sizes, sets), ((0, 0), (0, 0)));
+}
+
+#[test]
+fn default_configurations_have_no_size(rt: HostRuntime) {
+    let (width, height) = (0, 0);
+    assert_eq!(rt; HevcConfig::default(), HevcConfig { width, height });
+    assert_eq!(rt; Vp9Config::default(), Vp9Config { width, height });
+    assert_eq!(rt; TtxtConfig::default(), TtxtConfig {});
+}
+
+#[test]
+fn default_aac_configuration_is_of_two_channels(rt: HostRuntime) {
+    assert_eq!(rt;
+        AacConfig::default(),
+        AacConfig {
+            bitrate: 0,
+            profile: AudioObjectType::AacLowComplexity,
+            freq_index: SampleFreqIndex::Freq48000,
+            chan_conf: ChannelConfig::Stereo,
+        }
+    );
+}
+
+#[test]
+fn small_configurations_are_printed(rt: HostRuntime) -> Result<(), Fail> {
+    for (made, text) in [
+        (debug_text(rt.alloc(), &TtxtConfig {})?, "TtxtConfig"),
+        (
+            debug_text(rt.alloc(), &Vp9Config::default())?,
+            "Vp9Config { width: 0, height: 0 }",
+        ),
+    ] {
+        assert_eq!(rt; made.as_str(), text);
+    }
+    Ok(())
+}
+
+fn avc_config(alloc: Global) -> Result<AvcConfig, Error> {
+    Ok(AvcConfig {
+        width: 320,
+        height: 240,
+        seq_param_set: Entries::from(vec![in alloc; 0x67, 100, 0, 13]?),
+        pic_param_set: Entries::from(vec![in alloc; 0x68]?),
+    })
+}
+
+#[test]
+fn configurations_are_printed(rt: HostRuntime) -> Result<(), Fail> {
+    let avc = avc_config(rt.alloc())?;
+    assert_eq!(rt;
+        debug_text(rt.alloc(), &avc)?.as_str(),
+        "AvcConfig { width: 320, height: 240, seq_param_set: [103, 100, 0, 13], pic_param_set: [104] }"
+    );
+    assert_eq!(rt;
+        debug_text(rt.alloc(), &MediaConfig::TtxtConfig(TtxtConfig {}))?.as_str(),
+        "TtxtConfig(TtxtConfig)"
+    );
+    Ok(())
+}
+
+/// Whether what was made is the default.
+fn is_default(alloc: Global, made: Result<AvcConfig, Error>) -> Result<bool, Error> {
+    Ok(made? == AvcConfig::default_in(alloc))
+}
+
+#[test]
+fn configurations_are_compared(rt: HostRuntime) -> Result<(), Fail> {
+    let alloc = rt.alloc();
+    assert!(rt; !is_default(alloc, avc_config(alloc))?);
+    assert!(rt; is_default(alloc, Ok(AvcConfig::default_in(alloc)))?);
+    Ok(())
+}
+
+/// The configuration as one of a track.
+fn media_config(alloc: Global) -> Result<MediaConfig, Error> {
+    Ok(MediaConfig::AvcConfig(avc_config(alloc)?))
+}
+
+#[test]
+fn configurations_are_cloned(rt: HostRuntime) -> Result<(), Fail> {
+    let hevc = MediaConfig::HevcConfig(HevcConfig {
+        width: 320,
+        height: 240,
+    });
+    let vp9 = MediaConfig::Vp9Config(Vp9Config {
+        width: 1920,
+        height: 1080,
+    });
+    let aac = MediaConfig::AacConfig(AacConfig {
+        bitrate: 67695,
+        ..AacConfig::default()
+    });
+    made::cloned(avc_config(rt.alloc()))
+        .and(made::cloned(media_config(rt.alloc())))
+        .and(made::cloned(Ok(hevc)))
+        .and(made::cloned(Ok(vp9)))
+        .and(made::cloned(Ok(aac)))
+        .and(made::cloned(Ok(MediaConfig::TtxtConfig(TtxtConfig {}))))?;
+    Ok(())
+}

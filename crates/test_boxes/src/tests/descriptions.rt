@@ -1,0 +1,133 @@
+//! Sample descriptions: which entry is written of several.
+
+use mp4_ported::boxes::entries::{AVC1, HEV1, VP09, avc1, hev1, tx3g, vp09};
+use mp4_ported::boxes::sound::{MP4A, mp4a, mp4a_of_test, stsd_of};
+use mp4_ported::helpers::Mismatch;
+use mp4_ported::made;
+use mp4_stream::{Error, Mp4aBox, StsdBox, TryClone, WriteBox};
+use std::alloc::Global;
+use std::test::Fail;
+
+/// An entry of each type but `avc1`.
+fn stsd_after_avc1() -> StsdBox {
+    StsdBox {
+        version: 0,
+        flags: 0,
+        avc1: None,
+        hev1: Some(hev1()),
+        vp09: Some(vp09()),
+        mp4a: Some(mp4a()),
+        tx3g: Some(tx3g()),
+    }
+}
+
+/// An entry of each type.
+fn stsd_of_all(alloc: Global) -> Result<StsdBox, Error> {
+    let avc1 = Some(avc1(alloc)?);
+    Ok(StsdBox {
+        avc1,
+        ..stsd_after_avc1()
+    })
+}
+
+/// What an `stsd` of this size with a child of these bytes is written in, worked out from the layout table.
+fn stsd_bytes(alloc: Global, size: u8, child: &[u8]) -> Result<Vec<u8>, Error> {
+    let mut bytes = Vec::from_slice(alloc, b"\0\0\0\0stsd\0\0\0\0\0\0\0\x01")?;
+    if let Some(place) = bytes.get_mut(3) {
+        *place = size;
+    }
+    bytes.extend_from_slice(child)?;
+    Ok(bytes)
+}
+
+/// Expects that the box is written in these bytes.
+fn expect_bytes<B: WriteBox + Drop>(
+    alloc: Global,
+    made: Result<B, Error>,
+    bytes: &[u8],
+) -> Result<(), Mismatch> {
+    let mut out = Vec::new(alloc);
+    made?.write_box(&mut out)?;
+    if out.as_slice() == bytes {
+        Ok(())
+    } else {
+        Err(Mismatch::OtherBytes)
+    }
+}
+
+/// Expects that the box is written with a child of these bytes alone, in this size.
+fn expect_written_alone(
+    alloc: Global,
+    stsd: Result<StsdBox, Error>,
+    size: u8,
+    child: &[u8],
+) -> Result<(), Mismatch> {
+    expect_bytes(alloc, stsd, &stsd_bytes(alloc, size, child)?)
+}
+
+#[test]
+fn avc1_is_written_first(rt: HostRuntime) -> Result<(), Fail> {
+    expect_written_alone(rt.alloc(), stsd_of_all(rt.alloc()), 138, &AVC1)?;
+    Ok(())
+}
+
+#[test]
+fn hev1_is_written_next(rt: HostRuntime) -> Result<(), Fail> {
+    expect_written_alone(rt.alloc(), Ok(stsd_after_avc1()), 111, &HEV1)?;
+    Ok(())
+}
+
+#[test]
+fn vp09_is_written_before_sound(rt: HostRuntime) -> Result<(), Fail> {
+    let stsd = StsdBox {
+        hev1: None,
+        ..stsd_after_avc1()
+    };
+    expect_written_alone(rt.alloc(), Ok(stsd), 122, &VP09)?;
+    Ok(())
+}
+
+#[test]
+fn mp4a_is_written_before_text(rt: HostRuntime) -> Result<(), Fail> {
+    let stsd = StsdBox {
+        mp4a: Some(mp4a()),
+        tx3g: Some(tx3g()),
+        ..StsdBox::default_in(rt.alloc())
+    };
+    expect_written_alone(rt.alloc(), Ok(stsd), 95, &MP4A)?;
+    Ok(())
+}
+
+/// An entry of audio that can't be written.
+fn unwritable_mp4a() -> Mp4aBox {
+    let mut mp4a = mp4a_of_test();
+    if let Some(esds) = &mut mp4a.esds {
+        esds.flags = 1 << 24;
+    }
+    mp4a
+}
+
+#[test]
+fn unwritable_stsd(rt: HostRuntime) -> Result<(), Fail> {
+    let flagged = StsdBox {
+        flags: 1 << 24,
+        ..StsdBox::default_in(rt.alloc())
+    };
+    made::unwritable_of_size(rt.alloc(), Ok(stsd_of(rt.alloc(), unwritable_mp4a())), 91).and(
+        made::unwritable(rt.alloc(), Ok(flagged)),
+    )?;
+    Ok(())
+}
+
+#[test]
+fn clones_of_stsd(rt: HostRuntime) -> Result<(), Fail> {
+    let all = stsd_of_all(rt.alloc())?;
+    let clone = all.try_clone()?;
+    assert!(rt; clone == all);
+    let other = StsdBox {
+        tx3g: None,
+        ..clone
+    };
+    assert!(rt; other != all);
+    Ok(())
+}

@@ -1,0 +1,196 @@
+//! Boxes that can't be written. Writing one leaves the vector as it was.
+
+use crate::tests::trun_of_numbers;
+use mp4_ported::boxes::flat::mehd_short;
+use mp4_ported::boxes::tables::{
+    chunk_run, elst_of, list, stco, stsc_of, tfhd, tfhd_all, trun_of_durations, trun_of_three_lists,
+};
+use mp4_ported::boxes::text::{dref_of, dref_url, emsg, emsg_long, hdlr, url};
+use mp4_ported::helpers::{Mismatch, expect_unwritable, expect_unwritable_of_size};
+use mp4_ported::made;
+use mp4_stream::{
+    DinfBox, DrefBox, EmsgBox, Entries, Error, HdlrBox, MdhdBox, MehdBox, MvhdBox, StcoBox,
+    StszBox, Text, TfdtBox, TkhdBox, TrexBox, TrunBox, UrlBox, VmhdBox,
+};
+use std::alloc::Global;
+use std::test::Fail;
+
+/// A media header of this version and duration.
+fn media_header(alloc: Global, version: u8, duration: u64) -> Result<MdhdBox, Error> {
+    let mut media = MdhdBox::default_in(alloc)?;
+    media.version = version;
+    media.duration = duration;
+    Ok(media)
+}
+
+/// A decode time of this version.
+fn decode_time(version: u8, base_media_decode_time: u64) -> TfdtBox {
+    TfdtBox {
+        version,
+        flags: 0,
+        base_media_decode_time,
+    }
+}
+
+#[test]
+fn times_past_32_bits(rt: HostRuntime) -> Result<(), Fail> {
+    let alloc = rt.alloc();
+    let long = 1 << 32;
+    let movie = MvhdBox {
+        creation_time: long,
+        ..MvhdBox::default()
+    };
+    let track = TkhdBox {
+        modification_time: long,
+        ..TkhdBox::default()
+    };
+    expect_unwritable_of_size(alloc, &movie, 108)
+        .and(expect_unwritable_of_size(alloc, &track, 92))
+        .and(made::unwritable_of_size(alloc, media_header(alloc, 0, long), 32))
+        .and(expect_unwritable_of_size(alloc, &decode_time(0, long), 16))
+        .and(expect_unwritable_of_size(alloc, &mehd_short(long), 16))
+        .and(made::unwritable(alloc, elst_of(alloc, 2, long)))?;
+    Ok(())
+}
+
+#[test]
+fn unknown_versions_of_headers(rt: HostRuntime) -> Result<(), Fail> {
+    let alloc = rt.alloc();
+    let movie = MvhdBox {
+        version: 2,
+        ..MvhdBox::default()
+    };
+    let track = TkhdBox {
+        version: 2,
+        ..TkhdBox::default()
+    };
+    let extent = MehdBox {
+        version: 2,
+        flags: 0,
+        fragment_duration: 1 << 32,
+    };
+    expect_unwritable_of_size(alloc, &movie, 92)
+        .and(expect_unwritable_of_size(alloc, &track, 72))
+        .and(made::unwritable_of_size(alloc, media_header(alloc, 2, 0), 16))
+        .and(expect_unwritable_of_size(alloc, &extent, 12))
+        .and(expect_unwritable_of_size(alloc, &decode_time(2, 0), 16))?;
+    Ok(())
+}
+
+#[test]
+fn flags_past_24_bits_in_headers(rt: HostRuntime) -> Result<(), Fail> {
+    let track = TrexBox {
+        flags: 1 << 24,
+        ..TrexBox::default()
+    };
+    expect_unwritable_of_size(rt.alloc(), &track, 32)?;
+    let video = VmhdBox {
+        flags: 1 << 24,
+        ..VmhdBox::default()
+    };
+    expect_unwritable_of_size(rt.alloc(), &video, 20)?;
+    Ok(())
+}
+
+/// The box with flags that don't fit.
+macro_rules! flagged {
+    ($made:expr) => {{
+        let mut made = $made?;
+        made.flags = 1 << 24;
+        Ok(made)
+    }};
+}
+
+fn flagged_stco(alloc: Global) -> Result<StcoBox, Error> {
+    flagged!(stco(alloc))
+}
+
+fn flagged_hdlr(alloc: Global) -> Result<HdlrBox, Error> {
+    flagged!(hdlr(alloc))
+}
+
+fn flagged_emsg(alloc: Global) -> Result<EmsgBox, Error> {
+    flagged!(emsg_long(alloc))
+}
+
+fn flagged_url(alloc: Global) -> Result<UrlBox, Error> {
+    flagged!(url(alloc))
+}
+
+fn flagged_dref(alloc: Global) -> Result<DrefBox, Error> {
+    flagged!(dref_url(alloc))
+}
+
+#[test]
+fn flags_past_24_bits_in_tables_and_texts(rt: HostRuntime) -> Result<(), Fail> {
+    let alloc = rt.alloc();
+    let empty = StcoBox {
+        version: 0,
+        flags: 1 << 24,
+        entries: Entries::new(alloc),
+    };
+    expect_unwritable_of_size(alloc, &empty, 16)
+        .and(made::unwritable(alloc, flagged_stco(alloc)))
+        .and(made::unwritable(alloc, flagged_hdlr(alloc)))
+        .and(made::unwritable(alloc, flagged_emsg(alloc)))?;
+    Ok(())
+}
+
+/// Expects that a dref can't be written, and neither a dinf of it.
+fn expect_unwritable_dref(alloc: Global, made: Result<DrefBox, Error>) -> Result<(), Mismatch> {
+    let dref = made?;
+    expect_unwritable(alloc, &dref).and(expect_unwritable(alloc, &DinfBox::new(dref)))
+}
+
+#[test]
+fn flags_past_24_bits_in_references(rt: HostRuntime) -> Result<(), Fail> {
+    let alloc = rt.alloc();
+    let same_file = UrlBox {
+        version: 0,
+        flags: 1 << 24,
+        location: Text::new(alloc),
+    };
+    made::unwritable(alloc, flagged_url(alloc))
+        .and(expect_unwritable_dref(alloc, flagged_dref(alloc)))
+        .and(expect_unwritable_dref(alloc, Ok(dref_of(Some(same_file)))))?;
+    Ok(())
+}
+
+#[test]
+fn fields_of_tfhd_that_differ_from_the_flags(rt: HostRuntime) -> Result<(), Fail> {
+    let mut all = tfhd_all();
+    all.default_sample_flags = None;
+    expect_unwritable(rt.alloc(), &all)?;
+    Ok(())
+}
+
+/// A `trun` whose flags have the flags of the first sample, which it lacks.
+fn trun_without_first_flags(alloc: Global) -> Result<TrunBox, Error> {
+    let mut trun = trun_of_three_lists(alloc)?;
+    trun.first_sample_flags = None;
+    Ok(trun)
+}
+
+#[test]
+fn lists_of_trun_that_differ_from_the_flags(rt: HostRuntime) -> Result<(), Fail> {
+    let alloc = rt.alloc();
+    made::unwritable(alloc, trun_without_first_flags(alloc)).and(made::unwritable(
+        alloc,
+        trun_of_numbers(alloc, 1029, 1030),
+    ))?;
+    Ok(())
+}
+
+/// An `emsg` of version 1, with the time of version 0.
+fn emsg_of_other_time(alloc: Global) -> Result<EmsgBox, Error> {
+    let mut made = emsg(alloc)?;
+    made.message_data = Entries::new(alloc);
+    made.version = 1;
+    Ok(made)
+}
+
+#[test]
+fn emsg_of_the_time_of_another_version(rt: HostRuntime) -> Result<(), Fail> {
+    made::unwritable(rt.alloc(), emsg_of_other_time(rt.alloc()))?;
+    Ok(())
+}

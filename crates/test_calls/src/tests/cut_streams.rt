@@ -1,0 +1,93 @@
+//! All vectors as one stream, the first of each type before the second ones, which is cut at every length.
+
+use super::lists::list_from;
+use super::streams::{kind_and_count, read_stream};
+use mp4_ported::helpers::Kind;
+use mp4_ported::vectors::{FIRST_VECTORS, SECOND_VECTORS, Vector};
+use mp4_stream::{ByteCursor, Error, KeptBox, read_boxes_as};
+use std::alloc::Global;
+use std::test::Fail;
+
+/// A stream, and for each length of a cut before its end the number of boxes before it, or None if the cut is inside a
+/// box.
+#[derive(Drop)]
+struct Cuts {
+    stream: Vec<u8>,
+    counts: Vec<Option<usize>>,
+}
+
+impl Cuts {
+    /// Appends these vectors, behind `front` boxes.
+    fn append<V: Vector>(&mut self, front: usize, vectors: &[V]) -> Result<(), Error> {
+        for (place, vector) in vectors.iter().enumerate() {
+            self.counts.push(Some(front.saturating_add(place)))?;
+            for _ in 1..vector.bytes().len() {
+                self.counts.push(None)?;
+            }
+            self.stream.extend_from_slice(vector.bytes())?;
+        }
+        Ok(())
+    }
+}
+
+/// The stream of all vectors, and for each length of a cut, to the whole stream, the same.
+fn all_cuts(alloc: Global) -> Result<(Vec<u8>, Vec<Option<usize>>), Error> {
+    let mut cuts = Cuts {
+        stream: Vec::new(alloc),
+        counts: Vec::new(alloc),
+    };
+    cuts.append(0, &FIRST_VECTORS)?;
+    cuts.append(FIRST_VECTORS.len(), &SECOND_VECTORS)?;
+    cuts.counts
+        .push(Some(FIRST_VECTORS.len() + SECOND_VECTORS.len()))?;
+    Ok((cuts.stream, cuts.counts))
+}
+
+/// What is found in a stream that is cut there: the kind of the outcome, the number of boxes, and the position of the
+/// cursor after the call.
+fn expected_of(cut: usize, count: Option<usize>) -> (Kind, usize, u64) {
+    match count {
+        Some(count) => (Kind::Ok, count, cut as u64),
+        None => (Kind::End, 0, 0),
+    }
+}
+
+/// Reads the boxes of a buffer and keeps all of them. Returns the same as `expected_of`.
+fn keep_stream(alloc: Global, bytes: &[u8]) -> (Kind, usize, u64) {
+    let mut reader = ByteCursor::new(bytes);
+    let (kind, count) = kind_and_count(read_boxes_as::<KeptBox>(alloc, &mut reader));
+    (kind, count, reader.position())
+}
+
+#[test]
+fn boxes_before_a_cut_are_read(rt: HostRuntime) -> Result<(), Fail> {
+    let (stream, counts) = all_cuts(rt.alloc())?;
+    for (cut, count) in counts.iter().enumerate() {
+        let bytes = stream.get(..cut).unwrap_or(&[]);
+        let found = read_stream(rt.alloc(), bytes);
+        assert_eq!(rt; found, expected_of(cut, *count), "{cut}");
+    }
+    Ok(())
+}
+
+#[test]
+fn boxes_before_a_cut_are_kept(rt: HostRuntime) -> Result<(), Fail> {
+    let (stream, counts) = all_cuts(rt.alloc())?;
+    for (cut, count) in counts.iter().enumerate() {
+        let bytes = stream.get(..cut).unwrap_or(&[]);
+        let found = keep_stream(rt.alloc(), bytes);
+        assert_eq!(rt; found, expected_of(cut, *count), "{cut}");
+    }
+    Ok(())
+}
+
+#[test]
+fn boxes_before_a_cut_are_listed(rt: HostRuntime) -> Result<(), Fail> {
+    let (stream, counts) = all_cuts(rt.alloc())?;
+    for (cut, count) in counts.iter().enumerate() {
+        let bytes = stream.get(..cut).unwrap_or(&[]);
+        let found = list_from(rt.alloc(), bytes, 0);
+        assert_eq!(rt; found, expected_of(cut, *count), "{cut}");
+    }
+    Ok(())
+}

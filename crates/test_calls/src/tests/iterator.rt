@@ -1,0 +1,86 @@
+//! The boxes of a buffer, one at a time.
+
+use super::streams::kind_and_count;
+use example_callers::mark::MarkBox;
+use mp4_ported::boxes::THREE;
+use mp4_ported::helpers::{Kind, kind_of};
+use mp4_iterator::{Boxes, boxes_as, collect_boxes};
+use mp4_stream::{AnyBox, ByteCursor, Error, StreamBox};
+use std::alloc::Global;
+use std::test::Fail;
+
+/// Two boxes of a type from outside the codec, and a free box between them.
+const MARKS: [u8; 32] = *b"\0\0\0\x0cmark\0\0\0\x07\0\0\0\x08free\0\0\0\x0cmark\0\0\0\x08";
+
+/// The kind of the next item, if there is one, and the offset after it.
+fn step<B: StreamBox + Drop>(boxes: &mut Boxes<B>) -> (Option<Kind>, u64) {
+    let kind = match boxes.next() {
+        Some(item) => Some(kind_of(&item)),
+        None => None,
+    };
+    (kind, boxes.offset())
+}
+
+#[test]
+fn boxes_come_one_at_a_time(rt: HostRuntime) {
+    let mut boxes = boxes_as::<AnyBox>(rt.alloc(), &THREE);
+    assert_eq!(rt; step(&mut boxes), (Some(Kind::Ok), 24));
+    assert_eq!(rt; step(&mut boxes), (Some(Kind::Ok), 52));
+    assert_eq!(rt; step(&mut boxes), (None, 52));
+}
+
+#[test]
+fn a_fault_is_the_last_item(rt: HostRuntime) {
+    let mut cut = boxes_as::<AnyBox>(rt.alloc(), &THREE[..51]);
+    assert_eq!(rt; step(&mut cut), (Some(Kind::Ok), 24));
+    assert_eq!(rt; step(&mut cut), (Some(Kind::End), 32));
+    assert_eq!(rt; step(&mut cut), (None, 32));
+}
+
+/// The numbers of the boxes that come, and of the one that stays in a place that is used for both; and whether that
+/// place is empty at the end, and has the room that it had for the first.
+fn refilled(alloc: Global) -> Result<(u32, u32, bool), Error> {
+    let mut boxes = boxes_as::<MarkBox>(alloc, &MARKS);
+    let mut place = Vec::new(alloc);
+    boxes.next_into(&mut place)?;
+    let (first, room) = (number_in(&place), place.capacity());
+    boxes.next_into(&mut place)?;
+    let second = number_in(&place);
+    let more = boxes.next_into(&mut place)?;
+    Ok((
+        first,
+        second,
+        !more && place.is_empty() && place.capacity() == room,
+    ))
+}
+
+/// The number of the one box in a place, or 0.
+fn number_in(place: &[MarkBox]) -> u32 {
+    match place {
+        [one] => one.mark,
+        _ => 0,
+    }
+}
+
+#[test]
+fn a_place_is_used_again(rt: HostRuntime) -> Result<(), Fail> {
+    assert_eq!(rt; refilled(rt.alloc())?, (7, 8, true));
+    Ok(())
+}
+
+#[test]
+fn what_is_left_is_collected(rt: HostRuntime) -> Result<(), Fail> {
+    let mut reader = ByteCursor::new(&MARKS);
+    reader.set_position(12);
+    let left = Boxes::<MarkBox>::from_cursor(rt.alloc(), &reader);
+    let found = collect_boxes(rt.alloc(), left)?;
+    assert_eq!(rt; found.as_slice(), [MarkBox { mark: 8 }].as_slice());
+    assert_eq!(rt; reader.position(), 12);
+    Ok(())
+}
+
+#[test]
+fn boxes_of_any_type_are_collected(rt: HostRuntime) {
+    let all = collect_boxes::<AnyBox>(rt.alloc(), boxes_as(rt.alloc(), &THREE));
+    assert_eq!(rt; kind_and_count(all), (Kind::Ok, 2));
+}

@@ -1,0 +1,93 @@
+//! Boxes of many parts and lists of many boxes, with ample memory: each is read, cloned and written.
+
+use super::streams::rewrite;
+use mp4_ported::helpers::{Mismatch, read};
+use mp4_ported::made;
+use mp4_stream::{AvcCBox, Error, FtypBox, HdlrBox, KeptBox, OtherBox, ReadBox, StcoBox, TryClone};
+use std::alloc::Global;
+use std::test::Fail;
+
+/// These bytes so many times, after others.
+fn repeated(alloc: Global, front: &[u8], piece: &[u8], count: usize) -> Result<Vec<u8>, Error> {
+    let mut bytes = Vec::from_slice(alloc, front)?;
+    for _ in 0..count {
+        bytes.extend_from_slice(piece)?;
+    }
+    Ok(bytes)
+}
+
+/// Expects that the box in these bytes is read, and that its clone is equal to it.
+fn clone_of_read<B: ReadBox + TryClone + PartialEq + Drop>(
+    alloc: Global,
+    made: Result<Vec<u8>, Error>,
+) -> Result<(), Mismatch> {
+    let bytes = made?;
+    let (found, _) = read::<B>(alloc, &bytes, bytes.len() as u64);
+    made::cloned(found)
+}
+
+/// What an `avcC` has before its picture sets, and without sequence sets.
+const NO_SEQUENCE_SETS: &[u8] = b"\0\0\0\0avcC\x01\x64\0\x0d\xff\xe0";
+
+/// Expects the same of an `avcC` of so many picture sets, whose count and sets are these bytes.
+fn clone_of_sets(alloc: Global, count: u8, set: &[u8]) -> Result<(), Mismatch> {
+    let front = repeated(alloc, NO_SEQUENCE_SETS, &[count], 1)?;
+    clone_of_read::<AvcCBox>(alloc, repeated(alloc, &front, set, count.into()))
+}
+
+#[test]
+fn many_sets_are_cloned(rt: HostRuntime) -> Result<(), Fail> {
+    let alloc = rt.alloc();
+    clone_of_sets(alloc, 40, b"\0\x01\x68").and(clone_of_sets(alloc, 255, b"\0\x02\x68\x69"))?;
+    Ok(())
+}
+
+#[test]
+fn a_set_of_65535_bytes_is_cloned(rt: HostRuntime) -> Result<(), Fail> {
+    let alloc = rt.alloc();
+    let set = repeated(alloc, &[], b"\xff", 65_537)?;
+    clone_of_sets(alloc, 1, &set)?;
+    Ok(())
+}
+
+#[test]
+fn long_tables_and_texts_are_cloned(rt: HostRuntime) -> Result<(), Fail> {
+    let alloc = rt.alloc();
+    let offsets = repeated(
+        alloc,
+        b"\0\0\0\0stco\0\0\0\0\0\x01\x11\x70",
+        b"offs",
+        70_000,
+    );
+    let brands = repeated(alloc, b"\0\0\0\0ftypisom\0\0\x02\0", b"mp41", 20_000);
+    let name = repeated(alloc, &[7; 33], b"name", 20_000);
+    clone_of_read::<StcoBox>(alloc, offsets)
+        .and(clone_of_read::<FtypBox>(alloc, brands))
+        .and(clone_of_read::<HdlrBox>(alloc, name))?;
+    Ok(())
+}
+
+/// A box of another type with 70,000 bytes of content.
+fn large_other(alloc: Global) -> Result<OtherBox, Error> {
+    let content = repeated(alloc, &[], b"content", 10_000)?;
+    OtherBox::copy_of(alloc, 0x6d64_6174, &content)
+}
+
+#[test]
+fn a_large_content_is_cloned(rt: HostRuntime) -> Result<(), Fail> {
+    let alloc = rt.alloc();
+    made::cloned(large_other(alloc)).and(made::cloned(large_other(alloc).map(KeptBox::Other)))?;
+    Ok(())
+}
+
+#[test]
+fn a_list_of_131074_boxes_is_read_and_written(rt: HostRuntime) -> Result<(), Fail> {
+    let bytes = repeated(
+        rt.alloc(),
+        &[],
+        b"\0\0\0\x10mfhd\0\0\0\0\0\0\0\x01\0\0\0\x10stco\0\0\0\0\0\0\0\0",
+        65_537,
+    )?;
+    assert!(rt; rewrite(rt.alloc(), &bytes)?.as_slice() == bytes.as_slice());
+    Ok(())
+}

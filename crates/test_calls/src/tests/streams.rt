@@ -1,0 +1,86 @@
+//! Lists of boxes.
+
+use example_callers::append_normal;
+use example_callers::mark::MarkBox;
+use mp4_ported::boxes::{THREE, text};
+use mp4_ported::helpers::{Kind, kind_of};
+use mp4_ported::vectors::{FIRST_VECTORS, SECOND_VECTORS, Vector};
+use mp4_stream::{AnyBox, ByteCursor, Error, StreamBox, read_boxes, read_boxes_as, write_boxes};
+use std::alloc::{Allocator, Global};
+use std::test::Fail;
+
+/// The kind of an outcome, and how many items the list has, if there is one.
+pub(super) fn kind_and_count<T: Drop, A: Allocator>(
+    outcome: Result<Vec<T, A>, Error>,
+) -> (Kind, usize) {
+    let kind = kind_of(&outcome);
+    match outcome {
+        Ok(found) => (kind, found.len()),
+        Err(_) => (kind, 0),
+    }
+}
+
+/// Reads the boxes of a buffer. Returns the kind of the outcome, the number of boxes, and the position of the cursor
+/// after the call.
+pub(super) fn read_stream(alloc: Global, bytes: &[u8]) -> (Kind, usize, u64) {
+    let mut reader = ByteCursor::new(bytes);
+    let (kind, count) = kind_and_count(read_boxes(alloc, &mut reader));
+    (kind, count, reader.position())
+}
+
+/// Reads the boxes of a buffer, and returns the bytes that they are written in.
+pub(super) fn rewrite(alloc: Global, bytes: &[u8]) -> Result<Vec<u8>, Error> {
+    let mut out = Vec::new(alloc);
+    append_normal(alloc, bytes, &mut out)?;
+    Ok(out)
+}
+
+/// Appends two boxes as a list. Returns the kind of the outcome.
+pub(super) fn append_two<B: StreamBox + Drop, A: Allocator>(
+    alloc: Global,
+    first: Result<B, Error>,
+    last: B,
+    out: &mut Vec<u8, A>,
+) -> Result<Kind, Error> {
+    let mut boxes = Vec::new(alloc);
+    boxes.push(first?)?;
+    boxes.push(last)?;
+    Ok(kind_of(&write_boxes(&boxes, out)))
+}
+
+/// An ftyp that can be written.
+pub(super) fn any_ftyp(alloc: Global) -> Result<AnyBox, Error> {
+    Ok(AnyBox::FtypBox(text::ftyp(alloc)?))
+}
+
+/// Whether a stream of these vectors is rewritten in the same bytes.
+fn are_rewritten<V: Vector>(alloc: Global, vectors: &[V]) -> Result<bool, Error> {
+    let mut stream = Vec::new(alloc);
+    for vector in vectors {
+        stream.extend_from_slice(vector.bytes())?;
+    }
+    Ok(rewrite(alloc, &stream)? == stream)
+}
+
+#[test]
+fn all_vectors_are_rewritten(rt: HostRuntime) -> Result<(), Fail> {
+    assert!(rt; are_rewritten(rt.alloc(), &FIRST_VECTORS)?);
+    assert!(rt; are_rewritten(rt.alloc(), &SECOND_VECTORS)?);
+    Ok(())
+}
+
+#[test]
+fn a_type_from_outside(rt: HostRuntime) -> Result<(), Fail> {
+    let marks = [MarkBox { mark: 7 }, MarkBox { mark: 8 }];
+    let mut out = Vec::new(rt.alloc());
+    assert_eq!(rt; write_boxes(&marks, &mut out)?, 24);
+    let bytes = b"\0\0\0\x0cmark\0\0\0\x07\0\0\0\x0cmark\0\0\0\x08";
+    assert_eq!(rt; out.as_slice(), bytes.as_slice());
+    out.extend_from_slice(&THREE)?;
+    let mut reader = ByteCursor::new(&out);
+    let found: Vec<MarkBox> = read_boxes_as(rt.alloc(), &mut reader)?;
+    assert_eq!(rt; found.as_slice(), marks.as_slice());
+    assert_eq!(rt; reader.position(), 76);
+    assert_eq!(rt; read_stream(rt.alloc(), &out), (Kind::Ok, 2, 76));
+    Ok(())
+}
