@@ -63,7 +63,16 @@ pub fn clone_of<B: TryClone + PartialEq + Drop>(original: &B) -> Result<(), Mism
     if original.try_clone()? == *original {
         Ok(())
     } else {
-        Err(Mismatch::OtherBytes)
+        Err(Mismatch::OtherValue)
+    }
+}
+
+/// Expects that two values are equal.
+pub fn equal<B: PartialEq + Drop>(made: Made<B>, expected: Made<B>) -> Result<(), Mismatch> {
+    if made? == expected? {
+        Ok(())
+    } else {
+        Err(Mismatch::OtherValue)
     }
 }
 

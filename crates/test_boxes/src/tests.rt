@@ -1,34 +1,19 @@
-//! Tests of what no contract says, a file for each thing that is tested.
+//! Tests of what bytes don't show: a file for a box where they are of one box, and else for what is tested. The numbers of
+//! `codes`, `equality`, `languages` and of new entries count up from 0x81, so that no two of a value are the same.
 
+mod avc1;
 mod clones;
+mod codes;
 mod configurations;
-mod descriptions;
+mod defaults;
 mod entries;
+mod equality;
+mod hev1;
 mod invalid_texts;
+mod languages;
 mod metadata;
-mod sample_entries;
-mod sound;
+mod mp4a;
+mod stsd;
 mod texts;
 mod unwritable;
-
-use mp4_ported::boxes::tables::list;
-use mp4_stream::{Entries, Error, TrunBox};
-use std::alloc::Global;
-
-/// A `trun` of this count, with two lists of as many numbers from 0 on.
-fn trun_of_numbers(alloc: Global, sample_count: u32, length: u32) -> Result<TrunBox, Error> {
-    let numbers: Vec<u32> = (0..length).collect(alloc)?;
-    let sample_sizes = list(alloc, &numbers)?;
-    let sample_cts = list(alloc, &numbers)?;
-    Ok(TrunBox {
-        version: 0,
-        flags: TrunBox::FLAG_SAMPLE_SIZE | TrunBox::FLAG_SAMPLE_CTS,
-        sample_count,
-        data_offset: None,
-        first_sample_flags: None,
-        sample_durations: Entries::new(alloc),
-        sample_sizes,
-        sample_flags: Entries::new(alloc),
-        sample_cts,
-    })
-}
+mod vp09;

@@ -39,6 +39,8 @@ pub enum Mismatch {
     },
     /// Other bytes are written.
     OtherBytes,
+    /// A value is not equal to another one.
+    OtherValue,
 }
 
 impl From<Error> for Mismatch {

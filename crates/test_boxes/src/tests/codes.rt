@@ -72,15 +72,6 @@ fn printed(alloc: Global, name: BoxType) -> Result<String, Error> {
     Ok(format!(in alloc; "{name}")?)
 }
 
-#[test]
-fn names_have_their_codes(rt: HostRuntime) -> Result<(), Fail> {
-    for &(name, bytes, text) in codes() {
-        assert_eq!(rt; u32::from(name), u32::from_be_bytes(bytes), "{text}");
-        assert_eq!(rt; FourCC::from(name).value, bytes, "{text}");
-    }
-    Ok(())
-}
-
 /// The name of four bytes, from their number and from their code.
 fn names_of(bytes: [u8; 4]) -> [BoxType; 2] {
     [
@@ -90,11 +81,12 @@ fn names_of(bytes: [u8; 4]) -> [BoxType; 2] {
 }
 
 #[test]
-fn codes_have_their_names(rt: HostRuntime) -> Result<(), Fail> {
+fn names_have_their_codes_and_codes_their_names(rt: HostRuntime) {
     for &(name, bytes, text) in codes() {
+        assert_eq!(rt; u32::from(name), u32::from_be_bytes(bytes), "{text}");
+        assert_eq!(rt; FourCC::from(name).value, bytes, "{text}");
         assert_eq!(rt; names_of(bytes), [name, name], "{text}");
     }
-    Ok(())
 }
 
 #[test]
@@ -106,7 +98,7 @@ fn names_are_printed_as_their_codes(rt: HostRuntime) -> Result<(), Fail> {
 }
 
 #[test]
-fn codes_with_another_first_or_last_byte_have_no_name(rt: HostRuntime) -> Result<(), Fail> {
+fn codes_with_another_first_or_last_byte_have_no_name(rt: HostRuntime) {
     for &(_, bytes, text) in codes() {
         for bit in [0x80, 0x8000_0000] {
             let other = u32::from_be_bytes(bytes) ^ bit;
@@ -115,5 +107,4 @@ fn codes_with_another_first_or_last_byte_have_no_name(rt: HostRuntime) -> Result
             assert_eq!(rt; u32::from(unknown), other, "{text}");
         }
     }
-    Ok(())
 }

@@ -7,26 +7,19 @@ use mp4_stream::{
     SampleFreqIndex, TtxtConfig, Vp9Config,
 };
 use std::alloc::Global;
+use std::fmt::Debug;
 use std::test::Fail;
 
 #[test]
-fn default_avc_configuration_is_empty(rt: HostRuntime) {
+fn default_configurations(rt: HostRuntime) {
     let avc = AvcConfig::default_in(rt.alloc());
     let sizes = (avc.width, avc.height);
     let sets = (avc.seq_param_set.len(), avc.pic_param_set.len());
     assert_eq!(rt; (sizes, sets), ((0, 0), (0, 0)));
-}
-
-#[test]
-fn default_configurations_have_no_size(rt: HostRuntime) {
     let (width, height) = (0, 0);
     assert_eq!(rt; HevcConfig::default(), HevcConfig { width, height });
     assert_eq!(rt; Vp9Config::default(), Vp9Config { width, height });
     assert_eq!(rt; TtxtConfig::default(), TtxtConfig {});
-}
-
-#[test]
-fn default_aac_configuration_is_of_two_channels(rt: HostRuntime) {
     assert_eq!(rt;
         AacConfig::default(),
         AacConfig {
@@ -38,20 +31,6 @@ fn default_aac_configuration_is_of_two_channels(rt: HostRuntime) {
     );
 }
 
-#[test]
-fn small_configurations_are_printed(rt: HostRuntime) -> Result<(), Fail> {
-    for (made, text) in [
-        (debug_text(rt.alloc(), &TtxtConfig {})?, "TtxtConfig"),
-        (
-            debug_text(rt.alloc(), &Vp9Config::default())?,
-            "Vp9Config { width: 0, height: 0 }",
-        ),
-    ] {
-        assert_eq!(rt; made.as_str(), text);
-    }
-    Ok(())
-}
-
 fn avc_config(alloc: Global) -> Result<AvcConfig, Error> {
     Ok(AvcConfig {
         width: 320,
@@ -61,17 +40,25 @@ fn avc_config(alloc: Global) -> Result<AvcConfig, Error> {
     })
 }
 
+/// The text that `Debug` prints of what was made.
+fn text_of<T: Debug + Drop>(alloc: Global, made: Result<T, Error>) -> Result<String, Error> {
+    Ok(debug_text(alloc, &made?)?)
+}
+
 #[test]
 fn configurations_are_printed(rt: HostRuntime) -> Result<(), Fail> {
-    let avc = avc_config(rt.alloc())?;
+    let alloc = rt.alloc();
+    let ttxt = text_of(alloc, Ok(TtxtConfig {}))?;
+    assert_eq!(rt; ttxt.as_str(), "TtxtConfig");
+    let vp9 = text_of(alloc, Ok(Vp9Config::default()))?;
+    assert_eq!(rt; vp9.as_str(), "Vp9Config { width: 0, height: 0 }");
+    let avc = text_of(alloc, avc_config(alloc))?;
     assert_eq!(rt;
-        debug_text(rt.alloc(), &avc)?.as_str(),
+        avc.as_str(),
         "AvcConfig { width: 320, height: 240, seq_param_set: [103, 100, 0, 13], pic_param_set: [104] }"
     );
-    assert_eq!(rt;
-        debug_text(rt.alloc(), &MediaConfig::TtxtConfig(TtxtConfig {}))?.as_str(),
-        "TtxtConfig(TtxtConfig)"
-    );
+    let media = text_of(alloc, Ok(MediaConfig::TtxtConfig(TtxtConfig {})))?;
+    assert_eq!(rt; media.as_str(), "TtxtConfig(TtxtConfig)");
     Ok(())
 }
 
@@ -80,21 +67,16 @@ fn is_default(alloc: Global, made: Result<AvcConfig, Error>) -> Result<bool, Err
     Ok(made? == AvcConfig::default_in(alloc))
 }
 
-#[test]
-fn configurations_are_compared(rt: HostRuntime) -> Result<(), Fail> {
-    let alloc = rt.alloc();
-    assert!(rt; !is_default(alloc, avc_config(alloc))?);
-    assert!(rt; is_default(alloc, Ok(AvcConfig::default_in(alloc)))?);
-    Ok(())
-}
-
 /// The configuration as one of a track.
 fn media_config(alloc: Global) -> Result<MediaConfig, Error> {
     Ok(MediaConfig::AvcConfig(avc_config(alloc)?))
 }
 
 #[test]
-fn configurations_are_cloned(rt: HostRuntime) -> Result<(), Fail> {
+fn configurations_are_compared_and_cloned(rt: HostRuntime) -> Result<(), Fail> {
+    let alloc = rt.alloc();
+    assert!(rt; !is_default(alloc, avc_config(alloc))?);
+    assert!(rt; is_default(alloc, Ok(AvcConfig::default_in(alloc)))?);
     let hevc = MediaConfig::HevcConfig(HevcConfig {
         width: 320,
         height: 240,

@@ -1,13 +1,65 @@
-//! Defaults, field by field: those that are not all zero, empty or absent, and of these `hdlr` and `emsg`. A clause says of
-//! every default what it is; here it is compared with what the Rust crate has.
+//! Defaults: the bytes that they are written in, and those that can't be written or have no bytes of their own by their
+//! fields. A clause says of every default what it is; here it is compared with what the Rust crate has.
 
+use mp4_ported::boxes::flat::MFHD;
+use mp4_ported::helpers::expect_round_trip;
+use mp4_ported::made;
 use mp4_stream::{
-    DataType, DrefBox, EmsgBox, Entries, EsdsBox, FixedPointU8, FixedPointU16, FourCC, HdlrBox,
-    Matrix, MdhdBox, MfhdBox, Mp4aBox, MvhdBox, RgbColor, RgbaColor, Text, TkhdBox, Tx3gBox,
-    UrlBox,
+    DataType, DrefBox, EmsgBox, Entries, EsdsBox, FixedPointU16, FourCC, FtypBox, HdlrBox, Matrix,
+    MdhdBox, MehdBox, MfhdBox, Mp4aBox, MvhdBox, RgbColor, RgbaColor, SmhdBox, StcoBox, StscBox,
+    Text, TfdtBox, TkhdBox, Tx3gBox, UrlBox, VmhdBox,
 };
 use std::alloc::Global;
 use std::test::Fail;
+
+const MVHD: [u8; 108] =
+    *b"\0\0\0lmvhd\0\0\0\0\0\0\0\0\0\0\0\0\0\0\x03\xe8\0\0\0\0\0\x01\0\0\x01\0\0\0\0\0\0\0\0\0\0\0\0\x01\0\
+\0\0\0\0\0\0\0\0\0\0\0\0\0\0\x01\0\0\0\0\0\0\0\0\0\0\0\0\0\0@\0\0\0\0\0\0\0\0\0\0\0\0\0\0\0\0\0\0\0\
+\0\0\0\0\0\0\0\0\0\0\0\x01";
+
+const TKHD: [u8; 92] =
+    *b"\0\0\0\\tkhd\0\0\0\x01\0\0\0\0\0\0\0\0\0\0\0\0\0\0\0\0\0\0\0\0\0\0\0\0\0\0\0\0\0\0\0\0\x01\0\0\0\0\
+\x01\0\0\0\0\0\0\0\0\0\0\0\0\0\0\0\x01\0\0\0\0\0\0\0\0\0\0\0\0\0\0@\0\0\0\0\0\0\0\0\0\0\0";
+
+#[test]
+fn default_mvhd_and_tkhd(rt: HostRuntime) -> Result<(), Fail> {
+    let alloc = rt.alloc();
+    expect_round_trip(alloc, &MvhdBox::default(), &MVHD).and(expect_round_trip(
+        alloc,
+        &TkhdBox::default(),
+        &TKHD,
+    ))?;
+    Ok(())
+}
+
+#[test]
+fn default_headers_of_media_and_fragments(rt: HostRuntime) -> Result<(), Fail> {
+    let alloc = rt.alloc();
+    let mdhd = b"\0\0\0\x20mdhd\0\0\0\0\0\0\0\0\0\0\0\0\0\0\x03\xe8\0\0\0\0U\xc4\0\0";
+    let smhd = b"\0\0\0\x10smhd\0\0\0\0\0\0\0\0";
+    let vmhd = b"\0\0\0\x14vmhd\0\0\0\0\0\0\0\0\0\0\0\0";
+    let mehd = b"\0\0\0\x10mehd\0\0\0\0\0\0\0\0";
+    let tfdt = b"\0\0\0\x10tfdt\0\0\0\0\0\0\0\0";
+    made::round_trip(alloc, MdhdBox::default_in(alloc), mdhd)
+        .and(expect_round_trip(alloc, &SmhdBox::default(), smhd))
+        .and(expect_round_trip(alloc, &VmhdBox::default(), vmhd))
+        .and(expect_round_trip(alloc, &MehdBox::default(), mehd))
+        .and(expect_round_trip(alloc, &MfhdBox::default(), &MFHD))
+        .and(expect_round_trip(alloc, &TfdtBox::default(), tfdt))?;
+    Ok(())
+}
+
+#[test]
+fn default_ftyp_stco_and_stsc(rt: HostRuntime) -> Result<(), Fail> {
+    let alloc = rt.alloc();
+    let ftyp = b"\0\0\0\x10ftyp\0\0\0\0\0\0\0\0";
+    let stco = b"\0\0\0\x10stco\0\0\0\0\0\0\0\0";
+    let stsc = b"\0\0\0\x10stsc\0\0\0\0\0\0\0\0";
+    made::round_trip(alloc, Ok(FtypBox::default_in(alloc)), ftyp)
+        .and(made::round_trip(alloc, Ok(StcoBox::default_in(alloc)), stco))
+        .and(made::round_trip(alloc, Ok(StscBox::default_in(alloc)), stsc))?;
+    Ok(())
+}
 
 /// The matrix that maps each point to itself: 1 is 0x10000 in `a` and `d`, and 0x40000000 in `w`.
 fn unity() -> Matrix {
@@ -25,7 +77,7 @@ fn unity() -> Matrix {
 }
 
 #[test]
-fn default_values(rt: HostRuntime) -> Result<(), Fail> {
+fn default_values(rt: HostRuntime) {
     assert!(rt; Matrix::default() == unity());
     let black = RgbColor {
         red: 0,
@@ -35,101 +87,6 @@ fn default_values(rt: HostRuntime) -> Result<(), Fail> {
     assert!(rt; RgbColor::default() == black);
     assert!(rt; FourCC::default() == FourCC::from([0, 0, 0, 0]));
     assert!(rt; DataType::default() == DataType::Binary);
-    Ok(())
-}
-
-#[test]
-fn default_mvhd(rt: HostRuntime) -> Result<(), Fail> {
-    let mvhd = MvhdBox {
-        version: 0,
-        flags: 0,
-        creation_time: 0,
-        modification_time: 0,
-        timescale: 1000,
-        duration: 0,
-        rate: FixedPointU16::new_raw(0x10000),
-        volume: FixedPointU8::new_raw(0x100),
-        matrix: unity(),
-        next_track_id: 1,
-    };
-    assert!(rt; MvhdBox::default() == mvhd);
-    Ok(())
-}
-
-#[test]
-fn default_tkhd(rt: HostRuntime) -> Result<(), Fail> {
-    let tkhd = TkhdBox {
-        version: 0,
-        flags: 1,
-        creation_time: 0,
-        modification_time: 0,
-        track_id: 0,
-        duration: 0,
-        layer: 0,
-        alternate_group: 0,
-        volume: FixedPointU8::new_raw(0x100),
-        matrix: unity(),
-        width: FixedPointU16::new_raw(0),
-        height: FixedPointU16::new_raw(0),
-    };
-    assert!(rt; TkhdBox::default() == tkhd);
-    Ok(())
-}
-
-#[test]
-fn default_mdhd(rt: HostRuntime) -> Result<(), Fail> {
-    let mdhd = MdhdBox {
-        version: 0,
-        flags: 0,
-        creation_time: 0,
-        modification_time: 0,
-        timescale: 1000,
-        duration: 0,
-        language: Text::from_str(rt.alloc(), "und")?,
-    };
-    assert!(rt; MdhdBox::default_in(rt.alloc())? == mdhd);
-    Ok(())
-}
-
-#[test]
-fn default_mfhd(rt: HostRuntime) -> Result<(), Fail> {
-    let mfhd = MfhdBox {
-        version: 0,
-        flags: 0,
-        sequence_number: 1,
-    };
-    assert!(rt; MfhdBox::default() == mfhd);
-    Ok(())
-}
-
-#[test]
-fn default_hdlr(rt: HostRuntime) -> Result<(), Fail> {
-    let hdlr = HdlrBox {
-        version: 0,
-        flags: 0,
-        handler_type: FourCC::from([0, 0, 0, 0]),
-        name: Text::new(rt.alloc()),
-    };
-    assert!(rt; HdlrBox::default_in(rt.alloc()) == hdlr);
-    Ok(())
-}
-
-#[test]
-fn default_emsg(rt: HostRuntime) -> Result<(), Fail> {
-    let emsg = EmsgBox {
-        version: 0,
-        flags: 0,
-        timescale: 0,
-        presentation_time: None,
-        presentation_time_delta: None,
-        event_duration: 0,
-        id: 0,
-        scheme_id_uri: Text::new(rt.alloc()),
-        value: Text::new(rt.alloc()),
-        message_data: Entries::new(rt.alloc()),
-    };
-    assert!(rt; EmsgBox::default_in(rt.alloc()) == emsg);
-    Ok(())
 }
 
 /// Flags of 1 and no location: the data is in the same file.
@@ -150,19 +107,35 @@ fn one_reference(alloc: Global) -> DrefBox {
 }
 
 #[test]
-fn default_url(rt: HostRuntime) -> Result<(), Fail> {
-    assert!(rt; UrlBox::default_in(rt.alloc()) == same_file(rt.alloc()));
+fn default_hdlr_emsg_url_and_dref(rt: HostRuntime) -> Result<(), Fail> {
+    let alloc = rt.alloc();
+    let hdlr = HdlrBox {
+        version: 0,
+        flags: 0,
+        handler_type: FourCC::from([0, 0, 0, 0]),
+        name: Text::new(alloc),
+    };
+    let emsg = EmsgBox {
+        version: 0,
+        flags: 0,
+        timescale: 0,
+        presentation_time: None,
+        presentation_time_delta: None,
+        event_duration: 0,
+        id: 0,
+        scheme_id_uri: Text::new(alloc),
+        value: Text::new(alloc),
+        message_data: Entries::new(alloc),
+    };
+    made::equal(Ok(HdlrBox::default_in(alloc)), Ok(hdlr))
+        .and(made::equal(Ok(EmsgBox::default_in(alloc)), Ok(emsg)))
+        .and(made::equal(Ok(UrlBox::default_in(alloc)), Ok(same_file(alloc))))
+        .and(made::equal(Ok(DrefBox::default_in(alloc)), Ok(one_reference(alloc))))?;
     Ok(())
 }
 
 #[test]
-fn default_dref(rt: HostRuntime) -> Result<(), Fail> {
-    assert!(rt; DrefBox::default_in(rt.alloc()) == one_reference(rt.alloc()));
-    Ok(())
-}
-
-#[test]
-fn default_tx3g(rt: HostRuntime) -> Result<(), Fail> {
+fn default_tx3g_and_mp4a(rt: HostRuntime) {
     let tx3g = Tx3gBox {
         data_reference_index: 0,
         display_flags: 0,
@@ -178,19 +151,12 @@ fn default_tx3g(rt: HostRuntime) -> Result<(), Fail> {
         style_record: [0, 0, 0, 0, 0, 1, 0, 16, 255, 255, 255, 255],
     };
     assert!(rt; Tx3gBox::default() == tx3g);
-    Ok(())
-}
-
-#[test]
-fn default_mp4a(rt: HostRuntime) -> Result<(), Fail> {
-    let value = Mp4aBox {
+    let mp4a = Mp4aBox {
         data_reference_index: 0,
         channelcount: 2,
         samplesize: 16,
         samplerate: FixedPointU16::new_raw(0xbb80_0000),
         esds: Some(EsdsBox::default()),
     };
-    let made = Mp4aBox::default();
-    assert!(rt; made == value);
-    Ok(())
+    assert!(rt; Mp4aBox::default() == mp4a);
 }

@@ -1,9 +1,6 @@
-//! Texts, and the languages of media headers.
+//! Strings of boxes.
 
-use mp4_ported::helpers::read;
-use mp4_ported::made;
-use mp4_stream::{Error, MdhdBox, Text, TryClone, WriteBox, language_code, language_string};
-use std::alloc::Global;
+use mp4_stream::{Text, TryClone};
 use std::test::Fail;
 
 #[test]
@@ -19,16 +16,10 @@ fn texts_are_strings(rt: HostRuntime) -> Result<(), Fail> {
 }
 
 #[test]
-fn texts_are_compared(rt: HostRuntime) -> Result<(), Fail> {
+fn texts_are_compared_and_printed(rt: HostRuntime) -> Result<(), Fail> {
     let foo = Text::from_str(rt.alloc(), "foo")?;
     assert!(rt; foo.try_clone()? == foo && foo != Text::new(rt.alloc()));
     assert!(rt; Text::from(String::from_str(rt.alloc(), "foo")?) == foo);
-    Ok(())
-}
-
-#[test]
-fn texts_are_printed(rt: HostRuntime) -> Result<(), Fail> {
-    let foo = Text::from_str(rt.alloc(), "foo")?;
     assert_eq!(rt; format!(in rt.alloc(); "{foo:?}")?.as_str(), "\"foo\"");
     Ok(())
 }

@@ -1,16 +1,13 @@
 //! Boxes that can't be written. Writing one leaves the vector as it was.
 
-use crate::tests::trun_of_numbers;
 use mp4_ported::boxes::flat::mehd_short;
-use mp4_ported::boxes::tables::{
-    chunk_run, elst_of, list, stco, stsc_of, tfhd, tfhd_all, trun_of_durations, trun_of_three_lists,
-};
+use mp4_ported::boxes::tables::{elst_of, list, stco, tfhd_all, trun_of_three_lists};
 use mp4_ported::boxes::text::{dref_of, dref_url, emsg, emsg_long, hdlr, url};
 use mp4_ported::helpers::{Mismatch, expect_unwritable, expect_unwritable_of_size};
 use mp4_ported::made;
 use mp4_stream::{
-    DinfBox, DrefBox, EmsgBox, Entries, Error, HdlrBox, MdhdBox, MehdBox, MvhdBox, StcoBox,
-    StszBox, Text, TfdtBox, TkhdBox, TrexBox, TrunBox, UrlBox, VmhdBox,
+    DinfBox, DrefBox, EmsgBox, Entries, Error, HdlrBox, MdhdBox, MehdBox, MvhdBox, StcoBox, Text,
+    TfdtBox, TkhdBox, TrexBox, TrunBox, UrlBox, VmhdBox,
 };
 use std::alloc::Global;
 use std::test::Fail;
@@ -77,21 +74,6 @@ fn unknown_versions_of_headers(rt: HostRuntime) -> Result<(), Fail> {
     Ok(())
 }
 
-#[test]
-fn flags_past_24_bits_in_headers(rt: HostRuntime) -> Result<(), Fail> {
-    let track = TrexBox {
-        flags: 1 << 24,
-        ..TrexBox::default()
-    };
-    expect_unwritable_of_size(rt.alloc(), &track, 32)?;
-    let video = VmhdBox {
-        flags: 1 << 24,
-        ..VmhdBox::default()
-    };
-    expect_unwritable_of_size(rt.alloc(), &video, 20)?;
-    Ok(())
-}
-
 /// The box with flags that don't fit.
 macro_rules! flagged {
     ($made:expr) => {{
@@ -121,25 +103,36 @@ fn flagged_dref(alloc: Global) -> Result<DrefBox, Error> {
     flagged!(dref_url(alloc))
 }
 
-#[test]
-fn flags_past_24_bits_in_tables_and_texts(rt: HostRuntime) -> Result<(), Fail> {
-    let alloc = rt.alloc();
-    let empty = StcoBox {
-        version: 0,
-        flags: 1 << 24,
-        entries: Entries::new(alloc),
-    };
-    expect_unwritable_of_size(alloc, &empty, 16)
-        .and(made::unwritable(alloc, flagged_stco(alloc)))
-        .and(made::unwritable(alloc, flagged_hdlr(alloc)))
-        .and(made::unwritable(alloc, flagged_emsg(alloc)))?;
-    Ok(())
-}
-
 /// Expects that a dref can't be written, and neither a dinf of it.
 fn expect_unwritable_dref(alloc: Global, made: Result<DrefBox, Error>) -> Result<(), Mismatch> {
     let dref = made?;
     expect_unwritable(alloc, &dref).and(expect_unwritable(alloc, &DinfBox::new(dref)))
+}
+
+#[test]
+fn flags_past_24_bits(rt: HostRuntime) -> Result<(), Fail> {
+    let alloc = rt.alloc();
+    let flags = 1 << 24;
+    let track = TrexBox {
+        flags,
+        ..TrexBox::default()
+    };
+    let video = VmhdBox {
+        flags,
+        ..VmhdBox::default()
+    };
+    let empty = StcoBox {
+        version: 0,
+        flags,
+        entries: Entries::new(alloc),
+    };
+    expect_unwritable_of_size(alloc, &track, 32)
+        .and(expect_unwritable_of_size(alloc, &video, 20))
+        .and(made::unwritable_of_size(alloc, Ok(empty), 16))
+        .and(made::unwritable(alloc, flagged_stco(alloc)))
+        .and(made::unwritable(alloc, flagged_hdlr(alloc)))
+        .and(made::unwritable(alloc, flagged_emsg(alloc)))?;
+    Ok(())
 }
 
 #[test]
@@ -156,12 +149,22 @@ fn flags_past_24_bits_in_references(rt: HostRuntime) -> Result<(), Fail> {
     Ok(())
 }
 
-#[test]
-fn fields_of_tfhd_that_differ_from_the_flags(rt: HostRuntime) -> Result<(), Fail> {
-    let mut all = tfhd_all();
-    all.default_sample_flags = None;
-    expect_unwritable(rt.alloc(), &all)?;
-    Ok(())
+/// A `trun` of this count, with two lists of as many numbers from 0 on.
+fn trun_of_numbers(alloc: Global, sample_count: u32, length: u32) -> Result<TrunBox, Error> {
+    let numbers: Vec<u32> = (0..length).collect(alloc)?;
+    let sample_sizes = list(alloc, &numbers)?;
+    let sample_cts = list(alloc, &numbers)?;
+    Ok(TrunBox {
+        version: 0,
+        flags: TrunBox::FLAG_SAMPLE_SIZE | TrunBox::FLAG_SAMPLE_CTS,
+        sample_count,
+        data_offset: None,
+        first_sample_flags: None,
+        sample_durations: Entries::new(alloc),
+        sample_sizes,
+        sample_flags: Entries::new(alloc),
+        sample_cts,
+    })
 }
 
 /// A `trun` whose flags have the flags of the first sample, which it lacks.
@@ -169,16 +172,6 @@ fn trun_without_first_flags(alloc: Global) -> Result<TrunBox, Error> {
     let mut trun = trun_of_three_lists(alloc)?;
     trun.first_sample_flags = None;
     Ok(trun)
-}
-
-#[test]
-fn lists_of_trun_that_differ_from_the_flags(rt: HostRuntime) -> Result<(), Fail> {
-    let alloc = rt.alloc();
-    made::unwritable(alloc, trun_without_first_flags(alloc)).and(made::unwritable(
-        alloc,
-        trun_of_numbers(alloc, 1029, 1030),
-    ))?;
-    Ok(())
 }
 
 /// An `emsg` of version 1, with the time of version 0.
@@ -190,7 +183,13 @@ fn emsg_of_other_time(alloc: Global) -> Result<EmsgBox, Error> {
 }
 
 #[test]
-fn emsg_of_the_time_of_another_version(rt: HostRuntime) -> Result<(), Fail> {
-    made::unwritable(rt.alloc(), emsg_of_other_time(rt.alloc()))?;
+fn fields_and_lists_that_differ_from_flags_or_version(rt: HostRuntime) -> Result<(), Fail> {
+    let alloc = rt.alloc();
+    let mut tfhd = tfhd_all();
+    tfhd.default_sample_flags = None;
+    expect_unwritable(alloc, &tfhd)
+        .and(made::unwritable(alloc, trun_without_first_flags(alloc)))
+        .and(made::unwritable(alloc, trun_of_numbers(alloc, 1029, 1030)))
+        .and(made::unwritable(alloc, emsg_of_other_time(alloc)))?;
     Ok(())
 }

@@ -1,4 +1,4 @@
-//! Sample descriptions: which entry is written of several.
+//! `stsd`: which entry is written of several, which can't be written, and clones.
 
 use mp4_ported::boxes::entries::{AVC1, HEV1, VP09, avc1, hev1, tx3g, vp09};
 use mp4_ported::boxes::sound::{MP4A, mp4a, mp4a_of_test, stsd_of};
@@ -66,35 +66,21 @@ fn expect_written_alone(
 }
 
 #[test]
-fn avc1_is_written_first(rt: HostRuntime) -> Result<(), Fail> {
-    expect_written_alone(rt.alloc(), stsd_of_all(rt.alloc()), 138, &AVC1)?;
-    Ok(())
-}
-
-#[test]
-fn hev1_is_written_next(rt: HostRuntime) -> Result<(), Fail> {
-    expect_written_alone(rt.alloc(), Ok(stsd_after_avc1()), 111, &HEV1)?;
-    Ok(())
-}
-
-#[test]
-fn vp09_is_written_before_sound(rt: HostRuntime) -> Result<(), Fail> {
-    let stsd = StsdBox {
+fn the_first_entry_is_written(rt: HostRuntime) -> Result<(), Fail> {
+    let alloc = rt.alloc();
+    let after_hev1 = StsdBox {
         hev1: None,
         ..stsd_after_avc1()
     };
-    expect_written_alone(rt.alloc(), Ok(stsd), 122, &VP09)?;
-    Ok(())
-}
-
-#[test]
-fn mp4a_is_written_before_text(rt: HostRuntime) -> Result<(), Fail> {
-    let stsd = StsdBox {
+    let of_sound_and_text = StsdBox {
         mp4a: Some(mp4a()),
         tx3g: Some(tx3g()),
-        ..StsdBox::default_in(rt.alloc())
+        ..StsdBox::default_in(alloc)
     };
-    expect_written_alone(rt.alloc(), Ok(stsd), 95, &MP4A)?;
+    expect_written_alone(alloc, stsd_of_all(alloc), 138, &AVC1)
+        .and(expect_written_alone(alloc, Ok(stsd_after_avc1()), 111, &HEV1))
+        .and(expect_written_alone(alloc, Ok(after_hev1), 122, &VP09))
+        .and(expect_written_alone(alloc, Ok(of_sound_and_text), 95, &MP4A))?;
     Ok(())
 }
 
@@ -119,15 +105,20 @@ fn unwritable_stsd(rt: HostRuntime) -> Result<(), Fail> {
     Ok(())
 }
 
-#[test]
-fn clones_of_stsd(rt: HostRuntime) -> Result<(), Fail> {
-    let all = stsd_of_all(rt.alloc())?;
+/// Whether a clone of the box is equal to it, and is not if it loses its last entry.
+fn is_cloned(made: Result<StsdBox, Error>) -> Result<(bool, bool), Error> {
+    let all = made?;
     let clone = all.try_clone()?;
-    assert!(rt; clone == all);
+    let is_equal = clone == all;
     let other = StsdBox {
         tx3g: None,
         ..clone
     };
-    assert!(rt; other != all);
+    Ok((is_equal, other == all))
+}
+
+#[test]
+fn clones_of_stsd(rt: HostRuntime) -> Result<(), Fail> {
+    assert_eq!(rt; is_cloned(stsd_of_all(rt.alloc()))?, (true, false));
     Ok(())
 }
