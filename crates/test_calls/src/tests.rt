@@ -1,14 +1,10 @@
 //! Tests of what no contract says, a file for each thing that is tested.
 
 mod cut_streams;
-mod cuts;
-mod defaults;
 mod examples;
-mod headers;
 mod iterator;
 mod large;
 mod laws;
 mod lists;
 mod memory;
-mod sizes;
 mod streams;

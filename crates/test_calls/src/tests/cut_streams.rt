@@ -52,6 +52,23 @@ fn expected_of(cut: usize, count: Option<usize>) -> (Kind, usize, u64) {
     }
 }
 
+/// How the boxes of a buffer are found.
+#[derive(Clone, Copy, Debug, PartialEq, Eq)]
+enum Way {
+    Read,
+    Kept,
+    Listed,
+}
+
+/// Reads, keeps or lists the boxes of a buffer. Returns the same as `expected_of`.
+fn found(alloc: Global, way: Way, bytes: &[u8]) -> (Kind, usize, u64) {
+    match way {
+        Way::Read => read_stream(alloc, bytes),
+        Way::Kept => keep_stream(alloc, bytes),
+        Way::Listed => list_from(alloc, bytes, 0),
+    }
+}
+
 /// Reads the boxes of a buffer and keeps all of them. Returns the same as `expected_of`.
 fn keep_stream(alloc: Global, bytes: &[u8]) -> (Kind, usize, u64) {
     let mut reader = ByteCursor::new(bytes);
@@ -59,35 +76,22 @@ fn keep_stream(alloc: Global, bytes: &[u8]) -> (Kind, usize, u64) {
     (kind, count, reader.position())
 }
 
-#[test]
-fn boxes_before_a_cut_are_read(rt: HostRuntime) -> Result<(), Fail> {
-    let (stream, counts) = all_cuts(rt.alloc())?;
+/// The first cut at which something else is found than expected.
+fn first_wrong_cut(alloc: Global, way: Way) -> Result<Option<usize>, Error> {
+    let (stream, counts) = all_cuts(alloc)?;
     for (cut, count) in counts.iter().enumerate() {
         let bytes = stream.get(..cut).unwrap_or(&[]);
-        let found = read_stream(rt.alloc(), bytes);
-        assert_eq!(rt; found, expected_of(cut, *count), "{cut}");
+        if found(alloc, way, bytes) != expected_of(cut, *count) {
+            return Ok(Some(cut));
+        }
     }
-    Ok(())
+    Ok(None)
 }
 
 #[test]
-fn boxes_before_a_cut_are_kept(rt: HostRuntime) -> Result<(), Fail> {
-    let (stream, counts) = all_cuts(rt.alloc())?;
-    for (cut, count) in counts.iter().enumerate() {
-        let bytes = stream.get(..cut).unwrap_or(&[]);
-        let found = keep_stream(rt.alloc(), bytes);
-        assert_eq!(rt; found, expected_of(cut, *count), "{cut}");
-    }
-    Ok(())
-}
-
-#[test]
-fn boxes_before_a_cut_are_listed(rt: HostRuntime) -> Result<(), Fail> {
-    let (stream, counts) = all_cuts(rt.alloc())?;
-    for (cut, count) in counts.iter().enumerate() {
-        let bytes = stream.get(..cut).unwrap_or(&[]);
-        let found = list_from(rt.alloc(), bytes, 0);
-        assert_eq!(rt; found, expected_of(cut, *count), "{cut}");
+fn boxes_before_a_cut_are_read_kept_and_listed(rt: HostRuntime) -> Result<(), Fail> {
+    for way in [Way::Read, Way::Kept, Way::Listed] {
+        assert_eq!(rt; first_wrong_cut(rt.alloc(), way)?, None, "{way:?}");
     }
     Ok(())
 }

@@ -13,17 +13,7 @@ use mp4_stream::{AacConfig, ByteCursor, Co64Box, Error, StcoBox};
 use std::alloc::Global;
 use std::test::Fail;
 
-#[test]
-fn decode_times(rt: HostRuntime) -> Result<(), Fail> {
-    let mut out = Vec::new(rt.alloc());
-    assert_eq!(rt; append_decode_time(0xffff_ffff, &mut out)?, 16);
-    assert_eq!(rt; append_decode_time(0x1_0000_0000, &mut out)?, 20);
-    let bytes =
-        *b"\0\0\0\x10tfdt\0\0\0\0\xff\xff\xff\xff\0\0\0\x14tfdt\x01\0\0\0\0\0\0\x01\0\0\0\0";
-    assert_eq!(rt; out.as_slice(), bytes.as_slice());
-    Ok(())
-}
-
+/// Offsets of 64 bits.
 fn long_offsets(alloc: Global, offsets: &[u64]) -> Result<Co64Box, Error> {
     Ok(Co64Box {
         version: 1,
@@ -32,17 +22,22 @@ fn long_offsets(alloc: Global, offsets: &[u64]) -> Result<Co64Box, Error> {
     })
 }
 
-#[test]
-fn short_offsets_are_appended(rt: HostRuntime) -> Result<(), Fail> {
-    let long = long_offsets(rt.alloc(), &[267, 4294967295])?;
-    let mut out = Vec::new(rt.alloc());
-    assert_eq!(rt; append_short(rt.alloc(), &long, &mut out)?, 24);
-    Ok(())
+/// The number of bytes that short offsets are appended in.
+fn size_of_short(alloc: Global, offsets: &[u64]) -> Result<u64, Error> {
+    let long = long_offsets(alloc, offsets)?;
+    append_short(alloc, &long, &mut Vec::new(alloc))
 }
 
 #[test]
-fn references_are_appended(rt: HostRuntime) -> Result<(), Fail> {
+fn decode_times_offsets_and_references_are_appended(rt: HostRuntime) -> Result<(), Fail> {
     let mut out = Vec::new(rt.alloc());
+    assert_eq!(rt; append_decode_time(0xffff_ffff, &mut out)?, 16);
+    assert_eq!(rt; append_decode_time(0x1_0000_0000, &mut out)?, 20);
+    let bytes =
+        *b"\0\0\0\x10tfdt\0\0\0\0\xff\xff\xff\xff\0\0\0\x14tfdt\x01\0\0\0\0\0\0\x01\0\0\0\0";
+    assert_eq!(rt; out.as_slice(), bytes.as_slice());
+    assert_eq!(rt; size_of_short(rt.alloc(), &[267, 4294967295])?, 24);
+    out.clear();
     assert_eq!(rt; append_reference(rt.alloc(), "a", &mut out)?, 38);
     assert_eq!(rt; out.as_slice(), DINF_URL.as_slice());
     Ok(())

@@ -2,9 +2,9 @@
 
 use super::streams::kind_and_count;
 use example_callers::mark::MarkBox;
+use mp4_iterator::{Boxes, boxes_as, collect_boxes};
 use mp4_ported::boxes::THREE;
 use mp4_ported::helpers::{Kind, kind_of};
-use mp4_iterator::{Boxes, boxes_as, collect_boxes};
 use mp4_stream::{AnyBox, ByteCursor, Error, StreamBox};
 use std::alloc::Global;
 use std::test::Fail;
@@ -22,15 +22,11 @@ fn step<B: StreamBox + Drop>(boxes: &mut Boxes<B>) -> (Option<Kind>, u64) {
 }
 
 #[test]
-fn boxes_come_one_at_a_time(rt: HostRuntime) {
+fn boxes_come_one_at_a_time_up_to_a_fault(rt: HostRuntime) {
     let mut boxes = boxes_as::<AnyBox>(rt.alloc(), &THREE);
     assert_eq!(rt; step(&mut boxes), (Some(Kind::Ok), 24));
     assert_eq!(rt; step(&mut boxes), (Some(Kind::Ok), 52));
     assert_eq!(rt; step(&mut boxes), (None, 52));
-}
-
-#[test]
-fn a_fault_is_the_last_item(rt: HostRuntime) {
     let mut cut = boxes_as::<AnyBox>(rt.alloc(), &THREE[..51]);
     assert_eq!(rt; step(&mut cut), (Some(Kind::Ok), 24));
     assert_eq!(rt; step(&mut cut), (Some(Kind::End), 32));
@@ -76,11 +72,7 @@ fn what_is_left_is_collected(rt: HostRuntime) -> Result<(), Fail> {
     let found = collect_boxes(rt.alloc(), left)?;
     assert_eq!(rt; found.as_slice(), [MarkBox { mark: 8 }].as_slice());
     assert_eq!(rt; reader.position(), 12);
-    Ok(())
-}
-
-#[test]
-fn boxes_of_any_type_are_collected(rt: HostRuntime) {
     let all = collect_boxes::<AnyBox>(rt.alloc(), boxes_as(rt.alloc(), &THREE));
     assert_eq!(rt; kind_and_count(all), (Kind::Ok, 2));
+    Ok(())
 }

@@ -36,22 +36,23 @@ fn clone_of_sets(alloc: Global, count: u8, set: &[u8]) -> Result<(), Mismatch> {
 }
 
 #[test]
-fn many_sets_are_cloned(rt: HostRuntime) -> Result<(), Fail> {
-    let alloc = rt.alloc();
-    clone_of_sets(alloc, 40, b"\0\x01\x68").and(clone_of_sets(alloc, 255, b"\0\x02\x68\x69"))?;
-    Ok(())
-}
-
-#[test]
-fn a_set_of_65535_bytes_is_cloned(rt: HostRuntime) -> Result<(), Fail> {
+fn many_sets_and_a_set_of_65535_bytes_are_cloned(rt: HostRuntime) -> Result<(), Fail> {
     let alloc = rt.alloc();
     let set = repeated(alloc, &[], b"\xff", 65_537)?;
-    clone_of_sets(alloc, 1, &set)?;
+    clone_of_sets(alloc, 40, b"\0\x01\x68")
+        .and(clone_of_sets(alloc, 255, b"\0\x02\x68\x69"))
+        .and(clone_of_sets(alloc, 1, &set))?;
     Ok(())
 }
 
+/// A box of another type with 70,000 bytes of content.
+fn large_other(alloc: Global) -> Result<OtherBox, Error> {
+    let content = repeated(alloc, &[], b"content", 10_000)?;
+    OtherBox::copy_of(alloc, 0x6d64_6174, &content)
+}
+
 #[test]
-fn long_tables_and_texts_are_cloned(rt: HostRuntime) -> Result<(), Fail> {
+fn long_tables_texts_and_contents_are_cloned(rt: HostRuntime) -> Result<(), Fail> {
     let alloc = rt.alloc();
     let offsets = repeated(
         alloc,
@@ -63,20 +64,9 @@ fn long_tables_and_texts_are_cloned(rt: HostRuntime) -> Result<(), Fail> {
     let name = repeated(alloc, &[7; 33], b"name", 20_000);
     clone_of_read::<StcoBox>(alloc, offsets)
         .and(clone_of_read::<FtypBox>(alloc, brands))
-        .and(clone_of_read::<HdlrBox>(alloc, name))?;
-    Ok(())
-}
-
-/// A box of another type with 70,000 bytes of content.
-fn large_other(alloc: Global) -> Result<OtherBox, Error> {
-    let content = repeated(alloc, &[], b"content", 10_000)?;
-    OtherBox::copy_of(alloc, 0x6d64_6174, &content)
-}
-
-#[test]
-fn a_large_content_is_cloned(rt: HostRuntime) -> Result<(), Fail> {
-    let alloc = rt.alloc();
-    made::cloned(large_other(alloc)).and(made::cloned(large_other(alloc).map(KeptBox::Other)))?;
+        .and(clone_of_read::<HdlrBox>(alloc, name))
+        .and(made::cloned(large_other(alloc)))
+        .and(made::cloned(large_other(alloc).map(KeptBox::Other)))?;
     Ok(())
 }
 

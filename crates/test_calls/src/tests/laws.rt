@@ -49,43 +49,52 @@ fn call_laws_of_read_lists<B: SoundStream>() {
 }
 
 #[test]
-fn laws_hold_of_times() {
+fn laws_hold_of_boxes_of_fixed_fields() {
     call_laws_of_box::<MvhdBox>();
     call_laws_of_box::<TkhdBox>();
     call_laws_of_box::<MdhdBox>();
-}
-
-#[test]
-fn laws_hold_of_fragments() {
     call_laws_of_box::<MehdBox>();
     call_laws_of_box::<MfhdBox>();
     call_laws_of_box::<TfdtBox>();
     call_laws_of_box::<TrexBox>();
-}
-
-#[test]
-fn laws_hold_of_sound_and_picture() {
     call_laws_of_box::<SmhdBox>();
     call_laws_of_box::<VmhdBox>();
 }
 
 #[test]
-fn laws_hold_of_video_entries() {
+fn laws_hold_of_tables() {
+    call_laws_of_box::<StcoBox>();
+    call_laws_of_box::<Co64Box>();
+    call_laws_of_box::<StscBox>();
+    call_laws_of_box::<SttsBox>();
+    call_laws_of_box::<CttsBox>();
+    call_laws_of_box::<StssBox>();
+    call_laws_of_box::<StszBox>();
+    call_laws_of_box::<ElstBox>();
+    call_laws_of_box::<TfhdBox>();
+    call_laws_of_box::<TrunBox>();
+}
+
+#[test]
+fn laws_hold_of_texts_and_references() {
+    call_laws_of_box::<FtypBox>();
+    call_laws_of_box::<HdlrBox>();
+    call_laws_of_box::<DataBox>();
+    call_laws_of_box::<EmsgBox>();
+    call_laws_of_box::<UrlBox>();
+    call_laws_of_box::<DrefBox>();
+    call_laws_of_box::<DinfBox>();
+}
+
+#[test]
+fn laws_hold_of_sample_entries() {
     call_laws_of_box::<AvcCBox>();
     call_laws_of_box::<Avc1Box>();
     call_laws_of_box::<HvcCBox>();
     call_laws_of_box::<Hev1Box>();
-}
-
-#[test]
-fn laws_hold_of_other_entries() {
     call_laws_of_box::<VpccBox>();
     call_laws_of_box::<Vp09Box>();
     call_laws_of_box::<Tx3gBox>();
-}
-
-#[test]
-fn laws_hold_of_audio_entries() {
     call_laws_of_box::<EsdsBox>();
     call_laws_of_box::<Mp4aBox>();
     call_laws_of_box::<StsdBox>();
@@ -93,7 +102,7 @@ fn laws_hold_of_audio_entries() {
 }
 
 #[test]
-fn some_boxes_are_read_without_memory() {
+fn boxes_and_entries_are_read_without_memory() {
     is_read_without_memory::<MvhdBox>();
     is_read_without_memory::<TkhdBox>();
     is_read_without_memory::<MehdBox>();
@@ -103,10 +112,6 @@ fn some_boxes_are_read_without_memory() {
     is_read_without_memory::<TrexBox>();
     is_read_without_memory::<TfdtBox>();
     is_read_without_memory::<TfhdBox>();
-}
-
-#[test]
-fn some_entries_are_read_without_memory() {
     is_read_without_memory::<HvcCBox>();
     is_read_without_memory::<Hev1Box>();
     is_read_without_memory::<VpccBox>();
@@ -117,22 +122,18 @@ fn some_entries_are_read_without_memory() {
 }
 
 #[test]
-fn flags_have_their_numbers(rt: HostRuntime) {
+fn codes_and_flags_have_their_numbers(rt: HostRuntime) {
+    assert_eq!(rt; laws::codes_of_names(BoxType::FtypBox), 0x6674_7970);
+    code_is_kept(0x6674_7970);
+    name_is_kept();
+    header_is_read_back();
+    laws::sizes_of_headers();
     assert_eq!(rt;
         flat_laws::discriminant_of_track_flag(TrackFlag::TrackEnabled),
         1
     );
     table_laws::flags_of_tfhd();
     table_laws::flags_of_trun();
-}
-
-#[test]
-fn codes_have_their_numbers(rt: HostRuntime) {
-    assert_eq!(rt; laws::codes_of_names(BoxType::FtypBox), 0x6674_7970);
-    code_is_kept(0x6674_7970);
-    name_is_kept();
-    header_is_read_back();
-    laws::sizes_of_headers();
 }
 
 #[test]
@@ -149,53 +150,12 @@ fn equality_is_of_all_fields() {
 }
 
 #[test]
-fn laws_hold_of_chunks() {
-    call_laws_of_box::<StcoBox>();
-    call_laws_of_box::<Co64Box>();
-    call_laws_of_box::<StscBox>();
-}
-
-#[test]
-fn laws_hold_of_samples() {
-    call_laws_of_box::<SttsBox>();
-    call_laws_of_box::<CttsBox>();
-    call_laws_of_box::<StssBox>();
-    call_laws_of_box::<StszBox>();
-}
-
-#[test]
-fn laws_hold_of_edits_and_runs() {
-    call_laws_of_box::<ElstBox>();
-    call_laws_of_box::<TfhdBox>();
-    call_laws_of_box::<TrunBox>();
-}
-
-#[test]
-fn laws_hold_of_texts() {
-    call_laws_of_box::<FtypBox>();
-    call_laws_of_box::<HdlrBox>();
-    call_laws_of_box::<DataBox>();
-    call_laws_of_box::<EmsgBox>();
-}
-
-#[test]
-fn laws_hold_of_references() {
-    call_laws_of_box::<UrlBox>();
-    call_laws_of_box::<DrefBox>();
-    call_laws_of_box::<DinfBox>();
-}
-
-#[test]
 fn laws_hold_of_lists_and_of_a_type_from_outside() {
     call_laws_of_box::<MarkBox>();
     call_laws_of_lists::<AnyBox>();
     call_laws_of_lists::<MarkBox>();
-    spans_follow_frames();
-}
-
-#[test]
-fn laws_hold_of_lists_of_kept_boxes() {
     call_laws_of_lists::<KeptBox>();
+    spans_follow_frames();
 }
 
 #[test]

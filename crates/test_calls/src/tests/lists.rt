@@ -32,6 +32,11 @@ pub(super) fn list_from<A: Allocator>(alloc: A, bytes: &[u8], position: u64) -> 
     (kind, count, reader.position())
 }
 
+/// Whether these places are listed of a buffer.
+fn are_places(alloc: Global, bytes: &[u8], expected: &[BoxSpan]) -> Result<bool, Error> {
+    Ok(places(alloc, bytes)?.as_slice() == expected)
+}
+
 #[test]
 fn boxes_that_are_skipped_are_listed_too(rt: HostRuntime) -> Result<(), Fail> {
     let expected = [
@@ -39,8 +44,7 @@ fn boxes_that_are_skipped_are_listed_too(rt: HostRuntime) -> Result<(), Fail> {
         span(24, 8, BoxType::FreeBox),
         span(32, 20, BoxType::StcoBox),
     ];
-    let found = places(rt.alloc(), &THREE)?;
-    assert_eq!(rt; found.as_slice(), expected.as_slice());
+    assert!(rt; are_places(rt.alloc(), &THREE, &expected)?);
     assert_eq!(rt; list_from(rt.alloc(), &THREE, 0), (Kind::Ok, 3, 52));
     Ok(())
 }
@@ -60,52 +64,47 @@ fn listing_begins_at_the_cursor(rt: HostRuntime) -> Result<(), Fail> {
 }
 
 #[test]
-fn a_header_of_16_bytes_is_listed_with_the_box(rt: HostRuntime) -> Result<(), Fail> {
+fn headers_of_16_bytes_and_sizes_of_zero_are_listed(rt: HostRuntime) -> Result<(), Fail> {
     let bytes = b"\0\0\0\x08free\0\0\0\x01mdat\0\0\0\0\0\0\0\x13\x01\x02\x03\0\0\0\x08skip";
     let expected = [
         span(0, 8, BoxType::FreeBox),
         span(8, 19, BoxType::MdatBox),
         span(27, 8, BoxType::UnknownBox(0x736b_6970)),
     ];
-    assert_eq!(rt; places(rt.alloc(), bytes)?.as_slice(), expected.as_slice());
+    assert!(rt; are_places(rt.alloc(), bytes, &expected)?);
+    let compact = b"\0\0\0\x08free\0\0\0\0mdat\x01\x02\x03";
+    let expected = [span(0, 8, BoxType::FreeBox), span(8, 11, BoxType::MdatBox)];
+    assert!(rt; are_places(rt.alloc(), compact, &expected)?);
+    let large = b"\0\0\0\x08free\0\0\0\x01mdat\0\0\0\0\0\0\0\0\x01\x02\x03";
+    let expected = [span(0, 8, BoxType::FreeBox), span(8, 19, BoxType::MdatBox)];
+    assert!(rt; are_places(rt.alloc(), large, &expected)?);
     Ok(())
 }
 
-#[test]
-fn a_size_of_zero_is_listed_to_the_end(rt: HostRuntime) -> Result<(), Fail> {
-    let compact = b"\0\0\0\x08free\0\0\0\0mdat\x01\x02\x03";
-    let expected = [span(0, 8, BoxType::FreeBox), span(8, 11, BoxType::MdatBox)];
-    assert_eq!(rt;
-        places(rt.alloc(), compact)?.as_slice(),
-        expected.as_slice()
-    );
-    let large = b"\0\0\0\x08free\0\0\0\x01mdat\0\0\0\0\0\0\0\0\x01\x02\x03";
-    let expected = [span(0, 8, BoxType::FreeBox), span(8, 19, BoxType::MdatBox)];
-    assert_eq!(rt; places(rt.alloc(), large)?.as_slice(), expected.as_slice());
-    Ok(())
+/// Whether listing is this fault.
+fn is_fault(alloc: Global, bytes: &[u8], kind: Kind) -> bool {
+    list_from(alloc, bytes, 0) == (kind, 0, 0)
 }
 
 #[test]
 fn invalid_sizes_are_not_listed(rt: HostRuntime) {
-    let invalid: [&[u8]; 5] = [
+    let invalid: [&[u8]; 6] = [
         b"\0\0\0\x02free",
         b"\0\0\0\x07free",
         b"\0\0\0\x01free\0\0\0\0\0\0\0\x01",
         b"\0\0\0\x01free\0\0\0\0\0\0\0\x0f",
         b"\0\0\0\x08free\0\0\0\x01free\xff\xff\xff\xff\xff\xff\xff\xff",
+        // The first fault is that of the first bad box.
+        b"\0\0\0\x08free\0\0\0\x02free\0\0\0\x09free",
     ];
     for bytes in invalid {
-        assert_eq!(rt;
-            list_from(rt.alloc(), bytes, 0),
-            (Kind::Invalid, 0, 0),
-            "{bytes:?}"
-        );
+        assert!(rt; is_fault(rt.alloc(), bytes, Kind::Invalid), "{bytes:?}");
     }
 }
 
 #[test]
 fn boxes_that_are_cut_are_not_listed(rt: HostRuntime) {
-    let short: [&[u8]; 7] = [
+    let short: [&[u8]; 8] = [
         b"\0",
         b"\0\0\0\0\0\0\0",
         b"\0\0\0\x01free",
@@ -113,32 +112,18 @@ fn boxes_that_are_cut_are_not_listed(rt: HostRuntime) {
         b"\0\0\0\x09free",
         b"\0\0\0\x08free\xff\xff\xff\xfffree",
         b"\0\0\0\x01free\xff\xff\xff\xff\xff\xff\xff\xff",
+        b"\0\0\0\x08free\0\0\0\xfffree\0\0\0\x02free",
     ];
     for bytes in short {
-        assert_eq!(rt;
-            list_from(rt.alloc(), bytes, 0),
-            (Kind::End, 0, 0),
-            "{bytes:?}"
-        );
+        assert!(rt; is_fault(rt.alloc(), bytes, Kind::End), "{bytes:?}");
     }
-}
-
-#[test]
-fn the_first_fault_is_that_of_the_first_bad_box(rt: HostRuntime) {
-    let size_then_cut = b"\0\0\0\x08free\0\0\0\x02free\0\0\0\x09free";
-    assert_eq!(rt;
-        list_from(rt.alloc(), size_then_cut, 0),
-        (Kind::Invalid, 0, 0)
-    );
-    let cut_then_size = b"\0\0\0\x08free\0\0\0\xfffree\0\0\0\x02free";
-    assert_eq!(rt; list_from(rt.alloc(), cut_then_size, 0), (Kind::End, 0, 0));
 }
 
 #[test]
 fn a_box_that_is_listed_may_be_refused_when_it_is_read(rt: HostRuntime) -> Result<(), Fail> {
     let bytes = b"\0\0\0\x12ftyp\0\x01\x02\x03\x04\x05\x06\x07\x08\x09";
     let expected = [span(0, 18, BoxType::FtypBox)];
-    assert_eq!(rt; places(rt.alloc(), bytes)?.as_slice(), expected.as_slice());
+    assert!(rt; are_places(rt.alloc(), bytes, &expected)?);
     let read = read_boxes(rt.alloc(), &mut ByteCursor::new(bytes));
     assert_eq!(rt; kind_of(&read), Kind::Invalid);
     Ok(())
@@ -176,32 +161,25 @@ fn all_vectors(alloc: Global) -> Result<(Vec<u8>, Vec<BoxSpan>), Error> {
 #[test]
 fn all_vectors_are_listed(rt: HostRuntime) -> Result<(), Fail> {
     let (stream, expected) = all_vectors(rt.alloc())?;
-    assert!(rt; places(rt.alloc(), &stream)? == expected);
+    assert!(rt; are_places(rt.alloc(), &stream, &expected)?);
     Ok(())
 }
 
 #[test]
-fn a_first_box_takes_memory(rt: HostRuntime) -> Result<(), Fail> {
+fn memory_is_asked_for_at_the_first_box(rt: HostRuntime) -> Result<(), Fail> {
     let heap = LocalHeap::new(rt.alloc(), 32)?;
-    let alone = b"\0\0\0\x08free";
-    assert_eq!(rt; list_from(&heap, alone, 0), (Kind::Memory, 0, 0));
-    let before_a_fault = b"\0\0\0\x08free\0\0\0\x02free";
-    assert_eq!(rt; list_from(&heap, before_a_fault, 0), (Kind::Memory, 0, 0));
-    assert_eq!(rt; heap.used(), 0);
-    Ok(())
-}
-
-#[test]
-fn no_memory_is_asked_for_before_the_first_box(rt: HostRuntime) -> Result<(), Fail> {
-    let heap = LocalHeap::new(rt.alloc(), 32)?;
-    assert_eq!(rt; list_from(&heap, b"", 0), (Kind::Ok, 0, 0));
-    assert_eq!(rt; list_from(&heap, b"\0\0\0\x08free", 8), (Kind::Ok, 0, 8));
-    assert_eq!(rt;
-        list_from(&heap, b"\0\0\0\x02free", 0),
-        (Kind::Invalid, 0, 0)
-    );
-    assert_eq!(rt; list_from(&heap, b"\0\0\0\x09free", 0), (Kind::End, 0, 0));
-    assert_eq!(rt; list_from(&heap, b"\0\0\0", 0), (Kind::End, 0, 0));
+    for (bytes, position, expected) in [
+        (b"".as_slice(), 0, (Kind::Ok, 0, 0)),
+        (b"\0\0\0\x08free", 8, (Kind::Ok, 0, 8)),
+        (b"\0\0\0\x02free", 0, (Kind::Invalid, 0, 0)),
+        (b"\0\0\0\x09free", 0, (Kind::End, 0, 0)),
+        (b"\0\0\0", 0, (Kind::End, 0, 0)),
+        (b"\0\0\0\x08free", 0, (Kind::Memory, 0, 0)),
+        (b"\0\0\0\x08free\0\0\0\x02free", 0, (Kind::Memory, 0, 0)),
+    ] {
+        assert_eq!(rt; list_from(&heap, bytes, position), expected, "{bytes:?}");
+        assert_eq!(rt; heap.used(), 0);
+    }
     Ok(())
 }
 

@@ -1,8 +1,8 @@
 //! Refused memory, with allocators that have little room.
 
 use super::streams::{any_ftyp, append_two};
-use linked_list_allocator::LocalHeap;
 use example_callers::mark::MarkBox;
+use linked_list_allocator::LocalHeap;
 use mp4_ported::helpers::{Kind, kind_of};
 use mp4_stream::{
     AnyBox, BoxHeader, BoxType, Error, MfhdBox, WriteBox, write_box_header_ext, write_boxes,

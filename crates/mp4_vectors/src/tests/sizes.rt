@@ -1,115 +1,18 @@
 //! Boxes that are read with a size other than their own.
 
-use example_callers::defaults::default_extent;
-use example_callers::defaults::default_video;
-use mp4_ported::boxes::entries::avc1;
-use mp4_ported::boxes::entries::avc1_of_two;
-use mp4_ported::boxes::entries::avcc;
-use mp4_ported::boxes::entries::avcc_of_two;
-use mp4_ported::boxes::entries::hev1;
-use mp4_ported::boxes::entries::hev1_of_config;
-use mp4_ported::boxes::entries::hvcc;
-use mp4_ported::boxes::entries::tx3g;
-use mp4_ported::boxes::entries::tx3g_of_test;
-use mp4_ported::boxes::entries::vp09;
-use mp4_ported::boxes::entries::vp09_of_config;
-use mp4_ported::boxes::entries::vpcc;
-use mp4_ported::boxes::entries::vpcc_of_test;
-use mp4_ported::boxes::flat::mdhd;
-use mp4_ported::boxes::flat::mdhd_long;
-use mp4_ported::boxes::flat::mehd;
-use mp4_ported::boxes::flat::mehd_short;
-use mp4_ported::boxes::flat::mfhd;
-use mp4_ported::boxes::flat::mvhd;
-use mp4_ported::boxes::flat::mvhd_long;
-use mp4_ported::boxes::flat::smhd;
-use mp4_ported::boxes::flat::tfdt;
-use mp4_ported::boxes::flat::tfdt_of_zero;
-use mp4_ported::boxes::flat::tkhd;
-use mp4_ported::boxes::flat::tkhd_full;
-use mp4_ported::boxes::flat::tkhd_long;
-use mp4_ported::boxes::flat::tkhd_short;
-use mp4_ported::boxes::flat::trex;
-use mp4_ported::boxes::flat::vmhd;
-use mp4_ported::boxes::flat::vmhd_black;
-use mp4_ported::boxes::sound::ESDS;
-use mp4_ported::boxes::sound::ESDS_OF_TEST;
-use mp4_ported::boxes::sound::MP4A;
-use mp4_ported::boxes::sound::MP4A_OF_TEST;
-use mp4_ported::boxes::sound::MP4A_WITHOUT_ESDS;
-use mp4_ported::boxes::sound::STSD;
-use mp4_ported::boxes::sound::STSD_OF_TEST;
-use mp4_ported::boxes::sound::mp4a;
-use mp4_ported::boxes::sound::mp4a_of;
-use mp4_ported::boxes::sound::mp4a_of_test;
-use mp4_ported::boxes::sound::stsd;
-use mp4_ported::boxes::sound::stsd_of;
-use mp4_ported::boxes::tables::STCO;
-use mp4_ported::boxes::tables::co64;
-use mp4_ported::boxes::tables::co64_of_seven;
-use mp4_ported::boxes::tables::ctts;
-use mp4_ported::boxes::tables::elst;
-use mp4_ported::boxes::tables::elst_long;
-use mp4_ported::boxes::tables::stco;
-use mp4_ported::boxes::tables::stsc;
-use mp4_ported::boxes::tables::stss;
-use mp4_ported::boxes::tables::stss_of_nine;
-use mp4_ported::boxes::tables::stsz;
-use mp4_ported::boxes::tables::stsz_of_nine;
-use mp4_ported::boxes::tables::stsz_of_one_size;
-use mp4_ported::boxes::tables::stts;
-use mp4_ported::boxes::tables::tfhd;
-use mp4_ported::boxes::tables::tfhd_all;
-use mp4_ported::boxes::tables::tfhd_bare;
-use mp4_ported::boxes::tables::trun;
-use mp4_ported::boxes::tables::trun_of_four_lists;
-use mp4_ported::boxes::tables::trun_of_three_lists;
-use mp4_ported::boxes::text::DATA;
-use mp4_ported::boxes::text::DINF;
-use mp4_ported::boxes::text::DINF_URL;
-use mp4_ported::boxes::text::DREF;
-use mp4_ported::boxes::text::DREF_URL;
-use mp4_ported::boxes::text::EMSG;
-use mp4_ported::boxes::text::FTYP;
-use mp4_ported::boxes::text::FTYP_OF_TWO;
-use mp4_ported::boxes::text::HDLR;
-use mp4_ported::boxes::text::URL;
-use mp4_ported::boxes::text::dref;
-use mp4_ported::boxes::text::dref_of;
-use mp4_ported::boxes::text::dref_url;
-use mp4_ported::helpers::Kind;
-use mp4_ported::helpers::Mismatch;
-use mp4_ported::helpers::expect_invalid_at_small_sizes;
-use mp4_ported::helpers::expect_kind;
-use mp4_ported::helpers::expect_value;
-use mp4_ported::helpers::expect_value_at_any_size;
-use mp4_ported::helpers::expect_value_to;
 use mp4_ported::made;
-use mp4_stream::BoxLaws;
-use mp4_stream::BoxType;
-use mp4_stream::DataBox;
-use mp4_stream::DinfBox;
-use mp4_stream::EmsgBox;
-use mp4_stream::EsdsBox;
-use mp4_stream::FtypBox;
-use mp4_stream::HdlrBox;
-use mp4_stream::HvcCBox;
-use mp4_stream::MdhdBox;
-use mp4_stream::Mp4aBox;
-use mp4_stream::MvhdBox;
-use mp4_stream::ReadBox;
-use mp4_stream::SmhdBox;
-use mp4_stream::StcoBox;
-use mp4_stream::StsdBox;
-use mp4_stream::Text;
-use mp4_stream::TkhdBox;
-use mp4_stream::TrunBox;
-use mp4_stream::UrlBox;
+use mp4_ported::boxes::entries::{avc1, avc1_of_two, avcc, avcc_of_two, hev1, hev1_of_config, hvcc, tx3g, tx3g_of_test, vp09, vp09_of_config, vpcc, vpcc_of_test};
+use mp4_ported::boxes::flat::{mdhd, mdhd_long, mehd, mehd_short, mfhd, mvhd, mvhd_long, smhd, tfdt, tfdt_of_zero, tkhd, tkhd_full, tkhd_long, tkhd_short, trex, vmhd, vmhd_black};
+use mp4_ported::boxes::sound::{ESDS, ESDS_OF_TEST, MP4A, MP4A_OF_TEST, MP4A_WITHOUT_ESDS, STSD, STSD_OF_TEST, mp4a, mp4a_of, mp4a_of_test, stsd, stsd_of};
+use mp4_ported::boxes::tables::{STCO, co64, co64_of_seven, ctts, elst, elst_long, stco, stsc, stss, stss_of_nine, stsz, stsz_of_nine, stsz_of_one_size, stts, tfhd, tfhd_all, tfhd_bare, trun, trun_of_four_lists, trun_of_three_lists};
+use mp4_ported::boxes::text::{DATA, DINF, DINF_URL, DREF, DREF_URL, EMSG, FTYP, FTYP_OF_TWO, HDLR, URL, dref, dref_of, dref_url};
+use mp4_ported::helpers::{Kind, Mismatch, expect_invalid_at_small_sizes, expect_kind, expect_value, expect_value_at_any_size, expect_value_to};
+use mp4_stream::{BoxLaws, BoxType, DataBox, DinfBox, EmsgBox, EsdsBox, FtypBox, HdlrBox, HvcCBox, MdhdBox, MehdBox, Mp4aBox, MvhdBox, ReadBox, SmhdBox, StcoBox, StsdBox, Text, TkhdBox, TrunBox, UrlBox, VmhdBox};
 use std::alloc::Global;
 use std::test::Fail;
 
 #[test]
-fn headers_of_movies_and_tracks_have_any_size(rt: HostRuntime) -> Result<(), Fail> {
+fn headers_of_movies_tracks_and_media_have_any_size(rt: HostRuntime) -> Result<(), Fail> {
     let alloc = rt.alloc();
     expect_value_at_any_size(alloc, &MvhdBox::default())
         .and(expect_value_at_any_size(alloc, &mvhd()))
@@ -118,42 +21,30 @@ fn headers_of_movies_and_tracks_have_any_size(rt: HostRuntime) -> Result<(), Fai
         .and(expect_value_at_any_size(alloc, &tkhd_short()))
         .and(expect_value_at_any_size(alloc, &tkhd_long()))
         .and(expect_value_at_any_size(alloc, &tkhd()))
-        .and(expect_value_at_any_size(alloc, &tkhd_full()))?;
-    Ok(())
-}
-
-#[test]
-fn headers_of_media_have_any_size(rt: HostRuntime) -> Result<(), Fail> {
-    let alloc = rt.alloc();
-    made::value_at_any_size(alloc, MdhdBox::default_in(alloc))
+        .and(expect_value_at_any_size(alloc, &tkhd_full()))
+        .and(made::value_at_any_size(alloc, MdhdBox::default_in(alloc)))
         .and(made::value_at_any_size(alloc, mdhd(alloc)))
         .and(made::value_at_any_size(alloc, mdhd_long(alloc)))
         .and(expect_value_at_any_size(alloc, &SmhdBox::default()))
         .and(expect_value_at_any_size(alloc, &smhd()))
-        .and(expect_value_at_any_size(alloc, &default_video()))
+        .and(expect_value_at_any_size(alloc, &VmhdBox::default()))
         .and(expect_value_at_any_size(alloc, &vmhd_black()))
         .and(expect_value_at_any_size(alloc, &vmhd()))?;
     Ok(())
 }
 
 #[test]
-fn headers_of_fragments_have_any_size(rt: HostRuntime) -> Result<(), Fail> {
+fn fragments_and_tables_without_lists_have_any_size(rt: HostRuntime) -> Result<(), Fail> {
     let alloc = rt.alloc();
-    expect_value_at_any_size(alloc, &default_extent())
+    expect_value_at_any_size(alloc, &MehdBox::default())
         .and(expect_value_at_any_size(alloc, &mehd_short(32)))
         .and(expect_value_at_any_size(alloc, &mehd()))
         .and(expect_value_at_any_size(alloc, &tfdt_of_zero(0)))
         .and(expect_value_at_any_size(alloc, &tfdt_of_zero(1)))
         .and(expect_value_at_any_size(alloc, &tfdt()))
         .and(expect_value_at_any_size(alloc, &mfhd()))
-        .and(expect_value_at_any_size(alloc, &trex()))?;
-    Ok(())
-}
-
-#[test]
-fn tables_without_lists_have_any_size(rt: HostRuntime) -> Result<(), Fail> {
-    let alloc = rt.alloc();
-    expect_value_at_any_size(alloc, &tfhd_bare())
+        .and(expect_value_at_any_size(alloc, &trex()))
+        .and(expect_value_at_any_size(alloc, &tfhd_bare()))
         .and(expect_value_at_any_size(alloc, &tfhd()))
         .and(expect_value_at_any_size(alloc, &tfhd_all()))
         .and(made::value_at_any_size(alloc, Ok(TrunBox::default_in(alloc))))
@@ -162,33 +53,21 @@ fn tables_without_lists_have_any_size(rt: HostRuntime) -> Result<(), Fail> {
 }
 
 #[test]
-fn tables_of_chunks_have_room(rt: HostRuntime) -> Result<(), Fail> {
+fn tables_and_runs_have_room(rt: HostRuntime) -> Result<(), Fail> {
     let alloc = rt.alloc();
     made::invalid_at_small_sizes(alloc, stco(alloc))
         .and(made::invalid_at_small_sizes(alloc, co64_of_seven(alloc)))
         .and(made::invalid_at_small_sizes(alloc, co64(alloc)))
-        .and(made::invalid_at_small_sizes(alloc, stsc(alloc)))?;
-    Ok(())
-}
-
-#[test]
-fn tables_of_samples_have_room(rt: HostRuntime) -> Result<(), Fail> {
-    let alloc = rt.alloc();
-    made::invalid_at_small_sizes(alloc, stss_of_nine(alloc))
+        .and(made::invalid_at_small_sizes(alloc, stsc(alloc)))
+        .and(made::invalid_at_small_sizes(alloc, stss_of_nine(alloc)))
         .and(made::invalid_at_small_sizes(alloc, stss(alloc)))
         .and(made::invalid_at_small_sizes(alloc, stts(alloc)))
         .and(made::invalid_at_small_sizes(alloc, ctts(alloc)))
         .and(made::invalid_at_small_sizes(alloc, stsz_of_nine(alloc)))
         .and(made::invalid_at_small_sizes(alloc, stsz(alloc)))
         .and(made::invalid_at_small_sizes(alloc, elst(alloc)))
-        .and(made::invalid_at_small_sizes(alloc, elst_long(alloc)))?;
-    Ok(())
-}
-
-#[test]
-fn runs_have_room(rt: HostRuntime) -> Result<(), Fail> {
-    let alloc = rt.alloc();
-    made::invalid_at_small_sizes(alloc, trun(alloc))
+        .and(made::invalid_at_small_sizes(alloc, elst_long(alloc)))
+        .and(made::invalid_at_small_sizes(alloc, trun(alloc)))
         .and(made::invalid_at_small_sizes(alloc, trun_of_three_lists(alloc)))
         .and(made::invalid_at_small_sizes(alloc, trun_of_four_lists(alloc)))?;
     Ok(())
@@ -282,20 +161,14 @@ fn expect_kinds<B: ReadBox + Drop>(
 }
 
 #[test]
-fn sizes_of_texts_and_data(rt: HostRuntime) -> Result<(), Fail> {
+fn sizes_of_texts_data_and_references(rt: HostRuntime) -> Result<(), Fail> {
     let alloc = rt.alloc();
+    let no_dref = Kind::NotFound(BoxType::DrefBox);
     expect_kinds::<FtypBox>(alloc, &FTYP, Kind::Invalid, Kind::Invalid)
         .and(expect_kinds::<HdlrBox>(alloc, &HDLR, Kind::Invalid, Kind::End))
         .and(expect_kinds::<DataBox>(alloc, &DATA, Kind::Invalid, Kind::End))
-        .and(expect_kinds::<EmsgBox>(alloc, &EMSG, Kind::Invalid, Kind::End))?;
-    Ok(())
-}
-
-#[test]
-fn sizes_of_references(rt: HostRuntime) -> Result<(), Fail> {
-    let alloc = rt.alloc();
-    let no_dref = Kind::NotFound(BoxType::DrefBox);
-    expect_kinds::<UrlBox>(alloc, &URL, Kind::Ok, Kind::End)
+        .and(expect_kinds::<EmsgBox>(alloc, &EMSG, Kind::Invalid, Kind::End))
+        .and(expect_kinds::<UrlBox>(alloc, &URL, Kind::Ok, Kind::End))
         .and(expect_kinds::<DinfBox>(alloc, &DINF_URL, no_dref, Kind::End))
         .and(expect_kinds::<DinfBox>(alloc, &DINF, no_dref, Kind::End))?;
     Ok(())

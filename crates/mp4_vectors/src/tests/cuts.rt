@@ -1,7 +1,6 @@
 //! Boxes that are cut at every length. Reading is end of input if a byte is missing that it needs, and ignores the bytes
 //! after those.
 
-use example_callers::defaults::{default_extent, default_video};
 use mp4_ported::boxes::entries::{
     avc1, avc1_of_two, avcc, avcc_of_two, hev1, hev1_of_config, hvcc, tx3g, tx3g_of_test, vp09,
     vp09_of_config, vpcc, vpcc_of_test,
@@ -21,12 +20,13 @@ use mp4_ported::boxes::text::{
 };
 use mp4_ported::helpers::expect_end_at_cuts_below;
 use mp4_ported::made;
-use mp4_stream::{HvcCBox, MdhdBox, MvhdBox, SmhdBox, TkhdBox, TrunBox};
+use mp4_stream::{HvcCBox, MdhdBox, MehdBox, MvhdBox, SmhdBox, TkhdBox, TrunBox, VmhdBox};
 use std::test::Fail;
 
 #[test]
-fn cut_headers_of_movies_and_tracks(rt: HostRuntime) -> Result<(), Fail> {
+fn cut_headers_of_movies_tracks_and_media(rt: HostRuntime) -> Result<(), Fail> {
     let alloc = rt.alloc();
+    // The last two bytes of an mdhd are not read.
     expect_end_at_cuts_below(alloc, &MvhdBox::default(), 108)
         .and(expect_end_at_cuts_below(alloc, &mvhd(), 108))
         .and(expect_end_at_cuts_below(alloc, &mvhd_long(), 120))
@@ -34,20 +34,13 @@ fn cut_headers_of_movies_and_tracks(rt: HostRuntime) -> Result<(), Fail> {
         .and(expect_end_at_cuts_below(alloc, &tkhd_short(), 92))
         .and(expect_end_at_cuts_below(alloc, &tkhd_long(), 104))
         .and(expect_end_at_cuts_below(alloc, &tkhd_full(), 92))
-        .and(expect_end_at_cuts_below(alloc, &tkhd(), 104))?;
-    Ok(())
-}
-
-#[test]
-fn cut_headers_of_media(rt: HostRuntime) -> Result<(), Fail> {
-    let alloc = rt.alloc();
-    // The last two bytes of an mdhd are not read.
-    made::end_at_cuts_below(alloc, MdhdBox::default_in(alloc), 30)
+        .and(expect_end_at_cuts_below(alloc, &tkhd(), 104))
+        .and(made::end_at_cuts_below(alloc, MdhdBox::default_in(alloc), 30))
         .and(made::end_at_cuts_below(alloc, mdhd(alloc), 30))
         .and(made::end_at_cuts_below(alloc, mdhd_long(alloc), 42))
         .and(expect_end_at_cuts_below(alloc, &SmhdBox::default(), 14))
         .and(expect_end_at_cuts_below(alloc, &smhd(), 14))
-        .and(expect_end_at_cuts_below(alloc, &default_video(), 20))
+        .and(expect_end_at_cuts_below(alloc, &VmhdBox::default(), 20))
         .and(expect_end_at_cuts_below(alloc, &vmhd_black(), 20))
         .and(expect_end_at_cuts_below(alloc, &vmhd(), 20))?;
     Ok(())
@@ -56,7 +49,7 @@ fn cut_headers_of_media(rt: HostRuntime) -> Result<(), Fail> {
 #[test]
 fn cut_headers_of_fragments(rt: HostRuntime) -> Result<(), Fail> {
     let alloc = rt.alloc();
-    expect_end_at_cuts_below(alloc, &default_extent(), 16)
+    expect_end_at_cuts_below(alloc, &MehdBox::default(), 16)
         .and(expect_end_at_cuts_below(alloc, &mehd_short(32), 16))
         .and(expect_end_at_cuts_below(alloc, &mehd(), 20))
         .and(expect_end_at_cuts_below(alloc, &tfdt_of_zero(0), 16))
@@ -71,19 +64,13 @@ fn cut_headers_of_fragments(rt: HostRuntime) -> Result<(), Fail> {
 }
 
 #[test]
-fn cut_tables_of_chunks(rt: HostRuntime) -> Result<(), Fail> {
+fn cut_tables(rt: HostRuntime) -> Result<(), Fail> {
     let alloc = rt.alloc();
     made::end_at_cuts_below(alloc, stco(alloc), 44)
         .and(made::end_at_cuts_below(alloc, co64_of_seven(alloc), 72))
         .and(made::end_at_cuts_below(alloc, co64(alloc), 32))
-        .and(made::end_at_cuts_below(alloc, stsc(alloc), 40))?;
-    Ok(())
-}
-
-#[test]
-fn cut_tables_of_samples(rt: HostRuntime) -> Result<(), Fail> {
-    let alloc = rt.alloc();
-    made::end_at_cuts_below(alloc, stss_of_nine(alloc), 52)
+        .and(made::end_at_cuts_below(alloc, stsc(alloc), 40))
+        .and(made::end_at_cuts_below(alloc, stss_of_nine(alloc), 52))
         .and(made::end_at_cuts_below(alloc, stss(alloc), 36))
         .and(made::end_at_cuts_below(alloc, stts(alloc), 32))
         .and(made::end_at_cuts_below(alloc, ctts(alloc), 32))
@@ -96,31 +83,19 @@ fn cut_tables_of_samples(rt: HostRuntime) -> Result<(), Fail> {
 }
 
 #[test]
-fn cut_runs(rt: HostRuntime) -> Result<(), Fail> {
+fn cut_runs_texts_and_references(rt: HostRuntime) -> Result<(), Fail> {
     let alloc = rt.alloc();
+    // The zero byte after the name of an hdlr may be missing.
     made::end_at_cuts_below(alloc, Ok(TrunBox::default_in(alloc)), 16)
         .and(made::end_at_cuts_below(alloc, trun(alloc), 28))
         .and(made::end_at_cuts_below(alloc, trun_of_three_lists(alloc), 48))
-        .and(made::end_at_cuts_below(alloc, trun_of_four_lists(alloc), 160))?;
-    Ok(())
-}
-
-#[test]
-fn cut_texts_and_data(rt: HostRuntime) -> Result<(), Fail> {
-    let alloc = rt.alloc();
-    // The zero byte after the name of an hdlr may be missing.
-    made::end_at_cuts_below(alloc, ftyp(alloc), 32)
+        .and(made::end_at_cuts_below(alloc, trun_of_four_lists(alloc), 160))
+        .and(made::end_at_cuts_below(alloc, ftyp(alloc), 32))
         .and(made::end_at_cuts_below(alloc, hdlr(alloc), 44))
         .and(made::end_at_cuts_below(alloc, data_box(alloc), 25))
         .and(made::end_at_cuts_below(alloc, emsg(alloc), 39))
-        .and(made::end_at_cuts_below(alloc, emsg_long(alloc), 43))?;
-    Ok(())
-}
-
-#[test]
-fn cut_references(rt: HostRuntime) -> Result<(), Fail> {
-    let alloc = rt.alloc();
-    made::end_at_cuts_below(alloc, url(alloc), 13)
+        .and(made::end_at_cuts_below(alloc, emsg_long(alloc), 43))
+        .and(made::end_at_cuts_below(alloc, url(alloc), 13))
         .and(made::end_at_cuts_below(alloc, dref_url(alloc), 29))
         .and(made::end_at_cuts_below(alloc, dinf_url(alloc), 37))
         .and(made::end_at_cuts_below(alloc, Ok(dref(alloc)), 28))
@@ -129,7 +104,7 @@ fn cut_references(rt: HostRuntime) -> Result<(), Fail> {
 }
 
 #[test]
-fn cut_entries_of_video(rt: HostRuntime) -> Result<(), Fail> {
+fn cut_entries_of_video_and_text(rt: HostRuntime) -> Result<(), Fail> {
     let alloc = rt.alloc();
     made::end_at_cuts_below(alloc, avcc_of_two(alloc, 3), 49)
         .and(made::end_at_cuts_below(alloc, avcc(alloc), 36))
@@ -138,14 +113,8 @@ fn cut_entries_of_video(rt: HostRuntime) -> Result<(), Fail> {
         .and(expect_end_at_cuts_below(alloc, &HvcCBox::new(), 9))
         .and(expect_end_at_cuts_below(alloc, &hvcc(), 9))
         .and(expect_end_at_cuts_below(alloc, &hev1_of_config(), 95))
-        .and(expect_end_at_cuts_below(alloc, &hev1(), 95))?;
-    Ok(())
-}
-
-#[test]
-fn cut_entries_of_vp9_and_text(rt: HostRuntime) -> Result<(), Fail> {
-    let alloc = rt.alloc();
-    expect_end_at_cuts_below(alloc, &vpcc_of_test(), 20)
+        .and(expect_end_at_cuts_below(alloc, &hev1(), 95))
+        .and(expect_end_at_cuts_below(alloc, &vpcc_of_test(), 20))
         .and(expect_end_at_cuts_below(alloc, &vpcc(), 20))
         .and(expect_end_at_cuts_below(alloc, &vp09_of_config(), 106))
         .and(expect_end_at_cuts_below(alloc, &vp09(), 106))
