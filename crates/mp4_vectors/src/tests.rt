@@ -2,6 +2,7 @@
 
 mod codes;
 mod cursor;
+mod cuts;
 mod entries;
 mod esds;
 mod fixed_points;
@@ -16,6 +17,7 @@ mod mp4a;
 mod printed;
 mod references;
 mod samples;
+mod sizes;
 mod stco;
 mod streams;
 mod stsc;

@@ -3,16 +3,16 @@
 use mp4_ported::boxes::entries::{
     AVC1_OF_TEST, avc1_of_two, empty_sets, list_of_sets, vp09_of_config,
 };
-use mp4_ported::helpers::{
-    expect_round_trip, expect_unwritable_of_size, expect_value, expect_written,
-};
+use mp4_ported::helpers::{expect_round_trip, expect_value};
 use mp4_ported::made;
-use mp4_stream::{Avc1Box, AvcCBox, AvcConfig, Entries, Error, Mp4Box, NalUnit, VpccBox, WriteBox};
+use mp4_stream::{Avc1Box, AvcCBox, AvcConfig, Entries, Error, NalUnit, VpccBox, WriteBox};
 use std::alloc::Global;
 use std::test::Fail;
 
+/// The child of a `vp09` is read whatever its name.
 #[test]
-fn vpcc_of_wide_colors(rt: HostRuntime) -> Result<(), Fail> {
+fn vpcc_of_wide_colors_and_vp09_of_a_child_of_another_name(rt: HostRuntime) -> Result<(), Fail> {
+    let alloc = rt.alloc();
     let vpcc = VpccBox {
         version: 1,
         flags: 0,
@@ -26,19 +26,13 @@ fn vpcc_of_wide_colors(rt: HostRuntime) -> Result<(), Fail> {
         matrix_coefficients: 9,
         codec_initialization_data_size: 0,
     };
-    let bytes = b"\0\0\0\x14vpcC\x01\0\0\0\0\x1f\x80\x09\x10\x09\0\0";
-    expect_round_trip(rt.alloc(), &vpcc, bytes)?;
-    Ok(())
-}
-
-/// The child of a `vp09` is read whatever its name.
-#[test]
-fn vp09_of_a_child_of_another_name(rt: HostRuntime) -> Result<(), Fail> {
-    let bytes = b"\0\0\0\x6avp09\0\0\0\0\0\0\0\x01\0\0\0\0\0\0\0\0\0\0\0\0\0\0\0\0\
+    let vpcc_bytes = b"\0\0\0\x14vpcC\x01\0\0\0\0\x1f\x80\x09\x10\x09\0\0";
+    let vp09_bytes = b"\0\0\0\x6avp09\0\0\0\0\0\0\0\x01\0\0\0\0\0\0\0\0\0\0\0\0\0\0\0\0\
 \x07\x80\x04\x38\0\x48\0\0\0\x48\0\0\0\0\0\0\0\x01\0\0\0\0\0\0\0\0\0\0\0\0\0\0\0\0\
 \0\0\0\0\0\0\0\0\0\0\0\0\0\0\0\0\0\x18\xff\xff\0\0\0\x14free\x01\0\0\0\0\x1f\x80\0\0\0\0\0";
-    expect_written(rt.alloc(), &vp09_of_config(), 106)?;
-    expect_value(rt.alloc(), &vp09_of_config(), bytes, 106)?;
+    expect_round_trip(alloc, &vpcc, vpcc_bytes)
+        .and(made::written(alloc, Ok(vp09_of_config()), 106))
+        .and(expect_value(alloc, &vp09_of_config(), vp09_bytes, 106))?;
     Ok(())
 }
 
@@ -110,15 +104,6 @@ fn avcc_of_empty(alloc: Global, sequence: usize, picture: usize) -> Result<AvcCB
     Ok(avcc_of_sets(sequence, picture))
 }
 
-#[test]
-fn more_sets_than_their_count_can_say(rt: HostRuntime) -> Result<(), Fail> {
-    for (sequence, picture, size) in [(32, 0, 79), (0, 256, 527)] {
-        let value = avcc_of_empty(rt.alloc(), sequence, picture)?;
-        expect_unwritable_of_size(rt.alloc(), &value, size)?;
-    }
-    Ok(())
-}
-
 /// A decoder configuration of one picture set of as many zeros.
 fn avcc_of_zeros(alloc: Global, count: usize) -> Result<AvcCBox, Error> {
     let mut zeros = Vec::new(alloc);
@@ -128,12 +113,11 @@ fn avcc_of_zeros(alloc: Global, count: usize) -> Result<AvcCBox, Error> {
 }
 
 #[test]
-fn set_of_65536_bytes_and_31_empty_sets(rt: HostRuntime) -> Result<(), Fail> {
+fn more_sets_or_bytes_than_their_count_can_say(rt: HostRuntime) -> Result<(), Fail> {
     let alloc = rt.alloc();
-    made::unwritable_of_size(alloc, avcc_of_zeros(alloc, 65536), 65553).and(made::written(
-        alloc,
-        avcc_of_empty(alloc, 31, 0),
-        77,
-    ))?;
+    made::unwritable_of_size(alloc, avcc_of_empty(alloc, 32, 0), 79)
+        .and(made::unwritable_of_size(alloc, avcc_of_empty(alloc, 0, 256), 527))
+        .and(made::unwritable_of_size(alloc, avcc_of_zeros(alloc, 65536), 65553))
+        .and(made::written(alloc, avcc_of_empty(alloc, 31, 0), 77))?;
     Ok(())
 }

@@ -2,12 +2,14 @@
 
 use mp4_ported::boxes::sound::{esds_of, mp4a_of, specific};
 use mp4_ported::helpers::{
-    Kind, expect_kind, expect_round_trip, expect_unwritable, expect_unwritable_of_size,
+    Kind, Mismatch, expect_kind, expect_round_trip, expect_unwritable, expect_unwritable_of_size,
     expect_value, kind_of,
 };
 use mp4_stream::{
-    ByteCursor, DecoderConfigDescriptor, ESDescriptor, EsdsBox, SLConfigDescriptor, WriteBox,
+    ByteCursor, DecoderConfigDescriptor, DecoderSpecificDescriptor, ESDescriptor, EsdsBox,
+    SLConfigDescriptor, WriteBox,
 };
+use std::alloc::Global;
 use std::test::Fail;
 
 /// Stream 1, of low complexity at 48000 hertz in stereo, as this codec writes it.
@@ -44,7 +46,8 @@ fn counted(bytes: &[u8], size: u64) -> (Kind, u64, u64) {
     (kind_of(&result), headers, reader.position())
 }
 
-/// Lengths of four bytes. The last three bits of the audio configuration are not read.
+/// Lengths of four bytes. The last three bits of the audio configuration are not read. An usual encoder writes five bytes of
+/// it: the last three are read as a header of length 12928, and so as a gap to after the end.
 #[test]
 fn descriptors_of_long_lengths(rt: HostRuntime) -> Result<(), Fail> {
     let bytes =
@@ -53,30 +56,16 @@ fn descriptors_of_long_lengths(rt: HostRuntime) -> Result<(), Fail> {
     let other_bits =
         b"\0\0\0\x33esds\0\0\0\0\x03\x80\x80\x80\x22\0\x01\0\x04\x80\x80\x80\x14\x40\x15\0\0\0\
 \0\x01\xf4\0\0\x01\xf4\0\x05\x80\x80\x80\x02\x11\x97\x06\x80\x80\x80\x01\x02";
-    expect_value(rt.alloc(), &stereo(), bytes, 51)
-        .and(expect_value(rt.alloc(), &stereo(), other_bits, 51))
-        .and(expect_round_trip(rt.alloc(), &stereo(), &STEREO))?;
-    assert_eq!(rt; counted(bytes, 51), (Kind::Ok, 4, 51));
-    Ok(())
-}
-
-/// An audio configuration of five bytes. The last three are read as a header of length 12928, and so as a gap to after
-/// the end.
-#[test]
-fn descriptors_of_a_usual_encoder(rt: HostRuntime) -> Result<(), Fail> {
-    let bytes =
+    let of_five =
         b"\0\0\0\x36esds\0\0\0\0\x03\x80\x80\x80\x25\0\x01\0\x04\x80\x80\x80\x17\x40\x15\0\0\0\
 \0\x01\xf4\0\0\x01\xf4\0\x05\x80\x80\x80\x05\x11\x90\x56\xe5\0\x06\x80\x80\x80\x01\x02";
-    expect_value(rt.alloc(), &stereo(), bytes, 54)?;
-    assert_eq!(rt; counted(bytes, 54), (Kind::Ok, 4, 54));
+    expect_value(rt.alloc(), &stereo(), bytes, 51)
+        .and(expect_value(rt.alloc(), &stereo(), other_bits, 51))
+        .and(expect_value(rt.alloc(), &stereo(), of_five, 54))
+        .and(expect_round_trip(rt.alloc(), &stereo(), &STEREO))?;
+    assert_eq!(rt; counted(bytes, 51), (Kind::Ok, 4, 51));
+    assert_eq!(rt; counted(of_five, 54), (Kind::Ok, 4, 54));
     Ok(())
-}
-
-#[test]
-fn headers_before_a_fault_are_counted(rt: HostRuntime) {
-    let bytes = b"\0\0\0\x0eesds\0\0\0\0\x04\0";
-    assert_eq!(rt; counted(bytes, 14), (Kind::Invalid, 1, 8));
-    assert_eq!(rt; counted(&bytes[..13], 14), (Kind::End, 0, 8));
 }
 
 /// A descriptor of a stream, and a hundred empty ones behind it.
@@ -87,21 +76,16 @@ const HUNDRED: [u8; 217] = *b"\0\0\0\xd9esds\0\0\0\0\x03\x7f\0\x01\0\
 \x07\0\x07\0\x07\0\x07\0\x07\0\x07\0\x07\0\x07\0\x07\0\x07\0\x07\0\x07\0\x07\0\x07\0\x07\0\x07\0\x07\0\x07\0\x07\0\x07\0\
 \x07\0\x07\0\x07\0\x07\0\x07\0\x07\0\x07\0\x07\0\x07\0\x07\0\x07\0\x07\0\x07\0\x07\0\x07\0\x07\0\x07\0\x07\0\x07\0\x07\0";
 
-/// 62 of the hundred are in the first, and the next ends the reading.
+/// 62 of the hundred are in the first, and the next ends the reading. Headers before a fault are counted too.
 #[test]
-fn a_hundred_descriptors(rt: HostRuntime) -> Result<(), Fail> {
+fn a_hundred_descriptors_and_headers_before_a_fault(rt: HostRuntime) -> Result<(), Fail> {
     let mut first = EsdsBox::default();
     first.es_desc.es_id = 1;
     expect_value(rt.alloc(), &first, &HUNDRED, 217)?;
     assert_eq!(rt; counted(&HUNDRED, 217), (Kind::Ok, 64, 217));
-    Ok(())
-}
-
-#[test]
-fn audio_object_type_of_34(rt: HostRuntime) -> Result<(), Fail> {
-    let bytes = b"\0\0\0\x28esds\0\0\0\0\x03\x1a\0\x01\0\x04\x12\x40\x15\0\0\0\
-\0\0\0\0\0\0\0\0\x05\x03\xf8\x40\x40\x06\0\0";
-    expect_round_trip(rt.alloc(), &esds_of(1, 0, specific(34, 0, None, 2)), bytes)?;
+    let bytes = b"\0\0\0\x0eesds\0\0\0\0\x04\0";
+    assert_eq!(rt; counted(bytes, 14), (Kind::Invalid, 1, 8));
+    assert_eq!(rt; counted(&bytes[..13], 14), (Kind::End, 0, 8));
     Ok(())
 }
 
@@ -109,39 +93,46 @@ fn audio_object_type_of_34(rt: HostRuntime) -> Result<(), Fail> {
 const OF_50000: [u8; 42] = *b"\0\0\0\x2aesds\0\0\0\0\x03\x1c\0\x01\0\x04\x14\x40\x15\0\0\0\
 \0\x01\xf4\0\0\x01\xf4\0\x05\x05\x17\x80\x61\xa8\x10\x06\0\0";
 
-#[test]
-fn explicit_sampling_rate(rt: HostRuntime) -> Result<(), Fail> {
-    let esds = esds_of(1, 128000, specific(2, 15, Some(50000), 2));
-    expect_round_trip(rt.alloc(), &esds, &OF_50000).and(expect_kind::<EsdsBox>(
-        rt.alloc(),
-        &OF_50000[..37],
-        42,
-        Kind::End,
-    ))?;
-    Ok(())
+/// Expects that the descriptors of stream 1 with this bit rate and audio configuration are written in these bytes.
+fn expect_esds(
+    alloc: Global,
+    bitrate: u32,
+    config: DecoderSpecificDescriptor,
+    bytes: &[u8],
+) -> Result<(), Mismatch> {
+    expect_round_trip(alloc, &esds_of(1, bitrate, config), bytes)
 }
 
 #[test]
 fn audio_configurations_of_each_length(rt: HostRuntime) -> Result<(), Fail> {
     let alloc = rt.alloc();
+    let of_34 = b"\0\0\0\x28esds\0\0\0\0\x03\x1a\0\x01\0\x04\x12\x40\x15\0\0\0\
+\0\0\0\0\0\0\0\0\x05\x03\xf8\x40\x40\x06\0\0";
     let of_3 = b"\0\0\0\x28esds\0\0\0\0\x03\x1a\0\x01\0\x04\x12\x40\x15\0\0\0\
 \0\x01\xf4\0\0\x01\xf4\0\x05\x03\xff\xe1\xe0\x06\0\0";
     let of_5 = b"\0\0\0\x2aesds\0\0\0\0\x03\x1c\0\x01\0\x04\x14\x40\x15\0\0\0\
 \0\x01\xf4\0\0\x01\xf4\0\x05\x05\x17\xff\xff\xff\x88\x06\0\0";
     let of_6 = b"\0\0\0\x2besds\0\0\0\0\x03\x1d\0\x01\0\x04\x15\x40\x15\0\0\0\
 \0\x01\xf4\0\0\x01\xf4\0\x05\x06\xf9\x5e\x01\x86\xa0\xc0\x06\0\0";
-    expect_round_trip(alloc, &esds_of(1, 128000, specific(95, 0, None, 15)), of_3)
-        .and(expect_round_trip(
-            alloc,
-            &esds_of(1, 128000, specific(2, 15, Some(16777215), 1)),
-            of_5,
-        ))
-        .and(expect_round_trip(
-            alloc,
-            &esds_of(1, 128000, specific(42, 15, Some(50000), 6)),
-            of_6,
-        ))?;
+    expect_esds(alloc, 0, specific(34, 0, None, 2), of_34)
+        .and(expect_esds(alloc, 128000, specific(2, 15, Some(50000), 2), &OF_50000))
+        .and(expect_kind::<EsdsBox>(alloc, &OF_50000[..37], 42, Kind::End))
+        .and(expect_esds(alloc, 128000, specific(95, 0, None, 15), of_3))
+        .and(expect_esds(alloc, 128000, specific(2, 15, Some(16777215), 1), of_5))
+        .and(expect_esds(alloc, 128000, specific(42, 15, Some(50000), 6), of_6))?;
     Ok(())
+}
+
+/// Expects that descriptors of this audio configuration have this size and can't be written, and neither an `mp4a` of
+/// them.
+fn expect_unwritable_config(
+    alloc: Global,
+    config: DecoderSpecificDescriptor,
+    size: u64,
+) -> Result<(), Mismatch> {
+    let esds = esds_of(1, 128000, config);
+    expect_unwritable_of_size(alloc, &esds, size)?;
+    expect_unwritable(alloc, &mp4a_of(Some(esds)))
 }
 
 #[test]
@@ -158,11 +149,21 @@ fn unwritable_audio_configurations(rt: HostRuntime) -> Result<(), Fail> {
         (2, 3, None, 16, 39),
     ] {
         let config = specific(profile, freq_index, sample_rate, chan_conf);
-        let esds = esds_of(1, 128000, config);
-        expect_unwritable_of_size(rt.alloc(), &esds, size)?;
-        expect_unwritable(rt.alloc(), &mp4a_of(Some(esds)))?;
+        expect_unwritable_config(rt.alloc(), config, size)?;
     }
     Ok(())
+}
+
+/// The byte that the direction is written in, in these descriptors, which are expected to be read with the direction
+/// `kept`.
+fn byte_of_direction(alloc: Global, up_stream: u8, kept: u8) -> Result<Option<u8>, Mismatch> {
+    let mut esds = stereo();
+    esds.es_desc.dec_config.up_stream = up_stream;
+    let mut out = Vec::new(alloc);
+    esds.write_box(&mut out)?;
+    esds.es_desc.dec_config.up_stream = kept;
+    expect_value(alloc, &esds, &out, 39)?;
+    Ok(out.get(20).copied())
 }
 
 #[test]
@@ -174,13 +175,8 @@ fn one_bit_of_the_direction_is_kept(rt: HostRuntime) -> Result<(), Fail> {
         (3, 0x17, 2),
         (255, 0x17, 2),
     ] {
-        let mut esds = stereo();
-        esds.es_desc.dec_config.up_stream = up_stream;
-        let mut out = Vec::new(rt.alloc());
-        esds.write_box(&mut out)?;
-        assert_eq!(rt; out.get(20), Some(&byte), "{up_stream}");
-        esds.es_desc.dec_config.up_stream = kept;
-        expect_value(rt.alloc(), &esds, &out, 39)?;
+        let found = byte_of_direction(rt.alloc(), up_stream, kept)?;
+        assert_eq!(rt; found, Some(byte), "{up_stream}");
     }
     Ok(())
 }

@@ -4,7 +4,7 @@ use mp4_stream::{FixedPointI8, FixedPointU8, FixedPointU16};
 use std::test::Fail;
 
 #[test]
-fn fixed_points_of_16_bits_have_raw_numbers(rt: HostRuntime) {
+fn fixed_points_have_raw_numbers(rt: HostRuntime) {
     for (value, raw) in [(0, 0), (1, 256), (255, 65280)] {
         assert_eq!(rt; FixedPointU8::new(value).raw_value(), raw, "of {value}");
         assert_eq!(rt; FixedPointU8::new(value).value(), value);
@@ -13,10 +13,6 @@ fn fixed_points_of_16_bits_have_raw_numbers(rt: HostRuntime) {
         assert_eq!(rt; FixedPointI8::new(value).raw_value(), raw, "of {value}");
         assert_eq!(rt; FixedPointI8::new(value).value(), value);
     }
-}
-
-#[test]
-fn fixed_points_of_32_bits_have_raw_numbers(rt: HostRuntime) {
     for (value, raw) in [
         (0, 0),
         (1, 65536),
@@ -28,8 +24,9 @@ fn fixed_points_of_32_bits_have_raw_numbers(rt: HostRuntime) {
     }
 }
 
+/// Those with a sign are rounded towards 0, and the others down.
 #[test]
-fn raw_numbers_without_a_sign_are_rounded_down(rt: HostRuntime) {
+fn raw_numbers_are_rounded(rt: HostRuntime) {
     for (raw, value) in [
         (0, 0),
         (255, 0),
@@ -41,10 +38,6 @@ fn raw_numbers_without_a_sign_are_rounded_down(rt: HostRuntime) {
         assert_eq!(rt; FixedPointU8::new_raw(raw).value(), value, "of {raw}");
         assert_eq!(rt; FixedPointU8::new_raw(raw).raw_value(), raw);
     }
-}
-
-#[test]
-fn raw_numbers_with_a_sign_are_rounded_towards_zero(rt: HostRuntime) {
     for (raw, value) in [
         (-32768, -128),
         (-32767, -127),
@@ -63,10 +56,6 @@ fn raw_numbers_with_a_sign_are_rounded_towards_zero(rt: HostRuntime) {
         assert_eq!(rt; FixedPointI8::new_raw(raw).value(), value, "of {raw}");
         assert_eq!(rt; FixedPointI8::new_raw(raw).raw_value(), raw);
     }
-}
-
-#[test]
-fn raw_numbers_of_32_bits_are_rounded_down(rt: HostRuntime) {
     for (raw, value) in [
         (0, 0),
         (65535, 0),

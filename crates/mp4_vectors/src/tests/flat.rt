@@ -12,56 +12,46 @@ use mp4_stream::{
 use std::alloc::Global;
 use std::test::Fail;
 
-#[test]
-fn mfhd_of_the_first_fragment(rt: HostRuntime) -> Result<(), Fail> {
-    let bytes = b"\0\0\0\x10mfhd\0\0\0\0\0\0\0\x01";
-    expect_round_trip(rt.alloc(), &mfhd(), bytes)?;
-    Ok(())
-}
-
-/// The box begins one byte behind the front, so it ends past 2^64 - 1.
-#[test]
-fn mfhd_of_the_largest_size(rt: HostRuntime) -> Result<(), Fail> {
-    let bytes = b"\0\0\0\x10mfhd\0\0\0\0\0\0\0\x01";
-    expect_value(rt.alloc(), &mfhd(), bytes, 0xffff_ffff_ffff_ffff)?;
+/// Reads an `mfhd` that begins one byte behind the front, with this size. Returns the kind of the outcome and the
+/// position of the cursor after the call.
+fn read_behind(alloc: Global, size: u64) -> (Kind, u64) {
     let mut reader = ByteCursor::new(b"\xff\0\0\0\x10mfhd\0\0\0\0\0\0\0\x01");
     reader.set_position(9);
-    let kind = kind_of(&MfhdBox::read_box(rt.alloc(), &mut reader, 0xffff_ffff_ffff_ffff));
-    assert_eq!(rt; (kind, reader.position()), (Kind::Invalid, 9));
+    let kind = kind_of(&MfhdBox::read_box(alloc, &mut reader, size));
+    (kind, reader.position())
+}
+
+/// Behind the front, a box of the largest size ends past 2^64 - 1.
+#[test]
+fn mfhd_of_its_own_size_and_of_the_largest(rt: HostRuntime) -> Result<(), Fail> {
+    let alloc = rt.alloc();
+    let bytes = b"\0\0\0\x10mfhd\0\0\0\0\0\0\0\x01";
+    expect_round_trip(alloc, &mfhd(), bytes).and(expect_value(
+        alloc,
+        &mfhd(),
+        bytes,
+        0xffff_ffff_ffff_ffff,
+    ))?;
+    let found = read_behind(alloc, 0xffff_ffff_ffff_ffff);
+    assert_eq!(rt; found, (Kind::Invalid, 9));
     Ok(())
 }
 
 #[test]
-fn smhd_of_a_balance_below_zero(rt: HostRuntime) -> Result<(), Fail> {
-    let bytes = b"\0\0\0\x10smhd\0\0\0\0\xff\xff\0\0";
-    expect_round_trip(rt.alloc(), &smhd(), bytes)?;
-    Ok(())
-}
-
-#[test]
-fn mehd_of_each_version(rt: HostRuntime) -> Result<(), Fail> {
-    let bytes = b"\0\0\0\x14mehd\x01\0\0\0\0\0\0\x01\0\0\0\0";
-    let unknown = MehdBox {
+fn smhd_mehd_and_mvhd_of_each_version(rt: HostRuntime) -> Result<(), Fail> {
+    let alloc = rt.alloc();
+    let smhd_bytes = b"\0\0\0\x10smhd\0\0\0\0\xff\xff\0\0";
+    let mehd_bytes = b"\0\0\0\x14mehd\x01\0\0\0\0\0\0\x01\0\0\0\0";
+    let unknown_mehd = MehdBox {
         version: 2,
         ..mehd()
     };
-    expect_round_trip(rt.alloc(), &mehd(), bytes).and(expect_unwritable_of_size(
-        rt.alloc(),
-        &unknown,
-        12,
-    ))?;
-    Ok(())
-}
-
-#[test]
-fn mvhd_of_an_unknown_version(rt: HostRuntime) -> Result<(), Fail> {
     let (unknown, known) = (b"\0\0\0\x6cmvhd\x02\0\0\0", b"\0\0\0\x6cmvhd\0\0\0\0");
-    expect_kind::<MvhdBox>(rt.alloc(), unknown, 108, Kind::Invalid).and(expect_kind::<MvhdBox>(
-        rt.alloc(),
-        known,
-        108,
-        Kind::End,
-    ))?;
+    expect_round_trip(alloc, &smhd(), smhd_bytes)
+        .and(expect_round_trip(alloc, &mehd(), mehd_bytes))
+        .and(expect_unwritable_of_size(alloc, &unknown_mehd, 12))
+        .and(expect_kind::<MvhdBox>(alloc, unknown, 108, Kind::Invalid))
+        .and(expect_kind::<MvhdBox>(alloc, known, 108, Kind::End))?;
     Ok(())
 }
 
@@ -77,19 +67,12 @@ fn mdhd_in(alloc: Global, language: &str) -> Result<MdhdBox, Error> {
 fn mdhd_of_nine_letters_and_of_none(rt: HostRuntime) -> Result<(), Fail> {
     let alloc = rt.alloc();
     let bytes = b"\0\0\0\x20mdhd\0\0\0\0\0\0\0\x64\0\0\0\xc8\0\0\xbb\x80\x01\xd0\x7a\0\x55\xc4\0\0";
-    made::round_trip(alloc, mdhd_in(alloc, "und"), bytes).and(made::normal_form(
-        alloc,
-        mdhd_in(alloc, "undefined"),
-        mdhd_in(alloc, "und"),
-        bytes,
-    ))?;
     let none = b"\0\0\0\x20mdhd\0\0\0\0\0\0\0\x64\0\0\0\xc8\0\0\xbb\x80\x01\xd0\x7a\0\0\0\0\0";
-    made::normal_form(
-        alloc,
-        mdhd_in(alloc, ""),
-        mdhd_in(alloc, "\x60\x60\x60"),
-        none,
-    )?;
+    let (und, nine) = (mdhd_in(alloc, "und"), mdhd_in(alloc, "undefined"));
+    let (missing, backquotes) = (mdhd_in(alloc, ""), mdhd_in(alloc, "\x60\x60\x60"));
+    made::round_trip(alloc, mdhd_in(alloc, "und"), bytes)
+        .and(made::normal_form(alloc, nine, und, bytes))
+        .and(made::normal_form(alloc, missing, backquotes, none))?;
     Ok(())
 }
 

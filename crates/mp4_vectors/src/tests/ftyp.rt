@@ -17,25 +17,13 @@ fn isom(alloc: Global) -> Result<FtypBox, Error> {
 }
 
 #[test]
-fn ftyp_of_two_brands(rt: HostRuntime) -> Result<(), Fail> {
+fn ftyp_of_two_brands_and_of_sizes_without_its_fields(rt: HostRuntime) -> Result<(), Fail> {
+    let alloc = rt.alloc();
     let bytes = b"\0\0\0\x18ftypisom\0\0\x02\0isommp41";
-    made::round_trip(rt.alloc(), isom(rt.alloc()), bytes).and(expect_kind::<FtypBox>(
-        rt.alloc(),
-        bytes,
-        18,
-        Kind::Invalid,
-    ))?;
-    Ok(())
-}
-
-#[test]
-fn sizes_of_ftyp_without_its_fields(rt: HostRuntime) -> Result<(), Fail> {
     let (short, long) = (b"\0\0\0\x10ftyp", b"\0\0\0\x12ftyp");
-    expect_kind::<FtypBox>(rt.alloc(), long, 18, Kind::Invalid).and(expect_kind::<FtypBox>(
-        rt.alloc(),
-        short,
-        16,
-        Kind::End,
-    ))?;
+    made::round_trip(alloc, isom(alloc), bytes)
+        .and(expect_kind::<FtypBox>(alloc, bytes, 18, Kind::Invalid))
+        .and(expect_kind::<FtypBox>(alloc, long, 18, Kind::Invalid))
+        .and(expect_kind::<FtypBox>(alloc, short, 16, Kind::End))?;
     Ok(())
 }

@@ -2,42 +2,59 @@
 
 use mp4_ported::helpers::{Kind, kind_of};
 use mp4_stream::{
-    BoxHeader, BoxType, ByteCursor, HEADER_EXT_SIZE, HEADER_SIZE, write_box_header_ext, write_zeros,
+    BoxHeader, BoxType, ByteCursor, Error, HEADER_EXT_SIZE, HEADER_SIZE, read_box_header_ext,
+    write_box_header_ext, write_zeros,
 };
+use std::alloc::Global;
 use std::test::Fail;
 
-/// Reads a header. Returns the kind of the outcome, the size, and the position of the cursor after the call.
-fn read_header(bytes: &[u8]) -> (Kind, u64, u64) {
+/// Reads a header. Returns the kind of the outcome, the name and size if there is one, and the position of the cursor
+/// after the call.
+fn read_header(bytes: &[u8]) -> (Kind, Option<(BoxType, u64)>, u64) {
     let mut reader = ByteCursor::new(bytes);
     let outcome = BoxHeader::read(&mut reader);
-    let size = match &outcome {
-        Ok(header) => header.size,
-        Err(_) => 0,
+    let found = match &outcome {
+        Ok(header) => Some((header.name, header.size)),
+        Err(_) => None,
     };
-    (kind_of(&outcome), size, reader.position())
+    (kind_of(&outcome), found, reader.position())
 }
 
 #[test]
-fn large_sizes_have_room_for_their_header(rt: HostRuntime) {
-    for (bytes, expected) in [
+fn headers_are_read(rt: HostRuntime) {
+    let name = BoxType::UnknownBox(0x0102_0304);
+    let headers: [(&[u8], u64, u64); 5] = [
+        (b"\0\0\0\0\x01\x02\x03\x04", 0, 8),
+        (b"\xff\xff\xff\xff\x01\x02\x03\x04", 0xffff_ffff, 8),
+        (b"\0\0\0\x01\x01\x02\x03\x04\0\0\0\0\0\0\0\0", 0, 16),
+        (b"\0\0\0\x01\x01\x02\x03\x04\0\0\0\0\0\0\0\x10", 8, 16),
         (
-            *b"\0\0\0\x01\x01\x02\x03\x04\0\0\0\0\0\0\0\x07",
-            (Kind::Invalid, 0, 0),
+            b"\0\0\0\x01\x01\x02\x03\x04\xff\xff\xff\xff\xff\xff\xff\xff",
+            u64::MAX - 8,
+            16,
         ),
-        (
-            *b"\0\0\0\x01\x01\x02\x03\x04\0\0\0\0\0\0\0\x08",
-            (Kind::Invalid, 0, 0),
-        ),
-        (
-            *b"\0\0\0\x01\x01\x02\x03\x04\0\0\0\0\0\0\0\x0f",
-            (Kind::Invalid, 0, 0),
-        ),
-        (
-            *b"\0\0\0\x01\x01\x02\x03\x04\0\0\0\0\0\0\0\x10",
-            (Kind::Ok, 8, 16),
-        ),
+    ];
+    for (bytes, size, position) in headers {
+        let expected = (Kind::Ok, Some((name, size)), position);
+        assert_eq!(rt; read_header(bytes), expected, "{bytes:?}");
+    }
+    for bytes in [
+        b"\0\0\0\x01\x01\x02\x03\x04\0\0\0\0\0\0\0\x07",
+        b"\0\0\0\x01\x01\x02\x03\x04\0\0\0\0\0\0\0\x08",
+        b"\0\0\0\x01\x01\x02\x03\x04\0\0\0\0\0\0\0\x0f",
     ] {
-        assert_eq!(rt; read_header(&bytes), expected, "{bytes:?}");
+        assert_eq!(rt; read_header(bytes), (Kind::Invalid, None, 0), "{bytes:?}");
+    }
+}
+
+/// The bytes that the header of a `free` of this size is written in, which are counted.
+fn written(alloc: Global, size: u64) -> Result<Vec<u8>, Error> {
+    let mut out = Vec::new(alloc);
+    let count = BoxHeader::new(BoxType::FreeBox, size).write(&mut out)?;
+    if count == out.len() as u64 {
+        Ok(out)
+    } else {
+        Err(Error::IoError)
     }
 }
 
@@ -52,17 +69,9 @@ fn headers_are_written(rt: HostRuntime) -> Result<(), Fail> {
             b"\0\0\0\x01free\xff\xff\xff\xff\xff\xff\xff\xff",
         ),
     ];
-    for (size, bytes) in &headers {
-        let mut out = Vec::new(rt.alloc());
-        let count = BoxHeader::new(BoxType::FreeBox, *size).write(&mut out)?;
-        assert_eq!(rt; count, bytes.len() as u64);
-        assert_eq!(rt; out.as_slice(), *bytes);
+    for (size, bytes) in headers {
+        assert_eq!(rt; written(rt.alloc(), size)?.as_slice(), bytes);
     }
-    Ok(())
-}
-
-#[test]
-fn headers_past_64_bits_are_not_written(rt: HostRuntime) -> Result<(), Fail> {
     let mut out = [9].to_vec(rt.alloc())?;
     let outcome = BoxHeader::new(BoxType::FreeBox, u64::MAX - 7).write(&mut out);
     assert_eq!(rt; kind_of(&outcome), Kind::Invalid);
@@ -71,22 +80,22 @@ fn headers_past_64_bits_are_not_written(rt: HostRuntime) -> Result<(), Fail> {
 }
 
 #[test]
-fn flags_past_24_bits_are_not_written(rt: HostRuntime) -> Result<(), Fail> {
+fn version_and_flags_are_read_and_written(rt: HostRuntime) -> Result<(), Fail> {
     assert_eq!(rt; (HEADER_SIZE, HEADER_EXT_SIZE), (8, 4));
+    let bytes = b"\x01\xff\xff\xff\0\0\0";
+    let mut reader = ByteCursor::new(bytes);
+    assert_eq!(rt; read_box_header_ext(&mut reader)?, (1, 0x00ff_ffff));
+    assert_eq!(rt; reader.position(), 4);
+    assert_eq!(rt; kind_of(&read_box_header_ext(&mut reader)), Kind::End);
+    assert_eq!(rt; reader.position(), 4);
     let mut out = Vec::new(rt.alloc());
     assert_eq!(rt;
         kind_of(&write_box_header_ext(&mut out, 1, 1 << 24)),
         Kind::Invalid
     );
     assert!(rt; out.is_empty());
-    Ok(())
-}
-
-#[test]
-fn version_and_flags_are_written(rt: HostRuntime) -> Result<(), Fail> {
-    let mut out = Vec::new(rt.alloc());
     assert_eq!(rt; write_box_header_ext(&mut out, 1, (1 << 24) - 1)?, 4);
     write_zeros(&mut out, 3)?;
-    assert_eq!(rt; out.as_slice(), b"\x01\xff\xff\xff\0\0\0".as_slice());
+    assert_eq!(rt; out.as_slice(), bytes.as_slice());
     Ok(())
 }

@@ -10,17 +10,11 @@ use std::alloc::Global;
 use std::test::Fail;
 
 /// Reads all boxes of a buffer. Returns their number and the bytes that they are written in.
-pub(super) fn rewrite(alloc: Global, bytes: &[u8]) -> Result<(usize, Vec<u8>), Error> {
+fn rewrite(alloc: Global, bytes: &[u8]) -> Result<(usize, Vec<u8>), Error> {
     let boxes: Vec<KeptBox> = read_boxes_as(alloc, &mut ByteCursor::new(bytes))?;
     let mut out = Vec::new(alloc);
     write_boxes(&boxes, &mut out)?;
     Ok((boxes.len(), out))
-}
-
-#[test]
-fn a_box_with_a_type_of_its_own_is_no_other(rt: HostRuntime) {
-    let outcome = OtherBox::copy_of(rt.alloc(), 0x6674_7970, &[]);
-    assert_eq!(rt; kind_of(&outcome), Kind::Invalid);
 }
 
 const MOOV: [u8; 9] = *b"\0\0\0\x09moov\xaa";
@@ -31,10 +25,12 @@ fn moov(alloc: Global) -> Result<OtherBox, Error> {
 }
 
 #[test]
-fn another_box_has_a_code_and_a_content(rt: HostRuntime) -> Result<(), Fail> {
+fn another_box_has_a_code_of_no_type_and_a_content(rt: HostRuntime) -> Result<(), Fail> {
     let other = moov(rt.alloc())?;
     assert_eq!(rt; other.name(), BoxType::MoovBox);
     assert_eq!(rt; other.content(), [0xaa].as_slice());
+    let ftyp = OtherBox::copy_of(rt.alloc(), 0x6674_7970, &[]);
+    assert_eq!(rt; kind_of(&ftyp), Kind::Invalid);
     Ok(())
 }
 
@@ -45,23 +41,16 @@ fn is_moov<B: WriteBox + Drop>(alloc: Global, made: Result<B, Error>) -> Result<
     Ok(count == 9 && out.as_slice() == MOOV.as_slice())
 }
 
-#[test]
-fn another_box_is_written_as_it_is(rt: HostRuntime) -> Result<(), Fail> {
-    let alloc = rt.alloc();
-    made::cloned(moov(alloc))?;
-    assert!(rt; is_moov(alloc, moov(alloc))?);
-    Ok(())
-}
-
 /// The same among the boxes of a stream.
 fn kept_moov(alloc: Global) -> Result<KeptBox, Error> {
     Ok(KeptBox::Other(moov(alloc)?))
 }
 
 #[test]
-fn a_kept_box_is_written_as_it_is(rt: HostRuntime) -> Result<(), Fail> {
+fn another_box_and_a_kept_box_are_written_as_they_are(rt: HostRuntime) -> Result<(), Fail> {
     let alloc = rt.alloc();
-    made::cloned(kept_moov(alloc))?;
+    made::cloned(moov(alloc)).and(made::cloned(kept_moov(alloc)))?;
+    assert!(rt; is_moov(alloc, moov(alloc))?);
     assert!(rt; is_moov(alloc, kept_moov(alloc))?);
     Ok(())
 }
@@ -81,32 +70,23 @@ fn the_size_of_a_kept_box_is_checked(rt: HostRuntime) {
     assert_eq!(rt; read_free(rt.alloc(), bytes, 7), (Kind::Invalid, 8));
     assert_eq!(rt; read_free(rt.alloc(), bytes, 8), (Kind::Ok, 8));
     assert_eq!(rt; read_free(rt.alloc(), bytes, 9), (Kind::End, 8));
+    let followed = b"\0\0\0\x0bfree\x01\x02\x03\0\0\0\x08wide";
+    assert_eq!(rt; read_free(rt.alloc(), followed, 11), (Kind::Ok, 11));
 }
 
-#[test]
-fn the_cursor_is_after_a_kept_box(rt: HostRuntime) {
-    let bytes = b"\0\0\0\x0bfree\x01\x02\x03\0\0\0\x08wide";
-    assert_eq!(rt; read_free(rt.alloc(), bytes, 11), (Kind::Ok, 11));
-}
-
+/// Headers are written in 8 bytes.
 #[test]
 fn all_boxes_of_a_stream_are_kept(rt: HostRuntime) -> Result<(), Fail> {
-    let (count, out) = rewrite(rt.alloc(), &THREE)?;
-    assert_eq!(rt; count, 3);
-    assert_eq!(rt; out.as_slice(), THREE.as_slice());
-    Ok(())
-}
-
-#[test]
-fn headers_are_written_in_8_bytes(rt: HostRuntime) -> Result<(), Fail> {
-    let forms: [&[u8]; 2] = [
-        b"\0\0\0\x01mdat\0\0\0\0\0\0\0\x13\x01\x02\x03",
-        b"\0\0\0\0mdat\x01\x02\x03",
+    let short = b"\0\0\0\x0bmdat\x01\x02\x03";
+    let forms: [(&[u8], usize, &[u8]); 3] = [
+        (&THREE, 3, &THREE),
+        (b"\0\0\0\x01mdat\0\0\0\0\0\0\0\x13\x01\x02\x03", 1, short),
+        (b"\0\0\0\0mdat\x01\x02\x03", 1, short),
     ];
-    for bytes in forms {
-        let (count, out) = rewrite(rt.alloc(), bytes)?;
-        assert_eq!(rt; count, 1);
-        assert_eq!(rt; out.as_slice(), b"\0\0\0\x0bmdat\x01\x02\x03".as_slice());
+    for (bytes, count, written) in forms {
+        let (found, out) = rewrite(rt.alloc(), bytes)?;
+        assert_eq!(rt; found, count);
+        assert_eq!(rt; out.as_slice(), written);
     }
     Ok(())
 }

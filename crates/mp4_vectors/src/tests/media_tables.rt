@@ -2,9 +2,12 @@
 
 use mp4_ported::helpers::{debug_text, invalid_text};
 use mp4_stream::{
-    AudioObjectType, AvcProfile, ChannelConfig, DataType, FourCC, MediaType, SampleFreqIndex,
-    TrackType,
+    AudioObjectType, AvcProfile, ChannelConfig, DataType, Error, FourCC, MediaType,
+    SampleFreqIndex, TrackType,
 };
+use std::alloc::Global;
+use std::fmt::{Debug, Display};
+use std::process::Abort;
 use std::test::Fail;
 
 #[test]
@@ -19,50 +22,6 @@ fn track_types_have_handlers(rt: HostRuntime) -> Result<(), Fail> {
         assert_eq!(rt; u32::from(FourCC::from(track)), code);
     }
     Ok(())
-}
-
-#[test]
-fn track_types_are_printed(rt: HostRuntime) -> Result<(), Fail> {
-    for (track, name) in [
-        (TrackType::Video, "Video"),
-        (TrackType::Audio, "Audio"),
-        (TrackType::Subtitle, "Subtitle"),
-    ] {
-        assert_eq!(rt; track.to_string(rt.alloc())?.as_str(), name);
-        assert_eq!(rt; debug_text(rt.alloc(), &track)?.as_str(), name);
-    }
-    Ok(())
-}
-
-#[test]
-fn other_handlers_have_no_track_type(rt: HostRuntime) {
-    for handler in ["", "vid", "video", "VIDE", "hint", "meta"] {
-        assert_eq!(rt;
-            invalid_text(&TrackType::try_from(handler)),
-            Some("unsupported handler type"),
-            "of {handler}"
-        );
-    }
-}
-
-#[test]
-fn other_codes_have_no_track_type(rt: HostRuntime) {
-    for code in [
-        0,
-        0x7669_6464,
-        0x7669_6466,
-        0x736f_756d,
-        0x736f_756f,
-        0x7362_746b,
-        0x7362_746d,
-        0x6869_6e74,
-    ] {
-        assert_eq!(rt;
-            invalid_text(&TrackType::try_from(&FourCC::from(code))),
-            Some("unsupported handler type"),
-            "of {code}"
-        );
-    }
 }
 
 #[test]
@@ -81,8 +40,32 @@ fn media_types_have_texts(rt: HostRuntime) -> Result<(), Fail> {
     Ok(())
 }
 
+/// How a value prints, by `Display` and by `Debug`.
+fn printed(alloc: Global, value: &(impl Display + Debug)) -> Result<(String, String), Error> {
+    Ok((format!(in alloc; "{value}")?, debug_text(alloc, value)?))
+}
+
+/// Expects that a value prints as these texts, by `Display` and by `Debug`.
+fn expect_printed(
+    rt: &(impl Abort + AllocGlobal),
+    value: &(impl Display + Debug),
+    text: &str,
+    name: &str,
+) -> Result<(), Fail> {
+    let (shown, debug) = printed(rt.alloc(), value)?;
+    assert_eq!(rt; (shown.as_str(), debug.as_str()), (text, name));
+    Ok(())
+}
+
 #[test]
-fn media_types_are_printed(rt: HostRuntime) -> Result<(), Fail> {
+fn types_and_profiles_are_printed(rt: HostRuntime) -> Result<(), Fail> {
+    for (track, name) in [
+        (TrackType::Video, "Video"),
+        (TrackType::Audio, "Audio"),
+        (TrackType::Subtitle, "Subtitle"),
+    ] {
+        expect_printed(&rt, &track, name, name)?;
+    }
     for (media, text, name) in [
         (MediaType::H264, "h264", "H264"),
         (MediaType::H265, "h265", "H265"),
@@ -90,14 +73,49 @@ fn media_types_are_printed(rt: HostRuntime) -> Result<(), Fail> {
         (MediaType::AAC, "aac", "AAC"),
         (MediaType::TTXT, "ttxt", "TTXT"),
     ] {
-        assert_eq!(rt; media.to_string(rt.alloc())?.as_str(), text);
-        assert_eq!(rt; debug_text(rt.alloc(), &media)?.as_str(), name);
+        expect_printed(&rt, &media, text, name)?;
+    }
+    for (profile, text, name) in [
+        (
+            AvcProfile::AvcConstrainedBaseline,
+            "Constrained Baseline",
+            "AvcConstrainedBaseline",
+        ),
+        (AvcProfile::AvcBaseline, "Baseline", "AvcBaseline"),
+        (AvcProfile::AvcMain, "Main", "AvcMain"),
+        (AvcProfile::AvcExtended, "Extended", "AvcExtended"),
+        (AvcProfile::AvcHigh, "High", "AvcHigh"),
+    ] {
+        expect_printed(&rt, &profile, text, name)?;
     }
     Ok(())
 }
 
 #[test]
-fn other_texts_have_no_media_type(rt: HostRuntime) {
+fn other_texts_and_codes_have_no_type(rt: HostRuntime) {
+    for handler in ["", "vid", "video", "VIDE", "hint", "meta"] {
+        assert_eq!(rt;
+            invalid_text(&TrackType::try_from(handler)),
+            Some("unsupported handler type"),
+            "of {handler}"
+        );
+    }
+    for code in [
+        0,
+        0x7669_6464,
+        0x7669_6466,
+        0x736f_756d,
+        0x736f_756f,
+        0x7362_746b,
+        0x7362_746d,
+        0x6869_6e74,
+    ] {
+        assert_eq!(rt;
+            invalid_text(&TrackType::try_from(&FourCC::from(code))),
+            Some("unsupported handler type"),
+            "of {code}"
+        );
+    }
     for text in [
         "", "h26", "h263", "h266", "h2645", "H264", "vp8", "aacp", "ttx",
     ] {
@@ -147,25 +165,6 @@ fn other_numbers_have_no_avc_profile(rt: HostRuntime) {
             );
         }
     }
-}
-
-#[test]
-fn avc_profiles_are_printed(rt: HostRuntime) -> Result<(), Fail> {
-    for (profile, text, name) in [
-        (
-            AvcProfile::AvcConstrainedBaseline,
-            "Constrained Baseline",
-            "AvcConstrainedBaseline",
-        ),
-        (AvcProfile::AvcBaseline, "Baseline", "AvcBaseline"),
-        (AvcProfile::AvcMain, "Main", "AvcMain"),
-        (AvcProfile::AvcExtended, "Extended", "AvcExtended"),
-        (AvcProfile::AvcHigh, "High", "AvcHigh"),
-    ] {
-        assert_eq!(rt; profile.to_string(rt.alloc())?.as_str(), text);
-        assert_eq!(rt; debug_text(rt.alloc(), &profile)?.as_str(), name);
-    }
-    Ok(())
 }
 
 /// Number, variant and printed text of each audio object type.
@@ -310,11 +309,6 @@ fn data_types_have_numbers(rt: HostRuntime) -> Result<(), Fail> {
         assert_eq!(rt; debug_text(rt.alloc(), &kind)?.as_str(), name);
         assert_eq!(rt; kind as u32, number);
     }
-    Ok(())
-}
-
-#[test]
-fn other_numbers_have_no_data_type(rt: HostRuntime) {
     for number in [2, 12, 14, 20, 22, 0x0100_0000, 0x0100_0001, u32::MAX] {
         assert_eq!(rt;
             invalid_text(&DataType::try_from(number)),
@@ -322,4 +316,5 @@ fn other_numbers_have_no_data_type(rt: HostRuntime) {
             "of {number}"
         );
     }
+    Ok(())
 }

@@ -9,6 +9,7 @@ use mp4_stream::{
 };
 use std::test::Fail;
 
+/// The last has a size of 20, and ends after it: in a list the next box begins at 20, and ends at 37.
 #[test]
 fn mp4a_with_and_without_descriptors(rt: HostRuntime) -> Result<(), Fail> {
     let alloc = rt.alloc();
@@ -16,24 +17,15 @@ fn mp4a_with_and_without_descriptors(rt: HostRuntime) -> Result<(), Fail> {
     let followed =
         b"\0\0\0\x24mp4a\0\0\0\0\0\0\0\x01\0\0\0\0\0\0\0\0\0\x02\0\x10\0\0\0\0\xbb\x80\0\0\
 \0\0\0\x27esds\0\0\0\0\x03\x19\0\x01\0\x04\x11\x40\x15\0\0\0\0\x01\xf4\0\0\x01\xf4\0\x05\x02\x11\x90\x06\0\0";
+    let short =
+        b"\0\0\0\x14mp4a\0\0\0\0\0\0\0\x01\0\0\0\0\0\0\0\x11\0\x02\0\x10\0\0\0\0\xbb\x80\0\0";
     expect_round_trip(alloc, &mp4a_of(None), alone)
         .and(expect_value(alloc, &mp4a_of(None), followed, 36))
         .and(expect_value_to(alloc, &mp4a_of(None), alone, 20, 36))
-        .and(expect_round_trip(alloc, &mp4a_of_test(), &MP4A_OF_TEST))?;
+        .and(expect_round_trip(alloc, &mp4a_of_test(), &MP4A_OF_TEST))
+        .and(expect_value_to(alloc, &mp4a_of(None), short, 20, 36))
+        .and(expect_list_kind(alloc, short, Kind::End))?;
     assert_eq!(rt; MP4A_OF_TEST.len(), 75);
-    Ok(())
-}
-
-/// In a list the next box begins at 20, and ends at 37.
-#[test]
-fn mp4a_that_ends_after_its_size(rt: HostRuntime) -> Result<(), Fail> {
-    let bytes =
-        b"\0\0\0\x14mp4a\0\0\0\0\0\0\0\x01\0\0\0\0\0\0\0\x11\0\x02\0\x10\0\0\0\0\xbb\x80\0\0";
-    expect_value_to(rt.alloc(), &mp4a_of(None), bytes, 20, 36).and(expect_list_kind(
-        rt.alloc(),
-        bytes,
-        Kind::End,
-    ))?;
     Ok(())
 }
 

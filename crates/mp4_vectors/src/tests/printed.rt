@@ -18,30 +18,19 @@ fn expect_printed(
 
 #[test]
 fn errors_print_their_texts(rt: HostRuntime) -> Result<(), Fail> {
-    let (stsd, moov) = (BoxType::StsdBox, BoxType::MoovBox);
+    let (stsd, moov, trun) = (BoxType::StsdBox, BoxType::MoovBox, BoxType::TrunBox);
+    let small = "box size too small";
     expect_printed(&rt, Error::IoError, "unexpected end of input")?;
-    expect_printed(
-        &rt,
-        Error::InvalidData("box size too small"),
-        "box size too small",
-    )?;
+    expect_printed(&rt, Error::InvalidData(small), small)?;
     expect_printed(&rt, Error::BoxNotFound(BoxType::DrefBox), "dref not found")?;
     expect_printed(
         &rt,
         Error::Box2NotFound(moov, stsd),
         "moov and stsd not found",
     )?;
-    expect_printed(
-        &rt,
-        Error::UnsupportedBoxVersion(stsd, 9),
-        "stsd version 9 is not supported",
-    )?;
-    expect_printed(&rt, Error::OutOfMemory, "out of memory")
-}
-
-#[test]
-fn missing_parts_of_tracks_print_their_texts(rt: HostRuntime) -> Result<(), Fail> {
-    let (stsd, trun) = (BoxType::StsdBox, BoxType::TrunBox);
+    let version = Error::UnsupportedBoxVersion(stsd, 9);
+    expect_printed(&rt, version, "stsd version 9 is not supported")?;
+    expect_printed(&rt, Error::OutOfMemory, "out of memory")?;
     expect_printed(&rt, Error::TrakNotFound(3), "trak[3] not found")?;
     expect_printed(
         &rt,
@@ -53,21 +42,12 @@ fn missing_parts_of_tracks_print_their_texts(rt: HostRuntime) -> Result<(), Fail
         Error::BoxInTrafNotFound(3, trun),
         "traf[3].trun not found",
     )?;
-    expect_printed(
-        &rt,
-        Error::BoxInStblNotFound(3, stsd),
-        "trak[3].stbl.stsd not found",
-    )?;
-    expect_printed(
-        &rt,
-        Error::EntryInStblNotFound(3, stsd, 4),
-        "trak[3].stbl.stsd.entry[4] not found",
-    )?;
-    expect_printed(
-        &rt,
-        Error::EntryInTrunNotFound(3, trun, 4),
-        "traf[3].trun.trun.entry[4] not found",
-    )
+    let stbl = Error::BoxInStblNotFound(3, stsd);
+    expect_printed(&rt, stbl, "trak[3].stbl.stsd not found")?;
+    let entry = Error::EntryInStblNotFound(3, stsd, 4);
+    expect_printed(&rt, entry, "trak[3].stbl.stsd.entry[4] not found")?;
+    let entry = Error::EntryInTrunNotFound(3, trun, 4);
+    expect_printed(&rt, entry, "traf[3].trun.trun.entry[4] not found")
 }
 
 #[test]

@@ -16,29 +16,6 @@ fn same_file(alloc: Global) -> UrlBox {
     }
 }
 
-#[test]
-fn url_of_an_empty_location(rt: HostRuntime) -> Result<(), Fail> {
-    let alloc = rt.alloc();
-    let (read, written) = (b"\0\0\0\x0durl \0\0\0\x01\0", b"\0\0\0\x0curl \0\0\0\x01");
-    made::value(alloc, Ok(same_file(alloc)), read, 13)
-        .and(made::round_trip(alloc, Ok(same_file(alloc)), written))
-        .and(made::round_trip(alloc, url(alloc), b"\0\0\0\x0eurl \0\0\0\0a\0"))?;
-    Ok(())
-}
-
-#[test]
-fn dref_of_no_entry(rt: HostRuntime) -> Result<(), Fail> {
-    let alone = b"\0\0\0\x10dref\0\0\0\0\0\0\0\0";
-    let followed = b"\0\0\0\x10dref\0\0\0\0\0\0\0\0\0\0\0\x0curl \0\0\0\x01";
-    made::round_trip(rt.alloc(), Ok(dref_of(None)), alone).and(made::value(
-        rt.alloc(),
-        Ok(dref_of(None)),
-        followed,
-        16,
-    ))?;
-    Ok(())
-}
-
 /// References with the location `abc`.
 fn dref_of_abc(alloc: Global) -> Result<DrefBox, Error> {
     let mut child = url(alloc)?;
@@ -46,38 +23,38 @@ fn dref_of_abc(alloc: Global) -> Result<DrefBox, Error> {
     Ok(dref_of(Some(child)))
 }
 
-/// The `url ` ends 8 bytes after its `dref`. In a list a header of size 0 stands there: a box up to the end, which is
-/// skipped.
+/// An empty location is written without its zero byte. The last `url ` ends 8 bytes after its `dref`: in a list a header of
+/// size 0 stands there, a box up to the end, which is skipped.
 #[test]
-fn url_that_ends_after_its_dref(rt: HostRuntime) -> Result<(), Fail> {
+fn url_and_dref_of_each_location(rt: HostRuntime) -> Result<(), Fail> {
     let alloc = rt.alloc();
-    let bytes = b"\0\0\0\x18dref\0\0\0\0\0\0\0\x01\0\0\0\x10url \0\0\0\0abc\0";
-    let written = b"\0\0\0\x20dref\0\0\0\0\0\0\0\x01\0\0\0\x10url \0\0\0\0abc\0";
-    made::value(alloc, dref_of_abc(alloc), bytes, 24)
-        .and(made::round_trip(alloc, dref_of_abc(alloc), written))
-        .and(expect_list(alloc, bytes, written))?;
+    let (read, written) = (b"\0\0\0\x0durl \0\0\0\x01\0", b"\0\0\0\x0curl \0\0\0\x01");
+    let alone = b"\0\0\0\x10dref\0\0\0\0\0\0\0\0";
+    let followed = b"\0\0\0\x10dref\0\0\0\0\0\0\0\0\0\0\0\x0curl \0\0\0\x01";
+    let short = b"\0\0\0\x18dref\0\0\0\0\0\0\0\x01\0\0\0\x10url \0\0\0\0abc\0";
+    let whole = b"\0\0\0\x20dref\0\0\0\0\0\0\0\x01\0\0\0\x10url \0\0\0\0abc\0";
+    made::value(alloc, Ok(same_file(alloc)), read, 13)
+        .and(made::round_trip(alloc, Ok(same_file(alloc)), written))
+        .and(made::round_trip(alloc, url(alloc), b"\0\0\0\x0eurl \0\0\0\0a\0"))
+        .and(made::round_trip(alloc, Ok(dref_of(None)), alone))
+        .and(made::value(alloc, Ok(dref_of(None)), followed, 16))
+        .and(made::value(alloc, dref_of_abc(alloc), short, 24))
+        .and(made::round_trip(alloc, dref_of_abc(alloc), whole))
+        .and(expect_list(alloc, short, whole))?;
     Ok(())
 }
 
 #[test]
-fn dinf_without_dref(rt: HostRuntime) -> Result<(), Fail> {
+fn dinf_of_the_same_file_and_without_dref(rt: HostRuntime) -> Result<(), Fail> {
     let alloc = rt.alloc();
+    let default = Ok(DinfBox::new(DrefBox::default_in(alloc)));
+    let bytes = b"\0\0\0\x24dinf\0\0\0\x1cdref\0\0\0\0\0\0\0\x01\0\0\0\x0curl \0\0\0\x01";
     let empty = b"\0\0\0\x08dinf";
     let small = b"\0\0\0\x10dinf\0\0\0\0free";
     let largest = b"\0\0\0\x08dinf\0\0\0\x01free\xff\xff\xff\xff\xff\xff\xff\xff";
-    expect_kind::<DinfBox>(alloc, empty, 8, Kind::NotFound(BoxType::DrefBox))
+    made::round_trip(alloc, default, bytes)
+        .and(expect_kind::<DinfBox>(alloc, empty, 8, Kind::NotFound(BoxType::DrefBox)))
         .and(expect_kind::<DinfBox>(alloc, small, 16, Kind::Invalid))
         .and(expect_kind::<DinfBox>(alloc, largest, 0xffff_ffff_ffff_ffff, Kind::Invalid))?;
-    Ok(())
-}
-
-#[test]
-fn dinf_of_the_same_file(rt: HostRuntime) -> Result<(), Fail> {
-    let alloc = rt.alloc();
-    made::round_trip(
-        alloc,
-        Ok(DinfBox::new(DrefBox::default_in(alloc))),
-        b"\0\0\0\x24dinf\0\0\0\x1cdref\0\0\0\0\0\0\0\x01\0\0\0\x0curl \0\0\0\x01",
-    )?;
     Ok(())
 }

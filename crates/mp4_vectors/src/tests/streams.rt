@@ -13,16 +13,11 @@ const THREE: [u8; 40] =
     *b"\0\0\0\x10mfhd\0\0\0\0\0\0\0\x01\0\0\0\x08free\0\0\0\x10smhd\0\0\0\0\xff\xff\0\0";
 
 #[test]
-fn a_box_of_an_unread_type_is_skipped(rt: HostRuntime) -> Result<(), Fail> {
-    let two = b"\0\0\0\x10mfhd\0\0\0\0\0\0\0\x01\0\0\0\x10smhd\0\0\0\0\xff\xff\0\0";
-    expect_list(rt.alloc(), &THREE, two)?;
-    Ok(())
-}
-
-#[test]
-fn a_list_is_cut(rt: HostRuntime) -> Result<(), Fail> {
+fn a_list_skips_unread_types_and_is_cut(rt: HostRuntime) -> Result<(), Fail> {
     let alloc = rt.alloc();
-    expect_list(alloc, &THREE[..24], &MFHD)
+    let two = b"\0\0\0\x10mfhd\0\0\0\0\0\0\0\x01\0\0\0\x10smhd\0\0\0\0\xff\xff\0\0";
+    expect_list(alloc, &THREE, two)
+        .and(expect_list(alloc, &THREE[..24], &MFHD))
         .and(expect_list(alloc, &THREE[..16], &MFHD))
         .and(expect_list_kind(alloc, &THREE[..17], Kind::End))
         .and(expect_list(alloc, &THREE[..0], b""))?;
@@ -57,26 +52,15 @@ fn a_list_of_an_unwritable_box_is_not_written(rt: HostRuntime) -> Result<(), Fai
 #[test]
 fn a_size_of_zero_goes_to_the_end(rt: HostRuntime) -> Result<(), Fail> {
     let alloc = rt.alloc();
+    let compact = b"\0\0\0\0mfhd\0\0\0\0\0\0\0\x01";
+    let large = b"\0\0\0\x01mfhd\0\0\0\0\0\0\0\0\0\0\0\0\0\0\0\x01";
     let ftyp = b"\0\0\0\x18ftypisom\0\0\x02\0isommp41";
     let two = b"\0\0\0\x18ftypisom\0\0\x02\0isommp41\0\0\0\0mdat\x01\x02\x03";
-    expect_list(alloc, b"\0\0\0\0mfhd\0\0\0\0\0\0\0\x01", &MFHD)
-        .and(expect_list(
-            alloc,
-            b"\0\0\0\x01mfhd\0\0\0\0\0\0\0\0\0\0\0\0\0\0\0\x01",
-            &MFHD,
-        ))
-        .and(expect_list(alloc, two, ftyp))?;
-    Ok(())
-}
-
-#[test]
-fn sizes_that_are_invalid(rt: HostRuntime) -> Result<(), Fail> {
-    let alloc = rt.alloc();
-    expect_list_kind(
-        alloc,
-        b"\0\0\0\0stco\0\0\0\0\0\0\0\x02\0\0\x01\x0b",
-        Kind::Invalid,
-    )
-    .and(expect_list_kind(alloc, b"\0\0\0\x02free", Kind::Invalid))?;
+    let no_room = b"\0\0\0\0stco\0\0\0\0\0\0\0\x02\0\0\x01\x0b";
+    expect_list(alloc, compact, &MFHD)
+        .and(expect_list(alloc, large, &MFHD))
+        .and(expect_list(alloc, two, ftyp))
+        .and(expect_list_kind(alloc, no_room, Kind::Invalid))
+        .and(expect_list_kind(alloc, b"\0\0\0\x02free", Kind::Invalid))?;
     Ok(())
 }

@@ -2,22 +2,10 @@
 
 use mp4_ported::boxes::entries::avc1_of_two;
 use mp4_ported::boxes::sound::{mp4a_of, mp4a_of_test};
-use mp4_ported::helpers::{expect_round_trip, expect_value};
 use mp4_ported::made;
 use mp4_stream::{BoxType, Error, Mp4aBox, StsdBox};
 use std::alloc::Global;
 use std::test::Fail;
-
-#[test]
-fn stsd_without_an_entry(rt: HostRuntime) -> Result<(), Fail> {
-    let none = StsdBox::default_in(rt.alloc());
-    let alone = b"\0\0\0\x10stsd\0\0\0\0\0\0\0\0";
-    let followed = b"\0\0\0\x10stsd\0\0\0\0\0\0\0\0\
-\0\0\0\x24mp4a\0\0\0\0\0\0\0\x01\0\0\0\0\0\0\0\0\0\x02\0\x10\0\0\0\0\xbb\x80\0\0";
-    expect_round_trip(rt.alloc(), &none, alone).and(expect_value(rt.alloc(), &none, followed, 16))?;
-    assert_eq!(rt; (none.get_type(), none.get_size()), (BoxType::StsdBox, 16));
-    Ok(())
-}
 
 /// One entry, the `avc1` of two sets.
 const ONE_ENTRY: [u8; 151] = [
@@ -51,21 +39,33 @@ fn unwritable_mp4a() -> Mp4aBox {
     mp4a
 }
 
-/// The entry of audio is not written, so it need not be writable.
+/// The `avc1` alone is written: the entry of audio need not be writable.
 #[test]
-fn avc1_is_written_alone(rt: HostRuntime) -> Result<(), Fail> {
+fn stsd_without_an_entry_and_of_two(rt: HostRuntime) -> Result<(), Fail> {
     let alloc = rt.alloc();
-    made::normal_form(
-        alloc,
-        stsd_of_video_and(alloc, Some(mp4a_of(None))),
-        stsd_of_video_and(alloc, None),
-        &ONE_ENTRY,
-    )
-    .and(made::normal_form(
-        alloc,
-        stsd_of_video_and(alloc, Some(unwritable_mp4a())),
-        stsd_of_video_and(alloc, None),
-        &ONE_ENTRY,
-    ))?;
+    let alone = b"\0\0\0\x10stsd\0\0\0\0\0\0\0\0";
+    let followed = b"\0\0\0\x10stsd\0\0\0\0\0\0\0\0\
+\0\0\0\x24mp4a\0\0\0\0\0\0\0\x01\0\0\0\0\0\0\0\0\0\x02\0\x10\0\0\0\0\xbb\x80\0\0";
+    made::round_trip(alloc, Ok(StsdBox::default_in(alloc)), alone)
+        .and(made::value(alloc, Ok(StsdBox::default_in(alloc)), followed, 16))
+        .and(made::normal_form(
+            alloc,
+            stsd_of_video_and(alloc, Some(mp4a_of(None))),
+            stsd_of_video_and(alloc, None),
+            &ONE_ENTRY,
+        ))
+        .and(made::normal_form(
+            alloc,
+            stsd_of_video_and(alloc, Some(unwritable_mp4a())),
+            stsd_of_video_and(alloc, None),
+            &ONE_ENTRY,
+        ))?;
+    assert_eq!(rt; type_and_size(alloc), (BoxType::StsdBox, 16));
     Ok(())
+}
+
+/// The type and the size that a box without an entry returns.
+fn type_and_size(alloc: Global) -> (BoxType, u64) {
+    let none = StsdBox::default_in(alloc);
+    (none.get_type(), none.get_size())
 }

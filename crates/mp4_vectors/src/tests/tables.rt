@@ -9,13 +9,6 @@ use mp4_stream::{ElstBox, Error, StszBox, TfhdBox, TrunBox};
 use std::alloc::Global;
 use std::test::Fail;
 
-#[test]
-fn ctts_of_a_negative_offset(rt: HostRuntime) -> Result<(), Fail> {
-    let bytes = b"\0\0\0\x20ctts\0\0\0\0\0\0\0\x02\0\0\0\x01\0\0\0\xc8\0\0\0\x02\xff\xff\xff\x9c";
-    made::round_trip(rt.alloc(), ctts(rt.alloc()), bytes)?;
-    Ok(())
-}
-
 /// A `stsz` of nine samples, with eight sizes.
 fn stsz_of_eight(alloc: Global, sample_size: u32) -> Result<StszBox, Error> {
     let sizes = [1165, 11, 11, 8545, 10126, 10866, 9643, 9351];
@@ -29,10 +22,15 @@ fn stsz_of_eight(alloc: Global, sample_size: u32) -> Result<StszBox, Error> {
 }
 
 #[test]
-fn stsz_has_as_many_sizes_as_its_count(rt: HostRuntime) -> Result<(), Fail> {
+fn ctts_of_a_negative_offset_and_stsz_of_as_many_sizes_as_its_count(
+    rt: HostRuntime,
+) -> Result<(), Fail> {
     let alloc = rt.alloc();
-    let bytes = b"\0\0\0\x14stsz\0\0\0\0\0\0\x04\x8d\0\0\0\x0c";
-    made::round_trip(alloc, Ok(stsz_of_one_size(alloc, 1165, 12)), bytes)
+    let ctts_bytes =
+        b"\0\0\0\x20ctts\0\0\0\0\0\0\0\x02\0\0\0\x01\0\0\0\xc8\0\0\0\x02\xff\xff\xff\x9c";
+    let stsz_bytes = b"\0\0\0\x14stsz\0\0\0\0\0\0\x04\x8d\0\0\0\x0c";
+    made::round_trip(alloc, ctts(alloc), ctts_bytes)
+        .and(made::round_trip(alloc, Ok(stsz_of_one_size(alloc, 1165, 12)), stsz_bytes))
         .and(made::unwritable(alloc, stsz_of_eight(alloc, 0)))
         .and(made::unwritable(alloc, stsz_of_eight(alloc, 1165)))?;
     Ok(())
@@ -41,25 +39,16 @@ fn stsz_has_as_many_sizes_as_its_count(rt: HostRuntime) -> Result<(), Fail> {
 #[test]
 fn elst_of_each_version(rt: HostRuntime) -> Result<(), Fail> {
     let alloc = rt.alloc();
-    made::written(alloc, elst_of(alloc, 0, 0), 28)
-        .and(made::written(alloc, elst_of(alloc, 2, 0), 28))
-        .and(made::written(alloc, elst_of(alloc, 1, 0), 36))
-        .and(made::unwritable(alloc, elst_of(alloc, 2, 1 << 32)))?;
-    Ok(())
-}
-
-#[test]
-fn elst_of_28_bytes(rt: HostRuntime) -> Result<(), Fail> {
     let (short, long) = (
         b"\0\0\0\x1celst\0\0\0\0\0\0\0\x01\0\x09\xaf\x0a\0\0\0\0\0\x01\0\0",
         b"\0\0\0\x1celst\x01\0\0\0\0\0\0\x01\0\x09\xaf\x0a\0\0\0\0\0\x01\0\0",
     );
-    made::value(rt.alloc(), elst(rt.alloc()), short, 28).and(expect_kind::<ElstBox>(
-        rt.alloc(),
-        long,
-        28,
-        Kind::Invalid,
-    ))?;
+    made::written(alloc, elst_of(alloc, 0, 0), 28)
+        .and(made::written(alloc, elst_of(alloc, 2, 0), 28))
+        .and(made::written(alloc, elst_of(alloc, 1, 0), 36))
+        .and(made::unwritable(alloc, elst_of(alloc, 2, 1 << 32)))
+        .and(made::value(alloc, elst(alloc), short, 28))
+        .and(expect_kind::<ElstBox>(alloc, long, 28, Kind::Invalid))?;
     Ok(())
 }
 
@@ -94,21 +83,12 @@ fn trun_has_the_lists_of_its_flags(rt: HostRuntime) -> Result<(), Fail> {
     let sizes = b"\0\0\0\x1ctrun\0\0\x02\x01\0\0\0\x02\0\0\0\x64\0\0\0\x0a\0\0\0\x14";
     let durations = b"\0\0\0\x14trun\0\0\x01\0\0\0\0\x01\0\0\x04\0";
     let none = b"\0\0\0\x10trun\0\0\0\0\xff\xff\xff\xff";
+    let no_room = b"\0\0\0\x1ctrun\0\0\x03\x01\0\0\0\x02\0\0\0\x64\0\0\0\x0a\0\0\0\x14";
     made::round_trip(alloc, trun(alloc), sizes)
         .and(made::round_trip(alloc, trun_of_durations(alloc), durations))
         .and(made::unwritable(alloc, trun_of_a_size_too(alloc)))
-        .and(made::round_trip(alloc, Ok(trun_of_no_lists(alloc)), none))?;
-    Ok(())
-}
-
-#[test]
-fn trun_of_more_samples_than_there_is_room_for(rt: HostRuntime) -> Result<(), Fail> {
-    let bytes = b"\0\0\0\x1ctrun\0\0\x03\x01\0\0\0\x02\0\0\0\x64\0\0\0\x0a\0\0\0\x14";
-    expect_kind::<TrunBox>(rt.alloc(), bytes, 28, Kind::Invalid).and(expect_kind::<TrunBox>(
-        rt.alloc(),
-        &bytes[..16],
-        28,
-        Kind::End,
-    ))?;
+        .and(made::round_trip(alloc, Ok(trun_of_no_lists(alloc)), none))
+        .and(expect_kind::<TrunBox>(alloc, no_room, 28, Kind::Invalid))
+        .and(expect_kind::<TrunBox>(alloc, &no_room[..16], 28, Kind::End))?;
     Ok(())
 }

@@ -17,43 +17,40 @@ fn hdlr_of(alloc: Global, name: &str) -> Result<HdlrBox, Error> {
     })
 }
 
-/// A box of no name has 33 bytes by its size. As one box it needs the first 20, in a list all of them.
+/// A box of no name has 33 bytes by its size. As one box it needs the first 20, in a list all of them. A name that is not
+/// UTF-8 is read as `null`.
 #[test]
-fn hdlr_of_no_name(rt: HostRuntime) -> Result<(), Fail> {
+fn hdlr_of_no_name_and_of_one_that_is_not_utf8(rt: HostRuntime) -> Result<(), Fail> {
     let alloc = rt.alloc();
     let bytes = b"\0\0\0\x21hdlr\0\0\0\0\0\0\0\0vide";
     let small = b"\0\0\0\x20hdlr\0\0\0\0\0\0\0\0vide";
+    let read = b"\0\0\0\x22hdlr\0\0\0\0\0\0\0\0vide\0\0\0\0\0\0\0\0\0\0\0\0\xff\0";
+    let written = b"\0\0\0\x25hdlr\0\0\0\0\0\0\0\0vide\0\0\0\0\0\0\0\0\0\0\0\0null\0";
     made::value(alloc, hdlr_of(alloc, ""), bytes, 33)
         .and(expect_list_kind(alloc, bytes, Kind::End))
         .and(expect_kind::<HdlrBox>(alloc, small, 32, Kind::Invalid))
-        .and(expect_kind::<HdlrBox>(alloc, &small[..18], 32, Kind::End))?;
+        .and(expect_kind::<HdlrBox>(alloc, &small[..18], 32, Kind::End))
+        .and(made::value(alloc, hdlr_of(alloc, "null"), read, 34))
+        .and(made::round_trip(alloc, hdlr_of(alloc, "null"), written))?;
     Ok(())
 }
 
 #[test]
-fn hdlr_of_a_name_that_is_not_utf8(rt: HostRuntime) -> Result<(), Fail> {
-    let alloc = rt.alloc();
-    let read = b"\0\0\0\x22hdlr\0\0\0\0\0\0\0\0vide\0\0\0\0\0\0\0\0\0\0\0\0\xff\0";
-    let written = b"\0\0\0\x25hdlr\0\0\0\0\0\0\0\0vide\0\0\0\0\0\0\0\0\0\0\0\0null\0";
-    made::value(alloc, hdlr_of(alloc, "null"), read, 34).and(made::round_trip(
-        alloc,
-        hdlr_of(alloc, "null"),
-        written,
-    ))?;
-    Ok(())
-}
-
-#[test]
-fn first_fault_of_data(rt: HostRuntime) -> Result<(), Fail> {
+fn first_faults_of_data_and_emsg(rt: HostRuntime) -> Result<(), Fail> {
     let alloc = rt.alloc();
     let (unknown, known, short) = (
         b"\0\0\0\x10data\0\0\0\x02",
         b"\0\0\0\x10data\0\0\0\x01",
         b"\0\0\0\x0cdata\0\0\0\x01\0\0\0\0",
     );
+    let zeros = b"\0\0\0\x0cemsg\0\0\0\0\0\0\0\0\0\0\0\0\0\0\0\0\0\0\0\0\0\0";
+    let text = b"\0\0\0\x20emsg\0\0\0\0\xff\0";
     expect_kind::<DataBox>(alloc, unknown, 16, Kind::Invalid)
         .and(expect_kind::<DataBox>(alloc, known, 16, Kind::End))
-        .and(expect_kind::<DataBox>(alloc, short, 12, Kind::Invalid))?;
+        .and(expect_kind::<DataBox>(alloc, short, 12, Kind::Invalid))
+        .and(expect_kind::<EmsgBox>(alloc, zeros, 12, Kind::Invalid))
+        .and(expect_kind::<EmsgBox>(alloc, &text[..13], 32, Kind::End))
+        .and(expect_kind::<EmsgBox>(alloc, text, 32, Kind::Invalid))?;
     Ok(())
 }
 
@@ -82,16 +79,6 @@ fn emsg_of_version_2(alloc: Global) -> EmsgBox {
     made
 }
 
-#[test]
-fn emsg_of_a_time_in_its_segment(rt: HostRuntime) -> Result<(), Fail> {
-    let alloc = rt.alloc();
-    made::round_trip(alloc, emsg(alloc), &FOO)
-        .and(made::unwritable(alloc, emsg_of_inner_zero(alloc)))
-        .and(made::unwritable(alloc, emsg_without_time(alloc)))
-        .and(made::unwritable_of_size(alloc, Ok(emsg_of_version_2(alloc)), 34))?;
-    Ok(())
-}
-
 /// The event `foo`, with a time of its presentation too.
 fn emsg_of_two_times(alloc: Global) -> Result<EmsgBox, Error> {
     let mut made = emsg(alloc)?;
@@ -99,20 +86,14 @@ fn emsg_of_two_times(alloc: Global) -> Result<EmsgBox, Error> {
     Ok(made)
 }
 
+/// Of two times that of the version is written.
 #[test]
-fn emsg_of_two_times_has_that_of_its_version(rt: HostRuntime) -> Result<(), Fail> {
+fn emsg_of_a_time_in_its_segment(rt: HostRuntime) -> Result<(), Fail> {
     let alloc = rt.alloc();
-    made::normal_form(alloc, emsg_of_two_times(alloc), emsg(alloc), &FOO)?;
-    Ok(())
-}
-
-#[test]
-fn first_fault_of_emsg(rt: HostRuntime) -> Result<(), Fail> {
-    let alloc = rt.alloc();
-    let zeros = b"\0\0\0\x0cemsg\0\0\0\0\0\0\0\0\0\0\0\0\0\0\0\0\0\0\0\0\0\0";
-    let text = b"\0\0\0\x20emsg\0\0\0\0\xff\0";
-    expect_kind::<EmsgBox>(alloc, zeros, 12, Kind::Invalid)
-        .and(expect_kind::<EmsgBox>(alloc, &text[..13], 32, Kind::End))
-        .and(expect_kind::<EmsgBox>(alloc, text, 32, Kind::Invalid))?;
+    made::round_trip(alloc, emsg(alloc), &FOO)
+        .and(made::normal_form(alloc, emsg_of_two_times(alloc), emsg(alloc), &FOO))
+        .and(made::unwritable(alloc, emsg_of_inner_zero(alloc)))
+        .and(made::unwritable(alloc, emsg_without_time(alloc)))
+        .and(made::unwritable_of_size(alloc, Ok(emsg_of_version_2(alloc)), 34))?;
     Ok(())
 }
