@@ -1,4 +1,4 @@
-//! Measures the codec beside plain Rust, and prints the tables of docs/BENCHMARKS.md. Each stream is measured in a process of
+//! Measures the codec beside plain Rust, and prints the tables of docs/internals/BENCHMARKS.md. Each stream is measured in a process of
 //! its own, which this one starts.
 
 mod best;

@@ -1,10 +1,10 @@
 /*
  * mp4-box-codec: the boxes of MP4 files (ISO/IEC 14496-12), for C.
  *
- * Each function reads bytes that it is handed, returns a status, and puts what it finds into memory of the caller's: rows
- * into an array, whose number of places the caller says, and the number of rows beside it. If the array has fewer places
- * than there are rows, the status is MP4_NO_ROOM, the number of rows is told, and the array is as it was: so ask first with
- * an array of 0 places, and then with one that is long enough.
+ * Each function reads bytes of the caller, returns a status, and puts what it finds into memory of the caller: elements into
+ * an array, whose number of places the caller says, and the number of elements beside it. If the array has fewer places than
+ * there are elements, the status is MP4_NO_ROOM, their number is returned, and the array is as it was: so ask first with an
+ * array of 0 places, and then with one that is long enough.
  *
  * What the caller ensures of every call:
  *
@@ -22,8 +22,8 @@
  *  - It returns, and reads and writes nothing else. It keeps no pointer and no memory: what it takes of malloc, it has
  *    freed when it returns, and there is nothing that the caller has to free. It has no state: calls on several threads
  *    at once are fine.
- *  - After MP4_OK all rows are at the front of the array, and the places after them are as they were.
- *  - After MP4_NO_ROOM the array is as it was, and the number of rows, and what else is told, is as after MP4_OK.
+ *  - After MP4_OK all elements are at the front of the array, and the places after them are as they were.
+ *  - After MP4_NO_ROOM the array is as it was, and the number of elements, and what else is returned, is as after MP4_OK.
  *  - After any other status everything is as it was.
  *
  * Link the program with libmp4_box_codec.a, which is for x86-64.
@@ -34,11 +34,14 @@
 #include <stddef.h>
 #include <stdint.h>
 
+/* The version of the codec, by semantic versioning. */
+#define MP4_VERSION "0.1.0"
+
 #ifdef __cplusplus
 extern "C" {
 #endif
 
-/* Lengths and numbers of rows have 64 bits. */
+/* Lengths and numbers of elements have 64 bits. */
 typedef char mp4_size_has_64_bits[sizeof(size_t) == 8 ? 1 : -1];
 
 /* The statuses. An error of the codec has the number of its place among the variants of its Error, counted from 1. The
@@ -54,7 +57,7 @@ enum {
     MP4_BOX_NOT_FOUND = 3,
     /* malloc or realloc returned NULL. */
     MP4_OUT_OF_MEMORY = 12,
-    /* The array has fewer places than there are rows. This is the number of no error of the codec. */
+    /* The array has fewer places than there are elements. This is the number of no error of the codec. */
     MP4_NO_ROOM = 100
 };
 
@@ -65,15 +68,15 @@ struct mp4_span {
     uint32_t code;     /* the four characters of its code, the first in the highest byte: 'ftyp' is 0x66747970 */
 };
 
-/* What is told of a table beside its rows. */
+/* What is returned of a table beside its entries. */
 struct mp4_table {
-    size_t count;    /* the number of rows */
+    size_t count;    /* the number of entries */
     uint32_t flags;  /* the 24 bits of the box's flags */
     uint8_t version; /* the box's version */
 };
 
-/* What is told of an stsz box beside its rows. If sample_size is 0, each sample has a size of its own, and count is
-   sample_count; else all samples have this size, and there are no rows. */
+/* What is returned of an stsz box beside the sizes. If sample_size is 0, each sample has a size of its own, and count is
+   sample_count; else all samples have this size, and the array has none. */
 struct mp4_stsz_table {
     size_t count;
     uint32_t flags;
@@ -110,9 +113,9 @@ struct mp4_elst_row {
     uint16_t media_rate_fraction;
 };
 
-/* What is told of a trun box beside its rows. Its flags say what it has: 0x1 a data_offset, 0x4 first_sample_flags, and in
-   each row 0x100 a duration, 0x200 a size, 0x400 flags, 0x800 a composition_offset. What it doesn't have is 0. If it has
-   nothing in its rows, count is 0; else count is sample_count. */
+/* What is returned of a trun box beside its samples. Its flags say what it has: 0x1 a data_offset, 0x4 first_sample_flags, and
+   for each sample 0x100 a duration, 0x200 a size, 0x400 flags, 0x800 a composition_offset. What it doesn't have is 0. If it
+   has nothing for a sample, count is 0; else count is sample_count. */
 struct mp4_trun_table {
     size_t count;
     uint32_t flags;

@@ -43,8 +43,8 @@ def outcomes_by_layout(buffer, position):
 
 
 def otherwise(outcomes, texts):
-    """Where the codec found something else than the slow reader, or wrote a list in bytes in which the slow reader finds
-    another: the call, the codec's text, and what the slow reader found."""
+    """Where the codec found something else than the slow reader, or wrote a list in bytes in which the slow reader
+    finds another: the call, the codec's text, and what the slow reader found."""
     for call, expected in outcomes.items():
         read, number = CALLS[call]
         if parsed(outcome_of, texts[number]) != expected:

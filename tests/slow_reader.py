@@ -269,7 +269,7 @@ def other(row, code):
 
 @lru_cache(64)
 def outcome(buffer, name, start, size):
-    """The box of this header, or its first fault. The same box is read alone and in a list, so it is kept for a while."""
+    """The box of this header, or its first fault. The same box is read alone and in a list, so it is kept a while."""
     try:
         row = Row(buffer, start, size)
         if name in READERS:

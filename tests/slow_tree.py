@@ -1,8 +1,8 @@
-"""Walks over the tree of a file slowly and plainly, by ISO/IEC 14496-12, 4.2, and docs/LAYOUT.md alone: a second walk to
-compare the program mp4dump with.
+"""Walks over the tree of a file slowly and plainly, by ISO/IEC 14496-12, 4.2, and docs/LAYOUT.md alone: a second walk
+to compare the program mp4dump with.
 
-A line is what stands where a box should begin: how many boxes it is in, its position, its length, its name as four bytes
-(None if they are not there), the word for what is found, and what is read in it (None where nothing is).
+A line is what stands where a box should begin: how many boxes it is in, its position, its length, its name as four
+bytes (None if they are not there), the word for what is found, and what is read in it (None where nothing is).
 """
 
 import collections
@@ -41,8 +41,8 @@ def leaf(data, name, at, end):
 
 
 def level(data, depth, at, end, items):
-    """The lines of the boxes from an offset to the end of the content that they are in. `items` says whether that is the
-    content of an `ilst`."""
+    """The lines of the boxes from an offset to the end of the content that they are in. `items` says whether that is
+    the content of an `ilst`."""
     lines = []
     while at < end:
         left = end - at

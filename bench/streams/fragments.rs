@@ -59,15 +59,15 @@ pub fn of_one_type(boxes: u32) -> Vec<(&'static str, Vec<u8>)> {
         ),
         ("trex", repeat(boxes, |b, n, _| trex(b, n))),
         (
-            "trun, no rows",
+            "trun, no samples",
             repeat(boxes, |b, n, _| trun(b, n, 0, 0x001, 25)),
         ),
         (
-            "trun, one row, one list",
+            "trun, one sample, one list",
             repeat(boxes, |b, n, _| trun(b, n, 0, 0x201, 1)),
         ),
         (
-            "trun, three rows, two lists",
+            "trun, three samples, two lists",
             repeat(boxes, |b, n, _| trun(b, n, 0, 0x305, 3)),
         ),
     ]
