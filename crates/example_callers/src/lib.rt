@@ -8,6 +8,7 @@ ghost use Rattle.mp4_stream.specs.AnyBox.{format_any, known_any, reading_any};
 ghost use Rattle.mp4_stream.specs.declared.any_box.AnyBox.{AnyBox};
 
 pub mod audio;
+pub mod brand;
 pub mod chunks;
 pub mod defaults;
 pub mod entries;
