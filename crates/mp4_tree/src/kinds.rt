@@ -1,0 +1,117 @@
+//! Which boxes hold boxes, and where in their content the first one begins.
+
+use crate::level::Level;
+use crate::words::Words;
+use mp4_frame::codes::{
+    DINF, DREF, EDTS, FTYP, HDLR, ILST, MDIA, META, MINF, MOOF, MOOV, MVEX, STBL, STSD, TRAF, TRAK,
+    TX3G, UDTA,
+};
+
+/// `mfra`: random access of movie fragments (ISO/IEC 14496-12, 8.8.9).
+pub const MFRA: u32 = 0x6d66_7261;
+
+/// `sinf`: protection scheme information (ISO/IEC 14496-12, 8.12.1).
+pub const SINF: u32 = 0x7369_6e66;
+
+/// `schi`: scheme information (ISO/IEC 14496-12, 8.12.6).
+pub const SCHI: u32 = 0x7363_6869;
+
+/// `wave`: decompression parameters of sound (QuickTime).
+pub const WAVE: u32 = 0x7761_7665;
+
+/// `iprp`: properties of items (ISO/IEC 23008-12, 9.3).
+pub const IPRP: u32 = 0x6970_7270;
+
+/// `ipco`: the properties that items share (ISO/IEC 23008-12, 9.3).
+pub const IPCO: u32 = 0x6970_636f;
+
+/// `wvtt`: a sample entry of WebVTT (ISO/IEC 14496-30, 7.5).
+pub const WVTT: u32 = 0x7776_7474;
+
+/// `mp4s`: a sample entry of MPEG-4 systems (ISO/IEC 14496-14, 6.7).
+pub const MP4S: u32 = 0x6d70_3473;
+
+/// The handler of video (ISO/IEC 14496-12, 12.1).
+pub const VIDE: u32 = 0x7669_6465;
+
+/// The handler of sound (ISO/IEC 14496-12, 12.2).
+pub const SOUN: u32 = 0x736f_756e;
+
+/// The major brand of a QuickTime movie.
+pub const QUICKTIME: u32 = 0x7174_2020;
+
+/// Whether boxes of this code hold nothing but boxes.
+fn is_container(code: u32) -> bool {
+    matches!(
+        code,
+        MOOV | TRAK
+            | MDIA
+            | MINF
+            | STBL
+            | EDTS
+            | MVEX
+            | MOOF
+            | TRAF
+            | MFRA
+            | UDTA
+            | DINF
+            | SINF
+            | SCHI
+            | WAVE
+            | IPRP
+            | IPCO
+            | ILST
+    )
+}
+
+/// How many bytes of fields a sound entry has.
+fn sound_fields(level: Level, words: Words) -> u64 {
+    match words.version {
+        1 if level.is_quicktime => 44,
+        2 if level.is_quicktime => 64,
+        _ => 28,
+    }
+}
+
+/// How many bytes of fields a sample entry has before its boxes, if it holds boxes.
+fn entry_fields(level: Level, code: u32, words: Words) -> Option<u64> {
+    match level.handler {
+        VIDE => Some(78),
+        SOUN => Some(sound_fields(level, words)),
+        _ => match code {
+            TX3G => Some(38),
+            WVTT | MP4S => Some(8),
+            _ => None,
+        },
+    }
+}
+
+/// How many bytes are before the first box in the content of a box of this code, if it holds boxes.
+pub fn fields_before(level: Level, code: u32, words: Words) -> Option<u64> {
+    match level.parent {
+        ILST => return Some(0),
+        STSD => return entry_fields(level, code, words),
+        _ => {}
+    }
+    if is_container(code) {
+        return Some(0);
+    }
+    match code {
+        META if words.first_code == HDLR => Some(0),
+        META => Some(4),
+        STSD | DREF => Some(8),
+        _ => None,
+    }
+}
+
+/// What is known of the boxes after a whole box of this code: `hdlr` says the handler, and `ftyp` the major brand.
+pub fn level_after(level: Level, code: u32, words: Words) -> Level {
+    let mut after = level;
+    if level.parent == MDIA && code == HDLR {
+        after.handler = words.handler;
+    }
+    if level.depth == 0 && code == FTYP {
+        after.is_quicktime = words.brand == QUICKTIME;
+    }
+    after
+}

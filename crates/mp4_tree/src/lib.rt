@@ -1,0 +1,28 @@
+//! The boxes of a file in its order, over a source that reads at a position: headers alone are read, and contents are
+//! skipped.
+#![tactic(auto)]
+
+mod content;
+mod find;
+mod kinds;
+mod level;
+mod name;
+mod pages;
+mod path;
+mod place;
+mod source;
+mod step;
+mod tree;
+mod tree_box;
+mod words;
+
+pub use content::{read_box, read_content};
+pub use find::find;
+pub use name::name_of;
+pub use path::{BoxPath, PathError, PathPart};
+pub use source::Source;
+pub use tree::Tree;
+pub use tree_box::{TreeBox, What};
+
+#[cfg(test)]
+mod tests;
