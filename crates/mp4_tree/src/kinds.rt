@@ -1,5 +1,8 @@
 //! Which boxes hold boxes, and where in their content the first one begins.
 
+ghost use Rattle.std.specs.Prelude.{◌≡◌, ◌≤◌, ◌+◌, IfSome};
+ghost use Rattle.mp4_tree.specs.Kinds.{is_container, sound_fields, entry_fields, fields_of, fields_before, level_after};
+
 use crate::level::Level;
 use crate::words::Words;
 use mp4_frame::codes::{
@@ -40,8 +43,10 @@ pub const SOUN: u32 = 0x736f_756e;
 /// The major brand of a QuickTime movie.
 pub const QUICKTIME: u32 = 0x7174_2020;
 
-/// Whether boxes of this code hold nothing but boxes.
-fn is_container(code: u32) -> bool {
+/// Whether boxes of this code hold boxes, and nothing else.
+fn is_container(code: u32) -> bool
+    ensures { result ≡ is_container code }
+{
     matches!(
         code,
         MOOV | TRAK
@@ -64,9 +69,11 @@ fn is_container(code: u32) -> bool {
     )
 }
 
-/// How many bytes of fields a sound entry has.
-fn sound_fields(level: Level, words: Words) -> u64 {
-    match words.version {
+/// How many bytes of fields a sound entry of this version has.
+fn sound_fields(level: Level, version: u16) -> u64
+    ensures { result ≡ sound_fields level version }
+{
+    match version {
         1 if level.is_quicktime => 44,
         2 if level.is_quicktime => 64,
         _ => 28,
@@ -74,10 +81,12 @@ fn sound_fields(level: Level, words: Words) -> u64 {
 }
 
 /// How many bytes of fields a sample entry has before its boxes, if it holds boxes.
-fn entry_fields(level: Level, code: u32, words: Words) -> Option<u64> {
+fn entry_fields(level: Level, code: u32, words: Words) -> Option<u64>
+    ensures { result ≡ entry_fields level code words }
+{
     match level.handler {
         VIDE => Some(78),
-        SOUN => Some(sound_fields(level, words)),
+        SOUN => Some(sound_fields(level, words.version)),
         _ => match code {
             TX3G => Some(38),
             WVTT | MP4S => Some(8),
@@ -86,8 +95,10 @@ fn entry_fields(level: Level, code: u32, words: Words) -> Option<u64> {
     }
 }
 
-/// How many bytes are before the first box in the content of a box of this code, if it holds boxes.
-pub fn fields_before(level: Level, code: u32, words: Words) -> Option<u64> {
+/// How many bytes of fields are before the boxes in a content of `room` bytes, if boxes of this code hold boxes.
+fn fields_of(level: Level, code: u32, words: Words, room: u64) -> Option<u64>
+    ensures { result ≡ fields_of level code words room }
+{
     match level.parent {
         ILST => return Some(0),
         STSD => return entry_fields(level, code, words),
@@ -97,21 +108,41 @@ pub fn fields_before(level: Level, code: u32, words: Words) -> Option<u64> {
         return Some(0);
     }
     match code {
-        META if words.first_code == HDLR => Some(0),
+        META if words.first_code == HDLR || room < 4 => Some(0),
         META => Some(4),
         STSD | DREF => Some(8),
         _ => None,
     }
 }
 
-/// What is known of the boxes after a whole box of this code: `hdlr` says the handler, and `ftyp` the major brand.
-pub fn level_after(level: Level, code: u32, words: Words) -> Level {
-    let mut after = level;
-    if level.parent == MDIA && code == HDLR {
-        after.handler = words.handler;
+/// How many bytes of fields are before the boxes in a content of `room` bytes, if it holds boxes and has room for them.
+pub fn fields_before(level: Level, code: u32, words: Words, room: u64) -> Option<u64>
+    ensures fields { result ≡ fields_before level code words room }
+    ensures room { IfSome result (λ n. n ≤ room) }
+{
+    match fields_of(level, code, words, room) {
+        Some(fields) if fields <= room => Some(fields),
+        _ => None,
     }
-    if level.depth == 0 && code == FTYP {
-        after.is_quicktime = words.brand == QUICKTIME;
+}
+
+/// What is known of the boxes after a box of this code: `hdlr` says the handler, and `ftyp` the major brand.
+pub fn level_after(level: Level, code: u32, words: Words) -> Level
+    ensures { result ≡ level_after level code words }
+{
+    Level {
+        depth: level.depth,
+        end: level.end,
+        parent: level.parent,
+        handler: if level.parent == MDIA && code == HDLR {
+            words.handler
+        } else {
+            level.handler
+        },
+        is_quicktime: if level.depth == 0 && code == FTYP {
+            words.brand == QUICKTIME
+        } else {
+            level.is_quicktime
+        },
     }
-    after
 }

@@ -3,7 +3,7 @@
 #![tactic(auto)]
 
 mod content;
-mod find;
+mod finding;
 mod kinds;
 mod level;
 mod name;
@@ -17,7 +17,7 @@ mod tree_box;
 mod words;
 
 pub use content::{read_box, read_content};
-pub use find::find;
+pub use finding::find;
 pub use name::name_of;
 pub use path::{BoxPath, PathError, PathPart};
 pub use source::Source;

@@ -59,13 +59,14 @@ impl<S: Source> Pages<S> {
         self.source.read_at(at, &mut self.page)
     }
 
-    /// The bytes from a position on, `long` of them. Nothing is read if the page has them.
-    pub fn window(&mut self, at: u64, long: u64) -> io::Result<&[u8]> {
+    /// Fills the buffer with the bytes from a position on. Nothing is read if the page has them.
+    pub fn window(&mut self, at: u64, buffer: &mut [u8]) -> io::Result<()> {
         let have = self.start + self.page.len() as u64;
-        if at < self.start || at + long > have {
+        if at < self.start || at + buffer.len() as u64 > have {
             self.turn(at)?;
         }
         let offset = (at - self.start) as usize;
-        Ok(&self.page[offset..offset + long as usize])
+        buffer.copy_from_slice(&self.page[offset..offset + buffer.len()]);
+        Ok(())
     }
 }

@@ -1,10 +1,14 @@
 //! Where a box is in its level.
 
+ghost use Rattle.std.specs.Prelude.{◌≡◌, ◌+◌, ◌<◌, ◌≤◌, length};
+ghost use Rattle.mp4_frame.specs.Heads.{head};
+ghost use Rattle.mp4_tree.specs.Place.{code_at, unread, place_of_head, place_of, later};
+
 use crate::level::Level;
 use crate::tree_box::What;
-use mp4_frame::{Error, Head, Result, u32_at};
+use mp4_frame::{Error, Head, u32_at};
 
-/// Where a box is in its level, by its head, or the end of the level where no box can be read.
+/// Where a box is in its level, or the rest of the level where no box can be read.
 #[derive(Clone, Copy, Debug, PartialEq, Eq)]
 pub struct Place {
     /// The code of the box, if the level has the 8 bytes with it.
@@ -20,7 +24,9 @@ pub struct Place {
 }
 
 /// The code of the box whose header begins here.
-pub fn code_at(window: &[u8]) -> Option<u32> {
+fn code_at(window: &[u8]) -> Option<u32>
+    ensures { result ≡ code_at window.now 0 }
+{
     if window.len() < 8 {
         return None;
     }
@@ -28,7 +34,10 @@ pub fn code_at(window: &[u8]) -> Option<u32> {
 }
 
 /// The place of what can't be read as a box: the level ends there.
-fn unread(level: Level, at: u64, code: Option<u32>, what: What) -> Place {
+fn unread(level: Level, at: u64, code: Option<u32>, what: What) -> Place
+    requires inside { at ≤ level.end }
+    ensures { result ≡ unread level at code what }
+{
     Place {
         code,
         content: level.end,
@@ -38,13 +47,20 @@ fn unread(level: Level, at: u64, code: Option<u32>, what: What) -> Place {
     }
 }
 
-/// The place of a box by its head, whose start is relative to `at`.
-fn place_of_head(level: Level, at: u64, code: Option<u32>, head: Head) -> Place {
-    let Head { size, start, .. } = head;
-    let content = at + start + 8;
+/// The place of a box by its head.
+#[tactic(auto, unfolding(crate::specs::Place::place_of_head))]
+fn place_of_head(level: Level, at: u64, head: Head) -> Place
+    requires start { at ≤ head.start }
+    requires content { head.start + 8 ≤ level.end }
+    ensures place { result ≡ place_of_head level at head }
+    ensures inside { (head.start + 8 ≤ result.content) × (result.content ≤ result.end) × (result.end ≤ level.end) }
+    ensures near { result.content < result.end → result.content ≡ head.start + 8 }
+{
+    let Head { code, size, start } = head;
+    let content = start + 8;
     if size == 0 && level.depth == 0 {
         return Place {
-            code,
+            code: Some(code),
             content,
             end: level.end,
             length: level.end - at,
@@ -52,20 +68,20 @@ fn place_of_head(level: Level, at: u64, code: Option<u32>, head: Head) -> Place 
         };
     }
     if size < 8 {
-        return unread(level, at, code, What::Small);
+        return unread(level, at, Some(code), What::Small);
     }
-    if size - 8 > level.end - content {
+    if size > level.end - start {
         return Place {
-            code,
+            code: Some(code),
             content,
             end: level.end,
-            length: start.saturating_add(size),
+            length: (start - at).saturating_add(size),
             what: What::Cut,
         };
     }
-    let end = content + (size - 8);
+    let end = start + size;
     Place {
-        code,
+        code: Some(code),
         content,
         end,
         length: end - at,
@@ -73,12 +89,23 @@ fn place_of_head(level: Level, at: u64, code: Option<u32>, head: Head) -> Place 
     }
 }
 
-/// The place of the box at `at`, by the bytes there.
-pub fn place_at(window: &[u8], level: Level, at: u64) -> Place {
-    let code = code_at(window);
+/// The place of the box at a position, by the bytes there.
+pub fn place_at(window: &[u8], level: Level, at: u64) -> Place
+    requires within { at + length window.now ≤ level.end }
+    ensures place { result ≡ place_of level at (code_at window.now 0) (later at (head window.now 0).outcome) }
+    ensures inside { (at ≤ result.content) × (result.content ≤ result.end) × (result.end ≤ level.end) }
+    ensures near { result.content < result.end → result.content ≤ at + 16 }
+{
     match Head::at(window, 0) {
-        Ok(head) => place_of_head(level, at, code, head),
-        Err(Error::IoError) => unread(level, at, code, What::NoHeader),
-        Err(_) => unread(level, at, code, What::Small),
+        Ok(head) => {
+            let head = Head {
+                code: head.code,
+                size: head.size,
+                start: head.start + at,
+            };
+            place_of_head(level, at, head)
+        }
+        Err(Error::IoError) => unread(level, at, code_at(window), What::NoHeader),
+        Err(_) => unread(level, at, code_at(window), What::Small),
     }
 }

@@ -1,5 +1,8 @@
 //! One step of the walk: what is at a position, and where the walk goes on.
 
+ghost use Rattle.std.specs.Prelude.{◌≡◌, ◌+◌, ◌<◌, ◌≤◌};
+ghost use Rattle.mp4_tree.specs.Tree.{four_cc, found_at, if_whole, level_in, passed, entered, step_of_box, step_of};
+
 use crate::kinds::{fields_before, level_after};
 use crate::level::Level;
 use crate::place::Place;
@@ -23,8 +26,47 @@ pub struct Step {
     pub at: u64,
 }
 
+/// The code as its four characters.
+fn four_cc(code: Option<u32>) -> Option<FourCC>
+    ensures { result ≡ four_cc code }
+{
+    match code {
+        Some(code) => Some(FourCC::from(code)),
+        None => None,
+    }
+}
+
+/// What is at a position.
+fn found_at(level: Level, at: u64, place: Place, children: Option<u64>, what: What) -> TreeBox
+    requires { at ≤ place.content }
+    ensures { result ≡ found_at level at place children what }
+{
+    TreeBox {
+        depth: level.depth,
+        code: four_cc(place.code),
+        position: at,
+        header_length: place.content - at,
+        length: place.length,
+        children,
+        what,
+    }
+}
+
+/// What a box is called that is known to hold boxes: this if it is whole.
+fn if_whole(whole: What, what: What) -> What
+    ensures { result ≡ if_whole whole what }
+{
+    match what {
+        What::Leaf => whole,
+        other => other,
+    }
+}
+
 /// The content of a box of this code that ends at `end`.
-fn level_in(level: Level, code: u32, end: u64) -> Level {
+fn level_in(level: Level, code: u32, end: u64) -> Level
+    requires { level.depth < 32 }
+    ensures { result ≡ level_in level code end }
+{
     Level {
         depth: level.depth + 1,
         end,
@@ -34,23 +76,13 @@ fn level_in(level: Level, code: u32, end: u64) -> Level {
     }
 }
 
-/// What is at a position.
-fn found(level: Level, at: u64, place: Place, children: Option<u64>, what: What) -> TreeBox {
-    TreeBox {
-        depth: level.depth,
-        code: place.code.map(FourCC::from),
-        position: at,
-        header_length: place.content - at,
-        length: place.length,
-        children,
-        what,
-    }
-}
-
 /// The step at what is not gone into.
-fn passed(level: Level, at: u64, place: Place, what: What, after: Level) -> Step {
+fn passed(level: Level, at: u64, place: Place, what: What, after: Level) -> Step
+    requires { at ≤ place.content }
+    ensures { result ≡ passed level at place what after }
+{
     Step {
-        found: found(level, at, place, None, what),
+        found: found_at(level, at, place, None, what),
         level: after,
         inner: None,
         at: place.end,
@@ -58,45 +90,46 @@ fn passed(level: Level, at: u64, place: Place, what: What, after: Level) -> Step
 }
 
 /// The step into a box of this code, whose first box is after these fields.
-fn entered(level: Level, at: u64, place: Place, code: u32, fields: u64) -> Step {
-    let children = place.content + fields.min(place.end - place.content);
-    let what = match place.what {
-        What::Leaf => What::Parent,
-        other => other,
-    };
+fn entered(level: Level, at: u64, place: Place, code: u32, fields: u64, after: Level) -> Step
+    requires content { at ≤ place.content }
+    requires fields { place.content + fields ≤ place.end }
+    requires depth { level.depth < 32 }
+    ensures { result ≡ entered level at place code fields after }
+{
+    let children = place.content + fields;
+    let what = if_whole(What::Parent, place.what);
     Step {
-        found: found(level, at, place, Some(children), what),
-        level,
+        found: found_at(level, at, place, Some(children), what),
+        level: after,
         inner: Some(level_in(level, code, place.end)),
         at: children,
     }
 }
 
 /// The step at a box of this code.
-fn step_of_box(level: Level, at: u64, place: Place, code: u32, words: Words) -> Step {
-    match fields_before(level, code, words) {
-        None => passed(
-            level,
-            at,
-            place,
-            place.what,
-            level_after(level, code, words),
-        ),
-        Some(fields) if level.depth < DEEPEST => entered(level, at, place, code, fields),
-        Some(_) => {
-            let what = match place.what {
-                What::Leaf => What::TooDeep,
-                other => other,
-            };
-            passed(level, at, place, what, level)
-        }
+fn step_of_box(level: Level, at: u64, place: Place, code: u32, words: Words) -> Step
+    requires content { at ≤ place.content }
+    requires end { place.content ≤ place.end }
+    ensures { result ≡ step_of_box level at place code words }
+{
+    let after = level_after(level, code, words);
+    match fields_before(level, code, words, place.end - place.content) {
+        None => passed(level, at, place, place.what, after),
+        Some(fields) if level.depth < DEEPEST => { entered(level, at, place, code, fields, after) }
+        Some(_) => passed(level, at, place, if_whole(What::TooDeep, place.what), after),
     }
 }
 
 /// The step at a place.
-pub fn step_of(level: Level, at: u64, place: Place, words: Words) -> Step {
+pub fn step_of(level: Level, at: u64, place: Place, words: Words) -> Step
+    requires content { at ≤ place.content }
+    requires end { place.content ≤ place.end }
+    ensures { result ≡ step_of level at place words }
+{
     match (place.what, place.code) {
-        (What::Leaf | What::Cut, Some(code)) => step_of_box(level, at, place, code, words),
-        _ => passed(level, at, place, place.what, level),
+        (What::Small | What::NoHeader, _) | (_, None) => passed(
+            level, at, place, place.what, level,
+        ),
+        (_, Some(code)) => step_of_box(level, at, place, code, words),
     }
 }

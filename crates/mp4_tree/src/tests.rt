@@ -1,6 +1,6 @@
 //! Tests of what no clause says.
 
-use crate::find::find;
+use crate::finding::find;
 use crate::name::name_of;
 use crate::path::BoxPath;
 use crate::tree::Tree;

@@ -6,12 +6,12 @@ use crate::place::place_at;
 use crate::source::Source;
 use crate::step::{Step, step_of};
 use crate::tree_box::TreeBox;
-use crate::words::words_at;
+use crate::words::{Words, words_at};
 use std::alloc::Global;
 use std::io;
 
 /// How many bytes of a box are looked at: a header of 16, and 12 of its content.
-const WINDOW: u64 = 28;
+const WINDOW: usize = 28;
 
 /// The boxes of a file in its order: each box, and after it the boxes in it. Headers alone are read, and a few bytes
 /// after some of them.
@@ -71,11 +71,21 @@ impl<S: Source> Tree<S> {
 
     /// The step at the position.
     fn step(&mut self) -> io::Result<Step> {
-        let window = self
-            .pages
-            .window(self.at, WINDOW.min(self.level.end - self.at))?;
+        let mut buffer = [0; WINDOW];
+        let long = (self.level.end - self.at).min(WINDOW as u64) as usize;
+        self.pages.window(self.at, &mut buffer[..long])?;
+        let window = &buffer[..long];
         let place = place_at(window, self.level, self.at);
-        let words = words_at(window, place.content - self.at, place.end - place.content);
+        let words = if place.content < place.end {
+            words_at(window, place.content - self.at, place.end - self.at)
+        } else {
+            Words {
+                brand: 0,
+                first_code: 0,
+                handler: 0,
+                version: 0,
+            }
+        };
         Ok(step_of(self.level, self.at, place, words))
     }
 

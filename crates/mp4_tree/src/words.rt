@@ -1,4 +1,7 @@
-//! The first numbers of a content, of which some boxes say what the boxes in or after them are.
+//! The first numbers of a content. Of some boxes they say what the boxes in them or after them are.
+
+ghost use Rattle.std.specs.Prelude.{◌≡◌, ◌+◌, ◌<◌, ◌≤◌, min, length};
+ghost use Rattle.mp4_tree.specs.Words.{number_in, words};
 
 use mp4_frame::{u16_at, u32_at};
 
@@ -15,24 +18,40 @@ pub struct Words {
     pub version: u16,
 }
 
-/// The number of 4 bytes at `offset`, if the content has them: it is at `content` in the window, and `room` bytes long.
-fn number_in(window: &[u8], content: u64, room: u64, offset: u64) -> u32 {
-    if room < offset + 4 {
+/// The number of 4 bytes at an offset, or 0 where a box ends before it does.
+fn number_in(window: &[u8], end: u64, at: u64) -> u32
+    requires there { at + 4 ≤ end → at + 4 ≤ length window.now }
+    requires small { at < 64 }
+    ensures { result ≡ number_in window.now end at 4 }
+{
+    if end < at + 4 {
         return 0;
     }
-    u32_at(window, (content + offset) as usize)
+    u32_at(window, at as usize)
 }
 
-/// The first numbers of a content that is at `content` in the window, and `room` bytes long.
-pub fn words_at(window: &[u8], content: u64, room: u64) -> Words {
+/// The same of 2 bytes.
+fn short_in(window: &[u8], end: u64, at: u64) -> u16
+    requires there { at + 2 ≤ end → at + 2 ≤ length window.now }
+    requires small { at < 64 }
+    ensures { result ≡ number_in window.now end at 2 }
+{
+    if end < at + 2 {
+        return 0;
+    }
+    u16_at(window, at as usize)
+}
+
+/// The first numbers of a content, whose offsets in the window are these.
+pub fn words_at(window: &[u8], content: u64, end: u64) -> Words
+    requires there { min end (content + 12) ≤ length window.now }
+    requires small { content < 32 }
+    ensures { result ≡ words window.now content end }
+{
     Words {
-        brand: number_in(window, content, room, 0),
-        first_code: number_in(window, content, room, 4),
-        handler: number_in(window, content, room, 8),
-        version: if room < 10 {
-            0
-        } else {
-            u16_at(window, content as usize + 8)
-        },
+        brand: number_in(window, end, content),
+        first_code: number_in(window, end, content + 4),
+        handler: number_in(window, end, content + 8),
+        version: short_in(window, end, content + 8),
     }
 }

@@ -1,0 +1,107 @@
+-- The boxes of a file: each box, and after it those in it, in the order of the file.
+--
+-- A level is a run of boxes one after the other: the top level of the file, or the content of a box.
+use Rattle.std.specs.Prelude.{ℕ, zero, suc, ◌+◌, ◌-◌, nat_lt, nat_le, false, List, [], ◌∷◌, ◌++◌, length, None, Some, if◌then◌else◌}
+use Rattle.std.specs.declared.option.Option.{Option}
+use Rattle.mp4_frame.specs.FourCC.{four_cc_of}
+use Rattle.mp4_frame.specs.declared.four_cc.FourCC.{FourCC}
+use Rattle.mp4_tree.specs.Kinds.{fields_before, level_after}
+use Rattle.mp4_tree.specs.Place.{place}
+use Rattle.mp4_tree.specs.Words.{words}
+use Rattle.mp4_tree.specs.declared.level.Level.{Level}
+use Rattle.mp4_tree.specs.declared.place.Place.{Place}
+use Rattle.mp4_tree.specs.declared.step.Step.{Step}
+use Rattle.mp4_tree.specs.declared.step.TheConstants as constants
+use Rattle.mp4_tree.specs.declared.tree_box.TreeBox.{TreeBox}
+use Rattle.mp4_tree.specs.declared.tree_box.What.{What}
+use Rattle.mp4_tree.specs.declared.tree_box.What.TheVariants as what
+use Rattle.mp4_tree.specs.declared.words.Words.{Words}
+
+abbrev pub four_cc : Option ℕ → Option FourCC
+four_cc None = None
+four_cc (Some code) = Some (four_cc_of code)
+
+-- what is at o
+abbrev pub found_at : Level → ℕ → Place → Option ℕ → What → TreeBox
+found_at l o p children why = record {
+  depth = l.depth;
+  code = four_cc p.code;
+  position = o;
+  header_length = p.content - o;
+  length = p.length;
+  children = children;
+  what = why;
+}
+
+-- a box that holds boxes is a parent if it is whole; if it is cut, it is that
+abbrev pub if_whole : What → What → What
+if_whole why what.Leaf = why
+if_whole why other = other
+
+-- the content of a box of this code that ends at `end`
+abbrev pub level_in : Level → ℕ → ℕ → Level
+level_in l code end = record { depth = l.depth + 1; end = end; parent = code; handler = l.handler; is_quicktime = l.is_quicktime }
+
+-- a place that is not gone into: the walk goes on after it
+abbrev pub passed : Level → ℕ → Place → What → Level → Step
+passed l o p why after = record { found = found_at l o p None why; level = after; inner = None; at = p.end }
+
+-- a box with boxes after n bytes of fields: the walk goes on in it
+abbrev pub entered : Level → ℕ → Place → ℕ → ℕ → Level → Step
+entered l o p code n after = record {
+  found = found_at l o p (Some (p.content + n)) (if_whole what.Parent p.what);
+  level = after;
+  inner = Some (level_in l code p.end);
+  at = p.content + n;
+}
+
+abbrev pub step_by : Level → ℕ → Place → ℕ → Level → Option ℕ → Step
+step_by l o p code after None = passed l o p p.what after
+step_by l o p code after (Some n) =
+    if nat_lt l.depth constants.DEEPEST then entered l o p code n after else passed l o p (if_whole what.TooDeep p.what) after
+
+-- the step at a box of this code: it is gone into if it holds boxes, and its level is not too deep
+abbrev pub step_of_box : Level → ℕ → Place → ℕ → Words → Step
+step_of_box l o p code w = step_by l o p code (level_after l code w) (fields_before l code w (p.end - p.content))
+
+abbrev pub step_of_code : Level → ℕ → Place → Words → Option ℕ → Step
+step_of_code l o p w None = passed l o p p.what l
+step_of_code l o p w (Some code) = step_of_box l o p code w
+
+abbrev pub step_of_what : Level → ℕ → Place → Words → What → Step
+step_of_what l o p w what.Small = passed l o p p.what l
+step_of_what l o p w what.NoHeader = passed l o p p.what l
+step_of_what l o p w _ = step_of_code l o p w p.code
+
+abbrev pub step_of : Level → ℕ → Place → Words → Step
+step_of l o p w = step_of_what l o p w p.what
+
+-- the step at o
+abbrev pub step : List ℕ → Level → ℕ → Step
+step B l o = let p = place B l o in step_of l o p (words B p.content p.end)
+
+-- after a step: the boxes of the level inside, if it is gone into, and the rest of the level
+abbrev pub boxes_after : (Level → ℕ → List TreeBox) → Level → ℕ → Option Level → List TreeBox
+boxes_after boxes l o None = boxes l o
+boxes_after boxes l o (Some inner) = boxes inner o ++ boxes l inner.end
+
+-- the boxes of a step: first what is there
+abbrev pub boxes_by : (Level → ℕ → List TreeBox) → Step → List TreeBox
+boxes_by boxes s = s.found ∷ boxes_after boxes s.level s.at s.inner
+
+-- the boxes of a level from o on, in n steps at most
+unfoldable pub boxes_at_most : ℕ → List ℕ → Level → ℕ → List TreeBox
+boxes_at_most zero B l o = []
+boxes_at_most (suc n) B l o = if nat_le l.end o then [] else boxes_by (λ m e. boxes_at_most n B m e) (step B l o)
+
+-- the boxes of a level from o on. Each step takes at least one byte of the level
+abbrev pub boxes_in : List ℕ → Level → ℕ → List TreeBox
+boxes_in B l o = boxes_at_most (l.end - o) B l o
+
+-- the top level of a file of this length
+abbrev pub top : ℕ → Level
+top len = record { depth = 0; end = len; parent = 0; handler = 0; is_quicktime = false }
+
+-- the boxes of a file
+abbrev pub boxes_of : List ℕ → List TreeBox
+boxes_of B = boxes_in B (top (length B)) 0
