@@ -1,7 +1,21 @@
--- What a read at a position gives.
-use Rattle.std.specs.Prelude.{ℕ, List, drop}
+-- The bytes of a source.
+use Rattle.std.specs.Prelude.{◌≡◌, ℕ, ◌+◌, ◌≤◌, List, length, take, drop, IfSome}
 use Rattle.std.specs.Io.{StartsWith}
+use Rattle.std.specs.declared.option.Option.{Option}
 
--- the buffer has the bytes from position o on
+-- these are bytes from position o on
 abbrev pub IsWindow : List ℕ → ℕ → List ℕ → Type 0
-IsWindow B o W = StartsWith (drop o B) W
+IsWindow B o bytes = StartsWith (drop o B) bytes
+
+-- the bytes from position o on: n of them, or as many as there are
+abbrev pub piece : List ℕ → ℕ → ℕ → List ℕ
+piece B o n = take n (drop o B)
+
+-- the bytes of a source, if they are known, and how many they are
+pub record Known : Type 0 where
+  pub bytes : Option (List ℕ)
+  pub length : ℕ
+
+-- a page from position o on, of a source of n bytes
+abbrev pub IsPage : Option (List ℕ) → ℕ → ℕ → List ℕ → Type 0
+IsPage all n o page = (o + length page ≤ n) × IfSome all (λ B. (n ≡ length B) × IsWindow B o page)

@@ -1,7 +1,7 @@
 -- The boxes of a file: each box, and after it those in it, in the order of the file.
 --
 -- A level is a run of boxes one after the other: the top level of the file, or the content of a box.
-use Rattle.std.specs.Prelude.{ℕ, zero, suc, ◌+◌, ◌-◌, nat_lt, nat_le, false, List, [], ◌∷◌, ◌++◌, length, None, Some, if◌then◌else◌}
+use Rattle.std.specs.Prelude.{◌≡◌, ℕ, zero, suc, ◌+◌, ◌-◌, ◌<◌, ◌≤◌, nat_lt, nat_le, false, List, [], ◌∷◌, ◌++◌, length, None, Some, if◌then◌else◌}
 use Rattle.std.specs.declared.option.Option.{Option}
 use Rattle.mp4_frame.specs.FourCC.{four_cc_of}
 use Rattle.mp4_frame.specs.declared.four_cc.FourCC.{FourCC}
@@ -79,6 +79,15 @@ step_of l o p w = step_of_what l o p w p.what
 -- the step at o
 abbrev pub step : List ℕ → Level → ℕ → Step
 step B l o = let p = place B l o in step_of l o p (words B p.content p.end)
+
+-- where the walk goes on is in the level inside, or in the level itself
+abbrev pub StaysIn : ℕ → ℕ → Option Level → Type 0
+StaysIn end at None = at ≤ end
+StaysIn end at (Some inner) = (at ≤ inner.end) × (inner.end ≤ end)
+
+-- a step at o of a level goes on after o, within the level, and doesn't change where it ends
+abbrev pub GoesOn : Level → ℕ → Step → Type 0
+GoesOn l o s = (o < s.at) × StaysIn l.end s.at s.inner × (s.level.end ≡ l.end)
 
 -- after a step: the boxes of the level inside, if it is gone into, and the rest of the level
 abbrev pub boxes_after : (Level → ℕ → List TreeBox) → Level → ℕ → Option Level → List TreeBox

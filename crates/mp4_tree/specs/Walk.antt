@@ -5,12 +5,7 @@ use Rattle.mp4_tree.specs.Tree.{boxes_in}
 use Rattle.mp4_tree.specs.declared.level.Level.{Level}
 use Rattle.mp4_tree.specs.declared.tree_box.TreeBox.{TreeBox}
 
--- the bytes of a source, if they are known, and how many they are
-pub record Known : Type 0 where
-  pub bytes : Option (List ℕ)
-  pub length : ℕ
-
--- the same of a walk, its position, and the levels that it is in there, the innermost first
+-- the bytes of the source, if they are known, how many they are, the position, and the levels there, the innermost first
 pub record Walk : Type 0 where
   pub bytes : Option (List ℕ)
   pub length : ℕ

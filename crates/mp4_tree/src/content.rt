@@ -1,21 +1,30 @@
 //! The bytes of a box.
 
+ghost use Rattle.std.specs.Prelude.{◌≡◌, length, IfOk, IfSome};
+ghost use Rattle.mp4_tree.specs.Source.{piece};
+
 use crate::source::Source;
 use crate::tree_box::TreeBox;
 use std::alloc::Global;
 use std::io;
 
-/// The bytes of a source of `length` bytes from a position on: `long` of them, or as many as there are.
+/// The bytes of a source of this many bytes from a position on: `long` of them, or as many as there are.
 pub fn read_piece<S: Source>(
     alloc: Global,
     source: &mut S,
-    length: u64,
+    all: u64,
     at: u64,
     long: u64,
-) -> io::Result<Vec<u8>> {
-    let there = length.saturating_sub(at).min(long);
-    let mut bytes = vec![in alloc; 0u8; there as usize]?;
-    source.read_at(at, &mut bytes)?;
+) -> io::Result<Vec<u8>>
+    ensures bytes { IfSome (S.all source.old) (λ B. all ≡ length B → IfOk result (λ bytes. bytes.items ≡ piece B at long)) }
+    ensures keeps { S.all source.new ≡ S.all source.old }
+{
+    let there = all.saturating_sub(at).min(long);
+    let mut bytes = Vec::new(alloc);
+    if there > 0 {
+        bytes.resize(there as usize, 0)?;
+        source.read_at(at, &mut bytes)?;
+    }
     Ok(bytes)
 }
 

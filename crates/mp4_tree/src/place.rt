@@ -91,9 +91,10 @@ fn place_of_head(level: Level, at: u64, head: Head) -> Place
 
 /// The place of the box at a position, by the bytes there.
 pub fn place_at(window: &[u8], level: Level, at: u64) -> Place
+    requires inside { at < level.end }
     requires within { at + length window.now ≤ level.end }
     ensures place { result ≡ place_of level at (code_at window.now 0) (later at (head window.now 0).outcome) }
-    ensures inside { (at ≤ result.content) × (result.content ≤ result.end) × (result.end ≤ level.end) }
+    ensures inside { (at < result.content) × (result.content ≤ result.end) × (result.end ≤ level.end) }
     ensures near { result.content < result.end → result.content ≤ at + 16 }
 {
     match Head::at(window, 0) {

@@ -1,14 +1,17 @@
 //! One step of the walk: what is at a position, and where the walk goes on.
 
-ghost use Rattle.std.specs.Prelude.{◌≡◌, ◌+◌, ◌<◌, ◌≤◌};
-ghost use Rattle.mp4_tree.specs.Tree.{four_cc, found_at, if_whole, level_in, passed, entered, step_of_box, step_of};
+ghost use Rattle.std.specs.Prelude.{◌≡◌, ◌+◌, ◌<◌, ◌≤◌, length, IfOk, IfSome};
+ghost use Rattle.mp4_tree.specs.Tree.{four_cc, found_at, if_whole, level_in, passed, entered, step_of_box, step_of, step, GoesOn};
 
 use crate::kinds::{fields_before, level_after};
 use crate::level::Level;
-use crate::place::Place;
+use crate::pages::Pages;
+use crate::place::{Place, place_at};
+use crate::source::Source;
 use crate::tree_box::{TreeBox, What};
-use crate::words::Words;
+use crate::words::{Words, words_at};
 use mp4_frame::FourCC;
+use std::io;
 
 /// A box of this depth is shown, and not gone into.
 pub const DEEPEST: u64 = 32;
@@ -132,4 +135,24 @@ pub fn step_of(level: Level, at: u64, place: Place, words: Words) -> Step
         ),
         (_, Some(code)) => step_of_box(level, at, place, code, words),
     }
+}
+
+/// How many bytes of a box are looked at: a header of 16, and 12 of its content.
+const WINDOW: usize = 28;
+
+/// The step at a position of a level.
+pub fn step_at<S: Source>(pages: &mut Pages<S>, level: Level, at: u64) -> io::Result<Step>
+    requires within { level.end ≤ pages.old.length }
+    requires inside { at < level.end }
+    ensures step { IfSome pages.old.bytes (λ B. pages.old.length ≡ length B → IfOk result (λ s. s ≡ step B level at)) }
+    ensures on { IfOk result (GoesOn level at) }
+    ensures kept { pages.new ≡ pages.old }
+{
+    let mut buffer = [0; WINDOW];
+    let long = (level.end - at).min(WINDOW as u64) as usize;
+    pages.window(at, &mut buffer[..long])?;
+    let window = &buffer[..long];
+    let place = place_at(window, level, at);
+    let words = words_at(window, place.content - at, place.end - at);
+    Ok(step_of(level, at, place, words))
 }

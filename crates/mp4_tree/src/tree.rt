@@ -2,16 +2,11 @@
 
 use crate::level::Level;
 use crate::pages::Pages;
-use crate::place::place_at;
 use crate::source::Source;
-use crate::step::{Step, step_of};
+use crate::step::step_at;
 use crate::tree_box::TreeBox;
-use crate::words::{Words, words_at};
 use std::alloc::Global;
 use std::io;
-
-/// How many bytes of a box are looked at: a header of 16, and 12 of its content.
-const WINDOW: usize = 28;
 
 /// The boxes of a file in its order: each box, and after it the boxes in it. Headers alone are read, and a few bytes
 /// after some of them.
@@ -69,26 +64,6 @@ impl<S: Source> Tree<S> {
         self.pages.read_piece(alloc, found.position, found.length)
     }
 
-    /// The step at the position.
-    fn step(&mut self) -> io::Result<Step> {
-        let mut buffer = [0; WINDOW];
-        let long = (self.level.end - self.at).min(WINDOW as u64) as usize;
-        self.pages.window(self.at, &mut buffer[..long])?;
-        let window = &buffer[..long];
-        let place = place_at(window, self.level, self.at);
-        let words = if place.content < place.end {
-            words_at(window, place.content - self.at, place.end - self.at)
-        } else {
-            Words {
-                brand: 0,
-                first_code: 0,
-                handler: 0,
-                version: 0,
-            }
-        };
-        Ok(step_of(self.level, self.at, place, words))
-    }
-
     /// The next box, or none at the end of the file. After an error the same box comes again.
     pub fn next(&mut self) -> io::Result<Option<TreeBox>> {
         while self.at >= self.level.end {
@@ -97,7 +72,7 @@ impl<S: Source> Tree<S> {
                 None => return Ok(None),
             }
         }
-        let step = self.step()?;
+        let step = step_at(&mut self.pages, self.level, self.at)?;
         self.level = match step.inner {
             None => step.level,
             Some(inner) => {

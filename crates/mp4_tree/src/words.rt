@@ -44,10 +44,18 @@ fn short_in(window: &[u8], end: u64, at: u64) -> u16
 
 /// The first numbers of a content, whose offsets in the window are these.
 pub fn words_at(window: &[u8], content: u64, end: u64) -> Words
-    requires there { min end (content + 12) ≤ length window.now }
-    requires small { content < 32 }
+    requires there { content < end → min end (content + 12) ≤ length window.now }
+    requires small { content < end → content < 32 }
     ensures { result ≡ words window.now content end }
 {
+    if end <= content {
+        return Words {
+            brand: 0,
+            first_code: 0,
+            handler: 0,
+            version: 0,
+        };
+    }
     Words {
         brand: number_in(window, end, content),
         first_code: number_in(window, end, content + 4),
