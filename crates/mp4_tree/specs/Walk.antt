@@ -1,6 +1,7 @@
--- How far a walk over the boxes of a file is.
-use Rattle.std.specs.Prelude.{ℕ, ◌-◌, ◌≤◌, List, [], ◌∷◌, ◌++◌}
+-- How far a walk over the boxes of a file is, and what a call of it gives.
+use Rattle.std.specs.Prelude.{◌≡◌, ℕ, ◌-◌, ◌≤◌, List, [], ◌∷◌, ◌++◌, length, reverse, None, Some, IfSome}
 use Rattle.std.specs.declared.option.Option.{Option}
+use Rattle.mp4_tree.specs.Source.{Known}
 use Rattle.mp4_tree.specs.Tree.{boxes_in}
 use Rattle.mp4_tree.specs.declared.level.Level.{Level}
 use Rattle.mp4_tree.specs.declared.tree_box.TreeBox.{TreeBox}
@@ -11,6 +12,10 @@ pub record Walk : Type 0 where
   pub length : ℕ
   pub at : ℕ
   pub levels : List Level
+
+-- a walk at a position of a level, with the levels around it, the outermost first
+abbrev pub walk_at : Known → ℕ → Level → List Level → Walk
+walk_at source at l around = record { bytes = source.bytes; length = source.length; at = at; levels = l ∷ reverse around }
 
 -- the boxes that are left at a position of the first of these levels
 abbrev pub unwound : List ℕ → ℕ → List Level → List TreeBox
@@ -25,7 +30,27 @@ left B s = unwound B s.at s.levels
 abbrev pub bytes_left : Walk → ℕ
 bytes_left s = s.length - s.at
 
+-- the first of the boxes that were left came, or none was left
+abbrev pub Comes : List TreeBox → Option TreeBox → List TreeBox → Type 0
+Comes were None are = (were ≡ []) × (are ≡ [])
+Comes were (Some found) are = were ≡ found ∷ are
+
 -- each level ends within the next one, and the last within n bytes
 abbrev pub Nested : ℕ → ℕ → List Level → Type 0
 Nested n at [] = at ≤ n
 Nested n at (l ∷ ls) = (at ≤ l.end) × Nested n l.end ls
+
+-- the levels are nested, and if the bytes are known, they are as many
+pub record IsWalk (s : Walk) : Type 0 where
+  pub nested : Nested s.length s.at s.levels
+  pub known : IfSome s.bytes (λ B. s.length ≡ length B)
+
+-- levels that are over at a position are closed: as much is left
+pub record Closes (at : ℕ) (were are : List Level) : Type 0 where
+  pub nested : (n : ℕ) → Nested n at were → Nested n at are
+  pub same : (B : List ℕ) (n : ℕ) → Nested n at were → unwound B at were ≡ unwound B at are
+
+-- a level inside, if there is one, and those around it
+abbrev pub with_inner : Option Level → List Level → List Level
+with_inner None ls = ls
+with_inner (Some inner) ls = inner ∷ ls

@@ -1,5 +1,7 @@
 //! A box of a file, as its tree has it.
 
+ghost use Rattle.std.specs.Prelude.{◌≡◌, ◌+◌, ◌-◌, ◌^◌, min};
+
 use mp4_frame::FourCC;
 
 /// What is found where a box should begin.
@@ -40,18 +42,26 @@ pub struct TreeBox {
 }
 
 impl TreeBox {
-    /// Where its content begins.
-    pub fn content_position(&self) -> u64 {
+    ghost use Rattle.mp4_tree.specs.Tops.{is_whole};
+
+    /// Where its content begins; 2^64 - 1 if that is more.
+    pub fn content_position(&self) -> u64
+        ensures { result ≡ min (self.now.position + self.now.header_length) (2 ^ 64 - 1) }
+    {
         self.position.saturating_add(self.header_length)
     }
 
     /// How long its content is, as its header says.
-    pub fn content_length(&self) -> u64 {
+    pub fn content_length(&self) -> u64
+        ensures { result ≡ self.now.length - self.now.header_length }
+    {
         self.length.saturating_sub(self.header_length)
     }
 
     /// Whether the whole box is there.
-    pub fn is_whole(&self) -> bool {
+    pub fn is_whole(&self) -> bool
+        ensures { result ≡ is_whole self.now.what }
+    {
         matches!(self.what, What::Leaf | What::Parent | What::TooDeep)
     }
 }

@@ -1,0 +1,56 @@
+-- The top level of a file: its frames in order, as `frame` finds them, and the whole boxes of depth 0 among those of the file.
+use Rattle.std.specs.Prelude.{ℕ, zero, suc, ◌-◌, ◌==◌, ◌&&◌, Bool, true, false, nat_le, List, [], ◌∷◌, length, None, Some, Result, Ok, Err, if◌then◌else◌}
+use Rattle.std.specs.declared.option.Option.{Option}
+use Rattle.std.specs.List.{flat_map}
+use Rattle.mp4_frame.specs.BoxType.{code_of}
+use Rattle.mp4_frame.specs.FourCC.{four_cc_of}
+use Rattle.mp4_frame.specs.Heads.{frame}
+use Rattle.mp4_frame.specs.Reading.{Fault}
+use Rattle.mp4_frame.specs.declared.four_cc.FourCC.{FourCC}
+use Rattle.mp4_frame.specs.declared.frame.Frame.{Frame}
+use Rattle.mp4_tree.specs.declared.tree_box.TreeBox.{TreeBox}
+use Rattle.mp4_tree.specs.declared.tree_box.What.{What}
+use Rattle.mp4_tree.specs.declared.tree_box.What.TheVariants as what
+
+-- the position, the length and the code of a box
+pub record Span : Type 0 where
+  pub position : ℕ
+  pub length : ℕ
+  pub code : FourCC
+
+-- the frame at o
+abbrev pub span_of : ℕ → Frame → Span
+span_of o f = record { position = o; length = f.end - o; code = four_cc_of (code_of f.name) }
+
+-- a frame at o, and those of the rest; none where there is no frame
+abbrev pub framed : (ℕ → List Span) → ℕ → Result Frame Fault → List Span
+framed rest o (Ok f) = span_of o f ∷ rest f.end
+framed rest o (Err _) = []
+
+-- the frames from o on, up to the first fault, n at most
+unfoldable pub frames_at_most : ℕ → List ℕ → ℕ → List Span
+frames_at_most zero B o = []
+frames_at_most (suc n) B o = if nat_le (length B) o then [] else framed (λ e. frames_at_most n B e) o (frame B o)
+
+-- the frames of a file, up to the first fault. Each frame has at least one byte
+abbrev pub top_frames : List ℕ → List Span
+top_frames B = frames_at_most (length B) B 0
+
+-- the whole box is there
+abbrev pub is_whole : What → Bool
+is_whole what.Leaf = true
+is_whole what.Parent = true
+is_whole what.TooDeep = true
+is_whole _ = false
+
+abbrev pub place_of : TreeBox → Option FourCC → List Span
+place_of x None = []
+place_of x (Some code) = record { position = x.position; length = x.length; code = code } ∷ []
+
+-- the place of a box, if it is whole and of the top level
+abbrev pub top_box : TreeBox → List Span
+top_box x = if (x.depth == 0) && is_whole x.what then place_of x x.code else []
+
+-- the whole boxes of the top level among these
+abbrev pub top_boxes : List TreeBox → List Span
+top_boxes xs = flat_map top_box xs
