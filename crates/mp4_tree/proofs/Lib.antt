@@ -1,3 +1,6 @@
+pub mod Frames
+pub mod Places
 pub mod Steps
+pub mod Tops
 pub mod Unwound
 pub mod Windows

@@ -68,7 +68,7 @@ place_of_head_after l o h inside from room =
     (λ fits. (omega arith, omega (arith, ltb-false _ _ large), ltb-false _ _ fits))))
 
 -- where a box is read, its content is after it
-pub place_of_after : (own : List ℕ) (l : Level) (o : ℕ) (code : Option ℕ) → length own ≡ l.end → o < l.end → (r : Result Head Fault) → (head own o).outcome ≡ r → IsAfter l o (place_of l o code r)
+place_of_after : (own : List ℕ) (l : Level) (o : ℕ) (code : Option ℕ) → length own ≡ l.end → o < l.end → (r : Result Head Fault) → (head own o).outcome ≡ r → IsAfter l o (place_of l o code r)
 place_of_after own l o code long inside (Ok h) is =
     let room = head_room own o h is in
     place_of_head_after l o h inside room.0 (omega (arith, room.1, long))
@@ -76,12 +76,14 @@ place_of_after own l o code long inside (Err End) is = (inside, omega arith, ome
 place_of_after own l o code long inside (Err Invalid) is = (inside, omega arith, omega arith)
 place_of_after own l o code long inside (Err (NotFound _)) is = (inside, omega arith, omega arith)
 
+pub place_after : (B : List ℕ) (l : Level) (o : ℕ) → l.end ≤ length B → o < l.end → IsAfter l o (place B l o)
+place_after B l o within inside = let own = take l.end B in place_of_after own l o (code_at own o) (length-take-le l.end B within) inside (head own o).outcome refl
+
 -- each step goes on
 pub step_goes_on : (B : List ℕ) (l : Level) (o : ℕ) → l.end ≤ length B → o < l.end → GoesOn l o (step B l o)
 step_goes_on B l o within inside =
-    let own = take l.end B in
     let p = place B l o in
-    let after : IsAfter l o p = place_of_after own l o (code_at own o) (length-take-le l.end B within) inside (head own o).outcome refl in
+    let after = place_after B l o within inside in
     place_goes_on l o p (words B p.content p.end) (step B l o) refl after.0 after.1 after.2
 
 module _ (B : List ℕ) where

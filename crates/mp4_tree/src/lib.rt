@@ -5,6 +5,7 @@
 mod content;
 mod finding;
 mod kinds;
+pub mod laws;
 mod level;
 mod name;
 mod pages;

@@ -2,9 +2,9 @@
 
 use mp4_frame::FourCC;
 
-/// What a box of this code is called, in a few plain words; none for a code that is not in the table.
-pub fn name_of(code: FourCC) -> Option<&'static str> {
-    let name = match &code.value {
+/// What boxes of a file and of a movie are called.
+fn of_files(code: [u8; 4]) -> Option<&'static str> {
+    let name = match &code {
         b"ftyp" => "file type",
         b"styp" => "segment type",
         b"pdin" => "progressive download",
@@ -18,6 +18,14 @@ pub fn name_of(code: FourCC) -> Option<&'static str> {
         b"uuid" => "extension",
         b"trak" => "track",
         b"tkhd" => "track header",
+        _ => return None,
+    };
+    Some(name)
+}
+
+/// What boxes of a track and its media are called.
+fn of_tracks(code: [u8; 4]) -> Option<&'static str> {
+    let name = match &code {
         b"tref" => "track references",
         b"trgr" => "track groups",
         b"edts" => "edits",
@@ -37,6 +45,14 @@ pub fn name_of(code: FourCC) -> Option<&'static str> {
         b"dref" => "data references",
         b"url " => "location of data",
         b"urn " => "name of data",
+        _ => return None,
+    };
+    Some(name)
+}
+
+/// What boxes of tables of samples are called.
+fn of_samples(code: [u8; 4]) -> Option<&'static str> {
+    let name = match &code {
         b"stbl" => "sample table",
         b"stsd" => "sample descriptions",
         b"stts" => "decoding times",
@@ -57,6 +73,14 @@ pub fn name_of(code: FourCC) -> Option<&'static str> {
         b"subs" => "parts of samples",
         b"saiz" => "sizes of auxiliary information",
         b"saio" => "places of auxiliary information",
+        _ => return None,
+    };
+    Some(name)
+}
+
+/// What boxes of fragments are called.
+fn of_fragments(code: [u8; 4]) -> Option<&'static str> {
+    let name = match &code {
         b"mvex" => "movie extends",
         b"mehd" => "movie extends header",
         b"trex" => "defaults of fragments",
@@ -74,6 +98,14 @@ pub fn name_of(code: FourCC) -> Option<&'static str> {
         b"ssix" => "index of subsegments",
         b"prft" => "producer's reference time",
         b"emsg" => "event message",
+        _ => return None,
+    };
+    Some(name)
+}
+
+/// What boxes of metadata and items are called.
+fn of_metadata(code: [u8; 4]) -> Option<&'static str> {
+    let name = match &code {
         b"udta" => "user data",
         b"cprt" => "copyright",
         b"kind" => "kind of track",
@@ -96,6 +128,14 @@ pub fn name_of(code: FourCC) -> Option<&'static str> {
         b"pitm" => "primary item",
         b"idat" => "data of items",
         b"grpl" => "groups of items",
+        _ => return None,
+    };
+    Some(name)
+}
+
+/// What boxes of video and its configurations are called.
+fn of_video(code: [u8; 4]) -> Option<&'static str> {
+    let name = match &code {
         b"avc1" => "AVC video",
         b"avc2" => "AVC video",
         b"avc3" => "AVC video with parameter sets in its samples",
@@ -117,6 +157,14 @@ pub fn name_of(code: FourCC) -> Option<&'static str> {
         b"vpcC" => "VP8 or VP9 configuration",
         b"mp4v" => "MPEG-4 video",
         b"jpeg" => "JPEG video",
+        _ => return None,
+    };
+    Some(name)
+}
+
+/// What boxes of what describes pictures are called.
+fn of_pictures(code: [u8; 4]) -> Option<&'static str> {
+    let name = match &code {
         b"colr" => "colour",
         b"pasp" => "shape of a pixel",
         b"clap" => "clean aperture",
@@ -124,6 +172,14 @@ pub fn name_of(code: FourCC) -> Option<&'static str> {
         b"fiel" => "order of fields",
         b"mdcv" => "mastering display",
         b"clli" => "content light level",
+        _ => return None,
+    };
+    Some(name)
+}
+
+/// What boxes of sound are called.
+fn of_sound(code: [u8; 4]) -> Option<&'static str> {
+    let name = match &code {
         b"mp4a" => "MPEG-4 sound",
         b"mp4s" => "MPEG-4 stream",
         b"esds" => "elementary stream descriptor",
@@ -144,6 +200,14 @@ pub fn name_of(code: FourCC) -> Option<&'static str> {
         b"srat" => "rate of samples",
         b"wave" => "decompression of sound",
         b"frma" => "original format",
+        _ => return None,
+    };
+    Some(name)
+}
+
+/// What boxes of texts, times and protection are called.
+fn of_texts(code: [u8; 4]) -> Option<&'static str> {
+    let name = match &code {
         b"tx3g" => "timed text",
         b"ftab" => "fonts of timed text",
         b"wvtt" => "WebVTT subtitles",
@@ -161,6 +225,14 @@ pub fn name_of(code: FourCC) -> Option<&'static str> {
         b"tenc" => "encryption of a track",
         b"senc" => "encryption of samples",
         b"pssh" => "protection system header",
+        _ => return None,
+    };
+    Some(name)
+}
+
+/// What the items of metadata are called.
+fn of_items(code: [u8; 4]) -> Option<&'static str> {
+    let name = match &code {
         b"\xA9nam" => "title",
         b"\xA9ART" => "artist",
         b"\xA9alb" => "album",
@@ -174,4 +246,19 @@ pub fn name_of(code: FourCC) -> Option<&'static str> {
         _ => return None,
     };
     Some(name)
+}
+
+/// What a box of this code is called, in a few plain words; none for a code that is not in the table.
+pub fn name_of(code: FourCC) -> Option<&'static str> {
+    let code = code.value;
+    of_files(code)
+        .or_else(|| of_tracks(code))
+        .or_else(|| of_samples(code))
+        .or_else(|| of_fragments(code))
+        .or_else(|| of_metadata(code))
+        .or_else(|| of_video(code))
+        .or_else(|| of_pictures(code))
+        .or_else(|| of_sound(code))
+        .or_else(|| of_texts(code))
+        .or_else(|| of_items(code))
 }

@@ -76,10 +76,8 @@ impl BoxPath {
     /// U+00FF is a byte of a code, so `©nam` is one.
     pub fn parse(alloc: Global, text: &str) -> Result<BoxPath, PathError> {
         let mut parts = Vec::new(alloc);
-        let mut number = 0;
         for part in text.split('/') {
-            parts.push(part_of(part, number)?)?;
-            number += 1;
+            parts.push(part_of(part, parts.len() as u64)?)?;
         }
         Ok(BoxPath { parts })
     }

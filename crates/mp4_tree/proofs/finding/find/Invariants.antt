@@ -1,0 +1,6 @@
+-- Each turn takes some of the bytes that are left.
+use Rattle.mp4_tree.specs.Walk.{bytes_left}
+use Rattle.mp4_tree.proofs.finding.find.Given as goal
+
+abbrev pub decreases-loop-tree : goal.decreases-loop-tree
+decreases-loop-tree g l = bytes_left l.tree
