@@ -108,12 +108,18 @@ impl<S: Source> Pages<S> {
         source
     }
 
-    /// The bytes from a position on: `long` of them, or as many as there are.
-    pub fn read_piece(&mut self, alloc: Global, at: u64, long: u64) -> io::Result<Vec<u8>>
-        ensures bytes { IfSome self.old.bytes (λ B. IfOk result (λ bytes. bytes.items ≡ piece B at long)) }
+    /// The bytes from a position on, after some that are skipped: `long` of them, or as many as there are.
+    pub fn read_piece(
+        &mut self,
+        alloc: Global,
+        at: u64,
+        skip: u64,
+        long: u64,
+    ) -> io::Result<Vec<u8>>
+        ensures bytes { IfSome self.old.bytes (λ B. IfOk result (λ bytes. bytes.items ≡ piece B (at + skip) long)) }
         ensures kept { self.new ≡ self.old }
     {
-        read_piece(alloc, &mut self.source, self.length, at, long)
+        read_piece(alloc, &mut self.source, self.length, at, skip, long)
     }
 
     /// Fills the buffer with the bytes from a position on. Nothing is read if the page has them.

@@ -111,8 +111,12 @@ impl<S: Source> Tree<S> {
         ensures bytes { IfSome self.old.bytes (λ B. IfOk result (λ bytes. bytes.items ≡ content_of B found.now)) }
         ensures kept { self.new ≡ self.old }
     {
-        self.pages
-            .read_piece(alloc, found.content_position(), found.content_length())
+        self.pages.read_piece(
+            alloc,
+            found.position,
+            found.header_length,
+            found.content_length(),
+        )
     }
 
     /// A box that came, with its header, as `read_box`. The walk stays where it is.
@@ -120,7 +124,8 @@ impl<S: Source> Tree<S> {
         ensures bytes { IfSome self.old.bytes (λ B. IfOk result (λ bytes. bytes.items ≡ piece B found.now.position found.now.length)) }
         ensures kept { self.new ≡ self.old }
     {
-        self.pages.read_piece(alloc, found.position, found.length)
+        self.pages
+            .read_piece(alloc, found.position, 0, found.length)
     }
 
     /// The next box, or none after the last one. After an error the same box comes again.
