@@ -1,5 +1,6 @@
 pub mod Frames
 pub mod Places
+pub mod Searches
 pub mod Steps
 pub mod Tops
 pub mod Unwound

@@ -1,6 +1,8 @@
 pub mod Kinds
 pub mod Place
+pub mod Paths
 pub mod Places
+pub mod Search
 pub mod Source
 pub mod Tops
 pub mod Tree

@@ -11,6 +11,7 @@ mod name;
 mod pages;
 mod path;
 mod place;
+mod search;
 mod source;
 mod step;
 mod tree;
