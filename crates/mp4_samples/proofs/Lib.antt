@@ -1,0 +1,9 @@
+pub mod Through
+pub mod Spelled
+pub mod Bytes
+pub mod Rest
+pub mod Room
+pub mod Found
+pub mod Unique
+pub mod Refuted
+pub mod Order

@@ -1,0 +1,10 @@
+pub mod Runs
+pub mod Chunks
+pub mod Sizes
+pub mod Samples
+pub mod Disagreements
+pub mod Places
+pub mod Steps
+pub mod Gives
+pub mod Stretch
+pub mod Laws

@@ -1,0 +1,180 @@
+//! Whether the tables of a track agree.
+
+ghost use Rattle.std.specs.Prelude.{◌≡◌, ◌≢◌, ◌+◌, ◌<◌, ◌≤◌, ◌^◌, ◌↔◌, true, length, slice_get, All, Contains, Some, IfSome, IfErr, IsNone, IsOk};
+ghost use Rattle.mp4_samples.specs.Runs.{durations, increases};
+ghost use Rattle.mp4_samples.specs.Chunks.{samples_through, chunks_increase};
+ghost use Rattle.mp4_samples.specs.Sizes.{bytes_of};
+ghost use Rattle.mp4_samples.specs.Samples.{AreConsistent, begins_at_one, offsets_of, sample_count};
+ghost use Rattle.mp4_samples.specs.Disagreements.{Disagrees, IsNotAbove, first_chunks};
+
+use crate::chunk_place::{ChunkPlace, before_chunks};
+use crate::disagreement::Disagreement;
+use crate::state::{chunk_count, stss_entries};
+use crate::tables::{ChunkOffsets, Tables};
+use mp4_tables::{StscEntry, StszBox, SttsEntry};
+
+/// The first chunk of the first entry, if there is one and it is not 1.
+fn late_first_chunk(runs: &[StscEntry]) -> Option<u32>
+    ensures none { IsNone result ↔ (begins_at_one runs.now ≡ true) }
+    ensures some { IfSome result (λ c. (slice_get (first_chunks runs.now) 0 ≡ Some c) × (c ≢ 1)) }
+{
+    match runs.first() {
+        Some(entry) if entry.first_chunk != 1 => Some(entry.first_chunk),
+        _ => None,
+    }
+}
+
+/// The first entry that begins no later than the one before it.
+fn chunks_out_of_order(runs: &[StscEntry]) -> Option<usize>
+    ensures none { IsNone result ↔ (chunks_increase 0 runs.now ≡ true) }
+    ensures some { IfSome result (IsNotAbove (first_chunks runs.now)) }
+{
+    let mut last = 0;
+    let mut index = 0;
+    for entry in runs {
+        if entry.first_chunk <= last {
+            return Some(index);
+        }
+        last = entry.first_chunk;
+        index += 1;
+    }
+    None
+}
+
+/// The first number that is not above the one before it; the first has to be above 0.
+fn numbers_out_of_order(numbers: &[u32]) -> Option<usize>
+    ensures none { IsNone result ↔ (increases 0 numbers.now ≡ true) }
+    ensures some { IfSome result (IsNotAbove numbers.now) }
+{
+    let mut last = 0;
+    let mut index = 0;
+    for number in numbers {
+        if *number <= last {
+            return Some(index);
+        }
+        last = *number;
+        index += 1;
+    }
+    None
+}
+
+/// How many samples have a duration, if they are fewer than so many.
+fn too_few_durations(entries: &[SttsEntry], count: u32) -> Option<u32>
+    ensures none { IsNone result ↔ (count ≤ length (durations entries.now)) }
+    ensures some { IfSome result (λ timed. (timed ≡ length (durations entries.now)) × (timed < count)) }
+{
+    let mut left = count;
+    for entry in entries {
+        if left <= entry.sample_count {
+            return None;
+        }
+        left -= entry.sample_count;
+    }
+    if left == 0 { None } else { Some(count - left) }
+}
+
+/// The number of samples in so many chunks. It takes a step a run.
+fn samples_through(runs: &[StscEntry], count: u32) -> u64
+    requires { chunks_increase 0 runs.now ≡ true }
+    ensures { result ≡ samples_through runs.now count }
+{
+    let mut place = before_chunks();
+    let mut total = 0;
+    while place.run < runs.len() && runs[place.run].first_chunk <= count {
+        let entry = runs[place.run];
+        let skipped = entry.first_chunk - 1 - place.chunk;
+        total += u64::from(skipped) * u64::from(place.entry.samples_per_chunk);
+        total += u64::from(entry.samples_per_chunk);
+        place = ChunkPlace {
+            chunk: entry.first_chunk,
+            entry,
+            run: place.run + 1,
+        };
+    }
+    total + u64::from(count - place.chunk) * u64::from(place.entry.samples_per_chunk)
+}
+
+/// The bytes of all samples. It takes a step for each size that is listed.
+fn total_bytes(stsz: &StszBox) -> u64
+    requires { stsz.now.sample_size ≡ 0 → length stsz.now.sample_sizes ≡ stsz.now.sample_count }
+    ensures { result ≡ bytes_of stsz.now 0 stsz.now.sample_count }
+{
+    let count = stsz.sample_count;
+    let size = stsz.sample_size;
+    if size == 0 {
+        let mut total = 0;
+        for size in stsz.sample_sizes.as_slice() {
+            total += u64::from(*size);
+        }
+        total
+    } else {
+        u64::from(count) * u64::from(size)
+    }
+}
+
+/// The first chunk that begins so far out that so many bytes after it pass 2^64 - 1.
+fn offset_too_far(offsets: ChunkOffsets<'_>, total: u64) -> Option<u64>
+    ensures none { IsNone result ↔ All (λ offset. offset + total < 2 ^ 64) (offsets_of offsets.entry) }
+    ensures some { IfSome result (λ offset. Contains (offsets_of offsets.entry) offset × (2 ^ 64 ≤ offset + total)) }
+{
+    match offsets {
+        ChunkOffsets::Stco(stco) => {
+            for offset in stco.entries.as_slice() {
+                if u64::from(*offset) > u64::MAX - total {
+                    return Some(u64::from(*offset));
+                }
+            }
+            None
+        }
+        ChunkOffsets::Co64(co64) => {
+            for offset in co64.entries.as_slice() {
+                if *offset > u64::MAX - total {
+                    return Some(*offset);
+                }
+            }
+            None
+        }
+    }
+}
+
+/// How the tables disagree, if they do.
+pub fn check(tables: &Tables<'_>) -> Result<(), Disagreement>
+    ensures exact { IsOk result ↔ AreConsistent tables.now }
+    ensures err { IfErr result (Disagrees tables.now) }
+{
+    let stsz = tables.stsz;
+    let count = stsz.sample_count;
+    let listed = stsz.sample_sizes.len();
+    if stsz.sample_size == 0 && listed != count as usize {
+        return Err(Disagreement::SampleSizes { count, listed });
+    }
+    let runs = tables.stsc.entries.as_slice();
+    if let Some(first_chunk) = late_first_chunk(runs) {
+        return Err(Disagreement::FirstChunk { first_chunk });
+    }
+    if let Some(index) = chunks_out_of_order(runs) {
+        return Err(Disagreement::ChunkOrder { index });
+    }
+    let chunks = chunk_count(tables.chunk_offsets);
+    if chunks > u32::MAX as usize {
+        return Err(Disagreement::ChunkCount { count: chunks });
+    }
+    let held = samples_through(runs, chunks as u32);
+    if held < u64::from(count) {
+        return Err(Disagreement::Chunks {
+            count,
+            held: held as u32,
+        });
+    }
+    if let Some(timed) = too_few_durations(tables.stts.entries.as_slice(), count) {
+        return Err(Disagreement::Durations { count, timed });
+    }
+    if let Some(index) = numbers_out_of_order(stss_entries(tables)) {
+        return Err(Disagreement::SyncSamples { index });
+    }
+    let bytes = total_bytes(stsz);
+    if let Some(offset) = offset_too_far(tables.chunk_offsets, bytes) {
+        return Err(Disagreement::Offset { offset, bytes });
+    }
+    Ok(())
+}

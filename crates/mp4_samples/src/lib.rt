@@ -1,0 +1,20 @@
+//! Where the samples of a track are in its file, and when: over the tables of the codec, and over its fragments.
+#![tactic(auto)]
+
+mod access;
+mod checks;
+mod chunk_place;
+mod disagreement;
+pub mod laws;
+mod run_place;
+mod sample;
+mod sample_tables;
+mod samples;
+mod state;
+mod tables;
+
+pub use disagreement::Disagreement;
+pub use sample::Sample;
+pub use sample_tables::SampleTables;
+pub use samples::Samples;
+pub use tables::{ChunkOffsets, Tables};
