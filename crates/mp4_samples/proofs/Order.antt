@@ -1,5 +1,5 @@
 -- Samples one after the other, in their chunk and in time.
-use Rattle.std.proofs.Common.{◌≡◌, ℕ, zero, suc, ◌+◌, ◌-◌, ◌*◌, ◌<◌, ◌≤◌, List, [], ◌∷◌, ◌++◌, take, length, get_or, replicate, refl, sym, ap, ◌∙◌, arith}
+use Rattle.std.proofs.Common.{◌≡◌, ℕ, zero, suc, ◌+◌, ◌-◌, ◌*◌, ◌≤◌, List, [], ◌∷◌, take, get_or, replicate, refl, sym, ap, ◌∙◌, arith}
 use Rattle.std.specs.List.{sum, sum_by, range_with_len}
 use Rattle.std.proofs.lemmas.List.{take_all}
 use Rattle.std.proofs.lemmas.List.Sums.{sum_by-cons, sum_by-append}
@@ -9,11 +9,11 @@ use Rattle.mp4_samples.specs.declared.sample.Sample.{Sample}
 use Rattle.mp4_samples.specs.declared.tables.Tables.{Tables}
 use Rattle.mp4_samples.specs.Runs.{spelled, durations, duration_of, start_of}
 use Rattle.mp4_samples.specs.Chunks.{samples_through}
-use Rattle.mp4_samples.specs.Sizes.{size_of, bytes_of, offset_of}
+use Rattle.mp4_samples.specs.Sizes.{bytes_of, offset_of}
 use Rattle.mp4_samples.specs.Samples.{IsSample, offsets_of, sample_count}
 use Rattle.mp4_samples.specs.Laws.{SamplesAreAdjacent, SamplesDoNotOverlap, TimesFollow, TimesDoNotDecrease, DurationsAddUp, EntriesAddUp}
 use Rattle.mp4_samples.proofs.Bytes.{bytes_split, bytes_next}
-use Rattle.mp4_samples.proofs.Spelled.{spelled-cons, run_sum}
+use Rattle.mp4_samples.proofs.Spelled.{spelled-cons}
 use Rattle.mp4_samples.proofs.Through.{sum_next}
 
 bytes_le : (z : StszBox) (a m n : ℕ) → m ≤ n → bytes_of z a m ≤ bytes_of z a n
@@ -108,7 +108,7 @@ pub add_up : DurationsAddUp
 add_up t k s last is = stop_time t k s is ∙ rw last (start_sum t.stts.now.entries (sample_count t))
 
 whole_run : (c v : ℕ) → sum (replicate c v) ≡ c * v
-whole_run zero v = refl
+whole_run zero v = omega arith
 whole_run (suc c) v =
     let rest = whole_run c v in
     let now = sum_by-cons (λ (x : ℕ). x) v (replicate c v) in

@@ -5,7 +5,7 @@ use Rattle.mp4_tables.specs.declared.stts_entry.SttsEntry.{SttsEntry}
 use Rattle.mp4_samples.specs.declared.sample.Sample.{Sample}
 use Rattle.mp4_samples.specs.declared.tables.Tables.{Tables}
 use Rattle.mp4_samples.specs.declared.disagreement.Disagreement.{Disagreement}
-use Rattle.mp4_samples.specs.Runs.{durations, duration_of, start_of}
+use Rattle.mp4_samples.specs.Runs.{durations, duration_of}
 use Rattle.mp4_samples.specs.Samples.{IsSample, AreConsistent, sample_count}
 use Rattle.mp4_samples.specs.Disagreements.{Disagrees}
 
