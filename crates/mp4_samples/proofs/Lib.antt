@@ -7,3 +7,5 @@ pub mod Found
 pub mod Unique
 pub mod Refuted
 pub mod Order
+pub mod Fragments
+pub mod FragmentCalls

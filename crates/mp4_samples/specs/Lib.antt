@@ -8,3 +8,6 @@ pub mod Steps
 pub mod Gives
 pub mod Stretch
 pub mod Laws
+pub mod Fragments
+pub mod FragmentPlaces
+pub mod FragmentGives

@@ -17,7 +17,7 @@ pub struct Sample {
     /// How long it lasts, in the timescale of the media.
     pub duration: u32,
     /// Its composition time minus its start time, in the timescale of the media; 0 where nothing is said of it.
-    pub rendering_offset: i32,
+    pub rendering_offset: i64,
     /// Whether it is a sync sample.
     pub is_sync: bool,
     /// The index of its sample entry, counted from 1.

@@ -1,0 +1,41 @@
+-- How far an iterator over the samples of a fragment is, and what a call of `next` gives.
+use Rattle.std.specs.Prelude.{ℕ, ℤ, ◌≡◌, ◌+◌, ◌-◌, Bool, true, false, length, Option, Some, None, Result, Ok, Err, if◌then◌else◌}
+use Rattle.mp4_samples.specs.declared.sample.Sample.{Sample}
+use Rattle.mp4_samples.specs.declared.fragment.Fragment.{Fragment}
+use Rattle.mp4_samples.specs.declared.fragment_fault.FragmentFault.{FragmentFault}
+use Rattle.mp4_samples.specs.Fragments.{IsFragmentSample, Faults, samples_of_runs, sample_time}
+use Rattle.mp4_samples.specs.FragmentPlaces.{offset_before}
+
+-- the fragment, the run that the iterator is in, how many samples of it came, and whether it has ended
+pub record FragmentProgress : Type 0 where
+  pub fragment : Fragment
+  pub run : ℕ
+  pub index : ℕ
+  pub ended : Bool
+
+abbrev pub begins : Fragment → FragmentProgress
+begins f = record { fragment = f; run = 0; index = 0; ended = false }
+
+-- the number of the sample that comes next
+abbrev pub number_of : FragmentProgress → ℕ
+number_of s = samples_of_runs s.fragment s.run + s.index
+
+abbrev pub sample_total : Fragment → ℕ
+sample_total f = samples_of_runs f (length f.runs.now)
+
+abbrev pub fragment_samples_left : FragmentProgress → ℕ
+fragment_samples_left s = if s.ended then 0 else sample_total s.fragment - number_of s
+
+-- where the sample that came last ends, and when
+abbrev pub offset_of : FragmentProgress → ℤ
+offset_of s = offset_before s.fragment s.run s.index
+
+abbrev pub time_of : FragmentProgress → ℕ
+time_of s = sample_time s.fragment s.run s.index
+
+-- the next sample; why it can't be told, and then nothing more; or none, exactly after the last one or a fault, and it is
+-- after the last run
+abbrev pub GivesFragmentSample : FragmentProgress → Option (Result Sample FragmentFault) → FragmentProgress → Type 0
+GivesFragmentSample s (Some (Ok x)) t = (s.ended ≡ false) × IsFragmentSample s.fragment (number_of s) x × (t.fragment ≡ s.fragment) × (number_of t ≡ number_of s + 1) × (t.ended ≡ false)
+GivesFragmentSample s (Some (Err e)) t = (s.ended ≡ false) × Faults s.fragment (number_of s) e × (t.fragment ≡ s.fragment) × (t.ended ≡ true)
+GivesFragmentSample s None t = (s.ended ≡ false → (number_of s ≡ sample_total s.fragment) × (t.run ≡ length s.fragment.runs.now) × (t.index ≡ 0)) × (s.ended ≡ true → t ≡ s) × (t.fragment ≡ s.fragment) × (t.ended ≡ true)

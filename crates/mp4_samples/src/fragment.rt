@@ -1,0 +1,169 @@
+//! A track fragment, and what its boxes say of its samples.
+
+ghost use Rattle.std.specs.Prelude.{◌≡◌, slice_index_or};
+ghost use Rattle.mp4_samples.specs.FragmentGives.{begins};
+ghost use Rattle.mp4_samples.specs.Fragments.{default_duration, default_size, default_flags, description_in, duration_in, size_in, flags_in, is_sync_in, rendering_offset_in, base_of, start_of};
+
+use crate::fragment_samples::FragmentSamples;
+use mp4_flat::{TfdtBox, TrexBox};
+use mp4_tables::{TfhdBox, TrunBox};
+
+/// The flag of `tfhd` that says that data offsets count from the `moof` (8.8.7.1).
+pub const DEFAULT_BASE_IS_MOOF: u32 = 0x02_0000;
+/// The flag of a sample that says that it is no sync sample (8.8.3.1).
+pub const SAMPLE_IS_NON_SYNC: u32 = 0x01_0000;
+
+/// A track fragment (`traf`), and what its samples take from around it.
+#[derive(Clone, Copy)]
+pub struct Fragment<'a> {
+    /// The defaults of the track.
+    pub trex: &'a TrexBox,
+    /// The header of the fragment.
+    pub tfhd: &'a TfhdBox,
+    /// When its first sample is decoded, if it says so.
+    pub tfdt: Option<&'a TfdtBox>,
+    /// Its runs, in the order of the file.
+    pub runs: &'a [TrunBox],
+    /// Where its `moof` begins, in bytes from the front of the file.
+    pub moof: u64,
+    /// Where the data of the `traf` before it in the same `moof` ends; for the first one, where the `moof` begins. It is
+    /// taken where `tfhd` names no base.
+    pub data_end: u64,
+    /// When the samples of the track before it end, in the timescale of the media. It is taken where there is no `tfdt`.
+    pub time_end: u64,
+}
+
+impl<'a> Fragment<'a> {
+    /// Its samples, from the first to the last.
+    pub fn samples(&self) -> FragmentSamples<'a>
+        ensures { result ≡ begins self.now }
+    {
+        FragmentSamples::new(*self)
+    }
+}
+
+/// The duration of a sample of which its run lists none.
+fn default_duration(fragment: &Fragment<'_>) -> u32
+    ensures { result ≡ default_duration fragment.now }
+{
+    fragment
+        .tfhd
+        .default_sample_duration
+        .unwrap_or(fragment.trex.default_sample_duration)
+}
+
+/// The size of a sample of which its run lists none.
+fn default_size(fragment: &Fragment<'_>) -> u32
+    ensures { result ≡ default_size fragment.now }
+{
+    fragment
+        .tfhd
+        .default_sample_size
+        .unwrap_or(fragment.trex.default_sample_size)
+}
+
+/// The flags of a sample of which its run says nothing.
+fn default_flags(fragment: &Fragment<'_>) -> u32
+    ensures { result ≡ default_flags fragment.now }
+{
+    fragment
+        .tfhd
+        .default_sample_flags
+        .unwrap_or(fragment.trex.default_sample_flags)
+}
+
+/// The index of the sample entry of its samples, counted from 1.
+pub fn description_in(fragment: &Fragment<'_>) -> u32
+    ensures { result ≡ description_in fragment.now }
+{
+    fragment
+        .tfhd
+        .sample_description_index
+        .unwrap_or(fragment.trex.default_sample_description_index)
+}
+
+/// The number at an index, or the default if the list has none.
+fn listed_or(numbers: &[u32], index: u32, default: u32) -> u32
+    ensures { result ≡ slice_index_or numbers.now index default }
+{
+    match numbers.get(index as usize) {
+        Some(number) => *number,
+        None => default,
+    }
+}
+
+/// The duration of a sample of a run.
+pub fn duration_in(fragment: &Fragment<'_>, trun: &TrunBox, index: u32) -> u32
+    ensures { result ≡ duration_in fragment.now trun.now index }
+{
+    listed_or(
+        trun.sample_durations.as_slice(),
+        index,
+        default_duration(fragment),
+    )
+}
+
+/// The size of a sample of a run.
+pub fn size_in(fragment: &Fragment<'_>, trun: &TrunBox, index: u32) -> u32
+    ensures { result ≡ size_in fragment.now trun.now index }
+{
+    listed_or(trun.sample_sizes.as_slice(), index, default_size(fragment))
+}
+
+/// The flags of a sample of a run.
+fn flags_in(fragment: &Fragment<'_>, trun: &TrunBox, index: u32) -> u32
+    ensures { result ≡ flags_in fragment.now trun.now index }
+{
+    let default = default_flags(fragment);
+    let default = if index == 0 {
+        trun.first_sample_flags.unwrap_or(default)
+    } else {
+        default
+    };
+    listed_or(trun.sample_flags.as_slice(), index, default)
+}
+
+/// Whether a sample of a run is a sync sample.
+pub fn is_sync_in(fragment: &Fragment<'_>, trun: &TrunBox, index: u32) -> bool
+    ensures { result ≡ is_sync_in fragment.now trun.now index }
+{
+    flags_in(fragment, trun, index) & SAMPLE_IS_NON_SYNC == 0
+}
+
+/// The composition time of a sample of a run, minus its decode time. It is signed from version 1 on.
+pub fn rendering_offset_in(trun: &TrunBox, index: u32) -> i64
+    ensures { result ≡ rendering_offset_in trun.now index }
+{
+    let number = listed_or(trun.sample_cts.as_slice(), index, 0);
+    if trun.version == 0 {
+        i64::from(number)
+    } else {
+        i64::from(number.cast_signed())
+    }
+}
+
+/// What the data offsets of its runs count from.
+pub fn base_of(fragment: &Fragment<'_>) -> u64
+    ensures { result ≡ base_of fragment.now }
+{
+    match fragment.tfhd.base_data_offset {
+        Some(base) => base,
+        None => {
+            if fragment.tfhd.flags & DEFAULT_BASE_IS_MOOF > 0 {
+                fragment.moof
+            } else {
+                fragment.data_end
+            }
+        }
+    }
+}
+
+/// When its first sample is decoded.
+pub fn start_of(fragment: &Fragment<'_>) -> u64
+    ensures { result ≡ start_of fragment.now }
+{
+    match fragment.tfdt {
+        Some(tfdt) => tfdt.base_media_decode_time,
+        None => fragment.time_end,
+    }
+}
