@@ -1,5 +1,5 @@
-//! Tests of what bytes don't show: a file for a box where they are of one box, and else for what is tested. The numbers of
-//! `codes`, `equality`, `languages` and of new entries count up from 0x81, so that no two of a value are the same.
+//! Tests of what bytes don't show: a file for a box where they are of one box, and else for what is tested. The numbers
+//! of new entries count up from 0x81, so that no two of an entry are the same.
 
 mod avc1;
 mod clones;

@@ -29,8 +29,8 @@ fn an_empty_index_and_an_entry_of_zeros(rt: HostRuntime) -> Result<(), Fail> {
     Ok(())
 }
 
-/// Reads the box of this size at the front of a buffer. Returns the position of the cursor after it, the box's own size,
-/// and whether it is written in `SHORT`.
+/// Reads the box of this size at the front of a buffer. Returns the position of the cursor after it, the box's own
+/// size, and whether it is written in `SHORT`.
 fn read_short(alloc: Global, bytes: &[u8], size: u64) -> Made<(u64, u64, bool)> {
     let mut reader = ByteCursor::new(bytes);
     reader.set_position(8);

@@ -130,7 +130,7 @@ fn cut_entries_of_sound(rt: HostRuntime) -> Result<(), Fail> {
         .and(expect_end_at_cuts_below(alloc, &esds(), 43))
         .and(expect_end_at_cuts_below(alloc, &mp4a_of_test(), 75))
         .and(expect_end_at_cuts_below(alloc, &mp4a(), 79))
-        .and(expect_end_at_cuts_below(alloc, &stsd_of(alloc, mp4a_of_test()), 91))
-        .and(expect_end_at_cuts_below(alloc, &stsd(), 95))?;
+        .and(made::end_at_cuts_below(alloc, Ok(stsd_of(alloc, mp4a_of_test())), 91))
+        .and(made::end_at_cuts_below(alloc, Ok(stsd()), 95))?;
     Ok(())
 }

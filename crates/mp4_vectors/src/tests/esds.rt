@@ -46,8 +46,8 @@ fn counted(bytes: &[u8], size: u64) -> (Kind, u64, u64) {
     (kind_of(&result), headers, reader.position())
 }
 
-/// Lengths of four bytes. The last three bits of the audio configuration are not read. An usual encoder writes five bytes of
-/// it: the last three are read as a header of length 12928, and so as a gap to after the end.
+/// Lengths of four bytes. The last three bits of the audio configuration are not read. A usual encoder writes five bytes
+/// of it: the last three are read as a header of length 12928, and so as a gap to after the end.
 #[test]
 fn descriptors_of_long_lengths(rt: HostRuntime) -> Result<(), Fail> {
     let bytes =

@@ -68,11 +68,19 @@ fn mdhd_of_nine_letters_and_of_none(rt: HostRuntime) -> Result<(), Fail> {
     let alloc = rt.alloc();
     let bytes = b"\0\0\0\x20mdhd\0\0\0\0\0\0\0\x64\0\0\0\xc8\0\0\xbb\x80\x01\xd0\x7a\0\x55\xc4\0\0";
     let none = b"\0\0\0\x20mdhd\0\0\0\0\0\0\0\x64\0\0\0\xc8\0\0\xbb\x80\x01\xd0\x7a\0\0\0\0\0";
-    let (und, nine) = (mdhd_in(alloc, "und"), mdhd_in(alloc, "undefined"));
-    let (missing, backquotes) = (mdhd_in(alloc, ""), mdhd_in(alloc, "\x60\x60\x60"));
     made::round_trip(alloc, mdhd_in(alloc, "und"), bytes)
-        .and(made::normal_form(alloc, nine, und, bytes))
-        .and(made::normal_form(alloc, missing, backquotes, none))?;
+        .and(made::normal_form(
+            alloc,
+            mdhd_in(alloc, "undefined"),
+            mdhd_in(alloc, "und"),
+            bytes,
+        ))
+        .and(made::normal_form(
+            alloc,
+            mdhd_in(alloc, ""),
+            mdhd_in(alloc, "\x60\x60\x60"),
+            none,
+        ))?;
     Ok(())
 }
 

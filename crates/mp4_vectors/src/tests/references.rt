@@ -23,8 +23,8 @@ fn dref_of_abc(alloc: Global) -> Result<DrefBox, Error> {
     Ok(dref_of(Some(child)))
 }
 
-/// An empty location is written without its zero byte. The last `url ` ends 8 bytes after its `dref`: in a list a header of
-/// size 0 stands there, a box up to the end, which is skipped.
+/// An empty location is written without its zero byte. The last `url ` ends 8 bytes after its `dref`: in a list a header
+/// of size 0 stands there, a box up to the end, which is skipped.
 #[test]
 fn url_and_dref_of_each_location(rt: HostRuntime) -> Result<(), Fail> {
     let alloc = rt.alloc();
@@ -47,12 +47,11 @@ fn url_and_dref_of_each_location(rt: HostRuntime) -> Result<(), Fail> {
 #[test]
 fn dinf_of_the_same_file_and_without_dref(rt: HostRuntime) -> Result<(), Fail> {
     let alloc = rt.alloc();
-    let default = Ok(DinfBox::new(DrefBox::default_in(alloc)));
     let bytes = b"\0\0\0\x24dinf\0\0\0\x1cdref\0\0\0\0\0\0\0\x01\0\0\0\x0curl \0\0\0\x01";
     let empty = b"\0\0\0\x08dinf";
     let small = b"\0\0\0\x10dinf\0\0\0\0free";
     let largest = b"\0\0\0\x08dinf\0\0\0\x01free\xff\xff\xff\xff\xff\xff\xff\xff";
-    made::round_trip(alloc, default, bytes)
+    made::round_trip(alloc, Ok(DinfBox::new(DrefBox::default_in(alloc))), bytes)
         .and(expect_kind::<DinfBox>(alloc, empty, 8, Kind::NotFound(BoxType::DrefBox)))
         .and(expect_kind::<DinfBox>(alloc, small, 16, Kind::Invalid))
         .and(expect_kind::<DinfBox>(alloc, largest, 0xffff_ffff_ffff_ffff, Kind::Invalid))?;

@@ -200,47 +200,47 @@ fn entries_of_video_have_room_for_their_child(rt: HostRuntime) -> Result<(), Fai
 fn expect_values<B: BoxLaws + PartialEq + Drop>(
     alloc: Global,
     bytes: &[u8],
-    small: &B,
-    large: &B,
+    small: B,
+    large: B,
 ) -> Result<(), Mismatch> {
     for size in [0, 7] {
-        expect_value_to(alloc, small, bytes, size, size.max(B::LEAST))?;
+        expect_value_to(alloc, &small, bytes, size, size.max(B::LEAST))?;
     }
-    expect_value(alloc, large, bytes, u64::MAX)
+    expect_value(alloc, &large, bytes, u64::MAX)
 }
 
 #[test]
 fn sizes_of_mp4a(rt: HostRuntime) -> Result<(), Fail> {
     let alloc = rt.alloc();
-    let (none, second) = (mp4a_of(None), mp4a());
+    let none = mp4a_of(None);
     let without = Mp4aBox {
         esds: None,
         ..mp4a()
     };
-    expect_values(alloc, &MP4A_OF_TEST, &none, &mp4a_of_test())
-        .and(expect_values(alloc, &MP4A, &without, &second))
+    expect_values(alloc, &MP4A_OF_TEST, mp4a_of(None), mp4a_of_test())
+        .and(expect_values(alloc, &MP4A, without, mp4a()))
         .and(expect_value_to(alloc, &none, &MP4A_WITHOUT_ESDS, 0, 36))
         .and(expect_value_to(alloc, &none, &MP4A_WITHOUT_ESDS, 7, 36))
         .and(expect_kind::<Mp4aBox>(alloc, &MP4A_WITHOUT_ESDS, u64::MAX, Kind::End))?;
     Ok(())
 }
 
+/// The second `stsd`, without its entry of sound.
+fn stsd_without_sound() -> StsdBox {
+    StsdBox {
+        mp4a: None,
+        ..stsd()
+    }
+}
+
 #[test]
 fn sizes_of_stsd_and_esds(rt: HostRuntime) -> Result<(), Fail> {
     let alloc = rt.alloc();
-    let without = StsdBox {
-        mp4a: None,
-        ..stsd()
-    };
-    expect_values(
-        alloc,
-        &STSD_OF_TEST,
-        &StsdBox::default_in(alloc),
-        &stsd_of(alloc, mp4a_of_test()),
-    )
-    .and(expect_values(alloc, &STSD, &without, &stsd()))
-    .and(expect_kinds::<EsdsBox>(alloc, &ESDS_OF_TEST, Kind::Invalid, Kind::End))
-    .and(expect_kinds::<EsdsBox>(alloc, &ESDS, Kind::Invalid, Kind::End))?;
+    let large = stsd_of(alloc, mp4a_of_test());
+    expect_values(alloc, &STSD_OF_TEST, StsdBox::default_in(alloc), large)
+        .and(expect_values(alloc, &STSD, stsd_without_sound(), stsd()))
+        .and(expect_kinds::<EsdsBox>(alloc, &ESDS_OF_TEST, Kind::Invalid, Kind::End))
+        .and(expect_kinds::<EsdsBox>(alloc, &ESDS, Kind::Invalid, Kind::End))?;
     Ok(())
 }
 
@@ -320,9 +320,8 @@ fn sizes_of_stco(rt: HostRuntime) -> Result<(), Fail> {
     for size in [0, 7, 16, 43] {
         expect_kind::<StcoBox>(rt.alloc(), &STCO, size, Kind::Invalid)?;
     }
-    let stco = stco(rt.alloc())?;
     for size in [44, 47, 0xffff_ffff, u64::MAX] {
-        expect_value(rt.alloc(), &stco, &STCO, size)?;
+        made::value(rt.alloc(), stco(rt.alloc()), &STCO, size)?;
     }
     Ok(())
 }

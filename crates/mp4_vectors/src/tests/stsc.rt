@@ -19,10 +19,14 @@ fn first_samples_are_computed(rt: HostRuntime) -> Result<(), Fail> {
     let last = [chunk_run(1, 4294967294, 1), chunk_run(2, 1, 4294967295)];
     let last_bytes =
         b"\0\0\0\x28stsc\0\0\0\0\0\0\0\x02\0\0\0\x01\xff\xff\xff\xfe\0\0\0\x01\0\0\0\x02\0\0\0\x01\0\0\0\x01";
-    let (of_nine, of_two) = (stsc_of(alloc, &nine), stsc_of(alloc, &two));
     made::round_trip(alloc, stsc_of(alloc, &two), &TWO_RUNS)
         .and(made::round_trip(alloc, stsc_of(alloc, &last), last_bytes))
-        .and(made::normal_form(alloc, of_nine, of_two, &TWO_RUNS))?;
+        .and(made::normal_form(
+            alloc,
+            stsc_of(alloc, &nine),
+            stsc_of(alloc, &two),
+            &TWO_RUNS,
+        ))?;
     Ok(())
 }
 

@@ -17,8 +17,8 @@ fn hdlr_of(alloc: Global, name: &str) -> Result<HdlrBox, Error> {
     })
 }
 
-/// A box of no name has 33 bytes by its size. As one box it needs the first 20, in a list all of them. A name that is not
-/// UTF-8 is read as `null`.
+/// A box of no name has 33 bytes by its size. As one box it needs the first 20, in a list all of them. A name that is
+/// not UTF-8 is read as `null`.
 #[test]
 fn hdlr_of_no_name_and_of_one_that_is_not_utf8(rt: HostRuntime) -> Result<(), Fail> {
     let alloc = rt.alloc();

@@ -72,28 +72,37 @@ fn media_config(alloc: Global) -> Result<MediaConfig, Error> {
     Ok(MediaConfig::AvcConfig(avc_config(alloc)?))
 }
 
+fn hevc_config() -> MediaConfig {
+    MediaConfig::HevcConfig(HevcConfig {
+        width: 320,
+        height: 240,
+    })
+}
+
+fn vp9_config() -> MediaConfig {
+    MediaConfig::Vp9Config(Vp9Config {
+        width: 1920,
+        height: 1080,
+    })
+}
+
+fn aac_config() -> MediaConfig {
+    MediaConfig::AacConfig(AacConfig {
+        bitrate: 67695,
+        ..AacConfig::default()
+    })
+}
+
 #[test]
 fn configurations_are_compared_and_cloned(rt: HostRuntime) -> Result<(), Fail> {
     let alloc = rt.alloc();
     assert!(rt; !is_default(alloc, avc_config(alloc))?);
     assert!(rt; is_default(alloc, Ok(AvcConfig::default_in(alloc)))?);
-    let hevc = MediaConfig::HevcConfig(HevcConfig {
-        width: 320,
-        height: 240,
-    });
-    let vp9 = MediaConfig::Vp9Config(Vp9Config {
-        width: 1920,
-        height: 1080,
-    });
-    let aac = MediaConfig::AacConfig(AacConfig {
-        bitrate: 67695,
-        ..AacConfig::default()
-    });
-    made::cloned(avc_config(rt.alloc()))
-        .and(made::cloned(media_config(rt.alloc())))
-        .and(made::cloned(Ok(hevc)))
-        .and(made::cloned(Ok(vp9)))
-        .and(made::cloned(Ok(aac)))
+    made::cloned(avc_config(alloc))
+        .and(made::cloned(media_config(alloc)))
+        .and(made::cloned(Ok(hevc_config())))
+        .and(made::cloned(Ok(vp9_config())))
+        .and(made::cloned(Ok(aac_config())))
         .and(made::cloned(Ok(MediaConfig::TtxtConfig(TtxtConfig {}))))?;
     Ok(())
 }

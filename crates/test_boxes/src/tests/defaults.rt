@@ -106,16 +106,18 @@ fn one_reference(alloc: Global) -> DrefBox {
     }
 }
 
-#[test]
-fn default_hdlr_emsg_url_and_dref(rt: HostRuntime) -> Result<(), Fail> {
-    let alloc = rt.alloc();
-    let hdlr = HdlrBox {
+fn no_handler(alloc: Global) -> HdlrBox {
+    HdlrBox {
         version: 0,
         flags: 0,
         handler_type: FourCC::from([0, 0, 0, 0]),
         name: Text::new(alloc),
-    };
-    let emsg = EmsgBox {
+    }
+}
+
+/// An event without a time.
+fn no_event(alloc: Global) -> EmsgBox {
+    EmsgBox {
         version: 0,
         flags: 0,
         timescale: 0,
@@ -126,9 +128,14 @@ fn default_hdlr_emsg_url_and_dref(rt: HostRuntime) -> Result<(), Fail> {
         scheme_id_uri: Text::new(alloc),
         value: Text::new(alloc),
         message_data: Entries::new(alloc),
-    };
-    made::equal(Ok(HdlrBox::default_in(alloc)), Ok(hdlr))
-        .and(made::equal(Ok(EmsgBox::default_in(alloc)), Ok(emsg)))
+    }
+}
+
+#[test]
+fn default_hdlr_emsg_url_and_dref(rt: HostRuntime) -> Result<(), Fail> {
+    let alloc = rt.alloc();
+    made::equal(Ok(HdlrBox::default_in(alloc)), Ok(no_handler(alloc)))
+        .and(made::equal(Ok(EmsgBox::default_in(alloc)), Ok(no_event(alloc))))
         .and(made::equal(Ok(UrlBox::default_in(alloc)), Ok(same_file(alloc))))
         .and(made::equal(Ok(DrefBox::default_in(alloc)), Ok(one_reference(alloc))))?;
     Ok(())

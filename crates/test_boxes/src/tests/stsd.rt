@@ -65,22 +65,27 @@ fn expect_written_alone(
     expect_bytes(alloc, stsd, &stsd_bytes(alloc, size, child)?)
 }
 
+fn stsd_after_hev1() -> StsdBox {
+    StsdBox {
+        hev1: None,
+        ..stsd_after_avc1()
+    }
+}
+
+fn stsd_of_sound_and_text() -> StsdBox {
+    StsdBox {
+        vp09: None,
+        ..stsd_after_hev1()
+    }
+}
+
 #[test]
 fn the_first_entry_is_written(rt: HostRuntime) -> Result<(), Fail> {
     let alloc = rt.alloc();
-    let after_hev1 = StsdBox {
-        hev1: None,
-        ..stsd_after_avc1()
-    };
-    let of_sound_and_text = StsdBox {
-        mp4a: Some(mp4a()),
-        tx3g: Some(tx3g()),
-        ..StsdBox::default_in(alloc)
-    };
     expect_written_alone(alloc, stsd_of_all(alloc), 138, &AVC1)
         .and(expect_written_alone(alloc, Ok(stsd_after_avc1()), 111, &HEV1))
-        .and(expect_written_alone(alloc, Ok(after_hev1), 122, &VP09))
-        .and(expect_written_alone(alloc, Ok(of_sound_and_text), 95, &MP4A))?;
+        .and(expect_written_alone(alloc, Ok(stsd_after_hev1()), 122, &VP09))
+        .and(expect_written_alone(alloc, Ok(stsd_of_sound_and_text()), 95, &MP4A))?;
     Ok(())
 }
 
@@ -93,15 +98,20 @@ fn unwritable_mp4a() -> Mp4aBox {
     mp4a
 }
 
+fn flagged_stsd(alloc: Global) -> StsdBox {
+    StsdBox {
+        flags: 1 << 24,
+        ..StsdBox::default_in(alloc)
+    }
+}
+
 #[test]
 fn unwritable_stsd(rt: HostRuntime) -> Result<(), Fail> {
-    let flagged = StsdBox {
-        flags: 1 << 24,
-        ..StsdBox::default_in(rt.alloc())
-    };
-    made::unwritable_of_size(rt.alloc(), Ok(stsd_of(rt.alloc(), unwritable_mp4a())), 91).and(
-        made::unwritable(rt.alloc(), Ok(flagged)),
-    )?;
+    let alloc = rt.alloc();
+    made::unwritable_of_size(alloc, Ok(stsd_of(alloc, unwritable_mp4a())), 91).and(made::unwritable(
+        alloc,
+        Ok(flagged_stsd(alloc)),
+    ))?;
     Ok(())
 }
 

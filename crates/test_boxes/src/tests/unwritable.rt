@@ -135,17 +135,21 @@ fn flags_past_24_bits(rt: HostRuntime) -> Result<(), Fail> {
     Ok(())
 }
 
-#[test]
-fn flags_past_24_bits_in_references(rt: HostRuntime) -> Result<(), Fail> {
-    let alloc = rt.alloc();
-    let same_file = UrlBox {
+/// A `dref` of the same file, whose child has flags that don't fit.
+fn dref_of_flagged(alloc: Global) -> DrefBox {
+    dref_of(Some(UrlBox {
         version: 0,
         flags: 1 << 24,
         location: Text::new(alloc),
-    };
+    }))
+}
+
+#[test]
+fn flags_past_24_bits_in_references(rt: HostRuntime) -> Result<(), Fail> {
+    let alloc = rt.alloc();
     made::unwritable(alloc, flagged_url(alloc))
         .and(expect_unwritable_dref(alloc, flagged_dref(alloc)))
-        .and(expect_unwritable_dref(alloc, Ok(dref_of(Some(same_file)))))?;
+        .and(expect_unwritable_dref(alloc, Ok(dref_of_flagged(alloc))))?;
     Ok(())
 }
 
