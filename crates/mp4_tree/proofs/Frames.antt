@@ -1,6 +1,6 @@
 -- What a step says of the box at a place, and when a place is that of a frame.
-use Rattle.std.proofs.Common.{◌≡◌, ℕ, ◌+◌, ◌-◌, ◌^◌, ◌<◌, ◌≤◌, Bool, true, false, List, length, take, min, None, Some, Result, Ok, Err, refl, sym, ap, ◌∙◌, arith, subst}
-use Rattle.std.specs.Prelude.{nat_lt, nat_le, ◌==◌, ◌&&◌}
+use Rattle.std.proofs.Common.{◌≡◌, ℕ, ◌+◌, ◌-◌, ◌^◌, ◌<◌, ◌≤◌, Bool, true, false, List, length, take, None, Some, Result, Ok, Err, refl, sym, ap, arith, subst}
+use Rattle.std.specs.Prelude.{nat_lt, ◌==◌, ◌&&◌}
 use Rattle.std.specs.declared.option.Option.{Option}
 use Rattle.std.proofs.lemmas.Bool.{cond_both, and_parts, ltb-true, ltb-false, le-ltb, ne_eqb}
 use Rattle.std.proofs.lemmas.List.{length-take-le}
@@ -13,7 +13,7 @@ use Rattle.mp4_frame.proofs.Heads.{head_room}
 use Rattle.mp4_tree.specs.Kinds.{fields_before, level_after}
 use Rattle.mp4_tree.specs.Place.{code_at, place_of_head, place_of, place}
 use Rattle.mp4_tree.specs.Tops.{is_whole}
-use Rattle.mp4_tree.specs.Tree.{four_cc, if_whole, step_by, step_of_code, step_of_what, step_of, step}
+use Rattle.mp4_tree.specs.Tree.{four_cc, if_whole, step_by, step_of_code, step_of_what, step}
 use Rattle.mp4_tree.specs.Words.{words}
 use Rattle.mp4_tree.specs.declared.level.Level.{Level}
 use Rattle.mp4_tree.specs.declared.place.Place.{Place}

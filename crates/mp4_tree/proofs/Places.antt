@@ -1,16 +1,14 @@
 -- Each box is in the content of an earlier box, or at the top level, and there it is a frame if it is whole.
-use Rattle.std.proofs.Common.{◌≡◌, ℕ, zero, suc, ◌+◌, ◌-◌, ◌^◌, ◌<◌, ◌≤◌, Bool, true, false, cond, List, [], ◌∷◌, length, take, None, Some, Ok, refl, sym, ap, ◌∙◌, arith, subst, inl, inr}
+use Rattle.std.proofs.Common.{◌≡◌, ℕ, zero, suc, ◌+◌, ◌-◌, ◌^◌, ◌<◌, ◌≤◌, Bool, true, false, cond, List, [], ◌∷◌, length, take, None, Some, refl, sym, ap, ◌∙◌, arith, subst, inl, inr}
 use Rattle.std.specs.Prelude.{nat_le, All}
 use Rattle.std.specs.List.{Contains}
 use Rattle.std.specs.declared.option.Option.{Option}
 use Rattle.std.proofs.lemmas.Bool.{leb-false}
 use Rattle.std.proofs.lemmas.List.Elements.{All-nil, All-cons, All-append, Contains-append_left, Contains-append_right}
 use Rattle.mp4_frame.specs.Heads.{frame}
-use Rattle.mp4_frame.specs.declared.frame.Frame.{Frame}
 use Rattle.mp4_tree.specs.Place.{place}
 use Rattle.mp4_tree.specs.Places.{IsAround, IsFrame, IsPlaced}
-use Rattle.mp4_tree.specs.Tops.{is_whole}
-use Rattle.mp4_tree.specs.Tree.{GoesOn, StaysIn, four_cc, step, boxes_after, boxes_at_most, boxes_of, top}
+use Rattle.mp4_tree.specs.Tree.{StaysIn, four_cc, step, boxes_after, boxes_at_most, boxes_of, top}
 use Rattle.mp4_tree.specs.declared.level.Level.{Level}
 use Rattle.mp4_tree.specs.declared.place.Place.{Place}
 use Rattle.mp4_tree.specs.declared.step.Step.{Step}

@@ -1,15 +1,14 @@
 -- The search for the box at a path, a box at a time.
-use Rattle.std.proofs.Common.{◌≡◌, ℕ, zero, suc, ◌+◌, ◌-◌, ◌<◌, ◌≤◌, Bool, true, false, cond, List, [], ◌∷◌, length, drop, get_or, None, Some, refl, sym, ap, ◌∙◌, arith, subst}
-use Rattle.std.specs.Prelude.{IfSome, nat_lt, ◌==◌, ◌&&◌}
+use Rattle.std.proofs.Common.{◌≡◌, ℕ, ◌+◌, ◌-◌, ◌<◌, ◌≤◌, true, false, cond, List, [], ◌∷◌, length, drop, get_or, None, Some, refl, sym, ap, ◌∙◌, arith}
+use Rattle.std.specs.Prelude.{nat_lt, ◌==◌}
 use Rattle.std.specs.declared.option.Option.{Option}
-use Rattle.std.proofs.lemmas.Bool.{cond_both, lt-ltb, le-ltb, ltb-true, ltb-false, eq-eqb, ne_eqb}
+use Rattle.std.proofs.lemmas.Bool.{cond_both, lt-ltb, le-ltb, ltb-true, eq-eqb, ne_eqb}
 use Rattle.std.proofs.lemmas.List.{drop-drop, drop_more}
 use Rattle.mp4_frame.specs.declared.four_cc.FourCC.{FourCC}
 use Rattle.mp4_tree.specs.Paths.{inside, is_code, is_meant, or_in, of_nth, at_path}
-use Rattle.mp4_tree.specs.Search.{at_rest, sought, sought_after}
+use Rattle.mp4_tree.specs.Search.{at_rest, sought}
 use Rattle.mp4_tree.specs.declared.path.PathPart.{PathPart}
 use Rattle.mp4_tree.specs.declared.search.Search.{Search}
-use Rattle.mp4_tree.specs.declared.search.Turn.{Turn}
 use Rattle.mp4_tree.specs.declared.tree_box.TreeBox.{TreeBox}
 
 -- all boxes are in the file

@@ -1,5 +1,5 @@
 -- The whole boxes of depth 0 among those of a file are the frames of its top level, up to the first fault.
-use Rattle.std.proofs.Common.{◌≡◌, ℕ, zero, suc, ◌+◌, ◌-◌, ◌^◌, ◌<◌, ◌≤◌, Bool, true, false, cond, List, [], ◌∷◌, ◌++◌, length, take, None, Some, Result, Ok, Err, refl, sym, ap, ◌∙◌, arith, subst}
+use Rattle.std.proofs.Common.{◌≡◌, ℕ, zero, suc, ◌-◌, ◌^◌, ◌<◌, Bool, true, false, cond, List, [], ◌∷◌, ◌++◌, length, take, None, Some, Result, refl, sym, ap, ◌∙◌, arith, subst}
 use Rattle.std.specs.Prelude.{nat_le, ◌==◌, ◌&&◌}
 use Rattle.std.specs.declared.option.Option.{Option}
 use Rattle.std.proofs.lemmas.Bool.{cond_both, leb-false, ne_eqb}
@@ -19,7 +19,6 @@ use Rattle.mp4_tree.specs.declared.place.Place.{Place}
 use Rattle.mp4_tree.specs.declared.step.Step.{Step}
 use Rattle.mp4_tree.specs.declared.tree_box.TreeBox.{TreeBox}
 use Rattle.mp4_tree.proofs.Frames.{LeadsTo, IsStepOf, IsOfFrame, IsOfNone, step_is, place_whole, place_none}
-use Rattle.mp4_tree.proofs.Steps.{none_at_most}
 
 -- a box that is deeper is none of the top level
 deep_box : (x : TreeBox) → 0 < x.depth → top_box x ≡ []

@@ -3,9 +3,8 @@ use Rattle.std.proofs.Common.{◌≡◌, ℕ, ◌-◌, ◌<◌, ◌≤◌, List,
 use Rattle.std.specs.Prelude.{IfSome}
 use Rattle.std.proofs.lemmas.List.{reverse-append}
 use Rattle.std.specs.declared.option.Option.{Option}
-use Rattle.mp4_tree.specs.Source.{Known}
-use Rattle.mp4_tree.specs.Tree.{GoesOn, StaysIn, step, boxes_after, boxes_in, boxes_of, top}
-use Rattle.mp4_tree.specs.Walk.{Walk, IsWalk, Nested, Closes, Comes, unwound, with_inner, walk_at, left, bytes_left}
+use Rattle.mp4_tree.specs.Tree.{GoesOn, StaysIn, step, boxes_after, boxes_in}
+use Rattle.mp4_tree.specs.Walk.{Nested, Closes, unwound, with_inner}
 use Rattle.mp4_tree.specs.declared.level.Level.{Level}
 use Rattle.mp4_tree.specs.declared.step.Step.{Step}
 use Rattle.mp4_tree.specs.declared.tree_box.TreeBox.{TreeBox}

@@ -6,8 +6,6 @@ use Rattle.mp4_frame.specs.FourCC.{four_cc_of}
 use Rattle.mp4_frame.specs.Heads.{frame}
 use Rattle.mp4_frame.specs.declared.frame.Frame.{Frame}
 use Rattle.mp4_tree.specs.Tops.{is_whole}
-use Rattle.mp4_tree.specs.Tree.{top}
-use Rattle.mp4_tree.specs.declared.level.Level.{Level}
 use Rattle.mp4_tree.specs.declared.tree_box.TreeBox.{TreeBox}
 
 -- a run of boxes of this depth up to `end` has what is at o: it is the top level of the file, or in one of these boxes, which

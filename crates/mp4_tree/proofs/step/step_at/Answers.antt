@@ -1,4 +1,4 @@
-use Rattle.std.proofs.Common.{ℕ, List, ◌≡◌, ◌-◌, arith, rules, sym, ◌∙◌, ap, length, take, min}
+use Rattle.std.proofs.Common.{◌≡◌, ◌-◌, arith, rules, ◌∙◌, length, min}
 use Rattle.std.proofs.lemmas.Option.{IfSome_then}
 use Rattle.std.proofs.lemmas.List.{take_at}
 use Rattle.mp4_tree.proofs.Steps.{place_goes_on}

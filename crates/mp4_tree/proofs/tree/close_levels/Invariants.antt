@@ -1,5 +1,5 @@
 -- The levels that were closed are over. Each turn takes one of those around.
-use Rattle.std.proofs.Common.{ℕ, ◌∷◌, reverse, vec_len}
+use Rattle.std.proofs.Common.{◌∷◌, reverse, vec_len}
 use Rattle.mp4_tree.specs.Walk.{Closes}
 use Rattle.mp4_tree.proofs.tree.close_levels.Given as goal
 
