@@ -9,3 +9,4 @@ pub mod Refuted
 pub mod Order
 pub mod Fragments
 pub mod FragmentCalls
+pub mod AtTime

@@ -10,6 +10,7 @@ mod fragment_fault;
 mod fragment_place;
 mod fragment_samples;
 pub mod laws;
+mod lookup;
 mod run_place;
 mod sample;
 mod sample_tables;

@@ -1,6 +1,7 @@
 //! The tables of a track that agree.
 
-ghost use Rattle.std.specs.Prelude.{◌≡◌, ◌<◌, ◌↔◌, IfOk, IsOk, IfErr, IfSome, IsSome, IsTrue};
+ghost use Rattle.std.specs.Prelude.{◌≡◌, ◌<◌, ◌≤◌, ◌↔◌, IfOk, IsOk, IfErr, IfSome, IfNone, IsSome, IsTrue};
+ghost use Rattle.mp4_samples.specs.Runs.{Covers, start_of};
 ghost use Rattle.mp4_samples.specs.Samples.{AreConsistent, IsSample, sample_count};
 ghost use Rattle.mp4_samples.specs.Disagreements.{Disagrees};
 ghost use Rattle.mp4_samples.specs.Gives.{begins};
@@ -8,6 +9,7 @@ ghost use Rattle.mp4_samples.specs.Gives.{begins};
 use crate::access::sample_of;
 use crate::checks::check;
 use crate::disagreement::Disagreement;
+use crate::lookup::number_at;
 use crate::sample::Sample;
 use crate::samples::Samples;
 use crate::tables::Tables;
@@ -57,8 +59,7 @@ impl<'a> SampleTables<'a> {
     }
 
     /// The sample of a number, counted from 0; none from `len` on. It takes a step a run, and one for each sync sample
-    /// and, where sizes are listed, each earlier sample of the same chunk. `SampleIndex` is faster where many are asked
-    /// for.
+    /// and, where sizes are listed, each earlier sample of the same chunk.
     pub fn sample(&self, number: u32) -> Option<Sample>
         ensures sample { IfSome result (IsSample self.now number) }
         ensures counted { IsSome result ↔ (number < sample_count self.now) }
@@ -67,6 +68,20 @@ impl<'a> SampleTables<'a> {
             return None;
         }
         Some(sample_of(&self.tables, number))
+    }
+
+    /// The number of the sample that lasts at a time, in the timescale of the media; none from the end of the last one
+    /// on. A sample without a duration lasts at no time. It takes a step a run.
+    pub fn number_at(&self, time: u64) -> Option<u32>
+        ensures within { IfSome result (λ number. number < sample_count self.now) }
+        ensures covers { IfSome result (Covers self.now.stts.now.entries time) }
+        ensures none { IfNone result (start_of self.now.stts.now.entries (sample_count self.now) ≤ time) }
+    {
+        number_at(
+            self.tables.stts.entries.as_slice(),
+            self.tables.stsz.sample_count,
+            time,
+        )
     }
 
     /// The samples, from the first to the last.
