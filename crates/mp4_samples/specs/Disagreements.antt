@@ -18,11 +18,17 @@ abbrev pub first_chunks : List StscEntry → List ℕ
 first_chunks es = map (λ e. e.first_chunk) es
 
 abbrev pub Disagrees : Tables → Disagreement → Type 0
-Disagrees t (SampleSizes count listed) = (t.stsz.now.sample_size ≡ 0) × (count ≡ sample_count t) × (listed ≡ length t.stsz.now.sample_sizes) × (listed ≢ count)
+Disagrees t (SampleSizes count listed) =
+    (t.stsz.now.sample_size ≡ 0) × (count ≡ sample_count t)
+    × (listed ≡ length t.stsz.now.sample_sizes) × (listed ≢ count)
 Disagrees t (FirstChunk c) = (slice_get (first_chunks t.stsc.now.entries) 0 ≡ Some c) × (c ≢ 1)
 Disagrees t (ChunkOrder i) = IsNotAbove (first_chunks t.stsc.now.entries) i
 Disagrees t (ChunkCount count) = (count ≡ length (offsets_of t.chunk_offsets)) × (2 ^ 32 ≤ count)
-Disagrees t (Chunks count held) = (count ≡ sample_count t) × (held ≡ samples_through t.stsc.now.entries (length (offsets_of t.chunk_offsets))) × (held < count)
-Disagrees t (Durations count timed) = (count ≡ sample_count t) × (timed ≡ length (durations t.stts.now.entries)) × (timed < count)
+Disagrees t (Chunks count held) =
+    (count ≡ sample_count t) × (held ≡ samples_through t.stsc.now.entries (length (offsets_of t.chunk_offsets)))
+    × (held < count)
+Disagrees t (Durations count timed) =
+    (count ≡ sample_count t) × (timed ≡ length (durations t.stts.now.entries)) × (timed < count)
 Disagrees t (SyncSamples i) = IsNotAbove (stss_entries t.stss) i
-Disagrees t (Offset offset bytes) = Contains (offsets_of t.chunk_offsets) offset × (bytes ≡ bytes_of t.stsz.now 0 (sample_count t)) × (2 ^ 64 ≤ offset + bytes)
+Disagrees t (Offset offset bytes) =
+    Contains (offsets_of t.chunk_offsets) offset × (bytes ≡ bytes_of t.stsz.now 0 (sample_count t)) × (2 ^ 64 ≤ offset + bytes)

@@ -33,9 +33,14 @@ offset_of s = offset_before s.fragment s.run s.index
 abbrev pub time_of : FragmentProgress → ℕ
 time_of s = sample_time s.fragment s.run s.index
 
--- the next sample; why it can't be told, and then nothing more; or none, exactly after the last one or a fault, and it is
--- after the last run
+-- the next sample; or why it can't be told, and then nothing more; or none, exactly after the last one or a fault. After
+-- the last one the iterator is past the last run
 abbrev pub GivesFragmentSample : FragmentProgress → Option (Result Sample FragmentFault) → FragmentProgress → Type 0
-GivesFragmentSample s (Some (Ok x)) t = (s.ended ≡ false) × IsFragmentSample s.fragment (number_of s) x × (t.fragment ≡ s.fragment) × (number_of t ≡ number_of s + 1) × (t.ended ≡ false)
-GivesFragmentSample s (Some (Err e)) t = (s.ended ≡ false) × Faults s.fragment (number_of s) e × (t.fragment ≡ s.fragment) × (t.ended ≡ true)
-GivesFragmentSample s None t = (s.ended ≡ false → (number_of s ≡ sample_total s.fragment) × (t.run ≡ length s.fragment.runs.now) × (t.index ≡ 0)) × (s.ended ≡ true → t ≡ s) × (t.fragment ≡ s.fragment) × (t.ended ≡ true)
+GivesFragmentSample s (Some (Ok x)) t =
+    (s.ended ≡ false) × IsFragmentSample s.fragment (number_of s) x
+    × (t.fragment ≡ s.fragment) × (number_of t ≡ number_of s + 1) × (t.ended ≡ false)
+GivesFragmentSample s (Some (Err e)) t =
+    (s.ended ≡ false) × Faults s.fragment (number_of s) e × (t.fragment ≡ s.fragment) × (t.ended ≡ true)
+GivesFragmentSample s None t =
+    (s.ended ≡ false → (number_of s ≡ sample_total s.fragment) × (t.run ≡ length s.fragment.runs.now) × (t.index ≡ 0))
+    × (s.ended ≡ true → t ≡ s) × (t.fragment ≡ s.fragment) × (t.ended ≡ true)

@@ -37,7 +37,8 @@ size_in f t j = slice_index_or t.sample_sizes j (default_size f)
 
 -- a run can have flags for its first sample, in place of the default
 abbrev pub flags_in : Fragment → TrunBox → ℕ → ℕ
-flags_in f t j = slice_index_or t.sample_flags j (if j == 0 then unwrap_or t.first_sample_flags (default_flags f) else default_flags f)
+flags_in f t j =
+    slice_index_or t.sample_flags j (if j == 0 then unwrap_or t.first_sample_flags (default_flags f) else default_flags f)
 
 abbrev pub is_sync_in : Fragment → TrunBox → ℕ → Bool
 is_sync_in f t j = bit_and (flags_in f t j) SAMPLE_IS_NON_SYNC == 0
@@ -56,7 +57,8 @@ time_before f t j = sum_by (duration_in f t) (range_with_len 0 j)
 -- what data offsets count from: the base of the fragment, else the start of its moof if a flag says so, and else where
 -- the data of the fragment before it ends
 abbrev pub base_of : Fragment → ℕ
-base_of f = unwrap_or f.tfhd.now.base_data_offset (if has_flag f.tfhd.now.flags DEFAULT_BASE_IS_MOOF then f.moof else f.data_end)
+base_of f =
+    unwrap_or f.tfhd.now.base_data_offset (if has_flag f.tfhd.now.flags DEFAULT_BASE_IS_MOOF then f.moof else f.data_end)
 
 -- where a run begins: at its data offset, which counts from the base, or else where the run before it ends
 abbrev pub start_after : ℕ → ℤ → Option ℤ → ℤ
@@ -88,14 +90,25 @@ samples_of_runs f r = sum_by (λ (t : TrunBox). t.sample_count) (take r f.runs.n
 
 -- run r, and one without samples past the last
 abbrev pub no_run : TrunBox
-no_run = record { version = 0; flags = 0; sample_count = 0; data_offset = None; first_sample_flags = None; sample_durations = []; sample_sizes = []; sample_flags = []; sample_cts = [] }
+no_run = record {
+  version = 0;
+  flags = 0;
+  sample_count = 0;
+  data_offset = None;
+  first_sample_flags = None;
+  sample_durations = [];
+  sample_sizes = [];
+  sample_flags = [];
+  sample_cts = [];
+}
 
 abbrev pub run_at : Fragment → ℕ → TrunBox
 run_at f r = slice_index_or f.runs.now r no_run
 
 -- where sample j of run r begins, and when
 abbrev pub sample_offset : Fragment → ℕ → ℕ → ℤ
-sample_offset f r j = start_after (base_of f) (runs_end f r) (run_at f r).data_offset +ℤ pos (bytes_before f (run_at f r) j)
+sample_offset f r j =
+    start_after (base_of f) (runs_end f r) (run_at f r).data_offset +ℤ pos (bytes_before f (run_at f r) j)
 
 abbrev pub sample_time : Fragment → ℕ → ℕ → ℕ
 sample_time f r j = start_of f + time_of_runs f r + time_before f (run_at f r) j

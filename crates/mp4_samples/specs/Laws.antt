@@ -16,21 +16,34 @@ abbrev pub DisagreementRefutes : Type 0
 DisagreementRefutes = (t : Tables) (d : Disagreement) → Disagrees t d → ¬ AreConsistent t
 
 abbrev pub SamplesAreAdjacent : Type 0
-SamplesAreAdjacent = (t : Tables) (k : ℕ) (a b : Sample) → IsSample t k a → IsSample t (k + 1) b → a.chunk ≡ b.chunk → b.offset ≡ a.offset + a.size
+SamplesAreAdjacent =
+    (t : Tables) (k : ℕ) (a b : Sample) → IsSample t k a → IsSample t (k + 1) b → a.chunk ≡ b.chunk
+    → b.offset ≡ a.offset + a.size
 
 abbrev pub SamplesDoNotOverlap : Type 0
-SamplesDoNotOverlap = (t : Tables) (j k : ℕ) (a b : Sample) → j < k → IsSample t j a → IsSample t k b → a.chunk ≡ b.chunk → a.offset + a.size ≤ b.offset
+SamplesDoNotOverlap =
+    (t : Tables) (j k : ℕ) (a b : Sample) → j < k → IsSample t j a → IsSample t k b → a.chunk ≡ b.chunk
+    → a.offset + a.size ≤ b.offset
 
 abbrev pub TimesFollow : Type 0
-TimesFollow = (t : Tables) (k : ℕ) (a b : Sample) → IsSample t k a → IsSample t (k + 1) b → b.start_time ≡ a.start_time + a.duration
+TimesFollow =
+    (t : Tables) (k : ℕ) (a b : Sample) → IsSample t k a → IsSample t (k + 1) b
+    → b.start_time ≡ a.start_time + a.duration
 
 abbrev pub TimesDoNotDecrease : Type 0
-TimesDoNotDecrease = (t : Tables) (j k : ℕ) (a b : Sample) → j < k → IsSample t j a → IsSample t k b → a.start_time + a.duration ≤ b.start_time
+TimesDoNotDecrease =
+    (t : Tables) (j k : ℕ) (a b : Sample) → j < k → IsSample t j a → IsSample t k b
+    → a.start_time + a.duration ≤ b.start_time
 
 -- the last sample ends at the sum of the durations of all
 abbrev pub DurationsAddUp : Type 0
-DurationsAddUp = (t : Tables) (k : ℕ) (s : Sample) → k + 1 ≡ sample_count t → IsSample t k s → s.start_time + s.duration ≡ sum_by (duration_of t.stts.now.entries) (range_with_len 0 (sample_count t))
+DurationsAddUp =
+    (t : Tables) (k : ℕ) (s : Sample) → k + 1 ≡ sample_count t → IsSample t k s
+    → s.start_time + s.duration ≡ sum_by (duration_of t.stts.now.entries) (range_with_len 0 (sample_count t))
 
 -- and that is what the entries of stts come to, where they count no more samples than there are
 abbrev pub EntriesAddUp : Type 0
-EntriesAddUp = (t : Tables) (k : ℕ) (s : Sample) → k + 1 ≡ sample_count t → length (durations t.stts.now.entries) ≡ sample_count t → IsSample t k s → s.start_time + s.duration ≡ sum_by (λ (e : SttsEntry). e.sample_count * e.sample_delta) t.stts.now.entries
+EntriesAddUp =
+    (t : Tables) (k : ℕ) (s : Sample) → k + 1 ≡ sample_count t
+    → length (durations t.stts.now.entries) ≡ sample_count t → IsSample t k s
+    → s.start_time + s.duration ≡ sum_by (λ (e : SttsEntry). e.sample_count * e.sample_delta) t.stts.now.entries

@@ -26,10 +26,11 @@ pub struct Fragment<'a> {
     pub runs: &'a [TrunBox],
     /// Where its `moof` begins, in bytes from the front of the file.
     pub moof: u64,
-    /// Where the data of the `traf` before it in the same `moof` ends; for the first one, where the `moof` begins. It is
-    /// taken where `tfhd` names no base.
+    /// Where the data of the `traf` before it in the same `moof` ends; for the first one, where the `moof` begins. It
+    /// is taken where `tfhd` names no base.
     pub data_end: u64,
-    /// When the samples of the track before it end, in the timescale of the media. It is taken where there is no `tfdt`.
+    /// When the samples of the track before it end, in the timescale of the media. It is taken where there is no
+    /// `tfdt`.
     pub time_end: u64,
 }
 

@@ -12,8 +12,8 @@ use crate::sample::Sample;
 use std::iter::FusedIterator;
 use std::marker::Model;
 
-/// The samples of a fragment, from the first to the last. Each item is a sample, or why it can't be told, and after that
-/// nothing comes. Contracts see the `FragmentProgress`.
+/// The samples of a fragment, from the first to the last. Each item is a sample, or why it can't be told, and after
+/// that nothing comes. Contracts see the `FragmentProgress`.
 #[derive(Drop)]
 pub struct FragmentSamples<'a> {
     fragment: Fragment<'a>,
@@ -44,16 +44,16 @@ impl<'a> FragmentSamples<'a> {
         }
     }
 
-    /// When the sample ends that came last, in the timescale of the media. After the last one that is the `time_end` of the
-    /// next fragment of the track.
+    /// When the sample ends that came last, in the timescale of the media. After the last one that is the `time_end` of
+    /// the next fragment of the track.
     pub fn time(&self) -> u64
         ensures { result ≡ time_of self.now }
     {
         self.place.time
     }
 
-    /// Where the sample ends that came last. After the last one that is the `data_end` of the next `traf` of the `moof`.
-    /// None if it is outside the file, which it can be where a run has no samples.
+    /// Where the sample ends that came last. After the last one that is the `data_end` of the next `traf` of the
+    /// `moof`. None if it is outside the file, which it can be where a run has no samples.
     pub fn offset(&self) -> Option<u64>
         ensures some { IfSome result (λ offset. pos offset ≡ offset_of self.now) }
         ensures none { IfNone result (¬ HasOffset (offset_of self.now) 0) }
