@@ -1,0 +1,7 @@
+//! Callers of `mp4_samples`, and its tests, over tables and fragments that were worked out by hand from
+//! ISO/IEC 14496-12.
+#![tactic(auto)]
+
+pub mod callers;
+#[cfg(test)]
+mod tests;
