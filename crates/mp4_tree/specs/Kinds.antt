@@ -17,8 +17,8 @@ containers =
 abbrev pub is_container : ℕ → Bool
 is_container code = list_any (λ c. code == c) containers
 
--- the fields of a sound entry (ISO/IEC 14496-12, 12.2.3): those of SampleEntry and 20 bytes, and in QuickTime 16 more in
--- version 1 and 36 more in version 2
+-- the fields of a sound entry (ISO/IEC 14496-12, 12.2.3): those of SampleEntry and 20 bytes, and in QuickTime 16 more
+-- in version 1 and 36 more in version 2
 abbrev pub sound_fields : Level → ℕ → ℕ
 sound_fields l version =
     if l.is_quicktime && (version == 1) then 44 else if l.is_quicktime && (version == 2) then 64 else 28
@@ -32,9 +32,9 @@ entry_fields l code w =
     if code == codes.TX3G then Some 38 else
     if (code == kinds.WVTT) || (code == kinds.MP4S) then Some 8 else None
 
--- the fields before the boxes in a content of `room` bytes: in an `ilst` each item holds boxes; a `meta` has version and
--- flags (8.11.1), or none, as QuickTime writes it: then its first box is an `hdlr`; `stsd` and `dref` have version, flags
--- and a count (8.5.2, 8.7.2)
+-- the fields before the boxes in a content of `room` bytes: in an `ilst` each item holds boxes; a `meta` has version
+-- and flags (8.11.1), or none, as QuickTime writes it: then its first box is an `hdlr`; `stsd` and `dref` have version,
+-- flags and a count (8.5.2, 8.7.2)
 abbrev pub fields_of : Level → ℕ → Words → ℕ → Option ℕ
 fields_of l code w room =
     if l.parent == codes.ILST then Some 0 else
@@ -51,8 +51,8 @@ if_room room (Some n) = if nat_lt room n then None else Some n
 abbrev pub fields_before : Level → ℕ → Words → ℕ → Option ℕ
 fields_before l code w room = if_room room (fields_of l code w room)
 
--- what is known after a box: an `hdlr` in a `mdia` says the handler of the media (8.4.3), and an `ftyp` at the top level the
--- major brand (4.3)
+-- what is known after a box: an `hdlr` in a `mdia` says the handler of the media (8.4.3), and an `ftyp` at the top
+-- level the major brand (4.3)
 abbrev pub level_after : Level → ℕ → Words → Level
 level_after l code w = record {
   depth = l.depth;

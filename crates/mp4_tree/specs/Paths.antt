@@ -30,7 +30,8 @@ of_nth found d code k [] = None
 of_nth found d code k (x ∷ xs) =
     if is_meant d code x then (if k == 0 then found x xs else of_nth found d code (k - 1) xs) else of_nth found d code k xs
 
--- the box at a path, whose first part is of depth d: each part says which of the boxes of its code is meant in the box before
+-- the box at a path, whose first part is of depth d: each part says which of the boxes of its code is meant in the box
+-- before
 abbrev pub at_path : ℕ → List PathPart → List TreeBox → Option TreeBox
 at_path d [] boxes = None
 at_path d (part ∷ parts) boxes =

@@ -18,8 +18,8 @@ code_at bytes o = if nat_lt (length bytes) (o + 8) then None else Some (number b
 abbrev pub unread : Level → ℕ → Option ℕ → What → Place
 unread l o code why = record { code = code; content = l.end; end = l.end; length = l.end - o; what = why }
 
--- a size of 0 means up to the end of the file, and is for its top level alone; a size counts 8 bytes at least; a box that
--- ends after its level is cut there
+-- a size of 0 means up to the end of the file, and is for its top level alone; a size counts 8 bytes at least; a box
+-- that ends after its level is cut there
 unfoldable pub place_of_head : Level → ℕ → Head → Place
 place_of_head l o h =
     let content = h.start + 8 in

@@ -8,8 +8,8 @@ use Rattle.mp4_frame.specs.declared.frame.Frame.{Frame}
 use Rattle.mp4_tree.specs.Tops.{is_whole}
 use Rattle.mp4_tree.specs.declared.tree_box.TreeBox.{TreeBox}
 
--- a run of boxes of this depth up to `end` has what is at o: it is the top level of the file, or in one of these boxes, which
--- is one less deep. There it is after a header, and ends with the box or where that is cut
+-- a run of boxes of this depth up to `end` has what is at o: it is the top level of the file, or in one of these boxes,
+-- which is one less deep. There it is after a header, and ends with the box or where that is cut
 abbrev pub IsAround : List ℕ → List TreeBox → ℕ → ℕ → ℕ → Type 0
 IsAround B boxes depth end o = ((depth ≡ 0) × (end ≡ length B))
     ⊎ ((y : TreeBox) × Contains boxes y × (depth ≡ y.depth + 1) × (y.position + 8 ≤ o) × (end ≤ y.position + y.length))

@@ -6,7 +6,8 @@ use Rattle.mp4_tree.specs.Tree.{boxes_in}
 use Rattle.mp4_tree.specs.declared.level.Level.{Level}
 use Rattle.mp4_tree.specs.declared.tree_box.TreeBox.{TreeBox}
 
--- the bytes of the source, if they are known, how many they are, the position, and the levels there, the innermost first
+-- the bytes of the source, if they are known, how many they are, the position, and the levels there, the innermost
+-- first
 pub record Walk : Type 0 where
   pub bytes : Option (List ℕ)
   pub length : ℕ

@@ -7,8 +7,9 @@ use Rattle.mp4_tree.specs.declared.words.Words.{Words}
 abbrev pub number_in : List ℕ → ℕ → ℕ → ℕ → ℕ
 number_in bytes end o w = if nat_lt end (o + w) then 0 else number bytes o w
 
--- In a content from `content` to `end`: the major brand of an `ftyp`, the code of the first box of a `meta` without version
--- and flags, the handler of an `hdlr` (ISO/IEC 14496-12, 4.3, 8.11.1, 8.4.3), and the version of a QuickTime sound entry.
+-- In a content from `content` to `end`: the major brand of an `ftyp`, the code of the first box of a `meta` without
+-- version and flags, the handler of an `hdlr` (ISO/IEC 14496-12, 4.3, 8.11.1, 8.4.3), and the version of a QuickTime
+-- sound entry.
 abbrev pub words : List ℕ → ℕ → ℕ → Words
 words bytes content end = record {
   brand = number_in bytes end content 4;

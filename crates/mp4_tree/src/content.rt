@@ -8,8 +8,8 @@ use crate::tree_box::TreeBox;
 use std::alloc::Global;
 use std::io;
 
-/// The bytes of a source of this many bytes from a position on, after some that are skipped: `long` of them, or as many as
-/// there are.
+/// The bytes of a source of this many bytes from a position on, after some that are skipped: `long` of them, or as many
+/// as there are.
 pub fn read_piece<S: Source>(
     alloc: Global,
     source: &mut S,

@@ -1,5 +1,5 @@
-//! Theorems of what a walk over the boxes of a file gives. The bodies do nothing: the contracts speak of the definitions
-//! alone.
+//! Theorems of what a walk over the boxes of a file gives. The bodies do nothing: the contracts speak of the
+//! definitions alone.
 
 ghost use Rattle.std.specs.Prelude.{◌≡◌, All};
 ghost use Rattle.mp4_tree.specs.Places.{IsPlaced};
@@ -14,8 +14,8 @@ pub fn tops_are_frames(bytes: &[u8])
     let _length = bytes.len();
 }
 
-/// Each whole box of a file is a frame of the content of the box around it, which is one of the boxes and one less deep,
-/// or of the file.
+/// Each whole box of a file is a frame of the content of the box around it, which is one of the boxes and one less
+/// deep, or of the file.
 pub fn boxes_are_placed(bytes: &[u8])
     ensures { All (IsPlaced bytes.now (boxes_of bytes.now)) (boxes_of bytes.now) }
 {

@@ -28,8 +28,8 @@ const FAULTY: &[u8] = b"\0\0\0\x0Cfree1234\0\0\0\x64moov\0\0\0\x0Cudta\0\0\0\0\0
 const TRACKS: &[u8] =
     b"\0\0\0\x30moov\0\0\0\x10trak\0\0\0\x08free\0\0\0\x18trak\0\0\0\x08udta\0\0\0\x08udta";
 
-/// What is found, as a number from 0 on, its depth, position and length, and where the boxes in it begin, or 0 if it is not
-/// gone into.
+/// What is found, as a number from 0 on, its depth, position and length, and where the boxes in it begin, or 0 if it is
+/// not gone into.
 fn numbers(found: TreeBox) -> [u64; 5] {
     [
         found.what as u64,

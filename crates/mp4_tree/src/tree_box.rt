@@ -32,8 +32,8 @@ pub struct TreeBox {
     pub position: u64,
     /// How long its header is, with the size: 8 or 16. Where there is no box, as long as what is left.
     pub header_length: u64,
-    /// How long it is: a box as its header says, also where the file ends before it; where there is no box, what is left
-    /// of the content around it.
+    /// How long it is: a box as its header says, also where the file ends before it; where there is no box, what is
+    /// left of the content around it.
     pub length: u64,
     /// Where the first box in it begins, if it is gone into: the boxes in it follow.
     pub children: Option<u64>,
