@@ -1,0 +1,197 @@
+//! Fields that are read from bytes: those that begin a box that holds boxes, and those of sample entries of any code.
+
+ghost use Rattle.std.specs.Prelude.{◌≤◌, length};
+
+use crate::flag_names::{FlagName, NONE};
+use crate::sink::FieldSink;
+use crate::value::Value;
+use mp4_frame::{i16_at, u8_at, u16_at, u32_at};
+use mp4_stream::Result;
+
+/// How many bytes of fields a sample entry of video has before its boxes (ISO/IEC 14496-12, 12.1.3).
+pub const VISUAL_LENGTH: usize = 78;
+
+/// How many bytes of fields a sample entry of sound has before its boxes (ISO/IEC 14496-12, 12.2.3).
+pub const SOUND_LENGTH: usize = 28;
+
+/// Hands what begins a full box to a sink: version and flags (ISO/IEC 14496-12, 4.2).
+pub fn put_full<S: FieldSink>(
+    version: u8,
+    flags: u32,
+    names: &'static [FlagName],
+    sink: &mut S,
+) -> Result<()> {
+    sink.field("version", Value::Number(u64::from(version)))?;
+    sink.field("flags", Value::Flags(flags, 6, names))
+}
+
+/// Hands the fields before the boxes of an `stsd` or a `dref` to a sink: version, flags and how many boxes it says that
+/// there are (ISO/IEC 14496-12, 8.5.2 and 8.7.2). They are the first 8 bytes of its content.
+pub fn put_list_head<S: FieldSink>(bytes: &[u8], sink: &mut S) -> Result<()>
+    requires { 8 ≤ length bytes.now }
+{
+    put_full(bytes[0], u32_at(bytes, 0) & 0xFF_FFFF, NONE, sink)?;
+    sink.field("entry_count", Value::Number(u64::from(u32_at(bytes, 4))))
+}
+
+/// The text of a compressor's name: a byte that says how long it is, and at most 31 bytes.
+fn compressor(bytes: &[u8]) -> &str
+    requires { 32 ≤ length bytes.now }
+{
+    let count = (bytes[0] as usize).min(31);
+    std::str::from_utf8(&bytes[1..1 + count]).unwrap_or("")
+}
+
+/// Hands the common fields of a sample entry of video to a sink (ISO/IEC 14496-12, 12.1.3). They are the first 78 bytes
+/// of its content.
+pub fn put_visual<S: FieldSink>(bytes: &[u8], sink: &mut S) -> Result<()>
+    requires { 78 ≤ length bytes.now }
+{
+    sink.field(
+        "data_reference_index",
+        Value::Number(u64::from(u16_at(bytes, 6))),
+    )?;
+    sink.field("width", Value::Number(u64::from(u16_at(bytes, 24))))?;
+    sink.field("height", Value::Number(u64::from(u16_at(bytes, 26))))?;
+    sink.field(
+        "horizresolution",
+        Value::Fixed(i64::from(u32_at(bytes, 28)), 16),
+    )?;
+    sink.field(
+        "vertresolution",
+        Value::Fixed(i64::from(u32_at(bytes, 32)), 16),
+    )?;
+    sink.field("frame_count", Value::Number(u64::from(u16_at(bytes, 40))))?;
+    sink.field("compressorname", Value::Text(compressor(&bytes[42..74])))?;
+    sink.field("depth", Value::Number(u64::from(u16_at(bytes, 74))))
+}
+
+/// Hands the fields that QuickTime's second version of a sound entry has after the common ones to a sink (QuickTime
+/// File Format, "Sound sample description (version 2)").
+fn put_second<S: FieldSink>(bytes: &[u8], sink: &mut S) -> Result<()>
+    requires { 64 ≤ length bytes.now }
+{
+    sink.field("audio_sample_rate", Value::Bytes(&bytes[32..40]))?;
+    sink.field(
+        "num_audio_channels",
+        Value::Number(u64::from(u32_at(bytes, 40))),
+    )?;
+    sink.field(
+        "const_bits_per_channel",
+        Value::Number(u64::from(u32_at(bytes, 48))),
+    )?;
+    sink.field(
+        "format_specific_flags",
+        Value::Flags(u32_at(bytes, 52), 8, NONE),
+    )?;
+    sink.field(
+        "const_bytes_per_audio_packet",
+        Value::Number(u64::from(u32_at(bytes, 56))),
+    )?;
+    sink.field(
+        "const_lpcm_frames_per_audio_packet",
+        Value::Number(u64::from(u32_at(bytes, 60))),
+    )
+}
+
+/// Hands the fields that QuickTime's first version of a sound entry has after the common ones to a sink (QuickTime File
+/// Format, "Sound sample description (version 1)").
+fn put_first<S: FieldSink>(bytes: &[u8], sink: &mut S) -> Result<()>
+    requires { 44 ≤ length bytes.now }
+{
+    sink.field(
+        "samples_per_packet",
+        Value::Number(u64::from(u32_at(bytes, 28))),
+    )?;
+    sink.field(
+        "bytes_per_packet",
+        Value::Number(u64::from(u32_at(bytes, 32))),
+    )?;
+    sink.field(
+        "bytes_per_frame",
+        Value::Number(u64::from(u32_at(bytes, 36))),
+    )?;
+    sink.field(
+        "bytes_per_sample",
+        Value::Number(u64::from(u32_at(bytes, 40))),
+    )
+}
+
+/// Hands the common fields of a sample entry of sound to a sink (ISO/IEC 14496-12, 12.2.3), and those of QuickTime's
+/// versions 1 and 2. The common ones are the first 28 bytes of its content.
+pub fn put_sound<S: FieldSink>(bytes: &[u8], quicktime: bool, sink: &mut S) -> Result<()>
+    requires { 28 ≤ length bytes.now }
+{
+    sink.field(
+        "data_reference_index",
+        Value::Number(u64::from(u16_at(bytes, 6))),
+    )?;
+    let version = u16_at(bytes, 8);
+    if quicktime {
+        sink.field("version", Value::Number(u64::from(version)))?;
+    }
+    sink.field("channelcount", Value::Number(u64::from(u16_at(bytes, 16))))?;
+    sink.field("samplesize", Value::Number(u64::from(u16_at(bytes, 18))))?;
+    sink.field("samplerate", Value::Fixed(i64::from(u32_at(bytes, 24)), 16))?;
+    match version {
+        1 if quicktime && bytes.len() >= 44 => put_first(bytes, sink),
+        2 if quicktime && bytes.len() >= 64 => put_second(bytes, sink),
+        _ => Ok(()),
+    }
+}
+
+/// The name of a type of metadata values (QuickTime File Format, "Well-known types").
+fn type_name(number: u32) -> &'static str {
+    match number {
+        0 => "binary",
+        1 => "text",
+        2 => "UTF-16 text",
+        13 => "JPEG",
+        14 => "PNG",
+        21 => "signed integer",
+        22 => "unsigned integer",
+        23 => "32-bit float",
+        24 => "64-bit float",
+        27 => "BMP",
+        _ => "other",
+    }
+}
+
+/// The signed number in 1, 2, 3 or 4 bytes.
+fn integer(bytes: &[u8]) -> Option<i64> {
+    match bytes.len() {
+        1 => Some(i64::from(u8_at(bytes, 0).cast_signed())),
+        2 => Some(i64::from(i16_at(bytes, 0))),
+        4 => Some(i64::from(u32_at(bytes, 0).cast_signed())),
+        _ => None,
+    }
+}
+
+/// Hands a metadata value of any type to a sink: the number of its type, and its text, its number or its bytes.
+pub fn put_data<S: FieldSink>(data_type: u32, bytes: &[u8], sink: &mut S) -> Result<()> {
+    sink.field(
+        "data_type",
+        Value::Named(u64::from(data_type), type_name(data_type)),
+    )?;
+    if data_type == 1
+        && let Ok(text) = std::str::from_utf8(bytes)
+    {
+        return sink.field("text", Value::Text(text));
+    }
+    if data_type == 21
+        && let Some(number) = integer(bytes)
+    {
+        return sink.field("number", Value::Signed(number));
+    }
+    sink.field("data_bytes", Value::Bytes(bytes))
+}
+
+/// Hands the field that all sample entries have to a sink (ISO/IEC 14496-12, 8.5.2): it ends at byte 8 of the content.
+pub fn put_entry<S: FieldSink>(bytes: &[u8], sink: &mut S) -> Result<()>
+    requires { 8 ≤ length bytes.now }
+{
+    sink.field(
+        "data_reference_index",
+        Value::Number(u64::from(u16_at(bytes, 6))),
+    )
+}

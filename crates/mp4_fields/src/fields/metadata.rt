@@ -1,0 +1,39 @@
+//! The fields of metadata and of events.
+
+use crate::brief::{put_data, put_full};
+use crate::flag_names::NONE;
+use crate::sink::FieldSink;
+use crate::value::Value;
+use mp4_stream::{DataBox, DataType, EmsgBox, Result};
+
+/// The number of a type of metadata values.
+fn number_of(data_type: &DataType) -> u32 {
+    match data_type {
+        DataType::Binary => 0,
+        DataType::Text => 1,
+        DataType::Image => 13,
+        DataType::TempoCpil => 21,
+    }
+}
+
+/// The value of a metadata item (QuickTime's metadata, "Data atom").
+pub fn put_data_box<S: FieldSink>(b: &DataBox, sink: &mut S) -> Result<()> {
+    put_data(number_of(&b.data_type), b.data_bytes.as_slice(), sink)
+}
+
+/// An event (ISO/IEC 23009-1, 5.10.3.3). The field of the other version is left out.
+pub fn put_emsg<S: FieldSink>(b: &EmsgBox, sink: &mut S) -> Result<()> {
+    put_full(b.version, b.flags, NONE, sink)?;
+    sink.field("scheme_id_uri", Value::Text(b.scheme_id_uri.as_str()))?;
+    sink.field("value", Value::Text(b.value.as_str()))?;
+    sink.field("timescale", Value::Number(u64::from(b.timescale)))?;
+    if let Some(time) = b.presentation_time {
+        sink.field("presentation_time", Value::Number(time))?;
+    }
+    if let Some(delta) = b.presentation_time_delta {
+        sink.field("presentation_time_delta", Value::Number(u64::from(delta)))?;
+    }
+    sink.field("event_duration", Value::Number(u64::from(b.event_duration)))?;
+    sink.field("id", Value::Number(u64::from(b.id)))?;
+    sink.field("message_data", Value::Bytes(b.message_data.as_slice()))
+}

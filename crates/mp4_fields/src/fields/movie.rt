@@ -1,0 +1,30 @@
+//! The fields of a file's type and of a movie's header.
+
+use crate::brief::put_full;
+use crate::flag_names::NONE;
+use crate::sink::FieldSink;
+use crate::value::Value;
+use mp4_stream::{FtypBox, MvhdBox, Result};
+
+/// File type (ISO/IEC 14496-12, 4.3).
+pub fn put_ftyp<S: FieldSink>(b: &FtypBox, sink: &mut S) -> Result<()> {
+    sink.field("major_brand", Value::Code(b.major_brand))?;
+    sink.field("minor_version", Value::Number(u64::from(b.minor_version)))?;
+    sink.field(
+        "compatible_brands",
+        Value::Codes(b.compatible_brands.as_slice()),
+    )
+}
+
+/// Movie header (ISO/IEC 14496-12, 8.2.2).
+pub fn put_mvhd<S: FieldSink>(b: &MvhdBox, sink: &mut S) -> Result<()> {
+    put_full(b.version, b.flags, NONE, sink)?;
+    sink.field("creation_time", Value::Date(b.creation_time))?;
+    sink.field("modification_time", Value::Date(b.modification_time))?;
+    sink.field("timescale", Value::Number(u64::from(b.timescale)))?;
+    sink.field("duration", Value::Number(b.duration))?;
+    sink.field("rate", Value::Fixed(i64::from(b.rate.raw_value()), 16))?;
+    sink.field("volume", Value::Fixed(i64::from(b.volume.raw_value()), 8))?;
+    sink.field("matrix", Value::Matrix(&b.matrix))?;
+    sink.field("next_track_id", Value::Number(u64::from(b.next_track_id)))
+}

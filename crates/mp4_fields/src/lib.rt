@@ -1,0 +1,20 @@
+//! The fields of a box, by name: what a person is shown of it, and what goes into JSON. The boxes that the codec reads
+//! are listed once, in `put_fields`; a sink decides how a field looks.
+#![tactic(auto)]
+
+mod brief;
+mod fields;
+mod flag_names;
+mod has_fields;
+mod sink;
+mod value;
+
+pub use brief::{
+    SOUND_LENGTH, VISUAL_LENGTH, put_data, put_entry, put_full, put_list_head, put_sound,
+    put_visual,
+};
+pub use fields::put_fields;
+pub use flag_names::FlagName;
+pub use has_fields::HasFields;
+pub use sink::FieldSink;
+pub use value::Value;

@@ -1,0 +1,6 @@
+//! The command line of `mp4inspect`.
+#![tactic(auto)]
+
+mod request;
+
+pub use request::{Request, Task, request_of};

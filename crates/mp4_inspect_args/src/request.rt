@@ -1,0 +1,124 @@
+//! What a command line asks for.
+
+use clap::{Arg, ArgAction, ArgMatches, Command, Error};
+use std::alloc::{AllocError, Global};
+
+/// What is to be written of each file.
+#[derive(Clone, Copy, Debug, PartialEq, Eq)]
+pub enum Task {
+    /// The tree of its boxes, as text.
+    Tree,
+    /// The tree of its boxes, as JSON.
+    Json,
+    /// Its faults alone.
+    Check,
+}
+
+/// What a command line asks for.
+#[derive(Debug, Drop)]
+pub struct Request {
+    /// What is to be written of each file.
+    pub task: Task,
+    /// How many entries of each list are shown; all if none.
+    pub rows: Option<u32>,
+    /// Whether lines stay whole on a terminal.
+    pub wide: bool,
+    /// The files, in order; `-` is the standard input.
+    pub files: Vec<String>,
+}
+
+/// The argument of files, which each command has.
+fn files<'a>(alloc: Global) -> Result<Arg<'a>, AllocError> {
+    Ok(
+        Arg::new(alloc, "FILE")
+            .action(ArgAction::Append)
+            .num_args(1..)
+            .required(true)
+            .help("Files to read; - is the standard input"),
+    )
+}
+
+/// The command `check`.
+fn check<'a>(alloc: Global) -> Result<Command<'a>, AllocError> {
+    Command::new(alloc, "check")
+        .about(
+            "Writes the faults alone, one a line, with position and path; nothing if all is well",
+        )
+        .arg(files(alloc)?)
+}
+
+/// The whole command line.
+fn command<'a>(alloc: Global) -> Result<Command<'a>, AllocError> {
+    let json = Arg::new(alloc, "json")
+        .long("json")
+        .action(ArgAction::SetTrue)
+        .help("Write JSON, with all entries of lists");
+    let all = Arg::new(alloc, "all")
+        .long("all")
+        .action(ArgAction::SetTrue)
+        .conflicts_with("rows")?
+        .help("Show all entries of lists");
+    let rows = Arg::new(alloc, "rows")
+        .long("rows")
+        .value_name("N")
+        .value_parser(clap::value_parser!(u32))
+        .default_value("8")
+        .help("Show N entries of each list");
+    let wide = Arg::new(alloc, "wide")
+        .long("wide")
+        .action(ArgAction::SetTrue)
+        .help("Don't break lines at the width of the terminal");
+    Command::new(alloc, "mp4inspect")
+        .version("0.1.0")
+        .about(
+            "Shows the boxes of MP4 files: a line each, with name, @position, +length and fields",
+        )
+        .args_conflicts_with_subcommands(true)
+        .subcommand_negates_reqs(true)
+        .arg(json)?
+        .arg(all)?
+        .arg(rows)?
+        .arg(wide)?
+        .arg(files(alloc)?)?
+        .subcommand(check(alloc)?)
+}
+
+/// The files that are named.
+fn files_of(alloc: Global, matches: &ArgMatches<'_>) -> Result<Vec<String>, AllocError> {
+    let mut files = Vec::new(alloc);
+    if let Some(names) = matches.get_strs("FILE") {
+        for name in names {
+            files.push(String::from_str(alloc, name)?)?;
+        }
+    }
+    Ok(files)
+}
+
+/// What the words of a command line ask for, of which the first is the program's name. An error is what to print, and
+/// with which status to end: misuse, help or the version.
+pub fn request_of(alloc: Global, words: &[String]) -> Result<Request, Error> {
+    let matches = command(alloc)?.try_get_matches_from(words)?;
+    if let Some((_, inner)) = matches.subcommand() {
+        return Ok(Request {
+            task: Task::Check,
+            rows: Some(0),
+            wide: true,
+            files: files_of(alloc, inner)?,
+        });
+    }
+    let rows = if matches.get_flag("all") {
+        None
+    } else {
+        matches.get_one::<u32>("rows")
+    };
+    Ok(Request {
+        task: if matches.get_flag("json") {
+            Task::Json
+        } else {
+            Task::Tree
+        },
+        rows,
+        wide: matches.get_flag("wide"),
+        files: files_of(alloc, &matches)?,
+    })
+}

@@ -1,0 +1,177 @@
+//! The fields of a box as JSON.
+
+use crate::code::push_latin;
+use json::Writer;
+use mp4_fields::{FieldSink, Value};
+use mp4_stream::{FourCC, Matrix, Result};
+use std::alloc::Global;
+
+/// Takes the fields of a box as members of a JSON object.
+#[derive(Drop)]
+pub struct JsonSink {
+    alloc: Global,
+    /// What is written.
+    pub out: Writer,
+}
+
+impl JsonSink {
+    /// A sink of nothing.
+    pub fn new(alloc: Global) -> JsonSink {
+        JsonSink {
+            alloc,
+            out: Writer::new(Vec::new(alloc)),
+        }
+    }
+
+    /// The text of what is written.
+    pub fn into_text(self) -> Vec<u8> {
+        let JsonSink { alloc: _, out } = self;
+        out.into_inner()
+    }
+
+    /// Writes a code: a text of four characters, each of the number of its byte.
+    pub fn code(&mut self, code: FourCC) -> Result<()> {
+        let mut text = String::new(self.alloc);
+        push_latin(code, &mut text)?;
+        self.out.string(text.as_str())?;
+        Ok(())
+    }
+
+    /// Writes codes as an array.
+    fn codes(&mut self, codes: &[FourCC]) -> Result<()> {
+        self.out.begin_array()?;
+        for code in codes {
+            self.code(*code)?;
+        }
+        self.out.end_array()?;
+        Ok(())
+    }
+
+    /// Writes numbers as an array.
+    fn numbers(&mut self, numbers: &[i16]) -> Result<()> {
+        self.out.begin_array()?;
+        for number in numbers {
+            self.out.i64(i64::from(*number))?;
+        }
+        self.out.end_array()?;
+        Ok(())
+    }
+
+    /// Writes a fixed-point number. A float has all its bits.
+    fn fixed(&mut self, raw: i64, bits: u32) -> Result<()> {
+        let one = (1u32 << bits.min(30)) as f64;
+        let number = if let Ok(raw) = u32::try_from(raw) {
+            raw as f64 / one
+        } else if let Ok(raw) = i32::try_from(raw) {
+            raw as f64 / one
+        } else {
+            f64::INFINITY
+        };
+        if number.is_finite() {
+            self.out.float(number)?;
+        } else {
+            self.out.null()?;
+        }
+        Ok(())
+    }
+
+    /// Writes bytes as a text of their hexadecimal digits.
+    fn bytes(&mut self, bytes: &[u8]) -> Result<()> {
+        let digits = hex::encode(self.alloc, bytes)?;
+        self.out.string(digits.as_str())?;
+        Ok(())
+    }
+
+    /// Writes a member that is a fixed-point number.
+    fn fixed_member(&mut self, name: &str, raw: i32, bits: u32) -> Result<()> {
+        self.out.key(name)?;
+        self.fixed(i64::from(raw), bits)
+    }
+
+    /// Writes a transformation as an object.
+    fn matrix(&mut self, matrix: &Matrix) -> Result<()> {
+        self.out.begin_object()?;
+        self.fixed_member("a", matrix.a, 16)?;
+        self.fixed_member("b", matrix.b, 16)?;
+        self.fixed_member("u", matrix.u, 30)?;
+        self.fixed_member("c", matrix.c, 16)?;
+        self.fixed_member("d", matrix.d, 16)?;
+        self.fixed_member("v", matrix.v, 30)?;
+        self.fixed_member("x", matrix.x, 16)?;
+        self.fixed_member("y", matrix.y, 16)?;
+        self.fixed_member("w", matrix.w, 30)?;
+        self.out.end_object()?;
+        Ok(())
+    }
+
+    /// Writes a value.
+    fn value(&mut self, value: Value<'_>) -> Result<()> {
+        match value {
+            Value::Number(number) | Value::Named(number, _) | Value::Date(number) => {
+                self.out.u64(number)?;
+            }
+            Value::Flags(flags, _, _) => self.out.u64(u64::from(flags))?,
+            Value::Signed(number) | Value::MediaTime(number) => self.out.i64(number)?,
+            Value::Fixed(raw, bits) => self.fixed(raw, bits)?,
+            Value::Code(code) => self.code(code)?,
+            Value::Codes(codes) => self.codes(codes)?,
+            Value::Text(text) => self.out.string(text)?,
+            Value::Bytes(bytes) => self.bytes(bytes)?,
+            Value::Numbers(numbers) => self.numbers(numbers)?,
+            Value::Matrix(matrix) => self.matrix(matrix)?,
+        }
+        Ok(())
+    }
+}
+
+impl FieldSink for JsonSink {
+    fn rows(&self) -> usize {
+        usize::MAX
+    }
+
+    fn wants_columns(&self) -> bool {
+        true
+    }
+
+    fn field(&mut self, name: &str, value: Value<'_>) -> Result<()> {
+        self.out.key(name)?;
+        self.value(value)
+    }
+
+    fn begin_list(&mut self, name: &str, total: usize) -> Result<()> {
+        let _ = total;
+        self.out.key(name)?;
+        self.out.begin_array()?;
+        Ok(())
+    }
+
+    fn item(&mut self, value: Value<'_>) -> Result<()> {
+        self.value(value)
+    }
+
+    fn begin_entry(&mut self) -> Result<()> {
+        self.out.begin_object()?;
+        Ok(())
+    }
+
+    fn end_entry(&mut self) -> Result<()> {
+        self.out.end_object()?;
+        Ok(())
+    }
+
+    fn end_list(&mut self) -> Result<()> {
+        self.out.end_array()?;
+        Ok(())
+    }
+
+    fn begin_group(&mut self, name: &str) -> Result<()> {
+        self.out.key(name)?;
+        self.out.begin_object()?;
+        Ok(())
+    }
+
+    fn end_group(&mut self) -> Result<()> {
+        self.out.end_object()?;
+        Ok(())
+    }
+}
