@@ -180,8 +180,9 @@ def shown(program, inputs):
     return texts_of(out, len(inputs))
 
 
-def built(script, program="test_probe"):
-    """The path of a program, which is built where no gate has. The script is the one that asks for it."""
-    text = f'name={script}; . "{TOP}/tests/built"; built {program} "{TOP}/crates/{program}/stdin"'
+def built(script, program="test_probe", argument=""):
+    """The path of a program, which is built where no gate has, by a run with this argument. The script is the one that
+    asks for it."""
+    text = f'name={script}; . "{TOP}/tests/built"; built {program} "{TOP}/crates/{program}/stdin" {argument}'
     subprocess.run(["sh", "-c", text, os.path.join(TOP, "tests", script)], check=True, stdout=subprocess.DEVNULL)
     return os.path.join(TOP, "crates", program, "out", program)

@@ -1,0 +1,85 @@
+//! The path of a box: the codes of the boxes around it, outermost first, and its own.
+
+use mp4_sinks::{push_code, push_number};
+use mp4_stream::{FourCC, Result};
+use mp4_tree::TreeBox;
+use std::alloc::Global;
+use std::collections::BTreeMap;
+
+/// A part of a path: a code, and how many boxes of this code come before it in the box around it.
+#[derive(Clone, Copy, Debug, PartialEq, Eq)]
+struct Part {
+    code: Option<FourCC>,
+    index: u64,
+}
+
+/// The paths of the boxes of a file, which are entered in the order of the file.
+#[derive(Drop)]
+pub struct BoxPaths {
+    parts: Vec<Part>,
+    /// The numbers of the levels of the parts: each run of boxes has a number of its own.
+    levels: Vec<u64>,
+    next_level: u64,
+    /// How many boxes of a code came so far in a level.
+    counts: BTreeMap<(u64, u32), u64>,
+}
+
+impl BoxPaths {
+    /// At the front of a file.
+    pub fn new(alloc: Global) -> BoxPaths {
+        BoxPaths {
+            parts: Vec::new(alloc),
+            levels: Vec::new(alloc),
+            next_level: 0,
+            counts: BTreeMap::new(alloc),
+        }
+    }
+
+    /// The number of the level at a depth.
+    fn level(&mut self, depth: usize) -> Result<u64> {
+        self.levels.truncate(depth.saturating_add(1));
+        if self.levels.len() <= depth {
+            self.levels.push(self.next_level)?;
+            self.next_level = self.next_level.saturating_add(1);
+        }
+        Ok(self.levels.last().copied().unwrap_or(0))
+    }
+
+    /// Goes on to a box.
+    pub fn enter(&mut self, found: &TreeBox) -> Result<()> {
+        let depth = found.depth as usize;
+        let level = self.level(depth)?;
+        self.parts.truncate(depth);
+        let code = match found.code {
+            Some(code) => u32::from(code),
+            None => 0,
+        };
+        let count = self.counts.entry((level, code))?.or_insert(0);
+        let index = *count;
+        *count = count.saturating_add(1);
+        self.parts.push(Part {
+            code: found.code,
+            index,
+        })?;
+        Ok(())
+    }
+
+    /// Appends the path of the box: its parts, each with its index from 0 on unless that is 0.
+    pub fn push(&self, out: &mut String) -> Result<()> {
+        let mut before = "";
+        for part in &self.parts {
+            out.push_str(before)?;
+            match part.code {
+                Some(code) => push_code(code, out)?,
+                None => out.push('-')?,
+            }
+            if part.index > 0 {
+                out.push('[')?;
+                push_number(part.index, out)?;
+                out.push(']')?;
+            }
+            before = "/";
+        }
+        Ok(())
+    }
+}

@@ -1,0 +1,257 @@
+//! What is read of a box, to be shown.
+
+ghost use Rattle.std.specs.Prelude.{◌≡◌, ◌-◌, ◌≤◌, false, length, min, IsTrue, IfOk, IfSome};
+ghost use Rattle.mp4_frame.specs.Reading.{Answers};
+ghost use Rattle.mp4_io.specs.Ends.{is_write};
+ghost use Rattle.mp4_inspect.specs.Content.{leaf, is_faulty, front, is_other_type, Shows, ShowsKnown, ShowsFront, ShowsAs};
+ghost use Rattle.mp4_inspect.specs.Kind.{kind_of};
+ghost use Rattle.mp4_inspect.specs.declared.kind.Kind.TheVariants as kinds;
+
+use crate::failure::or_read;
+use crate::kind::{Kind, kind_of};
+use crate::setting::Setting;
+use mp4_fields::{
+    FieldSink, HasFields, Value, put_data, put_entry, put_full, put_list_head, put_sound,
+    put_visual,
+};
+use mp4_frame::u32_at;
+use mp4_io::Failure;
+use mp4_stream::{BoxHeader, BoxType, ByteCursor, Error, Result, StreamBox};
+use mp4_tree::{Source, Tree, TreeBox};
+use std::alloc::Global;
+use uuid::Uuid;
+
+/// What is read of a box: `B` is what the codec reads.
+#[derive(Drop)]
+pub enum Content<B: Drop> {
+    /// Nothing, since there is nothing but boxes in it.
+    Boxes,
+    /// Nothing, since it is too deep in others.
+    Deep,
+    /// Nothing, since the codec doesn't read such boxes.
+    Unread,
+    /// All of it, as the codec reads it.
+    Known(B),
+    /// The bytes at the front of its content.
+    Front(Kind, Vec<u8>),
+    /// Nothing, since it can't be read.
+    Faulty(Error),
+}
+
+impl<B: Drop> Content<B> {
+    /// Whether it has a fault.
+    pub fn is_faulty(&self) -> bool
+        ensures { result ≡ is_faulty self.now }
+    {
+        matches!(self, Content::Faulty(_))
+    }
+}
+
+/// Reads the box of this name whose header is at an offset, in bytes that end where the box does.
+fn read_leaf<B: StreamBox>(alloc: Global, own: &[u8], position: u64, name: BoxType) -> Result<B>
+    requires { IsTrue (B.known name) }
+    ensures { Answers result (leaf B.named_reading name own.now position) }
+{
+    let mut reader = ByteCursor::new(own);
+    reader.set_position(position);
+    BoxHeader::read(&mut reader)?;
+    let start = reader.position() - 8;
+    B::read_named(
+        alloc,
+        name,
+        &mut reader,
+        (own.len() as u64).saturating_sub(start),
+    )
+}
+
+/// What is shown of the box of this name whose bytes these are.
+fn shown<B: StreamBox + Drop>(
+    alloc: Global,
+    own: &[u8],
+    name: BoxType,
+) -> std::result::Result<Content<B>, Failure>
+    requires { IsTrue (B.known name) }
+    ensures shows { IfOk result (λ content. Shows (leaf B.named_reading name own.now 0) content) }
+    ensures not_write { is_write result ≡ false }
+{
+    match read_leaf::<B>(alloc, own, 0, name) {
+        Ok(value) => Ok(Content::Known(value)),
+        Err(Error::OutOfMemory) => Err(Failure::Memory),
+        Err(fault) => Ok(Content::Faulty(fault)),
+    }
+}
+
+/// Reads a box that the codec reads, if it reads boxes of this name.
+fn known<B: StreamBox + Drop, S: Source>(
+    alloc: Global,
+    tree: &mut Tree<S>,
+    found: &TreeBox,
+    name: BoxType,
+) -> std::result::Result<Content<B>, Failure>
+    ensures shows { IfSome tree.old.bytes (λ bytes. IfOk result (λ content. ShowsKnown B.known B.named_reading name bytes found.now content)) }
+    ensures kept { tree.new ≡ tree.old }
+    ensures not_write { is_write result ≡ false }
+{
+    if !B::knows(name) {
+        return Ok(Content::Unread);
+    }
+    let own = or_read(tree.read_box(alloc, found))?;
+    shown(alloc, &own, name)
+}
+
+/// The box as if its content had at most so many bytes.
+fn shortened(found: &TreeBox, most: u64) -> TreeBox
+    ensures position { result.position ≡ found.now.position }
+    ensures header { result.header_length ≡ found.now.header_length }
+    ensures content { result.length - result.header_length ≡ min (found.now.length - found.now.header_length) most }
+{
+    TreeBox {
+        length: found.header_length + found.content_length().min(most),
+        ..*found
+    }
+}
+
+/// The first bytes of a box's content: so many, or as many as there are.
+pub fn front_of<S: Source>(
+    alloc: Global,
+    tree: &mut Tree<S>,
+    found: &TreeBox,
+    most: u64,
+) -> std::result::Result<Vec<u8>, Failure>
+    ensures bytes { IfSome tree.old.bytes (λ bytes. IfOk result (λ v. v.items ≡ front bytes found.now most)) }
+    ensures kept { tree.new ≡ tree.old }
+    ensures not_write { is_write result ≡ false }
+{
+    or_read(tree.read_content(alloc, &shortened(found, most)))
+}
+
+/// Reads the front of a box's content: `least` bytes have to be there, and `most` are wanted.
+fn front<B: Drop, S: Source>(
+    alloc: Global,
+    tree: &mut Tree<S>,
+    found: &TreeBox,
+    kind: Kind,
+    least: u64,
+    most: u64,
+) -> std::result::Result<Content<B>, Failure>
+    ensures shows { IfSome tree.old.bytes (λ bytes. IfOk result (λ content. ShowsFront kind least most bytes found.now content)) }
+    ensures kept { tree.new ≡ tree.old }
+    ensures not_write { is_write result ≡ false }
+{
+    if found.content_length() < least {
+        return Ok(Content::Faulty(Error::IoError));
+    }
+    Ok(Content::Front(kind, front_of(alloc, tree, found, most)?))
+}
+
+/// Whether the codec doesn't read metadata values of this type.
+fn is_other_type(number: u32) -> bool
+    ensures { result ≡ is_other_type number }
+{
+    !matches!(number, 0 | 1 | 13 | 21)
+}
+
+/// Reads the value of a metadata item: by the codec if it knows the type, and else the type's number and the bytes.
+fn data<B: StreamBox + Drop, S: Source>(
+    alloc: Global,
+    tree: &mut Tree<S>,
+    found: &TreeBox,
+) -> std::result::Result<Content<B>, Failure>
+    ensures shows { IfSome tree.old.bytes (λ bytes. IfOk result (λ content. ShowsAs B.known B.named_reading bytes found.now kinds.Data content)) }
+    ensures kept { tree.new ≡ tree.old }
+    ensures not_write { is_write result ≡ false }
+{
+    let head = front_of(alloc, tree, found, 8)?;
+    if head.len() == 8 && is_other_type(u32_at(&head, 0)) {
+        front(alloc, tree, found, Kind::Data, 8, u64::MAX)
+    } else {
+        known(alloc, tree, found, BoxType::DataBox)
+    }
+}
+
+/// Reads what is shown of a box.
+pub fn content_of<B: StreamBox + Drop, S: Source>(
+    alloc: Global,
+    tree: &mut Tree<S>,
+    found: &TreeBox,
+    setting: Setting,
+) -> std::result::Result<Content<B>, Failure>
+    ensures shows { IfSome tree.old.bytes (λ bytes. IfOk result (λ content. ShowsAs B.known B.named_reading bytes found.now (kind_of found.now setting) content)) }
+    ensures kept { tree.new ≡ tree.old }
+    ensures not_write { is_write result ≡ false }
+{
+    match kind_of(found, setting) {
+        Kind::Boxes => Ok(Content::Boxes),
+        Kind::Deep => Ok(Content::Deep),
+        Kind::Unread => Ok(Content::Unread),
+        Kind::Cut => Ok(Content::Faulty(Error::IoError)),
+        Kind::Small => Ok(Content::Faulty(Error::InvalidData("box size too small"))),
+        Kind::Known(name) => known(alloc, tree, found, name),
+        Kind::Data => data(alloc, tree, found),
+        Kind::Full => front(alloc, tree, found, Kind::Full, 4, 4),
+        Kind::List => front(alloc, tree, found, Kind::List, 8, 8),
+        Kind::Entry => front(alloc, tree, found, Kind::Entry, 8, 8),
+        Kind::Visual => front(alloc, tree, found, Kind::Visual, 78, 78),
+        Kind::Sound => front(alloc, tree, found, Kind::Sound, 28, 64),
+        Kind::Uuid => front(alloc, tree, found, Kind::Uuid, 16, 16),
+    }
+}
+
+/// Hands the type of a `uuid` box to a sink.
+fn put_uuid<K: FieldSink>(bytes: [u8; 16], sink: &mut K) -> Result<()> {
+    let id = Uuid::from_bytes(bytes);
+    let mut buffer = Uuid::encode_buffer();
+    let text = id.hyphenated().encode_lower(&mut buffer);
+    sink.field("usertype", Value::Text(text))
+}
+
+/// Hands version and flags to a sink, which are the first 4 bytes.
+fn put_full_head<K: FieldSink>(bytes: &[u8], sink: &mut K) -> Result<()>
+    requires { 4 ≤ length bytes.now }
+{
+    let flags = u32::from_be_bytes([0, bytes[1], bytes[2], bytes[3]]);
+    put_full(bytes[0], flags, &[], sink)
+}
+
+/// Hands a metadata value to a sink: the number of its type is the first 4 bytes, and it comes after 8.
+fn put_data_front<K: FieldSink>(bytes: &[u8], sink: &mut K) -> Result<()>
+    requires { 8 ≤ length bytes.now }
+{
+    let data_type = u32::from_be_bytes([bytes[0], bytes[1], bytes[2], bytes[3]]);
+    put_data(data_type, &bytes[8..], sink)
+}
+
+/// Hands the fields at the front of a box's content to a sink.
+fn put_front<K: FieldSink>(
+    kind: Kind,
+    bytes: &[u8],
+    is_quicktime: bool,
+    sink: &mut K,
+) -> Result<()> {
+    match kind {
+        Kind::Full if bytes.len() >= 4 => put_full_head(bytes, sink),
+        Kind::List if bytes.len() >= 8 => put_list_head(bytes, sink),
+        Kind::Entry if bytes.len() >= 8 => put_entry(bytes, sink),
+        Kind::Visual if bytes.len() >= 78 => put_visual(bytes, sink),
+        Kind::Sound if bytes.len() >= 28 => put_sound(bytes, is_quicktime, sink),
+        Kind::Data if bytes.len() >= 8 => put_data_front(bytes, sink),
+        Kind::Uuid => match <[u8; 16]>::try_from(bytes) {
+            Ok(id) => put_uuid(id, sink),
+            Err(_) => Ok(()),
+        },
+        _ => Ok(()),
+    }
+}
+
+/// Hands the fields that were read to a sink.
+pub fn put_content<B: HasFields + Drop, K: FieldSink>(
+    content: &Content<B>,
+    is_quicktime: bool,
+    sink: &mut K,
+) -> Result<()> {
+    match content {
+        Content::Known(value) => value.put_fields(sink),
+        Content::Front(kind, bytes) => put_front(*kind, bytes, is_quicktime, sink),
+        _ => Ok(()),
+    }
+}

@@ -1,0 +1,128 @@
+//! How a box is read, to be shown.
+
+ghost use Rattle.std.specs.Prelude.{◌≡◌};
+ghost use Rattle.mp4_inspect.specs.Kind.{entry_kind, leaf_kind, parent_kind, bytes_before, kind_of};
+
+use crate::setting::Setting;
+use mp4_frame::codes::{DATA, DREF, META, MP4A, STSD, TX3G};
+use mp4_stream::{AnyBox, BoxType, StreamBox};
+use mp4_tree::{TreeBox, What};
+
+/// `uuid`: a box whose type is a UUID (ISO/IEC 14496-12, 4.2).
+pub const UUID: u32 = 0x7575_6964;
+
+/// `wave`: decompression parameters of sound (QuickTime). An `mp4a` in it is no sample entry.
+pub const WAVE: u32 = 0x7761_7665;
+
+/// `vide`: the handler of video (ISO/IEC 14496-12, 12.1).
+pub const VIDE: u32 = 0x7669_6465;
+
+/// `soun`: the handler of sound (ISO/IEC 14496-12, 12.2).
+pub const SOUN: u32 = 0x736f_756e;
+
+/// How a box is read, to be shown.
+#[derive(Clone, Copy, Debug, PartialEq, Eq)]
+pub enum Kind {
+    /// Not at all: there is nothing but boxes in it.
+    Boxes,
+    /// Not at all: it is too deep in others.
+    Deep,
+    /// Not at all: the codec doesn't read it.
+    Unread,
+    /// Not at all: it ends after the box around it or the file, or has no header.
+    Cut,
+    /// Not at all: its size is smaller than its header.
+    Small,
+    /// Whole, by the codec.
+    Known(BoxType),
+    /// The value of a metadata item.
+    Data,
+    /// Version and flags.
+    Full,
+    /// Version, flags and a count of boxes.
+    List,
+    /// The common fields of a sample entry.
+    Entry,
+    /// The common fields of a sample entry of video.
+    Visual,
+    /// The common fields of a sample entry of sound.
+    Sound,
+    /// The type of a `uuid` box.
+    Uuid,
+}
+
+/// How a sample entry is read.
+fn entry_kind(code: u32, setting: Setting) -> Kind
+    ensures { result ≡ entry_kind code setting }
+{
+    if setting.handler == VIDE {
+        Kind::Visual
+    } else if setting.handler == SOUN {
+        Kind::Sound
+    } else if code == TX3G {
+        Kind::Known(BoxType::Tx3gBox)
+    } else {
+        Kind::Entry
+    }
+}
+
+/// How a box that is not gone into is read. It holds no boxes, or has no room for the fields before them.
+fn leaf_kind(code: u32, setting: Setting) -> Kind
+    ensures { result ≡ leaf_kind code setting }
+{
+    let name = BoxType::from(code);
+    if code == DATA {
+        Kind::Data
+    } else if code == UUID {
+        Kind::Uuid
+    } else if code == MP4A && setting.parent == WAVE {
+        Kind::Unread
+    } else if AnyBox::knows(name) {
+        Kind::Known(name)
+    } else if setting.parent == STSD {
+        entry_kind(code, setting)
+    } else {
+        Kind::Unread
+    }
+}
+
+/// How a box that is gone into is read, with so many bytes before its first box.
+fn parent_kind(code: u32, before: u64, setting: Setting) -> Kind
+    ensures { result ≡ parent_kind code before setting }
+{
+    if setting.parent == STSD {
+        entry_kind(code, setting)
+    } else if before >= 8 && (code == STSD || code == DREF) {
+        Kind::List
+    } else if before >= 4 && code == META {
+        Kind::Full
+    } else {
+        Kind::Boxes
+    }
+}
+
+/// How many bytes are in a box before its first box; 0 if it isn't gone into.
+fn bytes_before(found: &TreeBox) -> u64
+    ensures { result ≡ bytes_before found.now found.now.children }
+{
+    match found.children {
+        Some(first) => first.saturating_sub(found.content_position()),
+        None => 0,
+    }
+}
+
+/// How a box is read.
+pub fn kind_of(found: &TreeBox, setting: Setting) -> Kind
+    ensures { result ≡ kind_of found.now setting }
+{
+    let Some(code) = found.code else {
+        return Kind::Cut;
+    };
+    match found.what {
+        What::Cut | What::NoHeader => Kind::Cut,
+        What::Small => Kind::Small,
+        What::TooDeep => Kind::Deep,
+        What::Parent => parent_kind(u32::from(code), bytes_before(found), setting),
+        What::Leaf => leaf_kind(u32::from(code), setting),
+    }
+}

@@ -1,0 +1,268 @@
+//! The tree of a file as text.
+
+ghost use Rattle.std.specs.Prelude.{◌≡◌, ◌++◌, ◌||◌, true, false, decimal, string_bytes, IfOk, OnOk, IfSome};
+ghost use Rattle.mp4_io.specs.Ends.{is_read, is_write};
+ghost use Rattle.mp4_inspect.specs.Content.{ShowsAs, is_faulty};
+ghost use Rattle.mp4_inspect.specs.Kind.{kind_of};
+ghost use Rattle.mp4_inspect.specs.Written.{place_text, IsText, WritesBox, WritesBoxes};
+ghost use Rattle.mp4_inspect.specs.declared.content.Content.{Content};
+ghost use Rattle.mp4_inspect.specs.declared.setting.Setting.{Setting};
+
+use crate::around::{Around, Track};
+use crate::content::{Content, content_of, put_content};
+use crate::failure::or_memory;
+use crate::setting::Setting;
+use crate::track::go_to;
+use mp4_fields::HasFields;
+use mp4_frame::codes::{STSD, TRAK};
+use mp4_io::{Failure, Output, write_all};
+use mp4_sinks::{Look, TextSink, columns, push_code, push_colored, push_number};
+use mp4_stream::{Error, FourCC, Result, StreamBox};
+use mp4_tree::{Source, Tree, TreeBox, name_of};
+use std::alloc::Global;
+use std::io::Write;
+
+/// The colour of a box's name: bold.
+const BOLD: &str = "1";
+
+/// The colour of a fault: red.
+const RED: &str = "31";
+
+/// The colour of what is not read: faint.
+const FAINT: &str = "2";
+
+/// The text of a box's name.
+fn name_text(alloc: Global, found: &TreeBox) -> Result<String> {
+    let mut name = String::new(alloc);
+    match found.code {
+        Some(code) => push_code(code, &mut name)?,
+        None => name.push('-')?,
+    }
+    Ok(name)
+}
+
+/// Makes what a box's line begins with: two spaces for each box around it, and its name.
+fn name_line(alloc: Global, look: Look, found: &TreeBox, out: &mut String) -> Result<()> {
+    out.clear();
+    for _ in 0..found.depth {
+        out.push_str("  ")?;
+    }
+    let name = name_text(alloc, found)?;
+    push_colored(look, name.as_str(), BOLD, out)
+}
+
+/// Appends a number.
+fn push_decimal(number: u64, out: &mut String) -> Result<()>
+    ensures { OnOk result (string_bytes out.new ≡ string_bytes out.old ++ decimal number) }
+{
+    let mut buffer = itoa::Buffer::new();
+    out.push_str(buffer.format(number))?;
+    Ok(())
+}
+
+/// Appends the place of a box: its position and its length.
+fn push_place(found: &TreeBox, out: &mut String) -> Result<()>
+    ensures { OnOk result (string_bytes out.new ≡ string_bytes out.old ++ place_text found.now) }
+{
+    out.push_str(" @")?;
+    push_decimal(found.position, out)?;
+    out.push_str(" +")?;
+    push_decimal(found.length, out)
+}
+
+/// What the media of a handler are, in a word.
+fn kind_word(handler: FourCC) -> &'static str {
+    match &handler.value {
+        b"vide" => "video",
+        b"soun" => "sound",
+        b"text" => "text",
+        b"sbtl" | b"subt" => "subtitles",
+        b"clcp" => "captions",
+        b"hint" => "hints",
+        b"tmcd" => "time code",
+        b"meta" => "metadata",
+        b"pict" => "pictures",
+        _ => "media",
+    }
+}
+
+/// What the line of a track has: its number and its kind.
+fn put_track(alloc: Global, track: Track, sink: &mut TextSink) -> Result<()> {
+    let mut text = String::new(alloc);
+    if let Some(number) = track.number {
+        text.push_str("track ")?;
+        push_number(u64::from(number), &mut text)?;
+    }
+    if let Some(handler) = track.handler {
+        text.push_str(if text.is_empty() { "" } else { ", " })?;
+        text.push_str(kind_word(handler))?;
+        text.push_str(" (")?;
+        push_code(handler, &mut text)?;
+        text.push(')')?;
+    }
+    if text.is_empty() {
+        return Ok(());
+    }
+    sink.words(text.as_str())
+}
+
+/// What a box is called between round brackets, after a word.
+fn put_called(alloc: Global, word: &str, found: &TreeBox, sink: &mut TextSink) -> Result<()> {
+    let mut text = String::from_str(alloc, word)?;
+    if let Some(name) = found.code.and_then(name_of) {
+        text.push_str(if word.is_empty() { "(" } else { " (" })?;
+        text.push_str(name)?;
+        text.push(')')?;
+    }
+    if text.is_empty() {
+        return Ok(());
+    }
+    sink.words_colored(text.as_str(), FAINT)
+}
+
+/// The text of a fault.
+fn put_fault(alloc: Global, fault: &Error, sink: &mut TextSink) -> Result<()> {
+    let text = format!(in alloc; "fault: {fault}")?;
+    sink.words_colored(text.as_str(), RED)
+}
+
+/// What follows the head of a box's line.
+fn put_rest<B: HasFields + Drop>(
+    alloc: Global,
+    found: &TreeBox,
+    content: &Content<B>,
+    track: Track,
+    setting: Setting,
+    sink: &mut TextSink,
+) -> Result<()> {
+    if found.code == Some(FourCC::from(TRAK)) {
+        put_track(alloc, track, sink)?;
+    }
+    if setting.parent == STSD {
+        put_called(alloc, "", found, sink)?;
+    }
+    match content {
+        Content::Unread => put_called(alloc, "not read", found, sink),
+        Content::Deep => sink.words("not gone into: in 32 boxes"),
+        Content::Faulty(fault) => put_fault(alloc, fault, sink),
+        _ => put_content(content, setting.is_quicktime, sink),
+    }
+}
+
+/// Makes the text of a box.
+fn put_box<B: HasFields + Drop>(
+    alloc: Global,
+    found: &TreeBox,
+    content: &Content<B>,
+    around: &Around,
+    text: &mut String,
+    sink: &mut TextSink,
+) -> Result<()>
+    ensures { OnOk result (IsText found.now (string_bytes text.new)) }
+{
+    name_line(alloc, sink.look(), found, text)?;
+    push_place(found, text)?;
+    sink.begin(found.depth, columns(text.as_str()));
+    put_rest(
+        alloc,
+        found,
+        content,
+        around.track,
+        around.setting(),
+        sink,
+    )?;
+    text.push_str(sink.text())?;
+    text.push('\n')?;
+    Ok(())
+}
+
+/// Makes the text of a box, the first of these, which are those from there on. Returns whether it shows a fault.
+fn make_box<B: StreamBox + HasFields + Drop, S: Source>(
+    alloc: Global,
+    tree: &mut Tree<S>,
+    found: &TreeBox,
+    boxes: &[TreeBox],
+    around: &mut Around,
+    text: &mut String,
+    sink: &mut TextSink,
+) -> std::result::Result<bool, Failure>
+    ensures text { OnOk result (IsText found.now (string_bytes text.new)) }
+    ensures shows { IfSome tree.old.bytes (λ bytes. IfOk result (λ faulty. (s : Setting) × (content : Content B) × ShowsAs B.known B.named_reading bytes found.now (kind_of found.now s) content × (faulty ≡ is_faulty content))) }
+    ensures kept { tree.new ≡ tree.old }
+    ensures not_write { is_write result ≡ false }
+{
+    go_to(alloc, tree, boxes, around)?;
+    let content = content_of::<B, S>(alloc, tree, found, around.setting())?;
+    or_memory(put_box(alloc, found, &content, around, text, sink))?;
+    Ok(content.is_faulty())
+}
+
+/// Writes the text of a box, the first of these, which are those from there on. Returns whether it shows a fault. After
+/// a failed read nothing of it is written.
+fn write_box<B: StreamBox + HasFields + Drop, S: Source, W: Write>(
+    alloc: Global,
+    tree: &mut Tree<S>,
+    found: &TreeBox,
+    boxes: &[TreeBox],
+    around: &mut Around,
+    text: &mut String,
+    sink: &mut TextSink,
+    output: &mut Output<W>,
+) -> std::result::Result<bool, Failure>
+    ensures text { IfSome tree.old.bytes (λ bytes. IfOk result (λ faulty. WritesBox B.known B.named_reading bytes found.now (W.contents output.old.inner) (W.contents output.new.inner) faulty)) }
+    ensures not_read { is_read result ≡ true → output.new ≡ output.old }
+    ensures kept { tree.new ≡ tree.old }
+    ensures failed { output.new.failed ≡ (output.old.failed || is_write result) }
+{
+    let faulty = make_box::<B, S>(alloc, tree, found, boxes, around, text, sink)?;
+    write_all(output, text.as_bytes())?;
+    Ok(faulty)
+}
+
+/// Writes the tree of a file: the text of each of these boxes, which are those of the file, in order. Returns whether one
+/// of them shows a fault.
+pub fn write_tree<B: StreamBox + HasFields + Drop, S: Source, W: Write>(
+    alloc: Global,
+    tree: &mut Tree<S>,
+    boxes: &[TreeBox],
+    mut sink: TextSink,
+    output: &mut Output<W>,
+) -> std::result::Result<bool, Failure>
+    ensures texts { IfSome tree.old.bytes (λ bytes. IfOk result (λ faulty. WritesBoxes B.known B.named_reading bytes boxes.now (W.contents output.old.inner) (W.contents output.new.inner) faulty)) }
+    ensures failed { output.new.failed ≡ (output.old.failed || is_write result) }
+{
+    let mut around = Around::new(alloc);
+    let mut text = String::new(alloc);
+    let mut faulty = false;
+    let mut rest = boxes;
+    for found in boxes {
+        let here = write_box::<B, S, W>(
+            alloc,
+            tree,
+            found,
+            rest,
+            &mut around,
+            &mut text,
+            &mut sink,
+            output,
+        )?;
+        faulty = either(faulty, here);
+        rest = after_first(rest);
+    }
+    Ok(faulty)
+}
+
+/// The boxes after the first.
+fn after_first(boxes: &[TreeBox]) -> &[TreeBox] {
+    match boxes.split_first() {
+        Some((_, rest)) => rest,
+        None => boxes,
+    }
+}
+
+/// Whether one of two is true.
+fn either(first: bool, second: bool) -> bool
+    ensures { result ≡ (first || second) }
+{
+    first || second
+}

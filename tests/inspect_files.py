@@ -1,0 +1,156 @@
+"""Files that are made by hand for tests/inspect, from ISO/IEC 14496-12, 14496-15, 14496-30, the AV1, Opus and
+encryption formats and QuickTime's."""
+
+
+def box(name, content=b""):
+    return (8 + len(content)).to_bytes(4, "big") + name + content
+
+
+def full(name, version, flags, content=b""):
+    return box(name, bytes([version]) + flags.to_bytes(3, "big") + content)
+
+
+def be(width, *values):
+    return b"".join((value % 2**(8 * width)).to_bytes(width, "big") for value in values)
+
+
+def nested(names, content):
+    for name in reversed(names):
+        content = box(name, content)
+    return content
+
+
+def ftyp(major, *brands):
+    return box(b"ftyp", major + be(4, 0x200) + b"".join(brands))
+
+
+def handler(kind, name):
+    return full(b"hdlr", 0, 0, be(4, 0) + kind + bytes(12) + name + b"\0")
+
+
+def visual(name, width, height, compressor, children):
+    fields = bytes(6) + be(2, 1) + bytes(16) + be(2, width, height) + be(4, 0x480000, 0x480000) + bytes(4) + be(2, 1)
+    return box(name, fields + bytes([len(compressor)]) + compressor.ljust(31, b"\0") + be(2, 24, 0xFFFF) + children)
+
+
+def sound(name, version, channels, bits, rate, extra, children):
+    fields = bytes(6) + be(2, 1) + be(2, version, 0) + bytes(4) + be(2, channels, bits) + bytes(4) + be(4, rate)
+    return box(name, fields + extra + children)
+
+
+def stsd(*entries):
+    return full(b"stsd", 0, 0, be(4, len(entries)) + b"".join(entries))
+
+
+def tkhd(track, width=0, height=0, version=0, matrix=None):
+    times = be(8, 3797824089, 3797824090) if version else be(4, 3797824089, 3797824090)
+    matrix = matrix or (0x10000, 0, 0, 0, 0x10000, 0, 0, 0, 0x40000000)
+    length = be(8 if version else 4, 90000)
+    return full(b"tkhd", version, 7, times + be(4, track, 0) + length + bytes(8) + be(2, 0, 1, 0x100, 0)
+                + be(4, *matrix) + be(4, width, height))
+
+
+def mdhd(scale, language):
+    letters = 0
+    for letter in language:
+        letters = letters << 5 | letter - 0x60
+    return full(b"mdhd", 0, 0, be(4, 3797824089, 0, scale, 5 * scale) + be(2, letters, 0))
+
+
+def track(number, kind, name, language, entries, table, header=None):
+    dinf = box(b"dinf", full(b"dref", 0, 0, be(4, 1) + full(b"url ", 0, 1)))
+    minf = box(b"minf", dinf + box(b"stbl", stsd(*entries) + table))
+    media = box(b"mdia", mdhd(48000, language) + handler(kind, name) + minf)
+    return box(b"trak", (header or tkhd(number)) + media)
+
+
+def movie(*tracks):
+    unity = be(4, 0x10000, 0, 0, 0, 0x10000, 0, 0, 0, 0x40000000)
+    mvhd = full(b"mvhd", 1, 0, be(8, 3797824089, 0) + be(4, 600) + be(8, 2**40) + be(4, 0x18000) + be(2, 0xC0)
+                + bytes(10) + unity + bytes(24) + be(4, len(tracks) + 1))
+    return box(b"moov", mvhd + b"".join(tracks))
+
+
+def newer():
+    """Entries of AV1, HEVC, Opus, FLAC and encrypted video, of which the codec reads none, and tables that lie."""
+    turned = (0, 0x10000, 0, -0x10000, 0, 0, 0x8000, 0, 0x40000000)
+    schemes = box(b"sinf", box(b"frma", b"avc1") + full(b"schm", 0, 0, b"cenc" + be(4, 0x10000))
+                  + box(b"schi", full(b"tenc", 0, 0, bytes([0, 0, 1, 8]) + bytes(range(16)))))
+    video = [visual(b"av01", 1920, 1080, b"libaom", box(b"av1C", b"\x81\x04\x0c\x00")),
+             visual(b"hvc1", 3840, 2160, b"", box(b"hvcC", b"\x01" + bytes(22))
+                    + box(b"colr", b"nclx" + be(2, 9, 16, 9) + b"\0")),
+             visual(b"encv", 640, 480, b"caf\xc3\xa9", schemes)]
+    opus = box(b"dOps", bytes([0, 2]) + be(2, 312) + be(4, 48000) + be(2, 0) + b"\0")
+    audio = [sound(b"Opus", 0, 2, 16, 48000 << 16, b"", opus),
+             sound(b"fLaC", 0, 1, 24, 44100 << 16 | 0x8000, b"", box(b"dfLa"))]
+    rows = be(4, 500, -1) + be(2, 1, 0) + be(4, 5000, 1024) + be(2, 1, 0)
+    edits = box(b"edts", full(b"elst", 0, 0, be(4, 2) + rows))
+    offsets = full(b"stco", 0, 0, be(4, 3) + be(4, 40, 7, 4000000000))
+    signed = full(b"ctts", 1, 0, be(4, 2) + be(4, 1, -512) + be(4, 7, 1024))
+    header = tkhd(1, 1920 << 16, 1080 << 16, 1, turned)
+    one = track(1, b"vide", b"Video \"1\"\n", b"eng", video, signed + offsets, header)
+    one = one[:8] + edits + one[8:]
+    one = be(4, len(one)) + one[4:]
+    two = track(2, b"soun", "Töne".encode(), b"deu", audio, full(b"stz2", 0, 0, be(4, 4, 2) + b"\x12"))
+    usual = bytes.fromhex("a2394f525a9b4f14a2446c427c648df4")
+    front = ftyp(b"iso6", b"iso6", b"av01", b"\0\1\2\3") + box(b"mdat", bytes(16)) + box(b"uuid", usual + b"abc")
+    return front + movie(one, two) + box(b"uuid", usual[:15]) + box(b"skip", b"x")
+
+
+def quicktime():
+    """A QuickTime movie: sound of versions 0, 1 and 2, a text track, metadata without version and flags, no brands."""
+    wave = box(b"wave", box(b"frma", b"mp4a") + box(b"mp4a", bytes(4)) + box(b"\0\0\0\0"))
+    second = be(4, 72) + bytes.fromhex("40e7700000000000") + be(4, 6, 0x7F000000, 24, 12, 18, 1)
+    entries = [sound(b"sowt", 0, 2, 16, 44100 << 16, b"", b""),
+               sound(b"mp4a", 1, 2, 16, 44100 << 16, be(4, 1024, 0, 0, 2), wave),
+               sound(b"lpcm", 2, 3, 16, 0x10000, second, box(b"chan", bytes(12)))]
+    text = box(b"text", bytes(6) + be(2, 1) + bytes(43))
+    meta = box(b"meta", handler(b"mdta", b"") + box(b"keys", bytes(8)))
+    udta = box(b"udta", meta + box(b"\xa9nam", b"\0\3\0\0abc") + bytes(4))
+    tracks = track(7, b"soun", b"\6Sounds", b"und", entries, b"") + track(9, b"text", b"", b"fra", [text], b"")
+    return ftyp(b"qt  ") + box(b"wide") + box(b"mdat", bytes(8)) + box(b"moov", tracks + udta)
+
+
+def titles():
+    """Timed text, WebVTT, metadata of all kinds, events, and references to another file."""
+    tx3g = box(b"tx3g", bytes(6) + be(2, 1) + be(4, 0x20000000) + bytes([1, 0xFF, 1, 2, 3, 4]) + be(2, -1, 2, -3, 4)
+               + bytes(range(12)) + box(b"ftab", bytes(2)))
+    wvtt = box(b"wvtt", bytes(6) + be(2, 1) + box(b"vttC", b"WEBVTT"))
+    other = track(3, b"text", b"Text", b"jpn", [wvtt], full(b"co64", 0, 0, be(4, 1) + be(8, 2**40)))
+    other = other.replace(full(b"url ", 0, 1), full(b"url ", 0, 0))
+    values = [(b"\xa9too", 1, "Lavf ©\"60\\".encode()), (b"\xa9day", 1, b"\xff\xfe"), (b"tmpo", 21, b"\x00\x78"),
+              (b"cpil", 21, b"\xff"), (b"rate", 21, bytes(3)), (b"covr", 14, b"\x89PNG" + bytes(30)),
+              (b"trkn", 0, be(2, 0, 3, 12, 0)),
+              (b"plID", 0x01000015, be(8, 5)), (b"----", 13, b"")]
+    items = b"".join(box(name, box(b"data", be(4, kind, 0) + data)) for name, kind, data in values)
+    meta = full(b"meta", 0, 0, handler(b"mdir", b"") + box(b"ilst", items + box(b"gnre", box(b"data", be(4, 0)))))
+    events = (full(b"emsg", 1, 0, be(4, 90000) + be(8, 2**33) + be(4, 900, 5) + b"urn:a\0\x31\0\xde\xad")
+              + full(b"emsg", 0, 0, b"urn:b\0v\0" + be(4, 1, 2, 3, 4)))
+    subtitles = track(1, b"sbtl", b"Sub", b"eng", [tx3g, box(b"tx3g", bytes(10))], b"")
+    short = box(b"trak", box(b"mdia", full(b"hdlr", 0, 0, bytes(8))))
+    return (ftyp(b"isom", b"isom") + movie(subtitles, other, box(b"trak"), short) + box(b"udta", meta) + events
+            + b"\0\0\0\0mdat12345678")
+
+
+def fragments():
+    """A segment with a run of each form, and headers that say more than their boxes have."""
+    rows = b"".join(be(4, 100 + n, 200 + n, n << 16, 7 - n) for n in range(3))
+    runs = (full(b"trun", 0, 0xF01, be(4, 3, -8) + rows)
+            + full(b"trun", 1, 0x805, be(4, 2) + be(4, 16, 0x2000000) + be(4, -5, 6))
+            + full(b"trun", 0, 0, be(4, 11)) + full(b"trun", 0, 0x200, be(4, 12) + be(4, *range(12))))
+    tfhd = full(b"tfhd", 0, 0x2003B, be(4, 3) + be(8, 2**32) + be(4, 1, 1024, 512, 0x1010000))
+    traf = box(b"traf", tfhd + full(b"tfdt", 0, 0, be(4, 77)) + runs)
+    moof = box(b"moof", full(b"mfhd", 0, 0, be(4, 2**32 - 1)) + traf)
+    short = full(b"stsd", 0, 0)[:-1]
+    short = be(4, len(short)) + short[4:]
+    media, tables = [b"moov", b"trak", b"mdia"], [b"minf", b"stbl"]
+    bad = (nested(media, handler(b"vide", b"") + nested(tables, stsd(box(b"avc1", bytes(9))) + short))
+           + nested(media, handler(b"soun", b"") + nested(tables, stsd(box(b"mp4a", bytes(27)))))
+           + nested([b"moov", b"meta"], b"\0\0"))
+    front = box(b"styp", b"msdh" + be(4, 0)) + moof + box(b"mdat", bytes(3))
+    return front + bad + full(b"dref", 0, 0, be(4, 9) + b"\0\0\0")
+
+
+def made():
+    """The files, by name."""
+    return {"newer": newer(), "quicktime": quicktime(), "titles": titles(), "fragments": fragments()}

@@ -1,0 +1,551 @@
+"""The tree of a file a second time, by ISO/IEC 14496-12, QuickTime's format and docs/LAYOUT.md alone, to compare the
+program mp4inspect with: `tree` gives it as the JSON has it, `lines` the lines of its text, and `faults` what `check`
+writes.
+"""
+
+import datetime
+import json
+
+from slow_fields import Fault, Header
+from slow_reader import DATA_TYPES, READERS, read_row
+
+CONTAINERS = b"moov trak mdia minf stbl edts mvex moof traf mfra udta dinf sinf schi wave iprp ipco ilst".split()
+DEEPEST = 32
+FIXED = {"rate": 16, "volume": 8, "width": 16, "height": 16, "horizresolution": 16, "vertresolution": 16, "balance": 8,
+         "samplerate": 16}
+MATRIX = {"a": 16, "b": 16, "u": 30, "c": 16, "d": 16, "v": 30, "x": 16, "y": 16, "w": 30}
+UNITY = {"a": 1, "b": 0, "u": 0, "c": 0, "d": 1, "v": 0, "x": 0, "y": 0, "w": 1}
+TYPES = {0: "binary", 1: "text", 2: "UTF-16 text", 13: "JPEG", 14: "PNG", 21: "signed integer", 22: "unsigned integer",
+         23: "32-bit float", 24: "64-bit float", 27: "BMP"}
+NUMBERS = {word: number for number, word in DATA_TYPES.items()}
+
+
+def number(data, at, length):
+    return int.from_bytes(data[at:at + length], "big")
+
+
+def code(value):
+    """A code as the JSON has it: each byte is the character of its number."""
+    return value.to_bytes(4, "big").decode("latin-1")
+
+
+def latin(name):
+    return None if name is None else name.decode("latin-1")
+
+
+def full(data, at):
+    return {"version": data[at], "flags": number(data, at + 1, 3)}
+
+
+def visual(data, at):
+    size = min(data[at + 42], 31)
+    try:
+        name = data[at + 43:at + 43 + size].decode("utf-8")
+    except UnicodeDecodeError:
+        name = ""
+    return {"data_reference_index": number(data, at + 6, 2), "width": number(data, at + 24, 2),
+            "height": number(data, at + 26, 2), "horizresolution": number(data, at + 28, 4) / 65536,
+            "vertresolution": number(data, at + 32, 4) / 65536, "frame_count": number(data, at + 40, 2),
+            "compressorname": name, "depth": number(data, at + 74, 2)}
+
+
+def sound(data, at, size, quicktime):
+    fields = {"data_reference_index": number(data, at + 6, 2)}
+    version = number(data, at + 8, 2)
+    if quicktime:
+        fields["version"] = version
+    fields.update(channelcount=number(data, at + 16, 2), samplesize=number(data, at + 18, 2),
+                  samplerate=number(data, at + 24, 4) / 65536)
+    if quicktime and version == 1 and size >= 44:
+        names = ["samples_per_packet", "bytes_per_packet", "bytes_per_frame", "bytes_per_sample"]
+        fields.update((name, number(data, at + 28 + 4 * index, 4)) for index, name in enumerate(names))
+    if quicktime and version == 2 and size >= 64:
+        fields["audio_sample_rate"] = data[at + 32:at + 40].hex()
+        fields.update(num_audio_channels=number(data, at + 40, 4), const_bits_per_channel=number(data, at + 48, 4),
+                      format_specific_flags=number(data, at + 52, 4),
+                      const_bytes_per_audio_packet=number(data, at + 56, 4),
+                      const_lpcm_frames_per_audio_packet=number(data, at + 60, 4))
+    return fields
+
+
+def metadata(number_, data):
+    fields = {"data_type": number_}
+    if number_ == 1:
+        try:
+            return dict(fields, text=data.decode("utf-8"))
+        except UnicodeDecodeError:
+            pass
+    if number_ == 21 and len(data) in (1, 2, 4):
+        return dict(fields, number=int.from_bytes(data, "big", signed=True))
+    return dict(fields, data_bytes=data.hex())
+
+
+def signed(value, bits):
+    return value - 2**bits if value >= 2**(bits - 1) else value
+
+
+def shown(name, field, version, within=None):
+    """A field as the JSON has it."""
+    if name == "matrix":
+        return {letter: field[letter] / 2**bits for letter, bits in MATRIX.items()}
+    if name in ("horizresolution", "vertresolution") and isinstance(field, list):
+        return (field[0] * 65536 + field[1]) / 65536
+    if name in FIXED and within not in ("avc1", "hev1", "vp09") or name in ("horizresolution", "vertresolution"):
+        return field / 2**FIXED[name]
+    if name in ("major_brand", "handler_type"):
+        return code(field)
+    if name == "compatible_brands":
+        return [code(brand) for brand in field]
+    if name == "media_time":
+        return signed(field, 32 if version == 0 else 64)
+    if name == "sample_cts":
+        return [offset if version == 0 else signed(offset, 32) for offset in field]
+    if name in ("message_data", "compressorname", "reserved0", "reserved1", "style_record"):
+        return bytes(field).hex()
+    if name in ("sequence_parameter_sets", "picture_parameter_sets"):
+        return [bytes(entry["bytes"]).hex() for entry in field]
+    if name == "video_full_range_flag":
+        return int(field)
+    if isinstance(field, dict):
+        return fields_of(name, field)
+    if isinstance(field, list):
+        return [fields_of(name, entry, version) if isinstance(entry, dict) else entry for entry in field]
+    return field
+
+
+def fields_of(name, box, version=None):
+    """The fields of a box as the JSON has them: those that are there, in any order."""
+    version = box.get("version", version)
+    left_out = {name for name, field in box.items() if field is None or name == "sl_config"}
+    if name == "trun":
+        left_out |= {name for name, field in box.items() if field == []}
+    return {key: shown(key, field, version, name) for key, field in box.items() if key not in left_out}
+
+
+class Walk:
+    """A walk over the boxes of a file."""
+
+    def __init__(self, data):
+        self.data, self.quicktime, self.handler = data, False, None
+        self.boxes = self.level(0, 0, len(data), None)
+
+    def brief(self, name, content, end, parent, first):
+        """The fields at the front of a box that holds boxes, and a fault instead if it is too short for them."""
+        data, size = self.data, end - content
+        if parent == b"stsd":
+            if self.handler == b"vide":
+                return visual(data, content) if size >= 78 else None
+            if self.handler == b"soun":
+                return sound(data, content, size, self.quicktime) if size >= 28 else None
+            return {"data_reference_index": number(data, content + 6, 2)} if size >= 8 else None
+        if name in (b"stsd", b"dref"):
+            return dict(full(data, content), entry_count=number(data, content + 4, 4)) if size >= 8 else None
+        if name == b"meta" and first == 4:
+            return full(data, content)
+        return {}
+
+    def leaf(self, name, at, content, end, parent):
+        """The fields of a box that is not gone into, or its fault; neither if it is not read."""
+        data = self.data
+        if name == b"uuid":
+            if end - content < 16:
+                return {"fault": "unexpected end of input"}
+            digits = data[content:content + 16].hex()
+            parts = [digits[:8], digits[8:12], digits[12:16], digits[16:20], digits[20:]]
+            return {"fields": {"usertype": "-".join(parts)}}
+        if name == b"data" and end - content >= 8 and number(data, content, 4) not in DATA_TYPES:
+            return {"fields": metadata(number(data, content, 4), data[content + 8:end])}
+        if latin(name) not in READERS or name == b"mp4a" and parent == b"wave":
+            if parent != b"stsd":
+                return {}
+            fields = self.brief(name, content, end, parent, 0)
+            return {"fault": "unexpected end of input"} if fields is None else {"fields": fields}
+        own = data[at:end]
+        try:
+            header = Header(own, 0)
+            header.size = len(own) - header.start
+            box = read_row(own, header)
+        except Fault as fault:
+            words = {"End": "unexpected end of input"}
+            kind, *rest = fault.args
+            return {"fault": words.get(kind) or rest[0] + (" not found" if kind == "NotFound" else "")}
+        if name == b"data":
+            return {"fields": metadata(NUMBERS[box["data_type"]], bytes(box["data_bytes"]))}
+        return {"fields": fields_of(latin(name), box)}
+
+    def fields_before(self, name, content, end, parent):
+        """How many bytes are before the first box in a box, if it holds boxes and has room for them."""
+        before = self.fields_of(name, content, end, parent)
+        return None if before is None or end - content < before else before
+
+    def fields_of(self, name, content, end, parent):
+        """How many bytes are before the first box in a box of this name, if such boxes hold boxes."""
+        data = self.data
+        if parent == b"ilst":
+            return 0
+        if parent == b"stsd":
+            if self.handler == b"vide":
+                return 78
+            if self.handler == b"soun":
+                version = number(data, content + 8, 2) if end - content >= 10 else 0
+                return {1: 44, 2: 64}.get(version, 28) if self.quicktime else 28
+            return {b"tx3g": 38, b"wvtt": 8, b"mp4s": 8}.get(name)
+        if name in CONTAINERS:
+            return 0
+        if name == b"meta":
+            return 0 if end - content < 4 or end - content >= 8 and data[content + 4:content + 8] == b"hdlr" else 4
+        return 8 if name in (b"stsd", b"dref") else None
+
+    def level(self, depth, at, end, parent):
+        """The boxes from an offset to the end of the content that they are in."""
+        data, boxes = self.data, []
+        while at < end:
+            left = end - at
+            name = data[at + 4:at + 8] if left >= 8 else None
+            header = 16 if left >= 8 and number(data, at, 4) == 1 else 8
+            box = {"type": latin(name), "position": at, "length": left, "header": left}
+            boxes.append(box)
+            if left < header:
+                box.update(fault="unexpected end of input", cut=True)
+                return boxes
+            size = number(data, at + 8, 8) if header == 16 else number(data, at, 4)
+            if size == 0 and depth == 0:
+                size = left
+            if size < header:
+                box.update(fault="box size too small", cut=True)
+                return boxes
+            after = min(at + size, end)
+            box.update(length=size, header=header)
+            self.box(box, depth, name, at + header, after, parent, size > left)
+            at = after
+        return boxes
+
+    def box(self, box, depth, name, content, end, parent, cut):
+        """What a box has beside its header."""
+        before = self.fields_before(name, content, end, parent)
+        outer = self.handler
+        if name == b"mdia":
+            self.handler = None
+        if cut:
+            box.update(fault="unexpected end of input", cut=True)
+        elif before is None:
+            box.update(self.leaf(name, box["position"], content, end, parent))
+        elif depth >= DEEPEST:
+            box["deep"] = True
+        elif parent == b"stsd" and name == b"tx3g" and self.handler not in (b"vide", b"soun"):
+            box.update(self.leaf(name, box["position"], content, end, parent))
+        else:
+            fields = self.brief(name, content, end, parent, before)
+            box.update({"fault": "unexpected end of input"} if fields is None else {"fields": fields} if fields else {})
+        if before is not None and depth < DEEPEST:
+            first = min(content + before, end)
+            box["children"] = self.level(depth + 1, first, end, name)
+        if name == b"mdia":
+            self.handler = outer
+        if name == b"hdlr" and parent == b"mdia" and not cut:
+            self.handler = self.data[content + 8:content + 12] if end - content >= 12 else b"\0\0\0\0"
+        if name == b"ftyp" and depth == 0 and not cut:
+            self.quicktime = self.data[content:content + 4] == b"qt  " and end - content >= 4
+
+
+def tree(data):
+    """The boxes of a file, as the JSON has them; and `deep` where one is too deep to be gone into, `cut` where it isn't
+    whole."""
+    return Walk(data).boxes
+
+
+def plain(boxes):
+    """The boxes without what the JSON doesn't say."""
+    found = []
+    for box in boxes:
+        box = {key: value for key, value in box.items() if key not in ("deep", "cut")}
+        if "children" in box:
+            box["children"] = plain(box["children"])
+        found.append(box)
+    return found
+
+
+def every(boxes, around=()):
+    """Every box, with the boxes around it, in the order of the file."""
+    for box in boxes:
+        yield box, around
+        yield from every(box.get("children", []), (*around, box))
+
+
+def is_faulty(boxes):
+    return any("fault" in box for box, _ in every(boxes))
+
+
+# ---- the text
+
+DATES = {"creation_time", "modification_time"}
+FLAGS = {
+    "tkhd": {1: "enabled", 2: "in_movie", 4: "in_preview", 8: "size_is_aspect_ratio"},
+    "tfhd": {1: "base_data_offset", 2: "sample_description_index", 8: "default_sample_duration",
+             16: "default_sample_size", 32: "default_sample_flags", 0x10000: "duration_is_empty",
+             0x20000: "default_base_is_moof"},
+    "trun": {1: "data_offset", 4: "first_sample_flags", 0x100: "sample_duration", 0x200: "sample_size",
+             0x400: "sample_flags", 0x800: "sample_composition_time_offset"},
+    "url ": {1: "same_file"},
+}
+SAMPLE_FLAGS = {"default_sample_flags", "first_sample_flags", "sample_flags", "flags"}
+KINDS = {"vide": "video", "soun": "sound", "text": "text", "sbtl": "subtitles", "subt": "subtitles", "clcp": "captions",
+         "hint": "hints", "tmcd": "time code", "meta": "metadata", "pict": "pictures"}
+BYTES = {"message_data", "data_bytes", "compressorname", "reserved0", "reserved1", "style_record", "audio_sample_rate",
+         "sequence_parameter_sets", "picture_parameter_sets"}
+# The order of fields, where it is not that of the slow reader: what is not named comes after these.
+ORDERS = {
+    "emsg": ["version", "flags", "scheme_id_uri", "value", "timescale", "presentation_time", "presentation_time_delta",
+             "event_duration", "id", "message_data"],
+    "vpcC": ["version", "flags", "profile", "level", "bit_depth", "chroma_subsampling", "video_full_range_flag",
+             "color_primaries", "transfer_characteristics", "matrix_coefficients", "codec_initialization_data_size"],
+    "dec_config": ["object_type_indication", "stream_type", "up_stream", "buffer_size_db", "max_bitrate", "avg_bitrate",
+                   "dec_specific"],
+    "trun": ["version", "flags", "sample_count", "data_offset", "first_sample_flags", "samples"],
+}
+
+
+# The boxes in groups, by the names of the fields that they are.
+NAMES = {"url": "url ", "avcc": "avcC", "hvcc": "hvcC", "vpcc": "vpcC"}
+
+
+def code_text(text):
+    if all(" " <= c <= "~" or "\xa0" <= c <= "\xff" for c in text):
+        return text
+    return "0x" + text.encode("latin-1").hex()
+
+
+def decimal(value):
+    """A number with at most 30 bits after the point, in full."""
+    if value == int(value):
+        return str(int(value))
+    text = f"{value:.30f}".rstrip("0")
+    return text
+
+
+def text_text(text):
+    found = ""
+    for c in text:
+        if c in '"\\':
+            found += "\\" + c
+        elif c == "\n":
+            found += "\\n"
+        elif c < " " or "\x7f" <= c <= "\x9f" or "\u2028" <= c <= "\u202e" or "\u2066" <= c <= "\u2069":
+            found += f"\\u{{{ord(c):x}}}"
+        else:
+            found += c
+    return f'"{found}"'
+
+
+def bytes_text(digits):
+    count = len(digits) // 2
+    shown_ = digits[:48]
+    front = shown_ + (".. " if count > 24 else " ") if shown_ else ""
+    return f"{front}({count} byte{'' if count == 1 else 's'})"
+
+
+def flags_text(flags, digits, names):
+    named = [name for bit, name in names.items() if flags & bit]
+    return f"0x{flags:0{digits}x}" + (f" ({', '.join(named)})" if named else "")
+
+
+def date_text(seconds):
+    most = (datetime.datetime(9999, 12, 31) - datetime.datetime(1904, 1, 1)).days * 86400
+    if 0 < seconds < most:
+        return f"{(datetime.datetime(1904, 1, 1) + datetime.timedelta(seconds=seconds)).isoformat()}Z ({seconds})"
+    return str(seconds)
+
+
+def value_text(name, value, within):
+    if name in DATES:
+        return date_text(value)
+    if name == "flags" and within not in ("sample",):
+        return flags_text(value, 6, FLAGS.get(within, {}))
+    if name in SAMPLE_FLAGS:
+        return flags_text(value, 8, {0x10000: "non_sync"})
+    if name in ("display_flags", "format_specific_flags"):
+        return flags_text(value, 8, {})
+    if name == "media_time":
+        return "empty" if value == -1 else str(value)
+    if name == "data_type":
+        return f"{value} ({TYPES.get(value, 'other')})"
+    if name in ("major_brand", "handler_type"):
+        return code_text(value)
+    if name == "compatible_brands":
+        return " ".join(map(code_text, value)) or "none"
+    if name in BYTES and not (name == "compressorname" and within != "vp09"):
+        return bytes_text(value)
+    if name == "box_record":
+        return " ".join(map(str, value))
+    if name == "matrix":
+        rows = [" ".join(decimal(value[letter]) for letter in row) for row in ("abu", "cdv", "xyw")]
+        return f"({'; '.join(rows)})"
+    if isinstance(value, float):
+        return decimal(value)
+    if isinstance(value, str):
+        return text_text(value)
+    return str(value)
+
+
+def samples(fields):
+    """The samples of a run, from its columns."""
+    names = {"sample_durations": "duration", "sample_sizes": "size", "sample_flags": "flags",
+             "sample_cts": "composition_time_offset"}
+    columns = {short: fields.pop(name) for name, short in names.items() if name in fields}
+    if columns:
+        count = max(map(len, columns.values()))
+        fields["samples"] = [{short: column[index] for short, column in columns.items()} for index in range(count)]
+    return fields
+
+
+class Lines:
+    """The lines of a tree."""
+
+    def __init__(self, rows, names):
+        self.rows, self.names, self.lines = rows, names, []
+
+    def fields(self, fields, within, indent, first=""):
+        """The pieces of fields, after what is in the last line, and the lines of their lists."""
+        before = first
+        for name, value in fields.items():
+            if name == "matrix" and value == UNITY:
+                continue
+            is_list = isinstance(value, list) and name not in ("compatible_brands", "box_record")
+            if before == "\n":
+                self.lines.append(" " * (indent + 2))
+            else:
+                self.lines[-1] += before
+            before = ", "
+            if isinstance(value, dict) and name != "matrix":
+                self.lines[-1] += f"{name}: {{"
+                self.fields(ordered(value, NAMES.get(name, name)), NAMES.get(name, name), indent, " ")
+                self.lines[-1] += " }"
+            elif is_list:
+                self.lines[-1] += f"{name}: {len(value)}"
+                self.entries(name, value, within, indent)
+                if value and self.rows:
+                    before = "\n"
+            else:
+                self.lines[-1] += f"{name}: {value_text(name, value, within)}"
+
+    def entries(self, name, entries, within, indent):
+        for index, entry in enumerate(entries[:self.rows]):
+            self.lines.append(f"{' ' * (indent + 4)}{index + 1}:")
+            if isinstance(entry, dict):
+                self.fields(entry, "sample" if name == "samples" else within, indent, " ")
+            else:
+                self.lines[-1] += " " + value_text(name, entry, within)
+        if 0 < self.rows < len(entries):
+            self.lines.append(f"{' ' * (indent + 4)}.. {len(entries) - self.rows} more")
+
+    def box(self, box, around, track):
+        name = box["type"]
+        indent = 2 * len(around)
+        head = f"{' ' * indent}{'-' if name is None else code_text(name)} @{box['position']} +{box['length']}"
+        self.lines.append(head)
+        called = self.names.get(name)
+        if name == "trak":
+            words = [f"track {track[0]}"] if track[0] is not None else []
+            words += [f"{KINDS.get(track[1], 'media')} ({code_text(track[1])})"] if track[1] is not None else []
+            self.lines[-1] += " " + ", ".join(words) if words else ""
+        if around and around[-1]["type"] == "stsd" and called:
+            self.lines[-1] += f" ({called})"
+        if "fault" in box:
+            self.lines[-1] += f" fault: {box['fault']}"
+        elif box.get("deep"):
+            self.lines[-1] += " not gone into: in 32 boxes"
+        elif "fields" in box:
+            leaf = "children" not in box
+            self.fields(ordered(box["fields"], name), name if leaf or name != "vp09" else "visual", indent, " ")
+        elif "children" not in box:
+            self.lines[-1] += " not read" + (f" ({called})" if called else "")
+
+
+def ordered(fields, name):
+    """The fields in their order, and the samples of a run in place of its columns."""
+    fields = samples(dict(fields)) if name == "trun" else fields
+    first = [key for key in ORDERS.get(name, []) if key in fields]
+    return {key: fields[key] for key in first + [key for key in fields if key not in first]}
+
+
+def track_of(data, box):
+    """The number of a track, and its handler."""
+    track_id = handler = None
+    for child in box.get("children", []):
+        content, size = child["position"] + child["header"], child["length"] - child["header"]
+        if child["type"] == "tkhd" and track_id is None and is_whole(child) and size >= 4:
+            at = 20 if data[content] else 12
+            track_id = number(data, content + at, 4) if size >= at + 4 else None
+        if child["type"] == "mdia" and is_whole(child):
+            for inner in child.get("children", []):
+                content, size = inner["position"] + inner["header"], inner["length"] - inner["header"]
+                if inner["type"] == "hdlr" and handler is None and is_whole(inner) and size >= 12:
+                    handler = latin(data[content + 8:content + 12])
+    return track_id, handler
+
+
+def is_whole(box):
+    """Whether the whole box is there: it may have another fault."""
+    return not box.get("cut")
+
+
+def lines(data, boxes, rows, names):
+    """The lines of the tree of a file."""
+    found = Lines(rows, names)
+    for box, around in every(boxes):
+        found.box(box, around, track_of(data, box) if box["type"] == "trak" else None)
+    return found.lines
+
+
+def document(name, boxes):
+    return {"file": name, "boxes": plain(boxes)}
+
+
+def dumps(value):
+    return json.dumps(value, ensure_ascii=False)
+
+
+# ---- the faults
+
+
+def paths(boxes, front=""):
+    """Every box with its path and the boxes around it, in the order of the file."""
+    counts = {}
+    for box in boxes:
+        index = counts.get(box["type"], 0)
+        counts[box["type"]] = index + 1
+        path = front + ("-" if box["type"] is None else code_text(box["type"])) + (f"[{index}]" if index else "")
+        yield box, path
+        yield from paths(box.get("children", []), path + "/")
+
+
+def stray(offsets, data, media):
+    """What is said of chunks that are in no media data."""
+    found = [(chunk, offset) for chunk, offset in enumerate(offsets, 1)
+             if not any(first <= offset < end for first, end in media)]
+    if not found:
+        return None
+    chunk, offset = found[0]
+    where = "is outside the file" if offset >= len(data) else "is in no media data"
+    more = f", and {len(found) - 1} more chunks are in none" if len(found) > 1 else ""
+    return f"chunk {chunk} at {offset} {where}{more}"
+
+
+def faults(data, boxes):
+    """The lines that `check` writes."""
+    media = [(box["position"] + box["header"], min(box["position"] + box["length"], len(data)))
+             for box in boxes if box["type"] == "mdat"]
+    found, elsewhere = [], False
+    for box, path in paths(boxes):
+        if box["type"] == "trak":
+            elsewhere = False
+        if box["type"] == "url " and "fields" in box and not box["fields"]["flags"] & 1:
+            elsewhere = True
+        fault = box.get("fault")
+        if fault is None and not elsewhere and box["type"] in ("stco", "co64") and "fields" in box:
+            fault = stray(box["fields"]["entries"], data, media)
+        if fault is not None:
+            found.append(f"{box['position']} {path}: {fault}")
+    if not any(box["type"] in ("moov", "moof") for box in boxes):
+        found.append("0 moov: there is no moov, and no moof")
+    return found
