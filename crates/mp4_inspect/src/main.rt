@@ -76,7 +76,7 @@ fn inspect_named<W: Write>(
             Ok(Outcome::of_faults(faulty))
         }
         Err(error) => {
-            let _ = eprintln!(rt; "mp4inspect: {error}");
+            let _ = eprintln!(rt; "mp4inspect: {name}: {error}");
             Ok(Outcome::Failed)
         }
     }

@@ -163,14 +163,7 @@ fn put_box<B: HasFields + Drop>(
     name_line(alloc, sink.look(), found, text)?;
     push_place(found, text)?;
     sink.begin(found.depth, columns(text.as_str()));
-    put_rest(
-        alloc,
-        found,
-        content,
-        around.track,
-        around.setting(),
-        sink,
-    )?;
+    put_rest(alloc, found, content, around.track, around.setting(), sink)?;
     text.push_str(sink.text())?;
     text.push('\n')?;
     Ok(())
