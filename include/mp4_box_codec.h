@@ -8,7 +8,8 @@
  *
  * What the caller ensures of every call:
  *
- *  - No pointer is NULL, also where its length or its number of places is 0: then it may point to any value of its type.
+ *  - NO POINTER IS NULL, ALSO WHERE ITS LENGTH OR ITS NUMBER OF PLACES IS 0: then it may point to any value of its type. (The
+ *    functions take slices, whose address is proved to be one of memory; the toolchain has no other form for an array.)
  *    Each pointer is aligned for its type.
  *  - From `bytes` on there are `length` readable bytes, and from an array on as many places as its number says. No length
  *    is more than 2^63 - 1 bytes.
@@ -34,8 +35,10 @@
 #include <stddef.h>
 #include <stdint.h>
 
-/* The version of the codec, by semantic versioning. */
+/* The version of the codec, by semantic versioning, and the same as a number: 1000000 for each major version, 1000 for each
+   minor one, and 1 for each patch. */
 #define MP4_VERSION "0.1.0"
+#define MP4_VERSION_NUMBER 1000
 
 #ifdef __cplusplus
 extern "C" {
@@ -57,8 +60,26 @@ enum {
     MP4_BOX_NOT_FOUND = 3,
     /* malloc or realloc returned NULL. */
     MP4_OUT_OF_MEMORY = 12,
-    /* The array has fewer places than there are elements. This is the number of no error of the codec. */
-    MP4_NO_ROOM = 100
+    /* The array has fewer places than there are elements. This is the number of no error of the codec, as are those below. */
+    MP4_NO_ROOM = 100,
+    /* No track has the track_ID. Only mp4_samples returns it, and those below. */
+    MP4_NO_TRACK = 101,
+    /* The tables of a track disagree: stsz lists another number of sizes than it counts samples; */
+    MP4_SAMPLE_SIZES_DISAGREE = 110,
+    /* stsc begins at another chunk than 1, */
+    MP4_FIRST_CHUNK_DISAGREES = 111,
+    /* or an entry of it begins no later than the one before it; */
+    MP4_CHUNK_ORDER_DISAGREES = 112,
+    /* stco or co64 has 2^32 chunks or more, */
+    MP4_CHUNK_COUNT_DISAGREES = 113,
+    /* or stsc and they hold fewer samples than stsz counts; */
+    MP4_CHUNKS_DISAGREE = 114,
+    /* stts has a duration for fewer samples than stsz counts; */
+    MP4_DURATIONS_DISAGREE = 115,
+    /* an entry of stss is not above the one before it, or the first is 0; */
+    MP4_SYNC_SAMPLES_DISAGREE = 116,
+    /* a chunk of stco or co64 begins so far out that the bytes of all samples of stsz would end past 2^64 - 1. */
+    MP4_OFFSETS_DISAGREE = 117
 };
 
 /* The place of a box in the bytes. */
@@ -66,6 +87,27 @@ struct mp4_span {
     uint64_t position; /* the offset of its first byte, where its header begins */
     uint64_t length;   /* the number of its bytes, with the header */
     uint32_t code;     /* the four characters of its code, the first in the highest byte: 'ftyp' is 0x66747970 */
+};
+
+/* A box at a path, and how long its header is. */
+struct mp4_place {
+    uint64_t position;      /* the offset of its first byte, where its header begins */
+    uint64_t length;        /* the number of its bytes with the header, as the header says it, also of a box that is cut */
+    uint64_t header_length; /* 8 or 16: its content begins so many bytes after its position */
+    uint32_t code;          /* the four characters of its code, the first in the highest byte */
+    uint8_t is_whole;       /* 1 if all its bytes are there, else 0 */
+};
+
+/* A sample of a track. Times are in the timescale of the media, which its mdhd has. */
+struct mp4_sample {
+    uint64_t offset;          /* of its first byte, from the front of the file; the file may end before it does */
+    uint64_t decode_time;     /* the sum of the durations of the samples before it */
+    int64_t rendering_offset; /* its composition time minus its decode time; 0 without ctts */
+    uint32_t size;            /* in bytes */
+    uint32_t duration;
+    uint32_t description; /* the index of its sample entry in stsd, counted from 1 */
+    uint32_t chunk;       /* counted from 1 */
+    uint8_t sync;         /* 1 if it is a sync sample, as each one is without stss; else 0 */
 };
 
 /* What is returned of a table beside its entries. */
@@ -145,6 +187,26 @@ uint32_t mp4_list(const uint8_t *bytes, size_t length, struct mp4_span *spans, s
 /* Writes the boxes of the bytes in their normal form; boxes of types that the codec doesn't read are as they are. Also
    MP4_INVALID_DATA if a box that was read is too large for a size of 32 bits. */
 uint32_t mp4_normal(const uint8_t *bytes, size_t length, uint8_t *out, size_t places, size_t *count);
+
+/* Finds the box at a path over the bytes of a file: codes of four characters with '/' between them, each with the number of
+   the box among those of its code in brackets, as in moov/trak[1]/mdia/mdhd. Numbers count from 0, and none means 0. The
+   text is UTF-8, has no zero after it, and is passed as MP4_TEXT("moov/trak"). MP4_BOX_NOT_FOUND if there is no such box,
+   and MP4_INVALID_DATA if the text is no path. */
+#define MP4_TEXT(text) ((const uint8_t *)("" text)), (sizeof(text) - 1)
+uint32_t mp4_find(const uint8_t *bytes, size_t length, const uint8_t *path, size_t path_length, struct mp4_place *place);
+
+/* The samples of the first track with this track_ID (8.3.2), over the bytes of a file: by the tables stsz, stsc, stco or
+   co64, stts, ctts and stss of its stbl. Also MP4_NO_TRACK; MP4_BOX_NOT_FOUND if the file has no moov, or the track lacks
+   mdhd, hdlr or a table that it has to have; and MP4_SAMPLE_SIZES_DISAGREE to MP4_OFFSETS_DISAGREE. Samples of fragments
+   are not among them. */
+uint32_t mp4_samples(const uint8_t *bytes, size_t length, uint32_t track_id, struct mp4_sample *samples, size_t places,
+                     size_t *count);
+
+/* The version of the library: MP4_VERSION_NUMBER of the header that it was built with. */
+uint32_t mp4_version(void);
+
+/* What a status means, in English, as characters of ASCII with no zero after them. */
+uint32_t mp4_status_text(uint32_t status, uint8_t *text, size_t places, size_t *count);
 
 /*
  * The tables. The bytes begin with the box, header included, which has to be whole; what follows it isn't read, but for

@@ -17,6 +17,29 @@ struct Span {
 
 #[repr(C)]
 #[derive(Clone, Copy, Debug, Default, PartialEq)]
+struct Place {
+    position: u64,
+    length: u64,
+    header_length: u64,
+    code: u32,
+    is_whole: u8,
+}
+
+#[repr(C)]
+#[derive(Clone, Copy, Debug, Default, PartialEq)]
+struct Sample {
+    offset: u64,
+    decode_time: u64,
+    rendering_offset: i64,
+    size: u32,
+    duration: u32,
+    description: u32,
+    chunk: u32,
+    sync: u8,
+}
+
+#[repr(C)]
+#[derive(Clone, Copy, Debug, Default, PartialEq)]
 struct Table {
     count: usize,
     flags: u32,
@@ -101,6 +124,10 @@ unsafe extern "C" {
     fn mp4_stsc(bytes: *const u8, length: usize, rows: *mut StscRow, places: usize, table: *mut Table) -> u32;
     fn mp4_elst(bytes: *const u8, length: usize, rows: *mut ElstRow, places: usize, table: *mut Table) -> u32;
     fn mp4_trun(bytes: *const u8, length: usize, rows: *mut TrunRow, places: usize, table: *mut TrunTable) -> u32;
+    fn mp4_find(bytes: *const u8, length: usize, path: *const u8, path_length: usize, place: *mut Place) -> u32;
+    fn mp4_samples(bytes: *const u8, length: usize, id: u32, rows: *mut Sample, places: usize, count: *mut usize) -> u32;
+    fn mp4_status_text(status: u32, text: *mut u8, places: usize, count: *mut usize) -> u32;
+    fn mp4_version() -> u32;
 }
 
 /// One call over these bytes. The pointers are those of slices, so what the header asks of the caller holds.
@@ -149,6 +176,25 @@ where
     assert_eq!(call(function, b"\0\0\0\x08free", &mut [], &mut found), INVALID_DATA);
     assert_eq!(call(function, &[], &mut [], &mut found), END_OF_INPUT);
     assert_eq!(found, T::default());
+}
+
+/// The functions that find boxes and samples, and those that say what the library is.
+fn others(stream: &[u8]) {
+    let (mut place, mut count, mut rows, mut text) = (Place::default(), 9, [Sample::default()], [0; 40]);
+    let find = |path: &[u8], place: &mut Place| unsafe {
+        mp4_find(stream.as_ptr(), stream.len(), path.as_ptr(), path.len(), place)
+    };
+    assert_eq!(find(b"stco[1]", &mut place), BOX_NOT_FOUND);
+    assert_eq!(find(b"stc", &mut place), INVALID_DATA);
+    assert_eq!(place, Place::default());
+    assert_eq!(find(b"free", &mut place), OK);
+    let free = u32::from_be_bytes(*b"free");
+    assert_eq!(place, Place { position: 0, length: 17, header_length: 16, code: free, is_whole: 1 });
+    let samples = unsafe { mp4_samples(stream.as_ptr(), stream.len(), 1, rows.as_mut_ptr(), 1, &mut count) };
+    assert_eq!((samples, count, rows), (BOX_NOT_FOUND, 9, [Sample::default()]));
+    assert_eq!(unsafe { mp4_status_text(NO_ROOM, text.as_mut_ptr(), text.len(), &mut count) }, OK);
+    assert_eq!(&text[..count], b"the array has too few places");
+    assert_eq!(unsafe { mp4_version() }, 1000);
 }
 
 fn main() {
@@ -205,5 +251,6 @@ fn main() {
     let told = TrunTable { count: 1, flags: 0xa00, sample_count: 1, version: 5, ..TrunTable::default() };
     let sample = TrunRow { size: 0x81828384, composition_offset: 0x85868788, ..TrunRow::default() };
     hands_table(mp4_trun, trun, &[sample], told);
-    println!("c_caller, in Rust: 12 functions");
+    others(stream);
+    println!("c_caller, in Rust: 16 functions");
 }

@@ -57,9 +57,9 @@ def mdhd(scale, language):
     return full(b"mdhd", 0, 0, be(4, 3797824089, 0, scale, 5 * scale) + be(2, letters, 0))
 
 
-def track(number, kind, name, language, entries, table, header=None):
+def track(number, kind, name, language, entries, table, header=None, front=b""):
     dinf = box(b"dinf", full(b"dref", 0, 0, be(4, 1) + full(b"url ", 0, 1)))
-    minf = box(b"minf", dinf + box(b"stbl", stsd(*entries) + table))
+    minf = box(b"minf", front + dinf + box(b"stbl", stsd(*entries) + table))
     media = box(b"mdia", mdhd(48000, language) + handler(kind, name) + minf)
     return box(b"trak", (header or tkhd(number)) + media)
 
@@ -98,7 +98,8 @@ def newer():
 
 
 def quicktime():
-    """A QuickTime movie: sound of versions 0, 1 and 2, a text track, metadata without version and flags, no brands."""
+    """A QuickTime movie: sound of versions 0, 1 and 2 beside a handler of data, a text track, metadata without version
+    and flags, no brands."""
     wave = box(b"wave", box(b"frma", b"mp4a") + box(b"mp4a", bytes(4)) + box(b"\0\0\0\0"))
     second = be(4, 72) + bytes.fromhex("40e7700000000000") + be(4, 6, 0x7F000000, 24, 12, 18, 1)
     entries = [sound(b"sowt", 0, 2, 16, 44100 << 16, b"", b""),
@@ -107,7 +108,9 @@ def quicktime():
     text = box(b"text", bytes(6) + be(2, 1) + bytes(43))
     meta = box(b"meta", handler(b"mdta", b"") + box(b"keys", bytes(8)))
     udta = box(b"udta", meta + box(b"\xa9nam", b"\0\3\0\0abc") + bytes(4))
-    tracks = track(7, b"soun", b"\6Sounds", b"und", entries, b"") + track(9, b"text", b"", b"fra", [text], b"")
+    data = full(b"hdlr", 0, 0, b"dhlr" + b"alis" + bytes(12) + b"\0")
+    sounds = track(7, b"soun", b"\6Sounds", b"und", entries, b"", front=data)
+    tracks = sounds + track(9, b"text", b"", b"fra", [text], b"")
     return ftyp(b"qt  ") + box(b"wide") + box(b"mdat", bytes(8)) + box(b"moov", tracks + udta)
 
 
@@ -151,6 +154,60 @@ def fragments():
     return front + bad + full(b"dref", 0, 0, be(4, 9) + b"\0\0\0")
 
 
+def tables():
+    """A movie of tracks whose tables say all of each sample: runs of everything, one size for all samples and offsets
+    of 64 bits, a duration too few, no samples, chunks that begin late."""
+    entry = visual(b"mp4v", 64, 48, b"", b"")
+    media = 24 + 8  # after an ftyp of 24 bytes and the header of the media data
+    runs = (full(b"stts", 0, 0, be(4, 3, 3, 1000, 2, 500, 1, 2000))
+            + full(b"ctts", 1, 0, be(4, 3, 2, -100, 1, 0, 2, 700)) + full(b"stss", 0, 0, be(4, 2, 1, 4))
+            + full(b"stsc", 0, 0, be(4, 2, 1, 2, 1, 3, 1, 2))
+            + full(b"stsz", 0, 0, be(4, 0, 6, 10, 20, 30, 40, 50, 60))
+            + full(b"stco", 0, 0, be(4, 4, media, media + 100, media + 40, media + 200)))
+    even = (full(b"stts", 0, 0, be(4, 1, 10, 1024)) + full(b"stsc", 0, 0, be(4, 1, 1, 3, 1))
+            + full(b"stsz", 0, 0, be(4, 7, 5)) + full(b"co64", 0, 0, be(4, 2) + be(8, media + 300, media + 330)))
+    short = (full(b"stts", 0, 0, be(4, 1, 2, 10)) + full(b"stsc", 0, 0, be(4, 1, 1, 3, 1))
+             + full(b"stsz", 0, 0, be(4, 0, 3, 1, 2, 3)) + full(b"stco", 0, 0, be(4, 1, media)))
+    none = (full(b"stts", 0, 0, be(4, 0)) + full(b"stsc", 0, 0, be(4, 0)) + full(b"stsz", 0, 0, be(4, 0, 0))
+            + full(b"stco", 0, 0, be(4, 0)))
+    late = (full(b"stts", 0, 0, be(4, 1, 2, 10)) + full(b"stsc", 0, 0, be(4, 1, 2, 3, 1))
+            + full(b"stsz", 0, 0, be(4, 1, 2)) + full(b"stco", 0, 0, be(4, 1, media)))
+    kinds = [(1, runs), (2, even), (3, short), (5, none), (4, late)]
+    return (ftyp(b"isom", b"isom", b"mp42") + box(b"mdat", bytes(400))
+            + movie(*(track(number, b"vide", b"", b"und", [entry], table) for number, table in kinds)))
+
+
+def segments():
+    """Fragments of two tracks: each base of data, runs with and without offsets, times that go on; and of a track that
+    the movie doesn't have."""
+    none = (full(b"stts", 0, 0, be(4, 0)) + full(b"stsc", 0, 0, be(4, 0)) + full(b"stsz", 0, 0, be(4, 0, 0))
+            + full(b"stco", 0, 0, be(4, 0)))
+    one = (full(b"stts", 0, 0, be(4, 1, 2, 50)) + full(b"stsc", 0, 0, be(4, 1, 1, 2, 1))
+           + full(b"stsz", 0, 0, be(4, 9, 2)) + full(b"stco", 0, 0, be(4, 1, 24)))
+    kept = movie(track(1, b"vide", b"", b"und", [visual(b"mp4v", 64, 48, b"", b"")], none),
+                 track(2, b"soun", b"", b"und", [sound(b"sowt", 0, 2, 16, 48000 << 16, b"", b"")], one))
+    defaults = box(b"mvex", full(b"trex", 0, 0, be(4, 1, 1, 3000, 11, 0x1010000))
+                   + full(b"trex", 0, 0, be(4, 2, 3, 1024, 0, 0)))
+    moov = be(4, len(kept) + len(defaults)) + kept[4:] + defaults
+
+    def traf(flags, track_, fields, *parts):
+        return box(b"traf", full(b"tfhd", 0, flags, be(4, track_) + fields) + b"".join(parts))
+
+    def moof(number, *trafs):
+        return box(b"moof", full(b"mfhd", 0, 0, be(4, number)) + b"".join(trafs))
+
+    first = moof(1, traf(0x20000, 1, b"", full(b"tfdt", 1, 0, be(8, 2**33)),
+                         full(b"trun", 0, 5, be(4, 3, 300, 0x2000000)), full(b"trun", 1, 0xA00, be(4, 2, 5, -7, 6, 8))),
+                 traf(0, 2, b"", full(b"trun", 0, 0x300, be(4, 2, 512, 40, 256, 50))))
+    second = moof(2, traf(0x3B, 2, be(8, 2**32) + be(4, 2, 100, 8, 0x10000), full(b"trun", 0, 0, be(4, 3))),
+                  traf(0, 1, b"", full(b"trun", 0, 0x401, be(4, 2, -4, 0, 0x10000)), full(b"trun", 0, 0, be(4, 0))),
+                  traf(0x20000, 7, b"", full(b"trun", 0, 0, be(4, 1))))
+    third = moof(3, traf(0x20000, 1, b"", full(b"trun", 0, 1, be(4, 2, -2000000))),
+                 traf(0, 2, b"", full(b"trun", 0, 0, be(4, 2))))
+    return ftyp(b"iso5", b"iso5", b"dash") + moov + first + box(b"mdat", bytes(40)) + second + third
+
+
 def made():
     """The files, by name."""
-    return {"newer": newer(), "quicktime": quicktime(), "titles": titles(), "fragments": fragments()}
+    return {"tables": tables(), "segments": segments(),
+            "newer": newer(), "quicktime": quicktime(), "titles": titles(), "fragments": fragments()}

@@ -8,6 +8,7 @@ import json
 
 from slow_fields import Fault, Header
 from slow_reader import DATA_TYPES, READERS, read_row
+from slow_samples import disagreement
 
 CONTAINERS = b"moov trak mdia minf stbl edts mvex moof traf mfra udta dinf sinf schi wave iprp ipco ilst".split()
 DEEPEST = 32
@@ -224,8 +225,6 @@ class Walk:
         """What a box has beside its header."""
         before = self.fields_before(name, content, end, parent)
         outer = self.handler
-        if name == b"mdia":
-            self.handler = None
         if cut:
             box.update(fault="unexpected end of input", cut=True)
         elif before is None:
@@ -476,7 +475,7 @@ def track_of(data, box):
         if child["type"] == "tkhd" and track_id is None and is_whole(child) and size >= 4:
             at = 20 if data[content] else 12
             track_id = number(data, content + at, 4) if size >= at + 4 else None
-        if child["type"] == "mdia" and is_whole(child):
+        if child["type"] == "mdia":
             for inner in child.get("children", []):
                 content, size = inner["position"] + inner["header"], inner["length"] - inner["header"]
                 if inner["type"] == "hdlr" and handler is None and is_whole(inner) and size >= 12:
@@ -531,6 +530,25 @@ def stray(offsets, data, media):
     return f"chunk {chunk} at {offset} {where}{more}"
 
 
+def tables_fault(table):
+    """How the tables of samples in an `stbl` disagree; none if they agree, or if one is missing or can't be read."""
+    found = {}
+    for box in table["children"]:
+        found.setdefault(box["type"], box)
+    if "stco" not in found and "co64" in found:
+        found["stco"] = found["co64"]
+    used = [found[name] for name in ("stsz", "stsc", "stco", "stts", "ctts", "stss") if name in found]
+    if not {"stsz", "stsc", "stco", "stts"} <= set(found) or not all("fields" in box for box in used):
+        return None
+    sizes, runs, offsets, times = (found[name]["fields"] for name in ("stsz", "stsc", "stco", "stts"))
+    sync = found["stss"]["fields"]["entries"] if "stss" in found else None
+    return disagreement({
+        "sizes": (sizes["sample_count"], sizes["sample_size"], sizes["sample_sizes"]),
+        "runs": [(run["first_chunk"], run["samples_per_chunk"], 0) for run in runs["entries"]],
+        "offsets": offsets["entries"],
+        "durations": [(time["sample_count"], time["sample_delta"]) for time in times["entries"]], "sync": sync})
+
+
 def faults(data, boxes):
     """The lines that `check` writes."""
     media = [(box["position"] + box["header"], min(box["position"] + box["length"], len(data)))
@@ -544,6 +562,8 @@ def faults(data, boxes):
         fault = box.get("fault")
         if fault is None and not elsewhere and box["type"] in ("stco", "co64") and "fields" in box:
             fault = stray(box["fields"]["entries"], data, media)
+        if fault is None and box["type"] == "stbl" and not box.get("cut") and "children" in box:
+            fault = tables_fault(box)
         if fault is not None:
             found.append(f"{box['position']} {path}: {fault}")
     if not any(box["type"] in ("moov", "moof") for box in boxes):

@@ -1,10 +1,10 @@
-"""The stored files of tests/dump_of and their dumps."""
+"""The stored files of tests/inspect_of."""
 
 import glob
 import os
 import re
 
-FILES = os.path.join(os.path.dirname(os.path.abspath(__file__)), "dump_of")
+FILES = os.path.join(os.path.dirname(os.path.abspath(__file__)), "inspect_of")
 
 
 def stored_names():
@@ -18,9 +18,3 @@ def stored(name):
         text = re.sub("#.*", "", file.read())
     pieces = re.findall(r"'[^']*'|\S+", text)
     return b"".join(piece[1:-1].encode() if piece[0] == "'" else bytes.fromhex(piece) for piece in pieces)
-
-
-def stored_dump(name):
-    """The text of its dump."""
-    with open(os.path.join(FILES, name + ".dump"), encoding="utf-8") as file:
-        return file.read()

@@ -27,7 +27,8 @@ unfoldable pub bytes_mark : MarkBox → List ℕ
 bytes_mark v = bytes_of_fields (fields_mark v)
 
 abbrev pub format_mark : Format MarkBox
-format_mark = record { name = λ _. names.UnknownBox MARK; size = λ _. 12; Writable = WritableMark; bytes = bytes_mark; normal = λ v. v }
+format_mark = record
+    { name = λ _. names.UnknownBox MARK; size = λ _. 12; Writable = WritableMark; bytes = bytes_mark; normal = λ v. v }
 
 -- the one name that is read
 abbrev pub known_mark : BoxType → Bool

@@ -11,7 +11,8 @@ use Rattle.mp4_frame.proofs.Rows.{one_run_again, one_run_is}
 use Rattle.mp4_stream.specs.Sound.{ReadsSoundly, ReadsOwnCode}
 use Rattle.example_callers.specs.declared.mark.TheConstants.{MARK}
 use Rattle.example_callers.specs.declared.mark.MarkBox.{MarkBox}
-use Rattle.example_callers.specs.Mark.{value_mark, reads_mark, fields_mark, WritableMark, bytes_mark, format_mark, known_mark, reading_mark}
+use Rattle.example_callers.specs.Mark.{value_mark, reads_mark, fields_mark, WritableMark, bytes_mark, format_mark}
+use Rattle.example_callers.specs.Mark.{known_mark, reading_mark}
 
 pub laws_mark : IsBox reads_mark format_mark
 unfolding bytes_mark reads_mark
@@ -19,7 +20,11 @@ laws_mark = record {
   header = λ v w. header_of_fields _ w refl;
   normal_form = λ v w. own_normal_form v refl w;
   read_back = λ v w rest start top. one_run_again 8 4 value_mark (fields_mark v) rest v w (lit≤ tt) refl;
-  sound = λ bytes start long v are e. (refl, λ small. subst WritableMark (one_run_is 8 4 value_mark bytes v e) (lit< tt, (lit< tt, fits_read bytes are (Number 8 4 ∷ []))));
+  sound = λ bytes start long v are e. (
+    refl,
+    λ small. subst WritableMark (one_run_is 8 4 value_mark bytes v e)
+        (lit< tt, (lit< tt, fits_read bytes are (Number 8 4 ∷ []))),
+  );
 }
 
 pub own_name_mark : (v : MarkBox) → WritableMark v → OwnName known_mark (names.UnknownBox MARK)
@@ -29,7 +34,8 @@ pub read_back_mark : (v : MarkBox) → WritableMark v → ReadsBack (reading_mar
 read_back_mark v w = reads_back reads_mark (bytes_mark v) 12 v (laws_mark.header v w).long (laws_mark.read_back v w)
 
 pub sound_mark : ReadsSoundly known_mark reading_mark format_mark
-sound_mark name known fits bytes start size v are e = laws_mark.sound _ start size v (are_bytes-drop start bytes are) (reads_ok reads_mark bytes start size v e)
+sound_mark name known fits bytes start size v are e =
+    laws_mark.sound _ start size v (are_bytes-drop start bytes are) (reads_ok reads_mark bytes start size v e)
 
 pub code_mark : ReadsOwnCode known_mark reading_mark format_mark
 code_mark (names.UnknownBox code) known bytes start size v e = sym (eqb-true code MARK known)

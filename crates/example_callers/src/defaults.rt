@@ -13,7 +13,8 @@ pub fn default_extent() -> MehdBox
 
 /// A black color.
 pub fn default_video() -> VmhdBox
-    ensures { result ≡ record { version = 0; flags = 0; graphics_mode = 0; op_color = record { red = 0; green = 0; blue = 0 } } }
+    ensures { result ≡ record
+        { version = 0; flags = 0; graphics_mode = 0; op_color = record { red = 0; green = 0; blue = 0 } } }
 {
     VmhdBox::default()
 }

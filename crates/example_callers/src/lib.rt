@@ -1,5 +1,5 @@
-//! Callers of the codec with their contracts, and a box type from outside it. The CALLING.md of each crate quotes one of
-//! them.
+//! Callers of the codec with their contracts, and a box type from outside it. The CALLING.md of each crate quotes one
+//! of them.
 #![tactic(auto)]
 
 ghost use Rattle.std.specs.Prelude.{◌≡◌, ◌++◌, List, Ok, IfOk, OnErr};
@@ -24,7 +24,9 @@ use std::alloc::Global;
 
 /// Appends the boxes of a file, in their normal form.
 pub fn append_normal(alloc: Global, file: &[u8], out: &mut Vec<u8>) -> Result<u64>
-    ensures ok { IfOk result (λ _. (vs : List AnyBox) × ((boxes known_any reading_any file.now 0).outcome ≡ Ok vs) × (out.new.items ≡ out.old.items ++ stream format_any.bytes vs)) }
+    ensures ok { IfOk result
+        (λ _. (vs : List AnyBox) × ((boxes known_any reading_any file.now 0).outcome ≡ Ok vs)
+        × (out.new.items ≡ out.old.items ++ stream format_any.bytes vs)) }
     ensures err { OnErr result (out.new.items ≡ out.old.items) }
 {
     let boxes = read_boxes(alloc, &mut ByteCursor::new(file))?;

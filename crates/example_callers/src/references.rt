@@ -9,7 +9,11 @@ use std::alloc::Global;
 
 /// Appends the data references of a track whose media data is at a URL.
 pub fn append_reference(alloc: Global, url: &str, out: &mut Vec<u8>) -> Result<u64>
-    ensures ok { IfOk result (λ _. out.new.items ≡ out.old.items ++ bytes_dinf (record { dref = record { version = 0; flags = 0; url = Some (record { version = 0; flags = 0; location = url.now }) } })) }
+    ensures ok { IfOk result
+        (λ _. out.new.items ≡ out.old.items
+        ++ bytes_dinf (record {
+          dref = record { version = 0; flags = 0; url = Some (record { version = 0; flags = 0; location = url.now }) };
+        })) }
     ensures err { OnErr result (out.new.items ≡ out.old.items) }
 {
     let url = UrlBox {

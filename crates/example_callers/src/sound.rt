@@ -15,7 +15,8 @@ use std::alloc::Global;
 /// Reads the `esds` whose header was just read. One with more than `most` descriptor headers is invalid data.
 pub fn read_small_esds(reader: &mut ByteCursor, size: u64, most: u64) -> Result<EsdsBox>
     requires { 8 ≤ reader.old.position }
-    ensures value { IfOk result (λ v. (reading reads_esds reader.old.bytes.now (reader.old.position - 8) size).outcome ≡ Ok v) }
+    ensures value { IfOk result
+        (λ v. (reading reads_esds reader.old.bytes.now (reader.old.position - 8) size).outcome ≡ Ok v) }
     ensures small { IfOk result (λ _. headers_esds reader.old.bytes.now (reader.old.position - 8) size ≤ most) }
 {
     let (result, headers) = EsdsBox::read_counted(reader, size);
@@ -26,15 +27,18 @@ pub fn read_small_esds(reader: &mut ByteCursor, size: u64, most: u64) -> Result<
     Ok(esds)
 }
 
-/// Reads the `stsd` whose header was just read, and returns the configuration of its sound. An `stsd` without an `mp4a`, or
-/// with one that has no `esds`, is invalid data.
+/// Reads the `stsd` whose header was just read, and returns the configuration of its sound. An `stsd` without an
+/// `mp4a`, or with one that has no `esds`, is invalid data.
 pub fn audio_configuration(
     alloc: Global,
     reader: &mut ByteCursor,
     size: u64,
 ) -> Result<DecoderSpecificDescriptor>
     requires { 8 ≤ reader.old.position }
-    ensures { IfOk result (λ d. (stsd : StsdBox) × (mp4a : Mp4aBox) × (esds : EsdsBox) × ((reading reads_stsd reader.old.bytes.now (reader.old.position - 8) size).outcome ≡ Ok stsd) × (stsd.mp4a ≡ Some mp4a) × (mp4a.esds ≡ Some esds) × (d ≡ esds.es_desc.dec_config.dec_specific)) }
+    ensures { IfOk result
+        (λ d. (stsd : StsdBox) × (mp4a : Mp4aBox) × (esds : EsdsBox)
+        × ((reading reads_stsd reader.old.bytes.now (reader.old.position - 8) size).outcome ≡ Ok stsd)
+        × (stsd.mp4a ≡ Some mp4a) × (mp4a.esds ≡ Some esds) × (d ≡ esds.es_desc.dec_config.dec_specific)) }
 {
     let stsd = StsdBox::read_box(alloc, reader, size)?;
     let Some(mp4a) = &stsd.mp4a else {

@@ -11,12 +11,22 @@ use Rattle.example_sidx.specs.declared.sidx.TheConstants.{SIDX}
 use Rattle.example_sidx.specs.declared.sidx.Sidx.{Sidx}
 use Rattle.example_sidx.specs.declared.sidx.SidxEntry.{SidxEntry}
 
--- the entry: the widths of its fields in bits, the entry with these numbers, where n k is the k-th from 0 on, and its numbers
+-- the entry: the widths of its fields in bits, the entry with these numbers, where n k is the k-th from 0 on, and its
+-- numbers
 abbrev pub entry_sidx : EntryLayout SidxEntry
 entry_sidx = record {
   widths = 1 ∷ 31 ∷ 32 ∷ 1 ∷ 3 ∷ 28 ∷ [];
-  value = λ n. record { reference_type = n 0 == 1; referenced_size = n 1; subsegment_duration = n 2; starts_with_sap = n 3 == 1; sap_type = n 4; sap_delta_time = n 5 };
-  numbers = λ e. bit e.reference_type ∷ e.referenced_size ∷ e.subsegment_duration ∷ bit e.starts_with_sap ∷ e.sap_type ∷ e.sap_delta_time ∷ [];
+  value = λ n. record {
+    reference_type = n 0 == 1;
+    referenced_size = n 1;
+    subsegment_duration = n 2;
+    starts_with_sap =
+        n 3 == 1;
+    sap_type = n 4;
+    sap_delta_time = n 5;
+  };
+  numbers = λ e. bit e.reference_type ∷ e.referenced_size ∷ e.subsegment_duration ∷ bit e.starts_with_sap ∷ e.sap_type
+      ∷ e.sap_delta_time ∷ [];
 }
 
 -- The box: in both versions the widths of the fields after the flags, of which the last is reserved, the bytes of
@@ -26,8 +36,24 @@ layout_sidx = record {
   code = SIDX;
   widths = (32 ∷ 32 ∷ 32 ∷ 32 ∷ 16 ∷ []) ∷ (32 ∷ 32 ∷ 64 ∷ 64 ∷ 16 ∷ []) ∷ [];
   count_width = 2;
-  value = λ version flags n entries. record { version = version; flags = flags; reference_id = n 0; timescale = n 1; earliest_presentation_time = n 2; first_offset = n 3; entries = entries };
-  parts = λ v. record { version = v.version; flags = v.flags; numbers = v.reference_id ∷ v.timescale ∷ v.earliest_presentation_time ∷ v.first_offset ∷ 0 ∷ []; entries = v.entries };
+  value = λ version flags n entries.
+      record {
+        version = version;
+        flags = flags;
+        reference_id = n 0;
+        timescale = n 1;
+        earliest_presentation_time =
+            n 2;
+        first_offset = n 3;
+        entries = entries;
+      };
+  parts = λ v. record {
+    version = v.version;
+    flags = v.flags;
+    numbers =
+        v.reference_id ∷ v.timescale ∷ v.earliest_presentation_time ∷ v.first_offset ∷ 0 ∷ [];
+    entries = v.entries;
+  };
 }
 
 abbrev pub reads_sidx : List ℕ → ℕ → ℕ → Reading Sidx

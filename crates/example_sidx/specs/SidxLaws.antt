@@ -10,7 +10,8 @@ laws_entry = record {
   long = refl;
   fields = refl;
   some = lit< tt;
-  back = λ e i. record e { reference_type = flag_back e.reference_type i; starts_with_sap = flag_back e.starts_with_sap i };
+  back = λ e i. record e
+      { reference_type = flag_back e.reference_type i; starts_with_sap = flag_back e.starts_with_sap i };
   fit = λ n small. (flag_fits (n 0 == 1), (small 1, (small 2, (flag_fits (n 3 == 1), (small 4, (small 5, tt))))));
 }
 
@@ -23,8 +24,10 @@ laws_layout_sidx = record {
   counted = (lit≤ tt, lit≤ tt);
   back = λ v. refl;
   parts = λ version flags n entries. refl;
-  fit = λ version flags n entries.
-      ((λ small. (small 0, (small 1, (small 2, (small 3, (lit< tt, tt)))))), ((λ small. (small 0, (small 1, (small 2, (small 3, (lit< tt, tt)))))), tt));
+  fit = λ version flags n entries. (
+    (λ small. (small 0, (small 1, (small 2, (small 3, (lit< tt, tt)))))),
+    ((λ small. (small 0, (small 1, (small 2, (small 3, (lit< tt, tt)))))), tt),
+  );
 }
 
 pub laws_sidx : IsBox reads_sidx format_sidx

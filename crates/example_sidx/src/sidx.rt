@@ -113,7 +113,8 @@ impl BoxLayout<5, 6, 12> for Sidx {
     }
 
     fn from_parts(version: u8, flags: u32, n: &[u64; 5], entries: Entries<SidxEntry>) -> Sidx
-        requires { (k : ℕ) → slice_index n.now k < 2 ^ max (slice_index (32 ∷ 32 ∷ 32 ∷ 32 ∷ 16 ∷ []) k) (max (slice_index (32 ∷ 32 ∷ 64 ∷ 64 ∷ 16 ∷ []) k) 0) }
+        requires { (k : ℕ) → slice_index n.now k < 2 ^ max (slice_index (32 ∷ 32 ∷ 32 ∷ 32 ∷ 16 ∷ []) k)
+            (max (slice_index (32 ∷ 32 ∷ 64 ∷ 64 ∷ 16 ∷ []) k) 0) }
         ensures { result ≡ layout_sidx.value version flags (slice_index n.now) entries }
     {
         Sidx {

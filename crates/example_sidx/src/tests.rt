@@ -1,4 +1,5 @@
-//! Tests of what no contract says: bytes that were worked out from ISO/IEC 14496-12, 8.16.3, and not printed by this code.
+//! Tests of what no contract says: bytes that were worked out from ISO/IEC 14496-12, 8.16.3, and not printed by this
+//! code.
 
 mod laws;
 mod limits;

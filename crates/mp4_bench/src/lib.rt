@@ -66,7 +66,9 @@ fn write_times<B: StreamBox>(alloc: Global, bytes: &[u8], times: u64) -> Result<
 /// Reads a stream, and fills the front of `out` with the bytes that its boxes are written in. Returns their number.
 /// Out of memory also if `out` has no room for them.
 fn rewrite<B: StreamBox>(alloc: Global, bytes: &[u8], out: &mut [u8]) -> Result<u64>
-    ensures { IfOk result (λ n. (vs : List B) × ((boxes B.known B.named_reading bytes.now 0).outcome ≡ Ok vs) × (take n out.new ≡ stream B.format.bytes vs)) }
+    ensures { IfOk result
+        (λ n. (vs : List B) × ((boxes B.known B.named_reading bytes.now 0).outcome ≡ Ok vs)
+        × (take n out.new ≡ stream B.format.bytes vs)) }
 {
     let boxes = read_boxes_as::<B>(alloc, &mut ByteCursor::new(bytes))?;
     let mut stream = Vec::new(alloc);
@@ -123,11 +125,13 @@ pub extern "C" fn mp4_write_kept(alloc: Global, bytes: &[u8], times: u64) -> u64
     write_times::<KeptBox>(alloc, bytes, times).unwrap_or(u64::MAX)
 }
 
-/// Reads a stream, and fills the front of `out` with the bytes that its boxes are written in. Returns their number, which
-/// is 0 if all boxes were skipped; `u64::MAX` after an error, or if `out` has no room for them.
+/// Reads a stream, and fills the front of `out` with the bytes that its boxes are written in. Returns their number,
+/// which is 0 if all boxes were skipped; `u64::MAX` after an error, or if `out` has no room for them.
 #[unsafe(no_mangle)]
 pub extern "C" fn mp4_rewrite(alloc: Global, bytes: &[u8], out: &mut [u8]) -> u64
-    ensures { (result ≡ 2 ^ 64 - 1) ⊎ ((vs : List AnyBox) × ((boxes known_any reading_any bytes.now 0).outcome ≡ Ok vs) × (take result out.new ≡ stream format_any.bytes vs)) }
+    ensures { (result ≡ 2 ^ 64 - 1)
+        ⊎ ((vs : List AnyBox) × ((boxes known_any reading_any bytes.now 0).outcome ≡ Ok vs)
+        × (take result out.new ≡ stream format_any.bytes vs)) }
 {
     rewrite::<AnyBox>(alloc, bytes, out).unwrap_or(u64::MAX)
 }
@@ -135,7 +139,9 @@ pub extern "C" fn mp4_rewrite(alloc: Global, bytes: &[u8], out: &mut [u8]) -> u6
 /// The same, with boxes of other types kept.
 #[unsafe(no_mangle)]
 pub extern "C" fn mp4_rewrite_kept(alloc: Global, bytes: &[u8], out: &mut [u8]) -> u64
-    ensures { (result ≡ 2 ^ 64 - 1) ⊎ ((vs : List KeptBox) × ((boxes known_kept reading_kept bytes.now 0).outcome ≡ Ok vs) × (take result out.new ≡ stream format_kept.bytes vs)) }
+    ensures { (result ≡ 2 ^ 64 - 1)
+        ⊎ ((vs : List KeptBox) × ((boxes known_kept reading_kept bytes.now 0).outcome ≡ Ok vs)
+        × (take result out.new ≡ stream format_kept.bytes vs)) }
 {
     rewrite::<KeptBox>(alloc, bytes, out).unwrap_or(u64::MAX)
 }

@@ -18,7 +18,8 @@ code_text code = if list_all is_printable code then code else codes "0x" ++ enco
 
 -- the line of a box: position, length and name, with one space between
 abbrev pub line_of : BoxSpan → List ℕ
-line_of span = line (decimal span.position ++ codes " " ++ decimal span.length ++ codes " " ++ code_text (be_bytes 4 (code_of span.name)))
+line_of span = line (decimal span.position ++ codes " " ++ decimal span.length ++ codes " "
+    ++ code_text (be_bytes 4 (code_of span.name)))
 
 -- the lines of a list of boxes
 abbrev pub lines : List BoxSpan → List ℕ

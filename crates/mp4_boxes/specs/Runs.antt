@@ -89,5 +89,6 @@ MayRefuse commands.List = ListRefusal
 -- how a run of a command ends: all is written, or the fault is the outcome
 abbrev pub EndsAs : Command → Option (List ℕ) → Option (List ℕ) → Option (List ℕ) → Outcome → Type 0
 EndsAs command input old new outcomes.Done = (n : ℕ) × Runs (Makes command) (MayRefuse command) input old new (Ok n)
-EndsAs command input old new (outcomes.Failed fault) = Runs (Makes command) (MayRefuse command) input old new (Err fault)
+EndsAs command input old new (outcomes.Failed fault) =
+    Runs (Makes command) (MayRefuse command) input old new (Err fault)
 EndsAs command input old new outcomes.Misused = ⊥

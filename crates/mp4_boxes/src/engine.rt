@@ -2,7 +2,8 @@
 
 ghost use Rattle.std.specs.Prelude.{◌≡◌, ◌||◌, is_err, IfErr};
 ghost use Rattle.std.specs.Io.KnownBytes.{Keeps};
-ghost use Rattle.mp4_boxes.specs.Runs.{Runs, ReachesEnd, ReadsAll, Rewrites, WritesAll, Normalizes, NormalRefusal, is_read, is_write};
+ghost use Rattle.mp4_boxes.specs.Runs.{Runs, ReachesEnd, ReadsAll, Rewrites, WritesAll, Normalizes, NormalRefusal};
+ghost use Rattle.mp4_boxes.specs.Runs.{is_read, is_write};
 
 use crate::fault::RunFault;
 use mp4_io::{Input, Output};
@@ -57,7 +58,8 @@ pub fn run_normal<R: Read, W: Write>(
     input: &mut Input<R>,
     output: &mut Output<W>,
 ) -> Result<u64, RunFault>
-    ensures run { Runs Normalizes NormalRefusal (R.remaining input.old.inner) (W.contents output.old.inner) (W.contents output.new.inner) result }
+    ensures run { Runs Normalizes NormalRefusal (R.remaining input.old.inner) (W.contents output.old.inner)
+        (W.contents output.new.inner) result }
     ensures all_read { ReachesEnd (R.remaining input.new.inner) result }
     ensures read_failed { input.new.failed ≡ (input.old.failed || is_read result) }
     ensures write_failed { output.new.failed ≡ (output.old.failed || is_write result) }

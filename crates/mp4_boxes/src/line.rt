@@ -1,14 +1,13 @@
 //! The lines of a list of boxes.
 
-ghost use Rattle.std.specs.Prelude.{◌≡◌, ◌+◌, ◌≤◌, ◌++◌, drop, length, IfErr, IfOk};
+ghost use Rattle.std.specs.Prelude.{◌≡◌, ◌+◌, ◌≤◌, ◌++◌, drop, length, IfErr, OnOk};
 ghost use Rattle.std.specs.List.{list_all};
 ghost use Rattle.mp4_frame.specs.declared.error.Error.TheVariants.{OutOfMemory};
-ghost use Rattle.mp4_boxes.specs.Lines.{is_printable, code_text, line_of, lines};
+ghost use Rattle.mp4_boxes.specs.Lines.{is_printable, code_text, line_of};
 
 use itoa::write_digits;
 use mp4_frame::BoxSpan;
 use mp4_stream::{FourCC, Result};
-use std::alloc::Global;
 
 /// The most bytes that a line has: two numbers of at most 20 digits, a name of at most 10 characters, two spaces and a
 /// line feed.
@@ -63,16 +62,13 @@ fn put_line(line: &mut [u8; LONGEST], span: BoxSpan) -> usize
     write_digits(span.position, line, at)
 }
 
-/// The lines of a list of boxes.
-pub fn lines_of(alloc: Global, spans: &[BoxSpan]) -> Result<Vec<u8>>
-    ensures ok { IfOk result (λ text. text.items ≡ lines spans.now) }
+/// Appends the line of a box.
+pub fn push_line(lines: &mut Vec<u8>, span: BoxSpan) -> Result<()>
+    ensures ok { OnOk result (lines.new.items ≡ lines.old.items ++ line_of span) }
     ensures error { IfErr result (λ e. e ≡ OutOfMemory) }
 {
-    let mut text = Vec::new(alloc);
     let mut line = [0; LONGEST];
-    for span in spans {
-        let start = put_line(&mut line, *span);
-        text.extend_from_slice(&line[start..])?;
-    }
-    Ok(text)
+    let start = put_line(&mut line, span);
+    lines.extend_from_slice(&line[start..])?;
+    Ok(())
 }

@@ -8,6 +8,7 @@ mod fault;
 mod line;
 mod list;
 mod outcome;
+mod part;
 mod program;
 
 use command::argument_fault;

@@ -22,7 +22,8 @@ pub fn run_command<R: Read, W: Write>(
     input: &mut Input<R>,
     output: &mut Output<W>,
 ) -> Result<u64, RunFault>
-    ensures run { Runs (Makes command) (MayRefuse command) (R.remaining input.old.inner) (W.contents output.old.inner) (W.contents output.new.inner) result }
+    ensures run { Runs (Makes command) (MayRefuse command) (R.remaining input.old.inner) (W.contents output.old.inner)
+        (W.contents output.new.inner) result }
     ensures all_read { ReachesEnd (R.remaining input.new.inner) result }
     ensures read_failed { input.new.failed ≡ (input.old.failed || is_read result) }
     ensures write_failed { output.new.failed ≡ (output.old.failed || is_write result) }
@@ -43,7 +44,8 @@ pub fn run_words<R: Read, W: Write>(
     output: &mut Output<W>,
 ) -> Outcome
     ensures command { (command : Command) → Names (map string_bytes (into_iter_items words)) command
-        → EndsAs command (R.remaining input.old.inner) (W.contents output.old.inner) (W.contents output.new.inner) result }
+        → EndsAs command (R.remaining input.old.inner) (W.contents output.old.inner)
+        (W.contents output.new.inner) result }
     ensures misused { (result ≡ Outcome.Misused)
         ↔ (¬ ((command : Command) × Names (map string_bytes (into_iter_items words)) command)) }
     ensures untouched { result ≡ Outcome.Misused → (input.new ≡ input.old) × (output.new ≡ output.old) }

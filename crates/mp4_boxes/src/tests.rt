@@ -1,8 +1,10 @@
-//! Tests of the program: runs over readers and writers that fail, the words that it takes, and the lines that it writes.
+//! Tests of the program: runs over readers and writers that fail, the words that it takes, and the lines that it
+//! writes.
 
 mod fakes;
 mod in_place;
 mod lines;
+mod parts;
 mod program;
 mod runs;
 

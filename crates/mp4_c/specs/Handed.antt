@@ -1,4 +1,5 @@
--- What a C caller is handed: a status, rows in an array of the caller's, and a summary that says how many rows there are.
+-- What a C caller is handed: a status, rows in an array of the caller's, and a summary that says how many rows there
+-- are.
 use Rattle.std.specs.Prelude.{◌≡◌, ℕ, ◌<◌, ◌≤◌, ◌⊎◌, List, ◌++◌, drop, length, Result, Ok, Err}
 use Rattle.mp4_frame.specs.Reading.{Reading, Refuses}
 use Rattle.mp4_frame.specs.declared.error.Error.{Error}
@@ -49,3 +50,7 @@ HandsReading r rows summary status old new summary_old summary_new =
 abbrev pub Checks : {A : Type 0} → Reading A → ℕ → Type 0
 Checks {A} r status =
     ((v : A) × ((r.outcome ≡ Ok v) × (status ≡ OK))) ⊎ ((e : Error) × (Refuses e r × (status ≡ number_of e)))
+
+-- some rows are handed over, and the summary is their number
+abbrev pub IsHanded : {R : Type 0} → ℕ → List R → List R → ℕ → Type 0
+IsHanded {R} status old new count = (rows : List R) × ((count ≡ length rows) × Fills status rows old new)

@@ -1,5 +1,6 @@
 pub mod Status
 pub mod Tells
 pub mod Handed
-pub mod Front
 pub mod Rows
+pub mod Find
+pub mod Samples

@@ -44,7 +44,14 @@ abbrev pub table_stss : StssBox → Table
 table_stss v = table_of v.version v.flags v.entries
 
 abbrev pub table_stsz : StszBox → StszTable
-table_stsz v = record { count = length v.sample_sizes; flags = v.flags; sample_size = v.sample_size; sample_count = v.sample_count; version = v.version }
+table_stsz v = record {
+  count = length v.sample_sizes;
+  flags = v.flags;
+  sample_size = v.sample_size;
+  sample_count =
+      v.sample_count;
+  version = v.version;
+}
 
 abbrev pub row_stts : SttsEntry → SttsRow
 row_stts e = record { sample_count = e.sample_count; sample_delta = e.sample_delta }
@@ -59,20 +66,33 @@ abbrev pub table_ctts : CttsBox → Table
 table_ctts v = table_of v.version v.flags v.entries
 
 abbrev pub row_stsc : StscEntry → StscRow
-row_stsc e = record { first_chunk = e.first_chunk; samples_per_chunk = e.samples_per_chunk; sample_description_index = e.sample_description_index; first_sample = e.first_sample }
+row_stsc e = record {
+  first_chunk = e.first_chunk;
+  samples_per_chunk = e.samples_per_chunk;
+  sample_description_index =
+      e.sample_description_index;
+  first_sample = e.first_sample;
+}
 
 abbrev pub table_stsc : StscBox → Table
 table_stsc v = table_of v.version v.flags v.entries
 
 abbrev pub row_elst : ElstEntry → ElstRow
-row_elst e = record { segment_duration = e.segment_duration; media_time = e.media_time; media_rate = e.media_rate; media_rate_fraction = e.media_rate_fraction }
+row_elst e = record {
+  segment_duration = e.segment_duration;
+  media_time = e.media_time;
+  media_rate =
+      e.media_rate;
+  media_rate_fraction = e.media_rate_fraction;
+}
 
 abbrev pub table_elst : ElstBox → Table
 table_elst v = table_of v.version v.flags v.entries
 
 -- A run has up to four lists, all equally long. So there are as many rows as the longest list has numbers.
 abbrev pub count_trun : TrunBox → ℕ
-count_trun v = max (max (length v.sample_durations) (length v.sample_sizes)) (max (length v.sample_flags) (length v.sample_cts))
+count_trun v = max (max (length v.sample_durations) (length v.sample_sizes))
+    (max (length v.sample_flags) (length v.sample_cts))
 
 -- the row of the i-th sample: 0 where the run doesn't have the list
 abbrev pub row_trun : TrunBox → ℕ → TrunRow

@@ -6,7 +6,8 @@ use Rattle.mp4_c.specs.declared.status.TheConstants.{END_OF_INPUT, INVALID_DATA,
 
 -- it is the number of one of four errors, and tells the first fault, or that memory is asked for before it
 pub record Tells {A : Type 0} (status : ℕ) (r : Reading A) : Type 0 where
-  pub known : (status ≡ END_OF_INPUT) ⊎ ((status ≡ INVALID_DATA) ⊎ ((status ≡ BOX_NOT_FOUND) ⊎ (status ≡ OUT_OF_MEMORY)))
+  pub known : (status ≡ END_OF_INPUT)
+      ⊎ ((status ≡ INVALID_DATA) ⊎ ((status ≡ BOX_NOT_FOUND) ⊎ (status ≡ OUT_OF_MEMORY)))
   pub end : status ≡ END_OF_INPUT → r.outcome ≡ Err End
   pub invalid : status ≡ INVALID_DATA → r.outcome ≡ Err Invalid
   pub not_found : status ≡ BOX_NOT_FOUND → (name : BoxType) × (r.outcome ≡ Err (NotFound name))

@@ -8,8 +8,8 @@ use crate::status::{OK, number_of};
 use mp4_stream::{ByteCursor, read_boxes};
 use std::alloc::Global;
 
-/// Reads all boxes of the bytes, and returns the status: that of the first fault, if there is one. Boxes of types that the
-/// codec doesn't read are skipped by their size.
+/// Reads all boxes of the bytes, and returns the status: that of the first fault, if there is one. Boxes of types that
+/// the codec doesn't read are skipped by their size.
 #[unsafe(no_mangle)]
 pub extern "C" fn mp4_check(alloc: Global, bytes: &[u8]) -> u32
     ensures { Checks (boxes known_any reading_any bytes.now 0) result }

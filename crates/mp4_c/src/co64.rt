@@ -3,7 +3,7 @@
 ghost use Rattle.std.specs.Prelude.{◌≡◌};
 ghost use Rattle.mp4_frame.specs.declared.codes.TheConstants as codes;
 ghost use Rattle.mp4_stream.specs.Boxes.{reads_co64};
-ghost use Rattle.mp4_c.specs.Front.{front_box};
+ghost use Rattle.mp4_track.specs.Front.{front_box};
 ghost use Rattle.mp4_c.specs.Handed.{HandsReading};
 ghost use Rattle.mp4_c.specs.Rows.{table_co64};
 
@@ -39,7 +39,8 @@ pub extern "C" fn mp4_co64(
     offsets: &mut [u64],
     table: &mut Table,
 ) -> u32
-    ensures { HandsReading (front_box reads_co64 codes.CO64 bytes.now) (λ v. v.entries) table_co64 result offsets.old offsets.new table.old table.new }
+    ensures { HandsReading (front_box reads_co64 codes.CO64 bytes.now) (λ v. v.entries) table_co64 result offsets.old
+        offsets.new table.old table.new }
 {
     read_table::<Co64Box, u64, Table>(alloc, codes::CO64, bytes, offsets, table)
 }

@@ -3,7 +3,7 @@
 ghost use Rattle.std.specs.Prelude.{◌≡◌, map};
 ghost use Rattle.mp4_frame.specs.declared.codes.TheConstants as codes;
 ghost use Rattle.mp4_stream.specs.Boxes.{reads_ctts};
-ghost use Rattle.mp4_c.specs.Front.{front_box};
+ghost use Rattle.mp4_track.specs.Front.{front_box};
 ghost use Rattle.mp4_c.specs.Handed.{HandsReading};
 ghost use Rattle.mp4_c.specs.Rows.{row_ctts, table_ctts};
 
@@ -54,7 +54,8 @@ pub extern "C" fn mp4_ctts(
     rows: &mut [CttsRow],
     table: &mut Table,
 ) -> u32
-    ensures { HandsReading (front_box reads_ctts codes.CTTS bytes.now) (λ v. map row_ctts v.entries) table_ctts result rows.old rows.new table.old table.new }
+    ensures { HandsReading (front_box reads_ctts codes.CTTS bytes.now) (λ v. map row_ctts v.entries) table_ctts result
+        rows.old rows.new table.old table.new }
 {
     read_table::<CttsBox, CttsRow, Table>(alloc, codes::CTTS, bytes, rows, table)
 }

@@ -3,7 +3,7 @@
 ghost use Rattle.std.specs.Prelude.{◌≡◌, map};
 ghost use Rattle.mp4_frame.specs.declared.codes.TheConstants as codes;
 ghost use Rattle.mp4_stream.specs.Boxes.{reads_elst};
-ghost use Rattle.mp4_c.specs.Front.{front_box};
+ghost use Rattle.mp4_track.specs.Front.{front_box};
 ghost use Rattle.mp4_c.specs.Handed.{HandsReading};
 ghost use Rattle.mp4_c.specs.Rows.{row_elst, table_elst};
 
@@ -19,8 +19,8 @@ use std::alloc::Global;
 pub struct ElstRow {
     /// The duration of the part, in the timescale of the movie header.
     pub segment_duration: u64,
-    /// The time in the media at which the part begins, in the timescale of the media. An empty part (-1 in the standard)
-    /// has 2^64 - 1 if the box has version 1, else 2^32 - 1.
+    /// The time in the media at which the part begins, in the timescale of the media. An empty part (-1 in the
+    /// standard) has 2^64 - 1 if the box has version 1, else 2^32 - 1.
     pub media_time: u64,
     /// The whole part of the playback rate.
     pub media_rate: u16,
@@ -60,7 +60,8 @@ pub extern "C" fn mp4_elst(
     rows: &mut [ElstRow],
     table: &mut Table,
 ) -> u32
-    ensures { HandsReading (front_box reads_elst codes.ELST bytes.now) (λ v. map row_elst v.entries) table_elst result rows.old rows.new table.old table.new }
+    ensures { HandsReading (front_box reads_elst codes.ELST bytes.now) (λ v. map row_elst v.entries) table_elst result
+        rows.old rows.new table.old table.new }
 {
     read_table::<ElstBox, ElstRow, Table>(alloc, codes::ELST, bytes, rows, table)
 }

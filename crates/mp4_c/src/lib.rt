@@ -1,21 +1,23 @@
-//! The codec as a static library for C. `include/mp4_box_codec.h` at the top of the repository declares what is exported
-//! here, and says what the caller ensures; `docs/C.md` goes through a caller.
+//! The codec as a static library for C. `include/mp4_box_codec.h` at the top of the repository declares what is
+//! exported here, and says what the caller ensures; `docs/C.md` goes through a caller.
 //!
 //! Every function returns a status (`status`). What it finds goes into the caller's memory: rows into an array, whose
-//! length the caller says, and a summary that says how many rows there are. If the array is too short, nothing is written to
-//! it, so a caller asks with an array of length 0 first. Memory that the codec takes is given back before a function
-//! returns, and no function keeps a pointer.
+//! length the caller says, and a summary that says how many rows there are. If the array is too short, nothing is
+//! written to it, so a caller asks with an array of length 0 first. Memory that the codec takes is given back before a
+//! function returns, and no function keeps a pointer.
 #![tactic(auto)]
 
+pub mod about;
 pub mod check;
 pub mod co64;
 pub mod ctts;
 pub mod elst;
-pub mod front;
+pub mod find;
 pub mod handed;
 pub mod laws;
 pub mod list;
 pub mod normal;
+pub mod samples;
 pub mod status;
 pub mod stco;
 pub mod stsc;

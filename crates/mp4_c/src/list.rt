@@ -47,7 +47,8 @@ impl Handed<Span, usize> for Vec<BoxSpan> {
 /// Hands over the places of all boxes at the top level of the bytes, without reading what is in them.
 #[unsafe(no_mangle)]
 pub extern "C" fn mp4_list(alloc: Global, bytes: &[u8], rows: &mut [Span], count: &mut usize) -> u32
-    ensures { HandsReading (spans bytes.now 0) (λ found. map span_row found) (λ found. length found) result rows.old rows.new count.old count.new }
+    ensures { HandsReading (spans bytes.now 0) (λ found. map span_row found) (λ found. length found) result rows.old
+        rows.new count.old count.new }
 {
     let found = list_boxes(alloc, &mut ByteCursor::new(bytes));
     hand_over(found, rows, count)

@@ -17,6 +17,24 @@ pub const BOX_NOT_FOUND: u32 = 3;
 pub const OUT_OF_MEMORY: u32 = 12;
 /// The caller's array is too short. It is the number of no error.
 pub const NO_ROOM: u32 = 100;
+/// No track has the track_ID that is asked for. This and those below are the numbers of no error too.
+pub const NO_TRACK: u32 = 101;
+/// `Disagreement::SampleSizes`: `stsz` lists another number of sizes than it counts samples.
+pub const SAMPLE_SIZES: u32 = 110;
+/// `Disagreement::FirstChunk`: `stsc` begins at another chunk than 1.
+pub const FIRST_CHUNK: u32 = 111;
+/// `Disagreement::ChunkOrder`: an entry of `stsc` begins no later than the one before it.
+pub const CHUNK_ORDER: u32 = 112;
+/// `Disagreement::ChunkCount`: there are 2^32 chunks or more.
+pub const CHUNK_COUNT: u32 = 113;
+/// `Disagreement::Chunks`: the chunks hold fewer samples than `stsz` counts.
+pub const CHUNKS: u32 = 114;
+/// `Disagreement::Durations`: `stts` has a duration for fewer samples than `stsz` counts.
+pub const DURATIONS: u32 = 115;
+/// `Disagreement::SyncSamples`: an entry of `stss` is not above the one before it, or the first is 0.
+pub const SYNC_SAMPLES: u32 = 116;
+/// `Disagreement::Offset`: all samples have so many bytes that in a chunk they could end past 2^64 - 1.
+pub const OFFSET: u32 = 117;
 
 /// The number of an error: its place among the variants of `Error`, counted from 1.
 pub fn number_of(error: &Error) -> u32

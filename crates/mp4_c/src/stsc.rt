@@ -3,7 +3,7 @@
 ghost use Rattle.std.specs.Prelude.{◌≡◌, map};
 ghost use Rattle.mp4_frame.specs.declared.codes.TheConstants as codes;
 ghost use Rattle.mp4_stream.specs.Boxes.{reads_stsc};
-ghost use Rattle.mp4_c.specs.Front.{front_box};
+ghost use Rattle.mp4_track.specs.Front.{front_box};
 ghost use Rattle.mp4_c.specs.Handed.{HandsReading};
 ghost use Rattle.mp4_c.specs.Rows.{row_stsc, table_stsc};
 
@@ -59,7 +59,8 @@ pub extern "C" fn mp4_stsc(
     rows: &mut [StscRow],
     table: &mut Table,
 ) -> u32
-    ensures { HandsReading (front_box reads_stsc codes.STSC bytes.now) (λ v. map row_stsc v.entries) table_stsc result rows.old rows.new table.old table.new }
+    ensures { HandsReading (front_box reads_stsc codes.STSC bytes.now) (λ v. map row_stsc v.entries) table_stsc result
+        rows.old rows.new table.old table.new }
 {
     read_table::<StscBox, StscRow, Table>(alloc, codes::STSC, bytes, rows, table)
 }

@@ -3,7 +3,7 @@
 ghost use Rattle.std.specs.Prelude.{◌≡◌};
 ghost use Rattle.mp4_frame.specs.declared.codes.TheConstants as codes;
 ghost use Rattle.mp4_stream.specs.Boxes.{reads_stss};
-ghost use Rattle.mp4_c.specs.Front.{front_box};
+ghost use Rattle.mp4_track.specs.Front.{front_box};
 ghost use Rattle.mp4_c.specs.Handed.{HandsReading};
 ghost use Rattle.mp4_c.specs.Rows.{table_stss};
 
@@ -39,7 +39,8 @@ pub extern "C" fn mp4_stss(
     samples: &mut [u32],
     table: &mut Table,
 ) -> u32
-    ensures { HandsReading (front_box reads_stss codes.STSS bytes.now) (λ v. v.entries) table_stss result samples.old samples.new table.old table.new }
+    ensures { HandsReading (front_box reads_stss codes.STSS bytes.now) (λ v. v.entries) table_stss result samples.old
+        samples.new table.old table.new }
 {
     read_table::<StssBox, u32, Table>(alloc, codes::STSS, bytes, samples, table)
 }

@@ -3,7 +3,7 @@
 ghost use Rattle.std.specs.Prelude.{◌≡◌};
 ghost use Rattle.mp4_frame.specs.declared.codes.TheConstants as codes;
 ghost use Rattle.mp4_stream.specs.Boxes.{reads_stsz};
-ghost use Rattle.mp4_c.specs.Front.{front_box};
+ghost use Rattle.mp4_track.specs.Front.{front_box};
 ghost use Rattle.mp4_c.specs.Handed.{HandsReading};
 ghost use Rattle.mp4_c.specs.Rows.{table_stsz};
 
@@ -53,8 +53,8 @@ impl Handed<u32, StszTable> for StszBox {
     }
 }
 
-/// Hands over the sizes of the samples (ISO/IEC 14496-12, 8.7.3.2), in bytes. If all samples have one size, the table says
-/// so, and there are no rows.
+/// Hands over the sizes of the samples (ISO/IEC 14496-12, 8.7.3.2), in bytes. If all samples have one size, the table
+/// says so, and there are no rows.
 #[unsafe(no_mangle)]
 pub extern "C" fn mp4_stsz(
     alloc: Global,
@@ -62,7 +62,8 @@ pub extern "C" fn mp4_stsz(
     sizes: &mut [u32],
     table: &mut StszTable,
 ) -> u32
-    ensures { HandsReading (front_box reads_stsz codes.STSZ bytes.now) (λ v. v.sample_sizes) table_stsz result sizes.old sizes.new table.old table.new }
+    ensures { HandsReading (front_box reads_stsz codes.STSZ bytes.now) (λ v. v.sample_sizes) table_stsz result sizes.old
+        sizes.new table.old table.new }
 {
     read_table::<StszBox, u32, StszTable>(alloc, codes::STSZ, bytes, sizes, table)
 }

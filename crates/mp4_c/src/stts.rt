@@ -3,7 +3,7 @@
 ghost use Rattle.std.specs.Prelude.{◌≡◌, map};
 ghost use Rattle.mp4_frame.specs.declared.codes.TheConstants as codes;
 ghost use Rattle.mp4_stream.specs.Boxes.{reads_stts};
-ghost use Rattle.mp4_c.specs.Front.{front_box};
+ghost use Rattle.mp4_track.specs.Front.{front_box};
 ghost use Rattle.mp4_c.specs.Handed.{HandsReading};
 ghost use Rattle.mp4_c.specs.Rows.{row_stts, table_stts};
 
@@ -53,7 +53,8 @@ pub extern "C" fn mp4_stts(
     rows: &mut [SttsRow],
     table: &mut Table,
 ) -> u32
-    ensures { HandsReading (front_box reads_stts codes.STTS bytes.now) (λ v. map row_stts v.entries) table_stts result rows.old rows.new table.old table.new }
+    ensures { HandsReading (front_box reads_stts codes.STTS bytes.now) (λ v. map row_stts v.entries) table_stts result
+        rows.old rows.new table.old table.new }
 {
     read_table::<SttsBox, SttsRow, Table>(alloc, codes::STTS, bytes, rows, table)
 }

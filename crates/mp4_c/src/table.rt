@@ -1,12 +1,12 @@
 //! Tables of samples: what is read of them for the caller.
 
 ghost use Rattle.std.specs.Prelude.{◌≡◌};
-ghost use Rattle.mp4_c.specs.Front.{front_box};
+ghost use Rattle.mp4_track.specs.Front.{front_box};
 ghost use Rattle.mp4_c.specs.Handed.{HandsReading};
 
-use crate::front::front_box;
 use crate::handed::{Handed, hand_over};
 use mp4_frame::ReadBox;
+use mp4_track::front_box;
 use std::alloc::Global;
 
 /// What is told of a table beside its rows.
@@ -42,7 +42,8 @@ pub fn read_table<B: ReadBox + Handed<R, S> + Drop, R: Copy, S: Copy>(
     rows: &mut [R],
     table: &mut S,
 ) -> u32
-    ensures { HandsReading (front_box B.reads code bytes.now) B.rows B.summary result rows.old rows.new table.old table.new }
+    ensures { HandsReading (front_box B.reads code bytes.now) B.rows B.summary result rows.old rows.new table.old
+        table.new }
 {
     hand_over(front_box::<B>(alloc, code, bytes), rows, table)
 }

@@ -3,7 +3,7 @@
 ghost use Rattle.std.specs.Prelude.{◌≡◌, pos, slice_index, unwrap_or};
 ghost use Rattle.mp4_frame.specs.declared.codes.TheConstants as codes;
 ghost use Rattle.mp4_stream.specs.Boxes.{reads_trun};
-ghost use Rattle.mp4_c.specs.Front.{front_box};
+ghost use Rattle.mp4_track.specs.Front.{front_box};
 ghost use Rattle.mp4_c.specs.Handed.{HandsReading};
 ghost use Rattle.mp4_c.specs.Rows.{count_trun, row_trun, rows_trun, table_trun};
 
@@ -96,7 +96,8 @@ pub extern "C" fn mp4_trun(
     rows: &mut [TrunRow],
     table: &mut TrunTable,
 ) -> u32
-    ensures { HandsReading (front_box reads_trun codes.TRUN bytes.now) rows_trun table_trun result rows.old rows.new table.old table.new }
+    ensures { HandsReading (front_box reads_trun codes.TRUN bytes.now) rows_trun table_trun result rows.old rows.new
+        table.old table.new }
 {
     read_table::<TrunBox, TrunRow, TrunTable>(alloc, codes::TRUN, bytes, rows, table)
 }

@@ -10,7 +10,7 @@ pub struct TrunRow {
     pub size: u32,
     /// The flags: what the sample depends on, and whether it is a sync sample (8.8.3).
     pub flags: u32,
-    /// The composition time minus the decoding time, in the timescale of the media. A negative number of version 1 is its
-    /// two's complement.
+    /// The composition time minus the decoding time, in the timescale of the media. A negative number of version 1 is
+    /// its two's complement.
     pub composition_offset: u32,
 }

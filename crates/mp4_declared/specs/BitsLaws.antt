@@ -1,7 +1,9 @@
 -- Numbers that were joined are split again, and bytes of a number are numbers of its bits.
-use Rattle.std.proofs.Common.{◌≡◌, ℕ, zero, suc, ◌+◌, ◌-◌, ◌*◌, ◌/◌, ◌%◌, ◌^◌, ◌<◌, ◌≤◌, Bool, true, false, ◌&&◌, List, [], ◌∷◌, ◌++◌, length, slice_index, refl, sym, ap, ◌∙◌, arith}
+use Rattle.std.proofs.Common.{◌≡◌, ℕ, zero, suc, ◌+◌, ◌-◌, ◌*◌, ◌/◌, ◌%◌, ◌^◌, ◌<◌, ◌≤◌, Bool, true, false, ◌&&◌, List}
+use Rattle.std.proofs.Common.{[], ◌∷◌, ◌++◌, length, slice_index, refl, sym, ap, ◌∙◌, arith}
 use Rattle.std.proofs.lemmas.Nat.{pow-add, mod-pow-add, div-mul-add, mod-mul-add}
-use Rattle.std.proofs.Math.Nat.{div-div-eq-div-mul, mod-lt, mul-add-mod_self_right, mul-add-div_right, mul_assoc, mul_comm, add-mul, div-one, mod-eq_of_lt, mul-le-mul_right}
+use Rattle.std.proofs.Math.Nat.{div-div-eq-div-mul, mod-lt, mul-add-mod_self_right, mul-add-div_right, mul_assoc}
+use Rattle.std.proofs.Math.Nat.{mul_comm, add-mul, div-one, mod-eq_of_lt, mul-le-mul_right}
 use Rattle.std.proofs.Math.Pow.{pow_pos}
 use Rattle.std.proofs.lemmas.Bool.{eqb-true, leb-true, ltb-true}
 use Rattle.std.specs.Int.{byte_at}
@@ -38,7 +40,8 @@ joined-lt (w ∷ ws) (n ∷ ns) fits =
 -- a multiple of 2 ^ (w + b) changes none of the w bits above the lowest b
 above : (a w b x : ℕ) → (a * 2 ^ (w + b) + x) / 2 ^ b % 2 ^ w ≡ x / 2 ^ b % 2 ^ w
 above a w b x =
-    let whole : a * 2 ^ (w + b) ≡ (a * 2 ^ w) * 2 ^ b = ap (λ (k : ℕ). a * k) (pow-add 2 w b) ∙ sym (mul_assoc a (2 ^ w) (2 ^ b)) in
+    let whole : a * 2 ^ (w + b) ≡ (a * 2 ^ w) * 2 ^ b = ap (λ (k : ℕ). a * k) (pow-add 2 w b)
+    ∙ sym (mul_assoc a (2 ^ w) (2 ^ b)) in
     ap (λ (k : ℕ). (k + x) / 2 ^ b % 2 ^ w) whole
     ∙ ap (λ (k : ℕ). k % 2 ^ w) (mul-add-div_right (pow_pos b) (a * 2 ^ w) x)
     ∙ mul-add-mod_self_right a (2 ^ w) (x / 2 ^ b)
@@ -47,9 +50,11 @@ above a w b x =
 pub split-above : (ws : List ℕ) (a x : ℕ) → split ws (a * 2 ^ bits ws + x) ≡ split ws x
 split-above [] a x = refl
 split-above (w ∷ ws) a x =
-    let whole : a * 2 ^ (w + bits ws) ≡ (a * 2 ^ w) * 2 ^ bits ws = ap (λ (k : ℕ). a * k) (pow-add 2 w (bits ws)) ∙ sym (mul_assoc a (2 ^ w) (2 ^ bits ws)) in
+    let whole : a * 2 ^ (w + bits ws) ≡ (a * 2 ^ w) * 2 ^ bits ws = ap (λ (k : ℕ). a * k) (pow-add 2 w (bits ws))
+    ∙ sym (mul_assoc a (2 ^ w) (2 ^ bits ws)) in
     let first = above a w (bits ws) x in
-    let rest : split ws (a * 2 ^ (w + bits ws) + x) ≡ split ws x = ap (λ (k : ℕ). split ws (k + x)) whole ∙ split-above ws (a * 2 ^ w) x in
+    let rest : split ws (a * 2 ^ (w + bits ws) + x) ≡ split ws x = ap (λ (k : ℕ). split ws (k + x)) whole
+    ∙ split-above ws (a * 2 ^ w) x in
     rw (first, rest) refl
 
 pub split-joined : (ws ns : List ℕ) → NumbersFit ws ns → split ws (joined ws ns) ≡ ns
@@ -57,8 +62,11 @@ split-joined [] [] fits = refl
 split-joined [] (n ∷ ns) fits = absurd fits
 split-joined (w ∷ ws) [] fits = absurd fits
 split-joined (w ∷ ws) (n ∷ ns) fits =
-    let first : (n * 2 ^ bits ws + joined ws ns) / 2 ^ bits ws % 2 ^ w ≡ n = ap (λ (k : ℕ). k % 2 ^ w) (div-mul-add n (2 ^ bits ws) (joined ws ns) (joined-lt ws ns fits.1)) ∙ mod-eq_of_lt fits.0 in
-    let rest : split ws (n * 2 ^ bits ws + joined ws ns) ≡ ns = split-above ws n (joined ws ns) ∙ split-joined ws ns fits.1 in
+    let first : (n * 2 ^ bits ws + joined ws ns) / 2 ^ bits ws % 2 ^ w ≡ n =
+    ap (λ (k : ℕ). k % 2 ^ w) (div-mul-add n (2 ^ bits ws) (joined ws ns) (joined-lt ws ns fits.1))
+    ∙ mod-eq_of_lt fits.0 in
+    let rest : split ws (n * 2 ^ bits ws + joined ws ns) ≡ ns = split-above ws n (joined ws ns)
+    ∙ split-joined ws ns fits.1 in
     rw (first, rest) refl
 
 -- the numbers fit that were split
@@ -86,11 +94,13 @@ number_fits (w ∷ ws) [] k fits = absurd fits
 number_fits (w ∷ ws) (n ∷ ns) zero fits = fits.0
 number_fits (w ∷ ws) (n ∷ ns) (suc k) fits = number_fits ws ns k fits.1
 
-pub all_fit : (ws ns : List ℕ) → length ns ≡ length ws → ((k : ℕ) → k < length ws → slice_index ns k < 2 ^ slice_index ws k) → NumbersFit ws ns
+pub all_fit : (ws ns : List ℕ) → length ns ≡ length ws
+    → ((k : ℕ) → k < length ws → slice_index ns k < 2 ^ slice_index ws k) → NumbersFit ws ns
 all_fit [] [] same each = tt
 all_fit [] (n ∷ ns) same each = absurd (omega arith)
 all_fit (w ∷ ws) [] same each = absurd (omega arith)
-all_fit (w ∷ ws) (n ∷ ns) same each = (each 0 (omega arith), all_fit ws ns (omega arith) (λ k lt. each (suc k) (omega arith)))
+all_fit (w ∷ ws) (n ∷ ns) same each =
+    (each 0 (omega arith), all_fit ws ns (omega arith) (λ k lt. each (suc k) (omega arith)))
 
 -- ---- whole bytes
 
@@ -140,34 +150,41 @@ number-parts xs o (suc a) b =
     let apart = add-mul (d * 256 ^ a) (big_from (suc o) a xs) (256 ^ b) in
     rw (next, rest, power, scaled, moved, apart) (omega arith)
 
--- the w bits of a number that stand s + 8 * c bits above its end, where it ends with b bytes that begin with them and with
--- at most `before` other bits, and then c bytes
-middle : (A B C before w s b c : ℕ) → before + w + s ≡ 8 * b → C < 256 ^ c → ((A * 256 ^ b + B) * 256 ^ c + C) / 2 ^ (8 * c + s) % 2 ^ w ≡ B / 2 ^ s % 2 ^ w
+-- the w bits of a number that stand s + 8 * c bits above its end, where it ends with b bytes that begin with them and
+-- with at most `before` other bits, and then c bytes
+middle : (A B C before w s b c : ℕ) → before + w + s ≡ 8 * b → C < 256 ^ c
+    → ((A * 256 ^ b + B) * 256 ^ c + C) / 2 ^ (8 * c + s) % 2 ^ w ≡ B / 2 ^ s % 2 ^ w
 middle A B C before w s b c is small =
     let shift : ((A * 256 ^ b + B) * 256 ^ c + C) / 2 ^ (8 * c + s) ≡ (A * 256 ^ b + B) / 2 ^ s =
     ap (λ (p : ℕ). ((A * 256 ^ b + B) * 256 ^ c + C) / p) (pow-add 2 (8 * c) s)
     ∙ sym (div-div-eq-div-mul ((A * 256 ^ b + B) * 256 ^ c + C) (2 ^ (8 * c)) (2 ^ s))
     ∙ ap (λ (p : ℕ). ((A * 256 ^ b + B) * 256 ^ c + C) / p / 2 ^ s) (sym (pow256 c))
     ∙ ap (λ (p : ℕ). p / 2 ^ s) (div-mul-add (A * 256 ^ b + B) (256 ^ c) C small) in
-    let power : 256 ^ b ≡ 2 ^ before * 2 ^ (w + s) = pow256 b ∙ ap (λ (k : ℕ). 2 ^ k) (let e : 8 * b ≡ before + (w + s) = omega arith in e) ∙ pow-add 2 before (w + s) in
-    let high : A * 256 ^ b ≡ A * 2 ^ before * 2 ^ (w + s) = ap (λ (p : ℕ). A * p) power ∙ sym (mul_assoc A (2 ^ before) (2 ^ (w + s))) in
+    let power : 256 ^ b ≡ 2 ^ before * 2 ^ (w + s) =
+    pow256 b ∙ ap (λ (k : ℕ). 2 ^ k) (let e : 8 * b ≡ before + (w + s) = omega arith in e)
+    ∙ pow-add 2 before (w + s) in
+    let high : A * 256 ^ b ≡ A * 2 ^ before * 2 ^ (w + s) = ap (λ (p : ℕ). A * p) power
+    ∙ sym (mul_assoc A (2 ^ before) (2 ^ (w + s))) in
     ap (λ (k : ℕ). k % 2 ^ w) shift ∙ ap (λ (k : ℕ). (k + B) / 2 ^ s % 2 ^ w) high ∙ above (A * 2 ^ before) w s B
 
 -- the w bits that stand r bits above the end of W bytes, where a bytes and `before` bits are in front of them
 pub bits_at_offset : (xs : List ℕ) (at W a before w r : ℕ) → AreBytes xs → 8 * W ≡ 8 * a + (before + w) + r
-    → number xs at W / 2 ^ r % 2 ^ w ≡ number xs (at + a) ((before + w + 7) / 8) / 2 ^ (8 * ((before + w + 7) / 8) - (before + w)) % 2 ^ w
+    → number xs at W / 2 ^ r % 2 ^ w
+    ≡ number xs (at + a) ((before + w + 7) / 8) / 2 ^ (8 * ((before + w + 7) / 8) - (before + w)) % 2 ^ w
 bits_at_offset xs at W a before w r are is =
     let b = (before + w + 7) / 8 in
     let c = W - (a + b) in
     let s = 8 * b - (before + w) in
     let whole : W ≡ a + b + c = omega arith in
     let rest : r ≡ 8 * c + s = omega arith in
-    let parts : number xs at (a + b + c) ≡ (number xs at a * 256 ^ b + number xs (at + a) b) * 256 ^ c + number xs (at + (a + b)) c =
+    let parts : number xs at (a + b + c) ≡ (number xs at a * 256 ^ b + number xs (at + a) b) * 256 ^ c + number xs
+    (at + (a + b)) c =
     number-parts xs at (a + b) c ∙ ap (λ (k : ℕ). k * 256 ^ c + number xs (at + (a + b)) c) (number-parts xs at a b) in
     let low = number-below xs (at + (a + b)) c are in
     let within : before + w + s ≡ 8 * b = omega arith in
     ap (λ (k : ℕ). number xs at k / 2 ^ r % 2 ^ w) whole ∙ ap (λ (k : ℕ). k / 2 ^ r % 2 ^ w) parts
-    ∙ ap (λ (k : ℕ). ((number xs at a * 256 ^ b + number xs (at + a) b) * 256 ^ c + number xs (at + (a + b)) c) / 2 ^ k % 2 ^ w) rest
+    ∙ ap (λ (k : ℕ). ((number xs at a * 256 ^ b + number xs (at + a) b) * 256 ^ c + number xs (at + (a + b)) c)
+    / 2 ^ k % 2 ^ w) rest
     ∙ middle (number xs at a) (number xs (at + a) b) (number xs (at + (a + b)) c) before w s b c within low
 
 -- ---- the bytes of a number, in two parts
@@ -182,16 +199,20 @@ be_bytes-parts zero b n = let all : 0 + b ≡ b = omega arith in rw all refl
 be_bytes-parts (suc a) b n =
     let rest = be_bytes-parts a b n in
     let power : 256 ^ (a + b) ≡ 256 ^ b * 256 ^ a = pow-add 256 a b ∙ mul_comm (256 ^ a) (256 ^ b) in
-    let byte : byte_at (a + b) n ≡ byte_at a (n / 256 ^ b) = byte_at-div (a + b) n ∙ ap (λ (p : ℕ). n / p % 256) power ∙ ap (λ (p : ℕ). p % 256) (sym (div-div-eq-div-mul n (256 ^ b) (256 ^ a))) ∙ sym (byte_at-div a (n / 256 ^ b)) in
+    let byte : byte_at (a + b) n ≡ byte_at a (n / 256 ^ b) = byte_at-div (a + b) n ∙ ap (λ (p : ℕ). n / p % 256) power
+    ∙ ap (λ (p : ℕ). p % 256) (sym (div-div-eq-div-mul n (256 ^ b) (256 ^ a)))
+    ∙ sym (byte_at-div a (n / 256 ^ b)) in
     let next : suc a + b ≡ suc (a + b) = omega arith in
     rw (next, byte, rest) refl
 
 -- the lowest bits of a number after others were cut off above them
 pub cut_twice : (n a b : ℕ) → n % 2 ^ (a + b) / 2 ^ b ≡ n / 2 ^ b % 2 ^ a
-cut_twice n a b = ap (λ (k : ℕ). k / 2 ^ b) (mod-pow-add n a b) ∙ div-mul-add (n / 2 ^ b % 2 ^ a) (2 ^ b) (n % 2 ^ b) (mod-lt n (pow_pos b))
+cut_twice n a b = ap (λ (k : ℕ). k / 2 ^ b) (mod-pow-add n a b)
+    ∙ div-mul-add (n / 2 ^ b % 2 ^ a) (2 ^ b) (n % 2 ^ b) (mod-lt n (pow_pos b))
 
 pub cut_again : (n a b : ℕ) → n % 2 ^ (a + b) % 2 ^ b ≡ n % 2 ^ b
-cut_again n a b = ap (λ (k : ℕ). k % 2 ^ b) (mod-pow-add n a b) ∙ mod-mul-add (n / 2 ^ b % 2 ^ a) (2 ^ b) (n % 2 ^ b) (mod-lt n (pow_pos b))
+cut_again n a b = ap (λ (k : ℕ). k % 2 ^ b) (mod-pow-add n a b)
+    ∙ mod-mul-add (n / 2 ^ b % 2 ^ a) (2 ^ b) (n % 2 ^ b) (mod-lt n (pow_pos b))
 
 byte_at-mod : (k w n : ℕ) → k < w → byte_at k (n % 256 ^ w) ≡ byte_at k n
 byte_at-mod k w n lt =

@@ -1,6 +1,7 @@
--- A full box that is declared: version, flags, fields of so many bits each, a count, and that many entries of fields. The
--- bytes are those from the box's start on.
-use Rattle.std.specs.Prelude.{ℕ, ◌+◌, ◌*◌, ◌<◌, ◌^◌, nat_lt, List, [], ◌∷◌, ◌++◌, max, All, length, get_or, flat_map, slice_index}
+-- A full box that is declared: version, flags, fields of so many bits each, a count, and that many entries of fields.
+-- The bytes are those from the box's start on.
+use Rattle.std.specs.Prelude.{ℕ, ◌+◌, ◌*◌, ◌<◌, ◌^◌, nat_lt, List, [], ◌∷◌, ◌++◌, max, All, length, get_or, flat_map}
+use Rattle.std.specs.Prelude.{slice_index}
 use Rattle.mp4_frame.specs.Bytes.{number, be_bytes, bytes_of_fields, full_box, FieldsFit}
 use Rattle.mp4_frame.specs.Reading.{Reading, ◌>>=◌, done, check, expect_bytes}
 use Rattle.mp4_frame.specs.Format.{Format}
@@ -41,8 +42,10 @@ count_at widths = 12 + bytes_in widths
 abbrev pub reads_fields : {V X : Type 0} → EntryLayout X → BoxLayout V X → List ℕ → List ℕ → ℕ → Reading V
 reads_fields e l widths bytes size = do
   _ ← expect_bytes bytes 12 (bytes_in widths + l.count_width)
-  entries ← reads_entries (entry_of e) (bytes_in e.widths) bytes size (count_at widths + l.count_width) (number bytes (count_at widths) l.count_width)
-  done (l.value (number bytes 8 1) (number bytes 9 3) (slice_index (split widths (number bytes 12 (bytes_in widths)))) entries)
+  entries ← reads_entries (entry_of e) (bytes_in e.widths) bytes size (count_at widths + l.count_width)
+      (number bytes (count_at widths) l.count_width)
+  done (l.value (number bytes 8 1) (number bytes 9 3)
+      (slice_index (split widths (number bytes 12 (bytes_in widths)))) entries)
 
 unfoldable pub reads_layout : {V X : Type 0} → EntryLayout X → BoxLayout V X → List ℕ → ℕ → ℕ → Reading V
 reads_layout e l bytes start size = do

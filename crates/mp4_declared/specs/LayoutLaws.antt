@@ -18,8 +18,8 @@ pub flag_fits : (flag : Bool) → bit flag < 2
 flag_fits true = lit< tt
 flag_fits false = lit< tt
 
--- The facts that the author of an entry shows: its fields fill e bytes, an entry is made of its numbers, and the numbers
--- of an entry fit where those fit that it is made of.
+-- The facts that the author of an entry shows: its fields fill e bytes, an entry is made of its numbers, and the
+-- numbers of an entry fit where those fit that it is made of.
 pub record IsEntryLayout {X : Type 0} (l : EntryLayout X) (e : ℕ) : Type 0 where
   pub long : bytes_in l.widths ≡ e
   pub fields : are_fields l.widths ≡ true
@@ -29,16 +29,23 @@ pub record IsEntryLayout {X : Type 0} (l : EntryLayout X) (e : ℕ) : Type 0 whe
 
 pub joined_small : (ws ns : List ℕ) → are_fields ws ≡ true → NumbersFit ws ns → joined ws ns < 256 ^ bytes_in ws
 joined_small ws ns fields fit =
-    let power : 256 ^ bytes_in ws ≡ 2 ^ bits ws = pow256 (bytes_in ws) ∙ ap (λ (k : ℕ). 2 ^ k) (bits_in ws (fields_whole ws fields)) in
+    let power : 256 ^ bytes_in ws ≡ 2 ^ bits ws =
+    pow256 (bytes_in ws) ∙ ap (λ (k : ℕ). 2 ^ k) (bits_in ws (fields_whole ws fields)) in
     rw power (joined-lt ws ns fit)
 
-pub entry_laws : {X : Type 0} (l : EntryLayout X) {e : ℕ} → IsEntryLayout l e → IsEntry (row_of l) (entry_of l) (FitsEntry l) (bytes_in l.widths)
+pub entry_laws : {X : Type 0} (l : EntryLayout X) {e : ℕ} → IsEntryLayout l e
+    → IsEntry (row_of l) (entry_of l) (FitsEntry l) (bytes_in l.widths)
 entry_laws {X} l {e} is = record {
   long = λ x fits. length-be_bytes (bytes_in l.widths) (joined l.widths (l.numbers x));
   back = λ x fits.
       let w = bytes_in l.widths in
       let j = joined l.widths (l.numbers x) in
-      let whole : number (be_bytes w j) 0 w ≡ j = ap (λ (bytes : List ℕ). number bytes 0 w) (sym (append-nil (be_bytes w j))) ∙ number-be_bytes w j [] (joined_small l.widths (l.numbers x) is.fields fits) in
-      ap (λ (n : ℕ). l.value (slice_index (split l.widths n))) whole ∙ ap (λ (ns : List ℕ). l.value (slice_index ns)) (split-joined l.widths (l.numbers x) fits) ∙ is.back x;
-  fits = λ bytes read. is.fit (slice_index (split l.widths (number bytes 0 (bytes_in l.widths)))) (split-below l.widths (number bytes 0 (bytes_in l.widths)));
+      let whole : number (be_bytes w j) 0 w ≡ j =
+      ap (λ (bytes : List ℕ). number bytes 0 w) (sym (append-nil (be_bytes w j)))
+      ∙ number-be_bytes w j [] (joined_small l.widths (l.numbers x) is.fields fits) in
+      ap (λ (n : ℕ). l.value (slice_index (split l.widths n))) whole
+      ∙ ap (λ (ns : List ℕ). l.value (slice_index ns)) (split-joined l.widths (l.numbers x) fits) ∙ is.back x;
+  fits = λ bytes read.
+      is.fit (slice_index (split l.widths (number bytes 0 (bytes_in l.widths))))
+      (split-below l.widths (number bytes 0 (bytes_in l.widths)));
 }

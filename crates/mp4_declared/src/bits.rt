@@ -37,7 +37,8 @@ pub(crate) fn fits(n: u64, width: usize) -> bool
 fn bits_at(bytes: &[u8], at: usize, from: usize, width: usize) -> u64
     requires short { from % 8 + width ≤ 64 }
     requires room { at + from / 8 + (from % 8 + width + 7) / 8 ≤ length bytes.now }
-    ensures { result ≡ number bytes.now (at + from / 8) ((from % 8 + width + 7) / 8) / 2 ^ (8 * ((from % 8 + width + 7) / 8) - (from % 8 + width)) % 2 ^ width }
+    ensures { result ≡ number bytes.now (at + from / 8)
+        ((from % 8 + width + 7) / 8) / 2 ^ (8 * ((from % 8 + width + 7) / 8) - (from % 8 + width)) % 2 ^ width }
 {
     let end = from % 8 + width;
     let count = (end + 7) / 8;
@@ -112,7 +113,8 @@ pub(crate) fn put_numbers<const N: usize>(
     requires fit { NumbersFit widths.now numbers.now }
     requires room { at + bytes_in widths.now ≤ length out.old }
     ensures next { result ≡ at + bytes_in widths.now }
-    ensures put { take result out.new ≡ take at out.old ++ be_bytes (bytes_in widths.now) (joined widths.now numbers.now) }
+    ensures put { take result out.new
+        ≡ take at out.old ++ be_bytes (bytes_in widths.now) (joined widths.now numbers.now) }
 {
     let mut next = at;
     // The bits that don't fill a byte yet, and how many they are.

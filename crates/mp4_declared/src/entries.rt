@@ -1,6 +1,7 @@
 //! Entries that are declared, and their rows. Widths are in bits.
 
-ghost use Rattle.std.specs.Prelude.{◌≡◌, ℕ, ◌<◌, ◌≤◌, ◌+◌, ◌*◌, ◌^◌, ◌++◌, ◌↔◌, All, IfOk, IfErr, IsTrue, flat_map, length, map, slice_index, take};
+ghost use Rattle.std.specs.Prelude.{◌≡◌, ℕ, ◌<◌, ◌≤◌, ◌+◌, ◌*◌, ◌^◌, ◌++◌, ◌↔◌, All, IfOk, IfErr, IsTrue, flat_map};
+ghost use Rattle.std.specs.Prelude.{length, map, slice_index, take};
 ghost use Rattle.mp4_declared.specs.Layout.{EntryLayout, row_of, entry_of, FitsEntry};
 ghost use Rattle.mp4_declared.specs.LayoutLaws.{IsEntryLayout};
 

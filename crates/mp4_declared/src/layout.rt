@@ -34,7 +34,8 @@ pub trait BoxLayout<const N: usize, const M: usize, const E: usize>: Sized + Dro
 
     /// Version, flags, the numbers in its fields, and entries.
     fn parts(&self) -> (u8, u32, [u64; N], &Entries<Self::Entry>)
-        ensures { record { version = result.0; flags = result.1; numbers = result.2; entries = result.3.now } ≡ layout.parts self.now };
+        ensures { record { version = result.0; flags = result.1; numbers = result.2; entries = result.3.now }
+            ≡ layout.parts self.now };
 
     /// The box of these parts.
     fn from_parts(

@@ -1,12 +1,14 @@
 -- A list of sets, set by set.
-use Rattle.std.proofs.Common.{◌≡◌, ℕ, zero, suc, ◌+◌, ◌-◌, ◌<◌, ◌≤◌, true, false, List, [], ◌∷◌, ◌++◌, length, Result, Ok, Err, refl, sym, ap, subst, ◌∙◌, arith, append_assoc}
+use Rattle.std.proofs.Common.{◌≡◌, ℕ, zero, suc, ◌+◌, ◌-◌, ◌<◌, ◌≤◌, true, false, List, [], ◌∷◌, ◌++◌, length, Result}
+use Rattle.std.proofs.Common.{Ok, Err, refl, sym, ap, subst, ◌∙◌, arith, append_assoc}
 use Rattle.std.proofs.lemmas.List.{append-nil}
 use Rattle.mp4_frame.specs.Reading.{Reading, Fault, ◌>>=◌, Refuses, expect_bytes, piece_at, memory, done}
 use Rattle.mp4_frame.specs.declared.error.Error.{Error}
 use Rattle.mp4_frame.specs.declared.error.Error.TheVariants as errors
 use Rattle.mp4_frame.specs.Bytes.{number}
 use Rattle.mp4_frame.proofs.Tables.{value_first}
-use Rattle.mp4_frame.proofs.Decided.{Decides, decides_same, decides_on, decides_bind, bind_decided, first_faults, decided_fault}
+use Rattle.mp4_frame.proofs.Decided.{Decides, decides_same, decides_on, decides_bind, bind_decided, first_faults}
+use Rattle.mp4_frame.proofs.Decided.{decided_fault}
 use Rattle.mp4_entries.specs.Sets.{set_at, sets}
 use Rattle.mp4_entries.specs.declared.nal_unit.NalUnit.{NalUnit}
 
@@ -17,23 +19,32 @@ continued front r = r >>= λ later. done (front ++ later.0, later.1)
 abbrev result_of : List NalUnit × ℕ → Result (List NalUnit × ℕ) Fault
 result_of p = Ok p
 
-first_by : (a : _) (o : Result (List NalUnit × ℕ) Fault) → continued [] (record { asks_memory = a; outcome = o }) ≡ record { asks_memory = a; outcome = o }
+first_by : (a : _) (o : Result (List NalUnit × ℕ) Fault)
+    → continued [] (record { asks_memory = a; outcome = o }) ≡ record { asks_memory = a; outcome = o }
 first_by true (Err k) = refl
 first_by false (Err k) = refl
 first_by true (Ok v) = refl
 first_by false (Ok v) = refl
 
 regroup_by : (front : List NalUnit) (mine : NalUnit) (a : _) (o : Result (List NalUnit × ℕ) Fault)
-    → continued (front ++ mine ∷ []) (record { asks_memory = a; outcome = o }) ≡ continued front ((record { asks_memory = a; outcome = o }) >>= λ later. done (mine ∷ later.0, later.1))
+    → continued (front ++ mine ∷ []) (record { asks_memory = a; outcome = o })
+    ≡ continued front ((record { asks_memory = a; outcome = o }) >>= λ later. done (mine ∷ later.0, later.1))
 regroup_by front mine true (Err k) = refl
 regroup_by front mine false (Err k) = refl
-regroup_by front mine true (Ok v) = ap (λ (l : List NalUnit). record { asks_memory = true; outcome = result_of (l, v.1) }) (append_assoc front (mine ∷ []) v.0)
-regroup_by front mine false (Ok v) = ap (λ (l : List NalUnit). record { asks_memory = false; outcome = result_of (l, v.1) }) (append_assoc front (mine ∷ []) v.0)
+regroup_by front mine true (Ok v) =
+    ap (λ (l : List NalUnit). record { asks_memory = true; outcome = result_of (l, v.1) })
+    (append_assoc front (mine ∷ []) v.0)
+regroup_by front mine false (Ok v) =
+    ap (λ (l : List NalUnit). record { asks_memory = false; outcome = result_of (l, v.1) })
+    (append_assoc front (mine ∷ []) v.0)
 
 module _ (bytes : List ℕ) where
   -- nothing is read so far
-  pub at_first : (front : List NalUnit) (n o : ℕ) → front ≡ [] → Decides (continued front (sets bytes n o)) (sets bytes n o)
-  at_first front n o none = let r = sets bytes n o in decides_same _ _ (ap (λ (l : List NalUnit). continued l r) none ∙ first_by r.asks_memory r.outcome)
+  pub at_first : (front : List NalUnit) (n o : ℕ) → front ≡ []
+      → Decides (continued front (sets bytes n o)) (sets bytes n o)
+  at_first front n o none = let r =
+      sets bytes n o in decides_same _ _
+      (ap (λ (l : List NalUnit). continued l r) none ∙ first_by r.asks_memory r.outcome)
 
   -- memory is asked for after a whole set was present
   set_asked : (o : ℕ) (mine : NalUnit) → (set_at bytes o).outcome ≡ Ok mine → (set_at bytes o).asks_memory ≡ true
@@ -53,7 +64,8 @@ module _ (bytes : List ℕ) where
   sets_first zero o more = absurd (omega arith)
   sets_first (suc n) o more = let less : suc n - 1 ≡ n = omega arith in rw less refl
 
-  module _ (front : List NalUnit) (n o : ℕ) (whole : Reading (List NalUnit × ℕ)) (more : 0 < n) (told : Decides (continued front (sets bytes n o)) whole) where
+  module _ (front : List NalUnit) (n o : ℕ) (whole : Reading (List NalUnit × ℕ)) (more : 0 < n)
+      (told : Decides (continued front (sets bytes n o)) whole) where
     begun : Decides (continued front (set_at bytes o >>= after (n - 1) o)) whole
     begun = decides_on _ _ whole (decides_same _ _ (ap (continued front) (sym (sets_first n o more)))) told
 
@@ -62,17 +74,25 @@ module _ (bytes : List ℕ) where
     set_faults e h = decided_fault e _ whole begun (first_faults e _ _ (first_faults e _ (after (n - 1) o) h))
 
     -- it is read, and then the call is out of memory
-    pub set_out_of_memory : (e : Error) (mine : NalUnit) → e ≡ errors.OutOfMemory → (set_at bytes o).outcome ≡ Ok mine → Refuses e whole
-    set_out_of_memory e mine is h = set_faults e (subst (λ (x : Error). Refuses x (set_at bytes o)) (sym is) (set_asked o mine h))
+    pub set_out_of_memory : (e : Error) (mine : NalUnit) → e ≡ errors.OutOfMemory → (set_at bytes o).outcome ≡ Ok mine
+        → Refuses e whole
+    set_out_of_memory e mine is h =
+        set_faults e (subst (λ (x : Error). Refuses x (set_at bytes o)) (sym is) (set_asked o mine h))
 
     -- it is read
-    pub set_read : (mine : NalUnit) (next : List NalUnit) (k : ℕ) → (set_at bytes o).outcome ≡ Ok mine → next ≡ front ++ mine ∷ [] → k ≡ o + 2 + length mine.bytes → Decides (continued next (sets bytes (n - 1) k)) whole
+    pub set_read : (mine : NalUnit) (next : List NalUnit) (k : ℕ) → (set_at bytes o).outcome ≡ Ok mine
+        → next ≡ front ++ mine ∷ [] → k ≡ o + 2 + length mine.bytes
+        → Decides (continued next (sets bytes (n - 1) k)) whole
     unfolding after
     set_read mine next k is next_is k_is =
         let rest = sets bytes (n - 1) (o + 2 + length mine.bytes) in
         let one : Decides (continued front (after (n - 1) o mine)) whole =
-        decides_on _ _ whole (bind_decided (after (n - 1) o mine) (set_at bytes o >>= after (n - 1) o) (λ later. done (front ++ later.0, later.1)) (decides_bind (set_at bytes o) (after (n - 1) o) mine is)) begun in
-        let here : continued next (sets bytes (n - 1) k) ≡ continued (front ++ mine ∷ []) rest = rw (next_is, k_is) refl in
+        decides_on _ _ whole
+        (bind_decided (after (n - 1) o mine) (set_at bytes o >>= after (n - 1) o)
+        (λ later. done (front ++ later.0, later.1))
+        (decides_bind (set_at bytes o) (after (n - 1) o) mine is)) begun in
+        let here : continued next (sets bytes (n - 1) k) ≡ continued (front ++ mine ∷ []) rest =
+        rw (next_is, k_is) refl in
         decides_on _ _ whole (decides_same _ _ (here ∙ regroup_by front mine rest.asks_memory rest.outcome)) one
 
   sets_none : (o : ℕ) → sets bytes 0 o ≡ done ([], o)
@@ -80,8 +100,10 @@ module _ (bytes : List ℕ) where
   sets_none o = refl
 
   -- nothing is left
-  pub sets_read : (front : List NalUnit) (n o : ℕ) (whole : Reading (List NalUnit × ℕ)) → n ≤ 0 → Decides (continued front (sets bytes n o)) whole → whole.outcome ≡ Ok (front, o)
+  pub sets_read : (front : List NalUnit) (n o : ℕ) (whole : Reading (List NalUnit × ℕ)) → n ≤ 0
+      → Decides (continued front (sets bytes n o)) whole → whole.outcome ≡ Ok (front, o)
   sets_read front n o whole none told =
       let zero_left : n ≡ 0 = omega arith in
-      sym told.0 ∙ ap (λ (k : ℕ). (continued front (sets bytes k o)).outcome) zero_left ∙ ap (λ (r : Reading (List NalUnit × ℕ)). (continued front r).outcome) (sets_none o)
+      sym told.0 ∙ ap (λ (k : ℕ). (continued front (sets bytes k o)).outcome) zero_left
+      ∙ ap (λ (r : Reading (List NalUnit × ℕ)). (continued front r).outcome) (sets_none o)
       ∙ ap (λ (l : List NalUnit). result_of (l, o)) (append-nil front)

@@ -43,7 +43,8 @@ size_avc1 v = size_visual format_avcc v.avcc
 
 -- the entry of a configuration
 abbrev pub made_avc1 : AvcConfig → Avc1Box
-made_avc1 config = avc1_of (visual_of 1 config.width config.height) (made_avcc config.seq_param_set config.pic_param_set)
+made_avc1 config = avc1_of (visual_of 1 config.width config.height)
+    (made_avcc config.seq_param_set config.pic_param_set)
 
 abbrev pub format_avc1 : Format Avc1Box
 format_avc1 = format_visual names.Avc1Box format_avcc visual_avc1 (λ v. v.avcc) avc1_of

@@ -10,4 +10,5 @@ use Rattle.mp4_entries.specs.Avc1.{visual_avc1, avc1_of, reads_avc1, format_avc1
 
 pub laws_avc1 : IsBox reads_avc1 format_avc1
 unfolding reads_avc1
-laws_avc1 = laws_visual laws_avcc codes.AVCC (λ c. refl) names.Avc1Box (lit< tt) visual_avc1 (λ v. v.avcc) avc1_of (λ s c. refl) (λ s c. refl)
+laws_avc1 = laws_visual laws_avcc codes.AVCC (λ c. refl) names.Avc1Box (lit< tt) visual_avc1 (λ v. v.avcc) avc1_of
+    (λ s c. refl) (λ s c. refl)

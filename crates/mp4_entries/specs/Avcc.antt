@@ -71,4 +71,5 @@ abbrev pub normal_avcc : AvcCBox → AvcCBox
 normal_avcc v = record v { length_size_minus_one = v.length_size_minus_one % 4 }
 
 abbrev pub format_avcc : Format AvcCBox
-format_avcc = record { name = λ _. names.AvcCBox; size = size_avcc; Writable = WritableAvcc; bytes = bytes_avcc; normal = normal_avcc }
+format_avcc = record
+    { name = λ _. names.AvcCBox; size = size_avcc; Writable = WritableAvcc; bytes = bytes_avcc; normal = normal_avcc }

@@ -11,7 +11,8 @@ use Rattle.mp4_entries.specs.Hev1.{visual_hev1, hev1_of, reads_hev1, format_hev1
 
 pub laws_hev1 : IsBox reads_hev1 format_hev1
 unfolding reads_hev1
-laws_hev1 = laws_visual laws_hvcc codes.HVCC (λ c. refl) names.Hev1Box (lit< tt) visual_hev1 (λ v. v.hvcc) hev1_of (λ s c. refl) (λ s c. refl)
+laws_hev1 = laws_visual laws_hvcc codes.HVCC (λ c. refl) names.Hev1Box (lit< tt) visual_hev1 (λ v. v.hvcc) hev1_of
+    (λ s c. refl) (λ s c. refl)
 
 -- reading it takes no memory
 pub hev1_takes_none : (bytes : List ℕ) (start size : ℕ) → TakesNone (reads_hev1 bytes start size)

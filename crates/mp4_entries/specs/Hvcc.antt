@@ -30,4 +30,5 @@ unfoldable pub bytes_hvcc : HvcCBox → List ℕ
 bytes_hvcc v = bytes_of_fields (fields_hvcc v)
 
 abbrev pub format_hvcc : Format HvcCBox
-format_hvcc = record { name = λ _. names.HvcCBox; size = size_hvcc; Writable = WritableHvcc; bytes = bytes_hvcc; normal = λ v. v }
+format_hvcc = record
+    { name = λ _. names.HvcCBox; size = size_hvcc; Writable = WritableHvcc; bytes = bytes_hvcc; normal = λ v. v }

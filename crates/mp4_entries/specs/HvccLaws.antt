@@ -14,7 +14,11 @@ laws_hvcc = record {
   header = λ v w. header_of_fields _ w refl;
   normal_form = λ v w. own_normal_form v refl w;
   read_back = λ v w rest start top. one_run_again 8 1 value_hvcc (fields_hvcc v) rest v w (lit≤ tt) refl;
-  sound = λ bytes start long v are e. (refl, λ _. subst WritableHvcc (one_run_is 8 1 value_hvcc bytes v e) (lit< tt, (lit< tt, fits_read bytes are (Number 8 1 ∷ []))));
+  sound = λ bytes start long v are e. (
+    refl,
+    λ _. subst WritableHvcc (one_run_is 8 1 value_hvcc bytes v e)
+        (lit< tt, (lit< tt, fits_read bytes are (Number 8 1 ∷ []))),
+  );
 }
 
 -- reading it takes no memory

@@ -19,7 +19,8 @@ value_tx3g at = record {
   horizontal_justification = cast_signed w8 (at 20 1);
   vertical_justification = cast_signed w8 (at 21 1);
   bg_color_rgba = record { red = at 22 1; green = at 23 1; blue = at 24 1; alpha = at 25 1 };
-  box_record = cast_signed w16 (at 26 2) ∷ cast_signed w16 (at 28 2) ∷ cast_signed w16 (at 30 2) ∷ cast_signed w16 (at 32 2) ∷ [];
+  box_record = cast_signed w16 (at 26 2) ∷ cast_signed w16 (at 28 2) ∷ cast_signed w16 (at 30 2)
+      ∷ cast_signed w16 (at 32 2) ∷ [];
   style_record = array_at at 34 12;
 }
 
@@ -41,7 +42,8 @@ fields_box_record numbers = field_at numbers 0 ∷ field_at numbers 1 ∷ field_
 -- the fields up to the colour
 abbrev pub start_tx3g : ℕ → ℕ → ℤ → ℤ → List (ℕ × ℕ)
 start_tx3g data_reference_index display_flags horizontal vertical =
-    (4, 46) ∷ (4, codes.TX3G) ∷ (6, 0) ∷ (2, data_reference_index) ∷ (4, display_flags) ∷ (1, cast_unsigned w8 horizontal) ∷ (1, cast_unsigned w8 vertical) ∷ []
+    (4, 46) ∷ (4, codes.TX3G) ∷ (6, 0) ∷ (2, data_reference_index) ∷ (4, display_flags)
+    ∷ (1, cast_unsigned w8 horizontal) ∷ (1, cast_unsigned w8 vertical) ∷ []
 
 abbrev pub fields_tx3g : Tx3gBox → List (ℕ × ℕ)
 fields_tx3g v =
@@ -80,4 +82,5 @@ default_tx3g = record {
 }
 
 abbrev pub format_tx3g : Format Tx3gBox
-format_tx3g = record { name = λ _. names.Tx3gBox; size = size_tx3g; Writable = WritableTx3g; bytes = bytes_tx3g; normal = λ v. v }
+format_tx3g = record
+    { name = λ _. names.Tx3gBox; size = size_tx3g; Writable = WritableTx3g; bytes = bytes_tx3g; normal = λ v. v }

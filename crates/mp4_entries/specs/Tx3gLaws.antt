@@ -13,15 +13,18 @@ use Rattle.mp4_frame.proofs.Rows.{one_run_again, one_run_is}
 use Rattle.mp4_frame.proofs.Signed.{back8, back16, signed8, signed16}
 use Rattle.mp4_frame.proofs.Framing.{own_normal_form, header_of_fields, fits_read, Number, Signed8, Signed16, Fitting}
 use Rattle.mp4_entries.specs.ArrayLaws.{array_back, array_read}
-use Rattle.mp4_entries.specs.Tx3g.{field_at, value_tx3g, reads_tx3g, fields_tx3g, IsBoxRecord, WritableTx3g, bytes_tx3g, format_tx3g}
+use Rattle.mp4_entries.specs.Tx3g.{field_at, value_tx3g, reads_tx3g, fields_tx3g, IsBoxRecord, WritableTx3g, bytes_tx3g}
+use Rattle.mp4_entries.specs.Tx3g.{format_tx3g}
 use Rattle.mp4_entries.specs.declared.tx3g.Tx3gBox.{Tx3gBox}
 
 -- four signed numbers are read back
 abbrev passed : List ℤ → ℕ → ℤ
 passed numbers i = cast_signed w16 (field_at numbers i).1
 
-box_back : (numbers : List ℤ) → length numbers ≡ 4 → AllByRecursion (FitsSigned w16) numbers → passed numbers 0 ∷ passed numbers 1 ∷ passed numbers 2 ∷ passed numbers 3 ∷ [] ≡ numbers
-box_back (a ∷ b ∷ c ∷ d ∷ []) four (fa, (fb, (fc, (fd, none)))) = λ i. back16 a fa i ∷ back16 b fb i ∷ back16 c fc i ∷ back16 d fd i ∷ []
+box_back : (numbers : List ℤ) → length numbers ≡ 4 → AllByRecursion (FitsSigned w16) numbers
+    → passed numbers 0 ∷ passed numbers 1 ∷ passed numbers 2 ∷ passed numbers 3 ∷ [] ≡ numbers
+box_back (a ∷ b ∷ c ∷ d ∷ []) four (fa, (fb, (fc, (fd, none)))) =
+    λ i. back16 a fa i ∷ back16 b fb i ∷ back16 c fc i ∷ back16 d fd i ∷ []
 box_back [] four all = absurd (omega (arith, four))
 box_back (a ∷ []) four all = absurd (omega (arith, four))
 box_back (a ∷ b ∷ []) four all = absurd (omega (arith, four))
@@ -32,7 +35,12 @@ box_read : (bytes : List ℕ) → AreBytes bytes → IsBoxRecord (value_tx3g (nu
 box_read bytes are =
     let z = λ (o : ℕ). signed16 bytes o are in
     let numbers = (value_tx3g (number bytes)).box_record in
-    record { four = refl; signed = All-from_recursion (FitsSigned w16) numbers (z 26, (z 28, (z 30, (z 32, tt)))); fit = fits_read bytes are (Signed16 26 ∷ Signed16 28 ∷ Signed16 30 ∷ Signed16 32 ∷ []) }
+    record {
+      four = refl;
+      signed = All-from_recursion (FitsSigned w16) numbers (z 26, (z 28, (z 30, (z 32, tt))));
+      fit =
+          fits_read bytes are (Signed16 26 ∷ Signed16 28 ∷ Signed16 30 ∷ Signed16 32 ∷ []);
+    }
 
 pub laws_tx3g : IsBox reads_tx3g format_tx3g
 unfolding bytes_tx3g reads_tx3g
@@ -40,10 +48,27 @@ laws_tx3g = record {
   header = λ v w. header_of_fields _ w.fit refl;
   normal_form = λ v w. own_normal_form v refl w;
   read_back = λ v w rest start top.
-      one_run_again 8 38 value_tx3g (fields_tx3g v) rest v w.fit (lit≤ tt) (λ i. record v { horizontal_justification = back8 v.horizontal_justification w.horizontal i; vertical_justification = back8 v.vertical_justification w.vertical i; box_record = box_back v.box_record w.corners.four (recursion_from_All (FitsSigned w16) v.box_record w.corners.signed) i; style_record = array_back 12 v.style_record w.style.long w.style.bytes i });
+      one_run_again 8 38 value_tx3g (fields_tx3g v) rest v w.fit (lit≤ tt)
+      (λ i. record v {
+        horizontal_justification =
+            back8 v.horizontal_justification w.horizontal i;
+        vertical_justification =
+            back8 v.vertical_justification w.vertical i;
+        box_record =
+            box_back v.box_record w.corners.four (recursion_from_All (FitsSigned w16) v.box_record w.corners.signed) i;
+        style_record = array_back 12 v.style_record w.style.long w.style.bytes i;
+      });
   sound = λ bytes start long v are e.
       let can : WritableTx3g (value_tx3g (number bytes)) = record {
-        fit = (lit< tt, (lit< tt, fits_read bytes are (Fitting 6 0 (lit< tt) ∷ Number 14 2 ∷ Number 16 4 ∷ Signed8 20 ∷ Signed8 21 ∷ Number 22 1 ∷ Number 23 1 ∷ Number 24 1 ∷ Number 25 1 ∷ Signed16 26 ∷ Signed16 28 ∷ Signed16 30 ∷ Signed16 32 ∷ Fitting 12 _ (array_read bytes 34 12 are).small ∷ [])));
+        fit = (
+          lit< tt,
+          (
+            lit< tt,
+            fits_read bytes are (Fitting 6 0 (lit< tt) ∷ Number 14 2 ∷ Number 16 4 ∷ Signed8 20 ∷ Signed8 21
+                ∷ Number 22 1 ∷ Number 23 1 ∷ Number 24 1 ∷ Number 25 1 ∷ Signed16 26 ∷ Signed16 28 ∷ Signed16 30
+                ∷ Signed16 32 ∷ Fitting 12 _ (array_read bytes 34 12 are).small ∷ []),
+          ),
+        );
         horizontal = signed8 bytes 20 are;
         vertical = signed8 bytes 21 are;
         corners = box_read bytes are;

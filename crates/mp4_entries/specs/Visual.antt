@@ -48,7 +48,8 @@ visual_of data_reference_index width height = record {
 -- A box of such fields and a child. `made visual c` is the box with these fields and this child.
 
 -- what is read: the child is expected to have this code
-abbrev pub reads_visual : {A P : Type 0} → (List ℕ → ℕ → ℕ → Reading A) → ℕ → (Visual → A → P) → List ℕ → ℕ → ℕ → Reading P
+abbrev pub reads_visual : {A P : Type 0} → (List ℕ → ℕ → ℕ → Reading A) → ℕ → (Visual → A → P) → List ℕ → ℕ → ℕ
+    → Reading P
 reads_visual reads code made bytes start size = do
   _ ← expect_bytes bytes 8 78
   c ← named_child reads code bytes start size 86
@@ -62,7 +63,9 @@ abbrev pub format_visual : {A P : Type 0} → BoxType → Format A → (P → Vi
 format_visual name format visual child made = record {
   name = λ _. name;
   size = λ v. size_visual format (child v);
-  Writable = λ v. WritableParent format.Writable (fields_visual (size_visual format (child v)) (code_of name) (visual v)) (child v);
-  bytes = λ v. bytes_of_fields (fields_visual (size_visual format (child v)) (code_of name) (visual v)) ++ format.bytes (child v);
+  Writable = λ v. WritableParent format.Writable
+      (fields_visual (size_visual format (child v)) (code_of name) (visual v)) (child v);
+  bytes = λ v. bytes_of_fields (fields_visual (size_visual format (child v)) (code_of name) (visual v))
+      ++ format.bytes (child v);
   normal = λ v. made (visual v) (format.normal (child v));
 }

@@ -50,7 +50,8 @@ abbrev pub content_vp09 : Vp09Box → List (ℕ × ℕ)
 content_vp09 v =
     (2, v.start_code) ∷ (2, v.data_reference_index) ∷ field_of_array 16 v.reserved0 ∷ (2, v.width) ∷ (2, v.height)
     ∷ (2, v.horizresolution.0) ∷ (2, v.horizresolution.1) ∷ (2, v.vertresolution.0) ∷ (2, v.vertresolution.1)
-    ∷ field_of_array 4 v.reserved1 ∷ (2, v.frame_count) ∷ field_of_array 32 v.compressorname ∷ (2, v.depth) ∷ (2, v.end_code) ∷ []
+    ∷ field_of_array 4 v.reserved1 ∷ (2, v.frame_count) ∷ field_of_array 32 v.compressorname ∷ (2, v.depth)
+    ∷ (2, v.end_code) ∷ []
 
 abbrev pub fields_vp09 : Vp09Box → List (ℕ × ℕ)
 fields_vp09 v = full_box (size_vp09 v) codes.VP09 v.version v.flags ++ content_vp09 v
@@ -105,4 +106,5 @@ made_vp09 config = record {
 }
 
 abbrev pub format_vp09 : Format Vp09Box
-format_vp09 = record { name = λ _. names.Vp09Box; size = size_vp09; Writable = WritableVp09; bytes = bytes_vp09; normal = normal_vp09 }
+format_vp09 = record
+    { name = λ _. names.Vp09Box; size = size_vp09; Writable = WritableVp09; bytes = bytes_vp09; normal = normal_vp09 }

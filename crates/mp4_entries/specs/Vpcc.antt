@@ -34,7 +34,8 @@ reads_vpcc bytes start size = do
 
 -- three fields in one byte
 abbrev pub three_fields : ℕ → ℕ → Bool → ℕ
-three_fields bit_depth chroma_subsampling full_range = bit_depth * 16 + chroma_subsampling * 2 + (if full_range then 1 else 0)
+three_fields bit_depth chroma_subsampling full_range =
+    bit_depth * 16 + chroma_subsampling * 2 + (if full_range then 1 else 0)
 
 abbrev pub size_vpcc : VpccBox → ℕ
 size_vpcc v = 20
@@ -56,4 +57,5 @@ unfoldable pub bytes_vpcc : VpccBox → List ℕ
 bytes_vpcc v = bytes_of_fields (fields_vpcc v)
 
 abbrev pub format_vpcc : Format VpccBox
-format_vpcc = record { name = λ _. names.VpccBox; size = size_vpcc; Writable = WritableVpcc; bytes = bytes_vpcc; normal = λ v. v }
+format_vpcc = record
+    { name = λ _. names.VpccBox; size = size_vpcc; Writable = WritableVpcc; bytes = bytes_vpcc; normal = λ v. v }

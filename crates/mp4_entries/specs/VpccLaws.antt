@@ -1,5 +1,6 @@
 -- The laws of vpcC, which is one run of fields.
-use Rattle.std.proofs.Common.{◌≡◌, ℕ, ◌+◌, ◌*◌, ◌/◌, ◌%◌, ◌<◌, ◌^◌, Bool, true, false, eqb, List, [], ◌∷◌, refl, ap, subst, arith, lit<, lit≤}
+use Rattle.std.proofs.Common.{◌≡◌, ℕ, ◌+◌, ◌*◌, ◌/◌, ◌%◌, ◌<◌, ◌^◌, Bool, true, false, eqb, List, [], ◌∷◌, refl, ap}
+use Rattle.std.proofs.Common.{subst, arith, lit<, lit≤}
 use Rattle.std.proofs.lemmas.Bool.{eq-eqb}
 use Rattle.std.specs.Prelude.{◌==◌}
 use Rattle.mp4_frame.specs.Bytes.{number}
@@ -9,7 +10,8 @@ use Rattle.mp4_frame.proofs.Fields.{number-below}
 use Rattle.mp4_frame.proofs.NoMemory.{fields_take_none}
 use Rattle.mp4_frame.proofs.Rows.{one_run_again, one_run_is}
 use Rattle.mp4_frame.proofs.Framing.{own_normal_form, header_of_fields, fits_read, Number, Fitting}
-use Rattle.mp4_entries.specs.Vpcc.{value_vpcc, reads_vpcc, three_fields, fields_vpcc, WritableVpcc, bytes_vpcc, format_vpcc}
+use Rattle.mp4_entries.specs.Vpcc.{value_vpcc, reads_vpcc, three_fields, fields_vpcc, WritableVpcc, bytes_vpcc}
+use Rattle.mp4_entries.specs.Vpcc.{format_vpcc}
 use Rattle.mp4_entries.specs.declared.vpcc.VpccBox.{VpccBox}
 
 -- the three fields of a byte are read back
@@ -39,12 +41,27 @@ laws_vpcc = record {
       let d = v.bit_depth in
       let c = v.chroma_subsampling in
       let f = v.video_full_range_flag in
-      one_run_again 8 12 value_vpcc (fields_vpcc v) rest v w.fit (lit≤ tt) (λ i. record v { bit_depth = depth_back d c f w.chroma i; chroma_subsampling = chroma_back d c f w.chroma i; video_full_range_flag = flag_back d c f i });
+      one_run_again 8 12 value_vpcc (fields_vpcc v) rest v w.fit (lit≤ tt)
+      (λ i. record v {
+        bit_depth = depth_back d c f w.chroma i;
+        chroma_subsampling =
+            chroma_back d c f w.chroma i;
+        video_full_range_flag = flag_back d c f i;
+      });
   sound = λ bytes start long v are e.
       let n = number bytes 14 1 in
       let small : n < 256 = number-below bytes 14 1 are in
       let can : WritableVpcc (value_vpcc (number bytes)) = record {
-        fit = (lit< tt, (lit< tt, fits_read bytes are (Number 8 1 ∷ Number 9 3 ∷ Number 12 1 ∷ Number 13 1 ∷ Fitting 1 (three_fields (n / 16) (n / 2 % 8) (n % 2 == 1)) (three_fit n (n % 2 == 1) small) ∷ Number 15 1 ∷ Number 16 1 ∷ Number 17 1 ∷ Number 18 2 ∷ [])));
+        fit = (
+          lit< tt,
+          (
+            lit< tt,
+            fits_read bytes are (Number 8 1 ∷ Number 9 3 ∷ Number 12 1 ∷ Number 13 1
+                ∷ Fitting 1 (three_fields (n / 16) (n / 2 % 8) (n % 2 == 1)) (three_fit n (n % 2 == 1) small)
+                ∷ Number 15 1
+                ∷ Number 16 1 ∷ Number 17 1 ∷ Number 18 2 ∷ []),
+          ),
+        );
         depth = omega (arith, small);
         chroma = omega arith;
       } in

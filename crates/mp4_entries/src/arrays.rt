@@ -36,7 +36,8 @@ pub(crate) fn know_array<const N: usize>(array: &[u8; N])
 fn put_slice(out: &mut [u8], at: usize, bytes: &[u8]) -> usize
     requires { at + length bytes.now ≤ length out.old }
     ensures next { result ≡ at + length bytes.now }
-    ensures put { take result out.new ≡ take at out.old ++ be_bytes (length bytes.now) (number bytes.now 0 (length bytes.now)) }
+    ensures put { take result out.new
+        ≡ take at out.old ++ be_bytes (length bytes.now) (number bytes.now 0 (length bytes.now)) }
 {
     put_bytes(out, at, bytes)
 }

@@ -17,7 +17,8 @@ use mp4_frame::{
 use mp4_media::{AvcConfig, FixedPointU16};
 use std::alloc::Global;
 
-/// The sample entry of AVC video (`avc1`, ISO/IEC 14496-15, 5.4.2). Boxes after its `avcC` are neither read nor written.
+/// The sample entry of AVC video (`avc1`, ISO/IEC 14496-15, 5.4.2). Boxes after its `avcC` are neither read nor
+/// written.
 #[derive(Debug, Drop, PartialEq, Eq)]
 pub struct Avc1Box {
     /// Which data reference the samples are in, from 1 on.
@@ -57,7 +58,18 @@ fn avc1_of(visual: Visual, avcc: AvcCBox) -> Avc1Box
 impl Avc1Box {
     /// 72 pixels an inch, one frame a sample, 24 bits a pixel, and the default configuration. It takes no memory.
     pub fn default_in(alloc: Global) -> Avc1Box
-        ensures { result ≡ avc1_of (visual_of 0 0 0) (record { configuration_version = 0; avc_profile_indication = 0; profile_compatibility = 0; avc_level_indication = 0; length_size_minus_one = 0; sequence_parameter_sets = []; picture_parameter_sets = [] }) }
+        ensures { result ≡ avc1_of (visual_of 0 0 0)
+            (record {
+              configuration_version = 0;
+              avc_profile_indication = 0;
+              profile_compatibility =
+                  0;
+              avc_level_indication = 0;
+              length_size_minus_one = 0;
+              sequence_parameter_sets =
+                  [];
+              picture_parameter_sets = [];
+            }) }
     {
         avc1_of(Visual::new(0, 0, 0), AvcCBox::default_in(alloc))
     }

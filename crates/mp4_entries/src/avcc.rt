@@ -15,8 +15,8 @@ use mp4_frame::{
 };
 use std::alloc::Global;
 
-/// The configuration of an AVC decoder (`avcC`, ISO/IEC 14496-15, 5.3.3.1). What follows the picture sets is neither read
-/// nor written.
+/// The configuration of an AVC decoder (`avcC`, ISO/IEC 14496-15, 5.3.3.1). What follows the picture sets is neither
+/// read nor written.
 #[derive(Debug, Drop, PartialEq, Eq)]
 pub struct AvcCBox {
     /// 1 in the standard. Every version is read and written in the same way.
@@ -38,7 +38,16 @@ pub struct AvcCBox {
 impl AvcCBox {
     /// Zeros and no sets. It takes no memory.
     pub fn default_in(alloc: Global) -> AvcCBox
-        ensures { result ≡ record { configuration_version = 0; avc_profile_indication = 0; profile_compatibility = 0; avc_level_indication = 0; length_size_minus_one = 0; sequence_parameter_sets = []; picture_parameter_sets = [] } }
+        ensures { result ≡ record {
+          configuration_version = 0;
+          avc_profile_indication = 0;
+          profile_compatibility = 0;
+          avc_level_indication =
+              0;
+          length_size_minus_one = 0;
+          sequence_parameter_sets = [];
+          picture_parameter_sets = [];
+        } }
     {
         AvcCBox {
             configuration_version: 0,

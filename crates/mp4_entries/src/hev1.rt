@@ -15,7 +15,8 @@ use mp4_frame::{
 use mp4_media::{FixedPointU16, HevcConfig};
 use std::alloc::Global;
 
-/// The sample entry of HEVC video (`hev1`, ISO/IEC 14496-15, 8.4.1). Boxes after its `hvcC` are neither read nor written.
+/// The sample entry of HEVC video (`hev1`, ISO/IEC 14496-15, 8.4.1). Boxes after its `hvcC` are neither read nor
+/// written.
 #[derive(Clone, Debug, Drop, PartialEq, Eq)]
 pub struct Hev1Box {
     /// The horizontal resolution, in pixels an inch, usually 72.

@@ -1,6 +1,7 @@
 //! Lists of parameter sets, each with its length before it.
 
-ghost use Rattle.std.specs.Prelude.{◌≡◌, ◌≤◌, ◌<◌, ◌+◌, ◌-◌, ◌^◌, ◌++◌, ◌↔◌, ◌∷◌, [], All, IsTrue, IfOk, IfErr, length, min, take};
+ghost use Rattle.std.specs.Prelude.{◌≡◌, ◌≤◌, ◌<◌, ◌+◌, ◌-◌, ◌^◌, ◌++◌, ◌↔◌, ◌∷◌, [], All, IsTrue, IfOk, IfErr, length};
+ghost use Rattle.std.specs.Prelude.{min, take};
 ghost use Rattle.mp4_frame.specs.declared.error.Error.TheVariants.{OutOfMemory};
 ghost use Rattle.mp4_frame.specs.Bytes.{be_bytes};
 ghost use Rattle.mp4_frame.specs.Reading.{Answers};

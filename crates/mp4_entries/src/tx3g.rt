@@ -4,7 +4,8 @@ ghost use Rattle.std.specs.Prelude.{◌≡◌, ◌≤◌, ◌+◌, ◌↔◌, Is
 ghost use Rattle.mp4_frame.specs.Bytes.{bytes_of_fields, bytes_of_fields_onto};
 ghost use Rattle.mp4_frame.specs.declared.box_type.BoxType.TheVariants as names;
 ghost use Rattle.mp4_frame.specs.Format.{write_laws};
-ghost use Rattle.mp4_entries.specs.Tx3g.{start_tx3g, fields_box_record, IsBoxRecord, size_tx3g, reads_tx3g, format_tx3g};
+ghost use Rattle.mp4_entries.specs.Tx3g.{start_tx3g, fields_box_record, IsBoxRecord, size_tx3g, reads_tx3g};
+ghost use Rattle.mp4_entries.specs.Tx3g.{format_tx3g};
 ghost use Rattle.mp4_entries.specs.Tx3gLaws.{laws_tx3g, tx3g_takes_none};
 
 use crate::arrays::{array_at, know_array, put_array};
@@ -31,8 +32,8 @@ pub struct Tx3gBox {
     pub vertical_justification: i8,
     /// The colour behind the text.
     pub bg_color_rgba: RgbaColor,
-    /// The style of the text: the first and the last character in 2 bytes each, the font in 2, its style flags in 1, its
-    /// size in 1, and its colour in 4.
+    /// The style of the text: the first and the last character in 2 bytes each, the font in 2, its style flags in 1,
+    /// its size in 1, and its colour in 4.
     pub style_record: [u8; 12],
 }
 
@@ -141,7 +142,8 @@ fn put_start(
 ) -> usize
     requires { 22 ≤ length out.old }
     ensures next { result ≡ 22 }
-    ensures put { take result out.new ≡ bytes_of_fields (start_tx3g data_reference_index display_flags horizontal vertical) }
+    ensures put { take result out.new
+        ≡ bytes_of_fields (start_tx3g data_reference_index display_flags horizontal vertical) }
 {
     let at = put_u32(out, 0, 46);
     let at = put_u32(out, at, codes::TX3G);

@@ -73,7 +73,8 @@ fn is_visual(visual: Visual) -> bool
 
 /// Whether a box of this code with these fields and this child can be written.
 pub(crate) fn is_writable_entry<T: WriteBox>(code: u32, visual: Visual, child: &T) -> bool
-    ensures { IsTrue result ↔ WritableParent T.format.Writable (fields_visual (size_visual T.format child.now) code visual) child.now }
+    ensures { IsTrue result ↔ WritableParent T.format.Writable
+        (fields_visual (size_visual T.format child.now) code visual) child.now }
 {
     is_visual(visual) && child.is_writable() && child.box_size() < (1 << 32) - 86
 }

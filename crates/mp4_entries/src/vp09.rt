@@ -15,8 +15,8 @@ use mp4_frame::{
 use mp4_media::Vp9Config;
 use std::alloc::Global;
 
-/// The sample entry of VP9 video (`vp09`, VP Codec ISO Media File Format Binding, "VP Codec Sample Entry Box"). Its first
-/// box is read as a `vpcC`, whatever its code; boxes after it are neither read nor written.
+/// The sample entry of VP9 video (`vp09`, VP Codec ISO Media File Format Binding, "VP Codec Sample Entry Box"). Its
+/// first box is read as a `vpcC`, whatever its code; boxes after it are neither read nor written.
 #[derive(Clone, Debug, Default, Drop, PartialEq, Eq)]
 pub struct Vp09Box {
     /// The next three of them, as a number below 2^24, usually 0.

@@ -1,5 +1,6 @@
 -- The UTF-16 units that an iterator has not yet returned.
-use Rattle.std.proofs.Common.{◌≡◌, ℕ, List, [], ◌∷◌, ◌++◌, inl, inr, Some, None, length, refl, sym, ap, subst, ◌∙◌, arith}
+use Rattle.std.proofs.Common.{◌≡◌, ℕ, List, [], ◌∷◌, ◌++◌, inl, inr, Some, None, length, refl, sym, ap, subst, ◌∙◌}
+use Rattle.std.proofs.Common.{arith}
 use Rattle.std.proofs.lemmas.Str.{chars-nil, chars_past_char, IsUtf8-past_char}
 use Rattle.std.specs.Char.Escape.{encode_utf16}
 use Rattle.std.specs.List.{flat_map}
@@ -17,10 +18,14 @@ pub no_unit : (s t : EncodeUtf16) → encode_utf16_steps s None t → units_left
 no_unit s t (pending, none, same) = rw (pending, no_bytes (encode_utf16_rest s) none) refl
 
 -- a unit that the iterator returns is the first of the units that were left
-pub first_unit : (s t : EncodeUtf16) (x : ℕ) → IsUtf8 (encode_utf16_rest s) → encode_utf16_steps s (Some x) t → (units_left s ≡ x ∷ units_left t) × IsUtf8 (encode_utf16_rest t)
+pub first_unit : (s t : EncodeUtf16) (x : ℕ) → IsUtf8 (encode_utf16_rest s) → encode_utf16_steps s (Some x) t
+    → (units_left s ≡ x ∷ units_left t) × IsUtf8 (encode_utf16_rest t)
 first_unit s t x text (inl (pending, none, rest)) = (rw (pending, none, rest) refl, subst IsUtf8 (sym rest) text)
 first_unit s t x text (inr (none, (c, rest, units))) =
-    let rest_units : utf16_units (encode_utf16_rest s) ≡ encode_utf16 c ++ utf16_units (encode_utf16_rest t) = ap (flat_map encode_utf16) (chars_past_char (encode_utf16_rest s) (encode_utf16_rest t) c text rest) in
-    let front : units_left s ≡ utf16_units (encode_utf16_rest s) = ap (λ (us : List ℕ). us ++ utf16_units (encode_utf16_rest s)) none in
-    let first : encode_utf16 c ++ utf16_units (encode_utf16_rest t) ≡ x ∷ units_left t = ap (λ (us : List ℕ). us ++ utf16_units (encode_utf16_rest t)) units in
+    let rest_units : utf16_units (encode_utf16_rest s) ≡ encode_utf16 c ++ utf16_units (encode_utf16_rest t) =
+    ap (flat_map encode_utf16) (chars_past_char (encode_utf16_rest s) (encode_utf16_rest t) c text rest) in
+    let front : units_left s ≡ utf16_units (encode_utf16_rest s) =
+    ap (λ (us : List ℕ). us ++ utf16_units (encode_utf16_rest s)) none in
+    let first : encode_utf16 c ++ utf16_units (encode_utf16_rest t) ≡ x ∷ units_left t =
+    ap (λ (us : List ℕ). us ++ utf16_units (encode_utf16_rest t)) units in
     (front ∙ rest_units ∙ first, IsUtf8-past_char (encode_utf16_rest s) (encode_utf16_rest t) c text rest)

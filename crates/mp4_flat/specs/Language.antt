@@ -17,7 +17,8 @@ units_left units = encode_utf16_pending units ++ utf16_units (encode_utf16_rest 
 -- the five low bits of each of the first three units, with the first unit in the highest bits; a missing unit is 0
 unfoldable pub language_code : List ℕ → ℕ
 language_code text =
-    slice_index (utf16_units text) 0 % 32 * 1024 + slice_index (utf16_units text) 1 % 32 * 32 + slice_index (utf16_units text) 2 % 32
+    slice_index (utf16_units text) 0 % 32 * 1024 + slice_index (utf16_units text) 1 % 32 * 32 + slice_index
+    (utf16_units text) 2 % 32
 
 -- each letter is 0x60 plus five bits of the code
 unfoldable pub letters : ℕ → List ℕ

@@ -1,5 +1,6 @@
 -- The laws of languages and their codes.
-use Rattle.std.proofs.Common.{◌≡◌, ℕ, zero, suc, ◌+◌, ◌-◌, ◌*◌, ◌/◌, ◌%◌, ◌<◌, ◌^◌, Bool, cond, List, [], ◌∷◌, refl, ap, ◌∙◌, arith}
+use Rattle.std.proofs.Common.{◌≡◌, ℕ, zero, suc, ◌+◌, ◌-◌, ◌*◌, ◌/◌, ◌%◌, ◌<◌, ◌^◌, Bool, cond, List, [], ◌∷◌, refl, ap}
+use Rattle.std.proofs.Common.{◌∙◌, arith}
 use Rattle.std.proofs.lemmas.Bool.{lt-ltb}
 use Rattle.std.proofs.lemmas.Str.{chars-IsAscii, IsUtf8-from_ascii}
 use Rattle.std.specs.Char.Escape.{encode_utf16}
@@ -25,7 +26,9 @@ pub letters_are_text : (code : ℕ) → IsUtf8 (letters code)
 letters_are_text code = IsUtf8-from_ascii (letters code) (letters_are_ascii code)
 
 one_unit : (c : ℕ) → c < 0x10000 → encode_utf16 c ≡ c ∷ []
-one_unit c small = ap (λ (b : Bool). cond b (c ∷ []) ((0xD800 + (c - 0x10000) / 0x400) ∷ (0xDC00 + (c - 0x10000) % 0x400) ∷ [])) (lt-ltb c 0x10000 small)
+one_unit c small = ap
+    (λ (b : Bool). cond b (c ∷ []) ((0xD800 + (c - 0x10000) / 0x400) ∷ (0xDC00 + (c - 0x10000) % 0x400) ∷ []))
+    (lt-ltb c 0x10000 small)
 
 units_of_letters : (code : ℕ) → utf16_units (letters code) ≡ letters code
 unfolding letters

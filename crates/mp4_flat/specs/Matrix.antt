@@ -33,4 +33,15 @@ IsMatrix m = AreSigned (numbers_matrix m)
 
 -- the identity, which maps each point to itself
 abbrev pub unity : Matrix
-unity = record { a = pos 0x10000; b = pos 0; u = pos 0; c = pos 0; d = pos 0x10000; v = pos 0; x = pos 0; y = pos 0; w = pos 0x40000000 }
+unity = record {
+  a = pos 0x10000;
+  b = pos 0;
+  u = pos 0;
+  c = pos 0;
+  d = pos 0x10000;
+  v = pos 0;
+  x = pos 0;
+  y = pos 0;
+  w =
+      pos 0x40000000;
+}

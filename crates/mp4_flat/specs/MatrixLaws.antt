@@ -24,10 +24,19 @@ matrix_back m (a, (b, (u, (c, (d, (v, (x, (y, (w, z))))))))) = λ i. record {
 
 -- where the numbers of a matrix at offset o are from
 abbrev pub origins_matrix : ℕ → List Origin
-origins_matrix o = Signed32 o ∷ Signed32 (o + 4) ∷ Signed32 (o + 8) ∷ Signed32 (o + 12) ∷ Signed32 (o + 16) ∷ Signed32 (o + 20) ∷ Signed32 (o + 24) ∷ Signed32 (o + 28) ∷ Signed32 (o + 32) ∷ []
+origins_matrix o = Signed32 o ∷ Signed32 (o + 4) ∷ Signed32 (o + 8) ∷ Signed32 (o + 12) ∷ Signed32 (o + 16)
+    ∷ Signed32 (o + 20) ∷ Signed32 (o + 24) ∷ Signed32 (o + 28) ∷ Signed32 (o + 32) ∷ []
 
 -- the numbers of a matrix that was read fit their type
 pub matrix_read : (bytes : List ℕ) (o : ℕ) → AreBytes bytes → IsMatrix (matrix_at (number bytes) o)
 matrix_read bytes o are =
-    let z = λ (k : ℕ). signed32 bytes k are in
-    (z o, (z (o + 4), (z (o + 8), (z (o + 12), (z (o + 16), (z (o + 20), (z (o + 24), (z (o + 28), (z (o + 32), tt)))))))))
+    let z = λ (k : ℕ). signed32 bytes k are in (
+      z o,
+      (
+        z (o + 4),
+        (
+          z (o + 8),
+          (z (o + 12), (z (o + 16), (z (o + 20), (z (o + 24), (z (o + 28), (z (o + 32), tt)))))),
+        ),
+      ),
+    )

@@ -40,7 +40,16 @@ fields_mdhd v =
     ∷ (2, language_code v.language) ∷ (2, 0) ∷ []
 
 abbrev pub default_mdhd : MdhdBox
-default_mdhd = record { version = 0; flags = 0; creation_time = 0; modification_time = 0; timescale = 1000; duration = 0; language = codes "und" }
+default_mdhd = record {
+  version = 0;
+  flags = 0;
+  creation_time = 0;
+  modification_time = 0;
+  timescale = 1000;
+  duration = 0;
+  language =
+      codes "und";
+}
 
 abbrev pub WritableMdhd : MdhdBox → Type 0
 WritableMdhd v = WritableTimed v.version (fields_mdhd v)
@@ -53,4 +62,5 @@ abbrev pub normal_mdhd : MdhdBox → MdhdBox
 normal_mdhd v = record v { language = letters (language_code v.language) }
 
 abbrev pub format_mdhd : Format MdhdBox
-format_mdhd = record { name = λ _. names.MdhdBox; size = size_mdhd; Writable = WritableMdhd; bytes = bytes_mdhd; normal = normal_mdhd }
+format_mdhd = record
+    { name = λ _. names.MdhdBox; size = size_mdhd; Writable = WritableMdhd; bytes = bytes_mdhd; normal = normal_mdhd }

@@ -1,5 +1,6 @@
 -- The laws of mdhd, whose times have two widths, and whose language is read as three letters.
-use Rattle.std.proofs.Common.{◌≡◌, ℕ, ◌+◌, ◌*◌, ◌<◌, ◌^◌, List, [], ◌∷◌, ◌++◌, Ok, refl, sym, ap, subst, ◌∙◌, lit<, lit≤, arith}
+use Rattle.std.proofs.Common.{◌≡◌, ℕ, ◌+◌, ◌*◌, ◌<◌, ◌^◌, List, [], ◌∷◌, ◌++◌, Ok, refl, sym, ap, subst, ◌∙◌, lit<}
+use Rattle.std.proofs.Common.{lit≤, arith}
 use Rattle.mp4_frame.specs.Format.{IsBox}
 use Rattle.mp4_frame.specs.Bytes.{number, bytes_of_fields}
 use Rattle.mp4_frame.specs.Reading.{◌>>=◌, memory, done}
@@ -11,7 +12,8 @@ use Rattle.mp4_flat.specs.Language.{language_code, letters}
 use Rattle.mp4_flat.specs.LanguageLaws.{language_fits, language_back, letters_back}
 use Rattle.mp4_flat.specs.Time.{time_width, reads_timed, WritableTimed}
 use Rattle.mp4_flat.specs.TimeLaws.{timed_size-known, timed_back, timed_is}
-use Rattle.mp4_flat.specs.Mdhd.{value_mdhd, reads_mdhd, size_mdhd, fields_mdhd, WritableMdhd, bytes_mdhd, normal_mdhd, format_mdhd}
+use Rattle.mp4_flat.specs.Mdhd.{value_mdhd, reads_mdhd, size_mdhd, fields_mdhd, WritableMdhd, bytes_mdhd, normal_mdhd}
+use Rattle.mp4_flat.specs.Mdhd.{format_mdhd}
 use Rattle.mp4_flat.specs.declared.mdhd.MdhdBox.{MdhdBox}
 
 same_fields : (v : MdhdBox) → fields_mdhd (normal_mdhd v) ≡ fields_mdhd v
@@ -27,8 +29,10 @@ laws_mdhd = record {
     same_bytes = ap bytes_of_fields (same_fields v);
   };
   read_back = λ v w rest start top.
-      let timed = timed_back (λ t. 6 + 3 * t) value_mdhd fields_mdhd normal_mdhd (λ k. record v { version = k }) rest v.version w (refl, lit≤ tt, refl) (refl, lit≤ tt, refl) in
-      outcome_bind (reads_timed (λ t. 6 + 3 * t) value_mdhd (bytes_of_fields (fields_mdhd v) ++ rest)) (λ x. memory >>= λ _. done x) (normal_mdhd v) (Ok (normal_mdhd v)) timed refl;
+      let timed = timed_back (λ t. 6 + 3 * t) value_mdhd fields_mdhd normal_mdhd (λ k. record v { version = k }) rest
+      v.version w (refl, lit≤ tt, refl) (refl, lit≤ tt, refl) in
+      outcome_bind (reads_timed (λ t. 6 + 3 * t) value_mdhd (bytes_of_fields (fields_mdhd v) ++ rest))
+      (λ x. memory >>= λ _. done x) (normal_mdhd v) (Ok (normal_mdhd v)) timed refl;
   sound = λ bytes start long v are e.
       let t = time_width (number bytes 8 1) in
       let code = number bytes (16 + 3 * t) 2 in
@@ -38,8 +42,11 @@ laws_mdhd = record {
       let same : made ≡ v = is.1 ∙ is_value read.0 v read.2 in
       let fits = fits_read bytes are
       (Number 8 1 ∷ Number 9 3 ∷ Number 12 t ∷ Number (12 + t) t ∷ Number (12 + 2 * t) 4 ∷ Number (16 + 2 * t) t
-      ∷ Fitting 2 (language_code (letters code)) (omega (arith, language_fits (letters code))) ∷ Fitting 2 0 (lit< tt) ∷ []) in
-      let normal : normal_mdhd made ≡ made = ap (λ (text : List ℕ). record made { language = text }) (letters_back code) in
-      let writable : size_mdhd made < 2 ^ 32 → WritableMdhd made = λ small. record { known = is.0; fit = (small, (lit< tt, fits)) } in
+      ∷ Fitting 2 (language_code (letters code)) (omega (arith, language_fits (letters code)))
+      ∷ Fitting 2 0 (lit< tt) ∷ []) in
+      let normal : normal_mdhd made ≡ made =
+      ap (λ (text : List ℕ). record made { language = text }) (letters_back code) in
+      let writable : size_mdhd made < 2 ^ 32 → WritableMdhd made =
+      λ small. record { known = is.0; fit = (small, (lit< tt, fits)) } in
       subst (λ (x : MdhdBox). (normal_mdhd x ≡ x) × (size_mdhd x < 2 ^ 32 → WritableMdhd x)) same (normal, writable);
 }

@@ -29,4 +29,5 @@ unfoldable pub bytes_mehd : MehdBox → List ℕ
 bytes_mehd v = bytes_of_fields (fields_mehd v)
 
 abbrev pub format_mehd : Format MehdBox
-format_mehd = record { name = λ _. names.MehdBox; size = size_mehd; Writable = WritableMehd; bytes = bytes_mehd; normal = λ v. v }
+format_mehd = record
+    { name = λ _. names.MehdBox; size = size_mehd; Writable = WritableMehd; bytes = bytes_mehd; normal = λ v. v }

@@ -14,11 +14,20 @@ unfolding bytes_mehd reads_mehd
 laws_mehd = record {
   header = λ v w. header_of_fields _ w.fit (omega (arith, timed_size-known (λ t. t) v.version w.known));
   normal_form = λ v w. own_normal_form v refl w;
-  read_back = λ v w rest start top. timed_back (λ t. t) value_mehd fields_mehd (λ v. v) (λ k. record v { version = k }) rest v.version w (refl, lit≤ tt, refl) (refl, lit≤ tt, refl);
+  read_back = λ v w rest start top.
+      timed_back (λ t. t) value_mehd fields_mehd (λ v. v) (λ k. record v { version = k }) rest v.version w
+      (refl, lit≤ tt, refl) (refl, lit≤ tt, refl);
   sound = λ bytes start long v are e.
       let is = timed_is (λ t. t) value_mehd bytes v e in
-      let t = time_width (number bytes 8 1) in
-      (refl, subst (λ (x : MehdBox). size_mehd x < 2 ^ 32 → WritableMehd x) is.1 (λ small. record { known = is.0; fit = (small, (lit< tt, fits_read bytes are (Number 8 1 ∷ Number 9 3 ∷ Number 12 t ∷ []))) }));
+      let t = time_width (number bytes 8 1) in (
+        refl,
+        subst (λ (x : MehdBox). size_mehd x < 2 ^ 32 → WritableMehd x) is.1
+            (λ small. record {
+              known = is.0;
+              fit =
+                  (small, (lit< tt, fits_read bytes are (Number 8 1 ∷ Number 9 3 ∷ Number 12 t ∷ [])));
+            }),
+      );
 }
 
 -- reading it takes no memory

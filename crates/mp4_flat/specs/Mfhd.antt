@@ -30,4 +30,5 @@ unfoldable pub bytes_mfhd : MfhdBox → List ℕ
 bytes_mfhd v = bytes_of_fields (fields_mfhd v)
 
 abbrev pub format_mfhd : Format MfhdBox
-format_mfhd = record { name = λ _. names.MfhdBox; size = size_mfhd; Writable = WritableMfhd; bytes = bytes_mfhd; normal = λ v. v }
+format_mfhd = record
+    { name = λ _. names.MfhdBox; size = size_mfhd; Writable = WritableMfhd; bytes = bytes_mfhd; normal = λ v. v }

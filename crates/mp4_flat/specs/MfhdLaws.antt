@@ -14,7 +14,11 @@ laws_mfhd = record {
   header = λ v w. header_of_fields _ w refl;
   normal_form = λ v w. own_normal_form v refl w;
   read_back = λ v w rest start top. one_run_again 8 8 value_mfhd (fields_mfhd v) rest v w (lit≤ tt) refl;
-  sound = λ bytes start long v are e. (refl, λ small. subst WritableMfhd (one_run_is 8 8 value_mfhd bytes v e) (lit< tt, (lit< tt, fits_read bytes are (Number 8 1 ∷ Number 9 3 ∷ Number 12 4 ∷ []))));
+  sound = λ bytes start long v are e. (
+    refl,
+    λ small. subst WritableMfhd (one_run_is 8 8 value_mfhd bytes v e)
+        (lit< tt, (lit< tt, fits_read bytes are (Number 8 1 ∷ Number 9 3 ∷ Number 12 4 ∷ []))),
+  );
 }
 
 -- reading it takes no memory

@@ -41,7 +41,19 @@ fields_mvhd v =
     ∷ fields_matrix v.matrix ++ (24, 0) ∷ (4, v.next_track_id) ∷ []
 
 abbrev pub default_mvhd : MvhdBox
-default_mvhd = record { version = 0; flags = 0; creation_time = 0; modification_time = 0; timescale = 1000; duration = 0; rate = 0x10000; volume = 0x100; matrix = unity; next_track_id = 1 }
+default_mvhd = record {
+  version = 0;
+  flags = 0;
+  creation_time = 0;
+  modification_time = 0;
+  timescale = 1000;
+  duration = 0;
+  rate =
+      0x10000;
+  volume = 0x100;
+  matrix = unity;
+  next_track_id = 1;
+}
 
 abbrev pub WritableMvhd : MvhdBox → Type 0
 WritableMvhd v = WritableTimed v.version (fields_mvhd v) × IsMatrix v.matrix
@@ -50,4 +62,5 @@ unfoldable pub bytes_mvhd : MvhdBox → List ℕ
 bytes_mvhd v = bytes_of_fields (fields_mvhd v)
 
 abbrev pub format_mvhd : Format MvhdBox
-format_mvhd = record { name = λ _. names.MvhdBox; size = size_mvhd; Writable = WritableMvhd; bytes = bytes_mvhd; normal = λ v. v }
+format_mvhd = record
+    { name = λ _. names.MvhdBox; size = size_mvhd; Writable = WritableMvhd; bytes = bytes_mvhd; normal = λ v. v }

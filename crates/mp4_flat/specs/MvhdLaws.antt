@@ -18,14 +18,19 @@ laws_mvhd = record {
   normal_form = λ v w. own_normal_form v refl w;
   read_back = λ v w rest start top.
       let back = λ (k : ℕ). ap (λ (m : Matrix). record v { version = k; matrix = m }) (matrix_back v.matrix w.1) in
-      timed_back (λ t. 84 + 3 * t) value_mvhd fields_mvhd (λ v. v) (λ k. record v { version = k }) rest v.version w.0 (refl, lit≤ tt, back 0) (refl, lit≤ tt, back 1);
+      timed_back (λ t. 84 + 3 * t) value_mvhd fields_mvhd (λ v. v) (λ k. record v { version = k }) rest v.version w.0
+      (refl, lit≤ tt, back 0) (refl, lit≤ tt, back 1);
   sound = λ bytes start long v are e.
       let is = timed_is (λ t. 84 + 3 * t) value_mvhd bytes v e in
       let t = time_width (number bytes 8 1) in
       let fits = fits_read bytes are
       (Number 8 1 ∷ Number 9 3 ∷ Number 12 t ∷ Number (12 + t) t ∷ Number (12 + 2 * t) 4 ∷ Number (16 + 2 * t) t
-      ∷ Number (16 + 3 * t) 4 ∷ Number (20 + 3 * t) 2 ∷ Fitting 10 0 (lit< tt) ∷ origins_matrix (32 + 3 * t) ++ Fitting 24 0 (lit< tt) ∷ Number (92 + 3 * t) 4 ∷ []) in
-      (refl, subst (λ (x : MvhdBox). size_mvhd x < 2 ^ 32 → WritableMvhd x) is.1 (λ small. (record { known = is.0; fit = (small, (lit< tt, fits)) }, matrix_read bytes (32 + 3 * t) are)));
+      ∷ Number (16 + 3 * t) 4 ∷ Number (20 + 3 * t) 2 ∷ Fitting 10 0 (lit< tt) ∷ origins_matrix (32 + 3 * t)
+      ++ Fitting 24 0 (lit< tt) ∷ Number (92 + 3 * t) 4 ∷ []) in (
+        refl,
+        subst (λ (x : MvhdBox). size_mvhd x < 2 ^ 32 → WritableMvhd x) is.1
+            (λ small. (record { known = is.0; fit = (small, (lit< tt, fits)) }, matrix_read bytes (32 + 3 * t) are)),
+      );
 }
 
 -- reading it takes no memory

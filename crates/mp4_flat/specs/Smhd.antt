@@ -31,4 +31,5 @@ unfoldable pub bytes_smhd : SmhdBox → List ℕ
 bytes_smhd v = bytes_of_fields (fields_smhd v)
 
 abbrev pub format_smhd : Format SmhdBox
-format_smhd = record { name = λ _. names.SmhdBox; size = size_smhd; Writable = WritableSmhd; bytes = bytes_smhd; normal = λ v. v }
+format_smhd = record
+    { name = λ _. names.SmhdBox; size = size_smhd; Writable = WritableSmhd; bytes = bytes_smhd; normal = λ v. v }

@@ -15,8 +15,16 @@ unfolding bytes_smhd reads_smhd
 laws_smhd = record {
   header = λ v w. header_of_fields _ w.0 refl;
   normal_form = λ v w. own_normal_form v refl w;
-  read_back = λ v w rest start top. one_run_again 8 6 value_smhd (fields_smhd v) rest v w.0 (lit≤ tt) (ap (λ (z : ℤ). record v { balance = z }) (back16 v.balance w.1));
-  sound = λ bytes start long v are e. (refl, λ _. subst WritableSmhd (one_run_is 8 6 value_smhd bytes v e) ((lit< tt, (lit< tt, fits_read bytes are (Number 8 1 ∷ Number 9 3 ∷ Signed16 12 ∷ Fitting 2 0 (lit< tt) ∷ []))), signed16 bytes 12 are));
+  read_back = λ v w rest start top.
+      one_run_again 8 6 value_smhd (fields_smhd v) rest v w.0 (lit≤ tt)
+      (ap (λ (z : ℤ). record v { balance = z }) (back16 v.balance w.1));
+  sound = λ bytes start long v are e. (
+    refl,
+    λ _. subst WritableSmhd (one_run_is 8 6 value_smhd bytes v e) (
+      (lit< tt, (lit< tt, fits_read bytes are (Number 8 1 ∷ Number 9 3 ∷ Signed16 12 ∷ Fitting 2 0 (lit< tt) ∷ []))),
+      signed16 bytes 12 are,
+    ),
+  );
 }
 
 -- reading it takes no memory

@@ -20,7 +20,8 @@ abbrev pub size_tfdt : TfdtBox → ℕ
 size_tfdt v = 12 + time_width v.version
 
 abbrev pub fields_tfdt : TfdtBox → List (ℕ × ℕ)
-fields_tfdt v = full_box (size_tfdt v) codes.TFDT v.version v.flags ++ (time_width v.version, v.base_media_decode_time) ∷ []
+fields_tfdt v = full_box (size_tfdt v) codes.TFDT v.version v.flags
+    ++ (time_width v.version, v.base_media_decode_time) ∷ []
 
 abbrev pub WritableTfdt : TfdtBox → Type 0
 WritableTfdt v = WritableTimed v.version (fields_tfdt v)
@@ -29,4 +30,5 @@ unfoldable pub bytes_tfdt : TfdtBox → List ℕ
 bytes_tfdt v = bytes_of_fields (fields_tfdt v)
 
 abbrev pub format_tfdt : Format TfdtBox
-format_tfdt = record { name = λ _. names.TfdtBox; size = size_tfdt; Writable = WritableTfdt; bytes = bytes_tfdt; normal = λ v. v }
+format_tfdt = record
+    { name = λ _. names.TfdtBox; size = size_tfdt; Writable = WritableTfdt; bytes = bytes_tfdt; normal = λ v. v }

@@ -44,7 +44,21 @@ fields_tkhd v =
     ∷ fields_matrix v.matrix ++ (4, v.width) ∷ (4, v.height) ∷ []
 
 abbrev pub default_tkhd : TkhdBox
-default_tkhd = record { version = 0; flags = 1; creation_time = 0; modification_time = 0; track_id = 0; duration = 0; layer = 0; alternate_group = 0; volume = 0x100; matrix = unity; width = 0; height = 0 }
+default_tkhd = record {
+  version = 0;
+  flags = 1;
+  creation_time = 0;
+  modification_time = 0;
+  track_id = 0;
+  duration = 0;
+  layer =
+      0;
+  alternate_group = 0;
+  volume = 0x100;
+  matrix = unity;
+  width = 0;
+  height = 0;
+}
 
 abbrev pub WritableTkhd : TkhdBox → Type 0
 WritableTkhd v = WritableTimed v.version (fields_tkhd v) × IsMatrix v.matrix
@@ -53,4 +67,5 @@ unfoldable pub bytes_tkhd : TkhdBox → List ℕ
 bytes_tkhd v = bytes_of_fields (fields_tkhd v)
 
 abbrev pub format_tkhd : Format TkhdBox
-format_tkhd = record { name = λ _. names.TkhdBox; size = size_tkhd; Writable = WritableTkhd; bytes = bytes_tkhd; normal = λ v. v }
+format_tkhd = record
+    { name = λ _. names.TkhdBox; size = size_tkhd; Writable = WritableTkhd; bytes = bytes_tkhd; normal = λ v. v }

@@ -18,15 +18,20 @@ laws_tkhd = record {
   normal_form = λ v w. own_normal_form v refl w;
   read_back = λ v w rest start top.
       let back = λ (k : ℕ). ap (λ (m : Matrix). record v { version = k; matrix = m }) (matrix_back v.matrix w.1) in
-      timed_back (λ t. 68 + 3 * t) value_tkhd fields_tkhd (λ v. v) (λ k. record v { version = k }) rest v.version w.0 (refl, lit≤ tt, back 0) (refl, lit≤ tt, back 1);
+      timed_back (λ t. 68 + 3 * t) value_tkhd fields_tkhd (λ v. v) (λ k. record v { version = k }) rest v.version w.0
+      (refl, lit≤ tt, back 0) (refl, lit≤ tt, back 1);
   sound = λ bytes start long v are e.
       let is = timed_is (λ t. 68 + 3 * t) value_tkhd bytes v e in
       let t = time_width (number bytes 8 1) in
       let fits = fits_read bytes are
-      (Number 8 1 ∷ Number 9 3 ∷ Number 12 t ∷ Number (12 + t) t ∷ Number (12 + 2 * t) 4 ∷ Fitting 4 0 (lit< tt) ∷ Number (20 + 2 * t) t ∷ Fitting 8 0 (lit< tt)
+      (Number 8 1 ∷ Number 9 3 ∷ Number 12 t ∷ Number (12 + t) t ∷ Number (12 + 2 * t) 4 ∷ Fitting 4 0 (lit< tt)
+      ∷ Number (20 + 2 * t) t ∷ Fitting 8 0 (lit< tt)
       ∷ Number (28 + 3 * t) 2 ∷ Number (30 + 3 * t) 2 ∷ Number (32 + 3 * t) 2 ∷ Fitting 2 0 (lit< tt)
-      ∷ origins_matrix (36 + 3 * t) ++ Number (72 + 3 * t) 4 ∷ Number (76 + 3 * t) 4 ∷ []) in
-      (refl, subst (λ (x : TkhdBox). size_tkhd x < 2 ^ 32 → WritableTkhd x) is.1 (λ small. (record { known = is.0; fit = (small, (lit< tt, fits)) }, matrix_read bytes (36 + 3 * t) are)));
+      ∷ origins_matrix (36 + 3 * t) ++ Number (72 + 3 * t) 4 ∷ Number (76 + 3 * t) 4 ∷ []) in (
+        refl,
+        subst (λ (x : TkhdBox). size_tkhd x < 2 ^ 32 → WritableTkhd x) is.1
+            (λ small. (record { known = is.0; fit = (small, (lit< tt, fits)) }, matrix_read bytes (36 + 3 * t) are)),
+      );
 }
 
 -- reading it takes no memory

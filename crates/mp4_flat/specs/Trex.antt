@@ -11,7 +11,16 @@ use Rattle.mp4_flat.specs.declared.trex.TrexBox.{TrexBox}
 
 -- the value, where `at o w` is the number of w bytes at offset o
 abbrev pub value_trex : (ℕ → ℕ → ℕ) → TrexBox
-value_trex at = record { version = at 8 1; flags = at 9 3; track_id = at 12 4; default_sample_description_index = at 16 4; default_sample_duration = at 20 4; default_sample_size = at 24 4; default_sample_flags = at 28 4 }
+value_trex at = record {
+  version = at 8 1;
+  flags = at 9 3;
+  track_id = at 12 4;
+  default_sample_description_index =
+      at 16 4;
+  default_sample_duration = at 20 4;
+  default_sample_size = at 24 4;
+  default_sample_flags = at 28 4;
+}
 
 unfoldable pub reads_trex : List ℕ → ℕ → ℕ → Reading TrexBox
 reads_trex bytes start size = do
@@ -22,7 +31,8 @@ abbrev pub size_trex : TrexBox → ℕ
 size_trex v = 32
 
 abbrev pub fields_trex : TrexBox → List (ℕ × ℕ)
-fields_trex v = full_box 32 codes.TREX v.version v.flags ++ (4, v.track_id) ∷ (4, v.default_sample_description_index) ∷ (4, v.default_sample_duration) ∷ (4, v.default_sample_size) ∷ (4, v.default_sample_flags) ∷ []
+fields_trex v = full_box 32 codes.TREX v.version v.flags ++ (4, v.track_id) ∷ (4, v.default_sample_description_index)
+    ∷ (4, v.default_sample_duration) ∷ (4, v.default_sample_size) ∷ (4, v.default_sample_flags) ∷ []
 
 abbrev pub WritableTrex : TrexBox → Type 0
 WritableTrex v = FieldsFit (fields_trex v)
@@ -31,4 +41,5 @@ unfoldable pub bytes_trex : TrexBox → List ℕ
 bytes_trex v = bytes_of_fields (fields_trex v)
 
 abbrev pub format_trex : Format TrexBox
-format_trex = record { name = λ _. names.TrexBox; size = size_trex; Writable = WritableTrex; bytes = bytes_trex; normal = λ v. v }
+format_trex = record
+    { name = λ _. names.TrexBox; size = size_trex; Writable = WritableTrex; bytes = bytes_trex; normal = λ v. v }

@@ -14,7 +14,17 @@ laws_trex = record {
   header = λ v w. header_of_fields _ w refl;
   normal_form = λ v w. own_normal_form v refl w;
   read_back = λ v w rest start top. one_run_again 8 24 value_trex (fields_trex v) rest v w (lit≤ tt) refl;
-  sound = λ bytes start long v are e. (refl, λ _. subst WritableTrex (one_run_is 8 24 value_trex bytes v e) (lit< tt, (lit< tt, fits_read bytes are (Number 8 1 ∷ Number 9 3 ∷ Number 12 4 ∷ Number 16 4 ∷ Number 20 4 ∷ Number 24 4 ∷ Number 28 4 ∷ []))));
+  sound = λ bytes start long v are e. (
+    refl,
+    λ _. subst WritableTrex (one_run_is 8 24 value_trex bytes v e) (
+      lit< tt,
+      (
+        lit< tt,
+        fits_read bytes are
+            (Number 8 1 ∷ Number 9 3 ∷ Number 12 4 ∷ Number 16 4 ∷ Number 20 4 ∷ Number 24 4 ∷ Number 28 4 ∷ []),
+      ),
+    ),
+  );
 }
 
 -- reading it takes no memory

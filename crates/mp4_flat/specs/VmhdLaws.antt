@@ -14,7 +14,17 @@ laws_vmhd = record {
   header = λ v w. header_of_fields _ w refl;
   normal_form = λ v w. own_normal_form v refl w;
   read_back = λ v w rest start top. one_run_again 8 12 value_vmhd (fields_vmhd v) rest v w (lit≤ tt) refl;
-  sound = λ bytes start long v are e. (refl, λ _. subst WritableVmhd (one_run_is 8 12 value_vmhd bytes v e) (lit< tt, (lit< tt, fits_read bytes are (Number 8 1 ∷ Number 9 3 ∷ Number 12 2 ∷ Number 14 2 ∷ Number 16 2 ∷ Number 18 2 ∷ []))));
+  sound = λ bytes start long v are e. (
+    refl,
+    λ _. subst WritableVmhd (one_run_is 8 12 value_vmhd bytes v e) (
+      lit< tt,
+      (
+        lit< tt,
+        fits_read bytes are
+            (Number 8 1 ∷ Number 9 3 ∷ Number 12 2 ∷ Number 14 2 ∷ Number 16 2 ∷ Number 18 2 ∷ []),
+      ),
+    ),
+  );
 }
 
 -- reading it takes no memory

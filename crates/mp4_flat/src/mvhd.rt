@@ -134,7 +134,21 @@ fn fits(
     matrix: &Matrix,
     next_track_id: u32,
 ) -> bool
-    ensures { IsTrue result ↔ WritableMvhd (record { version = version; flags = flags; creation_time = times.0; modification_time = times.1; timescale = timescale; duration = times.2; rate = rate; volume = volume; matrix = matrix.now; next_track_id = next_track_id }) }
+    ensures { IsTrue result ↔ WritableMvhd
+        (record {
+          version = version;
+          flags = flags;
+          creation_time = times.0;
+          modification_time = times.1;
+          timescale =
+              timescale;
+          duration = times.2;
+          rate = rate;
+          volume = volume;
+          matrix = matrix.now;
+          next_track_id =
+              next_track_id;
+        }) }
 {
     // For the prover: a value that was read has the range of its type.
     let (_rate, _volume) = (rate.raw_value(), volume.raw_value());

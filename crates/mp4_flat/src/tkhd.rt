@@ -158,7 +158,23 @@ fn fits(
     matrix: &Matrix,
     shown: (FixedPointU16, FixedPointU16),
 ) -> bool
-    ensures { IsTrue result ↔ WritableTkhd (record { version = version; flags = flags; creation_time = times.0; modification_time = times.1; track_id = track_id; duration = times.2; layer = layers.0; alternate_group = layers.1; volume = volume; matrix = matrix.now; width = shown.0; height = shown.1 }) }
+    ensures { IsTrue result ↔ WritableTkhd
+        (record {
+          version = version;
+          flags = flags;
+          creation_time = times.0;
+          modification_time = times.1;
+          track_id =
+              track_id;
+          duration = times.2;
+          layer = layers.0;
+          alternate_group = layers.1;
+          volume = volume;
+          matrix =
+              matrix.now;
+          width = shown.0;
+          height = shown.1;
+        }) }
 {
     // For the prover: a value that was read has the range of its type.
     let (_width, _height) = (shown.0.raw_value(), shown.1.raw_value());

@@ -20,7 +20,8 @@ number_of_four (a ∷ b ∷ c ∷ d ∷ e ∷ rest) long = absurd (omega (arith,
 -- the code of a code's number is that code
 pub four_cc_back : (c : FourCC) → IsFourCC c → four_cc_of (number_of c) ≡ c
 unfolding be_bytes
-four_cc_back c is = ap (λ (bytes : List ℕ). record { value = bytes }) (be_bytes_4 c.value (number_of c) is.long is.are (number_of_four c.value is.long))
+four_cc_back c is = ap (λ (bytes : List ℕ). record { value = bytes })
+    (be_bytes_4 c.value (number_of c) is.long is.are (number_of_four c.value is.long))
 
 are_bytes : (n : ℕ) → AreBytes (be_bytes 4 n)
 unfolding be_bytes

@@ -1,5 +1,6 @@
 -- Boxes of fields: the size and the code in front, and the ranges of numbers that were read.
-use Rattle.std.proofs.Common.{◌≡◌, ℕ, ◌+◌, ◌<◌, ◌^◌, List, [], ◌∷◌, ◌++◌, length, map, sym, ap, subst, arith, length-append}
+use Rattle.std.proofs.Common.{◌≡◌, ℕ, ◌+◌, ◌<◌, ◌^◌, List, [], ◌∷◌, ◌++◌, length, map, sym, ap, subst, arith}
+use Rattle.std.proofs.Common.{length-append}
 use Rattle.std.specs.Int.{w8, w16, w32, cast_signed, cast_unsigned}
 use Rattle.mp4_frame.specs.BoxType.{code_of}
 use Rattle.mp4_frame.specs.Bytes.{number, bytes_of_fields, width_of_fields, FieldsFit}
@@ -9,7 +10,8 @@ use Rattle.mp4_frame.proofs.Fields.{length-fields, number-fields_alone, number-f
 use Rattle.mp4_frame.proofs.Signed.{below8, below16, below32}
 
 -- fields that begin with the size, which counts all of their bytes, and the code
-pub header_of_fields : {size : ℕ} {name : BoxType} (cs : List (ℕ × ℕ)) → FieldsFit ((4, size) ∷ (4, code_of name) ∷ cs) → 8 + width_of_fields cs ≡ size → BeginsWithHeader size name (bytes_of_fields ((4, size) ∷ (4, code_of name) ∷ cs))
+pub header_of_fields : {size : ℕ} {name : BoxType} (cs : List (ℕ × ℕ)) → FieldsFit ((4, size) ∷ (4, code_of name) ∷ cs)
+    → 8 + width_of_fields cs ≡ size → BeginsWithHeader size name (bytes_of_fields ((4, size) ∷ (4, code_of name) ∷ cs))
 header_of_fields {size} {name} cs fits long =
     let all = (4, size) ∷ (4, code_of name) ∷ cs in
     record {
@@ -21,7 +23,9 @@ header_of_fields {size} {name} cs fits long =
     }
 
 -- the same with bytes after them, which the size counts too
-pub header_in_front : {size : ℕ} {name : BoxType} (cs : List (ℕ × ℕ)) (rest : List ℕ) → FieldsFit ((4, size) ∷ (4, code_of name) ∷ cs) → 8 + width_of_fields cs + length rest ≡ size → BeginsWithHeader size name (bytes_of_fields ((4, size) ∷ (4, code_of name) ∷ cs) ++ rest)
+pub header_in_front : {size : ℕ} {name : BoxType} (cs : List (ℕ × ℕ)) (rest : List ℕ)
+    → FieldsFit ((4, size) ∷ (4, code_of name) ∷ cs) → 8 + width_of_fields cs + length rest ≡ size
+    → BeginsWithHeader size name (bytes_of_fields ((4, size) ∷ (4, code_of name) ∷ cs) ++ rest)
 header_in_front {size} {name} cs rest fits long =
     let all = (4, size) ∷ (4, code_of name) ∷ cs in
     record {
@@ -33,8 +37,10 @@ header_in_front {size} {name} cs rest fits long =
     }
 
 -- a writable value that is its own normal form
-pub own_normal_form : {A : Type 0} {Writable : A → Type 0} {bytes : A → List ℕ} {normal : A → A} (v : A) → normal v ≡ v → Writable v → Normal Writable bytes normal v
-own_normal_form {A} {Writable} {bytes} {normal} v is w = record { writable = subst Writable (sym is) w; again = ap normal is; same_bytes = ap bytes is }
+pub own_normal_form : {A : Type 0} {Writable : A → Type 0} {bytes : A → List ℕ} {normal : A → A} (v : A) → normal v ≡ v
+    → Writable v → Normal Writable bytes normal v
+own_normal_form {A} {Writable} {bytes} {normal} v is w =
+    record { writable = subst Writable (sym is) w; again = ap normal is; same_bytes = ap bytes is }
 
 -- where the number in a field of a value that was read is from: w bytes at o, a signed number of 8, 16 or 32 bits
 -- at o, or a number that fits w bytes
@@ -52,7 +58,8 @@ field_from bytes (Signed16 o) = (2, cast_unsigned w16 (cast_signed w16 (number b
 field_from bytes (Signed32 o) = (4, cast_unsigned w32 (cast_signed w32 (number bytes o 4)))
 field_from bytes (Fitting w n fits) = (w, n)
 
-fits_from : (bytes : List ℕ) → AreBytes bytes → (origin : Origin) → (field_from bytes origin).1 < 256 ^ (field_from bytes origin).0
+fits_from : (bytes : List ℕ) → AreBytes bytes → (origin : Origin)
+    → (field_from bytes origin).1 < 256 ^ (field_from bytes origin).0
 fits_from bytes are (Number o w) = number-below bytes o w are
 fits_from bytes are (Signed8 o) = below8 bytes o are
 fits_from bytes are (Signed16 o) = below16 bytes o are

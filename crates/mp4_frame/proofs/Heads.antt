@@ -1,5 +1,6 @@
 -- Heads and frames.
-use Rattle.std.proofs.Common.{◌≡◌, ℕ, ◌+◌, ◌<◌, ◌≤◌, ◌-◌, List, ◌++◌, length, Result, Ok, Err, refl, ap, ◌∙◌, arith, length-append, eqb, Bool, true, false, cond, inl, inr}
+use Rattle.std.proofs.Common.{◌≡◌, ℕ, ◌+◌, ◌<◌, ◌≤◌, ◌-◌, List, ◌++◌, length, Result, Ok, Err, refl, ap, ◌∙◌, arith}
+use Rattle.std.proofs.Common.{length-append, eqb, Bool, true, false, cond, inl, inr}
 use Rattle.std.specs.Prelude.{nat_lt, ◌==◌, ◌⊎◌}
 use Rattle.std.proofs.lemmas.Bool.{lt-ltb, ltb-false, ne_eqb}
 use Rattle.mp4_frame.specs.Bytes.{number}
@@ -13,13 +14,15 @@ pub no_head : (B : List ℕ) (o : ℕ) → length B < o + 8 → (head B o).outco
 unfolding head
 no_head B o h = rw (lt-ltb (length B) (o + 8) h) refl
 
-pub short_head : (B : List ℕ) (o size code : ℕ) → o + 8 ≤ length B → size ≡ number B o 4 → code ≡ number B (o + 4) 4 → (size ≡ 1 → ⊥) → (head B o).outcome ≡ Ok (record { code = code; size = size; start = o })
+pub short_head : (B : List ℕ) (o size code : ℕ) → o + 8 ≤ length B → size ≡ number B o 4 → code ≡ number B (o + 4) 4
+    → (size ≡ 1 → ⊥) → (head B o).outcome ≡ Ok (record { code = code; size = size; start = o })
 unfolding head
 short_head B o size code room is_size is_code short =
     let second = ne_eqb (number B o 4) 1 (λ e. short (is_size ∙ e)) in
     rw (is_size, is_code) (rw (expect_bytes_present B o 8 room, second) refl)
 
-either_reading : {A : Type 0} (b : Bool) (r s : Reading A) (v : A) → (cond b r s).outcome ≡ Ok v → (r.outcome ≡ Ok v) ⊎ (s.outcome ≡ Ok v)
+either_reading : {A : Type 0} (b : Bool) (r s : Reading A) (v : A) → (cond b r s).outcome ≡ Ok v
+    → (r.outcome ≡ Ok v) ⊎ (s.outcome ≡ Ok v)
 either_reading true r s v e = inl e
 either_reading false r s v e = inr e
 
@@ -30,7 +33,8 @@ start_is c d e = ap (λ (r : Result Head Fault). elim r as (λ _. ℕ) [ Ok g �
 pub head_room : (B : List ℕ) (o : ℕ) (c : Head) → (head B o).outcome ≡ Ok c → (o ≤ c.start) × (c.start + 8 ≤ length B)
 unfolding head
 head_room B o c e =
-    let first = guard_value (nat_lt (length B) (o + 8)) (λ _. cond (number B o 4 == 1) (large_head B o) (compact_head B o)) c e in
+    let first = guard_value (nat_lt (length B) (o + 8))
+    (λ _. cond (number B o 4 == 1) (large_head B o) (compact_head B o)) c e in
     let room : o + 8 ≤ length B = ltb-false _ _ first.0 in
     elim (either_reading (number B o 4 == 1) (large_head B o) (compact_head B o) c first.1) [
       | inl l ↦
@@ -46,15 +50,19 @@ head_room B o c e =
     ]
 
 -- bytes that begin with a size and a code, after and before other bytes: their head
-pub head_among : (x part rest : List ℕ) (k m code : ℕ) → length x ≡ k → length part ≡ m → 8 ≤ m → number part 0 4 ≡ m → number part 4 4 ≡ code
+pub head_among : (x part rest : List ℕ) (k m code : ℕ) → length x ≡ k → length part ≡ m → 8 ≤ m → number part 0 4 ≡ m
+    → number part 4 4 ≡ code
     → head (x ++ (part ++ rest)) k ≡ done (record { code = code; size = m; start = k })
 unfolding head
 head_among x part rest k m code front long least size_first code_next =
     let B = x ++ (part ++ rest) in
-    let present : k + 8 ≤ length B = omega (arith, length-append x (part ++ rest), length-append part rest, front, long) in
+    let present : k + 8 ≤ length B =
+    omega (arith, length-append x (part ++ rest), length-append part rest, front, long) in
     let first : k ≡ length x + 0 = omega (arith, front) in
     let next : k + 4 ≡ length x + 4 = omega (arith, front) in
-    let s : number B k 4 ≡ m = ap (λ (j : ℕ). number B j 4) first ∙ number-among x part rest 0 4 (omega (arith, long)) ∙ size_first in
-    let n : number B (k + 4) 4 ≡ code = ap (λ (j : ℕ). number B j 4) next ∙ number-among x part rest 4 4 (omega (arith, long)) ∙ code_next in
+    let s : number B k 4 ≡ m = ap (λ (j : ℕ). number B j 4) first ∙ number-among x part rest 0 4 (omega (arith, long))
+    ∙ size_first in
+    let n : number B (k + 4) 4 ≡ code = ap (λ (j : ℕ). number B j 4) next
+    ∙ number-among x part rest 4 4 (omega (arith, long)) ∙ code_next in
     let other : eqb m 1 ≡ false = ne_eqb m 1 (λ e. absurd (omega arith)) in
     rw (expect_bytes_present B k 8 present, s, n, other) refl

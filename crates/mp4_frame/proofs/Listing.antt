@@ -1,5 +1,6 @@
 -- Boxes that are listed.
-use Rattle.std.proofs.Common.{◌≡◌, ℕ, zero, suc, ◌+◌, ◌-◌, ◌^◌, ◌<◌, Bool, true, false, cond, List, [], ◌∷◌, ◌++◌, length, Result, Ok, Err, refl, sym, ap, arith}
+use Rattle.std.proofs.Common.{◌≡◌, ℕ, zero, suc, ◌+◌, ◌-◌, ◌^◌, ◌<◌, Bool, true, false, cond, List, [], ◌∷◌, ◌++◌}
+use Rattle.std.proofs.Common.{length, Result, Ok, Err, refl, sym, ap, arith}
 use Rattle.std.specs.Prelude.{nat_le, IsOk}
 use Rattle.std.specs.List.{AllByRecursion}
 use Rattle.mp4_frame.specs.Format.{Format}
@@ -20,45 +21,70 @@ module _ {A : Type 0} (format : Format A) (known : BoxType → Bool) (reading : 
     (header_law : (v : A) → format.Writable v → BeginsWithHeader (format.size v) (format.name v) (format.bytes v))
     (normal_law : (v : A) → format.Writable v → Normal format.Writable format.bytes format.normal v)
     (name_law : (v : A) → format.Writable v → OwnName known (format.name v))
-    (back_law : (v : A) → format.Writable v → ReadsBack (reading (format.name v)) (format.bytes v) (format.normal v)) where
-  more_places : (o : ℕ) (v : A) (vs : List A) → format.Writable v → places format o (v ∷ vs) ≡ place format o v ∷ places format (o + length (format.bytes v)) vs
-  more_places o v vs w = ap (λ (n : ℕ). place format o v ∷ places format (o + n) vs) (sym (header_law v w).long)
+    (back_law : (v : A) → format.Writable v → ReadsBack (reading (format.name v)) (format.bytes v) (format.normal v))
+  where
+    more_places : (o : ℕ) (v : A) (vs : List A) → format.Writable v
+        → places format o (v ∷ vs) ≡ place format o v ∷ places format (o + length (format.bytes v)) vs
+    more_places o v vs w = ap (λ (n : ℕ). place format o v ∷ places format (o + n) vs) (sym (header_law v w).long)
 
-  span_written : (v : A) → format.Writable v → (x y : List ℕ) → length x + length (format.bytes v) < 2 ^ 64
-      → (span_item (length x) (record { name = format.name v; start = length x; size = length (format.bytes v); end = length x + length (format.bytes v) })).outcome ≡ Ok (place format (length x) v ∷ [])
-  span_written v w x y top =
-      let long : length x + length (format.bytes v) - length x ≡ format.size v = omega (arith, (header_law v w).long) in
-      ap (λ (n : ℕ). Ok (record { position = length x; length = n; name = format.name v } ∷ [])) long
+    span_written : (v : A) → format.Writable v → (x y : List ℕ) → length x + length (format.bytes v) < 2 ^ 64
+        → (span_item (length x)
+        (record {
+          name = format.name v;
+          start = length x;
+          size = length (format.bytes v);
+          end =
+              length x + length (format.bytes v);
+        })).outcome ≡ Ok (place format (length x) v ∷ [])
+    span_written v w x y top =
+        let long : length x + length (format.bytes v) - length x ≡ format.size v =
+        omega (arith, (header_law v w).long) in
+        ap (λ (n : ℕ). Ok (record { position = length x; length = n; name = format.name v } ∷ [])) long
 
-  -- a written list at the end of the buffer is listed as its places
-  pub places_listed : (vs : List A) → AllByRecursion format.Writable vs → (x : List ℕ) → length x + length (stream format.bytes vs) < 2 ^ 64 → (spans (x ++ stream format.bytes vs) (length x)).outcome ≡ Ok (places format (length x) vs)
-  places_listed = walk_whole format.name format.size format.Writable format.bytes format.normal known reading header_law normal_law name_law back_law (λ B. span_item) (place format) (places format) (λ o. refl) more_places span_written
+    -- a written list at the end of the buffer is listed as its places
+    pub places_listed : (vs : List A) → AllByRecursion format.Writable vs → (x : List ℕ)
+        → length x + length (stream format.bytes vs) < 2 ^ 64
+        → (spans (x ++ stream format.bytes vs) (length x)).outcome ≡ Ok (places format (length x) vs)
+    places_listed = walk_whole format.name format.size format.Writable format.bytes format.normal known
+        reading header_law
+        normal_law name_law back_law (λ B. span_item) (place format) (places format) (λ o. refl) more_places
+        span_written
 
-bind_ok_by : {A C : Type 0} (a : Bool) (o : Result A Fault) (f : A → Reading C) → IsOk (and_then a o f).outcome → IsOk o × ((v : A) × IsOk (f v).outcome)
+bind_ok_by : {A C : Type 0} (a : Bool) (o : Result A Fault) (f : A → Reading C) → IsOk (and_then a o f).outcome
+    → IsOk o × ((v : A) × IsOk (f v).outcome)
 bind_ok_by a (Ok v) f h = (refl, (v, h))
 bind_ok_by a (Err k) f h = absurd cc
 
-bind_is_ok : {A C : Type 0} (a : Bool) (o : Result A Fault) (f : A → Reading C) → IsOk o → ((v : A) → IsOk (f v).outcome) → IsOk (and_then a o f).outcome
+bind_is_ok : {A C : Type 0} (a : Bool) (o : Result A Fault) (f : A → Reading C) → IsOk o
+    → ((v : A) → IsOk (f v).outcome) → IsOk (and_then a o f).outcome
 bind_is_ok a (Ok v) f h rest = rest v
 bind_is_ok a (Err k) f h rest = absurd cc
 
-either_is_ok : {A C : Type 0} (b : Bool) (p q : Reading A) (r s : Reading C) → IsOk r.outcome → (IsOk q.outcome → IsOk s.outcome) → IsOk (cond b p q).outcome → IsOk (cond b r s).outcome
+either_is_ok : {A C : Type 0} (b : Bool) (p q : Reading A) (r s : Reading C) → IsOk r.outcome
+    → (IsOk q.outcome → IsOk s.outcome) → IsOk (cond b p q).outcome → IsOk (cond b r s).outcome
 either_is_ok true p q r s first second h = first
 either_is_ok false p q r s first second h = second h
 
 -- items that have no faults of their own: their walk is Ok where any walk over the same frames is
-module _ {X Y : Type 0} (item : ℕ → Frame → Reading (List X)) (other : ℕ → Frame → Reading (List Y)) (no_fault : (o : ℕ) (f : Frame) → IsOk (other o f).outcome) (B : List ℕ) where
-  walk_on_is_ok : (o : ℕ) (rest : ℕ → Reading (List X)) (others : ℕ → Reading (List Y)) → ((e : ℕ) → IsOk (rest e).outcome → IsOk (others e).outcome) → (r : Result Frame Fault)
+module _ {X Y : Type 0} (item : ℕ → Frame → Reading (List X)) (other : ℕ → Frame → Reading (List Y))
+    (no_fault : (o : ℕ) (f : Frame) → IsOk (other o f).outcome) (B : List ℕ) where
+  walk_on_is_ok : (o : ℕ) (rest : ℕ → Reading (List X)) (others : ℕ → Reading (List Y))
+      → ((e : ℕ) → IsOk (rest e).outcome → IsOk (others e).outcome) → (r : Result Frame Fault)
       → IsOk (walk_on (item o) rest r).outcome → IsOk (walk_on (other o) others r).outcome
   walk_on_is_ok o rest others each (Err k) h = h
   walk_on_is_ok o rest others each (Ok f) h =
       let i = item o f in
       let later = (bind_ok_by i.asks_memory i.outcome (λ xs. rest f.end >>= λ ys. done (xs ++ ys)) h).1 in
       let rest_ok = (bind_ok_by (rest f.end).asks_memory (rest f.end).outcome (λ ys. done (later.0 ++ ys)) later.1).0 in
-      bind_is_ok (other o f).asks_memory (other o f).outcome (λ xs. others f.end >>= λ ys. done (xs ++ ys)) (no_fault o f) (λ xs. bind_is_ok (others f.end).asks_memory (others f.end).outcome (λ ys. done (xs ++ ys)) (each f.end rest_ok) (λ ys. refl))
+      bind_is_ok (other o f).asks_memory (other o f).outcome (λ xs. others f.end >>= λ ys. done (xs ++ ys))
+      (no_fault o f) (λ xs.
+      bind_is_ok (others f.end).asks_memory (others f.end).outcome (λ ys. done (xs ++ ys)) (each f.end rest_ok)
+      (λ ys. refl))
 
   pub walk_is_ok : (n o : ℕ) → IsOk (walk_at_most item B n o).outcome → IsOk (walk_at_most other B n o).outcome
   unfolding walk_at_most
   walk_is_ok zero o h = refl
   walk_is_ok (suc n) o h =
-      either_is_ok (nat_le (length B) o) (done []) (walk_on (item o) (λ e. walk_at_most item B n e) (frame B o)) (done []) (walk_on (other o) (λ e. walk_at_most other B n e) (frame B o)) refl (walk_on_is_ok o (λ e. walk_at_most item B n e) (λ e. walk_at_most other B n e) (walk_is_ok n) (frame B o)) h
+      either_is_ok (nat_le (length B) o) (done []) (walk_on (item o) (λ e. walk_at_most item B n e) (frame B o))
+      (done []) (walk_on (other o) (λ e. walk_at_most other B n e) (frame B o)) refl
+      (walk_on_is_ok o (λ e. walk_at_most item B n e) (λ e. walk_at_most other B n e) (walk_is_ok n) (frame B o)) h

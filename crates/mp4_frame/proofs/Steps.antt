@@ -1,10 +1,12 @@
 -- Reading boxes, one after the other.
-use Rattle.std.proofs.Common.{◌≡◌, ℕ, ◌<◌, ◌≤◌, Bool, true, false, List, [], ◌∷◌, ◌++◌, length, Result, Ok, Err, refl, sym, ap, subst, ◌∙◌, arith, append_assoc, length-append, inl, inr}
+use Rattle.std.proofs.Common.{◌≡◌, ℕ, ◌<◌, ◌≤◌, Bool, true, false, List, [], ◌∷◌, ◌++◌, length, Result, Ok, Err, refl}
+use Rattle.std.proofs.Common.{sym, ap, subst, ◌∙◌, arith, append_assoc, length-append, inl, inr}
 use Rattle.std.specs.Prelude.{nat_lt, ◌||◌, ◌⊎◌}
 use Rattle.std.proofs.lemmas.Bool.{lt-ltb}
 use Rattle.std.proofs.lemmas.List.{append-nil}
 use Rattle.mp4_frame.specs.Heads.{frame}
-use Rattle.mp4_frame.specs.Reading.{Fault, End, Invalid, NotFound, Reading, done, also, and_then, ◌>>=◌, Refuses, FaultAs, IsFault, memory}
+use Rattle.mp4_frame.specs.Reading.{Fault, End, Invalid, NotFound, Reading, done, also, and_then, ◌>>=◌, Refuses}
+use Rattle.mp4_frame.specs.Reading.{FaultAs, IsFault, memory}
 use Rattle.mp4_frame.specs.Streams.{walk_on, walk, box_of, boxes, append_read}
 use Rattle.mp4_frame.specs.declared.box_type.BoxType.{BoxType}
 use Rattle.mp4_frame.specs.declared.frame.Frame.{Frame}
@@ -31,23 +33,31 @@ regroup_asks false false c = refl
 
 -- an item that was read moves to the front
 regroup : {X : Type 0} (a b : Bool) (front xs : List X) (c : Bool) (o : Result (List X) Fault)
-    → continue_with a front (also b (and_then c o (λ ys. done (xs ++ ys)))) ≡ continue_with (a || b) (front ++ xs) (record { asks_memory = c; outcome = o })
-regroup true b front xs c (Ok ys) = ap (λ (l : List _). record { asks_memory = true; outcome = Ok l }) (sym (append_assoc front xs ys))
-regroup false true front xs c (Ok ys) = ap (λ (l : List _). record { asks_memory = true; outcome = Ok l }) (sym (append_assoc front xs ys))
-regroup false false front xs true (Ok ys) = ap (λ (l : List _). record { asks_memory = true; outcome = Ok l }) (sym (append_assoc front xs ys))
-regroup false false front xs false (Ok ys) = ap (λ (l : List _). record { asks_memory = false; outcome = Ok l }) (sym (append_assoc front xs ys))
+    → continue_with a front (also b (and_then c o (λ ys. done (xs ++ ys))))
+    ≡ continue_with (a || b) (front ++ xs) (record { asks_memory = c; outcome = o })
+regroup true b front xs c (Ok ys) =
+    ap (λ (l : List _). record { asks_memory = true; outcome = Ok l }) (sym (append_assoc front xs ys))
+regroup false true front xs c (Ok ys) =
+    ap (λ (l : List _). record { asks_memory = true; outcome = Ok l }) (sym (append_assoc front xs ys))
+regroup false false front xs true (Ok ys) =
+    ap (λ (l : List _). record { asks_memory = true; outcome = Ok l }) (sym (append_assoc front xs ys))
+regroup false false front xs false (Ok ys) =
+    ap (λ (l : List _). record { asks_memory = false; outcome = Ok l }) (sym (append_assoc front xs ys))
 regroup true b front xs c (Err k) = refl
 regroup false true front xs c (Err k) = refl
 regroup false false front xs c (Err k) = refl
 
-pub bind_ok : {A C : Type 0} (r : Reading A) (f : A → Reading C) (v : A) → r.outcome ≡ Ok v → (r >>= f) ≡ also r.asks_memory (f v)
+pub bind_ok : {A C : Type 0} (r : Reading A) (f : A → Reading C) (v : A) → r.outcome ≡ Ok v
+    → (r >>= f) ≡ also r.asks_memory (f v)
 bind_ok r f v e = ap (λ (o : Result _ Fault). and_then r.asks_memory o f) e
 
-and_then_asks : {Y Z : Type 0} (asks_memory : Bool) (o : Result Y Fault) (g : Y → Reading Z) → asks_memory ≡ true → (and_then asks_memory o g).asks_memory ≡ true
+and_then_asks : {Y Z : Type 0} (asks_memory : Bool) (o : Result Y Fault) (g : Y → Reading Z) → asks_memory ≡ true
+    → (and_then asks_memory o g).asks_memory ≡ true
 and_then_asks asks_memory (Ok y) g is = ap (λ (b : Bool). b || (g y).asks_memory) is
 and_then_asks asks_memory (Err k) g is = is
 
-refuses_fault : {A : Type 0} (e : Error) (k : Fault) (total : Reading (List A)) → IsFault e k → total.outcome ≡ Err k → Refuses e total
+refuses_fault : {A : Type 0} (e : Error) (k : Fault) (total : Reading (List A)) → IsFault e k → total.outcome ≡ Err k
+    → Refuses e total
 refuses_fault errors.IoError k total is t = t ∙ ap (λ (k : Fault). Err k) is
 refuses_fault (errors.InvalidData _) k total is t = t ∙ ap (λ (k : Fault). Err k) is
 refuses_fault _ k total is t = absurd is
@@ -57,51 +67,69 @@ long_enough front v = lt-ltb 0 (length (front ++ v ∷ [])) (omega (arith, lengt
 
 module _ {X : Type 0} (item : ℕ → Frame → Reading (List X)) (B : List ℕ) where
   -- a step over a frame whose items are read
-  pub step : (a : Bool) (front xs : List X) (o : ℕ) (f : Frame) (total : Reading (List X)) → o < length B → frame B o ≡ Ok f → (item o f).outcome ≡ Ok xs
-      → continue_with a front (walk item B o) ≡ total → continue_with (a || (item o f).asks_memory) (front ++ xs) (walk item B f.end) ≡ total
+  pub step : (a : Bool) (front xs : List X) (o : ℕ) (f : Frame) (total : Reading (List X)) → o < length B
+      → frame B o ≡ Ok f → (item o f).outcome ≡ Ok xs
+      → continue_with a front (walk item B o) ≡ total
+      → continue_with (a || (item o f).asks_memory) (front ++ xs) (walk item B f.end) ≡ total
   step a front xs o f total lt is is_item so_far =
       let rest = walk item B f.end in
-      let first : walk item B o ≡ walk_on (item o) (λ e. walk item B e) (Ok f) = walk_first item B o lt ∙ ap (walk_on (item o) (λ e. walk item B e)) is in
+      let first : walk item B o ≡ walk_on (item o) (λ e. walk item B e) (Ok f) = walk_first item B o lt
+      ∙ ap (walk_on (item o) (λ e. walk item B e)) is in
       let second = bind_ok (item o f) (λ xs. rest >>= λ ys. done (xs ++ ys)) xs is_item in
-      sym (ap (continue_with a front) (first ∙ second) ∙ regroup a (item o f).asks_memory front xs rest.asks_memory rest.outcome) ∙ so_far
+      sym (ap (continue_with a front) (first ∙ second)
+      ∙ regroup a (item o f).asks_memory front xs rest.asks_memory rest.outcome) ∙ so_far
 
   -- the list before a fault
-  fault_at : (a : Bool) (front : List X) (o : ℕ) (r : Result Frame Fault) (total : Reading (List X)) → o < length B → frame B o ≡ r
-      → continue_with a front (walk item B o) ≡ total → continue_with a front (walk_on (item o) (λ e. walk item B e) r) ≡ total
+  fault_at : (a : Bool) (front : List X) (o : ℕ) (r : Result Frame Fault) (total : Reading (List X)) → o < length B
+      → frame B o ≡ r
+      → continue_with a front (walk item B o) ≡ total
+      → continue_with a front (walk_on (item o) (λ e. walk item B e) r) ≡ total
   fault_at a front o r total lt is so_far =
       sym (ap (continue_with a front) (walk_first item B o lt ∙ ap (walk_on (item o) (λ e. walk item B e)) is)) ∙ so_far
 
   -- a frame that faults
-  walk_faults_at : (a : Bool) (front : List X) (o : ℕ) (e : Error) (r : Result Frame Fault) (total : Reading (List X)) → o < length B → frame B o ≡ r → FaultAs (Err e) r
+  walk_faults_at : (a : Bool) (front : List X) (o : ℕ) (e : Error) (r : Result Frame Fault) (total : Reading (List X))
+      → o < length B → frame B o ≡ r → FaultAs (Err e) r
       → continue_with a front (walk item B o) ≡ total → Refuses e total
   walk_faults_at a front o e (Ok f) total lt is fault so_far = absurd fault
   walk_faults_at a front o e (Err k) total lt is fault so_far =
-      refuses_fault e k total fault (ap (λ (r : Reading (List X)). r.outcome) (sym (fault_at a front o (Err k) total lt is so_far)))
+      refuses_fault e k total fault
+      (ap (λ (r : Reading (List X)). r.outcome) (sym (fault_at a front o (Err k) total lt is so_far)))
 
-  pub walk_faults : (a : Bool) (front : List X) (o : ℕ) (e : Error) (total : Reading (List X)) → o < length B → FaultAs (Err e) (frame B o)
+  pub walk_faults : (a : Bool) (front : List X) (o : ℕ) (e : Error) (total : Reading (List X)) → o < length B
+      → FaultAs (Err e) (frame B o)
       → continue_with a front (walk item B o) ≡ total → Refuses e total
   walk_faults a front o e total lt fault so_far = walk_faults_at a front o e (frame B o) total lt refl fault so_far
 
   -- at the end of the buffer nothing is left
-  pub walk_is_over : (a : Bool) (front : List X) (o : ℕ) (total : Reading (List X)) → length B ≤ o → continue_with a front (walk item B o) ≡ total → total.outcome ≡ Ok front
+  pub walk_is_over : (a : Bool) (front : List X) (o : ℕ) (total : Reading (List X)) → length B ≤ o
+      → continue_with a front (walk item B o) ≡ total → total.outcome ≡ Ok front
   walk_is_over a front o total le so_far =
-      ap (λ (r : Reading (List X)). r.outcome) (sym so_far ∙ ap (continue_with a front) (walk_none item B o le)) ∙ ap (λ (l : List X). Ok l) (append-nil front)
+      ap (λ (r : Reading (List X)). r.outcome) (sym so_far ∙ ap (continue_with a front) (walk_none item B o le))
+      ∙ ap (λ (l : List X). Ok l) (append-nil front)
 
   -- an item that takes memory and gives one value, which is kept
-  pub one_kept : (front : List X) (x : X) (o : ℕ) (f : Frame) (total : Reading (List X)) → o < length B → frame B o ≡ Ok f → item o f ≡ record { asks_memory = true; outcome = Ok (x ∷ []) }
-      → continue_with (nat_lt 0 (length front)) front (walk item B o) ≡ total → continue_with (nat_lt 0 (length (front ++ x ∷ []))) (front ++ x ∷ []) (walk item B f.end) ≡ total
+  pub one_kept : (front : List X) (x : X) (o : ℕ) (f : Frame) (total : Reading (List X)) → o < length B
+      → frame B o ≡ Ok f → item o f ≡ record { asks_memory = true; outcome = Ok (x ∷ []) }
+      → continue_with (nat_lt 0 (length front)) front (walk item B o) ≡ total
+      → continue_with (nat_lt 0 (length (front ++ x ∷ []))) (front ++ x ∷ []) (walk item B f.end) ≡ total
   one_kept front x o f total lt is is_item so_far =
-      let one = step (nat_lt 0 (length front)) front (x ∷ []) o f total lt is (ap (λ (r : Reading (List X)). r.outcome) is_item) so_far in
+      let one = step (nat_lt 0 (length front)) front (x ∷ []) o f total lt is
+      (ap (λ (r : Reading (List X)). r.outcome) is_item) so_far in
       let flag : (nat_lt 0 (length front) || (item o f).asks_memory) ≡ nat_lt 0 (length (front ++ x ∷ [])) =
-      ap (λ (r : Reading (List X)). nat_lt 0 (length front) || r.asks_memory) is_item ∙ or_true (nat_lt 0 (length front)) ∙ sym (long_enough front x) in
+      ap (λ (r : Reading (List X)). nat_lt 0 (length front) || r.asks_memory) is_item
+      ∙ or_true (nat_lt 0 (length front)) ∙ sym (long_enough front x) in
       subst (λ (b : Bool). continue_with b (front ++ x ∷ []) (walk item B f.end) ≡ total) flag one
 
   -- out of memory after such an item was read
-  pub one_refused : (front : List X) (x : X) (o : ℕ) (f : Frame) (total : Reading (List X)) → o < length B → frame B o ≡ Ok f → item o f ≡ record { asks_memory = true; outcome = Ok (x ∷ []) }
+  pub one_refused : (front : List X) (x : X) (o : ℕ) (f : Frame) (total : Reading (List X)) → o < length B
+      → frame B o ≡ Ok f → item o f ≡ record { asks_memory = true; outcome = Ok (x ∷ []) }
       → continue_with (nat_lt 0 (length front)) front (walk item B o) ≡ total → total.asks_memory ≡ true
   one_refused front x o f total lt is is_item so_far =
       let one = one_kept front x o f total lt is is_item so_far in
-      let two : continue_with (nat_lt 0 (length (front ++ x ∷ []))) (front ++ x ∷ []) (walk item B f.end) ≡ continue_with true (front ++ x ∷ []) (walk item B f.end) = ap (λ (b : Bool). continue_with b (front ++ x ∷ []) (walk item B f.end)) (long_enough front x) in
+      let two : continue_with (nat_lt 0 (length (front ++ x ∷ []))) (front ++ x ∷ []) (walk item B f.end)
+      ≡ continue_with true (front ++ x ∷ []) (walk item B f.end) =
+      ap (λ (b : Bool). continue_with b (front ++ x ∷ []) (walk item B f.end)) (long_enough front x) in
       ap (λ (r : Reading (List X)). r.asks_memory) (sym one ∙ two)
 
 abbrev pub ok_list : {A : Type 0} → List A → Result (List A) Fault
@@ -115,80 +143,111 @@ err_one k = Err k
 
 module _ {A : Type 0} (known : BoxType → Bool) (reading : BoxType → List ℕ → ℕ → ℕ → Reading A) (B : List ℕ) where
   -- a box is skipped
-  pub skipped : (front : List A) (o : ℕ) (f : Frame) (total : Reading (List A)) → o < length B → frame B o ≡ Ok f → known f.name ≡ false
-      → continue_with (nat_lt 0 (length front)) front (boxes known reading B o) ≡ total → continue_with (nat_lt 0 (length front)) front (boxes known reading B f.end) ≡ total
+  pub skipped : (front : List A) (o : ℕ) (f : Frame) (total : Reading (List A)) → o < length B → frame B o ≡ Ok f
+      → known f.name ≡ false
+      → continue_with (nat_lt 0 (length front)) front (boxes known reading B o) ≡ total
+      → continue_with (nat_lt 0 (length front)) front (boxes known reading B f.end) ≡ total
   skipped front o f total lt is unknown so_far =
       let item : box_of known reading B o f ≡ done [] = rw unknown refl in
-      let one = step (box_of known reading B) B (nat_lt 0 (length front)) front [] o f total lt is (ap (λ (r : Reading (List A)). r.outcome) item) so_far in
-      let flag : (nat_lt 0 (length front) || (box_of known reading B o f).asks_memory) ≡ nat_lt 0 (length front) = ap (λ (r : Reading (List A)). nat_lt 0 (length front) || r.asks_memory) item ∙ or_false (nat_lt 0 (length front)) in
+      let one = step (box_of known reading B) B (nat_lt 0 (length front)) front [] o f total lt is
+      (ap (λ (r : Reading (List A)). r.outcome) item) so_far in
+      let flag : (nat_lt 0 (length front) || (box_of known reading B o f).asks_memory) ≡ nat_lt 0 (length front) =
+      ap (λ (r : Reading (List A)). nat_lt 0 (length front) || r.asks_memory) item
+      ∙ or_false (nat_lt 0 (length front)) in
       rw (flag, append-nil front) at one
 
-  pub item_known : (o : ℕ) (f : Frame) (v : A) → known f.name ≡ true → (reading f.name B f.start f.size).outcome ≡ Ok v → box_of known reading B o f ≡ record { asks_memory = true; outcome = Ok (v ∷ []) }
+  pub item_known : (o : ℕ) (f : Frame) (v : A) → known f.name ≡ true → (reading f.name B f.start f.size).outcome ≡ Ok v
+      → box_of known reading B o f ≡ record { asks_memory = true; outcome = Ok (v ∷ []) }
   item_known o f v is_known e =
       let r = reading f.name B f.start f.size in
       let one : box_of known reading B o f ≡ (r >>= λ v. memory >>= λ _. done (v ∷ [])) = rw is_known refl in
       let two = bind_ok r (λ v. memory >>= λ _. done (v ∷ [])) v e in
       one ∙ two ∙ ap (λ (b : Bool). record { asks_memory = b; outcome = Ok (v ∷ []) }) (or_true r.asks_memory)
 
-  item_faults : (a : Bool) (front : List A) (o : ℕ) (f : Frame) (k : Fault) (total : Reading (List A)) → o < length B → frame B o ≡ Ok f → known f.name ≡ true → (reading f.name B f.start f.size).outcome ≡ Err k
+  item_faults : (a : Bool) (front : List A) (o : ℕ) (f : Frame) (k : Fault) (total : Reading (List A)) → o < length B
+      → frame B o ≡ Ok f → known f.name ≡ true → (reading f.name B f.start f.size).outcome ≡ Err k
       → continue_with a front (boxes known reading B o) ≡ total → total.outcome ≡ Err k
   item_faults a front o f k total lt is is_known e so_far =
       let r = reading f.name B f.start f.size in
       let one = fault_at (box_of known reading B) B a front o (Ok f) total lt is so_far in
-      let item : box_of known reading B o f ≡ and_then r.asks_memory (Err k) (λ v. memory >>= λ _. done (v ∷ [])) = rw is_known (ap (λ (o : Result A Fault). and_then r.asks_memory o (λ v. memory >>= λ _. done (v ∷ []))) e) in
-      ap (λ (r : Reading (List A)). r.outcome) (sym one ∙ ap (λ (i : Reading (List A)). continue_with a front (i >>= λ xs. boxes known reading B f.end >>= λ ys. done (xs ++ ys))) item)
+      let item : box_of known reading B o f ≡ and_then r.asks_memory (Err k) (λ v. memory >>= λ _. done (v ∷ [])) =
+      rw is_known (ap (λ (o : Result A Fault). and_then r.asks_memory o (λ v. memory >>= λ _. done (v ∷ []))) e) in
+      ap (λ (r : Reading (List A)). r.outcome)
+      (sym one ∙ ap (λ (i : Reading (List A)).
+      continue_with a front (i >>= λ xs. boxes known reading B f.end >>= λ ys. done (xs ++ ys))) item)
 
-  item_asks : (a : Bool) (front : List A) (o : ℕ) (f : Frame) (total : Reading (List A)) → o < length B → frame B o ≡ Ok f → known f.name ≡ true → (reading f.name B f.start f.size).asks_memory ≡ true
+  item_asks : (a : Bool) (front : List A) (o : ℕ) (f : Frame) (total : Reading (List A)) → o < length B
+      → frame B o ≡ Ok f → known f.name ≡ true → (reading f.name B f.start f.size).asks_memory ≡ true
       → continue_with a front (boxes known reading B o) ≡ total → total.asks_memory ≡ true
   item_asks a front o f total lt is is_known e so_far =
       let r = reading f.name B f.start f.size in
       let one = fault_at (box_of known reading B) B a front o (Ok f) total lt is so_far in
-      let item : (box_of known reading B o f).asks_memory ≡ true = rw is_known (and_then_asks r.asks_memory r.outcome (λ v. memory >>= λ _. done (v ∷ [])) e) in
+      let item : (box_of known reading B o f).asks_memory ≡ true =
+      rw is_known (and_then_asks r.asks_memory r.outcome (λ v. memory >>= λ _. done (v ∷ [])) e) in
       let i = box_of known reading B o f in
-      let two = and_then_asks i.asks_memory i.outcome (λ xs. boxes known reading B f.end >>= λ ys. done (xs ++ ys)) item in
+      let two = and_then_asks i.asks_memory i.outcome
+      (λ xs. boxes known reading B f.end >>= λ ys. done (xs ++ ys)) item in
       let w = i >>= λ xs. boxes known reading B f.end >>= λ ys. done (xs ++ ys) in
       let three = and_then_asks w.asks_memory w.outcome (λ ys. done (front ++ ys)) two in
       ap (λ (r : Reading (List A)). r.asks_memory) (sym one) ∙ ap (λ (b : Bool). a || b) three ∙ or_true a
 
   -- a frame faults
-  pub frame_faults : (a : Bool) (front : List A) (o : ℕ) (e : Error) (total : Reading (List A)) → o < length B → FaultAs (Err e) (frame B o)
+  pub frame_faults : (a : Bool) (front : List A) (o : ℕ) (e : Error) (total : Reading (List A)) → o < length B
+      → FaultAs (Err e) (frame B o)
       → continue_with a front (boxes known reading B o) ≡ total → Refuses e total
   frame_faults = walk_faults (box_of known reading B) B
 
   -- at the end of the buffer nothing is left
-  pub all_read : (a : Bool) (front : List A) (o : ℕ) (total : Reading (List A)) → length B ≤ o → continue_with a front (boxes known reading B o) ≡ total → total.outcome ≡ Ok front
+  pub all_read : (a : Bool) (front : List A) (o : ℕ) (total : Reading (List A)) → length B ≤ o
+      → continue_with a front (boxes known reading B o) ≡ total → total.outcome ≡ Ok front
   all_read = walk_is_over (box_of known reading B) B
 
-  append_read_by : (front new : List A) (a : Bool) (o : Result A Fault) → (append_read front (record { asks_memory = a; outcome = o })).outcome ≡ ok_list new → (v : A) × (o ≡ Ok v) × (front ++ v ∷ [] ≡ new)
+  append_read_by : (front new : List A) (a : Bool) (o : Result A Fault)
+      → (append_read front (record { asks_memory = a; outcome = o })).outcome ≡ ok_list new
+      → (v : A) × (o ≡ Ok v) × (front ++ v ∷ [] ≡ new)
   append_read_by front new a (Ok v) e = (v, refl, cc e)
   append_read_by front new a (Err k) e = absurd cc
 
   -- a box that was read and appended is kept
-  pub append_read_keeps : (front new : List A) (o : ℕ) (f : Frame) (total : Reading (List A)) → o < length B → frame B o ≡ Ok f → known f.name ≡ true → (append_read front (reading f.name B f.start f.size)).outcome ≡ Ok new
-      → continue_with (nat_lt 0 (length front)) front (boxes known reading B o) ≡ total → continue_with (nat_lt 0 (length new)) new (boxes known reading B f.end) ≡ total
+  pub append_read_keeps : (front new : List A) (o : ℕ) (f : Frame) (total : Reading (List A)) → o < length B
+      → frame B o ≡ Ok f → known f.name ≡ true → (append_read front (reading f.name B f.start f.size)).outcome ≡ Ok new
+      → continue_with (nat_lt 0 (length front)) front (boxes known reading B o) ≡ total
+      → continue_with (nat_lt 0 (length new)) new (boxes known reading B f.end) ≡ total
   append_read_keeps front new o f total lt is is_known e so_far =
       let r = reading f.name B f.start f.size in
       let p = append_read_by front new r.asks_memory r.outcome e in
-      subst (λ (l : List A). continue_with (nat_lt 0 (length l)) l (boxes known reading B f.end) ≡ total) p.2 (one_kept (box_of known reading B) B front p.0 o f total lt is (item_known o f p.0 is_known p.1) so_far)
+      subst (λ (l : List A). continue_with (nat_lt 0 (length l)) l (boxes known reading B f.end) ≡ total) p.2
+      (one_kept (box_of known reading B) B front p.0 o f total lt is (item_known o f p.0 is_known p.1) so_far)
 
-  fault_by : (front : List A) (k : Fault) (a : Bool) (o : Result A Fault) → (append_read front (record { asks_memory = a; outcome = o })).outcome ≡ err_list k → o ≡ err_one k
+  fault_by : (front : List A) (k : Fault) (a : Bool) (o : Result A Fault)
+      → (append_read front (record { asks_memory = a; outcome = o })).outcome ≡ err_list k → o ≡ err_one k
   fault_by front k a (Ok v) e = absurd cc
   fault_by front k a (Err l) e = cc e
 
-  asks_by : (front : List A) (a : Bool) (o : Result A Fault) → (append_read front (record { asks_memory = a; outcome = o })).asks_memory ≡ true → (a ≡ true) ⊎ ((v : A) × (o ≡ Ok v))
+  asks_by : (front : List A) (a : Bool) (o : Result A Fault)
+      → (append_read front (record { asks_memory = a; outcome = o })).asks_memory ≡ true
+      → (a ≡ true) ⊎ ((v : A) × (o ≡ Ok v))
   asks_by front a (Ok v) e = inr (v, refl)
   asks_by front a (Err k) e = inl e
 
   -- a box could not be read or appended
-  pub append_read_faults : (front : List A) (o : ℕ) (f : Frame) (e : Error) (total : Reading (List A)) → o < length B → frame B o ≡ Ok f → known f.name ≡ true → Refuses e (append_read front (reading f.name B f.start f.size))
+  pub append_read_faults : (front : List A) (o : ℕ) (f : Frame) (e : Error) (total : Reading (List A)) → o < length B
+      → frame B o ≡ Ok f → known f.name ≡ true → Refuses e (append_read front (reading f.name B f.start f.size))
       → continue_with (nat_lt 0 (length front)) front (boxes known reading B o) ≡ total → Refuses e total
-  append_read_faults front o f errors.IoError total lt is is_known h so_far = (let r = reading f.name B f.start f.size in item_faults _ front o f End total lt is is_known (fault_by front End r.asks_memory r.outcome h) so_far)
-  append_read_faults front o f (errors.InvalidData _) total lt is is_known h so_far = (let r = reading f.name B f.start f.size in item_faults _ front o f Invalid total lt is is_known (fault_by front Invalid r.asks_memory r.outcome h) so_far)
-  append_read_faults front o f (errors.BoxNotFound n) total lt is is_known h so_far = (let r = reading f.name B f.start f.size in item_faults _ front o f (NotFound n) total lt is is_known (fault_by front (NotFound n) r.asks_memory r.outcome h) so_far)
+  append_read_faults front o f errors.IoError total lt is is_known h so_far =
+      (let r = reading f.name B f.start f.size in item_faults _ front o f End total lt is is_known
+      (fault_by front End r.asks_memory r.outcome h) so_far)
+  append_read_faults front o f (errors.InvalidData _) total lt is is_known h so_far =
+      (let r = reading f.name B f.start f.size in item_faults _ front o f Invalid total lt is is_known
+      (fault_by front Invalid r.asks_memory r.outcome h) so_far)
+  append_read_faults front o f (errors.BoxNotFound n) total lt is is_known h so_far =
+      (let r = reading f.name B f.start f.size in item_faults _ front o f (NotFound n) total lt is is_known
+      (fault_by front (NotFound n) r.asks_memory r.outcome h) so_far)
   append_read_faults front o f errors.OutOfMemory total lt is is_known h so_far =
       let r = reading f.name B f.start f.size in
       elim (asks_by front r.asks_memory r.outcome h) [
         | inl a ↦ item_asks _ front o f total lt is is_known a so_far
-        | inr p ↦ one_refused (box_of known reading B) B front p.0 o f total lt is (item_known o f p.0 is_known p.1) so_far
+        | inr p ↦ one_refused (box_of known reading B) B front p.0 o f total lt is
+            (item_known o f p.0 is_known p.1) so_far
       ]
   append_read_faults front o f _ total lt is is_known h so_far = absurd h

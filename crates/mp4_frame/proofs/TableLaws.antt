@@ -20,7 +20,8 @@ pub record IsEntry {X : Type 0} (row_of : X → List ℕ) (entry_of : List ℕ �
 pub number_entry : (w : ℕ) → IsEntry (λ n. be_bytes w n) (λ entry. number entry 0 w) (λ n. n < 256 ^ w) w
 number_entry w = record {
   long = λ n fits. length-be_bytes w n;
-  back = λ n fits. ap (λ (entry : List ℕ). number entry 0 w) (sym (append-nil (be_bytes w n))) ∙ number-be_bytes w n [] fits;
+  back = λ n fits. ap (λ (entry : List ℕ). number entry 0 w) (sym (append-nil (be_bytes w n)))
+      ∙ number-be_bytes w n [] fits;
   fits = λ entry is. number-below entry 0 w is.are;
 }
 
@@ -30,7 +31,8 @@ pub record TableOf (X : Type 0) : Type 0 where
   pub flags : ℕ
   pub entries : List X
 
-module _ {X V : Type 0} {row_of : X → List ℕ} {entry_of : List ℕ → X} {Fits : X → Type 0} {e : ℕ} (name : BoxType) (make : ℕ → ℕ → List X → V) (table : V → TableOf X) (entry : IsEntry row_of entry_of Fits e) where
+module _ {X V : Type 0} {row_of : X → List ℕ} {entry_of : List ℕ → X} {Fits : X → Type 0} {e : ℕ} (name : BoxType)
+    (make : ℕ → ℕ → List X → V) (table : V → TableOf X) (entry : IsEntry row_of entry_of Fits e) where
   abbrev pub format_table : Format V
   format_table = record {
     name = λ _. name;
@@ -40,13 +42,21 @@ module _ {X V : Type 0} {row_of : X → List ℕ} {entry_of : List ℕ → X} {F
     normal = λ v. v;
   }
 
-  pub laws_table : ((v : V) → make (table v).version (table v).flags (table v).entries ≡ v) → ((version flags : ℕ) (xs : List X) → table (make version flags xs) ≡ record { version = version; flags = flags; entries = xs }) → 0 < e → code_of name < 256 ^ 4 → IsBox (λ bytes start size. reads_table make entry_of e bytes size) format_table
+  pub laws_table : ((v : V) → make (table v).version (table v).flags (table v).entries ≡ v)
+      → ((version flags : ℕ) (xs : List X)
+      → table (make version flags xs) ≡ record { version = version; flags = flags; entries = xs }) → 0 < e
+      → code_of name < 256 ^ 4 → IsBox (λ bytes start size. reads_table make entry_of e bytes size) format_table
   laws_table whole seen some coded = record {
-    header = λ v w. header_of_table make row_of entry_of Fits e (code_of name) some coded entry.long entry.back entry.fits name refl (table v).version (table v).flags (table v).entries w;
+    header = λ v w. header_of_table make row_of entry_of Fits e (code_of name) some coded entry.long entry.back
+        entry.fits name refl (table v).version (table v).flags (table v).entries w;
     normal_form = λ v w. own_normal_form v refl w;
-    read_back = λ v w rest start top. table_back make row_of entry_of Fits e (code_of name) some coded entry.long entry.back entry.fits (table v).version (table v).flags (table v).entries rest w ∙ ap (λ (u : V). Ok u) (whole v);
+    read_back = λ v w rest start top.
+        table_back make row_of entry_of Fits e (code_of name) some coded entry.long entry.back entry.fits
+        (table v).version (table v).flags (table v).entries rest w ∙ ap (λ (u : V). Ok u) (whole v);
     sound = λ bytes start long v are read.
-        let p = table_read make row_of entry_of Fits e (code_of name) some coded entry.long entry.back entry.fits bytes long v are read in
-        let can = λ (t : TableOf X). size_table e t.entries < 2 ^ 32 → WritableTable Fits e (code_of name) t.version t.flags t.entries in
+        let p = table_read make row_of entry_of Fits e (code_of name) some coded entry.long entry.back entry.fits bytes
+        long v are read in
+        let can = λ (t : TableOf X). size_table e t.entries < 2 ^ 32
+        → WritableTable Fits e (code_of name) t.version t.flags t.entries in
         (refl, subst (λ (u : V). can (table u)) p.3 (subst can (sym (seen p.0 p.1 p.2)) p.4));
   }

@@ -143,23 +143,189 @@ abbrev pub AreCoded : List (ℕ × BoxType) → Type 0
 AreCoded [] = Unit {0}
 AreCoded (c ∷ cs) = (code_of c.1 ≡ c.0) × AreCoded cs
 
-chosen : (b : Bool) (n : ℕ) (x y : BoxType) → (b ≡ true → code_of x ≡ n) → code_of y ≡ n → code_of (if b then x else y) ≡ n
+chosen : (b : Bool) (n : ℕ) (x y : BoxType) → (b ≡ true → code_of x ≡ n) → code_of y ≡ n
+    → code_of (if b then x else y) ≡ n
 chosen true n x y p q = p refl
 chosen false n x y p q = q
 
 code_of-look_up : (cs : List (ℕ × BoxType)) → AreCoded cs → (n : ℕ) → code_of (look_up cs n) ≡ n
 code_of-look_up [] h n = refl
-code_of-look_up (c ∷ cs) h n = chosen (n == c.0) n c.1 (look_up cs n) (λ e. h.0 ∙ sym (eqb-true n c.0 e)) (code_of-look_up cs h.1 n)
+code_of-look_up (c ∷ cs) h n =
+    chosen (n == c.0) n c.1 (look_up cs n) (λ e. h.0 ∙ sym (eqb-true n c.0 e)) (code_of-look_up cs h.1 n)
 
 -- the code of the name of n is n
 pub code_of-name_of : (n : ℕ) → code_of (name_of n) ≡ n
 unfolding name_of
-code_of-name_of n = code_of-look_up named_codes (refl, (refl, (refl, (refl, (refl, (refl, (refl, (refl, (refl, (refl, (refl, (refl, (refl, (refl, (refl, (refl, (refl, (refl, (refl, (refl, (refl, (refl, (refl, (refl, (refl, (refl, (refl, (refl, (refl, (refl, (refl, (refl, (refl, (refl, (refl, (refl, (refl, (refl, (refl, (refl, (refl, (refl, (refl, (refl, (refl, (refl, (refl, (refl, (refl, (refl, (refl, (refl, (refl, (refl, (refl, tt))))))))))))))))))))))))))))))))))))))))))))))))))))))) n
+code_of-name_of n = code_of-look_up named_codes (
+  refl,
+  (
+    refl,
+    (
+      refl,
+      (
+        refl,
+        (
+          refl,
+          (
+            refl,
+            (
+              refl,
+              (
+                refl,
+                (
+                  refl,
+                  (
+                    refl,
+                    (
+                      refl,
+                      (
+                        refl,
+                        (
+                          refl,
+                          (
+                            refl,
+                            (
+                              refl,
+                              (
+                                refl,
+                                (
+                                  refl,
+                                  (
+                                    refl,
+                                    (
+                                      refl,
+                                      (
+                                        refl,
+                                        (
+                                          refl,
+                                          (
+                                            refl,
+                                            (
+                                              refl,
+                                              (
+                                                refl,
+                                                (
+                                                  refl,
+                                                  (
+                                                    refl,
+                                                    (
+                                                      refl,
+                                                      (
+                                                        refl,
+                                                        (
+                                                          refl,
+                                                          (
+                                                            refl,
+                                                            (
+                                                              refl,
+                                                              (
+                                                                refl,
+                                                                (
+                                                                  refl,
+                                                                  (
+                                                                    refl,
+                                                                    (
+                                                                      refl,
+                                                                      (
+                                                                        refl,
+                                                                        (
+                                                                          refl,
+                                                                          (
+                                                                            refl,
+                                                                            (
+                                                                              refl,
+                                                                              (
+                                                                                refl,
+                                                                                (
+                                                                                  refl,
+                                                                                  (
+                                                                                    refl,
+                                                                                    (
+                                                                                      refl,
+                                                                                      (
+                                                                                        refl,
+                                                                                        (
+                                                                                          refl,
+                                                                                          (
+                                                                                            refl,
+                                                                                            (
+                                                                                              refl,
+                                                                                              (
+                                                                                                refl,
+                                                                                                (
+                                                                                                  refl,
+                                                                                                  (
+                                                                                                    refl,
+                                                                                                    (
+                                                                                                      refl,
+                                                                                                      (
+                                                                                                        refl,
+                                                                                                        (
+                                                                                                          refl,
+                                                                                                          (
+                                                                                                            refl,
+                                                                                                            (refl, tt),
+                                                                                                          ),
+                                                                                                        ),
+                                                                                                      ),
+                                                                                                    ),
+                                                                                                  ),
+                                                                                                ),
+                                                                                              ),
+                                                                                            ),
+                                                                                          ),
+                                                                                        ),
+                                                                                      ),
+                                                                                    ),
+                                                                                  ),
+                                                                                ),
+                                                                              ),
+                                                                            ),
+                                                                          ),
+                                                                        ),
+                                                                      ),
+                                                                    ),
+                                                                  ),
+                                                                ),
+                                                              ),
+                                                            ),
+                                                          ),
+                                                        ),
+                                                      ),
+                                                    ),
+                                                  ),
+                                                ),
+                                              ),
+                                            ),
+                                          ),
+                                        ),
+                                      ),
+                                    ),
+                                  ),
+                                ),
+                              ),
+                            ),
+                          ),
+                        ),
+                      ),
+                    ),
+                  ),
+                ),
+              ),
+            ),
+          ),
+        ),
+      ),
+    ),
+  ),
+) n
 
 -- the name of a number that is no named code is an UnknownBox of that number
 unnamed : (cs : List (ℕ × BoxType)) (n : ℕ) → list_any (λ c. n == c.0) cs ≡ false → look_up cs n ≡ names.UnknownBox n
 unnamed [] n h = refl
-unnamed (c ∷ cs) n h = let p = or_parts (n == c.0) (list_any (λ c. n == c.0) cs) h in ap (λ (b : Bool). if b then c.1 else look_up cs n) p.0 ∙ unnamed cs n p.1
+unnamed (c ∷ cs) n h = let p =
+    or_parts (n == c.0) (list_any (λ c. n == c.0) cs) h in ap (λ (b : Bool). if b then c.1 else look_up cs n) p.0
+    ∙ unnamed cs n p.1
 
 -- the name of the code of a name is that name
 pub name_of-code_of : (name : BoxType) → is_disguised name ≡ false → name_of (code_of name) ≡ name

@@ -1,5 +1,6 @@
 -- Children of boxes. The bytes are those from the start of the parent on, and offsets are from there.
-use Rattle.std.specs.Prelude.{ℕ, zero, suc, ◌+◌, ◌^◌, ◌==◌, ◌&&◌, nat_le, nat_lt, List, drop, Option, Some, None, if◌then◌else◌}
+use Rattle.std.specs.Prelude.{ℕ, zero, suc, ◌+◌, ◌^◌, ◌==◌, ◌&&◌, nat_le, nat_lt, List, drop, Option, Some, None}
+use Rattle.std.specs.Prelude.{if◌then◌else◌}
 use Rattle.mp4_frame.specs.Heads.{head}
 use Rattle.mp4_frame.specs.Reading.{Reading, ◌>>=◌, check, done}
 use Rattle.mp4_frame.specs.declared.head.Head.{Head}
@@ -28,4 +29,6 @@ last first None = first
 unfoldable pub children : {A : Type 0} → (List ℕ → ℕ → ℕ → Reading A) → ℕ → List ℕ → ℕ → ℕ → ℕ → ℕ → Reading (Option A)
 children reads code bytes start size zero o = done None
 children reads code bytes start size (suc n) o =
-    if nat_le size o then done None else (child bytes start size o >>= λ c. child_if_named reads code bytes start c >>= λ mine. children reads code bytes start size n (c.start + c.size) >>= λ later. done (last mine later))
+    if nat_le size o then done None else
+    (child bytes start size o >>= λ c. child_if_named reads code bytes start c >>= λ mine.
+    children reads code bytes start size n (c.start + c.size) >>= λ later. done (last mine later))

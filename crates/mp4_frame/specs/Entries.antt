@@ -21,7 +21,8 @@ module _ (T : RattleType) (entries : MutBor (List T.Denot)) where
 
   -- the same where the slice is gone over by an iterator
   abbrev pub lends_iter : IterMut T.Denot → Fml
-  lends_iter it = follows (the_row T) (Array T 0) entries.ghost_name (iter_mut_name it) (refill (length entries.now) entries.now)
+  lends_iter it = follows (the_row T) (Array T 0) entries.ghost_name (iter_mut_name it)
+      (refill (length entries.now) entries.now)
 
   -- the entries are those of the vector that is left behind r
   abbrev pub lends_vec : MutBor (Vec T.Denot) → Fml

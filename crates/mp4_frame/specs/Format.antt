@@ -25,9 +25,11 @@ pub record IsWritten {A : Type 0} (format : Format A) : Type 0 where
 pub record IsBox {A : Type 0} (reads : List ℕ → ℕ → ℕ → Reading A) (format : Format A) : Type 0 where
   pub header : (v : A) → format.Writable v → BeginsWithHeader (format.size v) (format.name v) (format.bytes v)
   pub normal_form : (v : A) → format.Writable v → Normal format.Writable format.bytes format.normal v
-  pub read_back : (v : A) → format.Writable v → ContentReadsBack reads (format.bytes v) (format.size v) (format.normal v)
+  pub read_back : (v : A) → format.Writable v
+      → ContentReadsBack reads (format.bytes v) (format.size v) (format.normal v)
   pub sound : ContentIsSound reads format.Writable format.size format.normal
 
 -- the laws of writing among them
-abbrev pub write_laws : {A : Type 0} {reads : List ℕ → ℕ → ℕ → Reading A} {format : Format A} → IsBox reads format → IsWritten format
+abbrev pub write_laws : {A : Type 0} {reads : List ℕ → ℕ → ℕ → Reading A} {format : Format A} → IsBox reads format
+    → IsWritten format
 write_laws laws = record { header = laws.header; normal_form = laws.normal_form }

@@ -1,6 +1,7 @@
 -- The head of a box (ISO/IEC 14496-12, 4.2), the header that it is read as, and the frame that it gives
 -- at the top level of a buffer.
-use Rattle.std.specs.Prelude.{ℕ, ◌+◌, ◌-◌, ◌^◌, ◌==◌, ◌||◌, nat_lt, nat_le, List, [], ◌∷◌, length, Result, Ok, Err, if◌then◌else◌}
+use Rattle.std.specs.Prelude.{ℕ, ◌+◌, ◌-◌, ◌^◌, ◌==◌, ◌||◌, nat_lt, nat_le, List, [], ◌∷◌, length, Result, Ok, Err}
+use Rattle.std.specs.Prelude.{if◌then◌else◌}
 use Rattle.mp4_frame.specs.Bytes.{number, bytes_of_fields}
 use Rattle.mp4_frame.specs.BoxType.{name_of, code_of}
 use Rattle.mp4_frame.specs.Reading.{Fault, End, Invalid, Reading, ◌>>=◌, expect_bytes, check, done}
@@ -42,7 +43,8 @@ header_length bytes o = if number bytes o 4 == 1 then 16 else 8
 -- the fields of a header as it is written: a size of 4 bytes, or 1 and a size of 8 bytes that counts these 8 too
 abbrev pub fields_header : BoxHeader → List (ℕ × ℕ)
 fields_header h =
-    if nat_lt h.size (2 ^ 32) then (4, h.size) ∷ (4, code_of h.name) ∷ [] else (4, 1) ∷ (4, code_of h.name) ∷ (8, h.size + 8) ∷ []
+    if nat_lt h.size (2 ^ 32) then (4, h.size) ∷ (4, code_of h.name) ∷ [] else (4, 1) ∷ (4, code_of h.name)
+    ∷ (8, h.size + 8) ∷ []
 
 abbrev pub bytes_header : BoxHeader → List ℕ
 bytes_header h = bytes_of_fields (fields_header h)

@@ -21,11 +21,13 @@ pub record Normal {A : Type 0} (Writable : A → Type 0) (bytes : A → List ℕ
 
 -- the bytes are read as v, with any bytes before and after them, if they end below 2^64
 abbrev pub ReadsBack : {A : Type 0} → (List ℕ → ℕ → ℕ → Reading A) → List ℕ → A → Type 0
-ReadsBack reading bytes v = (x y : List ℕ) → length x + length bytes < 2 ^ 64 → (reading (x ++ (bytes ++ y)) (length x) (length bytes)).outcome ≡ Ok v
+ReadsBack reading bytes v = (x y : List ℕ) → length x + length bytes < 2 ^ 64
+    → (reading (x ++ (bytes ++ y)) (length x) (length bytes)).outcome ≡ Ok v
 
 -- the same with no bytes after them
 abbrev pub ReadsBackAtEnd : {A : Type 0} → (List ℕ → ℕ → ℕ → Reading A) → List ℕ → A → Type 0
-ReadsBackAtEnd reading bytes v = (x : List ℕ) → length x + length bytes < 2 ^ 64 → (reading (x ++ bytes) (length x) (length bytes)).outcome ≡ Ok v
+ReadsBackAtEnd reading bytes v = (x : List ℕ) → length x + length bytes < 2 ^ 64
+    → (reading (x ++ bytes) (length x) (length bytes)).outcome ≡ Ok v
 
 -- the name is known, and is the name that its code is read as
 pub record OwnName (known : BoxType → Bool) (name : BoxType) : Type 0 where
@@ -38,8 +40,10 @@ AreBytes bytes = (i : ℕ) → slice_index bytes i < 256
 
 -- the bytes are read as v, with any bytes after them, in a box of this size that ends below 2^64
 abbrev pub ContentReadsBack : {A : Type 0} → (List ℕ → ℕ → ℕ → Reading A) → List ℕ → ℕ → A → Type 0
-ContentReadsBack reads bytes size v = (rest : List ℕ) (start : ℕ) → start + size < 2 ^ 64 → (reads (bytes ++ rest) start size).outcome ≡ Ok v
+ContentReadsBack reads bytes size v = (rest : List ℕ) (start : ℕ) → start + size < 2 ^ 64
+    → (reads (bytes ++ rest) start size).outcome ≡ Ok v
 
 -- a value that was read is its own normal form, and can be written unless it is too large
 abbrev pub ContentIsSound : {A : Type 0} → (List ℕ → ℕ → ℕ → Reading A) → (A → Type 0) → (A → ℕ) → (A → A) → Type 0
-ContentIsSound {A} reads Writable size normal = (bytes : List ℕ) (start long : ℕ) (v : A) → AreBytes bytes → (reads bytes start long).outcome ≡ Ok v → (normal v ≡ v) × (size v < 2 ^ 32 → Writable v)
+ContentIsSound {A} reads Writable size normal = (bytes : List ℕ) (start long : ℕ) (v : A) → AreBytes bytes
+    → (reads bytes start long).outcome ≡ Ok v → (normal v ≡ v) × (size v < 2 ^ 32 → Writable v)

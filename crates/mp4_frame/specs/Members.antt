@@ -36,11 +36,26 @@ pub record Held (E : Type 0) : Type 1 where
   pub normal : E
 
 abbrev pub holds : {A E : Type 0} → Format A → (A → E) → A → Held E
-holds format wrap v = record { name = format.name v; size = format.size v; Writable = format.Writable v; bytes = format.bytes v; normal = wrap (format.normal v) }
+holds format wrap v =
+    record {
+      name = format.name v;
+      size = format.size v;
+      Writable = format.Writable v;
+      bytes = format.bytes v;
+      normal =
+          wrap (format.normal v);
+    }
 
 -- the format of E
 abbrev pub format_held : {E : Type 0} → (E → Held E) → Format E
-format_held held = record { name = λ v. (held v).name; size = λ v. (held v).size; Writable = λ v. (held v).Writable; bytes = λ v. (held v).bytes; normal = λ v. (held v).normal }
+format_held held = record {
+  name = λ v. (held v).name;
+  size = λ v. (held v).size;
+  Writable = λ v. (held v).Writable;
+  bytes =
+      λ v. (held v).bytes;
+  normal = λ v. (held v).normal;
+}
 
 -- the values of the type that a name gives; any value where there is no type
 abbrev pub ValueOf : {E : Type 0} → Known E → Type 0

@@ -32,8 +32,11 @@ named_child reads code bytes start size o = do
 
 -- what a child is read as if it has this code; a child with another code is not read
 abbrev pub content_if_named : {A : Type 0} → (List ℕ → ℕ → ℕ → Reading A) → ℕ → List ℕ → ℕ → Head → Reading (Option A)
-content_if_named reads code bytes start c = if c.code == code then (child_content reads bytes start c >>= λ v. done (Some v)) else done None
+content_if_named reads code bytes start c =
+    if c.code == code then (child_content reads bytes start c >>= λ v. done (Some v)) else done None
 
 -- the child at o, if the box goes on after o and the child has this code
-unfoldable pub optional_child : {A : Type 0} → (List ℕ → ℕ → ℕ → Reading A) → ℕ → List ℕ → ℕ → ℕ → ℕ → Reading (Option A)
-optional_child reads code bytes start size o = if nat_lt o size then (child_head bytes size o >>= λ c. content_if_named reads code bytes start c) else done None
+unfoldable pub optional_child : {A : Type 0} → (List ℕ → ℕ → ℕ → Reading A) → ℕ → List ℕ → ℕ → ℕ → ℕ
+    → Reading (Option A)
+optional_child reads code bytes start size o =
+    if nat_lt o size then (child_head bytes size o >>= λ c. content_if_named reads code bytes start c) else done None

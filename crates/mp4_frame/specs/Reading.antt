@@ -1,5 +1,6 @@
 -- Reading a buffer gives a value or the first fault, and says whether memory is asked for before that fault.
-use Rattle.std.specs.Prelude.{◌≡◌, ℕ, ◌+◌, Bool, true, false, ◌||◌, ◌&&◌, ◌^◌, nat_lt, List, length, take, drop, Result, Ok, Err, if◌then◌else◌}
+use Rattle.std.specs.Prelude.{◌≡◌, ℕ, ◌+◌, Bool, true, false, ◌||◌, ◌&&◌, ◌^◌, nat_lt, List, length, take, drop, Result}
+use Rattle.std.specs.Prelude.{Ok, Err, if◌then◌else◌}
 use Rattle.mp4_frame.specs.declared.error.Error.{Error}
 use Rattle.mp4_frame.specs.declared.error.Error.TheVariants as errors
 use Rattle.mp4_frame.specs.declared.box_type.BoxType.{BoxType}

@@ -6,7 +6,8 @@ use Rattle.mp4_frame.specs.Laws.{ContentReadsBack, ReadsBack}
 use Rattle.mp4_frame.specs.Reading.{Reading, ◌>>=◌, check, reading}
 
 -- what is read back at the front of a buffer is read back among any bytes
-pub reads_back : {A : Type 0} (reads : List ℕ → ℕ → ℕ → Reading A) (bytes : List ℕ) (size : ℕ) (v : A) → length bytes ≡ size → ContentReadsBack reads bytes size v → ReadsBack (reading reads) bytes v
+pub reads_back : {A : Type 0} (reads : List ℕ → ℕ → ℕ → Reading A) (bytes : List ℕ) (size : ℕ) (v : A)
+    → length bytes ≡ size → ContentReadsBack reads bytes size v → ReadsBack (reading reads) bytes v
 reads_back {A} reads bytes size v long back x y top =
     let B = x ++ (bytes ++ y) in
     let n = length bytes in

@@ -23,4 +23,5 @@ spans B o = walk span_item B o
 -- the places of boxes that are written one after the other from o on
 abbrev pub places : {A : Type 0} → Format A → ℕ → List A → List BoxSpan
 places format o [] = []
-places format o (v ∷ vs) = record { position = o; length = format.size v; name = format.name v } ∷ places format (o + format.size v) vs
+places format o (v ∷ vs) =
+    record { position = o; length = format.size v; name = format.name v } ∷ places format (o + format.size v) vs

@@ -11,7 +11,8 @@ abbrev pub stream : {A : Type 0} → (A → List ℕ) → List A → List ℕ
 stream bytes vs = flat_map bytes vs
 
 -- the item of a frame, and then those of the rest of the buffer
-abbrev pub walk_on : {X : Type 0} → (Frame → Reading (List X)) → (ℕ → Reading (List X)) → Result Frame Fault → Reading (List X)
+abbrev pub walk_on : {X : Type 0} → (Frame → Reading (List X)) → (ℕ → Reading (List X)) → Result Frame Fault
+    → Reading (List X)
 walk_on item rest (Err k) = faults k
 walk_on item rest (Ok f) = do
   xs ← item f
@@ -21,14 +22,16 @@ walk_on item rest (Ok f) = do
 -- the items of the frames from o on, n frames at most, one after the other
 unfoldable pub walk_at_most : {X : Type 0} → (ℕ → Frame → Reading (List X)) → List ℕ → ℕ → ℕ → Reading (List X)
 walk_at_most item B zero o = done []
-walk_at_most item B (suc n) o = if nat_le (length B) o then done [] else walk_on (item o) (λ e. walk_at_most item B n e) (frame B o)
+walk_at_most item B (suc n) o =
+    if nat_le (length B) o then done [] else walk_on (item o) (λ e. walk_at_most item B n e) (frame B o)
 
 -- the items of all frames from o on. Each frame has at least one byte, so the buffer's length bounds their number
 abbrev pub walk : {X : Type 0} → (ℕ → Frame → Reading (List X)) → List ℕ → ℕ → Reading (List X)
 walk item B o = walk_at_most item B (length B) o
 
 -- a box of a known name is read and kept, which takes memory; any other box is skipped
-abbrev pub box_of : {A : Type 0} → (BoxType → Bool) → (BoxType → List ℕ → ℕ → ℕ → Reading A) → List ℕ → ℕ → Frame → Reading (List A)
+abbrev pub box_of : {A : Type 0} → (BoxType → Bool) → (BoxType → List ℕ → ℕ → ℕ → Reading A) → List ℕ → ℕ → Frame
+    → Reading (List A)
 box_of known reading B o f =
     if known f.name then (do
       v ← reading f.name B f.start f.size
@@ -36,7 +39,8 @@ box_of known reading B o f =
       done (v ∷ [])) else done []
 
 -- the boxes from o on
-abbrev pub boxes : {A : Type 0} → (BoxType → Bool) → (BoxType → List ℕ → ℕ → ℕ → Reading A) → List ℕ → ℕ → Reading (List A)
+abbrev pub boxes : {A : Type 0} → (BoxType → Bool) → (BoxType → List ℕ → ℕ → ℕ → Reading A) → List ℕ → ℕ
+    → Reading (List A)
 boxes known reading B o = walk (box_of known reading B) B o
 
 -- a box that is read and appended to the boxes in front, which takes memory

@@ -1,7 +1,8 @@
 //! A type that holds boxes of several types, such as an enum of them, is read and written as these boxes are.
 
 ghost use Rattle.std.specs.Prelude.{◌≡◌, ℕ, ◌+◌, ◌-◌, ◌^◌, ◌≤◌, ◌↔◌, min, max, IsTrue, List, length, OnOk, OnErr};
-ghost use Rattle.mp4_frame.specs.Members.{Known, is_known, reading_known, format_held, NamedAsRead, SomeBox, some_box, Inside, held_inside};
+ghost use Rattle.mp4_frame.specs.Members.{Known, is_known, reading_known, format_held, NamedAsRead, SomeBox, some_box};
+ghost use Rattle.mp4_frame.specs.Members.{Inside, held_inside};
 ghost use Rattle.mp4_frame.specs.MemberLaws.{IsMember, written_member, own_name_of_member, read_back_of_member};
 ghost use Rattle.mp4_frame.specs.Reading.{Answers};
 ghost use Rattle.mp4_frame.specs.declared.box_type.BoxType.{BoxType};
@@ -106,7 +107,8 @@ pub trait BoxEnum: Drop {
     fn read(alloc: Global, name: BoxType, reader: &mut ByteCursor, size: u64) -> Result<Self>
         requires known { IsTrue (is_known (kinds name)) }
         requires after_header { 8 ≤ reader.old.position }
-        ensures answer { Answers result (reading_known (kinds name) reader.old.bytes.now (reader.old.position - 8) size) }
+        ensures answer { Answers result
+            (reading_known (kinds name) reader.old.bytes.now (reader.old.position - 8) size) }
         ensures moved { OnOk result (reader.new.position ≡ reader.old.position - 8 + max (least name) size) }
         ensures kept { OnErr result (reader.new.position ≡ reader.old.position) }
         ensures bytes { reader.new.bytes ≡ reader.old.bytes };

@@ -44,7 +44,8 @@ impl BoxHeader {
     /// Reads a header, and moves the cursor to its end. The size is 0 if the header says 0, in both forms.
     pub fn read(reader: &mut ByteCursor) -> Result<BoxHeader>
         ensures answer { Answers result (header reader.old.bytes.now reader.old.position) }
-        ensures moved { OnOk result (reader.new.position ≡ reader.old.position + header_length reader.old.bytes.now reader.old.position) }
+        ensures moved { OnOk result
+            (reader.new.position ≡ reader.old.position + header_length reader.old.bytes.now reader.old.position) }
         ensures kept { OnErr result (reader.new.position ≡ reader.old.position) }
         ensures memory { NeverOutOfMemory result }
         ensures bytes { reader.new.bytes ≡ reader.old.bytes }
@@ -86,8 +87,10 @@ impl BoxHeader {
 /// A header that was written is read back, with any bytes before and after it. The exceptions are a size of 1
 /// and a name that is an `UnknownBox` with a named code.
 pub fn header_is_read_back()
-    ensures { (h : _) (x y : List ℕ) → h.size ≤ 2 ^ 64 - 9 → (h.size ≡ 1 → ⊥) → code_of h.name < 2 ^ 32 → name_of (code_of h.name) ≡ h.name
-        → (header (x ++ (bytes_header h ++ y)) (length x) ≡ done h) × (header_length (x ++ (bytes_header h ++ y)) (length x) ≡ length (bytes_header h)) }
+    ensures { (h : _) (x y : List ℕ) → h.size ≤ 2 ^ 64 - 9 → (h.size ≡ 1 → ⊥) → code_of h.name < 2 ^ 32
+        → name_of (code_of h.name) ≡ h.name
+        → (header (x ++ (bytes_header h ++ y)) (length x) ≡ done h)
+        × (header_length (x ++ (bytes_header h ++ y)) (length x) ≡ length (bytes_header h)) }
 {}
 
 /// Reads version and flags, and moves the cursor after them.
@@ -112,7 +115,8 @@ pub fn write_box_header_ext<A: Allocator>(
     version: u8,
     flags: u32,
 ) -> Result<u64>
-    ensures { Writes (flags < 2 ^ 24) (bytes_of_fields ((1, version) ∷ (3, flags) ∷ [])) writer.old.items writer.new.items result }
+    ensures { Writes (flags < 2 ^ 24) (bytes_of_fields ((1, version) ∷ (3, flags) ∷ [])) writer.old.items
+        writer.new.items result }
 {
     if flags >= 1 << 24 {
         return Err(Error::InvalidData("value does not fit its field"));

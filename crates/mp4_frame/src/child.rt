@@ -1,8 +1,8 @@
 //! Reading the children of a box.
 
-ghost use Rattle.std.specs.Prelude.{◌≡◌, ◌+◌, ◌<◌, ◌≤◌, ◌^◌, length, IfOk};
+ghost use Rattle.std.specs.Prelude.{◌≡◌, ◌+◌, ◌<◌, ◌≤◌, ◌^◌, nat_lt, length, IfOk};
 ghost use Rattle.mp4_frame.specs.Children.{child, children};
-ghost use Rattle.mp4_frame.specs.Reading.{Answers};
+ghost use Rattle.mp4_frame.specs.Reading.{Answers, check};
 
 use crate::error::Result;
 use crate::head::Head;
@@ -23,21 +23,30 @@ pub struct Parent<'a> {
     pub too_large: &'static str,
 }
 
+/// Invalid data if the child with this head ends past 2^64 - 1.
+pub fn check_child_end(parent: &Parent, child: Head) -> Result<()>
+    ensures { Answers result (check (nat_lt (parent.now.start + child.start + child.size) (2 ^ 64))) }
+{
+    check(
+        parent.start <= u64::MAX - child.size
+            && child.start <= u64::MAX - child.size - parent.start,
+        "box end past 64 bits",
+    )
+}
+
 /// Reads the head of the child at an offset of its parent. Invalid data if the child has fewer than 8 bytes, is
 /// larger than its parent, or ends past 2^64 - 1.
 #[tactic(auto, unfolding(crate::specs::Children::child))]
 fn child_at(parent: &Parent, at: u64) -> Result<Head>
     ensures value { Answers result (child parent.now.bytes.now parent.now.start parent.now.size at) }
-    ensures room { IfOk result (λ c. (at ≤ c.start) × (c.start + 8 ≤ length parent.now.bytes.now) × (8 ≤ c.size) × (parent.now.start + c.start + c.size < 2 ^ 64)) }
+    ensures room { IfOk result
+        (λ c. (at ≤ c.start) × (c.start + 8 ≤ length parent.now.bytes.now) × (8 ≤ c.size)
+        × (parent.now.start + c.start + c.size < 2 ^ 64)) }
 {
     let child = Head::at(parent.bytes, at)?;
     check(child.size >= 8, "child box too small")?;
     check(child.size <= parent.size, parent.too_large)?;
-    check(
-        parent.start <= u64::MAX - child.size
-            && child.start <= u64::MAX - child.size - parent.start,
-        "box end past 64 bits",
-    )?;
+    check_child_end(parent, child)?;
     Ok(child)
 }
 

@@ -9,6 +9,7 @@ ghost use Rattle.mp4_frame.specs.Heads.{frame, frame_of_head};
 use crate::box_type::BoxType;
 use crate::error::{Error, Result};
 use crate::head::Head;
+use crate::reading::check_end;
 
 /// The frame of a box in a buffer. Offsets are in bytes from the front of the buffer.
 #[derive(Clone, Copy, Debug)]
@@ -24,8 +25,8 @@ pub struct Frame {
     pub end: u64,
 }
 
-/// The frame of the box with this head, in a buffer of this length. Invalid data if its size is too small or it ends past
-/// 2^64 - 1, end of input if it ends past the buffer.
+/// The frame of the box with this head, in a buffer of this length. Invalid data if its size is too small or it ends
+/// past 2^64 - 1, end of input if it ends past the buffer.
 #[tactic(auto, unfolding(crate::specs::Heads::frame_of_head))]
 pub fn frame_of_head(len: u64, head: Head) -> Result<Frame>
     requires { head.start + 8 ≤ len }
@@ -47,9 +48,7 @@ pub fn frame_of_head(len: u64, head: Head) -> Result<Frame>
     if size < 8 {
         return Err(Error::InvalidData("box size too small"));
     }
-    if size > u64::MAX - start {
-        return Err(Error::InvalidData("box end past 64 bits"));
-    }
+    check_end(start, size)?;
     let end = start + size;
     if end > len {
         return Err(Error::IoError);
@@ -62,8 +61,8 @@ pub fn frame_of_head(len: u64, head: Head) -> Result<Frame>
     })
 }
 
-/// The frame of the box at an offset before the end of the buffer. End of input if the header or the box is cut, invalid
-/// data if the size is too small or the box ends past 2^64 - 1.
+/// The frame of the box at an offset before the end of the buffer. End of input if the header or the box is cut,
+/// invalid data if the size is too small or the box ends past 2^64 - 1.
 pub fn frame_at(bytes: &[u8], at: usize) -> Result<Frame>
     requires { at < length bytes.now }
     ensures answer { FaultAs result (frame bytes.now at) }

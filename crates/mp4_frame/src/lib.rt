@@ -50,7 +50,7 @@ pub use put::{
     put_u32, put_u64, put_zeros,
 };
 pub use read::read_boxes_as;
-pub use reading::{bytes_from, check, expect_bytes, piece_at, rows_at};
+pub use reading::{bytes_from, check, check_end, expect_bytes, piece_at, rows_at};
 pub use skip::{box_start, skip_box, skip_bytes, skip_bytes_to};
 pub use table::{
     TableEntry, all_fit, is_writable_table, put_entries, put_table, read_table, table_size,

@@ -29,7 +29,8 @@ pub fn read_as<T: ReadBox + Drop, E: Holds<T>>(
     size: u64,
 ) -> Result<E>
     requires after_header { 8 ≤ reader.old.position }
-    ensures answer { Answers result (map_reading E.wrapped (reading T.reads reader.old.bytes.now (reader.old.position - 8) size)) }
+    ensures answer { Answers result
+        (map_reading E.wrapped (reading T.reads reader.old.bytes.now (reader.old.position - 8) size)) }
     ensures moved { OnOk result (reader.new.position ≡ reader.old.position - 8 + max T.LEAST size) }
     ensures kept { OnErr result (reader.new.position ≡ reader.old.position) }
     ensures bytes { reader.new.bytes ≡ reader.old.bytes }
@@ -46,7 +47,8 @@ pub fn push_as<T: ReadBox + Drop, E: Holds<T> + Drop>(
     boxes: &mut Vec<E>,
 ) -> Result<()>
     requires room { start + size ≤ length bytes.now }
-    ensures answer { AnswersAs (λ _. boxes.new.items) result (append_read boxes.old.items (map_reading E.wrapped (reading T.reads bytes.now start size))) }
+    ensures answer { AnswersAs (λ _. boxes.new.items) result
+        (append_read boxes.old.items (map_reading E.wrapped (reading T.reads bytes.now start size))) }
     ensures kept { OnErr result (boxes.new.items ≡ boxes.old.items) }
 {
     let value = T::read_content(alloc, &bytes[start as usize..], start, size)?;
@@ -65,7 +67,9 @@ pub fn push_inside<T: ReadBox + Drop, M: Holds<T>, E: Holds<M> + Drop>(
     boxes: &mut Vec<E>,
 ) -> Result<()>
     requires room { start + size ≤ length bytes.now }
-    ensures answer { AnswersAs (λ _. boxes.new.items) result (append_read boxes.old.items (map_reading E.wrapped (map_reading M.wrapped (reading T.reads bytes.now start size)))) }
+    ensures answer { AnswersAs (λ _. boxes.new.items) result
+        (append_read boxes.old.items
+        (map_reading E.wrapped (map_reading M.wrapped (reading T.reads bytes.now start size)))) }
     ensures kept { OnErr result (boxes.new.items ≡ boxes.old.items) }
 {
     let value = T::read_content(alloc, &bytes[start as usize..], start, size)?;

@@ -4,7 +4,7 @@ ghost use Rattle.std.specs.Prelude.{◌≡◌, ◌+◌, ◌≤◌, length, IfOk}
 ghost use Rattle.mp4_frame.specs.OneChild.{child_head, child_content, any_child, named_child, optional_child};
 ghost use Rattle.mp4_frame.specs.Reading.{Answers};
 
-use crate::child::Parent;
+use crate::child::{Parent, check_child_end};
 use crate::error::Result;
 use crate::head::Head;
 use crate::reading::check;
@@ -30,11 +30,7 @@ pub fn child_content<T: ReadBox>(alloc: Global, parent: &Parent, child: Head) ->
     requires { child.start ≤ length parent.now.bytes.now }
     ensures { Answers result (child_content T.reads parent.now.bytes.now parent.now.start child) }
 {
-    check(
-        parent.start <= u64::MAX - child.size
-            && child.start <= u64::MAX - child.size - parent.start,
-        "box end past 64 bits",
-    )?;
+    check_child_end(parent, child)?;
     let rest = &parent.bytes[child.start as usize..];
     T::read_content(alloc, rest, parent.start + child.start, child.size)
 }

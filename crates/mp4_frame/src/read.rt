@@ -13,7 +13,8 @@ use std::alloc::Global;
 /// Reads the boxes from the cursor's position to the end of the buffer, or returns the first fault. Boxes with
 /// names that `B` does not know are skipped.
 pub fn read_boxes_as<B: StreamBox>(alloc: Global, reader: &mut ByteCursor) -> Result<Vec<B>>
-    ensures answer { AnswersAs (λ v. v.items) result (boxes B.known B.named_reading reader.old.bytes.now reader.old.position) }
+    ensures answer { AnswersAs (λ v. v.items) result
+        (boxes B.known B.named_reading reader.old.bytes.now reader.old.position) }
     ensures moved { OnOk result (reader.new.position ≡ max reader.old.position (length reader.old.bytes.now)) }
     ensures kept { OnErr result (reader.new.position ≡ reader.old.position) }
     ensures bytes { reader.new.bytes ≡ reader.old.bytes }

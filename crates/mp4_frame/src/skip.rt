@@ -6,7 +6,7 @@ ghost use Rattle.mp4_frame.specs.Reading.{Answers, NeverOutOfMemory, check};
 use crate::box_header::HEADER_SIZE;
 use crate::byte_cursor::ByteCursor;
 use crate::error::Result;
-use crate::reading::check;
+use crate::reading::check_end;
 
 /// The start of the box whose header was just read: 8 bytes before the cursor's position.
 pub fn box_start(reader: &ByteCursor) -> Result<u64>
@@ -25,7 +25,7 @@ pub fn skip_bytes(reader: &mut ByteCursor, size: u64) -> Result<()>
     ensures bytes { reader.new.bytes ≡ reader.old.bytes }
 {
     let position = reader.position();
-    check(size <= u64::MAX - position, "box end past 64 bits")?;
+    check_end(position, size)?;
     reader.set_position(position + size);
     Ok(())
 }
@@ -51,6 +51,6 @@ pub fn skip_box(reader: &mut ByteCursor, size: u64) -> Result<()>
     ensures bytes { reader.new.bytes ≡ reader.old.bytes }
 {
     let start = box_start(reader)?;
-    check(size <= u64::MAX - start, "box end past 64 bits")?;
+    check_end(start, size)?;
     skip_bytes_to(reader, start + size)
 }

@@ -1,6 +1,7 @@
 //! Boxes with one counted table: version, flags, a count, and that many rows of one length.
 
-ghost use Rattle.std.specs.Prelude.{◌≡◌, ℕ, ◌≤◌, ◌<◌, ◌+◌, ◌*◌, ◌-◌, ◌^◌, ◌++◌, ◌↔◌, min, All, IsTrue, List, length, take, flat_map};
+ghost use Rattle.std.specs.Prelude.{◌≡◌, ℕ, ◌≤◌, ◌<◌, ◌+◌, ◌*◌, ◌-◌, ◌^◌, ◌++◌, ◌↔◌, min, All, IsTrue, List, length};
+ghost use Rattle.std.specs.Prelude.{take, flat_map};
 ghost use Rattle.mp4_frame.specs.Bytes.{be_bytes};
 ghost use Rattle.mp4_frame.specs.Reading.{AnswersAs};
 ghost use Rattle.mp4_frame.specs.Tables.{counted_rows, size_table, WritableTable, bytes_table};
@@ -70,7 +71,8 @@ pub fn read_table<'a, const E: usize>(
     too_many: &'static str,
 ) -> Result<(u8, u32, &'a [[u8; E]])>
     requires { 0 < E }
-    ensures { AnswersAs (λ t. record { version = t.0; flags = t.1; rows = t.2.now }) result (counted_rows bytes.now size E) }
+    ensures { AnswersAs (λ t. record { version = t.0; flags = t.1; rows = t.2.now }) result
+        (counted_rows bytes.now size E) }
 {
     expect_bytes(bytes, 8, 8)?;
     let count = u64::from(u32_at(bytes, 12));

@@ -1,6 +1,7 @@
 //! The traits of a box: its name and size, how it is read and written, and how it is read and written in lists.
 
-ghost use Rattle.std.specs.Prelude.{◌≡◌, ℕ, ◌+◌, ◌-◌, ◌^◌, ◌<◌, ◌≤◌, ◌↔◌, min, max, Bool, IsTrue, List, length, ◌++◌, drop, None, IfSome, OnOk, OnErr};
+ghost use Rattle.std.specs.Prelude.{◌≡◌, ℕ, ◌+◌, ◌-◌, ◌^◌, ◌<◌, ◌≤◌, ◌↔◌, min, max, Bool, IsTrue, List, length, ◌++◌};
+ghost use Rattle.std.specs.Prelude.{drop, None, IfSome, OnOk, OnErr};
 ghost use Rattle.mp4_frame.specs.Reading.{Reading, Answers, AnswersAs, TakesNone, reading};
 ghost use Rattle.mp4_frame.specs.Written.{Writes};
 ghost use Rattle.mp4_frame.specs.Streams.{append_read};
@@ -11,7 +12,7 @@ ghost use Rattle.mp4_frame.specs.declared.box_type.BoxType.{BoxType};
 use crate::box_type::BoxType;
 use crate::byte_cursor::ByteCursor;
 use crate::error::{Error, Result};
-use crate::reading::{bytes_from, check};
+use crate::reading::{bytes_from, check_end};
 use crate::write::lengthen;
 use std::alloc::{Allocator, Global};
 
@@ -63,7 +64,7 @@ pub trait ReadBox: Sized {
         ensures bytes { reader.new.bytes ≡ reader.old.bytes }
     {
         let start = reader.position() - 8;
-        check(size <= u64::MAX - start, "box end past 64 bits")?;
+        check_end(start, size)?;
         let value = Self::read_content(alloc, bytes_from(reader.bytes(), start), start, size)?;
         reader.set_position(start + size.max(Self::LEAST));
         Ok(value)
@@ -120,7 +121,8 @@ pub trait WriteBox: Mp4Box {
     /// Appends the box's bytes and returns their number. After an `Err` the vector is as it was: invalid data if the
     /// box can't be written, else out of memory.
     final fn write_box<A: Allocator>(&self, writer: &mut Vec<u8, A>) -> Result<u64>
-        ensures { Writes (Self.format.Writable self.now) (Self.format.bytes self.now) writer.old.items writer.new.items result }
+        ensures { Writes (Self.format.Writable self.now) (Self.format.bytes self.now) writer.old.items
+            writer.new.items result }
     {
         let Some(size) = self.writable_size() else {
             return Err(Error::InvalidData("value does not fit its field"));
@@ -170,7 +172,8 @@ pub trait StreamBox: WriteBox + Drop {
         requires known { IsTrue (known name) }
         requires header { start + 8 ≤ length bytes.now }
         requires room { start + size ≤ length bytes.now }
-        ensures answer { AnswersAs (λ _. boxes.new.items) result (append_read boxes.old.items (named_reading name bytes.now start size)) }
+        ensures answer { AnswersAs (λ _. boxes.new.items) result
+            (append_read boxes.old.items (named_reading name bytes.now start size)) }
         ensures kept { OnErr result (boxes.new.items ≡ boxes.old.items) }
     {
         let mut reader = ByteCursor::new(bytes);
@@ -185,7 +188,8 @@ pub trait StreamBox: WriteBox + Drop {
     ghost own_name: { (v : Self) → Self.format.Writable v → OwnName known (Self.format.name v) };
 
     /// Its bytes are read, under its name, as its normal form, with any bytes before and after them.
-    ghost read_back: { (v : Self) → Self.format.Writable v → ReadsBack (named_reading (Self.format.name v)) (Self.format.bytes v) (Self.format.normal v) };
+    ghost read_back: { (v : Self) → Self.format.Writable v
+        → ReadsBack (named_reading (Self.format.name v)) (Self.format.bytes v) (Self.format.normal v) };
 }
 
 /// A box with its laws: what was written is read back.

@@ -59,7 +59,8 @@ fn put_boxes<B: WriteBox>(boxes: &[B], out: &mut [u8])
 /// Appends the boxes' bytes and returns their number. After an `Err` the vector is as it was: invalid data if a box
 /// can't be written, else out of memory.
 pub fn write_boxes<B: StreamBox, A: Allocator>(boxes: &[B], writer: &mut Vec<u8, A>) -> Result<u64>
-    ensures { Writes (All B.format.Writable boxes.now) (stream B.format.bytes boxes.now) writer.old.items writer.new.items result }
+    ensures { Writes (All B.format.Writable boxes.now) (stream B.format.bytes boxes.now) writer.old.items
+        writer.new.items result }
 {
     let Some(total) = writable_total(boxes) else {
         return Err(Error::InvalidData("value does not fit its field"));

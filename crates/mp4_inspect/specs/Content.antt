@@ -1,5 +1,6 @@
 -- What is read of a box, by how it is read, and whether it has a fault.
-use Rattle.std.specs.Prelude.{◌≡◌, ℕ, ◌+◌, ◌-◌, ◌<◌, ◌≤◌, ◌==◌, ◌||◌, ◌&&◌, not, min, Bool, true, false, List, length, Ok, MatchBool}
+use Rattle.std.specs.Prelude.{◌≡◌, ℕ, ◌+◌, ◌-◌, ◌<◌, ◌≤◌, ◌==◌, ◌||◌, ◌&&◌, not, min, Bool, true, false, List, length}
+use Rattle.std.specs.Prelude.{Ok, MatchBool}
 use Rattle.mp4_frame.specs.Bytes.{number}
 use Rattle.mp4_frame.specs.Heads.{header, header_length}
 use Rattle.mp4_frame.specs.Reading.{Reading, Refuses, ◌>>=◌}
@@ -15,7 +16,8 @@ use Rattle.mp4_tree.specs.declared.tree_box.TreeBox.{TreeBox}
 
 -- what is read in a box from its own bytes alone: these end where the box does, and its header is at o
 abbrev pub leaf : {A : Type 0} → (BoxType → List ℕ → ℕ → ℕ → Reading A) → BoxType → List ℕ → ℕ → Reading A
-leaf reading name own o = header own o >>= λ _. reading name own (o + header_length own o - 8) (length own - (o + header_length own o - 8))
+leaf reading name own o =
+    header own o >>= λ _. reading name own (o + header_length own o - 8) (length own - (o + header_length own o - 8))
 
 -- it is shown that the box has a fault
 abbrev pub is_faulty : {A : Type 0} → Content A → Bool
@@ -29,13 +31,16 @@ Shows r (contents.Faulty e) = Refuses e r
 Shows r _ = ⊥
 
 -- a box is shown as the codec reads it, if it reads boxes of this name
-abbrev pub ShowsKnown : {A : Type 0} → (BoxType → Bool) → (BoxType → List ℕ → ℕ → ℕ → Reading A) → BoxType → List ℕ → TreeBox → Content A → Type 0
+abbrev pub ShowsKnown : {A : Type 0} → (BoxType → Bool) → (BoxType → List ℕ → ℕ → ℕ → Reading A) → BoxType → List ℕ
+    → TreeBox → Content A → Type 0
 ShowsKnown known reading name bytes found content =
-    MatchBool (known name) (Shows (leaf reading name (piece bytes found.position found.length) 0) content) (content ≡ contents.Unread)
+    MatchBool (known name) (Shows (leaf reading name (piece bytes found.position found.length) 0) content)
+    (content ≡ contents.Unread)
 
 -- the first bytes of a box's content: so many, or as many as there are
 abbrev pub front : List ℕ → TreeBox → ℕ → List ℕ
-front bytes found most = piece bytes (found.position + found.header_length) (min (found.length - found.header_length) most)
+front bytes found most =
+    piece bytes (found.position + found.header_length) (min (found.length - found.header_length) most)
 
 -- the front of the content is shown, if it has so many bytes, and else there is a fault
 abbrev pub ShowsFront : {A : Type 0} → Kind → ℕ → ℕ → List ℕ → TreeBox → Content A → Type 0
@@ -53,7 +58,8 @@ abbrev pub is_other : List ℕ → Bool
 is_other head = (length head == 8) && is_other_type (number head 0 4)
 
 -- what is shown of a box, by how it is read
-abbrev pub ShowsAs : {A : Type 0} → (BoxType → Bool) → (BoxType → List ℕ → ℕ → ℕ → Reading A) → List ℕ → TreeBox → Kind → Content A → Type 0
+abbrev pub ShowsAs : {A : Type 0} → (BoxType → Bool) → (BoxType → List ℕ → ℕ → ℕ → Reading A) → List ℕ → TreeBox → Kind
+    → Content A → Type 0
 ShowsAs known reading bytes found kinds.Boxes content = content ≡ contents.Boxes
 ShowsAs known reading bytes found kinds.Deep content = content ≡ contents.Deep
 ShowsAs known reading bytes found kinds.Unread content = content ≡ contents.Unread

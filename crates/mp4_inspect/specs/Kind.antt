@@ -1,4 +1,4 @@
--- How a box is read, by its code, the box around it and the handler of its media.
+-- How a box is read, by its code and its setting: the box around it and the handler of its media.
 use Rattle.std.specs.Prelude.{ℕ, ◌+◌, ◌-◌, ◌^◌, ◌==◌, ◌&&◌, ◌||◌, min, nat_le, None, Some, if◌then◌else◌}
 use Rattle.std.specs.declared.option.Option.{Option}
 use Rattle.mp4_frame.specs.BoxType.{name_of}
@@ -10,7 +10,7 @@ use Rattle.mp4_stream.specs.AnyBox.{known_any}
 use Rattle.mp4_inspect.specs.declared.kind.Kind.{Kind}
 use Rattle.mp4_inspect.specs.declared.kind.Kind.TheVariants as kinds
 use Rattle.mp4_inspect.specs.declared.kind.TheConstants as constants
-use Rattle.mp4_inspect.specs.declared.setting.Setting.{Setting}
+use Rattle.mp4_tree.specs.declared.setting.Setting.{Setting}
 use Rattle.mp4_tree.specs.declared.tree_box.TreeBox.{TreeBox}
 use Rattle.mp4_tree.specs.declared.tree_box.What.{What}
 use Rattle.mp4_tree.specs.declared.tree_box.What.TheVariants as what
@@ -41,18 +41,18 @@ abbrev pub bytes_before : TreeBox → Option ℕ → ℕ
 bytes_before found None = 0
 bytes_before found (Some first) = first - min (found.position + found.header_length) (2 ^ 64 - 1)
 
-abbrev pub kind_of_what : TreeBox → ℕ → Setting → What → Kind
-kind_of_what found code s what.Cut = kinds.Cut
-kind_of_what found code s what.NoHeader = kinds.Cut
-kind_of_what found code s what.Small = kinds.Small
-kind_of_what found code s what.TooDeep = kinds.Deep
-kind_of_what found code s what.Parent = parent_kind code (bytes_before found found.children) s
-kind_of_what found code s what.Leaf = leaf_kind code s
+abbrev pub kind_of_what : TreeBox → ℕ → What → Kind
+kind_of_what found code what.Cut = kinds.Cut
+kind_of_what found code what.NoHeader = kinds.Cut
+kind_of_what found code what.Small = kinds.Small
+kind_of_what found code what.TooDeep = kinds.Deep
+kind_of_what found code what.Parent = parent_kind code (bytes_before found found.children) found.setting
+kind_of_what found code what.Leaf = leaf_kind code found.setting
 
-abbrev pub kind_of_code : TreeBox → Setting → Option FourCC → Kind
-kind_of_code found s None = kinds.Cut
-kind_of_code found s (Some code) = kind_of_what found (number_of code) s found.what
+abbrev pub kind_of_code : TreeBox → Option FourCC → Kind
+kind_of_code found None = kinds.Cut
+kind_of_code found (Some code) = kind_of_what found (number_of code) found.what
 
 -- how a box is read; one with no code is cut
-abbrev pub kind_of : TreeBox → Setting → Kind
-kind_of found s = kind_of_code found s found.code
+abbrev pub kind_of : TreeBox → Kind
+kind_of found = kind_of_code found found.code

@@ -1,3 +1,5 @@
 pub mod Content
+pub mod Heading
 pub mod Kind
+pub mod Outcome
 pub mod Written

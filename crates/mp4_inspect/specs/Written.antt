@@ -1,6 +1,6 @@
--- What is written of a file as text. The bytes that a writer has are `Some` if they are known. Nothing is said of them if they
--- are not.
-use Rattle.std.specs.Prelude.{◌≡◌, ℕ, ◌||◌, Bool, false, true, List, [], ◌∷◌, ◌++◌, codes, decimal, Result, Ok, Err}
+-- What is written of a file as text. The bytes that a writer has are `Some` if they are known. Nothing is said of them
+-- if they are not.
+use Rattle.std.specs.Prelude.{◌≡◌, ℕ, ◌||◌, Bool, false, List, [], ◌∷◌, ◌++◌, take, codes, decimal, ◌⊎◌}
 use Rattle.std.specs.declared.option.Option.{Option}
 use Rattle.std.specs.Io.KnownBytes.{Appends}
 use Rattle.mp4_frame.specs.Reading.{Reading}
@@ -8,7 +8,8 @@ use Rattle.mp4_frame.specs.declared.box_type.BoxType.{BoxType}
 use Rattle.mp4_inspect.specs.Content.{ShowsAs, is_faulty}
 use Rattle.mp4_inspect.specs.Kind.{kind_of}
 use Rattle.mp4_inspect.specs.declared.content.Content.{Content}
-use Rattle.mp4_inspect.specs.declared.setting.Setting.{Setting}
+use Rattle.mp4_stream.specs.AnyBox.{known_any, reading_any}
+use Rattle.mp4_tree.specs.Tree.{boxes_of}
 use Rattle.mp4_tree.specs.declared.tree_box.TreeBox.{TreeBox}
 
 -- the place of a box: its position and its length
@@ -19,15 +20,57 @@ place_text found = codes " @" ++ (decimal found.position ++ (codes " +" ++ decim
 abbrev pub IsText : TreeBox → List ℕ → Type 0
 IsText found text = (name shown : List ℕ) × (text ≡ name ++ (place_text found ++ (shown ++ 10 ∷ [])))
 
--- the text of this box is written: what is shown of it is what is read in it, by its kind in some setting
-abbrev pub WritesBox : {A : Type 0} → (BoxType → Bool) → (BoxType → List ℕ → ℕ → ℕ → Reading A) → List ℕ → TreeBox → Option (List ℕ) → Option (List ℕ) → Bool → Type 0
-WritesBox {A} known reading bytes found old new faulty =
-    (text : List ℕ) × (s : Setting) × (content : Content A) × IsText found text × ShowsAs known reading bytes found (kind_of found s) content
-    × (faulty ≡ is_faulty content) × Appends old new text
+-- the text of this box, and whether it shows a fault: what is shown of it is what is read in it by its kind
+abbrev pub Tells : {A : Type 0} → (BoxType → Bool) → (BoxType → List ℕ → ℕ → ℕ → Reading A) → List ℕ → TreeBox → List ℕ
+    → Bool → Type 0
+Tells {A} known reading bytes found text faulty =
+    (content : Content A) × IsText found text × ShowsAs known reading bytes found (kind_of found) content
+    × (faulty ≡ is_faulty content)
 
--- the texts of these boxes are written, one after the other, and whether one of them shows a fault
-abbrev pub WritesBoxes : {A : Type 0} → (BoxType → Bool) → (BoxType → List ℕ → ℕ → ℕ → Reading A) → List ℕ → List TreeBox → Option (List ℕ) → Option (List ℕ) → Bool → Type 0
-WritesBoxes known reading bytes [] old new faulty = Appends old new [] × (faulty ≡ false)
-WritesBoxes known reading bytes (found ∷ rest) old new faulty =
-    (mid : Option (List ℕ)) × (here there : Bool) × WritesBox known reading bytes found old mid here × WritesBoxes known reading bytes rest mid new there
-    × (faulty ≡ (here || there))
+-- the texts of boxes, one after the other, and whether one of them shows a fault
+abbrev pub TellsAll : {A : Type 0} → (BoxType → Bool) → (BoxType → List ℕ → ℕ → ℕ → Reading A) → List ℕ → List TreeBox
+    → List ℕ → Bool → Type 0
+TellsAll known reading bytes [] text faulty = (text ≡ []) × (faulty ≡ false)
+TellsAll known reading bytes (found ∷ boxes) text faulty =
+    (first rest : List ℕ) × (here there : Bool) × Tells known reading bytes found first here
+    × TellsAll known reading bytes boxes rest there
+    × (text ≡ first ++ rest) × (faulty ≡ (here || there))
+
+-- the text of this box is written, and whether it shows a fault
+abbrev pub WritesBox : {A : Type 0} → (BoxType → Bool) → (BoxType → List ℕ → ℕ → ℕ → Reading A) → List ℕ → TreeBox
+    → Option (List ℕ) → Option (List ℕ) → Bool → Type 0
+WritesBox known reading bytes found old new faulty = (text : List ℕ) × Tells known reading bytes found text faulty
+    × Appends old new text
+
+-- nothing of the text of this box is written, or a beginning of it
+abbrev pub BeginsBox : {A : Type 0} → (BoxType → Bool) → (BoxType → List ℕ → ℕ → ℕ → Reading A) → List ℕ → TreeBox
+    → Option (List ℕ) → Option (List ℕ) → Type 0
+BeginsBox known reading bytes found old new = Appends old new []
+    ⊎ ((text : List ℕ) × (faulty : Bool) × (k : ℕ) × Tells known reading bytes found text faulty
+    × Appends old new (take k text))
+
+-- the texts of these boxes are written, and a fault is shown exactly if there is one
+abbrev pub WritesBoxes : {A : Type 0} → (BoxType → Bool) → (BoxType → List ℕ → ℕ → ℕ → Reading A) → List ℕ
+    → List TreeBox → Option (List ℕ) → Option (List ℕ) → Bool → Type 0
+WritesBoxes known reading bytes boxes old new faulty = (text : List ℕ) × TellsAll known reading bytes boxes text faulty
+    × Appends old new text
+
+-- a beginning of the texts of these boxes is written: of the first n, the first k bytes
+abbrev pub BeginsBoxes : {A : Type 0} → (BoxType → Bool) → (BoxType → List ℕ → ℕ → ℕ → Reading A) → List ℕ
+    → List TreeBox → Option (List ℕ) → Option (List ℕ) → Type 0
+BeginsBoxes known reading bytes boxes old new =
+    (n k : ℕ) × (text : List ℕ) × (faulty : Bool) × TellsAll known reading bytes (take n boxes) text faulty
+    × Appends old new (take k text)
+
+-- a heading is written and after it the texts of the boxes of a file
+abbrev pub WritesFile : List ℕ → List ℕ → Option (List ℕ) → Option (List ℕ) → Bool → Type 0
+WritesFile heading bytes old new faulty =
+    (text : List ℕ) × TellsAll known_any reading_any bytes (boxes_of bytes) text faulty
+    × Appends old new (heading ++ text)
+
+-- a beginning of these is written: of the heading and the texts of the first n boxes, the first k bytes
+abbrev pub BeginsFile : List ℕ → List ℕ → Option (List ℕ) → Option (List ℕ) → Type 0
+BeginsFile heading bytes old new =
+    (n k : ℕ) × (text : List ℕ) × (faulty : Bool)
+    × TellsAll known_any reading_any bytes (take n (boxes_of bytes)) text faulty
+    × Appends old new (take k (heading ++ text))

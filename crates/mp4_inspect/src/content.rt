@@ -3,13 +3,13 @@
 ghost use Rattle.std.specs.Prelude.{◌≡◌, ◌-◌, ◌≤◌, false, length, min, IsTrue, IfOk, IfSome};
 ghost use Rattle.mp4_frame.specs.Reading.{Answers};
 ghost use Rattle.mp4_io.specs.Ends.{is_write};
-ghost use Rattle.mp4_inspect.specs.Content.{leaf, is_faulty, front, is_other_type, Shows, ShowsKnown, ShowsFront, ShowsAs};
+ghost use Rattle.mp4_inspect.specs.Content.{leaf, is_faulty, front, is_other_type, Shows, ShowsKnown, ShowsFront};
+ghost use Rattle.mp4_inspect.specs.Content.{ShowsAs};
 ghost use Rattle.mp4_inspect.specs.Kind.{kind_of};
 ghost use Rattle.mp4_inspect.specs.declared.kind.Kind.TheVariants as kinds;
 
 use crate::failure::or_read;
 use crate::kind::{Kind, kind_of};
-use crate::setting::Setting;
 use mp4_fields::{
     FieldSink, HasFields, Value, put_data, put_entry, put_full, put_list_head, put_sound,
     put_visual,
@@ -88,7 +88,8 @@ fn known<B: StreamBox + Drop, S: Source>(
     found: &TreeBox,
     name: BoxType,
 ) -> std::result::Result<Content<B>, Failure>
-    ensures shows { IfSome tree.old.bytes (λ bytes. IfOk result (λ content. ShowsKnown B.known B.named_reading name bytes found.now content)) }
+    ensures shows { IfSome tree.old.bytes
+        (λ bytes. IfOk result (λ content. ShowsKnown B.known B.named_reading name bytes found.now content)) }
     ensures kept { tree.new ≡ tree.old }
     ensures not_write { is_write result ≡ false }
 {
@@ -134,7 +135,8 @@ fn front<B: Drop, S: Source>(
     least: u64,
     most: u64,
 ) -> std::result::Result<Content<B>, Failure>
-    ensures shows { IfSome tree.old.bytes (λ bytes. IfOk result (λ content. ShowsFront kind least most bytes found.now content)) }
+    ensures shows { IfSome tree.old.bytes
+        (λ bytes. IfOk result (λ content. ShowsFront kind least most bytes found.now content)) }
     ensures kept { tree.new ≡ tree.old }
     ensures not_write { is_write result ≡ false }
 {
@@ -157,7 +159,8 @@ fn data<B: StreamBox + Drop, S: Source>(
     tree: &mut Tree<S>,
     found: &TreeBox,
 ) -> std::result::Result<Content<B>, Failure>
-    ensures shows { IfSome tree.old.bytes (λ bytes. IfOk result (λ content. ShowsAs B.known B.named_reading bytes found.now kinds.Data content)) }
+    ensures shows { IfSome tree.old.bytes
+        (λ bytes. IfOk result (λ content. ShowsAs B.known B.named_reading bytes found.now kinds.Data content)) }
     ensures kept { tree.new ≡ tree.old }
     ensures not_write { is_write result ≡ false }
 {
@@ -174,13 +177,14 @@ pub fn content_of<B: StreamBox + Drop, S: Source>(
     alloc: Global,
     tree: &mut Tree<S>,
     found: &TreeBox,
-    setting: Setting,
 ) -> std::result::Result<Content<B>, Failure>
-    ensures shows { IfSome tree.old.bytes (λ bytes. IfOk result (λ content. ShowsAs B.known B.named_reading bytes found.now (kind_of found.now setting) content)) }
+    ensures shows { IfSome tree.old.bytes
+        (λ bytes. IfOk result
+        (λ content. ShowsAs B.known B.named_reading bytes found.now (kind_of found.now) content)) }
     ensures kept { tree.new ≡ tree.old }
     ensures not_write { is_write result ≡ false }
 {
-    match kind_of(found, setting) {
+    match kind_of(found) {
         Kind::Boxes => Ok(Content::Boxes),
         Kind::Deep => Ok(Content::Deep),
         Kind::Unread => Ok(Content::Unread),

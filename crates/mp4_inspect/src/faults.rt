@@ -1,12 +1,11 @@
 //! The faults of a file, one a line.
 
-use crate::around::Around;
 use crate::box_path::BoxPaths;
 use crate::chunks::{MediaData, Stray};
 use crate::content::{Content, content_of};
 use crate::failure::or_memory;
-use crate::track::go_to;
-use mp4_frame::codes::{MOOF, MOOV, TRAK};
+use mp4_frame::codes::{MOOF, MOOV, STBL, TRAK};
+use mp4_inspect_samples::table_fault;
 use mp4_io::{Failure, Output, write_all};
 use mp4_sinks::push_number;
 use mp4_stream::{AnyBox, FourCC, Result};
@@ -17,7 +16,6 @@ use std::io::Write;
 /// What is known while the faults of a file are looked for.
 #[derive(Drop)]
 struct Search {
-    around: Around,
     paths: BoxPaths,
     media: MediaData,
     /// Whether the track's media data are in another file, as a `url ` says that has not the flag of the same file.
@@ -90,6 +88,32 @@ fn put_fault(
     }
 }
 
+/// Writes how the tables of samples in the first of these boxes disagree, if it is an `stbl` and they do. Returns
+/// whether they do.
+fn write_disagreement<S: Source, W: Write>(
+    alloc: Global,
+    tree: &mut Tree<S>,
+    name: Option<&str>,
+    boxes: &[TreeBox],
+    search: &mut Search,
+    output: &mut Output<W>,
+) -> std::result::Result<bool, Failure> {
+    let Some(found) = boxes.first() else {
+        return Ok(false);
+    };
+    if !found.is_whole() || found.code != Some(FourCC::from(STBL)) {
+        return Ok(false);
+    }
+    let Some(disagreement) = table_fault(alloc, tree, boxes)? else {
+        return Ok(false);
+    };
+    let text = format!(in alloc; "{disagreement}\n")?;
+    or_memory(begin_line(name, found, search))?;
+    search.line.push_str(text.as_str())?;
+    write_all(output, search.line.as_bytes())?;
+    Ok(true)
+}
+
 /// Writes the fault of the first of these boxes, if it has one. Returns whether it has.
 fn write_fault<S: Source, W: Write>(
     alloc: Global,
@@ -102,17 +126,17 @@ fn write_fault<S: Source, W: Write>(
     let Some(found) = boxes.first() else {
         return Ok(false);
     };
-    go_to(alloc, tree, boxes, &mut search.around)?;
     or_memory(search.paths.enter(found))?;
     if found.code == Some(FourCC::from(TRAK)) {
         search.elsewhere = false;
     }
-    let content = content_of::<AnyBox, S>(alloc, tree, found, search.around.setting())?;
+    let content = content_of::<AnyBox, S>(alloc, tree, found)?;
     let faulty = or_memory(put_fault(alloc, name, found, &content, search))?;
     if faulty {
         write_all(output, search.line.as_bytes())?;
     }
-    Ok(faulty)
+    let disagrees = write_disagreement(alloc, tree, name, boxes, search, output)?;
+    Ok(faulty || disagrees)
 }
 
 /// Whether one of these boxes is a `moov` or a `moof` of the top level.
@@ -147,7 +171,6 @@ pub fn write_faults<S: Source, W: Write>(
     output: &mut Output<W>,
 ) -> std::result::Result<bool, Failure> {
     let mut search = Search {
-        around: Around::new(alloc),
         paths: BoxPaths::new(alloc),
         media: or_memory(MediaData::new(alloc, boxes, tree.length()))?,
         elsewhere: false,

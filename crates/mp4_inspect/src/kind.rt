@@ -3,10 +3,9 @@
 ghost use Rattle.std.specs.Prelude.{◌≡◌};
 ghost use Rattle.mp4_inspect.specs.Kind.{entry_kind, leaf_kind, parent_kind, bytes_before, kind_of};
 
-use crate::setting::Setting;
 use mp4_frame::codes::{DATA, DREF, META, MP4A, STSD, TX3G};
 use mp4_stream::{AnyBox, BoxType, StreamBox};
-use mp4_tree::{TreeBox, What};
+use mp4_tree::{Setting, TreeBox, What};
 
 /// `uuid`: a box whose type is a UUID (ISO/IEC 14496-12, 4.2).
 pub const UUID: u32 = 0x7575_6964;
@@ -112,8 +111,8 @@ fn bytes_before(found: &TreeBox) -> u64
 }
 
 /// How a box is read.
-pub fn kind_of(found: &TreeBox, setting: Setting) -> Kind
-    ensures { result ≡ kind_of found.now setting }
+pub fn kind_of(found: &TreeBox) -> Kind
+    ensures { result ≡ kind_of found.now }
 {
     let Some(code) = found.code else {
         return Kind::Cut;
@@ -122,7 +121,7 @@ pub fn kind_of(found: &TreeBox, setting: Setting) -> Kind
         What::Cut | What::NoHeader => Kind::Cut,
         What::Small => Kind::Small,
         What::TooDeep => Kind::Deep,
-        What::Parent => parent_kind(u32::from(code), bytes_before(found), setting),
-        What::Leaf => leaf_kind(u32::from(code), setting),
+        What::Parent => parent_kind(u32::from(code), bytes_before(found), found.setting),
+        What::Leaf => leaf_kind(u32::from(code), found.setting),
     }
 }

@@ -1,7 +1,6 @@
 //! `mp4inspect` shows what is in MP4 files: the tree of their boxes, as text or JSON, or their faults alone.
 #![tactic(auto)]
 
-mod around;
 mod box_path;
 mod chunks;
 mod content;
@@ -10,14 +9,18 @@ mod faults;
 mod kind;
 mod outcome;
 mod program;
-mod setting;
 mod track;
 mod tree_json;
 mod tree_text;
 
-use mp4_inspect_args::{Request, Task, request_of};
+use clap::Error;
+use clap::error::ErrorKind;
+use failure::or_read;
+use mp4_inspect_args::{Request, Rows, Task, request_of};
+use mp4_inspect_samples::{Choice, Form};
 use mp4_io::{Failure, Input, Output, flush, read_all, write_all};
 use mp4_sinks::Look;
+use mp4_tree::Source;
 use outcome::Outcome;
 use program::{Show, inspect};
 use std::io::{BufWriter, IsTerminal, Write};
@@ -57,6 +60,56 @@ fn look_of(rt: &HostRuntime, request: &Request) -> Look {
     }
 }
 
+/// Which samples are written, and how.
+fn choice_of(request: &Request) -> Choice {
+    Choice {
+        form: match request.samples {
+            Rows::Text => Form::Text,
+            Rows::Csv => Form::Csv,
+            Rows::Json => Form::Json,
+        },
+        track: request.track,
+    }
+}
+
+/// Writes what is asked for of a file, and the faults of its tracks on standard error. Returns whether it has a fault.
+fn shown<S: Source, W: Write>(
+    rt: &HostRuntime,
+    name: &str,
+    source: S,
+    show: Show,
+    output: &mut Output<W>,
+) -> Result<bool, Failure> {
+    let mut faults = Vec::new(rt.alloc());
+    let outcome = inspect(rt.alloc(), name, source, show, output, &mut faults);
+    for fault in &faults {
+        let _ = eprintln!(rt; "mp4inspect: {name}: {fault}");
+    }
+    outcome
+}
+
+/// The outcome of a file. Where it failed, a line on standard error says how; of a failed write that is said once, at
+/// the end.
+fn outcome_told(rt: &HostRuntime, name: &str, run: Result<bool, Failure>) -> Outcome {
+    match run {
+        Ok(_) | Err(Failure::Write) => {}
+        Err(failure) => {
+            let _ = eprintln!(rt; "mp4inspect: {name}: {failure}");
+        }
+    }
+    Outcome::of_file(run)
+}
+
+/// Writes what is asked for of the standard input.
+fn inspect_input<W: Write>(
+    rt: &HostRuntime,
+    show: Show,
+    output: &mut Output<W>,
+) -> Result<bool, Failure> {
+    let bytes = read_all(rt.alloc(), &mut Input::new(rt.stdin()))?;
+    shown(rt, "-", bytes.as_slice(), show, output)
+}
+
 /// Writes what is asked for of a file, or of the standard input. Where it can't be opened, a line on standard error
 /// says so.
 fn inspect_named<W: Write>(
@@ -64,20 +117,19 @@ fn inspect_named<W: Write>(
     name: &str,
     show: Show,
     output: &mut Output<W>,
-) -> Result<Outcome, Failure> {
+) -> Outcome {
     if name == "-" {
-        let bytes = read_all(rt.alloc(), &mut Input::new(rt.stdin()))?;
-        let faulty = inspect(rt.alloc(), name, bytes.as_slice(), show, output)?;
-        return Ok(Outcome::of_faults(faulty));
+        let run = inspect_input(rt, show, output);
+        return outcome_told(rt, name, run);
     }
     match fs::open(rt, name) {
         Ok(file) => {
-            let faulty = inspect(rt.alloc(), name, file, show, output)?;
-            Ok(Outcome::of_faults(faulty))
+            let run = shown(rt, name, file, show, output);
+            outcome_told(rt, name, run)
         }
         Err(error) => {
             let _ = eprintln!(rt; "mp4inspect: {name}: {error}");
-            Ok(Outcome::Failed)
+            Outcome::Failed
         }
     }
 }
@@ -100,15 +152,12 @@ fn inspect_all<W: Write>(
             look,
             several: request.files.len() > 1,
             follows,
+            samples: choice_of(request),
         };
-        let here = match inspect_named(rt, name.as_str(), show, output) {
-            Ok(outcome) => outcome,
-            Err(Failure::Write) => return Err(Failure::Write),
-            Err(failure) => {
-                let _ = eprintln!(rt; "mp4inspect: {name}: {failure}");
-                Outcome::Failed
-            }
-        };
+        let here = inspect_named(rt, name.as_str(), show, output);
+        if output.failed {
+            return Err(Failure::Write);
+        }
         follows = follows || here != Outcome::Failed;
         outcome = outcome.or_worse(here);
     }
@@ -119,22 +168,41 @@ fn inspect_all<W: Write>(
     Ok(outcome)
 }
 
-fn main(rt: HostRuntime) -> io::Result<ExitCode> {
-    let words: Vec<String> = env::args(&rt)?.collect(rt.alloc())?;
+/// The words of the command line, of which the first is the program's name.
+fn words_of(rt: &HostRuntime) -> io::Result<Vec<String>> {
+    let words: Vec<String> = env::args(rt)?.collect(rt.alloc())?;
+    Ok(words)
+}
+
+/// Prints why a command line asks for no file: a misuse, help or the version. Returns the exit status.
+fn print_error(rt: &HostRuntime, error: &Error) -> Result<u8, Failure> {
+    if error.kind() == ErrorKind::OutOfMemory {
+        return Err(Failure::Memory);
+    }
+    if error.print(rt).is_err() {
+        return Err(Failure::Write);
+    }
+    Ok(error.exit_code() as u8)
+}
+
+/// Does what the command line asks for, and returns the exit status.
+fn run(rt: &HostRuntime) -> Result<u8, Failure> {
+    let words = or_read(words_of(rt))?;
     let request = match request_of(rt.alloc(), words.as_slice()) {
         Ok(request) => request,
-        Err(error) => {
-            error.print(&rt)?;
-            return Ok(ExitCode::from(error.exit_code() as u8));
-        }
+        Err(error) => return print_error(rt, &error),
     };
-    let mut output = Output::new(BufWriter::new(rt.alloc(), rt.stdout())?);
-    let outcome = match inspect_all(&rt, &request, &mut output) {
-        Ok(outcome) => outcome,
+    let writer = or_read(BufWriter::new(rt.alloc(), rt.stdout()))?;
+    let outcome = inspect_all(rt, &request, &mut Output::new(writer))?;
+    Ok(outcome.status())
+}
+
+fn main(rt: HostRuntime) -> ExitCode {
+    match run(&rt) {
+        Ok(status) => ExitCode::from(status),
         Err(failure) => {
             let _ = eprintln!(rt; "mp4inspect: {failure}");
-            Outcome::Failed
+            ExitCode::from(Outcome::Failed.status())
         }
-    };
-    Ok(ExitCode::from(outcome.status()))
+    }
 }

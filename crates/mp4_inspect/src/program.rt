@@ -1,9 +1,9 @@
 //! The program, between the source of a file and a writer.
 
-ghost use Rattle.std.specs.Prelude.{◌≡◌, ◌||◌, false, IfOk, IfSome};
-ghost use Rattle.mp4_inspect.specs.Written.{WritesBoxes};
+ghost use Rattle.std.specs.Prelude.{◌≡◌, ◌||◌, false, string_bytes, IfOk, OnErr, IfSome};
+ghost use Rattle.mp4_inspect.specs.Heading.{heading_of};
+ghost use Rattle.mp4_inspect.specs.Written.{WritesFile, BeginsFile};
 ghost use Rattle.mp4_io.specs.Ends.{is_write};
-ghost use Rattle.mp4_stream.specs.AnyBox.{known_any, reading_any};
 ghost use Rattle.mp4_tree.specs.Tree.{boxes_of};
 ghost use Rattle.mp4_tree.specs.Walk.{left};
 
@@ -12,6 +12,7 @@ use crate::faults::write_faults;
 use crate::tree_json::tree_json;
 use crate::tree_text::write_tree;
 use mp4_inspect_args::Task;
+use mp4_inspect_samples::{Choice, TrackFault, write_samples};
 use mp4_io::{Failure, Output, write_all};
 use mp4_sinks::{Look, TextSink};
 use mp4_stream::AnyBox;
@@ -30,6 +31,8 @@ pub struct Show {
     pub several: bool,
     /// Whether a file was written before.
     pub follows: bool,
+    /// Which samples are written, and how.
+    pub samples: Choice,
 }
 
 /// The boxes that are left of a walk, in order.
@@ -47,36 +50,67 @@ fn boxes_left<S: Source>(alloc: Global, tree: &mut Tree<S>) -> Result<Vec<TreeBo
     Ok(boxes)
 }
 
-/// Writes the line with a file's name, after an empty one.
-fn write_heading<W: Write>(
-    alloc: Global,
-    name: &str,
-    show: Show,
-    output: &mut Output<W>,
-) -> Result<(), Failure> {
-    let mut text = String::new(alloc);
-    if show.follows {
-        text.push('\n')?;
+/// The heading of a file's tree, if there are several files: a line with its name, after an empty line if a file was
+/// written before.
+fn heading_of(alloc: Global, name: &str, show: Show) -> Result<String, Failure>
+    ensures { IfOk result (λ heading. string_bytes heading ≡ heading_of show name.now) }
+{
+    let mut heading = String::new(alloc);
+    if show.several {
+        if show.follows {
+            heading.push('\n')?;
+        }
+        heading.push_str(name)?;
+        heading.push_str(":\n")?;
     }
-    text.push_str(name)?;
-    text.push_str(":\n")?;
-    write_all(output, text.as_bytes())
+    Ok(heading)
 }
 
-/// Writes the tree of a source as text. Returns whether a box of it has a fault.
+/// Writes the texts of the boxes of a file under its heading. Returns whether a box of it has a fault. After an error a
+/// beginning of that is written.
+fn show_boxes<S: Source, W: Write>(
+    alloc: Global,
+    heading: &str,
+    tree: &mut Tree<S>,
+    boxes: &[TreeBox],
+    look: Look,
+    output: &mut Output<W>,
+) -> Result<bool, Failure>
+    ensures texts { IfSome tree.old.bytes
+        (λ bytes. boxes.now ≡ boxes_of bytes
+        → IfOk result (λ faulty.
+        WritesFile heading.now bytes (W.contents output.old.inner) (W.contents output.new.inner) faulty)) }
+    ensures beginning { OnErr result
+        (IfSome tree.old.bytes
+        (λ bytes. boxes.now ≡ boxes_of bytes
+        → BeginsFile heading.now bytes (W.contents output.old.inner) (W.contents output.new.inner))) }
+    ensures failed { output.new.failed ≡ (output.old.failed || is_write result) }
+{
+    write_all(output, heading.as_bytes())?;
+    let sink = TextSink::new(alloc, look);
+    write_tree::<AnyBox, S, W>(alloc, tree, boxes, sink, output)
+}
+
+/// Writes the tree of a source as text, under its heading, once the headers of its boxes are read. Returns whether a
+/// box of it has a fault. After an error a beginning of that is written.
 fn show_tree<S: Source, W: Write>(
     alloc: Global,
+    heading: &str,
     source: S,
     look: Look,
     output: &mut Output<W>,
 ) -> Result<bool, Failure>
-    ensures texts { IfSome (S.all source) (λ bytes. IfOk result (λ faulty. WritesBoxes known_any reading_any bytes (boxes_of bytes) (W.contents output.old.inner) (W.contents output.new.inner) faulty)) }
+    ensures texts { IfSome (S.all source)
+        (λ bytes. IfOk result
+        (λ faulty. WritesFile heading.now bytes (W.contents output.old.inner) (W.contents output.new.inner) faulty)) }
+    ensures beginning { OnErr result
+        (IfSome (S.all source)
+        (λ bytes. BeginsFile heading.now bytes (W.contents output.old.inner) (W.contents output.new.inner))) }
     ensures failed { output.new.failed ≡ (output.old.failed || is_write result) }
 {
     let mut tree = or_read(Tree::new(alloc, source))?;
     let boxes = boxes_left(alloc, &mut tree)?;
-    let sink = TextSink::new(alloc, look);
-    write_tree::<AnyBox, S, W>(alloc, &mut tree, &boxes, sink, output)
+    show_boxes(alloc, heading, &mut tree, &boxes, look, output)
 }
 
 /// Writes the JSON of a source, after a comma if it follows another. Returns whether a box of it has a fault.
@@ -109,25 +143,39 @@ fn show_faults<S: Source, W: Write>(
     write_faults(alloc, &mut tree, name, &boxes, output)
 }
 
-/// Writes what is asked for of a file. Returns whether it has a fault.
+/// Writes what is asked for of a file. Returns whether it has a fault. Of a tree a beginning is written after an error.
+/// The faults of tracks whose samples are written are kept.
 pub fn inspect<S: Source, W: Write>(
     alloc: Global,
     name: &str,
     source: S,
     show: Show,
     output: &mut Output<W>,
-) -> Result<bool, Failure> {
+    faults: &mut Vec<TrackFault>,
+) -> Result<bool, Failure>
+    ensures tree { show.task ≡ Task.Tree
+        → IfSome (S.all source)
+        (λ bytes. IfOk result
+        (λ faulty. WritesFile (heading_of show name.now) bytes (W.contents output.old.inner)
+        (W.contents output.new.inner) faulty)) }
+    ensures beginning { show.task ≡ Task.Tree
+        → OnErr result (IfSome (S.all source)
+        (λ bytes. BeginsFile (heading_of show name.now) bytes (W.contents output.old.inner)
+        (W.contents output.new.inner))) }
+{
     match show.task {
         Task::Tree => {
-            if show.several {
-                write_heading(alloc, name, show, output)?;
-            }
-            show_tree(alloc, source, show.look, output)
+            let heading = heading_of(alloc, name, show)?;
+            show_tree(alloc, heading.as_str(), source, show.look, output)
         }
         Task::Json => show_json(alloc, name, source, show.follows, output),
         Task::Check => {
             let shown = if show.several { Some(name) } else { None };
             show_faults(alloc, shown, source, output)
+        }
+        Task::Samples => {
+            write_samples(alloc, source, show.samples, output, faults)?;
+            Ok(!faults.is_empty())
         }
     }
 }

@@ -1,19 +1,24 @@
-//! What is known of a box before it is shown, from the file.
+//! What is known of a track before its line is shown.
 
 ghost use Rattle.std.specs.Prelude.{◌≡◌, false};
 ghost use Rattle.mp4_io.specs.Ends.{is_write};
 
-use crate::around::{Around, Track};
 use crate::content::front_of;
-use mp4_frame::codes::{FTYP, HDLR, MDIA, TKHD, TRAK};
+use mp4_frame::codes::{HDLR, MDIA, TKHD, TRAK};
 use mp4_frame::u32_at;
 use mp4_io::Failure;
 use mp4_stream::FourCC;
 use mp4_tree::{Source, Tree, TreeBox};
 use std::alloc::Global;
 
-/// `qt  `: the major brand of a QuickTime movie.
-const QUICKTIME: u32 = 0x7174_2020;
+/// A track, as its line has it.
+#[derive(Clone, Copy, Debug, PartialEq, Eq)]
+pub struct Track {
+    /// The number of the track, if its header has one.
+    pub number: Option<u32>,
+    /// The handler of its media, if there is one.
+    pub handler: Option<FourCC>,
+}
 
 /// Whether this is a whole box of a code.
 fn is_box(found: &TreeBox, code: u32) -> bool {
@@ -54,8 +59,9 @@ fn number_of<S: Source>(
     }
 }
 
-/// The track whose box comes first among these, by its header and by the handler of its media.
-fn track_of<S: Source>(
+/// The track whose box comes first among these, by its header and by the handler of its media. Of another box, a track
+/// of which nothing is known.
+pub fn track_of<S: Source>(
     alloc: Global,
     tree: &mut Tree<S>,
     boxes: &[TreeBox],
@@ -70,52 +76,24 @@ fn track_of<S: Source>(
     let Some((first, inner)) = boxes.split_first() else {
         return Ok(track);
     };
-    let mut in_media = false;
+    if first.code != Some(FourCC::from(TRAK)) {
+        return Ok(track);
+    }
     for found in inner {
         if found.depth <= first.depth {
             break;
         }
         let level = found.depth - first.depth;
-        if level == 1 {
-            in_media = is_box(found, MDIA);
-        }
         if level == 1 && track.number.is_none() && is_box(found, TKHD) {
             track.number = number_of(alloc, tree, found)?;
         }
-        if level == 2 && in_media && track.handler.is_none() && is_box(found, HDLR) {
+        if level == 2
+            && found.setting.parent == MDIA
+            && track.handler.is_none()
+            && is_box(found, HDLR)
+        {
             track.handler = number_in(alloc, tree, found, 8)?.map(FourCC::from);
         }
     }
     Ok(track)
-}
-
-/// Goes on to the first of these boxes, which are those from there on in the order of the file.
-pub fn go_to<S: Source>(
-    alloc: Global,
-    tree: &mut Tree<S>,
-    boxes: &[TreeBox],
-    around: &mut Around,
-) -> Result<(), Failure>
-    ensures kept { tree.new ≡ tree.old }
-    ensures not_write { is_write result ≡ false }
-{
-    let Some(found) = boxes.first() else {
-        return Ok(());
-    };
-    if around.enter(found).is_err() {
-        return Err(Failure::Memory);
-    }
-    if found.code == Some(FourCC::from(TRAK)) {
-        around.track = track_of(alloc, tree, boxes)?;
-    }
-    if found.code == Some(FourCC::from(MDIA)) {
-        around.handler = 0;
-    }
-    if is_box(found, HDLR) && around.parent() == MDIA {
-        around.handler = number_in(alloc, tree, found, 8)?.unwrap_or(0);
-    }
-    if is_box(found, FTYP) && found.depth == 0 {
-        around.is_quicktime = number_in(alloc, tree, found, 0)? == Some(QUICKTIME);
-    }
-    Ok(())
 }

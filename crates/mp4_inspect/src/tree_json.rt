@@ -1,9 +1,7 @@
 //! The tree of a file as JSON.
 
-use crate::around::Around;
 use crate::content::{Content, content_of, put_content};
 use crate::failure::or_memory;
-use crate::track::go_to;
 use mp4_fields::HasFields;
 use mp4_io::Failure;
 use mp4_sinks::JsonSink;
@@ -69,23 +67,18 @@ fn end_levels(open: &mut u64, depth: u64, sink: &mut JsonSink) -> Result<()> {
     Ok(())
 }
 
-/// Writes the first of these boxes. Its object stays open if it holds boxes. Returns whether it has a fault.
+/// Writes a box. Its object stays open if it holds boxes. Returns whether it has a fault.
 fn put_box<B: StreamBox + HasFields + Drop, S: Source>(
     alloc: Global,
     tree: &mut Tree<S>,
-    boxes: &[TreeBox],
-    around: &mut Around,
+    found: &TreeBox,
     open: &mut u64,
     sink: &mut JsonSink,
 ) -> std::result::Result<bool, Failure> {
-    let Some(found) = boxes.first() else {
-        return Ok(false);
-    };
-    go_to(alloc, tree, boxes, around)?;
-    let content = content_of::<B, S>(alloc, tree, found, around.setting())?;
+    let content = content_of::<B, S>(alloc, tree, found)?;
     or_memory(end_levels(open, found.depth, sink))?;
     or_memory(put_head(found, sink))?;
-    or_memory(put_rest(alloc, &content, around.is_quicktime, sink))?;
+    or_memory(put_rest(alloc, &content, found.setting.is_quicktime, sink))?;
     if found.children.is_some() {
         or_memory(begin_children(open, sink))?;
     } else {
@@ -133,19 +126,11 @@ pub fn tree_json<B: StreamBox + HasFields + Drop, S: Source>(
     boxes: &[TreeBox],
 ) -> std::result::Result<(Vec<u8>, bool), Failure> {
     let mut sink = JsonSink::new(alloc);
-    let mut around = Around::new(alloc);
     let mut faulty = false;
     let mut open = 0;
     or_memory(begin_file(name, &mut sink))?;
-    for index in 0..boxes.len() {
-        let here = put_box::<B, S>(
-            alloc,
-            tree,
-            &boxes[index..],
-            &mut around,
-            &mut open,
-            &mut sink,
-        )?;
+    for found in boxes {
+        let here = put_box::<B, S>(alloc, tree, found, &mut open, &mut sink)?;
         faulty = faulty || here;
     }
     or_memory(end_levels(&mut open, 0, &mut sink))?;

@@ -1,18 +1,14 @@
 //! The tree of a file as text.
 
-ghost use Rattle.std.specs.Prelude.{◌≡◌, ◌++◌, ◌||◌, true, false, decimal, string_bytes, IfOk, OnOk, IfSome};
+ghost use Rattle.std.specs.Prelude.{◌≡◌, ◌++◌, ◌||◌, true, false, decimal, string_bytes, IfOk, OnOk, OnErr, IfSome};
 ghost use Rattle.mp4_io.specs.Ends.{is_read, is_write};
 ghost use Rattle.mp4_inspect.specs.Content.{ShowsAs, is_faulty};
 ghost use Rattle.mp4_inspect.specs.Kind.{kind_of};
-ghost use Rattle.mp4_inspect.specs.Written.{place_text, IsText, WritesBox, WritesBoxes};
-ghost use Rattle.mp4_inspect.specs.declared.content.Content.{Content};
-ghost use Rattle.mp4_inspect.specs.declared.setting.Setting.{Setting};
+ghost use Rattle.mp4_inspect.specs.Written.{place_text, IsText, Tells, WritesBox, WritesBoxes, BeginsBox, BeginsBoxes};
 
-use crate::around::{Around, Track};
 use crate::content::{Content, content_of, put_content};
 use crate::failure::or_memory;
-use crate::setting::Setting;
-use crate::track::go_to;
+use crate::track::{Track, track_of};
 use mp4_fields::HasFields;
 use mp4_frame::codes::{STSD, TRAK};
 use mp4_io::{Failure, Output, write_all};
@@ -132,20 +128,19 @@ fn put_rest<B: HasFields + Drop>(
     found: &TreeBox,
     content: &Content<B>,
     track: Track,
-    setting: Setting,
     sink: &mut TextSink,
 ) -> Result<()> {
     if found.code == Some(FourCC::from(TRAK)) {
         put_track(alloc, track, sink)?;
     }
-    if setting.parent == STSD {
+    if found.setting.parent == STSD {
         put_called(alloc, "", found, sink)?;
     }
     match content {
         Content::Unread => put_called(alloc, "not read", found, sink),
         Content::Deep => sink.words("not gone into: in 32 boxes"),
         Content::Faulty(fault) => put_fault(alloc, fault, sink),
-        _ => put_content(content, setting.is_quicktime, sink),
+        _ => put_content(content, found.setting.is_quicktime, sink),
     }
 }
 
@@ -154,7 +149,7 @@ fn put_box<B: HasFields + Drop>(
     alloc: Global,
     found: &TreeBox,
     content: &Content<B>,
-    around: &Around,
+    track: Track,
     text: &mut String,
     sink: &mut TextSink,
 ) -> Result<()>
@@ -163,7 +158,7 @@ fn put_box<B: HasFields + Drop>(
     name_line(alloc, sink.look(), found, text)?;
     push_place(found, text)?;
     sink.begin(found.depth, columns(text.as_str()));
-    put_rest(alloc, found, content, around.track, around.setting(), sink)?;
+    put_rest(alloc, found, content, track, sink)?;
     text.push_str(sink.text())?;
     text.push('\n')?;
     Ok(())
@@ -175,45 +170,51 @@ fn make_box<B: StreamBox + HasFields + Drop, S: Source>(
     tree: &mut Tree<S>,
     found: &TreeBox,
     boxes: &[TreeBox],
-    around: &mut Around,
     text: &mut String,
     sink: &mut TextSink,
 ) -> std::result::Result<bool, Failure>
-    ensures text { OnOk result (IsText found.now (string_bytes text.new)) }
-    ensures shows { IfSome tree.old.bytes (λ bytes. IfOk result (λ faulty. (s : Setting) × (content : Content B) × ShowsAs B.known B.named_reading bytes found.now (kind_of found.now s) content × (faulty ≡ is_faulty content))) }
+    ensures text { IfSome tree.old.bytes
+        (λ bytes. IfOk result
+        (λ faulty. Tells B.known B.named_reading bytes found.now (string_bytes text.new) faulty)) }
     ensures kept { tree.new ≡ tree.old }
     ensures not_write { is_write result ≡ false }
 {
-    go_to(alloc, tree, boxes, around)?;
-    let content = content_of::<B, S>(alloc, tree, found, around.setting())?;
-    or_memory(put_box(alloc, found, &content, around, text, sink))?;
+    let track = track_of(alloc, tree, boxes)?;
+    let content = content_of::<B, S>(alloc, tree, found)?;
+    or_memory(put_box(alloc, found, &content, track, text, sink))?;
     Ok(content.is_faulty())
 }
 
 /// Writes the text of a box, the first of these, which are those from there on. Returns whether it shows a fault. After
-/// a failed read nothing of it is written.
+/// a failed write a beginning of it is written, and after another failure nothing.
 fn write_box<B: StreamBox + HasFields + Drop, S: Source, W: Write>(
     alloc: Global,
     tree: &mut Tree<S>,
     found: &TreeBox,
     boxes: &[TreeBox],
-    around: &mut Around,
     text: &mut String,
     sink: &mut TextSink,
     output: &mut Output<W>,
 ) -> std::result::Result<bool, Failure>
-    ensures text { IfSome tree.old.bytes (λ bytes. IfOk result (λ faulty. WritesBox B.known B.named_reading bytes found.now (W.contents output.old.inner) (W.contents output.new.inner) faulty)) }
+    ensures text { IfSome tree.old.bytes
+        (λ bytes. IfOk result
+        (λ faulty. WritesBox B.known B.named_reading bytes found.now (W.contents output.old.inner)
+        (W.contents output.new.inner) faulty)) }
+    ensures beginning { OnErr result
+        (IfSome tree.old.bytes
+        (λ bytes. BeginsBox B.known B.named_reading bytes found.now (W.contents output.old.inner)
+        (W.contents output.new.inner))) }
     ensures not_read { is_read result ≡ true → output.new ≡ output.old }
     ensures kept { tree.new ≡ tree.old }
     ensures failed { output.new.failed ≡ (output.old.failed || is_write result) }
 {
-    let faulty = make_box::<B, S>(alloc, tree, found, boxes, around, text, sink)?;
+    let faulty = make_box::<B, S>(alloc, tree, found, boxes, text, sink)?;
     write_all(output, text.as_bytes())?;
     Ok(faulty)
 }
 
-/// Writes the tree of a file: the text of each of these boxes, which are those of the file, in order. Returns whether one
-/// of them shows a fault.
+/// Writes the tree of a file: the text of each of these boxes, which are those of the file, in order. Returns whether
+/// one of them shows a fault. After an error a beginning of these texts is written.
 pub fn write_tree<B: StreamBox + HasFields + Drop, S: Source, W: Write>(
     alloc: Global,
     tree: &mut Tree<S>,
@@ -221,24 +222,21 @@ pub fn write_tree<B: StreamBox + HasFields + Drop, S: Source, W: Write>(
     mut sink: TextSink,
     output: &mut Output<W>,
 ) -> std::result::Result<bool, Failure>
-    ensures texts { IfSome tree.old.bytes (λ bytes. IfOk result (λ faulty. WritesBoxes B.known B.named_reading bytes boxes.now (W.contents output.old.inner) (W.contents output.new.inner) faulty)) }
+    ensures texts { IfSome tree.old.bytes
+        (λ bytes. IfOk result
+        (λ faulty. WritesBoxes B.known B.named_reading bytes boxes.now (W.contents output.old.inner)
+        (W.contents output.new.inner) faulty)) }
+    ensures beginning { OnErr result
+        (IfSome tree.old.bytes
+        (λ bytes. BeginsBoxes B.known B.named_reading bytes boxes.now (W.contents output.old.inner)
+        (W.contents output.new.inner))) }
     ensures failed { output.new.failed ≡ (output.old.failed || is_write result) }
 {
-    let mut around = Around::new(alloc);
     let mut text = String::new(alloc);
     let mut faulty = false;
     let mut rest = boxes;
     for found in boxes {
-        let here = write_box::<B, S, W>(
-            alloc,
-            tree,
-            found,
-            rest,
-            &mut around,
-            &mut text,
-            &mut sink,
-            output,
-        )?;
+        let here = write_box::<B, S, W>(alloc, tree, found, rest, &mut text, &mut sink, output)?;
         faulty = either(faulty, here);
         rest = after_first(rest);
     }

@@ -12,6 +12,19 @@ pub enum Task {
     Json,
     /// Its faults alone.
     Check,
+    /// The samples of its tracks.
+    Samples,
+}
+
+/// How samples are written.
+#[derive(Clone, Copy, Debug, PartialEq, Eq)]
+pub enum Rows {
+    /// As aligned columns.
+    Text,
+    /// As lines of numbers between commas.
+    Csv,
+    /// As JSON.
+    Json,
 }
 
 /// What a command line asks for.
@@ -23,6 +36,10 @@ pub struct Request {
     pub rows: Option<u32>,
     /// Whether lines stay whole on a terminal.
     pub wide: bool,
+    /// How samples are written.
+    pub samples: Rows,
+    /// The number of the track whose samples are written; those of all tracks if none.
+    pub track: Option<u32>,
     /// The files, in order; `-` is the standard input.
     pub files: Vec<String>,
 }
@@ -45,6 +62,33 @@ fn check<'a>(alloc: Global) -> Result<Command<'a>, AllocError> {
             "Writes the faults alone, one a line, with position and path; nothing if all is well",
         )
         .arg(files(alloc)?)
+}
+
+/// The command `samples`.
+fn samples<'a>(alloc: Global) -> Result<Command<'a>, AllocError> {
+    let track = Arg::new(alloc, "track")
+        .long("track")
+        .value_name("N")
+        .value_parser(clap::value_parser!(u32))
+        .help("Write the samples of track N alone");
+    let json = Arg::new(alloc, "json")
+        .long("json")
+        .action(ArgAction::SetTrue)
+        .conflicts_with("csv")?
+        .help("Write an array of JSON objects");
+    let csv = Arg::new(alloc, "csv")
+        .long("csv")
+        .action(ArgAction::SetTrue)
+        .help("Write lines of numbers between commas, with one line of names in front");
+    let file = Arg::new(alloc, "FILE")
+        .required(true)
+        .help("File to read; - is the standard input");
+    Command::new(alloc, "samples")
+        .about("Writes where each sample of the tracks of a file is, and when, one a line")
+        .arg(track)?
+        .arg(json)?
+        .arg(csv)?
+        .arg(file)
 }
 
 /// The whole command line.
@@ -80,7 +124,8 @@ fn command<'a>(alloc: Global) -> Result<Command<'a>, AllocError> {
         .arg(rows)?
         .arg(wide)?
         .arg(files(alloc)?)?
-        .subcommand(check(alloc)?)
+        .subcommand(check(alloc)?)?
+        .subcommand(samples(alloc)?)
 }
 
 /// The files that are named.
@@ -94,17 +139,46 @@ fn files_of(alloc: Global, matches: &ArgMatches<'_>) -> Result<Vec<String>, Allo
     Ok(files)
 }
 
+/// What the command `check` asks for.
+fn check_of(alloc: Global, matches: &ArgMatches<'_>) -> Result<Request, AllocError> {
+    Ok(Request {
+        task: Task::Check,
+        rows: Some(0),
+        wide: true,
+        samples: Rows::Text,
+        track: None,
+        files: files_of(alloc, matches)?,
+    })
+}
+
+/// What the command `samples` asks for.
+fn samples_of(alloc: Global, matches: &ArgMatches<'_>) -> Result<Request, AllocError> {
+    let samples = if matches.get_flag("json") {
+        Rows::Json
+    } else if matches.get_flag("csv") {
+        Rows::Csv
+    } else {
+        Rows::Text
+    };
+    Ok(Request {
+        task: Task::Samples,
+        rows: Some(0),
+        wide: true,
+        samples,
+        track: matches.get_one::<u32>("track"),
+        files: files_of(alloc, matches)?,
+    })
+}
+
 /// What the words of a command line ask for, of which the first is the program's name. An error is what to print, and
 /// with which status to end: misuse, help or the version.
 pub fn request_of(alloc: Global, words: &[String]) -> Result<Request, Error> {
     let matches = command(alloc)?.try_get_matches_from(words)?;
-    if let Some((_, inner)) = matches.subcommand() {
-        return Ok(Request {
-            task: Task::Check,
-            rows: Some(0),
-            wide: true,
-            files: files_of(alloc, inner)?,
-        });
+    if let Some((name, inner)) = matches.subcommand() {
+        if name == "samples" {
+            return Ok(samples_of(alloc, inner)?);
+        }
+        return Ok(check_of(alloc, inner)?);
     }
     let rows = if matches.get_flag("all") {
         None
@@ -119,6 +193,8 @@ pub fn request_of(alloc: Global, words: &[String]) -> Result<Request, Error> {
         },
         rows,
         wide: matches.get_flag("wide"),
+        samples: Rows::Text,
+        track: None,
         files: files_of(alloc, &matches)?,
     })
 }

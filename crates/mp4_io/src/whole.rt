@@ -1,8 +1,9 @@
 //! Input that is read to its end, and output that is written whole.
 
-ghost use Rattle.std.specs.Prelude.{◌+◌, ◌≡◌, ◌≤◌, ◌<◌, ◌||◌, drop, is_none, is_err, length, take, IfSome, IfErr, OnOk, vec_len};
+ghost use Rattle.std.specs.Prelude.{◌+◌, ◌≡◌, ◌≤◌, ◌<◌, ◌||◌, drop, is_none, is_err, length, take, IfSome, IfErr, OnOk};
+ghost use Rattle.std.specs.Prelude.{vec_len};
 ghost use Rattle.std.specs.Io.KnownBytes.{Keeps};
-ghost use Rattle.mp4_io.specs.Ends.{PullsInto, ReadsAll, WritesAll, is_read};
+ghost use Rattle.mp4_io.specs.Ends.{PullsInto, ReadsAll, SkipsAll, WritesAll, is_read};
 
 use crate::ends::{Input, Output};
 use crate::failure::Failure;
@@ -30,8 +31,9 @@ fn make_room<A: Allocator>(bytes: &mut Vec<u8, A>, filled: usize) -> Result<(), 
     Ok(())
 }
 
-/// Pulls once, into the bytes after those that are filled.
-fn pull_after<R: Read, A: Allocator>(
+/// Pulls once, into the bytes after those that are filled, and returns how many bytes were read: 0 at the end of the
+/// input. None if the call failed, also if it was interrupted.
+pub fn pull_after<R: Read, A: Allocator>(
     input: &mut Input<R>,
     bytes: &mut Vec<u8, A>,
     filled: usize,
@@ -40,7 +42,8 @@ fn pull_after<R: Read, A: Allocator>(
     ensures front { take filled bytes.new.items ≡ take filled bytes.old.items }
     ensures len { vec_len bytes.new ≡ vec_len bytes.old }
     ensures bound { IfSome result (λ n. filled + n ≤ vec_len bytes.new) }
-    ensures bytes { PullsInto (R.remaining input.old.inner) (R.remaining input.new.inner) result (drop filled bytes.new.items) }
+    ensures bytes { PullsInto (R.remaining input.old.inner) (R.remaining input.new.inner) result
+        (drop filled bytes.new.items) }
     ensures failed { input.new.failed ≡ (input.old.failed || is_none result) }
 {
     input.pull(&mut bytes[filled..])
@@ -66,6 +69,29 @@ pub fn read_all<R: Read, A: Allocator>(
             }
             Some(n) => filled += n,
         }
+    }
+    Err(Failure::Memory)
+}
+
+/// Reads to the end of the input, keeps nothing, and returns how many bytes there were. The buffer has the bytes of a
+/// call. An input of 2^64 bytes is out of memory.
+pub fn skip_all<R: Read>(input: &mut Input<R>, buffer: &mut [u8]) -> Result<u64, Failure>
+    requires { 0 < length buffer.old }
+    ensures bytes { SkipsAll (R.remaining input.old.inner) (R.remaining input.new.inner) result }
+    ensures failed { input.new.failed ≡ (input.old.failed || is_read result) }
+{
+    let mut count: u64 = 0;
+    for _ in 0..u64::MAX {
+        let Some(n) = input.pull(buffer) else {
+            return Err(Failure::Read);
+        };
+        if n == 0 {
+            return Ok(count);
+        }
+        let Some(more) = count.checked_add(n as u64) else {
+            return Err(Failure::Memory);
+        };
+        count = more;
     }
     Err(Failure::Memory)
 }

@@ -1,5 +1,6 @@
 -- What the calls of the iterator find.
-use Rattle.std.proofs.Common.{◌≡◌, ℕ, suc, ◌+◌, ◌<◌, ◌≤◌, Bool, true, false, List, [], ◌∷◌, length, Result, Ok, Err, refl, sym, ap, subst, ◌∙◌, arith}
+use Rattle.std.proofs.Common.{◌≡◌, ℕ, suc, ◌+◌, ◌<◌, ◌≤◌, Bool, true, false, List, [], ◌∷◌, length, Result, Ok, Err}
+use Rattle.std.proofs.Common.{refl, sym, ap, subst, ◌∙◌, arith}
 use Rattle.std.specs.Prelude.{Option, Some, None, ⊤, is_ok, ◌++◌}
 use Rattle.std.specs.Iterator.{MakesProgress, item_count}
 use Rattle.mp4_frame.specs.Heads.{frame}
@@ -59,7 +60,8 @@ module _ {A : Type 0} (known : BoxType → Bool) (reading : BoxType → List ℕ
   seek_finds o p f told lt is k header sum room = (told ∙ items_known known reading B p f lt is k, k, header, sum, room)
 
   -- what a walk found, in the arm that took it
-  pub found : (o p : ℕ) (x y : Option Frame) → x ≡ y → Seeks known reading B o p (Ok x) → Seeks known reading B o p (Ok y)
+  pub found : (o p : ℕ) (x y : Option Frame) → x ≡ y → Seeks known reading B o p (Ok x)
+      → Seeks known reading B o p (Ok y)
   found o p x y e h = subst (λ (x : Option Frame). Seeks known reading B o p (Ok x)) e h
 
 -- each item leaves fewer
@@ -77,7 +79,8 @@ module _ {A : Type 0} (known : BoxType → Bool) (reading : BoxType → List ℕ
       record { on = λ _. (tt, tt, omega (arith, a, b)); keeps = tt; rests = λ _. tt }
 
 -- a call that began at o, and met p
-module _ {A : Type 0} (known : BoxType → Bool) (reading : BoxType → List ℕ → ℕ → ℕ → Reading A) (B : List ℕ) (o p : ℕ) (s : Progress) (is : begins_at B o ≡ s) where
+module _ {A : Type 0} (known : BoxType → Bool) (reading : BoxType → List ℕ → ℕ → ℕ → Reading A) (B : List ℕ) (o p : ℕ)
+    (s : Progress) (is : begins_at B o ≡ s) where
   -- nothing comes
   pub ends : Seeks known reading B o p (Ok None) → GivesBox known reading s None (ended_at B p)
   ends h = subst (λ (s : Progress). GivesBox known reading s None (ended_at B p)) is ((h.0, refl, h.1), refl)

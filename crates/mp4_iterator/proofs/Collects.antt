@@ -1,9 +1,11 @@
 -- Collecting all items, as a loop does.
-use Rattle.std.proofs.Common.{◌≡◌, ℕ, Bool, true, false, List, [], ◌∷◌, ◌++◌, length, Result, Ok, Err, refl, sym, ap, subst, ◌∙◌, arith, append_assoc, length-append}
+use Rattle.std.proofs.Common.{◌≡◌, ℕ, Bool, true, false, List, [], ◌∷◌, ◌++◌, length, Result, Ok, Err, refl, sym, ap}
+use Rattle.std.proofs.Common.{subst, ◌∙◌, arith, append_assoc, length-append}
 use Rattle.std.specs.Prelude.{nat_lt, Some, None}
 use Rattle.std.proofs.lemmas.Bool.{lt-ltb}
 use Rattle.std.proofs.lemmas.List.{append-nil}
-use Rattle.mp4_frame.specs.Reading.{Fault, End, Invalid, NotFound, Reading, Refuses, AnswersAs, and_then, memory, done, ◌>>=◌}
+use Rattle.mp4_frame.specs.Reading.{Fault, End, Invalid, NotFound, Reading, Refuses, AnswersAs, and_then, memory, done}
+use Rattle.mp4_frame.specs.Reading.{◌>>=◌}
 use Rattle.mp4_frame.specs.Streams.{boxes}
 use Rattle.mp4_frame.specs.declared.box_type.BoxType.{BoxType}
 use Rattle.mp4_frame.specs.declared.error.Error.{Error}
@@ -16,22 +18,28 @@ use Rattle.std.specs.Iterator.{Drains}
 use Rattle.mp4_iterator.proofs.Items.{in_order_cond, boxes_are_items}
 
 kept : {A : Type 0} (a b : Bool) (front : List A) (v : A) (c : Bool) (w : Result (List A) Fault)
-    → continue_with a front (and_then b (Ok v) (λ v. memory >>= λ _. and_then c w (λ vs. done (v ∷ vs)))) ≡ continue_with true (front ++ v ∷ []) (record { asks_memory = c; outcome = w })
-kept true b front v c (Ok vs) = ap (λ (l : List _). record { asks_memory = true; outcome = Ok l }) (sym (append_assoc front (v ∷ []) vs))
-kept false true front v c (Ok vs) = ap (λ (l : List _). record { asks_memory = true; outcome = Ok l }) (sym (append_assoc front (v ∷ []) vs))
-kept false false front v c (Ok vs) = ap (λ (l : List _). record { asks_memory = true; outcome = Ok l }) (sym (append_assoc front (v ∷ []) vs))
+    → continue_with a front (and_then b (Ok v) (λ v. memory >>= λ _. and_then c w (λ vs. done (v ∷ vs))))
+    ≡ continue_with true (front ++ v ∷ []) (record { asks_memory = c; outcome = w })
+kept true b front v c (Ok vs) =
+    ap (λ (l : List _). record { asks_memory = true; outcome = Ok l }) (sym (append_assoc front (v ∷ []) vs))
+kept false true front v c (Ok vs) =
+    ap (λ (l : List _). record { asks_memory = true; outcome = Ok l }) (sym (append_assoc front (v ∷ []) vs))
+kept false false front v c (Ok vs) =
+    ap (λ (l : List _). record { asks_memory = true; outcome = Ok l }) (sym (append_assoc front (v ∷ []) vs))
 kept true b front v c (Err k) = refl
 kept false true front v c (Err k) = refl
 kept false false front v c (Err k) = refl
 
 asks : {A : Type 0} (a : Bool) (front : List A) (o : Result A Fault) (c : Bool) (w : Result (List A) Fault)
-    → (continue_with a front (and_then true o (λ v. memory >>= λ _. and_then c w (λ vs. done (v ∷ vs))))).asks_memory ≡ true
+    → (continue_with a front (and_then true o (λ v. memory >>= λ _. and_then c w (λ vs. done (v ∷ vs))))).asks_memory
+    ≡ true
 asks true front o c w = refl
 asks false front (Ok v) c (Ok vs) = refl
 asks false front (Ok v) c (Err k) = refl
 asks false front (Err k) c w = refl
 
-faults_too : {A : Type 0} (a b : Bool) (front : List A) (o : Result A Fault) (w : Reading (List A)) (k : Fault) → o ≡ Err k
+faults_too : {A : Type 0} (a b : Bool) (front : List A) (o : Result A Fault) (w : Reading (List A)) (k : Fault)
+    → o ≡ Err k
     → (continue_with a front (and_then b o (λ v. memory >>= λ _. w >>= λ vs. done (v ∷ vs)))).outcome ≡ Err k
 faults_too a b front (Ok v) w k e = absurd cc
 faults_too a b front (Err l) w k e = cc e
@@ -40,9 +48,12 @@ long_enough : {A : Type 0} (front : List A) (v : A) → nat_lt 0 (length (front 
 long_enough front v = lt-ltb 0 (length (front ++ v ∷ [])) (omega (arith, length-append front (v ∷ [])))
 
 module _ {A : Type 0} (a : Bool) (front : List A) (i : Item A) (is : List (Item A)) where
-  one_kept : (v : A) → i.reading.outcome ≡ Ok v → continue_with a front (in_order (i ∷ is)) ≡ continue_with true (front ++ v ∷ []) (in_order is)
+  one_kept : (v : A) → i.reading.outcome ≡ Ok v
+      → continue_with a front (in_order (i ∷ is)) ≡ continue_with true (front ++ v ∷ []) (in_order is)
   one_kept v e =
-      ap (λ (o : Result A Fault). continue_with a front (and_then i.reading.asks_memory o (λ v. memory >>= λ _. in_order is >>= λ vs. done (v ∷ vs)))) e
+      ap (λ (o : Result A Fault).
+      continue_with a front
+      (and_then i.reading.asks_memory o (λ v. memory >>= λ _. in_order is >>= λ vs. done (v ∷ vs)))) e
       ∙ kept a i.reading.asks_memory front v (in_order is).asks_memory (in_order is).outcome
 
   one_faults : (k : Fault) → i.reading.outcome ≡ Err k → (continue_with a front (in_order (i ∷ is))).outcome ≡ Err k
@@ -50,7 +61,8 @@ module _ {A : Type 0} (a : Bool) (front : List A) (i : Item A) (is : List (Item 
 
   one_asks : i.reading.asks_memory ≡ true → (continue_with a front (in_order (i ∷ is))).asks_memory ≡ true
   one_asks e =
-      ap (λ (b : Bool). (continue_with a front (and_then b i.reading.outcome (λ v. memory >>= λ _. in_order is >>= λ vs. done (v ∷ vs)))).asks_memory) e
+      ap (λ (b : Bool). (continue_with a front
+      (and_then b i.reading.outcome (λ v. memory >>= λ _. in_order is >>= λ vs. done (v ∷ vs)))).asks_memory) e
       ∙ asks a front i.reading.outcome (in_order is).asks_memory (in_order is).outcome
 
   one_refuses : (e : Error) → Refuses e i.reading → Refuses e (continue_with a front (in_order (i ∷ is)))
@@ -63,94 +75,128 @@ module _ {A : Type 0} (a : Bool) (front : List A) (i : Item A) (is : List (Item 
 module _ {A : Type 0} (known : BoxType → Bool) (reading : BoxType → List ℕ → ℕ → ℕ → Reading A) where
   -- the boxes that are left are the items that are left, in order
   pub left_in_order : (s : Progress) → boxes_left known reading s ≡ in_order (left known reading s)
-  left_in_order s = in_order_cond known reading s.bytes s.ended (boxes known reading s.bytes s.offset) (items known reading s.bytes s.offset) (boxes_are_items known reading s.bytes s.offset)
+  left_in_order s = in_order_cond known reading s.bytes s.ended (boxes known reading s.bytes s.offset)
+      (items known reading s.bytes s.offset) (boxes_are_items known reading s.bytes s.offset)
 
   -- a box comes, and is kept
-  pub goes_on : (s t : Progress) (front : List A) (v : A) (r : Result A Error) (total : Reading (List A)) → r ≡ Ok v → GivesBox known reading s (Some r) t
+  pub goes_on : (s t : Progress) (front : List A) (v : A) (r : Result A Error) (total : Reading (List A)) → r ≡ Ok v
+      → GivesBox known reading s (Some r) t
       → continue_with (nat_lt 0 (length front)) front (in_order (left known reading s)) ≡ total
       → continue_with (nat_lt 0 (length (front ++ v ∷ []))) (front ++ v ∷ []) (in_order (left known reading t)) ≡ total
   goes_on s t front v (Ok w) total e h told =
       let same : w ≡ v = cc e in
       let i = h.0.0 in
       let is = h.0.1 in
-      let one : continue_with (nat_lt 0 (length front)) front (in_order (left known reading s)) ≡ continue_with true (front ++ v ∷ []) (in_order is) =
-      ap (λ (l : List (Item A)). continue_with (nat_lt 0 (length front)) front (in_order l)) h.0.2 ∙ one_kept (nat_lt 0 (length front)) front i is v (h.0.3.0 ∙ ap (λ (v : A). Ok v) same) in
+      let one : continue_with (nat_lt 0 (length front)) front (in_order (left known reading s))
+      ≡ continue_with true (front ++ v ∷ []) (in_order is) =
+      ap (λ (l : List (Item A)). continue_with (nat_lt 0 (length front)) front (in_order l)) h.0.2
+      ∙ one_kept (nat_lt 0 (length front)) front i is v (h.0.3.0 ∙ ap (λ (v : A). Ok v) same) in
       rw (long_enough front v, h.0.3.1) (sym one ∙ told)
   goes_on s t front v (Err e') total e h told = absurd cc
 
   -- a box comes, and there is no memory to keep it
-  pub is_full : (s t : Progress) (front : List A) (v : A) (r : Result A Error) (total : Reading (List A)) → r ≡ Ok v → GivesBox known reading s (Some r) t
-      → continue_with (nat_lt 0 (length front)) front (in_order (left known reading s)) ≡ total → total.asks_memory ≡ true
+  pub is_full : (s t : Progress) (front : List A) (v : A) (r : Result A Error) (total : Reading (List A)) → r ≡ Ok v
+      → GivesBox known reading s (Some r) t
+      → continue_with (nat_lt 0 (length front)) front (in_order (left known reading s)) ≡ total
+      → total.asks_memory ≡ true
   is_full s t front v r total e h told =
-      ap (λ (r : Reading (List A)). r.asks_memory) (sym (goes_on s t front v r total e h told) ∙ ap (λ (b : Bool). continue_with b (front ++ v ∷ []) (in_order (left known reading t))) (long_enough front v))
+      ap (λ (r : Reading (List A)). r.asks_memory)
+      (sym (goes_on s t front v r total e h told)
+      ∙ ap (λ (b : Bool). continue_with b (front ++ v ∷ []) (in_order (left known reading t)))
+      (long_enough front v))
 
   -- a fault comes
-  pub stops : (s t : Progress) (front : List A) (e : Error) (r : Result A Error) (total : Reading (List A)) → r ≡ Err e → GivesBox known reading s (Some r) t
+  pub stops : (s t : Progress) (front : List A) (e : Error) (r : Result A Error) (total : Reading (List A)) → r ≡ Err e
+      → GivesBox known reading s (Some r) t
       → continue_with (nat_lt 0 (length front)) front (in_order (left known reading s)) ≡ total → Refuses e total
   stops s t front e (Ok v) total is h told = absurd cc
   stops s t front e (Err e') total is h told =
       let same : e' ≡ e = cc is in
-      let one : continue_with (nat_lt 0 (length front)) front (in_order (h.0.0 ∷ h.0.1)) ≡ total = ap (λ (l : List (Item A)). continue_with (nat_lt 0 (length front)) front (in_order l)) (sym h.0.2) ∙ told in
-      subst (λ (e : Error). Refuses e total) same (subst (λ (r : Reading (List A)). Refuses e' r) one (one_refuses (nat_lt 0 (length front)) front h.0.0 h.0.1 e' h.0.3.0))
+      let one : continue_with (nat_lt 0 (length front)) front (in_order (h.0.0 ∷ h.0.1)) ≡ total =
+      ap (λ (l : List (Item A)). continue_with (nat_lt 0 (length front)) front (in_order l)) (sym h.0.2) ∙ told in
+      subst (λ (e : Error). Refuses e total) same
+      (subst (λ (r : Reading (List A)). Refuses e' r) one
+      (one_refuses (nat_lt 0 (length front)) front h.0.0 h.0.1 e' h.0.3.0))
 
   -- nothing more comes
   pub is_over : (s t : Progress) (front : List A) (total : Reading (List A)) → GivesBox known reading s None t
-      → continue_with (nat_lt 0 (length front)) front (in_order (left known reading s)) ≡ total → total.outcome ≡ Ok front
+      → continue_with (nat_lt 0 (length front)) front (in_order (left known reading s)) ≡ total
+      → total.outcome ≡ Ok front
   is_over s t front total h told =
-      ap (λ (r : Reading (List A)). r.outcome) (sym told ∙ ap (λ (l : List (Item A)). continue_with (nat_lt 0 (length front)) front (in_order l)) h.0.0) ∙ ap (λ (l : List A). Ok l) (append-nil front)
+      ap (λ (r : Reading (List A)). r.outcome)
+      (sym told ∙ ap (λ (l : List (Item A)). continue_with (nat_lt 0 (length front)) front (in_order l)) h.0.0)
+      ∙ ap (λ (l : List A). Ok l) (append-nil front)
 
-  ok_in_front : (i : Item A) (is : List (Item A)) (v : A) (vs : List A) → i.reading.outcome ≡ Ok v → (in_order is).outcome ≡ Ok vs → (in_order (i ∷ is)).outcome ≡ Ok (v ∷ vs)
+  ok_in_front : (i : Item A) (is : List (Item A)) (v : A) (vs : List A) → i.reading.outcome ≡ Ok v
+      → (in_order is).outcome ≡ Ok vs → (in_order (i ∷ is)).outcome ≡ Ok (v ∷ vs)
   ok_in_front i is v vs e f =
-      ap (λ (o : Result A Fault). (and_then i.reading.asks_memory o (λ v. memory >>= λ _. in_order is >>= λ vs. done (v ∷ vs))).outcome) e
+      ap (λ (o : Result A Fault).
+      (and_then i.reading.asks_memory o (λ v. memory >>= λ _. in_order is >>= λ vs. done (v ∷ vs))).outcome) e
       ∙ ap (λ (o : Result (List A) Fault). (and_then (in_order is).asks_memory o (λ vs. done (v ∷ vs))).outcome) f
 
-  err_in_front : (i : Item A) (is : List (Item A)) (v : A) (k : Fault) → i.reading.outcome ≡ Ok v → (in_order is).outcome ≡ Err k → (in_order (i ∷ is)).outcome ≡ Err k
+  err_in_front : (i : Item A) (is : List (Item A)) (v : A) (k : Fault) → i.reading.outcome ≡ Ok v
+      → (in_order is).outcome ≡ Err k → (in_order (i ∷ is)).outcome ≡ Err k
   err_in_front i is v k e f =
-      ap (λ (o : Result A Fault). (and_then i.reading.asks_memory o (λ v. memory >>= λ _. in_order is >>= λ vs. done (v ∷ vs))).outcome) e
+      ap (λ (o : Result A Fault).
+      (and_then i.reading.asks_memory o (λ v. memory >>= λ _. in_order is >>= λ vs. done (v ∷ vs))).outcome) e
       ∙ ap (λ (o : Result (List A) Fault). (and_then (in_order is).asks_memory o (λ vs. done (v ∷ vs))).outcome) f
 
-  asks_in_front : (a c : Bool) (o : Result A Fault) (w : Result (List A) Fault) (v : A) → o ≡ Ok v → (and_then a o (λ v. memory >>= λ _. and_then c w (λ vs. done (v ∷ vs)))).asks_memory ≡ true
+  asks_in_front : (a c : Bool) (o : Result A Fault) (w : Result (List A) Fault) (v : A) → o ≡ Ok v
+      → (and_then a o (λ v. memory >>= λ _. and_then c w (λ vs. done (v ∷ vs)))).asks_memory ≡ true
   asks_in_front true c (Ok u) w v e = refl
   asks_in_front false c (Ok u) w v e = refl
   asks_in_front a c (Err k) w v e = absurd cc
 
-  asks_first : (c : Bool) (o : Result A Fault) (w : Result (List A) Fault) → (and_then true o (λ v. memory >>= λ _. and_then c w (λ vs. done (v ∷ vs)))).asks_memory ≡ true
+  asks_first : (c : Bool) (o : Result A Fault) (w : Result (List A) Fault)
+      → (and_then true o (λ v. memory >>= λ _. and_then c w (λ vs. done (v ∷ vs)))).asks_memory ≡ true
   asks_first c (Ok u) w = refl
   asks_first c (Err k) w = refl
 
-  first_faults : (i : Item A) (is : List (Item A)) (k : Fault) → i.reading.outcome ≡ Err k → (in_order (i ∷ is)).outcome ≡ Err k
-  first_faults i is k e = ap (λ (o : Result A Fault). (and_then i.reading.asks_memory o (λ v. memory >>= λ _. in_order is >>= λ vs. done (v ∷ vs))).outcome) e
+  first_faults : (i : Item A) (is : List (Item A)) (k : Fault) → i.reading.outcome ≡ Err k
+      → (in_order (i ∷ is)).outcome ≡ Err k
+  first_faults i is k e =
+      ap (λ (o : Result A Fault).
+      (and_then i.reading.asks_memory o (λ v. memory >>= λ _. in_order is >>= λ vs. done (v ∷ vs))).outcome) e
 
   first_refuses : (i : Item A) (is : List (Item A)) (e : Error) → Refuses e i.reading → Refuses e (in_order (i ∷ is))
   first_refuses i is errors.IoError h = first_faults i is End h
   first_refuses i is (errors.InvalidData _) h = first_faults i is Invalid h
   first_refuses i is (errors.BoxNotFound n) h = first_faults i is (NotFound n) h
   first_refuses i is errors.OutOfMemory h =
-      ap (λ (b : Bool). (and_then b i.reading.outcome (λ v. memory >>= λ _. in_order is >>= λ vs. done (v ∷ vs))).asks_memory) h
+      ap (λ (b : Bool). (and_then b i.reading.outcome
+      (λ v. memory >>= λ _. in_order is >>= λ vs. done (v ∷ vs))).asks_memory) h
       ∙ asks_first (in_order is).asks_memory i.reading.outcome (in_order is).outcome
   first_refuses i is _ h = absurd h
 
-  rest_refuses : (i : Item A) (is : List (Item A)) (v : A) (e : Error) → i.reading.outcome ≡ Ok v → Refuses e (in_order is) → Refuses e (in_order (i ∷ is))
+  rest_refuses : (i : Item A) (is : List (Item A)) (v : A) (e : Error) → i.reading.outcome ≡ Ok v
+      → Refuses e (in_order is) → Refuses e (in_order (i ∷ is))
   rest_refuses i is v errors.IoError is_ok h = err_in_front i is v End is_ok h
   rest_refuses i is v (errors.InvalidData _) is_ok h = err_in_front i is v Invalid is_ok h
   rest_refuses i is v (errors.BoxNotFound n) is_ok h = err_in_front i is v (NotFound n) is_ok h
-  rest_refuses i is v errors.OutOfMemory is_ok h = asks_in_front i.reading.asks_memory (in_order is).asks_memory i.reading.outcome (in_order is).outcome v is_ok
+  rest_refuses i is v errors.OutOfMemory is_ok h =
+      asks_in_front i.reading.asks_memory (in_order is).asks_memory i.reading.outcome (in_order is).outcome v is_ok
   rest_refuses i is v _ is_ok h = absurd h
 
-  answers_in_front : (i : Item A) (is : List (Item A)) (v : A) (r : Result (List A) Error) → i.reading.outcome ≡ Ok v → AnswersAs (λ (vs : List A). vs) r (in_order is) → AnswersAs (λ (vs : List A). vs) (in_front v r) (in_order (i ∷ is))
+  answers_in_front : (i : Item A) (is : List (Item A)) (v : A) (r : Result (List A) Error) → i.reading.outcome ≡ Ok v
+      → AnswersAs (λ (vs : List A). vs) r (in_order is)
+      → AnswersAs (λ (vs : List A). vs) (in_front v r) (in_order (i ∷ is))
   answers_in_front i is v (Ok vs) e h = ok_in_front i is v vs e h
   answers_in_front i is v (Err k) e h = rest_refuses i is v k e h
 
-  collects_items : (s : Progress) (rs : List (Result A Error)) → Drains (GivesBox known reading) s rs → AnswersAs (λ (vs : List A). vs) (collected rs) (in_order (left known reading s))
+  collects_items : (s : Progress) (rs : List (Result A Error)) → Drains (GivesBox known reading) s rs
+      → AnswersAs (λ (vs : List A). vs) (collected rs) (in_order (left known reading s))
   collects_items s [] d = ap (λ (l : List (Item A)). (in_order l).outcome) (ap (left known reading) d.1.1 ∙ d.1.2.0.0)
   collects_items s (Ok v ∷ rs) d =
       let h = d.1.1.1.0 in
       let rest = collects_items d.1.1.0 rs (d.0, (d.1.0, d.1.1.2, d.1.2)) in
-      let one = answers_in_front h.0 h.1 v (collected rs) h.3.0 (subst (λ (l : List (Item A)). AnswersAs (λ (vs : List A). vs) (collected rs) (in_order l)) h.3.1 rest) in
-      subst (λ (l : List (Item A)). AnswersAs (λ (vs : List A). vs) (in_front v (collected rs)) (in_order l)) (sym h.2) one
+      let one = answers_in_front h.0 h.1 v (collected rs) h.3.0
+      (subst (λ (l : List (Item A)). AnswersAs (λ (vs : List A). vs) (collected rs) (in_order l)) h.3.1 rest) in
+      subst (λ (l : List (Item A)). AnswersAs (λ (vs : List A). vs) (in_front v (collected rs)) (in_order l))
+      (sym h.2) one
   collects_items s (Err e ∷ rs) d =
       let h = d.1.1.1.0 in
       subst (λ (l : List (Item A)). Refuses e (in_order l)) (sym h.2) (first_refuses h.0 h.1 e h.3.0)
 
-  pub collects : (s : Progress) (rs : List (Result A Error)) → Drains (GivesBox known reading) s rs → AnswersAs (λ (vs : List A). vs) (collected rs) (boxes_left known reading s)
+  pub collects : (s : Progress) (rs : List (Result A Error)) → Drains (GivesBox known reading) s rs
+      → AnswersAs (λ (vs : List A). vs) (collected rs) (boxes_left known reading s)
   collects s rs d = rw (left_in_order s) (collects_items s rs d)

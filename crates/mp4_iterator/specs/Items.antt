@@ -20,8 +20,8 @@ box_item reading B o f = record { begin = o; reading = reading f.name B f.start 
 abbrev pub fault_item : {A : Type 0} → ℕ → Fault → Item A
 fault_item o k = record { begin = o; reading = faults k; end = o }
 
--- the item of a frame of a known name, and then those of the rest of the buffer; any other frame is skipped, and a frame
--- at fault is the last item
+-- the item of a frame of a known name, and then those of the rest of the buffer; any other frame is skipped, and a
+-- frame at fault is the last item
 abbrev pub items_on : {A : Type 0} → (BoxType → Bool) → (BoxType → List ℕ → ℕ → ℕ → Reading A) → List ℕ → ℕ
     → (ℕ → List (Item A)) → Result Frame Fault → List (Item A)
 items_on known reading B o rest (Err k) = fault_item o k ∷ []

@@ -1,5 +1,6 @@
 -- How far an iterator over the boxes of a buffer is, and what a call of it gives.
-use Rattle.std.specs.Prelude.{ℕ, ◌≡◌, Bool, true, false, List, [], ◌∷◌, length, max, Option, Some, None, Result, Ok, Err, if◌then◌else◌}
+use Rattle.std.specs.Prelude.{ℕ, ◌≡◌, Bool, true, false, List, [], ◌∷◌, length, max, Option, Some, None, Result, Ok}
+use Rattle.std.specs.Prelude.{Err, if◌then◌else◌}
 use Rattle.mp4_frame.specs.Reading.{Reading, Refuses, done}
 use Rattle.mp4_frame.specs.Streams.{boxes, append_read}
 use Rattle.mp4_frame.specs.declared.box_type.BoxType.{BoxType}

@@ -87,17 +87,17 @@ impl<'a, B: StreamBox> Boxes<'a, B> {
         }
     }
 
-    /// How far it is, as an offset in the buffer: where the box ends that came last. After a fault it is where the box at
-    /// fault begins, and once nothing more came, the end of the buffer.
+    /// How far it is, as an offset in the buffer: where the box ends that came last. After a fault it is where the box
+    /// at fault begins, and once nothing more came, the end of the buffer.
     pub fn offset(&self) -> u64
         ensures { result ≡ self.now.offset }
     {
         self.offset
     }
 
-    /// Reads the next box into `place`, and returns whether there is one. It is what `next` gives, without a move of the
-    /// box. What was in `place` is dropped, and its memory is used again, so that one place serves for all boxes. It has
-    /// one box after `true`, and none after `false` and after an `Err`.
+    /// Reads the next box into `place`, and returns whether there is one. It is what `next` gives, without a move of
+    /// the box. What was in `place` is dropped, and its memory is used again, so that one place serves for all boxes.
+    /// It has one box after `true`, and none after `false` and after an `Err`.
     pub fn next_into(&mut self, place: &mut Vec<B>) -> Result<bool>
         ensures { GivesInto B.known B.named_reading self.old place.new.items result self.new }
     {

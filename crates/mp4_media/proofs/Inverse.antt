@@ -14,7 +14,8 @@ find_passes p (x ∷ vs) v h =
       | false ↦ λ _ h. find_passes p vs v h
     ] refl h
 
-pub inverse : {A K : Type 0} (key : A → K) (found : K → Option A) → ((v : A) → found (key v) ≡ Some v) → ((k : K) (v : A) → found k ≡ Some v → key v ≡ k) → IsInverse key found
+pub inverse : {A K : Type 0} (key : A → K) (found : K → Option A) → ((v : A) → found (key v) ≡ Some v)
+    → ((k : K) (v : A) → found k ≡ Some v → key v ≡ k) → IsInverse key found
 inverse key found own only = record {
   own = own;
   only = only;
@@ -27,16 +28,20 @@ inverse key found own only = record {
   );
 }
 
-pub by_number-inverse : {A : Type 0} (number : A → ℕ) (values : List A) → ((v : A) → by_number number values (number v) ≡ Some v) → IsInverse number (by_number number values)
+pub by_number-inverse : {A : Type 0} (number : A → ℕ) (values : List A)
+    → ((v : A) → by_number number values (number v) ≡ Some v) → IsInverse number (by_number number values)
 by_number-inverse number values own =
     inverse number (by_number number values) own (λ n v e. sym (eqb-true n (number v) (find_passes _ values v e)))
 
-pub by_text-inverse : {A : Type 0} (text : A → List ℕ) (values : List A) → ((v : A) → by_text text values (text v) ≡ Some v) → IsInverse text (by_text text values)
+pub by_text-inverse : {A : Type 0} (text : A → List ℕ) (values : List A)
+    → ((v : A) → by_text text values (text v) ≡ Some v) → IsInverse text (by_text text values)
 by_text-inverse text values own =
     inverse text (by_text text values) own (λ t v e. sym ((bytes_eq-Decides t (text v)).0 (find_passes _ values v e)))
 
 -- if a value that passes the check is always the one that is found, then the look-up selects it
-pub selects : {A K : Type 0} (has : A → K → Bool) (values : List A) → ((k : K) (v : A) → has v k ≡ true → find (λ w. has w k) values ≡ Some v) → Selects has (λ k. find (λ w. has w k) values)
+pub selects : {A K : Type 0} (has : A → K → Bool) (values : List A)
+    → ((k : K) (v : A) → has v k ≡ true → find (λ w. has w k) values ≡ Some v)
+    → Selects has (λ k. find (λ w. has w k) values)
 selects {A} {K} has values own =
     let found : K → Option A = λ k. find (λ w. has w k) values in
     let only : (k : K) (v : A) → found k ≡ Some v → has v k ≡ true = λ k v e. find_passes (λ w. has w k) values v e in

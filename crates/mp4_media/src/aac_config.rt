@@ -25,7 +25,12 @@ impl Default for AacConfig {
     ghost use Rattle.mp4_media.specs.declared.sample_freq_index.SampleFreqIndex.TheVariants.{Freq48000};
     ghost use Rattle.mp4_media.specs.declared.channel_config.ChannelConfig.TheVariants.{Stereo};
 
-    ghost is_default = { λ c. c ≡ record { bitrate = 0; profile = AacLowComplexity; freq_index = Freq48000; chan_conf = Stereo } };
+    ghost is_default = { λ c. c ≡ record {
+      bitrate = 0;
+      profile = AacLowComplexity;
+      freq_index = Freq48000;
+      chan_conf = Stereo;
+    } };
 
     fn default() -> Self {
         AacConfig {

@@ -1,5 +1,6 @@
 -- What changes in a stream is found, one box after the other.
-use Rattle.std.proofs.Common.{◌≡◌, ℕ, ◌<◌, ◌≤◌, Bool, true, false, ◌&&◌, List, [], ◌∷◌, ◌++◌, length, Result, Ok, Err, refl, ap, sym, subst, ◌∙◌, arith, inl, length-append}
+use Rattle.std.proofs.Common.{◌≡◌, ℕ, ◌<◌, ◌≤◌, Bool, true, false, ◌&&◌, List, [], ◌∷◌, ◌++◌, length, Result, Ok, Err}
+use Rattle.std.proofs.Common.{refl, ap, sym, subst, ◌∙◌, arith, inl, length-append}
 use Rattle.std.specs.Prelude.{nat_lt, not, All}
 use Rattle.std.proofs.lemmas.List.{flat_map_more, get_or_at, get_or_append_left}
 use Rattle.std.proofs.lemmas.List.Elements.{All-append, All-from_recursion}
@@ -38,19 +39,28 @@ longer : {X : Type 0} (vs : List X) (v : X) (k : ℕ) → k ≤ length vs → k 
 longer vs v k le = omega (arith, le, length-append vs (v ∷ []))
 
 front_of_all : {X : Type 0} (P : X → Type 0) (vs : List X) (v : X) → All P (vs ++ v ∷ []) → All P vs
-front_of_all P vs v all = λ k d lt. subst P (get_or_append_left vs (v ∷ []) d k lt) (all k d (longer vs v k (omega (arith, lt))))
+front_of_all P vs v all =
+    λ k d lt. subst P (get_or_append_left vs (v ∷ []) d k lt) (all k d (longer vs v k (omega (arith, lt))))
 
 last_of_all : {X : Type 0} (P : X → Type 0) (vs : List X) (v : X) → All P (vs ++ v ∷ []) → P v
-last_of_all P vs v all = subst P (get_or_at vs v [] v (length vs) refl) (all (length vs) v (longer vs v (length vs) (omega arith)))
+last_of_all P vs v all =
+    subst P (get_or_at vs v [] v (length vs) refl) (all (length vs) v (longer vs v (length vs) (omega arith)))
 
 -- one box more
-made_more : (vs : List KeptBox) (v : KeptBox) (old new : List ℕ) (can fits : Bool) → MadeIf vs old can → AppendsIf format_kept v old new fits → MadeIf (vs ++ v ∷ []) new (can && fits)
-made_more vs v old new true true h a = (all_more format_kept.Writable vs v h.0 a.0, a.1 ∙ ap (λ (l : List ℕ). l ++ format_kept.bytes v) h.1 ∙ flat_map_more format_kept.bytes [] vs v)
+made_more : (vs : List KeptBox) (v : KeptBox) (old new : List ℕ) (can fits : Bool) → MadeIf vs old can
+    → AppendsIf format_kept v old new fits → MadeIf (vs ++ v ∷ []) new (can && fits)
+made_more vs v old new true true h a = (
+  all_more format_kept.Writable vs v h.0 a.0,
+  a.1 ∙ ap (λ (l : List ℕ). l ++ format_kept.bytes v) h.1
+      ∙ flat_map_more format_kept.bytes [] vs v,
+)
 made_more vs v old new true false h a = λ all. a (last_of_all format_kept.Writable vs v all)
 made_more vs v old new false fits h a = λ all. h (front_of_all format_kept.Writable vs v all)
 
 -- the boxes in front are nothing to a fault
-in_list_of : (vs : List KeptBox) (asks : Bool) (o : Result KeptBox Fault) (e : Error) → Refuses e (append_read [] (record { asks_memory = asks; outcome = o })) → Refuses e (append_read vs (record { asks_memory = asks; outcome = o }))
+in_list_of : (vs : List KeptBox) (asks : Bool) (o : Result KeptBox Fault) (e : Error)
+    → Refuses e (append_read [] (record { asks_memory = asks; outcome = o }))
+    → Refuses e (append_read vs (record { asks_memory = asks; outcome = o }))
 in_list_of vs asks (Err k) e h = h
 in_list_of vs asks (Ok v) errors.IoError h = absurd cc
 in_list_of vs asks (Ok v) (errors.InvalidData _) h = absurd cc
@@ -58,18 +68,23 @@ in_list_of vs asks (Ok v) (errors.BoxNotFound name) h = absurd cc
 in_list_of vs asks (Ok v) errors.OutOfMemory h = h
 in_list_of vs asks (Ok v) _ h = absurd h
 
-alone : {X : Type 0} (asks : Bool) (o : Result (List X) Fault) → continue_with false [] (record { asks_memory = asks; outcome = o }) ≡ record { asks_memory = asks; outcome = o }
+alone : {X : Type 0} (asks : Bool) (o : Result (List X) Fault)
+    → continue_with false [] (record { asks_memory = asks; outcome = o }) ≡ record { asks_memory = asks; outcome = o }
 alone true (Ok xs) = refl
 alone false (Ok xs) = refl
 alone asks (Err k) = refl
 
 -- no box is read yet
-pub nothing_found : (B : List ℕ) (c : Changes) → c.list.items ≡ [] → AreBefore c (length c.fresh.items) 0 → SoFar B c true 0
+pub nothing_found : (B : List ℕ) (c : Changes) → c.list.items ≡ [] → AreBefore c (length c.fresh.items) 0
+    → SoFar B c true 0
 nothing_found B c none before =
     record {
       vs = [];
       told = alone (boxes_of B).asks_memory (boxes_of B).outcome;
-      made = (All-from_recursion format_kept.Writable [] tt, ap (λ (cs : List Change). made_from c.fresh.items B 0 0 0 cs) none);
+      made = (
+        All-from_recursion format_kept.Writable [] tt,
+        ap (λ (cs : List Change). made_from c.fresh.items B 0 0 0 cs) none,
+      );
       before = before;
       within = omega arith;
     }
@@ -77,22 +92,29 @@ nothing_found B c none before =
 module _ (B : List ℕ) (c : Changes) (can : Bool) (at : ℕ) (so_far : SoFar B c can at) (lt : at < length B) where
   -- its frame faults
   pub frame_refused : (e : Error) → FaultAs (Err e) (frame B at) → NormalRefuses B e
-  frame_refused e fault = inl (frame_faults known_kept reading_kept B (nat_lt 0 (length so_far.vs)) so_far.vs at e (boxes_of B) lt fault so_far.told)
+  frame_refused e fault =
+      inl (frame_faults known_kept reading_kept B (nat_lt 0 (length so_far.vs)) so_far.vs at e (boxes_of B) lt fault
+      so_far.told)
 
   module _ (f : Frame) (is : frame B at ≡ Ok f) (plain : is_disguised f.name ≡ false) where
     -- its box can't be read, or memory is refused
-    pub box_refused : (old new : List ℕ) (e : Error) → OneMade format_kept (reading_kept f.name B f.start f.size) old new (Err e) → NormalRefuses B e
+    pub box_refused : (old new : List ℕ) (e : Error)
+        → OneMade format_kept (reading_kept f.name B f.start f.size) old new (Err e) → NormalRefuses B e
     box_refused old new e refused =
         let r = reading_kept f.name B f.start f.size in
-        inl (append_read_faults known_kept reading_kept B so_far.vs at f e (boxes_of B) lt is (ap not plain) (in_list_of so_far.vs r.asks_memory r.outcome e refused) so_far.told)
+        inl (append_read_faults known_kept reading_kept B so_far.vs at f e (boxes_of B) lt is (ap not plain)
+        (in_list_of so_far.vs r.asks_memory r.outcome e refused) so_far.told)
 
     -- what changes in its box is found
-    pub one_more : (fits : Bool) (n : Changes) → OneMade format_kept (reading_kept f.name B f.start f.size) (made_of c B at) (made_of n B f.end) (Ok fits) → AreBefore n (length n.fresh.items) f.end
+    pub one_more : (fits : Bool) (n : Changes)
+        → OneMade format_kept (reading_kept f.name B f.start f.size) (made_of c B at) (made_of n B f.end) (Ok fits)
+        → AreBefore n (length n.fresh.items) f.end
         → f.end ≤ length B → SoFar B n (can && fits) f.end
     one_more fits n h before within =
         record {
           vs = so_far.vs ++ h.0 ∷ [];
-          told = one_kept (box_of known_kept reading_kept B) B so_far.vs h.0 at f (boxes_of B) lt is (item_known known_kept reading_kept B at f h.0 (ap not plain) h.1) so_far.told;
+          told = one_kept (box_of known_kept reading_kept B) B so_far.vs h.0 at f (boxes_of B) lt is
+              (item_known known_kept reading_kept B at f h.0 (ap not plain) h.1) so_far.told;
           made = made_more so_far.vs h.0 (made_of c B at) (made_of n B f.end) can fits so_far.made h.2;
           before = before;
           within = within;
@@ -100,18 +122,26 @@ module _ (B : List ℕ) (c : Changes) (can : Bool) (at : ℕ) (so_far : SoFar B 
 
 module _ (B : List ℕ) (c : Changes) (at : ℕ) (over : length B ≤ at) where
   all_boxes : {can : Bool} (so_far : SoFar B c can at) → (boxes_of B).outcome ≡ Ok so_far.vs
-  all_boxes so_far = all_read known_kept reading_kept B (nat_lt 0 (length so_far.vs)) so_far.vs at (boxes_of B) over so_far.told
+  all_boxes so_far = all_read known_kept reading_kept B (nat_lt 0 (length so_far.vs)) so_far.vs at (boxes_of B) over
+      so_far.told
 
   is_end : {can : Bool} → SoFar B c can at → at ≡ length B
   is_end so_far = omega (arith, over, so_far.within)
 
   -- what changes in all boxes is found
   pub all_found : SoFar B c true at → Normalizes B (made_of c B (length B))
-  all_found so_far = (so_far.vs, all_boxes so_far, so_far.made.0, ap (made_of c B) (sym (is_end so_far)) ∙ so_far.made.1)
+  all_found so_far = (
+    so_far.vs,
+    all_boxes so_far,
+    so_far.made.0,
+    ap (made_of c B) (sym (is_end so_far))
+        ∙ so_far.made.1,
+  )
 
   pub all_before : {can : Bool} → SoFar B c can at → AreBefore c (length c.fresh.items) (length B)
   all_before so_far = subst (AreBefore c (length c.fresh.items)) (is_end so_far) so_far.before
 
   -- one of them can't be written
-  pub some_refused : SoFar B c false at → (vs : List KeptBox) × ((boxes_of B).outcome ≡ Ok vs) × (¬ All format_kept.Writable vs)
+  pub some_refused : SoFar B c false at → (vs : List KeptBox) × ((boxes_of B).outcome ≡ Ok vs)
+      × (¬ All format_kept.Writable vs)
   some_refused so_far = (so_far.vs, all_boxes so_far, so_far.made)

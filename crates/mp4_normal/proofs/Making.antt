@@ -1,5 +1,6 @@
 -- The changes of a stream are made in its bytes, one after the other.
-use Rattle.std.proofs.Common.{◌≡◌, ℕ, suc, ◌+◌, ◌-◌, ◌<◌, ◌≤◌, List, [], ◌∷◌, ◌++◌, length, take, drop, refl, ap, sym, subst, ◌∙◌, arith, append_assoc}
+use Rattle.std.proofs.Common.{◌≡◌, ℕ, suc, ◌+◌, ◌-◌, ◌<◌, ◌≤◌, List, [], ◌∷◌, ◌++◌, length, take, drop, refl, ap, sym}
+use Rattle.std.proofs.Common.{subst, ◌∙◌, arith, append_assoc}
 use Rattle.std.specs.Prelude.{get_or}
 use Rattle.std.proofs.Math.Seq.{drop-cons}
 use Rattle.std.proofs.lemmas.List.{drop-drop}
@@ -12,7 +13,8 @@ use Rattle.mp4_normal.proofs.Parts.{part_of_end}
 -- the changes before i are made, and the bytes of the stream S that follow them are where they were
 pub record SoMade (c : Changes) (S bytes : List ℕ) (m : Made) (i : ℕ) : Type 0 where
   pub lost : ℕ
-  pub whole : take m.done bytes ++ made_from c.fresh.items S (length S) m.begin m.from (drop i c.list.items) ≡ made_of c S (length S)
+  pub whole : take m.done bytes ++ made_from c.fresh.items S (length S) m.begin m.from (drop i c.list.items)
+      ≡ made_of c S (length S)
   pub rest : drop (m.begin + c.growth) bytes ≡ drop m.begin S
   pub order : InOrder c.growth (length S) (length c.fresh.items) c.gone m.begin m.from lost (drop i c.list.items)
   pub place : m.done + lost ≡ m.begin + m.from
@@ -28,7 +30,8 @@ drop_from xs ys o n le same =
     subst (λ (k : ℕ). drop k xs ≡ drop k ys) is (drop_both xs ys o o (n - o) same)
 
 -- the change at an index, and those after it
-pub next_of : (cs : List Change) (i : ℕ) (x : Change) → i < length cs → x ≡ get_or cs i x → drop i cs ≡ x ∷ drop (i + 1) cs
+pub next_of : (cs : List Change) (i : ℕ) (x : Change) → i < length cs → x ≡ get_or cs i x
+    → drop i cs ≡ x ∷ drop (i + 1) cs
 next_of cs i x lt is =
     let next : suc i ≡ i + 1 = omega arith in
     drop-cons cs i x lt ∙ ap (λ (y : Change). y ∷ drop (suc i) cs) (sym is) ∙ ap (λ (k : ℕ). x ∷ drop k cs) next
@@ -52,23 +55,32 @@ module _ (c : Changes) (S bytes : List ℕ) (m : Made) (i : ℕ) (so_made : SoMa
     within = omega (arith, order.2, so_made.len)
 
     -- one change more
-    module _ (after : List ℕ) (n : Made) (begins : n.begin ≡ x.end) (uses : n.from ≡ x.to) (is_done : n.done ≡ m.done + (x.begin - m.begin) + (x.to - m.from)) where
-      whole_more : take n.done after ≡ take m.done bytes ++ (part bytes (m.begin + c.growth) (x.begin + c.growth) ++ part c.fresh.items m.from x.to)
-          → take n.done after ++ made_from c.fresh.items S (length S) n.begin n.from (drop (i + 1) c.list.items) ≡ made_of c S (length S)
+    module _ (after : List ℕ) (n : Made) (begins : n.begin ≡ x.end) (uses : n.from ≡ x.to)
+        (is_done : n.done ≡ m.done + (x.begin - m.begin) + (x.to - m.from)) where
+      whole_more : take n.done after
+          ≡ take m.done bytes ++
+          (part bytes (m.begin + c.growth) (x.begin + c.growth) ++ part c.fresh.items m.from x.to)
+          → take n.done after ++ made_from c.fresh.items S (length S) n.begin n.from (drop (i + 1) c.list.items)
+          ≡ made_of c S (length S)
       whole_more made =
           let front = take m.done bytes in
           let put = part c.fresh.items m.from x.to in
           let left = made_from c.fresh.items S (length S) x.end x.to (drop (i + 1) c.list.items) in
-          let moved : part bytes (m.begin + c.growth) (x.begin + c.growth) ≡ part S m.begin x.begin = part_of_end bytes S c.growth m.begin x.begin so_made.rest in
-          ap (λ (l : List ℕ). l ++ made_from c.fresh.items S (length S) n.begin n.from (drop (i + 1) c.list.items)) (made ∙ ap (λ (l : List ℕ). front ++ (l ++ put)) moved)
-          ∙ ap (λ (k : ℕ). (front ++ (part S m.begin x.begin ++ put)) ++ made_from c.fresh.items S (length S) k n.from (drop (i + 1) c.list.items)) begins
-          ∙ ap (λ (k : ℕ). (front ++ (part S m.begin x.begin ++ put)) ++ made_from c.fresh.items S (length S) x.end k (drop (i + 1) c.list.items)) uses
+          let moved : part bytes (m.begin + c.growth) (x.begin + c.growth) ≡ part S m.begin x.begin =
+          part_of_end bytes S c.growth m.begin x.begin so_made.rest in
+          ap (λ (l : List ℕ). l ++ made_from c.fresh.items S (length S) n.begin n.from (drop (i + 1) c.list.items))
+          (made ∙ ap (λ (l : List ℕ). front ++ (l ++ put)) moved)
+          ∙ ap (λ (k : ℕ). (front ++ (part S m.begin x.begin ++ put)) ++ made_from c.fresh.items S (length S) k n.from
+          (drop (i + 1) c.list.items)) begins
+          ∙ ap (λ (k : ℕ). (front ++ (part S m.begin x.begin ++ put)) ++ made_from c.fresh.items S (length S) x.end k
+          (drop (i + 1) c.list.items)) uses
           ∙ append_assoc front (part S m.begin x.begin ++ put) left
           ∙ ap (λ (l : List ℕ). front ++ l) (append_assoc (part S m.begin x.begin) put left)
           ∙ ap (λ (cs : List Change). front ++ made_from c.fresh.items S (length S) m.begin m.from cs) (sym next)
           ∙ so_made.whole
 
-      rest_more : drop (x.end + c.growth) after ≡ drop (x.end + c.growth) bytes → drop (n.begin + c.growth) after ≡ drop n.begin S
+      rest_more : drop (x.end + c.growth) after ≡ drop (x.end + c.growth) bytes
+          → drop (n.begin + c.growth) after ≡ drop n.begin S
       rest_more same =
           let k = x.end - m.begin in
           let old : x.end + c.growth ≡ (m.begin + c.growth) + k = omega (arith, order.0, order.1) in
@@ -79,8 +91,11 @@ module _ (c : Changes) (S bytes : List ℕ) (m : Made) (i : ℕ) (so_made : SoMa
           ∙ drop_both bytes S (m.begin + c.growth) m.begin k so_made.rest
           ∙ ap (λ (o : ℕ). drop o S) new
 
-      pub one_more : take n.done after ≡ take m.done bytes ++ (part bytes (m.begin + c.growth) (x.begin + c.growth) ++ part c.fresh.items m.from x.to)
-          → drop (x.end + c.growth) after ≡ drop (x.end + c.growth) bytes → length after ≡ length bytes → SoMade c S after n (i + 1)
+      pub one_more : take n.done after
+          ≡ take m.done bytes ++
+          (part bytes (m.begin + c.growth) (x.begin + c.growth) ++ part c.fresh.items m.from x.to)
+          → drop (x.end + c.growth) after ≡ drop (x.end + c.growth) bytes → length after ≡ length bytes
+          → SoMade c S after n (i + 1)
       one_more made same len =
           record {
             lost = so_made.lost + (x.end - x.begin);
@@ -95,24 +110,30 @@ module _ (c : Changes) (S bytes : List ℕ) (m : Made) (i : ℕ) (so_made : SoMa
   -- all are made
   module _ (none : drop i c.list.items ≡ []) where
     last : (m.begin ≤ length S) × (m.from ≡ length c.fresh.items) × (so_made.lost ≡ c.gone)
-    last = subst (InOrder c.growth (length S) (length c.fresh.items) c.gone m.begin m.from so_made.lost) none so_made.order
+    last = subst (InOrder c.growth (length S) (length c.fresh.items) c.gone m.begin m.from so_made.lost) none
+        so_made.order
 
     pub last_within : m.begin + c.growth ≤ length bytes
     last_within = omega (arith, last.0, so_made.len)
 
     -- the last bytes of the stream are moved
-    pub all_made : (after : List ℕ) → take (m.done + (length bytes - (m.begin + c.growth))) after ≡ take m.done bytes ++ part bytes (m.begin + c.growth) (length bytes)
+    pub all_made : (after : List ℕ)
+        → take (m.done + (length bytes - (m.begin + c.growth))) after
+        ≡ take m.done bytes ++ part bytes (m.begin + c.growth) (length bytes)
         → take (m.done + (length bytes - (m.begin + c.growth))) after ≡ made_of c S (length S)
     all_made after moved =
         let same : part bytes (m.begin + c.growth) (length bytes) ≡ part S m.begin (length S) =
-        ap (part bytes (m.begin + c.growth)) so_made.len ∙ part_of_end bytes S c.growth m.begin (length S) so_made.rest in
+        ap (part bytes (m.begin + c.growth)) so_made.len
+        ∙ part_of_end bytes S c.growth m.begin (length S) so_made.rest in
         moved
         ∙ ap (λ (l : List ℕ). take m.done bytes ++ l) same
-        ∙ ap (λ (cs : List Change). take m.done bytes ++ made_from c.fresh.items S (length S) m.begin m.from cs) (sym none)
+        ∙ ap (λ (cs : List Change). take m.done bytes ++ made_from c.fresh.items S (length S) m.begin m.from cs)
+        (sym none)
         ∙ so_made.whole
 
 -- nothing is made yet
-pub none_made : (c : Changes) (bytes : List ℕ) (m : Made) → m.begin ≡ 0 → m.from ≡ 0 → m.done ≡ 0 → c.growth ≤ length bytes → length (drop c.growth bytes) + c.growth ≡ length bytes
+pub none_made : (c : Changes) (bytes : List ℕ) (m : Made) → m.begin ≡ 0 → m.from ≡ 0 → m.done ≡ 0
+    → c.growth ≤ length bytes → length (drop c.growth bytes) + c.growth ≡ length bytes
     → AreBefore c (length c.fresh.items) (length (drop c.growth bytes)) → SoMade c (drop c.growth bytes) bytes m 0
 none_made c bytes m begins uses is_done fit len before =
     let there : m.begin + c.growth ≡ c.growth = omega (arith, begins) in

@@ -1,5 +1,6 @@
 -- Parts of a list: next to one another, and of a list that goes on.
-use Rattle.std.proofs.Common.{◌≡◌, ℕ, ◌+◌, ◌-◌, ◌≤◌, List, ◌++◌, length, take, drop, ap, sym, ◌∙◌, arith, length-append, length-drop}
+use Rattle.std.proofs.Common.{◌≡◌, ℕ, ◌+◌, ◌-◌, ◌≤◌, List, ◌++◌, length, take, drop, ap, sym, ◌∙◌, arith, length-append}
+use Rattle.std.proofs.Common.{length-drop}
 use Rattle.std.proofs.Math.Seq.{take-add}
 use Rattle.std.proofs.lemmas.List.{drop-drop, drop-append-le, take-append-le, take_all, drop_at}
 use Rattle.mp4_normal.specs.Changes.{part}
@@ -10,7 +11,8 @@ part_joined xs b m e first second =
     let is : m ≡ b + (m - b) = omega (arith, first) in
     let long : e - b ≡ (m - b) + (e - m) = omega (arith, first, second) in
     let after : drop m xs ≡ drop (m - b) (drop b xs) = ap (λ (n : ℕ). drop n xs) is ∙ sym (drop-drop (m - b) b xs) in
-    ap (λ (l : List ℕ). part xs b m ++ take (e - m) l) after ∙ sym (take-add (m - b) (e - m) (drop b xs)) ∙ ap (λ (n : ℕ). take n (drop b xs)) (sym long)
+    ap (λ (l : List ℕ). part xs b m ++ take (e - m) l) after ∙ sym (take-add (m - b) (e - m) (drop b xs))
+    ∙ ap (λ (n : ℕ). take n (drop b xs)) (sym long)
 
 -- bytes that are appended are in no part before them
 pub part_before : (xs more : List ℕ) (b e : ℕ) → b ≤ e → e ≤ length xs → part (xs ++ more) b e ≡ part xs b e

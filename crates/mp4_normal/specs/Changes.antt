@@ -1,5 +1,6 @@
 -- What changes in a stream: bytes that give way to others, from left to right.
-use Rattle.std.specs.Prelude.{◌≡◌, ℕ, ◌+◌, ◌-◌, ◌≤◌, Bool, true, false, List, [], ◌∷◌, ◌++◌, take, drop, Result, Ok, Err}
+use Rattle.std.specs.Prelude.{◌≡◌, ℕ, ◌+◌, ◌-◌, ◌≤◌, Bool, true, false, List, [], ◌∷◌, ◌++◌, take, drop, Result, Ok}
+use Rattle.std.specs.Prelude.{Err}
 use Rattle.mp4_frame.specs.Format.{Format}
 use Rattle.mp4_frame.specs.Reading.{Reading, Refuses}
 use Rattle.mp4_frame.specs.Streams.{append_read}
@@ -16,7 +17,8 @@ part xs b e = take (e - b) (drop b xs)
 -- those before `from` are used
 abbrev pub made_from : List ℕ → List ℕ → ℕ → ℕ → ℕ → List Change → List ℕ
 made_from fresh stream at begin from [] = part stream begin at
-made_from fresh stream at begin from (c ∷ cs) = part stream begin c.begin ++ (part fresh from c.to ++ made_from fresh stream at c.end c.to cs)
+made_from fresh stream at begin from (c ∷ cs) =
+    part stream begin c.begin ++ (part fresh from c.to ++ made_from fresh stream at c.end c.to cs)
 
 -- what becomes of the stream's bytes before `at`
 abbrev pub made_of : Changes → List ℕ → ℕ → List ℕ
@@ -28,7 +30,8 @@ module _ (growth at used gone : ℕ) where
   -- way.
   abbrev pub InOrder : ℕ → ℕ → ℕ → List Change → Type 0
   InOrder begin from lost [] = (begin ≤ at) × (from ≡ used) × (lost ≡ gone)
-  InOrder begin from lost (c ∷ cs) = (begin ≤ c.begin) × (c.begin ≤ c.end) × (c.end ≤ at) × (from ≤ c.to) × (c.to ≤ used)
+  InOrder begin from lost (c ∷ cs) = (begin ≤ c.begin) × (c.begin ≤ c.end) × (c.end ≤ at) × (from ≤ c.to)
+      × (c.to ≤ used)
       × (c.to ≤ lost + (c.end - c.begin) + growth) × InOrder c.end c.to (lost + (c.end - c.begin)) cs
 
 -- the changes are of the bytes before `at`, and have used this number of new bytes

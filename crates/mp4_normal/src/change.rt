@@ -52,7 +52,9 @@ impl Changes {
         requires within { end ≤ length stream.now }
         requires fresh { from ≤ length self.old.fresh.items }
         requires before { AreBefore self.old from begin }
-        ensures made { OnOk result (made_of self.new stream.now end ≡ made_from (take from self.old.fresh.items) stream.now begin 0 0 self.old.list.items ++ drop from self.old.fresh.items) }
+        ensures made { OnOk result
+            (made_of self.new stream.now end ≡ made_from (take from self.old.fresh.items) stream.now begin 0 0
+            self.old.list.items ++ drop from self.old.fresh.items) }
         ensures before { OnOk result (AreBefore self.new (length self.new.fresh.items) end) }
         ensures error { IfErr result (λ e. e ≡ OutOfMemory) }
     {

@@ -1,6 +1,7 @@
 //! The first walk over a stream: what changes in it.
 
-ghost use Rattle.std.specs.Prelude.{◌≡◌, ◌+◌, ◌<◌, ◌≤◌, ◌^◌, ◌++◌, ◌∷◌, [], false, length, IsTrue, MatchResult, OnOk, IfErr, IfOk};
+ghost use Rattle.std.specs.Prelude.{◌≡◌, ◌+◌, ◌<◌, ◌≤◌, ◌^◌, ◌++◌, ◌∷◌, [], false, length, IsTrue, MatchResult, OnOk};
+ghost use Rattle.std.specs.Prelude.{IfErr, IfOk};
 ghost use Rattle.mp4_frame.specs.BoxType.{code_of, is_disguised};
 ghost use Rattle.mp4_frame.specs.Bytes.{bytes_of_fields};
 ghost use Rattle.mp4_frame.specs.Laws.{AreBytes};
@@ -36,7 +37,8 @@ fn replace_by<B: WriteBox>(
     requires order { begin ≤ end }
     requires within { end ≤ length stream.now }
     requires before { AreBefore changes.old (length changes.old.fresh.items) begin }
-    ensures made { OnOk result (made_of changes.new stream.now end ≡ made_of changes.old stream.now begin ++ B.format.bytes value.now) }
+    ensures made { OnOk result
+        (made_of changes.new stream.now end ≡ made_of changes.old stream.now begin ++ B.format.bytes value.now) }
     ensures before { OnOk result (AreBefore changes.new (length changes.new.fresh.items) end) }
     ensures error { IfErr result (λ e. e ≡ OutOfMemory) }
 {
@@ -45,13 +47,16 @@ fn replace_by<B: WriteBox>(
     changes.replace(stream, from, begin, end)
 }
 
-/// Has a header of 8 bytes replace the one of the box of this frame that begins at `at`. The only error is out of memory.
+/// Has a header of 8 bytes replace the one of the box of this frame that begins at `at`. The only error is out of
+/// memory.
 fn replace_header(changes: &mut Changes, stream: &[u8], at: usize, frame: &Frame) -> Result<()>
     requires small { frame.now.size < 2 ^ 32 }
     requires begins { at ≤ frame.now.start }
     requires within { frame.now.start + 8 ≤ length stream.now }
     requires before { AreBefore changes.old (length changes.old.fresh.items) at }
-    ensures made { OnOk result (made_of changes.new stream.now (frame.now.start + 8) ≡ made_of changes.old stream.now at ++ bytes_of_fields ((4, frame.now.size) ∷ (4, code_of frame.now.name) ∷ [])) }
+    ensures made { OnOk result
+        (made_of changes.new stream.now (frame.now.start + 8) ≡ made_of changes.old stream.now at
+        ++ bytes_of_fields ((4, frame.now.size) ∷ (4, code_of frame.now.name) ∷ [])) }
     ensures before { OnOk result (AreBefore changes.new (length changes.new.fresh.items) (frame.now.start + 8)) }
     ensures error { IfErr result (λ e. e ≡ OutOfMemory) }
 {
@@ -60,8 +65,8 @@ fn replace_header(changes: &mut Changes, stream: &[u8], at: usize, frame: &Frame
     changes.replace(stream, from, at, frame.start as usize + 8)
 }
 
-/// Finds what changes in the box of another code that begins at `at`: its header at most. Returns whether the box can be
-/// written. The only error is out of memory.
+/// Finds what changes in the box of another code that begins at `at`: its header at most. Returns whether the box can
+/// be written. The only error is out of memory.
 fn find_in_other(changes: &mut Changes, stream: &[u8], at: usize, frame: &Frame) -> Result<bool>
     requires untyped { is_typed (code_of frame.now.name) ≡ false }
     requires begins { at ≤ frame.now.start }
@@ -69,7 +74,9 @@ fn find_in_other(changes: &mut Changes, stream: &[u8], at: usize, frame: &Frame)
     requires least { 8 ≤ frame.now.size }
     requires within { frame.now.end ≤ length stream.now }
     requires before { AreBefore changes.old (length changes.old.fresh.items) at }
-    ensures made { IfOk result (λ can. AppendsIf format_other (other_at (code_of frame.now.name) stream.now frame.now.start frame.now.size) (made_of changes.old stream.now at) (made_of changes.new stream.now frame.now.end) can) }
+    ensures made { IfOk result
+        (λ can. AppendsIf format_other (other_at (code_of frame.now.name) stream.now frame.now.start frame.now.size)
+        (made_of changes.old stream.now at) (made_of changes.new stream.now frame.now.end) can) }
     ensures before { OnOk result (AreBefore changes.new (length changes.new.fresh.items) frame.now.end) }
     ensures error { IfErr result (λ e. e ≡ OutOfMemory) }
 {
@@ -98,7 +105,8 @@ fn find_in_typed<B: StreamBox>(
     requires header { frame.now.start + 8 ≤ frame.now.end }
     requires within { frame.now.end ≤ length stream.now }
     requires before { AreBefore changes.old (length changes.old.fresh.items) at }
-    ensures made { OneMade B.format (B.named_reading frame.now.name stream.now frame.now.start frame.now.size) (made_of changes.old stream.now at) (made_of changes.new stream.now frame.now.end) result }
+    ensures made { OneMade B.format (B.named_reading frame.now.name stream.now frame.now.start frame.now.size)
+        (made_of changes.old stream.now at) (made_of changes.new stream.now frame.now.end) result }
     ensures before { OnOk result (AreBefore changes.new (length changes.new.fresh.items) frame.now.end) }
 {
     slot.clear();
@@ -126,7 +134,8 @@ fn find_in_box(
     requires header { frame.now.start + 8 ≤ frame.now.end }
     requires within { frame.now.end ≤ length stream.now }
     requires before { AreBefore changes.old (length changes.old.fresh.items) at }
-    ensures made { OneMade format_kept (reading_kept frame.now.name stream.now frame.now.start frame.now.size) (made_of changes.old stream.now at) (made_of changes.new stream.now frame.now.end) result }
+    ensures made { OneMade format_kept (reading_kept frame.now.name stream.now frame.now.start frame.now.size)
+        (made_of changes.old stream.now at) (made_of changes.new stream.now frame.now.end) result }
     ensures before { OnOk result (AreBefore changes.new (length changes.new.fresh.items) frame.now.end) }
 {
     if AnyBox::knows(frame.name) {
@@ -140,7 +149,8 @@ fn find_in_box(
 /// What changes in a stream when it becomes that of its boxes in their normal form. Invalid data also if a box that was
 /// read can't be written.
 pub fn find_changes(alloc: Global, stream: &[u8]) -> Result<Changes>
-    ensures answer { MatchResult result (λ c. Normalizes stream.now (made_of c stream.now (length stream.now))) (λ e. NormalRefuses stream.now e) }
+    ensures answer { MatchResult result (λ c. Normalizes stream.now (made_of c stream.now (length stream.now)))
+        (λ e. NormalRefuses stream.now e) }
     ensures before { IfOk result (λ c. AreBefore c (length c.fresh.items) (length stream.now)) }
 {
     let mut changes = Changes::none(alloc);

@@ -57,7 +57,8 @@ fn make_room(bytes: &mut Vec<u8>, growth: usize) -> Result<()>
     Ok(())
 }
 
-/// Makes one change: the stream's bytes before it move to what is made, and the new bytes follow. The stream's bytes are
+/// Makes one change: the stream's bytes before it move to what is made, and the new bytes follow. The stream's bytes
+/// are
 /// `growth` behind their offsets.
 fn make_change(bytes: &mut [u8], fresh: &[u8], growth: usize, made: Made, change: Change) -> Made
     requires begin { made.begin ≤ change.begin }
@@ -67,7 +68,8 @@ fn make_change(bytes: &mut [u8], fresh: &[u8], growth: usize, made: Made, change
     requires to { change.to ≤ length fresh.now }
     requires behind { made.done ≤ made.begin + growth }
     requires room { made.done + (change.begin - made.begin) + (change.to - made.from) ≤ change.end + growth }
-    ensures made { take result.done bytes.new ≡ take made.done bytes.old ++ (part bytes.old (made.begin + growth) (change.begin + growth) ++ part fresh.now made.from change.to) }
+    ensures made { take result.done bytes.new ≡ take made.done bytes.old
+        ++ (part bytes.old (made.begin + growth) (change.begin + growth) ++ part fresh.now made.from change.to) }
     ensures len { length bytes.new ≡ length bytes.old }
     ensures rest { drop (change.end + growth) bytes.new ≡ drop (change.end + growth) bytes.old }
     ensures begin { result.begin ≡ change.end }
@@ -84,12 +86,14 @@ fn make_change(bytes: &mut [u8], fresh: &[u8], growth: usize, made: Made, change
     }
 }
 
-/// Makes all changes in the bytes of a stream, and moves its last bytes to what is made. Returns how many bytes are made.
-/// The stream is at the end of the bytes.
+/// Makes all changes in the bytes of a stream, and moves its last bytes to what is made. Returns how many bytes are
+/// made. The stream is at the end of the bytes.
 fn make_all(bytes: &mut [u8], changes: &Changes) -> usize
     requires room { changes.now.growth ≤ length bytes.old }
-    requires before { AreBefore changes.now (length changes.now.fresh.items) (length (drop changes.now.growth bytes.old)) }
-    ensures made { take result bytes.new ≡ made_of changes.now (drop changes.now.growth bytes.old) (length (drop changes.now.growth bytes.old)) }
+    requires before { AreBefore changes.now (length changes.now.fresh.items)
+        (length (drop changes.now.growth bytes.old)) }
+    ensures made { take result bytes.new ≡ made_of changes.now (drop changes.now.growth bytes.old)
+        (length (drop changes.now.growth bytes.old)) }
     ensures len { length bytes.new ≡ length bytes.old }
     ensures within { result ≤ length bytes.new }
 {

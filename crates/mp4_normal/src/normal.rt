@@ -8,14 +8,15 @@ use crate::make::make;
 use mp4_stream::Result;
 use std::alloc::Global;
 
-/// The stream in the vector becomes that of its boxes in their normal form, boxes of types that the codec does not read as
-/// they are. An error is the first fault, invalid data also if a box that was read can't be written, or out of memory.
-/// After an `Err` the vector is as it was.
+/// The stream in the vector becomes that of its boxes in their normal form, boxes of types that the codec does not read
+/// as they are. An error is the first fault, invalid data also if a box that was read can't be written, or out of
+/// memory. After an `Err` the vector is as it was.
 ///
-/// The bytes that change are made first, and then put into the vector. It grows only if what is made of some first boxes is
-/// longer than they were.
+/// The bytes that change are made first, and then put into the vector. It grows only if what is made of some first
+/// boxes is longer than they were.
 pub fn normalize(alloc: Global, bytes: &mut Vec<u8>) -> Result<()>
-    ensures answer { MatchResult result (λ _. Normalizes bytes.old.items bytes.new.items) (λ e. NormalRefuses bytes.old.items e) }
+    ensures answer { MatchResult result (λ _. Normalizes bytes.old.items bytes.new.items)
+        (λ e. NormalRefuses bytes.old.items e) }
     ensures kept { OnErr result (bytes.new.items ≡ bytes.old.items) }
 {
     let changes = find_changes(alloc, bytes)?;

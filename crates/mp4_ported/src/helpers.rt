@@ -60,8 +60,8 @@ pub fn expect_value<B: BoxLaws + PartialEq + Drop>(
     expect_value_to(alloc, value, bytes, size, size)
 }
 
-/// Expects that a box of this size is read as the value, and that the cursor is then at `end`: after the size, or after the
-/// bytes that a box has at least.
+/// Expects that a box of this size is read as the value, and that the cursor is then at `end`: after the size, or after
+/// the bytes that a box has at least.
 pub fn expect_value_to<B: BoxLaws + PartialEq + Drop>(
     alloc: Global,
     value: &B,
@@ -186,8 +186,12 @@ pub fn expect_end_at_cuts_below<B: BoxLaws + PartialEq + Drop>(
     needed: usize,
 ) -> Result<(), Mismatch>
     ensures writable { OnOk result (B.format.Writable value.now) }
-    ensures ends { OnOk result ((n : ℕ) → n < needed → n < length (B.format.bytes value.now) → EndsIn kinds.End (cut_reading B.reads (B.format.bytes value.now) n)) }
-    ensures values { OnOk result ((n : ℕ) → needed ≤ n → n < length (B.format.bytes value.now) → ReadsAs B.eq (cut_reading B.reads (B.format.bytes value.now) n) value.now) }
+    ensures ends { OnOk result
+        ((n : ℕ) → n < needed → n < length (B.format.bytes value.now)
+        → EndsIn kinds.End (cut_reading B.reads (B.format.bytes value.now) n)) }
+    ensures values { OnOk result
+        ((n : ℕ) → needed ≤ n → n < length (B.format.bytes value.now)
+        → ReadsAs B.eq (cut_reading B.reads (B.format.bytes value.now) n) value.now) }
 {
     let mut out = Vec::new(alloc);
     let size = value.write_box(&mut out)?;
@@ -208,7 +212,9 @@ pub fn expect_value_at_any_size<B: BoxLaws + PartialEq + Drop>(
     value: &B,
 ) -> Result<(), Mismatch>
     ensures writable { OnOk result (B.format.Writable value.now) }
-    ensures values { OnOk result (All (λ size. ReadsAs B.eq (reading B.reads (B.format.bytes value.now) 0 size) value.now) (0 ∷ 7 ∷ length (B.format.bytes value.now) ∷ (2 ^ 64 - 1) ∷ [])) }
+    ensures values { OnOk result
+        (All (λ size. ReadsAs B.eq (reading B.reads (B.format.bytes value.now) 0 size) value.now)
+        (0 ∷ 7 ∷ length (B.format.bytes value.now) ∷ (2 ^ 64 - 1) ∷ [])) }
 {
     let mut out = Vec::new(alloc);
     let own = value.write_box(&mut out)?;
@@ -225,7 +231,8 @@ pub fn expect_invalid_at_small_sizes<B: BoxLaws + PartialEq + Drop>(
     value: &B,
 ) -> Result<(), Mismatch>
     ensures writable { OnOk result (B.format.Writable value.now) }
-    ensures invalid { OnOk result (All (λ size. EndsIn kinds.Invalid (reading B.reads (B.format.bytes value.now) 0 size)) (0 ∷ 7 ∷ [])) }
+    ensures invalid { OnOk result
+        (All (λ size. EndsIn kinds.Invalid (reading B.reads (B.format.bytes value.now) 0 size)) (0 ∷ 7 ∷ [])) }
     ensures value { OnOk result (ReadsAs B.eq (reading B.reads (B.format.bytes value.now) 0 (2 ^ 64 - 1)) value.now) }
 {
     let mut out = Vec::new(alloc);

@@ -1,5 +1,5 @@
-//! Checks of a box that is made by a call, which may be out of memory. Each takes the result of that call, so that its error
-//! is handed on here, in a function that is proved once, and not in each test.
+//! Checks of a box that is made by a call, which may be out of memory. Each takes the result of that call, so that its
+//! error is handed on here, in a function that is proved once, and not in each test.
 
 use crate::helpers::{
     Mismatch, expect_end_at_cuts_below, expect_invalid_at_small_sizes, expect_normal_form,
@@ -85,8 +85,8 @@ pub fn unwritable_of_size<B: WriteBox + Drop>(
     expect_unwritable_of_size(alloc, &made?, size)
 }
 
-/// Cuts the bytes of the box at every length. Expects end of input where fewer than `needed` bytes are left, and the box
-/// where `needed` or more are left.
+/// Cuts the bytes of the box at every length. Expects end of input where fewer than `needed` bytes are left, and the
+/// box where `needed` or more are left.
 pub fn end_at_cuts_below<B: BoxLaws + PartialEq + Drop>(
     alloc: Global,
     made: Made<B>,
@@ -103,7 +103,8 @@ pub fn value_at_any_size<B: BoxLaws + PartialEq + Drop>(
     expect_value_at_any_size(alloc, &made?)
 }
 
-/// Expects that the bytes of the box are invalid data with a size of 0 or 7, and are read as the box with the largest size.
+/// Expects that the bytes of the box are invalid data with a size of 0 or 7, and are read as the box with the largest
+/// size.
 pub fn invalid_at_small_sizes<B: BoxLaws + PartialEq + Drop>(
     alloc: Global,
     made: Made<B>,

@@ -19,7 +19,8 @@ pub bytes_more : (z : StszBox) (a n m : ℕ) → m ≡ n + 1 → bytes_of z a m 
 unfolding bytes_of
 bytes_more z a n m is = sum_next (size_of z) a n m is
 
-pub bytes_next : (z : StszBox) (first k : ℕ) → first ≤ k → bytes_of z first (k + 1 - first) ≡ bytes_of z first (k - first) + size_of z k
+pub bytes_next : (z : StszBox) (first k : ℕ) → first ≤ k
+    → bytes_of z first (k + 1 - first) ≡ bytes_of z first (k - first) + size_of z k
 bytes_next z first k le =
     let here : first + (k - first) ≡ k = omega arith in
     rw here at (bytes_more z first (k - first) (k + 1 - first) (omega arith))
@@ -43,7 +44,8 @@ bytes_within z first m n le =
     let one = bytes_split z 0 first m in
     let two = bytes_split z 0 (first + m) (n - (first + m)) in
     let whole : first + m + (n - (first + m)) ≡ n = omega arith in
-    let two' : bytes_of z 0 n ≡ bytes_of z 0 (first + m) + bytes_of z (0 + (first + m)) (n - (first + m)) = rw whole at two in
+    let two' : bytes_of z 0 n ≡ bytes_of z 0 (first + m) + bytes_of z (0 + (first + m)) (n - (first + m)) =
+    rw whole at two in
     let here : 0 + first ≡ first = omega arith in
     let one' : bytes_of z 0 (first + m) ≡ bytes_of z 0 first + bytes_of z first m = rw here at one in
     omega (arith, one', two')

@@ -1,5 +1,6 @@
 -- What a call of the iterator over a fragment gives, which found it before sample j of run r.
-use Rattle.std.proofs.Common.{◌≡◌, ℕ, ◌+◌, ◌-◌, ◌<◌, Bool, true, false, length, Result, Ok, Err, refl, ap, subst, sym, ◌∙◌, arith}
+use Rattle.std.proofs.Common.{◌≡◌, ℕ, ◌+◌, ◌-◌, ◌<◌, Bool, true, false, length, Result, Ok, Err, refl, ap, subst, sym}
+use Rattle.std.proofs.Common.{◌∙◌, arith}
 use Rattle.std.specs.Prelude.{Some, ⊤}
 use Rattle.std.specs.Iterator.{MakesProgress, at_most}
 use Rattle.mp4_samples.specs.declared.sample.Sample.{Sample}
@@ -20,29 +21,39 @@ fewer : (s t : FragmentProgress) (r : Result Sample FragmentFault) → fragment_
     → MakesProgress {A = Result Sample FragmentFault} (λ _. ⊤) (λ s. at_most (fragment_samples_left s)) s (Some r) t
 fewer s t r lt = record { on = λ _. (tt, tt, lt); keeps = tt; rests = λ _. tt }
 
-module _ (f : Fragment) (s : FragmentProgress) (r0 j0 r j : ℕ) (is : at f r0 j0 false ≡ s) (number : samples_of_runs f r + j ≡ samples_of_runs f r0 + j0) where
-  pub comes : (x : Sample) (r' j' : ℕ) (e : Bool) → IsSampleOfRun f r j x → r' ≡ r → j' ≡ j + 1 → e ≡ false → GivesFragmentSample s (Some (Ok x)) (at f r' j' e)
+module _ (f : Fragment) (s : FragmentProgress) (r0 j0 r j : ℕ) (is : at f r0 j0 false ≡ s)
+    (number : samples_of_runs f r + j ≡ samples_of_runs f r0 + j0) where
+  pub comes : (x : Sample) (r' j' : ℕ) (e : Bool) → IsSampleOfRun f r j x → r' ≡ r → j' ≡ j + 1 → e ≡ false
+      → GivesFragmentSample s (Some (Ok x)) (at f r' j' e)
   comes x r' j' e sample same next going =
       let runs = ap (samples_of_runs f) same in
       let more : samples_of_runs f r' + j' ≡ samples_of_runs f r0 + j0 + 1 = omega (arith, runs, number, next) in
-      subst (λ (s : FragmentProgress). GivesFragmentSample s (Some (Ok x)) (at f r' j' e)) is (refl, (r, j, number, sample), refl, more, going)
+      subst (λ (s : FragmentProgress). GivesFragmentSample s (Some (Ok x)) (at f r' j' e)) is
+      (refl, (r, j, number, sample), refl, more, going)
 
-  pub faulted : (e : FragmentFault) → Faults f (samples_of_runs f r + j) e → GivesFragmentSample s (Some (Err e)) (at f r j true)
+  pub faulted : (e : FragmentFault) → Faults f (samples_of_runs f r + j) e
+      → GivesFragmentSample s (Some (Err e)) (at f r j true)
   faulted e fault =
       let fault' = subst (λ (n : ℕ). Faults f n e) number fault in
-      subst (λ (s : FragmentProgress). GivesFragmentSample s (Some (Err e)) (at f r j true)) is (refl, fault', refl, refl)
+      subst (λ (s : FragmentProgress). GivesFragmentSample s (Some (Err e)) (at f r j true)) is
+      (refl, fault', refl, refl)
 
   module _ (lt : r < length f.runs.now) (left : j < (run_at f r).sample_count) where
     pub comes_on : (x : Sample) (r' j' : ℕ) (e : Bool) → r' ≡ r → j' ≡ j + 1 → e ≡ false
-        → MakesProgress {A = Result Sample FragmentFault} (λ _. ⊤) (λ s. at_most (fragment_samples_left s)) s (Some (Ok x)) (at f r' j' e)
+        → MakesProgress {A = Result Sample FragmentFault} (λ _. ⊤) (λ s. at_most (fragment_samples_left s)) s
+        (Some (Ok x)) (at f r' j' e)
     comes_on x r' j' e same next going =
         let more = room f r j lt left in
         let runs = ap (samples_of_runs f) same in
-        let less : sample_total f - (samples_of_runs f r' + j') < sample_total f - (samples_of_runs f r0 + j0) = omega (arith, more, runs, number, next) in
+        let less : sample_total f - (samples_of_runs f r' + j') < sample_total f - (samples_of_runs f r0 + j0) =
+        omega (arith, more, runs, number, next) in
         let less' : fragment_samples_left (at f r' j' e) < fragment_samples_left (at f r0 j0 false) = rw going less in
-        fewer s (at f r' j' e) (Ok x) (subst (λ (s : FragmentProgress). fragment_samples_left (at f r' j' e) < fragment_samples_left s) is less')
+        fewer s (at f r' j' e) (Ok x)
+        (subst (λ (s : FragmentProgress). fragment_samples_left (at f r' j' e) < fragment_samples_left s) is less')
 
-    pub faulted_on : (e : FragmentFault) → MakesProgress {A = Result Sample FragmentFault} (λ _. ⊤) (λ s. at_most (fragment_samples_left s)) s (Some (Err e)) (at f r j true)
+    pub faulted_on : (e : FragmentFault)
+        → MakesProgress {A = Result Sample FragmentFault} (λ _. ⊤) (λ s. at_most (fragment_samples_left s)) s
+        (Some (Err e)) (at f r j true)
     faulted_on e =
         let more = room f r j lt left in
         let less : 0 < sample_total f - (samples_of_runs f r0 + j0) = omega (arith, more, number) in

@@ -7,7 +7,8 @@ use Rattle.std.proofs.lemmas.Bool.{ne_eqb}
 use Rattle.std.proofs.lemmas.Int.{ints}
 use Rattle.mp4_tables.specs.declared.trun.TrunBox.{TrunBox}
 use Rattle.mp4_samples.specs.declared.fragment.Fragment.{Fragment}
-use Rattle.mp4_samples.specs.Fragments.{size_in, duration_in, bytes_before, time_before, base_of, start_after, run_end, runs_end, time_of_runs, samples_of_runs, run_at, no_run, sample_offset}
+use Rattle.mp4_samples.specs.Fragments.{size_in, duration_in, bytes_before, time_before, base_of, start_after, run_end}
+use Rattle.mp4_samples.specs.Fragments.{runs_end, time_of_runs, samples_of_runs, run_at, no_run, sample_offset}
 use Rattle.mp4_samples.specs.FragmentPlaces.{offset_before}
 use Rattle.mp4_samples.specs.FragmentGives.{sample_total}
 use Rattle.mp4_samples.proofs.Through.{sum_next}
@@ -46,30 +47,36 @@ pub no_runs_samples : (f : Fragment) → samples_of_runs f 0 ≡ 0
 unfolding samples_of_runs
 no_runs_samples f = refl
 
-pub runs_end_more : (f : Fragment) (r : ℕ) → r < length f.runs.now → runs_end f (r + 1) ≡ run_end f (runs_end f r) (run_at f r)
+pub runs_end_more : (f : Fragment) (r : ℕ) → r < length f.runs.now
+    → runs_end f (r + 1) ≡ run_end f (runs_end f r) (run_at f r)
 unfolding runs_end
 runs_end_more f r lt = fold_more (run_end f) (pos (base_of f)) f.runs.now r no_run lt
 
-pub runs_time_more : (f : Fragment) (r : ℕ) → r < length f.runs.now → time_of_runs f (r + 1) ≡ time_of_runs f r + time_before f (run_at f r) (run_at f r).sample_count
+pub runs_time_more : (f : Fragment) (r : ℕ) → r < length f.runs.now
+    → time_of_runs f (r + 1) ≡ time_of_runs f r + time_before f (run_at f r) (run_at f r).sample_count
 unfolding time_of_runs
 runs_time_more f r lt = sum_by_more (λ t. time_before f t t.sample_count) f.runs.now r no_run lt
 
-pub runs_samples_more : (f : Fragment) (r : ℕ) → r < length f.runs.now → samples_of_runs f (r + 1) ≡ samples_of_runs f r + (run_at f r).sample_count
+pub runs_samples_more : (f : Fragment) (r : ℕ) → r < length f.runs.now
+    → samples_of_runs f (r + 1) ≡ samples_of_runs f r + (run_at f r).sample_count
 unfolding samples_of_runs
 runs_samples_more f r lt = sum_by_more (λ (t : TrunBox). t.sample_count) f.runs.now r no_run lt
 
 -- the first sample of a run begins where the run does
-pub first_offset : (f : Fragment) (r : ℕ) → sample_offset f r 0 ≡ start_after (base_of f) (runs_end f r) (run_at f r).data_offset
+pub first_offset : (f : Fragment) (r : ℕ)
+    → sample_offset f r 0 ≡ start_after (base_of f) (runs_end f r) (run_at f r).data_offset
 first_offset f r =
     let none = no_bytes f (run_at f r) in
     omega (arith, ints, none)
 
-pub next_offset : (f : Fragment) (r j : ℕ) → sample_offset f r (j + 1) ≡ sample_offset f r j +ℤ pos (size_in f (run_at f r) j)
+pub next_offset : (f : Fragment) (r j : ℕ)
+    → sample_offset f r (j + 1) ≡ sample_offset f r j +ℤ pos (size_in f (run_at f r) j)
 next_offset f r j =
     let more = bytes_more f (run_at f r) j in
     omega (arith, ints, more)
 
-pub opened : (f : Fragment) (r j : ℕ) (end : ℤ) → j ≡ 0 → end ≡ offset_before f r j → start_after (base_of f) end (run_at f r).data_offset ≡ sample_offset f r j
+pub opened : (f : Fragment) (r j : ℕ) (end : ℤ) → j ≡ 0 → end ≡ offset_before f r j
+    → start_after (base_of f) end (run_at f r).data_offset ≡ sample_offset f r j
 opened f r zero end none is = rw is (sym (first_offset f r))
 opened f r (suc j) end none is = absurd (omega arith)
 
@@ -78,10 +85,12 @@ past_first f r j =
     let no : eqb (j + 1) 0 ≡ false = ne_eqb (j + 1) 0 (λ is. omega arith) in
     rw no refl
 
-pub run_done : (f : Fragment) (r j : ℕ) → r < length f.runs.now → j ≡ (run_at f r).sample_count → sample_offset f r j ≡ runs_end f (r + 1)
+pub run_done : (f : Fragment) (r j : ℕ) → r < length f.runs.now → j ≡ (run_at f r).sample_count
+    → sample_offset f r j ≡ runs_end f (r + 1)
 run_done f r j lt is = rw is (sym (runs_end_more f r lt))
 
-pub room : (f : Fragment) (r j : ℕ) → r < length f.runs.now → j < (run_at f r).sample_count → samples_of_runs f r + j < sample_total f
+pub room : (f : Fragment) (r j : ℕ) → r < length f.runs.now → j < (run_at f r).sample_count
+    → samples_of_runs f r + j < sample_total f
 unfolding samples_of_runs
 room f r j lt counted =
     let part = sum_by_more_le (λ (t : TrunBox). t.sample_count) f.runs.now r no_run lt in

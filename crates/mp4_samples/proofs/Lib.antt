@@ -10,3 +10,12 @@ pub mod Order
 pub mod Fragments
 pub mod FragmentCalls
 pub mod AtTime
+pub mod LastSync
+pub mod FirstSamples
+pub mod ChunkMarks
+pub mod TimeMarks
+pub mod FragmentOrder
+pub mod EditTimes
+pub mod EditOrder
+pub mod Pushed
+pub mod BlockSums

@@ -1,5 +1,6 @@
 -- Samples one after the other, in their chunk and in time.
-use Rattle.std.proofs.Common.{◌≡◌, ℕ, zero, suc, ◌+◌, ◌-◌, ◌*◌, ◌≤◌, List, [], ◌∷◌, take, get_or, replicate, refl, sym, ap, ◌∙◌, arith}
+use Rattle.std.proofs.Common.{◌≡◌, ℕ, zero, suc, ◌+◌, ◌-◌, ◌*◌, ◌≤◌, List, [], ◌∷◌, take, get_or, replicate, refl, sym}
+use Rattle.std.proofs.Common.{ap, ◌∙◌, arith}
 use Rattle.std.specs.List.{sum, sum_by, range_with_len}
 use Rattle.std.proofs.lemmas.List.{take_all}
 use Rattle.std.proofs.lemmas.List.Sums.{sum_by-cons, sum_by-append}
@@ -11,7 +12,8 @@ use Rattle.mp4_samples.specs.Runs.{spelled, durations, duration_of, start_of}
 use Rattle.mp4_samples.specs.Chunks.{samples_through}
 use Rattle.mp4_samples.specs.Sizes.{bytes_of, offset_of}
 use Rattle.mp4_samples.specs.Samples.{IsSample, offsets_of, sample_count}
-use Rattle.mp4_samples.specs.Laws.{SamplesAreAdjacent, SamplesDoNotOverlap, TimesFollow, TimesDoNotDecrease, DurationsAddUp, EntriesAddUp}
+use Rattle.mp4_samples.specs.Laws.{SamplesAreAdjacent, SamplesDoNotOverlap, TimesFollow, TimesDoNotDecrease}
+use Rattle.mp4_samples.specs.Laws.{DurationsAddUp, EntriesAddUp}
 use Rattle.mp4_samples.proofs.Bytes.{bytes_split, bytes_next}
 use Rattle.mp4_samples.proofs.Spelled.{spelled-cons}
 use Rattle.mp4_samples.proofs.Through.{sum_next}
@@ -31,7 +33,8 @@ end_in t k c s is here =
     let next = bytes_next t.stsz.now first k is.chunk.from in
     let offset = is.offset in
     let size = is.size in
-    let stop : s.offset + s.size ≡ offset_of t.stsz.now t.stsc.now.entries (offsets_of t.chunk_offsets) s.chunk (k + 1) = omega (arith, next, offset, size) in
+    let stop : s.offset + s.size ≡ offset_of t.stsz.now t.stsc.now.entries (offsets_of t.chunk_offsets) s.chunk
+    (k + 1) = omega (arith, next, offset, size) in
     rw here at stop
 
 pub adjacent : SamplesAreAdjacent
@@ -73,7 +76,8 @@ start_le es k (suc n) =
     let more' : start_of es (k + suc n) ≡ start_of es (k + n) + duration_of es (k + n) = rw one at more in
     omega (arith, rest, more')
 
-stop_time : (t : Tables) (k : ℕ) (s : Sample) → IsSample t k s → s.start_time + s.duration ≡ start_of t.stts.now.entries (k + 1)
+stop_time : (t : Tables) (k : ℕ) (s : Sample) → IsSample t k s
+    → s.start_time + s.duration ≡ start_of t.stts.now.entries (k + 1)
 stop_time t k s is =
     let next = start_next t.stts.now.entries k in
     let start = is.start_time in
@@ -101,7 +105,8 @@ start_sum es (suc n) =
     let one : n + 1 ≡ suc n = omega arith in
     let more' : start_of es (suc n) ≡ start_of es n + duration_of es n = rw one at more in
     let here : 0 + n ≡ n = omega arith in
-    let next' : sum_by (duration_of es) (range_with_len 0 (suc n)) ≡ sum_by (duration_of es) (range_with_len 0 n) + duration_of es n = rw here at next in
+    let next' : sum_by (duration_of es) (range_with_len 0 (suc n))
+    ≡ sum_by (duration_of es) (range_with_len 0 n) + duration_of es n = rw here at next in
     omega (arith, rest, more', next')
 
 pub add_up : DurationsAddUp
@@ -115,7 +120,8 @@ whole_run (suc c) v =
     let times : suc c * v ≡ c * v + v = omega arith in
     omega (arith, rest, now, times)
 
-entries_sum : (es : List SttsEntry) → sum (durations es) ≡ sum_by (λ (e : SttsEntry). e.sample_count * e.sample_delta) es
+entries_sum : (es : List SttsEntry)
+    → sum (durations es) ≡ sum_by (λ (e : SttsEntry). e.sample_count * e.sample_delta) es
 unfolding spelled
 entries_sum [] = refl
 entries_sum (e ∷ es) =

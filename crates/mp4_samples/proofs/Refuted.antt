@@ -1,9 +1,12 @@
 -- Tables that disagree are not consistent.
-use Rattle.std.proofs.Common.{◌≡◌, ℕ, zero, suc, ◌+◌, ◌<◌, ◌≤◌, ◌^◌, true, List, [], ◌∷◌, length, get_or, ltb, slice_get, Some, refl, arith}
+use Rattle.std.proofs.Common.{◌≡◌, ℕ, zero, suc, ◌+◌, ◌<◌, ◌≤◌, ◌^◌, true, List, [], ◌∷◌, length, get_or, ltb}
+use Rattle.std.proofs.Common.{slice_get, Some, refl, arith}
 use Rattle.std.proofs.lemmas.Bool.{ltb-true, eqb-true, and_parts}
 use Rattle.std.proofs.lemmas.List.Elements.{All-contains}
 use Rattle.mp4_tables.specs.declared.stsc_entry.StscEntry.{StscEntry}
-use Rattle.mp4_samples.specs.declared.disagreement.Disagreement.TheVariants.{SampleSizes, FirstChunk, ChunkOrder, ChunkCount, Chunks, Durations, SyncSamples, Offset}
+use Rattle.mp4_samples.specs.declared.disagreement.Disagreement.TheVariants.{SampleSizes, FirstChunk, ChunkOrder}
+use Rattle.mp4_samples.specs.declared.disagreement.Disagreement.TheVariants.{ChunkCount, Chunks, Durations, SyncSamples}
+use Rattle.mp4_samples.specs.declared.disagreement.Disagreement.TheVariants.{Offset}
 use Rattle.mp4_samples.specs.Runs.{increases}
 use Rattle.mp4_samples.specs.Chunks.{chunks_increase}
 use Rattle.mp4_samples.specs.Sizes.{bytes_of}
@@ -11,7 +14,8 @@ use Rattle.mp4_samples.specs.Samples.{sample_count, begins_at_one, offsets_of, s
 use Rattle.mp4_samples.specs.Disagreements.{first_chunks}
 use Rattle.mp4_samples.specs.Laws.{DisagreementRefutes}
 
-not_above : (a : ℕ) (xs : List ℕ) (i : ℕ) → i < length xs → get_or xs i 0 ≤ get_or (a ∷ xs) i 0 → increases a xs ≡ true → ⊥
+not_above : (a : ℕ) (xs : List ℕ) (i : ℕ) → i < length xs → get_or xs i 0 ≤ get_or (a ∷ xs) i 0
+    → increases a xs ≡ true → ⊥
 not_above a [] i lt le order = omega arith
 not_above a (x ∷ xs) zero lt le order =
     let both = and_parts _ _ order in
@@ -40,7 +44,8 @@ refutes t (SampleSizes count listed) d all =
     let same = all.listed d.0 in
     d.3 (cc)
 refutes t (FirstChunk c) d all = d.1 (begins t.stsc.now.entries c d.0 all.first)
-refutes t (ChunkOrder i) d all = not_above 0 (first_chunks t.stsc.now.entries) i d.within d.order (same_order 0 t.stsc.now.entries all.increase)
+refutes t (ChunkOrder i) d all =
+    not_above 0 (first_chunks t.stsc.now.entries) i d.within d.order (same_order 0 t.stsc.now.entries all.increase)
 refutes t (ChunkCount count) d all =
     let few = all.counted in
     omega (arith, d.0, d.1)
@@ -52,5 +57,6 @@ refutes t (Durations count timed) d all =
     omega (arith, d.0, d.1, d.2)
 refutes t (SyncSamples i) d all = not_above 0 (stss_entries t.stss) i d.within d.order all.sync
 refutes t (Offset offset bytes) d all =
-    let near = All-contains (λ (o : ℕ). o + bytes_of t.stsz.now 0 (sample_count t) < 2 ^ 64) (offsets_of t.chunk_offsets) offset all.within d.0 in
+    let near = All-contains (λ (o : ℕ). o + bytes_of t.stsz.now 0 (sample_count t) < 2 ^ 64)
+    (offsets_of t.chunk_offsets) offset all.within d.0 in
     omega (arith, near, d.1, d.2)

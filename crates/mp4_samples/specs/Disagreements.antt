@@ -1,9 +1,12 @@
 -- What each way in which the tables of a track can disagree says of them.
-use Rattle.std.specs.Prelude.{ℕ, ◌≡◌, ◌≢◌, ◌+◌, ◌<◌, ◌≤◌, ◌^◌, List, ◌∷◌, length, map, slice_index, slice_get, Contains, Some}
+use Rattle.std.specs.Prelude.{ℕ, ◌≡◌, ◌≢◌, ◌+◌, ◌<◌, ◌≤◌, ◌^◌, List, ◌∷◌, length, map, slice_index, slice_get, Contains}
+use Rattle.std.specs.Prelude.{Some}
 use Rattle.mp4_tables.specs.declared.stsc_entry.StscEntry.{StscEntry}
 use Rattle.mp4_samples.specs.declared.tables.Tables.{Tables}
 use Rattle.mp4_samples.specs.declared.disagreement.Disagreement.{Disagreement}
-use Rattle.mp4_samples.specs.declared.disagreement.Disagreement.TheVariants.{SampleSizes, FirstChunk, ChunkOrder, ChunkCount, Chunks, Durations, SyncSamples, Offset}
+use Rattle.mp4_samples.specs.declared.disagreement.Disagreement.TheVariants.{SampleSizes, FirstChunk, ChunkOrder}
+use Rattle.mp4_samples.specs.declared.disagreement.Disagreement.TheVariants.{ChunkCount, Chunks, Durations, SyncSamples}
+use Rattle.mp4_samples.specs.declared.disagreement.Disagreement.TheVariants.{Offset}
 use Rattle.mp4_samples.specs.Runs.{durations}
 use Rattle.mp4_samples.specs.Chunks.{samples_through}
 use Rattle.mp4_samples.specs.Sizes.{bytes_of}
@@ -31,4 +34,5 @@ Disagrees t (Durations count timed) =
     (count ≡ sample_count t) × (timed ≡ length (durations t.stts.now.entries)) × (timed < count)
 Disagrees t (SyncSamples i) = IsNotAbove (stss_entries t.stss) i
 Disagrees t (Offset offset bytes) =
-    Contains (offsets_of t.chunk_offsets) offset × (bytes ≡ bytes_of t.stsz.now 0 (sample_count t)) × (2 ^ 64 ≤ offset + bytes)
+    Contains (offsets_of t.chunk_offsets) offset × (bytes ≡ bytes_of t.stsz.now 0 (sample_count t))
+    × (2 ^ 64 ≤ offset + bytes)

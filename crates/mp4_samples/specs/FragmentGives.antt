@@ -1,5 +1,6 @@
 -- How far an iterator over the samples of a fragment is, and what a call of `next` gives.
-use Rattle.std.specs.Prelude.{ℕ, ℤ, ◌≡◌, ◌+◌, ◌-◌, Bool, true, false, length, Option, Some, None, Result, Ok, Err, if◌then◌else◌}
+use Rattle.std.specs.Prelude.{ℕ, ℤ, ◌≡◌, ◌+◌, ◌-◌, Bool, true, false, length, Option, Some, None, Result, Ok, Err}
+use Rattle.std.specs.Prelude.{if◌then◌else◌}
 use Rattle.mp4_samples.specs.declared.sample.Sample.{Sample}
 use Rattle.mp4_samples.specs.declared.fragment.Fragment.{Fragment}
 use Rattle.mp4_samples.specs.declared.fragment_fault.FragmentFault.{FragmentFault}
@@ -33,8 +34,8 @@ offset_of s = offset_before s.fragment s.run s.index
 abbrev pub time_of : FragmentProgress → ℕ
 time_of s = sample_time s.fragment s.run s.index
 
--- the next sample; or why it can't be told, and then nothing more; or none, exactly after the last one or a fault. After
--- the last one the iterator is past the last run
+-- the next sample; or why it can't be told, and then nothing more; or none, exactly after the last one or a fault.
+-- After the last one the iterator is past the last run
 abbrev pub GivesFragmentSample : FragmentProgress → Option (Result Sample FragmentFault) → FragmentProgress → Type 0
 GivesFragmentSample s (Some (Ok x)) t =
     (s.ended ≡ false) × IsFragmentSample s.fragment (number_of s) x

@@ -1,6 +1,7 @@
 -- What a track fragment says of its samples (ISO/IEC 14496-12, 8.8.3, 8.8.7, 8.8.8, 8.8.12). Runs, and the samples of a
 -- run and of a fragment, are counted from 0.
-use Rattle.std.specs.Prelude.{ℕ, ℤ, pos, ◌≡◌, ◌+◌, ◌+ℤ◌, ◌<◌, ◌≤◌, ◌^◌, ◌==◌, Bool, nat_lt, bit_and, [], take, fold, sum_by, slice_index_or, Option, Some, None, unwrap_or, if◌then◌else◌}
+use Rattle.std.specs.Prelude.{ℕ, ℤ, pos, ◌≡◌, ◌+◌, ◌+ℤ◌, ◌<◌, ◌≤◌, ◌^◌, ◌==◌, Bool, nat_lt, bit_and, [], take, fold}
+use Rattle.std.specs.Prelude.{sum_by, slice_index_or, Option, Some, None, unwrap_or, if◌then◌else◌}
 use Rattle.std.specs.Int.{w32, cast_signed}
 use Rattle.std.specs.List.{range_with_len}
 use Rattle.std.specs.Borrow.{Bor}
@@ -38,7 +39,8 @@ size_in f t j = slice_index_or t.sample_sizes j (default_size f)
 -- a run can have flags for its first sample, in place of the default
 abbrev pub flags_in : Fragment → TrunBox → ℕ → ℕ
 flags_in f t j =
-    slice_index_or t.sample_flags j (if j == 0 then unwrap_or t.first_sample_flags (default_flags f) else default_flags f)
+    slice_index_or t.sample_flags j
+    (if j == 0 then unwrap_or t.first_sample_flags (default_flags f) else default_flags f)
 
 abbrev pub is_sync_in : Fragment → TrunBox → ℕ → Bool
 is_sync_in f t j = bit_and (flags_in f t j) SAMPLE_IS_NON_SYNC == 0
@@ -58,7 +60,8 @@ time_before f t j = sum_by (duration_in f t) (range_with_len 0 j)
 -- the data of the fragment before it ends
 abbrev pub base_of : Fragment → ℕ
 base_of f =
-    unwrap_or f.tfhd.now.base_data_offset (if has_flag f.tfhd.now.flags DEFAULT_BASE_IS_MOOF then f.moof else f.data_end)
+    unwrap_or f.tfhd.now.base_data_offset
+    (if has_flag f.tfhd.now.flags DEFAULT_BASE_IS_MOOF then f.moof else f.data_end)
 
 -- where a run begins: at its data offset, which counts from the base, or else where the run before it ends
 abbrev pub start_after : ℕ → ℤ → Option ℤ → ℤ

@@ -18,5 +18,6 @@ samples_left s = sample_count s.tables - s.number
 -- the sample of the number that comes next, and then the next number; none exactly after the last one
 abbrev pub GivesSample : Progress → Option Sample → Progress → Type 0
 GivesSample s (Some x) t =
-    (s.number < sample_count s.tables) × IsSample s.tables s.number x × (t.tables ≡ s.tables) × (t.number ≡ s.number + 1)
+    (s.number < sample_count s.tables) × IsSample s.tables s.number x × (t.tables ≡ s.tables)
+    × (t.number ≡ s.number + 1)
 GivesSample s None t = (sample_count s.tables ≤ s.number) × (t ≡ s)

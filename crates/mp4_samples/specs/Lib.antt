@@ -3,6 +3,10 @@ pub mod Chunks
 pub mod Sizes
 pub mod Samples
 pub mod Disagreements
+pub mod Syncs
+pub mod Search
+pub mod Index
+pub mod Marks
 pub mod Places
 pub mod Steps
 pub mod Gives
@@ -11,3 +15,6 @@ pub mod Laws
 pub mod Fragments
 pub mod FragmentPlaces
 pub mod FragmentGives
+pub mod FragmentLaws
+pub mod Edits
+pub mod EditLaws

@@ -1,6 +1,7 @@
 //! Whether the tables of a track agree.
 
-ghost use Rattle.std.specs.Prelude.{◌≡◌, ◌≢◌, ◌+◌, ◌<◌, ◌≤◌, ◌^◌, ◌↔◌, true, length, slice_get, All, Contains, Some, IfSome, IfErr, IsNone, IsOk};
+ghost use Rattle.std.specs.Prelude.{◌≡◌, ◌≢◌, ◌+◌, ◌<◌, ◌≤◌, ◌^◌, ◌↔◌, true, length, slice_get, All, Contains, Some};
+ghost use Rattle.std.specs.Prelude.{IfSome, IfErr, IsNone, IsOk};
 ghost use Rattle.mp4_samples.specs.Runs.{durations, increases};
 ghost use Rattle.mp4_samples.specs.Chunks.{samples_through, chunks_increase};
 ghost use Rattle.mp4_samples.specs.Sizes.{bytes_of};

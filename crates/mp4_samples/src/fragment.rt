@@ -2,7 +2,9 @@
 
 ghost use Rattle.std.specs.Prelude.{◌≡◌, slice_index_or};
 ghost use Rattle.mp4_samples.specs.FragmentGives.{begins};
-ghost use Rattle.mp4_samples.specs.Fragments.{default_duration, default_size, default_flags, description_in, duration_in, size_in, flags_in, is_sync_in, rendering_offset_in, base_of, start_of};
+ghost use Rattle.mp4_samples.specs.Fragments.{default_duration, default_size, default_flags, description_in};
+ghost use Rattle.mp4_samples.specs.Fragments.{duration_in, size_in, flags_in, is_sync_in, rendering_offset_in, base_of};
+ghost use Rattle.mp4_samples.specs.Fragments.{start_of};
 
 use crate::fragment_samples::FragmentSamples;
 use mp4_flat::{TfdtBox, TrexBox};

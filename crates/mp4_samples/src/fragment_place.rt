@@ -1,7 +1,8 @@
 //! Going from sample to sample in the runs of a fragment.
 
 ghost use Rattle.std.specs.Prelude.{◌≡◌, ◌+◌, ◌<◌, ◌≤◌, length, IfOk, IfErr, IfSome, IfNone, pos};
-ghost use Rattle.mp4_samples.specs.Fragments.{run_at, runs_end, sample_offset, base_of, start_after, HasOffset, IsSampleOfRun, Faults};
+ghost use Rattle.mp4_samples.specs.Fragments.{run_at, runs_end, sample_offset, base_of, start_after, HasOffset};
+ghost use Rattle.mp4_samples.specs.Fragments.{IsSampleOfRun, Faults};
 ghost use Rattle.mp4_samples.specs.FragmentPlaces.{IsAt, number_at};
 
 use crate::fragment::{
@@ -120,7 +121,8 @@ pub fn in_run(fragment: &Fragment<'_>, place: Place) -> Place
     requires { IsAt fragment.now place }
     ensures at { IsAt fragment.now result }
     ensures same { number_at fragment.now result ≡ number_at fragment.now place }
-    ensures left { result.run < length fragment.now.runs.now → result.index < (run_at fragment.now result.run).sample_count }
+    ensures left { result.run < length fragment.now.runs.now
+        → result.index < (run_at fragment.now result.run).sample_count }
 {
     let mut at = place;
     while at.run < fragment.runs.len() {

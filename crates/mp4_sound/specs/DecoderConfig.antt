@@ -1,14 +1,15 @@
 -- The decoder configuration descriptor (tag 4; ISO/IEC 14496-1, 7.2.6.6). The fields are, from the content on: object
 -- type 1 byte; 1 byte with the stream type in its 6 high bits, the direction in bit 0x02, and a reserved bit, which is
--- written as 1; buffer size 3; maximum bit rate 4; average bit rate 4. Descriptors follow. A decoder specific descriptor
--- among them (tag 5) is read, others are gaps of their lengths.
+-- written as 1; buffer size 3; maximum bit rate 4; average bit rate 4. Descriptors follow. A decoder specific
+-- descriptor among them (tag 5) is read, others are gaps of their lengths.
 use Rattle.std.specs.Prelude.{ℕ, ◌+◌, ◌*◌, ◌/◌, ◌%◌, ◌==◌, List, [], ◌∷◌, length, Option, Some, None, if◌then◌else◌}
 use Rattle.std.specs.Option.{unwrap_or}
 use Rattle.mp4_frame.specs.Bytes.{number}
 use Rattle.mp4_frame.specs.Reading.{expect_bytes}
 use Rattle.mp4_media.specs.declared.aac_config.AacConfig.{AacConfig}
 use Rattle.mp4_sound.specs.Counted.{Counted, ◌>>=◌, no_header, value}
-use Rattle.mp4_sound.specs.DecoderSpecific.{decoder_specific_of, default_decoder_specific, decoder_specific, field_decoder_specific}
+use Rattle.mp4_sound.specs.DecoderSpecific.{decoder_specific_of, default_decoder_specific, decoder_specific}
+use Rattle.mp4_sound.specs.DecoderSpecific.{field_decoder_specific}
 use Rattle.mp4_sound.specs.Walk.{walk}
 use Rattle.mp4_sound.specs.declared.descriptor_header.DescriptorHeader.{DescriptorHeader}
 use Rattle.mp4_sound.specs.declared.decoder_config.DecoderConfigDescriptor.{DecoderConfigDescriptor}
@@ -39,7 +40,8 @@ default_decoder_config = record {
 
 -- what the content of a descriptor is read as, in a decoder configuration
 unfoldable pub in_decoder_config : List ℕ → ℕ → DescriptorHeader → Counted (Option DecoderSpecificDescriptor × ℕ)
-in_decoder_config bytes bound d = if d.tag == 5 then decoder_specific bytes d.content else value (None, d.content + d.length)
+in_decoder_config bytes bound d =
+    if d.tag == 5 then decoder_specific bytes d.content else value (None, d.content + d.length)
 
 -- the value of the fields at o, where `at o w` is the number of w bytes at offset o
 abbrev pub value_decoder_config : (ℕ → ℕ → ℕ) → ℕ → DecoderSpecificDescriptor → DecoderConfigDescriptor
@@ -55,7 +57,8 @@ value_decoder_config at o dec_specific = record {
 
 -- the last decoder specific descriptor is kept; without one, it is the default
 abbrev pub decoder_config_with : List ℕ → ℕ → Option DecoderSpecificDescriptor × ℕ → Option DecoderConfigDescriptor × ℕ
-decoder_config_with bytes o inner = (Some (value_decoder_config (number bytes) o (unwrap_or inner.0 default_decoder_specific)), inner.1)
+decoder_config_with bytes o inner =
+    (Some (value_decoder_config (number bytes) o (unwrap_or inner.0 default_decoder_specific)), inner.1)
 
 -- what the content of this length at o is read as
 unfoldable pub decoder_config : List ℕ → ℕ → ℕ → Counted (Option DecoderConfigDescriptor × ℕ)
@@ -68,7 +71,8 @@ decoder_config bytes o long = do
 abbrev pub fields_decoder_config : DecoderConfigDescriptor → List (ℕ × ℕ)
 fields_decoder_config v =
     let n = (field_decoder_specific v.dec_specific).0 in
-    (1, 4) ∷ (1, 15 + n) ∷ (1, v.object_type_indication) ∷ (1, v.stream_type * 4 + v.up_stream / 2 % 2 * 2 + 1) ∷ (3, v.buffer_size_db) ∷ (4, v.max_bitrate) ∷ (4, v.avg_bitrate)
+    (1, 4) ∷ (1, 15 + n) ∷ (1, v.object_type_indication) ∷ (1, v.stream_type * 4 + v.up_stream / 2 % 2 * 2 + 1)
+    ∷ (3, v.buffer_size_db) ∷ (4, v.max_bitrate) ∷ (4, v.avg_bitrate)
     ∷ (1, 5) ∷ (1, n) ∷ field_decoder_specific v.dec_specific ∷ []
 
 -- the bit 0x02 of the direction is written, and no other

@@ -2,7 +2,8 @@
 -- 1.6.2.1). These are, in bits: an audio object type of 5; where that is 31, another 6, which count from 32 on; a
 -- frequency index of 4; where that is 15, a sampling rate of 24; a channel configuration of 4. They are in 2, 3, 5 or 6
 -- bytes, whatever length is declared. The bits after them are ignored, and written as zero.
-use Rattle.std.specs.Prelude.{◌≡◌, ℕ, ◌+◌, ◌-◌, ◌*◌, ◌/◌, ◌%◌, ◌^◌, ◌<◌, ◌==◌, nat_lt, List, Option, Some, None, if◌then◌else◌}
+use Rattle.std.specs.Prelude.{◌≡◌, ℕ, ◌+◌, ◌-◌, ◌*◌, ◌/◌, ◌%◌, ◌^◌, ◌<◌, ◌==◌, nat_lt, List, Option, Some, None}
+use Rattle.std.specs.Prelude.{if◌then◌else◌}
 use Rattle.std.specs.Option.{unwrap_or}
 use Rattle.mp4_frame.specs.Bytes.{number}
 use Rattle.mp4_frame.specs.Reading.{expect_bytes}
@@ -39,11 +40,13 @@ long_type n = record { profile = 32 + bits n 13 6; freq_index = bits n 9 4; samp
 
 -- what 5 bytes are read as, which have a sampling rate
 abbrev pub plain_type_and_rate : ℕ → DecoderSpecificDescriptor
-plain_type_and_rate n = record { profile = bits n 35 5; freq_index = 15; sample_rate = Some (bits n 7 24); chan_conf = bits n 3 4 }
+plain_type_and_rate n =
+    record { profile = bits n 35 5; freq_index = 15; sample_rate = Some (bits n 7 24); chan_conf = bits n 3 4 }
 
 -- what 6 bytes are read as, which have both
 abbrev pub long_type_and_rate : ℕ → DecoderSpecificDescriptor
-long_type_and_rate n = record { profile = 32 + bits n 37 6; freq_index = 15; sample_rate = Some (bits n 9 24); chan_conf = bits n 5 4 }
+long_type_and_rate n =
+    record { profile = 32 + bits n 37 6; freq_index = 15; sample_rate = Some (bits n 9 24); chan_conf = bits n 5 4 }
 
 -- what the w bytes at o are read as in one of these forms, and where they end
 abbrev pub in_form : List ℕ → ℕ → ℕ → (ℕ → DecoderSpecificDescriptor) → Counted (Option DecoderSpecificDescriptor × ℕ)
@@ -55,7 +58,10 @@ in_form bytes o w form = do
 unfoldable pub decoder_specific : List ℕ → ℕ → Counted (Option DecoderSpecificDescriptor × ℕ)
 decoder_specific bytes o = do
   _ ← no_header (expect_bytes bytes o 2)
-  if bits (number bytes o 2) 11 5 == 31 then (if bits (number bytes o 2) 1 4 == 15 then in_form bytes o 6 long_type_and_rate else in_form bytes o 3 long_type) else (if bits (number bytes o 2) 7 4 == 15 then in_form bytes o 5 plain_type_and_rate else in_form bytes o 2 plain_type)
+  if bits (number bytes o 2) 11 5 == 31 then
+      (if bits (number bytes o 2) 1 4 == 15 then in_form bytes o 6 long_type_and_rate else in_form bytes o 3 long_type)
+      else (if bits (number bytes o 2) 7 4 == 15 then in_form bytes o 5 plain_type_and_rate else in_form bytes o 2
+      plain_type)
 
 -- the numbers that are written in 2, 3, 5 and 6 bytes
 abbrev pub number_plain_type : DecoderSpecificDescriptor → ℕ
@@ -65,15 +71,19 @@ abbrev pub number_long_type : DecoderSpecificDescriptor → ℕ
 number_long_type v = 31 * 2 ^ 19 + (v.profile - 32) * 2 ^ 13 + v.freq_index * 2 ^ 9 + v.chan_conf * 2 ^ 5
 
 abbrev pub number_plain_type_and_rate : DecoderSpecificDescriptor → ℕ
-number_plain_type_and_rate v = v.profile * 2 ^ 35 + 15 * 2 ^ 31 + unwrap_or v.sample_rate 0 * 2 ^ 7 + v.chan_conf * 2 ^ 3
+number_plain_type_and_rate v =
+    v.profile * 2 ^ 35 + 15 * 2 ^ 31 + unwrap_or v.sample_rate 0 * 2 ^ 7 + v.chan_conf * 2 ^ 3
 
 abbrev pub number_long_type_and_rate : DecoderSpecificDescriptor → ℕ
-number_long_type_and_rate v = 31 * 2 ^ 43 + (v.profile - 32) * 2 ^ 37 + 15 * 2 ^ 33 + unwrap_or v.sample_rate 0 * 2 ^ 9 + v.chan_conf * 2 ^ 5
+number_long_type_and_rate v =
+    31 * 2 ^ 43 + (v.profile - 32) * 2 ^ 37 + 15 * 2 ^ 33 + unwrap_or v.sample_rate 0 * 2 ^ 9 + v.chan_conf * 2 ^ 5
 
 -- the field that a value is written in: its number of bytes, and the number in it
 abbrev pub field_decoder_specific : DecoderSpecificDescriptor → ℕ × ℕ
 field_decoder_specific v =
-    if nat_lt 31 v.profile then (if v.freq_index == 15 then (6, number_long_type_and_rate v) else (3, number_long_type v)) else (if v.freq_index == 15 then (5, number_plain_type_and_rate v) else (2, number_plain_type v))
+    if nat_lt 31 v.profile then
+    (if v.freq_index == 15 then (6, number_long_type_and_rate v) else (3, number_long_type v)) else
+    (if v.freq_index == 15 then (5, number_plain_type_and_rate v) else (2, number_plain_type v))
 
 -- there is a rate exactly with index 15
 abbrev pub RateFits : ℕ → Option ℕ → Type 0

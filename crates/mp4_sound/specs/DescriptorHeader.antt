@@ -1,5 +1,6 @@
 -- The header of a descriptor (ISO/IEC 14496-1, 8.3.3): a tag of 1 byte, then the length of the content in 1 to 4 bytes.
--- Each has 7 bits of the length, the highest first. Its high bit says that another follows; that of the fourth is ignored.
+-- Each has 7 bits of the length, the highest first. Its high bit says that another follows; that of the fourth is
+-- ignored.
 use Rattle.std.specs.Prelude.{◌≡◌, ℕ, ◌+◌, ◌*◌, ◌%◌, ◌^◌, ◌<◌, ◌≤◌, nat_lt, List, length, if◌then◌else◌, Err}
 use Rattle.mp4_frame.specs.Bytes.{number}
 use Rattle.mp4_frame.specs.Reading.{Reading, ◌>>=◌, expect_bytes, done, End}
@@ -23,18 +24,21 @@ fourth_length bytes o length = do
 abbrev pub third_length : List ℕ → ℕ → ℕ → Reading DescriptorHeader
 third_length bytes o length = do
   _ ← expect_bytes bytes (o + 3) 1
-  if nat_lt (number bytes (o + 3) 1) 128 then done (header_of_bytes bytes o 4 (longer bytes (o + 3) length)) else fourth_length bytes o (longer bytes (o + 3) length)
+  if nat_lt (number bytes (o + 3) 1) 128 then done (header_of_bytes bytes o 4 (longer bytes (o + 3) length)) else
+      fourth_length bytes o (longer bytes (o + 3) length)
 
 abbrev pub second_length : List ℕ → ℕ → ℕ → Reading DescriptorHeader
 second_length bytes o length = do
   _ ← expect_bytes bytes (o + 2) 1
-  if nat_lt (number bytes (o + 2) 1) 128 then done (header_of_bytes bytes o 3 (longer bytes (o + 2) length)) else third_length bytes o (longer bytes (o + 2) length)
+  if nat_lt (number bytes (o + 2) 1) 128 then done (header_of_bytes bytes o 3 (longer bytes (o + 2) length)) else
+      third_length bytes o (longer bytes (o + 2) length)
 
 -- the header at o
 unfoldable pub descriptor_header : List ℕ → ℕ → Reading DescriptorHeader
 descriptor_header bytes o = do
   _ ← expect_bytes bytes o 2
-  if nat_lt (number bytes (o + 1) 1) 128 then done (header_of_bytes bytes o 2 (number bytes (o + 1) 1 % 128)) else second_length bytes o (number bytes (o + 1) 1 % 128)
+  if nat_lt (number bytes (o + 1) 1) 128 then done (header_of_bytes bytes o 2 (number bytes (o + 1) 1 % 128)) else
+      second_length bytes o (number bytes (o + 1) 1 % 128)
 
 -- a header at o that is read is there whole, and its length has 28 bits
 abbrev pub IsWhole : List ℕ → ℕ → DescriptorHeader → Type 0

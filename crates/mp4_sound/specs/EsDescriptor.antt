@@ -1,5 +1,5 @@
--- The elementary stream descriptor (tag 3; ISO/IEC 14496-1, 7.2.6.5). The fields are, from the content on: number of the
--- stream 2 bytes, and 1 that is ignored, and written as zero. Descriptors follow. Of these, a decoder configuration
+-- The elementary stream descriptor (tag 3; ISO/IEC 14496-1, 7.2.6.5). The fields are, from the content on: number of
+-- the stream 2 bytes, and 1 that is ignored, and written as zero. Descriptors follow. Of these, a decoder configuration
 -- (tag 4) is read; a sync layer configuration (tag 6) has 1 byte of content, whatever its length; others are gaps of
 -- their lengths.
 use Rattle.std.specs.Prelude.{ℕ, ◌+◌, ◌==◌, List, [], ◌∷◌, ◌++◌, length, Option, Some, None, if◌then◌else◌}
@@ -8,7 +8,8 @@ use Rattle.mp4_frame.specs.Bytes.{number}
 use Rattle.mp4_frame.specs.Reading.{expect_bytes}
 use Rattle.mp4_media.specs.declared.aac_config.AacConfig.{AacConfig}
 use Rattle.mp4_sound.specs.Counted.{Counted, ◌>>=◌, no_header, value}
-use Rattle.mp4_sound.specs.DecoderConfig.{decoder_config_of, default_decoder_config, decoder_config, fields_decoder_config, normal_decoder_config}
+use Rattle.mp4_sound.specs.DecoderConfig.{decoder_config_of, default_decoder_config, decoder_config}
+use Rattle.mp4_sound.specs.DecoderConfig.{fields_decoder_config, normal_decoder_config}
 use Rattle.mp4_sound.specs.DecoderSpecific.{field_decoder_specific}
 use Rattle.mp4_sound.specs.Walk.{walk}
 use Rattle.mp4_sound.specs.declared.descriptor_header.DescriptorHeader.{DescriptorHeader}
@@ -35,7 +36,8 @@ value_es_descriptor at o dec_config = record { es_id = at o 2; dec_config = dec_
 
 -- the last decoder configuration is kept; without one, it is the default
 abbrev pub es_descriptor_with : List ℕ → ℕ → Option DecoderConfigDescriptor × ℕ → Option ESDescriptor × ℕ
-es_descriptor_with bytes o inner = (Some (value_es_descriptor (number bytes) o (unwrap_or inner.0 default_decoder_config)), inner.1)
+es_descriptor_with bytes o inner =
+    (Some (value_es_descriptor (number bytes) o (unwrap_or inner.0 default_decoder_config)), inner.1)
 
 -- what the content of this length at o is read as
 unfoldable pub es_descriptor : List ℕ → ℕ → ℕ → Counted (Option ESDescriptor × ℕ)

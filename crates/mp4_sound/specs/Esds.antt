@@ -2,7 +2,8 @@
 -- Descriptors follow from 12 on. Each elementary stream descriptor (tag 3) is read, and the last one is kept; a
 -- descriptor with another tag ends the reading. Nothing is skipped up to a declared end: each header begins where the
 -- content before it ended.
-use Rattle.std.specs.Prelude.{ℕ, ◌+◌, ◌^◌, ◌==◌, nat_lt, max, List, ◌++◌, drop, length, Option, Some, None, if◌then◌else◌}
+use Rattle.std.specs.Prelude.{ℕ, ◌+◌, ◌^◌, ◌==◌, nat_lt, max, List, ◌++◌, drop, length, Option, Some, None}
+use Rattle.std.specs.Prelude.{if◌then◌else◌}
 use Rattle.mp4_frame.specs.Bytes.{number, bytes_of_fields, FieldsFit, full_box}
 use Rattle.mp4_frame.specs.Format.{Format}
 use Rattle.mp4_frame.specs.Reading.{Reading, Invalid, expect_bytes, faults}
@@ -11,7 +12,8 @@ use Rattle.mp4_frame.specs.declared.codes.TheConstants as codes
 use Rattle.mp4_media.specs.declared.aac_config.AacConfig.{AacConfig}
 use Rattle.mp4_sound.specs.Counted.{Counted, ◌>>=◌, no_header, value, uncounted}
 use Rattle.mp4_sound.specs.DecoderSpecific.{field_decoder_specific, WritableDecoderSpecific}
-use Rattle.mp4_sound.specs.EsDescriptor.{es_descriptor_of, default_es_descriptor, es_descriptor, fields_es_descriptor, normal_es_descriptor}
+use Rattle.mp4_sound.specs.EsDescriptor.{es_descriptor_of, default_es_descriptor, es_descriptor, fields_es_descriptor}
+use Rattle.mp4_sound.specs.EsDescriptor.{normal_es_descriptor}
 use Rattle.mp4_sound.specs.Walk.{walk}
 use Rattle.mp4_sound.specs.declared.descriptor_header.DescriptorHeader.{DescriptorHeader}
 use Rattle.mp4_sound.specs.declared.es_descriptor.ESDescriptor.{ESDescriptor}
@@ -51,7 +53,8 @@ reads_esds bytes start size = uncounted (counted_esds bytes size)
 
 -- the number of whole headers in a box of this start and size in a buffer, up to the first fault
 unfoldable pub headers_esds : List ℕ → ℕ → ℕ → ℕ
-headers_esds bytes start size = if nat_lt (start + size) (2 ^ 64) then (counted_esds (drop start bytes) size).headers else 0
+headers_esds bytes start size =
+    if nat_lt (start + size) (2 ^ 64) then (counted_esds (drop start bytes) size).headers else 0
 
 -- the audio configuration has 2, 3, 5 or 6 bytes
 abbrev pub size_esds : EsdsBox → ℕ
@@ -72,4 +75,5 @@ abbrev pub normal_esds : EsdsBox → EsdsBox
 normal_esds v = record v { es_desc = normal_es_descriptor v.es_desc }
 
 abbrev pub format_esds : Format EsdsBox
-format_esds = record { name = λ _. names.EsdsBox; size = size_esds; Writable = WritableEsds; bytes = bytes_esds; normal = normal_esds }
+format_esds = record
+    { name = λ _. names.EsdsBox; size = size_esds; Writable = WritableEsds; bytes = bytes_esds; normal = normal_esds }

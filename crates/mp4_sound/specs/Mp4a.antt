@@ -1,7 +1,7 @@
 -- mp4a, the sample entry of MPEG-4 audio (ISO/IEC 14496-14, 5.6; ISO/IEC 14496-12, 12.2.3). The fields are 6 reserved
--- bytes at 8, data reference index 2 at 14, 8 reserved, channel count 2 at 24, sample size 2, 4 reserved, and sample rate
--- 4 at 32. In a box of more than 36 bytes another box follows at 36, which is read if it is an esds. Reserved bytes are
--- expected, and are written as zero. The box has at least 36 bytes, whatever its size is.
+-- bytes at 8, data reference index 2 at 14, 8 reserved, channel count 2 at 24, sample size 2, 4 reserved, and sample
+-- rate 4 at 32. In a box of more than 36 bytes another box follows at 36, which is read if it is an esds. Reserved
+-- bytes are expected, and are written as zero. The box has at least 36 bytes, whatever its size is.
 use Rattle.std.specs.Prelude.{ℕ, ◌+◌, ◌%◌, ◌^◌, List, [], ◌∷◌, ◌++◌, Option, Some}
 use Rattle.mp4_frame.specs.Bytes.{number, bytes_of_fields, FieldsFit}
 use Rattle.mp4_frame.specs.Format.{Format}
@@ -20,7 +20,15 @@ use Rattle.mp4_sound.specs.declared.mp4a.Mp4aBox.{Mp4aBox}
 
 -- the value, where `at o w` is the number of w bytes at offset o
 abbrev pub value_mp4a : (ℕ → ℕ → ℕ) → Option EsdsBox → Mp4aBox
-value_mp4a at esds = record { data_reference_index = at 14 2; channelcount = at 24 2; samplesize = at 26 2; samplerate = at 32 4; esds = esds }
+value_mp4a at esds =
+    record {
+      data_reference_index = at 14 2;
+      channelcount = at 24 2;
+      samplesize = at 26 2;
+      samplerate =
+          at 32 4;
+      esds = esds;
+    }
 
 unfoldable pub reads_mp4a : List ℕ → ℕ → ℕ → Reading Mp4aBox
 reads_mp4a bytes start size = do
@@ -47,7 +55,14 @@ mp4a_of config = record {
 }
 
 abbrev pub default_mp4a : Mp4aBox
-default_mp4a = record { data_reference_index = 0; channelcount = 2; samplesize = 16; samplerate = scaled 65536 48000; esds = Some default_esds }
+default_mp4a = record {
+  data_reference_index = 0;
+  channelcount = 2;
+  samplesize = 16;
+  samplerate = scaled 65536 48000;
+  esds =
+      Some default_esds;
+}
 
 -- every number fits its field, and the descriptors can be written
 pub record WritableMp4a (v : Mp4aBox) : Type 0 where
@@ -61,4 +76,5 @@ abbrev pub normal_mp4a : Mp4aBox → Mp4aBox
 normal_mp4a v = record v { esds = normal_optional format_esds v.esds }
 
 abbrev pub format_mp4a : Format Mp4aBox
-format_mp4a = record { name = λ _. names.Mp4aBox; size = size_mp4a; Writable = WritableMp4a; bytes = bytes_mp4a; normal = normal_mp4a }
+format_mp4a = record
+    { name = λ _. names.Mp4aBox; size = size_mp4a; Writable = WritableMp4a; bytes = bytes_mp4a; normal = normal_mp4a }

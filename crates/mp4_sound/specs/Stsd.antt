@@ -1,21 +1,23 @@
--- stsd, the sample descriptions of a track (ISO/IEC 14496-12, 8.5.2). The fields are version 1 byte at 8, flags 3 at 9, and a
--- count of entries 4 at 12, which is expected and not used. In a box of more than 16 bytes a sample entry follows at 16.
--- It is read if its type is one of five, and what follows it is not. Written are the count 1 and one entry, the first
--- that is present of avc1, hev1, vp09, mp4a and tx3g, or the count 0.
+-- stsd, the sample descriptions of a track (ISO/IEC 14496-12, 8.5.2). The fields are version 1 byte at 8, flags 3 at 9,
+-- and a count of entries 4 at 12, which is expected and not used. In a box of more than 16 bytes a sample entry follows
+-- at 16. It is read if its type is one of five, and what follows it is not. Written are the count 1 and one entry, the
+-- first that is present of avc1, hev1, vp09, mp4a and tx3g, or the count 0.
 use Rattle.std.specs.Prelude.{ℕ, ◌+◌, nat_lt, List, [], ◌∷◌, ◌++◌, Option, Some, None, if◌then◌else◌}
 use Rattle.mp4_frame.specs.BoxType.{name_of}
 use Rattle.mp4_frame.specs.Bytes.{number, bytes_of_fields, full_box}
 use Rattle.mp4_frame.specs.Format.{Format}
 use Rattle.mp4_frame.specs.Members.{Known, Unknown, Is, kind, Held, holds, format_held}
 use Rattle.mp4_frame.specs.OneChild.{child_head, child_content}
-use Rattle.mp4_frame.specs.OptionalChild.{count_optional, size_optional, WritableOptional, bytes_optional, normal_optional}
+use Rattle.mp4_frame.specs.OptionalChild.{count_optional, size_optional, WritableOptional, bytes_optional}
+use Rattle.mp4_frame.specs.OptionalChild.{normal_optional}
 use Rattle.mp4_frame.specs.Parent.{WritableParent}
 use Rattle.mp4_frame.specs.Reading.{Reading, ◌>>=◌, map_reading, expect_bytes, done}
 use Rattle.mp4_frame.specs.declared.box_type.BoxType.{BoxType}
 use Rattle.mp4_frame.specs.declared.box_type.BoxType.TheVariants as names
 use Rattle.mp4_frame.specs.declared.codes.TheConstants as codes
 use Rattle.mp4_frame.specs.declared.head.Head.{Head}
-use Rattle.mp4_entries.specs.Boxes.{reads_avc1, format_avc1, reads_hev1, format_hev1, reads_vp09, format_vp09, reads_tx3g, format_tx3g}
+use Rattle.mp4_entries.specs.Boxes.{reads_avc1, format_avc1, reads_hev1, format_hev1, reads_vp09, format_vp09}
+use Rattle.mp4_entries.specs.Boxes.{reads_tx3g, format_tx3g}
 use Rattle.mp4_entries.specs.declared.avc1.Avc1Box.{Avc1Box}
 use Rattle.mp4_entries.specs.declared.hev1.Hev1Box.{Hev1Box}
 use Rattle.mp4_entries.specs.declared.tx3g.Tx3gBox.{Tx3gBox}
@@ -59,11 +61,14 @@ entry_if_known Unknown bytes start c = done None
 
 -- the entry at 16, if the box goes on there and the entry is of one of the types
 abbrev pub entry_at : List ℕ → ℕ → ℕ → Reading (Option Entry)
-entry_at bytes start size = if nat_lt 16 size then (child_head bytes size 16 >>= λ c. entry_if_known (kinds_of_entry (name_of c.code)) bytes start c) else done None
+entry_at bytes start size =
+    if nat_lt 16 size then
+    (child_head bytes size 16 >>= λ c. entry_if_known (kinds_of_entry (name_of c.code)) bytes start c) else done None
 
 -- a box without an entry, and the same with an entry of its type
 abbrev pub without_entry : (version flags : ℕ) → StsdBox
-without_entry version flags = record { version = version; flags = flags; avc1 = None; hev1 = None; vp09 = None; mp4a = None; tx3g = None }
+without_entry version flags =
+    record { version = version; flags = flags; avc1 = None; hev1 = None; vp09 = None; mp4a = None; tx3g = None }
 
 abbrev pub with_entry : StsdBox → Option Entry → StsdBox
 with_entry v (Some (Avc1 b)) = record v { avc1 = Some b }
@@ -84,7 +89,8 @@ reads_stsd bytes start size = do
   done (value_stsd (number bytes) entry)
 
 -- the entry that is written: the first that is present
-abbrev pub first_entry : Option Avc1Box → Option Hev1Box → Option Vp09Box → Option Mp4aBox → Option Tx3gBox → Option Entry
+abbrev pub first_entry : Option Avc1Box → Option Hev1Box → Option Vp09Box → Option Mp4aBox → Option Tx3gBox
+    → Option Entry
 first_entry (Some b) _ _ _ _ = Some (Avc1 b)
 first_entry None (Some b) _ _ _ = Some (Hev1 b)
 first_entry None None (Some b) _ _ = Some (Vp09 b)
@@ -113,4 +119,5 @@ abbrev pub normal_stsd : StsdBox → StsdBox
 normal_stsd v = with_entry (without_entry v.version v.flags) (normal_optional format_entry (entry_stsd v))
 
 abbrev pub format_stsd : Format StsdBox
-format_stsd = record { name = λ _. names.StsdBox; size = size_stsd; Writable = WritableStsd; bytes = bytes_stsd; normal = normal_stsd }
+format_stsd = record
+    { name = λ _. names.StsdBox; size = size_stsd; Writable = WritableStsd; bytes = bytes_stsd; normal = normal_stsd }

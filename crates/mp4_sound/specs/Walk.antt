@@ -8,7 +8,10 @@ use Rattle.mp4_sound.specs.declared.descriptor_header.DescriptorHeader.{Descript
 -- At most n descriptors from o on. Each begins before the bound, and where the content before it ended. What a content
 -- is read as is a value, if it is a wanted one, and the offset where it ended. The last wanted value is kept; beside it
 -- is the offset where the last content ended.
-unfoldable pub walk : {A : Type 0} → (List ℕ → ℕ → DescriptorHeader → Counted (Option A × ℕ)) → List ℕ → ℕ → ℕ → ℕ → Counted (Option A × ℕ)
+unfoldable pub walk : {A : Type 0} → (List ℕ → ℕ → DescriptorHeader → Counted (Option A × ℕ)) → List ℕ → ℕ → ℕ → ℕ
+    → Counted (Option A × ℕ)
 walk content bytes bound zero o = value (None, o)
 walk content bytes bound (suc n) o =
-    if nat_le bound o then value (None, o) else (one_header (descriptor_header bytes o) >>= λ d. content bytes bound d >>= λ mine. walk content bytes bound n mine.1 >>= λ later. value (last mine.0 later.0, later.1))
+    if nat_le bound o then value (None, o) else
+    (one_header (descriptor_header bytes o) >>= λ d. content bytes bound d >>= λ mine.
+    walk content bytes bound n mine.1 >>= λ later. value (last mine.0 later.0, later.1))

@@ -5,7 +5,8 @@ ghost use Rattle.mp4_frame.specs.Reading.{Answers};
 ghost use Rattle.mp4_media.specs.AudioObjectType.{number_audio_object_type};
 ghost use Rattle.mp4_sound.specs.Counted.{uncounted};
 ghost use Rattle.mp4_sound.specs.DecoderConfig.{in_decoder_config};
-ghost use Rattle.mp4_sound.specs.DecoderSpecific.{decoder_specific_of, decoder_specific, field_decoder_specific, RateFits, WritableDecoderSpecific};
+ghost use Rattle.mp4_sound.specs.DecoderSpecific.{decoder_specific_of, decoder_specific, field_decoder_specific};
+ghost use Rattle.mp4_sound.specs.DecoderSpecific.{RateFits, WritableDecoderSpecific};
 
 use crate::descriptor_header::DescriptorHeader;
 use crate::uint::uint_at;

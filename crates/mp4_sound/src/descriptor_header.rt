@@ -2,7 +2,8 @@
 
 ghost use Rattle.std.specs.Prelude.{◌≡◌, ◌+◌, ◌<◌, ◌≤◌, ◌^◌, length, IfOk, IfErr};
 ghost use Rattle.mp4_frame.specs.Reading.{Answers};
-ghost use Rattle.mp4_sound.specs.DescriptorHeader.{FaultOf, IsWhole, descriptor_header, fourth_length, header_of_bytes, longer, second_length, third_length};
+ghost use Rattle.mp4_sound.specs.DescriptorHeader.{FaultOf, IsWhole, descriptor_header, fourth_length, header_of_bytes};
+ghost use Rattle.mp4_sound.specs.DescriptorHeader.{longer, second_length, third_length};
 
 use mp4_frame::{Result, expect_bytes, u8_at};
 

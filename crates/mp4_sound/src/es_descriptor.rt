@@ -49,7 +49,9 @@ impl ESDescriptor {
         requires few { headers.old ≤ at }
         ensures value { Answers result (uncounted (es_descriptor bytes.now at long)) }
         ensures headers { headers.new ≡ headers.old + (es_descriptor bytes.now at long).headers }
-        ensures few { MatchResult result (λ r. (at ≤ r.1) × (2 * headers.new + at ≤ 2 * headers.old + min r.1 (length bytes.now))) (λ _. 2 * headers.new + at ≤ 2 * headers.old + length bytes.now) }
+        ensures few { MatchResult result
+            (λ r. (at ≤ r.1) × (2 * headers.new + at ≤ 2 * headers.old + min r.1 (length bytes.now)))
+            (λ _. 2 * headers.new + at ≤ 2 * headers.old + length bytes.now) }
     {
         let offset = at as usize;
         expect_bytes(bytes, offset, 3)?;

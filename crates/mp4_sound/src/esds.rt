@@ -4,7 +4,8 @@ ghost use Rattle.std.specs.Prelude.{◌≡◌, ◌+◌, ◌-◌, ◌*◌, ◌≤
 ghost use Rattle.mp4_frame.specs.Format.{write_laws};
 ghost use Rattle.mp4_frame.specs.Reading.{Answers, reading};
 ghost use Rattle.mp4_sound.specs.Counted.{uncounted};
-ghost use Rattle.mp4_sound.specs.Esds.{esds_of, last_es_descriptor, counted_esds, reads_esds, headers_esds, format_esds};
+ghost use Rattle.mp4_sound.specs.Esds.{esds_of, last_es_descriptor, counted_esds, reads_esds, headers_esds};
+ghost use Rattle.mp4_sound.specs.Esds.{format_esds};
 ghost use Rattle.mp4_sound.specs.EsdsLaws.{laws_esds, esds_takes_none};
 
 use crate::es_descriptor::ESDescriptor;
@@ -12,8 +13,8 @@ use crate::uint::put_uint;
 use crate::walk::walk;
 use mp4_frame::{
     BoxLaws, BoxType, ByteCursor, Error, Mp4Box, ReadBox, ReadsWithoutMemory, Result, TryClone,
-    WriteBox, bytes_from, codes, expect_bytes, put_full_box, put_u8, put_u16, put_u24, put_u32,
-    u8_at, u24_at,
+    WriteBox, bytes_from, check_end, codes, expect_bytes, put_full_box, put_u8, put_u16, put_u24,
+    put_u32, u8_at, u24_at,
 };
 use mp4_media::AacConfig;
 use std::alloc::Global;
@@ -57,8 +58,8 @@ impl EsdsBox {
         ensures few { 2 * result.1 ≤ length reader.old.bytes.now - reader.old.position }
     {
         let start = reader.position() - 8;
-        if size > u64::MAX - start {
-            return (Err(Error::InvalidData("box end past 64 bits")), 0);
+        if let Err(e) = check_end(start, size) {
+            return (Err(e), 0);
         }
         let mut headers = 0;
         let result = counted_esds(bytes_from(reader.bytes(), start), size, &mut headers);

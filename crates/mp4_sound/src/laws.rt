@@ -20,14 +20,21 @@ use crate::{
 
 /// Every descriptor of a walk is read: looking for more descriptors than there are bytes changes nothing.
 pub fn descriptors_are_read_to_their_end()
-    ensures in_esds { (bytes : List ℕ) (bound from more : ℕ) → 0 < from → from ≤ length bytes → walk in_esds bytes bound (length bytes + more) from ≡ walk in_esds bytes bound (length bytes) from }
-    ensures in_es_descriptor { (bytes : List ℕ) (bound from more : ℕ) → 0 < from → from ≤ length bytes → walk in_es_descriptor bytes bound (length bytes + more) from ≡ walk in_es_descriptor bytes bound (length bytes) from }
-    ensures in_decoder_config { (bytes : List ℕ) (bound from more : ℕ) → 0 < from → from ≤ length bytes → walk in_decoder_config bytes bound (length bytes + more) from ≡ walk in_decoder_config bytes bound (length bytes) from }
+    ensures in_esds { (bytes : List ℕ) (bound from more : ℕ) → 0 < from → from ≤ length bytes
+        → walk in_esds bytes bound (length bytes + more) from ≡ walk in_esds bytes bound (length bytes) from }
+    ensures in_es_descriptor { (bytes : List ℕ) (bound from more : ℕ) → 0 < from → from ≤ length bytes
+        → walk in_es_descriptor bytes bound (length bytes + more) from
+        ≡ walk in_es_descriptor bytes bound (length bytes) from }
+    ensures in_decoder_config { (bytes : List ℕ) (bound from more : ℕ) → 0 < from → from ≤ length bytes
+        → walk in_decoder_config bytes bound (length bytes + more) from
+        ≡ walk in_decoder_config bytes bound (length bytes) from }
 {}
 
 /// Reading an `stsd` takes no memory, unless its entry is an `avc1`.
 pub fn only_avc1_takes_memory()
-    ensures { (bytes : List ℕ) (start size : ℕ) → (16 < size → (entry : Head) → (child_head bytes size 16).outcome ≡ Ok entry → ¬ (entry.code ≡ codes.AVC1)) → TakesNone (reads_stsd bytes start size) }
+    ensures { (bytes : List ℕ) (start size : ℕ)
+        → (16 < size → (entry : Head) → (child_head bytes size 16).outcome ≡ Ok entry → ¬ (entry.code ≡ codes.AVC1))
+        → TakesNone (reads_stsd bytes start size) }
 {}
 
 /// `==` of two values compares all of their fields.

@@ -1,6 +1,7 @@
 //! The sample description box.
 
-ghost use Rattle.std.specs.Prelude.{◌≡◌, ◌+◌, ◌-◌, ◌^◌, ◌≤◌, Some, None, length, min, take, ◌++◌, ◌↔◌, IsTrue, IfOk, IfErr};
+ghost use Rattle.std.specs.Prelude.{◌≡◌, ◌+◌, ◌-◌, ◌^◌, ◌≤◌, Some, None, length, min, take, ◌++◌, ◌↔◌, IsTrue, IfOk};
+ghost use Rattle.std.specs.Prelude.{IfErr};
 ghost use Rattle.mp4_frame.specs.Bytes.{be_bytes};
 ghost use Rattle.mp4_frame.specs.Format.{write_laws};
 ghost use Rattle.mp4_frame.specs.OneChild.{child_content};
@@ -8,7 +9,8 @@ ghost use Rattle.mp4_frame.specs.OptionalChild.{WritableOptional};
 ghost use Rattle.mp4_frame.specs.Reading.{AnswersAs, map_reading};
 ghost use Rattle.mp4_frame.specs.declared.box_type.BoxType.TheVariants as names;
 ghost use Rattle.mp4_frame.specs.declared.error.Error.TheVariants.{OutOfMemory};
-ghost use Rattle.mp4_sound.specs.Stsd.{kinds_of_entry, format_entry, entry_if_known, with_entry, entry_stsd, size_stsd, reads_stsd, format_stsd};
+ghost use Rattle.mp4_sound.specs.Stsd.{kinds_of_entry, format_entry, entry_if_known, with_entry, entry_stsd, size_stsd};
+ghost use Rattle.mp4_sound.specs.Stsd.{reads_stsd, format_stsd};
 ghost use Rattle.mp4_sound.specs.StsdLaws.{laws_stsd};
 
 use crate::mp4a::Mp4aBox;
@@ -19,8 +21,8 @@ use mp4_frame::{
 };
 use std::alloc::Global;
 
-/// An expression of the first entry of a box that is present, of `avc1`, `hev1`, `vp09`, `mp4a` and `tx3g` in this order,
-/// or another expression where none is.
+/// An expression of the first entry of a box that is present, of `avc1`, `hev1`, `vp09`, `mp4a` and `tx3g` in this
+/// order, or another expression where none is.
 macro_rules! first_entry {
     ($stsd:expr, $entry:ident => $value:expr, $none:expr) => {
         if let Some($entry) = &$stsd.avc1 {
@@ -39,9 +41,9 @@ macro_rules! first_entry {
     };
 }
 
-/// The sample descriptions of a track (`stsd`, ISO/IEC 14496-12, 8.5.2). When it is read, the first entry is kept if it is
-/// of one of the five types here, also where it ends after the `stsd`. Entries after it are not read. When it is written, the
-/// first entry that is present is, in the order of the fields, and it alone has to be writable.
+/// The sample descriptions of a track (`stsd`, ISO/IEC 14496-12, 8.5.2). When it is read, the first entry is kept if it
+/// is of one of the five types here, also where it ends after the `stsd`. Entries after it are not read. When it is
+/// written, the first entry that is present is, in the order of the fields, and it alone has to be writable.
 #[derive(Debug, Drop, PartialEq, Eq)]
 pub struct StsdBox {
     /// The version of the box, usually 0. It is kept as it is.
@@ -63,7 +65,8 @@ pub struct StsdBox {
 impl StsdBox {
     /// Version 0, flags 0 and no entry.
     fn empty() -> StsdBox
-        ensures { result ≡ record { version = 0; flags = 0; avc1 = None; hev1 = None; vp09 = None; mp4a = None; tx3g = None } }
+        ensures { result ≡ record
+            { version = 0; flags = 0; avc1 = None; hev1 = None; vp09 = None; mp4a = None; tx3g = None } }
     {
         StsdBox {
             version: 0,
@@ -78,7 +81,8 @@ impl StsdBox {
 
     /// Version 0, flags 0 and no entry. It takes no memory.
     pub fn default_in(_alloc: Global) -> StsdBox
-        ensures { result ≡ record { version = 0; flags = 0; avc1 = None; hev1 = None; vp09 = None; mp4a = None; tx3g = None } }
+        ensures { result ≡ record
+            { version = 0; flags = 0; avc1 = None; hev1 = None; vp09 = None; mp4a = None; tx3g = None } }
     {
         StsdBox::empty()
     }
@@ -151,7 +155,8 @@ fn read_content_of<T: ReadBox + Drop>(
     entry: &mut Option<T>,
 ) -> Result<()>
     requires { child.start ≤ length parent.now.bytes.now }
-    ensures { AnswersAs (λ _. entry.new) result (map_reading (λ v. Some v) (child_content T.reads parent.now.bytes.now parent.now.start child)) }
+    ensures { AnswersAs (λ _. entry.new) result
+        (map_reading (λ v. Some v) (child_content T.reads parent.now.bytes.now parent.now.start child)) }
 {
     *entry = Some(child_content(alloc, parent, child)?);
     Ok(())
@@ -166,7 +171,9 @@ fn read_entry(
     stsd: &mut StsdBox,
 ) -> Result<()>
     requires { child.start ≤ length parent.now.bytes.now }
-    ensures { AnswersAs (λ _. stsd.new) result (map_reading (with_entry stsd.old) (entry_if_known (kinds_of_entry name) parent.now.bytes.now parent.now.start child)) }
+    ensures { AnswersAs (λ _. stsd.new) result
+        (map_reading (with_entry stsd.old)
+        (entry_if_known (kinds_of_entry name) parent.now.bytes.now parent.now.start child)) }
 {
     match name {
         BoxType::Avc1Box => read_content_of(alloc, parent, child, &mut stsd.avc1),

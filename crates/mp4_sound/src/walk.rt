@@ -28,7 +28,10 @@ pub trait WalkedFor: Drop {
         requires few { headers.old ≤ header.content }
         ensures value { Answers result (uncounted (content bytes.now bound header)) }
         ensures headers { headers.new ≡ headers.old + (content bytes.now bound header).headers }
-        ensures few { MatchResult result (λ r. (header.content ≤ r.1) × (2 * headers.new + header.content ≤ 2 * headers.old + min r.1 (length bytes.now))) (λ _. 2 * headers.new + header.content ≤ 2 * headers.old + length bytes.now) };
+        ensures few { MatchResult result
+            (λ r. (header.content ≤ r.1)
+            × (2 * headers.new + header.content ≤ 2 * headers.old + min r.1 (length bytes.now)))
+            (λ _. 2 * headers.new + header.content ≤ 2 * headers.old + length bytes.now) };
 }
 
 /// Walks over at most `most` descriptors from offset `from` on, each of which begins before a bound and where the
@@ -45,7 +48,9 @@ pub(crate) fn walk<T: WalkedFor>(
     requires few { headers.old ≤ from }
     ensures value { Answers result (uncounted (walk T.content bytes.now bound most from)) }
     ensures headers { headers.new ≡ headers.old + (walk T.content bytes.now bound most from).headers }
-    ensures few { MatchResult result (λ r. (from ≤ r.1) × (2 * headers.new + from ≤ 2 * headers.old + min r.1 (length bytes.now))) (λ _. 2 * headers.new + from ≤ 2 * headers.old + length bytes.now) }
+    ensures few { MatchResult result
+        (λ r. (from ≤ r.1) × (2 * headers.new + from ≤ 2 * headers.old + min r.1 (length bytes.now)))
+        (λ _. 2 * headers.new + from ≤ 2 * headers.old + length bytes.now) }
 {
     let mut found = None;
     let mut at = from;

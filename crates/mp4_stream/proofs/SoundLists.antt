@@ -1,5 +1,6 @@
 -- Lists of boxes that were read, where the reading of a box is sound.
-use Rattle.std.proofs.Common.{◌≡◌, ℕ, zero, suc, ◌+◌, ◌-◌, ◌<◌, ◌^◌, Bool, true, false, cond, List, [], ◌∷◌, ◌++◌, length, map, Result, Ok, Err, refl, sym, ap, subst, ◌∙◌, arith}
+use Rattle.std.proofs.Common.{◌≡◌, ℕ, zero, suc, ◌+◌, ◌-◌, ◌<◌, ◌^◌, Bool, true, false, cond, List, [], ◌∷◌, ◌++◌}
+use Rattle.std.proofs.Common.{length, map, Result, Ok, Err, refl, sym, ap, subst, ◌∙◌, arith}
 use Rattle.std.specs.List.{AllByRecursion}
 use Rattle.std.specs.Prelude.{nat_lt, nat_le, ◌==◌}
 use Rattle.std.proofs.lemmas.Bool.{cond_both}
@@ -20,17 +21,20 @@ use Rattle.mp4_stream.specs.Sound.{ReadsSoundly}
 
 -- ---- the name of a frame is that of a code of four bytes
 
-code_by : (B : List ℕ) (o : ℕ) (c : Head) (b : Bool) → (cond b (large_head B o) (compact_head B o)).outcome ≡ Ok c → number B (o + 4) 4 ≡ c.code
+code_by : (B : List ℕ) (o : ℕ) (c : Head) (b : Bool) → (cond b (large_head B o) (compact_head B o)).outcome ≡ Ok c
+    → number B (o + 4) 4 ≡ c.code
 code_by B o c true e =
     let value : Head = record { code = number B (o + 4) 4; size = number B (o + 8) 8 - 8; start = o + 8 } in
     let p = expect_bytes_ok B (o + 8) 8 (λ _. check _ >>= λ _. done value) c e in
     let q = check_ok _ (λ _. done value) c p in
     ap (λ (h : Head). h.code) (is_value value c q.1)
-code_by B o c false e = ap (λ (h : Head). h.code) (is_value (record { code = number B (o + 4) 4; size = number B o 4; start = o }) c e)
+code_by B o c false e =
+    ap (λ (h : Head). h.code) (is_value (record { code = number B (o + 4) 4; size = number B o 4; start = o }) c e)
 
 head_code : (B : List ℕ) (o : ℕ) (c : Head) → (head B o).outcome ≡ Ok c → number B (o + 4) 4 ≡ c.code
 unfolding head
-head_code B o c e = code_by B o c (number B o 4 == 1) (expect_bytes_ok B o 8 (λ _. cond (number B o 4 == 1) (large_head B o) (compact_head B o)) c e)
+head_code B o c e = code_by B o c (number B o 4 == 1)
+    (expect_bytes_ok B o 8 (λ _. cond (number B o 4 == 1) (large_head B o) (compact_head B o)) c e)
 
 abbrev IsNamed : ℕ → Result Frame Fault → Type 0
 IsNamed code (Ok f) = f.name ≡ name_of code
@@ -44,21 +48,25 @@ frame_named len h =
     cond_both (nat_lt (2 ^ 64 - 1) (h.start + h.size)) _ _ (IsNamed h.code) (λ _. tt) (λ _.
     cond_both (nat_lt len (h.start + h.size)) _ _ (IsNamed h.code) (λ _. tt) (λ _. refl))))
 
-code_in_frame : (B : List ℕ) (o : ℕ) (f : Frame) → AreBytes B → (r : Result Head Fault) → (head B o).outcome ≡ r → frame_of (length B) r ≡ Ok f → code_of f.name < 2 ^ 32
+code_in_frame : (B : List ℕ) (o : ℕ) (f : Frame) → AreBytes B → (r : Result Head Fault) → (head B o).outcome ≡ r
+    → frame_of (length B) r ≡ Ok f → code_of f.name < 2 ^ 32
 code_in_frame B o f are (Ok h) is e =
     let name : f.name ≡ name_of h.code = subst (IsNamed h.code) e (frame_named (length B) h) in
-    let code : code_of f.name ≡ number B (o + 4) 4 = ap code_of name ∙ code_of-name_of h.code ∙ sym (head_code B o h is) in
+    let code : code_of f.name ≡ number B (o + 4) 4 = ap code_of name ∙ code_of-name_of h.code
+    ∙ sym (head_code B o h is) in
     omega (arith, code, number-below B (o + 4) 4 are)
 code_in_frame B o f are (Err k) is e = absurd cc
 
 -- ---- lists that were read
 
 -- what comes after a list that ends here
-by_end : {A : Type 0} (b : Bool) (r : Reading (List A)) (vs : List A) (P : List A → Type 0) → P [] → (r.outcome ≡ Ok vs → P vs) → (cond b (done []) r).outcome ≡ Ok vs → P vs
+by_end : {A : Type 0} (b : Bool) (r : Reading (List A)) (vs : List A) (P : List A → Type 0) → P []
+    → (r.outcome ≡ Ok vs → P vs) → (cond b (done []) r).outcome ≡ Ok vs → P vs
 by_end true r vs P none more e = subst P (is_value [] vs e) none
 by_end false r vs P none more e = more e
 
-module _ {A : Type 0} (format : Format A) (known : BoxType → Bool) (reading : BoxType → List ℕ → ℕ → ℕ → Reading A) where
+module _ {A : Type 0} (format : Format A) (known : BoxType → Bool)
+    (reading : BoxType → List ℕ → ℕ → ℕ → Reading A) where
   -- a value is its own normal form, and can be written unless it is too large
   abbrev IsSound : A → Type 0
   IsSound v = (format.normal v ≡ v) × (format.size v < 2 ^ 32 → format.Writable v)
@@ -72,34 +80,43 @@ module _ {A : Type 0} (format : Format A) (known : BoxType → Bool) (reading : 
 
   pub own_normal_forms : (vs : List A) → AreSound vs → map format.normal vs ≡ vs
   own_normal_forms [] h = refl
-  own_normal_forms (v ∷ vs) h = ap (λ (u : A). u ∷ map format.normal vs) h.0.0 ∙ ap (λ (us : List A). v ∷ us) (own_normal_forms vs h.1)
+  own_normal_forms (v ∷ vs) h = ap (λ (u : A). u ∷ map format.normal vs) h.0.0
+      ∙ ap (λ (us : List A). v ∷ us) (own_normal_forms vs h.1)
 
-  pub are_writable : (vs : List A) → AreSound vs → AllByRecursion (λ v. format.size v < 2 ^ 32) vs → AllByRecursion format.Writable vs
+  pub are_writable : (vs : List A) → AreSound vs → AllByRecursion (λ v. format.size v < 2 ^ 32) vs
+      → AllByRecursion format.Writable vs
   are_writable [] h small = tt
   are_writable (v ∷ vs) h small = (h.0.1 small.0, are_writable vs h.1 small.1)
 
   module _ (sound : ReadsSoundly known reading format) (B : List ℕ) (are : AreBytes B) where
     item_by : (o : ℕ) (f : Frame) → code_of f.name < 2 ^ 32 → (xs : List A) (b : Bool) → known f.name ≡ b
-        → (cond b (reading f.name B f.start f.size >>= λ v. memory >>= λ _. done (v ∷ [])) (done [])).outcome ≡ Ok xs → AreSound xs
+        → (cond b (reading f.name B f.start f.size >>= λ v. memory >>= λ _. done (v ∷ [])) (done [])).outcome ≡ Ok xs
+        → AreSound xs
     item_by o f small xs true is e =
         let p = value_first (reading f.name B f.start f.size) (λ v. memory >>= λ _. done (v ∷ [])) xs e in
         subst AreSound (is_value (p.0 ∷ []) xs p.2) (sound f.name is small B f.start f.size p.0 are p.1, tt)
     item_by o f small xs false is e = subst AreSound (is_value [] xs e) tt
 
-    walk_on_sound : (o : ℕ) (rest : ℕ → Reading (List A)) → ((e : ℕ) (ys : List A) → (rest e).outcome ≡ Ok ys → AreSound ys) → (r : Result Frame Fault) → frame B o ≡ r → (vs : List A) → (walk_on (box_of known reading B o) rest r).outcome ≡ Ok vs → AreSound vs
+    walk_on_sound : (o : ℕ) (rest : ℕ → Reading (List A))
+        → ((e : ℕ) (ys : List A) → (rest e).outcome ≡ Ok ys → AreSound ys) → (r : Result Frame Fault) → frame B o ≡ r
+        → (vs : List A) → (walk_on (box_of known reading B o) rest r).outcome ≡ Ok vs → AreSound vs
     walk_on_sound o rest after (Ok f) is vs e =
         let small = code_in_frame B o f are (head B o).outcome refl is in
         let p = value_first (box_of known reading B o f) (λ xs. rest f.end >>= λ ys. done (xs ++ ys)) vs e in
         let q = value_first (rest f.end) (λ ys. done (p.0 ++ ys)) vs p.2 in
-        subst AreSound (is_value (p.0 ++ q.0) vs q.2) (joined p.0 q.0 (item_by o f small p.0 (known f.name) refl p.1) (after f.end q.0 q.1))
+        subst AreSound (is_value (p.0 ++ q.0) vs q.2)
+        (joined p.0 q.0 (item_by o f small p.0 (known f.name) refl p.1) (after f.end q.0 q.1))
     walk_on_sound o rest after (Err k) is vs e = absurd cc
 
     walk_sound : (n o : ℕ) (vs : List A) → (walk_at_most (box_of known reading B) B n o).outcome ≡ Ok vs → AreSound vs
     unfolding walk_at_most
     walk_sound zero o vs e = subst AreSound (is_value [] vs e) tt
     walk_sound (suc n) o vs e =
-        by_end (nat_le (length B) o) (walk_on (box_of known reading B o) (λ e. walk_at_most (box_of known reading B) B n e) (frame B o)) vs AreSound tt
-        (walk_on_sound o (λ e. walk_at_most (box_of known reading B) B n e) (λ e ys h. walk_sound n e ys h) (frame B o) refl vs) e
+        by_end (nat_le (length B) o)
+        (walk_on (box_of known reading B o) (λ e. walk_at_most (box_of known reading B) B n e) (frame B o)) vs
+        AreSound tt
+        (walk_on_sound o (λ e. walk_at_most (box_of known reading B) B n e) (λ e ys h. walk_sound n e ys h)
+        (frame B o) refl vs) e
 
     -- all boxes of a list that was read are sound
     pub read_lists_are_sound : (o : ℕ) (vs : List A) → (boxes known reading B o).outcome ≡ Ok vs → AreSound vs
@@ -108,11 +125,13 @@ module _ {A : Type 0} (format : Format A) (known : BoxType → Bool) (reading : 
 -- ---- normal forms of a list
 
 module _ {A : Type 0} (format : Format A) (laws : IsWritten format) where
-  pub normals_are_writable : (vs : List A) → AllByRecursion format.Writable vs → AllByRecursion format.Writable (map format.normal vs)
+  pub normals_are_writable : (vs : List A) → AllByRecursion format.Writable vs
+      → AllByRecursion format.Writable (map format.normal vs)
   normals_are_writable [] w = tt
   normals_are_writable (v ∷ vs) w = ((laws.normal_form v w.0).writable, normals_are_writable vs w.1)
 
-  pub normals_have_same_bytes : (vs : List A) → AllByRecursion format.Writable vs → stream format.bytes (map format.normal vs) ≡ stream format.bytes vs
+  pub normals_have_same_bytes : (vs : List A) → AllByRecursion format.Writable vs
+      → stream format.bytes (map format.normal vs) ≡ stream format.bytes vs
   normals_have_same_bytes [] w = refl
   normals_have_same_bytes (v ∷ vs) w =
       ap (λ (xs : List ℕ). xs ++ stream format.bytes (map format.normal vs)) (laws.normal_form v w.0).same_bytes

@@ -6,10 +6,18 @@ use Rattle.mp4_frame.specs.Members.{Known, Unknown, Is, kind, is_known, reading_
 use Rattle.mp4_frame.specs.Reading.{Reading}
 use Rattle.mp4_frame.specs.declared.box_type.BoxType.{BoxType}
 use Rattle.mp4_frame.specs.declared.box_type.BoxType.TheVariants as names
-use Rattle.mp4_flat.specs.Boxes.{reads_mvhd, format_mvhd, reads_tkhd, format_tkhd, reads_mdhd, format_mdhd, reads_mehd, format_mehd, reads_mfhd, format_mfhd, reads_smhd, format_smhd, reads_vmhd, format_vmhd, reads_trex, format_trex, reads_tfdt, format_tfdt}
-use Rattle.mp4_tables.specs.Boxes.{reads_stco, format_stco, reads_co64, format_co64, reads_stts, format_stts, reads_ctts, format_ctts, reads_stss, format_stss, reads_stsz, format_stsz, reads_stsc, format_stsc, reads_elst, format_elst, reads_tfhd, format_tfhd, reads_trun, format_trun}
-use Rattle.mp4_text.specs.Boxes.{reads_ftyp, format_ftyp, reads_hdlr, format_hdlr, reads_data, format_data, reads_emsg, format_emsg, reads_url, format_url, reads_dref, format_dref, reads_dinf, format_dinf}
-use Rattle.mp4_entries.specs.Boxes.{reads_avcc, format_avcc, reads_avc1, format_avc1, reads_hvcc, format_hvcc, reads_hev1, format_hev1, reads_vpcc, format_vpcc, reads_vp09, format_vp09, reads_tx3g, format_tx3g}
+use Rattle.mp4_flat.specs.Boxes.{reads_mvhd, format_mvhd, reads_tkhd, format_tkhd, reads_mdhd, format_mdhd, reads_mehd}
+use Rattle.mp4_flat.specs.Boxes.{format_mehd, reads_mfhd, format_mfhd, reads_smhd, format_smhd, reads_vmhd, format_vmhd}
+use Rattle.mp4_flat.specs.Boxes.{reads_trex, format_trex, reads_tfdt, format_tfdt}
+use Rattle.mp4_tables.specs.Boxes.{reads_stco, format_stco, reads_co64, format_co64, reads_stts, format_stts}
+use Rattle.mp4_tables.specs.Boxes.{reads_ctts, format_ctts, reads_stss, format_stss, reads_stsz, format_stsz}
+use Rattle.mp4_tables.specs.Boxes.{reads_stsc, format_stsc, reads_elst, format_elst, reads_tfhd, format_tfhd}
+use Rattle.mp4_tables.specs.Boxes.{reads_trun, format_trun}
+use Rattle.mp4_text.specs.Boxes.{reads_ftyp, format_ftyp, reads_hdlr, format_hdlr, reads_data, format_data, reads_emsg}
+use Rattle.mp4_text.specs.Boxes.{format_emsg, reads_url, format_url, reads_dref, format_dref, reads_dinf, format_dinf}
+use Rattle.mp4_entries.specs.Boxes.{reads_avcc, format_avcc, reads_avc1, format_avc1, reads_hvcc, format_hvcc}
+use Rattle.mp4_entries.specs.Boxes.{reads_hev1, format_hev1, reads_vpcc, format_vpcc, reads_vp09, format_vp09}
+use Rattle.mp4_entries.specs.Boxes.{reads_tx3g, format_tx3g}
 use Rattle.mp4_sound.specs.Boxes.{reads_esds, format_esds, reads_mp4a, format_mp4a, reads_stsd, format_stsd}
 use Rattle.mp4_stream.specs.declared.any_box.AnyBox.{AnyBox}
 use Rattle.mp4_stream.specs.declared.any_box.AnyBox.TheVariants as any

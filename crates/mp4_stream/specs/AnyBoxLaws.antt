@@ -1,8 +1,10 @@
 -- The laws of a box of any type follow from the laws of its type.
 use Rattle.std.proofs.Common.{refl}
 use Rattle.mp4_frame.specs.MemberLaws.{IsMember, member}
-use Rattle.mp4_flat.specs.Boxes.{laws_mvhd, laws_tkhd, laws_mdhd, laws_mehd, laws_mfhd, laws_smhd, laws_vmhd, laws_trex, laws_tfdt}
-use Rattle.mp4_tables.specs.Boxes.{laws_stco, laws_co64, laws_stts, laws_ctts, laws_stss, laws_stsz, laws_stsc, laws_elst, laws_tfhd, laws_trun}
+use Rattle.mp4_flat.specs.Boxes.{laws_mvhd, laws_tkhd, laws_mdhd, laws_mehd, laws_mfhd, laws_smhd, laws_vmhd, laws_trex}
+use Rattle.mp4_flat.specs.Boxes.{laws_tfdt}
+use Rattle.mp4_tables.specs.Boxes.{laws_stco, laws_co64, laws_stts, laws_ctts, laws_stss, laws_stsz, laws_stsc}
+use Rattle.mp4_tables.specs.Boxes.{laws_elst, laws_tfhd, laws_trun}
 use Rattle.mp4_text.specs.Boxes.{laws_ftyp, laws_hdlr, laws_data, laws_emsg, laws_url, laws_dref, laws_dinf}
 use Rattle.mp4_entries.specs.Boxes.{laws_avcc, laws_avc1, laws_hvcc, laws_hev1, laws_vpcc, laws_vp09, laws_tx3g}
 use Rattle.mp4_sound.specs.Boxes.{laws_esds, laws_mp4a, laws_stsd}

@@ -5,7 +5,8 @@
 unfoldable pub use Rattle.mp4_frame.specs.Bytes.{number, be_bytes, bytes_of_fields, bytes_of_fields_onto}
 pub use Rattle.mp4_frame.specs.Bytes.{width_of_fields, FieldsFit, full_box}
 -- reading
-pub use Rattle.mp4_frame.specs.Reading.{Reading, ◌>>=◌, done, check, expect_bytes, piece_at, memory, reading, Answers, AnswersAs, TakesNone}
+pub use Rattle.mp4_frame.specs.Reading.{Reading, ◌>>=◌, done, check, expect_bytes, piece_at, memory, reading, Answers}
+pub use Rattle.mp4_frame.specs.Reading.{AnswersAs, TakesNone}
 unfoldable pub use Rattle.mp4_frame.specs.Tables.{rows_at}
 pub use Rattle.mp4_frame.specs.Tables.{reads_table, size_table, WritableTable, bytes_table}
 pub use Rattle.mp4_flat.specs.Time.{time_width, version_of, reads_timed, WritableTimed}
@@ -28,13 +29,17 @@ pub use Rattle.mp4_frame.specs.declared.codes.TheConstants as codes
 pub use Rattle.mp4_frame.specs.declared.error.Error.TheVariants as errors
 pub use Rattle.mp4_frame.specs.Format.{Format, IsBox, write_laws}
 pub use Rattle.mp4_frame.specs.Laws.{OwnName, ReadsBack, AreBytes}
-pub use Rattle.mp4_frame.specs.Members.{Kind, Known, Unknown, Is, kind, is_known, reading_known, Held, holds, format_held, NamedAsRead, Inside, boxed, held_inside}
+pub use Rattle.mp4_frame.specs.Members.{Kind, Known, Unknown, Is, kind, is_known, reading_known, Held, holds}
+pub use Rattle.mp4_frame.specs.Members.{format_held, NamedAsRead, Inside, boxed, held_inside}
 pub use Rattle.mp4_stream.specs.Coded.{known_if, of_code}
 -- the laws of a box of fields
-pub use Rattle.mp4_frame.proofs.Fields.{found, length-fields, number-fields, number-fields_alone, numbers-fields, expect_bytes-fields, number-below}
-pub use Rattle.mp4_frame.proofs.Framing.{header_of_fields, header_in_front, own_normal_form, Number, Signed8, Signed16, Signed32, Fitting, fits_read}
+pub use Rattle.mp4_frame.proofs.Fields.{found, length-fields, number-fields, number-fields_alone, numbers-fields}
+pub use Rattle.mp4_frame.proofs.Fields.{expect_bytes-fields, number-below}
+pub use Rattle.mp4_frame.proofs.Framing.{header_of_fields, header_in_front, own_normal_form, Number, Signed8, Signed16}
+pub use Rattle.mp4_frame.proofs.Framing.{Signed32, Fitting, fits_read}
 pub use Rattle.mp4_frame.proofs.Rows.{one_run_again, one_run_is, by_version_again, by_version_is}
-pub use Rattle.mp4_frame.proofs.Checks.{past, past_check, expect_bytes_ok, check_ok, is_value, are_bytes-drop, reads_ok, reads_back}
+pub use Rattle.mp4_frame.proofs.Checks.{past, past_check, expect_bytes_ok, check_ok, is_value, are_bytes-drop, reads_ok}
+pub use Rattle.mp4_frame.proofs.Checks.{reads_back}
 pub use Rattle.mp4_frame.proofs.NoMemory.{bind_takes_none, expect_bytes_takes_none, check_takes_none, fields_take_none}
 pub use Rattle.mp4_flat.specs.TimeLaws.{each_version, timed_back, timed_is, timed_takes_none}
 -- the laws of a box with a list

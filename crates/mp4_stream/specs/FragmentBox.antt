@@ -2,7 +2,9 @@
 use Rattle.mp4_frame.specs.Members.{Known, Unknown, Is, kind, Inside, boxed}
 use Rattle.mp4_frame.specs.declared.box_type.BoxType.{BoxType}
 use Rattle.mp4_frame.specs.declared.box_type.BoxType.TheVariants as names
-use Rattle.mp4_stream.specs.Boxes.{reads_mehd, format_mehd, reads_trex, format_trex, reads_mfhd, format_mfhd, reads_tfhd, format_tfhd, reads_tfdt, format_tfdt, reads_trun, format_trun, reads_emsg, format_emsg}
+use Rattle.mp4_stream.specs.Boxes.{reads_mehd, format_mehd, reads_trex, format_trex, reads_mfhd, format_mfhd}
+use Rattle.mp4_stream.specs.Boxes.{reads_tfhd, format_tfhd, reads_tfdt, format_tfdt, reads_trun, format_trun}
+use Rattle.mp4_stream.specs.Boxes.{reads_emsg, format_emsg}
 use Rattle.mp4_stream.specs.declared.fragment_box.FragmentBox.{FragmentBox}
 use Rattle.mp4_stream.specs.declared.fragment_box.FragmentBox.TheVariants as fragment
 

@@ -24,4 +24,5 @@ known_kept name = not (is_disguised name)
 
 abbrev pub reading_kept : BoxType → List ℕ → ℕ → ℕ → Reading KeptBox
 reading_kept name bytes start size =
-    if known_any name then map_reading kept.Any (reading_any name bytes start size) else map_reading kept.Other (reading (reads_other (code_of name)) bytes start size)
+    if known_any name then map_reading kept.Any (reading_any name bytes start size) else map_reading kept.Other
+    (reading (reads_other (code_of name)) bytes start size)

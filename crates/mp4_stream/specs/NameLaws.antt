@@ -11,15 +11,18 @@ abbrev pub is_unknown : BoxType → Bool
 is_unknown (names.UnknownBox n) = true
 is_unknown _ = false
 
-chosen : (b r : Bool) (x y : BoxType) → is_unknown x ≡ false → is_unknown y ≡ not r → is_unknown (cond b x y) ≡ not (b || r)
+chosen : (b r : Bool) (x y : BoxType) → is_unknown x ≡ false → is_unknown y ≡ not r
+    → is_unknown (cond b x y) ≡ not (b || r)
 chosen true r x y p q = p
 chosen false r x y p q = q
 
-look_up_named : (cs : List (ℕ × BoxType)) (n : ℕ) → list_all (λ c. not (is_unknown c.1)) cs ≡ true → is_unknown (look_up cs n) ≡ not (list_any (λ c. eqb n c.0) cs)
+look_up_named : (cs : List (ℕ × BoxType)) (n : ℕ) → list_all (λ c. not (is_unknown c.1)) cs ≡ true
+    → is_unknown (look_up cs n) ≡ not (list_any (λ c. eqb n c.0) cs)
 look_up_named [] n h = refl
 look_up_named (c ∷ cs) n h =
     let p = and_parts (not (is_unknown c.1)) (list_all (λ c. not (is_unknown c.1)) cs) h in
-    chosen (eqb n c.0) (list_any (λ c. eqb n c.0) cs) c.1 (look_up cs n) (not-true (is_unknown c.1) p.0) (look_up_named cs n p.1)
+    chosen (eqb n c.0) (list_any (λ c. eqb n c.0) cs) c.1 (look_up cs n) (not-true (is_unknown c.1) p.0)
+    (look_up_named cs n p.1)
 
 -- a number is read as an UnknownBox unless it is a named code
 pub unknown_name : (n : ℕ) → is_unknown (name_of n) ≡ not (is_disguised (names.UnknownBox n))

@@ -42,4 +42,5 @@ unfoldable pub bytes_other : OtherBox → List ℕ
 bytes_other v = bytes_of_fields (fields_other v) ++ v.content
 
 abbrev pub format_other : Format OtherBox
-format_other = record { name = λ v. name_of v.code; size = size_other; Writable = WritableOther; bytes = bytes_other; normal = λ v. v }
+format_other = record
+    { name = λ v. name_of v.code; size = size_other; Writable = WritableOther; bytes = bytes_other; normal = λ v. v }

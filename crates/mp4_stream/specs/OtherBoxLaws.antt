@@ -1,5 +1,6 @@
 -- The laws of an OtherBox. It is read under its own code.
-use Rattle.std.proofs.Common.{◌≡◌, ℕ, ◌+◌, ◌-◌, ◌<◌, ◌^◌, true, false, List, [], ◌∷◌, ◌++◌, length, take, drop, Ok, refl, sym, ap, subst, ◌∙◌, arith, append_assoc, inl, inr}
+use Rattle.std.proofs.Common.{◌≡◌, ℕ, ◌+◌, ◌-◌, ◌<◌, ◌^◌, true, false, List, [], ◌∷◌, ◌++◌, length, take, drop, Ok}
+use Rattle.std.proofs.Common.{refl, sym, ap, subst, ◌∙◌, arith, append_assoc, inl, inr}
 use Rattle.std.specs.Prelude.{nat_le}
 use Rattle.std.proofs.lemmas.Bool.{le-leb, cases_lt}
 use Rattle.std.proofs.lemmas.List.{get_or-take, get_or_past, length-take}
@@ -13,7 +14,8 @@ use Rattle.mp4_frame.proofs.Fields.{length-fields}
 use Rattle.mp4_frame.proofs.Framing.{header_in_front, own_normal_form}
 use Rattle.mp4_frame.proofs.Tables.{value_first}
 use Rattle.mp4_stream.specs.Other.{is_typed}
-use Rattle.mp4_stream.specs.OtherBox.{content_other, reads_other, size_other, fields_other, WritableOther, bytes_other, format_other}
+use Rattle.mp4_stream.specs.OtherBox.{content_other, reads_other, size_other, fields_other, WritableOther, bytes_other}
+use Rattle.mp4_stream.specs.OtherBox.{format_other}
 use Rattle.mp4_stream.specs.declared.other_box.OtherBox.{OtherBox}
 
 -- the front of bytes is bytes
@@ -30,13 +32,17 @@ unfolding bytes_other
 header_other v w =
     let own = code_of-name_of v.code in
     let code_fits : code_of (name_of v.code) < 256 ^ 4 = subst (λ (code : ℕ). code < 256 ^ 4) (sym own) w.fit.1.0 in
-    subst (λ (code : ℕ). BeginsWithHeader (size_other v) (name_of v.code) (bytes_of_fields ((4, size_other v) ∷ (4, code) ∷ []) ++ v.content)) own
-    (header_in_front {size = size_other v} {name = name_of v.code} [] v.content (w.fit.0, (code_fits, tt)) (omega arith))
+    subst (λ (code : ℕ).
+    BeginsWithHeader (size_other v) (name_of v.code)
+    (bytes_of_fields ((4, size_other v) ∷ (4, code) ∷ []) ++ v.content)) own
+    (header_in_front {size = size_other v} {name = name_of v.code} [] v.content (w.fit.0, (code_fits, tt))
+    (omega arith))
 
 pub written_other : IsWritten format_other
 written_other = record { header = header_other; normal_form = λ v w. own_normal_form v refl w }
 
-pub back_other : (v : OtherBox) → WritableOther v → ContentReadsBack (reads_other v.code) (bytes_other v) (size_other v) v
+pub back_other : (v : OtherBox) → WritableOther v
+    → ContentReadsBack (reads_other v.code) (bytes_other v) (size_other v) v
 unfolding bytes_other content_other
 back_other v w rest start top =
     let cs = fields_other v in
@@ -45,10 +51,12 @@ back_other v w rest start top =
     let long : 8 + n - 8 ≡ n = omega arith in
     let whole : (reads_other v.code (bytes_of_fields cs ++ (v.content ++ rest)) start (size_other v)).outcome ≡ Ok v =
     rw (enough, long, piece_back (bytes_of_fields cs) v.content rest 8 (length-fields cs)) refl in
-    ap (λ (l : List ℕ). (reads_other v.code l start (size_other v)).outcome) (append_assoc (bytes_of_fields cs) v.content rest) ∙ whole
+    ap (λ (l : List ℕ). (reads_other v.code l start (size_other v)).outcome)
+    (append_assoc (bytes_of_fields cs) v.content rest) ∙ whole
 
 -- what is read has the code that it is read with
-pub code_other : (code : ℕ) (bytes : List ℕ) (start size : ℕ) (v : OtherBox) → (reads_other code bytes start size).outcome ≡ Ok v → v.code ≡ code
+pub code_other : (code : ℕ) (bytes : List ℕ) (start size : ℕ) (v : OtherBox)
+    → (reads_other code bytes start size).outcome ≡ Ok v → v.code ≡ code
 unfolding content_other
 code_other code bytes start size v e =
     let last = λ (content : List ℕ). memory >>= λ _. done (record { code = code; content = content }) in
@@ -56,7 +64,8 @@ code_other code bytes start size v e =
     let b = value_first (piece_at bytes 8 (size - 8)) last v a.1 in
     ap (λ (u : OtherBox). u.code) (sym (is_value _ v b.2))
 
-pub sound_other : (code : ℕ) → code < 2 ^ 32 → is_typed code ≡ false → ContentIsSound (reads_other code) WritableOther size_other (λ v. v)
+pub sound_other : (code : ℕ) → code < 2 ^ 32 → is_typed code ≡ false
+    → ContentIsSound (reads_other code) WritableOther size_other (λ v. v)
 unfolding content_other
 sound_other code fits untyped bytes start size v are e = (
   refl,
@@ -67,7 +76,9 @@ sound_other code fits untyped bytes start size v are e = (
       let b = value_first (piece_at bytes 8 (size - 8)) last v a.1 in
       let c = value_first (expect_bytes bytes 8 (size - 8)) (λ _. done (take (size - 8) (drop 8 bytes))) b.0 b.1 in
       let piece : take (size - 8) (drop 8 bytes) ≡ b.0 = is_value _ b.0 c.2 in
-      let content_are : AreBytes b.0 = subst AreBytes piece (are_bytes-take (size - 8) (drop 8 bytes) (are_bytes-drop 8 bytes are)) in
+      let content_are : AreBytes b.0 =
+      subst AreBytes piece (are_bytes-take (size - 8) (drop 8 bytes) (are_bytes-drop 8 bytes are)) in
       let is : made b.0 ≡ v = is_value (made b.0) v b.2 in
-      subst (λ (u : OtherBox). size_other u < 2 ^ 32 → WritableOther u) is (λ s. record { fit = (s, (fits, tt)); untyped = untyped; are = content_are }) small,
+      subst (λ (u : OtherBox). size_other u < 2 ^ 32 → WritableOther u) is
+      (λ s. record { fit = (s, (fits, tt)); untyped = untyped; are = content_are }) small,
 )

@@ -16,7 +16,16 @@ HasCode code name = (code_of name ≡ code) × (is_disguised name ≡ false)
 -- what the format of its type says of a box; a box of the other type can be written only with another code
 abbrev pub held_or : {A B : Type 0} → ℕ → Format A → Format B → OwnOr A B → Held (OwnOr A B)
 held_or code own rest (own_or.Own a) = holds own own_or.Own a
-held_or code own rest (own_or.Rest b) = record { name = rest.name b; size = rest.size b; Writable = rest.Writable b × ((code_of (rest.name b) == code) ≡ false); bytes = rest.bytes b; normal = own_or.Rest (rest.normal b) }
+held_or code own rest (own_or.Rest b) =
+    record {
+      name = rest.name b;
+      size = rest.size b;
+      Writable =
+          rest.Writable b × ((code_of (rest.name b) == code) ≡ false);
+      bytes = rest.bytes b;
+      normal =
+          own_or.Rest (rest.normal b);
+    }
 
 abbrev pub format_or : {A B : Type 0} → ℕ → Format A → Format B → Format (OwnOr A B)
 format_or code own rest = format_held (held_or code own rest)
@@ -28,6 +37,8 @@ known_or code known name = code_of name == code || known name
 abbrev pub least_or : ℕ → ℕ → (BoxType → ℕ) → BoxType → ℕ
 least_or code own least name = if code_of name == code then own else least name
 
-abbrev pub reading_or : {A B : Type 0} → ℕ → (List ℕ → ℕ → ℕ → Reading A) → (BoxType → List ℕ → ℕ → ℕ → Reading B) → BoxType → List ℕ → ℕ → ℕ → Reading (OwnOr A B)
+abbrev pub reading_or : {A B : Type 0} → ℕ → (List ℕ → ℕ → ℕ → Reading A) → (BoxType → List ℕ → ℕ → ℕ → Reading B)
+    → BoxType → List ℕ → ℕ → ℕ → Reading (OwnOr A B)
 reading_or code reads named_reading name bytes start size =
-    if code_of name == code then map_reading own_or.Own (reading reads bytes start size) else map_reading own_or.Rest (named_reading name bytes start size)
+    if code_of name == code then map_reading own_or.Own (reading reads bytes start size) else map_reading own_or.Rest
+    (named_reading name bytes start size)

@@ -31,8 +31,10 @@ code_any = code_of_member kinds held named
 abbrev IsSound : KeptBox → Type 0
 IsSound v = (format_kept.normal v ≡ v) × (format_kept.size v < 2 ^ 32 → format_kept.Writable v)
 
-sound_by : (name : BoxType) → known_kept name ≡ true → code_of name < 2 ^ 32 → (bytes : List ℕ) (start size : ℕ) (v : KeptBox) → AreBytes bytes → (b : Bool) → known_any name ≡ b
-    → (cond b (map_reading kept.Any (reading_any name bytes start size)) (map_reading kept.Other (reading (reads_other (code_of name)) bytes start size))).outcome ≡ Ok v → IsSound v
+sound_by : (name : BoxType) → known_kept name ≡ true → code_of name < 2 ^ 32
+    → (bytes : List ℕ) (start size : ℕ) (v : KeptBox) → AreBytes bytes → (b : Bool) → known_any name ≡ b
+    → (cond b (map_reading kept.Any (reading_any name bytes start size))
+    (map_reading kept.Other (reading (reads_other (code_of name)) bytes start size))).outcome ≡ Ok v → IsSound v
 sound_by name known fits bytes start size v are true is e =
     let p = mapped_value kept.Any (reading_any name bytes start size) v e in
     let s = sound_any name is fits bytes start size p.0 are p.1 in
@@ -40,21 +42,27 @@ sound_by name known fits bytes start size v are true is e =
 sound_by name known fits bytes start size v are false is e =
     let code = code_of name in
     let p = mapped_value kept.Other (reading (reads_other code) bytes start size) v e in
-    let s = sound_other code fits (untyped_code name known is) _ start size p.0 (are_bytes-drop start bytes are) (reads_ok (reads_other code) bytes start size p.0 p.1) in
+    let s = sound_other code fits (untyped_code name known is) _ start size p.0 (are_bytes-drop start bytes are)
+    (reads_ok (reads_other code) bytes start size p.0 p.1) in
     subst IsSound p.2 (ap kept.Other s.0, s.1)
 
 pub sound_kept : ReadsSoundly known_kept reading_kept format_kept
-sound_kept name known fits bytes start size v are e = sound_by name known fits bytes start size v are (known_any name) refl e
+sound_kept name known fits bytes start size v are e =
+    sound_by name known fits bytes start size v are (known_any name) refl e
 
 code_by : (name : BoxType) (bytes : List ℕ) (start size : ℕ) (v : KeptBox) → (b : Bool) → known_any name ≡ b
-    → (cond b (map_reading kept.Any (reading_any name bytes start size)) (map_reading kept.Other (reading (reads_other (code_of name)) bytes start size))).outcome ≡ Ok v → code_of (format_kept.name v) ≡ code_of name
+    → (cond b (map_reading kept.Any (reading_any name bytes start size))
+    (map_reading kept.Other (reading (reads_other (code_of name)) bytes start size))).outcome ≡ Ok v
+    → code_of (format_kept.name v) ≡ code_of name
 code_by name bytes start size v true is e =
     let p = mapped_value kept.Any (reading_any name bytes start size) v e in
     subst (λ (u : KeptBox). code_of (format_kept.name u) ≡ code_of name) p.2 (code_any name is bytes start size p.0 p.1)
 code_by name bytes start size v false is e =
     let code = code_of name in
     let p = mapped_value kept.Other (reading (reads_other code) bytes start size) v e in
-    subst (λ (u : KeptBox). code_of (format_kept.name u) ≡ code) p.2 (code_of-name_of p.0.code ∙ code_other code _ start size p.0 (reads_ok (reads_other code) bytes start size p.0 p.1))
+    subst (λ (u : KeptBox). code_of (format_kept.name u) ≡ code) p.2
+    (code_of-name_of p.0.code
+    ∙ code_other code _ start size p.0 (reads_ok (reads_other code) bytes start size p.0 p.1))
 
 pub code_kept : ReadsOwnCode known_kept reading_kept format_kept
 code_kept name known bytes start size v e = code_by name bytes start size v (known_any name) refl e

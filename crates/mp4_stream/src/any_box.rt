@@ -212,8 +212,8 @@ impl StreamBox for AnyBox {
     ghost read_back = { read_back_of_member kinds held members };
 }
 
-/// Reads the box of this name at an offset of the buffer, as in `StreamBox::push_named`, and appends it as an `E`, a type
-/// that holds any box. The caller ensures that the name is known.
+/// Reads the box of this name at an offset of the buffer, as in `StreamBox::push_named`, and appends it as an `E`, a
+/// type that holds any box. The caller ensures that the name is known.
 pub fn push_any<E: Holds<AnyBox> + Drop>(
     alloc: Global,
     name: BoxType,
@@ -224,7 +224,8 @@ pub fn push_any<E: Holds<AnyBox> + Drop>(
 ) -> Result<()>
     requires known { IsTrue (known_any name) }
     requires room { start + size ≤ length bytes.now }
-    ensures answer { AnswersAs (λ _. boxes.new.items) result (append_read boxes.old.items (map_reading E.wrapped (reading_any name bytes.now start size))) }
+    ensures answer { AnswersAs (λ _. boxes.new.items) result
+        (append_read boxes.old.items (map_reading E.wrapped (reading_any name bytes.now start size))) }
     ensures kept { OnErr result (boxes.new.items ≡ boxes.old.items) }
 {
     of_boxes!(by_name, name, push_inside [AnyBox E] (alloc, bytes, start, size, boxes))

@@ -1,6 +1,6 @@
 //! What the author of a box type needs besides what its callers need: bytes that are expected, numbers at offsets,
-//! numbers and bytes that are put, times, tables, boxes and entries that are declared, children, and members of an enum of
-//! boxes. `docs/OWN-BOX.md` goes through a box that is made of these.
+//! numbers and bytes that are put, times, tables, boxes and entries that are declared, children, and members of an enum
+//! of boxes. `docs/OWN-BOX.md` goes through a box that is made of these.
 
 pub use mp4_declared::{BoxLayout, EntryLayout, FullBox, entries_fit, entries_of, put_rows};
 pub use mp4_flat::{put_time, time_at, time_fits, version_of_times, width_of_time};

@@ -9,8 +9,8 @@ use mp4_tables::{TfhdBox, TrunBox};
 use mp4_text::EmsgBox;
 use std::alloc::Global;
 
-/// A box that a reader of fragments wants (ISO/IEC 14496-12, 8.8, and `emsg` of ISO/IEC 23009-1). It takes 136 bytes in a
-/// list, where an `AnyBox` takes 328. Boxes of other types are skipped: read `traf` and `moof` by their contents.
+/// A box that a reader of fragments wants (ISO/IEC 14496-12, 8.8, and `emsg` of ISO/IEC 23009-1). It takes 136 bytes in
+/// a list, where an `AnyBox` takes 328. Boxes of other types are skipped: read `traf` and `moof` by their contents.
 #[derive(Debug, Drop, PartialEq, Eq)]
 pub enum FragmentBox {
     MehdBox(MehdBox),

@@ -108,7 +108,8 @@ fn is_unnamed(code: u32) -> bool
 fn read_any(alloc: Global, name: BoxType, reader: &mut ByteCursor, size: u64) -> Result<KeptBox>
     requires known { IsTrue (known_any name) }
     requires after_header { 8 ≤ reader.old.position }
-    ensures answer { Answers result (map_reading kept.Any (reading_any name reader.old.bytes.now (reader.old.position - 8) size)) }
+    ensures answer { Answers result
+        (map_reading kept.Any (reading_any name reader.old.bytes.now (reader.old.position - 8) size)) }
     ensures moved { OnOk result (reader.new.position ≡ reader.old.position - 8 + max (least_any name) size) }
     ensures kept { OnErr result (reader.new.position ≡ reader.old.position) }
     ensures bytes { reader.new.bytes ≡ reader.old.bytes }
@@ -120,7 +121,8 @@ fn read_any(alloc: Global, name: BoxType, reader: &mut ByteCursor, size: u64) ->
 fn read_other(alloc: Global, code: u32, reader: &mut ByteCursor, size: u64) -> Result<KeptBox>
     requires untyped { is_typed code ≡ false }
     requires after_header { 8 ≤ reader.old.position }
-    ensures answer { Answers result (map_reading kept.Other (reading (reads_other code) reader.old.bytes.now (reader.old.position - 8) size)) }
+    ensures answer { Answers result
+        (map_reading kept.Other (reading (reads_other code) reader.old.bytes.now (reader.old.position - 8) size)) }
     ensures moved { OnOk result (reader.new.position ≡ reader.old.position - 8 + size) }
     ensures kept { OnErr result (reader.new.position ≡ reader.old.position) }
     ensures bytes { reader.new.bytes ≡ reader.old.bytes }
@@ -139,7 +141,8 @@ fn push_other(
 ) -> Result<()>
     requires untyped { is_typed code ≡ false }
     requires room { start + size ≤ length bytes.now }
-    ensures answer { AnswersAs (λ _. boxes.new.items) result (append_read boxes.old.items (map_reading kept.Other (reading (reads_other code) bytes.now start size))) }
+    ensures answer { AnswersAs (λ _. boxes.new.items) result
+        (append_read boxes.old.items (map_reading kept.Other (reading (reads_other code) bytes.now start size))) }
     ensures kept { OnErr result (boxes.new.items ≡ boxes.old.items) }
 {
     let value = OtherBox::read_content(alloc, code, &bytes[start as usize..], size)?;

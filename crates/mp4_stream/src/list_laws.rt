@@ -10,13 +10,18 @@ use mp4_frame::StreamBox;
 
 /// The boxes that were read are their own normal forms. They can be written unless one is too large.
 pub fn read_list_is_sound<B: SoundStream>()
-    ensures normal { (bytes : List ℕ) (o : ℕ) (vs : List _) → AreBytes bytes → (boxes B.known B.named_reading bytes o).outcome ≡ Ok vs → map B.format.normal vs ≡ vs }
-    ensures writable { (bytes : List ℕ) (o : ℕ) (vs : List _) → AreBytes bytes → (boxes B.known B.named_reading bytes o).outcome ≡ Ok vs → All (λ v. B.format.size v < 2 ^ 32) vs → All B.format.Writable vs }
+    ensures normal { (bytes : List ℕ) (o : ℕ) (vs : List _) → AreBytes bytes
+        → (boxes B.known B.named_reading bytes o).outcome ≡ Ok vs → map B.format.normal vs ≡ vs }
+    ensures writable { (bytes : List ℕ) (o : ℕ) (vs : List _) → AreBytes bytes
+        → (boxes B.known B.named_reading bytes o).outcome ≡ Ok vs → All (λ v. B.format.size v < 2 ^ 32) vs
+        → All B.format.Writable vs }
 {}
 
 /// What is written of boxes that were read is read as the same boxes. So writing them again gives the same bytes.
 pub fn normal_stream_is_kept<B: SoundStream>()
-    ensures { (bytes : List ℕ) (o : ℕ) (vs : List _) → AreBytes bytes → (boxes B.known B.named_reading bytes o).outcome ≡ Ok vs → All B.format.Writable vs → length (stream B.format.bytes vs) < 2 ^ 64
+    ensures { (bytes : List ℕ) (o : ℕ) (vs : List _) → AreBytes bytes
+        → (boxes B.known B.named_reading bytes o).outcome ≡ Ok vs → All B.format.Writable vs
+        → length (stream B.format.bytes vs) < 2 ^ 64
         → (boxes B.known B.named_reading (stream B.format.bytes vs) 0).outcome ≡ Ok vs }
 {}
 
@@ -25,5 +30,6 @@ pub fn written_stream_is_kept<B: StreamBox>()
     ensures writable { (vs ws : List _) → All B.format.Writable vs → length (stream B.format.bytes vs) < 2 ^ 64
         → (boxes B.known B.named_reading (stream B.format.bytes vs) 0).outcome ≡ Ok ws → All B.format.Writable ws }
     ensures bytes { (vs ws : List _) → All B.format.Writable vs → length (stream B.format.bytes vs) < 2 ^ 64
-        → (boxes B.known B.named_reading (stream B.format.bytes vs) 0).outcome ≡ Ok ws → stream B.format.bytes ws ≡ stream B.format.bytes vs }
+        → (boxes B.known B.named_reading (stream B.format.bytes vs) 0).outcome ≡ Ok ws
+        → stream B.format.bytes ws ≡ stream B.format.bytes vs }
 {}

@@ -10,7 +10,7 @@ ghost use Rattle.mp4_stream.specs.OtherBoxLaws.{written_other};
 use crate::any_box::AnyBox;
 use mp4_frame::{
     BoxType, ByteCursor, Entries, Mp4Box, Result, StreamBox, TryClone, WriteBox, bytes_from, check,
-    piece_at, put_bytes, put_u32,
+    check_end, piece_at, put_bytes, put_u32,
 };
 use std::alloc::Global;
 use std::marker::Model;
@@ -94,13 +94,14 @@ impl OtherBox {
     ) -> Result<OtherBox>
         requires untyped { is_typed code ≡ false }
         requires after_header { 8 ≤ reader.old.position }
-        ensures answer { Answers result (reading (reads_other code) reader.old.bytes.now (reader.old.position - 8) size) }
+        ensures answer { Answers result
+            (reading (reads_other code) reader.old.bytes.now (reader.old.position - 8) size) }
         ensures moved { OnOk result (reader.new.position ≡ reader.old.position - 8 + size) }
         ensures kept { OnErr result (reader.new.position ≡ reader.old.position) }
         ensures bytes { reader.new.bytes ≡ reader.old.bytes }
     {
         let start = reader.position() - 8;
-        check(size <= u64::MAX - start, "box end past 64 bits")?;
+        check_end(start, size)?;
         let bytes = bytes_from(reader.bytes(), start);
         let value = OtherBox::read_content(alloc, code, bytes, size)?;
         reader.set_position(start + size);

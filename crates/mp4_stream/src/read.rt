@@ -16,7 +16,8 @@ use std::alloc::Global;
 /// an `Ok` the cursor is at the end of the buffer, or where it was if that is past the end. After an `Err` it is
 /// where it was.
 pub fn read_boxes(alloc: Global, reader: &mut ByteCursor) -> Result<Vec<AnyBox>>
-    ensures answer { AnswersAs (λ found. found.items) result (boxes known_any reading_any reader.old.bytes.now reader.old.position) }
+    ensures answer { AnswersAs (λ found. found.items) result
+        (boxes known_any reading_any reader.old.bytes.now reader.old.position) }
     ensures moved { OnOk result (reader.new.position ≡ max reader.old.position (length reader.old.bytes.now)) }
     ensures kept { OnErr result (reader.new.position ≡ reader.old.position) }
     ensures bytes { reader.new.bytes ≡ reader.old.bytes }

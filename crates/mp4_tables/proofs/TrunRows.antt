@@ -1,5 +1,6 @@
 -- The rows of a trun box, which are read list by list and put number by number; and rows of no bytes.
-use Rattle.std.proofs.Common.{◌≡◌, ℕ, zero, suc, ◌+◌, ◌*◌, ◌-◌, ◌<◌, ◌≤◌, Bool, true, false, leb, List, [], ◌∷◌, ◌++◌, length, get_or, map, take, Ok, refl, sym, ap, ◌∙◌, arith}
+use Rattle.std.proofs.Common.{◌≡◌, ℕ, zero, suc, ◌+◌, ◌*◌, ◌-◌, ◌<◌, ◌≤◌, Bool, true, false, leb, List, [], ◌∷◌, ◌++◌}
+use Rattle.std.proofs.Common.{length, get_or, map, take, Ok, refl, sym, ap, ◌∙◌, arith}
 use Rattle.std.specs.Prelude.{slice_get}
 use Rattle.std.specs.List.{flat_map, range_with_len}
 use Rattle.std.proofs.lemmas.Bool.{le-leb}
@@ -17,14 +18,16 @@ use Rattle.mp4_tables.specs.TrunLaws.{length_rows}
 use Rattle.mp4_tables.specs.declared.trun.TrunBox.{TrunBox}
 use Rattle.mp4_tables.specs.declared.trun.row_flags.RowFlags.{RowFlags}
 
-more_from : (f : ℕ → List ℕ) (a n : ℕ) → flat_map f (range_with_len a (n + 1)) ≡ flat_map f (range_with_len a n) ++ f (a + n)
+more_from : (f : ℕ → List ℕ) (a n : ℕ)
+    → flat_map f (range_with_len a (n + 1)) ≡ flat_map f (range_with_len a n) ++ f (a + n)
 more_from f a zero =
     let here : a + zero ≡ a = omega arith in
     rw here (append-nil (f a))
 more_from f a (suc n) =
     let one : suc n + 1 ≡ suc (n + 1) = omega arith in
     let there : a + suc n ≡ a + 1 + n = omega arith in
-    rw (one, there, more_from f (a + 1) n) (sym (append_assoc (f a) (flat_map f (range_with_len (a + 1) n)) (f (a + 1 + n))))
+    rw (one, there, more_from f (a + 1) n)
+    (sym (append_assoc (f a) (flat_map f (range_with_len (a + 1) n)) (f (a + 1 + n))))
 
 -- the rows of i + 1 samples are those of i samples and one more row
 pub rows_more : (v : TrunBox) (i : ℕ) → rows_trun v (i + 1) ≡ rows_trun v i ++ row_trun v i
@@ -41,7 +44,8 @@ pub number_put : (xs : List ℕ) (i d : ℕ) → i < length xs → optional 4 (s
 unfolding optional
 number_put xs i d lt = rw (slice_get-get_or xs i d lt) refl
 
-pub nothing_put_at : (b : Bool) (i : ℕ) (xs front : List ℕ) → b ≡ false → HasAt b i xs → front ≡ front ++ optional 4 (slice_get xs i)
+pub nothing_put_at : (b : Bool) (i : ℕ) (xs front : List ℕ) → b ≡ false → HasAt b i xs
+    → front ≡ front ++ optional 4 (slice_get xs i)
 unfolding optional
 nothing_put_at true i xs front is has = absurd cc
 nothing_put_at false i [] front is has = sym (append-nil front)
@@ -49,26 +53,32 @@ nothing_put_at false i (x ∷ xs) front is has = absurd (omega arith)
 
 -- one more row is put, number by number
 pub row_put : (v : TrunBox) (i : ℕ) (front : List ℕ)
-    → front ++ rows_trun v i ++ optional 4 (slice_get v.sample_durations i) ++ optional 4 (slice_get v.sample_sizes i) ++ optional 4 (slice_get v.sample_flags i) ++ optional 4 (slice_get v.sample_cts i)
+    → front ++ rows_trun v i ++ optional 4 (slice_get v.sample_durations i) ++ optional 4 (slice_get v.sample_sizes i)
+    ++ optional 4 (slice_get v.sample_flags i) ++ optional 4 (slice_get v.sample_cts i)
     ≡ front ++ rows_trun v (i + 1)
 unfolding row_trun
 row_put v i front = rw (rows_more v i) (simp append_assoc)
 
 -- a row has no bytes if none of its flags is set
-pub no_bytes : (has : RowFlags) → has.duration ≡ false → has.size ≡ false → has.flags ≡ false → has.cts ≡ false → row_length has ≡ 0
+pub no_bytes : (has : RowFlags) → has.duration ≡ false → has.size ≡ false → has.flags ≡ false → has.cts ≡ false
+    → row_length has ≡ 0
 unfolding width_if
 no_bytes has duration size flags cts = rw (duration, size, flags, cts) refl
 
 no_rows : (v : TrunBox) → ListedTrun v → row_length (row_flags v.flags) ≡ 0 → rows_trun v v.sample_count ≡ []
 no_rows v w none =
     let le : v.sample_count ≤ v.sample_count = omega arith in
-    let zero_bytes : row_length (row_flags v.flags) * v.sample_count ≡ 0 = ap (λ (k : ℕ). k * v.sample_count) none ∙ omega arith in
+    let zero_bytes : row_length (row_flags v.flags) * v.sample_count ≡ 0 = ap (λ (k : ℕ). k * v.sample_count) none
+    ∙ omega arith in
     is_empty (rows_trun v v.sample_count) (length_rows v w v.sample_count le ∙ zero_bytes)
 
 -- rows of no bytes: nothing is put
-pub nothing_put : (v : TrunBox) → ListedTrun v → (out : List ℕ) (at : ℕ) → row_length (row_flags v.flags) ≡ 0 → at + row_length (row_flags v.flags) * v.sample_count ≡ length out → out ≡ take at out ++ rows_trun v v.sample_count
+pub nothing_put : (v : TrunBox) → ListedTrun v → (out : List ℕ) (at : ℕ) → row_length (row_flags v.flags) ≡ 0
+    → at + row_length (row_flags v.flags) * v.sample_count ≡ length out
+    → out ≡ take at out ++ rows_trun v v.sample_count
 nothing_put v w out at none room =
-    let zero_bytes : row_length (row_flags v.flags) * v.sample_count ≡ 0 = ap (λ (k : ℕ). k * v.sample_count) none ∙ omega arith in
+    let zero_bytes : row_length (row_flags v.flags) * v.sample_count ≡ 0 = ap (λ (k : ℕ). k * v.sample_count) none
+    ∙ omega arith in
     let whole : take at out ≡ out = take_all at out (omega (arith, room, zero_bytes)) in
     rw (no_rows v w none, whole) (sym (append-nil out))
 
@@ -98,7 +108,8 @@ empty_rows bytes size o n =
     rw (none, room) refl
 
 -- rows of no bytes: all lists are read as empty
-pub no_lists : (bytes : List ℕ) (size o count : ℕ) (has : RowFlags) → (row_length has ≡ 4 → ⊥) → (row_length has ≡ 8 → ⊥) → (row_length has ≡ 12 → ⊥) → (row_length has ≡ 16 → ⊥)
+pub no_lists : (bytes : List ℕ) (size o count : ℕ) (has : RowFlags) → (row_length has ≡ 4 → ⊥)
+    → (row_length has ≡ 8 → ⊥) → (row_length has ≡ 12 → ⊥) → (row_length has ≡ 16 → ⊥)
     → (reads_lists bytes size has o count).outcome ≡ Ok (record { durations = []; sizes = []; flags = []; cts = [] })
 unfolding reads_lists
 no_lists bytes size o count has n4 n8 n12 n16 =
@@ -120,28 +131,36 @@ no_lists bytes size o count has n4 n8 n12 n16 =
     ∙ (rw (empty_rows bytes size o count, da, db, dc, dd) refl)
 
 -- the numbers of a list in front, and then those of a part of the rows, and then those of the rows after it
-pub column_moves : (b : Bool) (o : ℕ) (part after rest : List (List ℕ)) (front all : List ℕ) → rest ≡ part ++ after → front ++ column_if b o rest ≡ all → front ++ column_if b o part ++ column_if b o after ≡ all
+pub column_moves : (b : Bool) (o : ℕ) (part after rest : List (List ℕ)) (front all : List ℕ) → rest ≡ part ++ after
+    → front ++ column_if b o rest ≡ all → front ++ column_if b o part ++ column_if b o after ≡ all
 unfolding column_if
 column_moves true o part after rest front all is h =
     append_assoc front (map (λ row. number row o 4) part) (map (λ row. number row o 4) after)
-    ∙ ap (λ (l : List ℕ). front ++ l) (sym (map-append (λ row. number row o 4) part after) ∙ ap (λ (l : List (List ℕ)). map (λ row. number row o 4) l) (sym is)) ∙ h
+    ∙ ap (λ (l : List ℕ). front ++ l)
+    (sym (map-append (λ row. number row o 4) part after)
+    ∙ ap (λ (l : List (List ℕ)). map (λ row. number row o 4) l) (sym is)) ∙ h
 column_moves false o part after rest front all is h = append-nil (front ++ []) ∙ h
 
 -- a list with room for the numbers of the rows has room for those of a part, and then for those of the rows after it
-pub room_for_part : (b : Bool) (len room : ℕ) (part after rest : List (List ℕ)) → rest ≡ part ++ after → len + count_if b (length rest) ≤ room → len + count_if b (length part) ≤ room
+pub room_for_part : (b : Bool) (len room : ℕ) (part after rest : List (List ℕ)) → rest ≡ part ++ after
+    → len + count_if b (length rest) ≤ room → len + count_if b (length part) ≤ room
 room_for_part true len room part after rest is h =
-    let long : length rest ≡ length part + length after = ap (λ (rows : List (List ℕ)). length rows) is ∙ length-append part after in
+    let long : length rest ≡ length part + length after = ap (λ (rows : List (List ℕ)). length rows) is
+    ∙ length-append part after in
     omega (arith, long, h)
 room_for_part false len room part after rest is h = h
 
-pub room_after : (b : Bool) (len room : ℕ) (part after rest : List (List ℕ)) → rest ≡ part ++ after → len + count_if b (length rest) ≤ room → len + count_if b (length part) + count_if b (length after) ≤ room
+pub room_after : (b : Bool) (len room : ℕ) (part after rest : List (List ℕ)) → rest ≡ part ++ after
+    → len + count_if b (length rest) ≤ room → len + count_if b (length part) + count_if b (length after) ≤ room
 room_after true len room part after rest is h =
-    let long : length rest ≡ length part + length after = ap (λ (rows : List (List ℕ)). length rows) is ∙ length-append part after in
+    let long : length rest ≡ length part + length after = ap (λ (rows : List (List ℕ)). length rows) is
+    ∙ length-append part after in
     omega (arith, long, h)
 room_after false len room part after rest is h = omega (arith, h)
 
 -- the numbers of a list in front are all numbers if no row is left
-pub column_ends : (b : Bool) (o : ℕ) (rest : List (List ℕ)) (front all : List ℕ) → length rest ≡ 0 → front ++ column_if b o rest ≡ all → front ≡ all
+pub column_ends : (b : Bool) (o : ℕ) (rest : List (List ℕ)) (front all : List ℕ) → length rest ≡ 0
+    → front ++ column_if b o rest ≡ all → front ≡ all
 unfolding column_if
 column_ends true o [] front all none h = sym (append-nil front) ∙ h
 column_ends true o (row ∷ rest) front all none h = absurd (omega arith)

@@ -1,5 +1,6 @@
 -- Runs of chunks with equally many samples, and the first sample of each run.
-use Rattle.std.specs.Prelude.{ℕ, ◌+◌, ◌-◌, ◌*◌, ◌^◌, Bool, true, ◌&&◌, List, [], ◌∷◌, map, nat_lt, nat_le, sum_by, Option, Some, None, if◌then◌else◌}
+use Rattle.std.specs.Prelude.{ℕ, ◌+◌, ◌-◌, ◌*◌, ◌^◌, Bool, true, ◌&&◌, List, [], ◌∷◌, map, nat_lt, nat_le, sum_by}
+use Rattle.std.specs.Prelude.{Option, Some, None, if◌then◌else◌}
 use Rattle.std.specs.List.{range_with_len, list_all}
 use Rattle.mp4_tables.specs.declared.stsc_entry.StscEntry.{StscEntry}
 
@@ -34,4 +35,6 @@ number_samples es = map (λ e. with_sample e (sample_at es e.first_chunk)) es
 -- the first sample of a run that begins at chunk `first`, if `first` is not below `chunk` and the sample fits 32
 -- bits. The run before it begins at chunk `chunk` with sample `sample`, and has `samples` samples in each chunk
 abbrev pub next_sample : ℕ → ℕ → ℕ → ℕ → Option ℕ
-next_sample sample chunk samples first = if nat_le chunk first && nat_lt (sample + (first - chunk) * samples) (2 ^ 32) then Some (sample + (first - chunk) * samples) else None
+next_sample sample chunk samples first =
+    if nat_le chunk first && nat_lt (sample + (first - chunk) * samples) (2 ^ 32) then Some
+    (sample + (first - chunk) * samples) else None

@@ -29,4 +29,5 @@ unfoldable pub bytes_co64 : Co64Box → List ℕ
 bytes_co64 v = bytes_table (λ offset. be_bytes 8 offset) 8 codes.CO64 v.version v.flags v.entries
 
 abbrev pub format_co64 : Format Co64Box
-format_co64 = record { name = λ _. names.Co64Box; size = size_co64; Writable = WritableCo64; bytes = bytes_co64; normal = λ v. v }
+format_co64 = record
+    { name = λ _. names.Co64Box; size = size_co64; Writable = WritableCo64; bytes = bytes_co64; normal = λ v. v }

@@ -7,4 +7,6 @@ use Rattle.mp4_tables.specs.Co64.{made_co64, reads_co64, bytes_co64, format_co64
 
 pub laws_co64 : IsBox reads_co64 format_co64
 unfolding bytes_co64 reads_co64
-laws_co64 = laws_table names.Co64Box made_co64 (λ v. record { version = v.version; flags = v.flags; entries = v.entries }) (number_entry 8) (λ v. refl) (λ version flags entries. refl) (lit< tt) (lit< tt)
+laws_co64 = laws_table names.Co64Box made_co64
+    (λ v. record { version = v.version; flags = v.flags; entries = v.entries }) (number_entry 8) (λ v. refl)
+    (λ version flags entries. refl) (lit< tt) (lit< tt)

@@ -26,4 +26,5 @@ unfoldable pub bytes_ctts : CttsBox → List ℕ
 bytes_ctts v = bytes_table row_ctts 8 codes.CTTS v.version v.flags v.entries
 
 abbrev pub format_ctts : Format CttsBox
-format_ctts = record { name = λ _. names.CttsBox; size = size_ctts; Writable = WritableCtts; bytes = bytes_ctts; normal = λ v. v }
+format_ctts = record
+    { name = λ _. names.CttsBox; size = size_ctts; Writable = WritableCtts; bytes = bytes_ctts; normal = λ v. v }

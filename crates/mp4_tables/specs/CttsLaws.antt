@@ -14,10 +14,13 @@ use Rattle.mp4_tables.specs.Ctts.{made_ctts, reads_ctts, bytes_ctts, format_ctts
 ctts_entry : IsEntry row_ctts entry_ctts FitsCttsEntry 8
 ctts_entry = record {
   long = λ e fits. length-fields (fields_ctts_entry e);
-  back = λ e fits. fields_back value_ctts_entry (fields_ctts_entry e) e fits.0 (ap (λ (z : ℤ). record e { sample_offset = z }) (back32 e.sample_offset fits.1));
+  back = λ e fits. fields_back value_ctts_entry (fields_ctts_entry e) e fits.0
+      (ap (λ (z : ℤ). record e { sample_offset = z }) (back32 e.sample_offset fits.1));
   fits = λ entry is. (fits_read entry is.are (Number 0 4 ∷ Signed32 4 ∷ []), signed32 entry 4 is.are);
 }
 
 pub laws_ctts : IsBox reads_ctts format_ctts
 unfolding bytes_ctts reads_ctts
-laws_ctts = laws_table names.CttsBox made_ctts (λ v. record { version = v.version; flags = v.flags; entries = v.entries }) ctts_entry (λ v. refl) (λ version flags entries. refl) (lit< tt) (lit< tt)
+laws_ctts = laws_table names.CttsBox made_ctts
+    (λ v. record { version = v.version; flags = v.flags; entries = v.entries }) ctts_entry (λ v. refl)
+    (λ version flags entries. refl) (lit< tt) (lit< tt)

@@ -38,4 +38,5 @@ unfoldable pub bytes_elst : ElstBox → List ℕ
 bytes_elst v = bytes_elst_rows (is_long v.version) v
 
 abbrev pub format_elst : Format ElstBox
-format_elst = record { name = λ _. names.ElstBox; size = size_elst; Writable = WritableElst; bytes = bytes_elst; normal = λ v. v }
+format_elst = record
+    { name = λ _. names.ElstBox; size = size_elst; Writable = WritableElst; bytes = bytes_elst; normal = λ v. v }

@@ -17,13 +17,22 @@ time_width long = if long then 8 else 4
 
 -- the entry whose times have w bytes, where `at o w` is the number of w bytes at offset o of its row
 abbrev pub value_elst_entry : ℕ → (ℕ → ℕ → ℕ) → ElstEntry
-value_elst_entry w at = record { segment_duration = at 0 w; media_time = at w w; media_rate = at (w + w) 2; media_rate_fraction = at (w + w + 2) 2 }
+value_elst_entry w at =
+    record {
+      segment_duration = at 0 w;
+      media_time = at w w;
+      media_rate = at (w + w) 2;
+      media_rate_fraction =
+          at (w + w + 2) 2;
+    }
 
 abbrev pub entry_elst : Bool → List ℕ → ElstEntry
 entry_elst long row = value_elst_entry (time_width long) (number row)
 
 abbrev pub fields_elst_entry : Bool → ElstEntry → List (ℕ × ℕ)
-fields_elst_entry long e = (time_width long, e.segment_duration) ∷ (time_width long, e.media_time) ∷ (2, e.media_rate) ∷ (2, e.media_rate_fraction) ∷ []
+fields_elst_entry long e =
+    (time_width long, e.segment_duration) ∷ (time_width long, e.media_time) ∷ (2, e.media_rate)
+    ∷ (2, e.media_rate_fraction) ∷ []
 
 abbrev pub row_elst : Bool → ElstEntry → List ℕ
 row_elst long e = bytes_of_fields (fields_elst_entry long e)

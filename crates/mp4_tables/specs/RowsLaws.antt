@@ -10,17 +10,21 @@ use Rattle.mp4_frame.proofs.Tables.{IsRow, rows_at_back, rows_read}
 use Rattle.mp4_tables.specs.Rows.{rows_within}
 
 -- rows that were written after p are read back
-pub rows_within_back : {X : Type 0} (row_of : X → List ℕ) (e : ℕ) (Fits : X → Type 0) → ((x : X) → Fits x → length (row_of x) ≡ e)
-    → (p : List ℕ) (xs : List X) (y : List ℕ) (o size : ℕ) → AllByRecursion Fits xs → length p ≡ o → size ≡ o + e * length xs
+pub rows_within_back : {X : Type 0} (row_of : X → List ℕ) (e : ℕ) (Fits : X → Type 0)
+    → ((x : X) → Fits x → length (row_of x) ≡ e)
+    → (p : List ℕ) (xs : List X) (y : List ℕ) (o size : ℕ) → AllByRecursion Fits xs → length p ≡ o
+    → size ≡ o + e * length xs
     → rows_within (p ++ (flat_map row_of xs ++ y)) size o e (length xs) ≡ done (map row_of xs)
 unfolding rows_within
 rows_within_back row_of e Fits long p xs y o size fits at is =
     let room : leb (length xs * e) (size - o) ≡ true = le-leb (length xs * e) (size - o) (omega arith) in
-    let back : rows_at (p ++ (flat_map row_of xs ++ y)) o e (length xs) ≡ done (map row_of xs) = rows_at_back row_of e Fits long p xs y o fits at in
+    let back : rows_at (p ++ (flat_map row_of xs ++ y)) o e (length xs) ≡ done (map row_of xs) =
+    rows_at_back row_of e Fits long p xs y o fits at in
     rw (room, back) refl
 
 -- n rows that were read have e bytes each, and there are n of them
-pub rows_within_read : (bytes : List ℕ) (size o e n : ℕ) (found : List (List ℕ)) → 0 < e → AreBytes bytes → (rows_within bytes size o e n).outcome ≡ Ok found → AllByRecursion (IsRow e) found × (length found ≡ n)
+pub rows_within_read : (bytes : List ℕ) (size o e n : ℕ) (found : List (List ℕ)) → 0 < e → AreBytes bytes
+    → (rows_within bytes size o e n).outcome ≡ Ok found → AllByRecursion (IsRow e) found × (length found ≡ n)
 unfolding rows_within
 rows_within_read bytes size o e n found pos are h =
     rows_read bytes o e n found pos are (check_ok (leb (n * e) (size - o)) (λ _. rows_at bytes o e n) found h).1

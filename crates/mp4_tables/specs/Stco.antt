@@ -29,4 +29,5 @@ unfoldable pub bytes_stco : StcoBox → List ℕ
 bytes_stco v = bytes_table (λ offset. be_bytes 4 offset) 4 codes.STCO v.version v.flags v.entries
 
 abbrev pub format_stco : Format StcoBox
-format_stco = record { name = λ _. names.StcoBox; size = size_stco; Writable = WritableStco; bytes = bytes_stco; normal = λ v. v }
+format_stco = record
+    { name = λ _. names.StcoBox; size = size_stco; Writable = WritableStco; bytes = bytes_stco; normal = λ v. v }

@@ -7,4 +7,6 @@ use Rattle.mp4_tables.specs.Stco.{made_stco, reads_stco, bytes_stco, format_stco
 
 pub laws_stco : IsBox reads_stco format_stco
 unfolding bytes_stco reads_stco
-laws_stco = laws_table names.StcoBox made_stco (λ v. record { version = v.version; flags = v.flags; entries = v.entries }) (number_entry 4) (λ v. refl) (λ version flags entries. refl) (lit< tt) (lit< tt)
+laws_stco = laws_table names.StcoBox made_stco
+    (λ v. record { version = v.version; flags = v.flags; entries = v.entries }) (number_entry 4) (λ v. refl)
+    (λ version flags entries. refl) (lit< tt) (lit< tt)

@@ -40,4 +40,5 @@ abbrev pub normal_stsc : StscBox → StscBox
 normal_stsc v = record v { entries = number_samples v.entries }
 
 abbrev pub format_stsc : Format StscBox
-format_stsc = record { name = λ _. names.StscBox; size = size_stsc; Writable = WritableStsc; bytes = bytes_stsc; normal = normal_stsc }
+format_stsc = record
+    { name = λ _. names.StscBox; size = size_stsc; Writable = WritableStsc; bytes = bytes_stsc; normal = normal_stsc }

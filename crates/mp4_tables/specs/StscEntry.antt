@@ -6,7 +6,8 @@ use Rattle.mp4_tables.specs.declared.stsc_entry.StscEntry.{StscEntry}
 
 -- the entry, whose first sample is not yet computed, where `at o w` is the number of w bytes at offset o of its row
 abbrev pub value_stsc_entry : (ℕ → ℕ → ℕ) → StscEntry
-value_stsc_entry at = record { first_chunk = at 0 4; samples_per_chunk = at 4 4; sample_description_index = at 8 4; first_sample = 0 }
+value_stsc_entry at =
+    record { first_chunk = at 0 4; samples_per_chunk = at 4 4; sample_description_index = at 8 4; first_sample = 0 }
 
 abbrev pub entry_stsc : List ℕ → StscEntry
 entry_stsc row = value_stsc_entry (number row)

@@ -29,4 +29,5 @@ unfoldable pub bytes_stss : StssBox → List ℕ
 bytes_stss v = bytes_table (λ sample. be_bytes 4 sample) 4 codes.STSS v.version v.flags v.entries
 
 abbrev pub format_stss : Format StssBox
-format_stss = record { name = λ _. names.StssBox; size = size_stss; Writable = WritableStss; bytes = bytes_stss; normal = λ v. v }
+format_stss = record
+    { name = λ _. names.StssBox; size = size_stss; Writable = WritableStss; bytes = bytes_stss; normal = λ v. v }

@@ -7,4 +7,6 @@ use Rattle.mp4_tables.specs.Stss.{made_stss, reads_stss, bytes_stss, format_stss
 
 pub laws_stss : IsBox reads_stss format_stss
 unfolding bytes_stss reads_stss
-laws_stss = laws_table names.StssBox made_stss (λ v. record { version = v.version; flags = v.flags; entries = v.entries }) (number_entry 4) (λ v. refl) (λ version flags entries. refl) (lit< tt) (lit< tt)
+laws_stss = laws_table names.StssBox made_stss
+    (λ v. record { version = v.version; flags = v.flags; entries = v.entries }) (number_entry 4) (λ v. refl)
+    (λ version flags entries. refl) (lit< tt) (lit< tt)

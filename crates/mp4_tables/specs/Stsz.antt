@@ -1,6 +1,7 @@
 -- stsz, the sample size box (ISO/IEC 14496-12, 8.7.3.2). The fields are version 1 byte, flags 3, sample_size 4 at
 -- 12, and sample_count 4 at 16. If sample_size is 0, there are sample_count sizes of 4 bytes each from 20 on.
-use Rattle.std.specs.Prelude.{◌≡◌, ℕ, ◌+◌, ◌*◌, ◌<◌, ◌^◌, ◌==◌, List, [], ◌∷◌, ◌++◌, All, length, map, flat_map, if◌then◌else◌}
+use Rattle.std.specs.Prelude.{◌≡◌, ℕ, ◌+◌, ◌*◌, ◌<◌, ◌^◌, ◌==◌, List, [], ◌∷◌, ◌++◌, All, length, map, flat_map}
+use Rattle.std.specs.Prelude.{if◌then◌else◌}
 use Rattle.mp4_frame.specs.Bytes.{number, be_bytes, bytes_of_fields, FieldsFit, full_box}
 use Rattle.mp4_frame.specs.Reading.{Reading, ◌>>=◌, expect_bytes, memory, done}
 use Rattle.mp4_tables.specs.Rows.{rows_within}
@@ -22,7 +23,8 @@ sizes_if_listed bytes size sample_size count = if sample_size == 0 then reads_si
 
 -- the value with these sizes, where `at o w` is the number of w bytes at offset o
 abbrev pub value_stsz : (ℕ → ℕ → ℕ) → List ℕ → StszBox
-value_stsz at sizes = record { version = at 8 1; flags = at 9 3; sample_size = at 12 4; sample_count = at 16 4; sample_sizes = sizes }
+value_stsz at sizes =
+    record { version = at 8 1; flags = at 9 3; sample_size = at 12 4; sample_count = at 16 4; sample_sizes = sizes }
 
 unfoldable pub reads_stsz : List ℕ → ℕ → ℕ → Reading StszBox
 reads_stsz bytes start size = do
@@ -50,4 +52,5 @@ unfoldable pub bytes_stsz : StszBox → List ℕ
 bytes_stsz v = bytes_of_fields (fields_stsz v) ++ flat_map (λ size. be_bytes 4 size) v.sample_sizes
 
 abbrev pub format_stsz : Format StszBox
-format_stsz = record { name = λ _. names.StszBox; size = size_stsz; Writable = WritableStsz; bytes = bytes_stsz; normal = λ v. v }
+format_stsz = record
+    { name = λ _. names.StszBox; size = size_stsz; Writable = WritableStsz; bytes = bytes_stsz; normal = λ v. v }

@@ -1,5 +1,6 @@
 -- The laws of stsz follow from those of its sizes.
-use Rattle.std.proofs.Common.{◌≡◌, ℕ, ◌+◌, ◌*◌, ◌<◌, ◌^◌, Bool, true, false, eqb, cond, List, [], ◌∷◌, ◌++◌, map, Ok, length, refl, ap, subst, ◌∙◌, append_assoc, arith, lit<, lit≤}
+use Rattle.std.proofs.Common.{◌≡◌, ℕ, ◌+◌, ◌*◌, ◌<◌, ◌^◌, Bool, true, false, eqb, cond, List, [], ◌∷◌, ◌++◌, map, Ok}
+use Rattle.std.proofs.Common.{length, refl, ap, subst, ◌∙◌, append_assoc, arith, lit<, lit≤}
 use Rattle.std.specs.List.{flat_map, All, AllByRecursion}
 use Rattle.std.proofs.lemmas.List.Elements.{All-from_recursion, recursion_from_All}
 use Rattle.mp4_frame.specs.Format.{IsBox}
@@ -13,42 +14,56 @@ use Rattle.mp4_frame.proofs.Tables.{length_flat, map_back, map_all, length_map, 
 use Rattle.mp4_frame.proofs.TableLaws.{number_entry}
 use Rattle.mp4_tables.specs.Rows.{rows_within}
 use Rattle.mp4_tables.specs.RowsLaws.{rows_within_back, rows_within_read}
-use Rattle.mp4_tables.specs.Stsz.{reads_sizes, sizes_if_listed, value_stsz, reads_stsz, size_stsz, fields_stsz, WritableStsz, bytes_stsz, format_stsz}
+use Rattle.mp4_tables.specs.Stsz.{reads_sizes, sizes_if_listed, value_stsz, reads_stsz, size_stsz, fields_stsz}
+use Rattle.mp4_tables.specs.Stsz.{WritableStsz, bytes_stsz, format_stsz}
 use Rattle.mp4_tables.specs.declared.stsz.StszBox.{StszBox}
 
 -- sizes that were written after p are read back
-sizes_back : (p y : List ℕ) (sizes : List ℕ) (size : ℕ) → length p ≡ 20 → size ≡ 20 + 4 * length sizes → All (λ s. s < 2 ^ 32) sizes → (reads_sizes (p ++ (flat_map (λ s. be_bytes 4 s) sizes ++ y)) size (length sizes)).outcome ≡ Ok sizes
+sizes_back : (p y : List ℕ) (sizes : List ℕ) (size : ℕ) → length p ≡ 20 → size ≡ 20 + 4 * length sizes
+    → All (λ s. s < 2 ^ 32) sizes
+    → (reads_sizes (p ++ (flat_map (λ s. be_bytes 4 s) sizes ++ y)) size (length sizes)).outcome ≡ Ok sizes
 unfolding reads_sizes
 sizes_back p y sizes size at is each =
     let by = recursion_from_All (λ s. s < 2 ^ 32) sizes each in
-    let rows = rows_within_back (λ s. be_bytes 4 s) 4 (λ s. s < 2 ^ 32) (number_entry 4).long p sizes y 20 size by at is in
-    let es : map (λ entry. number entry 0 4) (map (λ s. be_bytes 4 s) sizes) ≡ sizes = map_back (λ s. be_bytes 4 s) (λ entry. number entry 0 4) (λ s. s < 2 ^ 32) (number_entry 4).back sizes by in
+    let rows = rows_within_back (λ s. be_bytes 4 s) 4 (λ s. s < 2 ^ 32) (number_entry 4).long p sizes y 20 size
+    by at is in
+    let es : map (λ entry. number entry 0 4) (map (λ s. be_bytes 4 s) sizes) ≡ sizes =
+    map_back (λ s. be_bytes 4 s) (λ entry. number entry 0 4) (λ s. s < 2 ^ 32) (number_entry 4).back sizes by in
     rw (rows, es) refl
 
 no_sizes : (sizes : List ℕ) → length sizes ≡ 0 → [] ≡ sizes
 no_sizes [] h = refl
 no_sizes (s ∷ sizes) h = absurd (omega arith)
 
-listed_back : (p y sizes : List ℕ) (size sample_size count : ℕ) → length p ≡ 20 → size ≡ 20 + 4 * length sizes → All (λ s. s < 2 ^ 32) sizes → length sizes ≡ cond (eqb sample_size 0) count 0
+listed_back : (p y sizes : List ℕ) (size sample_size count : ℕ) → length p ≡ 20 → size ≡ 20 + 4 * length sizes
+    → All (λ s. s < 2 ^ 32) sizes → length sizes ≡ cond (eqb sample_size 0) count 0
     → (sizes_if_listed (p ++ (flat_map (λ s. be_bytes 4 s) sizes ++ y)) size sample_size count).outcome ≡ Ok sizes
 listed_back p y sizes size sample_size count at is each sync = by (eqb sample_size 0) sync
   where
-    by : (b : Bool) → length sizes ≡ cond b count 0 → (cond b (reads_sizes (p ++ (flat_map (λ s. be_bytes 4 s) sizes ++ y)) size count) (done [])).outcome ≡ Ok sizes
+    by : (b : Bool) → length sizes ≡ cond b count 0
+        → (cond b (reads_sizes (p ++ (flat_map (λ s. be_bytes 4 s) sizes ++ y)) size count) (done [])).outcome
+        ≡ Ok sizes
     by true h = rw (← h) (sizes_back p y sizes size at is each)
     by false h = ap (λ (xs : List ℕ). Ok xs) (no_sizes sizes h)
 
 -- sizes that were read fit 32 bits, and there are as many as there have to be
-sizes_read : (bytes : List ℕ) (size sample_size count : ℕ) (sizes : List ℕ) → AreBytes bytes → (sizes_if_listed bytes size sample_size count).outcome ≡ Ok sizes
+sizes_read : (bytes : List ℕ) (size sample_size count : ℕ) (sizes : List ℕ) → AreBytes bytes
+    → (sizes_if_listed bytes size sample_size count).outcome ≡ Ok sizes
     → AllByRecursion (λ s. s < 2 ^ 32) sizes × (length sizes ≡ cond (eqb sample_size 0) count 0)
 unfolding reads_sizes
 sizes_read bytes size sample_size count sizes are h = by (eqb sample_size 0) h
   where
-    by : (b : Bool) → (cond b (reads_sizes bytes size count) (done [])).outcome ≡ Ok sizes → AllByRecursion (λ s. s < 2 ^ 32) sizes × (length sizes ≡ cond b count 0)
+    by : (b : Bool) → (cond b (reads_sizes bytes size count) (done [])).outcome ≡ Ok sizes
+        → AllByRecursion (λ s. s < 2 ^ 32) sizes × (length sizes ≡ cond b count 0)
     by true e =
-        let p = value_first (rows_within bytes size 20 4 count) (λ rows. memory >>= λ _. done (map (λ entry. number entry 0 4) rows)) sizes e in
+        let p = value_first (rows_within bytes size 20 4 count)
+        (λ rows. memory >>= λ _. done (map (λ entry. number entry 0 4) rows)) sizes e in
         let r = rows_within_read bytes size 20 4 count p.0 (lit< tt) are p.1 in
         let is : map (λ entry. number entry 0 4) p.0 ≡ sizes = is_value _ sizes p.2 in
-        rw (← is) (map_all 4 (λ entry. number entry 0 4) (λ s. s < 2 ^ 32) (number_entry 4).fits p.0 r.0, length_map (λ entry. number entry 0 4) p.0 ∙ r.1)
+        rw (← is) (
+          map_all 4 (λ entry. number entry 0 4) (λ s. s < 2 ^ 32) (number_entry 4).fits p.0 r.0,
+          length_map (λ entry. number entry 0 4) p.0 ∙ r.1,
+        )
     by false e = let is : [] ≡ sizes = is_value [] sizes e in rw (← is) (tt, refl)
 
 pub laws_stsz : IsBox reads_stsz format_stsz
@@ -56,7 +71,8 @@ unfolding bytes_stsz reads_stsz
 laws_stsz = record {
   header = λ v w.
       let sizes = flat_map (λ size. be_bytes 4 size) v.sample_sizes in
-      let long = length_flat (λ size. be_bytes 4 size) 4 (λ size. size < 2 ^ 32) (number_entry 4).long v.sample_sizes (recursion_from_All _ v.sample_sizes w.each) in
+      let long = length_flat (λ size. be_bytes 4 size) 4 (λ size. size < 2 ^ 32) (number_entry 4).long v.sample_sizes
+      (recursion_from_All _ v.sample_sizes w.each) in
       header_in_front _ sizes w.fit (omega (arith, long));
   normal_form = λ v w. own_normal_form v refl w;
   read_back = λ v w rest start top.
@@ -69,12 +85,18 @@ laws_stsz = record {
       let n12 : number B 12 4 ≡ v.sample_size = ap (λ (at : ℕ → ℕ → ℕ). at 12 4) numbers in
       let n16 : number B 16 4 ≡ v.sample_count = ap (λ (at : ℕ → ℕ → ℕ). at 16 4) numbers in
       let first = expect_bytes-fields cs (z ++ rest) 8 12 (lit≤ tt) in
-      let sizes : (sizes_if_listed B (size_stsz v) v.sample_size v.sample_count).outcome ≡ Ok v.sample_sizes = listed_back (bytes_of_fields cs) rest v.sample_sizes (size_stsz v) v.sample_size v.sample_count (length-fields cs) refl w.each w.in_sync in
+      let sizes : (sizes_if_listed B (size_stsz v) v.sample_size v.sample_count).outcome ≡ Ok v.sample_sizes =
+      listed_back (bytes_of_fields cs) rest v.sample_sizes (size_stsz v) v.sample_size v.sample_count
+      (length-fields cs) refl w.each w.in_sync in
       let whole : (reads_stsz B start (size_stsz v)).outcome ≡ Ok v = rw (first, n12, n16, sizes, n8, n9) refl in
-      ap (λ (l : List ℕ). (reads_stsz l start (size_stsz v)).outcome) (append_assoc (bytes_of_fields cs) z rest) ∙ whole;
+      ap (λ (l : List ℕ). (reads_stsz l start (size_stsz v)).outcome) (append_assoc (bytes_of_fields cs) z rest)
+      ∙ whole;
   sound = λ bytes start long v are read.
-      let one = expect_bytes_ok bytes 8 12 (λ _. sizes_if_listed bytes long (number bytes 12 4) (number bytes 16 4) >>= λ sizes. done (value_stsz (number bytes) sizes)) v read in
-      let p = value_first (sizes_if_listed bytes long (number bytes 12 4) (number bytes 16 4)) (λ sizes. done (value_stsz (number bytes) sizes)) v one in
+      let one = expect_bytes_ok bytes 8 12
+      (λ _. sizes_if_listed bytes long (number bytes 12 4) (number bytes 16 4) >>= λ sizes.
+      done (value_stsz (number bytes) sizes)) v read in
+      let p = value_first (sizes_if_listed bytes long (number bytes 12 4) (number bytes 16 4))
+      (λ sizes. done (value_stsz (number bytes) sizes)) v one in
       let made = value_stsz (number bytes) p.0 in
       let is : made ≡ v = is_value made v p.2 in
       let r = sizes_read bytes long (number bytes 12 4) (number bytes 16 4) p.0 are p.1 in

@@ -26,4 +26,5 @@ unfoldable pub bytes_stts : SttsBox → List ℕ
 bytes_stts v = bytes_table row_stts 8 codes.STTS v.version v.flags v.entries
 
 abbrev pub format_stts : Format SttsBox
-format_stts = record { name = λ _. names.SttsBox; size = size_stts; Writable = WritableStts; bytes = bytes_stts; normal = λ v. v }
+format_stts = record
+    { name = λ _. names.SttsBox; size = size_stts; Writable = WritableStts; bytes = bytes_stts; normal = λ v. v }

@@ -18,4 +18,6 @@ stts_entry = record {
 
 pub laws_stts : IsBox reads_stts format_stts
 unfolding bytes_stts reads_stts
-laws_stts = laws_table names.SttsBox made_stts (λ v. record { version = v.version; flags = v.flags; entries = v.entries }) stts_entry (λ v. refl) (λ version flags entries. refl) (lit< tt) (lit< tt)
+laws_stts = laws_table names.SttsBox made_stts
+    (λ v. record { version = v.version; flags = v.flags; entries = v.entries }) stts_entry (λ v. refl)
+    (λ version flags entries. refl) (lit< tt) (lit< tt)

@@ -6,7 +6,9 @@ use Rattle.std.specs.Prelude.{ℕ, ◌+◌, ◌-◌, List, [], ◌∷◌, ◌++�
 use Rattle.mp4_frame.specs.Bytes.{number, bytes_of_fields, FieldsFit, full_box}
 use Rattle.mp4_frame.specs.Reading.{Reading, ◌>>=◌, expect_bytes, done}
 use Rattle.mp4_tables.specs.Flagged.{is_set, width_if, number_if, optional, IsPresent}
-use Rattle.mp4_tables.specs.declared.tfhd.TheConstants.TfhdBox.{FLAG_BASE_DATA_OFFSET, FLAG_SAMPLE_DESCRIPTION_INDEX, FLAG_DEFAULT_SAMPLE_DURATION, FLAG_DEFAULT_SAMPLE_SIZE, FLAG_DEFAULT_SAMPLE_FLAGS}
+use Rattle.mp4_tables.specs.declared.tfhd.TheConstants.TfhdBox.{FLAG_BASE_DATA_OFFSET, FLAG_SAMPLE_DESCRIPTION_INDEX}
+use Rattle.mp4_tables.specs.declared.tfhd.TheConstants.TfhdBox.{FLAG_DEFAULT_SAMPLE_DURATION, FLAG_DEFAULT_SAMPLE_SIZE}
+use Rattle.mp4_tables.specs.declared.tfhd.TheConstants.TfhdBox.{FLAG_DEFAULT_SAMPLE_FLAGS}
 use Rattle.mp4_frame.specs.Format.{Format}
 use Rattle.mp4_frame.specs.declared.box_type.BoxType.TheVariants as names
 use Rattle.mp4_frame.specs.declared.codes.TheConstants as codes
@@ -72,4 +74,5 @@ bytes_tfhd v =
     ++ optional 4 v.default_sample_duration ++ optional 4 v.default_sample_size ++ optional 4 v.default_sample_flags
 
 abbrev pub format_tfhd : Format TfhdBox
-format_tfhd = record { name = λ _. names.TfhdBox; size = size_tfhd; Writable = WritableTfhd; bytes = bytes_tfhd; normal = λ v. v }
+format_tfhd = record
+    { name = λ _. names.TfhdBox; size = size_tfhd; Writable = WritableTfhd; bytes = bytes_tfhd; normal = λ v. v }

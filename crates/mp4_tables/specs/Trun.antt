@@ -3,7 +3,8 @@
 -- data_offset 4, signed (flag 0x01), and first_sample_flags 4 (0x04). Then there is a row for each sample: its
 -- duration 4 (0x100), size 4 (0x200), flags 4 (0x400) and composition time offset 4 (0x800), each if its flag is
 -- set.
-use Rattle.std.specs.Prelude.{ℕ, ℤ, ◌+◌, ◌-◌, ◌*◌, List, [], ◌∷◌, ◌++◌, flat_map, slice_get, Option, Some, None, option_map, FitsSigned}
+use Rattle.std.specs.Prelude.{ℕ, ℤ, ◌+◌, ◌-◌, ◌*◌, List, [], ◌∷◌, ◌++◌, flat_map, slice_get, Option, Some, None}
+use Rattle.std.specs.Prelude.{option_map, FitsSigned}
 use Rattle.std.specs.List.{range_with_len}
 use Rattle.std.specs.Int.{w32, cast_signed, cast_unsigned}
 use Rattle.mp4_frame.specs.Bytes.{number, bytes_of_fields, FieldsFit, full_box}
@@ -86,7 +87,8 @@ pub record WritableTrun (v : TrunBox) : Type 0 where
 -- the row of the i-th sample
 unfoldable pub row_trun : TrunBox → ℕ → List ℕ
 row_trun v i =
-    optional 4 (slice_get v.sample_durations i) ++ optional 4 (slice_get v.sample_sizes i) ++ optional 4 (slice_get v.sample_flags i)
+    optional 4 (slice_get v.sample_durations i) ++ optional 4 (slice_get v.sample_sizes i)
+    ++ optional 4 (slice_get v.sample_flags i)
     ++ optional 4 (slice_get v.sample_cts i)
 
 -- the rows of the first n samples
@@ -94,7 +96,9 @@ abbrev pub rows_trun : TrunBox → ℕ → List ℕ
 rows_trun v n = flat_map (row_trun v) (range_with_len 0 n)
 
 unfoldable pub bytes_trun : TrunBox → List ℕ
-bytes_trun v = bytes_of_fields (fields_trun v) ++ optional 4 (unsigned_bits v.data_offset) ++ optional 4 v.first_sample_flags ++ rows_trun v v.sample_count
+bytes_trun v = bytes_of_fields (fields_trun v) ++ optional 4 (unsigned_bits v.data_offset)
+    ++ optional 4 v.first_sample_flags ++ rows_trun v v.sample_count
 
 abbrev pub format_trun : Format TrunBox
-format_trun = record { name = λ _. names.TrunBox; size = size_trun; Writable = WritableTrun; bytes = bytes_trun; normal = λ v. v }
+format_trun = record
+    { name = λ _. names.TrunBox; size = size_trun; Writable = WritableTrun; bytes = bytes_trun; normal = λ v. v }

@@ -2,7 +2,8 @@
 -- number is.
 use Rattle.std.specs.Prelude.{ℕ, ◌+◌}
 use Rattle.mp4_tables.specs.Flagged.{is_set, width_if}
-use Rattle.mp4_tables.specs.declared.trun.TheConstants.TrunBox.{FLAG_SAMPLE_DURATION, FLAG_SAMPLE_SIZE, FLAG_SAMPLE_FLAGS, FLAG_SAMPLE_CTS}
+use Rattle.mp4_tables.specs.declared.trun.TheConstants.TrunBox.{FLAG_SAMPLE_DURATION, FLAG_SAMPLE_SIZE}
+use Rattle.mp4_tables.specs.declared.trun.TheConstants.TrunBox.{FLAG_SAMPLE_FLAGS, FLAG_SAMPLE_CTS}
 use Rattle.mp4_tables.specs.declared.trun.row_flags.RowFlags.{RowFlags}
 
 abbrev pub row_flags : ℕ → RowFlags

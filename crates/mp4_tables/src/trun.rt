@@ -7,7 +7,8 @@ mod rows;
 ghost use Rattle.std.specs.Prelude.{◌≡◌, ◌≤◌, ◌-◌, ◌^◌, ◌↔◌, [], None, IsTrue, min};
 ghost use Rattle.mp4_frame.specs.declared.box_type.BoxType.TheVariants as names;
 ghost use Rattle.mp4_frame.specs.Format.{write_laws};
-ghost use Rattle.mp4_tables.specs.Trun.{rows_at, signed_bits, unsigned_bits, FitsOptional, FlaggedTrun, size_trun, ListedTrun, reads_trun, format_trun};
+ghost use Rattle.mp4_tables.specs.Trun.{rows_at, signed_bits, unsigned_bits, FitsOptional, FlaggedTrun, size_trun};
+ghost use Rattle.mp4_tables.specs.Trun.{ListedTrun, reads_trun, format_trun};
 ghost use Rattle.mp4_tables.specs.TrunLaws.{laws_trun};
 
 use crate::flagged::{is_present_u32, is_set, put_optional_u32, u32_if, width_if};
@@ -62,7 +63,18 @@ impl TrunBox {
 
     /// Version 0, flags 0 and no samples. It takes no memory.
     pub fn default_in(alloc: Global) -> TrunBox
-        ensures { result ≡ record { version = 0; flags = 0; sample_count = 0; data_offset = None; first_sample_flags = None; sample_durations = []; sample_sizes = []; sample_flags = []; sample_cts = [] } }
+        ensures { result ≡ record {
+          version = 0;
+          flags = 0;
+          sample_count = 0;
+          data_offset = None;
+          first_sample_flags =
+              None;
+          sample_durations = [];
+          sample_sizes = [];
+          sample_flags = [];
+          sample_cts = [];
+        } }
     {
         TrunBox {
             version: 0,

@@ -6,9 +6,11 @@ use Rattle.std.specs.Prelude.{unwrap_or, position, not}
 use Rattle.std.specs.List.{position_or_len}
 use Rattle.mp4_text.specs.Terminated.{is_zero}
 
-by : (xs : List ℕ) (b : Bool) → ltb (position_or_len is_zero xs) (length xs) ≡ b → unwrap_or (cond b (Some (position_or_len is_zero xs)) None) (length xs) ≡ position_or_len is_zero xs
+by : (xs : List ℕ) (b : Bool) → ltb (position_or_len is_zero xs) (length xs) ≡ b
+    → unwrap_or (cond b (Some (position_or_len is_zero xs)) None) (length xs) ≡ position_or_len is_zero xs
 by xs true e = refl
-by xs false e = omega (arith, ltb-false (position_or_len is_zero xs) (length xs) e, prefix_len-le-length (λ x. not (is_zero x)) xs)
+by xs false e = omega
+    (arith, ltb-false (position_or_len is_zero xs) (length xs) e, prefix_len-le-length (λ x. not (is_zero x)) xs)
 
 -- the index of the first zero byte, or the length if there is none
 pub offset_or_length : (xs : List ℕ) → unwrap_or (position is_zero xs) (length xs) ≡ position_or_len is_zero xs

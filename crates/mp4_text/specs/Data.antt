@@ -39,4 +39,5 @@ unfoldable pub bytes_data : DataBox → List ℕ
 bytes_data v = bytes_of_fields (fields_data v) ++ v.data_bytes
 
 abbrev pub format_data : Format DataBox
-format_data = record { name = λ _. names.DataBox; size = size_data; Writable = WritableData; bytes = bytes_data; normal = λ v. v }
+format_data = record
+    { name = λ _. names.DataBox; size = size_data; Writable = WritableData; bytes = bytes_data; normal = λ v. v }

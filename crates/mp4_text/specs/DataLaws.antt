@@ -1,5 +1,6 @@
 -- The laws of data.
-use Rattle.std.proofs.Common.{◌≡◌, ℕ, ◌+◌, ◌-◌, ◌<◌, ◌^◌, true, List, ◌++◌, length, Some, Ok, refl, ap, ◌∙◌, arith, append_assoc, lit<, lit≤}
+use Rattle.std.proofs.Common.{◌≡◌, ℕ, ◌+◌, ◌-◌, ◌<◌, ◌^◌, true, List, ◌++◌, length, Some, Ok, refl, ap, ◌∙◌, arith}
+use Rattle.std.proofs.Common.{append_assoc, lit<, lit≤}
 use Rattle.std.proofs.lemmas.Bool.{le-leb}
 use Rattle.std.specs.Prelude.{nat_le}
 use Rattle.mp4_frame.specs.Format.{IsBox}
@@ -37,8 +38,18 @@ laws_data = record {
       let n = length v.data_bytes in
       let enough : nat_le 16 (16 + n) ≡ true = le-leb 16 (16 + n) (omega arith) in
       let long : 16 + n - 16 ≡ n = omega arith in
-      let number : data_type_of (number B 8 4) ≡ Some v.data_type = ap data_type_of (number-fields cs tail 8 4 w) ∙ type_back v.data_type in
-      let whole : (reads_data B start (size_data v)).outcome ≡ Ok v = rw (expect_bytes-fields cs tail 8 4 (lit≤ tt), number, expect_bytes-fields cs tail 12 4 (lit≤ tt), enough, long, piece_back (bytes_of_fields cs) v.data_bytes rest 16 (length-fields cs)) refl in
-      ap (λ (l : List ℕ). (reads_data l start (size_data v)).outcome) (append_assoc (bytes_of_fields cs) v.data_bytes rest) ∙ whole;
+      let number : data_type_of (number B 8 4) ≡ Some v.data_type = ap data_type_of (number-fields cs tail 8 4 w)
+      ∙ type_back v.data_type in
+      let whole : (reads_data B start (size_data v)).outcome ≡ Ok v =
+      rw (
+        expect_bytes-fields cs tail 8 4 (lit≤ tt),
+        number,
+        expect_bytes-fields cs tail 12 4 (lit≤ tt),
+        enough,
+        long,
+        piece_back (bytes_of_fields cs) v.data_bytes rest 16 (length-fields cs),
+      ) refl in
+      ap (λ (l : List ℕ). (reads_data l start (size_data v)).outcome)
+      (append_assoc (bytes_of_fields cs) v.data_bytes rest) ∙ whole;
   sound = λ bytes start long v are e. (refl, λ small. (small, (lit< tt, (small_number v.data_type, (lit< tt, tt)))));
 }

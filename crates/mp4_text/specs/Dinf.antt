@@ -40,4 +40,5 @@ abbrev pub normal_dinf : DinfBox → DinfBox
 normal_dinf v = record { dref = format_dref.normal v.dref }
 
 abbrev pub format_dinf : Format DinfBox
-format_dinf = record { name = λ _. names.DinfBox; size = size_dinf; Writable = WritableDinf; bytes = bytes_dinf; normal = normal_dinf }
+format_dinf = record
+    { name = λ _. names.DinfBox; size = size_dinf; Writable = WritableDinf; bytes = bytes_dinf; normal = normal_dinf }

@@ -29,7 +29,8 @@ with_child v dref = record v { dref = dref }
 pub laws_dinf : IsBox reads_dinf format_dinf
 unfolding bytes_dinf reads_dinf
 laws_dinf = record {
-  header = λ v w. header_in_front _ (format_dref.bytes v.dref) w.fit (ap (λ (n : ℕ). 8 + n) (laws_dref.header v.dref w.child).long);
+  header = λ v w. header_in_front _ (format_dref.bytes v.dref) w.fit
+      (ap (λ (n : ℕ). 8 + n) (laws_dref.header v.dref w.child).long);
   normal_form = λ v w.
       let same = ap (λ (n : ℕ). (4, 8 + n) ∷ (4, codes.DINF) ∷ []) (child.normal_size laws_dref v.dref w.child) in
       parent_normal_form (one_part laws_dref) fields_dinf of_dinf with_child (λ p c. refl) (λ p c d. refl) v same w;
@@ -37,10 +38,15 @@ laws_dinf = record {
       let cs = fields_dinf v in
       let B = bytes_of_fields cs ++ (format_dref.bytes v.dref ++ rest) in
       let more : 0 < size_dinf v = omega arith in
-      let there = child.child_back laws_dref codes.DREF (λ c. refl) cs 8 (length-fields cs) v.dref rest start (size_dinf v) w.child top more in
-      let back = outcome_bind (children reads_dref codes.DREF B start (size_dinf v) (size_dinf v) 8) (required names.DrefBox) (Some (format_dref.normal v.dref)) _ there refl in
-      parent_back (one_part laws_dref) fields_dinf of_dinf with_child 8 0 dref_among value v rest start (size_dinf v) w.fit (lit≤ tt) back refl;
+      let there = child.child_back laws_dref codes.DREF (λ c. refl) cs 8 (length-fields cs) v.dref rest start
+      (size_dinf v) w.child top more in
+      let back = outcome_bind (children reads_dref codes.DREF B start (size_dinf v) (size_dinf v) 8)
+      (required names.DrefBox) (Some (format_dref.normal v.dref)) _ there refl in
+      parent_back (one_part laws_dref) fields_dinf of_dinf with_child 8 0 dref_among value v rest start (size_dinf v)
+      w.fit (lit≤ tt) back refl;
   sound = λ bytes start long v are e.
-      parent_sound (one_part laws_dref) fields_dinf of_dinf with_child 8 0 dref_among value (λ n c. refl) (λ n c d. refl) size_dinf (λ p. omega arith) bytes start long v e
-      (λ c read. required_sound laws_dref codes.DREF names.DrefBox bytes start long long 8 are c read) (λ c small. (small, (lit< tt, tt)));
+      parent_sound (one_part laws_dref) fields_dinf of_dinf with_child 8 0 dref_among value (λ n c. refl)
+      (λ n c d. refl) size_dinf (λ p. omega arith) bytes start long v e
+      (λ c read. required_sound laws_dref codes.DREF names.DrefBox bytes start long long 8 are c read)
+      (λ c small. (small, (lit< tt, tt)));
 }

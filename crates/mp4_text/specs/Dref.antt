@@ -6,7 +6,8 @@ use Rattle.mp4_frame.specs.Bytes.{number, bytes_of_fields, full_box}
 use Rattle.mp4_frame.specs.Children.{children}
 use Rattle.mp4_frame.specs.Parent.{WritableParent}
 use Rattle.mp4_frame.specs.Reading.{Reading, ◌>>=◌, expect_bytes, done}
-use Rattle.mp4_frame.specs.OptionalChild.{count_optional, size_optional, WritableOptional, bytes_optional, normal_optional}
+use Rattle.mp4_frame.specs.OptionalChild.{count_optional, size_optional, WritableOptional, bytes_optional}
+use Rattle.mp4_frame.specs.OptionalChild.{normal_optional}
 use Rattle.mp4_text.specs.Url.{reads_url, format_url}
 use Rattle.mp4_text.specs.declared.dref.DrefBox.{DrefBox}
 use Rattle.mp4_frame.specs.Format.{Format}
@@ -41,4 +42,5 @@ abbrev pub normal_dref : DrefBox → DrefBox
 normal_dref v = record v { url = normal_optional format_url v.url }
 
 abbrev pub format_dref : Format DrefBox
-format_dref = record { name = λ _. names.DrefBox; size = size_dref; Writable = WritableDref; bytes = bytes_dref; normal = normal_dref }
+format_dref = record
+    { name = λ _. names.DrefBox; size = size_dref; Writable = WritableDref; bytes = bytes_dref; normal = normal_dref }

@@ -2,7 +2,8 @@
 -- flags 3 at 9. Version 0 has two zero-terminated strings from 12 on, and then the numbers timescale, time delta,
 -- event duration and id, of 4 bytes each. Version 1 has the numbers at 12, with a time of 8 bytes, and the strings
 -- from 32 on. The rest, up to the end, is the message.
-use Rattle.std.specs.Prelude.{◌≡◌, ℕ, ◌+◌, ◌-◌, ◌==◌, ◌&&◌, nat_le, Bool, true, List, [], ◌∷◌, ◌++◌, length, drop, Some, None, is_some, unwrap_or, if◌then◌else◌}
+use Rattle.std.specs.Prelude.{◌≡◌, ℕ, ◌+◌, ◌-◌, ◌==◌, ◌&&◌, nat_le, Bool, true, List, [], ◌∷◌, ◌++◌, length, drop, Some}
+use Rattle.std.specs.Prelude.{None, is_some, unwrap_or, if◌then◌else◌}
 use Rattle.mp4_frame.specs.Bytes.{number, bytes_of_fields, FieldsFit, full_box}
 use Rattle.mp4_frame.specs.Reading.{Reading, Invalid, ◌>>=◌, expect_bytes, check, piece_at, memory, done, faults}
 use Rattle.mp4_text.specs.Terminated.{two_texts, after_texts, text_and_zero, IsTerminable}
@@ -22,11 +23,39 @@ message_from bytes size o = do
 -- the value in version 0, where `at o w` is the number of w bytes at offset o of the box, and `numbers o w` the same
 -- from the first of the four numbers on
 abbrev pub value_emsg_0 : (ℕ → ℕ → ℕ) → (ℕ → ℕ → ℕ) → List ℕ × List ℕ → List ℕ → EmsgBox
-value_emsg_0 at numbers texts message = record { version = at 8 1; flags = at 9 3; timescale = numbers 0 4; presentation_time = None; presentation_time_delta = Some (numbers 4 4); event_duration = numbers 8 4; id = numbers 12 4; scheme_id_uri = texts.0; value = texts.1; message_data = message }
+value_emsg_0 at numbers texts message =
+    record {
+      version = at 8 1;
+      flags = at 9 3;
+      timescale = numbers 0 4;
+      presentation_time =
+          None;
+      presentation_time_delta = Some (numbers 4 4);
+      event_duration = numbers 8 4;
+      id = numbers 12 4;
+      scheme_id_uri =
+          texts.0;
+      value = texts.1;
+      message_data = message;
+    }
 
 -- the value in version 1, likewise
 abbrev pub value_emsg_1 : (ℕ → ℕ → ℕ) → (ℕ → ℕ → ℕ) → List ℕ × List ℕ → List ℕ → EmsgBox
-value_emsg_1 at numbers texts message = record { version = at 8 1; flags = at 9 3; timescale = numbers 0 4; presentation_time = Some (numbers 4 8); presentation_time_delta = None; event_duration = numbers 12 4; id = numbers 16 4; scheme_id_uri = texts.0; value = texts.1; message_data = message }
+value_emsg_1 at numbers texts message =
+    record {
+      version = at 8 1;
+      flags = at 9 3;
+      timescale = numbers 0 4;
+      presentation_time =
+          Some (numbers 4 8);
+      presentation_time_delta = None;
+      event_duration = numbers 12 4;
+      id =
+          numbers 16 4;
+      scheme_id_uri = texts.0;
+      value = texts.1;
+      message_data = message;
+    }
 
 unfoldable pub reads_emsg_0 : List ℕ → ℕ → Reading EmsgBox
 reads_emsg_0 bytes size = do
@@ -63,7 +92,8 @@ abbrev pub fields_emsg : EmsgBox → List (ℕ × ℕ)
 fields_emsg v = full_box (size_emsg v) codes.EMSG v.version v.flags
 
 abbrev pub numbers_emsg_0 : EmsgBox → List (ℕ × ℕ)
-numbers_emsg_0 v = (4, v.timescale) ∷ (4, unwrap_or v.presentation_time_delta 0) ∷ (4, v.event_duration) ∷ (4, v.id) ∷ []
+numbers_emsg_0 v = (4, v.timescale) ∷ (4, unwrap_or v.presentation_time_delta 0) ∷ (4, v.event_duration)
+    ∷ (4, v.id) ∷ []
 
 abbrev pub numbers_emsg_1 : EmsgBox → List (ℕ × ℕ)
 numbers_emsg_1 v = (4, v.timescale) ∷ (8, unwrap_or v.presentation_time 0) ∷ (4, v.event_duration) ∷ (4, v.id) ∷ []
@@ -73,11 +103,13 @@ texts_emsg v = text_and_zero v.scheme_id_uri ++ text_and_zero v.value
 
 -- the bytes of the numbers and the strings, in the order of the version
 abbrev pub middle_emsg : EmsgBox → List ℕ
-middle_emsg v = if v.version == 0 then texts_emsg v ++ bytes_of_fields (numbers_emsg_0 v) else bytes_of_fields (numbers_emsg_1 v) ++ texts_emsg v
+middle_emsg v = if v.version == 0 then texts_emsg v ++ bytes_of_fields (numbers_emsg_0 v) else bytes_of_fields
+    (numbers_emsg_1 v) ++ texts_emsg v
 
 -- the version is 0 or 1, and has its time
 abbrev pub has_time : EmsgBox → Bool
-has_time v = if v.version == 0 then is_some v.presentation_time_delta else (v.version == 1) && is_some v.presentation_time
+has_time v = if v.version == 0 then is_some v.presentation_time_delta else (v.version == 1) && is_some
+    v.presentation_time
 
 -- every number fits its field, the version has its time, and the strings can be zero-terminated
 pub record WritableEmsg (v : EmsgBox) : Type 0 where
@@ -93,7 +125,9 @@ bytes_emsg v = bytes_of_fields (fields_emsg v) ++ (middle_emsg v ++ v.message_da
 
 -- the normal form lacks the time of the other version
 abbrev pub normal_emsg : EmsgBox → EmsgBox
-normal_emsg v = if v.version == 0 then record v { presentation_time = None } else record v { presentation_time_delta = None }
+normal_emsg v = if v.version == 0 then record v { presentation_time = None } else record v
+    { presentation_time_delta = None }
 
 abbrev pub format_emsg : Format EmsgBox
-format_emsg = record { name = λ _. names.EmsgBox; size = size_emsg; Writable = WritableEmsg; bytes = bytes_emsg; normal = normal_emsg }
+format_emsg = record
+    { name = λ _. names.EmsgBox; size = size_emsg; Writable = WritableEmsg; bytes = bytes_emsg; normal = normal_emsg }

@@ -1,6 +1,7 @@
 -- ftyp, the file type box (ISO/IEC 14496-12, 4.3). Its size is at least 16 and a multiple of 4. The fields are a
 -- major brand of 4 bytes at 8, a minor version of 4 at 12, and brands of 4 bytes each from 16 to the end.
-use Rattle.std.specs.Prelude.{ℕ, ◌+◌, ◌-◌, ◌*◌, ◌/◌, ◌%◌, ◌==◌, ◌&&◌, nat_le, List, [], ◌∷◌, ◌++◌, All, length, map, flat_map}
+use Rattle.std.specs.Prelude.{ℕ, ◌+◌, ◌-◌, ◌*◌, ◌/◌, ◌%◌, ◌==◌, ◌&&◌, nat_le, List, [], ◌∷◌, ◌++◌, All, length, map}
+use Rattle.std.specs.Prelude.{flat_map}
 use Rattle.mp4_frame.specs.Bytes.{number, bytes_of_fields, FieldsFit}
 use Rattle.mp4_frame.specs.FourCC.{four_cc_of, number_of, IsFourCC}
 use Rattle.mp4_frame.specs.Reading.{Reading, ◌>>=◌, check, expect_bytes, memory, done}
@@ -43,4 +44,5 @@ unfoldable pub bytes_ftyp : FtypBox → List ℕ
 bytes_ftyp v = bytes_of_fields (fields_ftyp v) ++ flat_map (λ brand. brand.value) v.compatible_brands
 
 abbrev pub format_ftyp : Format FtypBox
-format_ftyp = record { name = λ _. names.FtypBox; size = size_ftyp; Writable = WritableFtyp; bytes = bytes_ftyp; normal = λ v. v }
+format_ftyp = record
+    { name = λ _. names.FtypBox; size = size_ftyp; Writable = WritableFtyp; bytes = bytes_ftyp; normal = λ v. v }

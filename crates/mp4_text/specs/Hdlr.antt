@@ -30,7 +30,8 @@ abbrev pub size_hdlr : HdlrBox → ℕ
 size_hdlr v = 33 + length v.name
 
 abbrev pub fields_hdlr : HdlrBox → List (ℕ × ℕ)
-fields_hdlr v = full_box (size_hdlr v) codes.HDLR v.version v.flags ++ (4, 0) ∷ (4, number_of v.handler_type) ∷ (12, 0) ∷ []
+fields_hdlr v = full_box (size_hdlr v) codes.HDLR v.version v.flags ++ (4, 0) ∷ (4, number_of v.handler_type)
+    ∷ (12, 0) ∷ []
 
 -- every number fits its field, the handler type has four bytes, and the name is UTF-8
 pub record WritableHdlr (v : HdlrBox) : Type 0 where
@@ -42,4 +43,5 @@ unfoldable pub bytes_hdlr : HdlrBox → List ℕ
 bytes_hdlr v = bytes_of_fields (fields_hdlr v) ++ text_and_zero v.name
 
 abbrev pub format_hdlr : Format HdlrBox
-format_hdlr = record { name = λ _. names.HdlrBox; size = size_hdlr; Writable = WritableHdlr; bytes = bytes_hdlr; normal = λ v. v }
+format_hdlr = record
+    { name = λ _. names.HdlrBox; size = size_hdlr; Writable = WritableHdlr; bytes = bytes_hdlr; normal = λ v. v }

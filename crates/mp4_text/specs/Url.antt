@@ -47,4 +47,11 @@ unfoldable pub bytes_url : UrlBox → List ℕ
 bytes_url v = bytes_of_fields (fields_url v) ++ bytes_location v.location
 
 abbrev pub format_url : Format UrlBox
-format_url = record { name = λ _. names.UrlBox; size = size_url; Writable = WritableUrl; bytes = bytes_url; normal = λ v. v }
+format_url = record {
+  name = λ _. names.UrlBox;
+  size = size_url;
+  Writable = WritableUrl;
+  bytes =
+      bytes_url;
+  normal = λ v. v;
+}

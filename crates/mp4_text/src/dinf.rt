@@ -37,7 +37,13 @@ impl DinfBox {
 
     /// The box with the default references. It takes no memory.
     pub fn default_in(alloc: Global) -> DinfBox
-        ensures { result ≡ record { dref = record { version = 0; flags = 0; url = Some (record { version = 0; flags = 1; location = [] }) } } }
+        ensures { result ≡ record {
+          dref = record {
+            version = 0;
+            flags = 0;
+            url = Some (record { version = 0; flags = 1; location = [] });
+          };
+        } }
     {
         DinfBox::new(DrefBox::default_in(alloc))
     }

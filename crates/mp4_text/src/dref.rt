@@ -28,7 +28,8 @@ pub struct DrefBox {
 impl DrefBox {
     /// One entry, which says that the data is in the same file. It takes no memory.
     pub fn default_in(alloc: Global) -> DrefBox
-        ensures { result ≡ record { version = 0; flags = 0; url = Some (record { version = 0; flags = 1; location = [] }) } }
+        ensures { result ≡ record
+            { version = 0; flags = 0; url = Some (record { version = 0; flags = 1; location = [] }) } }
     {
         DrefBox {
             version: 0,

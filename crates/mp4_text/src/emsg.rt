@@ -5,7 +5,8 @@ ghost use Rattle.mp4_frame.specs.Bytes.{bytes_of_fields};
 ghost use Rattle.mp4_frame.specs.Reading.{Answers};
 ghost use Rattle.mp4_frame.specs.declared.box_type.BoxType.TheVariants as names;
 ghost use Rattle.mp4_frame.specs.Format.{write_laws};
-ghost use Rattle.mp4_text.specs.Emsg.{message_from, reads_emsg_0, reads_emsg_1, size_middle, size_emsg, texts_emsg, middle_emsg, WritableEmsg, reads_emsg, format_emsg};
+ghost use Rattle.mp4_text.specs.Emsg.{message_from, reads_emsg_0, reads_emsg_1, size_middle, size_emsg, texts_emsg};
+ghost use Rattle.mp4_text.specs.Emsg.{middle_emsg, WritableEmsg, reads_emsg, format_emsg};
 ghost use Rattle.mp4_text.specs.EmsgLaws.{laws_emsg};
 
 use crate::terminated::{is_terminable, put_terminated, two_texts_at};
@@ -47,7 +48,19 @@ impl EmsgBox {
     /// Zeros, no times, empty strings and no message. It can't be written until the time of its version is set. It
     /// takes no memory.
     pub fn default_in(alloc: Global) -> EmsgBox
-        ensures { result ≡ record { version = 0; flags = 0; timescale = 0; presentation_time = None; presentation_time_delta = None; event_duration = 0; id = 0; scheme_id_uri = []; value = []; message_data = [] } }
+        ensures { result ≡ record {
+          version = 0;
+          flags = 0;
+          timescale = 0;
+          presentation_time = None;
+          presentation_time_delta =
+              None;
+          event_duration = 0;
+          id = 0;
+          scheme_id_uri = [];
+          value = [];
+          message_data = [];
+        } }
     {
         EmsgBox {
             version: 0,
@@ -186,8 +199,36 @@ fn fits(
     value: &Text,
     message_data: &[u8],
 ) -> bool
-    requires { size ≡ min (size_emsg (record { version = version; flags = flags; timescale = timescale; presentation_time = presentation_time; presentation_time_delta = presentation_time_delta; event_duration = event_duration; id = id; scheme_id_uri = scheme_id_uri.now; value = value.now; message_data = message_data.now })) (2 ^ 64 - 1) }
-    ensures { IsTrue result ↔ WritableEmsg (record { version = version; flags = flags; timescale = timescale; presentation_time = presentation_time; presentation_time_delta = presentation_time_delta; event_duration = event_duration; id = id; scheme_id_uri = scheme_id_uri.now; value = value.now; message_data = message_data.now }) }
+    requires { size ≡ min
+        (size_emsg (record {
+          version = version;
+          flags = flags;
+          timescale = timescale;
+          presentation_time =
+              presentation_time;
+          presentation_time_delta = presentation_time_delta;
+          event_duration = event_duration;
+          id =
+              id;
+          scheme_id_uri = scheme_id_uri.now;
+          value = value.now;
+          message_data = message_data.now;
+        })) (2 ^ 64 - 1) }
+    ensures { IsTrue result ↔ WritableEmsg
+        (record {
+          version = version;
+          flags = flags;
+          timescale = timescale;
+          presentation_time =
+              presentation_time;
+          presentation_time_delta = presentation_time_delta;
+          event_duration = event_duration;
+          id =
+              id;
+          scheme_id_uri = scheme_id_uri.now;
+          value = value.now;
+          message_data = message_data.now;
+        }) }
 {
     // For the prover: a value that was read has the range of its type.
     let _time = presentation_time.unwrap_or(0);
@@ -216,7 +257,8 @@ fn put_numbers_0(
 ) -> usize
     requires { at + 16 ≤ length out.old }
     ensures next { result ≡ at + 16 }
-    ensures put { take result out.new ≡ take at out.old ++ bytes_of_fields ((4, timescale) ∷ (4, delta) ∷ (4, event_duration) ∷ (4, id) ∷ []) }
+    ensures put { take result out.new
+        ≡ take at out.old ++ bytes_of_fields ((4, timescale) ∷ (4, delta) ∷ (4, event_duration) ∷ (4, id) ∷ []) }
 {
     let at = put_u32(out, at, timescale);
     let at = put_u32(out, at, delta);
@@ -236,7 +278,8 @@ fn put_numbers_1(
 ) -> usize
     requires { at + 20 ≤ length out.old }
     ensures next { result ≡ at + 20 }
-    ensures put { take result out.new ≡ take at out.old ++ bytes_of_fields ((4, timescale) ∷ (8, time) ∷ (4, event_duration) ∷ (4, id) ∷ []) }
+    ensures put { take result out.new
+        ≡ take at out.old ++ bytes_of_fields ((4, timescale) ∷ (8, time) ∷ (4, event_duration) ∷ (4, id) ∷ []) }
 {
     let at = put_u32(out, at, timescale);
     let at = put_u64(out, at, time);

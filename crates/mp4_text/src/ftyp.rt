@@ -26,7 +26,8 @@ pub struct FtypBox {
 impl FtypBox {
     /// A brand of four zeros, version 0 and no compatible brands. It takes no memory.
     pub fn default_in(alloc: Global) -> FtypBox
-        ensures { result ≡ record { major_brand = record { value = replicate 4 0 }; minor_version = 0; compatible_brands = [] } }
+        ensures { result ≡ record
+            { major_brand = record { value = replicate 4 0 }; minor_version = 0; compatible_brands = [] } }
     {
         FtypBox {
             major_brand: FourCC::default(),
@@ -113,7 +114,8 @@ impl ReadBox for FtypBox {
 #[tactic(auto, using(mp4_frame::proofs::CodeNames::small_code))]
 fn fits(major_brand: FourCC, minor_version: u32, size: u64, brands: &[FourCC]) -> bool
     requires { size ≡ min (16 + 4 * length brands.now) (2 ^ 64 - 1) }
-    ensures { IsTrue result ↔ WritableFtyp (record { major_brand = major_brand; minor_version = minor_version; compatible_brands = brands.now }) }
+    ensures { IsTrue result ↔ WritableFtyp
+        (record { major_brand = major_brand; minor_version = minor_version; compatible_brands = brands.now }) }
 {
     size < 1 << 32 && is_four_cc(major_brand) && all_fit(brands)
 }

@@ -30,7 +30,12 @@ pub struct HdlrBox {
 impl HdlrBox {
     /// Zeros, and an empty name. It takes no memory.
     pub fn default_in(alloc: Global) -> HdlrBox
-        ensures { result ≡ record { version = 0; flags = 0; handler_type = record { value = replicate 4 0 }; name = [] } }
+        ensures { result ≡ record {
+          version = 0;
+          flags = 0;
+          handler_type = record { value = replicate 4 0 };
+          name = [];
+        } }
     {
         HdlrBox {
             version: 0,
@@ -100,7 +105,8 @@ impl ReadBox for HdlrBox {
 #[tactic(auto, using(mp4_frame::proofs::CodeNames::small_code))]
 fn fits(version: u8, flags: u32, handler_type: FourCC, size: u64, name: &Text) -> bool
     requires { size ≡ min (33 + length name.now) (2 ^ 64 - 1) }
-    ensures { IsTrue result ↔ WritableHdlr (record { version = version; flags = flags; handler_type = handler_type; name = name.now }) }
+    ensures { IsTrue result ↔ WritableHdlr
+        (record { version = version; flags = flags; handler_type = handler_type; name = name.now }) }
 {
     // For the prover: a value that was read has the range of its type.
     let _version = version;

@@ -11,7 +11,9 @@ use crate::{DataBox, DinfBox, DrefBox, EmsgBox, FtypBox, HdlrBox, UrlBox};
 
 /// Every box in a `dinf` is read: looking for more boxes than the `dinf` has bytes changes nothing.
 pub fn dinf_is_read_to_its_end()
-    ensures { (bytes : List ℕ) (start size more : ℕ) → children reads_dref codes.DREF bytes start size (size + more) 8 ≡ children reads_dref codes.DREF bytes start size size 8 }
+    ensures { (bytes : List ℕ) (start size more : ℕ)
+        → children reads_dref codes.DREF bytes start size (size + more) 8
+        ≡ children reads_dref codes.DREF bytes start size size 8 }
 {}
 
 /// `==` of two boxes compares all of their fields.

@@ -2,7 +2,8 @@
 
 ghost use Rattle.std.specs.Prelude.{◌≡◌, ◌↔◌, ◌≤◌, ◌+◌, ◌++◌, IfOk, IsTrue, length, position, take};
 ghost use Rattle.mp4_frame.specs.Reading.{Answers, AnswersAs};
-ghost use Rattle.mp4_text.specs.Terminated.{is_zero, before_zero, utf8_text, terminated_text, two_texts, after_texts, text_and_zero, IsTerminable};
+ghost use Rattle.mp4_text.specs.Terminated.{is_zero, before_zero, utf8_text, terminated_text, two_texts, after_texts};
+ghost use Rattle.mp4_text.specs.Terminated.{text_and_zero, IsTerminable};
 
 use mp4_frame::{Error, Result, Text, expect_bytes, put_bytes, put_u8};
 use std::alloc::Global;

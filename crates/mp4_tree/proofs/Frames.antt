@@ -1,5 +1,6 @@
 -- What a step says of the box at a place, and when a place is that of a frame.
-use Rattle.std.proofs.Common.{◌≡◌, ℕ, ◌+◌, ◌-◌, ◌^◌, ◌<◌, ◌≤◌, Bool, true, false, List, length, take, None, Some, Result, Ok, Err, refl, sym, ap, arith, subst}
+use Rattle.std.proofs.Common.{◌≡◌, ℕ, ◌+◌, ◌-◌, ◌^◌, ◌<◌, ◌≤◌, Bool, true, false, List, length, take, None, Some}
+use Rattle.std.proofs.Common.{Result, Ok, Err, refl, sym, ap, arith, subst}
 use Rattle.std.specs.Prelude.{nat_lt, ◌==◌, ◌&&◌}
 use Rattle.std.specs.declared.option.Option.{Option}
 use Rattle.std.proofs.lemmas.Bool.{cond_both, and_parts, ltb-true, ltb-false, le-ltb, ne_eqb}
@@ -53,21 +54,89 @@ if_whole_same whole e what.Cut = refl
 if_whole_same whole e what.Small = refl
 if_whole_same whole e what.NoHeader = refl
 
-step_by_is : (l : Level) (o : ℕ) (p : Place) (code : ℕ) (after : Level) → after.depth ≡ l.depth → after.end ≡ l.end → is_read p.what ≡ true → (r : Option ℕ) → IsStepOf l o p (step_by l o p code after r)
+step_by_is : (l : Level) (o : ℕ) (p : Place) (code : ℕ) (after : Level) → after.depth ≡ l.depth → after.end ≡ l.end
+    → is_read p.what ≡ true → (r : Option ℕ) → IsStepOf l o p (step_by l o p code after r)
 step_by_is l o p code after depth ends read None =
-    record { depth = refl; position = refl; long = refl; code = refl; whole = refl; level_depth = depth; level_end = ends; leads = refl }
+    record {
+      depth = refl;
+      position = refl;
+      long = refl;
+      code = refl;
+      whole = refl;
+      level_depth = depth;
+      level_end =
+          ends;
+      leads = refl;
+    }
 step_by_is l o p code after depth ends read (Some n) =
     cond_both (nat_lt l.depth constants.DEEPEST) _ _ (IsStepOf l o p)
-    (λ _. record { depth = refl; position = refl; long = refl; code = refl; whole = if_whole_same what.Parent refl p.what; level_depth = depth; level_end = ends; leads = (refl, refl, omega arith, read) })
-    (λ _. record { depth = refl; position = refl; long = refl; code = refl; whole = if_whole_same what.TooDeep refl p.what; level_depth = depth; level_end = ends; leads = refl })
+    (λ _. record {
+      depth = refl;
+      position = refl;
+      long = refl;
+      code = refl;
+      whole =
+          if_whole_same what.Parent refl p.what;
+      level_depth = depth;
+      level_end = ends;
+      leads =
+          (refl, refl, omega arith, read);
+    })
+    (λ _. record {
+      depth = refl;
+      position = refl;
+      long = refl;
+      code = refl;
+      whole =
+          if_whole_same what.TooDeep refl p.what;
+      level_depth = depth;
+      level_end = ends;
+      leads = refl;
+    })
 
-step_of_code_is : (l : Level) (o : ℕ) (p : Place) (w : Words) → is_read p.what ≡ true → (code : Option ℕ) → IsStepOf l o p (step_of_code l o p w code)
-step_of_code_is l o p w read None = record { depth = refl; position = refl; long = refl; code = refl; whole = refl; level_depth = refl; level_end = refl; leads = refl }
-step_of_code_is l o p w read (Some code) = step_by_is l o p code (level_after l code w) refl refl read (fields_before l code w (p.end - p.content))
+step_of_code_is : (l : Level) (o : ℕ) (p : Place) (w : Words) → is_read p.what ≡ true → (code : Option ℕ)
+    → IsStepOf l o p (step_of_code l o p w code)
+step_of_code_is l o p w read None =
+    record {
+      depth = refl;
+      position = refl;
+      long = refl;
+      code = refl;
+      whole = refl;
+      level_depth = refl;
+      level_end =
+          refl;
+      leads = refl;
+    }
+step_of_code_is l o p w read (Some code) =
+    step_by_is l o p code (level_after l code w) refl refl read (fields_before l.setting code w (p.end - p.content))
 
-step_of_what_is : (l : Level) (o : ℕ) (p : Place) (w : Words) (why : What) → p.what ≡ why → IsStepOf l o p (step_of_what l o p w why)
-step_of_what_is l o p w what.Small e = record { depth = refl; position = refl; long = refl; code = refl; whole = refl; level_depth = refl; level_end = refl; leads = refl }
-step_of_what_is l o p w what.NoHeader e = record { depth = refl; position = refl; long = refl; code = refl; whole = refl; level_depth = refl; level_end = refl; leads = refl }
+step_of_what_is : (l : Level) (o : ℕ) (p : Place) (w : Words) (why : What) → p.what ≡ why
+    → IsStepOf l o p (step_of_what l o p w why)
+step_of_what_is l o p w what.Small e =
+    record {
+      depth = refl;
+      position = refl;
+      long = refl;
+      code = refl;
+      whole = refl;
+      level_depth = refl;
+      level_end =
+          refl;
+      leads = refl;
+    }
+step_of_what_is l o p w what.NoHeader e =
+    record {
+      depth = refl;
+      position = refl;
+      long = refl;
+      code = refl;
+      whole = refl;
+      level_depth = refl;
+      level_end =
+          refl;
+      leads = refl;
+    }
 step_of_what_is l o p w what.Leaf e = step_of_code_is l o p w (ap is_read e) p.code
 step_of_what_is l o p w what.Parent e = step_of_code_is l o p w (ap is_read e) p.code
 step_of_what_is l o p w what.TooDeep e = step_of_code_is l o p w (ap is_read e) p.code
@@ -89,12 +158,15 @@ pub record Fits (o : ℕ) (p : Place) : Type 0 where
   pub long : p.end ≤ o + p.length
   pub after : is_read p.what ≡ true → o + 8 ≤ p.content
 
-frame_to_the_end : (len : ℕ) (h : Head) → (h.size == 0) ≡ true → frame_of_head len h ≡ Ok (record { name = name_of h.code; start = h.start; size = len - h.start; end = len })
+frame_to_the_end : (len : ℕ) (h : Head) → (h.size == 0) ≡ true
+    → frame_of_head len h ≡ Ok (record { name = name_of h.code; start = h.start; size = len - h.start; end = len })
 unfolding frame_of_head
 frame_to_the_end len h t = rw t refl
 
-frame_of_size : (len : ℕ) (h : Head) → (h.size == 0) ≡ false → nat_lt h.size 8 ≡ false → nat_lt (2 ^ 64 - 1) (h.start + h.size) ≡ false → nat_lt len (h.start + h.size) ≡ false
-    → frame_of_head len h ≡ Ok (record { name = name_of h.code; start = h.start; size = h.size; end = h.start + h.size })
+frame_of_size : (len : ℕ) (h : Head) → (h.size == 0) ≡ false → nat_lt h.size 8 ≡ false
+    → nat_lt (2 ^ 64 - 1) (h.start + h.size) ≡ false → nat_lt len (h.start + h.size) ≡ false
+    → frame_of_head len h
+    ≡ Ok (record { name = name_of h.code; start = h.start; size = h.size; end = h.start + h.size })
 unfolding frame_of_head
 frame_of_size len h a b c d = rw (a, b, c, d) refl
 
@@ -102,13 +174,16 @@ frame_small : (len : ℕ) (h : Head) → (h.size == 0) ≡ false → nat_lt h.si
 unfolding frame_of_head
 frame_small len h a b = rw (a, b) refl
 
-frame_cut : (len : ℕ) (h : Head) → (h.size == 0) ≡ false → nat_lt h.size 8 ≡ false → nat_lt len (h.start + h.size) ≡ true → (k : Fault) × (frame_of_head len h ≡ Err k)
+frame_cut : (len : ℕ) (h : Head) → (h.size == 0) ≡ false → nat_lt h.size 8 ≡ false
+    → nat_lt len (h.start + h.size) ≡ true → (k : Fault) × (frame_of_head len h ≡ Err k)
 unfolding frame_of_head
 frame_cut len h a b c =
-    cond_both (nat_lt (2 ^ 64 - 1) (h.start + h.size)) (Err Invalid) (Err End) (λ (r : Result Frame Fault). (frame_of_head len h ≡ r) → (k : Fault) × (frame_of_head len h ≡ Err k))
+    cond_both (nat_lt (2 ^ 64 - 1) (h.start + h.size)) (Err Invalid) (Err End)
+    (λ (r : Result Frame Fault). (frame_of_head len h ≡ r) → (k : Fault) × (frame_of_head len h ≡ Err k))
     (λ _ e. (Invalid, e)) (λ _ e. (End, e)) (rw (a, b, c) refl)
 
-module _ (l : Level) (o : ℕ) (h : Head) (short : l.end < 2 ^ 64) (inside : o < l.end) (from : o ≤ h.start) (room : h.start + 8 ≤ l.end) where
+module _ (l : Level) (o : ℕ) (h : Head) (short : l.end < 2 ^ 64) (inside : o < l.end) (from : o ≤ h.start)
+    (room : h.start + 8 ≤ l.end) where
   named : Some h.code ≡ Some (code_of (name_of h.code))
   named = ap (λ (c : ℕ). Some c) (sym (code_of-name_of h.code))
 
@@ -123,28 +198,46 @@ module _ (l : Level) (o : ℕ) (h : Head) (short : l.end < 2 ^ 64) (inside : o <
       (λ _. cond_both (nat_lt h.size 8) _ _ (Fits o)
       (λ _. record { long = omega arith; after = λ e. absurd cc })
       (λ _. cond_both (nat_lt l.end (h.start + h.size)) _ _ (Fits o)
-      (λ far. let beyond = ltb-true l.end (h.start + h.size) far in record { long = omega (arith, beyond); after = λ _. omega arith })
+      (λ far. let beyond =
+      ltb-true l.end (h.start + h.size) far in record { long = omega (arith, beyond); after = λ _. omega arith })
       (λ _. record { long = omega arith; after = λ _. omega arith })))
 
   head_whole : is_whole (place_of_head l o h).what ≡ true → IsOfFrame o (place_of_head l o h) (frame_of_head l.end h)
   unfolding place_of_head
   head_whole =
-      cond_both ((h.size == 0) && (l.depth == 0)) _ _ (λ (p : Place). is_whole p.what ≡ true → IsOfFrame o p (frame_of_head l.end h))
-      (λ t _. (record { name = name_of h.code; start = h.start; size = l.end - h.start; end = l.end }, frame_to_the_end l.end h (and_parts (h.size == 0) (l.depth == 0) t).0, named, refl, refl))
-      (λ _. cond_both (nat_lt h.size 8) _ _ (λ (p : Place). is_whole p.what ≡ true → IsOfFrame o p (frame_of_head l.end h))
+      cond_both ((h.size == 0) && (l.depth == 0)) _ _
+      (λ (p : Place). is_whole p.what ≡ true → IsOfFrame o p (frame_of_head l.end h))
+      (λ t _. (
+        record { name = name_of h.code; start = h.start; size = l.end - h.start; end = l.end },
+        frame_to_the_end l.end h (and_parts (h.size == 0) (l.depth == 0) t).0,
+        named,
+        refl,
+        refl,
+      ))
+      (λ _. cond_both (nat_lt h.size 8) _ _
+      (λ (p : Place). is_whole p.what ≡ true → IsOfFrame o p (frame_of_head l.end h))
       (λ _ e. absurd cc)
-      (λ large. cond_both (nat_lt l.end (h.start + h.size)) _ _ (λ (p : Place). is_whole p.what ≡ true → IsOfFrame o p (frame_of_head l.end h))
+      (λ large. cond_both (nat_lt l.end (h.start + h.size)) _ _
+      (λ (p : Place). is_whole p.what ≡ true → IsOfFrame o p (frame_of_head l.end h))
       (λ _ e. absurd cc)
       (λ near _.
       let most = ltb-false l.end (h.start + h.size) near in
-      let fits : nat_lt (2 ^ 64 - 1) (h.start + h.size) ≡ false = le-ltb (2 ^ 64 - 1) (h.start + h.size) (omega (arith, most, short)) in
-      (record { name = name_of h.code; start = h.start; size = h.size; end = h.start + h.size }, frame_of_size l.end h (some_size large) large fits near, named, refl, refl))))
+      let fits : nat_lt (2 ^ 64 - 1) (h.start + h.size) ≡ false =
+      le-ltb (2 ^ 64 - 1) (h.start + h.size) (omega (arith, most, short)) in (
+        record { name = name_of h.code; start = h.start; size = h.size; end = h.start + h.size },
+        frame_of_size l.end h (some_size large) large fits near,
+        named,
+        refl,
+        refl,
+      ))))
 
-  head_none : l.depth ≡ 0 → is_whole (place_of_head l o h).what ≡ false → IsOfNone l.end (place_of_head l o h) (frame_of_head l.end h)
+  head_none : l.depth ≡ 0 → is_whole (place_of_head l o h).what ≡ false
+      → IsOfNone l.end (place_of_head l o h) (frame_of_head l.end h)
   unfolding place_of_head
   head_none top =
       let Goal = λ (p : Place). is_whole p.what ≡ false → IsOfNone l.end p (frame_of_head l.end h) in
-      let at_top : ((h.size == 0) && (l.depth == 0)) ≡ false → (h.size == 0) ≡ false = rw top (zero_size (h.size == 0)) in
+      let at_top : ((h.size == 0) && (l.depth == 0)) ≡ false → (h.size == 0) ≡ false =
+      rw top (zero_size (h.size == 0)) in
       cond_both ((h.size == 0) && (l.depth == 0)) _ _ Goal
       (λ _ e. absurd cc)
       (λ t. cond_both (nat_lt h.size 8) _ _ Goal
@@ -157,7 +250,8 @@ module _ (l : Level) (o : ℕ) (h : Head) (short : l.end < 2 ^ 64) (inside : o <
       zero_size true e = e
       zero_size false e = refl
 
-module _ (B : List ℕ) (short : length B < 2 ^ 64) (l : Level) (o : ℕ) (within : l.end ≤ length B) (inside : o < l.end) where
+module _ (B : List ℕ) (short : length B < 2 ^ 64) (l : Level) (o : ℕ) (within : l.end ≤ length B)
+    (inside : o < l.end) where
   abbrev own : List ℕ
   own = take l.end B
 
@@ -165,7 +259,8 @@ module _ (B : List ℕ) (short : length B < 2 ^ 64) (l : Level) (o : ℕ) (withi
   long = length-take-le l.end B within
 
   fits_by : (code : Option ℕ) (r : Result Head Fault) → (head own o).outcome ≡ r → Fits o (place_of l o code r)
-  fits_by code (Ok h) is = let room = head_room own o h is in head_fits l o h (omega arith) inside room.0 (omega (arith, room.1, long))
+  fits_by code (Ok h) is = let room =
+      head_room own o h is in head_fits l o h (omega arith) inside room.0 (omega (arith, room.1, long))
   fits_by code (Err End) is = record { long = omega arith; after = λ e. absurd cc }
   fits_by code (Err Invalid) is = record { long = omega arith; after = λ e. absurd cc }
   fits_by code (Err (NotFound _)) is = record { long = omega arith; after = λ e. absurd cc }
@@ -173,22 +268,28 @@ module _ (B : List ℕ) (short : length B < 2 ^ 64) (l : Level) (o : ℕ) (withi
   pub place_fits : Fits o (place B l o)
   place_fits = fits_by (code_at own o) (head own o).outcome refl
 
-  whole_by : (code : Option ℕ) (r : Result Head Fault) → (head own o).outcome ≡ r → is_whole (place_of l o code r).what ≡ true → IsOfFrame o (place_of l o code r) (frame_of l.end r)
-  whole_by code (Ok h) is = let room = head_room own o h is in head_whole l o h (omega arith) inside room.0 (omega (arith, room.1, long))
+  whole_by : (code : Option ℕ) (r : Result Head Fault) → (head own o).outcome ≡ r
+      → is_whole (place_of l o code r).what ≡ true → IsOfFrame o (place_of l o code r) (frame_of l.end r)
+  whole_by code (Ok h) is = let room =
+      head_room own o h is in head_whole l o h (omega arith) inside room.0 (omega (arith, room.1, long))
   whole_by code (Err End) is = λ e. absurd cc
   whole_by code (Err Invalid) is = λ e. absurd cc
   whole_by code (Err (NotFound _)) is = λ e. absurd cc
 
   -- a whole box is a frame of its level
   pub place_whole : is_whole (place B l o).what ≡ true → IsOfFrame o (place B l o) (frame own o)
-  place_whole e = subst (λ (n : ℕ). IsOfFrame o (place B l o) (frame_of n (head own o).outcome)) (sym long) (whole_by (code_at own o) (head own o).outcome refl e)
+  place_whole e = subst (λ (n : ℕ). IsOfFrame o (place B l o) (frame_of n (head own o).outcome)) (sym long)
+      (whole_by (code_at own o) (head own o).outcome refl e)
 
-  none_by : l.depth ≡ 0 → (code : Option ℕ) (r : Result Head Fault) → (head own o).outcome ≡ r → is_whole (place_of l o code r).what ≡ false → IsOfNone l.end (place_of l o code r) (frame_of l.end r)
-  none_by top code (Ok h) is = let room = head_room own o h is in head_none l o h (omega arith) inside room.0 (omega (arith, room.1, long)) top
+  none_by : l.depth ≡ 0 → (code : Option ℕ) (r : Result Head Fault) → (head own o).outcome ≡ r
+      → is_whole (place_of l o code r).what ≡ false → IsOfNone l.end (place_of l o code r) (frame_of l.end r)
+  none_by top code (Ok h) is = let room =
+      head_room own o h is in head_none l o h (omega arith) inside room.0 (omega (arith, room.1, long)) top
   none_by top code (Err End) is = λ _. ((End, refl), refl)
   none_by top code (Err Invalid) is = λ _. ((Invalid, refl), refl)
   none_by top code (Err (NotFound n)) is = λ _. ((NotFound n, refl), refl)
 
   -- where there is no whole box at the top level, there is no frame
   pub place_none : l.depth ≡ 0 → is_whole (place B l o).what ≡ false → IsOfNone l.end (place B l o) (frame own o)
-  place_none top e = subst (λ (n : ℕ). IsOfNone l.end (place B l o) (frame_of n (head own o).outcome)) (sym long) (none_by top (code_at own o) (head own o).outcome refl e)
+  place_none top e = subst (λ (n : ℕ). IsOfNone l.end (place B l o) (frame_of n (head own o).outcome)) (sym long)
+      (none_by top (code_at own o) (head own o).outcome refl e)

@@ -1,5 +1,6 @@
 -- Each box is in the content of an earlier box, or at the top level, and there it is a frame if it is whole.
-use Rattle.std.proofs.Common.{◌≡◌, ℕ, zero, suc, ◌+◌, ◌-◌, ◌^◌, ◌<◌, ◌≤◌, Bool, true, false, cond, List, [], ◌∷◌, length, take, None, Some, refl, sym, ap, ◌∙◌, arith, subst, inl, inr}
+use Rattle.std.proofs.Common.{◌≡◌, ℕ, zero, suc, ◌+◌, ◌-◌, ◌^◌, ◌<◌, ◌≤◌, Bool, true, false, cond, List, [], ◌∷◌}
+use Rattle.std.proofs.Common.{length, take, None, Some, refl, sym, ap, ◌∙◌, arith, subst, inl, inr}
 use Rattle.std.specs.Prelude.{nat_le, All}
 use Rattle.std.specs.List.{Contains}
 use Rattle.std.specs.declared.option.Option.{Option}
@@ -21,16 +22,25 @@ abbrev IsInside : TreeBox → ℕ → Option Level → Type 0
 IsInside x at None = Unit {0}
 IsInside x at (Some m) = (m.depth ≡ x.depth + 1) × (x.position + 8 ≤ at) × (m.end ≤ x.position + x.length)
 
-inside_by : (l : Level) (o : ℕ) (p : Place) (s : Step) → IsStepOf l o p s → Fits o p → (inner : Option Level) → LeadsTo l p s.at inner → IsInside s.found s.at inner
+inside_by : (l : Level) (o : ℕ) (p : Place) (s : Step) → IsStepOf l o p s → Fits o p → (inner : Option Level)
+    → LeadsTo l p s.at inner → IsInside s.found s.at inner
 inside_by l o p s is fits None leads = tt
 inside_by l o p s is fits (Some m) leads =
     let after = fits.after leads.3 in
-    let long = fits.long in
-    (omega (arith, leads.0, is.depth), omega (arith, is.position, after, leads.2), omega (arith, leads.1, is.position, is.long, long))
+    let long = fits.long in (
+      omega (arith, leads.0, is.depth),
+      omega (arith, is.position, after, leads.2),
+      omega (arith, leads.1, is.position, is.long, long),
+    )
 
-frame_by : (own : List ℕ) (l : Level) (o : ℕ) (p : Place) (s : Step) → IsStepOf l o p s → o < p.end → IsOfFrame o p (frame own o) → IsFrame own s.found
-frame_by own l o p s is after f =
-    (f.0, ap (λ (k : ℕ). frame own k) is.position ∙ f.1, is.code ∙ ap four_cc f.2, omega (arith, is.position, is.long, f.3, f.4, after))
+frame_by : (own : List ℕ) (l : Level) (o : ℕ) (p : Place) (s : Step) → IsStepOf l o p s → o < p.end
+    → IsOfFrame o p (frame own o) → IsFrame own s.found
+frame_by own l o p s is after f = (
+  f.0,
+  ap (λ (k : ℕ). frame own k) is.position ∙ f.1,
+  is.code ∙ ap four_cc f.2,
+  omega (arith, is.position, is.long, f.3, f.4, after),
+)
 
 module _ (B : List ℕ) (short : length B < 2 ^ 64) (all : List TreeBox) where
   -- the level is around all that follows o
@@ -41,15 +51,20 @@ module _ (B : List ℕ) (short : length B < 2 ^ 64) (all : List TreeBox) where
   abbrev Among : List TreeBox → Type 0
   Among xs = (x : TreeBox) → Contains xs x → Contains all x
 
-  if_not_over : (b : Bool) (xs : List TreeBox) → Among (cond b [] xs) → (b ≡ false → Among xs → All (IsPlaced B all) xs) → All (IsPlaced B all) (cond b [] xs)
+  if_not_over : (b : Bool) (xs : List TreeBox) → Among (cond b [] xs) → (b ≡ false → Among xs → All (IsPlaced B all) xs)
+      → All (IsPlaced B all) (cond b [] xs)
   if_not_over true xs among f = All-nil (IsPlaced B all)
   if_not_over false xs among f = f refl among
 
   same_around : (l m : Level) (o : ℕ) → m.depth ≡ l.depth → m.end ≡ l.end → AroundFrom l o → AroundFrom m o
-  same_around l m o depth end around e after = subst (λ (d : ℕ). IsAround B all d m.end e) (sym depth) (subst (λ (k : ℕ). IsAround B all l.depth k e) (sym end) (around e after))
+  same_around l m o depth end around e after =
+      subst (λ (d : ℕ). IsAround B all d m.end e) (sym depth)
+      (subst (λ (k : ℕ). IsAround B all l.depth k e) (sym end) (around e after))
 
-  placed_after : (boxes : Level → ℕ → List TreeBox) → ((m : Level) (e : ℕ) → m.end ≤ length B → AroundFrom m e → Among (boxes m e) → All (IsPlaced B all) (boxes m e))
-      → (l : Level) (x : TreeBox) (at : ℕ) (inner : Option Level) → l.end ≤ length B → StaysIn l.end at inner → IsInside x at inner → AroundFrom l at → Contains all x → Among (boxes_after boxes l at inner)
+  placed_after : (boxes : Level → ℕ → List TreeBox)
+      → ((m : Level) (e : ℕ) → m.end ≤ length B → AroundFrom m e → Among (boxes m e) → All (IsPlaced B all) (boxes m e))
+      → (l : Level) (x : TreeBox) (at : ℕ) (inner : Option Level) → l.end ≤ length B → StaysIn l.end at inner
+      → IsInside x at inner → AroundFrom l at → Contains all x → Among (boxes_after boxes l at inner)
       → All (IsPlaced B all) (boxes_after boxes l at inner)
   placed_after boxes each l x at None within stays inside around here among = each l at within around among
   placed_after boxes each l x at (Some m) within stays inside around here among =
@@ -61,7 +76,8 @@ module _ (B : List ℕ) (short : length B < 2 ^ 64) (all : List TreeBox) where
       (λ y mem. among y (Contains-append_right (boxes m at) (boxes l m.end) y mem)))
 
   -- the boxes of a level from o on are placed
-  placed_at_most : (n : ℕ) (l : Level) (o : ℕ) → l.end ≤ length B → AroundFrom l o → Among (boxes_at_most n B l o) → All (IsPlaced B all) (boxes_at_most n B l o)
+  placed_at_most : (n : ℕ) (l : Level) (o : ℕ) → l.end ≤ length B → AroundFrom l o → Among (boxes_at_most n B l o)
+      → All (IsPlaced B all) (boxes_at_most n B l o)
   unfolding boxes_at_most
   placed_at_most zero l o within around among = All-nil (IsPlaced B all)
   placed_at_most (suc n) l o within around among =
@@ -75,17 +91,22 @@ module _ (B : List ℕ) (short : length B < 2 ^ 64) (all : List TreeBox) where
       let is = step_is B l o in
       let goes = step_goes_on B l o within inside in
       let after = place_after B l o within inside in
-      let here : IsAround B all s.found.depth l.end s.found.position = subst (λ (k : ℕ). IsAround B all s.found.depth l.end k) (sym is.position) (subst (λ (d : ℕ). IsAround B all d l.end o) (sym is.depth) (around o (omega arith))) in
+      let here : IsAround B all s.found.depth l.end s.found.position =
+      subst (λ (k : ℕ). IsAround B all s.found.depth l.end k) (sym is.position)
+      (subst (λ (d : ℕ). IsAround B all d l.end o) (sym is.depth) (around o (omega arith))) in
       let stands : IsPlaced B all s.found = (
         l.end,
         here,
         omega (arith, is.position, inside),
         within,
-        (λ whole. frame_by (take l.end B) l o p s is (omega (arith, after.0, after.1)) (place_whole B short l o within inside (sym is.whole ∙ whole))),
+        (λ whole. frame_by (take l.end B) l o p s is (omega (arith, after.0, after.1))
+            (place_whole B short l o within inside (sym is.whole ∙ whole))),
       ) in
-      let stays : StaysIn s.level.end s.at s.inner = subst (λ (e : ℕ). StaysIn e s.at s.inner) (sym is.level_end) goes.1 in
+      let stays : StaysIn s.level.end s.at s.inner =
+      subst (λ (e : ℕ). StaysIn e s.at s.inner) (sym is.level_end) goes.1 in
       All-cons (IsPlaced B all) s.found rest stands
-      (placed_after boxes (λ m e. placed_at_most n m e) s.level s.found s.at s.inner (omega (arith, is.level_end, within)) stays
+      (placed_after boxes (λ m e. placed_at_most n m e) s.level s.found s.at s.inner
+      (omega (arith, is.level_end, within)) stays
       (inside_by l o p s is (place_fits B short l o within inside) s.inner is.leads)
       (same_around l s.level s.at is.level_depth is.level_end (λ e later. around e (omega (arith, goes.0, later))))
       (found s.found (0, omega arith, refl))
@@ -93,4 +114,5 @@ module _ (B : List ℕ) (short : length B < 2 ^ 64) (all : List TreeBox) where
 
 -- every box of a file is placed among them
 pub placed : (B : List ℕ) → length B < 2 ^ 64 → All (IsPlaced B (boxes_of B)) (boxes_of B)
-placed B short = placed_at_most B short (boxes_of B) (length B - 0) (top (length B)) 0 (omega arith) (λ e after. inl (refl, refl)) (λ x mem. mem)
+placed B short = placed_at_most B short (boxes_of B) (length B - 0) (top (length B)) 0 (omega arith)
+    (λ e after. inl (refl, refl)) (λ x mem. mem)

@@ -1,6 +1,7 @@
--- Steps go on: each takes at least one byte of its level, and stays in it. So the boxes of a level don't depend on how many
--- steps are allowed, if these are as many as it has bytes.
-use Rattle.std.proofs.Common.{◌≡◌, ℕ, zero, suc, ⊎_elim, ◌+◌, ◌-◌, ◌<◌, ◌≤◌, true, false, List, [], ◌∷◌, ◌++◌, length, take, None, Some, Result, Ok, Err, refl, sym, ap, ◌∙◌, arith, subst}
+-- Steps go on: each takes at least one byte of its level, and stays in it. So the boxes of a level don't depend on how
+-- many steps are allowed, if these are as many as it has bytes.
+use Rattle.std.proofs.Common.{◌≡◌, ℕ, zero, suc, ⊎_elim, ◌+◌, ◌-◌, ◌<◌, ◌≤◌, true, false, List, [], ◌∷◌, ◌++◌, length}
+use Rattle.std.proofs.Common.{take, None, Some, Result, Ok, Err, refl, sym, ap, ◌∙◌, arith, subst}
 use Rattle.std.specs.Prelude.{IfSome, nat_lt, nat_le, ◌==◌, ◌&&◌}
 use Rattle.std.specs.declared.option.Option.{Option}
 use Rattle.std.proofs.lemmas.Bool.{cond_both, le-leb, ltb-false, cases_lt}
@@ -12,7 +13,8 @@ use Rattle.mp4_frame.specs.declared.head.Head.{Head}
 use Rattle.mp4_frame.proofs.Heads.{head_room}
 use Rattle.mp4_tree.specs.Kinds.{if_room, fields_of, level_after}
 use Rattle.mp4_tree.specs.Place.{code_at, place_of_head, place_of, place}
-use Rattle.mp4_tree.specs.Tree.{GoesOn, StaysIn, step_by, step_of_code, step_of_what, step_of, step, boxes_after, boxes_by, boxes_at_most, boxes_in}
+use Rattle.mp4_tree.specs.Tree.{GoesOn, StaysIn, step_by, step_of_code, step_of_what, step_of, step, boxes_after}
+use Rattle.mp4_tree.specs.Tree.{boxes_by, boxes_at_most, boxes_in}
 use Rattle.mp4_tree.specs.Words.{words}
 use Rattle.mp4_tree.specs.declared.level.Level.{Level}
 use Rattle.mp4_tree.specs.declared.place.Place.{Place}
@@ -29,22 +31,28 @@ IsAfter l o p = (o < p.content) × (p.content ≤ p.end) × (p.end ≤ l.end)
 
 has_room : (room : ℕ) (r : Option ℕ) → IfSome (if_room room r) (λ n. n ≤ room)
 has_room room None = tt
-has_room room (Some n) = cond_both (nat_lt room n) None (Some n) (λ (s : Option ℕ). IfSome s (λ n. n ≤ room)) (λ _. tt) (λ e. ltb-false room n e)
+has_room room (Some n) =
+    cond_both (nat_lt room n) None (Some n) (λ (s : Option ℕ). IfSome s (λ n. n ≤ room)) (λ _. tt)
+    (λ e. ltb-false room n e)
 
-step_by_goes_on : (l : Level) (o : ℕ) (p : Place) (code : ℕ) (after : Level) → IsAfter l o p → after.end ≡ l.end → (r : Option ℕ) → IfSome r (λ n. n ≤ p.end - p.content) → GoesOn l o (step_by l o p code after r)
+step_by_goes_on : (l : Level) (o : ℕ) (p : Place) (code : ℕ) (after : Level) → IsAfter l o p → after.end ≡ l.end
+    → (r : Option ℕ) → IfSome r (λ n. n ≤ p.end - p.content) → GoesOn l o (step_by l o p code after r)
 step_by_goes_on l o p code after is ends None h = (omega (arith, is.0, is.1), is.2, ends)
 step_by_goes_on l o p code after is ends (Some n) h =
     cond_both (nat_lt l.depth constants.DEEPEST) _ _ (GoesOn l o)
     (λ _. (omega (arith, is.0), (omega (arith, is.1, h), is.2), ends))
     (λ _. (omega (arith, is.0, is.1), is.2, ends))
 
-step_of_code_goes_on : (l : Level) (o : ℕ) (p : Place) (w : Words) → IsAfter l o p → (code : Option ℕ) → GoesOn l o (step_of_code l o p w code)
+step_of_code_goes_on : (l : Level) (o : ℕ) (p : Place) (w : Words) → IsAfter l o p → (code : Option ℕ)
+    → GoesOn l o (step_of_code l o p w code)
 step_of_code_goes_on l o p w is None = (omega (arith, is.0, is.1), is.2, refl)
 step_of_code_goes_on l o p w is (Some code) =
     let room = p.end - p.content in
-    step_by_goes_on l o p code (level_after l code w) is refl (if_room room (fields_of l code w room)) (has_room room (fields_of l code w room))
+    step_by_goes_on l o p code (level_after l code w) is refl (if_room room (fields_of l.setting code w room))
+    (has_room room (fields_of l.setting code w room))
 
-step_of_what_goes_on : (l : Level) (o : ℕ) (p : Place) (w : Words) → IsAfter l o p → (why : What) → GoesOn l o (step_of_what l o p w why)
+step_of_what_goes_on : (l : Level) (o : ℕ) (p : Place) (w : Words) → IsAfter l o p → (why : What)
+    → GoesOn l o (step_of_what l o p w why)
 step_of_what_goes_on l o p w is what.Small = (omega (arith, is.0, is.1), is.2, refl)
 step_of_what_goes_on l o p w is what.NoHeader = (omega (arith, is.0, is.1), is.2, refl)
 step_of_what_goes_on l o p w is what.Leaf = step_of_code_goes_on l o p w is p.code
@@ -53,10 +61,13 @@ step_of_what_goes_on l o p w is what.TooDeep = step_of_code_goes_on l o p w is p
 step_of_what_goes_on l o p w is what.Cut = step_of_code_goes_on l o p w is p.code
 
 -- the step at a place goes on
-pub place_goes_on : (l : Level) (o : ℕ) (p : Place) (w : Words) (s : Step) → s ≡ step_of l o p w → o < p.content → p.content ≤ p.end → p.end ≤ l.end → GoesOn l o s
-place_goes_on l o p w s e after inside within = subst (GoesOn l o) (sym e) (step_of_what_goes_on l o p w (after, inside, within) p.what)
+pub place_goes_on : (l : Level) (o : ℕ) (p : Place) (w : Words) (s : Step) → s ≡ step_of l o p w → o < p.content
+    → p.content ≤ p.end → p.end ≤ l.end → GoesOn l o s
+place_goes_on l o p w s e after inside within =
+    subst (GoesOn l o) (sym e) (step_of_what_goes_on l o p w (after, inside, within) p.what)
 
-place_of_head_after : (l : Level) (o : ℕ) (h : Head) → o < l.end → o ≤ h.start → h.start + 8 ≤ l.end → IsAfter l o (place_of_head l o h)
+place_of_head_after : (l : Level) (o : ℕ) (h : Head) → o < l.end → o ≤ h.start → h.start + 8 ≤ l.end
+    → IsAfter l o (place_of_head l o h)
 unfolding place_of_head
 place_of_head_after l o h inside from room =
     cond_both ((h.size == 0) && (l.depth == 0)) _ _ (IsAfter l o)
@@ -68,7 +79,8 @@ place_of_head_after l o h inside from room =
     (λ fits. (omega arith, omega (arith, ltb-false _ _ large), ltb-false _ _ fits))))
 
 -- where a box is read, its content is after it
-place_of_after : (own : List ℕ) (l : Level) (o : ℕ) (code : Option ℕ) → length own ≡ l.end → o < l.end → (r : Result Head Fault) → (head own o).outcome ≡ r → IsAfter l o (place_of l o code r)
+place_of_after : (own : List ℕ) (l : Level) (o : ℕ) (code : Option ℕ) → length own ≡ l.end → o < l.end
+    → (r : Result Head Fault) → (head own o).outcome ≡ r → IsAfter l o (place_of l o code r)
 place_of_after own l o code long inside (Ok h) is =
     let room = head_room own o h is in
     place_of_head_after l o h inside room.0 (omega (arith, room.1, long))
@@ -77,7 +89,9 @@ place_of_after own l o code long inside (Err Invalid) is = (inside, omega arith,
 place_of_after own l o code long inside (Err (NotFound _)) is = (inside, omega arith, omega arith)
 
 pub place_after : (B : List ℕ) (l : Level) (o : ℕ) → l.end ≤ length B → o < l.end → IsAfter l o (place B l o)
-place_after B l o within inside = let own = take l.end B in place_of_after own l o (code_at own o) (length-take-le l.end B within) inside (head own o).outcome refl
+place_after B l o within inside = let own =
+    take l.end B in place_of_after own l o (code_at own o) (length-take-le l.end B within) inside
+    (head own o).outcome refl
 
 -- each step goes on
 pub step_goes_on : (B : List ℕ) (l : Level) (o : ℕ) → l.end ≤ length B → o < l.end → GoesOn l o (step B l o)
@@ -89,14 +103,17 @@ step_goes_on B l o within inside =
 module _ (B : List ℕ) where
   -- the boxes after a step, by two ways to find boxes that agree where it leads
   after_same : (f g : Level → ℕ → List TreeBox) (l : Level) (o : ℕ) (s : Step) → GoesOn l o s → l.end ≤ length B
-      → ((m : Level) (e : ℕ) → m.end ≤ length B → m.end - e < l.end - o → e ≤ m.end → f m e ≡ g m e) → o < l.end → (inner : Option Level) → s.inner ≡ inner → boxes_after f s.level s.at inner ≡ boxes_after g s.level s.at inner
+      → ((m : Level) (e : ℕ) → m.end ≤ length B → m.end - e < l.end - o → e ≤ m.end → f m e ≡ g m e) → o < l.end
+      → (inner : Option Level) → s.inner ≡ inner
+      → boxes_after f s.level s.at inner ≡ boxes_after g s.level s.at inner
   after_same f g l o s goes within same inside None is =
       let stays : StaysIn l.end s.at None = rw is at goes.1 in
       same s.level s.at (omega (arith, goes.2)) (omega (arith, goes.0, goes.2, stays)) (omega (arith, goes.2, stays))
   after_same f g l o s goes within same inside (Some m) is =
       let stays : StaysIn l.end s.at (Some m) = rw is at goes.1 in
       let first = same m s.at (omega (arith, stays.1)) (omega (arith, goes.0, stays.0, stays.1)) stays.0 in
-      let rest = same s.level m.end (omega (arith, goes.2)) (omega (arith, goes.0, goes.2, stays.0, stays.1)) (omega (arith, goes.2, stays.1)) in
+      let rest = same s.level m.end (omega (arith, goes.2)) (omega (arith, goes.0, goes.2, stays.0, stays.1))
+      (omega (arith, goes.2, stays.1)) in
       ap (λ (xs : List TreeBox). xs ++ f s.level m.end) first ∙ ap (λ (ys : List TreeBox). g m s.at ++ ys) rest
 
   -- at the end of a level there are no boxes
@@ -105,20 +122,24 @@ module _ (B : List ℕ) where
   none_at_most zero l o h = refl
   none_at_most (suc n) l o h = let t : nat_le l.end o ≡ true = le-leb _ _ h in rw t refl
 
-  one_more : (n : ℕ) (l : Level) (o : ℕ) → o < l.end → boxes_at_most (suc n) B l o ≡ boxes_by (λ m e. boxes_at_most n B m e) (step B l o)
+  one_more : (n : ℕ) (l : Level) (o : ℕ) → o < l.end
+      → boxes_at_most (suc n) B l o ≡ boxes_by (λ m e. boxes_at_most n B m e) (step B l o)
   unfolding boxes_at_most
   one_more n l o h = let t : nat_le l.end o ≡ false = grind (arith, common_steps) in rw t refl
 
   -- any bound that is large enough gives the same boxes
-  enough : (n m : ℕ) (l : Level) (o : ℕ) → l.end ≤ length B → l.end - o ≤ n → l.end - o ≤ m → o ≤ l.end → boxes_at_most n B l o ≡ boxes_at_most m B l o
+  enough : (n m : ℕ) (l : Level) (o : ℕ) → l.end ≤ length B → l.end - o ≤ n → l.end - o ≤ m → o ≤ l.end
+      → boxes_at_most n B l o ≡ boxes_at_most m B l o
   enough zero m l o within h k here = none_at_most zero l o (omega arith) ∙ sym (none_at_most m l o (omega arith))
-  enough (suc n) zero l o within h k here = none_at_most (suc n) l o (omega arith) ∙ sym (none_at_most zero l o (omega arith))
+  enough (suc n) zero l o within h k here = none_at_most (suc n) l o (omega arith)
+      ∙ sym (none_at_most zero l o (omega arith))
   enough (suc n) (suc m) l o within h k here =
       let at_end = λ (over : l.end ≤ o). none_at_most (suc n) l o over ∙ sym (none_at_most (suc m) l o over) in
       let before = λ (inside : o < l.end).
       one_more n l o inside
       ∙ ap (λ (xs : List TreeBox). (step B l o).found ∷ xs)
-      (after_same (λ j e. boxes_at_most n B j e) (λ j e. boxes_at_most m B j e) l o (step B l o) (step_goes_on B l o within inside) within
+      (after_same (λ j e. boxes_at_most n B j e) (λ j e. boxes_at_most m B j e) l o (step B l o)
+      (step_goes_on B l o within inside) within
       (λ j e fits less here. enough n m j e fits (omega arith) (omega arith) here) inside (step B l o).inner refl)
       ∙ sym (one_more m l o inside) in
       ⊎_elim before at_end (cases_lt o l.end)
@@ -128,11 +149,14 @@ module _ (B : List ℕ) where
   boxes_none l o h = none_at_most (l.end - o) l o h
 
   -- the boxes of a level from o on: those of the step there
-  pub boxes_first : (l : Level) (o : ℕ) → l.end ≤ length B → o < l.end → boxes_in B l o ≡ boxes_by (λ m e. boxes_in B m e) (step B l o)
+  pub boxes_first : (l : Level) (o : ℕ) → l.end ≤ length B → o < l.end
+      → boxes_in B l o ≡ boxes_by (λ m e. boxes_in B m e) (step B l o)
   boxes_first l o within inside =
       let k = l.end - o - 1 in
       let e : l.end - o ≡ suc k = omega arith in
       ap (λ (n : ℕ). boxes_at_most n B l o) e ∙ one_more k l o inside
       ∙ ap (λ (xs : List TreeBox). (step B l o).found ∷ xs)
-      (after_same (λ j e. boxes_at_most k B j e) (λ j e. boxes_in B j e) l o (step B l o) (step_goes_on B l o within inside) within
-      (λ j e fits less here. enough k (j.end - e) j e fits (omega arith) (omega arith) here) inside (step B l o).inner refl)
+      (after_same (λ j e. boxes_at_most k B j e) (λ j e. boxes_in B j e) l o (step B l o)
+      (step_goes_on B l o within inside) within
+      (λ j e fits less here. enough k (j.end - e) j e fits (omega arith) (omega arith) here) inside
+      (step B l o).inner refl)

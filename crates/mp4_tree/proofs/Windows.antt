@@ -1,5 +1,6 @@
 -- What a window on the bytes of a source shows of the box at its front.
-use Rattle.std.proofs.Common.{◌≡◌, ℕ, ◌+◌, ◌-◌, ◌<◌, ◌≤◌, Bool, true, false, cond, List, ◌++◌, length, take, drop, min, None, Some, Result, refl, sym, ap, ◌∙◌, arith, subst, inl, inr}
+use Rattle.std.proofs.Common.{◌≡◌, ℕ, ◌+◌, ◌-◌, ◌<◌, ◌≤◌, Bool, true, false, cond, List, ◌++◌, length, take, drop, min}
+use Rattle.std.proofs.Common.{None, Some, Result, refl, sym, ap, ◌∙◌, arith, subst, inl, inr}
 use Rattle.std.specs.Prelude.{nat_lt, nat_le, ◌==◌, ◌||◌}
 use Rattle.std.specs.declared.option.Option.{Option}
 use Rattle.std.proofs.lemmas.Bool.{lt-ltb, le-ltb, ltb-false, cases_lt}
@@ -20,7 +21,8 @@ use Rattle.mp4_tree.specs.declared.step.Step.{Step}
 use Rattle.mp4_tree.specs.declared.words.Words.{Words}
 
 -- a part of a window is a window
-pub part_of_window : (B P : List ℕ) (s o n : ℕ) → IsWindow B s P → s ≤ o → o + n ≤ s + length P → IsWindow B o (take n (drop (o - s) P))
+pub part_of_window : (B P : List ℕ) (s o n : ℕ) → IsWindow B s P → s ≤ o → o + n ≤ s + length P
+    → IsWindow B o (take n (drop (o - s) P))
 part_of_window B P s o n window after room =
     let k = o - s in
     let m = length P - k in
@@ -32,17 +34,20 @@ part_of_window B P s o n window after room =
     ∙ drop-take k m (drop s B)
     ∙ ap (λ (xs : List ℕ). take m xs) (drop-drop k s B)
     ∙ ap (λ (j : ℕ). take m (drop j B)) on in
-    let front : take n (drop k P) ≡ take n (drop o B) = ap (λ (xs : List ℕ). take n xs) rest ∙ take-take n m (drop o B) (omega arith) in
+    let front : take n (drop k P) ≡ take n (drop o B) = ap (λ (xs : List ℕ). take n xs) rest
+    ∙ take-take n m (drop o B) (omega arith) in
     let long : length (take n (drop k P)) ≡ n = length-take-le n (drop k P) (omega (arith, length-drop k P)) in
     ap (λ (j : ℕ). take j (drop o B)) long ∙ sym front
 
 -- a number in the window is that of the bytes
-pub number_window : (B W : List ℕ) (o k w : ℕ) → IsWindow B o W → o ≤ length B → k + w ≤ length W → number B (o + k) w ≡ number W k w
+pub number_window : (B W : List ℕ) (o k w : ℕ) → IsWindow B o W → o ≤ length B → k + w ≤ length W
+    → number B (o + k) w ≡ number W k w
 number_window B W o k w h inside room =
     let front : length (take o B) ≡ o = length-take-le o B inside in
     let split : take o B ++ (take (length W) (drop o B) ++ drop (length W) (drop o B)) ≡ B =
     ap (λ (xs : List ℕ). take o B ++ xs) (take-append-drop (length W) (drop o B)) ∙ take-append-drop o B in
-    let whole : take o B ++ (W ++ drop (length W) (drop o B)) ≡ B = subst (λ (V : List ℕ). take o B ++ (V ++ drop (length W) (drop o B)) ≡ B) h split in
+    let whole : take o B ++ (W ++ drop (length W) (drop o B)) ≡ B =
+    subst (λ (V : List ℕ). take o B ++ (V ++ drop (length W) (drop o B)) ≡ B) h split in
     ap (λ (xs : List ℕ). number xs (o + k) w) (sym whole)
     ∙ ap (λ (i : ℕ). number (take o B ++ (W ++ drop (length W) (drop o B))) (i + k) w) (sym front)
     ∙ number-among (take o B) W (drop (length W) (drop o B)) k w room
@@ -55,16 +60,21 @@ same_lt a b c d below above = elim (cases_lt a b) [
 
 abbrev shape : Bool → Bool → Bool → Bool → ℕ → ℕ → ℕ → ℕ → Reading Head
 shape b1 one b2 fine s c g o =
-    guard b1 >>= λ _. cond one (guard b2 >>= λ _. check fine >>= λ _. done (record { code = c; size = g - 8; start = o + 8 })) (done (record { code = c; size = s; start = o }))
+    guard b1 >>= λ _. cond one
+    (guard b2 >>= λ _. check fine >>= λ _. done (record { code = c; size = g - 8; start = o + 8 }))
+    (done (record { code = c; size = s; start = o }))
 
 abbrev is_fine : ℕ → Bool
 is_fine g = (g == 0) || nat_le 16 g
 
-head_shape : (B : List ℕ) (o : ℕ) → head B o ≡ shape (nat_lt (length B) (o + 8)) (number B o 4 == 1) (nat_lt (length B) (o + 8 + 8)) (is_fine (number B (o + 8) 8)) (number B o 4) (number B (o + 4) 4) (number B (o + 8) 8) o
+head_shape : (B : List ℕ) (o : ℕ)
+    → head B o ≡ shape (nat_lt (length B) (o + 8)) (number B o 4 == 1) (nat_lt (length B) (o + 8 + 8))
+    (is_fine (number B (o + 8) 8)) (number B o 4) (number B (o + 4) 4) (number B (o + 8) 8) o
 unfolding head
 head_shape B o = refl
 
-later_shape : (b1 one b2 fine : Bool) (s c g o : ℕ) → later o (shape b1 one b2 fine s c g 0).outcome ≡ (shape b1 one b2 fine s c g o).outcome
+later_shape : (b1 one b2 fine : Bool) (s c g o : ℕ)
+    → later o (shape b1 one b2 fine s c g 0).outcome ≡ (shape b1 one b2 fine s c g o).outcome
 later_shape true one b2 fine s c g o = refl
 later_shape false true true fine s c g o = refl
 later_shape false true false true s c g o = let e : 0 + 8 + o ≡ o + 8 = omega arith in rw e refl
@@ -78,30 +88,41 @@ same_shape false true s t c d g f o first second = rw ((first refl).0, (first re
 same_shape false false s t c d g f o first second = rw ((first refl).0, (first refl).1, second refl) refl
 
 -- a window of 16 bytes at least, or of as many as there are, shows the head
-head_window : (B W : List ℕ) (o : ℕ) → IsWindow B o W → o ≤ length B → length W ≤ length B - o → (length W < 16 → length W ≡ length B - o)
+head_window : (B W : List ℕ) (o : ℕ) → IsWindow B o W → o ≤ length B → length W ≤ length B - o
+    → (length W < 16 → length W ≡ length B - o)
     → later o (head W 0).outcome ≡ (head B o).outcome
 head_window B W o h inside most least =
-    let b1 : nat_lt (length W) 8 ≡ nat_lt (length B) (o + 8) = same_lt _ _ _ _ (λ lt. let e = least (omega arith) in omega (arith, e, lt)) (λ le. omega (arith, le, most)) in
-    let b2 : nat_lt (length W) 16 ≡ nat_lt (length B) (o + 8 + 8) = same_lt _ _ _ _ (λ lt. let e = least lt in omega (arith, e, lt)) (λ le. omega (arith, le, most)) in
+    let b1 : nat_lt (length W) 8 ≡ nat_lt (length B) (o + 8) =
+    same_lt _ _ _ _ (λ lt. let e = least (omega arith) in omega (arith, e, lt)) (λ le. omega (arith, le, most)) in
+    let b2 : nat_lt (length W) 16 ≡ nat_lt (length B) (o + 8 + 8) =
+    same_lt _ _ _ _ (λ lt. let e = least lt in omega (arith, e, lt)) (λ le. omega (arith, le, most)) in
     let zero_on : o + 0 ≡ o = omega arith in
     let first : nat_lt (length W) 8 ≡ false → (number W 0 4 ≡ number B o 4) × (number W 4 4 ≡ number B (o + 4) 4) = λ e.
-    let room : 8 ≤ length W = ltb-false _ _ e in
-    (sym (number_window B W o 0 4 h inside (omega (arith, room))) ∙ ap (λ (i : ℕ). number B i 4) zero_on, sym (number_window B W o 4 4 h inside (omega (arith, room)))) in
+    let room : 8 ≤ length W = ltb-false _ _ e in (
+      sym (number_window B W o 0 4 h inside (omega (arith, room))) ∙ ap (λ (i : ℕ). number B i 4) zero_on,
+      sym (number_window B W o 4 4 h inside (omega (arith, room))),
+    ) in
     let second : nat_lt (length W) 16 ≡ false → number W 8 8 ≡ number B (o + 8) 8 = λ e.
     let room : 16 ≤ length W = ltb-false _ _ e in
     sym (number_window B W o 8 8 h inside (omega (arith, room))) in
     ap (λ (r : Reading Head). later o r.outcome) (head_shape W 0)
-    ∙ later_shape (nat_lt (length W) 8) (number W 0 4 == 1) (nat_lt (length W) 16) (is_fine (number W 8 8)) (number W 0 4) (number W 4 4) (number W 8 8) o
-    ∙ ap (λ (r : Reading Head). r.outcome) (same_shape (nat_lt (length W) 8) (nat_lt (length W) 16) _ (number B o 4) _ (number B (o + 4) 4) _ (number B (o + 8) 8) o first second)
-    ∙ ap (λ (b : Bool). (shape b (number B o 4 == 1) (nat_lt (length W) 16) (is_fine (number B (o + 8) 8)) (number B o 4) (number B (o + 4) 4) (number B (o + 8) 8) o).outcome) b1
-    ∙ ap (λ (b : Bool). (shape (nat_lt (length B) (o + 8)) (number B o 4 == 1) b (is_fine (number B (o + 8) 8)) (number B o 4) (number B (o + 4) 4) (number B (o + 8) 8) o).outcome) b2
+    ∙ later_shape (nat_lt (length W) 8) (number W 0 4 == 1) (nat_lt (length W) 16) (is_fine (number W 8 8))
+    (number W 0 4) (number W 4 4) (number W 8 8) o
+    ∙ ap (λ (r : Reading Head). r.outcome)
+    (same_shape (nat_lt (length W) 8) (nat_lt (length W) 16) _ (number B o 4) _ (number B (o + 4) 4) _
+    (number B (o + 8) 8) o first second)
+    ∙ ap (λ (b : Bool). (shape b (number B o 4 == 1) (nat_lt (length W) 16) (is_fine (number B (o + 8) 8))
+    (number B o 4) (number B (o + 4) 4) (number B (o + 8) 8) o).outcome) b1
+    ∙ ap (λ (b : Bool). (shape (nat_lt (length B) (o + 8)) (number B o 4 == 1) b (is_fine (number B (o + 8) 8))
+    (number B o 4) (number B (o + 4) 4) (number B (o + 8) 8) o).outcome) b2
     ∙ ap (λ (r : Reading Head). r.outcome) (sym (head_shape B o))
 
 code_by : (b c : Bool) (m n : ℕ) → b ≡ c → (b ≡ false → m ≡ n) → cond b None (Some m) ≡ cond c None (Some n)
 code_by true c m n e f = rw (sym e) refl
 code_by false c m n e f = rw (sym e, f refl) refl
 
-code_window : (B W : List ℕ) (o : ℕ) → IsWindow B o W → o ≤ length B → length W ≤ length B - o → (length W < 16 → length W ≡ length B - o)
+code_window : (B W : List ℕ) (o : ℕ) → IsWindow B o W → o ≤ length B → length W ≤ length B - o
+    → (length W < 16 → length W ≡ length B - o)
     → code_at W 0 ≡ code_at B o
 code_window B W o h inside most least =
     code_by (nat_lt (length W) 8) (nat_lt (length B) (o + 8)) (number W 4 4) (number B (o + 4) 4)
@@ -112,7 +133,8 @@ number_by : (b c : Bool) (m n : ℕ) → b ≡ c → (b ≡ false → m ≡ n) �
 number_by true c m n e f = rw (sym e) refl
 number_by false c m n e f = rw (sym e, f refl) refl
 
-module _ (B W : List ℕ) (l : Level) (o : ℕ) (window : IsWindow B o W) (within : l.end ≤ length B) (inside : o < l.end) (long : length W ≡ min (l.end - o) 28) where
+module _ (B W : List ℕ) (l : Level) (o : ℕ) (window : IsWindow B o W) (within : l.end ≤ length B) (inside : o < l.end)
+    (long : length W ≡ min (l.end - o) 28) where
   abbrev own : List ℕ
   own = take l.end B
 
@@ -133,18 +155,22 @@ module _ (B W : List ℕ) (l : Level) (o : ℕ) (window : IsWindow B o W) (withi
       let most : length W ≤ length own - o = omega (arith, length_own) in
       let least : length W < 16 → length W ≡ length own - o = λ lt. omega (arith, length_own, lt) in
       let here : o ≤ length own = omega (arith, length_own) in
-      ap (λ (c : Option ℕ). place_of l o c (later o (head W 0).outcome)) (code_window own W o own_window here most least)
+      ap (λ (c : Option ℕ). place_of l o c (later o (head W 0).outcome))
+      (code_window own W o own_window here most least)
       ∙ ap (λ (r : Result Head Fault). place_of l o (code_at own o) r) (head_window own W o own_window here most least)
 
-  same_number : (end j n w : ℕ) → n ≡ o + j → j + w ≤ 28 → o ≤ end → end ≤ l.end → number_in W (end - o) j w ≡ number_in B end n w
+  same_number : (end j n w : ℕ) → n ≡ o + j → j + w ≤ 28 → o ≤ end → end ≤ l.end
+      → number_in W (end - o) j w ≡ number_in B end n w
   same_number end j n w is short after most =
       number_by (nat_lt (end - o) (j + w)) (nat_lt end (n + w)) (number W j w) (number B n w)
       (same_lt _ _ _ _ (λ lt. omega (arith, lt, is)) (λ le. omega (arith, le, is)))
       (λ e.
       let room : j + w ≤ end - o = ltb-false _ _ e in
-      sym (ap (λ (i : ℕ). number B i w) is ∙ number_window B W o j w window (omega arith) (omega (arith, room, short, most))))
+      sym (ap (λ (i : ℕ). number B i w) is
+      ∙ number_window B W o j w window (omega arith) (omega (arith, room, short, most))))
 
-  same_words : (p : Place) → o < p.content → p.content ≤ o + 16 → o ≤ p.end → p.end ≤ l.end → words W (p.content - o) (p.end - o) ≡ words B p.content p.end
+  same_words : (p : Place) → o < p.content → p.content ≤ o + 16 → o ≤ p.end → p.end ≤ l.end
+      → words W (p.content - o) (p.end - o) ≡ words B p.content p.end
   same_words p after near on most =
       let a = same_number p.end (p.content - o) p.content 4 (omega arith) (omega arith) on most in
       let b = same_number p.end (p.content - o + 4) (p.content + 4) 4 (omega arith) (omega arith) on most in
@@ -155,7 +181,8 @@ module _ (B W : List ℕ) (l : Level) (o : ℕ) (window : IsWindow B o W) (withi
 none_by : (bytes : List ℕ) (end o w : ℕ) → end < o + w → number_in bytes end o w ≡ 0
 none_by bytes end o w h = let t : nat_lt end (o + w) ≡ true = lt-ltb _ _ h in rw t refl
 
-no_words : (bytes : List ℕ) (content end : ℕ) → end ≤ content → words bytes content end ≡ record { brand = 0; first_code = 0; handler = 0; version = 0 }
+no_words : (bytes : List ℕ) (content end : ℕ) → end ≤ content
+    → words bytes content end ≡ record { brand = 0; first_code = 0; handler = 0; version = 0 }
 no_words bytes content end h =
     let a = none_by bytes end content 4 (omega arith) in
     let b = none_by bytes end (content + 4) 4 (omega arith) in
@@ -164,13 +191,18 @@ no_words bytes content end h =
     rw (a, b, c, d) refl
 
 -- the step by what the window shows is that of the bytes
-pub step_window : (B W V : List ℕ) (l : Level) (o : ℕ) (p : Place) (w : Words) (s : Step) → V ≡ W → IsWindow B o W → l.end ≤ length B → o < l.end → length W ≡ min (l.end - o) 28
-    → p ≡ place_of l o (code_at V 0) (later o (head V 0).outcome) → o < p.content → p.content ≤ p.end → p.end ≤ l.end → (p.content < p.end → p.content ≤ o + 16)
+pub step_window : (B W V : List ℕ) (l : Level) (o : ℕ) (p : Place) (w : Words) (s : Step) → V ≡ W → IsWindow B o W
+    → l.end ≤ length B → o < l.end → length W ≡ min (l.end - o) 28
+    → p ≡ place_of l o (code_at V 0) (later o (head V 0).outcome) → o < p.content → p.content ≤ p.end → p.end ≤ l.end
+    → (p.content < p.end → p.content ≤ o + 16)
     → w ≡ words V (p.content - o) (p.end - o) → s ≡ step_of l o p w → s ≡ step B l o
 step_window B W V l o p w s same window within inside long is after on most near reads steps =
-    let here : p ≡ place B l o = is ∙ ap (λ (U : List ℕ). place_of l o (code_at U 0) (later o (head U 0).outcome)) same ∙ same_place B W l o window within inside long in
+    let here : p ≡ place B l o = is ∙ ap (λ (U : List ℕ). place_of l o (code_at U 0) (later o (head U 0).outcome)) same
+    ∙ same_place B W l o window within inside long in
     let shown : words V (p.content - o) (p.end - o) ≡ words B p.content p.end = elim (cases_lt p.content p.end) [
-      | inl lt ↦ ap (λ (U : List ℕ). words U (p.content - o) (p.end - o)) same ∙ same_words B W l o window within inside long p after (near lt) (omega arith) most
+      | inl lt ↦ ap (λ (U : List ℕ). words U (p.content - o) (p.end - o)) same
+          ∙ same_words B W l o window within inside long p after (near lt) (omega arith) most
       | inr le ↦ no_words V (p.content - o) (p.end - o) (omega (arith, le)) ∙ sym (no_words B p.content p.end le)
     ] in
-    steps ∙ ap (λ (v : Words). step_of l o p v) (reads ∙ shown) ∙ ap (λ (q : Place). step_of l o q (words B q.content q.end)) here
+    steps ∙ ap (λ (v : Words). step_of l o p v) (reads ∙ shown)
+    ∙ ap (λ (q : Place). step_of l o q (words B q.content q.end)) here

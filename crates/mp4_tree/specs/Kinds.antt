@@ -5,6 +5,7 @@ use Rattle.std.specs.declared.option.Option.{Option}
 use Rattle.mp4_frame.specs.declared.codes.TheConstants as codes
 use Rattle.mp4_tree.specs.declared.kinds.TheConstants as kinds
 use Rattle.mp4_tree.specs.declared.level.Level.{Level}
+use Rattle.mp4_tree.specs.declared.setting.Setting.{Setting}
 use Rattle.mp4_tree.specs.declared.words.Words.{Words}
 
 -- boxes of these codes hold boxes, one after the other, and nothing else (ISO/IEC 14496-12, 8; `iprp` and `ipco`
@@ -12,33 +13,34 @@ use Rattle.mp4_tree.specs.declared.words.Words.{Words}
 abbrev pub containers : List ℕ
 containers =
     codes.MOOV ∷ codes.TRAK ∷ codes.MDIA ∷ codes.MINF ∷ codes.STBL ∷ codes.EDTS ∷ codes.MVEX ∷ codes.MOOF ∷ codes.TRAF
-    ∷ kinds.MFRA ∷ codes.UDTA ∷ codes.DINF ∷ kinds.SINF ∷ kinds.SCHI ∷ kinds.WAVE ∷ kinds.IPRP ∷ kinds.IPCO ∷ codes.ILST ∷ []
+    ∷ kinds.MFRA ∷ codes.UDTA ∷ codes.DINF ∷ kinds.SINF ∷ kinds.SCHI ∷ kinds.WAVE ∷ kinds.IPRP ∷ kinds.IPCO
+    ∷ codes.ILST ∷ []
 
 abbrev pub is_container : ℕ → Bool
 is_container code = list_any (λ c. code == c) containers
 
 -- the fields of a sound entry (ISO/IEC 14496-12, 12.2.3): those of SampleEntry and 20 bytes, and in QuickTime 16 more
 -- in version 1 and 36 more in version 2
-abbrev pub sound_fields : Level → ℕ → ℕ
-sound_fields l version =
-    if l.is_quicktime && (version == 1) then 44 else if l.is_quicktime && (version == 2) then 64 else 28
+abbrev pub sound_fields : Setting → ℕ → ℕ
+sound_fields s version =
+    if s.is_quicktime && (version == 1) then 44 else if s.is_quicktime && (version == 2) then 64 else 28
 
 -- the fields of a sample entry: of video (12.1.3), of sound, and of `tx3g` (3GPP TS 26.245, 5.16), `wvtt` and `mp4s`
 -- whatever the handler is
-abbrev pub entry_fields : Level → ℕ → Words → Option ℕ
-entry_fields l code w =
-    if l.handler == kinds.VIDE then Some 78 else
-    if l.handler == kinds.SOUN then Some (sound_fields l w.version) else
+abbrev pub entry_fields : Setting → ℕ → Words → Option ℕ
+entry_fields s code w =
+    if s.handler == kinds.VIDE then Some 78 else
+    if s.handler == kinds.SOUN then Some (sound_fields s w.version) else
     if code == codes.TX3G then Some 38 else
     if (code == kinds.WVTT) || (code == kinds.MP4S) then Some 8 else None
 
 -- the fields before the boxes in a content of `room` bytes: in an `ilst` each item holds boxes; a `meta` has version
 -- and flags (8.11.1), or none, as QuickTime writes it: then its first box is an `hdlr`; `stsd` and `dref` have version,
 -- flags and a count (8.5.2, 8.7.2)
-abbrev pub fields_of : Level → ℕ → Words → ℕ → Option ℕ
-fields_of l code w room =
-    if l.parent == codes.ILST then Some 0 else
-    if l.parent == codes.STSD then entry_fields l code w else
+abbrev pub fields_of : Setting → ℕ → Words → ℕ → Option ℕ
+fields_of s code w room =
+    if s.parent == codes.ILST then Some 0 else
+    if s.parent == codes.STSD then entry_fields s code w else
     if is_container code then Some 0 else
     if code == codes.META then Some (if (w.first_code == codes.HDLR) || nat_lt room 4 then 0 else 4) else
     if (code == codes.STSD) || (code == codes.DREF) then Some 8 else None
@@ -48,8 +50,8 @@ if_room room None = None
 if_room room (Some n) = if nat_lt room n then None else Some n
 
 -- a box that has no room for its fields holds no boxes
-abbrev pub fields_before : Level → ℕ → Words → ℕ → Option ℕ
-fields_before l code w room = if_room room (fields_of l code w room)
+abbrev pub fields_before : Setting → ℕ → Words → ℕ → Option ℕ
+fields_before s code w room = if_room room (fields_of s code w room)
 
 -- what is known after a box: an `hdlr` in a `mdia` says the handler of the media (8.4.3), and an `ftyp` at the top
 -- level the major brand (4.3)
@@ -57,7 +59,10 @@ abbrev pub level_after : Level → ℕ → Words → Level
 level_after l code w = record {
   depth = l.depth;
   end = l.end;
-  parent = l.parent;
-  handler = if (l.parent == codes.MDIA) && (code == codes.HDLR) then w.handler else l.handler;
-  is_quicktime = if (l.depth == 0) && (code == codes.FTYP) then w.brand == kinds.QUICKTIME else l.is_quicktime;
+  setting = record {
+    parent = l.setting.parent;
+    handler = if (l.setting.parent == codes.MDIA) && (code == codes.HDLR) then w.handler else l.setting.handler;
+    is_quicktime = if (l.depth == 0) && (code == codes.FTYP) then w.brand == kinds.QUICKTIME else
+        l.setting.is_quicktime;
+  };
 }

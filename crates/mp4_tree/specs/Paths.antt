@@ -28,7 +28,8 @@ or_in find (_ ∷ _) x xs = find xs
 abbrev pub of_nth : (TreeBox → List TreeBox → Option TreeBox) → ℕ → FourCC → ℕ → List TreeBox → Option TreeBox
 of_nth found d code k [] = None
 of_nth found d code k (x ∷ xs) =
-    if is_meant d code x then (if k == 0 then found x xs else of_nth found d code (k - 1) xs) else of_nth found d code k xs
+    if is_meant d code x then (if k == 0 then found x xs else of_nth found d code (k - 1) xs) else of_nth found
+    d code k xs
 
 -- the box at a path, whose first part is of depth d: each part says which of the boxes of its code is meant in the box
 -- before

@@ -1,5 +1,6 @@
 -- Where a box is in its level, by its head (ISO/IEC 14496-12, 4.2).
-use Rattle.std.specs.Prelude.{ℕ, ◌+◌, ◌-◌, ◌^◌, ◌==◌, ◌&&◌, min, nat_lt, List, length, take, None, Some, Result, Ok, Err, if◌then◌else◌}
+use Rattle.std.specs.Prelude.{ℕ, ◌+◌, ◌-◌, ◌^◌, ◌==◌, ◌&&◌, min, nat_lt, List, length, take, None, Some, Result, Ok}
+use Rattle.std.specs.Prelude.{Err, if◌then◌else◌}
 use Rattle.std.specs.declared.option.Option.{Option}
 use Rattle.mp4_frame.specs.Bytes.{number}
 use Rattle.mp4_frame.specs.Heads.{head}
@@ -23,10 +24,25 @@ unread l o code why = record { code = code; content = l.end; end = l.end; length
 unfoldable pub place_of_head : Level → ℕ → Head → Place
 place_of_head l o h =
     let content = h.start + 8 in
-    if (h.size == 0) && (l.depth == 0) then record { code = Some h.code; content = content; end = l.end; length = l.end - o; what = what.Leaf } else
+    if (h.size == 0) && (l.depth == 0) then record
+    { code = Some h.code; content = content; end = l.end; length = l.end - o; what = what.Leaf } else
     if nat_lt h.size 8 then unread l o (Some h.code) what.Small else
-    if nat_lt l.end (h.start + h.size) then record { code = Some h.code; content = content; end = l.end; length = min (h.start - o + h.size) (2 ^ 64 - 1); what = what.Cut } else
-    record { code = Some h.code; content = content; end = h.start + h.size; length = h.start + h.size - o; what = what.Leaf }
+    if nat_lt l.end (h.start + h.size) then record {
+      code = Some h.code;
+      content = content;
+      end = l.end;
+      length = min (h.start - o + h.size) (2 ^ 64 - 1);
+      what =
+          what.Cut;
+    } else
+    record {
+      code = Some h.code;
+      content = content;
+      end = h.start + h.size;
+      length = h.start + h.size - o;
+      what =
+          what.Leaf;
+    }
 
 abbrev pub place_of : Level → ℕ → Option ℕ → Result Head Fault → Place
 place_of l o code (Ok h) = place_of_head l o h

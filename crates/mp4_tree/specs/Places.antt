@@ -16,7 +16,8 @@ IsAround B boxes depth end o = ((depth ≡ 0) × (end ≡ length B))
 
 -- the box is a frame of these bytes
 abbrev pub IsFrame : List ℕ → TreeBox → Type 0
-IsFrame bytes x = (f : Frame) × (frame bytes x.position ≡ Ok f) × (x.code ≡ Some (four_cc_of (code_of f.name))) × (x.position + x.length ≡ f.end)
+IsFrame bytes x = (f : Frame) × (frame bytes x.position ≡ Ok f) × (x.code ≡ Some (four_cc_of (code_of f.name)))
+    × (x.position + x.length ≡ f.end)
 
 -- the box is in the file or in another of its boxes, and if it is whole, it is a frame there
 abbrev pub IsPlaced : List ℕ → List TreeBox → TreeBox → Type 0

@@ -1,7 +1,8 @@
 -- The boxes of a file: each box, and after it those in it, in the order of the file.
 --
 -- A level is a run of boxes one after the other: the top level of the file, or the content of a box.
-use Rattle.std.specs.Prelude.{◌≡◌, ℕ, zero, suc, ◌+◌, ◌-◌, ◌<◌, ◌≤◌, nat_lt, nat_le, false, List, [], ◌∷◌, ◌++◌, length, None, Some, if◌then◌else◌}
+use Rattle.std.specs.Prelude.{◌≡◌, ℕ, zero, suc, ◌+◌, ◌-◌, ◌<◌, ◌≤◌, nat_lt, nat_le, false, List, [], ◌∷◌, ◌++◌, length}
+use Rattle.std.specs.Prelude.{None, Some, if◌then◌else◌}
 use Rattle.std.specs.declared.option.Option.{Option}
 use Rattle.mp4_frame.specs.FourCC.{four_cc_of}
 use Rattle.mp4_frame.specs.declared.four_cc.FourCC.{FourCC}
@@ -31,6 +32,7 @@ found_at l o p children why = record {
   length = p.length;
   children = children;
   what = why;
+  setting = l.setting;
 }
 
 -- a box that holds boxes is a parent if it is whole; if it is cut, it is that
@@ -40,7 +42,13 @@ if_whole why other = other
 
 -- the content of a box of this code that ends at `end`
 abbrev pub level_in : Level → ℕ → ℕ → Level
-level_in l code end = record { depth = l.depth + 1; end = end; parent = code; handler = l.handler; is_quicktime = l.is_quicktime }
+level_in l code end =
+    record {
+      depth = l.depth + 1;
+      end = end;
+      setting =
+          record { parent = code; handler = l.setting.handler; is_quicktime = l.setting.is_quicktime };
+    }
 
 -- a place that is not gone into: the walk goes on after it
 abbrev pub passed : Level → ℕ → Place → What → Level → Step
@@ -58,11 +66,13 @@ entered l o p code n after = record {
 abbrev pub step_by : Level → ℕ → Place → ℕ → Level → Option ℕ → Step
 step_by l o p code after None = passed l o p p.what after
 step_by l o p code after (Some n) =
-    if nat_lt l.depth constants.DEEPEST then entered l o p code n after else passed l o p (if_whole what.TooDeep p.what) after
+    if nat_lt l.depth constants.DEEPEST then entered l o p code n after else passed l o p
+    (if_whole what.TooDeep p.what) after
 
 -- the step at a box of this code: it is gone into if it holds boxes, and its level is not too deep
 abbrev pub step_of_box : Level → ℕ → Place → ℕ → Words → Step
-step_of_box l o p code w = step_by l o p code (level_after l code w) (fields_before l code w (p.end - p.content))
+step_of_box l o p code w =
+    step_by l o p code (level_after l code w) (fields_before l.setting code w (p.end - p.content))
 
 abbrev pub step_of_code : Level → ℕ → Place → Words → Option ℕ → Step
 step_of_code l o p w None = passed l o p p.what l
@@ -109,7 +119,7 @@ boxes_in B l o = boxes_at_most (l.end - o) B l o
 
 -- the top level of a file of this length
 abbrev pub top : ℕ → Level
-top len = record { depth = 0; end = len; parent = 0; handler = 0; is_quicktime = false }
+top len = record { depth = 0; end = len; setting = record { parent = 0; handler = 0; is_quicktime = false } }
 
 -- the boxes of a file
 abbrev pub boxes_of : List ℕ → List TreeBox

@@ -16,7 +16,8 @@ pub record Walk : Type 0 where
 
 -- a walk at a position of a level, with the levels around it, the outermost first
 abbrev pub walk_at : Known → ℕ → Level → List Level → Walk
-walk_at source at l around = record { bytes = source.bytes; length = source.length; at = at; levels = l ∷ reverse around }
+walk_at source at l around =
+    record { bytes = source.bytes; length = source.length; at = at; levels = l ∷ reverse around }
 
 -- the boxes that are left at a position of the first of these levels
 abbrev pub unwound : List ℕ → ℕ → List Level → List TreeBox

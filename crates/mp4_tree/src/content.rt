@@ -18,7 +18,8 @@ pub fn read_piece<S: Source>(
     skip: u64,
     long: u64,
 ) -> io::Result<Vec<u8>>
-    ensures bytes { IfSome (S.all source.old) (λ B. all ≡ length B → IfOk result (λ bytes. bytes.items ≡ piece B (at + skip) long)) }
+    ensures bytes { IfSome (S.all source.old)
+        (λ B. all ≡ length B → IfOk result (λ bytes. bytes.items ≡ piece B (at + skip) long)) }
     ensures keeps { S.all source.new ≡ S.all source.old }
 {
     let there = all.saturating_sub(at).saturating_sub(skip).min(long);
@@ -52,7 +53,8 @@ pub fn read_content<S: Source>(
 
 /// A box with its header. Of a box that ends after the file, as much as is there.
 pub fn read_box<S: Source>(alloc: Global, source: &mut S, found: &TreeBox) -> io::Result<Vec<u8>>
-    ensures bytes { IfSome (S.all source.old) (λ B. IfOk result (λ bytes. bytes.items ≡ piece B found.now.position found.now.length)) }
+    ensures bytes { IfSome (S.all source.old)
+        (λ B. IfOk result (λ bytes. bytes.items ≡ piece B found.now.position found.now.length)) }
     ensures keeps { S.all source.new ≡ S.all source.old }
 {
     let all = source.length()?;

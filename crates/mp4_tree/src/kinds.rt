@@ -4,6 +4,7 @@ ghost use Rattle.std.specs.Prelude.{◌≡◌, ◌≤◌, ◌+◌, IfSome};
 ghost use Rattle.mp4_tree.specs.Kinds.{is_container, sound_fields, entry_fields, fields_of, fields_before, level_after};
 
 use crate::level::Level;
+use crate::setting::Setting;
 use crate::words::Words;
 use mp4_frame::codes::{
     DINF, DREF, EDTS, FTYP, HDLR, ILST, MDIA, META, MINF, MOOF, MOOV, MVEX, STBL, STSD, TRAF, TRAK,
@@ -70,23 +71,23 @@ fn is_container(code: u32) -> bool
 }
 
 /// How many bytes of fields a sound entry of this version has.
-fn sound_fields(level: Level, version: u16) -> u64
-    ensures { result ≡ sound_fields level version }
+fn sound_fields(setting: Setting, version: u16) -> u64
+    ensures { result ≡ sound_fields setting version }
 {
     match version {
-        1 if level.is_quicktime => 44,
-        2 if level.is_quicktime => 64,
+        1 if setting.is_quicktime => 44,
+        2 if setting.is_quicktime => 64,
         _ => 28,
     }
 }
 
 /// How many bytes of fields a sample entry has before its boxes, if it holds boxes.
-fn entry_fields(level: Level, code: u32, words: Words) -> Option<u64>
-    ensures { result ≡ entry_fields level code words }
+fn entry_fields(setting: Setting, code: u32, words: Words) -> Option<u64>
+    ensures { result ≡ entry_fields setting code words }
 {
-    match level.handler {
+    match setting.handler {
         VIDE => Some(78),
-        SOUN => Some(sound_fields(level, words.version)),
+        SOUN => Some(sound_fields(setting, words.version)),
         _ => match code {
             TX3G => Some(38),
             WVTT | MP4S => Some(8),
@@ -96,12 +97,12 @@ fn entry_fields(level: Level, code: u32, words: Words) -> Option<u64>
 }
 
 /// How many bytes of fields are before the boxes in a content of `room` bytes, if boxes of this code hold boxes.
-fn fields_of(level: Level, code: u32, words: Words, room: u64) -> Option<u64>
-    ensures { result ≡ fields_of level code words room }
+fn fields_of(setting: Setting, code: u32, words: Words, room: u64) -> Option<u64>
+    ensures { result ≡ fields_of setting code words room }
 {
-    match level.parent {
+    match setting.parent {
         ILST => return Some(0),
-        STSD => return entry_fields(level, code, words),
+        STSD => return entry_fields(setting, code, words),
         _ => {}
     }
     if is_container(code) {
@@ -116,11 +117,11 @@ fn fields_of(level: Level, code: u32, words: Words, room: u64) -> Option<u64>
 }
 
 /// How many bytes of fields are before the boxes in a content of `room` bytes, if it holds boxes and has room for them.
-pub fn fields_before(level: Level, code: u32, words: Words, room: u64) -> Option<u64>
-    ensures fields { result ≡ fields_before level code words room }
+pub fn fields_before(setting: Setting, code: u32, words: Words, room: u64) -> Option<u64>
+    ensures fields { result ≡ fields_before setting code words room }
     ensures room { IfSome result (λ n. n ≤ room) }
 {
-    match fields_of(level, code, words, room) {
+    match fields_of(setting, code, words, room) {
         Some(fields) if fields <= room => Some(fields),
         _ => None,
     }
@@ -133,16 +134,18 @@ pub fn level_after(level: Level, code: u32, words: Words) -> Level
     Level {
         depth: level.depth,
         end: level.end,
-        parent: level.parent,
-        handler: if level.parent == MDIA && code == HDLR {
-            words.handler
-        } else {
-            level.handler
-        },
-        is_quicktime: if level.depth == 0 && code == FTYP {
-            words.brand == QUICKTIME
-        } else {
-            level.is_quicktime
+        setting: Setting {
+            parent: level.setting.parent,
+            handler: if level.setting.parent == MDIA && code == HDLR {
+                words.handler
+            } else {
+                level.setting.handler
+            },
+            is_quicktime: if level.depth == 0 && code == FTYP {
+                words.brand == QUICKTIME
+            } else {
+                level.setting.is_quicktime
+            },
         },
     }
 }

@@ -1,5 +1,7 @@
 //! A run of boxes one after the other: the top level of a file, or the content of a box.
 
+use crate::setting::Setting;
+
 /// A run of boxes one after the other, and what is known of it from the boxes before.
 #[derive(Clone, Copy, Debug, PartialEq, Eq)]
 pub struct Level {
@@ -7,10 +9,6 @@ pub struct Level {
     pub depth: u64,
     /// The position in the file at which it ends.
     pub end: u64,
-    /// The code of the box that it is in; 0 at the top level.
-    pub parent: u32,
-    /// The handler of the track's media, as `hdlr` in `mdia` says; 0 before that.
-    pub handler: u32,
-    /// Whether the file is a QuickTime movie, as the major brand of `ftyp` says.
-    pub is_quicktime: bool,
+    /// What decides how the next box of it is read.
+    pub setting: Setting,
 }

@@ -1,12 +1,14 @@
 //! One step of the walk: what is at a position, and where the walk goes on.
 
 ghost use Rattle.std.specs.Prelude.{◌≡◌, ◌+◌, ◌<◌, ◌≤◌, length, IfOk, IfSome};
-ghost use Rattle.mp4_tree.specs.Tree.{four_cc, found_at, if_whole, level_in, passed, entered, step_of_box, step_of, step, GoesOn};
+ghost use Rattle.mp4_tree.specs.Tree.{four_cc, found_at, if_whole, level_in, passed, entered, step_of_box, step_of};
+ghost use Rattle.mp4_tree.specs.Tree.{step, GoesOn};
 
 use crate::kinds::{fields_before, level_after};
 use crate::level::Level;
 use crate::pages::Pages;
 use crate::place::{Place, place_at};
+use crate::setting::Setting;
 use crate::source::Source;
 use crate::tree_box::{TreeBox, What};
 use crate::words::{Words, words_at};
@@ -52,6 +54,7 @@ fn found_at(level: Level, at: u64, place: Place, children: Option<u64>, what: Wh
         length: place.length,
         children,
         what,
+        setting: level.setting,
     }
 }
 
@@ -73,9 +76,10 @@ fn level_in(level: Level, code: u32, end: u64) -> Level
     Level {
         depth: level.depth + 1,
         end,
-        parent: code,
-        handler: level.handler,
-        is_quicktime: level.is_quicktime,
+        setting: Setting {
+            parent: code,
+            ..level.setting
+        },
     }
 }
 
@@ -116,7 +120,7 @@ fn step_of_box(level: Level, at: u64, place: Place, code: u32, words: Words) -> 
     ensures { result ≡ step_of_box level at place code words }
 {
     let after = level_after(level, code, words);
-    match fields_before(level, code, words, place.end - place.content) {
+    match fields_before(level.setting, code, words, place.end - place.content) {
         None => passed(level, at, place, place.what, after),
         Some(fields) if level.depth < DEEPEST => { entered(level, at, place, code, fields, after) }
         Some(_) => passed(level, at, place, if_whole(What::TooDeep, place.what), after),

@@ -7,6 +7,7 @@ ghost use Rattle.mp4_tree.specs.Walk.{left, bytes_left, Comes, Closes, with_inne
 
 use crate::level::Level;
 use crate::pages::Pages;
+use crate::setting::Setting;
 use crate::source::Source;
 use crate::step::{Step, step_at};
 use crate::tree_box::TreeBox;
@@ -51,7 +52,8 @@ fn close_levels(level: &mut Level, around: &mut Vec<Level>, at: u64) -> bool
 
 /// Goes on in the level inside, if a step leads into one, or in the level itself.
 fn go_on(level: &mut Level, around: &mut Vec<Level>, step: Step) -> io::Result<()>
-    ensures ok { OnOk result (level.new ∷ reverse around.new.items ≡ with_inner step.inner (step.level ∷ reverse around.old.items)) }
+    ensures ok { OnOk result
+        (level.new ∷ reverse around.new.items ≡ with_inner step.inner (step.level ∷ reverse around.old.items)) }
     ensures kept { OnErr result ((level.new ≡ level.old) × (around.new.items ≡ around.old.items)) }
 {
     match step.inner {
@@ -74,9 +76,11 @@ impl<S: Source> Tree<S> {
         let level = Level {
             depth: 0,
             end: pages.length(),
-            parent: 0,
-            handler: 0,
-            is_quicktime: false,
+            setting: Setting {
+                parent: 0,
+                handler: 0,
+                is_quicktime: false,
+            },
         };
         Ok(Tree {
             pages,
@@ -121,7 +125,8 @@ impl<S: Source> Tree<S> {
 
     /// A box that came, with its header, as `read_box`. The walk stays where it is.
     pub fn read_box(&mut self, alloc: Global, found: &TreeBox) -> io::Result<Vec<u8>>
-        ensures bytes { IfSome self.old.bytes (λ B. IfOk result (λ bytes. bytes.items ≡ piece B found.now.position found.now.length)) }
+        ensures bytes { IfSome self.old.bytes
+            (λ B. IfOk result (λ bytes. bytes.items ≡ piece B found.now.position found.now.length)) }
         ensures kept { self.new ≡ self.old }
     {
         self.pages
@@ -130,7 +135,8 @@ impl<S: Source> Tree<S> {
 
     /// The next box, or none after the last one. After an error the same box comes again.
     pub fn next(&mut self) -> io::Result<Option<TreeBox>>
-        ensures comes { IfOk result (λ found. IfSome self.old.bytes (λ B. Comes (left B self.old) found (left B self.new))) }
+        ensures comes { IfOk result
+            (λ found. IfSome self.old.bytes (λ B. Comes (left B self.old) found (left B self.new))) }
         ensures again { OnErr result (IfSome self.old.bytes (λ B. left B self.new ≡ left B self.old)) }
         ensures takes { IfOk result (λ found. IfSome found (λ _. bytes_left self.new < bytes_left self.old)) }
         ensures bytes { self.new.bytes ≡ self.old.bytes }

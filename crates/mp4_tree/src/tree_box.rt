@@ -2,6 +2,7 @@
 
 ghost use Rattle.std.specs.Prelude.{◌≡◌, ◌+◌, ◌-◌, ◌^◌, min};
 
+use crate::setting::Setting;
 use mp4_frame::FourCC;
 
 /// What is found where a box should begin.
@@ -39,6 +40,8 @@ pub struct TreeBox {
     pub children: Option<u64>,
     /// What was found there.
     pub what: What,
+    /// What decides how it is read.
+    pub setting: Setting,
 }
 
 impl TreeBox {

@@ -1,6 +1,6 @@
 //! Writes and reads every vector, alone and all as one stream. From outside, requests for memory may be refused to it.
-//! Its status is 0 if every call has its usual result, be it at the second try; 1 if a call is out of memory twice; and 2
-//! if a call has any other result, or leaves anything that it shouldn't.
+//! Its status is 0 if every call has its usual result, be it at the second try; 1 if a call is out of memory twice; and
+//! 2 if a call has any other result, or leaves anything that it shouldn't.
 #![tactic(auto)]
 
 mod refused_memory;

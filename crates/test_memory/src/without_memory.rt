@@ -37,8 +37,8 @@ fn read_one(alloc: Global, bytes: &[u8]) -> mp4_stream::Result<AnyBox> {
     AnyBox::read_named(alloc, header.name, &mut reader, header.size)
 }
 
-/// Streams that are invalid data before memory is asked for: a size of 2, a version that `mvhd` does not have, and counts
-/// of two rows where there is room for one.
+/// Streams that are invalid data before memory is asked for: a size of 2, a version that `mvhd` does not have, and
+/// counts of two rows where there is room for one.
 const INVALID: [&[u8]; 5] = [
     b"\0\0\0\x02free",
     b"\0\0\0\x0cmvhd\x02\0\0\0",

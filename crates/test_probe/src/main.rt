@@ -1,14 +1,14 @@
 //! Reads records from standard input, and writes records to standard output that say what the codec reads in them.
 //! `tests/rows` compares these with what is expected, and `tests/differential` with what a second reader reads.
 //!
-//! A record of the input is a position, a number of bytes, and these bytes. It gives seven records of the output, each a
-//! number of bytes and a text of these bytes. The first is what is read as the box whose header is at the position, if its
-//! name is known; the second, what is read as the list of the boxes from the position on: the result as `Debug` prints it,
-//! a space, and the cursor's position after the call. The third is what this list is written in: the result of the call,
-//! a space, and the list of the bytes; it is empty if there is no list. The next three are the same of boxes that are kept:
-//! as the first three, with `KeptBox` in the place of `AnyBox`. The last is what `read_counted` reads of the box, as the
-//! first, with a space and the number of headers after it; it is empty if the box isn't an `esds`. Numbers have 8 bytes
-//! and are big-endian. The program ends at the first record that isn't whole.
+//! A record of the input is a position, a number of bytes, and these bytes. It gives seven records of the output, each
+//! a number of bytes and a text of these bytes. The first is what is read as the box whose header is at the position,
+//! if its name is known; the second, what is read as the list of the boxes from the position on: the result as `Debug`
+//! prints it, a space, and the cursor's position after the call. The third is what this list is written in: the result
+//! of the call, a space, and the list of the bytes; it is empty if there is no list. The next three are the same of
+//! boxes that are kept: as the first three, with `KeptBox` in the place of `AnyBox`. The last is what `read_counted`
+//! reads of the box, as the first, with a space and the number of headers after it; it is empty if the box isn't an
+//! `esds`. Numbers have 8 bytes and are big-endian. The program ends at the first record that isn't whole.
 #![tactic(auto)]
 
 use mp4_stream::{
@@ -90,8 +90,8 @@ fn show_list<B: StreamBox + Debug + Drop>(
     }
 }
 
-/// Appends a record: the result of reading the box whose header is at the cursor, the cursor's position after it, and how
-/// many headers of descriptors are read, if it is an `esds`.
+/// Appends a record: the result of reading the box whose header is at the cursor, the cursor's position after it, and
+/// how many headers of descriptors are read, if it is an `esds`.
 fn show_counted(
     alloc: Global,
     reader: &mut ByteCursor,

@@ -3,7 +3,7 @@
 ghost use Rattle.std.specs.Prelude.{OnOk};
 ghost use Rattle.mp4_samples.specs.Samples.{AreConsistent};
 
-use mp4_samples::{ChunkOffsets, Disagreement, Sample, SampleTables, Tables};
+use mp4_samples::{ChunkOffsets, Disagreement, Sample, SampleIndex, SampleTables, Tables};
 use mp4_tables::{CttsBox, StcoBox, StscBox, StssBox, StszBox, SttsBox};
 
 /// How many bytes the sync samples have.
@@ -44,26 +44,18 @@ pub fn sample_tables(boxes: &TrackBoxes) -> Result<SampleTables<'_>, Disagreemen
 }
 
 /// The last sync sample that starts at this time or before, in the timescale of the media.
-pub fn key_frame(tables: &SampleTables<'_>, time: u64) -> Option<Sample> {
-    let mut found = None;
-    for sample in tables.samples() {
-        if sample.start_time > time {
-            return found;
-        }
-        if sample.is_sync {
-            found = Some(sample);
-        }
-    }
-    found
+pub fn key_frame(index: &SampleIndex<'_>, time: u64) -> Option<Sample> {
+    let number = index.last_sync_at(time)?;
+    index.sample(number)
 }
 
 /// Its bytes in the file; none if no sync sample starts so early.
 pub fn key_frame_bytes<'a>(
-    tables: &SampleTables<'_>,
+    index: &SampleIndex<'_>,
     file: &'a [u8],
     time: u64,
 ) -> mp4_frame::Result<Option<&'a [u8]>> {
-    match key_frame(tables, time) {
+    match key_frame(index, time) {
         Some(sample) => Ok(Some(sample.bytes_of(file)?)),
         None => Ok(None),
     }

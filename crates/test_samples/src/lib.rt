@@ -3,5 +3,6 @@
 #![tactic(auto)]
 
 pub mod callers;
+pub mod edit_callers;
 #[cfg(test)]
 mod tests;

@@ -2,6 +2,9 @@
 
 mod boxes;
 mod disagreements;
+mod edits;
 mod fragments;
 mod hostile;
+mod index;
 mod tables;
+mod track;

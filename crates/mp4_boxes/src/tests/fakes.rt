@@ -14,8 +14,8 @@ pub struct Giver<'a> {
 }
 
 impl<'a> Giver<'a> {
-    /// Gives at most `most` bytes a call. The call of the number `fails_at` fails, where 1 is the first; None if no call
-    /// fails.
+    /// Gives at most `most` bytes a call. The call of the number `fails_at` fails, where 1 is the first; None if no
+    /// call fails.
     pub fn new(rest: &'a [u8], most: usize, fails_at: Option<u64>) -> Self {
         Giver {
             rest,
@@ -72,8 +72,8 @@ pub struct Taker {
 }
 
 impl Taker {
-    /// Takes at most `most` bytes a call. The call of the number `fails_at` goes wrong, where 1 is the first; None if no
-    /// call does.
+    /// Takes at most `most` bytes a call. The call of the number `fails_at` goes wrong, where 1 is the first; None if
+    /// no call does.
     pub fn new(alloc: Global, most: usize, fails_at: Option<u64>, refusal: Refusal) -> Self {
         Taker {
             taken: Vec::new(alloc),

@@ -17,7 +17,8 @@ pub const STCO_OF_ONE: [u8; 20] = *b"\0\0\0\x14stco\x01\0\0\x05\0\0\0\x01\0\0\x0
 
 /// `stco`, version 0: the offsets of seven chunks.
 pub const STCO: [u8; 44] =
-    *b"\0\0\0\x2cstco\0\0\0\0\0\0\0\x07\0\0\x01\x0b\0\0\x07\xb2\0\0\x09\xe7\0\0\x0a\xf3\0\0\x2e\x43\0\0\x56\xcf\0\0\x83\x30";
+    *b"\0\0\0\x2cstco\0\0\0\0\0\0\0\x07\0\0\x01\x0b\0\0\x07\xb2\0\0\x09\xe7\0\0\x0a\xf3\0\0\x2e\x43\0\0\x56\xcf\0\0\
+\x83\x30";
 
 /// `co64`, version 0: the offsets of two chunks, one of them past 32 bits.
 pub const CO64: [u8; 32] =
@@ -47,18 +48,21 @@ pub const ELST: [u8; 28] = *b"\0\0\0\x1celst\0\0\0\0\0\0\0\x01\0\x09\xaf\x0a\0\0
 
 /// `co64`, version 0: the offsets of seven chunks, in 64 bits.
 pub const CO64_OF_SEVEN: [u8; 72] =
-    *b"\0\0\0Hco64\0\0\0\0\0\0\0\x07\0\0\0\0\0\0\x01\x0b\0\0\0\0\0\0\x07\xb2\0\0\0\0\0\0\x09\xe7\0\0\0\0\0\0\x0a\xf3\0\0\0\0\0\0\x2e\x43\0\0\0\0\0\0\x56\xcf\0\0\0\0\0\0\x83\x30";
+    *b"\0\0\0Hco64\0\0\0\0\0\0\0\x07\0\0\0\0\0\0\x01\x0b\0\0\0\0\0\0\x07\xb2\0\0\0\0\0\0\x09\xe7\0\0\0\0\0\0\x0a\xf3\0\
+\0\0\0\0\0\x2e\x43\0\0\0\0\0\0\x56\xcf\0\0\0\0\0\0\x83\x30";
 
 /// `stss`, version 0: nine sync samples.
 pub const STSS_OF_NINE: [u8; 52] =
-    *b"\0\0\04stss\0\0\0\0\0\0\0\x09\0\0\0\x01\0\0\0\x3d\0\0\0\x79\0\0\0\xb5\0\0\0\xf1\0\0\x01\x2d\0\0\x01\x69\0\0\x01\xa5\0\0\x01\xe1";
+    *b"\0\0\04stss\0\0\0\0\0\0\0\x09\0\0\0\x01\0\0\0\x3d\0\0\0\x79\0\0\0\xb5\0\0\0\xf1\0\0\x01\x2d\0\0\x01\x69\0\0\x01\
+\xa5\0\0\x01\xe1";
 
 /// `stsz`, version 0: twelve samples of one size.
 pub const STSZ_OF_ONE_SIZE: [u8; 20] = *b"\0\0\0\x14stsz\0\0\0\0\0\0\x04\x8d\0\0\0\x0c";
 
 /// `stsz`, version 0: the sizes of nine samples.
 pub const STSZ_OF_NINE: [u8; 56] =
-    *b"\0\0\08stsz\0\0\0\0\0\0\0\0\0\0\0\x09\0\0\x04\x8d\0\0\0\x0b\0\0\0\x0b\0\0\x21\x61\0\0\x27\x8e\0\0\x2a\x72\0\0\x25\xab\0\0\x24\x87\0\0\x1e\x32";
+    *b"\0\0\08stsz\0\0\0\0\0\0\0\0\0\0\0\x09\0\0\x04\x8d\0\0\0\x0b\0\0\0\x0b\0\0\x21\x61\0\0\x27\x8e\0\0\x2a\x72\0\0\
+\x25\xab\0\0\x24\x87\0\0\x1e\x32";
 
 /// `elst`, version 1: one edit, with times of 64 bits.
 pub const ELST_LONG: [u8; 36] =

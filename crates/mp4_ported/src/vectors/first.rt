@@ -1,7 +1,7 @@
-//! The first vectors: the first box of each type in the tests of the Rust crate `mp4`, and the bytes that it is written in,
-//! which are worked out from the layout table. They are in its order. Of `avcC`, `hvcC`, `vpcC` and `esds` it is the child
-//! in the test of the sample entry. `url `, `dref`, `dinf` and `stsd` have no test there: it is the location `a`, a `dref`
-//! and a `dinf` of it, and an `stsd` of the `mp4a`.
+//! The first vectors: the first box of each type in the tests of the Rust crate `mp4`, and the bytes that it is written
+//! in, which are worked out from the layout table. They are in its order. Of `avcC`, `hvcC`, `vpcC` and `esds` it is
+//! the child in the test of the sample entry. `url `, `dref`, `dinf` and `stsd` have no test there: it is the location
+//! `a`, a `dref` and a `dinf` of it, and an `stsd` of the `mp4a`.
 
 use super::Vector;
 use crate::boxes::{entries, flat, sound, tables, text};

@@ -1,5 +1,5 @@
-//! Boxes that are cut at every length. Reading is end of input if a byte is missing that it needs, and ignores the bytes
-//! after those.
+//! Boxes that are cut at every length. Reading is end of input if a byte is missing that it needs, and ignores the
+//! bytes after those.
 
 use mp4_ported::boxes::entries::{
     avc1, avc1_of_two, avcc, avcc_of_two, hev1, hev1_of_config, hvcc, tx3g, tx3g_of_test, vp09,

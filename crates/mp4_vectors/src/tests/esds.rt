@@ -37,8 +37,8 @@ fn stereo() -> EsdsBox {
     }
 }
 
-/// Reads the box and counts the headers of its descriptors. Returns the kind of the outcome, the count, and the position
-/// of the cursor, which is 8 before the call.
+/// Reads the box and counts the headers of its descriptors. Returns the kind of the outcome, the count, and the
+/// position of the cursor, which is 8 before the call.
 fn counted(bytes: &[u8], size: u64) -> (Kind, u64, u64) {
     let mut reader = ByteCursor::new(bytes);
     reader.set_position(8);
@@ -46,8 +46,8 @@ fn counted(bytes: &[u8], size: u64) -> (Kind, u64, u64) {
     (kind_of(&result), headers, reader.position())
 }
 
-/// Lengths of four bytes. The last three bits of the audio configuration are not read. A usual encoder writes five bytes
-/// of it: the last three are read as a header of length 12928, and so as a gap to after the end.
+/// Lengths of four bytes. The last three bits of the audio configuration are not read. A usual encoder writes five
+/// bytes of it: the last three are read as a header of length 12928, and so as a gap to after the end.
 #[test]
 fn descriptors_of_long_lengths(rt: HostRuntime) -> Result<(), Fail> {
     let bytes =
@@ -69,12 +69,13 @@ fn descriptors_of_long_lengths(rt: HostRuntime) -> Result<(), Fail> {
 }
 
 /// A descriptor of a stream, and a hundred empty ones behind it.
-const HUNDRED: [u8; 217] = *b"\0\0\0\xd9esds\0\0\0\0\x03\x7f\0\x01\0\
-\x07\0\x07\0\x07\0\x07\0\x07\0\x07\0\x07\0\x07\0\x07\0\x07\0\x07\0\x07\0\x07\0\x07\0\x07\0\x07\0\x07\0\x07\0\x07\0\x07\0\
-\x07\0\x07\0\x07\0\x07\0\x07\0\x07\0\x07\0\x07\0\x07\0\x07\0\x07\0\x07\0\x07\0\x07\0\x07\0\x07\0\x07\0\x07\0\x07\0\x07\0\
-\x07\0\x07\0\x07\0\x07\0\x07\0\x07\0\x07\0\x07\0\x07\0\x07\0\x07\0\x07\0\x07\0\x07\0\x07\0\x07\0\x07\0\x07\0\x07\0\x07\0\
-\x07\0\x07\0\x07\0\x07\0\x07\0\x07\0\x07\0\x07\0\x07\0\x07\0\x07\0\x07\0\x07\0\x07\0\x07\0\x07\0\x07\0\x07\0\x07\0\x07\0\
-\x07\0\x07\0\x07\0\x07\0\x07\0\x07\0\x07\0\x07\0\x07\0\x07\0\x07\0\x07\0\x07\0\x07\0\x07\0\x07\0\x07\0\x07\0\x07\0\x07\0";
+const HUNDRED: [u8; 217] =
+    *b"\0\0\0\xd9esds\0\0\0\0\x03\x7f\0\x01\0\x07\0\x07\0\x07\0\x07\0\x07\0\x07\0\x07\0\x07\0\
+\x07\0\x07\0\x07\0\x07\0\x07\0\x07\0\x07\0\x07\0\x07\0\x07\0\x07\0\x07\0\x07\0\x07\0\x07\0\x07\0\x07\0\x07\0\x07\0\x07\
+\0\x07\0\x07\0\x07\0\x07\0\x07\0\x07\0\x07\0\x07\0\x07\0\x07\0\x07\0\x07\0\x07\0\x07\0\x07\0\x07\0\x07\0\x07\0\x07\0\
+\x07\0\x07\0\x07\0\x07\0\x07\0\x07\0\x07\0\x07\0\x07\0\x07\0\x07\0\x07\0\x07\0\x07\0\x07\0\x07\0\x07\0\x07\0\x07\0\x07\
+\0\x07\0\x07\0\x07\0\x07\0\x07\0\x07\0\x07\0\x07\0\x07\0\x07\0\x07\0\x07\0\x07\0\x07\0\x07\0\x07\0\x07\0\x07\0\x07\0\
+\x07\0\x07\0\x07\0\x07\0\x07\0\x07\0\x07\0\x07\0\x07\0\x07\0\x07\0\x07\0\x07\0\x07\0";
 
 /// 62 of the hundred are in the first, and the next ends the reading. Headers before a fault are counted too.
 #[test]

@@ -55,8 +55,8 @@ fn another_box_and_a_kept_box_are_written_as_they_are(rt: HostRuntime) -> Result
     Ok(())
 }
 
-/// The kind of the outcome of reading the free box at the front of a buffer with this size, and the position of the cursor
-/// after it.
+/// The kind of the outcome of reading the free box at the front of a buffer with this size, and the position of the
+/// cursor after it.
 fn read_free(alloc: Global, bytes: &[u8], size: u64) -> (Kind, u64) {
     let mut reader = ByteCursor::new(bytes);
     reader.set_position(8);

@@ -79,8 +79,8 @@ fn list_of<V: Vector>(alloc: Global, vectors: &[V]) -> Result<(Vec<AnyBox>, usiz
     Ok((boxes, room))
 }
 
-/// Whether the list of the vectors is written over a heap with room for its bytes alone, and is out of memory over one of
-/// half the room.
+/// Whether the list of the vectors is written over a heap with room for its bytes alone, and is out of memory over one
+/// of half the room.
 fn is_written_at_once<V: Vector>(alloc: Global, vectors: &[V]) -> Result<bool, Error> {
     let (boxes, room) = list_of(alloc, vectors)?;
     let whole = write_list_over(alloc, &boxes, room)?;

@@ -23,8 +23,8 @@ fn dref_of_abc(alloc: Global) -> Result<DrefBox, Error> {
     Ok(dref_of(Some(child)))
 }
 
-/// An empty location is written without its zero byte. The last `url ` ends 8 bytes after its `dref`: in a list a header
-/// of size 0 stands there, a box up to the end, which is skipped.
+/// An empty location is written without its zero byte. The last `url ` ends 8 bytes after its `dref`: in a list a
+/// header of size 0 stands there, a box up to the end, which is skipped.
 #[test]
 fn url_and_dref_of_each_location(rt: HostRuntime) -> Result<(), Fail> {
     let alloc = rt.alloc();

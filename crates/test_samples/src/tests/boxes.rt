@@ -64,7 +64,7 @@ fn shifts(sample_count: u32, sample_offset: i32) -> CttsEntry {
 }
 
 /// A box of sizes.
-fn stsz_of(alloc: Global, sample_count: u32, sizes: &[u32]) -> Result<StszBox> {
+pub fn stsz_of(alloc: Global, sample_count: u32, sizes: &[u32]) -> Result<StszBox> {
     let mut stsz = StszBox::default_in(alloc);
     stsz.sample_count = sample_count;
     stsz.sample_sizes = sizes.to_vec(alloc)?.into();
@@ -98,7 +98,8 @@ fn ctts_of(alloc: Global, entries: &[CttsEntry]) -> Result<CttsBox> {
     Ok(ctts)
 }
 
-fn stss_of(alloc: Global, numbers: &[u32]) -> Result<StssBox> {
+/// A box of sync samples.
+pub fn stss_of(alloc: Global, numbers: &[u32]) -> Result<StssBox> {
     let mut stss = StssBox::default_in(alloc);
     stss.entries = numbers.to_vec(alloc)?.into();
     Ok(stss)

@@ -1,7 +1,6 @@
 //! The samples of tables that agree.
 
 use super::boxes::{Row, SEVEN, are, chunks, sample_of, seven, stsc_of, stts_of, tables_of, times};
-use crate::callers::key_frame;
 use mp4_frame::Error;
 use mp4_samples::{ChunkOffsets, SampleTables, Tables};
 use mp4_tables::{Co64Box, StszBox};
@@ -15,19 +14,6 @@ fn seven_samples(rt: HostRuntime) -> Result<(), Fail> {
     assert_eq!(rt; tables.len(), 7);
     assert!(rt; !tables.is_empty());
     assert!(rt; are(&tables, &SEVEN));
-    Ok(())
-}
-
-#[test]
-fn key_frames(rt: HostRuntime) -> Result<(), Fail> {
-    let boxes = seven(rt.alloc())?;
-    let tables = SampleTables::new(tables_of(&boxes))?;
-    assert_eq!(rt; tables.number_at(339), Some(3));
-    assert_eq!(rt; tables.number_at(340), Some(4));
-    assert_eq!(rt; tables.number_at(393), Some(6));
-    assert_eq!(rt; tables.number_at(394), None);
-    assert_eq!(rt; key_frame(&tables, 379), Some(sample_of(SEVEN[3])));
-    assert_eq!(rt; key_frame(&tables, 380), Some(sample_of(SEVEN[5])));
     Ok(())
 }
 

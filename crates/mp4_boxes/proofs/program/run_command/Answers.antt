@@ -14,4 +14,5 @@ returns-in_err-finish-clause-run g c =
     let refuses = MayRefuse c.args.command in
     let ran : Runs makes refuses given old mid (Ok c.match-command.written) = search rules in
     let failed : c.from_residual-in_err-finish.result ≡ Err faults.Write = search rules in
-    subst (Runs makes refuses given old new) (sym failed) (flush_failed makes refuses given old mid new c.match-command.written ran c.finish.ensures.bytes)
+    subst (Runs makes refuses given old new) (sym failed)
+    (flush_failed makes refuses given old mid new c.match-command.written ran c.finish.ensures.bytes)

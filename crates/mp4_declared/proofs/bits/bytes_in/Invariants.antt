@@ -3,4 +3,5 @@ use Rattle.mp4_declared.specs.Bits.{bits}
 use Rattle.mp4_declared.proofs.bits.bytes_in.Given as goal
 
 abbrev pub invariant-loop-k : goal.invariant-loop-k
-invariant-loop-k g l = record { total : l.total + bits (drop l.k l.widths) ≡ bits l.widths; most : l.k ≤ length l.widths }
+invariant-loop-k g l =
+    record { total : l.total + bits (drop l.k l.widths) ≡ bits l.widths; most : l.k ≤ length l.widths }

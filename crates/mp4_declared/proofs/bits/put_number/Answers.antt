@@ -9,4 +9,6 @@ unfolding be_bytes
 returns-then-width-eq0-clause-put c = rw c.if-width-eq0.true (sym (append-nil (take c.args.at c.args.out.now)))
 
 pub returns-clause-put : goal.returns-clause-put
-returns-clause-put c = put_be_bytes c.args.out.now c.args.at _ c.args.width c.args.n c.write_uint.new.buf _ (omega arith) c.write_uint.ensures
+returns-clause-put c =
+    put_be_bytes c.args.out.now c.args.at _ c.args.width c.args.n c.write_uint.new.buf _ (omega arith)
+    c.write_uint.ensures

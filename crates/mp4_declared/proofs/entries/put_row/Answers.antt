@@ -7,5 +7,6 @@ put_numbers-requires g c =
     let l = g.met.X.EntryLayout.entry_laws in
     let fields : are_fields c.widths.result ≡ true = rw c.widths.ensures l.fields in
     let fit : NumbersFit c.widths.result c.numbers.result = rw (c.widths.ensures, c.numbers.ensures) c.requires.fits in
-    let room : c.args.at + bytes_in c.widths.result ≤ length c.args.out.now = rw (c.widths.ensures, l.long) c.requires.room in
+    let room : c.args.at + bytes_in c.widths.result ≤ length c.args.out.now =
+    rw (c.widths.ensures, l.long) c.requires.room in
     search rules

@@ -6,5 +6,6 @@ use Rattle.mp4_declared.proofs.entries.put_rows.Given as goal
 abbrev pub invariant-loop-entry : goal.invariant-loop-entry
 invariant-loop-entry g l = record {
   out : l.next ≡ l.at + g.row.E * l.entry-index;
-  written : take l.next l.out ≡ take l.at l.initial.out ++ flat_map (row_of g.X.EntryLayout.entry) (take l.entry-index l.entries);
+  written : take l.next l.out ≡ take l.at l.initial.out ++ flat_map (row_of g.X.EntryLayout.entry)
+      (take l.entry-index l.entries);
 }

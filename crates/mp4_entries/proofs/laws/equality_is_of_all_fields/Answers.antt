@@ -1,4 +1,5 @@
-use Rattle.mp4_entries.proofs.Equality.{nal_unit_equality, avcc_equality, avc1_equality, hev1_equality, vpcc_equality, vp09_equality, tx3g_equality}
+use Rattle.mp4_entries.proofs.Equality.{nal_unit_equality, avcc_equality, avc1_equality, hev1_equality, vpcc_equality}
+use Rattle.mp4_entries.proofs.Equality.{vp09_equality, tx3g_equality}
 use Rattle.mp4_entries.proofs.laws.equality_is_of_all_fields.Goals as goal
 
 pub returns-clause-nal_unit : goal.returns-clause-nal_unit

@@ -8,10 +8,12 @@ abbrev letter : List ℕ → ℕ
 letter units = slice_index units 0 % 32
 
 pub returns-in-Some-clause-letter : goal.returns-in-Some-clause-letter
-returns-in-Some-clause-letter c = ap letter (sym (first_unit c.args.units.now c.next.new.self _ c.requires c.in-Some.ensures.steps).0)
+returns-in-Some-clause-letter c =
+    ap letter (sym (first_unit c.args.units.now c.next.new.self _ c.requires c.in-Some.ensures.steps).0)
 
 pub returns-in-Some-clause-left : goal.returns-in-Some-clause-left
-returns-in-Some-clause-left c = ap (drop 1) (sym (first_unit c.args.units.now c.next.new.self _ c.requires c.in-Some.ensures.steps).0)
+returns-in-Some-clause-left c =
+    ap (drop 1) (sym (first_unit c.args.units.now c.next.new.self _ c.requires c.in-Some.ensures.steps).0)
 
 pub returns-in-Some-clause-text : goal.returns-in-Some-clause-text
 returns-in-Some-clause-text c = (first_unit c.args.units.now c.next.new.self _ c.requires c.in-Some.ensures.steps).1

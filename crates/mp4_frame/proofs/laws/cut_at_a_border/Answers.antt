@@ -8,4 +8,5 @@ returns g c =
     let m = g.met.B.WriteBox in
     let s = g.B.StreamBox in
     let t = g.met.B.StreamBox in
-    λ x vs ws w top. cut_between b.name b.size b.Writable b.bytes b.normal s.known s.named_reading m.write_laws.header m.write_laws.normal_form t.own_name t.read_back vs (recursion_from_All b.Writable vs w) ws x top
+    λ x vs ws w top. cut_between b.name b.size b.Writable b.bytes b.normal s.known s.named_reading m.write_laws.header
+    m.write_laws.normal_form t.own_name t.read_back vs (recursion_from_All b.Writable vs w) ws x top

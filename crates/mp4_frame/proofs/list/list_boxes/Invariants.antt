@@ -7,7 +7,8 @@ use Rattle.mp4_frame.proofs.list.list_boxes.Given as goal
 abbrev pub invariant-loop-at : goal.invariant-loop-at
 invariant-loop-at g l =
     record {
-      told : continue_with (nat_lt 0 (length l.spans.items)) l.spans.items (spans l.bytes l.at) ≡ spans l.bytes l.fn.reader.position;
+      told : continue_with (nat_lt 0 (length l.spans.items)) l.spans.items (spans l.bytes l.at)
+          ≡ spans l.bytes l.fn.reader.position;
       least : l.fn.reader.position ≤ l.at;
       most : l.at ≤ max l.fn.reader.position (length l.bytes);
       there : l.bytes ≡ l.fn.reader.bytes.now;

@@ -3,4 +3,5 @@ use Rattle.mp4_frame.proofs.Fields.{put_be_bytes}
 use Rattle.mp4_frame.proofs.put.put_u16.Goals as goal
 
 pub returns-clause-put : goal.returns-clause-put
-returns-clause-put c = put_be_bytes c.args.out.now c.args.at _ 2 c.args.n c.write_u16.new.buf _ (omega arith) c.write_u16.ensures
+returns-clause-put c =
+    put_be_bytes c.args.out.now c.args.at _ 2 c.args.n c.write_u16.new.buf _ (omega arith) c.write_u16.ensures

@@ -6,8 +6,12 @@ pub returns-in-Some-eq0-clause-bytes : goal.returns-in-Some-eq0-clause-bytes
 returns-in-Some-eq0-clause-bytes g c =
     let pulled = c.in-Some-eq0.ensures in
     let none : c.in-Some-eq0.field-0 ≡ 0 = search rules in
-    let end = pulled.bytes.1 none in
-    (rw c.truncate.ensures.items (filled_all _ _ _ _ _ _ _ _ _ none c.make_room.ensures.front pulled.front c.loop.invariant.front pulled.bytes.0 end), end)
+    let end = pulled.bytes.1 none in (
+      rw c.truncate.ensures.items
+          (filled_all _ _ _ _ _ _ _ _ _ none c.make_room.ensures.front pulled.front c.loop.invariant.front
+          pulled.bytes.0 end),
+      end,
+    )
 
 pub loop-preserved : goal.loop-preserved
 loop-preserved g c =

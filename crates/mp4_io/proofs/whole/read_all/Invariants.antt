@@ -6,6 +6,7 @@ use Rattle.mp4_io.proofs.whole.read_all.Given as goal
 abbrev pub invariant-loop : goal.invariant-loop
 invariant-loop g l = record {
   within : l.filled ≤ vec_len l.bytes;
-  front : Consumes (g.R.Read.remaining l.initial.input.inner) (g.R.Read.remaining l.input.inner) (take l.filled l.bytes.items);
+  front : Consumes (g.R.Read.remaining l.initial.input.inner) (g.R.Read.remaining l.input.inner)
+      (take l.filled l.bytes.items);
   mark : l.input.failed ≡ l.initial.input.failed;
 }

@@ -13,6 +13,7 @@ loop-at-preserved g c =
     let more = take-add at n bytes ∙ ap (λ l. take at bytes ++ take n l) (sym (take_rest bytes at)) in
     record {
       within = search rules;
-      front = subst (Appends _ _) (sym more) (Appends-trans _ _ _ _ _ c.loop-at.invariant.front c.in-Some.ensures.bytes.0);
+      front = subst (Appends _ _) (sym more)
+          (Appends-trans _ _ _ _ _ c.loop-at.invariant.front c.in-Some.ensures.bytes.0);
       mark = search rules;
     }

@@ -11,5 +11,6 @@ invariant-loop-item g l =
     record {
       can : (goal.iterator-loop-item g).can_next l.item-iterator;
       finite : (goal.iterator-loop-item g).is_finite l.item-iterator;
-      told : continue_with (nat_lt 0 (length l.list.items)) l.list.items (in_order (rest l.item-iterator)) ≡ in_order (rest l.fn.boxes);
+      told : continue_with (nat_lt 0 (length l.list.items)) l.list.items (in_order (rest l.item-iterator))
+          ≡ in_order (rest l.fn.boxes);
     }

@@ -6,7 +6,8 @@ use Rattle.mp4_media.specs.declared.audio_object_type.AudioObjectType.TheVariant
 use Rattle.mp4_media.proofs.Inverse.{by_number-inverse}
 use Rattle.mp4_media.proofs.laws.audio_object_types_have_own_numbers.Goals as goal
 
-own : (v : AudioObjectType) → by_number number_audio_object_type audio_object_types (number_audio_object_type v) ≡ Some v
+own : (v : AudioObjectType)
+    → by_number number_audio_object_type audio_object_types (number_audio_object_type v) ≡ Some v
 own AacMain = refl
 own _ = refl
 

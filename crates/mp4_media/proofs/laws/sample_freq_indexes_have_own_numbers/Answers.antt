@@ -6,7 +6,8 @@ use Rattle.mp4_media.specs.declared.sample_freq_index.SampleFreqIndex.TheVariant
 use Rattle.mp4_media.proofs.Inverse.{by_number-inverse}
 use Rattle.mp4_media.proofs.laws.sample_freq_indexes_have_own_numbers.Goals as goal
 
-own : (v : SampleFreqIndex) → by_number number_sample_freq_index sample_freq_indexes (number_sample_freq_index v) ≡ Some v
+own : (v : SampleFreqIndex)
+    → by_number number_sample_freq_index sample_freq_indexes (number_sample_freq_index v) ≡ Some v
 own Freq96000 = refl
 own _ = refl
 

@@ -9,6 +9,9 @@ returns-clause-rest c =
     let x = c.args.change in
     let end = x.end + c.args.growth in
     let fresh = c.args.fresh.now in
-    let long = length-take-le (x.to - m.from) (drop m.from fresh) (omega (arith, length-drop m.from fresh, c.requires.to)) in
-    drop_from c.put_at.new.bytes c.move_back.new.bytes _ end (omega (arith, long, c.requires.room)) c.put_at.ensures.rest
-    ∙ drop_from c.move_back.new.bytes c.args.bytes.now (x.begin + c.args.growth) end (omega (arith, c.requires.end)) c.move_back.ensures.rest
+    let long = length-take-le (x.to - m.from) (drop m.from fresh)
+    (omega (arith, length-drop m.from fresh, c.requires.to)) in
+    drop_from c.put_at.new.bytes c.move_back.new.bytes _ end (omega (arith, long, c.requires.room))
+    c.put_at.ensures.rest
+    ∙ drop_from c.move_back.new.bytes c.args.bytes.now (x.begin + c.args.growth) end (omega (arith, c.requires.end))
+    c.move_back.ensures.rest

@@ -6,5 +6,6 @@ use Rattle.mp4_ported.proofs.helpers.expect_end_at_cuts_below.Given as goal
 abbrev pub invariant-loop-length : goal.invariant-loop-length
 invariant-loop-length g l = record {
   ends : (n : ℕ) → n < l.length → n < l.needed → EndsIn kinds.End (cut_reading g.B.ReadBox.reads l.out.items n);
-  values : (n : ℕ) → n < l.length → l.needed ≤ n → ReadsAs g.B.PartialEq.eq (cut_reading g.B.ReadBox.reads l.out.items n) l.value;
+  values : (n : ℕ) → n < l.length → l.needed ≤ n
+      → ReadsAs g.B.PartialEq.eq (cut_reading g.B.ReadBox.reads l.out.items n) l.value;
 }

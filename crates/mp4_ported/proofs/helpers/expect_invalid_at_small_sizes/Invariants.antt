@@ -5,4 +5,5 @@ use Rattle.mp4_ported.specs.declared.helpers.outcomes.Kind.TheVariants as kinds
 use Rattle.mp4_ported.proofs.helpers.expect_invalid_at_small_sizes.Given as goal
 
 abbrev pub invariant-loop-size : goal.invariant-loop-size
-invariant-loop-size g l = (k : ℕ) → k < l.size-index → EndsIn kinds.Invalid (reading g.B.ReadBox.reads l.out.items 0 (get_or l.size-items k 0))
+invariant-loop-size g l = (k : ℕ) → k < l.size-index
+    → EndsIn kinds.Invalid (reading g.B.ReadBox.reads l.out.items 0 (get_or l.size-items k 0))

@@ -4,4 +4,5 @@ use Rattle.mp4_ported.specs.Checks.{ReadsAs}
 use Rattle.mp4_ported.proofs.helpers.expect_value_at_any_size.Given as goal
 
 abbrev pub invariant-loop-size : goal.invariant-loop-size
-invariant-loop-size g l = (k : ℕ) → k < l.size-index → ReadsAs g.B.PartialEq.eq (reading g.B.ReadBox.reads l.out.items 0 (get_or l.size-items k 0)) l.value
+invariant-loop-size g l = (k : ℕ) → k < l.size-index
+    → ReadsAs g.B.PartialEq.eq (reading g.B.ReadBox.reads l.out.items 0 (get_or l.size-items k 0)) l.value

@@ -16,4 +16,5 @@ returns-then-place-eq0 c =
     let first = opened f p.run p.index p.offset c.if-place-eq0.true c.requires.at.offset in
     let passed : SFits w128 p.offset = search rules in
     let end = ap (λ (z : ℤ). start_after (base_of f) z c.args.trun.now.data_offset) (to_z-of_z w128 p.offset passed) in
-    kept ∙ c.start_after.ensures ∙ end ∙ ap (λ (t : TrunBox). start_after (base_of f) p.offset t.data_offset) c.requires.run ∙ first
+    kept ∙ c.start_after.ensures ∙ end
+    ∙ ap (λ (t : TrunBox). start_after (base_of f) p.offset t.data_offset) c.requires.run ∙ first

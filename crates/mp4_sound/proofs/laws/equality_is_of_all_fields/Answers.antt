@@ -1,4 +1,5 @@
-use Rattle.mp4_sound.proofs.Equality.{sl_config_equality, specific_equality, config_equality, es_descriptor_equality, esds_equality, mp4a_equality, stsd_equality}
+use Rattle.mp4_sound.proofs.Equality.{sl_config_equality, specific_equality, config_equality, es_descriptor_equality}
+use Rattle.mp4_sound.proofs.Equality.{esds_equality, mp4a_equality, stsd_equality}
 use Rattle.mp4_sound.proofs.laws.equality_is_of_all_fields.Goals as goal
 
 pub returns-clause-esds : goal.returns-clause-esds

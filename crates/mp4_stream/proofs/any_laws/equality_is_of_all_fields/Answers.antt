@@ -1,6 +1,6 @@
 use Rattle.std.proofs.Common.{rules, ◌≡◌, Bool, true, ap}
 use Rattle.mp4_frame.specs.Equality.{IsEquality}
-use Rattle.mp4_frame.proofs.Equality.{same_variant}
+use Rattle.mp4_frame.proofs.Equality.{same_variant, ◌⨾◌}
 use Rattle.mp4_stream.specs.contracts.any_box.AnyBox as any_box
 use Rattle.mp4_stream.specs.contracts.any_box.AnyBoxPartialEq.TheImpl as any_eq
 use Rattle.mp4_stream.specs.contracts.any_box.AnyBoxEq.TheImpl.Laws as any_eq_laws
@@ -22,115 +22,44 @@ only decides x y e = ap (λ v. (v, tt)) ((decides x.0 y.0).0 e)
 module _ (c : goal.After-equality_is_of_all_fields-5) where
   -- each box is the same as another of its type if their comparison says so
   same : (x y : AnyBox) → (any_eq.ghosts).eq x y ≡ true → x ≡ y
-  same x y h = same_variant any_box.enum _ (
-    only (c.equality_is_of_all_fields-3.ensures.ftyp),
-    (
-      only (c.equality_is_of_all_fields.ensures.mvhd),
-      (
-        only (c.equality_is_of_all_fields.ensures.tkhd),
-        (
-          only (c.equality_is_of_all_fields.ensures.mdhd),
-          (
-            only (c.equality_is_of_all_fields.ensures.mehd),
-            (
-              only (c.equality_is_of_all_fields.ensures.mfhd),
-              (
-                only (c.equality_is_of_all_fields.ensures.smhd),
-                (
-                  only (c.equality_is_of_all_fields.ensures.vmhd),
-                  (
-                    only (c.equality_is_of_all_fields.ensures.trex),
-                    (
-                      only (c.equality_is_of_all_fields.ensures.tfdt),
-                      (
-                        only (c.equality_is_of_all_fields-2.ensures.stco),
-                        (
-                          only (c.equality_is_of_all_fields-2.ensures.co64),
-                          (
-                            only (c.equality_is_of_all_fields-2.ensures.stts),
-                            (
-                              only (c.equality_is_of_all_fields-2.ensures.ctts),
-                              (
-                                only (c.equality_is_of_all_fields-2.ensures.stss),
-                                (
-                                  only (c.equality_is_of_all_fields-2.ensures.stsz),
-                                  (
-                                    only (c.equality_is_of_all_fields-2.ensures.stsc),
-                                    (
-                                      only (c.equality_is_of_all_fields-2.ensures.elst),
-                                      (
-                                        only (c.equality_is_of_all_fields-2.ensures.tfhd),
-                                        (
-                                          only (c.equality_is_of_all_fields-2.ensures.trun),
-                                          (
-                                            only (c.equality_is_of_all_fields-3.ensures.hdlr),
-                                            (
-                                              only (c.equality_is_of_all_fields-3.ensures.data),
-                                              (
-                                                only (c.equality_is_of_all_fields-3.ensures.emsg),
-                                                (
-                                                  only (c.equality_is_of_all_fields-3.ensures.url),
-                                                  (
-                                                    only (c.equality_is_of_all_fields-3.ensures.dref),
-                                                    (
-                                                      only (c.equality_is_of_all_fields-3.ensures.dinf),
-                                                      (
-                                                        only (c.equality_is_of_all_fields-4.ensures.avcc),
-                                                        (
-                                                          only (c.equality_is_of_all_fields-4.ensures.avc1),
-                                                          (
-                                                            only (c.equality_is_of_all_fields-4.ensures.hvcc),
-                                                            (
-                                                              only (c.equality_is_of_all_fields-4.ensures.hev1),
-                                                              (
-                                                                only (c.equality_is_of_all_fields-4.ensures.vpcc),
-                                                                (
-                                                                  only (c.equality_is_of_all_fields-4.ensures.vp09),
-                                                                  (
-                                                                    only (c.equality_is_of_all_fields-4.ensures.tx3g),
-                                                                    (
-                                                                      only (c.equality_is_of_all_fields-5.ensures.esds),
-                                                                      (
-                                                                        only (c.equality_is_of_all_fields-5.ensures.mp4a),
-                                                                        (
-                                                                          only (c.equality_is_of_all_fields-5.ensures.stsd),
-                                                                          tt,
-                                                                        ),
-                                                                      ),
-                                                                    ),
-                                                                  ),
-                                                                ),
-                                                              ),
-                                                            ),
-                                                          ),
-                                                        ),
-                                                      ),
-                                                    ),
-                                                  ),
-                                                ),
-                                              ),
-                                            ),
-                                          ),
-                                        ),
-                                      ),
-                                    ),
-                                  ),
-                                ),
-                              ),
-                            ),
-                          ),
-                        ),
-                      ),
-                    ),
-                  ),
-                ),
-              ),
-            ),
-          ),
-        ),
-      ),
-    ),
-  ) x y h
+  same x y h = same_variant any_box.enum _
+      (only (c.equality_is_of_all_fields-3.ensures.ftyp)
+      ⨾ only (c.equality_is_of_all_fields.ensures.mvhd)
+      ⨾ only (c.equality_is_of_all_fields.ensures.tkhd)
+      ⨾ only (c.equality_is_of_all_fields.ensures.mdhd)
+      ⨾ only (c.equality_is_of_all_fields.ensures.mehd)
+      ⨾ only (c.equality_is_of_all_fields.ensures.mfhd)
+      ⨾ only (c.equality_is_of_all_fields.ensures.smhd)
+      ⨾ only (c.equality_is_of_all_fields.ensures.vmhd)
+      ⨾ only (c.equality_is_of_all_fields.ensures.trex)
+      ⨾ only (c.equality_is_of_all_fields.ensures.tfdt)
+      ⨾ only (c.equality_is_of_all_fields-2.ensures.stco)
+      ⨾ only (c.equality_is_of_all_fields-2.ensures.co64)
+      ⨾ only (c.equality_is_of_all_fields-2.ensures.stts)
+      ⨾ only (c.equality_is_of_all_fields-2.ensures.ctts)
+      ⨾ only (c.equality_is_of_all_fields-2.ensures.stss)
+      ⨾ only (c.equality_is_of_all_fields-2.ensures.stsz)
+      ⨾ only (c.equality_is_of_all_fields-2.ensures.stsc)
+      ⨾ only (c.equality_is_of_all_fields-2.ensures.elst)
+      ⨾ only (c.equality_is_of_all_fields-2.ensures.tfhd)
+      ⨾ only (c.equality_is_of_all_fields-2.ensures.trun)
+      ⨾ only (c.equality_is_of_all_fields-3.ensures.hdlr)
+      ⨾ only (c.equality_is_of_all_fields-3.ensures.data)
+      ⨾ only (c.equality_is_of_all_fields-3.ensures.emsg)
+      ⨾ only (c.equality_is_of_all_fields-3.ensures.url)
+      ⨾ only (c.equality_is_of_all_fields-3.ensures.dref)
+      ⨾ only (c.equality_is_of_all_fields-3.ensures.dinf)
+      ⨾ only (c.equality_is_of_all_fields-4.ensures.avcc)
+      ⨾ only (c.equality_is_of_all_fields-4.ensures.avc1)
+      ⨾ only (c.equality_is_of_all_fields-4.ensures.hvcc)
+      ⨾ only (c.equality_is_of_all_fields-4.ensures.hev1)
+      ⨾ only (c.equality_is_of_all_fields-4.ensures.vpcc)
+      ⨾ only (c.equality_is_of_all_fields-4.ensures.vp09)
+      ⨾ only (c.equality_is_of_all_fields-4.ensures.tx3g)
+      ⨾ only (c.equality_is_of_all_fields-5.ensures.esds)
+      ⨾ only (c.equality_is_of_all_fields-5.ensures.mp4a)
+      ⨾ only (c.equality_is_of_all_fields-5.ensures.stsd)
+      ⨾ tt) x y h
 
   same_kept : (x y : KeptBox) → (kept_eq.ghosts).eq x y ≡ true → x ≡ y
   same_kept (kept.Any a) (kept.Any b) h = ap kept.Any (same a b h)

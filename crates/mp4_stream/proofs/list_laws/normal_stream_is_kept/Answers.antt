@@ -11,5 +11,7 @@ returns g c =
     let s = g.B.StreamBox in
     let t = g.met.B.StreamBox in
     λ bytes o vs are e w top.
-    whole b.name b.size b.Writable b.bytes b.normal s.known s.named_reading m.write_laws.header m.write_laws.normal_form t.own_name t.read_back vs (recursion_from_All b.Writable vs w) [] (omega arith)
-    ∙ ap (λ us. Ok us) (own_normal_forms b s.known s.named_reading vs (read_lists_are_sound b s.known s.named_reading g.met.B.SoundStream.sound bytes are o vs e))
+    whole b.name b.size b.Writable b.bytes b.normal s.known s.named_reading m.write_laws.header m.write_laws.normal_form
+    t.own_name t.read_back vs (recursion_from_All b.Writable vs w) [] (omega arith)
+    ∙ ap (λ us. Ok us) (own_normal_forms b s.known s.named_reading vs
+    (read_lists_are_sound b s.known s.named_reading g.met.B.SoundStream.sound bytes are o vs e))

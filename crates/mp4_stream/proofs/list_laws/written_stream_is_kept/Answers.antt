@@ -16,8 +16,11 @@ returns-clause-writable g c =
     λ vs ws w top e.
     let each = recursion_from_All b.Writable vs w in
     let same : map b.normal vs ≡ ws =
-    is_value (map b.normal vs) ws (sym (whole b.name b.size b.Writable b.bytes b.normal s.known s.named_reading m.write_laws.header m.write_laws.normal_form t.own_name t.read_back vs each [] (omega arith)) ∙ e) in
-    subst (All b.Writable) same (All-from_recursion b.Writable (map b.normal vs) (normals_are_writable b m.write_laws vs each))
+    is_value (map b.normal vs) ws
+    (sym (whole b.name b.size b.Writable b.bytes b.normal s.known s.named_reading m.write_laws.header
+    m.write_laws.normal_form t.own_name t.read_back vs each [] (omega arith)) ∙ e) in
+    subst (All b.Writable) same
+    (All-from_recursion b.Writable (map b.normal vs) (normals_are_writable b m.write_laws vs each))
 
 pub returns-clause-bytes : goal.returns-clause-bytes
 returns-clause-bytes g c =
@@ -28,5 +31,7 @@ returns-clause-bytes g c =
     λ vs ws w top e.
     let each = recursion_from_All b.Writable vs w in
     let same : map b.normal vs ≡ ws =
-    is_value (map b.normal vs) ws (sym (whole b.name b.size b.Writable b.bytes b.normal s.known s.named_reading m.write_laws.header m.write_laws.normal_form t.own_name t.read_back vs each [] (omega arith)) ∙ e) in
+    is_value (map b.normal vs) ws
+    (sym (whole b.name b.size b.Writable b.bytes b.normal s.known s.named_reading m.write_laws.header
+    m.write_laws.normal_form t.own_name t.read_back vs each [] (omega arith)) ∙ e) in
     sym (ap (stream b.bytes) same) ∙ normals_have_same_bytes b m.write_laws vs each

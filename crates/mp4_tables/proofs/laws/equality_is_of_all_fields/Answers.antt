@@ -1,4 +1,5 @@
-use Rattle.mp4_tables.proofs.Equality.{stts_equality, ctts_equality, stsc_equality, elst_equality, tfhd_equality, trun_equality}
+use Rattle.mp4_tables.proofs.Equality.{stts_equality, ctts_equality, stsc_equality, elst_equality, tfhd_equality}
+use Rattle.mp4_tables.proofs.Equality.{trun_equality}
 use Rattle.mp4_tables.proofs.laws.equality_is_of_all_fields.Goals as goal
 
 pub returns-clause-stts : goal.returns-clause-stts

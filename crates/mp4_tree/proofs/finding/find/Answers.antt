@@ -10,5 +10,6 @@ pub loop-tree-init : goal.loop-tree-init
 loop-tree-init g c =
     let path = c.args.path.now.parts.items in (
       c.in_ok-tree.ensures.bytes,
-      IfSome_then c.in_ok-tree.tree.bytes c.in_ok-tree.ensures.boxes (λ B is. begins path (left B c.in_ok-tree.tree) ∙ ap (λ (xs : List TreeBox). at_path 0 path xs) is),
+      IfSome_then c.in_ok-tree.tree.bytes c.in_ok-tree.ensures.boxes
+          (λ B is. begins path (left B c.in_ok-tree.tree) ∙ ap (λ (xs : List TreeBox). at_path 0 path xs) is),
     )

@@ -10,7 +10,8 @@ use Rattle.mp4_tree.proofs.finding.find.Given as goal
 abbrev pub invariant-loop-tree : goal.invariant-loop-tree
 invariant-loop-tree g l =
     (l.tree.bytes ≡ g.S.Source.all l.fn.source)
-    × IfSome l.tree.bytes (λ B. sought l.path.parts.items l.search (left B l.tree) ≡ at_path 0 l.path.parts.items (boxes_of B))
+    × IfSome l.tree.bytes
+    (λ B. sought l.path.parts.items l.search (left B l.tree) ≡ at_path 0 l.path.parts.items (boxes_of B))
 
 abbrev pub decreases-loop-tree : goal.decreases-loop-tree
 decreases-loop-tree g l = bytes_left l.tree

@@ -12,10 +12,13 @@ returns-clause-step g c =
     let least : c.min-long.result ≡ min (c.args.level.end - c.args.at) 28 = search rules in
     let long : length c.window.new.buffer ≡ c.min-long.result = search rules in
     IfSome_then c.args.pages.now.bytes c.in_ok-window.ensures.bytes (λ B window known.
-    step_window B c.window.new.buffer _ c.args.level c.args.at p.result c.words_at-words.result c.step_of.result (take_at _ _ _ long) window
-    (omega (arith, known, c.requires.within)) c.requires.inside (long ∙ least) p.ensures.place inside.0 inside.1 inside.2 p.ensures.near c.words_at-words.ensures c.step_of.ensures)
+    step_window B c.window.new.buffer _ c.args.level c.args.at p.result c.words_at-words.result c.step_of.result
+    (take_at _ _ _ long) window
+    (omega (arith, known, c.requires.within)) c.requires.inside (long ∙ least) p.ensures.place inside.0 inside.1
+    inside.2 p.ensures.near c.words_at-words.ensures c.step_of.ensures)
 
 pub returns-clause-on : goal.returns-clause-on
 returns-clause-on g c =
     let inside = c.place_at-place.ensures.inside in
-    place_goes_on c.args.level c.args.at c.place_at-place.result c.words_at-words.result c.step_of.result c.step_of.ensures inside.0 inside.1 inside.2
+    place_goes_on c.args.level c.args.at c.place_at-place.result c.words_at-words.result c.step_of.result
+    c.step_of.ensures inside.0 inside.1 inside.2

@@ -9,10 +9,12 @@ loop-level-init c = closes_none c.args.at _
 
 pub returns-in-None-clause-closes : goal.returns-in-None-clause-closes
 returns-in-None-clause-closes c =
-    subst (λ (xs : List Level). Closes c.args.at (c.args.level.now ∷ reverse c.args.around.now.items) (c.loop-level.level ∷ reverse xs))
+    subst (λ (xs : List Level).
+    Closes c.args.at (c.args.level.now ∷ reverse c.args.around.now.items) (c.loop-level.level ∷ reverse xs))
     (c.in-None.ensures.items ∙ append-nil c.pop.new.self.items) c.loop-level.invariant
 
 pub loop-level-preserved : goal.loop-level-preserved
 loop-level-preserved c =
-    closes_more c.args.at (c.args.level.now ∷ reverse c.args.around.now.items) c.loop-level.level c.in-Some.outer c.loop-level.around.items c.pop.new.self.items
+    closes_more c.args.at (c.args.level.now ∷ reverse c.args.around.now.items) c.loop-level.level c.in-Some.outer
+    c.loop-level.around.items c.pop.new.self.items
     c.loop-level.invariant c.loop-level-test.true c.in-Some.ensures.items

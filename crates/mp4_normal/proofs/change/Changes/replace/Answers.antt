@@ -7,20 +7,25 @@ use Rattle.mp4_normal.proofs.change.Changes.replace.Goals as goal
 
 pub returns-then-eq-clause-made : goal.returns-then-eq-clause-made
 returns-then-eq-clause-made c =
-    let same = same_rest c.args.self.now.fresh.items c.deref.result.now (part c.args.stream.now c.args.begin c.args.end) c.args.from c.deref.ensures.value (same_text _ _ c.if-eq.ensures) in
-    same_made c.args.self.now c.args.stream.now c.args.from c.args.begin c.args.end c.requires.fresh c.requires.order c.requires.before c.truncate.new.self.items c.truncate.ensures.items same
+    let same = same_rest c.args.self.now.fresh.items c.deref.result.now (part c.args.stream.now c.args.begin c.args.end)
+    c.args.from c.deref.ensures.value (same_text _ _ c.if-eq.ensures) in
+    same_made c.args.self.now c.args.stream.now c.args.from c.args.begin c.args.end c.requires.fresh c.requires.order
+    c.requires.before c.truncate.new.self.items c.truncate.ensures.items same
 
 pub returns-then-eq-clause-before : goal.returns-then-eq-clause-before
 returns-then-eq-clause-before c =
     record {
-      order = same_order c.args.self.now c.args.stream.now c.args.from c.args.begin c.args.end c.requires.fresh c.requires.order c.requires.before c.truncate.new.self.items c.truncate.ensures.items;
+      order = same_order c.args.self.now c.args.stream.now c.args.from c.args.begin c.args.end c.requires.fresh
+          c.requires.order c.requires.before c.truncate.new.self.items c.truncate.ensures.items;
       fewer = omega (arith, c.requires.before.fewer, c.requires.order);
     }
 
 pub returns-clause-made : goal.returns-clause-made
 returns-clause-made c =
-    ap (λ (cs : List Change). made_from c.args.self.now.fresh.items c.args.stream.now c.args.end 0 0 cs) c.in_ok-push.ensures.items
-    ∙ other_made c.args.self.now c.args.stream.now c.args.from c.args.begin c.args.end c.requires.fresh c.requires.order c.requires.before c.len-to.result (c.len-to.ensures ∙ sym c.deref.ensures.len ∙ ap length c.deref.ensures.value)
+    ap (λ (cs : List Change). made_from c.args.self.now.fresh.items c.args.stream.now c.args.end 0 0 cs)
+    c.in_ok-push.ensures.items
+    ∙ other_made c.args.self.now c.args.stream.now c.args.from c.args.begin c.args.end c.requires.fresh c.requires.order
+    c.requires.before c.len-to.result (c.len-to.ensures ∙ sym c.deref.ensures.len ∙ ap length c.deref.ensures.value)
 
 pub returns-clause-before : goal.returns-clause-before
 returns-clause-before c =
@@ -29,9 +34,14 @@ returns-clause-before c =
     let gone = c.args.self.now.gone + (c.args.end - c.args.begin) in
     let wide = most_left c.args.self.now.growth c.saturating_sub.result c.max-self.result c.max-self.ensures in
     let most = most_right c.args.self.now.growth c.saturating_sub.result c.max-self.result c.max-self.ensures in
-    let order = other_order c.args.self.now c.args.stream.now c.args.from c.args.begin c.args.end c.requires.fresh c.requires.order c.requires.before c.len-to.result all c.max-self.result wide (omega (arith, most, c.saturating_sub.ensures)) in
+    let order = other_order c.args.self.now c.args.stream.now c.args.from c.args.begin c.args.end c.requires.fresh
+    c.requires.order c.requires.before c.len-to.result all c.max-self.result wide
+    (omega (arith, most, c.saturating_sub.ensures)) in
     record {
-      order = subst (λ (cs : List Change). InOrder c.max-self.result c.args.end (length c.args.self.now.fresh.items) gone 0 0 0 cs) (sym c.in_ok-push.ensures.items)
-          (subst (λ (k : ℕ). InOrder c.max-self.result c.args.end k gone 0 0 0 (c.args.self.now.list.items ++ x ∷ [])) all order);
+      order = subst (λ (cs : List Change).
+          InOrder c.max-self.result c.args.end (length c.args.self.now.fresh.items) gone 0 0 0 cs)
+          (sym c.in_ok-push.ensures.items)
+          (subst (λ (k : ℕ). InOrder c.max-self.result c.args.end k gone 0 0 0 (c.args.self.now.list.items ++ x ∷ []))
+          all order);
       fewer = omega (arith, c.requires.before.fewer, c.requires.order);
     }

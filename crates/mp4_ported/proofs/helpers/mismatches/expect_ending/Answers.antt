@@ -3,4 +3,7 @@ use Rattle.mp4_ported.proofs.Equality.{kind_equality}
 use Rattle.mp4_ported.proofs.helpers.mismatches.expect_ending.Goals as goal
 
 pub returns-then-eq : goal.returns-then-eq
-returns-then-eq c = ((λ _. (kind_equality c.args.found c.args.expected).0 (sym c.eq.ensures ∙ c.if-eq.true)), (λ _. refl))
+returns-then-eq c = (
+  (λ _. (kind_equality c.args.found c.args.expected).0 (sym c.eq.ensures ∙ c.if-eq.true)),
+  (λ _. refl),
+)

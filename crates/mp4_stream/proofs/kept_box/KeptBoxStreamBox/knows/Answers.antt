@@ -10,7 +10,8 @@ known_by_name (names.UnknownBox n) h = absurd (h n refl)
 known_by_name _ h = refl
 
 pub returns-in-UnknownBox : goal.returns-in-UnknownBox
-returns-in-UnknownBox c = c.is_unnamed.ensures ∙ unknown_name c.in-UnknownBox.code ∙ ap known_kept (sym c.in-UnknownBox.is)
+returns-in-UnknownBox c = c.is_unnamed.ensures ∙ unknown_name c.in-UnknownBox.code
+    ∙ ap known_kept (sym c.in-UnknownBox.is)
 
 pub returns-in_default : goal.returns-in_default
 returns-in_default c = known_by_name c.args.name c.in_default.not-UnknownBox

@@ -12,4 +12,5 @@ returns-clause-value g c =
     let sizes = column_ends _ _ rest c.loop-rest.sizes.items _ none c.loop-rest.invariant.sizes in
     let flags = column_ends _ _ rest c.loop-rest.sample_flags.items _ none c.loop-rest.invariant.flags in
     let cts = column_ends _ _ rest c.loop-rest.cts.items _ none c.loop-rest.invariant.cts in
-    rw (c.into.ensures, c.into-2.ensures, c.into-3.ensures, c.into-4.ensures, durations, sizes, flags, cts) (ap (λ (has : RowFlags). lists_of has c.args.rows.now) c.of-has.ensures)
+    rw (c.into.ensures, c.into-2.ensures, c.into-3.ensures, c.into-4.ensures, durations, sizes, flags, cts)
+    (ap (λ (has : RowFlags). lists_of has c.args.rows.now) c.of-has.ensures)

@@ -9,6 +9,25 @@ loop-i-preserved g c =
     let i = c.loop-i.i in
     let length = ap row_length c.requires.has in
     record {
-      next = omega (arith, c.put_number-size_at.ensures.next, c.put_number-flags_at.ensures.next, c.put_number-cts_at.ensures.next, c.put_number-next.ensures.next, c.loop-i.invariant.next, length, one_more (row_length (row_flags v.flags)) i);
-      written = rw (c.put_number-next.ensures.put, c.put_number-cts_at.ensures.put, c.put_number-flags_at.ensures.put, c.put_number-size_at.ensures.put, c.loop-i.invariant.written, c.as_slice-durations.ensures, c.as_slice-sizes.ensures, c.as_slice-flags.ensures, c.as_slice-cts.ensures) (row_put v i (take c.args.at c.args.out.now));
+      next = omega (
+        arith,
+        c.put_number-size_at.ensures.next,
+        c.put_number-flags_at.ensures.next,
+        c.put_number-cts_at.ensures.next,
+        c.put_number-next.ensures.next,
+        c.loop-i.invariant.next,
+        length,
+        one_more (row_length (row_flags v.flags)) i,
+      );
+      written = rw (
+        c.put_number-next.ensures.put,
+        c.put_number-cts_at.ensures.put,
+        c.put_number-flags_at.ensures.put,
+        c.put_number-size_at.ensures.put,
+        c.loop-i.invariant.written,
+        c.as_slice-durations.ensures,
+        c.as_slice-sizes.ensures,
+        c.as_slice-flags.ensures,
+        c.as_slice-cts.ensures,
+      ) (row_put v i (take c.args.at c.args.out.now));
     }

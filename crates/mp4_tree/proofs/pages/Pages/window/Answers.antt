@@ -14,5 +14,6 @@ returns-clause-bytes g c =
     rw (sym c.self.view_is)
     (IfSome_then (g.S.Source.all c.self.inside.source) c.turn_to.ensures.page.1 (λ B h.
     subst (IsWindow B c.args.at)
-    (sym (c.copy_from_slice.ensures.after ∙ ap (λ (j : ℕ). take j (drop k c.deref.result.now)) long ∙ ap (λ (xs : List ℕ). take n (drop k xs)) c.deref.ensures.value))
+    (sym (c.copy_from_slice.ensures.after ∙ ap (λ (j : ℕ). take j (drop k c.deref.result.now)) long
+    ∙ ap (λ (xs : List ℕ). take n (drop k xs)) c.deref.ensures.value))
     (part_of_window B page.items c.turn_to.new.start c.args.at n h.1 there.0 (omega (arith, there.1, page.ok.0)))))

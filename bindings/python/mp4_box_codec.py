@@ -1,0 +1,384 @@
+"""The boxes of MP4 files (ISO/IEC 14496-12), by libmp4_box_codec.
+
+Bytes are whatever has a buffer: `bytes`, a `bytearray`, a `memoryview`, an `mmap.mmap` of a file. They are not copied.
+
+>>> import mp4_box_codec
+>>> stts = bytes.fromhex("00000018 73747473 00000000 00000001 00000003 0000000a")
+>>> mp4_box_codec.list(stts)
+[Span(position=0, length=24, code=1937011827)]
+>>> mp4_box_codec.list(stts)[0].name
+'stts'
+>>> mp4_box_codec.stts(stts).rows
+[SttsRow(sample_count=3, sample_delta=10)]
+
+Tables of one number a row are arrays, as of the module `array`:
+
+>>> mp4_box_codec.stss(bytes.fromhex("00000018 73747373 00000000 00000002 00000001 00000006"))
+Table(version=0, flags=0, rows=array('I', [1, 6]))
+
+A fault is an Mp4Error, whose `status` is a number of the header `mp4_box_codec.h`:
+
+>>> mp4_box_codec.check(stts[:20])
+Traceback (most recent call last):
+mp4_box_codec.Mp4Error: unexpected end of input
+
+The library is looked for where the variable MP4_BOX_CODEC_LIB says (a file), in the folders `lib` of Python's prefix
+and of tools/install, and then where the system has its libraries.
+"""
+
+import array
+import ctypes
+import ctypes.util
+import os
+import sys
+from typing import Any, Callable, Dict, Iterator, List, NamedTuple, Optional, Tuple, Type, Union
+
+OK, END_OF_INPUT, INVALID_DATA, BOX_NOT_FOUND, OUT_OF_MEMORY, NO_ROOM = 0, 1, 2, 3, 12, 100
+NO_TRACK = 101
+# Boxes that contain boxes alone, of those on the way to the tables.
+CONTAINERS = ("moov", "trak", "mdia", "minf", "stbl", "edts", "mvex", "moof", "traf")
+
+u8, u16, u32, u64, size = ctypes.c_uint8, ctypes.c_uint16, ctypes.c_uint32, ctypes.c_uint64, ctypes.c_size_t
+i32, i64 = ctypes.c_int32, ctypes.c_int64
+
+
+class Mp4Error(ValueError):
+    """A status of the library other than that all is well."""
+
+    def __init__(self, status: int) -> None:
+        super().__init__(status_text(status))
+        self.status = status
+
+
+class Span(NamedTuple):
+    """The place of a box: the offset of its first byte, its length with its header, and its code as a number."""
+    position: int
+    length: int
+    code: int
+
+    @property
+    def name(self) -> str:
+        """The four characters of its code, each of the number of its byte."""
+        return self.code.to_bytes(4, "big").decode("latin-1")
+
+    def of(self, listed: Any) -> memoryview:
+        """The bytes of the box, header included, in the bytes that were listed."""
+        return memoryview(listed).cast("B")[self.position:self.position + self.length]
+
+    def content_of(self, listed: Any) -> memoryview:
+        """What comes after its header: the boxes in it, if it contains boxes alone."""
+        whole = self.of(listed)
+        return whole[16 if bytes(whole[:4]) == b"\0\0\0\1" else 8:]
+
+
+class Place(NamedTuple):
+    """A box at a path: as a span, with the length of its header, and whether all its bytes are there."""
+    position: int
+    length: int
+    header_length: int
+    code: int
+    is_whole: int
+
+
+class Sample(NamedTuple):
+    """A sample of a track, with its offset in the file. Times are in the timescale of the media; `description` and
+    `chunk` count from 1, and `sync` is 1 if it is a sync sample."""
+    offset: int
+    decode_time: int
+    rendering_offset: int
+    size: int
+    duration: int
+    description: int
+    chunk: int
+    sync: int
+
+
+class SttsRow(NamedTuple):
+    """A run of samples with the same duration, in the timescale of the media."""
+    sample_count: int
+    sample_delta: int
+
+
+class CttsRow(NamedTuple):
+    """A run of samples with the same composition offset, in the timescale of the media; signed in every version."""
+    sample_count: int
+    sample_offset: int
+
+
+class StscRow(NamedTuple):
+    """A run of chunks with equally many samples. All count from 1; `first_sample` is computed, and not in the bytes."""
+    first_chunk: int
+    samples_per_chunk: int
+    sample_description_index: int
+    first_sample: int
+
+
+class ElstRow(NamedTuple):
+    """An edit. An empty one has the largest `media_time` of its width: 2^64 - 1 in version 1, else 2^32 - 1."""
+    segment_duration: int
+    media_time: int
+    media_rate: int
+    media_rate_fraction: int
+
+
+class TrunRow(NamedTuple):
+    """What a run of a track fragment has for one sample; what it doesn't have is 0."""
+    duration: int
+    size: int
+    flags: int
+    composition_offset: int
+
+
+Rows = Union["array.array[int]", List[SttsRow], List[CttsRow], List[StscRow], List[ElstRow]]
+
+
+class Table(NamedTuple):
+    """A table: version and flags of its box, and its rows, an array of numbers or a list."""
+    version: int
+    flags: int
+    rows: Any
+
+
+class Sizes(NamedTuple):
+    """The sizes of samples. If `sample_size` is 0 each has a size of its own in `rows`, and else all have this one."""
+    version: int
+    flags: int
+    sample_size: int
+    sample_count: int
+    rows: "array.array[int]"
+
+
+class Run(NamedTuple):
+    """The samples of a run of a track fragment. Its flags say what it has (8.8.8); what it doesn't have is 0."""
+    version: int
+    flags: int
+    sample_count: int
+    data_offset: int
+    first_sample_flags: int
+    rows: List[TrunRow]
+
+
+def _struct(name: str, **fields: Any) -> Type[ctypes.Structure]:
+    return type(name, (ctypes.Structure,), {"_fields_": [*fields.items()]})
+
+
+# The structs of the header, in its order.
+_SPAN = _struct("mp4_span", position=u64, length=u64, code=u32)
+_PLACE = _struct("mp4_place", position=u64, length=u64, header_length=u64, code=u32, is_whole=u8)
+_SAMPLE = _struct("mp4_sample", offset=u64, decode_time=u64, rendering_offset=i64, size=u32, duration=u32,
+                  description=u32, chunk=u32, sync=u8)
+_TABLE = _struct("mp4_table", count=size, flags=u32, version=u8)
+_STSZ = _struct("mp4_stsz_table", count=size, flags=u32, sample_size=u32, sample_count=u32, version=u8)
+_TRUN = _struct("mp4_trun_table", count=size, flags=u32, sample_count=u32, data_offset=i32, first_sample_flags=u32,
+                version=u8)
+_STTS = _struct("mp4_stts_row", sample_count=u32, sample_delta=u32)
+_CTTS = _struct("mp4_ctts_row", sample_count=u32, sample_offset=i32)
+_STSC = _struct("mp4_stsc_row", first_chunk=u32, samples_per_chunk=u32, sample_description_index=u32, first_sample=u32)
+_ELST = _struct("mp4_elst_row", segment_duration=u64, media_time=u64, media_rate=u16, media_rate_fraction=u16)
+_RUN = _struct("mp4_trun_row", duration=u32, size=u32, flags=u32, composition_offset=u32)
+# Numbers that come as an array, by the letter of their type there.
+_ARRAYS = {u8: "B", u32: "I", u64: "Q"}
+
+
+class _Buffer(ctypes.Structure):
+    """Python's Py_buffer."""
+    _fields_ = [
+        ("buf", ctypes.c_void_p), ("obj", ctypes.py_object), ("len", ctypes.c_ssize_t), ("itemsize", ctypes.c_ssize_t),
+        ("readonly", ctypes.c_int), ("ndim", ctypes.c_int), ("format", ctypes.c_char_p), ("shape", ctypes.c_void_p),
+        ("strides", ctypes.c_void_p), ("suboffsets", ctypes.c_void_p), ("internal", ctypes.c_void_p),
+    ]
+
+
+class _Bytes:
+    """The address and the length of what has a buffer, while it is held. The address is never 0."""
+
+    def __init__(self, data: Any) -> None:
+        self.data, self.buffer = data, _Buffer()
+
+    def __enter__(self) -> Tuple[int, int]:
+        ctypes.pythonapi.PyObject_GetBuffer(ctypes.py_object(self.data), ctypes.byref(self.buffer), 0)
+        return self.buffer.buf or ctypes.addressof(self.buffer), self.buffer.len
+
+    def __exit__(self, *_: Any) -> None:
+        ctypes.pythonapi.PyBuffer_Release(ctypes.byref(self.buffer))
+
+
+def _places() -> Iterator[str]:
+    given = os.environ.get("MP4_BOX_CODEC_LIB")
+    if given:
+        yield given
+        return
+    for prefix in (sys.prefix, os.path.expanduser("~/.local"), "/usr/local"):
+        path = os.path.join(prefix, "lib", "libmp4_box_codec.so.0")
+        if os.path.exists(path):
+            yield path
+    yield ctypes.util.find_library("mp4_box_codec") or "libmp4_box_codec.so.0"
+
+
+def _load() -> ctypes.CDLL:
+    path = next(_places())
+    try:
+        return ctypes.CDLL(path)
+    except OSError as why:
+        text = f"{path} can't be loaded ({why}): run tools/install, or set MP4_BOX_CODEC_LIB to libmp4_box_codec.so.0"
+        raise ImportError(text) from None
+
+
+_library = _load()
+
+
+def _function(name: str, *types: Any) -> Callable[..., int]:
+    function = getattr(_library, name)
+    function.argtypes, function.restype = types, u32
+    return function
+
+
+def _filled(name: str, row: Any, summary: Any, *more: Any) -> Callable[..., Tuple[Any, Any]]:
+    """A call that fills an array and a summary: it asks how many rows there are, and then for the rows. `more` are the
+    types of further arguments, which come after the bytes."""
+    function = _function(name, ctypes.c_void_p, size, *more, ctypes.c_void_p, size, ctypes.c_void_p)
+
+    def call(data: Any, *given: Any) -> Tuple[Any, Any]:
+        rows, found = (row * 1)(), summary()
+        with _Bytes(data) as (address, length):
+            status = function(address, length, *given, ctypes.addressof(rows), 0, ctypes.addressof(found))
+            count = getattr(found, "count", None) if summary is not size else found.value
+            if status == NO_ROOM:
+                rows = (row * count)()
+                status = function(address, length, *given, ctypes.addressof(rows), count, ctypes.addressof(found))
+        if status != OK:
+            raise Mp4Error(status)
+        return (rows if count else ()), found
+
+    return call
+
+
+def _listed(rows: Any, into: Any, row: Any) -> Any:
+    """The rows as an array of numbers, or as a list of named tuples."""
+    if row in _ARRAYS:
+        found = array.array(_ARRAYS[row])
+        found.frombytes(bytes(rows))
+        return found
+    names = [it[0] for it in row._fields_]
+    return [into(*(getattr(it, name) for name in names)) for it in rows]
+
+
+def _table(name: str, row: Any, into: Any, words: str) -> Callable[[Any], Table]:
+    """A function that reads the table in the box at the front of bytes, header included."""
+    fill = _filled(f"mp4_{name}", row, _TABLE)
+
+    def read(data: Any) -> Table:
+        rows, found = fill(data)
+        return Table(found.version, found.flags, _listed(rows, into, row))
+
+    read.__name__, read.__doc__ = name, f"The {words}. Of the box at the front of the bytes, header included."
+    return read
+
+
+stco = _table("stco", u32, None, "offsets of the chunks (8.7.5), in bytes from the front of the file")
+co64 = _table("co64", u64, None, "offsets of the chunks (8.7.5), in bytes from the front of the file")
+stss = _table("stss", u32, None, "numbers of the sync samples (8.6.2), counted from 1")
+stts = _table("stts", _STTS, SttsRow, "durations of the samples (8.6.1.2)")
+ctts = _table("ctts", _CTTS, CttsRow, "composition offsets of the samples (8.6.1.3)")
+stsc = _table("stsc", _STSC, StscRow, "chunks of the samples (8.7.4)")
+elst = _table("elst", _ELST, ElstRow, "edits of a track (8.6.6)")
+_stsz, _trun = _filled("mp4_stsz", u32, _STSZ), _filled("mp4_trun", _RUN, _TRUN)
+_list, _normal = _filled("mp4_list", _SPAN, size), _filled("mp4_normal", u8, size)
+_check = _function("mp4_check", ctypes.c_void_p, size)
+_find = _function("mp4_find", ctypes.c_void_p, size, ctypes.c_char_p, size, ctypes.POINTER(_PLACE))
+_samples, version = _filled("mp4_samples", _SAMPLE, size, u32), _function("mp4_version")
+_status_text = _function("mp4_status_text", u32, ctypes.c_char_p, size, ctypes.POINTER(size))
+
+
+def status_text(status: int) -> str:
+    """What a status means.
+
+    >>> status_text(NO_TRACK)
+    'no track has the track_ID'
+    """
+    text, count = ctypes.create_string_buffer(200), size()
+    _status_text(status, text, len(text), count)
+    return text.raw[:count.value].decode("ascii")
+
+
+def stsz(data: Any) -> Sizes:
+    """The sizes of the samples (8.7.3.2). Of the box at the front of the bytes, header included."""
+    rows, it = _stsz(data)
+    return Sizes(it.version, it.flags, it.sample_size, it.sample_count, _listed(rows, None, u32))
+
+
+def trun(data: Any) -> Run:
+    """The samples of a run of a track fragment (8.8.8). Of the box at the front of the bytes, header included."""
+    rows, it = _trun(data)
+    listed = _listed(rows, TrunRow, _RUN)
+    return Run(it.version, it.flags, it.sample_count, it.data_offset, it.first_sample_flags, listed)
+
+
+def check(data: Any) -> None:
+    """Reads all boxes of the bytes; the error is that of the first fault. Boxes of types that the codec doesn't read
+    are skipped by their size: so a `moov` is not looked into."""
+    with _Bytes(data) as (address, length):
+        status = _check(address, length)
+    if status != OK:
+        raise Mp4Error(status)
+
+
+def normal(data: Any) -> bytes:
+    """The boxes of the bytes in their normal form; boxes of types that the codec doesn't read are as they are."""
+    return bytes(_normal(data)[0])
+
+
+def list(data: Any) -> List[Span]:
+    """The boxes at the top level of the bytes, in their order, without reading what is in them."""
+    return _listed(_list(data)[0], Span, _SPAN)
+
+
+def find(data: Any, path: str) -> Optional[Place]:
+    """The box at a path over the bytes of a file, as `moov/trak[1]/mdia/mdhd`; None if there is none."""
+    place, text = _PLACE(), path.encode()
+    with _Bytes(data) as (address, length):
+        status = _find(address, length, text, len(text), place)
+    if status == BOX_NOT_FOUND:
+        return None
+    if status != OK:
+        raise Mp4Error(status)
+    return Place(place.position, place.length, place.header_length, place.code, place.is_whole)
+
+
+def samples(data: Any, track_id: int) -> List[Sample]:
+    """The samples of the first track with a track_ID (8.3.2) over the bytes of a file, by the tables of its `stbl`."""
+    return _listed(_samples(data, track_id)[0], Sample, _SAMPLE)
+
+
+TABLES: Dict[str, Callable[[Any], Any]] = {
+    "stts": stts, "ctts": ctts, "stsc": stsc, "stsz": stsz, "stco": stco, "co64": co64, "stss": stss, "elst": elst,
+    "trun": trun,
+}
+
+
+def boxes(data: Any, path: str = "") -> Iterator[Tuple[str, memoryview]]:
+    """Each box of a file with its path and its bytes, those that contain boxes before what is in them. In a path, `[1]`
+    is the second box of its name in the box around it, and no number the first.
+
+    >>> movie = bytes.fromhex("00000020 6d6f6f76 00000008 7472616b 00000010 7472616b 00000008 6d646961")
+    >>> [path for path, _ in boxes(movie)]
+    ['moov', 'moov/trak', 'moov/trak[1]', 'moov/trak[1]/mdia']
+    """
+    counts: Dict[str, int] = {}
+    for span in list(data):
+        number = counts[span.name] = counts.get(span.name, -1) + 1
+        here = f"{path}{span.name}" + (f"[{number}]" if number else "")
+        yield here, span.of(data)
+        if span.name in CONTAINERS:
+            yield from boxes(span.content_of(data), f"{here}/")
+
+
+def tables(data: Any) -> Dict[str, Any]:
+    """The tables of a file by their paths.
+
+    >>> stbl = bytes.fromhex("00000020 7374626c 00000018 73747473 00000000 00000001 00000003 0000000a")
+    >>> tables(stbl)
+    {'stbl/stts': Table(version=0, flags=0, rows=[SttsRow(sample_count=3, sample_delta=10)])}
+    """
+    named = ((path, bytes(box[4:8]).decode("latin-1"), box) for path, box in boxes(data))
+    return {path: TABLES[name](box) for path, name, box in named if name in TABLES}

@@ -1,0 +1,109 @@
+"""Each function of the module once, over bytes that were worked out from docs/LAYOUT.md, the faults, and buffers."""
+
+import array
+import struct
+import unittest
+
+import mp4_box_codec as codec
+
+
+def table_box(name, version, flags, *numbers):
+    """A box of this name with version, flags and a content of numbers of 32 bits."""
+    head = struct.pack(">I4sI", 12 + 4 * len(numbers), name.encode(), version << 24 | flags)
+    return head + struct.pack(f">{len(numbers)}I", *numbers)
+
+
+class Calls(unittest.TestCase):
+    def test_spans(self):
+        file = b"\0\0\0\x08free\0\0\0\x01mdat\0\0\0\0\0\0\0\x12ab\0\0\0\0wide"
+        found = codec.list(file)
+        places = [(it.position, it.length, it.name) for it in found]
+        self.assertEqual(places, [(0, 8, "free"), (8, 18, "mdat"), (26, 8, "wide")])
+        self.assertEqual([bytes(it.of(file)) for it in found], [file[:8], file[8:26], file[26:]])
+        self.assertEqual(bytes(found[1].content_of(file)), b"ab")
+        self.assertEqual(codec.list(b""), [])
+
+    def test_tables_of_one_number(self):
+        given = (0x81, 0x828384, 2, 0x85868788, 0x898A8B8C)
+        expected = codec.Table(0x81, 0x828384, array.array("I", [0x85868788, 0x898A8B8C]))
+        self.assertEqual(codec.stco(table_box("stco", *given)), expected)
+        self.assertEqual(codec.stss(table_box("stss", *given)), expected)
+        expected = codec.Table(0, 1, array.array("Q", [0x8182838485868788]))
+        self.assertEqual(codec.co64(table_box("co64", 0, 1, 1, 0x81828384, 0x85868788)), expected)
+
+    def test_tables_of_rows(self):
+        found = codec.stts(table_box("stts", 0, 0, 2, 3, 4, 5, 0xFFFFFFFF))
+        self.assertEqual(found, codec.Table(0, 0, [(3, 4), (5, 0xFFFFFFFF)]))
+        found = codec.ctts(table_box("ctts", 1, 0, 1, 3, 0xFFFFFFFE))
+        self.assertEqual(found, codec.Table(1, 0, [(3, -2)]))
+        found = codec.stsc(table_box("stsc", 0, 0, 2, 1, 4, 1, 3, 5, 2))
+        self.assertEqual(found.rows, [(1, 4, 1, 1), (3, 5, 2, 9)])
+        found = codec.elst(table_box("elst", 0, 0, 1, 7, 0xFFFFFFFF, 0x00010002))
+        self.assertEqual(found.rows, [(7, 0xFFFFFFFF, 1, 2)])
+
+    def test_sizes_and_runs(self):
+        self.assertEqual(codec.stsz(table_box("stsz", 0, 0, 0, 2, 8, 9)), (0, 0, 0, 2, array.array("I", [8, 9])))
+        self.assertEqual(codec.stsz(table_box("stsz", 0, 0, 6, 2)), (0, 0, 6, 2, array.array("I")))
+        found = codec.trun(table_box("trun", 1, 0xB05, 1, 0xFFFFFFFD, 4, 5, 6, 7))
+        self.assertEqual(found, (1, 0xB05, 1, -3, 4, [(5, 6, 0, 7)]))
+        self.assertEqual(codec.trun(table_box("trun", 0, 0, 9)).sample_count, 9)
+
+    def test_tables_of_a_file(self):
+        stts, free = table_box("stts", 0, 0, 1, 3, 10), b"\0\0\0\x08free"
+        stbl = struct.pack(">I4s", 8 + len(stts) + len(free), b"stbl") + free + stts
+        self.assertEqual(codec.tables(stbl + stbl), {"stbl/stts": codec.stts(stts), "stbl[1]/stts": codec.stts(stts)})
+
+    def test_a_track(self):
+        def boxed(name, *parts):
+            return struct.pack(">I4s", 8 + sum(map(len, parts)), name.encode()) + b"".join(parts)
+
+        tables = [
+            table_box("stsz", 0, 0, 0, 3, 3, 4, 5), table_box("stsc", 0, 0, 1, 1, 2, 1),
+            table_box("stco", 0, 0, 2, 100, 107), table_box("stts", 0, 0, 1, 3, 10), table_box("stss", 0, 0, 2, 1, 3),
+        ]
+        head = table_box("tkhd", 0, 7, 0, 0, 7, *[0] * 17)
+        media = [table_box("mdhd", 0, 0, 0, 0, 1000, 30, 0), table_box("hdlr", 0, 0, 0, 0x76696465, 0, 0, 0) + b"\0"]
+        media[1] = struct.pack(">I", len(media[1])) + media[1][4:]
+        file = boxed("moov", boxed("trak", head, boxed("mdia", *media, boxed("minf", boxed("stbl", *tables)))))
+        found = [(it.offset, it.size, it.decode_time, it.chunk, it.sync) for it in codec.samples(file, 7)]
+        self.assertEqual(found, [(100, 3, 0, 1, 1), (103, 4, 10, 1, 0), (107, 5, 20, 2, 1)])
+        with self.assertRaisesRegex(codec.Mp4Error, "no track has the track_ID"):
+            codec.samples(file, 8)
+        place = codec.find(file, "moov/trak/mdia/minf/stbl/stts")
+        self.assertEqual(place, (file.index(b"stts") - 4, 24, 8, 0x73747473, 1))
+        self.assertIsNone(codec.find(file, "moov/trak[1]"))
+        self.assertRaises(codec.Mp4Error, codec.find, file, "moov/trak[")
+        self.assertEqual(codec.version(), 1000)
+
+    def test_faults(self):
+        def status(call, data):
+            with self.assertRaises(codec.Mp4Error) as caught:
+                call(data)
+            return caught.exception.status
+
+        for call in (codec.check, codec.normal):
+            self.assertEqual(status(call, b"\0\0\0\x08dinf"), codec.BOX_NOT_FOUND)
+        stco = table_box("stco", 0, 0, 1, 2)
+        for length in range(len(stco)):
+            self.assertEqual(status(codec.stco, stco[:length]), codec.END_OF_INPUT)
+        self.assertEqual(status(codec.stss, stco), codec.INVALID_DATA)
+        self.assertIsNone(codec.check(stco))
+        self.assertEqual(codec.normal(stco), stco)
+        self.assertRaises(BufferError, codec.list, memoryview(stco)[::2])
+        self.assertRaises(TypeError, codec.list, "text")
+
+    def test_buffers(self):
+        stco = table_box("stco", 0, 0, 1, 2)
+        for data in (bytearray(stco), memoryview(stco), array.array("B", stco)):
+            self.assertEqual(codec.stco(data).rows, array.array("I", [2]))
+        data = bytearray(stco)
+        codec.list(data)
+        data.append(0)  # it is no longer held
+
+    def test_many_rows(self):
+        rows = codec.stss(table_box("stss", 0, 0, 1_000_000, *range(1, 1_000_001))).rows
+        self.assertEqual(rows, array.array("I", range(1, 1_000_001)))
+
+
+if __name__ == "__main__":
+    unittest.main()

@@ -1,0 +1,267 @@
+//! The boxes of MP4 files (ISO/IEC 14496-12), by safe calls of libmp4_box_codec: slices in, `Vec`s and structs out.
+//!
+//! What each call returns for each bytes is proved of the library; of this crate, which passes pointers, nothing is.
+//! The page `docs/RUST.md` has examples.
+
+use std::error;
+use std::fmt;
+
+pub mod raw;
+mod rows;
+
+pub use rows::{CttsRow, ElstRow, Place, Sample, Span, StscRow, SttsRow, TrunRow};
+
+/// Why a call has no value.
+#[derive(Clone, Copy, Debug, PartialEq, Eq, Hash)]
+#[non_exhaustive]
+pub enum Error {
+    /// The bytes end before all that a box needs.
+    EndOfInput,
+    /// A check of the layout failed: a size is too small, a count doesn't fit its box, or a box is of another type.
+    InvalidData,
+    /// A box lacks a child, or a file lacks a box.
+    BoxNotFound,
+    /// There is no memory.
+    OutOfMemory,
+    /// No track has the track_ID.
+    NoTrack,
+    /// The tables of a track disagree; `raw` and the header have the number of each way.
+    TablesDisagree(u32),
+    /// Another status of the library.
+    Other(u32),
+}
+
+impl From<u32> for Error {
+    fn from(status: u32) -> Error {
+        match status {
+            raw::END_OF_INPUT => Error::EndOfInput,
+            raw::INVALID_DATA => Error::InvalidData,
+            raw::BOX_NOT_FOUND => Error::BoxNotFound,
+            raw::OUT_OF_MEMORY => Error::OutOfMemory,
+            raw::NO_TRACK => Error::NoTrack,
+            raw::SAMPLE_SIZES_DISAGREE..=raw::OFFSETS_DISAGREE => Error::TablesDisagree(status),
+            _ => Error::Other(status),
+        }
+    }
+}
+
+impl fmt::Display for Error {
+    fn fmt(&self, f: &mut fmt::Formatter<'_>) -> fmt::Result {
+        match self {
+            Error::EndOfInput => f.write_str("unexpected end of input"),
+            Error::InvalidData => f.write_str("invalid data"),
+            Error::BoxNotFound => f.write_str("a box is not there"),
+            Error::OutOfMemory => f.write_str("out of memory"),
+            Error::NoTrack => f.write_str(&status_text(raw::NO_TRACK)),
+            Error::TablesDisagree(status) => f.write_str(&status_text(*status)),
+            Error::Other(status) => write!(f, "status {status}"),
+        }
+    }
+}
+
+impl error::Error for Error {}
+
+pub type Result<T> = std::result::Result<T, Error>;
+
+fn result_of<T>(status: u32, value: T) -> Result<T> {
+    if status == raw::OK {
+        Ok(value)
+    } else {
+        Err(Error::from(status))
+    }
+}
+
+/// A summary that a function fills: the number of rows, and perhaps more.
+trait Summary: Default {
+    fn count(&self) -> usize;
+}
+
+impl Summary for usize {
+    fn count(&self) -> usize {
+        *self
+    }
+}
+
+impl Summary for raw::Table {
+    fn count(&self) -> usize {
+        self.count
+    }
+}
+
+impl Summary for raw::StszTable {
+    fn count(&self) -> usize {
+        self.count
+    }
+}
+
+impl Summary for raw::TrunTable {
+    fn count(&self) -> usize {
+        self.count
+    }
+}
+
+type Fills<R, S> = unsafe extern "C" fn(*const u8, usize, *mut R, usize, *mut S) -> u32;
+
+/// Asks how many rows there are, and then for the rows.
+fn filled<R: Clone + Default, S: Summary>(fill: Fills<R, S>, bytes: &[u8]) -> Result<(Vec<R>, S)> {
+    // SAFETY: pointers of slices and vectors are aligned, never null and of so many bytes and values as are said; all
+    // of these have values, and none overlap, since what is written is borrowed mutably.
+    filled_by(|rows: &mut Vec<R>, found: &mut S| unsafe {
+        fill(bytes.as_ptr(), bytes.len(), rows.as_mut_ptr(), rows.len(), found)
+    })
+}
+
+/// Asks by a call how many rows there are, and then for the rows.
+fn filled_by<R: Clone + Default, S: Summary>(call: impl Fn(&mut Vec<R>, &mut S) -> u32) -> Result<(Vec<R>, S)> {
+    let (mut rows, mut found) = (Vec::new(), S::default());
+    let mut status = call(&mut rows, &mut found);
+    if status == raw::NO_ROOM {
+        rows.try_reserve_exact(found.count()).map_err(|_| Error::OutOfMemory)?;
+        rows.resize(found.count(), R::default());
+        status = call(&mut rows, &mut found);
+    }
+    result_of(status, (rows, found))
+}
+
+/// Reads all boxes from the front of the bytes to their end; the error is that of the first fault. Boxes of types that
+/// the codec doesn't read are skipped by their size: so a `moov` is not looked into.
+pub fn check(bytes: &[u8]) -> Result<()> {
+    // SAFETY: the slice has so many bytes, all with values.
+    result_of(unsafe { raw::mp4_check(bytes.as_ptr(), bytes.len()) }, ())
+}
+
+/// Lists the boxes at the top level of the bytes, in their order, without reading what is in them.
+pub fn list(bytes: &[u8]) -> Result<Vec<Span>> {
+    Ok(filled(raw::mp4_list, bytes)?.0)
+}
+
+/// The boxes of the bytes in their normal form; boxes of types that the codec doesn't read are as they are.
+pub fn normal(bytes: &[u8]) -> Result<Vec<u8>> {
+    Ok(filled(raw::mp4_normal, bytes)?.0)
+}
+
+/// The box at a path over the bytes of a file, as `moov/trak[1]/mdia/mdhd`: `[1]` is the second box of its code in the
+/// box around it, and no number the first. None if there is none; invalid data if the text is no path.
+pub fn find(bytes: &[u8], path: &str) -> Result<Option<Place>> {
+    let mut place = Place::default();
+    // SAFETY: as of `filled`.
+    match unsafe { raw::mp4_find(bytes.as_ptr(), bytes.len(), path.as_ptr(), path.len(), &mut place) } {
+        raw::BOX_NOT_FOUND => Ok(None),
+        status => result_of(status, Some(place)),
+    }
+}
+
+/// The samples of the first track with a track_ID (8.3.2) over the bytes of a file, by the tables of its `stbl`.
+pub fn samples(bytes: &[u8], track_id: u32) -> Result<Vec<Sample>> {
+    // SAFETY: as of `filled`.
+    let found = filled_by(|rows: &mut Vec<Sample>, count: &mut usize| unsafe {
+        raw::mp4_samples(bytes.as_ptr(), bytes.len(), track_id, rows.as_mut_ptr(), rows.len(), count)
+    });
+    Ok(found?.0)
+}
+
+/// The version of the library: 1000000 for each major version, 1000 for each minor one, and 1 for each patch.
+pub fn version() -> u32 {
+    // SAFETY: it takes nothing.
+    unsafe { raw::mp4_version() }
+}
+
+/// What a status of the library means.
+pub fn status_text(status: u32) -> String {
+    // SAFETY: as of `filled`.
+    let found = filled_by(|rows: &mut Vec<u8>, count: &mut usize| unsafe {
+        raw::mp4_status_text(status, rows.as_mut_ptr(), rows.len(), count)
+    });
+    found.map(|it| String::from_utf8_lossy(&it.0).into_owned()).unwrap_or_default()
+}
+
+/// What a table has.
+#[derive(Clone, Debug, PartialEq, Eq)]
+pub struct Table<R> {
+    /// The box's version.
+    pub version: u8,
+    /// The 24 bits of the box's flags.
+    pub flags: u32,
+    /// The entries.
+    pub rows: Vec<R>,
+}
+
+/// Defines functions that read a table of the box at the front of bytes, header included.
+macro_rules! tables {
+    ($($(#[$words:meta])* $name:ident, $raw:ident: $row:ty;)*) => {
+        $($(#[$words])*
+        pub fn $name(bytes: &[u8]) -> Result<Table<$row>> {
+            let (rows, found) = filled(raw::$raw, bytes)?;
+            Ok(Table { version: found.version, flags: found.flags, rows })
+        })*
+    };
+}
+
+tables! {
+    /// The offsets of the chunks (8.7.5), in bytes from the front of the file.
+    stco, mp4_stco: u32;
+    /// The same in 64 bits (8.7.5).
+    co64, mp4_co64: u64;
+    /// The numbers of the sync samples (8.6.2), counted from 1.
+    stss, mp4_stss: u32;
+    /// The durations of the samples (8.6.1.2).
+    stts, mp4_stts: SttsRow;
+    /// The composition offsets of the samples (8.6.1.3).
+    ctts, mp4_ctts: CttsRow;
+    /// The chunks of the samples (8.7.4).
+    stsc, mp4_stsc: StscRow;
+    /// The edits of a track (8.6.6).
+    elst, mp4_elst: ElstRow;
+}
+
+/// The sizes of the samples of a track.
+#[derive(Clone, Debug, PartialEq, Eq)]
+pub struct Sizes {
+    /// The box's version.
+    pub version: u8,
+    /// The 24 bits of the box's flags.
+    pub flags: u32,
+    /// The size of each sample in bytes; 0 if each has a size of its own, which is its row.
+    pub sample_size: u32,
+    /// The number of samples.
+    pub sample_count: u32,
+    /// The sizes in bytes; none if all samples have one size.
+    pub rows: Vec<u32>,
+}
+
+/// The sizes of the samples (8.7.3.2) of the `stsz` at the front of the bytes.
+pub fn stsz(bytes: &[u8]) -> Result<Sizes> {
+    let (rows, it) = filled(raw::mp4_stsz, bytes)?;
+    let (sample_size, sample_count) = (it.sample_size, it.sample_count);
+    Ok(Sizes { version: it.version, flags: it.flags, sample_size, sample_count, rows })
+}
+
+/// The samples of a run of a track fragment.
+#[derive(Clone, Debug, PartialEq, Eq)]
+pub struct Run {
+    /// The box's version.
+    pub version: u8,
+    /// The 24 bits of the box's flags: 0x1 if there is a data offset, 0x4 if there are flags of the first sample; 0x100
+    /// if each row has a duration, 0x200 a size, 0x400 flags, 0x800 a composition offset.
+    pub flags: u32,
+    /// The number of samples.
+    pub sample_count: u32,
+    /// In bytes from the base data offset of the fragment; 0 if it isn't present.
+    pub data_offset: i32,
+    /// The flags of the first sample; 0 if they aren't present.
+    pub first_sample_flags: u32,
+    /// What there is for each sample; none if there is nothing for a sample.
+    pub rows: Vec<TrunRow>,
+}
+
+/// The samples of the `trun` (8.8.8) at the front of the bytes.
+pub fn trun(bytes: &[u8]) -> Result<Run> {
+    let (rows, it) = filled(raw::mp4_trun, bytes)?;
+    let (sample_count, data_offset, first_sample_flags) = (it.sample_count, it.data_offset, it.first_sample_flags);
+    Ok(Run { version: it.version, flags: it.flags, sample_count, data_offset, first_sample_flags, rows })
+}
+
+/// The examples of the page are compiled and run with the tests.
+#[cfg(doctest)]
+#[doc = include_str!("../../../docs/RUST.md")]
+struct Page;

@@ -1,0 +1,151 @@
+//! Each function once, over bytes that were worked out from docs/LAYOUT.md, and the faults.
+
+use mp4_box_codec::*;
+
+/// A box of this name with version, flags and a content of numbers of 32 bits.
+fn table_box(name: &str, version: u8, flags: u32, numbers: &[u32]) -> Vec<u8> {
+    let mut bytes = (12 + 4 * numbers.len() as u32).to_be_bytes().to_vec();
+    bytes.extend(name.as_bytes());
+    bytes.extend((u32::from(version) << 24 | flags).to_be_bytes());
+    numbers.iter().for_each(|it| bytes.extend(it.to_be_bytes()));
+    bytes
+}
+
+#[test]
+fn spans() {
+    let file = b"\0\0\0\x08free\0\0\0\x01mdat\0\0\0\0\0\0\0\x12ab\0\0\0\0wide";
+    let found = list(file).unwrap();
+    let places: Vec<_> = found.iter().map(|it| (it.position, it.length, it.name())).collect();
+    assert_eq!(places, [(0, 8, *b"free"), (8, 18, *b"mdat"), (26, 8, *b"wide")]);
+    assert_eq!(found[1].of(file), Some(&file[8..26]));
+    assert_eq!(found[1].content_of(file), Some(&b"ab"[..]));
+    assert_eq!(found[2].content_of(file), Some(&b""[..]));
+    assert_eq!(found[1].of(&file[..25]), None);
+    assert_eq!(list(b""), Ok(vec![]));
+    assert_eq!(list(b"\0\0\0\x08fre"), Err(Error::EndOfInput));
+    assert_eq!(list(b"\0\0\0\x07free"), Err(Error::InvalidData));
+}
+
+#[test]
+fn tables_of_one_number() {
+    let expected = Table { version: 0x81, flags: 0x828384, rows: vec![0x85868788, 0x898A8B8C] };
+    let numbers = [2, 0x85868788, 0x898A8B8C];
+    assert_eq!(stco(&table_box("stco", 0x81, 0x828384, &numbers)), Ok(expected.clone()));
+    assert_eq!(stss(&table_box("stss", 0x81, 0x828384, &numbers)), Ok(expected));
+    let expected = Table { version: 0, flags: 1, rows: vec![0x8182838485868788] };
+    assert_eq!(co64(&table_box("co64", 0, 1, &[1, 0x81828384, 0x85868788])), Ok(expected));
+}
+
+#[test]
+fn tables_of_rows() {
+    let found = stts(&table_box("stts", 0, 0, &[2, 3, 4, 5, 0xFFFFFFFF])).unwrap();
+    let row = |sample_count, sample_delta| SttsRow { sample_count, sample_delta };
+    assert_eq!(found.rows, [row(3, 4), row(5, 0xFFFFFFFF)]);
+    let found = ctts(&table_box("ctts", 1, 0, &[1, 3, 0xFFFFFFFE])).unwrap();
+    assert_eq!((found.version, found.rows), (1, vec![CttsRow { sample_count: 3, sample_offset: -2 }]));
+    let found = stsc(&table_box("stsc", 0, 0, &[2, 1, 4, 1, 3, 5, 2])).unwrap();
+    let row = |first_chunk, samples_per_chunk, sample_description_index, first_sample| StscRow {
+        first_chunk,
+        samples_per_chunk,
+        sample_description_index,
+        first_sample,
+    };
+    assert_eq!(found.rows, [row(1, 4, 1, 1), row(3, 5, 2, 9)]);
+    let found = elst(&table_box("elst", 0, 0, &[1, 7, 0xFFFFFFFF, 0x00010002])).unwrap();
+    let edit = ElstRow { segment_duration: 7, media_time: 0xFFFFFFFF, media_rate: 1, media_rate_fraction: 2 };
+    assert_eq!(found.rows, [edit]);
+}
+
+#[test]
+fn sizes_and_runs() {
+    let found = stsz(&table_box("stsz", 0, 0, &[0, 2, 8, 9])).unwrap();
+    assert_eq!(found, Sizes { version: 0, flags: 0, sample_size: 0, sample_count: 2, rows: vec![8, 9] });
+    let found = stsz(&table_box("stsz", 0, 0, &[6, 2])).unwrap();
+    assert_eq!(found, Sizes { version: 0, flags: 0, sample_size: 6, sample_count: 2, rows: vec![] });
+    let found = trun(&table_box("trun", 1, 0xB05, &[1, 0xFFFFFFFD, 4, 5, 6, 7])).unwrap();
+    let row = TrunRow { duration: 5, size: 6, flags: 0, composition_offset: 7 };
+    let expected =
+        Run { version: 1, flags: 0xB05, sample_count: 1, data_offset: -3, first_sample_flags: 4, rows: vec![row] };
+    assert_eq!(found, expected);
+    assert_eq!(trun(&table_box("trun", 0, 0, &[9])).unwrap().sample_count, 9);
+}
+
+#[test]
+fn faults() {
+    let dinf = b"\0\0\0\x08dinf";
+    assert_eq!((check(dinf), normal(dinf)), (Err(Error::BoxNotFound), Err(Error::BoxNotFound)));
+    let stco_box = table_box("stco", 0, 0, &[1, 2]);
+    for length in 0..stco_box.len() {
+        assert_eq!(stco(&stco_box[..length]), Err(Error::EndOfInput));
+    }
+    assert_eq!(stss(&stco_box), Err(Error::InvalidData));
+    assert_eq!((check(&stco_box), normal(&stco_box)), (Ok(()), Ok(stco_box)));
+    assert_eq!(Error::from(77), Error::Other(77));
+    let shown: Box<dyn std::error::Error> = Box::new(Error::OutOfMemory);
+    assert_eq!(shown.to_string(), "out of memory");
+}
+
+/// A movie with a track of track_ID 7, which has three samples in two chunks.
+fn movie() -> Vec<u8> {
+    let boxed = |name: &str, parts: &[Vec<u8>]| {
+        let mut bytes = (8 + parts.iter().map(Vec::len).sum::<usize>() as u32).to_be_bytes().to_vec();
+        bytes.extend(name.as_bytes());
+        parts.iter().for_each(|it| bytes.extend(it));
+        bytes
+    };
+    let stbl = [
+        table_box("stsz", 0, 0, &[0, 3, 3, 4, 5]),
+        table_box("stsc", 0, 0, &[1, 1, 2, 1]),
+        table_box("stco", 0, 0, &[2, 100, 107]),
+        table_box("stts", 0, 0, &[1, 3, 10]),
+        table_box("stss", 0, 0, &[2, 1, 3]),
+    ];
+    let mut tkhd = vec![0, 0, 0, 7];
+    tkhd.resize(84, 0);
+    tkhd[15] = 7;
+    let mut mdhd = vec![0; 24];
+    mdhd[14..16].copy_from_slice(&[3, 0xE8]);
+    let mut hdlr = vec![0; 25];
+    hdlr[8..12].copy_from_slice(b"vide");
+    let minf = boxed("minf", &[boxed("stbl", &stbl)]);
+    let mdia = boxed("mdia", &[boxed("mdhd", &[mdhd]), boxed("hdlr", &[hdlr]), minf]);
+    boxed("moov", &[boxed("trak", &[boxed("tkhd", &[tkhd]), mdia])])
+}
+
+#[test]
+fn finding() {
+    let file = movie();
+    let found = find(&file, "moov/trak/mdia/minf/stbl/stts").unwrap().unwrap();
+    let position = file.windows(4).position(|it| it == b"stts").unwrap() as u64 - 4;
+    let expected = Place { position, length: 24, header_length: 8, code: 0x73747473, is_whole: 1 };
+    assert_eq!(found, expected);
+    assert_eq!(find(&file, "moov/trak[1]"), Ok(None));
+    assert_eq!(find(&file, "moov/trak["), Err(Error::InvalidData));
+}
+
+#[test]
+fn samples_of_a_track() {
+    let file = movie();
+    let found = samples(&file, 7).unwrap();
+    let places: Vec<_> = found.iter().map(|it| (it.offset, it.size, it.decode_time, it.chunk, it.sync)).collect();
+    assert_eq!(places, [(100, 3, 0, 1, 1), (103, 4, 10, 1, 0), (107, 5, 20, 2, 1)]);
+    assert_eq!(samples(&file, 8), Err(Error::NoTrack));
+    assert_eq!(samples(&file, 8).unwrap_err().to_string(), "no track has the track_ID");
+    let position = find(&file, "moov/trak/mdia/minf/stbl/stts").unwrap().unwrap().position as usize;
+    let mut shorter = file.clone();
+    shorter[position + 19] = 2;
+    assert_eq!(samples(&shorter, 7), Err(Error::TablesDisagree(115)));
+}
+
+#[test]
+fn what_the_library_is() {
+    let numbers: Vec<u32> = env!("CARGO_PKG_VERSION").split('.').map(|it| it.parse().unwrap()).collect();
+    assert_eq!(version(), numbers[0] * 1_000_000 + numbers[1] * 1000 + numbers[2]);
+    assert_eq!(status_text(2), "invalid data");
+}
+
+#[test]
+fn many_rows() {
+    let numbers: Vec<u32> = [1_000_000].into_iter().chain(1..=1_000_000).collect();
+    assert_eq!(stss(&table_box("stss", 0, 0, &numbers)).unwrap().rows, numbers[1..]);
+}

@@ -1,0 +1,67 @@
+//! The boxes whose headers are in a part of the input.
+
+ghost use Rattle.std.specs.Prelude.{◌≡◌, ◌+◌, ◌<◌, ◌≤◌, ◌^◌, ℕ, List, length, IfOk, IfSome, IfNone};
+ghost use Rattle.mp4_boxes.specs.Parts.{HasPart, HeadIn, IsFew, LinesTo, ListsTo};
+
+use crate::line::push_line;
+use mp4_frame::{BoxSpan, BoxType, Error, Head, Result, frame_of_head};
+
+/// What comes after the boxes that are listed.
+#[derive(Clone, Copy, Debug)]
+pub enum Next {
+    /// The box at this offset, whose header is not read yet, or not whole; at the end of the input there is none.
+    Box(u64),
+    /// The last box, at this offset and of this name, which goes to the end of the input.
+    Last(u64, BoxType),
+}
+
+/// The head of the box at an offset of a part, or None if the part ends before the header does.
+fn head_in(part: &[u8], from: u64, at: u64) -> Result<Option<Head>>
+    requires room { from + length part.now < 2 ^ 64 }
+    requires within { from ≤ at }
+    ensures head { (B rest : List ℕ) → HasPart B from part.now rest → HeadIn B (from + length part.now) at result }
+    ensures room { IfOk result (λ found. IfSome found (λ h. (at ≤ h.start) × (h.start + 8 ≤ from + length part.now))) }
+    ensures few { IfOk result (λ found. IfNone found (from + length part.now < at + 16)) }
+{
+    match Head::at(part, at - from) {
+        Ok(head) => Ok(Some(Head {
+            start: from + head.start,
+            ..head
+        })),
+        Err(e) => match e {
+            Error::IoError => Ok(None),
+            e => Err(e),
+        },
+    }
+}
+
+/// Appends the lines of the boxes from the offset `next` on whose headers are in the part, which is at the offset
+/// `from` of the input.
+pub fn list_part(lines: &mut Vec<u8>, part: &[u8], from: u64, mut next: u64) -> Result<Next>
+    requires room { from + length part.now < 2 ^ 64 }
+    requires within { from ≤ next }
+    ensures few { IfOk result (λ after. IsFew (from + length part.now) next after) }
+    ensures lines { (B rest : List ℕ) → HasPart B from part.now rest → LinesTo B lines.old.items next
+        → ListsTo B (from + length part.now) lines.new.items result }
+{
+    let read = from + part.len() as u64;
+    while next < read {
+        let found = head_in(part, from, next)?;
+        let head = match found {
+            Some(head) => head,
+            None => return Ok(Next::Box(next)),
+        };
+        if head.size == 0 {
+            return Ok(Next::Last(next, BoxType::from(head.code)));
+        }
+        let frame = frame_of_head(u64::MAX, head)?;
+        let span = BoxSpan {
+            position: next,
+            length: frame.end - next,
+            name: frame.name,
+        };
+        push_line(lines, span)?;
+        next = frame.end;
+    }
+    Ok(Next::Box(next))
+}

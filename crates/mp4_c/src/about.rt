@@ -1,0 +1,71 @@
+//! What the library says of itself: its version, and what its statuses mean.
+
+ghost use Rattle.std.specs.Prelude.{◌≡◌, length};
+ghost use Rattle.mp4_c.specs.Handed.{IsHanded};
+ghost use Rattle.mp4_c.specs.declared.about.TheConstants as constants;
+
+use crate::handed::{Handed, hand_over};
+use crate::status::{
+    BOX_NOT_FOUND, CHUNK_COUNT, CHUNK_ORDER, CHUNKS, DURATIONS, END_OF_INPUT, FIRST_CHUNK,
+    INVALID_DATA, NO_ROOM, NO_TRACK, OFFSET, OK, OUT_OF_MEMORY, SAMPLE_SIZES, SYNC_SAMPLES,
+};
+
+/// The version of the codec as a number: a million for each major version, a thousand for each minor one, and one for
+/// each patch.
+pub const VERSION: u32 = 1_000;
+
+/// The version of the library.
+#[unsafe(no_mangle)]
+pub extern "C" fn mp4_version() -> u32
+    ensures { result ≡ constants.VERSION }
+{
+    VERSION
+}
+
+/// What a status means, for a person to read.
+fn text_of(status: u32) -> &'static str {
+    match status {
+        OK => "done",
+        END_OF_INPUT => "unexpected end of input",
+        INVALID_DATA => "invalid data",
+        BOX_NOT_FOUND => "box not found",
+        OUT_OF_MEMORY => "out of memory",
+        NO_ROOM => "the array has too few places",
+        NO_TRACK => "no track has the track_ID",
+        SAMPLE_SIZES => "stsz lists another number of sizes than it counts samples",
+        FIRST_CHUNK => "stsc begins at another chunk than 1",
+        CHUNK_ORDER => "an entry of stsc begins no later than the one before it",
+        CHUNK_COUNT => "there are 2^32 chunks or more",
+        CHUNKS => "the chunks hold fewer samples than stsz counts",
+        DURATIONS => "stts has a duration for fewer samples than stsz counts",
+        SYNC_SAMPLES => "an entry of stss is not above the one before it",
+        OFFSET => "a chunk begins too far out for the bytes of all samples",
+        _ => "unknown status",
+    }
+}
+
+impl Handed<u8, usize> for &'static str {
+    ghost rows = { λ v. v.now };
+
+    ghost summary = { λ v. length v.now };
+
+    fn count(&self) -> usize {
+        self.len()
+    }
+
+    fn row(&self, index: usize) -> u8 {
+        self.as_bytes()[index]
+    }
+
+    fn summary(&self) -> usize {
+        self.len()
+    }
+}
+
+/// Hands over what a status means, in English, as characters of ASCII with no zero after them.
+#[unsafe(no_mangle)]
+pub extern "C" fn mp4_status_text(status: u32, text: &mut [u8], count: &mut usize) -> u32
+    ensures { IsHanded result text.old text.new count.new }
+{
+    hand_over(Ok(text_of(status)), text, count)
+}

@@ -1,0 +1,152 @@
+-- Rows that are written one after the other.
+use Rattle.std.proofs.Common.{◌≡◌, ℕ, suc, ◌+◌, ◌<◌, ◌≤◌, Bool, true, false, List, [], ◌∷◌, ◌++◌, length, take, None}
+use Rattle.std.proofs.Common.{Some, Result, Ok, Err, refl, sym, ap, subst, ◌∙◌, append_assoc, arith, add-one}
+use Rattle.std.specs.Prelude.{OnErr}
+use Rattle.std.specs.declared.option.Option.{Option}
+use Rattle.std.proofs.KnownBytes.{Appends-nil, Appends-trans}
+use Rattle.std.specs.Io.KnownBytes.{Appends}
+use Rattle.mp4_samples.specs.declared.sample.Sample.{Sample}
+use Rattle.mp4_inspect_samples.specs.Row.{row_of}
+use Rattle.mp4_inspect_samples.specs.RowText.{row_text}
+use Rattle.mp4_inspect_samples.specs.Rows.{Follow, rows_text, is_after, Begins, WritesRows, BeginsRows}
+use Rattle.mp4_inspect_samples.specs.declared.row.Row.{Row}
+use Rattle.mp4_inspect_samples.specs.declared.row_text.Form.{Form}
+
+-- what holds of any outcome holds of a failed one
+pub on_err : {A E P : Type 0} (r : Result A E) → P → OnErr r P
+on_err (Ok v) p = tt
+on_err (Err e) p = p
+
+-- one sample more
+follow_more : (Is : ℕ → Sample → Type 0) (k : ℕ) (xs : List Sample) (x : Sample) → Follow Is k xs → Is (k + length xs) x
+    → Follow Is k (xs ++ x ∷ [])
+follow_more Is k [] x follow is = (subst (λ (j : ℕ). Is j x) (omega arith) is, tt)
+follow_more Is k (y ∷ xs) x follow is =
+    (follow.0, follow_more Is (k + 1) xs x follow.1 (subst (λ (j : ℕ). Is j x) (omega arith) is))
+
+after_more : (b : Bool) (xs : List Sample) (x : Sample) → true ≡ is_after b (xs ++ x ∷ [])
+after_more b [] x = refl
+after_more b (y ∷ xs) x = refl
+
+length_more : (xs : List Sample) (x : Sample) → length (xs ++ x ∷ []) ≡ length xs + 1
+length_more [] x = refl
+length_more (y ∷ xs) x = let next : suc (length xs + 1) ≡ suc (length xs) + 1 =
+    omega arith in ap suc (length_more xs x) ∙ next
+
+append_nil : (xs : List ℕ) → xs ++ [] ≡ xs
+append_nil [] = refl
+append_nil (x ∷ xs) = ap (λ (ys : List ℕ). x ∷ ys) (append_nil xs)
+
+text_more : (form : Form) (track : ℕ) (b : Bool) (n : ℕ) (xs : List Sample) (x : Sample)
+    → rows_text form track b n (xs ++ x ∷ []) ≡ rows_text form track b n xs
+    ++ row_text form (is_after b xs) (row_of track (n + length xs + 1) x)
+text_more form track b n [] x = append_nil _ ∙ ap (λ (j : ℕ). row_text form b (row_of track j x)) (omega arith)
+text_more form track b n (y ∷ xs) x =
+    ap (λ (t : List ℕ). row_text form b (row_of track (n + 1) y) ++ t)
+    (text_more form track true (n + 1) xs x ∙ ap (λ (t : List ℕ). rows_text form track true (n + 1) xs ++ t) (same xs))
+    ∙ sym (append_assoc (row_text form b (row_of track (n + 1) y)) (rows_text form track true (n + 1) xs) _)
+  where
+    same : (xs : List Sample)
+        → row_text form (is_after true xs) (row_of track (n + 1 + length xs + 1) x)
+        ≡ row_text form true (row_of track (n + suc (length xs) + 1) x)
+    same [] = ap (λ (j : ℕ). row_text form true (row_of track j x)) (omega arith)
+    same (z ∷ zs) = ap (λ (j : ℕ). row_text form true (row_of track j x)) (omega arith)
+
+take_past : (xs ys : List ℕ) (k : ℕ) → take (length xs + k) (xs ++ ys) ≡ xs ++ take k ys
+take_past [] ys k = ap (λ (j : ℕ). take j ys) (omega arith)
+take_past (x ∷ xs) ys k =
+    let next : length (x ∷ xs) + k ≡ suc (length xs + k) = omega arith in
+    ap (λ (j : ℕ). take j (x ∷ (xs ++ ys))) next ∙ ap (λ (zs : List ℕ). x ∷ zs) (take_past xs ys k)
+
+module _ (Is : ℕ → Sample → Type 0) (form : Form) (track n : ℕ) (follows : Bool) where
+  pub writes_none : (old : Option (List ℕ)) → WritesRows Is form track n 0 follows follows old old
+  writes_none old = record { samples = []; are = tt; count = refl; after = refl; bytes = Appends-nil old }
+
+  -- the row of the next sample is written
+  pub writes_more : (m : ℕ) (is_followed : Bool) (old mid new : Option (List ℕ)) (x : Sample)
+      → WritesRows Is form track n m follows is_followed old mid → Is m x
+      → Appends mid new (row_text form is_followed (row_of track (n + m + 1) x))
+      → WritesRows Is form track n (m + 1) follows true old new
+  writes_more m is_followed old mid new x rows is row = record {
+    samples = rows.samples ++ x ∷ [];
+    are = follow_more Is 0 rows.samples x rows.are
+        (let counted = rows.count in let here : m ≡ 0 + length rows.samples =
+        omega (arith, counted) in subst (λ (j : ℕ). Is j x) here is);
+    count = length_more rows.samples x ∙ ap (λ (j : ℕ). j + 1) rows.count;
+    after = after_more follows rows.samples x;
+    bytes =
+        subst (λ (t : List ℕ). Appends old new t) (sym (text_more form track follows n rows.samples x))
+        (Appends-trans old mid new (rows_text form track follows n rows.samples) _ rows.bytes
+        (subst (λ (j : ℕ). Appends mid new (row_text form (is_after follows rows.samples) (row_of track (n + j + 1) x)))
+        (sym rows.count)
+        (subst (λ (b : Bool). Appends mid new (row_text form b (row_of track (n + m + 1) x))) rows.after row)));
+  }
+
+  -- a beginning of the row of the next sample is written
+  pub begins_more : (m : ℕ) (is_followed : Bool) (old mid new : Option (List ℕ)) (x : Sample)
+      → WritesRows Is form track n m follows is_followed old mid → Is m x
+      → Begins mid new (row_text form is_followed (row_of track (n + m + 1) x))
+      → BeginsRows Is form track n follows old new
+  begins_more m is_followed old mid new x rows is row = record {
+    samples = rows.samples ++ x ∷ [];
+    are = follow_more Is 0 rows.samples x rows.are
+        (let counted = rows.count in let here : m ≡ 0 + length rows.samples =
+        omega (arith, counted) in subst (λ (j : ℕ). Is j x) here is);
+    bytes = record {
+      count = length (rows_text form track follows n rows.samples) + row.count;
+      bytes =
+          subst (λ (t : List ℕ).
+          Appends old new (take (length (rows_text form track follows n rows.samples) + row.count) t))
+          (sym (text_more form track follows n rows.samples x))
+          (subst (λ (t : List ℕ). Appends old new t)
+          (sym (take_past (rows_text form track follows n rows.samples) _ row.count))
+          (Appends-trans old mid new (rows_text form track follows n rows.samples) _ rows.bytes
+          (subst (λ (j : ℕ). Appends mid new
+          (take row.count (row_text form (is_after follows rows.samples) (row_of track (n + j + 1) x))))
+          (sym rows.count)
+          (subst (λ (b : Bool). Appends mid new (take row.count (row_text form b (row_of track (n + m + 1) x))))
+          rows.after row.bytes))));
+    };
+  }
+
+  -- the same, of a row that is that of the sample
+  pub writes_next : (m m2 number : ℕ) (form2 : Form) (is_followed is_after : Bool) (old mid new : Option (List ℕ))
+      (x : Sample) (row : Row)
+      → WritesRows Is form track n m follows is_followed old mid → Is m x → m2 ≡ m + 1 → row ≡ row_of track number x
+      → number ≡ n + m + 1 → form2 ≡ form → is_after ≡ true
+      → Appends mid new (row_text form2 is_followed row) → WritesRows Is form track n m2 follows is_after old new
+  writes_next m m2 number form2 is_followed is_after old mid new x row rows is next same counted of after written =
+      subst (λ (b : Bool). WritesRows Is form track n m2 follows b old new) (sym after)
+      (subst (λ (j : ℕ). WritesRows Is form track n j follows true old new) (sym next)
+      (writes_more m is_followed old mid new x rows is
+      (subst (λ (f : Form). Appends mid new (row_text f is_followed (row_of track (n + m + 1) x))) of
+      (subst (λ (j : ℕ). Appends mid new (row_text form2 is_followed (row_of track j x))) counted
+      (subst (λ (r : Row). Appends mid new (row_text form2 is_followed r)) same written)))))
+
+  pub begins_next : (m number : ℕ) (form2 : Form) (is_followed : Bool) (old mid new : Option (List ℕ)) (x : Sample)
+      (row : Row)
+      → WritesRows Is form track n m follows is_followed old mid → Is m x → row ≡ row_of track number x
+      → number ≡ n + m + 1 → form2 ≡ form
+      → Begins mid new (row_text form2 is_followed row) → BeginsRows Is form track n follows old new
+  begins_next m number form2 is_followed old mid new x row rows is same counted of written =
+      begins_more m is_followed old mid new x rows is
+      (subst (λ (f : Form). Begins mid new (row_text f is_followed (row_of track (n + m + 1) x))) of
+      (subst (λ (j : ℕ). Begins mid new (row_text form2 is_followed (row_of track j x))) counted
+      (subst (λ (r : Row). Begins mid new (row_text form2 is_followed r)) same written)))
+
+  -- a beginning of the rows of samples that are written
+  pub begins_all : (m : ℕ) (is_followed : Bool) (old new : Option (List ℕ))
+      → WritesRows Is form track n m follows is_followed old new → BeginsRows Is form track n follows old new
+  begins_all m is_followed old new rows = record {
+    samples = rows.samples;
+    are = rows.are;
+    bytes = record {
+      count = length (rows_text form track follows n rows.samples);
+      bytes =
+          subst (λ (t : List ℕ). Appends old new t) (sym (take_all _)) rows.bytes;
+    };
+  }
+    where
+      take_all : (xs : List ℕ) → take (length xs) xs ≡ xs
+      take_all [] = refl
+      take_all (x ∷ xs) = ap (λ (ys : List ℕ). x ∷ ys) (take_all xs)

@@ -1,0 +1,15 @@
+-- The rows of the samples so far are written.
+use Rattle.std.proofs.Common.{◌≡◌, ◌≤◌}
+use Rattle.mp4_samples.specs.Samples.{IsSample, sample_count}
+use Rattle.mp4_inspect_samples.specs.Rows.{WritesRows}
+use Rattle.mp4_inspect_samples.proofs.rows.write_rows.Given as goal
+
+abbrev pub invariant-loop : goal.invariant-loop
+invariant-loop g l = record {
+  tables : l.samples.tables ≡ l.tables;
+  within : l.samples.number ≤ sample_count l.tables;
+  form : l.sheet.form ≡ l.initial.sheet.form;
+  mark : l.output.failed ≡ l.initial.output.failed;
+  written : WritesRows (IsSample l.tables) l.initial.sheet.form l.track 0 l.samples.number l.initial.sheet.follows
+      l.sheet.follows (g.W.Write.contents l.initial.output.inner) (g.W.Write.contents l.output.inner);
+}

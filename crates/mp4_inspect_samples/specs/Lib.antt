@@ -1,0 +1,5 @@
+pub mod Own
+pub mod ReadTables
+pub mod Row
+pub mod RowText
+pub mod Rows

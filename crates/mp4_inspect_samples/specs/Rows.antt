@@ -1,0 +1,76 @@
+-- The rows of samples, one after the other. The bytes that a writer has are `Some` if they are known. Nothing is said
+-- of them if they are not.
+use Rattle.std.specs.Prelude.{◌≡◌, ◌≢◌, ℕ, ◌+◌, Bool, true, List, [], ◌∷◌, ◌++◌, length, take, ⊤, None, Some}
+use Rattle.std.specs.declared.option.Option.{Option}
+use Rattle.std.specs.Io.KnownBytes.{Appends}
+use Rattle.mp4_samples.specs.FragmentGives.{sample_total}
+use Rattle.mp4_samples.specs.Fragments.{IsFragmentSample, Faults}
+use Rattle.mp4_samples.specs.declared.fragment.Fragment.{Fragment}
+use Rattle.mp4_samples.specs.declared.fragment_fault.FragmentFault.{FragmentFault}
+use Rattle.mp4_samples.specs.declared.sample.Sample.{Sample}
+use Rattle.mp4_inspect_samples.specs.Row.{row_of}
+use Rattle.mp4_inspect_samples.specs.RowText.{row_text}
+use Rattle.mp4_inspect_samples.specs.declared.row_text.Form.{Form}
+use Rattle.mp4_inspect_samples.specs.declared.row_text.Form.TheVariants as forms
+use Rattle.mp4_inspect_samples.specs.declared.rows.FragmentEnd.{FragmentEnd}
+
+-- these are sample k and those after it
+abbrev pub Follow : (ℕ → Sample → Type 0) → ℕ → List Sample → Type 0
+Follow Is k [] = ⊤
+Follow Is k (x ∷ xs) = Is k x × Follow Is (k + 1) xs
+
+-- the rows of samples of a track, of which n come before them
+abbrev pub rows_text : Form → ℕ → Bool → ℕ → List Sample → List ℕ
+rows_text form track follows n [] = []
+rows_text form track follows n (x ∷ xs) =
+    row_text form follows (row_of track (n + 1) x) ++ rows_text form track true (n + 1) xs
+
+-- whether something is written after these rows
+abbrev pub is_after : Bool → List Sample → Bool
+is_after follows [] = follows
+is_after follows (x ∷ xs) = true
+
+-- a beginning of the text is appended
+pub record Begins (old new : Option (List ℕ)) (text : List ℕ) : Type 0 where
+  pub count : ℕ
+  pub bytes : Appends old new (take count text)
+
+-- the rows of the first m samples of a track are appended, of which n come before them
+pub record WritesRows (Is : ℕ → Sample → Type 0) (form : Form) (track n m : ℕ) (follows is_followed : Bool)
+    (old new : Option (List ℕ)) : Type 0 where
+  pub samples : List Sample
+  pub are : Follow Is 0 samples
+  pub count : length samples ≡ m
+  pub after : is_followed ≡ is_after follows samples
+  pub bytes : Appends old new (rows_text form track follows n samples)
+
+-- a beginning of the rows of the first samples of a track is appended, of which n come before them
+pub record BeginsRows (Is : ℕ → Sample → Type 0) (form : Form) (track n : ℕ) (follows : Bool)
+    (old new : Option (List ℕ)) : Type 0 where
+  pub samples : List Sample
+  pub are : Follow Is 0 samples
+  pub bytes : Begins old new (rows_text form track follows n samples)
+
+-- a fragment ends after m samples, or the next one can't be told
+abbrev pub EndsAfter : Fragment → ℕ → Option FragmentFault → Type 0
+EndsAfter f m None = m ≡ sample_total f
+EndsAfter f m (Some fault) = Faults f m fault
+
+-- the rows of the samples of a fragment are appended, all of them or those before the first that can't be told
+pub record WritesFragment (f : Fragment) (form : Form) (track n : ℕ) (follows is_followed : Bool)
+    (old new : Option (List ℕ)) (end : FragmentEnd) : Type 0 where
+  pub samples : ℕ
+  pub count : end.count ≡ n + samples
+  pub ends : EndsAfter f samples end.fault
+  pub rows : WritesRows (IsFragmentSample f) form track n samples follows is_followed old new
+
+-- whether rows follow something, after the heading of a track: as text they follow the heading
+abbrev pub is_headed : Form → Bool → Bool
+is_headed forms.Text follows = true
+is_headed _ follows = follows
+
+-- a heading is appended, and none unless rows are text
+pub record WritesHeading (form : Form) (old new : Option (List ℕ)) : Type 0 where
+  pub text : List ℕ
+  pub none : form ≢ forms.Text → text ≡ []
+  pub bytes : Appends old new text

@@ -1,0 +1,153 @@
+//! Writing the rows of samples.
+
+ghost use Rattle.std.specs.Prelude.{◌≡◌, ◌||◌, true, false, None, IfOk, OnOk, OnErr};
+ghost use Rattle.std.specs.Io.KnownBytes.{Appends};
+ghost use Rattle.mp4_io.specs.Ends.{is_write, is_read};
+ghost use Rattle.mp4_samples.specs.Fragments.{IsFragmentSample};
+ghost use Rattle.mp4_samples.specs.Samples.{IsSample, sample_count};
+ghost use Rattle.mp4_inspect_samples.specs.RowText.{row_text};
+ghost use Rattle.mp4_inspect_samples.specs.Rows.{Begins, WritesRows, BeginsRows, WritesFragment};
+
+use crate::row::{Row, row_of};
+use crate::row_text::{Form, push_row};
+use mp4_io::{Failure, Output, write_all};
+use mp4_samples::{Fragment, FragmentFault, SampleTables};
+use std::alloc::Global;
+use std::io::Write;
+
+/// How rows are written, and what is known of those before.
+#[derive(Drop)]
+pub struct Sheet {
+    /// How rows are written.
+    pub form: Form,
+    /// Whether a row or a heading was written before.
+    pub follows: bool,
+    /// The text of the last row or heading.
+    pub text: String,
+}
+
+impl Sheet {
+    /// A sheet on which nothing was written.
+    pub fn new(alloc: Global, form: Form) -> Sheet
+        ensures form { result.form ≡ form }
+        ensures none { result.follows ≡ false }
+    {
+        Sheet {
+            form,
+            follows: false,
+            text: String::new(alloc),
+        }
+    }
+}
+
+/// Writes a row.
+fn write_row<W: Write>(row: &Row, sheet: &mut Sheet, output: &mut Output<W>) -> Result<(), Failure>
+    ensures row { OnOk result
+        (Appends (W.contents output.old.inner) (W.contents output.new.inner)
+        (row_text sheet.old.form sheet.old.follows row.now)) }
+    ensures begins { OnErr result
+        (Begins (W.contents output.old.inner) (W.contents output.new.inner)
+        (row_text sheet.old.form sheet.old.follows row.now)) }
+    ensures form { sheet.new.form ≡ sheet.old.form }
+    ensures follows { OnOk result (sheet.new.follows ≡ true) }
+    ensures not_read { is_read result ≡ false }
+    ensures failed { output.new.failed ≡ (output.old.failed || is_write result) }
+{
+    sheet.text.clear();
+    push_row(sheet.form, sheet.follows, row, &mut sheet.text)?;
+    sheet.follows = true;
+    write_all(output, sheet.text.as_bytes())
+}
+
+/// Writes a row for each sample of the tables of a track.
+pub fn write_rows<W: Write>(
+    tables: &SampleTables<'_>,
+    track: u32,
+    sheet: &mut Sheet,
+    output: &mut Output<W>,
+) -> Result<(), Failure>
+    ensures rows { OnOk result
+        (WritesRows (IsSample tables.now) sheet.old.form track 0 (sample_count tables.now) sheet.old.follows
+        sheet.new.follows (W.contents output.old.inner) (W.contents output.new.inner)) }
+    ensures begins { OnErr result
+        (BeginsRows (IsSample tables.now) sheet.old.form track 0 sheet.old.follows (W.contents output.old.inner)
+        (W.contents output.new.inner)) }
+    ensures form { sheet.new.form ≡ sheet.old.form }
+    ensures not_read { is_read result ≡ false }
+    ensures failed { output.new.failed ≡ (output.old.failed || is_write result) }
+{
+    let mut samples = tables.samples();
+    for _ in 0..u64::MAX {
+        match samples.next() {
+            Some(sample) => {
+                write_row(
+                    &row_of(track, samples.number() as u64, &sample),
+                    sheet,
+                    output,
+                )?;
+            }
+            None => return Ok(()),
+        }
+    }
+    Err(Failure::Memory)
+}
+
+/// How the rows of a fragment end.
+#[derive(Clone, Copy, Debug, PartialEq, Eq)]
+pub struct FragmentEnd {
+    /// The number of the last sample of the track that is written.
+    pub count: u64,
+    /// When it ends, in the timescale of the media.
+    pub time: u64,
+    /// Why the next one can't be told, if there is one.
+    pub fault: Option<FragmentFault>,
+}
+
+/// Writes a row for each sample of a fragment of a track, up to the first that can't be told. `before` samples of the
+/// track come before it. 2^64 - 1 samples are out of memory.
+pub fn write_fragment_rows<W: Write>(
+    fragment: &Fragment<'_>,
+    track: u32,
+    before: u64,
+    sheet: &mut Sheet,
+    output: &mut Output<W>,
+) -> Result<FragmentEnd, Failure>
+    ensures rows { IfOk result
+        (WritesFragment fragment.now sheet.old.form track before sheet.old.follows sheet.new.follows
+        (W.contents output.old.inner) (W.contents output.new.inner)) }
+    ensures begins { OnErr result
+        (BeginsRows (IsFragmentSample fragment.now) sheet.old.form track before sheet.old.follows
+        (W.contents output.old.inner) (W.contents output.new.inner)) }
+    ensures form { sheet.new.form ≡ sheet.old.form }
+    ensures not_read { is_read result ≡ false }
+    ensures failed { output.new.failed ≡ (output.old.failed || is_write result) }
+{
+    let mut samples = fragment.samples();
+    let mut count = before;
+    for _ in 0..u64::MAX {
+        match samples.next() {
+            Some(Ok(sample)) => {
+                if count == u64::MAX {
+                    return Err(Failure::Memory);
+                }
+                count += 1;
+                write_row(&row_of(track, count, &sample), sheet, output)?;
+            }
+            Some(Err(fault)) => {
+                return Ok(FragmentEnd {
+                    count,
+                    time: samples.time(),
+                    fault: Some(fault),
+                });
+            }
+            None => {
+                return Ok(FragmentEnd {
+                    count,
+                    time: samples.time(),
+                    fault: None,
+                });
+            }
+        }
+    }
+    Err(Failure::Memory)
+}

@@ -1,0 +1,291 @@
+//! Writing the samples of a file.
+
+ghost use Rattle.std.specs.Prelude.{◌≡◌, false, IfOk, IfSome};
+ghost use Rattle.mp4_io.specs.Ends.{is_write};
+ghost use Rattle.mp4_tree.specs.Walk.{left};
+
+use crate::fault::{Fault, TrackFault};
+use crate::fragments::{FragmentBoxes, Place, read_fragment};
+use crate::heading::{write_end, write_front, write_heading};
+use crate::movie::{Movie, movie_of};
+use crate::places::{Places, places_of};
+use crate::row_text::Form;
+use crate::rows::{Sheet, write_fragment_rows, write_rows};
+use crate::stop::{Stop, keep, or_read};
+use crate::tables::{TrackTables, read_tables};
+use mp4_flat::TrexBox;
+use mp4_frame::u32_at;
+use mp4_io::{Failure, Output};
+use mp4_samples::SampleTables;
+use mp4_tree::{Source, Tree, TreeBox};
+use std::alloc::Global;
+use std::io::Write;
+
+/// Which samples are written, and how.
+#[derive(Clone, Copy, Debug, PartialEq, Eq)]
+pub struct Choice {
+    /// How rows are written.
+    pub form: Form,
+    /// The number of the track whose samples are written; those of all tracks if none.
+    pub track: Option<u32>,
+}
+
+impl Choice {
+    /// Whether the samples of a track are written.
+    fn has(self, track: u32) -> bool {
+        match self.track {
+            Some(one) => one == track,
+            None => true,
+        }
+    }
+}
+
+/// What has been written of a track.
+#[derive(Clone, Copy, Debug, PartialEq, Eq)]
+struct Reached {
+    /// How many samples.
+    count: u64,
+    /// When the last one ends, in the timescale of the media.
+    time: u64,
+}
+
+/// The boxes that are left of a walk, in order.
+fn boxes_left<S: Source>(alloc: Global, tree: &mut Tree<S>) -> Result<Vec<TreeBox>, Failure>
+    ensures boxes { IfSome tree.old.bytes (λ bytes. IfOk result (λ boxes. boxes.items ≡ left bytes tree.old)) }
+    ensures bytes { tree.new.bytes ≡ tree.old.bytes }
+    ensures not_write { is_write result ≡ false }
+{
+    let mut boxes = Vec::new(alloc);
+    while let Some(found) = or_read(tree.next())? {
+        if boxes.push(found).is_err() {
+            return Err(Failure::Memory);
+        }
+    }
+    Ok(boxes)
+}
+
+/// The number of a track in the content of its header, if that has all of its fields: it is after times of 4 bytes, or
+/// of 8 in version 1 (ISO/IEC 14496-12, 8.3.2).
+fn number_in(content: &[u8]) -> Option<u32> {
+    match content.first() {
+        Some(0) if content.len() >= 84 => Some(u32_at(content, 12)),
+        Some(1) if content.len() >= 96 => Some(u32_at(content, 20)),
+        _ => None,
+    }
+}
+
+/// The number of a track, if its header can be read.
+fn number_of<S: Source>(
+    alloc: Global,
+    tree: &mut Tree<S>,
+    places: &Places,
+) -> Result<Option<u32>, Failure> {
+    match places.header {
+        Some(found) if found.is_whole() => {
+            let content = or_read(tree.read_content(alloc, &found))?;
+            Ok(number_in(&content))
+        }
+        _ => Ok(None),
+    }
+}
+
+/// When the last sample of the tables ends; 0 if there is none.
+fn end_time(tables: &SampleTables<'_>) -> u64 {
+    let count = tables.len();
+    if count == 0 {
+        return 0;
+    }
+    match tables.sample(count - 1) {
+        Some(sample) => sample.start_time.saturating_add(u64::from(sample.duration)),
+        None => 0,
+    }
+}
+
+/// Writes the samples of the tables of a track, after its heading.
+fn write_tables<S: Source, W: Write>(
+    alloc: Global,
+    tree: &mut Tree<S>,
+    places: &Places,
+    track: u32,
+    read: &TrackTables,
+    sheet: &mut Sheet,
+    output: &mut Output<W>,
+) -> Result<Reached, Stop> {
+    let tables = match SampleTables::new(read.tables()) {
+        Ok(tables) => tables,
+        Err(disagreement) => return Err(Stop::Faulty(Fault::Tables(disagreement))),
+    };
+    write_heading(alloc, tree, places, track, sheet, output)?;
+    write_rows(&tables, track, sheet, output)?;
+    Ok(Reached {
+        count: u64::from(tables.len()),
+        time: end_time(&tables),
+    })
+}
+
+/// Writes the samples of a fragment. Returns what has been written of the track then.
+fn write_fragment<W: Write>(
+    read: &FragmentBoxes,
+    defaults: &TrexBox,
+    place: Place,
+    track: u32,
+    reached: Reached,
+    sheet: &mut Sheet,
+    output: &mut Output<W>,
+) -> Result<Reached, Stop> {
+    let fragment = read.fragment(defaults, place, reached.time)?;
+    let end = write_fragment_rows(&fragment, track, reached.count, sheet, output)?;
+    match end.fault {
+        Some(fault) => Err(Stop::Faulty(Fault::Fragment(place.moof, fault))),
+        None => Ok(Reached {
+            count: end.count,
+            time: end.time,
+        }),
+    }
+}
+
+/// The boxes from an index on.
+fn boxes_from(boxes: &[TreeBox], index: usize) -> &[TreeBox] {
+    &boxes[index.min(boxes.len())..]
+}
+
+/// Writes the samples of the fragments of a track, up to the first that has a fault.
+fn write_fragments<S: Source, W: Write>(
+    alloc: Global,
+    tree: &mut Tree<S>,
+    boxes: &[TreeBox],
+    movie: &Movie,
+    track: u32,
+    reached: Reached,
+    sheet: &mut Sheet,
+    output: &mut Output<W>,
+) -> Result<(), Stop> {
+    let Some(places) = movie.fragments.get(&track) else {
+        return Ok(());
+    };
+    let Some(defaults) = movie.defaults.get(&track) else {
+        return Err(Stop::Faulty(Fault::Missing("trex")));
+    };
+    let mut reached = reached;
+    for place in places {
+        let read = read_fragment(alloc, tree, boxes_from(boxes, place.index), place.moof)?;
+        reached = write_fragment(&read, defaults, *place, track, reached, sheet, output)?;
+    }
+    Ok(())
+}
+
+/// Writes the samples of a track: those of its tables, and then those of its fragments.
+fn write_track<S: Source, W: Write>(
+    alloc: Global,
+    tree: &mut Tree<S>,
+    boxes: &[TreeBox],
+    movie: &Movie,
+    places: &Places,
+    track: u32,
+    sheet: &mut Sheet,
+    output: &mut Output<W>,
+) -> Result<(), Stop> {
+    let reached = match read_tables(alloc, tree, places)? {
+        Some(read) => write_tables(alloc, tree, places, track, &read, sheet, output)?,
+        None => {
+            write_heading(alloc, tree, places, track, sheet, output)?;
+            Reached { count: 0, time: 0 }
+        }
+    };
+    write_fragments(alloc, tree, boxes, movie, track, reached, sheet, output)
+}
+
+/// Keeps the fault of a track, if it has one.
+fn keep_fault(
+    outcome: Result<(), Stop>,
+    track: Option<u32>,
+    faults: &mut Vec<TrackFault>,
+) -> Result<(), Failure> {
+    match outcome {
+        Ok(()) => Ok(()),
+        Err(Stop::Failed(failure)) => Err(failure),
+        Err(Stop::Faulty(fault)) => {
+            keep(faults, TrackFault { track, fault })?;
+            Ok(())
+        }
+    }
+}
+
+/// Writes the samples of a track, the `trak` of this index, if they are chosen, and keeps its fault.
+fn enter_track<S: Source, W: Write>(
+    alloc: Global,
+    tree: &mut Tree<S>,
+    boxes: &[TreeBox],
+    index: usize,
+    movie: &mut Movie,
+    choice: Choice,
+    sheet: &mut Sheet,
+    output: &mut Output<W>,
+    faults: &mut Vec<TrackFault>,
+) -> Result<(), Failure> {
+    let own = boxes_from(boxes, index);
+    let places = places_of(own);
+    let Some(track) = number_of(alloc, tree, &places)? else {
+        let position = own.first().map_or(0, |found| found.position);
+        let fault = Err(Stop::Faulty(Fault::NoHeader(position)));
+        return keep_fault(fault, None, faults);
+    };
+    if choice.has(track) {
+        let outcome = write_track(alloc, tree, boxes, movie, &places, track, sheet, output);
+        keep_fault(outcome, Some(track), faults)?;
+    }
+    movie.leave(track)?;
+    Ok(())
+}
+
+/// Keeps the faults of fragments whose track is in no `moov`, and of a chosen track that the file doesn't have.
+fn keep_unknown(
+    movie: &Movie,
+    choice: Choice,
+    faults: &mut Vec<TrackFault>,
+) -> Result<(), Failure> {
+    for (track, _) in &movie.fragments {
+        if choice.has(*track) {
+            let fault = Err(Stop::Faulty(Fault::Missing("trak")));
+            keep_fault(fault, Some(*track), faults)?;
+        }
+    }
+    if let Some(track) = choice.track
+        && !movie.known.contains_key(&track)
+        && !movie.fragments.contains_key(&track)
+    {
+        let fault = Err(Stop::Faulty(Fault::Missing("trak")));
+        keep_fault(fault, Some(track), faults)?;
+    }
+    if !movie.is_movie {
+        keep_fault(Err(Stop::Faulty(Fault::NoMovie)), None, faults)?;
+    }
+    Ok(())
+}
+
+/// Writes the samples of a file: a row for each, those of one track after the other, and of a track first those of its
+/// tables and then those of its fragments. Faults of tracks are kept, and the samples of the other tracks are written.
+pub fn write_samples<S: Source, W: Write>(
+    alloc: Global,
+    source: S,
+    choice: Choice,
+    output: &mut Output<W>,
+    faults: &mut Vec<TrackFault>,
+) -> Result<(), Failure> {
+    let mut tree = or_read(Tree::new(alloc, source))?;
+    let boxes = boxes_left(alloc, &mut tree)?;
+    let mut movie = movie_of(alloc, &mut tree, &boxes, faults)?;
+    let mut sheet = Sheet::new(alloc, choice.form);
+    write_front(choice.form, output)?;
+    for place in 0..movie.tracks.len() {
+        let Some(index) = movie.tracks.get(place) else {
+            break;
+        };
+        let index = *index;
+        enter_track(
+            alloc, &mut tree, &boxes, index, &mut movie, choice, &mut sheet, output, faults,
+        )?;
+    }
+    keep_unknown(&movie, choice, faults)?;
+    write_end(choice.form, output)
+}

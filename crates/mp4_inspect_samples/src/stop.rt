@@ -1,0 +1,66 @@
+//! Why the samples of a track are not written.
+
+ghost use Rattle.std.specs.Prelude.{◌≡◌, ◌≢◌, false, Ok, IfOk};
+ghost use Rattle.std.specs.IoError.{error_kind};
+ghost use Rattle.mp4_io.specs.Ends.{is_write};
+ghost use Rattle.mp4_io.specs.declared.failure.Failure.TheVariants.{Memory};
+ghost use Rattle.mp4_inspect_samples.specs.declared.stop.Stop.TheVariants.{Failed};
+
+use crate::fault::Fault;
+use mp4_io::Failure;
+use std::alloc::AllocError;
+use std::io;
+use std::io::ErrorKind;
+
+/// Why the samples of a track are not written, or not all of them.
+#[derive(Debug, Drop)]
+pub enum Stop {
+    /// A call failed: no more is read or written.
+    Failed(Failure),
+    /// The track has a fault: the other tracks are written.
+    Faulty(Fault),
+}
+
+impl From<Failure> for Stop {
+    ghost from_gives = { λ failure stop. stop ≡ Failed failure };
+
+    fn from(failure: Failure) -> Stop {
+        Stop::Failed(failure)
+    }
+}
+
+impl From<AllocError> for Stop {
+    ghost from_gives = { λ _ stop. stop ≡ Failed Memory };
+
+    fn from(_error: AllocError) -> Stop {
+        Stop::Failed(Failure::Memory)
+    }
+}
+
+/// The failure of a read.
+fn read_failure(error: &io::Error) -> Failure
+    ensures memory { error_kind error.now ≡ ErrorKind.OutOfMemory → result ≡ Failure.Memory }
+    ensures read { error_kind error.now ≢ ErrorKind.OutOfMemory → result ≡ Failure.Read }
+{
+    match error.kind() {
+        ErrorKind::OutOfMemory => Failure::Memory,
+        _ => Failure::Read,
+    }
+}
+
+/// What a read returned.
+pub fn or_read<T: Drop>(outcome: io::Result<T>) -> Result<T, Failure>
+    ensures ok { IfOk result (λ value. outcome ≡ Ok value) }
+    ensures not_write { is_write result ≡ false }
+{
+    match outcome {
+        Ok(value) => Ok(value),
+        Err(error) => Err(read_failure(&error)),
+    }
+}
+
+/// Appends an item.
+pub fn keep<T: Drop>(items: &mut Vec<T>, item: T) -> Result<(), AllocError> {
+    items.push(item)?;
+    Ok(())
+}

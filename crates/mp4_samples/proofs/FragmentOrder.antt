@@ -1,0 +1,288 @@
+-- Samples of a fragment one after the other, in their run and in time.
+use Rattle.std.proofs.Common.{◌≡◌, ℕ, ℤ, Bool, zero, suc, pos, ◌+◌, ◌+ℤ◌, ◌-◌, ◌<◌, ◌≤◌, ◌⊎◌, inl, inr, length, get_or}
+use Rattle.std.proofs.Common.{refl, sym, ap, ◌∙◌, arith}
+use Rattle.std.specs.List.{sum_by}
+use Rattle.std.proofs.lemmas.Bool.{cases_lt, cases_order}
+use Rattle.std.proofs.lemmas.List.{take_all, get_or_past}
+use Rattle.std.proofs.lemmas.Int.{ints}
+use Rattle.mp4_tables.specs.declared.trun.TrunBox.{TrunBox}
+use Rattle.mp4_samples.specs.declared.sample.Sample.{Sample}
+use Rattle.mp4_samples.specs.declared.fragment.Fragment.{Fragment}
+use Rattle.mp4_samples.specs.Fragments.{IsSampleOfRun, IsFragmentSample, start_of, time_before, bytes_before}
+use Rattle.mp4_samples.specs.Fragments.{time_of_runs, samples_of_runs, run_at, no_run, sample_offset, sample_time}
+use Rattle.mp4_samples.specs.Fragments.{size_in, duration_in, rendering_offset_in, is_sync_in}
+use Rattle.mp4_samples.specs.FragmentGives.{sample_total}
+use Rattle.mp4_samples.specs.FragmentLaws.{FragmentSampleIsUnique, RunSamplesAreAdjacent, RunSamplesDoNotOverlap}
+use Rattle.mp4_samples.specs.FragmentLaws.{FragmentTimesFollow, FragmentTimesDoNotDecrease, FragmentBegins}
+use Rattle.mp4_samples.specs.FragmentLaws.{FragmentDurationsAddUp, FragmentCountsAddUp, FragmentSamplesAreCounted}
+use Rattle.mp4_samples.proofs.Fragments.{no_time, no_runs_time, no_runs_samples, bytes_more, time_more, next_offset}
+use Rattle.mp4_samples.proofs.Fragments.{runs_time_more, runs_samples_more, room}
+
+module _ (f : Fragment) where
+  -- a run with a sample is one of the runs
+  is_run : (r j : ℕ) → j < (run_at f r).sample_count → r < length f.runs.now
+  is_run r j lt = elim (cases_lt r (length f.runs.now)) [
+    | inl less ↦ less
+    | inr le ↦
+        let past = ap (λ (t : TrunBox). t.sample_count) (get_or_past f.runs.now r no_run le) in
+        absurd (omega (arith, past, lt))
+  ]
+
+  samples_further : (r n : ℕ) → r + n ≤ length f.runs.now → samples_of_runs f r ≤ samples_of_runs f (r + n)
+  samples_further r zero le =
+      let same : r + zero ≡ r = omega arith in
+      rw same (omega arith)
+  samples_further r (suc n) le =
+      let rest = samples_further r n (omega arith) in
+      let more = runs_samples_more f (r + n) (omega arith) in
+      let one : r + n + 1 ≡ r + suc n = omega arith in
+      let more' : samples_of_runs f (r + suc n) ≡ samples_of_runs f (r + n) + (run_at f (r + n)).sample_count =
+      rw one at more in
+      omega (arith, rest, more')
+
+  samples_le : (r s : ℕ) → r ≤ s → s ≤ length f.runs.now → samples_of_runs f r ≤ samples_of_runs f s
+  samples_le r s le all =
+      let far : r + (s - r) ≡ s = omega arith in
+      rw far at (samples_further r (s - r) (omega arith))
+
+  -- the runs from r on are empty as long as no sample is counted, and take no time
+  times_further : (r n : ℕ) → r + n ≤ length f.runs.now
+      → (time_of_runs f r ≤ time_of_runs f (r + n))
+      × (samples_of_runs f (r + n) ≡ samples_of_runs f r → time_of_runs f (r + n) ≡ time_of_runs f r)
+  times_further r zero le =
+      let same : r + zero ≡ r = omega arith in
+      rw same (omega arith, λ _. refl)
+  times_further r (suc n) le =
+      let rest = times_further r n (omega arith) in
+      let none = no_time f (run_at f (r + n)) in
+      let before = samples_further r n (omega arith) in
+      let one : r + n + 1 ≡ r + suc n = omega arith in
+      let counts : samples_of_runs f (r + suc n) ≡ samples_of_runs f (r + n) + (run_at f (r + n)).sample_count =
+      rw one at (runs_samples_more f (r + n) (omega arith)) in
+      let times : time_of_runs f (r + suc n) ≡ time_of_runs f (r + n) + time_before f (run_at f (r + n))
+      (run_at f (r + n)).sample_count = rw one at (runs_time_more f (r + n) (omega arith)) in (
+        omega (arith, rest.0, times),
+        λ is.
+            let empty : (run_at f (r + n)).sample_count ≡ 0 = omega (arith, counts, is, before) in
+            let nothing = ap (time_before f (run_at f (r + n))) empty in
+            let so_far = rest.1 (omega (arith, counts, is, empty)) in
+            omega (arith, times, nothing, none, so_far),
+      )
+
+  times_le : (r s : ℕ) → r ≤ s → s ≤ length f.runs.now → time_of_runs f r ≤ time_of_runs f s
+  times_le r s le all =
+      let far : r + (s - r) ≡ s = omega arith in
+      (rw far at (times_further r (s - r) (omega arith))).0
+
+  times_same : (r s : ℕ) → r ≤ s → s ≤ length f.runs.now → samples_of_runs f s ≡ samples_of_runs f r
+      → time_of_runs f s ≡ time_of_runs f r
+  times_same r s le all =
+      let far : r + (s - r) ≡ s = omega arith in
+      (rw far at (times_further r (s - r) (omega arith))).1
+
+  time_within : (t : TrunBox) (j n : ℕ) → time_before f t j ≤ time_before f t (j + n)
+  time_within t j zero =
+      let same : j + zero ≡ j = omega arith in
+      rw same (omega arith)
+  time_within t j (suc n) =
+      let rest = time_within t j n in
+      let one : j + n + 1 ≡ j + suc n = omega arith in
+      let more : time_before f t (j + suc n) ≡ time_before f t (j + n) + duration_in f t (j + n) =
+      rw one at (time_more f t (j + n)) in
+      omega (arith, rest, more)
+
+  time_le : (t : TrunBox) (i j : ℕ) → i ≤ j → time_before f t i ≤ time_before f t j
+  time_le t i j le =
+      let far : i + (j - i) ≡ j = omega arith in
+      rw far at (time_within t i (j - i))
+
+  bytes_within : (t : TrunBox) (j n : ℕ) → bytes_before f t j ≤ bytes_before f t (j + n)
+  bytes_within t j zero =
+      let same : j + zero ≡ j = omega arith in
+      rw same (omega arith)
+  bytes_within t j (suc n) =
+      let rest = bytes_within t j n in
+      let one : j + n + 1 ≡ j + suc n = omega arith in
+      let more : bytes_before f t (j + suc n) ≡ bytes_before f t (j + n) + size_in f t (j + n) =
+      rw one at (bytes_more f t (j + n)) in
+      omega (arith, rest, more)
+
+  bytes_le : (t : TrunBox) (i j : ℕ) → i ≤ j → bytes_before f t i ≤ bytes_before f t j
+  bytes_le t i j le =
+      let far : i + (j - i) ≡ j = omega arith in
+      rw far at (bytes_within t i (j - i))
+
+  -- sample k is sample j of run r, and sample l is sample i of run s
+  module _ (k l r j s i : ℕ) (here : samples_of_runs f r + j ≡ k) (counted : j < (run_at f r).sample_count)
+      (there : samples_of_runs f s + i ≡ l) (counted' : i < (run_at f s).sample_count) where
+    run_le : k ≤ l → r ≤ s
+    run_le le = elim (cases_lt s r) [
+      | inl lt ↦
+          let more = runs_samples_more f s (is_run s i counted') in
+          let far = samples_le (s + 1) r (omega arith) (omega (arith, is_run r j counted)) in
+          absurd (omega (arith, more, far, here, there, counted', le))
+      | inr le' ↦ le'
+    ]
+
+    -- the end of sample k
+    end_before : k < l → sample_time f r (j + 1) ≤ sample_time f s i
+    end_before lt = elim (cases_order r s) [
+      | inl same ↦
+          let start = ap (samples_of_runs f) same in
+          let le = time_le (run_at f s) (j + 1) i (omega (arith, start, here, there, lt)) in
+          rw same (omega (arith, le))
+      | inr rest ↦ elim rest [
+        | inl less ↦
+            let whole = time_le (run_at f r) (j + 1) (run_at f r).sample_count (omega (arith, counted)) in
+            let more = runs_time_more f r (is_run r j counted) in
+            let far = times_le (r + 1) s (omega arith) (omega (arith, is_run s i counted')) in
+            omega (arith, whole, more, far)
+        | inr more ↦
+            let le = run_le (omega arith) in
+            absurd (omega (arith, le, more))
+      ]
+    ]
+
+    -- and the beginning of the next one
+    end_at : l ≡ k + 1 → sample_time f s i ≡ sample_time f r (j + 1)
+    end_at next = elim (cases_order r s) [
+      | inl same ↦
+          let start = ap (samples_of_runs f) same in
+          let one : i ≡ j + 1 = omega (arith, start, here, there, next) in
+          rw (same, one) refl
+      | inr rest ↦ elim rest [
+        | inl less ↦
+            let counts = runs_samples_more f r (is_run r j counted) in
+            let within = is_run s i counted' in
+            let far = samples_le (r + 1) s (omega arith) (omega (arith, within)) in
+            let last : j + 1 ≡ (run_at f r).sample_count = omega (arith, counts, far, here, there, next, counted) in
+            let first : i ≡ 0 = omega (arith, counts, far, here, there, next, counted) in
+            let same = times_same (r + 1) s (omega arith) (omega (arith, within))
+            (omega (arith, counts, far, here, there, next, counted)) in
+            let times = runs_time_more f r (is_run r j counted) in
+            let whole = ap (time_before f (run_at f r)) last in
+            let none = no_time f (run_at f s) in
+            let nothing = ap (time_before f (run_at f s)) first in
+            omega (arith, same, times, whole, none, nothing)
+        | inr more ↦
+            let le = run_le (omega (arith, next)) in
+            absurd (omega (arith, le, more))
+      ]
+    ]
+
+stop_time : (f : Fragment) (r j : ℕ) (s : Sample) → IsSampleOfRun f r j s
+    → s.start_time + s.duration ≡ sample_time f r (j + 1)
+stop_time f r j s is =
+    let more = time_more f (run_at f r) j in
+    omega (arith, more, is.start_time, is.duration)
+
+pub follow : FragmentTimesFollow
+follow f k a b (r, j, here, x) (s, i, there, y) =
+    y.start_time ∙ end_at f k (k + 1) r j s i here x.counted there y.counted refl ∙ sym (stop_time f r j a x)
+
+pub in_order : FragmentTimesDoNotDecrease
+in_order f m k a b lt (r, j, here, x) (s, i, there, y) =
+    let le = end_before f m k r j s i here x.counted there y.counted lt in
+    let stop = stop_time f r j a x in
+    omega (arith, le, stop, y.start_time)
+
+pub apart : RunSamplesDoNotOverlap
+apart f m k a b lt (r, j, here, x) (s, i, there, y) same =
+    let one : r ≡ s = omega (arith, x.chunk, y.chunk, same) in
+    let start = ap (samples_of_runs f) one in
+    let next = next_offset f r j in
+    let size = ap pos x.size in
+    let begin : pos a.offset ≡ sample_offset f s j = rw one at x.offset in
+    let size' : a.size ≡ size_in f (run_at f s) j = rw one at x.size in
+    let more = bytes_more f (run_at f s) j in
+    let le = bytes_le f (run_at f s) (j + 1) i (omega (arith, start, here, there, lt)) in
+    omega (arith, ints, begin, size', more, le, y.offset)
+
+pub adjacent : RunSamplesAreAdjacent
+adjacent f k a b (r, j, here, x) (s, i, there, y) same =
+    let one : r ≡ s = omega (arith, x.chunk, y.chunk, same) in
+    let start = ap (samples_of_runs f) one in
+    let begin : pos a.offset ≡ sample_offset f s j = rw one at x.offset in
+    let size' : a.size ≡ size_in f (run_at f s) j = rw one at x.size in
+    let more = bytes_more f (run_at f s) j in
+    let after : i ≡ j + 1 = omega (arith, start, here, there) in
+    let bytes = ap (bytes_before f (run_at f s)) after in
+    omega (arith, ints, begin, size', more, bytes, y.offset)
+
+pub counted : FragmentSamplesAreCounted
+counted f k s (r, j, here, x) =
+    let less = room f r j (is_run f r j x.counted) x.counted in
+    omega (arith, less, here)
+
+pub counts_add_up : FragmentCountsAddUp
+unfolding samples_of_runs
+counts_add_up f = ap (sum_by (λ (t : TrunBox). t.sample_count)) (take_all (length f.runs.now) f.runs.now (omega arith))
+
+pub begins : FragmentBegins
+begins f s (r, j, here, x) =
+    let none = no_runs_samples f in
+    let first : j ≡ 0 = omega (arith, here) in
+    let within = is_run f r j x.counted in
+    let same = times_same f 0 r (omega arith) (omega (arith, within)) (omega (arith, here, none)) in
+    let none' = no_runs_time f in
+    let nothing = ap (time_before f (run_at f r)) first in
+    let nothing' = no_time f (run_at f r) in
+    omega (arith, x.start_time, same, none', nothing, nothing')
+
+all_times : (f : Fragment)
+    → time_of_runs f (length f.runs.now) ≡ sum_by (λ t. time_before f t t.sample_count) f.runs.now
+unfolding time_of_runs
+all_times f = ap (sum_by (λ (t : TrunBox). time_before f t t.sample_count))
+    (take_all (length f.runs.now) f.runs.now (omega arith))
+
+pub durations_add_up : FragmentDurationsAddUp
+durations_add_up f k s last (r, j, here, x) =
+    let within = is_run f r j x.counted in
+    let counts = runs_samples_more f r within in
+    let far = samples_le f (r + 1) (length f.runs.now) (omega arith) (omega arith) in
+    let end : j + 1 ≡ (run_at f r).sample_count = omega (arith, counts, far, here, last, x.counted) in
+    let same = times_same f (r + 1) (length f.runs.now) (omega arith) (omega arith)
+    (omega (arith, counts, far, here, last, end)) in
+    let times = runs_time_more f r within in
+    let whole = ap (time_before f (run_at f r)) end in
+    let stop = stop_time f r j s x in
+    let all = all_times f in
+    omega (arith, stop, same, times, whole, all)
+
+made : (o s t d : ℕ) (r : ℤ) (i : Bool) (e c : ℕ) → Sample
+made o s t d r i e c =
+    record {
+      offset = o;
+      size = s;
+      start_time = t;
+      duration = d;
+      rendering_offset = r;
+      is_sync =
+          i;
+      sample_description_index = e;
+      chunk = c;
+    }
+
+made_alike : (a b : Sample) → a.offset ≡ b.offset → a.size ≡ b.size → a.start_time ≡ b.start_time
+    → a.duration ≡ b.duration → a.rendering_offset ≡ b.rendering_offset → a.is_sync ≡ b.is_sync
+    → a.sample_description_index ≡ b.sample_description_index → a.chunk ≡ b.chunk
+    → made a.offset a.size a.start_time a.duration a.rendering_offset a.is_sync a.sample_description_index a.chunk
+    ≡ made b.offset b.size b.start_time b.duration b.rendering_offset b.is_sync b.sample_description_index b.chunk
+made_alike a b o s t d r i e c = cc
+
+one_of_run : (f : Fragment) (r j : ℕ) (a b : Sample) → IsSampleOfRun f r j a → IsSampleOfRun f r j b → a ≡ b
+unfolding made
+one_of_run f r j a b x y =
+    let offset : a.offset ≡ b.offset = omega (arith, ints, x.offset, y.offset) in
+    made_alike a b offset (x.size ∙ sym y.size) (x.start_time ∙ sym y.start_time) (x.duration ∙ sym y.duration)
+    (x.rendering_offset ∙ sym y.rendering_offset) (x.sync ∙ sym y.sync) (x.description ∙ sym y.description)
+    (x.chunk ∙ sym y.chunk)
+
+pub unique : FragmentSampleIsUnique
+unique f k a b (r, j, here, x) (s, i, there, y) =
+    let le = run_le f k k r j s i here x.counted there y.counted (omega arith) in
+    let ge = run_le f k k s i r j there y.counted here x.counted (omega arith) in
+    let one : s ≡ r = omega (arith, le, ge) in
+    let start = ap (samples_of_runs f) one in
+    let same : i ≡ j = omega (arith, start, here, there) in
+    one_of_run f r j a b x (rw (one, same) at y)

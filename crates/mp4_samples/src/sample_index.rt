@@ -1,0 +1,117 @@
+//! An index over the tables of a track.
+
+ghost use Rattle.std.specs.Prelude.{◌≡◌, ◌<◌, ◌≤◌, ◌↔◌, IfSome, IfNone, IsSome, IsTrue};
+ghost use Rattle.mp4_samples.specs.Runs.{Covers, start_of};
+ghost use Rattle.mp4_samples.specs.Samples.{AreConsistent, IsSample, sample_count};
+ghost use Rattle.mp4_samples.specs.Syncs.{IsLastSync, HasNoSync, IsLastSyncAt, HasNoSyncAt};
+ghost use Rattle.mp4_samples.specs.Index.{IsSampleAt};
+ghost use Rattle.mp4_samples.specs.Marks.{AreMarks, bytes_of_marks};
+
+use crate::lookup_by_marks::{number_by_marks, sample_by_marks};
+use crate::marks::Marks;
+use crate::sample::Sample;
+use crate::syncs::{last_sync, last_sync_at};
+use crate::tables::Tables;
+use std::marker::Model;
+
+/// The tables of a track, which agree with one another, and where their runs begin: so that each sample is found in a
+/// step each time that the runs can be halved, by its number and by its time. It is made by `SampleTables::index`,
+/// which says what memory it takes. Contracts see an `Indexed`.
+#[derive(Drop)]
+pub struct SampleIndex<'a> {
+    tables: Tables<'a>,
+    marks: Marks,
+}
+
+impl<'a> Model for SampleIndex<'a> {
+    ghost use Rattle.mp4_samples.specs.Index.{Indexed};
+    ghost use Rattle.mp4_samples.specs.Marks.{IsIndex, bytes_of_marks};
+
+    ghost Value = { Indexed };
+
+    ghost view = { λ s. record { tables = s.tables; bytes = bytes_of_marks s.marks } };
+
+    ghost invariant = { λ s. IsIndex s.tables s.marks };
+}
+
+impl<'a> SampleIndex<'a> {
+    /// The index of these marks.
+    pub(crate) fn new(tables: Tables<'a>, marks: Marks) -> SampleIndex<'a>
+        requires consistent { AreConsistent tables }
+        requires marks { AreMarks tables marks }
+        ensures tables { result.tables ≡ tables.entry }
+        ensures bytes { result.bytes ≡ bytes_of_marks marks }
+    {
+        SampleIndex { tables, marks }
+    }
+
+    /// How many samples there are.
+    pub fn len(&self) -> u32
+        ensures { result ≡ sample_count self.now.tables }
+    {
+        self.tables.stsz.sample_count
+    }
+
+    /// Whether there is no sample.
+    pub fn is_empty(&self) -> bool
+        ensures { IsTrue result ↔ (sample_count self.now.tables ≡ 0) }
+    {
+        self.tables.stsz.sample_count == 0
+    }
+
+    /// The sample of a number, counted from 0; none from `len` on. Where sizes are listed, it adds up to 126 of them.
+    pub fn sample(&self, number: u32) -> Option<Sample>
+        ensures sample { IfSome result (IsSample self.now.tables number) }
+        ensures counted { IsSome result ↔ (number < sample_count self.now.tables) }
+    {
+        if number >= self.tables.stsz.sample_count {
+            return None;
+        }
+        Some(sample_by_marks(&self.tables, &self.marks, number))
+    }
+
+    /// The number of the sample that lasts at a time, in the timescale of the media; none from the end of the last one
+    /// on. A sample without a duration lasts at no time.
+    pub fn number_at(&self, time: u64) -> Option<u32>
+        ensures within { IfSome result (λ number. number < sample_count self.now.tables) }
+        ensures covers { IfSome result (Covers self.now.tables.stts.now.entries time) }
+        ensures none { IfNone result (start_of self.now.tables.stts.now.entries (sample_count self.now.tables) ≤ time) }
+    {
+        number_by_marks(
+            self.tables.stts.entries.as_slice(),
+            self.marks.firsts.as_slice(),
+            self.marks.times.as_slice(),
+            self.tables.stsz.sample_count,
+            time,
+        )
+    }
+
+    /// The sample that lasts at a time; none from the end of the last one on.
+    pub fn sample_at(&self, time: u64) -> Option<Sample>
+        ensures some { IfSome result (IsSampleAt self.now.tables time) }
+        ensures none { IfNone result (start_of self.now.tables.stts.now.entries (sample_count self.now.tables) ≤ time) }
+    {
+        match self.number_at(time) {
+            Some(number) => Some(sample_by_marks(&self.tables, &self.marks, number)),
+            None => None,
+        }
+    }
+
+    /// The number of the last sync sample at or before the sample of a number. From `len` on that is the last one of
+    /// the track; none if there is none.
+    pub fn last_sync(&self, number: u32) -> Option<u32>
+        ensures some { IfSome result (IsLastSync self.now.tables number) }
+        ensures none { IfNone result (HasNoSync self.now.tables number) }
+    {
+        last_sync(&self.tables, number)
+    }
+
+    /// The number of the last sync sample that starts at a time or before, in the timescale of the media: that from
+    /// which a decoder can begin. None if there is none.
+    pub fn last_sync_at(&self, time: u64) -> Option<u32>
+        ensures some { IfSome result (IsLastSyncAt self.now.tables time) }
+        ensures none { IfNone result (HasNoSyncAt self.now.tables time) }
+    {
+        last_sync_at(&self.tables, time, self.number_at(time))
+    }
+}

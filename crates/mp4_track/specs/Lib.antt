@@ -1,0 +1,5 @@
+pub mod Front
+pub mod Paths
+pub mod Levels
+pub mod Tables
+pub mod Tracks

@@ -1,0 +1,104 @@
+//! Tracks of a file that was worked out by hand.
+
+use mp4_frame::{Error, FourCC};
+use mp4_samples::SampleTables;
+use mp4_track::{ChunkBox, TrackError, track_of};
+use std::alloc::{AllocError, Global};
+use std::test::Fail;
+
+/// The headers of a movie of 429 bytes and of a track of 100 bytes.
+const MOVIE: &[u8] = b"\0\0\x01\xADmoov\0\0\0\x64trak";
+
+/// A track header up to the track_ID, in 20 bytes. After it follow 68 bytes.
+const HEADER: &[u8] = b"\0\0\0\x5Ctkhd\0\0\0\x07\0\0\0\0\0\0\0\0";
+
+/// A track of 321 bytes up to its header.
+const TRACK: &[u8] = b"\0\0\x01\x41trak";
+
+/// Its media of 221 bytes, with a timescale of 1000, up to its sample table of 140 bytes.
+const MEDIA: &[u8] = b"\0\0\0\xDDmdia\
+    \0\0\0\x20mdhd\0\0\0\0\0\0\0\0\0\0\0\0\0\0\x03\xE8\0\0\0\x1E\x55\xC4\0\0\
+    \0\0\0\x21hdlr\0\0\0\0\0\0\0\0vide\0\0\0\0\0\0\0\0\0\0\0\0\0\
+    \0\0\0\x94minf\0\0\0\x8Cstbl";
+
+/// Three samples of 3, 4 and 5 bytes, two in the first chunk and one in the second. The first and the last are sync
+/// samples.
+const TABLES: &[u8] = b"\0\0\0\x20stsz\0\0\0\0\0\0\0\0\0\0\0\x03\0\0\0\x03\0\0\0\x04\0\0\0\x05\
+    \0\0\0\x1Cstsc\0\0\0\0\0\0\0\x01\0\0\0\x01\0\0\0\x02\0\0\0\x01\
+    \0\0\0\x18stco\0\0\0\0\0\0\0\x02\0\0\x01\xB5\0\0\x01\xBC\
+    \0\0\0\x18stts\0\0\0\0\0\0\0\x01\0\0\0\x03\0\0\0\x0A\
+    \0\0\0\x18stss\0\0\0\0\0\0\0\x02\0\0\0\x01\0\0\0\x03";
+
+/// The samples.
+const DATA: &[u8] = b"\0\0\0\x14mdatabcdefghijkl";
+
+fn push_header(file: &mut Vec<u8>, track_id: u8) -> Result<(), AllocError> {
+    file.extend_from_slice(HEADER)?;
+    file.extend_from_slice(&[0, 0, 0, track_id])?;
+    file.extend_from_slice(&[0; 68])?;
+    Ok(())
+}
+
+/// A file with a track of track_ID 5 that has no media, and one of track_ID 7.
+fn file(alloc: Global) -> Result<Vec<u8>, AllocError> {
+    let mut file = Vec::new(alloc);
+    file.extend_from_slice(MOVIE)?;
+    push_header(&mut file, 5)?;
+    file.extend_from_slice(TRACK)?;
+    push_header(&mut file, 7)?;
+    file.extend_from_slice(MEDIA)?;
+    file.extend_from_slice(TABLES)?;
+    file.extend_from_slice(DATA)?;
+    Ok(file)
+}
+
+#[test]
+fn track_is_found_by_its_id(rt: HostRuntime) -> Result<(), Fail> {
+    let file = file(rt.alloc())?;
+    let track = track_of(rt.alloc(), &file, 7)?;
+    assert_eq!(rt; track.number, 1);
+    assert_eq!(rt; track.media.timescale, 1000);
+    assert!(rt; track.handler.handler_type == FourCC { value: *b"vide" });
+    assert!(rt; matches!(track.tables.chunk_offsets, ChunkBox::Stco(_)));
+    assert!(rt; track.tables.ctts.is_none());
+    let tables = SampleTables::new(track.tables.tables())?;
+    assert!(rt;
+        tables
+            .sample(2)
+            .is_some_and(|sample| sample.offset == 444 && sample.is_sync)
+    );
+    Ok(())
+}
+
+#[test]
+fn track_is_not_found(rt: HostRuntime) -> Result<(), Fail> {
+    let file = file(rt.alloc())?;
+    assert!(rt; matches!(track_of(rt.alloc(), &file, 6), Err(TrackError::NoTrack(6))));
+    assert!(rt; matches!(track_of(rt.alloc(), DATA, 7), Err(TrackError::NoMovie)));
+    let mdia = FourCC { value: *b"mdia" };
+    let missing = track_of(rt.alloc(), &file, 5);
+    assert!(rt; matches!(missing, Err(TrackError::Missing { code }) if code == mdia));
+    Ok(())
+}
+
+#[test]
+fn fault_has_a_position(rt: HostRuntime) -> Result<(), Fail> {
+    let mut file = file(rt.alloc())?;
+    let stsz = FourCC { value: *b"stsz" };
+    file[316] = 9;
+    let fault = track_of(rt.alloc(), &file, 7);
+    assert!(rt;
+        matches!(
+            fault,
+            Err(TrackError::Fault {
+                code,
+                position: 297,
+                error: Error::InvalidData(_),
+            }) if code == stsz
+        )
+    );
+    file[301] = b'x';
+    let missing = track_of(rt.alloc(), &file, 7);
+    assert!(rt; matches!(missing, Err(TrackError::Missing { code }) if code == stsz));
+    Ok(())
+}

@@ -1,0 +1,155 @@
+/*
+ * What the callers in C share: requests for memory that are counted and refused, memory that ends with its page, and calls
+ * that are checked. A source that includes this includes nothing before it.
+ *
+ * The bytes end where a page ends behind which nothing may be read or written, and so do the arrays. The linker puts the
+ * functions below in the place of malloc, realloc and free (--wrap), so that requests can be counted and refused.
+ */
+#define _DEFAULT_SOURCE
+#include <stdio.h>
+#include <stdlib.h>
+#include <string.h>
+#include <sys/mman.h>
+#include <unistd.h>
+
+#include "mp4_box_codec.h"
+
+/* Requests for memory. */
+
+static long asked;   /* requests since the last call of `allow` */
+static long refused; /* the request that is refused, counted from 1; 0: none */
+static int later;    /* whether all requests after it are refused too */
+static long held;    /* blocks that were taken and not given back */
+
+void *__real_malloc(size_t size);
+void *__real_realloc(void *block, size_t size);
+void __real_free(void *block);
+void *__wrap_malloc(size_t size);
+void *__wrap_realloc(void *block, size_t size);
+void __wrap_free(void *block);
+
+static int refuses(void) {
+    asked += 1;
+    return asked == refused || (later && refused != 0 && asked > refused);
+}
+
+void *__wrap_malloc(size_t size) {
+    void *block = refuses() ? NULL : __real_malloc(size);
+    held += block != NULL;
+    return block;
+}
+
+void *__wrap_realloc(void *block, size_t size) {
+    void *moved = refuses() ? NULL : __real_realloc(block, size);
+    held += moved != NULL && block == NULL;
+    return moved;
+}
+
+void __wrap_free(void *block) {
+    held -= block != NULL;
+    __real_free(block);
+}
+
+static void refuse(long request, int and_later) {
+    asked = 0;
+    refused = request;
+    later = and_later;
+}
+
+/* Checks. */
+
+static const char *subject;
+static long checks, calls;
+
+static void expect(int holds, const char *text, int line) {
+    checks += 1;
+    if (!holds) {
+        printf("line %d: %s: %s\n", line, subject, text);
+        exit(1);
+    }
+}
+
+#define EXPECT(condition) expect((condition) != 0, #condition, __LINE__)
+
+/* Memory that ends with its page. */
+
+#define FILLER 0xA5
+
+static size_t pages_for(size_t size) {
+    size_t page = (size_t)sysconf(_SC_PAGESIZE);
+    return (size / page + 1) * page;
+}
+
+static void *at_page_end(size_t size) {
+    size_t page = (size_t)sysconf(_SC_PAGESIZE), whole = pages_for(size);
+    uint8_t *front = mmap(NULL, whole + page, PROT_READ | PROT_WRITE, MAP_PRIVATE | MAP_ANONYMOUS, -1, 0);
+    EXPECT(front != MAP_FAILED);
+    EXPECT(mprotect(front + whole, page, PROT_NONE) == 0);
+    memset(front, FILLER, whole);
+    return front + whole - size;
+}
+
+static void give_back(void *memory, size_t size) {
+    size_t page = (size_t)sysconf(_SC_PAGESIZE), whole = pages_for(size);
+    EXPECT(munmap((uint8_t *)memory + size - whole, whole + page) == 0);
+}
+
+static int is_filler(const void *memory, size_t size) {
+    const uint8_t *bytes = memory;
+    while (size > 0)
+        if (bytes[--size] != FILLER)
+            return 0;
+    return 1;
+}
+
+/* A function under test, in a form that is the same for all: rows and what is told are any memory. */
+
+typedef uint32_t call(const uint8_t *bytes, size_t length, void *rows, size_t places, void *told);
+
+struct subject {
+    const char *name;
+    call *function;
+    size_t row, told;                                   /* sizes */
+    int (*are_same)(const void *rows, size_t count);    /* whether the rows are those that are expected */
+    int (*is_told)(const void *told);                   /* whether what is told is what is expected */
+    size_t count;                                       /* the number of rows */
+    const uint8_t *bytes;
+    size_t length;
+    size_t borders[2];                                  /* where a cut is between two boxes, and no fault */
+};
+
+/* One call over the first bytes, with this many places: its status, and all that it may not change. */
+static uint32_t call_with(const struct subject *s, const uint8_t *bytes, size_t length, size_t places) {
+    size_t size = places * s->row;
+    uint8_t *input = at_page_end(length), *rows = at_page_end(size), *told = at_page_end(s->told);
+    uint32_t status;
+    memcpy(input, bytes, length);
+    calls += 1;
+    status = s->function(input, length, rows, places, told);
+    EXPECT(held == 0);
+    EXPECT(memcmp(input, bytes, length) == 0);
+    EXPECT(is_filler(rows - (pages_for(size) - size), pages_for(size) - size));
+    if (status == MP4_OK) {
+        EXPECT(places >= s->count);
+        EXPECT(s->are_same(rows, s->count));
+        EXPECT(is_filler(rows + s->count * s->row, size - s->count * s->row));
+    } else {
+        EXPECT(is_filler(rows, size));
+    }
+    if (status == MP4_OK || status == MP4_NO_ROOM)
+        EXPECT(s->is_told(told));
+    else
+        EXPECT(is_filler(told, s->told));
+    give_back(input, length);
+    give_back(rows, size);
+    give_back(told, s->told);
+    return status;
+}
+
+#define BYTES(text) (const uint8_t *)(text), sizeof(text) - 1
+
+/* Declares the function under test in the form that is the same for all. */
+#define AS_CALL(name, row_type, told_type) \
+    static uint32_t call_##name(const uint8_t *bytes, size_t length, void *rows, size_t places, void *told) { \
+        return mp4_##name(bytes, length, (row_type *)rows, places, (told_type *)told); \
+    }

@@ -1,0 +1,222 @@
+/*
+ * Calls the functions of include/mp4_box_codec.h that find the boxes of a file and the samples of a track, and those that
+ * say what the library is: arrays that are long enough and too short, each fault, each beginning of a file, memory that is
+ * refused. The file and its samples were worked out from ISO/IEC 14496-12.
+ */
+#include "c_checks.h"
+
+/* A track header up to the track_ID, and what follows it. */
+#define ZEROS_17 "\0\0\0\0\0\0\0\0\0\0\0\0\0\0\0\0\0"
+#define HEADER "\0\0\0\x5Ctkhd\0\0\0\7\0\0\0\0\0\0\0\0\0\0\0"
+#define REST ZEROS_17 ZEROS_17 ZEROS_17 ZEROS_17
+
+/* A movie with a track of track_ID 5 that has no media, and one of track_ID 7 with three samples of 3, 4 and 5 bytes. */
+static const char FILE_BYTES[] =
+    "\0\0\1\xADmoov"                                                          /* 0 */
+    "\0\0\0\x64trak" HEADER "\5" REST                                         /* 8 */
+    "\0\0\1\x41trak" HEADER "\7" REST                                         /* 108, its header at 116 */
+    "\0\0\0\xDDmdia"                                                          /* 208 */
+    "\0\0\0\x20mdhd\0\0\0\0\0\0\0\0\0\0\0\0\0\0\3\xE8\0\0\0\x1E\x55\xC4\0\0"  /* 216 */
+    "\0\0\0\x21hdlr\0\0\0\0\0\0\0\0vide\0\0\0\0\0\0\0\0\0\0\0\0\0"            /* 248 */
+    "\0\0\0\x94minf\0\0\0\x8Cstbl"                                            /* 281, 289 */
+    "\0\0\0\x20stsz\0\0\0\0\0\0\0\0\0\0\0\3\0\0\0\3\0\0\0\4\0\0\0\5"          /* 297 */
+    "\0\0\0\x1Cstsc\0\0\0\0\0\0\0\1\0\0\0\1\0\0\0\2\0\0\0\1"                  /* 329 */
+    "\0\0\0\x18stco\0\0\0\0\0\0\0\2\0\0\1\xB5\0\0\1\xBC"                      /* 357 */
+    "\0\0\0\x18stts\0\0\0\0\0\0\0\1\0\0\0\3\0\0\0\x0A"                        /* 381 */
+    "\0\0\0\x18stss\0\0\0\0\0\0\0\2\0\0\0\1\0\0\0\3"                          /* 405 */
+    "\0\0\0\x14mdatabcdefghijkl";                                             /* 429 */
+
+#define LENGTH (sizeof FILE_BYTES - 1)
+
+/* Where the boxes of the second track begin that have to be there, and stss, without which each sample is a sync sample. */
+static const size_t NEEDED[] = {216, 248, 297, 329, 357, 381, 405};
+static const size_t HOLDERS[] = {208, 281, 289};
+
+/* The status of the first bytes of the file: the first box that is missing or cut decides. */
+static uint32_t status_of_beginning(size_t cut) {
+    size_t i, end;
+    if (cut < 8)
+        return MP4_BOX_NOT_FOUND;
+    if (cut < 208)
+        return MP4_NO_TRACK;
+    for (i = 0; i < sizeof HOLDERS / sizeof *HOLDERS; i++)
+        if (cut >= HOLDERS[i] && cut < HOLDERS[i] + 8)
+            return MP4_BOX_NOT_FOUND;
+    for (i = 0; i < sizeof NEEDED / sizeof *NEEDED; i++) {
+        end = NEEDED[i] + (uint8_t)FILE_BYTES[NEEDED[i] + 3];
+        if (cut >= NEEDED[i] && cut < NEEDED[i] + 8)
+            return NEEDED[i] == 405 ? MP4_OK : MP4_BOX_NOT_FOUND;
+        if (cut >= NEEDED[i] && cut < end)
+            return MP4_END_OF_INPUT;
+    }
+    return MP4_OK;
+}
+
+static uint32_t track_id = 7;
+
+static uint32_t call_samples(const uint8_t *bytes, size_t length, void *rows, size_t places, void *told) {
+    return mp4_samples(bytes, length, track_id, (struct mp4_sample *)rows, places, (size_t *)told);
+}
+
+static int is_sample(const struct mp4_sample *s, uint64_t offset, uint64_t time, uint32_t size, uint32_t chunk, int sync) {
+    return s->offset == offset && s->decode_time == time && s->rendering_offset == 0 && s->size == size &&
+           s->duration == 10 && s->description == 1 && s->chunk == chunk && s->sync == sync;
+}
+
+static int are_samples(const void *rows, size_t count) {
+    const struct mp4_sample *s = rows;
+    return count == 3 && is_sample(&s[0], 437, 0, 3, 1, 1) && is_sample(&s[2], 444, 20, 5, 2, 1) &&
+           (is_sample(&s[1], 440, 10, 4, 1, 0) || is_sample(&s[1], 440, 10, 4, 1, 1));
+}
+
+static int is_three(const void *told) {
+    return *(const size_t *)told == 3;
+}
+
+/* A function over the whole file, whose every request for memory is refused, alone and with all after it. */
+static void refuse_each(const struct subject *s) {
+    long request, most;
+    subject = s->name;
+    refuse(0, 0);
+    EXPECT(call_with(s, s->bytes, s->length, s->count) == MP4_OK);
+    most = asked;
+    EXPECT(most > 0);
+    for (request = 1; request <= most; request++) {
+        uint32_t status;
+        refuse(request, 0);
+        status = call_with(s, s->bytes, s->length, s->count);
+        EXPECT(status == MP4_OUT_OF_MEMORY || status == MP4_OK);
+        refuse(request, 1);
+        EXPECT(call_with(s, s->bytes, s->length, s->count) == MP4_OUT_OF_MEMORY);
+    }
+    refuse(0, 0);
+}
+
+/* The status where one byte of the file is another. */
+static uint32_t with_byte(const struct subject *s, size_t at, uint8_t byte) {
+    uint8_t bytes[LENGTH];
+    memcpy(bytes, FILE_BYTES, LENGTH);
+    bytes[at] = byte;
+    return call_with(s, bytes, LENGTH, 3);
+}
+
+static void try_samples(void) {
+    struct subject s = {"mp4_samples", call_samples, sizeof(struct mp4_sample), sizeof(size_t), are_samples, is_three, 3, BYTES(FILE_BYTES), {0, 0}};
+    struct mp4_sample rows[3];
+    size_t cut, count = 0;
+    refuse_each(&s);
+    EXPECT(call_with(&s, s.bytes, LENGTH, 5) == MP4_OK);
+    EXPECT(call_with(&s, s.bytes, LENGTH, 0) == MP4_NO_ROOM);
+    EXPECT(call_with(&s, s.bytes, LENGTH, 2) == MP4_NO_ROOM);
+    for (cut = 0; cut < LENGTH; cut++)
+        EXPECT(call_with(&s, s.bytes, cut, 3) == status_of_beginning(cut));
+    memset(rows, 0, sizeof rows);
+    EXPECT(mp4_samples(s.bytes, LENGTH, 7, rows, 3, &count) == MP4_OK && count == 3);
+    EXPECT(rows[0].sync == 1 && rows[1].sync == 0 && rows[2].sync == 1);
+    EXPECT(memcmp(s.bytes + rows[2].offset, "hijkl", rows[2].size) == 0);
+    EXPECT(with_byte(&s, 316, 9) == MP4_INVALID_DATA);
+    EXPECT(with_byte(&s, 301, 'x') == MP4_BOX_NOT_FOUND);
+    EXPECT(with_byte(&s, 348, 2) == MP4_FIRST_CHUNK_DISAGREES);
+    EXPECT(with_byte(&s, 352, 1) == MP4_CHUNKS_DISAGREE);
+    EXPECT(with_byte(&s, 400, 2) == MP4_DURATIONS_DISAGREE);
+    EXPECT(with_byte(&s, 428, 1) == MP4_SYNC_SAMPLES_DISAGREE);
+    track_id = 6;
+    EXPECT(call_with(&s, s.bytes, LENGTH, 3) == MP4_NO_TRACK);
+    track_id = 5;
+    EXPECT(call_with(&s, s.bytes, LENGTH, 3) == MP4_BOX_NOT_FOUND);
+    track_id = 7;
+}
+
+/* mp4_find, in the form that is the same for all: its place is what is told. */
+
+static const char *path;
+
+static uint32_t call_find(const uint8_t *bytes, size_t length, void *rows, size_t places, void *told) {
+    size_t long_ = strlen(path);
+    uint8_t *text = at_page_end(long_);
+    uint32_t status;
+    (void)rows;
+    (void)places;
+    memcpy(text, path, long_);
+    status = mp4_find(bytes, length, text, long_, (struct mp4_place *)told);
+    give_back(text, long_);
+    return status;
+}
+
+static int no_rows(const void *rows, size_t count) {
+    (void)rows;
+    return count == 0;
+}
+
+static int is_stsz(const void *told) {
+    const struct mp4_place *place = told;
+    return place->position == 297 && place->length == 32 && place->header_length == 8 && place->code == 0x7374737A &&
+           place->is_whole == 1;
+}
+
+static void try_find(void) {
+    struct subject s = {"mp4_find", call_find, 1, sizeof(struct mp4_place), no_rows, is_stsz, 0, BYTES(FILE_BYTES), {0, 0}};
+    struct mp4_place place = {0, 0, 0, 0, 0};
+    size_t cut;
+    path = "moov/trak[1]/mdia/minf/stbl/stsz";
+    refuse_each(&s);
+    for (cut = 0; cut < 305; cut++)
+        EXPECT(call_with(&s, s.bytes, cut, 0) == MP4_BOX_NOT_FOUND);
+    for (cut = 329; cut <= LENGTH; cut++)
+        EXPECT(call_with(&s, s.bytes, cut, 0) == MP4_OK);
+    EXPECT(mp4_find(s.bytes, 305, (const uint8_t *)path, strlen(path), &place) == MP4_OK);
+    EXPECT(place.position == 297 && place.length == 32 && place.is_whole == 0);
+    path = "moov/trak/mdia";
+    EXPECT(call_with(&s, s.bytes, LENGTH, 0) == MP4_BOX_NOT_FOUND);
+    path = "moov/trak[1]/mdi";
+    EXPECT(call_with(&s, s.bytes, LENGTH, 0) == MP4_INVALID_DATA);
+    path = "moov/trak[one]";
+    EXPECT(call_with(&s, s.bytes, LENGTH, 0) == MP4_INVALID_DATA);
+    path = "moov/\xFF\xFFtr";
+    EXPECT(call_with(&s, s.bytes, LENGTH, 0) == MP4_INVALID_DATA);
+    path = "";
+    EXPECT(call_with(&s, s.bytes, LENGTH, 0) == MP4_INVALID_DATA);
+    EXPECT(mp4_find((const uint8_t *)"\0\0\0\1free\0\0\0\0\0\0\0\x10", 16, MP4_TEXT("free"), &place) == MP4_OK);
+    EXPECT(place.position == 0 && place.length == 16 && place.header_length == 16 && place.code == 0x66726565);
+}
+
+/* What the library says of itself. */
+
+static void try_about(void) {
+    static const uint32_t STATUSES[] = {MP4_OK, MP4_END_OF_INPUT, MP4_INVALID_DATA, MP4_BOX_NOT_FOUND,
+        MP4_OUT_OF_MEMORY, MP4_NO_ROOM, MP4_NO_TRACK, MP4_SAMPLE_SIZES_DISAGREE, MP4_FIRST_CHUNK_DISAGREES,
+        MP4_CHUNK_ORDER_DISAGREES, MP4_CHUNK_COUNT_DISAGREES, MP4_CHUNKS_DISAGREE, MP4_DURATIONS_DISAGREE,
+        MP4_SYNC_SAMPLES_DISAGREE, MP4_OFFSETS_DISAGREE};
+    uint8_t text[100], other[100];
+    size_t i, j, count = 0, unknown = 0;
+    int major, minor, patch;
+    subject = "what the library says of itself";
+    EXPECT(mp4_version() == MP4_VERSION_NUMBER);
+    EXPECT(sscanf(MP4_VERSION, "%d.%d.%d", &major, &minor, &patch) == 3);
+    EXPECT(MP4_VERSION_NUMBER == 1000000 * major + 1000 * minor + patch);
+    EXPECT(mp4_status_text(12345, other, sizeof other, &unknown) == MP4_OK);
+    EXPECT(unknown == strlen("unknown status") && memcmp(other, "unknown status", unknown) == 0);
+    for (i = 0; i < sizeof STATUSES / sizeof *STATUSES; i++) {
+        EXPECT(mp4_status_text(STATUSES[i], text, sizeof text, &count) == MP4_OK);
+        EXPECT(count > 3 && (count != unknown || memcmp(text, other, count) != 0));
+        for (j = 0; j < count; j++)
+            EXPECT(text[j] >= ' ' && text[j] <= '~');
+    }
+    EXPECT(mp4_status_text(MP4_OUT_OF_MEMORY, text, 13, &count) == MP4_OK);
+    EXPECT(count == 13 && memcmp(text, "out of memory", 13) == 0);
+    text[0] = 7;
+    EXPECT(mp4_status_text(MP4_OUT_OF_MEMORY, text, 12, &count) == MP4_NO_ROOM && count == 13 && text[0] == 7);
+}
+
+/* With an argument the file is written, for other programs. */
+int main(int arguments, char **argument) {
+    (void)argument;
+    if (arguments > 1)
+        return fwrite(FILE_BYTES, 1, LENGTH, stdout) != LENGTH;
+    EXPECT(LENGTH == 449);
+    try_find();
+    try_samples();
+    try_about();
+    printf("c_samples: %ld calls of 4 functions, %ld checks\n", calls, checks);
+    return 0;
+}
