@@ -46,32 +46,35 @@ fn delayed(alloc: Global) -> mp4_frame::Result<ElstBox> {
     elst_of(alloc, 0, &[edit(300, 0xFFFF_FFFF, 1), edit(1200, 2048, 1)])
 }
 
+/// Whether samples are presented after the empty edit, and those before the media time not at all.
+fn are_presented_after_an_empty_edit(edits: &Edits<'_>) -> bool {
+    edits.len() == 2
+        && edits.ticks_per_second() == 28_800_000
+        && are(edits, 2047, &[])
+        && are(edits, 2048, &[(1, 14_400_000)])
+        && are(edits, 50_048, &[(1, 43_200_000)])
+        && are(edits, 98_047, &[(1, 71_999_400)])
+        && are(edits, 98_048, &[])
+}
+
+/// Whether nothing is shown in the empty edit, and then two seconds of the media.
+fn show_the_media_after_an_empty_edit(edits: &Edits<'_>) -> bool {
+    edits.edit_at(14_399_999) == Some(0)
+        && edits.media_time_at(14_399_999).is_none()
+        && edits.media_time_at(14_400_000) == Some(1_228_800)
+        && edits.media_time_at(71_999_999) == Some(58_828_799)
+        && edits.media_units(58_828_799) == 98_047
+        && edits.movie_units(71_999_999) == 1499
+        && edits.edit_at(72_000_000).is_none()
+        && edits.media_time_at(72_000_000).is_none()
+}
+
 #[test]
 fn an_empty_edit_and_a_media_time(rt: HostRuntime) -> Result<(), Fail> {
     let elst = delayed(rt.alloc())?;
     let edits = Edits::new(Some(&elst), 600, 48000)?;
-    assert_eq!(rt; edits.len(), 2);
-    assert_eq!(rt; edits.ticks_per_second(), 28_800_000);
-    assert!(rt; are(&edits, 2047, &[]));
-    assert!(rt; are(&edits, 2048, &[(1, 14_400_000)]));
-    assert!(rt; are(&edits, 50_048, &[(1, 43_200_000)]));
-    assert!(rt; are(&edits, 98_047, &[(1, 71_999_400)]));
-    assert!(rt; are(&edits, 98_048, &[]));
-    Ok(())
-}
-
-#[test]
-fn what_is_shown_after_an_empty_edit(rt: HostRuntime) -> Result<(), Fail> {
-    let elst = delayed(rt.alloc())?;
-    let edits = Edits::new(Some(&elst), 600, 48000)?;
-    assert_eq!(rt; edits.edit_at(14_399_999), Some(0));
-    assert_eq!(rt; edits.media_time_at(14_399_999), None);
-    assert_eq!(rt; edits.media_time_at(14_400_000), Some(1_228_800));
-    assert_eq!(rt; edits.media_time_at(71_999_999), Some(58_828_799));
-    assert_eq!(rt; edits.media_units(58_828_799), 98_047);
-    assert_eq!(rt; edits.movie_units(71_999_999), 1499);
-    assert_eq!(rt; edits.edit_at(72_000_000), None);
-    assert_eq!(rt; edits.media_time_at(72_000_000), None);
+    assert!(rt; are_presented_after_an_empty_edit(&edits));
+    assert!(rt; show_the_media_after_an_empty_edit(&edits));
     Ok(())
 }
 
@@ -86,24 +89,24 @@ fn still(alloc: Global) -> mp4_frame::Result<ElstBox> {
     elst_of(alloc, 1, &edits)
 }
 
+/// Whether the second edit shows one unit, and the others what is around it.
+fn dwell(edits: &Edits<'_>) -> bool {
+    let last = [(0, 44_999_000), (1, 45_000_000), (2, 157_499_000)];
+    are(edits, 44_999, &[])
+        && are(edits, 45_000, &[(2, 67_500_000)])
+        && are(edits, 90_000, &[(0, 0), (2, 112_500_000)])
+        && are(edits, 134_999, &last)
+        && are(edits, 135_000, &[])
+        && edits.media_time_at(45_000_000) == Some(134_999_000)
+        && edits.media_time_at(67_499_999) == Some(134_999_000)
+        && edits.media_time_at(67_500_000) == Some(45_000_000)
+}
+
 #[test]
 fn three_edits_with_a_dwell(rt: HostRuntime) -> Result<(), Fail> {
     let elst = still(rt.alloc())?;
     let edits = Edits::new(Some(&elst), 1000, 90_000)?;
-    assert!(rt; are(&edits, 44_999, &[]));
-    assert!(rt; are(&edits, 45_000, &[(2, 67_500_000)]));
-    assert!(rt; are(&edits, 90_000, &[(0, 0), (2, 112_500_000)]));
-    assert!(rt;
-        are(
-            &edits,
-            134_999,
-            &[(0, 44_999_000), (1, 45_000_000), (2, 157_499_000)]
-        )
-    );
-    assert!(rt; are(&edits, 135_000, &[]));
-    assert_eq!(rt; edits.media_time_at(45_000_000), Some(134_999_000));
-    assert_eq!(rt; edits.media_time_at(67_499_999), Some(134_999_000));
-    assert_eq!(rt; edits.media_time_at(67_500_000), Some(45_000_000));
+    assert!(rt; dwell(&edits));
     Ok(())
 }
 
@@ -134,9 +137,10 @@ fn edits_without_a_duration(rt: HostRuntime) -> Result<(), Fail> {
         &[edit(0, 7, 1), edit(0, 9, 0), edit(0, 1024, 1)],
     )?;
     let edits = Edits::new(Some(&elst), 10, 1000)?;
-    assert!(rt; are(&edits, 9, &[]));
-    assert!(rt; are(&edits, 5024, &[(2, 40_000)]));
-    assert_eq!(rt; edits.media_time_at(40_000), Some(50_240));
+    let shown = are(&edits, 9, &[])
+        && are(&edits, 5024, &[(2, 40_000)])
+        && edits.media_time_at(40_000) == Some(50_240);
+    assert!(rt; shown);
     Ok(())
 }
 
@@ -225,12 +229,10 @@ fn the_latest_times(rt: HostRuntime) -> Result<(), Fail> {
     let elst = elst_of(rt.alloc(), 1, &[edit(u64::MAX, u64::MAX >> 1, 1)])?;
     let edits = Edits::new(Some(&elst), u32::MAX, u32::MAX)?;
     let last = 0x8000_0000_0000_0000 * u128::from(u32::MAX);
-    assert!(rt; are(&edits, u64::MAX, &[(0, last)]));
-    assert_eq!(rt;
-        edits.media_time_at(last),
-        Some(edits.media_ticks(u64::MAX))
-    );
-    assert_eq!(rt; edits.media_time_at(edits.movie_ticks(u64::MAX)), None);
+    let shown = are(&edits, u64::MAX, &[(0, last)])
+        && edits.media_time_at(last) == Some(edits.media_ticks(u64::MAX))
+        && edits.media_time_at(edits.movie_ticks(u64::MAX)).is_none();
+    assert!(rt; shown);
     Ok(())
 }
 
@@ -257,6 +259,14 @@ fn composition_times(rt: HostRuntime) -> Result<(), Fail> {
     Ok(())
 }
 
+/// Whether times in milliseconds are those of the empty edit and of the media after it.
+fn are_milliseconds(edits: &Edits<'_>) -> bool {
+    presented_at(edits, &sample(1024, 2048)) == Some(521)
+        && presented_at(edits, &sample(0, 1024)).is_none()
+        && media_time_after(edits, 499).is_none()
+        && media_time_after(edits, 1500) == Some(50_048)
+}
+
 #[test]
 fn milliseconds(rt: HostRuntime) -> Result<(), Fail> {
     let elst = delayed(rt.alloc())?;
@@ -265,9 +275,6 @@ fn milliseconds(rt: HostRuntime) -> Result<(), Fail> {
     let mut mdhd = MdhdBox::default_in(rt.alloc())?;
     mdhd.timescale = 48000;
     let edits = edits_of(Some(&elst), &mvhd, &mdhd)?;
-    assert_eq!(rt; presented_at(&edits, &sample(1024, 2048)), Some(521));
-    assert_eq!(rt; presented_at(&edits, &sample(0, 1024)), None);
-    assert_eq!(rt; media_time_after(&edits, 499), None);
-    assert_eq!(rt; media_time_after(&edits, 1500), Some(50_048));
+    assert!(rt; are_milliseconds(&edits));
     Ok(())
 }

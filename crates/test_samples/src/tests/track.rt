@@ -1,8 +1,8 @@
 //! Tracks of a file that was worked out by hand.
 
 use mp4_frame::{Error, FourCC};
-use mp4_samples::SampleTables;
-use mp4_track::{ChunkBox, TrackError, track_of};
+use mp4_samples::{SampleTables, Tables};
+use mp4_track::{ChunkBox, Track, TrackError, track_of};
 use std::alloc::{AllocError, Global};
 use std::test::Fail;
 
@@ -52,53 +52,82 @@ fn file(alloc: Global) -> Result<Vec<u8>, AllocError> {
     Ok(file)
 }
 
-#[test]
-fn track_is_found_by_its_id(rt: HostRuntime) -> Result<(), Fail> {
-    let file = file(rt.alloc())?;
-    let track = track_of(rt.alloc(), &file, 7)?;
-    assert_eq!(rt; track.number, 1);
-    assert_eq!(rt; track.media.timescale, 1000);
-    assert!(rt; track.handler.handler_type == FourCC { value: *b"vide" });
-    assert!(rt; matches!(track.tables.chunk_offsets, ChunkBox::Stco(_)));
-    assert!(rt; track.tables.ctts.is_none());
-    let tables = SampleTables::new(track.tables.tables())?;
-    assert!(rt;
+/// Whether the third sample is a sync sample at its offset.
+fn has_the_third_sample(tables: Tables<'_>) -> bool {
+    SampleTables::new(tables).is_ok_and(|tables| {
         tables
             .sample(2)
             .is_some_and(|sample| sample.offset == 444 && sample.is_sync)
-    );
+    })
+}
+
+/// Whether the second track of the file is found, with its tables.
+fn is_found(track: &Track) -> bool {
+    track.number == 1
+        && track.media.timescale == 1000
+        && track.handler.handler_type == FourCC { value: *b"vide" }
+        && matches!(track.tables.chunk_offsets, ChunkBox::Stco(_))
+        && track.tables.ctts.is_none()
+        && has_the_third_sample(track.tables.tables())
+}
+
+/// Whether a track of this track_ID is found in a file as it has to be.
+fn finds(alloc: Global, file: &[u8], track_id: u32) -> bool {
+    match track_of(alloc, file, track_id) {
+        Ok(track) => is_found(&track),
+        Err(_) => false,
+    }
+}
+
+/// Why no track of this track_ID is found.
+fn fault_of(alloc: Global, file: &[u8], track_id: u32) -> Option<TrackError> {
+    match track_of(alloc, file, track_id) {
+        Ok(_) => None,
+        Err(fault) => Some(fault),
+    }
+}
+
+#[test]
+fn track_is_found_by_its_id(rt: HostRuntime) -> Result<(), Fail> {
+    let file = file(rt.alloc())?;
+    assert!(rt; finds(rt.alloc(), &file, 7));
     Ok(())
+}
+
+/// Whether the code of the box that is missing is this.
+fn is_missing(fault: Option<TrackError>, wanted: &[u8; 4]) -> bool {
+    matches!(fault, Some(TrackError::Missing { code }) if code == FourCC { value: *wanted })
 }
 
 #[test]
 fn track_is_not_found(rt: HostRuntime) -> Result<(), Fail> {
     let file = file(rt.alloc())?;
-    assert!(rt; matches!(track_of(rt.alloc(), &file, 6), Err(TrackError::NoTrack(6))));
-    assert!(rt; matches!(track_of(rt.alloc(), DATA, 7), Err(TrackError::NoMovie)));
-    let mdia = FourCC { value: *b"mdia" };
-    let missing = track_of(rt.alloc(), &file, 5);
-    assert!(rt; matches!(missing, Err(TrackError::Missing { code }) if code == mdia));
+    let none = matches!(fault_of(rt.alloc(), &file, 6), Some(TrackError::NoTrack(6)));
+    let missing = is_missing(fault_of(rt.alloc(), &file, 5), b"mdia");
+    assert!(rt; none && missing);
+    assert!(rt; matches!(fault_of(rt.alloc(), DATA, 7), Some(TrackError::NoMovie)));
     Ok(())
+}
+
+/// Whether the box of sizes has a fault at its position.
+fn is_of_sizes(fault: Option<TrackError>) -> bool {
+    matches!(
+        fault,
+        Some(TrackError::Fault {
+            code,
+            position: 297,
+            error: Error::InvalidData(_),
+        }) if code == FourCC { value: *b"stsz" }
+    )
 }
 
 #[test]
 fn fault_has_a_position(rt: HostRuntime) -> Result<(), Fail> {
     let mut file = file(rt.alloc())?;
-    let stsz = FourCC { value: *b"stsz" };
     file[316] = 9;
-    let fault = track_of(rt.alloc(), &file, 7);
-    assert!(rt;
-        matches!(
-            fault,
-            Err(TrackError::Fault {
-                code,
-                position: 297,
-                error: Error::InvalidData(_),
-            }) if code == stsz
-        )
-    );
+    let faulty = is_of_sizes(fault_of(rt.alloc(), &file, 7));
     file[301] = b'x';
-    let missing = track_of(rt.alloc(), &file, 7);
-    assert!(rt; matches!(missing, Err(TrackError::Missing { code }) if code == stsz));
+    let missing = is_missing(fault_of(rt.alloc(), &file, 7), b"stsz");
+    assert!(rt; faulty && missing);
     Ok(())
 }
