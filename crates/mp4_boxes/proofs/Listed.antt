@@ -8,7 +8,7 @@ use Rattle.std.proofs.lemmas.Bool.{lt-ltb, le-ltb, ne_eqb}
 use Rattle.std.proofs.lemmas.List.{length-drop}
 use Rattle.std.proofs.lemmas.Grind.{flat_map-append}
 use Rattle.mp4_frame.specs.BoxType.{name_of}
-use Rattle.mp4_frame.specs.Heads.{head, frame, frame_of, frame_of_head}
+use Rattle.mp4_frame.specs.Heads.{head, frame, frame_of, frame_of_head, frame_up_to}
 use Rattle.mp4_frame.specs.Reading.{Fault, End, Invalid, Reading, FaultAs, IsFault, Refuses, ◌>>=◌, and_then, done}
 use Rattle.mp4_frame.specs.Spans.{spans, span_of, span_item}
 use Rattle.mp4_frame.specs.Streams.{walk_on}
@@ -56,10 +56,11 @@ cut_by len true b d f e = refl
 cut_by len false true d f e = refl
 cut_by len false false d f e = rw e refl
 
-shorter : (len : ℕ) (h : Head) → (h.size ≡ 0 → ⊥) → frame_of_head len h ≡ cut_at len (frame_of_head most h)
+shorter : (len o : ℕ) (h : Head) → (h.size ≡ 0 → ⊥)
+    → frame_of_head len o h ≡ cut_at len (frame_of_head most o h)
 unfolding frame_of_head
-shorter len h sized =
-    let f : Frame = record { name = name_of h.code; start = h.start; size = h.size; end = h.start + h.size } in
+shorter len o h sized =
+    let f : Frame = frame_up_to o h (h.start + h.size) in
     let other : (h.size == 0) ≡ false = ne_eqb h.size 0 sized in
     rw other (cut_by len (nat_lt h.size 8) (nat_lt most (h.start + h.size)) (nat_lt len (h.start + h.size)) f refl)
 
@@ -79,11 +80,11 @@ module _ (B text : List ℕ) (o : ℕ) (there : LinesTo B text o) (inside : o < 
 
   frame_faults : (k : Fault) → frame B o ≡ Err k → (spans B 0).outcome ≡ Err k
   frame_faults k e =
-      let here = walk_first span_item B o inside ∙ ap (walk_on (span_item o) (λ e. spans B e)) e in
+      let here = walk_first span_item B o inside ∙ ap (walk_on span_item (λ e. spans B e)) e in
       so_far ∙ ap (λ (r : Reading (List BoxSpan)). known_then there.0 r.outcome) here
 
   head_faults : (k : Fault) → (head B o).outcome ≡ Err k → (spans B 0).outcome ≡ Err k
-  head_faults k e = frame_faults k (ap (frame_of (length B)) e)
+  head_faults k e = frame_faults k (ap (frame_of (length B) o) e)
 
   -- a head that faults
   pub head_refused : (e : Error) → FaultAs (Err e) (head B o).outcome → ListRefusal B e
@@ -93,37 +94,37 @@ module _ (B text : List ℕ) (o : ℕ) (there : LinesTo B text o) (inside : o < 
   head_cut e = head_faults End e
 
   module _ (h : Head) (shown : (head B o).outcome ≡ Ok h) where
-    frame_here : frame B o ≡ frame_of_head (length B) h
-    frame_here = ap (frame_of (length B)) shown
+    frame_here : frame B o ≡ frame_of_head (length B) o h
+    frame_here = ap (frame_of (length B) o) shown
 
     -- a box whose size faults
-    pub size_refused : (e : Error) → (h.size ≡ 0 → ⊥) → FaultAs (Err e) (frame_of_head most h) → ListRefusal B e
+    pub size_refused : (e : Error) → (h.size ≡ 0 → ⊥) → FaultAs (Err e) (frame_of_head most o h) → ListRefusal B e
     size_refused e sized fault =
-        let at = λ (k : Fault) (is : frame_of_head most h ≡ Err k).
-        frame_faults k (frame_here ∙ shorter (length B) h sized ∙ ap (cut_at (length B)) is) in
-        faulted_frame B e (frame_of_head most h) fault at
+        let at = λ (k : Fault) (is : frame_of_head most o h ≡ Err k).
+        frame_faults k (frame_here ∙ shorter (length B) o h sized ∙ ap (cut_at (length B)) is) in
+        faulted_frame B e (frame_of_head most o h) fault at
 
     spans_here : (f : Frame) → frame B o ≡ Ok f
-        → (spans B o).outcome ≡ known_then (span_of o f ∷ []) (spans B f.end).outcome
+        → (spans B o).outcome ≡ known_then (span_of f ∷ []) (spans B f.end).outcome
     spans_here f e =
-        let here = walk_first span_item B o inside ∙ ap (walk_on (span_item o) (λ e. spans B e)) e in
+        let here = walk_first span_item B o inside ∙ ap (walk_on span_item (λ e. spans B e)) e in
         ap (λ (r : Reading (List BoxSpan)). r.outcome) here
-        ∙ rest_then (span_of o f) (spans B f.end).asks_memory (spans B f.end).outcome
+        ∙ rest_then (span_of f) (spans B f.end).asks_memory (spans B f.end).outcome
 
     -- a box whose size is known, and that may end past the input
-    pub next_box : (f : Frame) (more : List ℕ) → (h.size ≡ 0 → ⊥) → frame_of_head most h ≡ Ok f
-        → more ≡ text ++ line_of (span_of o f) → LinesTo B more f.end
+    pub next_box : (f : Frame) (more : List ℕ) → (h.size ≡ 0 → ⊥) → frame_of_head most o h ≡ Ok f
+        → more ≡ text ++ line_of (span_of f) → LinesTo B more f.end
     next_box f more sized is written =
-        let known = there.0 ++ span_of o f ∷ [] in
-        let cut : frame B o ≡ cut_at (length B) (Ok f) = frame_here ∙ shorter (length B) h sized
+        let known = there.0 ++ span_of f ∷ [] in
+        let cut : frame B o ≡ cut_at (length B) (Ok f) = frame_here ∙ shorter (length B) o h sized
         ∙ ap (cut_at (length B)) is in
-        let text_is : more ≡ lines known = written ∙ ap (λ (l : List ℕ). l ++ line_of (span_of o f)) there.1
-        ∙ sym (flat_map-append line_of there.0 (span_of o f ∷ [])
-        ∙ ap (λ (l : List ℕ). lines there.0 ++ l) (append-nil (line_of (span_of o f)))) in
+        let text_is : more ≡ lines known = written ∙ ap (λ (l : List ℕ). l ++ line_of (span_of f)) there.1
+        ∙ sym (flat_map-append line_of there.0 (span_of f ∷ [])
+        ∙ ap (λ (l : List ℕ). lines there.0 ++ l) (append-nil (line_of (span_of f)))) in
         let fits : f.end ≤ length B → (spans B 0).outcome ≡ known_then known (spans B f.end).outcome = λ le.
         let whole : cut_at (length B) (Ok f) ≡ Ok f = ap (λ (b : Bool). cond b (Err End) (Ok f)) (le-ltb _ _ le) in
         so_far ∙ ap (known_then there.0) (spans_here f (cut ∙ whole))
-        ∙ kept_then there.0 (span_of o f) (spans B f.end).outcome in
+        ∙ kept_then there.0 (span_of f) (spans B f.end).outcome in
         let past : length B < f.end → Refuses errors.IoError (spans B 0) = λ lt.
         let over : cut_at (length B) (Ok f) ≡ Err End = ap (λ (b : Bool). cond b (Err End) (Ok f)) (lt-ltb _ _ lt) in
         frame_faults End (cut ∙ over) in
@@ -133,14 +134,14 @@ module _ (B text : List ℕ) (o : ℕ) (there : LinesTo B text o) (inside : o < 
     pub last_box : h.size ≡ 0 → LinesBefore B text o (name_of h.code)
     unfolding frame_of_head
     last_box sizeless =
-        let f : Frame = record { name = name_of h.code; start = h.start; size = length B - h.start; end = length B } in
-        let is : frame_of_head (length B) h ≡ Ok f = rw sizeless refl in
+        let f : Frame = frame_up_to o h (length B) in
+        let is : frame_of_head (length B) o h ≡ Ok f = rw sizeless refl in
         let none : (spans B (length B)).outcome ≡ Ok [] =
         ap (λ (r : Reading (List BoxSpan)). r.outcome) (walk_none span_item B (length B) (omega arith)) in (
           there.0,
           there.1,
           so_far
-              ∙ ap (known_then there.0) (spans_here f (frame_here ∙ is) ∙ ap (known_then (span_of o f ∷ [])) none),
+              ∙ ap (known_then there.0) (spans_here f (frame_here ∙ is) ∙ ap (known_then (span_of f ∷ [])) none),
         )
 
 -- a box that begins in a part begins in the input

@@ -4,7 +4,7 @@ ghost use Rattle.std.specs.Prelude.{◌≡◌, ◌+◌, ◌<◌, ◌≤◌, ◌^
 ghost use Rattle.mp4_boxes.specs.Parts.{HasPart, HeadIn, IsFew, LinesTo, ListsTo};
 
 use crate::line::push_line;
-use mp4_frame::{BoxSpan, BoxType, Error, Head, Result, frame_of_head};
+use mp4_frame::{BoxType, Error, Head, Result, frame_of_head};
 
 /// What comes after the boxes that are listed.
 #[derive(Clone, Copy, Debug)]
@@ -54,13 +54,8 @@ pub fn list_part(lines: &mut Vec<u8>, part: &[u8], from: u64, mut next: u64) -> 
         if head.size == 0 {
             return Ok(Next::Last(next, BoxType::from(head.code)));
         }
-        let frame = frame_of_head(u64::MAX, head)?;
-        let span = BoxSpan {
-            position: next,
-            length: frame.end - next,
-            name: frame.name,
-        };
-        push_line(lines, span)?;
+        let frame = frame_of_head(u64::MAX, next, head)?;
+        push_line(lines, frame.span())?;
         next = frame.end;
     }
     Ok(Next::Box(next))

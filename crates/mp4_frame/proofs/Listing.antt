@@ -12,7 +12,7 @@ use Rattle.mp4_frame.specs.Streams.{stream, walk_on, walk_at_most}
 use Rattle.mp4_frame.specs.declared.box_type.BoxType.{BoxType}
 use Rattle.mp4_frame.specs.declared.frame.Frame.{Frame}
 use Rattle.mp4_frame.specs.declared.list.BoxSpan.{BoxSpan}
-use Rattle.mp4_frame.proofs.RoundTrip.{walk_whole}
+use Rattle.mp4_frame.proofs.RoundTrip.{walk_whole, written_frame}
 
 abbrev pub place : {A : Type 0} → Format A → ℕ → A → BoxSpan
 place format o v = record { position = o; length = format.size v; name = format.name v }
@@ -28,18 +28,12 @@ module _ {A : Type 0} (format : Format A) (known : BoxType → Bool) (reading : 
     more_places o v vs w = ap (λ (n : ℕ). place format o v ∷ places format (o + n) vs) (sym (header_law v w).long)
 
     span_written : (v : A) → format.Writable v → (x y : List ℕ) → length x + length (format.bytes v) < 2 ^ 64
-        → (span_item (length x)
-        (record {
-          name = format.name v;
-          start = length x;
-          size = length (format.bytes v);
-          end =
-              length x + length (format.bytes v);
-        })).outcome ≡ Ok (place format (length x) v ∷ [])
+        → (span_item (written_frame format.name format.bytes v (length x))).outcome
+        ≡ Ok (place format (length x) v ∷ [])
     span_written v w x y top =
         let long : length x + length (format.bytes v) - length x ≡ format.size v =
         omega (arith, (header_law v w).long) in
-        ap (λ (n : ℕ). Ok (record { position = length x; length = n; name = format.name v } ∷ [])) long
+        rw (long, (name_law v w).is_own) refl
 
     -- a written list at the end of the buffer is listed as its places
     pub places_listed : (vs : List A) → AllByRecursion format.Writable vs → (x : List ℕ)
@@ -66,18 +60,18 @@ either_is_ok true p q r s first second h = first
 either_is_ok false p q r s first second h = second h
 
 -- items that have no faults of their own: their walk is Ok where any walk over the same frames is
-module _ {X Y : Type 0} (item : ℕ → Frame → Reading (List X)) (other : ℕ → Frame → Reading (List Y))
-    (no_fault : (o : ℕ) (f : Frame) → IsOk (other o f).outcome) (B : List ℕ) where
-  walk_on_is_ok : (o : ℕ) (rest : ℕ → Reading (List X)) (others : ℕ → Reading (List Y))
+module _ {X Y : Type 0} (item : Frame → Reading (List X)) (other : Frame → Reading (List Y))
+    (no_fault : (f : Frame) → IsOk (other f).outcome) (B : List ℕ) where
+  walk_on_is_ok : (rest : ℕ → Reading (List X)) (others : ℕ → Reading (List Y))
       → ((e : ℕ) → IsOk (rest e).outcome → IsOk (others e).outcome) → (r : Result Frame Fault)
-      → IsOk (walk_on (item o) rest r).outcome → IsOk (walk_on (other o) others r).outcome
-  walk_on_is_ok o rest others each (Err k) h = h
-  walk_on_is_ok o rest others each (Ok f) h =
-      let i = item o f in
+      → IsOk (walk_on item rest r).outcome → IsOk (walk_on other others r).outcome
+  walk_on_is_ok rest others each (Err k) h = h
+  walk_on_is_ok rest others each (Ok f) h =
+      let i = item f in
       let later = (bind_ok_by i.asks_memory i.outcome (λ xs. rest f.end >>= λ ys. done (xs ++ ys)) h).1 in
       let rest_ok = (bind_ok_by (rest f.end).asks_memory (rest f.end).outcome (λ ys. done (later.0 ++ ys)) later.1).0 in
-      bind_is_ok (other o f).asks_memory (other o f).outcome (λ xs. others f.end >>= λ ys. done (xs ++ ys))
-      (no_fault o f) (λ xs.
+      bind_is_ok (other f).asks_memory (other f).outcome (λ xs. others f.end >>= λ ys. done (xs ++ ys))
+      (no_fault f) (λ xs.
       bind_is_ok (others f.end).asks_memory (others f.end).outcome (λ ys. done (xs ++ ys)) (each f.end rest_ok)
       (λ ys. refl))
 
@@ -85,6 +79,6 @@ module _ {X Y : Type 0} (item : ℕ → Frame → Reading (List X)) (other : ℕ
   unfolding walk_at_most
   walk_is_ok zero o h = refl
   walk_is_ok (suc n) o h =
-      either_is_ok (nat_le (length B) o) (done []) (walk_on (item o) (λ e. walk_at_most item B n e) (frame B o))
-      (done []) (walk_on (other o) (λ e. walk_at_most other B n e) (frame B o)) refl
-      (walk_on_is_ok o (λ e. walk_at_most item B n e) (λ e. walk_at_most other B n e) (walk_is_ok n) (frame B o)) h
+      either_is_ok (nat_le (length B) o) (done []) (walk_on item (λ e. walk_at_most item B n e) (frame B o))
+      (done []) (walk_on other (λ e. walk_at_most other B n e) (frame B o)) refl
+      (walk_on_is_ok (λ e. walk_at_most item B n e) (λ e. walk_at_most other B n e) (walk_is_ok n) (frame B o)) h

@@ -9,7 +9,7 @@ use Rattle.std.proofs.lemmas.List.Concat.{flat_map-append}
 use Rattle.std.proofs.Math.Seq.{take-append-add}
 use Rattle.mp4_frame.specs.Bytes.{number}
 use Rattle.mp4_frame.specs.BoxType.{name_of, code_of}
-use Rattle.mp4_frame.specs.Heads.{frame_of_head, frame_of, frame}
+use Rattle.mp4_frame.specs.Heads.{frame_of_head, frame_of, frame, name_in, start_in, size_in}
 use Rattle.mp4_frame.specs.Reading.{Fault, End, Reading, done, also, and_then, ◌>>=◌}
 use Rattle.mp4_frame.specs.Laws.{BeginsWithHeader, Normal, OwnName, ReadsBack}
 use Rattle.mp4_frame.specs.Streams.{stream, walk_on, walk, box_of, boxes}
@@ -26,13 +26,13 @@ head_of code size o = record { code = code; size = size; start = o }
 
 -- the frame of a box of 8 to 2^32 - 1 bytes
 frame_short : (B : List ℕ) (o size code : ℕ) → o + 8 ≤ length B → size ≡ number B o 4 → code ≡ number B (o + 4) 4
-    → 8 ≤ size → frame B o ≡ frame_of_head (length B) (head_of code size o)
+    → 8 ≤ size → frame B o ≡ frame_of_head (length B) o (head_of code size o)
 frame_short B o size code room is_size is_code least =
-    ap (frame_of (length B)) (short_head B o size code room is_size is_code (λ e. omega arith))
+    ap (frame_of (length B) o) (short_head B o size code room is_size is_code (λ e. omega arith))
 
 frame_fits : (len o size code : ℕ) → 8 ≤ size → o + size < 2 ^ 64 → o + size ≤ len
-    → frame_of_head len (head_of code size o)
-    ≡ Ok (record { name = name_of code; start = o; size = size; end = o + size })
+    → frame_of_head len o (head_of code size o)
+    ≡ Ok (record { code = code; begin = o; content = o + 8; end = o + size })
 unfolding frame_of_head
 frame_fits len o size code least top room =
     rw (
@@ -43,7 +43,7 @@ frame_fits len o size code least top room =
     ) refl
 
 frame_too_long : (len o size code : ℕ) → 8 ≤ size → o + size < 2 ^ 64 → len < o + size
-    → frame_of_head len (head_of code size o) ≡ Err End
+    → frame_of_head len o (head_of code size o) ≡ Err End
 unfolding frame_of_head
 frame_too_long len o size code least top cut =
     rw (
@@ -72,21 +72,22 @@ outcome_ahead : {A : Type 0} (a b : Bool) (v : A) (o : Result (List A) Fault)
 outcome_ahead a b v (Ok ys) = refl
 outcome_ahead a b v (Err k) = refl
 
+-- the frame of a written box at o
+abbrev pub written_frame : {A : Type 0} → (A → BoxType) → (A → List ℕ) → A → ℕ → Frame
+written_frame name bytes v o =
+    record { code = code_of (name v); begin = o; content = o + 8; end = o + length (bytes v) }
+
 module _ {A : Type 0} (name : A → BoxType) (size : A → ℕ) (Writable : A → Type 0) (bytes : A → List ℕ) (normal : A → A)
     (known : BoxType → Bool) (reading : BoxType → List ℕ → ℕ → ℕ → Reading A)
     (header_law : (v : A) → Writable v → BeginsWithHeader (size v) (name v) (bytes v))
     (normal_law : (v : A) → Writable v → Normal Writable bytes normal v)
     (name_law : (v : A) → Writable v → OwnName known (name v))
     (back_law : (v : A) → Writable v → ReadsBack (reading (name v)) (bytes v) (normal v)) where
-  abbrev pub written_frame : A → ℕ → Frame
-  written_frame v o = record { name = name v; start = o; size = length (bytes v); end = o + length (bytes v) }
-
   -- the frame of a box among other bytes
   frame_written : (v : A) → Writable v → (B x y : List ℕ) → B ≡ x ++ (bytes v ++ y)
-      → length x + length (bytes v) < 2 ^ 64 → frame B (length x) ≡ Ok (written_frame v (length x))
+      → length x + length (bytes v) < 2 ^ 64 → frame B (length x) ≡ Ok (written_frame name bytes v (length x))
   frame_written v w B x y is top =
       let f = header_law v w in
-      let n = name_law v w in
       let long : length B ≡ length x + (length (bytes v) + length y) =
       omega (arith, ap length is, length-append x (bytes v ++ y), length-append (bytes v) y) in
       let zero_on : length x + 0 ≡ length x = omega arith in
@@ -100,19 +101,16 @@ module _ {A : Type 0} (name : A → BoxType) (size : A → ℕ) (Writable : A �
       let least : 8 ≤ length (bytes v) = omega (arith, f.long, f.least) in
       frame_short B (length x) (length (bytes v)) (code_of (name v)) (omega (arith, long, least)) e1 e2 least
       ∙ frame_fits (length B) (length x) (length (bytes v)) (code_of (name v)) least top (omega (arith, long))
-      ∙ ap (λ (own : BoxType).
-      Ok (record { name = own; start = length x; size = length (bytes v); end = length x + length (bytes v) }))
-      n.is_own
 
   -- A walk over a written list, where the item of a box is one value. The place of the box and the box decide that
   -- value.
-  module _ {X : Type 0} (item : List ℕ → ℕ → Frame → Reading (List X)) (value : ℕ → A → X)
+  module _ {X : Type 0} (item : List ℕ → Frame → Reading (List X)) (value : ℕ → A → X)
       (values : ℕ → List A → List X)
       (no_values : (o : ℕ) → values o [] ≡ [])
       (more_values : (o : ℕ) (v : A) (vs : List A) → Writable v
       → values o (v ∷ vs) ≡ value o v ∷ values (o + length (bytes v)) vs)
       (item_law : (v : A) → Writable v → (x y : List ℕ) → length x + length (bytes v) < 2 ^ 64
-      → (item (x ++ (bytes v ++ y)) (length x) (written_frame v (length x))).outcome
+      → (item (x ++ (bytes v ++ y)) (written_frame name bytes v (length x))).outcome
       ≡ Ok (value (length x) v ∷ [])) where
     -- one written box, and then the bytes after it
     walk_one : (v : A) → Writable v → (B x y : List ℕ) → B ≡ x ++ (bytes v ++ y) → length x + length (bytes v) < 2 ^ 64
@@ -123,11 +121,11 @@ module _ {A : Type 0} (name : A → BoxType) (size : A → ℕ) (Writable : A �
         let long : length B ≡ length x + (length (bytes v) + length y) =
         omega (arith, ap length is, length-append x (bytes v ++ y), length-append (bytes v) y) in
         let rest = walk (item B) B (length x + length (bytes v)) in
-        let i = item B (length x) (written_frame v (length x)) in
+        let i = item B (written_frame name bytes v (length x)) in
         let found : i.outcome ≡ Ok (value (length x) v ∷ []) =
-        ap (λ (C : List ℕ). (item C (length x) (written_frame v (length x))).outcome) is ∙ item_law v w x y top in
+        ap (λ (C : List ℕ). (item C (written_frame name bytes v (length x))).outcome) is ∙ item_law v w x y top in
         let first = walk_first (item B) B (length x) (omega (arith, long, f.long, f.least))
-        ∙ ap (walk_on (item B (length x)) (λ e. walk (item B) B e)) (frame_written v w B x y is top) in
+        ∙ ap (walk_on (item B) (λ e. walk (item B) B e)) (frame_written v w B x y is top) in
         let second = bind_ok i (λ xs. rest >>= λ ys. done (xs ++ ys)) (value (length x) v ∷ []) found in
         ap (λ (r : Reading (List X)). r.outcome) (first ∙ second)
         ∙ outcome_ahead i.asks_memory rest.asks_memory (value (length x) v) rest.outcome
@@ -177,12 +175,18 @@ module _ {A : Type 0} (name : A → BoxType) (size : A → ℕ) (Writable : A �
 
   -- a box among other bytes is read as its normal form
   normal_item : (v : A) → Writable v → (x y : List ℕ) → length x + length (bytes v) < 2 ^ 64
-      → (box_of known reading (x ++ (bytes v ++ y)) (length x) (written_frame v (length x))).outcome
+      → (box_of known reading (x ++ (bytes v ++ y)) (written_frame name bytes v (length x))).outcome
       ≡ Ok (normal v ∷ [])
   normal_item v w x y top =
+      let f = written_frame name bytes v (length x) in
+      let B = x ++ (bytes v ++ y) in
+      let named : name_in f ≡ name v = (name_law v w).is_own in
+      let start : start_in f ≡ length x = omega arith in
+      let long : size_in f ≡ length (bytes v) = omega arith in
+      let read : (reading (name_in f) B (start_in f) (size_in f)).outcome ≡ Ok (normal v) =
+      rw (named, long, start) (back_law v w x y top) in
       ap (λ (r : Reading (List A)). r.outcome)
-      (item_known known reading (x ++ (bytes v ++ y)) (length x) (written_frame v (length x)) (normal v)
-      (name_law v w).is_known (back_law v w x y top))
+      (item_known known reading B f (normal v) (ap known named ∙ (name_law v w).is_known) read)
 
   through : (vs : List A) → AllByRecursion Writable vs → (B x y : List ℕ) → B ≡ x ++ (stream bytes vs ++ y)
       → length x + length (stream bytes vs) < 2 ^ 64
@@ -222,7 +226,7 @@ module _ {A : Type 0} (name : A → BoxType) (size : A → ℕ) (Writable : A �
             frame_short B (length x) (length (bytes v)) (code_of (name v)) (omega (arith, long, h)) e1 e2 least
             ∙ frame_too_long (length B) (length x) (length (bytes v)) (code_of (name v)) least top
             (omega (arith, long)))
-        | inl h ↦ ap (frame_of (length B)) (no_head B (length x) (omega (arith, long, h)))
+        | inl h ↦ ap (frame_of (length B) (length x)) (no_head B (length x) (omega (arith, long, h)))
       ]
 
   -- a written list that is cut inside a box is read as end of input
@@ -240,7 +244,7 @@ module _ {A : Type 0} (name : A → BoxType) (size : A → ℕ) (Writable : A �
       let room : length x' < length B =
       omega (arith, ap length same, length-append x' y, length-take-le k (bytes v) (omega arith)) in
       let first = walk_first (box_of known reading B) B (length x') room
-      ∙ ap (walk_on (box_of known reading B (length x')) (λ e. boxes known reading B e)) fr in
+      ∙ ap (walk_on (box_of known reading B) (λ e. boxes known reading B e)) fr in
       through vs ws B x y refl (omega (arith, top))
       ∙ ap (λ (o : ℕ). ahead (map normal vs) (boxes known reading B o).outcome) (sym front)
       ∙ ap (λ (r : Reading (List A)). ahead (map normal vs) r.outcome) first

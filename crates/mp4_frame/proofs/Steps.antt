@@ -4,10 +4,10 @@ use Rattle.std.proofs.Common.{sym, ap, subst, ◌∙◌, arith, append_assoc, le
 use Rattle.std.specs.Prelude.{nat_lt, ◌||◌, ◌⊎◌}
 use Rattle.std.proofs.lemmas.Bool.{lt-ltb}
 use Rattle.std.proofs.lemmas.List.{append-nil}
-use Rattle.mp4_frame.specs.Heads.{frame}
+use Rattle.mp4_frame.specs.Heads.{frame, name_in}
 use Rattle.mp4_frame.specs.Reading.{Fault, End, Invalid, NotFound, Reading, done, also, and_then, ◌>>=◌, Refuses}
 use Rattle.mp4_frame.specs.Reading.{FaultAs, IsFault, memory}
-use Rattle.mp4_frame.specs.Streams.{walk_on, walk, box_of, boxes, append_read}
+use Rattle.mp4_frame.specs.Streams.{walk_on, walk, box_of, boxes, append_read, reading_in}
 use Rattle.mp4_frame.specs.declared.box_type.BoxType.{BoxType}
 use Rattle.mp4_frame.specs.declared.frame.Frame.{Frame}
 use Rattle.mp4_frame.specs.declared.error.Error.{Error}
@@ -65,27 +65,27 @@ refuses_fault _ k total is t = absurd is
 long_enough : {A : Type 0} (front : List A) (v : A) → nat_lt 0 (length (front ++ v ∷ [])) ≡ true
 long_enough front v = lt-ltb 0 (length (front ++ v ∷ [])) (omega (arith, length-append front (v ∷ [])))
 
-module _ {X : Type 0} (item : ℕ → Frame → Reading (List X)) (B : List ℕ) where
+module _ {X : Type 0} (item : Frame → Reading (List X)) (B : List ℕ) where
   -- a step over a frame whose items are read
   pub step : (a : Bool) (front xs : List X) (o : ℕ) (f : Frame) (total : Reading (List X)) → o < length B
-      → frame B o ≡ Ok f → (item o f).outcome ≡ Ok xs
+      → frame B o ≡ Ok f → (item f).outcome ≡ Ok xs
       → continue_with a front (walk item B o) ≡ total
-      → continue_with (a || (item o f).asks_memory) (front ++ xs) (walk item B f.end) ≡ total
+      → continue_with (a || (item f).asks_memory) (front ++ xs) (walk item B f.end) ≡ total
   step a front xs o f total lt is is_item so_far =
       let rest = walk item B f.end in
-      let first : walk item B o ≡ walk_on (item o) (λ e. walk item B e) (Ok f) = walk_first item B o lt
-      ∙ ap (walk_on (item o) (λ e. walk item B e)) is in
-      let second = bind_ok (item o f) (λ xs. rest >>= λ ys. done (xs ++ ys)) xs is_item in
+      let first : walk item B o ≡ walk_on item (λ e. walk item B e) (Ok f) = walk_first item B o lt
+      ∙ ap (walk_on item (λ e. walk item B e)) is in
+      let second = bind_ok (item f) (λ xs. rest >>= λ ys. done (xs ++ ys)) xs is_item in
       sym (ap (continue_with a front) (first ∙ second)
-      ∙ regroup a (item o f).asks_memory front xs rest.asks_memory rest.outcome) ∙ so_far
+      ∙ regroup a (item f).asks_memory front xs rest.asks_memory rest.outcome) ∙ so_far
 
   -- the list before a fault
   fault_at : (a : Bool) (front : List X) (o : ℕ) (r : Result Frame Fault) (total : Reading (List X)) → o < length B
       → frame B o ≡ r
       → continue_with a front (walk item B o) ≡ total
-      → continue_with a front (walk_on (item o) (λ e. walk item B e) r) ≡ total
+      → continue_with a front (walk_on item (λ e. walk item B e) r) ≡ total
   fault_at a front o r total lt is so_far =
-      sym (ap (continue_with a front) (walk_first item B o lt ∙ ap (walk_on (item o) (λ e. walk item B e)) is)) ∙ so_far
+      sym (ap (continue_with a front) (walk_first item B o lt ∙ ap (walk_on item (λ e. walk item B e)) is)) ∙ so_far
 
   -- a frame that faults
   walk_faults_at : (a : Bool) (front : List X) (o : ℕ) (e : Error) (r : Result Frame Fault) (total : Reading (List X))
@@ -110,20 +110,20 @@ module _ {X : Type 0} (item : ℕ → Frame → Reading (List X)) (B : List ℕ)
 
   -- an item that takes memory and gives one value, which is kept
   pub one_kept : (front : List X) (x : X) (o : ℕ) (f : Frame) (total : Reading (List X)) → o < length B
-      → frame B o ≡ Ok f → item o f ≡ record { asks_memory = true; outcome = Ok (x ∷ []) }
+      → frame B o ≡ Ok f → item f ≡ record { asks_memory = true; outcome = Ok (x ∷ []) }
       → continue_with (nat_lt 0 (length front)) front (walk item B o) ≡ total
       → continue_with (nat_lt 0 (length (front ++ x ∷ []))) (front ++ x ∷ []) (walk item B f.end) ≡ total
   one_kept front x o f total lt is is_item so_far =
       let one = step (nat_lt 0 (length front)) front (x ∷ []) o f total lt is
       (ap (λ (r : Reading (List X)). r.outcome) is_item) so_far in
-      let flag : (nat_lt 0 (length front) || (item o f).asks_memory) ≡ nat_lt 0 (length (front ++ x ∷ [])) =
+      let flag : (nat_lt 0 (length front) || (item f).asks_memory) ≡ nat_lt 0 (length (front ++ x ∷ [])) =
       ap (λ (r : Reading (List X)). nat_lt 0 (length front) || r.asks_memory) is_item
       ∙ or_true (nat_lt 0 (length front)) ∙ sym (long_enough front x) in
       subst (λ (b : Bool). continue_with b (front ++ x ∷ []) (walk item B f.end) ≡ total) flag one
 
   -- out of memory after such an item was read
   pub one_refused : (front : List X) (x : X) (o : ℕ) (f : Frame) (total : Reading (List X)) → o < length B
-      → frame B o ≡ Ok f → item o f ≡ record { asks_memory = true; outcome = Ok (x ∷ []) }
+      → frame B o ≡ Ok f → item f ≡ record { asks_memory = true; outcome = Ok (x ∷ []) }
       → continue_with (nat_lt 0 (length front)) front (walk item B o) ≡ total → total.asks_memory ≡ true
   one_refused front x o f total lt is is_item so_far =
       let one = one_kept front x o f total lt is is_item so_far in
@@ -144,47 +144,48 @@ err_one k = Err k
 module _ {A : Type 0} (known : BoxType → Bool) (reading : BoxType → List ℕ → ℕ → ℕ → Reading A) (B : List ℕ) where
   -- a box is skipped
   pub skipped : (front : List A) (o : ℕ) (f : Frame) (total : Reading (List A)) → o < length B → frame B o ≡ Ok f
-      → known f.name ≡ false
+      → known (name_in f) ≡ false
       → continue_with (nat_lt 0 (length front)) front (boxes known reading B o) ≡ total
       → continue_with (nat_lt 0 (length front)) front (boxes known reading B f.end) ≡ total
   skipped front o f total lt is unknown so_far =
-      let item : box_of known reading B o f ≡ done [] = rw unknown refl in
+      let item : box_of known reading B f ≡ done [] = rw unknown refl in
       let one = step (box_of known reading B) B (nat_lt 0 (length front)) front [] o f total lt is
       (ap (λ (r : Reading (List A)). r.outcome) item) so_far in
-      let flag : (nat_lt 0 (length front) || (box_of known reading B o f).asks_memory) ≡ nat_lt 0 (length front) =
+      let flag : (nat_lt 0 (length front) || (box_of known reading B f).asks_memory) ≡ nat_lt 0 (length front) =
       ap (λ (r : Reading (List A)). nat_lt 0 (length front) || r.asks_memory) item
       ∙ or_false (nat_lt 0 (length front)) in
       rw (flag, append-nil front) at one
 
-  pub item_known : (o : ℕ) (f : Frame) (v : A) → known f.name ≡ true → (reading f.name B f.start f.size).outcome ≡ Ok v
-      → box_of known reading B o f ≡ record { asks_memory = true; outcome = Ok (v ∷ []) }
-  item_known o f v is_known e =
-      let r = reading f.name B f.start f.size in
-      let one : box_of known reading B o f ≡ (r >>= λ v. memory >>= λ _. done (v ∷ [])) = rw is_known refl in
+  pub item_known : (f : Frame) (v : A) → known (name_in f) ≡ true
+      → (reading_in reading B f).outcome ≡ Ok v
+      → box_of known reading B f ≡ record { asks_memory = true; outcome = Ok (v ∷ []) }
+  item_known f v is_known e =
+      let r = reading_in reading B f in
+      let one : box_of known reading B f ≡ (r >>= λ v. memory >>= λ _. done (v ∷ [])) = rw is_known refl in
       let two = bind_ok r (λ v. memory >>= λ _. done (v ∷ [])) v e in
       one ∙ two ∙ ap (λ (b : Bool). record { asks_memory = b; outcome = Ok (v ∷ []) }) (or_true r.asks_memory)
 
   item_faults : (a : Bool) (front : List A) (o : ℕ) (f : Frame) (k : Fault) (total : Reading (List A)) → o < length B
-      → frame B o ≡ Ok f → known f.name ≡ true → (reading f.name B f.start f.size).outcome ≡ Err k
+      → frame B o ≡ Ok f → known (name_in f) ≡ true → (reading_in reading B f).outcome ≡ Err k
       → continue_with a front (boxes known reading B o) ≡ total → total.outcome ≡ Err k
   item_faults a front o f k total lt is is_known e so_far =
-      let r = reading f.name B f.start f.size in
+      let r = reading_in reading B f in
       let one = fault_at (box_of known reading B) B a front o (Ok f) total lt is so_far in
-      let item : box_of known reading B o f ≡ and_then r.asks_memory (Err k) (λ v. memory >>= λ _. done (v ∷ [])) =
+      let item : box_of known reading B f ≡ and_then r.asks_memory (Err k) (λ v. memory >>= λ _. done (v ∷ [])) =
       rw is_known (ap (λ (o : Result A Fault). and_then r.asks_memory o (λ v. memory >>= λ _. done (v ∷ []))) e) in
       ap (λ (r : Reading (List A)). r.outcome)
       (sym one ∙ ap (λ (i : Reading (List A)).
       continue_with a front (i >>= λ xs. boxes known reading B f.end >>= λ ys. done (xs ++ ys))) item)
 
   item_asks : (a : Bool) (front : List A) (o : ℕ) (f : Frame) (total : Reading (List A)) → o < length B
-      → frame B o ≡ Ok f → known f.name ≡ true → (reading f.name B f.start f.size).asks_memory ≡ true
+      → frame B o ≡ Ok f → known (name_in f) ≡ true → (reading_in reading B f).asks_memory ≡ true
       → continue_with a front (boxes known reading B o) ≡ total → total.asks_memory ≡ true
   item_asks a front o f total lt is is_known e so_far =
-      let r = reading f.name B f.start f.size in
+      let r = reading_in reading B f in
       let one = fault_at (box_of known reading B) B a front o (Ok f) total lt is so_far in
-      let item : (box_of known reading B o f).asks_memory ≡ true =
+      let item : (box_of known reading B f).asks_memory ≡ true =
       rw is_known (and_then_asks r.asks_memory r.outcome (λ v. memory >>= λ _. done (v ∷ [])) e) in
-      let i = box_of known reading B o f in
+      let i = box_of known reading B f in
       let two = and_then_asks i.asks_memory i.outcome
       (λ xs. boxes known reading B f.end >>= λ ys. done (xs ++ ys)) item in
       let w = i >>= λ xs. boxes known reading B f.end >>= λ ys. done (xs ++ ys) in
@@ -210,14 +211,14 @@ module _ {A : Type 0} (known : BoxType → Bool) (reading : BoxType → List ℕ
 
   -- a box that was read and appended is kept
   pub append_read_keeps : (front new : List A) (o : ℕ) (f : Frame) (total : Reading (List A)) → o < length B
-      → frame B o ≡ Ok f → known f.name ≡ true → (append_read front (reading f.name B f.start f.size)).outcome ≡ Ok new
+      → frame B o ≡ Ok f → known (name_in f) ≡ true → (append_read front (reading_in reading B f)).outcome ≡ Ok new
       → continue_with (nat_lt 0 (length front)) front (boxes known reading B o) ≡ total
       → continue_with (nat_lt 0 (length new)) new (boxes known reading B f.end) ≡ total
   append_read_keeps front new o f total lt is is_known e so_far =
-      let r = reading f.name B f.start f.size in
+      let r = reading_in reading B f in
       let p = append_read_by front new r.asks_memory r.outcome e in
       subst (λ (l : List A). continue_with (nat_lt 0 (length l)) l (boxes known reading B f.end) ≡ total) p.2
-      (one_kept (box_of known reading B) B front p.0 o f total lt is (item_known o f p.0 is_known p.1) so_far)
+      (one_kept (box_of known reading B) B front p.0 o f total lt is (item_known f p.0 is_known p.1) so_far)
 
   fault_by : (front : List A) (k : Fault) (a : Bool) (o : Result A Fault)
       → (append_read front (record { asks_memory = a; outcome = o })).outcome ≡ err_list k → o ≡ err_one k
@@ -232,22 +233,22 @@ module _ {A : Type 0} (known : BoxType → Bool) (reading : BoxType → List ℕ
 
   -- a box could not be read or appended
   pub append_read_faults : (front : List A) (o : ℕ) (f : Frame) (e : Error) (total : Reading (List A)) → o < length B
-      → frame B o ≡ Ok f → known f.name ≡ true → Refuses e (append_read front (reading f.name B f.start f.size))
+      → frame B o ≡ Ok f → known (name_in f) ≡ true → Refuses e (append_read front (reading_in reading B f))
       → continue_with (nat_lt 0 (length front)) front (boxes known reading B o) ≡ total → Refuses e total
   append_read_faults front o f errors.IoError total lt is is_known h so_far =
-      (let r = reading f.name B f.start f.size in item_faults _ front o f End total lt is is_known
+      (let r = reading_in reading B f in item_faults _ front o f End total lt is is_known
       (fault_by front End r.asks_memory r.outcome h) so_far)
   append_read_faults front o f (errors.InvalidData _) total lt is is_known h so_far =
-      (let r = reading f.name B f.start f.size in item_faults _ front o f Invalid total lt is is_known
+      (let r = reading_in reading B f in item_faults _ front o f Invalid total lt is is_known
       (fault_by front Invalid r.asks_memory r.outcome h) so_far)
   append_read_faults front o f (errors.BoxNotFound n) total lt is is_known h so_far =
-      (let r = reading f.name B f.start f.size in item_faults _ front o f (NotFound n) total lt is is_known
+      (let r = reading_in reading B f in item_faults _ front o f (NotFound n) total lt is is_known
       (fault_by front (NotFound n) r.asks_memory r.outcome h) so_far)
   append_read_faults front o f errors.OutOfMemory total lt is is_known h so_far =
-      let r = reading f.name B f.start f.size in
+      let r = reading_in reading B f in
       elim (asks_by front r.asks_memory r.outcome h) [
         | inl a ↦ item_asks _ front o f total lt is is_known a so_far
         | inr p ↦ one_refused (box_of known reading B) B front p.0 o f total lt is
-            (item_known o f p.0 is_known p.1) so_far
+            (item_known f p.0 is_known p.1) so_far
       ]
   append_read_faults front o f _ total lt is is_known h so_far = absurd h

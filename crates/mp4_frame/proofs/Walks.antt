@@ -27,10 +27,10 @@ first_of_two : {A : Type 0} (b : Bool) (y : A) (r : Result A Fault) (x : A) → 
 first_of_two true y r x e = inl cc
 first_of_two false y r x e = inr e
 
-pub frame_of_head-room : (len : ℕ) (h : Head) (f : Frame) → h.start + 8 ≤ len → frame_of_head len h ≡ Ok f
+pub frame_of_head-room : (len o : ℕ) (h : Head) (f : Frame) → h.start + 8 ≤ len → frame_of_head len o h ≡ Ok f
     → (h.start + 8 ≤ f.end) × (f.end ≤ len)
 unfolding frame_of_head
-frame_of_head-room len h f room e =
+frame_of_head-room len o h f room e =
     elim (first_of_two (h.size == 0) _ _ f e) [
       | inl s ↦ (let t : len ≡ f.end = ap (λ (g : Frame). g.end) s in (omega (arith, t), omega (arith, t)))
       | inr r ↦
@@ -43,10 +43,10 @@ frame_of_head-room len h f room e =
     ]
 
 frame_of_room : (B : List ℕ) (o : ℕ) (r : Result Head Fault) (f : Frame) → (head B o).outcome ≡ r
-    → frame_of (length B) r ≡ Ok f → (o + 8 ≤ f.end) × (f.end ≤ length B)
+    → frame_of (length B) o r ≡ Ok f → (o + 8 ≤ f.end) × (f.end ≤ length B)
 frame_of_room B o (Ok c) f is e =
     let room = head_room B o c is in
-    let t = frame_of_head-room (length B) c f room.1 e in
+    let t = frame_of_head-room (length B) o c f room.1 e in
     (omega (arith, room.0, t.0), t.1)
 frame_of_room B o (Err k) f is e = absurd cc
 
@@ -54,14 +54,14 @@ frame_of_room B o (Err k) f is e = absurd cc
 pub frame_room : (B : List ℕ) (o : ℕ) (f : Frame) → frame B o ≡ Ok f → (o + 8 ≤ f.end) × (f.end ≤ length B)
 frame_room B o f e = frame_of_room B o (head B o).outcome f refl e
 
-module _ {X : Type 0} (item : ℕ → Frame → Reading (List X)) (B : List ℕ) where
+module _ {X : Type 0} (item : Frame → Reading (List X)) (B : List ℕ) where
   same_on : (n m o : ℕ) → ((e : ℕ) → o < e → walk_at_most item B n e ≡ walk_at_most item B m e)
       → (r : Result Frame Fault) → frame B o ≡ r
-      → walk_on (item o) (λ e. walk_at_most item B n e) r ≡ walk_on (item o) (λ e. walk_at_most item B m e) r
+      → walk_on item (λ e. walk_at_most item B n e) r ≡ walk_on item (λ e. walk_at_most item B m e) r
   same_on n m o ih (Err k) is = refl
   same_on n m o ih (Ok f) is =
       let room = frame_room B o f is in
-      ap (λ (r : Reading (List X)). item o f >>= λ xs. r >>= λ ys. done (xs ++ ys)) (ih f.end (omega (arith, room.0)))
+      ap (λ (r : Reading (List X)). item f >>= λ xs. r >>= λ ys. done (xs ++ ys)) (ih f.end (omega (arith, room.0)))
 
   at_end : (n o : ℕ) → length B ≤ o → walk_at_most item B n o ≡ done []
   unfolding walk_at_most
@@ -80,22 +80,22 @@ module _ {X : Type 0} (item : ℕ → Frame → Reading (List X)) (B : List ℕ)
       (same_on n m o (λ e l. enough n m e (omega arith) (omega arith)) (frame B o) refl)
 
   one_more : (n o : ℕ) → o < length B
-      → walk_at_most item B (suc n) o ≡ walk_on (item o) (λ e. walk_at_most item B n e) (frame B o)
+      → walk_at_most item B (suc n) o ≡ walk_on item (λ e. walk_at_most item B n e) (frame B o)
   unfolding walk_at_most
   one_more n o h =
       let t : nat_le (length B) o ≡ false = grind (arith, common_steps) in
       rw t refl
 
   rest_same : (o : ℕ) (r : Result Frame Fault) → frame B o ≡ r
-      → walk_on (item o) (λ e. walk_at_most item B (length B - 1) e) r ≡ walk_on (item o) (λ e. walk item B e) r
+      → walk_on item (λ e. walk_at_most item B (length B - 1) e) r ≡ walk_on item (λ e. walk item B e) r
   rest_same o (Err k) is = refl
   rest_same o (Ok f) is =
       let room = frame_room B o f is in
-      ap (λ (r : Reading (List X)). item o f >>= λ xs. r >>= λ ys. done (xs ++ ys))
+      ap (λ (r : Reading (List X)). item f >>= λ xs. r >>= λ ys. done (xs ++ ys))
       (enough (length B - 1) (length B) f.end (omega (arith, room.0)) (omega arith))
 
   -- one frame, and then the walk from its end
-  pub walk_first : (o : ℕ) → o < length B → walk item B o ≡ walk_on (item o) (λ e. walk item B e) (frame B o)
+  pub walk_first : (o : ℕ) → o < length B → walk item B o ≡ walk_on item (λ e. walk item B e) (frame B o)
   walk_first o h = (let e : length B ≡ suc (length B - 1) = omega arith in ap (λ (n : ℕ). walk_at_most item B n o) e
       ∙ one_more (length B - 1) o h) ∙ rest_same o (frame B o) refl
 

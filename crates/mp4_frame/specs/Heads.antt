@@ -5,6 +5,7 @@ use Rattle.std.specs.Prelude.{if◌then◌else◌}
 use Rattle.mp4_frame.specs.Bytes.{number, bytes_of_fields}
 use Rattle.mp4_frame.specs.BoxType.{name_of, code_of}
 use Rattle.mp4_frame.specs.Reading.{Fault, End, Invalid, Reading, ◌>>=◌, expect_bytes, check, done}
+use Rattle.mp4_frame.specs.declared.box_type.BoxType.{BoxType}
 use Rattle.mp4_frame.specs.declared.head.Head.{Head}
 use Rattle.mp4_frame.specs.declared.box_header.BoxHeader.{BoxHeader}
 use Rattle.mp4_frame.specs.declared.frame.Frame.{Frame}
@@ -55,19 +56,33 @@ header_ext bytes o = do
   _ ← expect_bytes bytes o 4
   done (number bytes o 1, number bytes (o + 1) 3)
 
--- the frame that a head gives, in a buffer of len bytes. A size of 0 means up to the end of the buffer
-unfoldable pub frame_of_head : ℕ → Head → Result Frame Fault
-frame_of_head len h =
-    if h.size == 0 then Ok (record { name = name_of h.code; start = h.start; size = len - h.start; end = len }) else
+-- the frame of a box at o, by its head and its end
+abbrev pub frame_up_to : ℕ → Head → ℕ → Frame
+frame_up_to o h end = record { code = h.code; begin = o; content = h.start + 8; end = end }
+
+-- the frame that a head at o gives, in a buffer of len bytes. A size of 0 means up to the end of the buffer
+unfoldable pub frame_of_head : ℕ → ℕ → Head → Result Frame Fault
+frame_of_head len o h =
+    if h.size == 0 then Ok (frame_up_to o h len) else
     if nat_lt h.size 8 then Err Invalid else
     if nat_lt (2 ^ 64 - 1) (h.start + h.size) then Err Invalid else
     if nat_lt len (h.start + h.size) then Err End else
-    Ok (record { name = name_of h.code; start = h.start; size = h.size; end = h.start + h.size })
+    Ok (frame_up_to o h (h.start + h.size))
 
-abbrev pub frame_of : ℕ → Result Head Fault → Result Frame Fault
-frame_of len (Ok h) = frame_of_head len h
-frame_of len (Err k) = Err k
+abbrev pub frame_of : ℕ → ℕ → Result Head Fault → Result Frame Fault
+frame_of len o (Ok h) = frame_of_head len o h
+frame_of len o (Err k) = Err k
 
 -- the frame of the box at o
 abbrev pub frame : List ℕ → ℕ → Result Frame Fault
-frame bytes o = frame_of (length bytes) (head bytes o).outcome
+frame bytes o = frame_of (length bytes) o (head bytes o).outcome
+
+-- what a frame says of its box: its name, its start 8 bytes before the content, and its size from there
+abbrev pub name_in : Frame → BoxType
+name_in f = name_of f.code
+
+abbrev pub start_in : Frame → ℕ
+start_in f = f.content - 8
+
+abbrev pub size_in : Frame → ℕ
+size_in f = f.end - start_in f

@@ -2,19 +2,20 @@
 use Rattle.std.specs.Prelude.{ℕ, ◌+◌, ◌-◌, List, [], ◌∷◌}
 use Rattle.mp4_frame.specs.Format.{Format}
 use Rattle.mp4_frame.specs.Reading.{Reading, done, memory, ◌>>=◌}
+use Rattle.mp4_frame.specs.Heads.{name_in}
 use Rattle.mp4_frame.specs.Streams.{walk}
 use Rattle.mp4_frame.specs.declared.frame.Frame.{Frame}
 use Rattle.mp4_frame.specs.declared.list.BoxSpan.{BoxSpan}
 
--- the place of the box at o, from its first byte to the end of its frame
-abbrev pub span_of : ℕ → Frame → BoxSpan
-span_of o f = record { position = o; length = f.end - o; name = f.name }
+-- the place of the box of a frame, from its first byte to its end
+abbrev pub span_of : Frame → BoxSpan
+span_of f = record { position = f.begin; length = f.end - f.begin; name = name_in f }
 
 -- every box's place is kept, which takes memory
-abbrev pub span_item : ℕ → Frame → Reading (List BoxSpan)
-span_item o f = do
+abbrev pub span_item : Frame → Reading (List BoxSpan)
+span_item f = do
   kept ← memory
-  done (span_of o f ∷ [])
+  done (span_of f ∷ [])
 
 -- the places of the boxes from o on
 abbrev pub spans : List ℕ → ℕ → Reading (List BoxSpan)

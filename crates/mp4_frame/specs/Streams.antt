@@ -2,7 +2,7 @@
 use Rattle.std.specs.Prelude.{ℕ, zero, suc, Bool, nat_le, List, [], ◌∷◌, ◌++◌, length, Result, Ok, Err, if◌then◌else◌}
 use Rattle.std.specs.List.{flat_map}
 use Rattle.mp4_frame.specs.Reading.{Fault, Reading, done, faults, memory, ◌>>=◌}
-use Rattle.mp4_frame.specs.Heads.{frame}
+use Rattle.mp4_frame.specs.Heads.{frame, name_in, start_in, size_in}
 use Rattle.mp4_frame.specs.declared.box_type.BoxType.{BoxType}
 use Rattle.mp4_frame.specs.declared.frame.Frame.{Frame}
 
@@ -20,21 +20,25 @@ walk_on item rest (Ok f) = do
   done (xs ++ ys)
 
 -- the items of the frames from o on, n frames at most, one after the other
-unfoldable pub walk_at_most : {X : Type 0} → (ℕ → Frame → Reading (List X)) → List ℕ → ℕ → ℕ → Reading (List X)
+unfoldable pub walk_at_most : {X : Type 0} → (Frame → Reading (List X)) → List ℕ → ℕ → ℕ → Reading (List X)
 walk_at_most item B zero o = done []
 walk_at_most item B (suc n) o =
-    if nat_le (length B) o then done [] else walk_on (item o) (λ e. walk_at_most item B n e) (frame B o)
+    if nat_le (length B) o then done [] else walk_on item (λ e. walk_at_most item B n e) (frame B o)
 
 -- the items of all frames from o on. Each frame has at least one byte, so the buffer's length bounds their number
-abbrev pub walk : {X : Type 0} → (ℕ → Frame → Reading (List X)) → List ℕ → ℕ → Reading (List X)
+abbrev pub walk : {X : Type 0} → (Frame → Reading (List X)) → List ℕ → ℕ → Reading (List X)
 walk item B o = walk_at_most item B (length B) o
 
+-- what is read of the box in a frame
+abbrev pub reading_in : {A : Type 0} → (BoxType → List ℕ → ℕ → ℕ → Reading A) → List ℕ → Frame → Reading A
+reading_in reading B f = reading (name_in f) B (start_in f) (size_in f)
+
 -- a box of a known name is read and kept, which takes memory; any other box is skipped
-abbrev pub box_of : {A : Type 0} → (BoxType → Bool) → (BoxType → List ℕ → ℕ → ℕ → Reading A) → List ℕ → ℕ → Frame
+abbrev pub box_of : {A : Type 0} → (BoxType → Bool) → (BoxType → List ℕ → ℕ → ℕ → Reading A) → List ℕ → Frame
     → Reading (List A)
-box_of known reading B o f =
-    if known f.name then (do
-      v ← reading f.name B f.start f.size
+box_of known reading B f =
+    if known (name_in f) then (do
+      v ← reading_in reading B f
       kept ← memory
       done (v ∷ [])) else done []
 

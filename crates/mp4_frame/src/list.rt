@@ -37,11 +37,7 @@ pub fn list_boxes<A: Allocator>(alloc: A, reader: &mut ByteCursor) -> Result<Vec
     let mut at = reader.position();
     while at < bytes.len() as u64 {
         let frame = frame_at(bytes, at as usize)?;
-        spans.push(BoxSpan {
-            position: at,
-            length: frame.end - at,
-            name: frame.name,
-        })?;
+        spans.push(frame.span())?;
         at = frame.end;
     }
     reader.set_position(at);

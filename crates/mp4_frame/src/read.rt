@@ -24,15 +24,9 @@ pub fn read_boxes_as<B: StreamBox>(alloc: Global, reader: &mut ByteCursor) -> Re
     let mut at = reader.position();
     while at < bytes.len() as u64 {
         let frame = frame_at(bytes, at as usize)?;
-        if B::knows(frame.name) {
-            B::push_named(
-                alloc,
-                frame.name,
-                bytes,
-                frame.start,
-                frame.size,
-                &mut boxes,
-            )?;
+        let name = frame.name();
+        if B::knows(name) {
+            B::push_named(alloc, name, bytes, frame.start(), frame.size(), &mut boxes)?;
         }
         at = frame.end;
     }

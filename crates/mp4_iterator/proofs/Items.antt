@@ -3,13 +3,13 @@ use Rattle.std.proofs.Common.{◌≡◌, ℕ, zero, suc, ◌+◌, ◌-◌, ◌<�
 use Rattle.std.proofs.Common.{length, Result, Ok, Err, refl, sym, ap, ◌∙◌, arith}
 use Rattle.std.specs.Prelude.{nat_le}
 use Rattle.std.proofs.lemmas.Grind.{common_steps}
-use Rattle.mp4_frame.specs.Heads.{frame}
+use Rattle.mp4_frame.specs.Heads.{frame, name_in}
 use Rattle.mp4_frame.specs.Reading.{Fault, Reading, done, faults, memory, and_then, ◌>>=◌}
-use Rattle.mp4_frame.specs.Streams.{walk_on, walk_at_most, box_of, boxes}
+use Rattle.mp4_frame.specs.Streams.{walk_on, walk_at_most, box_of, boxes, reading_in}
 use Rattle.mp4_frame.specs.declared.box_type.BoxType.{BoxType}
 use Rattle.mp4_frame.specs.declared.frame.Frame.{Frame}
 use Rattle.mp4_frame.proofs.Walks.{frame_room}
-use Rattle.mp4_iterator.specs.Items.{Item, items_on, items_at_most, items, in_order}
+use Rattle.mp4_iterator.specs.Items.{Item, box_item, items_on, items_at_most, items, in_order}
 
 -- a box that is read and kept, and then the rest
 one_more_box : {A : Type 0} (a b : Bool) (o : Result A Fault) (w : Result (List A) Fault)
@@ -41,11 +41,11 @@ module _ {A : Type 0} (known : BoxType → Bool) (reading : BoxType → List ℕ
   in_order_on : (n o : ℕ)
       → ((e : ℕ) → walk_at_most (box_of known reading B) B n e ≡ in_order (items_at_most known reading B n e))
       → (r : Result Frame Fault)
-      → walk_on (box_of known reading B o) (λ e. walk_at_most (box_of known reading B) B n e) r
+      → walk_on (box_of known reading B) (λ e. walk_at_most (box_of known reading B) B n e) r
       ≡ in_order (items_on known reading B o (λ e. items_at_most known reading B n e) r)
   in_order_on n o ih (Err k) = refl
   in_order_on n o ih (Ok f) =
-      in_order_if (known f.name) (reading f.name B f.start f.size) o f.end
+      in_order_if (known (name_in f)) (reading_in reading B f) f.begin f.end
       (walk_at_most (box_of known reading B) B n f.end) (items_at_most known reading B n f.end) (ih f.end)
 
   pub in_order_cond : (b : Bool) (w : Reading (List A)) (is : List (Item A)) → w ≡ in_order is
@@ -72,7 +72,7 @@ module _ {A : Type 0} (known : BoxType → Bool) (reading : BoxType → List ℕ
   same_on n m o ih (Ok f) is =
       let room = frame_room B o f is in
       ap (λ (rest : List (Item A)).
-      cond (known f.name) (record { begin = o; reading = reading f.name B f.start f.size; end = f.end } ∷ rest)
+      cond (known (name_in f)) (box_item reading B f ∷ rest)
       rest) (ih f.end (omega (arith, room.0)))
 
   at_end : (n o : ℕ) → length B ≤ o → items_at_most known reading B n o ≡ []
@@ -107,7 +107,7 @@ module _ {A : Type 0} (known : BoxType → Bool) (reading : BoxType → List ℕ
   rest_same o (Ok f) is =
       let room = frame_room B o f is in
       ap (λ (rest : List (Item A)).
-      cond (known f.name) (record { begin = o; reading = reading f.name B f.start f.size; end = f.end } ∷ rest)
+      cond (known (name_in f)) (box_item reading B f ∷ rest)
       rest) (enough (length B - 1) (length B) f.end (omega (arith, room.0)) (omega arith))
 
   items_first : (o : ℕ) → o < length B
@@ -125,20 +125,20 @@ module _ {A : Type 0} (known : BoxType → Bool) (reading : BoxType → List ℕ
   items_by o r h is = items_first o h ∙ ap (items_on known reading B o (λ e. items known reading B e)) is
 
   -- a frame of an unknown name is skipped
-  pub items_skip : (o : ℕ) (f : Frame) → o < length B → frame B o ≡ Ok f → known f.name ≡ false
+  pub items_skip : (o : ℕ) (f : Frame) → o < length B → frame B o ≡ Ok f → known (name_in f) ≡ false
       → items known reading B o ≡ items known reading B f.end
   items_skip o f h is k = items_by o (Ok f) h is
       ∙ ap (λ (b : Bool). cond b
-      (record { begin = o; reading = reading f.name B f.start f.size; end = f.end } ∷ items known reading B f.end)
+      (box_item reading B f ∷ items known reading B f.end)
       (items known reading B f.end)) k
 
   -- a frame of a known name is an item
-  pub items_known : (o : ℕ) (f : Frame) → o < length B → frame B o ≡ Ok f → known f.name ≡ true
-      → items known reading B o ≡ record { begin = o; reading = reading f.name B f.start f.size; end = f.end }
+  pub items_known : (o : ℕ) (f : Frame) → o < length B → frame B o ≡ Ok f → known (name_in f) ≡ true
+      → items known reading B o ≡ box_item reading B f
       ∷ items known reading B f.end
   items_known o f h is k = items_by o (Ok f) h is
       ∙ ap (λ (b : Bool). cond b
-      (record { begin = o; reading = reading f.name B f.start f.size; end = f.end } ∷ items known reading B f.end)
+      (box_item reading B f ∷ items known reading B f.end)
       (items known reading B f.end)) k
 
   -- a frame at fault is the last item

@@ -2,7 +2,8 @@
 -- a list has one outcome: where that is a fault, it says nothing of the boxes before.
 use Rattle.std.specs.Prelude.{ℕ, zero, suc, Bool, nat_le, List, [], ◌∷◌, length, Result, Ok, Err, if◌then◌else◌}
 use Rattle.mp4_frame.specs.Reading.{Fault, Reading, done, faults, memory, ◌>>=◌}
-use Rattle.mp4_frame.specs.Heads.{frame}
+use Rattle.mp4_frame.specs.Heads.{frame, name_in}
+use Rattle.mp4_frame.specs.Streams.{reading_in}
 use Rattle.mp4_frame.specs.declared.box_type.BoxType.{BoxType}
 use Rattle.mp4_frame.specs.declared.frame.Frame.{Frame}
 
@@ -12,9 +13,9 @@ pub record Item (A : Type 0) : Type 0 where
   pub reading : Reading A
   pub end : ℕ
 
--- the box in this frame, which begins at o
-abbrev pub box_item : {A : Type 0} → (BoxType → List ℕ → ℕ → ℕ → Reading A) → List ℕ → ℕ → Frame → Item A
-box_item reading B o f = record { begin = o; reading = reading f.name B f.start f.size; end = f.end }
+-- the box in this frame
+abbrev pub box_item : {A : Type 0} → (BoxType → List ℕ → ℕ → ℕ → Reading A) → List ℕ → Frame → Item A
+box_item reading B f = record { begin = f.begin; reading = reading_in reading B f; end = f.end }
 
 -- a frame at fault, which begins at o
 abbrev pub fault_item : {A : Type 0} → ℕ → Fault → Item A
@@ -26,7 +27,7 @@ abbrev pub items_on : {A : Type 0} → (BoxType → Bool) → (BoxType → List 
     → (ℕ → List (Item A)) → Result Frame Fault → List (Item A)
 items_on known reading B o rest (Err k) = fault_item o k ∷ []
 items_on known reading B o rest (Ok f) =
-    if known f.name then box_item reading B o f ∷ rest f.end else rest f.end
+    if known (name_in f) then box_item reading B f ∷ rest f.end else rest f.end
 
 -- the items of the frames from o on, n frames at most
 unfoldable pub items_at_most : {A : Type 0} → (BoxType → Bool) → (BoxType → List ℕ → ℕ → ℕ → Reading A) → List ℕ → ℕ

@@ -2,7 +2,9 @@
 
 ghost use Rattle.std.specs.Prelude.{◌≡◌, ◌+◌, ◌≤◌, length, IsTrue};
 ghost use Rattle.std.specs.Iterator.{item_count};
+ghost use Rattle.mp4_frame.specs.Heads.{name_in};
 ghost use Rattle.mp4_frame.specs.Reading.{Answers};
+ghost use Rattle.mp4_frame.specs.Streams.{reading_in};
 ghost use Rattle.mp4_iterator.specs.Progress.{begins_at, left, GivesBox, GivesInto};
 ghost use Rattle.mp4_iterator.specs.Seeks.{Seeks};
 
@@ -53,7 +55,7 @@ fn seek<B: StreamBox>(bytes: &[u8], at: &mut u64) -> Result<Option<Frame>>
     while begin < bytes.len() as u64 {
         *at = begin;
         let frame = frame_at(bytes, begin as usize)?;
-        if B::knows(frame.name) {
+        if B::knows(frame.name()) {
             return Ok(Some(frame));
         }
         begin = frame.end;
@@ -64,13 +66,14 @@ fn seek<B: StreamBox>(bytes: &[u8], at: &mut u64) -> Result<Option<Frame>>
 
 /// Reads the box in this frame.
 fn read_frame<B: StreamBox>(alloc: Global, bytes: &[u8], frame: &Frame) -> Result<B>
-    requires known { IsTrue (B.known frame.now.name) }
-    requires header { frame.now.start + 8 ≤ length bytes.now }
-    ensures { Answers result (B.named_reading frame.now.name bytes.now frame.now.start frame.now.size) }
+    requires known { IsTrue (B.known (name_in frame.now)) }
+    requires header { 8 ≤ frame.now.content }
+    requires order { frame.now.content ≤ frame.now.end }
+    ensures { Answers result (reading_in B.named_reading bytes.now frame.now) }
 {
     let mut reader = ByteCursor::new(bytes);
-    reader.set_position(frame.start + 8);
-    B::read_named(alloc, frame.name, &mut reader, frame.size)
+    reader.set_position(frame.content);
+    B::read_named(alloc, frame.name(), &mut reader, frame.size())
 }
 
 impl<'a, B: StreamBox> Boxes<'a, B> {
@@ -111,10 +114,10 @@ impl<'a, B: StreamBox> Boxes<'a, B> {
         };
         B::push_named(
             self.alloc,
-            frame.name,
+            frame.name(),
             self.bytes,
-            frame.start,
-            frame.size,
+            frame.start(),
+            frame.size(),
             place,
         )?;
         self.offset = frame.end;

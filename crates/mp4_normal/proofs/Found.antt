@@ -4,14 +4,15 @@ use Rattle.std.proofs.Common.{refl, ap, sym, subst, ◌∙◌, arith, inl, lengt
 use Rattle.std.specs.Prelude.{nat_lt, not, All}
 use Rattle.std.proofs.lemmas.List.{flat_map_more, get_or_at, get_or_append_left}
 use Rattle.std.proofs.lemmas.List.Elements.{All-append, All-from_recursion}
-use Rattle.mp4_frame.specs.Heads.{frame}
+use Rattle.mp4_frame.specs.Heads.{frame, name_in}
 use Rattle.mp4_frame.specs.Reading.{Fault, Refuses, FaultAs}
-use Rattle.mp4_frame.specs.Streams.{stream, boxes, box_of, append_read}
+use Rattle.mp4_frame.specs.Streams.{stream, boxes, box_of, append_read, reading_in}
 use Rattle.mp4_frame.specs.declared.error.Error.{Error}
 use Rattle.mp4_frame.specs.declared.error.Error.TheVariants as errors
 use Rattle.mp4_frame.specs.declared.frame.Frame.{Frame}
 use Rattle.mp4_frame.specs.BoxType.{is_disguised}
 use Rattle.mp4_frame.proofs.Steps.{continue_with, one_kept, item_known, frame_faults, append_read_faults, all_read}
+use Rattle.mp4_stream.specs.NameLaws.{plain_name}
 use Rattle.mp4_stream.specs.KeptBox.{format_kept, known_kept, reading_kept}
 use Rattle.mp4_stream.specs.declared.kept_box.KeptBox.{KeptBox}
 use Rattle.mp4_normal.specs.Changes.{AppendsIf, AreBefore, OneMade, made_from, made_of}
@@ -96,26 +97,30 @@ module _ (B : List ℕ) (c : Changes) (can : Bool) (at : ℕ) (so_far : SoFar B 
       inl (frame_faults known_kept reading_kept B (nat_lt 0 (length so_far.vs)) so_far.vs at e (boxes_of B) lt fault
       so_far.told)
 
-  module _ (f : Frame) (is : frame B at ≡ Ok f) (plain : is_disguised f.name ≡ false) where
+  module _ (f : Frame) (is : frame B at ≡ Ok f) where
+    plain : is_disguised (name_in f) ≡ false
+    plain = plain_name f.code
+
     -- its box can't be read, or memory is refused
     pub box_refused : (old new : List ℕ) (e : Error)
-        → OneMade format_kept (reading_kept f.name B f.start f.size) old new (Err e) → NormalRefuses B e
+        → OneMade format_kept (reading_in reading_kept B f) old new (Err e) → NormalRefuses B e
     box_refused old new e refused =
-        let r = reading_kept f.name B f.start f.size in
+        let r = reading_in reading_kept B f in
         inl (append_read_faults known_kept reading_kept B so_far.vs at f e (boxes_of B) lt is (ap not plain)
         (in_list_of so_far.vs r.asks_memory r.outcome e refused) so_far.told)
 
     -- what changes in its box is found
-    pub one_more : (fits : Bool) (n : Changes)
-        → OneMade format_kept (reading_kept f.name B f.start f.size) (made_of c B at) (made_of n B f.end) (Ok fits)
+    pub one_more : (fits : Bool) (n : Changes) → f.begin ≡ at
+        → OneMade format_kept (reading_in reading_kept B f) (made_of c B f.begin) (made_of n B f.end) (Ok fits)
         → AreBefore n (length n.fresh.items) f.end
         → f.end ≤ length B → SoFar B n (can && fits) f.end
-    one_more fits n h before within =
+    one_more fits n begins h before within =
+        let one = subst (λ (k : ℕ). AppendsIf format_kept h.0 (made_of c B k) (made_of n B f.end) fits) begins h.2 in
         record {
           vs = so_far.vs ++ h.0 ∷ [];
           told = one_kept (box_of known_kept reading_kept B) B so_far.vs h.0 at f (boxes_of B) lt is
-              (item_known known_kept reading_kept B at f h.0 (ap not plain) h.1) so_far.told;
-          made = made_more so_far.vs h.0 (made_of c B at) (made_of n B f.end) can fits so_far.made h.2;
+              (item_known known_kept reading_kept B f h.0 (ap not plain) h.1) so_far.told;
+          made = made_more so_far.vs h.0 (made_of c B at) (made_of n B f.end) can fits so_far.made one;
           before = before;
           within = within;
         }

@@ -2,9 +2,11 @@
 
 ghost use Rattle.std.specs.Prelude.{◌≡◌, ◌+◌, ◌<◌, ◌≤◌, ◌^◌, ◌++◌, ◌∷◌, [], false, length, IsTrue, MatchResult, OnOk};
 ghost use Rattle.std.specs.Prelude.{IfErr, IfOk};
-ghost use Rattle.mp4_frame.specs.BoxType.{code_of, is_disguised};
+ghost use Rattle.mp4_frame.specs.BoxType.{code_of};
 ghost use Rattle.mp4_frame.specs.Bytes.{bytes_of_fields};
+ghost use Rattle.mp4_frame.specs.Heads.{start_in, size_in};
 ghost use Rattle.mp4_frame.specs.Laws.{AreBytes};
+ghost use Rattle.mp4_frame.specs.Streams.{reading_in};
 ghost use Rattle.mp4_frame.specs.declared.error.Error.TheVariants.{OutOfMemory};
 ghost use Rattle.mp4_stream.specs.KeptBox.{reading_kept, format_kept};
 ghost use Rattle.mp4_stream.specs.Other.{is_typed};
@@ -13,7 +15,7 @@ ghost use Rattle.mp4_normal.specs.Changes.{AppendsIf, AreBefore, OneMade, made_o
 ghost use Rattle.mp4_normal.specs.Normal.{Normalizes, NormalRefuses};
 
 use crate::change::Changes;
-use mp4_frame::{BoxHeader, Frame, frame_at};
+use mp4_frame::{BoxHeader, BoxType, Frame, frame_at};
 use mp4_stream::{AnyBox, Error, Result, StreamBox, WriteBox};
 use std::alloc::Global;
 
@@ -47,102 +49,122 @@ fn replace_by<B: WriteBox>(
     changes.replace(stream, from, begin, end)
 }
 
-/// Has a header of 8 bytes replace the one of the box of this frame that begins at `at`. The only error is out of
-/// memory.
-fn replace_header(changes: &mut Changes, stream: &[u8], at: usize, frame: &Frame) -> Result<()>
-    requires small { frame.now.size < 2 ^ 32 }
-    requires begins { at ≤ frame.now.start }
-    requires within { frame.now.start + 8 ≤ length stream.now }
-    requires before { AreBefore changes.old (length changes.old.fresh.items) at }
+/// Has a header of 8 bytes replace the one in the stream from `begin` to `content`. The only error is out of memory.
+fn replace_header(
+    changes: &mut Changes,
+    stream: &[u8],
+    header: BoxHeader,
+    begin: usize,
+    content: usize,
+) -> Result<()>
+    requires small { header.size < 2 ^ 32 }
+    requires order { begin ≤ content }
+    requires within { content ≤ length stream.now }
+    requires before { AreBefore changes.old (length changes.old.fresh.items) begin }
     ensures made { OnOk result
-        (made_of changes.new stream.now (frame.now.start + 8) ≡ made_of changes.old stream.now at
-        ++ bytes_of_fields ((4, frame.now.size) ∷ (4, code_of frame.now.name) ∷ [])) }
-    ensures before { OnOk result (AreBefore changes.new (length changes.new.fresh.items) (frame.now.start + 8)) }
+        (made_of changes.new stream.now content ≡ made_of changes.old stream.now begin
+        ++ bytes_of_fields ((4, header.size) ∷ (4, code_of header.name) ∷ [])) }
+    ensures before { OnOk result (AreBefore changes.new (length changes.new.fresh.items) content) }
     ensures error { IfErr result (λ e. e ≡ OutOfMemory) }
 {
     let from = changes.fresh.len();
-    BoxHeader::new(frame.name, frame.size).write(&mut changes.fresh)?;
-    changes.replace(stream, from, at, frame.start as usize + 8)
+    header.write(&mut changes.fresh)?;
+    changes.replace(stream, from, begin, content)
 }
 
-/// Finds what changes in the box of another code that begins at `at`: its header at most. Returns whether the box can
-/// be written. The only error is out of memory.
-fn find_in_other(changes: &mut Changes, stream: &[u8], at: usize, frame: &Frame) -> Result<bool>
-    requires untyped { is_typed (code_of frame.now.name) ≡ false }
-    requires begins { at ≤ frame.now.start }
-    requires end { frame.now.start + frame.now.size ≡ frame.now.end }
-    requires least { 8 ≤ frame.now.size }
+/// Finds what changes in the box of this frame and of another code: its header at most. Returns whether the box can be
+/// written. `name` is its name. The only error is out of memory.
+fn find_in_other(
+    changes: &mut Changes,
+    stream: &[u8],
+    name: BoxType,
+    frame: &Frame,
+) -> Result<bool>
+    requires untyped { is_typed (code_of name) ≡ false }
+    requires header { frame.now.begin + 8 ≤ frame.now.content }
+    requires order { frame.now.content ≤ frame.now.end }
     requires within { frame.now.end ≤ length stream.now }
-    requires before { AreBefore changes.old (length changes.old.fresh.items) at }
+    requires before { AreBefore changes.old (length changes.old.fresh.items) frame.now.begin }
     ensures made { IfOk result
-        (λ can. AppendsIf format_other (other_at (code_of frame.now.name) stream.now frame.now.start frame.now.size)
-        (made_of changes.old stream.now at) (made_of changes.new stream.now frame.now.end) can) }
+        (λ can. AppendsIf format_other (other_at (code_of name) stream.now (start_in frame.now) (size_in frame.now))
+        (made_of changes.old stream.now frame.now.begin) (made_of changes.new stream.now frame.now.end) can) }
     ensures before { OnOk result (AreBefore changes.new (length changes.new.fresh.items) frame.now.end) }
     ensures error { IfErr result (λ e. e ≡ OutOfMemory) }
 {
     are_bytes(stream);
-    let _code = u32::from(frame.name);
-    if frame.size >= 1 << 32 {
+    let _code = u32::from(name);
+    let size = frame.size();
+    if size >= 1 << 32 {
         return Ok(false);
     }
-    replace_header(changes, stream, at, frame)?;
+    let header = BoxHeader { name, size };
+    replace_header(
+        changes,
+        stream,
+        header,
+        frame.begin as usize,
+        frame.content as usize,
+    )?;
     Ok(true)
 }
 
-/// Finds what changes in the box of a type of the codec that begins at `at`. Returns whether the box can be written.
-/// `slot` is where it is read to.
+/// Finds what changes in the box of this frame and of a type of the codec. Returns whether the box can be written.
+/// `name` is its name, and `slot` is where it is read to.
 fn find_in_typed<B: StreamBox>(
     alloc: Global,
     changes: &mut Changes,
     stream: &[u8],
-    at: usize,
+    name: BoxType,
     frame: &Frame,
     slot: &mut Vec<B>,
 ) -> Result<bool>
-    requires known { IsTrue (B.known frame.now.name) }
-    requires begins { at ≤ frame.now.start }
-    requires end { frame.now.start + frame.now.size ≡ frame.now.end }
-    requires header { frame.now.start + 8 ≤ frame.now.end }
+    requires known { IsTrue (B.known name) }
+    requires header { frame.now.begin + 8 ≤ frame.now.content }
+    requires order { frame.now.content ≤ frame.now.end }
     requires within { frame.now.end ≤ length stream.now }
-    requires before { AreBefore changes.old (length changes.old.fresh.items) at }
-    ensures made { OneMade B.format (B.named_reading frame.now.name stream.now frame.now.start frame.now.size)
-        (made_of changes.old stream.now at) (made_of changes.new stream.now frame.now.end) result }
+    requires before { AreBefore changes.old (length changes.old.fresh.items) frame.now.begin }
+    ensures made { OneMade B.format (B.named_reading name stream.now (start_in frame.now) (size_in frame.now))
+        (made_of changes.old stream.now frame.now.begin) (made_of changes.new stream.now frame.now.end) result }
     ensures before { OnOk result (AreBefore changes.new (length changes.new.fresh.items) frame.now.end) }
 {
     slot.clear();
-    B::push_named(alloc, frame.name, stream, frame.start, frame.size, slot)?;
+    B::push_named(alloc, name, stream, frame.start(), frame.size(), slot)?;
     let value = &slot[0];
     if !value.is_writable() {
         return Ok(false);
     }
-    replace_by(changes, stream, value, at, frame.end as usize)?;
+    replace_by(
+        changes,
+        stream,
+        value,
+        frame.begin as usize,
+        frame.end as usize,
+    )?;
     Ok(true)
 }
 
-/// Finds what changes in the box that begins at `at`. Returns whether the box can be written.
+/// Finds what changes in the box of this frame. Returns whether the box can be written.
 fn find_in_box(
     alloc: Global,
     changes: &mut Changes,
     stream: &[u8],
-    at: usize,
     frame: &Frame,
     slot: &mut Vec<AnyBox>,
 ) -> Result<bool>
-    requires plain { is_disguised frame.now.name ≡ false }
-    requires begins { at ≤ frame.now.start }
-    requires end { frame.now.start + frame.now.size ≡ frame.now.end }
-    requires header { frame.now.start + 8 ≤ frame.now.end }
+    requires header { frame.now.begin + 8 ≤ frame.now.content }
+    requires order { frame.now.content ≤ frame.now.end }
     requires within { frame.now.end ≤ length stream.now }
-    requires before { AreBefore changes.old (length changes.old.fresh.items) at }
-    ensures made { OneMade format_kept (reading_kept frame.now.name stream.now frame.now.start frame.now.size)
-        (made_of changes.old stream.now at) (made_of changes.new stream.now frame.now.end) result }
+    requires before { AreBefore changes.old (length changes.old.fresh.items) frame.now.begin }
+    ensures made { OneMade format_kept (reading_in reading_kept stream.now frame.now)
+        (made_of changes.old stream.now frame.now.begin) (made_of changes.new stream.now frame.now.end) result }
     ensures before { OnOk result (AreBefore changes.new (length changes.new.fresh.items) frame.now.end) }
 {
-    if AnyBox::knows(frame.name) {
-        find_in_typed(alloc, changes, stream, at, frame, slot)
+    let name = frame.name();
+    if AnyBox::knows(name) {
+        find_in_typed(alloc, changes, stream, name, frame, slot)
     } else {
         are_bytes(stream);
-        find_in_other(changes, stream, at, frame)
+        find_in_other(changes, stream, name, frame)
     }
 }
 
@@ -159,7 +181,7 @@ pub fn find_changes(alloc: Global, stream: &[u8]) -> Result<Changes>
     let mut at = 0;
     while at < stream.len() {
         let frame = frame_at(stream, at)?;
-        let fits = find_in_box(alloc, &mut changes, stream, at, &frame, &mut slot)?;
+        let fits = find_in_box(alloc, &mut changes, stream, &frame, &mut slot)?;
         can = can && fits;
         at = frame.end as usize;
     }

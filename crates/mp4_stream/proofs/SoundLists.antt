@@ -4,13 +4,13 @@ use Rattle.std.proofs.Common.{length, map, Result, Ok, Err, refl, sym, ap, subst
 use Rattle.std.specs.List.{AllByRecursion}
 use Rattle.std.specs.Prelude.{nat_lt, nat_le, ◌==◌}
 use Rattle.std.proofs.lemmas.Bool.{cond_both}
-use Rattle.mp4_frame.specs.BoxType.{name_of, code_of, code_of-name_of}
+use Rattle.mp4_frame.specs.BoxType.{code_of, code_of-name_of}
 use Rattle.mp4_frame.specs.Bytes.{number}
 use Rattle.mp4_frame.specs.Format.{Format, IsWritten}
-use Rattle.mp4_frame.specs.Heads.{head, compact_head, large_head, frame_of_head, frame_of, frame}
+use Rattle.mp4_frame.specs.Heads.{head, compact_head, large_head, frame_of_head, frame_of, frame, name_in, start_in, size_in}
 use Rattle.mp4_frame.specs.Laws.{AreBytes}
 use Rattle.mp4_frame.specs.Reading.{Reading, Fault, ◌>>=◌, check, memory, done}
-use Rattle.mp4_frame.specs.Streams.{walk_on, walk_at_most, box_of, boxes, stream}
+use Rattle.mp4_frame.specs.Streams.{walk_on, walk_at_most, box_of, boxes, reading_in, stream}
 use Rattle.mp4_frame.specs.declared.box_type.BoxType.{BoxType}
 use Rattle.mp4_frame.specs.declared.frame.Frame.{Frame}
 use Rattle.mp4_frame.specs.declared.head.Head.{Head}
@@ -19,7 +19,7 @@ use Rattle.mp4_frame.proofs.Fields.{number-below}
 use Rattle.mp4_frame.proofs.Tables.{value_first}
 use Rattle.mp4_stream.specs.Sound.{ReadsSoundly}
 
--- ---- the name of a frame is that of a code of four bytes
+-- ---- the code of a frame has four bytes
 
 code_by : (B : List ℕ) (o : ℕ) (c : Head) (b : Bool) → (cond b (large_head B o) (compact_head B o)).outcome ≡ Ok c
     → number B (o + 4) 4 ≡ c.code
@@ -36,24 +36,23 @@ unfolding head
 head_code B o c e = code_by B o c (number B o 4 == 1)
     (expect_bytes_ok B o 8 (λ _. cond (number B o 4 == 1) (large_head B o) (compact_head B o)) c e)
 
-abbrev IsNamed : ℕ → Result Frame Fault → Type 0
-IsNamed code (Ok f) = f.name ≡ name_of code
-IsNamed code (Err k) = Unit {0}
+abbrev IsCoded : ℕ → Result Frame Fault → Type 0
+IsCoded code (Ok f) = f.code ≡ code
+IsCoded code (Err k) = Unit {0}
 
-frame_named : (len : ℕ) (h : Head) → IsNamed h.code (frame_of_head len h)
+frame_coded : (len o : ℕ) (h : Head) → IsCoded h.code (frame_of_head len o h)
 unfolding frame_of_head
-frame_named len h =
-    cond_both (h.size == 0) _ _ (IsNamed h.code) (λ _. refl) (λ _.
-    cond_both (nat_lt h.size 8) _ _ (IsNamed h.code) (λ _. tt) (λ _.
-    cond_both (nat_lt (2 ^ 64 - 1) (h.start + h.size)) _ _ (IsNamed h.code) (λ _. tt) (λ _.
-    cond_both (nat_lt len (h.start + h.size)) _ _ (IsNamed h.code) (λ _. tt) (λ _. refl))))
+frame_coded len o h =
+    cond_both (h.size == 0) _ _ (IsCoded h.code) (λ _. refl) (λ _.
+    cond_both (nat_lt h.size 8) _ _ (IsCoded h.code) (λ _. tt) (λ _.
+    cond_both (nat_lt (2 ^ 64 - 1) (h.start + h.size)) _ _ (IsCoded h.code) (λ _. tt) (λ _.
+    cond_both (nat_lt len (h.start + h.size)) _ _ (IsCoded h.code) (λ _. tt) (λ _. refl))))
 
 code_in_frame : (B : List ℕ) (o : ℕ) (f : Frame) → AreBytes B → (r : Result Head Fault) → (head B o).outcome ≡ r
-    → frame_of (length B) r ≡ Ok f → code_of f.name < 2 ^ 32
+    → frame_of (length B) o r ≡ Ok f → code_of (name_in f) < 2 ^ 32
 code_in_frame B o f are (Ok h) is e =
-    let name : f.name ≡ name_of h.code = subst (IsNamed h.code) e (frame_named (length B) h) in
-    let code : code_of f.name ≡ number B (o + 4) 4 = ap code_of name ∙ code_of-name_of h.code
-    ∙ sym (head_code B o h is) in
+    let same : f.code ≡ h.code = subst (IsCoded h.code) e (frame_coded (length B) o h) in
+    let code : code_of (name_in f) ≡ number B (o + 4) 4 = code_of-name_of f.code ∙ same ∙ sym (head_code B o h is) in
     omega (arith, code, number-below B (o + 4) 4 are)
 code_in_frame B o f are (Err k) is e = absurd cc
 
@@ -89,23 +88,23 @@ module _ {A : Type 0} (format : Format A) (known : BoxType → Bool)
   are_writable (v ∷ vs) h small = (h.0.1 small.0, are_writable vs h.1 small.1)
 
   module _ (sound : ReadsSoundly known reading format) (B : List ℕ) (are : AreBytes B) where
-    item_by : (o : ℕ) (f : Frame) → code_of f.name < 2 ^ 32 → (xs : List A) (b : Bool) → known f.name ≡ b
-        → (cond b (reading f.name B f.start f.size >>= λ v. memory >>= λ _. done (v ∷ [])) (done [])).outcome ≡ Ok xs
+    item_by : (f : Frame) → code_of (name_in f) < 2 ^ 32 → (xs : List A) (b : Bool) → known (name_in f) ≡ b
+        → (cond b (reading_in reading B f >>= λ v. memory >>= λ _. done (v ∷ [])) (done [])).outcome ≡ Ok xs
         → AreSound xs
-    item_by o f small xs true is e =
-        let p = value_first (reading f.name B f.start f.size) (λ v. memory >>= λ _. done (v ∷ [])) xs e in
-        subst AreSound (is_value (p.0 ∷ []) xs p.2) (sound f.name is small B f.start f.size p.0 are p.1, tt)
-    item_by o f small xs false is e = subst AreSound (is_value [] xs e) tt
+    item_by f small xs true is e =
+        let p = value_first (reading_in reading B f) (λ v. memory >>= λ _. done (v ∷ [])) xs e in
+        subst AreSound (is_value (p.0 ∷ []) xs p.2) (sound (name_in f) is small B (start_in f) (size_in f) p.0 are p.1, tt)
+    item_by f small xs false is e = subst AreSound (is_value [] xs e) tt
 
     walk_on_sound : (o : ℕ) (rest : ℕ → Reading (List A))
         → ((e : ℕ) (ys : List A) → (rest e).outcome ≡ Ok ys → AreSound ys) → (r : Result Frame Fault) → frame B o ≡ r
-        → (vs : List A) → (walk_on (box_of known reading B o) rest r).outcome ≡ Ok vs → AreSound vs
+        → (vs : List A) → (walk_on (box_of known reading B) rest r).outcome ≡ Ok vs → AreSound vs
     walk_on_sound o rest after (Ok f) is vs e =
         let small = code_in_frame B o f are (head B o).outcome refl is in
-        let p = value_first (box_of known reading B o f) (λ xs. rest f.end >>= λ ys. done (xs ++ ys)) vs e in
+        let p = value_first (box_of known reading B f) (λ xs. rest f.end >>= λ ys. done (xs ++ ys)) vs e in
         let q = value_first (rest f.end) (λ ys. done (p.0 ++ ys)) vs p.2 in
         subst AreSound (is_value (p.0 ++ q.0) vs q.2)
-        (joined p.0 q.0 (item_by o f small p.0 (known f.name) refl p.1) (after f.end q.0 q.1))
+        (joined p.0 q.0 (item_by f small p.0 (known (name_in f)) refl p.1) (after f.end q.0 q.1))
     walk_on_sound o rest after (Err k) is vs e = absurd cc
 
     walk_sound : (n o : ℕ) (vs : List A) → (walk_at_most (box_of known reading B) B n o).outcome ≡ Ok vs → AreSound vs
@@ -113,7 +112,7 @@ module _ {A : Type 0} (format : Format A) (known : BoxType → Bool)
     walk_sound zero o vs e = subst AreSound (is_value [] vs e) tt
     walk_sound (suc n) o vs e =
         by_end (nat_le (length B) o)
-        (walk_on (box_of known reading B o) (λ e. walk_at_most (box_of known reading B) B n e) (frame B o)) vs
+        (walk_on (box_of known reading B) (λ e. walk_at_most (box_of known reading B) B n e) (frame B o)) vs
         AreSound tt
         (walk_on_sound o (λ e. walk_at_most (box_of known reading B) B n e) (λ e ys h. walk_sound n e ys h)
         (frame B o) refl vs) e

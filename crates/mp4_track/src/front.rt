@@ -13,7 +13,7 @@ pub fn front_box<B: ReadBox>(alloc: Global, code: u32, bytes: &[u8]) -> Result<B
 {
     let head = Head::at(bytes, 0)?;
     check(head.code == code, "box of another type")?;
-    let frame = frame_of_head(bytes.len() as u64, head)?;
-    let box_bytes = &bytes[frame.start as usize..];
-    B::read_content(alloc, box_bytes, frame.start, frame.size)
+    let frame = frame_of_head(bytes.len() as u64, 0, head)?;
+    let box_bytes = &bytes[frame.start() as usize..];
+    B::read_content(alloc, box_bytes, frame.start(), frame.size())
 }

@@ -6,7 +6,6 @@ use Rattle.std.specs.declared.option.Option.{Option}
 use Rattle.std.proofs.lemmas.Bool.{cond_both, leb-false, ne_eqb}
 use Rattle.std.proofs.lemmas.Grind.{flat_map-append}
 use Rattle.std.proofs.lemmas.List.{take_all}
-use Rattle.mp4_frame.specs.BoxType.{code_of}
 use Rattle.mp4_frame.specs.FourCC.{four_cc_of}
 use Rattle.mp4_frame.specs.Heads.{frame}
 use Rattle.mp4_frame.specs.Reading.{Fault}
@@ -94,12 +93,12 @@ module _ (B : List ℕ) (short : length B < 2 ^ 64) (n : ℕ)
       → top_boxes (boxes_by boxes s) ≡ framed (λ e. frames_at_most n B e) o (frame B o)
   by_whole l o p s top ends is true w whole none =
       let f = whole w in
-      let code : s.found.code ≡ Some (four_cc_of (code_of f.0.name)) = is.code ∙ ap four_cc f.2 in
+      let code : s.found.code ≡ Some (four_cc_of f.0.code) = is.code ∙ ap four_cc f.2 in
       let here : top_box s.found ≡ span_of o f.0 ∷ [] =
-      whole_box s.found (four_cc_of (code_of f.0.name)) (is.depth ∙ top) (is.whole ∙ w) code
-      ∙ ap (λ (k : ℕ). record { position = k; length = s.found.length; code = four_cc_of (code_of f.0.name) } ∷ [])
+      whole_box s.found (four_cc_of f.0.code) (is.depth ∙ top) (is.whole ∙ w) code
+      ∙ ap (λ (k : ℕ). record { position = k; length = s.found.length; code = four_cc_of f.0.code } ∷ [])
       is.position
-      ∙ ap (λ (k : ℕ). record { position = o; length = k; code = four_cc_of (code_of f.0.name) } ∷ [])
+      ∙ ap (λ (k : ℕ). record { position = o; length = k; code = four_cc_of f.0.code } ∷ [])
       (is.long ∙ f.3) in
       ap (λ (zs : List Span). zs ++ top_boxes (boxes_after boxes s.level s.at s.inner)) here
       ∙ ap (λ (zs : List Span). span_of o f.0 ∷ zs)

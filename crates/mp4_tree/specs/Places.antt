@@ -1,7 +1,6 @@
 -- Where the boxes of a file stand: each whole box is a frame of the content that it is in.
 use Rattle.std.specs.Prelude.{◌≡◌, ℕ, ◌+◌, ◌<◌, ◌≤◌, true, List, length, take, Some, Ok, ◌⊎◌}
 use Rattle.std.specs.List.{Contains}
-use Rattle.mp4_frame.specs.BoxType.{code_of}
 use Rattle.mp4_frame.specs.FourCC.{four_cc_of}
 use Rattle.mp4_frame.specs.Heads.{frame}
 use Rattle.mp4_frame.specs.declared.frame.Frame.{Frame}
@@ -16,7 +15,7 @@ IsAround B boxes depth end o = ((depth ≡ 0) × (end ≡ length B))
 
 -- the box is a frame of these bytes
 abbrev pub IsFrame : List ℕ → TreeBox → Type 0
-IsFrame bytes x = (f : Frame) × (frame bytes x.position ≡ Ok f) × (x.code ≡ Some (four_cc_of (code_of f.name)))
+IsFrame bytes x = (f : Frame) × (frame bytes x.position ≡ Ok f) × (x.code ≡ Some (four_cc_of f.code))
     × (x.position + x.length ≡ f.end)
 
 -- the box is in the file or in another of its boxes, and if it is whole, it is a frame there

@@ -4,7 +4,6 @@ use Rattle.std.specs.Prelude.{ℕ, zero, suc, ◌-◌, ◌==◌, ◌&&◌, Bool,
 use Rattle.std.specs.Prelude.{Some, Result, Ok, Err, if◌then◌else◌}
 use Rattle.std.specs.declared.option.Option.{Option}
 use Rattle.std.specs.List.{flat_map}
-use Rattle.mp4_frame.specs.BoxType.{code_of}
 use Rattle.mp4_frame.specs.FourCC.{four_cc_of}
 use Rattle.mp4_frame.specs.Heads.{frame}
 use Rattle.mp4_frame.specs.Reading.{Fault}
@@ -22,7 +21,7 @@ pub record Span : Type 0 where
 
 -- the frame at o
 abbrev pub span_of : ℕ → Frame → Span
-span_of o f = record { position = o; length = f.end - o; code = four_cc_of (code_of f.name) }
+span_of o f = record { position = o; length = f.end - o; code = four_cc_of f.code }
 
 -- a frame at o, and those of the rest; none where there is no frame
 abbrev pub framed : (ℕ → List Span) → ℕ → Result Frame Fault → List Span

@@ -6,7 +6,7 @@ ghost use Rattle.mp4_tree.specs.Place.{code_at, unread, place_of_head, place_of,
 
 use crate::level::Level;
 use crate::tree_box::What;
-use mp4_frame::{Error, Head, u32_at};
+use mp4_frame::{Error, Head, frame_of_head, u32_at};
 
 /// Where a box is in its level, or the rest of the level where no box can be read.
 #[derive(Clone, Copy, Debug, PartialEq, Eq)]
@@ -56,36 +56,24 @@ fn place_of_head(level: Level, at: u64, head: Head) -> Place
     ensures inside { (head.start + 8 ≤ result.content) × (result.content ≤ result.end) × (result.end ≤ level.end) }
     ensures near { result.content < result.end → result.content ≡ head.start + 8 }
 {
-    let Head { code, size, start } = head;
-    let content = start + 8;
-    if size == 0 && level.depth == 0 {
-        return Place {
-            code: Some(code),
-            content,
-            end: level.end,
-            length: level.end - at,
+    if head.size < 8 && (head.size > 0 || level.depth > 0) {
+        return unread(level, at, Some(head.code), What::Small);
+    }
+    match frame_of_head(level.end, at, head) {
+        Ok(frame) => Place {
+            code: Some(frame.code),
+            content: frame.content,
+            end: frame.end,
+            length: frame.end - at,
             what: What::Leaf,
-        };
-    }
-    if size < 8 {
-        return unread(level, at, Some(code), What::Small);
-    }
-    if size > level.end - start {
-        return Place {
-            code: Some(code),
-            content,
+        },
+        Err(_) => Place {
+            code: Some(head.code),
+            content: head.start + 8,
             end: level.end,
-            length: (start - at).saturating_add(size),
+            length: (head.start - at).saturating_add(head.size),
             what: What::Cut,
-        };
-    }
-    let end = start + size;
-    Place {
-        code: Some(code),
-        content,
-        end,
-        length: end - at,
-        what: What::Leaf,
+        },
     }
 }
 

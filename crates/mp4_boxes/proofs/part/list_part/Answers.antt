@@ -55,12 +55,13 @@ loop-next-preserved c =
     let room = subst (λ (r : Option Head). IfSome r (λ h. (c.loop-next.next ≤ h.start) × (h.start + 8 ≤ read)))
     c.in-Some.is c.in_ok-found.ensures.room in
     record {
-      least = omega (arith, c.loop-next.invariant.least, room.0, c.in_ok-frame.ensures.room.1);
+      least = omega (arith, c.loop-next.invariant.least, room.0, c.in_ok-frame.ensures.begins.1, c.in_ok-frame.ensures.room.0);
       told = λ B rest has before.
           let there = c.loop-next.invariant.told B rest has before in
           let inside = in_input B c.args.part.now rest c.args.from c.loop-next.next has c.loop-next-test.true in
           let shown = subst (λ (r : Option Head). HeadIn B read c.loop-next.next (Ok r)) c.in-Some.is
           (c.in_ok-found.ensures.head B rest has) in
+          let written = rw c.span.ensures at c.in_ok-push_line.ensures.ok in
           next_box B c.loop-next.lines.items c.loop-next.next there inside h shown f c.push_line.new.lines.items
-          c.if-head-eq0.false c.in_ok-frame.ensures.answer c.in_ok-push_line.ensures.ok;
+          c.if-head-eq0.false c.in_ok-frame.ensures.answer written;
     }

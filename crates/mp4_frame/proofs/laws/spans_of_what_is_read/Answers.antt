@@ -6,5 +6,5 @@ use Rattle.mp4_frame.proofs.laws.spans_of_what_is_read.Goals as goal
 
 pub returns : goal.returns
 returns g c = λ bytes o is.
-    walk_is_ok (box_of g.B.StreamBox.known g.B.StreamBox.named_reading bytes) span_item (λ o f. refl) bytes
+    walk_is_ok (box_of g.B.StreamBox.known g.B.StreamBox.named_reading bytes) span_item (λ f. refl) bytes
     (length bytes) o is

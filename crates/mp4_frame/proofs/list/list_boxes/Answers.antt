@@ -18,18 +18,18 @@ returns-in_err-push-clause-answer g c =
     let p = err_from_is_err_and c.from_residual-in_err-push.result c.from_residual-in_err-push.ensures.1 in
     let f = c.in_ok-frame.frame in
     rw (p.1, p.2, ← c.loop-at.invariant.there)
-    (one_refused span_item c.bytes-bytes.result.now c.loop-at.spans.items (span_of c.loop-at.at f) c.loop-at.at f _
+    (one_refused span_item c.bytes-bytes.result.now c.loop-at.spans.items (span_of f) c.loop-at.at f _
     c.loop-at-test.true c.in_ok-frame.ensures.answer refl c.loop-at.invariant.told)
 
 pub loop-at-preserved : goal.loop-at-preserved
 loop-at-preserved g c =
     let f = c.in_ok-frame.frame in
     record {
-      told = rw c.in_ok-push.ensures.items
-          (one_kept span_item c.bytes-bytes.result.now c.loop-at.spans.items (span_of c.loop-at.at f) c.loop-at.at f _
+      told = rw (c.in_ok-push.ensures.items, c.span.ensures)
+          (one_kept span_item c.bytes-bytes.result.now c.loop-at.spans.items (span_of f) c.loop-at.at f _
           c.loop-at-test.true c.in_ok-frame.ensures.answer refl c.loop-at.invariant.told);
-      least = omega (arith, c.loop-at.invariant.least, c.in_ok-frame.ensures.room.1);
-      most = omega (arith, c.in_ok-frame.ensures.room.2);
+      least = omega (arith, c.loop-at.invariant.least, c.in_ok-frame.ensures.begins.1, c.in_ok-frame.ensures.room.0);
+      most = omega (arith, c.in_ok-frame.ensures.room.1);
       there = c.loop-at.invariant.there;
     }
 

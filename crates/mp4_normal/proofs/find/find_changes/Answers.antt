@@ -1,8 +1,6 @@
-use Rattle.std.proofs.Common.{Bool, ◌&&◌, ap, sym, subst, ◌∙◌, inr}
+use Rattle.std.proofs.Common.{ℕ, Bool, ◌&&◌, length, ap, sym, subst, ◌∙◌, inr}
 use Rattle.std.proofs.lemmas.Result.{err_from_is_err_and}
-use Rattle.mp4_frame.specs.BoxType.{is_disguised}
-use Rattle.mp4_stream.specs.NameLaws.{plain_name}
-use Rattle.mp4_normal.specs.Changes.{made_of}
+use Rattle.mp4_normal.specs.Changes.{AreBefore, made_of}
 use Rattle.mp4_normal.proofs.Found.{SoFar, nothing_found, frame_refused, box_refused, one_more, all_found, all_before}
 use Rattle.mp4_normal.proofs.Found.{some_refused}
 use Rattle.mp4_normal.proofs.find.find_changes.Goals as goal
@@ -17,39 +15,36 @@ returns-in_err-frame-clause-answer c =
     rw (p.1, p.2) (frame_refused c.args.stream.now c.loop-at.changes c.loop-at.can c.loop-at.at c.loop-at.invariant
     c.loop-at-test.true c.in_err-frame.field-0.0 c.in_err-frame.ensures.answer)
 
-pub find_in_box-requires-clause-plain : goal.find_in_box-requires-clause-plain
-find_in_box-requires-clause-plain c = ap is_disguised c.in_ok-frame.ensures.name ∙ plain_name _
-
 pub find_in_box-requires-clause-before : goal.find_in_box-requires-clause-before
-find_in_box-requires-clause-before c = c.loop-at.invariant.before
+find_in_box-requires-clause-before c =
+    let cs = c.loop-at.changes in
+    subst (λ (k : ℕ). AreBefore cs (length cs.fresh.items) k) (sym c.in_ok-frame.ensures.begins.0)
+    c.loop-at.invariant.before
 
 pub returns-in_err-fits-clause-answer : goal.returns-in_err-fits-clause-answer
 returns-in_err-fits-clause-answer c =
     let p = err_from_is_err_and c.from_residual-in_err-fits.result c.from_residual-in_err-fits.ensures.1 in
     let f = c.in_ok-frame.frame in
-    let plain = ap is_disguised c.in_ok-frame.ensures.name ∙ plain_name _ in
     rw (p.1, p.2) (box_refused c.args.stream.now c.loop-at.changes c.loop-at.can c.loop-at.at c.loop-at.invariant
-    c.loop-at-test.true f c.in_ok-frame.ensures.answer plain
-    (made_of c.loop-at.changes c.args.stream.now c.loop-at.at)
+    c.loop-at-test.true f c.in_ok-frame.ensures.answer
+    (made_of c.loop-at.changes c.args.stream.now f.begin)
     (made_of c.find_in_box.new.changes c.args.stream.now f.end) c.in_err-fits.field-0.0 c.in_err-fits.ensures.made)
 
 pub loop-at-preserved-then-can : goal.loop-at-preserved-then-can
 loop-at-preserved-then-can c =
     let f = c.in_ok-frame.frame in
-    let plain = ap is_disguised c.in_ok-frame.ensures.name ∙ plain_name _ in
     let more = one_more c.args.stream.now c.loop-at.changes c.loop-at.can c.loop-at.at c.loop-at.invariant
-    c.loop-at-test.true f c.in_ok-frame.ensures.answer plain c.in_ok-fits.fits c.find_in_box.new.changes
-    c.in_ok-fits.ensures.made c.in_ok-fits.ensures.before c.in_ok-frame.ensures.room.2 in
+    c.loop-at-test.true f c.in_ok-frame.ensures.answer c.in_ok-fits.fits c.find_in_box.new.changes
+    c.in_ok-frame.ensures.begins.0 c.in_ok-fits.ensures.made c.in_ok-fits.ensures.before c.in_ok-frame.ensures.room.1 in
     subst (λ (b : Bool). SoFar c.args.stream.now c.find_in_box.new.changes (b && c.in_ok-fits.fits) f.end)
     c.if-can.true more
 
 pub loop-at-preserved : goal.loop-at-preserved
 loop-at-preserved c =
     let f = c.in_ok-frame.frame in
-    let plain = ap is_disguised c.in_ok-frame.ensures.name ∙ plain_name _ in
     let more = one_more c.args.stream.now c.loop-at.changes c.loop-at.can c.loop-at.at c.loop-at.invariant
-    c.loop-at-test.true f c.in_ok-frame.ensures.answer plain c.in_ok-fits.fits c.find_in_box.new.changes
-    c.in_ok-fits.ensures.made c.in_ok-fits.ensures.before c.in_ok-frame.ensures.room.2 in
+    c.loop-at-test.true f c.in_ok-frame.ensures.answer c.in_ok-fits.fits c.find_in_box.new.changes
+    c.in_ok-frame.ensures.begins.0 c.in_ok-fits.ensures.made c.in_ok-fits.ensures.before c.in_ok-frame.ensures.room.1 in
     subst (λ (b : Bool). SoFar c.args.stream.now c.find_in_box.new.changes b f.end)
     (ap (λ (b : Bool). b && c.in_ok-fits.fits) c.if-can.false ∙ sym c.if-can.false) more
 

@@ -1,24 +1,38 @@
-use Rattle.std.proofs.Common.{refl, ap, sym, ◌∙◌, arith}
+use Rattle.std.proofs.Common.{refl, ap, sym, subst, ◌∙◌, arith}
 use Rattle.std.specs.Prelude.{not}
-use Rattle.mp4_frame.specs.BoxType.{code_of}
+use Rattle.mp4_frame.specs.BoxType.{code_of, is_disguised}
+use Rattle.mp4_frame.specs.Heads.{start_in, size_in}
+use Rattle.mp4_frame.specs.declared.box_type.BoxType.{BoxType}
+use Rattle.mp4_stream.specs.KeptBox.{format_kept, reading_kept}
 use Rattle.mp4_stream.specs.KeptBoxLaws.{untyped_code}
+use Rattle.mp4_stream.specs.NameLaws.{plain_name}
+use Rattle.mp4_normal.specs.Changes.{OneMade}
 use Rattle.mp4_normal.proofs.Others.{any_made, other_found}
 use Rattle.mp4_normal.proofs.find.find_in_box.Goals as goal
 
 pub find_in_other-requires-clause-untyped : goal.find_in_other-requires-clause-untyped
 find_in_other-requires-clause-untyped c =
-    untyped_code c.args.frame.now.name (ap not c.requires.plain) (sym c.knows.ensures ∙ c.if-knows.false)
+    untyped_code c.name-name.result
+    (ap (λ (n : BoxType). not (is_disguised n)) c.name-name.ensures ∙ ap not (plain_name c.args.frame.now.code))
+    (sym c.knows.ensures ∙ c.if-knows.false)
 
 pub returns-then-knows-clause-made : goal.returns-then-knows-clause-made
 returns-then-knows-clause-made c =
     let f = c.args.frame.now in
-    any_made f.name c.args.stream.now f.start f.size _ _ c.find_in_typed.result (sym c.knows.ensures ∙ c.if-knows.true)
-    c.find_in_typed.ensures.made
+    let B = c.args.stream.now in
+    subst (λ (n : BoxType). OneMade format_kept (reading_kept n B (start_in f) (size_in f)) _ _ c.find_in_typed.result)
+    c.name-name.ensures
+    (any_made c.name-name.result B (start_in f) (size_in f) _ _ c.find_in_typed.result
+    (sym c.knows.ensures ∙ c.if-knows.true) c.find_in_typed.ensures.made)
 
 pub returns-else-knows-clause-made : goal.returns-else-knows-clause-made
 returns-else-knows-clause-made c =
     let f = c.args.frame.now in
-    other_found (code_of f.name) f.start f.size c.args.stream.now (omega (arith, c.requires.end, c.requires.header))
-    (omega (arith, c.requires.end, c.requires.within)) f.name refl (sym c.knows.ensures ∙ c.if-knows.false)
-    (omega (arith, c.requires.end, c.requires.within, c.are_bytes.ensures.short)) _ _ c.find_in_other.result
-    c.find_in_other.ensures.made c.find_in_other.ensures.error
+    let B = c.args.stream.now in
+    let r = c.requires in
+    subst (λ (n : BoxType). OneMade format_kept (reading_kept n B (start_in f) (size_in f)) _ _ c.find_in_other.result)
+    c.name-name.ensures
+    (other_found (code_of c.name-name.result) (start_in f) (size_in f) B (omega (arith, r.header, r.order))
+    (omega (arith, r.header, r.order, r.within)) c.name-name.result refl (sym c.knows.ensures ∙ c.if-knows.false)
+    (omega (arith, r.header, r.order, r.within, c.are_bytes.ensures.short)) _ _ c.find_in_other.result
+    c.find_in_other.ensures.made c.find_in_other.ensures.error)

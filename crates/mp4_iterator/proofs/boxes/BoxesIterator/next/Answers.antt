@@ -34,7 +34,13 @@ pub read_frame-read-requires-clause-header : goal.read_frame-read-requires-claus
 read_frame-read-requires-clause-header g c =
     let b = c.self.inside in
     (found g.B.StreamBox.known g.B.StreamBox.named_reading b.bytes.now b.offset c.seek.new.at c.in-Ok-Some.field-0
-    (Some c.in-Ok-Some.frame) c.in-Ok-Some.field-0-is c.in-Ok-Some.ensures).2
+    (Some c.in-Ok-Some.frame) c.in-Ok-Some.field-0-is c.in-Ok-Some.ensures).3
+
+pub read_frame-read-requires-clause-order : goal.read_frame-read-requires-clause-order
+read_frame-read-requires-clause-order g c =
+    let b = c.self.inside in
+    (found g.B.StreamBox.known g.B.StreamBox.named_reading b.bytes.now b.offset c.seek.new.at c.in-Ok-Some.field-0
+    (Some c.in-Ok-Some.frame) c.in-Ok-Some.field-0-is c.in-Ok-Some.ensures).4
 
 pub returns-clause-steps : goal.returns-clause-steps
 returns-clause-steps g c =
