@@ -6,14 +6,14 @@ use Rattle.std.proofs.Math.Seq.{take-add}
 use Rattle.std.proofs.lemmas.List.{drop-drop, take-append-drop, take_all, length-drop}
 use Rattle.std.proofs.lemmas.List.Elements.{All-from_recursion}
 use Rattle.mp4_frame.specs.BoxType.{code_of, name_of}
-use Rattle.mp4_frame.specs.Bytes.{number, bytes_of_fields, FieldsFit}
+use Rattle.mp4_frame.specs.Bytes.{number, be_bytes, bytes_of_fields, width_of_fields, FieldsFit}
 use Rattle.mp4_frame.specs.Format.{Format, IsWritten, IsNormalForm}
 use Rattle.mp4_frame.specs.Laws.{AreBytes, OwnName, ReadsBack, IsWhole}
 use Rattle.mp4_frame.specs.Reading.{Reading}
 use Rattle.mp4_frame.specs.Tables.{rows, fields_table, size_table, WritableTable, bytes_table, IsWholeTable}
 use Rattle.mp4_frame.specs.declared.box_type.BoxType.{BoxType}
 use Rattle.mp4_frame.proofs.Fields.{number-below}
-use Rattle.mp4_frame.proofs.NumberBytes.{fields_at, fields_there}
+use Rattle.mp4_frame.proofs.NumberBytes.{bytes_there, fields_at, fields_there}
 use Rattle.mp4_frame.proofs.TableLaws.{IsEntry, TableOf, format_table}
 use Rattle.mp4_frame.proofs.Tables.{IsRow, rows_are, length-rows, map_all, length_map}
 
@@ -43,6 +43,17 @@ module _ {A : Type 0} (format : Format A) (known : BoxType → Bool)
 -- an entry that is read from a row is written as this row
 abbrev pub WritesBack : {X : Type 0} → (X → List ℕ) → (List ℕ → X) → ℕ → Type 0
 WritesBack row_of entry_of e = (row : List ℕ) → IsRow e row → row_of (entry_of row) ≡ row
+
+-- a number of w bytes as an entry
+pub number_again : (w : ℕ) → WritesBack (λ n. be_bytes w n) (λ entry. number entry 0 w) w
+number_again w row is = bytes_there row is.are 0 w (omega (arith, is.long)) ∙ take_all w row (omega (arith, is.long))
+
+-- the numbers of a row as fields
+pub fields_again : {e : ℕ} (ws : List ℕ) (row : List ℕ) → IsRow e row → width_of_fields (fields_at row 0 ws) ≡ e
+    → bytes_of_fields (fields_at row 0 ws) ≡ row
+fields_again ws row is wide =
+    let n = width_of_fields (fields_at row 0 ws) in
+    fields_there row is.are 0 ws (omega (arith, is.long, wide)) ∙ take_all n row (omega (arith, is.long, wide))
 
 module _ {X : Type 0} (row_of : X → List ℕ) (entry_of : List ℕ → X) (e : ℕ) (again : WritesBack row_of entry_of e) where
   -- the entries of rows that are present are written as these rows

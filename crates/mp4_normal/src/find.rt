@@ -2,8 +2,8 @@
 
 ghost use Rattle.std.specs.Prelude.{◌≡◌, ◌+◌, ◌<◌, ◌≤◌, ◌^◌, ◌++◌, ◌∷◌, [], false, length, IsTrue, MatchResult, OnOk};
 ghost use Rattle.std.specs.Prelude.{IfErr, IfOk};
-ghost use Rattle.mp4_frame.specs.BoxType.{code_of, is_disguised};
-ghost use Rattle.mp4_frame.specs.Bytes.{bytes_of_fields};
+ghost use Rattle.mp4_frame.specs.BoxType.{code_of, name_of, is_disguised};
+ghost use Rattle.mp4_frame.specs.Bytes.{bytes_of_fields, number};
 ghost use Rattle.mp4_frame.specs.Laws.{AreBytes};
 ghost use Rattle.mp4_frame.specs.declared.error.Error.TheVariants.{OutOfMemory};
 ghost use Rattle.mp4_stream.specs.KeptBox.{reading_kept, format_kept};
@@ -90,7 +90,7 @@ fn find_in_other(changes: &mut Changes, stream: &[u8], at: usize, frame: &Frame)
 }
 
 /// Finds what changes in the box of a type of the codec that begins at `at`. Returns whether the box can be written.
-/// `slot` is where it is read to.
+/// `slot` is where it is read to, unless its bytes tell that they are in normal form.
 fn find_in_typed<B: StreamBox>(
     alloc: Global,
     changes: &mut Changes,
@@ -104,11 +104,15 @@ fn find_in_typed<B: StreamBox>(
     requires end { frame.now.start + frame.now.size ≡ frame.now.end }
     requires header { frame.now.start + 8 ≤ frame.now.end }
     requires within { frame.now.end ≤ length stream.now }
+    requires code { frame.now.name ≡ name_of (number stream.now (at + 4) 4) }
     requires before { AreBefore changes.old (length changes.old.fresh.items) at }
     ensures made { OneMade B.format (B.named_reading frame.now.name stream.now frame.now.start frame.now.size)
         (made_of changes.old stream.now at) (made_of changes.new stream.now frame.now.end) result }
     ensures before { OnOk result (AreBefore changes.new (length changes.new.fresh.items) frame.now.end) }
 {
+    if frame.start == at as u64 && B::is_normal_form(&stream[at..frame.end as usize]) {
+        return Ok(true);
+    }
     slot.clear();
     B::push_named(alloc, frame.name, stream, frame.start, frame.size, slot)?;
     let value = &slot[0];
@@ -133,6 +137,7 @@ fn find_in_box(
     requires end { frame.now.start + frame.now.size ≡ frame.now.end }
     requires header { frame.now.start + 8 ≤ frame.now.end }
     requires within { frame.now.end ≤ length stream.now }
+    requires code { frame.now.name ≡ name_of (number stream.now (at + 4) 4) }
     requires before { AreBefore changes.old (length changes.old.fresh.items) at }
     ensures made { OneMade format_kept (reading_kept frame.now.name stream.now frame.now.start frame.now.size)
         (made_of changes.old stream.now at) (made_of changes.new stream.now frame.now.end) result }
