@@ -8,7 +8,7 @@ ghost use Rattle.mp4_entries.specs.Arrays.{array_at, IsArray};
 use mp4_frame::put_bytes;
 
 /// The `N` bytes at offset `at`.
-#[tactic(auto, using(crate::specs::ArrayLaws::bytes_there))]
+#[tactic(auto, using(mp4_frame::proofs::NumberBytes::bytes_there))]
 pub(crate) fn array_at<const N: usize>(bytes: &[u8], at: usize) -> [u8; N]
     requires { at + N ≤ length bytes.now }
     ensures { result ≡ array_at (number bytes.now) at N }

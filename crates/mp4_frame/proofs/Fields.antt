@@ -83,7 +83,7 @@ put_zeros xs at k w new le e =
 -- ---- the numbers in the bytes of fields
 
 -- the bytes of the fields, joined from the front
-pub concat_fields : List (ℕ × ℕ) → List ℕ
+unfoldable pub concat_fields : List (ℕ × ℕ) → List ℕ
 concat_fields [] = []
 concat_fields (c ∷ cs) = be_bytes c.0 c.1 ++ concat_fields cs
 
@@ -94,6 +94,10 @@ bytes_of_fields_onto-concat front [] = sym (append-nil front)
 bytes_of_fields_onto-concat front (c ∷ cs) = bytes_of_fields_onto-concat (front ++ be_bytes c.0 c.1) cs
     ∙ append_assoc front (be_bytes c.0 c.1) (concat_fields cs)
 
+pub bytes_of_fields-concat : (cs : List (ℕ × ℕ)) → bytes_of_fields cs ≡ concat_fields cs
+unfolding bytes_of_fields
+bytes_of_fields-concat cs = bytes_of_fields_onto-concat [] cs
+
 length-concat_fields : (cs : List (ℕ × ℕ)) → length (concat_fields cs) ≡ width_of_fields cs
 unfolding concat_fields
 length-concat_fields [] = refl
@@ -103,7 +107,7 @@ length-concat_fields (c ∷ cs) = length-append (be_bytes c.0 c.1) (concat_field
 
 pub length-fields : (cs : List (ℕ × ℕ)) → length (bytes_of_fields cs) ≡ width_of_fields cs
 unfolding bytes_of_fields
-length-fields cs = ap length (bytes_of_fields_onto-concat [] cs) ∙ length-concat_fields cs
+length-fields cs = ap length (bytes_of_fields-concat cs) ∙ length-concat_fields cs
 
 -- the number of w bytes at offset o in the bytes of fields and the bytes after them: the number of the field there,
 -- if the field begins at o and has w bytes

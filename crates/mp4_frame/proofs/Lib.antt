@@ -22,3 +22,5 @@ pub mod Rows
 pub mod Signed
 pub mod Framing
 pub mod Equality
+pub mod NumberBytes
+pub mod NormalForms

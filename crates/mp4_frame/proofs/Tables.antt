@@ -171,7 +171,8 @@ bytes_take [] (suc e) h i = omega arith
 bytes_take (b ∷ B) (suc e) h zero = h 0
 bytes_take (b ∷ B) (suc e) h (suc i) = bytes_take B e (λ k. h (suc k)) i
 
-rows_are : (B : List ℕ) (o e n : ℕ) → AreBytes B → (0 < n → o + n * e ≤ length B)
+-- rows that are present have e bytes each
+pub rows_are : (B : List ℕ) (o e n : ℕ) → AreBytes B → (0 < n → o + n * e ≤ length B)
     → AllByRecursion (IsRow e) (rows B o e n)
 rows_are B o e zero are room = tt
 rows_are B o e (suc n) are room =
@@ -185,7 +186,7 @@ rows_are B o e (suc n) are room =
       rows_are B (o + e) e n are (λ _. omega arith),
     )
 
-length-rows : (B : List ℕ) (o e n : ℕ) → length (rows B o e n) ≡ n
+pub length-rows : (B : List ℕ) (o e n : ℕ) → length (rows B o e n) ≡ n
 length-rows B o e zero = refl
 length-rows B o e (suc n) = ap suc (length-rows B (o + e) e n)
 

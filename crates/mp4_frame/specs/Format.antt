@@ -1,5 +1,5 @@
 -- How the values of a type of boxes are written, and the laws of such a type.
-use Rattle.std.specs.Prelude.{ℕ, List}
+use Rattle.std.specs.Prelude.{◌≡◌, ℕ, List}
 use Rattle.mp4_frame.specs.Laws.{BeginsWithHeader, Normal, ContentReadsBack, ContentIsSound}
 use Rattle.mp4_frame.specs.Reading.{Reading}
 use Rattle.mp4_frame.specs.declared.box_type.BoxType.{BoxType}
@@ -33,3 +33,7 @@ pub record IsBox {A : Type 0} (reads : List ℕ → ℕ → ℕ → Reading A) (
 abbrev pub write_laws : {A : Type 0} {reads : List ℕ → ℕ → ℕ → Reading A} {format : Format A} → IsBox reads format
     → IsWritten format
 write_laws laws = record { header = laws.header; normal_form = laws.normal_form }
+
+-- the bytes are those of a value that can be written
+abbrev pub IsNormalForm : {A : Type 0} → Format A → List ℕ → Type 0
+IsNormalForm {A} format bytes = (v : A) × format.Writable v × (format.bytes v ≡ bytes)

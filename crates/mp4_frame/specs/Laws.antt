@@ -47,3 +47,9 @@ ContentReadsBack reads bytes size v = (rest : List ℕ) (start : ℕ) → start 
 abbrev pub ContentIsSound : {A : Type 0} → (List ℕ → ℕ → ℕ → Reading A) → (A → Type 0) → (A → ℕ) → (A → A) → Type 0
 ContentIsSound {A} reads Writable size normal = (bytes : List ℕ) (start long : ℕ) (v : A) → AreBytes bytes
     → (reads bytes start long).outcome ≡ Ok v → (normal v ≡ v) × (size v < 2 ^ 32 → Writable v)
+
+-- the bytes are a whole box of this code: its header has 8 bytes, and the size in it is their number
+pub record IsWhole (code : ℕ) (bytes : List ℕ) : Type 0 where
+  pub are : AreBytes bytes
+  pub size_first : number bytes 0 4 ≡ length bytes
+  pub code_next : number bytes 4 4 ≡ code

@@ -16,6 +16,7 @@ mod head;
 pub mod laws;
 mod list;
 mod member;
+mod normal_form;
 mod number;
 mod one_child;
 mod put;
@@ -43,6 +44,7 @@ pub use frame::{Frame, frame_at, frame_of_head};
 pub use head::Head;
 pub use list::{BoxSpan, list_boxes};
 pub use member::{Holds, clone_as, push_as, push_inside, read_as};
+pub use normal_form::{is_whole, is_whole_table};
 pub use number::{i8_at, i16_at, i32_at, u8_at, u16_at, u24_at, u32_at, u64_at};
 pub use one_child::{any_child, child_content, child_head, named_child, optional_child};
 pub use put::{

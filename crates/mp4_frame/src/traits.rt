@@ -5,7 +5,7 @@ ghost use Rattle.std.specs.Prelude.{drop, None, IfSome, OnOk, OnErr};
 ghost use Rattle.mp4_frame.specs.Reading.{Reading, Answers, AnswersAs, TakesNone, reading};
 ghost use Rattle.mp4_frame.specs.Written.{Writes};
 ghost use Rattle.mp4_frame.specs.Streams.{append_read};
-ghost use Rattle.mp4_frame.specs.Format.{Format, IsWritten, IsBox};
+ghost use Rattle.mp4_frame.specs.Format.{Format, IsWritten, IsBox, IsNormalForm};
 ghost use Rattle.mp4_frame.specs.Laws.{OwnName, ReadsBack};
 ghost use Rattle.mp4_frame.specs.declared.box_type.BoxType.{BoxType};
 
@@ -112,6 +112,16 @@ pub trait WriteBox: Mp4Box {
         let size = self.box_size() as usize;
         self.put_box(&mut out[..size]);
         size
+    }
+
+    /// Whether the bytes of a box, with its header, are found to be those of a box of this type that can be written.
+    /// No value is made of them, and no memory is taken. `false` says nothing: it is all that a type has to answer.
+    /// What is found so is read as a box with exactly these bytes (`laws::normal_form_is_read`).
+    fn is_normal_form(bytes: &[u8]) -> bool
+        ensures { IsTrue result → IsNormalForm Self.format bytes.now }
+    {
+        let _unread = bytes;
+        false
     }
 
     /// Its bytes begin with its size and its code, and their number is its size. Its normal form can be written, has

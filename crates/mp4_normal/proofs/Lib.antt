@@ -4,3 +4,4 @@ pub mod Replaced
 pub mod Others
 pub mod Found
 pub mod Making
+pub mod Kept

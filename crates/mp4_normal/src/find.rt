@@ -3,8 +3,8 @@
 ghost use Rattle.std.specs.Prelude.{◌≡◌, ◌+◌, ◌<◌, ◌≤◌, ◌^◌, ◌++◌, ◌∷◌, [], false, length, IsTrue, MatchResult, OnOk};
 ghost use Rattle.std.specs.Prelude.{IfErr, IfOk};
 ghost use Rattle.mp4_frame.specs.BoxType.{code_of};
-ghost use Rattle.mp4_frame.specs.Bytes.{bytes_of_fields};
-ghost use Rattle.mp4_frame.specs.Heads.{start_in, size_in};
+ghost use Rattle.mp4_frame.specs.Bytes.{bytes_of_fields, number};
+ghost use Rattle.mp4_frame.specs.Heads.{name_in, start_in, size_in};
 ghost use Rattle.mp4_frame.specs.Laws.{AreBytes};
 ghost use Rattle.mp4_frame.specs.Streams.{reading_in};
 ghost use Rattle.mp4_frame.specs.declared.error.Error.TheVariants.{OutOfMemory};
@@ -109,7 +109,7 @@ fn find_in_other(
 }
 
 /// Finds what changes in the box of this frame and of a type of the codec. Returns whether the box can be written.
-/// `name` is its name, and `slot` is where it is read to.
+/// `name` is its name, and `slot` is where it is read to, unless its bytes tell that they are in normal form.
 fn find_in_typed<B: StreamBox>(
     alloc: Global,
     changes: &mut Changes,
@@ -122,24 +122,24 @@ fn find_in_typed<B: StreamBox>(
     requires header { frame.now.begin + 8 ≤ frame.now.content }
     requires order { frame.now.content ≤ frame.now.end }
     requires within { frame.now.end ≤ length stream.now }
+    requires named { name ≡ name_in frame.now }
+    requires code { frame.now.code ≡ number stream.now (frame.now.begin + 4) 4 }
     requires before { AreBefore changes.old (length changes.old.fresh.items) frame.now.begin }
     ensures made { OneMade B.format (B.named_reading name stream.now (start_in frame.now) (size_in frame.now))
         (made_of changes.old stream.now frame.now.begin) (made_of changes.new stream.now frame.now.end) result }
     ensures before { OnOk result (AreBefore changes.new (length changes.new.fresh.items) frame.now.end) }
 {
+    let (begin, end) = (frame.begin as usize, frame.end as usize);
+    if frame.content - frame.begin == 8 && B::is_normal_form(&stream[begin..end]) {
+        return Ok(true);
+    }
     slot.clear();
     B::push_named(alloc, name, stream, frame.start(), frame.size(), slot)?;
     let value = &slot[0];
     if !value.is_writable() {
         return Ok(false);
     }
-    replace_by(
-        changes,
-        stream,
-        value,
-        frame.begin as usize,
-        frame.end as usize,
-    )?;
+    replace_by(changes, stream, value, begin, end)?;
     Ok(true)
 }
 
@@ -154,6 +154,7 @@ fn find_in_box(
     requires header { frame.now.begin + 8 ≤ frame.now.content }
     requires order { frame.now.content ≤ frame.now.end }
     requires within { frame.now.end ≤ length stream.now }
+    requires code { frame.now.code ≡ number stream.now (frame.now.begin + 4) 4 }
     requires before { AreBefore changes.old (length changes.old.fresh.items) frame.now.begin }
     ensures made { OneMade format_kept (reading_in reading_kept stream.now frame.now)
         (made_of changes.old stream.now frame.now.begin) (made_of changes.new stream.now frame.now.end) result }

@@ -11,7 +11,7 @@ use mp4_entries::{Avc1Box, AvcCBox, Hev1Box, HvcCBox, Tx3gBox, Vp09Box, VpccBox}
 use mp4_flat::{MdhdBox, MehdBox, MfhdBox, MvhdBox, SmhdBox, TfdtBox, TkhdBox, TrexBox, VmhdBox};
 use mp4_frame::{
     BoxType, ByteCursor, Holds, Mp4Box, Result, StreamBox, TryClone, WriteBox, clone_as, push_as,
-    push_inside, read_as,
+    push_inside, read_as, u32_at,
 };
 use mp4_sound::{EsdsBox, Mp4aBox, StsdBox};
 use mp4_tables::{
@@ -167,6 +167,21 @@ impl WriteBox for AnyBox {
 
     fn put_at_front(&self, out: &mut [u8]) -> usize {
         of_boxes!(each, self, b => b.put_at_front(out))
+    }
+
+    fn is_normal_form(bytes: &[u8]) -> bool {
+        if bytes.len() < 8 {
+            return false;
+        }
+        match BoxType::from(u32_at(bytes, 4)) {
+            BoxType::StcoBox => StcoBox::is_normal_form(bytes),
+            BoxType::Co64Box => Co64Box::is_normal_form(bytes),
+            BoxType::SttsBox => SttsBox::is_normal_form(bytes),
+            BoxType::CttsBox => CttsBox::is_normal_form(bytes),
+            BoxType::StssBox => StssBox::is_normal_form(bytes),
+            BoxType::StszBox => StszBox::is_normal_form(bytes),
+            _ => false,
+        }
     }
 
     ghost write_laws = { written_member kinds held members };

@@ -1,21 +1,25 @@
 -- The laws of stsz follow from those of its sizes.
 use Rattle.std.proofs.Common.{◌≡◌, ℕ, ◌+◌, ◌*◌, ◌<◌, ◌^◌, Bool, true, false, eqb, cond, List, [], ◌∷◌, ◌++◌, map, Ok}
-use Rattle.std.proofs.Common.{length, refl, ap, subst, ◌∙◌, append_assoc, arith, lit<, lit≤}
+use Rattle.std.proofs.Common.{length, refl, sym, ap, subst, ◌∙◌, append_assoc, arith, lit<, lit≤}
 use Rattle.std.specs.List.{flat_map, All, AllByRecursion}
 use Rattle.std.proofs.lemmas.List.Elements.{All-from_recursion, recursion_from_All}
-use Rattle.mp4_frame.specs.Format.{IsBox}
-use Rattle.mp4_frame.specs.Bytes.{number, be_bytes, bytes_of_fields}
-use Rattle.mp4_frame.specs.Laws.{AreBytes}
+use Rattle.mp4_frame.specs.Format.{IsBox, IsNormalForm}
+use Rattle.mp4_frame.specs.Bytes.{number, be_bytes, bytes_of_fields, FieldsFit}
+use Rattle.mp4_frame.specs.Laws.{AreBytes, IsWhole}
 use Rattle.mp4_frame.specs.Reading.{◌>>=◌, memory, done}
+use Rattle.mp4_frame.specs.Tables.{rows}
+use Rattle.mp4_frame.specs.declared.codes.TheConstants as codes
 use Rattle.mp4_frame.proofs.Framing.{own_normal_form, header_in_front, fits_read, Number}
 use Rattle.mp4_frame.proofs.Fields.{found, length-fields, numbers-fields, expect_bytes-fields}
 use Rattle.mp4_frame.proofs.Checks.{expect_bytes_ok, is_value}
-use Rattle.mp4_frame.proofs.Tables.{length_flat, map_back, map_all, length_map, value_first}
+use Rattle.mp4_frame.proofs.NormalForms.{number_again, rows_there, joined}
+use Rattle.mp4_frame.proofs.NumberBytes.{fields_at, fields_there}
+use Rattle.mp4_frame.proofs.Tables.{length_flat, map_back, map_all, length_map, value_first, rows_are, length-rows}
 use Rattle.mp4_frame.proofs.TableLaws.{number_entry}
 use Rattle.mp4_tables.specs.Rows.{rows_within}
 use Rattle.mp4_tables.specs.RowsLaws.{rows_within_back, rows_within_read}
 use Rattle.mp4_tables.specs.Stsz.{reads_sizes, sizes_if_listed, value_stsz, reads_stsz, size_stsz, fields_stsz}
-use Rattle.mp4_tables.specs.Stsz.{WritableStsz, bytes_stsz, format_stsz}
+use Rattle.mp4_tables.specs.Stsz.{WritableStsz, bytes_stsz, format_stsz, count_of_sizes}
 use Rattle.mp4_tables.specs.declared.stsz.StszBox.{StszBox}
 
 -- sizes that were written after p are read back
@@ -107,3 +111,35 @@ laws_stsz = record {
       } in
       (refl, subst (λ (w : StszBox). size_stsz w < 2 ^ 32 → WritableStsz w) is can);
 }
+
+-- a whole stsz with as many sizes as it has to have is in normal form
+pub normal_stsz : (bytes : List ℕ) → IsWhole codes.STSZ bytes
+    → length bytes ≡ 20 + 4 * count_of_sizes (number bytes 12 4) (number bytes 16 4) → IsNormalForm format_stsz bytes
+unfolding bytes_stsz
+normal_stsz bytes whole long =
+    let are = whole.are in
+    let n = count_of_sizes (number bytes 12 4) (number bytes 16 4) in
+    let found = rows bytes 20 4 n in
+    let sizes = map (λ entry. number entry 0 4) found in
+    let v = value_stsz (number bytes) sizes in
+    let all : length bytes ≡ 20 + n * 4 = omega (arith, long) in
+    let many : length sizes ≡ n = length_map (λ entry. number entry 0 4) found ∙ length-rows bytes 20 4 n in
+    let size : size_stsz v ≡ number bytes 0 4 = ap (λ (k : ℕ). 20 + 4 * k) many ∙ sym long ∙ sym whole.size_first in
+    let ws : List ℕ = 4 ∷ 4 ∷ 1 ∷ 3 ∷ 4 ∷ 4 ∷ [] in
+    let same : fields_stsz v ≡ fields_at bytes 0 ws = rw (size, ← whole.code_next) refl in
+    let fit : FieldsFit (fields_at bytes 0 ws) = fits_read bytes are
+    (Number 0 4 ∷ Number 4 4 ∷ Number 8 1 ∷ Number 9 3 ∷ Number 12 4 ∷ Number 16 4 ∷ []) in
+    let can : WritableStsz v = record {
+      fit = subst FieldsFit (sym same) fit;
+      each = All-from_recursion (λ s. s < 2 ^ 32) sizes
+          (map_all 4 (λ entry. number entry 0 4) (λ s. s < 2 ^ 32) (number_entry 4).fits found
+          (rows_are bytes 20 4 n are (λ _. omega (arith, all))));
+      in_sync = many;
+    } in (
+      v,
+      can,
+      joined bytes (bytes_of_fields (fields_stsz v)) (flat_map (λ size. be_bytes 4 size) sizes) 20 (n * 4)
+          (ap bytes_of_fields same ∙ fields_there bytes are 0 ws (omega (arith, all)))
+          (rows_there (λ size. be_bytes 4 size) (λ entry. number entry 0 4) 4 (number_again 4) bytes 20 n are
+          (omega (arith, all))) all,
+    )

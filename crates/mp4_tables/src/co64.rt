@@ -9,7 +9,7 @@ ghost use Rattle.mp4_tables.specs.Co64Laws.{laws_co64};
 use crate::rows::entries_of;
 use mp4_frame::{
     BoxLaws, BoxType, Entries, Mp4Box, ReadBox, Result, TryClone, WriteBox, codes,
-    is_writable_table, put_table, read_table, table_size,
+    is_whole_table, is_writable_table, put_table, read_table, table_size,
 };
 use std::alloc::Global;
 
@@ -112,6 +112,11 @@ impl WriteBox for Co64Box {
             self.flags,
             self.entries.as_slice(),
         );
+    }
+
+    #[tactic(auto, using(crate::specs::Co64Laws::normal_co64))]
+    fn is_normal_form(bytes: &[u8]) -> bool {
+        is_whole_table::<8>(bytes, codes::CO64)
     }
 
     ghost write_laws = { write_laws laws_co64 };

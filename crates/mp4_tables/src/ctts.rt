@@ -10,7 +10,7 @@ use crate::ctts_entry::CttsEntry;
 use crate::rows::entries_of;
 use mp4_frame::{
     BoxLaws, BoxType, Entries, Mp4Box, ReadBox, Result, TryClone, WriteBox, codes,
-    is_writable_table, put_table, read_table, table_size,
+    is_whole_table, is_writable_table, put_table, read_table, table_size,
 };
 use std::alloc::Global;
 
@@ -114,6 +114,11 @@ impl WriteBox for CttsBox {
             self.flags,
             self.entries.as_slice(),
         );
+    }
+
+    #[tactic(auto, using(crate::specs::CttsLaws::normal_ctts))]
+    fn is_normal_form(bytes: &[u8]) -> bool {
+        is_whole_table::<8>(bytes, codes::CTTS)
     }
 
     ghost write_laws = { write_laws laws_ctts };

@@ -11,7 +11,7 @@ use crate::co64::Co64Box;
 use crate::rows::entries_of;
 use mp4_frame::{
     BoxLaws, BoxType, Entries, Error, Mp4Box, ReadBox, Result, TryClone, WriteBox, codes,
-    is_writable_table, put_table, read_table, table_size,
+    is_whole_table, is_writable_table, put_table, read_table, table_size,
 };
 use std::alloc::Global;
 
@@ -158,6 +158,11 @@ impl WriteBox for StcoBox {
             self.flags,
             self.entries.as_slice(),
         );
+    }
+
+    #[tactic(auto, using(crate::specs::StcoLaws::normal_stco))]
+    fn is_normal_form(bytes: &[u8]) -> bool {
+        is_whole_table::<4>(bytes, codes::STCO)
     }
 
     ghost write_laws = { write_laws laws_stco };

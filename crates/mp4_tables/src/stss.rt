@@ -9,7 +9,7 @@ ghost use Rattle.mp4_tables.specs.StssLaws.{laws_stss};
 use crate::rows::entries_of;
 use mp4_frame::{
     BoxLaws, BoxType, Entries, Mp4Box, ReadBox, Result, TryClone, WriteBox, codes,
-    is_writable_table, put_table, read_table, table_size,
+    is_whole_table, is_writable_table, put_table, read_table, table_size,
 };
 use std::alloc::Global;
 
@@ -113,6 +113,11 @@ impl WriteBox for StssBox {
             self.flags,
             self.entries.as_slice(),
         );
+    }
+
+    #[tactic(auto, using(crate::specs::StssLaws::normal_stss))]
+    fn is_normal_form(bytes: &[u8]) -> bool {
+        is_whole_table::<4>(bytes, codes::STSS)
     }
 
     ghost write_laws = { write_laws laws_stss };

@@ -10,7 +10,7 @@ ghost use Rattle.mp4_tables.specs.StszLaws.{laws_stsz};
 use crate::rows::{entries_of, read_rows};
 use mp4_frame::{
     BoxLaws, BoxType, Entries, Mp4Box, ReadBox, Result, TryClone, WriteBox, all_fit, codes,
-    expect_bytes, put_entries, put_full_box, put_u32, u8_at, u24_at, u32_at,
+    expect_bytes, is_whole, put_entries, put_full_box, put_u32, u8_at, u24_at, u32_at,
 };
 use std::alloc::Global;
 
@@ -152,6 +152,15 @@ impl WriteBox for StszBox {
         let at = put_u32(out, at, self.sample_size);
         let at = put_u32(out, at, self.sample_count);
         put_entries(out, at, self.sample_sizes.as_slice());
+    }
+
+    #[tactic(auto, using(crate::specs::StszLaws::normal_stsz))]
+    fn is_normal_form(bytes: &[u8]) -> bool {
+        if bytes.len() < 20 || !is_whole(bytes, codes::STSZ) {
+            return false;
+        }
+        let listed = listed_count(u32_at(bytes, 12), u32_at(bytes, 16));
+        bytes.len() - 20 == 4 * listed
     }
 
     ghost write_laws = { write_laws laws_stsz };

@@ -10,7 +10,7 @@ use crate::rows::entries_of;
 use crate::stts_entry::SttsEntry;
 use mp4_frame::{
     BoxLaws, BoxType, Entries, Mp4Box, ReadBox, Result, TryClone, WriteBox, codes,
-    is_writable_table, put_table, read_table, table_size,
+    is_whole_table, is_writable_table, put_table, read_table, table_size,
 };
 use std::alloc::Global;
 
@@ -113,6 +113,11 @@ impl WriteBox for SttsBox {
             self.flags,
             self.entries.as_slice(),
         );
+    }
+
+    #[tactic(auto, using(crate::specs::SttsLaws::normal_stts))]
+    fn is_normal_form(bytes: &[u8]) -> bool {
+        is_whole_table::<8>(bytes, codes::STTS)
     }
 
     ghost write_laws = { write_laws laws_stts };
