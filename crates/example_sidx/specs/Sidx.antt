@@ -20,8 +20,7 @@ entry_sidx = record {
     reference_type = n 0 == 1;
     referenced_size = n 1;
     subsegment_duration = n 2;
-    starts_with_sap =
-        n 3 == 1;
+    starts_with_sap = n 3 == 1;
     sap_type = n 4;
     sap_delta_time = n 5;
   };
@@ -42,16 +41,14 @@ layout_sidx = record {
         flags = flags;
         reference_id = n 0;
         timescale = n 1;
-        earliest_presentation_time =
-            n 2;
+        earliest_presentation_time = n 2;
         first_offset = n 3;
         entries = entries;
       };
   parts = λ v. record {
     version = v.version;
     flags = v.flags;
-    numbers =
-        v.reference_id ∷ v.timescale ∷ v.earliest_presentation_time ∷ v.first_offset ∷ 0 ∷ [];
+    numbers = v.reference_id ∷ v.timescale ∷ v.earliest_presentation_time ∷ v.first_offset ∷ 0 ∷ [];
     entries = v.entries;
   };
 }

@@ -48,8 +48,7 @@ table_stsz v = record {
   count = length v.sample_sizes;
   flags = v.flags;
   sample_size = v.sample_size;
-  sample_count =
-      v.sample_count;
+  sample_count = v.sample_count;
   version = v.version;
 }
 
@@ -69,8 +68,7 @@ abbrev pub row_stsc : StscEntry → StscRow
 row_stsc e = record {
   first_chunk = e.first_chunk;
   samples_per_chunk = e.samples_per_chunk;
-  sample_description_index =
-      e.sample_description_index;
+  sample_description_index = e.sample_description_index;
   first_sample = e.first_sample;
 }
 
@@ -81,8 +79,7 @@ abbrev pub row_elst : ElstEntry → ElstRow
 row_elst e = record {
   segment_duration = e.segment_duration;
   media_time = e.media_time;
-  media_rate =
-      e.media_rate;
+  media_rate = e.media_rate;
   media_rate_fraction = e.media_rate_fraction;
 }
 

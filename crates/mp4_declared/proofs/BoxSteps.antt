@@ -74,8 +74,7 @@ can_be_written {V} {X} e l p q same coded known byte flags size fit count each =
       known = known;
       front = (small, (coded, (byte, (flags, tt))));
       fit = fit;
-      count =
-          count;
+      count = count;
       each = each;
     }) size
 

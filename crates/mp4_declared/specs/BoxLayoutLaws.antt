@@ -45,8 +45,7 @@ pub record IsBoxLayout {V X : Type 0} (l : BoxLayout V X) : Type 0 where
       ≡ record {
         version = version;
         flags = flags;
-        numbers =
-            (l.parts (l.value version flags n xs)).numbers;
+        numbers = (l.parts (l.value version flags n xs)).numbers;
         entries = xs;
       }
   pub fit : (version flags : ℕ) (n : ℕ → ℕ) (xs : List X)
@@ -169,15 +168,13 @@ module _ {V X : Type 0} (e : EntryLayout X) (l : BoxLayout V X) {row : ℕ} (ent
         version = version;
         flags = number bytes 9 3;
         numbers = (l.parts (made p.0)).numbers;
-        entries =
-            p.0;
+        entries = p.0;
       }) < 2 ^ 32 → WritableParts e l
       (record {
         version = version;
         flags = number bytes 9 3;
         numbers = (l.parts (made p.0)).numbers;
-        entries =
-            p.0;
+        entries = p.0;
       }) = λ small. record {
         known = known;
         front = (small, (is.coded, (number-below bytes 8 1 are, (number-below bytes 9 3 are, tt))));

@@ -30,8 +30,7 @@ array_read bytes o w are =
     record {
       long = length-be_bytes w (number bytes o w);
       bytes = below;
-      small =
-          number-below (be_bytes w (number bytes o w)) 0 w below;
+      small = number-below (be_bytes w (number bytes o w)) 0 w below;
     }
 
 pub array_is : (w : ℕ) (array : List ℕ) → length array ≡ w → AreBytes array → IsArray w array

@@ -139,8 +139,7 @@ laws_avcc = record {
           fit = subst FieldsFit (sym same) w.fit;
           count = w.count;
           sequence = w.sequence;
-          picture =
-              w.picture;
+          picture = w.picture;
         };
         again = ap (λ (n : ℕ). record v { length_size_minus_one = n }) low;
         same_bytes = ap (λ (cs : List (ℕ × ℕ)).

@@ -38,8 +38,7 @@ box_read bytes are =
     record {
       four = refl;
       signed = All-from_recursion (FitsSigned w16) numbers (z 26, (z 28, (z 30, (z 32, tt))));
-      fit =
-          fits_read bytes are (Signed16 26 ∷ Signed16 28 ∷ Signed16 30 ∷ Signed16 32 ∷ []);
+      fit = fits_read bytes are (Signed16 26 ∷ Signed16 28 ∷ Signed16 30 ∷ Signed16 32 ∷ []);
     }
 
 pub laws_tx3g : IsBox reads_tx3g format_tx3g
@@ -50,10 +49,8 @@ laws_tx3g = record {
   read_back = λ v w rest start top.
       one_run_again 8 38 value_tx3g (fields_tx3g v) rest v w.fit (lit≤ tt)
       (λ i. record v {
-        horizontal_justification =
-            back8 v.horizontal_justification w.horizontal i;
-        vertical_justification =
-            back8 v.vertical_justification w.vertical i;
+        horizontal_justification = back8 v.horizontal_justification w.horizontal i;
+        vertical_justification = back8 v.vertical_justification w.vertical i;
         box_record =
             box_back v.box_record w.corners.four (recursion_from_All (FitsSigned w16) v.box_record w.corners.signed) i;
         style_record = array_back 12 v.style_record w.style.long w.style.bytes i;

@@ -43,8 +43,7 @@ laws_vp09 = record {
       record {
         writable = record {
           parent = n.writable;
-          arrays =
-              record { first = w.arrays.first; second = w.arrays.second; compressor = w.arrays.compressor };
+          arrays = record { first = w.arrays.first; second = w.arrays.second; compressor = w.arrays.compressor };
         };
         again = n.again;
         same_bytes = n.same_bytes;
@@ -56,12 +55,9 @@ laws_vp09 = record {
       w.parent.fit (lit≤ tt) back
       (λ i. record v {
         reserved0 = array_back 16 v.reserved0 w.arrays.first.long w.arrays.first.bytes i;
-        reserved1 =
-            array_back 4 v.reserved1 w.arrays.second.long w.arrays.second.bytes i;
-        compressorname =
-            array_back 32 v.compressorname w.arrays.compressor.long w.arrays.compressor.bytes i;
-        vpcc =
-            format_vpcc.normal v.vpcc;
+        reserved1 = array_back 4 v.reserved1 w.arrays.second.long w.arrays.second.bytes i;
+        compressorname = array_back 32 v.compressorname w.arrays.compressor.long w.arrays.compressor.bytes i;
+        vpcc = format_vpcc.normal v.vpcc;
       });
   sound = λ bytes start long v are e.
       let first = array_read bytes 16 16 are in

@@ -44,8 +44,7 @@ laws_vpcc = record {
       one_run_again 8 12 value_vpcc (fields_vpcc v) rest v w.fit (lit≤ tt)
       (λ i. record v {
         bit_depth = depth_back d c f w.chroma i;
-        chroma_subsampling =
-            chroma_back d c f w.chroma i;
+        chroma_subsampling = chroma_back d c f w.chroma i;
         video_full_range_flag = flag_back d c f i;
       });
   sound = λ bytes start long v are e.

@@ -42,6 +42,5 @@ unity = record {
   v = pos 0;
   x = pos 0;
   y = pos 0;
-  w =
-      pos 0x40000000;
+  w = pos 0x40000000;
 }

@@ -47,8 +47,7 @@ default_mdhd = record {
   modification_time = 0;
   timescale = 1000;
   duration = 0;
-  language =
-      codes "und";
+  language = codes "und";
 }
 
 abbrev pub WritableMdhd : MdhdBox → Type 0

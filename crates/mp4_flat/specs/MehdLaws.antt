@@ -24,8 +24,7 @@ laws_mehd = record {
         subst (λ (x : MehdBox). size_mehd x < 2 ^ 32 → WritableMehd x) is.1
             (λ small. record {
               known = is.0;
-              fit =
-                  (small, (lit< tt, fits_read bytes are (Number 8 1 ∷ Number 9 3 ∷ Number 12 t ∷ [])));
+              fit = (small, (lit< tt, fits_read bytes are (Number 8 1 ∷ Number 9 3 ∷ Number 12 t ∷ [])));
             }),
       );
 }

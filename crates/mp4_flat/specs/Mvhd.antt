@@ -48,8 +48,7 @@ default_mvhd = record {
   modification_time = 0;
   timescale = 1000;
   duration = 0;
-  rate =
-      0x10000;
+  rate = 0x10000;
   volume = 0x100;
   matrix = unity;
   next_track_id = 1;

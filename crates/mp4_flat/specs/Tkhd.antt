@@ -51,8 +51,7 @@ default_tkhd = record {
   modification_time = 0;
   track_id = 0;
   duration = 0;
-  layer =
-      0;
+  layer = 0;
   alternate_group = 0;
   volume = 0x100;
   matrix = unity;

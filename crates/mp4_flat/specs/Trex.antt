@@ -15,8 +15,7 @@ value_trex at = record {
   version = at 8 1;
   flags = at 9 3;
   track_id = at 12 4;
-  default_sample_description_index =
-      at 16 4;
+  default_sample_description_index = at 16 4;
   default_sample_duration = at 20 4;
   default_sample_size = at 24 4;
   default_sample_flags = at 28 4;

@@ -14,8 +14,7 @@ value_vmhd at = record {
   version = at 8 1;
   flags = at 9 3;
   graphics_mode = at 12 2;
-  op_color =
-      record { red = at 14 2; green = at 16 2; blue = at 18 2 };
+  op_color = record { red = at 14 2; green = at 16 2; blue = at 18 2 };
 }
 
 unfoldable pub reads_vmhd : List ℕ → ℕ → ℕ → Reading VmhdBox

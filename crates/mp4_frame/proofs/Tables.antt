@@ -180,8 +180,7 @@ rows_are B o e (suc n) are room =
     let whole : suc n * e ≡ e + n * e = omega arith in (
       record {
         long = omega (arith, length-take e (drop o B), length-drop o B);
-        are =
-            bytes_take (drop o B) e (are_bytes-drop o B are);
+        are = bytes_take (drop o B) e (are_bytes-drop o B are);
       },
       rows_are B (o + e) e n are (λ _. omega arith),
     )
@@ -291,7 +290,6 @@ module _ {X V : Type 0} (make : ℕ → ℕ → List X → V) (row_of : X → Li
         is_value _ v p.2,
         λ small. record {
           fit = (small, (coded, (t.0, (t.1, (count, tt)))));
-          each =
-              All-from_recursion Fits xs (map_all e entry_of Fits fits p.0.rows t.3);
+          each = All-from_recursion Fits xs (map_all e entry_of Fits fits p.0.rows t.3);
         },
       )

@@ -42,8 +42,7 @@ holds format wrap v =
       size = format.size v;
       Writable = format.Writable v;
       bytes = format.bytes v;
-      normal =
-          wrap (format.normal v);
+      normal = wrap (format.normal v);
     }
 
 -- the format of E
@@ -52,8 +51,7 @@ format_held held = record {
   name = λ v. (held v).name;
   size = λ v. (held v).size;
   Writable = λ v. (held v).Writable;
-  bytes =
-      λ v. (held v).bytes;
+  bytes = λ v. (held v).bytes;
   normal = λ v. (held v).normal;
 }
 

@@ -142,8 +142,7 @@ module _ (Is : ℕ → Sample → Type 0) (form : Form) (track n : ℕ) (follows
     are = rows.are;
     bytes = record {
       count = length (rows_text form track follows n rows.samples);
-      bytes =
-          subst (λ (t : List ℕ). Appends old new t) (sym (take_all _)) rows.bytes;
+      bytes = subst (λ (t : List ℕ). Appends old new t) (sym (take_all _)) rows.bytes;
     };
   }
     where

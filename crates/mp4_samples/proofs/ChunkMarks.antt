@@ -105,8 +105,7 @@ module _ (es : List StscEntry) (order : chunks_increase 0 es ≡ true) where
         → (length befores ≤ n → last ≡ chunks)
         → Holds es chunks k (record {
           place = record { chunk = (entry es (n - 1)).first_chunk; entry = entry es (n - 1); run = n };
-          last =
-              last;
+          last = last;
           before = get_or befores (n - 1) 0;
         })
     holds_at last some near far =

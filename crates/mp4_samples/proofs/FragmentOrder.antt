@@ -257,8 +257,7 @@ made o s t d r i e c =
       start_time = t;
       duration = d;
       rendering_offset = r;
-      is_sync =
-          i;
+      is_sync = i;
       sample_description_index = e;
       chunk = c;
     }

@@ -173,8 +173,7 @@ module _ (bytes : List ℕ) (o : ℕ) (are : AreBytes bytes) where
     profile = omega arith;
     no_escape = λ e. absurd (omega (arith, e));
     freq_index = lit< tt;
-    sample_rate =
-        (refl, omega arith);
+    sample_rate = (refl, omega arith);
     chan_conf = omega arith;
   }
 
@@ -187,8 +186,7 @@ module _ (bytes : List ℕ) (o : ℕ) (are : AreBytes bytes) where
       record {
         profile = omega arith;
         no_escape = λ e. absurd (omega (arith, e));
-        freq_index =
-            omega arith;
+        freq_index = omega arith;
         sample_rate = λ e. other (omega (arith, n, below, e));
         chan_conf = omega arith;
       }
@@ -202,8 +200,7 @@ module _ (bytes : List ℕ) (o : ℕ) (are : AreBytes bytes) where
       record {
         profile = omega arith;
         no_escape = λ e. no_escape (omega (arith, n, below, e));
-        freq_index =
-            lit< tt;
+        freq_index = lit< tt;
         sample_rate = (refl, omega arith);
         chan_conf = omega arith;
       }
@@ -215,8 +212,7 @@ module _ (bytes : List ℕ) (o : ℕ) (are : AreBytes bytes) where
         profile = omega arith;
         no_escape = eqb-false _ 31 p;
         freq_index = omega arith;
-        sample_rate =
-            eqb-false _ 15 q;
+        sample_rate = eqb-false _ 15 q;
         chan_conf = omega arith;
       }
 

@@ -271,8 +271,7 @@ default_specific = record {
   profile = lit< tt;
   no_escape = λ e. absurd (omega (arith, e));
   freq_index = lit< tt;
-  sample_rate =
-      λ e. absurd (omega (arith, e));
+  sample_rate = λ e. absurd (omega (arith, e));
   chan_conf = lit< tt;
 }
 

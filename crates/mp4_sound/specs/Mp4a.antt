@@ -25,8 +25,7 @@ value_mp4a at esds =
       data_reference_index = at 14 2;
       channelcount = at 24 2;
       samplesize = at 26 2;
-      samplerate =
-          at 32 4;
+      samplerate = at 32 4;
       esds = esds;
     }
 
@@ -60,8 +59,7 @@ default_mp4a = record {
   channelcount = 2;
   samplesize = 16;
   samplerate = scaled 65536 48000;
-  esds =
-      Some default_esds;
+  esds = Some default_esds;
 }
 
 -- every number fits its field, and the descriptors can be written

@@ -37,8 +37,7 @@ laws_mp4a = record {
       record {
         writable = record {
           fit = subst FieldsFit (sym same) w.fit;
-          esds =
-              child.optional_writable laws_esds v.esds w.esds;
+          esds = child.optional_writable laws_esds v.esds w.esds;
         };
         again = ap (λ (esds : Option EsdsBox). record v { esds = esds }) (child.optional_again laws_esds v.esds w.esds);
         same_bytes = ap (λ (cs : List (ℕ × ℕ)).

@@ -20,11 +20,9 @@ held_or code own rest (own_or.Rest b) =
     record {
       name = rest.name b;
       size = rest.size b;
-      Writable =
-          rest.Writable b × ((code_of (rest.name b) == code) ≡ false);
+      Writable = rest.Writable b × ((code_of (rest.name b) == code) ≡ false);
       bytes = rest.bytes b;
-      normal =
-          own_or.Rest (rest.normal b);
+      normal = own_or.Rest (rest.normal b);
     }
 
 abbrev pub format_or : {A B : Type 0} → ℕ → Format A → Format B → Format (OwnOr A B)

@@ -36,8 +36,7 @@ module _ {A B : Type 0} (code : ℕ) {reads : List ℕ → ℕ → ℕ → Readi
         ∙ (ap (λ (bytes : List ℕ). number bytes 4 4) n.same_bytes ∙ (written.header b w.0).code_next) in
         record {
           writable = (n.writable, ap (λ (c : ℕ). eqb c code) same ∙ w.1);
-          again =
-              ap own_or.Rest n.again;
+          again = ap own_or.Rest n.again;
           same_bytes = n.same_bytes;
         }
 

@@ -22,8 +22,7 @@ value_elst_entry w at =
       segment_duration = at 0 w;
       media_time = at w w;
       media_rate = at (w + w) 2;
-      media_rate_fraction =
-          at (w + w + 2) 2;
+      media_rate_fraction = at (w + w + 2) 2;
     }
 
 abbrev pub entry_elst : Bool → List ℕ → ElstEntry

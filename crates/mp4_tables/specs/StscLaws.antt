@@ -114,8 +114,7 @@ laws_stsc = record {
       record {
         writable = record {
           table = table_of_renumbered h v.version v.flags v.entries w.table;
-          chunks =
-              same_fit h v.entries ∙ w.chunks;
+          chunks = same_fit h v.entries ∙ w.chunks;
         };
         again = ap (λ (es : List StscEntry). record v { entries = es }) (same_numbers h v.entries);
         same_bytes = rw (len, same_bytes h v.entries) refl;

@@ -284,8 +284,7 @@ laws_trun = record {
         flagged = record {
           data_offset = offset.0;
           offset_fits = offset.1;
-          first_sample_flags =
-              number_is_present bytes (is_set f FLAG_FIRST_SAMPLE_FLAGS) (first_flags_at f) 4 are;
+          first_sample_flags = number_is_present bytes (is_set f FLAG_FIRST_SAMPLE_FLAGS) (first_flags_at f) 4 are;
         };
         listed = record {
           durations = column_listed (row_flags f).duration 0 (row_length (row_flags f)) n rows

@@ -28,13 +28,11 @@ value_emsg_0 at numbers texts message =
       version = at 8 1;
       flags = at 9 3;
       timescale = numbers 0 4;
-      presentation_time =
-          None;
+      presentation_time = None;
       presentation_time_delta = Some (numbers 4 4);
       event_duration = numbers 8 4;
       id = numbers 12 4;
-      scheme_id_uri =
-          texts.0;
+      scheme_id_uri = texts.0;
       value = texts.1;
       message_data = message;
     }
@@ -46,12 +44,10 @@ value_emsg_1 at numbers texts message =
       version = at 8 1;
       flags = at 9 3;
       timescale = numbers 0 4;
-      presentation_time =
-          Some (numbers 4 8);
+      presentation_time = Some (numbers 4 8);
       presentation_time_delta = None;
       event_duration = numbers 12 4;
-      id =
-          numbers 16 4;
+      id = numbers 16 4;
       scheme_id_uri = texts.0;
       value = texts.1;
       message_data = message;

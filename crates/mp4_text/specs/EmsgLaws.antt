@@ -65,8 +65,7 @@ is_normal v n is w again same =
     record {
       writable = subst WritableEmsg (sym is) w;
       again = ap normal_emsg is ∙ again ∙ sym is;
-      same_bytes =
-          ap bytes_emsg is ∙ same;
+      same_bytes = ap bytes_emsg is ∙ same;
     }
 
 -- the bytes of v in version 0 (with the numbers of v0) or in version 1 (with the numbers of v1)

@@ -63,8 +63,7 @@ writable bytes start long v are read small =
     λ s. record {
       fit = (s, (lit< tt, (small_code made.major_brand major, (number-below bytes 12 4 are, tt))));
       major = major;
-      each =
-          All-from_recursion IsFourCC (map brand_of c.0) (map_all 4 brand_of IsFourCC brand_is c.0 found.0);
+      each = All-from_recursion IsFourCC (map brand_of c.0) (map_all 4 brand_of IsFourCC brand_is c.0 found.0);
     } in
     subst (λ (w : FtypBox). size_ftyp w < 2 ^ 32 → WritableFtyp w) is can small
 

@@ -55,8 +55,7 @@ writable bytes start long v are e =
         ),
       );
       handler = handler;
-      text =
-          IsUtf8-text_or (codes "null") p.0 null_is_text;
+      text = IsUtf8-text_or (codes "null") p.0 null_is_text;
     } in
     subst (λ (w : HdlrBox). size_hdlr w < 2 ^ 32 → WritableHdlr w) (is_value made v p.2) can
 

@@ -51,7 +51,6 @@ format_url = record {
   name = λ _. names.UrlBox;
   size = size_url;
   Writable = WritableUrl;
-  bytes =
-      bytes_url;
+  bytes = bytes_url;
   normal = λ v. v;
 }

@@ -64,8 +64,7 @@ step_by_is l o p code after depth ends read None =
       code = refl;
       whole = refl;
       level_depth = depth;
-      level_end =
-          ends;
+      level_end = ends;
       leads = refl;
     }
 step_by_is l o p code after depth ends read (Some n) =
@@ -75,20 +74,17 @@ step_by_is l o p code after depth ends read (Some n) =
       position = refl;
       long = refl;
       code = refl;
-      whole =
-          if_whole_same what.Parent refl p.what;
+      whole = if_whole_same what.Parent refl p.what;
       level_depth = depth;
       level_end = ends;
-      leads =
-          (refl, refl, omega arith, read);
+      leads = (refl, refl, omega arith, read);
     })
     (λ _. record {
       depth = refl;
       position = refl;
       long = refl;
       code = refl;
-      whole =
-          if_whole_same what.TooDeep refl p.what;
+      whole = if_whole_same what.TooDeep refl p.what;
       level_depth = depth;
       level_end = ends;
       leads = refl;
@@ -104,8 +100,7 @@ step_of_code_is l o p w read None =
       code = refl;
       whole = refl;
       level_depth = refl;
-      level_end =
-          refl;
+      level_end = refl;
       leads = refl;
     }
 step_of_code_is l o p w read (Some code) =
@@ -121,8 +116,7 @@ step_of_what_is l o p w what.Small e =
       code = refl;
       whole = refl;
       level_depth = refl;
-      level_end =
-          refl;
+      level_end = refl;
       leads = refl;
     }
 step_of_what_is l o p w what.NoHeader e =
@@ -133,8 +127,7 @@ step_of_what_is l o p w what.NoHeader e =
       code = refl;
       whole = refl;
       level_depth = refl;
-      level_end =
-          refl;
+      level_end = refl;
       leads = refl;
     }
 step_of_what_is l o p w what.Leaf e = step_of_code_is l o p w (ap is_read e) p.code

@@ -32,16 +32,14 @@ place_of_head l o h =
       content = content;
       end = l.end;
       length = min (h.start - o + h.size) (2 ^ 64 - 1);
-      what =
-          what.Cut;
+      what = what.Cut;
     } else
     record {
       code = Some h.code;
       content = content;
       end = h.start + h.size;
       length = h.start + h.size - o;
-      what =
-          what.Leaf;
+      what = what.Leaf;
     }
 
 abbrev pub place_of : Level → ℕ → Option ℕ → Result Head Fault → Place

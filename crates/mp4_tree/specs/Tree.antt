@@ -46,8 +46,7 @@ level_in l code end =
     record {
       depth = l.depth + 1;
       end = end;
-      setting =
-          record { parent = code; handler = l.setting.handler; is_quicktime = l.setting.is_quicktime };
+      setting = record { parent = code; handler = l.setting.handler; is_quicktime = l.setting.is_quicktime };
     }
 
 -- a place that is not gone into: the walk goes on after it

@@ -13,8 +13,7 @@ loop-entry-preserved c =
     let next = next_edit c.args.entries.now c.loop-entry.entry-index (omega arith) in
     record {
       counted = omega (arith, c.loop-entry.invariant.counted);
-      total =
-          omega (arith, next, c.loop-entry.invariant.total, c.in-Some.ensures);
+      total = omega (arith, next, c.loop-entry.invariant.total, c.in-Some.ensures);
       fits = omega (arith, c.in-Some.ensures);
     }
 
