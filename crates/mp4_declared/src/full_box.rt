@@ -185,6 +185,10 @@ impl<T: BoxLayout<N, M, E>, const N: usize, const M: usize, const E: usize> Writ
         put_rows(out, at, entries.as_slice());
     }
 
+    fn is_normal_form(_bytes: &[u8]) -> bool {
+        false
+    }
+
     ghost write_laws = { write_laws (laws_layout T.Entry.entry T.layout T.Entry.entry_laws T.layout_laws) };
 }
 
