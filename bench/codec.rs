@@ -11,6 +11,8 @@ extern "C" {
     fn mp4_write_kept(bytes: *const u8, len: usize, times: u64) -> u64;
     fn mp4_rewrite(bytes: *const u8, len: usize, out: *mut u8, room: usize) -> u64;
     fn mp4_rewrite_kept(bytes: *const u8, len: usize, out: *mut u8, room: usize) -> u64;
+    fn mp4_samples_in_order(bytes: *const u8, len: usize, times: u64) -> u64;
+    fn mp4_samples_by_number(bytes: *const u8, len: usize, times: u64) -> u64;
     fn mp4_member_size() -> u64;
     fn mp4_kept_member_size() -> u64;
     fn mp4_fragment_member_size() -> u64;
@@ -85,6 +87,19 @@ impl Codec {
 pub fn read_fragments(bytes: &[u8], times: u64) -> u64 {
     // SAFETY: the pointer and the length are those of a slice.
     unsafe { mp4_read_fragments(bytes.as_ptr(), bytes.len(), times) }
+}
+
+/// Reads the tables of a track once and goes over its samples so many times. Returns the sum of all that is said of each.
+pub fn samples_in_order(bytes: &[u8], times: u64) -> u64 {
+    // SAFETY: the pointer and the length are those of a slice.
+    unsafe { mp4_samples_in_order(bytes.as_ptr(), bytes.len(), times) }
+}
+
+/// Reads the tables of a track once, makes an index once, and looks one of ten samples up, so many times. Returns the sum
+/// of all that is said of each.
+pub fn samples_by_number(bytes: &[u8], times: u64) -> u64 {
+    // SAFETY: the pointer and the length are those of a slice.
+    unsafe { mp4_samples_by_number(bytes.as_ptr(), bytes.len(), times) }
 }
 
 /// The number of bytes of a member of a list.

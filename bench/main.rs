@@ -1,17 +1,19 @@
-//! Measures the codec beside plain Rust, and prints the tables of docs/internals/BENCHMARKS.md. Each stream is measured in a process of
-//! its own, which this one starts.
+//! Measures the codec beside plain Rust, and prints the tables of docs/internals/BENCHMARKS.md. All is measured in several runs, and
+//! each stream in a process of its own, which this one starts.
 
 mod best;
 mod boxes;
 mod codec;
 mod naive;
 mod report;
+mod samples;
 mod streams;
 mod subject;
 mod timing;
 
 use boxes::{AnyBox, KeptBox};
-use report::Line;
+use report::{Line, SampleLine};
+use samples::SampleTimes;
 use std::env;
 use std::hint::black_box;
 use std::process::{Command, Stdio};
@@ -19,8 +21,14 @@ use streams::Stream;
 use subject::Subject;
 use timing::Times;
 
+/// How many runs there are. The ratios of all of them are printed.
+const RUNS: usize = 3;
+
 /// The word before the number of the stream that a process measures.
 const STREAM: &str = "--stream";
+
+/// The word for a process that measures the samples of a track.
+const SAMPLES: &str = "--samples";
 
 fn main() {
     let mut arguments = env::args().skip(1);
@@ -32,13 +40,14 @@ fn main() {
     let lines: Vec<String> = arguments.collect();
     match &lines[..] {
         [word, number] if word == STREAM => measure(number.parse().expect("a number"), rounds),
+        [word] if word == SAMPLES => measure_samples(rounds),
         _ => print_all(rounds, &lines),
     }
 }
 
 /// Measures one stream, and prints its times in seconds.
 fn measure(number: usize, rounds: usize) {
-    let subject = Subject::new(streams::all().swap_remove(number));
+    let subject = Subject::new(streams::nth(number));
     // The allocator keeps what was freed, so that no way pays for fresh pages of the system.
     drop(black_box(vec![1u8; 30_000_000]));
     let times = timing::measure(&subject, rounds);
@@ -47,18 +56,35 @@ fn measure(number: usize, rounds: usize) {
     }
 }
 
-/// The times of one stream, from a process of its own.
-fn measured(number: usize, rounds: usize) -> Times {
+/// Measures the samples of a track, and prints the times in seconds.
+fn measure_samples(rounds: usize) {
+    let times = samples::measure(rounds.div_ceil(4));
+    for seconds in times.in_order.iter().chain(&times.by_number) {
+        println!("{seconds:e}");
+    }
+}
+
+/// The seconds that a process prints which this program starts with some words.
+fn seconds_of(words: &[String]) -> impl FnMut() -> f64 {
     let program = env::current_exe().expect("the path of this program");
     let child = Command::new(program)
-        .args([rounds.to_string(), STREAM.to_owned(), number.to_string()])
+        .args(words)
         .stderr(Stdio::inherit())
         .output()
         .expect("a process");
-    assert!(child.status.success(), "stream {number} was not measured");
+    assert!(child.status.success(), "{words:?} was not measured");
     let text = String::from_utf8(child.stdout).expect("text");
-    let mut seconds = text.lines().map(|line| line.parse().expect("seconds"));
-    let mut next = || seconds.next().expect("a time");
+    let seconds: Vec<f64> = text
+        .lines()
+        .map(|line| line.parse().expect("seconds"))
+        .collect();
+    let mut seconds = seconds.into_iter();
+    move || seconds.next().expect("a time")
+}
+
+/// The times of one stream, from a process of its own.
+fn measured(number: usize, rounds: usize) -> Times {
+    let mut next = seconds_of(&[rounds.to_string(), STREAM.to_owned(), number.to_string()]);
     Times {
         read: [next(), next(), next(), next()],
         write: [next(), next(), next(), next()],
@@ -66,22 +92,35 @@ fn measured(number: usize, rounds: usize) -> Times {
     }
 }
 
+fn measured_samples(rounds: usize) -> SampleTimes {
+    let mut next = seconds_of(&[rounds.to_string(), SAMPLES.to_owned()]);
+    SampleTimes {
+        in_order: [next(), next()],
+        by_number: [next(), next(), next()],
+    }
+}
+
 fn print_all(rounds: usize, lines: &[String]) {
     let streams: Vec<Stream> = streams::all();
-    let all: Vec<Line> = streams
-        .iter()
-        .enumerate()
-        .map(|(number, stream)| Line::new(stream, measured(number, rounds)))
-        .collect();
+    let mut all: Vec<Line> = streams.iter().map(Line::new).collect();
+    let mut samples = SampleLine::default();
+    for run in 1..=RUNS {
+        eprintln!("run {run} of {RUNS}");
+        for (number, line) in all.iter_mut().enumerate() {
+            line.runs.push(measured(number, rounds));
+        }
+        samples.runs.push(measured_samples(rounds));
+    }
     for line in lines {
         println!("- {line}");
     }
     println!(
-        "- times: of one pass, the least of {rounds} rounds, each of about {} ms; of {} rounds for streams above {} bytes",
+        "- times in µs, of one pass, the least of {RUNS} runs of {rounds} rounds each, of about {} ms a way; of {} rounds for streams above {} bytes",
         timing::SECONDS * 1e3,
         timing::rounds_of_large(rounds),
         timing::LARGE,
     );
+    println!("- *ratio*: codec / best effort, the middle one of the runs, and in brackets the least and the greatest. Of each table the first five columns are of reading, the last four of writing; *copy* is that of reading");
     println!(
         "- bytes of a member of a list: codec {}, best effort and naive {}; with other boxes kept {} and {}; of boxes of fragments {}",
         codec::member_size(),
@@ -90,12 +129,5 @@ fn print_all(rounds: usize, lines: &[String]) {
         size_of::<KeptBox>(),
         codec::fragment_member_size(),
     );
-    let (tables, small): (Vec<Line>, Vec<Line>) = all
-        .into_iter()
-        .partition(|line| line.stream.entries.is_some());
-    for (title, lines) in [("tables", &tables), ("small boxes", &small)] {
-        report::print(&format!("Reading {title}"), lines, true);
-        report::print(&format!("Writing {title}"), lines, false);
-    }
-    report::print_each(&small);
+    report::print(&all, &samples);
 }

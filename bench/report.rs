@@ -1,25 +1,114 @@
 //! The tables of results.
 
+use crate::samples::{SampleTimes, COUNT};
 use crate::streams::Stream;
 use crate::timing::Times;
 
-/// A stream, and its times.
+/// The length whose tables have a line each. Of other lengths the range of all ratios is printed.
+const SHOWN: u32 = 10_000;
+
+/// A stream, and its times in each run.
 pub struct Line<'a> {
-    pub stream: &'a Stream,
-    times: Times,
+    stream: &'a Stream,
+    pub runs: Vec<Times>,
+}
+
+/// The samples of a track, and their times in each run.
+#[derive(Default)]
+pub struct SampleLine {
+    pub runs: Vec<SampleTimes>,
+}
+
+/// The ratios of all runs, from the least to the greatest.
+struct Ratios(Vec<f64>);
+
+impl Ratios {
+    fn new(ratios: impl Iterator<Item = f64>) -> Ratios {
+        let mut ratios: Vec<f64> = ratios.collect();
+        ratios.sort_by(f64::total_cmp);
+        Ratios(ratios)
+    }
+
+    /// The middle one.
+    fn middle(&self) -> f64 {
+        self.0[self.0.len() / 2]
+    }
+
+    fn least(&self) -> f64 {
+        self.0[0]
+    }
+
+    fn greatest(&self) -> f64 {
+        self.0[self.0.len() - 1]
+    }
+
+    /// The middle one, and the range in brackets.
+    fn text(&self) -> String {
+        let (middle, least, greatest) = (self.middle(), self.least(), self.greatest());
+        format!("**{middle:.2}** ({least:.2} to {greatest:.2})")
+    }
 }
 
 impl<'a> Line<'a> {
-    pub fn new(stream: &'a Stream, times: Times) -> Line<'a> {
-        Line { stream, times }
+    pub fn new(stream: &'a Stream) -> Line<'a> {
+        let runs = Vec::new();
+        Line { stream, runs }
     }
 
-    /// The number of entries of its one table, or of its boxes.
-    fn count(&self) -> usize {
-        self.stream
-            .entries
-            .map_or(self.stream.boxes, |entries| entries as usize)
+    /// The least of all runs.
+    fn least(&self, time: impl Fn(&Times) -> f64) -> f64 {
+        self.runs.iter().map(time).fold(f64::MAX, f64::min)
     }
+
+    /// The codec's times by those of the best effort.
+    fn ratios(&self, times: impl Fn(&Times) -> [f64; 4]) -> Ratios {
+        Ratios::new(self.runs.iter().map(|run| {
+            let [_, codec, best, _] = times(run);
+            codec / best
+        }))
+    }
+
+    /// The columns of all ways but the copy, and of the ratio.
+    fn columns(&self, times: impl Fn(&Times) -> [f64; 4]) -> String {
+        let [codec, best, naive] = [1, 2, 3].map(|way| micros(self.least(|run| times(run)[way])));
+        format!("{codec} | {best} | {naive} | {}", self.ratios(times).text())
+    }
+
+    fn print(&self, name: &str) {
+        let copy = micros(self.least(|run| run.read[0]));
+        let (reading, writing) = (self.columns(|run| run.read), self.columns(|run| run.write));
+        println!("| {name} | {copy} | {reading} | {writing} |");
+    }
+
+    /// What of the aims is missed, in words.
+    fn missed(&self) -> Vec<String> {
+        let Some(aims) = self.stream.aims else {
+            return Vec::new();
+        };
+        let tests = [
+            ("reading", self.ratios(|run| run.read), aims.reading),
+            ("writing", self.ratios(|run| run.write), aims.writing),
+        ];
+        let is_missed = |ratios: &Ratios, aim: f64| (ratios.middle() * 100.0).round() > aim * 100.0;
+        tests
+            .into_iter()
+            .filter(|(_, ratios, aim)| is_missed(ratios, *aim))
+            .map(|(doing, ratios, aim)| {
+                let (name, of) = (&self.stream.name, grouped(count(self.stream)));
+                format!(
+                    "{doing} {name} of {of} ({:.2}, aim {aim:.2})",
+                    ratios.middle()
+                )
+            })
+            .collect()
+    }
+}
+
+/// The number of entries of its one table, or of its boxes.
+fn count(stream: &Stream) -> usize {
+    stream
+        .entries
+        .map_or(stream.boxes, |entries| entries as usize)
 }
 
 /// A number with commas after the thousands.
@@ -33,87 +122,120 @@ fn grouped(number: usize) -> String {
 
 /// Microseconds, with three figures or more.
 fn micros(seconds: f64) -> String {
-    let micros = seconds * 1e6;
-    match micros {
-        0.0..10.0 => format!("{micros:.2}"),
-        10.0..100.0 => format!("{micros:.1}"),
-        _ => format!("{micros:.0}"),
+    figures(seconds * 1e6)
+}
+
+/// A number with three figures or more.
+fn figures(number: f64) -> String {
+    match number {
+        0.0..10.0 => format!("{number:.2}"),
+        10.0..100.0 => format!("{number:.1}"),
+        _ => format!("{number:.0}"),
     }
 }
 
-/// What the codec was to take of the time of the best effort, and whether it did. Figures are compared as they are
-/// printed.
-fn aim(stream: &Stream, is_reading: bool, ratio: f64) -> String {
-    let Some(aims) = stream.aims else {
-        return String::new();
-    };
-    let most = if is_reading {
-        aims.reading
-    } else {
-        aims.writing
-    };
-    let outcome = if (ratio * 100.0).round() <= most * 100.0 {
-        "met"
-    } else {
-        "missed"
-    };
-    format!("{most:.2}: {outcome}")
+/// The head of a table of streams.
+fn print_head(title: &str) {
+    println!("\n| {title} | copy | codec | best effort | naive | ratio | codec | best effort | naive | ratio |");
+    println!("|---|--:|--:|--:|--:|--:|--:|--:|--:|--:|");
 }
 
-pub fn print(title: &str, lines: &[Line], is_reading: bool) {
-    let of = if lines.iter().all(|s| s.stream.entries.is_some()) {
-        "entries"
+pub fn print(lines: &[Line], samples: &SampleLine) {
+    let (tables, small): (Vec<&Line>, Vec<&Line>) =
+        lines.iter().partition(|line| line.stream.entries.is_some());
+    print_head(&format!("{} entries", grouped(SHOWN as usize)));
+    for line in tables
+        .iter()
+        .filter(|line| line.stream.entries == Some(SHOWN))
+    {
+        line.print(&line.stream.name);
+    }
+    print_head("boxes");
+    for line in &small {
+        line.print(&format!(
+            "{}, {}",
+            line.stream.name,
+            grouped(count(line.stream))
+        ));
+    }
+    print_other_lengths(&tables);
+    print_each(&small);
+    samples.print();
+    let missed: Vec<String> = lines.iter().flat_map(Line::missed).collect();
+    let missed = if missed.is_empty() {
+        "none".to_owned()
     } else {
-        "boxes"
+        missed.join(", ")
     };
-    println!("\n{title}:\n");
-    println!("| stream | {of} | copy, µs | codec, µs | best effort, µs | naive, µs | codec / copy | codec / best effort | naive / codec | aim |");
-    println!("|---|--:|--:|--:|--:|--:|--:|--:|--:|---|");
-    for s in lines {
-        let seconds = if is_reading {
-            s.times.read
-        } else {
-            s.times.write
+    println!("\nAims missed: {missed}.");
+}
+
+/// The range of the ratios of all tables of a length.
+fn print_other_lengths(tables: &[&Line]) {
+    println!("\n| entries | ratios in reading | in writing |");
+    println!("|--:|--:|--:|");
+    let mut lengths: Vec<u32> = tables
+        .iter()
+        .filter_map(|line| line.stream.entries)
+        .collect();
+    lengths.dedup();
+    for length in lengths.into_iter().filter(|length| *length != SHOWN) {
+        let range = |times: fn(&Times) -> [f64; 4]| {
+            let of_length = tables
+                .iter()
+                .filter(|line| line.stream.entries == Some(length));
+            let ratios: Vec<f64> = of_length.map(|line| line.ratios(times).middle()).collect();
+            let all = Ratios::new(ratios.into_iter());
+            format!("{:.2} to {:.2}", all.least(), all.greatest())
         };
-        let [copy, codec, best, naive] = seconds;
-        println!(
-            "| {} | {} | {} | {} | {} | {} | {:.2} | **{:.2}** | {:.1} | {} |",
-            s.stream.name,
-            grouped(s.count()),
-            micros(copy),
-            micros(codec),
-            micros(best),
-            micros(naive),
-            codec / copy,
-            codec / best,
-            naive / codec,
-            aim(&s.stream, is_reading, codec / best),
-        );
+        let (reading, writing) = (range(|run| run.read), range(|run| run.write));
+        println!("| {} | {reading} | {writing} |", grouped(length as usize));
     }
 }
 
 /// Small boxes that are read one at a time, beside a list of them, and into a list of boxes of fragments alone.
-pub fn print_each(lines: &[Line]) {
-    println!("\nReading small boxes one at a time:\n");
-    println!("| stream | boxes | list, µs | one at a time, µs | best effort, one at a time, µs | list / one at a time | one at a time / best effort | list of `FragmentBox`, µs | list / that |");
-    println!("|---|--:|--:|--:|--:|--:|--:|--:|--:|");
-    for s in lines {
-        let [_, list, _, _] = s.times.read;
-        let [each, best, fragments] = s.times.small;
-        let (of_fragments, gain) = if fragments == f64::MAX {
-            (String::new(), String::new())
+fn print_each(lines: &[&Line]) {
+    println!("\n| boxes, read | into a list | one at a time | best effort, one at a time | ratio | into a list of `FragmentBox` |");
+    println!("|---|--:|--:|--:|--:|--:|");
+    for line in lines {
+        let list = micros(line.least(|run| run.read[1]));
+        let [each, best] = [0, 1].map(|way| micros(line.least(|run| run.small[way])));
+        let ratio = Ratios::new(line.runs.iter().map(|run| run.small[0] / run.small[1])).text();
+        let fragments = line.least(|run| run.small[2]);
+        let fragments = if fragments == f64::MAX {
+            String::new()
         } else {
-            (micros(fragments), format!("{:.2}", list / fragments))
+            micros(fragments)
         };
-        println!(
-            "| {} | {} | {} | {} | {} | **{:.2}** | **{:.2}** | {of_fragments} | {gain} |",
-            s.stream.name,
-            grouped(s.count()),
-            micros(list),
-            micros(each),
-            micros(best),
-            list / each,
-            each / best,
-        );
+        let name = format!("{}, {}", line.stream.name, grouped(count(line.stream)));
+        println!("| {name} | {list} | {each} | {best} | {ratio} | {fragments} |");
+    }
+}
+
+impl SampleLine {
+    /// The least of all runs, in nanoseconds.
+    fn nanos(&self, time: impl Fn(&SampleTimes) -> f64) -> String {
+        figures(self.runs.iter().map(time).fold(f64::MAX, f64::min) * 1e9)
+    }
+
+    fn print(&self) {
+        println!("\n| {} samples, ns each | codec | best effort | ratio | as the crate `mp4` looks one up |", grouped(COUNT as usize));
+        println!("|---|--:|--:|--:|--:|");
+        let ratio = Ratios::new(
+            self.runs
+                .iter()
+                .map(|run| run.in_order[0] / run.in_order[1]),
+        )
+        .text();
+        let [codec, best] = [0, 1].map(|way| self.nanos(|run| run.in_order[way]));
+        println!("| one after the other, tables checked first | {codec} | {best} | {ratio} | |");
+        let ratio = Ratios::new(
+            self.runs
+                .iter()
+                .map(|run| run.by_number[0] / run.by_number[1]),
+        )
+        .text();
+        let [codec, best, naive] = [0, 1, 2].map(|way| self.nanos(|run| run.by_number[way]));
+        println!("| each by its number, from an index | {codec} | {best} | {ratio} | {naive} |");
     }
 }

@@ -3,6 +3,7 @@
 mod entries;
 mod flat;
 mod fragments;
+pub mod samples;
 mod sound;
 mod tables;
 mod texts;

@@ -3,6 +3,7 @@
 mod entries;
 mod flat;
 mod fragments;
+mod samples;
 mod sound;
 mod tables;
 mod texts;
@@ -10,6 +11,7 @@ mod texts;
 pub use entries::*;
 pub use flat::*;
 pub use fragments::*;
+pub use samples::*;
 pub use sound::*;
 pub use tables::*;
 pub use texts::*;

@@ -3,9 +3,11 @@
 mod builder;
 mod fragments;
 mod movies;
+pub mod samples;
 mod tables;
 
 use builder::{boxes_of, without};
+use tables::KINDS;
 
 /// The numbers of entries of a table.
 const LENGTHS: [u32; 4] = [1_000, 10_000, 100_000, 1_000_000];
@@ -54,22 +56,28 @@ impl Stream {
 pub fn all() -> Vec<Stream> {
     LENGTHS
         .into_iter()
-        .flat_map(tables)
+        .flat_map(|entries| (0..KINDS.len()).map(move |kind| table(entries, kind)))
         .chain(small())
         .collect()
 }
 
-/// One table of so many entries, for each kind of table. `elst` has two, for its two rows.
-fn tables(entries: u32) -> Vec<Stream> {
-    let table = |(name, bytes)| {
-        let mut stream = Stream::new(name, bytes);
-        stream.entries = Some(entries);
-        if entries == 10_000 {
-            stream = stream.with_aims(1.1, 1.0);
-        }
-        stream
-    };
-    tables::of_length(entries).into_iter().map(table).collect()
+/// The stream at a place of `all`, without the others.
+pub fn nth(place: usize) -> Stream {
+    match LENGTHS.get(place / KINDS.len()) {
+        Some(entries) => table(*entries, place % KINDS.len()),
+        None => small().swap_remove(place - LENGTHS.len() * KINDS.len()),
+    }
+}
+
+/// One table of so many entries. `elst` has two kinds, for its two rows.
+fn table(entries: u32, kind: usize) -> Stream {
+    let (name, bytes) = KINDS[kind];
+    let mut stream = Stream::new(name, bytes(entries));
+    stream.entries = Some(entries);
+    if entries == 10_000 {
+        stream = stream.with_aims(1.1, 1.0);
+    }
+    stream
 }
 
 /// Streams of boxes of one type, of several types in turn, and the contents of a `moof` and of a `moov`.

@@ -44,18 +44,20 @@ fn run(entries: u32) -> Vec<u8> {
     b.bytes
 }
 
-/// A stream of one table of so many entries for each kind, with its name.
-pub fn of_length(entries: u32) -> Vec<(&'static str, Vec<u8>)> {
-    vec![
-        ("stsz", random(b"stsz", 0, entries, &[0], 1)),
-        ("stco", random(b"stco", 0, entries, &[], 1)),
-        ("co64", random(b"co64", 0, entries, &[], 2)),
-        ("stss", random(b"stss", 0, entries, &[], 1)),
-        ("stsc", chunks(entries)),
-        ("stts", random(b"stts", 0, entries, &[], 2)),
-        ("ctts", random(b"ctts", 0, entries, &[], 2)),
-        ("elst, version 0", random(b"elst", 0, entries, &[], 3)),
-        ("elst, version 1", random(b"elst", 1, entries, &[], 5)),
-        ("trun", run(entries)),
-    ]
-}
+/// The kinds of tables: the name of each, and its stream of so many entries.
+pub const KINDS: [(&str, fn(u32) -> Vec<u8>); 10] = [
+    ("stsz", |entries| random(b"stsz", 0, entries, &[0], 1)),
+    ("stco", |entries| random(b"stco", 0, entries, &[], 1)),
+    ("co64", |entries| random(b"co64", 0, entries, &[], 2)),
+    ("stss", |entries| random(b"stss", 0, entries, &[], 1)),
+    ("stsc", chunks),
+    ("stts", |entries| random(b"stts", 0, entries, &[], 2)),
+    ("ctts", |entries| random(b"ctts", 0, entries, &[], 2)),
+    ("elst, version 0", |entries| {
+        random(b"elst", 0, entries, &[], 3)
+    }),
+    ("elst, version 1", |entries| {
+        random(b"elst", 1, entries, &[], 5)
+    }),
+    ("trun", run),
+];

@@ -8,6 +8,8 @@ ghost use Rattle.mp4_stream.specs.KeptBox.{format_kept, known_kept, reading_kept
 ghost use Rattle.mp4_stream.specs.declared.any_box.AnyBox.{AnyBox};
 ghost use Rattle.mp4_stream.specs.declared.kept_box.KeptBox.{KeptBox};
 
+mod samples;
+
 use mp4_stream::{
     AnyBox, ByteCursor, Error, FragmentBox, KeptBox, Mp4Box, Result, StreamBox, boxes_as,
     read_boxes_as, write_boxes,
@@ -144,6 +146,20 @@ pub extern "C" fn mp4_rewrite_kept(alloc: Global, bytes: &[u8], out: &mut [u8]) 
         × (take result out.new ≡ stream format_kept.bytes vs)) }
 {
     rewrite::<KeptBox>(alloc, bytes, out).unwrap_or(u64::MAX)
+}
+
+/// Reads the tables of a track once, and goes over its samples `times` times, one after the other; each time the tables
+/// are checked to agree. Returns the sum of all that is said of each; `u64::MAX` after an error.
+#[unsafe(no_mangle)]
+pub extern "C" fn mp4_samples_in_order(alloc: Global, bytes: &[u8], times: u64) -> u64 {
+    samples::samples_in_order(alloc, bytes, times).unwrap_or(u64::MAX)
+}
+
+/// Reads the tables of a track once, makes an index of its samples once, and looks one of ten up, `times` times. Returns
+/// the sum of all that is said of each; `u64::MAX` after an error.
+#[unsafe(no_mangle)]
+pub extern "C" fn mp4_samples_by_number(alloc: Global, bytes: &[u8], times: u64) -> u64 {
+    samples::samples_by_number(alloc, bytes, times).unwrap_or(u64::MAX)
 }
 
 /// The number of bytes of a member of a list of boxes.

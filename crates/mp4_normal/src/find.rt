@@ -4,6 +4,7 @@ ghost use Rattle.std.specs.Prelude.{◌≡◌, ◌+◌, ◌<◌, ◌≤◌, ◌^
 ghost use Rattle.std.specs.Prelude.{IfErr, IfOk};
 ghost use Rattle.mp4_frame.specs.BoxType.{code_of};
 ghost use Rattle.mp4_frame.specs.Bytes.{bytes_of_fields, number};
+ghost use Rattle.mp4_frame.specs.Format.{IsNormalForm};
 ghost use Rattle.mp4_frame.specs.Heads.{name_in, start_in, size_in};
 ghost use Rattle.mp4_frame.specs.Laws.{AreBytes};
 ghost use Rattle.mp4_frame.specs.Streams.{reading_in};
@@ -11,7 +12,7 @@ ghost use Rattle.mp4_frame.specs.declared.error.Error.TheVariants.{OutOfMemory};
 ghost use Rattle.mp4_stream.specs.KeptBox.{reading_kept, format_kept};
 ghost use Rattle.mp4_stream.specs.Other.{is_typed};
 ghost use Rattle.mp4_stream.specs.OtherBox.{format_other};
-ghost use Rattle.mp4_normal.specs.Changes.{AppendsIf, AreBefore, OneMade, made_of, other_at};
+ghost use Rattle.mp4_normal.specs.Changes.{AppendsIf, AreBefore, OneMade, made_of, other_at, part};
 ghost use Rattle.mp4_normal.specs.Normal.{Normalizes, NormalRefuses};
 
 use crate::change::Changes;
@@ -103,6 +104,18 @@ fn find_in_other(changes: &mut Changes, stream: &[u8], name: BoxType, frame: &Fr
     Ok(true)
 }
 
+/// Whether the bytes of the box of this frame tell that it is in normal form.
+fn is_kept<B: StreamBox>(stream: &[u8], frame: &Frame) -> bool
+    requires header { frame.now.begin + 8 ≤ frame.now.content }
+    requires order { frame.now.content ≤ frame.now.end }
+    requires within { frame.now.end ≤ length stream.now }
+    ensures short { IsTrue result → frame.now.content ≡ frame.now.begin + 8 }
+    ensures bytes { IsTrue result → IsNormalForm B.format (part stream.now frame.now.begin frame.now.end) }
+{
+    let (begin, end) = (frame.begin as usize, frame.end as usize);
+    frame.content - frame.begin == 8 && B::is_normal_form(&stream[begin..end])
+}
+
 /// Finds what changes in the box of this frame and of a type of the codec. Returns whether the box can be written.
 /// `name` is its name, and `slot` is where it is read to, unless its bytes tell that they are in normal form.
 fn find_in_typed<B: StreamBox>(
@@ -124,8 +137,9 @@ fn find_in_typed<B: StreamBox>(
         (made_of changes.old stream.now frame.now.begin) (made_of changes.new stream.now frame.now.end) result }
     ensures before { OnOk result (AreBefore changes.new (length changes.new.fresh.items) frame.now.end) }
 {
-    let (begin, end) = (frame.begin as usize, frame.end as usize);
-    if frame.content - frame.begin == 8 && B::is_normal_form(&stream[begin..end]) {
+    are_bytes(stream);
+    let kept = is_kept::<B>(stream, frame);
+    if kept {
         return Ok(true);
     }
     slot.clear();
@@ -134,7 +148,13 @@ fn find_in_typed<B: StreamBox>(
     if !value.is_writable() {
         return Ok(false);
     }
-    replace_by(changes, stream, value, begin, end)?;
+    replace_by(
+        changes,
+        stream,
+        value,
+        frame.begin as usize,
+        frame.end as usize,
+    )?;
     Ok(true)
 }
 
