@@ -1,7 +1,7 @@
 -- What a step says of the box at a place, and when a place is that of a frame.
 use Rattle.std.proofs.Common.{◌≡◌, ℕ, ◌+◌, ◌-◌, ◌^◌, ◌<◌, ◌≤◌, Bool, true, false, List, length, take, None, Some}
-use Rattle.std.proofs.Common.{Result, Ok, Err, refl, sym, ap, ◌∙◌, arith, subst, inl, inr, min}
-use Rattle.std.specs.Prelude.{nat_lt, ◌==◌, ◌&&◌, ◌⊎◌}
+use Rattle.std.proofs.Common.{Result, Ok, Err, refl, sym, ap, arith, subst, inl, inr, min}
+use Rattle.std.specs.Prelude.{nat_lt, ◌==◌, ◌&&◌, ◌||◌, ◌⊎◌}
 use Rattle.std.specs.declared.option.Option.{Option}
 use Rattle.std.proofs.lemmas.Bool.{cond_both, and_parts, ltb-true, ltb-false, lt-ltb, le-ltb, ne_eqb, cases_lt}
 use Rattle.std.proofs.lemmas.List.{length-take-le}
@@ -187,6 +187,29 @@ module _ (l : Level) (o : ℕ) (h : Head) where
         length = min (h.start - o + h.size) (2 ^ 64 - 1);
         what = what.Cut;
       }
+
+  -- a size that is too small, or not
+  pub too_small : (nat_lt h.size 8 && (nat_lt 0 h.size || nat_lt 0 l.depth)) ≡ true
+      → (h.size < 8) × ((0 < h.size) ⊎ (0 < l.depth))
+  too_small e =
+      let p = and_parts (nat_lt h.size 8) (nat_lt 0 h.size || nat_lt 0 l.depth) e in
+      (ltb-true h.size 8 p.0, either (nat_lt 0 h.size) refl p.1)
+    where
+      either : (b : Bool) → nat_lt 0 h.size ≡ b → (b || nat_lt 0 l.depth) ≡ true → (0 < h.size) ⊎ (0 < l.depth)
+      either true is e = inl (ltb-true 0 h.size is)
+      either false is e = inr (ltb-true 0 l.depth e)
+
+  pub large_enough : (nat_lt h.size 8 && (nat_lt 0 h.size || nat_lt 0 l.depth)) ≡ false
+      → (8 ≤ h.size) ⊎ ((h.size ≡ 0) × (l.depth ≡ 0))
+  large_enough e = by (nat_lt h.size 8) (nat_lt 0 h.size) (nat_lt 0 l.depth) refl refl refl e
+    where
+      by : (a b c : Bool) → nat_lt h.size 8 ≡ a → nat_lt 0 h.size ≡ b → nat_lt 0 l.depth ≡ c
+          → (a && (b || c)) ≡ false → (8 ≤ h.size) ⊎ ((h.size ≡ 0) × (l.depth ≡ 0))
+      by false b c p q r e = inl (ltb-false h.size 8 p)
+      by true true c p q r e = absurd cc
+      by true false true p q r e = absurd cc
+      by true false false p q r e =
+          inr (omega (arith, ltb-false 0 h.size q), omega (arith, ltb-false 0 l.depth r))
 
   no_top : (0 < h.size) ⊎ (0 < l.depth) → ((h.size == 0) && (l.depth == 0)) ≡ false
   no_top (inl p) = rw (ne_eqb h.size 0 (λ e. omega (arith, e, p))) refl

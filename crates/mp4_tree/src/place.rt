@@ -1,6 +1,6 @@
 //! Where a box is in its level.
 
-ghost use Rattle.std.specs.Prelude.{◌≡◌, ◌+◌, ◌<◌, ◌≤◌, length};
+ghost use Rattle.std.specs.Prelude.{◌≡◌, ◌+◌, ◌<◌, ◌≤◌, ◌&&◌, ◌||◌, nat_lt, length};
 ghost use Rattle.mp4_frame.specs.Heads.{head};
 ghost use Rattle.mp4_tree.specs.Place.{code_at, unread, place_of_head, place_of, later};
 
@@ -47,8 +47,14 @@ fn unread(level: Level, at: u64, code: Option<u32>, what: What) -> Place
     }
 }
 
+/// Whether a box at this depth can't have this size: at the top level, 0 means up to the end of the file.
+fn is_too_small(depth: u64, size: u64) -> bool
+    ensures { result ≡ (nat_lt size 8 && (nat_lt 0 size || nat_lt 0 depth)) }
+{
+    size < 8 && (size > 0 || depth > 0)
+}
+
 /// The place of a box by its head.
-#[tactic(auto, unfolding(crate::specs::Place::place_of_head))]
 fn place_of_head(level: Level, at: u64, head: Head) -> Place
     requires start { at ≤ head.start }
     requires content { head.start + 8 ≤ level.end }
@@ -56,7 +62,7 @@ fn place_of_head(level: Level, at: u64, head: Head) -> Place
     ensures inside { (head.start + 8 ≤ result.content) × (result.content ≤ result.end) × (result.end ≤ level.end) }
     ensures near { result.content < result.end → result.content ≡ head.start + 8 }
 {
-    if head.size < 8 && (head.size > 0 || level.depth > 0) {
+    if is_too_small(level.depth, head.size) {
         return unread(level, at, Some(head.code), What::Small);
     }
     match frame_of_head(level.end, at, head) {
