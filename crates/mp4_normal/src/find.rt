@@ -75,12 +75,7 @@ fn replace_header(
 
 /// Finds what changes in the box of this frame and of another code: its header at most. Returns whether the box can be
 /// written. `name` is its name. The only error is out of memory.
-fn find_in_other(
-    changes: &mut Changes,
-    stream: &[u8],
-    name: BoxType,
-    frame: &Frame,
-) -> Result<bool>
+fn find_in_other(changes: &mut Changes, stream: &[u8], name: BoxType, frame: &Frame) -> Result<bool>
     requires untyped { is_typed (code_of name) ≡ false }
     requires header { frame.now.begin + 8 ≤ frame.now.content }
     requires order { frame.now.content ≤ frame.now.end }

@@ -8,8 +8,8 @@ ghost use Rattle.mp4_tables.specs.Co64Laws.{laws_co64};
 
 use crate::rows::entries_of;
 use mp4_frame::{
-    BoxLaws, BoxType, Entries, Mp4Box, ReadBox, Result, TryClone, WriteBox, codes,
-    is_whole_table, is_writable_table, put_table, read_table, table_size,
+    BoxLaws, BoxType, Entries, Mp4Box, ReadBox, Result, TryClone, WriteBox, codes, is_whole_table,
+    is_writable_table, put_table, read_table, table_size,
 };
 use std::alloc::Global;
 

@@ -9,8 +9,8 @@ ghost use Rattle.mp4_tables.specs.SttsLaws.{laws_stts};
 use crate::rows::entries_of;
 use crate::stts_entry::SttsEntry;
 use mp4_frame::{
-    BoxLaws, BoxType, Entries, Mp4Box, ReadBox, Result, TryClone, WriteBox, codes,
-    is_whole_table, is_writable_table, put_table, read_table, table_size,
+    BoxLaws, BoxType, Entries, Mp4Box, ReadBox, Result, TryClone, WriteBox, codes, is_whole_table,
+    is_writable_table, put_table, read_table, table_size,
 };
 use std::alloc::Global;
 
