@@ -27,6 +27,7 @@ and of tools/install, and then where the system has its libraries.
 """
 
 import array
+import collections
 import ctypes
 import ctypes.util
 import os
@@ -39,7 +40,7 @@ NO_TRACK = 101
 CONTAINERS = ("moov", "trak", "mdia", "minf", "stbl", "edts", "mvex", "moof", "traf")
 
 u8, u16, u32, u64, size = ctypes.c_uint8, ctypes.c_uint16, ctypes.c_uint32, ctypes.c_uint64, ctypes.c_size_t
-i32, i64 = ctypes.c_int32, ctypes.c_int64
+i16, i32, i64 = ctypes.c_int16, ctypes.c_int32, ctypes.c_int64
 
 
 class Mp4Error(ValueError):
@@ -312,6 +313,106 @@ def trun(data: Any) -> Run:
     rows, it = _trun(data)
     listed = _listed(rows, TrunRow, _RUN)
     return Run(it.version, it.flags, it.sample_count, it.data_offset, it.first_sample_flags, listed)
+
+
+def _written(function: Callable[..., int], *given: Any) -> bytes:
+    """The bytes that a call writes, once it has told how many they are."""
+    length, out = size(), (u8 * 1)()
+    status = function(*given, ctypes.addressof(out), 0, ctypes.addressof(length))
+    if status == NO_ROOM:
+        out = (u8 * length.value)()
+        status = function(*given, ctypes.addressof(out), length.value, ctypes.addressof(length))
+    if status != OK:
+        raise Mp4Error(status)
+    return bytes(out)
+
+
+def _filled_struct(struct: Any, value: Any) -> Any:
+    """A struct of the header with the numbers of a named tuple."""
+    given = value._asdict()
+    of = {name: (kind, given[name]) for name, kind in struct._fields_ if name in given}
+    numbers = {name: kind(*it) if isinstance(it, tuple) else it for name, (kind, it) in of.items()}
+    return struct(**{name: it.encode() if isinstance(it, str) else it for name, it in numbers.items()})
+
+
+def _box(name: str, words: str, **fields: Any) -> Tuple[Any, Callable[[Any], Any], Callable[[Any], bytes]]:
+    """The named tuple of a box of fixed fields, and the functions that read and write it."""
+    struct = _struct(f"mp4_{name}_box", **fields)
+    made: Any = collections.namedtuple(name.capitalize(), fields)
+    made.__doc__ = f"{words}; fixed-point numbers are raw."
+    reads = _function(f"mp4_{name}", ctypes.c_void_p, size, ctypes.c_void_p)
+    writes = _function(f"mp4_write_{name}", ctypes.c_void_p, ctypes.c_void_p, size, ctypes.c_void_p)
+
+    def plain(value: Any) -> Any:
+        if isinstance(value, bytes):
+            return value.decode("latin-1")
+        return tuple(value) if isinstance(value, ctypes.Array) else value
+
+    def read(data: Any) -> Any:
+        found = struct()
+        with _Bytes(data) as (address, length):
+            status = reads(address, length, ctypes.addressof(found))
+        if status != OK:
+            raise Mp4Error(status)
+        return made(*(plain(getattr(found, it)) for it in fields))
+
+    def write(value: Any) -> bytes:
+        given = _filled_struct(struct, value)
+        return _written(writes, ctypes.addressof(given))
+
+    read.__name__, read.__doc__ = name, f"{words}. Of the box at the front of the bytes, header included."
+    write.__name__, write.__doc__ = f"write_{name}", "The bytes of the box, header included."
+    return made, read, write
+
+
+_TIMES = {"creation_time": u64, "modification_time": u64, "duration": u64, "flags": u32}
+Mvhd, mvhd, write_mvhd = _box(
+    "mvhd", "Properties of the whole movie (8.2.2)", **_TIMES, timescale=u32, rate=u32, matrix=i32 * 9,
+    next_track_id=u32, volume=u16, version=u8)
+Tkhd, tkhd, write_tkhd = _box(
+    "tkhd", "Properties of a track (8.3.2)", **_TIMES, track_id=u32, matrix=i32 * 9, width=u32, height=u32, layer=i16,
+    alternate_group=i16, volume=u16, version=u8)
+Mdhd, mdhd, write_mdhd = _box(
+    "mdhd", "Properties of the media of a track (8.4.2)", **_TIMES, timescale=u32, language=ctypes.c_char * 4,
+    version=u8)
+Mehd, mehd, write_mehd = _box(
+    "mehd", "The duration of a movie with fragments (8.8.2)", fragment_duration=u64, flags=u32, version=u8)
+Mfhd, mfhd, write_mfhd = _box("mfhd", "The number of a fragment (8.8.5)", flags=u32, sequence_number=u32, version=u8)
+Smhd, smhd, write_smhd = _box("smhd", "The balance of sound (12.2.2)", flags=u32, balance=i16, version=u8)
+Vmhd, vmhd, write_vmhd = _box(
+    "vmhd", "How video is composed (12.1.2)", flags=u32, graphics_mode=u16, red=u16, green=u16, blue=u16, version=u8)
+Trex, trex, write_trex = _box(
+    "trex", "The defaults for the samples of fragments (8.8.3)", flags=u32, track_id=u32,
+    default_sample_description_index=u32, default_sample_duration=u32, default_sample_size=u32,
+    default_sample_flags=u32, version=u8)
+Tfdt, tfdt, write_tfdt = _box(
+    "tfdt", "When the first sample of a fragment is decoded (8.8.12)", base_media_decode_time=u64, flags=u32,
+    version=u8)
+Tfhd, tfhd, write_tfhd = _box(
+    "tfhd", "The track of a fragment (8.8.7)", base_data_offset=u64, flags=u32, track_id=u32,
+    sample_description_index=u32, default_sample_duration=u32, default_sample_size=u32, default_sample_flags=u32,
+    version=u8)
+
+
+def _writes_table(name: str, row: Any, table: Any) -> Callable[[Any], bytes]:
+    """A function that writes a table as it is read."""
+    function = _function(
+        f"mp4_write_{name}", ctypes.c_void_p, ctypes.c_void_p, size, ctypes.c_void_p, size, ctypes.c_void_p)
+
+    def write(value: Any) -> bytes:
+        count, head = len(value.rows), _filled_struct(table, value)
+        rows = (row * max(count, 1))(*(it if row in _ARRAYS else row(*it) for it in value.rows))
+        return _written(function, ctypes.addressof(head), ctypes.addressof(rows), count)
+
+    write.__name__, write.__doc__ = f"write_{name}", "The bytes of the table, header included."
+    return write
+
+
+write_stco, write_co64 = _writes_table("stco", u32, _TABLE), _writes_table("co64", u64, _TABLE)
+write_stss, write_stts = _writes_table("stss", u32, _TABLE), _writes_table("stts", _STTS, _TABLE)
+write_ctts, write_stsc = _writes_table("ctts", _CTTS, _TABLE), _writes_table("stsc", _STSC, _TABLE)
+write_elst, write_stsz = _writes_table("elst", _ELST, _TABLE), _writes_table("stsz", u32, _STSZ)
+write_trun = _writes_table("trun", _RUN, _TRUN)
 
 
 def check(data: Any) -> None:

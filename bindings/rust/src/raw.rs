@@ -1,6 +1,7 @@
 //! The functions of `mp4_box_codec.h`, which says what a caller ensures, and the structs that they fill.
 
 use crate::{CttsRow, ElstRow, Place, Sample, Span, StscRow, SttsRow, TrunRow};
+use crate::{Mdhd, Mehd, Mfhd, Mvhd, Smhd, Tfdt, Tfhd, Tkhd, Trex, Vmhd};
 
 pub const OK: u32 = 0;
 pub const END_OF_INPUT: u32 = 1;
@@ -86,4 +87,55 @@ fill! {
     mp4_stsc: StscRow, Table;
     mp4_elst: ElstRow, Table;
     mp4_trun: TrunRow, TrunTable;
+}
+
+/// Declares functions that read a box and write it.
+macro_rules! boxes {
+    ($($read:ident, $write:ident: $fields:ty;)*) => {
+        extern "C" {
+            $(pub fn $read(bytes: *const u8, length: usize, fields: *mut $fields) -> u32;
+            pub fn $write(fields: *const $fields, bytes: *mut u8, places: usize, length: *mut usize) -> u32;)*
+        }
+    };
+}
+
+boxes! {
+    mp4_mvhd, mp4_write_mvhd: Mvhd;
+    mp4_tkhd, mp4_write_tkhd: Tkhd;
+    mp4_mdhd, mp4_write_mdhd: Mdhd;
+    mp4_mehd, mp4_write_mehd: Mehd;
+    mp4_mfhd, mp4_write_mfhd: Mfhd;
+    mp4_smhd, mp4_write_smhd: Smhd;
+    mp4_vmhd, mp4_write_vmhd: Vmhd;
+    mp4_trex, mp4_write_trex: Trex;
+    mp4_tfdt, mp4_write_tfdt: Tfdt;
+    mp4_tfhd, mp4_write_tfhd: Tfhd;
+}
+
+/// Declares functions that write a table.
+macro_rules! tables {
+    ($($name:ident: $row:ty, $table:ty;)*) => {
+        extern "C" {
+            $(pub fn $name(
+                table: *const $table,
+                rows: *const $row,
+                count: usize,
+                bytes: *mut u8,
+                places: usize,
+                length: *mut usize,
+            ) -> u32;)*
+        }
+    };
+}
+
+tables! {
+    mp4_write_stsz: u32, StszTable;
+    mp4_write_stco: u32, Table;
+    mp4_write_co64: u64, Table;
+    mp4_write_stss: u32, Table;
+    mp4_write_stts: SttsRow, Table;
+    mp4_write_ctts: CttsRow, Table;
+    mp4_write_stsc: StscRow, Table;
+    mp4_write_elst: ElstRow, Table;
+    mp4_write_trun: TrunRow, TrunTable;
 }
