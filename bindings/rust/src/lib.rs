@@ -7,10 +7,12 @@ use std::error;
 use std::fmt;
 
 mod boxes;
+mod entries;
 pub mod raw;
 mod rows;
 
 pub use boxes::*;
+pub use entries::*;
 pub use rows::{CttsRow, ElstRow, Place, Sample, Span, StscRow, SttsRow, TrunRow};
 
 /// Why a call has no value.
