@@ -1,19 +1,19 @@
 /*
  * mp4-box-codec: the boxes of MP4 files (ISO/IEC 14496-12), for C.
  *
- * Each function reads bytes of the caller, returns a status, and puts what it finds into memory of the caller: elements into
+ * Each function reads values of the caller, returns a status, and puts what it finds into memory of the caller: elements into
  * an array, whose number of places the caller says, and the number of elements beside it. If the array has fewer places than
  * there are elements, the status is MP4_NO_ROOM, their number is returned, and the array is as it was: so ask first with an
  * array of 0 places, and then with one that is long enough.
  *
  * What the caller ensures of every call:
  *
- *  - NO POINTER IS NULL, ALSO WHERE ITS LENGTH OR ITS NUMBER OF PLACES IS 0: then it may point to any value of its type. (The
- *    functions take slices, whose address is proved to be one of memory; the toolchain has no other form for an array.)
- *    Each pointer is aligned for its type.
+ *  - AN ARRAY OF 0 PLACES AND BYTES OF LENGTH 0 MAY BE NULL, AND NO OTHER POINTER. (This header replaces NULL there. Who calls
+ *    the library without it, as from another language, passes a pointer to memory also then.)
+ *  - Each pointer is aligned for its type.
  *  - From `bytes` on there are `length` readable bytes, and from an array on as many places as its number says. No length
  *    is more than 2^63 - 1 bytes.
- *  - Each byte, each place and each other value that a pointer points to has been given a value before, as by calloc.
+ *  - What a call reads has been given a value before. What it writes need not: an array may come from malloc.
  *  - None of these overlap, and no other thread writes to them, or reads what is written, until the call returns.
  *  - malloc, realloc and free are those of one allocator, and malloc and realloc align a block to each power of two up to
  *    16 that divides its size. No call is made from a signal handler, or in the forked child of a process with threads.
@@ -27,13 +27,25 @@
  *  - After MP4_NO_ROOM the array is as it was, and the number of elements, and what else is returned, is as after MP4_OK.
  *  - After any other status everything is as it was.
  *
- * Link the program with libmp4_box_codec.a, which is for x86-64.
+ * It is C89 and later, and C++. Define MP4_NO_STDINT where there is no <stdint.h>. Link the program with
+ * libmp4_box_codec.a, which is for x86-64.
  */
 #ifndef MP4_BOX_CODEC_H
 #define MP4_BOX_CODEC_H
 
 #include <stddef.h>
+#ifdef MP4_NO_STDINT
+typedef signed char int8_t;
+typedef unsigned char uint8_t;
+typedef unsigned short uint16_t;
+typedef short int16_t;
+typedef unsigned int uint32_t;
+typedef int int32_t;
+typedef unsigned long uint64_t;
+typedef long int64_t;
+#else
 #include <stdint.h>
+#endif
 
 /* The version of the codec, by semantic versioning, and the same as a number: 1000000 for each major version, 1000 for each
    minor one, and 1 for each patch. */
@@ -44,8 +56,8 @@
 extern "C" {
 #endif
 
-/* Lengths and numbers of elements have 64 bits. */
-typedef char mp4_size_has_64_bits[sizeof(size_t) == 8 ? 1 : -1];
+/* Lengths and numbers of elements have 64 bits, as the largest numbers of boxes. */
+typedef char mp4_size_has_64_bits[sizeof(size_t) == 8 && sizeof(uint64_t) == 8 ? 1 : -1];
 
 /* The statuses. An error of the codec has the number of its place among the variants of its Error, counted from 1. The
    numbers from 4 to 11 are those of errors that no function here returns. */
@@ -54,9 +66,10 @@ enum {
     MP4_OK = 0,
     /* The bytes end before all that a box needs. */
     MP4_END_OF_INPUT = 1,
-    /* A check of the layout failed: a size is too small, a count doesn't fit its box, or a box is of another type. */
+    /* A check of the layout failed: a size is too small, a count doesn't fit its box, or a box is of another type. Of a
+       function that writes: the box can't be written. */
     MP4_INVALID_DATA = 2,
-    /* A box lacks a child: a dinf has no dref. Only mp4_check and mp4_normal return it. */
+    /* A box lacks a child: a dinf has no dref. Also: there is no such box. */
     MP4_BOX_NOT_FOUND = 3,
     /* malloc or realloc returned NULL. */
     MP4_OUT_OF_MEMORY = 12,
@@ -175,6 +188,293 @@ struct mp4_trun_row {
     uint32_t composition_offset; /* in version 1 the 32 bits of a signed number */
 };
 
+/* The headers of a movie and of its fragments. Each has its version, whose number decides how many bits its times have where
+   that is said, and 24 bits of flags. Times of creation and modification are seconds since the beginning of 1904, UTC. A number
+   "times 256" or "times 65536" is a fixed-point number: divide it. */
+
+/* mvhd (8.2.2): properties of the whole movie. */
+struct mp4_mvhd_box {
+    uint64_t creation_time;     /* 32 bits in version 0, as the next two */
+    uint64_t modification_time;
+    uint64_t duration;          /* of the longest track, in the timescale */
+    uint32_t flags;
+    uint32_t timescale;         /* units a second */
+    uint32_t rate;              /* of playback, times 65536: 0x10000 is normal */
+    int32_t matrix[9];          /* a, b, u, c, d, v, x, y, w, times 65536, but u, v and w times 2^30 */
+    uint32_t next_track_id;     /* a number that no track has */
+    uint16_t volume;            /* times 256: 0x100 is full */
+    uint8_t version;            /* 0 or 1 */
+};
+
+/* tkhd (8.3.2): properties of a track. */
+struct mp4_tkhd_box {
+    uint64_t creation_time;     /* 32 bits in version 0, as the next two */
+    uint64_t modification_time;
+    uint64_t duration;          /* in the timescale of the movie */
+    uint32_t flags;             /* 0x1: enabled, 0x2: in the movie, 0x4: in the preview, 0x8: the size is an aspect ratio */
+    uint32_t track_id;
+    int32_t matrix[9];          /* as in mvhd */
+    uint32_t width;             /* as it is shown, in pixels times 65536 */
+    uint32_t height;
+    int16_t layer;              /* tracks with a lower layer cover those with a higher one */
+    int16_t alternate_group;    /* one track of a group is to be played; 0: none */
+    uint16_t volume;            /* times 256 */
+    uint8_t version;            /* 0 or 1 */
+};
+
+/* mdhd (8.4.2): properties of the media of a track. */
+struct mp4_mdhd_box {
+    uint64_t creation_time;     /* 32 bits in version 0, as the next two */
+    uint64_t modification_time;
+    uint64_t duration;          /* in the timescale */
+    uint32_t flags;
+    uint32_t timescale;         /* units a second */
+    char language[4];           /* three letters of ISO 639-2/T and a zero; the five low bits of each letter are written */
+    uint8_t version;            /* 0 or 1 */
+};
+
+/* mehd (8.8.2): the duration of a movie with fragments. */
+struct mp4_mehd_box {
+    uint64_t fragment_duration; /* in the timescale of the movie; 32 bits in version 0 */
+    uint32_t flags;
+    uint8_t version;            /* 0 or 1 */
+};
+
+/* mfhd (8.8.5): the number of a fragment. */
+struct mp4_mfhd_box {
+    uint32_t flags;
+    uint32_t sequence_number;
+    uint8_t version;
+};
+
+/* smhd (12.2.2): the balance between left and right. */
+struct mp4_smhd_box {
+    uint32_t flags;
+    int16_t balance;            /* times 256: -0x100 is full left, 0 the centre */
+    uint8_t version;
+};
+
+/* vmhd (12.1.2): how video is composed with what is below it. */
+struct mp4_vmhd_box {
+    uint32_t flags;             /* 1 in the standard */
+    uint16_t graphics_mode;     /* 0: it covers what is below it */
+    uint16_t red;               /* the colour that other modes use */
+    uint16_t green;
+    uint16_t blue;
+    uint8_t version;
+};
+
+/* trex (8.8.3): the defaults for the samples of a track's fragments. */
+struct mp4_trex_box {
+    uint32_t flags;
+    uint32_t track_id;
+    uint32_t default_sample_description_index; /* of a sample entry, counted from 1 */
+    uint32_t default_sample_duration;          /* in the timescale of the media */
+    uint32_t default_sample_size;              /* in bytes */
+    uint32_t default_sample_flags;
+    uint8_t version;
+};
+
+/* tfdt (8.8.12): when the first sample of a track fragment is decoded. */
+struct mp4_tfdt_box {
+    uint64_t base_media_decode_time; /* in the timescale of the media; 32 bits in version 0 */
+    uint32_t flags;
+    uint8_t version;                 /* 0 or 1 */
+};
+
+/* tfhd (8.8.7): the track of a fragment, and defaults for its samples. Its flags say which of them it has. What it doesn't have
+   is read as 0, and not written. */
+struct mp4_tfhd_box {
+    uint64_t base_data_offset;         /* with the flag 0x1: what data offsets are counted from, in bytes */
+    uint32_t flags;
+    uint32_t track_id;
+    uint32_t sample_description_index; /* with 0x2: of a sample entry, counted from 1 */
+    uint32_t default_sample_duration;  /* with 0x8: in the timescale of the media */
+    uint32_t default_sample_size;      /* with 0x10: in bytes */
+    uint32_t default_sample_flags;     /* with 0x20 */
+    uint8_t version;
+};
+
+/* The boxes of strings and references. `count` is the number of elements of the array beside the struct. */
+
+/* ftyp (4.3): the brands of a file. A code is a number, the first character in the highest byte: 'isom' is 0x69736F6D. */
+struct mp4_ftyp_box {
+    size_t count;           /* of compatible brands */
+    uint32_t major_brand;
+    uint32_t minor_version; /* of the major brand */
+};
+
+/* hdlr (8.4.3): what kind of media a track has. */
+struct mp4_hdlr_box {
+    size_t count;          /* of bytes of the name */
+    uint32_t flags;
+    uint32_t handler_type; /* a code: 'vide' is 0x76696465, 'soun' 0x736F756E */
+    uint8_t version;
+};
+
+/* data (QuickTime's metadata): the value of a metadata item. */
+struct mp4_data_box {
+    size_t count;       /* of bytes of the value */
+    uint32_t data_type; /* 0: binary, 1: UTF-8, 13: JPEG, 21: a whole number */
+};
+
+/* url (8.7.2): where media data is. */
+struct mp4_url_box {
+    size_t count;    /* of bytes of the location */
+    uint32_t flags;  /* 1: in the same file */
+    uint8_t version;
+};
+
+/* dref (8.7.2), also in a dinf (8.7.1): the data references of a track, of which the last url is kept. */
+struct mp4_dref_box {
+    struct mp4_url_box url; /* zeros without one */
+    uint32_t flags;
+    uint8_t version;
+    uint8_t has_url;        /* 0 or 1; each number but 0 is written as 1 */
+};
+
+/* emsg (ISO/IEC 23009-1, 5.10.3.3): an event message. Its three counts are of three arrays of bytes. */
+struct mp4_emsg_box {
+    size_t scheme_id_uri_count;
+    size_t value_count;
+    size_t message_data_count;
+    uint64_t presentation_time;       /* in version 1: from the start of the presentation, in the timescale; else 0 */
+    uint32_t presentation_time_delta; /* in version 0: from the start of the segment, in the timescale; else 0 */
+    uint32_t timescale;               /* units a second */
+    uint32_t event_duration;          /* in the timescale */
+    uint32_t id;
+    uint32_t flags;
+    uint8_t version;                  /* 0 or 1: the time of the other version isn't written */
+};
+
+/* The sample entries, and the boxes in them. A resolution is in pixels an inch. */
+
+/* avcC (ISO/IEC 14496-15, 5.3.3.1): the configuration of an AVC decoder. Its parameter sets are in two arrays: their lengths,
+   first those of the sequence sets and then those of the picture sets; and their bytes, one set after the other. */
+struct mp4_avcc_box {
+    size_t sequence_count; /* of sequence sets: at most 31 are written */
+    size_t picture_count;  /* of picture sets: at most 255 are written */
+    size_t set_bytes;      /* of all sets together; it isn't looked at where the box is written */
+    uint8_t configuration_version;
+    uint8_t avc_profile_indication;
+    uint8_t profile_compatibility;
+    uint8_t avc_level_indication;
+    uint8_t length_size_minus_one; /* 0 to 3: of the length before each unit of a sample; the two low bits are written */
+};
+
+/* The fields of a visual sample entry (12.1.3), in avc1 and hev1. */
+struct mp4_visual {
+    uint32_t horizresolution; /* times 65536: usually 0x480000 */
+    uint32_t vertresolution;
+    uint16_t data_reference_index;
+    uint16_t width;           /* in pixels */
+    uint16_t height;
+    uint16_t frame_count;     /* of a sample, usually 1 */
+    uint16_t depth;           /* bits of a pixel, usually 24 */
+};
+
+/* avc1 (ISO/IEC 14496-15, 5.4.2): AVC video. */
+struct mp4_avc1_box {
+    struct mp4_avcc_box avcc;
+    struct mp4_visual visual;
+};
+
+/* hvcC (ISO/IEC 14496-15, 8.3.3.1): the configuration of an HEVC decoder, of which no more is read and written. */
+struct mp4_hvcc_box {
+    uint8_t configuration_version;
+};
+
+/* hev1 (ISO/IEC 14496-15, 8.4.1): HEVC video. */
+struct mp4_hev1_box {
+    struct mp4_visual visual;
+    struct mp4_hvcc_box hvcc;
+};
+
+/* vpcC (VP Codec ISO Media File Format Binding): the configuration of a VP9 decoder. */
+struct mp4_vpcc_box {
+    uint32_t flags;
+    uint16_t codec_initialization_data_size; /* 0 for VP9; such bytes are neither read nor written */
+    uint8_t version;                         /* 1 in the standard */
+    uint8_t profile;
+    uint8_t level;                           /* times 10 */
+    uint8_t bit_depth;                       /* below 16 */
+    uint8_t chroma_subsampling;              /* below 8 */
+    uint8_t video_full_range_flag;           /* 0 or 1; each number but 0 is written as 1 */
+    uint8_t color_primaries;
+    uint8_t transfer_characteristics;
+    uint8_t matrix_coefficients;
+};
+
+/* vp09 (VP Codec ISO Media File Format Binding): VP9 video. The reserved bytes are kept as they are. */
+struct mp4_vp09_box {
+    struct mp4_vpcc_box vpcc;
+    uint32_t flags;              /* of the six reserved bytes of a sample entry: the second to the fourth, */
+    uint16_t start_code;         /* and the last two */
+    uint16_t data_reference_index;
+    uint16_t width;              /* in pixels */
+    uint16_t height;
+    uint16_t horizresolution[2]; /* the whole part, and the fraction of 65536 */
+    uint16_t vertresolution[2];
+    uint16_t frame_count;        /* of a sample, usually 1 */
+    uint16_t depth;              /* bits of a pixel, usually 24 */
+    uint16_t end_code;           /* 0xFFFF in the standard */
+    uint8_t version;             /* the first of the six reserved bytes */
+    uint8_t reserved0[16];
+    uint8_t reserved1[4];
+    uint8_t compressorname[32];  /* the number of its bytes, the name, and zeros */
+};
+
+/* tx3g (3GPP TS 26.245, 5.16): timed text. */
+struct mp4_tx3g_box {
+    uint32_t display_flags;
+    uint16_t data_reference_index;
+    int16_t box_record[4];           /* top, left, bottom and right, in pixels */
+    int8_t horizontal_justification; /* 0: left, 1: centre, -1: right */
+    int8_t vertical_justification;   /* 0: top, 1: centre, -1: bottom */
+    uint8_t bg_color_rgba[4];        /* red, green, blue, and how opaque it is */
+    uint8_t style_record[12];
+};
+
+/* esds (ISO/IEC 14496-14, 5.6): the descriptors of MPEG-4 audio. */
+struct mp4_esds_box {
+    uint32_t flags;
+    uint32_t buffer_size_db;        /* in bytes, below 2^24 */
+    uint32_t max_bitrate;           /* in bits a second */
+    uint32_t avg_bitrate;
+    uint32_t sample_rate;           /* in hertz, below 2^24, if freq_index is 15; else 0, and not written */
+    uint16_t es_id;
+    uint8_t version;
+    uint8_t object_type_indication; /* 0x40: MPEG-4 audio */
+    uint8_t stream_type;            /* below 64; 5: sound */
+    uint8_t up_stream;              /* 0 or 2; of other numbers the bit 2 is written */
+    uint8_t profile;                /* the audio object type: 0 to 95, but not 31; 2: AAC LC */
+    uint8_t freq_index;             /* below 16 */
+    uint8_t chan_conf;              /* below 16 */
+};
+
+/* mp4a (ISO/IEC 14496-14, 5.6): MPEG-4 audio. */
+struct mp4_mp4a_box {
+    struct mp4_esds_box esds;      /* zeros without one */
+    uint32_t samplerate;           /* in hertz, times 65536 */
+    uint16_t data_reference_index;
+    uint16_t channelcount;
+    uint16_t samplesize;           /* bits of a sample */
+    uint8_t has_esds;              /* 0 or 1; each number but 0 is written as 1 */
+};
+
+/* stsd (8.5.2): the first sample entry of a track, if it is of one of these five types. Its fields are in the member with its
+   name, and the others are zeros. */
+struct mp4_stsd_box {
+    struct mp4_avc1_box avc1;
+    struct mp4_hev1_box hev1;
+    struct mp4_vp09_box vp09;
+    struct mp4_mp4a_box mp4a;
+    struct mp4_tx3g_box tx3g;
+    uint32_t flags;
+    uint32_t entry;    /* its code: 0x61766331, 0x68657631, 0x76703039, 0x6D703461 or 0x74783367; 0 without one */
+    uint8_t version;
+};
+
 /* Reads all boxes from the front of the bytes to their end, and returns the status of the first fault, or MP4_OK. Boxes of
    types that the codec doesn't read are skipped by their size: so a moov is not looked into. Call it over the content of
    such a box to check what is in it. */
@@ -237,6 +537,312 @@ uint32_t mp4_elst(const uint8_t *bytes, size_t length, struct mp4_elst_row *rows
 
 /* The samples of a run of a track fragment (8.8.8). */
 uint32_t mp4_trun(const uint8_t *bytes, size_t length, struct mp4_trun_row *rows, size_t places, struct mp4_trun_table *table);
+
+/*
+ * The headers. The bytes begin with the box, as for the tables.
+ */
+
+uint32_t mp4_mvhd(const uint8_t *bytes, size_t length, struct mp4_mvhd_box *box);
+uint32_t mp4_tkhd(const uint8_t *bytes, size_t length, struct mp4_tkhd_box *box);
+uint32_t mp4_mdhd(const uint8_t *bytes, size_t length, struct mp4_mdhd_box *box);
+uint32_t mp4_mehd(const uint8_t *bytes, size_t length, struct mp4_mehd_box *box);
+uint32_t mp4_mfhd(const uint8_t *bytes, size_t length, struct mp4_mfhd_box *box);
+uint32_t mp4_smhd(const uint8_t *bytes, size_t length, struct mp4_smhd_box *box);
+uint32_t mp4_vmhd(const uint8_t *bytes, size_t length, struct mp4_vmhd_box *box);
+uint32_t mp4_trex(const uint8_t *bytes, size_t length, struct mp4_trex_box *box);
+uint32_t mp4_tfdt(const uint8_t *bytes, size_t length, struct mp4_tfdt_box *box);
+uint32_t mp4_tfhd(const uint8_t *bytes, size_t length, struct mp4_tfhd_box *box);
+
+/*
+ * The boxes of strings, references and sample entries. The bytes begin with the box, as for the tables. A string has no zero
+ * after it. Of a list the number of elements is only known after it was read, so a call with arrays of 0 places takes as much
+ * memory as one that fills them.
+ */
+
+uint32_t mp4_ftyp(const uint8_t *bytes, size_t length, uint32_t *brands, size_t places, struct mp4_ftyp_box *box);
+uint32_t mp4_hdlr(const uint8_t *bytes, size_t length, uint8_t *name, size_t places, struct mp4_hdlr_box *box);
+uint32_t mp4_data(const uint8_t *bytes, size_t length, uint8_t *value, size_t places, struct mp4_data_box *box);
+uint32_t mp4_url(const uint8_t *bytes, size_t length, uint8_t *location, size_t places, struct mp4_url_box *box);
+uint32_t mp4_dref(const uint8_t *bytes, size_t length, uint8_t *location, size_t places, struct mp4_dref_box *box);
+uint32_t mp4_dinf(const uint8_t *bytes, size_t length, uint8_t *location, size_t places, struct mp4_dref_box *box);
+
+/* MP4_NO_ROOM if one of the three arrays is too short; then nothing is written to any. */
+uint32_t mp4_emsg(const uint8_t *bytes, size_t length, uint8_t *scheme_id_uri, size_t scheme_id_uri_places, uint8_t *value,
+                  size_t value_places, uint8_t *message_data, size_t message_data_places, struct mp4_emsg_box *box);
+
+uint32_t mp4_hvcc(const uint8_t *bytes, size_t length, struct mp4_hvcc_box *box);
+uint32_t mp4_hev1(const uint8_t *bytes, size_t length, struct mp4_hev1_box *box);
+uint32_t mp4_vpcc(const uint8_t *bytes, size_t length, struct mp4_vpcc_box *box);
+uint32_t mp4_vp09(const uint8_t *bytes, size_t length, struct mp4_vp09_box *box);
+uint32_t mp4_tx3g(const uint8_t *bytes, size_t length, struct mp4_tx3g_box *box);
+uint32_t mp4_esds(const uint8_t *bytes, size_t length, struct mp4_esds_box *box);
+uint32_t mp4_mp4a(const uint8_t *bytes, size_t length, struct mp4_mp4a_box *box);
+
+/* The lengths of the parameter sets go into `lengths`, and their bytes into `set_bytes`. MP4_NO_ROOM if one of the two is too
+   short; then nothing is written to either. Of an stsd only an avc1 has parameter sets. */
+uint32_t mp4_avcc(const uint8_t *bytes, size_t length, size_t *lengths, size_t places, uint8_t *set_bytes, size_t byte_places,
+                  struct mp4_avcc_box *box);
+uint32_t mp4_avc1(const uint8_t *bytes, size_t length, size_t *lengths, size_t places, uint8_t *set_bytes, size_t byte_places,
+                  struct mp4_avc1_box *box);
+uint32_t mp4_stsd(const uint8_t *bytes, size_t length, size_t *lengths, size_t places, uint8_t *set_bytes, size_t byte_places,
+                  struct mp4_stsd_box *box);
+
+/*
+ * Writing. The box is put at the front of `bytes`, header included, and `length` is the number of its bytes. MP4_NO_ROOM if
+ * there are fewer places: then `length` is their number too, and nothing is written. MP4_INVALID_DATA if the box can't be
+ * written: a number doesn't fit the bits of its field (flags 24; times of version 0 32), the version of a header with times
+ * isn't 0 or 1, or the box would have 2^32 bytes or more.
+ */
+
+uint32_t mp4_write_mvhd(const struct mp4_mvhd_box *box, uint8_t *bytes, size_t places, size_t *length);
+uint32_t mp4_write_tkhd(const struct mp4_tkhd_box *box, uint8_t *bytes, size_t places, size_t *length);
+uint32_t mp4_write_mdhd(const struct mp4_mdhd_box *box, uint8_t *bytes, size_t places, size_t *length);
+uint32_t mp4_write_mehd(const struct mp4_mehd_box *box, uint8_t *bytes, size_t places, size_t *length);
+uint32_t mp4_write_mfhd(const struct mp4_mfhd_box *box, uint8_t *bytes, size_t places, size_t *length);
+uint32_t mp4_write_smhd(const struct mp4_smhd_box *box, uint8_t *bytes, size_t places, size_t *length);
+uint32_t mp4_write_vmhd(const struct mp4_vmhd_box *box, uint8_t *bytes, size_t places, size_t *length);
+uint32_t mp4_write_trex(const struct mp4_trex_box *box, uint8_t *bytes, size_t places, size_t *length);
+uint32_t mp4_write_tfdt(const struct mp4_tfdt_box *box, uint8_t *bytes, size_t places, size_t *length);
+uint32_t mp4_write_tfhd(const struct mp4_tfhd_box *box, uint8_t *bytes, size_t places, size_t *length);
+
+/* The tables have `count` rows; the count in `table` is not looked at. Also MP4_INVALID_DATA if stsz doesn't have sample_count
+   sizes, or none where sample_size isn't 0; if a first_chunk of stsc is below the one before it, or the number of a first
+   sample has more than 32 bits (first_sample isn't looked at); if a time of an elst has more than 32 bits, but in version 1;
+   or if trun has rows and flags for them, but not sample_count of them. What the flags of a trun don't say is not written. */
+
+uint32_t mp4_write_stsz(const struct mp4_stsz_table *table, const uint32_t *sizes, size_t count, uint8_t *bytes,
+                        size_t places, size_t *length);
+uint32_t mp4_write_stco(const struct mp4_table *table, const uint32_t *offsets, size_t count, uint8_t *bytes,
+                        size_t places, size_t *length);
+uint32_t mp4_write_co64(const struct mp4_table *table, const uint64_t *offsets, size_t count, uint8_t *bytes,
+                        size_t places, size_t *length);
+uint32_t mp4_write_stss(const struct mp4_table *table, const uint32_t *samples, size_t count, uint8_t *bytes,
+                        size_t places, size_t *length);
+uint32_t mp4_write_stts(const struct mp4_table *table, const struct mp4_stts_row *rows, size_t count, uint8_t *bytes,
+                        size_t places, size_t *length);
+uint32_t mp4_write_ctts(const struct mp4_table *table, const struct mp4_ctts_row *rows, size_t count, uint8_t *bytes,
+                        size_t places, size_t *length);
+uint32_t mp4_write_stsc(const struct mp4_table *table, const struct mp4_stsc_row *rows, size_t count, uint8_t *bytes,
+                        size_t places, size_t *length);
+uint32_t mp4_write_elst(const struct mp4_table *table, const struct mp4_elst_row *rows, size_t count, uint8_t *bytes,
+                        size_t places, size_t *length);
+uint32_t mp4_write_trun(const struct mp4_trun_table *table, const struct mp4_trun_row *rows, size_t count, uint8_t *bytes,
+                        size_t places, size_t *length);
+
+/* The boxes of strings, references and sample entries have as many elements as the number after each array says; the counts in
+   `box` are not looked at, but for those of an avcC. Also MP4_INVALID_DATA if a name, a location, a scheme or a value isn't
+   UTF-8, or a scheme or a value has a zero byte; if the version of an emsg isn't 0 or 1; and if `entry` of an stsd is none of
+   the five codes and not 0, a number of its entry doesn't fit, the lengths of an avc1 are not sequence_count and picture_count
+   together, or its set_bytes not as many as they add up to. */
+
+uint32_t mp4_write_ftyp(const struct mp4_ftyp_box *box, const uint32_t *brands, size_t count, uint8_t *bytes, size_t places,
+                        size_t *length);
+uint32_t mp4_write_hdlr(const struct mp4_hdlr_box *box, const uint8_t *name, size_t count, uint8_t *bytes, size_t places,
+                        size_t *length);
+uint32_t mp4_write_dref(const struct mp4_dref_box *box, const uint8_t *location, size_t count, uint8_t *bytes, size_t places,
+                        size_t *length);
+uint32_t mp4_write_emsg(const struct mp4_emsg_box *box, const uint8_t *scheme_id_uri, size_t scheme_id_uri_count,
+                        const uint8_t *value, size_t value_count, const uint8_t *message_data, size_t message_data_count,
+                        uint8_t *bytes, size_t places, size_t *length);
+uint32_t mp4_write_stsd(const struct mp4_stsd_box *box, const size_t *lengths, size_t count, const uint8_t *set_bytes,
+                        size_t byte_count, uint8_t *bytes, size_t places, size_t *length);
+
+/*
+ * An array without elements may be NULL: calls go through the functions below, which pass a pointer to memory in its place.
+ */
+
+#if defined(__GNUC__)
+#define MP4_INLINE static __inline__
+#elif defined(__cplusplus) || (defined(__STDC_VERSION__) && __STDC_VERSION__ >= 199901L)
+#define MP4_INLINE static inline
+#else
+#define MP4_INLINE static
+#endif
+
+MP4_INLINE const void *mp4_from(const void *array) {
+    static const uint64_t nothing = 0;
+    return array != NULL ? array : (const void *)&nothing;
+}
+
+MP4_INLINE void *mp4_to(void *array) {
+    static uint64_t nothing = 0;
+    return array != NULL ? array : (void *)&nothing;
+}
+
+#define MP4_BYTES(bytes) ((const uint8_t *)mp4_from(bytes))
+#define MP4_READS_BOX(name) \
+    MP4_INLINE uint32_t mp4_call_##name(const uint8_t *bytes, size_t length, struct mp4_##name##_box *box) { \
+        return mp4_##name(MP4_BYTES(bytes), length, box); \
+    }
+#define MP4_READS_ROWS(name, row, told) \
+    MP4_INLINE uint32_t mp4_call_##name(const uint8_t *bytes, size_t length, row *rows, size_t places, told *table) { \
+        return mp4_##name(MP4_BYTES(bytes), length, (row *)mp4_to(rows), places, table); \
+    }
+#define MP4_WRITES_BOX(name) \
+    MP4_INLINE uint32_t mp4_call_write_##name(const struct mp4_##name##_box *box, uint8_t *bytes, size_t places, \
+                                              size_t *length) { \
+        return mp4_write_##name(box, (uint8_t *)mp4_to(bytes), places, length); \
+    }
+#define MP4_WRITES_ROWS(name, row, told) \
+    MP4_INLINE uint32_t mp4_call_write_##name(const told *table, const row *rows, size_t count, uint8_t *bytes, \
+                                              size_t places, size_t *length) { \
+        return mp4_write_##name(table, (const row *)mp4_from(rows), count, (uint8_t *)mp4_to(bytes), places, length); \
+    }
+#define MP4_BOX(name) MP4_READS_BOX(name) MP4_WRITES_BOX(name)
+#define MP4_ROWS(name, row, told) MP4_READS_ROWS(name, row, told) MP4_WRITES_ROWS(name, row, told)
+
+MP4_INLINE uint32_t mp4_call_check(const uint8_t *bytes, size_t length) {
+    return mp4_check(MP4_BYTES(bytes), length);
+}
+MP4_INLINE uint32_t mp4_call_find(const uint8_t *bytes, size_t length, const uint8_t *path, size_t path_length,
+                                  struct mp4_place *place) {
+    return mp4_find(MP4_BYTES(bytes), length, MP4_BYTES(path), path_length, place);
+}
+MP4_INLINE uint32_t mp4_call_samples(const uint8_t *bytes, size_t length, uint32_t track_id, struct mp4_sample *samples,
+                                     size_t places, size_t *count) {
+    return mp4_samples(MP4_BYTES(bytes), length, track_id, (struct mp4_sample *)mp4_to(samples), places, count);
+}
+MP4_INLINE uint32_t mp4_call_status_text(uint32_t status, uint8_t *text, size_t places, size_t *count) {
+    return mp4_status_text(status, (uint8_t *)mp4_to(text), places, count);
+}
+MP4_READS_ROWS(list, struct mp4_span, size_t)
+MP4_READS_ROWS(normal, uint8_t, size_t)
+MP4_ROWS(stsz, uint32_t, struct mp4_stsz_table)
+MP4_ROWS(stco, uint32_t, struct mp4_table)
+MP4_ROWS(co64, uint64_t, struct mp4_table)
+MP4_ROWS(stss, uint32_t, struct mp4_table)
+MP4_ROWS(stts, struct mp4_stts_row, struct mp4_table)
+MP4_ROWS(ctts, struct mp4_ctts_row, struct mp4_table)
+MP4_ROWS(stsc, struct mp4_stsc_row, struct mp4_table)
+MP4_ROWS(elst, struct mp4_elst_row, struct mp4_table)
+MP4_ROWS(trun, struct mp4_trun_row, struct mp4_trun_table)
+MP4_BOX(mvhd)
+MP4_BOX(tkhd)
+MP4_BOX(mdhd)
+MP4_BOX(mehd)
+MP4_BOX(mfhd)
+MP4_BOX(smhd)
+MP4_BOX(vmhd)
+MP4_BOX(trex)
+MP4_BOX(tfdt)
+MP4_BOX(tfhd)
+
+#define MP4_READS_SETS(name) \
+    MP4_INLINE uint32_t mp4_call_##name(const uint8_t *bytes, size_t length, size_t *lengths, size_t places, \
+                                        uint8_t *set_bytes, size_t byte_places, struct mp4_##name##_box *box) { \
+        return mp4_##name(MP4_BYTES(bytes), length, (size_t *)mp4_to(lengths), places, (uint8_t *)mp4_to(set_bytes), \
+                          byte_places, box); \
+    }
+MP4_ROWS(ftyp, uint32_t, struct mp4_ftyp_box)
+MP4_ROWS(hdlr, uint8_t, struct mp4_hdlr_box)
+MP4_READS_ROWS(data, uint8_t, struct mp4_data_box)
+MP4_READS_ROWS(url, uint8_t, struct mp4_url_box)
+MP4_ROWS(dref, uint8_t, struct mp4_dref_box)
+MP4_READS_ROWS(dinf, uint8_t, struct mp4_dref_box)
+MP4_READS_BOX(hvcc)
+MP4_READS_BOX(hev1)
+MP4_READS_BOX(vpcc)
+MP4_READS_BOX(vp09)
+MP4_READS_BOX(tx3g)
+MP4_READS_BOX(esds)
+MP4_READS_BOX(mp4a)
+MP4_READS_SETS(avcc)
+MP4_READS_SETS(avc1)
+MP4_READS_SETS(stsd)
+MP4_INLINE uint32_t mp4_call_emsg(const uint8_t *bytes, size_t length, uint8_t *scheme_id_uri, size_t scheme_id_uri_places,
+                                  uint8_t *value, size_t value_places, uint8_t *message_data, size_t message_data_places,
+                                  struct mp4_emsg_box *box) {
+    return mp4_emsg(MP4_BYTES(bytes), length, (uint8_t *)mp4_to(scheme_id_uri), scheme_id_uri_places,
+                    (uint8_t *)mp4_to(value), value_places, (uint8_t *)mp4_to(message_data), message_data_places, box);
+}
+MP4_INLINE uint32_t mp4_call_write_emsg(const struct mp4_emsg_box *box, const uint8_t *scheme_id_uri,
+                                        size_t scheme_id_uri_count, const uint8_t *value, size_t value_count,
+                                        const uint8_t *message_data, size_t message_data_count, uint8_t *bytes,
+                                        size_t places, size_t *length) {
+    return mp4_write_emsg(box, MP4_BYTES(scheme_id_uri), scheme_id_uri_count, MP4_BYTES(value), value_count,
+                          MP4_BYTES(message_data), message_data_count, (uint8_t *)mp4_to(bytes), places, length);
+}
+MP4_INLINE uint32_t mp4_call_write_stsd(const struct mp4_stsd_box *box, const size_t *lengths, size_t count,
+                                        const uint8_t *set_bytes, size_t byte_count, uint8_t *bytes, size_t places,
+                                        size_t *length) {
+    return mp4_write_stsd(box, (const size_t *)mp4_from(lengths), count, MP4_BYTES(set_bytes), byte_count,
+                          (uint8_t *)mp4_to(bytes), places, length);
+}
+
+#undef MP4_READS_BOX
+#undef MP4_READS_SETS
+#undef MP4_READS_ROWS
+#undef MP4_WRITES_BOX
+#undef MP4_WRITES_ROWS
+#undef MP4_BOX
+#undef MP4_ROWS
+
+#define mp4_check mp4_call_check
+#define mp4_ftyp mp4_call_ftyp
+#define mp4_write_ftyp mp4_call_write_ftyp
+#define mp4_hdlr mp4_call_hdlr
+#define mp4_write_hdlr mp4_call_write_hdlr
+#define mp4_data mp4_call_data
+#define mp4_url mp4_call_url
+#define mp4_dref mp4_call_dref
+#define mp4_write_dref mp4_call_write_dref
+#define mp4_dinf mp4_call_dinf
+#define mp4_emsg mp4_call_emsg
+#define mp4_write_emsg mp4_call_write_emsg
+#define mp4_hvcc mp4_call_hvcc
+#define mp4_hev1 mp4_call_hev1
+#define mp4_vpcc mp4_call_vpcc
+#define mp4_vp09 mp4_call_vp09
+#define mp4_tx3g mp4_call_tx3g
+#define mp4_esds mp4_call_esds
+#define mp4_mp4a mp4_call_mp4a
+#define mp4_avcc mp4_call_avcc
+#define mp4_avc1 mp4_call_avc1
+#define mp4_stsd mp4_call_stsd
+#define mp4_write_stsd mp4_call_write_stsd
+#define mp4_find mp4_call_find
+#define mp4_samples mp4_call_samples
+#define mp4_status_text mp4_call_status_text
+#define mp4_list mp4_call_list
+#define mp4_normal mp4_call_normal
+#define mp4_stsz mp4_call_stsz
+#define mp4_write_stsz mp4_call_write_stsz
+#define mp4_stco mp4_call_stco
+#define mp4_write_stco mp4_call_write_stco
+#define mp4_co64 mp4_call_co64
+#define mp4_write_co64 mp4_call_write_co64
+#define mp4_stss mp4_call_stss
+#define mp4_write_stss mp4_call_write_stss
+#define mp4_stts mp4_call_stts
+#define mp4_write_stts mp4_call_write_stts
+#define mp4_ctts mp4_call_ctts
+#define mp4_write_ctts mp4_call_write_ctts
+#define mp4_stsc mp4_call_stsc
+#define mp4_write_stsc mp4_call_write_stsc
+#define mp4_elst mp4_call_elst
+#define mp4_write_elst mp4_call_write_elst
+#define mp4_trun mp4_call_trun
+#define mp4_write_trun mp4_call_write_trun
+#define mp4_mvhd mp4_call_mvhd
+#define mp4_write_mvhd mp4_call_write_mvhd
+#define mp4_tkhd mp4_call_tkhd
+#define mp4_write_tkhd mp4_call_write_tkhd
+#define mp4_mdhd mp4_call_mdhd
+#define mp4_write_mdhd mp4_call_write_mdhd
+#define mp4_mehd mp4_call_mehd
+#define mp4_write_mehd mp4_call_write_mehd
+#define mp4_mfhd mp4_call_mfhd
+#define mp4_write_mfhd mp4_call_write_mfhd
+#define mp4_smhd mp4_call_smhd
+#define mp4_write_smhd mp4_call_write_smhd
+#define mp4_vmhd mp4_call_vmhd
+#define mp4_write_vmhd mp4_call_write_vmhd
+#define mp4_trex mp4_call_trex
+#define mp4_write_trex mp4_call_write_trex
+#define mp4_tfdt mp4_call_tfdt
+#define mp4_write_tfdt mp4_call_write_tfdt
+#define mp4_tfhd mp4_call_tfhd
+#define mp4_write_tfhd mp4_call_write_tfhd
 
 #ifdef __cplusplus
 }

@@ -5,62 +5,26 @@
  */
 #include "c_checks.h"
 
-/* The happy calls, arrays that are too short, each cut and each refused request. */
+/* The happy calls, arrays that are too short, each refused request and each cut. */
 static void try_subject(const struct subject *s) {
     size_t cut;
-    long request, most;
-    subject = s->name;
-    refuse(0, 0);
-    EXPECT(call_with(s, s->bytes, s->length, s->count) == MP4_OK);
-    most = asked;
-    EXPECT(most > 0);
+    refuse_each(s);
     EXPECT(call_with(s, s->bytes, s->length, s->count + 3) == MP4_OK);
     EXPECT(call_with(s, s->bytes, s->length, 0) == MP4_NO_ROOM);
     EXPECT(call_with(s, s->bytes, s->length, s->count - 1) == MP4_NO_ROOM);
-    for (request = 1; request <= most; request++) {
-        uint32_t status;
-        refuse(request, 0);
-        status = call_with(s, s->bytes, s->length, s->count);
-        EXPECT(status == MP4_OUT_OF_MEMORY || status == MP4_OK);
-        refuse(request, 1);
-        EXPECT(call_with(s, s->bytes, s->length, s->count) == MP4_OUT_OF_MEMORY);
-    }
-    refuse(0, 0);
     for (cut = 1; cut < s->length; cut++)
         if (cut != s->borders[0] && cut != s->borders[1])
             EXPECT(call_with(s, s->bytes, cut, s->count) == MP4_END_OF_INPUT);
 }
 
-/* The faults of a table: no bytes, another code, a size that is too small, one that is too large, too large a count. */
+/* The faults of a table: those of its header, and too large a count. */
 static void try_table(const struct subject *s, size_t count_at) {
     uint8_t bytes[128];
-    EXPECT(s->length + 8 <= sizeof bytes);
     try_subject(s);
-    EXPECT(call_with(s, s->bytes, 0, s->count) == MP4_END_OF_INPUT);
+    try_header(s);
     memcpy(bytes, s->bytes, s->length);
-    bytes[7] ^= 1;
-    EXPECT(call_with(s, bytes, s->length, s->count) == MP4_INVALID_DATA);
-    bytes[7] ^= 1;
     bytes[count_at + 3] += 1;
     EXPECT(call_with(s, bytes, s->length, s->count) == MP4_INVALID_DATA);
-    bytes[count_at + 3] -= 1;
-    bytes[3] = 7;
-    EXPECT(call_with(s, bytes, s->length, s->count) == MP4_INVALID_DATA);
-    bytes[3] = (uint8_t)(s->length + 1);
-    EXPECT(call_with(s, bytes, s->length, s->count) == MP4_END_OF_INPUT);
-    /* A size of 0 means up to the end of the bytes. */
-    bytes[3] = 0;
-    EXPECT(call_with(s, bytes, s->length, s->count) == MP4_OK);
-    /* Bytes after the box are not read. */
-    bytes[3] = (uint8_t)s->length;
-    memset(bytes + s->length, 0xFF, 8);
-    EXPECT(call_with(s, bytes, s->length + 8, s->count) == MP4_OK);
-    /* A header of 16 bytes. */
-    memcpy(bytes + 16, s->bytes + 8, s->length - 8);
-    memcpy(bytes, "\0\0\0\1....\0\0\0\0\0\0\0", 15);
-    memcpy(bytes + 4, s->bytes + 4, 4);
-    bytes[15] = (uint8_t)(s->length + 8);
-    EXPECT(call_with(s, bytes, s->length + 8, s->count) == MP4_OK);
 }
 
 /* mp4_list */

@@ -146,6 +146,53 @@ static uint32_t call_with(const struct subject *s, const uint8_t *bytes, size_t 
     return status;
 }
 
+/* The function over whole bytes, whose every request for memory is refused, alone and with all after it. */
+static inline void refuse_each(const struct subject *s) {
+    long request, most;
+    subject = s->name;
+    refuse(0, 0);
+    EXPECT(call_with(s, s->bytes, s->length, s->count) == MP4_OK);
+    most = asked;
+    EXPECT(most > 0);
+    for (request = 1; request <= most; request++) {
+        uint32_t status;
+        refuse(request, 0);
+        status = call_with(s, s->bytes, s->length, s->count);
+        EXPECT(status == MP4_OUT_OF_MEMORY || status == MP4_OK);
+        refuse(request, 1);
+        EXPECT(call_with(s, s->bytes, s->length, s->count) == MP4_OUT_OF_MEMORY);
+    }
+    refuse(0, 0);
+}
+
+/* The faults of a box at the front, of its header alone: no bytes, another code, sizes that are too small and too large. */
+static inline void try_header(const struct subject *s) {
+    uint8_t bytes[128];
+    EXPECT(s->length + 8 <= sizeof bytes);
+    EXPECT(call_with(s, s->bytes, 0, s->count) == MP4_END_OF_INPUT);
+    memcpy(bytes, s->bytes, s->length);
+    bytes[7] ^= 1;
+    EXPECT(call_with(s, bytes, s->length, s->count) == MP4_INVALID_DATA);
+    bytes[7] ^= 1;
+    bytes[3] = 7;
+    EXPECT(call_with(s, bytes, s->length, s->count) == MP4_INVALID_DATA);
+    bytes[3] = (uint8_t)(s->length + 1);
+    EXPECT(call_with(s, bytes, s->length, s->count) == MP4_END_OF_INPUT);
+    /* A size of 0 means up to the end of the bytes. */
+    bytes[3] = 0;
+    EXPECT(call_with(s, bytes, s->length, s->count) == MP4_OK);
+    /* Bytes after the box are not read. */
+    bytes[3] = (uint8_t)s->length;
+    memset(bytes + s->length, 0xFF, 8);
+    EXPECT(call_with(s, bytes, s->length + 8, s->count) == MP4_OK);
+    /* A header of 16 bytes. */
+    memcpy(bytes + 16, s->bytes + 8, s->length - 8);
+    memcpy(bytes, "\0\0\0\1....\0\0\0\0\0\0\0", 15);
+    memcpy(bytes + 4, s->bytes + 4, 4);
+    bytes[15] = (uint8_t)(s->length + 8);
+    EXPECT(call_with(s, bytes, s->length + 8, s->count) == MP4_OK);
+}
+
 #define BYTES(text) (const uint8_t *)(text), sizeof(text) - 1
 
 /* Declares the function under test in the form that is the same for all. */

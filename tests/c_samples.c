@@ -73,25 +73,6 @@ static int is_three(const void *told) {
     return *(const size_t *)told == 3;
 }
 
-/* A function over the whole file, whose every request for memory is refused, alone and with all after it. */
-static void refuse_each(const struct subject *s) {
-    long request, most;
-    subject = s->name;
-    refuse(0, 0);
-    EXPECT(call_with(s, s->bytes, s->length, s->count) == MP4_OK);
-    most = asked;
-    EXPECT(most > 0);
-    for (request = 1; request <= most; request++) {
-        uint32_t status;
-        refuse(request, 0);
-        status = call_with(s, s->bytes, s->length, s->count);
-        EXPECT(status == MP4_OUT_OF_MEMORY || status == MP4_OK);
-        refuse(request, 1);
-        EXPECT(call_with(s, s->bytes, s->length, s->count) == MP4_OUT_OF_MEMORY);
-    }
-    refuse(0, 0);
-}
-
 /* The status where one byte of the file is another. */
 static uint32_t with_byte(const struct subject *s, size_t at, uint8_t byte) {
     uint8_t bytes[LENGTH];

@@ -2,7 +2,7 @@
 use Rattle.std.specs.Prelude.{◌≡◌, ℕ, ◌⊎◌, List, None, Some, if◌then◌else◌}
 use Rattle.std.specs.declared.option.Option.{Option}
 use Rattle.mp4_c.specs.declared.find.Place.{Place}
-use Rattle.mp4_c.specs.declared.status.TheConstants as statuses
+use Rattle.mp4_c_base.specs.declared.status.TheConstants as statuses
 use Rattle.mp4_frame.specs.FourCC.{number_of}
 use Rattle.mp4_frame.specs.declared.four_cc.FourCC.{FourCC}
 use Rattle.mp4_tree.specs.Paths.{at_path}

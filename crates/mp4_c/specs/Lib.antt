@@ -1,6 +1,3 @@
-pub mod Status
-pub mod Tells
-pub mod Handed
-pub mod Rows
+pub mod Spans
 pub mod Find
 pub mod Samples

@@ -1,8 +1,8 @@
 -- The samples of a track as C has them.
 use Rattle.std.specs.Prelude.{◌≡◌, ℕ, ◌<◌, ◌≤◌, ◌⊎◌, List, length, drop, slice_get, Some, if◌then◌else◌}
-use Rattle.mp4_c.specs.Status.{number_of}
+use Rattle.mp4_c_base.specs.Status.{number_of}
 use Rattle.mp4_c.specs.declared.samples.SampleRow.{SampleRow}
-use Rattle.mp4_c.specs.declared.status.TheConstants as statuses
+use Rattle.mp4_c_base.specs.declared.status.TheConstants as statuses
 use Rattle.mp4_samples.specs.Disagreements.{Disagrees}
 use Rattle.mp4_samples.specs.Samples.{AreConsistent, IsSample, sample_count}
 use Rattle.mp4_samples.specs.declared.disagreement.Disagreement.{Disagreement}

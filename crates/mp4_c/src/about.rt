@@ -1,11 +1,11 @@
 //! What the library says of itself: its version, and what its statuses mean.
 
 ghost use Rattle.std.specs.Prelude.{◌≡◌, length};
-ghost use Rattle.mp4_c.specs.Handed.{IsHanded};
+ghost use Rattle.mp4_c_base.specs.Handed.{IsHanded};
 ghost use Rattle.mp4_c.specs.declared.about.TheConstants as constants;
 
-use crate::handed::{Handed, hand_over};
-use crate::status::{
+use mp4_c_base::handed::hand_over;
+use mp4_c_base::status::{
     BOX_NOT_FOUND, CHUNK_COUNT, CHUNK_ORDER, CHUNKS, DURATIONS, END_OF_INPUT, FIRST_CHUNK,
     INVALID_DATA, NO_ROOM, NO_TRACK, OFFSET, OK, OUT_OF_MEMORY, SAMPLE_SIZES, SYNC_SAMPLES,
 };
@@ -41,24 +41,6 @@ fn text_of(status: u32) -> &'static str {
         SYNC_SAMPLES => "an entry of stss is not above the one before it",
         OFFSET => "a chunk begins too far out for the bytes of all samples",
         _ => "unknown status",
-    }
-}
-
-impl Handed<u8, usize> for &'static str {
-    ghost rows = { λ v. v.now };
-
-    ghost summary = { λ v. length v.now };
-
-    fn count(&self) -> usize {
-        self.len()
-    }
-
-    fn row(&self, index: usize) -> u8 {
-        self.as_bytes()[index]
-    }
-
-    fn summary(&self) -> usize {
-        self.len()
     }
 }
 

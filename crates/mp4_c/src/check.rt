@@ -2,9 +2,9 @@
 
 ghost use Rattle.mp4_stream.specs.AnyBox.{known_any, reading_any};
 ghost use Rattle.mp4_stream.specs.Streams.{boxes};
-ghost use Rattle.mp4_c.specs.Handed.{Checks};
+ghost use Rattle.mp4_c_base.specs.Handed.{Checks};
 
-use crate::status::{OK, number_of};
+use mp4_c_base::status::{OK, number_of};
 use mp4_stream::{ByteCursor, read_boxes};
 use std::alloc::Global;
 

@@ -3,7 +3,7 @@
 ghost use Rattle.std.specs.Prelude.{◌≡◌};
 ghost use Rattle.mp4_c.specs.Find.{Finds, FindsAt, HandsFound, place_of};
 
-use crate::status::{BOX_NOT_FOUND, INVALID_DATA, OK, OUT_OF_MEMORY};
+use mp4_c_base::status::{BOX_NOT_FOUND, INVALID_DATA, OK, OUT_OF_MEMORY};
 use mp4_tree::{BoxPath, PathError, TreeBox, find};
 use std::alloc::Global;
 use std::str;

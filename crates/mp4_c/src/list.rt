@@ -2,10 +2,10 @@
 
 ghost use Rattle.std.specs.Prelude.{◌≡◌, length, map};
 ghost use Rattle.mp4_frame.specs.Spans.{spans};
-ghost use Rattle.mp4_c.specs.Handed.{HandsReading};
-ghost use Rattle.mp4_c.specs.Rows.{span_row};
+ghost use Rattle.mp4_c_base.specs.Handed.{HandsReading};
+ghost use Rattle.mp4_c.specs.Spans.{span_row};
 
-use crate::handed::{Handed, hand_over};
+use mp4_c_base::handed::{Handed, hand_over};
 use mp4_stream::{BoxSpan, ByteCursor, list_boxes};
 use std::alloc::Global;
 

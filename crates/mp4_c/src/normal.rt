@@ -1,30 +1,12 @@
 //! The normal form of boxes.
 
 ghost use Rattle.std.specs.Prelude.{◌≡◌, length};
-ghost use Rattle.mp4_c.specs.Handed.{HandsOver};
+ghost use Rattle.mp4_c_base.specs.Handed.{HandsOver};
 ghost use Rattle.mp4_normal.specs.Normal.{Normalizes, NormalRefuses};
 
-use crate::handed::{Handed, hand_over};
+use mp4_c_base::handed::hand_over;
 use mp4_normal::normal_form;
 use std::alloc::Global;
-
-impl Handed<u8, usize> for Vec<u8> {
-    ghost rows = { λ v. v.items };
-
-    ghost summary = { λ v. length v.items };
-
-    fn count(&self) -> usize {
-        self.len()
-    }
-
-    fn row(&self, index: usize) -> u8 {
-        self[index]
-    }
-
-    fn summary(&self) -> usize {
-        self.len()
-    }
-}
 
 /// Hands over the boxes of the bytes in their normal form, boxes of types that the codec doesn't read as they are.
 /// Invalid data also if a box that was read can't be written, as it is too large.

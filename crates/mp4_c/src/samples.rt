@@ -5,7 +5,7 @@ ghost use Rattle.mp4_samples.specs.Samples.{sample_count};
 ghost use Rattle.mp4_c.specs.Samples.{ArePut, HandsSamples, HandsTables, row_of, number_of_disagreement};
 ghost use Rattle.mp4_c.specs.Samples.{number_of_track_error};
 
-use crate::status::{
+use mp4_c_base::status::{
     BOX_NOT_FOUND, CHUNK_COUNT, CHUNK_ORDER, CHUNKS, DURATIONS, FIRST_CHUNK, NO_ROOM, NO_TRACK,
     OFFSET, OK, OUT_OF_MEMORY, SAMPLE_SIZES, SYNC_SAMPLES, number_of,
 };

@@ -1,0 +1,5 @@
+pub mod Status
+pub mod Tells
+pub mod Handed
+pub mod Told
+pub mod Written

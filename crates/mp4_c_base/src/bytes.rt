@@ -1,0 +1,41 @@
+//! Bytes and texts as rows.
+
+ghost use Rattle.std.specs.Prelude.{length};
+
+use crate::handed::Handed;
+
+impl Handed<u8, usize> for Vec<u8> {
+    ghost rows = { λ v. v.items };
+
+    ghost summary = { λ v. length v.items };
+
+    fn count(&self) -> usize {
+        self.len()
+    }
+
+    fn row(&self, index: usize) -> u8 {
+        self[index]
+    }
+
+    fn summary(&self) -> usize {
+        self.len()
+    }
+}
+
+impl Handed<u8, usize> for &'static str {
+    ghost rows = { λ v. v.now };
+
+    ghost summary = { λ v. length v.now };
+
+    fn count(&self) -> usize {
+        self.len()
+    }
+
+    fn row(&self, index: usize) -> u8 {
+        self.as_bytes()[index]
+    }
+
+    fn summary(&self) -> usize {
+        self.len()
+    }
+}

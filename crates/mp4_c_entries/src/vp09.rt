@@ -1,0 +1,107 @@
+//! The sample entry of VP9 video.
+
+ghost use Rattle.std.specs.Prelude.{◌≡◌};
+ghost use Rattle.mp4_c_entries.specs.Vp09.{no_vp09, resolution_of, told_vp09, vp09_of};
+
+use crate::vpcc::{Vpcc, vpcc_of};
+use mp4_c_base::told::Told;
+use mp4_entries::Vp09Box;
+
+/// The fields of a `vp09` (VP Codec ISO Media File Format Binding, "VP Codec Sample Entry Box").
+#[repr(C)]
+#[derive(Clone, Copy, Default)]
+pub struct Vp09 {
+    /// The configuration of the decoder.
+    pub vpcc: Vpcc,
+    /// Three of the six reserved bytes of a sample entry, as a number of 24 bits.
+    pub flags: u32,
+    /// The last two of them.
+    pub start_code: u16,
+    /// Which data reference the samples are in, from 1 on.
+    pub data_reference_index: u16,
+    /// The width, in pixels.
+    pub width: u16,
+    /// The height, in pixels.
+    pub height: u16,
+    /// The horizontal resolution, in pixels an inch: its whole part, and its fraction of 65536.
+    pub horizresolution: [u16; 2],
+    /// The vertical resolution, in pixels an inch: its whole part, and its fraction of 65536.
+    pub vertresolution: [u16; 2],
+    /// How many frames a sample has.
+    pub frame_count: u16,
+    /// How many bits a pixel has.
+    pub depth: u16,
+    /// Two bytes that are ones in the standard.
+    pub end_code: u16,
+    /// The first of the six reserved bytes.
+    pub version: u8,
+    /// Reserved bytes.
+    pub reserved0: [u8; 16],
+    /// Reserved bytes.
+    pub reserved1: [u8; 4],
+    /// The name of the compressor: the number of its bytes, the name, and zeros.
+    pub compressorname: [u8; 32],
+}
+
+impl Vp09 {
+    /// Zeros, in place of an entry of another type.
+    pub(crate) fn none() -> Vp09
+        ensures { result ≡ no_vp09 }
+    {
+        Vp09::default()
+    }
+}
+
+impl Told<Vp09> for Vp09Box {
+    ghost told = { told_vp09 };
+
+    fn told(&self) -> Vp09 {
+        Vp09 {
+            vpcc: self.vpcc.told(),
+            flags: self.flags,
+            start_code: self.start_code,
+            data_reference_index: self.data_reference_index,
+            width: self.width,
+            height: self.height,
+            horizresolution: [self.horizresolution.0, self.horizresolution.1],
+            vertresolution: [self.vertresolution.0, self.vertresolution.1],
+            frame_count: self.frame_count,
+            depth: self.depth,
+            end_code: self.end_code,
+            version: self.version,
+            reserved0: self.reserved0,
+            reserved1: self.reserved1,
+            compressorname: self.compressorname,
+        }
+    }
+}
+
+/// The two numbers of a resolution.
+fn resolution_of(numbers: &[u16; 2]) -> (u16, u16)
+    ensures { result ≡ resolution_of numbers.now }
+{
+    (numbers[0], numbers[1])
+}
+
+/// The box with these fields.
+pub(crate) fn vp09_of(fields: &Vp09) -> Vp09Box
+    ensures { result ≡ vp09_of fields.now }
+{
+    Vp09Box {
+        version: fields.version,
+        flags: fields.flags,
+        start_code: fields.start_code,
+        data_reference_index: fields.data_reference_index,
+        reserved0: fields.reserved0,
+        width: fields.width,
+        height: fields.height,
+        horizresolution: resolution_of(&fields.horizresolution),
+        vertresolution: resolution_of(&fields.vertresolution),
+        reserved1: fields.reserved1,
+        frame_count: fields.frame_count,
+        compressorname: fields.compressorname,
+        depth: fields.depth,
+        end_code: fields.end_code,
+        vpcc: vpcc_of(&fields.vpcc),
+    }
+}
