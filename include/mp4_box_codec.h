@@ -69,7 +69,7 @@ enum {
     /* A check of the layout failed: a size is too small, a count doesn't fit its box, or a box is of another type. Of a
        function that writes: the box can't be written. */
     MP4_INVALID_DATA = 2,
-    /* A box lacks a child: a dinf has no dref. Only mp4_check and mp4_normal return it. */
+    /* A box lacks a child: a dinf has no dref. Also: there is no such box. */
     MP4_BOX_NOT_FOUND = 3,
     /* malloc or realloc returned NULL. */
     MP4_OUT_OF_MEMORY = 12,

@@ -16,11 +16,11 @@ int main(int arguments, char **argument) {
     size_t length = fread(bytes, 1, sizeof bytes, stdin), count = 0, i;
     uint32_t track = arguments < 3 ? 1 : (uint32_t)strtoul(argument[1], NULL, 10);
     uint64_t time = arguments < 3 ? 0 : strtoul(argument[2], NULL, 10);
-    struct mp4_sample none = {0, 0, 0, 0, 0, 0, 0, 0}, *samples, *key = NULL;
-    uint32_t status = mp4_samples(bytes, length, track, &none, 0, &count); /* asks how many there are */
+    struct mp4_sample *samples, *key = NULL;
+    uint32_t status = mp4_samples(bytes, length, track, NULL, 0, &count); /* asks how many there are */
     if (status != MP4_NO_ROOM)
         return status == MP4_OK ? 1 : fails(status); /* there is no sample, or no such track */
-    samples = calloc(count, sizeof *samples);
+    samples = malloc(count * sizeof *samples);
     status = samples == NULL ? MP4_OUT_OF_MEMORY : mp4_samples(bytes, length, track, samples, count, &count);
     for (i = 0; status == MP4_OK && i < count && samples[i].decode_time <= time; i++)
         if (samples[i].sync)

@@ -27,6 +27,7 @@ and of tools/install, and then where the system has its libraries.
 """
 
 import array
+import collections
 import ctypes
 import ctypes.util
 import os
@@ -39,7 +40,7 @@ NO_TRACK = 101
 CONTAINERS = ("moov", "trak", "mdia", "minf", "stbl", "edts", "mvex", "moof", "traf")
 
 u8, u16, u32, u64, size = ctypes.c_uint8, ctypes.c_uint16, ctypes.c_uint32, ctypes.c_uint64, ctypes.c_size_t
-i32, i64 = ctypes.c_int32, ctypes.c_int64
+i8, i16, i32, i64 = ctypes.c_int8, ctypes.c_int16, ctypes.c_int32, ctypes.c_int64
 
 
 class Mp4Error(ValueError):
@@ -312,6 +313,376 @@ def trun(data: Any) -> Run:
     rows, it = _trun(data)
     listed = _listed(rows, TrunRow, _RUN)
     return Run(it.version, it.flags, it.sample_count, it.data_offset, it.first_sample_flags, listed)
+
+
+def _written(function: Callable[..., int], *given: Any) -> bytes:
+    """The bytes that a call writes, once it has told how many they are."""
+    length, out = size(), (u8 * 1)()
+    status = function(*given, ctypes.addressof(out), 0, ctypes.addressof(length))
+    if status == NO_ROOM:
+        out = (u8 * length.value)()
+        status = function(*given, ctypes.addressof(out), length.value, ctypes.addressof(length))
+    if status != OK:
+        raise Mp4Error(status)
+    return bytes(out)
+
+
+def _filled_struct(struct: Any, value: Any) -> Any:
+    """A struct of the header with the numbers of a named tuple."""
+    given = value._asdict()
+    of = {name: (kind, given[name]) for name, kind in struct._fields_ if name in given}
+    numbers = {name: kind(*it) if isinstance(it, tuple) else it for name, (kind, it) in of.items()}
+    return struct(**{name: it.encode() if isinstance(it, str) else it for name, it in numbers.items()})
+
+
+def _box(name: str, words: str, **fields: Any) -> Tuple[Any, Callable[[Any], Any], Callable[[Any], bytes]]:
+    """The named tuple of a box of fixed fields, and the functions that read and write it."""
+    struct = _struct(f"mp4_{name}_box", **fields)
+    made: Any = collections.namedtuple(name.capitalize(), fields)
+    made.__doc__ = f"{words}; fixed-point numbers are raw."
+    reads = _function(f"mp4_{name}", ctypes.c_void_p, size, ctypes.c_void_p)
+    writes = _function(f"mp4_write_{name}", ctypes.c_void_p, ctypes.c_void_p, size, ctypes.c_void_p)
+
+    def plain(value: Any) -> Any:
+        if isinstance(value, bytes):
+            return value.decode("latin-1")
+        return tuple(value) if isinstance(value, ctypes.Array) else value
+
+    def read(data: Any) -> Any:
+        found = struct()
+        with _Bytes(data) as (address, length):
+            status = reads(address, length, ctypes.addressof(found))
+        if status != OK:
+            raise Mp4Error(status)
+        return made(*(plain(getattr(found, it)) for it in fields))
+
+    def write(value: Any) -> bytes:
+        given = _filled_struct(struct, value)
+        return _written(writes, ctypes.addressof(given))
+
+    read.__name__, read.__doc__ = name, f"{words}. Of the box at the front of the bytes, header included."
+    write.__name__, write.__doc__ = f"write_{name}", "The bytes of the box, header included."
+    return made, read, write
+
+
+_TIMES = {"creation_time": u64, "modification_time": u64, "duration": u64, "flags": u32}
+Mvhd, mvhd, write_mvhd = _box(
+    "mvhd", "Properties of the whole movie (8.2.2)", **_TIMES, timescale=u32, rate=u32, matrix=i32 * 9,
+    next_track_id=u32, volume=u16, version=u8)
+Tkhd, tkhd, write_tkhd = _box(
+    "tkhd", "Properties of a track (8.3.2)", **_TIMES, track_id=u32, matrix=i32 * 9, width=u32, height=u32, layer=i16,
+    alternate_group=i16, volume=u16, version=u8)
+Mdhd, mdhd, write_mdhd = _box(
+    "mdhd", "Properties of the media of a track (8.4.2)", **_TIMES, timescale=u32, language=ctypes.c_char * 4,
+    version=u8)
+Mehd, mehd, write_mehd = _box(
+    "mehd", "The duration of a movie with fragments (8.8.2)", fragment_duration=u64, flags=u32, version=u8)
+Mfhd, mfhd, write_mfhd = _box("mfhd", "The number of a fragment (8.8.5)", flags=u32, sequence_number=u32, version=u8)
+Smhd, smhd, write_smhd = _box("smhd", "The balance of sound (12.2.2)", flags=u32, balance=i16, version=u8)
+Vmhd, vmhd, write_vmhd = _box(
+    "vmhd", "How video is composed (12.1.2)", flags=u32, graphics_mode=u16, red=u16, green=u16, blue=u16, version=u8)
+Trex, trex, write_trex = _box(
+    "trex", "The defaults for the samples of fragments (8.8.3)", flags=u32, track_id=u32,
+    default_sample_description_index=u32, default_sample_duration=u32, default_sample_size=u32,
+    default_sample_flags=u32, version=u8)
+Tfdt, tfdt, write_tfdt = _box(
+    "tfdt", "When the first sample of a fragment is decoded (8.8.12)", base_media_decode_time=u64, flags=u32,
+    version=u8)
+Tfhd, tfhd, write_tfhd = _box(
+    "tfhd", "The track of a fragment (8.8.7)", base_data_offset=u64, flags=u32, track_id=u32,
+    sample_description_index=u32, default_sample_duration=u32, default_sample_size=u32, default_sample_flags=u32,
+    version=u8)
+
+
+def _writes_table(name: str, row: Any, table: Any) -> Callable[[Any], bytes]:
+    """A function that writes a table as it is read."""
+    function = _function(
+        f"mp4_write_{name}", ctypes.c_void_p, ctypes.c_void_p, size, ctypes.c_void_p, size, ctypes.c_void_p)
+
+    def write(value: Any) -> bytes:
+        count, head = len(value.rows), _filled_struct(table, value)
+        rows = (row * max(count, 1))(*(it if row in _ARRAYS else row(*it) for it in value.rows))
+        return _written(function, ctypes.addressof(head), ctypes.addressof(rows), count)
+
+    write.__name__, write.__doc__ = f"write_{name}", "The bytes of the table, header included."
+    return write
+
+
+write_stco, write_co64 = _writes_table("stco", u32, _TABLE), _writes_table("co64", u64, _TABLE)
+write_stss, write_stts = _writes_table("stss", u32, _TABLE), _writes_table("stts", _STTS, _TABLE)
+write_ctts, write_stsc = _writes_table("ctts", _CTTS, _TABLE), _writes_table("stsc", _STSC, _TABLE)
+write_elst, write_stsz = _writes_table("elst", _ELST, _TABLE), _writes_table("stsz", u32, _STSZ)
+write_trun = _writes_table("trun", _RUN, _TRUN)
+
+
+def _tuple_of(struct: Any, **given: Any) -> Any:
+    """A struct of the header as a named tuple, without counts, and with these fields in place of others or more."""
+    kind, fields = type(struct), {}
+    for name, _ in kind._fields_:
+        value = getattr(struct, name)
+        if isinstance(value, ctypes.Array):
+            value = bytes(value) if value._type_ is u8 else tuple(value)
+        fields[name] = _tuple_of(value) if isinstance(value, ctypes.Structure) else value
+    fields = {name: it for name, it in {**fields, **given}.items() if name not in _COUNTS and it is not ...}
+    return _NAMED.setdefault(kind, collections.namedtuple(kind.__name__[4:-4].capitalize(), fields))(**fields)
+
+
+def _struct_of(kind: Any, value: Any) -> Any:
+    """The struct of a named tuple; what it doesn't have is 0."""
+    found = kind()
+    for name, field in kind._fields_:
+        given = getattr(value, name, None)
+        if given is None:
+            continue
+        if issubclass(field, ctypes.Structure):
+            given = _struct_of(field, given)
+        elif issubclass(field, ctypes.Array):
+            given = field(*given)
+        setattr(found, name, given)
+    return found
+
+
+_NAMED: Dict[Any, Any] = {}
+# Numbers of elements, which the lists of a named tuple have.
+_COUNTS = ("count", "scheme_id_uri_count", "value_count", "message_data_count", "sequence_count", "picture_count")
+_FTYP = _struct("mp4_ftyp_box", count=size, major_brand=u32, minor_version=u32)
+_HDLR = _struct("mp4_hdlr_box", count=size, flags=u32, handler_type=u32, version=u8)
+_DATA = _struct("mp4_data_box", count=size, data_type=u32)
+_URL = _struct("mp4_url_box", count=size, flags=u32, version=u8)
+_DREF = _struct("mp4_dref_box", url=_URL, flags=u32, version=u8, has_url=u8)
+_EMSG = _struct("mp4_emsg_box", scheme_id_uri_count=size, value_count=size, message_data_count=size,
+                presentation_time=u64, presentation_time_delta=u32, timescale=u32, event_duration=u32, id=u32,
+                flags=u32, version=u8)
+_AVCC = _struct("mp4_avcc_box", sequence_count=size, picture_count=size, set_bytes=size, configuration_version=u8,
+                avc_profile_indication=u8, profile_compatibility=u8, avc_level_indication=u8, length_size_minus_one=u8)
+_VISUAL = _struct("mp4_visual_box", horizresolution=u32, vertresolution=u32, data_reference_index=u16, width=u16,
+                  height=u16, frame_count=u16, depth=u16)
+_AVC1 = _struct("mp4_avc1_box", avcc=_AVCC, visual=_VISUAL)
+_HVCC = _struct("mp4_hvcc_box", configuration_version=u8)
+_HEV1 = _struct("mp4_hev1_box", visual=_VISUAL, hvcc=_HVCC)
+_VPCC = _struct("mp4_vpcc_box", flags=u32, codec_initialization_data_size=u16, version=u8, profile=u8, level=u8,
+                bit_depth=u8, chroma_subsampling=u8, video_full_range_flag=u8, color_primaries=u8,
+                transfer_characteristics=u8, matrix_coefficients=u8)
+_VP09 = _struct("mp4_vp09_box", vpcc=_VPCC, flags=u32, start_code=u16, data_reference_index=u16, width=u16, height=u16,
+                horizresolution=u16 * 2, vertresolution=u16 * 2, frame_count=u16, depth=u16, end_code=u16, version=u8,
+                reserved0=u8 * 16, reserved1=u8 * 4, compressorname=u8 * 32)
+_TX3G = _struct("mp4_tx3g_box", display_flags=u32, data_reference_index=u16, box_record=i16 * 4,
+                horizontal_justification=i8, vertical_justification=i8, bg_color_rgba=u8 * 4, style_record=u8 * 12)
+_ESDS = _struct("mp4_esds_box", flags=u32, buffer_size_db=u32, max_bitrate=u32, avg_bitrate=u32, sample_rate=u32,
+                es_id=u16, version=u8, object_type_indication=u8, stream_type=u8, up_stream=u8, profile=u8,
+                freq_index=u8, chan_conf=u8)
+_MP4A = _struct("mp4_mp4a_box", esds=_ESDS, samplerate=u32, data_reference_index=u16, channelcount=u16, samplesize=u16,
+                has_esds=u8)
+_STSD = _struct("mp4_stsd_box", avc1=_AVC1, hev1=_HEV1, vp09=_VP09, mp4a=_MP4A, tx3g=_TX3G, flags=u32, entry=u32,
+                version=u8)
+
+
+def _parts(name: str, struct: Any, *kinds: Any) -> Callable[[Any, Callable[[Any], Tuple[int, ...]]], Tuple[Any, Any]]:
+    """A call that fills a struct and several arrays: it asks how long they are, by the struct, and then for them."""
+    arrays = [it for _ in kinds for it in (ctypes.c_void_p, size)]
+    function = _function(f"mp4_{name}", ctypes.c_void_p, size, *arrays, ctypes.c_void_p)
+
+    def call(data: Any, counts_of: Callable[[Any], Tuple[int, ...]]) -> Tuple[Any, Any]:
+        found, counts = struct(), (0,) * len(kinds)
+        with _Bytes(data) as (address, length):
+            for _ in range(2):
+                filled = [(kind * max(count, 1))() for kind, count in zip(kinds, counts)]
+                places = [it for pair in zip(map(ctypes.addressof, filled), counts) for it in pair]
+                status = function(address, length, *places, ctypes.addressof(found))
+                if status != NO_ROOM:
+                    break
+                counts = counts_of(found)
+        if status != OK:
+            raise Mp4Error(status)
+        return found, [it[:count] for it, count in zip(filled, counts)]
+
+    return call
+
+
+def _reads(name: str, struct: Any, words: str) -> Callable[[Any], Any]:
+    fill = _parts(name, struct)
+
+    def read(data: Any) -> Any:
+        return _tuple_of(fill(data, lambda _: ())[0])
+
+    read.__name__, read.__doc__ = name, f"{words}. Of the box at the front of the bytes, header included."
+    return read
+
+
+hvcc = _reads("hvcc", _HVCC, "The configuration of an HEVC decoder (ISO/IEC 14496-15, 8.3.3.1)")
+hev1 = _reads("hev1", _HEV1, "The sample entry of HEVC video (ISO/IEC 14496-15, 8.4.1)")
+vpcc = _reads("vpcc", _VPCC, "The configuration of a VP9 decoder (VP Codec ISO Media File Format Binding)")
+vp09 = _reads("vp09", _VP09, "The sample entry of VP9 video (VP Codec ISO Media File Format Binding)")
+tx3g = _reads("tx3g", _TX3G, "The sample entry of timed text (3GPP TS 26.245, 5.16)")
+esds = _reads("esds", _ESDS, "The descriptors of MPEG-4 audio (ISO/IEC 14496-14, 5.6)")
+_ftyp, _hdlr = _filled("mp4_ftyp", u32, _FTYP), _filled("mp4_hdlr", u8, _HDLR)
+_data, _url = _filled("mp4_data", u8, _DATA), _filled("mp4_url", u8, _URL)
+_dref, _dinf = _parts("dref", _DREF, u8), _parts("dinf", _DREF, u8)
+_emsg, _mp4a = _parts("emsg", _EMSG, u8, u8, u8), _parts("mp4a", _MP4A)
+_avcc, _avc1, _stsd = (_parts(*it, size, u8) for it in (("avcc", _AVCC), ("avc1", _AVC1), ("stsd", _STSD)))
+
+
+def ftyp(data: Any) -> Any:
+    """The brands of a file (4.3). Of the box at the front of the bytes, header included.
+
+    >>> ftyp(bytes.fromhex("00000014 66747970 69736f6d 00000200 61766331"))
+    Ftyp(major_brand=1769172845, minor_version=512, compatible_brands=[1635148593])
+    """
+    rows, it = _ftyp(data)
+    return _tuple_of(it, compatible_brands=[*rows])
+
+
+def hdlr(data: Any) -> Any:
+    """What kind of media a track has, and the name of its handler (8.4.3)."""
+    rows, it = _hdlr(data)
+    return _tuple_of(it, name=bytes(rows).decode())
+
+
+def data(data: Any) -> Any:
+    """The value of a metadata item (QuickTime's metadata), as bytes."""
+    rows, it = _data(data)
+    return _tuple_of(it, value=bytes(rows))
+
+
+def url(data: Any) -> Any:
+    """Where media data is (8.7.2)."""
+    rows, it = _url(data)
+    return _tuple_of(it, location=bytes(rows).decode())
+
+
+def _references(fill: Any, data: Any) -> Any:
+    it, (location,) = fill(data, lambda found: (found.url.count,))
+    where = _tuple_of(it.url, location=bytes(location).decode()) if it.has_url else None
+    return _tuple_of(it, url=where, has_url=...)
+
+
+def dref(data: Any) -> Any:
+    """The data references of a track (8.7.2), of which the last url is kept."""
+    return _references(_dref, data)
+
+
+def dinf(data: Any) -> Any:
+    """The data references in a dinf (8.7.1)."""
+    return _references(_dinf, data)
+
+
+def emsg(data: Any) -> Any:
+    """An event message (ISO/IEC 23009-1, 5.10.3.3)."""
+    it, texts = _emsg(data, lambda found: (found.scheme_id_uri_count, found.value_count, found.message_data_count))
+    scheme, value, message = map(bytes, texts)
+    return _tuple_of(it, scheme_id_uri=scheme.decode(), value=value.decode(), message_data=message)
+
+
+def _sets_of(it: Any, lengths: Any, together: Any) -> Any:
+    """The configuration of an AVC decoder, of which the sets were read."""
+    sets, rest = [], bytes(together)
+    for length in lengths:
+        sets.append(rest[:length])
+        rest = rest[length:]
+    sequence, picture = sets[:it.sequence_count], sets[it.sequence_count:]
+    return _tuple_of(it, set_bytes=..., sequence_parameter_sets=sequence, picture_parameter_sets=picture)
+
+
+def _lengths_of(it: Any) -> Tuple[int, ...]:
+    return it.sequence_count + it.picture_count, it.set_bytes
+
+
+def avcc(data: Any) -> Any:
+    """The configuration of an AVC decoder (ISO/IEC 14496-15, 5.3.3.1)."""
+    it, sets = _avcc(data, _lengths_of)
+    return _sets_of(it, *sets)
+
+
+def avc1(data: Any) -> Any:
+    """The sample entry of AVC video (ISO/IEC 14496-15, 5.4.2)."""
+    it, sets = _avc1(data, lambda found: _lengths_of(found.avcc))
+    return _tuple_of(it, avcc=_sets_of(it.avcc, *sets))
+
+
+def _sound_of(it: Any) -> Any:
+    return _tuple_of(it, esds=_tuple_of(it.esds) if it.has_esds else None, has_esds=...)
+
+
+def mp4a(data: Any) -> Any:
+    """The sample entry of MPEG-4 audio (ISO/IEC 14496-14, 5.6)."""
+    return _sound_of(_mp4a(data, lambda _: ())[0])
+
+
+Stsd = collections.namedtuple("Stsd", "version flags entry")
+Stsd.__doc__ = "The first sample entry of a track (8.5.2): its fields, named by its type; None if it isn't read."
+_ENTRIES = ("avc1", "hev1", "vp09", "mp4a", "tx3g")
+
+
+def stsd(data: Any) -> Stsd:
+    """The first sample entry of a track (8.5.2), if it is avc1, hev1, vp09, mp4a or tx3g."""
+    it, sets = _stsd(data, lambda found: _lengths_of(found.avc1.avcc))
+    name = it.entry.to_bytes(4, "big").decode("latin-1")
+    entry = None
+    if name == "avc1":
+        entry = _tuple_of(it.avc1, avcc=_sets_of(it.avc1.avcc, *sets))
+    elif name == "mp4a":
+        entry = _sound_of(it.mp4a)
+    elif name in _ENTRIES:
+        entry = _tuple_of(getattr(it, name))
+    return Stsd(it.version, it.flags, entry)
+
+
+def _writes(name: str, *kinds: Any) -> Callable[..., bytes]:
+    """A call that writes a struct and arrays."""
+    arrays = [it for _ in kinds for it in (ctypes.c_void_p, size)]
+    function = _function(f"mp4_write_{name}", ctypes.c_void_p, *arrays, ctypes.c_void_p, size, ctypes.c_void_p)
+
+    def write(struct: Any, *lists: Any) -> bytes:
+        held = [(kind * max(len(it), 1))(*it) for kind, it in zip(kinds, lists)]
+        places = [part for array, it in zip(held, lists) for part in (ctypes.addressof(array), len(it))]
+        return _written(function, ctypes.addressof(struct), *places)
+
+    return write
+
+
+_write_ftyp, _write_hdlr, _write_dref = _writes("ftyp", u32), _writes("hdlr", u8), _writes("dref", u8)
+_write_emsg, _write_stsd = _writes("emsg", u8, u8, u8), _writes("stsd", size, u8)
+
+
+def write_ftyp(value: Any) -> bytes:
+    """The bytes of an ftyp, header included."""
+    return _write_ftyp(_struct_of(_FTYP, value), value.compatible_brands)
+
+
+def write_hdlr(value: Any) -> bytes:
+    """The bytes of an hdlr, header included."""
+    return _write_hdlr(_struct_of(_HDLR, value), value.name.encode())
+
+
+def write_dref(value: Any) -> bytes:
+    """The bytes of a dref, header included."""
+    struct = _struct_of(_DREF, value)
+    struct.has_url = value.url is not None
+    return _write_dref(struct, value.url.location.encode() if value.url else b"")
+
+
+def write_emsg(value: Any) -> bytes:
+    """The bytes of an emsg, header included."""
+    texts = value.scheme_id_uri.encode(), value.value.encode(), value.message_data
+    return _write_emsg(_struct_of(_EMSG, value), *texts)
+
+
+def write_stsd(value: Stsd) -> bytes:
+    """The bytes of an stsd, header included."""
+    struct, lengths, together = _STSD(version=value.version, flags=value.flags), [], b""
+    if value.entry is not None:
+        name = type(value.entry).__name__.lower()
+        struct.entry = int.from_bytes(name.encode(), "big")
+        setattr(struct, name, _struct_of(dict(_STSD._fields_)[name], value.entry))
+        if name == "mp4a":
+            struct.mp4a.has_esds = value.entry.esds is not None
+        if name == "avc1":
+            avcc = value.entry.avcc
+            sets = [*avcc.sequence_parameter_sets, *avcc.picture_parameter_sets]
+            struct.avc1.avcc.sequence_count = len(avcc.sequence_parameter_sets)
+            struct.avc1.avcc.picture_count = len(avcc.picture_parameter_sets)
+            lengths, together = [len(it) for it in sets], b"".join(sets)
+    return _write_stsd(struct, lengths, together)
 
 
 def check(data: Any) -> None:

@@ -48,6 +48,36 @@ class Calls(unittest.TestCase):
         self.assertEqual(found, (1, 0xB05, 1, -3, 4, [(5, 6, 0, 7)]))
         self.assertEqual(codec.trun(table_box("trun", 0, 0, 9)).sample_count, 9)
 
+    def test_headers(self):
+        box = table_box("mehd", 1, 0x828384, 0x85868788, 0x898A8B8C)
+        expected = codec.Mehd(0x85868788898A8B8C, 0x828384, 1)
+        self.assertEqual((codec.mehd(box), codec.write_mehd(expected)), (expected, box))
+        box = table_box("mdhd", 0, 7, 0x81828384, 0x85868788, 0x898A8B8C, 0x8D8E8F90, 0x15C70000)
+        expected = codec.Mdhd(0x81828384, 0x85868788, 0x8D8E8F90, 7, 0x898A8B8C, "eng", 0)
+        self.assertEqual((codec.mdhd(box), codec.write_mdhd(expected)), (expected, box))
+        matrix = (1, 2, 3, 4, 5, 6, 7, 8, -9)
+        numbers = [it & 0xFFFFFFFF for it in matrix]
+        box = table_box("tkhd", 0, 7, 1, 2, 3, 0, 4, 0, 0, 0xFFFE0005, 0x01020000, *numbers, 10, 11)
+        expected = codec.Tkhd(1, 2, 4, 7, 3, matrix, 10, 11, -2, 5, 0x102, 0)
+        self.assertEqual((codec.tkhd(box), codec.write_tkhd(expected)), (expected, box))
+        with self.assertRaisesRegex(codec.Mp4Error, "invalid data"):
+            codec.write_mehd(codec.Mehd(1, 1 << 24, 1))
+        with self.assertRaisesRegex(codec.Mp4Error, "invalid data"):
+            codec.mvhd(box)
+
+    def test_written_tables(self):
+        boxes = [
+            ("stco", 0x81, 0x828384, 2, 0x85868788, 0x898A8B8C), ("co64", 0, 1, 1, 0x81828384, 0x85868788),
+            ("stss", 0, 0, 0), ("stts", 0, 0, 2, 3, 4, 5, 0xFFFFFFFF), ("ctts", 1, 0, 1, 3, 0xFFFFFFFE),
+            ("stsc", 0, 0, 2, 1, 4, 1, 3, 5, 2), ("elst", 0, 0, 1, 7, 0xFFFFFFFF, 0x00010002),
+            ("stsz", 0, 0, 0, 2, 8, 9), ("trun", 1, 0xB05, 1, 0xFFFFFFFD, 4, 5, 6, 7),
+        ]
+        for given in boxes:
+            name, box = given[0], table_box(*given)
+            self.assertEqual(getattr(codec, f"write_{name}")(getattr(codec, name)(box)), box)
+        with self.assertRaisesRegex(codec.Mp4Error, "invalid data"):
+            codec.write_stsz(codec.stsz(table_box("stsz", 0, 0, 0, 2, 8, 9))._replace(sample_count=3))
+
     def test_tables_of_a_file(self):
         stts, free = table_box("stts", 0, 0, 1, 3, 10), b"\0\0\0\x08free"
         stbl = struct.pack(">I4s", 8 + len(stts) + len(free), b"stbl") + free + stts

@@ -6,9 +6,13 @@
 use std::error;
 use std::fmt;
 
+mod boxes;
+mod entries;
 pub mod raw;
 mod rows;
 
+pub use boxes::*;
+pub use entries::*;
 pub use rows::{CttsRow, ElstRow, Place, Sample, Span, StscRow, SttsRow, TrunRow};
 
 /// Why a call has no value.
@@ -121,6 +125,11 @@ fn filled_by<R: Clone + Default, S: Summary>(call: impl Fn(&mut Vec<R>, &mut S) 
         status = call(&mut rows, &mut found);
     }
     result_of(status, (rows, found))
+}
+
+/// The bytes that a call writes into a vector, once it has told how many they are.
+fn written(call: impl Fn(&mut Vec<u8>, &mut usize) -> u32) -> Result<Vec<u8>> {
+    Ok(filled_by(call)?.0)
 }
 
 /// Reads all boxes from the front of the bytes to their end; the error is that of the first fault. Boxes of types that

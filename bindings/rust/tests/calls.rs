@@ -149,3 +149,49 @@ fn many_rows() {
     let numbers: Vec<u32> = [1_000_000].into_iter().chain(1..=1_000_000).collect();
     assert_eq!(stss(&table_box("stss", 0, 0, &numbers)).unwrap().rows, numbers[1..]);
 }
+
+/// A box of this name with these bytes after its header.
+fn boxed(name: &str, content: &[u8]) -> Vec<u8> {
+    [&(8 + content.len() as u32).to_be_bytes()[..], name.as_bytes(), content].concat()
+}
+
+#[test]
+fn headers() {
+    let box_of = table_box("mehd", 1, 0x828384, &[0x85868788, 0x898A8B8C]);
+    let expected = Mehd { fragment_duration: 0x85868788898A8B8C, flags: 0x828384, version: 1 };
+    assert_eq!((mehd(&box_of), write_mehd(&expected)), (Ok(expected), Ok(box_of)));
+    let box_of = table_box("mdhd", 0, 7, &[0x81828384, 0x85868788, 0x898A8B8C, 0x8D8E8F90, 0x15C70000]);
+    let expected = Mdhd {
+        creation_time: 0x81828384,
+        modification_time: 0x85868788,
+        timescale: 0x898A8B8C,
+        duration: 0x8D8E8F90,
+        language: *b"eng\0",
+        flags: 7,
+        version: 0,
+    };
+    assert_eq!((mdhd(&box_of), write_mdhd(&expected)), (Ok(expected), Ok(box_of)));
+    let box_of = boxed("smhd", &[9, 0, 0, 1, 0xFF, 0xFE, 0, 0]);
+    let expected = Smhd { flags: 1, balance: -2, version: 9 };
+    assert_eq!((smhd(&box_of), write_smhd(&expected)), (Ok(expected), Ok(box_of.clone())));
+    assert_eq!(vmhd(&box_of), Err(Error::InvalidData));
+    assert_eq!(smhd(&box_of[..15]), Err(Error::EndOfInput));
+    assert_eq!(write_smhd(&Smhd { flags: 1 << 24, ..expected }), Err(Error::InvalidData));
+    let tfhd_box = table_box("tfhd", 0, 0x28, &[5, 6, 7]);
+    let expected = Tfhd { flags: 0x28, track_id: 5, default_sample_duration: 6, default_sample_flags: 7, ..Tfhd::default() };
+    assert_eq!((tfhd(&tfhd_box), write_tfhd(&expected)), (Ok(expected), Ok(tfhd_box)));
+}
+
+#[test]
+fn written_tables() {
+    let bytes = table_box("stco", 0x81, 0x828384, &[2, 0x85868788, 0x898A8B8C]);
+    assert_eq!(write_stco(&stco(&bytes).unwrap()), Ok(bytes));
+    let bytes = table_box("elst", 0, 1, &[1, 7, 0xFFFFFFFF, 0x00010002]);
+    assert_eq!(write_elst(&elst(&bytes).unwrap()), Ok(bytes));
+    let bytes = table_box("stsz", 1, 2, &[0, 2, 8, 9]);
+    assert_eq!(write_stsz(&stsz(&bytes).unwrap()), Ok(bytes.clone()));
+    assert_eq!(write_stsz(&Sizes { sample_count: 3, ..stsz(&bytes).unwrap() }), Err(Error::InvalidData));
+    let bytes = table_box("trun", 1, 0xB05, &[1, 0xFFFFFFFD, 4, 5, 6, 7]);
+    assert_eq!(write_trun(&trun(&bytes).unwrap()), Ok(bytes));
+    assert_eq!(write_stss(&Table { version: 0, flags: 0, rows: vec![] }), Ok(table_box("stss", 0, 0, &[0])));
+}

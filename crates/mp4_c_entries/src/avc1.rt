@@ -3,7 +3,7 @@
 ghost use Rattle.std.specs.Prelude.{◌≡◌, IsTrue, IfOk, IfErr};
 ghost use Rattle.mp4_frame.specs.declared.error.Error.TheVariants.{OutOfMemory};
 ghost use Rattle.mp4_c_entries.specs.Avcc.{fit_sets};
-ghost use Rattle.mp4_c_entries.specs.Avc1.{avc1_of, told_avc1};
+ghost use Rattle.mp4_c_entries.specs.Avc1.{avc1_of, no_avc1, told_avc1};
 ghost use Rattle.mp4_c_entries.specs.Visual.{visual_of_avc1};
 
 use crate::avcc::{Avcc, avcc_of};
@@ -37,6 +37,15 @@ fn visual_of(found: &Avc1Box) -> Visual
         height: found.height,
         frame_count: found.frame_count,
         depth: found.depth,
+    }
+}
+
+impl Avc1 {
+    /// Zeros, in place of an entry of another type.
+    pub(crate) fn none() -> Avc1
+        ensures { result ≡ no_avc1 }
+    {
+        Avc1::default()
     }
 }
 

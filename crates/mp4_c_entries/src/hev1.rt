@@ -1,7 +1,7 @@
 //! The sample entry of HEVC video.
 
 ghost use Rattle.std.specs.Prelude.{◌≡◌};
-ghost use Rattle.mp4_c_entries.specs.Hev1.{hev1_of, told_hev1};
+ghost use Rattle.mp4_c_entries.specs.Hev1.{hev1_of, no_hev1, told_hev1};
 ghost use Rattle.mp4_c_entries.specs.Visual.{visual_of_hev1};
 
 use crate::hvcc::Hvcc;
@@ -32,6 +32,15 @@ fn visual_of(found: &Hev1Box) -> Visual
         height: found.height,
         frame_count: found.frame_count,
         depth: found.depth,
+    }
+}
+
+impl Hev1 {
+    /// Zeros, in place of an entry of another type.
+    pub(crate) fn none() -> Hev1
+        ensures { result ≡ no_hev1 }
+    {
+        Hev1::default()
     }
 }
 

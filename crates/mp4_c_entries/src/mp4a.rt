@@ -1,7 +1,7 @@
 //! The sample entry of MPEG-4 audio.
 
 ghost use Rattle.std.specs.Prelude.{◌≡◌};
-ghost use Rattle.mp4_c_entries.specs.Mp4a.{mp4a_of, told_mp4a};
+ghost use Rattle.mp4_c_entries.specs.Mp4a.{mp4a_of, no_mp4a, told_mp4a};
 
 use crate::esds::{Esds, esds_of};
 use mp4_c_base::told::Told;
@@ -24,6 +24,15 @@ pub struct Mp4a {
     pub samplesize: u16,
     /// 1 if there is an `esds`, else 0.
     pub has_esds: u8,
+}
+
+impl Mp4a {
+    /// Zeros, in place of an entry of another type.
+    pub(crate) fn none() -> Mp4a
+        ensures { result ≡ no_mp4a }
+    {
+        Mp4a::default()
+    }
 }
 
 impl Told<Mp4a> for Mp4aBox {

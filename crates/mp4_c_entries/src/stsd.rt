@@ -49,11 +49,11 @@ impl Stsd {
         ensures { result ≡ no_entry version flags }
     {
         Stsd {
-            avc1: Avc1::default(),
-            hev1: Hev1::default(),
-            vp09: Vp09::default(),
-            mp4a: Mp4a::default(),
-            tx3g: Tx3g::default(),
+            avc1: Avc1::none(),
+            hev1: Hev1::none(),
+            vp09: Vp09::none(),
+            mp4a: Mp4a::none(),
+            tx3g: Tx3g::none(),
             flags,
             entry: 0,
             version,

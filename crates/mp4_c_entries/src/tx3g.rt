@@ -1,7 +1,7 @@
 //! The sample entry of timed text.
 
 ghost use Rattle.std.specs.Prelude.{◌≡◌};
-ghost use Rattle.mp4_c_entries.specs.Tx3g.{colour_of, told_tx3g, tx3g_of};
+ghost use Rattle.mp4_c_entries.specs.Tx3g.{colour_of, no_tx3g, told_tx3g, tx3g_of};
 
 use mp4_c_base::told::Told;
 use mp4_entries::{RgbaColor, Tx3gBox};
@@ -25,6 +25,15 @@ pub struct Tx3g {
     /// The style of the text: the first and the last character in 2 bytes each, the font in 2, its style flags in 1,
     /// its size in 1, and its colour in 4.
     pub style_record: [u8; 12],
+}
+
+impl Tx3g {
+    /// Zeros, in place of an entry of another type.
+    pub(crate) fn none() -> Tx3g
+        ensures { result ≡ no_tx3g }
+    {
+        Tx3g::default()
+    }
 }
 
 impl Told<Tx3g> for Tx3gBox {

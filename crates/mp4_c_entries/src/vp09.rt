@@ -1,7 +1,7 @@
 //! The sample entry of VP9 video.
 
 ghost use Rattle.std.specs.Prelude.{◌≡◌};
-ghost use Rattle.mp4_c_entries.specs.Vp09.{resolution_of, told_vp09, vp09_of};
+ghost use Rattle.mp4_c_entries.specs.Vp09.{no_vp09, resolution_of, told_vp09, vp09_of};
 
 use crate::vpcc::{Vpcc, vpcc_of};
 use mp4_c_base::told::Told;
@@ -41,6 +41,15 @@ pub struct Vp09 {
     pub reserved1: [u8; 4],
     /// The name of the compressor: the number of its bytes, the name, and zeros.
     pub compressorname: [u8; 32],
+}
+
+impl Vp09 {
+    /// Zeros, in place of an entry of another type.
+    pub(crate) fn none() -> Vp09
+        ensures { result ≡ no_vp09 }
+    {
+        Vp09::default()
+    }
 }
 
 impl Told<Vp09> for Vp09Box {
