@@ -475,6 +475,45 @@ struct mp4_stsd_box {
     uint8_t version;
 };
 
+/* A box that a walk comes to. Positions and lengths are in bytes. */
+struct mp4_box {
+    uint64_t position;      /* in the file, where its header begins */
+    uint64_t length;        /* with its header, as the header says it; where no box can be read, what is left there */
+    uint64_t header_length; /* 8 or 16; where no box can be read, what is left there */
+    uint64_t children;      /* the position of the first box in it, if the walk goes into it; else 0 */
+    uint64_t depth;         /* how many boxes it is inside of */
+    uint32_t code;          /* the four characters of its code; 0 where the file ends before them */
+    uint32_t parent;        /* the code of the box around it; 0 at the top level */
+    uint32_t handler;       /* that of the media that it is in, as an hdlr before it says; else 0 */
+    uint8_t what;           /* MP4_LEAF and so on */
+    uint8_t is_quicktime;   /* 1 if an ftyp before it has the major brand 'qt  ', else 0 */
+};
+
+/* What is where a box should begin. */
+enum {
+    MP4_LEAF = 0,     /* a whole box that holds no boxes that are known */
+    MP4_PARENT = 1,   /* a whole box that holds boxes: they come next */
+    MP4_TOO_DEEP = 2, /* a whole box that holds boxes, inside of 32 others: they don't come */
+    MP4_CUT = 3,      /* a box that ends after what is around it: if it holds boxes, those that are there come next */
+    MP4_SMALL = 4,    /* a size that is smaller than its header */
+    MP4_NO_HEADER = 5 /* fewer bytes than a header has */
+};
+
+/* How far a walk is. A caller reads `position` and `wanted`, and changes nothing. */
+struct mp4_walk_level {
+    uint64_t end;
+    uint32_t parent;
+    uint32_t handler;
+    uint8_t is_quicktime;
+};
+struct mp4_walk {
+    uint64_t position; /* in the file, of the bytes that are wanted: that of the next box */
+    uint64_t wanted;   /* how many: 28 at most, and 0 after the last box */
+    uint64_t length;   /* of the file */
+    uint64_t count;
+    struct mp4_walk_level levels[33];
+};
+
 /* Reads all boxes from the front of the bytes to their end, and returns the status of the first fault, or MP4_OK. Boxes of
    types that the codec doesn't read are skipped by their size: so a moov is not looked into. Call it over the content of
    such a box to check what is in it. */
@@ -494,6 +533,21 @@ uint32_t mp4_normal(const uint8_t *bytes, size_t length, uint8_t *out, size_t pl
    and MP4_INVALID_DATA if the text is no path. */
 #define MP4_TEXT(text) ((const uint8_t *)("" text)), (sizeof(text) - 1)
 uint32_t mp4_find(const uint8_t *bytes, size_t length, const uint8_t *path, size_t path_length, struct mp4_place *place);
+
+/* A walk over the boxes of a file that isn't in memory: each box, and after it those in it, as far as the codec knows which
+   boxes hold boxes. It takes no memory and reads nothing itself: the caller reads the bytes that it wants.
+
+       mp4_walk_begin(length, &walk);
+       while (walk.wanted > 0) {
+           (read walk.wanted bytes at walk.position of the file)
+           status = mp4_walk_next(bytes, walk.wanted, &walk, &box);
+       }
+
+   mp4_walk_next returns MP4_END_OF_INPUT if there are fewer bytes than are wanted, and MP4_BOX_NOT_FOUND after the last box.
+   It doesn't check a walk: the caller ensures that it is as mp4_walk_begin or mp4_walk_next left it. The boxes are those of the
+   file if the bytes are those of the file, also where they are wrong: then `what` says so. */
+uint32_t mp4_walk_begin(uint64_t length, struct mp4_walk *walk);
+uint32_t mp4_walk_next(const uint8_t *bytes, size_t length, struct mp4_walk *walk, struct mp4_box *box);
 
 /* The samples of the first track with this track_ID (8.3.2), over the bytes of a file: by the tables stsz, stsc, stco or
    co64, stts, ctts and stss of its stbl. Also MP4_NO_TRACK; MP4_BOX_NOT_FOUND if the file has no moov, or the track lacks
@@ -705,6 +759,9 @@ MP4_INLINE uint32_t mp4_call_samples(const uint8_t *bytes, size_t length, uint32
 MP4_INLINE uint32_t mp4_call_status_text(uint32_t status, uint8_t *text, size_t places, size_t *count) {
     return mp4_status_text(status, (uint8_t *)mp4_to(text), places, count);
 }
+MP4_INLINE uint32_t mp4_call_walk_next(const uint8_t *bytes, size_t length, struct mp4_walk *walk, struct mp4_box *box) {
+    return mp4_walk_next(MP4_BYTES(bytes), length, walk, box);
+}
 MP4_READS_ROWS(list, struct mp4_span, size_t)
 MP4_READS_ROWS(normal, uint8_t, size_t)
 MP4_ROWS(stsz, uint32_t, struct mp4_stsz_table)
@@ -778,6 +835,7 @@ MP4_INLINE uint32_t mp4_call_write_stsd(const struct mp4_stsd_box *box, const si
 #undef MP4_ROWS
 
 #define mp4_check mp4_call_check
+#define mp4_walk_next mp4_call_walk_next
 #define mp4_ftyp mp4_call_ftyp
 #define mp4_write_ftyp mp4_call_write_ftyp
 #define mp4_hdlr mp4_call_hdlr

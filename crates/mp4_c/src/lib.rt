@@ -49,3 +49,4 @@ pub mod url;
 pub mod vmhd;
 pub mod vp09;
 pub mod vpcc;
+pub mod walk;
