@@ -8,8 +8,8 @@ ghost use Rattle.mp4_c_entries.specs.Avcc.{sets_avcc};
 ghost use Rattle.mp4_c_entries.specs.Avc1.{told_avc1};
 ghost use Rattle.mp4_c_entries.specs.Sets.{FillsSets};
 
-use mp4_c_entries::sets::tell_sets;
 use mp4_c_entries::avc1::Avc1;
+use mp4_c_entries::sets::tell_sets;
 use mp4_frame::codes;
 use mp4_stream::Avc1Box;
 use std::alloc::Global;

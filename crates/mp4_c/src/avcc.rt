@@ -7,8 +7,8 @@ ghost use Rattle.mp4_c_entries.specs.Parts.{HandsParts};
 ghost use Rattle.mp4_c_entries.specs.Avcc.{sets_avcc, told_avcc};
 ghost use Rattle.mp4_c_entries.specs.Sets.{FillsSets};
 
-use mp4_c_entries::sets::tell_sets;
 use mp4_c_entries::avcc::Avcc;
+use mp4_c_entries::sets::tell_sets;
 use mp4_frame::codes;
 use mp4_stream::AvcCBox;
 use std::alloc::Global;

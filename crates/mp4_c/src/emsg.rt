@@ -43,5 +43,13 @@ pub extern "C" fn mp4_write_emsg(
         (record { scheme_id_uri = scheme_id_uri.now; value = value.now; message_data = message_data.now }))
         result bytes.old bytes.new length.old length.new }
 {
-    write_emsg(alloc, fields, scheme_id_uri, value, message_data, bytes, length)
+    write_emsg(
+        alloc,
+        fields,
+        scheme_id_uri,
+        value,
+        message_data,
+        bytes,
+        length,
+    )
 }

@@ -15,12 +15,7 @@ use std::alloc::Global;
 
 /// Hands over the name of a handler, and tells its type (ISO/IEC 14496-12, 8.4.3).
 #[unsafe(no_mangle)]
-pub extern "C" fn mp4_hdlr(
-    alloc: Global,
-    bytes: &[u8],
-    name: &mut [u8],
-    fields: &mut Hdlr,
-) -> u32
+pub extern "C" fn mp4_hdlr(alloc: Global, bytes: &[u8], name: &mut [u8], fields: &mut Hdlr) -> u32
     ensures { HandsReading (front_box reads_hdlr codes.HDLR bytes.now) (λ v. v.name) told_hdlr result name.old name.new
         fields.old fields.new }
 {

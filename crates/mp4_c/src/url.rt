@@ -14,12 +14,7 @@ use std::alloc::Global;
 
 /// Hands over a location (ISO/IEC 14496-12, 8.7.2).
 #[unsafe(no_mangle)]
-pub extern "C" fn mp4_url(
-    alloc: Global,
-    bytes: &[u8],
-    location: &mut [u8],
-    fields: &mut Url,
-) -> u32
+pub extern "C" fn mp4_url(alloc: Global, bytes: &[u8], location: &mut [u8], fields: &mut Url) -> u32
     ensures { HandsReading (front_box reads_url codes.URL bytes.now) (λ v. v.location) told_url result location.old location.new
         fields.old fields.new }
 {

@@ -40,7 +40,10 @@ fn wanted_at(levels: &[WalkLevel], count: u64, at: u64) -> u64
     if count == 0 {
         return 0;
     }
-    levels[count as usize - 1].end.saturating_sub(at).min(WINDOW)
+    levels[count as usize - 1]
+        .end
+        .saturating_sub(at)
+        .min(WINDOW)
 }
 
 /// The top level of a file of this length, in each place.
