@@ -134,6 +134,64 @@ class Calls(unittest.TestCase):
         rows = codec.stss(table_box("stss", 0, 0, 1_000_000, *range(1, 1_000_001))).rows
         self.assertEqual(rows, array.array("I", range(1, 1_000_001)))
 
+    def test_strings(self):
+        def boxed(name, content):
+            return struct.pack(">I4s", 8 + len(content), name.encode()) + content
+
+        def both(name, box, **fields):
+            found = getattr(codec, name)(box)
+            self.assertEqual({**found._asdict(), **fields}, found._asdict())
+            self.assertEqual(getattr(codec, f"write_{name}")(found), box)
+            return found
+
+        both("ftyp", boxed("ftyp", b"iso6\x81\x82\x83\x84isomavc1"), major_brand=0x69736F36, minor_version=0x81828384,
+             compatible_brands=[0x69736F6D, 0x61766331])
+        hdlr = boxed("hdlr", b"\x85\x86\x87\x88\0\0\0\0vide" + bytes(12) + "Vid\u00e9o".encode() + b"\0")
+        named = both("hdlr", hdlr, version=0x85, flags=0x868788, handler_type=0x76696465, name="Vid\u00e9o")
+        with self.assertRaises(codec.Mp4Error):
+            codec.write_hdlr(named._replace(flags=1 << 24))
+        self.assertEqual(codec.data(boxed("data", b"\0\0\0\x0D\0\0\0\0\xFF\xD8")), (13, b"\xFF\xD8"))
+        url = boxed("url ", b"\x85\x86\x87\x88a/b\0")
+        found = both("dref", boxed("dref", b"\x95\x96\x97\x98\0\0\0\1" + url), version=0x95, flags=0x969798)
+        self.assertEqual(found.url, codec.url(url))
+        self.assertEqual((found.url.flags, found.url.version, found.url.location), (0x868788, 0x85, "a/b"))
+        self.assertEqual(codec.dinf(boxed("dinf", codec.write_dref(found))), found)
+        both("dref", boxed("dref", b"\x95\x96\x97\x98\0\0\0\0"), url=None)
+        numbers = struct.pack(">4I", 0x81828384, 0x91929394, 0xA1A2A3A4, 0xB1B2B3B4)
+        emsg = boxed("emsg", b"\0\x86\x87\x88urn:x\0v1\0" + numbers + b"\1\xFF")
+        both("emsg", emsg, version=0, timescale=0x81828384, presentation_time_delta=0x91929394, presentation_time=0,
+             event_duration=0xA1A2A3A4, id=0xB1B2B3B4, scheme_id_uri="urn:x", value="v1", message_data=b"\1\xFF")
+
+    def test_sample_entries(self):
+        def boxed(name, content):
+            return struct.pack(">I4s", 8 + len(content), name.encode()) + content
+
+        def entry(inside):
+            box = boxed("stsd", b"\x71\x72\x73\x74\0\0\0\1" + inside)
+            found = codec.stsd(box)
+            self.assertEqual((found.version, found.flags, codec.write_stsd(found)), (0x71, 0x727374, box))
+            return found.entry
+
+        visual = bytes(6) + b"\x81\x82" + bytes(16) + b"\x83\x84\x85\x86" + bytes(48) + b"\xFF\xFF"
+        avcc = boxed("avcC", b"\x81\x64\x92\x1F\xFE\xE2\0\3\x67\x64\x1F\0\1\x41\1\0\2\x68\xEE")
+        avc1 = boxed("avc1", visual + avcc)
+        found = entry(avc1)
+        self.assertEqual((found, found.avcc), (codec.avc1(avc1), codec.avcc(avcc)))
+        self.assertEqual(found.avcc.sequence_parameter_sets, [b"\x67\x64\x1F", b"\x41"])
+        self.assertEqual(found.avcc.picture_parameter_sets, [b"\x68\xEE"])
+        self.assertEqual((found.visual.width, found.visual.height), (0x8384, 0x8586))
+        hev1 = boxed("hev1", visual + b"\0\0\0\x09hvcC\xB7")
+        self.assertEqual(entry(hev1), codec.hev1(hev1))
+        sound = bytes(6) + b"\x81\x82" + bytes(8) + b"\x83\x84\x85\x86" + bytes(4) + b"\x91\x92\x93\x94"
+        mp4a = boxed("mp4a", sound)
+        self.assertEqual(entry(mp4a), codec.mp4a(mp4a))
+        self.assertIsNone(codec.mp4a(mp4a).esds)
+        tx3g = boxed("tx3g", bytes(6) + bytes(range(0x81, 0x81 + 32)))
+        self.assertEqual(entry(tx3g), codec.tx3g(tx3g))
+        self.assertEqual(codec.tx3g(tx3g).style_record, bytes(range(0x95, 0xA1)))
+        empty = boxed("stsd", b"\x71\x72\x73\x74\0\0\0\0")
+        self.assertEqual((codec.stsd(empty).entry, codec.write_stsd(codec.stsd(empty))), (None, empty))
+
 
 if __name__ == "__main__":
     unittest.main()

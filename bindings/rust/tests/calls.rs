@@ -195,3 +195,104 @@ fn written_tables() {
     assert_eq!(write_trun(&trun(&bytes).unwrap()), Ok(bytes));
     assert_eq!(write_stss(&Table { version: 0, flags: 0, rows: vec![] }), Ok(table_box("stss", 0, 0, &[0])));
 }
+
+#[test]
+fn brands_and_handlers() {
+    let box_of = boxed("ftyp", b"iso6\x81\x82\x83\x84isomavc1");
+    let expected = Ftyp {
+        major_brand: u32::from_be_bytes(*b"iso6"),
+        minor_version: 0x81828384,
+        compatible_brands: [*b"isom", *b"avc1"].map(u32::from_be_bytes).to_vec(),
+    };
+    assert_eq!((ftyp(&box_of), write_ftyp(&expected)), (Ok(expected), Ok(box_of)));
+    let box_of = boxed("hdlr", b"\x85\x86\x87\x88\0\0\0\0vide\0\0\0\0\0\0\0\0\0\0\0\0Vid\xC3\xA9o\0");
+    let handler_type = u32::from_be_bytes(*b"vide");
+    let expected = Hdlr { version: 0x85, flags: 0x868788, handler_type, name: "Vid\u{e9}o".into() };
+    assert_eq!((hdlr(&box_of), write_hdlr(&expected)), (Ok(expected.clone()), Ok(box_of)));
+    assert_eq!(write_hdlr(&Hdlr { flags: 1 << 24, ..expected }), Err(Error::InvalidData));
+    let box_of = boxed("data", b"\0\0\0\x0D\0\0\0\0\xFF\xD8");
+    assert_eq!(data(&box_of), Ok(Data { data_type: 13, value: vec![0xFF, 0xD8] }));
+}
+
+#[test]
+fn references() {
+    let location = boxed("url ", b"\x85\x86\x87\x88a/b\0");
+    let entry = Url { version: 0x85, flags: 0x868788, location: "a/b".into() };
+    assert_eq!(url(&location), Ok(entry.clone()));
+    let box_of = boxed("dref", &[&b"\x95\x96\x97\x98\0\0\0\x01"[..], &location].concat());
+    let expected = Dref { version: 0x95, flags: 0x969798, url: Some(entry) };
+    assert_eq!(dinf(&boxed("dinf", &box_of)), Ok(expected.clone()));
+    assert_eq!((dref(&box_of), write_dref(&expected)), (Ok(expected.clone()), Ok(box_of)));
+    let box_of = boxed("dref", b"\x95\x96\x97\x98\0\0\0\0");
+    let expected = Dref { url: None, ..expected };
+    assert_eq!((dref(&box_of), write_dref(&expected)), (Ok(expected), Ok(box_of)));
+    assert_eq!(dinf(&boxed("dinf", b"")), Err(Error::BoxNotFound));
+}
+
+#[test]
+fn event_messages() {
+    let numbers = b"\x81\x82\x83\x84\x91\x92\x93\x94\xA1\xA2\xA3\xA4\xB1\xB2\xB3\xB4";
+    let box_of = boxed("emsg", &[&b"\0\x86\x87\x88urn:x\0v1\0"[..], numbers, &[1, 0xFF]].concat());
+    let expected = Emsg {
+        version: 0,
+        flags: 0x868788,
+        timescale: 0x81828384,
+        presentation_time: 0,
+        presentation_time_delta: 0x91929394,
+        event_duration: 0xA1A2A3A4,
+        id: 0xB1B2B3B4,
+        scheme_id_uri: "urn:x".into(),
+        value: "v1".into(),
+        message_data: vec![1, 0xFF],
+    };
+    assert_eq!((emsg(&box_of), write_emsg(&expected)), (Ok(expected.clone()), Ok(box_of)));
+    assert_eq!(write_emsg(&Emsg { value: "a\0b".into(), ..expected }), Err(Error::InvalidData));
+}
+
+#[test]
+fn sample_entries() {
+    let mut fields = vec![0; 78];
+    fields[6..8].copy_from_slice(&[0x81, 0x82]);
+    fields[24..28].copy_from_slice(&[0x83, 0x84, 0x85, 0x86]);
+    fields[76..78].copy_from_slice(&[0xFF, 0xFF]);
+    let visual = Visual { data_reference_index: 0x8182, width: 0x8384, height: 0x8586, ..Visual::default() };
+    let sets = boxed("avcC", b"\x81\x64\x92\x1F\xFE\xE2\0\x03\x67\x64\x1F\0\x01\x41\x01\0\x02\x68\xEE");
+    let configuration = Avcc {
+        configuration_version: 0x81,
+        avc_profile_indication: 0x64,
+        profile_compatibility: 0x92,
+        avc_level_indication: 0x1F,
+        length_size_minus_one: 2,
+        sequence_parameter_sets: vec![vec![0x67, 0x64, 0x1F], vec![0x41]],
+        picture_parameter_sets: vec![vec![0x68, 0xEE]],
+    };
+    assert_eq!(avcc(&sets), Ok(configuration.clone()));
+    let video = boxed("avc1", &[&fields[..], &sets].concat());
+    let entry = Avc1 { visual, avcc: configuration };
+    assert_eq!(avc1(&video), Ok(entry.clone()));
+    let other = boxed("hev1", &[&fields[..], b"\0\0\0\x09hvcC\xB7"].concat());
+    let hevc = Hev1 { visual, hvcc: Hvcc { configuration_version: 0xB7 } };
+    assert_eq!(hev1(&other), Ok(hevc));
+    let sound_fields = b"\0\0\0\0\0\0\x81\x82\0\0\0\0\0\0\0\0\x83\x84\x85\x86\0\0\0\0\x91\x92\x93\x94";
+    let sound = boxed("mp4a", sound_fields);
+    let plain = Mp4a {
+        data_reference_index: 0x8182,
+        channelcount: 0x8384,
+        samplesize: 0x8586,
+        samplerate: 0x91929394,
+        esds: None,
+    };
+    assert_eq!(mp4a(&sound), Ok(plain.clone()));
+    for (inside, entry) in [
+        (video, Some(Entry::Avc1(entry))),
+        (other, Some(Entry::Hev1(hevc))),
+        (sound, Some(Entry::Mp4a(plain))),
+    ] {
+        let box_of = boxed("stsd", &[&b"\x71\x72\x73\x74\0\0\0\x01"[..], &inside].concat());
+        let expected = Stsd { version: 0x71, flags: 0x727374, entry };
+        assert_eq!((stsd(&box_of), write_stsd(&expected)), (Ok(expected), Ok(box_of)));
+    }
+    let box_of = boxed("stsd", b"\x71\x72\x73\x74\0\0\0\0");
+    let expected = Stsd { version: 0x71, flags: 0x727374, entry: None };
+    assert_eq!((stsd(&box_of), write_stsd(&expected)), (Ok(expected), Ok(box_of)));
+}

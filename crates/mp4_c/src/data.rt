@@ -15,8 +15,8 @@ use std::alloc::Global;
 /// Hands over the bytes of a metadata value, and tells their type (QuickTime's metadata, "Data atom").
 #[unsafe(no_mangle)]
 pub extern "C" fn mp4_data(alloc: Global, bytes: &[u8], value: &mut [u8], fields: &mut Data) -> u32
-    ensures { HandsReading (front_box reads_data codes.DATA bytes.now) (λ v. v.data_bytes) told_data result value.old value.new
-        fields.old fields.new }
+    ensures { HandsReading (front_box reads_data codes.DATA bytes.now) (λ v. v.data_bytes) told_data
+        result value.old value.new fields.old fields.new }
 {
     hand_box::<DataBox, u8, Data>(alloc, codes::DATA, bytes, value, fields)
 }

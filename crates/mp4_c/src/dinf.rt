@@ -20,8 +20,8 @@ pub extern "C" fn mp4_dinf(
     location: &mut [u8],
     fields: &mut Dref,
 ) -> u32
-    ensures { HandsReading (front_box reads_dinf codes.DINF bytes.now) (λ v. location_dref v.dref) told_dinf result location.old location.new
-        fields.old fields.new }
+    ensures { HandsReading (front_box reads_dinf codes.DINF bytes.now) (λ v. location_dref v.dref) told_dinf
+        result location.old location.new fields.old fields.new }
 {
     hand_box::<DinfBox, u8, Dref>(alloc, codes::DINF, bytes, location, fields)
 }

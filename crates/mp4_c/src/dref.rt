@@ -21,8 +21,8 @@ pub extern "C" fn mp4_dref(
     location: &mut [u8],
     fields: &mut Dref,
 ) -> u32
-    ensures { HandsReading (front_box reads_dref codes.DREF bytes.now) location_dref told_dref result location.old location.new
-        fields.old fields.new }
+    ensures { HandsReading (front_box reads_dref codes.DREF bytes.now) location_dref told_dref
+        result location.old location.new fields.old fields.new }
 {
     hand_box::<DrefBox, u8, Dref>(alloc, codes::DREF, bytes, location, fields)
 }
@@ -36,7 +36,8 @@ pub extern "C" fn mp4_write_dref(
     bytes: &mut [u8],
     length: &mut usize,
 ) -> u32
-    ensures { PutsOrRefuses format_dref (dref_of fields.now location.now) result bytes.old bytes.new length.old length.new }
+    ensures { PutsOrRefuses format_dref (dref_of fields.now location.now)
+        result bytes.old bytes.new length.old length.new }
 {
     write_dref(alloc, fields, location, bytes, length)
 }

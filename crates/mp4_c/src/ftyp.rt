@@ -22,8 +22,8 @@ pub extern "C" fn mp4_ftyp(
     brands: &mut [u32],
     fields: &mut Ftyp,
 ) -> u32
-    ensures { HandsReading (front_box reads_ftyp codes.FTYP bytes.now) brands_ftyp told_ftyp result brands.old brands.new
-        fields.old fields.new }
+    ensures { HandsReading (front_box reads_ftyp codes.FTYP bytes.now) brands_ftyp told_ftyp
+        result brands.old brands.new fields.old fields.new }
 {
     hand_box::<FtypBox, u32, Ftyp>(alloc, codes::FTYP, bytes, brands, fields)
 }
@@ -37,7 +37,8 @@ pub extern "C" fn mp4_write_ftyp(
     bytes: &mut [u8],
     length: &mut usize,
 ) -> u32
-    ensures { PutsOrRefuses format_ftyp (ftyp_of fields.now brands.now) result bytes.old bytes.new length.old length.new }
+    ensures { PutsOrRefuses format_ftyp (ftyp_of fields.now brands.now)
+        result bytes.old bytes.new length.old length.new }
 {
     put_made::<FtypBox, Ftyp, u32>(alloc, fields, brands, bytes, length)
 }

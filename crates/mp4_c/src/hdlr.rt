@@ -16,8 +16,8 @@ use std::alloc::Global;
 /// Hands over the name of a handler, and tells its type (ISO/IEC 14496-12, 8.4.3).
 #[unsafe(no_mangle)]
 pub extern "C" fn mp4_hdlr(alloc: Global, bytes: &[u8], name: &mut [u8], fields: &mut Hdlr) -> u32
-    ensures { HandsReading (front_box reads_hdlr codes.HDLR bytes.now) (λ v. v.name) told_hdlr result name.old name.new
-        fields.old fields.new }
+    ensures { HandsReading (front_box reads_hdlr codes.HDLR bytes.now) (λ v. v.name) told_hdlr
+        result name.old name.new fields.old fields.new }
 {
     hand_box::<HdlrBox, u8, Hdlr>(alloc, codes::HDLR, bytes, name, fields)
 }
@@ -31,7 +31,8 @@ pub extern "C" fn mp4_write_hdlr(
     bytes: &mut [u8],
     length: &mut usize,
 ) -> u32
-    ensures { PutsOrRefuses format_hdlr (hdlr_of fields.now name.now) result bytes.old bytes.new length.old length.new }
+    ensures { PutsOrRefuses format_hdlr (hdlr_of fields.now name.now)
+        result bytes.old bytes.new length.old length.new }
 {
     write_hdlr(alloc, fields, name, bytes, length)
 }

@@ -15,8 +15,8 @@ use std::alloc::Global;
 /// Hands over a location (ISO/IEC 14496-12, 8.7.2).
 #[unsafe(no_mangle)]
 pub extern "C" fn mp4_url(alloc: Global, bytes: &[u8], location: &mut [u8], fields: &mut Url) -> u32
-    ensures { HandsReading (front_box reads_url codes.URL bytes.now) (λ v. v.location) told_url result location.old location.new
-        fields.old fields.new }
+    ensures { HandsReading (front_box reads_url codes.URL bytes.now) (λ v. v.location) told_url
+        result location.old location.new fields.old fields.new }
 {
     hand_box::<UrlBox, u8, Url>(alloc, codes::URL, bytes, location, fields)
 }

@@ -13,7 +13,8 @@ use Rattle.mp4_c_base.specs.declared.status.TheConstants.{INVALID_DATA}
 use Rattle.mp4_entries.specs.declared.avc1.Avc1Box.{Avc1Box}
 use Rattle.mp4_entries.specs.declared.nal_unit.NalUnit.{NalUnit}
 use Rattle.mp4_frame.specs.declared.codes.TheConstants as codes
-use Rattle.mp4_sound.specs.Stsd.{Entry, Avc1, Hev1, Vp09, Mp4a, Tx3g, entry_stsd, format_stsd, with_entry, without_entry}
+use Rattle.mp4_sound.specs.Stsd.{Entry, Avc1, Hev1, Vp09, Mp4a, Tx3g}
+use Rattle.mp4_sound.specs.Stsd.{entry_stsd, format_stsd, with_entry, without_entry}
 use Rattle.mp4_sound.specs.declared.stsd.StsdBox.{StsdBox}
 
 -- no entry

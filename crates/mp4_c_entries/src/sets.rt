@@ -79,12 +79,7 @@ fn fill_lengths(out: &mut [usize], first: &[NalUnit], second: &[NalUnit])
 
 /// Fills the fronts of two arrays with the lengths and the bytes of the sets of two lists, or leaves them as they were
 /// if one is too short. Returns the status.
-fn fill_sets(
-    first: &[NalUnit],
-    second: &[NalUnit],
-    lengths: &mut [usize],
-    bytes: &mut [u8],
-) -> u32
+fn fill_sets(first: &[NalUnit], second: &[NalUnit], lengths: &mut [usize], bytes: &mut [u8]) -> u32
     ensures { FillsSets result (first.now ++ second.now) (record { lengths = lengths.old; bytes = bytes.old })
         (record { lengths = lengths.new; bytes = bytes.new }) }
 {
@@ -125,8 +120,8 @@ pub fn tell_sets<B: ReadBox + HasSets<S> + Drop, S: Copy>(
     set_bytes: &mut [u8],
     fields: &mut S,
 ) -> u32
-    ensures { HandsParts (front_box B.reads code bytes.now) B.Told.told (λ v. B.sequence v ++ B.picture v) FillsSets result
-        fields.old fields.new (record { lengths = lengths.old; bytes = set_bytes.old })
+    ensures { HandsParts (front_box B.reads code bytes.now) B.Told.told (λ v. B.sequence v ++ B.picture v) FillsSets
+        result fields.old fields.new (record { lengths = lengths.old; bytes = set_bytes.old })
         (record { lengths = lengths.new; bytes = set_bytes.new }) }
 {
     match front_box::<B>(alloc, code, bytes) {

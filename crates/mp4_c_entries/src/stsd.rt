@@ -2,7 +2,8 @@
 
 ghost use Rattle.std.specs.Prelude.{◌≡◌, IsTrue, IfOk, IfErr};
 ghost use Rattle.mp4_frame.specs.declared.error.Error.TheVariants.{OutOfMemory};
-ghost use Rattle.mp4_c_entries.specs.Stsd.{PutsStsd, is_stsd, no_entry, picture_stsd, sequence_stsd, stsd_of, told_stsd};
+ghost use Rattle.mp4_c_entries.specs.Stsd.{PutsStsd, is_stsd, no_entry, stsd_of, told_stsd};
+ghost use Rattle.mp4_c_entries.specs.Stsd.{picture_stsd, sequence_stsd};
 
 use crate::avc1::{Avc1, avc1_of};
 use crate::avcc::fit_sets;
