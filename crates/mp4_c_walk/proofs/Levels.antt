@@ -1,15 +1,11 @@
 -- The levels of an array, as one of its places changes.
-use Rattle.std.proofs.Common.{◌≡◌, ℕ, zero, suc, ◌+◌, ◌-◌, ◌<◌, ◌≤◌, List, ◌∷◌, length, None, Some, refl, sym, ap, subst}
+use Rattle.std.proofs.Common.{◌≡◌, ℕ, zero, suc, ◌+◌, ◌-◌, ◌<◌, ◌≤◌, List, ◌∷◌, length, refl, sym, ap}
 use Rattle.std.proofs.Common.{◌∙◌, arith}
 use Rattle.std.specs.Prelude.{slice_set}
-use Rattle.std.specs.declared.option.Option.{Option}
 use Rattle.std.proofs.lemmas.List.{get_or-set_other, get_or-set_same, length-set}
 use Rattle.mp4_c_walk.specs.Levels.{level_of, level_at, levels_at, no_level}
 use Rattle.mp4_c_walk.specs.declared.level.WalkLevel.{WalkLevel}
-use Rattle.mp4_tree.specs.Tree.{GoesDeeper}
-use Rattle.mp4_tree.specs.Walk.{with_inner}
 use Rattle.mp4_tree.specs.declared.level.Level.{Level}
-use Rattle.mp4_tree.specs.declared.step.Step.{Step}
 
 -- the levels before a place that changes are as they were
 pub levels_kept : (rows : List WalkLevel) (i : ℕ) (row : WalkLevel) (n : ℕ) → n ≤ i

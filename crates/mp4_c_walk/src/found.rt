@@ -25,8 +25,8 @@ pub struct FoundBox {
     pub parent: u32,
     /// The handler of the media that it is in; 0 before that.
     pub handler: u32,
-    /// What was found: 0 a box that holds no boxes that are known, 1 one that holds boxes, 2 one that holds boxes too deep,
-    /// 3 a box that is cut, 4 a header with a size that is too small, 5 fewer bytes than a header.
+    /// What was found: 0 a box that holds no boxes that are known, 1 one that holds boxes, 2 one that holds boxes too
+    /// deep, 3 a box that is cut, 4 a header with a size that is too small, 5 fewer bytes than a header.
     pub what: u8,
     /// Whether the file is a QuickTime movie, as an `ftyp` before it says: 1, else 0.
     pub is_quicktime: u8,

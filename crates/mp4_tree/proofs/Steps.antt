@@ -13,7 +13,8 @@ use Rattle.mp4_frame.specs.declared.head.Head.{Head}
 use Rattle.mp4_frame.proofs.Heads.{head_room}
 use Rattle.mp4_tree.specs.Kinds.{if_room, fields_of, level_after}
 use Rattle.mp4_tree.specs.Place.{code_at, place_of_head, place_of, place}
-use Rattle.mp4_tree.specs.Tree.{GoesDeeper, GoesOn, StaysIn, step_by, step_of_code, step_of_what, step_of, step, boxes_after}
+use Rattle.mp4_tree.specs.Tree.{GoesDeeper}
+use Rattle.mp4_tree.specs.Tree.{GoesOn, StaysIn, step_by, step_of_code, step_of_what, step_of, step, boxes_after}
 use Rattle.mp4_tree.specs.Tree.{boxes_by, boxes_at_most, boxes_in}
 use Rattle.mp4_tree.specs.Words.{words}
 use Rattle.mp4_tree.specs.declared.level.Level.{Level}
