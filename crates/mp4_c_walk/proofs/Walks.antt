@@ -3,7 +3,7 @@ use Rattle.std.proofs.Common.{◌≡◌, ℕ, zero, suc, ◌+◌, ◌-◌, ◌<�
 use Rattle.std.proofs.Common.{◌∙◌, arith, append-nil, inl, inr}
 use Rattle.std.specs.Prelude.{◌⊎◌}
 use Rattle.mp4_c_walk.specs.Levels.{level_at, levels_at}
-use Rattle.mp4_c_walk.specs.Walks.{wanted_at}
+use Rattle.mp4_c_walk.specs.Walks.{Begins, wanted_at}
 use Rattle.mp4_c_walk.specs.declared.level.WalkLevel.{WalkLevel}
 use Rattle.mp4_tree.specs.Tree.{GoesOn, boxes_in, boxes_of, step, top}
 use Rattle.mp4_tree.specs.Walk.{Closes, Nested, unwound, with_inner}
@@ -30,6 +30,12 @@ none_wanted rows (suc d) at wanted is none (inr more) B =
     let here : at < (level_at rows d).end = subst (λ (n : ℕ). at < (level_at rows n).end) less more in
     absurd (omega (arith, is, none, here))
 
+-- the innermost level goes on
+pub inside_of : (rows : List WalkLevel) (count at : ℕ) (l : Level) → 0 < count
+    → (count ≡ 0) ⊎ (at < (level_at rows (count - 1)).end) → l ≡ level_at rows (count - 1) → at < l.end
+inside_of rows count at l more (inl none) is = absurd (omega (arith, more, none))
+inside_of rows count at l more (inr h) is = subst (λ (x : Level). at < x.end) (sym is) h
+
 -- after a step, with the levels that are over closed: they are nested
 pub nested_next : (n at : ℕ) (l : Level) (ls old were are : List Level) (s : Step) → old ≡ l ∷ ls → Nested n at old
     → GoesOn l at s → were ≡ with_inner s.inner (s.level ∷ ls) → Closes s.at were are → Nested n s.at are
@@ -51,12 +57,33 @@ box_next B n at l ls old were are s first nested goes step_is long inside is clo
     ∙ ap (λ (xs : List TreeBox). s.found ∷ xs) (ap (unwound B s.at) (sym is) ∙ closes.same B n after)
 
 -- at the front of a file all its boxes are left
-pub all_left : (B : List ℕ) (n : ℕ) (rows : List WalkLevel) → level_at rows 0 ≡ top n → length B ≡ n
+all_left : (B : List ℕ) (n : ℕ) (rows : List WalkLevel) → level_at rows 0 ≡ top n → length B ≡ n
     → unwound B 0 (levels_at rows 1) ≡ boxes_of B
 all_left B n rows is long =
     append-nil (boxes_in B (level_at rows 0) 0)
-    ∙ ap (λ (l : Level). boxes_in B l 0) (is ∙ ap top (sym long))
+    ∙ ap (λ (l : Level). boxes_in B l 0) (is ∙ ap (λ (k : ℕ). top k) (sym long))
+
+pub begins : (n wanted : ℕ) (rows : List WalkLevel) → level_at rows 0 ≡ top n → 0 < n → wanted ≡ wanted_at rows 1 0
+    → Begins n (record { position = 0; wanted = wanted; length = n; count = 1; levels = rows })
+begins n wanted rows is more wanted_is =
+    let end : (level_at rows 0).end ≡ n = ap (λ (l : Level). l.end) is in
+    record {
+      walk = record {
+        few = omega arith;
+        nested = (omega arith, omega (arith, end));
+        on = inr (omega (arith, end, more));
+        wanted = wanted_is;
+      };
+      long = refl;
+      all = λ B long. all_left B n rows is long;
+    }
 
 -- also of an empty one, which is in no level
-pub empty_left : (B : List ℕ) → length B ≡ 0 → unwound B 0 (levels_at [] 0) ≡ boxes_of B
-empty_left B none = sym (boxes_none B (top (length B)) 0 (omega (arith, none)))
+pub begins_empty : (n : ℕ) (rows : List WalkLevel) → n ≡ 0
+    → Begins n (record { position = 0; wanted = 0; length = n; count = 0; levels = rows })
+begins_empty n rows none =
+    record {
+      walk = record { few = omega arith; nested = omega arith; on = inl refl; wanted = refl };
+      long = refl;
+      all = λ B long. sym (boxes_none B (top (length B)) 0 (omega (arith, long, none)));
+    }

@@ -64,12 +64,21 @@ pub fn begin(length: u64, walk: &mut FileWalk)
     ensures { Begins length walk.new }
 {
     let levels = top_levels(length);
-    let count = u64::from(length > 0);
+    if length == 0 {
+        *walk = FileWalk {
+            position: 0,
+            wanted: 0,
+            length,
+            count: 0,
+            levels,
+        };
+        return;
+    }
     *walk = FileWalk {
         position: 0,
-        wanted: wanted_at(&levels, count, 0),
+        wanted: wanted_at(&levels, 1, 0),
         length,
-        count,
+        count: 1,
         levels,
     };
 }
