@@ -151,11 +151,12 @@ pub(crate) fn sets_of(alloc: Global, lengths: &[usize], bytes: &[u8]) -> Result<
     ensures memory { IfErr result (λ e. e ≡ OutOfMemory) }
 {
     let mut sets = Entries::new(alloc);
+    let mut left = lengths;
     let mut rest = bytes;
-    for long in lengths {
-        let set = NalUnit::from_bytes(alloc, &rest[..*long])?;
-        sets.push(set)?;
+    'cut: while let Some((long, later)) = left.split_first() {
+        sets.push(NalUnit::from_bytes(alloc, &rest[..*long])?)?;
         rest = &rest[*long..];
+        left = later;
     }
     Ok(sets)
 }

@@ -48,7 +48,23 @@ impl Vp09 {
     pub(crate) fn none() -> Vp09
         ensures { result ≡ no_vp09 }
     {
-        Vp09::default()
+        Vp09 {
+            vpcc: Vpcc::none(),
+            flags: 0,
+            start_code: 0,
+            data_reference_index: 0,
+            width: 0,
+            height: 0,
+            horizresolution: [0, 0],
+            vertresolution: [0, 0],
+            frame_count: 0,
+            depth: 0,
+            end_code: 0,
+            version: 0,
+            reserved0: [0; 16],
+            reserved1: [0; 4],
+            compressorname: [0; 32],
+        }
     }
 }
 

@@ -1,7 +1,7 @@
 //! The configuration of a VP9 decoder.
 
 ghost use Rattle.std.specs.Prelude.{◌≡◌};
-ghost use Rattle.mp4_c_entries.specs.Vpcc.{told_vpcc, vpcc_of};
+ghost use Rattle.mp4_c_entries.specs.Vpcc.{no_vpcc, told_vpcc, vpcc_of};
 
 use mp4_c_base::told::Told;
 use mp4_entries::VpccBox;
@@ -32,6 +32,15 @@ pub struct Vpcc {
     pub transfer_characteristics: u8,
     /// The matrix coefficients.
     pub matrix_coefficients: u8,
+}
+
+impl Vpcc {
+    /// Zeros, in place of an entry of another type.
+    pub(crate) fn none() -> Vpcc
+        ensures { result ≡ no_vpcc }
+    {
+        Vpcc::default()
+    }
 }
 
 impl Told<Vpcc> for VpccBox {
