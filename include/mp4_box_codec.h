@@ -354,7 +354,7 @@ struct mp4_emsg_box {
 struct mp4_avcc_box {
     size_t sequence_count; /* of sequence sets: at most 31 are written */
     size_t picture_count;  /* of picture sets: at most 255 are written */
-    size_t set_bytes;      /* of all sets together; it isn't looked at where the box is written */
+    size_t set_bytes;      /* of all sets together */
     uint8_t configuration_version;
     uint8_t avc_profile_indication;
     uint8_t profile_compatibility;
@@ -462,17 +462,43 @@ struct mp4_mp4a_box {
     uint8_t has_esds;              /* 0 or 1; each number but 0 is written as 1 */
 };
 
-/* stsd (8.5.2): the first sample entry of a track, if it is of one of these five types. Its fields are in the member with its
-   name, and the others are zeros. */
-struct mp4_stsd_box {
-    struct mp4_avc1_box avc1;
-    struct mp4_hev1_box hev1;
-    struct mp4_vp09_box vp09;
-    struct mp4_mp4a_box mp4a;
-    struct mp4_tx3g_box tx3g;
-    uint32_t flags;
-    uint32_t entry;    /* its code: 0x61766331, 0x68657631, 0x76703039, 0x6D703461 or 0x74783367; 0 without one */
-    uint8_t version;
+/* A box that a walk comes to. Positions and lengths are in bytes. */
+struct mp4_box {
+    uint64_t position;      /* in the file, where its header begins */
+    uint64_t length;        /* with its header, as the header says it; where no box can be read, what is left there */
+    uint64_t header_length; /* 8 or 16; where no box can be read, what is left there */
+    uint64_t children;      /* the position of the first box in it, if the walk goes into it; else 0 */
+    uint64_t depth;         /* how many boxes it is inside of */
+    uint32_t code;          /* the four characters of its code; 0 where the file ends before them */
+    uint32_t parent;        /* the code of the box around it; 0 at the top level */
+    uint32_t handler;       /* that of the media that it is in, as an hdlr before it says; else 0 */
+    uint8_t what;           /* MP4_LEAF and so on */
+    uint8_t is_quicktime;   /* 1 if an ftyp before it has the major brand 'qt  ', else 0 */
+};
+
+/* What is where a box should begin. */
+enum {
+    MP4_LEAF = 0,     /* a whole box that holds no boxes that are known */
+    MP4_PARENT = 1,   /* a whole box that holds boxes: they come next */
+    MP4_TOO_DEEP = 2, /* a whole box that holds boxes, inside of 32 others: they don't come */
+    MP4_CUT = 3,      /* a box that ends after what is around it: if it holds boxes, those that are there come next */
+    MP4_SMALL = 4,    /* a size that is smaller than its header */
+    MP4_NO_HEADER = 5 /* fewer bytes than a header has */
+};
+
+/* How far a walk is. A caller reads `position` and `wanted`, and changes nothing. */
+struct mp4_walk_level {
+    uint64_t end;
+    uint32_t parent;
+    uint32_t handler;
+    uint8_t is_quicktime;
+};
+struct mp4_walk {
+    uint64_t position; /* in the file, of the bytes that are wanted: that of the next box */
+    uint64_t wanted;   /* how many: 28 at most, and 0 after the last box */
+    uint64_t length;   /* of the file */
+    uint64_t count;
+    struct mp4_walk_level levels[33];
 };
 
 /* Reads all boxes from the front of the bytes to their end, and returns the status of the first fault, or MP4_OK. Boxes of
@@ -494,6 +520,21 @@ uint32_t mp4_normal(const uint8_t *bytes, size_t length, uint8_t *out, size_t pl
    and MP4_INVALID_DATA if the text is no path. */
 #define MP4_TEXT(text) ((const uint8_t *)("" text)), (sizeof(text) - 1)
 uint32_t mp4_find(const uint8_t *bytes, size_t length, const uint8_t *path, size_t path_length, struct mp4_place *place);
+
+/* A walk over the boxes of a file that isn't in memory: each box, and after it those in it, as far as the codec knows which
+   boxes hold boxes. It takes no memory and reads nothing itself: the caller reads the bytes that it wants.
+
+       mp4_walk_begin(length, &walk);
+       while (walk.wanted > 0) {
+           (read walk.wanted bytes at walk.position of the file)
+           status = mp4_walk_next(bytes, walk.wanted, &walk, &box);
+       }
+
+   mp4_walk_next returns MP4_END_OF_INPUT if there are fewer bytes than are wanted, and MP4_BOX_NOT_FOUND after the last box.
+   It doesn't check a walk: the caller ensures that it is as mp4_walk_begin or mp4_walk_next left it. The boxes are those of the
+   file if the bytes are those of the file, also where they are wrong: then `what` says so. */
+uint32_t mp4_walk_begin(uint64_t length, struct mp4_walk *walk);
+uint32_t mp4_walk_next(const uint8_t *bytes, size_t length, struct mp4_walk *walk, struct mp4_box *box);
 
 /* The samples of the first track with this track_ID (8.3.2), over the bytes of a file: by the tables stsz, stsc, stco or
    co64, stts, ctts and stss of its stbl. Also MP4_NO_TRACK; MP4_BOX_NOT_FOUND if the file has no moov, or the track lacks
@@ -579,13 +620,11 @@ uint32_t mp4_esds(const uint8_t *bytes, size_t length, struct mp4_esds_box *box)
 uint32_t mp4_mp4a(const uint8_t *bytes, size_t length, struct mp4_mp4a_box *box);
 
 /* The lengths of the parameter sets go into `lengths`, and their bytes into `set_bytes`. MP4_NO_ROOM if one of the two is too
-   short; then nothing is written to either. Of an stsd only an avc1 has parameter sets. */
+   short; then nothing is written to either. */
 uint32_t mp4_avcc(const uint8_t *bytes, size_t length, size_t *lengths, size_t places, uint8_t *set_bytes, size_t byte_places,
                   struct mp4_avcc_box *box);
 uint32_t mp4_avc1(const uint8_t *bytes, size_t length, size_t *lengths, size_t places, uint8_t *set_bytes, size_t byte_places,
                   struct mp4_avc1_box *box);
-uint32_t mp4_stsd(const uint8_t *bytes, size_t length, size_t *lengths, size_t places, uint8_t *set_bytes, size_t byte_places,
-                  struct mp4_stsd_box *box);
 
 /*
  * Writing. The box is put at the front of `bytes`, header included, and `length` is the number of its bytes. MP4_NO_ROOM if
@@ -629,11 +668,9 @@ uint32_t mp4_write_elst(const struct mp4_table *table, const struct mp4_elst_row
 uint32_t mp4_write_trun(const struct mp4_trun_table *table, const struct mp4_trun_row *rows, size_t count, uint8_t *bytes,
                         size_t places, size_t *length);
 
-/* The boxes of strings, references and sample entries have as many elements as the number after each array says; the counts in
-   `box` are not looked at, but for those of an avcC. Also MP4_INVALID_DATA if a name, a location, a scheme or a value isn't
-   UTF-8, or a scheme or a value has a zero byte; if the version of an emsg isn't 0 or 1; and if `entry` of an stsd is none of
-   the five codes and not 0, a number of its entry doesn't fit, the lengths of an avc1 are not sequence_count and picture_count
-   together, or its set_bytes not as many as they add up to. */
+/* The boxes of strings and references have as many elements as the number after each array says; the counts in `box` are not
+   looked at. Also MP4_INVALID_DATA if a name, a location, a scheme or a value isn't UTF-8, or a scheme or a value has a zero
+   byte; and if the version of an emsg isn't 0 or 1. */
 
 uint32_t mp4_write_ftyp(const struct mp4_ftyp_box *box, const uint32_t *brands, size_t count, uint8_t *bytes, size_t places,
                         size_t *length);
@@ -644,8 +681,6 @@ uint32_t mp4_write_dref(const struct mp4_dref_box *box, const uint8_t *location,
 uint32_t mp4_write_emsg(const struct mp4_emsg_box *box, const uint8_t *scheme_id_uri, size_t scheme_id_uri_count,
                         const uint8_t *value, size_t value_count, const uint8_t *message_data, size_t message_data_count,
                         uint8_t *bytes, size_t places, size_t *length);
-uint32_t mp4_write_stsd(const struct mp4_stsd_box *box, const size_t *lengths, size_t count, const uint8_t *set_bytes,
-                        size_t byte_count, uint8_t *bytes, size_t places, size_t *length);
 
 /*
  * An array without elements may be NULL: calls go through the functions below, which pass a pointer to memory in its place.
@@ -705,6 +740,9 @@ MP4_INLINE uint32_t mp4_call_samples(const uint8_t *bytes, size_t length, uint32
 MP4_INLINE uint32_t mp4_call_status_text(uint32_t status, uint8_t *text, size_t places, size_t *count) {
     return mp4_status_text(status, (uint8_t *)mp4_to(text), places, count);
 }
+MP4_INLINE uint32_t mp4_call_walk_next(const uint8_t *bytes, size_t length, struct mp4_walk *walk, struct mp4_box *box) {
+    return mp4_walk_next(MP4_BYTES(bytes), length, walk, box);
+}
 MP4_READS_ROWS(list, struct mp4_span, size_t)
 MP4_READS_ROWS(normal, uint8_t, size_t)
 MP4_ROWS(stsz, uint32_t, struct mp4_stsz_table)
@@ -748,7 +786,6 @@ MP4_READS_BOX(esds)
 MP4_READS_BOX(mp4a)
 MP4_READS_SETS(avcc)
 MP4_READS_SETS(avc1)
-MP4_READS_SETS(stsd)
 MP4_INLINE uint32_t mp4_call_emsg(const uint8_t *bytes, size_t length, uint8_t *scheme_id_uri, size_t scheme_id_uri_places,
                                   uint8_t *value, size_t value_places, uint8_t *message_data, size_t message_data_places,
                                   struct mp4_emsg_box *box) {
@@ -762,12 +799,6 @@ MP4_INLINE uint32_t mp4_call_write_emsg(const struct mp4_emsg_box *box, const ui
     return mp4_write_emsg(box, MP4_BYTES(scheme_id_uri), scheme_id_uri_count, MP4_BYTES(value), value_count,
                           MP4_BYTES(message_data), message_data_count, (uint8_t *)mp4_to(bytes), places, length);
 }
-MP4_INLINE uint32_t mp4_call_write_stsd(const struct mp4_stsd_box *box, const size_t *lengths, size_t count,
-                                        const uint8_t *set_bytes, size_t byte_count, uint8_t *bytes, size_t places,
-                                        size_t *length) {
-    return mp4_write_stsd(box, (const size_t *)mp4_from(lengths), count, MP4_BYTES(set_bytes), byte_count,
-                          (uint8_t *)mp4_to(bytes), places, length);
-}
 
 #undef MP4_READS_BOX
 #undef MP4_READS_SETS
@@ -778,6 +809,7 @@ MP4_INLINE uint32_t mp4_call_write_stsd(const struct mp4_stsd_box *box, const si
 #undef MP4_ROWS
 
 #define mp4_check mp4_call_check
+#define mp4_walk_next mp4_call_walk_next
 #define mp4_ftyp mp4_call_ftyp
 #define mp4_write_ftyp mp4_call_write_ftyp
 #define mp4_hdlr mp4_call_hdlr
@@ -798,8 +830,6 @@ MP4_INLINE uint32_t mp4_call_write_stsd(const struct mp4_stsd_box *box, const si
 #define mp4_mp4a mp4_call_mp4a
 #define mp4_avcc mp4_call_avcc
 #define mp4_avc1 mp4_call_avc1
-#define mp4_stsd mp4_call_stsd
-#define mp4_write_stsd mp4_call_write_stsd
 #define mp4_find mp4_call_find
 #define mp4_samples mp4_call_samples
 #define mp4_status_text mp4_call_status_text

@@ -193,6 +193,21 @@ static void try_empty_tables(void) {
     EXPECT(table.count == 0 && table.flags == 0 && table.version == 0 && number == 5);
 }
 
+/* NULL for no bytes and for no places. */
+static void try_null(void) {
+    struct mp4_table table = {9, 9, 9};
+    size_t count = 7;
+    subject = "NULL";
+    EXPECT(mp4_check(NULL, 0) == MP4_OK);
+    EXPECT(mp4_list(NULL, 0, NULL, 0, &count) == MP4_OK && count == 0);
+    EXPECT(mp4_list((const uint8_t *)STREAM, sizeof STREAM - 1, NULL, 0, &count) == MP4_NO_ROOM && count == 3);
+    EXPECT(mp4_normal((const uint8_t *)STREAM, sizeof STREAM - 1, NULL, 0, &count) == MP4_NO_ROOM);
+    EXPECT(count == sizeof NORMAL - 1);
+    EXPECT(mp4_stco(NULL, 0, NULL, 0, &table) == MP4_END_OF_INPUT && table.count == 9);
+    EXPECT(mp4_stco((const uint8_t *)"\0\0\0\x14stco\0\0\0\0\0\0\0\1\0\0\0\1", 20, NULL, 0, &table) == MP4_NO_ROOM);
+    EXPECT(table.count == 1 && held == 0);
+}
+
 /* mp4_check, over bytes that end with their page. */
 static uint32_t check(const char *text, size_t length) {
     uint8_t *bytes = at_page_end(length);
@@ -295,6 +310,7 @@ int main(void) {
     for (i = 0; i < sizeof TABLES / sizeof TABLES[0]; i++)
         try_table(&TABLES[i].subject, TABLES[i].count_at);
     try_empty_tables();
+    try_null();
     try_large();
     printf("c_caller: %ld calls of 12 functions, %ld checks\n", calls, checks);
     return 0;

@@ -95,6 +95,8 @@ static void try_samples(void) {
     EXPECT(mp4_samples(s.bytes, LENGTH, 7, rows, 3, &count) == MP4_OK && count == 3);
     EXPECT(rows[0].sync == 1 && rows[1].sync == 0 && rows[2].sync == 1);
     EXPECT(memcmp(s.bytes + rows[2].offset, "hijkl", rows[2].size) == 0);
+    EXPECT(mp4_samples(s.bytes, LENGTH, 7, NULL, 0, &count) == MP4_NO_ROOM && count == 3);
+    EXPECT(mp4_samples(NULL, 0, 7, NULL, 0, &count) == MP4_BOX_NOT_FOUND && count == 3);
     EXPECT(with_byte(&s, 316, 9) == MP4_INVALID_DATA);
     EXPECT(with_byte(&s, 301, 'x') == MP4_BOX_NOT_FOUND);
     EXPECT(with_byte(&s, 348, 2) == MP4_FIRST_CHUNK_DISAGREES);
@@ -159,6 +161,8 @@ static void try_find(void) {
     EXPECT(call_with(&s, s.bytes, LENGTH, 0) == MP4_INVALID_DATA);
     EXPECT(mp4_find((const uint8_t *)"\0\0\0\1free\0\0\0\0\0\0\0\x10", 16, MP4_TEXT("free"), &place) == MP4_OK);
     EXPECT(place.position == 0 && place.length == 16 && place.header_length == 16 && place.code == 0x66726565);
+    EXPECT(mp4_find(NULL, 0, MP4_TEXT("free"), &place) == MP4_BOX_NOT_FOUND);
+    EXPECT(mp4_find(NULL, 0, NULL, 0, &place) == MP4_INVALID_DATA && place.length == 16);
 }
 
 /* What the library says of itself. */
@@ -185,6 +189,7 @@ static void try_about(void) {
     }
     EXPECT(mp4_status_text(MP4_OUT_OF_MEMORY, text, 13, &count) == MP4_OK);
     EXPECT(count == 13 && memcmp(text, "out of memory", 13) == 0);
+    EXPECT(mp4_status_text(MP4_OUT_OF_MEMORY, NULL, 0, &count) == MP4_NO_ROOM && count == 13);
     text[0] = 7;
     EXPECT(mp4_status_text(MP4_OUT_OF_MEMORY, text, 12, &count) == MP4_NO_ROOM && count == 13 && text[0] == 7);
 }

@@ -16,4 +16,3 @@ pub mod Vp09
 pub mod Tx3g
 pub mod Esds
 pub mod Mp4a
-pub mod Stsd

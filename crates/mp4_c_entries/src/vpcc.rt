@@ -1,7 +1,7 @@
 //! The configuration of a VP9 decoder.
 
 ghost use Rattle.std.specs.Prelude.{◌≡◌};
-ghost use Rattle.mp4_c_entries.specs.Vpcc.{told_vpcc, vpcc_of};
+ghost use Rattle.mp4_c_entries.specs.Vpcc.{told_vpcc};
 
 use mp4_c_base::told::Told;
 use mp4_entries::VpccBox;
@@ -51,24 +51,5 @@ impl Told<Vpcc> for VpccBox {
             transfer_characteristics: self.transfer_characteristics,
             matrix_coefficients: self.matrix_coefficients,
         }
-    }
-}
-
-/// The box with these fields.
-pub(crate) fn vpcc_of(fields: &Vpcc) -> VpccBox
-    ensures { result ≡ vpcc_of fields.now }
-{
-    VpccBox {
-        version: fields.version,
-        flags: fields.flags,
-        profile: fields.profile,
-        level: fields.level,
-        bit_depth: fields.bit_depth,
-        chroma_subsampling: fields.chroma_subsampling,
-        video_full_range_flag: fields.video_full_range_flag > 0,
-        color_primaries: fields.color_primaries,
-        transfer_characteristics: fields.transfer_characteristics,
-        matrix_coefficients: fields.matrix_coefficients,
-        codec_initialization_data_size: fields.codec_initialization_data_size,
     }
 }

@@ -4,7 +4,7 @@ use Rattle.std.proofs.Common.{◌≡◌, ℕ, zero, suc, ⊎_elim, ◌+◌, ◌-
 use Rattle.std.proofs.Common.{take, None, Some, Result, Ok, Err, refl, sym, ap, ◌∙◌, arith, subst}
 use Rattle.std.specs.Prelude.{IfSome, nat_lt, nat_le, ◌==◌, ◌&&◌}
 use Rattle.std.specs.declared.option.Option.{Option}
-use Rattle.std.proofs.lemmas.Bool.{cond_both, le-leb, ltb-false, cases_lt}
+use Rattle.std.proofs.lemmas.Bool.{cond_both, le-leb, ltb-true, ltb-false, cases_lt}
 use Rattle.std.proofs.lemmas.Grind.{common_steps}
 use Rattle.std.proofs.lemmas.List.{length-take-le}
 use Rattle.mp4_frame.specs.Heads.{head}
@@ -13,6 +13,7 @@ use Rattle.mp4_frame.specs.declared.head.Head.{Head}
 use Rattle.mp4_frame.proofs.Heads.{head_room}
 use Rattle.mp4_tree.specs.Kinds.{if_room, fields_of, level_after}
 use Rattle.mp4_tree.specs.Place.{code_at, place_of_head, place_of, place}
+use Rattle.mp4_tree.specs.Tree.{GoesDeeper}
 use Rattle.mp4_tree.specs.Tree.{GoesOn, StaysIn, step_by, step_of_code, step_of_what, step_of, step, boxes_after}
 use Rattle.mp4_tree.specs.Tree.{boxes_by, boxes_at_most, boxes_in}
 use Rattle.mp4_tree.specs.Words.{words}
@@ -65,6 +66,34 @@ pub place_goes_on : (l : Level) (o : ℕ) (p : Place) (w : Words) (s : Step) →
     → p.content ≤ p.end → p.end ≤ l.end → GoesOn l o s
 place_goes_on l o p w s e after inside within =
     subst (GoesOn l o) (sym e) (step_of_what_goes_on l o p w (after, inside, within) p.what)
+
+-- a step stays at the depth of its level, or leads one deeper
+abbrev IsDeep : Level → Step → Type 0
+IsDeep l s = (s.level.depth ≡ l.depth) × GoesDeeper l s.inner
+
+step_by_deep : (l : Level) (o : ℕ) (p : Place) (code : ℕ) (after : Level) → after.depth ≡ l.depth → (r : Option ℕ)
+    → IsDeep l (step_by l o p code after r)
+step_by_deep l o p code after is None = (is, tt)
+step_by_deep l o p code after is (Some n) =
+    cond_both (nat_lt l.depth constants.DEEPEST) _ _ (IsDeep l) (λ e. (is, (refl, ltb-true _ _ e))) (λ _. (is, tt))
+
+step_of_code_deep : (l : Level) (o : ℕ) (p : Place) (w : Words) (code : Option ℕ) → IsDeep l (step_of_code l o p w code)
+step_of_code_deep l o p w None = (refl, tt)
+step_of_code_deep l o p w (Some code) =
+    let room = p.end - p.content in
+    step_by_deep l o p code (level_after l code w) refl (if_room room (fields_of l.setting code w room))
+
+step_of_what_deep : (l : Level) (o : ℕ) (p : Place) (w : Words) (why : What) → IsDeep l (step_of_what l o p w why)
+step_of_what_deep l o p w what.Small = (refl, tt)
+step_of_what_deep l o p w what.NoHeader = (refl, tt)
+step_of_what_deep l o p w what.Leaf = step_of_code_deep l o p w p.code
+step_of_what_deep l o p w what.Parent = step_of_code_deep l o p w p.code
+step_of_what_deep l o p w what.TooDeep = step_of_code_deep l o p w p.code
+step_of_what_deep l o p w what.Cut = step_of_code_deep l o p w p.code
+
+pub place_goes_deep : (l : Level) (o : ℕ) (p : Place) (w : Words) (s : Step) → s ≡ step_of l o p w
+    → (s.level.depth ≡ l.depth) × GoesDeeper l s.inner
+place_goes_deep l o p w s e = subst (IsDeep l) (sym e) (step_of_what_deep l o p w p.what)
 
 place_of_head_after : (l : Level) (o : ℕ) (h : Head) → o < l.end → o ≤ h.start → h.start + 8 ≤ l.end
     → IsAfter l o (place_of_head l o h)

@@ -45,6 +45,14 @@ closes_more at were l m around rest closes over pop =
           ∙ ap (λ (ls : List Level). unwound B at ls) opened;
     }
 
+-- the innermost of the levels that are left is closed too
+pub closes_over : (at : ℕ) (were : List Level) (l : Level) (ls : List Level) → Closes at were (l ∷ ls) → l.end ≤ at
+    → Closes at were ls
+closes_over at were l ls closes over = record {
+  nested = λ n h. nested_over n at l ls (closes.nested n h) over;
+  same = λ B n h. closes.same B n h ∙ unwound_over B at l ls (closes.nested n h).0 over;
+}
+
 -- nothing is left where the last level is over
 pub none_left : (B : List ℕ) (at : ℕ) (l : Level) (around : List Level) → l.end ≤ at → around ≡ []
     → unwound B at (l ∷ reverse around) ≡ []

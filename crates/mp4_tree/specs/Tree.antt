@@ -98,6 +98,11 @@ StaysIn end at (Some inner) = (at ≤ inner.end) × (inner.end ≤ end)
 abbrev pub GoesOn : Level → ℕ → Step → Type 0
 GoesOn l o s = (o < s.at) × StaysIn l.end s.at s.inner × (s.level.end ≡ l.end)
 
+-- a step leads into a level that is inside of one box more, and not too deep
+abbrev pub GoesDeeper : Level → Option Level → Type 0
+GoesDeeper l None = Unit {0}
+GoesDeeper l (Some inner) = (inner.depth ≡ l.depth + 1) × (l.depth < constants.DEEPEST)
+
 -- after a step: the boxes of the level inside, if it is gone into, and the rest of the level
 abbrev pub boxes_after : (Level → ℕ → List TreeBox) → Level → ℕ → Option Level → List TreeBox
 boxes_after boxes l o None = boxes l o

@@ -21,10 +21,12 @@ mod words;
 
 pub use content::{read_box, read_content};
 pub use finding::find;
+pub use level::Level;
 pub use name::name_of;
 pub use path::{BoxPath, PathError, PathPart};
 pub use setting::Setting;
 pub use source::Source;
+pub use step::{Step, step_in};
 pub use tree::Tree;
 pub use tree_box::{TreeBox, What};
 

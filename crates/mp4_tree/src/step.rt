@@ -1,8 +1,9 @@
 //! One step of the walk: what is at a position, and where the walk goes on.
 
-ghost use Rattle.std.specs.Prelude.{◌≡◌, ◌+◌, ◌<◌, ◌≤◌, length, IfOk, IfSome};
+ghost use Rattle.std.specs.Prelude.{◌≡◌, ℕ, ◌+◌, ◌-◌, ◌<◌, ◌≤◌, List, length, min, IfOk, IfSome};
+ghost use Rattle.mp4_tree.specs.Source.{IsWindow};
 ghost use Rattle.mp4_tree.specs.Tree.{four_cc, found_at, if_whole, level_in, passed, entered, step_of_box, step_of};
-ghost use Rattle.mp4_tree.specs.Tree.{step, GoesOn};
+ghost use Rattle.mp4_tree.specs.Tree.{step, GoesDeeper, GoesOn};
 
 use crate::kinds::{fields_before, level_after};
 use crate::level::Level;
@@ -144,6 +145,19 @@ pub fn step_of(level: Level, at: u64, place: Place, words: Words) -> Step
 /// How many bytes of a box are looked at: a header of 16, and 12 of its content.
 const WINDOW: usize = 28;
 
+/// The step at a position of a level, of which the window has the first bytes: 28 of them, or as many as there are.
+pub fn step_in(window: &[u8], level: Level, at: u64) -> Step
+    requires inside { at < level.end }
+    requires long { length window.now ≡ min (level.end - at) 28 }
+    ensures step { (B : List ℕ) → IsWindow B at window.now → level.end ≤ length B → result ≡ step B level at }
+    ensures on { GoesOn level at result }
+    ensures deep { (result.level.depth ≡ level.depth) × GoesDeeper level result.inner }
+{
+    let place = place_at(window, level, at);
+    let words = words_at(window, place.content - at, place.end - at);
+    step_of(level, at, place, words)
+}
+
 /// The step at a position of a level.
 pub fn step_at<S: Source>(pages: &mut Pages<S>, level: Level, at: u64) -> io::Result<Step>
     requires within { level.end ≤ pages.old.length }
@@ -155,8 +169,5 @@ pub fn step_at<S: Source>(pages: &mut Pages<S>, level: Level, at: u64) -> io::Re
     let mut buffer = [0; WINDOW];
     let long = (level.end - at).min(WINDOW as u64) as usize;
     pages.window(at, &mut buffer[..long])?;
-    let window = &buffer[..long];
-    let place = place_at(window, level, at);
-    let words = words_at(window, place.content - at, place.end - at);
-    Ok(step_of(level, at, place, words))
+    Ok(step_in(&buffer[..long], level, at))
 }
