@@ -1,9 +1,10 @@
 -- The boxes of a track of a file, and the values that they hold.
 use Rattle.std.specs.Prelude.{◌≡◌, ℕ, ◌+◌, ◌<◌, ◌==◌, Bool, true, false, List, [], ◌∷◌, map, Result, Ok, Err, None}
-use Rattle.std.specs.Prelude.{Some}
+use Rattle.std.specs.Prelude.{Some, if◌then◌else◌}
+use Rattle.std.specs.Borrow.{Bor}
 use Rattle.std.specs.declared.option.Option.{Option}
 use Rattle.mp4_frame.specs.FourCC.{four_cc_of}
-use Rattle.mp4_frame.specs.Reading.{Fault, Reading, Refuses}
+use Rattle.mp4_frame.specs.Reading.{Fault, End, Reading, Refuses, faults}
 use Rattle.mp4_frame.specs.declared.codes.TheConstants as codes
 use Rattle.mp4_frame.specs.declared.error.Error.{Error}
 use Rattle.mp4_frame.specs.declared.error.Error.TheVariants as refusals
@@ -23,6 +24,7 @@ use Rattle.mp4_track.specs.declared.track.Track.{Track}
 use Rattle.mp4_track.specs.declared.trak.Trak.{Trak}
 use Rattle.mp4_tree.specs.Paths.{at_path}
 use Rattle.mp4_tree.specs.Source.{piece}
+use Rattle.mp4_tree.specs.Tops.{is_whole}
 use Rattle.mp4_tree.specs.Tree.{boxes_of}
 use Rattle.mp4_tree.specs.declared.path.PathPart.{PathPart}
 use Rattle.mp4_tree.specs.declared.tree_box.TreeBox.{TreeBox}
@@ -35,9 +37,10 @@ track_box B k path = at_path 0 (first codes.MOOV ∷ nth codes.TRAK k ∷ map fi
 abbrev pub table_box : List ℕ → ℕ → ℕ → Option TreeBox
 table_box B k code = track_box B k (codes.MDIA ∷ codes.MINF ∷ codes.STBL ∷ code ∷ [])
 
--- what is read of a box: its own bytes are read, and nothing after them
+-- what is read of a box: its own bytes are read, and nothing after them. One that is not whole has a fault
 abbrev pub reading_of : {A : Type 0} → (List ℕ → ℕ → ℕ → Reading A) → ℕ → List ℕ → TreeBox → Reading A
-reading_of reads code B x = front_box reads code (piece B x.position x.length)
+reading_of reads code B x =
+    if is_whole x.what then front_box reads code (piece B x.position x.length) else faults End
 
 -- the box is there, and holds this value
 abbrev pub Holds : {A : Type 0} → (List ℕ → ℕ → ℕ → Reading A) → ℕ → List ℕ → Option TreeBox → A → Type 0
@@ -108,11 +111,15 @@ Tells B id (errors.NoTrack which) = (which ≡ id) × ((k : ℕ) → has_id B id
 Tells B id _ = Unit {0}
 
 -- the same of boxes in a level, as they are read one after the other: the boxes after the header of the first box of a
--- code
+-- code, and none if there is no such box
 abbrev pub IsInside : ℕ → ℕ → List TreeBox → List TreeBox → Type 0
 IsInside d code level boxes =
     (part : PathPart) (parts : List PathPart)
     → in_level d (first code ∷ part ∷ parts) level ≡ in_level (d + 1) (part ∷ parts) boxes
+
+abbrev pub boxes_in : Option (Bor (List TreeBox)) → List TreeBox
+boxes_in None = []
+boxes_in (Some b) = b.now
 
 -- what the boxes of a track hold, whose boxes these are
 pub record IsTrackIn (B : List ℕ) (number : ℕ) (boxes : List TreeBox) (t : Track) : Type 0 where

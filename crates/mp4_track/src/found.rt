@@ -5,10 +5,9 @@ ghost use Rattle.mp4_track.specs.Levels.{in_level};
 ghost use Rattle.mp4_track.specs.Paths.{first};
 ghost use Rattle.mp4_track.specs.Tracks.{Holds, IsOfBox, MayHold};
 
-use crate::boxes::bytes_of;
 use crate::error::TrackError;
-use crate::front::front_box;
 use crate::level::first_in;
+use crate::own::own_box;
 use mp4_frame::{Error, FourCC, ReadBox};
 use mp4_tree::TreeBox;
 use std::alloc::Global;
@@ -41,7 +40,7 @@ pub fn optional<B: ReadBox>(
     let Some(place) = first_in(level, depth, FourCC::from(code)) else {
         return Ok(None);
     };
-    match front_box::<B>(alloc, code, bytes_of(file, &place.found)) {
+    match own_box::<B>(alloc, code, file, &place.found) {
         Ok(value) => Ok(Some(value)),
         Err(error) => Err(error_of(code, &place.found, error)),
     }

@@ -3,6 +3,7 @@
 ghost use Rattle.std.specs.Prelude.{◌≡◌, ◌<◌, IfSome, length};
 ghost use Rattle.mp4_tree.specs.Paths.{is_code};
 ghost use Rattle.mp4_track.specs.Levels.{first_in, found_of};
+ghost use Rattle.mp4_track.specs.Tracks.{boxes_in, IsInside};
 
 use mp4_frame::FourCC;
 use mp4_tree::TreeBox;
@@ -42,4 +43,15 @@ pub fn first_in<'a>(boxes: &'a [TreeBox], depth: u64, code: FourCC) -> Option<Pl
         }
     }
     None
+}
+
+/// The boxes after the header of the first box of a code in a level, of which the first are in it; none if there is no
+/// such box.
+pub fn inside<'a>(level: &'a [TreeBox], depth: u64, code: u32) -> Option<&'a [TreeBox]>
+    ensures { IsInside depth code level.now (boxes_in result) }
+{
+    match first_in(level, depth, FourCC::from(code)) {
+        Some(place) => Some(place.after),
+        None => None,
+    }
 }

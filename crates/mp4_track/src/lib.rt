@@ -6,6 +6,7 @@ mod error;
 mod found;
 mod front;
 mod level;
+mod own;
 mod sample_boxes;
 mod table;
 mod track;
@@ -13,5 +14,6 @@ mod trak;
 
 pub use error::TrackError;
 pub use front::front_box;
+pub use level::{Place, first_in, inside};
 pub use sample_boxes::{ChunkBox, SampleBoxes};
 pub use track::{Track, track_of};

@@ -6,7 +6,7 @@ ghost use Rattle.mp4_track.specs.Tracks.{IsInside, IsOfBox, IsTrack, IsTrackIn, 
 use crate::boxes::all_boxes;
 use crate::error::TrackError;
 use crate::found::required;
-use crate::level::first_in;
+use crate::level::{first_in, inside};
 use crate::sample_boxes::SampleBoxes;
 use crate::table::sample_boxes;
 use crate::trak::{Trak, trak_of};
@@ -29,13 +29,13 @@ pub struct Track {
     pub tables: SampleBoxes,
 }
 
-/// The boxes after the header of the first box of a code in a level.
-fn inside<'a>(level: &'a [TreeBox], depth: u64, code: u32) -> Result<&'a [TreeBox], TrackError>
+/// The boxes after the header of the first box of a code in a level, which has to be there.
+fn needed<'a>(level: &'a [TreeBox], depth: u64, code: u32) -> Result<&'a [TreeBox], TrackError>
     ensures value { IfOk result (λ boxes. IsInside depth code level.now boxes.now) }
     ensures error { IfErr result IsOfBox }
 {
-    match first_in(level, depth, FourCC::from(code)) {
-        Some(place) => Ok(place.after),
+    match inside(level, depth, code) {
+        Some(boxes) => Ok(boxes),
         None => Err(TrackError::Missing {
             code: FourCC::from(code),
         }),
@@ -47,11 +47,11 @@ fn read_trak(alloc: Global, file: &[u8], trak: Trak<'_>) -> Result<Track, TrackE
     ensures value { IfOk result (IsTrackIn file.now trak.entry.number trak.entry.boxes.now) }
     ensures error { IfErr result IsOfBox }
 {
-    let mdia = inside(trak.boxes, 2, codes::MDIA)?;
+    let mdia = needed(trak.boxes, 2, codes::MDIA)?;
     let media = required(alloc, file, mdia, 3, codes::MDHD)?;
     let handler = required(alloc, file, mdia, 3, codes::HDLR)?;
-    let minf = inside(mdia, 3, codes::MINF)?;
-    let stbl = inside(minf, 4, codes::STBL)?;
+    let minf = needed(mdia, 3, codes::MINF)?;
+    let stbl = needed(minf, 4, codes::STBL)?;
     Ok(Track {
         number: trak.number,
         media,

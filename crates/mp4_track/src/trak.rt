@@ -6,10 +6,9 @@ ghost use Rattle.mp4_track.specs.Levels.{in_level};
 ghost use Rattle.mp4_track.specs.Paths.{first};
 ghost use Rattle.mp4_track.specs.Tracks.{is_header, is_memory, IsOfBox, IsTrakOf};
 
-use crate::boxes::bytes_of;
 use crate::error::TrackError;
-use crate::front::front_box;
 use crate::level::first_in;
+use crate::own::own_box;
 use mp4_flat::TkhdBox;
 use mp4_frame::{Error, FourCC, codes};
 use mp4_tree::TreeBox;
@@ -36,7 +35,7 @@ fn is_header(alloc: Global, file: &[u8], found: TreeBox, id: u32) -> Result<bool
     ensures value { IfOk result (λ is. is ≡ is_header file.now id (Some found)) }
     ensures error { IfErr result IsOfBox }
 {
-    match front_box::<TkhdBox>(alloc, codes::TKHD, bytes_of(file, &found)) {
+    match own_box::<TkhdBox>(alloc, codes::TKHD, file, &found) {
         Ok(header) => Ok(header.track_id == id),
         Err(error) => {
             if is_memory(&error) {

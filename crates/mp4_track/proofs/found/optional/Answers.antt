@@ -1,9 +1,7 @@
-use Rattle.std.proofs.Common.{◌≡◌, ℕ, List, [], None, Some, subst, sym, ap, ◌∙◌}
-use Rattle.std.specs.Prelude.{Ok}
+use Rattle.std.proofs.Common.{[], None, Some, subst, sym, ap, ◌∙◌}
 use Rattle.std.specs.declared.option.Option.{Option}
 use Rattle.mp4_frame.specs.declared.four_cc.FourCC.{FourCC}
 use Rattle.mp4_tree.specs.declared.tree_box.TreeBox.{TreeBox}
-use Rattle.mp4_track.specs.Front.{front_box}
 use Rattle.mp4_track.specs.Levels.{first_in}
 use Rattle.mp4_track.specs.Tracks.{MayHold}
 use Rattle.mp4_track.proofs.Traks.{in_first}
@@ -22,5 +20,4 @@ returns-in-Ok-clause-value g c =
     let is = c.in-Some.ensures.first ∙ ap (λ (code : FourCC). first_in c.args.depth code level) c.from.ensures in
     subst (λ (x : Option TreeBox). MayHold g.B.ReadBox.reads c.args.code c.args.file.now x (Some c.in-Ok.value))
     (sym (in_first c.args.depth c.args.code [] level _ is))
-    (subst (λ (bytes : List ℕ). (front_box g.B.ReadBox.reads c.args.code bytes).outcome ≡ Ok c.in-Ok.value)
-    c.bytes_of.ensures c.in-Ok.ensures)
+    c.in-Ok.ensures
