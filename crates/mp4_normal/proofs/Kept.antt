@@ -50,4 +50,4 @@ module _ (S : List ℕ) (at end : ℕ) (order : at + 8 ≤ end) (within : end �
       sized ∙ back front rest (omega (arith, many, whole, order, within, short)) in
       let made = made_more c.fresh.items S c.growth at (length c.fresh.items) c.gone end 0 0 0 c.list.items before.order
       (omega (arith, order)) in
-      (v, read, can, sym made ∙ ap (λ (l : List ℕ). made_of c S at ++ l) (sym is))
+      (v, read, (can, sym made ∙ ap (λ (l : List ℕ). made_of c S at ++ l) (sym is)))

@@ -11,10 +11,10 @@ pub returns-then-kept-clause-made : goal.returns-then-kept-clause-made
 returns-then-kept-clause-made g c =
     let f = c.args.frame.now in
     let S = c.args.stream.now in
-    let short = c.is_kept.ensures.short c.if-kept.true in
+    let short = c.is_kept-kept.ensures.short c.if-kept.true in
     let read = normal_form_is_read g.B.Mp4Box.format g.B.StreamBox.known g.B.StreamBox.named_reading
     g.met.B.WriteBox.write_laws g.met.B.StreamBox.own_name g.met.B.StreamBox.read_back (part S f.begin f.end)
-    (c.is_kept.ensures.bytes c.if-kept.true) in
+    (c.is_kept-kept.ensures.bytes c.if-kept.true) in
     let order : f.begin + 8 ≤ f.end = omega (arith, c.requires.header, c.requires.order) in
     let start : start_in f ≡ f.begin = omega (arith, short) in
     let long : start_in f + size_in f ≡ f.end = omega (arith, short, c.requires.order) in
