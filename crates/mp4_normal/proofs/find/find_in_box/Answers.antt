@@ -21,7 +21,7 @@ returns-then-knows-clause-made c =
     let f = c.args.frame.now in
     let B = c.args.stream.now in
     subst (λ (n : BoxType). OneMade format_kept (reading_kept n B (start_in f) (size_in f))
-        (made_of c.args.changes.now B f.begin) (made_of c.find_in_typed.new.changes B f.end) c.find_in_typed.result)
+    (made_of c.args.changes.now B f.begin) (made_of c.find_in_typed.new.changes B f.end) c.find_in_typed.result)
     c.name-name.ensures
     (any_made c.name-name.result B (start_in f) (size_in f) _ _ c.find_in_typed.result
     (sym c.knows.ensures ∙ c.if-knows.true) c.find_in_typed.ensures.made)
@@ -32,7 +32,7 @@ returns-else-knows-clause-made c =
     let B = c.args.stream.now in
     let r = c.requires in
     subst (λ (n : BoxType). OneMade format_kept (reading_kept n B (start_in f) (size_in f))
-        (made_of c.args.changes.now B f.begin) (made_of c.find_in_other.new.changes B f.end) c.find_in_other.result)
+    (made_of c.args.changes.now B f.begin) (made_of c.find_in_other.new.changes B f.end) c.find_in_other.result)
     c.name-name.ensures
     (other_found (code_of c.name-name.result) (start_in f) (size_in f) B (omega (arith, r.header, r.order))
     (omega (arith, r.header, r.order, r.within)) c.name-name.result refl (sym c.knows.ensures ∙ c.if-knows.false)
