@@ -313,20 +313,11 @@ tables! {
     mp4_write_dref: u8, DrefBox;
 }
 
-/// Declares functions that read a box of fixed fields, and boxes with parameter sets.
+/// Declares functions that read a box of fixed fields.
 macro_rules! entries {
-    ($($name:ident: $fields:ty;)* with sets $($of_sets:ident: $with_sets:ty;)*) => {
+    ($($name:ident: $fields:ty;)*) => {
         extern "C" {
             $(pub fn $name(bytes: *const u8, length: usize, fields: *mut $fields) -> u32;)*
-            $(pub fn $of_sets(
-                bytes: *const u8,
-                length: usize,
-                lengths: *mut usize,
-                places: usize,
-                set_bytes: *mut u8,
-                byte_places: usize,
-                fields: *mut $with_sets,
-            ) -> u32;)*
         }
     };
 }
@@ -339,7 +330,26 @@ entries! {
     mp4_tx3g: Tx3g;
     mp4_esds: Esds;
     mp4_mp4a: Mp4aBox;
-    with sets
+}
+
+/// Declares functions that read a box with parameter sets.
+macro_rules! with_sets {
+    ($($name:ident: $fields:ty;)*) => {
+        extern "C" {
+            $(pub fn $name(
+                bytes: *const u8,
+                length: usize,
+                lengths: *mut usize,
+                places: usize,
+                set_bytes: *mut u8,
+                byte_places: usize,
+                fields: *mut $fields,
+            ) -> u32;)*
+        }
+    };
+}
+
+with_sets! {
     mp4_avcc: AvccBox;
     mp4_avc1: Avc1Box;
 }
