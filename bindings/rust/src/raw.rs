@@ -296,6 +296,17 @@ structs! {
         samplesize: u16,
         has_esds: u8,
     }
+    /// `struct mp4_stsd_box`
+    StsdBox {
+        avc1: Avc1Box,
+        hev1: Hev1,
+        vp09: Vp09,
+        mp4a: Mp4aBox,
+        tx3g: Tx3g,
+        flags: u32,
+        entry: u32,
+        version: u8,
+    }
 }
 
 fill! {
@@ -352,6 +363,7 @@ macro_rules! with_sets {
 with_sets! {
     mp4_avcc: AvccBox;
     mp4_avc1: Avc1Box;
+    mp4_stsd: StsdBox;
 }
 
 extern "C" {
@@ -374,6 +386,16 @@ extern "C" {
         value_count: usize,
         message_data: *const u8,
         message_data_count: usize,
+        bytes: *mut u8,
+        places: usize,
+        length: *mut usize,
+    ) -> u32;
+    pub fn mp4_write_stsd(
+        fields: *const StsdBox,
+        lengths: *const usize,
+        count: usize,
+        set_bytes: *const u8,
+        byte_count: usize,
         bytes: *mut u8,
         places: usize,
         length: *mut usize,
