@@ -354,7 +354,7 @@ struct mp4_emsg_box {
 struct mp4_avcc_box {
     size_t sequence_count; /* of sequence sets: at most 31 are written */
     size_t picture_count;  /* of picture sets: at most 255 are written */
-    size_t set_bytes;      /* of all sets together */
+    size_t set_bytes;      /* of all sets together; it isn't looked at where the box is written */
     uint8_t configuration_version;
     uint8_t avc_profile_indication;
     uint8_t profile_compatibility;
@@ -460,6 +460,19 @@ struct mp4_mp4a_box {
     uint16_t channelcount;
     uint16_t samplesize;           /* bits of a sample */
     uint8_t has_esds;              /* 0 or 1; each number but 0 is written as 1 */
+};
+
+/* stsd (8.5.2): the first sample entry of a track, if it is of one of these five types. Its fields are in the member with its
+   name, and the others are zeros. */
+struct mp4_stsd_box {
+    struct mp4_avc1_box avc1;
+    struct mp4_hev1_box hev1;
+    struct mp4_vp09_box vp09;
+    struct mp4_mp4a_box mp4a;
+    struct mp4_tx3g_box tx3g;
+    uint32_t flags;
+    uint32_t entry;    /* its code: 0x61766331, 0x68657631, 0x76703039, 0x6D703461 or 0x74783367; 0 without one */
+    uint8_t version;
 };
 
 /* A box that a walk comes to. Positions and lengths are in bytes. */
@@ -620,11 +633,13 @@ uint32_t mp4_esds(const uint8_t *bytes, size_t length, struct mp4_esds_box *box)
 uint32_t mp4_mp4a(const uint8_t *bytes, size_t length, struct mp4_mp4a_box *box);
 
 /* The lengths of the parameter sets go into `lengths`, and their bytes into `set_bytes`. MP4_NO_ROOM if one of the two is too
-   short; then nothing is written to either. */
+   short; then nothing is written to either. Of an stsd only an avc1 has parameter sets. */
 uint32_t mp4_avcc(const uint8_t *bytes, size_t length, size_t *lengths, size_t places, uint8_t *set_bytes, size_t byte_places,
                   struct mp4_avcc_box *box);
 uint32_t mp4_avc1(const uint8_t *bytes, size_t length, size_t *lengths, size_t places, uint8_t *set_bytes, size_t byte_places,
                   struct mp4_avc1_box *box);
+uint32_t mp4_stsd(const uint8_t *bytes, size_t length, size_t *lengths, size_t places, uint8_t *set_bytes, size_t byte_places,
+                  struct mp4_stsd_box *box);
 
 /*
  * Writing. The box is put at the front of `bytes`, header included, and `length` is the number of its bytes. MP4_NO_ROOM if
@@ -668,9 +683,11 @@ uint32_t mp4_write_elst(const struct mp4_table *table, const struct mp4_elst_row
 uint32_t mp4_write_trun(const struct mp4_trun_table *table, const struct mp4_trun_row *rows, size_t count, uint8_t *bytes,
                         size_t places, size_t *length);
 
-/* The boxes of strings and references have as many elements as the number after each array says; the counts in `box` are not
-   looked at. Also MP4_INVALID_DATA if a name, a location, a scheme or a value isn't UTF-8, or a scheme or a value has a zero
-   byte; and if the version of an emsg isn't 0 or 1. */
+/* The boxes of strings, references and sample entries have as many elements as the number after each array says; the counts in
+   `box` are not looked at, but for those of an avcC. Also MP4_INVALID_DATA if a name, a location, a scheme or a value isn't
+   UTF-8, or a scheme or a value has a zero byte; if the version of an emsg isn't 0 or 1; and if `entry` of an stsd is none of
+   the five codes and not 0, a number of its entry doesn't fit, the lengths of an avc1 are not sequence_count and picture_count
+   together, or its set_bytes not as many as they add up to. */
 
 uint32_t mp4_write_ftyp(const struct mp4_ftyp_box *box, const uint32_t *brands, size_t count, uint8_t *bytes, size_t places,
                         size_t *length);
@@ -681,6 +698,8 @@ uint32_t mp4_write_dref(const struct mp4_dref_box *box, const uint8_t *location,
 uint32_t mp4_write_emsg(const struct mp4_emsg_box *box, const uint8_t *scheme_id_uri, size_t scheme_id_uri_count,
                         const uint8_t *value, size_t value_count, const uint8_t *message_data, size_t message_data_count,
                         uint8_t *bytes, size_t places, size_t *length);
+uint32_t mp4_write_stsd(const struct mp4_stsd_box *box, const size_t *lengths, size_t count, const uint8_t *set_bytes,
+                        size_t byte_count, uint8_t *bytes, size_t places, size_t *length);
 
 /*
  * An array without elements may be NULL: calls go through the functions below, which pass a pointer to memory in its place.
@@ -786,6 +805,7 @@ MP4_READS_BOX(esds)
 MP4_READS_BOX(mp4a)
 MP4_READS_SETS(avcc)
 MP4_READS_SETS(avc1)
+MP4_READS_SETS(stsd)
 MP4_INLINE uint32_t mp4_call_emsg(const uint8_t *bytes, size_t length, uint8_t *scheme_id_uri, size_t scheme_id_uri_places,
                                   uint8_t *value, size_t value_places, uint8_t *message_data, size_t message_data_places,
                                   struct mp4_emsg_box *box) {
@@ -798,6 +818,12 @@ MP4_INLINE uint32_t mp4_call_write_emsg(const struct mp4_emsg_box *box, const ui
                                         size_t places, size_t *length) {
     return mp4_write_emsg(box, MP4_BYTES(scheme_id_uri), scheme_id_uri_count, MP4_BYTES(value), value_count,
                           MP4_BYTES(message_data), message_data_count, (uint8_t *)mp4_to(bytes), places, length);
+}
+MP4_INLINE uint32_t mp4_call_write_stsd(const struct mp4_stsd_box *box, const size_t *lengths, size_t count,
+                                        const uint8_t *set_bytes, size_t byte_count, uint8_t *bytes, size_t places,
+                                        size_t *length) {
+    return mp4_write_stsd(box, (const size_t *)mp4_from(lengths), count, MP4_BYTES(set_bytes), byte_count,
+                          (uint8_t *)mp4_to(bytes), places, length);
 }
 
 #undef MP4_READS_BOX
@@ -830,6 +856,8 @@ MP4_INLINE uint32_t mp4_call_write_emsg(const struct mp4_emsg_box *box, const ui
 #define mp4_mp4a mp4_call_mp4a
 #define mp4_avcc mp4_call_avcc
 #define mp4_avc1 mp4_call_avc1
+#define mp4_stsd mp4_call_stsd
+#define mp4_write_stsd mp4_call_write_stsd
 #define mp4_find mp4_call_find
 #define mp4_samples mp4_call_samples
 #define mp4_status_text mp4_call_status_text

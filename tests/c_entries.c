@@ -271,6 +271,7 @@ static const struct subject TOLD_BOXES[] = {
 
 #define AVCC_BYTES "\0\0\0\x1B" "avcC\x81\x64\x92\x1F\xFE\xE2\0\3\x67\x64\x1F\0\1\x41\1\0\2\x68\xEE"
 #define AVC1_BYTES "\0\0\0\x71" "avc1" VISUAL_BYTES AVCC_BYTES
+#define STSD_HEAD(size, entry) "\0\0\0" size "stsd\x71\x72\x73\x74\0\0\0\1" entry
 #define SET_BYTES "\x67\x64\x1F\x41\x68\xEE"
 
 static const size_t SET_LENGTHS[] = {3, 1, 2};
@@ -302,17 +303,80 @@ static int is_avc1(const void *told) {
     return is_avcc(&box->avcc) && is_visual(&box->visual);
 }
 
+/* What an stsd is told of entries that it doesn't hold. */
+static int are_zeros(const void *memory, size_t size) {
+    const uint8_t *bytes = memory;
+    while (size > 0)
+        if (bytes[--size] != 0)
+            return 0;
+    return 1;
+}
+
+static int has_stsd_fields(const struct mp4_stsd_box *box, uint32_t entry) {
+    return box->version == 0x71 && box->flags == 0x727374 && box->entry == entry;
+}
+
+#define NONE_OF(member) (box->member.data_reference_index == 0 && box->member.width == 0)
+
+static int is_stsd_avc1(const void *told) {
+    const struct mp4_stsd_box *box = told;
+    return has_stsd_fields(box, 0x61766331) && is_avc1(&box->avc1) && NONE_OF(hev1.visual) && NONE_OF(vp09) &&
+           are_zeros(box->vp09.compressorname, 32) && box->mp4a.data_reference_index == 0 && box->mp4a.has_esds == 0 &&
+           box->tx3g.data_reference_index == 0;
+}
+
+static int is_stsd_hev1(const void *told) {
+    const struct mp4_stsd_box *box = told;
+    return has_stsd_fields(box, 0x68657631) && is_hev1(&box->hev1) && NONE_OF(avc1.visual) && NONE_OF(vp09);
+}
+
+static int is_stsd_vp09(const void *told) {
+    const struct mp4_stsd_box *box = told;
+    return has_stsd_fields(box, 0x76703039) && is_vp09(&box->vp09) && NONE_OF(avc1.visual) && NONE_OF(hev1.visual);
+}
+
+static int is_stsd_mp4a(const void *told) {
+    const struct mp4_stsd_box *box = told;
+    return has_stsd_fields(box, 0x6D703461) && is_mp4a(&box->mp4a) && box->tx3g.data_reference_index == 0;
+}
+
+static int is_stsd_tx3g(const void *told) {
+    const struct mp4_stsd_box *box = told;
+    return has_stsd_fields(box, 0x74783367) && is_tx3g(&box->tx3g) && box->mp4a.data_reference_index == 0;
+}
+
+static int is_stsd_without(const void *told) {
+    return has_stsd_fields(told, 0);
+}
+
 SETS_CALL(avcc)
 SETS_CALL(avc1)
+SETS_CALL(stsd)
 
 static const char AVCC[] = AVCC_BYTES, AVC1[] = AVC1_BYTES;
+static const char STSD_AVC1[] = STSD_HEAD("\x81", AVC1_BYTES), STSD_HEV1[] = STSD_HEAD("\x6F", HEV1_BYTES);
+static const char STSD_VP09[] = STSD_HEAD("\x7A", VP09_BYTES), STSD_MP4A[] = STSD_HEAD("\x5E", MP4A_BYTES);
+static const char STSD_TX3G[] = STSD_HEAD("\x3E", TX3G_BYTES);
+static const char STSD_NONE[] = "\0\0\0\x10stsd\x71\x72\x73\x74" ZEROS_4;
+/* An entry of another type is not read. */
+static const char STSD_OTHER[] = STSD_HEAD("\x18", "\0\0\0\x08" "av01");
 
 #define SETS_CASE(name, function, box, told, text) \
     {name, function, 1, sizeof(struct mp4_##box##_box), are_sets, told, SETS_SIZE, BYTES(text), {0, 0}}
+#define STSD_CASE(name, told, text) \
+    {name, call_stsd, 1, sizeof(struct mp4_stsd_box), no_rows, told, 0, BYTES(text), {0, 0}}
 
 static const struct subject WITH_SETS[] = {
     SETS_CASE("avcc", call_avcc, avcc, is_avcc, AVCC),
     SETS_CASE("avc1", call_avc1, avc1, is_avc1, AVC1),
+    SETS_CASE("stsd of avc1", call_stsd, stsd, is_stsd_avc1, STSD_AVC1),
+};
+
+static const struct subject STSD_BOXES[] = {
+    STSD_CASE("stsd of hev1", is_stsd_hev1, STSD_HEV1), STSD_CASE("stsd of vp09", is_stsd_vp09, STSD_VP09),
+    STSD_CASE("stsd of mp4a", is_stsd_mp4a, STSD_MP4A), STSD_CASE("stsd of tx3g", is_stsd_tx3g, STSD_TX3G),
+    STSD_CASE("stsd without an entry", is_stsd_without, STSD_NONE),
+    STSD_CASE("stsd of another entry", is_stsd_without, STSD_OTHER),
 };
 
 /* One of the two arrays too short by one, and both as NULL. */
@@ -327,6 +391,7 @@ static void try_short_sets(void) {
     EXPECT(lengths[0] == 7 && lengths[2] == 7 && bytes[0] == '.' && bytes[5] == '.');
     EXPECT(mp4_avcc(BYTES(AVCC), lengths, 3, bytes, 7, &box) == MP4_OK);
     EXPECT(memcmp(lengths, SET_LENGTHS, sizeof lengths) == 0 && memcmp(bytes, SET_BYTES, 7) == 0);
+    EXPECT(mp4_stsd(BYTES(STSD_HEV1), NULL, 0, NULL, 0, &(struct mp4_stsd_box){0}) == MP4_OK);
 }
 
 /* emsg, in both versions. */
@@ -465,6 +530,11 @@ WRITES(write_dref_without, mp4_write_dref(&DREF_NO_URL, TEXT("\xFF"), bytes, pla
 WRITES(write_emsg_0, mp4_write_emsg(&EMSG_0_FIELDS, TEXT(SCHEME), TEXT(VALUE), TEXT(MESSAGE), bytes, places, length))
 WRITES(write_emsg_1, mp4_write_emsg(&EMSG_1_FIELDS, TEXT(SCHEME), TEXT(VALUE), TEXT(MESSAGE), bytes, places, length))
 
+/* The stsd that is written is what was read of the bytes. */
+static struct mp4_stsd_box stsd;
+WRITES(write_stsd, mp4_write_stsd(&stsd, SET_LENGTHS, 3, TEXT(SET_BYTES), bytes, places, length))
+WRITES(write_stsd_without_sets, mp4_write_stsd(&stsd, NULL, 0, NULL, 0, bytes, places, length))
+
 static const struct writing WRITINGS[] = {
     {"write ftyp", write_ftyp, BYTES(FTYP), 1},
     {"write hdlr", write_hdlr, (const uint8_t *)HDLR, sizeof HDLR, 1},
@@ -474,10 +544,25 @@ static const struct writing WRITINGS[] = {
     {"write emsg of version 1", write_emsg_1, BYTES(EMSG_1), 1},
 };
 
+static void try_stsd(const struct subject *s, int has_sets) {
+    size_t lengths[3];
+    uint8_t sets[6];
+    struct writing w;
+    w.name = s->name;
+    w.writes = has_sets ? write_stsd : write_stsd_without_sets;
+    w.bytes = s->bytes;
+    w.length = s->length;
+    w.takes_memory = has_sets;
+    memset(&stsd, FILLER, sizeof stsd);
+    EXPECT(mp4_stsd(s->bytes, s->length, lengths, 3, sets, 6, &stsd) == MP4_OK);
+    try_writing(&w);
+}
+
 static void try_faults(void) {
     struct mp4_hdlr_box hdlr = HDLR_FIELDS;
     struct mp4_dref_box dref = DREF_FIELDS;
     struct mp4_emsg_box emsg = EMSG_0_FIELDS;
+    size_t lengths[3] = {3, 1, 2};
     subject = "faults of what is written";
     hdlr.flags = 0x1000000;
     REFUSED(mp4_write_hdlr(&hdlr, TEXT(NAME), OUT));
@@ -497,6 +582,24 @@ static void try_faults(void) {
     REFUSED(mp4_write_emsg(&EMSG_0_FIELDS, TEXT(SCHEME), TEXT("\xFF"), TEXT(MESSAGE), OUT));
     REFUSED(mp4_write_emsg(&EMSG_0_FIELDS, TEXT("a\0b"), TEXT(VALUE), TEXT(MESSAGE), OUT));
     REFUSED(mp4_write_emsg(&EMSG_1_FIELDS, TEXT(SCHEME), TEXT("a\0b"), TEXT(MESSAGE), OUT));
+    EXPECT(mp4_stsd(BYTES(STSD_AVC1), lengths, 3, (uint8_t[6]){0}, 6, &stsd) == MP4_OK);
+    REFUSED(mp4_write_stsd(&stsd, lengths, 2, TEXT("\x67\x64\x1F\x41"), OUT));
+    REFUSED(mp4_write_stsd(&stsd, lengths, 3, TEXT("\x67\x64\x1F\x41\x68"), OUT));
+    REFUSED(mp4_write_stsd(&stsd, lengths, 3, TEXT(SET_BYTES "\xEF"), OUT));
+    stsd.avc1.avcc.sequence_count = SIZE_MAX;
+    stsd.avc1.avcc.picture_count = 4;
+    REFUSED(mp4_write_stsd(&stsd, lengths, 3, TEXT(SET_BYTES), OUT));
+    stsd.entry = 0x61763031;
+    REFUSED(mp4_write_stsd(&stsd, lengths, 3, TEXT(SET_BYTES), OUT));
+    EXPECT(mp4_stsd(BYTES(STSD_VP09), NULL, 0, NULL, 0, &stsd) == MP4_OK);
+    stsd.vp09.vpcc.bit_depth = 16;
+    REFUSED(mp4_write_stsd(&stsd, NULL, 0, NULL, 0, OUT));
+    stsd.vp09.vpcc.bit_depth = 15;
+    stsd.flags = 0x1000000;
+    REFUSED(mp4_write_stsd(&stsd, NULL, 0, NULL, 0, OUT));
+    EXPECT(mp4_stsd(BYTES(STSD_MP4A), NULL, 0, NULL, 0, &stsd) == MP4_OK);
+    stsd.mp4a.esds.profile = 31;
+    REFUSED(mp4_write_stsd(&stsd, NULL, 0, NULL, 0, OUT));
 }
 
 #define EACH(list, index) for (index = 0; index < sizeof list / sizeof list[0]; index++)
@@ -514,6 +617,8 @@ int main(void) {
         for (cut = 1; cut < s->length; cut++)
             EXPECT(call_with(s, s->bytes, cut, s->count) == MP4_END_OF_INPUT);
     }
+    EACH(STSD_BOXES, index)
+        try_box(&STSD_BOXES[index], 0);
     EACH(EMSGS, index) {
         refuse_each(&EMSGS[index]);
         try_header(&EMSGS[index]);
@@ -522,6 +627,9 @@ int main(void) {
     try_short_texts();
     EACH(WRITINGS, index)
         try_writing(&WRITINGS[index]);
+    try_stsd(&WITH_SETS[2], 1);
+    for (index = 0; index < 5; index++)
+        try_stsd(&STSD_BOXES[index], 0);
     try_faults();
     printf("%ld calls and %ld checks of strings and sample entries passed\n", calls, checks);
     return 0;

@@ -473,6 +473,8 @@ _ESDS = _struct("mp4_esds_box", flags=u32, buffer_size_db=u32, max_bitrate=u32, 
                 freq_index=u8, chan_conf=u8)
 _MP4A = _struct("mp4_mp4a_box", esds=_ESDS, samplerate=u32, data_reference_index=u16, channelcount=u16, samplesize=u16,
                 has_esds=u8)
+_STSD = _struct("mp4_stsd_box", avc1=_AVC1, hev1=_HEV1, vp09=_VP09, mp4a=_MP4A, tx3g=_TX3G, flags=u32, entry=u32,
+                version=u8)
 
 
 def _parts(name: str, struct: Any, *kinds: Any) -> Callable[[Any, Callable[[Any], Tuple[int, ...]]], Tuple[Any, Any]]:
@@ -517,7 +519,7 @@ _ftyp, _hdlr = _filled("mp4_ftyp", u32, _FTYP), _filled("mp4_hdlr", u8, _HDLR)
 _data, _url = _filled("mp4_data", u8, _DATA), _filled("mp4_url", u8, _URL)
 _dref, _dinf = _parts("dref", _DREF, u8), _parts("dinf", _DREF, u8)
 _emsg, _mp4a = _parts("emsg", _EMSG, u8, u8, u8), _parts("mp4a", _MP4A)
-_avcc, _avc1 = _parts("avcc", _AVCC, size, u8), _parts("avc1", _AVC1, size, u8)
+_avcc, _avc1, _stsd = (_parts(*it, size, u8) for it in (("avcc", _AVCC), ("avc1", _AVC1), ("stsd", _STSD)))
 
 
 def ftyp(data: Any) -> Any:
@@ -606,6 +608,25 @@ def mp4a(data: Any) -> Any:
     return _sound_of(_mp4a(data, lambda _: ())[0])
 
 
+Stsd = collections.namedtuple("Stsd", "version flags entry")
+Stsd.__doc__ = "The first sample entry of a track (8.5.2): its fields, named by its type; None if it isn't read."
+_ENTRIES = ("avc1", "hev1", "vp09", "mp4a", "tx3g")
+
+
+def stsd(data: Any) -> Stsd:
+    """The first sample entry of a track (8.5.2), if it is avc1, hev1, vp09, mp4a or tx3g."""
+    it, sets = _stsd(data, lambda found: _lengths_of(found.avc1.avcc))
+    name = it.entry.to_bytes(4, "big").decode("latin-1")
+    entry = None
+    if name == "avc1":
+        entry = _tuple_of(it.avc1, avcc=_sets_of(it.avc1.avcc, *sets))
+    elif name == "mp4a":
+        entry = _sound_of(it.mp4a)
+    elif name in _ENTRIES:
+        entry = _tuple_of(getattr(it, name))
+    return Stsd(it.version, it.flags, entry)
+
+
 def _writes(name: str, *kinds: Any) -> Callable[..., bytes]:
     """A call that writes a struct and arrays."""
     arrays = [it for _ in kinds for it in (ctypes.c_void_p, size)]
@@ -620,7 +641,7 @@ def _writes(name: str, *kinds: Any) -> Callable[..., bytes]:
 
 
 _write_ftyp, _write_hdlr, _write_dref = _writes("ftyp", u32), _writes("hdlr", u8), _writes("dref", u8)
-_write_emsg = _writes("emsg", u8, u8, u8)
+_write_emsg, _write_stsd = _writes("emsg", u8, u8, u8), _writes("stsd", size, u8)
 
 
 def write_ftyp(value: Any) -> bytes:
@@ -644,6 +665,24 @@ def write_emsg(value: Any) -> bytes:
     """The bytes of an emsg, header included."""
     texts = value.scheme_id_uri.encode(), value.value.encode(), value.message_data
     return _write_emsg(_struct_of(_EMSG, value), *texts)
+
+
+def write_stsd(value: Stsd) -> bytes:
+    """The bytes of an stsd, header included."""
+    struct, lengths, together = _STSD(version=value.version, flags=value.flags), [], b""
+    if value.entry is not None:
+        name = type(value.entry).__name__.lower()
+        struct.entry = int.from_bytes(name.encode(), "big")
+        setattr(struct, name, _struct_of(dict(_STSD._fields_)[name], value.entry))
+        if name == "mp4a":
+            struct.mp4a.has_esds = value.entry.esds is not None
+        if name == "avc1":
+            avcc = value.entry.avcc
+            sets = [*avcc.sequence_parameter_sets, *avcc.picture_parameter_sets]
+            struct.avc1.avcc.sequence_count = len(avcc.sequence_parameter_sets)
+            struct.avc1.avcc.picture_count = len(avcc.picture_parameter_sets)
+            lengths, together = [len(it) for it in sets], b"".join(sets)
+    return _write_stsd(struct, lengths, together)
 
 
 def check(data: Any) -> None:

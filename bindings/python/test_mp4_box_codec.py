@@ -166,22 +166,31 @@ class Calls(unittest.TestCase):
         def boxed(name, content):
             return struct.pack(">I4s", 8 + len(content), name.encode()) + content
 
+        def entry(inside):
+            box = boxed("stsd", b"\x71\x72\x73\x74\0\0\0\1" + inside)
+            found = codec.stsd(box)
+            self.assertEqual((found.version, found.flags, codec.write_stsd(found)), (0x71, 0x727374, box))
+            return found.entry
+
         visual = bytes(6) + b"\x81\x82" + bytes(16) + b"\x83\x84\x85\x86" + bytes(48) + b"\xFF\xFF"
         avcc = boxed("avcC", b"\x81\x64\x92\x1F\xFE\xE2\0\3\x67\x64\x1F\0\1\x41\1\0\2\x68\xEE")
         avc1 = boxed("avc1", visual + avcc)
-        found = codec.avc1(avc1)
-        self.assertEqual(found.avcc, codec.avcc(avcc))
+        found = entry(avc1)
+        self.assertEqual((found, found.avcc), (codec.avc1(avc1), codec.avcc(avcc)))
         self.assertEqual(found.avcc.sequence_parameter_sets, [b"\x67\x64\x1F", b"\x41"])
         self.assertEqual(found.avcc.picture_parameter_sets, [b"\x68\xEE"])
         self.assertEqual((found.visual.width, found.visual.height), (0x8384, 0x8586))
         hev1 = boxed("hev1", visual + b"\0\0\0\x09hvcC\xB7")
-        self.assertEqual(codec.hev1(hev1).hvcc.configuration_version, 0xB7)
+        self.assertEqual(entry(hev1), codec.hev1(hev1))
         sound = bytes(6) + b"\x81\x82" + bytes(8) + b"\x83\x84\x85\x86" + bytes(4) + b"\x91\x92\x93\x94"
         mp4a = boxed("mp4a", sound)
-        self.assertEqual((codec.mp4a(mp4a).samplerate, codec.mp4a(mp4a).samplesize), (0x91929394, 0x8586))
+        self.assertEqual(entry(mp4a), codec.mp4a(mp4a))
         self.assertIsNone(codec.mp4a(mp4a).esds)
         tx3g = boxed("tx3g", bytes(6) + bytes(range(0x81, 0x81 + 32)))
+        self.assertEqual(entry(tx3g), codec.tx3g(tx3g))
         self.assertEqual(codec.tx3g(tx3g).style_record, bytes(range(0x95, 0xA1)))
+        empty = boxed("stsd", b"\x71\x72\x73\x74\0\0\0\0")
+        self.assertEqual((codec.stsd(empty).entry, codec.write_stsd(codec.stsd(empty))), (None, empty))
 
 
 if __name__ == "__main__":

@@ -1,7 +1,7 @@
-//! Boxes of strings and references, which are read and written, and sample entries, which are read.
+//! Boxes of strings and references, and sample entries: what is read and written.
 
-use crate::raw::{Avc1Box, AvccBox, DataBox, DrefBox, EmsgBox, FtypBox, HdlrBox, Mp4aBox, UrlBox};
-use crate::{filled, raw, result_of, written, Result, Summary};
+use crate::raw::{Avc1Box, AvccBox, DataBox, DrefBox, EmsgBox, FtypBox, HdlrBox, Mp4aBox, StsdBox, UrlBox};
+use crate::{filled, raw, result_of, written, Error, Result, Summary};
 
 pub use crate::raw::{Esds, Hev1, Hvcc, Tx3g, Visual, Vp09, Vpcc};
 
@@ -271,6 +271,22 @@ impl Avcc {
             picture_parameter_sets,
         }
     }
+
+    fn fields(&self) -> (Sets, AvccBox) {
+        let sets = || self.sequence_parameter_sets.iter().chain(&self.picture_parameter_sets);
+        let found = (sets().map(Vec::len).collect(), sets().flatten().copied().collect());
+        let fields = AvccBox {
+            sequence_count: self.sequence_parameter_sets.len(),
+            picture_count: self.picture_parameter_sets.len(),
+            set_bytes: 0,
+            configuration_version: self.configuration_version,
+            avc_profile_indication: self.avc_profile_indication,
+            profile_compatibility: self.profile_compatibility,
+            avc_level_indication: self.avc_level_indication,
+            length_size_minus_one: self.length_size_minus_one,
+        };
+        (found, fields)
+    }
 }
 
 type Reads<S> = unsafe extern "C" fn(*const u8, usize, *mut usize, usize, *mut u8, usize, *mut S) -> u32;
@@ -360,6 +376,17 @@ impl Mp4a {
             esds: (it.has_esds == 1).then_some(it.esds),
         }
     }
+
+    fn fields(&self) -> Mp4aBox {
+        Mp4aBox {
+            esds: self.esds.unwrap_or_default(),
+            samplerate: self.samplerate,
+            data_reference_index: self.data_reference_index,
+            channelcount: self.channelcount,
+            samplesize: self.samplesize,
+            has_esds: u8::from(self.esds.is_some()),
+        }
+    }
 }
 
 /// Reads the `mp4a` at the front of the bytes, header included.
@@ -368,4 +395,67 @@ pub fn mp4a(bytes: &[u8]) -> Result<Mp4a> {
     // SAFETY: as of `filled`.
     let status = unsafe { raw::mp4_mp4a(bytes.as_ptr(), bytes.len(), &mut found) };
     result_of(status, Mp4a::of(&found))
+}
+
+/// A sample entry of one of the types that are read.
+#[derive(Clone, Debug, PartialEq, Eq)]
+pub enum Entry {
+    Avc1(Avc1),
+    Hev1(Hev1),
+    Vp09(Vp09),
+    Mp4a(Mp4a),
+    Tx3g(Tx3g),
+}
+
+/// The first sample entry of a track (8.5.2), if it is of one of these types.
+#[derive(Clone, Debug, Default, PartialEq, Eq)]
+pub struct Stsd {
+    pub version: u8,
+    pub flags: u32,
+    pub entry: Option<Entry>,
+}
+
+const AVC1: u32 = 0x6176_6331;
+const HEV1: u32 = 0x6865_7631;
+const VP09: u32 = 0x7670_3039;
+const MP4A: u32 = 0x6d70_3461;
+const TX3G: u32 = 0x7478_3367;
+
+/// Reads the `stsd` at the front of the bytes, header included.
+pub fn stsd(bytes: &[u8]) -> Result<Stsd> {
+    let (sets, it) = with_sets(raw::mp4_stsd, bytes, |it: &StsdBox| &it.avc1.avcc)?;
+    let entry = match it.entry {
+        AVC1 => Some(Entry::Avc1(Avc1 { visual: it.avc1.visual, avcc: Avcc::of(sets, &it.avc1.avcc) })),
+        HEV1 => Some(Entry::Hev1(it.hev1)),
+        VP09 => Some(Entry::Vp09(it.vp09)),
+        MP4A => Some(Entry::Mp4a(Mp4a::of(&it.mp4a))),
+        TX3G => Some(Entry::Tx3g(it.tx3g)),
+        0 => None,
+        _ => return Err(Error::InvalidData),
+    };
+    Ok(Stsd { version: it.version, flags: it.flags, entry })
+}
+
+/// The bytes of an `stsd`, header included.
+pub fn write_stsd(it: &Stsd) -> Result<Vec<u8>> {
+    let mut fields = StsdBox { version: it.version, flags: it.flags, ..StsdBox::default() };
+    let mut sets = Sets::default();
+    match &it.entry {
+        Some(Entry::Avc1(entry)) => {
+            let (found, avcc) = entry.avcc.fields();
+            (fields.entry, fields.avc1, sets) = (AVC1, Avc1Box { avcc, visual: entry.visual }, found);
+        }
+        Some(Entry::Hev1(entry)) => (fields.entry, fields.hev1) = (HEV1, *entry),
+        Some(Entry::Vp09(entry)) => (fields.entry, fields.vp09) = (VP09, *entry),
+        Some(Entry::Mp4a(entry)) => (fields.entry, fields.mp4a) = (MP4A, entry.fields()),
+        Some(Entry::Tx3g(entry)) => (fields.entry, fields.tx3g) = (TX3G, *entry),
+        None => {}
+    }
+    let (lengths, bytes) = sets;
+    // SAFETY: as of `filled`.
+    written(|out, length| unsafe {
+        let (first, second) = (lengths.as_ptr(), bytes.as_ptr());
+        let (to, places) = (out.as_mut_ptr(), out.len());
+        raw::mp4_write_stsd(&fields, first, lengths.len(), second, bytes.len(), to, places, length)
+    })
 }

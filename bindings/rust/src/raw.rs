@@ -296,6 +296,17 @@ structs! {
         samplesize: u16,
         has_esds: u8,
     }
+    /// `struct mp4_stsd_box`
+    StsdBox {
+        avc1: Avc1Box,
+        hev1: Hev1,
+        vp09: Vp09,
+        mp4a: Mp4aBox,
+        tx3g: Tx3g,
+        flags: u32,
+        entry: u32,
+        version: u8,
+    }
 }
 
 fill! {
@@ -313,20 +324,11 @@ tables! {
     mp4_write_dref: u8, DrefBox;
 }
 
-/// Declares functions that read a box of fixed fields, and boxes with parameter sets.
+/// Declares functions that read a box of fixed fields.
 macro_rules! entries {
-    ($($name:ident: $fields:ty;)* with sets $($of_sets:ident: $with_sets:ty;)*) => {
+    ($($name:ident: $fields:ty;)*) => {
         extern "C" {
             $(pub fn $name(bytes: *const u8, length: usize, fields: *mut $fields) -> u32;)*
-            $(pub fn $of_sets(
-                bytes: *const u8,
-                length: usize,
-                lengths: *mut usize,
-                places: usize,
-                set_bytes: *mut u8,
-                byte_places: usize,
-                fields: *mut $with_sets,
-            ) -> u32;)*
         }
     };
 }
@@ -339,9 +341,29 @@ entries! {
     mp4_tx3g: Tx3g;
     mp4_esds: Esds;
     mp4_mp4a: Mp4aBox;
-    with sets
+}
+
+/// Declares functions that read a box with parameter sets.
+macro_rules! with_sets {
+    ($($name:ident: $fields:ty;)*) => {
+        extern "C" {
+            $(pub fn $name(
+                bytes: *const u8,
+                length: usize,
+                lengths: *mut usize,
+                places: usize,
+                set_bytes: *mut u8,
+                byte_places: usize,
+                fields: *mut $fields,
+            ) -> u32;)*
+        }
+    };
+}
+
+with_sets! {
     mp4_avcc: AvccBox;
     mp4_avc1: Avc1Box;
+    mp4_stsd: StsdBox;
 }
 
 extern "C" {
@@ -364,6 +386,16 @@ extern "C" {
         value_count: usize,
         message_data: *const u8,
         message_data_count: usize,
+        bytes: *mut u8,
+        places: usize,
+        length: *mut usize,
+    ) -> u32;
+    pub fn mp4_write_stsd(
+        fields: *const StsdBox,
+        lengths: *const usize,
+        count: usize,
+        set_bytes: *const u8,
+        byte_count: usize,
         bytes: *mut u8,
         places: usize,
         length: *mut usize,

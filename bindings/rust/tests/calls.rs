@@ -269,7 +269,7 @@ fn sample_entries() {
     assert_eq!(avcc(&sets), Ok(configuration.clone()));
     let video = boxed("avc1", &[&fields[..], &sets].concat());
     let entry = Avc1 { visual, avcc: configuration };
-    assert_eq!(avc1(&video), Ok(entry));
+    assert_eq!(avc1(&video), Ok(entry.clone()));
     let other = boxed("hev1", &[&fields[..], b"\0\0\0\x09hvcC\xB7"].concat());
     let hevc = Hev1 { visual, hvcc: Hvcc { configuration_version: 0xB7 } };
     assert_eq!(hev1(&other), Ok(hevc));
@@ -282,5 +282,17 @@ fn sample_entries() {
         samplerate: 0x91929394,
         esds: None,
     };
-    assert_eq!(mp4a(&sound), Ok(plain));
+    assert_eq!(mp4a(&sound), Ok(plain.clone()));
+    for (inside, entry) in [
+        (video, Some(Entry::Avc1(entry))),
+        (other, Some(Entry::Hev1(hevc))),
+        (sound, Some(Entry::Mp4a(plain))),
+    ] {
+        let box_of = boxed("stsd", &[&b"\x71\x72\x73\x74\0\0\0\x01"[..], &inside].concat());
+        let expected = Stsd { version: 0x71, flags: 0x727374, entry };
+        assert_eq!((stsd(&box_of), write_stsd(&expected)), (Ok(expected), Ok(box_of)));
+    }
+    let box_of = boxed("stsd", b"\x71\x72\x73\x74\0\0\0\0");
+    let expected = Stsd { version: 0x71, flags: 0x727374, entry: None };
+    assert_eq!((stsd(&box_of), write_stsd(&expected)), (Ok(expected), Ok(box_of)));
 }

@@ -35,6 +35,7 @@ pub mod samples;
 pub mod smhd;
 pub mod stco;
 pub mod stsc;
+pub mod stsd;
 pub mod stss;
 pub mod stsz;
 pub mod stts;

@@ -1,8 +1,25 @@
 -- avc1 as C has it.
-use Rattle.mp4_c_entries.specs.Avcc.{told_avcc}
-use Rattle.mp4_c_entries.specs.Visual.{visual_of_avc1}
+use Rattle.std.specs.Prelude.{ℕ, List}
+use Rattle.mp4_c_entries.specs.Avcc.{avcc_of, no_avcc, told_avcc}
+use Rattle.mp4_c_entries.specs.Visual.{no_visual, visual_of_avc1}
 use Rattle.mp4_c_entries.specs.declared.avc1.Avc1.{Avc1}
 use Rattle.mp4_entries.specs.declared.avc1.Avc1Box.{Avc1Box}
 
 abbrev pub told_avc1 : Avc1Box → Avc1
 told_avc1 v = record { avcc = told_avcc v.avcc; visual = visual_of_avc1 v }
+
+abbrev pub no_avc1 : Avc1
+no_avc1 = record { avcc = no_avcc; visual = no_visual }
+
+-- the box with these fields and sets
+abbrev pub avc1_of : Avc1 → List ℕ → List ℕ → Avc1Box
+avc1_of f lengths bytes = record {
+  data_reference_index = f.visual.data_reference_index;
+  width = f.visual.width;
+  height = f.visual.height;
+  horizresolution = f.visual.horizresolution;
+  vertresolution = f.visual.vertresolution;
+  frame_count = f.visual.frame_count;
+  depth = f.visual.depth;
+  avcc = avcc_of f.avcc lengths bytes;
+}

@@ -1,6 +1,6 @@
 -- avcC as C has it.
-use Rattle.std.specs.Prelude.{◌+◌, ◌-◌, ◌^◌, min, List, ◌++◌, length}
-use Rattle.mp4_c_entries.specs.Sets.{size_of_sets}
+use Rattle.std.specs.Prelude.{ℕ, ◌+◌, ◌-◌, ◌^◌, ◌==◌, ◌&&◌, Bool, min, List, ◌++◌, length, sum, take, drop}
+use Rattle.mp4_c_entries.specs.Sets.{sets_of, size_of_sets}
 use Rattle.mp4_c_entries.specs.declared.avcc.Avcc.{Avcc}
 use Rattle.mp4_entries.specs.declared.avcc.AvcCBox.{AvcCBox}
 use Rattle.mp4_entries.specs.declared.nal_unit.NalUnit.{NalUnit}
@@ -19,4 +19,34 @@ told_avcc v = record {
   profile_compatibility = v.profile_compatibility;
   avc_level_indication = v.avc_level_indication;
   length_size_minus_one = v.length_size_minus_one;
+}
+
+abbrev pub no_avcc : Avcc
+no_avcc = record {
+  sequence_count = 0;
+  picture_count = 0;
+  set_bytes = 0;
+  configuration_version = 0;
+  avc_profile_indication = 0;
+  profile_compatibility = 0;
+  avc_level_indication = 0;
+  length_size_minus_one = 0;
+}
+
+-- there are as many lengths as sets are counted, and as many bytes as they add up to
+abbrev pub fit_sets : Avcc → List ℕ → List ℕ → Bool
+fit_sets f lengths bytes =
+    (f.sequence_count + f.picture_count == length lengths) && (sum lengths == length bytes)
+
+-- the box with these fields and sets
+abbrev pub avcc_of : Avcc → List ℕ → List ℕ → AvcCBox
+avcc_of f lengths bytes = record {
+  configuration_version = f.configuration_version;
+  avc_profile_indication = f.avc_profile_indication;
+  profile_compatibility = f.profile_compatibility;
+  avc_level_indication = f.avc_level_indication;
+  length_size_minus_one = f.length_size_minus_one;
+  sequence_parameter_sets = sets_of (take f.sequence_count lengths) bytes;
+  picture_parameter_sets =
+      sets_of (drop f.sequence_count lengths) (drop (sum (take f.sequence_count lengths)) bytes);
 }

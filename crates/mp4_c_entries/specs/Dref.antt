@@ -3,6 +3,7 @@ use Rattle.std.specs.Prelude.{ℕ, ◌==◌, List, [], Some, None, if◌then◌e
 use Rattle.std.specs.declared.option.Option.{Option}
 use Rattle.mp4_c_entries.specs.Url.{told_url, url_of}
 use Rattle.mp4_c_entries.specs.declared.dref.Dref.{Dref}
+use Rattle.mp4_c_entries.specs.declared.url.Url.{Url}
 use Rattle.mp4_text.specs.declared.dinf.DinfBox.{DinfBox}
 use Rattle.mp4_text.specs.declared.dref.DrefBox.{DrefBox}
 use Rattle.mp4_text.specs.declared.url.UrlBox.{UrlBox}

@@ -1,6 +1,9 @@
 -- esds as C has it.
-use Rattle.std.specs.Prelude.{unwrap_or}
+use Rattle.std.specs.Prelude.{ℕ, ◌==◌, Some, None, unwrap_or, if◌then◌else◌}
+use Rattle.std.specs.declared.option.Option.{Option}
 use Rattle.mp4_c_entries.specs.declared.esds.Esds.{Esds}
+use Rattle.mp4_sound.specs.declared.decoder_config.DecoderConfigDescriptor.{DecoderConfigDescriptor}
+use Rattle.mp4_sound.specs.declared.decoder_specific.DecoderSpecificDescriptor.{DecoderSpecificDescriptor}
 use Rattle.mp4_sound.specs.declared.esds.EsdsBox.{EsdsBox}
 
 abbrev pub told_esds : EsdsBox → Esds
@@ -35,4 +38,33 @@ no_esds = record {
   profile = 0;
   freq_index = 0;
   chan_conf = 0;
+}
+
+-- a rate, if the index says that there is one
+abbrev pub rate_if : ℕ → ℕ → Option ℕ
+rate_if freq_index sample_rate = if freq_index == 15 then Some sample_rate else None
+
+-- the box with these fields
+abbrev pub esds_of : Esds → EsdsBox
+esds_of f = record {
+  version = f.version;
+  flags = f.flags;
+  es_desc = record {
+    es_id = f.es_id;
+    dec_config = record {
+      object_type_indication = f.object_type_indication;
+      stream_type = f.stream_type;
+      up_stream = f.up_stream;
+      buffer_size_db = f.buffer_size_db;
+      max_bitrate = f.max_bitrate;
+      avg_bitrate = f.avg_bitrate;
+      dec_specific = record {
+        profile = f.profile;
+        freq_index = f.freq_index;
+        sample_rate = rate_if f.freq_index f.sample_rate;
+        chan_conf = f.chan_conf;
+      };
+    };
+    sl_config = record {};
+  };
 }

@@ -4,3 +4,6 @@ use Rattle.mp4_entries.specs.declared.hvcc.HvcCBox.{HvcCBox}
 
 abbrev pub told_hvcc : HvcCBox → Hvcc
 told_hvcc v = record { configuration_version = v.configuration_version }
+
+abbrev pub no_hvcc : Hvcc
+no_hvcc = record { configuration_version = 0 }

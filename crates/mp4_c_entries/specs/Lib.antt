@@ -16,3 +16,4 @@ pub mod Vp09
 pub mod Tx3g
 pub mod Esds
 pub mod Mp4a
+pub mod Stsd

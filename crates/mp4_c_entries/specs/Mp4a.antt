@@ -1,7 +1,7 @@
 -- mp4a as C has it.
-use Rattle.std.specs.Prelude.{Some, None}
+use Rattle.std.specs.Prelude.{◌==◌, Some, None, if◌then◌else◌}
 use Rattle.std.specs.declared.option.Option.{Option}
-use Rattle.mp4_c_entries.specs.Esds.{no_esds, told_esds}
+use Rattle.mp4_c_entries.specs.Esds.{esds_of, no_esds, told_esds}
 use Rattle.mp4_c_entries.specs.declared.mp4a.Mp4a.{Mp4a}
 use Rattle.mp4_sound.specs.declared.esds.EsdsBox.{EsdsBox}
 use Rattle.mp4_sound.specs.declared.mp4a.Mp4aBox.{Mp4aBox}
@@ -26,3 +26,23 @@ told_mp4a_with v None = record {
 
 abbrev pub told_mp4a : Mp4aBox → Mp4a
 told_mp4a v = told_mp4a_with v v.esds
+
+abbrev pub no_mp4a : Mp4a
+no_mp4a = record {
+  esds = no_esds;
+  samplerate = 0;
+  data_reference_index = 0;
+  channelcount = 0;
+  samplesize = 0;
+  has_esds = 0;
+}
+
+-- the box with these fields
+abbrev pub mp4a_of : Mp4a → Mp4aBox
+mp4a_of f = record {
+  data_reference_index = f.data_reference_index;
+  channelcount = f.channelcount;
+  samplesize = f.samplesize;
+  samplerate = f.samplerate;
+  esds = if f.has_esds == 0 then None else Some (esds_of f.esds);
+}

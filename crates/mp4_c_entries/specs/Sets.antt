@@ -1,5 +1,5 @@
 -- Parameter sets as C has them: their lengths in one array, and their bytes one after the other in another.
-use Rattle.std.specs.Prelude.{◌≡◌, ℕ, ◌<◌, ◌⊎◌, List, length, map, flat_map}
+use Rattle.std.specs.Prelude.{◌≡◌, ℕ, ◌<◌, ◌⊎◌, List, [], ◌∷◌, length, map, flat_map, take, drop}
 use Rattle.std.specs.List.{sum_by}
 use Rattle.mp4_c_base.specs.Handed.{IsFilled}
 use Rattle.mp4_c_base.specs.declared.status.TheConstants.{OK, NO_ROOM}
@@ -38,3 +38,8 @@ pub record AreShort (found : List NalUnit) (old new : SetArrays) : Type 0 where
 abbrev pub FillsSets : ℕ → List NalUnit → SetArrays → SetArrays → Type 0
 FillsSets status found old new =
     ((status ≡ OK) × AreFilled found old new) ⊎ ((status ≡ NO_ROOM) × AreShort found old new)
+
+-- sets of these lengths, one after the other in the bytes
+abbrev pub sets_of : List ℕ → List ℕ → List NalUnit
+sets_of [] bytes = []
+sets_of (n ∷ ns) bytes = record { bytes = take n bytes } ∷ sets_of ns (drop n bytes)

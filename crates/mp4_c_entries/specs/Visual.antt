@@ -24,3 +24,14 @@ visual_of_hev1 v = record {
   frame_count = v.frame_count;
   depth = v.depth;
 }
+
+abbrev pub no_visual : Visual
+no_visual = record {
+  horizresolution = 0;
+  vertresolution = 0;
+  data_reference_index = 0;
+  width = 0;
+  height = 0;
+  frame_count = 0;
+  depth = 0;
+}

@@ -1,5 +1,5 @@
 -- vpcC as C has it.
-use Rattle.std.specs.Prelude.{if◌then◌else◌}
+use Rattle.std.specs.Prelude.{nat_lt, if◌then◌else◌}
 use Rattle.mp4_c_entries.specs.declared.vpcc.Vpcc.{Vpcc}
 use Rattle.mp4_entries.specs.declared.vpcc.VpccBox.{VpccBox}
 
@@ -16,4 +16,35 @@ told_vpcc v = record {
   color_primaries = v.color_primaries;
   transfer_characteristics = v.transfer_characteristics;
   matrix_coefficients = v.matrix_coefficients;
+}
+
+abbrev pub no_vpcc : Vpcc
+no_vpcc = record {
+  flags = 0;
+  codec_initialization_data_size = 0;
+  version = 0;
+  profile = 0;
+  level = 0;
+  bit_depth = 0;
+  chroma_subsampling = 0;
+  video_full_range_flag = 0;
+  color_primaries = 0;
+  transfer_characteristics = 0;
+  matrix_coefficients = 0;
+}
+
+-- the box with these fields
+abbrev pub vpcc_of : Vpcc → VpccBox
+vpcc_of f = record {
+  version = f.version;
+  flags = f.flags;
+  profile = f.profile;
+  level = f.level;
+  bit_depth = f.bit_depth;
+  chroma_subsampling = f.chroma_subsampling;
+  video_full_range_flag = nat_lt 0 f.video_full_range_flag;
+  color_primaries = f.color_primaries;
+  transfer_characteristics = f.transfer_characteristics;
+  matrix_coefficients = f.matrix_coefficients;
+  codec_initialization_data_size = f.codec_initialization_data_size;
 }

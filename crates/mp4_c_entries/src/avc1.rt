@@ -1,14 +1,19 @@
 //! The sample entry of AVC video.
 
-ghost use Rattle.std.specs.Prelude.{◌≡◌};
-ghost use Rattle.mp4_c_entries.specs.Avc1.{told_avc1};
+ghost use Rattle.std.specs.Prelude.{◌≡◌, IsTrue, IfOk, IfErr};
+ghost use Rattle.mp4_frame.specs.declared.error.Error.TheVariants.{OutOfMemory};
+ghost use Rattle.mp4_c_entries.specs.Avcc.{fit_sets};
+ghost use Rattle.mp4_c_entries.specs.Avc1.{avc1_of, no_avc1, told_avc1};
 ghost use Rattle.mp4_c_entries.specs.Visual.{visual_of_avc1};
 
-use crate::avcc::Avcc;
+use crate::avcc::{Avcc, avcc_of};
 use crate::sets::HasSets;
 use crate::visual::Visual;
 use mp4_c_base::told::Told;
 use mp4_entries::{Avc1Box, NalUnit};
+use mp4_frame::Result;
+use mp4_media::FixedPointU16;
+use std::alloc::Global;
 
 /// The fields of an `avc1` (ISO/IEC 14496-15, 5.4.2) beside the parameter sets of its `avcC`.
 #[repr(C)]
@@ -35,6 +40,15 @@ fn visual_of(found: &Avc1Box) -> Visual
     }
 }
 
+impl Avc1 {
+    /// Zeros, in place of an entry of another type.
+    pub(crate) fn none() -> Avc1
+        ensures { result ≡ no_avc1 }
+    {
+        Avc1::default()
+    }
+}
+
 impl Told<Avc1> for Avc1Box {
     ghost told = { told_avc1 };
 
@@ -58,4 +72,27 @@ impl HasSets<Avc1> for Avc1Box {
     fn picture(&self) -> &[NalUnit] {
         self.avcc.picture_parameter_sets.as_slice()
     }
+}
+
+/// The box with these fields and sets. The only error is out of memory.
+pub(crate) fn avc1_of(
+    alloc: Global,
+    fields: &Avc1,
+    lengths: &[usize],
+    bytes: &[u8],
+) -> Result<Avc1Box>
+    requires { IsTrue (fit_sets fields.now.avcc lengths.now bytes.now) }
+    ensures value { IfOk result (λ v. v ≡ avc1_of fields.now lengths.now bytes.now) }
+    ensures memory { IfErr result (λ e. e ≡ OutOfMemory) }
+{
+    Ok(Avc1Box {
+        data_reference_index: fields.visual.data_reference_index,
+        width: fields.visual.width,
+        height: fields.visual.height,
+        horizresolution: FixedPointU16::new_raw(fields.visual.horizresolution),
+        vertresolution: FixedPointU16::new_raw(fields.visual.vertresolution),
+        frame_count: fields.visual.frame_count,
+        depth: fields.visual.depth,
+        avcc: avcc_of(alloc, &fields.avcc, lengths, bytes)?,
+    })
 }

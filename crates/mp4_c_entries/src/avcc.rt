@@ -1,11 +1,14 @@
 //! The configuration of an AVC decoder.
 
-ghost use Rattle.std.specs.Prelude.{◌≡◌};
-ghost use Rattle.mp4_c_entries.specs.Avcc.{told_avcc};
+ghost use Rattle.std.specs.Prelude.{◌≡◌, IsTrue, IfOk, IfErr};
+ghost use Rattle.mp4_frame.specs.declared.error.Error.TheVariants.{OutOfMemory};
+ghost use Rattle.mp4_c_entries.specs.Avcc.{avcc_of, fit_sets, told_avcc};
 
-use crate::sets::{HasSets, size_of_both};
+use crate::sets::{HasSets, sets_of, size_of_both, sum_of};
 use mp4_c_base::told::Told;
 use mp4_entries::{AvcCBox, NalUnit};
+use mp4_frame::Result;
+use std::alloc::Global;
 
 /// The fields of an `avcC` (ISO/IEC 14496-15, 5.3.3.1) beside its parameter sets.
 #[repr(C)]
@@ -60,4 +63,36 @@ impl HasSets<Avcc> for AvcCBox {
     fn picture(&self) -> &[NalUnit] {
         self.picture_parameter_sets.as_slice()
     }
+}
+
+/// Whether there are as many lengths as sets are counted, and as many bytes as they add up to.
+pub(crate) fn fit_sets(fields: &Avcc, lengths: &[usize], bytes: &[u8]) -> bool
+    ensures { result ≡ fit_sets fields.now lengths.now bytes.now }
+{
+    fields.sequence_count.checked_add(fields.picture_count) == Some(lengths.len())
+        && sum_of(lengths) == bytes.len()
+}
+
+/// The box with these fields and sets. The only error is out of memory.
+pub(crate) fn avcc_of(
+    alloc: Global,
+    fields: &Avcc,
+    lengths: &[usize],
+    bytes: &[u8],
+) -> Result<AvcCBox>
+    requires { IsTrue (fit_sets fields.now lengths.now bytes.now) }
+    ensures value { IfOk result (λ v. v ≡ avcc_of fields.now lengths.now bytes.now) }
+    ensures memory { IfErr result (λ e. e ≡ OutOfMemory) }
+{
+    let (sequence, picture) = lengths.split_at(fields.sequence_count);
+    let sequence_bytes = sum_of(sequence);
+    Ok(AvcCBox {
+        configuration_version: fields.configuration_version,
+        avc_profile_indication: fields.avc_profile_indication,
+        profile_compatibility: fields.profile_compatibility,
+        avc_level_indication: fields.avc_level_indication,
+        length_size_minus_one: fields.length_size_minus_one,
+        sequence_parameter_sets: sets_of(alloc, sequence, bytes)?,
+        picture_parameter_sets: sets_of(alloc, picture, &bytes[sequence_bytes..])?,
+    })
 }

@@ -1,10 +1,12 @@
 //! The elementary stream descriptor box.
 
 ghost use Rattle.std.specs.Prelude.{◌≡◌};
-ghost use Rattle.mp4_c_entries.specs.Esds.{told_esds};
+ghost use Rattle.mp4_c_entries.specs.Esds.{esds_of, rate_if, told_esds};
 
 use mp4_c_base::told::Told;
-use mp4_sound::EsdsBox;
+use mp4_sound::{
+    DecoderConfigDescriptor, DecoderSpecificDescriptor, ESDescriptor, EsdsBox, SLConfigDescriptor,
+};
 
 /// The fields of an `esds` (ISO/IEC 14496-14, 5.6), with those of its descriptors (ISO/IEC 14496-1, 7.2.6.5 and
 /// 7.2.6.6; ISO/IEC 14496-3, 1.6.2.1).
@@ -60,5 +62,46 @@ impl Told<Esds> for EsdsBox {
             freq_index: specific.freq_index,
             chan_conf: specific.chan_conf,
         }
+    }
+}
+
+/// A rate, if the index says that there is one.
+fn rate_if(freq_index: u8, sample_rate: u32) -> Option<u32>
+    ensures { result ≡ rate_if freq_index sample_rate }
+{
+    if freq_index == 15 {
+        Some(sample_rate)
+    } else {
+        None
+    }
+}
+
+/// The box with these fields.
+pub(crate) fn esds_of(fields: &Esds) -> EsdsBox
+    ensures { result ≡ esds_of fields.now }
+{
+    let dec_specific = DecoderSpecificDescriptor {
+        profile: fields.profile,
+        freq_index: fields.freq_index,
+        sample_rate: rate_if(fields.freq_index, fields.sample_rate),
+        chan_conf: fields.chan_conf,
+    };
+    let dec_config = DecoderConfigDescriptor {
+        object_type_indication: fields.object_type_indication,
+        stream_type: fields.stream_type,
+        up_stream: fields.up_stream,
+        buffer_size_db: fields.buffer_size_db,
+        max_bitrate: fields.max_bitrate,
+        avg_bitrate: fields.avg_bitrate,
+        dec_specific,
+    };
+    EsdsBox {
+        version: fields.version,
+        flags: fields.flags,
+        es_desc: ESDescriptor {
+            es_id: fields.es_id,
+            dec_config,
+            sl_config: SLConfigDescriptor::new(),
+        },
     }
 }

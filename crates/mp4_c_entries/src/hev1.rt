@@ -1,13 +1,14 @@
 //! The sample entry of HEVC video.
 
 ghost use Rattle.std.specs.Prelude.{◌≡◌};
-ghost use Rattle.mp4_c_entries.specs.Hev1.{told_hev1};
+ghost use Rattle.mp4_c_entries.specs.Hev1.{hev1_of, no_hev1, told_hev1};
 ghost use Rattle.mp4_c_entries.specs.Visual.{visual_of_hev1};
 
 use crate::hvcc::Hvcc;
 use crate::visual::Visual;
 use mp4_c_base::told::Told;
-use mp4_entries::Hev1Box;
+use mp4_entries::{Hev1Box, HvcCBox};
+use mp4_media::FixedPointU16;
 
 /// The fields of an `hev1` (ISO/IEC 14496-15, 8.4.1).
 #[repr(C)]
@@ -34,6 +35,15 @@ fn visual_of(found: &Hev1Box) -> Visual
     }
 }
 
+impl Hev1 {
+    /// Zeros, in place of an entry of another type.
+    pub(crate) fn none() -> Hev1
+        ensures { result ≡ no_hev1 }
+    {
+        Hev1::default()
+    }
+}
+
 impl Told<Hev1> for Hev1Box {
     ghost told = { told_hev1 };
 
@@ -42,5 +52,23 @@ impl Told<Hev1> for Hev1Box {
             visual: visual_of(self),
             hvcc: self.hvcc.told(),
         }
+    }
+}
+
+/// The box with these fields.
+pub(crate) fn hev1_of(fields: &Hev1) -> Hev1Box
+    ensures { result ≡ hev1_of fields.now }
+{
+    Hev1Box {
+        data_reference_index: fields.visual.data_reference_index,
+        width: fields.visual.width,
+        height: fields.visual.height,
+        horizresolution: FixedPointU16::new_raw(fields.visual.horizresolution),
+        vertresolution: FixedPointU16::new_raw(fields.visual.vertresolution),
+        frame_count: fields.visual.frame_count,
+        depth: fields.visual.depth,
+        hvcc: HvcCBox {
+            configuration_version: fields.hvcc.configuration_version,
+        },
     }
 }

@@ -16,6 +16,7 @@ pub mod hvcc;
 pub mod mp4a;
 mod parts;
 pub mod sets;
+pub mod stsd;
 pub mod tx3g;
 pub mod url;
 pub mod visual;

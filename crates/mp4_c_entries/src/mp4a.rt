@@ -1,10 +1,11 @@
 //! The sample entry of MPEG-4 audio.
 
 ghost use Rattle.std.specs.Prelude.{◌≡◌};
-ghost use Rattle.mp4_c_entries.specs.Mp4a.{told_mp4a};
+ghost use Rattle.mp4_c_entries.specs.Mp4a.{mp4a_of, no_mp4a, told_mp4a};
 
-use crate::esds::Esds;
+use crate::esds::{Esds, esds_of};
 use mp4_c_base::told::Told;
+use mp4_media::FixedPointU16;
 use mp4_sound::Mp4aBox;
 
 /// The fields of an `mp4a` (ISO/IEC 14496-14, 5.6; ISO/IEC 14496-12, 12.2.3).
@@ -25,6 +26,15 @@ pub struct Mp4a {
     pub has_esds: u8,
 }
 
+impl Mp4a {
+    /// Zeros, in place of an entry of another type.
+    pub(crate) fn none() -> Mp4a
+        ensures { result ≡ no_mp4a }
+    {
+        Mp4a::default()
+    }
+}
+
 impl Told<Mp4a> for Mp4aBox {
     ghost told = { told_mp4a };
 
@@ -41,5 +51,23 @@ impl Told<Mp4a> for Mp4aBox {
             samplesize: self.samplesize,
             has_esds,
         }
+    }
+}
+
+/// The box with these fields.
+pub(crate) fn mp4a_of(fields: &Mp4a) -> Mp4aBox
+    ensures { result ≡ mp4a_of fields.now }
+{
+    let esds = if fields.has_esds == 0 {
+        None
+    } else {
+        Some(esds_of(&fields.esds))
+    };
+    Mp4aBox {
+        data_reference_index: fields.data_reference_index,
+        channelcount: fields.channelcount,
+        samplesize: fields.samplesize,
+        samplerate: FixedPointU16::new_raw(fields.samplerate),
+        esds,
     }
 }

@@ -1,15 +1,16 @@
 //! Parameter sets, whose lengths go into one array, and their bytes into another.
 
-ghost use Rattle.std.specs.Prelude.{◌≡◌, ◌≤◌, ◌-◌, ◌+◌, ◌^◌, ◌++◌, List, drop, length, min, take};
+ghost use Rattle.std.specs.Prelude.{◌≡◌, ◌≤◌, ◌-◌, ◌+◌, ◌^◌, ◌++◌, List, drop, length, min, sum, take, IfOk, IfErr};
+ghost use Rattle.mp4_frame.specs.declared.error.Error.TheVariants.{OutOfMemory};
 ghost use Rattle.mp4_entries.specs.declared.nal_unit.NalUnit.{NalUnit};
 ghost use Rattle.mp4_track.specs.Front.{front_box};
 ghost use Rattle.mp4_c_entries.specs.Parts.{HandsParts};
-ghost use Rattle.mp4_c_entries.specs.Sets.{FillsSets, bytes_of_sets, lengths_of_sets, size_of_sets};
+ghost use Rattle.mp4_c_entries.specs.Sets.{FillsSets, bytes_of_sets, lengths_of_sets, sets_of, size_of_sets};
 
 use mp4_c_base::status::{NO_ROOM, OK, number_of};
 use mp4_c_base::told::Told;
 use mp4_entries::NalUnit;
-use mp4_frame::{ReadBox, put_bytes};
+use mp4_frame::{Entries, ReadBox, Result, put_bytes};
 use mp4_track::front_box;
 use std::alloc::Global;
 
@@ -130,4 +131,32 @@ pub fn tell_sets<B: ReadBox + HasSets<S> + Drop, S: Copy>(
         }
         Err(error) => number_of(&error),
     }
+}
+
+/// The sum of lengths. It saturates at 2^64 - 1.
+pub(crate) fn sum_of(lengths: &[usize]) -> usize
+    ensures { result ≡ min (sum lengths.now) (2 ^ 64 - 1) }
+{
+    let mut total: usize = 0;
+    for length in lengths {
+        total = total.saturating_add(*length);
+    }
+    total
+}
+
+/// Sets of these lengths, one after the other at the front of the bytes. The only error is out of memory.
+pub(crate) fn sets_of(alloc: Global, lengths: &[usize], bytes: &[u8]) -> Result<Entries<NalUnit>>
+    requires { sum lengths.now ≤ length bytes.now }
+    ensures value { IfOk result (λ sets. sets ≡ sets_of lengths.now bytes.now) }
+    ensures memory { IfErr result (λ e. e ≡ OutOfMemory) }
+{
+    let mut sets = Entries::new(alloc);
+    let mut left = lengths;
+    let mut rest = bytes;
+    'cut: while let Some((long, later)) = left.split_first() {
+        sets.push(NalUnit::from_bytes(alloc, &rest[..*long])?)?;
+        rest = &rest[*long..];
+        left = later;
+    }
+    Ok(sets)
 }

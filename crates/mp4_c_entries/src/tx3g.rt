@@ -1,10 +1,10 @@
 //! The sample entry of timed text.
 
 ghost use Rattle.std.specs.Prelude.{◌≡◌};
-ghost use Rattle.mp4_c_entries.specs.Tx3g.{told_tx3g};
+ghost use Rattle.mp4_c_entries.specs.Tx3g.{colour_of, no_tx3g, told_tx3g, tx3g_of};
 
 use mp4_c_base::told::Told;
-use mp4_entries::Tx3gBox;
+use mp4_entries::{RgbaColor, Tx3gBox};
 
 /// The fields of a `tx3g` (3GPP TS 26.245, 5.16).
 #[repr(C)]
@@ -27,6 +27,15 @@ pub struct Tx3g {
     pub style_record: [u8; 12],
 }
 
+impl Tx3g {
+    /// Zeros, in place of an entry of another type.
+    pub(crate) fn none() -> Tx3g
+        ensures { result ≡ no_tx3g }
+    {
+        Tx3g::default()
+    }
+}
+
 impl Told<Tx3g> for Tx3gBox {
     ghost told = { told_tx3g };
 
@@ -41,5 +50,32 @@ impl Told<Tx3g> for Tx3gBox {
             bg_color_rgba: [colour.red, colour.green, colour.blue, colour.alpha],
             style_record: self.style_record,
         }
+    }
+}
+
+/// The colour with these components.
+fn colour_of(components: &[u8; 4]) -> RgbaColor
+    ensures { result ≡ colour_of components.now }
+{
+    RgbaColor {
+        red: components[0],
+        green: components[1],
+        blue: components[2],
+        alpha: components[3],
+    }
+}
+
+/// The box with these fields.
+pub(crate) fn tx3g_of(fields: &Tx3g) -> Tx3gBox
+    ensures { result ≡ tx3g_of fields.now }
+{
+    Tx3gBox {
+        data_reference_index: fields.data_reference_index,
+        display_flags: fields.display_flags,
+        horizontal_justification: fields.horizontal_justification,
+        vertical_justification: fields.vertical_justification,
+        bg_color_rgba: colour_of(&fields.bg_color_rgba),
+        box_record: fields.box_record,
+        style_record: fields.style_record,
     }
 }

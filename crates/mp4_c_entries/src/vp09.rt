@@ -1,9 +1,9 @@
 //! The sample entry of VP9 video.
 
 ghost use Rattle.std.specs.Prelude.{◌≡◌};
-ghost use Rattle.mp4_c_entries.specs.Vp09.{told_vp09};
+ghost use Rattle.mp4_c_entries.specs.Vp09.{no_vp09, resolution_of, told_vp09, vp09_of};
 
-use crate::vpcc::Vpcc;
+use crate::vpcc::{Vpcc, vpcc_of};
 use mp4_c_base::told::Told;
 use mp4_entries::Vp09Box;
 
@@ -43,6 +43,31 @@ pub struct Vp09 {
     pub compressorname: [u8; 32],
 }
 
+impl Vp09 {
+    /// Zeros, in place of an entry of another type.
+    pub(crate) fn none() -> Vp09
+        ensures { result ≡ no_vp09 }
+    {
+        Vp09 {
+            vpcc: Vpcc::none(),
+            flags: 0,
+            start_code: 0,
+            data_reference_index: 0,
+            width: 0,
+            height: 0,
+            horizresolution: [0, 0],
+            vertresolution: [0, 0],
+            frame_count: 0,
+            depth: 0,
+            end_code: 0,
+            version: 0,
+            reserved0: [0; 16],
+            reserved1: [0; 4],
+            compressorname: [0; 32],
+        }
+    }
+}
+
 impl Told<Vp09> for Vp09Box {
     ghost told = { told_vp09 };
 
@@ -64,5 +89,35 @@ impl Told<Vp09> for Vp09Box {
             reserved1: self.reserved1,
             compressorname: self.compressorname,
         }
+    }
+}
+
+/// The two numbers of a resolution.
+fn resolution_of(numbers: &[u16; 2]) -> (u16, u16)
+    ensures { result ≡ resolution_of numbers.now }
+{
+    (numbers[0], numbers[1])
+}
+
+/// The box with these fields.
+pub(crate) fn vp09_of(fields: &Vp09) -> Vp09Box
+    ensures { result ≡ vp09_of fields.now }
+{
+    Vp09Box {
+        version: fields.version,
+        flags: fields.flags,
+        start_code: fields.start_code,
+        data_reference_index: fields.data_reference_index,
+        reserved0: fields.reserved0,
+        width: fields.width,
+        height: fields.height,
+        horizresolution: resolution_of(&fields.horizresolution),
+        vertresolution: resolution_of(&fields.vertresolution),
+        reserved1: fields.reserved1,
+        frame_count: fields.frame_count,
+        compressorname: fields.compressorname,
+        depth: fields.depth,
+        end_code: fields.end_code,
+        vpcc: vpcc_of(&fields.vpcc),
     }
 }

@@ -1,7 +1,7 @@
 //! The configuration of a VP9 decoder.
 
 ghost use Rattle.std.specs.Prelude.{◌≡◌};
-ghost use Rattle.mp4_c_entries.specs.Vpcc.{told_vpcc};
+ghost use Rattle.mp4_c_entries.specs.Vpcc.{no_vpcc, told_vpcc, vpcc_of};
 
 use mp4_c_base::told::Told;
 use mp4_entries::VpccBox;
@@ -34,6 +34,15 @@ pub struct Vpcc {
     pub matrix_coefficients: u8,
 }
 
+impl Vpcc {
+    /// Zeros, in place of an entry of another type.
+    pub(crate) fn none() -> Vpcc
+        ensures { result ≡ no_vpcc }
+    {
+        Vpcc::default()
+    }
+}
+
 impl Told<Vpcc> for VpccBox {
     ghost told = { told_vpcc };
 
@@ -51,5 +60,24 @@ impl Told<Vpcc> for VpccBox {
             transfer_characteristics: self.transfer_characteristics,
             matrix_coefficients: self.matrix_coefficients,
         }
+    }
+}
+
+/// The box with these fields.
+pub(crate) fn vpcc_of(fields: &Vpcc) -> VpccBox
+    ensures { result ≡ vpcc_of fields.now }
+{
+    VpccBox {
+        version: fields.version,
+        flags: fields.flags,
+        profile: fields.profile,
+        level: fields.level,
+        bit_depth: fields.bit_depth,
+        chroma_subsampling: fields.chroma_subsampling,
+        video_full_range_flag: fields.video_full_range_flag > 0,
+        color_primaries: fields.color_primaries,
+        transfer_characteristics: fields.transfer_characteristics,
+        matrix_coefficients: fields.matrix_coefficients,
+        codec_initialization_data_size: fields.codec_initialization_data_size,
     }
 }
