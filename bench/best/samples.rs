@@ -54,37 +54,64 @@ pub fn check(t: Tables) -> Result<()> {
     test(last.checked_add(bytes).is_some())
 }
 
-/// The samples of tables that agree, from the first to the last.
+/// The samples of tables that agree, from the first to the last. What holds of all samples of a run is kept.
 pub struct Samples<'a> {
     tables: Tables<'a>,
     number: u32,
-    chunk: usize,
-    run: usize,
+    chunk: u32,
+    per_chunk: u32,
+    description: u32,
     in_chunk: u32,
     position: u64,
-    duration_run: usize,
-    in_duration: u32,
+    duration: u32,
+    timed: u32,
     time: u64,
-    offset_run: usize,
-    in_offset: u32,
-    sync: usize,
+    rendering_offset: i64,
+    composed: u32,
+    next_sync: u32,
+    runs: std::slice::Iter<'a, StscEntry>,
+    durations: std::slice::Iter<'a, SttsEntry>,
+    offsets: std::slice::Iter<'a, CttsEntry>,
+    syncs: std::slice::Iter<'a, u32>,
 }
 
 impl<'a> Samples<'a> {
     pub fn new(tables: Tables<'a>) -> Samples<'a> {
+        let mut syncs = tables.stss.entries.iter();
         Samples {
             tables,
             number: 0,
             chunk: 0,
-            run: 0,
+            per_chunk: 0,
+            description: 0,
             in_chunk: 0,
             position: 0,
-            duration_run: 0,
-            in_duration: 0,
+            duration: 0,
+            timed: 0,
             time: 0,
-            offset_run: 0,
-            in_offset: 0,
-            sync: 0,
+            rendering_offset: 0,
+            composed: 0,
+            next_sync: syncs.next().copied().unwrap_or(0),
+            runs: tables.stsc.entries.iter(),
+            durations: tables.stts.entries.iter(),
+            offsets: tables.ctts.entries.iter(),
+            syncs,
+        }
+    }
+
+    /// Goes to the next chunk that has samples.
+    fn next_chunk(&mut self) {
+        while self.in_chunk == 0 {
+            self.position = u64::from(self.tables.stco.entries[self.chunk as usize]);
+            self.chunk += 1;
+            if let Some(entry) = self.runs.as_slice().first() {
+                if entry.first_chunk == self.chunk {
+                    self.per_chunk = entry.samples_per_chunk;
+                    self.description = entry.sample_description_index;
+                    self.runs.next();
+                }
+            }
+            self.in_chunk = self.per_chunk;
         }
     }
 }
@@ -92,58 +119,49 @@ impl<'a> Samples<'a> {
 impl Iterator for Samples<'_> {
     type Item = Sample;
 
+    #[inline]
     fn next(&mut self) -> Option<Sample> {
-        let t = self.tables;
-        if self.number >= t.stsz.sample_count {
+        let stsz = self.tables.stsz;
+        if self.number >= stsz.sample_count {
             return None;
         }
-        while self.in_chunk == 0 {
-            let begins = |entry: &StscEntry| entry.first_chunk as usize == self.chunk + 1;
-            self.run += usize::from(t.stsc.entries.get(self.run).is_some_and(begins));
-            self.in_chunk = t.stsc.entries[self.run - 1].samples_per_chunk;
-            self.position = u64::from(t.stco.entries[self.chunk]);
-            self.chunk += 1;
+        if self.in_chunk == 0 {
+            self.next_chunk();
         }
-        while self.in_duration == t.stts.entries[self.duration_run].sample_count {
-            self.duration_run += 1;
-            self.in_duration = 0;
+        while self.timed == 0 {
+            let entry = self.durations.next()?;
+            (self.timed, self.duration) = (entry.sample_count, entry.sample_delta);
         }
-        while t
-            .ctts
-            .entries
-            .get(self.offset_run)
-            .is_some_and(|run| run.sample_count == self.in_offset)
-        {
-            self.offset_run += 1;
-            self.in_offset = 0;
+        while self.composed == 0 {
+            (self.composed, self.rendering_offset) =
+                self.offsets.next().map_or((u32::MAX, 0), |entry| {
+                    (entry.sample_count, i64::from(entry.sample_offset))
+                });
         }
-        let size = match t.stsz.sample_size {
-            0 => t.stsz.sample_sizes[self.number as usize],
+        let size = match stsz.sample_size {
+            0 => stsz.sample_sizes[self.number as usize],
             size => size,
         };
-        let duration = t.stts.entries[self.duration_run].sample_delta;
-        let is_sync = t.stss.entries.get(self.sync) == Some(&(self.number + 1));
+        self.number += 1;
+        let is_sync = self.next_sync == self.number;
+        if is_sync {
+            self.next_sync = self.syncs.next().copied().unwrap_or(0);
+        }
         let sample = Sample {
             offset: self.position,
             size,
             start_time: self.time,
-            duration,
-            rendering_offset: t
-                .ctts
-                .entries
-                .get(self.offset_run)
-                .map_or(0, |run| i64::from(run.sample_offset)),
+            duration: self.duration,
+            rendering_offset: self.rendering_offset,
             is_sync,
-            sample_description_index: t.stsc.entries[self.run - 1].sample_description_index,
-            chunk: self.chunk as u32,
+            sample_description_index: self.description,
+            chunk: self.chunk,
         };
-        self.number += 1;
         self.in_chunk -= 1;
         self.position += u64::from(size);
-        self.in_duration += 1;
-        self.time += u64::from(duration);
-        self.in_offset += 1;
-        self.sync += usize::from(is_sync);
+        self.timed -= 1;
+        self.time += u64::from(self.duration);
+        self.composed -= 1;
         Some(sample)
     }
 }
