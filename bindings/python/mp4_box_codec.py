@@ -419,19 +419,23 @@ def _tuple_of(struct: Any, **given: Any) -> Any:
     """A struct of the header as a named tuple, without counts, and with these fields in place of others or more."""
     kind, fields = type(struct), {}
     for name, _ in kind._fields_:
+        if name in given:
+            fields[name] = given.pop(name)
+            continue
         value = getattr(struct, name)
         if isinstance(value, ctypes.Array):
             value = bytes(value) if value._type_ is u8 else tuple(value)
         fields[name] = _tuple_of(value) if isinstance(value, ctypes.Structure) else value
     fields = {name: it for name, it in {**fields, **given}.items() if name not in _COUNTS and it is not ...}
-    return _NAMED.setdefault(kind, collections.namedtuple(kind.__name__[4:-4].capitalize(), fields))(**fields)
+    named = collections.namedtuple(kind.__name__[4:-4].capitalize(), fields)
+    return _NAMED.setdefault((kind, *fields), named)(**fields)
 
 
 def _struct_of(kind: Any, value: Any) -> Any:
     """The struct of a named tuple; what it doesn't have is 0."""
     found = kind()
     for name, field in kind._fields_:
-        given = getattr(value, name, None)
+        given = None if name in _COUNTS else getattr(value, name, None)
         if given is None:
             continue
         if issubclass(field, ctypes.Structure):

@@ -138,10 +138,10 @@ class Calls(unittest.TestCase):
         def boxed(name, content):
             return struct.pack(">I4s", 8 + len(content), name.encode()) + content
 
-        def both(name, box, **fields):
-            found = getattr(codec, name)(box)
+        def both(code, box, **fields):
+            found = getattr(codec, code)(box)
             self.assertEqual({**found._asdict(), **fields}, found._asdict())
-            self.assertEqual(getattr(codec, f"write_{name}")(found), box)
+            self.assertEqual(getattr(codec, f"write_{code}")(found), box)
             return found
 
         both("ftyp", boxed("ftyp", b"iso6\x81\x82\x83\x84isomavc1"), major_brand=0x69736F36, minor_version=0x81828384,
