@@ -38,7 +38,8 @@ pub extern "C" fn mp4_write_co64(
     bytes: &mut [u8],
     length: &mut usize,
 ) -> u32
-    ensures { PutsOrRefuses format_co64 (made_co64 table.now offsets.now) result bytes.old bytes.new length.old length.new }
+    ensures { PutsOrRefuses format_co64 (made_co64 table.now offsets.now) result bytes.old bytes.new length.old
+        length.new }
 {
     put_made::<Co64Box, Table, u64>(alloc, table, offsets, bytes, length)
 }

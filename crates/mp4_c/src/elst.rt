@@ -40,7 +40,8 @@ pub extern "C" fn mp4_write_elst(
     bytes: &mut [u8],
     length: &mut usize,
 ) -> u32
-    ensures { PutsOrRefuses format_elst (made_elst table.now rows.now) result bytes.old bytes.new length.old length.new }
+    ensures { PutsOrRefuses format_elst (made_elst table.now rows.now) result bytes.old bytes.new length.old
+        length.new }
 {
     put_made::<ElstBox, Table, ElstRow>(alloc, table, rows, bytes, length)
 }

@@ -38,7 +38,8 @@ pub extern "C" fn mp4_write_stco(
     bytes: &mut [u8],
     length: &mut usize,
 ) -> u32
-    ensures { PutsOrRefuses format_stco (made_stco table.now offsets.now) result bytes.old bytes.new length.old length.new }
+    ensures { PutsOrRefuses format_stco (made_stco table.now offsets.now) result bytes.old bytes.new length.old
+        length.new }
 {
     put_made::<StcoBox, Table, u32>(alloc, table, offsets, bytes, length)
 }

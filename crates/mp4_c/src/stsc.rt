@@ -40,7 +40,8 @@ pub extern "C" fn mp4_write_stsc(
     bytes: &mut [u8],
     length: &mut usize,
 ) -> u32
-    ensures { PutsOrRefuses format_stsc (made_stsc table.now rows.now) result bytes.old bytes.new length.old length.new }
+    ensures { PutsOrRefuses format_stsc (made_stsc table.now rows.now) result bytes.old bytes.new length.old
+        length.new }
 {
     put_made::<StscBox, Table, StscRow>(alloc, table, rows, bytes, length)
 }

@@ -38,7 +38,8 @@ pub extern "C" fn mp4_write_stss(
     bytes: &mut [u8],
     length: &mut usize,
 ) -> u32
-    ensures { PutsOrRefuses format_stss (made_stss table.now samples.now) result bytes.old bytes.new length.old length.new }
+    ensures { PutsOrRefuses format_stss (made_stss table.now samples.now) result bytes.old bytes.new length.old
+        length.new }
 {
     put_made::<StssBox, Table, u32>(alloc, table, samples, bytes, length)
 }

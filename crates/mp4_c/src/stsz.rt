@@ -39,7 +39,8 @@ pub extern "C" fn mp4_write_stsz(
     bytes: &mut [u8],
     length: &mut usize,
 ) -> u32
-    ensures { PutsOrRefuses format_stsz (made_stsz table.now sizes.now) result bytes.old bytes.new length.old length.new }
+    ensures { PutsOrRefuses format_stsz (made_stsz table.now sizes.now) result bytes.old bytes.new length.old
+        length.new }
 {
     put_made::<StszBox, StszTable, u32>(alloc, table, sizes, bytes, length)
 }

@@ -39,7 +39,8 @@ pub extern "C" fn mp4_write_trun(
     bytes: &mut [u8],
     length: &mut usize,
 ) -> u32
-    ensures { PutsOrRefuses format_trun (made_trun table.now rows.now) result bytes.old bytes.new length.old length.new }
+    ensures { PutsOrRefuses format_trun (made_trun table.now rows.now) result bytes.old bytes.new length.old
+        length.new }
 {
     put_made::<TrunBox, TrunTable, TrunRow>(alloc, table, rows, bytes, length)
 }

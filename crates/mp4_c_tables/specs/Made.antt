@@ -58,13 +58,23 @@ abbrev pub made_ctts : Table → List CttsRow → CttsBox
 made_ctts t rows = record { version = t.version; flags = t.flags; entries = map entry_ctts rows }
 
 abbrev pub entry_stsc : StscRow → StscEntry
-entry_stsc r = record { first_chunk = r.first_chunk; samples_per_chunk = r.samples_per_chunk; sample_description_index = r.sample_description_index; first_sample = r.first_sample }
+entry_stsc r = record {
+  first_chunk = r.first_chunk;
+  samples_per_chunk = r.samples_per_chunk;
+  sample_description_index = r.sample_description_index;
+  first_sample = r.first_sample;
+}
 
 abbrev pub made_stsc : Table → List StscRow → StscBox
 made_stsc t rows = record { version = t.version; flags = t.flags; entries = map entry_stsc rows }
 
 abbrev pub entry_elst : ElstRow → ElstEntry
-entry_elst r = record { segment_duration = r.segment_duration; media_time = r.media_time; media_rate = r.media_rate; media_rate_fraction = r.media_rate_fraction }
+entry_elst r = record {
+  segment_duration = r.segment_duration;
+  media_time = r.media_time;
+  media_rate = r.media_rate;
+  media_rate_fraction = r.media_rate_fraction;
+}
 
 abbrev pub made_elst : Table → List ElstRow → ElstBox
 made_elst t rows = record { version = t.version; flags = t.flags; entries = map entry_elst rows }

@@ -1,5 +1,5 @@
-//! The tables of samples and the header of a track fragment as C has them: structs of numbers, rows, how they are made of
-//! boxes, and boxes of them. `include/mp4_box_codec.h` at the top of the repository says what each field means.
+//! The tables of samples and the header of a track fragment as C has them: structs of numbers, rows, how they are made
+//! of boxes, and boxes of them. `include/mp4_box_codec.h` at the top of the repository says what each field means.
 #![tactic(auto)]
 
 pub mod co64;
