@@ -79,6 +79,74 @@ static const struct function FUNCTIONS[] = {
 
 enum { COUNT = sizeof FUNCTIONS / sizeof *FUNCTIONS };
 
+CALL(mp4_ftyp, uint32_t, struct mp4_ftyp_box)
+CALL(mp4_hdlr, uint8_t, struct mp4_hdlr_box)
+CALL(mp4_data, uint8_t, struct mp4_data_box)
+CALL(mp4_url, uint8_t, struct mp4_url_box)
+CALL(mp4_dref, uint8_t, struct mp4_dref_box)
+CALL(mp4_dinf, uint8_t, struct mp4_dref_box)
+
+/* Functions whose values are not compared with the slow reader: what they promise of arrays is looked at. */
+static const struct function TEXTS[] = {
+    FUNCTION(mp4_ftyp, uint32_t, struct mp4_ftyp_box, "", "", 0),
+    FUNCTION(mp4_hdlr, uint8_t, struct mp4_hdlr_box, "", "", 0),
+    FUNCTION(mp4_data, uint8_t, struct mp4_data_box, "", "", 0),
+    FUNCTION(mp4_url, uint8_t, struct mp4_url_box, "", "", 0),
+    FUNCTION(mp4_dref, uint8_t, struct mp4_dref_box, "", "", 0),
+    FUNCTION(mp4_dinf, uint8_t, struct mp4_dref_box, "", "", 0),
+};
+
+enum { TEXT_COUNT = sizeof TEXTS / sizeof *TEXTS };
+
+/* A function that reads a box into a struct, and one that writes the struct, if there is one. */
+struct boxed {
+    const char *name;
+    uint32_t (*read)(const uint8_t *, size_t, void *);
+    uint32_t (*write)(const void *, uint8_t *, size_t, size_t *);
+};
+
+#define READ(name)                                                                                                    \
+    static uint32_t read_##name(const uint8_t *bytes, size_t length, void *box) {                                      \
+        return mp4_##name(bytes, length, (struct mp4_##name##_box *)box);                                              \
+    }
+#define READ_AND_WRITE(name)                                                                                          \
+    READ(name)                                                                                                         \
+    static uint32_t write_##name(const void *box, uint8_t *bytes, size_t places, size_t *length) {                     \
+        return mp4_write_##name((const struct mp4_##name##_box *)box, bytes, places, length);                          \
+    }
+
+READ_AND_WRITE(mvhd)
+READ_AND_WRITE(tkhd)
+READ_AND_WRITE(mdhd)
+READ_AND_WRITE(mehd)
+READ_AND_WRITE(mfhd)
+READ_AND_WRITE(smhd)
+READ_AND_WRITE(vmhd)
+READ_AND_WRITE(trex)
+READ_AND_WRITE(tfdt)
+READ_AND_WRITE(tfhd)
+READ(hvcc)
+READ(hev1)
+READ(vpcc)
+READ(vp09)
+READ(tx3g)
+READ(esds)
+READ(mp4a)
+
+static const struct boxed BOXES[] = {
+    {"mvhd", read_mvhd, write_mvhd}, {"tkhd", read_tkhd, write_tkhd}, {"mdhd", read_mdhd, write_mdhd},
+    {"mehd", read_mehd, write_mehd}, {"mfhd", read_mfhd, write_mfhd}, {"smhd", read_smhd, write_smhd},
+    {"vmhd", read_vmhd, write_vmhd}, {"trex", read_trex, write_trex}, {"tfdt", read_tfdt, write_tfdt},
+    {"tfhd", read_tfhd, write_tfhd}, {"hvcc", read_hvcc, NULL},       {"hev1", read_hev1, NULL},
+    {"vpcc", read_vpcc, NULL},       {"vp09", read_vp09, NULL},       {"tx3g", read_tx3g, NULL},
+    {"esds", read_esds, NULL},       {"mp4a", read_mp4a, NULL},
+};
+
+enum { BOX_COUNT = sizeof BOXES / sizeof *BOXES };
+
+/* How often a box was read into each struct. */
+static unsigned long read_of[BOX_COUNT];
+
 /* How often each function has returned elements. */
 static unsigned long found_of[COUNT];
 
@@ -150,7 +218,8 @@ static uint32_t tried(const struct function *it, const uint8_t *bytes, size_t le
             fail(it->name, "an array that fits", bytes, length);
         if (!as_they_were(rows + size, it->row_size))
             fail(it->name, "a place after the elements is written", bytes, length);
-        found_of[it - FUNCTIONS]++;
+        if (it >= FUNCTIONS && it < FUNCTIONS + COUNT)
+            found_of[it - FUNCTIONS]++;
     }
     if (out != NULL && it->least > 0) {
         fprintf(out, "%s %" PRIu32, it->name + strlen("mp4_"), status);
@@ -201,6 +270,60 @@ static void look_at_path(const uint8_t *path, size_t path_length, const uint8_t 
         fail("mp4_find", "a box at another place, or a status that can't be", bytes, length);
 }
 
+/* Reads a box into a struct, writes the struct, and reads and writes what was written once more: the same bytes. */
+static void look_at_box(const struct boxed *it, const uint8_t *bytes, size_t length) {
+    uint8_t box[512], again[512], *out, *second;
+    size_t size = 0, more = 0;
+    uint32_t status;
+    memset(box, PATTERN, sizeof box);
+    status = it->read(bytes, length, box);
+    if (status != MP4_OK) {
+        if (!as_they_were(box, sizeof box))
+            fail(it->name, "something is written after a fault", bytes, length);
+        if (status != MP4_END_OF_INPUT && status != MP4_INVALID_DATA && status != MP4_BOX_NOT_FOUND)
+            fail(it->name, "a status that can't be", bytes, length);
+        return;
+    }
+    read_of[it - BOXES]++;
+    if (it->write == NULL)
+        return;
+    status = it->write(box, NULL, 0, &size);
+    if (status == MP4_INVALID_DATA)
+        return;
+    out = block(size + 1);
+    second = block(size + 1);
+    if (status != MP4_NO_ROOM || it->write(box, out, size - 1, &more) != MP4_NO_ROOM || !as_they_were(out, size + 1))
+        fail(it->name, "an array that is too short by one", bytes, length);
+    if (it->write(box, out, size, &more) != MP4_OK || more != size || !as_they_were(out + size, 1))
+        fail(it->name, "an array that fits", bytes, length);
+    if (it->read(out, size, again) != MP4_OK || it->write(again, second, size, &more) != MP4_OK ||
+        memcmp(out, second, size) != 0)
+        fail(it->name, "what was written is read as another box", bytes, length);
+    free(out);
+    free(second);
+}
+
+/* The sets of a configuration: counts first, and then arrays that fit. */
+static void look_at_sets(const uint8_t *bytes, size_t length) {
+    struct mp4_avcc_box box, again;
+    size_t *lengths, count, all = 0, i;
+    uint8_t *sets;
+    if (mp4_avcc(bytes, length, NULL, 0, NULL, 0, &box) != MP4_NO_ROOM)
+        return;
+    count = box.sequence_count + box.picture_count;
+    lengths = (size_t *)block(count * sizeof *lengths);
+    sets = block(box.set_bytes + 1);
+    if (mp4_avcc(bytes, length, lengths, count, sets, box.set_bytes, &again) != MP4_OK ||
+        !as_they_were(sets + box.set_bytes, 1))
+        fail("mp4_avcc", "arrays that fit", bytes, length);
+    for (i = 0; i < count; i++)
+        all += lengths[i];
+    if (all != box.set_bytes)
+        fail("mp4_avcc", "lengths of other sets", bytes, length);
+    free(lengths);
+    free(sets);
+}
+
 static void look_at(const uint8_t *bytes, size_t length, FILE *out) {
     size_t i, count;
     uint32_t checked = mp4_check(bytes, length), status;
@@ -226,6 +349,13 @@ static void look_at(const uint8_t *bytes, size_t length, FILE *out) {
             fail("mp4_normal", "not written although all boxes are read, or written although not", bytes, length);
         free(rows);
     }
+    for (i = 0; i < TEXT_COUNT; i++) {
+        tried(&TEXTS[i], bytes, length, NULL, &rows, &count);
+        free(rows);
+    }
+    for (i = 0; i < BOX_COUNT; i++)
+        look_at_box(&BOXES[i], bytes, length);
+    look_at_sets(bytes, length);
 }
 
 int LLVMFuzzerTestOneInput(const uint8_t *bytes, size_t length) {
@@ -383,6 +513,8 @@ int main(int arguments, char **argument) {
     fprintf(stderr, "%lu", inputs);
     for (i = 0; i < COUNT; i++)
         fprintf(stderr, " %lu", found_of[i]);
+    for (i = 0; i < BOX_COUNT; i++)
+        fprintf(stderr, " %lu", read_of[i]);
     fprintf(stderr, "\n");
     free(corpus);
     free(offsets);
