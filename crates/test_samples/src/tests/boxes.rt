@@ -118,16 +118,22 @@ pub fn seven(alloc: Global) -> Result<Boxes> {
     })
 }
 
+pub const FIRST: Row = (1000, 11, 0, 100, 30, true, 5, 1);
+
+pub const SECOND: Row = (1011, 23, 100, 100, -20, false, 5, 1);
+
+pub const THIRD: Row = (5000, 37, 200, 100, -20, false, 6, 2);
+
+pub const FOURTH: Row = (300, 41, 300, 40, 50, true, 6, 3);
+
+pub const FIFTH: Row = (20000, 53, 340, 40, 0, false, 8, 4);
+
+pub const SIXTH: Row = (20053, 67, 380, 7, 0, true, 8, 4);
+
+pub const SEVENTH: Row = (7000, 79, 387, 7, 0, false, 8, 5);
+
 /// The seven samples.
-pub const SEVEN: [Row; 7] = [
-    (1000, 11, 0, 100, 30, true, 5, 1),
-    (1011, 23, 100, 100, -20, false, 5, 1),
-    (5000, 37, 200, 100, -20, false, 6, 2),
-    (300, 41, 300, 40, 50, true, 6, 3),
-    (20000, 53, 340, 40, 0, false, 8, 4),
-    (20053, 67, 380, 7, 0, true, 8, 4),
-    (7000, 79, 387, 7, 0, false, 8, 5),
-];
+pub const SEVEN: [Row; 7] = [FIRST, SECOND, THIRD, FOURTH, FIFTH, SIXTH, SEVENTH];
 
 /// The tables of these boxes.
 pub fn tables_of(boxes: &Boxes) -> Tables<'_> {
