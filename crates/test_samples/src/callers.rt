@@ -3,8 +3,9 @@
 ghost use Rattle.std.specs.Prelude.{OnOk};
 ghost use Rattle.mp4_samples.specs.Samples.{AreConsistent};
 
-use mp4_samples::{ChunkOffsets, Disagreement, Sample, SampleIndex, SampleTables, Tables};
-use mp4_tables::{CttsBox, StcoBox, StscBox, StssBox, StszBox, SttsBox};
+use mp4_samples::{Disagreement, Sample, SampleIndex, SampleTables, Tables};
+use mp4_track::track_of;
+use std::alloc::Global;
 
 /// How many bytes the sync samples have.
 pub fn bytes_of_sync_samples(tables: Tables<'_>) -> Result<u64, Disagreement>
@@ -18,29 +19,6 @@ pub fn bytes_of_sync_samples(tables: Tables<'_>) -> Result<u64, Disagreement>
         }
     }
     Ok(bytes)
-}
-
-/// The boxes of an `stbl` that say where its samples are.
-#[derive(Drop)]
-pub struct TrackBoxes {
-    pub stsz: StszBox,
-    pub stsc: StscBox,
-    pub stco: StcoBox,
-    pub stts: SttsBox,
-    pub ctts: Option<CttsBox>,
-    pub stss: Option<StssBox>,
-}
-
-/// The tables of these boxes, if they agree.
-pub fn sample_tables(boxes: &TrackBoxes) -> Result<SampleTables<'_>, Disagreement> {
-    SampleTables::new(Tables {
-        stsz: &boxes.stsz,
-        stsc: &boxes.stsc,
-        chunk_offsets: ChunkOffsets::Stco(&boxes.stco),
-        stts: &boxes.stts,
-        ctts: boxes.ctts.as_ref(),
-        stss: boxes.stss.as_ref(),
-    })
 }
 
 /// The last sync sample that starts at this time or before, in the timescale of the media.
@@ -59,4 +37,13 @@ pub fn key_frame_bytes<'a>(
         Some(sample) => Ok(Some(sample.bytes_of(file)?)),
         None => Ok(None),
     }
+}
+
+/// The bytes of the key frame at a time of the track of a track_ID; none if there is no such track, its tables do not
+/// agree, or the file ends before.
+pub fn key_frame_of_file(alloc: Global, file: &[u8], track_id: u32, time: u64) -> Option<&[u8]> {
+    let track = track_of(alloc, file, track_id).ok()?;
+    let tables = SampleTables::new(track.tables.tables()).ok()?;
+    let index = tables.index(alloc).ok()?;
+    key_frame_bytes(&index, file, time).ok()?
 }

@@ -1,5 +1,6 @@
 //! Tracks of a file that was worked out by hand.
 
+use crate::callers::key_frame_of_file;
 use mp4_frame::{Error, FourCC};
 use mp4_samples::{SampleTables, Tables};
 use mp4_track::{ChunkBox, Track, TrackError, track_of};
@@ -91,6 +92,17 @@ fn fault_of(alloc: Global, file: &[u8], track_id: u32) -> Option<TrackError> {
 fn track_is_found_by_its_id(rt: HostRuntime) -> Result<(), Fail> {
     let file = file(rt.alloc())?;
     assert!(rt; finds(rt.alloc(), &file, 7));
+    Ok(())
+}
+
+/// The first sample is shown up to 19, and the third, which is a sync sample too, from 20 on.
+#[test]
+fn key_frame_of_a_file(rt: HostRuntime) -> Result<(), Fail> {
+    let file = file(rt.alloc())?;
+    let first = key_frame_of_file(rt.alloc(), &file, 7, 19) == Some(b"abc".as_slice());
+    let last = key_frame_of_file(rt.alloc(), &file, 7, 20) == Some(b"hijkl".as_slice());
+    let none = key_frame_of_file(rt.alloc(), &file, 6, 20).is_none();
+    assert!(rt; first && last && none);
     Ok(())
 }
 
