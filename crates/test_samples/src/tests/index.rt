@@ -6,7 +6,7 @@ use super::boxes::{
 };
 use crate::callers::key_frame;
 use mp4_samples::{ChunkOffsets, SampleIndex, SampleTables, Tables};
-use mp4_tables::{StssBox, StszBox};
+use mp4_tables::StszBox;
 use std::alloc::Global;
 use std::test::Fail;
 
@@ -73,22 +73,21 @@ fn are(alloc: Global, tables: Tables<'_>, expected: Expected<'_>) -> mp4_frame::
     )
 }
 
-/// Whether the worked boxes are as expected with this table of sync samples.
-fn seven_are(
-    alloc: Global,
-    sync: Option<&StssBox>,
-    expected: Expected<'_>,
-) -> mp4_frame::Result<bool> {
+/// Whether the worked boxes are as expected with these sync samples.
+fn seven_with(alloc: Global, numbers: &[u32], expected: Expected<'_>) -> mp4_frame::Result<bool> {
     let boxes = seven(alloc)?;
+    let stss = stss_of(alloc, numbers)?;
     let mut tables = tables_of(&boxes);
-    tables.stss = sync;
+    tables.stss = Some(&stss);
     are(alloc, tables, expected)
 }
 
-/// Whether the worked boxes are as expected with these sync samples.
-fn seven_with(alloc: Global, numbers: &[u32], expected: Expected<'_>) -> mp4_frame::Result<bool> {
-    let stss = stss_of(alloc, numbers)?;
-    seven_are(alloc, Some(&stss), expected)
+/// Whether the worked boxes are as expected without a table of sync samples.
+fn seven_without(alloc: Global, expected: Expected<'_>) -> mp4_frame::Result<bool> {
+    let boxes = seven(alloc)?;
+    let mut tables = tables_of(&boxes);
+    tables.stss = None;
+    are(alloc, tables, expected)
 }
 
 /// The samples of the worked boxes, of which 0, 3 and 5 are sync samples.
@@ -159,7 +158,7 @@ const ALL_SYNC: Expected<'static> = Expected {
 #[test]
 fn sync_samples(rt: HostRuntime) -> Result<(), Fail> {
     assert!(rt; seven_with(rt.alloc(), &[4], ONE_SYNC)?);
-    assert!(rt; seven_are(rt.alloc(), None, ALL_SYNC)?);
+    assert!(rt; seven_without(rt.alloc(), ALL_SYNC)?);
     Ok(())
 }
 

@@ -121,6 +121,12 @@ fn track_is_not_found(rt: HostRuntime) -> Result<(), Fail> {
     Ok(())
 }
 
+fn set(file: &mut [u8], at: usize, byte: u8) {
+    if let Some(place) = file.get_mut(at) {
+        *place = byte;
+    }
+}
+
 /// Whether the box of sizes has a fault at its position.
 fn is_of_sizes(fault: Option<TrackError>) -> bool {
     matches!(
@@ -136,9 +142,9 @@ fn is_of_sizes(fault: Option<TrackError>) -> bool {
 #[test]
 fn fault_has_a_position(rt: HostRuntime) -> Result<(), Fail> {
     let mut file = file(rt.alloc())?;
-    file[316] = 9;
+    set(&mut file, 316, 9);
     let faulty = is_of_sizes(fault_of(rt.alloc(), &file, 7));
-    file[301] = b'x';
+    set(&mut file, 301, b'x');
     let missing = is_missing(fault_of(rt.alloc(), &file, 7), b"stsz");
     assert!(rt; faulty && missing);
     Ok(())
