@@ -114,6 +114,18 @@ fn write_disagreement<S: Source, W: Write>(
     Ok(true)
 }
 
+/// Has the line of the search tell the fault of a box, and drops what is read of it. Returns whether it has one.
+fn tell_fault<S: Source>(
+    alloc: Global,
+    tree: &mut Tree<S>,
+    name: Option<&str>,
+    found: &TreeBox,
+    search: &mut Search,
+) -> std::result::Result<bool, Failure> {
+    let content = content_of::<AnyBox, S>(alloc, tree, found)?;
+    or_memory(put_fault(alloc, name, found, &content, search))
+}
+
 /// Writes the fault of the first of these boxes, if it has one. Returns whether it has.
 fn write_fault<S: Source, W: Write>(
     alloc: Global,
@@ -130,8 +142,7 @@ fn write_fault<S: Source, W: Write>(
     if found.code == Some(FourCC::from(TRAK)) {
         search.elsewhere = false;
     }
-    let content = content_of::<AnyBox, S>(alloc, tree, found)?;
-    let faulty = or_memory(put_fault(alloc, name, found, &content, search))?;
+    let faulty = tell_fault(alloc, tree, name, found, search)?;
     if faulty {
         write_all(output, search.line.as_bytes())?;
     }
