@@ -1,11 +1,11 @@
 -- A walk goes on.
-use Rattle.std.proofs.Common.{◌≡◌, ℕ, zero, suc, ◌+◌, ◌-◌, ◌<◌, ◌≤◌, List, [], ◌∷◌, length, min, refl, sym, ap, subst}
-use Rattle.std.proofs.Common.{◌∙◌, arith, append-nil, inl, inr}
+use Rattle.std.proofs.Common.{◌≡◌, ℕ, zero, suc, ◌-◌, ◌<◌, ◌≤◌, List, ◌∷◌, length, min, refl, sym, ap, subst}
+use Rattle.std.proofs.Common.{◌∙◌, arith, inl, inr}
 use Rattle.std.specs.Prelude.{◌⊎◌}
-use Rattle.mp4_c_walk.specs.Levels.{level_at, levels_at}
+use Rattle.mp4_c_walk.specs.Levels.{level_at}
 use Rattle.mp4_c_walk.specs.Walks.{Begins, wanted_at}
 use Rattle.mp4_c_walk.specs.declared.level.WalkLevel.{WalkLevel}
-use Rattle.mp4_tree.specs.Tree.{GoesOn, boxes_in, boxes_of, step, top}
+use Rattle.mp4_tree.specs.Tree.{GoesOn, step, top}
 use Rattle.mp4_tree.specs.Walk.{Closes, Nested, unwound, with_inner}
 use Rattle.mp4_tree.specs.declared.level.Level.{Level}
 use Rattle.mp4_tree.specs.declared.step.Step.{Step}
@@ -20,30 +20,13 @@ some_wanted rows zero at wanted is more = absurd (omega (arith, is, more))
 some_wanted rows (suc d) at wanted is more =
     let less : suc d - 1 ≡ d = omega arith in (omega arith, rw less is)
 
--- if none are, it is in none, and no box is left
-pub none_wanted : (rows : List WalkLevel) (count at wanted : ℕ) → wanted ≡ wanted_at rows count at → wanted ≡ 0
-    → (count ≡ 0) ⊎ (at < (level_at rows (count - 1)).end) → (B : List ℕ) → unwound B at (levels_at rows count) ≡ []
-none_wanted rows zero at wanted is none on B = refl
-none_wanted rows (suc d) at wanted is none (inl over) B = absurd (omega (arith, over))
-none_wanted rows (suc d) at wanted is none (inr more) B =
-    let less : suc d - 1 ≡ d = omega arith in
-    let here : at < (level_at rows d).end = subst (λ (n : ℕ). at < (level_at rows n).end) less more in
-    absurd (omega (arith, is, none, here))
-
 -- the innermost level goes on
 pub inside_of : (rows : List WalkLevel) (count at : ℕ) (l : Level) → 0 < count
     → (count ≡ 0) ⊎ (at < (level_at rows (count - 1)).end) → l ≡ level_at rows (count - 1) → at < l.end
 inside_of rows count at l more (inl none) is = absurd (omega (arith, more, none))
 inside_of rows count at l more (inr h) is = subst (λ (x : Level). at < x.end) (sym is) h
 
--- after a step, with the levels that are over closed: they are nested
-pub nested_next : (n at : ℕ) (l : Level) (ls old were are : List Level) (s : Step) → old ≡ l ∷ ls → Nested n at old
-    → GoesOn l at s → were ≡ with_inner s.inner (s.level ∷ ls) → Closes s.at were are → Nested n s.at are
-nested_next n at l ls old were are s first nested goes is closes =
-    closes.nested n
-    (subst (Nested n s.at) (sym is) (nested_step n at l ls s (subst (Nested n at) first nested) goes))
-
--- and the box of the step is the first that was left
+-- after a step, with the levels that are over closed, the box of the step is the first that was left
 pub box_next : (B : List ℕ) (n at : ℕ) (l : Level) (ls old were are : List Level) (s : Step) → old ≡ l ∷ ls
     → Nested n at old → GoesOn l at s → s ≡ step B l at → n ≡ length B → at < l.end
     → were ≡ with_inner s.inner (s.level ∷ ls) → Closes s.at were are
@@ -56,29 +39,7 @@ box_next B n at l ls old were are s first nested goes step_is long inside is clo
     ∙ unwound_step B at l ls s step_is goes.2 (omega (arith, within, long)) inside
     ∙ ap (λ (xs : List TreeBox). s.found ∷ xs) (ap (unwound B s.at) (sym is) ∙ closes.same B n after)
 
--- at the front of a file all its boxes are left
-all_left : (B : List ℕ) (n : ℕ) (rows : List WalkLevel) → level_at rows 0 ≡ top n → length B ≡ n
-    → unwound B 0 (levels_at rows 1) ≡ boxes_of B
-all_left B n rows is long =
-    append-nil (boxes_in B (level_at rows 0) 0)
-    ∙ ap (λ (l : Level). boxes_in B l 0) (is ∙ ap (λ (k : ℕ). top k) (sym long))
-
-pub begins : (n wanted : ℕ) (rows : List WalkLevel) → level_at rows 0 ≡ top n → 0 < n → wanted ≡ wanted_at rows 1 0
-    → Begins n (record { position = 0; wanted = wanted; length = n; count = 1; levels = rows })
-begins n wanted rows is more wanted_is =
-    let end : (level_at rows 0).end ≡ n = ap (λ (l : Level). l.end) is in
-    record {
-      walk = record {
-        few = omega arith;
-        nested = (omega arith, omega (arith, end));
-        on = inr (omega (arith, end, more));
-        wanted = wanted_is;
-      };
-      long = refl;
-      all = λ B long. all_left B n rows is long;
-    }
-
--- also of an empty one, which is in no level
+-- the walk over an empty file begins in no level
 pub begins_empty : (n : ℕ) (rows : List WalkLevel) → n ≡ 0
     → Begins n (record { position = 0; wanted = 0; length = n; count = 0; levels = rows })
 begins_empty n rows none =

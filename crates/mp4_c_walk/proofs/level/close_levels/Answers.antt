@@ -1,4 +1,4 @@
-use Rattle.std.proofs.Common.{◌≡◌, ◌+◌, ◌-◌, ◌<◌, ◌≤◌, List, subst, arith}
+use Rattle.std.proofs.Common.{◌≡◌, ◌+◌, ◌-◌, ◌<◌, List, subst, arith}
 use Rattle.mp4_tree.specs.Walk.{Closes}
 use Rattle.mp4_tree.specs.declared.level.Level.{Level}
 use Rattle.mp4_tree.proofs.Unwound.{closes_over}

@@ -1,5 +1,5 @@
-use Rattle.std.proofs.Common.{◌≡◌, ℕ, ◌+◌, ◌-◌, ◌<◌, ◌≤◌, List, ◌∷◌, refl, sym, ap, subst, ◌∙◌, arith, inl}
-use Rattle.mp4_c_walk.specs.Levels.{level_at, levels_at}
+use Rattle.std.proofs.Common.{◌≡◌, ℕ, ◌+◌, ◌-◌, ◌<◌, ◌≤◌, ◌∷◌, refl, sym, ap, subst, ◌∙◌, arith, inl}
+use Rattle.mp4_c_walk.specs.Levels.{levels_at}
 use Rattle.mp4_c_walk.proofs.Levels.{levels_next}
 use Rattle.mp4_c_walk.proofs.Walks.{box_next, inside_of, some_wanted}
 use Rattle.mp4_c_walk.proofs.walk.next.Goals as goal
