@@ -36,8 +36,8 @@ from typing import Any, Callable, Dict, Iterator, List, NamedTuple, Optional, Tu
 
 OK, END_OF_INPUT, INVALID_DATA, BOX_NOT_FOUND, OUT_OF_MEMORY, NO_ROOM = 0, 1, 2, 3, 12, 100
 NO_TRACK = 101
-# Boxes that contain boxes alone, of those on the way to the tables.
-CONTAINERS = ("moov", "trak", "mdia", "minf", "stbl", "edts", "mvex", "moof", "traf")
+# What is where a box should begin, as `what` of a Box says.
+LEAF, PARENT, TOO_DEEP, CUT, SMALL, NO_HEADER = range(6)
 
 u8, u16, u32, u64, size = ctypes.c_uint8, ctypes.c_uint16, ctypes.c_uint32, ctypes.c_uint64, ctypes.c_size_t
 i8, i16, i32, i64 = ctypes.c_int8, ctypes.c_int16, ctypes.c_int32, ctypes.c_int64
@@ -79,6 +79,33 @@ class Place(NamedTuple):
     header_length: int
     code: int
     is_whole: int
+
+
+class Box(NamedTuple):
+    """A box of a file, wherever it is. In its path, `[1]` is the second box of its code in the box around it, and no
+    number the first. `length` is what its header says. `children` is the position of the first box in it, or 0, and
+    `depth` how many boxes it is in. `parent` is the code of the box around it, and `handler` that of the media that
+    it is in, or 0. `what` is LEAF, PARENT or TOO_DEEP of a whole box, and CUT, SMALL or NO_HEADER where none is."""
+    path: str
+    position: int
+    length: int
+    header_length: int
+    children: int
+    depth: int
+    code: int
+    parent: int
+    handler: int
+    what: int
+    is_quicktime: int
+
+    @property
+    def name(self) -> str:
+        """The four characters of its code, each of the number of its byte."""
+        return self.code.to_bytes(4, "big").decode("latin-1")
+
+    def of(self, data: Any) -> memoryview:
+        """The bytes of the box, header included, in the bytes of the file: as far as they are there."""
+        return memoryview(data).cast("B")[self.position:self.position + self.length]
 
 
 class Sample(NamedTuple):
@@ -166,6 +193,10 @@ def _struct(name: str, **fields: Any) -> Type[ctypes.Structure]:
 # The structs of the header, in its order.
 _SPAN = _struct("mp4_span", position=u64, length=u64, code=u32)
 _PLACE = _struct("mp4_place", position=u64, length=u64, header_length=u64, code=u32, is_whole=u8)
+_BOX = _struct("mp4_box", position=u64, length=u64, header_length=u64, children=u64, depth=u64, code=u32, parent=u32,
+               handler=u32, what=u8, is_quicktime=u8)
+_LEVEL = _struct("mp4_walk_level", end=u64, parent=u32, handler=u32, is_quicktime=u8)
+_WALK = _struct("mp4_walk", position=u64, wanted=u64, length=u64, count=u64, levels=_LEVEL * 33)
 _SAMPLE = _struct("mp4_sample", offset=u64, decode_time=u64, rendering_offset=i64, size=u32, duration=u32,
                   description=u32, chunk=u32, sync=u8)
 _TABLE = _struct("mp4_table", count=size, flags=u32, version=u8)
@@ -287,6 +318,8 @@ _stsz, _trun = _filled("mp4_stsz", u32, _STSZ), _filled("mp4_trun", _RUN, _TRUN)
 _list, _normal = _filled("mp4_list", _SPAN, size), _filled("mp4_normal", u8, size)
 _check = _function("mp4_check", ctypes.c_void_p, size)
 _find = _function("mp4_find", ctypes.c_void_p, size, ctypes.c_char_p, size, ctypes.POINTER(_PLACE))
+_walk_begin = _function("mp4_walk_begin", u64, ctypes.POINTER(_WALK))
+_walk_next = _function("mp4_walk_next", ctypes.c_char_p, size, ctypes.POINTER(_WALK), ctypes.POINTER(_BOX))
 _samples, version = _filled("mp4_samples", _SAMPLE, size, u32), _function("mp4_version")
 _status_text = _function("mp4_status_text", u32, ctypes.c_char_p, size, ctypes.POINTER(size))
 
@@ -731,21 +764,61 @@ TABLES: Dict[str, Callable[[Any], Any]] = {
 }
 
 
-def boxes(data: Any, path: str = "") -> Iterator[Tuple[str, memoryview]]:
-    """Each box of a file with its path and its bytes, those that contain boxes before what is in them. In a path, `[1]`
-    is the second box of its name in the box around it, and no number the first.
+def _reader(file: Any) -> Tuple[int, Callable[[int, int], bytes]]:
+    """How long a file is, and how so many bytes of it are read at a position."""
+    try:
+        whole = memoryview(file).cast("B")
+    except TypeError:
+        def read(position: int, count: int) -> bytes:
+            file.seek(position)
+            return file.read(count)
+
+        return file.seek(0, os.SEEK_END), read
+    return len(whole), lambda position, count: bytes(whole[position:position + count])
+
+
+def tree(file: Any) -> List[Box]:
+    """All boxes of a file, each before those in it: of its bytes, or of a binary file that seeks, of which nothing is
+    read but headers and what tells how boxes lie in them. Faults are in the list, as `what` of a box says.
 
     >>> movie = bytes.fromhex("00000020 6d6f6f76 00000008 7472616b 00000010 7472616b 00000008 6d646961")
-    >>> [path for path, _ in boxes(movie)]
-    ['moov', 'moov/trak', 'moov/trak[1]', 'moov/trak[1]/mdia']
+    >>> [(it.path, it.position, it.length) for it in tree(movie)]
+    [('moov', 0, 32), ('moov/trak', 8, 8), ('moov/trak[1]', 16, 16), ('moov/trak[1]/mdia', 24, 8)]
+    >>> import io
+    >>> tree(io.BytesIO(movie)) == tree(movie)
+    True
     """
-    counts: Dict[str, int] = {}
-    for span in list(data):
-        number = counts[span.name] = counts.get(span.name, -1) + 1
-        here = f"{path}{span.name}" + (f"[{number}]" if number else "")
-        yield here, span.of(data)
-        if span.name in CONTAINERS:
-            yield from boxes(span.content_of(data), f"{here}/")
+    length, read = _reader(file)
+    walk, box, found, around = _WALK(), _BOX(), [], [("", {})]
+    status = _walk_begin(length, walk)
+    while status == OK and walk.wanted:
+        given = read(walk.position, walk.wanted)
+        status = _walk_next(given, len(given), walk, box)
+        if status == OK:
+            del around[box.depth + 1:]
+            path, counts = around[-1]
+            number = counts[box.code] = counts.get(box.code, -1) + 1
+            name = box.code.to_bytes(4, "big").decode("latin-1") if box.code else ""
+            path += name + (f"[{number}]" if number else "")
+            found.append(Box(path, *(getattr(box, it) for it, _ in _BOX._fields_)))
+            around.append((f"{path}/", {}))
+    if status != OK:
+        raise Mp4Error(status)
+    return found
+
+
+def boxes(data: Any) -> Iterator[Tuple[str, memoryview]]:
+    """Each box of the bytes of a file with its path and its bytes, as `tree` finds them; an Mp4Error where no whole box
+    is.
+
+    >>> movie = bytes.fromhex("00000020 6d6f6f76 00000008 7472616b 00000010 7472616b 00000008 6d646961")
+    >>> [(path, len(box)) for path, box in boxes(movie)]
+    [('moov', 32), ('moov/trak', 8), ('moov/trak[1]', 16), ('moov/trak[1]/mdia', 8)]
+    """
+    for box in tree(data):
+        if box.what in (CUT, SMALL, NO_HEADER):
+            raise Mp4Error(INVALID_DATA if box.what == SMALL else END_OF_INPUT)
+        yield box.path, box.of(data)
 
 
 def tables(data: Any) -> Dict[str, Any]:

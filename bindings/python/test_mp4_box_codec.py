@@ -1,6 +1,7 @@
 """Each function of the module once, over bytes that were worked out from docs/LAYOUT.md, the faults, and buffers."""
 
 import array
+import io
 import struct
 import unittest
 
@@ -22,6 +23,24 @@ class Calls(unittest.TestCase):
         self.assertEqual([bytes(it.of(file)) for it in found], [file[:8], file[8:26], file[26:]])
         self.assertEqual(bytes(found[1].content_of(file)), b"ab")
         self.assertEqual(codec.list(b""), [])
+
+    def test_trees(self):
+        file = b"\0\0\0\x20moov\0\0\0\x08trak\0\0\0\x10trak\0\0\0\x08mdia\0\0\0\x07free"
+        found = codec.tree(file)
+        paths = [(it.depth, it.position, it.length, it.path) for it in found]
+        expected = [(0, 0, 32, "moov"), (1, 8, 8, "moov/trak"), (1, 16, 16, "moov/trak[1]")]
+        self.assertEqual(paths, [*expected, (2, 24, 8, "moov/trak[1]/mdia"), (0, 32, 8, "free")])
+        self.assertEqual([it.what for it in found], [codec.PARENT] * 4 + [codec.SMALL])
+        self.assertEqual((found[2].children, bytes(found[2].of(file))), (24, file[16:32]))
+        self.assertEqual(codec.tree(io.BytesIO(file)), found)
+        self.assertEqual(codec.tree(b""), [])
+        self.assertEqual([it.what for it in codec.tree(b"free")], [codec.NO_HEADER])
+        self.assertEqual([(it.what, it.length) for it in codec.tree(b"\0\0\0\x09free")], [(codec.CUT, 9)])
+        self.assertEqual([path for path, _ in codec.boxes(file[:32])], [it.path for it in found[:4]])
+        with self.assertRaisesRegex(codec.Mp4Error, "invalid data"):
+            [*codec.boxes(file)]
+        with self.assertRaisesRegex(codec.Mp4Error, "unexpected end of input"):
+            [*codec.boxes(file[:31])]
 
     def test_tables_of_one_number(self):
         given = (0x81, 0x828384, 2, 0x85868788, 0x898A8B8C)

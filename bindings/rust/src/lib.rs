@@ -10,10 +10,12 @@ mod boxes;
 mod entries;
 pub mod raw;
 mod rows;
+mod tree;
 
 pub use boxes::*;
 pub use entries::*;
 pub use rows::{CttsRow, ElstRow, Place, Sample, Span, StscRow, SttsRow, TrunRow};
+pub use tree::{tree, tree_of, TreeBox, What};
 
 /// Why a call has no value.
 #[derive(Clone, Copy, Debug, PartialEq, Eq, Hash)]

@@ -45,7 +45,52 @@ pub struct TrunTable {
     pub version: u8,
 }
 
+/// `struct mp4_box`
+#[repr(C)]
+#[derive(Clone, Copy, Debug, Default)]
+pub struct Box {
+    pub position: u64,
+    pub length: u64,
+    pub header_length: u64,
+    pub children: u64,
+    pub depth: u64,
+    pub code: u32,
+    pub parent: u32,
+    pub handler: u32,
+    pub what: u8,
+    pub is_quicktime: u8,
+}
+
+/// `struct mp4_walk_level`
+#[repr(C)]
+#[derive(Clone, Copy, Debug, Default)]
+pub struct WalkLevel {
+    pub end: u64,
+    pub parent: u32,
+    pub handler: u32,
+    pub is_quicktime: u8,
+}
+
+/// `struct mp4_walk`
+#[repr(C)]
+#[derive(Clone, Copy, Debug)]
+pub struct Walk {
+    pub position: u64,
+    pub wanted: u64,
+    pub length: u64,
+    pub count: u64,
+    pub levels: [WalkLevel; 33],
+}
+
+impl Default for Walk {
+    fn default() -> Walk {
+        Walk { position: 0, wanted: 0, length: 0, count: 0, levels: [WalkLevel::default(); 33] }
+    }
+}
+
 extern "C" {
+    pub fn mp4_walk_begin(length: u64, walk: *mut Walk) -> u32;
+    pub fn mp4_walk_next(bytes: *const u8, length: usize, walk: *mut Walk, found: *mut Box) -> u32;
     pub fn mp4_check(bytes: *const u8, length: usize) -> u32;
     pub fn mp4_find(bytes: *const u8, length: usize, path: *const u8, path_length: usize, place: *mut Place) -> u32;
     pub fn mp4_samples(

@@ -27,6 +27,24 @@ fn spans() {
 }
 
 #[test]
+fn trees() {
+    let file = b"\0\0\0\x20moov\0\0\0\x08trak\0\0\0\x10trak\0\0\0\x08mdia\0\0\0\x07free";
+    let found = tree(file).unwrap();
+    let places: Vec<_> = found.iter().map(|it| (it.depth, it.position, it.length, it.name())).collect();
+    let [moov, trak, mdia, free] = [b"moov", b"trak", b"mdia", b"free"].map(|it| *it);
+    assert_eq!(places, [(0, 0, 32, moov), (1, 8, 8, trak), (1, 16, 16, trak), (2, 24, 8, mdia), (0, 32, 8, free)]);
+    let whats: Vec<_> = found.iter().map(|it| it.what).collect();
+    assert_eq!(whats, [What::Parent, What::Parent, What::Parent, What::Parent, What::Small]);
+    assert_eq!(found[2].children, Some(24));
+    assert_eq!(found[2].of(file), Some(&file[16..32]));
+    assert_eq!(tree_of(&mut std::io::Cursor::new(file)).unwrap(), found);
+    assert_eq!(tree(b""), Ok(vec![]));
+    assert_eq!(tree(b"free").unwrap()[0].what, What::NoHeader);
+    let cut = tree(b"\0\0\0\x09free").unwrap()[0];
+    assert_eq!((cut.what, cut.length, cut.of(&file[..8])), (What::Cut, 9, None));
+}
+
+#[test]
 fn tables_of_one_number() {
     let expected = Table { version: 0x81, flags: 0x828384, rows: vec![0x85868788, 0x898A8B8C] };
     let numbers = [2, 0x85868788, 0x898A8B8C];
