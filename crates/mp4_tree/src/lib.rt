@@ -29,6 +29,3 @@ pub use source::Source;
 pub use step::{Step, step_in};
 pub use tree::Tree;
 pub use tree_box::{TreeBox, What};
-
-#[cfg(test)]
-mod tests;

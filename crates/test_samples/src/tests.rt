@@ -1,4 +1,4 @@
-//! Tables and fragments that were worked out by hand.
+//! Files, tables and fragments that were worked out by hand.
 
 mod boxes;
 mod disagreements;
@@ -8,3 +8,4 @@ mod hostile;
 mod index;
 mod tables;
 mod track;
+mod tree;

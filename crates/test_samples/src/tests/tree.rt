@@ -1,12 +1,7 @@
-//! Tests of what no clause says.
+//! The boxes of files that were worked out by hand.
 
-use crate::finding::find;
-use crate::name::name_of;
-use crate::path::{BoxPath, PathError};
-use crate::source::Source;
-use crate::tree::Tree;
-use crate::tree_box::{TreeBox, What};
 use mp4_frame::FourCC;
+use mp4_tree::{BoxPath, PathError, Source, Tree, TreeBox, What, find, name_of};
 use std::alloc::Global;
 use std::io;
 use std::test::Fail;
