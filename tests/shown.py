@@ -22,8 +22,9 @@ TEXTS = 7
 def names():
     """The names of codes, as docs/LAYOUT.md has them."""
     with open(os.path.join(TOP, "docs/LAYOUT.md"), encoding="utf-8") as layout:
-        section = layout.read().split("\n## Codes\n")[1].split("\n## ")[0]
-    return {word + "Box": code for word, code in re.findall(r"(\w+) `(.{4})`", section)}
+        section = layout.read().split("\n## Codes\n")[1].split("\n```text\n")[1].split("\n```")[0]
+    codes = re.findall(r"\b\w{4}\b|url (?=\")", re.sub(r"^.*?  +", "", section, flags=re.M))
+    return {("Vpcc" if it == "vpcC" else it[0].upper() + it[1:].strip()) + "Box": it for it in codes}
 
 
 NAMES = names()
