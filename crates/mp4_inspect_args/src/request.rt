@@ -44,15 +44,30 @@ pub struct Request {
     pub files: Vec<String>,
 }
 
-/// The argument of files, which each command has.
-fn files<'a>(alloc: Global) -> Result<Arg<'a>, AllocError> {
-    Ok(
-        Arg::new(alloc, "FILE")
-            .action(ArgAction::Append)
-            .num_args(1..)
-            .required(true)
-            .help("Files to read; - is the standard input"),
-    )
+/// The argument of files.
+fn files<'a>(alloc: Global) -> Arg<'a> {
+    Arg::new(alloc, "FILE")
+        .action(ArgAction::Append)
+        .num_args(1..)
+        .required(true)
+        .help("Files to read; - is the standard input")
+}
+
+/// An option that is there or not.
+fn flag<'a>(alloc: Global, name: &'a str, help: &'a str) -> Arg<'a> {
+    Arg::new(alloc, name)
+        .long(name)
+        .action(ArgAction::SetTrue)
+        .help(help)
+}
+
+/// An option with a number.
+fn number<'a>(alloc: Global, name: &'a str, help: &'a str) -> Arg<'a> {
+    Arg::new(alloc, name)
+        .long(name)
+        .value_name("N")
+        .value_parser(clap::value_parser!(u32))
+        .help(help)
 }
 
 /// The command `check`.
@@ -61,57 +76,29 @@ fn check<'a>(alloc: Global) -> Result<Command<'a>, AllocError> {
         .about(
             "Writes the faults alone, one a line, with position and path; nothing if all is well",
         )
-        .arg(files(alloc)?)
+        .arg(files(alloc))
 }
 
 /// The command `samples`.
 fn samples<'a>(alloc: Global) -> Result<Command<'a>, AllocError> {
-    let track = Arg::new(alloc, "track")
-        .long("track")
-        .value_name("N")
-        .value_parser(clap::value_parser!(u32))
-        .help("Write the samples of track N alone");
-    let json = Arg::new(alloc, "json")
-        .long("json")
-        .action(ArgAction::SetTrue)
-        .conflicts_with("csv")?
-        .help("Write an array of JSON objects");
-    let csv = Arg::new(alloc, "csv")
-        .long("csv")
-        .action(ArgAction::SetTrue)
-        .help("Write lines of numbers between commas, with one line of names in front");
+    let json = flag(alloc, "json", "Write an array of JSON objects").conflicts_with("csv")?;
+    let csv = "Write lines of numbers between commas, with one line of names in front";
     let file = Arg::new(alloc, "FILE")
         .required(true)
         .help("File to read; - is the standard input");
     Command::new(alloc, "samples")
         .about("Writes where each sample of the tracks of a file is, and when, one a line")
-        .arg(track)?
+        .arg(number(alloc, "track", "Write the samples of track N alone"))?
         .arg(json)?
-        .arg(csv)?
+        .arg(flag(alloc, "csv", csv))?
         .arg(file)
 }
 
 /// The whole command line.
 fn command<'a>(alloc: Global) -> Result<Command<'a>, AllocError> {
-    let json = Arg::new(alloc, "json")
-        .long("json")
-        .action(ArgAction::SetTrue)
-        .help("Write JSON, with all entries of lists");
-    let all = Arg::new(alloc, "all")
-        .long("all")
-        .action(ArgAction::SetTrue)
-        .conflicts_with("rows")?
-        .help("Show all entries of lists");
-    let rows = Arg::new(alloc, "rows")
-        .long("rows")
-        .value_name("N")
-        .value_parser(clap::value_parser!(u32))
-        .default_value("8")
-        .help("Show N entries of each list");
-    let wide = Arg::new(alloc, "wide")
-        .long("wide")
-        .action(ArgAction::SetTrue)
-        .help("Don't break lines at the width of the terminal");
+    let all = flag(alloc, "all", "Show all entries of lists").conflicts_with("rows")?;
+    let rows = number(alloc, "rows", "Show N entries of each list").default_value("8");
+    let wide = "Don't break lines at the width of the terminal";
     Command::new(alloc, "mp4inspect")
         .version("0.1.0")
         .about(
@@ -119,11 +106,11 @@ fn command<'a>(alloc: Global) -> Result<Command<'a>, AllocError> {
         )
         .args_conflicts_with_subcommands(true)
         .subcommand_negates_reqs(true)
-        .arg(json)?
+        .arg(flag(alloc, "json", "Write JSON, with all entries of lists"))?
         .arg(all)?
         .arg(rows)?
-        .arg(wide)?
-        .arg(files(alloc)?)?
+        .arg(flag(alloc, "wide", wide))?
+        .arg(files(alloc))?
         .subcommand(check(alloc)?)?
         .subcommand(samples(alloc)?)
 }
