@@ -97,9 +97,10 @@ enum {
 
 /* The place of a box in the bytes. */
 struct mp4_span {
-    uint64_t position; /* the offset of its first byte, where its header begins */
-    uint64_t length;   /* the number of its bytes, with the header */
-    uint32_t code;     /* the four characters of its code, the first in the highest byte: 'ftyp' is 0x66747970 */
+    uint64_t position;      /* the offset of its first byte, where its header begins */
+    uint64_t length;        /* the number of its bytes, with the header */
+    uint64_t header_length; /* 8 or 16: its content begins so many bytes after its position */
+    uint32_t code;          /* the four characters of its code, the first in the highest byte: 'ftyp' is 0x66747970 */
 };
 
 /* A box at a path, and how long its header is. */
@@ -520,7 +521,7 @@ struct mp4_walk {
 uint32_t mp4_check(const uint8_t *bytes, size_t length);
 
 /* Lists the boxes at the top level of the bytes, in their order, without reading what is in them. The children of a box
-   are the boxes of its content, which begins 8 bytes after its position (16 if its first four bytes are 0, 0, 0, 1). */
+   are the boxes of its content. */
 uint32_t mp4_list(const uint8_t *bytes, size_t length, struct mp4_span *spans, size_t places, size_t *count);
 
 /* Writes the boxes of the bytes in their normal form; boxes of types that the codec doesn't read are as they are. Also

@@ -36,9 +36,9 @@ static const char STREAM[] =
 
 static int are_spans(const void *rows, size_t count) {
     const struct mp4_span *spans = rows;
-    return count == 3 && spans[0].position == 0 && spans[0].length == 32 && spans[0].code == 0x66747970 &&
-           spans[1].position == 32 && spans[1].length == 10 && spans[1].code == 0xA96E616D &&
-           spans[2].position == 42 && spans[2].length == 20 && spans[2].code == 0x7374636F;
+    return count == 3 && spans[0].position == 0 && spans[0].length == 32 && spans[0].header_length == 16 && spans[0].code == 0x66747970 &&
+           spans[1].position == 32 && spans[1].length == 10 && spans[1].header_length == 8 && spans[1].code == 0xA96E616D &&
+           spans[2].position == 42 && spans[2].length == 20 && spans[2].header_length == 8 && spans[2].code == 0x7374636F;
 }
 
 static int is_three(const void *told) {
@@ -249,7 +249,7 @@ static void try_streams(void) {
     struct subject list = {"mp4_list", call_list, sizeof(struct mp4_span), sizeof(size_t), are_spans, is_three, 3, BYTES(STREAM), {32, 42}};
     struct subject normal = {"mp4_normal", call_normal, 1, sizeof(size_t), is_normal, is_normal_long, sizeof NORMAL - 1, BYTES(STREAM), {32, 42}};
     size_t count = 7;
-    struct mp4_span span = {1, 2, 3};
+    struct mp4_span span = {1, 2, 3, 4};
     uint8_t byte = 4;
     try_subject(&list);
     EXPECT(call_with(&list, (const uint8_t *)"\0\0\0\2free", 8, 3) == MP4_INVALID_DATA);

@@ -12,6 +12,7 @@ const NO_ROOM: u32 = 100;
 struct Span {
     position: u64,
     length: u64,
+    header_length: u64,
     code: u32,
 }
 
@@ -207,8 +208,8 @@ fn main() {
     assert_eq!(check(b"\0\0\0\x08dinf"), BOX_NOT_FOUND);
 
     let spans = [
-        Span { position: 0, length: 17, code: u32::from_be_bytes(*b"free") },
-        Span { position: 17, length: 16, code: u32::from_be_bytes(*b"stco") },
+        Span { position: 0, length: 17, header_length: 16, code: u32::from_be_bytes(*b"free") },
+        Span { position: 17, length: 16, header_length: 8, code: u32::from_be_bytes(*b"stco") },
     ];
     hands(mp4_list, stream, &spans, 2);
     hands(mp4_normal, stream, normal, normal.len());

@@ -64,7 +64,7 @@ static uint32_t call_mp4_samples(const uint8_t *bytes, size_t length, void *rows
 
 static const struct function FUNCTIONS[] = {
     FUNCTION(mp4_samples, struct mp4_sample, size_t, "", "q", 0),
-    FUNCTION(mp4_list, struct mp4_span, size_t, "qqu", "q", 8),
+    FUNCTION(mp4_list, struct mp4_span, size_t, "qqqu", "q", 8),
     FUNCTION(mp4_normal, uint8_t, size_t, "b", "q", 0),
     FUNCTION(mp4_stsz, uint32_t, struct mp4_stsz_table, "u", "quuub", 4),
     FUNCTION(mp4_stco, uint32_t, struct mp4_table, "u", "qub", 4),

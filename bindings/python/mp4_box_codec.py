@@ -5,7 +5,7 @@ Bytes are whatever has a buffer: `bytes`, a `bytearray`, a `memoryview`, an `mma
 >>> import mp4_box_codec
 >>> stts = bytes.fromhex("00000018 73747473 00000000 00000001 00000003 0000000a")
 >>> mp4_box_codec.list(stts)
-[Span(position=0, length=24, code=1937011827)]
+[Span(position=0, length=24, header_length=8, code=1937011827)]
 >>> mp4_box_codec.list(stts)[0].name
 'stts'
 >>> mp4_box_codec.stts(stts).rows
@@ -52,9 +52,11 @@ class Mp4Error(ValueError):
 
 
 class Span(NamedTuple):
-    """The place of a box: the offset of its first byte, its length with its header, and its code as a number."""
+    """The place of a box: the offset of its first byte, its length with its header, how long the header is, and its code
+    as a number."""
     position: int
     length: int
+    header_length: int
     code: int
 
     @property
@@ -68,8 +70,7 @@ class Span(NamedTuple):
 
     def content_of(self, listed: Any) -> memoryview:
         """What comes after its header: the boxes in it, if it contains boxes alone."""
-        whole = self.of(listed)
-        return whole[16 if bytes(whole[:4]) == b"\0\0\0\1" else 8:]
+        return self.of(listed)[self.header_length:]
 
 
 class Place(NamedTuple):
@@ -191,7 +192,7 @@ def _struct(name: str, **fields: Any) -> Type[ctypes.Structure]:
 
 
 # The structs of the header, in its order.
-_SPAN = _struct("mp4_span", position=u64, length=u64, code=u32)
+_SPAN = _struct("mp4_span", position=u64, length=u64, header_length=u64, code=u32)
 _PLACE = _struct("mp4_place", position=u64, length=u64, header_length=u64, code=u32, is_whole=u8)
 _BOX = _struct("mp4_box", position=u64, length=u64, header_length=u64, children=u64, depth=u64, code=u32, parent=u32,
                handler=u32, what=u8, is_quicktime=u8)

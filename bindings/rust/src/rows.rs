@@ -8,6 +8,8 @@ pub struct Span {
     pub position: u64,
     /// The number of its bytes, with the header.
     pub length: u64,
+    /// 8 or 16: its content begins so many bytes after its position.
+    pub header_length: u64,
     /// The four characters of its code, the first in the highest byte: `ftyp` is 0x66747970.
     pub code: u32,
 }
@@ -26,8 +28,7 @@ impl Span {
 
     /// What comes after the header: the boxes in it, if it contains boxes alone.
     pub fn content_of<'a>(&self, listed: &'a [u8]) -> Option<&'a [u8]> {
-        let whole = self.of(listed)?;
-        whole.get(if whole.starts_with(&[0, 0, 0, 1]) { 16 } else { 8 }..)
+        self.of(listed)?.get(usize::try_from(self.header_length).ok()?..)
     }
 }
 

@@ -1,8 +1,20 @@
--- The places of boxes as C has them.
-use Rattle.mp4_frame.specs.BoxType.{code_of}
-use Rattle.mp4_frame.specs.declared.list.BoxSpan.{BoxSpan}
+-- The places of boxes as C has them (ISO/IEC 14496-12, 4.2).
+use Rattle.std.specs.Prelude.{ℕ, ◌-◌, List, [], ◌∷◌}
+use Rattle.mp4_frame.specs.Reading.{Reading, done, memory, ◌>>=◌}
+use Rattle.mp4_frame.specs.Streams.{walk}
+use Rattle.mp4_frame.specs.declared.frame.Frame.{Frame}
 use Rattle.mp4_c.specs.declared.list.Span.{Span}
 
--- the place of a box, and its code
-abbrev pub span_row : BoxSpan → Span
-span_row s = record { position = s.position; length = s.length; code = code_of s.name }
+-- the place of the box of a frame, how long its header is, and its code
+abbrev pub span_of : Frame → Span
+span_of f = record { position = f.begin; length = f.end - f.begin; header_length = f.content - f.begin; code = f.code }
+
+-- every box's place is kept, which takes memory
+abbrev pub span_item : Frame → Reading (List Span)
+span_item f = do
+  kept ← memory
+  done (span_of f ∷ [])
+
+-- the places of the boxes from o on
+abbrev pub spans : List ℕ → ℕ → Reading (List Span)
+spans B o = walk span_item B o

@@ -1,12 +1,12 @@
 //! Where boxes are.
 
-ghost use Rattle.std.specs.Prelude.{◌≡◌, length, map};
-ghost use Rattle.mp4_frame.specs.Spans.{spans};
+ghost use Rattle.std.specs.Prelude.{◌≡◌, ◌≤◌, length};
+ghost use Rattle.mp4_frame.specs.Reading.{AnswersAs};
 ghost use Rattle.mp4_c_base.specs.Handed.{HandsReading};
-ghost use Rattle.mp4_c.specs.Spans.{span_row};
+ghost use Rattle.mp4_c.specs.Spans.{span_of, spans};
 
 use mp4_c_base::handed::{Handed, hand_over};
-use mp4_stream::{BoxSpan, ByteCursor, list_boxes};
+use mp4_frame::{Frame, Result, frame_at};
 use std::alloc::Global;
 
 /// The place of a box in the bytes, and its code.
@@ -17,12 +17,14 @@ pub struct Span {
     pub position: u64,
     /// The number of bytes of the box, with its header.
     pub length: u64,
+    /// The number of bytes of its header: 8 or 16.
+    pub header_length: u64,
     /// The four characters of its code, the first in the highest byte.
     pub code: u32,
 }
 
-impl Handed<Span, usize> for Vec<BoxSpan> {
-    ghost rows = { λ v. map span_row v.items };
+impl Handed<Span, usize> for Vec<Span> {
+    ghost rows = { λ v. v.items };
 
     ghost summary = { λ v. length v.items };
 
@@ -31,12 +33,7 @@ impl Handed<Span, usize> for Vec<BoxSpan> {
     }
 
     fn row(&self, index: usize) -> Span {
-        let span = self[index];
-        Span {
-            position: span.position,
-            length: span.length,
-            code: u32::from(span.name),
-        }
+        self[index]
     }
 
     fn summary(&self) -> usize {
@@ -44,12 +41,39 @@ impl Handed<Span, usize> for Vec<BoxSpan> {
     }
 }
 
+/// The place of a box at the top level.
+fn span_of(frame: &Frame) -> Span
+    requires content { frame.now.begin ≤ frame.now.content }
+    requires end { frame.now.begin ≤ frame.now.end }
+    ensures { result ≡ span_of frame.now }
+{
+    Span {
+        position: frame.begin,
+        length: frame.end - frame.begin,
+        header_length: frame.content - frame.begin,
+        code: frame.code,
+    }
+}
+
+/// The places of all boxes at the top level of the bytes, or the first fault.
+fn list_spans(alloc: Global, bytes: &[u8]) -> Result<Vec<Span>>
+    ensures { AnswersAs (λ v. v.items) result (spans bytes.now 0) }
+{
+    let mut spans = Vec::new(alloc);
+    let mut at = 0;
+    while at < bytes.len() {
+        let frame = frame_at(bytes, at)?;
+        spans.push(span_of(&frame))?;
+        at = frame.end as usize;
+    }
+    Ok(spans)
+}
+
 /// Hands over the places of all boxes at the top level of the bytes, without reading what is in them.
 #[unsafe(no_mangle)]
 pub extern "C" fn mp4_list(alloc: Global, bytes: &[u8], rows: &mut [Span], count: &mut usize) -> u32
-    ensures { HandsReading (spans bytes.now 0) (λ found. map span_row found) (λ found. length found) result rows.old
-        rows.new count.old count.new }
+    ensures { HandsReading (spans bytes.now 0) (λ found. found) (λ found. length found) result rows.old rows.new
+        count.old count.new }
 {
-    let found = list_boxes(alloc, &mut ByteCursor::new(bytes));
-    hand_over(found, rows, count)
+    hand_over(list_spans(alloc, bytes), rows, count)
 }
