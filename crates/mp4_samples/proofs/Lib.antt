@@ -8,6 +8,7 @@ pub mod Unique
 pub mod Refuted
 pub mod Order
 pub mod Fragments
+pub mod FragmentEnds
 pub mod FragmentCalls
 pub mod AtTime
 pub mod LastSync

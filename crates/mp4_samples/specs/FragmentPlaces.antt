@@ -1,6 +1,7 @@
 -- A place between two samples of a fragment.
-use Rattle.std.specs.Prelude.{ℕ, ℤ, ◌≡◌, ◌+◌, ◌≤◌, ◌==◌, length, if◌then◌else◌}
+use Rattle.std.specs.Prelude.{ℕ, ℤ, pos, negsuc, ◌≡◌, ◌+◌, ◌*◌, ◌^◌, ◌≤◌, ◌≤ℤ◌, ◌==◌, length, if◌then◌else◌}
 use Rattle.mp4_samples.specs.declared.fragment.Fragment.{Fragment}
+use Rattle.mp4_samples.specs.declared.fragment_end.Reached.{Reached}
 use Rattle.mp4_samples.specs.declared.fragment_place.Place.{Place}
 use Rattle.mp4_samples.specs.Fragments.{run_at, runs_end, samples_of_runs, sample_offset, sample_time}
 
@@ -16,3 +17,10 @@ pub record IsAt (f : Fragment) (p : Place) : Type 0 where
   pub counted : p.index ≤ (run_at f p.run).sample_count
   pub offset : p.offset ≡ offset_before f p.run p.index
   pub time : p.time ≡ sample_time f p.run p.index
+
+-- where the first runs end, which is no further out than their bytes can reach
+pub record IsReached (f : Fragment) (p : Reached) : Type 0 where
+  pub within : p.run ≤ length f.runs.now
+  pub end : p.end ≡ runs_end f p.run
+  pub low : negsuc (2 ^ 31) ≤ℤ p.end
+  pub high : p.end ≤ℤ pos ((p.run + 1) * 2 ^ 65)

@@ -56,7 +56,7 @@ fn default_duration(fragment: &Fragment<'_>) -> u32
 }
 
 /// The size of a sample of which its run lists none.
-fn default_size(fragment: &Fragment<'_>) -> u32
+pub fn default_size(fragment: &Fragment<'_>) -> u32
     ensures { result ≡ default_size fragment.now }
 {
     fragment

@@ -27,7 +27,7 @@ pub struct Place {
 }
 
 /// A run of a fragment.
-fn run_of<'a>(fragment: &Fragment<'a>, run: usize) -> &'a TrunBox
+pub fn run_of<'a>(fragment: &Fragment<'a>, run: usize) -> &'a TrunBox
     requires { run < length fragment.now.runs.now }
     ensures { result.now ≡ run_at fragment.now run }
 {

@@ -10,6 +10,7 @@ mod edit_fault;
 pub mod edit_laws;
 mod edits;
 mod fragment;
+mod fragment_end;
 mod fragment_fault;
 mod fragment_place;
 mod fragment_samples;

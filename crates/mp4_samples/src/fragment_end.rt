@@ -1,0 +1,83 @@
+//! Where the data of a fragment end.
+
+ghost use Rattle.std.specs.Prelude.{◌≡◌, ◌+◌, ◌*◌, ◌<◌, ◌≤◌, ◌≤ℤ◌, ◌^◌, ◌⊎◌, length, pos, negsuc, IfSome, IfNone};
+ghost use Rattle.mp4_samples.specs.Fragments.{base_of, bytes_before, runs_end, start_after, HasOffset};
+ghost use Rattle.mp4_samples.specs.FragmentPlaces.{IsReached};
+
+use crate::fragment::{Fragment, base_of, default_size, size_in};
+use crate::fragment_place::{offset_in_file, run_of};
+use mp4_tables::TrunBox;
+
+/// Where the first runs of a fragment end.
+#[derive(Clone, Copy)]
+pub struct Reached {
+    /// How many runs they are.
+    pub run: usize,
+    /// Where the last of them ends.
+    pub end: i128,
+}
+
+/// How many bytes the samples of a run have. It takes a step for each size that the run lists.
+fn bytes_of(fragment: &Fragment<'_>, trun: &TrunBox) -> u64
+    ensures { result ≡ bytes_before fragment.now trun.now trun.now.sample_count }
+{
+    let count = trun.sample_count;
+    let listed = trun.sample_sizes.as_slice().len().min(count as usize) as u32;
+    let mut bytes: u64 = 0;
+    for index in 0..listed {
+        bytes += u64::from(size_in(fragment, trun, index));
+    }
+    bytes + u64::from(count - listed) * u64::from(default_size(fragment))
+}
+
+/// Where a run begins after these.
+fn begin_after(fragment: &Fragment<'_>, reached: Reached, trun: &TrunBox) -> i128
+    requires { IsReached fragment.now reached }
+    ensures begin { result ≡ start_after (base_of fragment.now) reached.end trun.now.data_offset }
+    ensures low { negsuc (2 ^ 31) ≤ℤ result }
+    ensures high { result ≤ℤ pos ((reached.run + 1) * 2 ^ 65) }
+{
+    match trun.data_offset {
+        Some(offset) => i128::from(base_of(fragment)) + i128::from(offset),
+        None => reached.end,
+    }
+}
+
+/// Where one more run ends.
+fn with_run(fragment: &Fragment<'_>, reached: Reached) -> Reached
+    requires at { IsReached fragment.now reached }
+    requires few { reached.run < 2 ^ 32 }
+    requires within { reached.run < length fragment.now.runs.now }
+    ensures at { IsReached fragment.now result }
+    ensures run { result.run ≡ reached.run + 1 }
+{
+    let trun = run_of(fragment, reached.run);
+    let begin = begin_after(fragment, reached, trun);
+    Reached {
+        run: reached.run + 1,
+        end: begin + i128::from(bytes_of(fragment, trun)),
+    }
+}
+
+impl<'a> Fragment<'a> {
+    /// Where the data of its last run end, which is the `data_end` of the next `traf` of the `moof`. None if that is
+    /// outside the file, or there are 2^32 runs or more. It takes a step for each size that a run lists.
+    pub fn end(&self) -> Option<u64>
+        ensures some { IfSome result (λ end. pos end ≡ runs_end self.now (length self.now.runs.now)) }
+        ensures none { IfNone result
+            ((2 ^ 32 ≤ length self.now.runs.now)
+            ⊎ ¬ HasOffset (runs_end self.now (length self.now.runs.now)) 0) }
+    {
+        if self.runs.len() > u32::MAX as usize {
+            return None;
+        }
+        let mut reached = Reached {
+            run: 0,
+            end: i128::from(base_of(self)),
+        };
+        'runs: while reached.run < self.runs.len() {
+            reached = with_run(self, reached);
+        }
+        offset_in_file(reached.end)
+    }
+}
