@@ -44,6 +44,7 @@ number_of_track_error errors.NoMovie = statuses.BOX_NOT_FOUND
 number_of_track_error (errors.NoTrack _) = statuses.NO_TRACK
 number_of_track_error (errors.Missing _) = statuses.BOX_NOT_FOUND
 number_of_track_error (errors.Fault _ _ e) = number_of e
+number_of_track_error (errors.NoBase _) = statuses.OFFSET
 number_of_track_error errors.Memory = statuses.OUT_OF_MEMORY
 
 -- all samples are at the front of the array, in their order, and what is after them is as it was

@@ -36,7 +36,7 @@ pub struct SampleRow {
 }
 
 /// A sample as C has it.
-fn row_of(sample: Sample) -> SampleRow
+pub fn row_of(sample: Sample) -> SampleRow
     ensures { result ≡ row_of sample }
 {
     SampleRow {
@@ -68,7 +68,7 @@ fn number_of_disagreement(disagreement: Disagreement) -> u32
 }
 
 /// The number of an error of a track.
-fn number_of_track_error(error: &TrackError) -> u32
+pub fn number_of_track_error(error: &TrackError) -> u32
     ensures { result ≡ number_of_track_error error.now }
 {
     match error {
@@ -76,6 +76,7 @@ fn number_of_track_error(error: &TrackError) -> u32
         TrackError::NoTrack(_) => NO_TRACK,
         TrackError::Missing { .. } => BOX_NOT_FOUND,
         TrackError::Fault { error, .. } => number_of(error),
+        TrackError::NoBase { .. } => OFFSET,
         TrackError::Memory => OUT_OF_MEMORY,
     }
 }

@@ -1,2 +1,4 @@
 pub mod Levels
 pub mod Traks
+pub mod Trexes
+pub mod Steps

@@ -1,6 +1,6 @@
 -- The boxes of a level, as a search goes through them: a list of boxes in the order of the file begins somewhere in a
 -- level of depth d, which ends at the first box that is less deep.
-use Rattle.std.specs.Prelude.{ℕ, ◌+◌, ◌-◌, ◌==◌, Bool, nat_lt, List, [], ◌∷◌, None, Some, if◌then◌else◌}
+use Rattle.std.specs.Prelude.{ℕ, ◌-◌, ◌==◌, nat_lt, List, [], ◌∷◌, None, Some, if◌then◌else◌}
 use Rattle.std.specs.declared.option.Option.{Option}
 use Rattle.mp4_frame.specs.declared.codes.TheConstants as codes
 use Rattle.mp4_frame.specs.declared.four_cc.FourCC.{FourCC}
@@ -46,3 +46,15 @@ tracks (x ∷ xs) =
 abbrev pub in_nth : List PathPart → ℕ → List (List TreeBox) → Option TreeBox
 in_nth parts k [] = None
 in_nth parts k (l ∷ ls) = if k == 0 then in_level 2 parts l else in_nth parts (k - 1) ls
+
+-- all boxes of this code in the level
+abbrev pub all_in : ℕ → FourCC → List TreeBox → List Found
+all_in d code [] = []
+all_in d code (x ∷ xs) =
+    if nat_lt x.depth d then [] else if is_meant d code x then record { box = x; after = xs } ∷ all_in d code xs else
+    all_in d code xs
+
+-- the boxes after the header of a box that is found
+abbrev pub after_of : Option Found → List TreeBox
+after_of None = []
+after_of (Some f) = f.after

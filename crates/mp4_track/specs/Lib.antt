@@ -3,3 +3,4 @@ pub mod Paths
 pub mod Levels
 pub mod Tables
 pub mod Tracks
+pub mod Fragments

@@ -3,7 +3,9 @@
 ghost use Rattle.std.specs.Prelude.{◌≡◌};
 ghost use Rattle.mp4_track.specs.declared.error.TrackError.TheVariants.{Memory};
 
+use crate::track_fragment::TrackFragment;
 use mp4_frame::{Error, FourCC};
+use mp4_tables::TrunBox;
 use mp4_tree::TreeBox;
 use std::alloc::AllocFailed;
 
@@ -17,7 +19,7 @@ pub enum TrackError {
     #[error("no track has the track_ID {0}")]
     NoTrack(u32),
     /// The track has no box of this code where one has to be. Of `stco` and `co64` it is `stco`.
-    #[error("the track has no {code}")]
+    #[error("there is no {code}")]
     Missing {
         /// The code of the box.
         code: FourCC,
@@ -32,9 +34,32 @@ pub enum TrackError {
         /// The fault.
         error: Error,
     },
+    /// Offsets in a fragment of the track count from where the data before it end, and that can't be told: there is no
+    /// `trex` for them, or they end outside the file.
+    #[error("the data before a fragment in the moof at {position} have no end that can be told")]
+    NoBase {
+        /// The position of the `moof` in the file, in bytes.
+        position: u64,
+    },
     /// Memory was refused.
     #[error("out of memory")]
     Memory,
+}
+
+impl From<AllocFailed<TrunBox>> for TrackError {
+    ghost from_gives = { λ _ e. e ≡ Memory };
+
+    fn from(_e: AllocFailed<TrunBox>) -> TrackError {
+        TrackError::Memory
+    }
+}
+
+impl From<AllocFailed<TrackFragment>> for TrackError {
+    ghost from_gives = { λ _ e. e ≡ Memory };
+
+    fn from(_e: AllocFailed<TrackFragment>) -> TrackError {
+        TrackError::Memory
+    }
 }
 
 impl From<AllocFailed<TreeBox>> for TrackError {

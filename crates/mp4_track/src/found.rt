@@ -13,7 +13,7 @@ use mp4_tree::TreeBox;
 use std::alloc::Global;
 
 /// The error of a track whose box of this code can't be read.
-fn error_of(code: u32, found: &TreeBox, error: Error) -> TrackError
+pub fn error_of(code: u32, found: &TreeBox, error: Error) -> TrackError
     ensures { IsOfBox result }
 {
     match error {

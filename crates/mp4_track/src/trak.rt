@@ -23,7 +23,7 @@ pub struct Trak<'a> {
 }
 
 /// Whether memory was refused.
-fn is_memory(error: &Error) -> bool
+pub fn is_memory(error: &Error) -> bool
     ensures { result ≡ is_memory error.now }
 {
     matches!(error, Error::OutOfMemory)

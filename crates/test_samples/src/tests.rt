@@ -8,4 +8,5 @@ mod hostile;
 mod index;
 mod tables;
 mod track;
+mod track_fragments;
 mod tree;

@@ -58,7 +58,7 @@ const THREE_RUNS: [Row; 6] = [
 ];
 
 /// Whether the next samples are these, and then nothing comes.
-fn are(samples: &mut FragmentSamples<'_>, rows: &[Row]) -> bool {
+pub fn are(samples: &mut FragmentSamples<'_>, rows: &[Row]) -> bool {
     for row in rows {
         if samples.next() != Some(Ok(sample_of(*row))) {
             return false;

@@ -1,4 +1,4 @@
-use Rattle.std.proofs.Common.{◌∷◌, None, Some, ap, ◌∙◌}
+use Rattle.std.proofs.Common.{◌∷◌, None, ap, ◌∙◌}
 use Rattle.mp4_frame.specs.declared.four_cc.FourCC.{FourCC}
 use Rattle.mp4_track.specs.Levels.{first_in}
 use Rattle.mp4_track.proofs.Traks.{in_first}

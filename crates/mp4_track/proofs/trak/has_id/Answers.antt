@@ -1,4 +1,4 @@
-use Rattle.std.proofs.Common.{◌≡◌, [], None, Some, subst, sym, ap, ◌∙◌, Bool}
+use Rattle.std.proofs.Common.{◌≡◌, [], None, subst, sym, ap, ◌∙◌, Bool}
 use Rattle.std.specs.Prelude.{IfOk}
 use Rattle.std.specs.declared.option.Option.{Option}
 use Rattle.mp4_frame.specs.declared.codes.TheConstants as codes
