@@ -75,7 +75,8 @@ enum {
     MP4_OUT_OF_MEMORY = 12,
     /* The array has fewer places than there are elements. This is the number of no error of the codec, as are those below. */
     MP4_NO_ROOM = 100,
-    /* No track has the track_ID. Only mp4_samples returns it, and those below. */
+    /* No track has the track_ID. Only mp4_samples and mp4_fragment_samples return it, and those below; the latter those of
+       them that say so. */
     MP4_NO_TRACK = 101,
     /* The tables of a track disagree: stsz lists another number of sizes than it counts samples; */
     MP4_SAMPLE_SIZES_DISAGREE = 110,
@@ -83,15 +84,16 @@ enum {
     MP4_FIRST_CHUNK_DISAGREES = 111,
     /* or an entry of it begins no later than the one before it; */
     MP4_CHUNK_ORDER_DISAGREES = 112,
-    /* stco or co64 has 2^32 chunks or more, */
+    /* stco or co64 has 2^32 chunks or more (a fragment 2^32 runs or more), */
     MP4_CHUNK_COUNT_DISAGREES = 113,
     /* or stsc and they hold fewer samples than stsz counts; */
     MP4_CHUNKS_DISAGREE = 114,
-    /* stts has a duration for fewer samples than stsz counts; */
+    /* stts has a duration for fewer samples than stsz counts (a sample of a fragment ends past the time 2^64 - 1); */
     MP4_DURATIONS_DISAGREE = 115,
     /* an entry of stss is not above the one before it, or the first is 0; */
     MP4_SYNC_SAMPLES_DISAGREE = 116,
-    /* a chunk of stco or co64 begins so far out that the bytes of all samples of stsz would end past 2^64 - 1. */
+    /* a chunk of stco or co64 begins so far out that the bytes of all samples of stsz would end past 2^64 - 1 (a sample of a
+       fragment begins before the file or ends past 2^64 - 1, or it can't be told where the data before the fragment end). */
     MP4_OFFSETS_DISAGREE = 117
 };
 
@@ -120,7 +122,7 @@ struct mp4_sample {
     uint32_t size;            /* in bytes */
     uint32_t duration;
     uint32_t description; /* the index of its sample entry in stsd, counted from 1 */
-    uint32_t chunk;       /* counted from 1 */
+    uint32_t chunk;       /* counted from 1; of a fragment, which of its runs the sample is in */
     uint8_t sync;         /* 1 if it is a sync sample, as each one is without stss; else 0 */
 };
 
@@ -557,6 +559,16 @@ uint32_t mp4_walk_next(const uint8_t *bytes, size_t length, struct mp4_walk *wal
 uint32_t mp4_samples(const uint8_t *bytes, size_t length, uint32_t track_id, struct mp4_sample *samples, size_t places,
                      size_t *count);
 
+/* The samples of all fragments of the first track with this track_ID, over the bytes of a file, in its order: those of each traf
+   (8.8.6) whose tfhd has the track_ID, by its runs, the defaults of its tfhd and those of the trex of the track. Without a tfdt
+   the times of a fragment go on from the one before, and those of the first one from 0. Offsets count from the base that the
+   tfhd names, else from its moof, or from where the data of the traf before it in the moof end. Also MP4_NO_TRACK;
+   MP4_BOX_NOT_FOUND if the file has no moov, a traf no tfhd, or a fragment of the track no trex; and
+   MP4_CHUNK_COUNT_DISAGREES, MP4_DURATIONS_DISAGREE and MP4_OFFSETS_DISAGREE, as said there, which are found once there is room
+   for the samples. Their number is at most 2^64 - 1. */
+uint32_t mp4_fragment_samples(const uint8_t *bytes, size_t length, uint32_t track_id, struct mp4_sample *samples,
+                              size_t places, size_t *count);
+
 /* The version of the library: MP4_VERSION_NUMBER of the header that it was built with. */
 uint32_t mp4_version(void);
 
@@ -757,6 +769,10 @@ MP4_INLINE uint32_t mp4_call_samples(const uint8_t *bytes, size_t length, uint32
                                      size_t places, size_t *count) {
     return mp4_samples(MP4_BYTES(bytes), length, track_id, (struct mp4_sample *)mp4_to(samples), places, count);
 }
+MP4_INLINE uint32_t mp4_call_fragment_samples(const uint8_t *bytes, size_t length, uint32_t track_id,
+                                              struct mp4_sample *samples, size_t places, size_t *count) {
+    return mp4_fragment_samples(MP4_BYTES(bytes), length, track_id, (struct mp4_sample *)mp4_to(samples), places, count);
+}
 MP4_INLINE uint32_t mp4_call_status_text(uint32_t status, uint8_t *text, size_t places, size_t *count) {
     return mp4_status_text(status, (uint8_t *)mp4_to(text), places, count);
 }
@@ -861,6 +877,7 @@ MP4_INLINE uint32_t mp4_call_write_stsd(const struct mp4_stsd_box *box, const si
 #define mp4_write_stsd mp4_call_write_stsd
 #define mp4_find mp4_call_find
 #define mp4_samples mp4_call_samples
+#define mp4_fragment_samples mp4_call_fragment_samples
 #define mp4_status_text mp4_call_status_text
 #define mp4_list mp4_call_list
 #define mp4_normal mp4_call_normal

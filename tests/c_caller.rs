@@ -127,6 +127,14 @@ unsafe extern "C" {
     fn mp4_trun(bytes: *const u8, length: usize, rows: *mut TrunRow, places: usize, table: *mut TrunTable) -> u32;
     fn mp4_find(bytes: *const u8, length: usize, path: *const u8, path_length: usize, place: *mut Place) -> u32;
     fn mp4_samples(bytes: *const u8, length: usize, id: u32, rows: *mut Sample, places: usize, count: *mut usize) -> u32;
+    fn mp4_fragment_samples(
+        bytes: *const u8,
+        length: usize,
+        id: u32,
+        rows: *mut Sample,
+        places: usize,
+        count: *mut usize,
+    ) -> u32;
     fn mp4_status_text(status: u32, text: *mut u8, places: usize, count: *mut usize) -> u32;
     fn mp4_version() -> u32;
 }
@@ -193,6 +201,8 @@ fn others(stream: &[u8]) {
     assert_eq!(place, Place { position: 0, length: 17, header_length: 16, code: free, is_whole: 1 });
     let samples = unsafe { mp4_samples(stream.as_ptr(), stream.len(), 1, rows.as_mut_ptr(), 1, &mut count) };
     assert_eq!((samples, count, rows), (BOX_NOT_FOUND, 9, [Sample::default()]));
+    let samples = unsafe { mp4_fragment_samples(stream.as_ptr(), stream.len(), 1, rows.as_mut_ptr(), 1, &mut count) };
+    assert_eq!((samples, count, rows), (BOX_NOT_FOUND, 9, [Sample::default()]));
     assert_eq!(unsafe { mp4_status_text(NO_ROOM, text.as_mut_ptr(), text.len(), &mut count) }, OK);
     assert_eq!(&text[..count], b"the array has too few places");
     assert_eq!(unsafe { mp4_version() }, 1000);
@@ -253,5 +263,5 @@ fn main() {
     let sample = TrunRow { size: 0x81828384, composition_offset: 0x85868788, ..TrunRow::default() };
     hands_table(mp4_trun, trun, &[sample], told);
     others(stream);
-    println!("c_caller, in Rust: 16 functions");
+    println!("c_caller, in Rust: 17 functions");
 }

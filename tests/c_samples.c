@@ -110,6 +110,106 @@ static void try_samples(void) {
     track_id = 7;
 }
 
+/* Two fragments of the tracks 1 and 2. Those of track 1 have two samples of 3 and 6 bytes from the time 1000 on, and one of the
+   default size, after the data of track 2, whose samples have 5 bytes and are no sync samples. */
+static const char FRAGMENT_BYTES[] =
+    "\0\0\1\x18moov"                                                          /* 0 */
+    "\0\0\0\x64trak" HEADER "\1" REST                                         /* 8 */
+    "\0\0\0\x64trak" HEADER "\2" REST                                         /* 108 */
+    "\0\0\0\x48mvex"                                                          /* 208 */
+    "\0\0\0\x20trex\0\0\0\0\0\0\0\1\0\0\0\1\0\0\0\x0A\0\0\0\4\0\0\0\0"        /* 216 */
+    "\0\0\0\x20trex\0\0\0\0\0\0\0\2\0\0\0\1\0\0\0\7\0\0\0\5\0\1\0\0"          /* 248 */
+    "\0\0\0\x84moof\0\0\0\x10mfhd\0\0\0\0\0\0\0\1"                            /* 280, 288 */
+    "\0\0\0\x44traf\0\0\0\x10tfhd\0\0\0\0\0\0\0\1"                            /* 304, 312 */
+    "\0\0\0\x10tfdt\0\0\0\0\0\0\3\xE8"                                        /* 328 */
+    "\0\0\0\x1Ctrun\0\0\2\1\0\0\0\2\0\0\0\x8C\0\0\0\3\0\0\0\6"                /* 344 */
+    "\0\0\0\x28traf\0\0\0\x10tfhd\0\0\0\0\0\0\0\2"                            /* 372, 380 */
+    "\0\0\0\x10trun\0\0\0\0\0\0\0\3"                                          /* 396 */
+    "\0\0\0\x20mdatabcdefghijklmnopqrstuvwx"                                  /* 412 */
+    "\0\0\0\x6Cmoof\0\0\0\x10mfhd\0\0\0\0\0\0\0\2"                            /* 444, 452 */
+    "\0\0\0\x2Ctraf\0\0\0\x10tfhd\0\2\0\0\0\0\0\2"                            /* 468, 476 */
+    "\0\0\0\x14trun\0\0\0\1\0\0\0\1\0\0\0\x74"                                /* 492 */
+    "\0\0\0\x28traf\0\0\0\x10tfhd\0\0\0\0\0\0\0\1"                            /* 512, 520 */
+    "\0\0\0\x10trun\0\0\0\0\0\0\0\1"                                          /* 536 */
+    "\0\0\0\x11mdatabcdefghi";                                                /* 552 */
+
+#define FRAGMENT_LENGTH (sizeof FRAGMENT_BYTES - 1)
+
+/* From how many bytes on the fragments of track 1 have this status, and this many samples. */
+static const struct {
+    size_t from, count;
+    uint32_t status;
+} BEGINNINGS[] = {
+    {0, 0, MP4_BOX_NOT_FOUND}, {8, 0, MP4_NO_TRACK},        {108, 0, MP4_OK},           {312, 0, MP4_BOX_NOT_FOUND},
+    {320, 0, MP4_END_OF_INPUT}, {328, 0, MP4_OK},           {336, 0, MP4_END_OF_INPUT}, {344, 0, MP4_OK},
+    {352, 0, MP4_END_OF_INPUT}, {372, 2, MP4_OK},           {380, 0, MP4_BOX_NOT_FOUND}, {388, 0, MP4_END_OF_INPUT},
+    {396, 2, MP4_OK},           {404, 0, MP4_END_OF_INPUT}, {412, 2, MP4_OK},           {476, 0, MP4_BOX_NOT_FOUND},
+    {484, 0, MP4_END_OF_INPUT}, {492, 2, MP4_OK},           {500, 0, MP4_END_OF_INPUT}, {512, 2, MP4_OK},
+    {520, 0, MP4_BOX_NOT_FOUND}, {528, 0, MP4_END_OF_INPUT}, {536, 2, MP4_OK},          {544, 0, MP4_END_OF_INPUT},
+    {552, 3, MP4_OK},
+};
+
+static uint32_t call_fragments(const uint8_t *bytes, size_t length, void *rows, size_t places, void *told) {
+    return mp4_fragment_samples(bytes, length, track_id, (struct mp4_sample *)rows, places, (size_t *)told);
+}
+
+static int is_sample_of(const struct mp4_sample *s, uint64_t offset, uint64_t time, uint32_t size, uint32_t duration, int sync) {
+    return s->offset == offset && s->decode_time == time && s->rendering_offset == 0 && s->size == size &&
+           s->duration == duration && s->description == 1 && s->chunk == 1 && s->sync == sync;
+}
+
+static int are_of_track_1(const void *rows, size_t count) {
+    const struct mp4_sample *s = rows;
+    return count == 3 && is_sample_of(&s[0], 420, 1000, 3, 10, 1) && is_sample_of(&s[1], 423, 1010, 6, 10, 1) &&
+           is_sample_of(&s[2], 565, 1020, 4, 10, 1);
+}
+
+/* The status where one byte of the file is another. */
+static uint32_t with_fragment_byte(const struct subject *s, size_t at, uint8_t byte) {
+    uint8_t bytes[FRAGMENT_LENGTH];
+    memcpy(bytes, FRAGMENT_BYTES, FRAGMENT_LENGTH);
+    bytes[at] = byte;
+    return call_with(s, bytes, FRAGMENT_LENGTH, 3);
+}
+
+static void try_beginnings(void) {
+    struct mp4_sample rows[3];
+    size_t cut, at = 0, count;
+    for (cut = 0; cut <= FRAGMENT_LENGTH; cut++) {
+        if (at + 1 < sizeof BEGINNINGS / sizeof *BEGINNINGS && cut == BEGINNINGS[at + 1].from)
+            at++;
+        count = 9;
+        EXPECT(mp4_fragment_samples((const uint8_t *)FRAGMENT_BYTES, cut, 1, rows, 3, &count) == BEGINNINGS[at].status);
+        EXPECT(count == (BEGINNINGS[at].status == MP4_OK ? BEGINNINGS[at].count : 9));
+    }
+}
+
+static void try_fragments(void) {
+    struct subject s = {"mp4_fragment_samples", call_fragments, sizeof(struct mp4_sample), sizeof(size_t), are_of_track_1, is_three, 3, BYTES(FRAGMENT_BYTES), {0, 0}};
+    struct mp4_sample rows[4];
+    size_t count = 0;
+    track_id = 1;
+    refuse_each(&s);
+    EXPECT(call_with(&s, s.bytes, FRAGMENT_LENGTH, 5) == MP4_OK);
+    EXPECT(call_with(&s, s.bytes, FRAGMENT_LENGTH, 0) == MP4_NO_ROOM);
+    EXPECT(call_with(&s, s.bytes, FRAGMENT_LENGTH, 2) == MP4_NO_ROOM);
+    try_beginnings();
+    EXPECT(mp4_fragment_samples(s.bytes, FRAGMENT_LENGTH, 2, rows, 4, &count) == MP4_OK && count == 4);
+    EXPECT(is_sample_of(&rows[0], 429, 0, 5, 7, 0) && is_sample_of(&rows[1], 434, 7, 5, 7, 0));
+    EXPECT(is_sample_of(&rows[2], 439, 14, 5, 7, 0) && is_sample_of(&rows[3], 560, 21, 5, 7, 0));
+    EXPECT(mp4_fragment_samples((const uint8_t *)FILE_BYTES, LENGTH, 7, NULL, 0, &count) == MP4_OK && count == 0);
+    EXPECT(mp4_fragment_samples(NULL, 0, 7, NULL, 0, &count) == MP4_BOX_NOT_FOUND && count == 0);
+    track_id = 3;
+    EXPECT(call_with(&s, s.bytes, FRAGMENT_LENGTH, 3) == MP4_NO_TRACK);
+    track_id = 1;
+    EXPECT(with_fragment_byte(&s, 231, 3) == MP4_BOX_NOT_FOUND); /* no defaults of track 1 */
+    EXPECT(with_fragment_byte(&s, 263, 3) == MP4_OFFSETS_DISAGREE); /* none of track 2, whose data are before */
+    EXPECT(with_fragment_byte(&s, 360, 0xFF) == MP4_OFFSETS_DISAGREE); /* a data offset below 0 */
+    EXPECT(with_fragment_byte(&s, 359, 3) == MP4_INVALID_DATA); /* three samples of two sizes */
+    EXPECT(with_fragment_byte(&s, 320, 1) == MP4_OK); /* a tfhd of another version */
+    track_id = 7;
+}
+
 /* mp4_find, in the form that is the same for all: its place is what is told. */
 
 static const char *path;
@@ -202,7 +302,8 @@ int main(int arguments, char **argument) {
     EXPECT(LENGTH == 449);
     try_find();
     try_samples();
+    try_fragments();
     try_about();
-    printf("c_samples: %ld calls of 4 functions, %ld checks\n", calls, checks);
+    printf("c_samples: %ld calls of 5 functions, %ld checks\n", calls, checks);
     return 0;
 }

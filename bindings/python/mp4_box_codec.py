@@ -322,6 +322,7 @@ _find = _function("mp4_find", ctypes.c_void_p, size, ctypes.c_char_p, size, ctyp
 _walk_begin = _function("mp4_walk_begin", u64, ctypes.POINTER(_WALK))
 _walk_next = _function("mp4_walk_next", ctypes.c_char_p, size, ctypes.POINTER(_WALK), ctypes.POINTER(_BOX))
 _samples, version = _filled("mp4_samples", _SAMPLE, size, u32), _function("mp4_version")
+_fragment_samples = _filled("mp4_fragment_samples", _SAMPLE, size, u32)
 _status_text = _function("mp4_status_text", u32, ctypes.c_char_p, size, ctypes.POINTER(size))
 
 
@@ -757,6 +758,18 @@ def find(data: Any, path: str) -> Optional[Place]:
 def samples(data: Any, track_id: int) -> List[Sample]:
     """The samples of the first track with a track_ID (8.3.2) over the bytes of a file, by the tables of its `stbl`."""
     return _listed(_samples(data, track_id)[0], Sample, _SAMPLE)
+
+
+def fragment_samples(data: Any, track_id: int) -> List[Sample]:
+    """The samples of all fragments of the first track with a track_ID (8.8) over the bytes of a file, in its order. Their
+    `chunk` is which run of its fragment a sample is in, counted from 1. Without a `tfdt` times go on from the fragment
+    before, and from 0 in the first one.
+
+    >>> fragment_samples(b"", 1)
+    Traceback (most recent call last):
+    mp4_box_codec.Mp4Error: box not found
+    """
+    return _listed(_fragment_samples(data, track_id)[0], Sample, _SAMPLE)
 
 
 TABLES: Dict[str, Callable[[Any], Any]] = {

@@ -14,6 +14,10 @@ def table_box(name, version, flags, *numbers):
     return head + struct.pack(f">{len(numbers)}I", *numbers)
 
 
+def boxed(name, *parts):
+    return struct.pack(">I4s", 8 + sum(map(len, parts)), name.encode()) + b"".join(parts)
+
+
 class Calls(unittest.TestCase):
     def test_spans(self):
         file = b"\0\0\0\x08free\0\0\0\x01mdat\0\0\0\0\0\0\0\x12ab\0\0\0\0wide"
@@ -103,9 +107,6 @@ class Calls(unittest.TestCase):
         self.assertEqual(codec.tables(stbl + stbl), {"stbl/stts": codec.stts(stts), "stbl[1]/stts": codec.stts(stts)})
 
     def test_a_track(self):
-        def boxed(name, *parts):
-            return struct.pack(">I4s", 8 + sum(map(len, parts)), name.encode()) + b"".join(parts)
-
         tables = [
             table_box("stsz", 0, 0, 0, 3, 3, 4, 5), table_box("stsc", 0, 0, 1, 1, 2, 1),
             table_box("stco", 0, 0, 2, 100, 107), table_box("stts", 0, 0, 1, 3, 10), table_box("stss", 0, 0, 2, 1, 3),
@@ -123,6 +124,24 @@ class Calls(unittest.TestCase):
         self.assertIsNone(codec.find(file, "moov/trak[1]"))
         self.assertRaises(codec.Mp4Error, codec.find, file, "moov/trak[")
         self.assertEqual(codec.version(), 1000)
+
+    def test_fragments(self):
+        tracks = [boxed("trak", table_box("tkhd", 0, 7, 0, 0, track, *[0] * 17)) for track in (1, 2)]
+        defaults = [table_box("trex", 0, 0, 1, 1, 10, 4, 0), table_box("trex", 0, 0, 2, 1, 7, 5, 0x10000)]
+        movie = boxed("moov", *tracks, boxed("mvex", *defaults))
+        run = table_box("trun", 0, 0x201, 2, 140, 3, 6)
+        first = boxed("traf", table_box("tfhd", 0, 0, 1), table_box("tfdt", 0, 0, 1000), run)
+        second = boxed("traf", table_box("tfhd", 0, 0, 2), table_box("trun", 0, 0, 3))
+        file = movie + boxed("moof", table_box("mfhd", 0, 0, 1), first, second) + boxed("mdat", bytes(24))
+        data = len(movie) + 140
+
+        def found(track):
+            return [(it.offset, it.size, it.decode_time, it.sync) for it in codec.fragment_samples(file, track)]
+
+        self.assertEqual(found(1), [(data, 3, 1000, 1), (data + 3, 6, 1010, 1)])
+        self.assertEqual(found(2), [(data + 9 + 5 * at, 5, 7 * at, 0) for at in range(3)])
+        with self.assertRaisesRegex(codec.Mp4Error, "no track has the track_ID"):
+            codec.fragment_samples(file, 3)
 
     def test_faults(self):
         def status(call, data):

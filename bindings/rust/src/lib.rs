@@ -171,6 +171,24 @@ pub fn samples(bytes: &[u8], track_id: u32) -> Result<Vec<Sample>> {
     Ok(found?.0)
 }
 
+/// The samples of all fragments of the first track with a track_ID (8.8) over the bytes of a file, in its order. Their
+/// `chunk` is which run of its fragment a sample is in, counted from 1. Without a `tfdt` times go on from the fragment
+/// before, and from 0 in the first one.
+///
+/// ```no_run
+/// let file = std::fs::read("fragments.mp4").unwrap();
+/// for sample in mp4_box_codec::fragment_samples(&file, 1).unwrap() {
+///     println!("{} bytes at {}", sample.size, sample.offset);
+/// }
+/// ```
+pub fn fragment_samples(bytes: &[u8], track_id: u32) -> Result<Vec<Sample>> {
+    // SAFETY: as of `filled`.
+    let found = filled_by(|rows: &mut Vec<Sample>, count: &mut usize| unsafe {
+        raw::mp4_fragment_samples(bytes.as_ptr(), bytes.len(), track_id, rows.as_mut_ptr(), rows.len(), count)
+    });
+    Ok(found?.0)
+}
+
 /// The version of the library: 1000000 for each major version, 1000 for each minor one, and 1 for each patch.
 pub fn version() -> u32 {
     // SAFETY: it takes nothing.

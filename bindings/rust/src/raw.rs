@@ -101,6 +101,14 @@ extern "C" {
         places: usize,
         count: *mut usize,
     ) -> u32;
+    pub fn mp4_fragment_samples(
+        bytes: *const u8,
+        length: usize,
+        track_id: u32,
+        samples: *mut Sample,
+        places: usize,
+        count: *mut usize,
+    ) -> u32;
     pub fn mp4_version() -> u32;
     pub fn mp4_status_text(status: u32, text: *mut u8, places: usize, count: *mut usize) -> u32;
 }

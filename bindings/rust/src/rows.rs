@@ -63,7 +63,7 @@ pub struct Sample {
     pub duration: u32,
     /// The index of its sample entry in `stsd`, counted from 1.
     pub description: u32,
-    /// Counted from 1.
+    /// Counted from 1; of a fragment, which of its runs the sample is in.
     pub chunk: u32,
     /// 1 if it is a sync sample, as each one is without `stss`; else 0.
     pub sync: u8,

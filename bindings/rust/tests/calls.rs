@@ -103,14 +103,16 @@ fn faults() {
     assert_eq!(shown.to_string(), "out of memory");
 }
 
+/// A box of this name that has these boxes.
+fn nested(name: &str, parts: &[Vec<u8>]) -> Vec<u8> {
+    let mut bytes = (8 + parts.iter().map(Vec::len).sum::<usize>() as u32).to_be_bytes().to_vec();
+    bytes.extend(name.as_bytes());
+    parts.iter().for_each(|it| bytes.extend(it));
+    bytes
+}
+
 /// A movie with a track of track_ID 7, which has three samples in two chunks.
 fn movie() -> Vec<u8> {
-    let boxed = |name: &str, parts: &[Vec<u8>]| {
-        let mut bytes = (8 + parts.iter().map(Vec::len).sum::<usize>() as u32).to_be_bytes().to_vec();
-        bytes.extend(name.as_bytes());
-        parts.iter().for_each(|it| bytes.extend(it));
-        bytes
-    };
     let stbl = [
         table_box("stsz", 0, 0, &[0, 3, 3, 4, 5]),
         table_box("stsc", 0, 0, &[1, 1, 2, 1]),
@@ -125,9 +127,9 @@ fn movie() -> Vec<u8> {
     mdhd[14..16].copy_from_slice(&[3, 0xE8]);
     let mut hdlr = vec![0; 25];
     hdlr[8..12].copy_from_slice(b"vide");
-    let minf = boxed("minf", &[boxed("stbl", &stbl)]);
-    let mdia = boxed("mdia", &[boxed("mdhd", &[mdhd]), boxed("hdlr", &[hdlr]), minf]);
-    boxed("moov", &[boxed("trak", &[boxed("tkhd", &[tkhd]), mdia])])
+    let minf = nested("minf", &[nested("stbl", &stbl)]);
+    let mdia = nested("mdia", &[nested("mdhd", &[mdhd]), nested("hdlr", &[hdlr]), minf]);
+    nested("moov", &[nested("trak", &[nested("tkhd", &[tkhd]), mdia])])
 }
 
 #[test]
@@ -139,6 +141,32 @@ fn finding() {
     assert_eq!(found, expected);
     assert_eq!(find(&file, "moov/trak[1]"), Ok(None));
     assert_eq!(find(&file, "moov/trak["), Err(Error::InvalidData));
+}
+
+/// A track header of this track_ID.
+fn header(track: u8) -> Vec<u8> {
+    let mut tkhd = vec![0; 84];
+    tkhd[15] = track;
+    nested("tkhd", &[tkhd])
+}
+
+#[test]
+fn samples_of_fragments() {
+    let defaults = [table_box("trex", 0, 0, &[1, 1, 10, 4, 0]), table_box("trex", 0, 0, &[2, 1, 7, 5, 0x10000])];
+    let tracks = [nested("trak", &[header(1)]), nested("trak", &[header(2)]), nested("mvex", &defaults)];
+    let run = table_box("trun", 0, 0x201, &[2, 140, 3, 6]);
+    let first = nested("traf", &[table_box("tfhd", 0, 0, &[1]), table_box("tfdt", 0, 0, &[1000]), run]);
+    let second = nested("traf", &[table_box("tfhd", 0, 0, &[2]), table_box("trun", 0, 0, &[3])]);
+    let mut file = nested("moov", &tracks);
+    let data = file.len() as u64 + 140;
+    file.extend(nested("moof", &[table_box("mfhd", 0, 0, &[1]), first, second]));
+    let found = |track| -> Result<Vec<_>> {
+        let samples = fragment_samples(&file, track)?;
+        Ok(samples.iter().map(|it| (it.offset, it.size, it.decode_time, it.sync)).collect::<Vec<_>>())
+    };
+    assert_eq!(found(1), Ok(vec![(data, 3, 1000, 1), (data + 3, 6, 1010, 1)]));
+    assert_eq!(found(2), Ok(vec![(data + 9, 5, 0, 0), (data + 14, 5, 7, 0), (data + 19, 5, 14, 0)]));
+    assert_eq!(found(3), Err(Error::NoTrack));
 }
 
 #[test]

@@ -1,5 +1,5 @@
 -- Samples that are put into an array, one after the other.
-use Rattle.std.proofs.Common.{◌≡◌, ℕ, ◌+◌, ◌<◌, ◌≤◌, List, length, Some, ap, sym, subst, ◌∙◌, arith, Bool, true, false}
+use Rattle.std.proofs.Common.{◌≡◌, ℕ, ◌+◌, ◌<◌, List, length, Some, ap, subst, ◌∙◌, arith, Bool, true, false}
 use Rattle.std.proofs.Common.{refl}
 use Rattle.std.specs.Prelude.{slice_get, slice_set, nat_lt}
 use Rattle.std.proofs.lemmas.Bool.{ltb-true, ltb-false}
@@ -15,7 +15,7 @@ use Rattle.mp4_samples.specs.declared.tables.Tables.{Tables}
 abbrev pub IsPut : Tables → List SampleRow → ℕ → Type 0
 IsPut t rows k = (s : Sample) × (IsSample t k s × (slice_get rows k ≡ Some (row_of s)))
 
-by_bool : {P : Type 0} (b : Bool) → (b ≡ true → P) → (b ≡ false → P) → P
+pub by_bool : {P : Type 0} (b : Bool) → (b ≡ true → P) → (b ≡ false → P) → P
 by_bool {P} b if_true if_false = (elim b as (λ c. b ≡ c → P) [ true ↦ if_true | false ↦ if_false ]) refl
 
 put_here : (rows : List SampleRow) (i : ℕ) (row : SampleRow) → i < length rows

@@ -1,3 +1,4 @@
 pub mod Spans
 pub mod Find
 pub mod Samples
+pub mod FragmentSamples

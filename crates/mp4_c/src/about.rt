@@ -35,11 +35,13 @@ fn text_of(status: u32) -> &'static str {
         SAMPLE_SIZES => "stsz lists another number of sizes than it counts samples",
         FIRST_CHUNK => "stsc begins at another chunk than 1",
         CHUNK_ORDER => "an entry of stsc begins no later than the one before it",
-        CHUNK_COUNT => "there are 2^32 chunks or more",
+        CHUNK_COUNT => "there are 2^32 chunks or more, or runs of a fragment",
         CHUNKS => "the chunks hold fewer samples than stsz counts",
-        DURATIONS => "stts has a duration for fewer samples than stsz counts",
+        DURATIONS =>
+            "stts has a duration for fewer samples than stsz counts, or a fragment ends too late",
         SYNC_SAMPLES => "an entry of stss is not above the one before it",
-        OFFSET => "a chunk begins too far out for the bytes of all samples",
+        OFFSET =>
+            "a chunk begins too far out for the bytes of all samples, or a fragment's are outside",
         _ => "unknown status",
     }
 }

@@ -20,6 +20,7 @@ pub mod elst;
 pub mod emsg;
 pub mod esds;
 pub mod find;
+pub mod fragment_samples;
 pub mod ftyp;
 pub mod hdlr;
 pub mod hev1;

@@ -1,0 +1,7 @@
+-- The samples of the fragments so far.
+use Rattle.std.proofs.Common.{◌≡◌, ◌-◌, ◌^◌, min, take}
+use Rattle.mp4_c.specs.FragmentSamples.{samples_in}
+use Rattle.mp4_c.proofs.fragment_samples.count_of.Given as goal
+
+abbrev pub invariant-all : goal.invariant-all
+invariant-all l = l.total ≡ min (samples_in (take l.index l.fragments)) (2 ^ 64 - 1)

@@ -1,0 +1,19 @@
+use Rattle.std.proofs.Common.{inl, inr, refl, subst, List}
+use Rattle.mp4_track.specs.declared.track_fragment.TrackFragment.{TrackFragment}
+use Rattle.mp4_c.specs.FragmentSamples.{GivesRows}
+use Rattle.mp4_c.proofs.fragment_samples.mp4_fragment_samples.Goals as goal
+
+pub returns-in-Ok : goal.returns-in-Ok
+returns-in-Ok c = inl (
+  c.in-Ok.fragments.items,
+  (
+    c.in-Ok.ensures.fragments,
+    subst
+        (λ (fs : List TrackFragment). GivesRows fs c.hand_fragments.result c.args.rows.now c.hand_fragments.new.rows
+        c.args.count.now c.hand_fragments.new.count)
+        c.deref.ensures.value c.hand_fragments.ensures,
+  ),
+)
+
+pub returns-in-Err : goal.returns-in-Err
+returns-in-Err c = inr (c.in-Err.error, (c.in-Err.ensures.error, (c.number_of_track_error.ensures, (refl, refl))))
