@@ -561,11 +561,11 @@ uint32_t mp4_samples(const uint8_t *bytes, size_t length, uint32_t track_id, str
 
 /* The samples of all fragments of the first track with this track_ID, over the bytes of a file, in its order: those of each traf
    (8.8.6) whose tfhd has the track_ID, by its runs, the defaults of its tfhd and those of the trex of the track. Without a tfdt
-   the times of a fragment go on from the one before, and those of the first one from 0. Offsets count from the base that the
-   tfhd names, else from its moof, or from where the data of the traf before it in the moof end. Also MP4_NO_TRACK;
-   MP4_BOX_NOT_FOUND if the file has no moov, a traf no tfhd, or a fragment of the track no trex; and
-   MP4_CHUNK_COUNT_DISAGREES, MP4_DURATIONS_DISAGREE and MP4_OFFSETS_DISAGREE, as said there, which are found once there is room
-   for the samples. Their number is at most 2^64 - 1. */
+   the times of a fragment go on from the one before, and those of the first one from where the samples of the track's tables
+   end, by its stts. Offsets count from the base that the tfhd names, else from its moof, or from where the data of the traf
+   before it in the moof end. Also MP4_NO_TRACK; MP4_BOX_NOT_FOUND if the file has no moov, a traf no tfhd, or a fragment of the
+   track no trex; and MP4_CHUNK_COUNT_DISAGREES, MP4_DURATIONS_DISAGREE and MP4_OFFSETS_DISAGREE, as said there, which are
+   found once there is room for the samples. Their number is at most 2^64 - 1. */
 uint32_t mp4_fragment_samples(const uint8_t *bytes, size_t length, uint32_t track_id, struct mp4_sample *samples,
                               size_t places, size_t *count);
 

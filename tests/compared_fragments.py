@@ -13,14 +13,26 @@ sys.path[:0] = [str(TOP / "bindings/python"), str(TOP / "tests")]
 
 import mp4_box_codec as codec  # noqa: E402
 from inspect_files import made  # noqa: E402
-from slow_samples import Bad, File, boxes  # noqa: E402
+from slow_samples import Bad, File, boxes, entries, first, inner  # noqa: E402
+
+
+def begin_of(data, trak):
+    """When the samples of the tables of a track end: the sum of the durations of its stts."""
+    for code in (b"mdia", b"minf", b"stbl", b"stts"):
+        trak = None if trak is None else first(inner(data, trak), code)
+    return 0 if trak is None else sum(count * delta for count, delta in entries(trak, 8, ">II"))
 
 
 def expected(data, track):
     """The samples of the fragments of a track of the first movie; none if there is a fault, or no such track."""
-    file, samples, time = File(data), [], 0
+    file, samples = File(data), []
     movies = [box for box in boxes(data, 0, len(data), True) if box[0] == b"moov"]
-    if len(movies) != 1 or track not in [file.track(trak)[0] for trak in file.tracks]:
+    tracks = [trak for trak in file.tracks if file.track(trak)[0] == track]
+    if len(movies) != 1 or not tracks:
+        return None
+    try:
+        time = begin_of(data, tracks[0])
+    except Bad:
         return None
     for _, traf, header, base in file.fragments.get(track, []):
         if base is None:

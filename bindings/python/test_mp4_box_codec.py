@@ -126,7 +126,9 @@ class Calls(unittest.TestCase):
         self.assertEqual(codec.version(), 1000)
 
     def test_fragments(self):
-        tracks = [boxed("trak", table_box("tkhd", 0, 7, 0, 0, track, *[0] * 17)) for track in (1, 2)]
+        heads = [table_box("tkhd", 0, 7, 0, 0, track, *[0] * 17) for track in (1, 2)]
+        tables = boxed("mdia", boxed("minf", boxed("stbl", table_box("stts", 0, 0, 2, 1, 60, 2, 20))))
+        tracks = [boxed("trak", heads[0]), boxed("trak", heads[1], tables)]
         defaults = [table_box("trex", 0, 0, 1, 1, 10, 4, 0), table_box("trex", 0, 0, 2, 1, 7, 5, 0x10000)]
         movie = boxed("moov", *tracks, boxed("mvex", *defaults))
         run = table_box("trun", 0, 0x201, 2, 140, 3, 6)
@@ -139,7 +141,7 @@ class Calls(unittest.TestCase):
             return [(it.offset, it.size, it.decode_time, it.sync) for it in codec.fragment_samples(file, track)]
 
         self.assertEqual(found(1), [(data, 3, 1000, 1), (data + 3, 6, 1010, 1)])
-        self.assertEqual(found(2), [(data + 9 + 5 * at, 5, 7 * at, 0) for at in range(3)])
+        self.assertEqual(found(2), [(data + 9 + 5 * at, 5, 100 + 7 * at, 0) for at in range(3)])
         with self.assertRaisesRegex(codec.Mp4Error, "no track has the track_ID"):
             codec.fragment_samples(file, 3)
 

@@ -173,7 +173,7 @@ pub fn samples(bytes: &[u8], track_id: u32) -> Result<Vec<Sample>> {
 
 /// The samples of all fragments of the first track with a track_ID (8.8) over the bytes of a file, in its order. Their
 /// `chunk` is which run of its fragment a sample is in, counted from 1. Without a `tfdt` times go on from the fragment
-/// before, and from 0 in the first one.
+/// before, and in the first one from where the samples of the track's tables end, by `stts`.
 ///
 /// ```no_run
 /// let file = std::fs::read("fragments.mp4").unwrap();

@@ -9,6 +9,7 @@ use Rattle.mp4_samples.specs.declared.fragment_fault.FragmentFault.{FragmentFaul
 use Rattle.mp4_samples.specs.declared.fragment_fault.FragmentFault.TheVariants as faults
 use Rattle.mp4_samples.specs.declared.sample.Sample.{Sample}
 use Rattle.mp4_tables.specs.declared.trun.TrunBox.{TrunBox}
+use Rattle.mp4_track.specs.Ends.{EndsTables}
 use Rattle.mp4_track.specs.Fragments.{AreFragments, IsFragmentOf}
 use Rattle.mp4_track.specs.Tracks.{Tells}
 use Rattle.mp4_track.specs.declared.error.TrackError.{TrackError}
@@ -62,18 +63,20 @@ StopsIn time [] status = ⊥
 StopsIn time (x ∷ xs) status =
     (f : Fragment) × (IsFragmentOf x time f × (HasFault f status ⊎ StopsIn (end_time f) xs status))
 
--- the array is filled with the rows of the samples of these fragments; or it is too short, and as it was; or a sample
+-- the array is filled with the rows of the samples of these fragments, which begin at a time; or it is too short, and as it was; or a sample
 -- can't be told, or memory is refused, and array and number are as they were
-abbrev pub GivesRows : List TrackFragment → ℕ → List SampleRow → List SampleRow → ℕ → ℕ → Type 0
-GivesRows fs status old new count_old count_new =
+abbrev pub GivesRows : ℕ → List TrackFragment → ℕ → List SampleRow → List SampleRow → ℕ → ℕ → Type 0
+GivesRows begin fs status old new count_old count_new =
     ((length old < samples_in fs)
     × ((status ≡ statuses.NO_ROOM) × ((new ≡ old) × (count_new ≡ min (samples_in fs) (2 ^ 64 - 1)))))
-    ⊎ (((rows : List SampleRow) × (AreRows 0 fs rows × ((count_new ≡ length rows) × Fills status rows old new)))
-    ⊎ (((status ≡ statuses.OUT_OF_MEMORY) ⊎ StopsIn 0 fs status) × ((new ≡ old) × (count_new ≡ count_old))))
+    ⊎ (((rows : List SampleRow) × (AreRows begin fs rows × ((count_new ≡ length rows) × Fills status rows old new)))
+    ⊎ (((status ≡ statuses.OUT_OF_MEMORY) ⊎ StopsIn begin fs status) × ((new ≡ old) × (count_new ≡ count_old))))
 
--- the samples of all fragments of the track of a track_ID are handed over, or an error
+-- the samples of all fragments of the track of a track_ID are handed over, which begin where those of its tables end; or an
+-- error
 abbrev pub HandsFragments : List ℕ → ℕ → ℕ → List SampleRow → List SampleRow → ℕ → ℕ → Type 0
 HandsFragments B id status old new count_old count_new =
-    ((fs : List TrackFragment) × (AreFragments B id fs × GivesRows fs status old new count_old count_new))
+    ((begin : ℕ) × (fs : List TrackFragment)
+    × (EndsTables B id begin × (AreFragments B id fs × GivesRows begin fs status old new count_old count_new)))
     ⊎ ((e : TrackError) ×
     (Tells B id e × ((status ≡ number_of_track_error e) × ((new ≡ old) × (count_new ≡ count_old)))))

@@ -5,13 +5,16 @@ ghost use Rattle.mp4_c_base.specs.declared.status.TheConstants as statuses;
 ghost use Rattle.mp4_c.specs.FragmentSamples.{AreRows, AreRowsOf, GivesRows, HandsFragments, HasFault, StopsIn};
 ghost use Rattle.mp4_c.specs.FragmentSamples.{end_time, number_of_fault, samples_in, samples_of};
 ghost use Rattle.mp4_c.specs.declared.samples.SampleRow.{SampleRow};
+ghost use Rattle.mp4_track.specs.Ends.{EndsTables};
+ghost use Rattle.mp4_track.specs.Fragments.{AreFragments};
+ghost use Rattle.mp4_track.specs.Tracks.{Tells};
 
 use crate::samples::{SampleRow, number_of_track_error, row_of};
 use mp4_c_base::handed::{Handed, hand_over};
 use mp4_c_base::status::{CHUNK_COUNT, DURATIONS, NO_ROOM, OFFSET, OUT_OF_MEMORY};
 use mp4_samples::{Fragment, FragmentFault};
 use mp4_tables::TrunBox;
-use mp4_track::{TrackFragment, fragments_of};
+use mp4_track::{TrackError, TrackFragment, fragments_of, tables_end_of};
 use std::alloc::Global;
 
 impl Handed<SampleRow, usize> for Vec<SampleRow> {
@@ -86,13 +89,13 @@ fn push_rows(fragment: &Fragment<'_>, rows: &mut Vec<SampleRow>) -> Result<u64, 
     Ok(samples.time())
 }
 
-/// The rows of the samples of all fragments.
-fn rows_of(alloc: Global, fragments: &[TrackFragment]) -> Result<Vec<SampleRow>, u32>
-    ensures rows { IfOk result (λ rows. AreRows 0 fragments.now rows.items) }
-    ensures stops { IfErr result (λ status. (status ≡ statuses.OUT_OF_MEMORY) ⊎ StopsIn 0 fragments.now status) }
+/// The rows of the samples of all fragments, the first of which begins at a time, if nothing else is said of it.
+fn rows_of(alloc: Global, begin: u64, fragments: &[TrackFragment]) -> Result<Vec<SampleRow>, u32>
+    ensures rows { IfOk result (λ rows. AreRows begin fragments.now rows.items) }
+    ensures stops { IfErr result (λ status. (status ≡ statuses.OUT_OF_MEMORY) ⊎ StopsIn begin fragments.now status) }
 {
     let mut rows = Vec::new(alloc);
-    let mut time = 0;
+    let mut time = begin;
     'all: for index in 0..fragments.len() {
         let fragment = fragments[index].fragment(time);
         match push_rows(&fragment, &mut rows) {
@@ -106,21 +109,36 @@ fn rows_of(alloc: Global, fragments: &[TrackFragment]) -> Result<Vec<SampleRow>,
 /// Hands over the samples of fragments, if the array has room for them.
 fn hand_fragments(
     alloc: Global,
+    begin: u64,
     fragments: &[TrackFragment],
     rows: &mut [SampleRow],
     count: &mut usize,
 ) -> u32
-    ensures { GivesRows fragments.now result rows.old rows.new count.old count.new }
+    ensures { GivesRows begin fragments.now result rows.old rows.new count.old count.new }
 {
     let total = count_of(fragments);
     if rows.len() < total {
         *count = total;
         return NO_ROOM;
     }
-    match rows_of(alloc, fragments) {
+    match rows_of(alloc, begin, fragments) {
         Ok(found) => hand_over(Ok(found), rows, count),
         Err(status) => status,
     }
+}
+
+/// When the samples of the tables of a track end, and its fragments.
+fn read_fragments(
+    alloc: Global,
+    bytes: &[u8],
+    track_id: u32,
+) -> Result<(u64, Vec<TrackFragment>), TrackError>
+    ensures found { IfOk result (λ found. EndsTables bytes.now track_id found.0
+        × AreFragments bytes.now track_id found.1.items) }
+    ensures error { IfErr result (Tells bytes.now track_id) }
+{
+    let begin = tables_end_of(alloc, bytes, track_id)?;
+    Ok((begin, fragments_of(alloc, bytes, track_id)?))
 }
 
 /// Hands over the samples of all fragments of the first track with a track_ID (ISO/IEC 14496-12, 8.8), in the order of
@@ -135,8 +153,8 @@ pub extern "C" fn mp4_fragment_samples(
 ) -> u32
     ensures { HandsFragments bytes.now track_id result rows.old rows.new count.old count.new }
 {
-    match fragments_of(alloc, bytes, track_id) {
-        Ok(fragments) => hand_fragments(alloc, &fragments, rows, count),
+    match read_fragments(alloc, bytes, track_id) {
+        Ok(found) => hand_fragments(alloc, found.0, &found.1, rows, count),
         Err(error) => number_of_track_error(&error),
     }
 }

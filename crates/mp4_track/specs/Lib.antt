@@ -4,3 +4,4 @@ pub mod Levels
 pub mod Tables
 pub mod Tracks
 pub mod Fragments
+pub mod Ends

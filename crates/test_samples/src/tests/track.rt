@@ -3,7 +3,7 @@
 use crate::callers::key_frame_of_file;
 use mp4_frame::{Error, FourCC};
 use mp4_samples::{SampleTables, Tables};
-use mp4_track::{ChunkBox, Track, TrackError, track_of};
+use mp4_track::{ChunkBox, Track, TrackError, tables_end_of, track_of};
 use std::alloc::{AllocError, Global};
 use std::test::Fail;
 
@@ -92,6 +92,16 @@ fn fault_of(alloc: Global, file: &[u8], track_id: u32) -> Option<TrackError> {
 fn track_is_found_by_its_id(rt: HostRuntime) -> Result<(), Fail> {
     let file = file(rt.alloc())?;
     assert!(rt; finds(rt.alloc(), &file, 7));
+    Ok(())
+}
+
+/// Three samples of 10; and none, without an `stts`.
+#[test]
+fn tables_of_a_track_end(rt: HostRuntime) -> Result<(), Fail> {
+    let file = file(rt.alloc())?;
+    let end = tables_end_of(rt.alloc(), &file, 7);
+    let none = tables_end_of(rt.alloc(), &file, 5);
+    assert!(rt; matches!(end, Ok(30)) && matches!(none, Ok(0)));
     Ok(())
 }
 

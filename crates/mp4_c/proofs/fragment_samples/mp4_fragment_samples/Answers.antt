@@ -5,13 +5,17 @@ use Rattle.mp4_c.proofs.fragment_samples.mp4_fragment_samples.Goals as goal
 
 pub returns-in-Ok : goal.returns-in-Ok
 returns-in-Ok c = inl (
-  c.in-Ok.fragments.items,
+  c.in-Ok.found.0,
+  c.in-Ok.found.1.items,
   (
-    c.in-Ok.ensures.fragments,
-    subst
-        (λ (fs : List TrackFragment). GivesRows fs c.hand_fragments.result c.args.rows.now c.hand_fragments.new.rows
-        c.args.count.now c.hand_fragments.new.count)
-        c.deref.ensures.value c.hand_fragments.ensures,
+    c.in-Ok.ensures.found.0,
+    (
+      c.in-Ok.ensures.found.1,
+      subst
+          (λ (fs : List TrackFragment). GivesRows c.in-Ok.found.0 fs c.hand_fragments.result c.args.rows.now
+          c.hand_fragments.new.rows c.args.count.now c.hand_fragments.new.count)
+          c.deref.ensures.value c.hand_fragments.ensures,
+    ),
   ),
 )
 

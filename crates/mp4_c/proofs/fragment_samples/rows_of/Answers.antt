@@ -26,7 +26,7 @@ all-preserved c =
           let own : AreRows c.all.time (drop i fs) (step.0 ++ later) =
           subst (λ (xs : List TrackFragment). AreRows c.all.time xs (step.0 ++ later)) (sym left)
           (f, step.0, later, c.fragment-fragment.ensures, step.1.0, next, refl) in
-          subst (λ (rows : List SampleRow). AreRows 0 fs rows)
+          subst (λ (rows : List SampleRow). AreRows c.args.begin fs rows)
           (sym (ap (λ (rows : List SampleRow). rows ++ later) step.1.1 ∙ append_assoc old step.0 later))
           (c.all.invariant.rows (step.0 ++ later) own);
       stops = λ status h.
@@ -39,7 +39,7 @@ pub returns-clause-rows : goal.returns-clause-rows
 returns-clause-rows c =
     let fs = c.args.fragments.now in
     let none : drop c.all.index fs ≡ [] = drop_all c.all.index fs (omega (arith, c.all-test.false)) in
-    subst (λ (rows : List SampleRow). AreRows 0 fs rows) (append-nil c.all.rows.items)
+    subst (λ (rows : List SampleRow). AreRows c.args.begin fs rows) (append-nil c.all.rows.items)
     (c.all.invariant.rows [] (subst (λ (xs : List TrackFragment). AreRows c.all.time xs []) (sym none) refl))
 
 pub returns-in-Err-clause-stops : goal.returns-in-Err-clause-stops

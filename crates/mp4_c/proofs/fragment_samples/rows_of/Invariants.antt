@@ -7,6 +7,6 @@ use Rattle.mp4_c.proofs.fragment_samples.rows_of.Given as goal
 abbrev pub invariant-all : goal.invariant-all
 invariant-all l = record {
   rows : (later : List SampleRow) → AreRows l.time (drop l.index l.fragments) later
-      → AreRows 0 l.fragments (l.rows.items ++ later);
-  stops : (status : ℕ) → StopsIn l.time (drop l.index l.fragments) status → StopsIn 0 l.fragments status;
+      → AreRows l.begin l.fragments (l.rows.items ++ later);
+  stops : (status : ℕ) → StopsIn l.time (drop l.index l.fragments) status → StopsIn l.begin l.fragments status;
 }

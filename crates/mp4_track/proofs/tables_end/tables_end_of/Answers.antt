@@ -1,0 +1,66 @@
+use Rattle.std.proofs.Common.{◌≡◌, List, [], ◌∷◌, None, Some, refl, subst, sym, ap, ◌∙◌}
+use Rattle.std.specs.declared.option.Option.{Option}
+use Rattle.mp4_frame.specs.FourCC.{four_cc_of}
+use Rattle.mp4_frame.specs.declared.codes.TheConstants as codes
+use Rattle.mp4_frame.specs.declared.four_cc.FourCC.{FourCC}
+use Rattle.mp4_tables.specs.Boxes.{reads_stts}
+use Rattle.mp4_tree.specs.Tree.{boxes_of}
+use Rattle.mp4_tree.specs.declared.tree_box.TreeBox.{TreeBox}
+use Rattle.mp4_track.specs.Ends.{EndsTables, EndsTablesIn}
+use Rattle.mp4_track.specs.Levels.{Found, first_in}
+use Rattle.mp4_track.specs.Paths.{first}
+use Rattle.mp4_track.specs.Tracks.{IsTrakOf, MayHold, is_header}
+use Rattle.mp4_track.specs.declared.trak.Trak.{Trak}
+use Rattle.mp4_track.proofs.Traks.{in_top, in_track, ok_then}
+use Rattle.mp4_track.proofs.tables_end.tables_end_of.Goals as goal
+
+pub returns-in_default-first_in-clause-error : goal.returns-in_default-first_in-clause-error
+returns-in_default-first_in-clause-error c =
+    let boxes = c.deref.ensures.value ∙ c.in-Ok.ensures in
+    let is : None ≡ first_in 0 (four_cc_of codes.MOOV) (boxes_of c.args.bytes.now) = c.in_default-first_in.ensures.first
+    ∙ ap (λ (code : FourCC). first_in 0 code c.deref.result.now) c.from.ensures
+    ∙ ap (λ (xs : List TreeBox). first_in 0 (four_cc_of codes.MOOV) xs) boxes in
+    in_top codes.MOOV [] (boxes_of c.args.bytes.now) None is
+
+pub returns-in-Some-2-clause-time : goal.returns-in-Some-2-clause-time
+returns-in-Some-2-clause-time c =
+    let B = c.args.bytes.now in
+    let id = c.args.track_id in
+    let trak = c.in-Some-2.trak in
+    let movie : Found = record { box = c.in-Some.movie.found; after = c.in-Some.movie.after.now } in
+    let boxes = c.deref.ensures.value ∙ c.in-Ok.ensures in
+    let is : Some movie ≡ first_in 0 (four_cc_of codes.MOOV) (boxes_of B) = c.in-Some.ensures.first
+    ∙ ap (λ (code : FourCC). first_in 0 code c.deref.result.now) c.from.ensures
+    ∙ ap (λ (xs : List TreeBox). first_in 0 (four_cc_of codes.MOOV) xs) boxes in
+    let h = subst (λ (o : Option Trak). IsTrakOf B id movie.after o) c.in-Some-2.is c.in_ok-trak.ensures.value in
+    ok_then c.end_in.result (EndsTablesIn B trak.boxes.now) (EndsTables B id)
+    (λ time g. record {
+      number = trak.number;
+      is = ap (λ (x : Option TreeBox). is_header B id x)
+          (in_track trak.number (first codes.TKHD) [] (boxes_of B) movie is ∙ h.at (first codes.TKHD) []) ∙ h.is;
+      first = λ k less. ap (λ (x : Option TreeBox). is_header B id x)
+          (in_track k (first codes.TKHD) [] (boxes_of B) movie is) ∙ h.first_of k less;
+      stts = g.0;
+      holds = subst (λ (x : Option TreeBox). MayHold reads_stts codes.STTS B x g.0)
+          (sym (in_track trak.number (first codes.MDIA) (first codes.MINF ∷ first codes.STBL ∷ first codes.STTS ∷ [])
+          (boxes_of B) movie is
+          ∙ h.at (first codes.MDIA) (first codes.MINF ∷ first codes.STBL ∷ first codes.STTS ∷ [])))
+          g.1;
+      sum = g.2;
+    })
+    c.end_in.ensures.value
+
+pub returns-clause-error : goal.returns-clause-error
+returns-clause-error c =
+    let B = c.args.bytes.now in
+    let movie : Found = record { box = c.in-Some.movie.found; after = c.in-Some.movie.after.now } in
+    let boxes = c.deref.ensures.value ∙ c.in-Ok.ensures in
+    let is : Some movie ≡ first_in 0 (four_cc_of codes.MOOV) (boxes_of B) = c.in-Some.ensures.first
+    ∙ ap (λ (code : FourCC). first_in 0 code c.deref.result.now) c.from.ensures
+    ∙ ap (λ (xs : List TreeBox). first_in 0 (four_cc_of codes.MOOV) xs) boxes in
+    let h = subst (λ (o : Option Trak). IsTrakOf B c.args.track_id movie.after o) c.in-None.is
+    c.in_ok-trak.ensures.value in (
+      refl,
+      λ k. ap (λ (x : Option TreeBox). is_header B c.args.track_id x)
+          (in_track k (first codes.TKHD) [] (boxes_of B) movie is) ∙ h k,
+    )
