@@ -1,6 +1,7 @@
 //! Fields that are read from bytes: those that begin a box that holds boxes, and those of sample entries of any code.
 
-ghost use Rattle.std.specs.Prelude.{◌≤◌, length};
+ghost use Rattle.std.specs.Prelude.{◌≤◌, length, OnOk};
+ghost use Rattle.mp4_fields.specs.Nesting.{fields, Keeps};
 
 use crate::flag_names::{FlagName, NONE};
 use crate::sink::FieldSink;
@@ -20,7 +21,9 @@ pub fn put_full<S: FieldSink>(
     flags: u32,
     names: &'static [FlagName],
     sink: &mut S,
-) -> Result<()> {
+) -> Result<()>
+    ensures nesting { OnOk result (Keeps S.since fields sink.old sink.new) }
+{
     sink.field("version", Value::Number(u64::from(version)))?;
     sink.field("flags", Value::Flags(flags, 6, names))
 }
@@ -29,6 +32,7 @@ pub fn put_full<S: FieldSink>(
 /// there are (ISO/IEC 14496-12, 8.5.2 and 8.7.2). They are the first 8 bytes of its content.
 pub fn put_list_head<S: FieldSink>(bytes: &[u8], sink: &mut S) -> Result<()>
     requires { 8 ≤ length bytes.now }
+    ensures nesting { OnOk result (Keeps S.since fields sink.old sink.new) }
 {
     put_full(bytes[0], u32_at(bytes, 0) & 0xFF_FFFF, NONE, sink)?;
     sink.field("entry_count", Value::Number(u64::from(u32_at(bytes, 4))))
@@ -46,6 +50,7 @@ fn compressor(bytes: &[u8]) -> &str
 /// of its content.
 pub fn put_visual<S: FieldSink>(bytes: &[u8], sink: &mut S) -> Result<()>
     requires { 78 ≤ length bytes.now }
+    ensures nesting { OnOk result (Keeps S.since fields sink.old sink.new) }
 {
     sink.field(
         "data_reference_index",
@@ -70,6 +75,7 @@ pub fn put_visual<S: FieldSink>(bytes: &[u8], sink: &mut S) -> Result<()>
 /// File Format, "Sound sample description (version 2)").
 fn put_second<S: FieldSink>(bytes: &[u8], sink: &mut S) -> Result<()>
     requires { 64 ≤ length bytes.now }
+    ensures nesting { OnOk result (Keeps S.since fields sink.old sink.new) }
 {
     sink.field("audio_sample_rate", Value::Bytes(&bytes[32..40]))?;
     sink.field(
@@ -98,6 +104,7 @@ fn put_second<S: FieldSink>(bytes: &[u8], sink: &mut S) -> Result<()>
 /// Format, "Sound sample description (version 1)").
 fn put_first<S: FieldSink>(bytes: &[u8], sink: &mut S) -> Result<()>
     requires { 44 ≤ length bytes.now }
+    ensures nesting { OnOk result (Keeps S.since fields sink.old sink.new) }
 {
     sink.field(
         "samples_per_packet",
@@ -121,6 +128,7 @@ fn put_first<S: FieldSink>(bytes: &[u8], sink: &mut S) -> Result<()>
 /// versions 1 and 2. The common ones are the first 28 bytes of its content.
 pub fn put_sound<S: FieldSink>(bytes: &[u8], quicktime: bool, sink: &mut S) -> Result<()>
     requires { 28 ≤ length bytes.now }
+    ensures nesting { OnOk result (Keeps S.since fields sink.old sink.new) }
 {
     sink.field(
         "data_reference_index",
@@ -168,7 +176,9 @@ fn integer(bytes: &[u8]) -> Option<i64> {
 }
 
 /// Hands a metadata value of any type to a sink: the number of its type, and its text, its number or its bytes.
-pub fn put_data<S: FieldSink>(data_type: u32, bytes: &[u8], sink: &mut S) -> Result<()> {
+pub fn put_data<S: FieldSink>(data_type: u32, bytes: &[u8], sink: &mut S) -> Result<()>
+    ensures nesting { OnOk result (Keeps S.since fields sink.old sink.new) }
+{
     sink.field(
         "data_type",
         Value::Named(u64::from(data_type), type_name(data_type)),
@@ -189,6 +199,7 @@ pub fn put_data<S: FieldSink>(data_type: u32, bytes: &[u8], sink: &mut S) -> Res
 /// Hands the field that all sample entries have to a sink (ISO/IEC 14496-12, 8.5.2): it ends at byte 8 of the content.
 pub fn put_entry<S: FieldSink>(bytes: &[u8], sink: &mut S) -> Result<()>
     requires { 8 ≤ length bytes.now }
+    ensures nesting { OnOk result (Keeps S.since fields sink.old sink.new) }
 {
     sink.field(
         "data_reference_index",

@@ -1,5 +1,8 @@
 //! The fields of each box that the codec reads.
 
+ghost use Rattle.std.specs.Prelude.{OnOk};
+ghost use Rattle.mp4_fields.specs.Nesting.{fields, Keeps};
+
 mod entries;
 mod fragments;
 mod media;
@@ -21,7 +24,9 @@ use sound::{put_esds, put_mp4a, put_stsd};
 use tracks::{put_elst, put_hdlr, put_mdhd, put_tkhd};
 
 /// Hands the fields of a box to a sink, in the order of the box.
-pub fn put_fields<S: FieldSink>(any: &AnyBox, sink: &mut S) -> Result<()> {
+pub fn put_fields<S: FieldSink>(any: &AnyBox, sink: &mut S) -> Result<()>
+    ensures nesting { OnOk result (Keeps S.since fields sink.old sink.new) }
+{
     match any {
         AnyBox::FtypBox(b) => put_ftyp(b, sink),
         AnyBox::MvhdBox(b) => put_mvhd(b, sink),

@@ -1,5 +1,8 @@
 //! Boxes whose fields can be shown.
 
+ghost use Rattle.std.specs.Prelude.{OnOk};
+ghost use Rattle.mp4_fields.specs.Nesting.{fields, Keeps};
+
 use crate::fields::put_fields;
 use crate::sink::FieldSink;
 use mp4_stream::{AnyBox, Result};
@@ -7,7 +10,8 @@ use mp4_stream::{AnyBox, Result};
 /// A box whose fields can be handed to a sink.
 pub trait HasFields {
     /// Hands its fields to a sink, in the order of the box.
-    fn put_fields<K: FieldSink>(&self, sink: &mut K) -> Result<()>;
+    fn put_fields<K: FieldSink>(&self, sink: &mut K) -> Result<()>
+        ensures nesting { OnOk result (Keeps K.since fields sink.old sink.new) };
 }
 
 impl HasFields for AnyBox {

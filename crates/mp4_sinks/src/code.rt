@@ -1,5 +1,8 @@
 //! Codes of four characters as text.
 
+ghost use Rattle.std.specs.Prelude.{◌≡◌, ◌++◌, OnOk, string_bytes};
+ghost use Rattle.mp4_sinks.specs.Tokens.{code_text};
+
 use mp4_stream::{FourCC, Result};
 
 /// Whether a byte is a character that can be printed: of ASCII, or of Latin-1 as the sign © in `©too`.
@@ -20,7 +23,9 @@ pub fn push_code(code: FourCC, out: &mut String) -> Result<()> {
 }
 
 /// Appends the four bytes of a code, each as the character of its number.
-pub fn push_latin(code: FourCC, out: &mut String) -> Result<()> {
+pub fn push_latin(code: FourCC, out: &mut String) -> Result<()>
+    ensures text { OnOk result (string_bytes out.new ≡ string_bytes out.old ++ code_text code.value) }
+{
     for byte in &code.value {
         out.push(char::from(*byte))?;
     }

@@ -1,5 +1,11 @@
 //! The fields of a box as JSON.
 
+ghost use Rattle.std.specs.Prelude.{◌≡◌, [], ◌∷◌, ◌++◌, OnOk};
+ghost use Rattle.json.specs.Print.{print};
+ghost use Rattle.json.specs.Token.{string};
+ghost use Rattle.mp4_fields.specs.Nesting.{fields};
+ghost use Rattle.mp4_sinks.specs.Tokens.{Puts, PutsWhole, Adds, Since, code_text};
+
 use crate::code::push_latin;
 use json::Writer;
 use mp4_fields::{FieldSink, Value};
@@ -16,7 +22,10 @@ pub struct JsonSink {
 
 impl JsonSink {
     /// A sink of nothing.
-    pub fn new(alloc: Global) -> JsonSink {
+    pub fn new(alloc: Global) -> JsonSink
+        ensures before { result.out.before ≡ [] }
+        ensures tokens { result.out.tokens ≡ [] }
+    {
         JsonSink {
             alloc,
             out: Writer::new(Vec::new(alloc)),
@@ -24,21 +33,71 @@ impl JsonSink {
     }
 
     /// The text of what is written.
-    pub fn into_text(self) -> Vec<u8> {
+    pub fn into_text(self) -> Vec<u8>
+        ensures text { result.items ≡ self.out.before ++ print self.out.tokens }
+    {
         let JsonSink { alloc: _, out } = self;
         out.into_inner()
     }
 
     /// Writes a code: a text of four characters, each of the number of its byte.
-    pub fn code(&mut self, code: FourCC) -> Result<()> {
+    pub fn code(&mut self, code: FourCC) -> Result<()>
+        ensures tokens { OnOk result (Puts self.old.out self.new.out (string (code_text code.value) ∷ [])) }
+        ensures whole { OnOk result (PutsWhole self.old.out self.new.out) }
+    {
         let mut text = String::new(self.alloc);
         push_latin(code, &mut text)?;
         self.out.string(text.as_str())?;
         Ok(())
     }
 
+    /// Writes a whole number.
+    fn unsigned(&mut self, number: u64) -> Result<()>
+        ensures whole { OnOk result (PutsWhole self.old.out self.new.out) }
+    {
+        self.out.u64(number)?;
+        Ok(())
+    }
+
+    /// Writes a whole number that may be negative.
+    fn signed(&mut self, number: i64) -> Result<()>
+        ensures whole { OnOk result (PutsWhole self.old.out self.new.out) }
+    {
+        self.out.i64(number)?;
+        Ok(())
+    }
+
+    /// Writes that there is no value.
+    fn null(&mut self) -> Result<()>
+        ensures whole { OnOk result (PutsWhole self.old.out self.new.out) }
+    {
+        self.out.null()?;
+        Ok(())
+    }
+
+    /// Writes a float, or that there is none if it is not finite.
+    fn float(&mut self, number: f64) -> Result<()>
+        ensures whole { OnOk result (PutsWhole self.old.out self.new.out) }
+    {
+        if !number.is_finite() {
+            return self.null();
+        }
+        self.out.float(number)?;
+        Ok(())
+    }
+
+    /// Writes a text.
+    fn text(&mut self, text: &str) -> Result<()>
+        ensures whole { OnOk result (PutsWhole self.old.out self.new.out) }
+    {
+        self.out.string(text)?;
+        Ok(())
+    }
+
     /// Writes codes as an array.
-    fn codes(&mut self, codes: &[FourCC]) -> Result<()> {
+    fn codes(&mut self, codes: &[FourCC]) -> Result<()>
+        ensures whole { OnOk result (PutsWhole self.old.out self.new.out) }
+    {
         self.out.begin_array()?;
         for code in codes {
             self.code(*code)?;
@@ -48,17 +107,21 @@ impl JsonSink {
     }
 
     /// Writes numbers as an array.
-    fn numbers(&mut self, numbers: &[i16]) -> Result<()> {
+    fn numbers(&mut self, numbers: &[i16]) -> Result<()>
+        ensures whole { OnOk result (PutsWhole self.old.out self.new.out) }
+    {
         self.out.begin_array()?;
         for number in numbers {
-            self.out.i64(i64::from(*number))?;
+            self.signed(i64::from(*number))?;
         }
         self.out.end_array()?;
         Ok(())
     }
 
     /// Writes a fixed-point number. A float has all its bits.
-    fn fixed(&mut self, raw: i64, bits: u32) -> Result<()> {
+    fn fixed(&mut self, raw: i64, bits: u32) -> Result<()>
+        ensures whole { OnOk result (PutsWhole self.old.out self.new.out) }
+    {
         let one = (1u32 << bits.min(30)) as f64;
         let number = if let Ok(raw) = u32::try_from(raw) {
             raw as f64 / one
@@ -67,29 +130,30 @@ impl JsonSink {
         } else {
             f64::INFINITY
         };
-        if number.is_finite() {
-            self.out.float(number)?;
-        } else {
-            self.out.null()?;
-        }
-        Ok(())
+        self.float(number)
     }
 
     /// Writes bytes as a text of their hexadecimal digits.
-    fn bytes(&mut self, bytes: &[u8]) -> Result<()> {
+    fn bytes(&mut self, bytes: &[u8]) -> Result<()>
+        ensures whole { OnOk result (PutsWhole self.old.out self.new.out) }
+    {
         let digits = hex::encode(self.alloc, bytes)?;
         self.out.string(digits.as_str())?;
         Ok(())
     }
 
     /// Writes a member that is a fixed-point number.
-    fn fixed_member(&mut self, name: &str, raw: i32, bits: u32) -> Result<()> {
+    fn fixed_member(&mut self, name: &str, raw: i32, bits: u32) -> Result<()>
+        ensures whole { OnOk result (Adds fields self.old.out self.new.out) }
+    {
         self.out.key(name)?;
         self.fixed(i64::from(raw), bits)
     }
 
     /// Writes a transformation as an object.
-    fn matrix(&mut self, matrix: &Matrix) -> Result<()> {
+    fn matrix(&mut self, matrix: &Matrix) -> Result<()>
+        ensures whole { OnOk result (PutsWhole self.old.out self.new.out) }
+    {
         self.out.begin_object()?;
         self.fixed_member("a", matrix.a, 16)?;
         self.fixed_member("b", matrix.b, 16)?;
@@ -105,26 +169,29 @@ impl JsonSink {
     }
 
     /// Writes a value.
-    fn value(&mut self, value: Value<'_>) -> Result<()> {
+    fn value(&mut self, value: Value<'_>) -> Result<()>
+        ensures whole { OnOk result (PutsWhole self.old.out self.new.out) }
+    {
         match value {
             Value::Number(number) | Value::Named(number, _) | Value::Date(number) => {
-                self.out.u64(number)?;
+                self.unsigned(number)
             }
-            Value::Flags(flags, _, _) => self.out.u64(u64::from(flags))?,
-            Value::Signed(number) | Value::MediaTime(number) => self.out.i64(number)?,
-            Value::Fixed(raw, bits) => self.fixed(raw, bits)?,
-            Value::Code(code) => self.code(code)?,
-            Value::Codes(codes) => self.codes(codes)?,
-            Value::Text(text) => self.out.string(text)?,
-            Value::Bytes(bytes) => self.bytes(bytes)?,
-            Value::Numbers(numbers) => self.numbers(numbers)?,
-            Value::Matrix(matrix) => self.matrix(matrix)?,
+            Value::Flags(flags, _, _) => self.unsigned(u64::from(flags)),
+            Value::Signed(number) | Value::MediaTime(number) => self.signed(number),
+            Value::Fixed(raw, bits) => self.fixed(raw, bits),
+            Value::Code(code) => self.code(code),
+            Value::Codes(codes) => self.codes(codes),
+            Value::Text(text) => self.text(text),
+            Value::Bytes(bytes) => self.bytes(bytes),
+            Value::Numbers(numbers) => self.numbers(numbers),
+            Value::Matrix(matrix) => self.matrix(matrix),
         }
-        Ok(())
     }
 }
 
 impl FieldSink for JsonSink {
+    ghost since = { λ first levels now. Since first.out levels now.out };
+
     fn rows(&self) -> usize {
         usize::MAX
     }

@@ -1,5 +1,7 @@
 //! Numbers, dates and bytes as text.
 
+ghost use Rattle.std.specs.Prelude.{◌≡◌, ◌++◌, OnOk, decimal, string_bytes};
+
 use jiff::Timestamp;
 use mp4_stream::Result;
 use std::alloc::Global;
@@ -11,7 +13,9 @@ const TO_1970: i64 = 2_082_844_800;
 const MOST_BYTES: usize = 24;
 
 /// Appends a number.
-pub fn push_number(number: u64, out: &mut String) -> Result<()> {
+pub fn push_number(number: u64, out: &mut String) -> Result<()>
+    ensures text { OnOk result (string_bytes out.new ≡ string_bytes out.old ++ decimal number) }
+{
     let mut buffer = itoa::Buffer::new();
     out.push_str(buffer.format(number))?;
     Ok(())

@@ -1,5 +1,8 @@
 //! The fields of sample entries of video and subtitles, and of what configures their decoders.
 
+ghost use Rattle.std.specs.Prelude.{OnOk};
+ghost use Rattle.mp4_fields.specs.Nesting.{fields, Keeps};
+
 use crate::brief::put_full;
 use crate::flag_names::NONE;
 use crate::sink::FieldSink;
@@ -8,7 +11,9 @@ use mp4_stream::{
     Avc1Box, AvcCBox, Hev1Box, HvcCBox, NalUnit, Result, RgbaColor, Tx3gBox, Vp09Box, VpccBox,
 };
 
-fn put_sets<S: FieldSink>(name: &str, sets: &[NalUnit], sink: &mut S) -> Result<()> {
+fn put_sets<S: FieldSink>(name: &str, sets: &[NalUnit], sink: &mut S) -> Result<()>
+    ensures nesting { OnOk result (Keeps S.since fields sink.old sink.new) }
+{
     sink.begin_list(name, sets.len())?;
     for set in sets.iter().take(sink.rows()) {
         sink.item(Value::Bytes(set.bytes.as_slice()))?;
@@ -17,7 +22,9 @@ fn put_sets<S: FieldSink>(name: &str, sets: &[NalUnit], sink: &mut S) -> Result<
 }
 
 /// How AVC video is decoded (ISO/IEC 14496-15, 5.3.3.1).
-pub fn put_avcc<S: FieldSink>(b: &AvcCBox, sink: &mut S) -> Result<()> {
+pub fn put_avcc<S: FieldSink>(b: &AvcCBox, sink: &mut S) -> Result<()>
+    ensures nesting { OnOk result (Keeps S.since fields sink.old sink.new) }
+{
     sink.field(
         "configuration_version",
         Value::Number(u64::from(b.configuration_version)),
@@ -51,7 +58,9 @@ pub fn put_avcc<S: FieldSink>(b: &AvcCBox, sink: &mut S) -> Result<()> {
 }
 
 /// How HEVC video is decoded (ISO/IEC 14496-15, 8.3.3.1): the codec reads its version alone.
-pub fn put_hvcc<S: FieldSink>(b: &HvcCBox, sink: &mut S) -> Result<()> {
+pub fn put_hvcc<S: FieldSink>(b: &HvcCBox, sink: &mut S) -> Result<()>
+    ensures nesting { OnOk result (Keeps S.since fields sink.old sink.new) }
+{
     sink.field(
         "configuration_version",
         Value::Number(u64::from(b.configuration_version)),
@@ -59,7 +68,9 @@ pub fn put_hvcc<S: FieldSink>(b: &HvcCBox, sink: &mut S) -> Result<()> {
 }
 
 /// How VP8 and VP9 video are decoded (VP Codec ISO Media File Format Binding, 2.2).
-pub fn put_vpcc<S: FieldSink>(b: &VpccBox, sink: &mut S) -> Result<()> {
+pub fn put_vpcc<S: FieldSink>(b: &VpccBox, sink: &mut S) -> Result<()>
+    ensures nesting { OnOk result (Keeps S.since fields sink.old sink.new) }
+{
     put_full(b.version, b.flags, NONE, sink)?;
     sink.field("profile", Value::Number(u64::from(b.profile)))?;
     sink.field("level", Value::Number(u64::from(b.level)))?;
@@ -91,7 +102,9 @@ pub fn put_vpcc<S: FieldSink>(b: &VpccBox, sink: &mut S) -> Result<()> {
 }
 
 /// A sample entry of AVC video (ISO/IEC 14496-15, 5.4.2.1).
-pub fn put_avc1<S: FieldSink>(b: &Avc1Box, sink: &mut S) -> Result<()> {
+pub fn put_avc1<S: FieldSink>(b: &Avc1Box, sink: &mut S) -> Result<()>
+    ensures nesting { OnOk result (Keeps S.since fields sink.old sink.new) }
+{
     sink.field(
         "data_reference_index",
         Value::Number(u64::from(b.data_reference_index)),
@@ -114,7 +127,9 @@ pub fn put_avc1<S: FieldSink>(b: &Avc1Box, sink: &mut S) -> Result<()> {
 }
 
 /// A sample entry of HEVC video (ISO/IEC 14496-15, 8.4.1.1).
-pub fn put_hev1<S: FieldSink>(b: &Hev1Box, sink: &mut S) -> Result<()> {
+pub fn put_hev1<S: FieldSink>(b: &Hev1Box, sink: &mut S) -> Result<()>
+    ensures nesting { OnOk result (Keeps S.since fields sink.old sink.new) }
+{
     sink.field(
         "data_reference_index",
         Value::Number(u64::from(b.data_reference_index)),
@@ -143,7 +158,9 @@ fn resolution(halves: (u16, u16)) -> Value<'static> {
 }
 
 /// A sample entry of VP9 video (VP Codec ISO Media File Format Binding, 2.1).
-pub fn put_vp09<S: FieldSink>(b: &Vp09Box, sink: &mut S) -> Result<()> {
+pub fn put_vp09<S: FieldSink>(b: &Vp09Box, sink: &mut S) -> Result<()>
+    ensures nesting { OnOk result (Keeps S.since fields sink.old sink.new) }
+{
     put_full(b.version, b.flags, NONE, sink)?;
     sink.field("start_code", Value::Number(u64::from(b.start_code)))?;
     sink.field(
@@ -165,7 +182,9 @@ pub fn put_vp09<S: FieldSink>(b: &Vp09Box, sink: &mut S) -> Result<()> {
     sink.end_group()
 }
 
-fn put_color<S: FieldSink>(color: &RgbaColor, sink: &mut S) -> Result<()> {
+fn put_color<S: FieldSink>(color: &RgbaColor, sink: &mut S) -> Result<()>
+    ensures nesting { OnOk result (Keeps S.since fields sink.old sink.new) }
+{
     sink.field("red", Value::Number(u64::from(color.red)))?;
     sink.field("green", Value::Number(u64::from(color.green)))?;
     sink.field("blue", Value::Number(u64::from(color.blue)))?;
@@ -173,7 +192,9 @@ fn put_color<S: FieldSink>(color: &RgbaColor, sink: &mut S) -> Result<()> {
 }
 
 /// A sample entry of timed text (3GPP TS 26.245, 5.16).
-pub fn put_tx3g<S: FieldSink>(b: &Tx3gBox, sink: &mut S) -> Result<()> {
+pub fn put_tx3g<S: FieldSink>(b: &Tx3gBox, sink: &mut S) -> Result<()>
+    ensures nesting { OnOk result (Keeps S.since fields sink.old sink.new) }
+{
     sink.field(
         "data_reference_index",
         Value::Number(u64::from(b.data_reference_index)),

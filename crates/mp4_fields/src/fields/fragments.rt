@@ -1,5 +1,8 @@
 //! The fields of the boxes of movie fragments.
 
+ghost use Rattle.std.specs.Prelude.{OnOk};
+ghost use Rattle.mp4_fields.specs.Nesting.{fields, entries, Keeps};
+
 use crate::brief::put_full;
 use crate::fields::samples::put_numbers;
 use crate::flag_names::{NONE, SAMPLE, TRACK_FRAGMENT, TRACK_RUN};
@@ -8,13 +11,17 @@ use crate::value::Value;
 use mp4_stream::{MehdBox, MfhdBox, Result, TfdtBox, TfhdBox, TrexBox, TrunBox};
 
 /// Movie extends header (ISO/IEC 14496-12, 8.8.2).
-pub fn put_mehd<S: FieldSink>(b: &MehdBox, sink: &mut S) -> Result<()> {
+pub fn put_mehd<S: FieldSink>(b: &MehdBox, sink: &mut S) -> Result<()>
+    ensures nesting { OnOk result (Keeps S.since fields sink.old sink.new) }
+{
     put_full(b.version, b.flags, NONE, sink)?;
     sink.field("fragment_duration", Value::Number(b.fragment_duration))
 }
 
 /// What the samples of a track's fragments have by default (ISO/IEC 14496-12, 8.8.3).
-pub fn put_trex<S: FieldSink>(b: &TrexBox, sink: &mut S) -> Result<()> {
+pub fn put_trex<S: FieldSink>(b: &TrexBox, sink: &mut S) -> Result<()>
+    ensures nesting { OnOk result (Keeps S.since fields sink.old sink.new) }
+{
     put_full(b.version, b.flags, NONE, sink)?;
     sink.field("track_id", Value::Number(u64::from(b.track_id)))?;
     sink.field(
@@ -36,7 +43,9 @@ pub fn put_trex<S: FieldSink>(b: &TrexBox, sink: &mut S) -> Result<()> {
 }
 
 /// Movie fragment header (ISO/IEC 14496-12, 8.8.5).
-pub fn put_mfhd<S: FieldSink>(b: &MfhdBox, sink: &mut S) -> Result<()> {
+pub fn put_mfhd<S: FieldSink>(b: &MfhdBox, sink: &mut S) -> Result<()>
+    ensures nesting { OnOk result (Keeps S.since fields sink.old sink.new) }
+{
     put_full(b.version, b.flags, NONE, sink)?;
     sink.field(
         "sequence_number",
@@ -45,7 +54,9 @@ pub fn put_mfhd<S: FieldSink>(b: &MfhdBox, sink: &mut S) -> Result<()> {
 }
 
 /// The decoding time of a fragment's first sample (ISO/IEC 14496-12, 8.8.12).
-pub fn put_tfdt<S: FieldSink>(b: &TfdtBox, sink: &mut S) -> Result<()> {
+pub fn put_tfdt<S: FieldSink>(b: &TfdtBox, sink: &mut S) -> Result<()>
+    ensures nesting { OnOk result (Keeps S.since fields sink.old sink.new) }
+{
     put_full(b.version, b.flags, NONE, sink)?;
     sink.field(
         "base_media_decode_time",
@@ -54,7 +65,9 @@ pub fn put_tfdt<S: FieldSink>(b: &TfdtBox, sink: &mut S) -> Result<()> {
 }
 
 /// Hands a number to a sink, if it is there.
-fn put_if_some<S: FieldSink>(name: &str, number: Option<u32>, sink: &mut S) -> Result<()> {
+fn put_if_some<S: FieldSink>(name: &str, number: Option<u32>, sink: &mut S) -> Result<()>
+    ensures nesting { OnOk result (Keeps S.since fields sink.old sink.new) }
+{
     match number {
         Some(number) => sink.field(name, Value::Number(u64::from(number))),
         None => Ok(()),
@@ -62,7 +75,9 @@ fn put_if_some<S: FieldSink>(name: &str, number: Option<u32>, sink: &mut S) -> R
 }
 
 /// Hands the flags of a sample to a sink, if they are there.
-fn put_sample_flags<S: FieldSink>(name: &str, flags: Option<u32>, sink: &mut S) -> Result<()> {
+fn put_sample_flags<S: FieldSink>(name: &str, flags: Option<u32>, sink: &mut S) -> Result<()>
+    ensures nesting { OnOk result (Keeps S.since fields sink.old sink.new) }
+{
     match flags {
         Some(flags) => sink.field(name, Value::Flags(flags, 8, SAMPLE)),
         None => Ok(()),
@@ -70,7 +85,9 @@ fn put_sample_flags<S: FieldSink>(name: &str, flags: Option<u32>, sink: &mut S) 
 }
 
 /// Track fragment header (ISO/IEC 14496-12, 8.8.7). Fields that it lacks are left out.
-pub fn put_tfhd<S: FieldSink>(b: &TfhdBox, sink: &mut S) -> Result<()> {
+pub fn put_tfhd<S: FieldSink>(b: &TfhdBox, sink: &mut S) -> Result<()>
+    ensures nesting { OnOk result (Keeps S.since fields sink.old sink.new) }
+{
     put_full(b.version, b.flags, TRACK_FRAGMENT, sink)?;
     sink.field("track_id", Value::Number(u64::from(b.track_id)))?;
     if let Some(offset) = b.base_data_offset {
@@ -83,7 +100,9 @@ pub fn put_tfhd<S: FieldSink>(b: &TfhdBox, sink: &mut S) -> Result<()> {
 }
 
 /// Hands a list of the flags of samples to a sink.
-fn put_flag_list<S: FieldSink>(name: &str, flags: &[u32], sink: &mut S) -> Result<()> {
+fn put_flag_list<S: FieldSink>(name: &str, flags: &[u32], sink: &mut S) -> Result<()>
+    ensures nesting { OnOk result (Keeps S.since fields sink.old sink.new) }
+{
     sink.begin_list(name, flags.len())?;
     for flags in flags.iter().take(sink.rows()) {
         sink.item(Value::Flags(*flags, 8, SAMPLE))?;
@@ -100,8 +119,21 @@ fn composition(version: u8, offset: u32) -> Value<'static> {
     }
 }
 
+/// Hands a list of composition time offsets to a sink.
+fn put_compositions<S: FieldSink>(version: u8, offsets: &[u32], sink: &mut S) -> Result<()>
+    ensures nesting { OnOk result (Keeps S.since fields sink.old sink.new) }
+{
+    sink.begin_list("sample_cts", offsets.len())?;
+    for offset in offsets.iter().take(sink.rows()) {
+        sink.item(composition(version, *offset))?;
+    }
+    sink.end_list()
+}
+
 /// Hands the lists of a run to a sink, one after the other. Those that it lacks are left out.
-fn put_columns<S: FieldSink>(b: &TrunBox, sink: &mut S) -> Result<()> {
+fn put_columns<S: FieldSink>(b: &TrunBox, sink: &mut S) -> Result<()>
+    ensures nesting { OnOk result (Keeps S.since fields sink.old sink.new) }
+{
     if !b.sample_durations.is_empty() {
         put_numbers("sample_durations", b.sample_durations.as_slice(), sink)?;
     }
@@ -112,17 +144,15 @@ fn put_columns<S: FieldSink>(b: &TrunBox, sink: &mut S) -> Result<()> {
         put_flag_list("sample_flags", b.sample_flags.as_slice(), sink)?;
     }
     if !b.sample_cts.is_empty() {
-        sink.begin_list("sample_cts", b.sample_cts.len())?;
-        for offset in b.sample_cts.iter().take(sink.rows()) {
-            sink.item(composition(b.version, *offset))?;
-        }
-        sink.end_list()?;
+        put_compositions(b.version, b.sample_cts.as_slice(), sink)?;
     }
     Ok(())
 }
 
 /// Hands what a run has of a sample to a sink.
-fn put_sample<S: FieldSink>(b: &TrunBox, index: usize, sink: &mut S) -> Result<()> {
+fn put_sample<S: FieldSink>(b: &TrunBox, index: usize, sink: &mut S) -> Result<()>
+    ensures nesting { OnOk result (Keeps S.since entries sink.old sink.new) }
+{
     sink.begin_entry()?;
     put_if_some(
         "duration",
@@ -138,7 +168,9 @@ fn put_sample<S: FieldSink>(b: &TrunBox, index: usize, sink: &mut S) -> Result<(
 }
 
 /// Hands the samples of a run to a sink.
-fn put_samples<S: FieldSink>(b: &TrunBox, sink: &mut S) -> Result<()> {
+fn put_samples<S: FieldSink>(b: &TrunBox, sink: &mut S) -> Result<()>
+    ensures nesting { OnOk result (Keeps S.since fields sink.old sink.new) }
+{
     let longest = b
         .sample_durations
         .len()
@@ -156,7 +188,9 @@ fn put_samples<S: FieldSink>(b: &TrunBox, sink: &mut S) -> Result<()> {
 }
 
 /// A run of samples (ISO/IEC 14496-12, 8.8.8).
-pub fn put_trun<S: FieldSink>(b: &TrunBox, sink: &mut S) -> Result<()> {
+pub fn put_trun<S: FieldSink>(b: &TrunBox, sink: &mut S) -> Result<()>
+    ensures nesting { OnOk result (Keeps S.since fields sink.old sink.new) }
+{
     put_full(b.version, b.flags, TRACK_RUN, sink)?;
     sink.field("sample_count", Value::Number(u64::from(b.sample_count)))?;
     if let Some(offset) = b.data_offset {

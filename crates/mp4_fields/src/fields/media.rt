@@ -1,5 +1,8 @@
 //! The fields of the headers of media, and of references to media data.
 
+ghost use Rattle.std.specs.Prelude.{OnOk};
+ghost use Rattle.mp4_fields.specs.Nesting.{fields, Keeps};
+
 use crate::brief::put_full;
 use crate::flag_names::{NONE, REFERENCE};
 use crate::sink::FieldSink;
@@ -7,7 +10,9 @@ use crate::value::Value;
 use mp4_stream::{DinfBox, DrefBox, Result, SmhdBox, UrlBox, VmhdBox};
 
 /// Video media header (ISO/IEC 14496-12, 12.1.2).
-pub fn put_vmhd<S: FieldSink>(b: &VmhdBox, sink: &mut S) -> Result<()> {
+pub fn put_vmhd<S: FieldSink>(b: &VmhdBox, sink: &mut S) -> Result<()>
+    ensures nesting { OnOk result (Keeps S.since fields sink.old sink.new) }
+{
     put_full(b.version, b.flags, NONE, sink)?;
     sink.field("graphics_mode", Value::Number(u64::from(b.graphics_mode)))?;
     sink.begin_group("op_color")?;
@@ -18,19 +23,25 @@ pub fn put_vmhd<S: FieldSink>(b: &VmhdBox, sink: &mut S) -> Result<()> {
 }
 
 /// Sound media header (ISO/IEC 14496-12, 12.2.2).
-pub fn put_smhd<S: FieldSink>(b: &SmhdBox, sink: &mut S) -> Result<()> {
+pub fn put_smhd<S: FieldSink>(b: &SmhdBox, sink: &mut S) -> Result<()>
+    ensures nesting { OnOk result (Keeps S.since fields sink.old sink.new) }
+{
     put_full(b.version, b.flags, NONE, sink)?;
     sink.field("balance", Value::Fixed(i64::from(b.balance.raw_value()), 8))
 }
 
 /// A reference to media data by a location (ISO/IEC 14496-12, 8.7.2).
-pub fn put_url<S: FieldSink>(b: &UrlBox, sink: &mut S) -> Result<()> {
+pub fn put_url<S: FieldSink>(b: &UrlBox, sink: &mut S) -> Result<()>
+    ensures nesting { OnOk result (Keeps S.since fields sink.old sink.new) }
+{
     put_full(b.version, b.flags, REFERENCE, sink)?;
     sink.field("location", Value::Text(b.location.as_str()))
 }
 
 /// The references to media data (ISO/IEC 14496-12, 8.7.2).
-pub fn put_dref<S: FieldSink>(b: &DrefBox, sink: &mut S) -> Result<()> {
+pub fn put_dref<S: FieldSink>(b: &DrefBox, sink: &mut S) -> Result<()>
+    ensures nesting { OnOk result (Keeps S.since fields sink.old sink.new) }
+{
     put_full(b.version, b.flags, NONE, sink)?;
     if let Some(url) = &b.url {
         sink.begin_group("url")?;
@@ -41,7 +52,9 @@ pub fn put_dref<S: FieldSink>(b: &DrefBox, sink: &mut S) -> Result<()> {
 }
 
 /// Where media data are (ISO/IEC 14496-12, 8.7.1).
-pub fn put_dinf<S: FieldSink>(b: &DinfBox, sink: &mut S) -> Result<()> {
+pub fn put_dinf<S: FieldSink>(b: &DinfBox, sink: &mut S) -> Result<()>
+    ensures nesting { OnOk result (Keeps S.since fields sink.old sink.new) }
+{
     sink.begin_group("dref")?;
     put_dref(b.dref(), sink)?;
     sink.end_group()

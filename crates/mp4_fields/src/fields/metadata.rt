@@ -1,5 +1,8 @@
 //! The fields of metadata and of events.
 
+ghost use Rattle.std.specs.Prelude.{OnOk};
+ghost use Rattle.mp4_fields.specs.Nesting.{fields, Keeps};
+
 use crate::brief::{put_data, put_full};
 use crate::flag_names::NONE;
 use crate::sink::FieldSink;
@@ -17,12 +20,16 @@ fn number_of(data_type: &DataType) -> u32 {
 }
 
 /// The value of a metadata item (QuickTime's metadata, "Data atom").
-pub fn put_data_box<S: FieldSink>(b: &DataBox, sink: &mut S) -> Result<()> {
+pub fn put_data_box<S: FieldSink>(b: &DataBox, sink: &mut S) -> Result<()>
+    ensures nesting { OnOk result (Keeps S.since fields sink.old sink.new) }
+{
     put_data(number_of(&b.data_type), b.data_bytes.as_slice(), sink)
 }
 
 /// An event (ISO/IEC 23009-1, 5.10.3.3). The field of the other version is left out.
-pub fn put_emsg<S: FieldSink>(b: &EmsgBox, sink: &mut S) -> Result<()> {
+pub fn put_emsg<S: FieldSink>(b: &EmsgBox, sink: &mut S) -> Result<()>
+    ensures nesting { OnOk result (Keeps S.since fields sink.old sink.new) }
+{
     put_full(b.version, b.flags, NONE, sink)?;
     sink.field("scheme_id_uri", Value::Text(b.scheme_id_uri.as_str()))?;
     sink.field("value", Value::Text(b.value.as_str()))?;

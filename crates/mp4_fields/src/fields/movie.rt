@@ -1,5 +1,8 @@
 //! The fields of a file's type and of a movie's header.
 
+ghost use Rattle.std.specs.Prelude.{OnOk};
+ghost use Rattle.mp4_fields.specs.Nesting.{fields, Keeps};
+
 use crate::brief::put_full;
 use crate::flag_names::NONE;
 use crate::sink::FieldSink;
@@ -7,7 +10,9 @@ use crate::value::Value;
 use mp4_stream::{FtypBox, MvhdBox, Result};
 
 /// File type (ISO/IEC 14496-12, 4.3).
-pub fn put_ftyp<S: FieldSink>(b: &FtypBox, sink: &mut S) -> Result<()> {
+pub fn put_ftyp<S: FieldSink>(b: &FtypBox, sink: &mut S) -> Result<()>
+    ensures nesting { OnOk result (Keeps S.since fields sink.old sink.new) }
+{
     sink.field("major_brand", Value::Code(b.major_brand))?;
     sink.field("minor_version", Value::Number(u64::from(b.minor_version)))?;
     sink.field(
@@ -17,7 +22,9 @@ pub fn put_ftyp<S: FieldSink>(b: &FtypBox, sink: &mut S) -> Result<()> {
 }
 
 /// Movie header (ISO/IEC 14496-12, 8.2.2).
-pub fn put_mvhd<S: FieldSink>(b: &MvhdBox, sink: &mut S) -> Result<()> {
+pub fn put_mvhd<S: FieldSink>(b: &MvhdBox, sink: &mut S) -> Result<()>
+    ensures nesting { OnOk result (Keeps S.since fields sink.old sink.new) }
+{
     put_full(b.version, b.flags, NONE, sink)?;
     sink.field("creation_time", Value::Date(b.creation_time))?;
     sink.field("modification_time", Value::Date(b.modification_time))?;

@@ -1,5 +1,8 @@
 //! The fields of the sample entry of MPEG-4 audio, of its descriptors, and of sample descriptions.
 
+ghost use Rattle.std.specs.Prelude.{OnOk};
+ghost use Rattle.mp4_fields.specs.Nesting.{fields, Keeps};
+
 use crate::brief::put_full;
 use crate::fields::entries::{put_avc1, put_hev1, put_tx3g, put_vp09};
 use crate::flag_names::NONE;
@@ -9,7 +12,9 @@ use mp4_stream::{
     DecoderConfigDescriptor, DecoderSpecificDescriptor, EsdsBox, Mp4aBox, Result, StsdBox,
 };
 
-fn put_specific<S: FieldSink>(d: &DecoderSpecificDescriptor, sink: &mut S) -> Result<()> {
+fn put_specific<S: FieldSink>(d: &DecoderSpecificDescriptor, sink: &mut S) -> Result<()>
+    ensures nesting { OnOk result (Keeps S.since fields sink.old sink.new) }
+{
     sink.field("profile", Value::Number(u64::from(d.profile)))?;
     sink.field("freq_index", Value::Number(u64::from(d.freq_index)))?;
     if let Some(rate) = d.sample_rate {
@@ -18,7 +23,9 @@ fn put_specific<S: FieldSink>(d: &DecoderSpecificDescriptor, sink: &mut S) -> Re
     sink.field("chan_conf", Value::Number(u64::from(d.chan_conf)))
 }
 
-fn put_config<S: FieldSink>(d: &DecoderConfigDescriptor, sink: &mut S) -> Result<()> {
+fn put_config<S: FieldSink>(d: &DecoderConfigDescriptor, sink: &mut S) -> Result<()>
+    ensures nesting { OnOk result (Keeps S.since fields sink.old sink.new) }
+{
     sink.field(
         "object_type_indication",
         Value::Number(u64::from(d.object_type_indication)),
@@ -34,7 +41,9 @@ fn put_config<S: FieldSink>(d: &DecoderConfigDescriptor, sink: &mut S) -> Result
 }
 
 /// How MPEG-4 audio is decoded (ISO/IEC 14496-14, 5.6).
-pub fn put_esds<S: FieldSink>(b: &EsdsBox, sink: &mut S) -> Result<()> {
+pub fn put_esds<S: FieldSink>(b: &EsdsBox, sink: &mut S) -> Result<()>
+    ensures nesting { OnOk result (Keeps S.since fields sink.old sink.new) }
+{
     put_full(b.version, b.flags, NONE, sink)?;
     sink.begin_group("es_desc")?;
     sink.field("es_id", Value::Number(u64::from(b.es_desc.es_id)))?;
@@ -45,7 +54,9 @@ pub fn put_esds<S: FieldSink>(b: &EsdsBox, sink: &mut S) -> Result<()> {
 }
 
 /// A sample entry of MPEG-4 audio (ISO/IEC 14496-14, 5.6).
-pub fn put_mp4a<S: FieldSink>(b: &Mp4aBox, sink: &mut S) -> Result<()> {
+pub fn put_mp4a<S: FieldSink>(b: &Mp4aBox, sink: &mut S) -> Result<()>
+    ensures nesting { OnOk result (Keeps S.since fields sink.old sink.new) }
+{
     sink.field(
         "data_reference_index",
         Value::Number(u64::from(b.data_reference_index)),
@@ -64,9 +75,10 @@ pub fn put_mp4a<S: FieldSink>(b: &Mp4aBox, sink: &mut S) -> Result<()> {
     Ok(())
 }
 
-/// Sample descriptions (ISO/IEC 14496-12, 8.5.2), as the codec reads them: the first alone.
-pub fn put_stsd<S: FieldSink>(b: &StsdBox, sink: &mut S) -> Result<()> {
-    put_full(b.version, b.flags, NONE, sink)?;
+/// Hands the sample entries of video to a sink, those that are there.
+fn put_video_entries<S: FieldSink>(b: &StsdBox, sink: &mut S) -> Result<()>
+    ensures nesting { OnOk result (Keeps S.since fields sink.old sink.new) }
+{
     if let Some(avc1) = &b.avc1 {
         sink.begin_group("avc1")?;
         put_avc1(avc1, sink)?;
@@ -82,6 +94,13 @@ pub fn put_stsd<S: FieldSink>(b: &StsdBox, sink: &mut S) -> Result<()> {
         put_vp09(vp09, sink)?;
         sink.end_group()?;
     }
+    Ok(())
+}
+
+/// Hands the sample entries of sound and of text to a sink, those that are there.
+fn put_other_entries<S: FieldSink>(b: &StsdBox, sink: &mut S) -> Result<()>
+    ensures nesting { OnOk result (Keeps S.since fields sink.old sink.new) }
+{
     if let Some(mp4a) = &b.mp4a {
         sink.begin_group("mp4a")?;
         put_mp4a(mp4a, sink)?;
@@ -93,4 +112,13 @@ pub fn put_stsd<S: FieldSink>(b: &StsdBox, sink: &mut S) -> Result<()> {
         sink.end_group()?;
     }
     Ok(())
+}
+
+/// Sample descriptions (ISO/IEC 14496-12, 8.5.2), as the codec reads them: the first alone.
+pub fn put_stsd<S: FieldSink>(b: &StsdBox, sink: &mut S) -> Result<()>
+    ensures nesting { OnOk result (Keeps S.since fields sink.old sink.new) }
+{
+    put_full(b.version, b.flags, NONE, sink)?;
+    put_video_entries(b, sink)?;
+    put_other_entries(b, sink)
 }

@@ -1,5 +1,8 @@
 //! The fields of the boxes of a track: its header, its edits, its media's header and handler.
 
+ghost use Rattle.std.specs.Prelude.{OnOk};
+ghost use Rattle.mp4_fields.specs.Nesting.{fields, entries, Keeps};
+
 use crate::brief::put_full;
 use crate::flag_names::{NONE, TRACK};
 use crate::sink::FieldSink;
@@ -7,7 +10,9 @@ use crate::value::Value;
 use mp4_stream::{ElstBox, ElstEntry, HdlrBox, MdhdBox, Result, TkhdBox};
 
 /// Track header (ISO/IEC 14496-12, 8.3.2).
-pub fn put_tkhd<S: FieldSink>(b: &TkhdBox, sink: &mut S) -> Result<()> {
+pub fn put_tkhd<S: FieldSink>(b: &TkhdBox, sink: &mut S) -> Result<()>
+    ensures nesting { OnOk result (Keeps S.since fields sink.old sink.new) }
+{
     put_full(b.version, b.flags, TRACK, sink)?;
     sink.field("creation_time", Value::Date(b.creation_time))?;
     sink.field("modification_time", Value::Date(b.modification_time))?;
@@ -25,7 +30,9 @@ pub fn put_tkhd<S: FieldSink>(b: &TkhdBox, sink: &mut S) -> Result<()> {
 }
 
 /// Media header (ISO/IEC 14496-12, 8.4.2).
-pub fn put_mdhd<S: FieldSink>(b: &MdhdBox, sink: &mut S) -> Result<()> {
+pub fn put_mdhd<S: FieldSink>(b: &MdhdBox, sink: &mut S) -> Result<()>
+    ensures nesting { OnOk result (Keeps S.since fields sink.old sink.new) }
+{
     put_full(b.version, b.flags, NONE, sink)?;
     sink.field("creation_time", Value::Date(b.creation_time))?;
     sink.field("modification_time", Value::Date(b.modification_time))?;
@@ -35,7 +42,9 @@ pub fn put_mdhd<S: FieldSink>(b: &MdhdBox, sink: &mut S) -> Result<()> {
 }
 
 /// Handler reference (ISO/IEC 14496-12, 8.4.3).
-pub fn put_hdlr<S: FieldSink>(b: &HdlrBox, sink: &mut S) -> Result<()> {
+pub fn put_hdlr<S: FieldSink>(b: &HdlrBox, sink: &mut S) -> Result<()>
+    ensures nesting { OnOk result (Keeps S.since fields sink.old sink.new) }
+{
     put_full(b.version, b.flags, NONE, sink)?;
     sink.field("handler_type", Value::Code(b.handler_type))?;
     sink.field("name", Value::Text(b.name.as_str()))
@@ -53,7 +62,9 @@ fn signed_time(version: u8, media_time: u64) -> i64 {
     }
 }
 
-fn put_edit<S: FieldSink>(version: u8, edit: &ElstEntry, sink: &mut S) -> Result<()> {
+fn put_edit<S: FieldSink>(version: u8, edit: &ElstEntry, sink: &mut S) -> Result<()>
+    ensures nesting { OnOk result (Keeps S.since entries sink.old sink.new) }
+{
     sink.begin_entry()?;
     sink.field("segment_duration", Value::Number(edit.segment_duration))?;
     sink.field(
@@ -69,7 +80,9 @@ fn put_edit<S: FieldSink>(version: u8, edit: &ElstEntry, sink: &mut S) -> Result
 }
 
 /// Edit list (ISO/IEC 14496-12, 8.6.6).
-pub fn put_elst<S: FieldSink>(b: &ElstBox, sink: &mut S) -> Result<()> {
+pub fn put_elst<S: FieldSink>(b: &ElstBox, sink: &mut S) -> Result<()>
+    ensures nesting { OnOk result (Keeps S.since fields sink.old sink.new) }
+{
     put_full(b.version, b.flags, NONE, sink)?;
     sink.begin_list("entries", b.entries.len())?;
     for entry in b.entries.iter().take(sink.rows()) {

@@ -1,0 +1,16 @@
+use Rattle.std.proofs.Common.{[], ◌∷◌, refl}
+use Rattle.json.specs.Token.{Token}
+use Rattle.mp4_fields.specs.Nesting.{fields}
+use Rattle.mp4_sinks.proofs.Whole.{since_begun, puts_two}
+use Rattle.mp4_sinks.proofs.json_sink.JsonSinkFieldSink.begin_group.Goals as goal
+
+pub returns : goal.returns
+returns c = record {
+  nesting =
+      λ first levels since.
+      since_begun fields fields levels first.out c.args.self.now.out c.begin_object.new.self
+      (Token.key c.args.name.now ∷ []) since (c.args.name.now, refl)
+      (puts_two c.args.self.now.out c.key.new.self c.begin_object.new.self (Token.key c.args.name.now) Token.begin_object
+      (c.in_ok-key.ensures.room.0, c.in_ok-key.ensures.ok)
+      (c.in_ok-begin_object.ensures.room.0, c.in_ok-begin_object.ensures.ok));
+}
