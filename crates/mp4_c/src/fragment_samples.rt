@@ -1,6 +1,6 @@
 //! The samples of the fragments of a track.
 
-ghost use Rattle.std.specs.Prelude.{◌≡◌, ◌+◌, ◌-◌, ◌^◌, ◌++◌, ◌⊎◌, List, IfOk, IfErr, length, min};
+ghost use Rattle.std.specs.Prelude.{◌≡◌, ◌+◌, ◌-◌, ◌^◌, ◌++◌, ◌⊎◌, List, IfOk, IfErr, min};
 ghost use Rattle.mp4_c_base.specs.declared.status.TheConstants as statuses;
 ghost use Rattle.mp4_c.specs.FragmentSamples.{AreRows, AreRowsOf, GivesRows, HandsFragments, HasFault, StopsIn};
 ghost use Rattle.mp4_c.specs.FragmentSamples.{end_time, number_of_fault, samples_in, samples_of};
@@ -10,30 +10,12 @@ ghost use Rattle.mp4_track.specs.Fragments.{AreFragments};
 ghost use Rattle.mp4_track.specs.Tracks.{Tells};
 
 use crate::samples::{SampleRow, number_of_track_error, row_of};
-use mp4_c_base::handed::{Handed, hand_over};
+use mp4_c_base::handed::hand_over;
 use mp4_c_base::status::{CHUNK_COUNT, DURATIONS, NO_ROOM, OFFSET, OUT_OF_MEMORY};
 use mp4_samples::{Fragment, FragmentFault};
 use mp4_tables::TrunBox;
 use mp4_track::{TrackError, TrackFragment, fragments_of, tables_end_of};
 use std::alloc::Global;
-
-impl Handed<SampleRow, usize> for Vec<SampleRow> {
-    ghost rows = { λ v. v.items };
-
-    ghost summary = { λ v. length v.items };
-
-    fn count(&self) -> usize {
-        self.len()
-    }
-
-    fn row(&self, index: usize) -> SampleRow {
-        self[index]
-    }
-
-    fn summary(&self) -> usize {
-        self.len()
-    }
-}
 
 /// The number of a fault of a fragment: one for each kind.
 fn number_of_fault(fault: FragmentFault) -> u32

@@ -5,7 +5,7 @@ ghost use Rattle.mp4_frame.specs.Reading.{AnswersAs};
 ghost use Rattle.mp4_c_base.specs.Handed.{HandsReading};
 ghost use Rattle.mp4_c.specs.Spans.{span_of, spans};
 
-use mp4_c_base::handed::{Handed, hand_over};
+use mp4_c_base::handed::hand_over;
 use mp4_frame::{Frame, Result, frame_at};
 use std::alloc::Global;
 
@@ -21,24 +21,6 @@ pub struct Span {
     pub header_length: u64,
     /// The four characters of its code, the first in the highest byte.
     pub code: u32,
-}
-
-impl Handed<Span, usize> for Vec<Span> {
-    ghost rows = { λ v. v.items };
-
-    ghost summary = { λ v. length v.items };
-
-    fn count(&self) -> usize {
-        self.len()
-    }
-
-    fn row(&self, index: usize) -> Span {
-        self[index]
-    }
-
-    fn summary(&self) -> usize {
-        self.len()
-    }
 }
 
 /// The place of a box at the top level.

@@ -6,9 +6,9 @@
 //! written to it.
 #![tactic(auto)]
 
-pub mod bytes;
 pub mod handed;
 pub mod laws;
+pub mod lists;
 pub mod status;
 pub mod told;
 pub mod written;

@@ -1,10 +1,10 @@
-//! Bytes and texts as rows.
+//! Lists and texts as rows.
 
 ghost use Rattle.std.specs.Prelude.{length};
 
 use crate::handed::Handed;
 
-impl Handed<u8, usize> for Vec<u8> {
+impl<R: Copy> Handed<R, usize> for Vec<R> {
     ghost rows = { λ v. v.items };
 
     ghost summary = { λ v. length v.items };
@@ -13,7 +13,7 @@ impl Handed<u8, usize> for Vec<u8> {
         self.len()
     }
 
-    fn row(&self, index: usize) -> u8 {
+    fn row(&self, index: usize) -> R {
         self[index]
     }
 
