@@ -6,3 +6,9 @@ pub mod Listed
 pub mod ListedLaws
 pub mod BoxLayout
 pub mod BoxLayoutLaws
+pub mod Shape
+pub mod ShapeLaws
+pub mod ListLaws
+pub mod FullLaws
+pub mod OwnBox
+pub mod OwnBoxLaws

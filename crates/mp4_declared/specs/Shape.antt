@@ -1,0 +1,104 @@
+-- The shape of what a box holds: how a value is read, and in which bytes it is written. Bytes and offsets are those from
+-- the box's start on, and `end` is where the box ends.
+use Rattle.std.specs.Prelude.{ℕ, ◌+◌, ◌<◌, ◌^◌, ◌==◌, ◌&&◌, Bool, true, false, not, List, ◌++◌, if◌then◌else◌, All, length}
+use Rattle.std.specs.Prelude.{map, flat_map, nat_lt, nat_le, ◌*◌, ◌-◌}
+use Rattle.mp4_frame.specs.Tables.{rows_at}
+use Rattle.mp4_frame.specs.Bytes.{number, be_bytes}
+use Rattle.mp4_frame.specs.Reading.{Reading, ◌>>=◌, done, expect_bytes, check, memory}
+use Rattle.mp4_declared.specs.declared.context.Context.{Context}
+
+-- What is read from an offset on, in how many bytes a value is written, whether it fits them, and which they are.
+-- The first `front` bytes are expected before anything else is checked. A fixed shape has no others, and refuses none.
+-- A shape that goes `to_end` takes all bytes up to the end of the box, and in a `valid` one nothing follows such a part.
+pub record Shape (A : Type 0) : Type 1 where
+  pub reads : Context → List ℕ → ℕ → ℕ → Reading A
+  pub size : Context → A → ℕ
+  pub Fits : Context → A → Type 0
+  pub bytes : Context → A → List ℕ
+  pub front : Context → ℕ
+  pub fixed : Bool
+  pub to_end : Bool
+  pub valid : Bool
+
+-- a number of so many bytes
+abbrev pub number_shape : (Context → ℕ) → Shape ℕ
+number_shape width = record {
+  reads = λ c bytes at end. expect_bytes bytes at (width c) >>= λ _. done (number bytes at (width c));
+  size = λ c n. width c;
+  Fits = λ c n. n < 256 ^ width c;
+  bytes = λ c n. be_bytes (width c) n;
+  front = width;
+  fixed = true;
+  to_end = false;
+  valid = true;
+}
+
+-- how many bytes a time has in a version
+abbrev pub time_width : ℕ → ℕ
+time_width version = if version == 0 then 4 else 8
+
+-- n bytes that are written as 0, and read as any
+abbrev pub zeros_shape : ℕ → Shape (Unit {0})
+zeros_shape n = record {
+  reads = λ c bytes at end. expect_bytes bytes at n;
+  size = λ c v. n;
+  Fits = λ c v. Unit {0};
+  bytes = λ c v. be_bytes n 0;
+  front = λ c. n;
+  fixed = true;
+  to_end = false;
+  valid = true;
+}
+
+-- one shape, and then another
+abbrev pub pair_shape : {A B : Type 0} → Shape A → Shape B → Shape (A × B)
+pair_shape {A} {B} a b = record {
+  reads = λ c bytes at end. a.reads c bytes at end >>= λ x. b.reads c bytes (at + a.size c x) end >>= λ y. done (x, y);
+  size = λ c v. a.size c v.0 + b.size c v.1;
+  Fits = λ c v. a.Fits c v.0 × b.Fits c v.1;
+  bytes = λ c v. a.bytes c v.0 ++ b.bytes c v.1;
+  front = λ c. if a.fixed then a.front c + b.front c else a.front c;
+  fixed = a.fixed && b.fixed;
+  to_end = b.to_end;
+  valid = a.valid && (not a.to_end && b.valid);
+}
+
+-- the version in 1 byte, below n, the flags in 3, and a shape that may differ with them
+abbrev pub full_shape : {A : Type 0} → ℕ → Shape A → Shape (ℕ × ℕ × A)
+full_shape {A} n s = record {
+  reads = λ c bytes at end.
+      expect_bytes bytes at 4 >>= λ _. check (nat_lt (number bytes at 1) n) >>= λ _.
+      s.reads (record { version = number bytes at 1; flags = number bytes (at + 1) 3 }) bytes (at + 4) end >>= λ v.
+      done (number bytes at 1, number bytes (at + 1) 3, v);
+  size = λ c v. 4 + s.size (record { version = v.0; flags = v.1 }) v.2;
+  Fits = λ c v. (v.0 < n) × (v.0 < 2 ^ 8) × (v.1 < 2 ^ 24)
+      × s.Fits (record { version = v.0; flags = v.1 }) v.2;
+  bytes = λ c v.
+      (be_bytes 1 v.0 ++ be_bytes 3 v.1) ++ s.bytes (record { version = v.0; flags = v.1 }) v.2;
+  front = λ c. 4;
+  fixed = false;
+  to_end = s.to_end;
+  valid = s.valid;
+}
+
+-- the entries of the n rows of e bytes each from o on; the box is checked to have room for them
+unfoldable pub reads_entries : {X : Type 0} → (List ℕ → X) → ℕ → List ℕ → ℕ → ℕ → ℕ → Reading (List X)
+reads_entries entry_of e bytes end o n = do
+  _ ← check (nat_le (n * e) (end - o))
+  rows ← rows_at bytes o e n
+  _ ← memory
+  done (map entry_of rows)
+
+-- a count of `width` bytes, and that many entries, each in a row of e bytes
+abbrev pub list_shape : {X : Type 0} → ℕ → ℕ → (X → List ℕ) → (List ℕ → X) → (X → Type 0) → Shape (List X)
+list_shape width e row_of entry_of FitsRow = record {
+  reads = λ c bytes at end.
+      expect_bytes bytes at width >>= λ _. reads_entries entry_of e bytes end (at + width) (number bytes at width);
+  size = λ c xs. width + e * length xs;
+  Fits = λ c xs. (length xs < 256 ^ width) × All FitsRow xs;
+  bytes = λ c xs. be_bytes width (length xs) ++ flat_map row_of xs;
+  front = λ c. width;
+  fixed = false;
+  to_end = false;
+  valid = nat_lt 0 e;
+}

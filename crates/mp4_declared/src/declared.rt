@@ -1,0 +1,209 @@
+//! A box that is declared.
+
+ghost use Rattle.std.specs.Prelude.{◌≡◌, ℕ, ◌≤◌, ◌<◌, ◌+◌, ◌-◌, ◌^◌, ◌↔◌, ◌++◌, true, false, min, List, IsTrue, length, take};
+ghost use Rattle.mp4_frame.specs.Bytes.{bytes_of_fields};
+ghost use Rattle.mp4_frame.specs.BoxType.{is_disguised};
+ghost use Rattle.mp4_frame.specs.Format.{write_laws};
+ghost use Rattle.mp4_frame.specs.declared.box_type.BoxType.TheVariants as names;
+ghost use Rattle.mp4_declared.specs.OwnBox.{no_context, reads_declared, format_declared, header_declared};
+ghost use Rattle.mp4_declared.specs.OwnBox.{IsDeclared};
+ghost use Rattle.mp4_declared.specs.OwnBoxLaws.{declared_laws};
+
+use crate::context::Context;
+use crate::shape::{PutShape, Shape, read_next};
+use mp4_frame::{
+    BoxLaws, BoxType, Mp4Box, ReadBox, Result, TryClone, WriteBox, expect_bytes, put_u32,
+};
+use std::alloc::Global;
+use std::marker::Model;
+
+/// Before a version and flags are known.
+const NO_CONTEXT: Context = Context {
+    version: 0,
+    flags: 0,
+};
+
+/// What is asked about the content of a box, whatever its shape.
+pub trait Question<S: Shape> {
+    /// The type of the answer.
+    type Answer;
+
+    /// What has to hold of the content, and of the length of the slice.
+    ghost can_ask: { S.Value → ℕ → Type 0 } = { λ _ _. Unit {0} };
+
+    /// What holds of the content, the bytes of the slice before and after, and the answer.
+    ghost answers: { S.Value → List ℕ → List ℕ → Self.Answer → Type 0 };
+
+    /// Asks about the content. The slice is for an answer in bytes.
+    fn ask<V: Copy>(content: V, out: &mut [u8]) -> Self::Answer
+    where
+        S: PutShape<V>,
+        requires { can_ask (S.PutShape.content content) (length out.old) }
+        ensures { answers (S.PutShape.content content) out.old out.new result };
+}
+
+/// In how many bytes is it written?
+struct Size;
+
+impl<S: Shape> Question<S> for Size {
+    type Answer = u64;
+
+    ghost answers = { λ x _ _ answer. answer ≡ min (S.shape.size no_context x) (2 ^ 64 - 1) };
+
+    #[inline]
+    fn ask<V: Copy>(content: V, _out: &mut [u8]) -> u64
+    where
+        S: PutShape<V>,
+    {
+        S::size(NO_CONTEXT, content)
+    }
+}
+
+/// Does each number fit its field?
+struct Fits;
+
+impl<S: Shape> Question<S> for Fits {
+    type Answer = bool;
+
+    ghost answers = { λ x _ _ answer. IsTrue answer ↔ S.shape.Fits no_context x };
+
+    #[inline]
+    fn ask<V: Copy>(content: V, _out: &mut [u8]) -> bool
+    where
+        S: PutShape<V>,
+    {
+        S::fits(NO_CONTEXT, content)
+    }
+}
+
+/// In which bytes?
+struct Put;
+
+impl<S: Shape> Question<S> for Put {
+    type Answer = ();
+
+    ghost can_ask = { λ x room. S.shape.Fits no_context x × (room ≡ 8 + S.shape.size no_context x) };
+
+    ghost answers = { λ x old new _. new ≡ take 8 old ++ S.shape.bytes no_context x };
+
+    #[inline]
+    fn ask<V: Copy>(content: V, out: &mut [u8])
+    where
+        S: PutShape<V>,
+    {
+        S::put(out, 8, NO_CONTEXT, content);
+    }
+}
+
+/// The fields of a box that is declared: its code, the shape of its content, and which field is where.
+pub trait DeclaredBox: Sized + Drop {
+    /// What the box holds after its size and its code.
+    type Shape: Shape;
+
+    /// The code.
+    ghost CODE: { ℕ };
+
+    /// The content of a box.
+    ghost content: { Self → Self.Shape.Value };
+
+    /// The box of some content.
+    ghost value: { Self.Shape.Value → Self };
+
+    /// The code.
+    const CODE: u32;
+
+    /// The box of some content.
+    fn from_content(found: <Self::Shape as Shape>::Value) -> Self
+        ensures { result ≡ value found };
+
+    /// Asks about the content.
+    fn ask<Q: Question<Self::Shape>>(&self, out: &mut [u8]) -> Q::Answer
+        requires { Q.can_ask (content self.now) (length out.old) }
+        ensures { Q.answers (content self.now) out.old out.new result };
+
+    /// It is made of its content.
+    ghost is_declared: { IsDeclared CODE Self.Shape.shape content value };
+}
+
+/// A box that is declared.
+#[derive(Debug, Drop, PartialEq, Eq)]
+pub struct Declared<T> {
+    /// Its fields.
+    pub fields: T,
+}
+
+impl<T> Model for Declared<T> {
+    ghost Value = { T };
+
+    ghost view = { λ b. b.fields };
+
+    ghost inverse = { λ v. record { fields = v } };
+}
+
+impl<T> Declared<T> {
+    /// The box with these fields.
+    pub fn new(fields: T) -> Self
+        ensures { result ≡ fields }
+    {
+        Declared { fields }
+    }
+}
+
+impl<T: TryClone> TryClone for Declared<T> {
+    fn try_clone(&self) -> Result<Self> {
+        Ok(Declared::new(self.fields.try_clone()?))
+    }
+}
+
+impl<T: DeclaredBox> Mp4Box for Declared<T> {
+    ghost format = { format_declared T.CODE T.Shape.shape T.content };
+
+    fn box_type(&self) -> BoxType {
+        BoxType::UnknownBox(T::CODE)
+    }
+
+    #[inline]
+    fn box_size(&self) -> u64 {
+        self.fields.ask::<Size>(&mut []).saturating_add(8)
+    }
+}
+
+impl<T: DeclaredBox> ReadBox for Declared<T> {
+    ghost reads = { reads_declared T.Shape.shape T.value };
+
+    const LEAST: u64 = 0;
+
+    #[tactic(auto, unfolding(crate::specs::OwnBox::reads_declared))]
+    fn read_content(alloc: Global, bytes: &[u8], _start: u64, size: u64) -> Result<Self> {
+        expect_bytes(bytes, 0, 8)?;
+        let (content, _) = read_next::<T::Shape>(alloc, bytes, 8, size, NO_CONTEXT, false)?;
+        Ok(Declared::new(T::from_content(content)))
+    }
+}
+
+/// Puts the size and the code of a box.
+#[tactic(auto, unfolding(mp4_frame::specs::Bytes::bytes_of_fields, mp4_frame::specs::Bytes::bytes_of_fields_onto))]
+fn put_header(out: &mut [u8], size: u32, code: u32)
+    requires { 8 ≤ length out.old }
+    ensures { take 8 out.new ≡ bytes_of_fields (header_declared size code) }
+{
+    let at = put_u32(out, 0, size);
+    put_u32(out, at, code);
+}
+
+impl<T: DeclaredBox> WriteBox for Declared<T> {
+    fn is_writable(&self) -> bool {
+        self.box_size() < 1 << 32 && self.fields.ask::<Fits>(&mut [])
+    }
+
+    fn put_box(&self, out: &mut [u8]) {
+        put_header(out, self.box_size() as u32, T::CODE);
+        self.fields.ask::<Put>(out)
+    }
+
+    ghost write_laws = { write_laws (declared_laws T.CODE T.Shape.shape T.content T.value T.Shape.shape_laws T.is_declared) };
+}
+
+impl<T: DeclaredBox> BoxLaws for Declared<T> {
+    ghost laws = { declared_laws T.CODE T.Shape.shape T.content T.value T.Shape.shape_laws T.is_declared };
+}

@@ -1,0 +1,80 @@
+//! Version and flags, and what is after them.
+
+ghost use Rattle.mp4_declared.specs.Shape.{full_shape};
+ghost use Rattle.mp4_declared.specs.FullLaws.{full_laws};
+
+use crate::context::Context;
+use crate::shape::{PutShape, Shape, read_next};
+use mp4_frame::{Result, check, put_u8, put_u24, u8_at, u24_at};
+use std::alloc::Global;
+
+/// The content of a full box (ISO/IEC 14496-12, 4.2): its version, which is below `N`, its flags, and an `S` that may
+/// differ with them. Boxes of other versions are refused.
+pub struct Full<const N: usize, S>(S);
+
+/// What is wrong with a version, where there are so many.
+fn unknown_version(versions: usize) -> &'static str {
+    match versions {
+        1 => "version must be 0",
+        2 => "version must be 0 or 1",
+        _ => "version is too large",
+    }
+}
+
+impl<const N: usize, S: Shape> Shape for Full<N, S> {
+    type Value = (u8, u32, S::Value);
+
+    ghost shape = { full_shape N S.shape };
+
+    ghost shape_laws = { full_laws N S.shape S.shape_laws };
+
+    #[inline]
+    fn is_fixed() -> bool {
+        false
+    }
+
+    #[inline]
+    fn front(_context: Context) -> usize {
+        4
+    }
+
+    #[inline]
+    fn read(
+        alloc: Global,
+        bytes: &[u8],
+        at: usize,
+        end: u64,
+        _context: Context,
+    ) -> Result<((u8, u32, S::Value), usize)> {
+        let version = u8_at(bytes, at);
+        check(usize::from(version) < N, unknown_version(N))?;
+        let flags = u24_at(bytes, at + 1);
+        let context = Context { version, flags };
+        let (value, next) = read_next::<S>(alloc, bytes, at + 4, end, context, false)?;
+        Ok(((version, flags, value), next))
+    }
+}
+
+impl<const N: usize, S: PutShape<V>, V: Copy> PutShape<(u8, u32, V)> for Full<N, S> {
+    ghost content = { λ v. (v.0, v.1, S.content v.2) };
+
+    #[inline]
+    fn size(_context: Context, value: (u8, u32, V)) -> u64 {
+        let (version, flags, value) = value;
+        S::size(Context { version, flags }, value).saturating_add(4)
+    }
+
+    #[inline]
+    fn fits(_context: Context, value: (u8, u32, V)) -> bool {
+        let (version, flags, value) = value;
+        usize::from(version) < N && flags < 1 << 24 && S::fits(Context { version, flags }, value)
+    }
+
+    #[inline]
+    fn put(out: &mut [u8], at: usize, _context: Context, value: (u8, u32, V)) -> usize {
+        let (version, flags, value) = value;
+        let next = put_u8(out, at, version);
+        let next = put_u24(out, next, flags);
+        S::put(out, next, Context { version, flags }, value)
+    }
+}
