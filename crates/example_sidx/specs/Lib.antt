@@ -1,4 +1,2 @@
-pub mod Sidx
-pub mod SidxLaws
 pub mod Segment
 pub mod SegmentLaws

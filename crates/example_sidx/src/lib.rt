@@ -1,11 +1,13 @@
-//! A box type of one's own, `sidx`, and an enum of it and boxes of the codec. It uses `mp4_stream` alone.
-//! `docs/OWN-BOX.md` goes through it.
+//! Box types of one's own, `prft` and `sidx`, and an enum of `sidx` and boxes of the codec. It uses `mp4_stream` alone.
+//! `docs/OWN-BOX.md` goes through them.
 #![tactic(auto)]
 
+mod prft;
 mod segment;
 mod sidx;
 mod sidx_or_any;
 
+pub use prft::{PRFT, Prft, PrftBox};
 pub use segment::SegmentBox;
 pub use sidx::{SIDX, Sidx, SidxBox, SidxEntry};
 pub use sidx_or_any::SidxOrAny;

@@ -1,10 +1,11 @@
 //! The boxes of a segment as one type.
 
+ghost use Rattle.std.proofs.Common.{refl};
 ghost use Rattle.example_sidx.specs.Segment.{kinds, inside};
 ghost use Rattle.example_sidx.specs.SegmentLaws.{members, named};
 
-use crate::sidx::{SIDX, SidxBox};
-use mp4_stream::author::{BoxEnum, Question};
+use crate::sidx::{SIDX, Sidx, SidxBox, SidxShape};
+use mp4_stream::author::{BoxEnum, DeclaredBox, Question, Shape};
 use mp4_stream::{BoxType, ByteCursor, MfhdBox, ReadBox, Result, TfdtBox, TrunBox};
 use std::alloc::Global;
 
@@ -18,11 +19,11 @@ pub enum SegmentBox {
 }
 
 impl BoxEnum for SegmentBox {
-    ghost kinds = { kinds };
+    ghost kinds = { kinds ⟦<SidxShape as Shape>⟧.shape ⟦<Sidx as DeclaredBox>⟧.layout };
 
-    ghost inside = { inside };
+    ghost inside = { inside ⟦<SidxShape as Shape>⟧.shape ⟦<Sidx as DeclaredBox>⟧.layout };
 
-    ghost members = { members };
+    ghost members = { members ⟦<SidxShape as Shape>⟧.shape ⟦<SidxShape as Shape>⟧.shape_laws ⟦<Sidx as DeclaredBox>⟧.layout refl };
 
     fn holds(name: BoxType) -> bool {
         matches!(
@@ -49,5 +50,5 @@ impl BoxEnum for SegmentBox {
         }
     }
 
-    ghost named = { named };
+    ghost named = { named ⟦<SidxShape as Shape>⟧.shape ⟦<SidxShape as Shape>⟧.shape_laws ⟦<Sidx as DeclaredBox>⟧.layout refl };
 }

@@ -1,12 +1,14 @@
 //! The segment index box.
 
+ghost use Rattle.example_sidx.specs.declared.sidx.TheConstants.{SIDX};
 ghost use Rattle.std.proofs.Common.{refl, lit<};
-ghost use Rattle.std.specs.Prelude.{◌≡◌, ℕ, ◌<◌, ◌^◌, [], ◌∷◌, max, slice_index};
-ghost use Rattle.example_sidx.specs.Sidx.{entry_sidx, layout_sidx};
-ghost use Rattle.example_sidx.specs.SidxLaws.{laws_entry, laws_layout_sidx};
+ghost use Rattle.std.specs.Prelude.{◌==◌, [], ◌∷◌};
+ghost use Rattle.mp4_stream.specs.Author.{bit, flag_back, flag_fits};
 
-use mp4_stream::Entries;
-use mp4_stream::author::{BoxLayout, EntryLayout, FullBox};
+use mp4_stream::author::{
+    About, Declared, DeclaredBox, EntryLayout, Full, List, Shape, Time, U16, U32, Zeros,
+};
+use mp4_stream::{Entries, Result, TryClone};
 
 /// The code: `sidx`.
 pub const SIDX: u32 = 0x7369_6478;
@@ -16,8 +18,7 @@ pub const SIDX: u32 = 0x7369_6478;
 pub struct SidxEntry {
     /// Whether it is to another `sidx`; if not, it is to media.
     pub reference_type: bool,
-    /// The number of bytes from the beginning of the material to that of the next reference, or to its own end if it is
-    /// the last. 31 bits.
+    /// The number of bytes from the beginning of the material to the next reference's, or to its own end. 31 bits.
     pub referenced_size: u32,
     /// The duration of the material, in the timescale of the index.
     pub subsegment_duration: u32,
@@ -30,7 +31,28 @@ pub struct SidxEntry {
 }
 
 impl EntryLayout<6, 12> for SidxEntry {
-    ghost entry = { entry_sidx };
+    ghost entry = { record {
+      widths = 1 ∷ 31 ∷ 32 ∷ 1 ∷ 3 ∷ 28 ∷ [];
+      value = λ n. record {
+        reference_type = n 0 == 1;
+        referenced_size = n 1;
+        subsegment_duration = n 2;
+        starts_with_sap = n 3 == 1;
+        sap_type = n 4;
+        sap_delta_time = n 5;
+      };
+      numbers = λ e. bit e.reference_type ∷ e.referenced_size ∷ e.subsegment_duration ∷ bit e.starts_with_sap
+          ∷ e.sap_type ∷ e.sap_delta_time ∷ [];
+    } };
+
+    ghost entry_laws = { record {
+      long = refl;
+      fields = refl;
+      some = lit< tt;
+      back = λ e i. record e
+          { reference_type = flag_back e.reference_type i; starts_with_sap = flag_back e.starts_with_sap i };
+      fit = λ n small. (flag_fits (n 0 == 1), (small 1, (small 2, (flag_fits (n 3 == 1), (small 4, (small 5, tt))))));
+    } };
 
     fn widths() -> [u8; 6] {
         [1, 31, 32, 1, 3, 28]
@@ -58,7 +80,7 @@ impl EntryLayout<6, 12> for SidxEntry {
         }
     }
 
-    ghost entry_laws = { laws_entry };
+    ghost few = { lit< tt };
 }
 
 /// The fields of a segment index: where the parts of a segment's media are, and when they are presented (`sidx`,
@@ -81,65 +103,70 @@ pub struct Sidx {
     pub entries: Entries<SidxEntry>,
 }
 
-impl BoxLayout<5, 6, 12> for Sidx {
-    type Entry = SidxEntry;
+/// What the box holds: version, flags, numbers, two reserved bytes, a count of 16 bits, and that many references.
+pub type SidxShape = Full<
+    2,
+    (
+        U32,
+        (U32, (Time, (Time, (Zeros<2>, List<U16, SidxEntry, 6, 12>)))),
+    ),
+>;
 
-    ghost layout = { layout_sidx };
+impl DeclaredBox for Sidx {
+    type Shape = SidxShape;
 
-    ghost CODE = { layout_sidx.code };
+    ghost CODE = { SIDX };
+
+    ghost layout = { record {
+      content = λ v.
+          let times = (v.earliest_presentation_time, (v.first_offset, (tt, v.entries))) in
+          (v.version, v.flags, (v.reference_id, (v.timescale, times)));
+      value = λ x. record {
+        version = x.0;
+        flags = x.1;
+        reference_id = x.2.0;
+        timescale = x.2.1.0;
+        earliest_presentation_time = x.2.1.1.0;
+        first_offset = x.2.1.1.1.0;
+        entries = x.2.1.1.1.1.1;
+      };
+      back = λ v. refl;
+      again = λ x. refl;
+      coded = lit< tt;
+      own = refl;
+    } };
 
     const CODE: u32 = SIDX;
 
-    const TOO_MANY: &'static str =
-        "sidx reference_count indicates more entries than could fit in the box";
-
-    fn count_width() -> usize {
-        2
-    }
-
-    fn widths() -> &'static [[u8; 5]] {
-        &[[32, 32, 32, 32, 16], [32, 32, 64, 64, 16]]
-    }
-
-    fn parts(&self) -> (u8, u32, [u64; 5], &Entries<SidxEntry>) {
-        let numbers = [
-            self.reference_id.into(),
-            self.timescale.into(),
-            self.earliest_presentation_time,
-            self.first_offset,
-            0,
-        ];
-        (self.version, self.flags, numbers, &self.entries)
-    }
-
-    fn from_parts(version: u8, flags: u32, n: &[u64; 5], entries: Entries<SidxEntry>) -> Sidx
-        requires { (k : ℕ) → slice_index n.now k < 2 ^ max (slice_index (32 ∷ 32 ∷ 32 ∷ 32 ∷ 16 ∷ []) k)
-            (max (slice_index (32 ∷ 32 ∷ 64 ∷ 64 ∷ 16 ∷ []) k) 0) }
-        ensures { result ≡ layout_sidx.value version flags (slice_index n.now) entries }
-    {
+    fn from_content(found: <SidxShape as Shape>::Value) -> Sidx {
+        let (version, flags, (reference_id, (timescale, (time, (offset, (_, entries)))))) = found;
         Sidx {
             version,
             flags,
-            reference_id: n[0] as u32,
-            timescale: n[1] as u32,
-            earliest_presentation_time: n[2],
-            first_offset: n[3],
+            reference_id,
+            timescale,
+            earliest_presentation_time: time,
+            first_offset: offset,
             entries,
         }
     }
 
-    fn with_entries(&self, entries: Entries<SidxEntry>) -> Sidx
-        ensures { entries ≡ self.now.entries → result ≡ self.now }
-    {
-        Sidx { entries, ..*self }
+    fn ask<Q: About<Self::Shape>>(&self, out: &mut [u8]) -> Q::Answer {
+        let list = ((), self.entries.as_slice());
+        let times = (self.earliest_presentation_time, (self.first_offset, list));
+        let numbers = (self.reference_id, (self.timescale, times));
+        Q::ask((self.version, self.flags, numbers), out)
     }
 
-    ghost few = { (lit< tt, lit< tt) };
+    ghost valid = { refl };
+}
 
-    ghost coded = { refl };
-
-    ghost layout_laws = { laws_layout_sidx };
+impl TryClone for Sidx {
+    fn try_clone(&self) -> Result<Sidx> {
+        let entries = self.entries.try_clone()?;
+        Ok(Sidx { entries, ..*self })
+    }
 }
 
 /// The segment index box.
-pub type SidxBox = FullBox<Sidx, 5, 6, 12>;
+pub type SidxBox = Declared<Sidx>;

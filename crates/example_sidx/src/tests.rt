@@ -4,11 +4,12 @@
 mod laws;
 mod limits;
 mod lists;
+mod prft;
 mod sidx_or_any;
 mod vectors;
 
 use crate::{Sidx, SidxBox, SidxEntry};
-use mp4_stream::{ByteCursor, Error, Mp4Box, ReadBox, Result as Made, WriteBox};
+use mp4_stream::{ByteCursor, Entries, Error, Mp4Box, ReadBox, Result as Made, WriteBox};
 use std::alloc::Global;
 
 /// Version 0, with three references: the first to another index, the second to media that begins with an access point,
@@ -25,6 +26,19 @@ pub(crate) const LONG: [u8; 76] = *b"\0\0\0\x4csidx\x01\x81\x82\x83\x84\x85\x86\
 \x9c\x9d\x9e\x9f\xa0\xa1\xa2\xa3\x54\xa5\xa6\xa7\
 \x28\xa9\xaa\xab\xac\xad\xae\xaf\xb0\xb1\xb2\xb3\
 \x34\xb5\xb6\xb7\xb8\xb9\xba\xbb\x7c\xbd\xbe\xbf";
+
+/// Version 0, numbers of 0 and no entries.
+pub(crate) fn empty(alloc: Global) -> SidxBox {
+    SidxBox::new(Sidx {
+        version: 0,
+        flags: 0,
+        reference_id: 0,
+        timescale: 0,
+        earliest_presentation_time: 0,
+        first_offset: 0,
+        entries: Entries::new(alloc),
+    })
+}
 
 /// The box of `SHORT`.
 pub(crate) fn short(alloc: Global) -> Made<SidxBox> {

@@ -1,2 +1,2 @@
 pub mod BitSteps
-pub mod BoxSteps
+pub mod Room

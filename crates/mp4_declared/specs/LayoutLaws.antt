@@ -1,5 +1,5 @@
 -- The laws of an entry that is declared follow from a few facts about its layout.
-use Rattle.std.proofs.Common.{◌≡◌, ℕ, ◌<◌, ◌^◌, Bool, true, false, List, [], slice_index, refl, sym, ap, ◌∙◌, lit<}
+use Rattle.std.proofs.Common.{◌≡◌, ℕ, ◌<◌, ◌^◌, Bool, true, false, List, [], slice_index, refl, sym, ap, subst, ◌∙◌, lit<}
 use Rattle.std.specs.Prelude.{◌==◌}
 use Rattle.std.proofs.lemmas.List.{append-nil}
 use Rattle.mp4_frame.specs.Bytes.{number, be_bytes}
@@ -34,8 +34,8 @@ joined_small ws ns fields fit =
     rw power (joined-lt ws ns fit)
 
 pub entry_laws : {X : Type 0} (l : EntryLayout X) {e : ℕ} → IsEntryLayout l e
-    → IsEntry (row_of l) (entry_of l) (FitsEntry l) (bytes_in l.widths)
-entry_laws {X} l {e} is = record {
+    → IsEntry (row_of l) (entry_of l) (FitsEntry l) e
+entry_laws {X} l {e} is = subst (λ (k : ℕ). IsEntry (row_of l) (entry_of l) (FitsEntry l) k) is.long (record {
   long = λ x fits. length-be_bytes (bytes_in l.widths) (joined l.widths (l.numbers x));
   back = λ x fits.
       let w = bytes_in l.widths in
@@ -48,4 +48,4 @@ entry_laws {X} l {e} is = record {
   fits = λ bytes read.
       is.fit (slice_index (split l.widths (number bytes 0 (bytes_in l.widths))))
       (split-below l.widths (number bytes 0 (bytes_in l.widths)));
-}
+})

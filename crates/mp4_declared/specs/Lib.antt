@@ -2,13 +2,11 @@ pub mod Bits
 pub mod BitsLaws
 pub mod Layout
 pub mod LayoutLaws
-pub mod Listed
-pub mod ListedLaws
-pub mod BoxLayout
-pub mod BoxLayoutLaws
 pub mod Shape
 pub mod ShapeLaws
 pub mod ListLaws
 pub mod FullLaws
 pub mod OwnBox
 pub mod OwnBoxLaws
+pub mod MoreShapes
+pub mod MoreShapesLaws

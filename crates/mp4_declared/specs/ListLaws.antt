@@ -2,7 +2,7 @@
 use Rattle.std.proofs.Common.{◌≡◌, ℕ, ◌+◌, ◌*◌, ◌-◌, ◌<◌, ◌≤◌, ◌^◌, true, leb, List, ◌++◌, map, length, Ok}
 use Rattle.std.proofs.Common.{refl, ap, ◌∙◌, append_assoc, length-append, arith}
 use Rattle.std.specs.List.{flat_map, All}
-use Rattle.std.proofs.lemmas.Bool.{le-leb}
+use Rattle.std.proofs.lemmas.Bool.{le-leb, ltb-true}
 use Rattle.std.proofs.lemmas.List.Elements.{All-from_recursion, recursion_from_All}
 use Rattle.mp4_frame.specs.Bytes.{number, be_bytes}
 use Rattle.mp4_frame.specs.Laws.{AreBytes}
@@ -13,15 +13,15 @@ use Rattle.mp4_frame.proofs.Fields.{length-be_bytes, number-below}
 use Rattle.mp4_frame.proofs.TableLaws.{IsEntry}
 use Rattle.mp4_frame.proofs.Tables.{length_flat, rows_at_back, rows_read, map_back, map_all, length_map, value_first}
 use Rattle.mp4_declared.specs.declared.context.Context.{Context}
-use Rattle.mp4_declared.specs.Shape.{reads_entries, list_shape}
+use Rattle.mp4_declared.specs.Shape.{rows_within, reads_entries, list_shape}
 use Rattle.mp4_declared.specs.ShapeLaws.{IsShape, expect_bytes_absent, put_room, number_put}
 
 module _ {X : Type 0} (width e : ℕ) (row_of : X → List ℕ) (entry_of : List ℕ → X) (FitsRow : X → Type 0)
-    (entry : IsEntry row_of entry_of FitsRow e) (some : 0 < e) where
+    (entry : IsEntry row_of entry_of FitsRow e) where
   -- entries that were written after p are read back
   entries_back : (p y : List ℕ) (xs : List X) (end o : ℕ) → length p ≡ o → o + e * length xs ≤ end → All FitsRow xs
       → (reads_entries entry_of e (p ++ (flat_map row_of xs ++ y)) end o (length xs)).outcome ≡ Ok xs
-  unfolding reads_entries
+  unfolding reads_entries rows_within
   entries_back p y xs end o at room each =
       let by = recursion_from_All FitsRow xs each in
       let enough : leb (length xs * e) (end - o) ≡ true = le-leb (length xs * e) (end - o) (omega arith) in
@@ -30,14 +30,14 @@ module _ {X : Type 0} (width e : ℕ) (row_of : X → List ℕ) (entry_of : List
       rw (enough, rows, back) refl
 
   -- entries that were read fit their rows, and there are as many as the count says
-  entries_read : (bytes : List ℕ) (end o n : ℕ) (xs : List X) → AreBytes bytes
+  entries_read : 0 < e → (bytes : List ℕ) (end o n : ℕ) (xs : List X) → AreBytes bytes
       → (reads_entries entry_of e bytes end o n).outcome ≡ Ok xs → All FitsRow xs × (length xs ≡ n)
-  unfolding reads_entries
-  entries_read bytes end o n xs are read =
+  unfolding reads_entries rows_within
+  entries_read some bytes end o n xs are read =
       let last : List (List ℕ) → Reading (List X) = λ rows. memory >>= λ _. done (map entry_of rows) in
-      let one = check_ok (leb (n * e) (end - o)) (λ _. rows_at bytes o e n >>= last) xs read in
-      let p = value_first (rows_at bytes o e n) last xs one.1 in
-      let r = rows_read bytes o e n p.0 some are p.1 in
+      let p = value_first (rows_within bytes end o e n) last xs read in
+      let one = check_ok (leb (n * e) (end - o)) (λ _. rows_at bytes o e n) p.0 p.1 in
+      let r = rows_read bytes o e n p.0 some are one.1 in
       let is : map entry_of p.0 ≡ xs = is_value (map entry_of p.0) xs p.2 in
       rw (← is) (
         All-from_recursion FitsRow (map entry_of p.0) (map_all e entry_of FitsRow entry.fits p.0 r.0),
@@ -78,13 +78,21 @@ module _ {X : Type 0} (width e : ℕ) (row_of : X → List ℕ) (entry_of : List
   list_laws = record {
     long = λ c xs fits. list_long xs fits.1;
     back = λ _ c xs x y end fits ends. list_back xs x y end fits ends c;
-    sound = λ c bytes at end xs are read.
+    sound = λ valid c bytes at end xs are read.
         let n = number bytes at width in
         let one = expect_bytes_ok bytes at width (λ _. reads_entries entry_of e bytes end (at + width) n) xs read in
-        let r = entries_read bytes end (at + width) n xs are one in
+        let r = entries_read (ltb-true 0 e valid) bytes end (at + width) n xs are one in
         let below = number-below bytes at width are in
         (omega (arith, r.1, below), r.0);
     front_first = λ c bytes at end le lt. rw (expect_bytes_absent bytes at width le lt) refl;
     fixed_size = λ h. absurd cc;
     fixed_reads = λ h. absurd cc;
   }
+
+-- a row of e bytes as an entry
+pub row_entry : (e : ℕ) → IsEntry (λ row. row) (λ row. row) (λ row. length row ≡ e) e
+row_entry e = record {
+  long = λ row fits. fits;
+  back = λ row fits. refl;
+  fits = λ row is. is.long;
+}

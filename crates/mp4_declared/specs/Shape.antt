@@ -81,11 +81,16 @@ full_shape {A} n s = record {
   valid = s.valid;
 }
 
--- the entries of the n rows of e bytes each from o on; the box is checked to have room for them
+-- the n rows of e bytes each from o on; the box is checked to have room for them
+unfoldable pub rows_within : List ℕ → ℕ → ℕ → ℕ → ℕ → Reading (List (List ℕ))
+rows_within bytes end o e n = do
+  _ ← check (nat_le (n * e) (end - o))
+  rows_at bytes o e n
+
+-- the entries of these rows
 unfoldable pub reads_entries : {X : Type 0} → (List ℕ → X) → ℕ → List ℕ → ℕ → ℕ → ℕ → Reading (List X)
 reads_entries entry_of e bytes end o n = do
-  _ ← check (nat_le (n * e) (end - o))
-  rows ← rows_at bytes o e n
+  rows ← rows_within bytes end o e n
   _ ← memory
   done (map entry_of rows)
 

@@ -27,7 +27,7 @@ pub record IsShape {A : Type 0} (s : Shape A) : Type 0 where
   pub back : s.valid ≡ true → (c : Context) (v : A) (x y : List ℕ) (end : ℕ) → s.Fits c v
       → EndsIn s.to_end (length x + s.size c v) end
       → (s.reads c (x ++ (s.bytes c v ++ y)) (length x) end).outcome ≡ Ok v
-  pub sound : (c : Context) (bytes : List ℕ) (at end : ℕ) (v : A) → AreBytes bytes
+  pub sound : s.valid ≡ true → (c : Context) (bytes : List ℕ) (at end : ℕ) (v : A) → AreBytes bytes
       → (s.reads c bytes at end).outcome ≡ Ok v → s.Fits c v
   pub front_first : (c : Context) (bytes : List ℕ) (at end : ℕ) → at ≤ length bytes → length bytes < at + s.front c
       → (s.reads c bytes at end).outcome ≡ Err End
@@ -78,7 +78,7 @@ number_laws width = record {
         expect_bytes_present (x ++ (be_bytes (width c) v ++ y)) (length x) (width c) room,
         number_put x y (width c) v fits,
       ) refl;
-  sound = λ c bytes at end v are read.
+  sound = λ _ c bytes at end v are read.
       let is = is_value (number bytes at (width c)) v
       (expect_bytes_ok bytes at (width c) (λ _. done (number bytes at (width c))) v read) in
       subst (λ (n : ℕ). n < 256 ^ width c) is (number-below bytes at (width c) are);
@@ -94,7 +94,7 @@ zeros_laws n = record {
   back = λ _ c v x y end fits ends.
       let room = put_room x (be_bytes n 0) y n (length-be_bytes n 0) in
       rw (expect_bytes_present (x ++ (be_bytes n 0 ++ y)) (length x) n room) refl;
-  sound = λ c bytes at end v are read. tt;
+  sound = λ _ c bytes at end v are read. tt;
   front_first = λ c bytes at end le lt. rw (expect_bytes_absent bytes at n le lt) refl;
   fixed_size = λ _ c v. refl;
   fixed_reads = λ _ c bytes at end room. (tt, expect_bytes_present bytes at n room);
@@ -132,14 +132,17 @@ module _ {A B : Type 0} (a : Shape A) (b : Shape B) (of_a : IsShape a) (of_b : I
       outcome_bind (a.reads c bytes (length x) end) (second c bytes (length x) end) v.0 (Ok v) one
       (outcome_bind (b.reads c bytes (length x + a.size c v.0) end) (λ z. done (v.0, z)) v.1 (Ok v) two refl)
 
-  pair_sound : (c : Context) (bytes : List ℕ) (at end : ℕ) (v : A × B) → AreBytes bytes
+  pair_sound : (pair_shape a b).valid ≡ true → (c : Context) (bytes : List ℕ) (at end : ℕ) (v : A × B) → AreBytes bytes
       → ((pair_shape a b).reads c bytes at end).outcome ≡ Ok v → (pair_shape a b).Fits c v
-  pair_sound c bytes at end v are read =
+  pair_sound valid c bytes at end v are read =
+      let first_valid = and_first a.valid (not a.to_end && b.valid) valid in
+      let rest_valid = and_second a.valid (not a.to_end && b.valid) valid in
+      let second_valid = and_second (not a.to_end) b.valid rest_valid in
       let p = value_first (a.reads c bytes at end) (second c bytes at end) v read in
       let q = value_first (b.reads c bytes (at + a.size c p.0) end) (λ z. done (p.0, z)) v p.2 in
       let is : (p.0, q.0) ≡ v = is_value (p.0, q.0) v q.2 in
       subst (λ (u : A × B). a.Fits c u.0 × b.Fits c u.1) is
-      (of_a.sound c bytes at end p.0 are p.1, of_b.sound c bytes (at + a.size c p.0) end q.0 are q.1)
+      (of_a.sound first_valid c bytes at end p.0 are p.1, of_b.sound second_valid c bytes (at + a.size c p.0) end q.0 are q.1)
 
   pair_front : (c : Context) (bytes : List ℕ) (at end : ℕ) → at ≤ length bytes
       → length bytes < at + (pair_shape a b).front c → ((pair_shape a b).reads c bytes at end).outcome ≡ Err End

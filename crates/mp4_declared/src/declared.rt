@@ -2,12 +2,11 @@
 
 ghost use Rattle.std.specs.Prelude.{◌≡◌, ℕ, ◌≤◌, ◌<◌, ◌+◌, ◌-◌, ◌^◌, ◌↔◌, ◌++◌, true, false, min, List, IsTrue, length, take};
 ghost use Rattle.mp4_frame.specs.Bytes.{bytes_of_fields};
-ghost use Rattle.mp4_frame.specs.BoxType.{is_disguised};
 ghost use Rattle.mp4_frame.specs.Format.{write_laws};
 ghost use Rattle.mp4_frame.specs.declared.box_type.BoxType.TheVariants as names;
 ghost use Rattle.mp4_declared.specs.OwnBox.{no_context, reads_declared, format_declared, header_declared};
-ghost use Rattle.mp4_declared.specs.OwnBox.{IsDeclared};
-ghost use Rattle.mp4_declared.specs.OwnBoxLaws.{declared_laws};
+ghost use Rattle.mp4_declared.specs.OwnBox.{OwnLayout};
+ghost use Rattle.mp4_declared.specs.OwnBoxLaws.{laws_declared};
 
 use crate::context::Context;
 use crate::shape::{PutShape, Shape, read_next};
@@ -24,7 +23,7 @@ const NO_CONTEXT: Context = Context {
 };
 
 /// What is asked about the content of a box, whatever its shape.
-pub trait Question<S: Shape> {
+pub trait About<S: Shape> {
     /// The type of the answer.
     type Answer;
 
@@ -45,7 +44,7 @@ pub trait Question<S: Shape> {
 /// In how many bytes is it written?
 struct Size;
 
-impl<S: Shape> Question<S> for Size {
+impl<S: Shape> About<S> for Size {
     type Answer = u64;
 
     ghost answers = { λ x _ _ answer. answer ≡ min (S.shape.size no_context x) (2 ^ 64 - 1) };
@@ -62,7 +61,7 @@ impl<S: Shape> Question<S> for Size {
 /// Does each number fit its field?
 struct Fits;
 
-impl<S: Shape> Question<S> for Fits {
+impl<S: Shape> About<S> for Fits {
     type Answer = bool;
 
     ghost answers = { λ x _ _ answer. IsTrue answer ↔ S.shape.Fits no_context x };
@@ -79,7 +78,7 @@ impl<S: Shape> Question<S> for Fits {
 /// In which bytes?
 struct Put;
 
-impl<S: Shape> Question<S> for Put {
+impl<S: Shape> About<S> for Put {
     type Answer = ();
 
     ghost can_ask = { λ x room. S.shape.Fits no_context x × (room ≡ 8 + S.shape.size no_context x) };
@@ -103,26 +102,23 @@ pub trait DeclaredBox: Sized + Drop {
     /// The code.
     ghost CODE: { ℕ };
 
-    /// The content of a box.
-    ghost content: { Self → Self.Shape.Value };
-
-    /// The box of some content.
-    ghost value: { Self.Shape.Value → Self };
+    /// The content of a box, and the box of some content.
+    ghost layout: { OwnLayout CODE Self.Shape.Value Self };
 
     /// The code.
     const CODE: u32;
 
     /// The box of some content.
     fn from_content(found: <Self::Shape as Shape>::Value) -> Self
-        ensures { result ≡ value found };
+        ensures { result ≡ layout.value found };
 
     /// Asks about the content.
-    fn ask<Q: Question<Self::Shape>>(&self, out: &mut [u8]) -> Q::Answer
-        requires { Q.can_ask (content self.now) (length out.old) }
-        ensures { Q.answers (content self.now) out.old out.new result };
+    fn ask<Q: About<Self::Shape>>(&self, out: &mut [u8]) -> Q::Answer
+        requires { Q.can_ask (layout.content self.now) (length out.old) }
+        ensures { Q.answers (layout.content self.now) out.old out.new result };
 
-    /// It is made of its content.
-    ghost is_declared: { IsDeclared CODE Self.Shape.shape content value };
+    /// Nothing follows a part that goes to the end of the box, and a list has entries of some bytes.
+    ghost valid: { Self.Shape.shape.valid ≡ true };
 }
 
 /// A box that is declared.
@@ -156,7 +152,7 @@ impl<T: TryClone> TryClone for Declared<T> {
 }
 
 impl<T: DeclaredBox> Mp4Box for Declared<T> {
-    ghost format = { format_declared T.CODE T.Shape.shape T.content };
+    ghost format = { format_declared T.Shape.shape T.layout };
 
     fn box_type(&self) -> BoxType {
         BoxType::UnknownBox(T::CODE)
@@ -169,7 +165,7 @@ impl<T: DeclaredBox> Mp4Box for Declared<T> {
 }
 
 impl<T: DeclaredBox> ReadBox for Declared<T> {
-    ghost reads = { reads_declared T.Shape.shape T.value };
+    ghost reads = { reads_declared T.Shape.shape T.layout };
 
     const LEAST: u64 = 0;
 
@@ -201,9 +197,9 @@ impl<T: DeclaredBox> WriteBox for Declared<T> {
         self.fields.ask::<Put>(out)
     }
 
-    ghost write_laws = { write_laws (declared_laws T.CODE T.Shape.shape T.content T.value T.Shape.shape_laws T.is_declared) };
+    ghost write_laws = { write_laws (laws_declared T.Shape.shape T.Shape.shape_laws T.layout T.valid) };
 }
 
 impl<T: DeclaredBox> BoxLaws for Declared<T> {
-    ghost laws = { declared_laws T.CODE T.Shape.shape T.content T.value T.Shape.shape_laws T.is_declared };
+    ghost laws = { laws_declared T.Shape.shape T.Shape.shape_laws T.layout T.valid };
 }

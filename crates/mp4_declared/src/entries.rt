@@ -14,6 +14,9 @@ pub trait EntryLayout<const N: usize, const E: usize>: Copy + Drop {
     /// The widths of its fields, the entry of some numbers, and the numbers of an entry.
     ghost entry: { EntryLayout Self };
 
+    /// Its fields fill its row, and its numbers are read back.
+    ghost entry_laws: { IsEntryLayout entry E };
+
     /// The widths of its fields.
     fn widths() -> [u8; N]
         ensures { result ≡ entry.widths };
@@ -27,13 +30,12 @@ pub trait EntryLayout<const N: usize, const E: usize>: Copy + Drop {
         requires { (k : ℕ) → slice_index numbers.now k < 2 ^ slice_index entry.widths k }
         ensures { result ≡ entry.value (slice_index numbers.now) };
 
-    /// Its fields fill its row, and its numbers are read back.
-    ghost entry_laws: { IsEntryLayout entry E };
+    /// An array of its numbers is no larger than memory.
+    ghost few: { N * 8 < 2 ^ 63 };
 }
 
 /// The entry in this row.
 fn entry_at<X: EntryLayout<N, E>, const N: usize, const E: usize>(row: &[u8; E]) -> X
-    requires { N * 8 < 2 ^ 63 }
     ensures { result ≡ entry_of X.entry row.now }
 {
     let numbers = numbers_at(row, 0, &X::widths());
@@ -45,7 +47,6 @@ pub fn entries_of<X: EntryLayout<N, E>, const N: usize, const E: usize>(
     alloc: Global,
     rows: &[[u8; E]],
 ) -> Result<Vec<X>>
-    requires { N * 8 < 2 ^ 63 }
     ensures value { IfOk result (λ entries. entries.items ≡ map (entry_of X.entry) rows.now) }
     ensures memory { IfErr result (λ e. e ≡ Error.OutOfMemory) }
 {
@@ -53,7 +54,6 @@ pub fn entries_of<X: EntryLayout<N, E>, const N: usize, const E: usize>(
         .iter()
         .map(
             |row: &[u8; E]| -> X
-                requires { N * 8 < 2 ^ 63 }
                 ensures { result ≡ entry_of X.entry row.now }
             { entry_at(row) },
         )
@@ -63,24 +63,21 @@ pub fn entries_of<X: EntryLayout<N, E>, const N: usize, const E: usize>(
 
 /// Whether the numbers of each entry fit their fields.
 pub fn entries_fit<X: EntryLayout<N, E>, const N: usize, const E: usize>(entries: &[X]) -> bool
-    requires { N * 8 < 2 ^ 63 }
     ensures { IsTrue result ↔ All (FitsEntry X.entry) entries.now }
 {
     entries.iter().all(
         |entry: &X| -> bool
-            requires { N * 8 < 2 ^ 63 }
             ensures { IsTrue result ↔ FitsEntry X.entry entry.now }
         { numbers_fit(&X::widths(), &entry.numbers()) },
     )
 }
 
 /// Puts the row of an entry, and returns the offset after it.
-fn put_row<X: EntryLayout<N, E>, const N: usize, const E: usize>(
+pub(crate) fn put_row<X: EntryLayout<N, E>, const N: usize, const E: usize>(
     out: &mut [u8],
     at: usize,
     entry: &X,
 ) -> usize
-    requires short { N * 8 < 2 ^ 63 }
     requires fits { FitsEntry X.entry entry.now }
     requires room { at + E ≤ length out.old }
     ensures next { result ≡ at + E }
@@ -95,7 +92,6 @@ pub fn put_rows<X: EntryLayout<N, E>, const N: usize, const E: usize>(
     at: usize,
     entries: &[X],
 ) -> usize
-    requires short { N * 8 < 2 ^ 63 }
     requires fit { All (FitsEntry X.entry) entries.now }
     requires room { at + E * length entries.now ≤ length out.old }
     ensures next { result ≡ at + E * length entries.now }

@@ -1,26 +1,34 @@
-//! Boxes and entries that are declared: their shape, or the widths of their fields, from which their code and laws
-//! follow.
+//! Boxes and entries that are declared: the shape of a box, and the widths of an entry's fields, from which their code
+//! and laws follow.
 #![tactic(auto)]
 
+mod bit_fields;
 mod bits;
 mod context;
 mod declared;
 mod entries;
 mod full;
-mod full_box;
-mod layout;
+mod list;
 mod number;
+mod optional;
 mod pair;
+mod rows;
+mod run;
 mod shape;
+mod signed;
 
+pub use bit_fields::Bits;
 pub use context::Context;
-pub use declared::{Declared, DeclaredBox, Question};
+pub use declared::{About, Declared, DeclaredBox};
 pub use entries::{EntryLayout, entries_fit, entries_of, put_rows};
 pub use full::Full;
-pub use full_box::FullBox;
-pub use layout::BoxLayout;
+pub use list::{Count, List};
 pub use number::{Time, U8, U16, U24, U32, U64, Zeros};
+pub use optional::{Condition, FromVersion, If, IfFlags};
+pub use rows::Rows;
+pub use run::{Array, Bytes, Rest};
 pub use shape::{PutShape, Shape};
+pub use signed::{I8, I16, I32};
 
 #[cfg(test)]
 mod tests;

@@ -11,11 +11,11 @@ unfoldable pub use Rattle.mp4_frame.specs.Tables.{rows_at}
 pub use Rattle.mp4_frame.specs.Tables.{reads_table, size_table, WritableTable, bytes_table}
 pub use Rattle.mp4_flat.specs.Time.{time_width, version_of, reads_timed, WritableTimed}
 unfoldable pub use Rattle.mp4_tables.specs.Rows.{rows_within}
-unfoldable pub use Rattle.mp4_declared.specs.Listed.{reads_entries}
 -- boxes and entries that are declared
 pub use Rattle.mp4_declared.specs.Layout.{bit, EntryLayout, row_of, entry_of, FitsEntry}
-unfoldable pub use Rattle.mp4_declared.specs.BoxLayout.{reads_layout}
-pub use Rattle.mp4_declared.specs.BoxLayout.{BoxLayout, format_layout}
+pub use Rattle.mp4_declared.specs.Shape.{Shape}
+unfoldable pub use Rattle.mp4_declared.specs.OwnBox.{reads_declared}
+pub use Rattle.mp4_declared.specs.OwnBox.{OwnLayout, format_declared}
 -- children
 pub use Rattle.mp4_frame.specs.Children
 pub use Rattle.mp4_frame.specs.OneChild
@@ -47,9 +47,9 @@ pub use Rattle.mp4_frame.proofs.Tables.{IsRow, length_flat, map_back, map_all, v
 pub use Rattle.mp4_frame.proofs.TableLaws.{IsEntry, number_entry, TableOf, format_table, laws_table}
 pub use Rattle.mp4_tables.specs.EntryLaws.{fields_back}
 pub use Rattle.mp4_declared.specs.LayoutLaws.{flag_back, flag_fits, IsEntryLayout, entry_laws}
-pub use Rattle.mp4_declared.specs.BoxLayoutLaws.{IsBoxLayout, laws_layout}
+pub use Rattle.mp4_declared.specs.ShapeLaws.{IsShape}
+pub use Rattle.mp4_declared.specs.OwnBoxLaws.{laws_declared}
 pub use Rattle.mp4_tables.specs.RowsLaws.{rows_within_back, rows_within_read}
-pub use Rattle.mp4_declared.specs.ListedLaws.{entries_back, entries_read}
 -- the laws of a box with children
 pub use Rattle.mp4_frame.proofs.ChildLaws
 pub use Rattle.mp4_frame.proofs.OneChildLaws

@@ -2,7 +2,11 @@
 //! numbers and bytes that are put, times, tables, boxes and entries that are declared, children, and members of an enum
 //! of boxes. `docs/OWN-BOX.md` goes through a box that is made of these.
 
-pub use mp4_declared::{BoxLayout, EntryLayout, FullBox, entries_fit, entries_of, put_rows};
+pub use mp4_declared::{
+    About, Array, Bits, Bytes, Condition, Context, Count, Declared, DeclaredBox, EntryLayout,
+    FromVersion, Full, I8, I16, I32, If, IfFlags, List, PutShape, Rest, Rows, Shape, Time, U8, U16,
+    U24, U32, U64, Zeros, entries_fit, entries_of, put_rows,
+};
 pub use mp4_flat::{put_time, time_at, time_fits, version_of_times, width_of_time};
 pub use mp4_frame::{
     BoxEnum, Head, Parent, Question, TableEntry, all_fit, any_child, bytes_from, check,

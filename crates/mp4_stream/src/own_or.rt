@@ -1,11 +1,11 @@
 //! Boxes of one's own beside those of another type that is in lists, such as `AnyBox`.
 
-ghost use Rattle.std.specs.Prelude.{ℕ};
+ghost use Rattle.std.specs.Prelude.{ℕ, refl};
 ghost use Rattle.mp4_stream.specs.OwnOr.{HasCode, format_or, known_or, least_or, reading_or};
 ghost use Rattle.mp4_stream.specs.OwnOrLaws.{written_or, own_name_or, read_back_or, sound_or, code_or};
 
 use crate::sound_stream::SoundStream;
-use mp4_declared::{BoxLayout, FullBox};
+use mp4_declared::{Declared, DeclaredBox};
 use mp4_frame::{BoxLaws, BoxType, ByteCursor, Mp4Box, Result, StreamBox, TryClone, WriteBox};
 use std::alloc::Global;
 
@@ -22,13 +22,12 @@ pub trait CodedBox: BoxLaws + Drop {
 }
 
 /// A box that is declared.
-impl<T: BoxLayout<N, M, E>, const N: usize, const M: usize, const E: usize> CodedBox
-    for FullBox<T, N, M, E> {
+impl<T: DeclaredBox> CodedBox for Declared<T> {
     ghost CODE = { T.CODE };
 
     const CODE: u32 = T::CODE;
 
-    ghost coded = { λ _. (T.coded, T.layout_laws.own) };
+    ghost coded = { λ _. (refl, T.layout.own) };
 }
 
 /// A box of type `A`, or a box of `B`. In a list the boxes with the code of `A` are read as `A`, and all others as `B`.

@@ -1,12 +1,12 @@
 //! Boxes that are one byte or one entry short, and numbers that just fit or don't.
 
-use crate::tests::{LONG, SHORT, ending_of_write, is_in, long, outcome_of, read, short};
+use crate::tests::{LONG, SHORT, empty, ending_of_write, is_in, long, outcome_of, read, short};
 use crate::{SidxBox, SidxEntry};
 use mp4_stream::{Result as Made, TryClone, WriteBox};
 use std::alloc::Global;
 use std::test::Fail;
 
-const TOO_MANY: &str = "sidx reference_count indicates more entries than could fit in the box";
+const TOO_MANY: &str = "count indicates more entries than could fit in the box";
 
 const UNFIT: &str = "value does not fit its field";
 
@@ -79,7 +79,7 @@ fn a_count_of_more(rt: HostRuntime) -> Result<(), Fail> {
 
 /// An index of version 0 with one reference.
 fn index_of(alloc: Global, entry: SidxEntry) -> Made<SidxBox> {
-    let mut sidx = SidxBox::default_in(alloc);
+    let mut sidx = empty(alloc);
     sidx.fields.entries.push(entry)?;
     Ok(sidx)
 }
@@ -176,7 +176,7 @@ fn fields_that_do_not_fit_or_just_fit(rt: HostRuntime) -> Result<(), Fail> {
 
 /// An index of this many references.
 fn index_of_zeros(alloc: Global, count: usize) -> Made<SidxBox> {
-    let mut sidx = SidxBox::default_in(alloc);
+    let mut sidx = empty(alloc);
     sidx.fields.entries.resize(count, SidxEntry::default())?;
     Ok(sidx)
 }

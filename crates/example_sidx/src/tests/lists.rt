@@ -97,7 +97,7 @@ fn a_fault_of_a_box_is_that_of_the_list(rt: HostRuntime) -> Result<(), Fail> {
     index[31] = 4;
     let bytes = joined(alloc, &index, &[])?;
     let (found, position) = read_segment(alloc, &bytes);
-    let text = "sidx reference_count indicates more entries than could fit in the box";
+    let text = "count indicates more entries than could fit in the box";
     assert_eq!(rt; outcome_of(&found), text);
     assert_eq!(rt; position, 0);
     Ok(())

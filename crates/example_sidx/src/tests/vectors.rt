@@ -1,6 +1,6 @@
 //! The bytes that an index is written in, and the index that bytes are read as.
 
-use crate::tests::{LONG, SHORT, is_in, long, short};
+use crate::tests::{LONG, SHORT, empty, is_in, long, short};
 use crate::{SIDX, SidxBox, SidxEntry};
 use mp4_stream::{BoxType, ByteCursor, Mp4Box, ReadBox, Result as Made, WriteBox};
 use std::alloc::Global;
@@ -18,8 +18,8 @@ fn each_version_is_written_and_read(rt: HostRuntime) -> Result<(), Fail> {
 fn an_empty_index_and_an_entry_of_zeros(rt: HostRuntime) -> Result<(), Fail> {
     let alloc = rt.alloc();
     let bytes = b"\0\0\0\x20sidx\0\0\0\0\0\0\0\0\0\0\0\0\0\0\0\0\0\0\0\0\0\0\0\0";
-    assert!(rt; is_in(alloc, Ok(SidxBox::default_in(alloc)), bytes)?);
-    let name = SidxBox::default_in(alloc).box_type();
+    assert!(rt; is_in(alloc, Ok(empty(alloc)), bytes)?);
+    let name = empty(alloc).box_type();
     assert_eq!(rt; name, BoxType::UnknownBox(SIDX));
     assert_eq!(rt; SIDX.to_be_bytes(), *b"sidx");
     let entry = SidxEntry::default();

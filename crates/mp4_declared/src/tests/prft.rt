@@ -3,7 +3,7 @@
 ghost use Rattle.mp4_declared.specs.declared.tests.prft.TheConstants.{PRFT};
 ghost use Rattle.std.proofs.Common.{refl, lit<};
 
-use crate::{Declared, DeclaredBox, Full, Question, Time, U32, U64};
+use crate::{About, Declared, DeclaredBox, Full, Time, U32, U64};
 use mp4_frame::{ByteCursor, Mp4Box, ReadBox, Result as Made, WriteBox};
 use std::alloc::Global;
 use std::test::Fail;
@@ -31,14 +31,19 @@ impl DeclaredBox for Prft {
 
     ghost CODE = { PRFT };
 
-    ghost content = { λ v. (v.version, v.flags, (v.reference_track_id, (v.ntp_timestamp, v.media_time))) };
-
-    ghost value = { λ x. record {
-      version = x.0;
-      flags = x.1;
-      reference_track_id = x.2.0;
-      ntp_timestamp = x.2.1.0;
-      media_time = x.2.1.1;
+    ghost layout = { record {
+      content = λ v. (v.version, v.flags, (v.reference_track_id, (v.ntp_timestamp, v.media_time)));
+      value = λ x. record {
+        version = x.0;
+        flags = x.1;
+        reference_track_id = x.2.0;
+        ntp_timestamp = x.2.1.0;
+        media_time = x.2.1.1;
+      };
+      back = λ v. refl;
+      again = λ x. refl;
+      coded = lit< tt;
+      own = refl;
     } };
 
     const CODE: u32 = PRFT;
@@ -54,7 +59,7 @@ impl DeclaredBox for Prft {
         }
     }
 
-    fn ask<Q: Question<Self::Shape>>(&self, out: &mut [u8]) -> Q::Answer {
+    fn ask<Q: About<Self::Shape>>(&self, out: &mut [u8]) -> Q::Answer {
         let numbers = (
             self.reference_track_id,
             (self.ntp_timestamp, self.media_time),
@@ -62,13 +67,7 @@ impl DeclaredBox for Prft {
         Q::ask((self.version, self.flags, numbers), out)
     }
 
-    ghost is_declared = { record {
-      back = λ v. refl;
-      again = λ x. refl;
-      coded = lit< tt;
-      own = refl;
-      valid = refl;
-    } };
+    ghost valid = { refl };
 }
 
 /// The box of version 0.

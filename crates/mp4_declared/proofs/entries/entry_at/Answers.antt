@@ -5,7 +5,7 @@ use Rattle.mp4_declared.proofs.entries.entry_at.Goals as goal
 
 pub numbers_at-numbers-requires : goal.numbers_at-numbers-requires
 numbers_at-numbers-requires g c =
-    let l = g.met.X.EntryLayout.entry_laws in
+    let l = g.X.EntryLayout.entry_laws in
     let fields : are_fields c.widths.result ≡ true = rw c.widths.ensures l.fields in
     let room : 0 + bytes_in c.widths.result ≤ length c.args.row.now = rw (c.widths.ensures, l.long) (omega arith) in
     search rules

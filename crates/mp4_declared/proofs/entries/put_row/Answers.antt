@@ -4,7 +4,7 @@ use Rattle.mp4_declared.proofs.entries.put_row.Goals as goal
 
 pub put_numbers-requires : goal.put_numbers-requires
 put_numbers-requires g c =
-    let l = g.met.X.EntryLayout.entry_laws in
+    let l = g.X.EntryLayout.entry_laws in
     let fields : are_fields c.widths.result ≡ true = rw c.widths.ensures l.fields in
     let fit : NumbersFit c.widths.result c.numbers.result = rw (c.widths.ensures, c.numbers.ensures) c.requires.fits in
     let room : c.args.at + bytes_in c.widths.result ≤ length c.args.out.now =

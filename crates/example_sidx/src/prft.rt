@@ -1,0 +1,71 @@
+//! The producer reference time box.
+
+ghost use Rattle.example_sidx.specs.declared.prft.TheConstants.{PRFT};
+ghost use Rattle.std.proofs.Common.{refl, lit<};
+
+use mp4_stream::author::{About, Declared, DeclaredBox, Full, Time, U32, U64};
+
+/// The code: `prft`.
+pub const PRFT: u32 = 0x7072_6674;
+
+/// When a producer made a part of the media (`prft`, ISO/IEC 14496-12, 8.16.5).
+#[derive(Clone, Copy, Debug, Drop, PartialEq, Eq)]
+pub struct Prft {
+    /// 0, or 1 for a media time of 64 bits.
+    pub version: u8,
+    /// 24 bits.
+    pub flags: u32,
+    /// The track that the times are of.
+    pub reference_track_id: u32,
+    /// A time of the clock, in the format of the Network Time Protocol.
+    pub ntp_timestamp: u64,
+    /// The same time as one of the media, in the timescale of the track. 32 bits in version 0.
+    pub media_time: u64,
+}
+
+impl DeclaredBox for Prft {
+    type Shape = Full<2, (U32, (U64, Time))>;
+
+    ghost CODE = { PRFT };
+
+    ghost layout = { record {
+      content = λ v. (v.version, v.flags, (v.reference_track_id, (v.ntp_timestamp, v.media_time)));
+      value = λ x. record {
+        version = x.0;
+        flags = x.1;
+        reference_track_id = x.2.0;
+        ntp_timestamp = x.2.1.0;
+        media_time = x.2.1.1;
+      };
+      back = λ v. refl;
+      again = λ x. refl;
+      coded = lit< tt;
+      own = refl;
+    } };
+
+    const CODE: u32 = PRFT;
+
+    fn from_content(found: (u8, u32, (u32, (u64, u64)))) -> Prft {
+        let (version, flags, (reference_track_id, (ntp_timestamp, media_time))) = found;
+        Prft {
+            version,
+            flags,
+            reference_track_id,
+            ntp_timestamp,
+            media_time,
+        }
+    }
+
+    fn ask<Q: About<Self::Shape>>(&self, out: &mut [u8]) -> Q::Answer {
+        let numbers = (
+            self.reference_track_id,
+            (self.ntp_timestamp, self.media_time),
+        );
+        Q::ask((self.version, self.flags, numbers), out)
+    }
+
+    ghost valid = { refl };
+}
+
+/// The producer reference time box.
+pub type PrftBox = Declared<Prft>;

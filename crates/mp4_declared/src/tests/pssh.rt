@@ -1,0 +1,79 @@
+//! The protection system specific header box.
+
+ghost use Rattle.mp4_declared.specs.declared.tests.pssh.TheConstants.{PSSH};
+ghost use Rattle.std.proofs.Common.{refl, lit<};
+
+use crate::{About, Array, Bytes, Declared, DeclaredBox, FromVersion, Full, If, Rows, U32};
+use mp4_frame::Entries;
+
+/// The code: `pssh`.
+pub const PSSH: u32 = 0x7073_7368;
+
+/// What a system of protection needs to know (`pssh`, ISO/IEC 23001-7, 8.1).
+#[derive(Debug, Drop, PartialEq, Eq)]
+pub struct Pssh {
+    /// 0, or 1 for a box that names keys.
+    pub version: u8,
+    /// 24 bits, 0 in the standard.
+    pub flags: u32,
+    /// The system.
+    pub system_id: [u8; 16],
+    /// The keys that the data is for. `None` in version 0.
+    pub key_ids: Option<Entries<[u8; 16]>>,
+    /// What the system defines.
+    pub system_data: Entries<u8>,
+}
+
+impl DeclaredBox for Pssh {
+    type Shape = Full<2, (Array<16>, (If<FromVersion<1>, Rows<U32, 16>>, Bytes<U32>))>;
+
+    ghost CODE = { PSSH };
+
+    ghost layout = { record {
+      content = λ v. (v.version, v.flags, (v.system_id, (v.key_ids, v.system_data)));
+      value = λ x. record {
+        version = x.0;
+        flags = x.1;
+        system_id = x.2.0;
+        key_ids = x.2.1.0;
+        system_data = x.2.1.1;
+      };
+      back = λ v. refl;
+      again = λ x. refl;
+      coded = lit< tt;
+      own = refl;
+    } };
+
+    const CODE: u32 = PSSH;
+
+    fn from_content(
+        found: (
+            u8,
+            u32,
+            ([u8; 16], (Option<Entries<[u8; 16]>>, Entries<u8>)),
+        ),
+    ) -> Pssh {
+        let (version, flags, (system_id, (key_ids, system_data))) = found;
+        Pssh {
+            version,
+            flags,
+            system_id,
+            key_ids,
+            system_data,
+        }
+    }
+
+    fn ask<Q: About<Self::Shape>>(&self, out: &mut [u8]) -> Q::Answer {
+        let key_ids = match &self.key_ids {
+            Some(key_ids) => Some(key_ids.as_slice()),
+            None => None,
+        };
+        let rest = (key_ids, self.system_data.as_slice());
+        Q::ask((self.version, self.flags, (self.system_id, rest)), out)
+    }
+
+    ghost valid = { refl };
+}
+
+/// The protection system specific header box.
+pub type PsshBox = Declared<Pssh>;
