@@ -118,9 +118,20 @@ impl DeclaredBox for Sidx {
     ghost CODE = { SIDX };
 
     ghost layout = { record {
-      content = λ v.
-          let times = (v.earliest_presentation_time, (v.first_offset, (tt, v.entries))) in
-          (v.version, v.flags, (v.reference_id, (v.timescale, times)));
+      content = λ v. (
+        v.version,
+        v.flags,
+        (
+          v.reference_id,
+          (
+            v.timescale,
+            (
+              v.earliest_presentation_time,
+              (v.first_offset, (tt, v.entries)),
+            ),
+          ),
+        ),
+      );
       value = λ x. record {
         version = x.0;
         flags = x.1;

@@ -41,52 +41,76 @@ fn pssh(
     }))
 }
 
+/// The same with the keys of `LONG`.
+fn with_keys(alloc: Global, version: u8, data: &[u8]) -> Made<PsshBox> {
+    let keys = Vec::from_slice(alloc, &KEYS)?.into();
+    pssh(alloc, version, Some(keys), data)
+}
+
 /// Reads the box at the front of a buffer, after its header of 8 bytes.
-fn read<B: ReadBox + Drop>(alloc: Global, bytes: &[u8]) -> Made<B> {
+fn read<B: ReadBox>(alloc: Global, bytes: &[u8]) -> Made<B> {
     let mut reader = ByteCursor::new(bytes);
     reader.set_position(8);
     B::read_box(alloc, &mut reader, bytes.len() as u64)
 }
 
-/// The bytes that the box is written in.
-fn bytes_of<B: WriteBox>(alloc: Global, value: &B) -> Made<Vec<u8>> {
+/// Whether the box is written in these bytes, and read from them.
+fn is_in(alloc: Global, made: Made<PsshBox>, bytes: &[u8]) -> Made<bool> {
+    let pssh = made?;
     let mut out = Vec::new(alloc);
-    value.write_box(&mut out)?;
-    Ok(out)
+    pssh.write_box(&mut out)?;
+    let found: PsshBox = read(alloc, bytes)?;
+    Ok(out.as_slice() == bytes && found == pssh)
+}
+
+/// Whether the box can be written.
+fn is_written(made: Made<PsshBox>) -> Made<bool> {
+    Ok(made?.is_writable())
+}
+
+/// Whether a box is read from these bytes.
+fn is_read(alloc: Global, bytes: &[u8]) -> bool {
+    read::<PsshBox>(alloc, bytes).is_ok()
 }
 
 #[test]
 fn pssh_is_written_and_read(rt: HostRuntime) -> Result<(), Fail> {
     let alloc = rt.alloc();
-    let short = pssh(alloc, 0, None, &SHORT[32..])?;
-    assert!(rt; bytes_of(alloc, &short)?.as_slice() == SHORT.as_slice());
-    assert!(rt; read::<PsshBox>(alloc, &SHORT)? == short);
-    let keys = Vec::from_slice(alloc, &KEYS)?.into();
-    let long = pssh(alloc, 1, Some(keys), &LONG[68..])?;
-    assert!(rt; bytes_of(alloc, &long)?.as_slice() == LONG.as_slice());
-    assert!(rt; read::<PsshBox>(alloc, &LONG)? == long);
+    assert!(rt; is_in(alloc, pssh(alloc, 0, None, &SHORT[32..]), &SHORT)?);
+    assert!(rt; is_in(alloc, with_keys(alloc, 1, &LONG[68..]), &LONG)?);
+    assert!(rt; !is_read(alloc, &LONG[..68]));
     Ok(())
 }
 
 #[test]
 fn keys_are_in_version_1_alone(rt: HostRuntime) -> Result<(), Fail> {
     let alloc = rt.alloc();
-    assert!(rt; bytes_of(alloc, &pssh(alloc, 1, None, &[])?).is_err());
-    let keys = Vec::from_slice(alloc, &KEYS)?.into();
-    assert!(rt; bytes_of(alloc, &pssh(alloc, 0, Some(keys), &[])?).is_err());
-    assert!(rt; read::<PsshBox>(alloc, &LONG[..68]).is_err());
+    assert!(rt; !is_written(pssh(alloc, 1, None, &[]))?);
+    assert!(rt; !is_written(with_keys(alloc, 0, &[]))?);
+    assert!(rt; is_written(with_keys(alloc, 1, &[]))?);
     Ok(())
+}
+
+/// Whether the aspect ratio is written in these bytes, and read from them.
+fn is_pasp(alloc: Global, pasp: &PaspBox, bytes: &[u8]) -> Made<bool> {
+    let mut out = Vec::new(alloc);
+    pasp.write_box(&mut out)?;
+    let found: PaspBox = read(alloc, bytes)?;
+    Ok(out.as_slice() == bytes && found == *pasp)
 }
 
 #[test]
 fn a_box_without_version_is_written_and_read(rt: HostRuntime) -> Result<(), Fail> {
-    let alloc = rt.alloc();
-    let bytes = b"\0\0\0\x10pasp\x81\x82\x83\x84\x85\x86\x87\x88";
     let pasp = PaspBox::new(Pasp {
         h_spacing: 0x8182_8384,
         v_spacing: 0x8586_8788,
     });
-    assert!(rt; bytes_of(alloc, &pasp)?.as_slice() == bytes.as_slice());
-    assert!(rt; read::<PaspBox>(alloc, bytes)? == pasp);
+    assert!(rt;
+        is_pasp(
+            rt.alloc(),
+            &pasp,
+            b"\0\0\0\x10pasp\x81\x82\x83\x84\x85\x86\x87\x88"
+        )?
+    );
     Ok(())
 }
