@@ -57,11 +57,11 @@ impl DeclaredBox for Prft {
     }
 
     fn ask<Q: About<Self::Shape>>(&self, out: &mut [u8]) -> Q::Answer {
-        let numbers = (
-            self.reference_track_id,
-            (self.ntp_timestamp, self.media_time),
-        );
-        Q::ask((self.version, self.flags, numbers), out)
+        let times = (self.ntp_timestamp, self.media_time);
+        Q::ask(
+            (self.version, self.flags, (self.reference_track_id, times)),
+            out,
+        )
     }
 
     ghost valid = { refl };

@@ -1,11 +1,13 @@
 //! Version and flags, and what is after them.
 
+ghost use Rattle.std.specs.Prelude.{◌≡◌, ◌≤◌, ◌<◌, ◌+◌, ◌^◌, ◌++◌, length, take};
+ghost use Rattle.mp4_frame.specs.Bytes.{be_bytes};
 ghost use Rattle.mp4_declared.specs.Shape.{full_shape};
 ghost use Rattle.mp4_declared.specs.FullLaws.{full_laws};
 
 use crate::context::Context;
 use crate::shape::{PutShape, Shape, read_next};
-use mp4_frame::{Result, check, put_u8, put_u24, u8_at, u24_at};
+use mp4_frame::{Result, check, put_u32, u8_at, u24_at};
 use std::alloc::Global;
 
 /// The content of a full box (ISO/IEC 14496-12, 4.2): its version, which is below `N`, its flags, and an `S` that may
@@ -19,6 +21,19 @@ fn unknown_version(versions: usize) -> &'static str {
         2 => "version must be 0 or 1",
         _ => "version is too large",
     }
+}
+
+/// Puts the version and the flags, and returns the offset after them. They are one number of four bytes, so that they
+/// are put at once.
+#[inline]
+#[tactic(auto, using(mp4_frame::proofs::Fields::version_and_flags))]
+fn put_version_and_flags(out: &mut [u8], at: usize, version: u8, flags: u32) -> usize
+    requires room { at + 4 ≤ length out.old }
+    requires fits { flags < 2 ^ 24 }
+    ensures next { result ≡ at + 4 }
+    ensures put { take result out.new ≡ (take at out.old ++ be_bytes 1 version) ++ be_bytes 3 flags }
+{
+    put_u32(out, at, u32::from(version) * (1 << 24) + flags)
 }
 
 impl<const N: usize, S: Shape> Shape for Full<N, S> {
@@ -73,8 +88,7 @@ impl<const N: usize, S: PutShape<V>, V: Copy> PutShape<(u8, u32, V)> for Full<N,
     #[inline]
     fn put(out: &mut [u8], at: usize, _context: Context, value: (u8, u32, V)) -> usize {
         let (version, flags, value) = value;
-        let next = put_u8(out, at, version);
-        let next = put_u24(out, next, flags);
+        let next = put_version_and_flags(out, at, version, flags);
         S::put(out, next, Context { version, flags }, value)
     }
 }
