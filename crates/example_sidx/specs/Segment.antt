@@ -1,6 +1,6 @@
 -- A box of a segment: an index, or one of three boxes of a fragment.
-use Rattle.mp4_stream.specs.Author.{Shape, OwnLayout, reads_declared, format_declared, BoxType, Known, Unknown, Is, kind, of_code, Inside}
-use Rattle.mp4_stream.specs.Author.{boxed}
+use Rattle.mp4_stream.specs.Author.{Shape, OwnLayout, reads_declared, format_declared}
+use Rattle.mp4_stream.specs.Author.{BoxType, Known, Unknown, Is, kind, of_code, Inside, boxed}
 use Rattle.mp4_stream.specs.Author.names
 use Rattle.mp4_stream.specs.Boxes.{reads_mfhd, format_mfhd, reads_tfdt, format_tfdt, reads_trun, format_trun}
 use Rattle.example_sidx.specs.declared.sidx.Sidx.{Sidx}
@@ -11,7 +11,8 @@ use Rattle.example_sidx.specs.declared.segment.SegmentBox.TheVariants as segment
 module _ {A : Type 0} (s : Shape A) (sidx : OwnLayout SIDX A Sidx) where
   -- the type of the boxes of a name
   abbrev pub kinds : BoxType → Known SegmentBox
-  kinds (names.UnknownBox code) = of_code SIDX (kind (reads_declared s sidx) (format_declared s sidx) segment.SidxBox) code
+  kinds (names.UnknownBox code) =
+      of_code SIDX (kind (reads_declared s sidx) (format_declared s sidx) segment.SidxBox) code
   kinds names.MfhdBox = Is (kind reads_mfhd format_mfhd segment.MfhdBox)
   kinds names.TfdtBox = Is (kind reads_tfdt format_tfdt segment.TfdtBox)
   kinds names.TrunBox = Is (kind reads_trun format_trun segment.TrunBox)

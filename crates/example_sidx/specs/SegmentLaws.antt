@@ -16,15 +16,18 @@ module _ {A : Type 0} (s : Shape A) (is : IsShape s) (sidx : OwnLayout SIDX A Si
       member (kinds s sidx) (held_inside (inside s sidx)) segment.SidxBox (laws_declared s is sidx valid) (λ _. refl)
       (λ _. refl) (λ _. refl) b
   members (segment.MfhdBox b) =
-      member (kinds s sidx) (held_inside (inside s sidx)) segment.MfhdBox laws_mfhd (λ _. refl) (λ _. refl) (λ _. refl) b
+      member (kinds s sidx) (held_inside (inside s sidx)) segment.MfhdBox laws_mfhd (λ _. refl) (λ _. refl)
+      (λ _. refl) b
   members (segment.TfdtBox b) =
-      member (kinds s sidx) (held_inside (inside s sidx)) segment.TfdtBox laws_tfdt (λ _. refl) (λ _. refl) (λ _. refl) b
+      member (kinds s sidx) (held_inside (inside s sidx)) segment.TfdtBox laws_tfdt (λ _. refl) (λ _. refl)
+      (λ _. refl) b
   members (segment.TrunBox b) =
-      member (kinds s sidx) (held_inside (inside s sidx)) segment.TrunBox laws_trun (λ _. refl) (λ _. refl) (λ _. refl) b
+      member (kinds s sidx) (held_inside (inside s sidx)) segment.TrunBox laws_trun (λ _. refl) (λ _. refl)
+      (λ _. refl) b
 
   -- a box that is read under a name has that name
   pub named : NamedAsRead (kinds s sidx) (held_inside (inside s sidx))
   named (names.UnknownBox code) x =
-      own_code (held_inside (inside s sidx)) SIDX (kind (reads_declared s sidx) (format_declared s sidx) segment.SidxBox)
-      (λ _. refl) code x
+      own_code (held_inside (inside s sidx)) SIDX
+      (kind (reads_declared s sidx) (format_declared s sidx) segment.SidxBox) (λ _. refl) code x
   named _ x = refl

@@ -23,7 +23,8 @@ impl BoxEnum for SegmentBox {
 
     ghost inside = { inside ⟦<SidxShape as Shape>⟧.shape ⟦<Sidx as DeclaredBox>⟧.layout };
 
-    ghost members = { members ⟦<SidxShape as Shape>⟧.shape ⟦<SidxShape as Shape>⟧.shape_laws ⟦<Sidx as DeclaredBox>⟧.layout refl };
+    ghost members = { members ⟦<SidxShape as Shape>⟧.shape ⟦<SidxShape as Shape>⟧.shape_laws
+        ⟦<Sidx as DeclaredBox>⟧.layout refl };
 
     fn holds(name: BoxType) -> bool {
         matches!(
@@ -50,5 +51,6 @@ impl BoxEnum for SegmentBox {
         }
     }
 
-    ghost named = { named ⟦<SidxShape as Shape>⟧.shape ⟦<SidxShape as Shape>⟧.shape_laws ⟦<Sidx as DeclaredBox>⟧.layout refl };
+    ghost named = { named ⟦<SidxShape as Shape>⟧.shape ⟦<SidxShape as Shape>⟧.shape_laws
+        ⟦<Sidx as DeclaredBox>⟧.layout refl };
 }

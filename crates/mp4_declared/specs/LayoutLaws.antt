@@ -1,5 +1,6 @@
 -- The laws of an entry that is declared follow from a few facts about its layout.
-use Rattle.std.proofs.Common.{◌≡◌, ℕ, ◌<◌, ◌^◌, Bool, true, false, List, [], slice_index, refl, sym, ap, subst, ◌∙◌, lit<}
+use Rattle.std.proofs.Common.{◌≡◌, ℕ, ◌<◌, ◌^◌, Bool, true, false, List, [], slice_index, refl, sym, ap, subst, ◌∙◌}
+use Rattle.std.proofs.Common.{lit<}
 use Rattle.std.specs.Prelude.{◌==◌}
 use Rattle.std.proofs.lemmas.List.{append-nil}
 use Rattle.mp4_frame.specs.Bytes.{number, be_bytes}

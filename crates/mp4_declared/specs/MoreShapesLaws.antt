@@ -1,6 +1,7 @@
 -- The laws of shapes that are present or not, and of runs of bytes.
 use Rattle.std.proofs.Common.{◌≡◌, ℕ, zero, suc, ◌+◌, ◌-◌, ◌<◌, ◌≤◌, ◌^◌, Bool, true, false, cond, leb, List, ◌++◌}
-use Rattle.std.proofs.Common.{length, take, drop, Ok, Err, refl, sym, ap, subst, ◌∙◌, append_assoc, length-append, arith}
+use Rattle.std.proofs.Common.{length, take, drop, Ok, Err, refl, sym, ap, subst, ◌∙◌, append_assoc, length-append}
+use Rattle.std.proofs.Common.{arith}
 use Rattle.std.specs.Prelude.{Option, Some, None, ℤ, FitsSigned, slice_index}
 use Rattle.std.specs.Int.{Width, w8, w16, w32, cast_signed, cast_unsigned}
 use Rattle.std.proofs.Math.Facts.{Fits-of_z, sfits_to_z}
@@ -178,15 +179,18 @@ module _ (w : Width) (n : ℕ) (again : (z : ℤ) → FitsSigned w z → cast_si
   }
 
 pub signed8_laws : IsShape (signed_shape w8 1)
-signed8_laws = signed_laws w8 1 back8 (λ z fits. (Fits-of_z {w = w8} {z = z} fits).fits) (λ m lt. sfits_to_z (record { fits = lt }))
+signed8_laws = signed_laws w8 1 back8 (λ z fits. (Fits-of_z {w = w8} {z = z} fits).fits)
+    (λ m lt. sfits_to_z (record { fits = lt }))
 
 pub signed16_laws : IsShape (signed_shape w16 2)
 signed16_laws =
-    signed_laws w16 2 back16 (λ z fits. (Fits-of_z {w = w16} {z = z} fits).fits) (λ m lt. sfits_to_z (record { fits = lt }))
+    signed_laws w16 2 back16 (λ z fits. (Fits-of_z {w = w16} {z = z} fits).fits)
+    (λ m lt. sfits_to_z (record { fits = lt }))
 
 pub signed32_laws : IsShape (signed_shape w32 4)
 signed32_laws =
-    signed_laws w32 4 back32 (λ z fits. (Fits-of_z {w = w32} {z = z} fits).fits) (λ m lt. sfits_to_z (record { fits = lt }))
+    signed_laws w32 4 back32 (λ z fits. (Fits-of_z {w = w32} {z = z} fits).fits)
+    (λ m lt. sfits_to_z (record { fits = lt }))
 
 module _ {X : Type 0} (l : EntryLayout X) {e : ℕ} (is : IsEntryLayout l e) where
   bits_long : (v : X) → length (row_of l v) ≡ e
@@ -199,7 +203,8 @@ module _ {X : Type 0} (l : EntryLayout X) {e : ℕ} (is : IsEntryLayout l e) whe
         let width = bytes_in l.widths in
         let bytes = x ++ (row_of l v ++ y) in
         let room = put_room x (row_of l v) y e (bits_long v) in
-        let one = number_put x y width (joined l.widths (l.numbers v)) (joined_small l.widths (l.numbers v) is.fields fits) in
+        let one = number_put x y width (joined l.widths (l.numbers v))
+        (joined_small l.widths (l.numbers v) is.fields fits) in
         let apart = split-joined l.widths (l.numbers v) fits in
         let found : l.value (slice_index (split l.widths (number bytes (length x) width))) ≡ v =
         ap (λ (n : ℕ). l.value (slice_index (split l.widths n))) one

@@ -15,7 +15,8 @@ use Rattle.mp4_declared.specs.ShapeLaws.{IsShape, ends_always}
 use Rattle.mp4_declared.specs.OwnBox.{no_context, OwnLayout, reads_declared, size_declared, header_declared}
 use Rattle.mp4_declared.specs.OwnBox.{format_declared}
 
-module _ {code : ℕ} {A V : Type 0} (s : Shape A) (is : IsShape s) (l : OwnLayout code A V) (valid : s.valid ≡ true) where
+module _ {code : ℕ} {A V : Type 0} (s : Shape A) (is : IsShape s) (l : OwnLayout code A V)
+    (valid : s.valid ≡ true) where
   declared_back : (v : V) → (format_declared s l).Writable v
       → ContentReadsBack (reads_declared s l) ((format_declared s l).bytes v) (size_declared s l v) v
   unfolding reads_declared

@@ -1,7 +1,7 @@
--- The shape of what a box holds: how a value is read, and in which bytes it is written. Bytes and offsets are those from
--- the box's start on, and `end` is where the box ends.
-use Rattle.std.specs.Prelude.{ℕ, ◌+◌, ◌<◌, ◌^◌, ◌==◌, ◌&&◌, Bool, true, false, not, List, ◌++◌, if◌then◌else◌, All, length}
-use Rattle.std.specs.Prelude.{map, flat_map, nat_lt, nat_le, ◌*◌, ◌-◌}
+-- The shape of what a box holds: how a value is read, and in which bytes it is written. Bytes and offsets are those
+-- from the box's start on, and `end` is where the box ends.
+use Rattle.std.specs.Prelude.{ℕ, ◌+◌, ◌<◌, ◌^◌, ◌==◌, ◌&&◌, Bool, true, false, not, List, ◌++◌, if◌then◌else◌, All}
+use Rattle.std.specs.Prelude.{length, map, flat_map, nat_lt, nat_le, ◌*◌, ◌-◌}
 use Rattle.mp4_frame.specs.Tables.{rows_at}
 use Rattle.mp4_frame.specs.Bytes.{number, be_bytes}
 use Rattle.mp4_frame.specs.Reading.{Reading, ◌>>=◌, done, expect_bytes, check, memory}
@@ -9,7 +9,8 @@ use Rattle.mp4_declared.specs.declared.context.Context.{Context}
 
 -- What is read from an offset on, in how many bytes a value is written, whether it fits them, and which they are.
 -- The first `front` bytes are expected before anything else is checked. A fixed shape has no others, and refuses none.
--- A shape that goes `to_end` takes all bytes up to the end of the box, and in a `valid` one nothing follows such a part.
+-- A shape that goes `to_end` takes all bytes up to the end of the box. In a `valid` one nothing follows such a part,
+-- and the entries of a list have some bytes.
 pub record Shape (A : Type 0) : Type 1 where
   pub reads : Context → List ℕ → ℕ → ℕ → Reading A
   pub size : Context → A → ℕ

@@ -1,5 +1,6 @@
 -- The laws of a shape, and those of two shapes one after the other.
-use Rattle.std.proofs.Common.{◌≡◌, ℕ, ◌+◌, ◌<◌, ◌≤◌, ◌^◌, ◌-◌, Bool, true, false, not, ◌&&◌, cond, leb, ltb, List, ◌++◌, length, Ok}
+use Rattle.std.proofs.Common.{◌≡◌, ℕ, ◌+◌, ◌<◌, ◌≤◌, ◌^◌, ◌-◌, Bool, true, false, not, ◌&&◌, cond, leb, ltb, List, ◌++◌}
+use Rattle.std.proofs.Common.{length, Ok}
 use Rattle.std.proofs.Common.{Err, refl, ap, subst, ◌∙◌, append_assoc, length-append, arith}
 use Rattle.std.proofs.lemmas.Bool.{lt-ltb, leb-true, leb-false}
 use Rattle.mp4_frame.specs.Bytes.{number, be_bytes}
@@ -20,8 +21,8 @@ abbrev pub EndsIn : Bool → ℕ → ℕ → Type 0
 EndsIn true at end = at ≡ end
 EndsIn false at end = at ≤ end
 
--- The bytes of a value that fits are as many as its size says, and are read back among any others; a value that was read
--- fits; the front is expected first; and a fixed shape is read wherever its front is present.
+-- The bytes of a value that fits are as many as its size says, and are read back among any others; a value that was
+-- read fits; the front is expected first; and a fixed shape is read wherever its front is present.
 pub record IsShape {A : Type 0} (s : Shape A) : Type 0 where
   pub long : (c : Context) (v : A) → s.Fits c v → length (s.bytes c v) ≡ s.size c v
   pub back : s.valid ≡ true → (c : Context) (v : A) (x y : List ℕ) (end : ℕ) → s.Fits c v
@@ -104,7 +105,8 @@ module _ {A B : Type 0} (a : Shape A) (b : Shape B) (of_a : IsShape a) (of_b : I
   abbrev second : Context → List ℕ → ℕ → ℕ → A → Reading (A × B)
   second c bytes at end x = b.reads c bytes (at + a.size c x) end >>= λ y. done (x, y)
 
-  pair_back : (pair_shape a b).valid ≡ true → (c : Context) (v : A × B) (x y : List ℕ) (end : ℕ) → (pair_shape a b).Fits c v
+  pair_back : (pair_shape a b).valid ≡ true → (c : Context) (v : A × B) (x y : List ℕ) (end : ℕ)
+      → (pair_shape a b).Fits c v
       → EndsIn b.to_end (length x + (a.size c v.0 + b.size c v.1)) end
       → ((pair_shape a b).reads c (x ++ ((a.bytes c v.0 ++ b.bytes c v.1) ++ y)) (length x) end).outcome ≡ Ok v
   pair_back valid c v x y end fits ends =
@@ -141,8 +143,10 @@ module _ {A B : Type 0} (a : Shape A) (b : Shape B) (of_a : IsShape a) (of_b : I
       let p = value_first (a.reads c bytes at end) (second c bytes at end) v read in
       let q = value_first (b.reads c bytes (at + a.size c p.0) end) (λ z. done (p.0, z)) v p.2 in
       let is : (p.0, q.0) ≡ v = is_value (p.0, q.0) v q.2 in
-      subst (λ (u : A × B). a.Fits c u.0 × b.Fits c u.1) is
-      (of_a.sound first_valid c bytes at end p.0 are p.1, of_b.sound second_valid c bytes (at + a.size c p.0) end q.0 are q.1)
+      subst (λ (u : A × B). a.Fits c u.0 × b.Fits c u.1) is (
+        of_a.sound first_valid c bytes at end p.0 are p.1,
+        of_b.sound second_valid c bytes (at + a.size c p.0) end q.0 are q.1,
+      )
 
   pair_front : (c : Context) (bytes : List ℕ) (at end : ℕ) → at ≤ length bytes
       → length bytes < at + (pair_shape a b).front c → ((pair_shape a b).reads c bytes at end).outcome ≡ Err End

@@ -1,6 +1,7 @@
 //! A box that is declared.
 
-ghost use Rattle.std.specs.Prelude.{◌≡◌, ℕ, ◌≤◌, ◌<◌, ◌+◌, ◌-◌, ◌^◌, ◌↔◌, ◌++◌, true, false, min, List, IsTrue, length, take};
+ghost use Rattle.std.specs.Prelude.{◌≡◌, ℕ, ◌≤◌, ◌<◌, ◌+◌, ◌-◌, ◌^◌, ◌↔◌, ◌++◌, true, false, min, List, IsTrue, length};
+ghost use Rattle.std.specs.Prelude.{take};
 ghost use Rattle.mp4_frame.specs.Bytes.{bytes_of_fields};
 ghost use Rattle.mp4_frame.specs.Format.{write_laws};
 ghost use Rattle.mp4_frame.specs.declared.box_type.BoxType.TheVariants as names;

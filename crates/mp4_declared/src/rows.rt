@@ -1,6 +1,7 @@
 //! Counted lists of rows of bytes.
 
-ghost use Rattle.std.specs.Prelude.{◌≡◌, ◌+◌, ◌*◌, ◌≤◌, ◌++◌, ◌↔◌, All, IfOk, IfErr, IsTrue, flat_map, length, map, take};
+ghost use Rattle.std.specs.Prelude.{◌≡◌, ◌+◌, ◌*◌, ◌≤◌, ◌++◌, ◌↔◌, All, IfOk, IfErr, IsTrue, flat_map, length, map};
+ghost use Rattle.std.specs.Prelude.{take};
 ghost use Rattle.mp4_frame.specs.declared.error.Error.TheVariants.{OutOfMemory};
 ghost use Rattle.mp4_declared.specs.ListLaws.{list_laws, row_entry};
 ghost use Rattle.mp4_declared.specs.Shape.{list_shape};

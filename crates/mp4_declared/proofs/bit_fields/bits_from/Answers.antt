@@ -7,7 +7,8 @@ pub numbers_at-numbers-requires : goal.numbers_at-numbers-requires
 numbers_at-numbers-requires g c =
     let l = g.X.EntryLayout.entry_laws in
     let fields : are_fields c.widths.result ≡ true = rw c.widths.ensures l.fields in
-    let room : c.args.at + bytes_in c.widths.result ≤ length c.args.bytes.now = rw (c.widths.ensures, l.long) (omega arith) in
+    let room : c.args.at + bytes_in c.widths.result ≤ length c.args.bytes.now =
+    rw (c.widths.ensures, l.long) (omega arith) in
     search rules
 
 pub from_numbers-requires : goal.from_numbers-requires
