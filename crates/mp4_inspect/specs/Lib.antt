@@ -1,5 +1,6 @@
 pub mod Content
 pub mod Heading
+pub mod Json
 pub mod Kind
 pub mod Outcome
 pub mod Written

@@ -1,6 +1,7 @@
 //! What is read of a box, to be shown.
 
-ghost use Rattle.std.specs.Prelude.{◌≡◌, ◌-◌, ◌≤◌, false, length, min, IsTrue, IfOk, IfSome};
+ghost use Rattle.std.specs.Prelude.{◌≡◌, ◌-◌, ◌≤◌, false, length, min, IsTrue, IfOk, OnOk, IfSome};
+ghost use Rattle.mp4_fields.specs.Nesting.{fields, Keeps};
 ghost use Rattle.mp4_frame.specs.Reading.{Answers};
 ghost use Rattle.mp4_io.specs.Ends.{is_write};
 ghost use Rattle.mp4_inspect.specs.Content.{leaf, is_faulty, front, is_other_type, Shows, ShowsKnown, ShowsFront};
@@ -202,7 +203,9 @@ pub fn content_of<B: StreamBox + Drop, S: Source>(
 }
 
 /// Hands the type of a `uuid` box to a sink.
-fn put_uuid<K: FieldSink>(bytes: [u8; 16], sink: &mut K) -> Result<()> {
+fn put_uuid<K: FieldSink>(bytes: [u8; 16], sink: &mut K) -> Result<()>
+    ensures nesting { OnOk result (Keeps K.since fields sink.old sink.new) }
+{
     let id = Uuid::from_bytes(bytes);
     let mut buffer = Uuid::encode_buffer();
     let text = id.hyphenated().encode_lower(&mut buffer);
@@ -212,6 +215,7 @@ fn put_uuid<K: FieldSink>(bytes: [u8; 16], sink: &mut K) -> Result<()> {
 /// Hands version and flags to a sink, which are the first 4 bytes.
 fn put_full_head<K: FieldSink>(bytes: &[u8], sink: &mut K) -> Result<()>
     requires { 4 ≤ length bytes.now }
+    ensures nesting { OnOk result (Keeps K.since fields sink.old sink.new) }
 {
     let flags = u32::from_be_bytes([0, bytes[1], bytes[2], bytes[3]]);
     put_full(bytes[0], flags, &[], sink)
@@ -220,18 +224,16 @@ fn put_full_head<K: FieldSink>(bytes: &[u8], sink: &mut K) -> Result<()>
 /// Hands a metadata value to a sink: the number of its type is the first 4 bytes, and it comes after 8.
 fn put_data_front<K: FieldSink>(bytes: &[u8], sink: &mut K) -> Result<()>
     requires { 8 ≤ length bytes.now }
+    ensures nesting { OnOk result (Keeps K.since fields sink.old sink.new) }
 {
     let data_type = u32::from_be_bytes([bytes[0], bytes[1], bytes[2], bytes[3]]);
     put_data(data_type, &bytes[8..], sink)
 }
 
 /// Hands the fields at the front of a box's content to a sink.
-fn put_front<K: FieldSink>(
-    kind: Kind,
-    bytes: &[u8],
-    is_quicktime: bool,
-    sink: &mut K,
-) -> Result<()> {
+fn put_front<K: FieldSink>(kind: Kind, bytes: &[u8], is_quicktime: bool, sink: &mut K) -> Result<()>
+    ensures nesting { OnOk result (Keeps K.since fields sink.old sink.new) }
+{
     match kind {
         Kind::Full if bytes.len() >= 4 => put_full_head(bytes, sink),
         Kind::List if bytes.len() >= 8 => put_list_head(bytes, sink),
@@ -252,7 +254,9 @@ pub fn put_content<B: HasFields + Drop, K: FieldSink>(
     content: &Content<B>,
     is_quicktime: bool,
     sink: &mut K,
-) -> Result<()> {
+) -> Result<()>
+    ensures nesting { OnOk result (Keeps K.since fields sink.old sink.new) }
+{
     match content {
         Content::Known(value) => value.put_fields(sink),
         Content::Front(kind, bytes) => put_front(*kind, bytes, is_quicktime, sink),

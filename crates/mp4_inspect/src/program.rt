@@ -1,9 +1,12 @@
 //! The program, between the source of a file and a writer.
 
-ghost use Rattle.std.specs.Prelude.{◌≡◌, ◌||◌, false, string_bytes, IfOk, OnErr, IfSome};
+ghost use Rattle.std.specs.Prelude.{◌≡◌, ◌||◌, false, string_bytes, IfOk, OnOk, OnErr, IfSome};
+ghost use Rattle.std.specs.Io.KnownBytes.{Appends};
 ghost use Rattle.mp4_inspect.specs.Heading.{heading_of};
+ghost use Rattle.mp4_inspect.specs.Json.{comma, WritesJson};
 ghost use Rattle.mp4_inspect.specs.Written.{WritesFile, BeginsFile};
 ghost use Rattle.mp4_io.specs.Ends.{is_write};
+ghost use Rattle.mp4_stream.specs.AnyBox.{known_any, reading_any};
 ghost use Rattle.mp4_tree.specs.Tree.{boxes_of};
 ghost use Rattle.mp4_tree.specs.Walk.{left};
 
@@ -11,11 +14,12 @@ use crate::failure::or_read;
 use crate::faults::write_faults;
 use crate::tree_json::tree_json;
 use crate::tree_text::write_tree;
+use mp4_fields::HasFields;
 use mp4_inspect_args::Task;
 use mp4_inspect_samples::{Choice, TrackFault, write_samples};
 use mp4_io::{Failure, Output, write_all};
 use mp4_sinks::{Look, TextSink};
-use mp4_stream::AnyBox;
+use mp4_stream::{AnyBox, StreamBox};
 use mp4_tree::{Source, Tree, TreeBox};
 use std::alloc::Global;
 use std::io::Write;
@@ -113,22 +117,53 @@ fn show_tree<S: Source, W: Write>(
     show_boxes(alloc, heading, &mut tree, &boxes, look, output)
 }
 
+/// Writes a comma if a file follows another.
+fn write_comma<W: Write>(follows: bool, output: &mut Output<W>) -> Result<(), Failure>
+    ensures comma { OnOk result (Appends (W.contents output.old.inner) (W.contents output.new.inner) (comma follows)) }
+{
+    if follows {
+        write_all(output, b",\n")
+    } else {
+        Ok(())
+    }
+}
+
+/// Writes the JSON of a file, of which these are the boxes, after a comma if it follows another. Returns whether a box
+/// of it has a fault.
+fn show_objects<B: StreamBox + HasFields + Drop, S: Source, W: Write>(
+    alloc: Global,
+    name: &str,
+    tree: &mut Tree<S>,
+    boxes: &[TreeBox],
+    follows: bool,
+    output: &mut Output<W>,
+) -> Result<bool, Failure>
+    ensures json { IfSome tree.old.bytes
+        (λ bytes. boxes.now ≡ boxes_of bytes
+        → IfOk result (λ faulty. WritesJson B.known B.named_reading bytes name.now follows
+        (W.contents output.old.inner) (W.contents output.new.inner) faulty)) }
+{
+    let shown = tree_json::<B, S>(alloc, tree, name, boxes)?;
+    write_comma(follows, output)?;
+    write_all(output, shown.0.as_slice())?;
+    Ok(shown.1)
+}
+
 /// Writes the JSON of a source, after a comma if it follows another. Returns whether a box of it has a fault.
-fn show_json<S: Source, W: Write>(
+fn show_json<B: StreamBox + HasFields + Drop, S: Source, W: Write>(
     alloc: Global,
     name: &str,
     source: S,
     follows: bool,
     output: &mut Output<W>,
-) -> Result<bool, Failure> {
+) -> Result<bool, Failure>
+    ensures json { IfSome (S.all source)
+        (λ bytes. IfOk result (λ faulty. WritesJson B.known B.named_reading bytes name.now follows
+        (W.contents output.old.inner) (W.contents output.new.inner) faulty)) }
+{
     let mut tree = or_read(Tree::new(alloc, source))?;
     let boxes = boxes_left(alloc, &mut tree)?;
-    let (text, faulty) = tree_json::<AnyBox, S>(alloc, &mut tree, name, &boxes)?;
-    if follows {
-        write_all(output, b",\n")?;
-    }
-    write_all(output, &text)?;
-    Ok(faulty)
+    show_objects::<B, S, W>(alloc, name, &mut tree, &boxes, follows, output)
 }
 
 /// Writes the faults of a source. Returns whether there are any.
@@ -162,13 +197,18 @@ pub fn inspect<S: Source, W: Write>(
         → OnErr result (IfSome (S.all source)
         (λ bytes. BeginsFile (heading_of show name.now) bytes (W.contents output.old.inner)
         (W.contents output.new.inner))) }
+    ensures json { show.task ≡ Task.Json
+        → IfSome (S.all source)
+        (λ bytes. IfOk result
+        (λ faulty. WritesJson known_any reading_any bytes name.now show.follows (W.contents output.old.inner)
+        (W.contents output.new.inner) faulty)) }
 {
     match show.task {
         Task::Tree => {
             let heading = heading_of(alloc, name, show)?;
             show_tree(alloc, heading.as_str(), source, show.look, output)
         }
-        Task::Json => show_json(alloc, name, source, show.follows, output),
+        Task::Json => show_json::<AnyBox, S, W>(alloc, name, source, show.follows, output),
         Task::Check => {
             let shown = if show.several { Some(name) } else { None };
             show_faults(alloc, shown, source, output)

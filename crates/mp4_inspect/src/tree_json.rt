@@ -1,39 +1,87 @@
 //! The tree of a file as JSON.
 
+ghost use Rattle.std.specs.Prelude.{◌≡◌, ℕ, ◌-◌, ◌+◌, ◌<◌, ◌^◌, min, List, [], ◌∷◌, ◌||◌, codes, IfOk, OnOk};
+ghost use Rattle.json.specs.Token.{Token, key, string};
+ghost use Rattle.mp4_inspect.specs.Json.{number_member, head_tokens, type_token, AreFields, IsRest, end_tokens};
+ghost use Rattle.mp4_inspect.specs.Json.{levels_end};
+ghost use Rattle.mp4_inspect.specs.Json.{open_inside, open_after, box_tokens, IsShown, file_tokens, IsJson};
+ghost use Rattle.mp4_sinks.specs.Tokens.{Puts};
+
 use crate::content::{Content, content_of, put_content};
 use crate::failure::or_memory;
+use crate::tree_text::either;
 use mp4_fields::HasFields;
 use mp4_io::Failure;
 use mp4_sinks::JsonSink;
-use mp4_stream::{Error, Result, StreamBox};
+use mp4_stream::{Error, FourCC, Result, StreamBox};
 use mp4_tree::{Source, Tree, TreeBox};
 use std::alloc::Global;
 
 /// Writes a member that is a number.
-fn put_number(name: &str, number: u64, sink: &mut JsonSink) -> Result<()> {
+fn put_number(name: &str, number: u64, sink: &mut JsonSink) -> Result<()>
+    ensures tokens { OnOk result (Puts sink.old.out sink.new.out (number_member name.now number)) }
+{
     sink.out.key(name)?;
     sink.out.u64(number)?;
     Ok(())
 }
 
-/// Begins the object of a box, with what its header says.
-fn put_head(found: &TreeBox, sink: &mut JsonSink) -> Result<()> {
-    sink.out.begin_object()?;
-    sink.out.key("type")?;
-    match found.code {
-        Some(code) => sink.code(code)?,
-        None => sink.out.null()?,
+/// Writes a code, or that there is none.
+fn put_code(code: Option<FourCC>, sink: &mut JsonSink) -> Result<()>
+    ensures tokens { OnOk result (Puts sink.old.out sink.new.out (type_token code ∷ [])) }
+{
+    match code {
+        Some(code) => sink.code(code),
+        None => {
+            sink.out.null()?;
+            Ok(())
+        }
     }
+}
+
+/// Writes the type of a box: its code, if it has one.
+fn put_type(found: &TreeBox, sink: &mut JsonSink) -> Result<()>
+    ensures tokens { OnOk result
+        (Puts sink.old.out sink.new.out (key (codes "type") ∷ type_token found.now.code ∷ [])) }
+{
+    sink.out.key("type")?;
+    put_code(found.code, sink)
+}
+
+/// Begins the object of a box, with what its header says.
+fn put_head(found: &TreeBox, sink: &mut JsonSink) -> Result<()>
+    ensures tokens { OnOk result (Puts sink.old.out sink.new.out (head_tokens found.now)) }
+{
+    sink.out.begin_object()?;
+    put_type(found, sink)?;
     put_number("position", found.position, sink)?;
     put_number("length", found.length, sink)?;
     put_number("header", found.header_length, sink)
 }
 
 /// Writes the member of a fault.
-fn put_fault(alloc: Global, fault: &Error, sink: &mut JsonSink) -> Result<()> {
+fn put_fault(alloc: Global, fault: &Error, sink: &mut JsonSink) -> Result<()>
+    ensures tokens { OnOk result ((text : List ℕ)
+        × Puts sink.old.out sink.new.out (key (codes "fault") ∷ string text ∷ [])) }
+{
     let text = format!(in alloc; "{fault}")?;
     sink.out.key("fault")?;
     sink.out.string(text.as_str())?;
+    Ok(())
+}
+
+/// Writes the member of the fields that were read.
+fn put_all_fields<B: HasFields + Drop>(
+    content: &Content<B>,
+    is_quicktime: bool,
+    sink: &mut JsonSink,
+) -> Result<()>
+    ensures fields { OnOk result ((ts : List Token) × AreFields ts × Puts sink.old.out sink.new.out ts) }
+{
+    sink.out.key("fields")?;
+    sink.out.begin_object()?;
+    put_content(content, is_quicktime, sink)?;
+    sink.out.end_object()?;
     Ok(())
 }
 
@@ -43,66 +91,105 @@ fn put_rest<B: HasFields + Drop>(
     content: &Content<B>,
     is_quicktime: bool,
     sink: &mut JsonSink,
-) -> Result<()> {
+) -> Result<()>
+    ensures rest { OnOk result ((ts : List Token) × IsRest content.now ts × Puts sink.old.out sink.new.out ts) }
+{
     match content {
         Content::Boxes | Content::Deep | Content::Unread => Ok(()),
         Content::Faulty(fault) => put_fault(alloc, fault, sink),
-        Content::Known(_) | Content::Front(..) => {
-            sink.out.key("fields")?;
-            sink.out.begin_object()?;
-            put_content(content, is_quicktime, sink)?;
-            sink.out.end_object()?;
-            Ok(())
-        }
+        Content::Known(_) | Content::Front(..) => put_all_fields(content, is_quicktime, sink),
     }
 }
 
 /// Ends the objects of boxes that hold boxes, down to a depth.
-fn end_levels(open: &mut u64, depth: u64, sink: &mut JsonSink) -> Result<()> {
-    for _ in depth..*open {
+fn end_levels(begun: &mut u64, depth: u64, sink: &mut JsonSink) -> Result<()>
+    ensures tokens { OnOk result (Puts sink.old.out sink.new.out (levels_end (begun.old - depth))) }
+    ensures begun { OnOk result (begun.new ≡ min depth begun.old) }
+{
+    while *begun > depth {
         sink.out.end_array()?;
         sink.out.end_object()?;
+        *begun -= 1;
     }
-    *open = depth.min(*open);
     Ok(())
 }
 
-/// Writes a box. Its object stays open if it holds boxes. Returns whether it has a fault.
-fn put_box<B: StreamBox + HasFields + Drop, S: Source>(
-    alloc: Global,
-    tree: &mut Tree<S>,
-    found: &TreeBox,
-    open: &mut u64,
-    sink: &mut JsonSink,
-) -> std::result::Result<bool, Failure> {
-    let content = content_of::<B, S>(alloc, tree, found)?;
-    or_memory(end_levels(open, found.depth, sink))?;
-    or_memory(put_head(found, sink))?;
-    or_memory(put_rest(alloc, &content, found.setting.is_quicktime, sink))?;
-    if found.children.is_some() {
-        or_memory(begin_children(open, sink))?;
-    } else {
-        or_memory(end_box(sink))?;
-    }
-    Ok(content.is_faulty())
-}
-
 /// Begins the boxes in a box.
-fn begin_children(open: &mut u64, sink: &mut JsonSink) -> Result<()> {
+fn begin_children(begun: &mut u64, sink: &mut JsonSink) -> Result<()>
+    requires { begun.old < 2 ^ 64 - 1 }
+    ensures tokens { OnOk result
+        (Puts sink.old.out sink.new.out (key (codes "children") ∷ Token.begin_array ∷ [])) }
+    ensures begun { OnOk result (begun.new ≡ begun.old + 1) }
+{
     sink.out.key("children")?;
     sink.out.begin_array()?;
-    *open = open.saturating_add(1);
+    *begun += 1;
     Ok(())
 }
 
 /// Ends the object of a box that holds no boxes.
-fn end_box(sink: &mut JsonSink) -> Result<()> {
+fn end_box(sink: &mut JsonSink) -> Result<()>
+    ensures tokens { OnOk result (Puts sink.old.out sink.new.out (Token.end_object ∷ [])) }
+{
     sink.out.end_object()?;
     Ok(())
 }
 
+/// Ends the object of a box, or begins the boxes in it.
+fn put_end(found: &TreeBox, begun: &mut u64, sink: &mut JsonSink) -> Result<()>
+    requires { begun.old < 2 ^ 64 - 1 }
+    ensures tokens { OnOk result (Puts sink.old.out sink.new.out (end_tokens found.now.children)) }
+    ensures begun { OnOk result (begun.new ≡ open_inside begun.old found.now.children) }
+{
+    match found.children {
+        Some(_) => begin_children(begun, sink),
+        None => end_box(sink),
+    }
+}
+
+/// Writes a box. Its object stays open if it holds boxes.
+fn put_box<B: HasFields + Drop>(
+    alloc: Global,
+    found: &TreeBox,
+    content: &Content<B>,
+    begun: &mut u64,
+    sink: &mut JsonSink,
+) -> Result<()>
+    requires { begun.old < 2 ^ 64 - 1 }
+    ensures tokens { OnOk result ((rest : List Token) × IsRest content.now rest
+        × Puts sink.old.out sink.new.out (box_tokens begun.old found.now rest)) }
+    ensures begun { OnOk result (begun.new ≡ open_after begun.old found.now) }
+{
+    end_levels(begun, found.depth, sink)?;
+    put_head(found, sink)?;
+    put_rest(alloc, content, found.setting.is_quicktime, sink)?;
+    put_end(found, begun, sink)
+}
+
+/// Writes a box with what is read of it. Returns whether it has a fault.
+fn write_box<B: StreamBox + HasFields + Drop, S: Source>(
+    alloc: Global,
+    tree: &mut Tree<S>,
+    found: &TreeBox,
+    begun: &mut u64,
+    sink: &mut JsonSink,
+) -> std::result::Result<bool, Failure>
+    requires { begun.old < 2 ^ 64 - 1 }
+    ensures json { IfOk result (λ faulty. (rest : List Token)
+        × IsShown B.known B.named_reading tree.old.bytes found.now rest faulty
+        × Puts sink.old.out sink.new.out (box_tokens begun.old found.now rest)) }
+    ensures begun { OnOk result (begun.new ≡ open_after begun.old found.now) }
+    ensures kept { tree.new ≡ tree.old }
+{
+    let content = content_of::<B, S>(alloc, tree, found)?;
+    or_memory(put_box(alloc, found, &content, begun, sink))?;
+    Ok(content.is_faulty())
+}
+
 /// Begins the object of a file.
-fn begin_file(name: &str, sink: &mut JsonSink) -> Result<()> {
+fn begin_file(name: &str, sink: &mut JsonSink) -> Result<()>
+    ensures tokens { OnOk result (Puts sink.old.out sink.new.out (file_tokens name.now)) }
+{
     sink.out.begin_object()?;
     sink.out.key("file")?;
     sink.out.string(name)?;
@@ -112,7 +199,10 @@ fn begin_file(name: &str, sink: &mut JsonSink) -> Result<()> {
 }
 
 /// Ends the object of a file.
-fn end_file(sink: &mut JsonSink) -> Result<()> {
+fn end_file(sink: &mut JsonSink) -> Result<()>
+    ensures tokens { OnOk result
+        (Puts sink.old.out sink.new.out (Token.end_array ∷ Token.end_object ∷ [])) }
+{
     sink.out.end_array()?;
     sink.out.end_object()?;
     Ok(())
@@ -124,16 +214,19 @@ pub fn tree_json<B: StreamBox + HasFields + Drop, S: Source>(
     tree: &mut Tree<S>,
     name: &str,
     boxes: &[TreeBox],
-) -> std::result::Result<(Vec<u8>, bool), Failure> {
+) -> std::result::Result<(Vec<u8>, bool), Failure>
+    ensures json { IfOk result
+        (λ shown. IsJson B.known B.named_reading tree.old.bytes name.now boxes.now shown.0.items shown.1) }
+{
     let mut sink = JsonSink::new(alloc);
     let mut faulty = false;
-    let mut open = 0;
+    let mut begun = 0;
     or_memory(begin_file(name, &mut sink))?;
     for found in boxes {
-        let here = put_box::<B, S>(alloc, tree, found, &mut open, &mut sink)?;
-        faulty = faulty || here;
+        let here = write_box::<B, S>(alloc, tree, found, &mut begun, &mut sink)?;
+        faulty = either(faulty, here);
     }
-    or_memory(end_levels(&mut open, 0, &mut sink))?;
+    or_memory(end_levels(&mut begun, 0, &mut sink))?;
     or_memory(end_file(&mut sink))?;
     Ok((sink.into_text(), faulty))
 }

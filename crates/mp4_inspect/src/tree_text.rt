@@ -244,7 +244,7 @@ pub fn write_tree<B: StreamBox + HasFields + Drop, S: Source, W: Write>(
 }
 
 /// The boxes after the first.
-fn after_first(boxes: &[TreeBox]) -> &[TreeBox] {
+pub fn after_first(boxes: &[TreeBox]) -> &[TreeBox] {
     match boxes.split_first() {
         Some((_, rest)) => rest,
         None => boxes,
@@ -252,7 +252,7 @@ fn after_first(boxes: &[TreeBox]) -> &[TreeBox] {
 }
 
 /// Whether one of two is true.
-fn either(first: bool, second: bool) -> bool
+pub fn either(first: bool, second: bool) -> bool
     ensures { result ≡ (first || second) }
 {
     first || second

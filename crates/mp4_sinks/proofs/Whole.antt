@@ -13,7 +13,11 @@ use Rattle.mp4_sinks.specs.Tokens.{Puts, PutsWhole, PutsAll, SinceIn, Since, Add
 -- a member after others
 more_members : (ms : Members) (k : List ℕ) (j : Json)
     → AreWhole fields (tokens_of_members ms ++ Token.key k ∷ json_tokens j)
-more_members no_members k j = (member k j no_members, ap (λ (ts : List Token). Token.key k ∷ ts) (sym (append-nil (json_tokens j))))
+more_members no_members k j = (
+  member k j no_members,
+  ap (λ (ts : List Token). Token.key k ∷ ts) (sym (append-nil
+      (json_tokens j))),
+)
 more_members (member h i ms) k j =
     let (more, is) = more_members ms k j in (
       member h i more,
@@ -62,7 +66,8 @@ more_whole entries ts name value (js, is) named (j, whole) =
     (more_items js j)))
 
 -- all that is between two brackets is one value
-pub closed_whole : (level : Level) (ts : List Token) → AreWhole level ts → IsWhole (bracket level ∷ (ts ++ end_bracket level ∷ []))
+pub closed_whole : (level : Level) (ts : List Token) → AreWhole level ts → IsWhole (bracket level ∷ (ts ++
+    end_bracket level ∷ []))
 closed_whole fields ts (ms, is) = (
   object ms,
   ap (λ (xs : List Token). Token.begin_object ∷ xs)
@@ -101,20 +106,22 @@ since_value : (level : Level) (levels : List Level) (first old new : Written) (n
     → SinceIn level levels first new
 since_value level [] first old new name value since named whole put =
     puts_value level first old new name value since named whole put
-since_value level (outer ∷ levels) first old new name value (between, head, ts, since, is_head, all, put) named whole more = (
-  between,
-  head,
-  ts ++ (name ++ value),
-  since,
-  is_head,
-  more_whole level ts name value all named whole,
-  subst (Puts between new) (append_assoc head (bracket level ∷ ts) (name ++ value))
-      (puts_more between old new (head ++ bracket level ∷ ts) (name ++ value) put more),
-)
+since_value level (outer ∷ levels) first old new name value (between, head, ts, since, is_head, all, put) named
+    whole more = (
+      between,
+      head,
+      ts ++ (name ++ value),
+      since,
+      is_head,
+      more_whole level ts name value all named whole,
+      subst (Puts between new) (append_assoc head (bracket level ∷ ts) (name ++ value))
+          (puts_more between old new (head ++ bracket level ∷ ts) (name ++ value) put more),
+    )
 
 -- a member is written
 pub since_member : (levels : List Level) (first old new : Written) (k : List ℕ) (ts : List Token)
-    → Since first (fields ∷ levels) old → IsWhole ts → Puts old new (Token.key k ∷ ts) → Since first (fields ∷ levels) new
+    → Since first (fields ∷ levels) old → IsWhole ts → Puts old new (Token.key k ∷ ts) → Since first (fields ∷
+    levels) new
 since_member levels first old new k ts since whole put =
     since_value fields levels first old new (Token.key k ∷ []) ts since (k, refl) whole put
 

@@ -1,0 +1,14 @@
+use Rattle.std.specs.Prelude.{codes}
+use Rattle.json.specs.Token.{Token}
+use Rattle.mp4_sinks.proofs.Whole.{puts_two}
+use Rattle.mp4_inspect.proofs.tree_json.put_fault.Goals as goal
+
+pub returns : goal.returns
+returns c = record {
+  tokens = (
+    c.as_str.result.now,
+    puts_two c.args.sink.now.out c.key.new.self c.string.new.self (Token.key (codes "fault"))
+        (Token.string c.as_str.result.now) (c.in_ok-key.ensures.room.0, c.in_ok-key.ensures.ok)
+        (c.in_ok-string.ensures.room.0, c.in_ok-string.ensures.ok),
+  );
+}
