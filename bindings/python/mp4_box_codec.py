@@ -761,9 +761,9 @@ def samples(data: Any, track_id: int) -> List[Sample]:
 
 
 def fragment_samples(data: Any, track_id: int) -> List[Sample]:
-    """The samples of all fragments of the first track with a track_ID (8.8) over the bytes of a file, in its order. Their
-    `chunk` is which run of its fragment a sample is in, counted from 1. Without a `tfdt` times go on from the fragment
-    before, and in the first one from where the samples of the track's tables end, by `stts`.
+    """The samples of all fragments of the first track with a track_ID (8.8) over the bytes of a file, in its order.
+    Their `chunk` is which run of its fragment a sample is in, counted from 1. Without a `tfdt` times go on from the
+    fragment before, and in the first one from where the samples of the track's tables end, by `stts`.
 
     >>> fragment_samples(b"", 1)
     Traceback (most recent call last):

@@ -63,8 +63,8 @@ StopsIn time [] status = ⊥
 StopsIn time (x ∷ xs) status =
     (f : Fragment) × (IsFragmentOf x time f × (HasFault f status ⊎ StopsIn (end_time f) xs status))
 
--- the array is filled with the rows of the samples of these fragments, which begin at a time; or it is too short, and as it was; or a sample
--- can't be told, or memory is refused, and array and number are as they were
+-- the array is filled with the rows of the samples of these fragments, which begin at a time; or it is too short,
+-- and as it was; or a sample can't be told, or memory is refused, and array and number are as they were
 abbrev pub GivesRows : ℕ → List TrackFragment → ℕ → List SampleRow → List SampleRow → ℕ → ℕ → Type 0
 GivesRows begin fs status old new count_old count_new =
     ((length old < samples_in fs)
@@ -72,8 +72,8 @@ GivesRows begin fs status old new count_old count_new =
     ⊎ (((rows : List SampleRow) × (AreRows begin fs rows × ((count_new ≡ length rows) × Fills status rows old new)))
     ⊎ (((status ≡ statuses.OUT_OF_MEMORY) ⊎ StopsIn begin fs status) × ((new ≡ old) × (count_new ≡ count_old))))
 
--- the samples of all fragments of the track of a track_ID are handed over, which begin where those of its tables end; or an
--- error
+-- the samples of all fragments of the track of a track_ID are handed over, which begin where those of its tables
+-- end; or an error
 abbrev pub HandsFragments : List ℕ → ℕ → ℕ → List SampleRow → List SampleRow → ℕ → ℕ → Type 0
 HandsFragments B id status old new count_old count_new =
     ((begin : ℕ) × (fs : List TrackFragment)

@@ -25,18 +25,19 @@ pub const SAMPLE_SIZES: u32 = 110;
 pub const FIRST_CHUNK: u32 = 111;
 /// `Disagreement::ChunkOrder`: an entry of `stsc` begins no later than the one before it.
 pub const CHUNK_ORDER: u32 = 112;
-/// `Disagreement::ChunkCount`: there are 2^32 chunks or more. `FragmentFault::Runs`: the same of the runs of a fragment.
+/// `Disagreement::ChunkCount`: there are 2^32 chunks or more. `FragmentFault::Runs`: the same of the runs of a
+/// fragment.
 pub const CHUNK_COUNT: u32 = 113;
 /// `Disagreement::Chunks`: the chunks hold fewer samples than `stsz` counts.
 pub const CHUNKS: u32 = 114;
-/// `Disagreement::Durations`: `stts` has a duration for fewer samples than `stsz` counts. `FragmentFault::Time`: a sample
-/// of a fragment ends past the time 2^64 - 1.
+/// `Disagreement::Durations`: `stts` has a duration for fewer samples than `stsz` counts. `FragmentFault::Time`: a
+/// sample of a fragment ends past the time 2^64 - 1.
 pub const DURATIONS: u32 = 115;
 /// `Disagreement::SyncSamples`: an entry of `stss` is not above the one before it, or the first is 0.
 pub const SYNC_SAMPLES: u32 = 116;
 /// `Disagreement::Offset`: all samples have so many bytes that in a chunk they could end past 2^64 - 1.
-/// `FragmentFault::Offset` and `TrackError::NoBase`: a sample of a fragment is outside the file, or what its offset counts
-/// from can't be told.
+/// `FragmentFault::Offset` and `TrackError::NoBase`: a sample of a fragment is outside the file, or what its offset
+/// counts from can't be told.
 pub const OFFSET: u32 = 117;
 
 /// The number of an error: its place among the variants of `Error`, counted from 1.

@@ -32,7 +32,8 @@ all_by d code (x ∷ xs) =
 -- the same where the first was looked for
 pub all_next : (d code : ℕ) (xs : List TreeBox) (f : Option Found) → f ≡ first_in d (four_cc_of code) xs
     → all_in d (four_cc_of code) xs ≡ all_from d (four_cc_of code) f
-all_next d code xs f is = all_by d (four_cc_of code) xs ∙ ap (λ (g : Option Found). all_from d (four_cc_of code) g) (sym is)
+all_next d code xs f is = all_by d (four_cc_of code) xs
+    ∙ ap (λ (g : Option Found). all_from d (four_cc_of code) g) (sym is)
 
 pub or_none : (o : Option TrexBox) → or_else o None ≡ o
 or_none None = refl
@@ -66,7 +67,8 @@ kept_as_it_was (Some w) q v there = refl
 
 -- where it has none, they are those of the box
 pub kept_anew : (old new : Option TrexBox) (q : ℕ) (v : TrexBox) → (v.track_id ≡ q → old ≡ None)
-    → (v.track_id ≡ q → new ≡ Some v) → ((v.track_id == q) ≡ false → new ≡ old) → new ≡ or_else old (of_track q (Some v))
+    → (v.track_id ≡ q → new ≡ Some v) → ((v.track_id == q) ≡ false → new ≡ old)
+    → new ≡ or_else old (of_track q (Some v))
 kept_anew old new q v none is as_before =
     by_bool (v.track_id == q)
     (λ e. let same = eqb-true v.track_id q e in let own : of_track q (Some v) ≡ Some v = rw e refl in

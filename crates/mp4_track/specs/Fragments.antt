@@ -1,5 +1,5 @@
--- The fragments of a track of a file (ISO/IEC 14496-12, 8.8), by the values of its boxes. A `moof` is of the top level, and
--- a `traf` right in it.
+-- The fragments of a track of a file (ISO/IEC 14496-12, 8.8), by the values of its boxes. A `moof` is of the top level,
+-- and a `traf` right in it.
 use Rattle.std.specs.Prelude.{◌≡◌, ℕ, pos, ◌≤◌, ◌^◌, ◌==◌, ◌||◌, ◌⊎◌, Bool, true, false, List, [], ◌∷◌, ◌++◌, length}
 use Rattle.std.specs.Prelude.{Result, Ok, Err, None, Some, if◌then◌else◌}
 use Rattle.std.specs.Option.{is_some}
@@ -68,8 +68,8 @@ defaults_in B id (f ∷ fs) = or_else (of_track id (trex_in B f.box)) (defaults_
 abbrev pub names_base : TfhdBox → Bool
 names_base h = is_some h.base_data_offset || has_flag h.flags DEFAULT_BASE_IS_MOOF
 
--- where the data before a traf end. Where the header says what offsets count from that is not asked, and the begin of the
--- moof stands there
+-- where the data before a traf end. Where the header says what offsets count from that is not asked, and the begin of
+-- the moof stands there
 abbrev pub data_before : TfhdBox → ℕ → Option ℕ → Option ℕ
 data_before h moof end = if names_base h then Some moof else end
 
@@ -114,8 +114,8 @@ Takes true None own = ⊥
 Takes true (Some x) own = own ≡ x ∷ []
 Takes false x own = own ≡ []
 
--- a traf, whose boxes these are, in the moof at a position: the data before it end at `end`, its own at `next`, and it is
--- taken if it is of the track
+-- a traf, whose boxes these are, in the moof at a position: the data before it end at `end`, its own at `next`, and it
+-- is taken if it is of the track
 pub record IsStep (B : List ℕ) (id : ℕ) (defaults : ℕ → Option TrexBox) (moof : ℕ) (end : Option ℕ)
     (boxes : List TreeBox) (next : Option ℕ) (own : List TrackFragment) : Type 0 where
   pub traf : Traf

@@ -1,4 +1,5 @@
--- With the rows of the fragments that are left, those so far are those of all; and where one that is left stops, all do.
+-- With the rows of the fragments that are left, those so far are those of all; and where one that is left stops, all
+-- do.
 use Rattle.std.proofs.Common.{ℕ, List, ◌++◌, drop}
 use Rattle.mp4_c.specs.FragmentSamples.{AreRows, StopsIn}
 use Rattle.mp4_c.specs.declared.samples.SampleRow.{SampleRow}

@@ -37,7 +37,8 @@ returns-in-Some-2-clause-fragments c =
     ok_then c.with_defaults.result
     (λ fs. AreOfMoofs B id (D (Some movie)) (all_in 0 (four_cc_of codes.MOOF) c.deref-in-Some-2.result.now) fs.items)
     (λ fs. AreFragments B id fs.items)
-    (λ fs h. subst (λ (o : Option Found). AreOfMoofs B id (D o) (all_in 0 (four_cc_of codes.MOOF) (boxes_of B)) fs.items)
+    (λ fs h. subst (λ (o : Option Found).
+    AreOfMoofs B id (D o) (all_in 0 (four_cc_of codes.MOOF) (boxes_of B)) fs.items)
     is
     (subst (λ (xs : List TreeBox). AreOfMoofs B id (D (Some movie)) (all_in 0 (four_cc_of codes.MOOF) xs) fs.items)
     all h))

@@ -27,7 +27,8 @@ pub returns-in-Some-clause-value : goal.returns-in-Some-clause-value
 returns-in-Some-clause-value c =
     let B = c.args.file.now in
     let stbl = c.boxes_inside-stbl.result.now in
-    let held = subst (λ (o : Option SttsBox). MayHold reads_stts codes.STTS B (in_level 5 (first codes.STTS ∷ []) stbl) o)
+    let held = subst (λ (o : Option SttsBox).
+    MayHold reads_stts codes.STTS B (in_level 5 (first codes.STTS ∷ []) stbl) o)
     c.in-Some.is c.in_ok-stts.ensures.value in (
       Some c.in-Some.stts,
       found B c.args.trak.now c.boxes_inside-mdia.result.now c.boxes_inside-minf.result.now stbl (Some c.in-Some.stts)
@@ -39,7 +40,8 @@ pub returns-in-None-clause-value : goal.returns-in-None-clause-value
 returns-in-None-clause-value c =
     let B = c.args.file.now in
     let stbl = c.boxes_inside-stbl.result.now in
-    let held = subst (λ (o : Option SttsBox). MayHold reads_stts codes.STTS B (in_level 5 (first codes.STTS ∷ []) stbl) o)
+    let held = subst (λ (o : Option SttsBox).
+    MayHold reads_stts codes.STTS B (in_level 5 (first codes.STTS ∷ []) stbl) o)
     c.in-None.is c.in_ok-stts.ensures.value in (
       None,
       found B c.args.trak.now c.boxes_inside-mdia.result.now c.boxes_inside-minf.result.now stbl None
