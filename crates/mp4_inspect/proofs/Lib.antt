@@ -1,3 +1,4 @@
 pub mod Boxes
+pub mod FaultLines
 pub mod Json
 pub mod WholeJson

@@ -1,4 +1,5 @@
 pub mod Content
+pub mod Faults
 pub mod Heading
 pub mod Json
 pub mod Kind

@@ -2,6 +2,7 @@
 
 ghost use Rattle.std.specs.Prelude.{◌≡◌, ◌||◌, false, string_bytes, IfOk, OnOk, OnErr, IfSome};
 ghost use Rattle.std.specs.Io.KnownBytes.{Appends};
+ghost use Rattle.mp4_inspect.specs.Faults.{WritesCheck};
 ghost use Rattle.mp4_inspect.specs.Heading.{heading_of};
 ghost use Rattle.mp4_inspect.specs.Json.{comma, WritesJson};
 ghost use Rattle.mp4_inspect.specs.Written.{WritesFile, BeginsFile};
@@ -172,7 +173,11 @@ fn show_faults<S: Source, W: Write>(
     name: Option<&str>,
     source: S,
     output: &mut Output<W>,
-) -> Result<bool, Failure> {
+) -> Result<bool, Failure>
+    ensures faults { IfSome (S.all source)
+        (λ bytes. IfOk result (λ faulty. WritesCheck bytes (W.contents output.old.inner) (W.contents output.new.inner)
+        faulty)) }
+{
     let mut tree = or_read(Tree::new(alloc, source))?;
     let boxes = boxes_left(alloc, &mut tree)?;
     write_faults(alloc, &mut tree, name, &boxes, output)
@@ -202,6 +207,10 @@ pub fn inspect<S: Source, W: Write>(
         (λ bytes. IfOk result
         (λ faulty. WritesJson known_any reading_any bytes name.now show.follows (W.contents output.old.inner)
         (W.contents output.new.inner) faulty)) }
+    ensures check { show.task ≡ Task.Check
+        → IfSome (S.all source)
+        (λ bytes. IfOk result
+        (λ faulty. WritesCheck bytes (W.contents output.old.inner) (W.contents output.new.inner) faulty)) }
 {
     match show.task {
         Task::Tree => {

@@ -140,7 +140,9 @@ fn read_offsets<S: Source>(
     alloc: Global,
     tree: &mut Tree<S>,
     places: &Places,
-) -> Result<Offsets, Stop> {
+) -> Result<Offsets, Stop>
+    ensures kept { tree.new ≡ tree.old }
+{
     match places.wide_offsets {
         Some(_) if places.offsets.is_none() => {
             let table = read_needed(alloc, tree, places.wide_offsets, "co64")?;
@@ -181,7 +183,9 @@ fn read_all_tables<S: Source>(
     alloc: Global,
     tree: &mut Tree<S>,
     places: &Places,
-) -> Result<TrackTables, Stop> {
+) -> Result<TrackTables, Stop>
+    ensures kept { tree.new ≡ tree.old }
+{
     Ok(TrackTables {
         sizes: read_needed(alloc, tree, places.sizes, "stsz")?,
         chunks: read_needed(alloc, tree, places.chunks, "stsc")?,
@@ -198,7 +202,9 @@ pub fn table_fault<S: Source>(
     alloc: Global,
     tree: &mut Tree<S>,
     boxes: &[TreeBox],
-) -> Result<Option<Disagreement>, Failure> {
+) -> Result<Option<Disagreement>, Failure>
+    ensures kept { tree.new ≡ tree.old }
+{
     match read_all_tables(alloc, tree, &tables_in(boxes)) {
         Ok(tables) => Ok(tables.disagreement()),
         Err(Stop::Failed(failure)) => Err(failure),

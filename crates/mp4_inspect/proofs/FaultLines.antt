@@ -1,0 +1,137 @@
+-- The lines of boxes, one after the other.
+use Rattle.std.proofs.Common.{◌≡◌, ℕ, ◌+◌, ◌<◌, Bool, true, false, List, [], ◌∷◌, ◌++◌, length, take, get_or, refl}
+use Rattle.std.proofs.Common.{sym, ap, subst, ◌∙◌, append_assoc, append-nil}
+use Rattle.std.proofs.KnownBytes.{Appends-nil, Appends-trans}
+use Rattle.std.proofs.lemmas.List.{take_more}
+use Rattle.std.proofs.Common.{Result, Ok, Err, None, Some}
+use Rattle.std.specs.Prelude.{◌||◌, not, IfSome, IfOk}
+use Rattle.std.specs.declared.option.Option.{Option}
+use Rattle.std.specs.Io.KnownBytes.{Appends}
+use Rattle.mp4_frame.specs.Reading.{Reading}
+use Rattle.mp4_frame.specs.declared.box_type.BoxType.{BoxType}
+use Rattle.mp4_inspect.proofs.Boxes.{or_assoc, or_false}
+use Rattle.mp4_inspect.specs.Content.{ShowsAs}
+use Rattle.mp4_inspect.specs.Faults.{told_text, movie_text, IsLine, IsLineIf, IsTold, AreLines, Faults, WritesLines}
+use Rattle.mp4_inspect.specs.Faults.{WritesFaults, WritesAllFaults, WritesCheck}
+use Rattle.mp4_inspect.specs.Kind.{kind_of}
+use Rattle.mp4_inspect.specs.declared.content.Content.{Content}
+use Rattle.mp4_io.specs.declared.failure.Failure.{Failure}
+use Rattle.mp4_stream.specs.AnyBox.{known_any, reading_any}
+use Rattle.mp4_tree.specs.Tree.{boxes_of}
+use Rattle.mp4_tree.specs.declared.tree_box.TreeBox.{TreeBox}
+
+-- the line that was told, if one was
+line_if : (told : Bool) (front line : List ℕ) (found : TreeBox) → (told ≡ true → IsLine front found line)
+    → IsLineIf told front found (told_text told line)
+line_if true front line found is = is refl
+line_if false front line found is = refl
+
+module _ {A : Type 0} (known : BoxType → Bool) (reading : BoxType → List ℕ → ℕ → ℕ → Reading A) (bytes : Option
+    (List ℕ)) where
+  -- both lines of a box
+  pub writes_lines : (front first second : List ℕ) (found : TreeBox) (told disagrees : Bool) (a b c : Option (List ℕ))
+      → ((content : Content A) × IfSome bytes (λ B. ShowsAs known reading B found (kind_of found) content)
+      × IsTold content told)
+      → (told ≡ true → IsLine front found first) → Appends a b (told_text told first)
+      → (disagrees ≡ true → IsLine front found second) → Appends b c (told_text disagrees second)
+      → WritesLines known reading bytes front found a c (told || disagrees)
+  writes_lines front first second found told disagrees a b c (content, shows, is_told) line put line_after put_after = (
+    told_text told first ++ told_text disagrees second,
+    (
+      content,
+      told_text told first,
+      told_text disagrees second,
+      told,
+      disagrees,
+      shows,
+      is_told,
+      line_if told front first found line,
+      line_if disagrees front second found line_after,
+      refl,
+      refl,
+    ),
+    Appends-trans a b c (told_text told first) (told_text disagrees second) put put_after,
+  )
+
+  faults_more : (front : List ℕ) (boxes : List TreeBox) (text : List ℕ) (faulty : Bool) (found : TreeBox) (last :
+      List ℕ) (here : Bool)
+      → Faults known reading bytes front boxes text faulty → AreLines known reading bytes front found last here
+      → Faults known reading bytes front (boxes ++ found ∷ []) (text ++ last) (faulty || here)
+  faults_more front [] text faulty found last here (none, sound) lines = (
+    last,
+    [],
+    here,
+    false,
+    lines,
+    (refl, refl),
+    ap (λ (xs : List ℕ). xs ++ last) none ∙ sym (append-nil last),
+    ap (λ (b : Bool). b || here) sound ∙ or_false here,
+  )
+  faults_more front (x ∷ boxes) text faulty found last here
+      (first, rest, one, more, lines_one, lines_rest, is_text, is_faulty) lines = (
+        first,
+        rest ++ last,
+        one,
+        (more || here),
+        lines_one,
+        faults_more front boxes rest more found last here lines_rest lines,
+        ap (λ (xs : List ℕ). xs ++ last) is_text ∙ append_assoc first rest last,
+        ap (λ (b : Bool). b || here) is_faulty ∙ or_assoc one more here,
+      )
+
+  -- no line is written of no boxes
+  pub faults_none : (front : List ℕ) (a : Option (List ℕ)) → WritesFaults known reading bytes front [] a a false
+  faults_none front a = ([], (refl, refl), Appends-nil a)
+
+  -- the lines of one more box are written
+  pub faults_after : (front : List ℕ) (boxes : List TreeBox) (i : ℕ) (found : TreeBox) (a b c : Option (List ℕ))
+      (faulty here : Bool)
+      (now : Option (List ℕ)) (front_now : List ℕ) → now ≡ bytes → front_now ≡ front
+      → i < length boxes
+      → WritesFaults known reading bytes front (take i boxes) a b faulty
+      → WritesLines known reading now front_now (get_or boxes i found) b c here
+      → WritesFaults known reading bytes front (take (i + 1) boxes) a c (faulty || here)
+  faults_after front boxes i found a b c faulty here now front_now same same_front inside (text, faults, appends)
+      (last, lines_now, appends_last) =
+      let all = take_more boxes i found inside in
+      let lines =
+      subst (λ (r : Option (List ℕ)). AreLines known reading r front (get_or boxes i found) last here) same
+      (subst (λ (f : List ℕ). AreLines known reading now f (get_or boxes i found) last here) same_front lines_now) in (
+        text ++ last,
+        subst (λ (xs : List TreeBox). Faults known reading bytes front xs (text ++ last) (faulty || here)) (sym all)
+            (faults_more front (take i boxes) text faulty (get_or boxes i found) last here faults lines),
+        Appends-trans a b c text last appends appends_last,
+      )
+
+  -- all lines of a file are written
+  pub faults_all : (front : List ℕ) (boxes : List TreeBox) (a b c : Option (List ℕ)) (faulty movie : Bool)
+      → WritesFaults known reading bytes front boxes a b faulty → Appends b c (movie_text movie front)
+      → WritesAllFaults known reading bytes boxes a c (faulty || not movie)
+  faults_all front boxes a b c faulty movie (text, faults, appends) last =
+      (front, text, faulty, movie, faults, Appends-trans a b c text (movie_text movie front) appends last, refl)
+
+-- the same where the file's bytes are known
+pub faults_known : (result : Result Bool Failure) (r : Option (List ℕ)) (boxes : List TreeBox) (a b : Option (List ℕ))
+    → IfOk result (λ faulty. WritesAllFaults known_any reading_any r boxes a b faulty)
+    → IfSome r (λ bytes. boxes ≡ boxes_of bytes → IfOk result (λ faulty. WritesCheck bytes a b faulty))
+faults_known result None boxes a b written = tt
+faults_known (Err failure) (Some bytes) boxes a b written = λ all. tt
+faults_known (Ok faulty) (Some bytes) boxes a b written =
+    λ all. subst (λ (xs : List TreeBox). WritesAllFaults known_any reading_any (Some bytes) xs a b faulty) all written
+
+-- what a call returned that fails only when out of memory
+pub passed : {V E F : Type 0} (P : V → Type 0) (outcome : Result V E) (result : Result V F)
+    → IfOk result (λ value. outcome ≡ Ok value) → IfOk outcome P → IfOk result P
+passed P outcome (Err failure) same holds = tt
+passed {E = E} P outcome (Ok value) same holds = subst (λ (r : Result _ E). IfOk r P) same holds
+
+-- whether what is read of a box is told
+pub told_of : {A E F : Type 0} (known : BoxType → Bool) (reading : BoxType → List ℕ → ℕ → ℕ → Reading A)
+    (bytes : Option (List ℕ)) (found : TreeBox) (content : Content A) (outcome : Result Bool E) (result : Result Bool F)
+    → IfOk result (λ value. outcome ≡ Ok value)
+    → IfSome bytes (λ B. ShowsAs known reading B found (kind_of found) content) → IfOk outcome (IsTold content)
+    → IfOk result (λ told. (shown : Content A)
+    × IfSome bytes (λ B. ShowsAs known reading B found (kind_of found) shown) × IsTold shown told)
+told_of known reading bytes found content outcome (Err failure) same shows told = tt
+told_of {E = E} known reading bytes found content outcome (Ok value) same shows told =
+    (content, shows, subst (λ (r : Result Bool E). IfOk r (IsTold content)) same told)

@@ -1,0 +1,85 @@
+-- Which boxes of a file `mp4inspect check` writes lines of, and what these begin with.
+use Rattle.std.specs.Prelude.{◌≡◌, ℕ, ◌||◌, not, Bool, true, false, List, [], ◌∷◌, ◌++◌, codes, decimal, Some, IfSome}
+use Rattle.std.specs.Prelude.{⊤}
+use Rattle.std.specs.Prelude.{if◌then◌else◌}
+use Rattle.std.specs.declared.option.Option.{Option}
+use Rattle.std.specs.Io.KnownBytes.{Appends}
+use Rattle.mp4_frame.specs.Reading.{Reading}
+use Rattle.mp4_frame.specs.declared.box_type.BoxType.{BoxType}
+use Rattle.mp4_inspect.specs.Content.{ShowsAs}
+use Rattle.mp4_inspect.specs.Kind.{kind_of}
+use Rattle.mp4_inspect.specs.declared.content.Content.{Content}
+use Rattle.mp4_inspect.specs.declared.content.Content.TheVariants as contents
+use Rattle.mp4_stream.specs.AnyBox.{known_any, reading_any}
+use Rattle.mp4_tree.specs.Tree.{boxes_of}
+use Rattle.mp4_tree.specs.declared.tree_box.TreeBox.{TreeBox}
+
+-- a line: what each line of the file begins with, a position, a path and what is said
+abbrev pub line_text : List ℕ → ℕ → List ℕ → List ℕ → List ℕ
+line_text front position path said =
+    front ++ (decimal position ++ (codes " " ++ (path ++ (codes ": " ++ (said ++ 10 ∷ [])))))
+
+-- a line of this box
+abbrev pub IsLine : List ℕ → TreeBox → List ℕ → Type 0
+IsLine front found line = (path said : List ℕ) × (line ≡ line_text front found.position path said)
+
+-- a line of it, or nothing
+abbrev pub IsLineIf : Bool → List ℕ → TreeBox → List ℕ → Type 0
+IsLineIf true front found line = IsLine front found line
+IsLineIf false front found line = line ≡ []
+
+abbrev pub told_text : Bool → List ℕ → List ℕ
+told_text told line = if told then line else []
+
+-- whether a line tells of what is read of a box: it does where that is a fault, and does not where the codec reads
+-- nothing of it; of what the codec reads a line may tell that chunks are not in media data
+abbrev pub IsTold : {A : Type 0} → Content A → Bool → Type 0
+IsTold (contents.Faulty fault) told = told ≡ true
+IsTold (contents.Known value) told = ⊤
+IsTold _ told = told ≡ false
+
+-- the lines of a box: one of what is read of it, if that is told, and one more at most, for its tables of samples; and
+-- whether there is a line. Where the file's bytes are known, what is read is by them and the box's kind
+abbrev pub AreLines : {A : Type 0} → (BoxType → Bool) → (BoxType → List ℕ → ℕ → ℕ → Reading A) → Option (List ℕ)
+    → List ℕ → TreeBox → List ℕ → Bool → Type 0
+AreLines {A} known reading bytes front found text faulty =
+    (content : Content A) × (first second : List ℕ) × (told disagrees : Bool)
+    × IfSome bytes (λ B. ShowsAs known reading B found (kind_of found) content)
+    × IsTold content told × IsLineIf told front found first × IsLineIf disagrees front found second
+    × (text ≡ first ++ second) × (faulty ≡ (told || disagrees))
+
+-- the lines of these boxes, in order
+abbrev pub Faults : {A : Type 0} → (BoxType → Bool) → (BoxType → List ℕ → ℕ → ℕ → Reading A) → Option (List ℕ)
+    → List ℕ → List TreeBox → List ℕ → Bool → Type 0
+Faults known reading bytes front [] text faulty = (text ≡ []) × (faulty ≡ false)
+Faults known reading bytes front (found ∷ boxes) text faulty =
+    (first rest : List ℕ) × (here there : Bool) × AreLines known reading bytes front found first here
+    × Faults known reading bytes front boxes rest there
+    × (text ≡ first ++ rest) × (faulty ≡ (here || there))
+
+-- the lines of a box are written, and whether there are any
+abbrev pub WritesLines : {A : Type 0} → (BoxType → Bool) → (BoxType → List ℕ → ℕ → ℕ → Reading A) → Option (List ℕ)
+    → List ℕ → TreeBox → Option (List ℕ) → Option (List ℕ) → Bool → Type 0
+WritesLines known reading bytes front found old new faulty =
+    (text : List ℕ) × AreLines known reading bytes front found text faulty × Appends old new text
+
+-- the lines of these boxes are written, and whether there are any
+abbrev pub WritesFaults : {A : Type 0} → (BoxType → Bool) → (BoxType → List ℕ → ℕ → ℕ → Reading A) → Option (List ℕ)
+    → List ℕ → List TreeBox → Option (List ℕ) → Option (List ℕ) → Bool → Type 0
+WritesFaults known reading bytes front boxes old new faulty =
+    (text : List ℕ) × Faults known reading bytes front boxes text faulty × Appends old new text
+
+-- the line of a file that has no movie
+abbrev pub movie_text : Bool → List ℕ → List ℕ
+movie_text movie front = if movie then [] else front ++ codes "0 moov: there is no moov, and no moof\n"
+
+-- all lines of a file are written, each with the same front, and whether there are any
+abbrev pub WritesAllFaults : {A : Type 0} → (BoxType → Bool) → (BoxType → List ℕ → ℕ → ℕ → Reading A)
+    → Option (List ℕ) → List TreeBox → Option (List ℕ) → Option (List ℕ) → Bool → Type 0
+WritesAllFaults known reading bytes boxes old new faulty =
+    (front text : List ℕ) × (here movie : Bool) × Faults known reading bytes front boxes text here
+    × Appends old new (text ++ movie_text movie front) × (faulty ≡ (here || not movie))
+
+-- the lines of a file of these bytes are written, and whether there are any
+abbrev pub WritesCheck : List ℕ → Option (List ℕ) → Option (List ℕ) → Bool → Type 0
+WritesCheck bytes old new faulty = WritesAllFaults known_any reading_any (Some bytes) (boxes_of bytes) old new faulty
