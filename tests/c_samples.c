@@ -75,10 +75,10 @@ static int is_three(const void *told) {
 
 /* The status where one byte of the file is another. */
 static uint32_t with_byte(const struct subject *s, size_t at, uint8_t byte) {
-    uint8_t bytes[LENGTH];
-    memcpy(bytes, FILE_BYTES, LENGTH);
+    uint8_t bytes[1000];
+    memcpy(bytes, s->bytes, s->length);
     bytes[at] = byte;
-    return call_with(s, bytes, LENGTH, 3);
+    return call_with(s, bytes, s->length, 3);
 }
 
 static void try_samples(void) {
@@ -164,14 +164,6 @@ static int are_of_track_1(const void *rows, size_t count) {
            is_sample_of(&s[2], 565, 1020, 4, 10, 1);
 }
 
-/* The status where one byte of the file is another. */
-static uint32_t with_fragment_byte(const struct subject *s, size_t at, uint8_t byte) {
-    uint8_t bytes[FRAGMENT_LENGTH];
-    memcpy(bytes, FRAGMENT_BYTES, FRAGMENT_LENGTH);
-    bytes[at] = byte;
-    return call_with(s, bytes, FRAGMENT_LENGTH, 3);
-}
-
 static void try_beginnings(void) {
     struct mp4_sample rows[3];
     size_t cut, at = 0, count;
@@ -202,11 +194,11 @@ static void try_fragments(void) {
     track_id = 3;
     EXPECT(call_with(&s, s.bytes, FRAGMENT_LENGTH, 3) == MP4_NO_TRACK);
     track_id = 1;
-    EXPECT(with_fragment_byte(&s, 231, 3) == MP4_BOX_NOT_FOUND); /* no defaults of track 1 */
-    EXPECT(with_fragment_byte(&s, 263, 3) == MP4_OFFSETS_DISAGREE); /* none of track 2, whose data are before */
-    EXPECT(with_fragment_byte(&s, 360, 0xFF) == MP4_OFFSETS_DISAGREE); /* a data offset below 0 */
-    EXPECT(with_fragment_byte(&s, 359, 3) == MP4_INVALID_DATA); /* three samples of two sizes */
-    EXPECT(with_fragment_byte(&s, 320, 1) == MP4_OK); /* a tfhd of another version */
+    EXPECT(with_byte(&s, 231, 3) == MP4_BOX_NOT_FOUND); /* no defaults of track 1 */
+    EXPECT(with_byte(&s, 263, 3) == MP4_OFFSETS_DISAGREE); /* none of track 2, whose data are before */
+    EXPECT(with_byte(&s, 360, 0xFF) == MP4_OFFSETS_DISAGREE); /* a data offset below 0 */
+    EXPECT(with_byte(&s, 359, 3) == MP4_INVALID_DATA); /* three samples of two sizes */
+    EXPECT(with_byte(&s, 320, 1) == MP4_OK); /* a tfhd of another version */
     track_id = 7;
 }
 

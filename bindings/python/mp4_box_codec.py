@@ -51,6 +51,11 @@ class Mp4Error(ValueError):
         self.status = status
 
 
+def _name(code: int) -> str:
+    """The four characters of a code, each of the number of its byte."""
+    return code.to_bytes(4, "big").decode("latin-1")
+
+
 class Span(NamedTuple):
     """The place of a box: the offset of its first byte, its length with its header, how long the header is, and its code
     as a number."""
@@ -62,7 +67,7 @@ class Span(NamedTuple):
     @property
     def name(self) -> str:
         """The four characters of its code, each of the number of its byte."""
-        return self.code.to_bytes(4, "big").decode("latin-1")
+        return _name(self.code)
 
     def of(self, listed: Any) -> memoryview:
         """The bytes of the box, header included, in the bytes that were listed."""
@@ -102,7 +107,7 @@ class Box(NamedTuple):
     @property
     def name(self) -> str:
         """The four characters of its code, each of the number of its byte."""
-        return self.code.to_bytes(4, "big").decode("latin-1")
+        return _name(self.code)
 
     def of(self, data: Any) -> memoryview:
         """The bytes of the box, header included, in the bytes of the file: as far as they are there."""
@@ -655,7 +660,7 @@ _ENTRIES = ("avc1", "hev1", "vp09", "mp4a", "tx3g")
 def stsd(data: Any) -> Stsd:
     """The first sample entry of a track (8.5.2), if it is avc1, hev1, vp09, mp4a or tx3g."""
     it, sets = _stsd(data, lambda found: _lengths_of(found.avc1.avcc))
-    name = it.entry.to_bytes(4, "big").decode("latin-1")
+    name = _name(it.entry)
     entry = None
     if name == "avc1":
         entry = _tuple_of(it.avc1, avcc=_sets_of(it.avc1.avcc, *sets))
@@ -812,7 +817,7 @@ def tree(file: Any) -> List[Box]:
             del around[box.depth + 1:]
             path, counts = around[-1]
             number = counts[box.code] = counts.get(box.code, -1) + 1
-            name = box.code.to_bytes(4, "big").decode("latin-1") if box.code else ""
+            name = _name(box.code) if box.code else ""
             path += name + (f"[{number}]" if number else "")
             found.append(Box(path, *(getattr(box, it) for it, _ in _BOX._fields_)))
             around.append((f"{path}/", {}))

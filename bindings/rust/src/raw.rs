@@ -93,25 +93,27 @@ extern "C" {
     pub fn mp4_walk_next(bytes: *const u8, length: usize, walk: *mut Walk, found: *mut Box) -> u32;
     pub fn mp4_check(bytes: *const u8, length: usize) -> u32;
     pub fn mp4_find(bytes: *const u8, length: usize, path: *const u8, path_length: usize, place: *mut Place) -> u32;
-    pub fn mp4_samples(
-        bytes: *const u8,
-        length: usize,
-        track_id: u32,
-        samples: *mut Sample,
-        places: usize,
-        count: *mut usize,
-    ) -> u32;
-    pub fn mp4_fragment_samples(
-        bytes: *const u8,
-        length: usize,
-        track_id: u32,
-        samples: *mut Sample,
-        places: usize,
-        count: *mut usize,
-    ) -> u32;
     pub fn mp4_version() -> u32;
     pub fn mp4_status_text(status: u32, text: *mut u8, places: usize, count: *mut usize) -> u32;
 }
+
+/// Declares functions that fill an array with the samples of a track.
+macro_rules! samples {
+    ($($name:ident)*) => {
+        extern "C" {
+            $(pub fn $name(
+                bytes: *const u8,
+                length: usize,
+                track_id: u32,
+                samples: *mut Sample,
+                places: usize,
+                count: *mut usize,
+            ) -> u32;)*
+        }
+    };
+}
+
+samples! { mp4_samples mp4_fragment_samples }
 
 /// Declares functions that fill an array of rows and a summary.
 macro_rules! fill {

@@ -14,6 +14,12 @@ pub struct Span {
     pub code: u32,
 }
 
+/// So many bytes at a position, if they are there.
+pub(crate) fn bytes_at(bytes: &[u8], position: u64, length: u64) -> Option<&[u8]> {
+    let position = usize::try_from(position).ok()?;
+    bytes.get(position..position.checked_add(usize::try_from(length).ok()?)?)
+}
+
 impl Span {
     /// The four characters of its code.
     pub fn name(&self) -> [u8; 4] {
@@ -22,8 +28,7 @@ impl Span {
 
     /// The bytes of the box, header included, in the bytes that were listed. None in bytes that are too short for it.
     pub fn of<'a>(&self, listed: &'a [u8]) -> Option<&'a [u8]> {
-        let position = usize::try_from(self.position).ok()?;
-        listed.get(position..position.checked_add(usize::try_from(self.length).ok()?)?)
+        bytes_at(listed, self.position, self.length)
     }
 
     /// What comes after the header: the boxes in it, if it contains boxes alone.

@@ -2,6 +2,7 @@
 
 use std::io::{self, Read, Seek, SeekFrom};
 
+use crate::rows::bytes_at;
 use crate::{raw, result_of, Result};
 
 /// What is where a box should begin.
@@ -54,8 +55,7 @@ impl TreeBox {
 
     /// The bytes of the box, header included, in the bytes of the file. None in bytes that are too short for it.
     pub fn of<'a>(&self, file: &'a [u8]) -> Option<&'a [u8]> {
-        let position = usize::try_from(self.position).ok()?;
-        file.get(position..position.checked_add(usize::try_from(self.length).ok()?)?)
+        bytes_at(file, self.position, self.length)
     }
 }
 

@@ -43,7 +43,7 @@ pub or_assoc : (a b c : Option TrexBox) → or_else (or_else a b) c ≡ or_else 
 or_assoc None b c = refl
 or_assoc (Some v) b c = refl
 
--- a box that is refused, but not for want of memory, holds no defaults
+-- a box that is refused, and not for being out of memory, holds no defaults
 pub refused_is_none : (e : Error) (r : Reading TrexBox) → is_memory e ≡ false → Refuses e r → ok_of r.outcome ≡ None
 refused_is_none errors.IoError r other h = ap (λ (o : Result TrexBox Fault). ok_of o) h
 refused_is_none (errors.InvalidData _) r other h = ap (λ (o : Result TrexBox Fault). ok_of o) h
