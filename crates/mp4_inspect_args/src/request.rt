@@ -79,25 +79,39 @@ fn check<'a>(alloc: Global) -> Result<Command<'a>, AllocError> {
         .arg(files(alloc))
 }
 
+/// An option that is there or not, and not together with another.
+fn flag_without<'a>(
+    alloc: Global,
+    name: &'a str,
+    help: &'a str,
+    other: &'a str,
+) -> Result<Arg<'a>, AllocError> {
+    flag(alloc, name, help).conflicts_with(other)
+}
+
+/// The argument of one file.
+fn file<'a>(alloc: Global) -> Arg<'a> {
+    Arg::new(alloc, "FILE")
+        .required(true)
+        .help("File to read; - is the standard input")
+}
+
 /// The command `samples`.
 fn samples<'a>(alloc: Global) -> Result<Command<'a>, AllocError> {
-    let json = flag(alloc, "json", "Write an array of JSON objects").conflicts_with("csv")?;
+    let json = "Write an array of JSON objects";
     let csv = "Write lines of numbers between commas, with one line of names in front";
-    let file = Arg::new(alloc, "FILE")
-        .required(true)
-        .help("File to read; - is the standard input");
     Command::new(alloc, "samples")
         .about("Writes where each sample of the tracks of a file is, and when, one a line")
         .arg(number(alloc, "track", "Write the samples of track N alone"))?
-        .arg(json)?
+        .arg(flag_without(alloc, "json", json, "csv")?)?
         .arg(flag(alloc, "csv", csv))?
-        .arg(file)
+        .arg(file(alloc))
 }
 
-/// The whole command line.
-fn command<'a>(alloc: Global) -> Result<Command<'a>, AllocError> {
-    let all = flag(alloc, "all", "Show all entries of lists").conflicts_with("rows")?;
-    let rows = number(alloc, "rows", "Show N entries of each list").default_value("8");
+/// The command line without its commands.
+fn tree<'a>(alloc: Global) -> Result<Command<'a>, AllocError> {
+    let all = "Show all entries of lists";
+    let rows = "Show N entries of each list";
     let wide = "Don't break lines at the width of the terminal";
     Command::new(alloc, "mp4inspect")
         .version("0.1.0")
@@ -107,10 +121,15 @@ fn command<'a>(alloc: Global) -> Result<Command<'a>, AllocError> {
         .args_conflicts_with_subcommands(true)
         .subcommand_negates_reqs(true)
         .arg(flag(alloc, "json", "Write JSON, with all entries of lists"))?
-        .arg(all)?
-        .arg(rows)?
+        .arg(flag_without(alloc, "all", all, "rows")?)?
+        .arg(number(alloc, "rows", rows).default_value("8"))?
         .arg(flag(alloc, "wide", wide))?
-        .arg(files(alloc))?
+        .arg(files(alloc))
+}
+
+/// The whole command line.
+fn command<'a>(alloc: Global) -> Result<Command<'a>, AllocError> {
+    tree(alloc)?
         .subcommand(check(alloc)?)?
         .subcommand(samples(alloc)?)
 }
@@ -157,16 +176,8 @@ fn samples_of(alloc: Global, matches: &ArgMatches<'_>) -> Result<Request, AllocE
     })
 }
 
-/// What the words of a command line ask for, of which the first is the program's name. An error is what to print, and
-/// with which status to end: misuse, help or the version.
-pub fn request_of(alloc: Global, words: &[String]) -> Result<Request, Error> {
-    let matches = command(alloc)?.try_get_matches_from(words)?;
-    if let Some((name, inner)) = matches.subcommand() {
-        if name == "samples" {
-            return Ok(samples_of(alloc, inner)?);
-        }
-        return Ok(check_of(alloc, inner)?);
-    }
+/// What is asked for without a command: the trees of files.
+fn tree_of(alloc: Global, matches: &ArgMatches<'_>) -> Result<Request, AllocError> {
     let rows = if matches.get_flag("all") {
         None
     } else {
@@ -182,6 +193,22 @@ pub fn request_of(alloc: Global, words: &[String]) -> Result<Request, Error> {
         wide: matches.get_flag("wide"),
         samples: Rows::Text,
         track: None,
-        files: files_of(alloc, &matches)?,
+        files: files_of(alloc, matches)?,
     })
+}
+
+/// What the arguments ask for.
+fn asked(alloc: Global, matches: &ArgMatches<'_>) -> Result<Request, AllocError> {
+    match matches.subcommand() {
+        Some(("samples", inner)) => samples_of(alloc, inner),
+        Some((_, inner)) => check_of(alloc, inner),
+        None => tree_of(alloc, matches),
+    }
+}
+
+/// What the words of a command line ask for, of which the first is the program's name. An error is what to print, and
+/// with which status to end: misuse, help or the version.
+pub fn request_of(alloc: Global, words: &[String]) -> Result<Request, Error> {
+    let matches = command(alloc)?.try_get_matches_from(words)?;
+    Ok(asked(alloc, &matches)?)
 }

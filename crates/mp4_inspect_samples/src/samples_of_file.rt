@@ -195,6 +195,12 @@ fn write_track<S: Source, W: Write>(
     write_fragments(alloc, tree, boxes, movie, track, reached, sheet, output)
 }
 
+/// Keeps a fault of a track, or of the file.
+fn keep_one(fault: Fault, track: Option<u32>, faults: &mut Vec<TrackFault>) -> Result<(), Failure> {
+    keep(faults, TrackFault { track, fault })?;
+    Ok(())
+}
+
 /// Keeps the fault of a track, if it has one.
 fn keep_fault(
     outcome: Result<(), Stop>,
@@ -204,10 +210,7 @@ fn keep_fault(
     match outcome {
         Ok(()) => Ok(()),
         Err(Stop::Failed(failure)) => Err(failure),
-        Err(Stop::Faulty(fault)) => {
-            keep(faults, TrackFault { track, fault })?;
-            Ok(())
-        }
+        Err(Stop::Faulty(fault)) => keep_one(fault, track, faults),
     }
 }
 
@@ -227,8 +230,7 @@ fn enter_track<S: Source, W: Write>(
     let places = places_of(own);
     let Some(track) = number_of(alloc, tree, &places)? else {
         let position = own.first().map_or(0, |found| found.position);
-        let fault = Err(Stop::Faulty(Fault::NoHeader(position)));
-        return keep_fault(fault, None, faults);
+        return keep_one(Fault::NoHeader(position), None, faults);
     };
     if choice.has(track) {
         let outcome = write_track(alloc, tree, boxes, movie, &places, track, sheet, output);
@@ -238,29 +240,83 @@ fn enter_track<S: Source, W: Write>(
     Ok(())
 }
 
-/// Keeps the faults of fragments whose track is in no `moov`, and of a chosen track that the file doesn't have.
+/// Keeps the faults of fragments whose track is in no `moov`.
+fn keep_left(movie: &Movie, choice: Choice, faults: &mut Vec<TrackFault>) -> Result<(), Failure> {
+    for (track, _) in &movie.fragments {
+        if choice.has(*track) {
+            keep_one(Fault::Missing("trak"), Some(*track), faults)?;
+        }
+    }
+    Ok(())
+}
+
+/// Keeps the fault of a chosen track that the file doesn't have.
+fn keep_chosen(
+    movie: &Movie,
+    track: Option<u32>,
+    faults: &mut Vec<TrackFault>,
+) -> Result<(), Failure> {
+    match track {
+        Some(track) if !movie.known.contains_key(&track) && !movie.fragments.contains_key(&track) =>
+            { keep_one(Fault::Missing("trak"), Some(track), faults) }
+        _ => Ok(()),
+    }
+}
+
+/// Keeps the faults of fragments whose track is in no `moov`, of a chosen track that the file doesn't have, and of a file
+/// that is no movie.
 fn keep_unknown(
     movie: &Movie,
     choice: Choice,
     faults: &mut Vec<TrackFault>,
 ) -> Result<(), Failure> {
-    for (track, _) in &movie.fragments {
-        if choice.has(*track) {
-            let fault = Err(Stop::Faulty(Fault::Missing("trak")));
-            keep_fault(fault, Some(*track), faults)?;
-        }
+    keep_left(movie, choice, faults)?;
+    keep_chosen(movie, choice.track, faults)?;
+    if movie.is_movie {
+        return Ok(());
     }
-    if let Some(track) = choice.track
-        && !movie.known.contains_key(&track)
-        && !movie.fragments.contains_key(&track)
-    {
-        let fault = Err(Stop::Faulty(Fault::Missing("trak")));
-        keep_fault(fault, Some(track), faults)?;
+    keep_one(Fault::NoMovie, None, faults)
+}
+
+/// Writes the samples of the tracks, one after the other.
+fn write_tracks<S: Source, W: Write>(
+    alloc: Global,
+    tree: &mut Tree<S>,
+    boxes: &[TreeBox],
+    movie: &mut Movie,
+    choice: Choice,
+    sheet: &mut Sheet,
+    output: &mut Output<W>,
+    faults: &mut Vec<TrackFault>,
+) -> Result<(), Failure> {
+    for place in 0..movie.tracks.len() {
+        let Some(index) = movie.tracks.get(place) else {
+            break;
+        };
+        let index = *index;
+        enter_track(
+            alloc, tree, boxes, index, movie, choice, sheet, output, faults,
+        )?;
     }
-    if !movie.is_movie {
-        keep_fault(Err(Stop::Faulty(Fault::NoMovie)), None, faults)?;
-    }
-    Ok(())
+    keep_unknown(movie, choice, faults)
+}
+
+/// Writes what comes in front of the rows, these, and what comes after them.
+fn write_sheet<S: Source, W: Write>(
+    alloc: Global,
+    tree: &mut Tree<S>,
+    boxes: &[TreeBox],
+    movie: &mut Movie,
+    choice: Choice,
+    output: &mut Output<W>,
+    faults: &mut Vec<TrackFault>,
+) -> Result<(), Failure> {
+    write_front(choice.form, output)?;
+    let mut sheet = Sheet::new(alloc, choice.form);
+    write_tracks(
+        alloc, tree, boxes, movie, choice, &mut sheet, output, faults,
+    )?;
+    write_end(choice.form, output)
 }
 
 /// Writes the samples of a file: a row for each, those of one track after the other, and of a track first those of its
@@ -275,17 +331,5 @@ pub fn write_samples<S: Source, W: Write>(
     let mut tree = or_read(Tree::new(alloc, source))?;
     let boxes = boxes_left(alloc, &mut tree)?;
     let mut movie = movie_of(alloc, &mut tree, &boxes, faults)?;
-    let mut sheet = Sheet::new(alloc, choice.form);
-    write_front(choice.form, output)?;
-    for place in 0..movie.tracks.len() {
-        let Some(index) = movie.tracks.get(place) else {
-            break;
-        };
-        let index = *index;
-        enter_track(
-            alloc, &mut tree, &boxes, index, &mut movie, choice, &mut sheet, output, faults,
-        )?;
-    }
-    keep_unknown(&movie, choice, faults)?;
-    write_end(choice.form, output)
+    write_sheet(alloc, &mut tree, &boxes, &mut movie, choice, output, faults)
 }

@@ -178,6 +178,34 @@ pub fn read_tables<S: Source>(
     Ok(Some(read_all_tables(alloc, tree, places)?))
 }
 
+/// Reads the tables that say where samples are.
+fn read_space<S: Source>(
+    alloc: Global,
+    tree: &mut Tree<S>,
+    places: &Places,
+) -> Result<(StszBox, StscBox, Offsets), Stop>
+    ensures kept { tree.new ≡ tree.old }
+{
+    let sizes = read_needed(alloc, tree, places.sizes, "stsz")?;
+    let chunks = read_needed(alloc, tree, places.chunks, "stsc")?;
+    let offsets = read_offsets(alloc, tree, places)?;
+    Ok((sizes, chunks, offsets))
+}
+
+/// Reads the tables that say when samples are, and which are sync samples.
+fn read_times<S: Source>(
+    alloc: Global,
+    tree: &mut Tree<S>,
+    places: &Places,
+) -> Result<(SttsBox, Option<CttsBox>, Option<StssBox>), Stop>
+    ensures kept { tree.new ≡ tree.old }
+{
+    let durations = read_needed(alloc, tree, places.durations, "stts")?;
+    let rendering = read_table(alloc, tree, places.rendering, "ctts")?;
+    let sync = read_table(alloc, tree, places.sync, "stss")?;
+    Ok((durations, rendering, sync))
+}
+
 /// Reads the tables of a track, which has all that a track needs.
 fn read_all_tables<S: Source>(
     alloc: Global,
@@ -186,13 +214,15 @@ fn read_all_tables<S: Source>(
 ) -> Result<TrackTables, Stop>
     ensures kept { tree.new ≡ tree.old }
 {
+    let (sizes, chunks, offsets) = read_space(alloc, tree, places)?;
+    let (durations, rendering, sync) = read_times(alloc, tree, places)?;
     Ok(TrackTables {
-        sizes: read_needed(alloc, tree, places.sizes, "stsz")?,
-        chunks: read_needed(alloc, tree, places.chunks, "stsc")?,
-        offsets: read_offsets(alloc, tree, places)?,
-        durations: read_needed(alloc, tree, places.durations, "stts")?,
-        rendering: read_table(alloc, tree, places.rendering, "ctts")?,
-        sync: read_table(alloc, tree, places.sync, "stss")?,
+        sizes,
+        chunks,
+        offsets,
+        durations,
+        rendering,
+        sync,
     })
 }
 

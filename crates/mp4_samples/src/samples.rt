@@ -59,6 +59,7 @@ impl<'a> Iterator for Samples<'a> {
 
     ghost remaining = { λ s. at_most (samples_left s) };
 
+    #[inline]
     fn next(&mut self) -> Option<Sample> {
         if self.state.number >= self.tables.stsz.sample_count {
             return None;
