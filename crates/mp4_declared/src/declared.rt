@@ -16,6 +16,7 @@ use mp4_frame::{
 };
 use std::alloc::Global;
 use std::marker::Model;
+use std::ops::{Deref, DerefMut};
 
 /// Before a version and flags are known.
 const NO_CONTEXT: Context = Context {
@@ -122,11 +123,10 @@ pub trait DeclaredBox: Sized + Drop {
     ghost valid: { Self.Shape.shape.valid ≡ true };
 }
 
-/// A box that is declared.
+/// A box that is declared. Its fields are those of the `T`: `sidx.timescale` is read and set.
 #[derive(Debug, Drop, PartialEq, Eq)]
 pub struct Declared<T> {
-    /// Its fields.
-    pub fields: T,
+    fields: T,
 }
 
 impl<T> Model for Declared<T> {
@@ -143,6 +143,42 @@ impl<T> Declared<T> {
         ensures { result ≡ fields }
     {
         Declared { fields }
+    }
+
+    /// Its fields, as a value of their own.
+    pub fn into_fields(self) -> T
+        ensures { result ≡ self }
+    {
+        let Declared { fields } = self;
+        fields
+    }
+}
+
+/// The fields of the box are read as if they were its own.
+impl<T> Deref for Declared<T> {
+    type Target = T;
+
+    ghost deref_gives = { λ b fields. fields ≡ b };
+
+    #[inline]
+    fn deref(&self) -> &T {
+        &self.fields
+    }
+}
+
+/// They are set so too.
+impl<T> DerefMut for Declared<T> {
+    ghost use Rattle.std.specs.Borrow.{Lends, sem};
+    ghost use Rattle.mp4_declared.specs.contracts.declared.Declared.{the_row};
+
+    ghost deref_mut_gives = { λ b fields. fields ≡ b };
+
+    #[inline]
+    fn deref_mut(&mut self) -> &mut T
+        ensures* writes_back { sem 𝓛 (Lends (the_row T.row) T.row self.entry result (λ fields. fields)) }
+        ensures shows { result.now ≡ self.old }
+    {
+        &mut self.fields
     }
 }
 

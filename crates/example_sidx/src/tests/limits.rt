@@ -80,7 +80,7 @@ fn a_count_of_more(rt: HostRuntime) -> Result<(), Fail> {
 /// An index of version 0 with one reference.
 fn index_of(alloc: Global, entry: SidxEntry) -> Made<SidxBox> {
     let mut sidx = empty(alloc);
-    sidx.fields.entries.push(entry)?;
+    sidx.entries.push(entry)?;
     Ok(sidx)
 }
 
@@ -131,10 +131,10 @@ fn ending_of_change(alloc: Global, made: Made<SidxBox>, change: Change) -> &'sta
         return "out of memory";
     };
     match change {
-        Change::Version(version) => sidx.fields.version = version,
-        Change::Flags(flags) => sidx.fields.flags = flags,
-        Change::Time(time) => sidx.fields.earliest_presentation_time = time,
-        Change::Offset(offset) => sidx.fields.first_offset = offset,
+        Change::Version(version) => sidx.version = version,
+        Change::Flags(flags) => sidx.flags = flags,
+        Change::Time(time) => sidx.earliest_presentation_time = time,
+        Change::Offset(offset) => sidx.first_offset = offset,
     }
     ending_of_write(alloc, &sidx)
 }
@@ -177,7 +177,7 @@ fn fields_that_do_not_fit_or_just_fit(rt: HostRuntime) -> Result<(), Fail> {
 /// An index of this many references.
 fn index_of_zeros(alloc: Global, count: usize) -> Made<SidxBox> {
     let mut sidx = empty(alloc);
-    sidx.fields.entries.resize(count, SidxEntry::default())?;
+    sidx.entries.resize(count, SidxEntry::default())?;
     Ok(sidx)
 }
 
