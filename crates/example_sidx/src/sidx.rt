@@ -8,7 +8,7 @@ ghost use Rattle.mp4_stream.specs.Author.{bit, flag_back, flag_fits};
 use mp4_stream::author::{
     About, Declared, DeclaredBox, EntryLayout, Full, List, Shape, Time, U16, U32, Zeros,
 };
-use mp4_stream::{Entries, Result, TryClone};
+use mp4_stream::{Entries, Result, TryClone, box_of, entry_of, numbers_of};
 
 /// The code: `sidx`.
 pub const SIDX: u32 = 0x7369_6478;
@@ -59,25 +59,13 @@ impl EntryLayout<6, 12> for SidxEntry {
     }
 
     fn numbers(&self) -> [u64; 6] {
-        [
-            self.reference_type.into(),
-            self.referenced_size.into(),
-            self.subsegment_duration.into(),
-            self.starts_with_sap.into(),
-            self.sap_type.into(),
-            self.sap_delta_time.into(),
-        ]
+        numbers_of!(self => reference_type, referenced_size, subsegment_duration, starts_with_sap, sap_type,
+            sap_delta_time)
     }
 
     fn from_numbers(n: &[u64; 6]) -> SidxEntry {
-        SidxEntry {
-            reference_type: n[0] == 1,
-            referenced_size: n[1] as u32,
-            subsegment_duration: n[2] as u32,
-            starts_with_sap: n[3] == 1,
-            sap_type: n[4] as u8,
-            sap_delta_time: n[5] as u32,
-        }
+        entry_of!(n => SidxEntry { reference_type: bool, referenced_size: u32, subsegment_duration: u32,
+            starts_with_sap: bool, sap_type: u8, sap_delta_time: u32 })
     }
 
     ghost few = { lit< tt };
@@ -103,43 +91,29 @@ pub struct Sidx {
     pub entries: Entries<SidxEntry>,
 }
 
+type Numbers = ((U32, U32), (Time, Time));
+
 /// What the box holds: version, flags, numbers, two reserved bytes, a count of 16 bits, and that many references.
-pub type SidxShape = Full<
-    2,
-    (
-        U32,
-        (U32, (Time, (Time, (Zeros<2>, List<U16, SidxEntry, 6, 12>)))),
-    ),
->;
+pub type SidxShape = Full<2, (Numbers, (Zeros<2>, List<U16, SidxEntry, 6, 12>))>;
 
 impl DeclaredBox for Sidx {
     type Shape = SidxShape;
 
+    const CODE: u32 = SIDX;
+
     ghost CODE = { SIDX };
 
     ghost layout = { record {
-      content = λ v. (
-        v.version,
-        v.flags,
-        (
-          v.reference_id,
-          (
-            v.timescale,
-            (
-              v.earliest_presentation_time,
-              (v.first_offset, (tt, v.entries)),
-            ),
-          ),
-        ),
-      );
+      content = λ v. let times = (v.earliest_presentation_time, v.first_offset) in
+          (v.version, v.flags, (((v.reference_id, v.timescale), times), (tt, v.entries)));
       value = λ x. record {
         version = x.0;
         flags = x.1;
-        reference_id = x.2.0;
-        timescale = x.2.1.0;
-        earliest_presentation_time = x.2.1.1.0;
-        first_offset = x.2.1.1.1.0;
-        entries = x.2.1.1.1.1.1;
+        reference_id = x.2.0.0.0;
+        timescale = x.2.0.0.1;
+        earliest_presentation_time = x.2.0.1.0;
+        first_offset = x.2.0.1.1;
+        entries = x.2.1.1;
       };
       back = λ v. refl;
       again = λ x. refl;
@@ -147,26 +121,16 @@ impl DeclaredBox for Sidx {
       own = refl;
     } };
 
-    const CODE: u32 = SIDX;
-
     fn from_content(found: <SidxShape as Shape>::Value) -> Sidx {
-        let (version, flags, (reference_id, (timescale, (time, (offset, (_, entries)))))) = found;
-        Sidx {
-            version,
-            flags,
-            reference_id,
-            timescale,
-            earliest_presentation_time: time,
-            first_offset: offset,
-            entries,
-        }
+        box_of!(found => Sidx { version, flags, (((reference_id, timescale),
+            (earliest_presentation_time, first_offset)), (_, entries)) })
     }
 
     fn ask<Q: About<Self::Shape>>(&self, out: &mut [u8]) -> Q::Answer {
+        let times = (self.earliest_presentation_time, self.first_offset);
+        let numbers = ((self.reference_id, self.timescale), times);
         let list = ((), self.entries.as_slice());
-        let times = (self.earliest_presentation_time, (self.first_offset, list));
-        let numbers = (self.reference_id, (self.timescale, times));
-        Q::ask((self.version, self.flags, numbers), out)
+        Q::ask((self.version, self.flags, (numbers, list)), out)
     }
 
     ghost valid = { refl };

@@ -5,6 +5,7 @@
 mod any_box;
 pub mod any_laws;
 pub mod author;
+mod declaring;
 mod fragment_box;
 mod kept_box;
 pub mod list_laws;
