@@ -4,6 +4,7 @@ ghost use Rattle.example_sidx.specs.declared.prft.TheConstants.{PRFT};
 ghost use Rattle.std.proofs.Common.{refl, lit<};
 
 use mp4_stream::author::{About, Declared, DeclaredBox, Full, Time, U32, U64};
+use mp4_stream::box_of;
 
 /// The code: `prft`.
 pub const PRFT: u32 = 0x7072_6674;
@@ -46,14 +47,7 @@ impl DeclaredBox for Prft {
     const CODE: u32 = PRFT;
 
     fn from_content(found: (u8, u32, (u32, (u64, u64)))) -> Prft {
-        let (version, flags, (reference_track_id, (ntp_timestamp, media_time))) = found;
-        Prft {
-            version,
-            flags,
-            reference_track_id,
-            ntp_timestamp,
-            media_time,
-        }
+        box_of!(found => Prft { version, flags, (reference_track_id, (ntp_timestamp, media_time)) })
     }
 
     fn ask<Q: About<Self::Shape>>(&self, out: &mut [u8]) -> Q::Answer {

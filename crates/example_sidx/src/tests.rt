@@ -1,15 +1,18 @@
-//! Tests of what no contract says: bytes that were worked out from ISO/IEC 14496-12, 8.16.3, and not printed by this
-//! code.
+//! Tests of what no contract says: bytes that were worked out from the standards, and not printed by this code.
 
 mod laws;
 mod limits;
 mod lists;
+mod numbers;
+mod options;
 mod prft;
+mod pssh;
+mod runs;
 mod sidx_or_any;
 mod vectors;
 
 use crate::{Sidx, SidxBox, SidxEntry};
-use mp4_stream::{ByteCursor, Entries, Error, Mp4Box, ReadBox, Result as Made, WriteBox};
+use mp4_stream::{ByteCursor, Entries, Error, ReadBox, Result as Made, WriteBox};
 use std::alloc::Global;
 
 /// Version 0, with three references: the first to another index, the second to media that begins with an access point,
@@ -119,10 +122,10 @@ pub(crate) fn long(alloc: Global) -> Made<SidxBox> {
 }
 
 /// Reads the box at the front of a buffer, after its header of 8 bytes, with this size.
-pub(crate) fn read(alloc: Global, bytes: &[u8], size: u64) -> Made<SidxBox> {
+pub(crate) fn read<B: ReadBox>(alloc: Global, bytes: &[u8], size: u64) -> Made<B> {
     let mut reader = ByteCursor::new(bytes);
     reader.set_position(8);
-    SidxBox::read_box(alloc, &mut reader, size)
+    B::read_box(alloc, &mut reader, size)
 }
 
 /// The text of the error, if the outcome is invalid data; `end` if it is end of input, and `ok` if it is a value.
@@ -135,17 +138,31 @@ pub(crate) fn outcome_of<T>(outcome: &Made<T>) -> &'static str {
     }
 }
 
+/// How reading the first `length` of these bytes ends, in a box of this size.
+pub(crate) fn ending_of_cut<B: ReadBox + Drop>(
+    alloc: Global,
+    bytes: &[u8],
+    length: usize,
+    size: u64,
+) -> &'static str {
+    outcome_of(&read::<B>(alloc, &bytes[..length.min(bytes.len())], size))
+}
+
 /// How writing the box ends, by `outcome_of`.
-pub(crate) fn ending_of_write(alloc: Global, sidx: &SidxBox) -> &'static str {
-    outcome_of(&sidx.write_box(&mut Vec::new(alloc)))
+pub(crate) fn ending_of_write<B: WriteBox>(alloc: Global, value: &B) -> &'static str {
+    outcome_of(&value.write_box(&mut Vec::new(alloc)))
 }
 
 /// Whether the box is written in these bytes, and read from them.
-pub(crate) fn is_in(alloc: Global, made: Made<SidxBox>, bytes: &[u8]) -> Made<bool> {
-    let sidx = made?;
+pub(crate) fn is_in<B: ReadBox + WriteBox + PartialEq + Drop>(
+    alloc: Global,
+    made: Made<B>,
+    bytes: &[u8],
+) -> Made<bool> {
+    let value = made?;
     let mut out = Vec::new(alloc);
-    let written = sidx.write_box(&mut out)?;
-    let found = read(alloc, bytes, bytes.len() as u64)?;
+    let written = value.write_box(&mut out)?;
+    let found: B = read(alloc, bytes, bytes.len() as u64)?;
     let length = bytes.len() as u64;
-    Ok(out.as_slice() == bytes && found == sidx && written == length && sidx.box_size() == length)
+    Ok(out.as_slice() == bytes && found == value && written == length && value.box_size() == length)
 }

@@ -29,6 +29,3 @@ pub use rows::Rows;
 pub use run::{Array, Bytes, Rest};
 pub use shape::{PutShape, Shape};
 pub use signed::{I8, I16, I32};
-
-#[cfg(test)]
-mod tests;

@@ -1,6 +1,6 @@
 //! Boxes that are one byte or one entry short, and numbers that just fit or don't.
 
-use crate::tests::{LONG, SHORT, empty, ending_of_write, is_in, long, outcome_of, read, short};
+use crate::tests::{LONG, SHORT, empty, ending_of_cut, ending_of_write, is_in, long, read, short};
 use crate::{SidxBox, SidxEntry};
 use mp4_stream::{Result as Made, TryClone, WriteBox};
 use std::alloc::Global;
@@ -12,11 +12,6 @@ const UNFIT: &str = "value does not fit its field";
 
 const UNKNOWN: &str = "version must be 0 or 1";
 
-/// How reading the first `length` of these bytes ends, in a box of this size.
-fn ending_of_cut(alloc: Global, bytes: &[u8], length: usize, size: u64) -> &'static str {
-    outcome_of(&read(alloc, &bytes[..length.min(bytes.len())], size))
-}
-
 #[test]
 fn a_byte_short(rt: HostRuntime) -> Result<(), Fail> {
     for (length, size, ending) in [
@@ -26,7 +21,10 @@ fn a_byte_short(rt: HostRuntime) -> Result<(), Fail> {
         (68, 67, TOO_MANY),
         (68, 68, "ok"),
     ] {
-        assert_eq!(rt; ending_of_cut(rt.alloc(), &SHORT, length, size), ending);
+        assert_eq!(rt;
+            ending_of_cut::<SidxBox>(rt.alloc(), &SHORT, length, size),
+            ending
+        );
     }
     for (length, size, ending) in [
         (39, 76, "end"),
@@ -34,7 +32,10 @@ fn a_byte_short(rt: HostRuntime) -> Result<(), Fail> {
         (76, 75, TOO_MANY),
         (76, 76, "ok"),
     ] {
-        assert_eq!(rt; ending_of_cut(rt.alloc(), &LONG, length, size), ending);
+        assert_eq!(rt;
+            ending_of_cut::<SidxBox>(rt.alloc(), &LONG, length, size),
+            ending
+        );
     }
     Ok(())
 }
@@ -45,10 +46,19 @@ fn a_version_is_judged_once_its_flags_are_there(rt: HostRuntime) -> Result<(), F
     short[8] = 2;
     long[8] = 2;
     for (length, ending) in [(8, "end"), (9, "end"), (11, "end"), (12, UNKNOWN)] {
-        assert_eq!(rt; ending_of_cut(rt.alloc(), &short, length, 68), ending);
-        assert_eq!(rt; ending_of_cut(rt.alloc(), &short, length, 8), ending);
+        assert_eq!(rt;
+            ending_of_cut::<SidxBox>(rt.alloc(), &short, length, 68),
+            ending
+        );
+        assert_eq!(rt;
+            ending_of_cut::<SidxBox>(rt.alloc(), &short, length, 8),
+            ending
+        );
     }
-    assert_eq!(rt; ending_of_cut(rt.alloc(), &long, 76, 76), UNKNOWN);
+    assert_eq!(rt;
+        ending_of_cut::<SidxBox>(rt.alloc(), &long, 76, 76),
+        UNKNOWN
+    );
     Ok(())
 }
 
@@ -57,8 +67,14 @@ fn a_size_that_is_smaller_than_the_fields(rt: HostRuntime) -> Result<(), Fail> {
     let mut bytes = SHORT;
     bytes[31] = 0;
     for size in [0, 8, 12, 31, 32] {
-        assert_eq!(rt; ending_of_cut(rt.alloc(), &bytes, 32, size), "ok");
-        assert_eq!(rt; ending_of_cut(rt.alloc(), &bytes, 31, size), "end");
+        assert_eq!(rt;
+            ending_of_cut::<SidxBox>(rt.alloc(), &bytes, 32, size),
+            "ok"
+        );
+        assert_eq!(rt;
+            ending_of_cut::<SidxBox>(rt.alloc(), &bytes, 31, size),
+            "end"
+        );
     }
     Ok(())
 }
@@ -72,7 +88,10 @@ fn a_count_of_more(rt: HostRuntime) -> Result<(), Fail> {
         ([0xff, 4], 80, TOO_MANY),
     ] {
         [bytes[30], bytes[31]] = count;
-        assert_eq!(rt; ending_of_cut(rt.alloc(), &bytes, 68, size), ending);
+        assert_eq!(rt;
+            ending_of_cut::<SidxBox>(rt.alloc(), &bytes, 68, size),
+            ending
+        );
     }
     Ok(())
 }
@@ -186,7 +205,8 @@ fn is_kept(alloc: Global, made: Made<SidxBox>) -> Made<bool> {
     let sidx = made?;
     let mut out = Vec::new(alloc);
     let size = sidx.write_box(&mut out)?;
-    Ok(read(alloc, &out, size)? == sidx && sidx.try_clone()? == sidx)
+    let found: SidxBox = read(alloc, &out, size)?;
+    Ok(found == sidx && sidx.try_clone()? == sidx)
 }
 
 #[test]

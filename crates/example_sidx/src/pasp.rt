@@ -1,14 +1,15 @@
-//! A box without version and flags: the pixel aspect ratio (`pasp`, ISO/IEC 14496-12, 12.1.4).
+//! The pixel aspect ratio box, which has no version.
 
-ghost use Rattle.mp4_declared.specs.declared.tests.pasp.TheConstants.{PASP};
+ghost use Rattle.example_sidx.specs.declared.pasp.TheConstants.{PASP};
 ghost use Rattle.std.proofs.Common.{refl, lit<};
 
-use crate::{About, Declared, DeclaredBox, U32};
+use mp4_stream::author::{About, Declared, DeclaredBox, U32};
+use mp4_stream::box_of;
 
 /// The code: `pasp`.
 pub const PASP: u32 = 0x7061_7370;
 
-/// The shape of a pixel.
+/// The shape of a pixel (`pasp`, ISO/IEC 14496-12, 12.1.4).
 #[derive(Clone, Copy, Debug, Drop, PartialEq, Eq)]
 pub struct Pasp {
     /// The relative width.
@@ -34,11 +35,7 @@ impl DeclaredBox for Pasp {
     const CODE: u32 = PASP;
 
     fn from_content(found: (u32, u32)) -> Pasp {
-        let (h_spacing, v_spacing) = found;
-        Pasp {
-            h_spacing,
-            v_spacing,
-        }
+        box_of!(found => Pasp { h_spacing, v_spacing })
     }
 
     fn ask<Q: About<Self::Shape>>(&self, out: &mut [u8]) -> Q::Answer {

@@ -1,10 +1,12 @@
-//! The protection system specific header box.
+//! The protection system specific header box, which has keys in version 1 alone, and a run of bytes.
 
-ghost use Rattle.mp4_declared.specs.declared.tests.pssh.TheConstants.{PSSH};
+ghost use Rattle.example_sidx.specs.declared.pssh.TheConstants.{PSSH};
 ghost use Rattle.std.proofs.Common.{refl, lit<};
 
-use crate::{About, Array, Bytes, Declared, DeclaredBox, FromVersion, Full, If, Rows, U32};
-use mp4_frame::Entries;
+use mp4_stream::author::{
+    About, Array, Bytes, Declared, DeclaredBox, FromVersion, Full, If, Rows, Shape, U32,
+};
+use mp4_stream::{Entries, box_of};
 
 /// The code: `pssh`.
 pub const PSSH: u32 = 0x7073_7368;
@@ -24,8 +26,10 @@ pub struct Pssh {
     pub system_data: Entries<u8>,
 }
 
+type PsshShape = Full<2, (Array<16>, (If<FromVersion<1>, Rows<U32, 16>>, Bytes<U32>))>;
+
 impl DeclaredBox for Pssh {
-    type Shape = Full<2, (Array<16>, (If<FromVersion<1>, Rows<U32, 16>>, Bytes<U32>))>;
+    type Shape = PsshShape;
 
     ghost CODE = { PSSH };
 
@@ -46,21 +50,8 @@ impl DeclaredBox for Pssh {
 
     const CODE: u32 = PSSH;
 
-    fn from_content(
-        found: (
-            u8,
-            u32,
-            ([u8; 16], (Option<Entries<[u8; 16]>>, Entries<u8>)),
-        ),
-    ) -> Pssh {
-        let (version, flags, (system_id, (key_ids, system_data))) = found;
-        Pssh {
-            version,
-            flags,
-            system_id,
-            key_ids,
-            system_data,
-        }
+    fn from_content(found: <PsshShape as Shape>::Value) -> Pssh {
+        box_of!(found => Pssh { version, flags, (system_id, (key_ids, system_data)) })
     }
 
     fn ask<Q: About<Self::Shape>>(&self, out: &mut [u8]) -> Q::Answer {

@@ -1,8 +1,8 @@
-//! The bytes that boxes of several shapes are written in, and the boxes that bytes are read as.
+//! Boxes with keys and data, and a box without version.
 
-use crate::tests::pasp::{Pasp, PaspBox};
-use crate::tests::pssh::{Pssh, PsshBox};
-use mp4_frame::{ByteCursor, Entries, ReadBox, Result as Made, WriteBox};
+use crate::tests::{ending_of_cut, ending_of_write, is_in};
+use crate::{Pasp, PaspBox, Pssh, PsshBox};
+use mp4_stream::{Entries, Result as Made};
 use std::alloc::Global;
 use std::test::Fail;
 
@@ -47,56 +47,50 @@ fn with_keys(alloc: Global, version: u8, data: &[u8]) -> Made<PsshBox> {
     pssh(alloc, version, Some(keys), data)
 }
 
-/// Reads the box at the front of a buffer, after its header of 8 bytes.
-fn read<B: ReadBox>(alloc: Global, bytes: &[u8]) -> Made<B> {
-    let mut reader = ByteCursor::new(bytes);
-    reader.set_position(8);
-    B::read_box(alloc, &mut reader, bytes.len() as u64)
-}
-
-/// Whether the box is written in these bytes, and read from them.
-fn is_in(alloc: Global, made: Made<PsshBox>, bytes: &[u8]) -> Made<bool> {
-    let pssh = made?;
-    let mut out = Vec::new(alloc);
-    pssh.write_box(&mut out)?;
-    let found: PsshBox = read(alloc, bytes)?;
-    Ok(out.as_slice() == bytes && found == pssh)
-}
-
-/// Whether the box can be written.
-fn is_written(made: Made<PsshBox>) -> Made<bool> {
-    Ok(made?.is_writable())
-}
-
-/// Whether a box is read from these bytes.
-fn is_read(alloc: Global, bytes: &[u8]) -> bool {
-    read::<PsshBox>(alloc, bytes).is_ok()
-}
-
 #[test]
 fn pssh_is_written_and_read(rt: HostRuntime) -> Result<(), Fail> {
     let alloc = rt.alloc();
     assert!(rt; is_in(alloc, pssh(alloc, 0, None, &SHORT[32..]), &SHORT)?);
     assert!(rt; is_in(alloc, with_keys(alloc, 1, &LONG[68..]), &LONG)?);
-    assert!(rt; !is_read(alloc, &LONG[..68]));
     Ok(())
+}
+
+#[test]
+fn pssh_a_byte_short(rt: HostRuntime) -> Result<(), Fail> {
+    let keys = "count indicates more entries than could fit in the box";
+    let data = "count indicates more bytes than could fit in the box";
+    for (length, size, ending) in [
+        (31, 69, "end"),
+        (63, 69, "end"),
+        (67, 69, "end"),
+        (68, 69, "end"),
+        (69, 63, keys),
+        (69, 68, data),
+    ] {
+        assert_eq!(rt;
+            ending_of_cut::<PsshBox>(rt.alloc(), &LONG, length, size),
+            ending
+        );
+    }
+    Ok(())
+}
+
+/// How writing what was made ends.
+fn ending_of(alloc: Global, made: Made<PsshBox>) -> &'static str {
+    match made {
+        Ok(pssh) => ending_of_write(alloc, &pssh),
+        Err(_) => "out of memory",
+    }
 }
 
 #[test]
 fn keys_are_in_version_1_alone(rt: HostRuntime) -> Result<(), Fail> {
     let alloc = rt.alloc();
-    assert!(rt; !is_written(pssh(alloc, 1, None, &[]))?);
-    assert!(rt; !is_written(with_keys(alloc, 0, &[]))?);
-    assert!(rt; is_written(with_keys(alloc, 1, &[]))?);
+    let unfit = "value does not fit its field";
+    assert_eq!(rt; ending_of(alloc, pssh(alloc, 1, None, &[])), unfit);
+    assert_eq!(rt; ending_of(alloc, with_keys(alloc, 0, &[])), unfit);
+    assert_eq!(rt; ending_of(alloc, with_keys(alloc, 1, &[])), "ok");
     Ok(())
-}
-
-/// Whether the aspect ratio is written in these bytes, and read from them.
-fn is_pasp(alloc: Global, pasp: &PaspBox, bytes: &[u8]) -> Made<bool> {
-    let mut out = Vec::new(alloc);
-    pasp.write_box(&mut out)?;
-    let found: PaspBox = read(alloc, bytes)?;
-    Ok(out.as_slice() == bytes && found == *pasp)
 }
 
 #[test]
@@ -105,12 +99,7 @@ fn a_box_without_version_is_written_and_read(rt: HostRuntime) -> Result<(), Fail
         h_spacing: 0x8182_8384,
         v_spacing: 0x8586_8788,
     });
-    assert!(rt;
-        is_pasp(
-            rt.alloc(),
-            &pasp,
-            b"\0\0\0\x10pasp\x81\x82\x83\x84\x85\x86\x87\x88"
-        )?
-    );
+    let bytes = b"\0\0\0\x10pasp\x81\x82\x83\x84\x85\x86\x87\x88";
+    assert!(rt; is_in(rt.alloc(), Ok(pasp), bytes)?);
     Ok(())
 }
