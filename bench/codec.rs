@@ -13,6 +13,10 @@ extern "C" {
     fn mp4_rewrite_kept(bytes: *const u8, len: usize, out: *mut u8, room: usize) -> u64;
     fn mp4_samples_in_order(bytes: *const u8, len: usize, times: u64) -> u64;
     fn mp4_samples_by_number(bytes: *const u8, len: usize, times: u64) -> u64;
+    fn mp4_read_mfhd(bytes: *const u8, len: usize, times: u64) -> u64;
+    fn mp4_read_declared(bytes: *const u8, len: usize, times: u64) -> u64;
+    fn mp4_write_mfhd(bytes: *const u8, len: usize, times: u64) -> u64;
+    fn mp4_write_declared(bytes: *const u8, len: usize, times: u64) -> u64;
     fn mp4_member_size() -> u64;
     fn mp4_kept_member_size() -> u64;
     fn mp4_fragment_member_size() -> u64;
@@ -100,6 +104,40 @@ pub fn samples_in_order(bytes: &[u8], times: u64) -> u64 {
 pub fn samples_by_number(bytes: &[u8], times: u64) -> u64 {
     // SAFETY: the pointer and the length are those of a slice.
     unsafe { mp4_samples_by_number(bytes.as_ptr(), bytes.len(), times) }
+}
+
+/// An `mfhd` of the codec, or the same box as one that is declared.
+#[derive(Clone, Copy)]
+pub enum Mfhd {
+    ByHand,
+    Declared,
+}
+
+impl Mfhd {
+    /// Reads a stream of `mfhd` boxes so many times, each time into a new list. Returns the number of all.
+    pub fn read(self, bytes: &[u8], times: u64) -> u64 {
+        let (start, len) = (bytes.as_ptr(), bytes.len());
+        // SAFETY: the pointer and the length are those of a slice.
+        unsafe {
+            match self {
+                Mfhd::ByHand => mp4_read_mfhd(start, len, times),
+                Mfhd::Declared => mp4_read_declared(start, len, times),
+            }
+        }
+    }
+
+    /// Reads a stream of `mfhd` boxes once, and writes them so many times. Returns the sum of the lengths and of the last
+    /// bytes.
+    pub fn write(self, bytes: &[u8], times: u64) -> u64 {
+        let (start, len) = (bytes.as_ptr(), bytes.len());
+        // SAFETY: the pointer and the length are those of a slice.
+        unsafe {
+            match self {
+                Mfhd::ByHand => mp4_write_mfhd(start, len, times),
+                Mfhd::Declared => mp4_write_declared(start, len, times),
+            }
+        }
+    }
 }
 
 /// The number of bytes of a member of a list.

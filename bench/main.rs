@@ -4,6 +4,7 @@
 mod best;
 mod boxes;
 mod codec;
+mod declared;
 mod naive;
 mod report;
 mod samples;
@@ -12,7 +13,8 @@ mod subject;
 mod timing;
 
 use boxes::{AnyBox, KeptBox};
-use report::{Line, SampleLine};
+use declared::DeclaredTimes;
+use report::{DeclaredLine, Line, SampleLine};
 use samples::SampleTimes;
 use std::env;
 use std::hint::black_box;
@@ -30,6 +32,9 @@ const STREAM: &str = "--stream";
 /// The word for a process that measures the samples of a track.
 const SAMPLES: &str = "--samples";
 
+/// The word for a process that measures a box that is declared.
+const DECLARED: &str = "--declared";
+
 fn main() {
     let mut arguments = env::args().skip(1);
     let rounds: usize = arguments
@@ -41,6 +46,7 @@ fn main() {
     match &lines[..] {
         [word, number] if word == STREAM => measure(number.parse().expect("a number"), rounds),
         [word] if word == SAMPLES => measure_samples(rounds),
+        [word] if word == DECLARED => measure_declared(rounds),
         _ => print_all(rounds, &lines),
     }
 }
@@ -60,6 +66,14 @@ fn measure(number: usize, rounds: usize) {
 fn measure_samples(rounds: usize) {
     let times = samples::measure(rounds.div_ceil(4));
     for seconds in times.in_order.iter().chain(&times.by_number) {
+        println!("{seconds:e}");
+    }
+}
+
+/// Measures a box that is declared beside one by hand, and prints the times in seconds.
+fn measure_declared(rounds: usize) {
+    let times = declared::measure(rounds);
+    for seconds in times.read.iter().chain(&times.write) {
         println!("{seconds:e}");
     }
 }
@@ -100,16 +114,26 @@ fn measured_samples(rounds: usize) -> SampleTimes {
     }
 }
 
+fn measured_declared(rounds: usize) -> DeclaredTimes {
+    let mut next = seconds_of(&[rounds.to_string(), DECLARED.to_owned()]);
+    DeclaredTimes {
+        read: [next(), next()],
+        write: [next(), next()],
+    }
+}
+
 fn print_all(rounds: usize, lines: &[String]) {
     let streams: Vec<Stream> = streams::all();
     let mut all: Vec<Line> = streams.iter().map(Line::new).collect();
     let mut samples = SampleLine::default();
+    let mut declared = DeclaredLine::default();
     for run in 1..=RUNS {
         eprintln!("run {run} of {RUNS}");
         for (number, line) in all.iter_mut().enumerate() {
             line.runs.push(measured(number, rounds));
         }
         samples.runs.push(measured_samples(rounds));
+        declared.runs.push(measured_declared(rounds));
     }
     for line in lines {
         println!("- {line}");
@@ -129,5 +153,5 @@ fn print_all(rounds: usize, lines: &[String]) {
         size_of::<KeptBox>(),
         codec::fragment_member_size(),
     );
-    report::print(&all, &samples);
+    report::print(&all, &samples, &declared);
 }

@@ -1,5 +1,6 @@
 //! The tables of results.
 
+use crate::declared::{self, DeclaredTimes};
 use crate::samples::{SampleTimes, COUNT};
 use crate::streams::Stream;
 use crate::timing::Times;
@@ -17,6 +18,12 @@ pub struct Line<'a> {
 #[derive(Default)]
 pub struct SampleLine {
     pub runs: Vec<SampleTimes>,
+}
+
+/// A box that is declared beside one by hand, and the times of both in each run.
+#[derive(Default)]
+pub struct DeclaredLine {
+    pub runs: Vec<DeclaredTimes>,
 }
 
 /// The ratios of all runs, from the least to the greatest.
@@ -140,7 +147,7 @@ fn print_head(title: &str) {
     println!("|---|--:|--:|--:|--:|--:|--:|--:|--:|--:|");
 }
 
-pub fn print(lines: &[Line], samples: &SampleLine) {
+pub fn print(lines: &[Line], samples: &SampleLine, declared: &DeclaredLine) {
     let (tables, small): (Vec<&Line>, Vec<&Line>) =
         lines.iter().partition(|line| line.stream.entries.is_some());
     print_head(&format!("{} entries", grouped(SHOWN as usize)));
@@ -161,6 +168,7 @@ pub fn print(lines: &[Line], samples: &SampleLine) {
     print_other_lengths(&tables);
     print_each(&small);
     samples.print();
+    declared.print();
     let missed: Vec<String> = lines.iter().flat_map(Line::missed).collect();
     let missed = if missed.is_empty() {
         "none".to_owned()
@@ -237,5 +245,21 @@ impl SampleLine {
         .text();
         let [codec, best, naive] = [0, 1, 2].map(|way| self.nanos(|run| run.by_number[way]));
         println!("| each by its number, from an index | {codec} | {best} | {ratio} | {naive} |");
+    }
+}
+
+impl DeclaredLine {
+    /// The least times of both in microseconds, and the ratio.
+    fn columns(&self, times: impl Fn(&DeclaredTimes) -> [f64; 2]) -> String {
+        let least = |way: usize| self.runs.iter().map(|run| times(run)[way]).fold(f64::MAX, f64::min);
+        let ratio = Ratios::new(self.runs.iter().map(|run| times(run)[1] / times(run)[0])).text();
+        format!("{} | {} | {ratio}", micros(least(0)), micros(least(1)))
+    }
+
+    fn print(&self) {
+        println!("\n| {} `mfhd`, read and written one by one | by hand | declared | ratio |", grouped(declared::COUNT as usize));
+        println!("|---|--:|--:|--:|");
+        println!("| reading | {} |", self.columns(|run| run.read));
+        println!("| writing | {} |", self.columns(|run| run.write));
     }
 }

@@ -1,7 +1,7 @@
 //! The timing of all ways over a stream, in rounds. Before each timed run of passes is one that is not timed.
 
 use crate::boxes::{checksum, AnyBox, KeptBox, Member};
-use crate::codec::{read_fragments, Codec};
+use crate::codec::read_fragments;
 use crate::subject::{List, Subject};
 use crate::{best, naive};
 use std::hint::black_box;
@@ -61,10 +61,10 @@ pub struct CodecWrite {
 
 impl CodecWrite {
     /// With as many more writings as take about the time of a round, and not fewer than four.
-    pub fn of(codec: Codec, bytes: &[u8]) -> CodecWrite {
+    pub fn of(write: impl Fn(u64) -> u64) -> CodecWrite {
         let least = |times| {
             (0..5)
-                .map(|_| seconds_inside(1, || codec.write(bytes, times)))
+                .map(|_| seconds_inside(1, || write(times)))
                 .fold(f64::MAX, f64::min)
         };
         let pass = ((least(9) - least(1)) / 8.0).max(1e-7);
@@ -75,16 +75,16 @@ impl CodecWrite {
         }
     }
 
-    fn time(&mut self, codec: Codec, bytes: &[u8]) {
-        black_box(codec.write(bytes, 1));
-        let once = seconds_inside(1, || codec.write(bytes, 1));
-        let more = seconds_inside(1, || codec.write(bytes, 1 + self.more));
+    pub fn time(&mut self, write: impl Fn(u64) -> u64) {
+        black_box(write(1));
+        let once = seconds_inside(1, || write(1));
+        let more = seconds_inside(1, || write(1 + self.more));
         self.least_once = self.least_once.min(once);
         self.least_more = self.least_more.min(more);
     }
 
     /// The seconds of one writing. Stops the run where the machine was so uneven that more writings took less time.
-    fn seconds(self) -> f64 {
+    pub fn seconds(self) -> f64 {
         let difference = self.least_more - self.least_once;
         assert!(
             difference > 0.0,
@@ -113,7 +113,7 @@ fn seconds_inside(times: u64, passes: impl FnOnce() -> u64) -> f64 {
 }
 
 /// The same, after a pass that is not timed.
-fn seconds_of_codec(times: u64, passes: impl Fn(u64) -> u64) -> f64 {
+pub fn seconds_of_codec(times: u64, passes: impl Fn(u64) -> u64) -> f64 {
     black_box(passes(1));
     seconds_inside(times, || passes(times))
 }
@@ -176,7 +176,7 @@ fn time_writing(way: Way, s: &Subject, times: u64) -> f64 {
 }
 
 /// As many passes as take about the time of a round, by the least time of a pass so far.
-fn passes(least: f64) -> u64 {
+pub fn passes(least: f64) -> u64 {
     if least == f64::MAX {
         1
     } else {
@@ -192,7 +192,7 @@ fn round_of(s: &Subject, times: &mut Times, codec_write: &mut CodecWrite, round:
         let read = time_reading(way, s, passes(times.read[i]));
         times.read[i] = times.read[i].min(read);
         if matches!(way, Way::Codec) {
-            codec_write.time(s.codec, &s.stream.bytes);
+            codec_write.time(|times| s.codec.write(&s.stream.bytes, times));
         } else {
             let write = time_writing(way, s, passes(times.write[i]));
             times.write[i] = times.write[i].min(write);
@@ -219,7 +219,7 @@ pub fn measure(s: &Subject, rounds: usize) -> Times {
         write: [f64::MAX; 4],
         small: [f64::MAX; 3],
     };
-    let mut codec_write = CodecWrite::of(s.codec, &s.stream.bytes);
+    let mut codec_write = CodecWrite::of(|times| s.codec.write(&s.stream.bytes, times));
     let rounds = if s.stream.bytes.len() > LARGE {
         rounds_of_large(rounds)
     } else {

@@ -45,10 +45,15 @@ fn repeat(boxes: u32, mut put: impl FnMut(&mut Builder, &mut Numbers, u32)) -> V
     b.bytes
 }
 
+/// So many `mfhd` boxes.
+pub fn mfhds(boxes: u32) -> Vec<u8> {
+    repeat(boxes, |b, _, i| mfhd(b, i + 1))
+}
+
 /// A stream of so many boxes for each type, with its name.
 pub fn of_one_type(boxes: u32) -> Vec<(&'static str, Vec<u8>)> {
     vec![
-        ("mfhd", repeat(boxes, |b, _, i| mfhd(b, i + 1))),
+        ("mfhd", mfhds(boxes)),
         (
             "tfhd, three defaults",
             repeat(boxes, |b, n, _| tfhd(b, 1, [n.next(), n.next(), n.next()])),

@@ -80,6 +80,11 @@ fn table(entries: u32, kind: usize) -> Stream {
     stream
 }
 
+/// So many `mfhd` boxes.
+pub fn headers(boxes: u32) -> Vec<u8> {
+    fragments::mfhds(boxes)
+}
+
 /// Streams of boxes of one type, of several types in turn, and the contents of a `moof` and of a `moov`.
 fn small() -> Vec<Stream> {
     let mut streams: Vec<Stream> = fragments::of_one_type(8_000)

@@ -8,6 +8,7 @@ ghost use Rattle.mp4_stream.specs.KeptBox.{format_kept, known_kept, reading_kept
 ghost use Rattle.mp4_stream.specs.declared.any_box.AnyBox.{AnyBox};
 ghost use Rattle.mp4_stream.specs.declared.kept_box.KeptBox.{KeptBox};
 
+mod declared;
 mod samples;
 
 use mp4_stream::{

@@ -1,0 +1,42 @@
+//! The timing of a box that is declared, beside the same box by hand. Both are the codec's.
+
+use crate::codec::Mfhd;
+use crate::streams::headers;
+use crate::timing::{passes, seconds_of_codec, CodecWrite};
+
+/// The number of boxes.
+pub const COUNT: u32 = 8_000;
+
+/// The ways, in the order of the times.
+const WAYS: [Mfhd; 2] = [Mfhd::ByHand, Mfhd::Declared];
+
+/// The least seconds of one pass: by hand, and declared.
+pub struct DeclaredTimes {
+    pub read: [f64; 2],
+    pub write: [f64; 2],
+}
+
+/// The least times of so many rounds.
+pub fn measure(rounds: usize) -> DeclaredTimes {
+    let bytes = headers(COUNT);
+    for way in WAYS {
+        assert_eq!(way.read(&bytes, 1), u64::from(COUNT), "the boxes are read");
+        let last = u64::from(bytes[bytes.len() - 1]);
+        let written = way.write(&bytes, 1);
+        assert_eq!(written, bytes.len() as u64 + last, "the boxes are written");
+    }
+    let mut read = [f64::MAX; 2];
+    let mut write = WAYS.map(|way| CodecWrite::of(|times| way.write(&bytes, times)));
+    for round in 0..rounds {
+        for turn in 0..WAYS.len() {
+            let i = (round + turn) % WAYS.len();
+            let seconds = seconds_of_codec(passes(read[i]), |times| WAYS[i].read(&bytes, times));
+            read[i] = read[i].min(seconds);
+            write[i].time(|times| WAYS[i].write(&bytes, times));
+        }
+    }
+    DeclaredTimes {
+        read,
+        write: write.map(CodecWrite::seconds),
+    }
+}

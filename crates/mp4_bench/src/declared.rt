@@ -1,0 +1,116 @@
+//! A box that is declared beside the same box by hand: both are read, and written, a number of times.
+
+ghost use Rattle.mp4_bench.specs.declared.declared.TheConstants.{MFHE};
+ghost use Rattle.std.proofs.Common.{refl, lit<};
+
+use mp4_stream::author::{About, Declared, DeclaredBox, Full, U32};
+use mp4_stream::{BoxHeader, ByteCursor, MfhdBox, ReadBox, Result, WriteBox, box_of};
+use std::alloc::Global;
+
+/// The code: `mfhe`. `mfhd` is the codec's.
+const MFHE: u32 = 0x6d66_6865;
+
+/// The fields of an `mfhd` (ISO/IEC 14496-12, 8.8.5).
+#[derive(Clone, Copy, Debug, Drop, PartialEq, Eq)]
+struct Mfhe {
+    /// 0.
+    version: u8,
+    /// 24 bits.
+    flags: u32,
+    /// The number of the fragment.
+    sequence_number: u32,
+}
+
+impl DeclaredBox for Mfhe {
+    type Shape = Full<1, U32>;
+
+    ghost CODE = { MFHE };
+
+    ghost layout = { record {
+      content = λ v. (v.version, v.flags, v.sequence_number);
+      value = λ x. record { version = x.0; flags = x.1; sequence_number = x.2 };
+      back = λ v. refl;
+      again = λ x. refl;
+      coded = lit< tt;
+      own = refl;
+    } };
+
+    const CODE: u32 = MFHE;
+
+    fn from_content(found: (u8, u32, u32)) -> Mfhe {
+        box_of!(found => Mfhe { version, flags, sequence_number })
+    }
+
+    fn ask<Q: About<Self::Shape>>(&self, out: &mut [u8]) -> Q::Answer {
+        Q::ask((self.version, self.flags, self.sequence_number), out)
+    }
+
+    ghost valid = { refl };
+}
+
+/// The boxes of a buffer of boxes of 16 bytes, whatever their names.
+fn read_all<B: ReadBox + Drop>(alloc: Global, bytes: &[u8]) -> Result<Vec<B>> {
+    let mut boxes = Vec::new(alloc);
+    let mut reader = ByteCursor::new(bytes);
+    for _ in 0..bytes.len() / 16 {
+        let header = BoxHeader::read(&mut reader)?;
+        boxes.push(B::read_box(alloc, &mut reader, header.size)?)?;
+    }
+    Ok(boxes)
+}
+
+/// How many boxes there are in `times` readings.
+fn read_times<B: ReadBox + Drop>(alloc: Global, bytes: &[u8], times: u64) -> Result<u64> {
+    let mut sum: u64 = 0;
+    for _ in 0..times {
+        let boxes = read_all::<B>(alloc, bytes)?;
+        sum = sum.wrapping_add(boxes.len() as u64);
+    }
+    Ok(sum)
+}
+
+/// Reads the boxes once, and writes them `times` times. The sum of the lengths and of the last bytes.
+fn write_times<B: ReadBox + WriteBox + Drop>(
+    alloc: Global,
+    bytes: &[u8],
+    times: u64,
+) -> Result<u64> {
+    let boxes = read_all::<B>(alloc, bytes)?;
+    let mut sum: u64 = 0;
+    for _ in 0..times {
+        let mut out = Vec::new(alloc);
+        for value in &boxes {
+            sum = sum.wrapping_add(value.write_box(&mut out)?);
+        }
+        if let Some(last) = out.last() {
+            sum = sum.wrapping_add(u64::from(*last));
+        }
+    }
+    Ok(sum)
+}
+
+/// Reads a buffer of `mfhd` boxes of 16 bytes `times` times, each time into a new list, and returns the number of all;
+/// `u64::MAX` after an error.
+#[unsafe(no_mangle)]
+pub extern "C" fn mp4_read_mfhd(alloc: Global, bytes: &[u8], times: u64) -> u64 {
+    read_times::<MfhdBox>(alloc, bytes, times).unwrap_or(u64::MAX)
+}
+
+/// The same, each as a box that is declared.
+#[unsafe(no_mangle)]
+pub extern "C" fn mp4_read_declared(alloc: Global, bytes: &[u8], times: u64) -> u64 {
+    read_times::<Declared<Mfhe>>(alloc, bytes, times).unwrap_or(u64::MAX)
+}
+
+/// Reads a buffer of `mfhd` boxes of 16 bytes once and writes them `times` times, each time into a new vector. Returns
+/// the sum of the lengths and of the last bytes; `u64::MAX` after an error.
+#[unsafe(no_mangle)]
+pub extern "C" fn mp4_write_mfhd(alloc: Global, bytes: &[u8], times: u64) -> u64 {
+    write_times::<MfhdBox>(alloc, bytes, times).unwrap_or(u64::MAX)
+}
+
+/// The same, each as a box that is declared, under another name.
+#[unsafe(no_mangle)]
+pub extern "C" fn mp4_write_declared(alloc: Global, bytes: &[u8], times: u64) -> u64 {
+    write_times::<Declared<Mfhe>>(alloc, bytes, times).unwrap_or(u64::MAX)
+}
