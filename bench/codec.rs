@@ -114,7 +114,8 @@ pub enum Mfhd {
 }
 
 impl Mfhd {
-    /// Reads a stream of `mfhd` boxes so many times, each time into a new list. Returns the number of all.
+    /// Reads a stream of `mfhd` boxes so many times, each time into a new list, of which the last box is written. Returns
+    /// the number of all and the sum of the last bytes.
     pub fn read(self, bytes: &[u8], times: u64) -> u64 {
         let (start, len) = (bytes.as_ptr(), bytes.len());
         // SAFETY: the pointer and the length are those of a slice.

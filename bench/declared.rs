@@ -20,8 +20,9 @@ pub struct DeclaredTimes {
 pub fn measure(rounds: usize) -> DeclaredTimes {
     let bytes = headers(COUNT);
     for way in WAYS {
-        assert_eq!(way.read(&bytes, 1), u64::from(COUNT), "the boxes are read");
         let last = u64::from(bytes[bytes.len() - 1]);
+        let read = way.read(&bytes, 1);
+        assert_eq!(read, u64::from(COUNT) + last, "the boxes are read");
         let written = way.write(&bytes, 1);
         assert_eq!(written, bytes.len() as u64 + last, "the boxes are written");
     }

@@ -59,11 +59,22 @@ fn read_all<B: ReadBox + Drop>(alloc: Global, bytes: &[u8]) -> Result<Vec<B>> {
     Ok(boxes)
 }
 
-/// How many boxes there are in `times` readings.
-fn read_times<B: ReadBox + Drop>(alloc: Global, bytes: &[u8], times: u64) -> Result<u64> {
+/// Reads the boxes `times` times. How many they are, and the sum of what is written last of each reading.
+fn read_times<B: ReadBox + WriteBox + Drop>(
+    alloc: Global,
+    bytes: &[u8],
+    times: u64,
+) -> Result<u64> {
     let mut sum: u64 = 0;
     for _ in 0..times {
         let boxes = read_all::<B>(alloc, bytes)?;
+        let mut out = Vec::new(alloc);
+        if let Some(last) = boxes.last() {
+            last.write_box(&mut out)?;
+        }
+        if let Some(last) = out.last() {
+            sum = sum.wrapping_add(u64::from(*last));
+        }
         sum = sum.wrapping_add(boxes.len() as u64);
     }
     Ok(sum)
@@ -89,8 +100,8 @@ fn write_times<B: ReadBox + WriteBox + Drop>(
     Ok(sum)
 }
 
-/// Reads a buffer of `mfhd` boxes of 16 bytes `times` times, each time into a new list, and returns the number of all;
-/// `u64::MAX` after an error.
+/// Reads a buffer of `mfhd` boxes of 16 bytes `times` times, each time into a new list, of which the last box is written.
+/// Returns the number of all and the sum of the last bytes; `u64::MAX` after an error.
 #[unsafe(no_mangle)]
 pub extern "C" fn mp4_read_mfhd(alloc: Global, bytes: &[u8], times: u64) -> u64 {
     read_times::<MfhdBox>(alloc, bytes, times).unwrap_or(u64::MAX)
