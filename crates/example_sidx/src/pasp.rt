@@ -2,9 +2,10 @@
 
 ghost use Rattle.example_sidx.specs.declared.pasp.TheConstants.{PASP};
 ghost use Rattle.std.proofs.Common.{refl, lit<};
+ghost use Rattle.mp4_stream.specs.Author.{layout_of};
 
-use mp4_stream::author::{About, Declared, DeclaredBox, U32};
-use mp4_stream::box_of;
+use mp4_stream::author::{About, Declared, DeclaredBox, Last, U32};
+use mp4_stream::{box_of, parts_of};
 
 /// The code: `pasp`.
 pub const PASP: u32 = 0x7061_7370;
@@ -19,27 +20,22 @@ pub struct Pasp {
 }
 
 impl DeclaredBox for Pasp {
-    type Shape = (U32, U32);
+    ghost use Rattle.example_sidx.specs.contracts.pasp.Pasp.{struct};
+
+    type Shape = (U32, Last<U32>);
 
     ghost CODE = { PASP };
 
-    ghost layout = { record {
-      content = λ v. (v.h_spacing, v.v_spacing);
-      value = λ x. record { h_spacing = x.0; v_spacing = x.1 };
-      back = λ v. refl;
-      again = λ x. refl;
-      coded = lit< tt;
-      own = refl;
-    } };
+    ghost layout = { layout_of struct (λ _. tt) (λ _. refl) (lit< tt) refl };
 
     const CODE: u32 = PASP;
 
-    fn from_content(found: (u32, u32)) -> Pasp {
+    fn from_content(found: (u32, (u32, ()))) -> Pasp {
         box_of!(found => Pasp { h_spacing, v_spacing })
     }
 
     fn ask<Q: About<Self::Shape>>(&self, out: &mut [u8]) -> Q::Answer {
-        Q::ask((self.h_spacing, self.v_spacing), out)
+        Q::ask(parts_of!(self => h_spacing, v_spacing), out)
     }
 
     ghost valid = { refl };

@@ -2,9 +2,10 @@
 
 ghost use Rattle.example_sidx.specs.declared.prft.TheConstants.{PRFT};
 ghost use Rattle.std.proofs.Common.{refl, lit<};
+ghost use Rattle.mp4_stream.specs.Author.{layout_of};
 
-use mp4_stream::author::{About, Declared, DeclaredBox, Full, Time, U32, U64};
-use mp4_stream::box_of;
+use mp4_stream::author::{About, Declared, DeclaredBox, Full, Last, Time, U32, U64};
+use mp4_stream::{box_of, parts_of};
 
 /// The code: `prft`.
 pub const PRFT: u32 = 0x7072_6674;
@@ -25,37 +26,23 @@ pub struct Prft {
 }
 
 impl DeclaredBox for Prft {
-    type Shape = Full<2, (U32, (U64, Time))>;
+    ghost use Rattle.example_sidx.specs.contracts.prft.Prft.{struct};
+
+    type Shape = Full<2, (U32, (U64, Last<Time>))>;
 
     ghost CODE = { PRFT };
 
-    ghost layout = { record {
-      content = λ v. (v.version, v.flags, (v.reference_track_id, (v.ntp_timestamp, v.media_time)));
-      value = λ x. record {
-        version = x.0;
-        flags = x.1;
-        reference_track_id = x.2.0;
-        ntp_timestamp = x.2.1.0;
-        media_time = x.2.1.1;
-      };
-      back = λ v. refl;
-      again = λ x. refl;
-      coded = lit< tt;
-      own = refl;
-    } };
+    ghost layout = { layout_of struct (λ _. tt) (λ _. refl) (lit< tt) refl };
 
     const CODE: u32 = PRFT;
 
-    fn from_content(found: (u8, u32, (u32, (u64, u64)))) -> Prft {
-        box_of!(found => Prft { version, flags, (reference_track_id, (ntp_timestamp, media_time)) })
+    fn from_content(found: (u8, (u32, (u32, (u64, (u64, ())))))) -> Prft {
+        box_of!(found => Prft { version, flags, reference_track_id, ntp_timestamp, media_time })
     }
 
     fn ask<Q: About<Self::Shape>>(&self, out: &mut [u8]) -> Q::Answer {
-        let times = (self.ntp_timestamp, self.media_time);
-        Q::ask(
-            (self.version, self.flags, (self.reference_track_id, times)),
-            out,
-        )
+        let parts = parts_of!(self => version, flags, reference_track_id, ntp_timestamp, media_time);
+        Q::ask(parts, out)
     }
 
     ghost valid = { refl };

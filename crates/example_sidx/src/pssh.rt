@@ -2,11 +2,12 @@
 
 ghost use Rattle.example_sidx.specs.declared.pssh.TheConstants.{PSSH};
 ghost use Rattle.std.proofs.Common.{refl, lit<};
+ghost use Rattle.mp4_stream.specs.Author.{layout_of};
 
 use mp4_stream::author::{
-    About, Array, Bytes, Declared, DeclaredBox, FromVersion, Full, If, Rows, Shape, U32,
+    About, Array, Bytes, Declared, DeclaredBox, FromVersion, Full, If, Last, Rows, Shape, U32,
 };
-use mp4_stream::{Entries, box_of};
+use mp4_stream::{Entries, box_of, parts_of};
 
 /// The code: `pssh`.
 pub const PSSH: u32 = 0x7073_7368;
@@ -26,32 +27,23 @@ pub struct Pssh {
     pub system_data: Entries<u8>,
 }
 
-type PsshShape = Full<2, (Array<16>, (If<FromVersion<1>, Rows<U32, 16>>, Bytes<U32>))>;
+type Keys = If<FromVersion<1>, Rows<U32, 16>>;
+
+type PsshShape = Full<2, (Array<16>, (Keys, Last<Bytes<U32>>))>;
 
 impl DeclaredBox for Pssh {
+    ghost use Rattle.example_sidx.specs.contracts.pssh.Pssh.{struct};
+
     type Shape = PsshShape;
 
     ghost CODE = { PSSH };
 
-    ghost layout = { record {
-      content = λ v. (v.version, v.flags, (v.system_id, (v.key_ids, v.system_data)));
-      value = λ x. record {
-        version = x.0;
-        flags = x.1;
-        system_id = x.2.0;
-        key_ids = x.2.1.0;
-        system_data = x.2.1.1;
-      };
-      back = λ v. refl;
-      again = λ x. refl;
-      coded = lit< tt;
-      own = refl;
-    } };
+    ghost layout = { layout_of struct (λ _. tt) (λ _. refl) (lit< tt) refl };
 
     const CODE: u32 = PSSH;
 
     fn from_content(found: <PsshShape as Shape>::Value) -> Pssh {
-        box_of!(found => Pssh { version, flags, (system_id, (key_ids, system_data)) })
+        box_of!(found => Pssh { version, flags, system_id, key_ids, system_data })
     }
 
     fn ask<Q: About<Self::Shape>>(&self, out: &mut [u8]) -> Q::Answer {
@@ -59,8 +51,8 @@ impl DeclaredBox for Pssh {
             Some(key_ids) => Some(key_ids.as_slice()),
             None => None,
         };
-        let rest = (key_ids, self.system_data.as_slice());
-        Q::ask((self.version, self.flags, (self.system_id, rest)), out)
+        let parts = parts_of!(self => version, flags, system_id, = key_ids, system_data.as_slice());
+        Q::ask(parts, out)
     }
 
     ghost valid = { refl };

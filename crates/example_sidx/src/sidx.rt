@@ -2,13 +2,13 @@
 
 ghost use Rattle.example_sidx.specs.declared.sidx.TheConstants.{SIDX};
 ghost use Rattle.std.proofs.Common.{refl, lit<};
-ghost use Rattle.std.specs.Prelude.{◌==◌, [], ◌∷◌};
-ghost use Rattle.mp4_stream.specs.Author.{bit, flag_back, flag_fits};
+ghost use Rattle.std.specs.Prelude.{[], ◌∷◌};
+ghost use Rattle.mp4_stream.specs.Author.{layout_of, packed, flag, unsigned};
 
 use mp4_stream::author::{
-    About, Declared, DeclaredBox, EntryLayout, Full, List, Shape, Time, U16, U32, Zeros,
+    About, Declared, DeclaredBox, EntryLayout, Full, Last, List, Reserved, Shape, Time, U16, U32,
 };
-use mp4_stream::{Entries, Result, TryClone, box_of, entry_of, numbers_of};
+use mp4_stream::{Entries, Result, TryClone, box_of, entry_of, numbers_of, parts_of};
 
 /// The code: `sidx`.
 pub const SIDX: u32 = 0x7369_6478;
@@ -31,28 +31,10 @@ pub struct SidxEntry {
 }
 
 impl EntryLayout<6, 12> for SidxEntry {
-    ghost entry = { record {
-      widths = 1 ∷ 31 ∷ 32 ∷ 1 ∷ 3 ∷ 28 ∷ [];
-      value = λ n. record {
-        reference_type = n 0 == 1;
-        referenced_size = n 1;
-        subsegment_duration = n 2;
-        starts_with_sap = n 3 == 1;
-        sap_type = n 4;
-        sap_delta_time = n 5;
-      };
-      numbers = λ e. bit e.reference_type ∷ e.referenced_size ∷ e.subsegment_duration ∷ bit e.starts_with_sap
-          ∷ e.sap_type ∷ e.sap_delta_time ∷ [];
-    } };
+    ghost use Rattle.example_sidx.specs.contracts.sidx.SidxEntry.{struct};
 
-    ghost entry_laws = { record {
-      long = refl;
-      fields = refl;
-      some = lit< tt;
-      back = λ e i. record e
-          { reference_type = flag_back e.reference_type i; starts_with_sap = flag_back e.starts_with_sap i };
-      fit = λ n small. (flag_fits (n 0 == 1), (small 1, (small 2, (flag_fits (n 3 == 1), (small 4, (small 5, tt))))));
-    } };
+    ghost layout = { packed (flag ∷ unsigned 31 ∷ unsigned 32 ∷ flag ∷ unsigned 3 ∷ unsigned 28 ∷ []) struct.as_values
+        (λ v. struct.make v tt) (λ _. refl) (λ _. refl) refl };
 
     fn widths() -> [u8; 6] {
         [1, 31, 32, 1, 3, 28]
@@ -91,46 +73,31 @@ pub struct Sidx {
     pub entries: Entries<SidxEntry>,
 }
 
-type Numbers = ((U32, U32), (Time, Time));
+type References = Reserved<2, Last<List<U16, SidxEntry, 6, 12>>>;
 
 /// What the box holds: version, flags, numbers, two reserved bytes, a count of 16 bits, and that many references.
-pub type SidxShape = Full<2, (Numbers, (Zeros<2>, List<U16, SidxEntry, 6, 12>))>;
+pub type SidxShape = Full<2, (U32, (U32, (Time, (Time, References))))>;
 
 impl DeclaredBox for Sidx {
+    ghost use Rattle.example_sidx.specs.contracts.sidx.Sidx.{struct};
+
     type Shape = SidxShape;
 
     const CODE: u32 = SIDX;
 
     ghost CODE = { SIDX };
 
-    ghost layout = { record {
-      content = λ v. let times = (v.earliest_presentation_time, v.first_offset) in
-          (v.version, v.flags, (((v.reference_id, v.timescale), times), (tt, v.entries)));
-      value = λ x. record {
-        version = x.0;
-        flags = x.1;
-        reference_id = x.2.0.0.0;
-        timescale = x.2.0.0.1;
-        earliest_presentation_time = x.2.0.1.0;
-        first_offset = x.2.0.1.1;
-        entries = x.2.1.1;
-      };
-      back = λ v. refl;
-      again = λ x. refl;
-      coded = lit< tt;
-      own = refl;
-    } };
+    ghost layout = { layout_of struct (λ _. tt) (λ _. refl) (lit< tt) refl };
 
     fn from_content(found: <SidxShape as Shape>::Value) -> Sidx {
-        box_of!(found => Sidx { version, flags, (((reference_id, timescale),
-            (earliest_presentation_time, first_offset)), (_, entries)) })
+        box_of!(found => Sidx { version, flags, reference_id, timescale, earliest_presentation_time,
+            first_offset, entries })
     }
 
     fn ask<Q: About<Self::Shape>>(&self, out: &mut [u8]) -> Q::Answer {
-        let times = (self.earliest_presentation_time, self.first_offset);
-        let numbers = ((self.reference_id, self.timescale), times);
-        let list = ((), self.entries.as_slice());
-        Q::ask((self.version, self.flags, (numbers, list)), out)
+        let parts = parts_of!(self => version, flags, reference_id, timescale,
+            earliest_presentation_time, first_offset, entries.as_slice());
+        Q::ask(parts, out)
     }
 
     ghost valid = { refl };

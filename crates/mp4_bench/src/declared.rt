@@ -2,9 +2,10 @@
 
 ghost use Rattle.mp4_bench.specs.declared.declared.TheConstants.{MFHE};
 ghost use Rattle.std.proofs.Common.{refl, lit<};
+ghost use Rattle.mp4_stream.specs.Author.{layout_of};
 
-use mp4_stream::author::{About, Declared, DeclaredBox, Full, U32};
-use mp4_stream::{BoxHeader, ByteCursor, MfhdBox, ReadBox, Result, WriteBox, box_of};
+use mp4_stream::author::{About, Declared, DeclaredBox, Full, Last, U32};
+use mp4_stream::{BoxHeader, ByteCursor, MfhdBox, ReadBox, Result, WriteBox, box_of, parts_of};
 use std::alloc::Global;
 
 /// The code: `mfhe`. `mfhd` is the codec's.
@@ -22,27 +23,22 @@ struct Mfhe {
 }
 
 impl DeclaredBox for Mfhe {
-    type Shape = Full<1, U32>;
+    ghost use Rattle.mp4_bench.specs.contracts.declared.Mfhe.{struct};
+
+    type Shape = Full<1, Last<U32>>;
 
     ghost CODE = { MFHE };
 
-    ghost layout = { record {
-      content = λ v. (v.version, v.flags, v.sequence_number);
-      value = λ x. record { version = x.0; flags = x.1; sequence_number = x.2 };
-      back = λ v. refl;
-      again = λ x. refl;
-      coded = lit< tt;
-      own = refl;
-    } };
+    ghost layout = { layout_of struct (λ _. tt) (λ _. refl) (lit< tt) refl };
 
     const CODE: u32 = MFHE;
 
-    fn from_content(found: (u8, u32, u32)) -> Mfhe {
+    fn from_content(found: (u8, (u32, (u32, ())))) -> Mfhe {
         box_of!(found => Mfhe { version, flags, sequence_number })
     }
 
     fn ask<Q: About<Self::Shape>>(&self, out: &mut [u8]) -> Q::Answer {
-        Q::ask((self.version, self.flags, self.sequence_number), out)
+        Q::ask(parts_of!(self => version, flags, sequence_number), out)
     }
 
     ghost valid = { refl };

@@ -1,7 +1,7 @@
 -- An entry of a list that is declared: fields of so many bits each, one after the other.
-use Rattle.std.specs.Prelude.{ℕ, Bool, if◌then◌else◌, List, slice_index}
+use Rattle.std.specs.Prelude.{◌≡◌, ℕ, suc, ◌==◌, ◌&&◌, nat_lt, Bool, true, if◌then◌else◌, List, [], ◌∷◌, slice_index}
 use Rattle.mp4_frame.specs.Bytes.{number, be_bytes}
-use Rattle.mp4_declared.specs.Bits.{bytes_in, joined, split, NumbersFit}
+use Rattle.mp4_declared.specs.Bits.{bytes_in, joined, split, NumbersFit, are_fields}
 
 -- a flag as a number
 abbrev pub bit : Bool → ℕ
@@ -22,3 +22,76 @@ entry_of l bytes = l.value (slice_index (split l.widths (number bytes 0 (bytes_i
 
 abbrev pub FitsEntry : {X : Type 0} → EntryLayout X → X → Type 0
 FitsEntry l x = NumbersFit l.widths (l.numbers x)
+
+-- a field: a flag of one bit, or a number of so many
+pub data BitField : Type 0 where
+  flag : BitField
+  unsigned : ℕ → BitField
+
+abbrev pub width_of : BitField → ℕ
+width_of flag = 1
+width_of (unsigned w) = w
+
+abbrev pub widths_of : List BitField → List ℕ
+widths_of [] = []
+widths_of (f ∷ fs) = width_of f ∷ widths_of fs
+
+-- what is in a field
+abbrev pub InField : BitField → Type 0
+InField flag = Bool
+InField (unsigned w) = ℕ
+
+abbrev pub InFields : List BitField → Type 0
+InFields [] = Unit {0}
+InFields (f ∷ fs) = InField f × InFields fs
+
+-- as a number
+abbrev pub number_of : (f : BitField) → InField f → ℕ
+number_of flag v = bit v
+number_of (unsigned w) v = v
+
+abbrev pub numbers_of : (fs : List BitField) → InFields fs → List ℕ
+numbers_of [] v = []
+numbers_of (f ∷ fs) v = number_of f v.0 ∷ numbers_of fs v.1
+
+-- of a number
+abbrev pub value_of : (f : BitField) → ℕ → InField f
+value_of flag n = n == 1
+value_of (unsigned w) n = n
+
+abbrev pub values_of : (fs : List BitField) → (ℕ → ℕ) → InFields fs
+values_of [] n = tt
+values_of (f ∷ fs) n = (value_of f (n 0), values_of fs (λ k. n (suc k)))
+
+-- fields of these widths fill e bytes, and these are some
+abbrev pub fill : List ℕ → ℕ → Bool
+fill ws e = are_fields ws && (bytes_in ws == e && nat_lt 0 e)
+
+-- An entry of e bytes: its fields, what is in them, and the entry of that. The author shows that these are inverse, and
+-- that the fields fill the bytes.
+pub record OwnEntry (X : Type 0) (e : ℕ) : Type 0 where
+  pub fields : List BitField
+  pub content : X → InFields fields
+  pub value : InFields fields → X
+  pub back : (x : X) → value (content x) ≡ x
+  pub again : (v : InFields fields) → content (value v) ≡ v
+  pub whole : fill (widths_of fields) e ≡ true
+
+abbrev pub packed : {X : Type 0} {e : ℕ} (fs : List BitField) (content : X → InFields fs) (value : InFields fs → X)
+    → ((x : X) → value (content x) ≡ x) → ((v : InFields fs) → content (value v) ≡ v) → fill (widths_of fs) e ≡ true
+    → OwnEntry X e
+packed fs content value back again whole = record {
+  fields = fs;
+  content = content;
+  value = value;
+  back = back;
+  again = again;
+  whole = whole;
+}
+
+abbrev pub layout_in : {X : Type 0} {e : ℕ} → OwnEntry X e → EntryLayout X
+layout_in o = record {
+  widths = widths_of o.fields;
+  value = λ n. o.value (values_of o.fields n);
+  numbers = λ x. numbers_of o.fields (o.content x);
+}

@@ -4,6 +4,7 @@ pub mod Layout
 pub mod LayoutLaws
 pub mod Shape
 pub mod ShapeLaws
+pub mod MappedLaws
 pub mod ListLaws
 pub mod FullLaws
 pub mod OwnBox

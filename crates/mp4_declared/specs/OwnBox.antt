@@ -5,6 +5,8 @@ use Rattle.mp4_frame.specs.Bytes.{bytes_of_fields, FieldsFit}
 use Rattle.mp4_frame.specs.Format.{Format}
 use Rattle.mp4_frame.specs.Reading.{Reading, ◌>>=◌, done, expect_bytes}
 use Rattle.mp4_frame.specs.declared.box_type.BoxType.TheVariants as names
+use denote.Struct.Record.{Record as Struct}
+use denote.Struct.Values.{Values}
 use Rattle.mp4_declared.specs.declared.context.Context.{Context}
 use Rattle.mp4_declared.specs.Shape.{Shape}
 
@@ -21,6 +23,20 @@ pub record OwnLayout (code : ℕ) (A V : Type 0) : Type 0 where
   pub again : (x : A) → content (value x) ≡ x
   pub coded : code < 2 ^ 32
   pub own : is_disguised (names.UnknownBox code) ≡ false
+
+-- The same of a struct whose fields, in their order, are the parts of the content. `struct` of its module says what they
+-- are, and `free` that it has no ghost fields.
+abbrev pub layout_of : {code : ℕ} (n : Struct) (free : (x : Values n.parts) → n.Ghost x)
+    → ((v : n.D) → n.make (n.as_values v) (free (n.as_values v)) ≡ v) → code < 2 ^ 32
+    → is_disguised (names.UnknownBox code) ≡ false → OwnLayout code (Values n.parts) n.D
+layout_of n free back coded own = record {
+  content = n.as_values;
+  value = λ x. n.make x (free x);
+  back = back;
+  again = λ x. n.beta x (free x);
+  coded = coded;
+  own = own;
+}
 
 unfoldable pub reads_declared : {code : ℕ} {A V : Type 0} → Shape A → OwnLayout code A V → List ℕ → ℕ → ℕ → Reading V
 reads_declared s l bytes start end = do

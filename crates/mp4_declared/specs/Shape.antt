@@ -64,18 +64,40 @@ pair_shape {A} {B} a b = record {
   valid = a.valid && (not a.to_end && b.valid);
 }
 
+-- a shape whose values are seen as others, one to one
+abbrev pub mapped_shape : {A B : Type 0} → (A → B) → (B → A) → Shape A → Shape B
+mapped_shape {A} {B} f g s = record {
+  reads = λ c bytes at end. s.reads c bytes at end >>= λ x. done (f x);
+  size = λ c v. s.size c (g v);
+  Fits = λ c v. s.Fits c (g v);
+  bytes = λ c v. s.bytes c (g v);
+  front = s.front;
+  fixed = s.fixed;
+  to_end = s.to_end;
+  valid = s.valid;
+}
+
+-- a shape as the last one of several
+abbrev pub last_shape : {A : Type 0} → Shape A → Shape (A × Unit {0})
+last_shape {A} s = mapped_shape {A = A} {B = A × Unit {0}} (λ x. (x, tt)) (λ v. v.0) s
+
+-- n bytes that are written as 0, and read as any, and then a shape
+abbrev pub reserved_shape : {A : Type 0} → ℕ → Shape A → Shape A
+reserved_shape {A} n s =
+    mapped_shape {A = Unit {0} × A} {B = A} (λ v. v.1) (λ x. (tt, x)) (pair_shape (zeros_shape n) s)
+
 -- the version in 1 byte, below n, the flags in 3, and a shape that may differ with them
-abbrev pub full_shape : {A : Type 0} → ℕ → Shape A → Shape (ℕ × ℕ × A)
+abbrev pub full_shape : {A : Type 0} → ℕ → Shape A → Shape (ℕ × (ℕ × A))
 full_shape {A} n s = record {
   reads = λ c bytes at end.
       expect_bytes bytes at 4 >>= λ _. check (nat_lt (number bytes at 1) n) >>= λ _.
       s.reads (record { version = number bytes at 1; flags = number bytes (at + 1) 3 }) bytes (at + 4) end >>= λ v.
-      done (number bytes at 1, number bytes (at + 1) 3, v);
-  size = λ c v. 4 + s.size (record { version = v.0; flags = v.1 }) v.2;
-  Fits = λ c v. (v.0 < n) × (v.0 < 2 ^ 8) × (v.1 < 2 ^ 24)
-      × s.Fits (record { version = v.0; flags = v.1 }) v.2;
+      done (number bytes at 1, (number bytes (at + 1) 3, v));
+  size = λ c v. 4 + s.size (record { version = v.0; flags = v.1.0 }) v.1.1;
+  Fits = λ c v. (v.0 < n) × (v.0 < 2 ^ 8) × (v.1.0 < 2 ^ 24)
+      × s.Fits (record { version = v.0; flags = v.1.0 }) v.1.1;
   bytes = λ c v.
-      (be_bytes 1 v.0 ++ be_bytes 3 v.1) ++ s.bytes (record { version = v.0; flags = v.1 }) v.2;
+      (be_bytes 1 v.0 ++ be_bytes 3 v.1.0) ++ s.bytes (record { version = v.0; flags = v.1.0 }) v.1.1;
   front = λ c. 4;
   fixed = false;
   to_end = s.to_end;

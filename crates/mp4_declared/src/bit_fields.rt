@@ -3,6 +3,8 @@
 ghost use Rattle.std.specs.Prelude.{◌≡◌, ◌+◌, ◌≤◌, length, slice_index};
 ghost use Rattle.mp4_frame.specs.Bytes.{number};
 ghost use Rattle.mp4_declared.specs.Bits.{bytes_in, split};
+ghost use Rattle.mp4_declared.specs.Layout.{layout_in, widths_of};
+ghost use Rattle.mp4_declared.specs.LayoutLaws.{laws_in};
 ghost use Rattle.mp4_declared.specs.MoreShapes.{bits_shape};
 ghost use Rattle.mp4_declared.specs.MoreShapesLaws.{bits_laws};
 
@@ -20,8 +22,8 @@ pub struct Bits<X, const N: usize, const E: usize>(X);
 #[inline]
 fn bits_from<X: EntryLayout<N, E>, const N: usize, const E: usize>(bytes: &[u8], at: usize) -> X
     requires { at + E ≤ length bytes.now }
-    ensures { result ≡ X.entry.value
-        (slice_index (split X.entry.widths (number bytes.now at (bytes_in X.entry.widths)))) }
+    ensures { result ≡ (layout_in X.layout).value (slice_index
+        (split (widths_of X.layout.fields) (number bytes.now at (bytes_in (widths_of X.layout.fields))))) }
 {
     let numbers = numbers_at(bytes, at, &X::widths());
     X::from_numbers(&numbers)
@@ -30,9 +32,9 @@ fn bits_from<X: EntryLayout<N, E>, const N: usize, const E: usize>(bytes: &[u8],
 impl<X: EntryLayout<N, E>, const N: usize, const E: usize> Shape for Bits<X, N, E> {
     type Value = X;
 
-    ghost shape = { bits_shape X.entry E };
+    ghost shape = { bits_shape (layout_in X.layout) E };
 
-    ghost shape_laws = { bits_laws X.entry X.entry_laws };
+    ghost shape_laws = { bits_laws (layout_in X.layout) (laws_in X.layout) };
 
     #[inline]
     fn is_fixed() -> bool {

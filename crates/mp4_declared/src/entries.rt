@@ -2,8 +2,8 @@
 
 ghost use Rattle.std.specs.Prelude.{◌≡◌, ℕ, ◌<◌, ◌≤◌, ◌+◌, ◌*◌, ◌^◌, ◌++◌, ◌↔◌, All, IfOk, IfErr, IsTrue, flat_map};
 ghost use Rattle.std.specs.Prelude.{length, map, slice_index, take};
-ghost use Rattle.mp4_declared.specs.Layout.{EntryLayout, row_of, entry_of, FitsEntry};
-ghost use Rattle.mp4_declared.specs.LayoutLaws.{IsEntryLayout};
+ghost use Rattle.mp4_declared.specs.Layout.{OwnEntry, layout_in, row_of, entry_of, FitsEntry};
+ghost use Rattle.mp4_declared.specs.Layout.{widths_of, numbers_of, values_of};
 
 use crate::bits::{numbers_at, numbers_fit, put_numbers};
 use mp4_frame::{Error, Result};
@@ -11,24 +11,21 @@ use std::alloc::Global;
 
 /// An entry of `N` numbers, in a row of `E` bytes.
 pub trait EntryLayout<const N: usize, const E: usize>: Copy + Drop {
-    /// The widths of its fields, the entry of some numbers, and the numbers of an entry.
-    ghost entry: { EntryLayout Self };
-
-    /// Its fields fill its row, and its numbers are read back.
-    ghost entry_laws: { IsEntryLayout entry E };
+    /// Its fields, what is in them, and the entry of that.
+    ghost layout: { OwnEntry Self E };
 
     /// The widths of its fields.
     fn widths() -> [u8; N]
-        ensures { result ≡ entry.widths };
+        ensures { result ≡ widths_of layout.fields };
 
     /// The numbers in its fields.
     fn numbers(&self) -> [u64; N]
-        ensures { result ≡ entry.numbers self.now };
+        ensures { result ≡ numbers_of layout.fields (layout.content self.now) };
 
     /// The entry of these numbers.
     fn from_numbers(numbers: &[u64; N]) -> Self
-        requires { (k : ℕ) → slice_index numbers.now k < 2 ^ slice_index entry.widths k }
-        ensures { result ≡ entry.value (slice_index numbers.now) };
+        requires { (k : ℕ) → slice_index numbers.now k < 2 ^ slice_index (widths_of layout.fields) k }
+        ensures { result ≡ layout.value (values_of layout.fields (slice_index numbers.now)) };
 
     /// An array of its numbers is no larger than memory.
     ghost few: { N * 8 < 2 ^ 63 };
@@ -36,7 +33,7 @@ pub trait EntryLayout<const N: usize, const E: usize>: Copy + Drop {
 
 /// The entry in this row.
 fn entry_at<X: EntryLayout<N, E>, const N: usize, const E: usize>(row: &[u8; E]) -> X
-    ensures { result ≡ entry_of X.entry row.now }
+    ensures { result ≡ entry_of (layout_in X.layout) row.now }
 {
     let numbers = numbers_at(row, 0, &X::widths());
     X::from_numbers(&numbers)
@@ -47,14 +44,14 @@ pub fn entries_of<X: EntryLayout<N, E>, const N: usize, const E: usize>(
     alloc: Global,
     rows: &[[u8; E]],
 ) -> Result<Vec<X>>
-    ensures value { IfOk result (λ entries. entries.items ≡ map (entry_of X.entry) rows.now) }
+    ensures value { IfOk result (λ entries. entries.items ≡ map (entry_of (layout_in X.layout)) rows.now) }
     ensures memory { IfErr result (λ e. e ≡ Error.OutOfMemory) }
 {
     let entries: Vec<X> = rows
         .iter()
         .map(
             |row: &[u8; E]| -> X
-                ensures { result ≡ entry_of X.entry row.now }
+                ensures { result ≡ entry_of (layout_in X.layout) row.now }
             { entry_at(row) },
         )
         .collect(alloc)?;
@@ -63,11 +60,11 @@ pub fn entries_of<X: EntryLayout<N, E>, const N: usize, const E: usize>(
 
 /// Whether the numbers of each entry fit their fields.
 pub fn entries_fit<X: EntryLayout<N, E>, const N: usize, const E: usize>(entries: &[X]) -> bool
-    ensures { IsTrue result ↔ All (FitsEntry X.entry) entries.now }
+    ensures { IsTrue result ↔ All (FitsEntry (layout_in X.layout)) entries.now }
 {
     entries.iter().all(
         |entry: &X| -> bool
-            ensures { IsTrue result ↔ FitsEntry X.entry entry.now }
+            ensures { IsTrue result ↔ FitsEntry (layout_in X.layout) entry.now }
         { numbers_fit(&X::widths(), &entry.numbers()) },
     )
 }
@@ -78,10 +75,10 @@ pub(crate) fn put_row<X: EntryLayout<N, E>, const N: usize, const E: usize>(
     at: usize,
     entry: &X,
 ) -> usize
-    requires fits { FitsEntry X.entry entry.now }
+    requires fits { FitsEntry (layout_in X.layout) entry.now }
     requires room { at + E ≤ length out.old }
     ensures next { result ≡ at + E }
-    ensures put { take result out.new ≡ take at out.old ++ row_of X.entry entry.now }
+    ensures put { take result out.new ≡ take at out.old ++ row_of (layout_in X.layout) entry.now }
 {
     put_numbers(out, at, &X::widths(), &entry.numbers())
 }
@@ -92,10 +89,10 @@ pub fn put_rows<X: EntryLayout<N, E>, const N: usize, const E: usize>(
     at: usize,
     entries: &[X],
 ) -> usize
-    requires fit { All (FitsEntry X.entry) entries.now }
+    requires fit { All (FitsEntry (layout_in X.layout)) entries.now }
     requires room { at + E * length entries.now ≤ length out.old }
     ensures next { result ≡ at + E * length entries.now }
-    ensures put { take result out.new ≡ take at out.old ++ flat_map (row_of X.entry) entries.now }
+    ensures put { take result out.new ≡ take at out.old ++ flat_map (row_of (layout_in X.layout)) entries.now }
 {
     let mut next = at;
     for entry in entries {

@@ -37,7 +37,7 @@ fn put_version_and_flags(out: &mut [u8], at: usize, version: u8, flags: u32) -> 
 }
 
 impl<const N: usize, S: Shape> Shape for Full<N, S> {
-    type Value = (u8, u32, S::Value);
+    type Value = (u8, (u32, S::Value));
 
     ghost shape = { full_shape N S.shape };
 
@@ -60,34 +60,34 @@ impl<const N: usize, S: Shape> Shape for Full<N, S> {
         at: usize,
         end: u64,
         _context: Context,
-    ) -> Result<((u8, u32, S::Value), usize)> {
+    ) -> Result<((u8, (u32, S::Value)), usize)> {
         let version = u8_at(bytes, at);
         check(usize::from(version) < N, unknown_version(N))?;
         let flags = u24_at(bytes, at + 1);
         let context = Context { version, flags };
         let (value, next) = read_next::<S>(alloc, bytes, at + 4, end, context, false)?;
-        Ok(((version, flags, value), next))
+        Ok(((version, (flags, value)), next))
     }
 }
 
-impl<const N: usize, S: PutShape<V>, V: Copy> PutShape<(u8, u32, V)> for Full<N, S> {
-    ghost content = { λ v. (v.0, v.1, S.content v.2) };
+impl<const N: usize, S: PutShape<V>, V: Copy> PutShape<(u8, (u32, V))> for Full<N, S> {
+    ghost content = { λ v. (v.0, (v.1.0, S.content v.1.1)) };
 
     #[inline]
-    fn size(_context: Context, value: (u8, u32, V)) -> u64 {
-        let (version, flags, value) = value;
+    fn size(_context: Context, value: (u8, (u32, V))) -> u64 {
+        let (version, (flags, value)) = value;
         S::size(Context { version, flags }, value).saturating_add(4)
     }
 
     #[inline]
-    fn fits(_context: Context, value: (u8, u32, V)) -> bool {
-        let (version, flags, value) = value;
+    fn fits(_context: Context, value: (u8, (u32, V))) -> bool {
+        let (version, (flags, value)) = value;
         usize::from(version) < N && flags < 1 << 24 && S::fits(Context { version, flags }, value)
     }
 
     #[inline]
-    fn put(out: &mut [u8], at: usize, _context: Context, value: (u8, u32, V)) -> usize {
-        let (version, flags, value) = value;
+    fn put(out: &mut [u8], at: usize, _context: Context, value: (u8, (u32, V))) -> usize {
+        let (version, (flags, value)) = value;
         let next = put_version_and_flags(out, at, version, flags);
         S::put(out, next, Context { version, flags }, value)
     }

@@ -2,8 +2,8 @@
 
 ghost use Rattle.std.specs.Prelude.{◌≡◌, ℕ, ◌+◌, ◌*◌, ◌<◌, ◌≤◌, ◌^◌, ◌↔◌, length, IfOk, IsTrue};
 ghost use Rattle.mp4_frame.specs.Reading.{AnswersAs};
-ghost use Rattle.mp4_declared.specs.Layout.{row_of, entry_of, FitsEntry};
-ghost use Rattle.mp4_declared.specs.LayoutLaws.{entry_laws};
+ghost use Rattle.mp4_declared.specs.Layout.{layout_in, row_of, entry_of, FitsEntry};
+ghost use Rattle.mp4_declared.specs.LayoutLaws.{laws_in, entry_laws};
 ghost use Rattle.mp4_declared.specs.ListLaws.{list_laws};
 ghost use Rattle.mp4_declared.specs.Shape.{rows_within, list_shape};
 ghost use Rattle.std.proofs.Common.{lit≤};
@@ -87,10 +87,11 @@ pub struct List<C, X, const N: usize, const E: usize>(C, X);
 impl<C: Count, X: EntryLayout<N, E>, const N: usize, const E: usize> Shape for List<C, X, N, E> {
     type Value = Entries<X>;
 
-    ghost shape = { list_shape C.WIDTH E (row_of X.entry) (entry_of X.entry) (FitsEntry X.entry) };
+    ghost shape = { list_shape C.WIDTH E (row_of (layout_in X.layout)) (entry_of (layout_in X.layout))
+        (FitsEntry (layout_in X.layout)) };
 
-    ghost shape_laws = { list_laws C.WIDTH E (row_of X.entry) (entry_of X.entry) (FitsEntry X.entry)
-        (entry_laws X.entry X.entry_laws) };
+    ghost shape_laws = { list_laws C.WIDTH E (row_of (layout_in X.layout)) (entry_of (layout_in X.layout))
+        (FitsEntry (layout_in X.layout)) (entry_laws (layout_in X.layout) (laws_in X.layout)) };
 
     #[inline]
     fn is_fixed() -> bool {

@@ -12,10 +12,11 @@ pub use Rattle.mp4_frame.specs.Tables.{reads_table, size_table, WritableTable, b
 pub use Rattle.mp4_flat.specs.Time.{time_width, version_of, reads_timed, WritableTimed}
 unfoldable pub use Rattle.mp4_tables.specs.Rows.{rows_within}
 -- boxes and entries that are declared
-pub use Rattle.mp4_declared.specs.Layout.{bit, EntryLayout, row_of, entry_of, FitsEntry}
+pub use Rattle.mp4_declared.specs.Layout.{BitField, flag, unsigned, OwnEntry, packed}
+pub use Rattle.mp4_declared.specs.Layout.{layout_in, row_of, entry_of, FitsEntry}
 pub use Rattle.mp4_declared.specs.Shape.{Shape}
 unfoldable pub use Rattle.mp4_declared.specs.OwnBox.{reads_declared}
-pub use Rattle.mp4_declared.specs.OwnBox.{OwnLayout, format_declared}
+pub use Rattle.mp4_declared.specs.OwnBox.{OwnLayout, layout_of, format_declared}
 -- children
 pub use Rattle.mp4_frame.specs.Children
 pub use Rattle.mp4_frame.specs.OneChild
@@ -46,7 +47,7 @@ pub use Rattle.mp4_flat.specs.TimeLaws.{each_version, timed_back, timed_is, time
 pub use Rattle.mp4_frame.proofs.Tables.{IsRow, length_flat, map_back, map_all, value_first, rows_at_back, rows_read}
 pub use Rattle.mp4_frame.proofs.TableLaws.{IsEntry, number_entry, TableOf, format_table, laws_table}
 pub use Rattle.mp4_tables.specs.EntryLaws.{fields_back}
-pub use Rattle.mp4_declared.specs.LayoutLaws.{flag_back, flag_fits, IsEntryLayout, entry_laws}
+pub use Rattle.mp4_declared.specs.LayoutLaws.{laws_in, entry_laws}
 pub use Rattle.mp4_declared.specs.ShapeLaws.{IsShape}
 pub use Rattle.mp4_declared.specs.OwnBoxLaws.{laws_declared}
 pub use Rattle.mp4_tables.specs.RowsLaws.{rows_within_back, rows_within_read}

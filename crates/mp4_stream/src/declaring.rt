@@ -1,29 +1,42 @@
 //! What writes the bodies of a declared box and of its entries, where each field is named once.
 
-/// The box of some content: `box_of!(found => Prft { version, flags, (reference_track_id, (ntp_timestamp, media_time)) })`.
-/// Each part of the content is named as the field that it is, in the content's brackets. A part `_` is left out.
+/// The struct of some content: `box_of!(found => Prft { version, flags, reference_track_id, ntp_timestamp, media_time })`,
+/// with the fields in the order of the content.
 #[macro_export]
 macro_rules! box_of {
-    (@ $name:ident [$($field:ident)*]) => { $name { $($field),* } };
-    (@ $name:ident [$($field:ident)*] , $($rest:tt)*) => {
-        $crate::box_of!(@ $name [$($field)*] $($rest)*)
+    (@back [$($done:ident)*] $found:ident $name:ident $fields:tt $first:ident $($more:ident)*) => {
+        $crate::box_of!(@back [$first $($done)*] $found $name $fields $($more)*)
     };
-    (@ $name:ident [$($field:ident)*] _ $($rest:tt)*) => {
-        $crate::box_of!(@ $name [$($field)*] $($rest)*)
+    (@back $done:tt $found:ident $name:ident $fields:tt) => {
+        $crate::box_of!(@nest $done () $found $name $fields)
     };
-    (@ $name:ident [$($field:ident)*] ($($parts:tt)*) $($rest:tt)*) => {
-        $crate::box_of!(@ $name [$($field)*] $($parts)* $($rest)*)
+    (@nest [$last:ident $($before:ident)*] $nested:tt $found:ident $name:ident $fields:tt) => {
+        $crate::box_of!(@nest [$($before)*] ($last, $nested) $found $name $fields)
     };
-    (@ $name:ident [$($field:ident)*] $part:ident $($rest:tt)*) => {
-        $crate::box_of!(@ $name [$($field)* $part] $($rest)*)
-    };
-    ($found:ident => $name:ident { $($parts:tt)* }) => {{
-        let ($($parts)*) = $found;
-        $crate::box_of!(@ $name [] $($parts)*)
+    (@nest [] $nested:tt $found:ident $name:ident [$($field:ident)+]) => {{
+        let $nested = $found;
+        $name { $($field),+ }
     }};
+    ($found:ident => $name:ident { $($field:ident),+ }) => {
+        $crate::box_of!(@back [] $found $name [$($field)+] $($field)+)
+    };
 }
 
-/// The numbers in these fields of an entry: `numbers_of!(self => is_first, size)`. A flag is 0 or 1.
+/// The content of a struct: `parts_of!(self => version, flags, entries.as_slice(), = ids)`, with the fields in the order
+/// of the content. A field that isn't copied is followed by a call; `= ids` is a variable in the place of a field.
+#[macro_export]
+macro_rules! parts_of {
+    (@ $of:ident) => { () };
+    (@ $of:ident , $($rest:tt)+) => { $crate::parts_of!(@ $of $($rest)+) };
+    (@ $of:ident = $part:ident $($rest:tt)*) => { ($part, $crate::parts_of!(@ $of $($rest)*)) };
+    (@ $of:ident $field:ident . $call:ident () $($rest:tt)*) => {
+        ($of.$field.$call(), $crate::parts_of!(@ $of $($rest)*))
+    };
+    (@ $of:ident $field:ident $($rest:tt)*) => { ($of.$field, $crate::parts_of!(@ $of $($rest)*)) };
+    ($of:ident => $($parts:tt)+) => { $crate::parts_of!(@ $of $($parts)+) };
+}
+
+/// The numbers in the fields of an entry: `numbers_of!(self => is_first, size)`. A flag is 0 or 1.
 #[macro_export]
 macro_rules! numbers_of {
     ($entry:ident => $($field:ident),+) => { [$(u64::from($entry.$field)),+] };

@@ -2,14 +2,14 @@
 
 ghost use Rattle.example_sidx.specs.declared.tests.numbers.TheConstants.{NUMB};
 ghost use Rattle.std.proofs.Common.{refl, lit<};
-ghost use Rattle.std.specs.Prelude.{◌==◌, [], ◌∷◌};
-ghost use Rattle.mp4_stream.specs.Author.{bit, flag_back, flag_fits};
+ghost use Rattle.std.specs.Prelude.{[], ◌∷◌};
+ghost use Rattle.mp4_stream.specs.Author.{layout_of, packed, flag, unsigned};
 
 use crate::tests::{ending_of_cut, ending_of_write, is_in};
 use mp4_stream::author::{
-    About, Bits, Declared, DeclaredBox, EntryLayout, I8, I16, I32, Shape, U8, U16, U24,
+    About, Bits, Declared, DeclaredBox, EntryLayout, I8, I16, I32, Last, Shape, U8, U16, U24,
 };
-use mp4_stream::{box_of, entry_of, numbers_of};
+use mp4_stream::{box_of, entry_of, numbers_of, parts_of};
 use std::test::Fail;
 
 /// The code: `numb`.
@@ -27,19 +27,10 @@ pub(crate) struct Packed {
 }
 
 impl EntryLayout<3, 2> for Packed {
-    ghost entry = { record {
-      widths = 1 ∷ 5 ∷ 10 ∷ [];
-      value = λ n. record { is_first = n 0 == 1; kind = n 1; level = n 2 };
-      numbers = λ e. bit e.is_first ∷ e.kind ∷ e.level ∷ [];
-    } };
+    ghost use Rattle.example_sidx.specs.contracts.tests.numbers.Packed.{struct};
 
-    ghost entry_laws = { record {
-      long = refl;
-      fields = refl;
-      some = lit< tt;
-      back = λ e i. record e { is_first = flag_back e.is_first i };
-      fit = λ n small. (flag_fits (n 0 == 1), (small 1, (small 2, tt)));
-    } };
+    ghost layout = { packed (flag ∷ unsigned 5 ∷ unsigned 10 ∷ []) struct.as_values (λ v. struct.make v tt) (λ _. refl)
+        (λ _. refl) refl };
 
     fn widths() -> [u8; 3] {
         [1, 5, 10]
@@ -75,40 +66,28 @@ struct Numbers {
     packed: Packed,
 }
 
-type NumbersShape = ((U8, (U16, U24)), ((I8, (I16, I32)), Bits<Packed, 3, 2>));
+type Signed = (I8, (I16, (I32, Last<Bits<Packed, 3, 2>>)));
+
+type NumbersShape = (U8, (U16, (U24, Signed)));
 
 impl DeclaredBox for Numbers {
+    ghost use Rattle.example_sidx.specs.contracts.tests.numbers.Numbers.{struct};
+
     type Shape = NumbersShape;
 
     ghost CODE = { NUMB };
 
-    ghost layout = { record {
-      content = λ v. ((v.byte, (v.short, v.medium)), ((v.signed_byte, (v.signed_short, v.signed_long)), v.packed));
-      value = λ x. record {
-        byte = x.0.0;
-        short = x.0.1.0;
-        medium = x.0.1.1;
-        signed_byte = x.1.0.0;
-        signed_short = x.1.0.1.0;
-        signed_long = x.1.0.1.1;
-        packed = x.1.1;
-      };
-      back = λ v. refl;
-      again = λ x. refl;
-      coded = lit< tt;
-      own = refl;
-    } };
+    ghost layout = { layout_of struct (λ _. tt) (λ _. refl) (lit< tt) refl };
 
     const CODE: u32 = NUMB;
 
     fn from_content(found: <NumbersShape as Shape>::Value) -> Numbers {
-        box_of!(found => Numbers { (byte, (short, medium)), ((signed_byte, (signed_short, signed_long)), packed) })
+        box_of!(found => Numbers { byte, short, medium, signed_byte, signed_short, signed_long, packed })
     }
 
     fn ask<Q: About<Self::Shape>>(&self, out: &mut [u8]) -> Q::Answer {
-        let unsigned = (self.byte, (self.short, self.medium));
-        let signed = (self.signed_byte, (self.signed_short, self.signed_long));
-        Q::ask((unsigned, (signed, self.packed)), out)
+        let parts = parts_of!(self => byte, short, medium, signed_byte, signed_short, signed_long, packed);
+        Q::ask(parts, out)
     }
 
     ghost valid = { refl };

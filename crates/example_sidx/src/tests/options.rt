@@ -2,10 +2,11 @@
 
 ghost use Rattle.example_sidx.specs.declared.tests.options.TheConstants.{OPTS};
 ghost use Rattle.std.proofs.Common.{refl, lit<};
+ghost use Rattle.mp4_stream.specs.Author.{layout_of};
 
 use crate::tests::{ending_of_cut, ending_of_write, is_in};
-use mp4_stream::author::{About, Declared, DeclaredBox, Full, If, IfFlags, Shape, U8, U16, U32};
-use mp4_stream::box_of;
+use mp4_stream::author::{About, Declared, DeclaredBox, Full, If, IfFlags, Last, Shape, U8, U16, U32};
+use mp4_stream::{box_of, parts_of};
 use std::test::Fail;
 
 /// The code: `opts`.
@@ -26,37 +27,25 @@ struct Options {
     last: u8,
 }
 
-type OptionsShape = Full<1, (If<IfFlags<1>, U32>, (If<IfFlags<0x80_0002>, U16>, U8))>;
+type OptionsShape = Full<1, (If<IfFlags<1>, U32>, (If<IfFlags<0x80_0002>, U16>, Last<U8>))>;
 
 impl DeclaredBox for Options {
+    ghost use Rattle.example_sidx.specs.contracts.tests.options.Options.{struct};
+
     type Shape = OptionsShape;
 
     ghost CODE = { OPTS };
 
-    ghost layout = { record {
-      content = λ v. (v.version, v.flags, (v.size, (v.kind, v.last)));
-      value = λ x. record { version = x.0; flags = x.1; size = x.2.0; kind = x.2.1.0; last = x.2.1.1 };
-      back = λ v. refl;
-      again = λ x. refl;
-      coded = lit< tt;
-      own = refl;
-    } };
+    ghost layout = { layout_of struct (λ _. tt) (λ _. refl) (lit< tt) refl };
 
     const CODE: u32 = OPTS;
 
     fn from_content(found: <OptionsShape as Shape>::Value) -> Options {
-        box_of!(found => Options { version, flags, (size, (kind, last)) })
+        box_of!(found => Options { version, flags, size, kind, last })
     }
 
     fn ask<Q: About<Self::Shape>>(&self, out: &mut [u8]) -> Q::Answer {
-        Q::ask(
-            (
-                self.version,
-                self.flags,
-                (self.size, (self.kind, self.last)),
-            ),
-            out,
-        )
+        Q::ask(parts_of!(self => version, flags, size, kind, last), out)
     }
 
     ghost valid = { refl };

@@ -2,11 +2,12 @@
 
 ghost use Rattle.example_sidx.specs.declared.tests.runs.TheConstants.{RUNS};
 ghost use Rattle.std.proofs.Common.{refl, lit<};
+ghost use Rattle.mp4_stream.specs.Author.{layout_of};
 
 use crate::tests::numbers::Packed;
 use crate::tests::{ending_of_cut, ending_of_write, is_in};
-use mp4_stream::author::{About, Bytes, Declared, DeclaredBox, List, Rest, Rows, Shape, U8, U16};
-use mp4_stream::{Entries, Result as Made, box_of};
+use mp4_stream::author::{About, Bytes, Declared, DeclaredBox, Last, List, Rest, Rows, Shape, U8, U16};
+use mp4_stream::{Entries, Result as Made, box_of, parts_of};
 use std::alloc::Global;
 use std::test::Fail;
 
@@ -26,31 +27,26 @@ struct Runs {
     rest: Entries<u8>,
 }
 
-type RunsShape = (Bytes<U8>, (Rows<U16, 3>, (List<U8, Packed, 3, 2>, Rest)));
+type RunsShape = (Bytes<U8>, (Rows<U16, 3>, (List<U8, Packed, 3, 2>, Last<Rest>)));
 
 impl DeclaredBox for Runs {
+    ghost use Rattle.example_sidx.specs.contracts.tests.runs.Runs.{struct};
+
     type Shape = RunsShape;
 
     ghost CODE = { RUNS };
 
-    ghost layout = { record {
-      content = λ v. (v.name, (v.colors, (v.entries, v.rest)));
-      value = λ x. record { name = x.0; colors = x.1.0; entries = x.1.1.0; rest = x.1.1.1 };
-      back = λ v. refl;
-      again = λ x. refl;
-      coded = lit< tt;
-      own = refl;
-    } };
+    ghost layout = { layout_of struct (λ _. tt) (λ _. refl) (lit< tt) refl };
 
     const CODE: u32 = RUNS;
 
     fn from_content(found: <RunsShape as Shape>::Value) -> Runs {
-        box_of!(found => Runs { name, (colors, (entries, rest)) })
+        box_of!(found => Runs { name, colors, entries, rest })
     }
 
     fn ask<Q: About<Self::Shape>>(&self, out: &mut [u8]) -> Q::Answer {
-        let lists = (self.entries.as_slice(), self.rest.as_slice());
-        Q::ask((self.name.as_slice(), (self.colors.as_slice(), lists)), out)
+        let parts = parts_of!(self => name.as_slice(), colors.as_slice(), entries.as_slice(), rest.as_slice());
+        Q::ask(parts, out)
     }
 
     ghost valid = { refl };
