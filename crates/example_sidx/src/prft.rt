@@ -41,7 +41,8 @@ impl DeclaredBox for Prft {
     }
 
     fn ask<Q: About<Self::Shape>>(&self, out: &mut [u8]) -> Q::Answer {
-        let parts = parts_of!(self => version, flags, reference_track_id, ntp_timestamp, media_time);
+        let parts =
+            parts_of!(self => version, flags, reference_track_id, ntp_timestamp, media_time);
         Q::ask(parts, out)
     }
 

@@ -4,8 +4,8 @@
 
 pub use mp4_declared::{
     About, Array, Bits, Bytes, Condition, Context, Count, Declared, DeclaredBox, EntryLayout,
-    FromVersion, Full, I8, I16, I32, If, IfFlags, Last, List, PutShape, Reserved, Rest, Rows, Shape,
-    Time, U8, U16, U24, U32, U64, Zeros, entries_fit, entries_of, put_rows,
+    FromVersion, Full, I8, I16, I32, If, IfFlags, Last, List, PutShape, Reserved, Rest, Rows,
+    Shape, Time, U8, U16, U24, U32, U64, Zeros, entries_fit, entries_of, put_rows,
 };
 pub use mp4_flat::{put_time, time_at, time_fits, version_of_times, width_of_time};
 pub use mp4_frame::{

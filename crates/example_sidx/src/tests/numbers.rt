@@ -86,7 +86,8 @@ impl DeclaredBox for Numbers {
     }
 
     fn ask<Q: About<Self::Shape>>(&self, out: &mut [u8]) -> Q::Answer {
-        let parts = parts_of!(self => byte, short, medium, signed_byte, signed_short, signed_long, packed);
+        let parts =
+            parts_of!(self => byte, short, medium, signed_byte, signed_short, signed_long, packed);
         Q::ask(parts, out)
     }
 

@@ -5,7 +5,9 @@ ghost use Rattle.std.proofs.Common.{refl, lit<};
 ghost use Rattle.mp4_stream.specs.Author.{layout_of};
 
 use crate::tests::{ending_of_cut, ending_of_write, is_in};
-use mp4_stream::author::{About, Declared, DeclaredBox, Full, If, IfFlags, Last, Shape, U8, U16, U32};
+use mp4_stream::author::{
+    About, Declared, DeclaredBox, Full, If, IfFlags, Last, Shape, U8, U16, U32,
+};
 use mp4_stream::{box_of, parts_of};
 use std::test::Fail;
 

@@ -6,7 +6,9 @@ ghost use Rattle.mp4_stream.specs.Author.{layout_of};
 
 use crate::tests::numbers::Packed;
 use crate::tests::{ending_of_cut, ending_of_write, is_in};
-use mp4_stream::author::{About, Bytes, Declared, DeclaredBox, Last, List, Rest, Rows, Shape, U8, U16};
+use mp4_stream::author::{
+    About, Bytes, Declared, DeclaredBox, Last, List, Rest, Rows, Shape, U8, U16,
+};
 use mp4_stream::{Entries, Result as Made, box_of, parts_of};
 use std::alloc::Global;
 use std::test::Fail;
@@ -27,7 +29,10 @@ struct Runs {
     rest: Entries<u8>,
 }
 
-type RunsShape = (Bytes<U8>, (Rows<U16, 3>, (List<U8, Packed, 3, 2>, Last<Rest>)));
+type RunsShape = (
+    Bytes<U8>,
+    (Rows<U16, 3>, (List<U8, Packed, 3, 2>, Last<Rest>)),
+);
 
 impl DeclaredBox for Runs {
     ghost use Rattle.example_sidx.specs.contracts.tests.runs.Runs.{struct};
@@ -45,7 +50,8 @@ impl DeclaredBox for Runs {
     }
 
     fn ask<Q: About<Self::Shape>>(&self, out: &mut [u8]) -> Q::Answer {
-        let parts = parts_of!(self => name.as_slice(), colors.as_slice(), entries.as_slice(), rest.as_slice());
+        let parts =
+            parts_of!(self => name.as_slice(), colors.as_slice(), entries.as_slice(), rest.as_slice());
         Q::ask(parts, out)
     }
 
