@@ -3,6 +3,7 @@
 //! `docs/OWN-BOX.md` goes through them.
 #![tactic(auto)]
 
+mod change;
 mod pasp;
 mod prft;
 mod pssh;
@@ -10,6 +11,7 @@ mod segment;
 mod sidx;
 mod sidx_or_any;
 
+pub use change::set_first_offset;
 pub use pasp::{PASP, Pasp, PaspBox};
 pub use prft::{PRFT, Prft, PrftBox};
 pub use pssh::{PSSH, Pssh, PsshBox};

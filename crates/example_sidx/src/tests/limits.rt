@@ -1,7 +1,7 @@
 //! Boxes that are one byte or one entry short, and numbers that just fit or don't.
 
 use crate::tests::{LONG, SHORT, empty, ending_of_cut, ending_of_write, is_in, long, read, short};
-use crate::{SidxBox, SidxEntry};
+use crate::{SidxBox, SidxEntry, set_first_offset};
 use mp4_stream::{Result as Made, TryClone, WriteBox};
 use std::alloc::Global;
 use std::test::Fail;
@@ -153,7 +153,7 @@ fn ending_of_change(alloc: Global, made: Made<SidxBox>, change: Change) -> &'sta
         Change::Version(version) => sidx.version = version,
         Change::Flags(flags) => sidx.flags = flags,
         Change::Time(time) => sidx.earliest_presentation_time = time,
-        Change::Offset(offset) => sidx.first_offset = offset,
+        Change::Offset(offset) => set_first_offset(&mut sidx, offset),
     }
     ending_of_write(alloc, &sidx)
 }
