@@ -88,6 +88,22 @@ pub fn trun_of_durations(alloc: Global) -> Result<TrunBox> {
     Ok(duration)
 }
 
+/// Puts four lists into a run.
+fn put_lists(
+    alloc: Global,
+    trun: &mut TrunBox,
+    durations: &[u32],
+    sizes: &[u32],
+    flags: &[u32],
+    cts: &[u32],
+) -> Result<()> {
+    trun.sample_durations = list(alloc, durations)?;
+    trun.sample_sizes = list(alloc, sizes)?;
+    trun.sample_flags = list(alloc, flags)?;
+    trun.sample_cts = list(alloc, cts)?;
+    Ok(())
+}
+
 /// `trun`, version 0: a run of two samples with both optional fields, durations, sizes and composition times.
 pub fn trun_of_three_lists(alloc: Global) -> Result<TrunBox> {
     let mut trun = TrunBox::default_in(alloc);
@@ -99,9 +115,14 @@ pub fn trun_of_three_lists(alloc: Global) -> Result<TrunBox> {
     trun.sample_count = 2;
     trun.data_offset = Some(-8);
     trun.first_sample_flags = Some(0x0200_0000);
-    trun.sample_durations = list(alloc, &[1024, 1025])?;
-    trun.sample_sizes = list(alloc, &[10, 20])?;
-    trun.sample_cts = list(alloc, &[512, 4294967295])?;
+    put_lists(
+        alloc,
+        &mut trun,
+        &[1024, 1025],
+        &[10, 20],
+        &[],
+        &[512, 4294967295],
+    )?;
     Ok(trun)
 }
 
@@ -113,9 +134,6 @@ pub fn trun_of_four_lists(alloc: Global) -> Result<TrunBox> {
         | TrunBox::FLAG_SAMPLE_FLAGS
         | TrunBox::FLAG_SAMPLE_CTS;
     trun.sample_count = 9;
-    trun.sample_durations = list(alloc, &SIZES)?;
-    trun.sample_sizes = list(alloc, &SIZES)?;
-    trun.sample_flags = list(alloc, &SIZES)?;
-    trun.sample_cts = list(alloc, &SIZES)?;
+    put_lists(alloc, &mut trun, &SIZES, &SIZES, &SIZES, &SIZES)?;
     Ok(trun)
 }
