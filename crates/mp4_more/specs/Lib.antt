@@ -1,0 +1,12 @@
+pub mod DeclaredType
+pub mod MoreType
+pub mod MoreBox
+pub mod MoreBoxLaws
+pub mod EitherBox
+pub mod EitherBoxLaws
+pub mod ToEnd
+pub mod ToEndLaws
+pub mod Typed
+pub mod TypedLaws
+pub mod OrZeros
+pub mod OrZerosLaws

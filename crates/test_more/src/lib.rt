@@ -1,0 +1,5 @@
+//! Tests of `mp4_more`.
+#![tactic(auto)]
+
+#[cfg(test)]
+mod tests;
