@@ -1,9 +1,3 @@
-pub mod DeclaredType
-pub mod MoreType
-pub mod MoreBox
-pub mod MoreBoxLaws
-pub mod EitherBox
-pub mod EitherBoxLaws
 pub mod ToEnd
 pub mod ToEndLaws
 pub mod Typed

@@ -1,13 +1,12 @@
 //! Tests of what no contract says: bytes that were worked out from the standards, and not printed by this code. The
 //! bytes of fields count up from 0x81, but for those with flags or fewer bits, so that no two are alike.
 
-mod all_boxes;
 mod codecs;
 mod colours;
 mod flat;
+mod in_lists;
 mod laws;
 mod lists;
-mod more_box;
 mod protection;
 
 use mp4_stream::{ByteCursor, Entries, Error, Mp4Box, ReadBox, Result as Made, WriteBox};

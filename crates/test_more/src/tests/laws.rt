@@ -1,6 +1,6 @@
 //! The laws at these types. The calls do nothing. That they are proved shows that the types keep the traits.
 
-use mp4_more::{AllBoxes, ColrBox, MoreBox, SbgpBox, SdtpBox, StypBox, TencBox};
+use mp4_more::{ColrBox, PaspBox, SbgpBox, SdtpBox, SidxBox, StypBox, TencBox};
 use mp4_stream::laws::{
     begins_with_header, boxes_follow_frames, cut_at_a_border, cut_inside_a_box, equal_boxes,
     equal_streams, has_normal_form, has_own_name, have_same_bytes, is_read_back,
@@ -8,7 +8,7 @@ use mp4_stream::laws::{
     spans_of_a_written_list, spans_of_what_is_read, written_is_read,
 };
 use mp4_stream::list_laws::{normal_stream_is_kept, read_list_is_sound, written_stream_is_kept};
-use mp4_stream::{BoxLaws, SoundStream};
+use mp4_stream::{BoxLaws, KeptBox, OwnOr, SoundStream};
 
 fn call_laws_of_box<B: BoxLaws>() {
     begins_with_header::<B>();
@@ -49,6 +49,5 @@ fn laws_hold_of_boxes() {
 
 #[test]
 fn laws_hold_of_lists() {
-    call_laws_of_lists::<MoreBox>();
-    call_laws_of_lists::<AllBoxes>();
+    call_laws_of_lists::<OwnOr<PaspBox, OwnOr<SidxBox, KeptBox>>>();
 }
