@@ -4,8 +4,6 @@
 mod codecs;
 mod colours;
 mod flat;
-mod in_lists;
-mod laws;
 mod lists;
 mod protection;
 
