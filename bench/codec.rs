@@ -113,31 +113,27 @@ pub enum Mfhd {
     Declared,
 }
 
+/// A function over a slice, so many times.
+type Times = unsafe extern "C" fn(*const u8, usize, u64) -> u64;
+
+fn over(call: Times, bytes: &[u8], times: u64) -> u64 {
+    // SAFETY: the pointer and the length are those of a slice.
+    unsafe { call(bytes.as_ptr(), bytes.len(), times) }
+}
+
 impl Mfhd {
     /// Reads a stream of `mfhd` boxes so many times, each time into a new list, of which the last box is written. Returns
     /// the number of all and the sum of the last bytes.
     pub fn read(self, bytes: &[u8], times: u64) -> u64 {
-        let (start, len) = (bytes.as_ptr(), bytes.len());
-        // SAFETY: the pointer and the length are those of a slice.
-        unsafe {
-            match self {
-                Mfhd::ByHand => mp4_read_mfhd(start, len, times),
-                Mfhd::Declared => mp4_read_declared(start, len, times),
-            }
-        }
+        let ways: [Times; 2] = [mp4_read_mfhd, mp4_read_declared];
+        over(ways[self as usize], bytes, times)
     }
 
     /// Reads a stream of `mfhd` boxes once, and writes them so many times. Returns the sum of the lengths and of the last
     /// bytes.
     pub fn write(self, bytes: &[u8], times: u64) -> u64 {
-        let (start, len) = (bytes.as_ptr(), bytes.len());
-        // SAFETY: the pointer and the length are those of a slice.
-        unsafe {
-            match self {
-                Mfhd::ByHand => mp4_write_mfhd(start, len, times),
-                Mfhd::Declared => mp4_write_declared(start, len, times),
-            }
-        }
+        let ways: [Times; 2] = [mp4_write_mfhd, mp4_write_declared];
+        over(ways[self as usize], bytes, times)
     }
 }
 
