@@ -6,8 +6,13 @@ from shown import counted_of, outcome_of, written_of
 from slow_reader import Fault, read_box, read_boxes
 
 # What each text of the program says, and how it is read.
-LOOKED_AT = ["one box", "the list", "written", "one kept box", "the kept list", "written as it was kept", "counted"]
-TEXTS = [outcome_of, outcome_of, written_of, outcome_of, outcome_of, written_of, counted_of]
+LOOKED_AT = [
+    "one box", "the list", "written", "one kept box", "the kept list", "written as it was kept", "one declared box",
+    "written as declared", "written as trees", "counted",
+]
+TEXTS = [
+    outcome_of, outcome_of, written_of, outcome_of, outcome_of, written_of, outcome_of, written_of, written_of, counted_of,
+]
 # What the slow reader does, and which text of the program says the same.
 CALLS = {
     "box": (read_box, 0), "boxes": (read_boxes, 1),

@@ -82,7 +82,7 @@ def newer():
              visual(b"encv", 640, 480, b"caf\xc3\xa9", schemes)]
     opus = box(b"dOps", bytes([0, 2]) + be(2, 312) + be(4, 48000) + be(2, 0) + b"\0")
     audio = [sound(b"Opus", 0, 2, 16, 48000 << 16, b"", opus),
-             sound(b"fLaC", 0, 1, 24, 44100 << 16 | 0x8000, b"", box(b"dfLa"))]
+             sound(b"fLaC", 0, 1, 24, 44100 << 16 | 0x8000, b"", full(b"dfLa", 0, 0, b"\x80" + be(3, 34) + bytes(34)))]
     rows = be(4, 500, -1) + be(2, 1, 0) + be(4, 5000, 1024) + be(2, 1, 0)
     edits = box(b"edts", full(b"elst", 0, 0, be(4, 2) + rows))
     offsets = full(b"stco", 0, 0, be(4, 3) + be(4, 40, 7, 4000000000))
@@ -207,7 +207,61 @@ def segments():
     return ftyp(b"iso5", b"iso5", b"dash") + moov + first + box(b"mdat", bytes(40)) + second + third
 
 
+def pictures():
+    """A track of AV1 video with all that says how it is shown and encrypted, in the versions that say most."""
+    shown = (box(b"av1C", b"\x81\x25\x9e\x17" + b"\x0a\x0b") + box(b"pasp", be(4, 40, 33))
+             + box(b"clap", be(4, 1919, 2, 1079, 3, -1, 4, 5, 6)) + box(b"colr", b"nclx" + be(2, 9, 16, 8) + b"\x80")
+             + box(b"colr", b"prof" + b"\1\2\3") + box(b"colr", b"nclc" + be(2, 1, 2, 3)) + box(b"colr", b"ab\0d\7")
+             + box(b"clli", be(2, 1000, 400)) + box(b"mdcv", be(2, *range(13250, 13258)) + be(4, 10000000, 50))
+             + box(b"btrt", be(4, 70000, 6000000, 5000000)))
+    key, system = bytes(range(16)), bytes.fromhex("edef8ba979d64acea3c827dcd51d21ed")
+    scheme = (box(b"frma", b"av01") + full(b"schm", 0, 1, b"cbcs" + be(4, 0x10000) + "https://é.example/\0".encode())
+              + box(b"schi", full(b"tenc", 1, 0, b"\0\x19\1\0" + key + b"\4\xaa\xbb\xcc\xdd")
+                    + full(b"tenc", 0, 0, b"\xff\xff\1\x08" + key)))
+    table = (full(b"sdtp", 0, 0, b"\x1b\x24\0") + full(b"stz2", 0, 0, be(4, 4, 3) + b"\x12\x30")
+             + full(b"stz2", 0, 0, be(4, 8, 2) + b"\7\xff") + full(b"stz2", 0, 0, be(4, 16, 1) + b"\x12\x34")
+             + full(b"stz2", 0, 0, be(4, 4, 3) + b"\x12") + full(b"stz2", 0, 0, be(4, 5, 1) + b"\x12")
+             + full(b"sbgp", 1, 0, b"seig" + be(4, 7, 2, 3, 1, 2, 0x10001)) + full(b"sbgp", 0, 0, b"roll" + be(4, 0))
+             + full(b"sgpd", 2, 0, b"roll" + be(4, 2, 1, 1) + b"\xff\xfe")
+             + full(b"sgpd", 1, 0, b"rap " + be(4, 1, 1) + b"\x80") + full(b"sgpd", 0, 0, b"tele" + be(4, 1) + b"\x40")
+             + full(b"subs", 1, 9, be(4, 1, 2) + be(2, 1) + be(4, 300) + b"\1\0" + be(4, 0))
+             + full(b"saiz", 0, 1, b"cenc" + be(4, 5) + b"\0" + be(4, 3) + b"\x10\x12\x14")
+             + full(b"saiz", 0, 0, b"\x08" + be(4, 9)) + full(b"saio", 1, 1, b"cenc" + be(4, 5, 1) + be(8, 2**33))
+             + full(b"saio", 0, 0, be(4, 2, 17, 18)) + full(b"senc", 0, 2, be(4, 1) + key[:8] + be(2, 1, 5) + be(4, 6)))
+    entry = visual(b"encv", 1920, 1080, b"", shown + box(b"sinf", scheme))
+    one = track(1, b"vide", b"", b"und", [entry], table)
+    refers = (box(b"tref", box(b"cdsc", be(4, 2, 3)) + box(b"chap", be(4, 4))) + box(b"tref")
+              + box(b"tref", box(b"hint")) + box(b"tref", box(b"hint", be(4, 1) + b"\0")))
+    pssh = full(b"pssh", 1, 0, system + be(4, 2) + key + key[::-1] + be(4, 3) + b"abc") + full(
+        b"pssh", 0, 0, system + be(4, 0))
+    return ftyp(b"iso6", b"av01") + movie(be(4, len(one) + len(refers)) + one[4:] + refers) + pssh
+
+
+def indexed():
+    """Sound of three kinds, a track of no kind, keys, and what says where the parts of segments are."""
+    entries = [sound(b"ac-3", 0, 6, 16, 48000 << 16, b"", box(b"dac3", b"\x50\x3d\x20")),
+               sound(b"ec-3", 0, 6, 16, 48000 << 16, b"", box(b"dec3", b"\x1d\xc1\x20\x0f\x02\x08")),
+               sound(b"Opus", 0, 6, 16, 48000 << 16, b"", box(b"dOps", b"\0\6" + be(2, 312) + be(4, 44100)
+                                                           + be(2, -896) + b"\1\4\2\0\4\1\2\3\5")),
+               sound(b"fLaC", 0, 2, 16, 48000 << 16, b"", full(b"dfLa", 0, 0, b"\x80" + be(3, 2) + b"\x10\x11"))]
+    tags = full(b"elng", 0, 0, b"de-CH-1996\0") + full(b"elng", 0, 0, b"\xff") + full(b"nmhd", 0, 0)
+    keys = (full(b"keys", 0, 0, be(4, 2, 17) + b"mdtacom.a.key" + be(4, 10) + b"\xa9abc\xff\0")
+            + full(b"keys", 0, 0, be(4, 2, 17) + b"mdtacom.a.key") + full(b"keys", 0, 0, be(4, 1, 7) + b"mdta"))
+    styp = box(b"styp", b"msdh" + be(4, 1) + b"msdhmsix")
+    long, short = (2**31 + 500, 9000, 5 * 2**28 + 77), (400, 8000, 2**31 + 2**28)
+    sidx = (full(b"sidx", 1, 0, be(4, 3, 90000) + be(8, 2**32, 2**33) + be(2, 0, 2) + be(4, *long, *short))
+            + full(b"sidx", 0, 0, be(4, 4, 1000, 5, 6) + be(2, 0, 0)))
+    prft = full(b"prft", 1, 24, be(4, 3) + be(8, 16 * 2**58 + 1, 2**40)) + full(b"prft", 0, 0, be(4, 4, 5, 6, 7))
+    first = be(4, 0, 800) + b"\1\1\1"
+    tfra = (full(b"tfra", 0, 0, be(4, 3, 0, 2) + first + be(4, 9000, 1600) + b"\2\3\4")
+            + full(b"tfra", 1, 0, be(4, 3, 0x1B, 1) + be(8, 2**33, 2**34) + be(2, 258) + be(3, 65539) + be(4, 2**31))
+            + full(b"tfra", 0, 0, be(4, 3, 0, 2) + first))
+    mfro = full(b"mfro", 0, 0, be(4, 24 + len(tfra)))
+    return (styp + sidx + prft + movie(track(3, b"soun", b"", b"und", entries, b"", front=tags)) + keys
+            + box(b"mfra", tfra + mfro))
+
+
 def made():
     """The files, by name."""
-    return {"tables": tables(), "segments": segments(),
+    return {"pictures": pictures(), "indexed": indexed(), "tables": tables(), "segments": segments(),
             "newer": newer(), "quicktime": quicktime(), "titles": titles(), "fragments": fragments()}

@@ -14,9 +14,11 @@ STRING = re.compile(r'"((?:[^"\\]|\\.)*)"', re.S)
 ESCAPE = re.compile(r"\\(?:u\{(\w+)\}|(.))")
 LETTERS = {"0": "\0", "n": "\n", "r": "\r", "t": "\t"}
 FAULTS = {"InvalidData": "Invalid", "BoxNotFound": "NotFound"}
-CODES = {"major_brand", "compatible_brands", "handler_type"}
+CODES = {
+    "major_brand", "compatible_brands", "handler_type", "data_format", "grouping_type", "scheme_type", "aux_info_type",
+}
 # How many texts are printed for an input.
-TEXTS = 7
+TEXTS = 10
 
 
 def names():
@@ -67,10 +69,20 @@ class Printed:
             return self.values(")")
         if self.text[self.at] == '"':
             return ESCAPE.sub(unescaped, self.match(STRING)[1])
+        if self.take("Checked { declared: "):
+            found = self.value()
+            self.take(" }")
+            return found
+        if self.take("Declared { fields: "):
+            name = self.match(WORD)[0]
+            self.take(" { ")
+            fields = self.fields(name)
+            self.take(" }")
+            return name.lower(), fields
         word = self.match(WORD)[0]
         if self.take("("):
-            (inner,) = self.values(")")
-            return inner if word in ("Ok", "Some") else (word, inner)
+            inner = self.values(")")
+            return inner[0] if word in ("Ok", "Some") else (word, *inner)
         if self.take(" { "):
             return self.fields(word)
         if word.lstrip("-").isdigit():
@@ -83,7 +95,7 @@ class Printed:
             name = self.match(WORD)[0]
             self.take(": ")
             if name in CODES:
-                found[name] = self.codes() if name == "compatible_brands" else self.code()
+                found[name] = self.codes() if name == "compatible_brands" else self.code_or_none()
             else:
                 found[name] = self.value()
             self.take(", ")
@@ -96,6 +108,15 @@ class Printed:
             found.append(self.code())
             self.take(", ")
         self.take("]")
+        return found
+
+    def code_or_none(self):
+        if self.take("None"):
+            return None
+        if not self.take("Some("):
+            return self.code()
+        found = self.code()
+        self.take(")")
         return found
 
     def code(self):
@@ -111,13 +132,14 @@ def unescaped(found):
 
 
 def named(box):
-    """A box with its code in the place of its name. A kept box of no type of its own is named `other`."""
+    """A box with its code in the place of its name, and a declared one with its code in small letters. A kept box of no
+    type of its own is named `other`."""
     if box is None:
         return None
     if box[0] == "Other":
         return "other", box[1]
-    name, fields = box[1] if box[0] == "Any" else box
-    return NAMES[name], fields
+    name, fields = box[1] if isinstance(box[1], tuple) else box
+    return NAMES.get(name, name), fields
 
 
 def fault_of(error):

@@ -7,6 +7,7 @@ import datetime
 import json
 
 from slow_fields import Fault, Header
+from slow_more import MORE, Code, Hex, more_fields
 from slow_reader import DATA_TYPES, READERS, read_row
 from slow_samples import disagreement
 
@@ -156,7 +157,8 @@ class Walk:
             return {"fields": {"usertype": "-".join(parts)}}
         if name == b"data" and end - content >= 8 and number(data, content, 4) not in DATA_TYPES:
             return {"fields": metadata(number(data, content, 4), data[content + 8:end])}
-        if latin(name) not in READERS or name == b"mp4a" and parent == b"wave":
+        is_read = latin(name) in READERS or latin(name) in MORE
+        if not is_read or name == b"mp4a" and parent == b"wave":
             if parent != b"stsd":
                 return {}
             fields = self.brief(name, content, end, parent, 0)
@@ -165,6 +167,8 @@ class Walk:
         try:
             header = Header(own, 0)
             header.size = len(own) - header.start
+            if header.name in MORE:
+                return {"fields": more_fields(header.name, own[header.start + 8:])}
             box = read_row(own, header)
         except Fault as fault:
             words = {"End": "unexpected end of input"}
@@ -285,7 +289,8 @@ FLAGS = {
              0x20000: "default_base_is_moof"},
     "trun": {1: "data_offset", 4: "first_sample_flags", 0x100: "sample_duration", 0x200: "sample_size",
              0x400: "sample_flags", 0x800: "sample_composition_time_offset"},
-    "url ": {1: "same_file"},
+    "url ": {1: "same_file"}, "saio": {1: "aux_info_type"}, "saiz": {1: "aux_info_type"}, "schm": {1: "scheme_uri"},
+    "senc": {2: "UseSubSampleEncryption"},
 }
 SAMPLE_FLAGS = {"default_sample_flags", "first_sample_flags", "sample_flags", "flags"}
 KINDS = {"vide": "video", "soun": "sound", "text": "text", "sbtl": "subtitles", "subt": "subtitles", "clcp": "captions",
@@ -356,6 +361,10 @@ def date_text(seconds):
 
 
 def value_text(name, value, within):
+    if isinstance(value, Hex):
+        return bytes_text(value)
+    if isinstance(value, Code):
+        return code_text(value)
     if name in DATES:
         return date_text(value)
     if name == "flags" and within not in ("sample",):

@@ -11,10 +11,11 @@ END = ("End",)
 NO_DREF = ("NotFound", "dref")
 
 # The bytes of a buffer and a position, and what is expected there: as one box and as a list of boxes, each an outcome
-# and the position of the cursor; the bytes that the list is written in; the same three of boxes that are kept; and how
-# many headers of descriptors are read. What is None isn't looked at.
-FIELDS = "buffer at box boxes written kept_box kept_boxes kept_written headers"
-Row = collections.namedtuple("Row", FIELDS, defaults=[0, *[None] * 7])
+# and the position of the cursor; the bytes that the list is written in; the same three of boxes that are kept; as one
+# box that is declared, and the bytes that it is written in; the bytes that the list is written in if it is read as
+# trees; and how many headers of descriptors are read. What is None isn't looked at.
+FIELDS = "buffer at box boxes written kept_box kept_boxes kept_written declared declared_written trees headers"
+Row = collections.namedtuple("Row", FIELDS, defaults=[0, *[None] * 10])
 
 
 class Box(dict):
@@ -41,6 +42,10 @@ TOO_SMALL = invalid("box size too small")
 LARGE_TOO_SMALL = invalid("64-bit box size too small")
 PAST_64_BITS = invalid("box end past 64 bits")
 WRONG_VERSION = invalid("version must be 0 or 1")
+NO_VERSION_1 = invalid("version must be 0")
+TOO_MANY_ENTRIES = invalid("count indicates more entries than could fit in the box")
+TOO_MANY_BYTES = invalid("count indicates more bytes than could fit in the box")
+NOT_FILLED = invalid("entries do not fill the box")
 CHILD_TOO_SMALL = invalid("child box too small")
 NOT_UTF8 = invalid("invalid utf8")
 
@@ -110,6 +115,35 @@ def kept_list(buffer, expected, written=None):
     return Row(buffer, kept_boxes=found, kept_written=written)
 
 
+def declared(buffer, expected, written=None):
+    """The box of a buffer, whose type is declared, is read as this value or has this fault, and is written in these
+    bytes."""
+    found = outcome(expected), cursor(buffer, 0, expected)
+    return Row(buffer, declared=found, declared_written=written)
+
+
+def declared_as(buffer, value):
+    """The box of a buffer, whose type is declared, is read as this value, and is written in the same bytes. Wherever
+    they are cut after the header, it is end of input."""
+    yield declared(buffer, value, buffer)
+    for length in range(8, len(buffer)):
+        yield declared(buffer[:length], END)
+
+
+def count_and_bytes(code, count, rest):
+    """A full box of a count and bytes up to its end, by the names of these fields; and the same without bytes. The bytes
+    count up from 0x81, after the version."""
+    whole = box(code, b"\0", counting(0x81, 0x93))
+
+    def value(bytes_left):
+        fields = {count: 0x84858687, rest: list(bytes_left)}
+        return Box(code.decode(), version=0, flags=0x818283, **fields)
+
+    yield from declared_as(whole, value(counting(0x88, 0x93)))
+    yield from declared_as(box(code, whole[8:16]), value(b""))
+    yield declared(changed(whole, {8: 1}), NO_VERSION_1)
+
+
 def cuts(buffer):
     """Wherever the bytes are cut, it is end of input."""
     for length in range(len(buffer)):
@@ -128,14 +162,14 @@ def versions_above_1(buffer):
         yield one(changed(buffer, {8: version}), WRONG_VERSION)
 
 
-def one_row_short(buffer, value, length, fault):
+def one_row_short(buffer, value, length, fault, read=one):
     """A table that is one row of this length short, by a byte, by three, and by all of it. If the buffer is too short
     it is end of input, and if the size is too small it is this fault. With a larger size it is read as it is."""
     size = len(buffer)
     for part in (1, 3, length):
-        yield one(buffer[:-part], END)
-        yield one(resized(buffer, size - part), fault)
-        yield one(resized(buffer, size + part), value)
+        yield read(buffer[:-part], END)
+        yield read(resized(buffer, size - part), fault)
+        yield read(resized(buffer, size + part), value)
 
 
 def large_count(name, *numbers, version=0, flags=0, fault=None):

@@ -8,7 +8,7 @@ use Rattle.mp4_frame.specs.declared.box_type.BoxType.TheVariants as names
 use Rattle.mp4_frame.proofs.Checks.{are_bytes-drop, reads_ok, reads_back}
 use Rattle.mp4_frame.proofs.Framing.{header_of_fields, own_normal_form, fits_read, Number}
 use Rattle.mp4_frame.proofs.Rows.{one_run_again, one_run_is}
-use Rattle.mp4_stream.specs.Sound.{ReadsSoundly, ReadsOwnCode}
+use Rattle.mp4_lists.specs.Sound.{ReadsSoundly, ReadsOwnCode}
 use Rattle.example_callers.specs.declared.mark.TheConstants.{MARK}
 use Rattle.example_callers.specs.declared.mark.MarkBox.{MarkBox}
 use Rattle.example_callers.specs.Mark.{value_mark, reads_mark, fields_mark, WritableMark, bytes_mark, format_mark}

@@ -1,11 +1,10 @@
 //! The pixel aspect ratio box, which has no version.
 
 ghost use Rattle.example_sidx.specs.declared.pasp.TheConstants.{PASP};
-ghost use Rattle.std.proofs.Common.{refl, lit<};
-ghost use Rattle.mp4_stream.specs.Author.{layout_of};
+ghost use Rattle.std.specs.Prelude.{◌≡◌};
+ghost use Rattle.mp4_stream.specs.Author.{layout_of, refl, lit<};
 
-use mp4_stream::author::{About, Declared, DeclaredBox, Last, U32};
-use mp4_stream::{box_of, parts_of};
+use mp4_stream::declaring::*;
 
 /// The code: `pasp`.
 pub const PASP: u32 = 0x7061_7370;
@@ -17,6 +16,18 @@ pub struct Pasp {
     pub h_spacing: u32,
     /// The relative height.
     pub v_spacing: u32,
+}
+
+/// Square pixels.
+impl Default for Pasp {
+    ghost is_default = { λ v. v ≡ record { h_spacing = 1; v_spacing = 1 } };
+
+    fn default() -> Pasp {
+        Pasp {
+            h_spacing: 1,
+            v_spacing: 1,
+        }
+    }
 }
 
 impl DeclaredBox for Pasp {

@@ -1,11 +1,9 @@
 //! The producer reference time box.
 
 ghost use Rattle.example_sidx.specs.declared.prft.TheConstants.{PRFT};
-ghost use Rattle.std.proofs.Common.{refl, lit<};
-ghost use Rattle.mp4_stream.specs.Author.{layout_of};
+ghost use Rattle.mp4_stream.specs.Author.{layout_of, refl, lit<};
 
-use mp4_stream::author::{About, Declared, DeclaredBox, Full, Last, Time, U32, U64};
-use mp4_stream::{box_of, parts_of};
+use mp4_stream::declaring::*;
 
 /// The code: `prft`.
 pub const PRFT: u32 = 0x7072_6674;

@@ -1,13 +1,9 @@
 //! The protection system specific header box, which has keys in version 1 alone, and a run of bytes.
 
 ghost use Rattle.example_sidx.specs.declared.pssh.TheConstants.{PSSH};
-ghost use Rattle.std.proofs.Common.{refl, lit<};
-ghost use Rattle.mp4_stream.specs.Author.{layout_of};
+ghost use Rattle.mp4_stream.specs.Author.{layout_of, refl, lit<};
 
-use mp4_stream::author::{
-    About, Array, Bytes, Declared, DeclaredBox, FromVersion, Full, If, Last, Rows, Shape, U32,
-};
-use mp4_stream::{Entries, box_of, parts_of};
+use mp4_stream::declaring::*;
 
 /// The code: `pssh`.
 pub const PSSH: u32 = 0x7073_7368;

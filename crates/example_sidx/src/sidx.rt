@@ -1,14 +1,9 @@
 //! The segment index box.
 
-ghost use Rattle.example_sidx.specs.declared.sidx.TheConstants.{SIDX};
-ghost use Rattle.std.proofs.Common.{refl, lit<};
-ghost use Rattle.std.specs.Prelude.{[], ◌∷◌};
-ghost use Rattle.mp4_stream.specs.Author.{layout_of, packed, flag, unsigned};
+ghost use Rattle.example_sidx.specs.declared.sidx.TheConstants.{SIDX, WIDTHS};
+ghost use Rattle.mp4_stream.specs.Author.{layout_of, packed, fields_of, refl, lit<};
 
-use mp4_stream::author::{
-    About, Declared, DeclaredBox, EntryLayout, Full, Last, List, Reserved, Shape, Time, U16, U32,
-};
-use mp4_stream::{Entries, Result, TryClone, box_of, entry_of, numbers_of, parts_of};
+use mp4_stream::declaring::*;
 
 /// The code: `sidx`.
 pub const SIDX: u32 = 0x7369_6478;
@@ -30,14 +25,16 @@ pub struct SidxEntry {
     pub sap_delta_time: u32,
 }
 
+/// The widths of its fields, in bits; a field of a single bit is a flag.
+const WIDTHS: [u8; 6] = [1, 31, 32, 1, 3, 28];
+
 impl EntryLayout<6, 12> for SidxEntry {
     ghost use Rattle.example_sidx.specs.contracts.sidx.SidxEntry.{struct};
 
-    ghost layout = { packed (flag ∷ unsigned 31 ∷ unsigned 32 ∷ flag ∷ unsigned 3 ∷ unsigned 28 ∷ []) struct.as_values
-        (λ v. struct.make v tt) (λ _. refl) (λ _. refl) refl };
+    ghost layout = { packed (fields_of WIDTHS) struct.as_values (λ v. struct.make v tt) (λ _. refl) (λ _. refl) refl };
 
     fn widths() -> [u8; 6] {
-        [1, 31, 32, 1, 3, 28]
+        WIDTHS
     }
 
     fn numbers(&self) -> [u64; 6] {
@@ -53,8 +50,7 @@ impl EntryLayout<6, 12> for SidxEntry {
     ghost few = { lit< tt };
 }
 
-/// The fields of a segment index: where the parts of a segment's media are, and when they are presented (`sidx`,
-/// ISO/IEC 14496-12, 8.16.3).
+/// Where the parts of a segment's media are, and when they are presented (`sidx`, ISO/IEC 14496-12, 8.16.3).
 #[derive(Debug, Drop, PartialEq, Eq)]
 pub struct Sidx {
     /// 0, or 1 for a time and an offset of 64 bits.
@@ -104,7 +100,7 @@ impl DeclaredBox for Sidx {
 }
 
 impl TryClone for Sidx {
-    fn try_clone(&self) -> Result<Sidx> {
+    fn try_clone(&self) -> mp4_stream::Result<Sidx> {
         let entries = self.entries.try_clone()?;
         Ok(Sidx { entries, ..*self })
     }

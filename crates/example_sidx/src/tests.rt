@@ -1,18 +1,13 @@
 //! Tests of what no contract says: bytes that were worked out from the standards, and not printed by this code.
 
+mod boxes;
 mod laws;
-mod limits;
 mod lists;
-mod numbers;
-mod options;
 mod prft;
-mod pssh;
-mod runs;
-mod sidx_or_any;
-mod vectors;
+mod values;
 
 use crate::{Sidx, SidxBox, SidxEntry};
-use mp4_stream::{ByteCursor, Entries, Error, ReadBox, Result as Made, WriteBox};
+use mp4_stream::{ByteCursor, ReadBox, Result as Made, WriteBox};
 use std::alloc::Global;
 
 /// Version 0, with three references: the first to another index, the second to media that begins with an access point,
@@ -29,19 +24,6 @@ pub(crate) const LONG: [u8; 76] = *b"\0\0\0\x4csidx\x01\x81\x82\x83\x84\x85\x86\
 \x9c\x9d\x9e\x9f\xa0\xa1\xa2\xa3\x54\xa5\xa6\xa7\
 \x28\xa9\xaa\xab\xac\xad\xae\xaf\xb0\xb1\xb2\xb3\
 \x34\xb5\xb6\xb7\xb8\xb9\xba\xbb\x7c\xbd\xbe\xbf";
-
-/// Version 0, numbers of 0 and no entries.
-pub(crate) fn empty(alloc: Global) -> SidxBox {
-    SidxBox::new(Sidx {
-        version: 0,
-        flags: 0,
-        reference_id: 0,
-        timescale: 0,
-        earliest_presentation_time: 0,
-        first_offset: 0,
-        entries: Entries::new(alloc),
-    })
-}
 
 /// The box of `SHORT`.
 pub(crate) fn short(alloc: Global) -> Made<SidxBox> {
@@ -126,31 +108,6 @@ pub(crate) fn read<B: ReadBox>(alloc: Global, bytes: &[u8], size: u64) -> Made<B
     let mut reader = ByteCursor::new(bytes);
     reader.set_position(8);
     B::read_box(alloc, &mut reader, size)
-}
-
-/// The text of the error, if the outcome is invalid data; `end` if it is end of input, and `ok` if it is a value.
-pub(crate) fn outcome_of<T>(outcome: &Made<T>) -> &'static str {
-    match outcome {
-        Ok(_) => "ok",
-        Err(Error::IoError) => "end",
-        Err(Error::InvalidData(text)) => text,
-        Err(_) => "another error",
-    }
-}
-
-/// How reading the first `length` of these bytes ends, in a box of this size.
-pub(crate) fn ending_of_cut<B: ReadBox + Drop>(
-    alloc: Global,
-    bytes: &[u8],
-    length: usize,
-    size: u64,
-) -> &'static str {
-    outcome_of(&read::<B>(alloc, &bytes[..length.min(bytes.len())], size))
-}
-
-/// How writing the box ends, by `outcome_of`.
-pub(crate) fn ending_of_write<B: WriteBox>(alloc: Global, value: &B) -> &'static str {
-    outcome_of(&value.write_box(&mut Vec::new(alloc)))
 }
 
 /// Whether the box is written in these bytes, and read from them.

@@ -1,2 +1,3 @@
 pub mod BitSteps
+pub mod FirstZero
 pub mod Room

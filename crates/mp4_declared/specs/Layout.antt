@@ -36,6 +36,14 @@ abbrev pub widths_of : List BitField → List ℕ
 widths_of [] = []
 widths_of (f ∷ fs) = width_of f ∷ widths_of fs
 
+-- the fields of these widths, where each of a single bit is a flag
+abbrev pub field_of : ℕ → BitField
+field_of w = if w == 1 then flag else unsigned w
+
+abbrev pub fields_of : List ℕ → List BitField
+fields_of [] = []
+fields_of (w ∷ ws) = field_of w ∷ fields_of ws
+
 -- what is in a field
 abbrev pub InField : BitField → Type 0
 InField flag = Bool

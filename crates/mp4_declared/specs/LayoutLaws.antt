@@ -11,7 +11,7 @@ use Rattle.mp4_declared.specs.Bits.{bits, bytes_in, joined, split, NumbersFit, a
 use Rattle.mp4_declared.specs.BitsLaws.{pow256, joined-lt, split-joined, split-below, bits_in, fields_whole}
 use Rattle.mp4_declared.specs.BitsLaws.{and_first, and_second}
 use Rattle.mp4_declared.specs.Layout.{bit, EntryLayout, row_of, entry_of, FitsEntry, BitField, flag, unsigned, width_of}
-use Rattle.mp4_declared.specs.Layout.{widths_of, InField, InFields, number_of, numbers_of, value_of, values_of, fill}
+use Rattle.mp4_declared.specs.Layout.{widths_of, InField, InFields, number_of, numbers_of, value_of, values_of}
 use Rattle.mp4_declared.specs.Layout.{OwnEntry, layout_in}
 
 -- a flag is read back, and fits one bit

@@ -11,3 +11,7 @@ pub mod OwnBox
 pub mod OwnBoxLaws
 pub mod MoreShapes
 pub mod MoreShapesLaws
+pub mod Strings
+pub mod StringsLaws
+pub mod ByCode
+pub mod CheckedByCode

@@ -4,16 +4,15 @@ ghost use Rattle.std.specs.Prelude.{◌≡◌, ℕ, ◌≤◌, ◌<◌, ◌+◌,
 ghost use Rattle.std.specs.Prelude.{take};
 ghost use Rattle.mp4_frame.specs.Bytes.{bytes_of_fields};
 ghost use Rattle.mp4_frame.specs.Format.{write_laws};
+ghost use Rattle.mp4_frame.specs.Reading.{Answers};
 ghost use Rattle.mp4_frame.specs.declared.box_type.BoxType.TheVariants as names;
 ghost use Rattle.mp4_declared.specs.OwnBox.{no_context, reads_declared, format_declared, header_declared};
 ghost use Rattle.mp4_declared.specs.OwnBox.{OwnLayout};
 ghost use Rattle.mp4_declared.specs.OwnBoxLaws.{laws_declared};
 
 use crate::context::Context;
-use crate::shape::{PutShape, Shape, read_next};
-use mp4_frame::{
-    BoxLaws, BoxType, Mp4Box, ReadBox, Result, TryClone, WriteBox, expect_bytes, put_u32,
-};
+use crate::shape::{PutShape, Shape};
+use mp4_frame::{BoxLaws, BoxType, Error, Mp4Box, ReadBox, Result, TryClone, WriteBox, put_u32};
 use std::alloc::Global;
 use std::marker::Model;
 use std::ops::{Deref, DerefMut};
@@ -182,10 +181,54 @@ impl<T> DerefMut for Declared<T> {
     }
 }
 
+impl<T: Default> Default for Declared<T> {
+    ghost is_default = { λ b. T.is_default b };
+
+    fn default() -> Self {
+        Declared::new(T::default())
+    }
+}
+
 impl<T: TryClone> TryClone for Declared<T> {
     fn try_clone(&self) -> Result<Self> {
         Ok(Declared::new(self.fields.try_clone()?))
     }
+}
+
+/// The fields of a box of this size whose header is at the front of `bytes`.
+#[inline]
+#[tactic(auto, unfolding(crate::specs::OwnBox::reads_declared))]
+fn read_fields<T: DeclaredBox>(alloc: Global, bytes: &[u8], size: u64) -> Result<T>
+    ensures { (start : ℕ) → Answers result (reads_declared T.Shape.shape T.layout bytes.now start size) }
+{
+    if bytes.len() < T::Shape::front(NO_CONTEXT).saturating_add(8) {
+        return Err(Error::IoError);
+    }
+    let (content, _) = T::Shape::read(alloc, bytes, 8, size, NO_CONTEXT)?;
+    Ok(T::from_content(content))
+}
+
+/// The same, as a call of its own.
+#[cold]
+#[inline(never)]
+fn read_last_fields<T: DeclaredBox>(alloc: Global, bytes: &[u8], size: u64) -> Result<T>
+    ensures { (start : ℕ) → Answers result (reads_declared T.Shape.shape T.layout bytes.now start size) }
+{
+    read_fields(alloc, bytes, size)
+}
+
+/// As many bytes as the numbers of most boxes have.
+const ENOUGH: usize = 64;
+
+/// The same. Where the buffer has enough bytes from the box's start on, the compiler finds that the numbers are there.
+#[inline]
+pub(crate) fn fields_at<T: DeclaredBox>(alloc: Global, bytes: &[u8], size: u64) -> Result<T>
+    ensures { (start : ℕ) → Answers result (reads_declared T.Shape.shape T.layout bytes.now start size) }
+{
+    if bytes.len() < ENOUGH {
+        return read_last_fields(alloc, bytes, size);
+    }
+    read_fields(alloc, bytes, size)
 }
 
 impl<T: DeclaredBox> Mp4Box for Declared<T> {
@@ -206,11 +249,8 @@ impl<T: DeclaredBox> ReadBox for Declared<T> {
 
     const LEAST: u64 = 0;
 
-    #[tactic(auto, unfolding(crate::specs::OwnBox::reads_declared))]
     fn read_content(alloc: Global, bytes: &[u8], _start: u64, size: u64) -> Result<Self> {
-        expect_bytes(bytes, 0, 8)?;
-        let (content, _) = read_next::<T::Shape>(alloc, bytes, 8, size, NO_CONTEXT, false)?;
-        Ok(Declared::new(T::from_content(content)))
+        Ok(Declared::new(fields_at(alloc, bytes, size)?))
     }
 }
 

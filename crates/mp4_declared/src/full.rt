@@ -7,7 +7,7 @@ ghost use Rattle.mp4_declared.specs.FullLaws.{full_laws};
 
 use crate::context::Context;
 use crate::shape::{PutShape, Shape, read_next};
-use mp4_frame::{Result, check, put_u32, u8_at, u24_at};
+use mp4_frame::{Error, Result, put_u32, u8_at, u24_at};
 use std::alloc::Global;
 
 /// The content of a full box (ISO/IEC 14496-12, 4.2): its version, which is below `N`, its flags, and an `S` that may
@@ -62,7 +62,9 @@ impl<const N: usize, S: Shape> Shape for Full<N, S> {
         _context: Context,
     ) -> Result<((u8, (u32, S::Value)), usize)> {
         let version = u8_at(bytes, at);
-        check(usize::from(version) < N, unknown_version(N))?;
+        if usize::from(version) >= N {
+            return Err(Error::InvalidData(unknown_version(N)));
+        }
         let flags = u24_at(bytes, at + 1);
         let context = Context { version, flags };
         let (value, next) = read_next::<S>(alloc, bytes, at + 4, end, context, false)?;

@@ -4,10 +4,12 @@
 
 mod bit_fields;
 mod bits;
+mod checked;
 mod context;
 mod declared;
 mod entries;
 mod full;
+mod in_lists;
 mod last;
 mod list;
 mod number;
@@ -17,8 +19,10 @@ mod rows;
 mod run;
 mod shape;
 mod signed;
+mod strings;
 
 pub use bit_fields::Bits;
+pub use checked::{Check, Checked};
 pub use context::Context;
 pub use declared::{About, Declared, DeclaredBox};
 pub use entries::{EntryLayout, entries_fit, entries_of, put_rows};
@@ -31,3 +35,4 @@ pub use rows::Rows;
 pub use run::{Array, Bytes, Rest};
 pub use shape::{PutShape, Shape};
 pub use signed::{I8, I16, I32};
+pub use strings::{Pascal, Terminated};

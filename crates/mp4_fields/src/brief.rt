@@ -4,7 +4,7 @@ ghost use Rattle.std.specs.Prelude.{◌≤◌, length, OnOk};
 ghost use Rattle.mp4_fields.specs.Nesting.{fields, Keeps};
 
 use crate::flag_names::{FlagName, NONE};
-use crate::sink::FieldSink;
+use crate::sink::{FieldSink, put_all};
 use crate::value::Value;
 use mp4_frame::{i16_at, u8_at, u16_at, u32_at};
 use mp4_stream::Result;
@@ -24,8 +24,13 @@ pub fn put_full<S: FieldSink>(
 ) -> Result<()>
     ensures nesting { OnOk result (Keeps S.since fields sink.old sink.new) }
 {
-    sink.field("version", Value::Number(u64::from(version)))?;
-    sink.field("flags", Value::Flags(flags, 6, names))
+    put_all(
+        &[
+            ("version", Value::Number(u64::from(version))),
+            ("flags", Value::Flags(flags, 6, names)),
+        ],
+        sink,
+    )
 }
 
 /// Hands the fields before the boxes of an `stsd` or a `dref` to a sink: version, flags and how many boxes it says that
@@ -52,23 +57,28 @@ pub fn put_visual<S: FieldSink>(bytes: &[u8], sink: &mut S) -> Result<()>
     requires { 78 ≤ length bytes.now }
     ensures nesting { OnOk result (Keeps S.since fields sink.old sink.new) }
 {
-    sink.field(
-        "data_reference_index",
-        Value::Number(u64::from(u16_at(bytes, 6))),
-    )?;
-    sink.field("width", Value::Number(u64::from(u16_at(bytes, 24))))?;
-    sink.field("height", Value::Number(u64::from(u16_at(bytes, 26))))?;
-    sink.field(
-        "horizresolution",
-        Value::Fixed(i64::from(u32_at(bytes, 28)), 16),
-    )?;
-    sink.field(
-        "vertresolution",
-        Value::Fixed(i64::from(u32_at(bytes, 32)), 16),
-    )?;
-    sink.field("frame_count", Value::Number(u64::from(u16_at(bytes, 40))))?;
-    sink.field("compressorname", Value::Text(compressor(&bytes[42..74])))?;
-    sink.field("depth", Value::Number(u64::from(u16_at(bytes, 74))))
+    put_all(
+        &[
+            (
+                "data_reference_index",
+                Value::Number(u64::from(u16_at(bytes, 6))),
+            ),
+            ("width", Value::Number(u64::from(u16_at(bytes, 24)))),
+            ("height", Value::Number(u64::from(u16_at(bytes, 26)))),
+            (
+                "horizresolution",
+                Value::Fixed(i64::from(u32_at(bytes, 28)), 16),
+            ),
+            (
+                "vertresolution",
+                Value::Fixed(i64::from(u32_at(bytes, 32)), 16),
+            ),
+            ("frame_count", Value::Number(u64::from(u16_at(bytes, 40)))),
+            ("compressorname", Value::Text(compressor(&bytes[42..74]))),
+            ("depth", Value::Number(u64::from(u16_at(bytes, 74)))),
+        ],
+        sink,
+    )
 }
 
 /// Hands the fields that QuickTime's second version of a sound entry has after the common ones to a sink (QuickTime
@@ -77,26 +87,31 @@ fn put_second<S: FieldSink>(bytes: &[u8], sink: &mut S) -> Result<()>
     requires { 64 ≤ length bytes.now }
     ensures nesting { OnOk result (Keeps S.since fields sink.old sink.new) }
 {
-    sink.field("audio_sample_rate", Value::Bytes(&bytes[32..40]))?;
-    sink.field(
-        "num_audio_channels",
-        Value::Number(u64::from(u32_at(bytes, 40))),
-    )?;
-    sink.field(
-        "const_bits_per_channel",
-        Value::Number(u64::from(u32_at(bytes, 48))),
-    )?;
-    sink.field(
-        "format_specific_flags",
-        Value::Flags(u32_at(bytes, 52), 8, NONE),
-    )?;
-    sink.field(
-        "const_bytes_per_audio_packet",
-        Value::Number(u64::from(u32_at(bytes, 56))),
-    )?;
-    sink.field(
-        "const_lpcm_frames_per_audio_packet",
-        Value::Number(u64::from(u32_at(bytes, 60))),
+    put_all(
+        &[
+            ("audio_sample_rate", Value::Bytes(&bytes[32..40])),
+            (
+                "num_audio_channels",
+                Value::Number(u64::from(u32_at(bytes, 40))),
+            ),
+            (
+                "const_bits_per_channel",
+                Value::Number(u64::from(u32_at(bytes, 48))),
+            ),
+            (
+                "format_specific_flags",
+                Value::Flags(u32_at(bytes, 52), 8, NONE),
+            ),
+            (
+                "const_bytes_per_audio_packet",
+                Value::Number(u64::from(u32_at(bytes, 56))),
+            ),
+            (
+                "const_lpcm_frames_per_audio_packet",
+                Value::Number(u64::from(u32_at(bytes, 60))),
+            ),
+        ],
+        sink,
     )
 }
 
@@ -106,21 +121,26 @@ fn put_first<S: FieldSink>(bytes: &[u8], sink: &mut S) -> Result<()>
     requires { 44 ≤ length bytes.now }
     ensures nesting { OnOk result (Keeps S.since fields sink.old sink.new) }
 {
-    sink.field(
-        "samples_per_packet",
-        Value::Number(u64::from(u32_at(bytes, 28))),
-    )?;
-    sink.field(
-        "bytes_per_packet",
-        Value::Number(u64::from(u32_at(bytes, 32))),
-    )?;
-    sink.field(
-        "bytes_per_frame",
-        Value::Number(u64::from(u32_at(bytes, 36))),
-    )?;
-    sink.field(
-        "bytes_per_sample",
-        Value::Number(u64::from(u32_at(bytes, 40))),
+    put_all(
+        &[
+            (
+                "samples_per_packet",
+                Value::Number(u64::from(u32_at(bytes, 28))),
+            ),
+            (
+                "bytes_per_packet",
+                Value::Number(u64::from(u32_at(bytes, 32))),
+            ),
+            (
+                "bytes_per_frame",
+                Value::Number(u64::from(u32_at(bytes, 36))),
+            ),
+            (
+                "bytes_per_sample",
+                Value::Number(u64::from(u32_at(bytes, 40))),
+            ),
+        ],
+        sink,
     )
 }
 
@@ -138,9 +158,14 @@ pub fn put_sound<S: FieldSink>(bytes: &[u8], quicktime: bool, sink: &mut S) -> R
     if quicktime {
         sink.field("version", Value::Number(u64::from(version)))?;
     }
-    sink.field("channelcount", Value::Number(u64::from(u16_at(bytes, 16))))?;
-    sink.field("samplesize", Value::Number(u64::from(u16_at(bytes, 18))))?;
-    sink.field("samplerate", Value::Fixed(i64::from(u32_at(bytes, 24)), 16))?;
+    put_all(
+        &[
+            ("channelcount", Value::Number(u64::from(u16_at(bytes, 16)))),
+            ("samplesize", Value::Number(u64::from(u16_at(bytes, 18)))),
+            ("samplerate", Value::Fixed(i64::from(u32_at(bytes, 24)), 16)),
+        ],
+        sink,
+    )?;
     match version {
         1 if quicktime && bytes.len() >= 44 => put_first(bytes, sink),
         2 if quicktime && bytes.len() >= 64 => put_second(bytes, sink),

@@ -5,7 +5,6 @@
 mod brief;
 mod fields;
 mod flag_names;
-mod has_fields;
 mod sink;
 mod value;
 
@@ -15,6 +14,5 @@ pub use brief::{
 };
 pub use fields::put_fields;
 pub use flag_names::FlagName;
-pub use has_fields::HasFields;
-pub use sink::FieldSink;
+pub use sink::{FieldSink, put_all};
 pub use value::Value;

@@ -49,3 +49,13 @@ pub trait FieldSink {
     fn end_group(&mut self) -> Result<()>
         ensures nesting { OnOk result (Ends since fields fields self.old self.new) };
 }
+
+/// Hands fields of one value each to a sink, in this order.
+pub fn put_all<S: FieldSink>(values: &[(&str, Value<'_>)], sink: &mut S) -> Result<()>
+    ensures nesting { OnOk result (Keeps S.since fields sink.old sink.new) }
+{
+    for (name, value) in values {
+        sink.field(name, *value)?;
+    }
+    Ok(())
+}

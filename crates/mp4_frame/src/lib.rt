@@ -60,4 +60,4 @@ pub use table::{
 pub use text::Text;
 pub use traits::{BoxLaws, Mp4Box, ReadBox, ReadsWithoutMemory, StreamBox, WriteBox};
 pub use try_clone::TryClone;
-pub use write::{write_boxes, write_zeros};
+pub use write::{put_boxes, write_boxes, write_zeros};

@@ -45,7 +45,8 @@ fn writable_total<B: WriteBox>(boxes: &[B]) -> Option<u64>
     Some(total)
 }
 
-fn put_boxes<B: WriteBox>(boxes: &[B], out: &mut [u8])
+/// Puts the boxes' bytes, one after the other.
+pub fn put_boxes<B: WriteBox>(boxes: &[B], out: &mut [u8])
     requires writable { All B.format.Writable boxes.now }
     requires room { length out.old ≡ length (stream B.format.bytes boxes.now) }
     ensures { out.new ≡ stream B.format.bytes boxes.now }

@@ -14,7 +14,6 @@ use Rattle.mp4_io.specs.declared.failure.Failure.{Failure}
 use Rattle.mp4_io.specs.declared.failure.Failure.TheVariants as failures
 use Rattle.mp4_inspect.specs.Written.{Tells, TellsAll, WritesBox, WritesBoxes, BeginsBox, BeginsBoxes, WritesFile}
 use Rattle.mp4_inspect.specs.Written.{BeginsFile}
-use Rattle.mp4_stream.specs.AnyBox.{known_any, reading_any}
 use Rattle.mp4_tree.specs.Tree.{boxes_of}
 use Rattle.mp4_tree.specs.declared.tree_box.TreeBox.{TreeBox}
 
@@ -106,70 +105,72 @@ module _ {A : Type 0} (known : BoxType → Bool) (reading : BoxType → List ℕ
             (Appends-trans a b c text (take k last) appends appends_last),
       )
 
--- the boxes of a file after its heading
-pub writes_file : (heading B : List ℕ) (boxes : List TreeBox) (a b c : Option (List ℕ)) (faulty : Bool)
-    → boxes ≡ boxes_of B → Appends a b heading
-    → WritesBoxes known_any reading_any B boxes b c faulty → WritesFile heading B a c faulty
-writes_file heading B boxes a b c faulty all headed (text, tells, appends) = (
-  text,
-  subst (λ (xs : List TreeBox). TellsAll known_any reading_any B xs text faulty) all tells,
-  Appends-trans a b c heading text headed appends,
-)
+module _ {A : Type 0} (known : BoxType → Bool) (reading : BoxType → List ℕ → ℕ → ℕ → Reading A) where
+  -- the boxes of a file after its heading
+  pub writes_file : (heading B : List ℕ) (boxes : List TreeBox) (a b c : Option (List ℕ)) (faulty : Bool)
+      → boxes ≡ boxes_of B → Appends a b heading
+      → WritesBoxes known reading B boxes b c faulty → WritesFile known reading heading B a c faulty
+  writes_file heading B boxes a b c faulty all headed (text, tells, appends) = (
+    text,
+    subst (λ (xs : List TreeBox). TellsAll known reading B xs text faulty) all tells,
+    Appends-trans a b c heading text headed appends,
+  )
 
--- a beginning of the boxes of a file after its heading
-pub begins_file : (heading B : List ℕ) (boxes : List TreeBox) (a b c : Option (List ℕ)) → boxes ≡ boxes_of B
-    → Appends a b heading
-    → BeginsBoxes known_any reading_any B boxes b c → BeginsFile heading B a c
-begins_file heading B boxes a b c all headed (n, k, text, faulty, tells, appends) = (
-  n,
-  length heading + k,
-  text,
-  faulty,
-  subst (λ (xs : List TreeBox). TellsAll known_any reading_any B (take n xs) text faulty) all tells,
-  subst (Appends a c) (sym (take-append-add heading text k)) (Appends-trans a b c heading (take k text) headed appends),
-)
+  -- a beginning of the boxes of a file after its heading
+  pub begins_file : (heading B : List ℕ) (boxes : List TreeBox) (a b c : Option (List ℕ)) → boxes ≡ boxes_of B
+      → Appends a b heading
+      → BeginsBoxes known reading B boxes b c → BeginsFile known reading heading B a c
+  begins_file heading B boxes a b c all headed (n, k, text, faulty, tells, appends) = (
+    n,
+    length heading + k,
+    text,
+    faulty,
+    subst (λ (xs : List TreeBox). TellsAll known reading B (take n xs) text faulty) all tells,
+    subst (Appends a c) (sym (take-append-add heading text k)) (Appends-trans a b c heading
+        (take k text) headed appends),
+  )
 
--- a beginning of the heading alone
-begins_heading : (heading B : List ℕ) (a b : Option (List ℕ)) (k : ℕ) → Appends a b (take k heading)
-    → BeginsFile heading B a b
-begins_heading heading B a b k begun =
-    (0, k, [], false, (refl, refl), subst (λ (xs : List ℕ). Appends a b (take k xs)) (sym (append-nil heading)) begun)
+  -- a beginning of the heading alone
+  begins_heading : (heading B : List ℕ) (a b : Option (List ℕ)) (k : ℕ) → Appends a b (take k heading)
+      → BeginsFile known reading heading B a b
+  begins_heading heading B a b k begun =
+      (0, k, [], false, (refl, refl), subst (λ (xs : List ℕ). Appends a b (take k xs)) (sym (append-nil heading)) begun)
 
--- nothing is written
-pub begins_nothing : (heading B : List ℕ) (a : Option (List ℕ)) → BeginsFile heading B a a
-begins_nothing heading B a = (0, 0, [], false, (refl, refl), Appends-nil a)
+  -- nothing is written
+  pub begins_nothing : (heading B : List ℕ) (a : Option (List ℕ)) → BeginsFile known reading heading B a a
+  begins_nothing heading B a = (0, 0, [], false, (refl, refl), Appends-nil a)
 
--- the same whatever the outcome is, and whether the bytes are known
-pub begins_unwritten : (result : Result Bool Failure) (r : Option (List ℕ)) (heading : List ℕ) (a : Option (List ℕ))
-    → OnErr result (IfSome r (λ B. BeginsFile heading B a a))
-begins_unwritten (Ok faulty) r heading a = tt
-begins_unwritten (Err failure) None heading a = tt
-begins_unwritten (Err failure) (Some B) heading a = begins_nothing heading B a
+  -- the same whatever the outcome is, and whether the bytes are known
+  pub begins_unwritten : (result : Result Bool Failure) (r : Option (List ℕ)) (heading : List ℕ) (a : Option (List ℕ))
+      → OnErr result (IfSome r (λ B. BeginsFile known reading heading B a a))
+  begins_unwritten (Ok faulty) r heading a = tt
+  begins_unwritten (Err failure) None heading a = tt
+  begins_unwritten (Err failure) (Some B) heading a = begins_nothing heading B a
 
--- the heading could not be written
-pub begins_of_failed : (V : Type 0) (text heading B : List ℕ) (a b : Option (List ℕ)) (failure : Failure)
-    → text ≡ heading → WritesAll {V = V} a b (Err failure) text → BeginsFile heading B a b
-begins_of_failed V text heading B a b failures.Write same (k, begun) =
-    begins_heading heading B a b k (subst (λ (h : List ℕ). Appends a b (take k h)) same begun)
-begins_of_failed V text heading B a b failures.Read same none = absurd none
-begins_of_failed V text heading B a b failures.Memory same none = absurd none
+  -- the heading could not be written
+  pub begins_of_failed : (V : Type 0) (text heading B : List ℕ) (a b : Option (List ℕ)) (failure : Failure)
+      → text ≡ heading → WritesAll {V = V} a b (Err failure) text → BeginsFile known reading heading B a b
+  begins_of_failed V text heading B a b failures.Write same (k, begun) =
+      begins_heading heading B a b k (subst (λ (h : List ℕ). Appends a b (take k h)) same begun)
+  begins_of_failed V text heading B a b failures.Read same none = absurd none
+  begins_of_failed V text heading B a b failures.Memory same none = absurd none
 
--- the whole tree under its heading
-pub texts_of : (heading : List ℕ) (boxes : List TreeBox) (r : Option (List ℕ)) (a b c : Option (List ℕ))
-    (result : Result Bool Failure) → Appends a b heading
-    → IfSome r (λ B. IfOk result (λ faulty. WritesBoxes known_any reading_any B boxes b c faulty))
-    → IfSome r (λ B. boxes ≡ boxes_of B → IfOk result (λ faulty. WritesFile heading B a c faulty))
-texts_of heading boxes None a b c result headed written = tt
-texts_of heading boxes (Some B) a b c (Ok faulty) headed written =
-    λ all. writes_file heading B boxes a b c faulty all headed written
-texts_of heading boxes (Some B) a b c (Err failure) headed written = λ all. tt
+  -- the whole tree under its heading
+  pub texts_of : (heading : List ℕ) (boxes : List TreeBox) (r : Option (List ℕ)) (a b c : Option (List ℕ))
+      (result : Result Bool Failure) → Appends a b heading
+      → IfSome r (λ B. IfOk result (λ faulty. WritesBoxes known reading B boxes b c faulty))
+      → IfSome r (λ B. boxes ≡ boxes_of B → IfOk result (λ faulty. WritesFile known reading heading B a c faulty))
+  texts_of heading boxes None a b c result headed written = tt
+  texts_of heading boxes (Some B) a b c (Ok faulty) headed written =
+      λ all. writes_file heading B boxes a b c faulty all headed written
+  texts_of heading boxes (Some B) a b c (Err failure) headed written = λ all. tt
 
--- a beginning of the tree, after the whole heading
-pub beginning_of : (heading : List ℕ) (boxes : List TreeBox) (r : Option (List ℕ)) (a b c : Option (List ℕ))
-    (result : Result Bool Failure) → Appends a b heading
-    → OnErr result (IfSome r (λ B. BeginsBoxes known_any reading_any B boxes b c))
-    → OnErr result (IfSome r (λ B. boxes ≡ boxes_of B → BeginsFile heading B a c))
-beginning_of heading boxes r a b c (Ok faulty) headed begun = tt
-beginning_of heading boxes None a b c (Err failure) headed begun = tt
-beginning_of heading boxes (Some B) a b c (Err failure) headed begun =
-    λ all. begins_file heading B boxes a b c all headed begun
+  -- a beginning of the tree, after the whole heading
+  pub beginning_of : (heading : List ℕ) (boxes : List TreeBox) (r : Option (List ℕ)) (a b c : Option (List ℕ))
+      (result : Result Bool Failure) → Appends a b heading
+      → OnErr result (IfSome r (λ B. BeginsBoxes known reading B boxes b c))
+      → OnErr result (IfSome r (λ B. boxes ≡ boxes_of B → BeginsFile known reading heading B a c))
+  beginning_of heading boxes r a b c (Ok faulty) headed begun = tt
+  beginning_of heading boxes None a b c (Err failure) headed begun = tt
+  beginning_of heading boxes (Some B) a b c (Err failure) headed begun =
+      λ all. begins_file heading B boxes a b c all headed begun

@@ -16,7 +16,6 @@ use Rattle.mp4_inspect.specs.Faults.{WritesFaults, WritesAllFaults, WritesCheck}
 use Rattle.mp4_inspect.specs.Kind.{kind_of}
 use Rattle.mp4_inspect.specs.declared.content.Content.{Content}
 use Rattle.mp4_io.specs.declared.failure.Failure.{Failure}
-use Rattle.mp4_stream.specs.AnyBox.{known_any, reading_any}
 use Rattle.mp4_tree.specs.Tree.{boxes_of}
 use Rattle.mp4_tree.specs.declared.tree_box.TreeBox.{TreeBox}
 
@@ -30,7 +29,7 @@ module _ {A : Type 0} (known : BoxType → Bool) (reading : BoxType → List ℕ
     (List ℕ)) where
   -- both lines of a box
   pub writes_lines : (front first second : List ℕ) (found : TreeBox) (told disagrees : Bool) (a b c : Option (List ℕ))
-      → ((content : Content A) × IfSome bytes (λ B. ShowsAs known reading B found (kind_of found) content)
+      → ((content : Content A) × IfSome bytes (λ B. ShowsAs known reading B found (kind_of known found) content)
       × IsTold content told)
       → (told ≡ true → IsLine front found first) → Appends a b (told_text told first)
       → (disagrees ≡ true → IsLine front found second) → Appends b c (told_text disagrees second)
@@ -111,13 +110,14 @@ module _ {A : Type 0} (known : BoxType → Bool) (reading : BoxType → List ℕ
       (front, text, faulty, movie, faults, Appends-trans a b c text (movie_text movie front) appends last, refl)
 
 -- the same where the file's bytes are known
-pub faults_known : (result : Result Bool Failure) (r : Option (List ℕ)) (boxes : List TreeBox) (a b : Option (List ℕ))
-    → IfOk result (λ faulty. WritesAllFaults known_any reading_any r boxes a b faulty)
-    → IfSome r (λ bytes. boxes ≡ boxes_of bytes → IfOk result (λ faulty. WritesCheck bytes a b faulty))
-faults_known result None boxes a b written = tt
-faults_known (Err failure) (Some bytes) boxes a b written = λ all. tt
-faults_known (Ok faulty) (Some bytes) boxes a b written =
-    λ all. subst (λ (xs : List TreeBox). WritesAllFaults known_any reading_any (Some bytes) xs a b faulty) all written
+pub faults_known : {A : Type 0} (known : BoxType → Bool) (reading : BoxType → List ℕ → ℕ → ℕ → Reading A)
+    (result : Result Bool Failure) (r : Option (List ℕ)) (boxes : List TreeBox) (a b : Option (List ℕ))
+    → IfOk result (λ faulty. WritesAllFaults known reading r boxes a b faulty)
+    → IfSome r (λ bytes. boxes ≡ boxes_of bytes → IfOk result (λ faulty. WritesCheck known reading bytes a b faulty))
+faults_known known reading result None boxes a b written = tt
+faults_known known reading (Err failure) (Some bytes) boxes a b written = λ all. tt
+faults_known known reading (Ok faulty) (Some bytes) boxes a b written =
+    λ all. subst (λ (xs : List TreeBox). WritesAllFaults known reading (Some bytes) xs a b faulty) all written
 
 -- what a call returned that fails only when out of memory
 pub passed : {V E F : Type 0} (P : V → Type 0) (outcome : Result V E) (result : Result V F)
@@ -129,9 +129,9 @@ passed {E = E} P outcome (Ok value) same holds = subst (λ (r : Result _ E). IfO
 pub told_of : {A E F : Type 0} (known : BoxType → Bool) (reading : BoxType → List ℕ → ℕ → ℕ → Reading A)
     (bytes : Option (List ℕ)) (found : TreeBox) (content : Content A) (outcome : Result Bool E) (result : Result Bool F)
     → IfOk result (λ value. outcome ≡ Ok value)
-    → IfSome bytes (λ B. ShowsAs known reading B found (kind_of found) content) → IfOk outcome (IsTold content)
+    → IfSome bytes (λ B. ShowsAs known reading B found (kind_of known found) content) → IfOk outcome (IsTold content)
     → IfOk result (λ told. (shown : Content A)
-    × IfSome bytes (λ B. ShowsAs known reading B found (kind_of found) shown) × IsTold shown told)
+    × IfSome bytes (λ B. ShowsAs known reading B found (kind_of known found) shown) × IsTold shown told)
 told_of known reading bytes found content outcome (Err failure) same shows told = tt
 told_of {E = E} known reading bytes found content outcome (Ok value) same shows told =
     (content, shows, subst (λ (r : Result Bool E). IfOk r (IsTold content)) same told)

@@ -10,7 +10,6 @@ use Rattle.mp4_inspect.specs.Content.{ShowsAs}
 use Rattle.mp4_inspect.specs.Kind.{kind_of}
 use Rattle.mp4_inspect.specs.declared.content.Content.{Content}
 use Rattle.mp4_inspect.specs.declared.content.Content.TheVariants as contents
-use Rattle.mp4_stream.specs.AnyBox.{known_any, reading_any}
 use Rattle.mp4_tree.specs.Tree.{boxes_of}
 use Rattle.mp4_tree.specs.declared.tree_box.TreeBox.{TreeBox}
 
@@ -44,7 +43,7 @@ abbrev pub AreLines : {A : Type 0} → (BoxType → Bool) → (BoxType → List 
     → List ℕ → TreeBox → List ℕ → Bool → Type 0
 AreLines {A} known reading bytes front found text faulty =
     (content : Content A) × (first second : List ℕ) × (told disagrees : Bool)
-    × IfSome bytes (λ B. ShowsAs known reading B found (kind_of found) content)
+    × IfSome bytes (λ B. ShowsAs known reading B found (kind_of known found) content)
     × IsTold content told × IsLineIf told front found first × IsLineIf disagrees front found second
     × (text ≡ first ++ second) × (faulty ≡ (told || disagrees))
 
@@ -81,5 +80,7 @@ WritesAllFaults known reading bytes boxes old new faulty =
     × Appends old new (text ++ movie_text movie front) × (faulty ≡ (here || not movie))
 
 -- the lines of a file of these bytes are written, and whether there are any
-abbrev pub WritesCheck : List ℕ → Option (List ℕ) → Option (List ℕ) → Bool → Type 0
-WritesCheck bytes old new faulty = WritesAllFaults known_any reading_any (Some bytes) (boxes_of bytes) old new faulty
+abbrev pub WritesCheck : {A : Type 0} → (BoxType → Bool) → (BoxType → List ℕ → ℕ → ℕ → Reading A) → List ℕ
+    → Option (List ℕ) → Option (List ℕ) → Bool → Type 0
+WritesCheck known reading bytes old new faulty =
+    WritesAllFaults known reading (Some bytes) (boxes_of bytes) old new faulty

@@ -75,7 +75,7 @@ box_tokens begun found rest =
 abbrev pub IsShown : {A : Type 0} → (BoxType → Bool) → (BoxType → List ℕ → ℕ → ℕ → Reading A) → Option (List ℕ)
     → TreeBox → List Token → Bool → Type 0
 IsShown {A} known reading bytes found rest faulty =
-    (content : Content A) × IfSome bytes (λ B. ShowsAs known reading B found (kind_of found) content)
+    (content : Content A) × IfSome bytes (λ B. ShowsAs known reading B found (kind_of known found) content)
     × IsRest content rest × (faulty ≡ is_faulty content)
 
 -- the boxes that are left where so many are begun, one after the other, and then the ends of all that are begun; and

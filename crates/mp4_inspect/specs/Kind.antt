@@ -1,12 +1,12 @@
 -- How a box is read, by its code and its setting: the box around it and the handler of its media.
-use Rattle.std.specs.Prelude.{ℕ, ◌+◌, ◌-◌, ◌^◌, ◌==◌, ◌&&◌, ◌||◌, min, nat_le, None, Some, if◌then◌else◌}
+use Rattle.std.specs.Prelude.{ℕ, Bool, ◌+◌, ◌-◌, ◌^◌, ◌==◌, ◌&&◌, ◌||◌, min, nat_le, None, Some, if◌then◌else◌}
 use Rattle.std.specs.declared.option.Option.{Option}
 use Rattle.mp4_frame.specs.BoxType.{name_of}
+use Rattle.mp4_frame.specs.declared.box_type.BoxType.{BoxType}
 use Rattle.mp4_frame.specs.declared.box_type.BoxType.TheVariants as names
 use Rattle.mp4_frame.specs.FourCC.{number_of}
 use Rattle.mp4_frame.specs.declared.codes.TheConstants as codes
 use Rattle.mp4_frame.specs.declared.four_cc.FourCC.{FourCC}
-use Rattle.mp4_stream.specs.AnyBox.{known_any}
 use Rattle.mp4_inspect.specs.declared.kind.Kind.{Kind}
 use Rattle.mp4_inspect.specs.declared.kind.Kind.TheVariants as kinds
 use Rattle.mp4_inspect.specs.declared.kind.TheConstants as constants
@@ -21,12 +21,12 @@ entry_kind code s =
     if s.handler == constants.VIDE then kinds.Visual else if s.handler == constants.SOUN then kinds.Sound else
     if code == codes.TX3G then kinds.Known names.Tx3gBox else kinds.Entry
 
--- a box that is not gone into is read by the codec, if that knows its name; an `mp4a` in a `wave` is no sample entry
-abbrev pub leaf_kind : ℕ → Setting → Kind
-leaf_kind code s =
+-- a box that is not gone into is read whole, if its name is known; an `mp4a` in a `wave` is no sample entry
+abbrev pub leaf_kind : (BoxType → Bool) → ℕ → Setting → Kind
+leaf_kind known code s =
     if code == codes.DATA then kinds.Data else if code == constants.UUID then kinds.Uuid else
     if (code == codes.MP4A) && (s.parent == constants.WAVE) then kinds.Unread else
-    if known_any (name_of code) then kinds.Known (name_of code) else
+    if known (name_of code) then kinds.Known (name_of code) else
     if s.parent == codes.STSD then entry_kind code s else kinds.Unread
 
 -- of a box that is gone into, the fields before its first box are read
@@ -41,18 +41,18 @@ abbrev pub bytes_before : TreeBox → Option ℕ → ℕ
 bytes_before found None = 0
 bytes_before found (Some first) = first - min (found.position + found.header_length) (2 ^ 64 - 1)
 
-abbrev pub kind_of_what : TreeBox → ℕ → What → Kind
-kind_of_what found code what.Cut = kinds.Cut
-kind_of_what found code what.NoHeader = kinds.Cut
-kind_of_what found code what.Small = kinds.Small
-kind_of_what found code what.TooDeep = kinds.Deep
-kind_of_what found code what.Parent = parent_kind code (bytes_before found found.children) found.setting
-kind_of_what found code what.Leaf = leaf_kind code found.setting
+abbrev pub kind_of_what : (BoxType → Bool) → TreeBox → ℕ → What → Kind
+kind_of_what known found code what.Cut = kinds.Cut
+kind_of_what known found code what.NoHeader = kinds.Cut
+kind_of_what known found code what.Small = kinds.Small
+kind_of_what known found code what.TooDeep = kinds.Deep
+kind_of_what known found code what.Parent = parent_kind code (bytes_before found found.children) found.setting
+kind_of_what known found code what.Leaf = leaf_kind known code found.setting
 
-abbrev pub kind_of_code : TreeBox → Option FourCC → Kind
-kind_of_code found None = kinds.Cut
-kind_of_code found (Some code) = kind_of_what found (number_of code) found.what
+abbrev pub kind_of_code : (BoxType → Bool) → TreeBox → Option FourCC → Kind
+kind_of_code known found None = kinds.Cut
+kind_of_code known found (Some code) = kind_of_what known found (number_of code) found.what
 
--- how a box is read; one with no code is cut
-abbrev pub kind_of : TreeBox → Kind
-kind_of found = kind_of_code found found.code
+-- how a box is read, where these names are known; one with no code is cut
+abbrev pub kind_of : (BoxType → Bool) → TreeBox → Kind
+kind_of known found = kind_of_code known found found.code

@@ -8,7 +8,6 @@ use Rattle.mp4_frame.specs.declared.box_type.BoxType.{BoxType}
 use Rattle.mp4_inspect.specs.Content.{ShowsAs, is_faulty}
 use Rattle.mp4_inspect.specs.Kind.{kind_of}
 use Rattle.mp4_inspect.specs.declared.content.Content.{Content}
-use Rattle.mp4_stream.specs.AnyBox.{known_any, reading_any}
 use Rattle.mp4_tree.specs.Tree.{boxes_of}
 use Rattle.mp4_tree.specs.declared.tree_box.TreeBox.{TreeBox}
 
@@ -24,7 +23,7 @@ IsText found text = (name shown : List ℕ) × (text ≡ name ++ (place_text fou
 abbrev pub Tells : {A : Type 0} → (BoxType → Bool) → (BoxType → List ℕ → ℕ → ℕ → Reading A) → List ℕ → TreeBox → List ℕ
     → Bool → Type 0
 Tells {A} known reading bytes found text faulty =
-    (content : Content A) × IsText found text × ShowsAs known reading bytes found (kind_of found) content
+    (content : Content A) × IsText found text × ShowsAs known reading bytes found (kind_of known found) content
     × (faulty ≡ is_faulty content)
 
 -- the texts of boxes, one after the other, and whether one of them shows a fault
@@ -63,14 +62,16 @@ BeginsBoxes known reading bytes boxes old new =
     × Appends old new (take k text)
 
 -- a heading is written and after it the texts of the boxes of a file
-abbrev pub WritesFile : List ℕ → List ℕ → Option (List ℕ) → Option (List ℕ) → Bool → Type 0
-WritesFile heading bytes old new faulty =
-    (text : List ℕ) × TellsAll known_any reading_any bytes (boxes_of bytes) text faulty
+abbrev pub WritesFile : {A : Type 0} → (BoxType → Bool) → (BoxType → List ℕ → ℕ → ℕ → Reading A) → List ℕ → List ℕ
+    → Option (List ℕ) → Option (List ℕ) → Bool → Type 0
+WritesFile known reading heading bytes old new faulty =
+    (text : List ℕ) × TellsAll known reading bytes (boxes_of bytes) text faulty
     × Appends old new (heading ++ text)
 
 -- a beginning of these is written: of the heading and the texts of the first n boxes, the first k bytes
-abbrev pub BeginsFile : List ℕ → List ℕ → Option (List ℕ) → Option (List ℕ) → Type 0
-BeginsFile heading bytes old new =
+abbrev pub BeginsFile : {A : Type 0} → (BoxType → Bool) → (BoxType → List ℕ → ℕ → ℕ → Reading A) → List ℕ → List ℕ
+    → Option (List ℕ) → Option (List ℕ) → Type 0
+BeginsFile known reading heading bytes old new =
     (n k : ℕ) × (text : List ℕ) × (faulty : Bool)
-    × TellsAll known_any reading_any bytes (take n (boxes_of bytes)) text faulty
+    × TellsAll known reading bytes (take n (boxes_of bytes)) text faulty
     × Appends old new (take k (heading ++ text))

@@ -11,13 +11,14 @@ ghost use Rattle.mp4_inspect.specs.declared.kind.Kind.TheVariants as kinds;
 
 use crate::failure::or_read;
 use crate::kind::{Kind, kind_of};
+use crate::shown::Shown;
 use mp4_fields::{
-    FieldSink, HasFields, Value, put_data, put_entry, put_full, put_list_head, put_sound,
-    put_visual,
+    FieldSink, Value, put_data, put_entry, put_full, put_list_head, put_sound, put_visual,
 };
 use mp4_frame::u32_at;
 use mp4_io::Failure;
-use mp4_stream::{BoxHeader, BoxType, ByteCursor, Error, Result, StreamBox};
+use mp4_more_fields::HasFields;
+use mp4_stream::{BoxHeader, BoxType, ByteCursor, Error, Result};
 use mp4_tree::{Source, Tree, TreeBox};
 use std::alloc::Global;
 use uuid::Uuid;
@@ -49,7 +50,7 @@ impl<B: Drop> Content<B> {
 }
 
 /// Reads the box of this name whose header is at an offset, in bytes that end where the box does.
-fn read_leaf<B: StreamBox>(alloc: Global, own: &[u8], position: u64, name: BoxType) -> Result<B>
+fn read_leaf<B: Shown>(alloc: Global, own: &[u8], position: u64, name: BoxType) -> Result<B>
     requires { IsTrue (B.known name) }
     ensures { Answers result (leaf B.named_reading name own.now position) }
 {
@@ -57,7 +58,7 @@ fn read_leaf<B: StreamBox>(alloc: Global, own: &[u8], position: u64, name: BoxTy
     reader.set_position(position);
     BoxHeader::read(&mut reader)?;
     let start = reader.position() - 8;
-    B::read_named(
+    B::read_shown(
         alloc,
         name,
         &mut reader,
@@ -66,7 +67,7 @@ fn read_leaf<B: StreamBox>(alloc: Global, own: &[u8], position: u64, name: BoxTy
 }
 
 /// What is shown of the box of this name whose bytes these are.
-fn shown<B: StreamBox + Drop>(
+fn shown<B: Shown>(
     alloc: Global,
     own: &[u8],
     name: BoxType,
@@ -83,7 +84,7 @@ fn shown<B: StreamBox + Drop>(
 }
 
 /// Reads a box that the codec reads, if it reads boxes of this name.
-fn known<B: StreamBox + Drop, S: Source>(
+fn known<B: Shown, S: Source>(
     alloc: Global,
     tree: &mut Tree<S>,
     found: &TreeBox,
@@ -155,7 +156,7 @@ fn is_other_type(number: u32) -> bool
 }
 
 /// Reads the value of a metadata item: by the codec if it knows the type, and else the type's number and the bytes.
-fn data<B: StreamBox + Drop, S: Source>(
+fn data<B: Shown, S: Source>(
     alloc: Global,
     tree: &mut Tree<S>,
     found: &TreeBox,
@@ -174,18 +175,18 @@ fn data<B: StreamBox + Drop, S: Source>(
 }
 
 /// Reads what is shown of a box.
-pub fn content_of<B: StreamBox + Drop, S: Source>(
+pub fn content_of<B: Shown, S: Source>(
     alloc: Global,
     tree: &mut Tree<S>,
     found: &TreeBox,
 ) -> std::result::Result<Content<B>, Failure>
     ensures shows { IfSome tree.old.bytes
         (λ bytes. IfOk result
-        (λ content. ShowsAs B.known B.named_reading bytes found.now (kind_of found.now) content)) }
+        (λ content. ShowsAs B.known B.named_reading bytes found.now (kind_of B.known found.now) content)) }
     ensures kept { tree.new ≡ tree.old }
     ensures not_write { is_write result ≡ false }
 {
-    match kind_of(found) {
+    match kind_of::<B>(found) {
         Kind::Boxes => Ok(Content::Boxes),
         Kind::Deep => Ok(Content::Deep),
         Kind::Unread => Ok(Content::Unread),

@@ -7,14 +7,13 @@ ghost use Rattle.mp4_inspect.specs.Faults.{line_text, told_text, movie_text, IsL
 ghost use Rattle.mp4_inspect.specs.Faults.{WritesLines, WritesFaults, WritesAllFaults, WritesCheck};
 ghost use Rattle.mp4_inspect.specs.Kind.{kind_of};
 ghost use Rattle.mp4_inspect.specs.declared.content.Content.{Content};
-ghost use Rattle.mp4_stream.specs.AnyBox.{known_any, reading_any};
-ghost use Rattle.mp4_stream.specs.declared.any_box.AnyBox.{AnyBox};
 ghost use Rattle.mp4_tree.specs.Tree.{boxes_of};
 
 use crate::box_path::BoxPaths;
 use crate::chunks::{MediaData, Stray};
 use crate::content::{Content, content_of};
 use crate::failure::or_memory;
+use crate::shown::Shown;
 use crate::tree_text::{after_first, either};
 use mp4_frame::codes::{MOOF, MOOV, STBL, TRAK};
 use mp4_inspect_samples::table_fault;
@@ -134,11 +133,29 @@ fn tell_known(alloc: Global, found: &TreeBox, any: &AnyBox, search: &mut Search)
     }
 }
 
-/// Makes the line of what is read of a box, if it tells of that. Returns whether there is one.
-fn tell_content(
+/// Makes the line of a value, if it is a box of the codec that tells that chunks are not in media data. Returns whether
+/// there is one.
+fn tell_value<B: Shown>(
     alloc: Global,
     found: &TreeBox,
-    content: &Content<AnyBox>,
+    value: &B,
+    search: &mut Search,
+) -> Result<bool>
+    ensures line { IfOk result
+        (λ told. told ≡ true → IsLine (string_bytes search.new.front) found.now (string_bytes search.new.line)) }
+    ensures front { search.new.front ≡ search.old.front }
+{
+    match value.any() {
+        Some(any) => tell_known(alloc, found, any, search),
+        None => Ok(false),
+    }
+}
+
+/// Makes the line of what is read of a box, if it tells of that. Returns whether there is one.
+fn tell_content<B: Shown>(
+    alloc: Global,
+    found: &TreeBox,
+    content: &Content<B>,
     search: &mut Search,
 ) -> Result<bool>
     ensures told { IfOk result (IsTold content.now) }
@@ -148,33 +165,34 @@ fn tell_content(
 {
     match content {
         Content::Faulty(fault) => tell_error(alloc, found, fault, search),
-        Content::Known(any) => tell_known(alloc, found, any, search),
+        Content::Known(value) => tell_value(alloc, found, value, search),
         Content::Boxes | Content::Deep | Content::Unread | Content::Front(..) => Ok(false),
     }
 }
 
 /// Has the line of the search tell of what is read of a box, and drops what is read. Returns whether there is a line.
-fn tell_fault<S: Source>(
+fn tell_fault<B: Shown, S: Source>(
     alloc: Global,
     tree: &mut Tree<S>,
     found: &TreeBox,
     search: &mut Search,
 ) -> std::result::Result<bool, Failure>
     ensures told { IfOk result
-        (λ told. (content : Content AnyBox)
-        × IfSome tree.old.bytes (λ bytes. ShowsAs known_any reading_any bytes found.now (kind_of found.now) content)
+        (λ told. (content : Content B)
+        × IfSome tree.old.bytes (λ bytes. ShowsAs B.known B.named_reading
+        bytes found.now (kind_of B.known found.now) content)
         × IsTold content told) }
     ensures line { IfOk result
         (λ told. told ≡ true → IsLine (string_bytes search.new.front) found.now (string_bytes search.new.line)) }
     ensures front { search.new.front ≡ search.old.front }
     ensures kept { tree.new ≡ tree.old }
 {
-    let content = content_of::<AnyBox, S>(alloc, tree, found)?;
+    let content = content_of::<B, S>(alloc, tree, found)?;
     or_memory(tell_content(alloc, found, &content, search))
 }
 
-/// Has the line of the search tell how the tables of samples in the first of these boxes disagree, if it is an `stbl` and
-/// they do. Returns whether there is a line.
+/// Has the line of the search tell how the tables of samples in the first of these boxes disagree, if it is an `stbl`
+/// and they do. Returns whether there is a line.
 fn tell_disagreement<S: Source>(
     alloc: Global,
     tree: &mut Tree<S>,
@@ -226,7 +244,7 @@ fn enter(found: &TreeBox, search: &mut Search) -> Result<()>
 }
 
 /// Writes the lines of a box, the first of these, which are those from there on. Returns whether there are any.
-fn write_fault<S: Source, W: Write>(
+fn write_fault<B: Shown, S: Source, W: Write>(
     alloc: Global,
     tree: &mut Tree<S>,
     found: &TreeBox,
@@ -235,13 +253,13 @@ fn write_fault<S: Source, W: Write>(
     output: &mut Output<W>,
 ) -> std::result::Result<bool, Failure>
     ensures lines { IfOk result
-        (λ faulty. WritesLines known_any reading_any tree.old.bytes (string_bytes search.old.front) found.now
+        (λ faulty. WritesLines B.known B.named_reading tree.old.bytes (string_bytes search.old.front) found.now
         (W.contents output.old.inner) (W.contents output.new.inner) faulty) }
     ensures front { OnOk result (search.new.front ≡ search.old.front) }
     ensures kept { OnOk result (tree.new ≡ tree.old) }
 {
     or_memory(enter(found, search))?;
-    let told = tell_fault(alloc, tree, found, search)?;
+    let told = tell_fault::<B, S>(alloc, tree, found, search)?;
     write_line(told, search.line.as_str(), output)?;
     let disagrees = tell_disagreement(alloc, tree, found, boxes, search)?;
     write_line(disagrees, search.line.as_str(), output)?;
@@ -275,7 +293,7 @@ fn write_movie<W: Write>(
 }
 
 /// Writes the lines of these boxes, in order. Returns whether there are any.
-fn write_lines<S: Source, W: Write>(
+fn write_lines<B: Shown, S: Source, W: Write>(
     alloc: Global,
     tree: &mut Tree<S>,
     boxes: &[TreeBox],
@@ -283,14 +301,14 @@ fn write_lines<S: Source, W: Write>(
     output: &mut Output<W>,
 ) -> std::result::Result<bool, Failure>
     ensures faults { IfOk result
-        (λ faulty. WritesFaults known_any reading_any tree.old.bytes (string_bytes search.old.front) boxes.now
+        (λ faulty. WritesFaults B.known B.named_reading tree.old.bytes (string_bytes search.old.front) boxes.now
         (W.contents output.old.inner) (W.contents output.new.inner) faulty) }
     ensures front { OnOk result (search.new.front ≡ search.old.front) }
 {
     let mut faulty = false;
     let mut rest = boxes;
     for found in boxes {
-        let here = write_fault(alloc, tree, found, rest, search, output)?;
+        let here = write_fault::<B, S, W>(alloc, tree, found, rest, search, output)?;
         faulty = either(faulty, here);
         rest = after_first(rest);
     }
@@ -307,9 +325,9 @@ fn front_of(alloc: Global, name: Option<&str>) -> Result<String> {
     Ok(front)
 }
 
-/// Writes the faults of a file, of which these are the boxes, and that it has no movie, if so. Returns whether there are
-/// any.
-pub fn write_faults<S: Source, W: Write>(
+/// Writes the faults of a file, of which these are the boxes, and that it has no movie, if so. Returns whether there
+/// are any.
+pub fn write_faults<B: Shown, S: Source, W: Write>(
     alloc: Global,
     tree: &mut Tree<S>,
     name: Option<&str>,
@@ -317,11 +335,12 @@ pub fn write_faults<S: Source, W: Write>(
     output: &mut Output<W>,
 ) -> std::result::Result<bool, Failure>
     ensures faults { IfOk result
-        (λ faulty. WritesAllFaults known_any reading_any tree.old.bytes boxes.now (W.contents output.old.inner)
+        (λ faulty. WritesAllFaults B.known B.named_reading tree.old.bytes boxes.now (W.contents output.old.inner)
         (W.contents output.new.inner) faulty) }
     ensures check { IfSome tree.old.bytes
         (λ bytes. boxes.now ≡ boxes_of bytes
-        → IfOk result (λ faulty. WritesCheck bytes (W.contents output.old.inner) (W.contents output.new.inner) faulty)) }
+        → IfOk result (λ faulty. WritesCheck B.known B.named_reading bytes
+        (W.contents output.old.inner) (W.contents output.new.inner) faulty)) }
 {
     let mut search = Search {
         paths: BoxPaths::new(alloc),
@@ -330,7 +349,7 @@ pub fn write_faults<S: Source, W: Write>(
         front: or_memory(front_of(alloc, name))?,
         line: String::new(alloc),
     };
-    let faulty = write_lines(alloc, tree, boxes, &mut search, output)?;
+    let faulty = write_lines::<B, S, W>(alloc, tree, boxes, &mut search, output)?;
     let movie = has_movie(boxes);
     write_movie(alloc, movie, search.front.as_str(), output)?;
     Ok(either(faulty, !movie))

@@ -3,8 +3,9 @@
 ghost use Rattle.std.specs.Prelude.{◌≡◌};
 ghost use Rattle.mp4_inspect.specs.Kind.{entry_kind, leaf_kind, parent_kind, bytes_before, kind_of};
 
+use crate::shown::Shown;
 use mp4_frame::codes::{DATA, DREF, META, MP4A, STSD, TX3G};
-use mp4_stream::{AnyBox, BoxType, StreamBox};
+use mp4_stream::BoxType;
 use mp4_tree::{Setting, TreeBox, What};
 
 /// `uuid`: a box whose type is a UUID (ISO/IEC 14496-12, 4.2).
@@ -26,13 +27,13 @@ pub enum Kind {
     Boxes,
     /// Not at all: it is too deep in others.
     Deep,
-    /// Not at all: the codec doesn't read it.
+    /// Not at all: it is none of the types that are read.
     Unread,
     /// Not at all: it ends after the box around it or the file, or has no header.
     Cut,
     /// Not at all: its size is smaller than its header.
     Small,
-    /// Whole, by the codec.
+    /// Whole, as a box of this name.
     Known(BoxType),
     /// The value of a metadata item.
     Data,
@@ -66,8 +67,8 @@ fn entry_kind(code: u32, setting: Setting) -> Kind
 }
 
 /// How a box that is not gone into is read. It holds no boxes, or has no room for the fields before them.
-fn leaf_kind(code: u32, setting: Setting) -> Kind
-    ensures { result ≡ leaf_kind code setting }
+fn leaf_kind<B: Shown>(code: u32, setting: Setting) -> Kind
+    ensures { result ≡ leaf_kind B.known code setting }
 {
     let name = BoxType::from(code);
     if code == DATA {
@@ -76,7 +77,7 @@ fn leaf_kind(code: u32, setting: Setting) -> Kind
         Kind::Uuid
     } else if code == MP4A && setting.parent == WAVE {
         Kind::Unread
-    } else if AnyBox::knows(name) {
+    } else if B::knows(name) {
         Kind::Known(name)
     } else if setting.parent == STSD {
         entry_kind(code, setting)
@@ -110,9 +111,9 @@ fn bytes_before(found: &TreeBox) -> u64
     }
 }
 
-/// How a box is read.
-pub fn kind_of(found: &TreeBox) -> Kind
-    ensures { result ≡ kind_of found.now }
+/// How a box is read, if a `B` is what is read of a box whole.
+pub fn kind_of<B: Shown>(found: &TreeBox) -> Kind
+    ensures { result ≡ kind_of B.known found.now }
 {
     let Some(code) = found.code else {
         return Kind::Cut;
@@ -122,6 +123,6 @@ pub fn kind_of(found: &TreeBox) -> Kind
         What::Small => Kind::Small,
         What::TooDeep => Kind::Deep,
         What::Parent => parent_kind(u32::from(code), bytes_before(found), found.setting),
-        What::Leaf => leaf_kind(u32::from(code), found.setting),
+        What::Leaf => leaf_kind::<B>(u32::from(code), found.setting),
     }
 }

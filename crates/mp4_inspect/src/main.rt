@@ -9,6 +9,7 @@ mod faults;
 mod kind;
 mod outcome;
 mod program;
+mod shown;
 mod track;
 mod tree_json;
 mod tree_text;
@@ -23,6 +24,7 @@ use mp4_sinks::Look;
 use mp4_tree::Source;
 use outcome::Outcome;
 use program::{Show, inspect};
+use shown::ShownBox;
 use std::io::{BufWriter, IsTerminal, Write};
 use std::process::ExitCode;
 use std::{env, fs, io};
@@ -73,7 +75,7 @@ fn choice_of(request: &Request) -> Choice {
 }
 
 /// Writes what is asked for of a file, and the faults of its tracks on standard error. Returns whether it has a fault.
-fn shown<S: Source, W: Write>(
+fn inspect_source<S: Source, W: Write>(
     rt: &HostRuntime,
     name: &str,
     source: S,
@@ -81,7 +83,7 @@ fn shown<S: Source, W: Write>(
     output: &mut Output<W>,
 ) -> Result<bool, Failure> {
     let mut faults = Vec::new(rt.alloc());
-    let outcome = inspect(rt.alloc(), name, source, show, output, &mut faults);
+    let outcome = inspect::<ShownBox, S, W>(rt.alloc(), name, source, show, output, &mut faults);
     for fault in &faults {
         let _ = eprintln!(rt; "mp4inspect: {name}: {fault}");
     }
@@ -107,7 +109,7 @@ fn inspect_input<W: Write>(
     output: &mut Output<W>,
 ) -> Result<bool, Failure> {
     let bytes = read_all(rt.alloc(), &mut Input::new(rt.stdin()))?;
-    shown(rt, "-", bytes.as_slice(), show, output)
+    inspect_source(rt, "-", bytes.as_slice(), show, output)
 }
 
 /// Writes what is asked for of a file, or of the standard input. Where it can't be opened, a line on standard error
@@ -124,7 +126,7 @@ fn inspect_named<W: Write>(
     }
     match fs::open(rt, name) {
         Ok(file) => {
-            let run = shown(rt, name, file, show, output);
+            let run = inspect_source(rt, name, file, show, output);
             outcome_told(rt, name, run)
         }
         Err(error) => {

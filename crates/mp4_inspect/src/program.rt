@@ -7,20 +7,18 @@ ghost use Rattle.mp4_inspect.specs.Heading.{heading_of};
 ghost use Rattle.mp4_inspect.specs.Json.{comma, WritesJson};
 ghost use Rattle.mp4_inspect.specs.Written.{WritesFile, BeginsFile};
 ghost use Rattle.mp4_io.specs.Ends.{is_write};
-ghost use Rattle.mp4_stream.specs.AnyBox.{known_any, reading_any};
 ghost use Rattle.mp4_tree.specs.Tree.{boxes_of};
 ghost use Rattle.mp4_tree.specs.Walk.{left};
 
 use crate::failure::or_read;
 use crate::faults::write_faults;
+use crate::shown::Shown;
 use crate::tree_json::tree_json;
 use crate::tree_text::write_tree;
-use mp4_fields::HasFields;
 use mp4_inspect_args::Task;
 use mp4_inspect_samples::{Choice, TrackFault, write_samples};
 use mp4_io::{Failure, Output, write_all};
 use mp4_sinks::{Look, TextSink};
-use mp4_stream::{AnyBox, StreamBox};
 use mp4_tree::{Source, Tree, TreeBox};
 use std::alloc::Global;
 use std::io::Write;
@@ -73,7 +71,7 @@ fn heading_of(alloc: Global, name: &str, show: Show) -> Result<String, Failure>
 
 /// Writes the texts of the boxes of a file under its heading. Returns whether a box of it has a fault. After an error a
 /// beginning of that is written.
-fn show_boxes<S: Source, W: Write>(
+fn show_boxes<B: Shown, S: Source, W: Write>(
     alloc: Global,
     heading: &str,
     tree: &mut Tree<S>,
@@ -84,21 +82,23 @@ fn show_boxes<S: Source, W: Write>(
     ensures texts { IfSome tree.old.bytes
         (λ bytes. boxes.now ≡ boxes_of bytes
         → IfOk result (λ faulty.
-        WritesFile heading.now bytes (W.contents output.old.inner) (W.contents output.new.inner) faulty)) }
+        WritesFile B.known B.named_reading heading.now bytes
+        (W.contents output.old.inner) (W.contents output.new.inner) faulty)) }
     ensures beginning { OnErr result
         (IfSome tree.old.bytes
         (λ bytes. boxes.now ≡ boxes_of bytes
-        → BeginsFile heading.now bytes (W.contents output.old.inner) (W.contents output.new.inner))) }
+        → BeginsFile B.known B.named_reading heading.now bytes
+        (W.contents output.old.inner) (W.contents output.new.inner))) }
     ensures failed { output.new.failed ≡ (output.old.failed || is_write result) }
 {
     write_all(output, heading.as_bytes())?;
     let sink = TextSink::new(alloc, look);
-    write_tree::<AnyBox, S, W>(alloc, tree, boxes, sink, output)
+    write_tree::<B, S, W>(alloc, tree, boxes, sink, output)
 }
 
 /// Writes the tree of a source as text, under its heading, once the headers of its boxes are read. Returns whether a
 /// box of it has a fault. After an error a beginning of that is written.
-fn show_tree<S: Source, W: Write>(
+fn show_tree<B: Shown, S: Source, W: Write>(
     alloc: Global,
     heading: &str,
     source: S,
@@ -107,15 +107,17 @@ fn show_tree<S: Source, W: Write>(
 ) -> Result<bool, Failure>
     ensures texts { IfSome (S.all source)
         (λ bytes. IfOk result
-        (λ faulty. WritesFile heading.now bytes (W.contents output.old.inner) (W.contents output.new.inner) faulty)) }
+        (λ faulty. WritesFile B.known B.named_reading heading.now bytes
+        (W.contents output.old.inner) (W.contents output.new.inner) faulty)) }
     ensures beginning { OnErr result
         (IfSome (S.all source)
-        (λ bytes. BeginsFile heading.now bytes (W.contents output.old.inner) (W.contents output.new.inner))) }
+        (λ bytes. BeginsFile B.known B.named_reading heading.now bytes
+        (W.contents output.old.inner) (W.contents output.new.inner))) }
     ensures failed { output.new.failed ≡ (output.old.failed || is_write result) }
 {
     let mut tree = or_read(Tree::new(alloc, source))?;
     let boxes = boxes_left(alloc, &mut tree)?;
-    show_boxes(alloc, heading, &mut tree, &boxes, look, output)
+    show_boxes::<B, S, W>(alloc, heading, &mut tree, &boxes, look, output)
 }
 
 /// Writes a comma if a file follows another.
@@ -131,7 +133,7 @@ fn write_comma<W: Write>(follows: bool, output: &mut Output<W>) -> Result<(), Fa
 
 /// Writes the JSON of a file, of which these are the boxes, after a comma if it follows another. Returns whether a box
 /// of it has a fault.
-fn show_objects<B: StreamBox + HasFields + Drop, S: Source, W: Write>(
+fn show_objects<B: Shown, S: Source, W: Write>(
     alloc: Global,
     name: &str,
     tree: &mut Tree<S>,
@@ -151,7 +153,7 @@ fn show_objects<B: StreamBox + HasFields + Drop, S: Source, W: Write>(
 }
 
 /// Writes the JSON of a source, after a comma if it follows another. Returns whether a box of it has a fault.
-fn show_json<B: StreamBox + HasFields + Drop, S: Source, W: Write>(
+fn show_json<B: Shown, S: Source, W: Write>(
     alloc: Global,
     name: &str,
     source: S,
@@ -168,24 +170,25 @@ fn show_json<B: StreamBox + HasFields + Drop, S: Source, W: Write>(
 }
 
 /// Writes the faults of a source. Returns whether there are any.
-fn show_faults<S: Source, W: Write>(
+fn show_faults<B: Shown, S: Source, W: Write>(
     alloc: Global,
     name: Option<&str>,
     source: S,
     output: &mut Output<W>,
 ) -> Result<bool, Failure>
     ensures faults { IfSome (S.all source)
-        (λ bytes. IfOk result (λ faulty. WritesCheck bytes (W.contents output.old.inner) (W.contents output.new.inner)
+        (λ bytes. IfOk result (λ faulty. WritesCheck B.known B.named_reading bytes
+        (W.contents output.old.inner) (W.contents output.new.inner)
         faulty)) }
 {
     let mut tree = or_read(Tree::new(alloc, source))?;
     let boxes = boxes_left(alloc, &mut tree)?;
-    write_faults(alloc, &mut tree, name, &boxes, output)
+    write_faults::<B, S, W>(alloc, &mut tree, name, &boxes, output)
 }
 
 /// Writes what is asked for of a file. Returns whether it has a fault. Of a tree a beginning is written after an error.
 /// The faults of tracks whose samples are written are kept.
-pub fn inspect<S: Source, W: Write>(
+pub fn inspect<B: Shown, S: Source, W: Write>(
     alloc: Global,
     name: &str,
     source: S,
@@ -196,31 +199,32 @@ pub fn inspect<S: Source, W: Write>(
     ensures tree { show.task ≡ Task.Tree
         → IfSome (S.all source)
         (λ bytes. IfOk result
-        (λ faulty. WritesFile (heading_of show name.now) bytes (W.contents output.old.inner)
+        (λ faulty. WritesFile B.known B.named_reading (heading_of show name.now) bytes (W.contents output.old.inner)
         (W.contents output.new.inner) faulty)) }
     ensures beginning { show.task ≡ Task.Tree
         → OnErr result (IfSome (S.all source)
-        (λ bytes. BeginsFile (heading_of show name.now) bytes (W.contents output.old.inner)
+        (λ bytes. BeginsFile B.known B.named_reading (heading_of show name.now) bytes (W.contents output.old.inner)
         (W.contents output.new.inner))) }
     ensures json { show.task ≡ Task.Json
         → IfSome (S.all source)
         (λ bytes. IfOk result
-        (λ faulty. WritesJson known_any reading_any bytes name.now show.follows (W.contents output.old.inner)
+        (λ faulty. WritesJson B.known B.named_reading bytes name.now show.follows (W.contents output.old.inner)
         (W.contents output.new.inner) faulty)) }
     ensures check { show.task ≡ Task.Check
         → IfSome (S.all source)
         (λ bytes. IfOk result
-        (λ faulty. WritesCheck bytes (W.contents output.old.inner) (W.contents output.new.inner) faulty)) }
+        (λ faulty. WritesCheck B.known B.named_reading bytes
+        (W.contents output.old.inner) (W.contents output.new.inner) faulty)) }
 {
     match show.task {
         Task::Tree => {
             let heading = heading_of(alloc, name, show)?;
-            show_tree(alloc, heading.as_str(), source, show.look, output)
+            show_tree::<B, S, W>(alloc, heading.as_str(), source, show.look, output)
         }
-        Task::Json => show_json::<AnyBox, S, W>(alloc, name, source, show.follows, output),
+        Task::Json => show_json::<B, S, W>(alloc, name, source, show.follows, output),
         Task::Check => {
             let shown = if show.several { Some(name) } else { None };
-            show_faults(alloc, shown, source, output)
+            show_faults::<B, S, W>(alloc, shown, source, output)
         }
         Task::Samples => {
             write_samples(alloc, source, show.samples, output, faults)?;

@@ -9,11 +9,12 @@ ghost use Rattle.mp4_sinks.specs.Tokens.{Puts};
 
 use crate::content::{Content, content_of, put_content};
 use crate::failure::or_memory;
+use crate::shown::Shown;
 use crate::tree_text::either;
-use mp4_fields::HasFields;
 use mp4_io::Failure;
+use mp4_more_fields::HasFields;
 use mp4_sinks::JsonSink;
-use mp4_stream::{Error, FourCC, Result, StreamBox};
+use mp4_stream::{Error, FourCC, Result};
 use mp4_tree::{Source, Tree, TreeBox};
 use std::alloc::Global;
 
@@ -167,7 +168,7 @@ fn put_box<B: HasFields + Drop>(
 }
 
 /// Writes a box with what is read of it. Returns whether it has a fault.
-fn write_box<B: StreamBox + HasFields + Drop, S: Source>(
+fn write_box<B: Shown, S: Source>(
     alloc: Global,
     tree: &mut Tree<S>,
     found: &TreeBox,
@@ -209,7 +210,7 @@ fn end_file(sink: &mut JsonSink) -> Result<()>
 }
 
 /// The JSON of a file: an object with its name and its boxes, which these are. With it comes whether one has a fault.
-pub fn tree_json<B: StreamBox + HasFields + Drop, S: Source>(
+pub fn tree_json<B: Shown, S: Source>(
     alloc: Global,
     tree: &mut Tree<S>,
     name: &str,

@@ -8,12 +8,13 @@ ghost use Rattle.mp4_inspect.specs.Written.{place_text, IsText, Tells, WritesBox
 
 use crate::content::{Content, content_of, put_content};
 use crate::failure::or_memory;
+use crate::shown::Shown;
 use crate::track::{Track, track_of};
-use mp4_fields::HasFields;
 use mp4_frame::codes::{STSD, TRAK};
 use mp4_io::{Failure, Output, write_all};
+use mp4_more_fields::HasFields;
 use mp4_sinks::{Look, TextSink, columns, push_code, push_colored, push_number};
-use mp4_stream::{Error, FourCC, Result, StreamBox};
+use mp4_stream::{Error, FourCC, Result};
 use mp4_tree::{Source, Tree, TreeBox, name_of};
 use std::alloc::Global;
 use std::io::Write;
@@ -165,7 +166,7 @@ fn put_box<B: HasFields + Drop>(
 }
 
 /// Makes the text of a box, the first of these, which are those from there on. Returns whether it shows a fault.
-fn make_box<B: StreamBox + HasFields + Drop, S: Source>(
+fn make_box<B: Shown, S: Source>(
     alloc: Global,
     tree: &mut Tree<S>,
     found: &TreeBox,
@@ -187,7 +188,7 @@ fn make_box<B: StreamBox + HasFields + Drop, S: Source>(
 
 /// Writes the text of a box, the first of these, which are those from there on. Returns whether it shows a fault. After
 /// a failed write a beginning of it is written, and after another failure nothing.
-fn write_box<B: StreamBox + HasFields + Drop, S: Source, W: Write>(
+fn write_box<B: Shown, S: Source, W: Write>(
     alloc: Global,
     tree: &mut Tree<S>,
     found: &TreeBox,
@@ -215,7 +216,7 @@ fn write_box<B: StreamBox + HasFields + Drop, S: Source, W: Write>(
 
 /// Writes the tree of a file: the text of each of these boxes, which are those of the file, in order. Returns whether
 /// one of them shows a fault. After an error a beginning of these texts is written.
-pub fn write_tree<B: StreamBox + HasFields + Drop, S: Source, W: Write>(
+pub fn write_tree<B: Shown, S: Source, W: Write>(
     alloc: Global,
     tree: &mut Tree<S>,
     boxes: &[TreeBox],

@@ -4,3 +4,10 @@ pub mod Typed
 pub mod TypedLaws
 pub mod OrZeros
 pub mod OrZerosLaws
+pub mod MoreType
+pub mod MoreTypeLaws
+pub mod MoreBox
+pub mod MoreBoxLaws
+pub mod ByVersion
+pub mod ByVersionLaws
+pub mod AllBoxes

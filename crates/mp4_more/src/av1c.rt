@@ -6,7 +6,7 @@ ghost use Rattle.std.specs.Prelude.{[], ◌∷◌};
 ghost use Rattle.mp4_stream.specs.Author.{layout_of, packed, flag, unsigned};
 
 use mp4_stream::author::{About, Bits, Declared, DeclaredBox, EntryLayout, Last, Rest, Shape};
-use mp4_stream::{Entries, box_of, entry_of, numbers_of, parts_of};
+use mp4_stream::{Entries, Result, TryClone, box_of, entry_of, numbers_of, parts_of};
 
 /// The code: `av1C`.
 pub const AV1C: u32 = 0x6176_3143;
@@ -104,6 +104,16 @@ impl DeclaredBox for Av1c {
     }
 
     ghost valid = { refl };
+}
+
+impl TryClone for Av1c {
+    fn try_clone(&self) -> Result<Av1c> {
+        let config_obus = self.config_obus.try_clone()?;
+        Ok(Av1c {
+            config_obus,
+            ..*self
+        })
+    }
 }
 
 /// The AV1 codec configuration box.

@@ -5,7 +5,7 @@ ghost use Rattle.std.proofs.Common.{refl, lit<};
 ghost use Rattle.mp4_stream.specs.Author.{layout_of};
 
 use mp4_stream::author::{About, Declared, DeclaredBox, Last, Shape, U32};
-use mp4_stream::{box_of, parts_of};
+use mp4_stream::{Result, TryClone, box_of, parts_of};
 
 /// The code: `btrt`.
 pub const BTRT: u32 = 0x6274_7274;
@@ -47,6 +47,12 @@ impl DeclaredBox for Btrt {
     }
 
     ghost valid = { refl };
+}
+
+impl TryClone for Btrt {
+    fn try_clone(&self) -> Result<Btrt> {
+        Ok(*self)
+    }
 }
 
 /// The bit rate box.

@@ -5,7 +5,7 @@ ghost use Rattle.std.proofs.Common.{refl, lit<};
 ghost use Rattle.mp4_stream.specs.Author.{layout_of};
 
 use mp4_stream::author::{About, Declared, DeclaredBox, I32, Last, Shape, U32};
-use mp4_stream::{box_of, parts_of};
+use mp4_stream::{Result, TryClone, box_of, parts_of};
 
 /// The code: `clap`.
 pub const CLAP: u32 = 0x636c_6170;
@@ -62,6 +62,12 @@ impl DeclaredBox for Clap {
     }
 
     ghost valid = { refl };
+}
+
+impl TryClone for Clap {
+    fn try_clone(&self) -> Result<Clap> {
+        Ok(*self)
+    }
 }
 
 /// The clean aperture box.

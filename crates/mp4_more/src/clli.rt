@@ -5,7 +5,7 @@ ghost use Rattle.std.proofs.Common.{refl, lit<};
 ghost use Rattle.mp4_stream.specs.Author.{layout_of};
 
 use mp4_stream::author::{About, Declared, DeclaredBox, Last, Shape, U16};
-use mp4_stream::{box_of, parts_of};
+use mp4_stream::{Result, TryClone, box_of, parts_of};
 
 /// The code: `clli`.
 pub const CLLI: u32 = 0x636c_6c69;
@@ -43,6 +43,12 @@ impl DeclaredBox for Clli {
     }
 
     ghost valid = { refl };
+}
+
+impl TryClone for Clli {
+    fn try_clone(&self) -> Result<Clli> {
+        Ok(*self)
+    }
 }
 
 /// The content light level box.

@@ -7,7 +7,7 @@ ghost use Rattle.mp4_stream.specs.Author.{layout_of, packed, flag, unsigned};
 
 use crate::typed::{OfType, Tag, Typed};
 use mp4_stream::author::{About, Bits, Declared, DeclaredBox, EntryLayout, Last, Rest, Shape};
-use mp4_stream::{Entries, box_of, entry_of, numbers_of, parts_of};
+use mp4_stream::{Entries, Result, TryClone, box_of, entry_of, numbers_of, parts_of};
 
 /// The code: `colr`.
 pub const COLR: u32 = 0x636f_6c72;
@@ -98,6 +98,16 @@ impl DeclaredBox for Colr {
     }
 
     ghost valid = { refl };
+}
+
+impl TryClone for Colr {
+    fn try_clone(&self) -> Result<Colr> {
+        let colour = match &self.colour {
+            OfType::Own(nclx) => OfType::Own(*nclx),
+            OfType::Other(colour_type, rest) => OfType::Other(*colour_type, rest.try_clone()?),
+        };
+        Ok(Colr { colour })
+    }
 }
 
 /// The colour information box.

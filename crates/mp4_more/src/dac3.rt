@@ -6,7 +6,7 @@ ghost use Rattle.std.specs.Prelude.{[], ◌∷◌};
 ghost use Rattle.mp4_stream.specs.Author.{layout_of, packed, flag, unsigned};
 
 use mp4_stream::author::{About, Bits, Declared, DeclaredBox, EntryLayout, Last, Shape};
-use mp4_stream::{box_of, entry_of, numbers_of, parts_of};
+use mp4_stream::{Result, TryClone, box_of, entry_of, numbers_of, parts_of};
 
 /// The code: `dac3`.
 pub const DAC3: u32 = 0x6461_6333;
@@ -83,6 +83,12 @@ impl DeclaredBox for Dac3 {
     }
 
     ghost valid = { refl };
+}
+
+impl TryClone for Dac3 {
+    fn try_clone(&self) -> Result<Dac3> {
+        Ok(*self)
+    }
 }
 
 /// The AC-3 specific box.

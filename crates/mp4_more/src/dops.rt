@@ -5,7 +5,7 @@ ghost use Rattle.std.proofs.Common.{refl, lit<};
 ghost use Rattle.mp4_stream.specs.Author.{layout_of};
 
 use mp4_stream::author::{About, Declared, DeclaredBox, I16, Last, Rest, Shape, U8, U16, U32};
-use mp4_stream::{Entries, box_of, parts_of};
+use mp4_stream::{Entries, Result, TryClone, box_of, parts_of};
 
 /// The code: `dOps`.
 pub const DOPS: u32 = 0x644f_7073;
@@ -56,6 +56,16 @@ impl DeclaredBox for Dops {
     }
 
     ghost valid = { refl };
+}
+
+impl TryClone for Dops {
+    fn try_clone(&self) -> Result<Dops> {
+        let channel_mapping = self.channel_mapping.try_clone()?;
+        Ok(Dops {
+            channel_mapping,
+            ..*self
+        })
+    }
 }
 
 /// The Opus specific box.

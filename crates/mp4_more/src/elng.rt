@@ -5,7 +5,7 @@ ghost use Rattle.std.proofs.Common.{refl, lit<};
 ghost use Rattle.mp4_stream.specs.Author.{layout_of};
 
 use mp4_stream::author::{About, Declared, DeclaredBox, Full, Last, Rest, Shape};
-use mp4_stream::{Entries, box_of, parts_of};
+use mp4_stream::{Entries, Result, TryClone, box_of, parts_of};
 
 /// The code: `elng`.
 pub const ELNG: u32 = 0x656c_6e67;
@@ -47,6 +47,16 @@ impl DeclaredBox for Elng {
     }
 
     ghost valid = { refl };
+}
+
+impl TryClone for Elng {
+    fn try_clone(&self) -> Result<Elng> {
+        let extended_language = self.extended_language.try_clone()?;
+        Ok(Elng {
+            extended_language,
+            ..*self
+        })
+    }
 }
 
 /// The extended language box.

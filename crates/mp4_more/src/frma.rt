@@ -6,7 +6,7 @@ ghost use Rattle.mp4_stream.specs.Author.{layout_of};
 
 use crate::code::Code;
 use mp4_stream::author::{About, Declared, DeclaredBox, Last, Shape};
-use mp4_stream::{FourCC, box_of, parts_of};
+use mp4_stream::{FourCC, Result, TryClone, box_of, parts_of};
 
 /// The code: `frma`.
 pub const FRMA: u32 = 0x6672_6d61;
@@ -41,6 +41,12 @@ impl DeclaredBox for Frma {
     }
 
     ghost valid = { refl };
+}
+
+impl TryClone for Frma {
+    fn try_clone(&self) -> Result<Frma> {
+        Ok(*self)
+    }
 }
 
 /// The original format box.

@@ -6,7 +6,7 @@ ghost use Rattle.std.specs.Prelude.{[], ◌∷◌};
 ghost use Rattle.mp4_stream.specs.Author.{layout_of, packed, unsigned};
 
 use mp4_stream::author::{About, Bits, Declared, DeclaredBox, EntryLayout, Last, Shape, U32};
-use mp4_stream::{box_of, entry_of, numbers_of, parts_of};
+use mp4_stream::{Result, TryClone, box_of, entry_of, numbers_of, parts_of};
 
 /// The code: `mdcv`.
 pub const MDCV: u32 = 0x6d64_6376;
@@ -94,6 +94,12 @@ impl DeclaredBox for Mdcv {
     }
 
     ghost valid = { refl };
+}
+
+impl TryClone for Mdcv {
+    fn try_clone(&self) -> Result<Mdcv> {
+        Ok(*self)
+    }
 }
 
 /// The mastering display colour volume box.

@@ -5,7 +5,7 @@ ghost use Rattle.std.proofs.Common.{refl, lit<};
 ghost use Rattle.mp4_stream.specs.Author.{layout_of};
 
 use mp4_stream::author::{About, Declared, DeclaredBox, Full, Last, Shape, U32};
-use mp4_stream::{box_of, parts_of};
+use mp4_stream::{Result, TryClone, box_of, parts_of};
 
 /// The code: `mfro`.
 pub const MFRO: u32 = 0x6d66_726f;
@@ -45,6 +45,12 @@ impl DeclaredBox for Mfro {
     }
 
     ghost valid = { refl };
+}
+
+impl TryClone for Mfro {
+    fn try_clone(&self) -> Result<Mfro> {
+        Ok(*self)
+    }
 }
 
 /// The movie fragment random access offset box.

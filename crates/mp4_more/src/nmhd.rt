@@ -5,7 +5,7 @@ ghost use Rattle.std.proofs.Common.{refl, lit<};
 ghost use Rattle.mp4_stream.specs.Author.{layout_of};
 
 use mp4_stream::author::{About, Declared, DeclaredBox, Full, Shape, Zeros};
-use mp4_stream::{box_of, parts_of};
+use mp4_stream::{Result, TryClone, box_of, parts_of};
 
 /// The code: `nmhd`.
 pub const NMHD: u32 = 0x6e6d_6864;
@@ -42,6 +42,12 @@ impl DeclaredBox for Nmhd {
     }
 
     ghost valid = { refl };
+}
+
+impl TryClone for Nmhd {
+    fn try_clone(&self) -> Result<Nmhd> {
+        Ok(*self)
+    }
 }
 
 /// The null media header box.

@@ -5,7 +5,7 @@ ghost use Rattle.std.proofs.Common.{refl, lit<};
 ghost use Rattle.mp4_stream.specs.Author.{layout_of};
 
 use mp4_stream::author::{About, Declared, DeclaredBox, Last, Shape, U32};
-use mp4_stream::{box_of, parts_of};
+use mp4_stream::{Result, TryClone, box_of, parts_of};
 
 /// The code: `pasp`.
 pub const PASP: u32 = 0x7061_7370;
@@ -43,6 +43,12 @@ impl DeclaredBox for Pasp {
     }
 
     ghost valid = { refl };
+}
+
+impl TryClone for Pasp {
+    fn try_clone(&self) -> Result<Pasp> {
+        Ok(*self)
+    }
 }
 
 /// The pixel aspect ratio box.

@@ -5,7 +5,7 @@ ghost use Rattle.std.proofs.Common.{refl, lit<};
 ghost use Rattle.mp4_stream.specs.Author.{layout_of};
 
 use mp4_stream::author::{About, Declared, DeclaredBox, Full, Last, Shape, Time, U32, U64};
-use mp4_stream::{box_of, parts_of};
+use mp4_stream::{Result, TryClone, box_of, parts_of};
 
 /// The code: `prft`.
 pub const PRFT: u32 = 0x7072_6674;
@@ -50,6 +50,12 @@ impl DeclaredBox for Prft {
     }
 
     ghost valid = { refl };
+}
+
+impl TryClone for Prft {
+    fn try_clone(&self) -> Result<Prft> {
+        Ok(*self)
+    }
 }
 
 /// The producer reference time box.

@@ -7,7 +7,7 @@ ghost use Rattle.mp4_stream.specs.Author.{layout_of};
 use mp4_stream::author::{
     About, Array, Bytes, Declared, DeclaredBox, FromVersion, Full, If, Last, Rows, Shape, U32,
 };
-use mp4_stream::{Entries, box_of, parts_of};
+use mp4_stream::{Entries, Result, TryClone, box_of, parts_of};
 
 /// The code: `pssh`.
 pub const PSSH: u32 = 0x7073_7368;
@@ -62,6 +62,21 @@ impl DeclaredBox for Pssh {
     }
 
     ghost valid = { refl };
+}
+
+impl TryClone for Pssh {
+    fn try_clone(&self) -> Result<Pssh> {
+        let key_ids = match &self.key_ids {
+            Some(key_ids) => Some(key_ids.try_clone()?),
+            None => None,
+        };
+        let system_data = self.system_data.try_clone()?;
+        Ok(Pssh {
+            key_ids,
+            system_data,
+            ..*self
+        })
+    }
 }
 
 /// The protection system specific header box.

@@ -9,7 +9,7 @@ use crate::code::Code;
 use mp4_stream::author::{
     About, Declared, DeclaredBox, EntryLayout, FromVersion, Full, If, Last, List, Shape, U32,
 };
-use mp4_stream::{Entries, FourCC, box_of, entry_of, numbers_of, parts_of};
+use mp4_stream::{Entries, FourCC, Result, TryClone, box_of, entry_of, numbers_of, parts_of};
 
 /// The code: `sbgp`.
 pub const SBGP: u32 = 0x7362_6770;
@@ -91,6 +91,13 @@ impl DeclaredBox for Sbgp {
     }
 
     ghost valid = { refl };
+}
+
+impl TryClone for Sbgp {
+    fn try_clone(&self) -> Result<Sbgp> {
+        let entries = self.entries.try_clone()?;
+        Ok(Sbgp { entries, ..*self })
+    }
 }
 
 /// The sample to group box.

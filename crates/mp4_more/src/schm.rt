@@ -6,7 +6,7 @@ ghost use Rattle.mp4_stream.specs.Author.{layout_of};
 
 use crate::code::Code;
 use mp4_stream::author::{About, Declared, DeclaredBox, Full, If, IfFlags, Last, Rest, Shape, U32};
-use mp4_stream::{Entries, FourCC, box_of, parts_of};
+use mp4_stream::{Entries, FourCC, Result, TryClone, box_of, parts_of};
 
 /// The code: `schm`.
 pub const SCHM: u32 = 0x7363_686d;
@@ -55,6 +55,19 @@ impl DeclaredBox for Schm {
     }
 
     ghost valid = { refl };
+}
+
+impl TryClone for Schm {
+    fn try_clone(&self) -> Result<Schm> {
+        let scheme_uri = match &self.scheme_uri {
+            Some(scheme_uri) => Some(scheme_uri.try_clone()?),
+            None => None,
+        };
+        Ok(Schm {
+            scheme_uri,
+            ..*self
+        })
+    }
 }
 
 /// The scheme type box.

@@ -7,7 +7,7 @@ ghost use Rattle.mp4_stream.specs.Author.{layout_of, packed, unsigned};
 
 use crate::to_end::ToEnd;
 use mp4_stream::author::{About, Declared, DeclaredBox, EntryLayout, Full, Last, Shape};
-use mp4_stream::{Entries, box_of, entry_of, numbers_of, parts_of};
+use mp4_stream::{Entries, Result, TryClone, box_of, entry_of, numbers_of, parts_of};
 
 /// The code: `sdtp`.
 pub const SDTP: u32 = 0x7364_7470;
@@ -82,6 +82,13 @@ impl DeclaredBox for Sdtp {
     }
 
     ghost valid = { refl };
+}
+
+impl TryClone for Sdtp {
+    fn try_clone(&self) -> Result<Sdtp> {
+        let entries = self.entries.try_clone()?;
+        Ok(Sdtp { entries, ..*self })
+    }
 }
 
 /// The independent and disposable samples box.

@@ -1,14 +1,10 @@
 //! The segment index box.
 
-ghost use Rattle.mp4_more.specs.declared.sidx.TheConstants.{SIDX};
-ghost use Rattle.std.proofs.Common.{refl, lit<};
-ghost use Rattle.std.specs.Prelude.{[], ◌∷◌};
-ghost use Rattle.mp4_stream.specs.Author.{layout_of, packed, flag, unsigned};
+ghost use Rattle.mp4_more.specs.declared.sidx.TheConstants.{SIDX, WIDTHS};
+ghost use Rattle.mp4_stream.specs.Author.{layout_of, packed, fields_of, refl, lit<};
 
-use mp4_stream::author::{
-    About, Declared, DeclaredBox, EntryLayout, Full, Last, List, Reserved, Shape, Time, U16, U32,
-};
-use mp4_stream::{Entries, box_of, entry_of, numbers_of, parts_of};
+use mp4_stream::Result;
+use mp4_stream::declaring::*;
 
 /// The code: `sidx`.
 pub const SIDX: u32 = 0x7369_6478;
@@ -30,14 +26,16 @@ pub struct SidxEntry {
     pub sap_delta_time: u32,
 }
 
+/// The widths of its fields, in bits; a field of a single bit is a flag.
+const WIDTHS: [u8; 6] = [1, 31, 32, 1, 3, 28];
+
 impl EntryLayout<6, 12> for SidxEntry {
     ghost use Rattle.mp4_more.specs.contracts.sidx.SidxEntry.{struct};
 
-    ghost layout = { packed (flag ∷ unsigned 31 ∷ unsigned 32 ∷ flag ∷ unsigned 3 ∷ unsigned 28 ∷ []) struct.as_values
-        (λ v. struct.make v tt) (λ _. refl) (λ _. refl) refl };
+    ghost layout = { packed (fields_of WIDTHS) struct.as_values (λ v. struct.make v tt) (λ _. refl) (λ _. refl) refl };
 
     fn widths() -> [u8; 6] {
-        [1, 31, 32, 1, 3, 28]
+        WIDTHS
     }
 
     fn numbers(&self) -> [u64; 6] {
@@ -72,17 +70,10 @@ pub struct Sidx {
     pub entries: Entries<SidxEntry>,
 }
 
+type References = Reserved<2, Last<List<U16, SidxEntry, 6, 12>>>;
+
 /// What the box holds: version, flags, numbers, two reserved bytes, a count of 16 bits, and that many references.
-pub type SidxShape = Full<
-    2,
-    (
-        U32,
-        (
-            U32,
-            (Time, (Time, Reserved<2, Last<List<U16, SidxEntry, 6, 12>>>)),
-        ),
-    ),
->;
+pub type SidxShape = Full<2, (U32, (U32, (Time, (Time, References))))>;
 
 impl DeclaredBox for Sidx {
     ghost use Rattle.mp4_more.specs.contracts.sidx.Sidx.{struct};
@@ -96,8 +87,8 @@ impl DeclaredBox for Sidx {
     const CODE: u32 = SIDX;
 
     fn from_content(found: <SidxShape as Shape>::Value) -> Sidx {
-        box_of!(found => Sidx { version, flags, reference_id, timescale,
-            earliest_presentation_time, first_offset, entries })
+        box_of!(found => Sidx { version, flags, reference_id, timescale, earliest_presentation_time,
+            first_offset, entries })
     }
 
     fn ask<Q: About<Self::Shape>>(&self, out: &mut [u8]) -> Q::Answer {
@@ -107,6 +98,13 @@ impl DeclaredBox for Sidx {
     }
 
     ghost valid = { refl };
+}
+
+impl TryClone for Sidx {
+    fn try_clone(&self) -> Result<Sidx> {
+        let entries = self.entries.try_clone()?;
+        Ok(Sidx { entries, ..*self })
+    }
 }
 
 /// The segment index box.

@@ -7,7 +7,7 @@ ghost use Rattle.mp4_stream.specs.Author.{layout_of};
 use crate::code::Code;
 use crate::to_end::Codes;
 use mp4_stream::author::{About, Declared, DeclaredBox, Last, Shape, U32};
-use mp4_stream::{Entries, FourCC, box_of, parts_of};
+use mp4_stream::{Entries, FourCC, Result, TryClone, box_of, parts_of};
 
 /// The code: `styp`.
 pub const STYP: u32 = 0x7374_7970;
@@ -47,6 +47,16 @@ impl DeclaredBox for Styp {
     }
 
     ghost valid = { refl };
+}
+
+impl TryClone for Styp {
+    fn try_clone(&self) -> Result<Styp> {
+        let compatible_brands = self.compatible_brands.try_clone()?;
+        Ok(Styp {
+            compatible_brands,
+            ..*self
+        })
+    }
 }
 
 /// The segment type box.

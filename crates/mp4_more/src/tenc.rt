@@ -10,7 +10,7 @@ use mp4_stream::author::{
     About, Array, Bits, Declared, DeclaredBox, EntryLayout, FromVersion, Full, Last, Reserved,
     Rest, Shape, U8,
 };
-use mp4_stream::{Entries, box_of, entry_of, numbers_of, parts_of};
+use mp4_stream::{Entries, Result, TryClone, box_of, entry_of, numbers_of, parts_of};
 
 /// The code: `tenc`.
 pub const TENC: u32 = 0x7465_6e63;
@@ -102,6 +102,16 @@ impl DeclaredBox for Tenc {
     }
 
     ghost valid = { refl };
+}
+
+impl TryClone for Tenc {
+    fn try_clone(&self) -> Result<Tenc> {
+        let default_constant_iv = self.default_constant_iv.try_clone()?;
+        Ok(Tenc {
+            default_constant_iv,
+            ..*self
+        })
+    }
 }
 
 /// The track encryption box.

@@ -12,11 +12,12 @@ pub use Rattle.mp4_frame.specs.Tables.{reads_table, size_table, WritableTable, b
 pub use Rattle.mp4_flat.specs.Time.{time_width, version_of, reads_timed, WritableTimed}
 unfoldable pub use Rattle.mp4_tables.specs.Rows.{rows_within}
 -- boxes and entries that are declared
-pub use Rattle.mp4_declared.specs.Layout.{BitField, flag, unsigned, OwnEntry, packed}
+pub use Rattle.std.proofs.Common.{refl, lit<}
+pub use Rattle.mp4_declared.specs.Layout.{BitField, flag, unsigned, fields_of, OwnEntry, packed}
 pub use Rattle.mp4_declared.specs.Layout.{layout_in, row_of, entry_of, FitsEntry}
 pub use Rattle.mp4_declared.specs.Shape.{Shape}
-unfoldable pub use Rattle.mp4_declared.specs.OwnBox.{reads_declared}
-pub use Rattle.mp4_declared.specs.OwnBox.{OwnLayout, layout_of, format_declared}
+unfoldable pub use Rattle.mp4_declared.specs.OwnBox.{reads_declared, reads_checked}
+pub use Rattle.mp4_declared.specs.OwnBox.{OwnLayout, layout_of, format_declared, format_checked}
 -- children
 pub use Rattle.mp4_frame.specs.Children
 pub use Rattle.mp4_frame.specs.OneChild
@@ -32,7 +33,7 @@ pub use Rattle.mp4_frame.specs.Format.{Format, IsBox, write_laws}
 pub use Rattle.mp4_frame.specs.Laws.{OwnName, ReadsBack, AreBytes}
 pub use Rattle.mp4_frame.specs.Members.{Kind, Known, Unknown, Is, kind, is_known, reading_known, Held, holds}
 pub use Rattle.mp4_frame.specs.Members.{format_held, NamedAsRead, Inside, boxed, held_inside}
-pub use Rattle.mp4_stream.specs.Coded.{known_if, of_code}
+pub use Rattle.mp4_lists.specs.Coded.{known_if, of_code}
 -- the laws of a box of fields
 pub use Rattle.mp4_frame.proofs.Fields.{found, length-fields, number-fields, number-fields_alone, numbers-fields}
 pub use Rattle.mp4_frame.proofs.Fields.{expect_bytes-fields, number-below}
@@ -49,7 +50,7 @@ pub use Rattle.mp4_frame.proofs.TableLaws.{IsEntry, number_entry, TableOf, forma
 pub use Rattle.mp4_tables.specs.EntryLaws.{fields_back}
 pub use Rattle.mp4_declared.specs.LayoutLaws.{laws_in, entry_laws}
 pub use Rattle.mp4_declared.specs.ShapeLaws.{IsShape}
-pub use Rattle.mp4_declared.specs.OwnBoxLaws.{laws_declared}
+pub use Rattle.mp4_declared.specs.OwnBoxLaws.{laws_declared, laws_checked}
 pub use Rattle.mp4_tables.specs.RowsLaws.{rows_within_back, rows_within_read}
 -- the laws of a box with children
 pub use Rattle.mp4_frame.proofs.ChildLaws
@@ -57,5 +58,5 @@ pub use Rattle.mp4_frame.proofs.OneChildLaws
 pub use Rattle.mp4_frame.proofs.ParentLaws
 -- the laws of a type that holds boxes of several types
 pub use Rattle.mp4_frame.specs.MemberLaws.{IsMember, member, written_member, own_name_of_member, read_back_of_member}
-pub use Rattle.mp4_stream.specs.MemberLaws.{own_code, sound_member, code_of_member}
-pub use Rattle.mp4_stream.specs.Sound.{ReadsSoundly, ReadsOwnCode}
+pub use Rattle.mp4_lists.specs.MemberLaws.{own_code, sound_member, code_of_member}
+pub use Rattle.mp4_lists.specs.Sound.{ReadsSoundly, ReadsOwnCode}

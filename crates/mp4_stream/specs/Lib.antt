@@ -6,12 +6,7 @@ pub mod OtherBoxLaws
 pub mod NameLaws
 pub mod KeptBox
 pub mod KeptBoxLaws
-pub mod Sound
-pub mod Coded
-pub mod MemberLaws
 pub mod SoundLaws
-pub mod OwnOr
-pub mod OwnOrLaws
 pub mod FragmentBox
 pub mod FragmentBoxLaws
 pub mod Boxes

@@ -1,9 +1,8 @@
 -- The laws of an OtherBox. It is read under its own code.
 use Rattle.std.proofs.Common.{◌≡◌, ℕ, ◌+◌, ◌-◌, ◌<◌, ◌^◌, true, false, List, [], ◌∷◌, ◌++◌, length, take, drop, Ok}
-use Rattle.std.proofs.Common.{refl, sym, ap, subst, ◌∙◌, arith, append_assoc, inl, inr}
+use Rattle.std.proofs.Common.{refl, sym, ap, subst, ◌∙◌, arith, append_assoc}
 use Rattle.std.specs.Prelude.{nat_le}
-use Rattle.std.proofs.lemmas.Bool.{le-leb, cases_lt}
-use Rattle.std.proofs.lemmas.List.{get_or-take, get_or_past, length-take}
+use Rattle.std.proofs.lemmas.Bool.{le-leb}
 use Rattle.mp4_frame.specs.BoxType.{name_of, code_of, code_of-name_of}
 use Rattle.mp4_frame.specs.Bytes.{bytes_of_fields}
 use Rattle.mp4_frame.specs.Format.{IsWritten}
@@ -13,18 +12,11 @@ use Rattle.mp4_frame.proofs.Checks.{are_bytes-drop, check_ok, is_value, piece_ba
 use Rattle.mp4_frame.proofs.Fields.{length-fields}
 use Rattle.mp4_frame.proofs.Framing.{header_in_front, own_normal_form}
 use Rattle.mp4_frame.proofs.Tables.{value_first}
+use Rattle.mp4_lists.specs.Fronts.{are_bytes-take}
 use Rattle.mp4_stream.specs.Other.{is_typed}
 use Rattle.mp4_stream.specs.OtherBox.{content_other, reads_other, size_other, fields_other, WritableOther, bytes_other}
 use Rattle.mp4_stream.specs.OtherBox.{format_other}
 use Rattle.mp4_stream.specs.declared.other_box.OtherBox.{OtherBox}
-
--- the front of bytes is bytes
-are_bytes-take : (n : ℕ) (xs : List ℕ) → AreBytes xs → AreBytes (take n xs)
-are_bytes-take n xs are i =
-    elim (cases_lt i n) [
-      | inl h ↦ rw (get_or-take n xs i 0 h) (are i)
-      | inr h ↦ rw (get_or_past (take n xs) i 0 (omega (arith, length-take n xs))) (omega arith)
-    ]
 
 -- the code of the name is that in the header
 header_other : (v : OtherBox) → WritableOther v → BeginsWithHeader (size_other v) (name_of v.code) (bytes_other v)

@@ -13,8 +13,8 @@ use Rattle.mp4_stream.specs.OtherBox.{reads_other}
 use Rattle.mp4_stream.specs.OtherBoxLaws.{sound_other, code_other}
 use Rattle.mp4_stream.specs.KeptBox.{format_kept, known_kept, reading_kept}
 use Rattle.mp4_stream.specs.KeptBoxLaws.{untyped_code}
-use Rattle.mp4_stream.specs.MemberLaws.{mapped_value, sound_member, code_of_member}
-use Rattle.mp4_stream.specs.Sound.{ReadsSoundly, ReadsOwnCode}
+use Rattle.mp4_lists.specs.MemberLaws.{mapped_value, sound_member, code_of_member}
+use Rattle.mp4_lists.specs.Sound.{ReadsSoundly, ReadsOwnCode}
 use Rattle.mp4_stream.specs.declared.kept_box.KeptBox.{KeptBox}
 use Rattle.mp4_stream.specs.declared.kept_box.KeptBox.TheVariants as kept
 

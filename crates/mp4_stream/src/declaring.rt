@@ -1,4 +1,13 @@
-//! What writes the bodies of a declared box and of its entries, where each field is named once.
+//! What a crate takes, by `use mp4_stream::declaring::*`, that declares boxes: shapes, traits, and macros that write the
+//! bodies of a box and of its entries, where each field is named once.
+
+pub use crate::{box_of, entry_of, numbers_of, parts_of};
+pub use mp4_declared::{
+    About, Array, Bits, Bytes, Check, Checked, Declared, DeclaredBox, EntryLayout, FromVersion,
+    Full, I8, I16, I32, If, IfFlags, Last, List, Pascal, Reserved, Rest, Rows, Shape, Terminated,
+    Time, U8, U16, U24, U32, U64,
+};
+pub use mp4_frame::{Entries, TryClone};
 
 /// The struct of some content: `box_of!(found => Prft { version, flags, reference_track_id, ntp_timestamp, media_time })`,
 /// with the fields in the order of the content.

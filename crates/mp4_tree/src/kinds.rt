@@ -45,7 +45,7 @@ pub const SOUN: u32 = 0x736f_756e;
 pub const QUICKTIME: u32 = 0x7174_2020;
 
 /// Whether boxes of this code hold boxes, and nothing else.
-fn is_container(code: u32) -> bool
+pub fn is_container(code: u32) -> bool
     ensures { result ≡ is_container code }
 {
     matches!(

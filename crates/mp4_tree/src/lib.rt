@@ -21,6 +21,7 @@ mod words;
 
 pub use content::{read_box, read_content};
 pub use finding::find;
+pub use kinds::is_container;
 pub use level::Level;
 pub use name::name_of;
 pub use path::{BoxPath, PathError, PathPart};

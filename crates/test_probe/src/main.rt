@@ -1,16 +1,21 @@
 //! Reads records from standard input, and writes records to standard output that say what the codec reads in them.
 //! `tests/rows` compares these with what is expected, and `tests/differential` with what a second reader reads.
 //!
-//! A record of the input is a position, a number of bytes, and these bytes. It gives seven records of the output, each
+//! A record of the input is a position, a number of bytes, and these bytes. It gives ten records of the output, each
 //! a number of bytes and a text of these bytes. The first is what is read as the box whose header is at the position,
 //! if its name is known; the second, what is read as the list of the boxes from the position on: the result as `Debug`
 //! prints it, a space, and the cursor's position after the call. The third is what this list is written in: the result
 //! of the call, a space, and the list of the bytes; it is empty if there is no list. The next three are the same of
-//! boxes that are kept: as the first three, with `KeptBox` in the place of `AnyBox`. The last is what `read_counted`
-//! reads of the box, as the first, with a space and the number of headers after it; it is empty if the box isn't an
-//! `esds`. Numbers have 8 bytes and are big-endian. The program ends at the first record that isn't whole.
+//! boxes that are kept: as the first three, with `KeptBox` in the place of `AnyBox`. The next two are what is read of
+//! the box, as the first, and what it is written in, as the third, if its type is declared; else they are empty. The
+//! ninth is what the list is written in if it is read as trees, as the third, or the fault. The last is what
+//! `read_counted` reads of the box, as the first, with a space and the number of headers after it; it is empty if the
+//! box isn't an `esds`. Numbers have 8 bytes and are big-endian. The program ends at the first record that isn't whole.
 #![tactic(auto)]
 
+mod declared;
+
+use crate::declared::{show_declared, show_trees};
 use mp4_stream::{
     AnyBox, BoxHeader, BoxType, ByteCursor, EsdsBox, KeptBox, StreamBox, read_boxes, read_boxes_as,
     write_boxes,
@@ -38,13 +43,13 @@ fn read_one<B: StreamBox>(alloc: Global, reader: &mut ByteCursor) -> mp4_stream:
 }
 
 /// Appends a record of this text.
-fn push_record(text: &str, out: &mut Vec<u8>) -> Result<(), AllocError> {
+pub(crate) fn push_record(text: &str, out: &mut Vec<u8>) -> Result<(), AllocError> {
     out.extend_from_slice(&(text.len() as u64).to_be_bytes())?;
     out.extend_from_slice(text.as_bytes())
 }
 
 /// Appends a record: the result of a call, and the cursor's position after it.
-fn show(
+pub(crate) fn show(
     alloc: Global,
     found: &impl Debug,
     reader: &ByteCursor,
@@ -55,7 +60,7 @@ fn show(
 }
 
 /// Appends a record: the result of writing these boxes, and the bytes that were written.
-fn show_written<B: StreamBox>(
+pub(crate) fn show_written<B: StreamBox>(
     alloc: Global,
     boxes: &[B],
     out: &mut Vec<u8>,
@@ -106,7 +111,7 @@ fn show_counted(
     push_record(&text, out)
 }
 
-/// Appends the seven records of these bytes.
+/// Appends the ten records of these bytes.
 fn show_all(
     alloc: Global,
     position: u64,
@@ -124,6 +129,10 @@ fn show_all(
     reader.set_position(position);
     let kept = read_boxes_as::<KeptBox>(alloc, &mut reader);
     show_list(alloc, &kept, &reader, out)?;
+    reader.set_position(position);
+    show_declared(alloc, &mut reader, out)?;
+    reader.set_position(position);
+    show_trees(alloc, &mut reader, out)?;
     reader.set_position(position);
     show_counted(alloc, &mut reader, out)
 }

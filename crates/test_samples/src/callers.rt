@@ -39,11 +39,20 @@ pub fn key_frame_bytes<'a>(
     }
 }
 
-/// The bytes of the key frame at a time of the track of a track_ID; none if there is no such track, its tables do not
-/// agree, or the file ends before.
+/// The bytes of the key frame at a time of a track with these tables; none if they do not agree, or the file ends
+/// before.
+pub fn key_frame_in<'a>(
+    alloc: Global,
+    tables: Tables<'_>,
+    file: &'a [u8],
+    time: u64,
+) -> Option<&'a [u8]> {
+    let index = SampleTables::new(tables).ok()?.index(alloc).ok()?;
+    key_frame_bytes(&index, file, time).ok()?
+}
+
+/// The same of the track of a track_ID; none if there is no such track, too.
 pub fn key_frame_of_file(alloc: Global, file: &[u8], track_id: u32, time: u64) -> Option<&[u8]> {
     let track = track_of(alloc, file, track_id).ok()?;
-    let tables = SampleTables::new(track.tables.tables()).ok()?;
-    let index = tables.index(alloc).ok()?;
-    key_frame_bytes(&index, file, time).ok()?
+    key_frame_in(alloc, track.tables.tables(), file, time)
 }

@@ -4,8 +4,6 @@ mod boxes;
 mod disagreements;
 mod edits;
 mod fragments;
-mod hostile;
-mod index;
 mod tables;
 mod track;
 mod track_fragments;

@@ -1,6 +1,6 @@
 //! The laws at these types. The calls do nothing. That they are proved shows that the types keep the traits.
 
-use crate::{SegmentBox, SidxBox, SidxOrAny};
+use crate::{SegmentBox, SidxBox};
 use mp4_stream::laws::{
     begins_with_header, boxes_follow_frames, cut_at_a_border, cut_inside_a_box, equal_boxes,
     equal_streams, has_normal_form, has_own_name, have_same_bytes, is_read_back,
@@ -42,9 +42,4 @@ fn call_laws_of_lists<B: SoundStream>() {
 fn laws_hold_of_the_box_and_of_lists() {
     call_laws_of_box::<SidxBox>();
     call_laws_of_lists::<SegmentBox>();
-}
-
-#[test]
-fn laws_hold_of_lists_with_the_boxes_of_the_codec() {
-    call_laws_of_lists::<SidxOrAny>();
 }

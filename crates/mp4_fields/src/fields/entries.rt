@@ -5,7 +5,7 @@ ghost use Rattle.mp4_fields.specs.Nesting.{fields, Keeps};
 
 use crate::brief::put_full;
 use crate::flag_names::NONE;
-use crate::sink::FieldSink;
+use crate::sink::{FieldSink, put_all};
 use crate::value::Value;
 use mp4_stream::{
     Avc1Box, AvcCBox, Hev1Box, HvcCBox, NalUnit, Result, RgbaColor, Tx3gBox, Vp09Box, VpccBox,
@@ -25,25 +25,30 @@ fn put_sets<S: FieldSink>(name: &str, sets: &[NalUnit], sink: &mut S) -> Result<
 pub fn put_avcc<S: FieldSink>(b: &AvcCBox, sink: &mut S) -> Result<()>
     ensures nesting { OnOk result (Keeps S.since fields sink.old sink.new) }
 {
-    sink.field(
-        "configuration_version",
-        Value::Number(u64::from(b.configuration_version)),
-    )?;
-    sink.field(
-        "avc_profile_indication",
-        Value::Number(u64::from(b.avc_profile_indication)),
-    )?;
-    sink.field(
-        "profile_compatibility",
-        Value::Number(u64::from(b.profile_compatibility)),
-    )?;
-    sink.field(
-        "avc_level_indication",
-        Value::Number(u64::from(b.avc_level_indication)),
-    )?;
-    sink.field(
-        "length_size_minus_one",
-        Value::Number(u64::from(b.length_size_minus_one)),
+    put_all(
+        &[
+            (
+                "configuration_version",
+                Value::Number(u64::from(b.configuration_version)),
+            ),
+            (
+                "avc_profile_indication",
+                Value::Number(u64::from(b.avc_profile_indication)),
+            ),
+            (
+                "profile_compatibility",
+                Value::Number(u64::from(b.profile_compatibility)),
+            ),
+            (
+                "avc_level_indication",
+                Value::Number(u64::from(b.avc_level_indication)),
+            ),
+            (
+                "length_size_minus_one",
+                Value::Number(u64::from(b.length_size_minus_one)),
+            ),
+        ],
+        sink,
     )?;
     put_sets(
         "sequence_parameter_sets",
@@ -72,32 +77,37 @@ pub fn put_vpcc<S: FieldSink>(b: &VpccBox, sink: &mut S) -> Result<()>
     ensures nesting { OnOk result (Keeps S.since fields sink.old sink.new) }
 {
     put_full(b.version, b.flags, NONE, sink)?;
-    sink.field("profile", Value::Number(u64::from(b.profile)))?;
-    sink.field("level", Value::Number(u64::from(b.level)))?;
-    sink.field("bit_depth", Value::Number(u64::from(b.bit_depth)))?;
-    sink.field(
-        "chroma_subsampling",
-        Value::Number(u64::from(b.chroma_subsampling)),
-    )?;
-    sink.field(
-        "video_full_range_flag",
-        Value::Number(u64::from(b.video_full_range_flag)),
-    )?;
-    sink.field(
-        "color_primaries",
-        Value::Number(u64::from(b.color_primaries)),
-    )?;
-    sink.field(
-        "transfer_characteristics",
-        Value::Number(u64::from(b.transfer_characteristics)),
-    )?;
-    sink.field(
-        "matrix_coefficients",
-        Value::Number(u64::from(b.matrix_coefficients)),
-    )?;
-    sink.field(
-        "codec_initialization_data_size",
-        Value::Number(u64::from(b.codec_initialization_data_size)),
+    put_all(
+        &[
+            ("profile", Value::Number(u64::from(b.profile))),
+            ("level", Value::Number(u64::from(b.level))),
+            ("bit_depth", Value::Number(u64::from(b.bit_depth))),
+            (
+                "chroma_subsampling",
+                Value::Number(u64::from(b.chroma_subsampling)),
+            ),
+            (
+                "video_full_range_flag",
+                Value::Number(u64::from(b.video_full_range_flag)),
+            ),
+            (
+                "color_primaries",
+                Value::Number(u64::from(b.color_primaries)),
+            ),
+            (
+                "transfer_characteristics",
+                Value::Number(u64::from(b.transfer_characteristics)),
+            ),
+            (
+                "matrix_coefficients",
+                Value::Number(u64::from(b.matrix_coefficients)),
+            ),
+            (
+                "codec_initialization_data_size",
+                Value::Number(u64::from(b.codec_initialization_data_size)),
+            ),
+        ],
+        sink,
     )
 }
 
@@ -105,22 +115,27 @@ pub fn put_vpcc<S: FieldSink>(b: &VpccBox, sink: &mut S) -> Result<()>
 pub fn put_avc1<S: FieldSink>(b: &Avc1Box, sink: &mut S) -> Result<()>
     ensures nesting { OnOk result (Keeps S.since fields sink.old sink.new) }
 {
-    sink.field(
-        "data_reference_index",
-        Value::Number(u64::from(b.data_reference_index)),
+    put_all(
+        &[
+            (
+                "data_reference_index",
+                Value::Number(u64::from(b.data_reference_index)),
+            ),
+            ("width", Value::Number(u64::from(b.width))),
+            ("height", Value::Number(u64::from(b.height))),
+            (
+                "horizresolution",
+                Value::Fixed(i64::from(b.horizresolution.raw_value()), 16),
+            ),
+            (
+                "vertresolution",
+                Value::Fixed(i64::from(b.vertresolution.raw_value()), 16),
+            ),
+            ("frame_count", Value::Number(u64::from(b.frame_count))),
+            ("depth", Value::Number(u64::from(b.depth))),
+        ],
+        sink,
     )?;
-    sink.field("width", Value::Number(u64::from(b.width)))?;
-    sink.field("height", Value::Number(u64::from(b.height)))?;
-    sink.field(
-        "horizresolution",
-        Value::Fixed(i64::from(b.horizresolution.raw_value()), 16),
-    )?;
-    sink.field(
-        "vertresolution",
-        Value::Fixed(i64::from(b.vertresolution.raw_value()), 16),
-    )?;
-    sink.field("frame_count", Value::Number(u64::from(b.frame_count)))?;
-    sink.field("depth", Value::Number(u64::from(b.depth)))?;
     sink.begin_group("avcc")?;
     put_avcc(&b.avcc, sink)?;
     sink.end_group()
@@ -130,22 +145,27 @@ pub fn put_avc1<S: FieldSink>(b: &Avc1Box, sink: &mut S) -> Result<()>
 pub fn put_hev1<S: FieldSink>(b: &Hev1Box, sink: &mut S) -> Result<()>
     ensures nesting { OnOk result (Keeps S.since fields sink.old sink.new) }
 {
-    sink.field(
-        "data_reference_index",
-        Value::Number(u64::from(b.data_reference_index)),
+    put_all(
+        &[
+            (
+                "data_reference_index",
+                Value::Number(u64::from(b.data_reference_index)),
+            ),
+            ("width", Value::Number(u64::from(b.width))),
+            ("height", Value::Number(u64::from(b.height))),
+            (
+                "horizresolution",
+                Value::Fixed(i64::from(b.horizresolution.raw_value()), 16),
+            ),
+            (
+                "vertresolution",
+                Value::Fixed(i64::from(b.vertresolution.raw_value()), 16),
+            ),
+            ("frame_count", Value::Number(u64::from(b.frame_count))),
+            ("depth", Value::Number(u64::from(b.depth))),
+        ],
+        sink,
     )?;
-    sink.field("width", Value::Number(u64::from(b.width)))?;
-    sink.field("height", Value::Number(u64::from(b.height)))?;
-    sink.field(
-        "horizresolution",
-        Value::Fixed(i64::from(b.horizresolution.raw_value()), 16),
-    )?;
-    sink.field(
-        "vertresolution",
-        Value::Fixed(i64::from(b.vertresolution.raw_value()), 16),
-    )?;
-    sink.field("frame_count", Value::Number(u64::from(b.frame_count)))?;
-    sink.field("depth", Value::Number(u64::from(b.depth)))?;
     sink.begin_group("hvcc")?;
     put_hvcc(&b.hvcc, sink)?;
     sink.end_group()
@@ -162,21 +182,26 @@ pub fn put_vp09<S: FieldSink>(b: &Vp09Box, sink: &mut S) -> Result<()>
     ensures nesting { OnOk result (Keeps S.since fields sink.old sink.new) }
 {
     put_full(b.version, b.flags, NONE, sink)?;
-    sink.field("start_code", Value::Number(u64::from(b.start_code)))?;
-    sink.field(
-        "data_reference_index",
-        Value::Number(u64::from(b.data_reference_index)),
+    put_all(
+        &[
+            ("start_code", Value::Number(u64::from(b.start_code))),
+            (
+                "data_reference_index",
+                Value::Number(u64::from(b.data_reference_index)),
+            ),
+            ("reserved0", Value::Bytes(&b.reserved0)),
+            ("width", Value::Number(u64::from(b.width))),
+            ("height", Value::Number(u64::from(b.height))),
+            ("horizresolution", resolution(b.horizresolution)),
+            ("vertresolution", resolution(b.vertresolution)),
+            ("reserved1", Value::Bytes(&b.reserved1)),
+            ("frame_count", Value::Number(u64::from(b.frame_count))),
+            ("compressorname", Value::Bytes(&b.compressorname)),
+            ("depth", Value::Number(u64::from(b.depth))),
+            ("end_code", Value::Number(u64::from(b.end_code))),
+        ],
+        sink,
     )?;
-    sink.field("reserved0", Value::Bytes(&b.reserved0))?;
-    sink.field("width", Value::Number(u64::from(b.width)))?;
-    sink.field("height", Value::Number(u64::from(b.height)))?;
-    sink.field("horizresolution", resolution(b.horizresolution))?;
-    sink.field("vertresolution", resolution(b.vertresolution))?;
-    sink.field("reserved1", Value::Bytes(&b.reserved1))?;
-    sink.field("frame_count", Value::Number(u64::from(b.frame_count)))?;
-    sink.field("compressorname", Value::Bytes(&b.compressorname))?;
-    sink.field("depth", Value::Number(u64::from(b.depth)))?;
-    sink.field("end_code", Value::Number(u64::from(b.end_code)))?;
     sink.begin_group("vpcc")?;
     put_vpcc(&b.vpcc, sink)?;
     sink.end_group()
@@ -185,10 +210,30 @@ pub fn put_vp09<S: FieldSink>(b: &Vp09Box, sink: &mut S) -> Result<()>
 fn put_color<S: FieldSink>(color: &RgbaColor, sink: &mut S) -> Result<()>
     ensures nesting { OnOk result (Keeps S.since fields sink.old sink.new) }
 {
-    sink.field("red", Value::Number(u64::from(color.red)))?;
-    sink.field("green", Value::Number(u64::from(color.green)))?;
-    sink.field("blue", Value::Number(u64::from(color.blue)))?;
-    sink.field("alpha", Value::Number(u64::from(color.alpha)))
+    put_all(
+        &[
+            ("red", Value::Number(u64::from(color.red))),
+            ("green", Value::Number(u64::from(color.green))),
+            ("blue", Value::Number(u64::from(color.blue))),
+            ("alpha", Value::Number(u64::from(color.alpha))),
+        ],
+        sink,
+    )
+}
+
+fn put_justification<S: FieldSink>(horizontal: i8, vertical: i8, sink: &mut S) -> Result<()>
+    ensures nesting { OnOk result (Keeps S.since fields sink.old sink.new) }
+{
+    put_all(
+        &[
+            (
+                "horizontal_justification",
+                Value::Signed(i64::from(horizontal)),
+            ),
+            ("vertical_justification", Value::Signed(i64::from(vertical))),
+        ],
+        sink,
+    )
 }
 
 /// A sample entry of timed text (3GPP TS 26.245, 5.16).
@@ -200,14 +245,7 @@ pub fn put_tx3g<S: FieldSink>(b: &Tx3gBox, sink: &mut S) -> Result<()>
         Value::Number(u64::from(b.data_reference_index)),
     )?;
     sink.field("display_flags", Value::Flags(b.display_flags, 8, NONE))?;
-    sink.field(
-        "horizontal_justification",
-        Value::Signed(i64::from(b.horizontal_justification)),
-    )?;
-    sink.field(
-        "vertical_justification",
-        Value::Signed(i64::from(b.vertical_justification)),
-    )?;
+    put_justification(b.horizontal_justification, b.vertical_justification, sink)?;
     sink.begin_group("bg_color_rgba")?;
     put_color(&b.bg_color_rgba, sink)?;
     sink.end_group()?;

@@ -6,7 +6,7 @@ ghost use Rattle.mp4_fields.specs.Nesting.{fields, entries, Keeps};
 use crate::brief::put_full;
 use crate::fields::samples::put_numbers;
 use crate::flag_names::{NONE, SAMPLE, TRACK_FRAGMENT, TRACK_RUN};
-use crate::sink::FieldSink;
+use crate::sink::{FieldSink, put_all};
 use crate::value::Value;
 use mp4_stream::{MehdBox, MfhdBox, Result, TfdtBox, TfhdBox, TrexBox, TrunBox};
 
@@ -23,22 +23,27 @@ pub fn put_trex<S: FieldSink>(b: &TrexBox, sink: &mut S) -> Result<()>
     ensures nesting { OnOk result (Keeps S.since fields sink.old sink.new) }
 {
     put_full(b.version, b.flags, NONE, sink)?;
-    sink.field("track_id", Value::Number(u64::from(b.track_id)))?;
-    sink.field(
-        "default_sample_description_index",
-        Value::Number(u64::from(b.default_sample_description_index)),
-    )?;
-    sink.field(
-        "default_sample_duration",
-        Value::Number(u64::from(b.default_sample_duration)),
-    )?;
-    sink.field(
-        "default_sample_size",
-        Value::Number(u64::from(b.default_sample_size)),
-    )?;
-    sink.field(
-        "default_sample_flags",
-        Value::Flags(b.default_sample_flags, 8, SAMPLE),
+    put_all(
+        &[
+            ("track_id", Value::Number(u64::from(b.track_id))),
+            (
+                "default_sample_description_index",
+                Value::Number(u64::from(b.default_sample_description_index)),
+            ),
+            (
+                "default_sample_duration",
+                Value::Number(u64::from(b.default_sample_duration)),
+            ),
+            (
+                "default_sample_size",
+                Value::Number(u64::from(b.default_sample_size)),
+            ),
+            (
+                "default_sample_flags",
+                Value::Flags(b.default_sample_flags, 8, SAMPLE),
+            ),
+        ],
+        sink,
     )
 }
 

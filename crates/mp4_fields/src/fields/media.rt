@@ -5,7 +5,7 @@ ghost use Rattle.mp4_fields.specs.Nesting.{fields, Keeps};
 
 use crate::brief::put_full;
 use crate::flag_names::{NONE, REFERENCE};
-use crate::sink::FieldSink;
+use crate::sink::{FieldSink, put_all};
 use crate::value::Value;
 use mp4_stream::{DinfBox, DrefBox, Result, SmhdBox, UrlBox, VmhdBox};
 
@@ -16,9 +16,14 @@ pub fn put_vmhd<S: FieldSink>(b: &VmhdBox, sink: &mut S) -> Result<()>
     put_full(b.version, b.flags, NONE, sink)?;
     sink.field("graphics_mode", Value::Number(u64::from(b.graphics_mode)))?;
     sink.begin_group("op_color")?;
-    sink.field("red", Value::Number(u64::from(b.op_color.red)))?;
-    sink.field("green", Value::Number(u64::from(b.op_color.green)))?;
-    sink.field("blue", Value::Number(u64::from(b.op_color.blue)))?;
+    put_all(
+        &[
+            ("red", Value::Number(u64::from(b.op_color.red))),
+            ("green", Value::Number(u64::from(b.op_color.green))),
+            ("blue", Value::Number(u64::from(b.op_color.blue))),
+        ],
+        sink,
+    )?;
     sink.end_group()
 }
 

@@ -5,7 +5,7 @@ ghost use Rattle.mp4_fields.specs.Nesting.{fields, Keeps};
 
 use crate::brief::{put_data, put_full};
 use crate::flag_names::NONE;
-use crate::sink::FieldSink;
+use crate::sink::{FieldSink, put_all};
 use crate::value::Value;
 use mp4_stream::{DataBox, DataType, EmsgBox, Result};
 
@@ -31,16 +31,26 @@ pub fn put_emsg<S: FieldSink>(b: &EmsgBox, sink: &mut S) -> Result<()>
     ensures nesting { OnOk result (Keeps S.since fields sink.old sink.new) }
 {
     put_full(b.version, b.flags, NONE, sink)?;
-    sink.field("scheme_id_uri", Value::Text(b.scheme_id_uri.as_str()))?;
-    sink.field("value", Value::Text(b.value.as_str()))?;
-    sink.field("timescale", Value::Number(u64::from(b.timescale)))?;
+    put_all(
+        &[
+            ("scheme_id_uri", Value::Text(b.scheme_id_uri.as_str())),
+            ("value", Value::Text(b.value.as_str())),
+            ("timescale", Value::Number(u64::from(b.timescale))),
+        ],
+        sink,
+    )?;
     if let Some(time) = b.presentation_time {
         sink.field("presentation_time", Value::Number(time))?;
     }
     if let Some(delta) = b.presentation_time_delta {
         sink.field("presentation_time_delta", Value::Number(u64::from(delta)))?;
     }
-    sink.field("event_duration", Value::Number(u64::from(b.event_duration)))?;
-    sink.field("id", Value::Number(u64::from(b.id)))?;
-    sink.field("message_data", Value::Bytes(b.message_data.as_slice()))
+    put_all(
+        &[
+            ("event_duration", Value::Number(u64::from(b.event_duration))),
+            ("id", Value::Number(u64::from(b.id))),
+            ("message_data", Value::Bytes(b.message_data.as_slice())),
+        ],
+        sink,
+    )
 }

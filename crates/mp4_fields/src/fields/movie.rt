@@ -5,7 +5,7 @@ ghost use Rattle.mp4_fields.specs.Nesting.{fields, Keeps};
 
 use crate::brief::put_full;
 use crate::flag_names::NONE;
-use crate::sink::FieldSink;
+use crate::sink::{FieldSink, put_all};
 use crate::value::Value;
 use mp4_stream::{FtypBox, MvhdBox, Result};
 
@@ -13,11 +13,16 @@ use mp4_stream::{FtypBox, MvhdBox, Result};
 pub fn put_ftyp<S: FieldSink>(b: &FtypBox, sink: &mut S) -> Result<()>
     ensures nesting { OnOk result (Keeps S.since fields sink.old sink.new) }
 {
-    sink.field("major_brand", Value::Code(b.major_brand))?;
-    sink.field("minor_version", Value::Number(u64::from(b.minor_version)))?;
-    sink.field(
-        "compatible_brands",
-        Value::Codes(b.compatible_brands.as_slice()),
+    put_all(
+        &[
+            ("major_brand", Value::Code(b.major_brand)),
+            ("minor_version", Value::Number(u64::from(b.minor_version))),
+            (
+                "compatible_brands",
+                Value::Codes(b.compatible_brands.as_slice()),
+            ),
+        ],
+        sink,
     )
 }
 
@@ -26,12 +31,17 @@ pub fn put_mvhd<S: FieldSink>(b: &MvhdBox, sink: &mut S) -> Result<()>
     ensures nesting { OnOk result (Keeps S.since fields sink.old sink.new) }
 {
     put_full(b.version, b.flags, NONE, sink)?;
-    sink.field("creation_time", Value::Date(b.creation_time))?;
-    sink.field("modification_time", Value::Date(b.modification_time))?;
-    sink.field("timescale", Value::Number(u64::from(b.timescale)))?;
-    sink.field("duration", Value::Number(b.duration))?;
-    sink.field("rate", Value::Fixed(i64::from(b.rate.raw_value()), 16))?;
-    sink.field("volume", Value::Fixed(i64::from(b.volume.raw_value()), 8))?;
-    sink.field("matrix", Value::Matrix(&b.matrix))?;
-    sink.field("next_track_id", Value::Number(u64::from(b.next_track_id)))
+    put_all(
+        &[
+            ("creation_time", Value::Date(b.creation_time)),
+            ("modification_time", Value::Date(b.modification_time)),
+            ("timescale", Value::Number(u64::from(b.timescale))),
+            ("duration", Value::Number(b.duration)),
+            ("rate", Value::Fixed(i64::from(b.rate.raw_value()), 16)),
+            ("volume", Value::Fixed(i64::from(b.volume.raw_value()), 8)),
+            ("matrix", Value::Matrix(&b.matrix)),
+            ("next_track_id", Value::Number(u64::from(b.next_track_id))),
+        ],
+        sink,
+    )
 }

@@ -5,7 +5,7 @@ ghost use Rattle.mp4_fields.specs.Nesting.{fields, entries, Keeps};
 
 use crate::brief::put_full;
 use crate::flag_names::NONE;
-use crate::sink::FieldSink;
+use crate::sink::{FieldSink, put_all};
 use crate::value::Value;
 use mp4_stream::{
     Co64Box, CttsBox, CttsEntry, Result, StcoBox, StscBox, StscEntry, StssBox, StszBox, SttsBox,
@@ -56,8 +56,13 @@ pub fn put_stsz<S: FieldSink>(b: &StszBox, sink: &mut S) -> Result<()>
     ensures nesting { OnOk result (Keeps S.since fields sink.old sink.new) }
 {
     put_full(b.version, b.flags, NONE, sink)?;
-    sink.field("sample_size", Value::Number(u64::from(b.sample_size)))?;
-    sink.field("sample_count", Value::Number(u64::from(b.sample_count)))?;
+    put_all(
+        &[
+            ("sample_size", Value::Number(u64::from(b.sample_size))),
+            ("sample_count", Value::Number(u64::from(b.sample_count))),
+        ],
+        sink,
+    )?;
     put_numbers("sample_sizes", b.sample_sizes.as_slice(), sink)
 }
 
@@ -65,8 +70,13 @@ fn put_delta<S: FieldSink>(entry: &SttsEntry, sink: &mut S) -> Result<()>
     ensures nesting { OnOk result (Keeps S.since entries sink.old sink.new) }
 {
     sink.begin_entry()?;
-    sink.field("sample_count", Value::Number(u64::from(entry.sample_count)))?;
-    sink.field("sample_delta", Value::Number(u64::from(entry.sample_delta)))?;
+    put_all(
+        &[
+            ("sample_count", Value::Number(u64::from(entry.sample_count))),
+            ("sample_delta", Value::Number(u64::from(entry.sample_delta))),
+        ],
+        sink,
+    )?;
     sink.end_entry()
 }
 
@@ -86,10 +96,15 @@ fn put_offset<S: FieldSink>(entry: &CttsEntry, sink: &mut S) -> Result<()>
     ensures nesting { OnOk result (Keeps S.since entries sink.old sink.new) }
 {
     sink.begin_entry()?;
-    sink.field("sample_count", Value::Number(u64::from(entry.sample_count)))?;
-    sink.field(
-        "sample_offset",
-        Value::Signed(i64::from(entry.sample_offset)),
+    put_all(
+        &[
+            ("sample_count", Value::Number(u64::from(entry.sample_count))),
+            (
+                "sample_offset",
+                Value::Signed(i64::from(entry.sample_offset)),
+            ),
+        ],
+        sink,
     )?;
     sink.end_entry()
 }
@@ -110,16 +125,21 @@ fn put_run_of_chunks<S: FieldSink>(entry: &StscEntry, sink: &mut S) -> Result<()
     ensures nesting { OnOk result (Keeps S.since entries sink.old sink.new) }
 {
     sink.begin_entry()?;
-    sink.field("first_chunk", Value::Number(u64::from(entry.first_chunk)))?;
-    sink.field(
-        "samples_per_chunk",
-        Value::Number(u64::from(entry.samples_per_chunk)),
+    put_all(
+        &[
+            ("first_chunk", Value::Number(u64::from(entry.first_chunk))),
+            (
+                "samples_per_chunk",
+                Value::Number(u64::from(entry.samples_per_chunk)),
+            ),
+            (
+                "sample_description_index",
+                Value::Number(u64::from(entry.sample_description_index)),
+            ),
+            ("first_sample", Value::Number(u64::from(entry.first_sample))),
+        ],
+        sink,
     )?;
-    sink.field(
-        "sample_description_index",
-        Value::Number(u64::from(entry.sample_description_index)),
-    )?;
-    sink.field("first_sample", Value::Number(u64::from(entry.first_sample)))?;
     sink.end_entry()
 }
 

@@ -6,7 +6,7 @@ ghost use Rattle.mp4_fields.specs.Nesting.{fields, Keeps};
 use crate::brief::put_full;
 use crate::fields::entries::{put_avc1, put_hev1, put_tx3g, put_vp09};
 use crate::flag_names::NONE;
-use crate::sink::FieldSink;
+use crate::sink::{FieldSink, put_all};
 use crate::value::Value;
 use mp4_stream::{
     DecoderConfigDescriptor, DecoderSpecificDescriptor, EsdsBox, Mp4aBox, Result, StsdBox,
@@ -15,8 +15,13 @@ use mp4_stream::{
 fn put_specific<S: FieldSink>(d: &DecoderSpecificDescriptor, sink: &mut S) -> Result<()>
     ensures nesting { OnOk result (Keeps S.since fields sink.old sink.new) }
 {
-    sink.field("profile", Value::Number(u64::from(d.profile)))?;
-    sink.field("freq_index", Value::Number(u64::from(d.freq_index)))?;
+    put_all(
+        &[
+            ("profile", Value::Number(u64::from(d.profile))),
+            ("freq_index", Value::Number(u64::from(d.freq_index))),
+        ],
+        sink,
+    )?;
     if let Some(rate) = d.sample_rate {
         sink.field("sample_rate", Value::Number(u64::from(rate)))?;
     }
@@ -26,15 +31,20 @@ fn put_specific<S: FieldSink>(d: &DecoderSpecificDescriptor, sink: &mut S) -> Re
 fn put_config<S: FieldSink>(d: &DecoderConfigDescriptor, sink: &mut S) -> Result<()>
     ensures nesting { OnOk result (Keeps S.since fields sink.old sink.new) }
 {
-    sink.field(
-        "object_type_indication",
-        Value::Number(u64::from(d.object_type_indication)),
+    put_all(
+        &[
+            (
+                "object_type_indication",
+                Value::Number(u64::from(d.object_type_indication)),
+            ),
+            ("stream_type", Value::Number(u64::from(d.stream_type))),
+            ("up_stream", Value::Number(u64::from(d.up_stream))),
+            ("buffer_size_db", Value::Number(u64::from(d.buffer_size_db))),
+            ("max_bitrate", Value::Number(u64::from(d.max_bitrate))),
+            ("avg_bitrate", Value::Number(u64::from(d.avg_bitrate))),
+        ],
+        sink,
     )?;
-    sink.field("stream_type", Value::Number(u64::from(d.stream_type)))?;
-    sink.field("up_stream", Value::Number(u64::from(d.up_stream)))?;
-    sink.field("buffer_size_db", Value::Number(u64::from(d.buffer_size_db)))?;
-    sink.field("max_bitrate", Value::Number(u64::from(d.max_bitrate)))?;
-    sink.field("avg_bitrate", Value::Number(u64::from(d.avg_bitrate)))?;
     sink.begin_group("dec_specific")?;
     put_specific(&d.dec_specific, sink)?;
     sink.end_group()
@@ -57,15 +67,20 @@ pub fn put_esds<S: FieldSink>(b: &EsdsBox, sink: &mut S) -> Result<()>
 pub fn put_mp4a<S: FieldSink>(b: &Mp4aBox, sink: &mut S) -> Result<()>
     ensures nesting { OnOk result (Keeps S.since fields sink.old sink.new) }
 {
-    sink.field(
-        "data_reference_index",
-        Value::Number(u64::from(b.data_reference_index)),
-    )?;
-    sink.field("channelcount", Value::Number(u64::from(b.channelcount)))?;
-    sink.field("samplesize", Value::Number(u64::from(b.samplesize)))?;
-    sink.field(
-        "samplerate",
-        Value::Fixed(i64::from(b.samplerate.raw_value()), 16),
+    put_all(
+        &[
+            (
+                "data_reference_index",
+                Value::Number(u64::from(b.data_reference_index)),
+            ),
+            ("channelcount", Value::Number(u64::from(b.channelcount))),
+            ("samplesize", Value::Number(u64::from(b.samplesize))),
+            (
+                "samplerate",
+                Value::Fixed(i64::from(b.samplerate.raw_value()), 16),
+            ),
+        ],
+        sink,
     )?;
     if let Some(esds) = &b.esds {
         sink.begin_group("esds")?;

@@ -5,7 +5,7 @@ ghost use Rattle.mp4_fields.specs.Nesting.{fields, entries, Keeps};
 
 use crate::brief::put_full;
 use crate::flag_names::{NONE, TRACK};
-use crate::sink::FieldSink;
+use crate::sink::{FieldSink, put_all};
 use crate::value::Value;
 use mp4_stream::{ElstBox, ElstEntry, HdlrBox, MdhdBox, Result, TkhdBox};
 
@@ -14,19 +14,24 @@ pub fn put_tkhd<S: FieldSink>(b: &TkhdBox, sink: &mut S) -> Result<()>
     ensures nesting { OnOk result (Keeps S.since fields sink.old sink.new) }
 {
     put_full(b.version, b.flags, TRACK, sink)?;
-    sink.field("creation_time", Value::Date(b.creation_time))?;
-    sink.field("modification_time", Value::Date(b.modification_time))?;
-    sink.field("track_id", Value::Number(u64::from(b.track_id)))?;
-    sink.field("duration", Value::Number(b.duration))?;
-    sink.field("layer", Value::Number(u64::from(b.layer)))?;
-    sink.field(
-        "alternate_group",
-        Value::Number(u64::from(b.alternate_group)),
-    )?;
-    sink.field("volume", Value::Fixed(i64::from(b.volume.raw_value()), 8))?;
-    sink.field("matrix", Value::Matrix(&b.matrix))?;
-    sink.field("width", Value::Fixed(i64::from(b.width.raw_value()), 16))?;
-    sink.field("height", Value::Fixed(i64::from(b.height.raw_value()), 16))
+    put_all(
+        &[
+            ("creation_time", Value::Date(b.creation_time)),
+            ("modification_time", Value::Date(b.modification_time)),
+            ("track_id", Value::Number(u64::from(b.track_id))),
+            ("duration", Value::Number(b.duration)),
+            ("layer", Value::Number(u64::from(b.layer))),
+            (
+                "alternate_group",
+                Value::Number(u64::from(b.alternate_group)),
+            ),
+            ("volume", Value::Fixed(i64::from(b.volume.raw_value()), 8)),
+            ("matrix", Value::Matrix(&b.matrix)),
+            ("width", Value::Fixed(i64::from(b.width.raw_value()), 16)),
+            ("height", Value::Fixed(i64::from(b.height.raw_value()), 16)),
+        ],
+        sink,
+    )
 }
 
 /// Media header (ISO/IEC 14496-12, 8.4.2).
@@ -34,11 +39,16 @@ pub fn put_mdhd<S: FieldSink>(b: &MdhdBox, sink: &mut S) -> Result<()>
     ensures nesting { OnOk result (Keeps S.since fields sink.old sink.new) }
 {
     put_full(b.version, b.flags, NONE, sink)?;
-    sink.field("creation_time", Value::Date(b.creation_time))?;
-    sink.field("modification_time", Value::Date(b.modification_time))?;
-    sink.field("timescale", Value::Number(u64::from(b.timescale)))?;
-    sink.field("duration", Value::Number(b.duration))?;
-    sink.field("language", Value::Text(b.language.as_str()))
+    put_all(
+        &[
+            ("creation_time", Value::Date(b.creation_time)),
+            ("modification_time", Value::Date(b.modification_time)),
+            ("timescale", Value::Number(u64::from(b.timescale))),
+            ("duration", Value::Number(b.duration)),
+            ("language", Value::Text(b.language.as_str())),
+        ],
+        sink,
+    )
 }
 
 /// Handler reference (ISO/IEC 14496-12, 8.4.3).
@@ -46,8 +56,13 @@ pub fn put_hdlr<S: FieldSink>(b: &HdlrBox, sink: &mut S) -> Result<()>
     ensures nesting { OnOk result (Keeps S.since fields sink.old sink.new) }
 {
     put_full(b.version, b.flags, NONE, sink)?;
-    sink.field("handler_type", Value::Code(b.handler_type))?;
-    sink.field("name", Value::Text(b.name.as_str()))
+    put_all(
+        &[
+            ("handler_type", Value::Code(b.handler_type)),
+            ("name", Value::Text(b.name.as_str())),
+        ],
+        sink,
+    )
 }
 
 /// A media time with its sign: it has 32 bits in version 0, and 64 in version 1.
@@ -66,15 +81,20 @@ fn put_edit<S: FieldSink>(version: u8, edit: &ElstEntry, sink: &mut S) -> Result
     ensures nesting { OnOk result (Keeps S.since entries sink.old sink.new) }
 {
     sink.begin_entry()?;
-    sink.field("segment_duration", Value::Number(edit.segment_duration))?;
-    sink.field(
-        "media_time",
-        Value::MediaTime(signed_time(version, edit.media_time)),
-    )?;
-    sink.field("media_rate", Value::Number(u64::from(edit.media_rate)))?;
-    sink.field(
-        "media_rate_fraction",
-        Value::Number(u64::from(edit.media_rate_fraction)),
+    put_all(
+        &[
+            ("segment_duration", Value::Number(edit.segment_duration)),
+            (
+                "media_time",
+                Value::MediaTime(signed_time(version, edit.media_time)),
+            ),
+            ("media_rate", Value::Number(u64::from(edit.media_rate))),
+            (
+                "media_rate_fraction",
+                Value::Number(u64::from(edit.media_rate_fraction)),
+            ),
+        ],
+        sink,
     )?;
     sink.end_entry()
 }

@@ -1,21 +1,161 @@
-//! The boxes of a track, with three runs of everything.
+//! The tables of a track as constants, and the boxes of them.
 
 use mp4_frame::Result;
 use mp4_samples::{ChunkOffsets, Disagreement, Sample, SampleTables, Tables};
 use mp4_tables::{
-    CttsBox, CttsEntry, StcoBox, StscBox, StscEntry, StssBox, StszBox, SttsBox, SttsEntry,
+    Co64Box, CttsBox, CttsEntry, StcoBox, StscBox, StscEntry, StssBox, StszBox, SttsBox, SttsEntry,
 };
 use std::alloc::Global;
+
+/// An entry of `stsc`: its first chunk, how many samples a chunk has, and their description. Its first sample is not
+/// read, so it is a wrong one.
+macro_rules! chunks {
+    ($first_chunk:expr, $samples_per_chunk:expr, $description:expr) => {
+        StscEntry {
+            first_chunk: $first_chunk,
+            samples_per_chunk: $samples_per_chunk,
+            sample_description_index: $description,
+            first_sample: 99,
+        }
+    };
+}
+
+/// An entry of `stts`: how many samples, and how long each lasts.
+macro_rules! times {
+    ($sample_count:expr, $sample_delta:expr) => {
+        SttsEntry {
+            sample_count: $sample_count,
+            sample_delta: $sample_delta,
+        }
+    };
+}
+
+/// An entry of `ctts`: how many samples, and how much later each is composed.
+macro_rules! shifts {
+    ($sample_count:expr, $sample_offset:expr) => {
+        CttsEntry {
+            sample_count: $sample_count,
+            sample_offset: $sample_offset,
+        }
+    };
+}
+
+/// Seven samples in five chunks, of which the last has room for one more; durations for fourteen, and rendering offsets
+/// for four: with these in the place of their count, runs of chunks, durations, sync samples and offsets of 64 bits.
+macro_rules! seven {
+    ($sample_count:expr, $chunks:expr, $times:expr, $syncs:expr, $long_offsets:expr) => {
+        Listed {
+            sample_size: 0,
+            sample_count: $sample_count,
+            sizes: &[11, 23, 37, 41, 53, 67, 79],
+            chunks: $chunks,
+            offsets: &[1000, 5000, 300, 20000, 7000],
+            long_offsets: $long_offsets,
+            times: $times,
+            shifts: Some(&[shifts!(1, 30), shifts!(2, -20), shifts!(1, 50)]),
+            syncs: $syncs,
+        }
+    };
+}
+
+pub(crate) use chunks;
+pub(crate) use seven;
+pub(crate) use shifts;
+pub(crate) use times;
+
+/// What the tables of a track list.
+#[derive(Clone, Copy)]
+pub struct Listed {
+    pub sample_size: u32,
+    pub sample_count: u32,
+    pub sizes: &'static [u32],
+    pub chunks: &'static [StscEntry],
+    pub offsets: &'static [u32],
+    /// Offsets of 64 bits in their place, if there are some.
+    pub long_offsets: &'static [u64],
+    pub times: &'static [SttsEntry],
+    pub shifts: Option<&'static [CttsEntry]>,
+    pub syncs: Option<&'static [u32]>,
+}
 
 /// The boxes of a track.
 #[derive(Drop)]
 pub struct Boxes {
-    pub stsz: StszBox,
-    pub stsc: StscBox,
-    pub stco: StcoBox,
+    stsz: StszBox,
+    stsc: StscBox,
+    stco: StcoBox,
+    co64: Co64Box,
     pub stts: SttsBox,
-    pub ctts: CttsBox,
-    pub stss: StssBox,
+    ctts: CttsBox,
+    stss: StssBox,
+}
+
+/// Boxes of nothing.
+fn no_boxes(alloc: Global) -> Boxes {
+    Boxes {
+        stsz: StszBox::default_in(alloc),
+        stsc: StscBox::default_in(alloc),
+        stco: StcoBox::default_in(alloc),
+        co64: Co64Box::default_in(alloc),
+        stts: SttsBox::default_in(alloc),
+        ctts: CttsBox::default_in(alloc),
+        stss: StssBox::default_in(alloc),
+    }
+}
+
+/// Fills boxes with what is listed.
+fn fill(boxes: &mut Boxes, listed: &Listed) -> Result<()> {
+    boxes.stsz.sample_size = listed.sample_size;
+    boxes.stsz.sample_count = listed.sample_count;
+    boxes.stsz.sample_sizes.extend_from_slice(listed.sizes)?;
+    boxes.stsc.entries.extend_from_slice(listed.chunks)?;
+    boxes.stco.entries.extend_from_slice(listed.offsets)?;
+    boxes.co64.entries.extend_from_slice(listed.long_offsets)?;
+    boxes.stts.entries.extend_from_slice(listed.times)?;
+    boxes
+        .ctts
+        .entries
+        .extend_from_slice(listed.shifts.unwrap_or(&[]))?;
+    boxes
+        .stss
+        .entries
+        .extend_from_slice(listed.syncs.unwrap_or(&[]))?;
+    Ok(())
+}
+
+/// The boxes of what is listed.
+pub fn boxes_of(alloc: Global, listed: &Listed) -> Result<Boxes> {
+    let mut boxes = no_boxes(alloc);
+    fill(&mut boxes, listed)?;
+    Ok(boxes)
+}
+
+/// The tables of these boxes.
+pub fn tables_of<'a>(listed: &Listed, boxes: &'a Boxes) -> Tables<'a> {
+    Tables {
+        stsz: &boxes.stsz,
+        stsc: &boxes.stsc,
+        chunk_offsets: if listed.long_offsets.is_empty() {
+            ChunkOffsets::Stco(&boxes.stco)
+        } else {
+            ChunkOffsets::Co64(&boxes.co64)
+        },
+        stts: &boxes.stts,
+        ctts: match listed.shifts {
+            Some(_) => Some(&boxes.ctts),
+            None => None,
+        },
+        stss: match listed.syncs {
+            Some(_) => Some(&boxes.stss),
+            None => None,
+        },
+    }
+}
+
+/// How what is listed disagrees, if it does.
+pub fn told(alloc: Global, listed: &Listed) -> Result<Option<Disagreement>> {
+    let boxes = boxes_of(alloc, listed)?;
+    Ok(SampleTables::new(tables_of(listed, &boxes)).err())
 }
 
 /// What is expected of a sample: offset, size, start time, duration, rendering offset, whether it is a sync sample,
@@ -37,86 +177,17 @@ pub fn sample_of(row: Row) -> Sample {
     }
 }
 
-/// An entry of `stsc`. Its first sample is not read, so it is a wrong one.
-pub fn chunks(first_chunk: u32, samples_per_chunk: u32, description: u32) -> StscEntry {
-    StscEntry {
-        first_chunk,
-        samples_per_chunk,
-        sample_description_index: description,
-        first_sample: 99,
-    }
-}
+/// Their runs of chunks.
+pub const CHUNKS: &[StscEntry] = &[chunks!(1, 2, 5), chunks!(2, 1, 6), chunks!(4, 2, 8)];
 
-/// An entry of `stts`.
-pub fn times(sample_count: u32, sample_delta: u32) -> SttsEntry {
-    SttsEntry {
-        sample_count,
-        sample_delta,
-    }
-}
+/// Their durations.
+pub const TIMES: &[SttsEntry] = &[times!(3, 100), times!(2, 40), times!(9, 7)];
 
-/// An entry of `ctts`.
-fn shifts(sample_count: u32, sample_offset: i32) -> CttsEntry {
-    CttsEntry {
-        sample_count,
-        sample_offset,
-    }
-}
+/// Their sync samples.
+pub const SYNCS: Option<&[u32]> = Some(&[1, 4, 6]);
 
-/// A box of sizes.
-pub fn stsz_of(alloc: Global, sample_count: u32, sizes: &[u32]) -> Result<StszBox> {
-    let mut stsz = StszBox::default_in(alloc);
-    stsz.sample_count = sample_count;
-    stsz.sample_sizes = sizes.to_vec(alloc)?.into();
-    Ok(stsz)
-}
-
-/// A box of chunks.
-pub fn stsc_of(alloc: Global, entries: &[StscEntry]) -> Result<StscBox> {
-    let mut stsc = StscBox::default_in(alloc);
-    stsc.entries = entries.to_vec(alloc)?.into();
-    Ok(stsc)
-}
-
-/// A box of offsets.
-pub fn stco_of(alloc: Global, offsets: &[u32]) -> Result<StcoBox> {
-    let mut stco = StcoBox::default_in(alloc);
-    stco.entries = offsets.to_vec(alloc)?.into();
-    Ok(stco)
-}
-
-/// A box of durations.
-pub fn stts_of(alloc: Global, entries: &[SttsEntry]) -> Result<SttsBox> {
-    let mut stts = SttsBox::default_in(alloc);
-    stts.entries = entries.to_vec(alloc)?.into();
-    Ok(stts)
-}
-
-fn ctts_of(alloc: Global, entries: &[CttsEntry]) -> Result<CttsBox> {
-    let mut ctts = CttsBox::default_in(alloc);
-    ctts.entries = entries.to_vec(alloc)?.into();
-    Ok(ctts)
-}
-
-/// A box of sync samples.
-pub fn stss_of(alloc: Global, numbers: &[u32]) -> Result<StssBox> {
-    let mut stss = StssBox::default_in(alloc);
-    stss.entries = numbers.to_vec(alloc)?.into();
-    Ok(stss)
-}
-
-/// Seven samples in five chunks, of which the last has room for one more; durations for fourteen, and rendering offsets
-/// for four.
-pub fn seven(alloc: Global) -> Result<Boxes> {
-    Ok(Boxes {
-        stsz: stsz_of(alloc, 7, &[11, 23, 37, 41, 53, 67, 79])?,
-        stsc: stsc_of(alloc, &[chunks(1, 2, 5), chunks(2, 1, 6), chunks(4, 2, 8)])?,
-        stco: stco_of(alloc, &[1000, 5000, 300, 20000, 7000])?,
-        stts: stts_of(alloc, &[times(3, 100), times(2, 40), times(9, 7)])?,
-        ctts: ctts_of(alloc, &[shifts(1, 30), shifts(2, -20), shifts(1, 50)])?,
-        stss: stss_of(alloc, &[1, 4, 6])?,
-    })
-}
+/// The tables of these samples.
+pub const SEVEN: Listed = seven!(7, CHUNKS, TIMES, SYNCS, &[]);
 
 pub const FIRST: Row = (1000, 11, 0, 100, 30, true, 5, 1);
 
@@ -132,39 +203,5 @@ pub const SIXTH: Row = (20053, 67, 380, 7, 0, true, 8, 4);
 
 pub const SEVENTH: Row = (7000, 79, 387, 7, 0, false, 8, 5);
 
-/// The seven samples.
-pub const SEVEN: [Row; 7] = [FIRST, SECOND, THIRD, FOURTH, FIFTH, SIXTH, SEVENTH];
-
-/// The tables of these boxes.
-pub fn tables_of(boxes: &Boxes) -> Tables<'_> {
-    Tables {
-        stsz: &boxes.stsz,
-        stsc: &boxes.stsc,
-        chunk_offsets: ChunkOffsets::Stco(&boxes.stco),
-        stts: &boxes.stts,
-        ctts: Some(&boxes.ctts),
-        stss: Some(&boxes.stss),
-    }
-}
-
-/// How the tables disagree, if they do.
-pub fn told(tables: Tables<'_>) -> Option<Disagreement> {
-    match SampleTables::new(tables) {
-        Ok(_) => None,
-        Err(told) => Some(told),
-    }
-}
-
-/// Whether each sample is as in these rows, both by its number and as it comes, and no more come.
-pub fn are(tables: &SampleTables<'_>, rows: &[Row]) -> bool {
-    let mut samples = tables.samples();
-    let mut number = 0;
-    for row in rows {
-        let want = Some(sample_of(*row));
-        if samples.next() != want || tables.sample(number) != want {
-            return false;
-        }
-        number = number.saturating_add(1);
-    }
-    samples.next().is_none() && tables.sample(number).is_none()
-}
+/// Its samples.
+pub const SEVEN_SAMPLES: [Row; 7] = [FIRST, SECOND, THIRD, FOURTH, FIFTH, SIXTH, SEVENTH];

@@ -2,138 +2,224 @@
 
 use super::boxes::{Row, sample_of};
 use mp4_flat::{TfdtBox, TrexBox};
-use mp4_samples::{Fragment, FragmentFault, FragmentSamples, Sample};
+use mp4_samples::{Fragment, FragmentFault, FragmentSamples};
 use mp4_tables::{TfhdBox, TrunBox};
 use std::alloc::Global;
 use std::test::Fail;
 
+/// What a run lists.
+#[derive(Clone, Copy)]
+struct Run {
+    version: u8,
+    sample_count: u32,
+    data_offset: Option<i32>,
+    first_sample_flags: Option<u32>,
+    durations: &'static [u32],
+    sizes: &'static [u32],
+    flags: &'static [u32],
+    offsets: &'static [u32],
+}
+
+/// A fragment, and which samples come of it.
+struct Case {
+    tfhd: TfhdBox,
+    /// When it begins, if it says so.
+    tfdt: Option<TfdtBox>,
+    runs: &'static [Run],
+    /// Where the data of the fragment before it end, and when its samples do.
+    data_end: u64,
+    time_end: u64,
+    /// The samples, and what comes after them.
+    samples: &'static [Row],
+    after: After,
+}
+
+/// What comes after some samples.
+#[derive(Clone, Copy)]
+enum After {
+    /// Nothing. Then the time and the offset are these.
+    Nothing(u64, Option<u64>),
+    /// A fault, and then nothing.
+    Fault(FragmentFault),
+    /// More samples.
+    More,
+}
+
+/// Defaults of a fragment that has none.
+const TFHD: TfhdBox = TfhdBox {
+    version: 0,
+    flags: 0,
+    track_id: 0,
+    base_data_offset: None,
+    sample_description_index: None,
+    default_sample_duration: None,
+    default_sample_size: None,
+    default_sample_flags: None,
+};
+
 /// The defaults of the track: its samples are no sync samples.
-fn trex() -> TrexBox {
-    TrexBox {
-        version: 0,
-        flags: 0,
-        track_id: 3,
-        default_sample_description_index: 2,
-        default_sample_duration: 10,
-        default_sample_size: 20,
-        default_sample_flags: 0x0101_0000,
-    }
-}
+const TREX: TrexBox = TrexBox {
+    version: 0,
+    flags: 0,
+    track_id: 3,
+    default_sample_description_index: 2,
+    default_sample_duration: 10,
+    default_sample_size: 20,
+    default_sample_flags: 0x0101_0000,
+};
 
-/// A run without lists.
-fn run(alloc: Global, sample_count: u32, data_offset: Option<i32>) -> TrunBox {
+/// The box of a run.
+fn trun_of(alloc: Global, run: &Run) -> mp4_frame::Result<TrunBox> {
     let mut trun = TrunBox::default_in(alloc);
-    trun.sample_count = sample_count;
-    trun.data_offset = data_offset;
-    trun
+    trun.version = run.version;
+    trun.sample_count = run.sample_count;
+    trun.data_offset = run.data_offset;
+    trun.first_sample_flags = run.first_sample_flags;
+    trun.sample_durations.extend_from_slice(run.durations)?;
+    trun.sample_sizes.extend_from_slice(run.sizes)?;
+    trun.sample_flags.extend_from_slice(run.flags)?;
+    trun.sample_cts.extend_from_slice(run.offsets)?;
+    Ok(trun)
 }
 
-/// Sizes and flags of the first sample; then durations, flags and signed offsets; then an unsigned offset.
-fn three_runs(alloc: Global) -> mp4_frame::Result<Vec<TrunBox>> {
-    let mut first = run(alloc, 3, Some(120));
-    first.first_sample_flags = Some(0x0200_0000);
-    first.sample_sizes = [31, 47, 59].to_vec(alloc)?.into();
-    let mut second = run(alloc, 2, None);
-    second.version = 1;
-    second.sample_durations = [5, 6].to_vec(alloc)?.into();
-    second.sample_flags = [0x0001_0000, 0x0200_0000].to_vec(alloc)?.into();
-    second.sample_cts = [0xFFFF_FFFE, 9].to_vec(alloc)?.into();
-    let mut third = run(alloc, 1, Some(-96));
-    third.sample_cts = [0x8000_0001].to_vec(alloc)?.into();
-    let mut runs = Vec::new(alloc);
-    runs.push(first)?;
-    runs.push(second)?;
-    runs.push(third)?;
-    Ok(runs)
+/// The boxes of runs.
+fn truns_of(alloc: Global, runs: &[Run]) -> mp4_frame::Result<Vec<TrunBox>> {
+    let mut truns = Vec::new(alloc);
+    for run in runs {
+        truns.push(trun_of(alloc, run)?)?;
+    }
+    Ok(truns)
 }
 
-/// The samples of the three runs. The `moof` begins at 4096, and the time is 500.
-const THREE_RUNS: [Row; 6] = [
-    (4216, 31, 500, 13, 0, true, 2, 1),
-    (4247, 47, 513, 13, 0, false, 2, 1),
-    (4294, 59, 526, 13, 0, false, 2, 1),
-    (4353, 20, 539, 5, -2, false, 2, 2),
-    (4373, 20, 544, 6, 9, true, 2, 2),
-    (4000, 20, 550, 13, 0x8000_0001, false, 2, 3),
-];
-
-/// Whether the next samples are these, and then nothing comes.
-pub fn are(samples: &mut FragmentSamples<'_>, rows: &[Row]) -> bool {
+/// Whether the next samples are these.
+fn come(samples: &mut FragmentSamples<'_>, rows: &[Row]) -> bool {
     for row in rows {
         if samples.next() != Some(Ok(sample_of(*row))) {
             return false;
         }
     }
-    samples.next().is_none()
+    true
 }
 
-#[test]
-fn three_runs_of_a_moof(rt: HostRuntime) -> Result<(), Fail> {
-    let runs = three_runs(rt.alloc())?;
-    let trex = trex();
-    let mut tfhd = TfhdBox::default();
-    tfhd.flags = 0x02_0008;
-    tfhd.default_sample_duration = Some(13);
-    let tfdt = TfdtBox {
-        version: 0,
-        flags: 0,
-        base_media_decode_time: 500,
-    };
-    let fragment = Fragment {
-        trex: &trex,
-        tfhd: &tfhd,
-        tfdt: Some(&tfdt),
-        runs: &runs,
-        moof: 4096,
-        data_end: 9000,
-        time_end: 77,
-    };
-    let mut samples = fragment.samples();
-    let all = are(&mut samples, &THREE_RUNS);
-    assert!(rt; all && samples.time() == 563 && samples.offset() == Some(4020));
-    Ok(())
+/// Whether the next samples are these, and then nothing comes.
+pub fn are(samples: &mut FragmentSamples<'_>, rows: &[Row]) -> bool {
+    come(samples, rows) && samples.next().is_none()
 }
 
-/// A fragment without `tfdt`.
-fn fragment_of<'a>(
-    trex: &'a TrexBox,
-    tfhd: &'a TfhdBox,
-    runs: &'a [TrunBox],
-    data_end: u64,
-    time_end: u64,
-) -> Fragment<'a> {
-    Fragment {
-        trex,
-        tfhd,
-        tfdt: None,
-        runs,
-        moof: 4096,
-        data_end,
-        time_end,
+/// Whether this comes next.
+fn comes(samples: &mut FragmentSamples<'_>, after: After) -> bool {
+    match after {
+        After::Nothing(time, offset) => {
+            samples.next().is_none() && samples.time() == time && samples.offset() == offset
+        }
+        After::Fault(fault) => samples.next() == Some(Err(fault)) && samples.next().is_none(),
+        After::More => true,
     }
 }
 
-/// What comes first, second and third.
-fn begin_of(fragment: &Fragment<'_>) -> [Option<Result<Sample, FragmentFault>>; 3] {
+/// Whether the fragment, whose `moof` begins at 4096, gives what is expected of it.
+fn gives<'a>(case: &'a Case, truns: &'a [TrunBox], trex: &'a TrexBox) -> bool {
+    let fragment = Fragment {
+        trex,
+        tfhd: &case.tfhd,
+        tfdt: case.tfdt.as_ref(),
+        runs: truns,
+        moof: 4096,
+        data_end: case.data_end,
+        time_end: case.time_end,
+    };
     let mut samples = fragment.samples();
-    [samples.next(), samples.next(), samples.next()]
+    come(&mut samples, case.samples) && comes(&mut samples, case.after)
 }
 
-/// One run without lists.
-fn one(
-    alloc: Global,
-    sample_count: u32,
-    data_offset: Option<i32>,
-) -> mp4_frame::Result<Vec<TrunBox>> {
-    let mut runs = Vec::new(alloc);
-    runs.push(run(alloc, sample_count, data_offset))?;
-    Ok(runs)
+/// Whether it does.
+fn is(alloc: Global, case: &Case) -> mp4_frame::Result<bool> {
+    let truns = truns_of(alloc, case.runs)?;
+    Ok(gives(case, &truns, &TREX))
 }
 
-#[test]
-fn defaults_of_the_fragment(rt: HostRuntime) -> Result<(), Fail> {
-    let alloc = rt.alloc();
-    let tfhd = TfhdBox {
+/// Sizes and flags of the first sample; then durations, flags and signed offsets; then an unsigned offset. The time is
+/// 500.
+const THREE_RUNS: Case = Case {
+    tfhd: TfhdBox {
+        version: 0,
+        flags: 0x02_0008,
+        track_id: 0,
+        base_data_offset: None,
+        sample_description_index: None,
+        default_sample_duration: Some(13),
+        default_sample_size: None,
+        default_sample_flags: None,
+    },
+    tfdt: Some(TfdtBox {
+        version: 0,
+        flags: 0,
+        base_media_decode_time: 500,
+    }),
+    runs: &[
+        Run {
+            version: 0,
+            sample_count: 3,
+            data_offset: Some(120),
+            first_sample_flags: Some(0x0200_0000),
+            durations: &[],
+            sizes: &[31, 47, 59],
+            flags: &[],
+            offsets: &[],
+        },
+        Run {
+            version: 1,
+            sample_count: 2,
+            data_offset: None,
+            first_sample_flags: None,
+            durations: &[5, 6],
+            sizes: &[],
+            flags: &[0x0001_0000, 0x0200_0000],
+            offsets: &[0xFFFF_FFFE, 9],
+        },
+        Run {
+            version: 0,
+            sample_count: 1,
+            data_offset: Some(-96),
+            first_sample_flags: None,
+            durations: &[],
+            sizes: &[],
+            flags: &[],
+            offsets: &[0x8000_0001],
+        },
+    ],
+    data_end: 9000,
+    time_end: 77,
+    samples: &[
+        (4216, 31, 500, 13, 0, true, 2, 1),
+        (4247, 47, 513, 13, 0, false, 2, 1),
+        (4294, 59, 526, 13, 0, false, 2, 1),
+        (4353, 20, 539, 5, -2, false, 2, 2),
+        (4373, 20, 544, 6, 9, true, 2, 2),
+        (4000, 20, 550, 13, 0x8000_0001, false, 2, 3),
+    ],
+    after: After::Nothing(563, Some(4020)),
+};
+
+/// A run without lists, of so many samples.
+macro_rules! plain {
+    ($sample_count:expr, $data_offset:expr) => {
+        &[Run {
+            version: 0,
+            sample_count: $sample_count,
+            data_offset: $data_offset,
+            first_sample_flags: None,
+            durations: &[],
+            sizes: &[],
+            flags: &[],
+            offsets: &[],
+        }]
+    };
+}
+
+/// Defaults of the fragment, in the place of those of the track.
+const DEFAULTS: Case = Case {
+    tfhd: TfhdBox {
         version: 0,
         flags: 0x02_0033,
         track_id: 3,
@@ -142,52 +228,78 @@ fn defaults_of_the_fragment(rt: HostRuntime) -> Result<(), Fail> {
         default_sample_duration: None,
         default_sample_size: Some(8),
         default_sample_flags: Some(0x0200_0000),
-    };
-    let (trex, runs) = (trex(), one(alloc, u32::MAX, Some(-5))?);
-    let came = begin_of(&fragment_of(&trex, &tfhd, &runs, 9000, 77));
-    let first = sample_of((69_995, 8, 77, 10, 0, true, 4, 1));
-    let second = sample_of((70_003, 8, 87, 10, 0, true, 4, 1));
-    assert!(rt; came[0] == Some(Ok(first)) && came[1] == Some(Ok(second)));
+    },
+    tfdt: None,
+    runs: plain!(u32::MAX, Some(-5)),
+    data_end: 9000,
+    time_end: 77,
+    samples: &[
+        (69_995, 8, 77, 10, 0, true, 4, 1),
+        (70_003, 8, 87, 10, 0, true, 4, 1),
+    ],
+    after: After::More,
+};
+
+/// The data follow those of the fragment before.
+const FOLLOWING: Case = Case {
+    tfhd: TFHD,
+    tfdt: None,
+    runs: plain!(1, None),
+    data_end: 9000,
+    time_end: 77,
+    samples: &[(9000, 20, 77, 10, 0, false, 2, 1)],
+    after: After::Nothing(87, Some(9020)),
+};
+
+/// The first sample is before the file.
+const BEFORE_THE_FILE: Case = Case {
+    tfhd: TFHD,
+    tfdt: None,
+    runs: plain!(2, Some(-9001)),
+    data_end: 9000,
+    time_end: 77,
+    samples: &[],
+    after: After::Fault(FragmentFault::Offset { run: 0, index: 0 }),
+};
+
+/// The second sample ends past 2^64 - 1.
+const PAST_64_BITS: Case = Case {
+    tfhd: TFHD,
+    tfdt: None,
+    runs: plain!(3, None),
+    data_end: u64::MAX - 39,
+    time_end: 77,
+    samples: &[(u64::MAX - 39, 20, 77, 10, 0, false, 2, 1)],
+    after: After::Fault(FragmentFault::Offset { run: 0, index: 1 }),
+};
+
+/// The time at which the second sample ends is past 2^64 - 1.
+const PAST_THE_END: Case = Case {
+    tfhd: TFHD,
+    tfdt: None,
+    runs: plain!(3, None),
+    data_end: 9000,
+    time_end: u64::MAX - 19,
+    samples: &[(9000, 20, u64::MAX - 19, 10, 0, false, 2, 1)],
+    after: After::Fault(FragmentFault::Time { run: 0, index: 1 }),
+};
+
+#[test]
+fn three_runs_of_a_moof(rt: HostRuntime) -> Result<(), Fail> {
+    assert!(rt; is(rt.alloc(), &THREE_RUNS)?);
     Ok(())
 }
 
 #[test]
-fn data_of_the_fragment_before(rt: HostRuntime) -> Result<(), Fail> {
-    let alloc = rt.alloc();
-    let (trex, tfhd, runs) = (trex(), TfhdBox::default(), one(alloc, 1, None)?);
-    let came = begin_of(&fragment_of(&trex, &tfhd, &runs, 9000, 77));
-    let only = sample_of((9000, 20, 77, 10, 0, false, 2, 1));
-    assert!(rt; came[0] == Some(Ok(only)) && came[1].is_none());
-    Ok(())
-}
-
-#[test]
-fn offsets_before_the_file(rt: HostRuntime) -> Result<(), Fail> {
-    let (trex, tfhd) = (trex(), TfhdBox::default());
-    let runs = one(rt.alloc(), 2, Some(-9001))?;
-    let came = begin_of(&fragment_of(&trex, &tfhd, &runs, 9000, 77));
-    let fault = FragmentFault::Offset { run: 0, index: 0 };
-    assert!(rt; came[0] == Some(Err(fault)) && came[1].is_none());
-    Ok(())
-}
-
-#[test]
-fn offsets_past_64_bits(rt: HostRuntime) -> Result<(), Fail> {
-    let (trex, tfhd) = (trex(), TfhdBox::default());
-    let runs = one(rt.alloc(), 3, None)?;
-    let came = begin_of(&fragment_of(&trex, &tfhd, &runs, u64::MAX - 39, 77));
-    let fault = FragmentFault::Offset { run: 0, index: 1 };
-    assert!(rt; came[1] == Some(Err(fault)) && came[2].is_none());
-    Ok(())
-}
-
-#[test]
-fn times_past_the_end(rt: HostRuntime) -> Result<(), Fail> {
-    let alloc = rt.alloc();
-    let late = u64::MAX - 19;
-    let (trex, tfhd, runs) = (trex(), TfhdBox::default(), one(alloc, 3, None)?);
-    let came = begin_of(&fragment_of(&trex, &tfhd, &runs, 9000, late));
-    let fault = FragmentFault::Time { run: 0, index: 1 };
-    assert!(rt; came[1] == Some(Err(fault)) && came[2].is_none());
+fn defaults_and_faults(rt: HostRuntime) -> Result<(), Fail> {
+    for case in [
+        &DEFAULTS,
+        &FOLLOWING,
+        &BEFORE_THE_FILE,
+        &PAST_64_BITS,
+        &PAST_THE_END,
+    ] {
+        assert!(rt; is(rt.alloc(), case)?);
+    }
     Ok(())
 }

@@ -1,53 +1,369 @@
-//! The samples of tables that agree.
+//! The samples of tables that agree: by number and by time, and the last sync sample so far, over tables and over an
+//! index of them.
 
-use super::boxes::{Row, SEVEN, are, chunks, sample_of, seven, stsc_of, stts_of, tables_of, times};
+use super::boxes::{
+    Boxes, FIFTH, FIRST, FOURTH, Listed, Row, SECOND, SEVEN, SEVEN_SAMPLES, SEVENTH, SIXTH, THIRD,
+    boxes_of, chunks, sample_of, tables_of, times,
+};
+use crate::callers::key_frame;
 use mp4_frame::Error;
-use mp4_samples::{ChunkOffsets, SampleTables, Tables};
-use mp4_tables::{Co64Box, StszBox};
+use mp4_samples::{Sample, SampleIndex, SampleTables, Tables};
+use mp4_tables::{StscEntry, SttsEntry};
 use std::alloc::Global;
 use std::test::Fail;
 
+/// What is expected of tables.
+#[derive(Clone, Copy)]
+struct Expected {
+    /// Some of their samples.
+    samples: &'static [(u32, Row)],
+    /// The samples that last at some times.
+    lasting: &'static [(u64, Option<u32>)],
+    /// The last sync samples up to some samples.
+    syncs: &'static [(u32, Option<u32>)],
+    /// The last sync samples that start at some times or before.
+    syncs_at: &'static [(u64, Option<u32>)],
+}
+
+/// Whether tables and an index have these samples.
+fn have_samples(tables: &SampleTables<'_>, index: &SampleIndex<'_>, rows: &[(u32, Row)]) -> bool {
+    for (number, row) in rows {
+        let wanted = Some(sample_of(*row));
+        if tables.sample(*number) != wanted || index.sample(*number) != wanted {
+            return false;
+        }
+    }
+    tables.sample(tables.len()).is_none() && index.sample(index.len()).is_none()
+}
+
+/// Whether the sample that lasts at each time is the one beside it.
+fn last(tables: &SampleTables<'_>, index: &SampleIndex<'_>, at: &[(u64, Option<u32>)]) -> bool {
+    for (time, number) in at {
+        if tables.number_at(*time) != *number || index.number_at(*time) != *number {
+            return false;
+        }
+    }
+    true
+}
+
+/// Whether the last sync sample at or before each number is the one beside it.
+fn sync(tables: &SampleTables<'_>, index: &SampleIndex<'_>, to: &[(u32, Option<u32>)]) -> bool {
+    for (number, sync) in to {
+        if tables.last_sync(*number) != *sync || index.last_sync(*number) != *sync {
+            return false;
+        }
+    }
+    true
+}
+
+/// Whether the last sync sample that starts at each time or before is the one beside it.
+fn sync_at(tables: &SampleTables<'_>, index: &SampleIndex<'_>, at: &[(u64, Option<u32>)]) -> bool {
+    for (time, sync) in at {
+        if tables.last_sync_at(*time) != *sync || index.last_sync_at(*time) != *sync {
+            return false;
+        }
+    }
+    true
+}
+
+/// Whether tables are as expected.
+fn are(tables: &SampleTables<'_>, index: &SampleIndex<'_>, expected: Expected) -> bool {
+    have_samples(tables, index, expected.samples)
+        && last(tables, index, expected.lasting)
+        && sync(tables, index, expected.syncs)
+        && sync_at(tables, index, expected.syncs_at)
+}
+
+/// Whether tables agree, and are as expected.
+fn agree(alloc: Global, tables: Tables<'_>, expected: Expected) -> mp4_frame::Result<bool> {
+    let Ok(tables) = SampleTables::new(tables) else {
+        return Ok(false);
+    };
+    let index = tables.index(alloc)?;
+    Ok(are(&tables, &index, expected))
+}
+
+/// Whether what is listed agrees, and is as expected.
+fn is(alloc: Global, listed: &Listed, expected: Expected) -> mp4_frame::Result<bool> {
+    let boxes = boxes_of(alloc, listed)?;
+    agree(alloc, tables_of(listed, &boxes), expected)
+}
+
+/// The samples of the worked tables, of which 0, 3 and 5 are sync samples.
+const WORKED: Expected = Expected {
+    samples: &[
+        (0, FIRST),
+        (1, SECOND),
+        (2, THIRD),
+        (3, FOURTH),
+        (4, FIFTH),
+        (5, SIXTH),
+        (6, SEVENTH),
+    ],
+    lasting: &[
+        (0, Some(0)),
+        (99, Some(0)),
+        (339, Some(3)),
+        (340, Some(4)),
+        (393, Some(6)),
+        (394, None),
+    ],
+    syncs: &[
+        (0, Some(0)),
+        (2, Some(0)),
+        (3, Some(3)),
+        (4, Some(3)),
+        (6, Some(5)),
+        (u32::MAX, Some(5)),
+    ],
+    syncs_at: &[
+        (0, Some(0)),
+        (299, Some(0)),
+        (300, Some(3)),
+        (379, Some(3)),
+        (380, Some(5)),
+        (394, Some(5)),
+    ],
+};
+
+/// One sync sample, number 3, in the middle.
+const ONE_SYNC: Expected = Expected {
+    samples: &[],
+    lasting: &[(380, Some(5))],
+    syncs: &[(0, None), (2, None), (3, Some(3)), (9, Some(3))],
+    syncs_at: &[(0, None), (299, None), (300, Some(3)), (u64::MAX, Some(3))],
+};
+
+/// No table of sync samples, so that each sample is one.
+const ALL_SYNC: Expected = Expected {
+    samples: &[],
+    lasting: &[(387, Some(6))],
+    syncs: &[(0, Some(0)), (5, Some(5)), (6, Some(6)), (9, Some(6))],
+    syncs_at: &[
+        (0, Some(0)),
+        (99, Some(0)),
+        (100, Some(1)),
+        (393, Some(6)),
+        (500, Some(6)),
+    ],
+};
+
 #[test]
 fn seven_samples(rt: HostRuntime) -> Result<(), Fail> {
-    let boxes = seven(rt.alloc())?;
-    let tables = SampleTables::new(tables_of(&boxes))?;
-    assert_eq!(rt; tables.len(), 7);
-    assert!(rt; !tables.is_empty());
-    assert!(rt; are(&tables, &SEVEN));
+    let one_sync = Listed {
+        syncs: Some(&[4]),
+        ..SEVEN
+    };
+    let all_sync = Listed {
+        syncs: None,
+        ..SEVEN
+    };
+    for (listed, expected) in [(SEVEN, WORKED), (one_sync, ONE_SYNC), (all_sync, ALL_SYNC)] {
+        assert!(rt; is(rt.alloc(), &listed, expected)?);
+    }
     Ok(())
 }
 
 /// Four samples of nine bytes in a chunk past 2^32, without `ctts` and `stss`. Chunk 1 and the first run are empty.
-const FAR: [Row; 4] = [
-    (8_589_934_599, 9, 0, 3, 0, true, 2, 2),
-    (8_589_934_608, 9, 3, 3, 0, true, 2, 2),
-    (8_589_934_617, 9, 6, 5, 0, true, 2, 2),
-    (8_589_934_626, 9, 11, 5, 0, true, 2, 2),
-];
+const FAR: Listed = Listed {
+    sample_size: 9,
+    sample_count: 4,
+    sizes: &[],
+    chunks: &[chunks!(1, 0, 1), chunks!(2, 4, 2)],
+    offsets: &[],
+    long_offsets: &[17, 8_589_934_599],
+    times: &[times!(0, 8), times!(2, 3), times!(0, 9), times!(2, 5)],
+    shifts: None,
+    syncs: None,
+};
 
-fn far(alloc: Global) -> mp4_frame::Result<bool> {
-    let mut stsz = StszBox::default_in(alloc);
-    stsz.sample_size = 9;
-    stsz.sample_count = 4;
-    let stsc = stsc_of(alloc, &[chunks(1, 0, 1), chunks(2, 4, 2)])?;
-    let mut co64 = Co64Box::default_in(alloc);
-    co64.entries.push(17)?;
-    co64.entries.push(8_589_934_599)?;
-    let stts = stts_of(alloc, &[times(0, 8), times(2, 3), times(0, 9), times(2, 5)])?;
-    let tables = Tables {
-        stsz: &stsz,
-        stsc: &stsc,
-        chunk_offsets: ChunkOffsets::Co64(&co64),
-        stts: &stts,
-        ctts: None,
-        stss: None,
-    };
-    Ok(SampleTables::new(tables).is_ok_and(|tables| are(&tables, &FAR)))
-}
+const FAR_OUT: Expected = Expected {
+    samples: &[
+        (0, (8_589_934_599, 9, 0, 3, 0, true, 2, 2)),
+        (1, (8_589_934_608, 9, 3, 3, 0, true, 2, 2)),
+        (2, (8_589_934_617, 9, 6, 5, 0, true, 2, 2)),
+        (3, (8_589_934_626, 9, 11, 5, 0, true, 2, 2)),
+    ],
+    lasting: &[],
+    syncs: &[],
+    syncs_at: &[],
+};
+
+/// Sample k of 200 has k + 1 bytes. There are 70 in a chunk, so blocks of 64 sizes end within chunks. The first two of
+/// stts's five runs, and the fourth, take no time.
+const LONG: Listed = Listed {
+    sample_size: 0,
+    sample_count: 200,
+    sizes: &[
+        1, 2, 3, 4, 5, 6, 7, 8, 9, 10, 11, 12, 13, 14, 15, 16, 17, 18, 19, 20, 21, 22, 23, 24, 25,
+        26, 27, 28, 29, 30, 31, 32, 33, 34, 35, 36, 37, 38, 39, 40, 41, 42, 43, 44, 45, 46, 47, 48,
+        49, 50, 51, 52, 53, 54, 55, 56, 57, 58, 59, 60, 61, 62, 63, 64, 65, 66, 67, 68, 69, 70, 71,
+        72, 73, 74, 75, 76, 77, 78, 79, 80, 81, 82, 83, 84, 85, 86, 87, 88, 89, 90, 91, 92, 93, 94,
+        95, 96, 97, 98, 99, 100, 101, 102, 103, 104, 105, 106, 107, 108, 109, 110, 111, 112, 113,
+        114, 115, 116, 117, 118, 119, 120, 121, 122, 123, 124, 125, 126, 127, 128, 129, 130, 131,
+        132, 133, 134, 135, 136, 137, 138, 139, 140, 141, 142, 143, 144, 145, 146, 147, 148, 149,
+        150, 151, 152, 153, 154, 155, 156, 157, 158, 159, 160, 161, 162, 163, 164, 165, 166, 167,
+        168, 169, 170, 171, 172, 173, 174, 175, 176, 177, 178, 179, 180, 181, 182, 183, 184, 185,
+        186, 187, 188, 189, 190, 191, 192, 193, 194, 195, 196, 197, 198, 199, 200,
+    ],
+    chunks: &[chunks!(1, 70, 1)],
+    offsets: &[1_000, 50_000, 9_000],
+    long_offsets: &[],
+    times: &[
+        times!(3, 0),
+        times!(0, 9),
+        times!(100, 10),
+        times!(2, 0),
+        times!(95, 4),
+    ],
+    shifts: None,
+    syncs: None,
+};
+
+const LONG_CHUNKS: Expected = Expected {
+    samples: &[
+        (0, (1_000, 1, 0, 0, 0, true, 1, 1)),
+        // the sizes 1 to 69 are 2,415 bytes
+        (69, (3_415, 70, 660, 10, 0, true, 1, 1)),
+        (70, (50_000, 71, 670, 10, 0, true, 1, 2)),
+        // 71 to 138 are 7,106
+        (138, (57_106, 139, 1_132, 4, 0, true, 1, 2)),
+        // 141 to 199 are 10,030
+        (199, (19_030, 200, 1_376, 4, 0, true, 1, 3)),
+    ],
+    lasting: &[
+        (0, Some(3)),
+        (9, Some(3)),
+        (999, Some(102)),
+        (1_000, Some(105)),
+        (1_379, Some(199)),
+        (1_380, None),
+    ],
+    syncs: &[(7, Some(7))],
+    syncs_at: &[(0, Some(3)), (1_000, Some(105)), (9_999, Some(199))],
+};
+
+/// A count of 2^32 - 1 samples of 2^32 - 1 bytes, in one chunk. Two more runs of chunks begin past the last chunk.
+const MOST: Listed = Listed {
+    sample_size: u32::MAX,
+    sample_count: u32::MAX,
+    sizes: &[],
+    chunks: &[
+        chunks!(1, u32::MAX, 3),
+        chunks!(u32::MAX - 1, 7, 4),
+        chunks!(u32::MAX, 0, 9),
+    ],
+    offsets: &[u32::MAX],
+    long_offsets: &[],
+    times: &[times!(u32::MAX, u32::MAX), times!(u32::MAX, 1)],
+    shifts: None,
+    syncs: None,
+};
+
+/// The last sample begins (2^32 - 2) (2^32 - 1) bytes, and 2^32 - 1 more, from the front.
+const MOST_SAMPLES: Expected = Expected {
+    samples: &[(
+        u32::MAX - 1,
+        (
+            18_446_744_065_119_617_025,
+            u32::MAX,
+            18_446_744_060_824_649_730,
+            u32::MAX,
+            0,
+            true,
+            3,
+            1,
+        ),
+    )],
+    lasting: &[],
+    syncs: &[],
+    syncs_at: &[],
+};
 
 #[test]
 fn four_samples_far_out(rt: HostRuntime) -> Result<(), Fail> {
-    assert!(rt; far(rt.alloc())?);
+    assert!(rt; is(rt.alloc(), &FAR, FAR_OUT)?);
+    Ok(())
+}
+
+#[test]
+fn long_chunks_and_large_counts(rt: HostRuntime) -> Result<(), Fail> {
+    assert!(rt; is(rt.alloc(), &LONG, LONG_CHUNKS)?);
+    assert!(rt; is(rt.alloc(), &MOST, MOST_SAMPLES)?);
+    Ok(())
+}
+
+/// The tables of 2^32 - 1 samples in one chunk, whose times are of a million runs of no samples, and then of one.
+const RUNS: Listed = Listed {
+    chunks: &[chunks!(1, u32::MAX, 1)],
+    offsets: &[0],
+    ..MOST
+};
+
+/// Lists a million runs of no samples, and then one.
+fn list_empty_runs(alloc: Global, boxes: &mut Boxes) -> mp4_frame::Result<()> {
+    boxes.stts.entries = vec![in alloc; times!(0, 6); 1_000_000]?.into();
+    boxes.stts.entries.push(times!(u32::MAX, 2))?;
+    Ok(())
+}
+
+/// The last of 2^32 - 1 samples.
+fn last_of(tables: Tables<'_>) -> Option<Sample> {
+    SampleTables::new(tables).ok()?.sample(u32::MAX - 1)
+}
+
+/// The last of 2^32 - 1 samples, after a million runs of no samples.
+fn after_empty_runs(alloc: Global) -> mp4_frame::Result<Option<Sample>> {
+    let mut boxes = boxes_of(alloc, &RUNS)?;
+    list_empty_runs(alloc, &mut boxes)?;
+    Ok(last_of(tables_of(&RUNS, &boxes)))
+}
+
+#[test]
+fn a_million_empty_runs(rt: HostRuntime) -> Result<(), Fail> {
+    let found = after_empty_runs(rt.alloc())?;
+    assert_eq!(rt; found.map(|sample| sample.start_time), Some(8_589_934_588));
+    Ok(())
+}
+
+/// Whether the samples come one after the other, and no more come.
+fn come(tables: &SampleTables<'_>) -> bool {
+    let mut samples = tables.samples();
+    for row in SEVEN_SAMPLES {
+        if samples.next() != Some(sample_of(row)) {
+            return false;
+        }
+    }
+    samples.next().is_none() && tables.len() == 7 && !tables.is_empty()
+}
+
+/// Whether the samples at times are those of the worked tables, and the key frames before them.
+fn are_at_times(tables: &SampleTables<'_>, index: &SampleIndex<'_>) -> bool {
+    key_frame(index, 379) == Some(sample_of(FOURTH))
+        && key_frame(index, 380) == Some(sample_of(SIXTH))
+        && tables.sample_at(379) == Some(sample_of(FIFTH))
+        && index.sample_at(379) == Some(sample_of(FIFTH))
+        && index.sample_at(394).is_none()
+}
+
+/// Whether both hold of these tables.
+fn come_and_are_at_times(alloc: Global, tables: Tables<'_>) -> mp4_frame::Result<bool> {
+    let Ok(tables) = SampleTables::new(tables) else {
+        return Ok(false);
+    };
+    let index = tables.index(alloc)?;
+    Ok(come(&tables) && are_at_times(&tables, &index))
+}
+
+/// Whether both hold of the worked tables.
+fn are_worked(alloc: Global) -> mp4_frame::Result<bool> {
+    let boxes = boxes_of(alloc, &SEVEN)?;
+    come_and_are_at_times(alloc, tables_of(&SEVEN, &boxes))
+}
+
+#[test]
+fn samples_come_and_key_frames_are_found(rt: HostRuntime) -> Result<(), Fail> {
+    assert!(rt; are_worked(rt.alloc())?);
     Ok(())
 }
 

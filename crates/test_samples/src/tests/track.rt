@@ -4,54 +4,31 @@ use crate::callers::key_frame_of_file;
 use mp4_frame::{Error, FourCC};
 use mp4_samples::{SampleTables, Tables};
 use mp4_track::{ChunkBox, Track, TrackError, tables_end_of, track_of};
-use std::alloc::{AllocError, Global};
+use std::alloc::Global;
 use std::test::Fail;
 
-/// The headers of a movie of 429 bytes and of a track of 100 bytes.
-const MOVIE: &[u8] = b"\0\0\x01\xADmoov\0\0\0\x64trak";
-
-/// A track header up to the track_ID, in 20 bytes. After it follow 68 bytes.
-const HEADER: &[u8] = b"\0\0\0\x5Ctkhd\0\0\0\x07\0\0\0\0\0\0\0\0";
-
-/// A track of 321 bytes up to its header.
-const TRACK: &[u8] = b"\0\0\x01\x41trak";
-
-/// Its media of 221 bytes, with a timescale of 1000, up to its sample table of 140 bytes.
-const MEDIA: &[u8] = b"\0\0\0\xDDmdia\
+/// A file with a movie of 429 bytes, in which there are a track of track_ID 5 without media, and one of track_ID 7 of
+/// 321 bytes: its header, and its media of 221 bytes, with a timescale of 1000 and a sample table of 140 bytes. This
+/// has three samples of 3, 4 and 5 bytes, two in the first chunk and one in the second; the first and the last are sync
+/// samples. After the movie come their bytes.
+const FILE: [u8; 449] = *b"\0\0\x01\xADmoov\0\0\0\x64trak\
+    \0\0\0\x5Ctkhd\0\0\0\x07\0\0\0\0\0\0\0\0\0\0\0\x05\
+    \0\0\0\0\0\0\0\0\0\0\0\0\0\0\0\0\0\0\0\0\0\0\0\0\0\0\0\0\0\0\0\0\0\0\
+    \0\0\0\0\0\0\0\0\0\0\0\0\0\0\0\0\0\0\0\0\0\0\0\0\0\0\0\0\0\0\0\0\0\0\
+    \0\0\x01\x41trak\
+    \0\0\0\x5Ctkhd\0\0\0\x07\0\0\0\0\0\0\0\0\0\0\0\x07\
+    \0\0\0\0\0\0\0\0\0\0\0\0\0\0\0\0\0\0\0\0\0\0\0\0\0\0\0\0\0\0\0\0\0\0\
+    \0\0\0\0\0\0\0\0\0\0\0\0\0\0\0\0\0\0\0\0\0\0\0\0\0\0\0\0\0\0\0\0\0\0\
+    \0\0\0\xDDmdia\
     \0\0\0\x20mdhd\0\0\0\0\0\0\0\0\0\0\0\0\0\0\x03\xE8\0\0\0\x1E\x55\xC4\0\0\
     \0\0\0\x21hdlr\0\0\0\0\0\0\0\0vide\0\0\0\0\0\0\0\0\0\0\0\0\0\
-    \0\0\0\x94minf\0\0\0\x8Cstbl";
-
-/// Three samples of 3, 4 and 5 bytes, two in the first chunk and one in the second. The first and the last are sync
-/// samples.
-const TABLES: &[u8] = b"\0\0\0\x20stsz\0\0\0\0\0\0\0\0\0\0\0\x03\0\0\0\x03\0\0\0\x04\0\0\0\x05\
+    \0\0\0\x94minf\0\0\0\x8Cstbl\
+    \0\0\0\x20stsz\0\0\0\0\0\0\0\0\0\0\0\x03\0\0\0\x03\0\0\0\x04\0\0\0\x05\
     \0\0\0\x1Cstsc\0\0\0\0\0\0\0\x01\0\0\0\x01\0\0\0\x02\0\0\0\x01\
     \0\0\0\x18stco\0\0\0\0\0\0\0\x02\0\0\x01\xB5\0\0\x01\xBC\
     \0\0\0\x18stts\0\0\0\0\0\0\0\x01\0\0\0\x03\0\0\0\x0A\
-    \0\0\0\x18stss\0\0\0\0\0\0\0\x02\0\0\0\x01\0\0\0\x03";
-
-/// The samples.
-const DATA: &[u8] = b"\0\0\0\x14mdatabcdefghijkl";
-
-fn push_header(file: &mut Vec<u8>, track_id: u8) -> Result<(), AllocError> {
-    file.extend_from_slice(HEADER)?;
-    file.extend_from_slice(&[0, 0, 0, track_id])?;
-    file.extend_from_slice(&[0; 68])?;
-    Ok(())
-}
-
-/// A file with a track of track_ID 5 that has no media, and one of track_ID 7.
-fn file(alloc: Global) -> Result<Vec<u8>, AllocError> {
-    let mut file = Vec::new(alloc);
-    file.extend_from_slice(MOVIE)?;
-    push_header(&mut file, 5)?;
-    file.extend_from_slice(TRACK)?;
-    push_header(&mut file, 7)?;
-    file.extend_from_slice(MEDIA)?;
-    file.extend_from_slice(TABLES)?;
-    file.extend_from_slice(DATA)?;
-    Ok(file)
-}
+    \0\0\0\x18stss\0\0\0\0\0\0\0\x02\0\0\0\x01\0\0\0\x03\
+    \0\0\0\x14mdatabcdefghijkl";
 
 /// Whether the third sample is a sync sample at its offset.
 fn has_the_third_sample(tables: Tables<'_>) -> bool {
@@ -90,17 +67,15 @@ fn fault_of(alloc: Global, file: &[u8], track_id: u32) -> Option<TrackError> {
 
 #[test]
 fn track_is_found_by_its_id(rt: HostRuntime) -> Result<(), Fail> {
-    let file = file(rt.alloc())?;
-    assert!(rt; finds(rt.alloc(), &file, 7));
+    assert!(rt; finds(rt.alloc(), &FILE, 7));
     Ok(())
 }
 
 /// Three samples of 10; and none, without an `stts`.
 #[test]
 fn tables_of_a_track_end(rt: HostRuntime) -> Result<(), Fail> {
-    let file = file(rt.alloc())?;
-    let end = tables_end_of(rt.alloc(), &file, 7);
-    let none = tables_end_of(rt.alloc(), &file, 5);
+    let end = tables_end_of(rt.alloc(), &FILE, 7);
+    let none = tables_end_of(rt.alloc(), &FILE, 5);
     assert!(rt; matches!(end, Ok(30)) && matches!(none, Ok(0)));
     Ok(())
 }
@@ -108,10 +83,9 @@ fn tables_of_a_track_end(rt: HostRuntime) -> Result<(), Fail> {
 /// The first sample is shown up to 19, and the third, which is a sync sample too, from 20 on.
 #[test]
 fn key_frame_of_a_file(rt: HostRuntime) -> Result<(), Fail> {
-    let file = file(rt.alloc())?;
-    let first = key_frame_of_file(rt.alloc(), &file, 7, 19) == Some(b"abc".as_slice());
-    let last = key_frame_of_file(rt.alloc(), &file, 7, 20) == Some(b"hijkl".as_slice());
-    let none = key_frame_of_file(rt.alloc(), &file, 6, 20).is_none();
+    let first = key_frame_of_file(rt.alloc(), &FILE, 7, 19) == Some(b"abc".as_slice());
+    let last = key_frame_of_file(rt.alloc(), &FILE, 7, 20) == Some(b"hijkl".as_slice());
+    let none = key_frame_of_file(rt.alloc(), &FILE, 6, 20).is_none();
     assert!(rt; first && last && none);
     Ok(())
 }
@@ -123,18 +97,16 @@ fn is_missing(fault: Option<TrackError>, wanted: &[u8; 4]) -> bool {
 
 #[test]
 fn track_is_not_found(rt: HostRuntime) -> Result<(), Fail> {
-    let file = file(rt.alloc())?;
-    let none = matches!(fault_of(rt.alloc(), &file, 6), Some(TrackError::NoTrack(6)));
-    let missing = is_missing(fault_of(rt.alloc(), &file, 5), b"mdia");
+    let none = matches!(fault_of(rt.alloc(), &FILE, 6), Some(TrackError::NoTrack(6)));
+    let missing = is_missing(fault_of(rt.alloc(), &FILE, 5), b"mdia");
     assert!(rt; none && missing);
-    assert!(rt; matches!(fault_of(rt.alloc(), DATA, 7), Some(TrackError::NoMovie)));
+    assert!(rt;
+        matches!(
+            fault_of(rt.alloc(), &FILE[429..], 7),
+            Some(TrackError::NoMovie)
+        )
+    );
     Ok(())
-}
-
-fn set(file: &mut [u8], at: usize, byte: u8) {
-    if let Some(place) = file.get_mut(at) {
-        *place = byte;
-    }
 }
 
 /// Whether the box of sizes has a fault at its position.
@@ -151,10 +123,10 @@ fn is_of_sizes(fault: Option<TrackError>) -> bool {
 
 #[test]
 fn fault_has_a_position(rt: HostRuntime) -> Result<(), Fail> {
-    let mut file = file(rt.alloc())?;
-    set(&mut file, 316, 9);
+    let mut file = FILE;
+    file[316] = 9;
     let faulty = is_of_sizes(fault_of(rt.alloc(), &file, 7));
-    set(&mut file, 301, b'x');
+    file[301] = b'x';
     let missing = is_missing(fault_of(rt.alloc(), &file, 7), b"stsz");
     assert!(rt; faulty && missing);
     Ok(())

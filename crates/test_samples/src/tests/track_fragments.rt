@@ -4,31 +4,30 @@ use super::boxes::Row;
 use super::fragments::are;
 use mp4_frame::FourCC;
 use mp4_track::{TrackError, TrackFragment, fragments_of};
-use std::alloc::{AllocError, Global};
+use std::alloc::Global;
 use std::test::Fail;
 
-/// The header of a movie of 280 bytes.
-const MOVIE: &[u8] = b"\0\0\x01\x18moov";
-
-/// A track that has a header alone, up to its track_ID, in 28 bytes. After it follow 68 bytes.
-const TRACK: &[u8] = b"\0\0\0\x64trak\0\0\0\x5Ctkhd\0\0\0\x07\0\0\0\0\0\0\0\0";
-
-/// The defaults of the tracks 1 and 2: a duration of 10 and 7, a size of 4 and 5, and no sync samples in the second.
-const DEFAULTS: &[u8] = b"\0\0\0\x48mvex\
+/// A file of fragments. The movie of 280 bytes has two tracks with a header alone, and their defaults: a duration of 10
+/// and 7, a size of 4 and 5, and no sync samples in the second. The first moof, of 132 bytes, is at 280 and its data at
+/// 420: two samples of track 1, from the time 1000 on, and three of track 2, whose data follow. The second one, of 108
+/// bytes, is at 444 and its data at 560: a sample of track 2, whose offset counts from the moof, and one of track 1,
+/// which goes on after it.
+const FILE: [u8; 569] = *b"\0\0\x01\x18moov\
+    \0\0\0\x64trak\0\0\0\x5Ctkhd\0\0\0\x07\0\0\0\0\0\0\0\0\0\0\0\x01\
+    \0\0\0\0\0\0\0\0\0\0\0\0\0\0\0\0\0\0\0\0\0\0\0\0\0\0\0\0\0\0\0\0\0\0\
+    \0\0\0\0\0\0\0\0\0\0\0\0\0\0\0\0\0\0\0\0\0\0\0\0\0\0\0\0\0\0\0\0\0\0\
+    \0\0\0\x64trak\0\0\0\x5Ctkhd\0\0\0\x07\0\0\0\0\0\0\0\0\0\0\0\x02\
+    \0\0\0\0\0\0\0\0\0\0\0\0\0\0\0\0\0\0\0\0\0\0\0\0\0\0\0\0\0\0\0\0\0\0\
+    \0\0\0\0\0\0\0\0\0\0\0\0\0\0\0\0\0\0\0\0\0\0\0\0\0\0\0\0\0\0\0\0\0\0\
+    \0\0\0\x48mvex\
     \0\0\0\x20trex\0\0\0\0\0\0\0\x01\0\0\0\x01\0\0\0\x0A\0\0\0\x04\0\0\0\0\
-    \0\0\0\x20trex\0\0\0\0\0\0\0\x02\0\0\0\x01\0\0\0\x07\0\0\0\x05\0\x01\0\0";
-
-/// A moof of 132 bytes at 280 and its data at 420: two samples of track 1, from the time 1000 on, and three of track 2,
-/// whose data follow.
-const FIRST: &[u8] = b"\0\0\0\x84moof\0\0\0\x10mfhd\0\0\0\0\0\0\0\x01\
+    \0\0\0\x20trex\0\0\0\0\0\0\0\x02\0\0\0\x01\0\0\0\x07\0\0\0\x05\0\x01\0\0\
+    \0\0\0\x84moof\0\0\0\x10mfhd\0\0\0\0\0\0\0\x01\
     \0\0\0\x44traf\0\0\0\x10tfhd\0\0\0\0\0\0\0\x01\0\0\0\x10tfdt\0\0\0\0\0\0\x03\xE8\
     \0\0\0\x1Ctrun\0\0\x02\x01\0\0\0\x02\0\0\0\x8C\0\0\0\x03\0\0\0\x06\
     \0\0\0\x28traf\0\0\0\x10tfhd\0\0\0\0\0\0\0\x02\0\0\0\x10trun\0\0\0\0\0\0\0\x03\
-    \0\0\0\x20mdatabcdefghijklmnopqrstuvwx";
-
-/// A moof of 108 bytes at 444 and its data at 560: a sample of track 2, whose offset counts from the moof, and one of
-/// track 1, which goes on after it.
-const SECOND: &[u8] = b"\0\0\0\x6Cmoof\0\0\0\x10mfhd\0\0\0\0\0\0\0\x02\
+    \0\0\0\x20mdatabcdefghijklmnopqrstuvwx\
+    \0\0\0\x6Cmoof\0\0\0\x10mfhd\0\0\0\0\0\0\0\x02\
     \0\0\0\x2Ctraf\0\0\0\x10tfhd\0\x02\0\0\0\0\0\x02\0\0\0\x14trun\0\0\0\x01\0\0\0\x01\0\0\0\x74\
     \0\0\0\x28traf\0\0\0\x10tfhd\0\0\0\0\0\0\0\x01\0\0\0\x10trun\0\0\0\0\0\0\0\x01\
     \0\0\0\x11mdatabcdefghi";
@@ -51,24 +50,6 @@ const TRACK_2: [&[Row]; 2] = [
     ],
     &[(560, 5, 21, 7, 0, false, 1, 1)],
 ];
-
-fn push_track(file: &mut Vec<u8>, track_id: u8) -> Result<(), AllocError> {
-    file.extend_from_slice(TRACK)?;
-    file.extend_from_slice(&[0, 0, 0, track_id])?;
-    file.extend_from_slice(&[0; 68])?;
-    Ok(())
-}
-
-fn file(alloc: Global) -> Result<Vec<u8>, AllocError> {
-    let mut file = Vec::new(alloc);
-    file.extend_from_slice(MOVIE)?;
-    push_track(&mut file, 1)?;
-    push_track(&mut file, 2)?;
-    file.extend_from_slice(DEFAULTS)?;
-    file.extend_from_slice(FIRST)?;
-    file.extend_from_slice(SECOND)?;
-    Ok(file)
-}
 
 /// Whether these are two fragments with these samples, from the time 0 on where nothing else is said.
 fn are_two(fragments: &[TrackFragment], rows: &[&[Row]; 2]) -> bool {
@@ -97,31 +78,25 @@ fn fault_of(alloc: Global, file: &[u8], track_id: u32) -> Option<TrackError> {
     }
 }
 
-fn set(file: &mut [u8], at: usize, byte: u8) {
-    if let Some(place) = file.get_mut(at) {
-        *place = byte;
-    }
-}
-
 #[test]
 fn fragments_of_the_first_track(rt: HostRuntime) -> Result<(), Fail> {
-    let file = file(rt.alloc())?;
-    assert!(rt; gives(rt.alloc(), &file, 1, &TRACK_1));
+    assert!(rt; gives(rt.alloc(), &FILE, 1, &TRACK_1));
     Ok(())
 }
 
 #[test]
 fn fragments_of_the_second_track(rt: HostRuntime) -> Result<(), Fail> {
-    let file = file(rt.alloc())?;
-    assert!(rt; gives(rt.alloc(), &file, 2, &TRACK_2));
+    assert!(rt; gives(rt.alloc(), &FILE, 2, &TRACK_2));
     Ok(())
 }
 
 #[test]
 fn fragments_of_no_track(rt: HostRuntime) -> Result<(), Fail> {
-    let file = file(rt.alloc())?;
-    let none = matches!(fault_of(rt.alloc(), &file, 3), Some(TrackError::NoTrack(3)));
-    let no_movie = matches!(fault_of(rt.alloc(), FIRST, 1), Some(TrackError::NoMovie));
+    let none = matches!(fault_of(rt.alloc(), &FILE, 3), Some(TrackError::NoTrack(3)));
+    let no_movie = matches!(
+        fault_of(rt.alloc(), &FILE[280..444], 1),
+        Some(TrackError::NoMovie)
+    );
     assert!(rt; none && no_movie);
     Ok(())
 }
@@ -135,8 +110,8 @@ fn is_without_defaults(fault: Option<TrackError>) -> bool {
 /// second moof begin where those of track 2 end, which can't be told.
 #[test]
 fn fragments_without_defaults(rt: HostRuntime) -> Result<(), Fail> {
-    let mut file = file(rt.alloc())?;
-    set(&mut file, 263, 9);
+    let mut file = FILE;
+    file[263] = 9;
     let none = is_without_defaults(fault_of(rt.alloc(), &file, 2));
     let lost = matches!(
         fault_of(rt.alloc(), &file, 1),

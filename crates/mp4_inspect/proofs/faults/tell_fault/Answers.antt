@@ -1,12 +1,12 @@
 use Rattle.std.proofs.Common.{◌≡◌, Bool, true, string_bytes}
 use Rattle.mp4_inspect.proofs.FaultLines.{passed, told_of}
 use Rattle.mp4_inspect.specs.Faults.{IsLine}
-use Rattle.mp4_stream.specs.AnyBox.{known_any, reading_any}
 use Rattle.mp4_inspect.proofs.faults.tell_fault.Goals as goal
 
 pub returns-clause-told : goal.returns-clause-told
 returns-clause-told g c =
-    told_of known_any reading_any c.args.tree.now.bytes c.args.found.now c.in_ok-content.content c.tell_content.result
+    told_of g.B.Shown.known g.B.Shown.named_reading
+    c.args.tree.now.bytes c.args.found.now c.in_ok-content.content c.tell_content.result
     c.or_memory.result c.or_memory.ensures.ok c.in_ok-content.ensures.shows c.tell_content.ensures.told
 
 pub returns-clause-line : goal.returns-clause-line

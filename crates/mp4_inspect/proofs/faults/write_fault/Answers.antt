@@ -1,7 +1,6 @@
 use Rattle.std.proofs.Common.{◌≡◌, List, ℕ, ◌∙◌, ap, subst, string_bytes}
 use Rattle.mp4_inspect.proofs.FaultLines.{writes_lines}
 use Rattle.mp4_inspect.specs.Faults.{IsLine}
-use Rattle.mp4_stream.specs.AnyBox.{known_any, reading_any}
 use Rattle.mp4_inspect.proofs.faults.write_fault.Goals as goal
 
 pub returns-clause-lines : goal.returns-clause-lines
@@ -11,7 +10,8 @@ returns-clause-lines g c =
     let second : string_bytes c.tell_disagreement.new.search.front ≡ string_bytes c.args.search.now.front
     = ap string_bytes c.in_ok-disagrees.ensures.front ∙ first in
     rw c.either.ensures
-    (writes_lines known_any reading_any c.args.tree.now.bytes (string_bytes c.args.search.now.front)
+    (writes_lines g.B.Shown.known g.B.Shown.named_reading
+    c.args.tree.now.bytes (string_bytes c.args.search.now.front)
     c.as_str.result.now c.as_str-2.result.now c.args.found.now c.in_ok-told.told c.in_ok-disagrees.disagrees
     (g.W.Write.contents c.args.output.now.inner) (g.W.Write.contents c.write_line.new.output.inner)
     (g.W.Write.contents c.write_line-2.new.output.inner) c.in_ok-told.ensures.told

@@ -2,7 +2,6 @@ use Rattle.std.proofs.Common.{◌≡◌, ℕ, List, Ok, ap, subst, string_bytes,
 use Rattle.std.specs.Io.KnownBytes.{Appends}
 use Rattle.mp4_inspect.proofs.FaultLines.{faults_all, faults_known}
 use Rattle.mp4_inspect.specs.Faults.{movie_text}
-use Rattle.mp4_stream.specs.AnyBox.{known_any, reading_any}
 use Rattle.mp4_inspect.proofs.faults.write_faults.Goals as goal
 
 pub returns-clause-faults : goal.returns-clause-faults
@@ -10,7 +9,8 @@ returns-clause-faults g c =
     let front : c.as_str.result.now ≡ string_bytes c.in_ok-or_memory-2.field-0
     = c.as_str.ensures.value ∙ ap string_bytes c.in_ok-faulty.ensures.front in
     rw c.either.ensures
-    (faults_all known_any reading_any c.args.tree.now.bytes (string_bytes c.in_ok-or_memory-2.field-0)
+    (faults_all g.B.Shown.known g.B.Shown.named_reading
+    c.args.tree.now.bytes (string_bytes c.in_ok-or_memory-2.field-0)
     c.args.boxes.now (g.W.Write.contents c.args.output.now.inner) (g.W.Write.contents c.write_lines.new.output.inner)
     (g.W.Write.contents c.write_movie.new.output.inner) c.in_ok-faulty.faulty c.has_movie-movie.result
     c.in_ok-faulty.ensures.faults
@@ -21,6 +21,7 @@ returns-clause-faults g c =
 
 pub returns-clause-check : goal.returns-clause-check
 returns-clause-check g c =
-    faults_known (Ok c.either.result) c.args.tree.now.bytes c.args.boxes.now
+    faults_known g.B.Shown.known g.B.Shown.named_reading
+    (Ok c.either.result) c.args.tree.now.bytes c.args.boxes.now
     (g.W.Write.contents c.args.output.now.inner) (g.W.Write.contents c.write_movie.new.output.inner)
     (returns-clause-faults g c)

@@ -2,13 +2,13 @@ use Rattle.std.proofs.Common.{◌≡◌, List, ap, rules, subst, take, string_by
 use Rattle.std.proofs.lemmas.List.{take_all}
 use Rattle.mp4_inspect.proofs.FaultLines.{faults_none, faults_after}
 use Rattle.mp4_inspect.specs.Faults.{WritesFaults}
-use Rattle.mp4_stream.specs.AnyBox.{known_any, reading_any}
 use Rattle.mp4_tree.specs.declared.tree_box.TreeBox.{TreeBox}
 use Rattle.mp4_inspect.proofs.faults.write_lines.Goals as goal
 
 pub loop-found-init : goal.loop-found-init
 loop-found-init g c = record {
-  written = faults_none known_any reading_any c.args.tree.now.bytes (string_bytes c.args.search.now.front)
+  written = faults_none g.B.Shown.known g.B.Shown.named_reading
+      c.args.tree.now.bytes (string_bytes c.args.search.now.front)
       (g.W.Write.contents c.args.output.now.inner);
   front = search rules;
   kept = search rules;
@@ -18,7 +18,8 @@ pub loop-found-preserved : goal.loop-found-preserved
 loop-found-preserved g c = record {
   written =
       rw c.either-faulty.ensures
-      (faults_after known_any reading_any c.args.tree.now.bytes (string_bytes c.args.search.now.front)
+      (faults_after g.B.Shown.known g.B.Shown.named_reading
+      c.args.tree.now.bytes (string_bytes c.args.search.now.front)
       c.args.boxes.now c.loop-found.found-index _ (g.W.Write.contents c.args.output.now.inner)
       (g.W.Write.contents c.loop-found.output.inner) (g.W.Write.contents c.write_fault.new.output.inner)
       c.loop-found.faulty c.in_ok-here.here c.loop-found.tree.bytes (string_bytes c.loop-found.search.front)
@@ -33,6 +34,6 @@ returns-clause-faults g c =
     let all : take c.loop-found.found-index c.args.boxes.now ≡ c.args.boxes.now
     = take_all c.loop-found.found-index c.args.boxes.now (search rules) in
     subst
-    (λ (boxes : List TreeBox). WritesFaults known_any reading_any c.args.tree.now.bytes
+    (λ (boxes : List TreeBox). WritesFaults g.B.Shown.known g.B.Shown.named_reading c.args.tree.now.bytes
     (string_bytes c.args.search.now.front) boxes (g.W.Write.contents c.args.output.now.inner)
     (g.W.Write.contents c.loop-found.output.inner) c.loop-found.faulty) all c.loop-found.invariant.written

@@ -1,12 +1,12 @@
 -- The lines of the boxes so far are written.
 use Rattle.std.proofs.Common.{◌≡◌, take, string_bytes}
 use Rattle.mp4_inspect.specs.Faults.{WritesFaults}
-use Rattle.mp4_stream.specs.AnyBox.{known_any, reading_any}
 use Rattle.mp4_inspect.proofs.faults.write_lines.Given as goal
 
 abbrev pub invariant-loop-found : goal.invariant-loop-found
 invariant-loop-found g l = record {
-  written : WritesFaults known_any reading_any l.initial.tree.bytes (string_bytes l.initial.search.front)
+  written : WritesFaults g.B.Shown.known g.B.Shown.named_reading
+      l.initial.tree.bytes (string_bytes l.initial.search.front)
       (take l.found-index l.boxes)
       (g.W.Write.contents l.initial.output.inner) (g.W.Write.contents l.output.inner) l.faulty;
   front : l.search.front ≡ l.initial.search.front;

@@ -9,7 +9,8 @@ returns-in_err-write_all-clause-beginning g c =
     let same : c.as_bytes.result.now ≡ c.args.heading.now = search rules in
     rw failed
     (always_known c.args.tree.now.bytes
-    (λ bytes all. begins_of_failed (Unit {0}) c.as_bytes.result.now c.args.heading.now bytes
+    (λ bytes all. begins_of_failed g.B.Shown.known g.B.Shown.named_reading
+    (Unit {0}) c.as_bytes.result.now c.args.heading.now bytes
     (g.W.Write.contents c.args.output.now.inner) (g.W.Write.contents c.write_all.new.output.inner)
     c.in_err-write_all.field-0.0 same c.in_err-write_all.ensures.bytes))
 
@@ -17,7 +18,8 @@ pub returns-clause-texts : goal.returns-clause-texts
 returns-clause-texts g c =
     let headed : Appends (g.W.Write.contents c.args.output.now.inner) (g.W.Write.contents c.write_all.new.output.inner)
     c.args.heading.now = search rules in
-    texts_of c.args.heading.now c.args.boxes.now c.args.tree.now.bytes (g.W.Write.contents c.args.output.now.inner)
+    texts_of g.B.Shown.known g.B.Shown.named_reading
+    c.args.heading.now c.args.boxes.now c.args.tree.now.bytes (g.W.Write.contents c.args.output.now.inner)
     (g.W.Write.contents c.write_all.new.output.inner) (g.W.Write.contents c.write_tree.new.output.inner)
     c.write_tree.result headed c.write_tree.ensures.texts
 
@@ -25,6 +27,7 @@ pub returns-clause-beginning : goal.returns-clause-beginning
 returns-clause-beginning g c =
     let headed : Appends (g.W.Write.contents c.args.output.now.inner) (g.W.Write.contents c.write_all.new.output.inner)
     c.args.heading.now = search rules in
-    beginning_of c.args.heading.now c.args.boxes.now c.args.tree.now.bytes (g.W.Write.contents c.args.output.now.inner)
+    beginning_of g.B.Shown.known g.B.Shown.named_reading
+    c.args.heading.now c.args.boxes.now c.args.tree.now.bytes (g.W.Write.contents c.args.output.now.inner)
     (g.W.Write.contents c.write_all.new.output.inner) (g.W.Write.contents c.write_tree.new.output.inner)
     c.write_tree.result headed c.write_tree.ensures.beginning

@@ -3,5 +3,6 @@ use Rattle.mp4_inspect.proofs.program.show_tree.Goals as goal
 
 pub returns-in_err-boxes-clause-beginning : goal.returns-in_err-boxes-clause-beginning
 returns-in_err-boxes-clause-beginning g c =
-    begins_unwritten c.from_residual-in_err-boxes.result (g.S.Source.all c.args.source) c.args.heading.now
+    begins_unwritten g.B.Shown.known g.B.Shown.named_reading
+    c.from_residual-in_err-boxes.result (g.S.Source.all c.args.source) c.args.heading.now
     (g.W.Write.contents c.args.output.now.inner)

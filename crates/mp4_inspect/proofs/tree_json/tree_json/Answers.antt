@@ -5,7 +5,7 @@ use Rattle.mp4_inspect.proofs.tree_json.tree_json.Goals as goal
 pub loop-found-init : goal.loop-found-init
 loop-found-init g c = record {
   written =
-      leads_none g.B.StreamBox.known g.B.StreamBox.named_reading c.args.tree.now.bytes c.args.boxes.now
+      leads_none g.B.Shown.known g.B.Shown.named_reading c.args.tree.now.bytes c.args.boxes.now
       c.begin_file.new.sink.out;
   room = search rules;
   kept = search rules;
@@ -15,7 +15,7 @@ pub loop-found-preserved : goal.loop-found-preserved
 loop-found-preserved g c = record {
   written =
       rw c.either-faulty.ensures
-      (leads_more g.B.StreamBox.known g.B.StreamBox.named_reading c.args.tree.now.bytes c.args.boxes.now
+      (leads_more g.B.Shown.known g.B.Shown.named_reading c.args.tree.now.bytes c.args.boxes.now
       c.loop-found.found-index c.loop-found.begun c.write_box.new.begun _ c.loop-found.faulty c.in_ok-here.here
       c.begin_file.new.sink.out c.loop-found.sink.out c.write_box.new.sink.out c.loop-found.tree.bytes
       (ap (λ t. t.bytes) c.loop-found.invariant.kept) (search rules) c.loop-found.invariant.written
@@ -28,8 +28,8 @@ loop-found-preserved g c = record {
 
 pub returns : goal.returns
 returns g c =
-    let known = g.B.StreamBox.known in
-    let reading = g.B.StreamBox.named_reading in
+    let known = g.B.Shown.known in
+    let reading = g.B.Shown.named_reading in
     let bytes = c.args.tree.now.bytes in
     let boxes = c.args.boxes.now in
     let all : length boxes ≤ c.loop-found.found-index = search rules in

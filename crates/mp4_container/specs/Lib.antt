@@ -1,0 +1,6 @@
+pub mod Parents
+pub mod FrontLaws
+pub mod Container
+pub mod ContainerLaws
+pub mod Branch
+pub mod BranchLaws

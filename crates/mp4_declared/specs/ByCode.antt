@@ -1,0 +1,42 @@
+-- A declared box in lists: it is told by its code.
+use Rattle.std.specs.Prelude.{ℕ, ◌==◌, Bool}
+use Rattle.std.proofs.Common.{refl, sym, ap}
+use Rattle.std.proofs.lemmas.Bool.{eq-eqb, eqb-true}
+use Rattle.mp4_frame.specs.BoxType.{code_of, name_of-code_of}
+use Rattle.mp4_frame.specs.Format.{IsBox}
+use Rattle.mp4_frame.specs.Laws.{OwnName, ReadsBack}
+use Rattle.mp4_frame.specs.Reading.{reading}
+use Rattle.mp4_frame.specs.ReadingLaws.{reads_back}
+use Rattle.mp4_frame.specs.declared.box_type.BoxType.{BoxType}
+use Rattle.mp4_frame.proofs.Checks.{are_bytes-drop, reads_ok}
+use Rattle.mp4_lists.specs.OwnOr.{ByCode}
+use Rattle.mp4_lists.specs.Sound.{ReadsSoundly, ReadsOwnCode}
+use Rattle.mp4_declared.specs.Shape.{Shape}
+use Rattle.mp4_declared.specs.OwnBox.{OwnLayout, reads_declared, format_declared}
+
+-- the names with this code
+abbrev pub has_code : ℕ → BoxType → Bool
+has_code code name = code_of name == code
+
+pub by_code_declared : (code : ℕ) → ByCode (has_code code)
+by_code_declared code n m same = ap (λ (c : ℕ). c == code) same
+
+module _ {code : ℕ} {A V : Type 0} (s : Shape A) (l : OwnLayout code A V)
+    (laws : IsBox (reads_declared s l) (format_declared s l)) where
+  pub own_name_declared : (v : V) → (format_declared s l).Writable v
+      → OwnName (has_code code) ((format_declared s l).name v)
+  own_name_declared v w =
+      record { is_known = eq-eqb code code refl; is_own = name_of-code_of ((format_declared s l).name v) l.own }
+
+  pub read_back_declared : (v : V) → (format_declared s l).Writable v
+      → ReadsBack (reading (reads_declared s l)) ((format_declared s l).bytes v) ((format_declared s l).normal v)
+  read_back_declared v w =
+      reads_back (reads_declared s l) ((format_declared s l).bytes v) ((format_declared s l).size v)
+      ((format_declared s l).normal v) (laws.header v w).long (laws.read_back v w)
+
+  pub sound_declared : ReadsSoundly (has_code code) (λ _. reading (reads_declared s l)) (format_declared s l)
+  sound_declared name known fits bytes start size v are e =
+      laws.sound _ start size v (are_bytes-drop start bytes are) (reads_ok (reads_declared s l) bytes start size v e)
+
+  pub code_declared : ReadsOwnCode (has_code code) (λ _. reading (reads_declared s l)) (format_declared s l)
+  code_declared name known bytes start size v e = sym (eqb-true (code_of name) code known)

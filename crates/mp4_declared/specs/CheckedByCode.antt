@@ -1,0 +1,32 @@
+-- A declared box with a check of its own in lists: it is told by its code.
+use Rattle.std.specs.Prelude.{ℕ, Bool}
+use Rattle.std.proofs.Common.{sym}
+use Rattle.std.proofs.lemmas.Bool.{eqb-true}
+use Rattle.mp4_frame.specs.BoxType.{code_of}
+use Rattle.mp4_frame.specs.Format.{IsBox}
+use Rattle.mp4_frame.specs.Laws.{ReadsBack}
+use Rattle.mp4_frame.specs.Reading.{reading}
+use Rattle.mp4_frame.specs.ReadingLaws.{reads_back}
+use Rattle.mp4_frame.proofs.Checks.{are_bytes-drop, reads_ok}
+use Rattle.mp4_lists.specs.Sound.{ReadsSoundly, ReadsOwnCode}
+use Rattle.mp4_declared.specs.ByCode.{has_code}
+use Rattle.mp4_declared.specs.Shape.{Shape}
+use Rattle.mp4_declared.specs.OwnBox.{OwnLayout, reads_checked, format_checked}
+
+module _ {code : ℕ} {A V : Type 0} (passes : V → Bool) (s : Shape A) (l : OwnLayout code A V)
+    (laws : IsBox (reads_checked passes s l) (format_checked passes s l)) where
+  pub read_back_checked : (v : V) → (format_checked passes s l).Writable v
+      → ReadsBack (reading (reads_checked passes s l)) ((format_checked passes s l).bytes v)
+      ((format_checked passes s l).normal v)
+  read_back_checked v w =
+      reads_back (reads_checked passes s l) ((format_checked passes s l).bytes v)
+      ((format_checked passes s l).size v) ((format_checked passes s l).normal v) (laws.header v w).long
+      (laws.read_back v w)
+
+  pub sound_checked : ReadsSoundly (has_code code) (λ _. reading (reads_checked passes s l)) (format_checked passes s l)
+  sound_checked name known fits bytes start size v are e =
+      laws.sound _ start size v (are_bytes-drop start bytes are)
+      (reads_ok (reads_checked passes s l) bytes start size v e)
+
+  pub code_checked : ReadsOwnCode (has_code code) (λ _. reading (reads_checked passes s l)) (format_checked passes s l)
+  code_checked name known bytes start size v e = sym (eqb-true (code_of name) code known)

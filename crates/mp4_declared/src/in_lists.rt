@@ -1,0 +1,52 @@
+//! A declared box in lists of boxes.
+
+ghost use Rattle.std.specs.Prelude.{◌≡◌};
+ghost use Rattle.mp4_frame.specs.Reading.{reading};
+ghost use Rattle.mp4_declared.specs.ByCode.{has_code, by_code_declared, own_name_declared, read_back_declared};
+ghost use Rattle.mp4_declared.specs.ByCode.{sound_declared, code_declared};
+ghost use Rattle.mp4_declared.specs.OwnBox.{reads_declared};
+ghost use Rattle.mp4_declared.specs.OwnBoxLaws.{laws_declared};
+
+use crate::declared::{Declared, DeclaredBox};
+use mp4_frame::{BoxType, ByteCursor, ReadBox, Result, StreamBox};
+use mp4_lists::{CodedBox, SoundStream};
+use std::alloc::Global;
+
+/// In a list the boxes of its code are read, and all others skipped.
+impl<T: DeclaredBox> StreamBox for Declared<T> {
+    ghost known = { has_code T.CODE };
+
+    ghost named_reading = { λ _. reading (reads_declared T.Shape.shape T.layout) };
+
+    fn knows(name: BoxType) -> bool {
+        u32::from(name) == T::CODE
+    }
+
+    fn read_named(
+        alloc: Global,
+        _name: BoxType,
+        reader: &mut ByteCursor,
+        size: u64,
+    ) -> Result<Self> {
+        Self::read_box(alloc, reader, size)
+    }
+
+    ghost own_name = { own_name_declared T.Shape.shape T.layout
+        (laws_declared T.Shape.shape T.Shape.shape_laws T.layout T.valid) };
+
+    ghost read_back = { read_back_declared T.Shape.shape T.layout
+        (laws_declared T.Shape.shape T.Shape.shape_laws T.layout T.valid) };
+}
+
+impl<T: DeclaredBox> SoundStream for Declared<T> {
+    ghost sound = { sound_declared T.Shape.shape T.layout
+        (laws_declared T.Shape.shape T.Shape.shape_laws T.layout T.valid) };
+
+    ghost own_code = { code_declared T.Shape.shape T.layout
+        (laws_declared T.Shape.shape T.Shape.shape_laws T.layout T.valid) };
+}
+
+/// It is told by its code alone.
+impl<T: DeclaredBox> CodedBox for Declared<T> {
+    ghost by_code = { by_code_declared T.CODE };
+}

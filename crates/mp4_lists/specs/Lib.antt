@@ -1,0 +1,10 @@
+pub mod Sound
+pub mod Coded
+pub mod MemberLaws
+pub mod OwnOr
+pub mod OwnOrLaws
+pub mod ChildBox
+pub mod ChildLaws
+pub mod Fronts
+pub mod Exact
+pub mod ExactLaws

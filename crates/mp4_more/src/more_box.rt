@@ -1,0 +1,241 @@
+//! The boxes of this crate as one type.
+
+ghost use Rattle.std.specs.Prelude.{◌≡◌, ◌+◌, ◌-◌, ◌≤◌, OnOk, OnErr, max};
+ghost use Rattle.std.proofs.Common.{refl};
+ghost use Rattle.mp4_stream.specs.Author.{Answers, reading_known, Is};
+ghost use Rattle.mp4_more.specs.AllBoxes.{by_code};
+ghost use Rattle.mp4_more.specs.MoreBox.{Declarations, declaration, kind_of, kinds, inside};
+ghost use Rattle.mp4_more.specs.MoreBoxLaws.{members, named};
+ghost use Rattle.mp4_more.specs.declared.more_type.MoreType.TheVariants as types;
+
+use crate::more_type::MoreType;
+use crate::{
+    Av1c, Av1cBox, Btrt, BtrtBox, Clap, ClapBox, Clli, ClliBox, Colr, ColrBox, Dac3, Dac3Box, Dec3,
+    Dec3Box, Dfla, DflaBox, Dops, DopsBox, Elng, ElngBox, Frma, FrmaBox, Keys, KeysBox, Mdcv,
+    MdcvBox, Mfro, MfroBox, Nmhd, NmhdBox, Pasp, PaspBox, Prft, PrftBox, Pssh, PsshBox, Saio,
+    SaioBox, Saiz, SaizBox, Sbgp, SbgpBox, Schm, SchmBox, Sdtp, SdtpBox, Senc, SencBox, Sgpd,
+    SgpdBox, Sidx, SidxBox, Styp, StypBox, Stz2, Stz2Box, Subs, SubsBox, Tenc, TencBox, Tfra,
+    TfraBox, Tref, TrefBox,
+};
+use mp4_lists::CodedEnum;
+use mp4_stream::author::{BoxEnum, DeclaredBox, Question, Shape, clone_as, read_as};
+use mp4_stream::{BoxType, ByteCursor, Result, TryClone};
+use std::alloc::Global;
+use std::fmt;
+
+/// Calls a macro with the list of all box types in brackets, followed by the other arguments.
+macro_rules! of_boxes {
+    ($go:ident, $($rest:tt)*) => {
+        $go! {
+            [
+                Av1cBox BtrtBox ClapBox ClliBox ColrBox Dac3Box Dec3Box DflaBox DopsBox ElngBox
+                FrmaBox KeysBox MdcvBox MfroBox NmhdBox PaspBox PrftBox PsshBox SaioBox SaizBox
+                SbgpBox SchmBox SdtpBox SencBox SgpdBox SidxBox StypBox Stz2Box SubsBox TencBox
+                TfraBox TrefBox
+            ]
+            $($rest)*
+        }
+    };
+}
+
+/// A match on a `MoreBox`, with an arm for each variant: binds the box inside, and evaluates the expression.
+macro_rules! each {
+    ([$($held:ident)*] $more:expr, $value:ident => $answer:expr) => {
+        match $more {
+            $(MoreBox::$held($value) => $answer,)*
+        }
+    };
+}
+
+/// A match on a type, with an arm for each: reads the box of this type.
+macro_rules! by_type {
+    ([$($held:ident)*] $of:expr, $values:tt) => {
+        match $of {
+            $(MoreType::$held => read_as::<$held, MoreBox> $values,)*
+        }
+    };
+}
+
+/// Prints a `MoreBox` as its variant, with the box inside.
+macro_rules! print_more {
+    ([$($held:ident)*] $more:expr, $f:expr) => {
+        match $more {
+            $(MoreBox::$held(value) => print_variant($f, stringify!($held), value),)*
+        }
+    };
+}
+
+/// A box of any of the types of this crate.
+#[derive(Drop, PartialEq, Eq)]
+pub enum MoreBox {
+    Av1cBox(Av1cBox),
+    BtrtBox(BtrtBox),
+    ClapBox(ClapBox),
+    ClliBox(ClliBox),
+    ColrBox(ColrBox),
+    Dac3Box(Dac3Box),
+    Dec3Box(Dec3Box),
+    DflaBox(DflaBox),
+    DopsBox(DopsBox),
+    ElngBox(ElngBox),
+    FrmaBox(FrmaBox),
+    KeysBox(KeysBox),
+    MdcvBox(MdcvBox),
+    MfroBox(MfroBox),
+    NmhdBox(NmhdBox),
+    PaspBox(PaspBox),
+    PrftBox(PrftBox),
+    PsshBox(PsshBox),
+    SaioBox(SaioBox),
+    SaizBox(SaizBox),
+    SbgpBox(SbgpBox),
+    SchmBox(SchmBox),
+    SdtpBox(SdtpBox),
+    SencBox(SencBox),
+    SgpdBox(SgpdBox),
+    SidxBox(SidxBox),
+    StypBox(StypBox),
+    Stz2Box(Stz2Box),
+    SubsBox(SubsBox),
+    TencBox(TencBox),
+    TfraBox(TfraBox),
+    TrefBox(TrefBox),
+}
+
+/// Prints a variant of this name, with this value inside.
+fn print_variant<W: fmt::Write>(
+    f: &mut fmt::Formatter<W>,
+    name: &str,
+    value: &impl fmt::Debug,
+) -> fmt::Result {
+    f.debug_tuple(name).field(value).finish()
+}
+
+impl fmt::Debug for MoreBox {
+    fn fmt<W: fmt::Write>(&self, f: &mut fmt::Formatter<W>) -> fmt::Result {
+        of_boxes!(print_more, self, f)
+    }
+}
+
+impl TryClone for MoreBox {
+    fn try_clone(&self) -> Result<MoreBox> {
+        of_boxes!(each, self, b => clone_as(b))
+    }
+}
+
+/// For the prover: how the boxes of each type are declared.
+trait Declares {
+    ghost declared: { Declarations };
+}
+
+impl Declares for MoreBox {
+    ghost declared = { elim [
+      | types.Av1cBox ↦ declaration ⟦<<Av1c as DeclaredBox>::Shape as Shape>⟧.shape ⟦<Av1c as DeclaredBox>⟧.layout
+      | types.BtrtBox ↦ declaration ⟦<<Btrt as DeclaredBox>::Shape as Shape>⟧.shape ⟦<Btrt as DeclaredBox>⟧.layout
+      | types.ClapBox ↦ declaration ⟦<<Clap as DeclaredBox>::Shape as Shape>⟧.shape ⟦<Clap as DeclaredBox>⟧.layout
+      | types.ClliBox ↦ declaration ⟦<<Clli as DeclaredBox>::Shape as Shape>⟧.shape ⟦<Clli as DeclaredBox>⟧.layout
+      | types.ColrBox ↦ declaration ⟦<<Colr as DeclaredBox>::Shape as Shape>⟧.shape ⟦<Colr as DeclaredBox>⟧.layout
+      | types.Dac3Box ↦ declaration ⟦<<Dac3 as DeclaredBox>::Shape as Shape>⟧.shape ⟦<Dac3 as DeclaredBox>⟧.layout
+      | types.Dec3Box ↦ declaration ⟦<<Dec3 as DeclaredBox>::Shape as Shape>⟧.shape ⟦<Dec3 as DeclaredBox>⟧.layout
+      | types.DflaBox ↦ declaration ⟦<<Dfla as DeclaredBox>::Shape as Shape>⟧.shape ⟦<Dfla as DeclaredBox>⟧.layout
+      | types.DopsBox ↦ declaration ⟦<<Dops as DeclaredBox>::Shape as Shape>⟧.shape ⟦<Dops as DeclaredBox>⟧.layout
+      | types.ElngBox ↦ declaration ⟦<<Elng as DeclaredBox>::Shape as Shape>⟧.shape ⟦<Elng as DeclaredBox>⟧.layout
+      | types.FrmaBox ↦ declaration ⟦<<Frma as DeclaredBox>::Shape as Shape>⟧.shape ⟦<Frma as DeclaredBox>⟧.layout
+      | types.KeysBox ↦ declaration ⟦<<Keys as DeclaredBox>::Shape as Shape>⟧.shape ⟦<Keys as DeclaredBox>⟧.layout
+      | types.MdcvBox ↦ declaration ⟦<<Mdcv as DeclaredBox>::Shape as Shape>⟧.shape ⟦<Mdcv as DeclaredBox>⟧.layout
+      | types.MfroBox ↦ declaration ⟦<<Mfro as DeclaredBox>::Shape as Shape>⟧.shape ⟦<Mfro as DeclaredBox>⟧.layout
+      | types.NmhdBox ↦ declaration ⟦<<Nmhd as DeclaredBox>::Shape as Shape>⟧.shape ⟦<Nmhd as DeclaredBox>⟧.layout
+      | types.PaspBox ↦ declaration ⟦<<Pasp as DeclaredBox>::Shape as Shape>⟧.shape ⟦<Pasp as DeclaredBox>⟧.layout
+      | types.PrftBox ↦ declaration ⟦<<Prft as DeclaredBox>::Shape as Shape>⟧.shape ⟦<Prft as DeclaredBox>⟧.layout
+      | types.PsshBox ↦ declaration ⟦<<Pssh as DeclaredBox>::Shape as Shape>⟧.shape ⟦<Pssh as DeclaredBox>⟧.layout
+      | types.SaioBox ↦ declaration ⟦<<Saio as DeclaredBox>::Shape as Shape>⟧.shape ⟦<Saio as DeclaredBox>⟧.layout
+      | types.SaizBox ↦ declaration ⟦<<Saiz as DeclaredBox>::Shape as Shape>⟧.shape ⟦<Saiz as DeclaredBox>⟧.layout
+      | types.SbgpBox ↦ declaration ⟦<<Sbgp as DeclaredBox>::Shape as Shape>⟧.shape ⟦<Sbgp as DeclaredBox>⟧.layout
+      | types.SchmBox ↦ declaration ⟦<<Schm as DeclaredBox>::Shape as Shape>⟧.shape ⟦<Schm as DeclaredBox>⟧.layout
+      | types.SdtpBox ↦ declaration ⟦<<Sdtp as DeclaredBox>::Shape as Shape>⟧.shape ⟦<Sdtp as DeclaredBox>⟧.layout
+      | types.SencBox ↦ declaration ⟦<<Senc as DeclaredBox>::Shape as Shape>⟧.shape ⟦<Senc as DeclaredBox>⟧.layout
+      | types.SgpdBox ↦ declaration ⟦<<Sgpd as DeclaredBox>::Shape as Shape>⟧.shape ⟦<Sgpd as DeclaredBox>⟧.layout
+      | types.SidxBox ↦ declaration ⟦<<Sidx as DeclaredBox>::Shape as Shape>⟧.shape ⟦<Sidx as DeclaredBox>⟧.layout
+      | types.StypBox ↦ declaration ⟦<<Styp as DeclaredBox>::Shape as Shape>⟧.shape ⟦<Styp as DeclaredBox>⟧.layout
+      | types.Stz2Box ↦ declaration ⟦<<Stz2 as DeclaredBox>::Shape as Shape>⟧.shape ⟦<Stz2 as DeclaredBox>⟧.layout
+      | types.SubsBox ↦ declaration ⟦<<Subs as DeclaredBox>::Shape as Shape>⟧.shape ⟦<Subs as DeclaredBox>⟧.layout
+      | types.TencBox ↦ declaration ⟦<<Tenc as DeclaredBox>::Shape as Shape>⟧.shape ⟦<Tenc as DeclaredBox>⟧.layout
+      | types.TfraBox ↦ declaration ⟦<<Tfra as DeclaredBox>::Shape as Shape>⟧.shape ⟦<Tfra as DeclaredBox>⟧.layout
+      | types.TrefBox ↦ declaration ⟦<<Tref as DeclaredBox>::Shape as Shape>⟧.shape ⟦<Tref as DeclaredBox>⟧.layout
+    ] };
+}
+
+/// Reads the box of this type whose header was just read, as `BoxEnum::read`.
+fn read_of(of: MoreType, alloc: Global, reader: &mut ByteCursor, size: u64) -> Result<MoreBox>
+    requires after_header { 8 ≤ reader.old.position }
+    ensures answer { Answers result (reading_known (Is (kind_of ⟦<MoreBox as Declares>⟧.declared of))
+        reader.old.bytes.now (reader.old.position - 8) size) }
+    ensures moved { OnOk result (reader.new.position ≡ reader.old.position - 8 + max 0 size) }
+    ensures kept { OnErr result (reader.new.position ≡ reader.old.position) }
+    ensures bytes { reader.new.bytes ≡ reader.old.bytes }
+{
+    of_boxes!(by_type, of, (alloc, reader, size))
+}
+
+impl BoxEnum for MoreBox {
+    ghost kinds = { kinds ⟦<MoreBox as Declares>⟧.declared };
+
+    ghost inside = { inside ⟦<MoreBox as Declares>⟧.declared };
+
+    ghost members = { members ⟦<MoreBox as Declares>⟧.declared (elim [
+      | types.Av1cBox ↦ (⟦<<Av1c as DeclaredBox>::Shape as Shape>⟧.shape_laws, refl)
+      | types.BtrtBox ↦ (⟦<<Btrt as DeclaredBox>::Shape as Shape>⟧.shape_laws, refl)
+      | types.ClapBox ↦ (⟦<<Clap as DeclaredBox>::Shape as Shape>⟧.shape_laws, refl)
+      | types.ClliBox ↦ (⟦<<Clli as DeclaredBox>::Shape as Shape>⟧.shape_laws, refl)
+      | types.ColrBox ↦ (⟦<<Colr as DeclaredBox>::Shape as Shape>⟧.shape_laws, refl)
+      | types.Dac3Box ↦ (⟦<<Dac3 as DeclaredBox>::Shape as Shape>⟧.shape_laws, refl)
+      | types.Dec3Box ↦ (⟦<<Dec3 as DeclaredBox>::Shape as Shape>⟧.shape_laws, refl)
+      | types.DflaBox ↦ (⟦<<Dfla as DeclaredBox>::Shape as Shape>⟧.shape_laws, refl)
+      | types.DopsBox ↦ (⟦<<Dops as DeclaredBox>::Shape as Shape>⟧.shape_laws, refl)
+      | types.ElngBox ↦ (⟦<<Elng as DeclaredBox>::Shape as Shape>⟧.shape_laws, refl)
+      | types.FrmaBox ↦ (⟦<<Frma as DeclaredBox>::Shape as Shape>⟧.shape_laws, refl)
+      | types.KeysBox ↦ (⟦<<Keys as DeclaredBox>::Shape as Shape>⟧.shape_laws, refl)
+      | types.MdcvBox ↦ (⟦<<Mdcv as DeclaredBox>::Shape as Shape>⟧.shape_laws, refl)
+      | types.MfroBox ↦ (⟦<<Mfro as DeclaredBox>::Shape as Shape>⟧.shape_laws, refl)
+      | types.NmhdBox ↦ (⟦<<Nmhd as DeclaredBox>::Shape as Shape>⟧.shape_laws, refl)
+      | types.PaspBox ↦ (⟦<<Pasp as DeclaredBox>::Shape as Shape>⟧.shape_laws, refl)
+      | types.PrftBox ↦ (⟦<<Prft as DeclaredBox>::Shape as Shape>⟧.shape_laws, refl)
+      | types.PsshBox ↦ (⟦<<Pssh as DeclaredBox>::Shape as Shape>⟧.shape_laws, refl)
+      | types.SaioBox ↦ (⟦<<Saio as DeclaredBox>::Shape as Shape>⟧.shape_laws, refl)
+      | types.SaizBox ↦ (⟦<<Saiz as DeclaredBox>::Shape as Shape>⟧.shape_laws, refl)
+      | types.SbgpBox ↦ (⟦<<Sbgp as DeclaredBox>::Shape as Shape>⟧.shape_laws, refl)
+      | types.SchmBox ↦ (⟦<<Schm as DeclaredBox>::Shape as Shape>⟧.shape_laws, refl)
+      | types.SdtpBox ↦ (⟦<<Sdtp as DeclaredBox>::Shape as Shape>⟧.shape_laws, refl)
+      | types.SencBox ↦ (⟦<<Senc as DeclaredBox>::Shape as Shape>⟧.shape_laws, refl)
+      | types.SgpdBox ↦ (⟦<<Sgpd as DeclaredBox>::Shape as Shape>⟧.shape_laws, refl)
+      | types.SidxBox ↦ (⟦<<Sidx as DeclaredBox>::Shape as Shape>⟧.shape_laws, refl)
+      | types.StypBox ↦ (⟦<<Styp as DeclaredBox>::Shape as Shape>⟧.shape_laws, refl)
+      | types.Stz2Box ↦ (⟦<<Stz2 as DeclaredBox>::Shape as Shape>⟧.shape_laws, refl)
+      | types.SubsBox ↦ (⟦<<Subs as DeclaredBox>::Shape as Shape>⟧.shape_laws, refl)
+      | types.TencBox ↦ (⟦<<Tenc as DeclaredBox>::Shape as Shape>⟧.shape_laws, refl)
+      | types.TfraBox ↦ (⟦<<Tfra as DeclaredBox>::Shape as Shape>⟧.shape_laws, refl)
+      | types.TrefBox ↦ (⟦<<Tref as DeclaredBox>::Shape as Shape>⟧.shape_laws, refl)
+    ]) };
+
+    fn holds(name: BoxType) -> bool {
+        MoreType::of_code(u32::from(name)).is_some()
+    }
+
+    fn read(alloc: Global, name: BoxType, reader: &mut ByteCursor, size: u64) -> Result<Self> {
+        match MoreType::of_code(u32::from(name)) {
+            Some(of) => read_of(of, alloc, reader, size),
+            None => unreachable!(),
+        }
+    }
+
+    fn ask<Q: Question>(&self, out: &mut [u8]) -> Q::Answer {
+        of_boxes!(each, self, b => Q::ask(b, out))
+    }
+
+    ghost named = { named ⟦<MoreBox as Declares>⟧.declared };
+}
+
+/// The code alone tells which type a box has.
+impl CodedEnum for MoreBox {
+    ghost coded = { by_code ⟦<MoreBox as Declares>⟧.declared };
+}

@@ -1,0 +1,205 @@
+//! The sample auxiliary information offsets box.
+
+ghost use Rattle.mp4_more.specs.declared.saio.TheConstants.{SAIO};
+ghost use Rattle.std.proofs.Common.{refl, lit<};
+ghost use Rattle.std.specs.Prelude.{[], ◌∷◌};
+ghost use Rattle.mp4_stream.specs.Author.{layout_of, packed, unsigned};
+ghost use Rattle.mp4_more.specs.ByVersion.{by_version_shape};
+ghost use Rattle.mp4_more.specs.ByVersionLaws.{by_version_laws};
+
+use crate::code::Code;
+use mp4_stream::author::{
+    About, Context, Declared, DeclaredBox, EntryLayout, Full, If, IfFlags, Last, List, PutShape,
+    Shape, U32,
+};
+use mp4_stream::{Entries, FourCC, Result, TryClone, box_of, entry_of, numbers_of, parts_of};
+use std::alloc::Global;
+
+/// The code: `saio`.
+pub const SAIO: u32 = 0x7361_696f;
+
+/// Where some information begins.
+#[derive(Clone, Copy, Debug, Default, PartialEq, Eq)]
+pub struct SaioOffset {
+    /// From the front of the file, or in a fragment from where its data begins. 32 bits in version 0.
+    pub offset: u64,
+}
+
+impl EntryLayout<1, 4> for SaioOffset {
+    ghost use Rattle.mp4_more.specs.contracts.saio.SaioOffset.{struct};
+
+    ghost layout = { packed (unsigned 32 ∷ []) struct.as_values
+        (λ v. struct.make v tt) (λ _. refl) (λ _. refl) refl };
+
+    fn widths() -> [u8; 1] {
+        [32]
+    }
+
+    fn numbers(&self) -> [u64; 1] {
+        numbers_of!(self => offset)
+    }
+
+    fn from_numbers(n: &[u64; 1]) -> SaioOffset {
+        entry_of!(n => SaioOffset { offset: u64 })
+    }
+
+    ghost few = { lit< tt };
+}
+
+impl EntryLayout<1, 8> for SaioOffset {
+    ghost use Rattle.mp4_more.specs.contracts.saio.SaioOffset.{struct};
+
+    ghost layout = { packed (unsigned 64 ∷ []) struct.as_values
+        (λ v. struct.make v tt) (λ _. refl) (λ _. refl) refl };
+
+    fn widths() -> [u8; 1] {
+        [64]
+    }
+
+    fn numbers(&self) -> [u64; 1] {
+        numbers_of!(self => offset)
+    }
+
+    fn from_numbers(n: &[u64; 1]) -> SaioOffset {
+        entry_of!(n => SaioOffset { offset: u64 })
+    }
+
+    ghost few = { lit< tt };
+}
+
+/// The offsets in version 0.
+type Short = List<U32, SaioOffset, 1, 4>;
+
+/// The offsets in version 1.
+type Long = List<U32, SaioOffset, 1, 8>;
+
+/// A count of 32 bits, and that many offsets, of 32 bits in version 0 and of 64 in version 1.
+pub struct SaioOffsets;
+
+impl Shape for SaioOffsets {
+    type Value = Entries<SaioOffset>;
+
+    ghost shape = { by_version_shape ⟦<Short as Shape>⟧.shape ⟦<Long as Shape>⟧.shape };
+
+    ghost shape_laws = { by_version_laws ⟦<Short as Shape>⟧.shape ⟦<Long as Shape>⟧.shape
+        ⟦<Short as Shape>⟧.shape_laws ⟦<Long as Shape>⟧.shape_laws };
+
+    #[inline]
+    fn is_fixed() -> bool {
+        false
+    }
+
+    #[inline]
+    fn front(context: Context) -> usize {
+        if context.version == 0 {
+            Short::front(context)
+        } else {
+            Long::front(context)
+        }
+    }
+
+    #[inline]
+    fn read(
+        alloc: Global,
+        bytes: &[u8],
+        at: usize,
+        end: u64,
+        context: Context,
+    ) -> Result<(Entries<SaioOffset>, usize)> {
+        if context.version == 0 {
+            Short::read(alloc, bytes, at, end, context)
+        } else {
+            Long::read(alloc, bytes, at, end, context)
+        }
+    }
+}
+
+impl<'a> PutShape<&'a [SaioOffset]> for SaioOffsets {
+    ghost content = { λ offsets. offsets.now };
+
+    #[inline]
+    fn size(context: Context, offsets: &'a [SaioOffset]) -> u64 {
+        if context.version == 0 {
+            Short::size(context, offsets)
+        } else {
+            Long::size(context, offsets)
+        }
+    }
+
+    #[inline]
+    fn fits(context: Context, offsets: &'a [SaioOffset]) -> bool {
+        if context.version == 0 {
+            Short::fits(context, offsets)
+        } else {
+            Long::fits(context, offsets)
+        }
+    }
+
+    #[inline]
+    fn put(out: &mut [u8], at: usize, context: Context, offsets: &'a [SaioOffset]) -> usize {
+        if context.version == 0 {
+            Short::put(out, at, context, offsets)
+        } else {
+            Long::put(out, at, context, offsets)
+        }
+    }
+}
+
+/// Where the information beside the samples is (`saio`, ISO/IEC 14496-12, 8.7.9). A `saiz` says how long it is.
+#[derive(Debug, Drop, PartialEq, Eq)]
+pub struct Saio {
+    /// 0, or 1 for offsets of 64 bits.
+    pub version: u8,
+    /// 24 bits. Flag 1 says that there are `aux_info_type` and `aux_info_type_parameter`.
+    pub flags: u32,
+    /// What the information is for, as in the `saiz`. `None` unless flag 1 is set.
+    pub aux_info_type: Option<FourCC>,
+    /// Which of several of this type it is, as the type defines. `None` unless flag 1 is set.
+    pub aux_info_type_parameter: Option<u32>,
+    /// Where the information of each chunk, or of each run of a fragment, begins; one alone if all follows one another.
+    pub offsets: Entries<SaioOffset>,
+}
+
+/// What the box holds: version, flags, a code and a number if flag 1 is set, and a count of 32 bits and that many
+/// offsets, which are longer in version 1.
+pub type SaioShape = Full<
+    2,
+    (
+        If<IfFlags<1>, Code>,
+        (If<IfFlags<1>, U32>, Last<SaioOffsets>),
+    ),
+>;
+
+impl DeclaredBox for Saio {
+    ghost use Rattle.mp4_more.specs.contracts.saio.Saio.{struct};
+
+    type Shape = SaioShape;
+
+    ghost CODE = { SAIO };
+
+    ghost layout = { layout_of struct (λ _. tt) (λ _. refl) (lit< tt) refl };
+
+    const CODE: u32 = SAIO;
+
+    fn from_content(found: <SaioShape as Shape>::Value) -> Saio {
+        box_of!(found => Saio { version, flags, aux_info_type, aux_info_type_parameter, offsets })
+    }
+
+    fn ask<Q: About<Self::Shape>>(&self, out: &mut [u8]) -> Q::Answer {
+        let parts = parts_of!(self => version, flags, aux_info_type, aux_info_type_parameter,
+            offsets.as_slice());
+        Q::ask(parts, out)
+    }
+
+    ghost valid = { refl };
+}
+
+impl TryClone for Saio {
+    fn try_clone(&self) -> Result<Saio> {
+        let offsets = self.offsets.try_clone()?;
+        Ok(Saio { offsets, ..*self })
+    }
+}
+
+/// The sample auxiliary information offsets box.
+pub type SaioBox = Declared<Saio>;

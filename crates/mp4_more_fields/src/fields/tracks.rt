@@ -1,0 +1,111 @@
+//! The fields of what is said of a track, of its media and of its metadata.
+
+ghost use Rattle.std.specs.Prelude.{OnOk};
+ghost use Rattle.mp4_fields.specs.Nesting.{fields, entries, Keeps};
+
+use crate::flag_names::NONE;
+use crate::pieces::{HEAD, code_at, count_numbers, count_pieces, held_at, next_after};
+use crate::put::{number_in, put_entry, put_string};
+use mp4_fields::{FieldSink, Value, put_all, put_full};
+use mp4_more::{Btrt, Elng, Keys, Nmhd, Tref};
+use mp4_stream::Result;
+
+/// The bit rates of media (ISO/IEC 14496-12, 8.5.2.2).
+pub fn put_btrt<S: FieldSink>(b: &Btrt, sink: &mut S) -> Result<()>
+    ensures nesting { OnOk result (Keeps S.since fields sink.old sink.new) }
+{
+    let row = [
+        ("bufferSizeDB", Value::Number(u64::from(b.buffer_size_db))),
+        ("maxBitrate", Value::Number(u64::from(b.max_bitrate))),
+        ("avgBitrate", Value::Number(u64::from(b.avg_bitrate))),
+    ];
+    put_all(&row, sink)
+}
+
+/// The language of media (ISO/IEC 14496-12, 8.4.6).
+pub fn put_elng<S: FieldSink>(b: &Elng, sink: &mut S) -> Result<()>
+    ensures nesting { OnOk result (Keeps S.since fields sink.old sink.new) }
+{
+    put_full(b.version, b.flags, NONE, sink)?;
+    put_string("extended_language", b.extended_language.as_slice(), sink)
+}
+
+/// Hands the key at an offset to a sink: where it is defined, and its name.
+fn put_key<S: FieldSink>(bytes: &[u8], at: usize, sink: &mut S) -> Result<()>
+    ensures nesting { OnOk result (Keeps S.since entries sink.old sink.new) }
+{
+    sink.begin_entry()?;
+    sink.field("Key_namespace", Value::Code(code_at(bytes, at)))?;
+    put_string("Key_value", held_at(bytes, at), sink)?;
+    sink.end_entry()
+}
+
+/// Hands so many keys to a sink.
+fn put_key_list<S: FieldSink>(bytes: &[u8], count: usize, sink: &mut S) -> Result<()>
+    ensures nesting { OnOk result (Keeps S.since fields sink.old sink.new) }
+{
+    sink.begin_list("entries", count)?;
+    let mut at = 0usize;
+    for _ in 0..count.min(sink.rows()) {
+        put_key(bytes, at, sink)?;
+        at = next_after(bytes, at);
+    }
+    sink.end_list()
+}
+
+/// The keys of metadata (QuickTime File Format, "Metadata item keys atom"). They are shown as bytes if they
+/// aren't as many as the box says.
+pub fn put_keys<S: FieldSink>(b: &Keys, sink: &mut S) -> Result<()>
+    ensures nesting { OnOk result (Keeps S.since fields sink.old sink.new) }
+{
+    put_full(b.version, b.flags, NONE, sink)?;
+    sink.field("entry_count", Value::Number(u64::from(b.entry_count)))?;
+    let bytes = b.entries.as_slice();
+    match count_pieces(bytes) {
+        Some(count) if count as u64 == u64::from(b.entry_count) => {
+            put_key_list(bytes, count, sink)
+        }
+        _ => sink.field("data_bytes", Value::Bytes(bytes)),
+    }
+}
+
+/// The header of media that need no other (ISO/IEC 14496-12, 8.4.5.2).
+pub fn put_nmhd<S: FieldSink>(b: &Nmhd, sink: &mut S) -> Result<()>
+    ensures nesting { OnOk result (Keeps S.since fields sink.old sink.new) }
+{
+    put_full(b.version, b.flags, NONE, sink)
+}
+
+/// Hands so many references to a sink, one for each track.
+fn put_references<S: FieldSink>(bytes: &[u8], count: usize, sink: &mut S) -> Result<()>
+    ensures nesting { OnOk result (Keeps S.since fields sink.old sink.new) }
+{
+    sink.begin_list("references", count)?;
+    let mut piece = 0usize;
+    let mut at = HEAD;
+    for _ in 0..count.min(sink.rows()) {
+        let row = [
+            ("reference_type", Value::Code(code_at(bytes, piece))),
+            ("track_ID", Value::Number(number_in(bytes, at, 4))),
+        ];
+        put_entry(&row, sink)?;
+        at = at.saturating_add(4);
+        if at >= next_after(bytes, piece) {
+            piece = next_after(bytes, piece);
+            at = piece.saturating_add(HEAD);
+        }
+    }
+    sink.end_list()
+}
+
+/// Which other tracks a track refers to (ISO/IEC 14496-12, 8.3.3). They are shown as bytes if they aren't boxes of some
+/// track each.
+pub fn put_tref<S: FieldSink>(b: &Tref, sink: &mut S) -> Result<()>
+    ensures nesting { OnOk result (Keeps S.since fields sink.old sink.new) }
+{
+    let bytes = b.references.as_slice();
+    match count_numbers(bytes) {
+        Some(count) => put_references(bytes, count, sink),
+        None => sink.field("data_bytes", Value::Bytes(bytes)),
+    }
+}

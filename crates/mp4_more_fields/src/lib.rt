@@ -1,0 +1,12 @@
+//! The fields of the boxes of `mp4_more` by name, and of all boxes whose fields can be shown. Names are those of the
+//! standards, as they spell them.
+#![tactic(auto)]
+
+mod fields;
+mod flag_names;
+mod has_fields;
+mod pieces;
+mod put;
+
+pub use fields::put_more;
+pub use has_fields::HasFields;

@@ -1,0 +1,107 @@
+//! What is read of a box whose type is declared, and of the boxes of a stream as trees.
+
+ghost use Rattle.std.specs.Prelude.{◌≤◌};
+
+use crate::{push_record, show, show_written};
+use mp4_more::{BoxTree, MoreBox};
+use mp4_stream::{
+    BoxHeader, BoxType, ByteCursor, ReadBox, Result as Read, StreamBox, WriteBox, read_boxes_as,
+};
+use std::alloc::{AllocError, Global};
+use std::fmt::Debug;
+use test_more::{
+    NUMB, NumbersBox, OPTS, OptionsBox, RANG, RUNS, RangeBox, RunsBox, STRS, StringsBox,
+};
+
+/// Appends two records: what was read as a box, with the cursor's position, and what this box is written in.
+fn show_read<B: WriteBox + Debug>(
+    alloc: Global,
+    found: &Read<B>,
+    reader: &ByteCursor,
+    out: &mut Vec<u8>,
+) -> Result<(), AllocError> {
+    show(alloc, found, reader, out)?;
+    let Ok(value) = found else {
+        return push_record("", out);
+    };
+    let mut written = Vec::new(alloc);
+    let result = value.write_box(&mut written);
+    let text = format!(in alloc; "{result:?} {written:?}")?;
+    push_record(&text, out)
+}
+
+/// Appends them of a box of this type and size, whose content is at the cursor.
+fn show_as<B: ReadBox + WriteBox + Debug + Drop>(
+    alloc: Global,
+    size: u64,
+    reader: &mut ByteCursor,
+    out: &mut Vec<u8>,
+) -> Result<(), AllocError>
+    requires { 8 ≤ reader.old.position }
+{
+    let found = B::read_box(alloc, reader, size);
+    show_read(alloc, &found, reader, out)
+}
+
+/// Appends them of a box of this name and size, if `B` knows the name.
+fn show_named<B: StreamBox + Debug>(
+    alloc: Global,
+    name: BoxType,
+    size: u64,
+    reader: &mut ByteCursor,
+    out: &mut Vec<u8>,
+) -> Result<(), AllocError>
+    requires { 8 ≤ reader.old.position }
+{
+    if !B::knows(name) {
+        push_record("", out)?;
+        return push_record("", out);
+    }
+    let found = B::read_named(alloc, name, reader, size);
+    show_read(alloc, &found, reader, out)
+}
+
+/// Appends two records of the box whose header is at the cursor. They are empty if its type isn't declared in
+/// `mp4_more` or `test_more`.
+pub(crate) fn show_declared(
+    alloc: Global,
+    reader: &mut ByteCursor,
+    out: &mut Vec<u8>,
+) -> Result<(), AllocError> {
+    let Ok(BoxHeader { name, size }) = BoxHeader::read(reader) else {
+        push_record("", out)?;
+        return push_record("", out);
+    };
+    match name {
+        BoxType::UnknownBox(NUMB) => show_as::<NumbersBox>(alloc, size, reader, out),
+        BoxType::UnknownBox(OPTS) => show_as::<OptionsBox>(alloc, size, reader, out),
+        BoxType::UnknownBox(RANG) => show_as::<RangeBox>(alloc, size, reader, out),
+        BoxType::UnknownBox(RUNS) => show_as::<RunsBox>(alloc, size, reader, out),
+        BoxType::UnknownBox(STRS) => show_as::<StringsBox>(alloc, size, reader, out),
+        name => show_named::<MoreBox>(alloc, name, size, reader, out),
+    }
+}
+
+/// Appends a record: what the boxes from the cursor on are written in, once they are read as `B`, or why they aren't.
+fn show_again<B: StreamBox>(
+    alloc: Global,
+    reader: &mut ByteCursor,
+    out: &mut Vec<u8>,
+) -> Result<(), AllocError> {
+    match read_boxes_as::<B>(alloc, reader) {
+        Ok(boxes) => show_written(alloc, &boxes, out),
+        Err(error) => {
+            let text = format!(in alloc; "Err({error:?})")?;
+            push_record(&text, out)
+        }
+    }
+}
+
+/// Appends a record: what the boxes from the cursor on are written in, once they are read as trees, or why they aren't.
+pub(crate) fn show_trees(
+    alloc: Global,
+    reader: &mut ByteCursor,
+    out: &mut Vec<u8>,
+) -> Result<(), AllocError> {
+    show_again::<BoxTree>(alloc, reader, out)
+}

@@ -1,0 +1,9 @@
+"""`elng`, the language of a track, as a tag. The flags count up from 0x81."""
+
+from rows_of.making import Box, box, declared_as
+
+ELNG = box(b"elng", b"\0\x81\x82\x83en-US\0")
+
+
+def a_string():
+    yield from declared_as(ELNG, Box("elng", version=0, flags=0x818283, extended_language=list(b"en-US\0")))

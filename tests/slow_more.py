@@ -1,0 +1,339 @@
+"""The part of the slow reader for boxes beside those of the codec: their fields as mp4inspect shows them, under the
+names that the standards give them. It follows ISO/IEC 14496-12, 23001-7, ETSI TS 102 366, QuickTime's format, and the
+bindings of AV1, Opus and FLAC, in the sections that crates/mp4_more/CALLING.md names.
+"""
+
+from slow_fields import Fault, check
+
+
+class Hex(str):
+    """Bytes, as their hexadecimal digits."""
+
+
+class Code(str):
+    """A code, each byte as the character of its number."""
+
+
+def pieces(data):
+    """What follows one another, each with a size of 32 bits, which counts all, and a code: of each the code and what it
+    holds. None if these aren't whole."""
+    found = []
+    while data:
+        size = int.from_bytes(data[:4], "big")
+        if not 8 <= size <= len(data):
+            return None
+        found.append((Code(data[4:8].decode("latin-1")), data[8:size]))
+        data = data[size:]
+    return found
+
+
+class Content:
+    """What a box holds, read from its front on."""
+
+    def __init__(self, data):
+        self.data, self.at, self.fields = data, 0, {}
+
+    def take(self, length):
+        piece = self.data[self.at:self.at + length]
+        if len(piece) < length:
+            raise Fault("End")
+        self.at += length
+        return piece
+
+    def number(self, length, signed=False):
+        return int.from_bytes(self.take(length), "big", signed=signed)
+
+    def numbers(self, text):
+        """Fields one after the other: the bytes of each, with `i` before them if it is signed, and its name."""
+        for field in text.split(","):
+            length, name = field.split()
+            self.fields[name] = self.number(int(length.lstrip("i")), length[0] == "i")
+
+    def bits(self, text):
+        """Fields of so many bits each; `-` is not shown."""
+        widths = [(int(width), name) for width, name in map(str.split, text.split(","))]
+        left = sum(width for width, _ in widths)
+        value = self.number(left // 8)
+        for width, name in widths:
+            left -= width
+            if name != "-":
+                self.fields[name] = value >> left & 2**width - 1
+
+    def full(self, versions):
+        texts = {1: "version must be 0", 2: "version must be 0 or 1"}
+        self.numbers("1 version, 3 flags")
+        check(self.fields["version"] < versions, texts.get(versions, "version is too large"))
+        return self.fields["version"], self.fields["flags"]
+
+    def code(self, name):
+        self.fields[name] = Code(self.take(4).decode("latin-1"))
+        return self.fields[name]
+
+    def rest(self):
+        return self.take(len(self.data) - self.at)
+
+    def count(self, length, each, what="entries"):
+        """A count of so many bytes: what it counts has room in the box."""
+        found = self.number(length)
+        check(found * each <= len(self.data) - self.at, f"count indicates more {what} than could fit in the box")
+        return found
+
+    def bytes(self, name):
+        self.fields[name] = Hex(self.rest().hex())
+
+    def string(self, name):
+        data = self.rest()
+        try:
+            self.fields[name] = data.removesuffix(b"\0").decode("utf-8")
+        except UnicodeDecodeError:
+            self.fields[name] = Hex(data.hex())
+
+    def rows(self, name, count, text):
+        """A list of entries of fields, as `numbers` takes them."""
+        entries = []
+        for _ in range(count):
+            entry = Content(self.data)
+            entry.at = self.at
+            entry.numbers(text)
+            self.at = entry.at
+            entries.append(entry.fields)
+        self.fields[name] = entries
+
+
+def av1c(c):
+    c.bits("1 marker, 7 version, 3 seq_profile, 5 seq_level_idx_0, 1 seq_tier_0, 1 high_bitdepth, 1 twelve_bit,"
+           "1 monochrome, 1 chroma_subsampling_x, 1 chroma_subsampling_y, 2 chroma_sample_position, 3 -,"
+           "1 initial_presentation_delay_present, 4 initial_presentation_delay_minus_one")
+    if not c.fields["initial_presentation_delay_present"]:
+        del c.fields["initial_presentation_delay_minus_one"]
+    c.bytes("configOBUs")
+
+
+def colr(c):
+    kind = c.code("colour_type")
+    if kind == "nclx":
+        c.bits("16 colour_primaries, 16 transfer_characteristics, 16 matrix_coefficients, 1 full_range_flag, 7 -")
+    elif kind == "nclc" and len(c.data) == 10:
+        c.numbers("2 colour_primaries, 2 transfer_characteristics, 2 matrix_coefficients")
+    else:
+        c.bytes("ICC_profile" if kind in ("rICC", "prof") else "data_bytes")
+
+
+def dec3(c):
+    c.bits("13 data_rate, 3 num_ind_sub")
+    c.bytes("data_bytes")
+
+
+def dfla(c):
+    c.full(1)
+    c.bytes("data_bytes")
+
+
+def dops(c):
+    c.numbers("1 Version, 1 OutputChannelCount, 2 PreSkip, 4 InputSampleRate, i2 OutputGain, 1 ChannelMappingFamily")
+    c.fields["OutputGain"] /= 256
+    if len(c.data) >= c.at + 2:
+        c.numbers("1 StreamCount, 1 CoupledCount")
+        c.bytes("ChannelMapping")
+
+
+def elng(c):
+    c.full(1)
+    c.string("extended_language")
+
+
+def keys(c):
+    c.full(1)
+    c.numbers("4 entry_count")
+    found = pieces(c.data[c.at:])
+    if found is None or len(found) != c.fields["entry_count"]:
+        c.bytes("data_bytes")
+        return
+    c.fields["entries"] = []
+    for namespace, value in found:
+        key = Content(value)
+        key.fields["Key_namespace"] = namespace
+        key.string("Key_value")
+        c.fields["entries"].append(key.fields)
+
+
+def mdcv(c):
+    c.numbers(",".join(f"2 display_primaries_{axis}_{which}" for which in range(3) for axis in "xy"))
+    c.numbers("2 white_point_x, 2 white_point_y, 4 max_display_mastering_luminance, 4 min_display_mastering_luminance")
+
+
+def mfro(c):
+    c.full(1)
+    c.numbers("4 parent_size")
+
+
+def prft(c):
+    version, _ = c.full(2)
+    c.numbers(f"4 reference_track_ID, 8 ntp_timestamp, {8 if version else 4} media_time")
+
+
+def pssh(c):
+    version, _ = c.full(2)
+    c.fields["SystemID"] = Hex(c.take(16).hex())
+    if version:
+        c.fields["KID"] = [Hex(c.take(16).hex()) for _ in range(c.count(4, 16))]
+    c.fields["Data"] = Hex(c.take(c.count(4, 1, "bytes")).hex())
+
+
+def auxiliary(c, versions):
+    version, flags = c.full(versions)
+    if flags & 1:
+        c.code("aux_info_type")
+        c.numbers("4 aux_info_type_parameter")
+    return version
+
+
+def saio(c):
+    width = 8 if auxiliary(c, 2) else 4
+    c.fields["offset"] = [c.number(width) for _ in range(c.count(4, width))]
+
+
+def saiz(c):
+    auxiliary(c, 1)
+    c.numbers("1 default_sample_info_size, 4 sample_count")
+    if c.at < len(c.data):
+        c.fields["sample_info_size"] = list(c.rest())
+
+
+def sbgp(c):
+    version, _ = c.full(2)
+    c.code("grouping_type")
+    if version:
+        c.numbers("4 grouping_type_parameter")
+    c.rows("entries", c.count(4, 8), "4 sample_count, 4 group_description_index")
+
+
+def schm(c):
+    _, flags = c.full(1)
+    c.code("scheme_type")
+    c.numbers("4 scheme_version")
+    if flags & 1:
+        c.string("scheme_uri")
+
+
+def sdtp(c):
+    c.full(1)
+    names = ["is_leading", "sample_depends_on", "sample_is_depended_on", "sample_has_redundancy"]
+    c.fields["entries"] = [{name: byte >> 6 - 2 * n & 3 for n, name in enumerate(names)} for byte in c.rest()]
+
+
+def senc(c):
+    c.full(1)
+    c.numbers("4 sample_count")
+    c.bytes("data_bytes")
+
+
+def sgpd(c):
+    version, _ = c.full(3)
+    c.code("grouping_type")
+    if version >= 1:
+        c.numbers("4 default_length")
+    if version >= 2:
+        c.numbers("4 default_group_description_index")
+    c.numbers("4 entry_count")
+    c.bytes("data_bytes")
+
+
+def sidx(c):
+    version, _ = c.full(2)
+    width = 8 if version else 4
+    c.numbers(f"4 reference_ID, 4 timescale, {width} earliest_presentation_time, {width} first_offset")
+    c.take(2)
+    c.rows("references", c.count(2, 12), "4 size, 4 subsegment_duration, 4 sap")
+    c.fields["references"] = [
+        {"reference_type": entry["size"] >> 31, "referenced_size": entry["size"] & 2**31 - 1,
+         "subsegment_duration": entry["subsegment_duration"], "starts_with_SAP": entry["sap"] >> 31,
+         "SAP_type": entry["sap"] >> 28 & 7, "SAP_delta_time": entry["sap"] & 2**28 - 1}
+        for entry in c.fields["references"]]
+
+
+def styp(c):
+    c.code("major_brand")
+    c.numbers("4 minor_version")
+    check((len(c.data) - c.at) % 4 == 0, "entries do not fill the box")
+    c.fields["compatible_brands"] = [Code(c.take(4).decode("latin-1")) for _ in range((len(c.data) - c.at) // 4)]
+
+
+def stz2(c):
+    c.full(1)
+    c.take(3)
+    c.numbers("1 field_size, 4 sample_count")
+    bits, count = c.fields["field_size"], c.fields["sample_count"]
+    if bits in (4, 8, 16) and 2 * (len(c.data) - c.at) == (bits * count + 7) // 8 * 2:
+        whole = int.from_bytes(c.data[c.at:] + b"\0", "big")
+        left = 8 * (len(c.data) - c.at + 1)
+        c.fields["entry_size"] = [whole >> left - bits * (n + 1) & 2**bits - 1 for n in range(count)]
+    else:
+        c.bytes("data_bytes")
+
+
+def subs(c):
+    c.full(2)
+    c.numbers("4 entry_count")
+    c.bytes("data_bytes")
+
+
+def tenc(c):
+    version, _ = c.full(2)
+    c.take(1)
+    if version:
+        c.bits("4 default_crypt_byte_block, 4 default_skip_byte_block")
+    else:
+        c.take(1)
+    c.numbers("1 default_isProtected, 1 default_Per_Sample_IV_Size")
+    c.fields["default_KID"] = Hex(c.take(16).hex())
+    if c.at < len(c.data):
+        c.numbers("1 default_constant_IV_size")
+        c.bytes("default_constant_IV")
+
+
+def tfra(c):
+    version, _ = c.full(2)
+    c.numbers("4 track_ID")
+    names = ["length_size_of_traf_num", "length_size_of_trun_num", "length_size_of_sample_num"]
+    c.bits("26 -, " + ", ".join(f"2 {name}" for name in names))
+    c.numbers("4 number_of_entry")
+    time = 8 if version else 4
+    widths = [time, time] + [c.fields[name] + 1 for name in names]
+    if len(c.data) - c.at == sum(widths) * c.fields["number_of_entry"]:
+        entry = ["time", "moof_offset", "traf_number", "trun_number", "sample_number"]
+        c.rows("entries", c.fields["number_of_entry"],
+               ",".join(f"{width} {name}" for width, name in zip(widths, entry)))
+    else:
+        c.bytes("data_bytes")
+
+
+def tref(c):
+    found = pieces(c.data)
+    if found is None or any(len(tracks) % 4 or not tracks for _, tracks in found):
+        c.bytes("data_bytes")
+        return
+    c.fields["references"] = [{"reference_type": kind, "track_ID": int.from_bytes(tracks[at:at + 4], "big")}
+                              for kind, tracks in found for at in range(0, len(tracks), 4)]
+
+
+MORE = {
+    "av1C": av1c, "colr": colr, "dec3": dec3, "dfLa": dfla, "dOps": dops, "elng": elng, "keys": keys, "mdcv": mdcv,
+    "mfro": mfro, "prft": prft, "pssh": pssh, "saio": saio, "saiz": saiz, "sbgp": sbgp, "schm": schm, "sdtp": sdtp,
+    "senc": senc, "sgpd": sgpd, "sidx": sidx, "styp": styp, "stz2": stz2, "subs": subs, "tenc": tenc, "tfra": tfra,
+    "btrt": lambda c: c.numbers("4 bufferSizeDB, 4 maxBitrate, 4 avgBitrate"),
+    "clap": lambda c: c.numbers(
+        "4 cleanApertureWidthN, 4 cleanApertureWidthD, 4 cleanApertureHeightN, 4 cleanApertureHeightD, i4 horizOffN,"
+        "4 horizOffD, i4 vertOffN, 4 vertOffD"),
+    "clli": lambda c: c.numbers("2 max_content_light_level, 2 max_pic_average_light_level"),
+    "dac3": lambda c: c.bits("2 fscod, 5 bsid, 3 bsmod, 3 acmod, 1 lfeon, 5 bit_rate_code, 5 -"),
+    "frma": lambda c: c.code("data_format"), "nmhd": lambda c: c.full(1),
+    "pasp": lambda c: c.numbers("4 hSpacing, 4 vSpacing"), "tref": tref,
+}
+
+
+def more_fields(name, content):
+    """The fields of a box of this name, in the order of the box, or its fault."""
+    box = Content(content)
+    MORE[name](box)
+    return box.fields
