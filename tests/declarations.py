@@ -1,0 +1,243 @@
+"""What the boxes of mp4_more hold, in the words of the table of crates/mp4_more/CALLING.md, by their declarations: the
+shape of a box, the fields of its struct, and the widths of its entries."""
+
+import collections
+import os
+import re
+
+TOP = os.path.dirname(os.path.dirname(os.path.abspath(__file__)))
+CRATE = "crates/mp4_more"
+NUMBERS = {f"U{bits}": f"{bits // 8}" for bits in (8, 16, 24, 32, 64)}
+NUMBERS.update((f"I{bits}", f"{bits // 8}, signed") for bits in (8, 16, 32, 64))
+# Shapes without arguments that are one field.
+FIELDS = {
+    **NUMBERS, "Time": "t", "SignedTime": "t, signed", "Code": "code", "Codes": "to the end; each code",
+    "Rest": "to the end", "Terminated": "to a byte of 0",
+}
+VERSIONS = {1: "version 0", 2: "version 0 or 1", 3: "version 0 to 2"}
+ROW = re.compile(r"^`(.{4})` \| ([^|\n]+) \| ([^|\n]+)$", re.M)
+
+
+class Differs(Exception):
+    """What a table and a declaration say differently."""
+
+
+def read(path):
+    with open(os.path.join(TOP, path), encoding="utf-8") as file:
+        return file.read()
+
+
+def type_of(text):
+    """A type as its name and its arguments; a pair has the name of none."""
+    text = text.strip()
+    if text.startswith("("):
+        return "", [type_of(it) for it in apart(text[1:-1])]
+    name, _, inside = text.partition("<")
+    return name, [type_of(it) for it in apart(inside[:-1])] if inside else []
+
+
+def apart(text):
+    """The pieces between the commas that aren't inside of brackets. A comma may follow the last one."""
+    found, depth = [""], 0
+    for letter in text:
+        depth += (letter in "(<[{") - (letter in ")>]}")
+        if letter == "," and depth == 0:
+            found.append("")
+        else:
+            found[-1] += letter
+    return [it.strip() for it in found if it.strip()]
+
+
+class Declared:
+    """The declaration of one box, in its file."""
+
+    def __init__(self, path):
+        source = re.sub(r"\s+", " ", re.sub(r"^\s*//.*$", "", read(path), flags=re.M))
+        self.source = source
+        self.types = {name: type_of(text) for name, text in re.findall(r"\btype (\w+) = ([^;]*);", source)}
+        name, owner = re.search(r"impl DeclaredBox for (\w+) .*? type Shape = (\w+);", source).groups()
+        self.shape = self.types[owner]
+        self.fields = self.fields_of(name)
+        code = int(re.search(r"pub const \w+: u32 = (0x[\w]+);", source)[1].replace("_", ""), 16)
+        self.code = code.to_bytes(4, "big").decode("latin-1")
+        self.section = re.search(rf"/// .*?\(`{self.code}`, ([^)]*)\)", read(path))[1]
+
+    def is_of_section(self, section):
+        """Whether the struct names this section, of ISO/IEC 14496-12 unless the section names another source."""
+        source, _, number = section.rpartition(", ")
+        words = re.compile(r"[A-Z0-9][\w./-]*")
+        return {*words.findall(source or "ISO/IEC 14496-12")} <= {*words.findall(self.section)} and (
+            self.section.endswith(f", {number}") or not re.search(r"\d", number))
+
+    def fields_of(self, struct):
+        """The fields of a struct, in their order."""
+        found = re.search(rf"pub struct {struct} \{{(.*?)\}}", self.source)
+        return re.findall(r"pub (\w+):", found[1]) if found else []
+
+    def entry(self, struct, count, size):
+        """The fields of an entry, each with its width in bits, as its impls say: in code, and for the prover."""
+        impl = re.search(rf"impl EntryLayout<{count}, {size}> for {struct} \{{(.*?)(?= impl |$)", self.source)
+        if not impl:
+            raise Differs(f"{self.code}: {struct} has no EntryLayout<{count}, {size}>")
+        const = re.search(r"const WIDTHS: \[u8; \d+\] = \[([^]]*)\]", self.source)
+        widths = re.search(r"fn widths\(\) -> \[u8; \w+\] \{ (?:\[([^]]*)\]|WIDTHS) \}", impl[1])
+        widths = [int(it) for it in (widths[1] or const[1]).split(",") if it.strip()]
+        proved = re.search(r"packed \((?:fields_of (WIDTHS)|([^)]*))\)", impl[1])
+        if proved[1]:
+            others = [int(it) for it in const[1].split(",") if it.strip()]
+        else:
+            others = [1 if it == "flag" else int(it.split()[1]) for it in proved[2].split(" ∷ ")[:-1]]
+        names = re.search(r"numbers_of!\(self => ([^)]*)\)", impl[1])[1].replace(" ", "").split(",")
+        if not widths == others or not names == self.fields_of(struct) or len(names) != len(widths):
+            raise Differs(f"{self.code}: {struct} has {names} of {widths} bits, for the prover {others}")
+        if sum(widths) != 8 * int(size):
+            raise Differs(f"{self.code}: {struct} has {sum(widths)} bits in {size} bytes")
+        return f"{size}: " + ", ".join(f"{name} {width}" for name, width in zip(names, widths))
+
+    def parts(self):
+        """What the box holds, part by part, in the words of the table."""
+        fields = iter(self.fields)
+        found = list(self.parts_of(self.shape, fields))
+        left = list(fields)
+        if left:
+            raise Differs(f"{self.code}: the shape has no part for {left}")
+        return found
+
+    def parts_of(self, shape, fields):
+        name, inside = shape
+        if name in self.types:
+            yield from self.parts_of(self.types[name], fields)
+        elif name in ("", "Last"):
+            for part in inside:
+                yield from self.parts_of(part, fields)
+        elif name == "Full":
+            version, flags = next(fields, None), next(fields, None)
+            if (version, flags) != ("version", "flags"):
+                raise Differs(f"{self.code}: version and flags are {version} and {flags}")
+            yield VERSIONS[int(inside[0][0])]
+            yield "flags"
+            yield from self.parts_of(inside[1], fields)
+        elif name == "Reserved":
+            yield f"reserved ({inside[0][0]})"
+            yield from self.parts_of(inside[1], fields)
+        elif name == "Zeros":
+            if inside[0][0] != "0":
+                yield f"reserved ({inside[0][0]})"
+        else:
+            field = next(fields, None)
+            yield f"{field} ({self.held(shape)})"
+
+    def held(self, shape):
+        """What one field is."""
+        name, inside = shape
+        names = [it[0] for it in inside]
+        if name in self.types:
+            return self.held(self.types[name])
+        if name in FIELDS and not inside:
+            return FIELDS[name]
+        if name == "Array":
+            return f"{names[0]} bytes"
+        if name == "Bits":
+            return self.entry(*names)
+        if name == "List":
+            return f"count {NUMBERS[names[0]]}; each {self.entry(*names[1:])}"
+        if name == "ToEnd":
+            return f"to the end; each {self.entry(*names)}"
+        if name == "Rows":
+            return f"count {NUMBERS[names[0]]}; each {names[1]} bytes"
+        if name == "Bytes":
+            return f"count {NUMBERS[names[0]]}; each 1"
+        if name == "If":
+            return f"{self.held(inside[1])}; {self.condition(inside[0])}"
+        if name == "OrZeros":
+            return f"{self.held(inside[1])}; {self.condition(inside[0])}, else reserved ({names[2]})"
+        if name == "Typed":
+            tag = re.search(rf"impl Tag for {names[0]} .*? const TAG: u32 = (\w+);", self.source)[1]
+            return f"code; {tag.lower()}: {self.held(inside[1])}; else {self.held(inside[2])}"
+        shape_of = r"⟦<(\w+) as Shape>⟧.shape"
+        by_version = re.search(rf"impl Shape for {name} .*?by_version_shape {shape_of} {shape_of}", self.source)
+        if by_version and not inside:
+            return "; else ".join(self.held(self.types[it]) for it in by_version.groups())
+        raise Differs(f"{self.code}: no words for the shape {name}")
+
+    def condition(self, shape):
+        name, ((number, _),) = shape
+        return {"FromVersion": f"from version {number}", "IfFlags": f"flag {number}"}[name]
+
+
+def declarations():
+    """The declarations of all boxes of the crate."""
+    folder = os.path.join(TOP, CRATE, "src")
+    paths = [f"{CRATE}/src/{name}" for name in sorted(os.listdir(folder))]
+    return [Declared(path) for path in paths if "impl DeclaredBox for" in read(path)]
+
+
+def table():
+    """The rows of the table: by code, the section and the parts."""
+    return {code: (section, apart(parts)) for code, section, parts in ROW.findall(read(f"{CRATE}/CALLING.md"))}
+
+
+def different(box, section, said):
+    """How a row of the table differs from the declaration of a box; None if it doesn't."""
+    try:
+        parts = box.parts()
+    except Differs as fault:
+        return str(fault)
+    if not said:
+        return f"{box.code}: the table has no row of {', '.join(parts)}"
+    if not box.is_of_section(section):
+        return f"{box.code}: the table has {section}, and the struct {box.section}"
+    for at in range(max(len(parts), len(said))):
+        one, other = (it[at] if at < len(it) else "nothing" for it in (parts, said))
+        if one != other:
+            return f"{box.code}: declared is `{one}`, and the table has `{other}`"
+    return None
+
+
+def compare_declarations(show):
+    """Compares the table with the declarations. Returns how many parts were compared, and what differs."""
+    rows, boxes = table(), declarations()
+    found = [different(box, *rows.get(box.code, ("", []))) for box in boxes]
+    count = sum(len(rows[box.code][1]) for box, fault in zip(boxes, found) if not fault)
+    if show:
+        for box, fault in zip(boxes, found):
+            print("" if fault else "\n".join(f"{box.code}: {part}" for part in box.parts()))
+    extra = rows.keys() - {box.code for box in boxes}
+    return count, [fault for fault in found if fault] + [f"{code}: no box is declared" for code in extra]
+
+
+def planted(parts):
+    """Wrong rows: of each part, each way to be wrong, as its words and the parts."""
+    for at, part in enumerate(parts):
+        before, after = parts[:at], parts[at + 1:]
+        for number in re.finditer(r"\b\d+\b", part):
+            wider = f"{part[:number.start()]}{int(number[0]) + 1}{part[number.end():]}"
+            yield "width", [*before, wider, *after]
+        for name in re.finditer(r"\b[a-z]\w+\b", part):
+            yield "name", [*before, f"{part[:name.start()]}another{part[name.end():]}", *after]
+        inside = re.search(r"(\w+ \d+), (\w+ \d+)", part)
+        if inside and inside[1] != inside[2]:
+            yield "order", [*before, part.replace(inside[0], f"{inside[2]}, {inside[1]}"), *after]
+        if inside:
+            yield "missing", [*before, part.replace(inside[0], inside[2]), *after]
+            yield "extra", [*before, part.replace(inside[0], f"{inside[0]}, another 1"), *after]
+        if after and after[0] != part:
+            yield "order", [*before, after[0], part, *after[1:]]
+        yield "missing", before + after
+        yield "extra", [*before, part, "another (4)", *after]
+
+
+def try_planted():
+    """Plants each wrong row. Returns how many there are of each kind, and those that aren't told."""
+    rows, kinds, untold = table(), collections.Counter(), []
+    for box in declarations():
+        section, said = rows[box.code]
+        for kind, parts in planted(said):
+            kinds[kind] += 1
+            if different(box, section, parts) is None:
+                untold.append(f"{box.code}, {kind}: {', '.join(parts)}")
+        for other in (f"{section}.1", f"ISO/IEC 1, {section}"):
+            kinds["section"] += 1
+            if different(box, other, said) is None:
+                untold.append(f"{box.code}: {other}")
+    return kinds, untold
