@@ -2,8 +2,9 @@
 
 from functools import partial
 
-from shown import counted_of, outcome_of, written_of
-from slow_reader import Fault, read_box, read_boxes
+from shown import counted_of, outcome_of, plain_outcome_of, written_of
+from slow_more import Fields
+from slow_reader import Fault, read_box, read_boxes, read_more, short_boxes
 
 # What each text of the program says, and how it is read.
 LOOKED_AT = [
@@ -18,6 +19,11 @@ CALLS = {
     "box": (read_box, 0), "boxes": (read_boxes, 1),
     "kept box": (partial(read_box, keep=True), 3), "kept boxes": (partial(read_boxes, keep=True), 4),
 }
+# The same of the boxes of mp4_more.
+read_all_boxes = partial(read_boxes, keep=True, more=True)
+MORE_CALLS = {"declared box": (read_more, 6), "all boxes": (read_all_boxes, 10)}
+# Which text says what is written of boxes that were read as trees.
+TREES = 8
 
 
 def parsed(read, text):
@@ -42,9 +48,15 @@ def outcome_by_layout(read, buffer, position):
     return found.args if isinstance(found, Fault) else found, after
 
 
-def outcomes_by_layout(buffer, position):
+def outcomes_by_layout(buffer, position, calls=CALLS):
     """What the slow reader finds by each call."""
-    return {call: outcome_by_layout(read, buffer, position) for call, (read, _) in CALLS.items()}
+    return {call: outcome_by_layout(read, buffer, position) for call, (read, _) in calls.items()}
+
+
+def trees_by_layout(buffer, position):
+    """The bytes that the boxes from a position on are written in if they are read as trees, or the fault."""
+    found = short_boxes(buffer, position)
+    return found.args if isinstance(found, Fault) else found
 
 
 def otherwise(outcomes, texts):
@@ -59,3 +71,40 @@ def otherwise(outcomes, texts):
             again = outcome_by_layout(read, written, 0)[0] if isinstance(written, bytes) else written
             if again != expected[0]:
                 yield "written, " + call, texts[number + 1], expected
+
+
+def is_written_in(value, written):
+    """Whether boxes are written in these bytes: those of which the slow reader knows the bytes in these, and others in
+    bytes in which it reads the same."""
+    if not isinstance(written, bytes) or outcome_by_layout(read_all_boxes, written, 0)[0] != value:
+        return False
+    for _, box in value:
+        size = int.from_bytes(written[:4], "big")
+        if isinstance(box, Fields) and box.written != written[:size]:
+            return False
+        written = written[size:]
+    return True
+
+
+def more_otherwise(outcomes, buffer, position, texts):
+    """The same of the boxes of mp4_more; and where trees are written in other bytes than those that they were read
+    from, but for headers."""
+    for call, (value, after) in outcomes.items():
+        _, number = MORE_CALLS[call]
+        if call == "declared box" and (value is None or after == position):
+            # A box of another type, or a header with a fault.
+            found, expected = texts[number], ""
+        else:
+            found, expected = parsed(plain_outcome_of, texts[number]), (value, after)
+            boxes = value if isinstance(value, list) else [value]
+            if not is_fault(value) and not is_written_in(boxes, parsed(written_of, texts[number + 1])):
+                yield "written, " + call, texts[number + 1], expected
+        if found != expected:
+            yield call, texts[number], expected
+    expected = trees_by_layout(buffer, position)
+    if parsed(written_of, texts[TREES]) != expected:
+        yield "trees", texts[TREES], expected
+
+
+def is_fault(outcome):
+    return isinstance(outcome, tuple) and outcome[0] in ("End", "Invalid", "NotFound")

@@ -1,4 +1,5 @@
-"""Makes inputs for tests/differential: the worked bytes of the tests, cut, grown, swapped and with other numbers."""
+"""Makes inputs for tests/differential: the worked bytes of the tests, cut, grown, swapped and with other numbers.
+`Maker` makes them of the boxes of the codec, `MoreMaker` of those of mp4_more, in boxes that hold boxes too."""
 
 import glob
 import os
@@ -6,6 +7,7 @@ import random
 import re
 
 from rows_of import rows
+from slow_more import MORE
 from slow_reader import READERS
 
 TOP = os.path.dirname(os.path.dirname(os.path.abspath(__file__)))
@@ -16,13 +18,23 @@ ESCAPE = re.compile(rb"\\(?:x(..)|\n\s*|(.))", re.S)
 MOST = 200
 LETTERS = {b"0": b"\0", b"n": b"\n", b"r": b"\r", b"t": b"\t"}
 CODES = [name.encode() for name in READERS]
-HEADERS = re.compile(b"(?=....(" + b"|".join(CODES) + b"))", re.S)
+MORE_CODES = [name.encode() for name in MORE]
 WITH_VERSIONS = [b"mvhd", b"tkhd", b"mdhd", b"mehd", b"tfdt", b"elst", b"emsg"]
 ENTRIES = [b"avc1", b"hev1", b"vp09", b"mp4a", b"tx3g"]
 BYTES = [0, 1, 2, 3, 4, 5, 6, 0x1F, 0x7F, 0x80, 0x81, 0xC3, 0xE2, 0xF0, 0xFF]
 COUNTS = [0, 1, 2, 3, 4, 5, 2**16, 2**28, 2**29 + 1, 2**30, 2**30 + 1, 2**31 - 1, 2**31, 2**32 - 1]
 SIZES = [0, 1, 2, 7, 8, 9, 11, 12, 13, 14, 15, 16, 17, 20, 24, 32, 33, 34, 36, 37, 2**31, 2**32 - 1]
 LARGE_SIZES = SIZES + [0, 15, 16, 2**32, 2**63, 2**64 - 25, 2**64 - 17, 2**64 - 16, 2**64 - 9, 2**64 - 8, 2**64 - 1]
+# Boxes that hold boxes, with the bytes before the first one.
+PARENTS = [
+    (code.encode(), bytes(front))
+    for names, front in [
+        ("moov trak mdia minf stbl edts mvex moof traf mfra udta ilst dinf sinf schi wave iprp ipco", 0),
+        ("meta", 4), ("meta", 0), ("stsd dref", 8), ("avc1 hvc1 av01 encv", 78), ("mp4a Opus ac-3 enca", 28),
+    ]
+    for code in names.split()
+]
+PARENTS += [(b"mp4a", bytes(8) + b"\0\1" + bytes(34)), (b"enca", bytes(8) + b"\0\2" + bytes(54))]
 POSITIONS = [1, 8, 2**32 - 8, 2**32, 2**63, 2**64 - 16, 2**64 - 9, 2**64 - 8, 2**64 - 1]
 
 
@@ -53,6 +65,16 @@ def worked_bytes():
     return found
 
 
+def more_worked_bytes():
+    """The boxes of the rows that are read as one of mp4_more and written in the same bytes: of each type."""
+    found = [row.buffer for _, row in rows() if row.declared_written == row.buffer and len(row.buffer) <= MOST]
+    found = sorted({buffer for buffer in found if buffer[4:8] in MORE_CODES})
+    for code in MORE_CODES:
+        if not any(box[4:8] == code for box in found):
+            raise ValueError(f"there are no worked bytes of {code}")
+    return found
+
+
 VECTORS = worked_bytes()
 
 
@@ -60,8 +82,17 @@ def of_name(*names):
     return [box for box in VECTORS if box[4:8] in names]
 
 
-# Of some types there are many more than of others.
-OF_CODE = {code: of_name(code) for code in CODES}
+def headers_of(codes):
+    """What finds the headers of boxes of these codes."""
+    return re.compile(b"(?=....(" + b"|".join(codes) + b"))", re.S)
+
+
+def by_code(vectors):
+    """The worked bytes of each type, since of some there are many more than of others."""
+    found = {}
+    for box in vectors:
+        found.setdefault(box[4:8], []).append(box)
+    return found
 
 
 def box_of(code, content):
@@ -70,6 +101,9 @@ def box_of(code, content):
 
 class Maker:
     """Makes inputs one after the other. The same seed gives the same inputs."""
+
+    vectors, of_code = VECTORS, by_code(VECTORS)
+    codes, headers = CODES, headers_of(CODES)
 
     def __init__(self, seed):
         self.random = random.Random(seed)
@@ -85,7 +119,7 @@ class Maker:
 
     def some_code(self):
         unknown = self.choice([b"free", b"mdat", self.random.randbytes(4)])
-        return self.choice([self.choice(CODES), self.choice(CODES), unknown])
+        return self.choice([self.choice(self.codes), self.choice(self.codes), unknown])
 
     def descriptors(self, depth):
         """Some descriptors, most of the tags that are read at this depth, with lengths that may be wrong."""
@@ -150,11 +184,11 @@ class Maker:
         if len(box) < 16:
             return box + self.some_bytes()
         at, kind = self.below(len(box)), self.below(12)
-        header = self.choice([it.start() for it in HEADERS.finditer(box)] or [0])
+        header = self.choice([it.start() for it in self.headers.finditer(box)] or [0])
         if kind == 0:
             return box[:at]
         if kind == 1:
-            return box + self.choice([self.some_bytes(), self.choice(VECTORS)])
+            return box + self.choice([self.some_bytes(), self.choice(self.vectors)])
         if kind == 2:
             return box[:at] + self.some_bytes() + box[at:]
         if kind == 3:
@@ -182,7 +216,7 @@ class Maker:
         """One box, or several one after the other."""
         out = b""
         for _ in range(self.choice([1, 1, 1, 1, 1, 2, 3])):
-            box = self.choice(OF_CODE[self.choice(CODES)]) if self.below(5) else self.nested()
+            box = self.choice(self.of_code[self.choice(self.codes)]) if self.below(5) else self.nested()
             for _ in range(self.choice([0, 1, 1, 1, 2, 3])):
                 box = self.mutated(box)
             if self.below(4) and len(box) > 8 and box[:4] != b"\0\0\0\1":
@@ -198,3 +232,39 @@ class Maker:
         front = self.some_bytes()
         other = self.choice([self.below(len(buffer) + 9), self.choice(POSITIONS)])
         return self.choice([len(front), other]), front + buffer
+
+
+class MoreMaker(Maker):
+    """The same, of the boxes of mp4_more. Counts are where theirs are, and they are in boxes that hold boxes."""
+
+    vectors = more_worked_bytes()
+    of_code = by_code(vectors)
+    codes, headers = MORE_CODES, headers_of(CODES + MORE_CODES)
+
+    def nested(self, depth=0):
+        """A box that holds boxes, of the codec too, and others that do."""
+        code, front = self.choice(PARENTS)
+        boxes = []
+        for _ in range(self.choice([0, 1, 1, 2, 3])):
+            of_code = self.of_code if self.below(3) else Maker.of_code
+            box = self.choice(of_code[self.choice(list(of_code))])
+            if depth < 10 and self.below(2):
+                box = self.nested(depth + 1)
+            boxes.append(self.mutated(box) if self.below(5) == 0 else box)
+        front = self.choice([front, front, front, self.random.randbytes(len(front)), self.some_bytes()])
+        return box_of(code, front + b"".join(boxes))
+
+    def mutated(self, box):
+        """The box with one change, also of a count where only these boxes have one."""
+        if self.below(8) or len(box) < 32:
+            return super().mutated(box)
+        at = self.choice([14, 17, 24, 28, 30])  # of counts of 2 bytes, and the low ones of counts of 4
+        return box[:at] + self.choice([self.choice(COUNTS), self.below(8)]).to_bytes(4, "big")[-2:] + box[at + 2:]
+
+    def input(self):
+        """The same. A few boxes end at the largest number, or past it, for which they are not at the front."""
+        if self.below(100):
+            return super().input()
+        front, box = self.some_bytes(), self.choice(self.of_code[self.choice(self.codes)])
+        size = 2**64 - self.choice([0, 1, 2, self.below(2 * len(front))]) - self.choice([0, len(front)])
+        return len(front), front + b"\0\0\0\1" + box[4:8] + min(size, 2**64 - 1).to_bytes(8, "big") + box[8:]

@@ -6,6 +6,7 @@ import re
 import subprocess
 
 from inputs import TOP
+from slow_more import MORE
 
 WORD = re.compile(r"-?\w+")
 CODE = re.compile(r"(.{1,4}?) / 0x([0-9A-F]{8})", re.S)
@@ -18,7 +19,7 @@ CODES = {
     "major_brand", "compatible_brands", "handler_type", "data_format", "grouping_type", "scheme_type", "aux_info_type",
 }
 # How many texts are printed for an input.
-TEXTS = 10
+TEXTS = 12
 
 
 def names():
@@ -30,6 +31,7 @@ def names():
 
 
 NAMES = names()
+DECLARED = {name.lower() for name in MORE}
 
 
 class Printed:
@@ -136,6 +138,8 @@ def named(box):
     type of its own is named `other`."""
     if box is None:
         return None
+    if box[0] in ("Own", "Rest"):
+        box = box[1]
     if box[0] == "Other":
         return "other", box[1]
     name, fields = box[1] if isinstance(box[1], tuple) else box
@@ -145,6 +149,50 @@ def named(box):
 def fault_of(error):
     """The fault that an error says: its kind, and its text or the code of the missing child."""
     return ("End",) if error == "IoError" else (FAULTS[error[0]], error[1])
+
+
+def flat(value, path=""):
+    """The fields of a box, and those of the structs in them, with the whole way to them. None has a value, and the
+    number before a value of another type has its own name."""
+    if isinstance(value, tuple):
+        value = value[1] if value[0] == "Own" else {path + "_type": value[1], "data_bytes": value[2]}
+        path = ""
+    if isinstance(value, dict):
+        for name, inner in value.items():
+            yield from flat(inner, f"{path}.{name}" if path else name)
+    elif value is not None:
+        yield path, value
+
+
+def plain(fields):
+    """The fields of a declared box, in small letters: by their own names, or with those of the structs that they are in
+    where others have the same. A list of entries of one field is a list of these."""
+    found = list(flat(fields))
+    own = [path.split(".")[-1] for path, _ in found]
+    return {
+        (name if own.count(name) == 1 else path).replace("_", "").replace(".", ""): entries_of(value)
+        for name, (path, value) in zip(own, found)
+    }
+
+
+def entries_of(value):
+    if not isinstance(value, list) or not value or not isinstance(value[0], dict):
+        return value
+    if len(value[0]) == 1:
+        return [inner for entry in value for inner in entry.values()]
+    return [{name.replace("_", ""): inner for name, inner in entry.items()} for entry in value]
+
+
+def plain_outcome_of(text):
+    """What `outcome_of` finds, with the fields of declared boxes as `plain` has them."""
+    found, position = outcome_of(text)
+
+    def changed(box):
+        return (box[0], plain(box[1])) if box and box[0] in DECLARED else box
+
+    if isinstance(found, list):
+        return [changed(box) for box in found], position
+    return changed(found), position
 
 
 def outcome_of(text):

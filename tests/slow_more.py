@@ -1,6 +1,6 @@
 """The part of the slow reader for boxes beside those of the codec: their fields as mp4inspect shows them, under the
-names that the standards give them. It follows ISO/IEC 14496-12, 23001-7, ETSI TS 102 366, QuickTime's format, and the
-bindings of AV1, Opus and FLAC, in the sections that crates/mp4_more/CALLING.md names.
+names that the standards give them, and as the struct has them. It follows ISO/IEC 14496-12, 23001-7, ETSI TS 102 366,
+QuickTime's format, and the bindings of AV1, Opus and FLAC, in the sections that crates/mp4_more/CALLING.md names.
 """
 
 from slow_fields import Fault, check
@@ -28,17 +28,32 @@ def pieces(data):
 
 
 class Content:
-    """What a box holds, read from its front on."""
+    """What a box holds, read from its front on, and the bytes that it is written in: those that were read, with 0 for
+    reserved bytes. Fields are read where they are, also after the end of the box, and lists end with it.
 
-    def __init__(self, data):
-        self.data, self.at, self.fields = data, 0, {}
+    A field has the name that the standard gives it. As `raw`, fields are those of the struct: each number and each byte
+    as it is, under the name in brackets if it has one there."""
+
+    def __init__(self, data, end=None, raw=False):
+        self.data, self.at, self.raw = data, 0, raw
+        self.end = len(data) if end is None else end
+        self.fields, self.written = {}, b""
 
     def take(self, length):
         piece = self.data[self.at:self.at + length]
         if len(piece) < length:
             raise Fault("End")
         self.at += length
+        self.written += piece
         return piece
+
+    def reserved(self, length):
+        self.take(length)
+        self.written = self.written[:-length] + bytes(length)
+
+    def put(self, name, value):
+        name, _, in_struct = name.rstrip("]").partition(" [")
+        self.fields[in_struct if in_struct and self.raw else name] = value
 
     def number(self, length, signed=False):
         return int.from_bytes(self.take(length), "big", signed=signed)
@@ -46,8 +61,8 @@ class Content:
     def numbers(self, text):
         """Fields one after the other: the bytes of each, with `i` before them if it is signed, and its name."""
         for field in text.split(","):
-            length, name = field.split()
-            self.fields[name] = self.number(int(length.lstrip("i")), length[0] == "i")
+            length, name = field.split(maxsplit=1)
+            self.put(name.strip(), self.number(int(length.lstrip("i")), length[0] == "i"))
 
     def bits(self, text):
         """Fields of so many bits each; `-` is not shown."""
@@ -56,8 +71,8 @@ class Content:
         value = self.number(left // 8)
         for width, name in widths:
             left -= width
-            if name != "-":
-                self.fields[name] = value >> left & 2**width - 1
+            if name != "-" or self.raw:
+                self.put("reserved" if name == "-" else name, value >> left & 2**width - 1)
 
     def full(self, versions):
         texts = {1: "version must be 0", 2: "version must be 0 or 1"}
@@ -65,28 +80,48 @@ class Content:
         check(self.fields["version"] < versions, texts.get(versions, "version is too large"))
         return self.fields["version"], self.fields["flags"]
 
+    def as_code(self, piece):
+        return int.from_bytes(piece, "big") if self.raw else Code(piece.decode("latin-1"))
+
     def code(self, name):
-        self.fields[name] = Code(self.take(4).decode("latin-1"))
-        return self.fields[name]
+        piece = self.take(4)
+        self.put(name, self.as_code(piece))
+        return piece.decode("latin-1")
+
+    def room(self):
+        """How many bytes there are up to the end of the box."""
+        return max(self.end - self.at, 0)
 
     def rest(self):
-        return self.take(len(self.data) - self.at)
+        return self.take(self.room())
 
     def count(self, length, each, what="entries"):
         """A count of so many bytes: what it counts has room in the box."""
         found = self.number(length)
-        check(found * each <= len(self.data) - self.at, f"count indicates more {what} than could fit in the box")
+        check(found * each <= self.room(), f"count indicates more {what} than could fit in the box")
         return found
 
+    def as_bytes(self, piece):
+        return list(piece) if self.raw else Hex(piece.hex())
+
     def bytes(self, name):
-        self.fields[name] = Hex(self.rest().hex())
+        self.put(name, self.as_bytes(self.rest()))
+
+    def as_string(self, piece, end=b""):
+        """Bytes that are a string before this end, or not."""
+        try:
+            return list(piece) if self.raw else piece.removesuffix(end).decode("utf-8")
+        except UnicodeDecodeError:
+            return self.as_bytes(piece)
 
     def string(self, name):
-        data = self.rest()
-        try:
-            self.fields[name] = data.removesuffix(b"\0").decode("utf-8")
-        except UnicodeDecodeError:
-            self.fields[name] = Hex(data.hex())
+        self.put(name, self.as_string(self.rest(), b"\0"))
+
+    def terminated(self, name):
+        """A string that a byte of 0 ends, before the end of the box."""
+        length = (self.data.find(b"\0", self.at) + 1 or len(self.data) + 1) - self.at
+        check(length <= self.room(), "string has no end in the box")
+        self.put(name, self.as_string(self.take(length)[:-1]))
 
     def rows(self, name, count, text):
         """A list of entries of fields, as `numbers` takes them."""
@@ -96,15 +131,16 @@ class Content:
             entry.at = self.at
             entry.numbers(text)
             self.at = entry.at
+            self.written += entry.written
             entries.append(entry.fields)
-        self.fields[name] = entries
+        self.put(name, entries)
 
 
 def av1c(c):
     c.bits("1 marker, 7 version, 3 seq_profile, 5 seq_level_idx_0, 1 seq_tier_0, 1 high_bitdepth, 1 twelve_bit,"
            "1 monochrome, 1 chroma_subsampling_x, 1 chroma_subsampling_y, 2 chroma_sample_position, 3 -,"
            "1 initial_presentation_delay_present, 4 initial_presentation_delay_minus_one")
-    if not c.fields["initial_presentation_delay_present"]:
+    if not c.raw and not c.fields["initial_presentation_delay_present"]:
         del c.fields["initial_presentation_delay_minus_one"]
     c.bytes("configOBUs")
 
@@ -113,24 +149,29 @@ def colr(c):
     kind = c.code("colour_type")
     if kind == "nclx":
         c.bits("16 colour_primaries, 16 transfer_characteristics, 16 matrix_coefficients, 1 full_range_flag, 7 -")
-    elif kind == "nclc" and len(c.data) == 10:
+        if c.raw:
+            del c.fields["colour_type"]
+    elif kind == "nclc" and len(c.data) == 10 and not c.raw:
         c.numbers("2 colour_primaries, 2 transfer_characteristics, 2 matrix_coefficients")
     else:
-        c.bytes("ICC_profile" if kind in ("rICC", "prof") else "data_bytes")
+        c.bytes("ICC_profile [data_bytes]" if kind in ("rICC", "prof") else "data_bytes")
 
 
 def dec3(c):
     c.bits("13 data_rate, 3 num_ind_sub")
-    c.bytes("data_bytes")
+    c.bytes("data_bytes [substreams]")
 
 
 def dfla(c):
     c.full(1)
-    c.bytes("data_bytes")
+    c.bytes("data_bytes [metadata_blocks]")
 
 
 def dops(c):
     c.numbers("1 Version, 1 OutputChannelCount, 2 PreSkip, 4 InputSampleRate, i2 OutputGain, 1 ChannelMappingFamily")
+    if c.raw:
+        c.bytes("ChannelMapping")
+        return
     c.fields["OutputGain"] /= 256
     if len(c.data) >= c.at + 2:
         c.numbers("1 StreamCount, 1 CoupledCount")
@@ -146,8 +187,8 @@ def keys(c):
     c.full(1)
     c.numbers("4 entry_count")
     found = pieces(c.data[c.at:])
-    if found is None or len(found) != c.fields["entry_count"]:
-        c.bytes("data_bytes")
+    if c.raw or found is None or len(found) != c.fields["entry_count"]:
+        c.bytes("data_bytes [entries]")
         return
     c.fields["entries"] = []
     for namespace, value in found:
@@ -158,7 +199,8 @@ def keys(c):
 
 
 def mdcv(c):
-    c.numbers(",".join(f"2 display_primaries_{axis}_{which}" for which in range(3) for axis in "xy"))
+    for which in range(3):
+        c.numbers(",".join(f"2 display_primaries_{axis}_{which} [display_primaries_{which}_{axis}]" for axis in "xy"))
     c.numbers("2 white_point_x, 2 white_point_y, 4 max_display_mastering_luminance, 4 min_display_mastering_luminance")
 
 
@@ -174,10 +216,10 @@ def prft(c):
 
 def pssh(c):
     version, _ = c.full(2)
-    c.fields["SystemID"] = Hex(c.take(16).hex())
+    c.put("SystemID", c.as_bytes(c.take(16)))
     if version:
-        c.fields["KID"] = [Hex(c.take(16).hex()) for _ in range(c.count(4, 16))]
-    c.fields["Data"] = Hex(c.take(c.count(4, 1, "bytes")).hex())
+        c.put("KID [key_ids]", [c.as_bytes(c.take(16)) for _ in range(c.count(4, 16))])
+    c.put("Data [system_data]", c.as_bytes(c.take(c.count(4, 1, "bytes"))))
 
 
 def auxiliary(c, versions):
@@ -190,14 +232,14 @@ def auxiliary(c, versions):
 
 def saio(c):
     width = 8 if auxiliary(c, 2) else 4
-    c.fields["offset"] = [c.number(width) for _ in range(c.count(4, width))]
+    c.put("offset [offsets]", [c.number(width) for _ in range(c.count(4, width))])
 
 
 def saiz(c):
     auxiliary(c, 1)
     c.numbers("1 default_sample_info_size, 4 sample_count")
-    if c.at < len(c.data):
-        c.fields["sample_info_size"] = list(c.rest())
+    if c.raw or c.room():
+        c.put("sample_info_size [sample_info_sizes]", list(c.rest()))
 
 
 def sbgp(c):
@@ -225,7 +267,7 @@ def sdtp(c):
 def senc(c):
     c.full(1)
     c.numbers("4 sample_count")
-    c.bytes("data_bytes")
+    c.bytes("data_bytes [samples]")
 
 
 def sgpd(c):
@@ -236,58 +278,61 @@ def sgpd(c):
     if version >= 2:
         c.numbers("4 default_group_description_index")
     c.numbers("4 entry_count")
-    c.bytes("data_bytes")
+    c.bytes("data_bytes [entries]")
 
 
 def sidx(c):
     version, _ = c.full(2)
     width = 8 if version else 4
     c.numbers(f"4 reference_ID, 4 timescale, {width} earliest_presentation_time, {width} first_offset")
-    c.take(2)
+    c.reserved(2)
     c.rows("references", c.count(2, 12), "4 size, 4 subsegment_duration, 4 sap")
-    c.fields["references"] = [
+    c.put("references [entries]", [
         {"reference_type": entry["size"] >> 31, "referenced_size": entry["size"] & 2**31 - 1,
          "subsegment_duration": entry["subsegment_duration"], "starts_with_SAP": entry["sap"] >> 31,
          "SAP_type": entry["sap"] >> 28 & 7, "SAP_delta_time": entry["sap"] & 2**28 - 1}
-        for entry in c.fields["references"]]
+        for entry in c.fields.pop("references")])
 
 
 def styp(c):
     c.code("major_brand")
     c.numbers("4 minor_version")
-    check((len(c.data) - c.at) % 4 == 0, "entries do not fill the box")
-    c.fields["compatible_brands"] = [Code(c.take(4).decode("latin-1")) for _ in range((len(c.data) - c.at) // 4)]
+    check(c.room() % 4 == 0, "entries do not fill the box")
+    brands = c.rest()
+    c.fields["compatible_brands"] = [c.as_code(brands[at:at + 4]) for at in range(0, len(brands), 4)]
 
 
 def stz2(c):
     c.full(1)
-    c.take(3)
+    c.reserved(3)
     c.numbers("1 field_size, 4 sample_count")
     bits, count = c.fields["field_size"], c.fields["sample_count"]
-    if bits in (4, 8, 16) and 2 * (len(c.data) - c.at) == (bits * count + 7) // 8 * 2:
+    if not c.raw and bits in (4, 8, 16) and 2 * (len(c.data) - c.at) == (bits * count + 7) // 8 * 2:
         whole = int.from_bytes(c.data[c.at:] + b"\0", "big")
         left = 8 * (len(c.data) - c.at + 1)
         c.fields["entry_size"] = [whole >> left - bits * (n + 1) & 2**bits - 1 for n in range(count)]
     else:
-        c.bytes("data_bytes")
+        c.bytes("data_bytes [entry_sizes]")
 
 
 def subs(c):
     c.full(2)
     c.numbers("4 entry_count")
-    c.bytes("data_bytes")
+    c.bytes("data_bytes [entries]")
 
 
 def tenc(c):
     version, _ = c.full(2)
-    c.take(1)
+    c.reserved(1)
     if version:
         c.bits("4 default_crypt_byte_block, 4 default_skip_byte_block")
     else:
-        c.take(1)
+        c.reserved(1)
     c.numbers("1 default_isProtected, 1 default_Per_Sample_IV_Size")
-    c.fields["default_KID"] = Hex(c.take(16).hex())
-    if c.at < len(c.data):
+    c.put("default_KID", c.as_bytes(c.take(16)))
+    if c.raw:
+        c.bytes("default_constant_IV")
+    elif c.room():
         c.numbers("1 default_constant_IV_size")
         c.bytes("default_constant_IV")
 
@@ -300,18 +345,18 @@ def tfra(c):
     c.numbers("4 number_of_entry")
     time = 8 if version else 4
     widths = [time, time] + [c.fields[name] + 1 for name in names]
-    if len(c.data) - c.at == sum(widths) * c.fields["number_of_entry"]:
+    if not c.raw and len(c.data) - c.at == sum(widths) * c.fields["number_of_entry"]:
         entry = ["time", "moof_offset", "traf_number", "trun_number", "sample_number"]
         c.rows("entries", c.fields["number_of_entry"],
                ",".join(f"{width} {name}" for width, name in zip(widths, entry)))
     else:
-        c.bytes("data_bytes")
+        c.bytes("data_bytes [entries]")
 
 
 def tref(c):
-    found = pieces(c.data)
+    found = None if c.raw else pieces(c.data)
     if found is None or any(len(tracks) % 4 or not tracks for _, tracks in found):
-        c.bytes("data_bytes")
+        c.bytes("data_bytes [references]")
         return
     c.fields["references"] = [{"reference_type": kind, "track_ID": int.from_bytes(tracks[at:at + 4], "big")}
                               for kind, tracks in found for at in range(0, len(tracks), 4)]
@@ -337,3 +382,25 @@ def more_fields(name, content):
     box = Content(content)
     MORE[name](box)
     return box.fields
+
+
+class Fields(dict):
+    """The fields of a box by the names of the struct, and the bytes that the box is written in."""
+
+    def __init__(self, name, box):
+        super().__init__((field.replace("_", "").lower(), plain(value)) for field, value in box.fields.items())
+        self.written = (8 + len(box.written)).to_bytes(4, "big") + name.encode("latin-1") + box.written
+
+
+def plain(value):
+    """A value without what differs in the names: lists of fields with their names in small letters."""
+    if isinstance(value, list) and value and isinstance(value[0], dict):
+        return [{field.replace("_", "").lower(): inner for field, inner in entry.items()} for entry in value]
+    return value
+
+
+def more_box(name, content, size):
+    """The box of this name whose content is at the front of these bytes, and its size without the header."""
+    box = Content(content, size, raw=True)
+    MORE[name](box)
+    return Fields(name, box)

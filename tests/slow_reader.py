@@ -2,13 +2,15 @@
 
 A box is a dictionary of its fields, under the names of the struct. Codes and fixed-point numbers are raw numbers, a
 missing option is None, and a value of an enum is its name. `read_box` reads one box, and `read_boxes` a list of boxes,
-of which boxes of other types are kept or skipped.
+of which boxes of other types are kept or skipped. With `more`, the boxes of slow_more.py are read as well; and
+`short_boxes` leaves boxes as they are.
 """
 
 from functools import lru_cache, partial
 
 from slow_fields import FIXED, FULL, TABLES, Fault, Header, Row, check, counted, fixed, ftyp, read_fields, stsz, table
 from slow_fields import tfhd, trun
+from slow_more import MORE, more_box
 
 SAMPLE_ENTRIES = ["avc1", "hev1", "vp09", "mp4a", "tx3g"]
 DATA_TYPES = {0: "Binary", 1: "Text", 13: "Image", 21: "TempoCpil"}
@@ -268,12 +270,14 @@ def other(row, code):
 
 
 @lru_cache(64)
-def outcome(buffer, name, start, size):
+def outcome(buffer, name, start, size, more=False):
     """The box of this header, or its first fault. The same box is read alone and in a list, so it is kept a while."""
     try:
         row = Row(buffer, start, size)
         if name in READERS:
             return name, READERS[name](row)
+        if more and name in MORE:
+            return name.lower(), more_box(name, buffer[start + 8:], size - 8)
         return "other", other(row, int.from_bytes(name.encode("latin-1"), "big"))
     except Fault as fault:
         return fault
@@ -282,39 +286,65 @@ def outcome(buffer, name, start, size):
 def read_box(buffer, position, keep=False):
     """Reads the box whose header is at a position. Returns a pair of its name and value, or the first fault; None if
     its name has no table and other boxes aren't kept; and the position of the cursor after it."""
+    return read_named(buffer, position, READERS, keep)
+
+
+def read_more(buffer, position):
+    """The same of a box of `MORE`."""
+    return read_named(buffer, position, MORE, False)
+
+
+def read_named(buffer, position, names, keep):
+    """The same of a box of one of these names."""
     try:
         header = Header(buffer, position)
     except Fault as fault:
         return fault, position
-    if header.name not in READERS and not keep:
+    if header.name not in names and not keep:
         return None, header.start + 8
-    found = outcome(buffer, header.name, header.start, header.size)
+    found = outcome(buffer, header.name, header.start, header.size, names is MORE)
     if isinstance(found, Fault):
         return found, header.start + 8
     size = 36 if header.name == "mp4a" and header.size < 36 else header.size
     return found, header.start + size
 
 
-def read_boxes(buffer, position, keep=False):
+def headers(buffer, position):
+    """The headers of the boxes from a position on, each with the size of its box, or the fault that ends them."""
+    while position < len(buffer):
+        header = Header(buffer, position)
+        if header.size == 0:
+            header.size = len(buffer) - header.start
+        else:
+            check(header.size >= 8, "box size too small")
+            check(header.start + header.size <= 2**64 - 1, "box end past 64 bits")
+            if header.start + header.size > len(buffer):
+                raise Fault("End")
+        yield header
+        position = header.start + header.size
+
+
+def read_boxes(buffer, position, keep=False, more=False):
     """Reads the boxes from a position on. Returns the list of their names and values, or the first fault; and the
     position of the cursor after it. Boxes whose name has no table are kept or skipped."""
-    boxes, at = [], position
+    boxes = []
     try:
-        while at < len(buffer):
-            header = Header(buffer, at)
-            if header.size == 0:
-                header.size = len(buffer) - header.start
-            else:
-                check(header.size >= 8, "box size too small")
-                check(header.start + header.size <= 2**64 - 1, "box end past 64 bits")
-                if header.start + header.size > len(buffer):
-                    raise Fault("End")
+        for header in headers(buffer, position):
             if header.name in READERS or keep:
-                found = outcome(buffer, header.name, header.start, header.size)
+                found = outcome(buffer, header.name, header.start, header.size, more)
                 if isinstance(found, Fault):
                     raise found
                 boxes.append(found)
-            at = header.start + header.size
     except Fault as fault:
         return fault, position
-    return boxes, at
+    return boxes, max(position, len(buffer))
+
+
+def short_boxes(buffer, position):
+    """The bytes of the boxes from a position on, each with a header of 8 bytes, or the first fault."""
+    try:
+        return b"".join(
+            header.size.to_bytes(4, "big") + header.code + buffer[header.start + 8:header.start + header.size]
+            for header in headers(buffer, position))
+    except Fault as fault:
+        return fault
