@@ -91,7 +91,7 @@ def more_otherwise(outcomes, buffer, position, texts):
     from, but for headers."""
     for call, (value, after) in outcomes.items():
         _, number = MORE_CALLS[call]
-        if call == "declared box" and (value is None or after == position):
+        if call == "declared box" and (value is None or is_fault(value) and after == position):
             # A box of another type, or a header with a fault.
             found, expected = texts[number], ""
         else:

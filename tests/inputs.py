@@ -148,6 +148,10 @@ class Maker:
         bits = self.random.getrandbits(16) | self.choice([0, 0xF800, 0x0780, 0xF81E])
         return bits.to_bytes(2, "big") + self.random.randbytes(self.choice([0, 1, 3, 4, 5]))
 
+    def worked(self, maker):
+        """The worked bytes of a box, of any of the types of a maker."""
+        return self.choice(maker.of_code[self.choice(maker.codes)])
+
     def nested(self):
         """A box with children or descriptors of several kinds."""
         kind = self.below(4)
@@ -216,7 +220,7 @@ class Maker:
         """One box, or several one after the other."""
         out = b""
         for _ in range(self.choice([1, 1, 1, 1, 1, 2, 3])):
-            box = self.choice(self.of_code[self.choice(self.codes)]) if self.below(5) else self.nested()
+            box = self.worked(self) if self.below(5) else self.nested()
             for _ in range(self.choice([0, 1, 1, 1, 2, 3])):
                 box = self.mutated(box)
             if self.below(4) and len(box) > 8 and box[:4] != b"\0\0\0\1":
@@ -242,12 +246,13 @@ class MoreMaker(Maker):
     codes, headers = MORE_CODES, headers_of(CODES + MORE_CODES)
 
     def nested(self, depth=0):
-        """A box that holds boxes, of the codec too, and others that do."""
+        """A box that holds boxes, of the codec too, and others that do; or a box of the codec."""
+        if depth == 0 and self.below(2):
+            return self.worked(Maker)
         code, front = self.choice(PARENTS)
         boxes = []
         for _ in range(self.choice([0, 1, 1, 2, 3])):
-            of_code = self.of_code if self.below(3) else Maker.of_code
-            box = self.choice(of_code[self.choice(list(of_code))])
+            box = self.worked(self if self.below(3) else Maker)
             if depth < 10 and self.below(2):
                 box = self.nested(depth + 1)
             boxes.append(self.mutated(box) if self.below(5) == 0 else box)
@@ -265,6 +270,6 @@ class MoreMaker(Maker):
         """The same. A few boxes end at the largest number, or past it, for which they are not at the front."""
         if self.below(100):
             return super().input()
-        front, box = self.some_bytes(), self.choice(self.of_code[self.choice(self.codes)])
+        front, box = self.some_bytes(), self.worked(self)
         size = 2**64 - self.choice([0, 1, 2, self.below(2 * len(front))]) - self.choice([0, len(front)])
         return len(front), front + b"\0\0\0\1" + box[4:8] + min(size, 2**64 - 1).to_bytes(8, "big") + box[8:]
