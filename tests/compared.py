@@ -2,9 +2,10 @@
 
 from functools import partial
 
-from shown import counted_of, outcome_of, plain_outcome_of, written_of
+from shown import counted_of, outcome_of, plain_outcome_of, trees_of, written_of
 from slow_more import Fields
-from slow_reader import Fault, read_box, read_boxes, read_more, short_boxes
+from slow_reader import Fault, headers, read_box, read_boxes, read_more
+from slow_trees import are_trees, read_trees, short_box
 
 # What each text of the program says, and how it is read.
 LOOKED_AT = [
@@ -22,8 +23,8 @@ CALLS = {
 # The same of the boxes of mp4_more.
 read_all_boxes = partial(read_boxes, keep=True, more=True)
 MORE_CALLS = {"declared box": (read_more, 6), "all boxes": (read_all_boxes, 10)}
-# Which text says what is written of boxes that were read as trees.
-TREES = 8
+# Which texts say what is read as trees, and what is written of them.
+TREES, WRITTEN_TREES = 12, 8
 
 
 def parsed(read, text):
@@ -51,12 +52,6 @@ def outcome_by_layout(read, buffer, position):
 def outcomes_by_layout(buffer, position, calls=CALLS):
     """What the slow reader finds by each call."""
     return {call: outcome_by_layout(read, buffer, position) for call, (read, _) in calls.items()}
-
-
-def trees_by_layout(buffer, position):
-    """The bytes that the boxes from a position on are written in if they are read as trees, or the fault."""
-    found = short_boxes(buffer, position)
-    return found.args if isinstance(found, Fault) else found
 
 
 def otherwise(outcomes, texts):
@@ -87,8 +82,8 @@ def is_written_in(value, written):
 
 
 def more_otherwise(outcomes, buffer, position, texts):
-    """The same of the boxes of mp4_more; and where trees are written in other bytes than those that they were read
-    from, but for headers."""
+    """The same of the boxes of mp4_more, and of trees, which have to be written in the bytes that they were read from,
+    but for headers."""
     for call, (value, after) in outcomes.items():
         _, number = MORE_CALLS[call]
         if call == "declared box" and (value is None or is_fault(value) and after == position):
@@ -101,9 +96,18 @@ def more_otherwise(outcomes, buffer, position, texts):
                 yield "written, " + call, texts[number + 1], expected
         if found != expected:
             yield call, texts[number], expected
-    expected = trees_by_layout(buffer, position)
-    if parsed(written_of, texts[TREES]) != expected:
-        yield "trees", texts[TREES], expected
+    expected, after = outcome_by_layout(read_trees, buffer, position)
+    found = parsed(trees_of, texts[TREES])
+    if is_fault(expected):
+        written = expected
+        is_same = found == (expected, after)
+    else:
+        written = b"".join(short_box(buffer, header) for header in headers(buffer, position))
+        is_same = found[1] == after and isinstance(found[0], list) and are_trees(found[0], expected)
+    if not is_same:
+        yield "trees", texts[TREES], (expected, after)
+    if parsed(written_of, texts[WRITTEN_TREES]) != written:
+        yield "written, trees", texts[WRITTEN_TREES], written
 
 
 def is_fault(outcome):

@@ -9,6 +9,7 @@ import re
 from rows_of import rows
 from slow_more import MORE
 from slow_reader import READERS
+from slow_trees import ALONE, SOUND, VIDEO
 
 TOP = os.path.dirname(os.path.dirname(os.path.abspath(__file__)))
 SOURCES = os.path.join(TOP, "crates/*/src/**/*.rt")
@@ -28,11 +29,8 @@ LARGE_SIZES = SIZES + [0, 15, 16, 2**32, 2**63, 2**64 - 25, 2**64 - 17, 2**64 - 
 # Boxes that hold boxes, with the bytes before the first one.
 PARENTS = [
     (code.encode(), bytes(front))
-    for names, front in [
-        ("moov trak mdia minf stbl edts mvex moof traf mfra udta ilst dinf sinf schi wave iprp ipco", 0),
-        ("meta", 4), ("meta", 0), ("stsd dref", 8), ("avc1 hvc1 av01 encv", 78), ("mp4a Opus ac-3 enca", 28),
-    ]
-    for code in names.split()
+    for codes, front in [(ALONE, 0), (["meta"], 0), (["meta"], 4), (["stsd", "dref"], 8), (VIDEO, 78), (SOUND, 28)]
+    for code in codes
 ]
 PARENTS += [(b"mp4a", bytes(8) + b"\0\1" + bytes(34)), (b"enca", bytes(8) + b"\0\2" + bytes(54))]
 POSITIONS = [1, 8, 2**32 - 8, 2**32, 2**63, 2**64 - 16, 2**64 - 9, 2**64 - 8, 2**64 - 1]
@@ -257,7 +255,11 @@ class MoreMaker(Maker):
                 box = self.nested(depth + 1)
             boxes.append(self.mutated(box) if self.below(5) == 0 else box)
         front = self.choice([front, front, front, self.random.randbytes(len(front)), self.some_bytes()])
-        return box_of(code, front + b"".join(boxes))
+        box = box_of(code, front + b"".join(boxes))
+        for _ in range(self.choice([0, 0, 4, 8, 9, 10]) if depth == 0 else 0):
+            code, front = self.choice(PARENTS)
+            box = box_of(code, front + box)
+        return box
 
     def mutated(self, box):
         """The box with one change, also of a count where only these boxes have one."""

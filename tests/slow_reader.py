@@ -2,8 +2,7 @@
 
 A box is a dictionary of its fields, under the names of the struct. Codes and fixed-point numbers are raw numbers, a
 missing option is None, and a value of an enum is its name. `read_box` reads one box, and `read_boxes` a list of boxes,
-of which boxes of other types are kept or skipped. With `more`, the boxes of slow_more.py are read as well; and
-`short_boxes` leaves boxes as they are.
+of which boxes of other types are kept or skipped. With `more`, the boxes of slow_more.py are read as well.
 """
 
 from functools import lru_cache, partial
@@ -313,6 +312,7 @@ def headers(buffer, position):
     """The headers of the boxes from a position on, each with the size of its box, or the fault that ends them."""
     while position < len(buffer):
         header = Header(buffer, position)
+        header.is_short = header.start == position and header.size > 0
         if header.size == 0:
             header.size = len(buffer) - header.start
         else:
@@ -338,13 +338,3 @@ def read_boxes(buffer, position, keep=False, more=False):
     except Fault as fault:
         return fault, position
     return boxes, max(position, len(buffer))
-
-
-def short_boxes(buffer, position):
-    """The bytes of the boxes from a position on, each with a header of 8 bytes, or the first fault."""
-    try:
-        return b"".join(
-            header.size.to_bytes(4, "big") + header.code + buffer[header.start + 8:header.start + header.size]
-            for header in headers(buffer, position))
-    except Fault as fault:
-        return fault
