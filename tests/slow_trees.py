@@ -1,5 +1,5 @@
-"""The part of the slow reader for trees of boxes. It follows crates/mp4_container/CALLING.md: which boxes hold boxes, and
-what comes before the first one."""
+"""The part of the slow reader for trees of boxes. It follows crates/mp4_container/CALLING.md: which boxes hold boxes,
+and what comes before the first one."""
 
 from slow_fields import Fault
 from slow_reader import READERS, headers, outcome
@@ -49,8 +49,8 @@ def tree(name, box, depth):
 
 
 def read_trees(buffer, position):
-    """Reads the boxes from a position on as trees. Returns the list of them, or the first fault; and the position of the
-    cursor after it."""
+    """Reads the boxes from a position on as trees. Returns the list of them, or the first fault; and where the cursor is
+    after it."""
     try:
         found = list(headers(buffer, position))
     except Fault as fault:
