@@ -218,7 +218,8 @@ def pictures():
     scheme = (box(b"frma", b"av01") + full(b"schm", 0, 1, b"cbcs" + be(4, 0x10000) + "https://é.example/\0".encode())
               + box(b"schi", full(b"tenc", 1, 0, b"\0\x19\1\0" + key + b"\4\xaa\xbb\xcc\xdd")
                     + full(b"tenc", 0, 0, b"\xff\xff\1\x08" + key)))
-    table = (full(b"sdtp", 0, 0, b"\x1b\x24\0") + full(b"stz2", 0, 0, be(4, 4, 3) + b"\x12\x30")
+    table = (full(b"cslg", 0, 0, be(4, 5, -6, 7, -8, 2**31 - 1)) + full(b"cslg", 1, 0, be(8, 2**32, -2, 3, -(2**40), 0))
+             + full(b"sdtp", 0, 0, b"\x1b\x24\0") + full(b"stz2", 0, 0, be(4, 4, 3) + b"\x12\x30")
              + full(b"stz2", 0, 0, be(4, 8, 2) + b"\7\xff") + full(b"stz2", 0, 0, be(4, 16, 1) + b"\x12\x34")
              + full(b"stz2", 0, 0, be(4, 4, 3) + b"\x12") + full(b"stz2", 0, 0, be(4, 5, 1) + b"\x12")
              + full(b"sbgp", 1, 0, b"seig" + be(4, 7, 2, 3, 1, 2, 0x10001)) + full(b"sbgp", 0, 0, b"roll" + be(4, 0))
@@ -247,6 +248,7 @@ def indexed():
     tags = full(b"elng", 0, 0, b"de-CH-1996\0") + full(b"elng", 0, 0, b"\xff") + full(b"nmhd", 0, 0)
     keys = (full(b"keys", 0, 0, be(4, 2, 17) + b"mdtacom.a.key" + be(4, 10) + b"\xa9abc\xff\0")
             + full(b"keys", 0, 0, be(4, 2, 17) + b"mdtacom.a.key") + full(b"keys", 0, 0, be(4, 1, 7) + b"mdta"))
+    kinds = full(b"kind", 0, 0, b"urn:mpeg:dash:role:2011\0main\0") + full(b"kind", 0, 0, b"\xff\0\0")
     styp = box(b"styp", b"msdh" + be(4, 1) + b"msdhmsix")
     long, short = (2**31 + 500, 9000, 5 * 2**28 + 77), (400, 8000, 2**31 + 2**28)
     sidx = (full(b"sidx", 1, 0, be(4, 3, 90000) + be(8, 2**32, 2**33) + be(2, 0, 2) + be(4, *long, *short))
@@ -257,7 +259,7 @@ def indexed():
             + full(b"tfra", 1, 0, be(4, 3, 0x1B, 1) + be(8, 2**33, 2**34) + be(2, 258) + be(3, 65539) + be(4, 2**31))
             + full(b"tfra", 0, 0, be(4, 3, 0, 2) + first))
     mfro = full(b"mfro", 0, 0, be(4, 24 + len(tfra)))
-    return (styp + sidx + prft + movie(track(3, b"soun", b"", b"und", entries, b"", front=tags)) + keys
+    return (styp + sidx + prft + movie(track(3, b"soun", b"", b"und", entries, b"", front=tags)) + keys + box(b"udta", kinds)
             + box(b"mfra", tfra + mfro))
 
 

@@ -157,6 +157,13 @@ def colr(c):
         c.bytes("ICC_profile [data_bytes]" if kind in ("rICC", "prof") else "data_bytes")
 
 
+def cslg(c):
+    version, _ = c.full(2)
+    times = ("compositionToDTSShift", "leastDecodeToDisplayDelta", "greatestDecodeToDisplayDelta",
+             "compositionStartTime", "compositionEndTime")
+    c.numbers(",".join(f"i{8 if version else 4} {time}" for time in times))
+
+
 def dec3(c):
     c.bits("13 data_rate, 3 num_ind_sub")
     c.bytes("data_bytes [substreams]")
@@ -196,6 +203,12 @@ def keys(c):
         key.fields["Key_namespace"] = namespace
         key.string("Key_value")
         c.fields["entries"].append(key.fields)
+
+
+def kind(c):
+    c.full(1)
+    c.terminated("schemeURI")
+    c.terminated("value")
 
 
 def mdcv(c):
@@ -363,7 +376,8 @@ def tref(c):
 
 
 MORE = {
-    "av1C": av1c, "colr": colr, "dec3": dec3, "dfLa": dfla, "dOps": dops, "elng": elng, "keys": keys, "mdcv": mdcv,
+    "av1C": av1c, "colr": colr, "cslg": cslg, "dec3": dec3, "dfLa": dfla, "dOps": dops, "elng": elng, "keys": keys,
+    "kind": kind, "mdcv": mdcv,
     "mfro": mfro, "prft": prft, "pssh": pssh, "saio": saio, "saiz": saiz, "sbgp": sbgp, "schm": schm, "sdtp": sdtp,
     "senc": senc, "sgpd": sgpd, "sidx": sidx, "styp": styp, "stz2": stz2, "subs": subs, "tenc": tenc, "tfra": tfra,
     "btrt": lambda c: c.numbers("4 bufferSizeDB, 4 maxBitrate, 4 avgBitrate"),

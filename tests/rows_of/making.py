@@ -46,6 +46,7 @@ NO_VERSION_1 = invalid("version must be 0")
 TOO_MANY_ENTRIES = invalid("count indicates more entries than could fit in the box")
 TOO_MANY_BYTES = invalid("count indicates more bytes than could fit in the box")
 NOT_FILLED = invalid("entries do not fill the box")
+NO_END = invalid("string has no end in the box")
 CHILD_TOO_SMALL = invalid("child box too small")
 NOT_UTF8 = invalid("invalid utf8")
 

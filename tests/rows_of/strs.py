@@ -1,9 +1,8 @@
 """`strs`, a box of strings: two that a byte of 0 ends, and between them a name in a field of four bytes. No standard has
 it."""
 
-from rows_of.making import END, Box, box, changed, declared, declared_as, invalid, resized
+from rows_of.making import END, NO_END, Box, box, changed, declared, declared_as, invalid, resized
 
-NO_END = invalid("string has no end in the box")
 # A string of two bytes, a name of two, and a string of three.
 STRS = box(b"strs", b"\x81\x82\0", b"\x02\x83\x84\0", b"\x85\x86\x87\0")
 

@@ -10,4 +10,6 @@ pub mod MoreBox
 pub mod MoreBoxLaws
 pub mod ByVersion
 pub mod ByVersionLaws
+pub mod SignedTime
+pub mod SignedTimeLaws
 pub mod AllBoxes

@@ -8,12 +8,13 @@ use Rattle.mp4_more.specs.declared.more_type.MoreType.TheVariants as types
 use Rattle.mp4_more.specs.declared.more_box.MoreBox.{MoreBox}
 use Rattle.mp4_more.specs.declared.more_box.MoreBox.TheVariants as more
 use Rattle.mp4_more.specs.declared.{av1c.Av1c.Av1c, btrt.Btrt.Btrt, clap.Clap.Clap, clli.Clli.Clli, colr.Colr.Colr}
-use Rattle.mp4_more.specs.declared.{dac3.Dac3.Dac3, dec3.Dec3.Dec3, dfla.Dfla.Dfla, dops.Dops.Dops, elng.Elng.Elng}
-use Rattle.mp4_more.specs.declared.{frma.Frma.Frma, keys.Keys.Keys, mdcv.Mdcv.Mdcv, mfro.Mfro.Mfro, nmhd.Nmhd.Nmhd}
-use Rattle.mp4_more.specs.declared.{pasp.Pasp.Pasp, prft.Prft.Prft, pssh.Pssh.Pssh, saio.Saio.Saio, saiz.Saiz.Saiz}
-use Rattle.mp4_more.specs.declared.{sbgp.Sbgp.Sbgp, schm.Schm.Schm, sdtp.Sdtp.Sdtp, senc.Senc.Senc, sgpd.Sgpd.Sgpd}
-use Rattle.mp4_more.specs.declared.{sidx.Sidx.Sidx, styp.Styp.Styp, stz2.Stz2.Stz2, subs.Subs.Subs, tenc.Tenc.Tenc}
-use Rattle.mp4_more.specs.declared.{tfra.Tfra.Tfra, tref.Tref.Tref}
+use Rattle.mp4_more.specs.declared.{cslg.Cslg.Cslg, dac3.Dac3.Dac3, dec3.Dec3.Dec3, dfla.Dfla.Dfla, dops.Dops.Dops}
+use Rattle.mp4_more.specs.declared.{elng.Elng.Elng, frma.Frma.Frma, keys.Keys.Keys, mdcv.Mdcv.Mdcv, mfro.Mfro.Mfro}
+use Rattle.mp4_more.specs.declared.{nmhd.Nmhd.Nmhd, pasp.Pasp.Pasp, prft.Prft.Prft, pssh.Pssh.Pssh, saio.Saio.Saio}
+use Rattle.mp4_more.specs.declared.{saiz.Saiz.Saiz, sbgp.Sbgp.Sbgp, schm.Schm.Schm, sdtp.Sdtp.Sdtp, senc.Senc.Senc}
+use Rattle.mp4_more.specs.declared.{sgpd.Sgpd.Sgpd, sidx.Sidx.Sidx, styp.Styp.Styp, stz2.Stz2.Stz2, subs.Subs.Subs}
+use Rattle.mp4_more.specs.declared.{tenc.Tenc.Tenc, tfra.Tfra.Tfra, tref.Tref.Tref}
+use Rattle.mp4_more.specs.declared.kind.Kind.{Kind as TrackKind}
 
 -- the fields of the boxes of a type
 abbrev pub FieldsOf : MoreType → Type 0
@@ -22,6 +23,7 @@ FieldsOf types.BtrtBox = Btrt
 FieldsOf types.ClapBox = Clap
 FieldsOf types.ClliBox = Clli
 FieldsOf types.ColrBox = Colr
+FieldsOf types.CslgBox = Cslg
 FieldsOf types.Dac3Box = Dac3
 FieldsOf types.Dec3Box = Dec3
 FieldsOf types.DflaBox = Dfla
@@ -29,6 +31,7 @@ FieldsOf types.DopsBox = Dops
 FieldsOf types.ElngBox = Elng
 FieldsOf types.FrmaBox = Frma
 FieldsOf types.KeysBox = Keys
+FieldsOf types.KindBox = TrackKind
 FieldsOf types.MdcvBox = Mdcv
 FieldsOf types.MfroBox = Mfro
 FieldsOf types.NmhdBox = Nmhd
@@ -56,6 +59,7 @@ wrap types.BtrtBox = more.BtrtBox
 wrap types.ClapBox = more.ClapBox
 wrap types.ClliBox = more.ClliBox
 wrap types.ColrBox = more.ColrBox
+wrap types.CslgBox = more.CslgBox
 wrap types.Dac3Box = more.Dac3Box
 wrap types.Dec3Box = more.Dec3Box
 wrap types.DflaBox = more.DflaBox
@@ -63,6 +67,7 @@ wrap types.DopsBox = more.DopsBox
 wrap types.ElngBox = more.ElngBox
 wrap types.FrmaBox = more.FrmaBox
 wrap types.KeysBox = more.KeysBox
+wrap types.KindBox = more.KindBox
 wrap types.MdcvBox = more.MdcvBox
 wrap types.MfroBox = more.MfroBox
 wrap types.NmhdBox = more.NmhdBox
@@ -91,6 +96,7 @@ opened (more.BtrtBox fields) = (types.BtrtBox, fields)
 opened (more.ClapBox fields) = (types.ClapBox, fields)
 opened (more.ClliBox fields) = (types.ClliBox, fields)
 opened (more.ColrBox fields) = (types.ColrBox, fields)
+opened (more.CslgBox fields) = (types.CslgBox, fields)
 opened (more.Dac3Box fields) = (types.Dac3Box, fields)
 opened (more.Dec3Box fields) = (types.Dec3Box, fields)
 opened (more.DflaBox fields) = (types.DflaBox, fields)
@@ -98,6 +104,7 @@ opened (more.DopsBox fields) = (types.DopsBox, fields)
 opened (more.ElngBox fields) = (types.ElngBox, fields)
 opened (more.FrmaBox fields) = (types.FrmaBox, fields)
 opened (more.KeysBox fields) = (types.KeysBox, fields)
+opened (more.KindBox fields) = (types.KindBox, fields)
 opened (more.MdcvBox fields) = (types.MdcvBox, fields)
 opened (more.MfroBox fields) = (types.MfroBox, fields)
 opened (more.NmhdBox fields) = (types.NmhdBox, fields)
@@ -156,6 +163,7 @@ module _ (declared : Declarations) where
   inside (more.ClapBox fields) = boxed (format_more types.ClapBox) more.ClapBox fields
   inside (more.ClliBox fields) = boxed (format_more types.ClliBox) more.ClliBox fields
   inside (more.ColrBox fields) = boxed (format_more types.ColrBox) more.ColrBox fields
+  inside (more.CslgBox fields) = boxed (format_more types.CslgBox) more.CslgBox fields
   inside (more.Dac3Box fields) = boxed (format_more types.Dac3Box) more.Dac3Box fields
   inside (more.Dec3Box fields) = boxed (format_more types.Dec3Box) more.Dec3Box fields
   inside (more.DflaBox fields) = boxed (format_more types.DflaBox) more.DflaBox fields
@@ -163,6 +171,7 @@ module _ (declared : Declarations) where
   inside (more.ElngBox fields) = boxed (format_more types.ElngBox) more.ElngBox fields
   inside (more.FrmaBox fields) = boxed (format_more types.FrmaBox) more.FrmaBox fields
   inside (more.KeysBox fields) = boxed (format_more types.KeysBox) more.KeysBox fields
+  inside (more.KindBox fields) = boxed (format_more types.KindBox) more.KindBox fields
   inside (more.MdcvBox fields) = boxed (format_more types.MdcvBox) more.MdcvBox fields
   inside (more.MfroBox fields) = boxed (format_more types.MfroBox) more.MfroBox fields
   inside (more.NmhdBox fields) = boxed (format_more types.NmhdBox) more.NmhdBox fields

@@ -3,16 +3,17 @@ use Rattle.std.specs.Prelude.{ℕ, ◌==◌, if◌then◌else◌, List, [], ◌�
 use Rattle.mp4_more.specs.declared.more_type.MoreType.{MoreType}
 use Rattle.mp4_more.specs.declared.more_type.MoreType.TheVariants as types
 use Rattle.mp4_more.specs.declared.{av1c.TheConstants.AV1C, btrt.TheConstants.BTRT, clap.TheConstants.CLAP}
-use Rattle.mp4_more.specs.declared.{clli.TheConstants.CLLI, colr.TheConstants.COLR, dac3.TheConstants.DAC3}
-use Rattle.mp4_more.specs.declared.{dec3.TheConstants.DEC3, dfla.TheConstants.DFLA, dops.TheConstants.DOPS}
-use Rattle.mp4_more.specs.declared.{elng.TheConstants.ELNG, frma.TheConstants.FRMA, keys.TheConstants.KEYS}
-use Rattle.mp4_more.specs.declared.{mdcv.TheConstants.MDCV, mfro.TheConstants.MFRO, nmhd.TheConstants.NMHD}
-use Rattle.mp4_more.specs.declared.{pasp.TheConstants.PASP, prft.TheConstants.PRFT, pssh.TheConstants.PSSH}
-use Rattle.mp4_more.specs.declared.{saio.TheConstants.SAIO, saiz.TheConstants.SAIZ, sbgp.TheConstants.SBGP}
-use Rattle.mp4_more.specs.declared.{schm.TheConstants.SCHM, sdtp.TheConstants.SDTP, senc.TheConstants.SENC}
-use Rattle.mp4_more.specs.declared.{sgpd.TheConstants.SGPD, sidx.TheConstants.SIDX, styp.TheConstants.STYP}
-use Rattle.mp4_more.specs.declared.{stz2.TheConstants.STZ2, subs.TheConstants.SUBS, tenc.TheConstants.TENC}
-use Rattle.mp4_more.specs.declared.{tfra.TheConstants.TFRA, tref.TheConstants.TREF}
+use Rattle.mp4_more.specs.declared.{clli.TheConstants.CLLI, colr.TheConstants.COLR, cslg.TheConstants.CSLG}
+use Rattle.mp4_more.specs.declared.{dac3.TheConstants.DAC3, dec3.TheConstants.DEC3, dfla.TheConstants.DFLA}
+use Rattle.mp4_more.specs.declared.{dops.TheConstants.DOPS, elng.TheConstants.ELNG, frma.TheConstants.FRMA}
+use Rattle.mp4_more.specs.declared.{keys.TheConstants.KEYS, kind.TheConstants.KIND, mdcv.TheConstants.MDCV}
+use Rattle.mp4_more.specs.declared.{mfro.TheConstants.MFRO, nmhd.TheConstants.NMHD, pasp.TheConstants.PASP}
+use Rattle.mp4_more.specs.declared.{prft.TheConstants.PRFT, pssh.TheConstants.PSSH, saio.TheConstants.SAIO}
+use Rattle.mp4_more.specs.declared.{saiz.TheConstants.SAIZ, sbgp.TheConstants.SBGP, schm.TheConstants.SCHM}
+use Rattle.mp4_more.specs.declared.{sdtp.TheConstants.SDTP, senc.TheConstants.SENC, sgpd.TheConstants.SGPD}
+use Rattle.mp4_more.specs.declared.{sidx.TheConstants.SIDX, styp.TheConstants.STYP, stz2.TheConstants.STZ2}
+use Rattle.mp4_more.specs.declared.{subs.TheConstants.SUBS, tenc.TheConstants.TENC, tfra.TheConstants.TFRA}
+use Rattle.mp4_more.specs.declared.{tref.TheConstants.TREF}
 
 abbrev pub code_of_type : MoreType → ℕ
 code_of_type types.Av1cBox = AV1C
@@ -20,6 +21,7 @@ code_of_type types.BtrtBox = BTRT
 code_of_type types.ClapBox = CLAP
 code_of_type types.ClliBox = CLLI
 code_of_type types.ColrBox = COLR
+code_of_type types.CslgBox = CSLG
 code_of_type types.Dac3Box = DAC3
 code_of_type types.Dec3Box = DEC3
 code_of_type types.DflaBox = DFLA
@@ -27,6 +29,7 @@ code_of_type types.DopsBox = DOPS
 code_of_type types.ElngBox = ELNG
 code_of_type types.FrmaBox = FRMA
 code_of_type types.KeysBox = KEYS
+code_of_type types.KindBox = KIND
 code_of_type types.MdcvBox = MDCV
 code_of_type types.MfroBox = MFRO
 code_of_type types.NmhdBox = NMHD
@@ -50,11 +53,11 @@ code_of_type types.TrefBox = TREF
 
 abbrev pub all_types : List MoreType
 all_types =
-    types.Av1cBox ∷ types.BtrtBox ∷ types.ClapBox ∷ types.ClliBox ∷ types.ColrBox ∷ types.Dac3Box ∷ types.Dec3Box
-    ∷ types.DflaBox ∷ types.DopsBox ∷ types.ElngBox ∷ types.FrmaBox ∷ types.KeysBox ∷ types.MdcvBox ∷ types.MfroBox
-    ∷ types.NmhdBox ∷ types.PaspBox ∷ types.PrftBox ∷ types.PsshBox ∷ types.SaioBox ∷ types.SaizBox ∷ types.SbgpBox
-    ∷ types.SchmBox ∷ types.SdtpBox ∷ types.SencBox ∷ types.SgpdBox ∷ types.SidxBox ∷ types.StypBox ∷ types.Stz2Box
-    ∷ types.SubsBox ∷ types.TencBox ∷ types.TfraBox ∷ types.TrefBox ∷ []
+    types.Av1cBox ∷ types.BtrtBox ∷ types.ClapBox ∷ types.ClliBox ∷ types.ColrBox ∷ types.CslgBox ∷ types.Dac3Box
+    ∷ types.Dec3Box ∷ types.DflaBox ∷ types.DopsBox ∷ types.ElngBox ∷ types.FrmaBox ∷ types.KeysBox ∷ types.KindBox
+    ∷ types.MdcvBox ∷ types.MfroBox ∷ types.NmhdBox ∷ types.PaspBox ∷ types.PrftBox ∷ types.PsshBox ∷ types.SaioBox
+    ∷ types.SaizBox ∷ types.SbgpBox ∷ types.SchmBox ∷ types.SdtpBox ∷ types.SencBox ∷ types.SgpdBox ∷ types.SidxBox
+    ∷ types.StypBox ∷ types.Stz2Box ∷ types.SubsBox ∷ types.TencBox ∷ types.TfraBox ∷ types.TrefBox ∷ []
 
 -- the type of this code among some types
 abbrev pub type_among : List MoreType → ℕ → Option MoreType

@@ -1,9 +1,8 @@
 //! The AV1 codec configuration box.
 
-ghost use Rattle.mp4_more.specs.declared.av1c.TheConstants.{AV1C};
+ghost use Rattle.mp4_more.specs.declared.av1c.TheConstants.{AV1C, WIDTHS};
 ghost use Rattle.std.proofs.Common.{refl, lit<};
-ghost use Rattle.std.specs.Prelude.{[], ◌∷◌};
-ghost use Rattle.mp4_stream.specs.Author.{layout_of, packed, flag, unsigned};
+ghost use Rattle.mp4_stream.specs.Author.{layout_of, packed, fields_of};
 
 use mp4_stream::author::{About, Bits, Declared, DeclaredBox, EntryLayout, Last, Rest, Shape};
 use mp4_stream::{Entries, Result, TryClone, box_of, entry_of, numbers_of, parts_of};
@@ -45,15 +44,16 @@ pub struct Av1Config {
     pub initial_presentation_delay_minus_one: u8,
 }
 
+/// The widths of its fields, in bits; a field of a single bit is a flag.
+const WIDTHS: [u8; 14] = [1, 7, 3, 5, 1, 1, 1, 1, 1, 1, 2, 3, 1, 4];
+
 impl EntryLayout<14, 4> for Av1Config {
     ghost use Rattle.mp4_more.specs.contracts.av1c.Av1Config.{struct};
 
-    ghost layout = { packed (flag ∷ unsigned 7 ∷ unsigned 3 ∷ unsigned 5 ∷ flag ∷ flag ∷ flag ∷ flag ∷ flag ∷
-        flag ∷ unsigned 2 ∷ unsigned 3 ∷ flag ∷ unsigned 4 ∷ []) struct.as_values
-        (λ v. struct.make v tt) (λ _. refl) (λ _. refl) refl };
+    ghost layout = { packed (fields_of WIDTHS) struct.as_values (λ v. struct.make v tt) (λ _. refl) (λ _. refl) refl };
 
     fn widths() -> [u8; 14] {
-        [1, 7, 3, 5, 1, 1, 1, 1, 1, 1, 2, 3, 1, 4]
+        WIDTHS
     }
 
     fn numbers(&self) -> [u64; 14] {

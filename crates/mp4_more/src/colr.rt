@@ -1,9 +1,8 @@
 //! The colour information box.
 
-ghost use Rattle.mp4_more.specs.declared.colr.TheConstants.{COLR, NCLX};
+ghost use Rattle.mp4_more.specs.declared.colr.TheConstants.{COLR, NCLX, WIDTHS};
 ghost use Rattle.std.proofs.Common.{refl, lit<};
-ghost use Rattle.std.specs.Prelude.{[], ◌∷◌};
-ghost use Rattle.mp4_stream.specs.Author.{layout_of, packed, flag, unsigned};
+ghost use Rattle.mp4_stream.specs.Author.{layout_of, packed, fields_of};
 
 use crate::typed::{OfType, Tag, Typed};
 use mp4_stream::author::{About, Bits, Declared, DeclaredBox, EntryLayout, Last, Rest, Shape};
@@ -32,14 +31,16 @@ pub struct Nclx {
     pub reserved: u8,
 }
 
+/// The widths of its fields, in bits; a field of a single bit is a flag.
+const WIDTHS: [u8; 5] = [16, 16, 16, 1, 7];
+
 impl EntryLayout<5, 7> for Nclx {
     ghost use Rattle.mp4_more.specs.contracts.colr.Nclx.{struct};
 
-    ghost layout = { packed (unsigned 16 ∷ unsigned 16 ∷ unsigned 16 ∷ flag ∷ unsigned 7 ∷ []) struct.as_values
-        (λ v. struct.make v tt) (λ _. refl) (λ _. refl) refl };
+    ghost layout = { packed (fields_of WIDTHS) struct.as_values (λ v. struct.make v tt) (λ _. refl) (λ _. refl) refl };
 
     fn widths() -> [u8; 5] {
-        [16, 16, 16, 1, 7]
+        WIDTHS
     }
 
     fn numbers(&self) -> [u64; 5] {

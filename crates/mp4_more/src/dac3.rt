@@ -1,9 +1,8 @@
 //! The AC-3 specific box.
 
-ghost use Rattle.mp4_more.specs.declared.dac3.TheConstants.{DAC3};
+ghost use Rattle.mp4_more.specs.declared.dac3.TheConstants.{DAC3, WIDTHS};
 ghost use Rattle.std.proofs.Common.{refl, lit<};
-ghost use Rattle.std.specs.Prelude.{[], ◌∷◌};
-ghost use Rattle.mp4_stream.specs.Author.{layout_of, packed, flag, unsigned};
+ghost use Rattle.mp4_stream.specs.Author.{layout_of, packed, fields_of};
 
 use mp4_stream::author::{About, Bits, Declared, DeclaredBox, EntryLayout, Last, Shape};
 use mp4_stream::{Result, TryClone, box_of, entry_of, numbers_of, parts_of};
@@ -30,15 +29,16 @@ pub struct Ac3Config {
     pub reserved: u8,
 }
 
+/// The widths of its fields, in bits; a field of a single bit is a flag.
+const WIDTHS: [u8; 7] = [2, 5, 3, 3, 1, 5, 5];
+
 impl EntryLayout<7, 3> for Ac3Config {
     ghost use Rattle.mp4_more.specs.contracts.dac3.Ac3Config.{struct};
 
-    ghost layout = { packed (unsigned 2 ∷ unsigned 5 ∷ unsigned 3 ∷ unsigned 3 ∷ flag ∷ unsigned 5 ∷
-        unsigned 5 ∷ []) struct.as_values
-        (λ v. struct.make v tt) (λ _. refl) (λ _. refl) refl };
+    ghost layout = { packed (fields_of WIDTHS) struct.as_values (λ v. struct.make v tt) (λ _. refl) (λ _. refl) refl };
 
     fn widths() -> [u8; 7] {
-        [2, 5, 3, 3, 1, 5, 5]
+        WIDTHS
     }
 
     fn numbers(&self) -> [u64; 7] {

@@ -1,9 +1,8 @@
 //! The Enhanced AC-3 specific box.
 
-ghost use Rattle.mp4_more.specs.declared.dec3.TheConstants.{DEC3};
+ghost use Rattle.mp4_more.specs.declared.dec3.TheConstants.{DEC3, WIDTHS};
 ghost use Rattle.std.proofs.Common.{refl, lit<};
-ghost use Rattle.std.specs.Prelude.{[], ◌∷◌};
-ghost use Rattle.mp4_stream.specs.Author.{layout_of, packed, unsigned};
+ghost use Rattle.mp4_stream.specs.Author.{layout_of, packed, fields_of};
 
 use mp4_stream::author::{About, Bits, Declared, DeclaredBox, EntryLayout, Last, Rest, Shape};
 use mp4_stream::{Entries, Result, TryClone, box_of, entry_of, numbers_of, parts_of};
@@ -20,14 +19,16 @@ pub struct Ec3Config {
     pub num_ind_sub: u8,
 }
 
+/// The widths of its fields, in bits.
+const WIDTHS: [u8; 2] = [13, 3];
+
 impl EntryLayout<2, 2> for Ec3Config {
     ghost use Rattle.mp4_more.specs.contracts.dec3.Ec3Config.{struct};
 
-    ghost layout = { packed (unsigned 13 ∷ unsigned 3 ∷ []) struct.as_values
-        (λ v. struct.make v tt) (λ _. refl) (λ _. refl) refl };
+    ghost layout = { packed (fields_of WIDTHS) struct.as_values (λ v. struct.make v tt) (λ _. refl) (λ _. refl) refl };
 
     fn widths() -> [u8; 2] {
-        [13, 3]
+        WIDTHS
     }
 
     fn numbers(&self) -> [u64; 2] {

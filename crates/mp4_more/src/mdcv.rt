@@ -1,9 +1,8 @@
 //! The mastering display colour volume box.
 
-ghost use Rattle.mp4_more.specs.declared.mdcv.TheConstants.{MDCV};
+ghost use Rattle.mp4_more.specs.declared.mdcv.TheConstants.{MDCV, WIDTHS};
 ghost use Rattle.std.proofs.Common.{refl, lit<};
-ghost use Rattle.std.specs.Prelude.{[], ◌∷◌};
-ghost use Rattle.mp4_stream.specs.Author.{layout_of, packed, unsigned};
+ghost use Rattle.mp4_stream.specs.Author.{layout_of, packed, fields_of};
 
 use mp4_stream::author::{About, Bits, Declared, DeclaredBox, EntryLayout, Last, Shape, U32};
 use mp4_stream::{Result, TryClone, box_of, entry_of, numbers_of, parts_of};
@@ -20,14 +19,16 @@ pub struct Chromaticity {
     pub y: u16,
 }
 
+/// The widths of its fields, in bits.
+const WIDTHS: [u8; 2] = [16, 16];
+
 impl EntryLayout<2, 4> for Chromaticity {
     ghost use Rattle.mp4_more.specs.contracts.mdcv.Chromaticity.{struct};
 
-    ghost layout = { packed (unsigned 16 ∷ unsigned 16 ∷ []) struct.as_values
-        (λ v. struct.make v tt) (λ _. refl) (λ _. refl) refl };
+    ghost layout = { packed (fields_of WIDTHS) struct.as_values (λ v. struct.make v tt) (λ _. refl) (λ _. refl) refl };
 
     fn widths() -> [u8; 2] {
-        [16, 16]
+        WIDTHS
     }
 
     fn numbers(&self) -> [u64; 2] {

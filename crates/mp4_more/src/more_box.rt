@@ -7,19 +7,20 @@ ghost use Rattle.mp4_more.specs.AllBoxes.{by_code};
 ghost use Rattle.mp4_more.specs.MoreBox.{Declarations, declaration, kind_of, kinds, inside};
 ghost use Rattle.mp4_more.specs.MoreBoxLaws.{members, named};
 ghost use Rattle.mp4_more.specs.declared.more_type.MoreType.TheVariants as types;
+ghost use Rattle.mp4_more.specs.declared.more_box.MoreBox.TheVariants as more;
 
 use crate::more_type::MoreType;
 use crate::{
-    Av1c, Av1cBox, Btrt, BtrtBox, Clap, ClapBox, Clli, ClliBox, Colr, ColrBox, Dac3, Dac3Box, Dec3,
-    Dec3Box, Dfla, DflaBox, Dops, DopsBox, Elng, ElngBox, Frma, FrmaBox, Keys, KeysBox, Mdcv,
-    MdcvBox, Mfro, MfroBox, Nmhd, NmhdBox, Pasp, PaspBox, Prft, PrftBox, Pssh, PsshBox, Saio,
-    SaioBox, Saiz, SaizBox, Sbgp, SbgpBox, Schm, SchmBox, Sdtp, SdtpBox, Senc, SencBox, Sgpd,
-    SgpdBox, Sidx, SidxBox, Styp, StypBox, Stz2, Stz2Box, Subs, SubsBox, Tenc, TencBox, Tfra,
-    TfraBox, Tref, TrefBox,
+    Av1c, Av1cBox, Btrt, BtrtBox, Clap, ClapBox, Clli, ClliBox, Colr, ColrBox, Cslg, CslgBox, Dac3,
+    Dac3Box, Dec3, Dec3Box, Dfla, DflaBox, Dops, DopsBox, Elng, ElngBox, Frma, FrmaBox, Keys,
+    KeysBox, Kind, KindBox, Mdcv, MdcvBox, Mfro, MfroBox, Nmhd, NmhdBox, Pasp, PaspBox, Prft,
+    PrftBox, Pssh, PsshBox, Saio, SaioBox, Saiz, SaizBox, Sbgp, SbgpBox, Schm, SchmBox, Sdtp,
+    SdtpBox, Senc, SencBox, Sgpd, SgpdBox, Sidx, SidxBox, Styp, StypBox, Stz2, Stz2Box, Subs,
+    SubsBox, Tenc, TencBox, Tfra, TfraBox, Tref, TrefBox,
 };
 use mp4_lists::CodedEnum;
 use mp4_stream::author::{BoxEnum, DeclaredBox, Question, Shape, clone_as, read_as};
-use mp4_stream::{BoxType, ByteCursor, Result, TryClone};
+use mp4_stream::{BoxType, ByteCursor, Holds, Result, TryClone};
 use std::alloc::Global;
 use std::fmt;
 
@@ -28,10 +29,10 @@ macro_rules! of_boxes {
     ($go:ident, $($rest:tt)*) => {
         $go! {
             [
-                Av1cBox BtrtBox ClapBox ClliBox ColrBox Dac3Box Dec3Box DflaBox DopsBox ElngBox
-                FrmaBox KeysBox MdcvBox MfroBox NmhdBox PaspBox PrftBox PsshBox SaioBox SaizBox
-                SbgpBox SchmBox SdtpBox SencBox SgpdBox SidxBox StypBox Stz2Box SubsBox TencBox
-                TfraBox TrefBox
+                Av1cBox BtrtBox ClapBox ClliBox ColrBox CslgBox Dac3Box Dec3Box DflaBox DopsBox
+                ElngBox FrmaBox KeysBox KindBox MdcvBox MfroBox NmhdBox PaspBox PrftBox PsshBox
+                SaioBox SaizBox SbgpBox SchmBox SdtpBox SencBox SgpdBox SidxBox StypBox Stz2Box
+                SubsBox TencBox TfraBox TrefBox
             ]
             $($rest)*
         }
@@ -73,6 +74,7 @@ pub enum MoreBox {
     ClapBox(ClapBox),
     ClliBox(ClliBox),
     ColrBox(ColrBox),
+    CslgBox(CslgBox),
     Dac3Box(Dac3Box),
     Dec3Box(Dec3Box),
     DflaBox(DflaBox),
@@ -80,6 +82,7 @@ pub enum MoreBox {
     ElngBox(ElngBox),
     FrmaBox(FrmaBox),
     KeysBox(KeysBox),
+    KindBox(KindBox),
     MdcvBox(MdcvBox),
     MfroBox(MfroBox),
     NmhdBox(NmhdBox),
@@ -135,6 +138,7 @@ impl Declares for MoreBox {
       | types.ClapBox ↦ declaration ⟦<<Clap as DeclaredBox>::Shape as Shape>⟧.shape ⟦<Clap as DeclaredBox>⟧.layout
       | types.ClliBox ↦ declaration ⟦<<Clli as DeclaredBox>::Shape as Shape>⟧.shape ⟦<Clli as DeclaredBox>⟧.layout
       | types.ColrBox ↦ declaration ⟦<<Colr as DeclaredBox>::Shape as Shape>⟧.shape ⟦<Colr as DeclaredBox>⟧.layout
+      | types.CslgBox ↦ declaration ⟦<<Cslg as DeclaredBox>::Shape as Shape>⟧.shape ⟦<Cslg as DeclaredBox>⟧.layout
       | types.Dac3Box ↦ declaration ⟦<<Dac3 as DeclaredBox>::Shape as Shape>⟧.shape ⟦<Dac3 as DeclaredBox>⟧.layout
       | types.Dec3Box ↦ declaration ⟦<<Dec3 as DeclaredBox>::Shape as Shape>⟧.shape ⟦<Dec3 as DeclaredBox>⟧.layout
       | types.DflaBox ↦ declaration ⟦<<Dfla as DeclaredBox>::Shape as Shape>⟧.shape ⟦<Dfla as DeclaredBox>⟧.layout
@@ -142,6 +146,7 @@ impl Declares for MoreBox {
       | types.ElngBox ↦ declaration ⟦<<Elng as DeclaredBox>::Shape as Shape>⟧.shape ⟦<Elng as DeclaredBox>⟧.layout
       | types.FrmaBox ↦ declaration ⟦<<Frma as DeclaredBox>::Shape as Shape>⟧.shape ⟦<Frma as DeclaredBox>⟧.layout
       | types.KeysBox ↦ declaration ⟦<<Keys as DeclaredBox>::Shape as Shape>⟧.shape ⟦<Keys as DeclaredBox>⟧.layout
+      | types.KindBox ↦ declaration ⟦<<Kind as DeclaredBox>::Shape as Shape>⟧.shape ⟦<Kind as DeclaredBox>⟧.layout
       | types.MdcvBox ↦ declaration ⟦<<Mdcv as DeclaredBox>::Shape as Shape>⟧.shape ⟦<Mdcv as DeclaredBox>⟧.layout
       | types.MfroBox ↦ declaration ⟦<<Mfro as DeclaredBox>::Shape as Shape>⟧.shape ⟦<Mfro as DeclaredBox>⟧.layout
       | types.NmhdBox ↦ declaration ⟦<<Nmhd as DeclaredBox>::Shape as Shape>⟧.shape ⟦<Nmhd as DeclaredBox>⟧.layout
@@ -188,6 +193,7 @@ impl BoxEnum for MoreBox {
       | types.ClapBox ↦ (⟦<<Clap as DeclaredBox>::Shape as Shape>⟧.shape_laws, refl)
       | types.ClliBox ↦ (⟦<<Clli as DeclaredBox>::Shape as Shape>⟧.shape_laws, refl)
       | types.ColrBox ↦ (⟦<<Colr as DeclaredBox>::Shape as Shape>⟧.shape_laws, refl)
+      | types.CslgBox ↦ (⟦<<Cslg as DeclaredBox>::Shape as Shape>⟧.shape_laws, refl)
       | types.Dac3Box ↦ (⟦<<Dac3 as DeclaredBox>::Shape as Shape>⟧.shape_laws, refl)
       | types.Dec3Box ↦ (⟦<<Dec3 as DeclaredBox>::Shape as Shape>⟧.shape_laws, refl)
       | types.DflaBox ↦ (⟦<<Dfla as DeclaredBox>::Shape as Shape>⟧.shape_laws, refl)
@@ -195,6 +201,7 @@ impl BoxEnum for MoreBox {
       | types.ElngBox ↦ (⟦<<Elng as DeclaredBox>::Shape as Shape>⟧.shape_laws, refl)
       | types.FrmaBox ↦ (⟦<<Frma as DeclaredBox>::Shape as Shape>⟧.shape_laws, refl)
       | types.KeysBox ↦ (⟦<<Keys as DeclaredBox>::Shape as Shape>⟧.shape_laws, refl)
+      | types.KindBox ↦ (⟦<<Kind as DeclaredBox>::Shape as Shape>⟧.shape_laws, refl)
       | types.MdcvBox ↦ (⟦<<Mdcv as DeclaredBox>::Shape as Shape>⟧.shape_laws, refl)
       | types.MfroBox ↦ (⟦<<Mfro as DeclaredBox>::Shape as Shape>⟧.shape_laws, refl)
       | types.NmhdBox ↦ (⟦<<Nmhd as DeclaredBox>::Shape as Shape>⟧.shape_laws, refl)
@@ -238,4 +245,276 @@ impl BoxEnum for MoreBox {
 /// The code alone tells which type a box has.
 impl CodedEnum for MoreBox {
     ghost coded = { by_code ⟦<MoreBox as Declares>⟧.declared };
+}
+
+impl Holds<Av1cBox> for MoreBox {
+    ghost wrapped = { more.Av1cBox };
+
+    fn wrap(value: Av1cBox) -> MoreBox {
+        MoreBox::Av1cBox(value)
+    }
+}
+
+impl Holds<BtrtBox> for MoreBox {
+    ghost wrapped = { more.BtrtBox };
+
+    fn wrap(value: BtrtBox) -> MoreBox {
+        MoreBox::BtrtBox(value)
+    }
+}
+
+impl Holds<ClapBox> for MoreBox {
+    ghost wrapped = { more.ClapBox };
+
+    fn wrap(value: ClapBox) -> MoreBox {
+        MoreBox::ClapBox(value)
+    }
+}
+
+impl Holds<ClliBox> for MoreBox {
+    ghost wrapped = { more.ClliBox };
+
+    fn wrap(value: ClliBox) -> MoreBox {
+        MoreBox::ClliBox(value)
+    }
+}
+
+impl Holds<ColrBox> for MoreBox {
+    ghost wrapped = { more.ColrBox };
+
+    fn wrap(value: ColrBox) -> MoreBox {
+        MoreBox::ColrBox(value)
+    }
+}
+
+impl Holds<CslgBox> for MoreBox {
+    ghost wrapped = { more.CslgBox };
+
+    fn wrap(value: CslgBox) -> MoreBox {
+        MoreBox::CslgBox(value)
+    }
+}
+
+impl Holds<Dac3Box> for MoreBox {
+    ghost wrapped = { more.Dac3Box };
+
+    fn wrap(value: Dac3Box) -> MoreBox {
+        MoreBox::Dac3Box(value)
+    }
+}
+
+impl Holds<Dec3Box> for MoreBox {
+    ghost wrapped = { more.Dec3Box };
+
+    fn wrap(value: Dec3Box) -> MoreBox {
+        MoreBox::Dec3Box(value)
+    }
+}
+
+impl Holds<DflaBox> for MoreBox {
+    ghost wrapped = { more.DflaBox };
+
+    fn wrap(value: DflaBox) -> MoreBox {
+        MoreBox::DflaBox(value)
+    }
+}
+
+impl Holds<DopsBox> for MoreBox {
+    ghost wrapped = { more.DopsBox };
+
+    fn wrap(value: DopsBox) -> MoreBox {
+        MoreBox::DopsBox(value)
+    }
+}
+
+impl Holds<ElngBox> for MoreBox {
+    ghost wrapped = { more.ElngBox };
+
+    fn wrap(value: ElngBox) -> MoreBox {
+        MoreBox::ElngBox(value)
+    }
+}
+
+impl Holds<FrmaBox> for MoreBox {
+    ghost wrapped = { more.FrmaBox };
+
+    fn wrap(value: FrmaBox) -> MoreBox {
+        MoreBox::FrmaBox(value)
+    }
+}
+
+impl Holds<KeysBox> for MoreBox {
+    ghost wrapped = { more.KeysBox };
+
+    fn wrap(value: KeysBox) -> MoreBox {
+        MoreBox::KeysBox(value)
+    }
+}
+
+impl Holds<KindBox> for MoreBox {
+    ghost wrapped = { more.KindBox };
+
+    fn wrap(value: KindBox) -> MoreBox {
+        MoreBox::KindBox(value)
+    }
+}
+
+impl Holds<MdcvBox> for MoreBox {
+    ghost wrapped = { more.MdcvBox };
+
+    fn wrap(value: MdcvBox) -> MoreBox {
+        MoreBox::MdcvBox(value)
+    }
+}
+
+impl Holds<MfroBox> for MoreBox {
+    ghost wrapped = { more.MfroBox };
+
+    fn wrap(value: MfroBox) -> MoreBox {
+        MoreBox::MfroBox(value)
+    }
+}
+
+impl Holds<NmhdBox> for MoreBox {
+    ghost wrapped = { more.NmhdBox };
+
+    fn wrap(value: NmhdBox) -> MoreBox {
+        MoreBox::NmhdBox(value)
+    }
+}
+
+impl Holds<PaspBox> for MoreBox {
+    ghost wrapped = { more.PaspBox };
+
+    fn wrap(value: PaspBox) -> MoreBox {
+        MoreBox::PaspBox(value)
+    }
+}
+
+impl Holds<PrftBox> for MoreBox {
+    ghost wrapped = { more.PrftBox };
+
+    fn wrap(value: PrftBox) -> MoreBox {
+        MoreBox::PrftBox(value)
+    }
+}
+
+impl Holds<PsshBox> for MoreBox {
+    ghost wrapped = { more.PsshBox };
+
+    fn wrap(value: PsshBox) -> MoreBox {
+        MoreBox::PsshBox(value)
+    }
+}
+
+impl Holds<SaioBox> for MoreBox {
+    ghost wrapped = { more.SaioBox };
+
+    fn wrap(value: SaioBox) -> MoreBox {
+        MoreBox::SaioBox(value)
+    }
+}
+
+impl Holds<SaizBox> for MoreBox {
+    ghost wrapped = { more.SaizBox };
+
+    fn wrap(value: SaizBox) -> MoreBox {
+        MoreBox::SaizBox(value)
+    }
+}
+
+impl Holds<SbgpBox> for MoreBox {
+    ghost wrapped = { more.SbgpBox };
+
+    fn wrap(value: SbgpBox) -> MoreBox {
+        MoreBox::SbgpBox(value)
+    }
+}
+
+impl Holds<SchmBox> for MoreBox {
+    ghost wrapped = { more.SchmBox };
+
+    fn wrap(value: SchmBox) -> MoreBox {
+        MoreBox::SchmBox(value)
+    }
+}
+
+impl Holds<SdtpBox> for MoreBox {
+    ghost wrapped = { more.SdtpBox };
+
+    fn wrap(value: SdtpBox) -> MoreBox {
+        MoreBox::SdtpBox(value)
+    }
+}
+
+impl Holds<SencBox> for MoreBox {
+    ghost wrapped = { more.SencBox };
+
+    fn wrap(value: SencBox) -> MoreBox {
+        MoreBox::SencBox(value)
+    }
+}
+
+impl Holds<SgpdBox> for MoreBox {
+    ghost wrapped = { more.SgpdBox };
+
+    fn wrap(value: SgpdBox) -> MoreBox {
+        MoreBox::SgpdBox(value)
+    }
+}
+
+impl Holds<SidxBox> for MoreBox {
+    ghost wrapped = { more.SidxBox };
+
+    fn wrap(value: SidxBox) -> MoreBox {
+        MoreBox::SidxBox(value)
+    }
+}
+
+impl Holds<StypBox> for MoreBox {
+    ghost wrapped = { more.StypBox };
+
+    fn wrap(value: StypBox) -> MoreBox {
+        MoreBox::StypBox(value)
+    }
+}
+
+impl Holds<Stz2Box> for MoreBox {
+    ghost wrapped = { more.Stz2Box };
+
+    fn wrap(value: Stz2Box) -> MoreBox {
+        MoreBox::Stz2Box(value)
+    }
+}
+
+impl Holds<SubsBox> for MoreBox {
+    ghost wrapped = { more.SubsBox };
+
+    fn wrap(value: SubsBox) -> MoreBox {
+        MoreBox::SubsBox(value)
+    }
+}
+
+impl Holds<TencBox> for MoreBox {
+    ghost wrapped = { more.TencBox };
+
+    fn wrap(value: TencBox) -> MoreBox {
+        MoreBox::TencBox(value)
+    }
+}
+
+impl Holds<TfraBox> for MoreBox {
+    ghost wrapped = { more.TfraBox };
+
+    fn wrap(value: TfraBox) -> MoreBox {
+        MoreBox::TfraBox(value)
+    }
+}
+
+impl Holds<TrefBox> for MoreBox {
+    ghost wrapped = { more.TrefBox };
+
+    fn wrap(value: TrefBox) -> MoreBox {
+        MoreBox::TrefBox(value)
+    }
 }

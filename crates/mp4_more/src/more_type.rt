@@ -4,8 +4,9 @@ ghost use Rattle.std.specs.Prelude.{◌≡◌};
 ghost use Rattle.mp4_more.specs.MoreType.{type_of_code};
 
 use crate::{
-    AV1C, BTRT, CLAP, CLLI, COLR, DAC3, DEC3, DFLA, DOPS, ELNG, FRMA, KEYS, MDCV, MFRO, NMHD, PASP,
-    PRFT, PSSH, SAIO, SAIZ, SBGP, SCHM, SDTP, SENC, SGPD, SIDX, STYP, STZ2, SUBS, TENC, TFRA, TREF,
+    AV1C, BTRT, CLAP, CLLI, COLR, CSLG, DAC3, DEC3, DFLA, DOPS, ELNG, FRMA, KEYS, KIND, MDCV, MFRO,
+    NMHD, PASP, PRFT, PSSH, SAIO, SAIZ, SBGP, SCHM, SDTP, SENC, SGPD, SIDX, STYP, STZ2, SUBS, TENC,
+    TFRA, TREF,
 };
 
 /// A type of boxes that a `MoreBox` holds.
@@ -16,6 +17,7 @@ pub(crate) enum MoreType {
     ClapBox,
     ClliBox,
     ColrBox,
+    CslgBox,
     Dac3Box,
     Dec3Box,
     DflaBox,
@@ -23,6 +25,7 @@ pub(crate) enum MoreType {
     ElngBox,
     FrmaBox,
     KeysBox,
+    KindBox,
     MdcvBox,
     MfroBox,
     NmhdBox,
@@ -57,6 +60,7 @@ impl MoreType {
             CLAP => Some(MoreType::ClapBox),
             CLLI => Some(MoreType::ClliBox),
             COLR => Some(MoreType::ColrBox),
+            CSLG => Some(MoreType::CslgBox),
             DAC3 => Some(MoreType::Dac3Box),
             DEC3 => Some(MoreType::Dec3Box),
             DFLA => Some(MoreType::DflaBox),
@@ -64,6 +68,7 @@ impl MoreType {
             ELNG => Some(MoreType::ElngBox),
             FRMA => Some(MoreType::FrmaBox),
             KEYS => Some(MoreType::KeysBox),
+            KIND => Some(MoreType::KindBox),
             MDCV => Some(MoreType::MdcvBox),
             MFRO => Some(MoreType::MfroBox),
             NMHD => Some(MoreType::NmhdBox),

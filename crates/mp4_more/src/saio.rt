@@ -1,9 +1,8 @@
 //! The sample auxiliary information offsets box.
 
-ghost use Rattle.mp4_more.specs.declared.saio.TheConstants.{SAIO};
+ghost use Rattle.mp4_more.specs.declared.saio.TheConstants.{SAIO, SHORT, LONG};
 ghost use Rattle.std.proofs.Common.{refl, lit<};
-ghost use Rattle.std.specs.Prelude.{[], ◌∷◌};
-ghost use Rattle.mp4_stream.specs.Author.{layout_of, packed, unsigned};
+ghost use Rattle.mp4_stream.specs.Author.{layout_of, packed, fields_of};
 ghost use Rattle.mp4_more.specs.ByVersion.{by_version_shape};
 ghost use Rattle.mp4_more.specs.ByVersionLaws.{by_version_laws};
 
@@ -25,14 +24,16 @@ pub struct SaioOffset {
     pub offset: u64,
 }
 
+/// The width of an offset in version 0, in bits.
+const SHORT: [u8; 1] = [32];
+
 impl EntryLayout<1, 4> for SaioOffset {
     ghost use Rattle.mp4_more.specs.contracts.saio.SaioOffset.{struct};
 
-    ghost layout = { packed (unsigned 32 ∷ []) struct.as_values
-        (λ v. struct.make v tt) (λ _. refl) (λ _. refl) refl };
+    ghost layout = { packed (fields_of SHORT) struct.as_values (λ v. struct.make v tt) (λ _. refl) (λ _. refl) refl };
 
     fn widths() -> [u8; 1] {
-        [32]
+        SHORT
     }
 
     fn numbers(&self) -> [u64; 1] {
@@ -46,14 +47,16 @@ impl EntryLayout<1, 4> for SaioOffset {
     ghost few = { lit< tt };
 }
 
+/// The width of an offset in version 1, in bits.
+const LONG: [u8; 1] = [64];
+
 impl EntryLayout<1, 8> for SaioOffset {
     ghost use Rattle.mp4_more.specs.contracts.saio.SaioOffset.{struct};
 
-    ghost layout = { packed (unsigned 64 ∷ []) struct.as_values
-        (λ v. struct.make v tt) (λ _. refl) (λ _. refl) refl };
+    ghost layout = { packed (fields_of LONG) struct.as_values (λ v. struct.make v tt) (λ _. refl) (λ _. refl) refl };
 
     fn widths() -> [u8; 1] {
-        [64]
+        LONG
     }
 
     fn numbers(&self) -> [u64; 1] {

@@ -1,9 +1,8 @@
 //! The sample to group box.
 
-ghost use Rattle.mp4_more.specs.declared.sbgp.TheConstants.{SBGP};
+ghost use Rattle.mp4_more.specs.declared.sbgp.TheConstants.{SBGP, WIDTHS};
 ghost use Rattle.std.proofs.Common.{refl, lit<};
-ghost use Rattle.std.specs.Prelude.{[], ◌∷◌};
-ghost use Rattle.mp4_stream.specs.Author.{layout_of, packed, unsigned};
+ghost use Rattle.mp4_stream.specs.Author.{layout_of, packed, fields_of};
 
 use crate::code::Code;
 use mp4_stream::author::{
@@ -24,14 +23,16 @@ pub struct SbgpEntry {
     pub group_description_index: u32,
 }
 
+/// The widths of its fields, in bits.
+const WIDTHS: [u8; 2] = [32, 32];
+
 impl EntryLayout<2, 8> for SbgpEntry {
     ghost use Rattle.mp4_more.specs.contracts.sbgp.SbgpEntry.{struct};
 
-    ghost layout = { packed (unsigned 32 ∷ unsigned 32 ∷ []) struct.as_values
-        (λ v. struct.make v tt) (λ _. refl) (λ _. refl) refl };
+    ghost layout = { packed (fields_of WIDTHS) struct.as_values (λ v. struct.make v tt) (λ _. refl) (λ _. refl) refl };
 
     fn widths() -> [u8; 2] {
-        [32, 32]
+        WIDTHS
     }
 
     fn numbers(&self) -> [u64; 2] {

@@ -1,9 +1,8 @@
 //! The independent and disposable samples box.
 
-ghost use Rattle.mp4_more.specs.declared.sdtp.TheConstants.{SDTP};
+ghost use Rattle.mp4_more.specs.declared.sdtp.TheConstants.{SDTP, WIDTHS};
 ghost use Rattle.std.proofs.Common.{refl, lit<};
-ghost use Rattle.std.specs.Prelude.{[], ◌∷◌};
-ghost use Rattle.mp4_stream.specs.Author.{layout_of, packed, unsigned};
+ghost use Rattle.mp4_stream.specs.Author.{layout_of, packed, fields_of};
 
 use crate::to_end::ToEnd;
 use mp4_stream::author::{About, Declared, DeclaredBox, EntryLayout, Full, Last, Shape};
@@ -26,14 +25,16 @@ pub struct SdtpEntry {
     pub sample_has_redundancy: u8,
 }
 
+/// The widths of its fields, in bits.
+const WIDTHS: [u8; 4] = [2, 2, 2, 2];
+
 impl EntryLayout<4, 1> for SdtpEntry {
     ghost use Rattle.mp4_more.specs.contracts.sdtp.SdtpEntry.{struct};
 
-    ghost layout = { packed (unsigned 2 ∷ unsigned 2 ∷ unsigned 2 ∷ unsigned 2 ∷ []) struct.as_values
-        (λ v. struct.make v tt) (λ _. refl) (λ _. refl) refl };
+    ghost layout = { packed (fields_of WIDTHS) struct.as_values (λ v. struct.make v tt) (λ _. refl) (λ _. refl) refl };
 
     fn widths() -> [u8; 4] {
-        [2, 2, 2, 2]
+        WIDTHS
     }
 
     fn numbers(&self) -> [u64; 4] {

@@ -1,9 +1,8 @@
 //! The track encryption box.
 
-ghost use Rattle.mp4_more.specs.declared.tenc.TheConstants.{TENC};
+ghost use Rattle.mp4_more.specs.declared.tenc.TheConstants.{TENC, WIDTHS};
 ghost use Rattle.std.proofs.Common.{refl, lit<};
-ghost use Rattle.std.specs.Prelude.{[], ◌∷◌};
-ghost use Rattle.mp4_stream.specs.Author.{layout_of, packed, unsigned};
+ghost use Rattle.mp4_stream.specs.Author.{layout_of, packed, fields_of};
 
 use crate::or_zeros::OrZeros;
 use mp4_stream::author::{
@@ -24,14 +23,16 @@ pub struct TencPattern {
     pub default_skip_byte_block: u8,
 }
 
+/// The widths of its fields, in bits.
+const WIDTHS: [u8; 2] = [4, 4];
+
 impl EntryLayout<2, 1> for TencPattern {
     ghost use Rattle.mp4_more.specs.contracts.tenc.TencPattern.{struct};
 
-    ghost layout = { packed (unsigned 4 ∷ unsigned 4 ∷ []) struct.as_values
-        (λ v. struct.make v tt) (λ _. refl) (λ _. refl) refl };
+    ghost layout = { packed (fields_of WIDTHS) struct.as_values (λ v. struct.make v tt) (λ _. refl) (λ _. refl) refl };
 
     fn widths() -> [u8; 2] {
-        [4, 4]
+        WIDTHS
     }
 
     fn numbers(&self) -> [u64; 2] {

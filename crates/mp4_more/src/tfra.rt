@@ -1,9 +1,8 @@
 //! The track fragment random access box.
 
-ghost use Rattle.mp4_more.specs.declared.tfra.TheConstants.{TFRA};
+ghost use Rattle.mp4_more.specs.declared.tfra.TheConstants.{TFRA, WIDTHS};
 ghost use Rattle.std.proofs.Common.{refl, lit<};
-ghost use Rattle.std.specs.Prelude.{[], ◌∷◌};
-ghost use Rattle.mp4_stream.specs.Author.{layout_of, packed, unsigned};
+ghost use Rattle.mp4_stream.specs.Author.{layout_of, packed, fields_of};
 
 use mp4_stream::author::{
     About, Bits, Declared, DeclaredBox, EntryLayout, Full, Last, Rest, Shape, U32,
@@ -26,14 +25,16 @@ pub struct TfraLengths {
     pub length_size_of_sample_num: u8,
 }
 
+/// The widths of its fields, in bits.
+const WIDTHS: [u8; 4] = [26, 2, 2, 2];
+
 impl EntryLayout<4, 4> for TfraLengths {
     ghost use Rattle.mp4_more.specs.contracts.tfra.TfraLengths.{struct};
 
-    ghost layout = { packed (unsigned 26 ∷ unsigned 2 ∷ unsigned 2 ∷ unsigned 2 ∷ []) struct.as_values
-        (λ v. struct.make v tt) (λ _. refl) (λ _. refl) refl };
+    ghost layout = { packed (fields_of WIDTHS) struct.as_values (λ v. struct.make v tt) (λ _. refl) (λ _. refl) refl };
 
     fn widths() -> [u8; 4] {
-        [26, 2, 2, 2]
+        WIDTHS
     }
 
     fn numbers(&self) -> [u64; 4] {

@@ -14,10 +14,10 @@ use mp4_fields::FieldSink;
 use mp4_more::MoreBox;
 use mp4_stream::Result;
 use protection::{put_frma, put_pssh, put_schm, put_senc, put_tenc};
-use samples::{put_saio, put_saiz, put_sbgp, put_sdtp, put_sgpd, put_stz2, put_subs};
+use samples::{put_cslg, put_saio, put_saiz, put_sbgp, put_sdtp, put_sgpd, put_stz2, put_subs};
 use segments::{put_mfro, put_prft, put_sidx, put_styp, put_tfra};
 use sound::{put_dac3, put_dec3, put_dfla, put_dops};
-use tracks::{put_btrt, put_elng, put_keys, put_nmhd, put_tref};
+use tracks::{put_btrt, put_elng, put_keys, put_kind, put_nmhd, put_tref};
 use video::{put_av1c, put_clap, put_clli, put_colr, put_mdcv, put_pasp};
 
 /// Hands the fields of a box to a sink, in the order of the box.
@@ -30,6 +30,7 @@ pub fn put_more<S: FieldSink>(more: &MoreBox, sink: &mut S) -> Result<()>
         MoreBox::ClapBox(b) => put_clap(b, sink),
         MoreBox::ClliBox(b) => put_clli(b, sink),
         MoreBox::ColrBox(b) => put_colr(b, sink),
+        MoreBox::CslgBox(b) => put_cslg(b, sink),
         MoreBox::Dac3Box(b) => put_dac3(b, sink),
         MoreBox::Dec3Box(b) => put_dec3(b, sink),
         MoreBox::DflaBox(b) => put_dfla(b, sink),
@@ -37,6 +38,7 @@ pub fn put_more<S: FieldSink>(more: &MoreBox, sink: &mut S) -> Result<()>
         MoreBox::ElngBox(b) => put_elng(b, sink),
         MoreBox::FrmaBox(b) => put_frma(b, sink),
         MoreBox::KeysBox(b) => put_keys(b, sink),
+        MoreBox::KindBox(b) => put_kind(b, sink),
         MoreBox::MdcvBox(b) => put_mdcv(b, sink),
         MoreBox::MfroBox(b) => put_mfro(b, sink),
         MoreBox::NmhdBox(b) => put_nmhd(b, sink),

@@ -1,9 +1,8 @@
 //! A box of numbers of each kind, without version and flags. No standard has it.
 
-ghost use Rattle.test_more.specs.declared.numbers.TheConstants.{NUMB};
+ghost use Rattle.test_more.specs.declared.numbers.TheConstants.{NUMB, WIDTHS};
 ghost use Rattle.std.proofs.Common.{refl, lit<};
-ghost use Rattle.std.specs.Prelude.{[], ◌∷◌};
-ghost use Rattle.mp4_stream.specs.Author.{layout_of, packed, flag, unsigned};
+ghost use Rattle.mp4_stream.specs.Author.{layout_of, packed, fields_of};
 
 use mp4_stream::author::{
     About, Bits, Declared, DeclaredBox, EntryLayout, I8, I16, I32, Last, Shape, U8, U16, U24,
@@ -24,14 +23,16 @@ pub struct Packed {
     pub level: u16,
 }
 
+/// The widths of its fields, in bits; a field of a single bit is a flag.
+const WIDTHS: [u8; 3] = [1, 5, 10];
+
 impl EntryLayout<3, 2> for Packed {
     ghost use Rattle.test_more.specs.contracts.numbers.Packed.{struct};
 
-    ghost layout = { packed (flag ∷ unsigned 5 ∷ unsigned 10 ∷ []) struct.as_values (λ v. struct.make v tt) (λ _. refl)
-        (λ _. refl) refl };
+    ghost layout = { packed (fields_of WIDTHS) struct.as_values (λ v. struct.make v tt) (λ _. refl) (λ _. refl) refl };
 
     fn widths() -> [u8; 3] {
-        [1, 5, 10]
+        WIDTHS
     }
 
     fn numbers(&self) -> [u64; 3] {

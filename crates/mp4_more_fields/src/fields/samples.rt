@@ -6,7 +6,7 @@ ghost use Rattle.mp4_fields.specs.Nesting.{fields, entries, Keeps};
 use crate::flag_names::{AUXILIARY, NONE};
 use crate::put::{number_in, put_entry, put_if_some};
 use mp4_fields::{FieldSink, Value, put_all, put_full};
-use mp4_more::{Saio, SaioOffset, Saiz, Sbgp, SbgpEntry, Sdtp, SdtpEntry, Sgpd, Stz2, Subs};
+use mp4_more::{Cslg, Saio, SaioOffset, Saiz, Sbgp, SbgpEntry, Sdtp, SdtpEntry, Sgpd, Stz2, Subs};
 use mp4_stream::{FourCC, Result};
 
 /// Hands what auxiliary information is for to a sink, if the box says so.
@@ -41,6 +41,33 @@ pub fn put_saio<S: FieldSink>(b: &Saio, sink: &mut S) -> Result<()>
     put_full(b.version, b.flags, AUXILIARY, sink)?;
     put_auxiliary(b.aux_info_type, b.aux_info_type_parameter, sink)?;
     put_offsets(b.offsets.as_slice(), sink)
+}
+
+/// How composition times lie beside decoding times (ISO/IEC 14496-12, 8.6.1.4).
+pub fn put_cslg<S: FieldSink>(b: &Cslg, sink: &mut S) -> Result<()>
+    ensures nesting { OnOk result (Keeps S.since fields sink.old sink.new) }
+{
+    put_full(b.version, b.flags, NONE, sink)?;
+    let row = [
+        (
+            "compositionToDTSShift",
+            Value::Signed(b.composition_to_dts_shift),
+        ),
+        (
+            "leastDecodeToDisplayDelta",
+            Value::Signed(b.least_decode_to_display_delta),
+        ),
+        (
+            "greatestDecodeToDisplayDelta",
+            Value::Signed(b.greatest_decode_to_display_delta),
+        ),
+        (
+            "compositionStartTime",
+            Value::Signed(b.composition_start_time),
+        ),
+        ("compositionEndTime", Value::Signed(b.composition_end_time)),
+    ];
+    put_all(&row, sink)
 }
 
 /// Hands numbers of one byte to a sink, unless there are none.

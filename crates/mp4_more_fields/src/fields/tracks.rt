@@ -7,7 +7,7 @@ use crate::flag_names::NONE;
 use crate::pieces::{HEAD, code_at, count_numbers, count_pieces, held_at, next_after};
 use crate::put::{number_in, put_entry, put_string};
 use mp4_fields::{FieldSink, Value, put_all, put_full};
-use mp4_more::{Btrt, Elng, Keys, Nmhd, Tref};
+use mp4_more::{Btrt, Elng, Keys, Kind, Nmhd, Tref};
 use mp4_stream::Result;
 
 /// The bit rates of media (ISO/IEC 14496-12, 8.5.2.2).
@@ -67,6 +67,15 @@ pub fn put_keys<S: FieldSink>(b: &Keys, sink: &mut S) -> Result<()>
         }
         _ => sink.field("data_bytes", Value::Bytes(bytes)),
     }
+}
+
+/// What a track is for (ISO/IEC 14496-12, 8.10.4).
+pub fn put_kind<S: FieldSink>(b: &Kind, sink: &mut S) -> Result<()>
+    ensures nesting { OnOk result (Keeps S.since fields sink.old sink.new) }
+{
+    put_full(b.version, b.flags, NONE, sink)?;
+    put_string("schemeURI", b.scheme_uri.as_slice(), sink)?;
+    put_string("value", b.value.as_slice(), sink)
 }
 
 /// The header of media that need no other (ISO/IEC 14496-12, 8.4.5.2).

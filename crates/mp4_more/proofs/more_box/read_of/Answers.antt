@@ -15,6 +15,9 @@ returns-in-ClliBox-clause-answer c = rw c.in-ClliBox.is c.read_as-in-ClliBox.ens
 pub returns-in-ColrBox-clause-answer : goal.returns-in-ColrBox-clause-answer
 returns-in-ColrBox-clause-answer c = rw c.in-ColrBox.is c.read_as-in-ColrBox.ensures.answer
 
+pub returns-in-CslgBox-clause-answer : goal.returns-in-CslgBox-clause-answer
+returns-in-CslgBox-clause-answer c = rw c.in-CslgBox.is c.read_as-in-CslgBox.ensures.answer
+
 pub returns-in-Dac3Box-clause-answer : goal.returns-in-Dac3Box-clause-answer
 returns-in-Dac3Box-clause-answer c = rw c.in-Dac3Box.is c.read_as-in-Dac3Box.ensures.answer
 
@@ -35,6 +38,9 @@ returns-in-FrmaBox-clause-answer c = rw c.in-FrmaBox.is c.read_as-in-FrmaBox.ens
 
 pub returns-in-KeysBox-clause-answer : goal.returns-in-KeysBox-clause-answer
 returns-in-KeysBox-clause-answer c = rw c.in-KeysBox.is c.read_as-in-KeysBox.ensures.answer
+
+pub returns-in-KindBox-clause-answer : goal.returns-in-KindBox-clause-answer
+returns-in-KindBox-clause-answer c = rw c.in-KindBox.is c.read_as-in-KindBox.ensures.answer
 
 pub returns-in-MdcvBox-clause-answer : goal.returns-in-MdcvBox-clause-answer
 returns-in-MdcvBox-clause-answer c = rw c.in-MdcvBox.is c.read_as-in-MdcvBox.ensures.answer

@@ -30,6 +30,12 @@ ask-requires-in-ColrBox g c = rw c.in-ColrBox.is at c.requires
 pub returns-in-ColrBox : goal.returns-in-ColrBox
 returns-in-ColrBox g c = rw c.in-ColrBox.is c.ask-in-ColrBox.ensures
 
+pub ask-requires-in-CslgBox : goal.ask-requires-in-CslgBox
+ask-requires-in-CslgBox g c = rw c.in-CslgBox.is at c.requires
+
+pub returns-in-CslgBox : goal.returns-in-CslgBox
+returns-in-CslgBox g c = rw c.in-CslgBox.is c.ask-in-CslgBox.ensures
+
 pub ask-requires-in-Dac3Box : goal.ask-requires-in-Dac3Box
 ask-requires-in-Dac3Box g c = rw c.in-Dac3Box.is at c.requires
 
@@ -71,6 +77,12 @@ ask-requires-in-KeysBox g c = rw c.in-KeysBox.is at c.requires
 
 pub returns-in-KeysBox : goal.returns-in-KeysBox
 returns-in-KeysBox g c = rw c.in-KeysBox.is c.ask-in-KeysBox.ensures
+
+pub ask-requires-in-KindBox : goal.ask-requires-in-KindBox
+ask-requires-in-KindBox g c = rw c.in-KindBox.is at c.requires
+
+pub returns-in-KindBox : goal.returns-in-KindBox
+returns-in-KindBox g c = rw c.in-KindBox.is c.ask-in-KindBox.ensures
 
 pub ask-requires-in-MdcvBox : goal.ask-requires-in-MdcvBox
 ask-requires-in-MdcvBox g c = rw c.in-MdcvBox.is at c.requires
