@@ -2,7 +2,7 @@
 
 use crate::tests::{UNFIT, ending, ending_of};
 use crate::{Numbers, Options, Packed, Range, RangeBox};
-use mp4_more::{Ac3Config, Colr, Dac3, Nclx, Nmhd, OfType, Prft, Schm};
+use mp4_more::{Ac3Config, Colr, Cslg, Dac3, Nclx, Nmhd, OfType, Prft, Schm};
 use mp4_stream::FourCC;
 use std::test::Fail;
 
@@ -37,6 +37,19 @@ fn options(flags: u32, size: Option<u32>, kind: Option<u16>) -> Options {
 /// A range that is marked or isn't.
 fn range(least: u16, most: u16, mark: u8) -> RangeBox {
     RangeBox::new(Range { least, most, mark })
+}
+
+/// Version 0, with these times, of which the first and the last may need more than 32 bits.
+fn cslg(shift: i64, end: i64) -> Cslg {
+    Cslg {
+        version: 0,
+        flags: 0x81_8283,
+        composition_to_dts_shift: shift,
+        least_decode_to_display_delta: -0x7776_7575,
+        greatest_decode_to_display_delta: -0x7372_7171,
+        composition_start_time: -0x6f6e_6d6d,
+        composition_end_time: end,
+    }
 }
 
 /// A code of the rate in six bits, where there are five.
@@ -102,13 +115,20 @@ fn numbers_that_do_not_fit(rt: HostRuntime) -> Result<(), Fail> {
         ending(alloc, options(2, Some(7), Some(7))),
         ending(alloc, options(1, Some(7), Some(7))),
         ending_of(alloc, &range(2, 1, 0)),
+        ending(alloc, cslg(1 << 31, 0)),
+        ending(alloc, cslg(-(1 << 31) - 1, 0)),
+        ending(alloc, cslg(0, 1 << 32)),
         ending(alloc, DAC3),
         ending(alloc, colr),
         ending(alloc, NMHD),
         ending(alloc, PRFT),
         ending(alloc, SCHM),
     ];
-    assert_eq!(rt; endings, [UNFIT; 13]);
-    assert_eq!(rt; ending_of(alloc, &range(2, 2, 1)), "ok");
+    assert_eq!(rt; endings, [UNFIT; 16]);
+    let written = [
+        ending_of(alloc, &range(2, 2, 1)),
+        ending(alloc, cslg(-(1 << 31), (1 << 31) - 1)),
+    ];
+    assert_eq!(rt; written, ["ok"; 2]);
     Ok(())
 }
