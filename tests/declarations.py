@@ -79,14 +79,10 @@ class Declared:
         impl = re.search(rf"impl EntryLayout<{count}, {size}> for {struct} \{{(.*?)(?= impl |$)", self.source)
         if not impl:
             raise Differs(f"{self.code}: {struct} has no EntryLayout<{count}, {size}>")
-        const = re.search(r"const WIDTHS: \[u8; \d+\] = \[([^]]*)\]", self.source)
-        widths = re.search(r"fn widths\(\) -> \[u8; \w+\] \{ (?:\[([^]]*)\]|WIDTHS) \}", impl[1])
-        widths = [int(it) for it in (widths[1] or const[1]).split(",") if it.strip()]
-        proved = re.search(r"packed \((?:fields_of (WIDTHS)|([^)]*))\)", impl[1])
-        if proved[1]:
-            others = [int(it) for it in const[1].split(",") if it.strip()]
-        else:
-            others = [1 if it == "flag" else int(it.split()[1]) for it in proved[2].split(" ∷ ")[:-1]]
+        constants = dict(re.findall(r"const (\w+): \[u8; \d+\] = \[([^]]*)\]", self.source))
+        widths, others = (
+            [int(it) for it in constants[re.search(where, impl[1])[1]].split(",") if it.strip()]
+            for where in (r"fn widths\(\) -> \[u8; \w+\] \{ (\w+) \}", r"packed \(fields_of (\w+)\)"))
         names = re.search(r"numbers_of!\(self => ([^)]*)\)", impl[1])[1].replace(" ", "").split(",")
         if not widths == others or not names == self.fields_of(struct) or len(names) != len(widths):
             raise Differs(f"{self.code}: {struct} has {names} of {widths} bits, for the prover {others}")
