@@ -81,6 +81,12 @@ class Printed:
             fields = self.fields(name)
             self.take(" }")
             return name.lower(), fields
+        if self.take("Parent { fields: "):
+            name, fields = self.value()
+            self.take(", boxes: ")
+            boxes = [named(it) for it in self.value()]
+            self.take(" }")
+            return name, {**fields, "boxes": boxes}
         word = self.match(WORD)[0]
         if self.take("("):
             inner = self.values(")")

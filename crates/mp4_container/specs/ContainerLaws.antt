@@ -1,22 +1,21 @@
 -- The laws of a container follow from those of the boxes that it holds.
-use Rattle.std.proofs.Common.{◌≡◌, ℕ, zero, suc, ◌+◌, ◌-◌, ◌≤◌, ◌<◌, ◌^◌, Bool, true, false, eqb, List, [], ◌∷◌}
-use Rattle.std.proofs.Common.{◌++◌, length, map, take, drop}
+use Rattle.std.proofs.Common.{◌≡◌, ℕ, ◌+◌, ◌-◌, ◌<◌, ◌^◌, Bool, true, false, eqb, List, [], ◌∷◌, ◌++◌}
+use Rattle.std.proofs.Common.{length, map, drop}
 use Rattle.std.proofs.Common.{Ok, refl, sym, ap, subst, ◌∙◌, arith, append_assoc, length-append}
 use Rattle.std.specs.Prelude.{nat_le, sum_by}
 use Rattle.std.specs.List.{AllByRecursion}
 use Rattle.std.proofs.lemmas.Bool.{le-leb, ne_eqb}
 use Rattle.std.proofs.lemmas.List.Elements.{All-from_recursion, recursion_from_All}
-use Rattle.std.proofs.lemmas.List.Sums.{sum_by-cons}
 use Rattle.mp4_frame.specs.BoxType.{name_of, code_of, code_of-name_of}
 use Rattle.mp4_frame.specs.Bytes.{bytes_of_fields, number}
 use Rattle.mp4_frame.specs.Format.{Format, IsWritten}
 use Rattle.mp4_frame.specs.Laws.{AreBytes, BeginsWithHeader, Normal, OwnName, ReadsBack, ContentReadsBack}
 use Rattle.mp4_frame.specs.Laws.{ContentIsSound}
-use Rattle.mp4_frame.specs.Reading.{Reading, ◌>>=◌, expect_bytes, piece_at, done, reading}
+use Rattle.mp4_frame.specs.Reading.{Reading, ◌>>=◌, piece_at, done, reading}
 use Rattle.mp4_frame.specs.ReadingLaws.{reads_back}
 use Rattle.mp4_frame.specs.Streams.{stream, boxes}
 use Rattle.mp4_frame.specs.declared.box_type.BoxType.{BoxType}
-use Rattle.mp4_frame.proofs.Checks.{are_bytes-drop, check_ok, expect_bytes_room, is_value, piece_back, reads_ok}
+use Rattle.mp4_frame.proofs.Checks.{are_bytes-drop, check_ok, is_value, piece_back, reads_ok}
 use Rattle.mp4_frame.proofs.Decided.{outcome_bind}
 use Rattle.mp4_frame.proofs.Fields.{length-fields}
 use Rattle.mp4_frame.proofs.Framing.{header_in_front}
@@ -32,32 +31,12 @@ use Rattle.mp4_container.specs.Container.{with_fields, content_container, reads_
 use Rattle.mp4_container.specs.Container.{size_container, header_container, content_of, WritableContainer}
 use Rattle.mp4_container.specs.Container.{bytes_container, format_container}
 use Rattle.mp4_container.specs.FrontLaws.{width_back, front_read}
+use Rattle.mp4_container.specs.HeldBoxes.{stream_long, each_below, normals_again, piece_read}
 use Rattle.mp4_container.specs.Parents.{is_parent, front_of, begins_with_zeros, width_in, is_front}
 use Rattle.mp4_container.specs.declared.container.Container.{Container}
 
 pub by_code_container : ByCode known_container
 by_code_container n m same = ap is_parent same
-
--- the sizes of boxes that can be written are the numbers of their bytes
-stream_long : {A : Type 0} (format : Format A) → IsWritten format → (vs : List A) → AllByRecursion format.Writable vs
-    → length (stream format.bytes vs) ≡ sum_by format.size vs
-stream_long format laws [] w = refl
-stream_long format laws (v ∷ vs) w =
-    omega (
-      arith,
-      length-append (format.bytes v) (stream format.bytes vs),
-      (laws.header v w.0).long,
-      stream_long format laws vs w.1,
-      sum_by-cons format.size v vs,
-    )
-
--- each size is at most the sum
-each_below : {A : Type 0} (size : A → ℕ) (vs : List A) (most : ℕ) → sum_by size vs < most
-    → AllByRecursion (λ v. size v < most) vs
-each_below size [] most less = tt
-each_below size (v ∷ vs) most less =
-    let sum = sum_by-cons size v vs in
-    (omega (arith, less, sum), each_below size vs most (omega (arith, less, sum)))
 
 -- the bytes of boxes begin with a size, which is not 0
 no_zeros : {A : Type 0} (format : Format A) → IsWritten format → (vs : List A) → AllByRecursion format.Writable vs
@@ -75,17 +54,6 @@ no_zeros format laws (v ∷ vs) w =
       le-leb 4 (length (format.bytes v ++ rest)) (omega (arith, length-append (format.bytes v) rest, f.long, f.least)),
       some,
     ) refl
-
--- a piece that was read is there
-piece_read : (bytes : List ℕ) (o w : ℕ) (piece : List ℕ) → (piece_at bytes o w).outcome ≡ Ok piece
-    → (take w (drop o bytes) ≡ piece) × (o ≤ length bytes → o + w ≤ length bytes)
-piece_read bytes o w piece e =
-    let p = value_first (expect_bytes bytes o w) (λ _. done (take w (drop o bytes))) piece e in
-    (is_value (take w (drop o bytes)) piece p.2, λ front. room w p.1 front)
-  where
-    room : (w : ℕ) → (expect_bytes bytes o w).outcome ≡ (done tt).outcome → o ≤ length bytes → o + w ≤ length bytes
-    room zero e front = omega (arith, front)
-    room (suc w) e front = expect_bytes_room bytes o (suc w) (omega arith) e
 
 module _ {A : Type 0} (format : Format A) (laws : IsWritten format) where
   content_long : (v : Container A) → WritableContainer format v
@@ -141,17 +109,10 @@ module _ {A : Type 0} (format : Format A) (laws : IsWritten format) where
           each = All-from_recursion format.Writable (map format.normal v.boxes) writable;
         };
         again = ap (λ (vs : List A). record { code = v.code; fields = v.fields; boxes = vs })
-            (twice v.boxes each);
+            (normals_again format laws v.boxes each);
         same_bytes = ap (λ (n : ℕ). bytes_of_fields ((4, n) ∷ (4, v.code) ∷ []) ++ content_of format (normal v)) size
             ∙ ap (λ (bs : List ℕ). bytes_of_fields (header_container format v) ++ bs) content;
       }
-    where
-      twice : (vs : List A) → AllByRecursion format.Writable vs
-          → map format.normal (map format.normal vs) ≡ map format.normal vs
-      twice [] w = refl
-      twice (v ∷ vs) w =
-          ap (λ (u : A). u ∷ map format.normal (map format.normal vs)) (laws.normal_form v w.0).again
-          ∙ ap (λ (us : List A). format.normal v ∷ us) (twice vs w.1)
 
   pub written_container : IsWritten (format_container format)
   written_container = record { header = header_law; normal_form = normal_law }

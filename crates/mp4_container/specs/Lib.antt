@@ -1,6 +1,11 @@
 pub mod Parents
 pub mod FrontLaws
+pub mod HeldBoxes
 pub mod Container
 pub mod ContainerLaws
+pub mod Parent
+pub mod ParentLaws
+pub mod Child
+pub mod ChildShapeLaws
 pub mod Branch
 pub mod BranchLaws

@@ -3,14 +3,18 @@
 #![tactic(auto)]
 
 mod checked;
+mod children;
 mod numbers;
 mod options;
+mod parents;
 mod runs;
 mod strings;
 
 pub use checked::{RANG, Range, RangeBox};
+pub use children::{INNR, Inner, OUTR, Outer, OuterBox};
 pub use numbers::{NUMB, Numbers, NumbersBox, Packed};
 pub use options::{OPTS, Options, OptionsBox};
+pub use parents::{TREP, Trep, TrepBox};
 pub use runs::{RUNS, Runs, RunsBox};
 pub use strings::{STRS, Strings, StringsBox};
 

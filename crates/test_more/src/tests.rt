@@ -3,6 +3,7 @@
 
 mod lists;
 mod numbers;
+mod parents;
 
 use mp4_stream::author::{Declared, DeclaredBox};
 use mp4_stream::{Entries, Error, Result as Made, WriteBox};

@@ -10,7 +10,8 @@ use mp4_stream::{
 use std::alloc::{AllocError, Global};
 use std::fmt::Debug;
 use test_more::{
-    NUMB, NumbersBox, OPTS, OptionsBox, RANG, RUNS, RangeBox, RunsBox, STRS, StringsBox,
+    NUMB, NumbersBox, OPTS, OUTR, OptionsBox, OuterBox, RANG, RUNS, RangeBox, RunsBox, STRS,
+    StringsBox, TREP, TrepBox,
 };
 
 /// Appends two records: what was read as a box, with the cursor's position, and what this box is written in.
@@ -75,9 +76,11 @@ pub(crate) fn show_declared(
     match name {
         BoxType::UnknownBox(NUMB) => show_as::<NumbersBox>(alloc, size, reader, out),
         BoxType::UnknownBox(OPTS) => show_as::<OptionsBox>(alloc, size, reader, out),
+        BoxType::UnknownBox(OUTR) => show_as::<OuterBox>(alloc, size, reader, out),
         BoxType::UnknownBox(RANG) => show_as::<RangeBox>(alloc, size, reader, out),
         BoxType::UnknownBox(RUNS) => show_as::<RunsBox>(alloc, size, reader, out),
         BoxType::UnknownBox(STRS) => show_as::<StringsBox>(alloc, size, reader, out),
+        BoxType::UnknownBox(TREP) => show_as::<TrepBox>(alloc, size, reader, out),
         name => show_named::<MoreBox>(alloc, name, size, reader, out),
     }
 }

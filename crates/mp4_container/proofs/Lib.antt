@@ -1,0 +1,2 @@
+pub mod HeaderPut
+pub mod Sizes

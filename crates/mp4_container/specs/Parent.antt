@@ -1,0 +1,56 @@
+-- A box that is declared, with boxes after its fields: size and code of four bytes each, a shape, and then boxes to the
+-- end of the box (ISO/IEC 14496-12, 4.2).
+use Rattle.std.specs.Prelude.{ℕ, ◌+◌, ◌<◌, ◌^◌, nat_le, Bool, List, ◌++◌, map, All, sum_by}
+use Rattle.mp4_frame.specs.Bytes.{bytes_of_fields}
+use Rattle.mp4_frame.specs.Format.{Format}
+use Rattle.mp4_frame.specs.Reading.{Reading, ◌>>=◌, check, piece_at, done}
+use Rattle.mp4_frame.specs.Streams.{stream, boxes}
+use Rattle.mp4_frame.specs.declared.box_type.BoxType.{BoxType}
+use Rattle.mp4_frame.specs.declared.box_type.BoxType.TheVariants as names
+use Rattle.mp4_declared.specs.OwnBox.{no_context, OwnLayout, reads_declared, size_declared, header_declared}
+use Rattle.mp4_declared.specs.OwnBox.{format_declared}
+use Rattle.mp4_declared.specs.Shape.{Shape}
+use Rattle.mp4_container.specs.declared.parent.Parent.{Parent}
+
+module _ {code : ℕ} {C V A : Type 0} (s : Shape C) (l : OwnLayout code C V) where
+  -- the boxes after these fields
+  abbrev pub with_boxes : (BoxType → Bool) → (BoxType → List ℕ → ℕ → ℕ → Reading A) → List ℕ → V
+      → Reading (Parent V A)
+  with_boxes known reading box v = do
+    vs ← boxes known reading box (size_declared s l v)
+    done (record { fields = v; boxes = vs })
+
+  -- the fields, and the boxes after them, where the box has this size. Nothing is read past it
+  unfoldable pub reads_parent : (BoxType → Bool) → (BoxType → List ℕ → ℕ → ℕ → Reading A) → List ℕ → ℕ → ℕ
+      → Reading (Parent V A)
+  reads_parent known reading bytes start size = do
+    _ ← check (nat_le 8 size)
+    box ← piece_at bytes 0 size
+    v ← reads_declared s l box 0 size
+    with_boxes known reading box v
+
+  module _ (format : Format A) where
+    abbrev pub size_parent : Parent V A → ℕ
+    size_parent v = size_declared s l v.fields + sum_by format.size v.boxes
+
+    -- what follows the header
+    abbrev pub content_parent : Parent V A → List ℕ
+    content_parent v = s.bytes no_context (l.content v.fields) ++ stream format.bytes v.boxes
+
+    -- the fields fit their bytes, the size fits its field, and each box can be written
+    pub record WritableParent (v : Parent V A) : Type 0 where
+      pub fields : (format_declared s l).Writable v.fields
+      pub small : size_parent v < 2 ^ 32
+      pub each : All format.Writable v.boxes
+
+    unfoldable pub bytes_parent : Parent V A → List ℕ
+    bytes_parent v = bytes_of_fields (header_declared (size_parent v) code) ++ content_parent v
+
+    abbrev pub format_parent : Format (Parent V A)
+    format_parent = record {
+      name = λ _. names.UnknownBox code;
+      size = size_parent;
+      Writable = WritableParent;
+      bytes = bytes_parent;
+      normal = λ v. record { fields = l.value (l.content v.fields); boxes = map format.normal v.boxes };
+    }
