@@ -1,5 +1,5 @@
 -- A box that is put with another size in its header.
-use Rattle.std.proofs.Common.{◌≡◌, ℕ, ◌+◌, ◌≤◌, List, [], ◌∷◌, ◌++◌, length, take, drop, refl, sym, ap, subst}
+use Rattle.std.proofs.Common.{◌≡◌, ℕ, ◌+◌, ◌≤◌, List, ◌++◌, length, take, drop, refl, sym, ap, subst}
 use Rattle.std.proofs.Common.{◌∙◌, append_assoc, length-append, arith}
 use Rattle.std.proofs.lemmas.List.{take_all, take_at, drop_at, take-append-drop}
 use Rattle.mp4_frame.specs.Bytes.{be_bytes, bytes_of_fields, bytes_of_fields_onto}

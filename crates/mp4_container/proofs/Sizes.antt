@@ -15,7 +15,8 @@ same_size size n fits = by (leb n (2 ^ 64 - 1)) refl
     by false h =
         let more : 2 ^ 64 - 1 < n = leb-false n (2 ^ 64 - 1) h in
         ap (eqb size) (min-eq_right (omega (arith, more)))
-        ∙ (ne_eqb size (2 ^ 64 - 1) (λ e. omega (arith, e, fits)) ∙ sym (ne_eqb size n (λ e. omega (arith, e, fits, more))))
+        ∙ (ne_eqb size (2 ^ 64 - 1) (λ e. omega (arith, e, fits))
+        ∙ sym (ne_eqb size n (λ e. omega (arith, e, fits, more))))
 
 -- a piece that was read is there
 pub piece_room : (bytes : List ℕ) (o w : ℕ) (piece : List ℕ) → (piece_at bytes o w).outcome ≡ Ok piece

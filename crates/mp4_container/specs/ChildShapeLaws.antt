@@ -1,5 +1,5 @@
 -- The laws of a shape that is a box follow from those of the box.
-use Rattle.std.proofs.Common.{◌≡◌, ℕ, ◌+◌, ◌-◌, ◌≤◌, ◌<◌, ◌^◌, true, eqb, List, [], ◌++◌, length, take, drop, Ok, Err}
+use Rattle.std.proofs.Common.{◌≡◌, ℕ, ◌+◌, ◌-◌, ◌≤◌, ◌<◌, ◌^◌, true, eqb, List, [], ◌++◌, length, drop, Ok}
 use Rattle.std.proofs.Common.{refl, sym, ap, subst, ◌∙◌, arith, length-append}
 use Rattle.std.specs.Prelude.{nat_le}
 use Rattle.std.proofs.lemmas.Bool.{le-leb, eq-eqb, eqb-true}
@@ -7,7 +7,7 @@ use Rattle.std.proofs.lemmas.List.{append-nil}
 use Rattle.mp4_frame.specs.Bytes.{number, bytes_of_fields}
 use Rattle.mp4_frame.specs.Format.{IsBox}
 use Rattle.mp4_frame.specs.Laws.{AreBytes}
-use Rattle.mp4_frame.specs.Reading.{Reading, End, ◌>>=◌, expect_bytes, piece_at, check, done}
+use Rattle.mp4_frame.specs.Reading.{Reading, ◌>>=◌, expect_bytes, piece_at, check, done}
 use Rattle.mp4_frame.proofs.Checks.{are_bytes-drop, check_ok, expect_bytes_ok, expect_bytes_present, is_value, past}
 use Rattle.mp4_frame.proofs.Checks.{past_check, piece_back}
 use Rattle.mp4_frame.proofs.Decided.{outcome_bind}
@@ -41,8 +41,8 @@ module _ {code : ℕ} {C V : Type 0} (s : Shape C) (is : IsShape s) (l : OwnLayo
       ap (λ (bs : List ℕ). (reads_declared s l bs 0 size).outcome) (sym (append-nil (bytes_of v)))
       ∙ (own valid).read_back v w.0 [] 0 (omega (arith, ((own valid).header v w.0).most))
       ∙ ap (λ (u : V). Ok u) w.1 in
-      outcome_bind (reads_declared s l (bytes_of v) 0 size) (λ u. check (eqb size (size_declared s l u)) >>= λ _. done u)
-      v (Ok v) found (past_check (eqb size size) (λ _. done v) (eq-eqb size size refl))
+      outcome_bind (reads_declared s l (bytes_of v) 0 size)
+      (λ u. check (eqb size (size_declared s l u)) >>= λ _. done u) v (Ok v) found (past_check (eqb size size) (λ _. done v) (eq-eqb size size refl))
 
   child_back : s.valid ≡ true → (v : V) (x y : List ℕ) (end : ℕ) → Fits v → length x + size_declared s l v ≤ end
       → (reads_child s l (x ++ (bytes_of v ++ y)) (length x) end).outcome ≡ Ok v
@@ -103,7 +103,8 @@ module _ {code : ℕ} {C V : Type 0} (s : Shape C) (is : IsShape s) (l : OwnLayo
     long = λ c v w.
         omega (
           arith,
-          length-append (bytes_of_fields (header_declared (size_declared s l v) code)) (s.bytes no_context (l.content v)),
+          length-append (bytes_of_fields (header_declared (size_declared s l v) code))
+              (s.bytes no_context (l.content v)),
           length-fields (header_declared (size_declared s l v) code),
           is.long no_context (l.content v) w.0.1,
         );

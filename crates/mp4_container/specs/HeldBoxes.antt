@@ -1,6 +1,6 @@
 -- Lists of boxes in a box.
-use Rattle.std.proofs.Common.{◌≡◌, ℕ, zero, suc, ◌+◌, ◌≤◌, ◌<◌, List, [], ◌∷◌, length, map, take, drop, Ok, refl, ap, ◌∙◌}
-use Rattle.std.proofs.Common.{arith, length-append}
+use Rattle.std.proofs.Common.{◌≡◌, ℕ, zero, suc, ◌+◌, ◌≤◌, ◌<◌, List, [], ◌∷◌, length, map, take, drop, Ok, refl, ap}
+use Rattle.std.proofs.Common.{◌∙◌, arith, length-append}
 use Rattle.std.specs.Prelude.{sum_by}
 use Rattle.std.specs.List.{AllByRecursion}
 use Rattle.std.proofs.lemmas.List.Sums.{sum_by-cons}
@@ -11,8 +11,8 @@ use Rattle.mp4_frame.proofs.Checks.{expect_bytes_room, is_value}
 use Rattle.mp4_frame.proofs.Tables.{value_first}
 
 -- the sizes of boxes that can be written are the numbers of their bytes
-pub stream_long : {A : Type 0} (format : Format A) → IsWritten format → (vs : List A) → AllByRecursion format.Writable vs
-    → length (stream format.bytes vs) ≡ sum_by format.size vs
+pub stream_long : {A : Type 0} (format : Format A) → IsWritten format → (vs : List A)
+    → AllByRecursion format.Writable vs → length (stream format.bytes vs) ≡ sum_by format.size vs
 stream_long format laws [] w = refl
 stream_long format laws (v ∷ vs) w =
     omega (

@@ -1,5 +1,5 @@
 -- The laws of a declared box with boxes after its fields follow from those of its shape and of the boxes.
-use Rattle.std.proofs.Common.{◌≡◌, ℕ, ◌+◌, ◌-◌, ◌≤◌, ◌<◌, ◌^◌, Bool, true, false, List, [], ◌++◌, length, map, take, drop}
+use Rattle.std.proofs.Common.{◌≡◌, ℕ, ◌+◌, ◌-◌, ◌≤◌, ◌<◌, ◌^◌, Bool, true, false, List, [], ◌++◌, length, map, drop}
 use Rattle.std.proofs.Common.{Ok, refl, sym, ap, subst, ◌∙◌, arith, append_assoc, length-append}
 use Rattle.std.specs.Prelude.{nat_le, sum_by}
 use Rattle.std.proofs.lemmas.Bool.{le-leb, eq-eqb, eqb-true}
@@ -7,9 +7,9 @@ use Rattle.std.proofs.lemmas.List.Elements.{All-from_recursion, recursion_from_A
 use Rattle.mp4_frame.specs.BoxType.{code_of, name_of-code_of}
 use Rattle.mp4_frame.specs.Bytes.{bytes_of_fields}
 use Rattle.mp4_frame.specs.Format.{Format, IsBox, write_laws}
-use Rattle.mp4_frame.specs.Laws.{AreBytes, BeginsWithHeader, Normal, OwnName, ReadsBack, ContentReadsBack}
+use Rattle.mp4_frame.specs.Laws.{AreBytes, BeginsWithHeader, Normal, ContentReadsBack}
 use Rattle.mp4_frame.specs.Laws.{ContentIsSound}
-use Rattle.mp4_frame.specs.Reading.{Reading, ◌>>=◌, expect_bytes, piece_at, check, done, reading}
+use Rattle.mp4_frame.specs.Reading.{Reading, ◌>>=◌, expect_bytes, piece_at, done, reading}
 use Rattle.mp4_frame.specs.ReadingLaws.{reads_back}
 use Rattle.mp4_frame.specs.Streams.{stream, boxes}
 use Rattle.mp4_frame.specs.declared.box_type.BoxType.{BoxType}
@@ -31,7 +31,7 @@ use Rattle.mp4_lists.proofs.SoundLists.{own_normal_forms, are_writable, read_lis
 use Rattle.mp4_lists.proofs.SoundLists.{normals_are_writable, normals_have_same_bytes}
 use Rattle.mp4_lists.specs.ChildBox.{IsChild}
 use Rattle.mp4_lists.specs.Fronts.{are_bytes-take}
-use Rattle.mp4_lists.specs.Sound.{ReadsSoundly, ReadsOwnCode}
+use Rattle.mp4_lists.specs.Sound.{ReadsOwnCode}
 use Rattle.mp4_container.specs.HeldBoxes.{stream_long, each_below, normals_again, piece_read}
 use Rattle.mp4_container.specs.Parent.{with_boxes, reads_parent, size_parent, content_parent, WritableParent}
 use Rattle.mp4_container.specs.Parent.{bytes_parent, format_parent}
@@ -132,8 +132,8 @@ module _ {code : ℕ} {C V A : Type 0} (s : Shape C) (is : IsShape s) (l : OwnLa
 
   -- the boxes are read back as their normal forms
   boxes_back : (v : Parent V A) → WritableParent s l format v
-      → (boxes known named_reading (bytes_parent s l format v) (size_declared s l (l.value (l.content v.fields)))).outcome
-      ≡ Ok (map format.normal v.boxes)
+      → (boxes known named_reading (bytes_parent s l format v)
+      (size_declared s l (l.value (l.content v.fields)))).outcome ≡ Ok (map format.normal v.boxes)
   unfolding bytes_parent
   boxes_back v w =
       let x = l.content v.fields in
@@ -196,7 +196,8 @@ module _ {code : ℕ} {C V A : Type 0} (s : Shape C) (is : IsShape s) (l : OwnLa
       let d = value_first (boxes known named_reading box (size_declared s l fields))
       (λ vs. done (holding fields vs)) v c.2 in
       let vs = d.0 in
-      let each = read_lists_are_sound format known named_reading laws.sound box box_are (size_declared s l fields) vs d.1 in
+      let each =
+      read_lists_are_sound format known named_reading laws.sound box box_are (size_declared s l fields) vs d.1 in
       subst (λ (u : Parent V A). (normal u ≡ u) × (size u < 2 ^ 32 → WritableParent s l format u))
       (is_value (holding fields vs) v d.2) (
         ap (λ (u : V). holding u (map format.normal vs)) f.0

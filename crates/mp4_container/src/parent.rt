@@ -40,7 +40,7 @@ pub struct Parent<T, B> {
 }
 
 impl<T, B> Parent<T, B> {
-    /// A box of these fields and these boxes.
+    /// The box with these fields and these boxes.
     pub fn new(fields: T, boxes: Entries<B>) -> Self
         ensures fields { result.fields ≡ fields }
         ensures boxes { result.boxes ≡ boxes }
@@ -65,7 +65,8 @@ fn read_fields<T: ParentFields>(alloc: Global, whole: &[u8], size: u64) -> Resul
     Ok((T::from_content(content), next))
 }
 
-/// Puts the fields after a header of this size, and returns the offset after them.
+/// Puts the fields after a header of this size, and returns the offset after them: they are put as a box of their own,
+/// which then gets the size.
 fn put_fields<T: DeclaredBox>(out: &mut [u8], size: u32, fields: &Declared<T>) -> usize
     requires writable { (format_declared T.Shape.shape T.layout).Writable fields.now }
     requires room { size_declared T.Shape.shape T.layout fields.now ≤ length out.old }
