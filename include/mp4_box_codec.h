@@ -75,9 +75,11 @@ enum {
     MP4_OUT_OF_MEMORY = 12,
     /* The array has fewer places than there are elements. This is the number of no error of the codec, as are those below. */
     MP4_NO_ROOM = 100,
-    /* No track has the track_ID. Only mp4_samples and mp4_fragment_samples return it, and those below; the latter those of
-       them that say so. */
+    /* No track has the track_ID. Only mp4_samples and mp4_fragment_samples return it, and those below but for the next; the
+       latter those of them that say so. */
     MP4_NO_TRACK = 101,
+    /* Boxes of this type are not read. Only mp4_fields returns it. */
+    MP4_UNKNOWN_BOX = 102,
     /* The tables of a track disagree: stsz lists another number of sizes than it counts samples; */
     MP4_SAMPLE_SIZES_DISAGREE = 110,
     /* stsc begins at another chunk than 1, */
@@ -537,6 +539,15 @@ uint32_t mp4_normal(const uint8_t *bytes, size_t length, uint8_t *out, size_t pl
 #define MP4_TEXT(text) ((const uint8_t *)("" text)), (sizeof(text) - 1)
 uint32_t mp4_find(const uint8_t *bytes, size_t length, const uint8_t *path, size_t path_length, struct mp4_place *place);
 
+/* The fields of the box at the front of the bytes, header included, as the text of a JSON object (RFC 8259), as
+   `mp4inspect --json` shows them: in UTF-8, with no zero after it, and `count` is the number of its bytes. All boxes are read
+   that have a function below, and av1C, btrt, clap, clli, colr, dac3, dec3, dfLa, dOps, elng, frma, keys, mdcv, mfro, nmhd,
+   pasp, prft, pssh, saio, saiz, sbgp, schm, sdtp, senc, sgpd, sidx, styp, stz2, subs, tenc, tfra and tref. Also
+   MP4_UNKNOWN_BOX, of a box of another type, whether it is whole or not. Names of fields are those of the standards. A number
+   may have 64 bits. Codes of four characters are texts, each character of the number of its byte; bytes are texts of their
+   hexadecimal digits; what is fixed-point is a number with a fraction. */
+uint32_t mp4_fields(const uint8_t *bytes, size_t length, uint8_t *text, size_t places, size_t *count);
+
 /* A walk over the boxes of a file that isn't in memory: each box, and after it those in it, as far as the codec knows which
    boxes hold boxes. It takes no memory and reads nothing itself: the caller reads the bytes that it wants.
 
@@ -781,6 +792,7 @@ MP4_INLINE uint32_t mp4_call_walk_next(const uint8_t *bytes, size_t length, stru
 }
 MP4_READS_ROWS(list, struct mp4_span, size_t)
 MP4_READS_ROWS(normal, uint8_t, size_t)
+MP4_READS_ROWS(fields, uint8_t, size_t)
 MP4_ROWS(stsz, uint32_t, struct mp4_stsz_table)
 MP4_ROWS(stco, uint32_t, struct mp4_table)
 MP4_ROWS(co64, uint64_t, struct mp4_table)
@@ -881,6 +893,7 @@ MP4_INLINE uint32_t mp4_call_write_stsd(const struct mp4_stsd_box *box, const si
 #define mp4_status_text mp4_call_status_text
 #define mp4_list mp4_call_list
 #define mp4_normal mp4_call_normal
+#define mp4_fields mp4_call_fields
 #define mp4_stsz mp4_call_stsz
 #define mp4_write_stsz mp4_call_write_stsz
 #define mp4_stco mp4_call_stco

@@ -6,6 +6,7 @@ const END_OF_INPUT: u32 = 1;
 const INVALID_DATA: u32 = 2;
 const BOX_NOT_FOUND: u32 = 3;
 const NO_ROOM: u32 = 100;
+const UNKNOWN_BOX: u32 = 102;
 
 #[repr(C)]
 #[derive(Clone, Copy, Debug, Default, PartialEq)]
@@ -116,6 +117,7 @@ unsafe extern "C" {
     fn mp4_check(bytes: *const u8, length: usize) -> u32;
     fn mp4_list(bytes: *const u8, length: usize, spans: *mut Span, places: usize, count: *mut usize) -> u32;
     fn mp4_normal(bytes: *const u8, length: usize, out: *mut u8, places: usize, count: *mut usize) -> u32;
+    fn mp4_fields(bytes: *const u8, length: usize, text: *mut u8, places: usize, count: *mut usize) -> u32;
     fn mp4_stsz(bytes: *const u8, length: usize, sizes: *mut u32, places: usize, table: *mut StszTable) -> u32;
     fn mp4_stco(bytes: *const u8, length: usize, offsets: *mut u32, places: usize, table: *mut Table) -> u32;
     fn mp4_co64(bytes: *const u8, length: usize, offsets: *mut u64, places: usize, table: *mut Table) -> u32;
@@ -223,11 +225,15 @@ fn main() {
     ];
     hands(mp4_list, stream, &spans, 2);
     hands(mp4_normal, stream, normal, normal.len());
+    let text = b"{\"hSpacing\":4,\"vSpacing\":3}";
+    hands(mp4_fields, b"\0\0\0\x10pasp\0\0\0\x04\0\0\0\x03", text, text.len());
     let mut count = 9;
     assert_eq!(call(mp4_list, &[], &mut [], &mut count), OK);
     assert_eq!(count, 0);
     count = 9;
     assert_eq!(call(mp4_normal, &[], &mut [], &mut count), OK);
+    assert_eq!(count, 0);
+    assert_eq!(call(mp4_fields, &stream[..17], &mut [], &mut count), UNKNOWN_BOX);
     assert_eq!(count, 0);
 
     let one = Table { count: 1, flags: 0x020304, version: 5 };
@@ -263,5 +269,5 @@ fn main() {
     let sample = TrunRow { size: 0x81828384, composition_offset: 0x85868788, ..TrunRow::default() };
     hands_table(mp4_trun, trun, &[sample], told);
     others(stream);
-    println!("c_caller, in Rust: 17 functions");
+    println!("c_caller, in Rust: 18 functions");
 }

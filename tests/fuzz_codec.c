@@ -85,6 +85,7 @@ CALL(mp4_data, uint8_t, struct mp4_data_box)
 CALL(mp4_url, uint8_t, struct mp4_url_box)
 CALL(mp4_dref, uint8_t, struct mp4_dref_box)
 CALL(mp4_dinf, uint8_t, struct mp4_dref_box)
+CALL(mp4_fields, uint8_t, size_t)
 
 /* Functions whose values are not compared with the slow reader: what they promise of arrays is looked at. */
 static const struct function TEXTS[] = {
@@ -94,6 +95,7 @@ static const struct function TEXTS[] = {
     FUNCTION(mp4_url, uint8_t, struct mp4_url_box, "", "", 0),
     FUNCTION(mp4_dref, uint8_t, struct mp4_dref_box, "", "", 0),
     FUNCTION(mp4_dinf, uint8_t, struct mp4_dref_box, "", "", 0),
+    FUNCTION(mp4_fields, uint8_t, size_t, "", "", 0),
 };
 
 enum { TEXT_COUNT = sizeof TEXTS / sizeof *TEXTS };
@@ -201,7 +203,8 @@ static uint32_t tried(const struct function *it, const uint8_t *bytes, size_t le
     } else if (!as_they_were(asked, sizeof asked)) {
         fail(it->name, "something is written after a fault", bytes, length);
     } else if (status != MP4_END_OF_INPUT && status != MP4_INVALID_DATA && status != MP4_BOX_NOT_FOUND &&
-               (it->call != call_mp4_samples || status < MP4_NO_TRACK || status > MP4_OFFSETS_DISAGREE)) {
+               (it->call != call_mp4_samples || status < MP4_NO_TRACK || status > MP4_OFFSETS_DISAGREE) &&
+               (it->call != call_mp4_fields || status != MP4_UNKNOWN_BOX)) {
         fail(it->name, "a status that can't be", bytes, length);
     }
     if (status == MP4_NO_ROOM) {
@@ -258,6 +261,16 @@ static void look_at_normal(const uint8_t *made, size_t size, const uint8_t *byte
     if (mp4_normal(made, size, again, size, &count) != MP4_OK || count != size || memcmp(made, again, size) != 0)
         fail("mp4_normal", "a normal form has another one", bytes, length);
     free(again);
+}
+
+/* Looks at the text of a box's fields: an object, of characters that can be printed. */
+static void look_at_text(const uint8_t *text, size_t count, const uint8_t *bytes, size_t length) {
+    size_t i;
+    if (count < 2 || text[0] != '{' || text[count - 1] != '}')
+        fail("mp4_fields", "no object", bytes, length);
+    for (i = 0; i < count; i++)
+        if (text[i] < ' ')
+            fail("mp4_fields", "a character that JSON doesn't allow", bytes, length);
 }
 
 /* Looks at the box at a path: its header is in the bytes, and if it is whole it ends in them. */
@@ -350,7 +363,9 @@ static void look_at(const uint8_t *bytes, size_t length, FILE *out) {
         free(rows);
     }
     for (i = 0; i < TEXT_COUNT; i++) {
-        tried(&TEXTS[i], bytes, length, NULL, &rows, &count);
+        status = tried(&TEXTS[i], bytes, length, NULL, &rows, &count);
+        if (status == MP4_OK && TEXTS[i].call == call_mp4_fields)
+            look_at_text(rows, count, bytes, length);
         free(rows);
     }
     for (i = 0; i < BOX_COUNT; i++)

@@ -30,12 +30,13 @@ import array
 import collections
 import ctypes
 import ctypes.util
+import json
 import os
 import sys
 from typing import Any, Callable, Dict, Iterator, List, NamedTuple, Optional, Tuple, Type, Union
 
 OK, END_OF_INPUT, INVALID_DATA, BOX_NOT_FOUND, OUT_OF_MEMORY, NO_ROOM = 0, 1, 2, 3, 12, 100
-NO_TRACK = 101
+NO_TRACK, UNKNOWN_BOX = 101, 102
 # What is where a box should begin, as `what` of a Box says.
 LEAF, PARENT, TOO_DEEP, CUT, SMALL, NO_HEADER = range(6)
 
@@ -322,6 +323,7 @@ stsc = _table("stsc", _STSC, StscRow, "chunks of the samples (8.7.4)")
 elst = _table("elst", _ELST, ElstRow, "edits of a track (8.6.6)")
 _stsz, _trun = _filled("mp4_stsz", u32, _STSZ), _filled("mp4_trun", _RUN, _TRUN)
 _list, _normal = _filled("mp4_list", _SPAN, size), _filled("mp4_normal", u8, size)
+_fields = _filled("mp4_fields", u8, size)
 _check = _function("mp4_check", ctypes.c_void_p, size)
 _find = _function("mp4_find", ctypes.c_void_p, size, ctypes.c_char_p, size, ctypes.POINTER(_PLACE))
 _walk_begin = _function("mp4_walk_begin", u64, ctypes.POINTER(_WALK))
@@ -746,6 +748,17 @@ def normal(data: Any) -> bytes:
 def list(data: Any) -> List[Span]:
     """The boxes at the top level of the bytes, in their order, without reading what is in them."""
     return _listed(_list(data)[0], Span, _SPAN)
+
+
+def fields(data: Any) -> Dict[str, Any]:
+    """The fields of the box at the front of the bytes, header included, by name, as `mp4inspect --json` shows them.
+    All types are read that the module has a function for, and 32 more, as the header `mp4_box_codec.h` lists them; of
+    another type it is an Mp4Error with the status UNKNOWN_BOX.
+
+    >>> fields(bytes.fromhex("00000010 70617370 00000004 00000003"))
+    {'hSpacing': 4, 'vSpacing': 3}
+    """
+    return json.loads(bytes(_fields(data)[0]))
 
 
 def find(data: Any, path: str) -> Optional[Place]:

@@ -71,6 +71,21 @@ class Calls(unittest.TestCase):
         self.assertEqual(found, (1, 0xB05, 1, -3, 4, [(5, 6, 0, 7)]))
         self.assertEqual(codec.trun(table_box("trun", 0, 0, 9)).sample_count, 9)
 
+    def test_fields(self):
+        box = table_box("stss", 0, 0x828384, 2, 1, 0xFFFFFFFF)
+        self.assertEqual(codec.fields(box), {"version": 0, "flags": 0x828384, "entries": [1, 0xFFFFFFFF]})
+        box = table_box("mfro", 0, 0, 0x81828384)
+        self.assertEqual(codec.fields(memoryview(box + box)), {"version": 0, "flags": 0, "parent_size": 0x81828384})
+        matrix = (0x10000, 0, 0, 0, 0x8000, 0, 0, 0, 0x40000000)
+        head = table_box("tkhd", 0, 7, 1, 2, 3, 0, 4, 0, 0, 0xFFFE0005, 0x01000000, *matrix, 10, 1 << 31)
+        fields = codec.fields(head)
+        self.assertEqual((fields["matrix"]["d"], fields["volume"], fields["height"]), (0.5, 1, 32768))
+        for wrong, status in [(box[:15], codec.END_OF_INPUT), (table_box("mfro", 1, 0, 0), codec.INVALID_DATA),
+                              (boxed("dinf"), codec.BOX_NOT_FOUND), (boxed("moov"), codec.UNKNOWN_BOX)]:
+            with self.assertRaises(codec.Mp4Error) as fault:
+                codec.fields(wrong)
+            self.assertEqual(fault.exception.status, status)
+
     def test_headers(self):
         box = table_box("mehd", 1, 0x828384, 0x85868788, 0x898A8B8C)
         expected = codec.Mehd(0x85868788898A8B8C, 0x828384, 1)

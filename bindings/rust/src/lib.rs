@@ -31,6 +31,8 @@ pub enum Error {
     OutOfMemory,
     /// No track has the track_ID.
     NoTrack,
+    /// Boxes of this type are not read.
+    UnknownBox,
     /// The tables of a track disagree; `raw` and the header have the number of each way.
     TablesDisagree(u32),
     /// Another status of the library.
@@ -45,6 +47,7 @@ impl From<u32> for Error {
             raw::BOX_NOT_FOUND => Error::BoxNotFound,
             raw::OUT_OF_MEMORY => Error::OutOfMemory,
             raw::NO_TRACK => Error::NoTrack,
+            raw::UNKNOWN_BOX => Error::UnknownBox,
             raw::SAMPLE_SIZES_DISAGREE..=raw::OFFSETS_DISAGREE => Error::TablesDisagree(status),
             _ => Error::Other(status),
         }
@@ -59,6 +62,7 @@ impl fmt::Display for Error {
             Error::BoxNotFound => f.write_str("a box is not there"),
             Error::OutOfMemory => f.write_str("out of memory"),
             Error::NoTrack => f.write_str(&status_text(raw::NO_TRACK)),
+            Error::UnknownBox => f.write_str(&status_text(raw::UNKNOWN_BOX)),
             Error::TablesDisagree(status) => f.write_str(&status_text(*status)),
             Error::Other(status) => write!(f, "status {status}"),
         }
@@ -149,6 +153,20 @@ pub fn list(bytes: &[u8]) -> Result<Vec<Span>> {
 /// The boxes of the bytes in their normal form; boxes of types that the codec doesn't read are as they are.
 pub fn normal(bytes: &[u8]) -> Result<Vec<u8>> {
     Ok(filled(raw::mp4_normal, bytes)?.0)
+}
+
+/// The fields of the box at the front of the bytes, header included, as the text of a JSON object (RFC 8259), as
+/// `mp4inspect --json` shows them. All types are read that this crate has a function for, and 32 more, as the header
+/// `mp4_box_codec.h` lists them; `Error::UnknownBox` of another one.
+///
+/// ```
+/// let frma = b"\0\0\0\x0Cfrmaavc1";
+/// assert_eq!(mp4_box_codec::fields(frma).unwrap(), r#"{"data_format":"avc1"}"#);
+/// assert_eq!(mp4_box_codec::fields(b"\0\0\0\x08free"), Err(mp4_box_codec::Error::UnknownBox));
+/// ```
+pub fn fields(bytes: &[u8]) -> Result<String> {
+    let text = filled(raw::mp4_fields, bytes)?.0;
+    Ok(String::from_utf8(text).unwrap_or_default())
 }
 
 /// The box at a path over the bytes of a file, as `moov/trak[1]/mdia/mdhd`: `[1]` is the second box of its code in the

@@ -10,6 +10,7 @@ pub const BOX_NOT_FOUND: u32 = 3;
 pub const OUT_OF_MEMORY: u32 = 12;
 pub const NO_ROOM: u32 = 100;
 pub const NO_TRACK: u32 = 101;
+pub const UNKNOWN_BOX: u32 = 102;
 pub const SAMPLE_SIZES_DISAGREE: u32 = 110;
 pub const OFFSETS_DISAGREE: u32 = 117;
 
@@ -133,6 +134,7 @@ macro_rules! fill {
 fill! {
     mp4_list: Span, usize;
     mp4_normal: u8, usize;
+    mp4_fields: u8, usize;
     mp4_stsz: u32, StszTable;
     mp4_stco: u32, Table;
     mp4_co64: u64, Table;

@@ -103,6 +103,18 @@ fn faults() {
     assert_eq!(shown.to_string(), "out of memory");
 }
 
+#[test]
+fn fields_of_boxes() {
+    let stss_box = table_box("stss", 0, 0x828384, &[2, 1, 0xFFFFFFFF]);
+    assert_eq!(fields(&stss_box).unwrap(), r#"{"version":0,"flags":8553348,"entries":[1,4294967295]}"#);
+    let mfro = table_box("mfro", 0, 0, &[0x81828384]);
+    assert_eq!(fields(&mfro).unwrap(), r#"{"version":0,"flags":0,"parent_size":2172814212}"#);
+    assert_eq!(fields(&mfro[..15]), Err(Error::EndOfInput));
+    assert_eq!(fields(&table_box("mfro", 1, 0, &[0])), Err(Error::InvalidData));
+    assert_eq!(fields(b"\0\0\0\x08moov"), Err(Error::UnknownBox));
+    assert_eq!(Error::UnknownBox.to_string(), "boxes of this type are not read");
+}
+
 /// A box of this name that has these boxes.
 fn nested(name: &str, parts: &[Vec<u8>]) -> Vec<u8> {
     let mut bytes = (8 + parts.iter().map(Vec::len).sum::<usize>() as u32).to_be_bytes().to_vec();

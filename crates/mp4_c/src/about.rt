@@ -9,6 +9,7 @@ use mp4_c_base::status::{
     BOX_NOT_FOUND, CHUNK_COUNT, CHUNK_ORDER, CHUNKS, DURATIONS, END_OF_INPUT, FIRST_CHUNK,
     INVALID_DATA, NO_ROOM, NO_TRACK, OFFSET, OK, OUT_OF_MEMORY, SAMPLE_SIZES, SYNC_SAMPLES,
 };
+use mp4_c_fields::fields::UNKNOWN_BOX;
 
 /// The version of the codec as a number: a million for each major version, a thousand for each minor one, and one for
 /// each patch.
@@ -32,6 +33,7 @@ fn text_of(status: u32) -> &'static str {
         OUT_OF_MEMORY => "out of memory",
         NO_ROOM => "the array has too few places",
         NO_TRACK => "no track has the track_ID",
+        UNKNOWN_BOX => "boxes of this type are not read",
         SAMPLE_SIZES => "stsz lists another number of sizes than it counts samples",
         FIRST_CHUNK => "stsc begins at another chunk than 1",
         CHUNK_ORDER => "an entry of stsc begins no later than the one before it",

@@ -19,6 +19,7 @@ pub mod dref;
 pub mod elst;
 pub mod emsg;
 pub mod esds;
+pub mod fields;
 pub mod find;
 pub mod fragment_samples;
 pub mod ftyp;
