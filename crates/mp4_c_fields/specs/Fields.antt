@@ -1,6 +1,7 @@
 -- What a C caller is handed of the fields of a box: a status, a text in an array of the caller's, and how long the text
 -- is.
-use Rattle.std.specs.Prelude.{◌≡◌, ℕ, ◌⊎◌, Bool, List, length, None, Some, Ok, Err}
+use Rattle.std.specs.Prelude.{◌≡◌, ℕ, ◌⊎◌, Bool, List, length, None, Some, Ok}
+use Rattle.std.specs.Str.{IsUtf8}
 use Rattle.json.specs.Json.{Members, object}
 use Rattle.json.specs.Print.{print}
 use Rattle.json.specs.Tree.{json_tokens}
@@ -19,9 +20,9 @@ use Rattle.mp4_sinks.specs.Tokens.{Puts}
 abbrev pub PutsObject : Written → Written → Type 0
 PutsObject old new = (ms : Members) × Puts old new (json_tokens (object ms))
 
--- the text of one object, whole
+-- the text of one object, whole, in UTF-8
 abbrev pub IsFieldsText : List ℕ → Type 0
-IsFieldsText text = (ms : Members) × (text ≡ print (json_tokens (object ms)))
+IsFieldsText text = (ms : Members) × ((text ≡ print (json_tokens (object ms))) × IsUtf8 text)
 
 -- the text of a box is handed over, or memory for it is refused
 abbrev pub HandsFieldsOf : ℕ → List ℕ → List ℕ → ℕ → ℕ → Type 0

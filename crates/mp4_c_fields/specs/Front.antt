@@ -5,7 +5,13 @@ use Rattle.mp4_frame.specs.BoxType.{name_of}
 use Rattle.mp4_frame.specs.Heads.{head, frame_of_head, start_in, size_in}
 use Rattle.mp4_frame.specs.Reading.{Reading, ◌>>=◌, done, map_reading}
 use Rattle.mp4_frame.specs.declared.box_type.BoxType.{BoxType}
+use Rattle.mp4_frame.specs.declared.head.Head.{Head}
 use Rattle.mp4_track.specs.Front.{in_frame}
+
+-- what is read of the box of this name that has this head at the front
+abbrev pub named_box : {A : Type 0} → (BoxType → List ℕ → ℕ → ℕ → Reading A) → List ℕ → Head → Reading A
+named_box reading bytes h =
+    in_frame (λ f. reading (name_of h.code) bytes (start_in f) (size_in f)) (frame_of_head (length bytes) 0 h)
 
 -- what is read of the box at the front, if boxes of its name are known, and else nothing. It is whole, as a box of a
 -- list: a size of 0 means up to the end of the buffer. A box of a name that isn't known may be cut
@@ -13,6 +19,4 @@ unfoldable pub front_known : {A : Type 0} → (BoxType → Bool) → (BoxType �
     → Reading (Option A)
 front_known known reading bytes = do
   h ← head bytes 0
-  if known (name_of h.code) then map_reading Some
-  (in_frame (λ f. reading (name_of h.code) bytes (start_in f) (size_in f)) (frame_of_head (length bytes) 0 h)) else
-  done None
+  if known (name_of h.code) then map_reading Some (named_box reading bytes h) else done None

@@ -15,12 +15,7 @@ use std::alloc::Global;
 pub const UNKNOWN_BOX: u32 = 102;
 
 /// Hands over the fields of a box.
-fn hand_fields_of<B: HasFields>(
-    alloc: Global,
-    value: &B,
-    text: &mut [u8],
-    count: &mut usize,
-) -> u32
+fn hand_fields_of<B: HasFields>(alloc: Global, value: &B, text: &mut [u8], count: &mut usize) -> u32
     ensures { HandsFieldsOf result text.old text.new count.old count.new }
 {
     match text_of(alloc, value) {
