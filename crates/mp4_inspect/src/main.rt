@@ -1,10 +1,12 @@
-//! `mp4inspect` shows what is in MP4 files: the tree of their boxes, as text or JSON, or their faults alone.
+//! `mp4inspect` shows what is in MP4 files: the tree of their boxes, as text or JSON, or their faults alone. It also
+//! writes a file with its movie box before its media data.
 #![tactic(auto)]
 
 mod box_path;
 mod chunks;
 mod content;
 mod failure;
+mod fast_start;
 mod faults;
 mod kind;
 mod outcome;
@@ -17,7 +19,8 @@ mod tree_text;
 use clap::Error;
 use clap::error::ErrorKind;
 use failure::or_read;
-use mp4_inspect_args::{Request, Rows, Task, request_of};
+use fast_start::fast_start;
+use mp4_inspect_args::{Asked, Request, Rows, Task, request_of};
 use mp4_inspect_samples::{Choice, Form};
 use mp4_io::{Failure, Input, Output, flush, read_all, write_all};
 use mp4_sinks::Look;
@@ -187,15 +190,20 @@ fn print_error(rt: &HostRuntime, error: &Error) -> Result<u8, Failure> {
     Ok(error.exit_code() as u8)
 }
 
+/// Shows the files that are asked for.
+fn show(rt: &HostRuntime, request: &Request) -> Result<Outcome, Failure> {
+    let writer = or_read(BufWriter::new(rt.alloc(), rt.stdout()))?;
+    inspect_all(rt, request, &mut Output::new(writer))
+}
+
 /// Does what the command line asks for, and returns the exit status.
 fn run(rt: &HostRuntime) -> Result<u8, Failure> {
     let words = or_read(words_of(rt))?;
-    let request = match request_of(rt.alloc(), words.as_slice()) {
-        Ok(request) => request,
+    let outcome = match request_of(rt.alloc(), words.as_slice()) {
+        Ok(Asked::Show(request)) => show(rt, &request)?,
+        Ok(Asked::FastStart(names)) => fast_start(rt, names.from.as_str(), names.to.as_str())?,
         Err(error) => return print_error(rt, &error),
     };
-    let writer = or_read(BufWriter::new(rt.alloc(), rt.stdout()))?;
-    let outcome = inspect_all(rt, &request, &mut Output::new(writer))?;
     Ok(outcome.status())
 }
 

@@ -3,4 +3,4 @@
 
 mod request;
 
-pub use request::{Request, Rows, Task, request_of};
+pub use request::{Asked, FastStart, Request, Rows, Task, request_of};

@@ -27,7 +27,7 @@ pub enum Rows {
     Json,
 }
 
-/// What a command line asks for.
+/// What is to be shown of files.
 #[derive(Debug, Drop)]
 pub struct Request {
     /// What is to be written of each file.
@@ -42,6 +42,24 @@ pub struct Request {
     pub track: Option<u32>,
     /// The files, in order; `-` is the standard input.
     pub files: Vec<String>,
+}
+
+/// The files of the command `faststart`.
+#[derive(Debug, Drop)]
+pub struct FastStart {
+    /// The file that is read.
+    pub from: String,
+    /// The file that is written.
+    pub to: String,
+}
+
+/// What a command line asks for: to show files, or to write one.
+#[derive(Debug, Drop)]
+pub enum Asked {
+    /// To show what is in files.
+    Show(Request),
+    /// To write a file with its movie box before its media data.
+    FastStart(FastStart),
 }
 
 /// The argument of files.
@@ -108,6 +126,23 @@ fn samples<'a>(alloc: Global) -> Result<Command<'a>, AllocError> {
         .arg(file(alloc))
 }
 
+/// The argument of a file by a name.
+fn named<'a>(alloc: Global, name: &'a str, help: &'a str) -> Arg<'a> {
+    Arg::new(alloc, name).required(true).help(help)
+}
+
+/// The command `faststart`.
+fn fast_start<'a>(alloc: Global) -> Result<Command<'a>, AllocError> {
+    Command::new(alloc, "faststart")
+        .about("Writes a file with its moov before its media data, so that a player has it first")
+        .arg(named(alloc, "IN", "File to read; it isn't changed"))?
+        .arg(named(
+            alloc,
+            "OUT",
+            "File to write, whole or not at all; one of that name is replaced",
+        ))
+}
+
 /// The command line without its commands.
 fn tree<'a>(alloc: Global) -> Result<Command<'a>, AllocError> {
     let all = "Show all entries of lists";
@@ -131,7 +166,8 @@ fn tree<'a>(alloc: Global) -> Result<Command<'a>, AllocError> {
 fn command<'a>(alloc: Global) -> Result<Command<'a>, AllocError> {
     tree(alloc)?
         .subcommand(check(alloc)?)?
-        .subcommand(samples(alloc)?)
+        .subcommand(samples(alloc)?)?
+        .subcommand(fast_start(alloc)?)
 }
 
 /// The files that are named.
@@ -197,18 +233,35 @@ fn tree_of(alloc: Global, matches: &ArgMatches<'_>) -> Result<Request, AllocErro
     })
 }
 
+/// The file that is named.
+fn name_of(alloc: Global, matches: &ArgMatches<'_>, id: &str) -> Result<String, AllocError> {
+    String::from_str(alloc, matches.get_str(id).unwrap_or(""))
+}
+
+/// What the command `faststart` asks for.
+fn fast_start_of(alloc: Global, matches: &ArgMatches<'_>) -> Result<FastStart, AllocError> {
+    Ok(FastStart {
+        from: name_of(alloc, matches, "IN")?,
+        to: name_of(alloc, matches, "OUT")?,
+    })
+}
+
 /// What the arguments ask for.
-fn asked(alloc: Global, matches: &ArgMatches<'_>) -> Result<Request, AllocError> {
-    match matches.subcommand() {
-        Some(("samples", inner)) => samples_of(alloc, inner),
-        Some((_, inner)) => check_of(alloc, inner),
-        None => tree_of(alloc, matches),
-    }
+fn all_asked(alloc: Global, matches: &ArgMatches<'_>) -> Result<Asked, AllocError> {
+    let request = match matches.subcommand() {
+        Some(("faststart", inner)) => {
+            return Ok(Asked::FastStart(fast_start_of(alloc, inner)?));
+        }
+        Some(("samples", inner)) => samples_of(alloc, inner)?,
+        Some((_, inner)) => check_of(alloc, inner)?,
+        None => tree_of(alloc, matches)?,
+    };
+    Ok(Asked::Show(request))
 }
 
 /// What the words of a command line ask for, of which the first is the program's name. An error is what to print, and
 /// with which status to end: misuse, help or the version.
-pub fn request_of(alloc: Global, words: &[String]) -> Result<Request, Error> {
+pub fn request_of(alloc: Global, words: &[String]) -> Result<Asked, Error> {
     let matches = command(alloc)?.try_get_matches_from(words)?;
-    Ok(asked(alloc, &matches)?)
+    Ok(all_asked(alloc, &matches)?)
 }

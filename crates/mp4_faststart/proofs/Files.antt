@@ -1,0 +1,155 @@
+-- The bytes of a file after the move.
+use Rattle.std.proofs.Common.{◌≡◌, ℕ, zero, suc, ◌+◌, ◌-◌, ◌<◌, ◌≤◌, inl, inr, List, ◌++◌, take, drop, length}
+use Rattle.std.proofs.Common.{refl, sym, ap, subst, append_assoc, ◌∙◌, arith}
+use Rattle.std.proofs.lemmas.Bool.{le-leb, lt-leb, lt-ltb, le-ltb}
+use Rattle.std.proofs.lemmas.List.{take-append-le, take-take, take_at, drop-take, drop-drop, drop_at, length-append}
+use Rattle.std.proofs.lemmas.List.{length-take-le, length-drop}
+use Rattle.std.proofs.Math.Seq.{drop-append-add}
+use Rattle.mp4_faststart.specs.declared.cut.Cut.{Cut}
+use Rattle.mp4_faststart.specs.Moved.{moved, moved_file, IsCut}
+use Rattle.mp4_faststart.specs.Laws.{BytesAreKept, LengthIsKept, MovieIsMoved}
+
+-- the same bytes in the same beginning
+window : (xs ys : List ℕ) (o n : ℕ) → take (o + n) xs ≡ take (o + n) ys → take n (drop o xs) ≡ take n (drop o ys)
+window xs ys o n same = sym (drop-take o n xs) ∙ ap (drop o) same ∙ drop-take o n ys
+
+module _ (c : Cut) (B m : List ℕ) (cut : IsCut c B m) where
+  front : List ℕ
+  front = take c.insert B
+
+  between : List ℕ
+  between = take (c.begin - c.insert) (drop c.insert B)
+
+  long_front : length front ≡ c.insert
+  unfolding front
+  long_front =
+      let a = cut.before in
+      let b = cut.order in
+      let d = cut.within in
+      length-take-le c.insert B (omega arith)
+
+  long_between : length between ≡ c.begin - c.insert
+  unfolding between
+  long_between =
+      let a = cut.before in
+      let b = cut.order in
+      let d = cut.within in
+      let n = length-drop c.insert B in
+      length-take-le (c.begin - c.insert) (drop c.insert B) (omega arith)
+
+  before : (o n : ℕ) → o + n ≤ c.insert → take n (drop o (moved_file c B m)) ≡ take n (drop o B)
+  unfolding front between
+  before o n le =
+      let a = long_front in
+      let one = length-append front m in
+      let two = length-append (front ++ m) between in
+      window (moved_file c B m) B o n
+      (take-append-le (o + n) (front ++ m ++ between) (drop c.end B) (omega arith)
+      ∙ take-append-le (o + n) (front ++ m) between (omega arith)
+      ∙ take-append-le (o + n) front m (omega arith) ∙ take-take (o + n) c.insert B le)
+
+  middle : (o n : ℕ) → c.insert ≤ o → o + n ≤ c.begin
+      → take n (drop (o + (c.end - c.begin)) (moved_file c B m)) ≡ take n (drop o B)
+  unfolding front between
+  middle o n from le =
+      let a = long_front in
+      let b = long_between in
+      let same = cut.same in
+      let order = cut.before in
+      let one = length-append front m in
+      let place : length (front ++ m) + (o - c.insert) ≡ o + (c.end - c.begin) = omega arith in
+      let there : drop (length (front ++ m) + (o - c.insert)) (front ++ m ++ (between ++ drop c.end B))
+      ≡ drop (o - c.insert) (between ++ drop c.end B) =
+      drop-append-add (front ++ m) (between ++ drop c.end B) (o - c.insert) in
+      let shape : moved_file c B m ≡ front ++ m ++ (between ++ drop c.end B) =
+      append_assoc (front ++ m) between (drop c.end B) in
+      let reached : drop (o + (c.end - c.begin)) (moved_file c B m) ≡ drop (o - c.insert) (between ++ drop c.end B) =
+      ap (drop (o + (c.end - c.begin))) shape
+      ∙ subst (λ (k : ℕ). drop k (front ++ m ++ (between ++ drop c.end B))
+      ≡ drop (o - c.insert) (between ++ drop c.end B)) place there in
+      let within : take (o - c.insert + n) (between ++ drop c.end B) ≡ take (o - c.insert + n) (drop c.insert B) =
+      take-append-le (o - c.insert + n) between (drop c.end B) (omega arith)
+      ∙ take-take (o - c.insert + n) (c.begin - c.insert) (drop c.insert B) (omega arith) in
+      let back : c.insert + (o - c.insert) ≡ o = omega arith in
+      ap (take n) reached ∙ window (between ++ drop c.end B) (drop c.insert B) (o - c.insert) n within
+      ∙ ap (take n) (drop-drop (o - c.insert) c.insert B ∙ ap (λ (k : ℕ). drop k B) back)
+
+  after : (o : ℕ) → c.end ≤ o → drop o (moved_file c B m) ≡ drop o B
+  unfolding front between
+  after o from =
+      let a = long_front in
+      let b = long_between in
+      let same = cut.same in
+      let order = cut.before in
+      let later = cut.order in
+      let one = length-append front m in
+      let two = length-append (front ++ m) between in
+      let place : length (front ++ m ++ between) + (o - c.end) ≡ o = omega arith in
+      let there : drop (length (front ++ m ++ between) + (o - c.end)) (front ++ m ++ between ++ drop c.end B)
+      ≡ drop (o - c.end) (drop c.end B) = drop-append-add (front ++ m ++ between) (drop c.end B) (o - c.end) in
+      let reached : drop o (moved_file c B m) ≡ drop (o - c.end) (drop c.end B) =
+      subst (λ (k : ℕ). drop k (moved_file c B m) ≡ drop (o - c.end) (drop c.end B)) place there in
+      let back : c.end + (o - c.end) ≡ o = omega arith in
+      reached ∙ drop-drop (o - c.end) c.end B ∙ ap (λ (k : ℕ). drop k B) back
+
+  as_long : length (moved_file c B m) ≡ length B
+  unfolding front between
+  as_long =
+      let a = long_front in
+      let b = long_between in
+      let same = cut.same in
+      let order = cut.before in
+      let later = cut.order in
+      let within = cut.within in
+      let one = length-append front m in
+      let two = length-append (front ++ m) between in
+      let three = length-append (front ++ m ++ between) (drop c.end B) in
+      let left = length-drop c.end B in
+      let all : length (front ++ m ++ between ++ drop c.end B) ≡ length B = omega arith in
+      all
+
+  movie_at : take (length m) (drop c.insert (moved_file c B m)) ≡ m
+  unfolding front between
+  movie_at =
+      let shape : moved_file c B m ≡ front ++ (m ++ (between ++ drop c.end B)) =
+      append_assoc (front ++ m) between (drop c.end B) ∙ append_assoc front m (between ++ drop c.end B) in
+      ap (λ (xs : List ℕ). take (length m) (drop c.insert xs)) shape
+      ∙ ap (take (length m)) (drop_at front (m ++ (between ++ drop c.end B)) c.insert long_front)
+      ∙ take_at m (between ++ drop c.end B) (length m) refl
+
+moved_low : (c : Cut) (o : ℕ) → o < c.insert → moved c o ≡ o
+moved_low c o lt =
+    let no = lt-leb c.insert o lt in
+    rw no refl
+
+moved_middle : (c : Cut) (o : ℕ) → c.insert ≤ o → o < c.begin → moved c o ≡ o + (c.end - c.begin)
+moved_middle c o le lt =
+    let yes = le-leb c.insert o le in
+    let also = lt-ltb o c.begin lt in
+    rw (yes, also) refl
+
+moved_high : (c : Cut) (o : ℕ) → c.insert ≤ c.begin → c.begin ≤ o → moved c o ≡ o
+moved_high c o order le =
+    let yes = le-leb c.insert o (omega arith) in
+    let no = le-ltb o c.begin le in
+    rw (yes, no) refl
+
+pub bytes_are_kept : BytesAreKept
+bytes_are_kept c B m o zero cut part = refl
+bytes_are_kept c B m o (suc n) cut part =
+    let order = cut.before in
+    let later = cut.order in
+    elim part [
+      | inl low ↦ rw (moved_low c o (omega arith)) (before c B m cut o (suc n) low)
+      | inr part ↦ elim part [
+        | inl among ↦
+            rw (moved_middle c o among.0 (omega arith)) (middle c B m cut o (suc n) among.0 among.1)
+        | inr high ↦ rw (moved_high c o order (omega arith)) (ap (take (suc n)) (after c B m cut o high))
+      ]
+    ]
+
+pub length_is_kept : LengthIsKept
+length_is_kept c B m cut = as_long c B m cut
+
+pub movie_is_moved : MovieIsMoved
+movie_is_moved c B m cut = movie_at c B m cut

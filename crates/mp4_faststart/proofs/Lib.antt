@@ -1,0 +1,5 @@
+pub mod Files
+pub mod SameSamples
+pub mod Tables
+pub mod Paths
+pub mod Pieces

@@ -1,0 +1,91 @@
+//! What keeps a movie box from being moved.
+
+ghost use Rattle.std.specs.Prelude.{◌≡◌};
+
+use crate::codes::{CMOV, ILOC, SAIO, SIDX, TFRA};
+use mp4_frame::{FourCC, codes, u32_at};
+use mp4_tree::{Source, Tree, TreeBox};
+use std::alloc::Global;
+use std::io;
+
+/// What keeps a movie box from being moved. Positions are in bytes from the front of the file.
+#[derive(Clone, Copy, Debug, PartialEq, Eq, thiserror::Error)]
+pub enum Obstacle {
+    /// No whole box begins at a position of the top level.
+    #[error("there is no whole box at {0}")]
+    NotWhole(u64),
+    /// A box has offsets that are not shifted: from the front of the file, or, before the `moov`, to what is after it.
+    #[error("{code} at {position}: its offsets can't be shifted")]
+    Offsets {
+        /// The code of the box.
+        code: FourCC,
+        /// The position of the box.
+        position: u64,
+    },
+    /// The media data of a track are in another file.
+    #[error("{code} at {position}: the media data are in another file")]
+    OtherFile {
+        /// The code of the box.
+        code: FourCC,
+        /// The position of the box.
+        position: u64,
+    },
+}
+
+/// The flags of a `tfhd` that has a base for its offsets (ISO/IEC 14496-12, 8.8.7).
+const BASE_DATA_OFFSET: u32 = 0x00_0001;
+/// The flags of an entry of `dref` whose media data are in the same file (8.7.2).
+const SELF_CONTAINED: u32 = 0x00_0001;
+
+/// The flags of a box (4.2); 0 if it has no room for them.
+fn flags_of<S: Source>(alloc: Global, tree: &mut Tree<S>, found: &TreeBox) -> io::Result<u32>
+    ensures { tree.new ≡ tree.old }
+{
+    let front = TreeBox {
+        length: found.header_length.saturating_add(4),
+        ..*found
+    };
+    let bytes = tree.read_content(alloc, &front)?;
+    if bytes.len() < 4 || found.content_length() < 4 {
+        return Ok(0);
+    }
+    Ok(u32_at(&bytes, 0) & 0x00ff_ffff)
+}
+
+/// Whether boxes of a code have offsets that are not shifted: from the front of the file, or of tracks that can't be
+/// read; and, before the `moov`, to what is after it.
+fn has_offsets(code: u32, is_before_movie: bool) -> bool {
+    match code {
+        CMOV | ILOC | SAIO | TFRA => true,
+        SIDX | codes::MOOF => is_before_movie,
+        _ => false,
+    }
+}
+
+/// What keeps a movie box from being moved at a box that came, if anything does.
+pub fn obstacle_at<S: Source>(
+    alloc: Global,
+    tree: &mut Tree<S>,
+    found: &TreeBox,
+    is_before_movie: bool,
+) -> io::Result<Option<Obstacle>>
+    ensures { tree.new ≡ tree.old }
+{
+    let position = found.position;
+    if found.depth == 0 && !found.is_whole() {
+        return Ok(Some(Obstacle::NotWhole(position)));
+    }
+    let Some(code) = found.code else {
+        return Ok(None);
+    };
+    if has_offsets(code.into(), is_before_movie) {
+        return Ok(Some(Obstacle::Offsets { code, position }));
+    }
+    if code == FourCC::from(codes::TFHD) && flags_of(alloc, tree, found)? & BASE_DATA_OFFSET != 0 {
+        return Ok(Some(Obstacle::Offsets { code, position }));
+    }
+    if found.setting.parent == codes::DREF && flags_of(alloc, tree, found)? & SELF_CONTAINED == 0 {
+        return Ok(Some(Obstacle::OtherFile { code, position }));
+    }
+    Ok(None)
+}

@@ -1,0 +1,68 @@
+//! Whether samples are the same after the move.
+
+ghost use Rattle.std.specs.Prelude.{◌↔◌, IsTrue, IsOk, IfErr};
+ghost use Rattle.mp4_faststart.specs.Kept.{AreAlike, IsMovedTo, IsMoved, KeepsSamples, IsFirstLost};
+
+use crate::cut::Cut;
+use mp4_samples::{Sample, SampleTables};
+
+/// Whether two samples are the same but for where they begin.
+fn are_alike(before: &Sample, after: &Sample) -> bool
+    ensures { IsTrue result ↔ AreAlike before.now after.now }
+{
+    after.size == before.size
+        && after.start_time == before.start_time
+        && after.duration == before.duration
+        && after.rendering_offset == before.rendering_offset
+        && after.is_sync == before.is_sync
+        && after.sample_description_index == before.sample_description_index
+        && after.chunk == before.chunk
+}
+
+/// Whether the bytes of a sample are moved whole, to where the other one begins.
+fn is_moved_to(cut: Cut, before: &Sample, after: &Sample) -> bool
+    ensures { IsTrue result ↔ IsMovedTo cut before.now after.now }
+{
+    match cut.moved(before.offset) {
+        Some(offset) => offset == after.offset && cut.keeps(before.offset, before.size),
+        None => false,
+    }
+}
+
+/// Whether a sample is another one after the move.
+fn is_moved(cut: Cut, before: &Sample, after: &Sample) -> bool
+    ensures { IsTrue result ↔ IsMoved cut before.now after.now }
+{
+    are_alike(before, after) && (before.size == 0 || is_moved_to(cut, before, after))
+}
+
+/// Whether the tables `after` have the samples of the tables `before` after the move: the same times, sizes and
+/// descriptions, and the same bytes. If not, the error is the number of the first sample that is not kept, counted from
+/// 0. It takes a step a sample.
+pub fn keeps_samples(
+    cut: Cut,
+    before: &SampleTables<'_>,
+    after: &SampleTables<'_>,
+) -> Result<(), u32>
+    ensures exact { IsOk result ↔ KeepsSamples cut before.now after.now }
+    ensures first { IfErr result (IsFirstLost cut before.now after.now) }
+{
+    let mut were = before.samples();
+    let mut are = after.samples();
+    for number in 0..before.len() {
+        let Some(first) = were.next() else {
+            return Err(number);
+        };
+        let Some(second) = are.next() else {
+            return Err(number);
+        };
+        if !is_moved(cut, &first, &second) {
+            return Err(number);
+        }
+    }
+    if before.len() == after.len() {
+        Ok(())
+    } else {
+        Err(before.len())
+    }
+}

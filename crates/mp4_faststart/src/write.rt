@@ -1,0 +1,178 @@
+//! Writing a file whose movie box is moved.
+
+ghost use Rattle.std.specs.Prelude.{◌≡◌, ◌-◌, ◌<◌, ◌≤◌, Some, length, IfOk, OnOk, IfSome};
+ghost use Rattle.std.specs.Io.KnownBytes.{Appends};
+ghost use Rattle.mp4_tree.specs.Source.{piece};
+ghost use Rattle.mp4_faststart.specs.Moved.{moved_file};
+ghost use Rattle.mp4_faststart.specs.Written.{AppendsMoved, IsPlaced, movie_of};
+
+use crate::cut::Cut;
+use crate::movie::moved_movie;
+use crate::place::placed;
+use crate::refusal::Refusal;
+use mp4_io::{Output, write_all};
+use mp4_tree::Source;
+use std::alloc::Global;
+use std::io::Write;
+
+/// How many bytes are copied at once.
+const BLOCK: usize = 65536;
+
+/// Writes as many bytes of a source from a position on as the block is long.
+fn copy_block<S: Source, W: Write>(
+    source: &mut S,
+    at: u64,
+    block: &mut [u8],
+    output: &mut Output<W>,
+) -> Result<(), Refusal>
+    ensures bytes { OnOk result
+        (IfSome (S.all source.old)
+        (λ B. Appends (W.contents output.old.inner) (W.contents output.new.inner) (piece B at (length block.old)))) }
+    ensures keeps { S.all source.new ≡ S.all source.old }
+{
+    source.read_at(at, block)?;
+    write_all(output, block)?;
+    Ok(())
+}
+
+/// Writes so many bytes of a source from a position on, by way of the front of a buffer.
+fn copy_front<S: Source, W: Write>(
+    source: &mut S,
+    at: u64,
+    long: usize,
+    buffer: &mut [u8],
+    output: &mut Output<W>,
+) -> Result<(), Refusal>
+    requires { long ≤ length buffer.old }
+    ensures bytes { OnOk result
+        (IfSome (S.all source.old)
+        (λ B. Appends (W.contents output.old.inner) (W.contents output.new.inner) (piece B at long))) }
+    ensures keeps { S.all source.new ≡ S.all source.old }
+{
+    copy_block(source, at, &mut buffer[..long], output)
+}
+
+/// Writes the bytes of a source from a position up to another, a buffer after the other.
+fn copy<S: Source, W: Write>(
+    source: &mut S,
+    from: u64,
+    to: u64,
+    buffer: &mut [u8],
+    output: &mut Output<W>,
+) -> Result<(), Refusal>
+    requires { 0 < length buffer.old }
+    ensures bytes { OnOk result
+        (IfSome (S.all source.old)
+        (λ B. Appends (W.contents output.old.inner) (W.contents output.new.inner) (piece B from (to - from)))) }
+    ensures keeps { S.all source.new ≡ S.all source.old }
+{
+    let mut at = from;
+    while at < to {
+        let long = (to - at).min(buffer.len() as u64) as usize;
+        copy_front(source, at, long, buffer, output)?;
+        at += long as u64;
+    }
+    Ok(())
+}
+
+/// The movie box of a source.
+fn movie_of<S: Source>(alloc: Global, source: &mut S, cut: Cut) -> Result<Vec<u8>, Refusal>
+    ensures bytes { IfOk result (λ bytes. IfSome (S.all source.old) (λ B. bytes.items ≡ movie_of cut B)) }
+    ensures length { IfOk result (λ bytes. length bytes.items ≡ cut.end - cut.begin) }
+    ensures keeps { S.all source.new ≡ S.all source.old }
+{
+    let mut bytes = Vec::new(alloc);
+    bytes.resize(cut.end.saturating_sub(cut.begin) as usize, 0)?;
+    source.read_at(cut.begin, &mut bytes)?;
+    Ok(bytes)
+}
+
+/// Writes a source of this length, with a movie box moved to where it goes.
+fn write_parts<S: Source, W: Write>(
+    source: &mut S,
+    size: u64,
+    cut: Cut,
+    movie: &[u8],
+    buffer: &mut [u8],
+    output: &mut Output<W>,
+) -> Result<(), Refusal>
+    requires { 0 < length buffer.old }
+    ensures { OnOk result
+        (IfSome (S.all source.old)
+        (λ B. size ≡ length B → Appends (W.contents output.old.inner) (W.contents output.new.inner)
+        (moved_file cut B movie.now))) }
+{
+    copy(source, 0, cut.insert, buffer, output)?;
+    write_all(output, movie)?;
+    copy(source, cut.insert, cut.begin, buffer, output)?;
+    copy(source, cut.end, size, buffer, output)?;
+    Ok(())
+}
+
+/// Writes a source of this length with its movie box moved.
+fn write_moved<S: Source, W: Write>(
+    alloc: Global,
+    source: &mut S,
+    size: u64,
+    cut: Cut,
+    buffer: &mut [u8],
+    output: &mut Output<W>,
+) -> Result<(), Refusal>
+    requires { 0 < length buffer.old }
+    ensures { OnOk result
+        (IsPlaced size cut
+        → IfSome (S.all source.old)
+        (λ B. size ≡ length B
+        → AppendsMoved B (Some cut) (W.contents output.old.inner) (W.contents output.new.inner))) }
+{
+    let movie = movie_of(alloc, source, cut)?;
+    let made = moved_movie(alloc, movie.as_slice(), cut)?;
+    write_parts(source, size, cut, made.as_slice(), buffer, output)?;
+    Ok(())
+}
+
+/// Writes a source of this length with its movie box moved, or as it is. Returns whether and how it was moved.
+fn write_by<S: Source, W: Write>(
+    alloc: Global,
+    source: &mut S,
+    size: u64,
+    cut: Option<Cut>,
+    buffer: &mut [u8],
+    output: &mut Output<W>,
+) -> Result<Option<Cut>, Refusal>
+    requires { 0 < length buffer.old }
+    ensures { IfOk result
+        (λ done. IfSome cut (IsPlaced size)
+        → IfSome (S.all source.old)
+        (λ B. size ≡ length B → AppendsMoved B done (W.contents output.old.inner) (W.contents output.new.inner))) }
+{
+    match cut {
+        None => {
+            copy(source, 0, size, buffer, output)?;
+            Ok(None)
+        }
+        Some(cut) => {
+            write_moved(alloc, source, size, cut, buffer, output)?;
+            Ok(Some(cut))
+        }
+    }
+}
+
+/// Writes a file with its movie box before its media data, and returns where that was and goes. If it is there already,
+/// the file is written as it is, and none is returned. Each track keeps its samples, with the same bytes. After an error
+/// a beginning of that is written. It takes the memory of two movie boxes, of the boxes of one, and of the tables of a
+/// track in both.
+pub fn write_fast_start<S: Source, W: Write>(
+    alloc: Global,
+    source: S,
+    output: &mut Output<W>,
+) -> Result<Option<Cut>, Refusal>
+    ensures { IfOk result
+        (λ cut. IfSome (S.all source)
+        (λ B. AppendsMoved B cut (W.contents output.old.inner) (W.contents output.new.inner))) }
+{
+    let (mut source, size, cut) = placed(alloc, source)?;
+    let mut buffer = Vec::new(alloc);
+    buffer.resize(BLOCK, 0)?;
+    write_by(alloc, &mut source, size, cut, &mut buffer, output)
+}
