@@ -20,8 +20,7 @@ mod declared;
 use crate::declared::{show_declared, show_trees};
 use mp4_more::{AllBoxes, BoxTree};
 use mp4_stream::{
-    AnyBox, BoxHeader, BoxType, ByteCursor, EsdsBox, KeptBox, StreamBox, read_boxes, read_boxes_as,
-    write_boxes,
+    AnyBox, BoxHeader, BoxType, ByteCursor, EsdsBox, KeptBox, StreamBox, read_boxes_as, write_boxes,
 };
 use std::alloc::{AllocError, Global};
 use std::fmt::Debug;
@@ -98,6 +97,26 @@ fn show_list<B: StreamBox + Debug + Drop>(
     }
 }
 
+/// Appends two records of the list of the boxes from the cursor on, as `show_list`.
+fn show_boxes<B: StreamBox + Debug + Drop>(
+    alloc: Global,
+    reader: &mut ByteCursor,
+    out: &mut Vec<u8>,
+) -> Result<(), AllocError> {
+    let found = read_boxes_as::<B>(alloc, reader);
+    show_list(alloc, &found, reader, out)
+}
+
+/// Appends a record: the result of reading the list of the boxes from the cursor on, and the cursor's position after it.
+fn show_value<B: StreamBox + Debug + Drop>(
+    alloc: Global,
+    reader: &mut ByteCursor,
+    out: &mut Vec<u8>,
+) -> Result<(), AllocError> {
+    let found = read_boxes_as::<B>(alloc, reader);
+    show(alloc, &found, reader, out)
+}
+
 /// Appends a record: the result of reading the box whose header is at the cursor, the cursor's position after it, and
 /// how many headers of descriptors are read, if it is an `esds`.
 fn show_counted(
@@ -125,13 +144,11 @@ fn show_all(
     reader.set_position(position);
     show_box::<AnyBox>(alloc, &mut reader, out)?;
     reader.set_position(position);
-    let found = read_boxes(alloc, &mut reader);
-    show_list(alloc, &found, &reader, out)?;
+    show_boxes::<AnyBox>(alloc, &mut reader, out)?;
     reader.set_position(position);
     show_box::<KeptBox>(alloc, &mut reader, out)?;
     reader.set_position(position);
-    let kept = read_boxes_as::<KeptBox>(alloc, &mut reader);
-    show_list(alloc, &kept, &reader, out)?;
+    show_boxes::<KeptBox>(alloc, &mut reader, out)?;
     reader.set_position(position);
     show_declared(alloc, &mut reader, out)?;
     reader.set_position(position);
@@ -139,11 +156,9 @@ fn show_all(
     reader.set_position(position);
     show_counted(alloc, &mut reader, out)?;
     reader.set_position(position);
-    let all = read_boxes_as::<AllBoxes>(alloc, &mut reader);
-    show_list(alloc, &all, &reader, out)?;
+    show_boxes::<AllBoxes>(alloc, &mut reader, out)?;
     reader.set_position(position);
-    let trees = read_boxes_as::<BoxTree>(alloc, &mut reader);
-    show(alloc, &trees, &reader, out)
+    show_value::<BoxTree>(alloc, &mut reader, out)
 }
 
 fn main(rt: HostRuntime) -> io::Result<()> {
