@@ -2,10 +2,10 @@
 
 from functools import partial
 
-from shown import counted_of, outcome_of, plain_outcome_of, trees_of, written_of
+from shown import counted_of, outcome_of, plain_outcome_of, written_of
 from slow_more import Fields
 from slow_reader import Fault, headers, read_box, read_boxes, read_more
-from slow_trees import are_trees, read_trees, short_box
+from slow_trees import read_trees, short_box
 
 # What each text of the program says, and how it is read.
 LOOKED_AT = [
@@ -25,8 +25,8 @@ read_all_boxes = partial(read_boxes, keep=True, more=True)
 MORE_CALLS = {"declared box": (read_more, 6), "all boxes": (read_all_boxes, 10)}
 # The codes of the boxes of test_more, which test_probe reads as declared boxes, and the slow reader doesn't.
 TEST_CODES = (b"numb", b"opts", b"rang", b"runs", b"strs", b"trep", b"outr")
-# Which texts say what is read as trees, and what is written of them.
-TREES, WRITTEN_TREES = 12, 8
+# Which text says what is written of trees.
+WRITTEN_TREES = 8
 
 
 def parsed(read, text):
@@ -100,16 +100,11 @@ def more_otherwise(outcomes, buffer, position, texts):
                 yield "written, " + call, texts[number + 1], expected
         if found != expected:
             yield call, texts[number], expected
-    expected, after = outcome_by_layout(read_trees, buffer, position)
-    found = parsed(trees_of, texts[TREES])
+    expected, _ = outcome_by_layout(read_trees, buffer, position)
     if is_fault(expected):
         written = expected
-        is_same = found == (expected, after)
     else:
         written = b"".join(short_box(buffer, header) for header in headers(buffer, position))
-        is_same = found[1] == after and isinstance(found[0], list) and are_trees(found[0], expected)
-    if not is_same:
-        yield "trees", texts[TREES], (expected, after)
     if parsed(written_of, texts[WRITTEN_TREES]) != written:
         yield "written, trees", texts[WRITTEN_TREES], written
 

@@ -19,7 +19,7 @@ CODES = {
     "major_brand", "compatible_brands", "handler_type", "data_format", "grouping_type", "scheme_type", "aux_info_type",
 }
 # How many texts are printed for an input.
-TEXTS = 13
+TEXTS = 12
 
 
 def names():
@@ -197,24 +197,6 @@ def plain_outcome_of(text):
     """What `outcome_of` finds, with the fields of declared boxes as `plain` has them."""
     found, position = outcome_of(text)
     return (list(map(plain_box, found)) if isinstance(found, list) else plain_box(found)), position
-
-
-def tree_of(branch):
-    """A tree: a container with its trees, a box, or bytes."""
-    node = branch["node"] if "node" in branch else branch
-    if "bytes" in node:
-        return "kept", node["code"], node["bytes"]
-    _, (kind, held) = node
-    if kind == "Own" and isinstance(held, dict):
-        return "container", held["code"], held["fields"], list(map(tree_of, held["boxes"]))
-    return plain_box(named(held if isinstance(branch, dict) else node[1]))
-
-
-def trees_of(text):
-    """What is read as trees, and the position of the cursor."""
-    text, position = text.rsplit(" ", 1)
-    found = Printed(text).value()
-    return (list(map(tree_of, found)) if isinstance(found, list) else fault_of(found[1])), int(position)
 
 
 def outcome_of(text):

@@ -63,15 +63,3 @@ def short_box(buffer, header):
     """The bytes of a box with a header of 8 bytes."""
     content = buffer[header.start + 8:header.start + header.size]
     return (8 + len(content)).to_bytes(4, "big") + header.code + content
-
-
-def is_tree(found, expected):
-    """Whether a tree that was read is one of those that may be expected."""
-    if found[0] == "container":
-        return any(
-            it[:3] == found[:3] and are_trees(found[3], it[3]) for it in expected if it[0] == "container")
-    return found in expected
-
-
-def are_trees(found, expected):
-    return len(found) == len(expected) and all(map(is_tree, found, expected))

@@ -1,7 +1,7 @@
 //! Reads records from standard input, and writes records to standard output that say what the codec reads in them.
 //! `tests/rows` compares these with what is expected, and `tests/differential` with what a second reader reads.
 //!
-//! A record of the input is a position, a number of bytes, and these bytes. It gives thirteen records of the output,
+//! A record of the input is a position, a number of bytes, and these bytes. It gives twelve records of the output,
 //! each a number of bytes and a text of these bytes. The first is what is read as the box whose header is at the
 //! position, if its name is known; the second, what is read as the list of the boxes from the position on: the result
 //! as `Debug` prints it, a space, and the cursor's position after the call. The third is what this list is written in:
@@ -10,15 +10,14 @@
 //! read of the box, as the first, and what it is written in, as the third, if its type is declared; else they are
 //! empty. The ninth is what the list is written in if it is read as trees, as the third, or the fault. The tenth is
 //! what `read_counted` reads of the box, as the first, with a space and the number of headers after it; it is empty if
-//! the box isn't an `esds`. The next two are as the second and the third, with `AllBoxes` in the place of `AnyBox`, and
-//! the last is as the second, with `BoxTree` there. Numbers have 8 bytes and are big-endian. The program ends at the
-//! first record that isn't whole.
+//! the box isn't an `esds`. The last two are as the second and the third, with `AllBoxes` in the place of `AnyBox`.
+//! Numbers have 8 bytes and are big-endian. The program ends at the first record that isn't whole.
 #![tactic(auto)]
 
 mod declared;
 
 use crate::declared::{show_declared, show_trees};
-use mp4_more::{AllBoxes, BoxTree};
+use mp4_more::AllBoxes;
 use mp4_stream::{
     AnyBox, BoxHeader, BoxType, ByteCursor, EsdsBox, KeptBox, StreamBox, read_boxes_as, write_boxes,
 };
@@ -107,16 +106,6 @@ fn show_boxes<B: StreamBox + Debug + Drop>(
     show_list(alloc, &found, reader, out)
 }
 
-/// Appends a record: the result of reading the list of the boxes from the cursor on, and the cursor's position after it.
-fn show_value<B: StreamBox + Debug + Drop>(
-    alloc: Global,
-    reader: &mut ByteCursor,
-    out: &mut Vec<u8>,
-) -> Result<(), AllocError> {
-    let found = read_boxes_as::<B>(alloc, reader);
-    show(alloc, &found, reader, out)
-}
-
 /// Appends a record: the result of reading the box whose header is at the cursor, the cursor's position after it, and
 /// how many headers of descriptors are read, if it is an `esds`.
 fn show_counted(
@@ -133,7 +122,7 @@ fn show_counted(
     push_record(&text, out)
 }
 
-/// Appends the thirteen records of these bytes.
+/// Appends the twelve records of these bytes.
 fn show_all(
     alloc: Global,
     position: u64,
@@ -156,9 +145,7 @@ fn show_all(
     reader.set_position(position);
     show_counted(alloc, &mut reader, out)?;
     reader.set_position(position);
-    show_boxes::<AllBoxes>(alloc, &mut reader, out)?;
-    reader.set_position(position);
-    show_value::<BoxTree>(alloc, &mut reader, out)
+    show_boxes::<AllBoxes>(alloc, &mut reader, out)
 }
 
 fn main(rt: HostRuntime) -> io::Result<()> {
