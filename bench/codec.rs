@@ -86,21 +86,22 @@ impl Codec {
     }
 }
 
-/// Reads a stream of boxes of fragments so many times into lists of these boxes alone. Returns the sum of the checksums of
-/// its boxes.
+/// Reads a stream of boxes of fragments so many times into lists of these boxes alone. Returns the sum of the checksums
+/// of its boxes.
 pub fn read_fragments(bytes: &[u8], times: u64) -> u64 {
     // SAFETY: the pointer and the length are those of a slice.
     unsafe { mp4_read_fragments(bytes.as_ptr(), bytes.len(), times) }
 }
 
-/// Reads the tables of a track once and goes over its samples so many times. Returns the sum of all that is said of each.
+/// Reads the tables of a track once and goes over its samples so many times. Returns the sum of all that is said of
+/// each.
 pub fn samples_in_order(bytes: &[u8], times: u64) -> u64 {
     // SAFETY: the pointer and the length are those of a slice.
     unsafe { mp4_samples_in_order(bytes.as_ptr(), bytes.len(), times) }
 }
 
-/// Reads the tables of a track once, makes an index once, and looks one of ten samples up, so many times. Returns the sum
-/// of all that is said of each.
+/// Reads the tables of a track once, makes an index once, and looks one of ten samples up, so many times. Returns the
+/// sum of all that is said of each.
 pub fn samples_by_number(bytes: &[u8], times: u64) -> u64 {
     // SAFETY: the pointer and the length are those of a slice.
     unsafe { mp4_samples_by_number(bytes.as_ptr(), bytes.len(), times) }
@@ -122,15 +123,15 @@ fn over(call: Times, bytes: &[u8], times: u64) -> u64 {
 }
 
 impl Mfhd {
-    /// Reads a stream of `mfhd` boxes so many times, each time into a new list, of which the last box is written. Returns
-    /// the number of all and the sum of the last bytes.
+    /// Reads a stream of `mfhd` boxes so many times, each time into a new list, of which the last box is written.
+    /// Returns the number of all and the sum of the last bytes.
     pub fn read(self, bytes: &[u8], times: u64) -> u64 {
         let ways: [Times; 2] = [mp4_read_mfhd, mp4_read_declared];
         over(ways[self as usize], bytes, times)
     }
 
-    /// Reads a stream of `mfhd` boxes once, and writes them so many times. Returns the sum of the lengths and of the last
-    /// bytes.
+    /// Reads a stream of `mfhd` boxes once, and writes them so many times. Returns the sum of the lengths and of the
+    /// last bytes.
     pub fn write(self, bytes: &[u8], times: u64) -> u64 {
         let ways: [Times; 2] = [mp4_write_mfhd, mp4_write_declared];
         over(ways[self as usize], bytes, times)

@@ -1,5 +1,5 @@
-//! Measures the codec beside plain Rust, and prints the tables of docs/internals/BENCHMARKS.md. All is measured in several runs, and
-//! each stream in a process of its own, which this one starts.
+//! Measures the codec beside plain Rust, and prints the tables of docs/internals/BENCHMARKS.md. All is measured in
+//! several runs, and each stream in a process of its own, which this one starts.
 
 mod best;
 mod boxes;
@@ -139,14 +139,19 @@ fn print_all(rounds: usize, lines: &[String]) {
         println!("- {line}");
     }
     println!(
-        "- times in µs, of one pass, the least of {RUNS} runs of {rounds} rounds each, of about {} ms a way; of {} rounds for streams above {} bytes",
+        "- times in µs, of one pass, the least of {RUNS} runs of {rounds} rounds each, of about {} ms a way; of {} \
+         rounds for streams above {} bytes",
         timing::SECONDS * 1e3,
         timing::rounds_of_large(rounds),
         timing::LARGE,
     );
-    println!("- *ratio*: codec / best effort, the middle one of the runs, and in brackets the least and the greatest. Of each table the first five columns are of reading, the last four of writing; *copy* is that of reading");
     println!(
-        "- bytes of a member of a list: codec {}, best effort and naive {}; with other boxes kept {} and {}; of boxes of fragments {}",
+        "- *ratio*: codec / best effort, the middle one of the runs, and in brackets the least and the greatest. Of \
+         each table the first five columns are of reading, the last four of writing; *copy* is that of reading"
+    );
+    println!(
+        "- bytes of a member of a list: codec {}, best effort and naive {}; with other boxes kept {} and {}; of boxes \
+         of fragments {}",
         codec::member_size(),
         size_of::<AnyBox>(),
         codec::kept_member_size(),

@@ -203,7 +203,10 @@ fn print_other_lengths(tables: &[&Line]) {
 
 /// Small boxes that are read one at a time, beside a list of them, and into a list of boxes of fragments alone.
 fn print_each(lines: &[&Line]) {
-    println!("\n| boxes, read | into a list | one at a time | best effort, one at a time | ratio | into a list of `FragmentBox` |");
+    println!(
+        "\n| boxes, read | into a list | one at a time | best effort, one at a time | ratio | into a list of \
+         `FragmentBox` |"
+    );
     println!("|---|--:|--:|--:|--:|--:|");
     for line in lines {
         let list = micros(line.least(|run| run.read[1]));
@@ -227,7 +230,10 @@ impl SampleLine {
     }
 
     fn print(&self) {
-        println!("\n| {} samples, ns each | codec | best effort | ratio | as the crate `mp4` looks one up |", grouped(COUNT as usize));
+        println!(
+            "\n| {} samples, ns each | codec | best effort | ratio | as the crate `mp4` looks one up |",
+            grouped(COUNT as usize)
+        );
         println!("|---|--:|--:|--:|--:|");
         let ratio = Ratios::new(
             self.runs
@@ -257,7 +263,10 @@ impl DeclaredLine {
     }
 
     fn print(&self) {
-        println!("\n| {} `mfhd`, read and written one by one | by hand | declared | ratio |", grouped(declared::COUNT as usize));
+        println!(
+            "\n| {} `mfhd`, read and written one by one | by hand | declared | ratio |",
+            grouped(declared::COUNT as usize)
+        );
         println!("|---|--:|--:|--:|");
         println!("| reading | {} |", self.columns(|run| run.read));
         println!("| writing | {} |", self.columns(|run| run.write));

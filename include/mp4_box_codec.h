@@ -1,22 +1,23 @@
 /*
  * mp4-box-codec: the boxes of MP4 files (ISO/IEC 14496-12), for C.
  *
- * Each function reads values of the caller, returns a status, and puts what it finds into memory of the caller: elements into
- * an array, whose number of places the caller says, and the number of elements beside it. If the array has fewer places than
- * there are elements, the status is MP4_NO_ROOM, their number is returned, and the array is as it was: so ask first with an
- * array of 0 places, and then with one that is long enough.
+ * Each function reads values of the caller, returns a status, and puts what it finds into memory of the caller:
+ * elements into an array, whose number of places the caller says, and the number of elements beside it. If the array
+ * has fewer places than there are elements, the status is MP4_NO_ROOM, their number is returned, and the array is as it
+ * was: so ask first with an array of 0 places, and then with one that is long enough.
  *
  * What the caller ensures of every call:
  *
- *  - AN ARRAY OF 0 PLACES AND BYTES OF LENGTH 0 MAY BE NULL, AND NO OTHER POINTER. (This header replaces NULL there. Who calls
- *    the library without it, as from another language, passes a pointer to memory also then.)
+ *  - AN ARRAY OF 0 PLACES AND BYTES OF LENGTH 0 MAY BE NULL, AND NO OTHER POINTER. (This header replaces NULL there.
+ *    Who calls the library without it, as from another language, passes a pointer to memory also then.)
  *  - Each pointer is aligned for its type.
- *  - From `bytes` on there are `length` readable bytes, and from an array on as many places as its number says. No length
- *    is more than 2^63 - 1 bytes.
+ *  - From `bytes` on there are `length` readable bytes, and from an array on as many places as its number says. No
+ *    length is more than 2^63 - 1 bytes.
  *  - What a call reads has been given a value before. What it writes need not: an array may come from malloc.
  *  - None of these overlap, and no other thread writes to them, or reads what is written, until the call returns.
- *  - malloc, realloc and free are those of one allocator, and malloc and realloc align a block to each power of two up to
- *    16 that divides its size. No call is made from a signal handler, or in the forked child of a process with threads.
+ *  - malloc, realloc and free are those of one allocator, and malloc and realloc align a block to each power of two up
+ *    to 16 that divides its size. No call is made from a signal handler, or in the forked child of a process with
+ *    threads.
  *
  * What every call ensures, whatever the bytes are:
  *
@@ -24,7 +25,8 @@
  *    freed when it returns, and there is nothing that the caller has to free. It has no state: calls on several threads
  *    at once are fine.
  *  - After MP4_OK all elements are at the front of the array, and the places after them are as they were.
- *  - After MP4_NO_ROOM the array is as it was, and the number of elements, and what else is returned, is as after MP4_OK.
+ *  - After MP4_NO_ROOM the array is as it was, and the number of elements, and what else is returned, is as after
+ *    MP4_OK.
  *  - After any other status everything is as it was.
  *
  * It is C89 and later, and C++. Define MP4_NO_STDINT where there is no <stdint.h>. Link the program with
@@ -47,8 +49,8 @@ typedef long int64_t;
 #include <stdint.h>
 #endif
 
-/* The version of the codec, by semantic versioning, and the same as a number: 1000000 for each major version, 1000 for each
-   minor one, and 1 for each patch. */
+/* The version of the codec, by semantic versioning, and the same as a number: 1000000 for each major version, 1000 for
+   each minor one, and 1 for each patch. */
 #define MP4_VERSION "0.1.0"
 #define MP4_VERSION_NUMBER 1000
 
@@ -73,10 +75,11 @@ enum {
     MP4_BOX_NOT_FOUND = 3,
     /* malloc or realloc returned NULL. */
     MP4_OUT_OF_MEMORY = 12,
-    /* The array has fewer places than there are elements. This is the number of no error of the codec, as are those below. */
+    /* The array has fewer places than there are elements. This is the number of no error of the codec, as are those
+       below. */
     MP4_NO_ROOM = 100,
-    /* No track has the track_ID. Only mp4_samples and mp4_fragment_samples return it, and those below but for the next; the
-       latter those of them that say so. */
+    /* No track has the track_ID. Only mp4_samples and mp4_fragment_samples return it, and those below but for the next;
+       the latter those of them that say so. */
     MP4_NO_TRACK = 101,
     /* Boxes of this type are not read. Only mp4_fields returns it. */
     MP4_UNKNOWN_BOX = 102,
@@ -94,8 +97,9 @@ enum {
     MP4_DURATIONS_DISAGREE = 115,
     /* an entry of stss is not above the one before it, or the first is 0; */
     MP4_SYNC_SAMPLES_DISAGREE = 116,
-    /* a chunk of stco or co64 begins so far out that the bytes of all samples of stsz would end past 2^64 - 1 (a sample of a
-       fragment begins before the file or ends past 2^64 - 1, or it can't be told where the data before the fragment end). */
+    /* a chunk of stco or co64 begins so far out that the bytes of all samples of stsz would end past 2^64 - 1 (a sample
+       of a fragment begins before the file or ends past 2^64 - 1, or it can't be told where the data before the
+       fragment end). */
     MP4_OFFSETS_DISAGREE = 117
 };
 
@@ -109,8 +113,8 @@ struct mp4_span {
 
 /* A box at a path, and how long its header is. */
 struct mp4_place {
-    uint64_t position;      /* the offset of its first byte, where its header begins */
-    uint64_t length;        /* the number of its bytes with the header, as the header says it, also of a box that is cut */
+    uint64_t position; /* the offset of its first byte, where its header begins */
+    uint64_t length;   /* the number of its bytes with the header, as the header says it, also of a box that is cut */
     uint64_t header_length; /* 8 or 16: its content begins so many bytes after its position */
     uint32_t code;          /* the four characters of its code, the first in the highest byte */
     uint8_t is_whole;       /* 1 if all its bytes are there, else 0 */
@@ -135,8 +139,8 @@ struct mp4_table {
     uint8_t version; /* the box's version */
 };
 
-/* What is returned of an stsz box beside the sizes. If sample_size is 0, each sample has a size of its own, and count is
-   sample_count; else all samples have this size, and the array has none. */
+/* What is returned of an stsz box beside the sizes. If sample_size is 0, each sample has a size of its own, and count
+   is sample_count; else all samples have this size, and the array has none. */
 struct mp4_stsz_table {
     size_t count;
     uint32_t flags;
@@ -173,9 +177,9 @@ struct mp4_elst_row {
     uint16_t media_rate_fraction;
 };
 
-/* What is returned of a trun box beside its samples. Its flags say what it has: 0x1 a data_offset, 0x4 first_sample_flags, and
-   for each sample 0x100 a duration, 0x200 a size, 0x400 flags, 0x800 a composition_offset. What it doesn't have is 0. If it
-   has nothing for a sample, count is 0; else count is sample_count. */
+/* What is returned of a trun box beside its samples. Its flags say what it has: 0x1 a data_offset, 0x4
+   first_sample_flags, and for each sample 0x100 a duration, 0x200 a size, 0x400 flags, 0x800 a composition_offset. What
+   it doesn't have is 0. If it has nothing for a sample, count is 0; else count is sample_count. */
 struct mp4_trun_table {
     size_t count;
     uint32_t flags;
@@ -193,56 +197,56 @@ struct mp4_trun_row {
     uint32_t composition_offset; /* in version 1 the 32 bits of a signed number */
 };
 
-/* The headers of a movie and of its fragments. Each has its version, whose number decides how many bits its times have where
-   that is said, and 24 bits of flags. Times of creation and modification are seconds since the beginning of 1904, UTC. A number
-   "times 256" or "times 65536" is a fixed-point number: divide it. */
+/* The headers of a movie and of its fragments. Each has its version, whose number decides how many bits its times have
+   where that is said, and 24 bits of flags. Times of creation and modification are seconds since the beginning of 1904,
+   UTC. A number "times 256" or "times 65536" is a fixed-point number: divide it. */
 
 /* mvhd (8.2.2): properties of the whole movie. */
 struct mp4_mvhd_box {
-    uint64_t creation_time;     /* 32 bits in version 0, as the next two */
+    uint64_t creation_time; /* 32 bits in version 0, as the next two */
     uint64_t modification_time;
-    uint64_t duration;          /* of the longest track, in the timescale */
+    uint64_t duration; /* of the longest track, in the timescale */
     uint32_t flags;
-    uint32_t timescale;         /* units a second */
-    uint32_t rate;              /* of playback, times 65536: 0x10000 is normal */
-    int32_t matrix[9];          /* a, b, u, c, d, v, x, y, w, times 65536, but u, v and w times 2^30 */
-    uint32_t next_track_id;     /* a number that no track has */
-    uint16_t volume;            /* times 256: 0x100 is full */
-    uint8_t version;            /* 0 or 1 */
+    uint32_t timescale;     /* units a second */
+    uint32_t rate;          /* of playback, times 65536: 0x10000 is normal */
+    int32_t matrix[9];      /* a, b, u, c, d, v, x, y, w, times 65536, but u, v and w times 2^30 */
+    uint32_t next_track_id; /* a number that no track has */
+    uint16_t volume;        /* times 256: 0x100 is full */
+    uint8_t version;        /* 0 or 1 */
 };
 
 /* tkhd (8.3.2): properties of a track. */
 struct mp4_tkhd_box {
-    uint64_t creation_time;     /* 32 bits in version 0, as the next two */
+    uint64_t creation_time; /* 32 bits in version 0, as the next two */
     uint64_t modification_time;
-    uint64_t duration;          /* in the timescale of the movie */
-    uint32_t flags;             /* 0x1: enabled, 0x2: in the movie, 0x4: in the preview, 0x8: the size is an aspect ratio */
+    uint64_t duration; /* in the timescale of the movie */
+    uint32_t flags;    /* 0x1: enabled, 0x2: in the movie, 0x4: in the preview, 0x8: the size is an aspect ratio */
     uint32_t track_id;
-    int32_t matrix[9];          /* as in mvhd */
-    uint32_t width;             /* as it is shown, in pixels times 65536 */
+    int32_t matrix[9]; /* as in mvhd */
+    uint32_t width;    /* as it is shown, in pixels times 65536 */
     uint32_t height;
-    int16_t layer;              /* tracks with a lower layer cover those with a higher one */
-    int16_t alternate_group;    /* one track of a group is to be played; 0: none */
-    uint16_t volume;            /* times 256 */
-    uint8_t version;            /* 0 or 1 */
+    int16_t layer;           /* tracks with a lower layer cover those with a higher one */
+    int16_t alternate_group; /* one track of a group is to be played; 0: none */
+    uint16_t volume;         /* times 256 */
+    uint8_t version;         /* 0 or 1 */
 };
 
 /* mdhd (8.4.2): properties of the media of a track. */
 struct mp4_mdhd_box {
-    uint64_t creation_time;     /* 32 bits in version 0, as the next two */
+    uint64_t creation_time; /* 32 bits in version 0, as the next two */
     uint64_t modification_time;
-    uint64_t duration;          /* in the timescale */
+    uint64_t duration; /* in the timescale */
     uint32_t flags;
-    uint32_t timescale;         /* units a second */
-    char language[4];           /* three letters of ISO 639-2/T and a zero; the five low bits of each letter are written */
-    uint8_t version;            /* 0 or 1 */
+    uint32_t timescale; /* units a second */
+    char language[4];   /* three letters of ISO 639-2/T and a zero; the five low bits of each letter are written */
+    uint8_t version;    /* 0 or 1 */
 };
 
 /* mehd (8.8.2): the duration of a movie with fragments. */
 struct mp4_mehd_box {
     uint64_t fragment_duration; /* in the timescale of the movie; 32 bits in version 0 */
     uint32_t flags;
-    uint8_t version;            /* 0 or 1 */
+    uint8_t version; /* 0 or 1 */
 };
 
 /* mfhd (8.8.5): the number of a fragment. */
@@ -255,15 +259,15 @@ struct mp4_mfhd_box {
 /* smhd (12.2.2): the balance between left and right. */
 struct mp4_smhd_box {
     uint32_t flags;
-    int16_t balance;            /* times 256: -0x100 is full left, 0 the centre */
+    int16_t balance; /* times 256: -0x100 is full left, 0 the centre */
     uint8_t version;
 };
 
 /* vmhd (12.1.2): how video is composed with what is below it. */
 struct mp4_vmhd_box {
-    uint32_t flags;             /* 1 in the standard */
-    uint16_t graphics_mode;     /* 0: it covers what is below it */
-    uint16_t red;               /* the colour that other modes use */
+    uint32_t flags;         /* 1 in the standard */
+    uint16_t graphics_mode; /* 0: it covers what is below it */
+    uint16_t red;           /* the colour that other modes use */
     uint16_t green;
     uint16_t blue;
     uint8_t version;
@@ -284,13 +288,13 @@ struct mp4_trex_box {
 struct mp4_tfdt_box {
     uint64_t base_media_decode_time; /* in the timescale of the media; 32 bits in version 0 */
     uint32_t flags;
-    uint8_t version;                 /* 0 or 1 */
+    uint8_t version; /* 0 or 1 */
 };
 
-/* tfhd (8.8.7): the track of a fragment, and defaults for its samples. Its flags say which of them it has. What it doesn't have
-   is read as 0, and not written. */
+/* tfhd (8.8.7): the track of a fragment, and defaults for its samples. Its flags say which of them it has. What it
+   doesn't have is read as 0, and not written. */
 struct mp4_tfhd_box {
-    uint64_t base_data_offset;         /* with the flag 0x1: what data offsets are counted from, in bytes */
+    uint64_t base_data_offset; /* with the flag 0x1: what data offsets are counted from, in bytes */
     uint32_t flags;
     uint32_t track_id;
     uint32_t sample_description_index; /* with 0x2: of a sample entry, counted from 1 */
@@ -302,16 +306,17 @@ struct mp4_tfhd_box {
 
 /* The boxes of strings and references. `count` is the number of elements of the array beside the struct. */
 
-/* ftyp (4.3): the brands of a file. A code is a number, the first character in the highest byte: 'isom' is 0x69736F6D. */
+/* ftyp (4.3): the brands of a file. A code is a number, the first character in the highest byte: 'isom' is 0x69736F6D.
+ */
 struct mp4_ftyp_box {
-    size_t count;           /* of compatible brands */
+    size_t count; /* of compatible brands */
     uint32_t major_brand;
     uint32_t minor_version; /* of the major brand */
 };
 
 /* hdlr (8.4.3): what kind of media a track has. */
 struct mp4_hdlr_box {
-    size_t count;          /* of bytes of the name */
+    size_t count; /* of bytes of the name */
     uint32_t flags;
     uint32_t handler_type; /* a code: 'vide' is 0x76696465, 'soun' 0x736F756E */
     uint8_t version;
@@ -325,8 +330,8 @@ struct mp4_data_box {
 
 /* url (8.7.2): where media data is. */
 struct mp4_url_box {
-    size_t count;    /* of bytes of the location */
-    uint32_t flags;  /* 1: in the same file */
+    size_t count;   /* of bytes of the location */
+    uint32_t flags; /* 1: in the same file */
     uint8_t version;
 };
 
@@ -335,7 +340,7 @@ struct mp4_dref_box {
     struct mp4_url_box url; /* zeros without one */
     uint32_t flags;
     uint8_t version;
-    uint8_t has_url;        /* 0 or 1; each number but 0 is written as 1 */
+    uint8_t has_url; /* 0 or 1; each number but 0 is written as 1 */
 };
 
 /* emsg (ISO/IEC 23009-1, 5.10.3.3): an event message. Its three counts are of three arrays of bytes. */
@@ -349,13 +354,14 @@ struct mp4_emsg_box {
     uint32_t event_duration;          /* in the timescale */
     uint32_t id;
     uint32_t flags;
-    uint8_t version;                  /* 0 or 1: the time of the other version isn't written */
+    uint8_t version; /* 0 or 1: the time of the other version isn't written */
 };
 
 /* The sample entries, and the boxes in them. A resolution is in pixels an inch. */
 
-/* avcC (ISO/IEC 14496-15, 5.3.3.1): the configuration of an AVC decoder. Its parameter sets are in two arrays: their lengths,
-   first those of the sequence sets and then those of the picture sets; and their bytes, one set after the other. */
+/* avcC (ISO/IEC 14496-15, 5.3.3.1): the configuration of an AVC decoder. Its parameter sets are in two arrays: their
+   lengths, first those of the sequence sets and then those of the picture sets; and their bytes, one set after the
+   other. */
 struct mp4_avcc_box {
     size_t sequence_count; /* of sequence sets: at most 31 are written */
     size_t picture_count;  /* of picture sets: at most 255 are written */
@@ -364,7 +370,8 @@ struct mp4_avcc_box {
     uint8_t avc_profile_indication;
     uint8_t profile_compatibility;
     uint8_t avc_level_indication;
-    uint8_t length_size_minus_one; /* 0 to 3: of the length before each unit of a sample; the two low bits are written */
+    uint8_t
+        length_size_minus_one; /* 0 to 3: of the length before each unit of a sample; the two low bits are written */
 };
 
 /* The fields of a visual sample entry (12.1.3), in avc1 and hev1. */
@@ -372,10 +379,10 @@ struct mp4_visual {
     uint32_t horizresolution; /* times 65536: usually 0x480000 */
     uint32_t vertresolution;
     uint16_t data_reference_index;
-    uint16_t width;           /* in pixels */
+    uint16_t width; /* in pixels */
     uint16_t height;
-    uint16_t frame_count;     /* of a sample, usually 1 */
-    uint16_t depth;           /* bits of a pixel, usually 24 */
+    uint16_t frame_count; /* of a sample, usually 1 */
+    uint16_t depth;       /* bits of a pixel, usually 24 */
 };
 
 /* avc1 (ISO/IEC 14496-15, 5.4.2): AVC video. */
@@ -401,10 +408,10 @@ struct mp4_vpcc_box {
     uint16_t codec_initialization_data_size; /* 0 for VP9; such bytes are neither read nor written */
     uint8_t version;                         /* 1 in the standard */
     uint8_t profile;
-    uint8_t level;                           /* times 10 */
-    uint8_t bit_depth;                       /* below 16 */
-    uint8_t chroma_subsampling;              /* below 8 */
-    uint8_t video_full_range_flag;           /* 0 or 1; each number but 0 is written as 1 */
+    uint8_t level;                 /* times 10 */
+    uint8_t bit_depth;             /* below 16 */
+    uint8_t chroma_subsampling;    /* below 8 */
+    uint8_t video_full_range_flag; /* 0 or 1; each number but 0 is written as 1 */
     uint8_t color_primaries;
     uint8_t transfer_characteristics;
     uint8_t matrix_coefficients;
@@ -413,20 +420,20 @@ struct mp4_vpcc_box {
 /* vp09 (VP Codec ISO Media File Format Binding): VP9 video. The reserved bytes are kept as they are. */
 struct mp4_vp09_box {
     struct mp4_vpcc_box vpcc;
-    uint32_t flags;              /* of the six reserved bytes of a sample entry: the second to the fourth, */
-    uint16_t start_code;         /* and the last two */
+    uint32_t flags;      /* of the six reserved bytes of a sample entry: the second to the fourth, */
+    uint16_t start_code; /* and the last two */
     uint16_t data_reference_index;
-    uint16_t width;              /* in pixels */
+    uint16_t width; /* in pixels */
     uint16_t height;
     uint16_t horizresolution[2]; /* the whole part, and the fraction of 65536 */
     uint16_t vertresolution[2];
-    uint16_t frame_count;        /* of a sample, usually 1 */
-    uint16_t depth;              /* bits of a pixel, usually 24 */
-    uint16_t end_code;           /* 0xFFFF in the standard */
-    uint8_t version;             /* the first of the six reserved bytes */
+    uint16_t frame_count; /* of a sample, usually 1 */
+    uint16_t depth;       /* bits of a pixel, usually 24 */
+    uint16_t end_code;    /* 0xFFFF in the standard */
+    uint8_t version;      /* the first of the six reserved bytes */
     uint8_t reserved0[16];
     uint8_t reserved1[4];
-    uint8_t compressorname[32];  /* the number of its bytes, the name, and zeros */
+    uint8_t compressorname[32]; /* the number of its bytes, the name, and zeros */
 };
 
 /* tx3g (3GPP TS 26.245, 5.16): timed text. */
@@ -443,10 +450,10 @@ struct mp4_tx3g_box {
 /* esds (ISO/IEC 14496-14, 5.6): the descriptors of MPEG-4 audio. */
 struct mp4_esds_box {
     uint32_t flags;
-    uint32_t buffer_size_db;        /* in bytes, below 2^24 */
-    uint32_t max_bitrate;           /* in bits a second */
+    uint32_t buffer_size_db; /* in bytes, below 2^24 */
+    uint32_t max_bitrate;    /* in bits a second */
     uint32_t avg_bitrate;
-    uint32_t sample_rate;           /* in hertz, below 2^24, if freq_index is 15; else 0, and not written */
+    uint32_t sample_rate; /* in hertz, below 2^24, if freq_index is 15; else 0, and not written */
     uint16_t es_id;
     uint8_t version;
     uint8_t object_type_indication; /* 0x40: MPEG-4 audio */
@@ -459,16 +466,16 @@ struct mp4_esds_box {
 
 /* mp4a (ISO/IEC 14496-14, 5.6): MPEG-4 audio. */
 struct mp4_mp4a_box {
-    struct mp4_esds_box esds;      /* zeros without one */
-    uint32_t samplerate;           /* in hertz, times 65536 */
+    struct mp4_esds_box esds; /* zeros without one */
+    uint32_t samplerate;      /* in hertz, times 65536 */
     uint16_t data_reference_index;
     uint16_t channelcount;
-    uint16_t samplesize;           /* bits of a sample */
-    uint8_t has_esds;              /* 0 or 1; each number but 0 is written as 1 */
+    uint16_t samplesize; /* bits of a sample */
+    uint8_t has_esds;    /* 0 or 1; each number but 0 is written as 1 */
 };
 
-/* stsd (8.5.2): the first sample entry of a track, if it is of one of these five types. Its fields are in the member with its
-   name, and the others are zeros. */
+/* stsd (8.5.2): the first sample entry of a track, if it is of one of these five types. Its fields are in the member
+   with its name, and the others are zeros. */
 struct mp4_stsd_box {
     struct mp4_avc1_box avc1;
     struct mp4_hev1_box hev1;
@@ -476,7 +483,7 @@ struct mp4_stsd_box {
     struct mp4_mp4a_box mp4a;
     struct mp4_tx3g_box tx3g;
     uint32_t flags;
-    uint32_t entry;    /* its code: 0x61766331, 0x68657631, 0x76703039, 0x6D703461 or 0x74783367; 0 without one */
+    uint32_t entry; /* its code: 0x61766331, 0x68657631, 0x76703039, 0x6D703461 or 0x74783367; 0 without one */
     uint8_t version;
 };
 
@@ -519,9 +526,9 @@ struct mp4_walk {
     struct mp4_walk_level levels[33];
 };
 
-/* Reads all boxes from the front of the bytes to their end, and returns the status of the first fault, or MP4_OK. Boxes of
-   types that the codec doesn't read are skipped by their size: so a moov is not looked into. Call it over the content of
-   such a box to check what is in it. */
+/* Reads all boxes from the front of the bytes to their end, and returns the status of the first fault, or MP4_OK. Boxes
+   of types that the codec doesn't read are skipped by their size: so a moov is not looked into. Call it over the
+   content of such a box to check what is in it. */
 uint32_t mp4_check(const uint8_t *bytes, size_t length);
 
 /* Lists the boxes at the top level of the bytes, in their order, without reading what is in them. The children of a box
@@ -532,24 +539,25 @@ uint32_t mp4_list(const uint8_t *bytes, size_t length, struct mp4_span *spans, s
    MP4_INVALID_DATA if a box that was read is too large for a size of 32 bits. */
 uint32_t mp4_normal(const uint8_t *bytes, size_t length, uint8_t *out, size_t places, size_t *count);
 
-/* Finds the box at a path over the bytes of a file: codes of four characters with '/' between them, each with the number of
-   the box among those of its code in brackets, as in moov/trak[1]/mdia/mdhd. Numbers count from 0, and none means 0. The
-   text is UTF-8, has no zero after it, and is passed as MP4_TEXT("moov/trak"). MP4_BOX_NOT_FOUND if there is no such box,
-   and MP4_INVALID_DATA if the text is no path. */
+/* Finds the box at a path over the bytes of a file: codes of four characters with '/' between them, each with the
+   number of the box among those of its code in brackets, as in moov/trak[1]/mdia/mdhd. Numbers count from 0, and none
+   means 0. The text is UTF-8, has no zero after it, and is passed as MP4_TEXT("moov/trak"). MP4_BOX_NOT_FOUND if there
+   is no such box, and MP4_INVALID_DATA if the text is no path. */
 #define MP4_TEXT(text) ((const uint8_t *)("" text)), (sizeof(text) - 1)
-uint32_t mp4_find(const uint8_t *bytes, size_t length, const uint8_t *path, size_t path_length, struct mp4_place *place);
+uint32_t mp4_find(const uint8_t *bytes, size_t length, const uint8_t *path, size_t path_length,
+                  struct mp4_place *place);
 
 /* The fields of the box at the front of the bytes, header included, as the text of a JSON object (RFC 8259), as
-   `mp4inspect --json` shows them: in UTF-8, with no zero after it, and `count` is the number of its bytes. All boxes are read
-   that have a function below, and av1C, btrt, clap, clli, colr, dac3, dec3, dfLa, dOps, elng, frma, keys, mdcv, mfro, nmhd,
-   pasp, prft, pssh, saio, saiz, sbgp, schm, sdtp, senc, sgpd, sidx, styp, stz2, subs, tenc, tfra and tref. Also
-   MP4_UNKNOWN_BOX, of a box of another type, whether it is whole or not. Names of fields are those of the standards. A number
-   may have 64 bits. Codes of four characters are texts, each character of the number of its byte; bytes are texts of their
-   hexadecimal digits; what is fixed-point is a number with a fraction. */
+   `mp4inspect --json` shows them: in UTF-8, with no zero after it, and `count` is the number of its bytes. All boxes
+   are read that have a function below, and av1C, btrt, clap, clli, colr, dac3, dec3, dfLa, dOps, elng, frma, keys,
+   mdcv, mfro, nmhd, pasp, prft, pssh, saio, saiz, sbgp, schm, sdtp, senc, sgpd, sidx, styp, stz2, subs, tenc, tfra and
+   tref. Also MP4_UNKNOWN_BOX, of a box of another type, whether it is whole or not. Names of fields are those of the
+   standards. A number may have 64 bits. Codes of four characters are texts, each character of the number of its byte;
+   bytes are texts of their hexadecimal digits; what is fixed-point is a number with a fraction. */
 uint32_t mp4_fields(const uint8_t *bytes, size_t length, uint8_t *text, size_t places, size_t *count);
 
-/* A walk over the boxes of a file that isn't in memory: each box, and after it those in it, as far as the codec knows which
-   boxes hold boxes. It takes no memory and reads nothing itself: the caller reads the bytes that it wants.
+/* A walk over the boxes of a file that isn't in memory: each box, and after it those in it, as far as the codec knows
+   which boxes hold boxes. It takes no memory and reads nothing itself: the caller reads the bytes that it wants.
 
        mp4_walk_begin(length, &walk);
        while (walk.wanted > 0) {
@@ -557,26 +565,27 @@ uint32_t mp4_fields(const uint8_t *bytes, size_t length, uint8_t *text, size_t p
            status = mp4_walk_next(bytes, walk.wanted, &walk, &box);
        }
 
-   mp4_walk_next returns MP4_END_OF_INPUT if there are fewer bytes than are wanted, and MP4_BOX_NOT_FOUND after the last box.
-   It doesn't check a walk: the caller ensures that it is as mp4_walk_begin or mp4_walk_next left it. The boxes are those of the
-   file if the bytes are those of the file, also where they are wrong: then `what` says so. */
+   mp4_walk_next returns MP4_END_OF_INPUT if there are fewer bytes than are wanted, and MP4_BOX_NOT_FOUND after the last
+   box. It doesn't check a walk: the caller ensures that it is as mp4_walk_begin or mp4_walk_next left it. The boxes are
+   those of the file if the bytes are those of the file, also where they are wrong: then `what` says so. */
 uint32_t mp4_walk_begin(uint64_t length, struct mp4_walk *walk);
 uint32_t mp4_walk_next(const uint8_t *bytes, size_t length, struct mp4_walk *walk, struct mp4_box *box);
 
-/* The samples of the first track with this track_ID (8.3.2), over the bytes of a file: by the tables stsz, stsc, stco or
-   co64, stts, ctts and stss of its stbl. Also MP4_NO_TRACK; MP4_BOX_NOT_FOUND if the file has no moov, or the track lacks
-   mdhd, hdlr or a table that it has to have; and MP4_SAMPLE_SIZES_DISAGREE to MP4_OFFSETS_DISAGREE. Samples of fragments
-   are not among them. */
+/* The samples of the first track with this track_ID (8.3.2), over the bytes of a file: by the tables stsz, stsc, stco
+   or co64, stts, ctts and stss of its stbl. Also MP4_NO_TRACK; MP4_BOX_NOT_FOUND if the file has no moov, or the track
+   lacks mdhd, hdlr or a table that it has to have; and MP4_SAMPLE_SIZES_DISAGREE to MP4_OFFSETS_DISAGREE. Samples of
+   fragments are not among them. */
 uint32_t mp4_samples(const uint8_t *bytes, size_t length, uint32_t track_id, struct mp4_sample *samples, size_t places,
                      size_t *count);
 
-/* The samples of all fragments of the first track with this track_ID, over the bytes of a file, in its order: those of each traf
-   (8.8.6) whose tfhd has the track_ID, by its runs, the defaults of its tfhd and those of the trex of the track. Without a tfdt
-   the times of a fragment go on from the one before, and those of the first one from where the samples of the track's tables
-   end, by its stts. Offsets count from the base that the tfhd names, else from its moof, or from where the data of the traf
-   before it in the moof end. Also MP4_NO_TRACK; MP4_BOX_NOT_FOUND if the file has no moov, a traf no tfhd, or a fragment of the
-   track no trex; and MP4_CHUNK_COUNT_DISAGREES, MP4_DURATIONS_DISAGREE and MP4_OFFSETS_DISAGREE, as said there, which are
-   found once there is room for the samples. Their number is at most 2^64 - 1. */
+/* The samples of all fragments of the first track with this track_ID, over the bytes of a file, in its order: those of
+   each traf (8.8.6) whose tfhd has the track_ID, by its runs, the defaults of its tfhd and those of the trex of the
+   track. Without a tfdt the times of a fragment go on from the one before, and those of the first one from where the
+   samples of the track's tables end, by its stts. Offsets count from the base that the tfhd names, else from its moof,
+   or from where the data of the traf before it in the moof end. Also MP4_NO_TRACK; MP4_BOX_NOT_FOUND if the file has no
+   moov, a traf no tfhd, or a fragment of the track no trex; and MP4_CHUNK_COUNT_DISAGREES, MP4_DURATIONS_DISAGREE and
+   MP4_OFFSETS_DISAGREE, as said there, which are found once there is room for the samples. Their number is at most 2^64
+   - 1. */
 uint32_t mp4_fragment_samples(const uint8_t *bytes, size_t length, uint32_t track_id, struct mp4_sample *samples,
                               size_t places, size_t *count);
 
@@ -602,19 +611,24 @@ uint32_t mp4_co64(const uint8_t *bytes, size_t length, uint64_t *offsets, size_t
 uint32_t mp4_stss(const uint8_t *bytes, size_t length, uint32_t *samples, size_t places, struct mp4_table *table);
 
 /* The durations of the samples (8.6.1.2). */
-uint32_t mp4_stts(const uint8_t *bytes, size_t length, struct mp4_stts_row *rows, size_t places, struct mp4_table *table);
+uint32_t mp4_stts(const uint8_t *bytes, size_t length, struct mp4_stts_row *rows, size_t places,
+                  struct mp4_table *table);
 
 /* The composition offsets of the samples (8.6.1.3). */
-uint32_t mp4_ctts(const uint8_t *bytes, size_t length, struct mp4_ctts_row *rows, size_t places, struct mp4_table *table);
+uint32_t mp4_ctts(const uint8_t *bytes, size_t length, struct mp4_ctts_row *rows, size_t places,
+                  struct mp4_table *table);
 
 /* The chunks of the samples (8.7.4). */
-uint32_t mp4_stsc(const uint8_t *bytes, size_t length, struct mp4_stsc_row *rows, size_t places, struct mp4_table *table);
+uint32_t mp4_stsc(const uint8_t *bytes, size_t length, struct mp4_stsc_row *rows, size_t places,
+                  struct mp4_table *table);
 
 /* The edits of a track (8.6.6). */
-uint32_t mp4_elst(const uint8_t *bytes, size_t length, struct mp4_elst_row *rows, size_t places, struct mp4_table *table);
+uint32_t mp4_elst(const uint8_t *bytes, size_t length, struct mp4_elst_row *rows, size_t places,
+                  struct mp4_table *table);
 
 /* The samples of a run of a track fragment (8.8.8). */
-uint32_t mp4_trun(const uint8_t *bytes, size_t length, struct mp4_trun_row *rows, size_t places, struct mp4_trun_table *table);
+uint32_t mp4_trun(const uint8_t *bytes, size_t length, struct mp4_trun_row *rows, size_t places,
+                  struct mp4_trun_table *table);
 
 /*
  * The headers. The bytes begin with the box, as for the tables.
@@ -632,9 +646,9 @@ uint32_t mp4_tfdt(const uint8_t *bytes, size_t length, struct mp4_tfdt_box *box)
 uint32_t mp4_tfhd(const uint8_t *bytes, size_t length, struct mp4_tfhd_box *box);
 
 /*
- * The boxes of strings, references and sample entries. The bytes begin with the box, as for the tables. A string has no zero
- * after it. Of a list the number of elements is only known after it was read, so a call with arrays of 0 places takes as much
- * memory as one that fills them.
+ * The boxes of strings, references and sample entries. The bytes begin with the box, as for the tables. A string has no
+ * zero after it. Of a list the number of elements is only known after it was read, so a call with arrays of 0 places
+ * takes as much memory as one that fills them.
  */
 
 uint32_t mp4_ftyp(const uint8_t *bytes, size_t length, uint32_t *brands, size_t places, struct mp4_ftyp_box *box);
@@ -645,8 +659,9 @@ uint32_t mp4_dref(const uint8_t *bytes, size_t length, uint8_t *location, size_t
 uint32_t mp4_dinf(const uint8_t *bytes, size_t length, uint8_t *location, size_t places, struct mp4_dref_box *box);
 
 /* MP4_NO_ROOM if one of the three arrays is too short; then nothing is written to any. */
-uint32_t mp4_emsg(const uint8_t *bytes, size_t length, uint8_t *scheme_id_uri, size_t scheme_id_uri_places, uint8_t *value,
-                  size_t value_places, uint8_t *message_data, size_t message_data_places, struct mp4_emsg_box *box);
+uint32_t mp4_emsg(const uint8_t *bytes, size_t length, uint8_t *scheme_id_uri, size_t scheme_id_uri_places,
+                  uint8_t *value, size_t value_places, uint8_t *message_data, size_t message_data_places,
+                  struct mp4_emsg_box *box);
 
 uint32_t mp4_hvcc(const uint8_t *bytes, size_t length, struct mp4_hvcc_box *box);
 uint32_t mp4_hev1(const uint8_t *bytes, size_t length, struct mp4_hev1_box *box);
@@ -656,20 +671,20 @@ uint32_t mp4_tx3g(const uint8_t *bytes, size_t length, struct mp4_tx3g_box *box)
 uint32_t mp4_esds(const uint8_t *bytes, size_t length, struct mp4_esds_box *box);
 uint32_t mp4_mp4a(const uint8_t *bytes, size_t length, struct mp4_mp4a_box *box);
 
-/* The lengths of the parameter sets go into `lengths`, and their bytes into `set_bytes`. MP4_NO_ROOM if one of the two is too
-   short; then nothing is written to either. Of an stsd only an avc1 has parameter sets. */
-uint32_t mp4_avcc(const uint8_t *bytes, size_t length, size_t *lengths, size_t places, uint8_t *set_bytes, size_t byte_places,
-                  struct mp4_avcc_box *box);
-uint32_t mp4_avc1(const uint8_t *bytes, size_t length, size_t *lengths, size_t places, uint8_t *set_bytes, size_t byte_places,
-                  struct mp4_avc1_box *box);
-uint32_t mp4_stsd(const uint8_t *bytes, size_t length, size_t *lengths, size_t places, uint8_t *set_bytes, size_t byte_places,
-                  struct mp4_stsd_box *box);
+/* The lengths of the parameter sets go into `lengths`, and their bytes into `set_bytes`. MP4_NO_ROOM if one of the two
+   is too short; then nothing is written to either. Of an stsd only an avc1 has parameter sets. */
+uint32_t mp4_avcc(const uint8_t *bytes, size_t length, size_t *lengths, size_t places, uint8_t *set_bytes,
+                  size_t byte_places, struct mp4_avcc_box *box);
+uint32_t mp4_avc1(const uint8_t *bytes, size_t length, size_t *lengths, size_t places, uint8_t *set_bytes,
+                  size_t byte_places, struct mp4_avc1_box *box);
+uint32_t mp4_stsd(const uint8_t *bytes, size_t length, size_t *lengths, size_t places, uint8_t *set_bytes,
+                  size_t byte_places, struct mp4_stsd_box *box);
 
 /*
- * Writing. The box is put at the front of `bytes`, header included, and `length` is the number of its bytes. MP4_NO_ROOM if
- * there are fewer places: then `length` is their number too, and nothing is written. MP4_INVALID_DATA if the box can't be
- * written: a number doesn't fit the bits of its field (flags 24; times of version 0 32), the version of a header with times
- * isn't 0 or 1, or the box would have 2^32 bytes or more.
+ * Writing. The box is put at the front of `bytes`, header included, and `length` is the number of its bytes.
+ * MP4_NO_ROOM if there are fewer places: then `length` is their number too, and nothing is written. MP4_INVALID_DATA if
+ * the box can't be written: a number doesn't fit the bits of its field (flags 24; times of version 0 32), the version
+ * of a header with times isn't 0 or 1, or the box would have 2^32 bytes or more.
  */
 
 uint32_t mp4_write_mvhd(const struct mp4_mvhd_box *box, uint8_t *bytes, size_t places, size_t *length);
@@ -683,10 +698,11 @@ uint32_t mp4_write_trex(const struct mp4_trex_box *box, uint8_t *bytes, size_t p
 uint32_t mp4_write_tfdt(const struct mp4_tfdt_box *box, uint8_t *bytes, size_t places, size_t *length);
 uint32_t mp4_write_tfhd(const struct mp4_tfhd_box *box, uint8_t *bytes, size_t places, size_t *length);
 
-/* The tables have `count` rows; the count in `table` is not looked at. Also MP4_INVALID_DATA if stsz doesn't have sample_count
-   sizes, or none where sample_size isn't 0; if a first_chunk of stsc is below the one before it, or the number of a first
-   sample has more than 32 bits (first_sample isn't looked at); if a time of an elst has more than 32 bits, but in version 1;
-   or if trun has rows and flags for them, but not sample_count of them. What the flags of a trun don't say is not written. */
+/* The tables have `count` rows; the count in `table` is not looked at. Also MP4_INVALID_DATA if stsz doesn't have
+   sample_count sizes, or none where sample_size isn't 0; if a first_chunk of stsc is below the one before it, or the
+   number of a first sample has more than 32 bits (first_sample isn't looked at); if a time of an elst has more than 32
+   bits, but in version 1; or if trun has rows and flags for them, but not sample_count of them. What the flags of a
+   trun don't say is not written. */
 
 uint32_t mp4_write_stsz(const struct mp4_stsz_table *table, const uint32_t *sizes, size_t count, uint8_t *bytes,
                         size_t places, size_t *length);
@@ -704,29 +720,30 @@ uint32_t mp4_write_stsc(const struct mp4_table *table, const struct mp4_stsc_row
                         size_t places, size_t *length);
 uint32_t mp4_write_elst(const struct mp4_table *table, const struct mp4_elst_row *rows, size_t count, uint8_t *bytes,
                         size_t places, size_t *length);
-uint32_t mp4_write_trun(const struct mp4_trun_table *table, const struct mp4_trun_row *rows, size_t count, uint8_t *bytes,
-                        size_t places, size_t *length);
-
-/* The boxes of strings, references and sample entries have as many elements as the number after each array says; the counts in
-   `box` are not looked at, but for those of an avcC. Also MP4_INVALID_DATA if a name, a location, a scheme or a value isn't
-   UTF-8, or a scheme or a value has a zero byte; if the version of an emsg isn't 0 or 1; and if `entry` of an stsd is none of
-   the five codes and not 0, a number of its entry doesn't fit, the lengths of an avc1 are not sequence_count and picture_count
-   together, or its set_bytes not as many as they add up to. */
-
-uint32_t mp4_write_ftyp(const struct mp4_ftyp_box *box, const uint32_t *brands, size_t count, uint8_t *bytes, size_t places,
-                        size_t *length);
-uint32_t mp4_write_hdlr(const struct mp4_hdlr_box *box, const uint8_t *name, size_t count, uint8_t *bytes, size_t places,
-                        size_t *length);
-uint32_t mp4_write_dref(const struct mp4_dref_box *box, const uint8_t *location, size_t count, uint8_t *bytes, size_t places,
-                        size_t *length);
-uint32_t mp4_write_emsg(const struct mp4_emsg_box *box, const uint8_t *scheme_id_uri, size_t scheme_id_uri_count,
-                        const uint8_t *value, size_t value_count, const uint8_t *message_data, size_t message_data_count,
+uint32_t mp4_write_trun(const struct mp4_trun_table *table, const struct mp4_trun_row *rows, size_t count,
                         uint8_t *bytes, size_t places, size_t *length);
+
+/* The boxes of strings, references and sample entries have as many elements as the number after each array says; the
+   counts in `box` are not looked at, but for those of an avcC. Also MP4_INVALID_DATA if a name, a location, a scheme or
+   a value isn't UTF-8, or a scheme or a value has a zero byte; if the version of an emsg isn't 0 or 1; and if `entry`
+   of an stsd is none of the five codes and not 0, a number of its entry doesn't fit, the lengths of an avc1 are not
+   sequence_count and picture_count together, or its set_bytes not as many as they add up to. */
+
+uint32_t mp4_write_ftyp(const struct mp4_ftyp_box *box, const uint32_t *brands, size_t count, uint8_t *bytes,
+                        size_t places, size_t *length);
+uint32_t mp4_write_hdlr(const struct mp4_hdlr_box *box, const uint8_t *name, size_t count, uint8_t *bytes,
+                        size_t places, size_t *length);
+uint32_t mp4_write_dref(const struct mp4_dref_box *box, const uint8_t *location, size_t count, uint8_t *bytes,
+                        size_t places, size_t *length);
+uint32_t mp4_write_emsg(const struct mp4_emsg_box *box, const uint8_t *scheme_id_uri, size_t scheme_id_uri_count,
+                        const uint8_t *value, size_t value_count, const uint8_t *message_data,
+                        size_t message_data_count, uint8_t *bytes, size_t places, size_t *length);
 uint32_t mp4_write_stsd(const struct mp4_stsd_box *box, const size_t *lengths, size_t count, const uint8_t *set_bytes,
                         size_t byte_count, uint8_t *bytes, size_t places, size_t *length);
 
 /*
- * An array without elements may be NULL: calls go through the functions below, which pass a pointer to memory in its place.
+ * An array without elements may be NULL: calls go through the functions below, which pass a pointer to memory in its
+ * place.
  */
 
 #if defined(__GNUC__)
@@ -748,30 +765,28 @@ MP4_INLINE void *mp4_to(void *array) {
 }
 
 #define MP4_BYTES(bytes) ((const uint8_t *)mp4_from(bytes))
-#define MP4_READS_BOX(name) \
-    MP4_INLINE uint32_t mp4_call_##name(const uint8_t *bytes, size_t length, struct mp4_##name##_box *box) { \
-        return mp4_##name(MP4_BYTES(bytes), length, box); \
+#define MP4_READS_BOX(name)                                                                                            \
+    MP4_INLINE uint32_t mp4_call_##name(const uint8_t *bytes, size_t length, struct mp4_##name##_box *box) {           \
+        return mp4_##name(MP4_BYTES(bytes), length, box);                                                              \
     }
-#define MP4_READS_ROWS(name, row, told) \
-    MP4_INLINE uint32_t mp4_call_##name(const uint8_t *bytes, size_t length, row *rows, size_t places, told *table) { \
-        return mp4_##name(MP4_BYTES(bytes), length, (row *)mp4_to(rows), places, table); \
+#define MP4_READS_ROWS(name, row, told)                                                                                \
+    MP4_INLINE uint32_t mp4_call_##name(const uint8_t *bytes, size_t length, row *rows, size_t places, told *table) {  \
+        return mp4_##name(MP4_BYTES(bytes), length, (row *)mp4_to(rows), places, table);                               \
     }
-#define MP4_WRITES_BOX(name) \
-    MP4_INLINE uint32_t mp4_call_write_##name(const struct mp4_##name##_box *box, uint8_t *bytes, size_t places, \
-                                              size_t *length) { \
-        return mp4_write_##name(box, (uint8_t *)mp4_to(bytes), places, length); \
+#define MP4_WRITES_BOX(name)                                                                                           \
+    MP4_INLINE uint32_t mp4_call_write_##name(const struct mp4_##name##_box *box, uint8_t *bytes, size_t places,       \
+                                              size_t *length) {                                                        \
+        return mp4_write_##name(box, (uint8_t *)mp4_to(bytes), places, length);                                        \
     }
-#define MP4_WRITES_ROWS(name, row, told) \
-    MP4_INLINE uint32_t mp4_call_write_##name(const told *table, const row *rows, size_t count, uint8_t *bytes, \
-                                              size_t places, size_t *length) { \
-        return mp4_write_##name(table, (const row *)mp4_from(rows), count, (uint8_t *)mp4_to(bytes), places, length); \
+#define MP4_WRITES_ROWS(name, row, told)                                                                               \
+    MP4_INLINE uint32_t mp4_call_write_##name(const told *table, const row *rows, size_t count, uint8_t *bytes,        \
+                                              size_t places, size_t *length) {                                         \
+        return mp4_write_##name(table, (const row *)mp4_from(rows), count, (uint8_t *)mp4_to(bytes), places, length);  \
     }
 #define MP4_BOX(name) MP4_READS_BOX(name) MP4_WRITES_BOX(name)
 #define MP4_ROWS(name, row, told) MP4_READS_ROWS(name, row, told) MP4_WRITES_ROWS(name, row, told)
 
-MP4_INLINE uint32_t mp4_call_check(const uint8_t *bytes, size_t length) {
-    return mp4_check(MP4_BYTES(bytes), length);
-}
+MP4_INLINE uint32_t mp4_call_check(const uint8_t *bytes, size_t length) { return mp4_check(MP4_BYTES(bytes), length); }
 MP4_INLINE uint32_t mp4_call_find(const uint8_t *bytes, size_t length, const uint8_t *path, size_t path_length,
                                   struct mp4_place *place) {
     return mp4_find(MP4_BYTES(bytes), length, MP4_BYTES(path), path_length, place);
@@ -782,12 +797,14 @@ MP4_INLINE uint32_t mp4_call_samples(const uint8_t *bytes, size_t length, uint32
 }
 MP4_INLINE uint32_t mp4_call_fragment_samples(const uint8_t *bytes, size_t length, uint32_t track_id,
                                               struct mp4_sample *samples, size_t places, size_t *count) {
-    return mp4_fragment_samples(MP4_BYTES(bytes), length, track_id, (struct mp4_sample *)mp4_to(samples), places, count);
+    return mp4_fragment_samples(MP4_BYTES(bytes), length, track_id, (struct mp4_sample *)mp4_to(samples), places,
+                                count);
 }
 MP4_INLINE uint32_t mp4_call_status_text(uint32_t status, uint8_t *text, size_t places, size_t *count) {
     return mp4_status_text(status, (uint8_t *)mp4_to(text), places, count);
 }
-MP4_INLINE uint32_t mp4_call_walk_next(const uint8_t *bytes, size_t length, struct mp4_walk *walk, struct mp4_box *box) {
+MP4_INLINE uint32_t mp4_call_walk_next(const uint8_t *bytes, size_t length, struct mp4_walk *walk,
+                                       struct mp4_box *box) {
     return mp4_walk_next(MP4_BYTES(bytes), length, walk, box);
 }
 MP4_READS_ROWS(list, struct mp4_span, size_t)
@@ -813,11 +830,11 @@ MP4_BOX(trex)
 MP4_BOX(tfdt)
 MP4_BOX(tfhd)
 
-#define MP4_READS_SETS(name) \
-    MP4_INLINE uint32_t mp4_call_##name(const uint8_t *bytes, size_t length, size_t *lengths, size_t places, \
-                                        uint8_t *set_bytes, size_t byte_places, struct mp4_##name##_box *box) { \
-        return mp4_##name(MP4_BYTES(bytes), length, (size_t *)mp4_to(lengths), places, (uint8_t *)mp4_to(set_bytes), \
-                          byte_places, box); \
+#define MP4_READS_SETS(name)                                                                                           \
+    MP4_INLINE uint32_t mp4_call_##name(const uint8_t *bytes, size_t length, size_t *lengths, size_t places,           \
+                                        uint8_t *set_bytes, size_t byte_places, struct mp4_##name##_box *box) {        \
+        return mp4_##name(MP4_BYTES(bytes), length, (size_t *)mp4_to(lengths), places, (uint8_t *)mp4_to(set_bytes),   \
+                          byte_places, box);                                                                           \
     }
 MP4_ROWS(ftyp, uint32_t, struct mp4_ftyp_box)
 MP4_ROWS(hdlr, uint8_t, struct mp4_hdlr_box)
@@ -835,9 +852,9 @@ MP4_READS_BOX(mp4a)
 MP4_READS_SETS(avcc)
 MP4_READS_SETS(avc1)
 MP4_READS_SETS(stsd)
-MP4_INLINE uint32_t mp4_call_emsg(const uint8_t *bytes, size_t length, uint8_t *scheme_id_uri, size_t scheme_id_uri_places,
-                                  uint8_t *value, size_t value_places, uint8_t *message_data, size_t message_data_places,
-                                  struct mp4_emsg_box *box) {
+MP4_INLINE uint32_t mp4_call_emsg(const uint8_t *bytes, size_t length, uint8_t *scheme_id_uri,
+                                  size_t scheme_id_uri_places, uint8_t *value, size_t value_places,
+                                  uint8_t *message_data, size_t message_data_places, struct mp4_emsg_box *box) {
     return mp4_emsg(MP4_BYTES(bytes), length, (uint8_t *)mp4_to(scheme_id_uri), scheme_id_uri_places,
                     (uint8_t *)mp4_to(value), value_places, (uint8_t *)mp4_to(message_data), message_data_places, box);
 }

@@ -1,7 +1,7 @@
 /*
- * Calls the functions of include/mp4_box_codec.h for boxes of fixed fields: reads each and writes each, with arrays that are
- * long enough and too short, bytes that have each fault, numbers that don't fit, and memory that is refused. The bytes were
- * worked out from docs/LAYOUT.md: no two fields are alike.
+ * Calls the functions of include/mp4_box_codec.h for boxes of fixed fields: reads each and writes each, with arrays
+ * that are long enough and too short, bytes that have each fault, numbers that don't fit, and memory that is refused.
+ * The bytes were worked out from docs/LAYOUT.md: no two fields are alike.
  */
 #include "c_checks.h"
 
@@ -14,7 +14,7 @@ struct box {
     size_t size;
     const uint8_t *bytes;
     size_t length;
-    int has_times;   /* version 0 and 1 alone */
+    int has_times; /* version 0 and 1 alone */
     int takes_memory;
 };
 
@@ -25,55 +25,52 @@ static int no_rows(const void *rows, size_t count) {
     return count == 0;
 }
 
-static int are_fields(const void *told) {
-    return tried->are_same(told, tried->fields);
-}
+static int are_fields(const void *told) { return tried->are_same(told, tried->fields); }
 
 static int are_bytes(const void *rows, size_t count) {
     return count == tried->length && memcmp(rows, tried->bytes, count) == 0;
 }
 
-static int is_length(const void *told) {
-    return *(const size_t *)told == tried->length;
-}
+static int is_length(const void *told) { return *(const size_t *)told == tried->length; }
 
-#define BOX(name, comparison) \
-    static uint32_t read_##name(const uint8_t *bytes, size_t length, void *rows, size_t places, void *told) { \
-        (void)rows; \
-        (void)places; \
-        return mp4_##name(bytes, length, (struct mp4_##name##_box *)told); \
-    } \
-    static uint32_t write_##name(const uint8_t *bytes, size_t length, void *rows, size_t places, void *told) { \
-        (void)length; \
-        return mp4_write_##name((const struct mp4_##name##_box *)bytes, (uint8_t *)rows, places, (size_t *)told); \
-    } \
-    static int same_##name(const void *one, const void *other) { \
-        const struct mp4_##name##_box *a = one, *b = other; \
-        return a->version == b->version && a->flags == b->flags && (comparison); \
+#define BOX(name, comparison)                                                                                          \
+    static uint32_t read_##name(const uint8_t *bytes, size_t length, void *rows, size_t places, void *told) {          \
+        (void)rows;                                                                                                    \
+        (void)places;                                                                                                  \
+        return mp4_##name(bytes, length, (struct mp4_##name##_box *)told);                                             \
+    }                                                                                                                  \
+    static uint32_t write_##name(const uint8_t *bytes, size_t length, void *rows, size_t places, void *told) {         \
+        (void)length;                                                                                                  \
+        return mp4_write_##name((const struct mp4_##name##_box *)bytes, (uint8_t *)rows, places, (size_t *)told);      \
+    }                                                                                                                  \
+    static int same_##name(const void *one, const void *other) {                                                       \
+        const struct mp4_##name##_box *a = one, *b = other;                                                            \
+        return a->version == b->version && a->flags == b->flags && (comparison);                                       \
     }
 #define SAME(field) (a->field == b->field)
 #define ALIKE(field) (memcmp(a->field, b->field, sizeof a->field) == 0)
 
 BOX(mvhd, SAME(creation_time) && SAME(modification_time) && SAME(duration) && SAME(timescale) && SAME(rate) &&
-    ALIKE(matrix) && SAME(next_track_id) && SAME(volume))
+              ALIKE(matrix) && SAME(next_track_id) && SAME(volume))
 BOX(tkhd, SAME(creation_time) && SAME(modification_time) && SAME(duration) && SAME(track_id) && ALIKE(matrix) &&
-    SAME(width) && SAME(height) && SAME(layer) && SAME(alternate_group) && SAME(volume))
+              SAME(width) && SAME(height) && SAME(layer) && SAME(alternate_group) && SAME(volume))
 BOX(mdhd, SAME(creation_time) && SAME(modification_time) && SAME(duration) && SAME(timescale) && ALIKE(language))
 BOX(mehd, SAME(fragment_duration))
 BOX(mfhd, SAME(sequence_number))
 BOX(smhd, SAME(balance))
 BOX(vmhd, SAME(graphics_mode) && SAME(red) && SAME(green) && SAME(blue))
 BOX(trex, SAME(track_id) && SAME(default_sample_description_index) && SAME(default_sample_duration) &&
-    SAME(default_sample_size) && SAME(default_sample_flags))
+              SAME(default_sample_size) && SAME(default_sample_flags))
 BOX(tfdt, SAME(base_media_decode_time))
 BOX(tfhd, SAME(base_data_offset) && SAME(track_id) && SAME(sample_description_index) && SAME(default_sample_duration) &&
-    SAME(default_sample_size) && SAME(default_sample_flags))
+              SAME(default_sample_size) && SAME(default_sample_flags))
 
 /* The values, and their bytes. */
 
 #define ZEROS_8 "\0\0\0\0\0\0\0\0"
-#define MATRIX {0x11121314, 0x21222324, 0x31323334, 0x41424344, 0x51525354, 0x61626364, 0x71727374, -2, -0x7FFFFFFF}
-#define MATRIX_BYTES \
+#define MATRIX                                                                                                         \
+    { 0x11121314, 0x21222324, 0x31323334, 0x41424344, 0x51525354, 0x61626364, 0x71727374, -2, -0x7FFFFFFF }
+#define MATRIX_BYTES                                                                                                   \
     "\x11\x12\x13\x14\x21\x22\x23\x24\x31\x32\x33\x34\x41\x42\x43\x44\x51\x52\x53\x54\x61\x62\x63\x64\x71\x72\x73\x74" \
     "\xFF\xFF\xFF\xFE\x80\0\0\1"
 #define FIRST 0x8182838485868788
@@ -83,30 +80,31 @@ BOX(tfhd, SAME(base_data_offset) && SAME(track_id) && SAME(sample_description_in
 #define SECOND_BYTES "\x91\x92\x93\x94\x95\x96\x97\x98"
 #define THIRD_BYTES "\xA1\xA2\xA3\xA4\xA5\xA6\xA7\xA8"
 
-static const struct mp4_mvhd_box MVHD_0 = {0x81828384, 0x91929394, 0xA1A2A3A4, 0xB1B2B3, 0xC1C2C3C4, 0xD1D2D3D4, MATRIX,
-    0xE1E2E3E4, 0xF1F2, 0};
-static const struct mp4_mvhd_box MVHD_1 = {FIRST, SECOND, THIRD, 0xB1B2B3, 0xC1C2C3C4, 0xD1D2D3D4, MATRIX, 0xE1E2E3E4,
-    0xF1F2, 1};
+static const struct mp4_mvhd_box MVHD_0 = {0x81828384, 0x91929394, 0xA1A2A3A4, 0xB1B2B3, 0xC1C2C3C4,
+                                           0xD1D2D3D4, MATRIX,     0xE1E2E3E4, 0xF1F2,   0};
+static const struct mp4_mvhd_box MVHD_1 = {FIRST,      SECOND, THIRD,      0xB1B2B3, 0xC1C2C3C4,
+                                           0xD1D2D3D4, MATRIX, 0xE1E2E3E4, 0xF1F2,   1};
 #define MVHD_END "\xD1\xD2\xD3\xD4\xF1\xF2" ZEROS_8 "\0\0" MATRIX_BYTES ZEROS_8 ZEROS_8 ZEROS_8 "\xE1\xE2\xE3\xE4"
-#define MVHD_0_BYTES "\0\0\0\x6Cmvhd\0\xB1\xB2\xB3\x81\x82\x83\x84\x91\x92\x93\x94\xC1\xC2\xC3\xC4\xA1\xA2\xA3\xA4" MVHD_END
+#define MVHD_0_BYTES                                                                                                   \
+    "\0\0\0\x6Cmvhd\0\xB1\xB2\xB3\x81\x82\x83\x84\x91\x92\x93\x94\xC1\xC2\xC3\xC4\xA1\xA2\xA3\xA4" MVHD_END
 #define MVHD_1_BYTES "\0\0\0\x78mvhd\1\xB1\xB2\xB3" FIRST_BYTES SECOND_BYTES "\xC1\xC2\xC3\xC4" THIRD_BYTES MVHD_END
 
-static const struct mp4_tkhd_box TKHD_0 = {0x81828384, 0x91929394, 0xA1A2A3A4, 0xB1B2B3, 0xC1C2C3C4, MATRIX, 0xD1D2D3D4,
-    0xE1E2E3E4, -2, 0x7172, 0xF1F2, 0};
-static const struct mp4_tkhd_box TKHD_1 = {FIRST, SECOND, THIRD, 0xB1B2B3, 0xC1C2C3C4, MATRIX, 0xD1D2D3D4, 0xE1E2E3E4, -2,
-    0x7172, 0xF1F2, 1};
+static const struct mp4_tkhd_box TKHD_0 = {0x81828384, 0x91929394, 0xA1A2A3A4, 0xB1B2B3, 0xC1C2C3C4, MATRIX,
+                                           0xD1D2D3D4, 0xE1E2E3E4, -2,         0x7172,   0xF1F2,     0};
+static const struct mp4_tkhd_box TKHD_1 = {FIRST,      SECOND,     THIRD, 0xB1B2B3, 0xC1C2C3C4, MATRIX,
+                                           0xD1D2D3D4, 0xE1E2E3E4, -2,    0x7172,   0xF1F2,     1};
 #define TKHD_END ZEROS_8 "\xFF\xFE\x71\x72\xF1\xF2\0\0" MATRIX_BYTES "\xD1\xD2\xD3\xD4\xE1\xE2\xE3\xE4"
-#define TKHD_0_BYTES \
+#define TKHD_0_BYTES                                                                                                   \
     "\0\0\0\x5Ctkhd\0\xB1\xB2\xB3\x81\x82\x83\x84\x91\x92\x93\x94\xC1\xC2\xC3\xC4\0\0\0\0\xA1\xA2\xA3\xA4" TKHD_END
-#define TKHD_1_BYTES \
+#define TKHD_1_BYTES                                                                                                   \
     "\0\0\0\x68tkhd\1\xB1\xB2\xB3" FIRST_BYTES SECOND_BYTES "\xC1\xC2\xC3\xC4\0\0\0\0" THIRD_BYTES TKHD_END
 
 /* 5, 14 and 7 of five bits each: the letters e, n and g. */
 static const struct mp4_mdhd_box MDHD_0 = {0x81828384, 0x91929394, 0xA1A2A3A4, 0xB1B2B3, 0xC1C2C3C4, "eng", 0};
 static const struct mp4_mdhd_box MDHD_1 = {FIRST, SECOND, THIRD, 0xB1B2B3, 0xC1C2C3C4, "eng", 1};
-#define MDHD_0_BYTES \
+#define MDHD_0_BYTES                                                                                                   \
     "\0\0\0\x20mdhd\0\xB1\xB2\xB3\x81\x82\x83\x84\x91\x92\x93\x94\xC1\xC2\xC3\xC4\xA1\xA2\xA3\xA4\x15\xC7\0\0"
-#define MDHD_1_BYTES \
+#define MDHD_1_BYTES                                                                                                   \
     "\0\0\0\x2Cmdhd\1\xB1\xB2\xB3" FIRST_BYTES SECOND_BYTES "\xC1\xC2\xC3\xC4" THIRD_BYTES "\x15\xC7\0\0"
 
 static const struct mp4_mehd_box MEHD_0 = {0x81828384, 0xB1B2B3, 0}, MEHD_1 = {FIRST, 0xB1B2B3, 1};
@@ -116,11 +114,11 @@ static const struct mp4_vmhd_box VMHD = {0xB1B2B3, 0x8182, 0x9192, 0xA1A2, 0xC1C
 static const struct mp4_trex_box TREX = {0xB1B2B3, 0x81828384, 0x91929394, 0xA1A2A3A4, 0xC1C2C3C4, 0xD1D2D3D4, 0xA9};
 static const struct mp4_tfdt_box TFDT_0 = {0x81828384, 0xB1B2B3, 0}, TFDT_1 = {FIRST, 0xB1B2B3, 1};
 static const struct mp4_tfhd_box TFHD_0 = {0, 0x80FFC4, 0x81828384, 0, 0, 0, 0, 0xA9};
-static const struct mp4_tfhd_box TFHD_1 = {FIRST, 0x80003B, 0x81828384, 0x91929394, 0xA1A2A3A4, 0xC1C2C3C4, 0xD1D2D3D4,
-    0xA9};
+static const struct mp4_tfhd_box TFHD_1 = {FIRST,      0x80003B,   0x81828384, 0x91929394,
+                                           0xA1A2A3A4, 0xC1C2C3C4, 0xD1D2D3D4, 0xA9};
 
-#define CASE(name, value, text, has_times, takes_memory) \
-    {#name, read_##name, write_##name, same_##name, &value, sizeof value, BYTES(text), has_times, takes_memory}
+#define CASE(name, value, text, has_times, takes_memory)                                                               \
+    { #name, read_##name, write_##name, same_##name, &value, sizeof value, BYTES(text), has_times, takes_memory }
 
 static const struct box BOXES[] = {
     CASE(mvhd, MVHD_0, MVHD_0_BYTES, 1, 0),
@@ -134,13 +132,17 @@ static const struct box BOXES[] = {
     CASE(mfhd, MFHD, "\0\0\0\x10mfhd\xA9\xB1\xB2\xB3\x81\x82\x83\x84", 0, 0),
     CASE(smhd, SMHD, "\0\0\0\x10smhd\xA9\xB1\xB2\xB3\x81\2\0\0", 0, 0),
     CASE(vmhd, VMHD, "\0\0\0\x14vmhd\xA9\xB1\xB2\xB3\x81\x82\x91\x92\xA1\xA2\xC1\xC2", 0, 0),
-    CASE(trex, TREX, "\0\0\0\x20trex\xA9\xB1\xB2\xB3\x81\x82\x83\x84\x91\x92\x93\x94\xA1\xA2\xA3\xA4\xC1\xC2\xC3\xC4"
-         "\xD1\xD2\xD3\xD4", 0, 0),
+    CASE(trex, TREX,
+         "\0\0\0\x20trex\xA9\xB1\xB2\xB3\x81\x82\x83\x84\x91\x92\x93\x94\xA1\xA2\xA3\xA4\xC1\xC2\xC3\xC4"
+         "\xD1\xD2\xD3\xD4",
+         0, 0),
     CASE(tfdt, TFDT_0, "\0\0\0\x10tfdt\0\xB1\xB2\xB3\x81\x82\x83\x84", 1, 0),
     CASE(tfdt, TFDT_1, "\0\0\0\x14tfdt\1\xB1\xB2\xB3" FIRST_BYTES, 1, 0),
     CASE(tfhd, TFHD_0, "\0\0\0\x10tfhd\xA9\x80\xFF\xC4\x81\x82\x83\x84", 0, 0),
-    CASE(tfhd, TFHD_1, "\0\0\0\x28tfhd\xA9\x80\0\x3B\x81\x82\x83\x84" FIRST_BYTES "\x91\x92\x93\x94\xA1\xA2\xA3\xA4"
-         "\xC1\xC2\xC3\xC4\xD1\xD2\xD3\xD4", 0, 0),
+    CASE(tfhd, TFHD_1,
+         "\0\0\0\x28tfhd\xA9\x80\0\x3B\x81\x82\x83\x84" FIRST_BYTES "\x91\x92\x93\x94\xA1\xA2\xA3\xA4"
+         "\xC1\xC2\xC3\xC4\xD1\xD2\xD3\xD4",
+         0, 0),
 };
 
 /* The offset of the version in the bytes of each box. */
@@ -179,8 +181,8 @@ static void try_reading(const struct box *box) {
 }
 
 static void try_writing(const struct box *box) {
-    struct subject s = {box->name, box->writes, 1, sizeof(size_t), are_bytes, is_length, box->length, box->fields,
-        box->size, {0, 0}};
+    struct subject s = {box->name, box->writes, 1,           sizeof(size_t), are_bytes,
+                        is_length, box->length, box->fields, box->size,      {0, 0}};
     subject = box->name;
     try_memory(&s, box->takes_memory);
     EXPECT(call_with(&s, s.bytes, s.length, s.count + 3) == MP4_OK);
@@ -189,16 +191,16 @@ static void try_writing(const struct box *box) {
 }
 
 /* What can't be written, for each box: `change` spoils it. */
-#define REFUSED(name, value, change) \
-    do { \
-        struct mp4_##name##_box spoiled = value; \
-        uint8_t bytes[128]; \
-        size_t length = 77; \
-        subject = #name; \
-        spoiled.change; \
-        memset(bytes, FILLER, sizeof bytes); \
-        EXPECT(mp4_write_##name(&spoiled, bytes, sizeof bytes, &length) == MP4_INVALID_DATA); \
-        EXPECT(length == 77 && is_filler(bytes, sizeof bytes)); \
+#define REFUSED(name, value, change)                                                                                   \
+    do {                                                                                                               \
+        struct mp4_##name##_box spoiled = value;                                                                       \
+        uint8_t bytes[128];                                                                                            \
+        size_t length = 77;                                                                                            \
+        subject = #name;                                                                                               \
+        spoiled.change;                                                                                                \
+        memset(bytes, FILLER, sizeof bytes);                                                                           \
+        EXPECT(mp4_write_##name(&spoiled, bytes, sizeof bytes, &length) == MP4_INVALID_DATA);                          \
+        EXPECT(length == 77 && is_filler(bytes, sizeof bytes));                                                        \
     } while (0)
 
 static void try_refused(void) {
@@ -237,8 +239,8 @@ static void try_flags(void) {
         const char *bytes;
         size_t length;
     } FIELDS[] = {
-        {0x1, FIRST_BYTES, 8}, {0x2, "\x91\x92\x93\x94", 4}, {0x8, "\xA1\xA2\xA3\xA4", 4}, {0x10, "\xC1\xC2\xC3\xC4", 4},
-        {0x20, "\xD1\xD2\xD3\xD4", 4},
+        {0x1, FIRST_BYTES, 8},         {0x2, "\x91\x92\x93\x94", 4},  {0x8, "\xA1\xA2\xA3\xA4", 4},
+        {0x10, "\xC1\xC2\xC3\xC4", 4}, {0x20, "\xD1\xD2\xD3\xD4", 4},
     };
     size_t i;
     subject = "tfhd";
@@ -269,7 +271,9 @@ static void try_languages(void) {
         uint8_t code[2];
         char read[4];
     } LANGUAGES[] = {
-        {"und", {0x55, 0xC4}, "und"}, {"ENG", {0x15, 0xC7}, "eng"}, {"", {0, 0}, "```"},
+        {"und", {0x55, 0xC4}, "und"},
+        {"ENG", {0x15, 0xC7}, "eng"},
+        {"", {0, 0}, "```"},
         {{'\x7F', '\xFF', '\x1F', 'x'}, {0x7F, 0xFF}, {'\x7F', '\x7F', '\x7F', 0}},
     };
     size_t i;

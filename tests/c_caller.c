@@ -29,38 +29,34 @@ static void try_table(const struct subject *s, size_t count_at) {
 
 /* mp4_list */
 
-static const char STREAM[] =
-    "\0\0\0\1ftyp\0\0\0\0\0\0\0\x20isom\0\0\2\0isommp41" /* 32 bytes, 16 of them the header */
-    "\0\0\0\x0A\251nam|!"
-    "\0\0\0\x14stco\0\0\0\0\0\0\0\1\0\0\1\x0B";
+static const char STREAM[] = "\0\0\0\1ftyp\0\0\0\0\0\0\0\x20isom\0\0\2\0isommp41" /* 32 bytes, 16 of them the header */
+                             "\0\0\0\x0A\251nam|!"
+                             "\0\0\0\x14stco\0\0\0\0\0\0\0\1\0\0\1\x0B";
 
 static int are_spans(const void *rows, size_t count) {
     const struct mp4_span *spans = rows;
-    return count == 3 && spans[0].position == 0 && spans[0].length == 32 && spans[0].header_length == 16 && spans[0].code == 0x66747970 &&
-           spans[1].position == 32 && spans[1].length == 10 && spans[1].header_length == 8 && spans[1].code == 0xA96E616D &&
-           spans[2].position == 42 && spans[2].length == 20 && spans[2].header_length == 8 && spans[2].code == 0x7374636F;
+    return count == 3 && spans[0].position == 0 && spans[0].length == 32 && spans[0].header_length == 16 &&
+           spans[0].code == 0x66747970 && spans[1].position == 32 && spans[1].length == 10 &&
+           spans[1].header_length == 8 && spans[1].code == 0xA96E616D && spans[2].position == 42 &&
+           spans[2].length == 20 && spans[2].header_length == 8 && spans[2].code == 0x7374636F;
 }
 
-static int is_three(const void *told) {
-    return *(const size_t *)told == 3;
-}
+static int is_three(const void *told) { return *(const size_t *)told == 3; }
 
 AS_CALL(list, struct mp4_span, size_t)
 
 /* mp4_normal: the header of 16 bytes comes out in 8, and all else as it is. */
 
-static const char NORMAL[] =
-    "\0\0\0\x18" "ftypisom\0\0\2\0isommp41"
-    "\0\0\0\x0A\251nam|!"
-    "\0\0\0\x14stco\0\0\0\0\0\0\0\1\0\0\1\x0B";
+static const char NORMAL[] = "\0\0\0\x18"
+                             "ftypisom\0\0\2\0isommp41"
+                             "\0\0\0\x0A\251nam|!"
+                             "\0\0\0\x14stco\0\0\0\0\0\0\0\1\0\0\1\x0B";
 
 static int is_normal(const void *rows, size_t count) {
     return count == sizeof NORMAL - 1 && memcmp(rows, NORMAL, count) == 0;
 }
 
-static int is_normal_long(const void *told) {
-    return *(const size_t *)told == sizeof NORMAL - 1;
-}
+static int is_normal_long(const void *told) { return *(const size_t *)told == sizeof NORMAL - 1; }
 
 AS_CALL(normal, uint8_t, size_t)
 
@@ -84,9 +80,7 @@ static int is_stsz(const void *told) {
 
 AS_CALL(stsz, uint32_t, struct mp4_stsz_table)
 
-static int is_two(const void *told) {
-    return is_table(told, 2, 0x85, 0x868788);
-}
+static int is_two(const void *told) { return is_table(told, 2, 0x85, 0x868788); }
 
 AS_CALL(stco, uint32_t, struct mp4_table)
 AS_CALL(stss, uint32_t, struct mp4_table)
@@ -130,9 +124,7 @@ static int are_edits(const void *rows, size_t count) {
            row[1].media_time == 0x9192939495969798 && row[1].media_rate == 1 && row[1].media_rate_fraction == 0;
 }
 
-static int are_two_edits(const void *told) {
-    return is_table(told, 2, 1, 0x868788);
-}
+static int are_two_edits(const void *told) { return is_table(told, 2, 1, 0x868788); }
 
 AS_CALL(elst, struct mp4_elst_row, struct mp4_table)
 
@@ -155,26 +147,101 @@ static const struct {
     struct subject subject;
     size_t count_at; /* the offset of the number of rows */
 } TABLES[] = {
-    {{"mp4_stsz", call_stsz, 4, sizeof(struct mp4_stsz_table), are_sizes, is_stsz, 2,
-      BYTES("\0\0\0\x1Cstsz\x85\x86\x87\x88\0\0\0\0\0\0\0\2\x81\x82\x83\x84\x91\x92\x93\x94"), {0, 0}}, 16},
-    {{"mp4_stco", call_stco, 4, sizeof(struct mp4_table), are_sizes, is_two, 2,
-      BYTES("\0\0\0\x18stco\x85\x86\x87\x88\0\0\0\2\x81\x82\x83\x84\x91\x92\x93\x94"), {0, 0}}, 12},
-    {{"mp4_stss", call_stss, 4, sizeof(struct mp4_table), are_sizes, is_two, 2,
-      BYTES("\0\0\0\x18stss\x85\x86\x87\x88\0\0\0\2\x81\x82\x83\x84\x91\x92\x93\x94"), {0, 0}}, 12},
-    {{"mp4_co64", call_co64, 8, sizeof(struct mp4_table), are_long_offsets, is_two, 2,
-      BYTES("\0\0\0\x20" "co64\x85\x86\x87\x88\0\0\0\2\x81\x82\x83\x84\x85\x86\x87\x88\x91\x92\x93\x94\x95\x96\x97\x98"), {0, 0}}, 12},
-    {{"mp4_stts", call_stts, sizeof(struct mp4_stts_row), sizeof(struct mp4_table), are_durations, is_two, 2,
-      BYTES("\0\0\0\x20stts\x85\x86\x87\x88\0\0\0\2\x81\x82\x83\x84\x85\x86\x87\x88\x91\x92\x93\x94\x95\x96\x97\x98"), {0, 0}}, 12},
-    {{"mp4_ctts", call_ctts, sizeof(struct mp4_ctts_row), sizeof(struct mp4_table), are_compositions, is_two, 2,
-      BYTES("\0\0\0\x20" "ctts\x85\x86\x87\x88\0\0\0\2\x81\x82\x83\x84\xFF\xFF\xFF\xFE\x91\x92\x93\x94\x15\x96\x97\x98"), {0, 0}}, 12},
-    {{"mp4_stsc", call_stsc, sizeof(struct mp4_stsc_row), sizeof(struct mp4_table), are_chunks, is_two, 2,
-      BYTES("\0\0\0\x28stsc\x85\x86\x87\x88\0\0\0\2\0\0\0\1\0\0\0\3\x81\x82\x83\x84\0\0\0\5\x91\x92\x93\x94\0\0\0\2"), {0, 0}}, 12},
-    {{"mp4_elst", call_elst, sizeof(struct mp4_elst_row), sizeof(struct mp4_table), are_edits, are_two_edits, 2,
-      BYTES("\0\0\0\x38" "elst\1\x86\x87\x88\0\0\0\2\x81\x82\x83\x84\x85\x86\x87\x88\xFF\xFF\xFF\xFF\xFF\xFF\xFF\xFF\x89\x8A\x8B\x8C"
-            "\0\0\0\0\0\0\0\7\x91\x92\x93\x94\x95\x96\x97\x98\0\1\0\0"), {0, 0}}, 12},
-    {{"mp4_trun", call_trun, sizeof(struct mp4_trun_row), sizeof(struct mp4_trun_table), are_samples, is_run, 2,
+    {{"mp4_stsz",
+      call_stsz,
+      4,
+      sizeof(struct mp4_stsz_table),
+      are_sizes,
+      is_stsz,
+      2,
+      BYTES("\0\0\0\x1Cstsz\x85\x86\x87\x88\0\0\0\0\0\0\0\2\x81\x82\x83\x84\x91\x92\x93\x94"),
+      {0, 0}},
+     16},
+    {{"mp4_stco",
+      call_stco,
+      4,
+      sizeof(struct mp4_table),
+      are_sizes,
+      is_two,
+      2,
+      BYTES("\0\0\0\x18stco\x85\x86\x87\x88\0\0\0\2\x81\x82\x83\x84\x91\x92\x93\x94"),
+      {0, 0}},
+     12},
+    {{"mp4_stss",
+      call_stss,
+      4,
+      sizeof(struct mp4_table),
+      are_sizes,
+      is_two,
+      2,
+      BYTES("\0\0\0\x18stss\x85\x86\x87\x88\0\0\0\2\x81\x82\x83\x84\x91\x92\x93\x94"),
+      {0, 0}},
+     12},
+    {{"mp4_co64",
+      call_co64,
+      8,
+      sizeof(struct mp4_table),
+      are_long_offsets,
+      is_two,
+      2,
+      BYTES("\0\0\0\x20"
+            "co64\x85\x86\x87\x88\0\0\0\2\x81\x82\x83\x84\x85\x86\x87\x88\x91\x92\x93\x94\x95\x96\x97\x98"),
+      {0, 0}},
+     12},
+    {{"mp4_stts",
+      call_stts,
+      sizeof(struct mp4_stts_row),
+      sizeof(struct mp4_table),
+      are_durations,
+      is_two,
+      2,
+      BYTES("\0\0\0\x20stts\x85\x86\x87\x88\0\0\0\2\x81\x82\x83\x84\x85\x86\x87\x88\x91\x92\x93\x94\x95\x96\x97\x98"),
+      {0, 0}},
+     12},
+    {{"mp4_ctts",
+      call_ctts,
+      sizeof(struct mp4_ctts_row),
+      sizeof(struct mp4_table),
+      are_compositions,
+      is_two,
+      2,
+      BYTES("\0\0\0\x20"
+            "ctts\x85\x86\x87\x88\0\0\0\2\x81\x82\x83\x84\xFF\xFF\xFF\xFE\x91\x92\x93\x94\x15\x96\x97\x98"),
+      {0, 0}},
+     12},
+    {{"mp4_stsc",
+      call_stsc,
+      sizeof(struct mp4_stsc_row),
+      sizeof(struct mp4_table),
+      are_chunks,
+      is_two,
+      2,
+      BYTES("\0\0\0\x28stsc\x85\x86\x87\x88\0\0\0\2\0\0\0\1\0\0\0\3\x81\x82\x83\x84\0\0\0\5\x91\x92\x93\x94\0\0\0\2"),
+      {0, 0}},
+     12},
+    {{"mp4_elst",
+      call_elst,
+      sizeof(struct mp4_elst_row),
+      sizeof(struct mp4_table),
+      are_edits,
+      are_two_edits,
+      2,
+      BYTES("\0\0\0\x38"
+            "elst\1\x86\x87\x88\0\0\0\2\x81\x82\x83\x84\x85\x86\x87\x88\xFF\xFF\xFF\xFF\xFF\xFF\xFF\xFF\x89\x8A\x8B\x8C"
+            "\0\0\0\0\0\0\0\7\x91\x92\x93\x94\x95\x96\x97\x98\0\1\0\0"),
+      {0, 0}},
+     12},
+    {{"mp4_trun",
+      call_trun,
+      sizeof(struct mp4_trun_row),
+      sizeof(struct mp4_trun_table),
+      are_samples,
+      is_run,
+      2,
       BYTES("\0\0\0\x30trun\1\0\x0D\5\0\0\0\2\xFF\xFF\xFF\xF0\1\2\3\4\x81\x82\x83\x84\x85\x86\x87\x88\xFF\xFF\xFF\xFE"
-            "\x91\x92\x93\x94\x95\x96\x97\x98\0\0\0\3"), {0, 0}}, 12},
+            "\x91\x92\x93\x94\x95\x96\x97\x98\0\0\0\3"),
+      {0, 0}},
+     12},
 };
 
 /* Tables without rows. */
@@ -226,7 +293,9 @@ static void try_check(void) {
     subject = "mp4_check";
     EXPECT(check("", 0) == MP4_OK);
     EXPECT(check("\0\0\0\2free", 8) == MP4_INVALID_DATA);
-    EXPECT(check("\0\0\0\x08" "dinf", 8) == MP4_BOX_NOT_FOUND);
+    EXPECT(check("\0\0\0\x08"
+                 "dinf",
+                 8) == MP4_BOX_NOT_FOUND);
     for (cut = 1; cut < sizeof STREAM - 1; cut++)
         EXPECT(check(STREAM, cut) == (cut == 32 || cut == 42 ? MP4_OK : MP4_END_OF_INPUT));
     refuse(0, 0);
@@ -246,8 +315,10 @@ static void try_check(void) {
 
 /* mp4_list and mp4_normal: each fault, and no bytes. */
 static void try_streams(void) {
-    struct subject list = {"mp4_list", call_list, sizeof(struct mp4_span), sizeof(size_t), are_spans, is_three, 3, BYTES(STREAM), {32, 42}};
-    struct subject normal = {"mp4_normal", call_normal, 1, sizeof(size_t), is_normal, is_normal_long, sizeof NORMAL - 1, BYTES(STREAM), {32, 42}};
+    struct subject list = {"mp4_list", call_list, sizeof(struct mp4_span), sizeof(size_t), are_spans,
+                           is_three,   3,         BYTES(STREAM),           {32, 42}};
+    struct subject normal = {"mp4_normal",      call_normal,   1,       sizeof(size_t), is_normal, is_normal_long,
+                             sizeof NORMAL - 1, BYTES(STREAM), {32, 42}};
     size_t count = 7;
     struct mp4_span span = {1, 2, 3, 4};
     uint8_t byte = 4;
@@ -257,7 +328,10 @@ static void try_streams(void) {
     EXPECT(count == 0 && span.position == 1);
     try_subject(&normal);
     EXPECT(call_with(&normal, (const uint8_t *)"\0\0\0\2free", 8, 99) == MP4_INVALID_DATA);
-    EXPECT(call_with(&normal, (const uint8_t *)"\0\0\0\x08" "dinf", 8, 99) == MP4_BOX_NOT_FOUND);
+    EXPECT(call_with(&normal,
+                     (const uint8_t *)"\0\0\0\x08"
+                                      "dinf",
+                     8, 99) == MP4_BOX_NOT_FOUND);
     count = 7;
     EXPECT(mp4_normal((const uint8_t *)"", 0, &byte, 1, &count) == MP4_OK);
     EXPECT(count == 0 && byte == 4);
@@ -288,7 +362,10 @@ static void try_large(void) {
         wrong += offsets[i] != i * 4294;
     EXPECT(wrong == 0);
     for (i = 0; i < boxes; i++)
-        memcpy(bytes + 8 * i, "\0\0\0\x08" "free", 8);
+        memcpy(bytes + 8 * i,
+               "\0\0\0\x08"
+               "free",
+               8);
     EXPECT(mp4_check(bytes, 8 * boxes) == MP4_OK);
     EXPECT(mp4_list(bytes, 8 * boxes, spans, boxes, &count) == MP4_OK && count == boxes);
     for (i = 0; i < boxes; i++)

@@ -1,5 +1,5 @@
-//! Calls every function of `include/mp4_box_codec.h` from Rust: for the number of rows, for the rows, with an array that is
-//! too short, with bytes that are cut, and with no bytes. Bytes and rows were worked out from `docs/LAYOUT.md`.
+//! Calls every function of `include/mp4_box_codec.h` from Rust: for the number of rows, for the rows, with an array
+//! that is too short, with bytes that are cut, and with no bytes. Bytes and rows were worked out from `docs/LAYOUT.md`.
 
 const OK: u32 = 0;
 const END_OF_INPUT: u32 = 1;
@@ -128,7 +128,9 @@ unsafe extern "C" {
     fn mp4_elst(bytes: *const u8, length: usize, rows: *mut ElstRow, places: usize, table: *mut Table) -> u32;
     fn mp4_trun(bytes: *const u8, length: usize, rows: *mut TrunRow, places: usize, table: *mut TrunTable) -> u32;
     fn mp4_find(bytes: *const u8, length: usize, path: *const u8, path_length: usize, place: *mut Place) -> u32;
-    fn mp4_samples(bytes: *const u8, length: usize, id: u32, rows: *mut Sample, places: usize, count: *mut usize) -> u32;
+    fn mp4_samples(
+        bytes: *const u8, length: usize, id: u32, rows: *mut Sample, places: usize, count: *mut usize,
+    ) -> u32;
     fn mp4_fragment_samples(
         bytes: *const u8,
         length: usize,

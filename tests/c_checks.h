@@ -1,9 +1,9 @@
 /*
- * What the callers in C share: requests for memory that are counted and refused, memory that ends with its page, and calls
- * that are checked. A source that includes this includes nothing before it.
+ * What the callers in C share: requests for memory that are counted and refused, memory that ends with its page, and
+ * calls that are checked. A source that includes this includes nothing before it.
  *
- * The bytes end where a page ends behind which nothing may be read or written, and so do the arrays. The linker puts the
- * functions below in the place of malloc, realloc and free (--wrap), so that requests can be counted and refused.
+ * The bytes end where a page ends behind which nothing may be read or written, and so do the arrays. The linker puts
+ * the functions below in the place of malloc, realloc and free (--wrap), so that requests can be counted and refused.
  */
 #define _DEFAULT_SOURCE
 #include <stdio.h>
@@ -109,13 +109,13 @@ typedef uint32_t call(const uint8_t *bytes, size_t length, void *rows, size_t pl
 struct subject {
     const char *name;
     call *function;
-    size_t row, told;                                   /* sizes */
-    int (*are_same)(const void *rows, size_t count);    /* whether the rows are those that are expected */
-    int (*is_told)(const void *told);                   /* whether what is told is what is expected */
-    size_t count;                                       /* the number of rows */
+    size_t row, told;                                /* sizes */
+    int (*are_same)(const void *rows, size_t count); /* whether the rows are those that are expected */
+    int (*is_told)(const void *told);                /* whether what is told is what is expected */
+    size_t count;                                    /* the number of rows */
     const uint8_t *bytes;
     size_t length;
-    size_t borders[2];                                  /* where a cut is between two boxes, and no fault */
+    size_t borders[2]; /* where a cut is between two boxes, and no fault */
 };
 
 /* One call over the first bytes, with this many places: its status, and all that it may not change. */
@@ -165,7 +165,8 @@ static inline void refuse_each(const struct subject *s) {
     refuse(0, 0);
 }
 
-/* The faults of a box at the front, of its header alone: no bytes, another code, sizes that are too small and too large. */
+/* The faults of a box at the front, of its header alone: no bytes, another code, sizes that are too small and too
+ * large. */
 static inline void try_header(const struct subject *s) {
     uint8_t bytes[128];
     EXPECT(s->length + 8 <= sizeof bytes);
@@ -196,7 +197,7 @@ static inline void try_header(const struct subject *s) {
 #define BYTES(text) (const uint8_t *)(text), sizeof(text) - 1
 
 /* Declares the function under test in the form that is the same for all. */
-#define AS_CALL(name, row_type, told_type) \
-    static uint32_t call_##name(const uint8_t *bytes, size_t length, void *rows, size_t places, void *told) { \
-        return mp4_##name(bytes, length, (row_type *)rows, places, (told_type *)told); \
+#define AS_CALL(name, row_type, told_type)                                                                             \
+    static uint32_t call_##name(const uint8_t *bytes, size_t length, void *rows, size_t places, void *told) {          \
+        return mp4_##name(bytes, length, (row_type *)rows, places, (told_type *)told);                                 \
     }

@@ -1,7 +1,7 @@
 /*
- * Calls the functions of include/mp4_box_codec.h for boxes of strings, references and sample entries: reads each, writes those
- * that are written, with arrays that are long enough and too short, bytes that have each fault, and memory that is refused.
- * The bytes were worked out from docs/LAYOUT.md: no two fields are alike.
+ * Calls the functions of include/mp4_box_codec.h for boxes of strings, references and sample entries: reads each,
+ * writes those that are written, with arrays that are long enough and too short, bytes that have each fault, and memory
+ * that is refused. The bytes were worked out from docs/LAYOUT.md: no two fields are alike.
  */
 #include "c_checks.h"
 
@@ -15,11 +15,11 @@ static int no_rows(const void *rows, size_t count) {
     return count == 0;
 }
 
-#define TOLD(name) \
-    static uint32_t call_##name(const uint8_t *bytes, size_t length, void *rows, size_t places, void *told) { \
-        (void)rows; \
-        (void)places; \
-        return mp4_##name(bytes, length, (struct mp4_##name##_box *)told); \
+#define TOLD(name)                                                                                                     \
+    static uint32_t call_##name(const uint8_t *bytes, size_t length, void *rows, size_t places, void *told) {          \
+        (void)rows;                                                                                                    \
+        (void)places;                                                                                                  \
+        return mp4_##name(bytes, length, (struct mp4_##name##_box *)told);                                             \
     }
 
 /* Happy calls, each cut, each fault of the header, and each refused request if the box takes memory. */
@@ -42,7 +42,8 @@ static void try_box(const struct subject *s, int takes_memory) {
 
 /* Strings and references. */
 
-static const char FTYP[] = "\0\0\0\x1C" "ftypiso6\x81\x82\x83\x84isomavc1\xA9ray";
+static const char FTYP[] = "\0\0\0\x1C"
+                           "ftypiso6\x81\x82\x83\x84isomavc1\xA9ray";
 
 static int are_brands(const void *rows, size_t count) {
     const uint32_t *brands = rows;
@@ -60,9 +61,7 @@ AS_CALL(ftyp, uint32_t, struct mp4_ftyp_box)
 static const char HDLR[] = "\0\0\0\x27hdlr\x85\x86\x87\x88" ZEROS_4 "vide" ZEROS_12 "Vid\xC3\xA9o";
 #define NAME "Vid\xC3\xA9o"
 
-static int is_name(const void *rows, size_t count) {
-    return count == 6 && memcmp(rows, NAME, 6) == 0;
-}
+static int is_name(const void *rows, size_t count) { return count == 6 && memcmp(rows, NAME, 6) == 0; }
 
 static int is_hdlr(const void *told) {
     const struct mp4_hdlr_box *box = told;
@@ -71,11 +70,10 @@ static int is_hdlr(const void *told) {
 
 AS_CALL(hdlr, uint8_t, struct mp4_hdlr_box)
 
-static const char DATA[] = "\0\0\0\x13" "data\0\0\0\x0D" ZEROS_4 "\xFF\xD8\xFE";
+static const char DATA[] = "\0\0\0\x13"
+                           "data\0\0\0\x0D" ZEROS_4 "\xFF\xD8\xFE";
 
-static int is_jpeg(const void *rows, size_t count) {
-    return count == 3 && memcmp(rows, "\xFF\xD8\xFE", 3) == 0;
-}
+static int is_jpeg(const void *rows, size_t count) { return count == 3 && memcmp(rows, "\xFF\xD8\xFE", 3) == 0; }
 
 static int is_data(const void *told) {
     const struct mp4_data_box *box = told;
@@ -88,9 +86,7 @@ AS_CALL(data, uint8_t, struct mp4_data_box)
 #define URL_BYTES "\0\0\0\x11url \x85\x86\x87\x88" LOCATION "\0"
 static const char URL[] = URL_BYTES;
 
-static int is_location(const void *rows, size_t count) {
-    return count == 4 && memcmp(rows, LOCATION, 4) == 0;
-}
+static int is_location(const void *rows, size_t count) { return count == 4 && memcmp(rows, LOCATION, 4) == 0; }
 
 static int is_url(const void *told) {
     const struct mp4_url_box *box = told;
@@ -99,10 +95,14 @@ static int is_url(const void *told) {
 
 AS_CALL(url, uint8_t, struct mp4_url_box)
 
-#define DREF_BYTES "\0\0\0\x21" "dref\x95\x96\x97\x98\0\0\0\1" URL_BYTES
+#define DREF_BYTES                                                                                                     \
+    "\0\0\0\x21"                                                                                                       \
+    "dref\x95\x96\x97\x98\0\0\0\1" URL_BYTES
 static const char DREF[] = DREF_BYTES;
-static const char DINF[] = "\0\0\0\x29" "dinf" DREF_BYTES;
-static const char DREF_WITHOUT[] = "\0\0\0\x10" "dref\x95\x96\x97\x98" ZEROS_4;
+static const char DINF[] = "\0\0\0\x29"
+                           "dinf" DREF_BYTES;
+static const char DREF_WITHOUT[] = "\0\0\0\x10"
+                                   "dref\x95\x96\x97\x98" ZEROS_4;
 
 static int is_dref(const void *told) {
     const struct mp4_dref_box *box = told;
@@ -122,20 +122,18 @@ AS_CALL(dinf, uint8_t, struct mp4_dref_box)
 
 static const char HVCC[] = "\0\0\0\x09hvcC\xB7";
 
-static int is_hvcc(const void *told) {
-    return ((const struct mp4_hvcc_box *)told)->configuration_version == 0xB7;
-}
+static int is_hvcc(const void *told) { return ((const struct mp4_hvcc_box *)told)->configuration_version == 0xB7; }
 
 TOLD(hvcc)
 
-#define VISUAL_BYTES \
-    "\0\0\0\0\0\0\x81\x82" ZEROS_12 ZEROS_4 "\x83\x84\x85\x86\x91\x92\x93\x94\x95\x96\x97\x98" ZEROS_4 "\xA1\xA2" ZEROS_12 \
-    ZEROS_12 ZEROS_4 ZEROS_4 "\xB1\xB2\xFF\xFF"
+#define VISUAL_BYTES                                                                                                   \
+    "\0\0\0\0\0\0\x81\x82" ZEROS_12 ZEROS_4 "\x83\x84\x85\x86\x91\x92\x93\x94\x95\x96\x97\x98" ZEROS_4                 \
+    "\xA1\xA2" ZEROS_12 ZEROS_12 ZEROS_4 ZEROS_4 "\xB1\xB2\xFF\xFF"
 
 static int is_visual(const struct mp4_visual *visual) {
     return visual->data_reference_index == 0x8182 && visual->width == 0x8384 && visual->height == 0x8586 &&
-           visual->horizresolution == 0x91929394 && visual->vertresolution == 0x95969798 && visual->frame_count == 0xA1A2 &&
-           visual->depth == 0xB1B2;
+           visual->horizresolution == 0x91929394 && visual->vertresolution == 0x95969798 &&
+           visual->frame_count == 0xA1A2 && visual->depth == 0xB1B2;
 }
 
 #define HEV1_BYTES "\0\0\0\x5Fhev1" VISUAL_BYTES "\0\0\0\x09hvcC\xB7"
@@ -163,63 +161,70 @@ static int is_vpcc(const void *told) {
 TOLD(vpcc)
 
 #define RESERVED_16 "\1\2\3\4\5\6\7\x08\x09\x0A\x0B\x0C\x0D\x0E\x0F\x10"
-#define COMPRESSOR_32 "\x1F" "abcdefghijklmnopqrstuvwxyz12345"
-#define VP09_BYTES \
-    "\0\0\0\x6Avp09\x91\x92\x93\x94\x95\x96\x97\x98" RESERVED_16 "\xB1\xB2\xB3\xB4\xB5\xB6\xB7\xB8\xB9\xBA\xBB\xBC" \
+#define COMPRESSOR_32                                                                                                  \
+    "\x1F"                                                                                                             \
+    "abcdefghijklmnopqrstuvwxyz12345"
+#define VP09_BYTES                                                                                                     \
+    "\0\0\0\x6Avp09\x91\x92\x93\x94\x95\x96\x97\x98" RESERVED_16 "\xB1\xB2\xB3\xB4\xB5\xB6\xB7\xB8\xB9\xBA\xBB\xBC"    \
     "\xC1\xC2\xC3\xC4\xC5\xC6" COMPRESSOR_32 "\xF1\xF2\xF3\xF4" VPCC_BYTES
 static const char VP09[] = VP09_BYTES;
 
 static int is_vp09(const void *told) {
     const struct mp4_vp09_box *box = told;
     return is_vpcc(&box->vpcc) && box->version == 0x91 && box->flags == 0x929394 && box->start_code == 0x9596 &&
-           box->data_reference_index == 0x9798 && memcmp(box->reserved0, RESERVED_16, 16) == 0 && box->width == 0xB1B2 &&
-           box->height == 0xB3B4 && box->horizresolution[0] == 0xB5B6 && box->horizresolution[1] == 0xB7B8 &&
-           box->vertresolution[0] == 0xB9BA && box->vertresolution[1] == 0xBBBC &&
+           box->data_reference_index == 0x9798 && memcmp(box->reserved0, RESERVED_16, 16) == 0 &&
+           box->width == 0xB1B2 && box->height == 0xB3B4 && box->horizresolution[0] == 0xB5B6 &&
+           box->horizresolution[1] == 0xB7B8 && box->vertresolution[0] == 0xB9BA && box->vertresolution[1] == 0xBBBC &&
            memcmp(box->reserved1, "\xC1\xC2\xC3\xC4", 4) == 0 && box->frame_count == 0xC5C6 &&
            memcmp(box->compressorname, COMPRESSOR_32, 32) == 0 && box->depth == 0xF1F2 && box->end_code == 0xF3F4;
 }
 
 TOLD(vp09)
 
-#define TX3G_BYTES \
-    "\0\0\0\x2Etx3g\0\0\0\0\0\0\x81\x82\x83\x84\x85\x86\1\xFF\x91\x92\x93\x94\xFF\xFE\0\3\x7F\1\x80\2" \
+#define TX3G_BYTES                                                                                                     \
+    "\0\0\0\x2Etx3g\0\0\0\0\0\0\x81\x82\x83\x84\x85\x86\1\xFF\x91\x92\x93\x94\xFF\xFE\0\3\x7F\1\x80\2"                 \
     "\xA1\xA2\xA3\xA4\xA5\xA6\xA7\xA8\xA9\xAA\xAB\xAC"
 static const char TX3G[] = TX3G_BYTES;
 
 static int is_tx3g(const void *told) {
     const struct mp4_tx3g_box *box = told;
-    return box->data_reference_index == 0x8182 && box->display_flags == 0x83848586 && box->horizontal_justification == 1 &&
-           box->vertical_justification == -1 && memcmp(box->bg_color_rgba, "\x91\x92\x93\x94", 4) == 0 &&
-           box->box_record[0] == -2 && box->box_record[1] == 3 && box->box_record[2] == 0x7F01 &&
-           box->box_record[3] == -0x7FFE && memcmp(box->style_record, TX3G + 34, 12) == 0;
+    return box->data_reference_index == 0x8182 && box->display_flags == 0x83848586 &&
+           box->horizontal_justification == 1 && box->vertical_justification == -1 &&
+           memcmp(box->bg_color_rgba, "\x91\x92\x93\x94", 4) == 0 && box->box_record[0] == -2 &&
+           box->box_record[1] == 3 && box->box_record[2] == 0x7F01 && box->box_record[3] == -0x7FFE &&
+           memcmp(box->style_record, TX3G + 34, 12) == 0;
 }
 
 TOLD(tx3g)
 
-/* The audio configuration is in 5 bytes: the audio object type 29 in 5 bits, 15 in 4, the rate 0x0ABCDE in 24, 13 in 4. */
-#define ESDS_BYTES \
-    "\0\0\0\x2A" "esds\x85\x86\x87\x88\3\x1C\x91\x92\0\4\x14\x41\x17\xA1\xA2\xA3\xB1\xB2\xB3\xB4\xC1\xC2\xC3\xC4" \
+/* The audio configuration is in 5 bytes: the audio object type 29 in 5 bits, 15 in 4, the rate 0x0ABCDE in 24, 13 in 4.
+ */
+#define ESDS_BYTES                                                                                                     \
+    "\0\0\0\x2A"                                                                                                       \
+    "esds\x85\x86\x87\x88\3\x1C\x91\x92\0\4\x14\x41\x17\xA1\xA2\xA3\xB1\xB2\xB3\xB4\xC1\xC2\xC3\xC4"                   \
     "\5\5\xEF\x85\x5E\x6F\x68\6\0\0"
 static const char ESDS[] = ESDS_BYTES;
 
 static int is_esds(const void *told) {
     const struct mp4_esds_box *box = told;
-    return box->version == 0x85 && box->flags == 0x868788 && box->es_id == 0x9192 && box->object_type_indication == 0x41 &&
-           box->stream_type == 5 && box->up_stream == 2 && box->buffer_size_db == 0xA1A2A3 &&
-           box->max_bitrate == 0xB1B2B3B4 && box->avg_bitrate == 0xC1C2C3C4 && box->profile == 29 && box->freq_index == 15 &&
-           box->sample_rate == 0x0ABCDE && box->chan_conf == 13;
+    return box->version == 0x85 && box->flags == 0x868788 && box->es_id == 0x9192 &&
+           box->object_type_indication == 0x41 && box->stream_type == 5 && box->up_stream == 2 &&
+           box->buffer_size_db == 0xA1A2A3 && box->max_bitrate == 0xB1B2B3B4 && box->avg_bitrate == 0xC1C2C3C4 &&
+           box->profile == 29 && box->freq_index == 15 && box->sample_rate == 0x0ABCDE && box->chan_conf == 13;
 }
 
 TOLD(esds)
 
 /* In 2 bytes: the audio object type 2, the index 4, the channel configuration 2. There is no rate. */
 static const char ESDS_PLAIN[] =
-    "\0\0\0\x27" "esds\x85\x86\x87\x88\3\x19\x91\x92\0\4\x11\x41\x15\xA1\xA2\xA3\xB1\xB2\xB3\xB4\xC1\xC2\xC3\xC4"
+    "\0\0\0\x27"
+    "esds\x85\x86\x87\x88\3\x19\x91\x92\0\4\x11\x41\x15\xA1\xA2\xA3\xB1\xB2\xB3\xB4\xC1\xC2\xC3\xC4"
     "\5\2\x12\x10\6\1\2";
 
 static int is_esds_plain(const void *told) {
     const struct mp4_esds_box *box = told;
-    return box->up_stream == 0 && box->profile == 2 && box->freq_index == 4 && box->sample_rate == 0 && box->chan_conf == 2;
+    return box->up_stream == 0 && box->profile == 2 && box->freq_index == 4 && box->sample_rate == 0 &&
+           box->chan_conf == 2;
 }
 
 #define MP4A_FIELDS "\0\0\0\0\0\0\x81\x82" ZEROS_4 ZEROS_4 "\x83\x84\x85\x86" ZEROS_4 "\x91\x92\x93\x94"
@@ -246,7 +251,16 @@ TOLD(mp4a)
 
 static const struct subject WITH_ROWS[] = {
     {"ftyp", call_ftyp, 4, sizeof(struct mp4_ftyp_box), are_brands, is_ftyp, 3, BYTES(FTYP), {0, 0}},
-    {"hdlr", call_hdlr, 1, sizeof(struct mp4_hdlr_box), is_name, is_hdlr, 6, (const uint8_t *)HDLR, sizeof HDLR, {0, 0}},
+    {"hdlr",
+     call_hdlr,
+     1,
+     sizeof(struct mp4_hdlr_box),
+     is_name,
+     is_hdlr,
+     6,
+     (const uint8_t *)HDLR,
+     sizeof HDLR,
+     {0, 0}},
     {"data", call_data, 1, sizeof(struct mp4_data_box), is_jpeg, is_data, 3, BYTES(DATA), {0, 0}},
     {"url", call_url, 1, sizeof(struct mp4_url_box), is_location, is_url, 4, BYTES(URL), {0, 0}},
     {"dref", call_dref, 1, sizeof(struct mp4_dref_box), is_location, is_dref, 4, BYTES(DREF), {0, 0}},
@@ -262,26 +276,46 @@ static const struct subject TOLD_BOXES[] = {
     {"esds", call_esds, 1, sizeof(struct mp4_esds_box), no_rows, is_esds, 0, BYTES(ESDS), {0, 0}},
     {"esds, plain", call_esds, 1, sizeof(struct mp4_esds_box), no_rows, is_esds_plain, 0, BYTES(ESDS_PLAIN), {0, 0}},
     {"mp4a", call_mp4a, 1, sizeof(struct mp4_mp4a_box), no_rows, is_mp4a, 0, BYTES(MP4A), {0, 0}},
-    {"mp4a without esds", call_mp4a, 1, sizeof(struct mp4_mp4a_box), no_rows, is_mp4a_without, 0, BYTES(MP4A_WITHOUT),
+    {"mp4a without esds",
+     call_mp4a,
+     1,
+     sizeof(struct mp4_mp4a_box),
+     no_rows,
+     is_mp4a_without,
+     0,
+     BYTES(MP4A_WITHOUT),
      {0, 0}},
-    {"dref without url", call_dref, 1, sizeof(struct mp4_dref_box), no_rows, is_dref_without, 0, BYTES(DREF_WITHOUT), {0, 0}},
+    {"dref without url",
+     call_dref,
+     1,
+     sizeof(struct mp4_dref_box),
+     no_rows,
+     is_dref_without,
+     0,
+     BYTES(DREF_WITHOUT),
+     {0, 0}},
 };
 
 /* The boxes with parameter sets: sequence sets of 3 bytes and 1, and a picture set of 2. */
 
-#define AVCC_BYTES "\0\0\0\x1B" "avcC\x81\x64\x92\x1F\xFE\xE2\0\3\x67\x64\x1F\0\1\x41\1\0\2\x68\xEE"
-#define AVC1_BYTES "\0\0\0\x71" "avc1" VISUAL_BYTES AVCC_BYTES
+#define AVCC_BYTES                                                                                                     \
+    "\0\0\0\x1B"                                                                                                       \
+    "avcC\x81\x64\x92\x1F\xFE\xE2\0\3\x67\x64\x1F\0\1\x41\1\0\2\x68\xEE"
+#define AVC1_BYTES                                                                                                     \
+    "\0\0\0\x71"                                                                                                       \
+    "avc1" VISUAL_BYTES AVCC_BYTES
 #define STSD_HEAD(size, entry) "\0\0\0" size "stsd\x71\x72\x73\x74\0\0\0\1" entry
 #define SET_BYTES "\x67\x64\x1F\x41\x68\xEE"
 
 static const size_t SET_LENGTHS[] = {3, 1, 2};
 
 /* The bytes of the sets come first in the rows, so that the lengths after them end where their page does. */
-#define SETS_CALL(name) \
-    static uint32_t call_##name(const uint8_t *bytes, size_t length, void *rows, size_t places, void *told) { \
-        size_t byte_places = places < 6 ? places : 6; \
-        return mp4_##name(bytes, length, (size_t *)((uint8_t *)rows + byte_places), (places - byte_places) / sizeof(size_t), \
-                          (uint8_t *)rows, byte_places, (struct mp4_##name##_box *)told); \
+#define SETS_CALL(name)                                                                                                \
+    static uint32_t call_##name(const uint8_t *bytes, size_t length, void *rows, size_t places, void *told) {          \
+        size_t byte_places = places < 6 ? places : 6;                                                                  \
+        return mp4_##name(bytes, length, (size_t *)((uint8_t *)rows + byte_places),                                    \
+                          (places - byte_places) / sizeof(size_t), (uint8_t *)rows, byte_places,                       \
+                          (struct mp4_##name##_box *)told);                                                            \
     }
 #define SETS_SIZE (6 + sizeof SET_LENGTHS)
 
@@ -293,9 +327,9 @@ static int are_sets(const void *rows, size_t count) {
 
 static int is_avcc(const void *told) {
     const struct mp4_avcc_box *box = told;
-    return box->sequence_count == 2 && box->picture_count == 1 && box->set_bytes == 6 && box->configuration_version == 0x81 &&
-           box->avc_profile_indication == 0x64 && box->profile_compatibility == 0x92 && box->avc_level_indication == 0x1F &&
-           box->length_size_minus_one == 2;
+    return box->sequence_count == 2 && box->picture_count == 1 && box->set_bytes == 6 &&
+           box->configuration_version == 0x81 && box->avc_profile_indication == 0x64 &&
+           box->profile_compatibility == 0x92 && box->avc_level_indication == 0x1F && box->length_size_minus_one == 2;
 }
 
 static int is_avc1(const void *told) {
@@ -345,9 +379,7 @@ static int is_stsd_tx3g(const void *told) {
     return has_stsd_fields(box, 0x74783367) && is_tx3g(&box->tx3g) && box->mp4a.data_reference_index == 0;
 }
 
-static int is_stsd_without(const void *told) {
-    return has_stsd_fields(told, 0);
-}
+static int is_stsd_without(const void *told) { return has_stsd_fields(told, 0); }
 
 SETS_CALL(avcc)
 SETS_CALL(avc1)
@@ -359,12 +391,17 @@ static const char STSD_VP09[] = STSD_HEAD("\x7A", VP09_BYTES), STSD_MP4A[] = STS
 static const char STSD_TX3G[] = STSD_HEAD("\x3E", TX3G_BYTES);
 static const char STSD_NONE[] = "\0\0\0\x10stsd\x71\x72\x73\x74" ZEROS_4;
 /* An entry of another type is not read. */
-static const char STSD_OTHER[] = STSD_HEAD("\x18", "\0\0\0\x08" "av01");
+static const char STSD_OTHER[] = STSD_HEAD("\x18", "\0\0\0\x08"
+                                                   "av01");
 
-#define SETS_CASE(name, function, box, told, text) \
-    {name, function, 1, sizeof(struct mp4_##box##_box), are_sets, told, SETS_SIZE, BYTES(text), {0, 0}}
-#define STSD_CASE(name, told, text) \
-    {name, call_stsd, 1, sizeof(struct mp4_stsd_box), no_rows, told, 0, BYTES(text), {0, 0}}
+#define SETS_CASE(name, function, box, told, text)                                                                     \
+    {                                                                                                                  \
+        name, function, 1, sizeof(struct mp4_##box##_box), are_sets, told, SETS_SIZE, BYTES(text), { 0, 0 }            \
+    }
+#define STSD_CASE(name, told, text)                                                                                    \
+    {                                                                                                                  \
+        name, call_stsd, 1, sizeof(struct mp4_stsd_box), no_rows, told, 0, BYTES(text), { 0, 0 }                       \
+    }
 
 static const struct subject WITH_SETS[] = {
     SETS_CASE("avcc", call_avcc, avcc, is_avcc, AVCC),
@@ -373,8 +410,10 @@ static const struct subject WITH_SETS[] = {
 };
 
 static const struct subject STSD_BOXES[] = {
-    STSD_CASE("stsd of hev1", is_stsd_hev1, STSD_HEV1), STSD_CASE("stsd of vp09", is_stsd_vp09, STSD_VP09),
-    STSD_CASE("stsd of mp4a", is_stsd_mp4a, STSD_MP4A), STSD_CASE("stsd of tx3g", is_stsd_tx3g, STSD_TX3G),
+    STSD_CASE("stsd of hev1", is_stsd_hev1, STSD_HEV1),
+    STSD_CASE("stsd of vp09", is_stsd_vp09, STSD_VP09),
+    STSD_CASE("stsd of mp4a", is_stsd_mp4a, STSD_MP4A),
+    STSD_CASE("stsd of tx3g", is_stsd_tx3g, STSD_TX3G),
     STSD_CASE("stsd without an entry", is_stsd_without, STSD_NONE),
     STSD_CASE("stsd of another entry", is_stsd_without, STSD_OTHER),
 };
@@ -400,15 +439,17 @@ static void try_short_sets(void) {
 #define VALUE "v1!"
 #define MESSAGE "\1\xFF"
 static const char EMSG_0[] =
-    "\0\0\0\x29" "emsg\0\x86\x87\x88" SCHEME "\0" VALUE "\0\x81\x82\x83\x84\x91\x92\x93\x94\xA1\xA2\xA3\xA4\xB1\xB2\xB3\xB4"
-    MESSAGE;
+    "\0\0\0\x29"
+    "emsg\0\x86\x87\x88" SCHEME "\0" VALUE "\0\x81\x82\x83\x84\x91\x92\x93\x94\xA1\xA2\xA3\xA4\xB1\xB2\xB3\xB4" MESSAGE;
 static const char EMSG_1[] =
-    "\0\0\0\x2D" "emsg\1\x86\x87\x88\x81\x82\x83\x84\x91\x92\x93\x94\x95\x96\x97\x98\xA1\xA2\xA3\xA4\xB1\xB2\xB3\xB4"
-    SCHEME "\0" VALUE "\0" MESSAGE;
+    "\0\0\0\x2D"
+    "emsg\1\x86\x87\x88\x81\x82\x83\x84\x91\x92\x93\x94\x95\x96\x97\x98\xA1\xA2\xA3\xA4\xB1\xB2\xB3\xB4" SCHEME
+    "\0" VALUE "\0" MESSAGE;
 
 static int has_emsg_fields(const struct mp4_emsg_box *box) {
-    return box->scheme_id_uri_count == 6 && box->value_count == 3 && box->message_data_count == 2 && box->flags == 0x868788 &&
-           box->timescale == 0x81828384 && box->event_duration == 0xA1A2A3A4 && box->id == 0xB1B2B3B4;
+    return box->scheme_id_uri_count == 6 && box->value_count == 3 && box->message_data_count == 2 &&
+           box->flags == 0x868788 && box->timescale == 0x81828384 && box->event_duration == 0xA1A2A3A4 &&
+           box->id == 0xB1B2B3B4;
 }
 
 static int is_emsg_0(const void *told) {
@@ -496,13 +537,13 @@ static void try_writing(const struct writing *w) {
 }
 
 /* Whether a writing of faulty values is refused, with nothing changed. */
-#define REFUSED(call) \
-    do { \
-        uint8_t bytes[200]; \
-        size_t length = 0xA5A5; \
-        memset(bytes, FILLER, sizeof bytes); \
-        EXPECT((call) == MP4_INVALID_DATA); \
-        EXPECT(length == 0xA5A5 && is_filler(bytes, sizeof bytes) && held == 0); \
+#define REFUSED(call)                                                                                                  \
+    do {                                                                                                               \
+        uint8_t bytes[200];                                                                                            \
+        size_t length = 0xA5A5;                                                                                        \
+        memset(bytes, FILLER, sizeof bytes);                                                                           \
+        EXPECT((call) == MP4_INVALID_DATA);                                                                            \
+        EXPECT(length == 0xA5A5 && is_filler(bytes, sizeof bytes) && held == 0);                                       \
     } while (0)
 #define OUT bytes, sizeof bytes, &length
 
@@ -512,15 +553,13 @@ static const struct mp4_ftyp_box FTYP_FIELDS = {77, 0x69736F36, 0x81828384};
 static const struct mp4_hdlr_box HDLR_FIELDS = {77, 0x868788, 0x76696465, 0x85};
 static const struct mp4_dref_box DREF_FIELDS = {{77, 0x868788, 0x85}, 0x969798, 0x95, 2};
 static const struct mp4_dref_box DREF_NO_URL = {{77, 0xFFFFFFFF, 0x85}, 0x969798, 0x95, 0};
-static const struct mp4_emsg_box EMSG_0_FIELDS = {77, 77, 77, 0x9192939495969798, 0x91929394, 0x81828384, 0xA1A2A3A4,
-    0xB1B2B3B4, 0x868788, 0};
-static const struct mp4_emsg_box EMSG_1_FIELDS = {77, 77, 77, 0x9192939495969798, 0x91929394, 0x81828384, 0xA1A2A3A4,
-    0xB1B2B3B4, 0x868788, 1};
+static const struct mp4_emsg_box EMSG_0_FIELDS = {77,         77,         77,         0x9192939495969798, 0x91929394,
+                                                  0x81828384, 0xA1A2A3A4, 0xB1B2B3B4, 0x868788,           0};
+static const struct mp4_emsg_box EMSG_1_FIELDS = {77,         77,         77,         0x9192939495969798, 0x91929394,
+                                                  0x81828384, 0xA1A2A3A4, 0xB1B2B3B4, 0x868788,           1};
 
-#define WRITES(name, call) \
-    static uint32_t name(uint8_t *bytes, size_t places, size_t *length) { \
-        return call; \
-    }
+#define WRITES(name, call)                                                                                             \
+    static uint32_t name(uint8_t *bytes, size_t places, size_t *length) { return call; }
 #define TEXT(text) (const uint8_t *)(text), sizeof(text) - 1
 WRITES(write_ftyp, mp4_write_ftyp(&FTYP_FIELDS, BRANDS, 3, bytes, places, length))
 WRITES(write_hdlr, mp4_write_hdlr(&HDLR_FIELDS, TEXT(NAME), bytes, places, length))
@@ -607,9 +646,9 @@ static void try_faults(void) {
 int main(void) {
     size_t index;
     EACH(WITH_ROWS, index)
-        try_box(&WITH_ROWS[index], 1);
+    try_box(&WITH_ROWS[index], 1);
     EACH(TOLD_BOXES, index)
-        try_box(&TOLD_BOXES[index], 0);
+    try_box(&TOLD_BOXES[index], 0);
     EACH(WITH_SETS, index) {
         size_t cut;
         const struct subject *s = &WITH_SETS[index];
@@ -618,7 +657,7 @@ int main(void) {
             EXPECT(call_with(s, s->bytes, cut, s->count) == MP4_END_OF_INPUT);
     }
     EACH(STSD_BOXES, index)
-        try_box(&STSD_BOXES[index], 0);
+    try_box(&STSD_BOXES[index], 0);
     EACH(EMSGS, index) {
         refuse_each(&EMSGS[index]);
         try_header(&EMSGS[index]);
@@ -626,7 +665,7 @@ int main(void) {
     try_short_sets();
     try_short_texts();
     EACH(WRITINGS, index)
-        try_writing(&WRITINGS[index]);
+    try_writing(&WRITINGS[index]);
     try_stsd(&WITH_SETS[2], 1);
     for (index = 0; index < 5; index++)
         try_stsd(&STSD_BOXES[index], 0);

@@ -11,9 +11,7 @@ static int is_text(const void *rows, size_t count) {
     return count == strlen(expected) && memcmp(rows, expected, count) == 0;
 }
 
-static int is_long(const void *told) {
-    return *(const size_t *)told == strlen(expected);
-}
+static int is_long(const void *told) { return *(const size_t *)told == strlen(expected); }
 
 AS_CALL(fields, uint8_t, size_t)
 
@@ -55,8 +53,12 @@ static void try_box(const char *text, const uint8_t *bytes, size_t length) {
 
 /* A box of another type is unknown, whatever its size is, if its header is there. */
 static void try_unknown(void) {
-    static const char *BOXES[] = {"\0\0\0\x08" "free", "\0\0\0\0moov", "\0\0\0\x07" "free", "\0\0\0\xFFmdat",
-                                  "\0\0\0\x08\0\0\0\0"};
+    static const char *BOXES[] = {"\0\0\0\x08"
+                                  "free",
+                                  "\0\0\0\0moov",
+                                  "\0\0\0\x07"
+                                  "free",
+                                  "\0\0\0\xFFmdat", "\0\0\0\x08\0\0\0\0"};
     struct subject s = {"mp4_fields", call_fields, 1, sizeof(size_t), is_text, is_long, 0, 0, 8, {0, 0}};
     size_t i, count = 9;
     uint8_t text = 7;
@@ -73,8 +75,14 @@ static void try_unknown(void) {
 /* A version that isn't read, a child that is missing, and a count of more than there is. */
 static void try_faults(void) {
     struct subject s = {"mp4_fields", call_fields, 1, sizeof(size_t), is_text, is_long, 0, 0, 0, {0, 0}};
-    EXPECT(call_with(&s, BYTES("\0\0\0\x0C" "nmhd\1\0\0\0"), 20) == MP4_INVALID_DATA);
-    EXPECT(call_with(&s, BYTES("\0\0\0\x08" "dinf"), 20) == MP4_BOX_NOT_FOUND);
+    EXPECT(call_with(&s,
+                     BYTES("\0\0\0\x0C"
+                           "nmhd\1\0\0\0"),
+                     20) == MP4_INVALID_DATA);
+    EXPECT(call_with(&s,
+                     BYTES("\0\0\0\x08"
+                           "dinf"),
+                     20) == MP4_BOX_NOT_FOUND);
     EXPECT(call_with(&s, BYTES("\0\0\0\x10stco\0\0\0\0\0\0\0\1"), 20) == MP4_INVALID_DATA);
 }
 
@@ -82,7 +90,8 @@ int main(void) {
     try_box("{\"version\":0,\"flags\":1,\"entries\":[{\"sample_count\":3,\"sample_delta\":4294967295}]}",
             BYTES("\0\0\0\x18stts\0\0\0\1\0\0\0\1\0\0\0\3\xFF\xFF\xFF\xFF"));
     try_box("{\"hSpacing\":4,\"vSpacing\":2164260867}", BYTES("\0\0\0\x10pasp\0\0\0\4\x81\0\0\3"));
-    try_box("{\"data_format\":\"\xC3\xA9\\\"c\\u0001\"}", BYTES("\0\0\0\x0C" "frma\xE9\"c\1"));
+    try_box("{\"data_format\":\"\xC3\xA9\\\"c\\u0001\"}", BYTES("\0\0\0\x0C"
+                                                                "frma\xE9\"c\1"));
     try_box("{\"version\":0,\"flags\":0}", BYTES("\0\0\0\x0Cnmhd\0\0\0\0"));
     try_unknown();
     try_faults();

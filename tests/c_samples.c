@@ -1,7 +1,7 @@
 /*
- * Calls the functions of include/mp4_box_codec.h that find the boxes of a file and the samples of a track, and those that
- * say what the library is: arrays that are long enough and too short, each fault, each beginning of a file, memory that is
- * refused. The file and its samples were worked out from ISO/IEC 14496-12.
+ * Calls the functions of include/mp4_box_codec.h that find the boxes of a file and the samples of a track, and those
+ * that say what the library is: arrays that are long enough and too short, each fault, each beginning of a file, memory
+ * that is refused. The file and its samples were worked out from ISO/IEC 14496-12.
  */
 #include "c_checks.h"
 
@@ -10,25 +10,26 @@
 #define HEADER "\0\0\0\x5Ctkhd\0\0\0\7\0\0\0\0\0\0\0\0\0\0\0"
 #define REST ZEROS_17 ZEROS_17 ZEROS_17 ZEROS_17
 
-/* A movie with a track of track_ID 5 that has no media, and one of track_ID 7 with three samples of 3, 4 and 5 bytes. */
-static const char FILE_BYTES[] =
-    "\0\0\1\xADmoov"                                                          /* 0 */
-    "\0\0\0\x64trak" HEADER "\5" REST                                         /* 8 */
-    "\0\0\1\x41trak" HEADER "\7" REST                                         /* 108, its header at 116 */
-    "\0\0\0\xDDmdia"                                                          /* 208 */
-    "\0\0\0\x20mdhd\0\0\0\0\0\0\0\0\0\0\0\0\0\0\3\xE8\0\0\0\x1E\x55\xC4\0\0"  /* 216 */
-    "\0\0\0\x21hdlr\0\0\0\0\0\0\0\0vide\0\0\0\0\0\0\0\0\0\0\0\0\0"            /* 248 */
-    "\0\0\0\x94minf\0\0\0\x8Cstbl"                                            /* 281, 289 */
-    "\0\0\0\x20stsz\0\0\0\0\0\0\0\0\0\0\0\3\0\0\0\3\0\0\0\4\0\0\0\5"          /* 297 */
-    "\0\0\0\x1Cstsc\0\0\0\0\0\0\0\1\0\0\0\1\0\0\0\2\0\0\0\1"                  /* 329 */
-    "\0\0\0\x18stco\0\0\0\0\0\0\0\2\0\0\1\xB5\0\0\1\xBC"                      /* 357 */
-    "\0\0\0\x18stts\0\0\0\0\0\0\0\1\0\0\0\3\0\0\0\x0A"                        /* 381 */
-    "\0\0\0\x18stss\0\0\0\0\0\0\0\2\0\0\0\1\0\0\0\3"                          /* 405 */
-    "\0\0\0\x14mdatabcdefghijkl";                                             /* 429 */
+/* A movie with a track of track_ID 5 that has no media, and one of track_ID 7 with three samples of 3, 4 and 5 bytes.
+ */
+static const char FILE_BYTES[] = "\0\0\1\xADmoov"                  /* 0 */
+                                 "\0\0\0\x64trak" HEADER "\5" REST /* 8 */
+                                 "\0\0\1\x41trak" HEADER "\7" REST /* 108, its header at 116 */
+                                 "\0\0\0\xDDmdia"                  /* 208 */
+                                 "\0\0\0\x20mdhd\0\0\0\0\0\0\0\0\0\0\0\0\0\0\3\xE8\0\0\0\x1E\x55\xC4\0\0" /* 216 */
+                                 "\0\0\0\x21hdlr\0\0\0\0\0\0\0\0vide\0\0\0\0\0\0\0\0\0\0\0\0\0"           /* 248 */
+                                 "\0\0\0\x94minf\0\0\0\x8Cstbl"                                           /* 281, 289 */
+                                 "\0\0\0\x20stsz\0\0\0\0\0\0\0\0\0\0\0\3\0\0\0\3\0\0\0\4\0\0\0\5"         /* 297 */
+                                 "\0\0\0\x1Cstsc\0\0\0\0\0\0\0\1\0\0\0\1\0\0\0\2\0\0\0\1"                 /* 329 */
+                                 "\0\0\0\x18stco\0\0\0\0\0\0\0\2\0\0\1\xB5\0\0\1\xBC"                     /* 357 */
+                                 "\0\0\0\x18stts\0\0\0\0\0\0\0\1\0\0\0\3\0\0\0\x0A"                       /* 381 */
+                                 "\0\0\0\x18stss\0\0\0\0\0\0\0\2\0\0\0\1\0\0\0\3"                         /* 405 */
+                                 "\0\0\0\x14mdatabcdefghijkl";                                            /* 429 */
 
 #define LENGTH (sizeof FILE_BYTES - 1)
 
-/* Where the boxes of the second track begin that have to be there, and stss, without which each sample is a sync sample. */
+/* Where the boxes of the second track begin that have to be there, and stss, without which each sample is a sync
+ * sample. */
 static const size_t NEEDED[] = {216, 248, 297, 329, 357, 381, 405};
 static const size_t HOLDERS[] = {208, 281, 289};
 
@@ -58,7 +59,8 @@ static uint32_t call_samples(const uint8_t *bytes, size_t length, void *rows, si
     return mp4_samples(bytes, length, track_id, (struct mp4_sample *)rows, places, (size_t *)told);
 }
 
-static int is_sample(const struct mp4_sample *s, uint64_t offset, uint64_t time, uint32_t size, uint32_t chunk, int sync) {
+static int is_sample(const struct mp4_sample *s, uint64_t offset, uint64_t time, uint32_t size, uint32_t chunk,
+                     int sync) {
     return s->offset == offset && s->decode_time == time && s->rendering_offset == 0 && s->size == size &&
            s->duration == 10 && s->description == 1 && s->chunk == chunk && s->sync == sync;
 }
@@ -69,9 +71,7 @@ static int are_samples(const void *rows, size_t count) {
            (is_sample(&s[1], 440, 10, 4, 1, 0) || is_sample(&s[1], 440, 10, 4, 1, 1));
 }
 
-static int is_three(const void *told) {
-    return *(const size_t *)told == 3;
-}
+static int is_three(const void *told) { return *(const size_t *)told == 3; }
 
 /* The status where one byte of the file is another. */
 static uint32_t with_byte(const struct subject *s, size_t at, uint8_t byte) {
@@ -82,7 +82,9 @@ static uint32_t with_byte(const struct subject *s, size_t at, uint8_t byte) {
 }
 
 static void try_samples(void) {
-    struct subject s = {"mp4_samples", call_samples, sizeof(struct mp4_sample), sizeof(size_t), are_samples, is_three, 3, BYTES(FILE_BYTES), {0, 0}};
+    struct subject s = {
+        "mp4_samples",     call_samples, sizeof(struct mp4_sample), sizeof(size_t), are_samples, is_three, 3,
+        BYTES(FILE_BYTES), {0, 0}};
     struct mp4_sample rows[3];
     size_t cut, count = 0;
     refuse_each(&s);
@@ -110,28 +112,27 @@ static void try_samples(void) {
     track_id = 7;
 }
 
-/* Two fragments of the tracks 1 and 2. Those of track 1 have two samples of 3 and 6 bytes from the time 1000 on, and one of the
-   default size, after the data of track 2, whose samples have 5 bytes and are no sync samples. */
-static const char FRAGMENT_BYTES[] =
-    "\0\0\1\x18moov"                                                          /* 0 */
-    "\0\0\0\x64trak" HEADER "\1" REST                                         /* 8 */
-    "\0\0\0\x64trak" HEADER "\2" REST                                         /* 108 */
-    "\0\0\0\x48mvex"                                                          /* 208 */
-    "\0\0\0\x20trex\0\0\0\0\0\0\0\1\0\0\0\1\0\0\0\x0A\0\0\0\4\0\0\0\0"        /* 216 */
-    "\0\0\0\x20trex\0\0\0\0\0\0\0\2\0\0\0\1\0\0\0\7\0\0\0\5\0\1\0\0"          /* 248 */
-    "\0\0\0\x84moof\0\0\0\x10mfhd\0\0\0\0\0\0\0\1"                            /* 280, 288 */
-    "\0\0\0\x44traf\0\0\0\x10tfhd\0\0\0\0\0\0\0\1"                            /* 304, 312 */
-    "\0\0\0\x10tfdt\0\0\0\0\0\0\3\xE8"                                        /* 328 */
-    "\0\0\0\x1Ctrun\0\0\2\1\0\0\0\2\0\0\0\x8C\0\0\0\3\0\0\0\6"                /* 344 */
-    "\0\0\0\x28traf\0\0\0\x10tfhd\0\0\0\0\0\0\0\2"                            /* 372, 380 */
-    "\0\0\0\x10trun\0\0\0\0\0\0\0\3"                                          /* 396 */
-    "\0\0\0\x20mdatabcdefghijklmnopqrstuvwx"                                  /* 412 */
-    "\0\0\0\x6Cmoof\0\0\0\x10mfhd\0\0\0\0\0\0\0\2"                            /* 444, 452 */
-    "\0\0\0\x2Ctraf\0\0\0\x10tfhd\0\2\0\0\0\0\0\2"                            /* 468, 476 */
-    "\0\0\0\x14trun\0\0\0\1\0\0\0\1\0\0\0\x74"                                /* 492 */
-    "\0\0\0\x28traf\0\0\0\x10tfhd\0\0\0\0\0\0\0\1"                            /* 512, 520 */
-    "\0\0\0\x10trun\0\0\0\0\0\0\0\1"                                          /* 536 */
-    "\0\0\0\x11mdatabcdefghi";                                                /* 552 */
+/* Two fragments of the tracks 1 and 2. Those of track 1 have two samples of 3 and 6 bytes from the time 1000 on, and
+   one of the default size, after the data of track 2, whose samples have 5 bytes and are no sync samples. */
+static const char FRAGMENT_BYTES[] = "\0\0\1\x18moov"                                                   /* 0 */
+                                     "\0\0\0\x64trak" HEADER "\1" REST                                  /* 8 */
+                                     "\0\0\0\x64trak" HEADER "\2" REST                                  /* 108 */
+                                     "\0\0\0\x48mvex"                                                   /* 208 */
+                                     "\0\0\0\x20trex\0\0\0\0\0\0\0\1\0\0\0\1\0\0\0\x0A\0\0\0\4\0\0\0\0" /* 216 */
+                                     "\0\0\0\x20trex\0\0\0\0\0\0\0\2\0\0\0\1\0\0\0\7\0\0\0\5\0\1\0\0"   /* 248 */
+                                     "\0\0\0\x84moof\0\0\0\x10mfhd\0\0\0\0\0\0\0\1"                     /* 280, 288 */
+                                     "\0\0\0\x44traf\0\0\0\x10tfhd\0\0\0\0\0\0\0\1"                     /* 304, 312 */
+                                     "\0\0\0\x10tfdt\0\0\0\0\0\0\3\xE8"                                 /* 328 */
+                                     "\0\0\0\x1Ctrun\0\0\2\1\0\0\0\2\0\0\0\x8C\0\0\0\3\0\0\0\6"         /* 344 */
+                                     "\0\0\0\x28traf\0\0\0\x10tfhd\0\0\0\0\0\0\0\2"                     /* 372, 380 */
+                                     "\0\0\0\x10trun\0\0\0\0\0\0\0\3"                                   /* 396 */
+                                     "\0\0\0\x20mdatabcdefghijklmnopqrstuvwx"                           /* 412 */
+                                     "\0\0\0\x6Cmoof\0\0\0\x10mfhd\0\0\0\0\0\0\0\2"                     /* 444, 452 */
+                                     "\0\0\0\x2Ctraf\0\0\0\x10tfhd\0\2\0\0\0\0\0\2"                     /* 468, 476 */
+                                     "\0\0\0\x14trun\0\0\0\1\0\0\0\1\0\0\0\x74"                         /* 492 */
+                                     "\0\0\0\x28traf\0\0\0\x10tfhd\0\0\0\0\0\0\0\1"                     /* 512, 520 */
+                                     "\0\0\0\x10trun\0\0\0\0\0\0\0\1"                                   /* 536 */
+                                     "\0\0\0\x11mdatabcdefghi";                                         /* 552 */
 
 #define FRAGMENT_LENGTH (sizeof FRAGMENT_BYTES - 1)
 
@@ -140,12 +141,30 @@ static const struct {
     size_t from, count;
     uint32_t status;
 } BEGINNINGS[] = {
-    {0, 0, MP4_BOX_NOT_FOUND}, {8, 0, MP4_NO_TRACK},        {108, 0, MP4_OK},           {312, 0, MP4_BOX_NOT_FOUND},
-    {320, 0, MP4_END_OF_INPUT}, {328, 0, MP4_OK},           {336, 0, MP4_END_OF_INPUT}, {344, 0, MP4_OK},
-    {352, 0, MP4_END_OF_INPUT}, {372, 2, MP4_OK},           {380, 0, MP4_BOX_NOT_FOUND}, {388, 0, MP4_END_OF_INPUT},
-    {396, 2, MP4_OK},           {404, 0, MP4_END_OF_INPUT}, {412, 2, MP4_OK},           {476, 0, MP4_BOX_NOT_FOUND},
-    {484, 0, MP4_END_OF_INPUT}, {492, 2, MP4_OK},           {500, 0, MP4_END_OF_INPUT}, {512, 2, MP4_OK},
-    {520, 0, MP4_BOX_NOT_FOUND}, {528, 0, MP4_END_OF_INPUT}, {536, 2, MP4_OK},          {544, 0, MP4_END_OF_INPUT},
+    {0, 0, MP4_BOX_NOT_FOUND},
+    {8, 0, MP4_NO_TRACK},
+    {108, 0, MP4_OK},
+    {312, 0, MP4_BOX_NOT_FOUND},
+    {320, 0, MP4_END_OF_INPUT},
+    {328, 0, MP4_OK},
+    {336, 0, MP4_END_OF_INPUT},
+    {344, 0, MP4_OK},
+    {352, 0, MP4_END_OF_INPUT},
+    {372, 2, MP4_OK},
+    {380, 0, MP4_BOX_NOT_FOUND},
+    {388, 0, MP4_END_OF_INPUT},
+    {396, 2, MP4_OK},
+    {404, 0, MP4_END_OF_INPUT},
+    {412, 2, MP4_OK},
+    {476, 0, MP4_BOX_NOT_FOUND},
+    {484, 0, MP4_END_OF_INPUT},
+    {492, 2, MP4_OK},
+    {500, 0, MP4_END_OF_INPUT},
+    {512, 2, MP4_OK},
+    {520, 0, MP4_BOX_NOT_FOUND},
+    {528, 0, MP4_END_OF_INPUT},
+    {536, 2, MP4_OK},
+    {544, 0, MP4_END_OF_INPUT},
     {552, 3, MP4_OK},
 };
 
@@ -153,7 +172,8 @@ static uint32_t call_fragments(const uint8_t *bytes, size_t length, void *rows, 
     return mp4_fragment_samples(bytes, length, track_id, (struct mp4_sample *)rows, places, (size_t *)told);
 }
 
-static int is_sample_of(const struct mp4_sample *s, uint64_t offset, uint64_t time, uint32_t size, uint32_t duration, int sync) {
+static int is_sample_of(const struct mp4_sample *s, uint64_t offset, uint64_t time, uint32_t size, uint32_t duration,
+                        int sync) {
     return s->offset == offset && s->decode_time == time && s->rendering_offset == 0 && s->size == size &&
            s->duration == duration && s->description == 1 && s->chunk == 1 && s->sync == sync;
 }
@@ -177,7 +197,9 @@ static void try_beginnings(void) {
 }
 
 static void try_fragments(void) {
-    struct subject s = {"mp4_fragment_samples", call_fragments, sizeof(struct mp4_sample), sizeof(size_t), are_of_track_1, is_three, 3, BYTES(FRAGMENT_BYTES), {0, 0}};
+    struct subject s = {
+        "mp4_fragment_samples", call_fragments, sizeof(struct mp4_sample), sizeof(size_t), are_of_track_1, is_three, 3,
+        BYTES(FRAGMENT_BYTES),  {0, 0}};
     struct mp4_sample rows[4];
     size_t count = 0;
     track_id = 1;
@@ -194,11 +216,11 @@ static void try_fragments(void) {
     track_id = 3;
     EXPECT(call_with(&s, s.bytes, FRAGMENT_LENGTH, 3) == MP4_NO_TRACK);
     track_id = 1;
-    EXPECT(with_byte(&s, 231, 3) == MP4_BOX_NOT_FOUND); /* no defaults of track 1 */
-    EXPECT(with_byte(&s, 263, 3) == MP4_OFFSETS_DISAGREE); /* none of track 2, whose data are before */
+    EXPECT(with_byte(&s, 231, 3) == MP4_BOX_NOT_FOUND);       /* no defaults of track 1 */
+    EXPECT(with_byte(&s, 263, 3) == MP4_OFFSETS_DISAGREE);    /* none of track 2, whose data are before */
     EXPECT(with_byte(&s, 360, 0xFF) == MP4_OFFSETS_DISAGREE); /* a data offset below 0 */
-    EXPECT(with_byte(&s, 359, 3) == MP4_INVALID_DATA); /* three samples of two sizes */
-    EXPECT(with_byte(&s, 320, 1) == MP4_OK); /* a tfhd of another version */
+    EXPECT(with_byte(&s, 359, 3) == MP4_INVALID_DATA);        /* three samples of two sizes */
+    EXPECT(with_byte(&s, 320, 1) == MP4_OK);                  /* a tfhd of another version */
     track_id = 7;
 }
 
@@ -230,7 +252,8 @@ static int is_stsz(const void *told) {
 }
 
 static void try_find(void) {
-    struct subject s = {"mp4_find", call_find, 1, sizeof(struct mp4_place), no_rows, is_stsz, 0, BYTES(FILE_BYTES), {0, 0}};
+    struct subject s = {"mp4_find", call_find,         1,     sizeof(struct mp4_place), no_rows, is_stsz,
+                        0,          BYTES(FILE_BYTES), {0, 0}};
     struct mp4_place place = {0, 0, 0, 0, 0};
     size_t cut;
     path = "moov/trak[1]/mdia/minf/stbl/stsz";
@@ -260,10 +283,22 @@ static void try_find(void) {
 /* What the library says of itself. */
 
 static void try_about(void) {
-    static const uint32_t STATUSES[] = {MP4_OK, MP4_END_OF_INPUT, MP4_INVALID_DATA, MP4_BOX_NOT_FOUND,
-        MP4_OUT_OF_MEMORY, MP4_NO_ROOM, MP4_NO_TRACK, MP4_UNKNOWN_BOX, MP4_SAMPLE_SIZES_DISAGREE, MP4_FIRST_CHUNK_DISAGREES,
-        MP4_CHUNK_ORDER_DISAGREES, MP4_CHUNK_COUNT_DISAGREES, MP4_CHUNKS_DISAGREE, MP4_DURATIONS_DISAGREE,
-        MP4_SYNC_SAMPLES_DISAGREE, MP4_OFFSETS_DISAGREE};
+    static const uint32_t STATUSES[] = {MP4_OK,
+                                        MP4_END_OF_INPUT,
+                                        MP4_INVALID_DATA,
+                                        MP4_BOX_NOT_FOUND,
+                                        MP4_OUT_OF_MEMORY,
+                                        MP4_NO_ROOM,
+                                        MP4_NO_TRACK,
+                                        MP4_UNKNOWN_BOX,
+                                        MP4_SAMPLE_SIZES_DISAGREE,
+                                        MP4_FIRST_CHUNK_DISAGREES,
+                                        MP4_CHUNK_ORDER_DISAGREES,
+                                        MP4_CHUNK_COUNT_DISAGREES,
+                                        MP4_CHUNKS_DISAGREE,
+                                        MP4_DURATIONS_DISAGREE,
+                                        MP4_SYNC_SAMPLES_DISAGREE,
+                                        MP4_OFFSETS_DISAGREE};
     uint8_t text[100], other[100];
     size_t i, j, count = 0, unknown = 0;
     int major, minor, patch;

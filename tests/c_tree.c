@@ -15,7 +15,8 @@ int main(int arguments, char **argument) {
             return MP4_END_OF_INPUT;
         status = mp4_walk_next(bytes, walk.wanted, &walk, &box);
         printf("%*s%c%c%c%c @%lu +%lu\n", (int)box.depth * 2, "", (int)(box.code >> 24), (int)(box.code >> 16 & 255),
-               (int)(box.code >> 8 & 255), (int)(box.code & 255), (unsigned long)box.position, (unsigned long)box.length);
+               (int)(box.code >> 8 & 255), (int)(box.code & 255), (unsigned long)box.position,
+               (unsigned long)box.length);
     }
     return (int)status;
 }

@@ -1,16 +1,18 @@
 /*
- * Walks over the boxes of a file that isn't in memory, by the functions of include/mp4_box_codec.h, which are handed the bytes
- * that the walk wants, up to the end of a page. The boxes of the file were worked out by hand.
+ * Walks over the boxes of a file that isn't in memory, by the functions of include/mp4_box_codec.h, which are handed
+ * the bytes that the walk wants, up to the end of a page. The boxes of the file were worked out by hand.
  */
 #include "c_checks.h"
 
 #define HDLR "\0\0\0\x21hdlr\0\0\0\0\0\0\0\0soun\0\0\0\0\0\0\0\0\0\0\0\0\0"
 /* 109 bytes: the header of free has 16 bytes, and the mdat is cut after its header. */
-static const char FILE_BYTES[] =
-    "\0\0\0\x10" "ftypqt  \1\2\3\4"
-    "\0\0\0\x41moov\0\0\0\x39trak\0\0\0\x31mdia" HDLR "\0\0\0\x08minf"
-    "\0\0\0\1" "free\0\0\0\0\0\0\0\x14" "abcd"
-    "\0\0\0\x64mdat";
+static const char FILE_BYTES[] = "\0\0\0\x10"
+                                 "ftypqt  \1\2\3\4"
+                                 "\0\0\0\x41moov\0\0\0\x39trak\0\0\0\x31mdia" HDLR "\0\0\0\x08minf"
+                                 "\0\0\0\1"
+                                 "free\0\0\0\0\0\0\0\x14"
+                                 "abcd"
+                                 "\0\0\0\x64mdat";
 #define LENGTH (sizeof FILE_BYTES - 1)
 
 #define CODE(a, b, c, d) ((uint32_t)(a) << 24 | (uint32_t)(b) << 16 | (uint32_t)(c) << 8 | (uint32_t)(d))
@@ -29,9 +31,9 @@ static const struct mp4_box BOXES[] = {
 
 static int are_same(const struct mp4_box *one, const struct mp4_box *other) {
     return one->position == other->position && one->length == other->length &&
-           one->header_length == other->header_length && one->children == other->children && one->depth == other->depth &&
-           one->code == other->code && one->parent == other->parent && one->handler == other->handler &&
-           one->what == other->what && one->is_quicktime == other->is_quicktime;
+           one->header_length == other->header_length && one->children == other->children &&
+           one->depth == other->depth && one->code == other->code && one->parent == other->parent &&
+           one->handler == other->handler && one->what == other->what && one->is_quicktime == other->is_quicktime;
 }
 
 /* One call over the bytes that the walk wants, or fewer, which end with a page. */
@@ -84,7 +86,10 @@ int main(void) {
 
     subject = "what is no box";
     EXPECT(walk_over("\0\0\0\7free", 8, boxes, 64) == 1 && boxes[0].what == MP4_SMALL && boxes[0].length == 8);
-    EXPECT(walk_over("\0\0\0\x08" "fre", 7, boxes, 64) == 1 && boxes[0].what == MP4_NO_HEADER && boxes[0].length == 7);
+    EXPECT(walk_over("\0\0\0\x08"
+                     "fre",
+                     7, boxes, 64) == 1 &&
+           boxes[0].what == MP4_NO_HEADER && boxes[0].length == 7);
 
     /* 40 boxes, each in the one before it: the walk goes into 32 of them. */
     subject = "deep boxes";
@@ -99,7 +104,8 @@ int main(void) {
     /* A length that no memory has: the position of the second box has more than 32 bits. */
     subject = "a long file";
     EXPECT(mp4_walk_begin(0x8182838485868788, &walk) == MP4_OK && walk.wanted == 28);
-    EXPECT(mp4_walk_next((const uint8_t *)"\0\0\0\1mdat\x41\x42\x43\x44\x45\x46\x47\x48............", 28, &walk, boxes) == MP4_OK);
+    EXPECT(mp4_walk_next((const uint8_t *)"\0\0\0\1mdat\x41\x42\x43\x44\x45\x46\x47\x48............", 28, &walk,
+                         boxes) == MP4_OK);
     EXPECT(boxes[0].length == 0x4142434445464748 && boxes[0].header_length == 16 && boxes[0].what == MP4_LEAF);
     EXPECT(walk.position == 0x4142434445464748 && walk.wanted == 28);
     printf("%ld calls and %ld checks of walks passed\n", calls, checks);

@@ -1,4 +1,5 @@
-"""Compares what the program test_probe prints of an input with what a row expects, and with what the slow reader finds."""
+"""Compares what the program test_probe prints of an input with what a row expects, and with what the slow reader
+finds."""
 
 from functools import partial
 
@@ -13,7 +14,8 @@ LOOKED_AT = [
     "written as declared", "written as trees", "counted",
 ]
 TEXTS = [
-    outcome_of, outcome_of, written_of, outcome_of, outcome_of, written_of, outcome_of, written_of, written_of, counted_of,
+    outcome_of, outcome_of, written_of, outcome_of, outcome_of, written_of, outcome_of, written_of, written_of,
+    counted_of,
 ]
 # What the slow reader does, and which text of the program says the same.
 CALLS = {

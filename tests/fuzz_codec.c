@@ -39,11 +39,11 @@ struct function {
     size_t least; /* so many bytes of the input each element needs */
 };
 
-#define CALL(name, row_type, found_type)                                                                              \
+#define CALL(name, row_type, found_type)                                                                               \
     static uint32_t call_##name(const uint8_t *bytes, size_t length, void *rows, size_t places, void *found) {         \
         return name(bytes, length, (row_type *)rows, places, (found_type *)found);                                     \
     }
-#define FUNCTION(name, row_type, found_type, row, found, least)                                                       \
+#define FUNCTION(name, row_type, found_type, row, found, least)                                                        \
     { #name, call_##name, sizeof(row_type), sizeof(found_type), row, found, least }
 
 CALL(mp4_list, struct mp4_span, size_t)
@@ -107,11 +107,11 @@ struct boxed {
     uint32_t (*write)(const void *, uint8_t *, size_t, size_t *);
 };
 
-#define READ(name)                                                                                                    \
+#define READ(name)                                                                                                     \
     static uint32_t read_##name(const uint8_t *bytes, size_t length, void *box) {                                      \
         return mp4_##name(bytes, length, (struct mp4_##name##_box *)box);                                              \
     }
-#define READ_AND_WRITE(name)                                                                                          \
+#define READ_AND_WRITE(name)                                                                                           \
     READ(name)                                                                                                         \
     static uint32_t write_##name(const void *box, uint8_t *bytes, size_t places, size_t *length) {                     \
         return mp4_write_##name((const struct mp4_##name##_box *)box, bytes, places, length);                          \
@@ -436,8 +436,9 @@ static void put(struct input *it, size_t at, uint32_t number) {
         it->bytes[at + i] = (uint8_t)(number >> (24 - 8 * i));
 }
 
-static const uint32_t NUMBERS[] = {0, 1, 2, 3, 4, 7, 8, 9, 15, 16, 17, 20, 0x100, 0x10000, 0x10000000, 0x1FFFFFFF,
-                                   0x20000000, 0x20000001, 0x40000000, 0x7FFFFFFF, 0x80000000, 0xFFFFFFFF};
+static const uint32_t NUMBERS[] = {
+    0,  1,     2,       3,          4,          7,          8,          9,          15,         16,         17,
+    20, 0x100, 0x10000, 0x10000000, 0x1FFFFFFF, 0x20000000, 0x20000001, 0x40000000, 0x7FFFFFFF, 0x80000000, 0xFFFFFFFF};
 static const char CODES[] = "stszstcoco64stsssttscttsstscelsttrunfreemoov";
 
 /* A number that often makes a difference. */

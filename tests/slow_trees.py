@@ -49,8 +49,8 @@ def tree(name, box, depth):
 
 
 def read_trees(buffer, position):
-    """Reads the boxes from a position on as trees. Returns the list of them, or the first fault; and where the cursor is
-    after it."""
+    """Reads the boxes from a position on as trees. Returns the list of them, or the first fault; and where the cursor
+    is after it."""
     try:
         found = list(headers(buffer, position))
     except Fault as fault:

@@ -68,8 +68,8 @@ fn child(bytes: &[u8], at: usize, size: u64) -> Result<(Header, &[u8])> {
     Ok((child, rest))
 }
 
-/// Appends the box of this code at the front of the bytes, which is put together in its place in the list. False if it is
-/// none of the 36 types.
+/// Appends the box of this code at the front of the bytes, which is put together in its place in the list. False if it
+/// is none of the 36 types.
 fn push_any<M: Member>(boxes: &mut Vec<M>, code: u32, b: &[u8], size: u64) -> Result<bool> {
     macro_rules! push {
         ($name:ident, $value:expr) => {
@@ -207,8 +207,8 @@ unsafe fn room(out: &mut Vec<u8>, count: usize) -> &mut [u8] {
     &mut out[start..]
 }
 
-/// Appends a box, if it can be written. A box of one of two sizes is put together in an array, most others in zeros at the
-/// end of the output.
+/// Appends a box, if it can be written. A box of one of two sizes is put together in an array, most others in zeros at
+/// the end of the output.
 fn append_any(out: &mut Vec<u8>, value: &AnyBox) -> Result<()> {
     macro_rules! fixed {
         ($b:ident, $put:path, $size:literal) => {{

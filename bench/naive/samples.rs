@@ -1,5 +1,5 @@
-//! The samples of a track by their numbers, each by a walk over the runs of each table, and with the sizes of the samples
-//! before it in its chunk: as the Rust crate `mp4` looks for a sample.
+//! The samples of a track by their numbers, each by a walk over the runs of each table, and with the sizes of the
+//! samples before it in its chunk: as the Rust crate `mp4` looks for a sample.
 
 use crate::boxes::*;
 

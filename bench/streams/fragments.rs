@@ -88,10 +88,10 @@ pub fn mix(boxes: u32) -> Vec<u8> {
     })
 }
 
-/// The contents of so many `moof` boxes without the `traf` around the boxes of a track: of video, with 25 to 60 samples, and
-/// of sound, with 43 or so. Each second one has samples with a size and a composition time, and the flags of the first
-/// one, as ffmpeg writes video; the others have a duration, a size, flags and a composition time for each sample, as
-/// packagers do.
+/// The contents of so many `moof` boxes without the `traf` around the boxes of a track: of video, with 25 to 60
+/// samples, and of sound, with 43 or so. Each second one has samples with a size and a composition time, and the flags
+/// of the first one, as ffmpeg writes video; the others have a duration, a size, flags and a composition time for each
+/// sample, as packagers do.
 pub fn moofs(fragments: u32) -> Vec<u8> {
     repeat(fragments, |b, n, i| {
         mfhd(b, i + 1);

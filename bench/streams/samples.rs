@@ -14,7 +14,8 @@ fn runs(numbers: &mut Numbers, samples: u32, longest: u32, least: u32, end: u32)
     runs
 }
 
-/// The chunks of samples of these sizes, one after the other with a gap between them: the entries of `stsc` and of `stco`.
+/// The chunks of samples of these sizes, one after the other with a gap between them: the entries of `stsc` and of
+/// `stco`.
 fn chunks(numbers: &mut Numbers, sizes: &[u32]) -> (Vec<u32>, Vec<u32>) {
     let (mut stsc, mut stco) = (Vec::new(), Vec::new());
     let mut offset = 1_000;

@@ -58,8 +58,8 @@ def _name(code: int) -> str:
 
 
 class Span(NamedTuple):
-    """The place of a box: the offset of its first byte, its length with its header, how long the header is, and its code
-    as a number."""
+    """The place of a box: the offset of its first byte, its length with its header, how long the header is, and its
+    code as a number."""
     position: int
     length: int
     header_length: int

@@ -1,5 +1,6 @@
-"""`cslg`, how composition times lie beside decoding times. The bytes of the fields count up from 0x81, after the version,
-so that all times are negative: 2^32 - 0x7b7a7979 is 0x84858687. In the others the first bytes count up from 0x01."""
+"""`cslg`, how composition times lie beside decoding times. The bytes of the fields count up from 0x81, after the
+version, so that all times are negative: 2^32 - 0x7b7a7979 is 0x84858687. In the others the first bytes count up from
+0x01."""
 
 from rows_of.making import WRONG_VERSION, Box, box, changed, counting, declared, declared_as, resized, u32, u64
 

@@ -132,8 +132,8 @@ def declared_as(buffer, value):
 
 
 def count_and_bytes(code, count, rest):
-    """A full box of a count and bytes up to its end, by the names of these fields; and the same without bytes. The bytes
-    count up from 0x81, after the version."""
+    """A full box of a count and bytes up to its end, by the names of these fields; and the same without bytes. The
+    bytes count up from 0x81, after the version."""
     whole = box(code, b"\0", counting(0x81, 0x93))
 
     def value(bytes_left):

@@ -1,5 +1,5 @@
-"""`strs`, a box of strings: two that a byte of 0 ends, and between them a name in a field of four bytes. No standard has
-it."""
+"""`strs`, a box of strings: two that a byte of 0 ends, and between them a name in a field of four bytes. No standard
+has it."""
 
 from rows_of.making import END, NO_END, Box, box, changed, declared, declared_as, invalid, resized
 

@@ -236,7 +236,8 @@ fn headers() {
     assert_eq!(smhd(&box_of[..15]), Err(Error::EndOfInput));
     assert_eq!(write_smhd(&Smhd { flags: 1 << 24, ..expected }), Err(Error::InvalidData));
     let tfhd_box = table_box("tfhd", 0, 0x28, &[5, 6, 7]);
-    let expected = Tfhd { flags: 0x28, track_id: 5, default_sample_duration: 6, default_sample_flags: 7, ..Tfhd::default() };
+    let some = Tfhd { flags: 0x28, track_id: 5, ..Tfhd::default() };
+    let expected = Tfhd { default_sample_duration: 6, default_sample_flags: 7, ..some };
     assert_eq!((tfhd(&tfhd_box), write_tfhd(&expected)), (Ok(expected), Ok(tfhd_box)));
 }
 

@@ -96,8 +96,8 @@ fn write_times<B: ReadBox + WriteBox + Drop>(
     Ok(sum)
 }
 
-/// Reads a buffer of `mfhd` boxes of 16 bytes `times` times, each time into a new list, of which the last box is written.
-/// Returns the number of all and the sum of the last bytes; `u64::MAX` after an error.
+/// Reads a buffer of `mfhd` boxes of 16 bytes `times` times, each time into a new list, of which the last box is
+/// written. Returns the number of all and the sum of the last bytes; `u64::MAX` after an error.
 #[unsafe(no_mangle)]
 pub extern "C" fn mp4_read_mfhd(alloc: Global, bytes: &[u8], times: u64) -> u64 {
     read_times::<MfhdBox>(alloc, bytes, times).unwrap_or(u64::MAX)

@@ -156,8 +156,8 @@ pub extern "C" fn mp4_samples_in_order(alloc: Global, bytes: &[u8], times: u64) 
     samples::samples_in_order(alloc, bytes, times).unwrap_or(u64::MAX)
 }
 
-/// Reads the tables of a track once, makes an index of its samples once, and looks one of ten up, `times` times. Returns
-/// the sum of all that is said of each; `u64::MAX` after an error.
+/// Reads the tables of a track once, makes an index of its samples once, and looks one of ten up, `times` times.
+/// Returns the sum of all that is said of each; `u64::MAX` after an error.
 #[unsafe(no_mangle)]
 pub extern "C" fn mp4_samples_by_number(alloc: Global, bytes: &[u8], times: u64) -> u64 {
     samples::samples_by_number(alloc, bytes, times).unwrap_or(u64::MAX)

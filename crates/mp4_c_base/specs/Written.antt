@@ -1,5 +1,5 @@
--- What a C caller is handed of a box that is written: a status, the bytes in an array of the caller's, and how many they
--- are.
+-- What a C caller is handed of a box that is written: a status, the bytes in an array of the caller's, and how many
+-- they are.
 use Rattle.std.specs.Prelude.{◌≡◌, ℕ, ◌⊎◌, List, length}
 use Rattle.mp4_frame.specs.Format.{Format}
 use Rattle.mp4_c_base.specs.Handed.{Fills}

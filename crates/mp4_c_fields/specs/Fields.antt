@@ -30,8 +30,8 @@ HandsFieldsOf status old new count_old count_new =
     ((text : List ℕ) × (IsFieldsText text × ((count_new ≡ length text) × Fills status text old new)))
     ⊎ ((status ≡ OUT_OF_MEMORY) × ((new ≡ old) × (count_new ≡ count_old)))
 
--- The box at the front is read, and the text of its fields handed over; or boxes of its name aren't known; or the status
--- is that of an error that the reading permits. After an error the caller's memory is as it was.
+-- The box at the front is read, and the text of its fields handed over; or boxes of its name aren't known; or the
+-- status is that of an error that the reading permits. After an error the caller's memory is as it was.
 abbrev pub HandsFields : {A : Type 0} → (BoxType → Bool) → (BoxType → List ℕ → ℕ → ℕ → Reading A) → List ℕ → ℕ
     → List ℕ → List ℕ → ℕ → ℕ → Type 0
 HandsFields {A} known reading bytes status old new count_old count_new =

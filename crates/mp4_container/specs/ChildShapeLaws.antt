@@ -42,7 +42,8 @@ module _ {code : ℕ} {C V : Type 0} (s : Shape C) (is : IsShape s) (l : OwnLayo
       ∙ (own valid).read_back v w.0 [] 0 (omega (arith, ((own valid).header v w.0).most))
       ∙ ap (λ (u : V). Ok u) w.1 in
       outcome_bind (reads_declared s l (bytes_of v) 0 size)
-      (λ u. check (eqb size (size_declared s l u)) >>= λ _. done u) v (Ok v) found (past_check (eqb size size) (λ _. done v) (eq-eqb size size refl))
+      (λ u. check (eqb size (size_declared s l u)) >>= λ _. done u) v (Ok v) found
+      (past_check (eqb size size) (λ _. done v) (eq-eqb size size refl))
 
   child_back : s.valid ≡ true → (v : V) (x y : List ℕ) (end : ℕ) → Fits v → length x + size_declared s l v ≤ end
       → (reads_child s l (x ++ (bytes_of v ++ y)) (length x) end).outcome ≡ Ok v

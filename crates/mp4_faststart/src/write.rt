@@ -159,9 +159,9 @@ fn write_by<S: Source, W: Write>(
 }
 
 /// Writes a file with its movie box before its media data, and returns where that was and goes. If it is there already,
-/// the file is written as it is, and none is returned. Each track keeps its samples, with the same bytes. After an error
-/// a beginning of that is written. It takes the memory of two movie boxes, of the boxes of one, and of the tables of a
-/// track in both.
+/// the file is written as it is, and none is returned. Each track keeps its samples, with the same bytes. After an
+/// error a beginning of that is written. It takes the memory of two movie boxes, of the boxes of one, and of the tables
+/// of a track in both.
 pub fn write_fast_start<S: Source, W: Write>(
     alloc: Global,
     source: S,

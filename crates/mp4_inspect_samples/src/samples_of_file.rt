@@ -263,8 +263,8 @@ fn keep_chosen(
     }
 }
 
-/// Keeps the faults of fragments whose track is in no `moov`, of a chosen track that the file doesn't have, and of a file
-/// that is no movie.
+/// Keeps the faults of fragments whose track is in no `moov`, of a chosen track that the file doesn't have, and of a
+/// file that is no movie.
 fn keep_unknown(
     movie: &Movie,
     choice: Choice,

@@ -1,5 +1,5 @@
-//! What a crate takes, by `use mp4_stream::declaring::*`, that declares boxes: shapes, traits, and macros that write the
-//! bodies of a box and of its entries, where each field is named once.
+//! What a crate takes, by `use mp4_stream::declaring::*`, that declares boxes: shapes, traits, and macros that write
+//! the bodies of a box and of its entries, where each field is named once.
 
 pub use crate::{box_of, entry_of, numbers_of, parts_of};
 pub use mp4_declared::{
@@ -9,8 +9,9 @@ pub use mp4_declared::{
 };
 pub use mp4_frame::{Entries, TryClone};
 
-/// The struct of some content: `box_of!(found => Prft { version, flags, reference_track_id, ntp_timestamp, media_time })`,
-/// with the fields in the order of the content.
+/// The struct of some content:
+/// `box_of!(found => Prft { version, flags, reference_track_id, ntp_timestamp, media_time })`, with the fields in the
+/// order of the content.
 #[macro_export]
 macro_rules! box_of {
     (@back [$($done:ident)*] $found:ident $name:ident $fields:tt $first:ident $($more:ident)*) => {
@@ -31,8 +32,9 @@ macro_rules! box_of {
     };
 }
 
-/// The content of a struct: `parts_of!(self => version, flags, entries.as_slice(), = ids)`, with the fields in the order
-/// of the content. A field that isn't copied is followed by a call; `= ids` is a variable in the place of a field.
+/// The content of a struct: `parts_of!(self => version, flags, entries.as_slice(), = ids)`, with the fields in the
+/// order of the content. A field that isn't copied is followed by a call; `= ids` is a variable in the place of a
+/// field.
 #[macro_export]
 macro_rules! parts_of {
     (@ $of:ident) => { () };

@@ -54,8 +54,9 @@ loop-next-preserved c =
     let f = c.in_ok-frame.frame in
     let room = subst (λ (r : Option Head). IfSome r (λ h. (c.loop-next.next ≤ h.start) × (h.start + 8 ≤ read)))
     c.in-Some.is c.in_ok-found.ensures.room in
+    let within = c.in_ok-frame.ensures.room.0 in
     record {
-      least = omega (arith, c.loop-next.invariant.least, room.0, c.in_ok-frame.ensures.begins.1, c.in_ok-frame.ensures.room.0);
+      least = omega (arith, c.loop-next.invariant.least, room.0, c.in_ok-frame.ensures.begins.1, within);
       told = λ B rest has before.
           let there = c.loop-next.invariant.told B rest has before in
           let inside = in_input B c.args.part.now rest c.args.from c.loop-next.next has c.loop-next-test.true in

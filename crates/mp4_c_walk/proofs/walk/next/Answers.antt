@@ -18,8 +18,8 @@ returns-clause-on c =
     let last : w.count ≡ d + 1 = omega (arith, some.0) in
     let first : levels_at w.levels w.count ≡ l ∷ levels_at w.levels d =
     levels_next w.levels d w.count last ∙ ap (λ (x : Level). x ∷ levels_at w.levels d) (sym c.level_at-level.ensures) in
-    let within : l.end ≤ w.length =
-    nested_within w.length l.end (levels_at w.levels d) (subst (Nested w.length w.position) first c.requires.nested).1 in
+    let nested = subst (Nested w.length w.position) first c.requires.nested in
+    let within : l.end ≤ w.length = nested_within w.length l.end (levels_at w.levels d) nested.1 in
     let inside : w.position < l.end =
     inside_of w.levels w.count w.position l some.0 c.requires.on c.level_at-level.ensures in
     inl (
@@ -31,10 +31,11 @@ returns-clause-on c =
         long = refl;
         on = c.step_in-step.ensures.on.0;
         first = λ B long window.
+            let step = c.step_in-step.ensures.step B window (omega (arith, within, long)) in
             box_next B w.length w.position l (levels_at w.levels d) (levels_at w.levels w.count)
             (levels_at c.go_on-count.new.levels c.go_on-count.result)
             (levels_at c.go_on-count.new.levels c.close_levels-walk.result) s first c.requires.nested
-            c.step_in-step.ensures.on (c.step_in-step.ensures.step B window (omega (arith, within, long))) (sym long) inside
+            c.step_in-step.ensures.on step (sym long) inside
             c.go_on-count.ensures.levels c.close_levels-walk.ensures.closes;
       },
     )

@@ -14,4 +14,5 @@ returns-clause-put g c =
     omega (arith, c.put_u32.auto.out, length-take 4 c.put_child-next.new.out) in
     size_is_set (size_declared s l c.args.fields.now) c.args.size g.T.DeclaredBox.CODE c.put_child-next.result
     c.put_u32.result fields c.put_u32.new.out c.put_child-next.new.out
-    (omega (arith, c.put_child-next.ensures.next, long)) c.put_child-next.ensures.put c.put_u32.ensures.next short c.put_u32.ensures.put
+    (omega (arith, c.put_child-next.ensures.next, long)) c.put_child-next.ensures.put c.put_u32.ensures.next short
+    c.put_u32.ensures.put

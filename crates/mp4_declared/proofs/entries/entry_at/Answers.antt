@@ -14,6 +14,7 @@ numbers_at-numbers-requires g c =
 
 pub from_numbers-requires : goal.from_numbers-requires
 from_numbers-requires g c =
-    let below : (k : ℕ) → slice_index c.numbers_at-numbers.result k < 2 ^ slice_index (widths_of g.X.EntryLayout.layout.fields) k =
-    λ k. rw (c.numbers_at-numbers.ensures, c.widths.ensures) (split-below (widths_of g.X.EntryLayout.layout.fields) _ k) in
+    let ws = widths_of g.X.EntryLayout.layout.fields in
+    let below : (k : ℕ) → slice_index c.numbers_at-numbers.result k < 2 ^ slice_index ws k =
+    λ k. rw (c.numbers_at-numbers.ensures, c.widths.ensures) (split-below ws _ k) in
     search rules

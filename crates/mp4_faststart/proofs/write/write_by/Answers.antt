@@ -13,4 +13,5 @@ returns-in_ok-copy-in-None g c = λ _.
 
 pub returns-in_ok-write_moved-in-Some : goal.returns-in_ok-write_moved-in-Some
 returns-in_ok-write_moved-in-Some g c = λ placed.
-    c.in_ok-write_moved-in-Some.ensures (subst (λ (o : Option Cut). IfSome o (IsPlaced c.args.size)) c.in-Some.is placed)
+    c.in_ok-write_moved-in-Some.ensures
+    (subst (λ (o : Option Cut). IfSome o (IsPlaced c.args.size)) c.in-Some.is placed)

@@ -1,4 +1,5 @@
-use Rattle.std.proofs.Common.{◌≡◌, ℕ, ◌+◌, List, [], ◌∷◌, ◌++◌, sym, ap, ◌∙◌, append_assoc, append-nil, rules, string_bytes, get_or, take, length, ◌<◌}
+use Rattle.std.proofs.Common.{◌≡◌, ℕ, ◌+◌, ◌<◌, List, [], ◌∷◌, ◌++◌, take, length, string_bytes, get_or, sym, ap, ◌∙◌}
+use Rattle.std.proofs.Common.{append_assoc, append-nil, rules}
 use Rattle.std.specs.Prelude.{encode_utf8}
 use Rattle.std.proofs.lemmas.List.{take_more}
 use Rattle.mp4_sinks.specs.Tokens.{code_text}
@@ -24,9 +25,8 @@ loop-byte-preserved c =
     let put : string_bytes c.push.new.self ≡ string_bytes c.loop-byte.out ++ encode_utf8 c.from.result = search rules in
     let next : c.from.result ≡ get_or c.args.code.value c.loop-byte.byte-index 0 = search rules in
     let inside : c.loop-byte.byte-index < length c.args.code.value = search rules in
+    let before = string_bytes c.args.out.now ++ code_text (take c.loop-byte.byte-index c.args.code.value) in
     put
     ∙ ap (λ (t : List ℕ). t ++ encode_utf8 c.from.result) c.loop-byte.invariant
-    ∙ ap
-    (λ (n : ℕ). (string_bytes c.args.out.now ++ code_text (take c.loop-byte.byte-index c.args.code.value)) ++ encode_utf8 n)
-    next
+    ∙ ap (λ (n : ℕ). before ++ encode_utf8 n) next
     ∙ text_taken c.args.code.value c.loop-byte.byte-index 0 (string_bytes c.args.out.now) inside

@@ -8,9 +8,10 @@ pub returns : goal.returns
 returns c = record {
   nesting =
       λ first levels since.
-      since_begun fields fields levels first.out c.args.self.now.out c.begin_object.new.self
+      let out = c.begin_object.new.self in
+      since_begun fields fields levels first.out c.args.self.now.out out
       (Token.key c.args.name.now ∷ []) since (c.args.name.now, refl)
-      (puts_two c.args.self.now.out c.key.new.self c.begin_object.new.self (Token.key c.args.name.now) Token.begin_object
+      (puts_two c.args.self.now.out c.key.new.self out (Token.key c.args.name.now) Token.begin_object
       (c.in_ok-key.ensures.room.0, c.in_ok-key.ensures.ok)
       (c.in_ok-begin_object.ensures.room.0, c.in_ok-begin_object.ensures.ok));
 }
