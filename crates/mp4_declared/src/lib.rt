@@ -20,6 +20,7 @@ mod run;
 mod shape;
 mod signed;
 mod strings;
+mod tuple;
 
 pub use bit_fields::Bits;
 pub use checked::{Check, Checked};
