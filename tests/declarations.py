@@ -28,7 +28,7 @@ def read(path):
 
 
 def type_of(text):
-    """A type as its name and its arguments; a pair has the name of none."""
+    """A type as its name and its arguments; a tuple has the name of none."""
     text = text.strip()
     if text.startswith("("):
         return "", [type_of(it) for it in apart(text[1:-1])]

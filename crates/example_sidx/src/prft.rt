@@ -26,7 +26,7 @@ pub struct Prft {
 impl DeclaredBox for Prft {
     ghost use Rattle.example_sidx.specs.contracts.prft.Prft.{struct};
 
-    type Shape = Full<2, (U32, (U64, Last<Time>))>;
+    type Shape = Full<2, (U32, U64, Last<Time>)>;
 
     ghost CODE = { PRFT };
 

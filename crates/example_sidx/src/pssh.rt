@@ -25,7 +25,7 @@ pub struct Pssh {
 
 type Keys = If<FromVersion<1>, Rows<U32, 16>>;
 
-type PsshShape = Full<2, (Array<16>, (Keys, Last<Bytes<U32>>))>;
+type PsshShape = Full<2, (Array<16>, Keys, Last<Bytes<U32>>)>;
 
 impl DeclaredBox for Pssh {
     ghost use Rattle.example_sidx.specs.contracts.pssh.Pssh.{struct};

@@ -1,4 +1,4 @@
-//! More than two shapes, one after the other: the first one, and then the others.
+//! Three to five shapes, one after the other: the first one, and then the others.
 
 use crate::context::Context;
 use crate::shape::{PutShape, Shape};

@@ -22,7 +22,7 @@ pub struct Btrt {
 }
 
 /// What the box holds: three numbers.
-pub type BtrtShape = (U32, (U32, Last<U32>));
+pub type BtrtShape = (U32, U32, Last<U32>);
 
 impl DeclaredBox for Btrt {
     ghost use Rattle.mp4_more.specs.contracts.btrt.Btrt.{struct};

@@ -35,7 +35,7 @@ pub struct Clap {
 }
 
 /// What the box holds: four fractions, of which those of the offsets are signed.
-pub type ClapShape = (U32, (U32, (U32, (U32, (I32, (U32, (I32, Last<U32>)))))));
+pub type ClapShape = (U32, U32, U32, U32, (I32, U32, I32, Last<U32>));
 
 impl DeclaredBox for Clap {
     ghost use Rattle.mp4_more.specs.contracts.clap.Clap.{struct};

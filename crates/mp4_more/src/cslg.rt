@@ -31,10 +31,17 @@ pub struct Cslg {
     pub composition_end_time: i64,
 }
 
-type ToEndTime = (SignedTime, (SignedTime, Last<SignedTime>));
-
 /// What the box holds: version, flags and five signed times.
-pub type CslgShape = Full<2, (SignedTime, (SignedTime, ToEndTime))>;
+pub type CslgShape = Full<
+    2,
+    (
+        SignedTime,
+        SignedTime,
+        SignedTime,
+        SignedTime,
+        Last<SignedTime>,
+    ),
+>;
 
 impl DeclaredBox for Cslg {
     ghost use Rattle.mp4_more.specs.contracts.cslg.Cslg.{struct};

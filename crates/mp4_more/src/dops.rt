@@ -31,7 +31,7 @@ pub struct Dops {
 }
 
 /// What the box holds: six numbers, and bytes.
-pub type DopsShape = (U8, (U8, (U16, (U32, (I16, (U8, Last<Rest>))))));
+pub type DopsShape = (U8, U8, U16, U32, (I16, U8, Last<Rest>));
 
 impl DeclaredBox for Dops {
     ghost use Rattle.mp4_more.specs.contracts.dops.Dops.{struct};

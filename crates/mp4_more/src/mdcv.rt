@@ -62,13 +62,10 @@ pub struct Mdcv {
 /// What the box holds: four points of four bytes each, and two numbers.
 pub type MdcvShape = (
     Bits<Chromaticity, 2, 4>,
-    (
-        Bits<Chromaticity, 2, 4>,
-        (
-            Bits<Chromaticity, 2, 4>,
-            (Bits<Chromaticity, 2, 4>, (U32, Last<U32>)),
-        ),
-    ),
+    Bits<Chromaticity, 2, 4>,
+    Bits<Chromaticity, 2, 4>,
+    Bits<Chromaticity, 2, 4>,
+    (U32, Last<U32>),
 );
 
 impl DeclaredBox for Mdcv {

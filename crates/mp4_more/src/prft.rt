@@ -26,7 +26,7 @@ pub struct Prft {
 }
 
 /// What the box holds: version, flags and three numbers.
-pub type PrftShape = Full<2, (U32, (U64, Last<Time>))>;
+pub type PrftShape = Full<2, (U32, U64, Last<Time>)>;
 
 impl DeclaredBox for Prft {
     ghost use Rattle.mp4_more.specs.contracts.prft.Prft.{struct};

@@ -33,7 +33,8 @@ pub type PsshShape = Full<
     2,
     (
         Array<16>,
-        (If<FromVersion<1>, Rows<U32, 16>>, Last<Bytes<U32>>),
+        If<FromVersion<1>, Rows<U32, 16>>,
+        Last<Bytes<U32>>,
     ),
 >;
 

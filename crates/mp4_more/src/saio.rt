@@ -165,13 +165,7 @@ pub struct Saio {
 
 /// What the box holds: version, flags, a code and a number if flag 1 is set, and a count of 32 bits and that many
 /// offsets, which are longer in version 1.
-pub type SaioShape = Full<
-    2,
-    (
-        If<IfFlags<1>, Code>,
-        (If<IfFlags<1>, U32>, Last<SaioOffsets>),
-    ),
->;
+pub type SaioShape = Full<2, (If<IfFlags<1>, Code>, If<IfFlags<1>, U32>, Last<SaioOffsets>)>;
 
 impl DeclaredBox for Saio {
     ghost use Rattle.mp4_more.specs.contracts.saio.Saio.{struct};

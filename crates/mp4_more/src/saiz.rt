@@ -40,7 +40,10 @@ pub type SaizShape = Full<
     1,
     (
         If<IfFlags<1>, Code>,
-        (If<IfFlags<1>, U32>, (U8, (U32, Last<Rest>))),
+        If<IfFlags<1>, U32>,
+        U8,
+        U32,
+        Last<Rest>,
     ),
 >;
 

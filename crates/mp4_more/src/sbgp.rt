@@ -66,7 +66,8 @@ pub type SbgpShape = Full<
     2,
     (
         Code,
-        (If<FromVersion<1>, U32>, Last<List<U32, SbgpEntry, 2, 8>>),
+        If<FromVersion<1>, U32>,
+        Last<List<U32, SbgpEntry, 2, 8>>,
     ),
 >;
 

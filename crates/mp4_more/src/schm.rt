@@ -28,7 +28,7 @@ pub struct Schm {
 }
 
 /// What the box holds: version, flags, a code, a number, and bytes if flag 1 is set.
-pub type SchmShape = Full<1, (Code, (U32, Last<If<IfFlags<1>, Rest>>))>;
+pub type SchmShape = Full<1, (Code, U32, Last<If<IfFlags<1>, Rest>>)>;
 
 impl DeclaredBox for Schm {
     ghost use Rattle.mp4_more.specs.contracts.schm.Schm.{struct};

@@ -40,10 +40,10 @@ pub type SgpdShape = Full<
     3,
     (
         Code,
-        (
-            If<FromVersion<1>, U32>,
-            (If<FromVersion<2>, U32>, (U32, Last<Rest>)),
-        ),
+        If<FromVersion<1>, U32>,
+        If<FromVersion<2>, U32>,
+        U32,
+        Last<Rest>,
     ),
 >;
 

@@ -24,7 +24,7 @@ pub struct Styp {
 }
 
 /// What the box holds: a code, a number, and codes up to its end.
-pub type StypShape = (Code, (U32, Last<Codes>));
+pub type StypShape = (Code, U32, Last<Codes>);
 
 impl DeclaredBox for Styp {
     ghost use Rattle.mp4_more.specs.contracts.styp.Styp.{struct};

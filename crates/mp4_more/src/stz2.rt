@@ -29,7 +29,7 @@ pub struct Stz2 {
 }
 
 /// What the box holds: version, flags, three reserved bytes, two numbers, and bytes up to its end.
-pub type Stz2Shape = Full<1, Reserved<3, (U8, (U32, Last<Rest>))>>;
+pub type Stz2Shape = Full<1, Reserved<3, (U8, U32, Last<Rest>)>>;
 
 impl DeclaredBox for Stz2 {
     ghost use Rattle.mp4_more.specs.contracts.stz2.Stz2.{struct};

@@ -75,7 +75,10 @@ pub type TencShape = Full<
         1,
         (
             OrZeros<FromVersion<1>, Bits<TencPattern, 2, 1>, 1>,
-            (U8, (U8, (Array<16>, Last<Rest>))),
+            U8,
+            U8,
+            Array<16>,
+            Last<Rest>,
         ),
     >,
 >;

@@ -69,7 +69,7 @@ pub struct Tfra {
 }
 
 /// What the box holds: version, flags, a number, four bytes of bits, a number, and bytes up to its end.
-pub type TfraShape = Full<2, (U32, (Bits<TfraLengths, 4, 4>, (U32, Last<Rest>)))>;
+pub type TfraShape = Full<2, (U32, Bits<TfraLengths, 4, 4>, U32, Last<Rest>)>;
 
 impl DeclaredBox for Tfra {
     ghost use Rattle.mp4_more.specs.contracts.tfra.Tfra.{struct};

@@ -62,7 +62,7 @@ pub struct Outer {
 impl DeclaredBox for Outer {
     ghost use Rattle.test_more.specs.contracts.children.Outer.{struct};
 
-    type Shape = (U8, (Child<Inner>, Last<U16>));
+    type Shape = (U8, Child<Inner>, Last<U16>);
 
     ghost CODE = { OUTR };
 

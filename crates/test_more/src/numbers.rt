@@ -66,10 +66,10 @@ pub struct Numbers {
 }
 
 /// The last parts: signed numbers, and bits.
-pub type Signed = (I8, (I16, (I32, Last<Bits<Packed, 3, 2>>)));
+pub type Signed = (I8, I16, I32, Last<Bits<Packed, 3, 2>>);
 
 /// What the box holds: a number of each width, and bits.
-pub type NumbersShape = (U8, (U16, (U24, Signed)));
+pub type NumbersShape = (U8, U16, U24, Signed);
 
 impl DeclaredBox for Numbers {
     ghost use Rattle.test_more.specs.contracts.numbers.Numbers.{struct};

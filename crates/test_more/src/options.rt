@@ -28,7 +28,7 @@ pub struct Options {
 }
 
 /// What the box holds: version, flags, a number under a flag, one under two, and a byte.
-pub type OptionsShape = Full<1, (If<IfFlags<1>, U32>, (If<IfFlags<0x80_0002>, U16>, Last<U8>))>;
+pub type OptionsShape = Full<1, (If<IfFlags<1>, U32>, If<IfFlags<0x80_0002>, U16>, Last<U8>)>;
 
 impl DeclaredBox for Options {
     ghost use Rattle.test_more.specs.contracts.options.Options.{struct};

@@ -27,10 +27,7 @@ pub struct Runs {
 }
 
 /// What the box holds: bytes, rows and entries after their counts, and bytes up to its end.
-pub type RunsShape = (
-    Bytes<U8>,
-    (Rows<U16, 3>, (List<U8, Packed, 3, 2>, Last<Rest>)),
-);
+pub type RunsShape = (Bytes<U8>, Rows<U16, 3>, List<U8, Packed, 3, 2>, Last<Rest>);
 
 impl DeclaredBox for Runs {
     ghost use Rattle.test_more.specs.contracts.runs.Runs.{struct};

@@ -20,7 +20,7 @@ pub struct Strings {
 }
 
 /// What the box holds: a string, a name in its field, and a string.
-pub type StringsShape = (Terminated, (Pascal<4>, Last<Terminated>));
+pub type StringsShape = (Terminated, Pascal<4>, Last<Terminated>);
 
 impl DeclaredBox for Strings {
     ghost use Rattle.test_more.specs.contracts.strings.Strings.{struct};
