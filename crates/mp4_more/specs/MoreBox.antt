@@ -1,6 +1,6 @@
 -- A box of one of the types of this crate is read and written as its type says.
-use Rattle.std.specs.Prelude.{ℕ, List, Option, None, Some}
-use Rattle.mp4_stream.specs.Author.{Shape, OwnLayout, reads_declared, format_declared, Format, Reading}
+use Rattle.std.specs.Prelude.{◌≡◌, ℕ, true, List, Option, None, Some}
+use Rattle.mp4_stream.specs.Author.{Shape, IsShape, OwnLayout, reads_declared, format_declared, Format, Reading}
 use Rattle.mp4_stream.specs.Author.{BoxType, code_of, Kind, kind, Known, Unknown, Is, Inside, boxed}
 use Rattle.mp4_more.specs.MoreType.{code_of_type, type_of_code}
 use Rattle.mp4_more.specs.declared.more_type.MoreType.{MoreType}
@@ -131,9 +131,19 @@ pub record Declaration (code : ℕ) (V : Type 0) : Type 1 where
   pub Content : Type 0
   pub shape : Shape Content
   pub layout : OwnLayout code Content V
+  pub laws : IsShape shape
+  pub valid : shape.valid ≡ true
 
-abbrev pub declaration : {code : ℕ} {A V : Type 0} → Shape A → OwnLayout code A V → Declaration code V
-declaration {code} {A} shape layout = record { Content = A; shape = shape; layout = layout }
+-- the declaration of a shape that has these laws
+abbrev pub shaped : {code : ℕ} {A V : Type 0} {shape : Shape A} → IsShape shape → OwnLayout code A V
+    → shape.valid ≡ true → Declaration code V
+shaped {code} {A} {V} {shape} laws layout valid = record {
+  Content = A;
+  shape = shape;
+  layout = layout;
+  laws = laws;
+  valid = valid;
+}
 
 abbrev pub Declarations : Type 1
 Declarations = (t : MoreType) → Declaration (code_of_type t) (FieldsOf t)
@@ -158,37 +168,4 @@ module _ (declared : Declarations) where
 
   -- the box inside, and its format
   abbrev pub inside : MoreBox → Inside MoreBox
-  inside (more.Av1cBox fields) = boxed (format_more types.Av1cBox) more.Av1cBox fields
-  inside (more.BtrtBox fields) = boxed (format_more types.BtrtBox) more.BtrtBox fields
-  inside (more.ClapBox fields) = boxed (format_more types.ClapBox) more.ClapBox fields
-  inside (more.ClliBox fields) = boxed (format_more types.ClliBox) more.ClliBox fields
-  inside (more.ColrBox fields) = boxed (format_more types.ColrBox) more.ColrBox fields
-  inside (more.CslgBox fields) = boxed (format_more types.CslgBox) more.CslgBox fields
-  inside (more.Dac3Box fields) = boxed (format_more types.Dac3Box) more.Dac3Box fields
-  inside (more.Dec3Box fields) = boxed (format_more types.Dec3Box) more.Dec3Box fields
-  inside (more.DflaBox fields) = boxed (format_more types.DflaBox) more.DflaBox fields
-  inside (more.DopsBox fields) = boxed (format_more types.DopsBox) more.DopsBox fields
-  inside (more.ElngBox fields) = boxed (format_more types.ElngBox) more.ElngBox fields
-  inside (more.FrmaBox fields) = boxed (format_more types.FrmaBox) more.FrmaBox fields
-  inside (more.KeysBox fields) = boxed (format_more types.KeysBox) more.KeysBox fields
-  inside (more.KindBox fields) = boxed (format_more types.KindBox) more.KindBox fields
-  inside (more.MdcvBox fields) = boxed (format_more types.MdcvBox) more.MdcvBox fields
-  inside (more.MfroBox fields) = boxed (format_more types.MfroBox) more.MfroBox fields
-  inside (more.NmhdBox fields) = boxed (format_more types.NmhdBox) more.NmhdBox fields
-  inside (more.PaspBox fields) = boxed (format_more types.PaspBox) more.PaspBox fields
-  inside (more.PrftBox fields) = boxed (format_more types.PrftBox) more.PrftBox fields
-  inside (more.PsshBox fields) = boxed (format_more types.PsshBox) more.PsshBox fields
-  inside (more.SaioBox fields) = boxed (format_more types.SaioBox) more.SaioBox fields
-  inside (more.SaizBox fields) = boxed (format_more types.SaizBox) more.SaizBox fields
-  inside (more.SbgpBox fields) = boxed (format_more types.SbgpBox) more.SbgpBox fields
-  inside (more.SchmBox fields) = boxed (format_more types.SchmBox) more.SchmBox fields
-  inside (more.SdtpBox fields) = boxed (format_more types.SdtpBox) more.SdtpBox fields
-  inside (more.SencBox fields) = boxed (format_more types.SencBox) more.SencBox fields
-  inside (more.SgpdBox fields) = boxed (format_more types.SgpdBox) more.SgpdBox fields
-  inside (more.SidxBox fields) = boxed (format_more types.SidxBox) more.SidxBox fields
-  inside (more.StypBox fields) = boxed (format_more types.StypBox) more.StypBox fields
-  inside (more.Stz2Box fields) = boxed (format_more types.Stz2Box) more.Stz2Box fields
-  inside (more.SubsBox fields) = boxed (format_more types.SubsBox) more.SubsBox fields
-  inside (more.TencBox fields) = boxed (format_more types.TencBox) more.TencBox fields
-  inside (more.TfraBox fields) = boxed (format_more types.TfraBox) more.TfraBox fields
-  inside (more.TrefBox fields) = boxed (format_more types.TrefBox) more.TrefBox fields
+  inside v = boxed (format_more (opened v).0) (wrap (opened v).0) (opened v).1

@@ -1,6 +1,6 @@
 -- The laws of a box of one of the types of this crate follow from the laws of its type.
-use Rattle.std.proofs.Common.{◌≡◌, ℕ, true, Option, None, Some, refl, sym, ap, subst, ◌∙◌}
-use Rattle.mp4_stream.specs.Author.{IsShape, laws_declared, BoxType, Held, holds, held_inside}
+use Rattle.std.proofs.Common.{◌≡◌, ℕ, Option, None, Some, refl, sym, ap, subst, ◌∙◌}
+use Rattle.mp4_stream.specs.Author.{laws_declared, BoxType, Held, holds, held_inside}
 use Rattle.mp4_stream.specs.Author.{IsMember, member, NamedAsRead}
 use Rattle.mp4_stream.specs.Author.names
 use Rattle.mp4_frame.specs.Members.{ValueOf, name_of_value}
@@ -11,10 +11,6 @@ use Rattle.mp4_more.specs.declared.more_type.MoreType.{MoreType}
 use Rattle.mp4_more.specs.declared.more_type.MoreType.TheVariants as types
 use Rattle.mp4_more.specs.declared.more_box.MoreBox.{MoreBox}
 use Rattle.mp4_more.specs.declared.more_box.MoreBox.TheVariants as more
-
--- what is declared for a type has the laws of a shape
-abbrev pub AreShapes : Declarations → Type 0
-AreShapes declared = (t : MoreType) → IsShape (declared t).shape × ((declared t).shape.valid ≡ true)
 
 reopened : (v : MoreBox) → wrap (opened v).0 (opened v).1 ≡ v
 reopened (more.Av1cBox fields) = refl
@@ -28,14 +24,14 @@ module _ (declared : Declarations) where
   is_held types.Av1cBox x = refl
   is_held _ x = refl
 
-  module _ (are : AreShapes declared) where
-    of_type : (t : MoreType) (x : FieldsOf t) → IsMember (kinds declared) held (wrap t x)
-    of_type t x =
-        member (kinds declared) held (wrap t) (laws_declared (declared t).shape (are t).0 (declared t).layout (are t).1)
-        (is_held t) (λ _. ap (known_as declared) (type_found t)) (λ _. (declared t).layout.own) x
+  of_type : (t : MoreType) (x : FieldsOf t) → IsMember (kinds declared) held (wrap t x)
+  of_type t x =
+      member (kinds declared) held (wrap t)
+      (laws_declared (declared t).shape (declared t).laws (declared t).layout (declared t).valid) (is_held t)
+      (λ _. ap (known_as declared) (type_found t)) (λ _. (declared t).layout.own) x
 
-    pub members : (v : MoreBox) → IsMember (kinds declared) held v
-    members v = subst (IsMember (kinds declared) held) (reopened v) (of_type (opened v).0 (opened v).1)
+  pub members : (v : MoreBox) → IsMember (kinds declared) held v
+  members v = subst (IsMember (kinds declared) held) (reopened v) (of_type (opened v).0 (opened v).1)
 
   named_as : (code : ℕ) (found : Option MoreType) → type_of_code code ≡ found → (x : ValueOf (known_as declared found))
       → name_of_value held (names.UnknownBox code) (known_as declared found) x ≡ names.UnknownBox code

@@ -4,7 +4,7 @@ ghost use Rattle.std.specs.Prelude.{◌≡◌, ◌+◌, ◌-◌, ◌≤◌, OnOk
 ghost use Rattle.std.proofs.Common.{refl};
 ghost use Rattle.mp4_stream.specs.Author.{Answers, reading_known, Is};
 ghost use Rattle.mp4_more.specs.AllBoxes.{by_code};
-ghost use Rattle.mp4_more.specs.MoreBox.{Declarations, declaration, kind_of, kinds, inside};
+ghost use Rattle.mp4_more.specs.MoreBox.{Declarations, shaped, kind_of, kinds, inside};
 ghost use Rattle.mp4_more.specs.MoreBoxLaws.{members, named};
 ghost use Rattle.mp4_more.specs.declared.more_type.MoreType.TheVariants as types;
 ghost use Rattle.mp4_more.specs.declared.more_box.MoreBox.TheVariants as more;
@@ -133,40 +133,40 @@ trait Declares {
 
 impl Declares for MoreBox {
     ghost declared = { elim [
-      | types.Av1cBox ↦ declaration ⟦<<Av1c as DeclaredBox>::Shape as Shape>⟧.shape ⟦<Av1c as DeclaredBox>⟧.layout
-      | types.BtrtBox ↦ declaration ⟦<<Btrt as DeclaredBox>::Shape as Shape>⟧.shape ⟦<Btrt as DeclaredBox>⟧.layout
-      | types.ClapBox ↦ declaration ⟦<<Clap as DeclaredBox>::Shape as Shape>⟧.shape ⟦<Clap as DeclaredBox>⟧.layout
-      | types.ClliBox ↦ declaration ⟦<<Clli as DeclaredBox>::Shape as Shape>⟧.shape ⟦<Clli as DeclaredBox>⟧.layout
-      | types.ColrBox ↦ declaration ⟦<<Colr as DeclaredBox>::Shape as Shape>⟧.shape ⟦<Colr as DeclaredBox>⟧.layout
-      | types.CslgBox ↦ declaration ⟦<<Cslg as DeclaredBox>::Shape as Shape>⟧.shape ⟦<Cslg as DeclaredBox>⟧.layout
-      | types.Dac3Box ↦ declaration ⟦<<Dac3 as DeclaredBox>::Shape as Shape>⟧.shape ⟦<Dac3 as DeclaredBox>⟧.layout
-      | types.Dec3Box ↦ declaration ⟦<<Dec3 as DeclaredBox>::Shape as Shape>⟧.shape ⟦<Dec3 as DeclaredBox>⟧.layout
-      | types.DflaBox ↦ declaration ⟦<<Dfla as DeclaredBox>::Shape as Shape>⟧.shape ⟦<Dfla as DeclaredBox>⟧.layout
-      | types.DopsBox ↦ declaration ⟦<<Dops as DeclaredBox>::Shape as Shape>⟧.shape ⟦<Dops as DeclaredBox>⟧.layout
-      | types.ElngBox ↦ declaration ⟦<<Elng as DeclaredBox>::Shape as Shape>⟧.shape ⟦<Elng as DeclaredBox>⟧.layout
-      | types.FrmaBox ↦ declaration ⟦<<Frma as DeclaredBox>::Shape as Shape>⟧.shape ⟦<Frma as DeclaredBox>⟧.layout
-      | types.KeysBox ↦ declaration ⟦<<Keys as DeclaredBox>::Shape as Shape>⟧.shape ⟦<Keys as DeclaredBox>⟧.layout
-      | types.KindBox ↦ declaration ⟦<<Kind as DeclaredBox>::Shape as Shape>⟧.shape ⟦<Kind as DeclaredBox>⟧.layout
-      | types.MdcvBox ↦ declaration ⟦<<Mdcv as DeclaredBox>::Shape as Shape>⟧.shape ⟦<Mdcv as DeclaredBox>⟧.layout
-      | types.MfroBox ↦ declaration ⟦<<Mfro as DeclaredBox>::Shape as Shape>⟧.shape ⟦<Mfro as DeclaredBox>⟧.layout
-      | types.NmhdBox ↦ declaration ⟦<<Nmhd as DeclaredBox>::Shape as Shape>⟧.shape ⟦<Nmhd as DeclaredBox>⟧.layout
-      | types.PaspBox ↦ declaration ⟦<<Pasp as DeclaredBox>::Shape as Shape>⟧.shape ⟦<Pasp as DeclaredBox>⟧.layout
-      | types.PrftBox ↦ declaration ⟦<<Prft as DeclaredBox>::Shape as Shape>⟧.shape ⟦<Prft as DeclaredBox>⟧.layout
-      | types.PsshBox ↦ declaration ⟦<<Pssh as DeclaredBox>::Shape as Shape>⟧.shape ⟦<Pssh as DeclaredBox>⟧.layout
-      | types.SaioBox ↦ declaration ⟦<<Saio as DeclaredBox>::Shape as Shape>⟧.shape ⟦<Saio as DeclaredBox>⟧.layout
-      | types.SaizBox ↦ declaration ⟦<<Saiz as DeclaredBox>::Shape as Shape>⟧.shape ⟦<Saiz as DeclaredBox>⟧.layout
-      | types.SbgpBox ↦ declaration ⟦<<Sbgp as DeclaredBox>::Shape as Shape>⟧.shape ⟦<Sbgp as DeclaredBox>⟧.layout
-      | types.SchmBox ↦ declaration ⟦<<Schm as DeclaredBox>::Shape as Shape>⟧.shape ⟦<Schm as DeclaredBox>⟧.layout
-      | types.SdtpBox ↦ declaration ⟦<<Sdtp as DeclaredBox>::Shape as Shape>⟧.shape ⟦<Sdtp as DeclaredBox>⟧.layout
-      | types.SencBox ↦ declaration ⟦<<Senc as DeclaredBox>::Shape as Shape>⟧.shape ⟦<Senc as DeclaredBox>⟧.layout
-      | types.SgpdBox ↦ declaration ⟦<<Sgpd as DeclaredBox>::Shape as Shape>⟧.shape ⟦<Sgpd as DeclaredBox>⟧.layout
-      | types.SidxBox ↦ declaration ⟦<<Sidx as DeclaredBox>::Shape as Shape>⟧.shape ⟦<Sidx as DeclaredBox>⟧.layout
-      | types.StypBox ↦ declaration ⟦<<Styp as DeclaredBox>::Shape as Shape>⟧.shape ⟦<Styp as DeclaredBox>⟧.layout
-      | types.Stz2Box ↦ declaration ⟦<<Stz2 as DeclaredBox>::Shape as Shape>⟧.shape ⟦<Stz2 as DeclaredBox>⟧.layout
-      | types.SubsBox ↦ declaration ⟦<<Subs as DeclaredBox>::Shape as Shape>⟧.shape ⟦<Subs as DeclaredBox>⟧.layout
-      | types.TencBox ↦ declaration ⟦<<Tenc as DeclaredBox>::Shape as Shape>⟧.shape ⟦<Tenc as DeclaredBox>⟧.layout
-      | types.TfraBox ↦ declaration ⟦<<Tfra as DeclaredBox>::Shape as Shape>⟧.shape ⟦<Tfra as DeclaredBox>⟧.layout
-      | types.TrefBox ↦ declaration ⟦<<Tref as DeclaredBox>::Shape as Shape>⟧.shape ⟦<Tref as DeclaredBox>⟧.layout
+      | types.Av1cBox ↦ shaped ⟦<<Av1c as DeclaredBox>::Shape as Shape>⟧.shape_laws ⟦<Av1c as DeclaredBox>⟧.layout refl
+      | types.BtrtBox ↦ shaped ⟦<<Btrt as DeclaredBox>::Shape as Shape>⟧.shape_laws ⟦<Btrt as DeclaredBox>⟧.layout refl
+      | types.ClapBox ↦ shaped ⟦<<Clap as DeclaredBox>::Shape as Shape>⟧.shape_laws ⟦<Clap as DeclaredBox>⟧.layout refl
+      | types.ClliBox ↦ shaped ⟦<<Clli as DeclaredBox>::Shape as Shape>⟧.shape_laws ⟦<Clli as DeclaredBox>⟧.layout refl
+      | types.ColrBox ↦ shaped ⟦<<Colr as DeclaredBox>::Shape as Shape>⟧.shape_laws ⟦<Colr as DeclaredBox>⟧.layout refl
+      | types.CslgBox ↦ shaped ⟦<<Cslg as DeclaredBox>::Shape as Shape>⟧.shape_laws ⟦<Cslg as DeclaredBox>⟧.layout refl
+      | types.Dac3Box ↦ shaped ⟦<<Dac3 as DeclaredBox>::Shape as Shape>⟧.shape_laws ⟦<Dac3 as DeclaredBox>⟧.layout refl
+      | types.Dec3Box ↦ shaped ⟦<<Dec3 as DeclaredBox>::Shape as Shape>⟧.shape_laws ⟦<Dec3 as DeclaredBox>⟧.layout refl
+      | types.DflaBox ↦ shaped ⟦<<Dfla as DeclaredBox>::Shape as Shape>⟧.shape_laws ⟦<Dfla as DeclaredBox>⟧.layout refl
+      | types.DopsBox ↦ shaped ⟦<<Dops as DeclaredBox>::Shape as Shape>⟧.shape_laws ⟦<Dops as DeclaredBox>⟧.layout refl
+      | types.ElngBox ↦ shaped ⟦<<Elng as DeclaredBox>::Shape as Shape>⟧.shape_laws ⟦<Elng as DeclaredBox>⟧.layout refl
+      | types.FrmaBox ↦ shaped ⟦<<Frma as DeclaredBox>::Shape as Shape>⟧.shape_laws ⟦<Frma as DeclaredBox>⟧.layout refl
+      | types.KeysBox ↦ shaped ⟦<<Keys as DeclaredBox>::Shape as Shape>⟧.shape_laws ⟦<Keys as DeclaredBox>⟧.layout refl
+      | types.KindBox ↦ shaped ⟦<<Kind as DeclaredBox>::Shape as Shape>⟧.shape_laws ⟦<Kind as DeclaredBox>⟧.layout refl
+      | types.MdcvBox ↦ shaped ⟦<<Mdcv as DeclaredBox>::Shape as Shape>⟧.shape_laws ⟦<Mdcv as DeclaredBox>⟧.layout refl
+      | types.MfroBox ↦ shaped ⟦<<Mfro as DeclaredBox>::Shape as Shape>⟧.shape_laws ⟦<Mfro as DeclaredBox>⟧.layout refl
+      | types.NmhdBox ↦ shaped ⟦<<Nmhd as DeclaredBox>::Shape as Shape>⟧.shape_laws ⟦<Nmhd as DeclaredBox>⟧.layout refl
+      | types.PaspBox ↦ shaped ⟦<<Pasp as DeclaredBox>::Shape as Shape>⟧.shape_laws ⟦<Pasp as DeclaredBox>⟧.layout refl
+      | types.PrftBox ↦ shaped ⟦<<Prft as DeclaredBox>::Shape as Shape>⟧.shape_laws ⟦<Prft as DeclaredBox>⟧.layout refl
+      | types.PsshBox ↦ shaped ⟦<<Pssh as DeclaredBox>::Shape as Shape>⟧.shape_laws ⟦<Pssh as DeclaredBox>⟧.layout refl
+      | types.SaioBox ↦ shaped ⟦<<Saio as DeclaredBox>::Shape as Shape>⟧.shape_laws ⟦<Saio as DeclaredBox>⟧.layout refl
+      | types.SaizBox ↦ shaped ⟦<<Saiz as DeclaredBox>::Shape as Shape>⟧.shape_laws ⟦<Saiz as DeclaredBox>⟧.layout refl
+      | types.SbgpBox ↦ shaped ⟦<<Sbgp as DeclaredBox>::Shape as Shape>⟧.shape_laws ⟦<Sbgp as DeclaredBox>⟧.layout refl
+      | types.SchmBox ↦ shaped ⟦<<Schm as DeclaredBox>::Shape as Shape>⟧.shape_laws ⟦<Schm as DeclaredBox>⟧.layout refl
+      | types.SdtpBox ↦ shaped ⟦<<Sdtp as DeclaredBox>::Shape as Shape>⟧.shape_laws ⟦<Sdtp as DeclaredBox>⟧.layout refl
+      | types.SencBox ↦ shaped ⟦<<Senc as DeclaredBox>::Shape as Shape>⟧.shape_laws ⟦<Senc as DeclaredBox>⟧.layout refl
+      | types.SgpdBox ↦ shaped ⟦<<Sgpd as DeclaredBox>::Shape as Shape>⟧.shape_laws ⟦<Sgpd as DeclaredBox>⟧.layout refl
+      | types.SidxBox ↦ shaped ⟦<<Sidx as DeclaredBox>::Shape as Shape>⟧.shape_laws ⟦<Sidx as DeclaredBox>⟧.layout refl
+      | types.StypBox ↦ shaped ⟦<<Styp as DeclaredBox>::Shape as Shape>⟧.shape_laws ⟦<Styp as DeclaredBox>⟧.layout refl
+      | types.Stz2Box ↦ shaped ⟦<<Stz2 as DeclaredBox>::Shape as Shape>⟧.shape_laws ⟦<Stz2 as DeclaredBox>⟧.layout refl
+      | types.SubsBox ↦ shaped ⟦<<Subs as DeclaredBox>::Shape as Shape>⟧.shape_laws ⟦<Subs as DeclaredBox>⟧.layout refl
+      | types.TencBox ↦ shaped ⟦<<Tenc as DeclaredBox>::Shape as Shape>⟧.shape_laws ⟦<Tenc as DeclaredBox>⟧.layout refl
+      | types.TfraBox ↦ shaped ⟦<<Tfra as DeclaredBox>::Shape as Shape>⟧.shape_laws ⟦<Tfra as DeclaredBox>⟧.layout refl
+      | types.TrefBox ↦ shaped ⟦<<Tref as DeclaredBox>::Shape as Shape>⟧.shape_laws ⟦<Tref as DeclaredBox>⟧.layout refl
     ] };
 }
 
@@ -187,42 +187,7 @@ impl BoxEnum for MoreBox {
 
     ghost inside = { inside ⟦<MoreBox as Declares>⟧.declared };
 
-    ghost members = { members ⟦<MoreBox as Declares>⟧.declared (elim [
-      | types.Av1cBox ↦ (⟦<<Av1c as DeclaredBox>::Shape as Shape>⟧.shape_laws, refl)
-      | types.BtrtBox ↦ (⟦<<Btrt as DeclaredBox>::Shape as Shape>⟧.shape_laws, refl)
-      | types.ClapBox ↦ (⟦<<Clap as DeclaredBox>::Shape as Shape>⟧.shape_laws, refl)
-      | types.ClliBox ↦ (⟦<<Clli as DeclaredBox>::Shape as Shape>⟧.shape_laws, refl)
-      | types.ColrBox ↦ (⟦<<Colr as DeclaredBox>::Shape as Shape>⟧.shape_laws, refl)
-      | types.CslgBox ↦ (⟦<<Cslg as DeclaredBox>::Shape as Shape>⟧.shape_laws, refl)
-      | types.Dac3Box ↦ (⟦<<Dac3 as DeclaredBox>::Shape as Shape>⟧.shape_laws, refl)
-      | types.Dec3Box ↦ (⟦<<Dec3 as DeclaredBox>::Shape as Shape>⟧.shape_laws, refl)
-      | types.DflaBox ↦ (⟦<<Dfla as DeclaredBox>::Shape as Shape>⟧.shape_laws, refl)
-      | types.DopsBox ↦ (⟦<<Dops as DeclaredBox>::Shape as Shape>⟧.shape_laws, refl)
-      | types.ElngBox ↦ (⟦<<Elng as DeclaredBox>::Shape as Shape>⟧.shape_laws, refl)
-      | types.FrmaBox ↦ (⟦<<Frma as DeclaredBox>::Shape as Shape>⟧.shape_laws, refl)
-      | types.KeysBox ↦ (⟦<<Keys as DeclaredBox>::Shape as Shape>⟧.shape_laws, refl)
-      | types.KindBox ↦ (⟦<<Kind as DeclaredBox>::Shape as Shape>⟧.shape_laws, refl)
-      | types.MdcvBox ↦ (⟦<<Mdcv as DeclaredBox>::Shape as Shape>⟧.shape_laws, refl)
-      | types.MfroBox ↦ (⟦<<Mfro as DeclaredBox>::Shape as Shape>⟧.shape_laws, refl)
-      | types.NmhdBox ↦ (⟦<<Nmhd as DeclaredBox>::Shape as Shape>⟧.shape_laws, refl)
-      | types.PaspBox ↦ (⟦<<Pasp as DeclaredBox>::Shape as Shape>⟧.shape_laws, refl)
-      | types.PrftBox ↦ (⟦<<Prft as DeclaredBox>::Shape as Shape>⟧.shape_laws, refl)
-      | types.PsshBox ↦ (⟦<<Pssh as DeclaredBox>::Shape as Shape>⟧.shape_laws, refl)
-      | types.SaioBox ↦ (⟦<<Saio as DeclaredBox>::Shape as Shape>⟧.shape_laws, refl)
-      | types.SaizBox ↦ (⟦<<Saiz as DeclaredBox>::Shape as Shape>⟧.shape_laws, refl)
-      | types.SbgpBox ↦ (⟦<<Sbgp as DeclaredBox>::Shape as Shape>⟧.shape_laws, refl)
-      | types.SchmBox ↦ (⟦<<Schm as DeclaredBox>::Shape as Shape>⟧.shape_laws, refl)
-      | types.SdtpBox ↦ (⟦<<Sdtp as DeclaredBox>::Shape as Shape>⟧.shape_laws, refl)
-      | types.SencBox ↦ (⟦<<Senc as DeclaredBox>::Shape as Shape>⟧.shape_laws, refl)
-      | types.SgpdBox ↦ (⟦<<Sgpd as DeclaredBox>::Shape as Shape>⟧.shape_laws, refl)
-      | types.SidxBox ↦ (⟦<<Sidx as DeclaredBox>::Shape as Shape>⟧.shape_laws, refl)
-      | types.StypBox ↦ (⟦<<Styp as DeclaredBox>::Shape as Shape>⟧.shape_laws, refl)
-      | types.Stz2Box ↦ (⟦<<Stz2 as DeclaredBox>::Shape as Shape>⟧.shape_laws, refl)
-      | types.SubsBox ↦ (⟦<<Subs as DeclaredBox>::Shape as Shape>⟧.shape_laws, refl)
-      | types.TencBox ↦ (⟦<<Tenc as DeclaredBox>::Shape as Shape>⟧.shape_laws, refl)
-      | types.TfraBox ↦ (⟦<<Tfra as DeclaredBox>::Shape as Shape>⟧.shape_laws, refl)
-      | types.TrefBox ↦ (⟦<<Tref as DeclaredBox>::Shape as Shape>⟧.shape_laws, refl)
-    ]) };
+    ghost members = { members ⟦<MoreBox as Declares>⟧.declared };
 
     fn holds(name: BoxType) -> bool {
         MoreType::of_code(u32::from(name)).is_some()
