@@ -440,7 +440,7 @@ class Lines:
         for index, entry in enumerate(entries[:self.rows]):
             self.lines.append(f"{' ' * (indent + 4)}{index + 1}:")
             if isinstance(entry, dict):
-                self.fields(entry, "sample" if name == "samples" else within, indent, " ")
+                self.fields(entry, "sample" if name == "samples" else within, indent + 4, " ")
             else:
                 self.lines[-1] += " " + value_text(name, entry, within)
         if 0 < self.rows < len(entries):

@@ -18,6 +18,15 @@ enum Before {
     Line,
 }
 
+/// A list whose entries are handed over.
+#[derive(Clone, Copy, Debug, PartialEq, Eq)]
+struct List {
+    /// How many entries it has.
+    total: usize,
+    /// How many of them are shown so far.
+    shown: usize,
+}
+
 /// Takes the fields of a box as text.
 #[derive(Drop)]
 pub struct TextSink {
@@ -28,8 +37,8 @@ pub struct TextSink {
     indent: usize,
     column: usize,
     before: Before,
-    total: usize,
-    shown: usize,
+    /// The lists that are begun and not ended, each in an entry of the one before it.
+    lists: Vec<List>,
 }
 
 /// Appends a text in a colour, if colours are wanted. The colour is a number of ECMA-48, "select graphic rendition".
@@ -62,8 +71,7 @@ impl TextSink {
             indent: 0,
             column: 0,
             before: Before::Space,
-            total: 0,
-            shown: 0,
+            lists: Vec::new(alloc),
         }
     }
 
@@ -73,8 +81,7 @@ impl TextSink {
         self.indent = 2 * depth.min(64) as usize;
         self.column = column;
         self.before = Before::Space;
-        self.total = 0;
-        self.shown = 0;
+        self.lists.clear();
     }
 
     /// Ends the last line.
@@ -108,6 +115,11 @@ impl TextSink {
         self.spaces(self.indent.saturating_add(further))
     }
 
+    /// How much further in than the box's line those of the entries are, of the last list that is begun.
+    fn further(&self) -> usize {
+        self.lists.len().saturating_mul(4)
+    }
+
     /// Appends a text that no line break comes before.
     fn write(&mut self, text: &str) -> Result<()> {
         self.text.push_str(text)?;
@@ -125,13 +137,13 @@ impl TextSink {
     fn put(&mut self, text: &str) -> Result<()> {
         let room = self.look.width.saturating_sub(self.column);
         match self.before {
-            Before::Line => self.next_line(2)?,
+            Before::Line => self.next_line(self.further().saturating_add(2))?,
             Before::Space if room > columns(text) => self.write(" ")?,
-            Before::Space => self.next_line(4)?,
+            Before::Space => self.next_line(self.further().max(4))?,
             Before::Comma if room > columns(text).saturating_add(2) => self.write(", ")?,
             Before::Comma => {
                 self.write(",")?;
-                self.next_line(4)?;
+                self.next_line(self.further().max(4))?;
             }
         }
         self.before = Before::Comma;
@@ -161,19 +173,45 @@ impl TextSink {
         Ok(())
     }
 
-    /// Begins the line of an entry.
-    fn entry_line(&mut self) -> Result<()> {
-        self.shown = self.shown.saturating_add(1);
-        self.next_line(4)?;
-        self.piece.clear();
-        push_number(self.shown as u64, &mut self.piece)?;
-        self.piece.push(':')?;
-        self.before = Before::Space;
+    /// Appends the piece that was made, as what begins a line.
+    fn write_piece(&mut self) -> Result<()> {
         let alloc = self.alloc;
         let piece = std::mem::replace(&mut self.piece, String::new(alloc));
         let done = self.write(piece.as_str());
         self.piece = piece;
         done
+    }
+
+    /// Counts an entry of the last list that is begun. Returns which one it is, from 1 on.
+    fn count_entry(&mut self) -> usize {
+        match self.lists.last_mut() {
+            Some(list) => {
+                list.shown = list.shown.saturating_add(1);
+                list.shown
+            }
+            None => 0,
+        }
+    }
+
+    /// Begins the line of an entry.
+    fn entry_line(&mut self) -> Result<()> {
+        let entry = self.count_entry();
+        self.next_line(self.further())?;
+        self.piece.clear();
+        push_number(entry as u64, &mut self.piece)?;
+        self.piece.push(':')?;
+        self.before = Before::Space;
+        self.write_piece()
+    }
+
+    /// Appends a line that says how many entries of the last list aren't shown, so many.
+    fn more_line(&mut self, more: usize) -> Result<()> {
+        self.next_line(self.further())?;
+        self.piece.clear();
+        self.piece.push_str(".. ")?;
+        push_number(more as u64, &mut self.piece)?;
+        self.piece.push_str(" more")?;
+        self.write_piece()
     }
 }
 
@@ -206,13 +244,13 @@ impl FieldSink for TextSink {
     }
 
     fn begin_list(&mut self, name: &str, total: usize) -> Result<()> {
-        self.total = total;
-        self.shown = 0;
         self.piece.clear();
         self.piece.push_str(name)?;
         self.piece.push_str(": ")?;
         push_number(total as u64, &mut self.piece)?;
-        self.put_piece()
+        self.put_piece()?;
+        self.lists.push(List { total, shown: 0 })?;
+        Ok(())
     }
 
     fn item(&mut self, value: Value<'_>) -> Result<()> {
@@ -231,22 +269,14 @@ impl FieldSink for TextSink {
     }
 
     fn end_list(&mut self) -> Result<()> {
-        if self.shown < self.total && self.shown > 0 {
-            self.next_line(4)?;
-            self.piece.clear();
-            self.piece.push_str(".. ")?;
-            push_number(
-                self.total.saturating_sub(self.shown) as u64,
-                &mut self.piece,
-            )?;
-            self.piece.push_str(" more")?;
-            let alloc = self.alloc;
-            let piece = std::mem::replace(&mut self.piece, String::new(alloc));
-            let done = self.write(piece.as_str());
-            self.piece = piece;
-            done?;
+        let Some(list) = self.lists.last().copied() else {
+            return Ok(());
+        };
+        if list.shown < list.total && list.shown > 0 {
+            self.more_line(list.total.saturating_sub(list.shown))?;
         }
-        self.before = if self.shown > 0 {
+        let _ = self.lists.pop();
+        self.before = if list.shown > 0 {
             Before::Line
         } else {
             Before::Comma
