@@ -259,11 +259,59 @@ def indexed():
             + full(b"tfra", 1, 0, be(4, 3, 0x1B, 1) + be(8, 2**33, 2**34) + be(2, 258) + be(3, 65539) + be(4, 2**31))
             + full(b"tfra", 0, 0, be(4, 3, 0, 2) + first))
     mfro = full(b"mfro", 0, 0, be(4, 24 + len(tfra)))
-    return (styp + sidx + prft + movie(track(3, b"soun", b"", b"und", entries, b"", front=tags)) + keys + box(b"udta", kinds)
-            + box(b"mfra", tfra + mfro))
+    sound_track = track(3, b"soun", b"", b"und", entries, b"", front=tags)
+    return (styp + sidx + prft + movie(sound_track) + keys + box(b"udta", kinds) + box(b"mfra", tfra + mfro))
+
+
+def sounds():
+    """Streams of Enhanced AC-3 and blocks of FLAC: of each three that differ, cut short, one too few, and none."""
+    first, second, third = b"\xa0\xbf\x00", b"\x22\x44\x0b\x45", b"\x4c\x13\x02\x8a"
+    front = be(2, 952 << 3 | 2)
+    streams = [front + first + second + third + b"\x01\x10", front + third + first + second, front + first + second,
+               front + first + third + second[:3], be(2, 640 << 3) + b"\x21\xc4\xe1", be(2, 640 << 3)]
+    entries = [sound(b"ec-3", 0, 6, 16, 48000 << 16, b"", box(b"dec3", stream)) for stream in streams]
+    info = (be(2, 4096, 4608) + be(3, 14, 0x2345) + be(8, 44100 << 44 | 1 << 41 | 23 << 36 | 0x812345678)
+            + bytes(range(0x81, 0x91)))
+    whole = b"\0" + be(3, 34) + info
+    blocks = [whole + b"\4" + be(3, 3) + b"abc" + b"\x81" + be(3, 2) + b"\1\2", whole[:3] + b"\x21" + info[:33],
+              whole + b"\x7f" + be(3, 0) + b"\x89" + be(3, 1) + b"\5", whole + b"\x81" + be(3, 3) + b"\1\2",
+              whole + b"\x81\0\0", b""]
+    entries += [sound(b"fLaC", 0, 2, 24, 44100 << 16, b"", full(b"dfLa", 0, 0, block)) for block in blocks]
+    return ftyp(b"isom", b"isom") + movie(track(2, b"soun", b"", b"und", entries, b""))
+
+
+def groups():
+    """Groups of samples of each kind, with lengths in each place, and the parts of samples; some with one too few."""
+    key = bytes(range(0x81, 0x91))
+    own, shared = b"\0\x19\1\x08" + key, b"\0\x5a\1\0" + key + b"\3\xaa\xbb\xcc"
+
+    def counted(*entries):
+        return b"".join(be(4, len(entry)) + entry for entry in entries)
+
+    kinds = [(1, b"roll", be(4, 2, 3) + be(2, -1, 258, -32768)), (2, b"prol", be(4, 2, 1, 1) + be(2, -772)),
+             (1, b"roll", be(4, 3, 2) + b"\1\2\3\4\5\6"), (1, b"roll", be(4, 2, 3) + be(2, 1, 2)),
+             (1, b"rap ", be(4, 0, 3) + counted(b"\x85", b"\x03", b"\x80")), (0, b"rap ", be(4, 2) + b"\x81\x7f"),
+             (1, b"tele", be(4, 1, 3) + b"\x80\x7f\xff"), (0, b"tele", be(4, 3) + b"\x80\x7f"),
+             (1, b"seig", be(4, 0, 3) + counted(own, shared, own[:19])), (0, b"seig", be(4, 2) + shared + own),
+             (1, b"seig", be(4, 20, 2) + own + shared[:20]), (0, b"seig", be(4, 2) + own + shared[:-1]),
+             (1, b"abcd", be(4, 0, 3) + counted(b"xyz", b"", b"\1\2")), (1, b"abcd", be(4, 2, 2) + b"\1\2\3\4"),
+             (0, b"abcd", be(4, 2) + b"\1\2"), (1, b"abcd", be(4, 0, 2) + counted(b"xyz") + be(4, 2) + b"\1"),
+             (1, b"abcd", be(4, 0, 1) + be(3, 1))]
+    table = b"".join(full(b"sgpd", version, 0, kind + fields) for version, kind, fields in kinds)
+    parts = [(300, b"\1\2", 3), (400, b"\4\1", 2**31), (500, b"\xff\0", 7)]
+    for version in (0, 1):
+        pieces = [be(4 if version else 2, size) + bits + be(4, parameters) for size, bits, parameters in parts]
+        whole = be(4, 9) + be(2, 3) + b"".join(pieces) + be(4, 8) + be(2, 0) + be(4, 2**31) + be(2, 1) + pieces[2]
+        table += b"".join(full(b"subs", version, 5, be(4, count) + rows)
+                          for count, rows in ((3, whole), (2, whole), (4, whole), (3, whole[:-1]), (0, b"")))
+    many = be(4, 1) + be(2, 10) + b"".join(be(2, 20 + n) + b"\1\0" + be(4, n) for n in range(10))
+    table += full(b"subs", 0, 0, be(4, 1) + many)
+    entry = visual(b"mp4v", 64, 48, b"", b"")
+    return ftyp(b"iso6", b"iso6") + movie(track(1, b"vide", b"", b"und", [entry], table))
 
 
 def made():
     """The files, by name."""
-    return {"pictures": pictures(), "indexed": indexed(), "tables": tables(), "segments": segments(),
-            "newer": newer(), "quicktime": quicktime(), "titles": titles(), "fragments": fragments()}
+    return {"sounds": sounds(), "groups": groups(), "pictures": pictures(),
+            "indexed": indexed(), "tables": tables(), "segments": segments(), "newer": newer(),
+            "quicktime": quicktime(), "titles": titles(), "fragments": fragments()}

@@ -7,7 +7,7 @@ import datetime
 import json
 
 from slow_fields import Fault, Header
-from slow_more import MORE, Code, Hex, more_fields
+from slow_more import MORE, Code, Hex, Named, more_fields
 from slow_reader import DATA_TYPES, READERS, read_row
 from slow_samples import disagreement
 
@@ -365,6 +365,8 @@ def value_text(name, value, within):
         return bytes_text(value)
     if isinstance(value, Code):
         return code_text(value)
+    if isinstance(value, Named):
+        return f"{value} ({value.name})"
     if name in DATES:
         return date_text(value)
     if name == "flags" and within not in ("sample",):

@@ -14,6 +14,15 @@ class Code(str):
     """A code, each byte as the character of its number."""
 
 
+class Named(int):
+    """A number that stands for something, and what that is called."""
+
+    def __new__(cls, number, name):
+        made = super().__new__(cls, number)
+        made.name = name
+        return made
+
+
 def pieces(data):
     """What follows one another, each with a size of 32 bits, which counts all, and a code: of each the code and what it
     holds. None if these aren't whole."""
@@ -123,6 +132,23 @@ class Content:
         check(length <= self.room(), "string has no end in the box")
         self.put(name, self.as_string(self.take(length)[:-1]))
 
+    def entries(self, name, count, entry):
+        """A list of so many entries up to the end of the box, or of any number if that is None. A function reads each
+        from its front. Returns whether these fill the box; nothing is put if they don't."""
+        found, at = [], self.at
+        while at < len(self.data):
+            one = Content(self.data[at:])
+            try:
+                entry(one)
+            except Fault:
+                return False
+            found.append(one.fields)
+            at += one.at
+        if count is not None and len(found) != count:
+            return False
+        self.fields[name] = found
+        return True
+
     def rows(self, name, count, text):
         """A list of entries of fields, as `numbers` takes them."""
         entries = []
@@ -164,14 +190,54 @@ def cslg(c):
     c.numbers(",".join(f"i{8 if version else 4} {time}" for time in times))
 
 
+def substream(s):
+    s.bits("2 fscod, 5 bsid, 1 -, 1 asvc, 3 bsmod, 3 acmod, 1 lfeon, 3 -, 4 num_dep_sub, 1 last")
+    last = s.fields.pop("last")
+    if s.fields["num_dep_sub"]:
+        s.fields["chan_loc"] = 256 * last + s.number(1)
+
+
 def dec3(c):
     c.bits("13 data_rate, 3 num_ind_sub")
-    c.bytes("data_bytes [substreams]")
+    streams, left = [], Content(c.data[c.at:])
+    try:
+        for _ in range(0 if c.raw else c.fields["num_ind_sub"] + 1):
+            one = Content(left.data[left.at:])
+            substream(one)
+            streams.append(one.fields)
+            left.at += one.at
+    except Fault:
+        streams, left.at = [], 0
+    if streams:
+        c.fields["substreams"] = streams
+        c.at += left.at
+    if c.room() or not streams:
+        c.bytes("data_bytes [substreams]")
+
+
+BLOCKS = {0: "STREAMINFO", 1: "PADDING", 2: "APPLICATION", 3: "SEEKTABLE", 4: "VORBIS_COMMENT", 5: "CUESHEET",
+          6: "PICTURE", 127: "forbidden"}
+
+
+def block(b):
+    b.bits("1 LastMetadataBlockFlag, 7 BlockType, 24 Length")
+    kind, data = b.fields["BlockType"], Content(b.take(b.fields["Length"]))
+    b.fields["BlockType"] = Named(kind, BLOCKS.get(kind, "reserved"))
+    if kind == 0 and len(data.data) == 34:
+        data.bits("16 minimum_block_size, 16 maximum_block_size, 24 minimum_frame_size, 24 maximum_frame_size,"
+                  "20 sample_rate, 3 channels, 5 bits_per_sample, 36 total_samples")
+        data.fields["channels"] += 1
+        data.fields["bits_per_sample"] += 1
+        data.bytes("MD5")
+    else:
+        data.bytes("BlockData")
+    b.fields.update(data.fields)
 
 
 def dfla(c):
     c.full(1)
-    c.bytes("data_bytes [metadata_blocks]")
+    if c.raw or not c.entries("metadata_blocks", None, block):
+        c.bytes("data_bytes [metadata_blocks]")
 
 
 def dops(c):
@@ -190,19 +256,20 @@ def elng(c):
     c.string("extended_language")
 
 
+def key(k):
+    size = k.number(4)
+    check(size >= 8, "no room for a namespace")
+    k.code("Key_namespace")
+    value = Content(k.take(size - 8))
+    value.string("Key_value")
+    k.fields.update(value.fields)
+
+
 def keys(c):
     c.full(1)
     c.numbers("4 entry_count")
-    found = pieces(c.data[c.at:])
-    if c.raw or found is None or len(found) != c.fields["entry_count"]:
+    if c.raw or not c.entries("entries", c.fields["entry_count"], key):
         c.bytes("data_bytes [entries]")
-        return
-    c.fields["entries"] = []
-    for namespace, value in found:
-        key = Content(value)
-        key.fields["Key_namespace"] = namespace
-        key.string("Key_value")
-        c.fields["entries"].append(key.fields)
 
 
 def kind(c):
@@ -283,6 +350,43 @@ def senc(c):
     c.bytes("data_bytes [samples]")
 
 
+def encryption(d):
+    d.take(1)
+    d.bits("4 crypt_byte_block, 4 skip_byte_block")
+    d.numbers("1 isProtected, 1 Per_Sample_IV_Size")
+    d.put("KID", Hex(d.take(16).hex()))
+    if d.fields["isProtected"] == 1 and d.fields["Per_Sample_IV_Size"] == 0:
+        d.numbers("1 constant_IV_size")
+        d.put("constant_IV", Hex(d.take(d.fields["constant_IV_size"]).hex()))
+
+
+GROUPS = {
+    "roll": lambda d: d.numbers("i2 roll_distance"), "prol": lambda d: d.numbers("i2 roll_distance"),
+    "rap ": lambda d: d.bits("1 num_leading_samples_known, 7 num_leading_samples"),
+    "tele": lambda d: d.bits("1 level_independently_decodable, 7 -"), "seig": encryption,
+}
+
+
+def description(d, kind, length):
+    """A description of a group: its length is in the box, before it, or by its kind."""
+    if length is None:
+        check(kind in GROUPS, "its length isn't known")
+        GROUPS[kind](d)
+        return
+    if length == 0:
+        d.numbers("4 description_length")
+        length = d.fields["description_length"]
+    data = Content(d.take(length))
+    try:
+        check(kind in GROUPS, "its fields aren't known")
+        GROUPS[kind](data)
+        check(not data.room(), "its length is another")
+    except Fault:
+        data = Content(data.data)
+        data.bytes("data_bytes")
+    d.fields.update(data.fields)
+
+
 def sgpd(c):
     version, _ = c.full(3)
     c.code("grouping_type")
@@ -291,7 +395,9 @@ def sgpd(c):
     if version >= 2:
         c.numbers("4 default_group_description_index")
     c.numbers("4 entry_count")
-    c.bytes("data_bytes [entries]")
+    kind, length = c.fields["grouping_type"], c.fields.get("default_length")
+    if c.raw or not c.entries("entries", c.fields["entry_count"], lambda d: description(d, kind, length)):
+        c.bytes("data_bytes [entries]")
 
 
 def sidx(c):
@@ -329,9 +435,16 @@ def stz2(c):
 
 
 def subs(c):
-    c.full(2)
+    version, _ = c.full(2)
     c.numbers("4 entry_count")
-    c.bytes("data_bytes [entries]")
+
+    def sample(s):
+        s.numbers("4 sample_delta")
+        s.rows("subsamples", s.number(2), f"{4 if version else 2} subsample_size, 1 subsample_priority, 1 discardable,"
+                                          "4 codec_specific_parameters")
+
+    if c.raw or not c.entries("entries", c.fields["entry_count"], sample):
+        c.bytes("data_bytes [entries]")
 
 
 def tenc(c):

@@ -3,20 +3,26 @@
 ghost use Rattle.std.specs.Prelude.{OnOk};
 ghost use Rattle.mp4_fields.specs.Nesting.{fields, Keeps};
 
+mod flac;
+mod groups;
 mod protection;
 mod samples;
 mod segments;
 mod sound;
+mod subsamples;
 mod tracks;
 mod video;
 
+use flac::put_dfla;
+use groups::put_sgpd;
 use mp4_fields::FieldSink;
 use mp4_more::MoreBox;
 use mp4_stream::Result;
 use protection::{put_frma, put_pssh, put_schm, put_senc, put_tenc};
-use samples::{put_cslg, put_saio, put_saiz, put_sbgp, put_sdtp, put_sgpd, put_stz2, put_subs};
+use samples::{put_cslg, put_saio, put_saiz, put_sbgp, put_sdtp, put_stz2};
 use segments::{put_mfro, put_prft, put_sidx, put_styp, put_tfra};
-use sound::{put_dac3, put_dec3, put_dfla, put_dops};
+use sound::{put_dac3, put_dec3, put_dops};
+use subsamples::put_subs;
 use tracks::{put_btrt, put_elng, put_keys, put_kind, put_nmhd, put_tref};
 use video::{put_av1c, put_clap, put_clli, put_colr, put_mdcv, put_pasp};
 

@@ -2,6 +2,7 @@
 //! standards, as they spell them.
 #![tactic(auto)]
 
+mod boxes;
 mod fields;
 mod flag_names;
 mod has_fields;

@@ -6,7 +6,7 @@ ghost use Rattle.mp4_fields.specs.Nesting.{fields, entries, Keeps};
 use crate::flag_names::{AUXILIARY, NONE};
 use crate::put::{number_in, put_entry, put_if_some};
 use mp4_fields::{FieldSink, Value, put_all, put_full};
-use mp4_more::{Cslg, Saio, SaioOffset, Saiz, Sbgp, SbgpEntry, Sdtp, SdtpEntry, Sgpd, Stz2, Subs};
+use mp4_more::{Cslg, Saio, SaioOffset, Saiz, Sbgp, SbgpEntry, Sdtp, SdtpEntry, Stz2};
 use mp4_stream::{FourCC, Result};
 
 /// Hands what auxiliary information is for to a sink, if the box says so.
@@ -135,22 +135,6 @@ pub fn put_sbgp<S: FieldSink>(b: &Sbgp, sink: &mut S) -> Result<()>
     put_runs(b.entries.as_slice(), sink)
 }
 
-/// What the groups of samples are (ISO/IEC 14496-12, 8.9.3). The descriptions are shown as bytes.
-pub fn put_sgpd<S: FieldSink>(b: &Sgpd, sink: &mut S) -> Result<()>
-    ensures nesting { OnOk result (Keeps S.since fields sink.old sink.new) }
-{
-    put_full(b.version, b.flags, NONE, sink)?;
-    sink.field("grouping_type", Value::Code(b.grouping_type))?;
-    put_if_some("default_length", b.default_length, sink)?;
-    put_if_some(
-        "default_group_description_index",
-        b.default_group_description_index,
-        sink,
-    )?;
-    sink.field("entry_count", Value::Number(u64::from(b.entry_count)))?;
-    sink.field("data_bytes", Value::Bytes(b.entries.as_slice()))
-}
-
 fn put_dependence<S: FieldSink>(sample: &SdtpEntry, sink: &mut S) -> Result<()>
     ensures nesting { OnOk result (Keeps S.since entries sink.old sink.new) }
 {
@@ -238,13 +222,4 @@ pub fn put_stz2<S: FieldSink>(b: &Stz2, sink: &mut S) -> Result<()>
     } else {
         sink.field("data_bytes", Value::Bytes(bytes))
     }
-}
-
-/// The parts of samples (ISO/IEC 14496-12, 8.7.7). They are shown as bytes.
-pub fn put_subs<S: FieldSink>(b: &Subs, sink: &mut S) -> Result<()>
-    ensures nesting { OnOk result (Keeps S.since fields sink.old sink.new) }
-{
-    put_full(b.version, b.flags, NONE, sink)?;
-    sink.field("entry_count", Value::Number(u64::from(b.entry_count)))?;
-    sink.field("data_bytes", Value::Bytes(b.entries.as_slice()))
 }

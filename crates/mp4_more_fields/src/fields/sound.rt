@@ -3,10 +3,10 @@
 ghost use Rattle.std.specs.Prelude.{OnOk};
 ghost use Rattle.mp4_fields.specs.Nesting.{fields, Keeps};
 
-use crate::flag_names::NONE;
-use crate::put::bit;
-use mp4_fields::{FieldSink, Value, put_all, put_full};
-use mp4_more::{Dac3, Dec3, Dfla, Dops};
+use crate::pieces::{Pieces, bytes_from, count_pieces, put_list, whole};
+use crate::put::{bit, number_in};
+use mp4_fields::{FieldSink, Value, put_all};
+use mp4_more::{Dac3, Dec3, Dops};
 use mp4_stream::Result;
 
 /// How to decode AC-3 sound (ETSI TS 102 366, F.4).
@@ -25,7 +25,71 @@ pub fn put_dac3<S: FieldSink>(b: &Dac3, sink: &mut S) -> Result<()>
     put_all(&row, sink)
 }
 
-/// How to decode Enhanced AC-3 sound (ETSI TS 102 366, F.6). What is said of each stream is shown as bytes.
+/// The independent streams of Enhanced AC-3 sound (ETSI TS 102 366, F.6): 3 bytes of each, and 4 of one on which other
+/// streams depend.
+struct Substreams;
+
+impl Pieces for Substreams {
+    fn size(&self, bytes: &[u8]) -> Option<usize> {
+        whole(if depending(bytes) == 0 { 3 } else { 4 }, bytes)
+    }
+
+    fn put<S: FieldSink>(&self, piece: &[u8], sink: &mut S) -> Result<()> {
+        let bits = number_in(piece, 0, 3);
+        let row = [
+            ("fscod", Value::Number(bits >> 22)),
+            ("bsid", Value::Number(bits >> 17 & 0x1F)),
+            ("asvc", Value::Number(bits >> 15 & 1)),
+            ("bsmod", Value::Number(bits >> 12 & 7)),
+            ("acmod", Value::Number(bits >> 9 & 7)),
+            ("lfeon", Value::Number(bits >> 8 & 1)),
+            ("num_dep_sub", Value::Number(depending(piece))),
+        ];
+        put_all(&row, sink)?;
+        put_places(piece, sink)
+    }
+}
+
+/// How many streams depend on the one at the front of these bytes.
+fn depending(bytes: &[u8]) -> u64 {
+    number_in(bytes, 2, 1) >> 1 & 0xF
+}
+
+/// Hands the places of the channels of the streams that depend on a stream to a sink, if there are such.
+fn put_places<S: FieldSink>(piece: &[u8], sink: &mut S) -> Result<()>
+    ensures nesting { OnOk result (Keeps S.since fields sink.old sink.new) }
+{
+    if depending(piece) == 0 {
+        return Ok(());
+    }
+    sink.field("chan_loc", Value::Number(number_in(piece, 2, 2) & 0x1FF))
+}
+
+/// Hands bytes that follow the other fields to a sink, unless there are none.
+fn put_rest<S: FieldSink>(bytes: &[u8], sink: &mut S) -> Result<()>
+    ensures nesting { OnOk result (Keeps S.since fields sink.old sink.new) }
+{
+    if bytes.is_empty() {
+        return Ok(());
+    }
+    sink.field("data_bytes", Value::Bytes(bytes))
+}
+
+/// Hands so many independent streams to a sink, and what follows them; all as bytes if there are fewer.
+fn put_substreams<S: FieldSink>(bytes: &[u8], most: usize, sink: &mut S) -> Result<()>
+    ensures nesting { OnOk result (Keeps S.since fields sink.old sink.new) }
+{
+    match count_pieces(&Substreams, bytes, most) {
+        Some((count, end)) if count == most => {
+            put_list(&Substreams, "substreams", bytes, count, sink)?;
+            put_rest(bytes_from(bytes, end), sink)
+        }
+        _ => sink.field("data_bytes", Value::Bytes(bytes)),
+    }
+}
+
+/// How to decode Enhanced AC-3 sound (ETSI TS 102 366, F.6). The independent streams are shown as bytes if they aren't
+/// as many as the box says.
 pub fn put_dec3<S: FieldSink>(b: &Dec3, sink: &mut S) -> Result<()>
     ensures nesting { OnOk result (Keeps S.since fields sink.old sink.new) }
 {
@@ -34,16 +98,8 @@ pub fn put_dec3<S: FieldSink>(b: &Dec3, sink: &mut S) -> Result<()>
         "num_ind_sub",
         Value::Number(u64::from(b.config.num_ind_sub)),
     )?;
-    sink.field("data_bytes", Value::Bytes(b.substreams.as_slice()))
-}
-
-/// How to decode FLAC sound (Encapsulation of FLAC in ISO Base Media File Format, 3.3.2). The blocks of metadata are
-/// shown as bytes.
-pub fn put_dfla<S: FieldSink>(b: &Dfla, sink: &mut S) -> Result<()>
-    ensures nesting { OnOk result (Keeps S.since fields sink.old sink.new) }
-{
-    put_full(b.version, b.flags, NONE, sink)?;
-    sink.field("data_bytes", Value::Bytes(b.metadata_blocks.as_slice()))
+    let count = usize::from(b.config.num_ind_sub).saturating_add(1);
+    put_substreams(b.substreams.as_slice(), count, sink)
 }
 
 /// What the channels are, in other families than 0: two numbers and a byte for each channel. Nothing if there is no

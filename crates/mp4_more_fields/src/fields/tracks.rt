@@ -3,8 +3,9 @@
 ghost use Rattle.std.specs.Prelude.{OnOk};
 ghost use Rattle.mp4_fields.specs.Nesting.{fields, entries, Keeps};
 
+use crate::boxes::{HEAD, code_at, count_numbers, held_at, next_after, size_at};
 use crate::flag_names::NONE;
-use crate::pieces::{HEAD, code_at, count_numbers, count_pieces, held_at, next_after};
+use crate::pieces::{Pieces, put_entries};
 use crate::put::{number_in, put_entry, put_string};
 use mp4_fields::{FieldSink, Value, put_all, put_full};
 use mp4_more::{Btrt, Elng, Keys, Kind, Nmhd, Tref};
@@ -30,27 +31,18 @@ pub fn put_elng<S: FieldSink>(b: &Elng, sink: &mut S) -> Result<()>
     put_string("extended_language", b.extended_language.as_slice(), sink)
 }
 
-/// Hands the key at an offset to a sink: where it is defined, and its name.
-fn put_key<S: FieldSink>(bytes: &[u8], at: usize, sink: &mut S) -> Result<()>
-    ensures nesting { OnOk result (Keeps S.since entries sink.old sink.new) }
-{
-    sink.begin_entry()?;
-    sink.field("Key_namespace", Value::Code(code_at(bytes, at)))?;
-    put_string("Key_value", held_at(bytes, at), sink)?;
-    sink.end_entry()
-}
+/// Keys of metadata: where each is defined, and its name.
+struct KeyNames;
 
-/// Hands so many keys to a sink.
-fn put_key_list<S: FieldSink>(bytes: &[u8], count: usize, sink: &mut S) -> Result<()>
-    ensures nesting { OnOk result (Keeps S.since fields sink.old sink.new) }
-{
-    sink.begin_list("entries", count)?;
-    let mut at = 0usize;
-    for _ in 0..count.min(sink.rows()) {
-        put_key(bytes, at, sink)?;
-        at = next_after(bytes, at);
+impl Pieces for KeyNames {
+    fn size(&self, bytes: &[u8]) -> Option<usize> {
+        size_at(bytes, 0)
     }
-    sink.end_list()
+
+    fn put<S: FieldSink>(&self, piece: &[u8], sink: &mut S) -> Result<()> {
+        sink.field("Key_namespace", Value::Code(code_at(piece, 0)))?;
+        put_string("Key_value", held_at(piece, 0), sink)
+    }
 }
 
 /// The keys of metadata (QuickTime File Format, "Metadata item keys atom"). They are shown as bytes if they
@@ -60,13 +52,7 @@ pub fn put_keys<S: FieldSink>(b: &Keys, sink: &mut S) -> Result<()>
 {
     put_full(b.version, b.flags, NONE, sink)?;
     sink.field("entry_count", Value::Number(u64::from(b.entry_count)))?;
-    let bytes = b.entries.as_slice();
-    match count_pieces(bytes) {
-        Some(count) if count as u64 == u64::from(b.entry_count) => {
-            put_key_list(bytes, count, sink)
-        }
-        _ => sink.field("data_bytes", Value::Bytes(bytes)),
-    }
+    put_entries(&KeyNames, b.entries.as_slice(), b.entry_count, sink)
 }
 
 /// What a track is for (ISO/IEC 14496-12, 8.10.4).
