@@ -263,6 +263,18 @@ def indexed():
     return (styp + sidx + prft + movie(sound_track) + keys + box(b"udta", kinds) + box(b"mfra", tfra + mfro))
 
 
+def counted():
+    """A QuickTime movie with sound of version 2 at rates that are whole, have a fraction or are no numbers, and with
+    handlers whose names are counted and not."""
+    rates = ["40e5888000000000", "40e5888333333333", "4341c37937e08000", "7ff0000000000000", "fff8000000000001"]
+    counts = be(4, 2, 0x7F000000, 16, 12, 4, 3)
+    entries = [sound(b"lpcm", 2, 3, 16, 0x10000, be(4, 72) + bytes.fromhex(rate) + counts, b"") for rate in rates]
+    names = [b"\5Video", b"\5Video\0", b"\6Video\0", b"\4Video\0", b"\7Video\0", b"\5Vide\xff", b"\0", b"\0\0", b"V",
+             b""]
+    handlers = [full(b"hdlr", 1, 2, be(4, 3) + b"vide" + bytes(12) + name) for name in names]
+    return ftyp(b"qt  ") + movie(track(2, b"soun", b"", b"und", entries, b"")) + box(b"udta", b"".join(handlers))
+
+
 def sounds():
     """Streams of Enhanced AC-3 and blocks of FLAC: of each three that differ, cut short, one too few, and none."""
     first, second, third = b"\xa0\xbf\x00", b"\x22\x44\x0b\x45", b"\x4c\x13\x02\x8a"
@@ -312,6 +324,6 @@ def groups():
 
 def made():
     """The files, by name."""
-    return {"sounds": sounds(), "groups": groups(), "pictures": pictures(),
+    return {"counted": counted(), "sounds": sounds(), "groups": groups(), "pictures": pictures(),
             "indexed": indexed(), "tables": tables(), "segments": segments(), "newer": newer(),
             "quicktime": quicktime(), "titles": titles(), "fragments": fragments()}

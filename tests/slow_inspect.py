@@ -4,7 +4,10 @@ writes.
 """
 
 import datetime
+import decimal
 import json
+import math
+import struct
 
 from slow_fields import Fault, Header
 from slow_more import MORE, Code, Hex, Named, more_fields
@@ -62,12 +65,30 @@ def sound(data, at, size, quicktime):
         names = ["samples_per_packet", "bytes_per_packet", "bytes_per_frame", "bytes_per_sample"]
         fields.update((name, number(data, at + 28 + 4 * index, 4)) for index, name in enumerate(names))
     if quicktime and version == 2 and size >= 64:
-        fields["audio_sample_rate"] = data[at + 32:at + 40].hex()
+        fields["audio_sample_rate"] = float_in(data[at + 32:at + 40])
         fields.update(num_audio_channels=number(data, at + 40, 4), const_bits_per_channel=number(data, at + 48, 4),
                       format_specific_flags=number(data, at + 52, 4),
                       const_bytes_per_audio_packet=number(data, at + 56, 4),
                       const_lpcm_frames_per_audio_packet=number(data, at + 60, 4))
     return fields
+
+
+def float_in(data):
+    """The number in 8 bytes of IEEE 754; their hexadecimal digits if they are no finite number."""
+    found, = struct.unpack(">d", data)
+    return found if math.isfinite(found) else Hex(data.hex())
+
+
+def handler_name(data):
+    """The name of a handler, up to the end of its box, of which the last byte isn't part of it. In QuickTime a byte
+    before it says how many bytes it has, and it may end without a byte of 0."""
+    rest = data[1:]
+    if data[0] in (len(rest), len(rest.removesuffix(b"\0"))):
+        data = rest if rest.endswith(b"\0") else rest + b"\0"
+    try:
+        return data[:-1].decode("utf-8")
+    except UnicodeDecodeError:
+        return "null"
 
 
 def metadata(number_, data):
@@ -176,6 +197,8 @@ class Walk:
             return {"fault": words.get(kind) or rest[0] + (" not found" if kind == "NotFound" else "")}
         if name == b"data":
             return {"fields": metadata(NUMBERS[box["data_type"]], bytes(box["data_bytes"]))}
+        if name == b"hdlr":
+            box["name"] = handler_name(data[content + 24:end])
         return {"fields": fields_of(latin(name), box)}
 
     def fields_before(self, name, content, end, parent):
@@ -295,7 +318,7 @@ FLAGS = {
 SAMPLE_FLAGS = {"default_sample_flags", "first_sample_flags", "sample_flags", "flags"}
 KINDS = {"vide": "video", "soun": "sound", "text": "text", "sbtl": "subtitles", "subt": "subtitles", "clcp": "captions",
          "hint": "hints", "tmcd": "time code", "meta": "metadata", "pict": "pictures"}
-BYTES = {"message_data", "data_bytes", "compressorname", "reserved0", "reserved1", "style_record", "audio_sample_rate",
+BYTES = {"message_data", "data_bytes", "compressorname", "reserved0", "reserved1", "style_record",
          "sequence_parameter_sets", "picture_parameter_sets"}
 # The order of fields, where it is not that of the slow reader: what is not named comes after these.
 ORDERS = {
@@ -319,7 +342,7 @@ def code_text(text):
     return "0x" + text.encode("latin-1").hex()
 
 
-def decimal(value):
+def fixed_text(value):
     """A number with at most 30 bits after the point, in full."""
     if value == int(value):
         return str(int(value))
@@ -388,10 +411,12 @@ def value_text(name, value, within):
     if name == "box_record":
         return " ".join(map(str, value))
     if name == "matrix":
-        rows = [" ".join(decimal(value[letter]) for letter in row) for row in ("abu", "cdv", "xyw")]
+        rows = [" ".join(fixed_text(value[letter]) for letter in row) for row in ("abu", "cdv", "xyw")]
         return f"({'; '.join(rows)})"
+    if name == "audio_sample_rate":
+        return format(decimal.Decimal(repr(value)), "f").removesuffix(".0")
     if isinstance(value, float):
-        return decimal(value)
+        return fixed_text(value)
     if isinstance(value, str):
         return text_text(value)
     return str(value)

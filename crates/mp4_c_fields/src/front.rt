@@ -3,6 +3,7 @@
 ghost use Rattle.mp4_frame.specs.Reading.{Answers};
 ghost use Rattle.mp4_c_fields.specs.Front.{front_known};
 
+use mp4_frame::codes::HDLR;
 use mp4_frame::{BoxType, ByteCursor, Head, Result, StreamBox, frame_of_head};
 use std::alloc::Global;
 
@@ -20,4 +21,14 @@ pub fn front_known<B: StreamBox>(alloc: Global, bytes: &[u8]) -> Result<Option<B
     let mut reader = ByteCursor::new(bytes);
     reader.set_position(frame.content);
     Ok(Some(B::read_named(alloc, name, &mut reader, frame.size())?))
+}
+
+/// The content of the box at the front of a buffer, if it is a handler.
+pub fn handler_content(bytes: &[u8]) -> Option<&[u8]> {
+    let head = Head::at(bytes, 0).ok()?;
+    if head.code != HDLR {
+        return None;
+    }
+    let frame = frame_of_head(bytes.len() as u64, 0, head).ok()?;
+    bytes.get(frame.content as usize..frame.end as usize)
 }

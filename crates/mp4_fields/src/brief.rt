@@ -1,13 +1,15 @@
-//! Fields that are read from bytes: those that begin a box that holds boxes, and those of sample entries of any code.
+//! Fields that are read from bytes: those that begin a box that holds boxes, those of sample entries of any code, and
+//! those of a handler with its name as it stands there.
 
-ghost use Rattle.std.specs.Prelude.{◌≤◌, length, OnOk};
+ghost use Rattle.std.specs.Prelude.{◌+◌, ◌≤◌, length, OnOk};
 ghost use Rattle.mp4_fields.specs.Nesting.{fields, Keeps};
 
 use crate::flag_names::{FlagName, NONE};
 use crate::sink::{FieldSink, put_all};
 use crate::value::Value;
-use mp4_frame::{i16_at, u8_at, u16_at, u32_at};
-use mp4_stream::Result;
+use mp4_frame::{i16_at, u8_at, u16_at, u32_at, u64_at};
+use mp4_stream::{FourCC, Result};
+use std::num::f64_from_bits_with_nan;
 
 /// How many bytes of fields a sample entry of video has before its boxes (ISO/IEC 14496-12, 12.1.3).
 pub const VISUAL_LENGTH: usize = 78;
@@ -81,6 +83,18 @@ pub fn put_visual<S: FieldSink>(bytes: &[u8], sink: &mut S) -> Result<()>
     )
 }
 
+/// The number in the 8 bytes of IEEE 754 at an offset; the bytes themselves if they are no finite number.
+fn float_at(bytes: &[u8], at: usize) -> Value<'_>
+    requires { at + 8 ≤ length bytes.now }
+{
+    let number = f64_from_bits_with_nan(u64_at(bytes, at));
+    if number.is_finite() {
+        Value::Float(number)
+    } else {
+        Value::Bytes(&bytes[at..at + 8])
+    }
+}
+
 /// Hands the fields that QuickTime's second version of a sound entry has after the common ones to a sink (QuickTime
 /// File Format, "Sound sample description (version 2)").
 fn put_second<S: FieldSink>(bytes: &[u8], sink: &mut S) -> Result<()>
@@ -89,7 +103,7 @@ fn put_second<S: FieldSink>(bytes: &[u8], sink: &mut S) -> Result<()>
 {
     put_all(
         &[
-            ("audio_sample_rate", Value::Bytes(&bytes[32..40])),
+            ("audio_sample_rate", float_at(bytes, 32)),
             (
                 "num_audio_channels",
                 Value::Number(u64::from(u32_at(bytes, 40))),
@@ -230,4 +244,55 @@ pub fn put_entry<S: FieldSink>(bytes: &[u8], sink: &mut S) -> Result<()>
         "data_reference_index",
         Value::Number(u64::from(u16_at(bytes, 6))),
     )
+}
+
+/// The name of a handler, in bytes that go to the end of its box: up to the last byte, which ends it. If the first byte
+/// is the number of those after it, with or without a byte of 0 that ends them, it is QuickTime's count, and the name is
+/// between these two.
+fn handler_name(bytes: &[u8]) -> &[u8] {
+    let Some((first, rest)) = bytes.split_first() else {
+        return bytes;
+    };
+    let text = match rest.split_last() {
+        Some((0, text)) => text,
+        _ => rest,
+    };
+    let count = usize::from(*first);
+    if count == rest.len() || count == text.len() {
+        text
+    } else {
+        bytes.get(..rest.len()).unwrap_or(&[])
+    }
+}
+
+/// Hands the fields of a handler to a sink (ISO/IEC 14496-12, 8.4.3; QuickTime File Format, "Handler reference atoms"),
+/// of which these bytes are the content. A name that isn't UTF-8 is `null`, as where the codec reads it.
+pub fn put_handler<S: FieldSink>(bytes: &[u8], sink: &mut S) -> Result<()>
+    requires { 25 ≤ length bytes.now }
+    ensures nesting { OnOk result (Keeps S.since fields sink.old sink.new) }
+{
+    let name = std::str::from_utf8(handler_name(&bytes[24..])).unwrap_or("null");
+    let handler_type = FourCC::from(u32_at(bytes, 8));
+    put_named_handler(
+        bytes[0],
+        u32_at(bytes, 0) & 0xFF_FFFF,
+        handler_type,
+        name,
+        sink,
+    )
+}
+
+/// Hands the fields of a handler with this name to a sink.
+pub fn put_named_handler<S: FieldSink>(
+    version: u8,
+    flags: u32,
+    handler_type: FourCC,
+    name: &str,
+    sink: &mut S,
+) -> Result<()>
+    ensures nesting { OnOk result (Keeps S.since fields sink.old sink.new) }
+{
+    put_full(version, flags, NONE, sink)?;
+    sink.field("handler_type", Value::Code(handler_type))?;
+    sink.field("name", Value::Text(name))
 }

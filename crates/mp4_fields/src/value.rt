@@ -10,6 +10,8 @@ pub enum Value<'a> {
     Number(u64),
     /// A whole number that may be negative.
     Signed(i64),
+    /// A finite number with 64 bits of IEEE 754.
+    Float(f64),
     /// A number that stands for something, and what that is called.
     Named(u64, &'static str),
     /// Flags: their number, how many hexadecimal digits it has, and the flags that have names.

@@ -1,5 +1,5 @@
 -- What is read of a box, by how it is read, and whether it has a fault.
-use Rattle.std.specs.Prelude.{◌≡◌, ℕ, ◌+◌, ◌-◌, ◌<◌, ◌≤◌, ◌==◌, ◌||◌, ◌&&◌, not, min, Bool, true, false, List, length}
+use Rattle.std.specs.Prelude.{◌≡◌, ℕ, ◌+◌, ◌-◌, ◌<◌, ◌≤◌, ◌==◌, ◌||◌, ◌&&◌, not, min, nat_le, Bool, true, false, List, length}
 use Rattle.std.specs.Prelude.{Ok, MatchBool}
 use Rattle.mp4_frame.specs.Bytes.{number}
 use Rattle.mp4_frame.specs.Heads.{header, header_length}
@@ -57,7 +57,8 @@ is_other_type n = not ((n == 0) || (n == 1) || (n == 13) || (n == 21))
 abbrev pub is_other : List ℕ → Bool
 is_other head = (length head == 8) && is_other_type (number head 0 4)
 
--- what is shown of a box, by how it is read
+-- What is shown of a box, by how it is read. A handler with a byte of its name, the 25th, is shown from its bytes; the
+-- codec refuses others.
 abbrev pub ShowsAs : {A : Type 0} → (BoxType → Bool) → (BoxType → List ℕ → ℕ → ℕ → Reading A) → List ℕ → TreeBox → Kind
     → Content A → Type 0
 ShowsAs known reading bytes found kinds.Boxes content = content ≡ contents.Boxes
@@ -69,6 +70,10 @@ ShowsAs known reading bytes found (kinds.Known name) content = ShowsKnown known 
 ShowsAs known reading bytes found kinds.Data content =
     MatchBool (is_other (front bytes found 8)) (ShowsFront kinds.Data 8 0xFFFFFFFFFFFFFFFF bytes found content)
     (ShowsKnown known reading names.DataBox bytes found content)
+ShowsAs known reading bytes found kinds.Handler content =
+    MatchBool (nat_le 25 (found.length - found.header_length))
+    (ShowsFront kinds.Handler 25 0xFFFFFFFFFFFFFFFF bytes found content)
+    (ShowsKnown known reading names.HdlrBox bytes found content)
 ShowsAs known reading bytes found kinds.Full content = ShowsFront kinds.Full 4 4 bytes found content
 ShowsAs known reading bytes found kinds.List content = ShowsFront kinds.List 8 8 bytes found content
 ShowsAs known reading bytes found kinds.Entry content = ShowsFront kinds.Entry 8 8 bytes found content

@@ -13,7 +13,8 @@ use crate::failure::or_read;
 use crate::kind::{Kind, kind_of};
 use crate::shown::Shown;
 use mp4_fields::{
-    FieldSink, Value, put_data, put_entry, put_full, put_list_head, put_sound, put_visual,
+    FieldSink, Value, put_data, put_entry, put_full, put_handler, put_list_head, put_sound,
+    put_visual,
 };
 use mp4_frame::u32_at;
 use mp4_io::Failure;
@@ -174,6 +175,24 @@ fn data<B: Shown, S: Source>(
     }
 }
 
+/// Reads a handler: its bytes if it has some of its name, and else the fault that the codec finds.
+fn handler<B: Shown, S: Source>(
+    alloc: Global,
+    tree: &mut Tree<S>,
+    found: &TreeBox,
+) -> std::result::Result<Content<B>, Failure>
+    ensures shows { IfSome tree.old.bytes
+        (λ bytes. IfOk result (λ content. ShowsAs B.known B.named_reading bytes found.now kinds.Handler content)) }
+    ensures kept { tree.new ≡ tree.old }
+    ensures not_write { is_write result ≡ false }
+{
+    if found.content_length() >= 25 {
+        front(alloc, tree, found, Kind::Handler, 25, u64::MAX)
+    } else {
+        known(alloc, tree, found, BoxType::HdlrBox)
+    }
+}
+
 /// Reads what is shown of a box.
 pub fn content_of<B: Shown, S: Source>(
     alloc: Global,
@@ -194,6 +213,7 @@ pub fn content_of<B: Shown, S: Source>(
         Kind::Small => Ok(Content::Faulty(Error::InvalidData("box size too small"))),
         Kind::Known(name) => known(alloc, tree, found, name),
         Kind::Data => data(alloc, tree, found),
+        Kind::Handler => handler(alloc, tree, found),
         Kind::Full => front(alloc, tree, found, Kind::Full, 4, 4),
         Kind::List => front(alloc, tree, found, Kind::List, 8, 8),
         Kind::Entry => front(alloc, tree, found, Kind::Entry, 8, 8),
@@ -242,6 +262,7 @@ fn put_front<K: FieldSink>(kind: Kind, bytes: &[u8], is_quicktime: bool, sink: &
         Kind::Visual if bytes.len() >= 78 => put_visual(bytes, sink),
         Kind::Sound if bytes.len() >= 28 => put_sound(bytes, is_quicktime, sink),
         Kind::Data if bytes.len() >= 8 => put_data_front(bytes, sink),
+        Kind::Handler if bytes.len() >= 25 => put_handler(bytes, sink),
         Kind::Uuid => match <[u8; 16]>::try_from(bytes) {
             Ok(id) => put_uuid(id, sink),
             Err(_) => Ok(()),

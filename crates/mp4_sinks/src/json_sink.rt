@@ -178,6 +178,7 @@ impl JsonSink {
             }
             Value::Flags(flags, _, _) => self.unsigned(u64::from(flags)),
             Value::Signed(number) | Value::MediaTime(number) => self.signed(number),
+            Value::Float(number) => self.float(number),
             Value::Fixed(raw, bits) => self.fixed(raw, bits),
             Value::Code(code) => self.code(code),
             Value::Codes(codes) => self.codes(codes),

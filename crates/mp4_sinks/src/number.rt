@@ -53,6 +53,13 @@ pub fn push_fixed(raw: i64, bits: u32, out: &mut String) -> Result<()> {
     Ok(())
 }
 
+/// Appends a number with 64 bits of IEEE 754 as a decimal that reads back as the same number.
+pub fn push_float(alloc: Global, number: f64, out: &mut String) -> Result<()> {
+    let text = format!(in alloc; "{number}")?;
+    out.push_str(text.as_str())?;
+    Ok(())
+}
+
 /// Appends a number in hexadecimal digits, at least so many.
 pub fn push_hex(alloc: Global, number: u32, digits: usize, out: &mut String) -> Result<()> {
     let text = if digits > 6 {

@@ -2,7 +2,7 @@
 
 use crate::code::push_code;
 use crate::number::{
-    push_bytes, push_date, push_fixed, push_hex, push_number, push_signed, push_text,
+    push_bytes, push_date, push_fixed, push_float, push_hex, push_number, push_signed, push_text,
 };
 use mp4_fields::{FlagName, Value};
 use mp4_stream::{FourCC, Matrix, Result};
@@ -87,6 +87,7 @@ pub fn push_value(alloc: Global, value: Value<'_>, out: &mut String) -> Result<(
         }
         Value::Flags(flags, digits, names) => push_flags(alloc, flags, digits, names, out),
         Value::Date(seconds) => push_date(alloc, seconds, out),
+        Value::Float(number) => push_float(alloc, number, out),
         Value::Fixed(raw, bits) => push_fixed(raw, bits, out),
         Value::MediaTime(-1) => {
             out.push_str("empty")?;

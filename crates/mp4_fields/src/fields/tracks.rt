@@ -3,7 +3,7 @@
 ghost use Rattle.std.specs.Prelude.{OnOk};
 ghost use Rattle.mp4_fields.specs.Nesting.{fields, entries, Keeps};
 
-use crate::brief::put_full;
+use crate::brief::{put_full, put_named_handler};
 use crate::flag_names::{NONE, TRACK};
 use crate::sink::{FieldSink, put_all};
 use crate::value::Value;
@@ -55,14 +55,7 @@ pub fn put_mdhd<S: FieldSink>(b: &MdhdBox, sink: &mut S) -> Result<()>
 pub fn put_hdlr<S: FieldSink>(b: &HdlrBox, sink: &mut S) -> Result<()>
     ensures nesting { OnOk result (Keeps S.since fields sink.old sink.new) }
 {
-    put_full(b.version, b.flags, NONE, sink)?;
-    put_all(
-        &[
-            ("handler_type", Value::Code(b.handler_type)),
-            ("name", Value::Text(b.name.as_str())),
-        ],
-        sink,
-    )
+    put_named_handler(b.version, b.flags, b.handler_type, b.name.as_str(), sink)
 }
 
 /// A media time with its sign: it has 32 bits in version 0, and 64 in version 1.

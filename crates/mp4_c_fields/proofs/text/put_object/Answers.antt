@@ -6,7 +6,7 @@ use Rattle.mp4_sinks.proofs.Whole.{puts_none}
 
 pub returns : goal.returns
 returns g c =
-    puts_object c.args.sink.now.out c.begin_object.new.self c.put_fields.new.sink.out c.end_object.new.self
+    puts_object c.args.sink.now.out c.begin_object.new.self c.put_shown.new.sink.out c.end_object.new.self
     (c.in_ok-begin_object.ensures.room.0, c.in_ok-begin_object.ensures.ok)
-    (c.in_ok-put_fields.ensures.nesting (record { alloc = c.args.sink.now.alloc; out = c.begin_object.new.self }) []
+    (c.in_ok-put_shown.ensures.nesting (record { alloc = c.args.sink.now.alloc; out = c.begin_object.new.self }) []
     (puts_none fields c.begin_object.new.self)) (c.in_ok-end_object.ensures.room.0, c.in_ok-end_object.ensures.ok)
