@@ -247,8 +247,8 @@ pub fn put_entry<S: FieldSink>(bytes: &[u8], sink: &mut S) -> Result<()>
 }
 
 /// The name of a handler, in bytes that go to the end of its box: up to the last byte, which ends it. If the first byte
-/// is the number of those after it, with or without a byte of 0 that ends them, it is QuickTime's count, and the name is
-/// between these two.
+/// is the number of those after it, with or without a byte of 0 that ends them, it is QuickTime's count, and the name
+/// is between these two.
 fn handler_name(bytes: &[u8]) -> &[u8] {
     let Some((first, rest)) = bytes.split_first() else {
         return bytes;

@@ -57,7 +57,8 @@ fn usual_length(grouping_type: FourCC, bytes: &[u8]) -> Option<usize> {
     }
 }
 
-/// How many bytes a description of encryption has: 20, and a vector after its size where samples have none of their own.
+/// How many bytes a description of encryption has: 20, and a vector after its size where samples have none of their
+/// own.
 fn encryption_length(bytes: &[u8]) -> usize {
     if has_constant(bytes) {
         (number_in(bytes, 20, 1) as usize).saturating_add(21)
