@@ -1,3 +1,4 @@
 pub mod BitSteps
 pub mod FirstZero
+pub mod OneByOne
 pub mod Room

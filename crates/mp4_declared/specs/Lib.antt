@@ -13,5 +13,11 @@ pub mod MoreShapes
 pub mod MoreShapesLaws
 pub mod Strings
 pub mod StringsLaws
+pub mod DeclaredEntry
+pub mod DeclaredEntryLaws
+pub mod Each
+pub mod EachLaws
+pub mod EachToEnd
+pub mod EachToEndLaws
 pub mod ByCode
 pub mod CheckedByCode
