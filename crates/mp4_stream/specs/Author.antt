@@ -18,6 +18,8 @@ pub use Rattle.mp4_declared.specs.Layout.{layout_in, row_of, entry_of, FitsEntry
 pub use Rattle.mp4_declared.specs.Shape.{Shape}
 unfoldable pub use Rattle.mp4_declared.specs.OwnBox.{reads_declared, reads_checked}
 pub use Rattle.mp4_declared.specs.OwnBox.{OwnLayout, layout_of, format_declared, format_checked}
+pub use Rattle.mp4_declared.specs.DeclaredEntry.{ExactLayout, exact_layout_of, entry_shape}
+pub use Rattle.mp4_declared.specs.DeclaredEntryLaws.{some_first, some_either}
 -- children
 pub use Rattle.mp4_frame.specs.Children
 pub use Rattle.mp4_frame.specs.OneChild

@@ -3,10 +3,10 @@
 //! of boxes. `docs/OWN-BOX.md` goes through a box that is made of these.
 
 pub use mp4_declared::{
-    About, Array, Bits, Bytes, Check, Checked, Condition, Context, Count, Declared, DeclaredBox,
-    EntryLayout, FromVersion, Full, I8, I16, I32, If, IfFlags, Last, List, Pascal, PutShape,
-    Reserved, Rest, Rows, Shape, Terminated, Time, U8, U16, U24, U32, U64, Zeros, entries_fit,
-    entries_of, put_rows,
+    About, AboutEntry, Array, Bits, Bytes, Check, Checked, Condition, Context, Count, Declared,
+    DeclaredBox, DeclaredEntry, Each, EachToEnd, EntryLayout, FromVersion, Full, I8, I16, I32, If,
+    IfFlags, Last, List, NOT_FILLED, Pascal, PutShape, Reserved, Rest, Rows, Shape, Terminated,
+    Time, U8, U16, U24, U32, U64, Zeros, entries_fit, entries_of, put_rows,
 };
 pub use mp4_flat::{put_time, time_at, time_fits, version_of_times, width_of_time};
 pub use mp4_frame::{

@@ -3,9 +3,9 @@
 
 pub use crate::{box_of, entry_of, numbers_of, parts_of};
 pub use mp4_declared::{
-    About, Array, Bits, Bytes, Check, Checked, Declared, DeclaredBox, EntryLayout, FromVersion,
-    Full, I8, I16, I32, If, IfFlags, Last, List, Pascal, Reserved, Rest, Rows, Shape, Terminated,
-    Time, U8, U16, U24, U32, U64,
+    About, AboutEntry, Array, Bits, Bytes, Check, Checked, Declared, DeclaredBox, DeclaredEntry,
+    Each, EachToEnd, EntryLayout, FromVersion, Full, I8, I16, I32, If, IfFlags, Last, List, Pascal,
+    Reserved, Rest, Rows, Shape, Terminated, Time, U8, U16, U24, U32, U64,
 };
 pub use mp4_frame::{Entries, TryClone};
 
