@@ -26,7 +26,7 @@ CALLS = {
 read_all_boxes = partial(read_boxes, keep=True, more=True)
 MORE_CALLS = {"declared box": (read_more, 6), "all boxes": (read_all_boxes, 10)}
 # The codes of the boxes of test_more, which test_probe reads as declared boxes, and the slow reader doesn't.
-TEST_CODES = (b"numb", b"opts", b"rang", b"runs", b"strs", b"trep", b"outr")
+TEST_CODES = (b"lins", b"nest", b"numb", b"opts", b"rang", b"runs", b"strs", b"trep", b"outr")
 # Which text says what is written of trees.
 WRITTEN_TREES = 8
 

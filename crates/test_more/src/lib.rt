@@ -4,6 +4,7 @@
 
 mod checked;
 mod children;
+mod nested;
 mod numbers;
 mod options;
 mod parents;
@@ -12,6 +13,7 @@ mod strings;
 
 pub use checked::{RANG, Range, RangeBox};
 pub use children::{INNR, Inner, OUTR, Outer, OuterBox};
+pub use nested::{Group, LINS, Line, Lines, LinesBox, Moment, NEST, Nested, NestedBox};
 pub use numbers::{NUMB, Numbers, NumbersBox, Packed};
 pub use options::{OPTS, Options, OptionsBox};
 pub use parents::{TREP, Trep, TrepBox};

@@ -10,8 +10,8 @@ use mp4_stream::{
 use std::alloc::{AllocError, Global};
 use std::fmt::Debug;
 use test_more::{
-    NUMB, NumbersBox, OPTS, OUTR, OptionsBox, OuterBox, RANG, RUNS, RangeBox, RunsBox, STRS,
-    StringsBox, TREP, TrepBox,
+    LINS, LinesBox, NEST, NUMB, NestedBox, NumbersBox, OPTS, OUTR, OptionsBox, OuterBox, RANG,
+    RUNS, RangeBox, RunsBox, STRS, StringsBox, TREP, TrepBox,
 };
 
 /// Appends two records: what was read as a box, with the cursor's position, and what this box is written in.
@@ -74,6 +74,8 @@ pub(crate) fn show_declared(
         return push_record("", out);
     };
     match name {
+        BoxType::UnknownBox(LINS) => show_as::<LinesBox>(alloc, size, reader, out),
+        BoxType::UnknownBox(NEST) => show_as::<NestedBox>(alloc, size, reader, out),
         BoxType::UnknownBox(NUMB) => show_as::<NumbersBox>(alloc, size, reader, out),
         BoxType::UnknownBox(OPTS) => show_as::<OptionsBox>(alloc, size, reader, out),
         BoxType::UnknownBox(OUTR) => show_as::<OuterBox>(alloc, size, reader, out),

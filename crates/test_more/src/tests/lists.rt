@@ -1,7 +1,7 @@
 //! Boxes with lists. Each is made and written by a function of its own.
 
 use crate::tests::{UNFIT, bytes_of, ending};
-use crate::{Packed, Runs, Strings};
+use crate::{Group, Line, Lines, Moment, Nested, Packed, Runs, Strings};
 use mp4_more::{
     Av1Config, Av1c, Colr, NCLX, OfType, Pssh, Sbgp, SbgpEntry, Schm, Sdtp, SdtpEntry, Sidx,
     SidxEntry, Tenc, TencPattern,
@@ -162,6 +162,61 @@ fn strings(alloc: Global, scheme: &[u8], name: &[u8], value: &[u8]) -> Made<&'st
     ))
 }
 
+/// So many times this moment.
+fn moments(alloc: Global, kind: u8, time: u64, count: usize) -> Made<Entries<Moment>> {
+    let mut moments = Entries::new(alloc);
+    for _ in 0..count {
+        moments.push(Moment { kind, time })?;
+    }
+    Ok(moments)
+}
+
+/// A box of this version and flags, with a group, under a name of so many bytes, of so many times a moment at this time.
+fn nested(
+    alloc: Global,
+    (version, flags): (u8, u32),
+    name: usize,
+    time: u64,
+    count: usize,
+) -> Made<&'static str> {
+    let name = vec![in alloc; 0x84; name]?.into();
+    let moments = moments(alloc, 0x85, time, count)?;
+    let mut groups = Entries::new(alloc);
+    groups.push(Group { name, moments })?;
+    Ok(ending(
+        alloc,
+        Nested {
+            version,
+            flags,
+            groups,
+            last: 0x8a,
+        },
+    ))
+}
+
+/// Two lines, of which the second one has this text, and so many times a moment at this time.
+fn lines(alloc: Global, text: &[u8], time: u64, count: usize) -> Made<&'static str> {
+    let mut lines = Entries::new(alloc);
+    lines.push(Line {
+        moments: Entries::new(alloc),
+        text: bytes_of(alloc, b"\x84")?,
+        number: 0x8586,
+    })?;
+    lines.push(Line {
+        moments: moments(alloc, 0x87, time, count)?,
+        text: bytes_of(alloc, text)?,
+        number: 0x8c8d,
+    })?;
+    Ok(ending(
+        alloc,
+        Lines {
+            version: 0,
+            flags: 0x81_8283,
+            lines,
+        },
+    ))
+}
+
 /// An index of this version, flags, time and offset, and of so many times this reference.
 fn sidx(
     alloc: Global,
@@ -231,6 +286,14 @@ fn lists_that_do_not_fit(rt: HostRuntime) -> Result<(), Fail> {
         strings(alloc, b"", b"", b"\x81\0")?,
         runs(alloc, 256, 255)?,
         runs(alloc, 255, 256)?,
+        nested(alloc, (2, 0), 0, 0, 0)?,
+        nested(alloc, (0, 1 << 24), 0, 0, 0)?,
+        nested(alloc, (0, 0), 256, 0, 0)?,
+        nested(alloc, (0, 0), 255, 1 << 32, 1)?,
+        nested(alloc, (1, 0), 0, 0, 65536)?,
+        lines(alloc, b"\x88\0", 0, 0)?,
+        lines(alloc, b"", 1 << 32, 1)?,
+        lines(alloc, b"", 0, 256)?,
         sidx(alloc, (0, 0, 0, 0), 1, WIDE[0])?,
         sidx(alloc, (0, 0, 0, 0), 1, WIDE[1])?,
         sidx(alloc, (0, 0, 0, 0), 1, WIDE[2])?,
@@ -241,6 +304,12 @@ fn lists_that_do_not_fit(rt: HostRuntime) -> Result<(), Fail> {
         sidx(alloc, (0, 0, 0, 1 << 32), 0, SidxEntry::default())?,
         sidx(alloc, (0, 0, 1 << 32, 1 << 32), 0, SidxEntry::default())?,
     ];
-    assert_eq!(rt; endings, [UNFIT; 24]);
+    assert_eq!(rt; endings, [UNFIT; 32]);
+    let written = [
+        nested(alloc, (0, 0xff_ffff), 255, (1 << 32) - 1, 1)?,
+        nested(alloc, (1, 0), 0, 1 << 32, 1)?,
+        lines(alloc, b"", (1 << 32) - 1, 255)?,
+    ];
+    assert_eq!(rt; written, ["ok"; 3]);
     Ok(())
 }
