@@ -9,7 +9,8 @@ from rows_of.making import (
 FRONT = b"\0\x81\x82\x83"
 NARROW = box(
     b"nest", FRONT, u32(3),
-    b"\x02\x84\x85", u16(3), b"\x86", counting(0x87, 0x8A), b"\x8b", counting(0x8C, 0x8F), b"\x90", counting(0x91, 0x94),
+    b"\x02\x84\x85", u16(3), b"\x86", counting(0x87, 0x8A), b"\x8b", counting(0x8C, 0x8F),
+    b"\x90", counting(0x91, 0x94),
     b"\x01\x95", u16(0),
     b"\0", u16(1), b"\x96", counting(0x97, 0x9A),
     b"\x9b",
@@ -17,7 +18,8 @@ NARROW = box(
 # The same in version 1, with times of eight bytes.
 WIDE = box(
     b"nest", b"\x01", FRONT[1:], u32(3),
-    b"\x02\x84\x85", u16(3), b"\x86", counting(0x87, 0x8E), b"\x8f", counting(0x90, 0x97), b"\x98", counting(0x99, 0xA0),
+    b"\x02\x84\x85", u16(3), b"\x86", counting(0x87, 0x8E), b"\x8f", counting(0x90, 0x97),
+    b"\x98", counting(0x99, 0xA0),
     b"\x01\xa1", u16(0),
     b"\0", u16(1), b"\xa2", counting(0xA3, 0xAA),
     b"\xab",
