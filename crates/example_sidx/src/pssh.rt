@@ -34,7 +34,7 @@ impl DeclaredBox for Pssh {
 
     ghost CODE = { PSSH };
 
-    ghost layout = { layout_of struct (λ _. tt) (λ _. refl) (lit< tt) refl };
+    ghost layout = { layout_of struct (λ _. tt) (λ _. refl) (lit< tt) };
 
     const CODE: u32 = PSSH;
 

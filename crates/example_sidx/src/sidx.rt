@@ -83,7 +83,7 @@ impl DeclaredBox for Sidx {
 
     ghost CODE = { SIDX };
 
-    ghost layout = { layout_of struct (λ _. tt) (λ _. refl) (lit< tt) refl };
+    ghost layout = { layout_of struct (λ _. tt) (λ _. refl) (lit< tt) };
 
     fn from_content(found: <SidxShape as Shape>::Value) -> Sidx {
         box_of!(found => Sidx { version, flags, reference_id, timescale, earliest_presentation_time,

@@ -29,7 +29,7 @@ impl DeclaredBox for Mfhe {
 
     ghost CODE = { MFHE };
 
-    ghost layout = { layout_of struct (λ _. tt) (λ _. refl) (lit< tt) refl };
+    ghost layout = { layout_of struct (λ _. tt) (λ _. refl) (lit< tt) };
 
     const CODE: u32 = MFHE;
 

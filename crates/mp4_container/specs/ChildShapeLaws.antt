@@ -4,6 +4,7 @@ use Rattle.std.proofs.Common.{refl, sym, ap, subst, ◌∙◌, arith, length-app
 use Rattle.std.specs.Prelude.{nat_le}
 use Rattle.std.proofs.lemmas.Bool.{le-leb, eq-eqb, eqb-true}
 use Rattle.std.proofs.lemmas.List.{append-nil}
+use Rattle.mp4_frame.specs.BoxType.{code_of-name_of}
 use Rattle.mp4_frame.specs.Bytes.{number, bytes_of_fields}
 use Rattle.mp4_frame.specs.Format.{IsBox}
 use Rattle.mp4_frame.specs.Laws.{AreBytes}
@@ -61,7 +62,8 @@ module _ {code : ℕ} {C V : Type 0} (s : Shape C) (is : IsShape s) (l : OwnLayo
       number-after x (box ++ y) at at 4 refl (omega arith) ∙ ap (λ (k : ℕ). number (box ++ y) k 4) none
       ∙ number-front box y 0 4 (omega (arith, h.long, h.least)) ∙ h.size_first in
       let code_there : number bytes (at + 4) 4 ≡ code =
-      number-past x (box ++ y) 4 4 ∙ number-front box y 4 4 (omega (arith, h.long, h.least)) ∙ h.code_next in
+      number-past x (box ++ y) 4 4 ∙ number-front box y 4 4 (omega (arith, h.long, h.least)) ∙ h.code_next
+      ∙ code_of-name_of code in
       let piece : (piece_at bytes at size).outcome ≡ Ok box =
       ap (λ (k : ℕ). (piece_at bytes at k).outcome) (sym h.long)
       ∙ ap (λ (r : Reading (List ℕ)). r.outcome) (piece_back x box y at refl) in

@@ -18,7 +18,7 @@ use Rattle.mp4_frame.specs.declared.box_type.BoxType.{BoxType}
 use Rattle.mp4_frame.proofs.Checks.{are_bytes-drop, check_ok, is_value, piece_back, reads_ok}
 use Rattle.mp4_frame.proofs.Decided.{outcome_bind}
 use Rattle.mp4_frame.proofs.Fields.{length-fields}
-use Rattle.mp4_frame.proofs.Framing.{header_in_front}
+use Rattle.mp4_declared.specs.OwnBoxLaws.{header_of_code}
 use Rattle.mp4_frame.proofs.Numbers.{number-front}
 use Rattle.mp4_frame.proofs.RoundTrip.{whole}
 use Rattle.mp4_frame.proofs.Tables.{value_first}
@@ -75,14 +75,8 @@ module _ {A : Type 0} (format : Format A) (laws : IsWritten format) where
       → BeginsWithHeader (size_container format v) (name_of v.code) (bytes_container format v)
   unfolding bytes_container
   header_law v w =
-      let own = code_of-name_of v.code in
-      let code_fits : code_of (name_of v.code) < 256 ^ 4 =
-      subst (λ (code : ℕ). code < 256 ^ 4) (sym own) w.front.coded in
-      subst (λ (code : ℕ).
-      BeginsWithHeader (size_container format v) (name_of v.code)
-      (bytes_of_fields ((4, size_container format v) ∷ (4, code) ∷ []) ++ content_of format v)) own
-      (header_in_front {size = size_container format v} {name = name_of v.code} [] (content_of format v)
-      (w.small, (code_fits, tt)) (omega (arith, content_long v w)))
+      header_of_code (size_container format v) v.code (content_of format v) (w.small, (w.front.coded, tt))
+      (omega (arith, content_long v w))
 
   abbrev normal : Container A → Container A
   normal v = (format_container format).normal v

@@ -1,12 +1,12 @@
 -- A box that is declared, with boxes after its fields: size and code of four bytes each, a shape, and then boxes to the
 -- end of the box (ISO/IEC 14496-12, 4.2).
 use Rattle.std.specs.Prelude.{ℕ, ◌+◌, ◌<◌, ◌^◌, nat_le, Bool, List, ◌++◌, map, All, sum_by}
+use Rattle.mp4_frame.specs.BoxType.{name_of}
 use Rattle.mp4_frame.specs.Bytes.{bytes_of_fields}
 use Rattle.mp4_frame.specs.Format.{Format}
 use Rattle.mp4_frame.specs.Reading.{Reading, ◌>>=◌, check, piece_at, done}
 use Rattle.mp4_frame.specs.Streams.{stream, boxes}
 use Rattle.mp4_frame.specs.declared.box_type.BoxType.{BoxType}
-use Rattle.mp4_frame.specs.declared.box_type.BoxType.TheVariants as names
 use Rattle.mp4_declared.specs.OwnBox.{no_context, OwnLayout, reads_declared, size_declared, header_declared}
 use Rattle.mp4_declared.specs.OwnBox.{format_declared}
 use Rattle.mp4_declared.specs.Shape.{Shape}
@@ -48,7 +48,7 @@ module _ {code : ℕ} {C V A : Type 0} (s : Shape C) (l : OwnLayout code C V) wh
 
     abbrev pub format_parent : Format (Parent V A)
     format_parent = record {
-      name = λ _. names.UnknownBox code;
+      name = λ _. name_of code;
       size = size_parent;
       Writable = WritableParent;
       bytes = bytes_parent;

@@ -2,9 +2,9 @@
 use Rattle.std.proofs.Common.{◌≡◌, ℕ, ◌+◌, ◌-◌, ◌≤◌, ◌<◌, ◌^◌, Bool, true, false, List, [], ◌++◌, length, map, drop}
 use Rattle.std.proofs.Common.{Ok, refl, sym, ap, subst, ◌∙◌, arith, append_assoc, length-append}
 use Rattle.std.specs.Prelude.{nat_le, sum_by}
-use Rattle.std.proofs.lemmas.Bool.{le-leb, eq-eqb, eqb-true}
+use Rattle.std.proofs.lemmas.Bool.{le-leb}
 use Rattle.std.proofs.lemmas.List.Elements.{All-from_recursion, recursion_from_All}
-use Rattle.mp4_frame.specs.BoxType.{code_of, name_of-code_of}
+use Rattle.mp4_frame.specs.BoxType.{name_of}
 use Rattle.mp4_frame.specs.Bytes.{bytes_of_fields}
 use Rattle.mp4_frame.specs.Format.{Format, IsBox, write_laws}
 use Rattle.mp4_frame.specs.Laws.{AreBytes, BeginsWithHeader, Normal, ContentReadsBack}
@@ -13,18 +13,16 @@ use Rattle.mp4_frame.specs.Reading.{Reading, ◌>>=◌, expect_bytes, piece_at, 
 use Rattle.mp4_frame.specs.ReadingLaws.{reads_back}
 use Rattle.mp4_frame.specs.Streams.{stream, boxes}
 use Rattle.mp4_frame.specs.declared.box_type.BoxType.{BoxType}
-use Rattle.mp4_frame.specs.declared.box_type.BoxType.TheVariants as names
 use Rattle.mp4_frame.proofs.Checks.{are_bytes-drop, check_ok, expect_bytes_present, is_value, past, past_check}
 use Rattle.mp4_frame.proofs.Checks.{piece_back, reads_ok}
 use Rattle.mp4_frame.proofs.Decided.{outcome_bind}
 use Rattle.mp4_frame.proofs.Fields.{length-fields}
-use Rattle.mp4_frame.proofs.Framing.{header_in_front}
 use Rattle.mp4_frame.proofs.RoundTrip.{whole}
 use Rattle.mp4_frame.proofs.Tables.{value_first}
-use Rattle.mp4_declared.specs.ByCode.{has_code}
+use Rattle.mp4_declared.specs.ByCode.{has_code, own_name_of_code, code_of_own_name}
 use Rattle.mp4_declared.specs.OwnBox.{no_context, OwnLayout, reads_declared, size_declared, header_declared}
 use Rattle.mp4_declared.specs.OwnBox.{format_declared}
-use Rattle.mp4_declared.specs.OwnBoxLaws.{laws_declared}
+use Rattle.mp4_declared.specs.OwnBoxLaws.{laws_declared, header_of_code}
 use Rattle.mp4_declared.specs.Shape.{Shape}
 use Rattle.mp4_declared.specs.ShapeLaws.{IsShape, ends_bounded}
 use Rattle.mp4_lists.proofs.SoundLists.{own_normal_forms, are_writable, read_lists_are_sound}
@@ -76,9 +74,9 @@ module _ {code : ℕ} {C V A : Type 0} (s : Shape C) (is : IsShape s) (l : OwnLa
       (stream_long format laws.written v.boxes (recursion_from_All format.Writable v.boxes w.each))
 
   header_law : (v : Parent V A) → WritableParent s l format v
-      → BeginsWithHeader (size v) (names.UnknownBox code) (bytes_parent s l format v)
+      → BeginsWithHeader (size v) (name_of code) (bytes_parent s l format v)
   unfolding bytes_parent
-  header_law v w = header_in_front [] (content v) (w.small, (l.coded, tt)) (omega (arith, content_long v w))
+  header_law v w = header_of_code (size v) code (content v) (w.small, (l.coded, tt)) (content_long v w)
 
   normal_law : (v : Parent V A) → WritableParent s l format v
       → Normal (WritableParent s l format) (bytes_parent s l format) normal v
@@ -226,10 +224,7 @@ module _ {code : ℕ} {C V A : Type 0} (s : Shape C) (is : IsShape s) (l : OwnLa
   pub child_parent : IsChild (has_code code) reading_parent (format_parent s l format)
   child_parent = record {
     written = write_laws laws_parent;
-    own_name = λ v w. record {
-      is_known = eq-eqb code code refl;
-      is_own = name_of-code_of (names.UnknownBox code) l.own;
-    };
+    own_name = λ v w. own_name_of_code code;
     read_back = λ v w. reads_back (reads_parent s l known named_reading) (bytes_parent s l format v) (size v) (normal v)
         (header_law v w).long (content_back v w);
     sound = λ name is_known fits bytes start long v are e.
@@ -238,4 +233,4 @@ module _ {code : ℕ} {C V A : Type 0} (s : Shape C) (is : IsShape s) (l : OwnLa
   }
 
   pub code_parent : ReadsOwnCode (has_code code) reading_parent (format_parent s l format)
-  code_parent name is_known bytes start long v e = sym (eqb-true (code_of name) code is_known)
+  code_parent name is_known bytes start long v e = code_of_own_name code name is_known

@@ -1,8 +1,8 @@
 -- A declared box in lists: it is told by its code.
-use Rattle.std.specs.Prelude.{ℕ, ◌==◌, Bool}
-use Rattle.std.proofs.Common.{refl, sym, ap}
+use Rattle.std.specs.Prelude.{◌≡◌, ℕ, ◌==◌, Bool, true}
+use Rattle.std.proofs.Common.{sym, ap, ◌∙◌}
 use Rattle.std.proofs.lemmas.Bool.{eq-eqb, eqb-true}
-use Rattle.mp4_frame.specs.BoxType.{code_of, name_of-code_of}
+use Rattle.mp4_frame.specs.BoxType.{name_of, code_of, code_of-name_of}
 use Rattle.mp4_frame.specs.Format.{IsBox}
 use Rattle.mp4_frame.specs.Laws.{OwnName, ReadsBack}
 use Rattle.mp4_frame.specs.Reading.{reading}
@@ -21,12 +21,23 @@ has_code code name = code_of name == code
 pub by_code_declared : (code : ℕ) → ByCode (has_code code)
 by_code_declared code n m same = ap (λ (c : ℕ). c == code) same
 
+-- the name of a code is one with this code
+pub own_name_of_code : (code : ℕ) → OwnName (has_code code) (name_of code)
+own_name_of_code code =
+    record {
+      is_known = eq-eqb (code_of (name_of code)) code (code_of-name_of code);
+      is_own = ap name_of (code_of-name_of code);
+    }
+
+-- it has the code of each name with this code
+pub code_of_own_name : (code : ℕ) (name : BoxType) → has_code code name ≡ true → code_of (name_of code) ≡ code_of name
+code_of_own_name code name known = code_of-name_of code ∙ sym (eqb-true (code_of name) code known)
+
 module _ {code : ℕ} {A V : Type 0} (s : Shape A) (l : OwnLayout code A V)
     (laws : IsBox (reads_declared s l) (format_declared s l)) where
   pub own_name_declared : (v : V) → (format_declared s l).Writable v
       → OwnName (has_code code) ((format_declared s l).name v)
-  own_name_declared v w =
-      record { is_known = eq-eqb code code refl; is_own = name_of-code_of ((format_declared s l).name v) l.own }
+  own_name_declared v w = own_name_of_code code
 
   pub read_back_declared : (v : V) → (format_declared s l).Writable v
       → ReadsBack (reading (reads_declared s l)) ((format_declared s l).bytes v) ((format_declared s l).normal v)
@@ -39,4 +50,4 @@ module _ {code : ℕ} {A V : Type 0} (s : Shape A) (l : OwnLayout code A V)
       laws.sound _ start size v (are_bytes-drop start bytes are) (reads_ok (reads_declared s l) bytes start size v e)
 
   pub code_declared : ReadsOwnCode (has_code code) (λ _. reading (reads_declared s l)) (format_declared s l)
-  code_declared name known bytes start size v e = sym (eqb-true (code_of name) code known)
+  code_declared name known bytes start size v e = code_of_own_name code name known

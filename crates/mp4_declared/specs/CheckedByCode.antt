@@ -1,15 +1,12 @@
 -- A declared box with a check of its own in lists: it is told by its code.
 use Rattle.std.specs.Prelude.{ℕ, Bool}
-use Rattle.std.proofs.Common.{sym}
-use Rattle.std.proofs.lemmas.Bool.{eqb-true}
-use Rattle.mp4_frame.specs.BoxType.{code_of}
 use Rattle.mp4_frame.specs.Format.{IsBox}
 use Rattle.mp4_frame.specs.Laws.{ReadsBack}
 use Rattle.mp4_frame.specs.Reading.{reading}
 use Rattle.mp4_frame.specs.ReadingLaws.{reads_back}
 use Rattle.mp4_frame.proofs.Checks.{are_bytes-drop, reads_ok}
 use Rattle.mp4_lists.specs.Sound.{ReadsSoundly, ReadsOwnCode}
-use Rattle.mp4_declared.specs.ByCode.{has_code}
+use Rattle.mp4_declared.specs.ByCode.{has_code, code_of_own_name}
 use Rattle.mp4_declared.specs.Shape.{Shape}
 use Rattle.mp4_declared.specs.OwnBox.{OwnLayout, reads_checked, format_checked}
 
@@ -29,4 +26,4 @@ module _ {code : ℕ} {A V : Type 0} (passes : V → Bool) (s : Shape A) (l : Ow
       (reads_ok (reads_checked passes s l) bytes start size v e)
 
   pub code_checked : ReadsOwnCode (has_code code) (λ _. reading (reads_checked passes s l)) (format_checked passes s l)
-  code_checked name known bytes start size v e = sym (eqb-true (code_of name) code known)
+  code_checked name known bytes start size v e = code_of_own_name code name known

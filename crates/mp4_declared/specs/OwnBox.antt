@@ -1,10 +1,9 @@
 -- A box that is declared: a size and a code of four bytes each, and a shape.
-use Rattle.std.specs.Prelude.{◌≡◌, ℕ, ◌+◌, ◌<◌, ◌^◌, Bool, true, false, List, [], ◌∷◌, ◌++◌}
-use Rattle.mp4_frame.specs.BoxType.{is_disguised}
+use Rattle.std.specs.Prelude.{◌≡◌, ℕ, ◌+◌, ◌<◌, ◌^◌, Bool, true, List, [], ◌∷◌, ◌++◌}
+use Rattle.mp4_frame.specs.BoxType.{name_of}
 use Rattle.mp4_frame.specs.Bytes.{bytes_of_fields, FieldsFit}
 use Rattle.mp4_frame.specs.Format.{Format}
 use Rattle.mp4_frame.specs.Reading.{Reading, ◌>>=◌, done, check, expect_bytes}
-use Rattle.mp4_frame.specs.declared.box_type.BoxType.TheVariants as names
 use denote.Struct.Record.{Record as Struct}
 use denote.Struct.Values.{Values}
 use Rattle.mp4_declared.specs.declared.context.Context.{Context}
@@ -15,26 +14,23 @@ abbrev pub no_context : Context
 no_context = record { version = 0; flags = 0 }
 
 -- The fields of a box: the content of a box, and the box of some content. The box of a box's content is its normal
--- form. The author shows that some content is that of its box, and that the code has 32 bits and is none that the codec
--- names.
+-- form. The author shows that some content is that of its box, and that the code has 32 bits.
 pub record OwnLayout (code : ℕ) (A V : Type 0) : Type 0 where
   pub content : V → A
   pub value : A → V
   pub again : (x : A) → content (value x) ≡ x
   pub coded : code < 2 ^ 32
-  pub own : is_disguised (names.UnknownBox code) ≡ false
 
 -- The same of a struct whose fields, in their order, are the parts of the content. `struct` of its module says what they
 -- are, `free` that it has no ghost fields, and `back` that it is its own normal form.
 abbrev pub layout_of : {code : ℕ} (n : Struct) (free : (x : Values n.parts) → n.Ghost x)
     → ((v : n.D) → n.make (n.as_values v) (free (n.as_values v)) ≡ v) → code < 2 ^ 32
-    → is_disguised (names.UnknownBox code) ≡ false → OwnLayout code (Values n.parts) n.D
-layout_of n free back coded own = record {
+    → OwnLayout code (Values n.parts) n.D
+layout_of n free back coded = record {
   content = n.as_values;
   value = λ x. n.make x (free x);
   again = λ x. n.beta x (free x);
   coded = coded;
-  own = own;
 }
 
 unfoldable pub reads_declared : {code : ℕ} {A V : Type 0} → Shape A → OwnLayout code A V → List ℕ → ℕ → ℕ → Reading V
@@ -51,7 +47,7 @@ header_declared size code = (4, size) ∷ (4, code) ∷ []
 
 abbrev pub format_declared : {code : ℕ} {A V : Type 0} → Shape A → OwnLayout code A V → Format V
 format_declared {code} s l = record {
-  name = λ _. names.UnknownBox code;
+  name = λ _. name_of code;
   size = size_declared s l;
   Writable = λ v. FieldsFit (header_declared (size_declared s l v) code) × s.Fits no_context (l.content v);
   bytes = λ v. bytes_of_fields (header_declared (size_declared s l v) code) ++ s.bytes no_context (l.content v);

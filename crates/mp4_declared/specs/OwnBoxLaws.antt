@@ -2,9 +2,10 @@
 use Rattle.std.proofs.Common.{◌≡◌, ℕ, ◌+◌, ◌≤◌, ◌<◌, ◌^◌, Bool, true, false, leb, List, [], ◌++◌, length, Ok, Err, refl}
 use Rattle.std.proofs.Common.{sym, ap, subst, ◌∙◌, append_assoc, length-append, arith}
 use Rattle.std.proofs.lemmas.Bool.{leb-true, leb-false}
+use Rattle.mp4_frame.specs.BoxType.{name_of, code_of, code_of-name_of}
 use Rattle.mp4_frame.specs.Bytes.{bytes_of_fields, FieldsFit}
 use Rattle.mp4_frame.specs.Format.{IsBox}
-use Rattle.mp4_frame.specs.Laws.{ContentReadsBack, ContentIsSound, Normal}
+use Rattle.mp4_frame.specs.Laws.{BeginsWithHeader, ContentReadsBack, ContentIsSound, Normal}
 use Rattle.mp4_frame.specs.Reading.{Reading, End, ◌>>=◌, done, check, expect_bytes}
 use Rattle.mp4_frame.specs.declared.error.Error.TheVariants as errors
 use Rattle.mp4_frame.proofs.Checks.{expect_bytes_present, expect_bytes_ok, check_ok, past, is_value}
@@ -16,6 +17,16 @@ use Rattle.mp4_declared.specs.Shape.{Shape}
 use Rattle.mp4_declared.specs.ShapeLaws.{IsShape, ends_always, expect_bytes_absent}
 use Rattle.mp4_declared.specs.OwnBox.{no_context, OwnLayout, reads_declared, size_declared, header_declared}
 use Rattle.mp4_declared.specs.OwnBox.{format_declared, reads_checked, format_checked}
+
+-- a size, a code, and bytes that fill the size after them are a box with the name of the code
+pub header_of_code : (size code : ℕ) (rest : List ℕ) → FieldsFit (header_declared size code) → 8 + length rest ≡ size
+    → BeginsWithHeader size (name_of code) (bytes_of_fields (header_declared size code) ++ rest)
+header_of_code size code rest fits long =
+    let own : code_of (name_of code) ≡ code = code_of-name_of code in
+    let named_fits : FieldsFit (header_declared size (code_of (name_of code))) =
+    subst (λ (n : ℕ). FieldsFit (header_declared size n)) (sym own) fits in
+    subst (λ (n : ℕ). BeginsWithHeader size (name_of code) (bytes_of_fields (header_declared size n) ++ rest)) own
+    (header_in_front {size = size} {name = name_of code} [] rest named_fits (omega (arith, long)))
 
 module _ {code : ℕ} {A V : Type 0} (s : Shape A) (is : IsShape s) (l : OwnLayout code A V)
     (valid : s.valid ≡ true) where
@@ -71,7 +82,7 @@ module _ {code : ℕ} {A V : Type 0} (s : Shape A) (is : IsShape s) (l : OwnLayo
 
   pub laws_declared : IsBox (reads_declared s l) (format_declared s l)
   laws_declared = record {
-    header = λ v w. header_in_front [] (s.bytes no_context (l.content v)) w.0
+    header = λ v w. header_of_code (size_declared s l v) code (s.bytes no_context (l.content v)) w.0
         (omega (arith, is.long no_context (l.content v) w.1));
     normal_form = declared_normal;
     read_back = declared_back;

@@ -5,7 +5,6 @@ ghost use Rattle.std.specs.Prelude.{take};
 ghost use Rattle.mp4_frame.specs.Bytes.{bytes_of_fields};
 ghost use Rattle.mp4_frame.specs.Format.{write_laws};
 ghost use Rattle.mp4_frame.specs.Reading.{Answers};
-ghost use Rattle.mp4_frame.specs.declared.box_type.BoxType.TheVariants as names;
 ghost use Rattle.mp4_declared.specs.OwnBox.{no_context, reads_declared, format_declared, header_declared};
 ghost use Rattle.mp4_declared.specs.OwnBox.{OwnLayout};
 ghost use Rattle.mp4_declared.specs.OwnBoxLaws.{laws_declared};
@@ -235,7 +234,7 @@ impl<T: DeclaredBox> Mp4Box for Declared<T> {
     ghost format = { format_declared T.Shape.shape T.layout };
 
     fn box_type(&self) -> BoxType {
-        BoxType::UnknownBox(T::CODE)
+        BoxType::from(T::CODE)
     }
 
     #[inline]

@@ -1,5 +1,6 @@
 -- A type that holds boxes of several types, such as an enum of them.
 use Rattle.std.specs.Prelude.{◌≡◌, ℕ, List, Bool, true, false}
+use Rattle.mp4_frame.specs.BoxType.{code_of}
 use Rattle.mp4_frame.specs.Format.{Format}
 use Rattle.mp4_frame.specs.Reading.{Reading, Invalid, faults, map_reading, reading}
 use Rattle.mp4_frame.specs.declared.box_type.BoxType.{BoxType}
@@ -65,9 +66,11 @@ abbrev pub name_of_value : {E : Type 0} → (E → Held E) → BoxType → (k : 
 name_of_value held name (Is k) x = (held (k.wrap x)).name
 name_of_value held name Unknown x = name
 
--- a box that is read under a name has that name
-abbrev pub NamedAsRead : {E : Type 0} → (BoxType → Known E) → (E → Held E) → Type 0
-NamedAsRead kinds held = (name : BoxType) (x : ValueOf (kinds name)) → name_of_value held name (kinds name) x ≡ name
+-- a box that is read under a name has a name of the same code, and is read alike under both
+abbrev pub NamedAsRead : {E : Type 0} → (BoxType → Known E) → (E → Held E) → Type 1
+NamedAsRead kinds held = (name : BoxType) (x : ValueOf (kinds name)) →
+    (code_of (name_of_value held name (kinds name) x) ≡ code_of name)
+    × (kinds (name_of_value held name (kinds name) x) ≡ kinds name)
 
 -- a box of some type, and the format of that type
 pub record SomeBox : Type 1 where

@@ -98,6 +98,9 @@ pub trait BoxEnum: Drop {
     /// Each value is of one of these types.
     ghost members: { (v : Self) → IsMember kinds (held_inside inside) v };
 
+    /// A box that is read under a name has a name of the same code, and is read alike under both.
+    ghost named: { NamedAsRead kinds (held_inside inside) };
+
     /// Whether it holds boxes of this name.
     fn holds(name: BoxType) -> bool
         ensures { result ≡ is_known (kinds name) };
@@ -117,9 +120,6 @@ pub trait BoxEnum: Drop {
     fn ask<Q: Question>(&self, out: &mut [u8]) -> Q::Answer
         requires { Q.can_ask (inside self.now).box (length out.old) }
         ensures { Q.answers (inside self.now).box out.new result };
-
-    /// A box that is read under a name has that name.
-    ghost named: { NamedAsRead kinds (held_inside inside) };
 }
 
 impl<E: BoxEnum> Mp4Box for E {

@@ -30,24 +30,34 @@ module _ {E : Type 0} (held : E → Held E) where
       by true is x = named x ∙ ap (λ (n : ℕ). names.UnknownBox n) (sym (eqb-true code own is))
       by false is x = refl
 
-  name_read : (name : BoxType) (k : Known E) → ((x : ValueOf k) → name_of_value held name k x ≡ name)
+  -- what holds of the names of the values of a type holds of the name of a member that is read
+  name_read : (P : BoxType → Type 1) (name : BoxType) (k : Known E)
+      → ((x : ValueOf k) → P (name_of_value held name k x))
       → (bytes : List ℕ) (start size : ℕ) (v : E) → (reading_known k bytes start size).outcome ≡ Ok v
-      → (held v).name ≡ name
-  name_read name (Is k) own bytes start size v e =
+      → P (held v).name
+  name_read P name (Is k) own bytes start size v e =
       let p = mapped_value k.wrap (reading k.reads bytes start size) v e in
-      ap (λ (u : E). (held u).name) (sym p.2) ∙ own p.0
-  name_read name Unknown own bytes start size v e = absurd cc
+      subst (λ (u : E). P (held u).name) p.2 (own p.0)
+  name_read P name Unknown own bytes start size v e = absurd cc
 
 module _ {E : Type 0} (kinds : BoxType → Known E) (held : E → Held E) where
+  -- a member that is read under a name has a name of the same code, and is read alike under both
+  named_read : NamedAsRead kinds held → (name : BoxType) (bytes : List ℕ) (start size : ℕ) (v : E)
+      → (reading_known (kinds name) bytes start size).outcome ≡ Ok v
+      → (code_of (held v).name ≡ code_of name) × (kinds (held v).name ≡ kinds name)
+  named_read named name bytes start size v e =
+      name_read held (λ n. (code_of n ≡ code_of name) × (kinds n ≡ kinds name)) name (kinds name) (named name) bytes
+      start size v e
+
   -- the type of a member that was read is the type that the name gives, and its law of soundness is that of the member
   pub sound_member : (members : (v : E) → IsMember kinds held v) → NamedAsRead kinds held
       → ReadsSoundly (λ name. is_known (kinds name)) (λ name. reading_known (kinds name)) (format_held held)
   sound_member members named name known fits bytes start size v are e =
       let m = members v in
       let is : held v ≡ holds m.format m.wrap m.value = ap held m.is ∙ m.is_held m.value in
-      let own : m.format.name m.value ≡ name = sym (ap (λ (h : Held E). h.name) is)
-      ∙ name_read held name (kinds name) (named name) bytes start size v e in
-      let is_kind : kinds name ≡ Is (kind m.reads m.format m.wrap) = ap kinds (sym own) ∙ m.is_kind m.value in
+      let own : kinds (m.format.name m.value) ≡ kinds name =
+      ap (λ (h : Held E). kinds h.name) (sym is) ∙ (named_read named name bytes start size v e).1 in
+      let is_kind : kinds name ≡ Is (kind m.reads m.format m.wrap) = sym own ∙ m.is_kind m.value in
       let read : (map_reading m.wrap (reading m.reads bytes start size)).outcome ≡ Ok v =
       subst (λ (k : Known E). (reading_known k bytes start size).outcome ≡ Ok v) is_kind e in
       let p = mapped_value m.wrap (reading m.reads bytes start size) v read in
@@ -63,4 +73,4 @@ module _ {E : Type 0} (kinds : BoxType → Known E) (held : E → Held E) where
   pub code_of_member : NamedAsRead kinds held
       → ReadsOwnCode (λ name. is_known (kinds name)) (λ name. reading_known (kinds name)) (format_held held)
   code_of_member named name known bytes start size v e =
-      ap code_of (name_read held name (kinds name) (named name) bytes start size v e)
+      (named_read named name bytes start size v e).0

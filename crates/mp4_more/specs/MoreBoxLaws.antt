@@ -1,10 +1,10 @@
 -- The laws of a box of one of the types of this crate follow from the laws of its type.
 use Rattle.std.proofs.Common.{◌≡◌, ℕ, Option, None, Some, refl, sym, ap, subst, ◌∙◌}
 use Rattle.mp4_stream.specs.Author.{laws_declared, BoxType, Held, holds, held_inside}
-use Rattle.mp4_stream.specs.Author.{IsMember, member, NamedAsRead}
-use Rattle.mp4_stream.specs.Author.names
+use Rattle.mp4_stream.specs.Author.{IsMember, member, NamedAsRead, code_of, code_of-name_of}
+use Rattle.mp4_stream.specs.NameLaws.{plain_name}
 use Rattle.mp4_frame.specs.Members.{ValueOf, name_of_value}
-use Rattle.mp4_more.specs.MoreType.{type_of_code}
+use Rattle.mp4_more.specs.MoreType.{code_of_type, type_of_code}
 use Rattle.mp4_more.specs.MoreTypeLaws.{type_found, code_found}
 use Rattle.mp4_more.specs.MoreBox.{FieldsOf, wrap, opened, Declarations, format_more, known_as, kinds, inside}
 use Rattle.mp4_more.specs.declared.more_type.MoreType.{MoreType}
@@ -28,20 +28,23 @@ module _ (declared : Declarations) where
   of_type t x =
       member (kinds declared) held (wrap t)
       (laws_declared (declared t).shape (declared t).laws (declared t).layout (declared t).valid) (is_held t)
-      (λ _. ap (known_as declared) (type_found t)) (λ _. (declared t).layout.own) x
+      (λ _. ap (λ (code : ℕ). known_as declared (type_of_code code)) (code_of-name_of (code_of_type t))
+      ∙ ap (known_as declared) (type_found t))
+      (λ _. plain_name (code_of_type t)) x
 
   pub members : (v : MoreBox) → IsMember (kinds declared) held v
   members v = subst (IsMember (kinds declared) held) (reopened v) (of_type (opened v).0 (opened v).1)
 
-  named_as : (code : ℕ) (found : Option MoreType) → type_of_code code ≡ found → (x : ValueOf (known_as declared found))
-      → name_of_value held (names.UnknownBox code) (known_as declared found) x ≡ names.UnknownBox code
-  named_as code None is x = refl
-  named_as code (Some t) is x =
-      ap (λ (h : Held MoreBox). h.name) (is_held t x)
-      ∙ ap (λ (n : ℕ). names.UnknownBox n) (sym (code_found code t is))
+  named_as : (name : BoxType) (found : Option MoreType) → type_of_code (code_of name) ≡ found
+      → (x : ValueOf (known_as declared found))
+      → code_of (name_of_value held name (known_as declared found) x) ≡ code_of name
+  named_as name None is x = refl
+  named_as name (Some t) is x =
+      ap (λ (h : Held MoreBox). code_of h.name) (is_held t x)
+      ∙ (code_of-name_of (code_of_type t) ∙ sym (code_found (code_of name) t is))
 
-  -- a box that is read under a name has that name
+  -- a box that is read under a name has its code, which alone says how it is read
   pub named : NamedAsRead (kinds declared) held
-  unfolding type_of_code
-  named (names.UnknownBox code) x = named_as code (type_of_code code) refl x
-  named _ x = refl
+  named name x =
+      let same = named_as name (type_of_code (code_of name)) refl x in
+      (same, ap (λ (code : ℕ). known_as declared (type_of_code code)) same)

@@ -91,7 +91,7 @@ impl DeclaredBox for Av1c {
 
     ghost CODE = { AV1C };
 
-    ghost layout = { layout_of struct (λ _. tt) (λ _. refl) (lit< tt) refl };
+    ghost layout = { layout_of struct (λ _. tt) (λ _. refl) (lit< tt) };
 
     const CODE: u32 = AV1C;
 

@@ -44,7 +44,7 @@ impl DeclaredBox for Clap {
 
     ghost CODE = { CLAP };
 
-    ghost layout = { layout_of struct (λ _. tt) (λ _. refl) (lit< tt) refl };
+    ghost layout = { layout_of struct (λ _. tt) (λ _. refl) (lit< tt) };
 
     const CODE: u32 = CLAP;
 

@@ -82,7 +82,7 @@ impl DeclaredBox for Colr {
 
     ghost CODE = { COLR };
 
-    ghost layout = { layout_of struct (λ _. tt) (λ _. refl) (lit< tt) refl };
+    ghost layout = { layout_of struct (λ _. tt) (λ _. refl) (lit< tt) };
 
     const CODE: u32 = COLR;
 

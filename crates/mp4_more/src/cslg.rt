@@ -50,7 +50,7 @@ impl DeclaredBox for Cslg {
 
     ghost CODE = { CSLG };
 
-    ghost layout = { layout_of struct (λ _. tt) (λ _. refl) (lit< tt) refl };
+    ghost layout = { layout_of struct (λ _. tt) (λ _. refl) (lit< tt) };
 
     const CODE: u32 = CSLG;
 

@@ -70,7 +70,7 @@ impl DeclaredBox for Dac3 {
 
     ghost CODE = { DAC3 };
 
-    ghost layout = { layout_of struct (λ _. tt) (λ _. refl) (lit< tt) refl };
+    ghost layout = { layout_of struct (λ _. tt) (λ _. refl) (lit< tt) };
 
     const CODE: u32 = DAC3;
 

@@ -65,7 +65,7 @@ impl DeclaredBox for Dec3 {
 
     ghost CODE = { DEC3 };
 
-    ghost layout = { layout_of struct (λ _. tt) (λ _. refl) (lit< tt) refl };
+    ghost layout = { layout_of struct (λ _. tt) (λ _. refl) (lit< tt) };
 
     const CODE: u32 = DEC3;
 

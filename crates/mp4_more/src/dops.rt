@@ -40,7 +40,7 @@ impl DeclaredBox for Dops {
 
     ghost CODE = { DOPS };
 
-    ghost layout = { layout_of struct (λ _. tt) (λ _. refl) (lit< tt) refl };
+    ghost layout = { layout_of struct (λ _. tt) (λ _. refl) (lit< tt) };
 
     const CODE: u32 = DOPS;
 

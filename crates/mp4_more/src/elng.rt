@@ -31,7 +31,7 @@ impl DeclaredBox for Elng {
 
     ghost CODE = { ELNG };
 
-    ghost layout = { layout_of struct (λ _. tt) (λ _. refl) (lit< tt) refl };
+    ghost layout = { layout_of struct (λ _. tt) (λ _. refl) (lit< tt) };
 
     const CODE: u32 = ELNG;
 

@@ -28,7 +28,7 @@ impl DeclaredBox for Frma {
 
     ghost CODE = { FRMA };
 
-    ghost layout = { layout_of struct (λ _. tt) (λ _. refl) (lit< tt) refl };
+    ghost layout = { layout_of struct (λ _. tt) (λ _. refl) (lit< tt) };
 
     const CODE: u32 = FRMA;
 

@@ -33,7 +33,7 @@ impl DeclaredBox for Kind {
 
     ghost CODE = { KIND };
 
-    ghost layout = { layout_of struct (λ _. tt) (λ _. refl) (lit< tt) refl };
+    ghost layout = { layout_of struct (λ _. tt) (λ _. refl) (lit< tt) };
 
     const CODE: u32 = KIND;
 

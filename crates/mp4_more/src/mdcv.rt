@@ -75,7 +75,7 @@ impl DeclaredBox for Mdcv {
 
     ghost CODE = { MDCV };
 
-    ghost layout = { layout_of struct (λ _. tt) (λ _. refl) (lit< tt) refl };
+    ghost layout = { layout_of struct (λ _. tt) (λ _. refl) (lit< tt) };
 
     const CODE: u32 = MDCV;
 

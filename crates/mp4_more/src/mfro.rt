@@ -32,7 +32,7 @@ impl DeclaredBox for Mfro {
 
     ghost CODE = { MFRO };
 
-    ghost layout = { layout_of struct (λ _. tt) (λ _. refl) (lit< tt) refl };
+    ghost layout = { layout_of struct (λ _. tt) (λ _. refl) (lit< tt) };
 
     const CODE: u32 = MFRO;
 

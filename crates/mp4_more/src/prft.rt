@@ -35,7 +35,7 @@ impl DeclaredBox for Prft {
 
     ghost CODE = { PRFT };
 
-    ghost layout = { layout_of struct (λ _. tt) (λ _. refl) (lit< tt) refl };
+    ghost layout = { layout_of struct (λ _. tt) (λ _. refl) (lit< tt) };
 
     const CODE: u32 = PRFT;
 

@@ -174,7 +174,7 @@ impl DeclaredBox for Saio {
 
     ghost CODE = { SAIO };
 
-    ghost layout = { layout_of struct (λ _. tt) (λ _. refl) (lit< tt) refl };
+    ghost layout = { layout_of struct (λ _. tt) (λ _. refl) (lit< tt) };
 
     const CODE: u32 = SAIO;
 

@@ -54,7 +54,7 @@ impl DeclaredBox for Saiz {
 
     ghost CODE = { SAIZ };
 
-    ghost layout = { layout_of struct (λ _. tt) (λ _. refl) (lit< tt) refl };
+    ghost layout = { layout_of struct (λ _. tt) (λ _. refl) (lit< tt) };
 
     const CODE: u32 = SAIZ;
 

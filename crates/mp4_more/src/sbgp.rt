@@ -78,7 +78,7 @@ impl DeclaredBox for Sbgp {
 
     ghost CODE = { SBGP };
 
-    ghost layout = { layout_of struct (λ _. tt) (λ _. refl) (lit< tt) refl };
+    ghost layout = { layout_of struct (λ _. tt) (λ _. refl) (lit< tt) };
 
     const CODE: u32 = SBGP;
 

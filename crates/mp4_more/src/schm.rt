@@ -37,7 +37,7 @@ impl DeclaredBox for Schm {
 
     ghost CODE = { SCHM };
 
-    ghost layout = { layout_of struct (λ _. tt) (λ _. refl) (lit< tt) refl };
+    ghost layout = { layout_of struct (λ _. tt) (λ _. refl) (lit< tt) };
 
     const CODE: u32 = SCHM;
 

@@ -54,7 +54,7 @@ impl DeclaredBox for Sgpd {
 
     ghost CODE = { SGPD };
 
-    ghost layout = { layout_of struct (λ _. tt) (λ _. refl) (lit< tt) refl };
+    ghost layout = { layout_of struct (λ _. tt) (λ _. refl) (lit< tt) };
 
     const CODE: u32 = SGPD;
 

@@ -82,7 +82,7 @@ impl DeclaredBox for Sidx {
 
     ghost CODE = { SIDX };
 
-    ghost layout = { layout_of struct (λ _. tt) (λ _. refl) (lit< tt) refl };
+    ghost layout = { layout_of struct (λ _. tt) (λ _. refl) (lit< tt) };
 
     const CODE: u32 = SIDX;
 

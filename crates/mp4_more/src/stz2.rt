@@ -38,7 +38,7 @@ impl DeclaredBox for Stz2 {
 
     ghost CODE = { STZ2 };
 
-    ghost layout = { layout_of struct (λ _. tt) (λ _. refl) (lit< tt) refl };
+    ghost layout = { layout_of struct (λ _. tt) (λ _. refl) (lit< tt) };
 
     const CODE: u32 = STZ2;
 

@@ -36,7 +36,7 @@ impl DeclaredBox for Subs {
 
     ghost CODE = { SUBS };
 
-    ghost layout = { layout_of struct (λ _. tt) (λ _. refl) (lit< tt) refl };
+    ghost layout = { layout_of struct (λ _. tt) (λ _. refl) (lit< tt) };
 
     const CODE: u32 = SUBS;
 

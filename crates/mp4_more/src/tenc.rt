@@ -90,7 +90,7 @@ impl DeclaredBox for Tenc {
 
     ghost CODE = { TENC };
 
-    ghost layout = { layout_of struct (λ _. tt) (λ _. refl) (lit< tt) refl };
+    ghost layout = { layout_of struct (λ _. tt) (λ _. refl) (lit< tt) };
 
     const CODE: u32 = TENC;
 

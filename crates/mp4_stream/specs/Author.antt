@@ -26,7 +26,8 @@ pub use Rattle.mp4_frame.specs.OneChild
 pub use Rattle.mp4_frame.specs.OptionalChild
 pub use Rattle.mp4_frame.specs.Parent
 -- names, formats, and types that hold boxes of several types
-pub use Rattle.mp4_frame.specs.BoxType.{name_of, code_of, is_disguised, name_of-code_of}
+unfoldable pub use Rattle.mp4_frame.specs.BoxType.{name_of}
+pub use Rattle.mp4_frame.specs.BoxType.{code_of, is_disguised, name_of-code_of, code_of-name_of}
 pub use Rattle.mp4_frame.specs.declared.box_type.BoxType.{BoxType}
 pub use Rattle.mp4_frame.specs.declared.box_type.BoxType.TheVariants as names
 pub use Rattle.mp4_frame.specs.declared.codes.TheConstants as codes

@@ -26,5 +26,5 @@ members (fragment.EmsgBox b) =
 
 -- a box that is read under a name has that name
 pub named : NamedAsRead kinds (held_inside inside)
-named (names.UnknownBox code) x = refl
-named _ x = refl
+named (names.UnknownBox code) x = (refl, refl)
+named _ x = (refl, refl)

@@ -19,8 +19,8 @@ use Rattle.mp4_stream.specs.declared.kept_box.KeptBox.{KeptBox}
 use Rattle.mp4_stream.specs.declared.kept_box.KeptBox.TheVariants as kept
 
 named : NamedAsRead kinds held
-named (names.UnknownBox n) x = refl
-named _ x = refl
+named (names.UnknownBox n) x = (refl, refl)
+named _ x = (refl, refl)
 
 pub sound_any : ReadsSoundly known_any reading_any format_any
 sound_any = sound_member kinds held members named

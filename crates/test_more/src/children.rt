@@ -29,7 +29,7 @@ impl DeclaredBox for Inner {
 
     ghost CODE = { INNR };
 
-    ghost layout = { layout_of struct (λ _. tt) (λ _. refl) (lit< tt) refl };
+    ghost layout = { layout_of struct (λ _. tt) (λ _. refl) (lit< tt) };
 
     const CODE: u32 = INNR;
 
@@ -66,7 +66,7 @@ impl DeclaredBox for Outer {
 
     ghost CODE = { OUTR };
 
-    ghost layout = { layout_of struct (λ _. tt) (λ _. refl) (lit< tt) refl };
+    ghost layout = { layout_of struct (λ _. tt) (λ _. refl) (lit< tt) };
 
     const CODE: u32 = OUTR;
 

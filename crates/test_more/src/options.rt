@@ -37,7 +37,7 @@ impl DeclaredBox for Options {
 
     ghost CODE = { OPTS };
 
-    ghost layout = { layout_of struct (λ _. tt) (λ _. refl) (lit< tt) refl };
+    ghost layout = { layout_of struct (λ _. tt) (λ _. refl) (lit< tt) };
 
     const CODE: u32 = OPTS;
 

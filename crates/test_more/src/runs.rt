@@ -36,7 +36,7 @@ impl DeclaredBox for Runs {
 
     ghost CODE = { RUNS };
 
-    ghost layout = { layout_of struct (λ _. tt) (λ _. refl) (lit< tt) refl };
+    ghost layout = { layout_of struct (λ _. tt) (λ _. refl) (lit< tt) };
 
     const CODE: u32 = RUNS;
 

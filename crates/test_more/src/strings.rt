@@ -29,7 +29,7 @@ impl DeclaredBox for Strings {
 
     ghost CODE = { STRS };
 
-    ghost layout = { layout_of struct (λ _. tt) (λ _. refl) (lit< tt) refl };
+    ghost layout = { layout_of struct (λ _. tt) (λ _. refl) (lit< tt) };
 
     const CODE: u32 = STRS;
 
