@@ -10,8 +10,8 @@ import math
 import struct
 
 from slow_fields import Fault, Header
-from slow_more import MORE, Code, Hex, Named, more_fields
-from slow_reader import DATA_TYPES, READERS, read_row
+from slow_more import MORE, Code, Hex, more_fields
+from slow_reader import READERS, read_row
 from slow_samples import disagreement
 
 CONTAINERS = b"moov trak mdia minf stbl edts mvex moof traf mfra udta dinf sinf schi wave iprp ipco ilst".split()
@@ -22,7 +22,6 @@ MATRIX = {"a": 16, "b": 16, "u": 30, "c": 16, "d": 16, "v": 30, "x": 16, "y": 16
 UNITY = {"a": 1, "b": 0, "u": 0, "c": 0, "d": 1, "v": 0, "x": 0, "y": 0, "w": 1}
 TYPES = {0: "binary", 1: "text", 2: "UTF-16 text", 13: "JPEG", 14: "PNG", 21: "signed integer", 22: "unsigned integer",
          23: "32-bit float", 24: "64-bit float", 27: "BMP"}
-NUMBERS = {word: number for number, word in DATA_TYPES.items()}
 
 
 def number(data, at, length):
@@ -89,18 +88,6 @@ def handler_name(data):
         return data[:-1].decode("utf-8")
     except UnicodeDecodeError:
         return "null"
-
-
-def metadata(number_, data):
-    fields = {"data_type": number_}
-    if number_ == 1:
-        try:
-            return dict(fields, text=data.decode("utf-8"))
-        except UnicodeDecodeError:
-            pass
-    if number_ == 21 and len(data) in (1, 2, 4):
-        return dict(fields, number=int.from_bytes(data, "big", signed=True))
-    return dict(fields, data_bytes=data.hex())
 
 
 def signed(value, bits):
@@ -176,8 +163,6 @@ class Walk:
             digits = data[content:content + 16].hex()
             parts = [digits[:8], digits[8:12], digits[12:16], digits[16:20], digits[20:]]
             return {"fields": {"usertype": "-".join(parts)}}
-        if name == b"data" and end - content >= 8 and number(data, content, 4) not in DATA_TYPES:
-            return {"fields": metadata(number(data, content, 4), data[content + 8:end])}
         is_read = latin(name) in READERS or latin(name) in MORE
         if not is_read or name == b"mp4a" and parent == b"wave":
             if parent != b"stsd":
@@ -195,8 +180,6 @@ class Walk:
             words = {"End": "unexpected end of input"}
             kind, *rest = fault.args
             return {"fault": words.get(kind) or rest[0] + (" not found" if kind == "NotFound" else "")}
-        if name == b"data":
-            return {"fields": metadata(NUMBERS[box["data_type"]], bytes(box["data_bytes"]))}
         if name == b"hdlr":
             box["name"] = handler_name(data[content + 24:end])
         return {"fields": fields_of(latin(name), box)}

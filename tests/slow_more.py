@@ -190,6 +190,21 @@ def cslg(c):
     c.numbers(",".join(f"i{8 if version else 4} {time}" for time in times))
 
 
+def data(c):
+    if c.raw:
+        c.numbers("1 type_set, 3 data_type, 2 country, 2 language")
+        c.bytes("value")
+        return
+    c.numbers("4 data_type")
+    c.take(4)
+    value = c.rest()
+    if c.fields["data_type"] == 21 and len(value) in (1, 2, 4):
+        c.put("number", int.from_bytes(value, "big", signed=True))
+        return
+    found = c.as_string(value) if c.fields["data_type"] == 1 else c.as_bytes(value)
+    c.put("data_bytes" if isinstance(found, Hex) else "text", found)
+
+
 def substream(s):
     s.bits("2 fscod, 5 bsid, 1 -, 1 asvc, 3 bsmod, 3 acmod, 1 lfeon, 3 -, 4 num_dep_sub, 1 last")
     last = s.fields.pop("last")
@@ -489,8 +504,8 @@ def tref(c):
 
 
 MORE = {
-    "av1C": av1c, "colr": colr, "cslg": cslg, "dec3": dec3, "dfLa": dfla, "dOps": dops, "elng": elng, "keys": keys,
-    "kind": kind, "mdcv": mdcv,
+    "av1C": av1c, "colr": colr, "cslg": cslg, "data": data, "dec3": dec3, "dfLa": dfla, "dOps": dops, "elng": elng,
+    "keys": keys, "kind": kind, "mdcv": mdcv,
     "mfro": mfro, "prft": prft, "pssh": pssh, "saio": saio, "saiz": saiz, "sbgp": sbgp, "schm": schm, "sdtp": sdtp,
     "senc": senc, "sgpd": sgpd, "sidx": sidx, "styp": styp, "stz2": stz2, "subs": subs, "tenc": tenc, "tfra": tfra,
     "btrt": lambda c: c.numbers("4 bufferSizeDB, 4 maxBitrate, 4 avgBitrate"),

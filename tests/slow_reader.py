@@ -273,10 +273,10 @@ def outcome(buffer, name, start, size, more=False):
     """The box of this header, or its first fault. The same box is read alone and in a list, so it is kept a while."""
     try:
         row = Row(buffer, start, size)
-        if name in READERS:
-            return name, READERS[name](row)
         if more and name in MORE:
             return name.lower(), more_box(name, buffer[start + 8:], size - 8)
+        if name in READERS:
+            return name, READERS[name](row)
         return "other", other(row, int.from_bytes(name.encode("latin-1"), "big"))
     except Fault as fault:
         return fault

@@ -2,6 +2,7 @@
 and what comes before the first one."""
 
 from slow_fields import Fault
+from slow_more import MORE
 from slow_reader import READERS, headers, outcome
 
 ALONE = "moov trak mdia minf stbl edts mvex moof traf mfra udta ilst dinf sinf schi wave iprp ipco".split()
@@ -43,7 +44,7 @@ def tree(name, box, depth):
     found = outcome(box, name, 0, len(box), True)
     if isinstance(found, Fault):
         return [kept]
-    if name in READERS:
+    if name in READERS and name not in MORE:
         return [found, kept]
     return [found] if found[0] == "other" or found[1].written == box else [kept]
 

@@ -1,7 +1,8 @@
-"""`data`, a value of metadata. Its bytes count up from 0x81."""
+"""`data`, a value of metadata: the codec's own box, which has four types, and the declared one, which has all. Its
+bytes count up from 0x81."""
 
 from rows_of.making import (
-    END, TOO_SMALL, box, counting, filled, invalid, listed, one, resized, round_trip, u32, written_as,
+    END, TOO_SMALL, Box, box, counting, declared_as, filled, invalid, listed, one, resized, round_trip, u32, written_as,
 )
 from rows_of.values import DATA, data
 
@@ -67,3 +68,9 @@ def type_comes_before_the_reserved_bytes():
     for size in (8, 12, 15, 16):
         yield one(box(b"data", u32(2), size=size), UNKNOWN)
         yield one(box(b"data", u32(2)[:3], size=size), END)
+
+
+def declared_of_any_type():
+    fields = {"type_set": 0x81, "data_type": 0x828384, "country": 0x8586, "language": 0x8788}
+    for value in (counting(0x89, 0x8B), b""):
+        yield from declared_as(box(b"data", counting(0x81, 0x88), value), Box("data", **fields, value=list(value)))

@@ -21,8 +21,8 @@ pub record OwnLayout (code : ℕ) (A V : Type 0) : Type 0 where
   pub again : (x : A) → content (value x) ≡ x
   pub coded : code < 2 ^ 32
 
--- The same of a struct whose fields, in their order, are the parts of the content. `struct` of its module says what they
--- are, `free` that it has no ghost fields, and `back` that it is its own normal form.
+-- The same of a struct whose fields, in their order, are the parts of the content. `struct` of its module says what
+-- they are, `free` that it has no ghost fields, and `back` that it is its own normal form.
 abbrev pub layout_of : {code : ℕ} (n : Struct) (free : (x : Values n.parts) → n.Ghost x)
     → ((v : n.D) → n.make (n.as_values v) (free (n.as_values v)) ≡ v) → code < 2 ^ 32
     → OwnLayout code (Values n.parts) n.D

@@ -1,11 +1,8 @@
 -- What is read of a box, by how it is read, and whether it has a fault.
-use Rattle.std.specs.Prelude.{◌≡◌, ℕ, ◌+◌, ◌-◌, ◌<◌, ◌≤◌, ◌==◌, ◌||◌, ◌&&◌, not, min, nat_le, Bool, true, false, List}
-use Rattle.std.specs.Prelude.{length, Ok, MatchBool}
-use Rattle.mp4_frame.specs.Bytes.{number}
+use Rattle.std.specs.Prelude.{◌≡◌, ℕ, ◌+◌, ◌-◌, ◌<◌, ◌≤◌, min, nat_le, Bool, true, false, List, length, Ok, MatchBool}
 use Rattle.mp4_frame.specs.Heads.{header, header_length}
 use Rattle.mp4_frame.specs.Reading.{Reading, Refuses, ◌>>=◌}
 use Rattle.mp4_frame.specs.declared.box_type.BoxType.{BoxType}
-use Rattle.mp4_frame.specs.declared.box_type.BoxType.TheVariants as names
 use Rattle.mp4_frame.specs.declared.error.Error.TheVariants as errors
 use Rattle.mp4_inspect.specs.declared.content.Content.{Content}
 use Rattle.mp4_inspect.specs.declared.content.Content.TheVariants as contents
@@ -49,14 +46,6 @@ ShowsFront kind least most bytes found (contents.Front k v) =
 ShowsFront kind least most bytes found (contents.Faulty e) = found.length - found.header_length < least
 ShowsFront kind least most bytes found _ = ⊥
 
--- a type of metadata values that the codec doesn't read (QuickTime, "Well-known types")
-abbrev pub is_other_type : ℕ → Bool
-is_other_type n = not ((n == 0) || (n == 1) || (n == 13) || (n == 21))
-
--- these bytes begin a metadata value of such a type
-abbrev pub is_other : List ℕ → Bool
-is_other head = (length head == 8) && is_other_type (number head 0 4)
-
 -- What is shown of a box, by how it is read. A handler with a byte of its name, the 25th, is shown from its bytes; the
 -- codec refuses others.
 abbrev pub ShowsAs : {A : Type 0} → (BoxType → Bool) → (BoxType → List ℕ → ℕ → ℕ → Reading A) → List ℕ → TreeBox → Kind
@@ -67,9 +56,6 @@ ShowsAs known reading bytes found kinds.Unread content = content ≡ contents.Un
 ShowsAs known reading bytes found kinds.Cut content = content ≡ contents.Faulty errors.IoError
 ShowsAs known reading bytes found kinds.Small content = is_faulty content ≡ true
 ShowsAs known reading bytes found (kinds.Known name) content = ShowsKnown known reading name bytes found content
-ShowsAs known reading bytes found kinds.Data content =
-    MatchBool (is_other (front bytes found 8)) (ShowsFront kinds.Data 8 0xFFFFFFFFFFFFFFFF bytes found content)
-    (ShowsKnown known reading names.DataBox bytes found content)
 ShowsAs known reading bytes found kinds.Handler content =
     MatchBool (nat_le 25 (found.length - found.header_length))
     (ShowsFront kinds.Handler 25 0xFFFFFFFFFFFFFFFF bytes found content)

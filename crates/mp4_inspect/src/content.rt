@@ -4,19 +4,15 @@ ghost use Rattle.std.specs.Prelude.{◌≡◌, ◌-◌, ◌≤◌, false, length
 ghost use Rattle.mp4_fields.specs.Nesting.{fields, Keeps};
 ghost use Rattle.mp4_frame.specs.Reading.{Answers};
 ghost use Rattle.mp4_io.specs.Ends.{is_write};
-ghost use Rattle.mp4_inspect.specs.Content.{leaf, is_faulty, front, is_other_type, Shows, ShowsKnown, ShowsFront};
-ghost use Rattle.mp4_inspect.specs.Content.{ShowsAs};
+ghost use Rattle.mp4_inspect.specs.Content.{leaf, is_faulty, front, Shows, ShowsKnown, ShowsFront, ShowsAs};
 ghost use Rattle.mp4_inspect.specs.Kind.{kind_of};
-ghost use Rattle.mp4_inspect.specs.declared.kind.Kind.TheVariants as kinds;
 
 use crate::failure::or_read;
 use crate::kind::{Kind, kind_of};
 use crate::shown::Shown;
 use mp4_fields::{
-    FieldSink, Value, put_data, put_entry, put_full, put_handler, put_list_head, put_sound,
-    put_visual,
+    FieldSink, Value, put_entry, put_full, put_handler, put_list_head, put_sound, put_visual,
 };
-use mp4_frame::u32_at;
 use mp4_io::Failure;
 use mp4_more_fields::HasFields;
 use mp4_stream::{BoxHeader, BoxType, ByteCursor, Error, Result};
@@ -149,32 +145,6 @@ fn front<B: Drop, S: Source>(
     Ok(Content::Front(kind, front_of(alloc, tree, found, most)?))
 }
 
-/// Whether the codec doesn't read metadata values of this type.
-fn is_other_type(number: u32) -> bool
-    ensures { result ≡ is_other_type number }
-{
-    !matches!(number, 0 | 1 | 13 | 21)
-}
-
-/// Reads the value of a metadata item: by the codec if it knows the type, and else the type's number and the bytes.
-fn data<B: Shown, S: Source>(
-    alloc: Global,
-    tree: &mut Tree<S>,
-    found: &TreeBox,
-) -> std::result::Result<Content<B>, Failure>
-    ensures shows { IfSome tree.old.bytes
-        (λ bytes. IfOk result (λ content. ShowsAs B.known B.named_reading bytes found.now kinds.Data content)) }
-    ensures kept { tree.new ≡ tree.old }
-    ensures not_write { is_write result ≡ false }
-{
-    let head = front_of(alloc, tree, found, 8)?;
-    if head.len() == 8 && is_other_type(u32_at(&head, 0)) {
-        front(alloc, tree, found, Kind::Data, 8, u64::MAX)
-    } else {
-        known(alloc, tree, found, BoxType::DataBox)
-    }
-}
-
 /// Reads a handler: its bytes if it has some of its name, and else the fault that the codec finds.
 fn handler<B: Shown, S: Source>(
     alloc: Global,
@@ -212,7 +182,6 @@ pub fn content_of<B: Shown, S: Source>(
         Kind::Cut => Ok(Content::Faulty(Error::IoError)),
         Kind::Small => Ok(Content::Faulty(Error::InvalidData("box size too small"))),
         Kind::Known(name) => known(alloc, tree, found, name),
-        Kind::Data => data(alloc, tree, found),
         Kind::Handler => handler(alloc, tree, found),
         Kind::Full => front(alloc, tree, found, Kind::Full, 4, 4),
         Kind::List => front(alloc, tree, found, Kind::List, 8, 8),
@@ -242,15 +211,6 @@ fn put_full_head<K: FieldSink>(bytes: &[u8], sink: &mut K) -> Result<()>
     put_full(bytes[0], flags, &[], sink)
 }
 
-/// Hands a metadata value to a sink: the number of its type is the first 4 bytes, and it comes after 8.
-fn put_data_front<K: FieldSink>(bytes: &[u8], sink: &mut K) -> Result<()>
-    requires { 8 ≤ length bytes.now }
-    ensures nesting { OnOk result (Keeps K.since fields sink.old sink.new) }
-{
-    let data_type = u32::from_be_bytes([bytes[0], bytes[1], bytes[2], bytes[3]]);
-    put_data(data_type, &bytes[8..], sink)
-}
-
 /// Hands the fields at the front of a box's content to a sink.
 fn put_front<K: FieldSink>(kind: Kind, bytes: &[u8], is_quicktime: bool, sink: &mut K) -> Result<()>
     ensures nesting { OnOk result (Keeps K.since fields sink.old sink.new) }
@@ -261,7 +221,6 @@ fn put_front<K: FieldSink>(kind: Kind, bytes: &[u8], is_quicktime: bool, sink: &
         Kind::Entry if bytes.len() >= 8 => put_entry(bytes, sink),
         Kind::Visual if bytes.len() >= 78 => put_visual(bytes, sink),
         Kind::Sound if bytes.len() >= 28 => put_sound(bytes, is_quicktime, sink),
-        Kind::Data if bytes.len() >= 8 => put_data_front(bytes, sink),
         Kind::Handler if bytes.len() >= 25 => put_handler(bytes, sink),
         Kind::Uuid => match <[u8; 16]>::try_from(bytes) {
             Ok(id) => put_uuid(id, sink),

@@ -4,7 +4,7 @@ ghost use Rattle.std.specs.Prelude.{◌≡◌};
 ghost use Rattle.mp4_inspect.specs.Kind.{entry_kind, leaf_kind, parent_kind, bytes_before, kind_of};
 
 use crate::shown::Shown;
-use mp4_frame::codes::{DATA, DREF, HDLR, META, MP4A, STSD, TX3G};
+use mp4_frame::codes::{DREF, HDLR, META, MP4A, STSD, TX3G};
 use mp4_stream::BoxType;
 use mp4_tree::{Setting, TreeBox, What};
 
@@ -35,8 +35,6 @@ pub enum Kind {
     Small,
     /// Whole, as a box of this name.
     Known(BoxType),
-    /// The value of a metadata item.
-    Data,
     /// A handler, whose name may be counted as in QuickTime.
     Handler,
     /// Version and flags.
@@ -73,9 +71,7 @@ fn leaf_kind<B: Shown>(code: u32, setting: Setting) -> Kind
     ensures { result ≡ leaf_kind B.known code setting }
 {
     let name = BoxType::from(code);
-    if code == DATA {
-        Kind::Data
-    } else if code == HDLR {
+    if code == HDLR {
         Kind::Handler
     } else if code == UUID {
         Kind::Uuid

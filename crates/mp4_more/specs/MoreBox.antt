@@ -8,8 +8,9 @@ use Rattle.mp4_more.specs.declared.more_type.MoreType.TheVariants as types
 use Rattle.mp4_more.specs.declared.more_box.MoreBox.{MoreBox}
 use Rattle.mp4_more.specs.declared.more_box.MoreBox.TheVariants as more
 use Rattle.mp4_more.specs.declared.{av1c.Av1c.Av1c, btrt.Btrt.Btrt, clap.Clap.Clap, clli.Clli.Clli, colr.Colr.Colr}
-use Rattle.mp4_more.specs.declared.{cslg.Cslg.Cslg, dac3.Dac3.Dac3, dec3.Dec3.Dec3, dfla.Dfla.Dfla, dops.Dops.Dops}
-use Rattle.mp4_more.specs.declared.{elng.Elng.Elng, frma.Frma.Frma, keys.Keys.Keys, mdcv.Mdcv.Mdcv, mfro.Mfro.Mfro}
+use Rattle.mp4_more.specs.declared.{cslg.Cslg.Cslg, dac3.Dac3.Dac3, data.Data.Data, dec3.Dec3.Dec3, dfla.Dfla.Dfla}
+use Rattle.mp4_more.specs.declared.{dops.Dops.Dops, elng.Elng.Elng, frma.Frma.Frma, keys.Keys.Keys}
+use Rattle.mp4_more.specs.declared.{mdcv.Mdcv.Mdcv, mfro.Mfro.Mfro}
 use Rattle.mp4_more.specs.declared.{nmhd.Nmhd.Nmhd, pasp.Pasp.Pasp, prft.Prft.Prft, pssh.Pssh.Pssh, saio.Saio.Saio}
 use Rattle.mp4_more.specs.declared.{saiz.Saiz.Saiz, sbgp.Sbgp.Sbgp, schm.Schm.Schm, sdtp.Sdtp.Sdtp, senc.Senc.Senc}
 use Rattle.mp4_more.specs.declared.{sgpd.Sgpd.Sgpd, sidx.Sidx.Sidx, styp.Styp.Styp, stz2.Stz2.Stz2, subs.Subs.Subs}
@@ -25,6 +26,7 @@ FieldsOf types.ClliBox = Clli
 FieldsOf types.ColrBox = Colr
 FieldsOf types.CslgBox = Cslg
 FieldsOf types.Dac3Box = Dac3
+FieldsOf types.DataBox = Data
 FieldsOf types.Dec3Box = Dec3
 FieldsOf types.DflaBox = Dfla
 FieldsOf types.DopsBox = Dops
@@ -61,6 +63,7 @@ wrap types.ClliBox = more.ClliBox
 wrap types.ColrBox = more.ColrBox
 wrap types.CslgBox = more.CslgBox
 wrap types.Dac3Box = more.Dac3Box
+wrap types.DataBox = more.DataBox
 wrap types.Dec3Box = more.Dec3Box
 wrap types.DflaBox = more.DflaBox
 wrap types.DopsBox = more.DopsBox
@@ -98,6 +101,7 @@ opened (more.ClliBox fields) = (types.ClliBox, fields)
 opened (more.ColrBox fields) = (types.ColrBox, fields)
 opened (more.CslgBox fields) = (types.CslgBox, fields)
 opened (more.Dac3Box fields) = (types.Dac3Box, fields)
+opened (more.DataBox fields) = (types.DataBox, fields)
 opened (more.Dec3Box fields) = (types.Dec3Box, fields)
 opened (more.DflaBox fields) = (types.DflaBox, fields)
 opened (more.DopsBox fields) = (types.DopsBox, fields)

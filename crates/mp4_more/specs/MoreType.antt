@@ -4,9 +4,10 @@ use Rattle.mp4_more.specs.declared.more_type.MoreType.{MoreType}
 use Rattle.mp4_more.specs.declared.more_type.MoreType.TheVariants as types
 use Rattle.mp4_more.specs.declared.{av1c.TheConstants.AV1C, btrt.TheConstants.BTRT, clap.TheConstants.CLAP}
 use Rattle.mp4_more.specs.declared.{clli.TheConstants.CLLI, colr.TheConstants.COLR, cslg.TheConstants.CSLG}
-use Rattle.mp4_more.specs.declared.{dac3.TheConstants.DAC3, dec3.TheConstants.DEC3, dfla.TheConstants.DFLA}
-use Rattle.mp4_more.specs.declared.{dops.TheConstants.DOPS, elng.TheConstants.ELNG, frma.TheConstants.FRMA}
-use Rattle.mp4_more.specs.declared.{keys.TheConstants.KEYS, kind.TheConstants.KIND, mdcv.TheConstants.MDCV}
+use Rattle.mp4_more.specs.declared.{dac3.TheConstants.DAC3, data.TheConstants.DATA, dec3.TheConstants.DEC3}
+use Rattle.mp4_more.specs.declared.{dfla.TheConstants.DFLA, dops.TheConstants.DOPS, elng.TheConstants.ELNG}
+use Rattle.mp4_more.specs.declared.{frma.TheConstants.FRMA, keys.TheConstants.KEYS, kind.TheConstants.KIND}
+use Rattle.mp4_more.specs.declared.mdcv.TheConstants.{MDCV}
 use Rattle.mp4_more.specs.declared.{mfro.TheConstants.MFRO, nmhd.TheConstants.NMHD, pasp.TheConstants.PASP}
 use Rattle.mp4_more.specs.declared.{prft.TheConstants.PRFT, pssh.TheConstants.PSSH, saio.TheConstants.SAIO}
 use Rattle.mp4_more.specs.declared.{saiz.TheConstants.SAIZ, sbgp.TheConstants.SBGP, schm.TheConstants.SCHM}
@@ -23,6 +24,7 @@ code_of_type types.ClliBox = CLLI
 code_of_type types.ColrBox = COLR
 code_of_type types.CslgBox = CSLG
 code_of_type types.Dac3Box = DAC3
+code_of_type types.DataBox = DATA
 code_of_type types.Dec3Box = DEC3
 code_of_type types.DflaBox = DFLA
 code_of_type types.DopsBox = DOPS
@@ -54,10 +56,11 @@ code_of_type types.TrefBox = TREF
 abbrev pub all_types : List MoreType
 all_types =
     types.Av1cBox ∷ types.BtrtBox ∷ types.ClapBox ∷ types.ClliBox ∷ types.ColrBox ∷ types.CslgBox ∷ types.Dac3Box
-    ∷ types.Dec3Box ∷ types.DflaBox ∷ types.DopsBox ∷ types.ElngBox ∷ types.FrmaBox ∷ types.KeysBox ∷ types.KindBox
-    ∷ types.MdcvBox ∷ types.MfroBox ∷ types.NmhdBox ∷ types.PaspBox ∷ types.PrftBox ∷ types.PsshBox ∷ types.SaioBox
-    ∷ types.SaizBox ∷ types.SbgpBox ∷ types.SchmBox ∷ types.SdtpBox ∷ types.SencBox ∷ types.SgpdBox ∷ types.SidxBox
-    ∷ types.StypBox ∷ types.Stz2Box ∷ types.SubsBox ∷ types.TencBox ∷ types.TfraBox ∷ types.TrefBox ∷ []
+    ∷ types.DataBox ∷ types.Dec3Box ∷ types.DflaBox ∷ types.DopsBox ∷ types.ElngBox ∷ types.FrmaBox ∷ types.KeysBox
+    ∷ types.KindBox ∷ types.MdcvBox ∷ types.MfroBox ∷ types.NmhdBox ∷ types.PaspBox ∷ types.PrftBox ∷ types.PsshBox
+    ∷ types.SaioBox ∷ types.SaizBox ∷ types.SbgpBox ∷ types.SchmBox ∷ types.SdtpBox ∷ types.SencBox ∷ types.SgpdBox
+    ∷ types.SidxBox ∷ types.StypBox ∷ types.Stz2Box ∷ types.SubsBox ∷ types.TencBox ∷ types.TfraBox ∷ types.TrefBox
+    ∷ []
 
 -- the type of this code among some types
 abbrev pub type_among : List MoreType → ℕ → Option MoreType

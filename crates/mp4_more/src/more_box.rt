@@ -12,11 +12,11 @@ ghost use Rattle.mp4_more.specs.declared.more_box.MoreBox.TheVariants as more;
 use crate::more_type::MoreType;
 use crate::{
     Av1c, Av1cBox, Btrt, BtrtBox, Clap, ClapBox, Clli, ClliBox, Colr, ColrBox, Cslg, CslgBox, Dac3,
-    Dac3Box, Dec3, Dec3Box, Dfla, DflaBox, Dops, DopsBox, Elng, ElngBox, Frma, FrmaBox, Keys,
-    KeysBox, Kind, KindBox, Mdcv, MdcvBox, Mfro, MfroBox, Nmhd, NmhdBox, Pasp, PaspBox, Prft,
-    PrftBox, Pssh, PsshBox, Saio, SaioBox, Saiz, SaizBox, Sbgp, SbgpBox, Schm, SchmBox, Sdtp,
-    SdtpBox, Senc, SencBox, Sgpd, SgpdBox, Sidx, SidxBox, Styp, StypBox, Stz2, Stz2Box, Subs,
-    SubsBox, Tenc, TencBox, Tfra, TfraBox, Tref, TrefBox,
+    Dac3Box, Data, DataBox, Dec3, Dec3Box, Dfla, DflaBox, Dops, DopsBox, Elng, ElngBox, Frma,
+    FrmaBox, Keys, KeysBox, Kind, KindBox, Mdcv, MdcvBox, Mfro, MfroBox, Nmhd, NmhdBox, Pasp,
+    PaspBox, Prft, PrftBox, Pssh, PsshBox, Saio, SaioBox, Saiz, SaizBox, Sbgp, SbgpBox, Schm,
+    SchmBox, Sdtp, SdtpBox, Senc, SencBox, Sgpd, SgpdBox, Sidx, SidxBox, Styp, StypBox, Stz2,
+    Stz2Box, Subs, SubsBox, Tenc, TencBox, Tfra, TfraBox, Tref, TrefBox,
 };
 use mp4_lists::CodedEnum;
 use mp4_stream::author::{BoxEnum, DeclaredBox, Question, Shape, clone_as, read_as};
@@ -29,10 +29,10 @@ macro_rules! of_boxes {
     ($go:ident, $($rest:tt)*) => {
         $go! {
             [
-                Av1cBox BtrtBox ClapBox ClliBox ColrBox CslgBox Dac3Box Dec3Box DflaBox DopsBox
-                ElngBox FrmaBox KeysBox KindBox MdcvBox MfroBox NmhdBox PaspBox PrftBox PsshBox
-                SaioBox SaizBox SbgpBox SchmBox SdtpBox SencBox SgpdBox SidxBox StypBox Stz2Box
-                SubsBox TencBox TfraBox TrefBox
+                Av1cBox BtrtBox ClapBox ClliBox ColrBox CslgBox Dac3Box DataBox Dec3Box DflaBox
+                DopsBox ElngBox FrmaBox KeysBox KindBox MdcvBox MfroBox NmhdBox PaspBox
+                PrftBox PsshBox SaioBox SaizBox SbgpBox SchmBox SdtpBox SencBox SgpdBox SidxBox
+                StypBox Stz2Box SubsBox TencBox TfraBox TrefBox
             ]
             $($rest)*
         }
@@ -76,6 +76,7 @@ pub enum MoreBox {
     ColrBox(ColrBox),
     CslgBox(CslgBox),
     Dac3Box(Dac3Box),
+    DataBox(DataBox),
     Dec3Box(Dec3Box),
     DflaBox(DflaBox),
     DopsBox(DopsBox),
@@ -140,6 +141,7 @@ impl Declares for MoreBox {
       | types.ColrBox ↦ shaped ⟦<<Colr as DeclaredBox>::Shape as Shape>⟧.shape_laws ⟦<Colr as DeclaredBox>⟧.layout refl
       | types.CslgBox ↦ shaped ⟦<<Cslg as DeclaredBox>::Shape as Shape>⟧.shape_laws ⟦<Cslg as DeclaredBox>⟧.layout refl
       | types.Dac3Box ↦ shaped ⟦<<Dac3 as DeclaredBox>::Shape as Shape>⟧.shape_laws ⟦<Dac3 as DeclaredBox>⟧.layout refl
+      | types.DataBox ↦ shaped ⟦<<Data as DeclaredBox>::Shape as Shape>⟧.shape_laws ⟦<Data as DeclaredBox>⟧.layout refl
       | types.Dec3Box ↦ shaped ⟦<<Dec3 as DeclaredBox>::Shape as Shape>⟧.shape_laws ⟦<Dec3 as DeclaredBox>⟧.layout refl
       | types.DflaBox ↦ shaped ⟦<<Dfla as DeclaredBox>::Shape as Shape>⟧.shape_laws ⟦<Dfla as DeclaredBox>⟧.layout refl
       | types.DopsBox ↦ shaped ⟦<<Dops as DeclaredBox>::Shape as Shape>⟧.shape_laws ⟦<Dops as DeclaredBox>⟧.layout refl
@@ -265,6 +267,14 @@ impl Holds<Dac3Box> for MoreBox {
 
     fn wrap(value: Dac3Box) -> MoreBox {
         MoreBox::Dac3Box(value)
+    }
+}
+
+impl Holds<DataBox> for MoreBox {
+    ghost wrapped = { more.DataBox };
+
+    fn wrap(value: DataBox) -> MoreBox {
+        MoreBox::DataBox(value)
     }
 }
 

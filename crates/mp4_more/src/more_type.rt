@@ -4,9 +4,9 @@ ghost use Rattle.std.specs.Prelude.{◌≡◌};
 ghost use Rattle.mp4_more.specs.MoreType.{type_of_code};
 
 use crate::{
-    AV1C, BTRT, CLAP, CLLI, COLR, CSLG, DAC3, DEC3, DFLA, DOPS, ELNG, FRMA, KEYS, KIND, MDCV, MFRO,
-    NMHD, PASP, PRFT, PSSH, SAIO, SAIZ, SBGP, SCHM, SDTP, SENC, SGPD, SIDX, STYP, STZ2, SUBS, TENC,
-    TFRA, TREF,
+    AV1C, BTRT, CLAP, CLLI, COLR, CSLG, DAC3, DATA, DEC3, DFLA, DOPS, ELNG, FRMA, KEYS, KIND, MDCV,
+    MFRO, NMHD, PASP, PRFT, PSSH, SAIO, SAIZ, SBGP, SCHM, SDTP, SENC, SGPD, SIDX, STYP, STZ2, SUBS,
+    TENC, TFRA, TREF,
 };
 
 /// A type of boxes that a `MoreBox` holds.
@@ -19,6 +19,7 @@ pub(crate) enum MoreType {
     ColrBox,
     CslgBox,
     Dac3Box,
+    DataBox,
     Dec3Box,
     DflaBox,
     DopsBox,
@@ -62,6 +63,7 @@ impl MoreType {
             COLR => Some(MoreType::ColrBox),
             CSLG => Some(MoreType::CslgBox),
             DAC3 => Some(MoreType::Dac3Box),
+            DATA => Some(MoreType::DataBox),
             DEC3 => Some(MoreType::Dec3Box),
             DFLA => Some(MoreType::DflaBox),
             DOPS => Some(MoreType::DopsBox),

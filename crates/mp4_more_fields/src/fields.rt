@@ -23,7 +23,7 @@ use samples::{put_cslg, put_saio, put_saiz, put_sbgp, put_sdtp, put_stz2};
 use segments::{put_mfro, put_prft, put_sidx, put_styp, put_tfra};
 use sound::{put_dac3, put_dec3, put_dops};
 use subsamples::put_subs;
-use tracks::{put_btrt, put_elng, put_keys, put_kind, put_nmhd, put_tref};
+use tracks::{put_btrt, put_data_value, put_elng, put_keys, put_kind, put_nmhd, put_tref};
 use video::{put_av1c, put_clap, put_clli, put_colr, put_mdcv, put_pasp};
 
 /// Hands the fields of a box to a sink, in the order of the box.
@@ -38,6 +38,7 @@ pub fn put_more<S: FieldSink>(more: &MoreBox, sink: &mut S) -> Result<()>
         MoreBox::ColrBox(b) => put_colr(b, sink),
         MoreBox::CslgBox(b) => put_cslg(b, sink),
         MoreBox::Dac3Box(b) => put_dac3(b, sink),
+        MoreBox::DataBox(b) => put_data_value(b, sink),
         MoreBox::Dec3Box(b) => put_dec3(b, sink),
         MoreBox::DflaBox(b) => put_dfla(b, sink),
         MoreBox::DopsBox(b) => put_dops(b, sink),

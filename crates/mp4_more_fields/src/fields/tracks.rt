@@ -7,8 +7,8 @@ use crate::boxes::{HEAD, code_at, count_numbers, held_at, next_after, size_at};
 use crate::flag_names::NONE;
 use crate::pieces::{Pieces, put_entries};
 use crate::put::{number_in, put_entry, put_string};
-use mp4_fields::{FieldSink, Value, put_all, put_full};
-use mp4_more::{Btrt, Elng, Keys, Kind, Nmhd, Tref};
+use mp4_fields::{FieldSink, Value, put_all, put_data, put_full};
+use mp4_more::{Btrt, Data, Elng, Keys, Kind, Nmhd, Tref};
 use mp4_stream::Result;
 
 /// The bit rates of media (ISO/IEC 14496-12, 8.5.2.2).
@@ -21,6 +21,15 @@ pub fn put_btrt<S: FieldSink>(b: &Btrt, sink: &mut S) -> Result<()>
         ("avgBitrate", Value::Number(u64::from(b.avg_bitrate))),
     ];
     put_all(&row, sink)
+}
+
+/// A value of metadata (QuickTime File Format, "Value atom"): its type, with the set that it is of as the highest byte,
+/// and its text, its number or its bytes.
+pub fn put_data_value<S: FieldSink>(b: &Data, sink: &mut S) -> Result<()>
+    ensures nesting { OnOk result (Keeps S.since fields sink.old sink.new) }
+{
+    let data_type = u32::from(b.type_set) << 24 | b.data_type;
+    put_data(data_type, b.value.as_slice(), sink)
 }
 
 /// The language of media (ISO/IEC 14496-12, 8.4.6).

@@ -171,7 +171,8 @@ fn moments(alloc: Global, kind: u8, time: u64, count: usize) -> Made<Entries<Mom
     Ok(moments)
 }
 
-/// A box of this version and flags, with a group, under a name of so many bytes, of so many times a moment at this time.
+/// A box of this version and flags, with a group, under a name of so many bytes, of so many times a moment at this
+/// time.
 fn nested(
     alloc: Global,
     (version, flags): (u8, u32),

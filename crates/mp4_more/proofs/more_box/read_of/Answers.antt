@@ -51,6 +51,11 @@ returns-in-Dac3Box-clause-answer c =
     of_type c.args.of types.Dac3Box _ c.args.reader.now.bytes.now (c.args.reader.now.position - 8) c.args.size
     c.in-Dac3Box.is c.read_as-in-Dac3Box.ensures.answer
 
+pub returns-in-DataBox-clause-answer : goal.returns-in-DataBox-clause-answer
+returns-in-DataBox-clause-answer c =
+    of_type c.args.of types.DataBox _ c.args.reader.now.bytes.now (c.args.reader.now.position - 8) c.args.size
+    c.in-DataBox.is c.read_as-in-DataBox.ensures.answer
+
 pub returns-in-Dec3Box-clause-answer : goal.returns-in-Dec3Box-clause-answer
 returns-in-Dec3Box-clause-answer c =
     of_type c.args.of types.Dec3Box _ c.args.reader.now.bytes.now (c.args.reader.now.position - 8) c.args.size

@@ -42,6 +42,9 @@ ask-requires-in-Dac3Box g c = rw c.in-Dac3Box.is at c.requires
 pub returns-in-Dac3Box : goal.returns-in-Dac3Box
 returns-in-Dac3Box g c = rw c.in-Dac3Box.is c.ask-in-Dac3Box.ensures
 
+pub returns-in-DataBox : goal.returns-in-DataBox
+returns-in-DataBox g c = rw c.in-DataBox.is c.ask-in-DataBox.ensures
+
 pub ask-requires-in-Dec3Box : goal.ask-requires-in-Dec3Box
 ask-requires-in-Dec3Box g c = rw c.in-Dec3Box.is at c.requires
 
