@@ -4,7 +4,7 @@ use Rattle.std.proofs.Common.{Err, Option, Some, None, refl, sym, ap, subst, ◌
 use Rattle.std.proofs.lemmas.Bool.{le-leb, lt-leb, eq-eqb, ne_eqb}
 use Rattle.mp4_frame.specs.Children.{child, child_if_named, last, children}
 use Rattle.mp4_frame.specs.Reading.{Reading, Fault, ◌>>=◌, Refuses, done, and_then}
-use Rattle.mp4_frame.specs.declared.head.Head.{Head}
+use Rattle.mp4_frame.specs.declared.frame.Frame.{Frame}
 use Rattle.mp4_frame.specs.declared.error.Error.{Error}
 use Rattle.mp4_frame.proofs.Decided.{Decides, decides_same, decides_on, decides_bind, bind_decided, first_faults}
 use Rattle.mp4_frame.proofs.Decided.{decided_fault}
@@ -39,7 +39,7 @@ module _ {A : Type 0} (reads : List ℕ → ℕ → ℕ → Reading A) (code : �
       (children reads code bytes start size n o)
   at_first n o = let r = children reads code bytes start size n o in decides_same _ _ (first_by r.asks_memory r.outcome)
 
-  rest_of : ℕ → Head → Option A → Reading (Option A)
+  rest_of : ℕ → Frame → Option A → Reading (Option A)
   rest_of n c mine = children reads code bytes start size n (c.start + c.size) >>= λ later. done (last mine later)
 
   pub children_first : (n o : ℕ) → 0 < n → o < size
@@ -69,7 +69,7 @@ module _ {A : Type 0} (reads : List ℕ → ℕ → ℕ → Reading A) (code : �
 
   module _ (found : Option A) (n o : ℕ) (whole : Reading (Option A)) (more : 0 < n) (before : o < size)
       (told : Decides (continue_with found (children reads code bytes start size n o)) whole) where
-    after : Head → Reading (Option A)
+    after : Frame → Reading (Option A)
     after c = child_if_named reads code bytes start c >>= λ mine.
         children reads code bytes start size (n - 1) (c.start + c.size) >>= λ later. done (last mine later)
 
@@ -82,7 +82,7 @@ module _ {A : Type 0} (reads : List ℕ → ℕ → ℕ → Reading A) (code : �
     pub head_faults : (e : Error) → Refuses e (child bytes start size o) → Refuses e whole
     head_faults e h = decided_fault e _ whole begun (first_faults e _ _ (first_faults e _ after h))
 
-    module _ (c : Head) (is : (child bytes start size o).outcome ≡ Ok c) where
+    module _ (c : Frame) (is : (child bytes start size o).outcome ≡ Ok c) where
       after_head : Decides (continue_with found (after c)) whole
       after_head = decides_on _ _ whole
           (bind_decided (after c) (child bytes start size o >>= after) (λ later. done (last found later))

@@ -10,7 +10,7 @@ use Rattle.mp4_frame.specs.Heads.{head}
 use Rattle.mp4_frame.specs.Format.{Format, IsBox}
 use Rattle.mp4_frame.specs.Laws.{AreBytes}
 use Rattle.mp4_frame.specs.Reading.{Reading, Fault, ◌>>=◌, and_then, also, check, done}
-use Rattle.mp4_frame.specs.declared.head.Head.{Head}
+use Rattle.mp4_frame.specs.declared.frame.Frame.{Frame}
 use Rattle.mp4_frame.proofs.Chains.{children_none, children_zero}
 use Rattle.mp4_frame.proofs.Children.{only_child, children_sound, ForSome}
 use Rattle.mp4_frame.proofs.Fields.{length-fields}
@@ -21,27 +21,27 @@ use Rattle.mp4_frame.specs.OptionalChild.{count_optional, size_optional, Writabl
 use Rattle.mp4_frame.specs.OptionalChild.{normal_optional}
 
 -- a child ends at least 8 bytes after the offset where it begins
-child_end : (bytes : List ℕ) (start size o : ℕ) (c : Head) → (child bytes start size o).outcome ≡ Ok c
+child_end : (bytes : List ℕ) (start size o : ℕ) (c : Frame) → (child bytes start size o).outcome ≡ Ok c
     → o + 8 ≤ c.start + c.size
 unfolding child
 child_end bytes start size o c e =
-    let small = λ (h : Head). nat_le 8 h.size && nat_le h.size size in
-    let ends = λ (h : Head). check (nat_lt (start + h.start + h.size) (2 ^ 64)) >>= λ _. done h in
+    let small = λ (h : Frame). nat_le 8 h.size && nat_le h.size size in
+    let ends = λ (h : Frame). check (nat_lt (start + h.start + h.size) (2 ^ 64)) >>= λ _. done h in
     let p = value_first (head bytes o) (λ h. check (small h) >>= λ _. ends h) c e in
     let q = check_ok (small p.0) (λ _. ends p.0) c p.2 in
     let r = check_ok (nat_lt (start + p.0.start + p.0.size) (2 ^ 64)) (λ _. done p.0) c q.1 in
     let least : 8 ≤ p.0.size = leb-true 8 p.0.size (and_parts (nat_le 8 p.0.size) (nat_le p.0.size size) q.0).0 in
     let first : o ≤ p.0.start = (head_room bytes o p.0 p.1).0 in
-    subst (λ (h : Head). o + 8 ≤ h.start + h.size) (is_value p.0 c r.1) (omega (arith, least, first))
+    subst (λ (h : Frame). o + 8 ≤ h.start + h.size) (is_value p.0 c r.1) (omega (arith, least, first))
 
 module _ {A : Type 0} (reads : List ℕ → ℕ → ℕ → Reading A) (code : ℕ) (bytes : List ℕ) (start size : ℕ) where
-  after : ℕ → Head → Reading (Option A)
+  after : ℕ → Frame → Reading (Option A)
   after n c = child_if_named reads code bytes start c >>= λ mine.
       children reads code bytes start size n (c.start + c.size) >>= λ later. done (last mine later)
 
   same_after : (o m n : ℕ)
       → ((q : ℕ) → o + 8 ≤ q → children reads code bytes start size m q ≡ children reads code bytes start size n q)
-      → (a : Bool) (r : Result Head Fault) → (child bytes start size o).outcome ≡ r
+      → (a : Bool) (r : Result Frame Fault) → (child bytes start size o).outcome ≡ r
       → and_then a r (after m) ≡ and_then a r (after n)
   unfolding after
   same_after o m n same a (Err k) e = refl

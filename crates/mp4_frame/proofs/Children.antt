@@ -7,7 +7,7 @@ use Rattle.std.proofs.lemmas.List.{drop_at}
 use Rattle.mp4_frame.specs.Bytes.{number, bytes_of_fields, width_of_fields}
 use Rattle.mp4_frame.specs.Children.{child, child_if_named, last, children}
 use Rattle.mp4_frame.specs.Reading.{Reading, Fault, ◌>>=◌, done}
-use Rattle.mp4_frame.specs.declared.head.Head.{Head}
+use Rattle.mp4_frame.specs.declared.frame.Frame.{Frame}
 use Rattle.mp4_frame.proofs.Fields.{length-fields}
 use Rattle.mp4_frame.proofs.Heads.{head_among}
 use Rattle.mp4_frame.proofs.Checks.{is_value, are_bytes-drop}
@@ -30,7 +30,7 @@ module _ {A : Type 0} (reads : List ℕ → ℕ → ℕ → Reading A) (code : �
     (size_first : number part 0 4 ≡ m) (code_next : number part 4 4 ≡ code)
     (back : (reads (part ++ rest) (start + k) m).outcome ≡ Ok v) where
   child_is : child (bytes_of_fields cs ++ (part ++ rest)) start (k + m) k
-      ≡ done (record { code = code; size = m; start = k })
+      ≡ done (record { code = code; begin = k; start = k; size = m })
   unfolding child
   child_is =
       let a : leb 8 m ≡ true = le-leb 8 m least in
@@ -49,9 +49,9 @@ module _ {A : Type 0} (reads : List ℕ → ℕ → ℕ → Reading A) (code : �
       let d : drop k B ≡ part ++ rest = drop_at (bytes_of_fields cs) (part ++ rest) k lj in
       let read : (reads (drop k B) (start + k) m).outcome ≡ Ok v =
       ap (λ (xs : List ℕ). (reads xs (start + k) m).outcome) d ∙ back in
-      let after = λ (c : Head). child_if_named reads code B start c >>= λ mine.
+      let after = λ (c : Frame). child_if_named reads code B start c >>= λ mine.
       children reads code B start (k + m) (n - 1) (c.start + c.size) >>= λ later. done (last mine later) in
-      let c : Head = record { code = code; size = m; start = k } in
+      let c : Frame = record { code = code; begin = k; start = k; size = m } in
       let same : eqb code code ≡ true = eq-eqb code code refl in
       let w : (child_if_named reads code B start c).outcome ≡ Ok (Some v) =
       ap (λ (b : Bool). (cond b (reads (drop k B) (start + k) m >>= λ v. done (Some v)) (done None)).outcome) same
@@ -60,7 +60,7 @@ module _ {A : Type 0} (reads : List ℕ → ℕ → ℕ → Reading A) (code : �
       children_none reads code B start (k + m) (n - 1) (k + m) (omega arith) in
       ap (λ (r : Reading (Option A)). r.outcome)
       (children_first reads code B start (k + m) n k more (omega (arith, least)))
-      ∙ outcome_bind (child B start (k + m) k) after c (Ok (Some v)) (ap (λ (r : Reading Head). r.outcome) child_is)
+      ∙ outcome_bind (child B start (k + m) k) after c (Ok (Some v)) (ap (λ (r : Reading Frame). r.outcome) child_is)
       (outcome_bind (child_if_named reads code B start c)
       (λ mine. children reads code B start (k + m) (n - 1) (k + m) >>= λ later. done (last mine later)) (Some v)
       (Ok (Some v)) w
@@ -82,7 +82,7 @@ ok_some r = Ok r
 module _ {A : Type 0} (reads : List ℕ → ℕ → ℕ → Reading A) (code : ℕ) (bytes : List ℕ) (start size : ℕ) (P : A → Type 0)
     (each : (part : List ℕ) (from long : ℕ) (v : A) → AreBytes part → (reads part from long).outcome ≡ Ok v → P v)
     (are : AreBytes bytes) where
-  child_if_named_sound : (c : Head) (b : Bool) (r : Option A)
+  child_if_named_sound : (c : Frame) (b : Bool) (r : Option A)
       → (cond b (reads (drop c.start bytes) (start + c.start) c.size >>= λ v. done (Some v)) (done None)).outcome
       ≡ ok_some r → ForSome P r
   child_if_named_sound c true r e =

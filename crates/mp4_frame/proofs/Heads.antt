@@ -1,13 +1,13 @@
--- Heads and frames.
-use Rattle.std.proofs.Common.{◌≡◌, ℕ, ◌+◌, ◌<◌, ◌≤◌, ◌-◌, List, ◌++◌, length, Result, Ok, Err, refl, ap, ◌∙◌, arith}
+-- What headers say.
+use Rattle.std.proofs.Common.{◌≡◌, ℕ, ◌+◌, ◌<◌, ◌≤◌, ◌-◌, List, ◌++◌, length, Ok, Err, refl, ap, subst, ◌∙◌, arith}
 use Rattle.std.proofs.Common.{length-append, eqb, Bool, true, false, cond, inl, inr}
 use Rattle.std.specs.Prelude.{nat_lt, ◌==◌, ◌⊎◌}
 use Rattle.std.proofs.lemmas.Bool.{lt-ltb, ltb-false, ne_eqb}
 use Rattle.mp4_frame.specs.Bytes.{number}
 use Rattle.mp4_frame.specs.Heads.{head, compact_head, large_head}
-use Rattle.mp4_frame.specs.Reading.{Fault, End, Reading, check, done, ◌>>=◌}
-use Rattle.mp4_frame.specs.declared.head.Head.{Head}
-use Rattle.mp4_frame.proofs.Checks.{expect_bytes_present, guard_value, check_ok}
+use Rattle.mp4_frame.specs.Reading.{End, Reading, check, done, ◌>>=◌}
+use Rattle.mp4_frame.specs.declared.frame.Frame.{Frame}
+use Rattle.mp4_frame.proofs.Checks.{expect_bytes_present, guard_value, check_ok, is_value}
 use Rattle.mp4_frame.proofs.Numbers.{number-among}
 
 pub no_head : (B : List ℕ) (o : ℕ) → length B < o + 8 → (head B o).outcome ≡ Err End
@@ -15,7 +15,7 @@ unfolding head
 no_head B o h = rw (lt-ltb (length B) (o + 8) h) refl
 
 pub short_head : (B : List ℕ) (o size code : ℕ) → o + 8 ≤ length B → size ≡ number B o 4 → code ≡ number B (o + 4) 4
-    → (size ≡ 1 → ⊥) → (head B o).outcome ≡ Ok (record { code = code; size = size; start = o })
+    → (size ≡ 1 → ⊥) → (head B o).outcome ≡ Ok (record { code = code; begin = o; start = o; size = size })
 unfolding head
 short_head B o size code room is_size is_code short =
     let second = ne_eqb (number B o 4) 1 (λ e. short (is_size ∙ e)) in
@@ -26,33 +26,39 @@ either_reading : {A : Type 0} (b : Bool) (r s : Reading A) (v : A) → (cond b r
 either_reading true r s v e = inl e
 either_reading false r s v e = inr e
 
-start_is : (c d : Head) → (done c).outcome ≡ (done d).outcome → c.start ≡ d.start
-start_is c d e = ap (λ (r : Result Head Fault). elim r as (λ _. ℕ) [ Ok g ↦ g.start | Err _ ↦ 0 ]) e
-
--- the 8 bytes from the start on are present
-pub head_room : (B : List ℕ) (o : ℕ) (c : Head) → (head B o).outcome ≡ Ok c → (o ≤ c.start) × (c.start + 8 ≤ length B)
+-- what holds of both forms of a header at o holds of what it says
+pub of_both_forms : (P : Frame → Type 0) (B : List ℕ) (o : ℕ)
+    → (o + 8 ≤ length B → P (record { code = number B (o + 4) 4; begin = o; start = o; size = number B o 4 }))
+    → (o + 8 + 8 ≤ length B
+    → P (record { code = number B (o + 4) 4; begin = o; start = o + 8; size = number B (o + 8) 8 - 8 }))
+    → (c : Frame) → (head B o).outcome ≡ Ok c → P c
 unfolding head
-head_room B o c e =
+of_both_forms P B o compact large c e =
     let first = guard_value (nat_lt (length B) (o + 8))
     (λ _. cond (number B o 4 == 1) (large_head B o) (compact_head B o)) c e in
-    let room : o + 8 ≤ length B = ltb-false _ _ first.0 in
     elim (either_reading (number B o 4 == 1) (large_head B o) (compact_head B o) c first.1) [
       | inl l ↦
-          (let value : Head = record { code = number B (o + 4) 4; size = number B (o + 8) 8 - 8; start = o + 8 } in
+          (let value : Frame =
+          record { code = number B (o + 4) 4; begin = o; start = o + 8; size = number B (o + 8) 8 - 8 } in
           let p = guard_value (nat_lt (length B) (o + 8 + 8)) (λ _. check _ >>= λ _. done value) c l in
-          let more : o + 8 + 8 ≤ length B = ltb-false _ _ p.0 in
           let q = check_ok _ (λ _. done value) c p.1 in
-          let t : o + 8 ≡ c.start = start_is value c q.1 in
-          (omega (arith, t), omega (arith, t, more)))
-      | inr s ↦
-          (let t : o ≡ c.start = start_is (record { code = number B (o + 4) 4; size = number B o 4; start = o }) c s in
-          (omega (arith, t), omega (arith, t, room)))
+          subst P (is_value value c q.1) (large (ltb-false _ _ p.0)))
+      | inr s ↦ subst P (is_value _ c s) (compact (ltb-false _ _ first.0))
     ]
 
--- bytes that begin with a size and a code, after and before other bytes: their head
+-- the 8 bytes from the start on are present
+pub head_room : (B : List ℕ) (o : ℕ) (c : Frame) → (head B o).outcome ≡ Ok c → (o ≤ c.start) × (c.start + 8 ≤ length B)
+head_room B o = of_both_forms (λ c. (o ≤ c.start) × (c.start + 8 ≤ length B)) B o
+    (λ room. (omega arith, room)) (λ room. (omega arith, room))
+
+-- the box begins at its header
+pub head_begin : (B : List ℕ) (o : ℕ) (c : Frame) → (head B o).outcome ≡ Ok c → c.begin ≡ o
+head_begin B o = of_both_forms (λ c. c.begin ≡ o) B o (λ room. refl) (λ room. refl)
+
+-- bytes that begin with a size and a code, after and before other bytes: what they say
 pub head_among : (x part rest : List ℕ) (k m code : ℕ) → length x ≡ k → length part ≡ m → 8 ≤ m → number part 0 4 ≡ m
     → number part 4 4 ≡ code
-    → head (x ++ (part ++ rest)) k ≡ done (record { code = code; size = m; start = k })
+    → head (x ++ (part ++ rest)) k ≡ done (record { code = code; begin = k; start = k; size = m })
 unfolding head
 head_among x part rest k m code front long least size_first code_next =
     let B = x ++ (part ++ rest) in

@@ -4,7 +4,7 @@ use Rattle.std.proofs.Common.{length, Result, Ok, Err, refl, sym, ap, arith}
 use Rattle.std.specs.Prelude.{nat_le, IsOk}
 use Rattle.std.specs.List.{AllByRecursion}
 use Rattle.mp4_frame.specs.Format.{Format}
-use Rattle.mp4_frame.specs.Heads.{frame}
+use Rattle.mp4_frame.specs.Heads.{frame, end_in}
 use Rattle.mp4_frame.specs.Laws.{BeginsWithHeader, Normal, OwnName, ReadsBack}
 use Rattle.mp4_frame.specs.Reading.{Fault, Reading, done, and_then, ◌>>=◌}
 use Rattle.mp4_frame.specs.Spans.{spans, span_item, places}
@@ -68,12 +68,12 @@ module _ {X Y : Type 0} (item : Frame → Reading (List X)) (other : Frame → R
   walk_on_is_ok rest others each (Err k) h = h
   walk_on_is_ok rest others each (Ok f) h =
       let i = item f in
-      let later = (bind_ok_by i.asks_memory i.outcome (λ xs. rest f.end >>= λ ys. done (xs ++ ys)) h).1 in
-      let rest_ok = (bind_ok_by (rest f.end).asks_memory (rest f.end).outcome (λ ys. done (later.0 ++ ys)) later.1).0 in
-      bind_is_ok (other f).asks_memory (other f).outcome (λ xs. others f.end >>= λ ys. done (xs ++ ys))
-      (no_fault f) (λ xs.
-      bind_is_ok (others f.end).asks_memory (others f.end).outcome (λ ys. done (xs ++ ys)) (each f.end rest_ok)
-      (λ ys. refl))
+      let e = end_in f in
+      let later = (bind_ok_by i.asks_memory i.outcome (λ xs. rest e >>= λ ys. done (xs ++ ys)) h).1 in
+      let rest_ok = (bind_ok_by (rest e).asks_memory (rest e).outcome (λ ys. done (later.0 ++ ys)) later.1).0 in
+      bind_is_ok (other f).asks_memory (other f).outcome (λ xs. others e >>= λ ys. done (xs ++ ys)) (no_fault f)
+      (λ xs.
+      bind_is_ok (others e).asks_memory (others e).outcome (λ ys. done (xs ++ ys)) (each e rest_ok) (λ ys. refl))
 
   pub walk_is_ok : (n o : ℕ) → IsOk (walk_at_most item B n o).outcome → IsOk (walk_at_most other B n o).outcome
   unfolding walk_at_most

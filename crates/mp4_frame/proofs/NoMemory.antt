@@ -9,7 +9,7 @@ use Rattle.mp4_frame.specs.Reading.{Reading, Fault, TakesNone, NeverOutOfMemory,
 use Rattle.mp4_frame.specs.Reading.{check, done, reading}
 use Rattle.mp4_frame.specs.declared.error.Error.{Error}
 use Rattle.mp4_frame.specs.declared.error.Error.TheVariants as errors
-use Rattle.mp4_frame.specs.declared.head.Head.{Head}
+use Rattle.mp4_frame.specs.declared.frame.Frame.{Frame}
 use Rattle.mp4_frame.proofs.Checks.{guard}
 
 bind_by : {A B : Type 0} (a : Bool) (o : Result A Fault) (f : A → Reading B) → a ≡ false → ((x : A) → TakesNone (f x))
@@ -64,7 +64,7 @@ child_head_takes_none bytes size o =
 -- a child that is read without memory
 module _ {A : Type 0} (reads : List ℕ → ℕ → ℕ → Reading A)
     (none : (bytes : List ℕ) (start size : ℕ) → TakesNone (reads bytes start size)) (bytes : List ℕ) (start : ℕ) where
-  child_content_takes_none : (c : Head) → TakesNone (child_content reads bytes start c)
+  child_content_takes_none : (c : Frame) → TakesNone (child_content reads bytes start c)
   unfolding child_content
   child_content_takes_none c =
       let ends = ltb (start + c.start + c.size) (2 ^ 64) in
@@ -85,7 +85,7 @@ module _ {A : Type 0} (reads : List ℕ → ℕ → ℕ → Reading A)
   pub optional_child_takes_none : (code size o : ℕ) → TakesNone (optional_child reads code bytes start size o)
   unfolding optional_child
   optional_child_takes_none code size o =
-      let named = λ (c : Head).
+      let named = λ (c : Frame).
       either_takes_none (eqb c.code code) (child_content reads bytes start c >>= λ v. done (Some v)) (done None)
       (bind_takes_none (child_content reads bytes start c) _ (child_content_takes_none c) (λ _. refl)) refl in
       either_takes_none (ltb o size) (child_head bytes size o >>= λ c. content_if_named reads code bytes start c)

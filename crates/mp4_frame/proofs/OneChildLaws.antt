@@ -12,7 +12,7 @@ use Rattle.mp4_frame.specs.OneChild.{child_head, child_content, any_child, named
 use Rattle.mp4_frame.specs.OneChild.{optional_child}
 use Rattle.mp4_frame.specs.OptionalChild.{size_optional, WritableOptional, bytes_optional, normal_optional}
 use Rattle.mp4_frame.specs.Reading.{Reading, ◌>>=◌, check, done}
-use Rattle.mp4_frame.specs.declared.head.Head.{Head}
+use Rattle.mp4_frame.specs.declared.frame.Frame.{Frame}
 use Rattle.mp4_frame.proofs.Checks.{check_ok, is_value, are_bytes-drop}
 use Rattle.mp4_frame.proofs.Decided.{outcome_bind}
 use Rattle.mp4_frame.proofs.Heads.{head_among}
@@ -31,7 +31,7 @@ module _ {A : Type 0} {reads : List ℕ → ℕ → ℕ → Reading A} {format :
       (long : length x ≡ k) where
     module _ (v : A) (w : format.Writable v) (rest : List ℕ) where
       head_back : child_head (x ++ (format.bytes v ++ rest)) (k + format.size v) k
-          ≡ done (record { code = code; size = format.size v; start = k })
+          ≡ done (record { code = code; begin = k; start = k; size = format.size v })
       unfolding child_head
       head_back =
           let f = laws.header v w in
@@ -45,7 +45,7 @@ module _ {A : Type 0} {reads : List ℕ → ℕ → ℕ → Reading A} {format :
 
       module _ (start : ℕ) (top : start + (k + format.size v) < 2 ^ 64) where
         content_back : (child_content reads (x ++ (format.bytes v ++ rest)) start
-            (record { code = code; size = format.size v; start = k })).outcome ≡ Ok (format.normal v)
+            (record { code = code; begin = k; start = k; size = format.size v })).outcome ≡ Ok (format.normal v)
         unfolding child_content
         content_back =
             let ends : ltb (start + k + format.size v) (2 ^ 64) ≡ true =
@@ -75,7 +75,7 @@ module _ {A : Type 0} {reads : List ℕ → ℕ → ℕ → Reading A} {format :
             let more : ltb k (k + format.size v) ≡ true =
             lt-ltb k (k + format.size v) (omega (arith, (laws.header v w).least)) in
             let same : eqb code code ≡ true = eq-eqb code code refl in
-            let c : Head = record { code = code; size = format.size v; start = k } in
+            let c : Frame = record { code = code; begin = k; start = k; size = format.size v } in
             rw (more, head_back, same)
             (outcome_bind (child_content reads B start c) (λ v. done (Some v)) (format.normal v) _
             content_back refl)
@@ -92,7 +92,7 @@ module _ {A : Type 0} {reads : List ℕ → ℕ → ℕ → Reading A} {format :
         rw none refl
 
   module _ (input : List ℕ) (start : ℕ) (are : AreBytes input) where
-    pub content_sound : (c : Head) (v : A) → (child_content reads input start c).outcome ≡ Ok v → IsSound format v
+    pub content_sound : (c : Frame) (v : A) → (child_content reads input start c).outcome ≡ Ok v → IsSound format v
     unfolding child_content
     content_sound c v e =
         let t = check_ok (nat_lt (start + c.start + c.size) (2 ^ 64))
@@ -117,7 +117,7 @@ module _ {A : Type 0} {reads : List ℕ → ℕ → ℕ → Reading A} {format :
       none_sound : (v : Option A) → (done None).outcome ≡ Ok v → IsSoundOptional format v
       none_sound v e = subst (IsSoundOptional format) (is_value None v e) (refl, λ small. tt)
 
-      if_named_sound : (c : Head) (b : Bool) (v : Option A)
+      if_named_sound : (c : Frame) (b : Bool) (v : Option A)
           → (cond b (child_content reads input start c >>= λ v. done (Some v)) (done None)).outcome ≡ Ok v
           → IsSoundOptional format v
       if_named_sound c true v e =

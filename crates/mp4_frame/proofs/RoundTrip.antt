@@ -9,30 +9,29 @@ use Rattle.std.proofs.lemmas.List.Concat.{flat_map-append}
 use Rattle.std.proofs.Math.Seq.{take-append-add}
 use Rattle.mp4_frame.specs.Bytes.{number}
 use Rattle.mp4_frame.specs.BoxType.{name_of, code_of}
-use Rattle.mp4_frame.specs.Heads.{frame_of_head, frame_of, frame, name_in, start_in, size_in}
+use Rattle.mp4_frame.specs.Heads.{frame_of_head, frame_of, frame, name_in}
 use Rattle.mp4_frame.specs.Reading.{Fault, End, Reading, done, also, and_then, ◌>>=◌}
 use Rattle.mp4_frame.specs.Laws.{BeginsWithHeader, Normal, OwnName, ReadsBack}
 use Rattle.mp4_frame.specs.Streams.{stream, walk_on, walk, box_of, boxes}
 use Rattle.mp4_frame.specs.declared.box_type.BoxType.{BoxType}
 use Rattle.mp4_frame.specs.declared.frame.Frame.{Frame}
-use Rattle.mp4_frame.specs.declared.head.Head.{Head}
 use Rattle.mp4_frame.proofs.Numbers.{number-front, number-past, number-among}
 use Rattle.mp4_frame.proofs.Heads.{no_head, short_head}
 use Rattle.mp4_frame.proofs.Walks.{walk_first, walk_none}
 use Rattle.mp4_frame.proofs.Steps.{item_known, bind_ok}
 
-abbrev pub head_of : ℕ → ℕ → ℕ → Head
-head_of code size o = record { code = code; size = size; start = o }
+-- the frame of a box at o whose header has 8 bytes
+abbrev short_frame : ℕ → ℕ → ℕ → Frame
+short_frame code size o = record { code = code; begin = o; start = o; size = size }
 
 -- the frame of a box of 8 to 2^32 - 1 bytes
 frame_short : (B : List ℕ) (o size code : ℕ) → o + 8 ≤ length B → size ≡ number B o 4 → code ≡ number B (o + 4) 4
-    → 8 ≤ size → frame B o ≡ frame_of_head (length B) o (head_of code size o)
+    → 8 ≤ size → frame B o ≡ frame_of_head (length B) (short_frame code size o)
 frame_short B o size code room is_size is_code least =
-    ap (frame_of (length B) o) (short_head B o size code room is_size is_code (λ e. omega arith))
+    ap (frame_of (length B)) (short_head B o size code room is_size is_code (λ e. omega arith))
 
 frame_fits : (len o size code : ℕ) → 8 ≤ size → o + size < 2 ^ 64 → o + size ≤ len
-    → frame_of_head len o (head_of code size o)
-    ≡ Ok (record { code = code; begin = o; content = o + 8; end = o + size })
+    → frame_of_head len (short_frame code size o) ≡ Ok (short_frame code size o)
 unfolding frame_of_head
 frame_fits len o size code least top room =
     rw (
@@ -43,7 +42,7 @@ frame_fits len o size code least top room =
     ) refl
 
 frame_too_long : (len o size code : ℕ) → 8 ≤ size → o + size < 2 ^ 64 → len < o + size
-    → frame_of_head len o (head_of code size o) ≡ Err End
+    → frame_of_head len (short_frame code size o) ≡ Err End
 unfolding frame_of_head
 frame_too_long len o size code least top cut =
     rw (
@@ -74,8 +73,7 @@ outcome_ahead a b v (Err k) = refl
 
 -- the frame of a written box at o
 abbrev pub written_frame : {A : Type 0} → (A → BoxType) → (A → List ℕ) → A → ℕ → Frame
-written_frame name bytes v o =
-    record { code = code_of (name v); begin = o; content = o + 8; end = o + length (bytes v) }
+written_frame name bytes v o = short_frame (code_of (name v)) (length (bytes v)) o
 
 module _ {A : Type 0} (name : A → BoxType) (size : A → ℕ) (Writable : A → Type 0) (bytes : A → List ℕ) (normal : A → A)
     (known : BoxType → Bool) (reading : BoxType → List ℕ → ℕ → ℕ → Reading A)
@@ -181,10 +179,8 @@ module _ {A : Type 0} (name : A → BoxType) (size : A → ℕ) (Writable : A �
       let f = written_frame name bytes v (length x) in
       let B = x ++ (bytes v ++ y) in
       let named : name_in f ≡ name v = (name_law v w).is_own in
-      let start : start_in f ≡ length x = omega arith in
-      let long : size_in f ≡ length (bytes v) = omega arith in
-      let read : (reading (name_in f) B (start_in f) (size_in f)).outcome ≡ Ok (normal v) =
-      rw (named, long, start) (back_law v w x y top) in
+      let read : (reading (name_in f) B f.start f.size).outcome ≡ Ok (normal v) =
+      rw named (back_law v w x y top) in
       ap (λ (r : Reading (List A)). r.outcome)
       (item_known known reading B f (normal v) (ap known named ∙ (name_law v w).is_known) read)
 
@@ -226,7 +222,7 @@ module _ {A : Type 0} (name : A → BoxType) (size : A → ℕ) (Writable : A �
             frame_short B (length x) (length (bytes v)) (code_of (name v)) (omega (arith, long, h)) e1 e2 least
             ∙ frame_too_long (length B) (length x) (length (bytes v)) (code_of (name v)) least top
             (omega (arith, long)))
-        | inl h ↦ ap (frame_of (length B) (length x)) (no_head B (length x) (omega (arith, long, h)))
+        | inl h ↦ ap (frame_of (length B)) (no_head B (length x) (omega (arith, long, h)))
       ]
 
   -- a written list that is cut inside a box is read as end of input

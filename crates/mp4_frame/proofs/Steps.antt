@@ -4,7 +4,7 @@ use Rattle.std.proofs.Common.{sym, ap, subst, ◌∙◌, arith, append_assoc, le
 use Rattle.std.specs.Prelude.{nat_lt, ◌||◌, ◌⊎◌}
 use Rattle.std.proofs.lemmas.Bool.{lt-ltb}
 use Rattle.std.proofs.lemmas.List.{append-nil}
-use Rattle.mp4_frame.specs.Heads.{frame, name_in}
+use Rattle.mp4_frame.specs.Heads.{frame, name_in, end_in}
 use Rattle.mp4_frame.specs.Reading.{Fault, End, Invalid, NotFound, Reading, done, also, and_then, ◌>>=◌, Refuses}
 use Rattle.mp4_frame.specs.Reading.{FaultAs, IsFault, memory}
 use Rattle.mp4_frame.specs.Streams.{walk_on, walk, box_of, boxes, append_read, reading_in}
@@ -70,9 +70,9 @@ module _ {X : Type 0} (item : Frame → Reading (List X)) (B : List ℕ) where
   pub step : (a : Bool) (front xs : List X) (o : ℕ) (f : Frame) (total : Reading (List X)) → o < length B
       → frame B o ≡ Ok f → (item f).outcome ≡ Ok xs
       → continue_with a front (walk item B o) ≡ total
-      → continue_with (a || (item f).asks_memory) (front ++ xs) (walk item B f.end) ≡ total
+      → continue_with (a || (item f).asks_memory) (front ++ xs) (walk item B (end_in f)) ≡ total
   step a front xs o f total lt is is_item so_far =
-      let rest = walk item B f.end in
+      let rest = walk item B (end_in f) in
       let first : walk item B o ≡ walk_on item (λ e. walk item B e) (Ok f) = walk_first item B o lt
       ∙ ap (walk_on item (λ e. walk item B e)) is in
       let second = bind_ok (item f) (λ xs. rest >>= λ ys. done (xs ++ ys)) xs is_item in
@@ -112,14 +112,14 @@ module _ {X : Type 0} (item : Frame → Reading (List X)) (B : List ℕ) where
   pub one_kept : (front : List X) (x : X) (o : ℕ) (f : Frame) (total : Reading (List X)) → o < length B
       → frame B o ≡ Ok f → item f ≡ record { asks_memory = true; outcome = Ok (x ∷ []) }
       → continue_with (nat_lt 0 (length front)) front (walk item B o) ≡ total
-      → continue_with (nat_lt 0 (length (front ++ x ∷ []))) (front ++ x ∷ []) (walk item B f.end) ≡ total
+      → continue_with (nat_lt 0 (length (front ++ x ∷ []))) (front ++ x ∷ []) (walk item B (end_in f)) ≡ total
   one_kept front x o f total lt is is_item so_far =
       let one = step (nat_lt 0 (length front)) front (x ∷ []) o f total lt is
       (ap (λ (r : Reading (List X)). r.outcome) is_item) so_far in
       let flag : (nat_lt 0 (length front) || (item f).asks_memory) ≡ nat_lt 0 (length (front ++ x ∷ [])) =
       ap (λ (r : Reading (List X)). nat_lt 0 (length front) || r.asks_memory) is_item
       ∙ or_true (nat_lt 0 (length front)) ∙ sym (long_enough front x) in
-      subst (λ (b : Bool). continue_with b (front ++ x ∷ []) (walk item B f.end) ≡ total) flag one
+      subst (λ (b : Bool). continue_with b (front ++ x ∷ []) (walk item B (end_in f)) ≡ total) flag one
 
   -- out of memory after such an item was read
   pub one_refused : (front : List X) (x : X) (o : ℕ) (f : Frame) (total : Reading (List X)) → o < length B
@@ -127,9 +127,9 @@ module _ {X : Type 0} (item : Frame → Reading (List X)) (B : List ℕ) where
       → continue_with (nat_lt 0 (length front)) front (walk item B o) ≡ total → total.asks_memory ≡ true
   one_refused front x o f total lt is is_item so_far =
       let one = one_kept front x o f total lt is is_item so_far in
-      let two : continue_with (nat_lt 0 (length (front ++ x ∷ []))) (front ++ x ∷ []) (walk item B f.end)
-      ≡ continue_with true (front ++ x ∷ []) (walk item B f.end) =
-      ap (λ (b : Bool). continue_with b (front ++ x ∷ []) (walk item B f.end)) (long_enough front x) in
+      let two : continue_with (nat_lt 0 (length (front ++ x ∷ []))) (front ++ x ∷ []) (walk item B (end_in f))
+      ≡ continue_with true (front ++ x ∷ []) (walk item B (end_in f)) =
+      ap (λ (b : Bool). continue_with b (front ++ x ∷ []) (walk item B (end_in f))) (long_enough front x) in
       ap (λ (r : Reading (List X)). r.asks_memory) (sym one ∙ two)
 
 abbrev pub ok_list : {A : Type 0} → List A → Result (List A) Fault
@@ -146,7 +146,7 @@ module _ {A : Type 0} (known : BoxType → Bool) (reading : BoxType → List ℕ
   pub skipped : (front : List A) (o : ℕ) (f : Frame) (total : Reading (List A)) → o < length B → frame B o ≡ Ok f
       → known (name_in f) ≡ false
       → continue_with (nat_lt 0 (length front)) front (boxes known reading B o) ≡ total
-      → continue_with (nat_lt 0 (length front)) front (boxes known reading B f.end) ≡ total
+      → continue_with (nat_lt 0 (length front)) front (boxes known reading B (end_in f)) ≡ total
   skipped front o f total lt is unknown so_far =
       let item : box_of known reading B f ≡ done [] = rw unknown refl in
       let one = step (box_of known reading B) B (nat_lt 0 (length front)) front [] o f total lt is
@@ -175,7 +175,7 @@ module _ {A : Type 0} (known : BoxType → Bool) (reading : BoxType → List ℕ
       rw is_known (ap (λ (o : Result A Fault). and_then r.asks_memory o (λ v. memory >>= λ _. done (v ∷ []))) e) in
       ap (λ (r : Reading (List A)). r.outcome)
       (sym one ∙ ap (λ (i : Reading (List A)).
-      continue_with a front (i >>= λ xs. boxes known reading B f.end >>= λ ys. done (xs ++ ys))) item)
+      continue_with a front (i >>= λ xs. boxes known reading B (end_in f) >>= λ ys. done (xs ++ ys))) item)
 
   item_asks : (a : Bool) (front : List A) (o : ℕ) (f : Frame) (total : Reading (List A)) → o < length B
       → frame B o ≡ Ok f → known (name_in f) ≡ true → (reading_in reading B f).asks_memory ≡ true
@@ -187,8 +187,8 @@ module _ {A : Type 0} (known : BoxType → Bool) (reading : BoxType → List ℕ
       rw is_known (and_then_asks r.asks_memory r.outcome (λ v. memory >>= λ _. done (v ∷ [])) e) in
       let i = box_of known reading B f in
       let two = and_then_asks i.asks_memory i.outcome
-      (λ xs. boxes known reading B f.end >>= λ ys. done (xs ++ ys)) item in
-      let w = i >>= λ xs. boxes known reading B f.end >>= λ ys. done (xs ++ ys) in
+      (λ xs. boxes known reading B (end_in f) >>= λ ys. done (xs ++ ys)) item in
+      let w = i >>= λ xs. boxes known reading B (end_in f) >>= λ ys. done (xs ++ ys) in
       let three = and_then_asks w.asks_memory w.outcome (λ ys. done (front ++ ys)) two in
       ap (λ (r : Reading (List A)). r.asks_memory) (sym one) ∙ ap (λ (b : Bool). a || b) three ∙ or_true a
 
@@ -213,11 +213,11 @@ module _ {A : Type 0} (known : BoxType → Bool) (reading : BoxType → List ℕ
   pub append_read_keeps : (front new : List A) (o : ℕ) (f : Frame) (total : Reading (List A)) → o < length B
       → frame B o ≡ Ok f → known (name_in f) ≡ true → (append_read front (reading_in reading B f)).outcome ≡ Ok new
       → continue_with (nat_lt 0 (length front)) front (boxes known reading B o) ≡ total
-      → continue_with (nat_lt 0 (length new)) new (boxes known reading B f.end) ≡ total
+      → continue_with (nat_lt 0 (length new)) new (boxes known reading B (end_in f)) ≡ total
   append_read_keeps front new o f total lt is is_known e so_far =
       let r = reading_in reading B f in
       let p = append_read_by front new r.asks_memory r.outcome e in
-      subst (λ (l : List A). continue_with (nat_lt 0 (length l)) l (boxes known reading B f.end) ≡ total) p.2
+      subst (λ (l : List A). continue_with (nat_lt 0 (length l)) l (boxes known reading B (end_in f)) ≡ total) p.2
       (one_kept (box_of known reading B) B front p.0 o f total lt is (item_known f p.0 is_known p.1) so_far)
 
   fault_by : (front : List A) (k : Fault) (a : Bool) (o : Result A Fault)

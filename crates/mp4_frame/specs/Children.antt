@@ -3,11 +3,11 @@ use Rattle.std.specs.Prelude.{ℕ, zero, suc, ◌+◌, ◌^◌, ◌==◌, ◌&&�
 use Rattle.std.specs.Prelude.{if◌then◌else◌}
 use Rattle.mp4_frame.specs.Heads.{head}
 use Rattle.mp4_frame.specs.Reading.{Reading, ◌>>=◌, check, done}
-use Rattle.mp4_frame.specs.declared.head.Head.{Head}
+use Rattle.mp4_frame.specs.declared.frame.Frame.{Frame}
 
--- the head of the child at o, in a box of this start and size: the child has at least 8 bytes, is no larger than the
+-- the frame of the child at o, in a box of this start and size: the child has at least 8 bytes, is no larger than the
 -- box, and ends below 2^64
-unfoldable pub child : List ℕ → ℕ → ℕ → ℕ → Reading Head
+unfoldable pub child : List ℕ → ℕ → ℕ → ℕ → Reading Frame
 child bytes start size o = do
   c ← head bytes o
   _ ← check (nat_le 8 c.size && nat_le c.size size)
@@ -15,7 +15,7 @@ child bytes start size o = do
   done c
 
 -- what a child is read as: Some value if it has this code, else None
-abbrev pub child_if_named : {A : Type 0} → (List ℕ → ℕ → ℕ → Reading A) → ℕ → List ℕ → ℕ → Head → Reading (Option A)
+abbrev pub child_if_named : {A : Type 0} → (List ℕ → ℕ → ℕ → Reading A) → ℕ → List ℕ → ℕ → Frame → Reading (Option A)
 child_if_named reads code bytes start c =
     if c.code == code then (reads (drop c.start bytes) (start + c.start) c.size >>= λ v. done (Some v)) else done None
 

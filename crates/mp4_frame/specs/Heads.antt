@@ -1,36 +1,35 @@
--- The head of a box (ISO/IEC 14496-12, 4.2), the header that it is read as, and the frame that it gives
--- at the top level of a buffer.
+-- The header of a box (ISO/IEC 14496-12, 4.2): what it says, and the frame that this is in a buffer.
 use Rattle.std.specs.Prelude.{ℕ, ◌+◌, ◌-◌, ◌^◌, ◌==◌, ◌||◌, nat_lt, nat_le, List, [], ◌∷◌, length, Result, Ok, Err}
 use Rattle.std.specs.Prelude.{if◌then◌else◌}
 use Rattle.mp4_frame.specs.Bytes.{number, bytes_of_fields}
 use Rattle.mp4_frame.specs.BoxType.{name_of, code_of}
 use Rattle.mp4_frame.specs.Reading.{Fault, End, Invalid, Reading, ◌>>=◌, expect_bytes, check, done}
 use Rattle.mp4_frame.specs.declared.box_type.BoxType.{BoxType}
-use Rattle.mp4_frame.specs.declared.head.Head.{Head}
 use Rattle.mp4_frame.specs.declared.box_header.BoxHeader.{BoxHeader}
 use Rattle.mp4_frame.specs.declared.frame.Frame.{Frame}
 
--- A head at o: the code of the box, its size, and its start. The start is 8 bytes before the content,
--- so that the box ends at start + size in both forms of a head.
+-- What the header at o says: the code of the box, its start and its size from there. The start is 8 bytes before the
+-- content, so that the box ends at start + size in both forms of a header.
 
 -- the form with the size in the four bytes before the code
-abbrev pub compact_head : List ℕ → ℕ → Reading Head
-compact_head bytes o = done (record { code = number bytes (o + 4) 4; size = number bytes o 4; start = o })
+abbrev pub compact_head : List ℕ → ℕ → Reading Frame
+compact_head bytes o =
+    done (record { code = number bytes (o + 4) 4; begin = o; start = o; size = number bytes o 4 })
 
 -- the form with the size in the eight bytes after the code: 0, or at least 16
-abbrev pub large_head : List ℕ → ℕ → Reading Head
+abbrev pub large_head : List ℕ → ℕ → Reading Frame
 large_head bytes o = do
   _ ← expect_bytes bytes (o + 8) 8
   _ ← check ((number bytes (o + 8) 8 == 0) || nat_le 16 (number bytes (o + 8) 8))
-  done (record { code = number bytes (o + 4) 4; size = number bytes (o + 8) 8 - 8; start = o + 8 })
+  done (record { code = number bytes (o + 4) 4; begin = o; start = o + 8; size = number bytes (o + 8) 8 - 8 })
 
 -- a size of 1 in the four bytes before the code means that the form with eight bytes is used
-unfoldable pub head : List ℕ → ℕ → Reading Head
+unfoldable pub head : List ℕ → ℕ → Reading Frame
 head bytes o = do
   _ ← expect_bytes bytes o 8
   if number bytes o 4 == 1 then large_head bytes o else compact_head bytes o
 
-abbrev pub header_of : Head → BoxHeader
+abbrev pub header_of : Frame → BoxHeader
 header_of h = record { name = name_of h.code; size = h.size }
 
 -- the header at o
@@ -56,33 +55,29 @@ header_ext bytes o = do
   _ ← expect_bytes bytes o 4
   done (number bytes o 1, number bytes (o + 1) 3)
 
--- the frame of a box at o, by its head and its end
-abbrev pub frame_up_to : ℕ → Head → ℕ → Frame
-frame_up_to o h end = record { code = h.code; begin = o; content = h.start + 8; end = end }
-
--- the frame that a head at o gives, in a buffer of len bytes. A size of 0 means up to the end of the buffer
-unfoldable pub frame_of_head : ℕ → ℕ → Head → Result Frame Fault
-frame_of_head len o h =
-    if h.size == 0 then Ok (frame_up_to o h len) else
-    if nat_lt h.size 8 then Err Invalid else
-    if nat_lt (2 ^ 64 - 1) (h.start + h.size) then Err Invalid else
-    if nat_lt len (h.start + h.size) then Err End else
-    Ok (frame_up_to o h (h.start + h.size))
-
-abbrev pub frame_of : ℕ → ℕ → Result Head Fault → Result Frame Fault
-frame_of len o (Ok h) = frame_of_head len o h
-frame_of len o (Err k) = Err k
-
--- the frame of the box at o
-abbrev pub frame : List ℕ → ℕ → Result Frame Fault
-frame bytes o = frame_of (length bytes) o (head bytes o).outcome
-
--- what a frame says of its box: its name, its start 8 bytes before the content, and its size from there
+-- what a frame says of its box: its name, where its content begins, and where it ends
 abbrev pub name_in : Frame → BoxType
 name_in f = name_of f.code
 
-abbrev pub start_in : Frame → ℕ
-start_in f = f.content - 8
+abbrev pub content_in : Frame → ℕ
+content_in f = f.start + 8
 
-abbrev pub size_in : Frame → ℕ
-size_in f = f.end - start_in f
+abbrev pub end_in : Frame → ℕ
+end_in f = f.start + f.size
+
+-- the frame of a box, by what its header says, in a buffer of len bytes. A size of 0 means up to the end of the buffer
+unfoldable pub frame_of_head : ℕ → Frame → Result Frame Fault
+frame_of_head len h =
+    if h.size == 0 then Ok (record h { size = len - h.start }) else
+    if nat_lt h.size 8 then Err Invalid else
+    if nat_lt (2 ^ 64 - 1) (end_in h) then Err Invalid else
+    if nat_lt len (end_in h) then Err End else
+    Ok h
+
+abbrev pub frame_of : ℕ → Result Frame Fault → Result Frame Fault
+frame_of len (Ok h) = frame_of_head len h
+frame_of len (Err k) = Err k
+
+-- the frame of the box at o
+abbrev pub frame : List ℕ → ℕ → Result Frame Fault
+frame bytes o = frame_of (length bytes) (head bytes o).outcome

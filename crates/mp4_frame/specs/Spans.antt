@@ -2,14 +2,14 @@
 use Rattle.std.specs.Prelude.{ℕ, ◌+◌, ◌-◌, List, [], ◌∷◌}
 use Rattle.mp4_frame.specs.Format.{Format}
 use Rattle.mp4_frame.specs.Reading.{Reading, done, memory, ◌>>=◌}
-use Rattle.mp4_frame.specs.Heads.{name_in}
+use Rattle.mp4_frame.specs.Heads.{name_in, end_in}
 use Rattle.mp4_frame.specs.Streams.{walk}
 use Rattle.mp4_frame.specs.declared.frame.Frame.{Frame}
 use Rattle.mp4_frame.specs.declared.list.BoxSpan.{BoxSpan}
 
 -- the place of the box of a frame, from its first byte to its end
 abbrev pub span_of : Frame → BoxSpan
-span_of f = record { position = f.begin; length = f.end - f.begin; name = name_in f }
+span_of f = record { position = f.begin; length = end_in f - f.begin; name = name_in f }
 
 -- every box's place is kept, which takes memory
 abbrev pub span_item : Frame → Reading (List BoxSpan)

@@ -2,7 +2,7 @@
 use Rattle.std.specs.Prelude.{ℕ, zero, suc, Bool, nat_le, List, [], ◌∷◌, ◌++◌, length, Result, Ok, Err, if◌then◌else◌}
 use Rattle.std.specs.List.{flat_map}
 use Rattle.mp4_frame.specs.Reading.{Fault, Reading, done, faults, memory, ◌>>=◌}
-use Rattle.mp4_frame.specs.Heads.{frame, name_in, start_in, size_in}
+use Rattle.mp4_frame.specs.Heads.{frame, name_in, end_in}
 use Rattle.mp4_frame.specs.declared.box_type.BoxType.{BoxType}
 use Rattle.mp4_frame.specs.declared.frame.Frame.{Frame}
 
@@ -16,7 +16,7 @@ abbrev pub walk_on : {X : Type 0} → (Frame → Reading (List X)) → (ℕ → 
 walk_on item rest (Err k) = faults k
 walk_on item rest (Ok f) = do
   xs ← item f
-  ys ← rest f.end
+  ys ← rest (end_in f)
   done (xs ++ ys)
 
 -- the items of the frames from o on, n frames at most, one after the other
@@ -31,7 +31,7 @@ walk item B o = walk_at_most item B (length B) o
 
 -- what is read of the box in a frame
 abbrev pub reading_in : {A : Type 0} → (BoxType → List ℕ → ℕ → ℕ → Reading A) → List ℕ → Frame → Reading A
-reading_in reading B f = reading (name_in f) B (start_in f) (size_in f)
+reading_in reading B f = reading (name_in f) B f.start f.size
 
 -- a box of a known name is read and kept, which takes memory; any other box is skipped
 abbrev pub box_of : {A : Type 0} → (BoxType → Bool) → (BoxType → List ℕ → ℕ → ℕ → Reading A) → List ℕ → Frame

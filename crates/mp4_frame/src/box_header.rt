@@ -10,7 +10,7 @@ ghost use Rattle.mp4_frame.specs.Written.{Writes};
 use crate::box_type::BoxType;
 use crate::byte_cursor::ByteCursor;
 use crate::error::{Error, Result};
-use crate::head::Head;
+use crate::frame::Frame;
 use crate::number::{u8_at, u24_at};
 use crate::put::{put_u32, put_u64, put_version_and_flags};
 use crate::reading::expect_bytes;
@@ -50,11 +50,11 @@ impl BoxHeader {
         ensures memory { NeverOutOfMemory result }
         ensures bytes { reader.new.bytes ≡ reader.old.bytes }
     {
-        let head = Head::at(reader.bytes(), reader.position())?;
-        reader.set_position(head.start + HEADER_SIZE);
+        let frame = Frame::at(reader.bytes(), reader.position())?;
+        reader.set_position(frame.content());
         Ok(BoxHeader {
-            name: BoxType::from(head.code),
-            size: head.size,
+            name: frame.name(),
+            size: frame.size,
         })
     }
 

@@ -5,7 +5,7 @@ ghost use Rattle.mp4_frame.specs.Children.{child, children};
 ghost use Rattle.mp4_frame.specs.Reading.{Answers, check};
 
 use crate::error::Result;
-use crate::head::Head;
+use crate::frame::Frame;
 use crate::reading::check;
 use crate::traits::ReadBox;
 use std::alloc::Global;
@@ -23,8 +23,8 @@ pub struct Parent<'a> {
     pub too_large: &'static str,
 }
 
-/// Invalid data if the child with this head ends past 2^64 - 1.
-pub fn check_child_end(parent: &Parent, child: Head) -> Result<()>
+/// Invalid data if the child with this frame ends past 2^64 - 1.
+pub fn check_child_end(parent: &Parent, child: Frame) -> Result<()>
     ensures { Answers result (check (nat_lt (parent.now.start + child.start + child.size) (2 ^ 64))) }
 {
     check(
@@ -34,16 +34,16 @@ pub fn check_child_end(parent: &Parent, child: Head) -> Result<()>
     )
 }
 
-/// Reads the head of the child at an offset of its parent. Invalid data if the child has fewer than 8 bytes, is
+/// Reads the header of the child at an offset of its parent. Invalid data if the child has fewer than 8 bytes, is
 /// larger than its parent, or ends past 2^64 - 1.
 #[tactic(auto, unfolding(crate::specs::Children::child))]
-fn child_at(parent: &Parent, at: u64) -> Result<Head>
+fn child_at(parent: &Parent, at: u64) -> Result<Frame>
     ensures value { Answers result (child parent.now.bytes.now parent.now.start parent.now.size at) }
     ensures room { IfOk result
         (λ c. (at ≤ c.start) × (c.start + 8 ≤ length parent.now.bytes.now) × (8 ≤ c.size)
         × (parent.now.start + c.start + c.size < 2 ^ 64)) }
 {
-    let child = Head::at(parent.bytes, at)?;
+    let child = Frame::at(parent.bytes, at)?;
     check(child.size >= 8, "child box too small")?;
     check(child.size <= parent.size, parent.too_large)?;
     check_child_end(parent, child)?;

@@ -1,32 +1,69 @@
-//! The frame of a box at the top level of a buffer: its code, and where it begins, has its content and ends.
+//! The frame of a box: what its header says, and where it is.
 
-ghost use Rattle.std.specs.Prelude.{◌≡◌, ◌<◌, ◌≤◌, ◌+◌, ◌-◌, ◌^◌, length, IfOk};
+ghost use Rattle.std.specs.Prelude.{◌≡◌, ◌<◌, ◌≤◌, ◌+◌, ◌^◌, length, IfOk};
 ghost use Rattle.mp4_frame.specs.Bytes.{number};
-ghost use Rattle.mp4_frame.specs.Reading.{FaultAs};
-ghost use Rattle.mp4_frame.specs.Heads.{frame, frame_of_head};
+ghost use Rattle.mp4_frame.specs.Reading.{Answers, FaultAs};
+ghost use Rattle.mp4_frame.specs.Heads.{head, frame, end_in};
 
 use crate::box_type::BoxType;
 use crate::error::{Error, Result};
-use crate::head::Head;
 use crate::list::BoxSpan;
-use crate::reading::check_end;
+use crate::number::{u32_at, u64_at};
+use crate::reading::{check, check_end, expect_bytes};
 
-/// The frame of a box in a buffer. Offsets are in bytes from the front of the buffer.
+/// The frame of a box: what its header says (ISO/IEC 14496-12, 4.2), and where it is. Offsets are in bytes from the
+/// front of the buffer.
 #[derive(Clone, Copy, Debug)]
 pub struct Frame {
     /// The code of the box: its four characters as a number.
     pub code: u32,
     /// The offset where the box begins: that of its header.
     pub begin: u64,
-    /// The offset where the content of the box begins: that after its header.
-    pub content: u64,
-    /// The offset where the box ends.
-    pub end: u64,
+    /// The offset 8 bytes before the content. This is where the box begins, or 8 bytes after that if its header has
+    /// 16 bytes.
+    pub start: u64,
+    /// The number of bytes from `start` to the end of the box: its size as `ReadBox::read_content` takes it. As a
+    /// header at the top level says it, 0 means up to the end of the buffer.
+    pub size: u64,
 }
 
 impl Frame {
-    ghost use Rattle.mp4_frame.specs.Heads.{name_in, start_in, size_in};
+    ghost use Rattle.mp4_frame.specs.Heads.{header_length, name_in, content_in, frame_of_head};
     ghost use Rattle.mp4_frame.specs.Spans.{span_of};
+
+    /// What the header at offset `at` says: 8 bytes, and 8 more if the first 4 hold a size of 1. End of input unless
+    /// these bytes are present; invalid data if the 64-bit size is 1 to 15.
+    #[tactic(auto, unfolding(crate::specs::Heads::head))]
+    pub fn at(bytes: &[u8], at: u64) -> Result<Frame>
+        ensures value { Answers result (head bytes.now at) }
+        ensures fault { FaultAs result (head bytes.now at).outcome }
+        ensures code { IfOk result (λ f. f.code ≡ number bytes.now (at + 4) 4) }
+        ensures begins { IfOk result (λ f. f.begin ≡ at) }
+        ensures after { IfOk result (λ f. content_in f ≡ at + header_length bytes.now at) }
+        ensures room { IfOk result (λ f. (at ≤ f.start) × (content_in f ≤ length bytes.now)) }
+    {
+        let offset = at as usize;
+        expect_bytes(bytes, offset, 8)?;
+        let size = u32_at(bytes, offset);
+        let code = u32_at(bytes, offset + 4);
+        if size != 1 {
+            return Ok(Frame {
+                code,
+                begin: at,
+                start: at,
+                size: u64::from(size),
+            });
+        }
+        expect_bytes(bytes, offset + 8, 8)?;
+        let size = u64_at(bytes, offset + 8);
+        check(size == 0 || size >= 16, "64-bit box size too small")?;
+        Ok(Frame {
+            code,
+            begin: at,
+            start: at + 8,
+            size: size.saturating_sub(8),
+        })
+    }
 
     /// The name of the box.
     pub fn name(&self) -> BoxType
@@ -35,66 +72,61 @@ impl Frame {
         BoxType::from(self.code)
     }
 
-    /// The offset 8 bytes before the content. This is where the box begins, or 8 bytes after that if its header has
-    /// 16 bytes.
-    pub fn start(&self) -> u64
-        requires { 8 ≤ self.now.content }
-        ensures { result ≡ start_in self.now }
+    /// The offset where the content of the box begins: that after its header.
+    pub fn content(&self) -> u64
+        requires { content_in self.now < 2 ^ 64 }
+        ensures { result ≡ content_in self.now }
     {
-        self.content - 8
+        self.start + 8
     }
 
-    /// The number of bytes from `start` to the end: the size of the box as `ReadBox::read_content` takes it.
-    pub fn size(&self) -> u64
-        requires header { 8 ≤ self.now.content }
-        requires order { self.now.content ≤ self.now.end }
-        ensures { result ≡ size_in self.now }
+    /// The offset where the box ends.
+    pub fn end(&self) -> u64
+        requires { end_in self.now < 2 ^ 64 }
+        ensures { result ≡ end_in self.now }
     {
-        self.end - self.start()
+        self.start + self.size
     }
 
     /// The place of the box in the buffer, and its name.
     pub fn span(&self) -> BoxSpan
-        requires { self.now.begin ≤ self.now.end }
+        requires order { self.now.begin ≤ end_in self.now }
+        requires end { end_in self.now < 2 ^ 64 }
         ensures { result ≡ span_of self.now }
     {
         BoxSpan {
             position: self.begin,
-            length: self.end - self.begin,
+            length: self.end() - self.begin,
             name: self.name(),
         }
     }
-}
 
-/// The frame of the box that begins at `begin` with this head, in a buffer of this length. Invalid data if its size is
-/// too small or it ends past 2^64 - 1, end of input if it ends past the buffer.
-#[tactic(auto, unfolding(crate::specs::Heads::frame_of_head))]
-pub fn frame_of_head(len: u64, begin: u64, head: Head) -> Result<Frame>
-    requires { head.start + 8 ≤ len }
-    ensures answer { FaultAs result (frame_of_head len begin head) }
-    ensures begins { IfOk result (λ f. (f.begin ≡ begin) × (f.content ≡ head.start + 8)) }
-    ensures room { IfOk result (λ f. (f.content ≤ f.end) × (f.end ≤ len)) }
-    ensures code { IfOk result (λ f. f.code ≡ head.code) }
-{
-    let content = head.start + 8;
-    let mut frame = Frame {
-        code: head.code,
-        begin,
-        content,
-        end: len,
-    };
-    if head.size == 0 {
-        return Ok(frame);
+    /// The frame of the whole box, by what its header says, in a buffer of this length: a size of 0 is what is left
+    /// from `start` on. Invalid data if the size is too small or the box ends past 2^64 - 1, end of input if it ends
+    /// past the buffer.
+    #[tactic(auto, unfolding(crate::specs::Heads::frame_of_head))]
+    pub fn within(self, len: u64) -> Result<Frame>
+        requires { content_in self ≤ len }
+        ensures answer { FaultAs result (frame_of_head len self) }
+        ensures begins { IfOk result (λ f. (f.begin ≡ self.begin) × (f.start ≡ self.start)) }
+        ensures room { IfOk result (λ f. (8 ≤ f.size) × (end_in f ≤ len)) }
+        ensures code { IfOk result (λ f. f.code ≡ self.code) }
+    {
+        if self.size == 0 {
+            return Ok(Frame {
+                size: len - self.start,
+                ..self
+            });
+        }
+        if self.size < 8 {
+            return Err(Error::InvalidData("box size too small"));
+        }
+        check_end(self.start, self.size)?;
+        if self.end() > len {
+            return Err(Error::IoError);
+        }
+        Ok(self)
     }
-    if head.size < 8 {
-        return Err(Error::InvalidData("box size too small"));
-    }
-    check_end(head.start, head.size)?;
-    frame.end = head.start + head.size;
-    if frame.end > len {
-        return Err(Error::IoError);
-    }
-    Ok(frame)
 }
 
 /// The frame of the box at an offset before the end of the buffer. End of input if the header or the box is cut,
@@ -102,10 +134,9 @@ pub fn frame_of_head(len: u64, begin: u64, head: Head) -> Result<Frame>
 pub fn frame_at(bytes: &[u8], at: usize) -> Result<Frame>
     requires { at < length bytes.now }
     ensures answer { FaultAs result (frame bytes.now at) }
-    ensures begins { IfOk result (λ f. (f.begin ≡ at) × (at + 8 ≤ f.content)) }
-    ensures room { IfOk result (λ f. (f.content ≤ f.end) × (f.end ≤ length bytes.now)) }
+    ensures begins { IfOk result (λ f. (f.begin ≡ at) × (at ≤ f.start)) }
+    ensures room { IfOk result (λ f. (8 ≤ f.size) × (end_in f ≤ length bytes.now)) }
     ensures code { IfOk result (λ f. f.code ≡ number bytes.now (at + 4) 4) }
 {
-    let begin = at as u64;
-    frame_of_head(bytes.len() as u64, begin, Head::at(bytes, begin)?)
+    Frame::at(bytes, at as u64)?.within(bytes.len() as u64)
 }

@@ -38,7 +38,7 @@ pub fn list_boxes<A: Allocator>(alloc: A, reader: &mut ByteCursor) -> Result<Vec
     while at < bytes.len() as u64 {
         let frame = frame_at(bytes, at as usize)?;
         spans.push(frame.span())?;
-        at = frame.end;
+        at = frame.end();
     }
     reader.set_position(at);
     Ok(spans)

@@ -6,27 +6,27 @@ ghost use Rattle.mp4_frame.specs.Reading.{Answers};
 
 use crate::child::{Parent, check_child_end};
 use crate::error::Result;
-use crate::head::Head;
+use crate::frame::Frame;
 use crate::reading::check;
 use crate::traits::ReadBox;
 use std::alloc::Global;
 
-/// Reads the head of the child at an offset of its parent. Invalid data if the child is larger than its parent. It
+/// Reads the header of the child at an offset of its parent. Invalid data if the child is larger than its parent. It
 /// may have fewer than 8 bytes.
 #[tactic(auto, unfolding(crate::specs::OneChild::child_head))]
-pub fn child_head(parent: &Parent, at: u64) -> Result<Head>
+pub fn child_head(parent: &Parent, at: u64) -> Result<Frame>
     ensures value { Answers result (child_head parent.now.bytes.now parent.now.size at) }
     ensures room { IfOk result (λ c. c.start + 8 ≤ length parent.now.bytes.now) }
 {
-    let child = Head::at(parent.bytes, at)?;
+    let child = Frame::at(parent.bytes, at)?;
     check(child.size <= parent.size, parent.too_large)?;
     Ok(child)
 }
 
-/// Reads the content of the child with this head, also past the end of its parent. Invalid data if the child ends
+/// Reads the content of the child with this frame, also past the end of its parent. Invalid data if the child ends
 /// past 2^64 - 1.
 #[tactic(auto, unfolding(crate::specs::OneChild::child_content))]
-pub fn child_content<T: ReadBox>(alloc: Global, parent: &Parent, child: Head) -> Result<T>
+pub fn child_content<T: ReadBox>(alloc: Global, parent: &Parent, child: Frame) -> Result<T>
     requires { child.start ≤ length parent.now.bytes.now }
     ensures { Answers result (child_content T.reads parent.now.bytes.now parent.now.start child) }
 {

@@ -25,10 +25,11 @@ pub fn read_boxes_as<B: StreamBox>(alloc: Global, reader: &mut ByteCursor) -> Re
     while at < bytes.len() as u64 {
         let frame = frame_at(bytes, at as usize)?;
         let name = frame.name();
+        let end = frame.end();
         if B::knows(name) {
-            B::push_named(alloc, name, bytes, frame.start(), frame.size(), &mut boxes)?;
+            B::push_named(alloc, name, bytes, frame.start, frame.size, &mut boxes)?;
         }
-        at = frame.end;
+        at = end;
     }
     reader.set_position(at);
     Ok(boxes)

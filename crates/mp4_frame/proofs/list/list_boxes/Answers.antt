@@ -25,11 +25,11 @@ pub loop-at-preserved : goal.loop-at-preserved
 loop-at-preserved g c =
     let f = c.in_ok-frame.frame in
     record {
-      told = rw (c.in_ok-push.ensures.items, c.span.ensures)
+      told = rw (c.in_ok-push.ensures.items, c.span.ensures, c.end-at.ensures)
           (one_kept span_item c.bytes-bytes.result.now c.loop-at.spans.items (span_of f) c.loop-at.at f _
           c.loop-at-test.true c.in_ok-frame.ensures.answer refl c.loop-at.invariant.told);
-      least = omega (arith, c.loop-at.invariant.least, c.in_ok-frame.ensures.begins.1, c.in_ok-frame.ensures.room.0);
-      most = omega (arith, c.in_ok-frame.ensures.room.1);
+      least = omega (arith, c.end-at.ensures, c.loop-at.invariant.least, c.in_ok-frame.ensures.begins.1);
+      most = omega (arith, c.end-at.ensures, c.in_ok-frame.ensures.room.1);
       there = c.loop-at.invariant.there;
     }
 
