@@ -7,52 +7,39 @@ use Rattle.std.proofs.lemmas.Bool.{cond_both}
 use Rattle.mp4_frame.specs.BoxType.{code_of, code_of-name_of}
 use Rattle.mp4_frame.specs.Bytes.{number}
 use Rattle.mp4_frame.specs.Format.{Format, IsWritten}
-use Rattle.mp4_frame.specs.Heads.{head, compact_head, large_head, frame_of_head, frame_of, frame}
-use Rattle.mp4_frame.specs.Heads.{name_in, start_in, size_in}
+use Rattle.mp4_frame.specs.Heads.{head, frame_of_head, frame_of, frame, name_in, end_in}
 use Rattle.mp4_frame.specs.Laws.{AreBytes}
-use Rattle.mp4_frame.specs.Reading.{Reading, Fault, ◌>>=◌, check, memory, done}
+use Rattle.mp4_frame.specs.Reading.{Reading, Fault, ◌>>=◌, memory, done}
 use Rattle.mp4_frame.specs.Streams.{walk_on, walk_at_most, box_of, boxes, reading_in, stream}
 use Rattle.mp4_frame.specs.declared.box_type.BoxType.{BoxType}
 use Rattle.mp4_frame.specs.declared.frame.Frame.{Frame}
-use Rattle.mp4_frame.specs.declared.head.Head.{Head}
-use Rattle.mp4_frame.proofs.Checks.{expect_bytes_ok, check_ok, is_value}
+use Rattle.mp4_frame.proofs.Checks.{is_value}
 use Rattle.mp4_frame.proofs.Fields.{number-below}
+use Rattle.mp4_frame.proofs.Heads.{of_both_forms}
 use Rattle.mp4_frame.proofs.Tables.{value_first}
 use Rattle.mp4_lists.specs.Sound.{ReadsSoundly}
 
 -- ---- the code of a frame has four bytes
 
-code_by : (B : List ℕ) (o : ℕ) (c : Head) (b : Bool) → (cond b (large_head B o) (compact_head B o)).outcome ≡ Ok c
-    → number B (o + 4) 4 ≡ c.code
-code_by B o c true e =
-    let value : Head = record { code = number B (o + 4) 4; size = number B (o + 8) 8 - 8; start = o + 8 } in
-    let p = expect_bytes_ok B (o + 8) 8 (λ _. check _ >>= λ _. done value) c e in
-    let q = check_ok _ (λ _. done value) c p in
-    ap (λ (h : Head). h.code) (is_value value c q.1)
-code_by B o c false e =
-    ap (λ (h : Head). h.code) (is_value (record { code = number B (o + 4) 4; size = number B o 4; start = o }) c e)
-
-head_code : (B : List ℕ) (o : ℕ) (c : Head) → (head B o).outcome ≡ Ok c → number B (o + 4) 4 ≡ c.code
-unfolding head
-head_code B o c e = code_by B o c (number B o 4 == 1)
-    (expect_bytes_ok B o 8 (λ _. cond (number B o 4 == 1) (large_head B o) (compact_head B o)) c e)
+head_code : (B : List ℕ) (o : ℕ) (c : Frame) → (head B o).outcome ≡ Ok c → number B (o + 4) 4 ≡ c.code
+head_code B o = of_both_forms (λ c. number B (o + 4) 4 ≡ c.code) B o (λ room. refl) (λ room. refl)
 
 abbrev IsCoded : ℕ → Result Frame Fault → Type 0
 IsCoded code (Ok f) = f.code ≡ code
 IsCoded code (Err k) = Unit {0}
 
-frame_coded : (len o : ℕ) (h : Head) → IsCoded h.code (frame_of_head len o h)
+frame_coded : (len : ℕ) (h : Frame) → IsCoded h.code (frame_of_head len h)
 unfolding frame_of_head
-frame_coded len o h =
+frame_coded len h =
     cond_both (h.size == 0) _ _ (IsCoded h.code) (λ _. refl) (λ _.
     cond_both (nat_lt h.size 8) _ _ (IsCoded h.code) (λ _. tt) (λ _.
-    cond_both (nat_lt (2 ^ 64 - 1) (h.start + h.size)) _ _ (IsCoded h.code) (λ _. tt) (λ _.
-    cond_both (nat_lt len (h.start + h.size)) _ _ (IsCoded h.code) (λ _. tt) (λ _. refl))))
+    cond_both (nat_lt (2 ^ 64 - 1) (end_in h)) _ _ (IsCoded h.code) (λ _. tt) (λ _.
+    cond_both (nat_lt len (end_in h)) _ _ (IsCoded h.code) (λ _. tt) (λ _. refl))))
 
-code_in_frame : (B : List ℕ) (o : ℕ) (f : Frame) → AreBytes B → (r : Result Head Fault) → (head B o).outcome ≡ r
-    → frame_of (length B) o r ≡ Ok f → code_of (name_in f) < 2 ^ 32
+code_in_frame : (B : List ℕ) (o : ℕ) (f : Frame) → AreBytes B → (r : Result Frame Fault) → (head B o).outcome ≡ r
+    → frame_of (length B) r ≡ Ok f → code_of (name_in f) < 2 ^ 32
 code_in_frame B o f are (Ok h) is e =
-    let same : f.code ≡ h.code = subst (IsCoded h.code) e (frame_coded (length B) o h) in
+    let same : f.code ≡ h.code = subst (IsCoded h.code) e (frame_coded (length B) h) in
     let code : code_of (name_in f) ≡ number B (o + 4) 4 = code_of-name_of f.code ∙ same ∙ sym (head_code B o h is) in
     omega (arith, code, number-below B (o + 4) 4 are)
 code_in_frame B o f are (Err k) is e = absurd cc
@@ -95,7 +82,7 @@ module _ {A : Type 0} (format : Format A) (known : BoxType → Bool)
     item_by f small xs true is e =
         let p = value_first (reading_in reading B f) (λ v. memory >>= λ _. done (v ∷ [])) xs e in
         subst AreSound (is_value (p.0 ∷ []) xs p.2)
-        (sound (name_in f) is small B (start_in f) (size_in f) p.0 are p.1, tt)
+        (sound (name_in f) is small B f.start f.size p.0 are p.1, tt)
     item_by f small xs false is e = subst AreSound (is_value [] xs e) tt
 
     walk_on_sound : (o : ℕ) (rest : ℕ → Reading (List A))
@@ -103,10 +90,10 @@ module _ {A : Type 0} (format : Format A) (known : BoxType → Bool)
         → (vs : List A) → (walk_on (box_of known reading B) rest r).outcome ≡ Ok vs → AreSound vs
     walk_on_sound o rest after (Ok f) is vs e =
         let small = code_in_frame B o f are (head B o).outcome refl is in
-        let p = value_first (box_of known reading B f) (λ xs. rest f.end >>= λ ys. done (xs ++ ys)) vs e in
-        let q = value_first (rest f.end) (λ ys. done (p.0 ++ ys)) vs p.2 in
+        let p = value_first (box_of known reading B f) (λ xs. rest (end_in f) >>= λ ys. done (xs ++ ys)) vs e in
+        let q = value_first (rest (end_in f)) (λ ys. done (p.0 ++ ys)) vs p.2 in
         subst AreSound (is_value (p.0 ++ q.0) vs q.2)
-        (joined p.0 q.0 (item_by f small p.0 (known (name_in f)) refl p.1) (after f.end q.0 q.1))
+        (joined p.0 q.0 (item_by f small p.0 (known (name_in f)) refl p.1) (after (end_in f) q.0 q.1))
     walk_on_sound o rest after (Err k) is vs e = absurd cc
 
     walk_sound : (n o : ℕ) (vs : List A) → (walk_at_most (box_of known reading B) B n o).outcome ≡ Ok vs → AreSound vs
