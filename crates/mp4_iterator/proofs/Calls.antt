@@ -1,9 +1,9 @@
 -- What the calls of the iterator find.
-use Rattle.std.proofs.Common.{◌≡◌, ℕ, suc, ◌+◌, ◌<◌, ◌≤◌, Bool, true, false, List, [], ◌∷◌, length, Result, Ok, Err}
-use Rattle.std.proofs.Common.{refl, sym, ap, subst, ◌∙◌, arith}
+use Rattle.std.proofs.Common.{◌≡◌, ℕ, suc, ◌+◌, ◌^◌, ◌<◌, ◌≤◌, Bool, true, false, List, [], ◌∷◌, length, Result, Ok}
+use Rattle.std.proofs.Common.{Err, refl, sym, ap, subst, ◌∙◌, arith}
 use Rattle.std.specs.Prelude.{Option, Some, None, ⊤, is_ok, ◌++◌}
 use Rattle.std.specs.Iterator.{MakesProgress, item_count}
-use Rattle.mp4_frame.specs.Heads.{frame, name_in}
+use Rattle.mp4_frame.specs.Heads.{frame, name_in, end_in}
 use Rattle.mp4_frame.specs.Reading.{Fault, Reading, faults, Refuses, FaultAs, IsFault, Answers}
 use Rattle.mp4_frame.specs.Streams.{append_read, reading_in}
 use Rattle.mp4_frame.specs.declared.box_type.BoxType.{BoxType}
@@ -55,10 +55,10 @@ module _ {A : Type 0} (known : BoxType → Bool) (reading : BoxType → List ℕ
   seek_faults o p e told lt fault = seek_faults_by o p e (frame B p) told lt refl fault
 
   pub seek_finds : (o p : ℕ) (f : Frame) → items known reading B o ≡ items known reading B p → p < length B
-      → frame B p ≡ Ok f → known (name_in f) ≡ true → f.begin ≡ p → 8 ≤ f.content → f.content ≤ f.end → f.end ≤ length B
-      → Seeks known reading B o p (Ok (Some f))
-  seek_finds o p f told lt is k begins header order room =
-      (told ∙ items_known known reading B p f lt is k, k, begins, header, order, room)
+      → frame B p ≡ Ok f → known (name_in f) ≡ true → f.begin ≡ p → 8 ≤ f.size → end_in f ≤ length B
+      → end_in f < 2 ^ 64 → Seeks known reading B o p (Ok (Some f))
+  seek_finds o p f told lt is k begins least room short =
+      (told ∙ items_known known reading B p f lt is k, k, begins, least, room, short)
 
   -- what a walk found, in the arm that took it
   pub found : (o p : ℕ) (x y : Option Frame) → x ≡ y → Seeks known reading B o p (Ok x)
@@ -95,10 +95,10 @@ module _ {A : Type 0} (known : BoxType → Bool) (reading : BoxType → List ℕ
 
   -- a box comes
   pub read_ok : (f : Frame) (r : Result A Error) → is_ok r ≡ true → Seeks known reading B o p (Ok (Some f))
-      → Answers r (reading_in reading B f) → GivesBox known reading s (Some r) (begins_at B f.end)
+      → Answers r (reading_in reading B f) → GivesBox known reading s (Some r) (begins_at B (end_in f))
   read_ok f (Ok v) ok h a =
-      subst (λ (s : Progress). GivesBox known reading s (Some (Ok v)) (begins_at B f.end)) is
-      ((box_item reading B f, items known reading B f.end, h.0, (a, refl, refl)), refl)
+      subst (λ (s : Progress). GivesBox known reading s (Some (Ok v)) (begins_at B (end_in f))) is
+      ((box_item reading B f, items known reading B (end_in f), h.0, (a, refl, refl)), refl)
   read_ok f (Err e) ok h a = absurd cc
 
   -- a box comes that cannot be read
@@ -107,7 +107,7 @@ module _ {A : Type 0} (known : BoxType → Bool) (reading : BoxType → List ℕ
   read_err f (Ok v) err h a = absurd cc
   read_err f (Err e) err h a =
       subst (λ (s : Progress). GivesBox known reading s (Some (Err e)) (ended_at B p)) is
-      ((box_item reading B f, items known reading B f.end, h.0, (a, refl, sym h.2)), refl)
+      ((box_item reading B f, items known reading B (end_in f), h.0, (a, refl, sym h.2)), refl)
 
   -- the same calls, with a place for the box
   pub into_ended : (place : List A) → place ≡ [] → Seeks known reading B o p (Ok None)
@@ -129,14 +129,14 @@ module _ {A : Type 0} (known : BoxType → Bool) (reading : BoxType → List ℕ
       let r = reading_in reading B f in
       let refused : Refuses e (append_read [] r) = subst (λ (l : List A). Refuses e (append_read l r)) empty a in
       subst (λ (s : Progress). GivesInto known reading s place (Err e) (ended_at B p)) is
-      ((box_item reading B f, items known reading B f.end, h.0, refused, refl, sym h.2, kept ∙ empty), refl)
+      ((box_item reading B f, items known reading B (end_in f), h.0, refused, refl, sym h.2, kept ∙ empty), refl)
 
   pub into_ok : (place front : List A) (f : Frame) → front ≡ [] → Seeks known reading B o p (Ok (Some f))
       → (append_read front (reading_in reading B f)).outcome ≡ Ok place
-      → GivesInto known reading s place (Ok true) (begins_at B f.end)
+      → GivesInto known reading s place (Ok true) (begins_at B (end_in f))
   into_ok place front f empty h a =
       let r = reading_in reading B f in
       let q = append_read_by front place r.asks_memory r.outcome a in
       let one : place ≡ q.0 ∷ [] = sym q.2 ∙ ap (λ (l : List A). l ++ q.0 ∷ []) empty in
-      subst (λ (s : Progress). GivesInto known reading s place (Ok true) (begins_at B f.end)) is
-      ((q.0, box_item reading B f, items known reading B f.end, h.0, (q.1, refl, refl), one), refl)
+      subst (λ (s : Progress). GivesInto known reading s place (Ok true) (begins_at B (end_in f))) is
+      ((q.0, box_item reading B f, items known reading B (end_in f), h.0, (q.1, refl, refl), one), refl)

@@ -3,7 +3,7 @@ use Rattle.std.proofs.Common.{◌≡◌, ℕ, zero, suc, ◌+◌, ◌-◌, ◌<�
 use Rattle.std.proofs.Common.{length, Result, Ok, Err, refl, sym, ap, ◌∙◌, arith}
 use Rattle.std.specs.Prelude.{nat_le}
 use Rattle.std.proofs.lemmas.Grind.{common_steps}
-use Rattle.mp4_frame.specs.Heads.{frame, name_in}
+use Rattle.mp4_frame.specs.Heads.{frame, name_in, end_in}
 use Rattle.mp4_frame.specs.Reading.{Fault, Reading, done, faults, memory, and_then, ◌>>=◌}
 use Rattle.mp4_frame.specs.Streams.{walk_on, walk_at_most, box_of, boxes, reading_in}
 use Rattle.mp4_frame.specs.declared.box_type.BoxType.{BoxType}
@@ -45,8 +45,9 @@ module _ {A : Type 0} (known : BoxType → Bool) (reading : BoxType → List ℕ
       ≡ in_order (items_on known reading B o (λ e. items_at_most known reading B n e) r)
   in_order_on n o ih (Err k) = refl
   in_order_on n o ih (Ok f) =
-      in_order_if (known (name_in f)) (reading_in reading B f) f.begin f.end
-      (walk_at_most (box_of known reading B) B n f.end) (items_at_most known reading B n f.end) (ih f.end)
+      in_order_if (known (name_in f)) (reading_in reading B f) f.begin (end_in f)
+      (walk_at_most (box_of known reading B) B n (end_in f)) (items_at_most known reading B n (end_in f))
+      (ih (end_in f))
 
   pub in_order_cond : (b : Bool) (w : Reading (List A)) (is : List (Item A)) → w ≡ in_order is
       → cond b (done []) w ≡ in_order (cond b [] is)
@@ -73,7 +74,7 @@ module _ {A : Type 0} (known : BoxType → Bool) (reading : BoxType → List ℕ
       let room = frame_room B o f is in
       ap (λ (rest : List (Item A)).
       cond (known (name_in f)) (box_item reading B f ∷ rest)
-      rest) (ih f.end (omega (arith, room.0)))
+      rest) (ih (end_in f) (omega (arith, room.0)))
 
   at_end : (n o : ℕ) → length B ≤ o → items_at_most known reading B n o ≡ []
   unfolding items_at_most
@@ -108,7 +109,7 @@ module _ {A : Type 0} (known : BoxType → Bool) (reading : BoxType → List ℕ
       let room = frame_room B o f is in
       ap (λ (rest : List (Item A)).
       cond (known (name_in f)) (box_item reading B f ∷ rest)
-      rest) (enough (length B - 1) (length B) f.end (omega (arith, room.0)) (omega arith))
+      rest) (enough (length B - 1) (length B) (end_in f) (omega (arith, room.0)) (omega arith))
 
   items_first : (o : ℕ) → o < length B
       → items known reading B o ≡ items_on known reading B o (λ e. items known reading B e) (frame B o)
@@ -126,20 +127,20 @@ module _ {A : Type 0} (known : BoxType → Bool) (reading : BoxType → List ℕ
 
   -- a frame of an unknown name is skipped
   pub items_skip : (o : ℕ) (f : Frame) → o < length B → frame B o ≡ Ok f → known (name_in f) ≡ false
-      → items known reading B o ≡ items known reading B f.end
+      → items known reading B o ≡ items known reading B (end_in f)
   items_skip o f h is k = items_by o (Ok f) h is
       ∙ ap (λ (b : Bool). cond b
-      (box_item reading B f ∷ items known reading B f.end)
-      (items known reading B f.end)) k
+      (box_item reading B f ∷ items known reading B (end_in f))
+      (items known reading B (end_in f))) k
 
   -- a frame of a known name is an item
   pub items_known : (o : ℕ) (f : Frame) → o < length B → frame B o ≡ Ok f → known (name_in f) ≡ true
       → items known reading B o ≡ box_item reading B f
-      ∷ items known reading B f.end
+      ∷ items known reading B (end_in f)
   items_known o f h is k = items_by o (Ok f) h is
       ∙ ap (λ (b : Bool). cond b
-      (box_item reading B f ∷ items known reading B f.end)
-      (items known reading B f.end)) k
+      (box_item reading B f ∷ items known reading B (end_in f))
+      (items known reading B (end_in f))) k
 
   -- a frame at fault is the last item
   pub items_fault : (o : ℕ) (k : Fault) → o < length B → frame B o ≡ Err k

@@ -2,7 +2,7 @@
 -- a list has one outcome: where that is a fault, it says nothing of the boxes before.
 use Rattle.std.specs.Prelude.{ℕ, zero, suc, Bool, nat_le, List, [], ◌∷◌, length, Result, Ok, Err, if◌then◌else◌}
 use Rattle.mp4_frame.specs.Reading.{Fault, Reading, done, faults, memory, ◌>>=◌}
-use Rattle.mp4_frame.specs.Heads.{frame, name_in}
+use Rattle.mp4_frame.specs.Heads.{frame, name_in, end_in}
 use Rattle.mp4_frame.specs.Streams.{reading_in}
 use Rattle.mp4_frame.specs.declared.box_type.BoxType.{BoxType}
 use Rattle.mp4_frame.specs.declared.frame.Frame.{Frame}
@@ -15,7 +15,7 @@ pub record Item (A : Type 0) : Type 0 where
 
 -- the box in this frame
 abbrev pub box_item : {A : Type 0} → (BoxType → List ℕ → ℕ → ℕ → Reading A) → List ℕ → Frame → Item A
-box_item reading B f = record { begin = f.begin; reading = reading_in reading B f; end = f.end }
+box_item reading B f = record { begin = f.begin; reading = reading_in reading B f; end = end_in f }
 
 -- a frame at fault, which begins at o
 abbrev pub fault_item : {A : Type 0} → ℕ → Fault → Item A
@@ -27,7 +27,7 @@ abbrev pub items_on : {A : Type 0} → (BoxType → Bool) → (BoxType → List 
     → (ℕ → List (Item A)) → Result Frame Fault → List (Item A)
 items_on known reading B o rest (Err k) = fault_item o k ∷ []
 items_on known reading B o rest (Ok f) =
-    if known (name_in f) then box_item reading B f ∷ rest f.end else rest f.end
+    if known (name_in f) then box_item reading B f ∷ rest (end_in f) else rest (end_in f)
 
 -- the items of the frames from o on, n frames at most
 unfoldable pub items_at_most : {A : Type 0} → (BoxType → Bool) → (BoxType → List ℕ → ℕ → ℕ → Reading A) → List ℕ → ℕ

@@ -1,7 +1,7 @@
 -- What is found where the boxes of unknown names are skipped.
-use Rattle.std.specs.Prelude.{ℕ, ◌≡◌, ◌+◌, ◌≤◌, Bool, true, List, [], ◌∷◌, length, max, Option, Some, None, Result, Ok}
-use Rattle.std.specs.Prelude.{Err}
-use Rattle.mp4_frame.specs.Heads.{name_in}
+use Rattle.std.specs.Prelude.{ℕ, ◌≡◌, ◌+◌, ◌^◌, ◌<◌, ◌≤◌, Bool, true, List, [], ◌∷◌, length, max, Option, Some, None}
+use Rattle.std.specs.Prelude.{Result, Ok, Err}
+use Rattle.mp4_frame.specs.Heads.{name_in, end_in}
 use Rattle.mp4_frame.specs.Reading.{Fault, Reading, Refuses}
 use Rattle.mp4_frame.specs.declared.box_type.BoxType.{BoxType}
 use Rattle.mp4_frame.specs.declared.error.Error.{Error}
@@ -14,7 +14,7 @@ module _ {A : Type 0} (known : BoxType → Bool) (reading : BoxType → List ℕ
   abbrev pub Seeks : List ℕ → ℕ → ℕ → Result (Option Frame) Error → Type 0
   Seeks B o p (Ok None) = (items known reading B o ≡ []) × (p ≡ max o (length B))
   Seeks B o p (Ok (Some f)) =
-      (items known reading B o ≡ box_item reading B f ∷ items known reading B f.end) × (known (name_in f) ≡ true)
-      × (f.begin ≡ p) × (8 ≤ f.content) × (f.content ≤ f.end) × (f.end ≤ length B)
+      (items known reading B o ≡ box_item reading B f ∷ items known reading B (end_in f)) × (known (name_in f) ≡ true)
+      × (f.begin ≡ p) × (8 ≤ f.size) × (end_in f ≤ length B) × (end_in f < 2 ^ 64)
   Seeks B o p (Err e) =
       (k : Fault) × (items known reading B o ≡ fault_item p k ∷ []) × Refuses e (fault_item {A = A} p k).reading

@@ -1,8 +1,8 @@
 //! An iterator over the boxes of a buffer.
 
-ghost use Rattle.std.specs.Prelude.{◌≡◌, ◌+◌, ◌≤◌, length, IsTrue};
+ghost use Rattle.std.specs.Prelude.{◌≡◌, ◌+◌, ◌<◌, ◌^◌, length, IsTrue};
 ghost use Rattle.std.specs.Iterator.{item_count};
-ghost use Rattle.mp4_frame.specs.Heads.{name_in};
+ghost use Rattle.mp4_frame.specs.Heads.{name_in, content_in};
 ghost use Rattle.mp4_frame.specs.Reading.{Answers};
 ghost use Rattle.mp4_frame.specs.Streams.{reading_in};
 ghost use Rattle.mp4_iterator.specs.Progress.{begins_at, left, GivesBox, GivesInto};
@@ -58,7 +58,7 @@ fn seek<B: StreamBox>(bytes: &[u8], at: &mut u64) -> Result<Option<Frame>>
         if B::knows(frame.name()) {
             return Ok(Some(frame));
         }
-        begin = frame.end;
+        begin = frame.end();
     }
     *at = begin;
     Ok(None)
@@ -67,13 +67,12 @@ fn seek<B: StreamBox>(bytes: &[u8], at: &mut u64) -> Result<Option<Frame>>
 /// Reads the box in this frame.
 fn read_frame<B: StreamBox>(alloc: Global, bytes: &[u8], frame: &Frame) -> Result<B>
     requires known { IsTrue (B.known (name_in frame.now)) }
-    requires header { 8 ≤ frame.now.content }
-    requires order { frame.now.content ≤ frame.now.end }
+    requires header { content_in frame.now < 2 ^ 64 }
     ensures { Answers result (reading_in B.named_reading bytes.now frame.now) }
 {
     let mut reader = ByteCursor::new(bytes);
-    reader.set_position(frame.content);
-    B::read_named(alloc, frame.name(), &mut reader, frame.size())
+    reader.set_position(frame.content());
+    B::read_named(alloc, frame.name(), &mut reader, frame.size)
 }
 
 impl<'a, B: StreamBox> Boxes<'a, B> {
@@ -116,11 +115,11 @@ impl<'a, B: StreamBox> Boxes<'a, B> {
             self.alloc,
             frame.name(),
             self.bytes,
-            frame.start(),
-            frame.size(),
+            frame.start,
+            frame.size,
             place,
         )?;
-        self.offset = frame.end;
+        self.offset = frame.end();
         self.ended = false;
         Ok(true)
     }
@@ -145,7 +144,7 @@ impl<'a, B: StreamBox> Iterator for Boxes<'a, B> {
         };
         let read = read_frame(self.alloc, self.bytes, &frame);
         if read.is_ok() {
-            self.offset = frame.end;
+            self.offset = frame.end();
             self.ended = false;
         }
         Some(read)

@@ -21,27 +21,6 @@ returns-in_default g c =
     into_ended g.B.StreamBox.known g.B.StreamBox.named_reading b.bytes.now b.offset c.seek.new.at c.args.self.now is
     c.clear.new.self.items c.clear.ensures.items h
 
-pub start-requires : goal.start-requires
-start-requires g c =
-    let b = c.self.inside in
-    let h = found g.B.StreamBox.known g.B.StreamBox.named_reading b.bytes.now b.offset c.seek.new.at
-    c.in_ok-frame.field-0 (Some c.in-Some.frame) c.in-Some.is c.in_ok-frame.ensures in
-    h.3
-
-pub size-requires-clause-header : goal.size-requires-clause-header
-size-requires-clause-header g c =
-    let b = c.self.inside in
-    let h = found g.B.StreamBox.known g.B.StreamBox.named_reading b.bytes.now b.offset c.seek.new.at
-    c.in_ok-frame.field-0 (Some c.in-Some.frame) c.in-Some.is c.in_ok-frame.ensures in
-    h.3
-
-pub size-requires-clause-order : goal.size-requires-clause-order
-size-requires-clause-order g c =
-    let b = c.self.inside in
-    let h = found g.B.StreamBox.known g.B.StreamBox.named_reading b.bytes.now b.offset c.seek.new.at
-    c.in_ok-frame.field-0 (Some c.in-Some.frame) c.in-Some.is c.in_ok-frame.ensures in
-    h.4
-
 pub push_named-requires-clause-known : goal.push_named-requires-clause-known
 push_named-requires-clause-known g c =
     let b = c.self.inside in
@@ -54,14 +33,21 @@ push_named-requires-clause-header g c =
     let b = c.self.inside in
     let h = found g.B.StreamBox.known g.B.StreamBox.named_reading b.bytes.now b.offset c.seek.new.at
     c.in_ok-frame.field-0 (Some c.in-Some.frame) c.in-Some.is c.in_ok-frame.ensures in
-    omega (arith, c.start.ensures, h.3, h.4, h.5)
+    omega (arith, h.3, h.4)
 
 pub push_named-requires-clause-room : goal.push_named-requires-clause-room
 push_named-requires-clause-room g c =
     let b = c.self.inside in
     let h = found g.B.StreamBox.known g.B.StreamBox.named_reading b.bytes.now b.offset c.seek.new.at
     c.in_ok-frame.field-0 (Some c.in-Some.frame) c.in-Some.is c.in_ok-frame.ensures in
-    omega (arith, c.start.ensures, c.size.ensures, h.3, h.4, h.5)
+    h.4
+
+pub end-self-inside-requires : goal.end-self-inside-requires
+end-self-inside-requires g c =
+    let b = c.self.inside in
+    let h = found g.B.StreamBox.known g.B.StreamBox.named_reading b.bytes.now b.offset c.seek.new.at
+    c.in_ok-frame.field-0 (Some c.in-Some.frame) c.in-Some.is c.in_ok-frame.ensures in
+    h.5
 
 pub returns-in_err-push_named : goal.returns-in_err-push_named
 returns-in_err-push_named g c =
@@ -70,7 +56,7 @@ returns-in_err-push_named g c =
     let h = found g.B.StreamBox.known g.B.StreamBox.named_reading b.bytes.now b.offset c.seek.new.at
     c.in_ok-frame.field-0 (Some c.in-Some.frame) c.in-Some.is c.in_ok-frame.ensures in
     let p = err_from_is_err_and c.from_residual-in_err-push_named.result c.from_residual-in_err-push_named.ensures.1 in
-    let read = rw (c.name.ensures, c.start.ensures, c.size.ensures) at c.in_err-push_named.ensures.answer in
+    let read = rw c.name.ensures at c.in_err-push_named.ensures.answer in
     rw (p.1, p.2) (into_err g.B.StreamBox.known g.B.StreamBox.named_reading b.bytes.now b.offset c.seek.new.at
     c.args.self.now is c.push_named.new.boxes.items c.clear.new.self.items c.in-Some.frame
     c.in_err-push_named.field-0.0 c.in_err-push_named.ensures.kept c.clear.ensures.items h read)
@@ -81,7 +67,7 @@ returns g c =
     let is = began b.bytes.now b.offset b.ended c.args.self.now c.self.view_is c.if-self.false in
     let h = found g.B.StreamBox.known g.B.StreamBox.named_reading b.bytes.now b.offset c.seek.new.at
     c.in_ok-frame.field-0 (Some c.in-Some.frame) c.in-Some.is c.in_ok-frame.ensures in
-    let read = rw (c.name.ensures, c.start.ensures, c.size.ensures) at c.in_ok-push_named.ensures.answer in
-    into_ok g.B.StreamBox.known g.B.StreamBox.named_reading b.bytes.now b.offset c.seek.new.at c.args.self.now is
-    c.push_named.new.boxes.items c.clear.new.self.items c.in-Some.frame c.clear.ensures.items h
-    read
+    let read = rw c.name.ensures at c.in_ok-push_named.ensures.answer in
+    rw c.end-self-inside.ensures
+    (into_ok g.B.StreamBox.known g.B.StreamBox.named_reading b.bytes.now b.offset c.seek.new.at c.args.self.now is
+    c.push_named.new.boxes.items c.clear.new.self.items c.in-Some.frame c.clear.ensures.items h read)

@@ -1,4 +1,4 @@
-use Rattle.std.proofs.Common.{refl, sym, ◌∙◌, Err}
+use Rattle.std.proofs.Common.{refl, sym, ◌∙◌, Err, arith}
 use Rattle.std.specs.Prelude.{Some, None}
 use Rattle.mp4_iterator.proofs.Calls.{began, found, progress, ends, faulted, read_ok, read_err}
 use Rattle.mp4_iterator.proofs.boxes.BoxesIterator.next.Goals.{then-is_ok, else-is_ok}
@@ -33,14 +33,15 @@ read_frame-read-requires-clause-known g c =
 pub read_frame-read-requires-clause-header : goal.read_frame-read-requires-clause-header
 read_frame-read-requires-clause-header g c =
     let b = c.self.inside in
-    (found g.B.StreamBox.known g.B.StreamBox.named_reading b.bytes.now b.offset c.seek.new.at c.in-Ok-Some.field-0
-    (Some c.in-Ok-Some.frame) c.in-Ok-Some.field-0-is c.in-Ok-Some.ensures).3
+    let h = found g.B.StreamBox.known g.B.StreamBox.named_reading b.bytes.now b.offset c.seek.new.at
+    c.in-Ok-Some.field-0 (Some c.in-Ok-Some.frame) c.in-Ok-Some.field-0-is c.in-Ok-Some.ensures in
+    omega (arith, h.3, h.5)
 
-pub read_frame-read-requires-clause-order : goal.read_frame-read-requires-clause-order
-read_frame-read-requires-clause-order g c =
+pub end-self-inside-requires : goal.end-self-inside-requires
+end-self-inside-requires g c =
     let b = c.self.inside in
     (found g.B.StreamBox.known g.B.StreamBox.named_reading b.bytes.now b.offset c.seek.new.at c.in-Ok-Some.field-0
-    (Some c.in-Ok-Some.frame) c.in-Ok-Some.field-0-is c.in-Ok-Some.ensures).4
+    (Some c.in-Ok-Some.frame) c.in-Ok-Some.field-0-is c.in-Ok-Some.ensures).5
 
 pub returns-clause-steps : goal.returns-clause-steps
 returns-clause-steps g c =
@@ -49,7 +50,7 @@ returns-clause-steps g c =
     let h = found g.B.StreamBox.known g.B.StreamBox.named_reading b.bytes.now b.offset c.seek.new.at
     c.in-Ok-Some.field-0 (Some c.in-Ok-Some.frame) c.in-Ok-Some.field-0-is c.in-Ok-Some.ensures in
     elim c.if-is_ok.branch [
-      | then-is_ok w ↦ rw w.self-is
+      | then-is_ok w ↦ rw (w.self-is, w.end-self-inside.ensures)
           (read_ok g.B.StreamBox.known g.B.StreamBox.named_reading b.bytes.now b.offset c.seek.new.at c.args.self.now is
           c.in-Ok-Some.frame c.read_frame-read.result (sym c.is_ok.ensures.value ∙ w.if-is_ok.true) h
           c.read_frame-read.ensures)
