@@ -12,7 +12,7 @@ use Rattle.mp4_frame.specs.Reading.{Reading, Fault, TakesNone, ◌>>=◌, and_th
 use Rattle.mp4_frame.specs.declared.box_type.BoxType.{BoxType}
 use Rattle.mp4_frame.specs.declared.box_type.BoxType.TheVariants as names
 use Rattle.mp4_frame.specs.declared.codes.TheConstants as codes
-use Rattle.mp4_frame.specs.declared.head.Head.{Head}
+use Rattle.mp4_frame.specs.declared.frame.Frame.{Frame}
 use Rattle.mp4_frame.proofs.NoMemory.{bind_takes_none, expect_bytes_takes_none, check_takes_none}
 use Rattle.mp4_frame.proofs.NoMemory.{named_child_takes_none}
 use Rattle.mp4_entries.specs.Boxes.{reads_hev1, format_hev1, reads_vp09, format_vp09, reads_tx3g, format_tx3g}
@@ -41,7 +41,7 @@ module _ (bytes : List ℕ) (start : ℕ) where
 
   kind_takes_none : {A : Type 0} (reads : List ℕ → ℕ → ℕ → Reading A) (format : Format A) (wrap : A → Entry)
       → ((bytes : List ℕ) (start size : ℕ) → TakesNone (reads bytes start size))
-      → (c : Head) → TakesNone (entry_if_known (Is (kind reads format wrap)) bytes start c)
+      → (c : Frame) → TakesNone (entry_if_known (Is (kind reads format wrap)) bytes start c)
   unfolding child_content
   kind_takes_none reads format wrap none c =
       let ends = nat_lt (start + c.start + c.size) (2 ^ 64) in
@@ -49,7 +49,7 @@ module _ (bytes : List ℕ) (start : ℕ) where
       (bind_takes_none (check ends) _ (check_takes_none ends)
       (λ _. none (drop c.start bytes) (start + c.start) c.size)) (λ _. refl)
 
-  entry_takes_none : (name : BoxType) → ¬ (name ≡ names.Avc1Box) → (c : Head)
+  entry_takes_none : (name : BoxType) → ¬ (name ≡ names.Avc1Box) → (c : Frame)
       → TakesNone (entry_if_known (kinds_of_entry name) bytes start c)
   entry_takes_none names.Avc1Box other c = absurd (other refl)
   entry_takes_none names.Hev1Box other c = kind_takes_none reads_hev1 format_hev1 Hev1 hev1_takes_none c
@@ -58,7 +58,8 @@ module _ (bytes : List ℕ) (start : ℕ) where
   entry_takes_none names.Tx3gBox other c = kind_takes_none reads_tx3g format_tx3g Tx3g tx3g_takes_none c
   entry_takes_none _ other c = refl
 
-  found_takes_none : (a : Bool) (o : Result Head Fault) → a ≡ false → ((c : Head) → o ≡ Ok c → ¬ (c.code ≡ codes.AVC1))
+  found_takes_none : (a : Bool) (o : Result Frame Fault) → a ≡ false
+      → ((c : Frame) → o ≡ Ok c → ¬ (c.code ≡ codes.AVC1))
       → (and_then a o (λ c. entry_if_known (kinds_of_entry (name_of c.code)) bytes start c)).asks_memory ≡ false
   found_takes_none false (Ok c) none other =
       entry_takes_none (name_of c.code) (λ is. other c refl (sym (code_of-name_of c.code) ∙ ap code_of is)) c
@@ -66,7 +67,7 @@ module _ (bytes : List ℕ) (start : ℕ) where
   found_takes_none a (Err k) none other = none
 
   at_takes_none : (size : ℕ) (more : Bool)
-      → (more ≡ true → (c : Head) → (child_head bytes size 16).outcome ≡ Ok c → ¬ (c.code ≡ codes.AVC1))
+      → (more ≡ true → (c : Frame) → (child_head bytes size 16).outcome ≡ Ok c → ¬ (c.code ≡ codes.AVC1))
       → TakesNone (cond more
       (child_head bytes size 16 >>= λ c. entry_if_known (kinds_of_entry (name_of c.code)) bytes start c)
       (done None))
@@ -76,7 +77,7 @@ module _ (bytes : List ℕ) (start : ℕ) where
   at_takes_none size false other = refl
 
 pub stsd_takes_none : (bytes : List ℕ) (start size : ℕ)
-    → (16 < size → (c : Head) → (child_head bytes size 16).outcome ≡ Ok c → ¬ (c.code ≡ codes.AVC1))
+    → (16 < size → (c : Frame) → (child_head bytes size 16).outcome ≡ Ok c → ¬ (c.code ≡ codes.AVC1))
     → TakesNone (reads_stsd bytes start size)
 unfolding reads_stsd
 stsd_takes_none bytes start size other =

@@ -15,7 +15,7 @@ use Rattle.mp4_frame.specs.Reading.{Reading, ◌>>=◌, map_reading, expect_byte
 use Rattle.mp4_frame.specs.declared.box_type.BoxType.{BoxType}
 use Rattle.mp4_frame.specs.declared.box_type.BoxType.TheVariants as names
 use Rattle.mp4_frame.specs.declared.codes.TheConstants as codes
-use Rattle.mp4_frame.specs.declared.head.Head.{Head}
+use Rattle.mp4_frame.specs.declared.frame.Frame.{Frame}
 use Rattle.mp4_entries.specs.Boxes.{reads_avc1, format_avc1, reads_hev1, format_hev1, reads_vp09, format_vp09}
 use Rattle.mp4_entries.specs.Boxes.{reads_tx3g, format_tx3g}
 use Rattle.mp4_entries.specs.declared.avc1.Avc1Box.{Avc1Box}
@@ -54,8 +54,8 @@ held_entry (Tx3g b) = holds format_tx3g Tx3g b
 abbrev pub format_entry : Format Entry
 format_entry = format_held held_entry
 
--- what a child with this head is read as: an entry of the type that its name gives, or none
-abbrev pub entry_if_known : Known Entry → List ℕ → ℕ → Head → Reading (Option Entry)
+-- what a child with this frame is read as: an entry of the type that its name gives, or none
+abbrev pub entry_if_known : Known Entry → List ℕ → ℕ → Frame → Reading (Option Entry)
 entry_if_known (Is k) bytes start c = map_reading (λ v. Some (k.wrap v)) (child_content k.reads bytes start c)
 entry_if_known Unknown bytes start c = done None
 

@@ -15,7 +15,7 @@ use Rattle.mp4_frame.specs.Reading.{Reading, ◌>>=◌, check, done}
 use Rattle.mp4_frame.specs.declared.box_type.BoxType.{BoxType}
 use Rattle.mp4_frame.specs.declared.box_type.BoxType.TheVariants as names
 use Rattle.mp4_frame.specs.declared.codes.TheConstants as codes
-use Rattle.mp4_frame.specs.declared.head.Head.{Head}
+use Rattle.mp4_frame.specs.declared.frame.Frame.{Frame}
 use Rattle.mp4_frame.proofs.Checks.{check_ok, is_value}
 use Rattle.mp4_frame.proofs.Decided.{outcome_bind}
 use Rattle.mp4_frame.proofs.Fields.{length-fields}
@@ -76,11 +76,11 @@ module _ {A : Type 0} {reads : List ℕ → ℕ → ℕ → Reading A} {format :
       let B = x ++ (format.bytes v ++ rest) in
       let size = 16 + format.size v in
       let code = code_of name in
-      let inner = λ (c : Head). child_content reads B start c in
-      let read = λ (c : Head). entry_if_known (kinds_of_entry (name_of c.code)) B start c in
+      let inner = λ (c : Frame). child_content reads B start c in
+      let read = λ (c : Frame). entry_if_known (kinds_of_entry (name_of c.code)) B start c in
       let p = value_first (child_head B size 16) (λ c. check (c.code == code) >>= λ _. inner c) (format.normal v)
       (named_back laws code named x 16 long v w rest start top) in
-      let c : Head = p.0 in
+      let c : Frame = p.0 in
       let q = check_ok (c.code == code) (λ _. inner c) (format.normal v) p.2 in
       let known : kinds_of_entry (name_of c.code) ≡ Is (kind reads format wrap) =
       ap (λ (n : ℕ). kinds_of_entry (name_of n)) (eqb-true c.code code q.0) ∙ ap kinds_of_entry own ∙ is in
@@ -130,7 +130,7 @@ module _ (bytes : List ℕ) (start : ℕ) (are : AreBytes bytes) where
   no_entry_sound : (v : Option Entry) → (done None).outcome ≡ Ok v → IsSoundOptional format_entry v
   no_entry_sound v e = subst (IsSoundOptional format_entry) (is_value None v e) (refl, λ small. tt)
 
-  known_sound : (k : Known Entry) → HasLaws k → (c : Head) (v : Option Entry)
+  known_sound : (k : Known Entry) → HasLaws k → (c : Frame) (v : Option Entry)
       → (entry_if_known k bytes start c).outcome ≡ Ok v → IsSoundOptional format_entry v
   known_sound (Is k) laws c v e =
       let p = value_first (child_content k.reads bytes start c) (λ u. done (Some (k.wrap u))) v e in

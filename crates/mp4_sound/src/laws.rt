@@ -6,7 +6,7 @@ ghost use Rattle.mp4_frame.specs.Equality.{IsEquality};
 ghost use Rattle.mp4_frame.specs.OneChild.{child_head};
 ghost use Rattle.mp4_frame.specs.Reading.{TakesNone};
 ghost use Rattle.mp4_frame.specs.declared.codes.TheConstants as codes;
-ghost use Rattle.mp4_frame.specs.declared.head.Head.{Head};
+ghost use Rattle.mp4_frame.specs.declared.frame.Frame.{Frame};
 ghost use Rattle.mp4_sound.specs.DecoderConfig.{in_decoder_config};
 ghost use Rattle.mp4_sound.specs.EsDescriptor.{in_es_descriptor};
 ghost use Rattle.mp4_sound.specs.Esds.{in_esds};
@@ -33,7 +33,7 @@ pub fn descriptors_are_read_to_their_end()
 /// Reading an `stsd` takes no memory, unless its entry is an `avc1`.
 pub fn only_avc1_takes_memory()
     ensures { (bytes : List ℕ) (start size : ℕ)
-        → (16 < size → (entry : Head) → (child_head bytes size 16).outcome ≡ Ok entry → ¬ (entry.code ≡ codes.AVC1))
+        → (16 < size → (entry : Frame) → (child_head bytes size 16).outcome ≡ Ok entry → ¬ (entry.code ≡ codes.AVC1))
         → TakesNone (reads_stsd bytes start size) }
 {}
 

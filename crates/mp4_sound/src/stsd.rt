@@ -16,7 +16,7 @@ ghost use Rattle.mp4_sound.specs.StsdLaws.{laws_stsd};
 use crate::mp4a::Mp4aBox;
 use mp4_entries::{Avc1Box, Hev1Box, Tx3gBox, Vp09Box};
 use mp4_frame::{
-    BoxLaws, BoxType, Head, Mp4Box, Parent, ReadBox, Result, TryClone, WriteBox, child_content,
+    BoxLaws, BoxType, Frame, Mp4Box, Parent, ReadBox, Result, TryClone, WriteBox, child_content,
     child_head, codes, expect_bytes, put_child, put_full_box, put_u32, u8_at, u24_at,
 };
 use std::alloc::Global;
@@ -147,11 +147,11 @@ impl Mp4Box for StsdBox {
     }
 }
 
-/// Reads the content of the entry with this head, in place of what `entry` holds.
+/// Reads the content of the entry with this frame, in place of what `entry` holds.
 fn read_content_of<T: ReadBox + Drop>(
     alloc: Global,
     parent: &Parent,
-    child: Head,
+    child: Frame,
     entry: &mut Option<T>,
 ) -> Result<()>
     requires { child.start ≤ length parent.now.bytes.now }
@@ -162,12 +162,13 @@ fn read_content_of<T: ReadBox + Drop>(
     Ok(())
 }
 
-/// Reads the content of the child with this head and name, if the name gives a type of entries, and keeps it in `stsd`.
+/// Reads the content of the child with this frame and name, if the name gives a type of entries, and keeps it in
+/// `stsd`.
 fn read_entry(
     alloc: Global,
     parent: &Parent,
     name: BoxType,
-    child: Head,
+    child: Frame,
     stsd: &mut StsdBox,
 ) -> Result<()>
     requires { child.start ≤ length parent.now.bytes.now }

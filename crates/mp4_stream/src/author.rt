@@ -10,7 +10,7 @@ pub use mp4_declared::{
 };
 pub use mp4_flat::{put_time, time_at, time_fits, version_of_times, width_of_time};
 pub use mp4_frame::{
-    BoxEnum, Head, Parent, Question, TableEntry, all_fit, any_child, bytes_from, check,
+    BoxEnum, Frame, Parent, Question, TableEntry, all_fit, any_child, bytes_from, check,
     child_content, child_head, clone_as, codes, expect_bytes, i8_at, i16_at, i32_at, is_four_cc,
     is_whole, is_whole_table, is_writable_table, last_child, named_child, optional_child, piece_at,
     push_as, push_inside, put_bytes, put_child, put_entries, put_full_box, put_i8, put_i16,
