@@ -4,7 +4,7 @@ use Rattle.std.proofs.Common.{refl, ap, sym, subst, ◌∙◌, arith, inl, lengt
 use Rattle.std.specs.Prelude.{nat_lt, not, All}
 use Rattle.std.proofs.lemmas.List.{flat_map_more, get_or_at, get_or_append_left}
 use Rattle.std.proofs.lemmas.List.Elements.{All-append, All-from_recursion}
-use Rattle.mp4_frame.specs.Heads.{frame, name_in}
+use Rattle.mp4_frame.specs.Heads.{frame, name_in, end_in}
 use Rattle.mp4_frame.specs.Reading.{Fault, Refuses, FaultAs}
 use Rattle.mp4_frame.specs.Streams.{stream, boxes, box_of, append_read, reading_in}
 use Rattle.mp4_frame.specs.declared.error.Error.{Error}
@@ -111,16 +111,16 @@ module _ (B : List ℕ) (c : Changes) (can : Bool) (at : ℕ) (so_far : SoFar B 
 
     -- what changes in its box is found
     pub one_more : (fits : Bool) (n : Changes) → f.begin ≡ at
-        → OneMade format_kept (reading_in reading_kept B f) (made_of c B f.begin) (made_of n B f.end) (Ok fits)
-        → AreBefore n (length n.fresh.items) f.end
-        → f.end ≤ length B → SoFar B n (can && fits) f.end
+        → OneMade format_kept (reading_in reading_kept B f) (made_of c B f.begin) (made_of n B (end_in f)) (Ok fits)
+        → AreBefore n (length n.fresh.items) (end_in f) → end_in f ≤ length B → SoFar B n (can && fits) (end_in f)
     one_more fits n begins h before within =
-        let one = subst (λ (k : ℕ). AppendsIf format_kept h.0 (made_of c B k) (made_of n B f.end) fits) begins h.2 in
+        let made = made_of n B (end_in f) in
+        let one = subst (λ (k : ℕ). AppendsIf format_kept h.0 (made_of c B k) made fits) begins h.2 in
         record {
           vs = so_far.vs ++ h.0 ∷ [];
           told = one_kept (box_of known_kept reading_kept B) B so_far.vs h.0 at f (boxes_of B) lt is
               (item_known known_kept reading_kept B f h.0 (ap not plain) h.1) so_far.told;
-          made = made_more so_far.vs h.0 (made_of c B at) (made_of n B f.end) can fits so_far.made one;
+          made = made_more so_far.vs h.0 (made_of c B at) made can fits so_far.made one;
           before = before;
           within = within;
         }

@@ -5,7 +5,7 @@ ghost use Rattle.std.specs.Prelude.{IfErr, IfOk};
 ghost use Rattle.mp4_frame.specs.BoxType.{code_of};
 ghost use Rattle.mp4_frame.specs.Bytes.{bytes_of_fields, number};
 ghost use Rattle.mp4_frame.specs.Format.{IsNormalForm};
-ghost use Rattle.mp4_frame.specs.Heads.{name_in, start_in, size_in};
+ghost use Rattle.mp4_frame.specs.Heads.{name_in, end_in};
 ghost use Rattle.mp4_frame.specs.Laws.{AreBytes};
 ghost use Rattle.mp4_frame.specs.Streams.{reading_in};
 ghost use Rattle.mp4_frame.specs.declared.error.Error.TheVariants.{OutOfMemory};
@@ -77,19 +77,19 @@ fn replace_header(
 /// written. `name` is its name. The only error is out of memory.
 fn find_in_other(changes: &mut Changes, stream: &[u8], name: BoxType, frame: &Frame) -> Result<bool>
     requires untyped { is_typed (code_of name) ≡ false }
-    requires header { frame.now.begin + 8 ≤ frame.now.content }
-    requires order { frame.now.content ≤ frame.now.end }
-    requires within { frame.now.end ≤ length stream.now }
+    requires start { frame.now.begin ≤ frame.now.start }
+    requires size { 8 ≤ frame.now.size }
+    requires within { end_in frame.now ≤ length stream.now }
     requires before { AreBefore changes.old (length changes.old.fresh.items) frame.now.begin }
     ensures made { IfOk result
-        (λ can. AppendsIf format_other (other_at (code_of name) stream.now (start_in frame.now) (size_in frame.now))
-        (made_of changes.old stream.now frame.now.begin) (made_of changes.new stream.now frame.now.end) can) }
-    ensures before { OnOk result (AreBefore changes.new (length changes.new.fresh.items) frame.now.end) }
+        (λ can. AppendsIf format_other (other_at (code_of name) stream.now frame.now.start frame.now.size)
+        (made_of changes.old stream.now frame.now.begin) (made_of changes.new stream.now (end_in frame.now)) can) }
+    ensures before { OnOk result (AreBefore changes.new (length changes.new.fresh.items) (end_in frame.now)) }
     ensures error { IfErr result (λ e. e ≡ OutOfMemory) }
 {
     are_bytes(stream);
     let _code = u32::from(name);
-    let size = frame.size();
+    let size = frame.size;
     if size >= 1 << 32 {
         return Ok(false);
     }
@@ -99,21 +99,22 @@ fn find_in_other(changes: &mut Changes, stream: &[u8], name: BoxType, frame: &Fr
         stream,
         header,
         frame.begin as usize,
-        frame.content as usize,
+        frame.content() as usize,
     )?;
     Ok(true)
 }
 
 /// Whether the bytes of the box of this frame tell that it is in normal form.
 fn is_kept<B: StreamBox>(stream: &[u8], frame: &Frame) -> bool
-    requires header { frame.now.begin + 8 ≤ frame.now.content }
-    requires order { frame.now.content ≤ frame.now.end }
-    requires within { frame.now.end ≤ length stream.now }
-    ensures short { IsTrue result → frame.now.content ≡ frame.now.begin + 8 }
-    ensures bytes { IsTrue result → IsNormalForm B.format (part stream.now frame.now.begin frame.now.end) }
+    requires start { frame.now.begin ≤ frame.now.start }
+    requires size { 8 ≤ frame.now.size }
+    requires within { end_in frame.now ≤ length stream.now }
+    ensures short { IsTrue result → frame.now.start ≡ frame.now.begin }
+    ensures bytes { IsTrue result → IsNormalForm B.format (part stream.now frame.now.begin (end_in frame.now)) }
 {
-    let (begin, end) = (frame.begin as usize, frame.end as usize);
-    frame.content - frame.begin == 8 && B::is_normal_form(&stream[begin..end])
+    are_bytes(stream);
+    let (begin, end) = (frame.begin as usize, frame.end() as usize);
+    frame.start == frame.begin && B::is_normal_form(&stream[begin..end])
 }
 
 /// Finds what changes in the box of this frame and of a type of the codec. Returns whether the box can be written.
@@ -127,15 +128,15 @@ fn find_in_typed<B: StreamBox>(
     slot: &mut Vec<B>,
 ) -> Result<bool>
     requires known { IsTrue (B.known name) }
-    requires header { frame.now.begin + 8 ≤ frame.now.content }
-    requires order { frame.now.content ≤ frame.now.end }
-    requires within { frame.now.end ≤ length stream.now }
+    requires start { frame.now.begin ≤ frame.now.start }
+    requires size { 8 ≤ frame.now.size }
+    requires within { end_in frame.now ≤ length stream.now }
     requires named { name ≡ name_in frame.now }
     requires code { frame.now.code ≡ number stream.now (frame.now.begin + 4) 4 }
     requires before { AreBefore changes.old (length changes.old.fresh.items) frame.now.begin }
-    ensures made { OneMade B.format (B.named_reading name stream.now (start_in frame.now) (size_in frame.now))
-        (made_of changes.old stream.now frame.now.begin) (made_of changes.new stream.now frame.now.end) result }
-    ensures before { OnOk result (AreBefore changes.new (length changes.new.fresh.items) frame.now.end) }
+    ensures made { OneMade B.format (B.named_reading name stream.now frame.now.start frame.now.size)
+        (made_of changes.old stream.now frame.now.begin) (made_of changes.new stream.now (end_in frame.now)) result }
+    ensures before { OnOk result (AreBefore changes.new (length changes.new.fresh.items) (end_in frame.now)) }
 {
     are_bytes(stream);
     let kept = is_kept::<B>(stream, frame);
@@ -143,7 +144,7 @@ fn find_in_typed<B: StreamBox>(
         return Ok(true);
     }
     slot.clear();
-    B::push_named(alloc, name, stream, frame.start(), frame.size(), slot)?;
+    B::push_named(alloc, name, stream, frame.start, frame.size, slot)?;
     let value = &slot[0];
     if !value.is_writable() {
         return Ok(false);
@@ -153,7 +154,7 @@ fn find_in_typed<B: StreamBox>(
         stream,
         value,
         frame.begin as usize,
-        frame.end as usize,
+        frame.end() as usize,
     )?;
     Ok(true)
 }
@@ -166,14 +167,14 @@ fn find_in_box(
     frame: &Frame,
     slot: &mut Vec<AnyBox>,
 ) -> Result<bool>
-    requires header { frame.now.begin + 8 ≤ frame.now.content }
-    requires order { frame.now.content ≤ frame.now.end }
-    requires within { frame.now.end ≤ length stream.now }
+    requires start { frame.now.begin ≤ frame.now.start }
+    requires size { 8 ≤ frame.now.size }
+    requires within { end_in frame.now ≤ length stream.now }
     requires code { frame.now.code ≡ number stream.now (frame.now.begin + 4) 4 }
     requires before { AreBefore changes.old (length changes.old.fresh.items) frame.now.begin }
     ensures made { OneMade format_kept (reading_in reading_kept stream.now frame.now)
-        (made_of changes.old stream.now frame.now.begin) (made_of changes.new stream.now frame.now.end) result }
-    ensures before { OnOk result (AreBefore changes.new (length changes.new.fresh.items) frame.now.end) }
+        (made_of changes.old stream.now frame.now.begin) (made_of changes.new stream.now (end_in frame.now)) result }
+    ensures before { OnOk result (AreBefore changes.new (length changes.new.fresh.items) (end_in frame.now)) }
 {
     let name = frame.name();
     if AnyBox::knows(name) {
@@ -198,8 +199,9 @@ pub fn find_changes(alloc: Global, stream: &[u8]) -> Result<Changes>
     while at < stream.len() {
         let frame = frame_at(stream, at)?;
         let fits = find_in_box(alloc, &mut changes, stream, &frame, &mut slot)?;
+        let end = frame.end();
         can = can && fits;
-        at = frame.end as usize;
+        at = end as usize;
     }
     if !can {
         return Err(Error::InvalidData("value does not fit its field"));

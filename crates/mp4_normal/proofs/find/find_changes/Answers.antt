@@ -1,5 +1,6 @@
 use Rattle.std.proofs.Common.{ℕ, Bool, ◌&&◌, length, ap, sym, subst, ◌∙◌, inr}
 use Rattle.std.proofs.lemmas.Result.{err_from_is_err_and}
+use Rattle.mp4_frame.specs.Heads.{end_in}
 use Rattle.mp4_normal.specs.Changes.{AreBefore, made_of}
 use Rattle.mp4_normal.proofs.Found.{SoFar, nothing_found, frame_refused, box_refused, one_more, all_found, all_before}
 use Rattle.mp4_normal.proofs.Found.{some_refused}
@@ -28,7 +29,8 @@ returns-in_err-fits-clause-answer c =
     rw (p.1, p.2) (box_refused c.args.stream.now c.loop-at.changes c.loop-at.can c.loop-at.at c.loop-at.invariant
     c.loop-at-test.true f c.in_ok-frame.ensures.answer
     (made_of c.loop-at.changes c.args.stream.now f.begin)
-    (made_of c.find_in_box.new.changes c.args.stream.now f.end) c.in_err-fits.field-0.0 c.in_err-fits.ensures.made)
+    (made_of c.find_in_box.new.changes c.args.stream.now (end_in f)) c.in_err-fits.field-0.0
+    c.in_err-fits.ensures.made)
 
 pub loop-at-preserved-then-can : goal.loop-at-preserved-then-can
 loop-at-preserved-then-can c =
@@ -36,8 +38,9 @@ loop-at-preserved-then-can c =
     let more = one_more c.args.stream.now c.loop-at.changes c.loop-at.can c.loop-at.at c.loop-at.invariant
     c.loop-at-test.true f c.in_ok-frame.ensures.answer c.in_ok-fits.fits c.find_in_box.new.changes
     c.in_ok-frame.ensures.begins.0 c.in_ok-fits.ensures.made c.in_ok-fits.ensures.before c.in_ok-frame.ensures.room.1 in
-    subst (λ (b : Bool). SoFar c.args.stream.now c.find_in_box.new.changes (b && c.in_ok-fits.fits) f.end)
-    c.if-can.true more
+    rw c.end-end.ensures
+    (subst (λ (b : Bool). SoFar c.args.stream.now c.find_in_box.new.changes (b && c.in_ok-fits.fits) (end_in f))
+    c.if-can.true more)
 
 pub loop-at-preserved : goal.loop-at-preserved
 loop-at-preserved c =
@@ -45,8 +48,9 @@ loop-at-preserved c =
     let more = one_more c.args.stream.now c.loop-at.changes c.loop-at.can c.loop-at.at c.loop-at.invariant
     c.loop-at-test.true f c.in_ok-frame.ensures.answer c.in_ok-fits.fits c.find_in_box.new.changes
     c.in_ok-frame.ensures.begins.0 c.in_ok-fits.ensures.made c.in_ok-fits.ensures.before c.in_ok-frame.ensures.room.1 in
-    subst (λ (b : Bool). SoFar c.args.stream.now c.find_in_box.new.changes b f.end)
-    (ap (λ (b : Bool). b && c.in_ok-fits.fits) c.if-can.false ∙ sym c.if-can.false) more
+    rw c.end-end.ensures
+    (subst (λ (b : Bool). SoFar c.args.stream.now c.find_in_box.new.changes b (end_in f))
+    (ap (λ (b : Bool). b && c.in_ok-fits.fits) c.if-can.false ∙ sym c.if-can.false) more)
 
 pub returns-then-not-can-clause-answer : goal.returns-then-not-can-clause-answer
 returns-then-not-can-clause-answer c =
