@@ -1,4 +1,4 @@
--- What a part of an input shows of the head of a box in it.
+-- What a part of an input shows of the header of a box in it.
 use Rattle.std.proofs.Common.{◌≡◌, ℕ, ◌+◌, ◌-◌, ◌<◌, ◌≤◌, Bool, true, false, cond, List, ◌++◌, length, take, drop}
 use Rattle.std.proofs.Common.{Result, Ok, Err, refl, sym, ap, subst, ◌∙◌, arith, inl, inr, length-append}
 use Rattle.std.specs.Prelude.{nat_lt, nat_le, ◌==◌, ◌||◌}
@@ -7,7 +7,7 @@ use Rattle.std.proofs.lemmas.List.{take-append-drop, length-take-le, length-drop
 use Rattle.mp4_frame.specs.Bytes.{number}
 use Rattle.mp4_frame.specs.Heads.{head}
 use Rattle.mp4_frame.specs.Reading.{Fault, End, Invalid, Reading, check, done, ◌>>=◌}
-use Rattle.mp4_frame.specs.declared.head.Head.{Head}
+use Rattle.mp4_frame.specs.declared.frame.Frame.{Frame}
 use Rattle.mp4_frame.proofs.Checks.{guard}
 use Rattle.mp4_frame.proofs.Numbers.{number-among}
 use Rattle.mp4_frame.specs.Reading.{FaultAs, IsFault}
@@ -15,22 +15,22 @@ use Rattle.mp4_frame.specs.declared.error.Error.{Error}
 use Rattle.mp4_frame.specs.declared.error.Error.TheVariants as errors
 use Rattle.mp4_boxes.specs.Parts.{HasPart}
 
--- a head in a part that is at the offset `from`
-abbrev pub moved : ℕ → Result Head Fault → Result Head Fault
-moved from (Ok h) = Ok (record { code = h.code; size = h.size; start = from + h.start })
+-- what a header says, in a part that is at the offset `from`
+abbrev pub moved : ℕ → Result Frame Fault → Result Frame Fault
+moved from (Ok h) = Ok (record h { begin = from + h.begin; start = from + h.start })
 moved from (Err k) = Err k
 
-abbrev ok_head : Head → Result Head Fault
+abbrev ok_head : Frame → Result Frame Fault
 ok_head h = Ok h
 
 abbrev is_fine : ℕ → Bool
 is_fine g = (g == 0) || nat_le 16 g
 
-abbrev shape : Bool → Bool → Bool → Bool → ℕ → ℕ → ℕ → ℕ → Reading Head
+abbrev shape : Bool → Bool → Bool → Bool → ℕ → ℕ → ℕ → ℕ → Reading Frame
 shape b1 one b2 fine s c g o =
     guard b1 >>= λ _. cond one
-    (guard b2 >>= λ _. check fine >>= λ _. done (record { code = c; size = g - 8; start = o + 8 }))
-    (done (record { code = c; size = s; start = o }))
+    (guard b2 >>= λ _. check fine >>= λ _. done (record { code = c; begin = o; start = o + 8; size = g - 8 }))
+    (done (record { code = c; begin = o; start = o; size = s }))
 
 head_shape : (B : List ℕ) (o : ℕ)
     → head B o ≡ shape (nat_lt (length B) (o + 8)) (number B o 4 == 1) (nat_lt (length B) (o + 8 + 8))
@@ -76,11 +76,11 @@ is_end errors.IoError h = refl
 is_end (errors.InvalidData _) h = absurd cc
 is_end _ h = absurd h
 
-moved_fault : (e : Error) (from : ℕ) (r : Result Head Fault) → FaultAs (Err e) r → FaultAs (Err e) (moved from r)
+moved_fault : (e : Error) (from : ℕ) (r : Result Frame Fault) → FaultAs (Err e) r → FaultAs (Err e) (moved from r)
 moved_fault e from (Ok h) fault = absurd fault
 moved_fault e from (Err k) fault = fault
 
-fault_of_end : (e : Error) (r : Result Head Fault) → FaultAs (Err e) r → r ≡ Err End → e ≡ errors.IoError
+fault_of_end : (e : Error) (r : Result Frame Fault) → FaultAs (Err e) r → r ≡ Err End → e ≡ errors.IoError
 fault_of_end e (Ok h) fault is = absurd fault
 fault_of_end e (Err k) fault is = let same : k ≡ End = cc in is_end e (subst (IsFault e) same fault)
 
@@ -90,7 +90,7 @@ few_left W k cut =
     elim (cases_lt (length W) (k + 16)) [
       | inl lt ↦ lt
       | inr le ↦
-          (let shown = ap (λ (r : Reading Head). r.outcome) (head_shape W k) in
+          (let shown = ap (λ (r : Reading Frame). r.outcome) (head_shape W k) in
           let fits : nat_lt (length W) (k + 8 + 8) ≡ false = le-ltb _ _ (omega (arith, le)) in
           let cuts : nat_lt (length W) (k + 8 + 8) ≡ true =
           cut_here (nat_lt (length W) (k + 8)) (number W k 4 == 1) (nat_lt (length W) (k + 8 + 8))
@@ -99,7 +99,7 @@ few_left W k cut =
           absurd (both fits cuts))
     ]
 
-pub end_by : (e : Error) (r : Result Head Fault) → e ≡ errors.IoError → FaultAs (Err e) r → r ≡ Err End
+pub end_by : (e : Error) (r : Result Frame Fault) → e ≡ errors.IoError → FaultAs (Err e) r → r ≡ Err End
 end_by e (Ok h) is fault = absurd fault
 end_by e (Err k) is fault = let same : IsFault errors.IoError k =
     subst (λ (e : Error). IsFault e k) is fault in ap (λ (k : Fault). Err k) same
@@ -136,10 +136,10 @@ module _ (B W rest : List ℕ) (from : ℕ) (has : HasPart B from W rest) where
       let f = number B (from + k + 8) 8 in
       let there : (head B (from + k)).outcome
       ≡ (shape false (number W k 4 == 1) d2 (is_fine f) (number W k 4) (number W (k + 4) 4) f (from + k)).outcome =
-      ap (λ (r : Reading Head). r.outcome) (head_shape B (from + k)) ∙ rw (s, c, d1) refl in
+      ap (λ (r : Reading Frame). r.outcome) (head_shape B (from + k)) ∙ rw (s, c, d1) refl in
       let here : (head W k).outcome
       ≡ (shape false (number W k 4 == 1) b2 (is_fine g) (number W k 4) (number W (k + 4) 4) g k).outcome =
-      ap (λ (r : Reading Head). r.outcome) (head_shape W k) ∙ rw b1 refl in
+      ap (λ (r : Reading Frame). r.outcome) (head_shape W k) ∙ rw b1 refl in
       there
       ∙ sym (same_rest (number W k 4 == 1) b2 d2 (number W k 4) (number W (k + 4) 4) g f (from + k) more)
       ∙ sym (moved_shape false (number W k 4 == 1) b2 (is_fine g) (number W k 4) (number W (k + 4) 4) g from k)
@@ -154,7 +154,7 @@ module _ (B W rest : List ℕ) (from : ℕ) (has : HasPart B from W rest) where
   pub whole_head : (k : ℕ) → ((head W k).outcome ≡ Err End → ⊥)
       → (head B (from + k)).outcome ≡ moved from (head W k).outcome
   whole_head k whole =
-      let shown = ap (λ (r : Reading Head). r.outcome) (head_shape W k) in
+      let shown = ap (λ (r : Reading Frame). r.outcome) (head_shape W k) in
       let p = not_cut (nat_lt (length W) (k + 8)) (number W k 4 == 1) (nat_lt (length W) (k + 8 + 8))
       (is_fine (number W (k + 8) 8)) (number W k 4) (number W (k + 4) 4) (number W (k + 8) 8) k
       (λ e. whole (shown ∙ e)) in
@@ -168,9 +168,9 @@ module _ (B W rest : List ℕ) (from : ℕ) (has : HasPart B from W rest) where
       elim (cases_lt (length W) (k + 8)) [
         | inl lt ↦
             (let d1 : nat_lt (length B) (from + k + 8) ≡ true = lt-ltb _ _ (omega (arith, lt, all)) in
-            ap (λ (r : Reading Head). r.outcome) (head_shape B (from + k)) ∙ rw d1 refl)
+            ap (λ (r : Reading Frame). r.outcome) (head_shape B (from + k)) ∙ rw d1 refl)
         | inr le ↦
-            (let shown = ap (λ (r : Reading Head). r.outcome) (head_shape W k) in
+            (let shown = ap (λ (r : Reading Frame). r.outcome) (head_shape W k) in
             let b2 : nat_lt (length W) (k + 8 + 8) ≡ true =
             cut_here (nat_lt (length W) (k + 8)) (number W k 4 == 1) (nat_lt (length W) (k + 8 + 8))
             (is_fine (number W (k + 8) 8)) (number W k 4) (number W (k + 4) 4) (number W (k + 8) 8) k
@@ -183,8 +183,8 @@ module _ (B W rest : List ℕ) (from : ℕ) (has : HasPart B from W rest) where
     there : from + (at - from) ≡ at
     there = omega (arith, order)
 
-    pub head_shown : (h : Head) → (head W (at - from)).outcome ≡ Ok h
-        → (head B at).outcome ≡ Ok (record { code = h.code; size = h.size; start = from + h.start })
+    pub head_shown : (h : Frame) → (head W (at - from)).outcome ≡ Ok h
+        → (head B at).outcome ≡ Ok (record h { begin = from + h.begin; start = from + h.start })
     head_shown h is =
         ap (λ (i : ℕ). (head B i).outcome) (sym there)
         ∙ whole_head (at - from) (λ e. let no : ok_head h ≡ Err End = sym is ∙ e in absurd cc) ∙ ap (moved from) is
@@ -197,5 +197,5 @@ module _ (B W rest : List ℕ) (from : ℕ) (has : HasPart B from W rest) where
     head_faulted e other fault =
         let is = ap (λ (i : ℕ). (head B i).outcome) (sym there)
         ∙ whole_head (at - from) (λ end. other (fault_of_end e (head W (at - from)).outcome fault end)) in
-        subst (λ (r : Result Head Fault). FaultAs (Err e) r) (sym is)
+        subst (λ (r : Result Frame Fault). FaultAs (Err e) r) (sym is)
         (moved_fault e from (head W (at - from)).outcome fault)

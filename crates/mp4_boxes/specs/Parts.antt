@@ -9,7 +9,7 @@ use Rattle.mp4_frame.specs.Spans.{spans}
 use Rattle.mp4_frame.specs.declared.box_type.BoxType.{BoxType}
 use Rattle.mp4_frame.specs.declared.error.Error.{Error}
 use Rattle.mp4_frame.specs.declared.error.Error.TheVariants as errors
-use Rattle.mp4_frame.specs.declared.head.Head.{Head}
+use Rattle.mp4_frame.specs.declared.frame.Frame.{Frame}
 use Rattle.mp4_frame.specs.declared.list.BoxSpan.{BoxSpan}
 use Rattle.mp4_boxes.specs.Lines.{lines}
 use Rattle.mp4_boxes.specs.Runs.{Lists, ListRefusal}
@@ -63,8 +63,8 @@ abbrev pub IsFew : ℕ → ℕ → Next → Type 0
 IsFew read next (nexts.Box o) = (next ≤ o) × (read < o + 16)
 IsFew read next (nexts.Last o name) = (next ≤ o) × (o < read)
 
--- the head of the box at the offset o of B, or None if the bytes before the offset `read` end within its header
-abbrev pub HeadIn : List ℕ → ℕ → ℕ → Result (Option Head) Error → Type 0
+-- what the header at the offset o of B says, or None if the bytes before the offset `read` end within its header
+abbrev pub HeadIn : List ℕ → ℕ → ℕ → Result (Option Frame) Error → Type 0
 HeadIn B read o (Ok (Some h)) = (head B o).outcome ≡ Ok h
 HeadIn B read o (Ok None) = read ≡ length B → (head B o).outcome ≡ Err End
 HeadIn B read o (Err e) = FaultAs (Err e) (head B o).outcome

@@ -1,10 +1,11 @@
 //! The boxes whose headers are in a part of the input.
 
 ghost use Rattle.std.specs.Prelude.{◌≡◌, ◌+◌, ◌<◌, ◌≤◌, ◌^◌, ℕ, List, length, IfOk, IfSome, IfNone};
+ghost use Rattle.mp4_frame.specs.Heads.{content_in};
 ghost use Rattle.mp4_boxes.specs.Parts.{HasPart, HeadIn, IsFew, LinesTo, ListsTo};
 
 use crate::line::push_line;
-use mp4_frame::{BoxType, Error, Head, Result, frame_of_head};
+use mp4_frame::{BoxType, Error, Frame, Result};
 
 /// What comes after the boxes that are listed.
 #[derive(Clone, Copy, Debug)]
@@ -15,16 +16,18 @@ pub enum Next {
     Last(u64, BoxType),
 }
 
-/// The head of the box at an offset of a part, or None if the part ends before the header does.
-fn head_in(part: &[u8], from: u64, at: u64) -> Result<Option<Head>>
+/// What the header of the box at an offset of the input says, or None if the part ends before the header does.
+fn head_in(part: &[u8], from: u64, at: u64) -> Result<Option<Frame>>
     requires room { from + length part.now < 2 ^ 64 }
     requires within { from ≤ at }
     ensures head { (B rest : List ℕ) → HasPart B from part.now rest → HeadIn B (from + length part.now) at result }
-    ensures room { IfOk result (λ found. IfSome found (λ h. (at ≤ h.start) × (h.start + 8 ≤ from + length part.now))) }
+    ensures begins { IfOk result (λ found. IfSome found (λ h. (h.begin ≡ at) × (at ≤ h.start))) }
+    ensures room { IfOk result (λ found. IfSome found (λ h. content_in h ≤ from + length part.now)) }
     ensures few { IfOk result (λ found. IfNone found (from + length part.now < at + 16)) }
 {
-    match Head::at(part, at - from) {
-        Ok(head) => Ok(Some(Head {
+    match Frame::at(part, at - from) {
+        Ok(head) => Ok(Some(Frame {
+            begin: from + head.begin,
             start: from + head.start,
             ..head
         })),
@@ -52,11 +55,11 @@ pub fn list_part(lines: &mut Vec<u8>, part: &[u8], from: u64, mut next: u64) -> 
             None => return Ok(Next::Box(next)),
         };
         if head.size == 0 {
-            return Ok(Next::Last(next, BoxType::from(head.code)));
+            return Ok(Next::Last(next, head.name()));
         }
-        let frame = frame_of_head(u64::MAX, next, head)?;
+        let frame = head.within(u64::MAX)?;
         push_line(lines, frame.span())?;
-        next = frame.end;
+        next = frame.end();
     }
     Ok(Next::Box(next))
 }

@@ -29,6 +29,7 @@ returns-in_default c = record {
   head = λ B rest has.
       head_faulted B c.args.part.now rest c.args.from has c.args.at c.requires.within c.in-Err.e
       c.in_default.not-IoError c.in-Err.ensures.fault;
+  begins = tt;
   room = tt;
   few = tt;
 }
