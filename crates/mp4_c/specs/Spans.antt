@@ -1,5 +1,6 @@
 -- The places of boxes as C has them (ISO/IEC 14496-12, 4.2).
 use Rattle.std.specs.Prelude.{ℕ, ◌-◌, List, [], ◌∷◌}
+use Rattle.mp4_frame.specs.Heads.{content_in, end_in}
 use Rattle.mp4_frame.specs.Reading.{Reading, done, memory, ◌>>=◌}
 use Rattle.mp4_frame.specs.Streams.{walk}
 use Rattle.mp4_frame.specs.declared.frame.Frame.{Frame}
@@ -7,7 +8,13 @@ use Rattle.mp4_c.specs.declared.list.Span.{Span}
 
 -- the place of the box of a frame, how long its header is, and its code
 abbrev pub span_of : Frame → Span
-span_of f = record { position = f.begin; length = f.end - f.begin; header_length = f.content - f.begin; code = f.code }
+span_of f =
+    record {
+      position = f.begin;
+      length = end_in f - f.begin;
+      header_length = content_in f - f.begin;
+      code = f.code;
+    }
 
 -- every box's place is kept, which takes memory
 abbrev pub span_item : Frame → Reading (List Span)

@@ -1,6 +1,7 @@
 //! Where boxes are.
 
-ghost use Rattle.std.specs.Prelude.{◌≡◌, ◌≤◌, length};
+ghost use Rattle.std.specs.Prelude.{◌≡◌, ◌≤◌, ◌<◌, ◌^◌, length};
+ghost use Rattle.mp4_frame.specs.Heads.{end_in};
 ghost use Rattle.mp4_frame.specs.Reading.{AnswersAs};
 ghost use Rattle.mp4_c_base.specs.Handed.{HandsReading};
 ghost use Rattle.mp4_c.specs.Spans.{span_of, spans};
@@ -25,14 +26,15 @@ pub struct Span {
 
 /// The place of a box at the top level.
 fn span_of(frame: &Frame) -> Span
-    requires content { frame.now.begin ≤ frame.now.content }
-    requires end { frame.now.begin ≤ frame.now.end }
+    requires order { frame.now.begin ≤ frame.now.start }
+    requires size { 8 ≤ frame.now.size }
+    requires end { end_in frame.now < 2 ^ 64 }
     ensures { result ≡ span_of frame.now }
 {
     Span {
         position: frame.begin,
-        length: frame.end - frame.begin,
-        header_length: frame.content - frame.begin,
+        length: frame.end() - frame.begin,
+        header_length: frame.content() - frame.begin,
         code: frame.code,
     }
 }
@@ -46,7 +48,7 @@ fn list_spans(alloc: Global, bytes: &[u8]) -> Result<Vec<Span>>
     while at < bytes.len() {
         let frame = frame_at(bytes, at)?;
         spans.push(span_of(&frame))?;
-        at = frame.end as usize;
+        at = frame.end() as usize;
     }
     Ok(spans)
 }

@@ -1,17 +1,16 @@
 -- The one box at the front of a buffer, of whatever type it is.
 use Rattle.std.specs.Prelude.{ℕ, Bool, List, None, Some, length, if◌then◌else◌}
 use Rattle.std.specs.declared.option.Option.{Option}
-use Rattle.mp4_frame.specs.BoxType.{name_of}
-use Rattle.mp4_frame.specs.Heads.{head, frame_of_head, start_in, size_in}
+use Rattle.mp4_frame.specs.Heads.{head, frame_of_head, name_in}
 use Rattle.mp4_frame.specs.Reading.{Reading, ◌>>=◌, done, map_reading}
 use Rattle.mp4_frame.specs.declared.box_type.BoxType.{BoxType}
-use Rattle.mp4_frame.specs.declared.head.Head.{Head}
+use Rattle.mp4_frame.specs.declared.frame.Frame.{Frame}
 use Rattle.mp4_track.specs.Front.{in_frame}
 
--- what is read of the box of this name that has this head at the front
-abbrev pub named_box : {A : Type 0} → (BoxType → List ℕ → ℕ → ℕ → Reading A) → List ℕ → Head → Reading A
+-- what is read of the box at the front, of which the header says this
+abbrev pub named_box : {A : Type 0} → (BoxType → List ℕ → ℕ → ℕ → Reading A) → List ℕ → Frame → Reading A
 named_box reading bytes h =
-    in_frame (λ f. reading (name_of h.code) bytes (start_in f) (size_in f)) (frame_of_head (length bytes) 0 h)
+    in_frame (λ f. reading (name_in h) bytes f.start f.size) (frame_of_head (length bytes) h)
 
 -- what is read of the box at the front, if boxes of its name are known, and else nothing. It is whole, as a box of a
 -- list: a size of 0 means up to the end of the buffer. A box of a name that isn't known may be cut
@@ -19,4 +18,4 @@ unfoldable pub front_known : {A : Type 0} → (BoxType → Bool) → (BoxType �
     → Reading (Option A)
 front_known known reading bytes = do
   h ← head bytes 0
-  if known (name_of h.code) then map_reading Some (named_box reading bytes h) else done None
+  if known (name_in h) then map_reading Some (named_box reading bytes h) else done None

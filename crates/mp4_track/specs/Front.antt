@@ -1,6 +1,6 @@
 -- The one box at the front of a buffer.
 use Rattle.std.specs.Prelude.{ℕ, ◌==◌, List, length, Result, Ok, Err}
-use Rattle.mp4_frame.specs.Heads.{head, frame_of_head, start_in, size_in}
+use Rattle.mp4_frame.specs.Heads.{head, frame_of_head}
 use Rattle.mp4_frame.specs.Reading.{Fault, Reading, ◌>>=◌, check, faults, reading}
 use Rattle.mp4_frame.specs.declared.frame.Frame.{Frame}
 
@@ -15,4 +15,4 @@ unfoldable pub front_box : {A : Type 0} → (List ℕ → ℕ → ℕ → Readin
 front_box reads code bytes = do
   h ← head bytes 0
   _ ← check (h.code == code)
-  in_frame (λ f. reading reads bytes (start_in f) (size_in f)) (frame_of_head (length bytes) 0 h)
+  in_frame (λ f. reading reads bytes f.start f.size) (frame_of_head (length bytes) h)

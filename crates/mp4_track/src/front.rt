@@ -3,7 +3,7 @@
 ghost use Rattle.mp4_frame.specs.Reading.{Answers};
 ghost use Rattle.mp4_track.specs.Front.{front_box};
 
-use mp4_frame::{Head, ReadBox, Result, check, frame_of_head};
+use mp4_frame::{Frame, ReadBox, Result, check};
 use std::alloc::Global;
 
 /// Reads the box at the front of a buffer, which has to be whole. Invalid data if it has another code.
@@ -11,9 +11,9 @@ use std::alloc::Global;
 pub fn front_box<B: ReadBox>(alloc: Global, code: u32, bytes: &[u8]) -> Result<B>
     ensures { Answers result (front_box B.reads code bytes.now) }
 {
-    let head = Head::at(bytes, 0)?;
-    check(head.code == code, "box of another type")?;
-    let frame = frame_of_head(bytes.len() as u64, 0, head)?;
-    let box_bytes = &bytes[frame.start() as usize..];
-    B::read_content(alloc, box_bytes, frame.start(), frame.size())
+    let found = Frame::at(bytes, 0)?;
+    check(found.code == code, "box of another type")?;
+    let frame = found.within(bytes.len() as u64)?;
+    let box_bytes = &bytes[frame.start as usize..];
+    B::read_content(alloc, box_bytes, frame.start, frame.size)
 }

@@ -25,10 +25,10 @@ pub loop-at-preserved : goal.loop-at-preserved
 loop-at-preserved c =
     let f = c.in_ok-frame.frame in
     record {
-      told = rw (c.in_ok-push.ensures.items, c.span_of.ensures)
+      told = rw (c.in_ok-push.ensures.items, c.span_of.ensures, c.end-at.ensures)
           (one_kept span_item c.args.bytes.now c.loop-at.spans.items (span_of f) c.loop-at.at f _
           c.loop-at-test.true c.in_ok-frame.ensures.answer refl c.loop-at.invariant.told);
-      most = omega (arith, c.in_ok-frame.ensures.room.1);
+      most = omega (arith, c.end-at.ensures, c.in_ok-frame.ensures.room.1);
     }
 
 pub returns : goal.returns
