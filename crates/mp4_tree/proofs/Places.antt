@@ -7,38 +7,36 @@ use Rattle.std.specs.declared.option.Option.{Option}
 use Rattle.std.proofs.lemmas.Bool.{leb-false}
 use Rattle.std.proofs.lemmas.List.Elements.{All-nil, All-cons, All-append, Contains-append_left, Contains-append_right}
 use Rattle.mp4_frame.specs.Heads.{frame}
-use Rattle.mp4_tree.specs.Place.{place}
+use Rattle.mp4_tree.specs.Found.{found_at, end_within}
 use Rattle.mp4_tree.specs.Places.{IsAround, IsFrame, IsPlaced}
-use Rattle.mp4_tree.specs.Tree.{StaysIn, four_cc, step, boxes_after, boxes_at_most, boxes_of, top}
+use Rattle.mp4_tree.specs.Tree.{StaysIn, step, boxes_after, boxes_at_most, boxes_of, top}
 use Rattle.mp4_tree.specs.declared.level.Level.{Level}
-use Rattle.mp4_tree.specs.declared.place.Place.{Place}
 use Rattle.mp4_tree.specs.declared.step.Step.{Step}
 use Rattle.mp4_tree.specs.declared.tree_box.TreeBox.{TreeBox}
-use Rattle.mp4_tree.proofs.Frames.{LeadsTo, IsStepOf, IsOfFrame, Fits, step_is, place_fits, place_whole}
-use Rattle.mp4_tree.proofs.Steps.{step_goes_on, place_after}
+use Rattle.mp4_tree.proofs.Frames.{IsAt, LeadsTo, IsStepOf, IsOfFrame, found_is_at, step_is, found_whole}
+use Rattle.mp4_tree.proofs.Steps.{step_goes_on, found_after}
 
 -- the level inside a box is one deeper, after the header and in the box
 abbrev IsInside : TreeBox → ℕ → Option Level → Type 0
 IsInside x at None = Unit {0}
 IsInside x at (Some m) = (m.depth ≡ x.depth + 1) × (x.position + 8 ≤ at) × (m.end ≤ x.position + x.length)
 
-inside_by : (l : Level) (o : ℕ) (p : Place) (s : Step) → IsStepOf l o p s → Fits o p → (inner : Option Level)
-    → LeadsTo l p s.at inner → IsInside s.found s.at inner
-inside_by l o p s is fits None leads = tt
-inside_by l o p s is fits (Some m) leads =
-    let after = fits.after leads.3 in
-    let long = fits.long in (
+inside_by : (l : Level) (o : ℕ) (x : TreeBox) (s : Step) → IsStepOf l o x s → IsAt l o x → (inner : Option Level)
+    → LeadsTo l x s.at inner → IsInside s.found s.at inner
+inside_by l o x s is here None leads = tt
+inside_by l o x s is here (Some m) leads =
+    let after = here.header leads.3 in (
       omega (arith, leads.0, is.depth),
       omega (arith, is.position, after, leads.2),
-      omega (arith, leads.1, is.position, is.long, long),
+      omega (arith, leads.1, is.position, is.long, here.position),
     )
 
-frame_by : (own : List ℕ) (l : Level) (o : ℕ) (p : Place) (s : Step) → IsStepOf l o p s → o < p.end
-    → IsOfFrame o p (frame own o) → IsFrame own s.found
-frame_by own l o p s is after f = (
+frame_by : (own : List ℕ) (l : Level) (o : ℕ) (x : TreeBox) (s : Step) → IsStepOf l o x s → o < end_within l x
+    → IsOfFrame l o x (frame own o) → IsFrame own s.found
+frame_by own l o x s is after f = (
   f.0,
   ap (λ (k : ℕ). frame own k) is.position ∙ f.1,
-  is.code ∙ ap four_cc f.2,
+  is.code ∙ f.2,
   omega (arith, is.position, is.long, f.3, f.4, after),
 )
 
@@ -82,7 +80,7 @@ module _ (B : List ℕ) (short : length B < 2 ^ 64) (all : List TreeBox) where
   placed_at_most zero l o within around among = All-nil (IsPlaced B all)
   placed_at_most (suc n) l o within around among =
       let s = step B l o in
-      let p = place B l o in
+      let x = found_at B l o in
       let boxes = λ (m : Level) (e : ℕ). boxes_at_most n B m e in
       let rest = boxes_after boxes s.level s.at s.inner in
       if_not_over (nat_le l.end o) (s.found ∷ rest) among
@@ -90,7 +88,7 @@ module _ (B : List ℕ) (short : length B < 2 ^ 64) (all : List TreeBox) where
       let inside : o < l.end = leb-false l.end o before in
       let is = step_is B l o in
       let goes = step_goes_on B l o within inside in
-      let after = place_after B l o within inside in
+      let after = found_after B l o within inside in
       let here : IsAround B all s.found.depth l.end s.found.position =
       subst (λ (k : ℕ). IsAround B all s.found.depth l.end k) (sym is.position)
       (subst (λ (d : ℕ). IsAround B all d l.end o) (sym is.depth) (around o (omega arith))) in
@@ -99,15 +97,15 @@ module _ (B : List ℕ) (short : length B < 2 ^ 64) (all : List TreeBox) where
         here,
         omega (arith, is.position, inside),
         within,
-        (λ whole. frame_by (take l.end B) l o p s is (omega (arith, after.0, after.1))
-            (place_whole B short l o within inside (sym is.whole ∙ whole))),
+        (λ whole. frame_by (take l.end B) l o x s is (omega (arith, after.0, after.1, after.2))
+            (found_whole B short l o within inside (sym is.whole ∙ whole))),
       ) in
       let stays : StaysIn s.level.end s.at s.inner =
       subst (λ (e : ℕ). StaysIn e s.at s.inner) (sym is.level_end) goes.1 in
       All-cons (IsPlaced B all) s.found rest stands
       (placed_after boxes (λ m e. placed_at_most n m e) s.level s.found s.at s.inner
       (omega (arith, is.level_end, within)) stays
-      (inside_by l o p s is (place_fits B short l o within inside) s.inner is.leads)
+      (inside_by l o x s is (found_is_at B l o) s.inner is.leads)
       (same_around l s.level s.at is.level_depth is.level_end (λ e later. around e (omega (arith, goes.0, later))))
       (found s.found (0, omega arith, refl))
       (λ y mem. found y (Contains-append_right (s.found ∷ []) rest y mem))))

@@ -9,26 +9,28 @@ use Rattle.std.proofs.lemmas.Grind.{common_steps}
 use Rattle.std.proofs.lemmas.List.{length-take-le}
 use Rattle.mp4_frame.specs.Heads.{head}
 use Rattle.mp4_frame.specs.Reading.{Fault, End, Invalid, NotFound}
+use Rattle.mp4_frame.specs.FourCC.{number_of}
+use Rattle.mp4_frame.specs.declared.four_cc.FourCC.{FourCC}
 use Rattle.mp4_frame.specs.declared.head.Head.{Head}
 use Rattle.mp4_frame.proofs.Heads.{head_room}
+use Rattle.mp4_tree.specs.Found.{code_at, found_of_head, found_of, found_at, content_begin, end_within}
 use Rattle.mp4_tree.specs.Kinds.{if_room, fields_of, level_after}
-use Rattle.mp4_tree.specs.Place.{code_at, place_of_head, place_of, place}
-use Rattle.mp4_tree.specs.Tree.{GoesDeeper}
-use Rattle.mp4_tree.specs.Tree.{GoesOn, StaysIn, step_by, step_of_code, step_of_what, step_of, step, boxes_after}
-use Rattle.mp4_tree.specs.Tree.{boxes_by, boxes_at_most, boxes_in}
+use Rattle.mp4_tree.specs.Tree.{GoesDeeper, GoesOn, StaysIn, passed, step_by, step_of_code, step_of_what, step_of}
+use Rattle.mp4_tree.specs.Tree.{step, boxes_after, boxes_by, boxes_at_most, boxes_in}
 use Rattle.mp4_tree.specs.Words.{words}
 use Rattle.mp4_tree.specs.declared.level.Level.{Level}
-use Rattle.mp4_tree.specs.declared.place.Place.{Place}
 use Rattle.mp4_tree.specs.declared.step.Step.{Step}
 use Rattle.mp4_tree.specs.declared.step.TheConstants as constants
 use Rattle.mp4_tree.specs.declared.tree_box.TreeBox.{TreeBox}
 use Rattle.mp4_tree.specs.declared.tree_box.What.{What}
 use Rattle.mp4_tree.specs.declared.tree_box.What.TheVariants as what
 use Rattle.mp4_tree.specs.declared.words.Words.{Words}
+use Rattle.mp4_tree.proofs.Windows.{head_near}
 
--- a place after o in its level
-abbrev pub IsAfter : Level → ℕ → Place → Type 0
-IsAfter l o p = (o < p.content) × (p.content ≤ p.end) × (p.end ≤ l.end)
+-- what is found at o of a level begins there and has some bytes, and has a header of 16 at most if there is more of it
+abbrev pub IsAfter : Level → ℕ → TreeBox → Type 0
+IsAfter l o x = (x.position ≡ o) × (0 < x.header_length) × (content_begin x ≤ end_within l x)
+    × (content_begin x < end_within l x → x.header_length ≤ 16)
 
 has_room : (room : ℕ) (r : Option ℕ) → IfSome (if_room room r) (λ n. n ≤ room)
 has_room room None = tt
@@ -36,98 +38,115 @@ has_room room (Some n) =
     cond_both (nat_lt room n) None (Some n) (λ (s : Option ℕ). IfSome s (λ n. n ≤ room)) (λ _. tt)
     (λ e. ltb-false room n e)
 
-step_by_goes_on : (l : Level) (o : ℕ) (p : Place) (code : ℕ) (after : Level) → IsAfter l o p → after.end ≡ l.end
-    → (r : Option ℕ) → IfSome r (λ n. n ≤ p.end - p.content) → GoesOn l o (step_by l o p code after r)
-step_by_goes_on l o p code after is ends None h = (omega (arith, is.0, is.1), is.2, ends)
-step_by_goes_on l o p code after is ends (Some n) h =
-    cond_both (nat_lt l.depth constants.DEEPEST) _ _ (GoesOn l o)
-    (λ _. (omega (arith, is.0), (omega (arith, is.1, h), is.2), ends))
-    (λ _. (omega (arith, is.0, is.1), is.2, ends))
+module _ (l : Level) (o : ℕ) (x : TreeBox) (here : x.position ≡ o) (some : 0 < x.header_length)
+    (on : content_begin x ≤ end_within l x) where
+  passed_goes_on : (after : Level) → after.end ≡ l.end → GoesOn l o (passed l x after)
+  passed_goes_on after ends = (omega (arith, here, some, on), omega arith, ends)
 
-step_of_code_goes_on : (l : Level) (o : ℕ) (p : Place) (w : Words) → IsAfter l o p → (code : Option ℕ)
-    → GoesOn l o (step_of_code l o p w code)
-step_of_code_goes_on l o p w is None = (omega (arith, is.0, is.1), is.2, refl)
-step_of_code_goes_on l o p w is (Some code) =
-    let room = p.end - p.content in
-    step_by_goes_on l o p code (level_after l code w) is refl (if_room room (fields_of l.setting code w room))
-    (has_room room (fields_of l.setting code w room))
+  step_by_goes_on : (code : ℕ) (after : Level) → after.end ≡ l.end → (r : Option ℕ)
+      → IfSome r (λ n. n ≤ end_within l x - content_begin x) → GoesOn l o (step_by l x code after r)
+  step_by_goes_on code after ends None h = passed_goes_on after ends
+  step_by_goes_on code after ends (Some n) h =
+      cond_both (nat_lt l.depth constants.DEEPEST) _ _ (GoesOn l o)
+      (λ _. (omega (arith, here, some), (omega (arith, on, h), omega arith), ends))
+      (λ _. passed_goes_on after ends)
 
-step_of_what_goes_on : (l : Level) (o : ℕ) (p : Place) (w : Words) → IsAfter l o p → (why : What)
-    → GoesOn l o (step_of_what l o p w why)
-step_of_what_goes_on l o p w is what.Small = (omega (arith, is.0, is.1), is.2, refl)
-step_of_what_goes_on l o p w is what.NoHeader = (omega (arith, is.0, is.1), is.2, refl)
-step_of_what_goes_on l o p w is what.Leaf = step_of_code_goes_on l o p w is p.code
-step_of_what_goes_on l o p w is what.Parent = step_of_code_goes_on l o p w is p.code
-step_of_what_goes_on l o p w is what.TooDeep = step_of_code_goes_on l o p w is p.code
-step_of_what_goes_on l o p w is what.Cut = step_of_code_goes_on l o p w is p.code
+  step_of_code_goes_on : (w : Words) (code : Option FourCC) → GoesOn l o (step_of_code l x w code)
+  step_of_code_goes_on w None = passed_goes_on l refl
+  step_of_code_goes_on w (Some code) =
+      let room = end_within l x - content_begin x in
+      step_by_goes_on (number_of code) (level_after l (number_of code) w) refl
+      (if_room room (fields_of l.setting (number_of code) w room))
+      (has_room room (fields_of l.setting (number_of code) w room))
 
--- the step at a place goes on
-pub place_goes_on : (l : Level) (o : ℕ) (p : Place) (w : Words) (s : Step) → s ≡ step_of l o p w → o < p.content
-    → p.content ≤ p.end → p.end ≤ l.end → GoesOn l o s
-place_goes_on l o p w s e after inside within =
-    subst (GoesOn l o) (sym e) (step_of_what_goes_on l o p w (after, inside, within) p.what)
+  step_of_what_goes_on : (w : Words) (why : What) → GoesOn l o (step_of_what l x w why)
+  step_of_what_goes_on w what.Small = passed_goes_on l refl
+  step_of_what_goes_on w what.NoHeader = passed_goes_on l refl
+  step_of_what_goes_on w what.Leaf = step_of_code_goes_on w x.code
+  step_of_what_goes_on w what.Parent = step_of_code_goes_on w x.code
+  step_of_what_goes_on w what.TooDeep = step_of_code_goes_on w x.code
+  step_of_what_goes_on w what.Cut = step_of_code_goes_on w x.code
+
+  -- the step at what is found goes on
+  pub found_goes_on : (w : Words) (s : Step) → s ≡ step_of l x w → GoesOn l o s
+  found_goes_on w s e = subst (GoesOn l o) (sym e) (step_of_what_goes_on w x.what)
 
 -- a step stays at the depth of its level, or leads one deeper
 abbrev IsDeep : Level → Step → Type 0
 IsDeep l s = (s.level.depth ≡ l.depth) × GoesDeeper l s.inner
 
-step_by_deep : (l : Level) (o : ℕ) (p : Place) (code : ℕ) (after : Level) → after.depth ≡ l.depth → (r : Option ℕ)
-    → IsDeep l (step_by l o p code after r)
-step_by_deep l o p code after is None = (is, tt)
-step_by_deep l o p code after is (Some n) =
+step_by_deep : (l : Level) (x : TreeBox) (code : ℕ) (after : Level) → after.depth ≡ l.depth → (r : Option ℕ)
+    → IsDeep l (step_by l x code after r)
+step_by_deep l x code after is None = (is, tt)
+step_by_deep l x code after is (Some n) =
     cond_both (nat_lt l.depth constants.DEEPEST) _ _ (IsDeep l) (λ e. (is, (refl, ltb-true _ _ e))) (λ _. (is, tt))
 
-step_of_code_deep : (l : Level) (o : ℕ) (p : Place) (w : Words) (code : Option ℕ) → IsDeep l (step_of_code l o p w code)
-step_of_code_deep l o p w None = (refl, tt)
-step_of_code_deep l o p w (Some code) =
-    let room = p.end - p.content in
-    step_by_deep l o p code (level_after l code w) refl (if_room room (fields_of l.setting code w room))
+step_of_code_deep : (l : Level) (x : TreeBox) (w : Words) (code : Option FourCC) → IsDeep l (step_of_code l x w code)
+step_of_code_deep l x w None = (refl, tt)
+step_of_code_deep l x w (Some code) =
+    let room = end_within l x - content_begin x in
+    step_by_deep l x (number_of code) (level_after l (number_of code) w) refl
+    (if_room room (fields_of l.setting (number_of code) w room))
 
-step_of_what_deep : (l : Level) (o : ℕ) (p : Place) (w : Words) (why : What) → IsDeep l (step_of_what l o p w why)
-step_of_what_deep l o p w what.Small = (refl, tt)
-step_of_what_deep l o p w what.NoHeader = (refl, tt)
-step_of_what_deep l o p w what.Leaf = step_of_code_deep l o p w p.code
-step_of_what_deep l o p w what.Parent = step_of_code_deep l o p w p.code
-step_of_what_deep l o p w what.TooDeep = step_of_code_deep l o p w p.code
-step_of_what_deep l o p w what.Cut = step_of_code_deep l o p w p.code
+step_of_what_deep : (l : Level) (x : TreeBox) (w : Words) (why : What) → IsDeep l (step_of_what l x w why)
+step_of_what_deep l x w what.Small = (refl, tt)
+step_of_what_deep l x w what.NoHeader = (refl, tt)
+step_of_what_deep l x w what.Leaf = step_of_code_deep l x w x.code
+step_of_what_deep l x w what.Parent = step_of_code_deep l x w x.code
+step_of_what_deep l x w what.TooDeep = step_of_code_deep l x w x.code
+step_of_what_deep l x w what.Cut = step_of_code_deep l x w x.code
 
-pub place_goes_deep : (l : Level) (o : ℕ) (p : Place) (w : Words) (s : Step) → s ≡ step_of l o p w
+pub found_goes_deep : (l : Level) (x : TreeBox) (w : Words) (s : Step) → s ≡ step_of l x w
     → (s.level.depth ≡ l.depth) × GoesDeeper l s.inner
-place_goes_deep l o p w s e = subst (IsDeep l) (sym e) (step_of_what_deep l o p w p.what)
-
-place_of_head_after : (l : Level) (o : ℕ) (h : Head) → o < l.end → o ≤ h.start → h.start + 8 ≤ l.end
-    → IsAfter l o (place_of_head l o h)
-unfolding place_of_head
-place_of_head_after l o h inside from room =
-    cond_both ((h.size == 0) && (l.depth == 0)) _ _ (IsAfter l o)
-    (λ _. (omega arith, room, omega arith))
-    (λ _. cond_both (nat_lt h.size 8) _ _ (IsAfter l o)
-    (λ _. (inside, omega arith, omega arith))
-    (λ large. cond_both (nat_lt l.end (h.start + h.size)) _ _ (IsAfter l o)
-    (λ _. (omega arith, room, omega arith))
-    (λ fits. (omega arith, omega (arith, ltb-false _ _ large), ltb-false _ _ fits))))
+found_goes_deep l x w s e = subst (IsDeep l) (sym e) (step_of_what_deep l x w x.what)
 
 -- where a box is read, its content is after it
-place_of_after : (own : List ℕ) (l : Level) (o : ℕ) (code : Option ℕ) → length own ≡ l.end → o < l.end
-    → (r : Result Head Fault) → (head own o).outcome ≡ r → IsAfter l o (place_of l o code r)
-place_of_after own l o code long inside (Ok h) is =
-    let room = head_room own o h is in
-    place_of_head_after l o h inside room.0 (omega (arith, room.1, long))
-place_of_after own l o code long inside (Err End) is = (inside, omega arith, omega arith)
-place_of_after own l o code long inside (Err Invalid) is = (inside, omega arith, omega arith)
-place_of_after own l o code long inside (Err (NotFound _)) is = (inside, omega arith, omega arith)
+pub head_after : (l : Level) (o : ℕ) (h : Head) → o < l.end → o ≤ h.start → h.start ≤ o + 8 → h.start + 8 ≤ l.end
+    → IsAfter l o (found_of_head l o h)
+unfolding found_of_head
+head_after l o h inside from near room =
+    cond_both ((h.size == 0) && (l.depth == 0)) _ _ (IsAfter l o)
+    (λ _. (refl, omega arith, omega arith, λ _. omega arith))
+    (λ _. cond_both (nat_lt h.size 8) _ _ (IsAfter l o)
+    (λ _. (refl, omega arith, omega arith, λ e. absurd (omega (arith, e))))
+    (λ large. let least = ltb-false _ _ large in cond_both (nat_lt l.end (h.start + h.size)) _ _ (IsAfter l o)
+    (λ _. (refl, omega arith, omega (arith, least), λ _. omega arith))
+    (λ fits. (refl, omega arith, omega (arith, least), λ _. omega arith))))
 
-pub place_after : (B : List ℕ) (l : Level) (o : ℕ) → l.end ≤ length B → o < l.end → IsAfter l o (place B l o)
-place_after B l o within inside = let own =
-    take l.end B in place_of_after own l o (code_at own o) (length-take-le l.end B within) inside
+-- the same where the head was read o bytes before
+pub later_after : (W : List ℕ) (l : Level) (o : ℕ) (h : Head) (x : TreeBox) → o < l.end → o + length W ≤ l.end
+    → (head W 0).outcome ≡ Ok h → x ≡ found_of_head l o (record { code = h.code; size = h.size; start = h.start + o })
+    → IsAfter l o x
+later_after W l o h x inside within is by =
+    let room = head_room W 0 h is in
+    let near : h.start ≤ 0 + 8 = head_near W 0 (Ok h) is in
+    subst (IsAfter l o) (sym by)
+    (head_after l o (record { code = h.code; size = h.size; start = h.start + o }) inside (omega arith) (omega (arith, near))
+    (omega (arith, room.1, within)))
+
+found_of_after : (own : List ℕ) (l : Level) (o : ℕ) (code : Option FourCC) → length own ≡ l.end → o < l.end
+    → (r : Result Head Fault) → (head own o).outcome ≡ r → IsAfter l o (found_of l o code r)
+found_of_after own l o code long inside (Ok h) is =
+    let room = head_room own o h is in
+    head_after l o h inside room.0 (head_near own o (Ok h) is) (omega (arith, room.1, long))
+found_of_after own l o code long inside (Err End) is =
+    (refl, omega arith, omega arith, λ e. absurd (omega (arith, e)))
+found_of_after own l o code long inside (Err Invalid) is =
+    (refl, omega arith, omega arith, λ e. absurd (omega (arith, e)))
+found_of_after own l o code long inside (Err (NotFound _)) is =
+    (refl, omega arith, omega arith, λ e. absurd (omega (arith, e)))
+
+pub found_after : (B : List ℕ) (l : Level) (o : ℕ) → l.end ≤ length B → o < l.end → IsAfter l o (found_at B l o)
+found_after B l o within inside = let own =
+    take l.end B in found_of_after own l o (code_at own o) (length-take-le l.end B within) inside
     (head own o).outcome refl
 
 -- each step goes on
 pub step_goes_on : (B : List ℕ) (l : Level) (o : ℕ) → l.end ≤ length B → o < l.end → GoesOn l o (step B l o)
 step_goes_on B l o within inside =
-    let p = place B l o in
-    let after = place_after B l o within inside in
-    place_goes_on l o p (words B p.content p.end) (step B l o) refl after.0 after.1 after.2
+    let x = found_at B l o in
+    let after = found_after B l o within inside in
+    found_goes_on l o x after.0 after.1 after.2 (words B (content_begin x) (end_within l x)) (step B l o) refl
 
 module _ (B : List ℕ) where
   -- the boxes after a step, by two ways to find boxes that agree where it leads

@@ -11,15 +11,14 @@ use Rattle.mp4_frame.specs.Heads.{frame}
 use Rattle.mp4_frame.specs.Reading.{Fault}
 use Rattle.mp4_frame.specs.declared.frame.Frame.{Frame}
 use Rattle.mp4_frame.specs.declared.four_cc.FourCC.{FourCC}
-use Rattle.mp4_tree.specs.Place.{place}
+use Rattle.mp4_tree.specs.Found.{found_at, end_within}
 use Rattle.mp4_tree.specs.Tops.{Span, span_of, framed, frames_at_most, top_frames, is_whole, place_of, top_box}
 use Rattle.mp4_tree.specs.Tops.{top_boxes}
-use Rattle.mp4_tree.specs.Tree.{four_cc, step, boxes_after, boxes_by, boxes_at_most, boxes_of, top}
+use Rattle.mp4_tree.specs.Tree.{step, boxes_after, boxes_by, boxes_at_most, boxes_of, top}
 use Rattle.mp4_tree.specs.declared.level.Level.{Level}
-use Rattle.mp4_tree.specs.declared.place.Place.{Place}
 use Rattle.mp4_tree.specs.declared.step.Step.{Step}
 use Rattle.mp4_tree.specs.declared.tree_box.TreeBox.{TreeBox}
-use Rattle.mp4_tree.proofs.Frames.{LeadsTo, IsStepOf, IsOfFrame, IsOfNone, step_is, place_whole, place_none}
+use Rattle.mp4_tree.proofs.Frames.{LeadsTo, IsStepOf, IsOfFrame, IsOfNone, step_is, found_whole, found_none}
 
 -- a box that is deeper is none of the top level
 deep_box : (x : TreeBox) → 0 < x.depth → top_box x ≡ []
@@ -34,13 +33,13 @@ unfolding boxes_at_most
 no_tops B zero l o h = refl
 no_tops B (suc n) l o h =
     let s = step B l o in
-    let p = place B l o in
-    let is : IsStepOf l o p s = step_is B l o in
+    let x = found_at B l o in
+    let is : IsStepOf l o x s = step_is B l o in
     let first : top_box s.found ≡ [] = deep_box s.found (omega (arith, is.depth, h)) in
-    let after : (inner : Option Level) → LeadsTo l p s.at inner
+    let after : (inner : Option Level) → LeadsTo l x s.at inner
     → top_boxes (boxes_after (λ m e. boxes_at_most n B m e) s.level s.at inner) ≡ [] =
     λ inner. elim inner as
-    (λ i. LeadsTo l p s.at i → top_boxes (boxes_after (λ m e. boxes_at_most n B m e) s.level s.at i) ≡ []) [
+    (λ i. LeadsTo l x s.at i → top_boxes (boxes_after (λ m e. boxes_at_most n B m e) s.level s.at i) ≡ []) [
       | None ↦ (λ _. no_tops B n s.level s.at (omega (arith, is.level_depth, h)))
       | Some m ↦ (λ deeper.
           none_of_both (boxes_at_most n B m s.at) (boxes_at_most n B s.level m.end)
@@ -77,23 +76,23 @@ module _ (B : List ℕ) (short : length B < 2 ^ 64) (n : ℕ)
   boxes m e = boxes_at_most n B m e
 
   -- after a step the walk goes on after its box
-  after_step : (l m : Level) (p : Place) (at : ℕ) → l.depth ≡ 0 → l.end ≡ length B → m.depth ≡ 0 → m.end ≡ length B
-      → (inner : Option Level) → LeadsTo l p at inner
-      → top_boxes (boxes_after boxes m at inner) ≡ frames_at_most n B p.end
-  after_step l m p at top ends depth end None leads = ih m at depth end ∙ ap (λ (e : ℕ). frames_at_most n B e) leads
-  after_step l m p at top ends depth end (Some i) leads =
+  after_step : (l m : Level) (x : TreeBox) (at : ℕ) → l.depth ≡ 0 → l.end ≡ length B → m.depth ≡ 0 → m.end ≡ length B
+      → (inner : Option Level) → LeadsTo l x at inner
+      → top_boxes (boxes_after boxes m at inner) ≡ frames_at_most n B (end_within l x)
+  after_step l m x at top ends depth end None leads = ih m at depth end ∙ ap (λ (e : ℕ). frames_at_most n B e) leads
+  after_step l m x at top ends depth end (Some i) leads =
       flat_map-append top_box (boxes i at) (boxes m i.end)
       ∙ ap (λ (zs : List Span). zs ++ top_boxes (boxes m i.end)) (no_tops B n i at (omega (arith, leads.0)))
       ∙ ih m i.end depth end
       ∙ ap (λ (e : ℕ). frames_at_most n B e) leads.1
 
-  by_whole : (l : Level) (o : ℕ) (p : Place) (s : Step) → l.depth ≡ 0 → l.end ≡ length B → IsStepOf l o p s → (w : Bool)
-      → is_whole p.what ≡ w
-      → (is_whole p.what ≡ true → IsOfFrame o p (frame B o)) → (is_whole p.what ≡ false → IsOfNone l.end p (frame B o))
+  by_whole : (l : Level) (o : ℕ) (x : TreeBox) (s : Step) → l.depth ≡ 0 → l.end ≡ length B → IsStepOf l o x s → (w : Bool)
+      → is_whole x.what ≡ w
+      → (is_whole x.what ≡ true → IsOfFrame l o x (frame B o)) → (is_whole x.what ≡ false → IsOfNone l x (frame B o))
       → top_boxes (boxes_by boxes s) ≡ framed (λ e. frames_at_most n B e) o (frame B o)
-  by_whole l o p s top ends is true w whole none =
+  by_whole l o x s top ends is true w whole none =
       let f = whole w in
-      let code : s.found.code ≡ Some (four_cc_of f.0.code) = is.code ∙ ap four_cc f.2 in
+      let code : s.found.code ≡ Some (four_cc_of f.0.code) = is.code ∙ f.2 in
       let here : top_box s.found ≡ span_of o f.0 ∷ [] =
       whole_box s.found (four_cc_of f.0.code) (is.depth ∙ top) (is.whole ∙ w) code
       ∙ ap (λ (k : ℕ). record { position = k; length = s.found.length; code = four_cc_of f.0.code } ∷ [])
@@ -102,14 +101,14 @@ module _ (B : List ℕ) (short : length B < 2 ^ 64) (n : ℕ)
       (is.long ∙ f.3) in
       ap (λ (zs : List Span). zs ++ top_boxes (boxes_after boxes s.level s.at s.inner)) here
       ∙ ap (λ (zs : List Span). span_of o f.0 ∷ zs)
-      (after_step l s.level p s.at top ends (is.level_depth ∙ top) (is.level_end ∙ ends) s.inner is.leads)
+      (after_step l s.level x s.at top ends (is.level_depth ∙ top) (is.level_end ∙ ends) s.inner is.leads)
       ∙ ap (λ (e : ℕ). span_of o f.0 ∷ frames_at_most n B e) f.4
       ∙ ap (λ (r : Result Frame Fault). framed (λ e. frames_at_most n B e) o r) (sym f.1)
-  by_whole l o p s top ends is false w whole none =
+  by_whole l o x s top ends is false w whole none =
       let k = none w in
       ap (λ (zs : List Span). zs ++ top_boxes (boxes_after boxes s.level s.at s.inner))
       (not_whole s.found (is.whole ∙ w))
-      ∙ after_step l s.level p s.at top ends (is.level_depth ∙ top) (is.level_end ∙ ends) s.inner is.leads
+      ∙ after_step l s.level x s.at top ends (is.level_depth ∙ top) (is.level_end ∙ ends) s.inner is.leads
       ∙ ap (λ (e : ℕ). frames_at_most n B e) (k.1 ∙ ends)
       ∙ frames_over B n
       ∙ ap (λ (r : Result Frame Fault). framed (λ e. frames_at_most n B e) o r) (sym k.0.1)
@@ -117,13 +116,13 @@ module _ (B : List ℕ) (short : length B < 2 ^ 64) (n : ℕ)
   pub same_here : (l : Level) (o : ℕ) → l.depth ≡ 0 → l.end ≡ length B → o < length B
       → top_boxes (boxes_by boxes (step B l o)) ≡ framed (λ e. frames_at_most n B e) o (frame B o)
   same_here l o top ends inside =
-      let p = place B l o in
+      let x = found_at B l o in
       let all : take l.end B ≡ B = take_all l.end B (omega (arith, ends)) in
-      by_whole l o p (step B l o) top ends (step_is B l o) (is_whole p.what) refl
-      (λ w. subst (λ (xs : List ℕ). IsOfFrame o p (frame xs o)) all
-      (place_whole B short l o (omega (arith, ends)) (omega (arith, ends)) w))
-      (λ w. subst (λ (xs : List ℕ). IsOfNone l.end p (frame xs o)) all
-      (place_none B short l o (omega (arith, ends)) (omega (arith, ends)) top w))
+      by_whole l o x (step B l o) top ends (step_is B l o) (is_whole x.what) refl
+      (λ w. subst (λ (xs : List ℕ). IsOfFrame l o x (frame xs o)) all
+      (found_whole B short l o (omega (arith, ends)) (omega (arith, ends)) w))
+      (λ w. subst (λ (xs : List ℕ). IsOfNone l x (frame xs o)) all
+      (found_none B short l o (omega (arith, ends)) (omega (arith, ends)) top w))
 
 cond_same : (b c : Bool) (xs : List TreeBox) (ys : List Span) → b ≡ c → (c ≡ false → top_boxes xs ≡ ys)
     → top_boxes (cond b [] xs) ≡ cond c [] ys

@@ -1,23 +1,25 @@
 -- What a window on the bytes of a source shows of the box at its front.
 use Rattle.std.proofs.Common.{◌≡◌, ℕ, ◌+◌, ◌-◌, ◌<◌, ◌≤◌, Bool, true, false, cond, List, ◌++◌, length, take, drop, min}
-use Rattle.std.proofs.Common.{None, Some, Result, refl, sym, ap, ◌∙◌, arith, subst, inl, inr}
+use Rattle.std.proofs.Common.{None, Some, Result, Ok, Err, refl, sym, ap, ◌∙◌, arith, subst, inl, inr}
 use Rattle.std.specs.Prelude.{nat_lt, nat_le, ◌==◌, ◌||◌}
 use Rattle.std.specs.declared.option.Option.{Option}
 use Rattle.std.proofs.lemmas.Bool.{lt-ltb, le-ltb, ltb-false, cases_lt}
 use Rattle.std.proofs.lemmas.List.{take-append-drop, length-take-le, length-drop, drop-take, take-take, drop-drop}
 use Rattle.mp4_frame.specs.Bytes.{number}
+use Rattle.mp4_frame.specs.FourCC.{four_cc_of}
 use Rattle.mp4_frame.specs.Heads.{head}
 use Rattle.mp4_frame.specs.Reading.{Fault, Reading, check, done, ◌>>=◌}
+use Rattle.mp4_frame.specs.declared.four_cc.FourCC.{FourCC}
 use Rattle.mp4_frame.specs.declared.head.Head.{Head}
 use Rattle.mp4_frame.proofs.Checks.{guard}
 use Rattle.mp4_frame.proofs.Numbers.{number-among}
-use Rattle.mp4_tree.specs.Place.{code_at, later, place_of, place}
+use Rattle.mp4_tree.specs.Found.{code_at, later, found_of, found_at, content_begin, end_within}
 use Rattle.mp4_tree.specs.Source.{IsWindow}
 use Rattle.mp4_tree.specs.Tree.{step_of, step}
 use Rattle.mp4_tree.specs.Words.{number_in, words}
 use Rattle.mp4_tree.specs.declared.level.Level.{Level}
-use Rattle.mp4_tree.specs.declared.place.Place.{Place}
 use Rattle.mp4_tree.specs.declared.step.Step.{Step}
+use Rattle.mp4_tree.specs.declared.tree_box.TreeBox.{TreeBox}
 use Rattle.mp4_tree.specs.declared.words.Words.{Words}
 
 -- a part of a window is a window
@@ -87,6 +89,24 @@ same_shape true b2 s t c d g f o first second = refl
 same_shape false true s t c d g f o first second = rw ((first refl).0, (first refl).1) refl
 same_shape false false s t c d g f o first second = rw ((first refl).0, (first refl).1, second refl) refl
 
+-- a header has 16 bytes at most
+abbrev pub IsNear : ℕ → Result Head Fault → Type 0
+IsNear o (Ok h) = h.start ≤ o + 8
+IsNear o (Err _) = Unit {0}
+
+shape_near : (b1 one b2 fine : Bool) (s c g o : ℕ) → IsNear o (shape b1 one b2 fine s c g o).outcome
+shape_near true one b2 fine s c g o = tt
+shape_near false true true fine s c g o = tt
+shape_near false true false true s c g o = omega arith
+shape_near false true false false s c g o = tt
+shape_near false false b2 fine s c g o = omega arith
+
+pub head_near : (B : List ℕ) (o : ℕ) (r : Result Head Fault) → (head B o).outcome ≡ r → IsNear o r
+head_near B o r is =
+    subst (IsNear o) (ap (λ (r : Reading Head). r.outcome) (sym (head_shape B o)) ∙ is)
+    (shape_near (nat_lt (length B) (o + 8)) (number B o 4 == 1) (nat_lt (length B) (o + 8 + 8))
+    (is_fine (number B (o + 8) 8)) (number B o 4) (number B (o + 4) 4) (number B (o + 8) 8) o)
+
 -- a window of 16 bytes at least, or of as many as there are, shows the head
 head_window : (B W : List ℕ) (o : ℕ) → IsWindow B o W → o ≤ length B → length W ≤ length B - o
     → (length W < 16 → length W ≡ length B - o)
@@ -117,7 +137,8 @@ head_window B W o h inside most least =
     (number B o 4) (number B (o + 4) 4) (number B (o + 8) 8) o).outcome) b2
     ∙ ap (λ (r : Reading Head). r.outcome) (sym (head_shape B o))
 
-code_by : (b c : Bool) (m n : ℕ) → b ≡ c → (b ≡ false → m ≡ n) → cond b None (Some m) ≡ cond c None (Some n)
+code_by : (b c : Bool) (m n : ℕ) → b ≡ c → (b ≡ false → m ≡ n)
+    → cond b None (Some (four_cc_of m)) ≡ cond c None (Some (four_cc_of n))
 code_by true c m n e f = rw (sym e) refl
 code_by false c m n e f = rw (sym e, f refl) refl
 
@@ -150,14 +171,14 @@ module _ (B W : List ℕ) (l : Level) (o : ℕ) (window : IsWindow B o W) (withi
       ∙ take-take (length W) m (drop o B) (omega arith)
       ∙ window
 
-  same_place : place_of l o (code_at W 0) (later o (head W 0).outcome) ≡ place B l o
-  same_place =
+  same_found : found_of l o (code_at W 0) (later o (head W 0).outcome) ≡ found_at B l o
+  same_found =
       let most : length W ≤ length own - o = omega (arith, length_own) in
       let least : length W < 16 → length W ≡ length own - o = λ lt. omega (arith, length_own, lt) in
       let here : o ≤ length own = omega (arith, length_own) in
-      ap (λ (c : Option ℕ). place_of l o c (later o (head W 0).outcome))
+      ap (λ (c : Option FourCC). found_of l o c (later o (head W 0).outcome))
       (code_window own W o own_window here most least)
-      ∙ ap (λ (r : Result Head Fault). place_of l o (code_at own o) r) (head_window own W o own_window here most least)
+      ∙ ap (λ (r : Result Head Fault). found_of l o (code_at own o) r) (head_window own W o own_window here most least)
 
   same_number : (end j n w : ℕ) → n ≡ o + j → j + w ≤ 28 → o ≤ end → end ≤ l.end
       → number_in W (end - o) j w ≡ number_in B end n w
@@ -169,13 +190,14 @@ module _ (B W : List ℕ) (l : Level) (o : ℕ) (window : IsWindow B o W) (withi
       sym (ap (λ (i : ℕ). number B i w) is
       ∙ number_window B W o j w window (omega arith) (omega (arith, room, short, most))))
 
-  same_words : (p : Place) → o < p.content → p.content ≤ o + 16 → o ≤ p.end → p.end ≤ l.end
-      → words W (p.content - o) (p.end - o) ≡ words B p.content p.end
-  same_words p after near on most =
-      let a = same_number p.end (p.content - o) p.content 4 (omega arith) (omega arith) on most in
-      let b = same_number p.end (p.content - o + 4) (p.content + 4) 4 (omega arith) (omega arith) on most in
-      let c = same_number p.end (p.content - o + 8) (p.content + 8) 4 (omega arith) (omega arith) on most in
-      let d = same_number p.end (p.content - o + 8) (p.content + 8) 2 (omega arith) (omega arith) on most in
+  -- in a content after this many bytes of a header
+  same_words : (header end : ℕ) → header ≤ 16 → o ≤ end → end ≤ l.end
+      → words W header (end - o) ≡ words B (o + header) end
+  same_words header end near on most =
+      let a = same_number end header (o + header) 4 refl (omega arith) on most in
+      let b = same_number end (header + 4) (o + header + 4) 4 (omega arith) (omega arith) on most in
+      let c = same_number end (header + 8) (o + header + 8) 4 (omega arith) (omega arith) on most in
+      let d = same_number end (header + 8) (o + header + 8) 2 (omega arith) (omega arith) on most in
       rw (a, b, c, d) refl
 
 none_by : (bytes : List ℕ) (end o w : ℕ) → end < o + w → number_in bytes end o w ≡ 0
@@ -191,18 +213,24 @@ no_words bytes content end h =
     rw (a, b, c, d) refl
 
 -- the step by what the window shows is that of the bytes
-pub step_window : (B W V : List ℕ) (l : Level) (o : ℕ) (p : Place) (w : Words) (s : Step) → V ≡ W → IsWindow B o W
+pub step_window : (B W V : List ℕ) (l : Level) (o : ℕ) (x : TreeBox) (w : Words) (s : Step) → V ≡ W → IsWindow B o W
     → l.end ≤ length B → o < l.end → length W ≡ min (l.end - o) 28
-    → p ≡ place_of l o (code_at V 0) (later o (head V 0).outcome) → o < p.content → p.content ≤ p.end → p.end ≤ l.end
-    → (p.content < p.end → p.content ≤ o + 16)
-    → w ≡ words V (p.content - o) (p.end - o) → s ≡ step_of l o p w → s ≡ step B l o
-step_window B W V l o p w s same window within inside long is after on most near reads steps =
-    let here : p ≡ place B l o = is ∙ ap (λ (U : List ℕ). place_of l o (code_at U 0) (later o (head U 0).outcome)) same
-    ∙ same_place B W l o window within inside long in
-    let shown : words V (p.content - o) (p.end - o) ≡ words B p.content p.end = elim (cases_lt p.content p.end) [
-      | inl lt ↦ ap (λ (U : List ℕ). words U (p.content - o) (p.end - o)) same
-          ∙ same_words B W l o window within inside long p after (near lt) (omega arith) most
-      | inr le ↦ no_words V (p.content - o) (p.end - o) (omega (arith, le)) ∙ sym (no_words B p.content p.end le)
+    → x ≡ found_of l o (code_at V 0) (later o (head V 0).outcome) → x.position ≡ o → content_begin x ≤ end_within l x
+    → (content_begin x < end_within l x → x.header_length ≤ 16)
+    → w ≡ words V x.header_length (end_within l x - o) → s ≡ step_of l x w → s ≡ step B l o
+step_window B W V l o x w s same window within inside long is here on near reads steps =
+    let end = end_within l x in
+    let found : x ≡ found_at B l o =
+    is ∙ ap (λ (U : List ℕ). found_of l o (code_at U 0) (later o (head U 0).outcome)) same
+    ∙ same_found B W l o window within inside long in
+    let shown : words V x.header_length (end - o) ≡ words B (o + x.header_length) end =
+    elim (cases_lt (content_begin x) end) [
+      | inl lt ↦ ap (λ (U : List ℕ). words U x.header_length (end - o)) same
+          ∙ same_words B W l o window within inside long x.header_length end (near lt) (omega (arith, here, on))
+          (omega arith)
+      | inr le ↦ no_words V x.header_length (end - o) (omega (arith, le, here))
+          ∙ sym (no_words B (o + x.header_length) end (omega (arith, le, here)))
     ] in
-    steps ∙ ap (λ (v : Words). step_of l o p v) (reads ∙ shown)
-    ∙ ap (λ (q : Place). step_of l o q (words B q.content q.end)) here
+    steps ∙ ap (λ (v : Words). step_of l x v)
+    (reads ∙ shown ∙ ap (λ (k : ℕ). words B (k + x.header_length) end) (sym here))
+    ∙ ap (λ (y : TreeBox). step_of l y (words B (content_begin y) (end_within l y))) found

@@ -4,36 +4,18 @@
 use Rattle.std.specs.Prelude.{◌≡◌, ℕ, zero, suc, ◌+◌, ◌-◌, ◌<◌, ◌≤◌, nat_lt, nat_le, false, List, [], ◌∷◌, ◌++◌, length}
 use Rattle.std.specs.Prelude.{None, Some, if◌then◌else◌}
 use Rattle.std.specs.declared.option.Option.{Option}
-use Rattle.mp4_frame.specs.FourCC.{four_cc_of}
+use Rattle.mp4_frame.specs.FourCC.{number_of}
 use Rattle.mp4_frame.specs.declared.four_cc.FourCC.{FourCC}
+use Rattle.mp4_tree.specs.Found.{found_at, content_begin, end_within}
 use Rattle.mp4_tree.specs.Kinds.{fields_before, level_after}
-use Rattle.mp4_tree.specs.Place.{place}
 use Rattle.mp4_tree.specs.Words.{words}
 use Rattle.mp4_tree.specs.declared.level.Level.{Level}
-use Rattle.mp4_tree.specs.declared.place.Place.{Place}
 use Rattle.mp4_tree.specs.declared.step.Step.{Step}
 use Rattle.mp4_tree.specs.declared.step.TheConstants as constants
 use Rattle.mp4_tree.specs.declared.tree_box.TreeBox.{TreeBox}
 use Rattle.mp4_tree.specs.declared.tree_box.What.{What}
 use Rattle.mp4_tree.specs.declared.tree_box.What.TheVariants as what
 use Rattle.mp4_tree.specs.declared.words.Words.{Words}
-
-abbrev pub four_cc : Option ℕ → Option FourCC
-four_cc None = None
-four_cc (Some code) = Some (four_cc_of code)
-
--- what is at o
-abbrev pub found_at : Level → ℕ → Place → Option ℕ → What → TreeBox
-found_at l o p children why = record {
-  depth = l.depth;
-  code = four_cc p.code;
-  position = o;
-  header_length = p.content - o;
-  length = p.length;
-  children = children;
-  what = why;
-  setting = l.setting;
-}
 
 -- a box that holds boxes is a parent if it is whole; if it is cut, it is that
 abbrev pub if_whole : What → What → What
@@ -49,45 +31,47 @@ level_in l code end =
       setting = record { parent = code; handler = l.setting.handler; is_quicktime = l.setting.is_quicktime };
     }
 
--- a place that is not gone into: the walk goes on after it
-abbrev pub passed : Level → ℕ → Place → What → Level → Step
-passed l o p why after = record { found = found_at l o p None why; level = after; inner = None; at = p.end }
+-- what is not gone into: the walk goes on after it
+abbrev pub passed : Level → TreeBox → Level → Step
+passed l x after = record { found = x; level = after; inner = None; at = end_within l x }
 
 -- a box with boxes after n bytes of fields: the walk goes on in it
-abbrev pub entered : Level → ℕ → Place → ℕ → ℕ → Level → Step
-entered l o p code n after = record {
-  found = found_at l o p (Some (p.content + n)) (if_whole what.Parent p.what);
-  level = after;
-  inner = Some (level_in l code p.end);
-  at = p.content + n;
-}
+abbrev pub entered : Level → TreeBox → ℕ → ℕ → Level → Step
+entered l x code n after =
+    let children = content_begin x + n in
+    record {
+      found = record x { children = Some children; what = if_whole what.Parent x.what };
+      level = after;
+      inner = Some (level_in l code (end_within l x));
+      at = children;
+    }
 
-abbrev pub step_by : Level → ℕ → Place → ℕ → Level → Option ℕ → Step
-step_by l o p code after None = passed l o p p.what after
-step_by l o p code after (Some n) =
-    if nat_lt l.depth constants.DEEPEST then entered l o p code n after else passed l o p
-    (if_whole what.TooDeep p.what) after
+abbrev pub step_by : Level → TreeBox → ℕ → Level → Option ℕ → Step
+step_by l x code after None = passed l x after
+step_by l x code after (Some n) =
+    if nat_lt l.depth constants.DEEPEST then entered l x code n after else
+    passed l (record x { what = if_whole what.TooDeep x.what }) after
 
 -- the step at a box of this code: it is gone into if it holds boxes, and its level is not too deep
-abbrev pub step_of_box : Level → ℕ → Place → ℕ → Words → Step
-step_of_box l o p code w =
-    step_by l o p code (level_after l code w) (fields_before l.setting code w (p.end - p.content))
+abbrev pub step_of_box : Level → TreeBox → ℕ → Words → Step
+step_of_box l x code w =
+    step_by l x code (level_after l code w) (fields_before l.setting code w (end_within l x - content_begin x))
 
-abbrev pub step_of_code : Level → ℕ → Place → Words → Option ℕ → Step
-step_of_code l o p w None = passed l o p p.what l
-step_of_code l o p w (Some code) = step_of_box l o p code w
+abbrev pub step_of_code : Level → TreeBox → Words → Option FourCC → Step
+step_of_code l x w None = passed l x l
+step_of_code l x w (Some code) = step_of_box l x (number_of code) w
 
-abbrev pub step_of_what : Level → ℕ → Place → Words → What → Step
-step_of_what l o p w what.Small = passed l o p p.what l
-step_of_what l o p w what.NoHeader = passed l o p p.what l
-step_of_what l o p w _ = step_of_code l o p w p.code
+abbrev pub step_of_what : Level → TreeBox → Words → What → Step
+step_of_what l x w what.Small = passed l x l
+step_of_what l x w what.NoHeader = passed l x l
+step_of_what l x w _ = step_of_code l x w x.code
 
-abbrev pub step_of : Level → ℕ → Place → Words → Step
-step_of l o p w = step_of_what l o p w p.what
+abbrev pub step_of : Level → TreeBox → Words → Step
+step_of l x w = step_of_what l x w x.what
 
 -- the step at o
 abbrev pub step : List ℕ → Level → ℕ → Step
-step B l o = let p = place B l o in step_of l o p (words B p.content p.end)
+step B l o = let x = found_at B l o in step_of l x (words B (content_begin x) (end_within l x))
 
 -- where the walk goes on is in the level inside, or in the level itself
 abbrev pub StaysIn : ℕ → ℕ → Option Level → Type 0

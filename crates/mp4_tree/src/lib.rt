@@ -4,13 +4,13 @@
 
 mod content;
 mod finding;
+mod found;
 mod kinds;
 pub mod laws;
 mod level;
 mod name;
 mod pages;
 mod path;
-mod place;
 mod search;
 mod setting;
 mod source;

@@ -1,19 +1,19 @@
 //! One step of the walk: what is at a position, and where the walk goes on.
 
 ghost use Rattle.std.specs.Prelude.{◌≡◌, ℕ, ◌+◌, ◌-◌, ◌<◌, ◌≤◌, List, length, min, IfOk, IfSome};
+ghost use Rattle.mp4_tree.specs.Found.{content_begin, end_within};
 ghost use Rattle.mp4_tree.specs.Source.{IsWindow};
-ghost use Rattle.mp4_tree.specs.Tree.{four_cc, found_at, if_whole, level_in, passed, entered, step_of_box, step_of};
-ghost use Rattle.mp4_tree.specs.Tree.{step, GoesDeeper, GoesOn};
+ghost use Rattle.mp4_tree.specs.Tree.{if_whole, level_in, passed, entered, step_of_box, step_of, step};
+ghost use Rattle.mp4_tree.specs.Tree.{GoesDeeper, GoesOn};
 
+use crate::found::{end_within, found_at};
 use crate::kinds::{fields_before, level_after};
 use crate::level::Level;
 use crate::pages::Pages;
-use crate::place::{Place, place_at};
 use crate::setting::Setting;
 use crate::source::Source;
 use crate::tree_box::{TreeBox, What};
 use crate::words::{Words, words_at};
-use mp4_frame::FourCC;
 use std::io;
 
 /// A box of this depth is shown, and not gone into.
@@ -30,33 +30,6 @@ pub struct Step {
     pub inner: Option<Level>,
     /// The position at which the walk goes on: in the content of the box, or after the box.
     pub at: u64,
-}
-
-/// The code as its four characters.
-fn four_cc(code: Option<u32>) -> Option<FourCC>
-    ensures { result ≡ four_cc code }
-{
-    match code {
-        Some(code) => Some(FourCC::from(code)),
-        None => None,
-    }
-}
-
-/// What is at a position.
-fn found_at(level: Level, at: u64, place: Place, children: Option<u64>, what: What) -> TreeBox
-    requires { at ≤ place.content }
-    ensures { result ≡ found_at level at place children what }
-{
-    TreeBox {
-        depth: level.depth,
-        code: four_cc(place.code),
-        position: at,
-        header_length: place.content - at,
-        length: place.length,
-        children,
-        what,
-        setting: level.setting,
-    }
 }
 
 /// What a box is called that is known to hold boxes: this if it is whole.
@@ -85,60 +58,61 @@ fn level_in(level: Level, code: u32, end: u64) -> Level
 }
 
 /// The step at what is not gone into.
-fn passed(level: Level, at: u64, place: Place, what: What, after: Level) -> Step
-    requires { at ≤ place.content }
-    ensures { result ≡ passed level at place what after }
+fn passed(level: Level, found: TreeBox, after: Level) -> Step
+    ensures { result ≡ passed level found after }
 {
     Step {
-        found: found_at(level, at, place, None, what),
+        found,
         level: after,
         inner: None,
-        at: place.end,
+        at: end_within(level, found),
     }
 }
 
 /// The step into a box of this code, whose first box is after these fields.
-fn entered(level: Level, at: u64, place: Place, code: u32, fields: u64, after: Level) -> Step
-    requires content { at ≤ place.content }
-    requires fields { place.content + fields ≤ place.end }
+fn entered(level: Level, found: TreeBox, code: u32, fields: u64, after: Level) -> Step
+    requires fields { content_begin found + fields ≤ end_within level found }
     requires depth { level.depth < 32 }
-    ensures { result ≡ entered level at place code fields after }
+    ensures { result ≡ entered level found code fields after }
 {
-    let children = place.content + fields;
-    let what = if_whole(What::Parent, place.what);
+    let children = found.position + found.header_length + fields;
     Step {
-        found: found_at(level, at, place, Some(children), what),
+        found: TreeBox {
+            children: Some(children),
+            what: if_whole(What::Parent, found.what),
+            ..found
+        },
         level: after,
-        inner: Some(level_in(level, code, place.end)),
+        inner: Some(level_in(level, code, end_within(level, found))),
         at: children,
     }
 }
 
 /// The step at a box of this code.
-fn step_of_box(level: Level, at: u64, place: Place, code: u32, words: Words) -> Step
-    requires content { at ≤ place.content }
-    requires end { place.content ≤ place.end }
-    ensures { result ≡ step_of_box level at place code words }
+fn step_of_box(level: Level, found: TreeBox, code: u32, words: Words) -> Step
+    requires { content_begin found ≤ end_within level found }
+    ensures { result ≡ step_of_box level found code words }
 {
     let after = level_after(level, code, words);
-    match fields_before(level.setting, code, words, place.end - place.content) {
-        None => passed(level, at, place, place.what, after),
-        Some(fields) if level.depth < DEEPEST => { entered(level, at, place, code, fields, after) }
-        Some(_) => passed(level, at, place, if_whole(What::TooDeep, place.what), after),
+    let room = end_within(level, found) - (found.position + found.header_length);
+    match fields_before(level.setting, code, words, room) {
+        None => passed(level, found, after),
+        Some(fields) if level.depth < DEEPEST => entered(level, found, code, fields, after),
+        Some(_) => {
+            let what = if_whole(What::TooDeep, found.what);
+            passed(level, TreeBox { what, ..found }, after)
+        }
     }
 }
 
-/// The step at a place.
-pub fn step_of(level: Level, at: u64, place: Place, words: Words) -> Step
-    requires content { at ≤ place.content }
-    requires end { place.content ≤ place.end }
-    ensures { result ≡ step_of level at place words }
+/// The step at what is found.
+fn step_of(level: Level, found: TreeBox, words: Words) -> Step
+    requires { content_begin found ≤ end_within level found }
+    ensures { result ≡ step_of level found words }
 {
-    match (place.what, place.code) {
-        (What::Small | What::NoHeader, _) | (_, None) => passed(
-            level, at, place, place.what, level,
-        ),
-        (_, Some(code)) => step_of_box(level, at, place, code, words),
+    match (found.what, found.code) {
+        (What::Small | What::NoHeader, _) | (_, None) => passed(level, found, level),
+        (_, Some(code)) => step_of_box(level, found, u32::from(code), words),
     }
 }
 
@@ -153,9 +127,9 @@ pub fn step_in(window: &[u8], level: Level, at: u64) -> Step
     ensures on { GoesOn level at result }
     ensures deep { (result.level.depth ≡ level.depth) × GoesDeeper level result.inner }
 {
-    let place = place_at(window, level, at);
-    let words = words_at(window, place.content - at, place.end - at);
-    step_of(level, at, place, words)
+    let found = found_at(window, level, at);
+    let words = words_at(window, found.header_length, end_within(level, found) - at);
+    step_of(level, found, words)
 }
 
 /// The step at a position of a level.

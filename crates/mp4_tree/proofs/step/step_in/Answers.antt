@@ -1,23 +1,26 @@
-use Rattle.std.proofs.Common.{refl}
-use Rattle.mp4_tree.proofs.Steps.{place_goes_deep, place_goes_on}
+use Rattle.std.proofs.Common.{ℕ, ◌-◌, refl, ap, ◌∙◌}
+use Rattle.mp4_tree.specs.Words.{words}
+use Rattle.mp4_tree.proofs.Steps.{found_goes_deep, found_goes_on}
 use Rattle.mp4_tree.proofs.Windows.{step_window}
 use Rattle.mp4_tree.proofs.step.step_in.Goals as goal
 
 pub returns-clause-step : goal.returns-clause-step
 returns-clause-step c B window within =
-    let p = c.place_at-place in
-    let inside = p.ensures.inside in
-    step_window B c.args.window.now c.args.window.now c.args.level c.args.at p.result c.words_at-words.result
-    c.step_of.result refl window within c.requires.inside c.requires.long p.ensures.place inside.0 inside.1 inside.2
-    p.ensures.near c.words_at-words.ensures c.step_of.ensures
+    let x = c.found_at-found in
+    let inside = x.ensures.inside in
+    step_window B c.args.window.now c.args.window.now c.args.level c.args.at x.result c.words_at-words.result
+    c.step_of.result refl window within c.requires.inside c.requires.long x.ensures.found inside.0 inside.2
+    x.ensures.near
+    (c.words_at-words.ensures
+    ∙ ap (λ (end : ℕ). words c.args.window.now x.result.header_length (end - c.args.at)) c.end_within.ensures)
+    c.step_of.ensures
 
 pub returns-clause-on : goal.returns-clause-on
 returns-clause-on c =
-    let inside = c.place_at-place.ensures.inside in
-    place_goes_on c.args.level c.args.at c.place_at-place.result c.words_at-words.result c.step_of.result
-    c.step_of.ensures inside.0 inside.1 inside.2
+    let inside = c.found_at-found.ensures.inside in
+    found_goes_on c.args.level c.args.at c.found_at-found.result inside.0 inside.1 inside.2 c.words_at-words.result
+    c.step_of.result c.step_of.ensures
 
 pub returns-clause-deep : goal.returns-clause-deep
 returns-clause-deep c =
-    place_goes_deep c.args.level c.args.at c.place_at-place.result c.words_at-words.result c.step_of.result
-    c.step_of.ensures
+    found_goes_deep c.args.level c.found_at-found.result c.words_at-words.result c.step_of.result c.step_of.ensures

@@ -1,0 +1,112 @@
+//! What is found at a position of a level: a box, or why none can be read there.
+
+ghost use Rattle.std.specs.Prelude.{◌≡◌, ◌+◌, ◌<◌, ◌≤◌, ◌&&◌, ◌||◌, nat_lt, length};
+ghost use Rattle.mp4_frame.specs.Heads.{head};
+ghost use Rattle.mp4_tree.specs.Found.{code_at, found_as, unread, found_of_head, found_of, later};
+ghost use Rattle.mp4_tree.specs.Found.{content_begin, end_within};
+
+use crate::level::Level;
+use crate::tree_box::{TreeBox, What};
+use mp4_frame::{Error, FourCC, Head, frame_of_head, u32_at};
+
+/// The code of the box whose header begins here, if the level has the 8 bytes with it.
+fn code_at(window: &[u8]) -> Option<FourCC>
+    ensures { result ≡ code_at window.now 0 }
+{
+    if window.len() < 8 {
+        return None;
+    }
+    Some(FourCC::from(u32_at(window, 4)))
+}
+
+/// What is found, with this code, header and length. Boxes in it aren't looked for yet.
+fn found_as(
+    level: Level,
+    at: u64,
+    code: Option<FourCC>,
+    header_length: u64,
+    length: u64,
+    what: What,
+) -> TreeBox
+    ensures { result ≡ found_as level at code header_length length what }
+{
+    TreeBox {
+        depth: level.depth,
+        code,
+        position: at,
+        header_length,
+        length,
+        children: None,
+        what,
+        setting: level.setting,
+    }
+}
+
+/// What can't be read as a box: all that is left of the level.
+fn unread(level: Level, at: u64, code: Option<FourCC>, what: What) -> TreeBox
+    requires inside { at ≤ level.end }
+    ensures { result ≡ unread level at code what }
+{
+    found_as(level, at, code, level.end - at, level.end - at, what)
+}
+
+/// Whether a box at this depth can't have this size: at the top level, 0 means up to the end of the file.
+fn is_too_small(depth: u64, size: u64) -> bool
+    ensures { result ≡ (nat_lt size 8 && (nat_lt 0 size || nat_lt 0 depth)) }
+{
+    size < 8 && (size > 0 || depth > 0)
+}
+
+/// What is found by the head of a box.
+fn found_of_head(level: Level, at: u64, head: Head) -> TreeBox
+    requires start { at ≤ head.start }
+    requires content { head.start + 8 ≤ level.end }
+    ensures { result ≡ found_of_head level at head }
+{
+    let code = Some(FourCC::from(head.code));
+    if is_too_small(level.depth, head.size) {
+        return unread(level, at, code, What::Small);
+    }
+    let header_length = head.start + 8 - at;
+    match frame_of_head(level.end, at, head) {
+        Ok(frame) => found_as(level, at, code, header_length, frame.end - at, What::Leaf),
+        Err(_) => found_as(
+            level,
+            at,
+            code,
+            header_length,
+            (head.start - at).saturating_add(head.size),
+            What::Cut,
+        ),
+    }
+}
+
+/// What is found at a position of a level, by the bytes there.
+pub fn found_at(window: &[u8], level: Level, at: u64) -> TreeBox
+    requires inside { at < level.end }
+    requires within { at + length window.now ≤ level.end }
+    ensures found { result ≡ found_of level at (code_at window.now 0) (later at (head window.now 0).outcome) }
+    ensures inside { (result.position ≡ at) × (0 < result.header_length)
+        × (content_begin result ≤ end_within level result) }
+    ensures near { content_begin result < end_within level result → result.header_length ≤ 16 }
+{
+    match Head::at(window, 0) {
+        Ok(head) => {
+            let head = Head {
+                code: head.code,
+                size: head.size,
+                start: head.start + at,
+            };
+            found_of_head(level, at, head)
+        }
+        Err(Error::IoError) => unread(level, at, code_at(window), What::NoHeader),
+        Err(_) => unread(level, at, code_at(window), What::Small),
+    }
+}
+
+/// The position at which a box ends in its level: that of the level's end if it comes first.
+pub fn end_within(level: Level, found: TreeBox) -> u64
+    ensures { result ≡ end_within level found }
+{
+    found.position.saturating_add(found.length).min(level.end)
+}
