@@ -6,12 +6,11 @@ use Rattle.std.specs.declared.option.Option.{Option}
 use Rattle.std.proofs.lemmas.Bool.{cond_both, and_parts, ltb-true, ltb-false, lt-ltb, le-ltb, ne_eqb, cases_lt}
 use Rattle.std.proofs.lemmas.List.{length-take-le}
 use Rattle.mp4_frame.specs.FourCC.{four_cc_of, number_of}
-use Rattle.mp4_frame.specs.Heads.{head, frame_up_to, frame_of_head, frame_of, frame}
+use Rattle.mp4_frame.specs.Heads.{head, end_in, frame_of_head, frame_of, frame}
 use Rattle.mp4_frame.specs.Reading.{Fault, FaultAs, End, Invalid, NotFound}
 use Rattle.mp4_frame.specs.declared.error.Error.{Error}
 use Rattle.mp4_frame.specs.declared.four_cc.FourCC.{FourCC}
 use Rattle.mp4_frame.specs.declared.frame.Frame.{Frame}
-use Rattle.mp4_frame.specs.declared.head.Head.{Head}
 use Rattle.mp4_frame.proofs.Heads.{head_room}
 use Rattle.mp4_tree.specs.Found.{code_at, found_as, unread, found_of_head, found_of, found_at, content_begin}
 use Rattle.mp4_tree.specs.Found.{end_within}
@@ -112,7 +111,7 @@ module _ (l : Level) (o : ℕ) (x : TreeBox) (here : IsAt l o x) where
   step_of_what_is w what.TooDeep e = step_of_code_is w (ap is_read e) x.code
   step_of_what_is w what.Cut e = step_of_code_is w (ap is_read e) x.code
 
-head_is_at : (l : Level) (o : ℕ) (h : Head) → o ≤ h.start → IsAt l o (found_of_head l o h)
+head_is_at : (l : Level) (o : ℕ) (h : Frame) → o ≤ h.start → IsAt l o (found_of_head l o h)
 unfolding found_of_head
 head_is_at l o h from =
     cond_both ((h.size == 0) && (l.depth == 0)) _ _ (IsAt l o)
@@ -123,7 +122,7 @@ head_is_at l o h from =
     (λ _. record { depth = refl; position = refl; header = λ _. omega arith })
     (λ _. record { depth = refl; position = refl; header = λ _. omega arith })))
 
-is_at_by : (own : List ℕ) (l : Level) (o : ℕ) (code : Option FourCC) (r : Result Head Fault) → (head own o).outcome ≡ r
+is_at_by : (own : List ℕ) (l : Level) (o : ℕ) (code : Option FourCC) (r : Result Frame Fault) → (head own o).outcome ≡ r
     → IsAt l o (found_of l o code r)
 is_at_by own l o code (Ok h) is = head_is_at l o h (head_room own o h is).0
 is_at_by own l o code (Err End) is = record { depth = refl; position = refl; header = λ e. absurd cc }
@@ -140,40 +139,41 @@ step_is B l o =
 
 -- what is found is a frame
 abbrev pub IsOfFrame : Level → ℕ → TreeBox → Result Frame Fault → Type 0
-IsOfFrame l o x r = (f : Frame) × (r ≡ Ok f) × (x.code ≡ Some (four_cc_of f.code)) × (x.length ≡ f.end - o)
-    × (end_within l x ≡ f.end)
+IsOfFrame l o x r = (f : Frame) × (r ≡ Ok f) × (x.code ≡ Some (four_cc_of f.code)) × (x.length ≡ end_in f - o)
+    × (end_within l x ≡ end_in f)
 
 -- there is no frame, and the level ends
 abbrev pub IsOfNone : Level → TreeBox → Result Frame Fault → Type 0
 IsOfNone l x r = ((k : Fault) × (r ≡ Err k)) × (end_within l x ≡ l.end)
 
-frame_to_the_end : (len o : ℕ) (h : Head) → (h.size == 0) ≡ true → frame_of_head len o h ≡ Ok (frame_up_to o h len)
+frame_to_the_end : (len : ℕ) (h : Frame) → (h.size == 0) ≡ true
+    → frame_of_head len h ≡ Ok (record h { size = len - h.start })
 unfolding frame_of_head
-frame_to_the_end len o h t = rw t refl
+frame_to_the_end len h t = rw t refl
 
-frame_of_size : (len o : ℕ) (h : Head) → (h.size == 0) ≡ false → nat_lt h.size 8 ≡ false
+frame_of_size : (len : ℕ) (h : Frame) → (h.size == 0) ≡ false → nat_lt h.size 8 ≡ false
     → nat_lt (2 ^ 64 - 1) (h.start + h.size) ≡ false → nat_lt len (h.start + h.size) ≡ false
-    → frame_of_head len o h ≡ Ok (frame_up_to o h (h.start + h.size))
+    → frame_of_head len h ≡ Ok h
 unfolding frame_of_head
-frame_of_size len o h a b c d = rw (a, b, c, d) refl
+frame_of_size len h a b c d = rw (a, b, c, d) refl
 
-frame_small : (len o : ℕ) (h : Head) → (h.size == 0) ≡ false → nat_lt h.size 8 ≡ true
-    → frame_of_head len o h ≡ Err Invalid
+frame_small : (len : ℕ) (h : Frame) → (h.size == 0) ≡ false → nat_lt h.size 8 ≡ true
+    → frame_of_head len h ≡ Err Invalid
 unfolding frame_of_head
-frame_small len o h a b = rw (a, b) refl
+frame_small len h a b = rw (a, b) refl
 
-frame_cut : (len o : ℕ) (h : Head) → (h.size == 0) ≡ false → nat_lt h.size 8 ≡ false
-    → nat_lt len (h.start + h.size) ≡ true → (k : Fault) × (frame_of_head len o h ≡ Err k)
+frame_cut : (len : ℕ) (h : Frame) → (h.size == 0) ≡ false → nat_lt h.size 8 ≡ false
+    → nat_lt len (h.start + h.size) ≡ true → (k : Fault) × (frame_of_head len h ≡ Err k)
 unfolding frame_of_head
-frame_cut len o h a b c =
+frame_cut len h a b c =
     cond_both (nat_lt (2 ^ 64 - 1) (h.start + h.size)) (Err Invalid) (Err End)
-    (λ (r : Result Frame Fault). (frame_of_head len o h ≡ r) → (k : Fault) × (frame_of_head len o h ≡ Err k))
+    (λ (r : Result Frame Fault). (frame_of_head len h ≡ r) → (k : Fault) × (frame_of_head len h ≡ Err k))
     (λ _ e. (Invalid, e)) (λ _ e. (End, e)) (rw (a, b, c) refl)
 
 -- what is found by a frame, or of a box that is none
-module _ (l : Level) (o : ℕ) (h : Head) where
+module _ (l : Level) (o : ℕ) (h : Frame) where
   abbrev pub found_by : Result Frame Fault → TreeBox
-  found_by (Ok f) = found_as l o (Some (four_cc_of h.code)) (h.start + 8 - o) (f.end - o) what.Leaf
+  found_by (Ok f) = found_as l o (Some (four_cc_of h.code)) (h.start + 8 - o) (end_in f - o) what.Leaf
   found_by (Err k) =
       found_as l o (Some (four_cc_of h.code)) (h.start + 8 - o) (min (h.start + h.size - o) (2 ^ 64 - 1)) what.Cut
 
@@ -215,7 +215,7 @@ module _ (l : Level) (o : ℕ) (h : Head) where
   small_found small some = rw (no_top some, lt-ltb h.size 8 small) refl
 
   found_past : 8 ≤ h.size → nat_lt l.end (h.start + h.size) ≡ true → (b : Bool)
-      → nat_lt (2 ^ 64 - 1) (h.start + h.size) ≡ b → found_of_head l o h ≡ found_by (frame_of_head l.end o h)
+      → nat_lt (2 ^ 64 - 1) (h.start + h.size) ≡ b → found_of_head l o h ≡ found_by (frame_of_head l.end h)
   unfolding found_of_head frame_of_head
   found_past large far true e =
       rw (ne_eqb h.size 0 (λ z. omega (arith, z, large)), le-ltb h.size 8 large, e, far) refl
@@ -223,7 +223,7 @@ module _ (l : Level) (o : ℕ) (h : Head) where
       rw (ne_eqb h.size 0 (λ z. omega (arith, z, large)), le-ltb h.size 8 large, e, far) refl
 
   found_in_level : 8 ≤ h.size → l.end < 2 ^ 64 → h.start + h.size ≤ l.end
-      → found_of_head l o h ≡ found_by (frame_of_head l.end o h)
+      → found_of_head l o h ≡ found_by (frame_of_head l.end h)
   unfolding found_of_head frame_of_head
   found_in_level large short near =
       rw (
@@ -233,72 +233,73 @@ module _ (l : Level) (o : ℕ) (h : Head) where
         le-ltb l.end (h.start + h.size) near,
       ) refl
 
-  found_at_top : h.size ≡ 0 → l.depth ≡ 0 → found_of_head l o h ≡ found_by (frame_of_head l.end o h)
+  found_at_top : h.size ≡ 0 → l.depth ≡ 0 → h.start ≤ l.end → found_of_head l o h ≡ found_by (frame_of_head l.end h)
   unfolding found_of_head frame_of_head
-  found_at_top none top = rw (none, top) refl
+  found_at_top none top inside =
+      let whole : h.start + (l.end - h.start) ≡ l.end = omega arith in rw (none, top, whole) refl
 
   -- any other box is found as its frame is, or is cut
-  pub found_is_by : l.end < 2 ^ 64 → (8 ≤ h.size) ⊎ ((h.size ≡ 0) × (l.depth ≡ 0))
-      → found_of_head l o h ≡ found_by (frame_of_head l.end o h)
-  found_is_by short (inl large) =
+  pub found_is_by : l.end < 2 ^ 64 → h.start ≤ l.end → (8 ≤ h.size) ⊎ ((h.size ≡ 0) × (l.depth ≡ 0))
+      → found_of_head l o h ≡ found_by (frame_of_head l.end h)
+  found_is_by short inside (inl large) =
       elim (cases_lt l.end (h.start + h.size)) [
         | inl far ↦ found_past large (lt-ltb l.end (h.start + h.size) far) (nat_lt (2 ^ 64 - 1) (h.start + h.size)) refl
         | inr near ↦ found_in_level large short near
       ]
-  found_is_by short (inr none) = found_at_top none.0 none.1
+  found_is_by short inside (inr none) = found_at_top none.0 none.1 inside
 
   pub by_fault : (e : Error) (r : Result Frame Fault) → FaultAs {A = Frame} (Err e) r → found_by r ≡ found_by (Err End)
   by_fault e (Ok f) fault = absurd fault
   by_fault e (Err k) fault = refl
 
-module _ (l : Level) (o : ℕ) (h : Head) (short : l.end < 2 ^ 64) (inside : o < l.end) (from : o ≤ h.start)
+module _ (l : Level) (o : ℕ) (h : Frame) (short : l.end < 2 ^ 64) (inside : o < l.end) (from : o ≤ h.start)
     (room : h.start + 8 ≤ l.end) where
   some_size : nat_lt h.size 8 ≡ false → (h.size == 0) ≡ false
   some_size large = ne_eqb h.size 0 (λ e. let least = ltb-false h.size 8 large in absurd (omega (arith, least, e)))
 
-  head_whole : is_whole (found_of_head l o h).what ≡ true → IsOfFrame l o (found_of_head l o h) (frame_of_head l.end o h)
+  head_whole : is_whole (found_of_head l o h).what ≡ true → IsOfFrame l o (found_of_head l o h) (frame_of_head l.end h)
   unfolding found_of_head
   head_whole =
       cond_both ((h.size == 0) && (l.depth == 0)) _ _
-      (λ (x : TreeBox). is_whole x.what ≡ true → IsOfFrame l o x (frame_of_head l.end o h))
+      (λ (x : TreeBox). is_whole x.what ≡ true → IsOfFrame l o x (frame_of_head l.end h))
       (λ t _. (
-        frame_up_to o h l.end,
-        frame_to_the_end l.end o h (and_parts (h.size == 0) (l.depth == 0) t).0,
+        record h { size = l.end - h.start },
+        frame_to_the_end l.end h (and_parts (h.size == 0) (l.depth == 0) t).0,
         refl,
-        refl,
+        omega arith,
         omega arith,
       ))
       (λ _. cond_both (nat_lt h.size 8) _ _
-      (λ (x : TreeBox). is_whole x.what ≡ true → IsOfFrame l o x (frame_of_head l.end o h))
+      (λ (x : TreeBox). is_whole x.what ≡ true → IsOfFrame l o x (frame_of_head l.end h))
       (λ _ e. absurd cc)
       (λ large. cond_both (nat_lt l.end (h.start + h.size)) _ _
-      (λ (x : TreeBox). is_whole x.what ≡ true → IsOfFrame l o x (frame_of_head l.end o h))
+      (λ (x : TreeBox). is_whole x.what ≡ true → IsOfFrame l o x (frame_of_head l.end h))
       (λ _ e. absurd cc)
       (λ near _.
       let most = ltb-false l.end (h.start + h.size) near in
       let fits : nat_lt (2 ^ 64 - 1) (h.start + h.size) ≡ false =
       le-ltb (2 ^ 64 - 1) (h.start + h.size) (omega (arith, most, short)) in (
-        frame_up_to o h (h.start + h.size),
-        frame_of_size l.end o h (some_size large) large fits near,
+        h,
+        frame_of_size l.end h (some_size large) large fits near,
         refl,
         refl,
         omega (arith, most),
       ))))
 
   head_none : l.depth ≡ 0 → is_whole (found_of_head l o h).what ≡ false
-      → IsOfNone l (found_of_head l o h) (frame_of_head l.end o h)
+      → IsOfNone l (found_of_head l o h) (frame_of_head l.end h)
   unfolding found_of_head
   head_none top =
-      let Goal = λ (x : TreeBox). is_whole x.what ≡ false → IsOfNone l x (frame_of_head l.end o h) in
+      let Goal = λ (x : TreeBox). is_whole x.what ≡ false → IsOfNone l x (frame_of_head l.end h) in
       let at_top : ((h.size == 0) && (l.depth == 0)) ≡ false → (h.size == 0) ≡ false =
       rw top (zero_size (h.size == 0)) in
       cond_both ((h.size == 0) && (l.depth == 0)) _ _ Goal
       (λ _ e. absurd cc)
       (λ t. cond_both (nat_lt h.size 8) _ _ Goal
-      (λ small _. ((Invalid, frame_small l.end o h (at_top t) small), omega arith))
+      (λ small _. ((Invalid, frame_small l.end h (at_top t) small), omega arith))
       (λ large. cond_both (nat_lt l.end (h.start + h.size)) _ _ Goal
       (λ far _. let beyond =
-      ltb-true l.end (h.start + h.size) far in (frame_cut l.end o h (at_top t) large far, omega (arith, beyond)))
+      ltb-true l.end (h.start + h.size) far in (frame_cut l.end h (at_top t) large far, omega (arith, beyond)))
       (λ _ e. absurd cc)))
     where
       zero_size : (b : Bool) → (b && true) ≡ false → b ≡ false
@@ -313,8 +314,8 @@ module _ (B : List ℕ) (short : length B < 2 ^ 64) (l : Level) (o : ℕ) (withi
   long : length own ≡ l.end
   long = length-take-le l.end B within
 
-  whole_by : (code : Option FourCC) (r : Result Head Fault) → (head own o).outcome ≡ r
-      → is_whole (found_of l o code r).what ≡ true → IsOfFrame l o (found_of l o code r) (frame_of l.end o r)
+  whole_by : (code : Option FourCC) (r : Result Frame Fault) → (head own o).outcome ≡ r
+      → is_whole (found_of l o code r).what ≡ true → IsOfFrame l o (found_of l o code r) (frame_of l.end r)
   whole_by code (Ok h) is = let room =
       head_room own o h is in head_whole l o h (omega arith) inside room.0 (omega (arith, room.1, long))
   whole_by code (Err End) is = λ e. absurd cc
@@ -323,11 +324,11 @@ module _ (B : List ℕ) (short : length B < 2 ^ 64) (l : Level) (o : ℕ) (withi
 
   -- a whole box is a frame of its level
   pub found_whole : is_whole (found_at B l o).what ≡ true → IsOfFrame l o (found_at B l o) (frame own o)
-  found_whole e = subst (λ (n : ℕ). IsOfFrame l o (found_at B l o) (frame_of n o (head own o).outcome)) (sym long)
+  found_whole e = subst (λ (n : ℕ). IsOfFrame l o (found_at B l o) (frame_of n (head own o).outcome)) (sym long)
       (whole_by (code_at own o) (head own o).outcome refl e)
 
-  none_by : l.depth ≡ 0 → (code : Option FourCC) (r : Result Head Fault) → (head own o).outcome ≡ r
-      → is_whole (found_of l o code r).what ≡ false → IsOfNone l (found_of l o code r) (frame_of l.end o r)
+  none_by : l.depth ≡ 0 → (code : Option FourCC) (r : Result Frame Fault) → (head own o).outcome ≡ r
+      → is_whole (found_of l o code r).what ≡ false → IsOfNone l (found_of l o code r) (frame_of l.end r)
   none_by top code (Ok h) is = let room =
       head_room own o h is in head_none l o h (omega arith) inside room.0 (omega (arith, room.1, long)) top
   none_by top code (Err End) is = λ _. ((End, refl), omega arith)
@@ -336,5 +337,5 @@ module _ (B : List ℕ) (short : length B < 2 ^ 64) (l : Level) (o : ℕ) (withi
 
   -- where there is no whole box at the top level, there is no frame
   pub found_none : l.depth ≡ 0 → is_whole (found_at B l o).what ≡ false → IsOfNone l (found_at B l o) (frame own o)
-  found_none top e = subst (λ (n : ℕ). IsOfNone l (found_at B l o) (frame_of n o (head own o).outcome)) (sym long)
+  found_none top e = subst (λ (n : ℕ). IsOfNone l (found_at B l o) (frame_of n (head own o).outcome)) (sym long)
       (none_by top (code_at own o) (head own o).outcome refl e)

@@ -11,8 +11,8 @@ use Rattle.mp4_frame.specs.Heads.{head}
 use Rattle.mp4_frame.specs.Reading.{Fault, End, Invalid, NotFound}
 use Rattle.mp4_frame.specs.FourCC.{number_of}
 use Rattle.mp4_frame.specs.declared.four_cc.FourCC.{FourCC}
-use Rattle.mp4_frame.specs.declared.head.Head.{Head}
-use Rattle.mp4_frame.proofs.Heads.{head_room}
+use Rattle.mp4_frame.specs.declared.frame.Frame.{Frame}
+use Rattle.mp4_frame.proofs.Heads.{head_room, of_both_forms}
 use Rattle.mp4_tree.specs.Found.{code_at, found_of_head, found_of, found_at, content_begin, end_within}
 use Rattle.mp4_tree.specs.Kinds.{if_room, fields_of, level_after}
 use Rattle.mp4_tree.specs.Tree.{GoesDeeper, GoesOn, StaysIn, passed, step_by, step_of_code, step_of_what, step_of}
@@ -25,7 +25,6 @@ use Rattle.mp4_tree.specs.declared.tree_box.TreeBox.{TreeBox}
 use Rattle.mp4_tree.specs.declared.tree_box.What.{What}
 use Rattle.mp4_tree.specs.declared.tree_box.What.TheVariants as what
 use Rattle.mp4_tree.specs.declared.words.Words.{Words}
-use Rattle.mp4_tree.proofs.Windows.{head_near}
 
 -- what is found at o of a level begins there and has some bytes, and has a header of 16 at most if there is more of it
 abbrev pub IsAfter : Level → ℕ → TreeBox → Type 0
@@ -100,8 +99,12 @@ pub found_goes_deep : (l : Level) (x : TreeBox) (w : Words) (s : Step) → s ≡
     → (s.level.depth ≡ l.depth) × GoesDeeper l s.inner
 found_goes_deep l x w s e = subst (IsDeep l) (sym e) (step_of_what_deep l x w x.what)
 
+-- a header has 16 bytes at most
+head_near : (B : List ℕ) (o : ℕ) (h : Frame) → (head B o).outcome ≡ Ok h → h.start ≤ o + 8
+head_near B o = of_both_forms (λ h. h.start ≤ o + 8) B o (λ _. omega arith) (λ _. omega arith)
+
 -- where a box is read, its content is after it
-pub head_after : (l : Level) (o : ℕ) (h : Head) → o < l.end → o ≤ h.start → h.start ≤ o + 8 → h.start + 8 ≤ l.end
+pub head_after : (l : Level) (o : ℕ) (h : Frame) → o < l.end → o ≤ h.start → h.start ≤ o + 8 → h.start + 8 ≤ l.end
     → IsAfter l o (found_of_head l o h)
 unfolding found_of_head
 head_after l o h inside from near room =
@@ -114,21 +117,21 @@ head_after l o h inside from near room =
     (λ fits. (refl, omega arith, omega (arith, least), λ _. omega arith))))
 
 -- the same where the head was read o bytes before
-pub later_after : (W : List ℕ) (l : Level) (o : ℕ) (h : Head) (x : TreeBox) → o < l.end → o + length W ≤ l.end
-    → (head W 0).outcome ≡ Ok h → x ≡ found_of_head l o (record { code = h.code; size = h.size; start = h.start + o })
+pub later_after : (W : List ℕ) (l : Level) (o : ℕ) (h : Frame) (x : TreeBox) → o < l.end → o + length W ≤ l.end
+    → (head W 0).outcome ≡ Ok h → x ≡ found_of_head l o (record h { begin = h.begin + o; start = h.start + o })
     → IsAfter l o x
 later_after W l o h x inside within is by =
     let room = head_room W 0 h is in
-    let near : h.start ≤ 0 + 8 = head_near W 0 (Ok h) is in
+    let near = head_near W 0 h is in
     subst (IsAfter l o) (sym by)
-    (head_after l o (record { code = h.code; size = h.size; start = h.start + o }) inside (omega arith) (omega (arith, near))
+    (head_after l o (record h { begin = h.begin + o; start = h.start + o }) inside (omega arith) (omega (arith, near))
     (omega (arith, room.1, within)))
 
 found_of_after : (own : List ℕ) (l : Level) (o : ℕ) (code : Option FourCC) → length own ≡ l.end → o < l.end
-    → (r : Result Head Fault) → (head own o).outcome ≡ r → IsAfter l o (found_of l o code r)
+    → (r : Result Frame Fault) → (head own o).outcome ≡ r → IsAfter l o (found_of l o code r)
 found_of_after own l o code long inside (Ok h) is =
     let room = head_room own o h is in
-    head_after l o h inside room.0 (head_near own o (Ok h) is) (omega (arith, room.1, long))
+    head_after l o h inside room.0 (head_near own o h is) (omega (arith, room.1, long))
 found_of_after own l o code long inside (Err End) is =
     (refl, omega arith, omega arith, λ e. absurd (omega (arith, e)))
 found_of_after own l o code long inside (Err Invalid) is =

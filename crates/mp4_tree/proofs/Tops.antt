@@ -86,9 +86,10 @@ module _ (B : List ℕ) (short : length B < 2 ^ 64) (n : ℕ)
       ∙ ih m i.end depth end
       ∙ ap (λ (e : ℕ). frames_at_most n B e) leads.1
 
-  by_whole : (l : Level) (o : ℕ) (x : TreeBox) (s : Step) → l.depth ≡ 0 → l.end ≡ length B → IsStepOf l o x s → (w : Bool)
-      → is_whole x.what ≡ w
-      → (is_whole x.what ≡ true → IsOfFrame l o x (frame B o)) → (is_whole x.what ≡ false → IsOfNone l x (frame B o))
+  by_whole : (l : Level) (o : ℕ) (x : TreeBox) (s : Step) → l.depth ≡ 0 → l.end ≡ length B → IsStepOf l o x s
+      → (w : Bool) → is_whole x.what ≡ w
+      → (is_whole x.what ≡ true → IsOfFrame l o x (frame B o))
+      → (is_whole x.what ≡ false → IsOfNone l x (frame B o))
       → top_boxes (boxes_by boxes s) ≡ framed (λ e. frames_at_most n B e) o (frame B o)
   by_whole l o x s top ends is true w whole none =
       let f = whole w in

@@ -1,6 +1,6 @@
 -- What a window on the bytes of a source shows of the box at its front.
 use Rattle.std.proofs.Common.{◌≡◌, ℕ, ◌+◌, ◌-◌, ◌<◌, ◌≤◌, Bool, true, false, cond, List, ◌++◌, length, take, drop, min}
-use Rattle.std.proofs.Common.{None, Some, Result, Ok, Err, refl, sym, ap, ◌∙◌, arith, subst, inl, inr}
+use Rattle.std.proofs.Common.{None, Some, Result, refl, sym, ap, ◌∙◌, arith, subst, inl, inr}
 use Rattle.std.specs.Prelude.{nat_lt, nat_le, ◌==◌, ◌||◌}
 use Rattle.std.specs.declared.option.Option.{Option}
 use Rattle.std.proofs.lemmas.Bool.{lt-ltb, le-ltb, ltb-false, cases_lt}
@@ -10,7 +10,7 @@ use Rattle.mp4_frame.specs.FourCC.{four_cc_of}
 use Rattle.mp4_frame.specs.Heads.{head}
 use Rattle.mp4_frame.specs.Reading.{Fault, Reading, check, done, ◌>>=◌}
 use Rattle.mp4_frame.specs.declared.four_cc.FourCC.{FourCC}
-use Rattle.mp4_frame.specs.declared.head.Head.{Head}
+use Rattle.mp4_frame.specs.declared.frame.Frame.{Frame}
 use Rattle.mp4_frame.proofs.Checks.{guard}
 use Rattle.mp4_frame.proofs.Numbers.{number-among}
 use Rattle.mp4_tree.specs.Found.{code_at, later, found_of, found_at, content_begin, end_within}
@@ -60,11 +60,11 @@ same_lt a b c d below above = elim (cases_lt a b) [
   | inr le ↦ le-ltb a b le ∙ sym (le-ltb c d (above le))
 ]
 
-abbrev shape : Bool → Bool → Bool → Bool → ℕ → ℕ → ℕ → ℕ → Reading Head
+abbrev shape : Bool → Bool → Bool → Bool → ℕ → ℕ → ℕ → ℕ → Reading Frame
 shape b1 one b2 fine s c g o =
     guard b1 >>= λ _. cond one
-    (guard b2 >>= λ _. check fine >>= λ _. done (record { code = c; size = g - 8; start = o + 8 }))
-    (done (record { code = c; size = s; start = o }))
+    (guard b2 >>= λ _. check fine >>= λ _. done (record { code = c; begin = o; start = o + 8; size = g - 8 }))
+    (done (record { code = c; begin = o; start = o; size = s }))
 
 abbrev is_fine : ℕ → Bool
 is_fine g = (g == 0) || nat_le 16 g
@@ -79,7 +79,8 @@ later_shape : (b1 one b2 fine : Bool) (s c g o : ℕ)
     → later o (shape b1 one b2 fine s c g 0).outcome ≡ (shape b1 one b2 fine s c g o).outcome
 later_shape true one b2 fine s c g o = refl
 later_shape false true true fine s c g o = refl
-later_shape false true false true s c g o = let e : 0 + 8 + o ≡ o + 8 = omega arith in rw e refl
+later_shape false true false true s c g o =
+    let e : 0 + 8 + o ≡ o + 8 = omega arith in let z : 0 + o ≡ o = omega arith in rw (e, z) refl
 later_shape false true false false s c g o = refl
 later_shape false false b2 fine s c g o = let e : 0 + o ≡ o = omega arith in rw e refl
 
@@ -88,24 +89,6 @@ same_shape : (b1 b2 : Bool) (s t c d g f o : ℕ) → (b1 ≡ false → (s ≡ t
 same_shape true b2 s t c d g f o first second = refl
 same_shape false true s t c d g f o first second = rw ((first refl).0, (first refl).1) refl
 same_shape false false s t c d g f o first second = rw ((first refl).0, (first refl).1, second refl) refl
-
--- a header has 16 bytes at most
-abbrev pub IsNear : ℕ → Result Head Fault → Type 0
-IsNear o (Ok h) = h.start ≤ o + 8
-IsNear o (Err _) = Unit {0}
-
-shape_near : (b1 one b2 fine : Bool) (s c g o : ℕ) → IsNear o (shape b1 one b2 fine s c g o).outcome
-shape_near true one b2 fine s c g o = tt
-shape_near false true true fine s c g o = tt
-shape_near false true false true s c g o = omega arith
-shape_near false true false false s c g o = tt
-shape_near false false b2 fine s c g o = omega arith
-
-pub head_near : (B : List ℕ) (o : ℕ) (r : Result Head Fault) → (head B o).outcome ≡ r → IsNear o r
-head_near B o r is =
-    subst (IsNear o) (ap (λ (r : Reading Head). r.outcome) (sym (head_shape B o)) ∙ is)
-    (shape_near (nat_lt (length B) (o + 8)) (number B o 4 == 1) (nat_lt (length B) (o + 8 + 8))
-    (is_fine (number B (o + 8) 8)) (number B o 4) (number B (o + 4) 4) (number B (o + 8) 8) o)
 
 -- a window of 16 bytes at least, or of as many as there are, shows the head
 head_window : (B W : List ℕ) (o : ℕ) → IsWindow B o W → o ≤ length B → length W ≤ length B - o
@@ -125,17 +108,17 @@ head_window B W o h inside most least =
     let second : nat_lt (length W) 16 ≡ false → number W 8 8 ≡ number B (o + 8) 8 = λ e.
     let room : 16 ≤ length W = ltb-false _ _ e in
     sym (number_window B W o 8 8 h inside (omega (arith, room))) in
-    ap (λ (r : Reading Head). later o r.outcome) (head_shape W 0)
+    ap (λ (r : Reading Frame). later o r.outcome) (head_shape W 0)
     ∙ later_shape (nat_lt (length W) 8) (number W 0 4 == 1) (nat_lt (length W) 16) (is_fine (number W 8 8))
     (number W 0 4) (number W 4 4) (number W 8 8) o
-    ∙ ap (λ (r : Reading Head). r.outcome)
+    ∙ ap (λ (r : Reading Frame). r.outcome)
     (same_shape (nat_lt (length W) 8) (nat_lt (length W) 16) _ (number B o 4) _ (number B (o + 4) 4) _
     (number B (o + 8) 8) o first second)
     ∙ ap (λ (b : Bool). (shape b (number B o 4 == 1) (nat_lt (length W) 16) (is_fine (number B (o + 8) 8))
     (number B o 4) (number B (o + 4) 4) (number B (o + 8) 8) o).outcome) b1
     ∙ ap (λ (b : Bool). (shape (nat_lt (length B) (o + 8)) (number B o 4 == 1) b (is_fine (number B (o + 8) 8))
     (number B o 4) (number B (o + 4) 4) (number B (o + 8) 8) o).outcome) b2
-    ∙ ap (λ (r : Reading Head). r.outcome) (sym (head_shape B o))
+    ∙ ap (λ (r : Reading Frame). r.outcome) (sym (head_shape B o))
 
 code_by : (b c : Bool) (m n : ℕ) → b ≡ c → (b ≡ false → m ≡ n)
     → cond b None (Some (four_cc_of m)) ≡ cond c None (Some (four_cc_of n))
@@ -178,7 +161,7 @@ module _ (B W : List ℕ) (l : Level) (o : ℕ) (window : IsWindow B o W) (withi
       let here : o ≤ length own = omega (arith, length_own) in
       ap (λ (c : Option FourCC). found_of l o c (later o (head W 0).outcome))
       (code_window own W o own_window here most least)
-      ∙ ap (λ (r : Result Head Fault). found_of l o (code_at own o) r) (head_window own W o own_window here most least)
+      ∙ ap (λ (r : Result Frame Fault). found_of l o (code_at own o) r) (head_window own W o own_window here most least)
 
   same_number : (end j n w : ℕ) → n ≡ o + j → j + w ≤ 28 → o ≤ end → end ≤ l.end
       → number_in W (end - o) j w ≡ number_in B end n w

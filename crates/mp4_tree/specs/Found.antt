@@ -5,10 +5,10 @@ use Rattle.std.specs.Prelude.{Err, if◌then◌else◌}
 use Rattle.std.specs.declared.option.Option.{Option}
 use Rattle.mp4_frame.specs.Bytes.{number}
 use Rattle.mp4_frame.specs.FourCC.{four_cc_of}
-use Rattle.mp4_frame.specs.Heads.{head}
+use Rattle.mp4_frame.specs.Heads.{head, content_in, end_in}
 use Rattle.mp4_frame.specs.Reading.{Fault, End, Invalid, NotFound}
 use Rattle.mp4_frame.specs.declared.four_cc.FourCC.{FourCC}
-use Rattle.mp4_frame.specs.declared.head.Head.{Head}
+use Rattle.mp4_frame.specs.declared.frame.Frame.{Frame}
 use Rattle.mp4_tree.specs.declared.level.Level.{Level}
 use Rattle.mp4_tree.specs.declared.tree_box.TreeBox.{TreeBox}
 use Rattle.mp4_tree.specs.declared.tree_box.What.{What}
@@ -37,17 +37,17 @@ unread l o code why = found_as l o code (l.end - o) (l.end - o) why
 
 -- a size of 0 means up to the end of the file, and is for its top level alone; a size counts 8 bytes at least; a box
 -- that ends after its level is cut there
-unfoldable pub found_of_head : Level → ℕ → Head → TreeBox
+unfoldable pub found_of_head : Level → ℕ → Frame → TreeBox
 found_of_head l o h =
     let code = Some (four_cc_of h.code) in
-    let header = h.start + 8 - o in
-    let long = h.start + h.size - o in
+    let header = content_in h - o in
+    let long = end_in h - o in
     if (h.size == 0) && (l.depth == 0) then found_as l o code header (l.end - o) what.Leaf else
     if nat_lt h.size 8 then unread l o code what.Small else
-    if nat_lt l.end (h.start + h.size) then found_as l o code header (min long (2 ^ 64 - 1)) what.Cut else
+    if nat_lt l.end (end_in h) then found_as l o code header (min long (2 ^ 64 - 1)) what.Cut else
     found_as l o code header long what.Leaf
 
-abbrev pub found_of : Level → ℕ → Option FourCC → Result Head Fault → TreeBox
+abbrev pub found_of : Level → ℕ → Option FourCC → Result Frame Fault → TreeBox
 found_of l o code (Ok h) = found_of_head l o h
 found_of l o code (Err End) = unread l o code what.NoHeader
 found_of l o code (Err Invalid) = unread l o code what.Small
@@ -58,8 +58,8 @@ abbrev pub found_at : List ℕ → Level → ℕ → TreeBox
 found_at B l o = let own = take l.end B in found_of l o (code_at own o) (head own o).outcome
 
 -- what is read o bytes before, as it is at o
-abbrev pub later : ℕ → Result Head Fault → Result Head Fault
-later o (Ok h) = Ok (record { code = h.code; size = h.size; start = h.start + o })
+abbrev pub later : ℕ → Result Frame Fault → Result Frame Fault
+later o (Ok h) = Ok (record h { begin = h.begin + o; start = h.start + o })
 later o (Err k) = Err k
 
 -- where the content of a box begins: after its header

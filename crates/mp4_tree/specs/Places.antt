@@ -2,7 +2,7 @@
 use Rattle.std.specs.Prelude.{◌≡◌, ℕ, ◌+◌, ◌<◌, ◌≤◌, true, List, length, take, Some, Ok, ◌⊎◌}
 use Rattle.std.specs.List.{Contains}
 use Rattle.mp4_frame.specs.FourCC.{four_cc_of}
-use Rattle.mp4_frame.specs.Heads.{frame}
+use Rattle.mp4_frame.specs.Heads.{frame, end_in}
 use Rattle.mp4_frame.specs.declared.frame.Frame.{Frame}
 use Rattle.mp4_tree.specs.Tops.{is_whole}
 use Rattle.mp4_tree.specs.declared.tree_box.TreeBox.{TreeBox}
@@ -16,7 +16,7 @@ IsAround B boxes depth end o = ((depth ≡ 0) × (end ≡ length B))
 -- the box is a frame of these bytes
 abbrev pub IsFrame : List ℕ → TreeBox → Type 0
 IsFrame bytes x = (f : Frame) × (frame bytes x.position ≡ Ok f) × (x.code ≡ Some (four_cc_of f.code))
-    × (x.position + x.length ≡ f.end)
+    × (x.position + x.length ≡ end_in f)
 
 -- the box is in the file or in another of its boxes, and if it is whole, it is a frame there
 abbrev pub IsPlaced : List ℕ → List TreeBox → TreeBox → Type 0

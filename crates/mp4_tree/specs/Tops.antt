@@ -5,7 +5,7 @@ use Rattle.std.specs.Prelude.{Some, Result, Ok, Err, if◌then◌else◌}
 use Rattle.std.specs.declared.option.Option.{Option}
 use Rattle.std.specs.List.{flat_map}
 use Rattle.mp4_frame.specs.FourCC.{four_cc_of}
-use Rattle.mp4_frame.specs.Heads.{frame}
+use Rattle.mp4_frame.specs.Heads.{frame, end_in}
 use Rattle.mp4_frame.specs.Reading.{Fault}
 use Rattle.mp4_frame.specs.declared.four_cc.FourCC.{FourCC}
 use Rattle.mp4_frame.specs.declared.frame.Frame.{Frame}
@@ -21,11 +21,11 @@ pub record Span : Type 0 where
 
 -- the frame at o
 abbrev pub span_of : ℕ → Frame → Span
-span_of o f = record { position = o; length = f.end - o; code = four_cc_of f.code }
+span_of o f = record { position = o; length = end_in f - o; code = four_cc_of f.code }
 
 -- a frame at o, and those of the rest; none where there is no frame
 abbrev pub framed : (ℕ → List Span) → ℕ → Result Frame Fault → List Span
-framed rest o (Ok f) = span_of o f ∷ rest f.end
+framed rest o (Ok f) = span_of o f ∷ rest (end_in f)
 framed rest o (Err _) = []
 
 -- the frames from o on, up to the first fault, n at most

@@ -1,13 +1,13 @@
 //! What is found at a position of a level: a box, or why none can be read there.
 
 ghost use Rattle.std.specs.Prelude.{◌≡◌, ◌+◌, ◌<◌, ◌≤◌, ◌&&◌, ◌||◌, nat_lt, length};
-ghost use Rattle.mp4_frame.specs.Heads.{head};
+ghost use Rattle.mp4_frame.specs.Heads.{head, content_in};
 ghost use Rattle.mp4_tree.specs.Found.{code_at, found_as, unread, found_of_head, found_of, later};
 ghost use Rattle.mp4_tree.specs.Found.{content_begin, end_within};
 
 use crate::level::Level;
 use crate::tree_box::{TreeBox, What};
-use mp4_frame::{Error, FourCC, Head, frame_of_head, u32_at};
+use mp4_frame::{Error, FourCC, Frame, u32_at};
 
 /// The code of the box whose header begins here, if the level has the 8 bytes with it.
 fn code_at(window: &[u8]) -> Option<FourCC>
@@ -57,19 +57,19 @@ fn is_too_small(depth: u64, size: u64) -> bool
     size < 8 && (size > 0 || depth > 0)
 }
 
-/// What is found by the head of a box.
-fn found_of_head(level: Level, at: u64, head: Head) -> TreeBox
+/// What is found by what the header of a box says.
+fn found_of_head(level: Level, at: u64, head: Frame) -> TreeBox
     requires start { at ≤ head.start }
-    requires content { head.start + 8 ≤ level.end }
+    requires content { content_in head ≤ level.end }
     ensures { result ≡ found_of_head level at head }
 {
     let code = Some(FourCC::from(head.code));
     if is_too_small(level.depth, head.size) {
         return unread(level, at, code, What::Small);
     }
-    let header_length = head.start + 8 - at;
-    match frame_of_head(level.end, at, head) {
-        Ok(frame) => found_as(level, at, code, header_length, frame.end - at, What::Leaf),
+    let header_length = head.content() - at;
+    match head.within(level.end) {
+        Ok(frame) => found_as(level, at, code, header_length, frame.end() - at, What::Leaf),
         Err(_) => found_as(
             level,
             at,
@@ -90,12 +90,12 @@ pub fn found_at(window: &[u8], level: Level, at: u64) -> TreeBox
         × (content_begin result ≤ end_within level result) }
     ensures near { content_begin result < end_within level result → result.header_length ≤ 16 }
 {
-    match Head::at(window, 0) {
+    match Frame::at(window, 0) {
         Ok(head) => {
-            let head = Head {
-                code: head.code,
-                size: head.size,
+            let head = Frame {
+                begin: head.begin + at,
                 start: head.start + at,
+                ..head
             };
             found_of_head(level, at, head)
         }

@@ -15,8 +15,9 @@ returns-in-Ok c =
     let o = c.args.at in
     let h = c.args.head in
     let large = large_enough l o h (sym c.is_too_small.ensures ∙ c.if-is_too_small.false) in
-    c.found_as.ensures
-    ∙ rw c.from.ensures (sym (found_is_by l o h (omega arith) large ∙ ap (found_by l o h) c.in-Ok.ensures.answer))
+    let by = found_is_by l o h (omega arith) (omega (arith, c.requires.content)) large in
+    c.found_as.ensures ∙ rw (c.from.ensures, c.content.ensures, c.end.ensures)
+    (sym (by ∙ ap (found_by l o h) c.in-Ok.ensures.answer))
 
 pub returns-in-Err : goal.returns-in-Err
 returns-in-Err c =
@@ -24,6 +25,7 @@ returns-in-Err c =
     let o = c.args.at in
     let h = c.args.head in
     let large = large_enough l o h (sym c.is_too_small.ensures ∙ c.if-is_too_small.false) in
+    let by = found_is_by l o h (omega arith) (omega (arith, c.requires.content)) large in
     let long : h.start - o + h.size ≡ h.start + h.size - o = omega arith in
-    c.found_as-in-Err.ensures ∙ rw (c.from.ensures, c.saturating_add.ensures, long)
-    (sym (found_is_by l o h (omega arith) large ∙ by_fault l o h c.in-Err.field-0 _ c.in-Err.ensures.answer))
+    c.found_as-in-Err.ensures ∙ rw (c.from.ensures, c.content.ensures, c.saturating_add.ensures, long)
+    (sym (by ∙ by_fault l o h c.in-Err.field-0 _ c.in-Err.ensures.answer))
