@@ -92,8 +92,17 @@ class Declared:
 
     def parts(self):
         """What the box holds, part by part, in the words of the table."""
-        fields = iter(self.fields)
-        found = list(self.parts_of(self.shape, fields))
+        return self.all_parts(self.shape, self.fields)
+
+    def parts_of_entry(self, struct):
+        """What an entry with a shape of its own holds, part by part."""
+        shape = re.search(rf"impl DeclaredEntry for {struct} .*? type Shape = (\w+);", self.source)[1]
+        return self.all_parts(self.types[shape], self.fields_of(struct))
+
+    def all_parts(self, shape, fields):
+        """The parts of a shape, of which each field of a struct is one."""
+        fields = iter(fields)
+        found = list(self.parts_of(shape, fields))
         left = list(fields)
         if left:
             raise Differs(f"{self.code}: the shape has no part for {left}")
@@ -139,6 +148,8 @@ class Declared:
             return f"count {NUMBERS[names[0]]}; each {self.entry(*names[1:])}"
         if name == "ToEnd":
             return f"to the end; each {self.entry(*names)}"
+        if name == "Each":
+            return f"count {NUMBERS[names[0]]}; each: {', '.join(self.parts_of_entry(names[1]))}"
         if name == "Rows":
             return f"count {NUMBERS[names[0]]}; each {names[1]} bytes"
         if name == "Bytes":

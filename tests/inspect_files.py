@@ -322,8 +322,19 @@ def groups():
     return ftyp(b"iso6", b"iso6") + movie(track(1, b"vide", b"", b"und", [entry], table))
 
 
+def hevc():
+    """Configurations of HEVC: with arrays of NAL units, with a NAL unit and with an array that the box has no room for,
+    and cut before its arrays."""
+    front = (b"\x01\x22" + be(4, 0x20000000) + be(6, 0x900000000000) + b"\x99" + be(2, 0xF00C)
+             + b"\xff\xfd\xfa\xfb" + be(2, 25 * 256) + b"\x5f")
+    sets = b"\xa0" + be(2, 1, 4) + b"\x40\x01\x0c\x01"
+    messages = b"\x27" + be(2, 3, 3) + b"\x4e\x01\x05" + be(2, 0, 30) + bytes(range(0x80, 0x9E))
+    return (box(b"hvcC", front + b"\2" + sets + messages) + box(b"hvcC", front + b"\1" + messages[:-1])
+            + box(b"hvcC", front + b"\2" + sets) + box(b"hvcC", front))
+
+
 def made():
     """The files, by name."""
     return {"counted": counted(), "sounds": sounds(), "groups": groups(), "pictures": pictures(),
-            "indexed": indexed(), "tables": tables(), "segments": segments(), "newer": newer(),
+            "indexed": indexed(), "tables": tables(), "segments": segments(), "hevc": hevc(), "newer": newer(),
             "quicktime": quicktime(), "titles": titles(), "fragments": fragments()}

@@ -186,7 +186,7 @@ def entries_of(value):
         return value
     if len(value[0]) == 1:
         return [inner for entry in value for inner in entry.values()]
-    return [{name.replace("_", ""): inner for name, inner in entry.items()} for entry in value]
+    return [plain(entry) for entry in value]
 
 
 def plain_box(box):

@@ -22,6 +22,7 @@ MATRIX = {"a": 16, "b": 16, "u": 30, "c": 16, "d": 16, "v": 30, "x": 16, "y": 16
 UNITY = {"a": 1, "b": 0, "u": 0, "c": 0, "d": 1, "v": 0, "x": 0, "y": 0, "w": 1}
 TYPES = {0: "binary", 1: "text", 2: "UTF-16 text", 13: "JPEG", 14: "PNG", 21: "signed integer", 22: "unsigned integer",
          23: "32-bit float", 24: "64-bit float", 27: "BMP"}
+NAL_UNITS = {32: "VPS", 33: "SPS", 34: "PPS", 39: "prefix SEI", 40: "suffix SEI"}
 
 
 def number(data, at, length):
@@ -379,12 +380,14 @@ def value_text(name, value, within):
         return flags_text(value, 6, FLAGS.get(within, {}))
     if name in SAMPLE_FLAGS:
         return flags_text(value, 8, {0x10000: "non_sync"})
-    if name in ("display_flags", "format_specific_flags"):
+    if name in ("display_flags", "format_specific_flags", "general_profile_compatibility_flags"):
         return flags_text(value, 8, {})
     if name == "media_time":
         return "empty" if value == -1 else str(value)
     if name == "data_type":
         return f"{value} ({TYPES.get(value, 'other')})"
+    if name == "NAL_unit_type":
+        return f"{value} ({NAL_UNITS.get(value, 'other')})"
     if name in ("major_brand", "handler_type"):
         return code_text(value)
     if name == "compatible_brands":

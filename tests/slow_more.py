@@ -74,14 +74,14 @@ class Content:
             self.put(name.strip(), self.number(int(length.lstrip("i")), length[0] == "i"))
 
     def bits(self, text):
-        """Fields of so many bits each; `-` is not shown."""
+        """Fields of so many bits each. One of no name after `-`, which is `reserved`, or of this name, is not shown."""
         widths = [(int(width), name) for width, name in map(str.split, text.split(","))]
         left = sum(width for width, _ in widths)
         value = self.number(left // 8)
         for width, name in widths:
             left -= width
-            if name != "-" or self.raw:
-                self.put("reserved" if name == "-" else name, value >> left & 2**width - 1)
+            if name[0] != "-" or self.raw:
+                self.put(name.removeprefix("-") or "reserved", value >> left & 2**width - 1)
 
     def full(self, versions):
         texts = {1: "version must be 0", 2: "version must be 0 or 1"}
@@ -269,6 +269,32 @@ def dops(c):
 def elng(c):
     c.full(1)
     c.string("extended_language")
+
+
+def hvcc(c):
+    c.numbers("1 configurationVersion")
+    c.bits("2 general_profile_space, 1 general_tier_flag, 5 general_profile_idc,"
+           "32 general_profile_compatibility_flags, 48 general_constraint_indicator_flags, 8 general_level_idc")
+    if not c.raw:
+        c.fields["general_constraint_indicator_flags"] = Hex(f"{c.fields['general_constraint_indicator_flags']:012x}")
+    c.bits("4 -reserved_before_segmentation, 12 min_spatial_segmentation_idc, 6 -reserved_before_parallelism,"
+           "2 parallelismType, 6 -reserved_before_chroma_format, 2 chroma_format_idc, 5 -reserved_before_luma,"
+           "3 bit_depth_luma_minus8, 5 -reserved_before_chroma, 3 bit_depth_chroma_minus8")
+    c.numbers("2 avgFrameRate")
+    c.bits("2 constantFrameRate, 3 numTemporalLayers, 1 temporalIdNested, 2 lengthSizeMinusOne")
+    c.put("arrays", [nal_units(c) for _ in range(c.number(1))])
+
+
+def nal_units(c):
+    """An array of NAL units of one type."""
+    array = Content(c.data, c.end, c.raw)
+    array.at = c.at
+    array.bits("1 array_completeness, 1 -, 6 NAL_unit_type")
+    units = [array.as_bytes(array.take(array.count(2, 1, "bytes"))) for _ in range(array.number(2))]
+    array.put("nalUnit [nal_units]", units)
+    c.at = array.at
+    c.written += array.written
+    return array.fields
 
 
 def key(k):
@@ -505,7 +531,7 @@ def tref(c):
 
 MORE = {
     "av1C": av1c, "colr": colr, "cslg": cslg, "data": data, "dec3": dec3, "dfLa": dfla, "dOps": dops, "elng": elng,
-    "keys": keys, "kind": kind, "mdcv": mdcv,
+    "hvcC": hvcc, "keys": keys, "kind": kind, "mdcv": mdcv,
     "mfro": mfro, "prft": prft, "pssh": pssh, "saio": saio, "saiz": saiz, "sbgp": sbgp, "schm": schm, "sdtp": sdtp,
     "senc": senc, "sgpd": sgpd, "sidx": sidx, "styp": styp, "stz2": stz2, "subs": subs, "tenc": tenc, "tfra": tfra,
     "btrt": lambda c: c.numbers("4 bufferSizeDB, 4 maxBitrate, 4 avgBitrate"),

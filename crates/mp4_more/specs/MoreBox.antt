@@ -9,7 +9,7 @@ use Rattle.mp4_more.specs.declared.more_box.MoreBox.{MoreBox}
 use Rattle.mp4_more.specs.declared.more_box.MoreBox.TheVariants as more
 use Rattle.mp4_more.specs.declared.{av1c.Av1c.Av1c, btrt.Btrt.Btrt, clap.Clap.Clap, clli.Clli.Clli, colr.Colr.Colr}
 use Rattle.mp4_more.specs.declared.{cslg.Cslg.Cslg, dac3.Dac3.Dac3, data.Data.Data, dec3.Dec3.Dec3, dfla.Dfla.Dfla}
-use Rattle.mp4_more.specs.declared.{dops.Dops.Dops, elng.Elng.Elng, frma.Frma.Frma, keys.Keys.Keys}
+use Rattle.mp4_more.specs.declared.{dops.Dops.Dops, elng.Elng.Elng, frma.Frma.Frma, hvcc.Hvcc.Hvcc, keys.Keys.Keys}
 use Rattle.mp4_more.specs.declared.{mdcv.Mdcv.Mdcv, mfro.Mfro.Mfro}
 use Rattle.mp4_more.specs.declared.{nmhd.Nmhd.Nmhd, pasp.Pasp.Pasp, prft.Prft.Prft, pssh.Pssh.Pssh, saio.Saio.Saio}
 use Rattle.mp4_more.specs.declared.{saiz.Saiz.Saiz, sbgp.Sbgp.Sbgp, schm.Schm.Schm, sdtp.Sdtp.Sdtp, senc.Senc.Senc}
@@ -32,6 +32,7 @@ FieldsOf types.DflaBox = Dfla
 FieldsOf types.DopsBox = Dops
 FieldsOf types.ElngBox = Elng
 FieldsOf types.FrmaBox = Frma
+FieldsOf types.HvccBox = Hvcc
 FieldsOf types.KeysBox = Keys
 FieldsOf types.KindBox = TrackKind
 FieldsOf types.MdcvBox = Mdcv
@@ -69,6 +70,7 @@ wrap types.DflaBox = more.DflaBox
 wrap types.DopsBox = more.DopsBox
 wrap types.ElngBox = more.ElngBox
 wrap types.FrmaBox = more.FrmaBox
+wrap types.HvccBox = more.HvccBox
 wrap types.KeysBox = more.KeysBox
 wrap types.KindBox = more.KindBox
 wrap types.MdcvBox = more.MdcvBox
@@ -107,6 +109,7 @@ opened (more.DflaBox fields) = (types.DflaBox, fields)
 opened (more.DopsBox fields) = (types.DopsBox, fields)
 opened (more.ElngBox fields) = (types.ElngBox, fields)
 opened (more.FrmaBox fields) = (types.FrmaBox, fields)
+opened (more.HvccBox fields) = (types.HvccBox, fields)
 opened (more.KeysBox fields) = (types.KeysBox, fields)
 opened (more.KindBox fields) = (types.KindBox, fields)
 opened (more.MdcvBox fields) = (types.MdcvBox, fields)

@@ -6,8 +6,8 @@ use Rattle.mp4_more.specs.declared.{av1c.TheConstants.AV1C, btrt.TheConstants.BT
 use Rattle.mp4_more.specs.declared.{clli.TheConstants.CLLI, colr.TheConstants.COLR, cslg.TheConstants.CSLG}
 use Rattle.mp4_more.specs.declared.{dac3.TheConstants.DAC3, data.TheConstants.DATA, dec3.TheConstants.DEC3}
 use Rattle.mp4_more.specs.declared.{dfla.TheConstants.DFLA, dops.TheConstants.DOPS, elng.TheConstants.ELNG}
-use Rattle.mp4_more.specs.declared.{frma.TheConstants.FRMA, keys.TheConstants.KEYS, kind.TheConstants.KIND}
-use Rattle.mp4_more.specs.declared.mdcv.TheConstants.{MDCV}
+use Rattle.mp4_more.specs.declared.{frma.TheConstants.FRMA, hvcc.TheConstants.HVCC}
+use Rattle.mp4_more.specs.declared.{keys.TheConstants.KEYS, kind.TheConstants.KIND, mdcv.TheConstants.MDCV}
 use Rattle.mp4_more.specs.declared.{mfro.TheConstants.MFRO, nmhd.TheConstants.NMHD, pasp.TheConstants.PASP}
 use Rattle.mp4_more.specs.declared.{prft.TheConstants.PRFT, pssh.TheConstants.PSSH, saio.TheConstants.SAIO}
 use Rattle.mp4_more.specs.declared.{saiz.TheConstants.SAIZ, sbgp.TheConstants.SBGP, schm.TheConstants.SCHM}
@@ -30,6 +30,7 @@ code_of_type types.DflaBox = DFLA
 code_of_type types.DopsBox = DOPS
 code_of_type types.ElngBox = ELNG
 code_of_type types.FrmaBox = FRMA
+code_of_type types.HvccBox = HVCC
 code_of_type types.KeysBox = KEYS
 code_of_type types.KindBox = KIND
 code_of_type types.MdcvBox = MDCV
@@ -56,11 +57,11 @@ code_of_type types.TrefBox = TREF
 abbrev pub all_types : List MoreType
 all_types =
     types.Av1cBox ∷ types.BtrtBox ∷ types.ClapBox ∷ types.ClliBox ∷ types.ColrBox ∷ types.CslgBox ∷ types.Dac3Box
-    ∷ types.DataBox ∷ types.Dec3Box ∷ types.DflaBox ∷ types.DopsBox ∷ types.ElngBox ∷ types.FrmaBox ∷ types.KeysBox
-    ∷ types.KindBox ∷ types.MdcvBox ∷ types.MfroBox ∷ types.NmhdBox ∷ types.PaspBox ∷ types.PrftBox ∷ types.PsshBox
-    ∷ types.SaioBox ∷ types.SaizBox ∷ types.SbgpBox ∷ types.SchmBox ∷ types.SdtpBox ∷ types.SencBox ∷ types.SgpdBox
-    ∷ types.SidxBox ∷ types.StypBox ∷ types.Stz2Box ∷ types.SubsBox ∷ types.TencBox ∷ types.TfraBox ∷ types.TrefBox
-    ∷ []
+    ∷ types.DataBox ∷ types.Dec3Box ∷ types.DflaBox ∷ types.DopsBox ∷ types.ElngBox ∷ types.FrmaBox ∷ types.HvccBox
+    ∷ types.KeysBox ∷ types.KindBox ∷ types.MdcvBox ∷ types.MfroBox ∷ types.NmhdBox ∷ types.PaspBox ∷ types.PrftBox
+    ∷ types.PsshBox ∷ types.SaioBox ∷ types.SaizBox ∷ types.SbgpBox ∷ types.SchmBox ∷ types.SdtpBox ∷ types.SencBox
+    ∷ types.SgpdBox ∷ types.SidxBox ∷ types.StypBox ∷ types.Stz2Box ∷ types.SubsBox ∷ types.TencBox ∷ types.TfraBox
+    ∷ types.TrefBox ∷ []
 
 -- the type of this code among some types
 abbrev pub type_among : List MoreType → ℕ → Option MoreType

@@ -33,6 +33,7 @@ mod dfla;
 mod dops;
 mod elng;
 mod frma;
+mod hvcc;
 mod keys;
 mod kind;
 
@@ -49,6 +50,9 @@ pub use dfla::{DFLA, Dfla, DflaBox};
 pub use dops::{DOPS, Dops, DopsBox};
 pub use elng::{ELNG, Elng, ElngBox};
 pub use frma::{FRMA, Frma, FrmaBox};
+pub use hvcc::{
+    HVCC, HevcArray, HevcArrayKind, HevcFormat, HevcNalUnit, HevcProfile, HevcRate, Hvcc, HvccBox,
+};
 pub use keys::{KEYS, Keys, KeysBox};
 pub use kind::{KIND, Kind, KindBox};
 

@@ -13,10 +13,10 @@ use crate::more_type::MoreType;
 use crate::{
     Av1c, Av1cBox, Btrt, BtrtBox, Clap, ClapBox, Clli, ClliBox, Colr, ColrBox, Cslg, CslgBox, Dac3,
     Dac3Box, Data, DataBox, Dec3, Dec3Box, Dfla, DflaBox, Dops, DopsBox, Elng, ElngBox, Frma,
-    FrmaBox, Keys, KeysBox, Kind, KindBox, Mdcv, MdcvBox, Mfro, MfroBox, Nmhd, NmhdBox, Pasp,
-    PaspBox, Prft, PrftBox, Pssh, PsshBox, Saio, SaioBox, Saiz, SaizBox, Sbgp, SbgpBox, Schm,
-    SchmBox, Sdtp, SdtpBox, Senc, SencBox, Sgpd, SgpdBox, Sidx, SidxBox, Styp, StypBox, Stz2,
-    Stz2Box, Subs, SubsBox, Tenc, TencBox, Tfra, TfraBox, Tref, TrefBox,
+    FrmaBox, Hvcc, HvccBox, Keys, KeysBox, Kind, KindBox, Mdcv, MdcvBox, Mfro, MfroBox, Nmhd,
+    NmhdBox, Pasp, PaspBox, Prft, PrftBox, Pssh, PsshBox, Saio, SaioBox, Saiz, SaizBox, Sbgp,
+    SbgpBox, Schm, SchmBox, Sdtp, SdtpBox, Senc, SencBox, Sgpd, SgpdBox, Sidx, SidxBox, Styp,
+    StypBox, Stz2, Stz2Box, Subs, SubsBox, Tenc, TencBox, Tfra, TfraBox, Tref, TrefBox,
 };
 use mp4_lists::CodedEnum;
 use mp4_stream::author::{BoxEnum, DeclaredBox, Question, Shape, clone_as, read_as};
@@ -30,7 +30,7 @@ macro_rules! of_boxes {
         $go! {
             [
                 Av1cBox BtrtBox ClapBox ClliBox ColrBox CslgBox Dac3Box DataBox Dec3Box DflaBox
-                DopsBox ElngBox FrmaBox KeysBox KindBox MdcvBox MfroBox NmhdBox PaspBox
+                DopsBox ElngBox FrmaBox HvccBox KeysBox KindBox MdcvBox MfroBox NmhdBox PaspBox
                 PrftBox PsshBox SaioBox SaizBox SbgpBox SchmBox SdtpBox SencBox SgpdBox SidxBox
                 StypBox Stz2Box SubsBox TencBox TfraBox TrefBox
             ]
@@ -82,6 +82,7 @@ pub enum MoreBox {
     DopsBox(DopsBox),
     ElngBox(ElngBox),
     FrmaBox(FrmaBox),
+    HvccBox(HvccBox),
     KeysBox(KeysBox),
     KindBox(KindBox),
     MdcvBox(MdcvBox),
@@ -147,6 +148,7 @@ impl Declares for MoreBox {
       | types.DopsBox ↦ shaped ⟦<<Dops as DeclaredBox>::Shape as Shape>⟧.shape_laws ⟦<Dops as DeclaredBox>⟧.layout refl
       | types.ElngBox ↦ shaped ⟦<<Elng as DeclaredBox>::Shape as Shape>⟧.shape_laws ⟦<Elng as DeclaredBox>⟧.layout refl
       | types.FrmaBox ↦ shaped ⟦<<Frma as DeclaredBox>::Shape as Shape>⟧.shape_laws ⟦<Frma as DeclaredBox>⟧.layout refl
+      | types.HvccBox ↦ shaped ⟦<<Hvcc as DeclaredBox>::Shape as Shape>⟧.shape_laws ⟦<Hvcc as DeclaredBox>⟧.layout refl
       | types.KeysBox ↦ shaped ⟦<<Keys as DeclaredBox>::Shape as Shape>⟧.shape_laws ⟦<Keys as DeclaredBox>⟧.layout refl
       | types.KindBox ↦ shaped ⟦<<Kind as DeclaredBox>::Shape as Shape>⟧.shape_laws ⟦<Kind as DeclaredBox>⟧.layout refl
       | types.MdcvBox ↦ shaped ⟦<<Mdcv as DeclaredBox>::Shape as Shape>⟧.shape_laws ⟦<Mdcv as DeclaredBox>⟧.layout refl
@@ -315,6 +317,14 @@ impl Holds<FrmaBox> for MoreBox {
 
     fn wrap(value: FrmaBox) -> MoreBox {
         MoreBox::FrmaBox(value)
+    }
+}
+
+impl Holds<HvccBox> for MoreBox {
+    ghost wrapped = { more.HvccBox };
+
+    fn wrap(value: HvccBox) -> MoreBox {
+        MoreBox::HvccBox(value)
     }
 }
 

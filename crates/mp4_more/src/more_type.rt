@@ -4,9 +4,9 @@ ghost use Rattle.std.specs.Prelude.{◌≡◌};
 ghost use Rattle.mp4_more.specs.MoreType.{type_of_code};
 
 use crate::{
-    AV1C, BTRT, CLAP, CLLI, COLR, CSLG, DAC3, DATA, DEC3, DFLA, DOPS, ELNG, FRMA, KEYS, KIND, MDCV,
-    MFRO, NMHD, PASP, PRFT, PSSH, SAIO, SAIZ, SBGP, SCHM, SDTP, SENC, SGPD, SIDX, STYP, STZ2, SUBS,
-    TENC, TFRA, TREF,
+    AV1C, BTRT, CLAP, CLLI, COLR, CSLG, DAC3, DATA, DEC3, DFLA, DOPS, ELNG, FRMA, HVCC, KEYS, KIND,
+    MDCV, MFRO, NMHD, PASP, PRFT, PSSH, SAIO, SAIZ, SBGP, SCHM, SDTP, SENC, SGPD, SIDX, STYP, STZ2,
+    SUBS, TENC, TFRA, TREF,
 };
 
 /// A type of boxes that a `MoreBox` holds.
@@ -25,6 +25,7 @@ pub(crate) enum MoreType {
     DopsBox,
     ElngBox,
     FrmaBox,
+    HvccBox,
     KeysBox,
     KindBox,
     MdcvBox,
@@ -69,6 +70,7 @@ impl MoreType {
             DOPS => Some(MoreType::DopsBox),
             ELNG => Some(MoreType::ElngBox),
             FRMA => Some(MoreType::FrmaBox),
+            HVCC => Some(MoreType::HvccBox),
             KEYS => Some(MoreType::KeysBox),
             KIND => Some(MoreType::KindBox),
             MDCV => Some(MoreType::MdcvBox),

@@ -5,6 +5,7 @@ ghost use Rattle.mp4_fields.specs.Nesting.{fields, Keeps};
 
 mod flac;
 mod groups;
+mod hevc;
 mod protection;
 mod samples;
 mod segments;
@@ -15,6 +16,7 @@ mod video;
 
 use flac::put_dfla;
 use groups::put_sgpd;
+use hevc::put_hvcc;
 use mp4_fields::FieldSink;
 use mp4_more::MoreBox;
 use mp4_stream::Result;
@@ -44,6 +46,7 @@ pub fn put_more<S: FieldSink>(more: &MoreBox, sink: &mut S) -> Result<()>
         MoreBox::DopsBox(b) => put_dops(b, sink),
         MoreBox::ElngBox(b) => put_elng(b, sink),
         MoreBox::FrmaBox(b) => put_frma(b, sink),
+        MoreBox::HvccBox(b) => put_hvcc(b, sink),
         MoreBox::KeysBox(b) => put_keys(b, sink),
         MoreBox::KindBox(b) => put_kind(b, sink),
         MoreBox::MdcvBox(b) => put_mdcv(b, sink),

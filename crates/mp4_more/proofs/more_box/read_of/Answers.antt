@@ -81,6 +81,11 @@ returns-in-FrmaBox-clause-answer c =
     of_type c.args.of types.FrmaBox _ c.args.reader.now.bytes.now (c.args.reader.now.position - 8) c.args.size
     c.in-FrmaBox.is c.read_as-in-FrmaBox.ensures.answer
 
+pub returns-in-HvccBox-clause-answer : goal.returns-in-HvccBox-clause-answer
+returns-in-HvccBox-clause-answer c =
+    of_type c.args.of types.HvccBox _ c.args.reader.now.bytes.now (c.args.reader.now.position - 8) c.args.size
+    c.in-HvccBox.is c.read_as-in-HvccBox.ensures.answer
+
 pub returns-in-KeysBox-clause-answer : goal.returns-in-KeysBox-clause-answer
 returns-in-KeysBox-clause-answer c =
     of_type c.args.of types.KeysBox _ c.args.reader.now.bytes.now (c.args.reader.now.position - 8) c.args.size

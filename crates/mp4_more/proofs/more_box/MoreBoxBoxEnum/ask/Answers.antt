@@ -75,6 +75,9 @@ ask-requires-in-FrmaBox g c = rw c.in-FrmaBox.is at c.requires
 pub returns-in-FrmaBox : goal.returns-in-FrmaBox
 returns-in-FrmaBox g c = rw c.in-FrmaBox.is c.ask-in-FrmaBox.ensures
 
+pub returns-in-HvccBox : goal.returns-in-HvccBox
+returns-in-HvccBox g c = rw c.in-HvccBox.is c.ask-in-HvccBox.ensures
+
 pub ask-requires-in-KeysBox : goal.ask-requires-in-KeysBox
 ask-requires-in-KeysBox g c = rw c.in-KeysBox.is at c.requires
 

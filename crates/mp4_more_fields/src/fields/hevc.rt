@@ -1,0 +1,154 @@
+//! The fields of what says how HEVC video is decoded (ISO/IEC 14496-15, 8.3.3.1).
+
+ghost use Rattle.std.specs.Prelude.{OnOk};
+ghost use Rattle.mp4_fields.specs.Nesting.{fields, entries, Keeps};
+
+use crate::flag_names::NONE;
+use crate::put::bit;
+use mp4_fields::{FieldSink, Value, put_all};
+use mp4_more::{HevcArray, HevcFormat, HevcNalUnit, HevcProfile, HevcRate, Hvcc};
+use mp4_stream::Result;
+
+/// What a decoder has to be able to decode. The constraints are shown as their six bytes.
+fn put_profile<S: FieldSink>(p: &HevcProfile, sink: &mut S) -> Result<()>
+    ensures nesting { OnOk result (Keeps S.since fields sink.old sink.new) }
+{
+    let constraints = p.general_constraint_indicator_flags.to_be_bytes();
+    let row = [
+        (
+            "general_profile_space",
+            Value::Number(u64::from(p.general_profile_space)),
+        ),
+        ("general_tier_flag", bit(p.general_tier_flag)),
+        (
+            "general_profile_idc",
+            Value::Number(u64::from(p.general_profile_idc)),
+        ),
+        (
+            "general_profile_compatibility_flags",
+            Value::Flags(p.general_profile_compatibility_flags, 8, NONE),
+        ),
+        (
+            "general_constraint_indicator_flags",
+            Value::Bytes(&constraints[2..]),
+        ),
+        (
+            "general_level_idc",
+            Value::Number(u64::from(p.general_level_idc)),
+        ),
+    ];
+    put_all(&row, sink)
+}
+
+/// How pictures are divided, and what their samples are.
+fn put_format<S: FieldSink>(f: &HevcFormat, sink: &mut S) -> Result<()>
+    ensures nesting { OnOk result (Keeps S.since fields sink.old sink.new) }
+{
+    let row = [
+        (
+            "min_spatial_segmentation_idc",
+            Value::Number(u64::from(f.min_spatial_segmentation_idc)),
+        ),
+        (
+            "parallelismType",
+            Value::Number(u64::from(f.parallelism_type)),
+        ),
+        (
+            "chroma_format_idc",
+            Value::Number(u64::from(f.chroma_format_idc)),
+        ),
+        (
+            "bit_depth_luma_minus8",
+            Value::Number(u64::from(f.bit_depth_luma_minus8)),
+        ),
+        (
+            "bit_depth_chroma_minus8",
+            Value::Number(u64::from(f.bit_depth_chroma_minus8)),
+        ),
+    ];
+    put_all(&row, sink)
+}
+
+/// How the samples follow one another, and how they are divided.
+fn put_rate<S: FieldSink>(r: &HevcRate, sink: &mut S) -> Result<()>
+    ensures nesting { OnOk result (Keeps S.since fields sink.old sink.new) }
+{
+    let row = [
+        (
+            "constantFrameRate",
+            Value::Number(u64::from(r.constant_frame_rate)),
+        ),
+        (
+            "numTemporalLayers",
+            Value::Number(u64::from(r.num_temporal_layers)),
+        ),
+        ("temporalIdNested", bit(r.temporal_id_nested)),
+        (
+            "lengthSizeMinusOne",
+            Value::Number(u64::from(r.length_size_minus_one)),
+        ),
+    ];
+    put_all(&row, sink)
+}
+
+/// The name of a type of NAL units that an array may have (ISO/IEC 23008-2, Table 7-1).
+fn nal_unit_name(kind: u8) -> &'static str {
+    match kind {
+        32 => "VPS",
+        33 => "SPS",
+        34 => "PPS",
+        39 => "prefix SEI",
+        40 => "suffix SEI",
+        _ => "other",
+    }
+}
+
+/// Hands NAL units to a sink, each as its bytes.
+fn put_nal_units<S: FieldSink>(units: &[HevcNalUnit], sink: &mut S) -> Result<()>
+    ensures nesting { OnOk result (Keeps S.since fields sink.old sink.new) }
+{
+    sink.begin_list("nalUnit", units.len())?;
+    for unit in units.iter().take(sink.rows()) {
+        sink.item(Value::Bytes(unit.bytes.as_slice()))?;
+    }
+    sink.end_list()
+}
+
+/// Hands an array of NAL units to a sink.
+fn put_array<S: FieldSink>(array: &HevcArray, sink: &mut S) -> Result<()>
+    ensures nesting { OnOk result (Keeps S.since entries sink.old sink.new) }
+{
+    let kind = array.kind.nal_unit_type;
+    sink.begin_entry()?;
+    sink.field("array_completeness", bit(array.kind.array_completeness))?;
+    sink.field(
+        "NAL_unit_type",
+        Value::Named(u64::from(kind), nal_unit_name(kind)),
+    )?;
+    put_nal_units(array.nal_units.as_slice(), sink)?;
+    sink.end_entry()
+}
+
+/// Hands arrays of NAL units to a sink.
+fn put_arrays<S: FieldSink>(arrays: &[HevcArray], sink: &mut S) -> Result<()>
+    ensures nesting { OnOk result (Keeps S.since fields sink.old sink.new) }
+{
+    sink.begin_list("arrays", arrays.len())?;
+    for array in arrays.iter().take(sink.rows()) {
+        put_array(array, sink)?;
+    }
+    sink.end_list()
+}
+
+/// How to decode HEVC video.
+pub fn put_hvcc<S: FieldSink>(b: &Hvcc, sink: &mut S) -> Result<()>
+    ensures nesting { OnOk result (Keeps S.since fields sink.old sink.new) }
+{
+    let version = u64::from(b.configuration_version);
+    sink.field("configurationVersion", Value::Number(version))?;
+    put_profile(&b.profile, sink)?;
+    put_format(&b.format, sink)?;
+    sink.field("avgFrameRate", Value::Number(u64::from(b.avg_frame_rate)))?;
+    put_rate(&b.rate, sink)?;
+    put_arrays(b.arrays.as_slice(), sink)
+}
