@@ -10,7 +10,7 @@ import math
 import struct
 
 from slow_fields import Fault, Header
-from slow_more import MORE, Code, Hex, more_fields
+from slow_more import MORE, Code, Hex, Named, more_fields
 from slow_reader import READERS, read_row
 from slow_samples import disagreement
 

@@ -3,6 +3,7 @@ use Rattle.std.specs.Prelude.{◌≡◌, ℕ, ◌+◌, ◌-◌, ◌<◌, ◌≤�
 use Rattle.mp4_frame.specs.Heads.{header, header_length}
 use Rattle.mp4_frame.specs.Reading.{Reading, Refuses, ◌>>=◌}
 use Rattle.mp4_frame.specs.declared.box_type.BoxType.{BoxType}
+use Rattle.mp4_frame.specs.declared.box_type.BoxType.TheVariants as names
 use Rattle.mp4_frame.specs.declared.error.Error.TheVariants as errors
 use Rattle.mp4_inspect.specs.declared.content.Content.{Content}
 use Rattle.mp4_inspect.specs.declared.content.Content.TheVariants as contents

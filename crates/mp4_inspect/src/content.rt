@@ -6,6 +6,7 @@ ghost use Rattle.mp4_frame.specs.Reading.{Answers};
 ghost use Rattle.mp4_io.specs.Ends.{is_write};
 ghost use Rattle.mp4_inspect.specs.Content.{leaf, is_faulty, front, Shows, ShowsKnown, ShowsFront, ShowsAs};
 ghost use Rattle.mp4_inspect.specs.Kind.{kind_of};
+ghost use Rattle.mp4_inspect.specs.declared.kind.Kind.TheVariants as kinds;
 
 use crate::failure::or_read;
 use crate::kind::{Kind, kind_of};

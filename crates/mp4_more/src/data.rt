@@ -29,7 +29,7 @@ pub struct Data {
 }
 
 /// What the box holds: a type indicator of two numbers, a locale indicator of two numbers, and bytes up to its end.
-pub type DataShape = (U8, (U24, (U16, (U16, Last<Rest>))));
+pub type DataShape = (U8, U24, U16, U16, Last<Rest>);
 
 impl DeclaredBox for Data {
     ghost use Rattle.mp4_more.specs.contracts.data.Data.{struct};
