@@ -1,5 +1,5 @@
 -- An entry that is declared: it has a shape of its own.
-use Rattle.std.specs.Prelude.{◌≡◌, List}
+use Rattle.std.specs.Prelude.{◌≡◌}
 use denote.Struct.Record.{Record as Struct}
 use denote.Struct.Values.{Values}
 use Rattle.mp4_declared.specs.Shape.{Shape, mapped_shape}

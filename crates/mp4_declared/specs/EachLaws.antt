@@ -62,13 +62,15 @@ module _ {X : Type 0} (follow : ℕ → Bool) (reads : ℕ → Reading X) (size 
   all_are P each zero at xs e =
       subst (AllByRecursion P)
       (is_value [] xs (ap (λ (r : Reading (List X)). r.outcome) (sym (none_counted at)) ∙ e)) tt
-  all_are P each (suc n) at xs e = by (follow at) refl
+  all_are P each (suc n) at xs e = by (follow at) refl (λ k ys f. all_are P each n k ys f)
     where
-      by : (b : Bool) → follow at ≡ b → AllByRecursion P xs
-      by true is =
+      by : (b : Bool) → follow at ≡ b
+          → ((k : ℕ) (ys : List X) → (one_by_one follow reads size n k).outcome ≡ Ok ys → AllByRecursion P ys)
+          → AllByRecursion P xs
+      by true is rest =
           let p = split n at xs is e in
-          subst (AllByRecursion P) p.4 (each at p.0 p.1, all_are P each n (at + size p.0) p.2 p.3)
-      by false is =
+          subst (AllByRecursion P) p.4 (each at p.0 p.1, rest (at + size p.0) p.2 p.3)
+      by false is rest =
           subst (AllByRecursion P)
           (is_value [] xs (ap (λ (r : Reading (List X)). r.outcome) (sym (none_follow (suc n) at is)) ∙ e)) tt
 

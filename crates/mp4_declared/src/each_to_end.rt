@@ -1,6 +1,6 @@
 //! Entries with a shape of their own, up to the end of a box.
 
-ghost use Rattle.std.specs.Prelude.{◌≡◌, ◌≤◌, ◌<◌, ◌+◌, true, IfOk, length};
+ghost use Rattle.std.specs.Prelude.{◌≡◌, ◌≤◌, ◌<◌, ◌+◌, ◌↔◌, true, All, IfOk, IsTrue, length};
 ghost use Rattle.std.specs.List.{sum_by};
 ghost use Rattle.mp4_frame.specs.Reading.{AnswersAs};
 ghost use Rattle.mp4_declared.specs.DeclaredEntry.{entry_shape};
@@ -22,7 +22,7 @@ pub const NOT_FILLED: &str = "entries do not fill the box";
 /// entry is checked to end in the box.
 pub struct EachToEnd<X>(X);
 
-/// The entry at an offset, and the offset after it. Invalid data if it ends after the box.
+/// The entry at an offset, and the offset after it. Invalid data if it has no bytes, or ends after the box.
 #[tactic(auto, unfolding(crate::specs::EachToEnd::reads_inside))]
 fn read_inside<X: DeclaredEntry>(
     alloc: Global,
@@ -40,7 +40,7 @@ fn read_inside<X: DeclaredEntry>(
     ensures within { IfOk result (λ r. r.1 ≤ length bytes.now) }
 {
     let (entry, next) = read_next::<Entry<X>>(alloc, bytes, at, end, context, false)?;
-    check(next as u64 <= end, NOT_FILLED)?;
+    check(at < next && next as u64 <= end, NOT_FILLED)?;
     Ok((entry, next))
 }
 
@@ -74,14 +74,25 @@ fn read_until_end<X: DeclaredEntry>(
     Ok((entries, next))
 }
 
+/// Whether each entry has some bytes.
+fn each_has_bytes<X: DeclaredEntry>(context: Context, entries: &[X]) -> bool
+    ensures { IsTrue result
+        ↔ All (λ entry. 0 < (entry_shape X.Shape.shape X.layout).size context entry) entries.now }
+{
+    entries.iter().all(
+        |entry: &X| -> bool
+            ensures { IsTrue result ↔ (0 < (entry_shape X.Shape.shape X.layout).size context entry.now) }
+        { Entry::<X>::size(context, entry) > 0 },
+    )
+}
+
 impl<X: DeclaredEntry> Shape for EachToEnd<X> {
     type Value = Entries<X>;
 
     ghost shape = { each_to_end_shape (entry_shape X.Shape.shape X.layout) };
 
     ghost shape_laws = { each_to_end_laws (entry_shape X.Shape.shape X.layout)
-        (laws_of_entry X.Shape.shape X.Shape.shape_laws X.layout)
-        X.begins };
+        (laws_of_entry X.Shape.shape X.Shape.shape_laws X.layout) };
 
     #[inline]
     fn is_fixed() -> bool {
@@ -116,7 +127,7 @@ impl<'a, X: DeclaredEntry> PutShape<&'a [X]> for EachToEnd<X> {
 
     #[inline]
     fn fits(context: Context, value: &'a [X]) -> bool {
-        each_fits(context, value)
+        each_fits(context, value) && each_has_bytes(context, value)
     }
 
     #[inline]
