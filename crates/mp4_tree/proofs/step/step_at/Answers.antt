@@ -1,4 +1,4 @@
-use Rattle.std.proofs.Common.{◌≡◌, ◌-◌, List, ℕ, arith, rules, sym, subst, length, min}
+use Rattle.std.proofs.Common.{◌≡◌, List, ℕ, arith, rules, sym, subst, length}
 use Rattle.std.proofs.lemmas.Option.{IfSome_then}
 use Rattle.std.proofs.lemmas.List.{take_at}
 use Rattle.mp4_tree.specs.Source.{IsWindow}
