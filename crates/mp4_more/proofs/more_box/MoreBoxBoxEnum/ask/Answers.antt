@@ -42,6 +42,9 @@ ask-requires-in-Dac3Box g c = rw c.in-Dac3Box.is at c.requires
 pub returns-in-Dac3Box : goal.returns-in-Dac3Box
 returns-in-Dac3Box g c = rw c.in-Dac3Box.is c.ask-in-Dac3Box.ensures
 
+pub ask-requires-in-DataBox : goal.ask-requires-in-DataBox
+ask-requires-in-DataBox g c = rw c.in-DataBox.is at c.requires
+
 pub returns-in-DataBox : goal.returns-in-DataBox
 returns-in-DataBox g c = rw c.in-DataBox.is c.ask-in-DataBox.ensures
 
@@ -74,6 +77,9 @@ ask-requires-in-FrmaBox g c = rw c.in-FrmaBox.is at c.requires
 
 pub returns-in-FrmaBox : goal.returns-in-FrmaBox
 returns-in-FrmaBox g c = rw c.in-FrmaBox.is c.ask-in-FrmaBox.ensures
+
+pub ask-requires-in-HvccBox : goal.ask-requires-in-HvccBox
+ask-requires-in-HvccBox g c = rw c.in-HvccBox.is at c.requires
 
 pub returns-in-HvccBox : goal.returns-in-HvccBox
 returns-in-HvccBox g c = rw c.in-HvccBox.is c.ask-in-HvccBox.ensures
