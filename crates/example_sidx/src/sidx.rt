@@ -72,7 +72,7 @@ pub struct Sidx {
 type References = Reserved<2, Last<List<U16, SidxEntry, 6, 12>>>;
 
 /// What the box holds: version, flags, numbers, two reserved bytes, a count of 16 bits, and that many references.
-pub type SidxShape = Full<2, (U32, U32, Time, Time, References)>;
+pub type SidxShape = Full<2, (U32, (U32, (Time, (Time, References))))>;
 
 impl DeclaredBox for Sidx {
     ghost use Rattle.example_sidx.specs.contracts.sidx.Sidx.{struct};

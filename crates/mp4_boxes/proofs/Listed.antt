@@ -131,7 +131,8 @@ module _ (B text : List ℕ) (o : ℕ) (there : LinesTo B text o) (inside : o < 
         let is : frame_of_head (length B) h ≡ Ok f = rw sizeless refl in
         let begin : h.begin ≡ o = head_begin B o h shown in
         let end : end_in f ≡ length B = omega (arith, head_room B o h shown) in
-        let here = rw (end, begin) at spans_here f (frame_here ∙ is) in
+        let first = spans_here f (frame_here ∙ is) in
+        let here = rw (end, begin) at first in
         let none : (spans B (length B)).outcome ≡ Ok [] =
         ap (λ (r : Reading (List BoxSpan)). r.outcome) (walk_none span_item B (length B) (omega arith)) in (
           there.0,

@@ -14,30 +14,32 @@ fn put_profile<S: FieldSink>(p: &HevcProfile, sink: &mut S) -> Result<()>
     ensures nesting { OnOk result (Keeps S.since fields sink.old sink.new) }
 {
     let constraints = p.general_constraint_indicator_flags.to_be_bytes();
-    let row = [
-        (
-            "general_profile_space",
-            Value::Number(u64::from(p.general_profile_space)),
-        ),
-        ("general_tier_flag", bit(p.general_tier_flag)),
-        (
-            "general_profile_idc",
-            Value::Number(u64::from(p.general_profile_idc)),
-        ),
-        (
-            "general_profile_compatibility_flags",
-            Value::Flags(p.general_profile_compatibility_flags, 8, NONE),
-        ),
-        (
-            "general_constraint_indicator_flags",
-            Value::Bytes(&constraints[2..]),
-        ),
-        (
-            "general_level_idc",
-            Value::Number(u64::from(p.general_level_idc)),
-        ),
-    ];
-    put_all(&row, sink)
+    put_all(
+        &[
+            (
+                "general_profile_space",
+                Value::Number(u64::from(p.general_profile_space)),
+            ),
+            ("general_tier_flag", bit(p.general_tier_flag)),
+            (
+                "general_profile_idc",
+                Value::Number(u64::from(p.general_profile_idc)),
+            ),
+            (
+                "general_profile_compatibility_flags",
+                Value::Flags(p.general_profile_compatibility_flags, 8, NONE),
+            ),
+        ],
+        sink,
+    )?;
+    sink.field(
+        "general_constraint_indicator_flags",
+        Value::Bytes(&constraints[2..]),
+    )?;
+    sink.field(
+        "general_level_idc",
+        Value::Number(u64::from(p.general_level_idc)),
+    )
 }
 
 /// How pictures are divided, and what their samples are.
