@@ -32,7 +32,6 @@ impl DeclaredBox for Range {
       value = λ x. record { least = x.0; most = x.1.0; mark = 0 };
       again = λ _. refl;
       coded = lit< tt;
-      own = refl;
     } };
 
     const CODE: u32 = RANG;

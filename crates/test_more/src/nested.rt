@@ -85,7 +85,7 @@ impl DeclaredBox for Nested {
 
     ghost CODE = { NEST };
 
-    ghost layout = { layout_of struct (λ _. tt) (λ _. refl) (lit< tt) refl };
+    ghost layout = { layout_of struct (λ _. tt) (λ _. refl) (lit< tt) };
 
     const CODE: u32 = NEST;
 
@@ -156,7 +156,7 @@ impl DeclaredBox for Lines {
 
     ghost CODE = { LINS };
 
-    ghost layout = { layout_of struct (λ _. tt) (λ _. refl) (lit< tt) refl };
+    ghost layout = { layout_of struct (λ _. tt) (λ _. refl) (lit< tt) };
 
     const CODE: u32 = LINS;
 
