@@ -268,10 +268,9 @@ const WIDE: [SidxEntry; 3] = [
     },
 ];
 
-#[test]
-fn lists_that_do_not_fit(rt: HostRuntime) -> Result<(), Fail> {
-    let alloc = rt.alloc();
-    let endings = [
+/// Boxes whose parts don't fit what decides of them, or their bytes.
+fn boxes_of_parts(alloc: Global) -> Made<[&'static str; 15]> {
+    Ok([
         av1c(alloc)?,
         colr(alloc)?,
         sdtp(alloc)?,
@@ -287,6 +286,12 @@ fn lists_that_do_not_fit(rt: HostRuntime) -> Result<(), Fail> {
         strings(alloc, b"", b"", b"\x81\0")?,
         runs(alloc, 256, 255)?,
         runs(alloc, 255, 256)?,
+    ])
+}
+
+/// Lists of entries with shapes of their own.
+fn boxes_of_entries(alloc: Global) -> Made<[&'static str; 8]> {
+    Ok([
         nested(alloc, (2, 0), 0, 0, 0)?,
         nested(alloc, (0, 1 << 24), 0, 0, 0)?,
         nested(alloc, (0, 0), 256, 0, 0)?,
@@ -295,6 +300,21 @@ fn lists_that_do_not_fit(rt: HostRuntime) -> Result<(), Fail> {
         lines(alloc, b"\x88\0", 0, 0)?,
         lines(alloc, b"", 1 << 32, 1)?,
         lines(alloc, b"", 0, 256)?,
+    ])
+}
+
+/// The largest of them that fit.
+fn largest_boxes(alloc: Global) -> Made<[&'static str; 3]> {
+    Ok([
+        nested(alloc, (0, 0xff_ffff), 255, (1 << 32) - 1, 1)?,
+        nested(alloc, (1, 0), 0, 1 << 32, 1)?,
+        lines(alloc, b"", (1 << 32) - 1, 255)?,
+    ])
+}
+
+/// Segment indexes.
+fn indexes(alloc: Global) -> Made<[&'static str; 9]> {
+    Ok([
         sidx(alloc, (0, 0, 0, 0), 1, WIDE[0])?,
         sidx(alloc, (0, 0, 0, 0), 1, WIDE[1])?,
         sidx(alloc, (0, 0, 0, 0), 1, WIDE[2])?,
@@ -304,13 +324,15 @@ fn lists_that_do_not_fit(rt: HostRuntime) -> Result<(), Fail> {
         sidx(alloc, (0, 0, 1 << 32, 0), 0, SidxEntry::default())?,
         sidx(alloc, (0, 0, 0, 1 << 32), 0, SidxEntry::default())?,
         sidx(alloc, (0, 0, 1 << 32, 1 << 32), 0, SidxEntry::default())?,
-    ];
-    assert_eq!(rt; endings, [UNFIT; 32]);
-    let written = [
-        nested(alloc, (0, 0xff_ffff), 255, (1 << 32) - 1, 1)?,
-        nested(alloc, (1, 0), 0, 1 << 32, 1)?,
-        lines(alloc, b"", (1 << 32) - 1, 255)?,
-    ];
-    assert_eq!(rt; written, ["ok"; 3]);
+    ])
+}
+
+#[test]
+fn lists_that_do_not_fit(rt: HostRuntime) -> Result<(), Fail> {
+    let alloc = rt.alloc();
+    assert_eq!(rt; boxes_of_parts(alloc)?, [UNFIT; 15]);
+    assert_eq!(rt; boxes_of_entries(alloc)?, [UNFIT; 8]);
+    assert_eq!(rt; indexes(alloc)?, [UNFIT; 9]);
+    assert_eq!(rt; largest_boxes(alloc)?, ["ok"; 3]);
     Ok(())
 }
