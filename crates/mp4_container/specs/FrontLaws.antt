@@ -11,7 +11,7 @@ use Rattle.mp4_container.specs.Parents.{sound_fields, begins_with_zeros, width_i
 use Rattle.mp4_container.specs.declared.parents.Front.{Front}
 use Rattle.mp4_container.specs.declared.parents.Front.TheVariants as fronts
 
-abbrev by_version : ℕ → ℕ
+abbrev pub by_version : ℕ → ℕ
 by_version n = cond (n == 1) 44 (cond (n == 2) 64 28)
 
 by_version_least : (n : ℕ) → 28 ≤ by_version n
@@ -19,13 +19,13 @@ by_version_least n =
     cond_both (n == 1) 44 (cond (n == 2) 64 28) (λ k. 28 ≤ k) (λ _. omega arith)
     (λ _. cond_both (n == 2) 64 28 (λ k. 28 ≤ k) (λ _. omega arith) (λ _. omega arith))
 
-sound_least : (content : List ℕ) → 28 ≤ sound_fields content
+pub sound_least : (content : List ℕ) → 28 ≤ sound_fields content
 unfolding sound_fields
 sound_least content =
     cond_both (nat_lt (length content) 10) 28 (by_version (number content 8 2)) (λ k. 28 ≤ k) (λ _. omega arith)
     (λ _. by_version_least (number content 8 2))
 
-sound_long : (content : List ℕ) → 10 ≤ length content → sound_fields content ≡ by_version (number content 8 2)
+pub sound_long : (content : List ℕ) → 10 ≤ length content → sound_fields content ≡ by_version (number content 8 2)
 unfolding sound_fields
 sound_long content long = rw (le-ltb (length content) 10 long) refl
 

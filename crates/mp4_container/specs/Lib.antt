@@ -1,5 +1,7 @@
 pub mod Parents
 pub mod FrontLaws
+pub mod SampleEntry
+pub mod SampleEntryLaws
 pub mod HeldBoxes
 pub mod Container
 pub mod ContainerLaws

@@ -34,7 +34,7 @@ pub const EC3: u32 = 0x6563_2d33;
 pub const ENCA: u32 = 0x656e_6361;
 
 /// Whether it is the code of a sample entry of video (ISO/IEC 14496-12, 12.1.3).
-fn is_video(code: u32) -> bool
+pub(crate) fn is_video(code: u32) -> bool
     ensures { result ≡ is_video code }
 {
     matches!(
@@ -44,7 +44,7 @@ fn is_video(code: u32) -> bool
 }
 
 /// Whether it is the code of a sample entry of sound (ISO/IEC 14496-12, 12.2.3).
-fn is_sound(code: u32) -> bool
+pub(crate) fn is_sound(code: u32) -> bool
     ensures { result ≡ is_sound code }
 {
     matches!(code, MP4A | OPUS | FLAC | ALAC | AC3 | EC3 | ENCA)
@@ -96,7 +96,7 @@ pub(crate) fn front_of(code: u32) -> Front
 
 /// How many bytes of fields a sample entry of sound has, by its version in this content.
 #[tactic(auto, unfolding(crate::specs::Parents::sound_fields))]
-fn sound_fields(content: &[u8]) -> usize
+pub(crate) fn sound_fields(content: &[u8]) -> usize
     ensures { result ≡ sound_fields content.now }
 {
     if content.len() < 10 {
