@@ -1,15 +1,5 @@
-pub mod ToEnd
-pub mod ToEndLaws
-pub mod Typed
-pub mod TypedLaws
-pub mod OrZeros
-pub mod OrZerosLaws
 pub mod MoreType
 pub mod MoreTypeLaws
 pub mod MoreBox
 pub mod MoreBoxLaws
-pub mod ByVersion
-pub mod ByVersionLaws
-pub mod SignedTime
-pub mod SignedTimeLaws
 pub mod AllBoxes

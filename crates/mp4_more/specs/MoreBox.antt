@@ -7,15 +7,18 @@ use Rattle.mp4_more.specs.declared.more_type.MoreType.{MoreType}
 use Rattle.mp4_more.specs.declared.more_type.MoreType.TheVariants as types
 use Rattle.mp4_more.specs.declared.more_box.MoreBox.{MoreBox}
 use Rattle.mp4_more.specs.declared.more_box.MoreBox.TheVariants as more
-use Rattle.mp4_more.specs.declared.{av1c.Av1c.Av1c, btrt.Btrt.Btrt, clap.Clap.Clap, clli.Clli.Clli, colr.Colr.Colr}
-use Rattle.mp4_more.specs.declared.{cslg.Cslg.Cslg, dac3.Dac3.Dac3, data.Data.Data, dec3.Dec3.Dec3, dfla.Dfla.Dfla}
-use Rattle.mp4_more.specs.declared.{dops.Dops.Dops, elng.Elng.Elng, frma.Frma.Frma, hvcc.Hvcc.Hvcc, keys.Keys.Keys}
-use Rattle.mp4_more.specs.declared.{mdcv.Mdcv.Mdcv, mfro.Mfro.Mfro}
-use Rattle.mp4_more.specs.declared.{nmhd.Nmhd.Nmhd, pasp.Pasp.Pasp, prft.Prft.Prft, pssh.Pssh.Pssh, saio.Saio.Saio}
-use Rattle.mp4_more.specs.declared.{saiz.Saiz.Saiz, sbgp.Sbgp.Sbgp, schm.Schm.Schm, sdtp.Sdtp.Sdtp, senc.Senc.Senc}
-use Rattle.mp4_more.specs.declared.{sgpd.Sgpd.Sgpd, sidx.Sidx.Sidx, styp.Styp.Styp, stz2.Stz2.Stz2, subs.Subs.Subs}
-use Rattle.mp4_more.specs.declared.{tenc.Tenc.Tenc, tfra.Tfra.Tfra, tref.Tref.Tref}
-use Rattle.mp4_more.specs.declared.kind.Kind.{Kind as TrackKind}
+use Rattle.mp4_more_media.specs.declared.{av1c.Av1c.Av1c, btrt.Btrt.Btrt, clap.Clap.Clap, clli.Clli.Clli}
+use Rattle.mp4_more_media.specs.declared.{colr.Colr.Colr, dac3.Dac3.Dac3, dec3.Dec3.Dec3, dfla.Dfla.Dfla}
+use Rattle.mp4_more_media.specs.declared.{dops.Dops.Dops, hvcc.Hvcc.Hvcc, mdcv.Mdcv.Mdcv, pasp.Pasp.Pasp}
+use Rattle.mp4_more_media.specs.declared.{stpp.Stpp.Stpp, wvtt.Wvtt.Wvtt}
+use Rattle.mp4_more_samples.specs.declared.{cslg.Cslg.Cslg, saio.Saio.Saio, saiz.Saiz.Saiz, sbgp.Sbgp.Sbgp}
+use Rattle.mp4_more_samples.specs.declared.{sdtp.Sdtp.Sdtp, senc.Senc.Senc, sgpd.Sgpd.Sgpd, stz2.Stz2.Stz2}
+use Rattle.mp4_more_samples.specs.declared.{subs.Subs.Subs}
+use Rattle.mp4_more_tracks.specs.declared.{data.Data.Data, elng.Elng.Elng, frma.Frma.Frma, keys.Keys.Keys}
+use Rattle.mp4_more_tracks.specs.declared.{mfro.Mfro.Mfro, nmhd.Nmhd.Nmhd, prft.Prft.Prft, pssh.Pssh.Pssh}
+use Rattle.mp4_more_tracks.specs.declared.{schm.Schm.Schm, sidx.Sidx.Sidx, styp.Styp.Styp, tenc.Tenc.Tenc}
+use Rattle.mp4_more_tracks.specs.declared.{tfra.Tfra.Tfra, tref.Tref.Tref}
+use Rattle.mp4_more_tracks.specs.declared.kind.Kind.{Kind as TrackKind}
 
 -- the fields of the boxes of a type
 abbrev pub FieldsOf : MoreType → Type 0
@@ -49,12 +52,14 @@ FieldsOf types.SdtpBox = Sdtp
 FieldsOf types.SencBox = Senc
 FieldsOf types.SgpdBox = Sgpd
 FieldsOf types.SidxBox = Sidx
+FieldsOf types.StppBox = Stpp
 FieldsOf types.StypBox = Styp
 FieldsOf types.Stz2Box = Stz2
 FieldsOf types.SubsBox = Subs
 FieldsOf types.TencBox = Tenc
 FieldsOf types.TfraBox = Tfra
 FieldsOf types.TrefBox = Tref
+FieldsOf types.WvttBox = Wvtt
 
 abbrev pub wrap : (t : MoreType) → FieldsOf t → MoreBox
 wrap types.Av1cBox = more.Av1cBox
@@ -87,12 +92,14 @@ wrap types.SdtpBox = more.SdtpBox
 wrap types.SencBox = more.SencBox
 wrap types.SgpdBox = more.SgpdBox
 wrap types.SidxBox = more.SidxBox
+wrap types.StppBox = more.StppBox
 wrap types.StypBox = more.StypBox
 wrap types.Stz2Box = more.Stz2Box
 wrap types.SubsBox = more.SubsBox
 wrap types.TencBox = more.TencBox
 wrap types.TfraBox = more.TfraBox
 wrap types.TrefBox = more.TrefBox
+wrap types.WvttBox = more.WvttBox
 
 -- the type of a box, and its fields
 abbrev pub opened : MoreBox → (t : MoreType) × FieldsOf t
@@ -126,12 +133,14 @@ opened (more.SdtpBox fields) = (types.SdtpBox, fields)
 opened (more.SencBox fields) = (types.SencBox, fields)
 opened (more.SgpdBox fields) = (types.SgpdBox, fields)
 opened (more.SidxBox fields) = (types.SidxBox, fields)
+opened (more.StppBox fields) = (types.StppBox, fields)
 opened (more.StypBox fields) = (types.StypBox, fields)
 opened (more.Stz2Box fields) = (types.Stz2Box, fields)
 opened (more.SubsBox fields) = (types.SubsBox, fields)
 opened (more.TencBox fields) = (types.TencBox, fields)
 opened (more.TfraBox fields) = (types.TfraBox, fields)
 opened (more.TrefBox fields) = (types.TrefBox, fields)
+opened (more.WvttBox fields) = (types.WvttBox, fields)
 
 -- how the boxes of a code are declared
 pub record Declaration (code : ℕ) (V : Type 0) : Type 1 where

@@ -2,19 +2,19 @@
 use Rattle.std.specs.Prelude.{ℕ, ◌==◌, if◌then◌else◌, List, [], ◌∷◌, Option, None, Some}
 use Rattle.mp4_more.specs.declared.more_type.MoreType.{MoreType}
 use Rattle.mp4_more.specs.declared.more_type.MoreType.TheVariants as types
-use Rattle.mp4_more.specs.declared.{av1c.TheConstants.AV1C, btrt.TheConstants.BTRT, clap.TheConstants.CLAP}
-use Rattle.mp4_more.specs.declared.{clli.TheConstants.CLLI, colr.TheConstants.COLR, cslg.TheConstants.CSLG}
-use Rattle.mp4_more.specs.declared.{dac3.TheConstants.DAC3, data.TheConstants.DATA, dec3.TheConstants.DEC3}
-use Rattle.mp4_more.specs.declared.{dfla.TheConstants.DFLA, dops.TheConstants.DOPS, elng.TheConstants.ELNG}
-use Rattle.mp4_more.specs.declared.{frma.TheConstants.FRMA, hvcc.TheConstants.HVCC}
-use Rattle.mp4_more.specs.declared.{keys.TheConstants.KEYS, kind.TheConstants.KIND, mdcv.TheConstants.MDCV}
-use Rattle.mp4_more.specs.declared.{mfro.TheConstants.MFRO, nmhd.TheConstants.NMHD, pasp.TheConstants.PASP}
-use Rattle.mp4_more.specs.declared.{prft.TheConstants.PRFT, pssh.TheConstants.PSSH, saio.TheConstants.SAIO}
-use Rattle.mp4_more.specs.declared.{saiz.TheConstants.SAIZ, sbgp.TheConstants.SBGP, schm.TheConstants.SCHM}
-use Rattle.mp4_more.specs.declared.{sdtp.TheConstants.SDTP, senc.TheConstants.SENC, sgpd.TheConstants.SGPD}
-use Rattle.mp4_more.specs.declared.{sidx.TheConstants.SIDX, styp.TheConstants.STYP, stz2.TheConstants.STZ2}
-use Rattle.mp4_more.specs.declared.{subs.TheConstants.SUBS, tenc.TheConstants.TENC, tfra.TheConstants.TFRA}
-use Rattle.mp4_more.specs.declared.{tref.TheConstants.TREF}
+use Rattle.mp4_more_media.specs.declared.{av1c.TheConstants.AV1C, btrt.TheConstants.BTRT, clap.TheConstants.CLAP}
+use Rattle.mp4_more_media.specs.declared.{clli.TheConstants.CLLI, colr.TheConstants.COLR, dac3.TheConstants.DAC3}
+use Rattle.mp4_more_media.specs.declared.{dec3.TheConstants.DEC3, dfla.TheConstants.DFLA, dops.TheConstants.DOPS}
+use Rattle.mp4_more_media.specs.declared.{hvcc.TheConstants.HVCC, mdcv.TheConstants.MDCV, pasp.TheConstants.PASP}
+use Rattle.mp4_more_media.specs.declared.{stpp.TheConstants.STPP, wvtt.TheConstants.WVTT}
+use Rattle.mp4_more_samples.specs.declared.{cslg.TheConstants.CSLG, saio.TheConstants.SAIO, saiz.TheConstants.SAIZ}
+use Rattle.mp4_more_samples.specs.declared.{sbgp.TheConstants.SBGP, sdtp.TheConstants.SDTP, senc.TheConstants.SENC}
+use Rattle.mp4_more_samples.specs.declared.{sgpd.TheConstants.SGPD, stz2.TheConstants.STZ2, subs.TheConstants.SUBS}
+use Rattle.mp4_more_tracks.specs.declared.{data.TheConstants.DATA, elng.TheConstants.ELNG, frma.TheConstants.FRMA}
+use Rattle.mp4_more_tracks.specs.declared.{keys.TheConstants.KEYS, kind.TheConstants.KIND, mfro.TheConstants.MFRO}
+use Rattle.mp4_more_tracks.specs.declared.{nmhd.TheConstants.NMHD, prft.TheConstants.PRFT, pssh.TheConstants.PSSH}
+use Rattle.mp4_more_tracks.specs.declared.{schm.TheConstants.SCHM, sidx.TheConstants.SIDX, styp.TheConstants.STYP}
+use Rattle.mp4_more_tracks.specs.declared.{tenc.TheConstants.TENC, tfra.TheConstants.TFRA, tref.TheConstants.TREF}
 
 abbrev pub code_of_type : MoreType → ℕ
 code_of_type types.Av1cBox = AV1C
@@ -47,12 +47,14 @@ code_of_type types.SdtpBox = SDTP
 code_of_type types.SencBox = SENC
 code_of_type types.SgpdBox = SGPD
 code_of_type types.SidxBox = SIDX
+code_of_type types.StppBox = STPP
 code_of_type types.StypBox = STYP
 code_of_type types.Stz2Box = STZ2
 code_of_type types.SubsBox = SUBS
 code_of_type types.TencBox = TENC
 code_of_type types.TfraBox = TFRA
 code_of_type types.TrefBox = TREF
+code_of_type types.WvttBox = WVTT
 
 abbrev pub all_types : List MoreType
 all_types =
@@ -60,8 +62,8 @@ all_types =
     ∷ types.DataBox ∷ types.Dec3Box ∷ types.DflaBox ∷ types.DopsBox ∷ types.ElngBox ∷ types.FrmaBox ∷ types.HvccBox
     ∷ types.KeysBox ∷ types.KindBox ∷ types.MdcvBox ∷ types.MfroBox ∷ types.NmhdBox ∷ types.PaspBox ∷ types.PrftBox
     ∷ types.PsshBox ∷ types.SaioBox ∷ types.SaizBox ∷ types.SbgpBox ∷ types.SchmBox ∷ types.SdtpBox ∷ types.SencBox
-    ∷ types.SgpdBox ∷ types.SidxBox ∷ types.StypBox ∷ types.Stz2Box ∷ types.SubsBox ∷ types.TencBox ∷ types.TfraBox
-    ∷ types.TrefBox ∷ []
+    ∷ types.SgpdBox ∷ types.SidxBox ∷ types.StppBox ∷ types.StypBox ∷ types.Stz2Box ∷ types.SubsBox ∷ types.TencBox
+    ∷ types.TfraBox ∷ types.TrefBox ∷ types.WvttBox ∷ []
 
 -- the type of this code among some types
 abbrev pub type_among : List MoreType → ℕ → Option MoreType

@@ -15,8 +15,9 @@ use crate::{
     Dac3Box, Data, DataBox, Dec3, Dec3Box, Dfla, DflaBox, Dops, DopsBox, Elng, ElngBox, Frma,
     FrmaBox, Hvcc, HvccBox, Keys, KeysBox, Kind, KindBox, Mdcv, MdcvBox, Mfro, MfroBox, Nmhd,
     NmhdBox, Pasp, PaspBox, Prft, PrftBox, Pssh, PsshBox, Saio, SaioBox, Saiz, SaizBox, Sbgp,
-    SbgpBox, Schm, SchmBox, Sdtp, SdtpBox, Senc, SencBox, Sgpd, SgpdBox, Sidx, SidxBox, Styp,
-    StypBox, Stz2, Stz2Box, Subs, SubsBox, Tenc, TencBox, Tfra, TfraBox, Tref, TrefBox,
+    SbgpBox, Schm, SchmBox, Sdtp, SdtpBox, Senc, SencBox, Sgpd, SgpdBox, Sidx, SidxBox, Stpp,
+    StppBox, Styp, StypBox, Stz2, Stz2Box, Subs, SubsBox, Tenc, TencBox, Tfra, TfraBox, Tref,
+    TrefBox, Wvtt, WvttBox,
 };
 use mp4_lists::CodedEnum;
 use mp4_stream::author::{BoxEnum, DeclaredBox, Question, Shape, clone_as, read_as};
@@ -32,7 +33,7 @@ macro_rules! of_boxes {
                 Av1cBox BtrtBox ClapBox ClliBox ColrBox CslgBox Dac3Box DataBox Dec3Box DflaBox
                 DopsBox ElngBox FrmaBox HvccBox KeysBox KindBox MdcvBox MfroBox NmhdBox PaspBox
                 PrftBox PsshBox SaioBox SaizBox SbgpBox SchmBox SdtpBox SencBox SgpdBox SidxBox
-                StypBox Stz2Box SubsBox TencBox TfraBox TrefBox
+                StppBox StypBox Stz2Box SubsBox TencBox TfraBox TrefBox WvttBox
             ]
             $($rest)*
         }
@@ -99,12 +100,14 @@ pub enum MoreBox {
     SencBox(SencBox),
     SgpdBox(SgpdBox),
     SidxBox(SidxBox),
+    StppBox(StppBox),
     StypBox(StypBox),
     Stz2Box(Stz2Box),
     SubsBox(SubsBox),
     TencBox(TencBox),
     TfraBox(TfraBox),
     TrefBox(TrefBox),
+    WvttBox(WvttBox),
 }
 
 /// Prints a variant of this name, with this value inside.
@@ -165,12 +168,14 @@ impl Declares for MoreBox {
       | types.SencBox ↦ shaped ⟦<<Senc as DeclaredBox>::Shape as Shape>⟧.shape_laws ⟦<Senc as DeclaredBox>⟧.layout refl
       | types.SgpdBox ↦ shaped ⟦<<Sgpd as DeclaredBox>::Shape as Shape>⟧.shape_laws ⟦<Sgpd as DeclaredBox>⟧.layout refl
       | types.SidxBox ↦ shaped ⟦<<Sidx as DeclaredBox>::Shape as Shape>⟧.shape_laws ⟦<Sidx as DeclaredBox>⟧.layout refl
+      | types.StppBox ↦ shaped ⟦<<Stpp as DeclaredBox>::Shape as Shape>⟧.shape_laws ⟦<Stpp as DeclaredBox>⟧.layout refl
       | types.StypBox ↦ shaped ⟦<<Styp as DeclaredBox>::Shape as Shape>⟧.shape_laws ⟦<Styp as DeclaredBox>⟧.layout refl
       | types.Stz2Box ↦ shaped ⟦<<Stz2 as DeclaredBox>::Shape as Shape>⟧.shape_laws ⟦<Stz2 as DeclaredBox>⟧.layout refl
       | types.SubsBox ↦ shaped ⟦<<Subs as DeclaredBox>::Shape as Shape>⟧.shape_laws ⟦<Subs as DeclaredBox>⟧.layout refl
       | types.TencBox ↦ shaped ⟦<<Tenc as DeclaredBox>::Shape as Shape>⟧.shape_laws ⟦<Tenc as DeclaredBox>⟧.layout refl
       | types.TfraBox ↦ shaped ⟦<<Tfra as DeclaredBox>::Shape as Shape>⟧.shape_laws ⟦<Tfra as DeclaredBox>⟧.layout refl
       | types.TrefBox ↦ shaped ⟦<<Tref as DeclaredBox>::Shape as Shape>⟧.shape_laws ⟦<Tref as DeclaredBox>⟧.layout refl
+      | types.WvttBox ↦ shaped ⟦<<Wvtt as DeclaredBox>::Shape as Shape>⟧.shape_laws ⟦<Wvtt as DeclaredBox>⟧.layout refl
     ] };
 }
 
@@ -456,6 +461,14 @@ impl Holds<SidxBox> for MoreBox {
     }
 }
 
+impl Holds<StppBox> for MoreBox {
+    ghost wrapped = { more.StppBox };
+
+    fn wrap(value: StppBox) -> MoreBox {
+        MoreBox::StppBox(value)
+    }
+}
+
 impl Holds<StypBox> for MoreBox {
     ghost wrapped = { more.StypBox };
 
@@ -501,5 +514,13 @@ impl Holds<TrefBox> for MoreBox {
 
     fn wrap(value: TrefBox) -> MoreBox {
         MoreBox::TrefBox(value)
+    }
+}
+
+impl Holds<WvttBox> for MoreBox {
+    ghost wrapped = { more.WvttBox };
+
+    fn wrap(value: WvttBox) -> MoreBox {
+        MoreBox::WvttBox(value)
     }
 }

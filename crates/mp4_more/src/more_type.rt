@@ -3,10 +3,12 @@
 ghost use Rattle.std.specs.Prelude.{◌≡◌};
 ghost use Rattle.mp4_more.specs.MoreType.{type_of_code};
 
-use crate::{
-    AV1C, BTRT, CLAP, CLLI, COLR, CSLG, DAC3, DATA, DEC3, DFLA, DOPS, ELNG, FRMA, HVCC, KEYS, KIND,
-    MDCV, MFRO, NMHD, PASP, PRFT, PSSH, SAIO, SAIZ, SBGP, SCHM, SDTP, SENC, SGPD, SIDX, STYP, STZ2,
-    SUBS, TENC, TFRA, TREF,
+use mp4_more_media::{
+    av1c, btrt, clap, clli, colr, dac3, dec3, dfla, dops, hvcc, mdcv, pasp, stpp, wvtt,
+};
+use mp4_more_samples::{cslg, saio, saiz, sbgp, sdtp, senc, sgpd, stz2, subs};
+use mp4_more_tracks::{
+    data, elng, frma, keys, kind, mfro, nmhd, prft, pssh, schm, sidx, styp, tenc, tfra, tref,
 };
 
 /// A type of boxes that a `MoreBox` holds.
@@ -42,12 +44,14 @@ pub(crate) enum MoreType {
     SencBox,
     SgpdBox,
     SidxBox,
+    StppBox,
     StypBox,
     Stz2Box,
     SubsBox,
     TencBox,
     TfraBox,
     TrefBox,
+    WvttBox,
 }
 
 impl MoreType {
@@ -57,42 +61,44 @@ impl MoreType {
         ensures { result ≡ type_of_code code }
     {
         match code {
-            AV1C => Some(MoreType::Av1cBox),
-            BTRT => Some(MoreType::BtrtBox),
-            CLAP => Some(MoreType::ClapBox),
-            CLLI => Some(MoreType::ClliBox),
-            COLR => Some(MoreType::ColrBox),
-            CSLG => Some(MoreType::CslgBox),
-            DAC3 => Some(MoreType::Dac3Box),
-            DATA => Some(MoreType::DataBox),
-            DEC3 => Some(MoreType::Dec3Box),
-            DFLA => Some(MoreType::DflaBox),
-            DOPS => Some(MoreType::DopsBox),
-            ELNG => Some(MoreType::ElngBox),
-            FRMA => Some(MoreType::FrmaBox),
-            HVCC => Some(MoreType::HvccBox),
-            KEYS => Some(MoreType::KeysBox),
-            KIND => Some(MoreType::KindBox),
-            MDCV => Some(MoreType::MdcvBox),
-            MFRO => Some(MoreType::MfroBox),
-            NMHD => Some(MoreType::NmhdBox),
-            PASP => Some(MoreType::PaspBox),
-            PRFT => Some(MoreType::PrftBox),
-            PSSH => Some(MoreType::PsshBox),
-            SAIO => Some(MoreType::SaioBox),
-            SAIZ => Some(MoreType::SaizBox),
-            SBGP => Some(MoreType::SbgpBox),
-            SCHM => Some(MoreType::SchmBox),
-            SDTP => Some(MoreType::SdtpBox),
-            SENC => Some(MoreType::SencBox),
-            SGPD => Some(MoreType::SgpdBox),
-            SIDX => Some(MoreType::SidxBox),
-            STYP => Some(MoreType::StypBox),
-            STZ2 => Some(MoreType::Stz2Box),
-            SUBS => Some(MoreType::SubsBox),
-            TENC => Some(MoreType::TencBox),
-            TFRA => Some(MoreType::TfraBox),
-            TREF => Some(MoreType::TrefBox),
+            av1c::AV1C => Some(MoreType::Av1cBox),
+            btrt::BTRT => Some(MoreType::BtrtBox),
+            clap::CLAP => Some(MoreType::ClapBox),
+            clli::CLLI => Some(MoreType::ClliBox),
+            colr::COLR => Some(MoreType::ColrBox),
+            cslg::CSLG => Some(MoreType::CslgBox),
+            dac3::DAC3 => Some(MoreType::Dac3Box),
+            data::DATA => Some(MoreType::DataBox),
+            dec3::DEC3 => Some(MoreType::Dec3Box),
+            dfla::DFLA => Some(MoreType::DflaBox),
+            dops::DOPS => Some(MoreType::DopsBox),
+            elng::ELNG => Some(MoreType::ElngBox),
+            frma::FRMA => Some(MoreType::FrmaBox),
+            hvcc::HVCC => Some(MoreType::HvccBox),
+            keys::KEYS => Some(MoreType::KeysBox),
+            kind::KIND => Some(MoreType::KindBox),
+            mdcv::MDCV => Some(MoreType::MdcvBox),
+            mfro::MFRO => Some(MoreType::MfroBox),
+            nmhd::NMHD => Some(MoreType::NmhdBox),
+            pasp::PASP => Some(MoreType::PaspBox),
+            prft::PRFT => Some(MoreType::PrftBox),
+            pssh::PSSH => Some(MoreType::PsshBox),
+            saio::SAIO => Some(MoreType::SaioBox),
+            saiz::SAIZ => Some(MoreType::SaizBox),
+            sbgp::SBGP => Some(MoreType::SbgpBox),
+            schm::SCHM => Some(MoreType::SchmBox),
+            sdtp::SDTP => Some(MoreType::SdtpBox),
+            senc::SENC => Some(MoreType::SencBox),
+            sgpd::SGPD => Some(MoreType::SgpdBox),
+            sidx::SIDX => Some(MoreType::SidxBox),
+            stpp::STPP => Some(MoreType::StppBox),
+            styp::STYP => Some(MoreType::StypBox),
+            stz2::STZ2 => Some(MoreType::Stz2Box),
+            subs::SUBS => Some(MoreType::SubsBox),
+            tenc::TENC => Some(MoreType::TencBox),
+            tfra::TFRA => Some(MoreType::TfraBox),
+            tref::TREF => Some(MoreType::TrefBox),
+            wvtt::WVTT => Some(MoreType::WvttBox),
             _ => None,
         }
     }

@@ -11,6 +11,7 @@ mod samples;
 mod segments;
 mod sound;
 mod subsamples;
+mod subtitles;
 mod tracks;
 mod video;
 
@@ -25,6 +26,7 @@ use samples::{put_cslg, put_saio, put_saiz, put_sbgp, put_sdtp, put_stz2};
 use segments::{put_mfro, put_prft, put_sidx, put_styp, put_tfra};
 use sound::{put_dac3, put_dec3, put_dops};
 use subsamples::put_subs;
+use subtitles::{put_stpp, put_wvtt};
 use tracks::{put_btrt, put_data_value, put_elng, put_keys, put_kind, put_nmhd, put_tref};
 use video::{put_av1c, put_clap, put_clli, put_colr, put_mdcv, put_pasp};
 
@@ -63,11 +65,13 @@ pub fn put_more<S: FieldSink>(more: &MoreBox, sink: &mut S) -> Result<()>
         MoreBox::SencBox(b) => put_senc(b, sink),
         MoreBox::SgpdBox(b) => put_sgpd(b, sink),
         MoreBox::SidxBox(b) => put_sidx(b, sink),
+        MoreBox::StppBox(b) => put_stpp(b, sink),
         MoreBox::StypBox(b) => put_styp(b, sink),
         MoreBox::Stz2Box(b) => put_stz2(b, sink),
         MoreBox::SubsBox(b) => put_subs(b, sink),
         MoreBox::TencBox(b) => put_tenc(b, sink),
         MoreBox::TfraBox(b) => put_tfra(b, sink),
         MoreBox::TrefBox(b) => put_tref(b, sink),
+        MoreBox::WvttBox(b) => put_wvtt(b, sink),
     }
 }

@@ -2,7 +2,7 @@
 //! standards, as they spell them.
 #![tactic(auto)]
 
-mod boxes;
+mod entries;
 mod fields;
 mod flag_names;
 mod has_fields;

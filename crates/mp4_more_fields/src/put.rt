@@ -35,6 +35,16 @@ pub fn put_string<S: FieldSink>(name: &str, bytes: &[u8], sink: &mut S) -> Resul
     }
 }
 
+/// Hands bytes that follow the other fields to a sink, unless there are none.
+pub fn put_rest<S: FieldSink>(bytes: &[u8], sink: &mut S) -> Result<()>
+    ensures nesting { OnOk result (Keeps S.since fields sink.old sink.new) }
+{
+    if bytes.is_empty() {
+        return Ok(());
+    }
+    sink.field("data_bytes", Value::Bytes(bytes))
+}
+
 /// Hands an entry of fields of one value each to a sink.
 pub fn put_entry<S: FieldSink>(values: &[(&str, Value<'_>)], sink: &mut S) -> Result<()>
     ensures nesting { OnOk result (Keeps S.since entries sink.old sink.new) }

@@ -1,8 +1,9 @@
 //! The fields of what says how HEVC video is decoded (ISO/IEC 14496-15, 8.3.3.1).
 
 ghost use Rattle.std.specs.Prelude.{OnOk};
-ghost use Rattle.mp4_fields.specs.Nesting.{fields, entries, Keeps};
+ghost use Rattle.mp4_fields.specs.Nesting.{fields, Keeps};
 
+use crate::entries::{Entry, put_each};
 use crate::flag_names::NONE;
 use crate::put::bit;
 use mp4_fields::{FieldSink, Value, put_all};
@@ -116,30 +117,16 @@ fn put_nal_units<S: FieldSink>(units: &[HevcNalUnit], sink: &mut S) -> Result<()
     sink.end_list()
 }
 
-/// Hands an array of NAL units to a sink.
-fn put_array<S: FieldSink>(array: &HevcArray, sink: &mut S) -> Result<()>
-    ensures nesting { OnOk result (Keeps S.since entries sink.old sink.new) }
-{
-    let kind = array.kind.nal_unit_type;
-    sink.begin_entry()?;
-    sink.field("array_completeness", bit(array.kind.array_completeness))?;
-    sink.field(
-        "NAL_unit_type",
-        Value::Named(u64::from(kind), nal_unit_name(kind)),
-    )?;
-    put_nal_units(array.nal_units.as_slice(), sink)?;
-    sink.end_entry()
-}
-
-/// Hands arrays of NAL units to a sink.
-fn put_arrays<S: FieldSink>(arrays: &[HevcArray], sink: &mut S) -> Result<()>
-    ensures nesting { OnOk result (Keeps S.since fields sink.old sink.new) }
-{
-    sink.begin_list("arrays", arrays.len())?;
-    for array in arrays.iter().take(sink.rows()) {
-        put_array(array, sink)?;
+impl Entry for HevcArray {
+    fn put<S: FieldSink>(&self, sink: &mut S) -> Result<()> {
+        let kind = self.kind.nal_unit_type;
+        sink.field("array_completeness", bit(self.kind.array_completeness))?;
+        sink.field(
+            "NAL_unit_type",
+            Value::Named(u64::from(kind), nal_unit_name(kind)),
+        )?;
+        put_nal_units(self.nal_units.as_slice(), sink)
     }
-    sink.end_list()
 }
 
 /// How to decode HEVC video.
@@ -152,5 +139,5 @@ pub fn put_hvcc<S: FieldSink>(b: &Hvcc, sink: &mut S) -> Result<()>
     put_format(&b.format, sink)?;
     sink.field("avgFrameRate", Value::Number(u64::from(b.avg_frame_rate)))?;
     put_rate(&b.rate, sink)?;
-    put_arrays(b.arrays.as_slice(), sink)
+    put_each("arrays", b.arrays.as_slice(), sink)
 }

@@ -4,7 +4,7 @@ ghost use Rattle.std.specs.Prelude.{OnOk};
 ghost use Rattle.mp4_fields.specs.Nesting.{fields, Keeps};
 
 use crate::pieces::{Pieces, bytes_from, count_pieces, put_list, whole};
-use crate::put::{bit, number_in};
+use crate::put::{bit, number_in, put_rest};
 use mp4_fields::{FieldSink, Value, put_all};
 use mp4_more::{Dac3, Dec3, Dops};
 use mp4_stream::Result;
@@ -63,16 +63,6 @@ fn put_places<S: FieldSink>(piece: &[u8], sink: &mut S) -> Result<()>
         return Ok(());
     }
     sink.field("chan_loc", Value::Number(number_in(piece, 2, 2) & 0x1FF))
-}
-
-/// Hands bytes that follow the other fields to a sink, unless there are none.
-fn put_rest<S: FieldSink>(bytes: &[u8], sink: &mut S) -> Result<()>
-    ensures nesting { OnOk result (Keeps S.since fields sink.old sink.new) }
-{
-    if bytes.is_empty() {
-        return Ok(());
-    }
-    sink.field("data_bytes", Value::Bytes(bytes))
 }
 
 /// Hands so many independent streams to a sink, and what follows them; all as bytes if there are fewer.

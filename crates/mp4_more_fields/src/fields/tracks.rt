@@ -3,13 +3,12 @@
 ghost use Rattle.std.specs.Prelude.{OnOk};
 ghost use Rattle.mp4_fields.specs.Nesting.{fields, entries, Keeps};
 
-use crate::boxes::{HEAD, code_at, count_numbers, held_at, next_after, size_at};
+use crate::entries::{Entry, put_each};
 use crate::flag_names::NONE;
-use crate::pieces::{Pieces, put_entries};
-use crate::put::{number_in, put_entry, put_string};
+use crate::put::{put_entry, put_string};
 use mp4_fields::{FieldSink, Value, put_all, put_data, put_full};
-use mp4_more::{Btrt, Data, Elng, Keys, Kind, Nmhd, Tref};
-use mp4_stream::Result;
+use mp4_more::{Btrt, Data, Elng, Keys, Kind, MetadataKey, Nmhd, TrackReference, Tref};
+use mp4_stream::{FourCC, Result};
 
 /// The bit rates of media (ISO/IEC 14496-12, 8.5.2.2).
 pub fn put_btrt<S: FieldSink>(b: &Btrt, sink: &mut S) -> Result<()>
@@ -40,28 +39,21 @@ pub fn put_elng<S: FieldSink>(b: &Elng, sink: &mut S) -> Result<()>
     put_string("extended_language", b.extended_language.as_slice(), sink)
 }
 
-/// Keys of metadata: where each is defined, and its name.
-struct KeyNames;
-
-impl Pieces for KeyNames {
-    fn size(&self, bytes: &[u8]) -> Option<usize> {
-        size_at(bytes, 0)
-    }
-
-    fn put<S: FieldSink>(&self, piece: &[u8], sink: &mut S) -> Result<()> {
-        sink.field("Key_namespace", Value::Code(code_at(piece, 0)))?;
-        put_string("Key_value", held_at(piece, 0), sink)
+impl Entry for MetadataKey {
+    fn put<S: FieldSink>(&self, sink: &mut S) -> Result<()> {
+        sink.field("Key_namespace", Value::Code(self.namespace))?;
+        put_string("Key_value", self.value.as_slice(), sink)
     }
 }
 
-/// The keys of metadata (QuickTime File Format, "Metadata item keys atom"). They are shown as bytes if they
-/// aren't as many as the box says.
+/// The keys of metadata (QuickTime File Format, "Metadata item keys atom").
 pub fn put_keys<S: FieldSink>(b: &Keys, sink: &mut S) -> Result<()>
     ensures nesting { OnOk result (Keeps S.since fields sink.old sink.new) }
 {
+    let keys = b.entries.as_slice();
     put_full(b.version, b.flags, NONE, sink)?;
-    sink.field("entry_count", Value::Number(u64::from(b.entry_count)))?;
-    put_entries(&KeyNames, b.entries.as_slice(), b.entry_count, sink)
+    sink.field("entry_count", Value::Number(keys.len() as u64))?;
+    put_each("entries", keys, sink)
 }
 
 /// What a track is for (ISO/IEC 14496-12, 8.10.4).
@@ -80,36 +72,72 @@ pub fn put_nmhd<S: FieldSink>(b: &Nmhd, sink: &mut S) -> Result<()>
     put_full(b.version, b.flags, NONE, sink)
 }
 
-/// Hands so many references to a sink, one for each track.
-fn put_references<S: FieldSink>(bytes: &[u8], count: usize, sink: &mut S) -> Result<()>
+/// How many entries a reference is shown as: one for each track, and one for a reference to none.
+fn entries_of(reference: &TrackReference) -> usize {
+    reference.track_ids.len().max(1)
+}
+
+/// How many entries references are shown as.
+fn count_entries(references: &[TrackReference]) -> usize {
+    let mut count = 0usize;
+    for reference in references {
+        count = count.saturating_add(entries_of(reference));
+    }
+    count
+}
+
+/// Hands at most so many of the tracks that a reference of this type is to.
+fn put_tracks<S: FieldSink>(
+    reference_type: FourCC,
+    track_ids: &[u32],
+    most: usize,
+    sink: &mut S,
+) -> Result<()>
+    ensures nesting { OnOk result (Keeps S.since entries sink.old sink.new) }
+{
+    for track_id in track_ids.iter().take(most) {
+        let row = [
+            ("reference_type", Value::Code(reference_type)),
+            ("track_ID", Value::Number(u64::from(*track_id))),
+        ];
+        put_entry(&row, sink)?;
+    }
+    Ok(())
+}
+
+/// Hands at most so many entries of a reference to a sink. The entry of a reference to no track has its type alone.
+fn put_reference<S: FieldSink>(reference: &TrackReference, most: usize, sink: &mut S) -> Result<()>
+    ensures nesting { OnOk result (Keeps S.since entries sink.old sink.new) }
+{
+    let reference_type = reference.reference_type;
+    let track_ids = reference.track_ids.as_slice();
+    if track_ids.is_empty() && most > 0 {
+        return put_entry(&[("reference_type", Value::Code(reference_type))], sink);
+    }
+    put_tracks(reference_type, track_ids, most, sink)
+}
+
+/// Hands references, which are shown as so many entries, to a sink.
+fn put_references<S: FieldSink>(
+    references: &[TrackReference],
+    count: usize,
+    sink: &mut S,
+) -> Result<()>
     ensures nesting { OnOk result (Keeps S.since fields sink.old sink.new) }
 {
     sink.begin_list("references", count)?;
-    let mut piece = 0usize;
-    let mut at = HEAD;
-    for _ in 0..count.min(sink.rows()) {
-        let row = [
-            ("reference_type", Value::Code(code_at(bytes, piece))),
-            ("track_ID", Value::Number(number_in(bytes, at, 4))),
-        ];
-        put_entry(&row, sink)?;
-        at = at.saturating_add(4);
-        if at >= next_after(bytes, piece) {
-            piece = next_after(bytes, piece);
-            at = piece.saturating_add(HEAD);
-        }
+    let mut left = sink.rows();
+    for reference in references {
+        put_reference(reference, left, sink)?;
+        left = left.saturating_sub(entries_of(reference));
     }
     sink.end_list()
 }
 
-/// Which other tracks a track refers to (ISO/IEC 14496-12, 8.3.3). They are shown as bytes if they aren't boxes of some
-/// track each.
+/// Which other tracks a track refers to (ISO/IEC 14496-12, 8.3.3): an entry for each track.
 pub fn put_tref<S: FieldSink>(b: &Tref, sink: &mut S) -> Result<()>
     ensures nesting { OnOk result (Keeps S.since fields sink.old sink.new) }
 {
-    let bytes = b.references.as_slice();
-    match count_numbers(bytes) {
-        Some(count) => put_references(bytes, count, sink),
-        None => sink.field("data_bytes", Value::Bytes(bytes)),
-    }
+    let references = b.references.as_slice();
+    put_references(references, count_entries(references), sink)
 }

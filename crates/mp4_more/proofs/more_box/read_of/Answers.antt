@@ -166,6 +166,11 @@ returns-in-SidxBox-clause-answer c =
     of_type c.args.of types.SidxBox _ c.args.reader.now.bytes.now (c.args.reader.now.position - 8) c.args.size
     c.in-SidxBox.is c.read_as-in-SidxBox.ensures.answer
 
+pub returns-in-StppBox-clause-answer : goal.returns-in-StppBox-clause-answer
+returns-in-StppBox-clause-answer c =
+    of_type c.args.of types.StppBox _ c.args.reader.now.bytes.now (c.args.reader.now.position - 8) c.args.size
+    c.in-StppBox.is c.read_as-in-StppBox.ensures.answer
+
 pub returns-in-StypBox-clause-answer : goal.returns-in-StypBox-clause-answer
 returns-in-StypBox-clause-answer c =
     of_type c.args.of types.StypBox _ c.args.reader.now.bytes.now (c.args.reader.now.position - 8) c.args.size
@@ -195,3 +200,8 @@ pub returns-in-TrefBox-clause-answer : goal.returns-in-TrefBox-clause-answer
 returns-in-TrefBox-clause-answer c =
     of_type c.args.of types.TrefBox _ c.args.reader.now.bytes.now (c.args.reader.now.position - 8) c.args.size
     c.in-TrefBox.is c.read_as-in-TrefBox.ensures.answer
+
+pub returns-in-WvttBox-clause-answer : goal.returns-in-WvttBox-clause-answer
+returns-in-WvttBox-clause-answer c =
+    of_type c.args.of types.WvttBox _ c.args.reader.now.bytes.now (c.args.reader.now.position - 8) c.args.size
+    c.in-WvttBox.is c.read_as-in-WvttBox.ensures.answer

@@ -180,6 +180,12 @@ ask-requires-in-SidxBox g c = rw c.in-SidxBox.is at c.requires
 pub returns-in-SidxBox : goal.returns-in-SidxBox
 returns-in-SidxBox g c = rw c.in-SidxBox.is c.ask-in-SidxBox.ensures
 
+pub ask-requires-in-StppBox : goal.ask-requires-in-StppBox
+ask-requires-in-StppBox g c = rw c.in-StppBox.is at c.requires
+
+pub returns-in-StppBox : goal.returns-in-StppBox
+returns-in-StppBox g c = rw c.in-StppBox.is c.ask-in-StppBox.ensures
+
 pub ask-requires-in-StypBox : goal.ask-requires-in-StypBox
 ask-requires-in-StypBox g c = rw c.in-StypBox.is at c.requires
 
@@ -215,3 +221,9 @@ ask-requires-in-TrefBox g c = rw c.in-TrefBox.is at c.requires
 
 pub returns-in-TrefBox : goal.returns-in-TrefBox
 returns-in-TrefBox g c = rw c.in-TrefBox.is c.ask-in-TrefBox.ensures
+
+pub ask-requires-in-WvttBox : goal.ask-requires-in-WvttBox
+ask-requires-in-WvttBox g c = rw c.in-WvttBox.is at c.requires
+
+pub returns-in-WvttBox : goal.returns-in-WvttBox
+returns-in-WvttBox g c = rw c.in-WvttBox.is c.ask-in-WvttBox.ensures

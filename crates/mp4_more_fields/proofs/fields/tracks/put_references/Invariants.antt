@@ -2,5 +2,5 @@
 use Rattle.mp4_fields.specs.Nesting.{entries, Keeps}
 use Rattle.mp4_more_fields.proofs.fields.tracks.put_references.Given as goal
 
-abbrev pub invariant-loop : goal.invariant-loop
-invariant-loop g l = Keeps g.S.FieldSink.since entries l.initial.sink l.sink
+abbrev pub invariant-loop-reference : goal.invariant-loop-reference
+invariant-loop-reference g l = Keeps g.S.FieldSink.since entries l.initial.sink l.sink

@@ -1,0 +1,12 @@
+pub mod ToEnd
+pub mod ToEndLaws
+pub mod Typed
+pub mod TypedLaws
+pub mod WithSize
+pub mod WithSizeLaws
+pub mod OrZeros
+pub mod OrZerosLaws
+pub mod ByVersion
+pub mod ByVersionLaws
+pub mod SignedTime
+pub mod SignedTimeLaws

@@ -1,0 +1,19 @@
+//! Boxes of tracks, segments, protection and metadata. Each is declared by its shape, and is in a file of its name.
+//! `mp4_more` has them all.
+#![tactic(auto)]
+
+pub mod data;
+pub mod elng;
+pub mod frma;
+pub mod keys;
+pub mod kind;
+pub mod mfro;
+pub mod nmhd;
+pub mod prft;
+pub mod pssh;
+pub mod schm;
+pub mod sidx;
+pub mod styp;
+pub mod tenc;
+pub mod tfra;
+pub mod tref;
