@@ -1,11 +1,9 @@
-//! Tests of the program: runs over readers and writers that fail, the words that it takes, and the lines that it
-//! writes.
+//! Tests of the program: runs over readers and writers that fail or move few bytes a call. `tests/program` runs the
+//! built program.
 
 mod fakes;
 mod in_place;
-mod lines;
 mod parts;
-mod program;
 mod runs;
 
 /// An ftyp box, a free box, which is kept as it is, and a stco box. It is what `normal` writes of it too.

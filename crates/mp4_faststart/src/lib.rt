@@ -11,8 +11,6 @@ mod patch;
 mod place;
 mod refusal;
 mod samples;
-#[cfg(test)]
-mod tests;
 mod write;
 
 pub use cut::Cut;

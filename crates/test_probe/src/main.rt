@@ -1,7 +1,7 @@
 //! Reads records from standard input, and writes records to standard output that say what the codec reads in them.
 //! `tests/rows` compares these with what is expected, and `tests/differential` with what a second reader reads.
 //!
-//! A record of the input is a position, a number of bytes, and these bytes. It gives twelve records of the output,
+//! A record of the input is a position, a number of bytes, and these bytes. It gives thirteen records of the output,
 //! each a number of bytes and a text of these bytes. The first is what is read as the box whose header is at the
 //! position, if its name is known; the second, what is read as the list of the boxes from the position on: the result
 //! as `Debug` prints it, a space, and the cursor's position after the call. The third is what this list is written in:
@@ -10,8 +10,9 @@
 //! read of the box, as the first, and what it is written in, as the third, if its type is declared; else they are
 //! empty. The ninth is what the list is written in if it is read as trees, as the third, or the fault. The tenth is
 //! what `read_counted` reads of the box, as the first, with a space and the number of headers after it; it is empty if
-//! the box isn't an `esds`. The last two are as the second and the third, with `AllBoxes` in the place of `AnyBox`.
-//! Numbers have 8 bytes and are big-endian. The program ends at the first record that isn't whole.
+//! the box isn't an `esds`. The next two are as the second and the third, with `AllBoxes` in the place of `AnyBox`. The
+//! last is where the boxes from the position on are, by `list_boxes`, as the second. Numbers have 8 bytes and are
+//! big-endian. The program ends at the first record that isn't whole.
 #![tactic(auto)]
 
 mod declared;
@@ -19,7 +20,8 @@ mod declared;
 use crate::declared::{show_declared, show_trees};
 use mp4_more::AllBoxes;
 use mp4_stream::{
-    AnyBox, BoxHeader, BoxType, ByteCursor, EsdsBox, KeptBox, StreamBox, read_boxes_as, write_boxes,
+    AnyBox, BoxHeader, BoxType, ByteCursor, EsdsBox, KeptBox, StreamBox, list_boxes, read_boxes_as,
+    write_boxes,
 };
 use std::alloc::{AllocError, Global};
 use std::fmt::Debug;
@@ -122,7 +124,17 @@ fn show_counted(
     push_record(&text, out)
 }
 
-/// Appends the twelve records of these bytes.
+/// Appends a record: where the boxes from the cursor on are, and the cursor's position after the call.
+fn show_places(
+    alloc: Global,
+    reader: &mut ByteCursor,
+    out: &mut Vec<u8>,
+) -> Result<(), AllocError> {
+    let found = list_boxes(alloc, reader);
+    show(alloc, &found, reader, out)
+}
+
+/// Appends the thirteen records of these bytes.
 fn show_all(
     alloc: Global,
     position: u64,
@@ -145,7 +157,9 @@ fn show_all(
     reader.set_position(position);
     show_counted(alloc, &mut reader, out)?;
     reader.set_position(position);
-    show_boxes::<AllBoxes>(alloc, &mut reader, out)
+    show_boxes::<AllBoxes>(alloc, &mut reader, out)?;
+    reader.set_position(position);
+    show_places(alloc, &mut reader, out)
 }
 
 fn main(rt: HostRuntime) -> io::Result<()> {

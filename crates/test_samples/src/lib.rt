@@ -1,5 +1,5 @@
-//! Callers of `mp4_samples`, and tests of it, of `mp4_track` and of `mp4_tree`, over files, tables and fragments that
-//! were worked out by hand from ISO/IEC 14496-12.
+//! Callers of `mp4_samples`, and tests of it, of `mp4_track`, `mp4_tree` and `mp4_faststart`, over files, tables and
+//! fragments that were worked out by hand from ISO/IEC 14496-12.
 #![tactic(auto)]
 
 pub mod callers;

@@ -3,6 +3,7 @@
 mod boxes;
 mod disagreements;
 mod edits;
+mod faststart;
 mod fragments;
 mod tables;
 mod track;

@@ -10,12 +10,12 @@ use std::alloc::Global;
 use std::process::Abort;
 
 /// A box of 17 bytes with a header of 16, one of 9 bytes, one of 16 bytes with a header of as many, and one of 5 bytes
-/// of content that goes to the end.
-const BOXES: [u8; 55] = *b"\0\0\0\x01free\0\0\0\0\0\0\0\x11a\0\0\0\x09skipb\
+/// of content that goes to the end. The name of the second has the first and the last printable character.
+const BOXES: [u8; 55] = *b"\0\0\0\x01free\0\0\0\0\0\0\0\x11a\0\0\0\x09 s~ b\
     \0\0\0\x01udta\0\0\0\0\0\0\0\x10\0\0\0\0mdatcdefg";
 
 /// Their lines.
-const LINES: &[u8] = b"0 17 free\n17 9 skip\n26 16 udta\n42 13 mdat\n";
+const LINES: &[u8] = b"0 17 free\n17 9  s~ \n26 16 udta\n42 13 mdat\n";
 
 /// What a list of these bytes returns and writes, where the reader gives so many bytes a call, and this call fails.
 fn list(

@@ -123,60 +123,6 @@ fn one_call_of_an_end(rt: HostRuntime) {
     assert!(rt; output.inner.taken.as_slice() == b"isomp".as_slice());
 }
 
-/// What a run over memory returns and writes.
-pub fn run_over_memory(
-    rt: &(impl Abort + Alloc<A = Global>),
-    command: Command,
-    bytes: &[u8],
-) -> (Result<u64, RunFault>, Vec<u8>) {
-    let mut input = Input::new(bytes);
-    let mut output = Output::new(Vec::new(rt.alloc()));
-    let result = run_command(rt.alloc(), command, &mut input, &mut output);
-    assert!(rt; !input.failed && !output.failed);
-    (result, output.inner)
-}
-
-/// Runs over the stored input, over no input, and over the input cut between two boxes.
-fn runs_that_succeed(
-    rt: &(impl Abort + Alloc<A = Global>),
-    command: Command,
-    expected: &[u8],
-    of_two_boxes: &[u8],
-) {
-    let (result, written) = run_over_memory(rt, command, &INPUT);
-    assert!(rt; matches!(result, Ok(n) if n == expected.len() as u64));
-    assert!(rt; written.as_slice() == expected);
-
-    let (result, written) = run_over_memory(rt, command, &[]);
-    assert!(rt; matches!(result, Ok(0)));
-    assert!(rt; written.is_empty());
-
-    let (result, written) = run_over_memory(rt, command, &INPUT[..32]);
-    assert!(rt; matches!(result, Ok(n) if n == of_two_boxes.len() as u64));
-    assert!(rt; written.as_slice() == of_two_boxes);
-}
-
-/// Runs over the input cut inside a box, and with a box of size 2, which is less than its header.
-fn runs_that_fail(rt: &(impl Abort + Alloc<A = Global>), command: Command) {
-    let (result, written) = run_over_memory(rt, command, &INPUT[..51]);
-    assert!(rt; matches!(result, Err(RunFault::Boxes(Error::IoError))));
-    assert!(rt; written.is_empty());
-
-    let mut bytes = INPUT;
-    bytes[35] = 2;
-    let (result, written) = run_over_memory(rt, command, &bytes);
-    assert!(rt; matches!(result, Err(RunFault::Boxes(Error::InvalidData(_)))));
-    assert!(rt; written.is_empty());
-}
-
-#[test]
-fn runs_over_memory(rt: HostRuntime) {
-    runs_that_succeed(&rt, Command::Normal, &INPUT, &INPUT[..32]);
-    runs_that_fail(&rt, Command::Normal);
-    runs_that_succeed(&rt, Command::List, &LISTED, &LISTED[..20]);
-    runs_that_fail(&rt, Command::List);
-}
-
 #[test]
 fn an_endless_reader_is_out_of_memory(rt: HostRuntime) -> Result<(), Fail> {
     let heap = LocalHeap::new(rt.alloc(), 1_000_000)?;

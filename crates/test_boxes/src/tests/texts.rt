@@ -1,6 +1,6 @@
 //! Strings of boxes.
 
-use mp4_stream::{Text, TryClone};
+use mp4_stream::Text;
 use std::test::Fail;
 
 #[test]
@@ -12,22 +12,5 @@ fn texts_are_strings(rt: HostRuntime) -> Result<(), Fail> {
     );
     assert!(rt; !foo.is_empty() && foo.is_utf8() && Text::new(rt.alloc()).is_empty());
     assert_eq!(rt; foo.into_string().as_str(), "foo");
-    Ok(())
-}
-
-#[test]
-fn texts_are_compared_and_printed(rt: HostRuntime) -> Result<(), Fail> {
-    let foo = Text::from_str(rt.alloc(), "foo")?;
-    assert!(rt; foo.try_clone()? == foo && foo != Text::new(rt.alloc()));
-    assert!(rt; Text::from(String::from_str(rt.alloc(), "foo")?) == foo);
-    assert_eq!(rt; format!(in rt.alloc(); "{foo:?}")?.as_str(), "\"foo\"");
-    Ok(())
-}
-
-#[test]
-fn bytes_that_are_not_utf8_are_replaced(rt: HostRuntime) -> Result<(), Fail> {
-    let kept = Text::from_utf8_or(rt.alloc(), b"foo", "null")?;
-    let replaced = Text::from_utf8_or(rt.alloc(), b"f\xff", "null")?;
-    assert_eq!(rt; (kept.as_str(), replaced.as_str()), ("foo", "null"));
     Ok(())
 }

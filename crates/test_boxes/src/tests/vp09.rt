@@ -1,4 +1,4 @@
-//! `vp09` and its `vpcC`: constants, an entry that is made of a configuration, and numbers that don't fit.
+//! `vp09` and its `vpcC`: an entry that is made of a configuration, and numbers that don't fit.
 
 use mp4_ported::boxes::entries::vp09_of_config;
 use mp4_ported::helpers::{Mismatch, expect_unwritable, expect_unwritable_of_size};
@@ -42,19 +42,6 @@ fn new_vpcc_and_vp09(rt: HostRuntime) {
         height: 0x8384,
     };
     assert!(rt; Vp09Box::new(&config) == made);
-}
-
-#[test]
-fn constants_of_vpcc_and_vp09(rt: HostRuntime) {
-    assert!(rt; (VpccBox::DEFAULT_VERSION, VpccBox::DEFAULT_BIT_DEPTH) == (1, 8));
-    assert_eq!(rt; Vp09Box::DEFAULT_START_CODE, 0);
-    assert_eq!(rt; Vp09Box::DEFAULT_END_CODE, 0xffff);
-    assert_eq!(rt; Vp09Box::DEFAULT_DATA_REFERENCE_INDEX, 1);
-    assert_eq!(rt; Vp09Box::DEFAULT_HORIZRESOLUTION, (72, 0));
-    assert_eq!(rt; Vp09Box::DEFAULT_VERTRESOLUTION, (72, 0));
-    assert_eq!(rt; Vp09Box::DEFAULT_FRAME_COUNT, 1);
-    assert!(rt; Vp09Box::DEFAULT_COMPRESSORNAME == [0; 32]);
-    assert_eq!(rt; Vp09Box::DEFAULT_DEPTH, 24);
 }
 
 /// Expects that a `vpcC` with these numbers can't be written, and neither a `vp09` of it.

@@ -4,7 +4,6 @@ use example_callers::append_normal;
 use example_callers::mark::MarkBox;
 use mp4_ported::boxes::{THREE, text};
 use mp4_ported::helpers::{Kind, kind_of};
-use mp4_ported::vectors::{FIRST_VECTORS, SECOND_VECTORS, Vector};
 use mp4_stream::{AnyBox, ByteCursor, Error, StreamBox, read_boxes, read_boxes_as, write_boxes};
 use std::alloc::{Allocator, Global};
 use std::test::Fail;
@@ -51,22 +50,6 @@ pub(super) fn append_two<B: StreamBox + Drop, A: Allocator>(
 /// An ftyp that can be written.
 pub(super) fn any_ftyp(alloc: Global) -> Result<AnyBox, Error> {
     Ok(AnyBox::FtypBox(text::ftyp(alloc)?))
-}
-
-/// Whether a stream of these vectors is rewritten in the same bytes.
-fn are_rewritten<V: Vector>(alloc: Global, vectors: &[V]) -> Result<bool, Error> {
-    let mut stream = Vec::new(alloc);
-    for vector in vectors {
-        stream.extend_from_slice(vector.bytes())?;
-    }
-    Ok(rewrite(alloc, &stream)? == stream)
-}
-
-#[test]
-fn all_vectors_are_rewritten(rt: HostRuntime) -> Result<(), Fail> {
-    assert!(rt; are_rewritten(rt.alloc(), &FIRST_VECTORS)?);
-    assert!(rt; are_rewritten(rt.alloc(), &SECOND_VECTORS)?);
-    Ok(())
 }
 
 #[test]

@@ -3,9 +3,10 @@
 use crate::tests::{UNFIT, bytes_of, ending};
 use crate::{Group, Line, Lines, Moment, Nested, Packed, Runs, Strings};
 use mp4_more::{
-    Av1Config, Av1c, Colr, NCLX, OfType, Pssh, Sbgp, SbgpEntry, Schm, Sdtp, SdtpEntry, Sidx,
-    SidxEntry, Tenc, TencPattern,
+    Av1Config, Av1c, Colr, OfType, Pssh, Sbgp, SbgpEntry, Schm, Sdtp, SdtpEntry, Sidx, SidxEntry,
+    Tenc, TencPattern,
 };
+use mp4_more_media::colr::NCLX;
 use mp4_stream::{Entries, FourCC, Result as Made};
 use std::alloc::Global;
 use std::test::Fail;

@@ -1,23 +1,11 @@
-//! The boxes of files that were worked out by hand.
+//! The box at a path, and the content of a box. `tests/inspect` compares all boxes of files.
 
 use mp4_frame::FourCC;
-use mp4_tree::{BoxPath, PathError, Source, Tree, TreeBox, What, find, name_of};
-use std::alloc::Global;
-use std::io;
+use mp4_tree::{BoxPath, PathError, Tree, TreeBox, find};
 use std::test::Fail;
 
-/// A QuickTime movie with a track of sound, whose sample entry has version 1.
-const MOVIE: &[u8] = b"\0\0\0\x14ftypqt  \x20\x05\x03\0qt  \
-    \0\0\0\xA1moov\0\0\0\x99trak\0\0\0\x91mdia\
-    \0\0\0\x21hdlr\0\0\0\0mhlrsoun\0\0\0\0\0\0\0\0\0\0\0\0\0\
-    \0\0\0\x68minf\0\0\0\x60stbl\0\0\0\x58stsd\0\0\0\0\0\0\0\x01\
-    \0\0\0\x48mp4a\0\0\0\0\0\0\0\x01\0\x01\0\0\0\0\0\0\0\x02\0\x10\0\0\0\0\xBB\x80\0\0\
-    \0\0\0\0\0\0\0\0\0\0\0\0\0\0\0\0\
-    \0\0\0\x14wave\0\0\0\x0Cfrmamp4a\
-    \0\0\0\0mdatabc";
-
-/// A box that is cut, with one in it that has fewer bytes than a header, and one whose size is too small.
-const FAULTY: &[u8] = b"\0\0\0\x0Cfree1234\0\0\0\x64moov\0\0\0\x0Cudta\0\0\0\0\0\0\0\x07trak5678";
+/// A movie with nothing in it, and media data that go to the end.
+const MOVIE: &[u8] = b"\0\0\0\x08moov\0\0\0\0mdatabc";
 
 /// A movie with two tracks.
 const TRACKS: &[u8] =
@@ -33,51 +21,6 @@ fn numbers(found: TreeBox) -> [u64; 5] {
         found.length,
         found.children.unwrap_or(0),
     ]
-}
-
-/// The numbers of all boxes.
-fn all_numbers<S: Source>(alloc: Global, source: S) -> io::Result<Vec<[u64; 5]>> {
-    let mut tree = Tree::new(alloc, source)?;
-    let mut list = Vec::new(alloc);
-    while let Some(found) = tree.next()? {
-        list.push(numbers(found))?;
-    }
-    Ok(list)
-}
-
-#[test]
-fn sound_entry_of_quicktime_is_gone_into(rt: HostRuntime) -> Result<(), Fail> {
-    let boxes = all_numbers(rt.alloc(), MOVIE)?;
-    let wanted = [
-        [0, 0, 0, 20, 0],
-        [1, 0, 20, 161, 28],
-        [1, 1, 28, 153, 36],
-        [1, 2, 36, 145, 44],
-        [0, 3, 44, 33, 0],
-        [1, 3, 77, 104, 85],
-        [1, 4, 85, 96, 93],
-        [1, 5, 93, 88, 109],
-        [1, 6, 109, 72, 161],
-        [1, 7, 161, 20, 169],
-        [0, 8, 169, 12, 0],
-        [0, 0, 181, 11, 0],
-    ];
-    assert!(rt; boxes.as_slice() == wanted.as_slice());
-    Ok(())
-}
-
-#[test]
-fn walk_goes_on_after_a_fault(rt: HostRuntime) -> Result<(), Fail> {
-    let boxes = all_numbers(rt.alloc(), FAULTY)?;
-    let wanted = [
-        [What::Leaf as u64, 0, 0, 12, 0],
-        [What::Cut as u64, 0, 12, 100, 20],
-        [What::Parent as u64, 1, 20, 12, 28],
-        [What::NoHeader as u64, 2, 28, 4, 0],
-        [What::Small as u64, 1, 32, 12, 0],
-    ];
-    assert!(rt; boxes.as_slice() == wanted.as_slice());
-    Ok(())
 }
 
 #[test]
@@ -114,14 +57,4 @@ fn content_is_read(rt: HostRuntime) -> Result<(), Fail> {
         }
     }
     Ok(())
-}
-
-#[test]
-fn codes_have_names(rt: HostRuntime) {
-    assert_eq!(rt; name_of(FourCC { value: *b"av01" }), Some("AV1 video"));
-    assert_eq!(rt;
-        name_of(FourCC { value: *b"\xA9day" }),
-        Some("day of release")
-    );
-    assert_eq!(rt; name_of(FourCC { value: *b"av02" }), None);
 }

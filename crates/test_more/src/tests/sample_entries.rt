@@ -1,0 +1,206 @@
+//! The fields of sample entries in trees.
+
+use crate::tests::bytes_of;
+use mp4_container::{
+    Container, SoundFields, SoundFirst, SoundSecond, SoundVersion, VisualFields,
+    data_reference_index,
+};
+use mp4_stream::{FixedPointU16, KeptBox, Result as Made};
+use std::alloc::Global;
+use std::test::Fail;
+
+/// `hvc1`, one of the codes of video.
+const HVC1: u32 = 0x6876_6331;
+
+/// `Opus`, one of the codes of sound.
+const OPUS: u32 = 0x4f70_7573;
+
+/// `text`, the code of an entry that is kept.
+const TEXT: u32 = 0x7465_7874;
+
+/// The fields of video: what isn't reserved counts up from 0x81.
+const VISUAL: &[u8] = b"\0\0\0\0\0\0\x81\x82\0\0\0\0\0\0\0\0\0\0\0\0\0\0\0\0\x83\x84\x85\x86\
+\x87\x88\x89\x8a\x8b\x8c\x8d\x8e\0\0\0\0\x8f\x90\x91\x92\x93\x94\x95\x96\
+\x97\x98\x99\x9a\x9b\x9c\x9d\x9e\x9f\xa0\xa1\xa2\xa3\xa4\xa5\xa6\xa7\xa8\xa9\
+\xaa\xab\xac\xad\xae\xaf\xb0\xb1\xb2\xff\xff";
+
+/// `VISUAL`, with other bytes where the standard reserves them.
+const RESERVED: &[u8] =
+    b"\xe1\0\0\0\0\xe1\x81\x82\xe1\0\0\0\0\0\0\0\0\0\0\0\0\0\0\xe1\x83\x84\x85\x86\
+\x87\x88\x89\x8a\x8b\x8c\x8d\x8e\xe1\0\0\xe1\x8f\x90\x91\x92\x93\x94\x95\x96\
+\x97\x98\x99\x9a\x9b\x9c\x9d\x9e\x9f\xa0\xa1\xa2\xa3\xa4\xa5\xa6\xa7\xa8\xa9\
+\xaa\xab\xac\xad\xae\xaf\xb0\xb1\xb2\xe1\xe1";
+
+/// `VISUAL`, and a byte more.
+const LONGER: &[u8] = b"\0\0\0\0\0\0\x81\x82\0\0\0\0\0\0\0\0\0\0\0\0\0\0\0\0\x83\x84\x85\x86\
+\x87\x88\x89\x8a\x8b\x8c\x8d\x8e\0\0\0\0\x8f\x90\x91\x92\x93\x94\x95\x96\
+\x97\x98\x99\x9a\x9b\x9c\x9d\x9e\x9f\xa0\xa1\xa2\xa3\xa4\xa5\xa6\xa7\xa8\xa9\
+\xaa\xab\xac\xad\xae\xaf\xb0\xb1\xb2\xff\xff\0";
+
+/// The name in them.
+const NAME: [u8; 32] =
+    *b"\x91\x92\x93\x94\x95\x96\x97\x98\x99\x9a\x9b\x9c\x9d\x9e\x9f\xa0\xa1\xa2\xa3\xa4\xa5\xa6\xa7\
+\xa8\xa9\xaa\xab\xac\xad\xae\xaf\xb0";
+
+/// The fields of sound of version 0: what isn't reserved counts up from 0x81.
+const ZERO: &[u8] =
+    b"\0\0\0\0\0\0\x81\x82\0\0\x83\x84\x85\x86\x87\x88\x89\x8a\x8b\x8c\x8d\x8e\x8f\x90\x91\x92\x93\x94";
+
+/// `ZERO`, of a version that QuickTime doesn't have.
+const THIRD: &[u8] =
+    b"\0\0\0\0\0\0\x81\x82\0\x03\x83\x84\x85\x86\x87\x88\x89\x8a\x8b\x8c\x8d\x8e\x8f\x90\x91\x92\x93\x94";
+
+/// Those of version 1.
+const FIRST: &[u8] =
+    b"\0\0\0\0\0\0\x81\x82\0\x01\x83\x84\x85\x86\x87\x88\x89\x8a\x8b\x8c\x8d\x8e\x8f\x90\x91\x92\x93\
+\x94\x95\x96\x97\x98\x99\x9a\x9b\x9c\x9d\x9e\x9f\xa0\xa1\xa2\xa3\xa4";
+
+/// Those of version 2.
+const SECOND: &[u8] =
+    b"\0\0\0\0\0\0\x81\x82\0\x02\x83\x84\x85\x86\x87\x88\x89\x8a\x8b\x8c\x8d\x8e\x8f\x90\x91\x92\x93\
+\x94\x95\x96\x97\x98\x99\x9a\x9b\x9c\x9d\x9e\x9f\xa0\xa1\xa2\xa3\xa4\xa5\xa6\xa7\xa8\xa9\xaa\xab\xac\xad\xae\xaf\xb0\
+\xb1\xb2\xb3\xb4\xb5\xb6\xb7\xb8";
+
+/// The first bytes, so many.
+fn front(bytes: &[u8], length: usize) -> &[u8] {
+    bytes.get(..length).unwrap_or(&[])
+}
+
+/// An entry of this code with these fields, and no boxes.
+fn entry(alloc: Global, code: u32, fields: &[u8]) -> Made<Container<KeptBox>> {
+    Ok(Container {
+        code,
+        fields: bytes_of(alloc, fields)?,
+        boxes: Vec::new(alloc).into(),
+    })
+}
+
+/// The fields of video of an entry of this code with these bytes.
+fn video_in(alloc: Global, code: u32, fields: &[u8]) -> Made<Option<VisualFields>> {
+    Ok(entry(alloc, code, fields)?.visual())
+}
+
+/// The fields of sound of an entry of this code with these bytes.
+fn sound_in(alloc: Global, code: u32, fields: &[u8]) -> Made<Option<SoundFields>> {
+    Ok(entry(alloc, code, fields)?.sound())
+}
+
+/// Whether these fields of video are written as these bytes.
+fn video_is(alloc: Global, fields: VisualFields, bytes: &[u8]) -> Made<bool> {
+    Ok(fields.to_bytes(alloc)?.as_slice() == bytes)
+}
+
+/// Whether these fields of sound are written as these bytes.
+fn sound_is(alloc: Global, fields: SoundFields, bytes: &[u8]) -> Made<bool> {
+    Ok(fields.to_bytes(alloc)?.as_slice() == bytes)
+}
+
+/// The fields of `VISUAL`.
+fn visual() -> VisualFields {
+    VisualFields {
+        data_reference_index: 0x8182,
+        width: 0x8384,
+        height: 0x8586,
+        horizresolution: FixedPointU16::new_raw(0x8788_898a),
+        vertresolution: FixedPointU16::new_raw(0x8b8c_8d8e),
+        frame_count: 0x8f90,
+        compressorname: NAME,
+        depth: 0xb1b2,
+    }
+}
+
+/// The fields of `ZERO`, with this version.
+fn sound(version: SoundVersion) -> SoundFields {
+    SoundFields {
+        data_reference_index: 0x8182,
+        revision: 0x8384,
+        vendor: 0x8586_8788,
+        channelcount: 0x898a,
+        samplesize: 0x8b8c,
+        compression_id: 0x8d8e,
+        packet_size: 0x8f90,
+        samplerate: FixedPointU16::new_raw(0x9192_9394),
+        version,
+    }
+}
+
+/// What `FIRST` has after the others.
+const OF_FIRST: SoundVersion = SoundVersion::First(SoundFirst {
+    samples_per_packet: 0x9596_9798,
+    bytes_per_packet: 0x999a_9b9c,
+    bytes_per_frame: 0x9d9e_9fa0,
+    bytes_per_sample: 0xa1a2_a3a4,
+});
+
+/// What `SECOND` has after the others.
+const OF_SECOND: SoundVersion = SoundVersion::Second(SoundSecond {
+    size_of_struct_only: 0x9596_9798,
+    audio_sample_rate: 0x999a_9b9c_9d9e_9fa0,
+    num_audio_channels: 0xa1a2_a3a4,
+    always_7f000000: 0xa5a6_a7a8,
+    const_bits_per_channel: 0xa9aa_abac,
+    format_specific_flags: 0xadae_afb0,
+    const_bytes_per_audio_packet: 0xb1b2_b3b4,
+    const_lpcm_frames_per_audio_packet: 0xb5b6_b7b8,
+});
+
+#[test]
+fn fields_of_video(rt: HostRuntime) -> Result<(), Fail> {
+    let alloc = rt.alloc();
+    let cases = [
+        (HVC1, VISUAL, Some(visual())),
+        (HVC1, RESERVED, Some(visual())),
+        (HVC1, front(VISUAL, 77), None),
+        (HVC1, LONGER, None),
+        (OPUS, VISUAL, None),
+        (TEXT, VISUAL, None),
+    ];
+    for (code, bytes, fields) in cases {
+        assert_eq!(rt; video_in(alloc, code, bytes)?, fields);
+    }
+    assert_eq!(rt; sound_in(alloc, HVC1, VISUAL)?, None);
+    assert!(rt; video_is(alloc, visual(), VISUAL)?);
+    Ok(())
+}
+
+#[test]
+fn fields_of_sound(rt: HostRuntime) -> Result<(), Fail> {
+    let alloc = rt.alloc();
+    let cases = [
+        (OPUS, ZERO, Some(sound(SoundVersion::Zero))),
+        (OPUS, FIRST, Some(sound(OF_FIRST))),
+        (OPUS, SECOND, Some(sound(OF_SECOND))),
+        (OPUS, THIRD, Some(sound(SoundVersion::Zero))),
+        (OPUS, front(ZERO, 27), None),
+        (OPUS, front(FIRST, 43), None),
+        (OPUS, front(SECOND, 63), None),
+        (OPUS, front(FIRST, 28), None),
+        (OPUS, front(SECOND, 44), None),
+        (OPUS, front(ZERO, 9), None),
+        (HVC1, ZERO, None),
+        (HVC1, FIRST, None),
+        (HVC1, SECOND, None),
+        (TEXT, ZERO, None),
+        (TEXT, FIRST, None),
+        (TEXT, SECOND, None),
+    ];
+    for (code, bytes, fields) in cases {
+        assert_eq!(rt; sound_in(alloc, code, bytes)?, fields);
+    }
+    assert!(rt; sound_is(alloc, sound(SoundVersion::Zero), ZERO)?);
+    assert!(rt; sound_is(alloc, sound(OF_FIRST), FIRST)?);
+    assert!(rt; sound_is(alloc, sound(OF_SECOND), SECOND)?);
+    Ok(())
+}
+
+#[test]
+fn data_references(rt: HostRuntime) -> Result<(), Fail> {
+    assert_eq!(rt;
+        data_reference_index(b"\xe1\xe2\xe3\xe4\xe5\xe6\x81\x82\x83"),
+        Some(0x8182)
+    );
+    assert_eq!(rt; data_reference_index(b"\0\0\0\0\0\0\x81\x82"), Some(0x8182));
+    assert_eq!(rt; data_reference_index(b"\0\0\0\0\0\0\x81"), None);
+    assert_eq!(rt; data_reference_index(b""), None);
+    Ok(())
+}
