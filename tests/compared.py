@@ -3,9 +3,9 @@ finds."""
 
 from functools import partial
 
-from shown import counted_of, outcome_of, plain_outcome_of, written_of
+from shown import counted_of, outcome_of, plain_outcome_of, text_of_places, written_of
 from slow_more import Fields
-from slow_reader import Fault, headers, read_box, read_boxes, read_more
+from slow_reader import Fault, headers, places, read_box, read_boxes, read_more
 from slow_trees import read_trees, short_box
 
 # What each text of the program says, and how it is read.
@@ -27,8 +27,8 @@ read_all_boxes = partial(read_boxes, keep=True, more=True)
 MORE_CALLS = {"declared box": (read_more, 6), "all boxes": (read_all_boxes, 10)}
 # The codes of the boxes of test_more, which test_probe reads as declared boxes, and the slow reader doesn't.
 TEST_CODES = (b"lins", b"nest", b"numb", b"opts", b"rang", b"runs", b"strs", b"trep", b"outr")
-# Which text says what is written of trees.
-WRITTEN_TREES = 8
+# Which text says what is written of trees, and which where the boxes are.
+WRITTEN_TREES, PLACES = 8, 12
 
 
 def parsed(read, text):
@@ -41,10 +41,12 @@ def parsed(read, text):
 def differences(row, texts):
     """What was found and differs from what a row expects: words, what was expected and what was found."""
     counted = None if row.headers is None else (row.box, row.headers)
-    for words, expected, read, text in zip(LOOKED_AT, [*row[2:-1], counted], TEXTS, texts):
+    for words, expected, read, text in zip(LOOKED_AT, [*row[2:-2], counted], TEXTS, texts):
         found = parsed(read, text) if expected is not None else None
         if found != expected:
             yield words, expected, found
+    if row.places is not None and texts[PLACES] != text_of_places(*row.places):
+        yield "places by hand", row.places, texts[PLACES]
 
 
 def outcome_by_layout(read, buffer, position):
@@ -70,6 +72,13 @@ def otherwise(outcomes, texts):
             again = outcome_by_layout(read, written, 0)[0] if isinstance(written, bytes) else written
             if again != expected[0]:
                 yield "written, " + call, texts[number + 1], expected
+
+
+def misplaced(buffer, position, texts):
+    """The same of where the boxes are."""
+    expected = outcome_by_layout(places, buffer, position)
+    if texts[PLACES] != text_of_places(*expected):
+        yield "places", texts[PLACES], expected
 
 
 def is_written_in(value, written):

@@ -2,17 +2,20 @@
 shape of a box, the fields of its struct, and the widths of its entries."""
 
 import collections
+import glob
 import os
 import re
 
 TOP = os.path.dirname(os.path.dirname(os.path.abspath(__file__)))
-CRATE = "crates/mp4_more"
+# The table of them, and their sources.
+PAGE = "crates/mp4_more/CALLING.md"
+SOURCES = "crates/mp4_more_*/src/*.rt"
 NUMBERS = {f"U{bits}": f"{bits // 8}" for bits in (8, 16, 24, 32, 64)}
 NUMBERS.update((f"I{bits}", f"{bits // 8}, signed") for bits in (8, 16, 32, 64))
 # Shapes without arguments that are one field.
 FIELDS = {
     **NUMBERS, "Time": "t", "SignedTime": "t, signed", "Code": "code", "Codes": "to the end; each code",
-    "Rest": "to the end", "Terminated": "to a byte of 0",
+    "Numbers": "to the end; each 4", "Rest": "to the end", "Terminated": "to a byte of 0",
 }
 VERSIONS = {1: "version 0", 2: "version 0 or 1", 3: "version 0 to 2"}
 ROW = re.compile(r"^`(.{4})` \| ([^|\n]+) \| ([^|\n]+)$", re.M)
@@ -125,6 +128,9 @@ class Declared:
         elif name == "Reserved":
             yield f"reserved ({inside[0][0]})"
             yield from self.parts_of(inside[1], fields)
+        elif name == "WithSize":
+            yield "size (4)"
+            yield from self.parts_of(inside[0], fields)
         elif name == "Zeros":
             if inside[0][0] != "0":
                 yield f"reserved ({inside[0][0]})"
@@ -146,14 +152,19 @@ class Declared:
             return self.entry(*names)
         if name == "List":
             return f"count {NUMBERS[names[0]]}; each {self.entry(*names[1:])}"
+        if name == "ListByVersion":
+            count, entry, numbers, *widths = names
+            return "; else ".join(f"count {NUMBERS[count]}; each {self.entry(entry, numbers, it)}" for it in widths)
         if name == "ToEnd":
             return f"to the end; each {self.entry(*names)}"
         if name == "Each":
             return f"count {NUMBERS[names[0]]}; each: {', '.join(self.parts_of_entry(names[1]))}"
+        if name == "EachToEnd":
+            return f"to the end; each: {', '.join(self.parts_of_entry(names[0]))}"
         if name == "Rows":
             return f"count {NUMBERS[names[0]]}; each {names[1]} bytes"
         if name == "Bytes":
-            return f"count {NUMBERS[names[0]]}; each 1"
+            return f"count {self.width(names[0])}; each 1"
         if name == "If":
             return f"{self.held(inside[1])}; {self.condition(inside[0])}"
         if name == "OrZeros":
@@ -161,11 +172,12 @@ class Declared:
         if name == "Typed":
             tag = re.search(rf"impl Tag for {names[0]} .*? const TAG: u32 = (\w+);", self.source)[1]
             return f"code; {tag.lower()}: {self.held(inside[1])}; else {self.held(inside[2])}"
-        shape_of = r"⟦<(\w+) as Shape>⟧.shape"
-        by_version = re.search(rf"impl Shape for {name} .*?by_version_shape {shape_of} {shape_of}", self.source)
-        if by_version and not inside:
-            return "; else ".join(self.held(self.types[it]) for it in by_version.groups())
         raise Differs(f"{self.code}: no words for the shape {name}")
+
+    def width(self, count):
+        """How many bytes a count has."""
+        own = re.search(rf"impl Count for {count} \{{.*? const WIDTH: usize = (\d+);", self.source)
+        return own[1] if own else NUMBERS[count]
 
     def condition(self, shape):
         name, ((number, _),) = shape
@@ -174,14 +186,14 @@ class Declared:
 
 def declarations():
     """The declarations of all boxes of the crate."""
-    folder = os.path.join(TOP, CRATE, "src")
-    paths = [f"{CRATE}/src/{name}" for name in sorted(os.listdir(folder))]
+    found = sorted(glob.glob(os.path.join(TOP, SOURCES)), key=os.path.basename)
+    paths = [os.path.relpath(path, TOP) for path in found]
     return [Declared(path) for path in paths if "impl DeclaredBox for" in read(path)]
 
 
 def table():
     """The rows of the table: by code, the section and the parts."""
-    return {code: (section, apart(parts)) for code, section, parts in ROW.findall(read(f"{CRATE}/CALLING.md"))}
+    return {code: (section, apart(parts)) for code, section, parts in ROW.findall(read(PAGE))}
 
 
 def different(box, section, said):

@@ -262,10 +262,10 @@ class MoreMaker(Maker):
         return box
 
     def mutated(self, box):
-        """The box with one change, also of a count where only these boxes have one."""
+        """The box with one change, also of a count or a size where only these boxes have one."""
         if self.below(8) or len(box) < 32:
             return super().mutated(box)
-        at = self.choice([14, 17, 24, 28, 30])  # of counts of 2 bytes, and the low ones of counts of 4
+        at = self.choice([10, 14, 17, 18, 20, 24, 28, 30])  # the low bytes of counts and sizes
         return box[:at] + self.choice([self.choice(COUNTS), self.below(8)]).to_bytes(4, "big")[-2:] + box[at + 2:]
 
     def input(self):

@@ -107,7 +107,7 @@ def quicktime():
                sound(b"lpcm", 2, 3, 16, 0x10000, second, box(b"chan", bytes(12)))]
     text = box(b"text", bytes(6) + be(2, 1) + bytes(43))
     meta = box(b"meta", handler(b"mdta", b"") + box(b"keys", bytes(8)))
-    udta = box(b"udta", meta + box(b"\xa9nam", b"\0\3\0\0abc") + bytes(4))
+    udta = box(b"udta", meta + box(b"\xa9nam", b"\0\3\0\0abc") + box(b"\xa9day", b"\0\4\0\x002024") + bytes(4))
     data = full(b"hdlr", 0, 0, b"dhlr" + b"alis" + bytes(12) + b"\0")
     sounds = track(7, b"soun", b"\6Sounds", b"und", entries, b"", front=data)
     tracks = sounds + track(9, b"text", b"", b"fra", [text], b"")
@@ -333,8 +333,31 @@ def hevc():
             + box(b"hvcC", front + b"\2" + sets) + box(b"hvcC", front))
 
 
+def subtitles():
+    """Entries of XML subtitles: with a box after their strings, with strings alone, with a string that isn't UTF-8, one
+    too few, and cut; of WebVTT, one of them cut; of a time code and of text, beside the boxes of these codes that say
+    how such media look; and entries outside of an `stsd`."""
+    front = bytes(6) + be(2, 3)
+    rates = box(b"btrt", be(4, 70000, 60000, 50000))
+    strings = [b"http://www.w3.org/ns/ttml urn:b\0https://a.example/ttml.xsd\0image/png font/woff\0" + rates,
+               b"urn:a\0\0\0", b"\xff\0urn:s\0\0\1", b"urn:a\0urn:s\0", b""]
+    xml = [box(b"stpp", front + it) for it in strings] + [box(b"stpp", front[:7])]
+    cues = box(b"vttC", b"WEBVTT") + box(b"vlab", b"urn:v") + rates
+    texts = [box(b"wvtt", front + cues), box(b"wvtt", front), box(b"wvtt", front[:7])]
+    code = front + be(4, 0, 3, 30000, 1001) + bytes([30, 0]) + box(b"name", be(2, 4, 0) + b"Reel")
+    text = front + be(4, 1, -1) + be(2, *range(1, 8)) + bytes(8) + be(2, 8, 9) + bytes(3) + be(2, 10, 11, 12)
+    look = full(b"tcmi", 0, 0, be(2, 1, 2, 3, 0) + be(2, *range(4, 10)) + b"\4Font")
+    media = box(b"gmhd", full(b"gmin", 0, 0, bytes(12)) + box(b"tmcd", look) + box(b"text", be(4, 0x10000, *range(8))))
+    codes = [box(b"tmcd", code), box(b"tmcd", front[:7])]
+    words = [box(b"text", text + b"\4Text"), box(b"text", front[:7])]
+    tracks = [track(1, b"subt", b"", b"und", xml, b""), track(2, b"text", b"", b"und", texts, b""),
+              track(3, b"tmcd", b"", b"und", codes, b"", front=media),
+              track(4, b"text", b"", b"und", words, b"", front=media)]
+    return ftyp(b"qt  ", b"qt  ") + movie(*tracks) + xml[1] + texts[0] + codes[0] + words[0]
+
+
 def made():
     """The files, by name."""
     return {"counted": counted(), "sounds": sounds(), "groups": groups(), "pictures": pictures(),
             "indexed": indexed(), "tables": tables(), "segments": segments(), "hevc": hevc(), "newer": newer(),
-            "quicktime": quicktime(), "titles": titles(), "fragments": fragments()}
+            "quicktime": quicktime(), "titles": titles(), "fragments": fragments(), "subtitles": subtitles()}

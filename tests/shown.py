@@ -17,9 +17,12 @@ LETTERS = {"0": "\0", "n": "\n", "r": "\r", "t": "\t"}
 FAULTS = {"InvalidData": "Invalid", "BoxNotFound": "NotFound"}
 CODES = {
     "major_brand", "compatible_brands", "handler_type", "data_format", "grouping_type", "scheme_type", "aux_info_type",
+    "reference_type", "namespace",
 }
+# Fields of the same names that are none: a number, and a string.
+NO_CODES = {("SidxEntry", "reference_type"), ("Stpp", "namespace")}
 # How many texts are printed for an input.
-TEXTS = 12
+TEXTS = 13
 
 
 def names():
@@ -102,7 +105,7 @@ class Printed:
         while not self.take(" }"):
             name = self.match(WORD)[0]
             self.take(": ")
-            if name in CODES:
+            if name in CODES and (word, name) not in NO_CODES:
                 found[name] = self.codes() if name == "compatible_brands" else self.code_or_none()
             else:
                 found[name] = self.value()
@@ -230,6 +233,16 @@ def counted_of(text):
     found = Printed(text).value()
     found = fault_of(found[1]) if isinstance(found, tuple) else ("esds", found)
     return (found, int(position)), int(headers)
+
+
+def text_of_places(found, position):
+    """What the program prints of boxes at these places, or of this fault, and of the position of the cursor."""
+    if isinstance(found, tuple):
+        text = "Err(IoError)" if found == ("End",) else f'Err(InvalidData("{found[1]}"))'
+    else:
+        text = ", ".join(f"BoxSpan {{ position: {at}, length: {length}, name: {code} }}" for at, length, code in found)
+        text = f"Ok([{text}])"
+    return f"{text} {position}"
 
 
 def records(inputs):

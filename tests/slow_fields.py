@@ -33,14 +33,14 @@ class Row:
 
 
 class Header:
-    """A header at a position of a buffer: the code, and the start and the size of the box."""
+    """A header at a position of a buffer: the code, where it begins, and the start and the size of the box."""
 
     def __init__(self, buffer, position):
         if position + 8 > len(buffer):
             raise Fault("End")
         self.size = int.from_bytes(buffer[position:position + 4], "big")
         self.code = buffer[position + 4:position + 8]
-        self.start = position
+        self.begin = self.start = position
         if self.size == 1:
             if position + 16 > len(buffer):
                 raise Fault("End")

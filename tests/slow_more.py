@@ -1,6 +1,7 @@
 """The part of the slow reader for boxes beside those of the codec: their fields as mp4inspect shows them, under the
-names that the standards give them, and as the struct has them. It follows ISO/IEC 14496-12, 23001-7, ETSI TS 102 366,
-QuickTime's format, and the bindings of AV1, Opus and FLAC, in the sections that crates/mp4_more/CALLING.md names.
+names that the standards give them, and as the struct has them. It follows ISO/IEC 14496-12, 14496-30, 23001-7, ETSI TS
+102 366, QuickTime's format, and the bindings of AV1, Opus and FLAC, in the sections that crates/mp4_more/CALLING.md
+names.
 """
 
 from slow_fields import Fault, check
@@ -21,19 +22,6 @@ class Named(int):
         made = super().__new__(cls, number)
         made.name = name
         return made
-
-
-def pieces(data):
-    """What follows one another, each with a size of 32 bits, which counts all, and a code: of each the code and what it
-    holds. None if these aren't whole."""
-    found = []
-    while data:
-        size = int.from_bytes(data[:4], "big")
-        if not 8 <= size <= len(data):
-            return None
-        found.append((Code(data[4:8].decode("latin-1")), data[8:size]))
-        data = data[size:]
-    return found
 
 
 class Content:
@@ -132,6 +120,24 @@ class Content:
         check(length <= self.room(), "string has no end in the box")
         self.put(name, self.as_string(self.take(length)[:-1]))
 
+    def numbers_left(self):
+        """Numbers of 4 bytes up to the end, which they fill."""
+        check(self.room() % 4 == 0, "entries do not fill the box")
+        found = self.rest()
+        return [int.from_bytes(found[at:at + 4], "big") for at in range(0, len(found), 4)]
+
+    def sized(self, entry):
+        """The fields that a function reads up to where a size of 4 bytes says, which counts itself."""
+        inner = Content(self.data, self.at, self.raw)
+        inner.at = self.at
+        inner.end += inner.number(4)
+        check(self.at + 4 <= inner.end <= self.end, "size of an entry is too small or too large")
+        entry(inner)
+        check(inner.at == inner.end, "size of an entry is too small or too large")
+        self.at = inner.at
+        self.written += inner.written
+        return inner.fields
+
     def entries(self, name, count, entry):
         """A list of so many entries up to the end of the box, or of any number if that is None. A function reads each
         from its front. Returns whether these fill the box; nothing is put if they don't."""
@@ -148,6 +154,23 @@ class Content:
             return False
         self.fields[name] = found
         return True
+
+    def entry(self, read):
+        """The fields of an entry from here on, which a function reads."""
+        entry = Content(self.data, self.end, self.raw)
+        entry.at = self.at
+        read(entry)
+        self.at = entry.at
+        self.written += entry.written
+        return entry.fields
+
+    def each_to_end(self, name, read):
+        """Entries up to the end of the box, each of which ends in it. A function reads the fields of each."""
+        found = []
+        while self.room():
+            found.append(self.entry(read))
+            check(self.at <= self.end, "entries do not fill the box")
+        self.put(name, found)
 
     def rows(self, name, count, text):
         """A list of entries of fields, as `numbers` takes them."""
@@ -235,10 +258,13 @@ BLOCKS = {0: "STREAMINFO", 1: "PADDING", 2: "APPLICATION", 3: "SEEKTABLE", 4: "V
 
 
 def block(b):
-    b.bits("1 LastMetadataBlockFlag, 7 BlockType, 24 Length")
-    kind, data = b.fields["BlockType"], Content(b.take(b.fields["Length"]))
-    b.fields["BlockType"] = Named(kind, BLOCKS.get(kind, "reserved"))
-    if kind == 0 and len(data.data) == 34:
+    b.bits("1 LastMetadataBlockFlag, 7 BlockType")
+    length = b.count(3, 1, "bytes")
+    kind, data = b.fields["BlockType"], Content(b.take(length), raw=b.raw)
+    if not b.raw:
+        b.fields["BlockType"] = Named(kind, BLOCKS.get(kind, "reserved"))
+        b.put("Length", length)
+    if kind == 0 and length == 34 and not b.raw:
         data.bits("16 minimum_block_size, 16 maximum_block_size, 24 minimum_frame_size, 24 maximum_frame_size,"
                   "20 sample_rate, 3 channels, 5 bits_per_sample, 36 total_samples")
         data.fields["channels"] += 1
@@ -251,8 +277,7 @@ def block(b):
 
 def dfla(c):
     c.full(1)
-    if c.raw or not c.entries("metadata_blocks", None, block):
-        c.bytes("data_bytes [metadata_blocks]")
+    c.each_to_end("metadata_blocks", block)
 
 
 def dops(c):
@@ -282,35 +307,27 @@ def hvcc(c):
            "3 bit_depth_luma_minus8, 5 -reserved_before_chroma, 3 bit_depth_chroma_minus8")
     c.numbers("2 avgFrameRate")
     c.bits("2 constantFrameRate, 3 numTemporalLayers, 1 temporalIdNested, 2 lengthSizeMinusOne")
-    c.put("arrays", [nal_units(c) for _ in range(c.number(1))])
+    c.put("arrays", [c.entry(nal_units) for _ in range(c.number(1))])
 
 
-def nal_units(c):
+def nal_units(array):
     """An array of NAL units of one type."""
-    array = Content(c.data, c.end, c.raw)
-    array.at = c.at
     array.bits("1 array_completeness, 1 -, 6 NAL_unit_type")
     units = [array.as_bytes(array.take(array.count(2, 1, "bytes"))) for _ in range(array.number(2))]
     array.put("nalUnit [nal_units]", units)
-    c.at = array.at
-    c.written += array.written
-    return array.fields
 
 
 def key(k):
-    size = k.number(4)
-    check(size >= 8, "no room for a namespace")
-    k.code("Key_namespace")
-    value = Content(k.take(size - 8))
-    value.string("Key_value")
-    k.fields.update(value.fields)
+    k.code("Key_namespace [namespace]")
+    k.string("Key_value [value]")
 
 
 def keys(c):
     c.full(1)
     c.numbers("4 entry_count")
-    if c.raw or not c.entries("entries", c.fields["entry_count"], key):
-        c.bytes("data_bytes [entries]")
+    c.put("entries", [c.sized(key) for _ in range(c.fields["entry_count"])])
+    if c.raw:
+        del c.fields["entry_count"]
 
 
 def kind(c):
@@ -454,6 +471,25 @@ def sidx(c):
         for entry in c.fields.pop("references")])
 
 
+def entry_front(c):
+    """What begins a sample entry of any code."""
+    c.reserved(6)
+    c.numbers("2 data_reference_index")
+
+
+def boxes_after(c):
+    """The boxes at the end of a sample entry, as bytes."""
+    if c.raw or c.room():
+        c.bytes("data_bytes [boxes]")
+
+
+def stpp(c):
+    entry_front(c)
+    for name in ("namespace", "schema_location", "auxiliary_mime_types"):
+        c.terminated(name)
+    boxes_after(c)
+
+
 def styp(c):
     c.code("major_brand")
     c.numbers("4 minor_version")
@@ -477,15 +513,17 @@ def stz2(c):
 
 def subs(c):
     version, _ = c.full(2)
-    c.numbers("4 entry_count")
+    width = 4 if version else 2
 
     def sample(s):
         s.numbers("4 sample_delta")
-        s.rows("subsamples", s.number(2), f"{4 if version else 2} subsample_size, 1 subsample_priority, 1 discardable,"
-                                          "4 codec_specific_parameters")
+        s.rows("subsamples", s.count(2, width + 6),
+               f"{width} subsample_size, 1 subsample_priority, 1 discardable, 4 codec_specific_parameters")
 
-    if c.raw or not c.entries("entries", c.fields["entry_count"], sample):
-        c.bytes("data_bytes [entries]")
+    count = c.number(4)
+    if not c.raw:
+        c.put("entry_count", count)
+    c.put("entries", [c.entry(sample) for _ in range(count)])
 
 
 def tenc(c):
@@ -520,13 +558,24 @@ def tfra(c):
         c.bytes("data_bytes [entries]")
 
 
+def reference(r):
+    r.code("reference_type")
+    r.put("track_IDs", r.numbers_left())
+
+
 def tref(c):
-    found = None if c.raw else pieces(c.data)
-    if found is None or any(len(tracks) % 4 or not tracks for _, tracks in found):
-        c.bytes("data_bytes [references]")
-        return
-    c.fields["references"] = [{"reference_type": kind, "track_ID": int.from_bytes(tracks[at:at + 4], "big")}
-                              for kind, tracks in found for at in range(0, len(tracks), 4)]
+    found = []
+    while c.room():
+        found.append(c.sized(reference))
+    # Shown is an entry for each track, and of a reference to none its type alone.
+    c.put("references", found if c.raw else [
+        {"reference_type": it["reference_type"], **track}
+        for it in found for track in [{"track_ID": number} for number in it["track_IDs"]] or [{}]])
+
+
+def wvtt(c):
+    entry_front(c)
+    boxes_after(c)
 
 
 MORE = {
@@ -534,6 +583,7 @@ MORE = {
     "hvcC": hvcc, "keys": keys, "kind": kind, "mdcv": mdcv,
     "mfro": mfro, "prft": prft, "pssh": pssh, "saio": saio, "saiz": saiz, "sbgp": sbgp, "schm": schm, "sdtp": sdtp,
     "senc": senc, "sgpd": sgpd, "sidx": sidx, "styp": styp, "stz2": stz2, "subs": subs, "tenc": tenc, "tfra": tfra,
+    "stpp": stpp, "wvtt": wvtt,
     "btrt": lambda c: c.numbers("4 bufferSizeDB, 4 maxBitrate, 4 avgBitrate"),
     "clap": lambda c: c.numbers(
         "4 cleanApertureWidthN, 4 cleanApertureWidthD, 4 cleanApertureHeightN, 4 cleanApertureHeightD, i4 horizOffN,"
@@ -556,14 +606,16 @@ class Fields(dict):
     """The fields of a box by the names of the struct, and the bytes that the box is written in."""
 
     def __init__(self, name, box):
-        super().__init__((field.replace("_", "").lower(), plain(value)) for field, value in box.fields.items())
+        super().__init__(plain(box.fields))
         self.written = (8 + len(box.written)).to_bytes(4, "big") + name.encode("latin-1") + box.written
 
 
 def plain(value):
-    """A value without what differs in the names: lists of fields with their names in small letters."""
+    """A value without what differs in the names: fields, also those in lists, with their names in small letters."""
     if isinstance(value, list) and value and isinstance(value[0], dict):
-        return [{field.replace("_", "").lower(): inner for field, inner in entry.items()} for entry in value]
+        return [plain(entry) for entry in value]
+    if isinstance(value, dict):
+        return {field.replace("_", "").lower(): plain(inner) for field, inner in value.items()}
     return value
 
 

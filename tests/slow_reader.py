@@ -2,7 +2,8 @@
 
 A box is a dictionary of its fields, under the names of the struct. Codes and fixed-point numbers are raw numbers, a
 missing option is None, and a value of an enum is its name. `read_box` reads one box, and `read_boxes` a list of boxes,
-of which boxes of other types are kept or skipped. With `more`, the boxes of slow_more.py are read as well.
+of which boxes of other types are kept or skipped. With `more`, the boxes of slow_more.py are read as well. `places`
+says where the boxes of a buffer are.
 """
 
 from functools import lru_cache, partial
@@ -312,7 +313,7 @@ def headers(buffer, position):
     """The headers of the boxes from a position on, each with the size of its box, or the fault that ends them."""
     while position < len(buffer):
         header = Header(buffer, position)
-        header.is_short = header.start == position and header.size > 0
+        header.is_short = header.start == header.begin and header.size > 0
         if header.size == 0:
             header.size = len(buffer) - header.start
         else:
@@ -322,6 +323,21 @@ def headers(buffer, position):
                 raise Fault("End")
         yield header
         position = header.start + header.size
+
+
+def places(buffer, position):
+    """Where the boxes from a position on are: the list of their offsets, whole lengths and printed codes, or the first
+    fault; and the position of the cursor after it."""
+    try:
+        found = [(it.begin, it.start + it.size - it.begin, printed(it.code)) for it in headers(buffer, position)]
+    except Fault as fault:
+        return fault, position
+    return found, max(position, len(buffer))
+
+
+def printed(code):
+    """A code as it is printed: its bytes as UTF-8, with U+FFFD for each piece that is not UTF-8."""
+    return code.decode("utf-8", "replace")
 
 
 def read_boxes(buffer, position, keep=False, more=False):

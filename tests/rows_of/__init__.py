@@ -6,9 +6,11 @@ import inspect
 import pkgutil
 
 
-def rows():
-    """All rows, each after the name of its test."""
+def rows(left_out=()):
+    """All rows, each after the name of its test, but for those of modules of some names."""
     for found in sorted(pkgutil.iter_modules(__path__), key=lambda it: it.name):
+        if found.name in left_out:
+            continue
         module = importlib.import_module(f"{__name__}.{found.name}")
         for name, test in vars(module).items():
             own = inspect.isgeneratorfunction(test) and test.__module__ == module.__name__

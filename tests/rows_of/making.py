@@ -13,9 +13,10 @@ NO_DREF = ("NotFound", "dref")
 # The bytes of a buffer and a position, and what is expected there: as one box and as a list of boxes, each an outcome
 # and the position of the cursor; the bytes that the list is written in; the same three of boxes that are kept; as one
 # box that is declared, and the bytes that it is written in; the bytes that the list is written in if it is read as
-# trees; and how many headers of descriptors are read. What is None isn't looked at.
-FIELDS = "buffer at box boxes written kept_box kept_boxes kept_written declared declared_written trees headers"
-Row = collections.namedtuple("Row", FIELDS, defaults=[0, *[None] * 10])
+# trees; how many headers of descriptors are read; and where the boxes are, with the position of the cursor. What is
+# None isn't looked at.
+FIELDS = "buffer at box boxes written kept_box kept_boxes kept_written declared declared_written trees headers places"
+Row = collections.namedtuple("Row", FIELDS, defaults=[0, *[None] * 11])
 
 
 class Box(dict):
@@ -46,6 +47,7 @@ NO_VERSION_1 = invalid("version must be 0")
 TOO_MANY_ENTRIES = invalid("count indicates more entries than could fit in the box")
 TOO_MANY_BYTES = invalid("count indicates more bytes than could fit in the box")
 NOT_FILLED = invalid("entries do not fill the box")
+WRONG_SIZE = invalid("size of an entry is too small or too large")
 NO_END = invalid("string has no end in the box")
 CHILD_TOO_SMALL = invalid("child box too small")
 NOT_UTF8 = invalid("invalid utf8")
@@ -83,6 +85,17 @@ def listed(buffer, expected, kept_as=None):
     values."""
     found = outcome(expected), 0 if isinstance(expected, tuple) else len(buffer)
     return Row(buffer, boxes=found, kept_boxes=found if kept_as is None else (outcome(kept_as), len(buffer)))
+
+
+def placed(buffer, expected, at=0):
+    """The boxes of a buffer from a position on are at these places, each an offset, a length and a printed code."""
+    return Row(buffer, at, places=(expected, max(at, len(buffer))))
+
+
+def refused(buffer, fault, at=0):
+    """The boxes of a buffer from a position on have this fault, whether they are read, kept or listed."""
+    found = fault, at
+    return Row(buffer, at, boxes=found, kept_boxes=found, places=found)
 
 
 def list_written_as(buffer, values, written, at=0):
