@@ -549,11 +549,12 @@ uint32_t mp4_find(const uint8_t *bytes, size_t length, const uint8_t *path, size
 
 /* The fields of the box at the front of the bytes, header included, as the text of a JSON object (RFC 8259), as
    `mp4inspect --json` shows them: in UTF-8, with no zero after it, and `count` is the number of its bytes. All boxes
-   are read that have a function below, and av1C, btrt, clap, clli, colr, dac3, dec3, dfLa, dOps, elng, frma, keys,
-   mdcv, mfro, nmhd, pasp, prft, pssh, saio, saiz, sbgp, schm, sdtp, senc, sgpd, sidx, styp, stz2, subs, tenc, tfra and
-   tref. Also MP4_UNKNOWN_BOX, of a box of another type, whether it is whole or not. Names of fields are those of the
-   standards. A number may have 64 bits. Codes of four characters are texts, each character of the number of its byte;
-   bytes are texts of their hexadecimal digits; what is fixed-point is a number with a fraction. */
+   are read that have a function below, and av1C, btrt, clap, clli, colr, cslg, dac3, dec3, dfLa, dOps, elng, frma,
+   keys, kind, mdcv, mfro, nmhd, pasp, prft, pssh, saio, saiz, sbgp, schm, sdtp, senc, sgpd, sidx, stpp, styp, stz2,
+   subs, tenc, tfra, tref and wvtt. Also MP4_UNKNOWN_BOX, of a box of another type, whether it is whole or not. Names of
+   fields are those of the standards. A number may have 64 bits. Codes of four characters are texts, each character of
+   the number of its byte; bytes are texts of their hexadecimal digits; what is fixed-point is a number with a
+   fraction. */
 uint32_t mp4_fields(const uint8_t *bytes, size_t length, uint8_t *text, size_t places, size_t *count);
 
 /* A walk over the boxes of a file that isn't in memory: each box, and after it those in it, as far as the codec knows
