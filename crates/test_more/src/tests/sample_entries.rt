@@ -75,14 +75,14 @@ fn entry(alloc: Global, code: u32, fields: &[u8]) -> Made<Container<KeptBox>> {
     })
 }
 
-/// The fields of video of an entry of this code with these bytes.
-fn video_in(alloc: Global, code: u32, fields: &[u8]) -> Made<Option<VisualFields>> {
-    Ok(entry(alloc, code, fields)?.visual())
+/// Whether an entry of this code with these bytes has these fields of video.
+fn is_video(alloc: Global, code: u32, bytes: &[u8], fields: Option<VisualFields>) -> Made<bool> {
+    Ok(entry(alloc, code, bytes)?.visual() == fields)
 }
 
-/// The fields of sound of an entry of this code with these bytes.
-fn sound_in(alloc: Global, code: u32, fields: &[u8]) -> Made<Option<SoundFields>> {
-    Ok(entry(alloc, code, fields)?.sound())
+/// Whether an entry of this code with these bytes has these fields of sound.
+fn is_sound(alloc: Global, code: u32, bytes: &[u8], fields: Option<SoundFields>) -> Made<bool> {
+    Ok(entry(alloc, code, bytes)?.sound() == fields)
 }
 
 /// Whether these fields of video are written as these bytes.
@@ -147,18 +147,13 @@ const OF_SECOND: SoundVersion = SoundVersion::Second(SoundSecond {
 #[test]
 fn fields_of_video(rt: HostRuntime) -> Result<(), Fail> {
     let alloc = rt.alloc();
-    let cases = [
-        (HVC1, VISUAL, Some(visual())),
-        (HVC1, RESERVED, Some(visual())),
-        (HVC1, front(VISUAL, 77), None),
-        (HVC1, LONGER, None),
-        (OPUS, VISUAL, None),
-        (TEXT, VISUAL, None),
-    ];
-    for (code, bytes, fields) in cases {
-        assert_eq!(rt; video_in(alloc, code, bytes)?, fields);
-    }
-    assert_eq!(rt; sound_in(alloc, HVC1, VISUAL)?, None);
+    assert!(rt; is_video(alloc, HVC1, VISUAL, Some(visual()))?);
+    assert!(rt; is_video(alloc, HVC1, RESERVED, Some(visual()))?);
+    assert!(rt; is_video(alloc, HVC1, front(VISUAL, 77), None)?);
+    assert!(rt; is_video(alloc, HVC1, LONGER, None)?);
+    assert!(rt; is_video(alloc, OPUS, VISUAL, None)?);
+    assert!(rt; is_video(alloc, TEXT, VISUAL, None)?);
+    assert!(rt; is_sound(alloc, HVC1, VISUAL, None)?);
     assert!(rt; video_is(alloc, visual(), VISUAL)?);
     Ok(())
 }
@@ -166,30 +161,32 @@ fn fields_of_video(rt: HostRuntime) -> Result<(), Fail> {
 #[test]
 fn fields_of_sound(rt: HostRuntime) -> Result<(), Fail> {
     let alloc = rt.alloc();
-    let cases = [
-        (OPUS, ZERO, Some(sound(SoundVersion::Zero))),
-        (OPUS, FIRST, Some(sound(OF_FIRST))),
-        (OPUS, SECOND, Some(sound(OF_SECOND))),
-        (OPUS, THIRD, Some(sound(SoundVersion::Zero))),
-        (OPUS, front(ZERO, 27), None),
-        (OPUS, front(FIRST, 43), None),
-        (OPUS, front(SECOND, 63), None),
-        (OPUS, front(FIRST, 28), None),
-        (OPUS, front(SECOND, 44), None),
-        (OPUS, front(ZERO, 9), None),
-        (HVC1, ZERO, None),
-        (HVC1, FIRST, None),
-        (HVC1, SECOND, None),
-        (TEXT, ZERO, None),
-        (TEXT, FIRST, None),
-        (TEXT, SECOND, None),
-    ];
-    for (code, bytes, fields) in cases {
-        assert_eq!(rt; sound_in(alloc, code, bytes)?, fields);
-    }
-    assert!(rt; sound_is(alloc, sound(SoundVersion::Zero), ZERO)?);
+    let zero = sound(SoundVersion::Zero);
+    assert!(rt; is_sound(alloc, OPUS, ZERO, Some(zero))?);
+    assert!(rt; is_sound(alloc, OPUS, FIRST, Some(sound(OF_FIRST)))?);
+    assert!(rt; is_sound(alloc, OPUS, SECOND, Some(sound(OF_SECOND)))?);
+    assert!(rt; is_sound(alloc, OPUS, THIRD, Some(zero))?);
+    assert!(rt; sound_is(alloc, zero, ZERO)?);
     assert!(rt; sound_is(alloc, sound(OF_FIRST), FIRST)?);
     assert!(rt; sound_is(alloc, sound(OF_SECOND), SECOND)?);
+    Ok(())
+}
+
+#[test]
+fn sound_of_no_version(rt: HostRuntime) -> Result<(), Fail> {
+    let alloc = rt.alloc();
+    assert!(rt; is_sound(alloc, OPUS, front(ZERO, 9), None)?);
+    assert!(rt; is_sound(alloc, OPUS, front(ZERO, 27), None)?);
+    assert!(rt; is_sound(alloc, OPUS, front(FIRST, 28), None)?);
+    assert!(rt; is_sound(alloc, OPUS, front(FIRST, 43), None)?);
+    assert!(rt; is_sound(alloc, OPUS, front(SECOND, 44), None)?);
+    assert!(rt; is_sound(alloc, OPUS, front(SECOND, 63), None)?);
+    assert!(rt; is_sound(alloc, HVC1, ZERO, None)?);
+    assert!(rt; is_sound(alloc, HVC1, FIRST, None)?);
+    assert!(rt; is_sound(alloc, HVC1, SECOND, None)?);
+    assert!(rt; is_sound(alloc, TEXT, ZERO, None)?);
+    assert!(rt; is_sound(alloc, TEXT, FIRST, None)?);
+    assert!(rt; is_sound(alloc, TEXT, SECOND, None)?);
     Ok(())
 }
 
