@@ -2,10 +2,12 @@
 
 ghost use Rattle.std.specs.Prelude.{◌≤◌};
 
-use crate::{push_record, show, show_written};
+use crate::{push_record, show};
+use mp4_container::Container;
+use mp4_lists::ChildBox;
 use mp4_more::{BoxTree, MoreBox};
 use mp4_stream::{
-    BoxHeader, BoxType, ByteCursor, ReadBox, Result as Read, StreamBox, WriteBox, read_boxes_as,
+    BoxHeader, BoxType, ByteCursor, Entries, ReadBox, Result as Read, StreamBox, WriteBox,
 };
 use std::alloc::{AllocError, Global};
 use std::fmt::Debug;
@@ -87,14 +89,39 @@ pub(crate) fn show_declared(
     }
 }
 
-/// Appends a record: what the boxes from the cursor on are written in, once they are read as `B`, or why they aren't.
-fn show_again<B: StreamBox>(
+/// The code of the box in which trees are written, `moov`, which has no fields before them.
+const MOOV: u32 = 0x6d6f_6f76;
+
+/// Appends a record: what these boxes are written in, by the box that holds them.
+fn show_children<B: ChildBox>(
     alloc: Global,
-    reader: &mut ByteCursor,
+    boxes: Vec<B>,
     out: &mut Vec<u8>,
 ) -> Result<(), AllocError> {
-    match read_boxes_as::<B>(alloc, reader) {
-        Ok(boxes) => show_written(alloc, &boxes, out),
+    let tree = Container {
+        code: MOOV,
+        fields: Entries::new(alloc),
+        boxes: boxes.into(),
+    };
+    let mut written = Vec::new(alloc);
+    let size = tree
+        .write_box(&mut written)
+        .map(|size| size.saturating_sub(8));
+    let content = written.get(8..).unwrap_or(&[]);
+    let text = format!(in alloc; "{size:?} {content:?}")?;
+    push_record(&text, out)
+}
+
+/// Appends a record: what the boxes from an offset of the content on are written in, once they are read as `B`, or why
+/// they aren't. What is asked of `B` is one trait, since that of a tree is looked up anew for each.
+fn show_again<B: ChildBox>(
+    alloc: Global,
+    content: &[u8],
+    at: u64,
+    out: &mut Vec<u8>,
+) -> Result<(), AllocError> {
+    match B::read_children(alloc, content, at) {
+        Ok(boxes) => show_children(alloc, boxes, out),
         Err(error) => {
             let text = format!(in alloc; "Err({error:?})")?;
             push_record(&text, out)
@@ -102,11 +129,13 @@ fn show_again<B: StreamBox>(
     }
 }
 
-/// Appends a record: what the boxes from the cursor on are written in, once they are read as trees, or why they aren't.
+/// Appends a record: what the boxes from an offset of the content on are written in, once they are read as trees, or
+/// why they aren't.
 pub(crate) fn show_trees(
     alloc: Global,
-    reader: &mut ByteCursor,
+    content: &[u8],
+    at: u64,
     out: &mut Vec<u8>,
 ) -> Result<(), AllocError> {
-    show_again::<BoxTree>(alloc, reader, out)
+    show_again::<BoxTree>(alloc, content, at, out)
 }

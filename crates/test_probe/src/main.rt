@@ -63,7 +63,7 @@ pub(crate) fn show(
 }
 
 /// Appends a record: the result of writing these boxes, and the bytes that were written.
-pub(crate) fn show_written<B: StreamBox>(
+fn show_written<B: StreamBox>(
     alloc: Global,
     boxes: &[B],
     out: &mut Vec<u8>,
@@ -152,8 +152,7 @@ fn show_all(
     show_boxes::<KeptBox>(alloc, &mut reader, out)?;
     reader.set_position(position);
     show_declared(alloc, &mut reader, out)?;
-    reader.set_position(position);
-    show_trees(alloc, &mut reader, out)?;
+    show_trees(alloc, bytes, position, out)?;
     reader.set_position(position);
     show_counted(alloc, &mut reader, out)?;
     reader.set_position(position);
