@@ -1,16 +1,13 @@
-//! Lists of boxes with an index beside others.
+//! Lists of boxes with an index or a `pasp` beside others.
 
 use crate::tests::{SHORT, short};
-use crate::{SIDX, SegmentBox, SidxBox};
+use crate::{PASP, Pasp, PaspBox, SIDX, SegmentBox};
 use mp4_stream::{
     AnyBox, BoxType, ByteCursor, Error, KeptBox, MfhdBox, Mp4Box, OtherBox, OwnOr, Result as Made,
     StreamBox, TfdtBox, TrunBox, WriteBox, read_boxes_as, write_boxes,
 };
 use std::alloc::Global;
 use std::test::Fail;
-
-/// An `mfhd`.
-const MFHD: [u8; 16] = *b"\0\0\0\x10mfhd\0\0\0\0\xc1\xc2\xc3\xc4";
 
 /// `mfhd`, `tfdt` of version 1 and `trun` of two samples with their sizes.
 const FRAGMENT: [u8; 60] = *b"\0\0\0\x10mfhd\0\0\0\0\xc1\xc2\xc3\xc4\
@@ -20,7 +17,7 @@ const FRAGMENT: [u8; 60] = *b"\0\0\0\x10mfhd\0\0\0\0\xc1\xc2\xc3\xc4\
 /// Boxes that are in no list of `SegmentBox`es, of which the last has a code that is nearly that of an index.
 const OTHERS: [u8; 29] = *b"\0\0\0\x0cstyp\xf1\xf2\xf3\xf4\0\0\0\x08free\0\0\0\x09sidy\xf5";
 
-/// The boxes of `MFHD` and of the beginning of `FRAGMENT`.
+/// The `mfhd` of `FRAGMENT` and `BESIDE`, and the `tfdt` of `FRAGMENT`.
 const OF_MFHD: MfhdBox = MfhdBox {
     version: 0,
     flags: 0,
@@ -61,10 +58,18 @@ fn segment(alloc: Global) -> Made<Vec<SegmentBox>> {
     Ok(boxes)
 }
 
-/// The boxes of `SHORT` and `MFHD`, and one of another type, which is kept as its bytes.
-fn kept(alloc: Global) -> Made<Vec<OwnOr<SidxBox, KeptBox>>> {
+/// `pasp`, `mfhd` and a box of another type.
+const BESIDE: [u8; 44] = *b"\0\0\0\x10pasp\x81\x82\x83\x84\x85\x86\x87\x88\
+\0\0\0\x10mfhd\0\0\0\0\xc1\xc2\xc3\xc4\0\0\0\x0cstyp\xf1\xf2\xf3\xf4";
+
+/// The boxes of `BESIDE`, of which the last is kept as its bytes.
+fn kept(alloc: Global) -> Made<Vec<OwnOr<PaspBox, KeptBox>>> {
     let mut boxes = Vec::new(alloc);
-    boxes.push(OwnOr::Own(short(alloc)?))?;
+    let pasp = Pasp {
+        h_spacing: 0x8182_8384,
+        v_spacing: 0x8586_8788,
+    };
+    boxes.push(OwnOr::Own(PaspBox::new(pasp)))?;
     boxes.push(OwnOr::Rest(KeptBox::Any(AnyBox::MfhdBox(OF_MFHD))))?;
     let other = OtherBox::copy_of(alloc, 0x7374_7970, &[0xf1, 0xf2, 0xf3, 0xf4])?;
     boxes.push(OwnOr::Rest(KeptBox::Other(other)))?;
@@ -134,28 +139,23 @@ fn a_segment_is_written_and_read(rt: HostRuntime) -> Result<(), Fail> {
     Ok(())
 }
 
-/// The names and sizes of boxes of which the last is of another type.
-const OF_KEPT: [(BoxType, u64); 3] = [
-    (BoxType::UnknownBox(SIDX), 68),
+/// The names and sizes of the boxes of `BESIDE`.
+const OF_BESIDE: [(BoxType, u64); 3] = [
+    (BoxType::UnknownBox(PASP), 16),
     (BoxType::MfhdBox, 16),
     (BoxType::UnknownBox(0x7374_7970), 12),
 ];
 
-/// Whether boxes of the codec and of other types are beside an index.
-fn are_beside_an_index(alloc: Global) -> Made<bool> {
-    let bytes = joined(alloc, &[&MFHD, &OTHERS[..12]])?;
-    are_in(alloc, kept(alloc), &OF_KEPT, &bytes, &bytes)
-}
-
 #[test]
-fn boxes_of_the_codec_and_others_are_beside_an_index(rt: HostRuntime) -> Result<(), Fail> {
-    assert!(rt; are_beside_an_index(rt.alloc())?);
+fn boxes_of_the_codec_and_others_are_beside_a_pasp(rt: HostRuntime) -> Result<(), Fail> {
+    let alloc = rt.alloc();
+    assert!(rt; are_in(alloc, kept(alloc), &OF_BESIDE, &BESIDE, &BESIDE)?);
     Ok(())
 }
 
-/// Another box with the code of the index.
-fn with_the_own_code(alloc: Global) -> Made<OwnOr<SidxBox, KeptBox>> {
-    let kept = OtherBox::copy_of(alloc, SIDX, &[0x81, 0x82])?;
+/// Another box with the code of a `pasp`.
+fn with_the_own_code(alloc: Global) -> Made<OwnOr<PaspBox, KeptBox>> {
+    let kept = OtherBox::copy_of(alloc, PASP, &[0x81, 0x82])?;
     Ok(OwnOr::Rest(KeptBox::Other(kept)))
 }
 

@@ -2,51 +2,95 @@
 
 use mp4_ported::helpers::{Kind, kind_of};
 use mp4_stream::{ByteCursor, box_start, skip_box, skip_bytes, skip_bytes_to};
-use std::test::Fail;
 
-#[test]
-fn bytes_are_taken(rt: HostRuntime) -> Result<(), Fail> {
+/// Whether the last two bytes are taken, with the cursor behind them.
+fn takes_the_last_bytes() -> bool {
     let mut reader = ByteCursor::new(b"\0\0\0\x01");
     reader.set_position(2);
-    assert_eq!(rt; reader.take(2)?, [0, 1].as_slice());
-    assert_eq!(rt; reader.position(), 4);
+    let is_taken = matches!(reader.take(2), Ok(bytes) if bytes == [0, 1].as_slice());
+    is_taken && reader.position() == 4
+}
+
+/// Whether no byte can be taken behind the end, but for none.
+fn takes_nothing_behind_the_end() -> bool {
+    let mut reader = ByteCursor::new(b"\0\0\0\x01");
     reader.set_position(9);
-    assert!(rt; reader.take(0)?.is_empty());
-    assert_eq!(rt; kind_of(&reader.take(1)), Kind::End);
-    assert_eq!(rt; reader.position(), 9);
-    Ok(())
+    let is_empty = matches!(reader.take(0), Ok(bytes) if bytes.is_empty());
+    is_empty && kind_of(&reader.take(1)) == Kind::End && reader.position() == 9
 }
 
 #[test]
-fn bytes_and_boxes_are_skipped(rt: HostRuntime) -> Result<(), Fail> {
+fn bytes_are_taken(rt: HostRuntime) {
+    assert!(rt; takes_the_last_bytes());
+    assert!(rt; takes_nothing_behind_the_end());
+}
+
+/// Skips bytes from a position. Returns the kind of the outcome, and the position after it.
+fn after_bytes(position: u64, count: u64) -> (Kind, u64) {
     let mut reader = ByteCursor::new(b"");
-    skip_bytes_to(&mut reader, 8)?;
-    assert_eq!(rt; box_start(&reader)?, 0);
-    skip_box(&mut reader, 24)?;
-    assert_eq!(rt; reader.position(), 24);
-    let past = skip_bytes(&mut reader, u64::MAX - 23);
-    assert_eq!(rt; (kind_of(&past), reader.position()), (Kind::Invalid, 24));
-    let past = skip_box(&mut reader, u64::MAX - 15);
-    assert_eq!(rt; (kind_of(&past), reader.position()), (Kind::Invalid, 24));
-    reader.set_position(9);
-    let past = skip_bytes(&mut reader, 0xffff_ffff_ffff_fff7);
-    assert_eq!(rt; (kind_of(&past), reader.position()), (Kind::Invalid, 9));
-    skip_bytes(&mut reader, 0xffff_ffff_ffff_fff6)?;
-    assert_eq!(rt; reader.position(), 0xffff_ffff_ffff_ffff);
-    Ok(())
+    reader.set_position(position);
+    let outcome = skip_bytes(&mut reader, count);
+    (kind_of(&outcome), reader.position())
+}
+
+/// Whether a box is skipped to its end.
+fn box_is_skipped() -> bool {
+    let mut reader = ByteCursor::new(b"");
+    reader.set_position(8);
+    let outcome = skip_box(&mut reader, 24);
+    kind_of(&outcome) == Kind::Ok && reader.position() == 24
+}
+
+/// Whether a box that ends past 64 bits is not skipped.
+fn large_box_is_not_skipped() -> bool {
+    let mut reader = ByteCursor::new(b"");
+    reader.set_position(24);
+    let outcome = skip_box(&mut reader, u64::MAX - 15);
+    kind_of(&outcome) == Kind::Invalid && reader.position() == 24
+}
+
+/// Whether the cursor is put to a position, where a box with a header of 8 bytes began at 0.
+fn position_is_after_the_header() -> bool {
+    let mut reader = ByteCursor::new(b"");
+    let is_there = skip_bytes_to(&mut reader, 8).is_ok();
+    is_there && matches!(box_start(&reader), Ok(0))
 }
 
 #[test]
-fn rows_are_taken(rt: HostRuntime) -> Result<(), Fail> {
+fn bytes_and_boxes_are_skipped(rt: HostRuntime) {
+    assert!(rt; position_is_after_the_header());
+    assert!(rt; box_is_skipped() && large_box_is_not_skipped());
+    assert!(rt; after_bytes(24, u64::MAX - 23) == (Kind::Invalid, 24));
+    assert!(rt; after_bytes(9, 0xffff_ffff_ffff_fff7) == (Kind::Invalid, 9));
+    assert!(rt; after_bytes(9, 0xffff_ffff_ffff_fff6) == (Kind::Ok, 0xffff_ffff_ffff_ffff));
+}
+
+/// Whether all rows are taken, with the cursor behind them.
+fn takes_two_rows() -> bool {
     let mut reader = ByteCursor::new(b"0123456789abcdef");
-    assert_eq!(rt; kind_of(&reader.take_rows::<12>(2)), Kind::End);
-    assert_eq!(rt; kind_of(&reader.take_rows::<16>(1 << 63)), Kind::End);
-    assert_eq!(rt; reader.position(), 0);
-    let rows = reader.take_rows::<8>(2)?;
-    assert_eq!(rt; rows, [*b"01234567", *b"89abcdef"].as_slice());
-    assert_eq!(rt; reader.position(), 16);
+    let rows = [*b"01234567", *b"89abcdef"];
+    let is_taken = matches!(reader.take_rows::<8>(2), Ok(found) if found == rows.as_slice());
+    is_taken && reader.position() == 16
+}
+
+/// Whether no more rows are taken than there are.
+fn takes_no_missing_rows() -> bool {
+    let mut reader = ByteCursor::new(b"0123456789abcdef");
+    let is_end = kind_of(&reader.take_rows::<12>(2)) == Kind::End;
+    is_end && kind_of(&reader.take_rows::<16>(1 << 63)) == Kind::End && reader.position() == 0
+}
+
+/// Whether no row can be taken behind the end.
+fn takes_no_row_behind_the_end() -> bool {
+    let mut reader = ByteCursor::new(b"0123456789abcdef");
     reader.set_position(20);
-    assert!(rt; reader.take_rows::<4>(0)?.is_empty());
-    assert_eq!(rt; reader.position(), 20);
-    Ok(())
+    let is_empty = matches!(reader.take_rows::<4>(0), Ok(rows) if rows.is_empty());
+    is_empty && reader.position() == 20
+}
+
+#[test]
+fn rows_are_taken(rt: HostRuntime) {
+    assert!(rt; takes_two_rows());
+    assert!(rt; takes_no_missing_rows());
+    assert!(rt; takes_no_row_behind_the_end());
 }

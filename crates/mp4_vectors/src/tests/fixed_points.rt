@@ -1,32 +1,58 @@
 //! Fixed-point numbers: raw numbers, whole parts, and how they print.
 
+use mp4_ported::helpers::debug_text;
 use mp4_stream::{FixedPointI8, FixedPointU8, FixedPointU16};
+use std::alloc::{AllocError, Global};
+use std::fmt::Debug;
 use std::test::Fail;
 
-#[test]
-fn fixed_points_have_raw_numbers(rt: HostRuntime) {
+/// The first number of 8 bits that has another raw number.
+fn other_raw_of_8() -> Option<u8> {
     for (value, raw) in [(0, 0), (1, 256), (255, 65280)] {
-        assert_eq!(rt; FixedPointU8::new(value).raw_value(), raw, "of {value}");
-        assert_eq!(rt; FixedPointU8::new(value).value(), value);
+        let fixed = FixedPointU8::new(value);
+        if fixed.raw_value() != raw || fixed.value() != value {
+            return Some(value);
+        }
     }
+    None
+}
+
+/// The first number of 8 bits with a sign that has another raw number.
+fn other_raw_of_signed_8() -> Option<i8> {
     for (value, raw) in [(-128, -32768), (-1, -256), (0, 0), (1, 256), (127, 32512)] {
-        assert_eq!(rt; FixedPointI8::new(value).raw_value(), raw, "of {value}");
-        assert_eq!(rt; FixedPointI8::new(value).value(), value);
+        let fixed = FixedPointI8::new(value);
+        if fixed.raw_value() != raw || fixed.value() != value {
+            return Some(value);
+        }
     }
+    None
+}
+
+/// The first number of 16 bits that has another raw number.
+fn other_raw_of_16() -> Option<u16> {
     for (value, raw) in [
         (0, 0),
         (1, 65536),
         (512, 33_554_432),
         (65535, 4_294_901_760),
     ] {
-        assert_eq!(rt; FixedPointU16::new(value).raw_value(), raw, "of {value}");
-        assert_eq!(rt; FixedPointU16::new(value).value(), value);
+        let fixed = FixedPointU16::new(value);
+        if fixed.raw_value() != raw || fixed.value() != value {
+            return Some(value);
+        }
     }
+    None
 }
 
-/// Those with a sign are rounded towards 0, and the others down.
 #[test]
-fn raw_numbers_are_rounded(rt: HostRuntime) {
+fn fixed_points_have_raw_numbers(rt: HostRuntime) {
+    assert_eq!(rt; other_raw_of_8(), None);
+    assert_eq!(rt; other_raw_of_signed_8(), None);
+    assert_eq!(rt; other_raw_of_16(), None);
+}
+
+/// The first raw number without a sign that is not rounded down to 8 bits.
+fn unrounded_8() -> Option<u16> {
     for (raw, value) in [
         (0, 0),
         (255, 0),
@@ -35,9 +61,16 @@ fn raw_numbers_are_rounded(rt: HostRuntime) {
         (65280, 255),
         (65535, 255),
     ] {
-        assert_eq!(rt; FixedPointU8::new_raw(raw).value(), value, "of {raw}");
-        assert_eq!(rt; FixedPointU8::new_raw(raw).raw_value(), raw);
+        let fixed = FixedPointU8::new_raw(raw);
+        if fixed.value() != value || fixed.raw_value() != raw {
+            return Some(raw);
+        }
     }
+    None
+}
+
+/// The first raw number with a sign that is not rounded towards 0 to 8 bits.
+fn unrounded_signed_8() -> Option<i16> {
     for (raw, value) in [
         (-32768, -128),
         (-32767, -127),
@@ -53,9 +86,16 @@ fn raw_numbers_are_rounded(rt: HostRuntime) {
         (256, 1),
         (32767, 127),
     ] {
-        assert_eq!(rt; FixedPointI8::new_raw(raw).value(), value, "of {raw}");
-        assert_eq!(rt; FixedPointI8::new_raw(raw).raw_value(), raw);
+        let fixed = FixedPointI8::new_raw(raw);
+        if fixed.value() != value || fixed.raw_value() != raw {
+            return Some(raw);
+        }
     }
+    None
+}
+
+/// The first raw number that is not rounded down to 16 bits.
+fn unrounded_16() -> Option<u32> {
     for (raw, value) in [
         (0, 0),
         (65535, 0),
@@ -64,24 +104,31 @@ fn raw_numbers_are_rounded(rt: HostRuntime) {
         (4_294_901_760, 65535),
         (u32::MAX, 65535),
     ] {
-        assert_eq!(rt; FixedPointU16::new_raw(raw).value(), value, "of {raw}");
-        assert_eq!(rt; FixedPointU16::new_raw(raw).raw_value(), raw);
+        let fixed = FixedPointU16::new_raw(raw);
+        if fixed.value() != value || fixed.raw_value() != raw {
+            return Some(raw);
+        }
     }
+    None
+}
+
+#[test]
+fn raw_numbers_are_rounded(rt: HostRuntime) {
+    assert_eq!(rt; unrounded_8(), None);
+    assert_eq!(rt; unrounded_signed_8(), None);
+    assert_eq!(rt; unrounded_16(), None);
+}
+
+/// Whether `Debug` prints the value as this text.
+fn is_printed(alloc: Global, value: &impl Debug, text: &str) -> Result<bool, AllocError> {
+    Ok(debug_text(alloc, value)?.as_str() == text)
 }
 
 #[test]
 fn fixed_points_print_raw_numbers(rt: HostRuntime) -> Result<(), Fail> {
-    assert_eq!(rt;
-        format!(in rt.alloc(); "{:?}", FixedPointU8::new(1))?.as_str(),
-        "FixedPoint { raw: 256 }"
-    );
-    assert_eq!(rt;
-        format!(in rt.alloc(); "{:?}", FixedPointI8::new_raw(-1))?.as_str(),
-        "FixedPoint { raw: -1 }"
-    );
-    assert_eq!(rt;
-        format!(in rt.alloc(); "{:?}", FixedPointU16::new(1))?.as_str(),
-        "FixedPoint { raw: 65536 }"
-    );
+    let alloc = rt.alloc();
+    assert!(rt; is_printed(alloc, &FixedPointU8::new(1), "FixedPoint { raw: 256 }")?);
+    assert!(rt; is_printed(alloc, &FixedPointI8::new_raw(-1), "FixedPoint { raw: -1 }")?);
+    assert!(rt; is_printed(alloc, &FixedPointU16::new(1), "FixedPoint { raw: 65536 }")?);
     Ok(())
 }

@@ -58,44 +58,57 @@ fn written(alloc: Global, size: u64) -> Result<Vec<u8>, Error> {
     }
 }
 
+/// Whether the header of a `free` of this size is written in these bytes.
+fn is_written(alloc: Global, size: u64, bytes: &[u8]) -> Result<bool, Error> {
+    Ok(written(alloc, size)?.as_slice() == bytes)
+}
+
+/// Whether a header of this size can't be written, which leaves the vector as it was.
+fn is_too_large(alloc: Global, size: u64) -> Result<bool, Error> {
+    let mut out = [9].to_vec(alloc)?;
+    let outcome = BoxHeader::new(BoxType::FreeBox, size).write(&mut out);
+    Ok(kind_of(&outcome) == Kind::Invalid && out.as_slice() == [9].as_slice())
+}
+
 #[test]
 fn headers_are_written(rt: HostRuntime) -> Result<(), Fail> {
-    let headers: [(u64, &[u8]); 4] = [
-        (8, b"\0\0\0\x08free"),
-        (0xffff_ffff, b"\xff\xff\xff\xfffree"),
-        (1 << 32, b"\0\0\0\x01free\0\0\0\x01\0\0\0\x08"),
-        (
-            u64::MAX - 8,
-            b"\0\0\0\x01free\xff\xff\xff\xff\xff\xff\xff\xff",
-        ),
-    ];
-    for (size, bytes) in headers {
-        assert_eq!(rt; written(rt.alloc(), size)?.as_slice(), bytes);
-    }
-    let mut out = [9].to_vec(rt.alloc())?;
-    let outcome = BoxHeader::new(BoxType::FreeBox, u64::MAX - 7).write(&mut out);
-    assert_eq!(rt; kind_of(&outcome), Kind::Invalid);
-    assert_eq!(rt; out.as_slice(), [9].as_slice());
+    let alloc = rt.alloc();
+    let largest = b"\0\0\0\x01free\xff\xff\xff\xff\xff\xff\xff\xff";
+    assert!(rt; is_written(alloc, 8, b"\0\0\0\x08free")?);
+    assert!(rt; is_written(alloc, 0xffff_ffff, b"\xff\xff\xff\xfffree")?);
+    assert!(rt; is_written(alloc, 1 << 32, b"\0\0\0\x01free\0\0\0\x01\0\0\0\x08")?);
+    assert!(rt; is_written(alloc, u64::MAX - 8, largest)?);
+    assert!(rt; is_too_large(alloc, u64::MAX - 7)?);
     Ok(())
+}
+
+/// Whether version and flags are read, and then the bytes left are too few.
+fn reads_version_and_flags(bytes: &[u8]) -> bool {
+    let mut reader = ByteCursor::new(bytes);
+    let is_read = matches!(read_box_header_ext(&mut reader), Ok((1, 0x00ff_ffff)));
+    is_read && kind_of(&read_box_header_ext(&mut reader)) == Kind::End && reader.position() == 4
+}
+
+/// Whether flags of more than 24 bits are invalid data, and leave the vector as it was.
+fn refuses_wide_flags(alloc: Global) -> bool {
+    let mut out = Vec::new(alloc);
+    kind_of(&write_box_header_ext(&mut out, 1, 1 << 24)) == Kind::Invalid && out.is_empty()
+}
+
+/// Whether version, flags and three zeros are written in these bytes.
+fn writes_version_and_flags(alloc: Global, bytes: &[u8]) -> Result<bool, Error> {
+    let mut out = Vec::new(alloc);
+    let count = write_box_header_ext(&mut out, 1, (1 << 24) - 1)?;
+    write_zeros(&mut out, 3)?;
+    Ok(count == 4 && out.as_slice() == bytes)
 }
 
 #[test]
 fn version_and_flags_are_read_and_written(rt: HostRuntime) -> Result<(), Fail> {
-    assert_eq!(rt; (HEADER_SIZE, HEADER_EXT_SIZE), (8, 4));
     let bytes = b"\x01\xff\xff\xff\0\0\0";
-    let mut reader = ByteCursor::new(bytes);
-    assert_eq!(rt; read_box_header_ext(&mut reader)?, (1, 0x00ff_ffff));
-    assert_eq!(rt; reader.position(), 4);
-    assert_eq!(rt; kind_of(&read_box_header_ext(&mut reader)), Kind::End);
-    assert_eq!(rt; reader.position(), 4);
-    let mut out = Vec::new(rt.alloc());
-    assert_eq!(rt;
-        kind_of(&write_box_header_ext(&mut out, 1, 1 << 24)),
-        Kind::Invalid
-    );
-    assert!(rt; out.is_empty());
-    assert_eq!(rt; write_box_header_ext(&mut out, 1, (1 << 24) - 1)?, 4);
-    write_zeros(&mut out, 3)?;
-    assert_eq!(rt; out.as_slice(), bytes.as_slice());
+    assert!(rt; (HEADER_SIZE, HEADER_EXT_SIZE) == (8, 4));
+    assert!(rt; reads_version_and_flags(bytes));
+    assert!(rt; refuses_wide_flags(rt.alloc()));
+    assert!(rt; writes_version_and_flags(rt.alloc(), bytes)?);
     Ok(())
 }

@@ -27,10 +27,9 @@ fn moov(alloc: Global) -> Result<OtherBox, Error> {
 #[test]
 fn another_box_has_a_code_of_no_type_and_a_content(rt: HostRuntime) -> Result<(), Fail> {
     let other = moov(rt.alloc())?;
-    assert_eq!(rt; other.name(), BoxType::MoovBox);
-    assert_eq!(rt; other.content(), [0xaa].as_slice());
-    let ftyp = OtherBox::copy_of(rt.alloc(), 0x6674_7970, &[]);
-    assert_eq!(rt; kind_of(&ftyp), Kind::Invalid);
+    assert!(rt; other.name() == BoxType::MoovBox && other.content() == [0xaa].as_slice());
+    let ftyp = ended(OtherBox::copy_of(rt.alloc(), 0x6674_7970, &[]));
+    assert!(rt; ftyp == Kind::Invalid);
     Ok(())
 }
 
@@ -55,13 +54,18 @@ fn another_box_and_a_kept_box_are_written_as_they_are(rt: HostRuntime) -> Result
     Ok(())
 }
 
+/// The kind of an outcome, which is dropped.
+fn ended<B: Drop>(outcome: Result<B, Error>) -> Kind {
+    kind_of(&outcome)
+}
+
 /// The kind of the outcome of reading the free box at the front of a buffer with this size, and the position of the
 /// cursor after it.
 fn read_free(alloc: Global, bytes: &[u8], size: u64) -> (Kind, u64) {
     let mut reader = ByteCursor::new(bytes);
     reader.set_position(8);
-    let outcome = KeptBox::read_named(alloc, BoxType::FreeBox, &mut reader, size);
-    (kind_of(&outcome), reader.position())
+    let kind = ended(KeptBox::read_named(alloc, BoxType::FreeBox, &mut reader, size));
+    (kind, reader.position())
 }
 
 #[test]

@@ -2,104 +2,108 @@
 
 use mp4_ported::helpers::{debug_text, invalid_text};
 use mp4_stream::{
-    AudioObjectType, AvcProfile, ChannelConfig, DataType, Error, FourCC, MediaType,
-    SampleFreqIndex, TrackType,
+    AudioObjectType, AvcProfile, ChannelConfig, DataType, FourCC, MediaType, SampleFreqIndex,
+    TrackType,
 };
-use std::alloc::Global;
+use std::alloc::{AllocError, Global};
 use std::fmt::{Debug, Display};
-use std::process::Abort;
 use std::test::Fail;
 
-#[test]
-fn track_types_have_handlers(rt: HostRuntime) -> Result<(), Fail> {
-    for (track, handler, code) in [
-        (TrackType::Video, "vide", 0x7669_6465),
-        (TrackType::Audio, "soun", 0x736f_756e),
-        (TrackType::Subtitle, "sbtl", 0x7362_746c),
-    ] {
-        assert_eq!(rt; TrackType::try_from(handler)?, track);
-        assert_eq!(rt; TrackType::try_from(&FourCC::from(code))?, track);
-        assert_eq!(rt; u32::from(FourCC::from(track)), code);
-    }
-    Ok(())
+/// Whether a track type is that of this handler, as a text and as a code.
+fn is_handled(track: TrackType, handler: &str, code: u32) -> bool {
+    let of_text = matches!(TrackType::try_from(handler), Ok(found) if found == track);
+    let of_code = matches!(TrackType::try_from(&FourCC::from(code)), Ok(found) if found == track);
+    of_text && of_code && u32::from(FourCC::from(track)) == code
 }
 
 #[test]
-fn media_types_have_texts(rt: HostRuntime) -> Result<(), Fail> {
-    for (media, text) in [
-        (MediaType::H264, "h264"),
-        (MediaType::H265, "h265"),
-        (MediaType::VP9, "vp9"),
-        (MediaType::AAC, "aac"),
-        (MediaType::TTXT, "ttxt"),
-    ] {
-        assert_eq!(rt; MediaType::try_from(text)?, media);
-        assert_eq!(rt; <&str>::from(media), text);
-        assert_eq!(rt; <&str>::from(&media), text);
-    }
-    Ok(())
+fn track_types_have_handlers(rt: HostRuntime) {
+    assert!(rt; is_handled(TrackType::Video, "vide", 0x7669_6465));
+    assert!(rt; is_handled(TrackType::Audio, "soun", 0x736f_756e));
+    assert!(rt; is_handled(TrackType::Subtitle, "sbtl", 0x7362_746c));
 }
 
-/// How a value prints, by `Display` and by `Debug`.
-fn printed(alloc: Global, value: &(impl Display + Debug)) -> Result<(String, String), Error> {
-    Ok((format!(in alloc; "{value}")?, debug_text(alloc, value)?))
+/// Whether a media type is that of this text.
+fn is_named(media: MediaType, text: &str) -> bool {
+    let is_read = matches!(MediaType::try_from(text), Ok(found) if found == media);
+    is_read && <&str>::from(media) == text && <&str>::from(&media) == text
 }
 
-/// Expects that a value prints as these texts, by `Display` and by `Debug`.
-fn expect_printed(
-    rt: &(impl Abort + AllocGlobal),
+#[test]
+fn media_types_have_texts(rt: HostRuntime) {
+    assert!(rt; is_named(MediaType::H264, "h264") && is_named(MediaType::H265, "h265"));
+    assert!(rt; is_named(MediaType::VP9, "vp9") && is_named(MediaType::AAC, "aac"));
+    assert!(rt; is_named(MediaType::TTXT, "ttxt"));
+}
+
+/// Whether a value prints as this text by `Display`, and as this name by `Debug`.
+fn is_printed(
+    alloc: Global,
     value: &(impl Display + Debug),
     text: &str,
     name: &str,
-) -> Result<(), Fail> {
-    let (shown, debug) = printed(rt.alloc(), value)?;
-    assert_eq!(rt; (shown.as_str(), debug.as_str()), (text, name));
-    Ok(())
+) -> Result<bool, AllocError> {
+    let shown = format!(in alloc; "{value}")?;
+    let debug = debug_text(alloc, value)?;
+    Ok(shown.as_str() == text && debug.as_str() == name)
+}
+
+/// Whether each type of track prints as its name.
+fn tracks_are_printed(alloc: Global) -> Result<bool, AllocError> {
+    Ok(
+        is_printed(alloc, &TrackType::Video, "Video", "Video")?
+            && is_printed(alloc, &TrackType::Audio, "Audio", "Audio")?
+            && is_printed(alloc, &TrackType::Subtitle, "Subtitle", "Subtitle")?,
+    )
+}
+
+/// Whether each media type prints as its text.
+fn media_are_printed(alloc: Global) -> Result<bool, AllocError> {
+    Ok(
+        is_printed(alloc, &MediaType::H264, "h264", "H264")?
+            && is_printed(alloc, &MediaType::H265, "h265", "H265")?
+            && is_printed(alloc, &MediaType::VP9, "vp9", "VP9")?
+            && is_printed(alloc, &MediaType::AAC, "aac", "AAC")?
+            && is_printed(alloc, &MediaType::TTXT, "ttxt", "TTXT")?,
+    )
+}
+
+/// Whether each AVC profile prints as its name in words.
+fn profiles_are_printed(alloc: Global) -> Result<bool, AllocError> {
+    let constrained = AvcProfile::AvcConstrainedBaseline;
+    Ok(
+        is_printed(
+            alloc,
+            &constrained,
+            "Constrained Baseline",
+            "AvcConstrainedBaseline",
+        )? && is_printed(alloc, &AvcProfile::AvcBaseline, "Baseline", "AvcBaseline")?
+            && is_printed(alloc, &AvcProfile::AvcMain, "Main", "AvcMain")?
+            && is_printed(alloc, &AvcProfile::AvcExtended, "Extended", "AvcExtended")?
+            && is_printed(alloc, &AvcProfile::AvcHigh, "High", "AvcHigh")?,
+    )
 }
 
 #[test]
 fn types_and_profiles_are_printed(rt: HostRuntime) -> Result<(), Fail> {
-    for (track, name) in [
-        (TrackType::Video, "Video"),
-        (TrackType::Audio, "Audio"),
-        (TrackType::Subtitle, "Subtitle"),
-    ] {
-        expect_printed(&rt, &track, name, name)?;
-    }
-    for (media, text, name) in [
-        (MediaType::H264, "h264", "H264"),
-        (MediaType::H265, "h265", "H265"),
-        (MediaType::VP9, "vp9", "VP9"),
-        (MediaType::AAC, "aac", "AAC"),
-        (MediaType::TTXT, "ttxt", "TTXT"),
-    ] {
-        expect_printed(&rt, &media, text, name)?;
-    }
-    for (profile, text, name) in [
-        (
-            AvcProfile::AvcConstrainedBaseline,
-            "Constrained Baseline",
-            "AvcConstrainedBaseline",
-        ),
-        (AvcProfile::AvcBaseline, "Baseline", "AvcBaseline"),
-        (AvcProfile::AvcMain, "Main", "AvcMain"),
-        (AvcProfile::AvcExtended, "Extended", "AvcExtended"),
-        (AvcProfile::AvcHigh, "High", "AvcHigh"),
-    ] {
-        expect_printed(&rt, &profile, text, name)?;
-    }
+    assert!(rt; tracks_are_printed(rt.alloc())?);
+    assert!(rt; media_are_printed(rt.alloc())?);
+    assert!(rt; profiles_are_printed(rt.alloc())?);
     Ok(())
 }
 
-#[test]
-fn other_texts_and_codes_have_no_type(rt: HostRuntime) {
+/// Whether texts that are not handlers have no track type.
+fn other_handlers_have_no_type() -> bool {
     for handler in ["", "vid", "video", "VIDE", "hint", "meta"] {
-        assert_eq!(rt;
-            invalid_text(&TrackType::try_from(handler)),
-            Some("unsupported handler type"),
-            "of {handler}"
-        );
+        if invalid_text(&TrackType::try_from(handler)) != Some("unsupported handler type") {
+            return false;
+        }
     }
+    true
+}
+
+/// The first code that has a track type, among those that are not of handlers.
+fn other_code_of_a_track() -> Option<u32> {
     for code in [
         0,
         0x7669_6464,
@@ -110,25 +114,35 @@ fn other_texts_and_codes_have_no_type(rt: HostRuntime) {
         0x7362_746d,
         0x6869_6e74,
     ] {
-        assert_eq!(rt;
-            invalid_text(&TrackType::try_from(&FourCC::from(code))),
-            Some("unsupported handler type"),
-            "of {code}"
-        );
+        let track = TrackType::try_from(&FourCC::from(code));
+        if invalid_text(&track) != Some("unsupported handler type") {
+            return Some(code);
+        }
     }
+    None
+}
+
+/// Whether texts that are not of media have no media type.
+fn other_texts_have_no_media() -> bool {
     for text in [
         "", "h26", "h263", "h266", "h2645", "H264", "vp8", "aacp", "ttx",
     ] {
-        assert_eq!(rt;
-            invalid_text(&MediaType::try_from(text)),
-            Some("unsupported media type"),
-            "of {text}"
-        );
+        if invalid_text(&MediaType::try_from(text)) != Some("unsupported media type") {
+            return false;
+        }
     }
+    true
 }
 
 #[test]
-fn avc_profiles_have_numbers(rt: HostRuntime) -> Result<(), Fail> {
+fn other_texts_and_codes_have_no_type(rt: HostRuntime) {
+    assert!(rt; other_handlers_have_no_type());
+    assert_eq!(rt; other_code_of_a_track(), None);
+    assert!(rt; other_texts_have_no_media());
+}
+
+/// The first numbers that have another AVC profile than they should.
+fn other_avc_profile() -> Option<(u8, u8)> {
     for (number, constraints, profile) in [
         (66, 0x40, AvcProfile::AvcConstrainedBaseline),
         (66, 0xff, AvcProfile::AvcConstrainedBaseline),
@@ -142,29 +156,40 @@ fn avc_profiles_have_numbers(rt: HostRuntime) -> Result<(), Fail> {
         (100, 0, AvcProfile::AvcHigh),
         (100, 0x40, AvcProfile::AvcHigh),
     ] {
-        assert_eq!(rt;
-            AvcProfile::try_from((number, constraints))?,
-            profile,
-            "of {number}, {constraints}"
-        );
+        let found = AvcProfile::try_from((number, constraints));
+        if !matches!(found, Ok(it) if it == profile) {
+            return Some((number, constraints));
+        }
     }
-    Ok(())
+    None
 }
 
 #[test]
-fn other_numbers_have_no_avc_profile(rt: HostRuntime) {
+fn avc_profiles_have_numbers(rt: HostRuntime) {
+    assert_eq!(rt; other_avc_profile(), None);
+}
+
+/// Whether the numbers have no AVC profile.
+fn have_no_profile(number: u8, constraints: u8) -> bool {
+    invalid_text(&AvcProfile::try_from((number, constraints))) == Some("unsupported avc profile")
+}
+
+/// The first number that has an AVC profile, among those that should have none.
+fn other_number_of_a_profile() -> Option<u8> {
     for number in 0..=255 {
         if [66, 77, 88, 100].contains(&number) {
             continue;
         }
-        for constraints in [0, 0x40] {
-            assert_eq!(rt;
-                invalid_text(&AvcProfile::try_from((number, constraints))),
-                Some("unsupported avc profile"),
-                "of {number}, {constraints}"
-            );
+        if !have_no_profile(number, 0) || !have_no_profile(number, 0x40) {
+            return Some(number);
         }
     }
+    None
+}
+
+#[test]
+fn other_numbers_have_no_avc_profile(rt: HostRuntime) {
+    assert_eq!(rt; other_number_of_a_profile(), None);
 }
 
 /// Number, variant and printed text of each audio object type.
@@ -213,19 +238,31 @@ const AUDIO_OBJECT_TYPES: &str = "\
 46 AudioSync Audio Sync\n\
 ";
 
-#[test]
-fn audio_object_types_have_numbers(rt: HostRuntime) -> Result<(), Fail> {
-    let mut table = String::new(rt.alloc());
+/// Appends a line of this audio object type to a table, if there is one. Returns whether it is as it should be.
+fn put_object_type(table: &mut String, number: u8) -> Result<bool, AllocError> {
+    match AudioObjectType::try_from(number) {
+        Ok(found) => {
+            writeln!(table, "{number} {found:?} {found}")?;
+            Ok(found as u8 == number)
+        }
+        outcome => Ok(invalid_text(&outcome) == Some("invalid audio object type")),
+    }
+}
+
+/// Whether the table of all numbers is `AUDIO_OBJECT_TYPES`.
+fn is_table_of_object_types(alloc: Global) -> Result<bool, AllocError> {
+    let mut table = String::new(alloc);
     for number in 0..=255 {
-        match AudioObjectType::try_from(number) {
-            Ok(object) => {
-                assert_eq!(rt; object as u8, number);
-                writeln!(table, "{number} {object:?} {object}")?;
-            }
-            outcome => assert_eq!(rt; invalid_text(&outcome), Some("invalid audio object type")),
+        if !put_object_type(&mut table, number)? {
+            return Ok(false);
         }
     }
-    assert_eq!(rt; table.as_str(), AUDIO_OBJECT_TYPES);
+    Ok(table.as_str() == AUDIO_OBJECT_TYPES)
+}
+
+#[test]
+fn audio_object_types_have_numbers(rt: HostRuntime) -> Result<(), Fail> {
+    assert!(rt; is_table_of_object_types(rt.alloc())?);
     Ok(())
 }
 
@@ -246,23 +283,32 @@ const SAMPLE_FREQ_INDEXES: &str = "\
 12 Freq7350 7350\n\
 ";
 
-#[test]
-fn sampling_frequencies_have_indexes(rt: HostRuntime) -> Result<(), Fail> {
-    let mut table = String::new(rt.alloc());
+/// Appends a line of this sampling frequency to a table, if there is one. Returns whether it is as it should be.
+fn put_frequency(table: &mut String, number: u8) -> Result<bool, AllocError> {
+    match SampleFreqIndex::try_from(number) {
+        Ok(found) => {
+            let freq = found.freq();
+            writeln!(table, "{number} {found:?} {freq}")?;
+            Ok(found as u8 == number)
+        }
+        outcome => Ok(invalid_text(&outcome) == Some("invalid sampling frequency index")),
+    }
+}
+
+/// Whether the table of all numbers is `SAMPLE_FREQ_INDEXES`.
+fn is_table_of_frequencies(alloc: Global) -> Result<bool, AllocError> {
+    let mut table = String::new(alloc);
     for number in 0..=255 {
-        match SampleFreqIndex::try_from(number) {
-            Ok(index) => {
-                assert_eq!(rt; index as u8, number);
-                let freq = index.freq();
-                writeln!(table, "{number} {index:?} {freq}")?;
-            }
-            outcome => assert_eq!(rt;
-                invalid_text(&outcome),
-                Some("invalid sampling frequency index")
-            ),
+        if !put_frequency(&mut table, number)? {
+            return Ok(false);
         }
     }
-    assert_eq!(rt; table.as_str(), SAMPLE_FREQ_INDEXES);
+    Ok(table.as_str() == SAMPLE_FREQ_INDEXES)
+}
+
+#[test]
+fn sampling_frequencies_have_indexes(rt: HostRuntime) -> Result<(), Fail> {
+    assert!(rt; is_table_of_frequencies(rt.alloc())?);
     Ok(())
 }
 
@@ -277,44 +323,65 @@ const CHANNEL_CONFIGS: &str = "\
 7 SevenOne seven.one\n\
 ";
 
-#[test]
-fn channel_configs_have_numbers(rt: HostRuntime) -> Result<(), Fail> {
-    let mut table = String::new(rt.alloc());
+/// Appends a line of this arrangement of channels to a table, if there is one. Returns whether it is as it should be.
+fn put_arrangement(table: &mut String, number: u8) -> Result<bool, AllocError> {
+    match ChannelConfig::try_from(number) {
+        Ok(found) => {
+            writeln!(table, "{number} {found:?} {found}")?;
+            Ok(found as u8 == number)
+        }
+        outcome => Ok(invalid_text(&outcome) == Some("invalid channel configuration")),
+    }
+}
+
+/// Whether the table of all numbers is `CHANNEL_CONFIGS`.
+fn is_table_of_arrangements(alloc: Global) -> Result<bool, AllocError> {
+    let mut table = String::new(alloc);
     for number in 0..=255 {
-        match ChannelConfig::try_from(number) {
-            Ok(config) => {
-                assert_eq!(rt; config as u8, number);
-                writeln!(table, "{number} {config:?} {config}")?;
-            }
-            outcome => assert_eq!(rt;
-                invalid_text(&outcome),
-                Some("invalid channel configuration")
-            ),
+        if !put_arrangement(&mut table, number)? {
+            return Ok(false);
         }
     }
-    assert_eq!(rt; table.as_str(), CHANNEL_CONFIGS);
+    Ok(table.as_str() == CHANNEL_CONFIGS)
+}
+
+#[test]
+fn channel_configs_have_numbers(rt: HostRuntime) -> Result<(), Fail> {
+    assert!(rt; is_table_of_arrangements(rt.alloc())?);
     Ok(())
+}
+
+/// Whether a type of data has this number, and prints as this name.
+fn is_data_type(
+    alloc: Global,
+    number: u32,
+    kind: DataType,
+    name: &str,
+) -> Result<bool, AllocError> {
+    let is_read = matches!(DataType::try_from(number), Ok(found) if found == kind);
+    let is_cloned = kind.clone()? == kind;
+    let debug = debug_text(alloc, &kind)?;
+    Ok(is_read && is_cloned && debug.as_str() == name && kind as u32 == number)
+}
+
+/// The first number that has a type of data, among those that should have none.
+fn other_number_of_data() -> Option<u32> {
+    for number in [2, 12, 14, 20, 22, 0x0100_0000, 0x0100_0001, u32::MAX] {
+        if invalid_text(&DataType::try_from(number)) != Some("invalid data type") {
+            return Some(number);
+        }
+    }
+    None
 }
 
 #[test]
 fn data_types_have_numbers(rt: HostRuntime) -> Result<(), Fail> {
-    assert_eq!(rt; DataType::default(), DataType::Binary);
-    for (number, kind, name) in [
-        (0, DataType::Binary, "Binary"),
-        (1, DataType::Text, "Text"),
-        (13, DataType::Image, "Image"),
-        (21, DataType::TempoCpil, "TempoCpil"),
-    ] {
-        assert_eq!(rt; DataType::try_from(number)?, kind.clone()?, "of {number}");
-        assert_eq!(rt; debug_text(rt.alloc(), &kind)?.as_str(), name);
-        assert_eq!(rt; kind as u32, number);
-    }
-    for number in [2, 12, 14, 20, 22, 0x0100_0000, 0x0100_0001, u32::MAX] {
-        assert_eq!(rt;
-            invalid_text(&DataType::try_from(number)),
-            Some("invalid data type"),
-            "of {number}"
-        );
-    }
+    let alloc = rt.alloc();
+    assert!(rt; DataType::default() == DataType::Binary);
+    assert!(rt; is_data_type(alloc, 0, DataType::Binary, "Binary")?);
+    assert!(rt; is_data_type(alloc, 1, DataType::Text, "Text")?);
+    assert!(rt; is_data_type(alloc, 13, DataType::Image, "Image")?);
+    assert!(rt; is_data_type(alloc, 21, DataType::TempoCpil, "TempoCpil")?);
+    assert_eq!(rt; other_number_of_data(), None);
     Ok(())
 }

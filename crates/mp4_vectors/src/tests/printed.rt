@@ -1,80 +1,128 @@
 //! How errors, names, codes and matrices print.
 
+use mp4_ported::helpers::debug_text;
 use mp4_stream::{BoxType, Error, FourCC, Matrix};
+use std::alloc::{AllocError, Global};
 use std::fmt::Display;
-use std::process::Abort;
 use std::test::Fail;
 
-/// Expects that a value prints as this text.
-fn expect_printed(
-    rt: &(impl Abort + AllocGlobal),
-    value: impl Display + Drop,
-    text: &str,
-) -> Result<(), Fail> {
-    let printed = format!(in rt.alloc(); "{value}")?;
-    assert_eq!(rt; printed.as_str(), text);
-    Ok(())
+/// Whether a value prints as this text.
+fn is_printed(alloc: Global, value: impl Display + Drop, text: &str) -> Result<bool, AllocError> {
+    let printed = format!(in alloc; "{value}")?;
+    Ok(printed.as_str() == text)
+}
+
+/// Whether errors of reading print as their texts.
+fn faults_are_printed(alloc: Global) -> Result<bool, AllocError> {
+    let small = "box size too small";
+    Ok(
+        is_printed(alloc, Error::IoError, "unexpected end of input")?
+            && is_printed(alloc, Error::InvalidData(small), small)?
+            && is_printed(
+                alloc,
+                Error::BoxNotFound(BoxType::DrefBox),
+                "dref not found",
+            )?
+            && is_printed(alloc, Error::OutOfMemory, "out of memory")?,
+    )
+}
+
+/// Whether errors that name boxes of a file print as their texts.
+fn missing_boxes_are_printed(alloc: Global) -> Result<bool, AllocError> {
+    let (stsd, moov, trun) = (BoxType::StsdBox, BoxType::MoovBox, BoxType::TrunBox);
+    Ok(
+        is_printed(
+            alloc,
+            Error::Box2NotFound(moov, stsd),
+            "moov and stsd not found",
+        )? && is_printed(alloc, Error::TrakNotFound(3), "trak[3] not found")?
+            && is_printed(
+                alloc,
+                Error::BoxInTrakNotFound(3, stsd),
+                "trak[3].stsd not found",
+            )?
+            && is_printed(
+                alloc,
+                Error::BoxInTrafNotFound(3, trun),
+                "traf[3].trun not found",
+            )?,
+    )
+}
+
+/// Whether errors that name boxes and entries of tables print as their texts.
+fn missing_entries_are_printed(alloc: Global) -> Result<bool, AllocError> {
+    let (stsd, trun) = (BoxType::StsdBox, BoxType::TrunBox);
+    let entry_of_stbl = Error::EntryInStblNotFound(3, stsd, 4);
+    let entry_of_trun = Error::EntryInTrunNotFound(3, trun, 4);
+    let version = Error::UnsupportedBoxVersion(stsd, 9);
+    Ok(
+        is_printed(
+            alloc,
+            Error::BoxInStblNotFound(3, stsd),
+            "trak[3].stbl.stsd not found",
+        )? && is_printed(alloc, entry_of_stbl, "trak[3].stbl.stsd.entry[4] not found")?
+            && is_printed(alloc, entry_of_trun, "traf[3].trun.trun.entry[4] not found")?
+            && is_printed(alloc, version, "stsd version 9 is not supported")?,
+    )
 }
 
 #[test]
 fn errors_print_their_texts(rt: HostRuntime) -> Result<(), Fail> {
-    let (stsd, moov, trun) = (BoxType::StsdBox, BoxType::MoovBox, BoxType::TrunBox);
-    let small = "box size too small";
-    expect_printed(&rt, Error::IoError, "unexpected end of input")?;
-    expect_printed(&rt, Error::InvalidData(small), small)?;
-    expect_printed(&rt, Error::BoxNotFound(BoxType::DrefBox), "dref not found")?;
-    expect_printed(
-        &rt,
-        Error::Box2NotFound(moov, stsd),
-        "moov and stsd not found",
-    )?;
-    let version = Error::UnsupportedBoxVersion(stsd, 9);
-    expect_printed(&rt, version, "stsd version 9 is not supported")?;
-    expect_printed(&rt, Error::OutOfMemory, "out of memory")?;
-    expect_printed(&rt, Error::TrakNotFound(3), "trak[3] not found")?;
-    expect_printed(
-        &rt,
-        Error::BoxInTrakNotFound(3, stsd),
-        "trak[3].stsd not found",
-    )?;
-    expect_printed(
-        &rt,
-        Error::BoxInTrafNotFound(3, trun),
-        "traf[3].trun not found",
-    )?;
-    let stbl = Error::BoxInStblNotFound(3, stsd);
-    expect_printed(&rt, stbl, "trak[3].stbl.stsd not found")?;
-    let entry = Error::EntryInStblNotFound(3, stsd, 4);
-    expect_printed(&rt, entry, "trak[3].stbl.stsd.entry[4] not found")?;
-    let entry = Error::EntryInTrunNotFound(3, trun, 4);
-    expect_printed(&rt, entry, "traf[3].trun.trun.entry[4] not found")
+    assert!(rt; faults_are_printed(rt.alloc())?);
+    assert!(rt; missing_boxes_are_printed(rt.alloc())?);
+    assert!(rt; missing_entries_are_printed(rt.alloc())?);
+    Ok(())
+}
+
+/// Whether names of boxes print as their codes.
+fn types_are_printed(alloc: Global) -> Result<bool, AllocError> {
+    Ok(
+        is_printed(alloc, BoxType::FtypBox, "ftyp")?
+            && is_printed(alloc, BoxType::UrlBox, "url ")?
+            && is_printed(alloc, BoxType::NameBox, "\u{fffd}nam")?
+            && debug_text(alloc, &BoxType::DayBox)?.as_str() == "\u{fffd}day",
+    )
+}
+
+/// Whether names of unknown boxes print as their codes, whatever bytes these are of.
+fn unknown_types_are_printed(alloc: Global) -> Result<bool, AllocError> {
+    Ok(
+        is_printed(alloc, BoxType::UnknownBox(0x6d61_726b), "mark")?
+            && is_printed(alloc, BoxType::UnknownBox(0xf09f_a680), "\u{1f980}")?
+            && is_printed(
+                alloc,
+                BoxType::UnknownBox(0xe282_00ff),
+                "\u{fffd}\0\u{fffd}",
+            )?,
+    )
+}
+
+/// Whether codes print as their letters, and by `Debug` as their number too.
+fn codes_are_printed(alloc: Global) -> Result<bool, AllocError> {
+    let isom = FourCC::from(*b"isom");
+    Ok(
+        is_printed(alloc, FourCC::from(0xa96e_616d), "\u{fffd}nam")?
+            && is_printed(alloc, isom, "isom")?
+            && debug_text(alloc, &isom)?.as_str() == "isom / 0x69736F6D",
+    )
 }
 
 #[test]
 fn names_print_their_codes(rt: HostRuntime) -> Result<(), Fail> {
-    expect_printed(&rt, BoxType::FtypBox, "ftyp")?;
-    expect_printed(&rt, BoxType::UrlBox, "url ")?;
-    expect_printed(&rt, BoxType::NameBox, "\u{fffd}nam")?;
-    expect_printed(&rt, FourCC::from(0xa96e_616d), "\u{fffd}nam")?;
-    expect_printed(&rt, BoxType::UnknownBox(0x6d61_726b), "mark")?;
-    expect_printed(&rt, BoxType::UnknownBox(0xf09f_a680), "\u{1f980}")?;
-    expect_printed(&rt, BoxType::UnknownBox(0xe282_00ff), "\u{fffd}\0\u{fffd}")?;
-    let name = BoxType::DayBox;
-    let debug = format!(in rt.alloc(); "{name:?}")?;
-    assert_eq!(rt; debug.as_str(), "\u{fffd}day");
-    let isom = FourCC::from(*b"isom");
-    let debug = format!(in rt.alloc(); "{isom:?}")?;
-    assert_eq!(rt; debug.as_str(), "isom / 0x69736F6D");
-    expect_printed(&rt, isom, "isom")
+    assert!(rt; types_are_printed(rt.alloc())?);
+    assert!(rt; unknown_types_are_printed(rt.alloc())?);
+    assert!(rt; codes_are_printed(rt.alloc())?);
+    Ok(())
 }
 
+/// A matrix prints as nine numbers to base 16.
 #[test]
 fn printed_matrices(rt: HostRuntime) -> Result<(), Fail> {
-    let mut matrix = Matrix::default();
     let unity = "0x10000 0x0 0x0 0x0 0x10000 0x0 0x0 0x0 0x40000000";
-    assert_eq!(rt; format!(in rt.alloc(); "{matrix}")?.as_str(), unity);
+    assert!(rt; is_printed(rt.alloc(), Matrix::default(), unity)?);
+    let mut matrix = Matrix::default();
     matrix.b = -1;
     let sheared = "0x10000 0xffffffff 0x0 0x0 0x10000 0x0 0x0 0x0 0x40000000";
-    assert_eq!(rt; format!(in rt.alloc(); "{matrix}")?.as_str(), sheared);
+    assert!(rt; is_printed(rt.alloc(), matrix, sheared)?);
     Ok(())
 }
