@@ -9,54 +9,76 @@ use mp4_ported::boxes::tables::{
 use mp4_ported::boxes::text::{FTYP_OF_TWO, data_box, dinf, dref_of, emsg, ftyp, hdlr, url};
 use mp4_ported::helpers::read;
 use mp4_ported::made;
-use mp4_stream::{FtypBox, StcoBox};
-use std::test::Fail;
+use mp4_stream::{Error, FtypBox, ReadBox, StcoBox, TryClone};
+use std::alloc::Global;
 
-#[test]
-fn clones_of_tables(rt: HostRuntime) -> Result<(), Fail> {
-    let alloc = rt.alloc();
-    let (read_stco, _) = read::<StcoBox>(alloc, &STCO_OF_ONE, 20);
-    made::cloned(stco(alloc))
-        .and(made::cloned(read_stco))
-        .and(made::cloned(co64_of_seven(alloc)))
-        .and(made::cloned(stsc(alloc)))
-        .and(made::cloned(trun(alloc)))
-        .and(made::cloned(stss_of_nine(alloc)))
-        .and(made::cloned(stts(alloc)))
-        .and(made::cloned(ctts(alloc)))
-        .and(made::cloned(stsz_of_nine(alloc)))
-        .and(made::cloned(elst_long(alloc)))?;
-    Ok(())
+/// Whether a clone of the box is equal to it.
+fn is_cloned<B: TryClone + PartialEq + Drop>(made: Result<B, Error>) -> bool {
+    made::cloned(made).is_ok()
+}
+
+/// Whether a clone of the box is equal to it, where its making takes no memory.
+fn is_clone_equal<B: TryClone + PartialEq + Drop>(original: &B) -> bool {
+    made::clone_of(original).is_ok()
+}
+
+/// A box as it is read from these bytes, after the 8 bytes of its header.
+fn read_from<B: ReadBox + Drop>(alloc: Global, bytes: &[u8], size: u64) -> Result<B, Error> {
+    read::<B>(alloc, bytes, size).0
+}
+
+/// Whether clones of tables are equal to them.
+fn tables_are_cloned(alloc: Global) -> bool {
+    is_cloned(stco(alloc))
+        && is_cloned(read_from::<StcoBox>(alloc, &STCO_OF_ONE, 20))
+        && is_cloned(co64_of_seven(alloc))
+        && is_cloned(stsc(alloc))
+        && is_cloned(trun(alloc))
+        && is_cloned(stss_of_nine(alloc))
+        && is_cloned(stts(alloc))
+        && is_cloned(ctts(alloc))
+        && is_cloned(stsz_of_nine(alloc))
+        && is_cloned(elst_long(alloc))
 }
 
 #[test]
-fn clones_of_texts_and_references(rt: HostRuntime) -> Result<(), Fail> {
-    let alloc = rt.alloc();
-    let (read_ftyp, _) = read::<FtypBox>(alloc, &FTYP_OF_TWO, 24);
-    made::cloned(mdhd_long(alloc))
-        .and(made::cloned(ftyp(alloc)))
-        .and(made::cloned(read_ftyp))
-        .and(made::cloned(data_box(alloc)))
-        .and(made::cloned(hdlr(alloc)))
-        .and(made::cloned(emsg(alloc)))
-        .and(made::cloned(url(alloc)))
-        .and(made::cloned(Ok(dref_of(None))))
-        .and(made::cloned(Ok(dinf(alloc))))?;
-    Ok(())
+fn clones_of_tables(rt: HostRuntime) {
+    assert!(rt; tables_are_cloned(rt.alloc()));
+}
+
+/// Whether clones of texts and references are equal to them.
+fn texts_and_references_are_cloned(alloc: Global) -> bool {
+    is_cloned(mdhd_long(alloc))
+        && is_cloned(ftyp(alloc))
+        && is_cloned(read_from::<FtypBox>(alloc, &FTYP_OF_TWO, 24))
+        && is_cloned(data_box(alloc))
+        && is_cloned(hdlr(alloc))
+        && is_cloned(emsg(alloc))
+        && is_cloned(url(alloc))
+        && is_cloned(Ok(dref_of(None)))
+        && is_cloned(Ok(dinf(alloc)))
 }
 
 #[test]
-fn clones_of_entries_and_sound(rt: HostRuntime) -> Result<(), Fail> {
-    let alloc = rt.alloc();
-    made::cloned(avcc(alloc))
-        .and(made::cloned(avc1(alloc)))
-        .and(made::clone_of(&hev1()))
-        .and(made::clone_of(&vpcc()))
-        .and(made::clone_of(&vp09()))
-        .and(made::clone_of(&tx3g()))
-        .and(made::clone_of(&esds()))
-        .and(made::clone_of(&mp4a()))
-        .and(made::clone_of(&mp4a_of_test()))
-        .and(made::clone_of(&mp4a_of(None)))?;
-    Ok(())
+fn clones_of_texts_and_references(rt: HostRuntime) {
+    assert!(rt; texts_and_references_are_cloned(rt.alloc()));
+}
+
+/// Whether clones of entries of samples are equal to them.
+fn entries_and_sound_are_cloned(alloc: Global) -> bool {
+    is_cloned(avcc(alloc))
+        && is_cloned(avc1(alloc))
+        && is_clone_equal(&hev1())
+        && is_clone_equal(&vpcc())
+        && is_clone_equal(&vp09())
+        && is_clone_equal(&tx3g())
+        && is_clone_equal(&esds())
+        && is_clone_equal(&mp4a())
+        && is_clone_equal(&mp4a_of_test())
+        && is_clone_equal(&mp4a_of(None))
+}
+
+#[test]
+fn clones_of_entries_and_sound(rt: HostRuntime) {
+    assert!(rt; entries_and_sound_are_cloned(rt.alloc()));
 }

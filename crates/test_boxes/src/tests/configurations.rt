@@ -4,31 +4,37 @@ use mp4_ported::helpers::debug_text;
 use mp4_ported::made;
 use mp4_stream::{
     AacConfig, AudioObjectType, AvcConfig, ChannelConfig, Entries, Error, HevcConfig, MediaConfig,
-    SampleFreqIndex, TtxtConfig, Vp9Config,
+    SampleFreqIndex, TryClone, TtxtConfig, Vp9Config,
 };
 use std::alloc::Global;
 use std::fmt::Debug;
-use std::test::Fail;
+
+/// Whether the configuration has no size and no parameter sets.
+fn is_empty(avc: AvcConfig) -> bool {
+    avc.width == 0
+        && avc.height == 0
+        && avc.seq_param_set.is_empty()
+        && avc.pic_param_set.is_empty()
+}
+
+/// Whether each default configuration without memory is what the Rust crate has.
+fn defaults_are_known() -> bool {
+    let (width, height) = (0, 0);
+    let aac = AacConfig {
+        bitrate: 0,
+        profile: AudioObjectType::AacLowComplexity,
+        freq_index: SampleFreqIndex::Freq48000,
+        chan_conf: ChannelConfig::Stereo,
+    };
+    HevcConfig::default() == (HevcConfig { width, height })
+        && Vp9Config::default() == (Vp9Config { width, height })
+        && TtxtConfig::default() == (TtxtConfig {})
+        && AacConfig::default() == aac
+}
 
 #[test]
 fn default_configurations(rt: HostRuntime) {
-    let avc = AvcConfig::default_in(rt.alloc());
-    let sizes = (avc.width, avc.height);
-    let sets = (avc.seq_param_set.len(), avc.pic_param_set.len());
-    assert_eq!(rt; (sizes, sets), ((0, 0), (0, 0)));
-    let (width, height) = (0, 0);
-    assert_eq!(rt; HevcConfig::default(), HevcConfig { width, height });
-    assert_eq!(rt; Vp9Config::default(), Vp9Config { width, height });
-    assert_eq!(rt; TtxtConfig::default(), TtxtConfig {});
-    assert_eq!(rt;
-        AacConfig::default(),
-        AacConfig {
-            bitrate: 0,
-            profile: AudioObjectType::AacLowComplexity,
-            freq_index: SampleFreqIndex::Freq48000,
-            chan_conf: ChannelConfig::Stereo,
-        }
-    );
+    assert!(rt; is_empty(AvcConfig::default_in(rt.alloc())) && defaults_are_known());
 }
 
 fn avc_config(alloc: Global) -> Result<AvcConfig, Error> {
@@ -40,31 +46,50 @@ fn avc_config(alloc: Global) -> Result<AvcConfig, Error> {
     })
 }
 
-/// The text that `Debug` prints of what was made.
-fn text_of<T: Debug + Drop>(alloc: Global, made: Result<T, Error>) -> Result<String, Error> {
-    Ok(debug_text(alloc, &made?)?)
+/// Whether `Debug` prints this text.
+fn is_printed<T: Debug>(alloc: Global, value: &T, expected: &str) -> bool {
+    match debug_text(alloc, value) {
+        Ok(text) => text.as_str() == expected,
+        Err(_) => false,
+    }
+}
+
+/// Whether `Debug` prints this text of what was made.
+fn is_made_and_printed(alloc: Global, made: Result<AvcConfig, Error>, expected: &str) -> bool {
+    match made {
+        Ok(avc) => is_printed(alloc, &avc, expected),
+        Err(_) => false,
+    }
+}
+
+/// Whether `Debug` prints this text of a track of text.
+fn text_is_printed(alloc: Global, expected: &str) -> bool {
+    is_printed(alloc, &MediaConfig::TtxtConfig(TtxtConfig {}), expected)
 }
 
 #[test]
-fn configurations_are_printed(rt: HostRuntime) -> Result<(), Fail> {
+fn configurations_are_printed(rt: HostRuntime) {
     let alloc = rt.alloc();
-    let ttxt = text_of(alloc, Ok(TtxtConfig {}))?;
-    assert_eq!(rt; ttxt.as_str(), "TtxtConfig");
-    let vp9 = text_of(alloc, Ok(Vp9Config::default()))?;
-    assert_eq!(rt; vp9.as_str(), "Vp9Config { width: 0, height: 0 }");
-    let avc = text_of(alloc, avc_config(alloc))?;
-    assert_eq!(rt;
-        avc.as_str(),
-        "AvcConfig { width: 320, height: 240, seq_param_set: [103, 100, 0, 13], pic_param_set: [104] }"
+    let avc =
+        "AvcConfig { width: 320, height: 240, seq_param_set: [103, 100, 0, 13], pic_param_set: [104] }";
+    assert!(rt;
+        is_printed(alloc, &TtxtConfig {}, "TtxtConfig")
+            && is_printed(
+                alloc,
+                &Vp9Config::default(),
+                "Vp9Config { width: 0, height: 0 }"
+            )
+            && is_made_and_printed(alloc, avc_config(alloc), avc)
+            && text_is_printed(alloc, "TtxtConfig(TtxtConfig)")
     );
-    let media = text_of(alloc, Ok(MediaConfig::TtxtConfig(TtxtConfig {})))?;
-    assert_eq!(rt; media.as_str(), "TtxtConfig(TtxtConfig)");
-    Ok(())
 }
 
-/// Whether what was made is the default.
-fn is_default(alloc: Global, made: Result<AvcConfig, Error>) -> Result<bool, Error> {
-    Ok(made? == AvcConfig::default_in(alloc))
+/// Whether what was made is equal to the default, or isn't, as expected.
+fn is_default(alloc: Global, made: Result<AvcConfig, Error>, expected: bool) -> bool {
+    match made {
+        Ok(made) => (made == AvcConfig::default_in(alloc)) == expected,
+        Err(_) => false,
+    }
 }
 
 /// The configuration as one of a track.
@@ -93,16 +118,32 @@ fn aac_config() -> MediaConfig {
     })
 }
 
+/// Whether a clone of the configuration is equal to it.
+fn is_cloned<T: TryClone + PartialEq + Drop>(made: Result<T, Error>) -> bool {
+    made::cloned(made).is_ok()
+}
+
+/// Whether a clone of the configuration is equal to it, where its making takes no memory.
+fn is_clone_equal(original: MediaConfig) -> bool {
+    made::clone_of(&original).is_ok()
+}
+
+/// Whether clones of configurations are equal to them.
+fn are_cloned(alloc: Global) -> bool {
+    is_cloned(avc_config(alloc))
+        && is_cloned(media_config(alloc))
+        && is_clone_equal(hevc_config())
+        && is_clone_equal(vp9_config())
+        && is_clone_equal(aac_config())
+        && is_clone_equal(MediaConfig::TtxtConfig(TtxtConfig {}))
+}
+
 #[test]
-fn configurations_are_compared_and_cloned(rt: HostRuntime) -> Result<(), Fail> {
+fn configurations_are_compared_and_cloned(rt: HostRuntime) {
     let alloc = rt.alloc();
-    assert!(rt; !is_default(alloc, avc_config(alloc))?);
-    assert!(rt; is_default(alloc, Ok(AvcConfig::default_in(alloc)))?);
-    made::cloned(avc_config(alloc))
-        .and(made::cloned(media_config(alloc)))
-        .and(made::cloned(Ok(hevc_config())))
-        .and(made::cloned(Ok(vp9_config())))
-        .and(made::cloned(Ok(aac_config())))
-        .and(made::cloned(Ok(MediaConfig::TtxtConfig(TtxtConfig {}))))?;
-    Ok(())
+    assert!(rt;
+        is_default(alloc, avc_config(alloc), false)
+            && is_default(alloc, Ok(AvcConfig::default_in(alloc)), true)
+            && are_cloned(alloc)
+    );
 }

@@ -1,26 +1,53 @@
 //! Lists of entries that are changed in place.
 
-use mp4_stream::Entries;
-use std::test::Fail;
+use mp4_ported::boxes::tables::list;
+use mp4_stream::{Entries, Error};
 
-#[test]
-fn entries_are_changed_in_place(rt: HostRuntime) -> Result<(), Fail> {
-    let mut entries: Entries<u32> = Vec::from_slice(rt.alloc(), &[267, 1970, 3])?.into();
-    for entry in &mut entries {
+/// Adds 1 to each entry.
+fn count_on(entries: &mut Entries<u32>) {
+    for entry in entries {
         *entry = entry.wrapping_add(1);
     }
+}
+
+/// Changes the second entry to 7. Returns whether there is no fourth.
+fn change_second(entries: &mut Entries<u32>) -> bool {
     if let Some(entry) = entries.get_mut(1) {
         *entry = 7;
     }
-    assert!(rt; entries.get_mut(3).is_none());
-    entries.as_mut_slice().reverse();
-    assert_eq!(rt; entries.as_slice(), [4, 7, 268].as_slice());
+    entries.get_mut(3).is_none()
+}
+
+/// The largest entry.
+fn largest(entries: &Entries<u32>) -> u32 {
     let mut largest = 0;
-    for entry in &entries {
+    for entry in entries {
         largest = largest.max(*entry);
     }
-    assert_eq!(rt; largest, 268);
+    largest
+}
+
+/// Whether the entries are these, from last to first, the largest is 268, and none is left after they are cleared.
+fn is_reversed(entries: &mut Entries<u32>, reversed: &[u32]) -> bool {
+    entries.as_mut_slice().reverse();
+    let is_same = entries.as_slice() == reversed;
+    let is_largest = largest(entries) == 268;
     entries.clear();
-    assert!(rt; entries.is_empty());
-    Ok(())
+    is_same && is_largest && entries.is_empty()
+}
+
+/// Whether each change of the entries is made in place.
+fn are_changed(made: Result<Entries<u32>, Error>) -> bool {
+    match made {
+        Ok(mut entries) => {
+            count_on(&mut entries);
+            change_second(&mut entries) && is_reversed(&mut entries, &[4, 7, 268])
+        }
+        Err(_) => false,
+    }
+}
+
+#[test]
+fn entries_are_changed_in_place(rt: HostRuntime) {
+    assert!(rt; are_changed(list(rt.alloc(), &[267, 1970, 3])));
 }

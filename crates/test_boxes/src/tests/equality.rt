@@ -1,27 +1,59 @@
 //! Strings and lists of one length that differ, so that an expected value is not equal to any other.
 
-use mp4_stream::{Entries, Text, TryClone};
-use std::test::Fail;
+use mp4_ported::boxes::tables::list;
+use mp4_ported::made;
+use mp4_stream::{Error, Text, TryClone};
+use std::alloc::Global;
 
-#[test]
-fn strings_of_one_length_differ(rt: HostRuntime) -> Result<(), Fail> {
-    let text = Text::from_str(rt.alloc(), "abc")?;
-    assert!(rt; text == text.try_clone()?);
-    for other in ["xbc", "axc", "abx", "cab", "ab", "abcd", ""] {
-        assert!(rt; text != Text::from_str(rt.alloc(), other)?, "{other}");
+/// Whether a clone of what was made is equal to it.
+fn is_cloned<T: TryClone + PartialEq + Drop>(made: Result<T, Error>) -> bool {
+    made::cloned(made).is_ok()
+}
+
+/// Whether both were made and differ, from either side.
+fn differ<T: PartialEq + Drop>(made: Result<T, Error>, other: Result<T, Error>) -> bool {
+    match (made, other) {
+        (Ok(made), Ok(other)) => made != other && other != made,
+        _ => false,
     }
-    Ok(())
+}
+
+/// Whether a text of "abc" differs from one of another string.
+fn abc_differs(alloc: Global, other: &str) -> bool {
+    differ(Text::from_str(alloc, "abc"), Text::from_str(alloc, other))
+}
+
+/// Whether a text of "abc" differs from those of other strings.
+fn strings_differ(alloc: Global) -> bool {
+    abc_differs(alloc, "xbc")
+        && abc_differs(alloc, "axc")
+        && abc_differs(alloc, "abx")
+        && abc_differs(alloc, "cab")
+        && abc_differs(alloc, "ab")
+        && abc_differs(alloc, "abcd")
+        && abc_differs(alloc, "")
 }
 
 #[test]
-fn lists_of_one_length_differ(rt: HostRuntime) -> Result<(), Fail> {
-    let list = Entries::from(Vec::from_slice(rt.alloc(), &[1u32, 2, 3])?);
-    assert!(rt; list == list.try_clone()?);
-    for other in [[4u32, 2, 3], [1, 4, 3], [1, 2, 4], [3, 1, 2]] {
-        let other = Entries::from(Vec::from_slice(rt.alloc(), &other)?);
-        assert!(rt; list != other, "{other:?}");
-    }
-    let shorter = Entries::from(Vec::from_slice(rt.alloc(), &[1u32, 2])?);
-    assert!(rt; list != shorter && shorter != list);
-    Ok(())
+fn strings_of_one_length_differ(rt: HostRuntime) {
+    assert!(rt; is_cloned(Text::from_str(rt.alloc(), "abc")) && strings_differ(rt.alloc()));
+}
+
+/// Whether the list of 1, 2 and 3 differs from another one.
+fn counting_differs(alloc: Global, other: &[u32]) -> bool {
+    differ(list(alloc, &[1, 2, 3]), list(alloc, other))
+}
+
+/// Whether the list of 1, 2 and 3 differs from others.
+fn lists_differ(alloc: Global) -> bool {
+    counting_differs(alloc, &[4, 2, 3])
+        && counting_differs(alloc, &[1, 4, 3])
+        && counting_differs(alloc, &[1, 2, 4])
+        && counting_differs(alloc, &[3, 1, 2])
+        && counting_differs(alloc, &[1, 2])
+}
+
+#[test]
+fn lists_of_one_length_differ(rt: HostRuntime) {
+    assert!(rt; is_cloned(list(rt.alloc(), &[1, 2, 3])) && lists_differ(rt.alloc()));
 }

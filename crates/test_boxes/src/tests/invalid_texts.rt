@@ -7,32 +7,43 @@ use mp4_stream::{
 };
 use std::alloc::Global;
 use std::str::FromStr;
-use std::test::Fail;
+
+/// Whether the outcome of a call is invalid data with this text.
+fn is_invalid<T: Drop>(outcome: Result<T, Error>, text: &str) -> bool {
+    invalid_text(&outcome) == Some(text)
+}
+
+/// Whether skipping is refused to a position past 64 bits.
+fn skips_are_refused() -> bool {
+    let text = "box end past 64 bits";
+    let mut reader = ByteCursor::new(b"\0\0\0\0\x10mfhd\0\0\0\0\0\0\0\x01");
+    reader.set_position(9);
+    is_invalid(skip_bytes(&mut reader, u64::MAX), text)
+        && is_invalid(skip_box(&mut reader, u64::MAX), text)
+}
+
+/// Whether the header is refused of a box that is too large.
+fn largest_header_is_refused(alloc: Global) -> bool {
+    let largest = BoxHeader::new(BoxType::FreeBox, u64::MAX);
+    is_invalid(largest.write(&mut Vec::new(alloc)), "box too large")
+}
+
+/// Whether a version is refused with flags of 25 bits.
+fn flags_are_refused(alloc: Global) -> bool {
+    let written = write_box_header_ext(&mut Vec::new(alloc), 0, 1 << 24);
+    is_invalid(written, "value does not fit its field")
+}
 
 #[test]
 fn invalid_headers_and_skips(rt: HostRuntime) {
-    let text = Some("box end past 64 bits");
-    let mut reader = ByteCursor::new(b"\0\0\0\0\x10mfhd\0\0\0\0\0\0\0\x01");
-    reader.set_position(9);
-    assert_eq!(rt; invalid_text(&skip_bytes(&mut reader, u64::MAX)), text);
-    assert_eq!(rt; invalid_text(&skip_box(&mut reader, u64::MAX)), text);
-    let mut out = Vec::new(rt.alloc());
-    let largest = BoxHeader::new(BoxType::FreeBox, u64::MAX);
-    assert_eq!(rt;
-        invalid_text(&largest.write(&mut out)),
-        Some("box too large")
-    );
-    assert_eq!(rt;
-        invalid_text(&write_box_header_ext(&mut out, 0, 1 << 24)),
-        Some("value does not fit its field")
-    );
-    assert_eq!(rt;
-        invalid_text(&FourCC::from_str("abc")),
-        Some("expected exactly four bytes in string")
+    let text = "expected exactly four bytes in string";
+    assert!(rt;
+        skips_are_refused()
+            && largest_header_is_refused(rt.alloc())
+            && flags_are_refused(rt.alloc())
+            && is_invalid(FourCC::from_str("abc"), text)
     );
 }
-
-const DOES_NOT_FIT: Option<&str> = Some("value does not fit its field");
 
 /// A box whose flags have 25 bits.
 fn flagged() -> MfhdBox {
@@ -43,27 +54,45 @@ fn flagged() -> MfhdBox {
     }
 }
 
-/// An outcome's text, if a list of the box is written.
-fn text_of_list(alloc: Global, member: MfhdBox) -> Option<&'static str> {
-    let boxes = [AnyBox::MfhdBox(member)];
-    invalid_text(&write_boxes(&boxes, &mut Vec::new(alloc)))
+/// Whether the outcome of a call is the error of a value that does not fit.
+fn does_not_fit<T: Drop>(outcome: Result<T, Error>) -> bool {
+    is_invalid(outcome, "value does not fit its field")
 }
 
-/// An outcome's text, if offsets of 64 bits become short.
-fn text_of_short(alloc: Global, offsets: &[u64]) -> Result<Option<&'static str>, Error> {
-    let long = Co64Box {
+/// Whether the box is refused.
+fn box_does_not_fit(alloc: Global, member: MfhdBox) -> bool {
+    does_not_fit(member.write_box(&mut Vec::new(alloc)))
+}
+
+/// Whether a list of the box is refused.
+fn list_does_not_fit(alloc: Global, member: MfhdBox) -> bool {
+    let boxes = [AnyBox::MfhdBox(member)];
+    does_not_fit(write_boxes(&boxes, &mut Vec::new(alloc)))
+}
+
+/// Offsets of 64 bits.
+fn long_offsets(alloc: Global, offsets: &[u64]) -> Result<Co64Box, Error> {
+    Ok(Co64Box {
         version: 0,
         flags: 0,
         entries: Vec::from_slice(alloc, offsets)?.into(),
-    };
-    Ok(invalid_text(&StcoBox::try_from_co64(alloc, &long)))
+    })
+}
+
+/// Whether offsets of 64 bits can't become short.
+fn offsets_do_not_fit(alloc: Global, made: Result<Co64Box, Error>) -> bool {
+    match made {
+        Ok(long) => does_not_fit(StcoBox::try_from_co64(alloc, &long)),
+        Err(_) => false,
+    }
 }
 
 #[test]
-fn values_that_do_not_fit(rt: HostRuntime) -> Result<(), Fail> {
-    let mut out = Vec::new(rt.alloc());
-    assert_eq!(rt; invalid_text(&flagged().write_box(&mut out)), DOES_NOT_FIT);
-    assert_eq!(rt; text_of_list(rt.alloc(), flagged()), DOES_NOT_FIT);
-    assert_eq!(rt; text_of_short(rt.alloc(), &[1 << 32])?, DOES_NOT_FIT);
-    Ok(())
+fn values_that_do_not_fit(rt: HostRuntime) {
+    let alloc = rt.alloc();
+    assert!(rt;
+        box_does_not_fit(alloc, flagged())
+            && list_does_not_fit(alloc, flagged())
+            && offsets_do_not_fit(alloc, long_offsets(alloc, &[1 << 32]))
+    );
 }

@@ -1,54 +1,87 @@
 //! Languages of other letters and other lengths than bytes can say, worked out by hand.
 
-use mp4_stream::{Error, MdhdBox, Text, WriteBox, language_code, language_string};
+use mp4_stream::{MdhdBox, Text, WriteBox, language_code, language_string};
 use std::alloc::Global;
-use std::test::Fail;
 
-/// The two bytes of the language in an `mdhd` of it.
-fn written_code(alloc: Global, language: &str) -> Result<[u8; 2], Error> {
-    let mut mdhd = MdhdBox::default_in(alloc)?;
-    mdhd.language = Text::from_str(alloc, language)?;
+/// A media header of this language.
+fn media_header(language: Text) -> MdhdBox {
+    MdhdBox {
+        version: 0,
+        flags: 0,
+        creation_time: 0,
+        modification_time: 0,
+        timescale: 1000,
+        duration: 0,
+        language,
+    }
+}
+
+/// Whether the box is written with this code in its two bytes of the language.
+fn is_written(alloc: Global, mdhd: MdhdBox, code: u16) -> bool {
     let mut out = Vec::new(alloc);
-    mdhd.write_box(&mut out)?;
-    match out.get(28..30) {
-        Some([first, second]) => Ok([*first, *second]),
-        _ => Err(Error::IoError),
+    mdhd.write_box(&mut out).is_ok() && out.get(28..30) == Some(u16::to_be_bytes(code).as_slice())
+}
+
+/// Whether an `mdhd` of the language has this code.
+fn is_written_in_mdhd(alloc: Global, language: &str, code: u16) -> bool {
+    match Text::from_str(alloc, language) {
+        Ok(language) => is_written(alloc, media_header(language), code),
+        Err(_) => false,
     }
 }
 
-#[test]
-fn letters_past_ascii_are_utf16_units(rt: HostRuntime) -> Result<(), Fail> {
+/// Whether the language has this code, as a number and in the two bytes of an `mdhd` of it.
+fn has_code(alloc: Global, language: &str, code: u16) -> bool {
+    language_code(language) == code && is_written_in_mdhd(alloc, language, code)
+}
+
+/// Whether each language with letters past ASCII has the code of its UTF-16 units.
+fn letters_have_codes(alloc: Global) -> bool {
     // U+00E9 has the five low bits 9, U+20AC has 12; U+10348 is the two units 0xD800 and 0xDF48, with 0 and 8.
-    for (language, code) in [
-        ("\u{e9}\u{20ac}z", 0x259a),
-        ("a\u{e9}\u{20ac}", 0x052c),
-        ("\u{10348}x", 0x0118),
-        ("z\u{10348}x", 0x6808),
-        ("zz\u{10348}", 0x6b40),
-    ] {
-        assert_eq!(rt; language_code(language), code, "{language}");
-        let written = written_code(rt.alloc(), language)?;
-        assert_eq!(rt; written, u16::to_be_bytes(code), "{language}");
-    }
-    Ok(())
+    has_code(alloc, "\u{e9}\u{20ac}z", 0x259a)
+        && has_code(alloc, "a\u{e9}\u{20ac}", 0x052c)
+        && has_code(alloc, "\u{10348}x", 0x0118)
+        && has_code(alloc, "z\u{10348}x", 0x6808)
+        && has_code(alloc, "zz\u{10348}", 0x6b40)
 }
 
 #[test]
-fn only_five_bits_of_a_letter_are_written(rt: HostRuntime) -> Result<(), Fail> {
+fn letters_past_ascii_are_utf16_units(rt: HostRuntime) {
+    assert!(rt; letters_have_codes(rt.alloc()));
+}
+
+/// Whether the code is read as these letters.
+fn is_read_as(alloc: Global, code: u16, letters: &str) -> bool {
+    match language_string(alloc, code) {
+        Ok(language) => language.as_str() == letters,
+        Err(_) => false,
+    }
+}
+
+/// Whether the language has this code, which is read as these letters.
+fn becomes(alloc: Global, language: &str, code: u16, letters: &str) -> bool {
+    language_code(language) == code && is_read_as(alloc, code, letters)
+}
+
+/// Whether each language of other letters than small ones is read as the small letters of the same five bits.
+fn other_letters_become_small(alloc: Global) -> bool {
     // A capital letter is 0x20 below the small one, and a digit 0x30 and its number.
-    for (language, code, letters) in [
-        ("SWE", 0x4ee5, "swe"),
-        ("Zul", 0x6aac, "zul"),
-        ("aBC", 0x0443, "abc"),
-        ("159", 0x46b9, "quy"),
-        ("@[~", 0x037e, "`{~"),
-    ] {
-        assert_eq!(rt; language_code(language), code, "{language}");
-        assert_eq!(rt; language_string(rt.alloc(), code)?.as_str(), letters);
-    }
-    // Letters that are missing are 0.
-    for (language, code) in [("", 0), ("s", 0x4c00), ("sw", 0x4ee0), ("swede", 0x4ee5)] {
-        assert_eq!(rt; language_code(language), code, "{language}");
-    }
-    Ok(())
+    becomes(alloc, "SWE", 0x4ee5, "swe")
+        && becomes(alloc, "Zul", 0x6aac, "zul")
+        && becomes(alloc, "aBC", 0x0443, "abc")
+        && becomes(alloc, "159", 0x46b9, "quy")
+        && becomes(alloc, "@[~", 0x037e, "`{~")
+}
+
+/// Whether letters that are missing are 0, and those past the third are ignored.
+fn missing_letters_are_zero() -> bool {
+    language_code("") == 0
+        && language_code("s") == 0x4c00
+        && language_code("sw") == 0x4ee0
+        && language_code("swede") == 0x4ee5
+}
+
+#[test]
+fn only_five_bits_of_a_letter_are_written(rt: HostRuntime) {
+    assert!(rt; other_letters_become_small(rt.alloc()) && missing_letters_are_zero());
 }

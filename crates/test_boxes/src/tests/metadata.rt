@@ -1,9 +1,10 @@
 //! Metadata, and the keys of its parts.
 
+use mp4_ported::helpers::debug_text;
 use mp4_stream::{Metadata, MetadataKey};
+use std::alloc::Global;
 use std::borrow::CowStr;
 use std::hash::{DefaultHasher, Hash, Hasher};
-use std::test::Fail;
 
 fn hash_of(key: &MetadataKey) -> u64 {
     let mut state = DefaultHasher::new();
@@ -11,19 +12,37 @@ fn hash_of(key: &MetadataKey) -> u64 {
     state.finish()
 }
 
-#[test]
-fn equal_keys_hash_alike(rt: HostRuntime) -> Result<(), Fail> {
-    for (key, name) in [
-        (MetadataKey::Title, "Title"),
-        (MetadataKey::Year, "Year"),
-        (MetadataKey::Poster, "Poster"),
-        (MetadataKey::Summary, "Summary"),
-    ] {
-        assert_eq!(rt; hash_of(&key.clone()?), hash_of(&key));
-        assert_eq!(rt; format!(in rt.alloc(); "{key:?}")?.as_str(), name);
+/// Whether a clone of the key has its hash.
+fn clone_hashes_alike(key: &MetadataKey) -> bool {
+    match key.clone() {
+        Ok(clone) => hash_of(&clone) == hash_of(key),
+        Err(_) => false,
     }
-    assert_ne!(rt; hash_of(&MetadataKey::Title), hash_of(&MetadataKey::Year));
-    Ok(())
+}
+
+/// Whether `Debug` prints the key as this name.
+fn is_printed(alloc: Global, key: &MetadataKey, name: &str) -> bool {
+    match debug_text(alloc, key) {
+        Ok(text) => text.as_str() == name,
+        Err(_) => false,
+    }
+}
+
+/// Whether a clone of the key has its hash, and the key is printed as this name.
+fn is_named(alloc: Global, key: MetadataKey, name: &str) -> bool {
+    clone_hashes_alike(&key) && is_printed(alloc, &key, name)
+}
+
+#[test]
+fn equal_keys_hash_alike(rt: HostRuntime) {
+    let alloc = rt.alloc();
+    assert!(rt;
+        is_named(alloc, MetadataKey::Title, "Title")
+            && is_named(alloc, MetadataKey::Year, "Year")
+            && is_named(alloc, MetadataKey::Poster, "Poster")
+            && is_named(alloc, MetadataKey::Summary, "Summary")
+            && hash_of(&MetadataKey::Title) != hash_of(&MetadataKey::Year)
+    );
 }
 
 /// A film with a title and a year.
@@ -61,17 +80,28 @@ impl<'a> Metadata<'a> for Film {
     }
 }
 
+/// Whether the title is this one.
+fn is_title(found: Option<CowStr<'_>>, expected: Option<&str>) -> bool {
+    match found {
+        Some(title) => expected == Some(title.as_str()),
+        None => expected.is_none(),
+    }
+}
+
 /// Whether the metadata has this title and this year, and nothing else.
 fn has_only<'a, M: Metadata<'a>>(metadata: &M, title: Option<&str>, year: Option<u32>) -> bool {
-    let same_title = match (metadata.title(), title) {
-        (Some(found), Some(expected)) => found.as_str() == expected,
-        (None, None) => true,
-        _ => false,
-    };
-    same_title
+    is_title(metadata.title(), title)
         && metadata.year() == year
         && metadata.poster().is_none()
         && metadata.summary().is_none()
+}
+
+/// Whether a film's metadata is that of a reference to it, and of an option that has it, and none is in an empty one.
+fn is_passed_on(film: Film) -> bool {
+    has_only(&film, Some("Metropolis"), Some(1927))
+        && has_only(&&film, Some("Metropolis"), Some(1927))
+        && has_only(&Some(film), Some("Metropolis"), Some(1927))
+        && has_only(&None::<Film>, None, None)
 }
 
 #[test]
@@ -80,8 +110,5 @@ fn metadata_is_passed_on(rt: HostRuntime) {
         title: "Metropolis",
         year: 1927,
     };
-    assert!(rt; has_only(&film, Some("Metropolis"), Some(1927)));
-    assert!(rt; has_only(&&film, Some("Metropolis"), Some(1927)));
-    assert!(rt; has_only(&Some(film), Some("Metropolis"), Some(1927)));
-    assert!(rt; has_only(&None::<Film>, None, None));
+    assert!(rt; is_passed_on(film));
 }

@@ -1,7 +1,7 @@
 //! Boxes that can't be written. Writing one leaves the vector as it was.
 
 use mp4_ported::boxes::flat::mehd_short;
-use mp4_ported::boxes::tables::{elst_of, list, stco, tfhd_all, trun_of_three_lists};
+use mp4_ported::boxes::tables::{elst_of, stco, tfhd_all, trun_of_three_lists};
 use mp4_ported::boxes::text::{dref_of, dref_url, emsg, emsg_long, hdlr, url};
 use mp4_ported::helpers::{Mismatch, expect_unwritable, expect_unwritable_of_size};
 use mp4_ported::made;
@@ -29,20 +29,28 @@ fn decode_time(version: u8, base_media_decode_time: u64) -> TfdtBox {
     }
 }
 
+/// A movie that was made at this time.
+fn late_movie(creation_time: u64) -> MvhdBox {
+    MvhdBox {
+        creation_time,
+        ..MvhdBox::default()
+    }
+}
+
+/// A track that was changed at this time.
+fn late_track(modification_time: u64) -> TkhdBox {
+    TkhdBox {
+        modification_time,
+        ..TkhdBox::default()
+    }
+}
+
 #[test]
 fn times_past_32_bits(rt: HostRuntime) -> Result<(), Fail> {
     let alloc = rt.alloc();
     let long = 1 << 32;
-    let movie = MvhdBox {
-        creation_time: long,
-        ..MvhdBox::default()
-    };
-    let track = TkhdBox {
-        modification_time: long,
-        ..TkhdBox::default()
-    };
-    expect_unwritable_of_size(alloc, &movie, 108)
-        .and(expect_unwritable_of_size(alloc, &track, 92))
+    expect_unwritable_of_size(alloc, &late_movie(long), 108)
+        .and(expect_unwritable_of_size(alloc, &late_track(long), 92))
         .and(made::unwritable_of_size(alloc, media_header(alloc, 0, long), 32))
         .and(expect_unwritable_of_size(alloc, &decode_time(0, long), 16))
         .and(expect_unwritable_of_size(alloc, &mehd_short(long), 16))
@@ -50,26 +58,38 @@ fn times_past_32_bits(rt: HostRuntime) -> Result<(), Fail> {
     Ok(())
 }
 
-#[test]
-fn unknown_versions_of_headers(rt: HostRuntime) -> Result<(), Fail> {
-    let alloc = rt.alloc();
-    let movie = MvhdBox {
+/// A movie of an unknown version.
+fn unknown_movie() -> MvhdBox {
+    MvhdBox {
         version: 2,
         ..MvhdBox::default()
-    };
-    let track = TkhdBox {
+    }
+}
+
+/// A track of an unknown version.
+fn unknown_track() -> TkhdBox {
+    TkhdBox {
         version: 2,
         ..TkhdBox::default()
-    };
-    let extent = MehdBox {
+    }
+}
+
+/// A duration of fragments of an unknown version.
+fn unknown_extent() -> MehdBox {
+    MehdBox {
         version: 2,
         flags: 0,
         fragment_duration: 1 << 32,
-    };
-    expect_unwritable_of_size(alloc, &movie, 92)
-        .and(expect_unwritable_of_size(alloc, &track, 72))
+    }
+}
+
+#[test]
+fn unknown_versions_of_headers(rt: HostRuntime) -> Result<(), Fail> {
+    let alloc = rt.alloc();
+    expect_unwritable_of_size(alloc, &unknown_movie(), 92)
+        .and(expect_unwritable_of_size(alloc, &unknown_track(), 72))
         .and(made::unwritable_of_size(alloc, media_header(alloc, 2, 0), 16))
-        .and(expect_unwritable_of_size(alloc, &extent, 12))
+        .and(expect_unwritable_of_size(alloc, &unknown_extent(), 12))
         .and(expect_unwritable_of_size(alloc, &decode_time(2, 0), 16))?;
     Ok(())
 }
@@ -109,26 +129,37 @@ fn expect_unwritable_dref(alloc: Global, made: Result<DrefBox, Error>) -> Result
     expect_unwritable(alloc, &dref).and(expect_unwritable(alloc, &DinfBox::new(dref)))
 }
 
+/// Defaults of a track with flags that don't fit.
+fn flagged_track() -> TrexBox {
+    TrexBox {
+        flags: 1 << 24,
+        ..TrexBox::default()
+    }
+}
+
+/// A header of video with flags that don't fit.
+fn flagged_video() -> VmhdBox {
+    VmhdBox {
+        flags: 1 << 24,
+        ..VmhdBox::default()
+    }
+}
+
+/// No offsets, with flags that don't fit.
+fn flagged_empty(alloc: Global) -> StcoBox {
+    StcoBox {
+        version: 0,
+        flags: 1 << 24,
+        entries: Entries::new(alloc),
+    }
+}
+
 #[test]
 fn flags_past_24_bits(rt: HostRuntime) -> Result<(), Fail> {
     let alloc = rt.alloc();
-    let flags = 1 << 24;
-    let track = TrexBox {
-        flags,
-        ..TrexBox::default()
-    };
-    let video = VmhdBox {
-        flags,
-        ..VmhdBox::default()
-    };
-    let empty = StcoBox {
-        version: 0,
-        flags,
-        entries: Entries::new(alloc),
-    };
-    expect_unwritable_of_size(alloc, &track, 32)
-        .and(expect_unwritable_of_size(alloc, &video, 20))
-        .and(made::unwritable_of_size(alloc, Ok(empty), 16))
+    expect_unwritable_of_size(alloc, &flagged_track(), 32)
+        .and(expect_unwritable_of_size(alloc, &flagged_video(), 20))
+        .and(made::unwritable_of_size(alloc, Ok(flagged_empty(alloc)), 16))
         .and(made::unwritable(alloc, flagged_stco(alloc)))
         .and(made::unwritable(alloc, flagged_hdlr(alloc)))
         .and(made::unwritable(alloc, flagged_emsg(alloc)))?;
@@ -153,11 +184,16 @@ fn flags_past_24_bits_in_references(rt: HostRuntime) -> Result<(), Fail> {
     Ok(())
 }
 
+/// A list of this many numbers from 0 on.
+fn numbers(alloc: Global, length: u32) -> Result<Entries<u32>, Error> {
+    let numbers: Vec<u32> = (0..length).collect(alloc)?;
+    Ok(numbers.into())
+}
+
 /// A `trun` of this count, with two lists of as many numbers from 0 on.
 fn trun_of_numbers(alloc: Global, sample_count: u32, length: u32) -> Result<TrunBox, Error> {
-    let numbers: Vec<u32> = (0..length).collect(alloc)?;
-    let sample_sizes = list(alloc, &numbers)?;
-    let sample_cts = list(alloc, &numbers)?;
+    let sample_sizes = numbers(alloc, length)?;
+    let sample_cts = numbers(alloc, length)?;
     Ok(TrunBox {
         version: 0,
         flags: TrunBox::FLAG_SAMPLE_SIZE | TrunBox::FLAG_SAMPLE_CTS,
