@@ -1,6 +1,6 @@
 //! The tables of a track as constants, and the boxes of them.
 
-use mp4_frame::Result;
+use mp4_frame::Entries;
 use mp4_samples::{ChunkOffsets, Disagreement, Sample, SampleTables, Tables};
 use mp4_tables::{
     Co64Box, CttsBox, CttsEntry, StcoBox, StscBox, StscEntry, StssBox, StszBox, SttsBox, SttsEntry,
@@ -40,26 +40,7 @@ macro_rules! shifts {
     };
 }
 
-/// Seven samples in five chunks, of which the last has room for one more; durations for fourteen, and rendering offsets
-/// for four: with these in the place of their count, runs of chunks, durations, sync samples and offsets of 64 bits.
-macro_rules! seven {
-    ($sample_count:expr, $chunks:expr, $times:expr, $syncs:expr, $long_offsets:expr) => {
-        Listed {
-            sample_size: 0,
-            sample_count: $sample_count,
-            sizes: &[11, 23, 37, 41, 53, 67, 79],
-            chunks: $chunks,
-            offsets: &[1000, 5000, 300, 20000, 7000],
-            long_offsets: $long_offsets,
-            times: $times,
-            shifts: Some(&[shifts!(1, 30), shifts!(2, -20), shifts!(1, 50)]),
-            syncs: $syncs,
-        }
-    };
-}
-
 pub(crate) use chunks;
-pub(crate) use seven;
 pub(crate) use shifts;
 pub(crate) use times;
 
@@ -91,7 +72,7 @@ pub struct Boxes {
 }
 
 /// Boxes of nothing.
-fn no_boxes(alloc: Global) -> Boxes {
+pub fn no_boxes(alloc: Global) -> Boxes {
     Boxes {
         stsz: StszBox::default_in(alloc),
         stsc: StscBox::default_in(alloc),
@@ -103,31 +84,35 @@ fn no_boxes(alloc: Global) -> Boxes {
     }
 }
 
-/// Fills boxes with what is listed.
-fn fill(boxes: &mut Boxes, listed: &Listed) -> Result<()> {
-    boxes.stsz.sample_size = listed.sample_size;
-    boxes.stsz.sample_count = listed.sample_count;
-    boxes.stsz.sample_sizes.extend_from_slice(listed.sizes)?;
-    boxes.stsc.entries.extend_from_slice(listed.chunks)?;
-    boxes.stco.entries.extend_from_slice(listed.offsets)?;
-    boxes.co64.entries.extend_from_slice(listed.long_offsets)?;
-    boxes.stts.entries.extend_from_slice(listed.times)?;
-    boxes
-        .ctts
-        .entries
-        .extend_from_slice(listed.shifts.unwrap_or(&[]))?;
-    boxes
-        .stss
-        .entries
-        .extend_from_slice(listed.syncs.unwrap_or(&[]))?;
-    Ok(())
+/// Appends entries to a list. Returns whether there is memory for them.
+pub fn append<T: Copy>(list: &mut Entries<T>, entries: &[T]) -> bool {
+    list.extend_from_slice(entries).is_ok()
 }
 
-/// The boxes of what is listed.
-pub fn boxes_of(alloc: Global, listed: &Listed) -> Result<Boxes> {
-    let mut boxes = no_boxes(alloc);
-    fill(&mut boxes, listed)?;
-    Ok(boxes)
+/// Fills the box of sizes. Returns whether there is memory for them.
+fn fill_sizes(stsz: &mut StszBox, listed: &Listed) -> bool {
+    stsz.sample_size = listed.sample_size;
+    stsz.sample_count = listed.sample_count;
+    append(&mut stsz.sample_sizes, listed.sizes)
+}
+
+/// Fills the boxes of chunks and of their offsets. Returns whether there is memory for them.
+fn fill_chunks(boxes: &mut Boxes, listed: &Listed) -> bool {
+    append(&mut boxes.stsc.entries, listed.chunks)
+        && append(&mut boxes.stco.entries, listed.offsets)
+        && append(&mut boxes.co64.entries, listed.long_offsets)
+}
+
+/// Fills the boxes of times and of sync samples. Returns whether there is memory for them.
+fn fill_times(boxes: &mut Boxes, listed: &Listed) -> bool {
+    append(&mut boxes.stts.entries, listed.times)
+        && append(&mut boxes.ctts.entries, listed.shifts.unwrap_or(&[]))
+        && append(&mut boxes.stss.entries, listed.syncs.unwrap_or(&[]))
+}
+
+/// Fills boxes with what is listed. Returns whether there is memory for it.
+pub fn fill(boxes: &mut Boxes, listed: &Listed) -> bool {
+    fill_sizes(&mut boxes.stsz, listed) && fill_chunks(boxes, listed) && fill_times(boxes, listed)
 }
 
 /// The tables of these boxes.
@@ -152,10 +137,10 @@ pub fn tables_of<'a>(listed: &Listed, boxes: &'a Boxes) -> Tables<'a> {
     }
 }
 
-/// How what is listed disagrees, if it does.
-pub fn told(alloc: Global, listed: &Listed) -> Result<Option<Disagreement>> {
-    let boxes = boxes_of(alloc, listed)?;
-    Ok(SampleTables::new(tables_of(listed, &boxes)).err())
+/// Whether what is listed disagrees in this way, or does not if there is none.
+pub fn is_told(alloc: Global, listed: &Listed, wanted: &Option<Disagreement>) -> bool {
+    let mut boxes = no_boxes(alloc);
+    fill(&mut boxes, listed) && SampleTables::new(tables_of(listed, &boxes)).err() == *wanted
 }
 
 /// What is expected of a sample: offset, size, start time, duration, rendering offset, whether it is a sync sample,
@@ -177,17 +162,34 @@ pub fn sample_of(row: Row) -> Sample {
     }
 }
 
-/// Their runs of chunks.
-pub const CHUNKS: &[StscEntry] = &[chunks!(1, 2, 5), chunks!(2, 1, 6), chunks!(4, 2, 8)];
+/// The runs of chunks of the worked tables.
+const CHUNKS: &[StscEntry] = &[chunks!(1, 2, 5), chunks!(2, 1, 6), chunks!(4, 2, 8)];
 
 /// Their durations.
-pub const TIMES: &[SttsEntry] = &[times!(3, 100), times!(2, 40), times!(9, 7)];
+const TIMES: &[SttsEntry] = &[times!(3, 100), times!(2, 40), times!(9, 7)];
 
 /// Their sync samples.
 pub const SYNCS: Option<&[u32]> = Some(&[1, 4, 6]);
 
-/// The tables of these samples.
-pub const SEVEN: Listed = seven!(7, CHUNKS, TIMES, SYNCS, &[]);
+/// Seven samples in five chunks, of which the last has room for one more; durations for fourteen, and rendering offsets
+/// for four.
+const SEVEN: Listed = Listed {
+    sample_size: 0,
+    sample_count: 7,
+    sizes: &[11, 23, 37, 41, 53, 67, 79],
+    chunks: CHUNKS,
+    offsets: &[1000, 5000, 300, 20000, 7000],
+    long_offsets: &[],
+    times: TIMES,
+    shifts: Some(&[shifts!(1, 30), shifts!(2, -20), shifts!(1, 50)]),
+    syncs: SYNCS,
+};
+
+/// The worked tables. Each function that names the constant makes all of it, which is long to prove; one that calls
+/// this does not.
+pub fn worked() -> Listed {
+    SEVEN
+}
 
 pub const FIRST: Row = (1000, 11, 0, 100, 30, true, 5, 1);
 

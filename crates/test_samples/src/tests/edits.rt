@@ -1,11 +1,11 @@
 //! Edit lists that were worked out by hand.
 
+use super::boxes::append;
 use crate::edit_callers::{edits_of, media_time_after, presented_at};
 use mp4_flat::{MdhdBox, MvhdBox};
 use mp4_samples::{EditFault, Edits, Presentation, Sample};
 use mp4_tables::{ElstBox, ElstEntry};
 use std::alloc::Global;
-use std::test::Fail;
 
 /// An edit: its duration, its media time, its rate.
 macro_rules! edit {
@@ -32,11 +32,10 @@ struct Case {
     shown: &'static [(u128, Option<usize>, Option<u128>)],
 }
 
-fn elst_of(alloc: Global, version: u8, edits: &[ElstEntry]) -> mp4_frame::Result<ElstBox> {
-    let mut elst = ElstBox::default_in(alloc);
+/// Fills the box of an edit list. Returns whether there is memory for it.
+fn fill(elst: &mut ElstBox, version: u8, edits: &[ElstEntry]) -> bool {
     elst.version = version;
-    elst.entries.extend_from_slice(edits)?;
-    Ok(elst)
+    append(&mut elst.entries, edits)
 }
 
 /// Whether a time of the media is presented by these edits at these ticks, and by no other.
@@ -71,12 +70,17 @@ fn are(edits: &Edits<'_>, case: &Case) -> bool {
 }
 
 /// Whether an edit list has no fault, and is as expected.
-fn is(alloc: Global, case: &Case) -> mp4_frame::Result<bool> {
-    let elst = elst_of(alloc, case.version, case.edits)?;
-    match Edits::new(Some(&elst), case.movie_timescale, case.media_timescale) {
-        Ok(edits) => Ok(edits.len() == case.edits.len().max(1) && are(&edits, case)),
-        Err(_) => Ok(false),
+fn is_list(elst: &ElstBox, case: &Case) -> bool {
+    match Edits::new(Some(elst), case.movie_timescale, case.media_timescale) {
+        Ok(edits) => edits.len() == case.edits.len().max(1) && are(&edits, case),
+        Err(_) => false,
     }
+}
+
+/// Whether the edit list of a case has no fault, and is as expected.
+fn is(alloc: Global, case: &Case) -> bool {
+    let mut elst = ElstBox::default_in(alloc);
+    fill(&mut elst, case.version, case.edits) && is_list(&elst, case)
 }
 
 /// Nothing for half a second, and then two seconds from the media time 2048 on, which two frames of 1024 are before. A
@@ -173,42 +177,61 @@ const LATEST: Case = Case {
     ],
 };
 
-#[test]
-fn an_empty_edit_and_a_media_time(rt: HostRuntime) -> Result<(), Fail> {
-    assert!(rt; is(rt.alloc(), &DELAYED)?);
-    let edits = Edits::new(None, 600, 48000)?;
-    assert_eq!(rt; edits.ticks_per_second(), 28_800_000);
-    assert_eq!(rt; edits.media_units(58_828_799), 98_047);
-    assert_eq!(rt; edits.movie_units(71_999_999), 1499);
-    Ok(())
-}
-
-#[test]
-fn three_edits_with_a_dwell(rt: HostRuntime) -> Result<(), Fail> {
-    assert!(rt; is(rt.alloc(), &STILL)?);
-    Ok(())
-}
-
-#[test]
-fn without_a_duration_or_without_edits(rt: HostRuntime) -> Result<(), Fail> {
-    for case in [ENDLESS, NO_EDITS, LATEST] {
-        assert!(rt; is(rt.alloc(), &case)?);
+/// Whether ticks, of which a second has 28800000, are so many units of the media and of the movie.
+fn are_units() -> bool {
+    match Edits::new(None, 600, 48000) {
+        Ok(edits) => {
+            edits.ticks_per_second() == 28_800_000
+                && edits.media_units(58_828_799) == 98_047
+                && edits.movie_units(71_999_999) == 1499
+        }
+        Err(_) => false,
     }
-    let edits = Edits::new(None, 600, 48000)?;
-    assert!(rt; are(&edits, &NO_EDITS));
-    let latest = Edits::new(None, u32::MAX, u32::MAX)?;
-    let end = 0xFFFF_FFFF_FFFF_FFFF * 0xFFFF_FFFF;
-    assert_eq!(rt;
-        (latest.media_ticks(u64::MAX), latest.movie_ticks(u64::MAX)),
-        (end, end)
-    );
-    Ok(())
 }
 
-/// What is wrong with such an edit list.
-fn told(alloc: Global, version: u8, edits: &[ElstEntry]) -> mp4_frame::Result<Option<EditFault>> {
-    let elst = elst_of(alloc, version, edits)?;
-    Ok(Edits::new(Some(&elst), 1, 1).err())
+#[test]
+fn an_empty_edit_and_a_media_time(rt: HostRuntime) {
+    assert!(rt; is(rt.alloc(), &DELAYED) && are_units());
+}
+
+#[test]
+fn three_edits_with_a_dwell(rt: HostRuntime) {
+    assert!(rt; is(rt.alloc(), &STILL));
+}
+
+/// Whether the media is presented as it is without a box, too.
+fn are_without_a_box() -> bool {
+    match Edits::new(None, 600, 48000) {
+        Ok(edits) => are(&edits, &NO_EDITS),
+        Err(_) => false,
+    }
+}
+
+/// Whether the largest times of the media and of the movie are so many ticks.
+fn are_latest() -> bool {
+    match Edits::new(None, u32::MAX, u32::MAX) {
+        Ok(latest) => {
+            latest.media_ticks(u64::MAX) == 0xFFFF_FFFF_FFFF_FFFF * 0xFFFF_FFFF
+                && latest.movie_ticks(u64::MAX) == 0xFFFF_FFFF_FFFF_FFFF * 0xFFFF_FFFF
+        }
+        Err(_) => false,
+    }
+}
+
+/// Whether the edit lists of the three cases are as expected.
+fn are_three(alloc: Global) -> bool {
+    is(alloc, &ENDLESS) && is(alloc, &NO_EDITS) && is(alloc, &LATEST)
+}
+
+#[test]
+fn without_a_duration_or_without_edits(rt: HostRuntime) {
+    assert!(rt; are_three(rt.alloc()) && are_without_a_box() && are_latest());
+}
+
+/// Whether this is what is wrong with such an edit list.
+fn is_told(alloc: Global, version: u8, edits: &[ElstEntry], fault: &Option<EditFault>) -> bool {
+    let mut elst = ElstBox::default_in(alloc);
+    fill(&mut elst, version, edits) && Edits::new(Some(&elst), 1, 1).err() == *fault
 }
 
 /// A rate of a half.
@@ -228,61 +251,67 @@ const LONG_TIMES: &[ElstEntry] = &[
     edit!(1, 1 << 63, 1),
 ];
 
-/// Edit lists by their versions, each with its fault.
-const FAULTS: [(u8, &[ElstEntry], Option<EditFault>); 7] = [
-    (
-        0,
-        SHORT_TIMES,
-        Some(EditFault::MediaTime {
-            index: 1,
-            media_time: 0x8000_0000,
-        }),
-    ),
-    (1, SHORT_TIMES, None),
-    (
-        1,
-        LONG_TIMES,
-        Some(EditFault::MediaTime {
-            index: 2,
-            media_time: 1 << 63,
-        }),
-    ),
-    (
-        0,
-        &[edit!(1, 0, 0), edit!(1, 0, 2)],
-        Some(EditFault::Rate {
-            index: 1,
-            rate: 2,
-            fraction: 0,
-        }),
-    ),
-    (
-        0,
-        &[HALF],
-        Some(EditFault::Rate {
-            index: 0,
-            rate: 0,
-            fraction: 0x8000,
-        }),
-    ),
-    (
+/// Whether times that are below -1 are told, and those that are not are none.
+fn are_times_told(alloc: Global) -> bool {
+    let short = EditFault::MediaTime {
+        index: 1,
+        media_time: 0x8000_0000,
+    };
+    let long = EditFault::MediaTime {
+        index: 2,
+        media_time: 1 << 63,
+    };
+    is_told(alloc, 0, SHORT_TIMES, &Some(short))
+        && is_told(alloc, 1, SHORT_TIMES, &None)
+        && is_told(alloc, 1, LONG_TIMES, &Some(long))
+}
+
+/// Whether rates other than 0 and 1 are told.
+fn are_rates_told(alloc: Global) -> bool {
+    let double = EditFault::Rate {
+        index: 1,
+        rate: 2,
+        fraction: 0,
+    };
+    let half = EditFault::Rate {
+        index: 0,
+        rate: 0,
+        fraction: 0x8000,
+    };
+    is_told(alloc, 0, &[edit!(1, 0, 0), edit!(1, 0, 2)], &Some(double))
+        && is_told(alloc, 0, &[HALF], &Some(half))
+}
+
+/// Whether durations whose sum has more than 64 bits are told, and others are not.
+fn are_durations_told(alloc: Global) -> bool {
+    let past = EditFault::Durations { index: 1 };
+    is_told(
+        alloc,
         1,
         &[edit!(u64::MAX, 0, 1), edit!(1, 0, 1)],
-        Some(EditFault::Durations { index: 1 }),
-    ),
-    (1, &[edit!(u64::MAX - 1, 0, 1), edit!(1, 0, 1)], None),
-];
+        &Some(past),
+    ) && is_told(
+        alloc,
+        1,
+        &[edit!(u64::MAX - 1, 0, 1), edit!(1, 0, 1)],
+        &None,
+    )
+}
+
+/// Whether each of these faults is told.
+fn are_told(alloc: Global) -> bool {
+    are_times_told(alloc) && are_rates_told(alloc) && are_durations_told(alloc)
+}
+
+/// Whether timescales of 0 are told, that of the movie first.
+fn are_timescales_told() -> bool {
+    Edits::new(None, 0, 0).err() == Some(EditFault::MovieTimescale)
+        && Edits::new(None, 1, 0).err() == Some(EditFault::MediaTimescale)
+}
 
 #[test]
-fn faults_of_edit_lists(rt: HostRuntime) -> Result<(), Fail> {
-    for (version, edits, fault) in FAULTS {
-        assert_eq!(rt; told(rt.alloc(), version, edits)?, fault);
-    }
-    let movie = Edits::new(None, 0, 0).err();
-    let media = Edits::new(None, 1, 0).err();
-    assert_eq!(rt; movie, Some(EditFault::MovieTimescale));
-    assert_eq!(rt; media, Some(EditFault::MediaTimescale));
-    Ok(())
+fn faults_of_edit_lists(rt: HostRuntime) {
+    assert!(rt; are_told(rt.alloc()) && are_timescales_told());
 }
 
 /// A sample that starts at this time and is composed so much later.
@@ -299,13 +328,17 @@ fn sample(start_time: u64, rendering_offset: i64) -> Sample {
     }
 }
 
+/// Whether samples are composed at the first time and at the last, and at none outside.
+fn are_composed() -> bool {
+    sample(5, -5).composition_time() == Some(0)
+        && sample(5, -6).composition_time().is_none()
+        && sample(u64::MAX, 0).composition_time() == Some(u64::MAX)
+        && sample(u64::MAX, 1).composition_time().is_none()
+}
+
 #[test]
-fn composition_times(rt: HostRuntime) -> Result<(), Fail> {
-    assert_eq!(rt; sample(5, -5).composition_time(), Some(0));
-    assert_eq!(rt; sample(5, -6).composition_time(), None);
-    assert_eq!(rt; sample(u64::MAX, 0).composition_time(), Some(u64::MAX));
-    assert_eq!(rt; sample(u64::MAX, 1).composition_time(), None);
-    Ok(())
+fn composition_times(rt: HostRuntime) {
+    assert!(rt; are_composed());
 }
 
 /// Whether times in milliseconds are those of the empty edit and of the media after it.
@@ -317,16 +350,31 @@ fn are_milliseconds(edits: &Edits<'_>) -> bool {
 }
 
 /// Whether they are, over the boxes of a file.
-fn are_milliseconds_of_boxes(elst: &ElstBox, mut mdhd: MdhdBox) -> bool {
+fn are_milliseconds_of_boxes(elst: &ElstBox, mdhd: &mut MdhdBox) -> bool {
     let mut mvhd = MvhdBox::default();
     mvhd.timescale = 600;
     mdhd.timescale = 48000;
-    edits_of(Some(elst), &mvhd, &mdhd).is_ok_and(|edits| are_milliseconds(&edits))
+    match edits_of(Some(elst), &mvhd, mdhd) {
+        Ok(edits) => are_milliseconds(&edits),
+        Err(_) => false,
+    }
+}
+
+/// Whether they are, over this edit list and the header of a media.
+fn are_milliseconds_of_list(alloc: Global, elst: &ElstBox) -> bool {
+    match MdhdBox::default_in(alloc) {
+        Ok(mut mdhd) => are_milliseconds_of_boxes(elst, &mut mdhd),
+        Err(_) => false,
+    }
+}
+
+/// Whether they are, over the edit list of a case.
+fn are_milliseconds_of_case(alloc: Global, case: &Case) -> bool {
+    let mut elst = ElstBox::default_in(alloc);
+    fill(&mut elst, case.version, case.edits) && are_milliseconds_of_list(alloc, &elst)
 }
 
 #[test]
-fn milliseconds(rt: HostRuntime) -> Result<(), Fail> {
-    let elst = elst_of(rt.alloc(), DELAYED.version, DELAYED.edits)?;
-    assert!(rt; are_milliseconds_of_boxes(&elst, MdhdBox::default_in(rt.alloc())?));
-    Ok(())
+fn milliseconds(rt: HostRuntime) {
+    assert!(rt; are_milliseconds_of_case(rt.alloc(), &DELAYED));
 }

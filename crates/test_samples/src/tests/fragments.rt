@@ -1,11 +1,10 @@
 //! The samples of fragments.
 
-use super::boxes::{Row, sample_of};
+use super::boxes::{Row, append, sample_of};
 use mp4_flat::{TfdtBox, TrexBox};
 use mp4_samples::{Fragment, FragmentFault, FragmentSamples};
 use mp4_tables::{TfhdBox, TrunBox};
 use std::alloc::Global;
-use std::test::Fail;
 
 /// What a run lists.
 #[derive(Clone, Copy)]
@@ -68,27 +67,44 @@ const TREX: TrexBox = TrexBox {
     default_sample_flags: 0x0101_0000,
 };
 
-/// The box of a run.
-fn trun_of(alloc: Global, run: &Run) -> mp4_frame::Result<TrunBox> {
-    let mut trun = TrunBox::default_in(alloc);
+/// Sets the fields of the box of a run that are no lists.
+fn set_fields(trun: &mut TrunBox, run: &Run) {
     trun.version = run.version;
     trun.sample_count = run.sample_count;
     trun.data_offset = run.data_offset;
     trun.first_sample_flags = run.first_sample_flags;
-    trun.sample_durations.extend_from_slice(run.durations)?;
-    trun.sample_sizes.extend_from_slice(run.sizes)?;
-    trun.sample_flags.extend_from_slice(run.flags)?;
-    trun.sample_cts.extend_from_slice(run.offsets)?;
-    Ok(trun)
 }
 
-/// The boxes of runs.
-fn truns_of(alloc: Global, runs: &[Run]) -> mp4_frame::Result<Vec<TrunBox>> {
-    let mut truns = Vec::new(alloc);
-    for run in runs {
-        truns.push(trun_of(alloc, run)?)?;
+/// Fills the lists of the box of a run. Returns whether there is memory for them.
+fn fill(trun: &mut TrunBox, run: &Run) -> bool {
+    append(&mut trun.sample_durations, run.durations)
+        && append(&mut trun.sample_sizes, run.sizes)
+        && append(&mut trun.sample_flags, run.flags)
+        && append(&mut trun.sample_cts, run.offsets)
+}
+
+/// Appends the box of a run. Returns whether there is memory for it.
+fn append_run(alloc: Global, truns: &mut Vec<TrunBox>, run: &Run) -> bool {
+    if truns.push(TrunBox::default_in(alloc)).is_err() {
+        return false;
     }
-    Ok(truns)
+    match truns.last_mut() {
+        Some(trun) => {
+            set_fields(trun, run);
+            fill(trun, run)
+        }
+        None => false,
+    }
+}
+
+/// Appends the boxes of runs. Returns whether there is memory for them.
+fn append_runs(alloc: Global, truns: &mut Vec<TrunBox>, runs: &[Run]) -> bool {
+    for run in runs {
+        if !append_run(alloc, truns, run) {
+            return false;
+        }
+    }
+    true
 }
 
 /// Whether the next samples are these.
@@ -106,13 +122,21 @@ pub fn are(samples: &mut FragmentSamples<'_>, rows: &[Row]) -> bool {
     come(samples, rows) && samples.next().is_none()
 }
 
+/// Whether nothing comes next, and then the time and the offset are these.
+fn end(samples: &mut FragmentSamples<'_>, time: u64, offset: Option<u64>) -> bool {
+    samples.next().is_none() && samples.time() == time && samples.offset() == offset
+}
+
+/// Whether this fault comes next, and then nothing.
+fn fail(samples: &mut FragmentSamples<'_>, fault: FragmentFault) -> bool {
+    samples.next() == Some(Err(fault)) && samples.next().is_none()
+}
+
 /// Whether this comes next.
 fn comes(samples: &mut FragmentSamples<'_>, after: After) -> bool {
     match after {
-        After::Nothing(time, offset) => {
-            samples.next().is_none() && samples.time() == time && samples.offset() == offset
-        }
-        After::Fault(fault) => samples.next() == Some(Err(fault)) && samples.next().is_none(),
+        After::Nothing(time, offset) => end(samples, time, offset),
+        After::Fault(fault) => fail(samples, fault),
         After::More => true,
     }
 }
@@ -133,9 +157,9 @@ fn gives<'a>(case: &'a Case, truns: &'a [TrunBox], trex: &'a TrexBox) -> bool {
 }
 
 /// Whether it does.
-fn is(alloc: Global, case: &Case) -> mp4_frame::Result<bool> {
-    let truns = truns_of(alloc, case.runs)?;
-    Ok(gives(case, &truns, &TREX))
+fn is(alloc: Global, case: &Case) -> bool {
+    let mut truns = Vec::new(alloc);
+    append_runs(alloc, &mut truns, case.runs) && gives(case, &truns, &TREX)
 }
 
 /// Sizes and flags of the first sample; then durations, flags and signed offsets; then an unsigned offset. The time is
@@ -285,21 +309,21 @@ const PAST_THE_END: Case = Case {
 };
 
 #[test]
-fn three_runs_of_a_moof(rt: HostRuntime) -> Result<(), Fail> {
-    assert!(rt; is(rt.alloc(), &THREE_RUNS)?);
-    Ok(())
+fn three_runs_of_a_moof(rt: HostRuntime) {
+    assert!(rt; is(rt.alloc(), &THREE_RUNS));
+}
+
+/// Whether defaults and data that follow give their samples.
+fn are_without_faults(alloc: Global) -> bool {
+    is(alloc, &DEFAULTS) && is(alloc, &FOLLOWING)
+}
+
+/// Whether samples outside of what 64 bits say are faults.
+fn are_faults(alloc: Global) -> bool {
+    is(alloc, &BEFORE_THE_FILE) && is(alloc, &PAST_64_BITS) && is(alloc, &PAST_THE_END)
 }
 
 #[test]
-fn defaults_and_faults(rt: HostRuntime) -> Result<(), Fail> {
-    for case in [
-        &DEFAULTS,
-        &FOLLOWING,
-        &BEFORE_THE_FILE,
-        &PAST_64_BITS,
-        &PAST_THE_END,
-    ] {
-        assert!(rt; is(rt.alloc(), case)?);
-    }
-    Ok(())
+fn defaults_and_faults(rt: HostRuntime) {
+    assert!(rt; are_without_faults(rt.alloc()) && are_faults(rt.alloc()));
 }

@@ -2,15 +2,14 @@
 //! index of them.
 
 use super::boxes::{
-    Boxes, FIFTH, FIRST, FOURTH, Listed, Row, SECOND, SEVEN, SEVEN_SAMPLES, SEVENTH, SIXTH, THIRD,
-    boxes_of, chunks, sample_of, tables_of, times,
+    Boxes, FIFTH, FIRST, FOURTH, Listed, Row, SECOND, SEVEN_SAMPLES, SEVENTH, SIXTH, SYNCS, THIRD,
+    chunks, fill, no_boxes, sample_of, tables_of, times, worked,
 };
 use crate::callers::key_frame;
 use mp4_frame::Error;
 use mp4_samples::{Sample, SampleIndex, SampleTables, Tables};
 use mp4_tables::{StscEntry, SttsEntry};
-use std::alloc::Global;
-use std::test::Fail;
+use std::alloc::{AllocError, Global};
 
 /// What is expected of tables.
 #[derive(Clone, Copy)]
@@ -25,15 +24,25 @@ struct Expected {
     syncs_at: &'static [(u64, Option<u32>)],
 }
 
+/// Whether tables and an index have this sample of this number.
+fn have(tables: &SampleTables<'_>, index: &SampleIndex<'_>, number: u32, row: Row) -> bool {
+    let wanted = Some(sample_of(row));
+    tables.sample(number) == wanted && index.sample(number) == wanted
+}
+
+/// Whether tables and an index have no sample after the last one.
+fn end(tables: &SampleTables<'_>, index: &SampleIndex<'_>) -> bool {
+    tables.sample(tables.len()).is_none() && index.sample(index.len()).is_none()
+}
+
 /// Whether tables and an index have these samples.
 fn have_samples(tables: &SampleTables<'_>, index: &SampleIndex<'_>, rows: &[(u32, Row)]) -> bool {
     for (number, row) in rows {
-        let wanted = Some(sample_of(*row));
-        if tables.sample(*number) != wanted || index.sample(*number) != wanted {
+        if !have(tables, index, *number, *row) {
             return false;
         }
     }
-    tables.sample(tables.len()).is_none() && index.sample(index.len()).is_none()
+    end(tables, index)
 }
 
 /// Whether the sample that lasts at each time is the one beside it.
@@ -67,26 +76,33 @@ fn sync_at(tables: &SampleTables<'_>, index: &SampleIndex<'_>, at: &[(u64, Optio
 }
 
 /// Whether tables are as expected.
-fn are(tables: &SampleTables<'_>, index: &SampleIndex<'_>, expected: Expected) -> bool {
+fn are(tables: &SampleTables<'_>, index: &SampleIndex<'_>, expected: &Expected) -> bool {
     have_samples(tables, index, expected.samples)
         && last(tables, index, expected.lasting)
         && sync(tables, index, expected.syncs)
         && sync_at(tables, index, expected.syncs_at)
 }
 
+/// Whether tables that agree are as expected.
+fn are_indexed(alloc: Global, tables: &SampleTables<'_>, expected: &Expected) -> bool {
+    match tables.index(alloc) {
+        Ok(index) => are(tables, &index, expected),
+        Err(_) => false,
+    }
+}
+
 /// Whether tables agree, and are as expected.
-fn agree(alloc: Global, tables: Tables<'_>, expected: Expected) -> mp4_frame::Result<bool> {
-    let Ok(tables) = SampleTables::new(tables) else {
-        return Ok(false);
-    };
-    let index = tables.index(alloc)?;
-    Ok(are(&tables, &index, expected))
+fn agree(alloc: Global, tables: Tables<'_>, expected: &Expected) -> bool {
+    match SampleTables::new(tables) {
+        Ok(tables) => are_indexed(alloc, &tables, expected),
+        Err(_) => false,
+    }
 }
 
 /// Whether what is listed agrees, and is as expected.
-fn is(alloc: Global, listed: &Listed, expected: Expected) -> mp4_frame::Result<bool> {
-    let boxes = boxes_of(alloc, listed)?;
-    agree(alloc, tables_of(listed, &boxes), expected)
+fn is(alloc: Global, listed: &Listed, expected: &Expected) -> bool {
+    let mut boxes = no_boxes(alloc);
+    fill(&mut boxes, listed) && agree(alloc, tables_of(listed, &boxes), expected)
 }
 
 /// The samples of the worked tables, of which 0, 3 and 5 are sync samples.
@@ -148,20 +164,22 @@ const ALL_SYNC: Expected = Expected {
     ],
 };
 
+/// Whether the worked tables with these sync samples are as expected.
+fn is_seven(alloc: Global, syncs: Option<&'static [u32]>, expected: &Expected) -> bool {
+    let listed = Listed { syncs, ..worked() };
+    is(alloc, &listed, expected)
+}
+
+/// Whether the worked tables, with their sync samples and others, are as expected.
+fn are_seven(alloc: Global) -> bool {
+    is_seven(alloc, SYNCS, &WORKED)
+        && is_seven(alloc, Some(&[4]), &ONE_SYNC)
+        && is_seven(alloc, None, &ALL_SYNC)
+}
+
 #[test]
-fn seven_samples(rt: HostRuntime) -> Result<(), Fail> {
-    let one_sync = Listed {
-        syncs: Some(&[4]),
-        ..SEVEN
-    };
-    let all_sync = Listed {
-        syncs: None,
-        ..SEVEN
-    };
-    for (listed, expected) in [(SEVEN, WORKED), (one_sync, ONE_SYNC), (all_sync, ALL_SYNC)] {
-        assert!(rt; is(rt.alloc(), &listed, expected)?);
-    }
-    Ok(())
+fn seven_samples(rt: HostRuntime) {
+    assert!(rt; are_seven(rt.alloc()));
 }
 
 /// Four samples of nine bytes in a chunk past 2^32, without `ctts` and `stss`. Chunk 1 and the first run are empty.
@@ -281,16 +299,18 @@ const MOST_SAMPLES: Expected = Expected {
 };
 
 #[test]
-fn four_samples_far_out(rt: HostRuntime) -> Result<(), Fail> {
-    assert!(rt; is(rt.alloc(), &FAR, FAR_OUT)?);
-    Ok(())
+fn four_samples_far_out(rt: HostRuntime) {
+    assert!(rt; is(rt.alloc(), &FAR, &FAR_OUT));
+}
+
+/// Whether the tables of long chunks, and those of the largest counts, are as expected.
+fn are_long_and_large(alloc: Global) -> bool {
+    is(alloc, &LONG, &LONG_CHUNKS) && is(alloc, &MOST, &MOST_SAMPLES)
 }
 
 #[test]
-fn long_chunks_and_large_counts(rt: HostRuntime) -> Result<(), Fail> {
-    assert!(rt; is(rt.alloc(), &LONG, LONG_CHUNKS)?);
-    assert!(rt; is(rt.alloc(), &MOST, MOST_SAMPLES)?);
-    Ok(())
+fn long_chunks_and_large_counts(rt: HostRuntime) {
+    assert!(rt; are_long_and_large(rt.alloc()));
 }
 
 /// The tables of 2^32 - 1 samples in one chunk, whose times are of a million runs of no samples, and then of one.
@@ -300,11 +320,15 @@ const RUNS: Listed = Listed {
     ..MOST
 };
 
-/// Lists a million runs of no samples, and then one.
-fn list_empty_runs(alloc: Global, boxes: &mut Boxes) -> mp4_frame::Result<()> {
+/// Lists a million runs of no samples, and nothing else.
+fn list_empty_runs(alloc: Global, boxes: &mut Boxes) -> Result<(), AllocError> {
     boxes.stts.entries = vec![in alloc; times!(0, 6); 1_000_000]?.into();
-    boxes.stts.entries.push(times!(u32::MAX, 2))?;
     Ok(())
+}
+
+/// Lists a million runs of no samples, and then one. Returns whether there is memory for them.
+fn list_runs(alloc: Global, boxes: &mut Boxes) -> bool {
+    list_empty_runs(alloc, boxes).is_ok() && boxes.stts.entries.push(times!(u32::MAX, 2)).is_ok()
 }
 
 /// The last of 2^32 - 1 samples.
@@ -312,18 +336,26 @@ fn last_of(tables: Tables<'_>) -> Option<Sample> {
     SampleTables::new(tables).ok()?.sample(u32::MAX - 1)
 }
 
-/// The last of 2^32 - 1 samples, after a million runs of no samples.
-fn after_empty_runs(alloc: Global) -> mp4_frame::Result<Option<Sample>> {
-    let mut boxes = boxes_of(alloc, &RUNS)?;
-    list_empty_runs(alloc, &mut boxes)?;
-    Ok(last_of(tables_of(&RUNS, &boxes)))
+/// Whether the last of 2^32 - 1 samples starts at this time after a million runs of no samples.
+fn starts_at(alloc: Global, listed: &Listed, boxes: &mut Boxes, time: u64) -> bool {
+    if !list_runs(alloc, boxes) {
+        return false;
+    }
+    match last_of(tables_of(listed, boxes)) {
+        Some(sample) => sample.start_time == time,
+        None => false,
+    }
+}
+
+/// Whether it does in tables that list this, but for their times.
+fn is_after_empty_runs(alloc: Global, listed: &Listed, time: u64) -> bool {
+    let mut boxes = no_boxes(alloc);
+    fill(&mut boxes, listed) && starts_at(alloc, listed, &mut boxes, time)
 }
 
 #[test]
-fn a_million_empty_runs(rt: HostRuntime) -> Result<(), Fail> {
-    let found = after_empty_runs(rt.alloc())?;
-    assert_eq!(rt; found.map(|sample| sample.start_time), Some(8_589_934_588));
-    Ok(())
+fn a_million_empty_runs(rt: HostRuntime) {
+    assert!(rt; is_after_empty_runs(rt.alloc(), &RUNS, 8_589_934_588));
 }
 
 /// Whether the samples come one after the other, and no more come.
@@ -334,49 +366,84 @@ fn come(tables: &SampleTables<'_>) -> bool {
             return false;
         }
     }
-    samples.next().is_none() && tables.len() == 7 && !tables.is_empty()
+    samples.next().is_none()
 }
 
-/// Whether the samples at times are those of the worked tables, and the key frames before them.
-fn are_at_times(tables: &SampleTables<'_>, index: &SampleIndex<'_>) -> bool {
+/// Whether there are seven samples.
+fn are_seven_samples(tables: &SampleTables<'_>) -> bool {
+    tables.len() == 7 && !tables.is_empty()
+}
+
+/// Whether the key frames at times are those of the worked tables.
+fn are_key_frames(index: &SampleIndex<'_>) -> bool {
     key_frame(index, 379) == Some(sample_of(FOURTH))
         && key_frame(index, 380) == Some(sample_of(SIXTH))
-        && tables.sample_at(379) == Some(sample_of(FIFTH))
+}
+
+/// Whether the samples at times are those of the worked tables.
+fn are_at_times(tables: &SampleTables<'_>, index: &SampleIndex<'_>) -> bool {
+    tables.sample_at(379) == Some(sample_of(FIFTH))
         && index.sample_at(379) == Some(sample_of(FIFTH))
         && index.sample_at(394).is_none()
 }
 
+/// Whether the key frames and the samples at times are those of the worked tables, over an index of these tables.
+fn are_at_times_of(alloc: Global, tables: &SampleTables<'_>) -> bool {
+    match tables.index(alloc) {
+        Ok(index) => are_key_frames(&index) && are_at_times(tables, &index),
+        Err(_) => false,
+    }
+}
+
 /// Whether both hold of these tables.
-fn come_and_are_at_times(alloc: Global, tables: Tables<'_>) -> mp4_frame::Result<bool> {
-    let Ok(tables) = SampleTables::new(tables) else {
-        return Ok(false);
-    };
-    let index = tables.index(alloc)?;
-    Ok(come(&tables) && are_at_times(&tables, &index))
+fn come_and_are_at_times(alloc: Global, tables: Tables<'_>) -> bool {
+    match SampleTables::new(tables) {
+        Ok(tables) => come(&tables)
+            && are_seven_samples(&tables)
+            && are_at_times_of(alloc, &tables),
+        Err(_) => false,
+    }
 }
 
-/// Whether both hold of the worked tables.
-fn are_worked(alloc: Global) -> mp4_frame::Result<bool> {
-    let boxes = boxes_of(alloc, &SEVEN)?;
-    come_and_are_at_times(alloc, tables_of(&SEVEN, &boxes))
-}
-
-#[test]
-fn samples_come_and_key_frames_are_found(rt: HostRuntime) -> Result<(), Fail> {
-    assert!(rt; are_worked(rt.alloc())?);
-    Ok(())
+/// Whether both hold of what is listed.
+fn are_worked(alloc: Global, listed: &Listed) -> bool {
+    let mut boxes = no_boxes(alloc);
+    fill(&mut boxes, listed) && come_and_are_at_times(alloc, tables_of(listed, &boxes))
 }
 
 #[test]
-fn bytes_of_a_sample(rt: HostRuntime) -> Result<(), Fail> {
-    let file = [20, 21, 22, 23, 24, 25, 26];
-    let mut sample = sample_of((2, 3, 0, 1, 0, true, 1, 1));
-    assert_eq!(rt; sample.bytes_of(&file)?, [22, 23, 24].as_slice());
-    sample.offset = 4;
-    assert_eq!(rt; sample.bytes_of(&file)?, [24, 25, 26].as_slice());
-    sample.offset = 5;
-    assert!(rt; matches!(sample.bytes_of(&file), Err(Error::IoError)));
-    sample.offset = u64::MAX;
-    assert!(rt; matches!(sample.bytes_of(&file), Err(Error::IoError)));
-    Ok(())
+fn samples_come_and_key_frames_are_found(rt: HostRuntime) {
+    assert!(rt; are_worked(rt.alloc(), &worked()));
+}
+
+/// A file of seven bytes.
+const SHORT_FILE: [u8; 7] = [20, 21, 22, 23, 24, 25, 26];
+
+/// Whether these are the bytes of the sample of three bytes at this offset of the file.
+fn are_at(offset: u64, wanted: &[u8]) -> bool {
+    match sample_of((offset, 3, 0, 1, 0, true, 1, 1)).bytes_of(&SHORT_FILE) {
+        Ok(bytes) => bytes == wanted,
+        Err(_) => false,
+    }
+}
+
+/// Whether the file ends before the sample of three bytes at this offset does.
+fn is_past_the_end(offset: u64) -> bool {
+    matches!(
+        sample_of((offset, 3, 0, 1, 0, true, 1, 1)).bytes_of(&SHORT_FILE),
+        Err(Error::IoError)
+    )
+}
+
+/// Whether samples up to the end of the file have their bytes, and samples past it have none.
+fn are_bytes_of_the_file() -> bool {
+    are_at(2, &[22, 23, 24])
+        && are_at(4, &[24, 25, 26])
+        && is_past_the_end(5)
+        && is_past_the_end(u64::MAX)
+}
+
+#[test]
+fn bytes_of_a_sample(rt: HostRuntime) {
+    assert!(rt; are_bytes_of_the_file());
 }

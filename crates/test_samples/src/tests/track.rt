@@ -5,7 +5,6 @@ use mp4_frame::{Error, FourCC};
 use mp4_samples::{SampleTables, Tables};
 use mp4_track::{ChunkBox, Track, TrackError, tables_end_of, track_of};
 use std::alloc::Global;
-use std::test::Fail;
 
 /// A file with a movie of 429 bytes, in which there are a track of track_ID 5 without media, and one of track_ID 7 of
 /// 321 bytes: its header, and its media of 221 bytes, with a timescale of 1000 and a sample table of 140 bytes. This
@@ -57,77 +56,114 @@ fn finds(alloc: Global, file: &[u8], track_id: u32) -> bool {
     }
 }
 
+/// Why a track is not found, or its fragments are not given, without the texts of faults.
+#[derive(Clone, Copy, PartialEq, Eq)]
+pub enum Reason {
+    /// There is no movie.
+    NoMovie,
+    /// No track has this track_ID.
+    NoTrack(u32),
+    /// There is no box of this code.
+    Missing(FourCC),
+    /// The data of a box of this code at this position are invalid.
+    Invalid(FourCC, u64),
+    /// The data before a fragment in the `moof` at this position have no end that can be told.
+    NoBase(u64),
+    /// Any other reason.
+    Other,
+}
+
+/// The reason of a fault.
+pub fn reason_of(fault: &TrackError) -> Reason {
+    match fault {
+        TrackError::NoMovie => Reason::NoMovie,
+        TrackError::NoTrack(track_id) => Reason::NoTrack(*track_id),
+        TrackError::Missing { code } => Reason::Missing(*code),
+        TrackError::Fault {
+            code,
+            position,
+            error: Error::InvalidData(_),
+        } => Reason::Invalid(*code, *position),
+        TrackError::NoBase { position } => Reason::NoBase(*position),
+        _ => Reason::Other,
+    }
+}
+
 /// Why no track of this track_ID is found.
-fn fault_of(alloc: Global, file: &[u8], track_id: u32) -> Option<TrackError> {
+fn fault_of(alloc: Global, file: &[u8], track_id: u32) -> Option<Reason> {
     match track_of(alloc, file, track_id) {
         Ok(_) => None,
-        Err(fault) => Some(fault),
+        Err(fault) => Some(reason_of(&fault)),
     }
 }
 
 #[test]
-fn track_is_found_by_its_id(rt: HostRuntime) -> Result<(), Fail> {
+fn track_is_found_by_its_id(rt: HostRuntime) {
     assert!(rt; finds(rt.alloc(), &FILE, 7));
-    Ok(())
+}
+
+/// Whether the tables of a track of the file end at this time.
+fn end_at(alloc: Global, track_id: u32, time: u64) -> bool {
+    match tables_end_of(alloc, &FILE, track_id) {
+        Ok(end) => end == time,
+        Err(_) => false,
+    }
 }
 
 /// Three samples of 10; and none, without an `stts`.
 #[test]
-fn tables_of_a_track_end(rt: HostRuntime) -> Result<(), Fail> {
-    let end = tables_end_of(rt.alloc(), &FILE, 7);
-    let none = tables_end_of(rt.alloc(), &FILE, 5);
-    assert!(rt; matches!(end, Ok(30)) && matches!(none, Ok(0)));
-    Ok(())
+fn tables_of_a_track_end(rt: HostRuntime) {
+    assert!(rt; end_at(rt.alloc(), 7, 30) && end_at(rt.alloc(), 5, 0));
+}
+
+/// Whether the key frame of track 7 at this time has these bytes.
+fn is_shown(alloc: Global, time: u64, wanted: &[u8]) -> bool {
+    key_frame_of_file(alloc, &FILE, 7, time) == Some(wanted)
+}
+
+/// Whether the two key frames are shown in their times, and none of a track that the file does not have.
+fn are_shown(alloc: Global) -> bool {
+    is_shown(alloc, 19, b"abc")
+        && is_shown(alloc, 20, b"hijkl")
+        && key_frame_of_file(alloc, &FILE, 6, 20).is_none()
 }
 
 /// The first sample is shown up to 19, and the third, which is a sync sample too, from 20 on.
 #[test]
-fn key_frame_of_a_file(rt: HostRuntime) -> Result<(), Fail> {
-    let first = key_frame_of_file(rt.alloc(), &FILE, 7, 19) == Some(b"abc".as_slice());
-    let last = key_frame_of_file(rt.alloc(), &FILE, 7, 20) == Some(b"hijkl".as_slice());
-    let none = key_frame_of_file(rt.alloc(), &FILE, 6, 20).is_none();
-    assert!(rt; first && last && none);
-    Ok(())
+fn key_frame_of_a_file(rt: HostRuntime) {
+    assert!(rt; are_shown(rt.alloc()));
 }
 
-/// Whether the code of the box that is missing is this.
-fn is_missing(fault: Option<TrackError>, wanted: &[u8; 4]) -> bool {
-    matches!(fault, Some(TrackError::Missing { code }) if code == FourCC { value: *wanted })
+/// The reason that a box of this code is missing.
+pub fn missing(code: &[u8; 4]) -> Option<Reason> {
+    Some(Reason::Missing(FourCC { value: *code }))
 }
 
-#[test]
-fn track_is_not_found(rt: HostRuntime) -> Result<(), Fail> {
-    let none = matches!(fault_of(rt.alloc(), &FILE, 6), Some(TrackError::NoTrack(6)));
-    let missing = is_missing(fault_of(rt.alloc(), &FILE, 5), b"mdia");
-    assert!(rt; none && missing);
-    assert!(rt;
-        matches!(
-            fault_of(rt.alloc(), &FILE[429..], 7),
-            Some(TrackError::NoMovie)
-        )
-    );
-    Ok(())
-}
-
-/// Whether the box of sizes has a fault at its position.
-fn is_of_sizes(fault: Option<TrackError>) -> bool {
-    matches!(
-        fault,
-        Some(TrackError::Fault {
-            code,
-            position: 297,
-            error: Error::InvalidData(_),
-        }) if code == FourCC { value: *b"stsz" }
-    )
+/// Whether a track_ID of no track, a track without media, and media data without a movie are told.
+fn are_not_found(alloc: Global) -> bool {
+    fault_of(alloc, &FILE, 6) == Some(Reason::NoTrack(6))
+        && fault_of(alloc, &FILE, 5) == missing(b"mdia")
+        && fault_of(alloc, &FILE[429..], 7) == Some(Reason::NoMovie)
 }
 
 #[test]
-fn fault_has_a_position(rt: HostRuntime) -> Result<(), Fail> {
+fn track_is_not_found(rt: HostRuntime) {
+    assert!(rt; are_not_found(rt.alloc()));
+}
+
+/// The reason that the box of sizes is invalid at its position.
+const INVALID_SIZES: Option<Reason> = Some(Reason::Invalid(FourCC { value: *b"stsz" }, 297));
+
+/// Whether a box of more sizes than it has bytes for has a fault, and is missing if its code is another one.
+fn is_told(alloc: Global) -> bool {
     let mut file = FILE;
     file[316] = 9;
-    let faulty = is_of_sizes(fault_of(rt.alloc(), &file, 7));
+    let is_invalid = fault_of(alloc, &file, 7) == INVALID_SIZES;
     file[301] = b'x';
-    let missing = is_missing(fault_of(rt.alloc(), &file, 7), b"stsz");
-    assert!(rt; faulty && missing);
-    Ok(())
+    is_invalid && fault_of(alloc, &file, 7) == missing(b"stsz")
+}
+
+#[test]
+fn fault_has_a_position(rt: HostRuntime) {
+    assert!(rt; is_told(rt.alloc()));
 }

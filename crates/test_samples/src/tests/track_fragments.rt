@@ -2,10 +2,9 @@
 
 use super::boxes::Row;
 use super::fragments::are;
-use mp4_frame::FourCC;
-use mp4_track::{TrackError, TrackFragment, fragments_of};
+use super::track::{Reason, missing, reason_of};
+use mp4_track::{TrackFragment, fragments_of};
 use std::alloc::Global;
-use std::test::Fail;
 
 /// A file of fragments. The movie of 280 bytes has two tracks with a header alone, and their defaults: a duration of 10
 /// and 7, a size of 4 and 5, and no sync samples in the second. The first moof, of 132 bytes, is at 280 and its data at
@@ -71,52 +70,45 @@ fn gives(alloc: Global, file: &[u8], track_id: u32, rows: &[&[Row]; 2]) -> bool 
 }
 
 /// Why the fragments of a track are not given.
-fn fault_of(alloc: Global, file: &[u8], track_id: u32) -> Option<TrackError> {
+fn fault_of(alloc: Global, file: &[u8], track_id: u32) -> Option<Reason> {
     match fragments_of(alloc, file, track_id) {
         Ok(_) => None,
-        Err(fault) => Some(fault),
+        Err(fault) => Some(reason_of(&fault)),
     }
 }
 
 #[test]
-fn fragments_of_the_first_track(rt: HostRuntime) -> Result<(), Fail> {
+fn fragments_of_the_first_track(rt: HostRuntime) {
     assert!(rt; gives(rt.alloc(), &FILE, 1, &TRACK_1));
-    Ok(())
 }
 
 #[test]
-fn fragments_of_the_second_track(rt: HostRuntime) -> Result<(), Fail> {
+fn fragments_of_the_second_track(rt: HostRuntime) {
     assert!(rt; gives(rt.alloc(), &FILE, 2, &TRACK_2));
-    Ok(())
+}
+
+/// Whether a track_ID of no track, and a fragment without a movie, are told.
+fn are_not_found(alloc: Global) -> bool {
+    fault_of(alloc, &FILE, 3) == Some(Reason::NoTrack(3))
+        && fault_of(alloc, &FILE[280..444], 1) == Some(Reason::NoMovie)
 }
 
 #[test]
-fn fragments_of_no_track(rt: HostRuntime) -> Result<(), Fail> {
-    let none = matches!(fault_of(rt.alloc(), &FILE, 3), Some(TrackError::NoTrack(3)));
-    let no_movie = matches!(
-        fault_of(rt.alloc(), &FILE[280..444], 1),
-        Some(TrackError::NoMovie)
-    );
-    assert!(rt; none && no_movie);
-    Ok(())
+fn fragments_of_no_track(rt: HostRuntime) {
+    assert!(rt; are_not_found(rt.alloc()));
 }
 
-/// Whether the defaults of the track are missing.
-fn is_without_defaults(fault: Option<TrackError>) -> bool {
-    matches!(fault, Some(TrackError::Missing { code }) if code == FourCC { value: *b"trex" })
+/// Whether the defaults of track 2 are missing, and the data of track 1 have no base, in the file without them.
+fn are_without_defaults(alloc: Global) -> bool {
+    let mut file = FILE;
+    file[263] = 9;
+    fault_of(alloc, &file, 2) == missing(b"trex")
+        && fault_of(alloc, &file, 1) == Some(Reason::NoBase(444))
 }
 
 /// The defaults of track 2 are those of a track 9. Its own fragments have none then; and the data of track 1 in the
 /// second moof begin where those of track 2 end, which can't be told.
 #[test]
-fn fragments_without_defaults(rt: HostRuntime) -> Result<(), Fail> {
-    let mut file = FILE;
-    file[263] = 9;
-    let none = is_without_defaults(fault_of(rt.alloc(), &file, 2));
-    let lost = matches!(
-        fault_of(rt.alloc(), &file, 1),
-        Some(TrackError::NoBase { position: 444 })
-    );
-    assert!(rt; none && lost);
-    Ok(())
+fn fragments_without_defaults(rt: HostRuntime) {
+    assert!(rt; are_without_defaults(rt.alloc()));
 }
