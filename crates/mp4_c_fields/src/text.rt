@@ -5,10 +5,9 @@ ghost use Rattle.mp4_c_fields.specs.Fields.{IsFieldsText, PutsObject};
 ghost use Rattle.mp4_fields.specs.Nesting.{fields, Keeps};
 
 use json::Writer;
-use mp4_fields::{FieldSink, put_handler};
+use mp4_fields::{FieldSink, Result, put_handler};
 use mp4_more_fields::HasFields;
 use mp4_sinks::JsonSink;
-use mp4_stream::Result;
 use std::alloc::Global;
 
 /// Hands the fields of a box to a sink: those of a handler from its content, if that is given.
@@ -25,7 +24,7 @@ fn put_shown<B: HasFields, S: FieldSink>(
     }
 }
 
-/// Writes the fields of a box as an object. The only error is out of memory.
+/// Writes the fields of a box as an object.
 fn put_object<B: HasFields>(value: &B, handler: Option<&[u8]>, sink: &mut JsonSink) -> Result<()>
     ensures { OnOk result (PutsObject sink.old.out sink.new.out) }
 {
@@ -35,8 +34,8 @@ fn put_object<B: HasFields>(value: &B, handler: Option<&[u8]>, sink: &mut JsonSi
     Ok(())
 }
 
-/// The fields of a box as the text of a JSON object (RFC 8259) in UTF-8, in the order of the box. The only error is out
-/// of memory. Of a handler this is the content.
+/// The fields of a box as the text of a JSON object (RFC 8259) in UTF-8, in the order of the box. Of a handler this is
+/// the content.
 pub fn text_of<B: HasFields>(alloc: Global, value: &B, handler: Option<&[u8]>) -> Result<Vec<u8>>
     ensures { IfOk result (λ text. IsFieldsText text.items) }
 {

@@ -5,10 +5,10 @@ ghost use Rattle.std.specs.Prelude.{◌+◌, ◌≤◌, length, OnOk};
 ghost use Rattle.mp4_fields.specs.Nesting.{fields, Keeps};
 
 use crate::flag_names::{FlagName, NONE};
-use crate::sink::{FieldSink, put_all};
+use crate::sink::{FieldSink, Result, put_all};
 use crate::value::Value;
 use mp4_frame::{i16_at, u8_at, u16_at, u32_at, u64_at};
-use mp4_stream::{FourCC, Result};
+use mp4_stream::FourCC;
 use std::num::f64_from_bits_with_nan;
 
 /// How many bytes of fields a sample entry of video has before its boxes (ISO/IEC 14496-12, 12.1.3).

@@ -14,5 +14,5 @@ pub use brief::{
 };
 pub use fields::put_fields;
 pub use flag_names::FlagName;
-pub use sink::{FieldSink, put_all};
+pub use sink::{FieldSink, Result, put_all};
 pub use value::Value;

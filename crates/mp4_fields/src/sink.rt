@@ -4,9 +4,12 @@ ghost use Rattle.std.specs.Prelude.{OnOk, ⊤};
 ghost use Rattle.mp4_fields.specs.Nesting.{History, fields, entries, Keeps, Begins, Ends};
 
 use crate::value::Value;
-use mp4_stream::Result;
+use std::alloc::AllocError;
 
-/// Takes the fields of a box, in the order of the box. Each call fails only when out of memory.
+/// What a call of a sink returns: it fails only when out of memory.
+pub type Result<T> = std::result::Result<T, AllocError>;
+
+/// Takes the fields of a box, in the order of the box.
 pub trait FieldSink {
     /// What was handed to it between an earlier state and a later one. A sink that leaves it out says nothing of that.
     ghost since: { History Self } = { λ _ _ _. ⊤ };

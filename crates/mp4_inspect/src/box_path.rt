@@ -1,7 +1,8 @@
 //! The path of a box: the codes of the boxes around it, outermost first, and its own.
 
+use mp4_fields::Result;
 use mp4_sinks::{push_code, push_number};
-use mp4_stream::{FourCC, Result};
+use mp4_stream::FourCC;
 use mp4_tree::TreeBox;
 use std::alloc::Global;
 use std::collections::BTreeMap;

@@ -1,7 +1,8 @@
 //! Whether the chunks of a track are where the file has media data.
 
+use mp4_fields::Result;
 use mp4_frame::codes::MDAT;
-use mp4_stream::{AnyBox, FourCC, Result};
+use mp4_stream::{AnyBox, FourCC};
 use mp4_tree::TreeBox;
 use std::alloc::Global;
 

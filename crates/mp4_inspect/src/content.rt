@@ -12,11 +12,12 @@ use crate::failure::or_read;
 use crate::kind::{Kind, kind_of};
 use crate::shown::Shown;
 use mp4_fields::{
-    FieldSink, Value, put_entry, put_full, put_handler, put_list_head, put_sound, put_visual,
+    FieldSink, Result, Value, put_entry, put_full, put_handler, put_list_head, put_sound,
+    put_visual,
 };
 use mp4_io::Failure;
 use mp4_more_fields::HasFields;
-use mp4_stream::{BoxHeader, BoxType, ByteCursor, Error, Result};
+use mp4_stream::{BoxHeader, BoxType, ByteCursor, Error};
 use mp4_tree::{Source, Tree, TreeBox};
 use std::alloc::Global;
 use uuid::Uuid;
@@ -48,7 +49,12 @@ impl<B: Drop> Content<B> {
 }
 
 /// Reads the box of this name whose header is at an offset, in bytes that end where the box does.
-fn read_leaf<B: Shown>(alloc: Global, own: &[u8], position: u64, name: BoxType) -> Result<B>
+fn read_leaf<B: Shown>(
+    alloc: Global,
+    own: &[u8],
+    position: u64,
+    name: BoxType,
+) -> mp4_stream::Result<B>
     requires { IsTrue (B.known name) }
     ensures { Answers result (leaf B.named_reading name own.now position) }
 {

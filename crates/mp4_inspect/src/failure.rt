@@ -31,7 +31,7 @@ pub fn or_read<T: Drop>(outcome: io::Result<T>) -> Result<T, Failure>
 }
 
 /// What a call returned that fails only when out of memory.
-pub fn or_memory<T: Drop>(outcome: mp4_stream::Result<T>) -> Result<T, Failure>
+pub fn or_memory<T: Drop>(outcome: mp4_fields::Result<T>) -> Result<T, Failure>
     ensures ok { IfOk result (λ value. outcome ≡ Ok value) }
     ensures error { IfErr result (λ failure. failure ≡ Failure.Memory) }
 {

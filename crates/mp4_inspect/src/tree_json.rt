@@ -11,10 +11,11 @@ use crate::content::{Content, content_of, put_content};
 use crate::failure::or_memory;
 use crate::shown::Shown;
 use crate::tree_text::either;
+use mp4_fields::Result;
 use mp4_io::Failure;
 use mp4_more_fields::HasFields;
 use mp4_sinks::JsonSink;
-use mp4_stream::{Error, FourCC, Result};
+use mp4_stream::{Error, FourCC};
 use mp4_tree::{Source, Tree, TreeBox};
 use std::alloc::Global;
 

@@ -4,9 +4,9 @@ ghost use Rattle.std.specs.Prelude.{OnOk};
 ghost use Rattle.mp4_fields.specs.Nesting.{fields, Keeps};
 
 use crate::fields::put_more;
-use mp4_fields::{FieldSink, put_fields};
+use mp4_fields::{FieldSink, Result, put_fields};
 use mp4_more::MoreBox;
-use mp4_stream::{AnyBox, OwnOr, Result};
+use mp4_stream::{AnyBox, OwnOr};
 
 /// A box whose fields can be handed to a sink.
 pub trait HasFields {

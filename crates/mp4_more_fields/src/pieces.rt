@@ -3,8 +3,7 @@
 ghost use Rattle.std.specs.Prelude.{OnOk};
 ghost use Rattle.mp4_fields.specs.Nesting.{fields, entries, Keeps};
 
-use mp4_fields::{FieldSink, Value};
-use mp4_stream::Result;
+use mp4_fields::{FieldSink, Result, Value};
 
 /// A kind of pieces.
 pub trait Pieces {

@@ -3,8 +3,7 @@
 ghost use Rattle.std.specs.Prelude.{OnOk};
 ghost use Rattle.mp4_fields.specs.Nesting.{fields, entries, Keeps};
 
-use mp4_fields::{FieldSink, Value, put_all};
-use mp4_stream::Result;
+use mp4_fields::{FieldSink, Result, Value, put_all};
 
 /// The value of a flag: 1 if it is set.
 pub fn bit(flag: bool) -> Value<'static> {

@@ -3,7 +3,8 @@
 ghost use Rattle.std.specs.Prelude.{◌≡◌, ◌++◌, OnOk, string_bytes};
 ghost use Rattle.mp4_sinks.specs.Tokens.{code_text};
 
-use mp4_stream::{FourCC, Result};
+use mp4_fields::Result;
+use mp4_stream::FourCC;
 
 /// Whether a byte is a character that can be printed: of ASCII, or of Latin-1 as the sign © in `©too`.
 fn is_printable(byte: u8) -> bool {

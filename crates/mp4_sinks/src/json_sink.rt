@@ -8,8 +8,8 @@ ghost use Rattle.mp4_sinks.specs.Tokens.{Puts, PutsWhole, Adds, Since, code_text
 
 use crate::code::push_latin;
 use json::Writer;
-use mp4_fields::{FieldSink, Value};
-use mp4_stream::{FourCC, Matrix, Result};
+use mp4_fields::{FieldSink, Result, Value};
+use mp4_stream::{FourCC, Matrix};
 use std::alloc::Global;
 
 /// Takes the fields of a box as members of a JSON object.

@@ -3,7 +3,7 @@
 ghost use Rattle.std.specs.Prelude.{◌≡◌, ◌++◌, OnOk, decimal, string_bytes};
 
 use jiff::Timestamp;
-use mp4_stream::Result;
+use mp4_fields::Result;
 use std::alloc::Global;
 
 /// The seconds from the start of 1904 to the start of 1970.

@@ -3,8 +3,8 @@
 use crate::look::Look;
 use crate::number::push_number;
 use crate::value_text::push_value;
-use mp4_fields::{FieldSink, Value};
-use mp4_stream::{Matrix, Result};
+use mp4_fields::{FieldSink, Result, Value};
+use mp4_stream::Matrix;
 use std::alloc::Global;
 
 /// What comes before the next piece of a line.

@@ -4,8 +4,8 @@ use crate::code::push_code;
 use crate::number::{
     push_bytes, push_date, push_fixed, push_float, push_hex, push_number, push_signed, push_text,
 };
-use mp4_fields::{FlagName, Value};
-use mp4_stream::{FourCC, Matrix, Result};
+use mp4_fields::{FlagName, Result, Value};
+use mp4_stream::{FourCC, Matrix};
 use std::alloc::Global;
 
 /// Appends flags in hexadecimal digits, and the names of those that are set.

@@ -5,10 +5,10 @@ ghost use Rattle.mp4_fields.specs.Nesting.{fields, Keeps};
 
 use crate::brief::put_full;
 use crate::flag_names::NONE;
-use crate::sink::{FieldSink, put_all};
+use crate::sink::{FieldSink, Result, put_all};
 use crate::value::Value;
 use mp4_stream::{
-    Avc1Box, AvcCBox, Hev1Box, HvcCBox, NalUnit, Result, RgbaColor, Tx3gBox, Vp09Box, VpccBox,
+    Avc1Box, AvcCBox, Hev1Box, HvcCBox, NalUnit, RgbaColor, Tx3gBox, Vp09Box, VpccBox,
 };
 
 fn put_sets<S: FieldSink>(name: &str, sets: &[NalUnit], sink: &mut S) -> Result<()>

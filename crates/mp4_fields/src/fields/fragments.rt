@@ -6,9 +6,9 @@ ghost use Rattle.mp4_fields.specs.Nesting.{fields, entries, Keeps};
 use crate::brief::put_full;
 use crate::fields::samples::put_numbers;
 use crate::flag_names::{NONE, SAMPLE, TRACK_FRAGMENT, TRACK_RUN};
-use crate::sink::{FieldSink, put_all};
+use crate::sink::{FieldSink, Result, put_all};
 use crate::value::Value;
-use mp4_stream::{MehdBox, MfhdBox, Result, TfdtBox, TfhdBox, TrexBox, TrunBox};
+use mp4_stream::{MehdBox, MfhdBox, TfdtBox, TfhdBox, TrexBox, TrunBox};
 
 /// Movie extends header (ISO/IEC 14496-12, 8.8.2).
 pub fn put_mehd<S: FieldSink>(b: &MehdBox, sink: &mut S) -> Result<()>

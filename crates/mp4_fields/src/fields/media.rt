@@ -5,9 +5,9 @@ ghost use Rattle.mp4_fields.specs.Nesting.{fields, Keeps};
 
 use crate::brief::put_full;
 use crate::flag_names::{NONE, REFERENCE};
-use crate::sink::{FieldSink, put_all};
+use crate::sink::{FieldSink, Result, put_all};
 use crate::value::Value;
-use mp4_stream::{DinfBox, DrefBox, Result, SmhdBox, UrlBox, VmhdBox};
+use mp4_stream::{DinfBox, DrefBox, SmhdBox, UrlBox, VmhdBox};
 
 /// Video media header (ISO/IEC 14496-12, 12.1.2).
 pub fn put_vmhd<S: FieldSink>(b: &VmhdBox, sink: &mut S) -> Result<()>

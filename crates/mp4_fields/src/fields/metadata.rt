@@ -5,9 +5,9 @@ ghost use Rattle.mp4_fields.specs.Nesting.{fields, Keeps};
 
 use crate::brief::{put_data, put_full};
 use crate::flag_names::NONE;
-use crate::sink::{FieldSink, put_all};
+use crate::sink::{FieldSink, Result, put_all};
 use crate::value::Value;
-use mp4_stream::{DataBox, DataType, EmsgBox, Result};
+use mp4_stream::{DataBox, DataType, EmsgBox};
 
 /// The number of a type of metadata values.
 fn number_of(data_type: &DataType) -> u32 {

@@ -5,9 +5,9 @@ ghost use Rattle.mp4_fields.specs.Nesting.{fields, Keeps};
 
 use crate::brief::put_full;
 use crate::flag_names::NONE;
-use crate::sink::{FieldSink, put_all};
+use crate::sink::{FieldSink, Result, put_all};
 use crate::value::Value;
-use mp4_stream::{FtypBox, MvhdBox, Result};
+use mp4_stream::{FtypBox, MvhdBox};
 
 /// File type (ISO/IEC 14496-12, 4.3).
 pub fn put_ftyp<S: FieldSink>(b: &FtypBox, sink: &mut S) -> Result<()>

@@ -5,11 +5,10 @@ ghost use Rattle.mp4_fields.specs.Nesting.{fields, entries, Keeps};
 
 use crate::brief::put_full;
 use crate::flag_names::NONE;
-use crate::sink::{FieldSink, put_all};
+use crate::sink::{FieldSink, Result, put_all};
 use crate::value::Value;
 use mp4_stream::{
-    Co64Box, CttsBox, CttsEntry, Result, StcoBox, StscBox, StscEntry, StssBox, StszBox, SttsBox,
-    SttsEntry,
+    Co64Box, CttsBox, CttsEntry, StcoBox, StscBox, StscEntry, StssBox, StszBox, SttsBox, SttsEntry,
 };
 
 /// Hands a list of numbers to a sink, as a field.

@@ -5,9 +5,9 @@ ghost use Rattle.mp4_fields.specs.Nesting.{fields, entries, Keeps};
 
 use crate::brief::{put_full, put_named_handler};
 use crate::flag_names::{NONE, TRACK};
-use crate::sink::{FieldSink, put_all};
+use crate::sink::{FieldSink, Result, put_all};
 use crate::value::Value;
-use mp4_stream::{ElstBox, ElstEntry, HdlrBox, MdhdBox, Result, TkhdBox};
+use mp4_stream::{ElstBox, ElstEntry, HdlrBox, MdhdBox, TkhdBox};
 
 /// Track header (ISO/IEC 14496-12, 8.3.2).
 pub fn put_tkhd<S: FieldSink>(b: &TkhdBox, sink: &mut S) -> Result<()>

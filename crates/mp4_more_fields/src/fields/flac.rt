@@ -7,9 +7,8 @@ use crate::entries::{Entry, put_each};
 use crate::flag_names::NONE;
 use crate::pieces::bytes_from;
 use crate::put::{bit, number_in};
-use mp4_fields::{FieldSink, Value, put_all, put_full};
+use mp4_fields::{FieldSink, Result, Value, put_all, put_full};
 use mp4_more::{Dfla, FlacMetadataBlock};
-use mp4_stream::Result;
 
 /// How many bytes of data a `STREAMINFO` has.
 const STREAM_INFO: usize = 34;

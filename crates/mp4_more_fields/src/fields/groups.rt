@@ -6,10 +6,10 @@ ghost use Rattle.mp4_fields.specs.Nesting.{fields, Keeps};
 use crate::flag_names::NONE;
 use crate::pieces::{Pieces, bytes_from, put_entries, whole};
 use crate::put::{number_in, put_if_some};
-use mp4_fields::{FieldSink, Value, put_all, put_full};
+use mp4_fields::{FieldSink, Result, Value, put_all, put_full};
 use mp4_frame::i16_at;
 use mp4_more::Sgpd;
-use mp4_stream::{FourCC, Result};
+use mp4_stream::FourCC;
 
 /// Descriptions of groups of samples of one kind (ISO/IEC 14496-12, 8.9.3).
 #[derive(Clone, Copy)]

@@ -6,9 +6,8 @@ ghost use Rattle.mp4_fields.specs.Nesting.{fields, Keeps};
 use crate::entries::{Entry, put_each};
 use crate::flag_names::NONE;
 use crate::put::bit;
-use mp4_fields::{FieldSink, Value, put_all};
+use mp4_fields::{FieldSink, Result, Value, put_all};
 use mp4_more::{HevcArray, HevcFormat, HevcNalUnit, HevcProfile, HevcRate, Hvcc};
-use mp4_stream::Result;
 
 /// What a decoder has to be able to decode. The constraints are shown as their six bytes.
 fn put_profile<S: FieldSink>(p: &HevcProfile, sink: &mut S) -> Result<()>

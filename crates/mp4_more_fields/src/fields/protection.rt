@@ -5,9 +5,8 @@ ghost use Rattle.mp4_fields.specs.Nesting.{fields, entries, Keeps};
 
 use crate::flag_names::{ENCRYPTION, NONE, SCHEME};
 use crate::put::put_string;
-use mp4_fields::{FieldSink, Value, put_all, put_full};
+use mp4_fields::{FieldSink, Result, Value, put_all, put_full};
 use mp4_more::{Frma, Pssh, Schm, Senc, Tenc, TencPattern};
-use mp4_stream::Result;
 
 /// The format of media before they were transformed (ISO/IEC 14496-12, 8.12.2).
 pub fn put_frma<S: FieldSink>(b: &Frma, sink: &mut S) -> Result<()>

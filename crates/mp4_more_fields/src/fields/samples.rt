@@ -5,9 +5,9 @@ ghost use Rattle.mp4_fields.specs.Nesting.{fields, entries, Keeps};
 
 use crate::flag_names::{AUXILIARY, NONE};
 use crate::put::{number_in, put_entry, put_if_some};
-use mp4_fields::{FieldSink, Value, put_all, put_full};
+use mp4_fields::{FieldSink, Result, Value, put_all, put_full};
 use mp4_more::{Cslg, Saio, SaioOffset, Saiz, Sbgp, SbgpEntry, Sdtp, SdtpEntry, Stz2};
-use mp4_stream::{FourCC, Result};
+use mp4_stream::FourCC;
 
 /// Hands what auxiliary information is for to a sink, if the box says so.
 fn put_auxiliary<S: FieldSink>(

@@ -5,9 +5,8 @@ ghost use Rattle.mp4_fields.specs.Nesting.{fields, entries, Keeps};
 
 use crate::flag_names::NONE;
 use crate::put::{bit, number_in, put_entry};
-use mp4_fields::{FieldSink, Value, put_all, put_full};
+use mp4_fields::{FieldSink, Result, Value, put_all, put_full};
 use mp4_more::{Mfro, Prft, Sidx, SidxEntry, Styp, Tfra};
-use mp4_stream::Result;
 
 /// The specifications that a segment follows (ISO/IEC 14496-12, 8.16.2).
 pub fn put_styp<S: FieldSink>(b: &Styp, sink: &mut S) -> Result<()>

@@ -5,9 +5,8 @@ ghost use Rattle.mp4_fields.specs.Nesting.{fields, Keeps};
 
 use crate::pieces::{Pieces, bytes_from, count_pieces, put_list, whole};
 use crate::put::{bit, number_in, put_rest};
-use mp4_fields::{FieldSink, Value, put_all};
+use mp4_fields::{FieldSink, Result, Value, put_all};
 use mp4_more::{Dac3, Dec3, Dops};
-use mp4_stream::Result;
 
 /// How to decode AC-3 sound (ETSI TS 102 366, F.4).
 pub fn put_dac3<S: FieldSink>(b: &Dac3, sink: &mut S) -> Result<()>

@@ -5,9 +5,8 @@ ghost use Rattle.mp4_fields.specs.Nesting.{fields, Keeps};
 
 use crate::entries::{Entry, put_each};
 use crate::flag_names::NONE;
-use mp4_fields::{FieldSink, Value, put_all, put_full};
+use mp4_fields::{FieldSink, Result, Value, put_all, put_full};
 use mp4_more::{Subs, SubsEntry, Subsample};
-use mp4_stream::Result;
 
 impl Entry for Subsample {
     fn put<S: FieldSink>(&self, sink: &mut S) -> Result<()> {

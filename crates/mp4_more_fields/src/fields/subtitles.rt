@@ -4,9 +4,8 @@ ghost use Rattle.std.specs.Prelude.{OnOk};
 ghost use Rattle.mp4_fields.specs.Nesting.{fields, Keeps};
 
 use crate::put::{put_rest, put_string};
-use mp4_fields::{FieldSink, Value};
+use mp4_fields::{FieldSink, Result, Value};
 use mp4_more::{Stpp, Wvtt};
-use mp4_stream::Result;
 
 /// Subtitles in XML (ISO/IEC 14496-12, 12.6.3). The boxes after the strings are shown as bytes.
 pub fn put_stpp<S: FieldSink>(b: &Stpp, sink: &mut S) -> Result<()>

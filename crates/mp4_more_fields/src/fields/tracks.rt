@@ -6,9 +6,9 @@ ghost use Rattle.mp4_fields.specs.Nesting.{fields, entries, Keeps};
 use crate::entries::{Entry, put_each};
 use crate::flag_names::NONE;
 use crate::put::{put_entry, put_string};
-use mp4_fields::{FieldSink, Value, put_all, put_data, put_full};
+use mp4_fields::{FieldSink, Result, Value, put_all, put_data, put_full};
 use mp4_more::{Btrt, Data, Elng, Keys, Kind, MetadataKey, Nmhd, TrackReference, Tref};
-use mp4_stream::{FourCC, Result};
+use mp4_stream::FourCC;
 
 /// The bit rates of media (ISO/IEC 14496-12, 8.5.2.2).
 pub fn put_btrt<S: FieldSink>(b: &Btrt, sink: &mut S) -> Result<()>

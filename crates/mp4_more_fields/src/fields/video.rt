@@ -4,9 +4,9 @@ ghost use Rattle.std.specs.Prelude.{OnOk};
 ghost use Rattle.mp4_fields.specs.Nesting.{fields, Keeps};
 
 use crate::put::{bit, number_in};
-use mp4_fields::{FieldSink, Value, put_all};
+use mp4_fields::{FieldSink, Result, Value, put_all};
 use mp4_more::{Av1Config, Av1c, Clap, Clli, Colr, Mdcv, Nclx, OfType, Pasp};
-use mp4_stream::{FourCC, Result};
+use mp4_stream::FourCC;
 
 /// The numbers of AV1's sequence header that a reader needs first, up to its colours.
 fn put_sequence<S: FieldSink>(c: &Av1Config, sink: &mut S) -> Result<()>

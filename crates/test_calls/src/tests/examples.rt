@@ -8,8 +8,8 @@ use example_callers::sound::{audio_configuration, read_small_esds};
 use example_callers::times::append_decode_time;
 use mp4_ported::boxes::sound::{ESDS, STSD, esds, specific};
 use mp4_ported::boxes::text::DINF_URL;
-use mp4_ported::helpers::{Kind, invalid_text, kind_of};
-use mp4_stream::{AacConfig, ByteCursor, Co64Box, Error, StcoBox};
+use mp4_ported::helpers::invalid_text;
+use mp4_stream::{AacConfig, ByteCursor, Co64Box, DecoderSpecificDescriptor, Error, EsdsBox};
 use std::alloc::Global;
 use std::test::Fail;
 
@@ -28,58 +28,69 @@ fn size_of_short(alloc: Global, offsets: &[u64]) -> Result<u64, Error> {
     append_short(alloc, &long, &mut Vec::new(alloc))
 }
 
-#[test]
-fn decode_times_offsets_and_references_are_appended(rt: HostRuntime) -> Result<(), Fail> {
-    let mut out = Vec::new(rt.alloc());
-    assert_eq!(rt; append_decode_time(0xffff_ffff, &mut out)?, 16);
-    assert_eq!(rt; append_decode_time(0x1_0000_0000, &mut out)?, 20);
+/// Whether decode times are appended in 32 bits and, where these are too few, in 64.
+fn times_are_appended(alloc: Global) -> Result<bool, Error> {
     let bytes =
         *b"\0\0\0\x10tfdt\0\0\0\0\xff\xff\xff\xff\0\0\0\x14tfdt\x01\0\0\0\0\0\0\x01\0\0\0\0";
-    assert_eq!(rt; out.as_slice(), bytes.as_slice());
-    assert_eq!(rt; size_of_short(rt.alloc(), &[267, 4294967295])?, 24);
-    out.clear();
-    assert_eq!(rt; append_reference(rt.alloc(), "a", &mut out)?, 38);
-    assert_eq!(rt; out.as_slice(), DINF_URL.as_slice());
-    Ok(())
+    let mut out = Vec::new(alloc);
+    let short = append_decode_time(0xffff_ffff, &mut out)?;
+    let long = append_decode_time(0x1_0000_0000, &mut out)?;
+    Ok(short == 16 && long == 20 && out.as_slice() == bytes.as_slice())
+}
+
+/// Whether a reference to data is appended as a `dinf`.
+fn reference_is_appended(alloc: Global) -> Result<bool, Error> {
+    let mut out = Vec::new(alloc);
+    let count = append_reference(alloc, "a", &mut out)?;
+    Ok(count == 38 && out.as_slice() == DINF_URL.as_slice())
 }
 
 #[test]
-fn audio_configurations_are_made(rt: HostRuntime) -> Result<(), Fail> {
-    assert_eq!(rt; aac_config(0, 2, 3, 2)?, AacConfig::default());
-    assert_eq!(rt;
-        invalid_text(&aac_config(0, 2, 13, 2)),
-        Some("invalid sampling frequency index")
-    );
-    assert_eq!(rt;
-        aac_config_again(AacConfig::default())?,
-        AacConfig::default()
-    );
+fn decode_times_offsets_and_references_are_appended(rt: HostRuntime) -> Result<(), Fail> {
+    assert!(rt; times_are_appended(rt.alloc())?);
+    assert!(rt; size_of_short(rt.alloc(), &[267, 4294967295])? == 24);
+    assert!(rt; reference_is_appended(rt.alloc())?);
     Ok(())
+}
+
+/// Whether the numbers of the default configuration make it, and so do those of itself.
+fn default_is_made() -> bool {
+    let of_itself = aac_config_again(AacConfig::default());
+    matches!(aac_config(0, 2, 3, 2), Ok(found) if found == AacConfig::default())
+        && matches!(of_itself, Ok(found) if found == AacConfig::default())
+}
+
+#[test]
+fn audio_configurations_are_made(rt: HostRuntime) {
+    let text = "invalid sampling frequency index";
+    assert!(rt; default_is_made() && invalid_text(&aac_config(0, 2, 13, 2)) == Some(text));
+}
+
+/// The descriptors of `ESDS`, if they have at most so many headers.
+fn descriptors_of(headers: u64) -> Result<EsdsBox, Error> {
+    let mut reader = ByteCursor::new(&ESDS);
+    reader.set_position(8);
+    read_small_esds(&mut reader, 43, headers)
 }
 
 #[test]
 fn descriptors_are_bounded(rt: HostRuntime) -> Result<(), Fail> {
-    let mut reader = ByteCursor::new(&ESDS);
-    reader.set_position(8);
-    let few = read_small_esds(&mut reader, 43, 3);
-    assert_eq!(rt; invalid_text(&few), Some("too many descriptors"));
-    let mut reader = ByteCursor::new(&ESDS);
-    reader.set_position(8);
-    let (found, expected) = (read_small_esds(&mut reader, 43, 4)?, esds());
-    assert!(rt; found == expected);
+    assert!(rt; invalid_text(&descriptors_of(3)) == Some("too many descriptors"));
+    assert!(rt; descriptors_of(4)? == esds());
     Ok(())
+}
+
+/// The audio configuration of the first bytes of `STSD`.
+fn configuration_of(alloc: Global, size: u64) -> Result<DecoderSpecificDescriptor, Error> {
+    let mut reader = ByteCursor::new(&STSD);
+    reader.set_position(8);
+    audio_configuration(alloc, &mut reader, size)
 }
 
 #[test]
 fn sound_is_configured(rt: HostRuntime) -> Result<(), Fail> {
-    let mut reader = ByteCursor::new(&STSD);
-    reader.set_position(8);
-    let config = audio_configuration(rt.alloc(), &mut reader, 95)?;
     let expected = specific(85, 15, Some(0xc3_2435), 11);
-    assert!(rt; config == expected);
-    let mut reader = ByteCursor::new(&STSD);
-    reader.set_position(8);
-    let none = audio_configuration(rt.alloc(), &mut reader, 16);
-    assert_eq!(rt; invalid_text(&none), Some("no sound"));
+    assert!(rt; configuration_of(rt.alloc(), 95)? == expected);
+    assert!(rt; invalid_text(&configuration_of(rt.alloc(), 16)) == Some("no sound"));
     Ok(())
 }

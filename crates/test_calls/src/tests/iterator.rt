@@ -21,16 +21,17 @@ fn step<B: StreamBox + Drop>(boxes: &mut Boxes<B>) -> (Option<Kind>, u64) {
     (kind, boxes.offset())
 }
 
+/// The first three steps over the boxes of a buffer.
+fn three_steps(alloc: Global, bytes: &[u8]) -> [(Option<Kind>, u64); 3] {
+    let mut boxes = boxes_as::<AnyBox>(alloc, bytes);
+    [step(&mut boxes), step(&mut boxes), step(&mut boxes)]
+}
+
 #[test]
 fn boxes_come_one_at_a_time_up_to_a_fault(rt: HostRuntime) {
-    let mut boxes = boxes_as::<AnyBox>(rt.alloc(), &THREE);
-    assert_eq!(rt; step(&mut boxes), (Some(Kind::Ok), 24));
-    assert_eq!(rt; step(&mut boxes), (Some(Kind::Ok), 52));
-    assert_eq!(rt; step(&mut boxes), (None, 52));
-    let mut cut = boxes_as::<AnyBox>(rt.alloc(), &THREE[..51]);
-    assert_eq!(rt; step(&mut cut), (Some(Kind::Ok), 24));
-    assert_eq!(rt; step(&mut cut), (Some(Kind::End), 32));
-    assert_eq!(rt; step(&mut cut), (None, 32));
+    let (ok, end) = (Some(Kind::Ok), Some(Kind::End));
+    assert!(rt; three_steps(rt.alloc(), &THREE) == [(ok, 24), (ok, 52), (None, 52)]);
+    assert!(rt; three_steps(rt.alloc(), &THREE[..51]) == [(ok, 24), (end, 32), (None, 32)]);
 }
 
 /// The numbers of the boxes that come, and of the one that stays in a place that is used for both; and whether that
@@ -64,15 +65,18 @@ fn a_place_is_used_again(rt: HostRuntime) -> Result<(), Fail> {
     Ok(())
 }
 
-#[test]
-fn what_is_left_is_collected(rt: HostRuntime) -> Result<(), Fail> {
+/// Whether the box from the cursor on is collected, which stays where it is.
+fn is_collected_from_the_cursor(alloc: Global) -> Result<bool, Error> {
     let mut reader = ByteCursor::new(&MARKS);
     reader.set_position(12);
-    let left = Boxes::<MarkBox>::from_cursor(rt.alloc(), &reader);
-    let found = collect_boxes(rt.alloc(), left)?;
-    assert_eq!(rt; found.as_slice(), [MarkBox { mark: 8 }].as_slice());
-    assert_eq!(rt; reader.position(), 12);
+    let found = collect_boxes(alloc, Boxes::<MarkBox>::from_cursor(alloc, &reader))?;
+    Ok(found.as_slice() == [MarkBox { mark: 8 }].as_slice() && reader.position() == 12)
+}
+
+#[test]
+fn what_is_left_is_collected(rt: HostRuntime) -> Result<(), Fail> {
+    assert!(rt; is_collected_from_the_cursor(rt.alloc())?);
     let all = collect_boxes::<AnyBox>(rt.alloc(), boxes_as(rt.alloc(), &THREE));
-    assert_eq!(rt; kind_and_count(all), (Kind::Ok, 2));
+    assert!(rt; kind_and_count(all) == (Kind::Ok, 2));
     Ok(())
 }
