@@ -1,8 +1,9 @@
 //! The boxes of this crate as one type.
 
-ghost use Rattle.std.specs.Prelude.{◌≡◌, ◌+◌, ◌-◌, ◌≤◌, OnOk, OnErr, max};
+ghost use Rattle.std.specs.Prelude.{◌≡◌, ◌+◌, ◌-◌, ◌≤◌, OnOk, OnErr, max, length};
 ghost use Rattle.std.proofs.Common.{refl};
-ghost use Rattle.mp4_stream.specs.Author.{Answers, reading_known, Is};
+ghost use Rattle.mp4_frame.specs.Members.{some_box};
+ghost use Rattle.mp4_stream.specs.Author.{Answers, reading_known, Is, format_declared};
 ghost use Rattle.mp4_more.specs.AllBoxes.{by_code};
 ghost use Rattle.mp4_more.specs.MoreBox.{Declarations, shaped, kind_of, kinds, inside};
 ghost use Rattle.mp4_more.specs.MoreBoxLaws.{members, named};
@@ -20,7 +21,7 @@ use crate::{
     TrefBox, Wvtt, WvttBox,
 };
 use mp4_lists::CodedEnum;
-use mp4_stream::author::{BoxEnum, DeclaredBox, Question, Shape, clone_as, read_as};
+use mp4_stream::author::{BoxEnum, Declared, DeclaredBox, Question, Shape, clone_as, read_as};
 use mp4_stream::{BoxType, ByteCursor, Holds, Result, TryClone};
 use std::alloc::Global;
 use std::fmt;
@@ -191,6 +192,16 @@ fn read_of(of: MoreType, alloc: Global, reader: &mut ByteCursor, size: u64) -> R
     of_boxes!(by_type, of, (alloc, reader, size))
 }
 
+/// Asks a box that is declared, as `Question::ask`. A call says how `T` is declared once, where one of `Q::ask` says it
+/// for each trait of a box.
+#[inline]
+fn ask_declared<Q: Question, T: DeclaredBox>(value: &Declared<T>, out: &mut [u8]) -> Q::Answer
+    requires { Q.can_ask (some_box (format_declared T.Shape.shape T.layout) value.now) (length out.old) }
+    ensures { Q.answers (some_box (format_declared T.Shape.shape T.layout) value.now) out.new result }
+{
+    Q::ask(value, out)
+}
+
 impl BoxEnum for MoreBox {
     ghost kinds = { kinds ⟦<MoreBox as Declares>⟧.declared };
 
@@ -210,7 +221,7 @@ impl BoxEnum for MoreBox {
     }
 
     fn ask<Q: Question>(&self, out: &mut [u8]) -> Q::Answer {
-        of_boxes!(each, self, b => Q::ask(b, out))
+        of_boxes!(each, self, b => ask_declared::<Q, _>(b, out))
     }
 
     ghost named = { named ⟦<MoreBox as Declares>⟧.declared };
