@@ -6,10 +6,11 @@ ghost use Rattle.mp4_frame.specs.Bytes.{be_bytes};
 ghost use Rattle.mp4_frame.specs.Reading.{AnswersAs};
 ghost use Rattle.mp4_frame.specs.Tables.{counted_rows, size_table, WritableTable, bytes_table};
 
+use crate::byte_cursor::ByteCursor;
 use crate::error::Result;
 use crate::number::{u8_at, u24_at, u32_at};
 use crate::put::{put_bytes, put_full_box, put_u32};
-use crate::reading::{check, expect_bytes, rows_at};
+use crate::reading::{check, expect_bytes};
 
 /// An entry of a table. Its row has `E` bytes.
 pub trait TableEntry<const E: usize>: Copy {
@@ -62,8 +63,8 @@ impl TableEntry<8> for u64 {
     }
 }
 
-/// Version, flags and rows of a box of this size that has one table with rows of `E` bytes. `too_many` is the
-/// error's text if the count is more than the size has room for.
+/// Returns version, flags and rows of a box of `size` bytes that has one table with rows of `E` bytes. `too_many` is
+/// the error's text if the count is more than `size` has room for.
 #[tactic(auto, unfolding(crate::specs::Tables::counted_rows))]
 pub fn read_table<'a, const E: usize>(
     bytes: &'a [u8],
@@ -77,7 +78,9 @@ pub fn read_table<'a, const E: usize>(
     expect_bytes(bytes, 8, 8)?;
     let count = u64::from(u32_at(bytes, 12));
     check(count <= size.saturating_sub(16) / E as u64, too_many)?;
-    let rows = rows_at::<E>(bytes, 16, count)?;
+    let mut cursor = ByteCursor::new(bytes);
+    cursor.set_position(16);
+    let rows = cursor.take_rows::<E>(count)?;
     Ok((u8_at(bytes, 8), u24_at(bytes, 9), rows))
 }
 

@@ -5,11 +5,11 @@ ghost use Rattle.mp4_frame.specs.Bytes.{number};
 ghost use Rattle.mp4_frame.specs.Reading.{AnswersAs};
 ghost use Rattle.mp4_tables.specs.Rows.{rows_within};
 
-use mp4_frame::{Error, Result, check, rows_at, u32_at, u64_at};
+use mp4_frame::{ByteCursor, Error, Result, check, u32_at, u64_at};
 use std::alloc::Global;
 
-/// The `count` rows of `E` bytes each from offset `at` on. Invalid data with the text `too_many` if a box of this
-/// size has no room for them; end of input unless all of them are present.
+/// Returns the `count` rows of `E` bytes each that start at offset `at`. Invalid data with the text `too_many` if a box
+/// of `size` bytes has no room for them; end of input unless all of them are present.
 #[tactic(auto, using(crate::proofs::Room::same_room), unfolding(crate::specs::Rows::rows_within))]
 pub fn read_rows<'a, const E: usize>(
     bytes: &'a [u8],
@@ -22,7 +22,9 @@ pub fn read_rows<'a, const E: usize>(
     ensures { AnswersAs (λ rows. rows.now) result (rows_within bytes.now size at E count) }
 {
     check(count <= size.saturating_sub(at as u64) / E as u64, too_many)?;
-    rows_at::<E>(bytes, at, count)
+    let mut cursor = ByteCursor::new(bytes);
+    cursor.set_position(at as u64);
+    cursor.take_rows::<E>(count)
 }
 
 /// Appends the number of four bytes at offset `at` of each row. The vector has room for them.
