@@ -31,6 +31,7 @@ import collections
 import ctypes
 import ctypes.util
 import json
+import operator
 import os
 import sys
 from typing import Any, Callable, Dict, Iterator, List, NamedTuple, Optional, Tuple, Type, Union
@@ -45,11 +46,109 @@ i8, i16, i32, i64 = ctypes.c_int8, ctypes.c_int16, ctypes.c_int32, ctypes.c_int6
 
 
 class Mp4Error(ValueError):
-    """A status of the library other than that all is well."""
+    """A status of the library other than that all is well. Where the module refuses a value, and doesn't pass it to the
+    library, the status is INVALID_DATA, and the text names the field and the value."""
 
-    def __init__(self, status: int) -> None:
-        super().__init__(status_text(status))
+    def __init__(self, status: int, refused: str = "") -> None:
+        super().__init__(status_text(status) + (f": {refused}" if refused else ""))
         self.status = status
+
+
+class _Numbers(NamedTuple):
+    """The numbers that a field holds: its type in C, the numbers themselves, and how a message names them."""
+    kind: Any
+    allowed: Any
+    words: str
+
+
+def _numbers(kind: Any, bits: int) -> _Numbers:
+    """Returns the numbers of `bits` bits, signed if `kind` is."""
+    low = -(1 << bits - 1) if kind(-1).value < 0 else 0
+    high = low + (1 << bits) - 1
+    return _Numbers(kind, range(low, high + 1), f"a number from {low} to {high}")
+
+
+# All numbers of a type of C.
+_ALL = {kind: _numbers(kind, 8 * ctypes.sizeof(kind)) for kind in (u8, u16, u32, u64, i8, i16, i32, i64)}
+# The numbers of fields that hold fewer than their type of C, such as the flags of a box.
+_u1, _u2, _u3, _u4, _u6 = (_numbers(u8, bits) for bits in (1, 2, 3, 4, 6))
+_u24 = _numbers(u32, 24)
+_up_stream = _Numbers(u8, (0, 2), "0 or 2")
+_object_type = _Numbers(u8, (*range(31), *range(32, 96)), "a number from 0 to 95 without 31")
+# A time has 64 bits in version 1 of its box, and else 32.
+_time = _numbers(u64, 64)
+_short_time = _Numbers(u64, range(1 << 32), f"{_numbers(u64, 32).words} (a time has 64 bits in version 1 only)")
+
+
+def _refused(name: str, given: Any, wanted: str) -> Mp4Error:
+    """Returns the error that `given`, called `name`, isn't what is wanted."""
+    try:
+        shown = repr(given)
+    except Exception:  # It has no text, as an int of more digits than Python shows.
+        shown = f"of the type {type(given).__name__}"
+    return Mp4Error(INVALID_DATA, f"{name} is {shown if len(shown) <= 80 else shown[:80] + '..'}, not {wanted}")
+
+
+def _number(given: Any, numbers: _Numbers, name: str) -> int:
+    """Returns `given`, one of `numbers`, as an int. Refuses other numbers, bools, and what is no whole number."""
+    try:
+        number = None if isinstance(given, bool) else int(operator.index(given))
+    except TypeError:
+        number = None
+    if number is None or number not in numbers.allowed:
+        raise _refused(name, given, numbers.words)
+    return number
+
+
+def _copied(given: Any, name: str, wanted: str) -> List[Any]:
+    """Copies a list of the caller. All that follows looks at the copy, since the list itself may change meanwhile."""
+    try:
+        return [*given]
+    except TypeError:
+        raise _refused(name, given, wanted) from None
+
+
+def _numbers_of(given: List[Any], numbers: _Numbers, name: str) -> List[int]:
+    """Returns the elements of `given`, each of them one of `numbers`. In `name` the index of an element is `{}`."""
+    allowed = numbers.allowed
+    if {*map(type, given)} == {int} and min(given) in allowed and max(given) in allowed:
+        return given
+    return [_number(it, numbers, name.format(at)) for at, it in enumerate(given)]
+
+
+def _bytes(given: Any, name: str) -> bytes:
+    """Copies what has a buffer."""
+    try:
+        return memoryview(given).tobytes()
+    except TypeError:
+        raise _refused(name, given, "bytes") from None
+
+
+def _text(given: Any, name: str, zeros: bool = True) -> bytes:
+    """Returns a text in UTF-8. Refuses one with a zero, unless `zeros` are allowed."""
+    try:
+        text = str.encode(given)
+    except (TypeError, UnicodeEncodeError):
+        raise _refused(name, given, "a text") from None
+    if not zeros and 0 in text:
+        raise _refused(name, given, "a text without a zero")
+    return text
+
+
+def _language(given: Any, name: str) -> bytes:
+    """Returns the three letters of a language. Their five bits also hold the six characters around `a` to `z`, which
+    `mdhd` returns for the numbers of languages in files of QuickTime: what was read can be written."""
+    if not isinstance(given, str) or len(given) != 3 or not all("`" <= it <= "\x7f" for it in given):
+        raise _refused(name, given, "three letters from a to z")
+    return str.encode(given)
+
+
+def _field(value: Any, field: str, name: str) -> Any:
+    """Returns a field of a named tuple. Refuses a tuple without it."""
+    try:
+        return getattr(value, field)
+    except AttributeError:
+        raise Mp4Error(INVALID_DATA, f"{name}.{field} is missing") from None
 
 
 def _name(code: int) -> str:
@@ -145,7 +244,7 @@ class StscRow(NamedTuple):
     first_chunk: int
     samples_per_chunk: int
     sample_description_index: int
-    first_sample: int
+    first_sample: int = 0
 
 
 class ElstRow(NamedTuple):
@@ -194,7 +293,16 @@ class Run(NamedTuple):
 
 
 def _struct(name: str, **fields: Any) -> Type[ctypes.Structure]:
-    return type(name, (ctypes.Structure,), {"_fields_": [*fields.items()]})
+    """Defines a struct of the header. Of each field it takes the type of C, or the numbers if it holds fewer."""
+    narrow = {field: it for field, it in fields.items() if isinstance(it, _Numbers)}
+    types = [(field, it.kind if isinstance(it, _Numbers) else it) for field, it in fields.items()]
+    return type(name, (ctypes.Structure,), {"_fields_": types, "_narrow_": narrow})
+
+
+def _holds(struct: Any, field: str, kind: Any, version: Any) -> _Numbers:
+    """Returns the numbers that `field`, of the type `kind`, holds in a version of its box."""
+    numbers = struct._narrow_.get(field) or _ALL[kind]
+    return _short_time if numbers is _time and version != 1 else numbers
 
 
 # The structs of the header, in its order.
@@ -206,14 +314,14 @@ _LEVEL = _struct("mp4_walk_level", end=u64, parent=u32, handler=u32, is_quicktim
 _WALK = _struct("mp4_walk", position=u64, wanted=u64, length=u64, count=u64, levels=_LEVEL * 33)
 _SAMPLE = _struct("mp4_sample", offset=u64, decode_time=u64, rendering_offset=i64, size=u32, duration=u32,
                   description=u32, chunk=u32, sync=u8)
-_TABLE = _struct("mp4_table", count=size, flags=u32, version=u8)
-_STSZ = _struct("mp4_stsz_table", count=size, flags=u32, sample_size=u32, sample_count=u32, version=u8)
-_TRUN = _struct("mp4_trun_table", count=size, flags=u32, sample_count=u32, data_offset=i32, first_sample_flags=u32,
+_TABLE = _struct("mp4_table", count=size, flags=_u24, version=u8)
+_STSZ = _struct("mp4_stsz_table", count=size, flags=_u24, sample_size=u32, sample_count=u32, version=u8)
+_TRUN = _struct("mp4_trun_table", count=size, flags=_u24, sample_count=u32, data_offset=i32, first_sample_flags=u32,
                 version=u8)
 _STTS = _struct("mp4_stts_row", sample_count=u32, sample_delta=u32)
 _CTTS = _struct("mp4_ctts_row", sample_count=u32, sample_offset=i32)
 _STSC = _struct("mp4_stsc_row", first_chunk=u32, samples_per_chunk=u32, sample_description_index=u32, first_sample=u32)
-_ELST = _struct("mp4_elst_row", segment_duration=u64, media_time=u64, media_rate=u16, media_rate_fraction=u16)
+_ELST = _struct("mp4_elst_row", segment_duration=_time, media_time=_time, media_rate=u16, media_rate_fraction=u16)
 _RUN = _struct("mp4_trun_row", duration=u32, size=u32, flags=u32, composition_offset=u32)
 # Numbers that come as an array, by the letter of their type there.
 _ARRAYS = {u8: "B", u32: "I", u64: "Q"}
@@ -340,7 +448,7 @@ def status_text(status: int) -> str:
     'no track has the track_ID'
     """
     text, count = ctypes.create_string_buffer(200), size()
-    _status_text(status, text, len(text), count)
+    _status_text(_number(status, _ALL[u32], "status"), text, len(text), count)
     return text.raw[:count.value].decode("ascii")
 
 
@@ -369,12 +477,47 @@ def _written(function: Callable[..., int], *given: Any) -> bytes:
     return bytes(out)
 
 
-def _filled_struct(struct: Any, value: Any) -> Any:
-    """A struct of the header with the numbers of a named tuple."""
-    given = value._asdict()
-    of = {name: (kind, given[name]) for name, kind in struct._fields_ if name in given}
-    numbers = {name: kind(*it) if isinstance(it, tuple) else it for name, (kind, it) in of.items()}
-    return struct(**{name: it.encode() if isinstance(it, str) else it for name, it in numbers.items()})
+# Numbers of elements, which the lists of a named tuple have.
+_COUNTS = ("count", "scheme_id_uri_count", "value_count", "message_data_count", "sequence_count", "picture_count")
+# Parts that a box may lack, and what says that it has them.
+_PARTS = ("url", "esds")
+_COUNTED = (*_COUNTS, "set_bytes", *(f"has_{it}" for it in _PARTS))
+_ENTRIES = ("avc1", "hev1", "vp09", "mp4a", "tx3g")
+_LETTERS = ctypes.c_char * 4
+
+
+def _array_of(kind: Any, given: Any, name: str) -> Any:
+    """Returns an array of the type `kind`, filled with a list of the caller that has as many numbers."""
+    numbers, wanted = _ALL[kind._type_], f"{kind._length_} numbers"
+    copied = _copied(given, name, wanted)
+    if len(copied) != kind._length_:
+        raise _refused(name, given, wanted)
+    return kind(*_numbers_of(copied, numbers, f"{name}[{{}}]"))
+
+
+def _struct_of(struct: Any, value: Any, name: str, **given: Any) -> Any:
+    """Returns a struct of the header with the fields of the named tuple `value`, which messages call `name`. Fields of
+    `given` are taken from there instead. Counts stay 0."""
+    found, values = struct(), {}
+    for field, _ in struct._fields_:
+        if field not in _COUNTED:
+            values[field] = given[field] if field in given else _field(value, field, name)
+    for field, it in values.items():
+        kind, named = dict(struct._fields_)[field], f"{name}.{'entry' if field in _ENTRIES else field}"
+        if it is None and field in (*_PARTS, *_ENTRIES):
+            continue
+        if issubclass(kind, ctypes.Structure):
+            it = _struct_of(kind, it, named)
+        elif kind is _LETTERS:
+            it = _language(it, named)
+        elif issubclass(kind, ctypes.Array):
+            it = _array_of(kind, it, named)
+        else:
+            it = _number(it, _holds(struct, field, kind, values.get("version")), named)
+        setattr(found, field, it)
+        if field in _PARTS:
+            setattr(found, f"has_{field}", 1)
+    return found
 
 
 def _box(name: str, words: str, **fields: Any) -> Tuple[Any, Callable[[Any], Any], Callable[[Any], bytes]]:
@@ -399,7 +542,7 @@ def _box(name: str, words: str, **fields: Any) -> Tuple[Any, Callable[[Any], Any
         return made(*(plain(getattr(found, it)) for it in fields))
 
     def write(value: Any) -> bytes:
-        given = _filled_struct(struct, value)
+        given = _struct_of(struct, value, name)
         return _written(writes, ctypes.addressof(given))
 
     read.__name__, read.__doc__ = name, f"{words}. Of the box at the front of the bytes, header included."
@@ -407,54 +550,79 @@ def _box(name: str, words: str, **fields: Any) -> Tuple[Any, Callable[[Any], Any
     return made, read, write
 
 
-_TIMES = {"creation_time": u64, "modification_time": u64, "duration": u64, "flags": u32}
+_TIMES = {"creation_time": _time, "modification_time": _time, "duration": _time, "flags": _u24}
 Mvhd, mvhd, write_mvhd = _box(
     "mvhd", "Properties of the whole movie (8.2.2)", **_TIMES, timescale=u32, rate=u32, matrix=i32 * 9,
-    next_track_id=u32, volume=u16, version=u8)
+    next_track_id=u32, volume=u16, version=_u1)
 Tkhd, tkhd, write_tkhd = _box(
     "tkhd", "Properties of a track (8.3.2)", **_TIMES, track_id=u32, matrix=i32 * 9, width=u32, height=u32, layer=i16,
-    alternate_group=i16, volume=u16, version=u8)
+    alternate_group=i16, volume=u16, version=_u1)
 Mdhd, mdhd, write_mdhd = _box(
-    "mdhd", "Properties of the media of a track (8.4.2)", **_TIMES, timescale=u32, language=ctypes.c_char * 4,
-    version=u8)
+    "mdhd", "Properties of the media of a track (8.4.2)", **_TIMES, timescale=u32, language=_LETTERS,
+    version=_u1)
 Mehd, mehd, write_mehd = _box(
-    "mehd", "The duration of a movie with fragments (8.8.2)", fragment_duration=u64, flags=u32, version=u8)
-Mfhd, mfhd, write_mfhd = _box("mfhd", "The number of a fragment (8.8.5)", flags=u32, sequence_number=u32, version=u8)
-Smhd, smhd, write_smhd = _box("smhd", "The balance of sound (12.2.2)", flags=u32, balance=i16, version=u8)
+    "mehd", "The duration of a movie with fragments (8.8.2)", fragment_duration=_time, flags=_u24, version=_u1)
+Mfhd, mfhd, write_mfhd = _box("mfhd", "The number of a fragment (8.8.5)", flags=_u24, sequence_number=u32, version=u8)
+Smhd, smhd, write_smhd = _box("smhd", "The balance of sound (12.2.2)", flags=_u24, balance=i16, version=u8)
 Vmhd, vmhd, write_vmhd = _box(
-    "vmhd", "How video is composed (12.1.2)", flags=u32, graphics_mode=u16, red=u16, green=u16, blue=u16, version=u8)
+    "vmhd", "How video is composed (12.1.2)", flags=_u24, graphics_mode=u16, red=u16, green=u16, blue=u16, version=u8)
 Trex, trex, write_trex = _box(
-    "trex", "The defaults for the samples of fragments (8.8.3)", flags=u32, track_id=u32,
+    "trex", "The defaults for the samples of fragments (8.8.3)", flags=_u24, track_id=u32,
     default_sample_description_index=u32, default_sample_duration=u32, default_sample_size=u32,
     default_sample_flags=u32, version=u8)
 Tfdt, tfdt, write_tfdt = _box(
-    "tfdt", "When the first sample of a fragment is decoded (8.8.12)", base_media_decode_time=u64, flags=u32,
-    version=u8)
+    "tfdt", "When the first sample of a fragment is decoded (8.8.12)", base_media_decode_time=_time, flags=_u24,
+    version=_u1)
 Tfhd, tfhd, write_tfhd = _box(
-    "tfhd", "The track of a fragment (8.8.7)", base_data_offset=u64, flags=u32, track_id=u32,
+    "tfhd", "The track of a fragment (8.8.7)", base_data_offset=u64, flags=_u24, track_id=u32,
     sample_description_index=u32, default_sample_duration=u32, default_sample_size=u32, default_sample_flags=u32,
     version=u8)
 
 
-def _writes_table(name: str, row: Any, table: Any) -> Callable[[Any], bytes]:
+def _array(kind: Any, numbers: Any) -> Any:
+    """Returns an array of the numbers. It has one place if there are none."""
+    if kind is u8:
+        return (u8 * max(len(numbers), 1)).from_buffer_copy(numbers or b"\0")
+    return (kind * max(len(numbers), 1))(*numbers)
+
+
+def _rows_of(given: Any, row: Any, into: Any, name: str, version: int) -> List[Any]:
+    """Copies the rows of a table: numbers, or named tuples of the class `into`, or what one can be made of."""
+    if isinstance(given, (bytes, bytearray)):
+        raise _refused(name, given, "a list of rows")
+    rows = _copied(given, name, "a list of rows")
+    if row in _ARRAYS:
+        return _numbers_of(rows, _ALL[row], f"{name}[{{}}]")
+    for at, it in enumerate(rows):
+        try:
+            rows[at] = it if type(it) is into else into(*it)
+        except TypeError:
+            raise _refused(f"{name}[{at}]", it, f"a row of {', '.join(into._fields)}") from None
+    fields = zip(row._fields_, zip(*rows))
+    columns = [_numbers_of([*its], _holds(row, it, kind, version), f"{name}[{{}}].{it}") for (it, kind), its in fields]
+    return [*zip(*columns)]
+
+
+def _writes_table(name: str, row: Any, table: Any, into: Any = None) -> Callable[[Any], bytes]:
     """A function that writes a table as it is read."""
     function = _function(
         f"mp4_write_{name}", ctypes.c_void_p, ctypes.c_void_p, size, ctypes.c_void_p, size, ctypes.c_void_p)
 
     def write(value: Any) -> bytes:
-        count, head = len(value.rows), _filled_struct(table, value)
-        rows = (row * max(count, 1))(*(it if row in _ARRAYS else row(*it) for it in value.rows))
-        return _written(function, ctypes.addressof(head), ctypes.addressof(rows), count)
+        head = _struct_of(table, value, name)
+        rows = _rows_of(_field(value, "rows", name), row, into, f"{name}.rows", head.version)
+        given = _array(row, rows)
+        return _written(function, ctypes.addressof(head), ctypes.addressof(given), len(rows))
 
     write.__name__, write.__doc__ = f"write_{name}", "The bytes of the table, header included."
     return write
 
 
 write_stco, write_co64 = _writes_table("stco", u32, _TABLE), _writes_table("co64", u64, _TABLE)
-write_stss, write_stts = _writes_table("stss", u32, _TABLE), _writes_table("stts", _STTS, _TABLE)
-write_ctts, write_stsc = _writes_table("ctts", _CTTS, _TABLE), _writes_table("stsc", _STSC, _TABLE)
-write_elst, write_stsz = _writes_table("elst", _ELST, _TABLE), _writes_table("stsz", u32, _STSZ)
-write_trun = _writes_table("trun", _RUN, _TRUN)
+write_stss, write_stts = _writes_table("stss", u32, _TABLE), _writes_table("stts", _STTS, _TABLE, SttsRow)
+write_ctts, write_stsc = _writes_table("ctts", _CTTS, _TABLE, CttsRow), _writes_table("stsc", _STSC, _TABLE, StscRow)
+write_elst, write_stsz = _writes_table("elst", _ELST, _TABLE, ElstRow), _writes_table("stsz", u32, _STSZ)
+write_trun = _writes_table("trun", _RUN, _TRUN, TrunRow)
 
 
 def _tuple_of(struct: Any, **given: Any) -> Any:
@@ -473,53 +641,36 @@ def _tuple_of(struct: Any, **given: Any) -> Any:
     return _NAMED.setdefault((kind, *fields), named)(**fields)
 
 
-def _struct_of(kind: Any, value: Any) -> Any:
-    """The struct of a named tuple; what it doesn't have is 0."""
-    found = kind()
-    for name, field in kind._fields_:
-        given = None if name in _COUNTS else getattr(value, name, None)
-        if given is None:
-            continue
-        if issubclass(field, ctypes.Structure):
-            given = _struct_of(field, given)
-        elif issubclass(field, ctypes.Array):
-            given = field(*given)
-        setattr(found, name, given)
-    return found
-
-
 _NAMED: Dict[Any, Any] = {}
-# Numbers of elements, which the lists of a named tuple have.
-_COUNTS = ("count", "scheme_id_uri_count", "value_count", "message_data_count", "sequence_count", "picture_count")
 _FTYP = _struct("mp4_ftyp_box", count=size, major_brand=u32, minor_version=u32)
-_HDLR = _struct("mp4_hdlr_box", count=size, flags=u32, handler_type=u32, version=u8)
+_HDLR = _struct("mp4_hdlr_box", count=size, flags=_u24, handler_type=u32, version=u8)
 _DATA = _struct("mp4_data_box", count=size, data_type=u32)
-_URL = _struct("mp4_url_box", count=size, flags=u32, version=u8)
-_DREF = _struct("mp4_dref_box", url=_URL, flags=u32, version=u8, has_url=u8)
+_URL = _struct("mp4_url_box", count=size, flags=_u24, version=u8)
+_DREF = _struct("mp4_dref_box", url=_URL, flags=_u24, version=u8, has_url=u8)
 _EMSG = _struct("mp4_emsg_box", scheme_id_uri_count=size, value_count=size, message_data_count=size,
                 presentation_time=u64, presentation_time_delta=u32, timescale=u32, event_duration=u32, id=u32,
-                flags=u32, version=u8)
+                flags=_u24, version=_u1)
 _AVCC = _struct("mp4_avcc_box", sequence_count=size, picture_count=size, set_bytes=size, configuration_version=u8,
-                avc_profile_indication=u8, profile_compatibility=u8, avc_level_indication=u8, length_size_minus_one=u8)
+                avc_profile_indication=u8, profile_compatibility=u8, avc_level_indication=u8, length_size_minus_one=_u2)
 _VISUAL = _struct("mp4_visual_box", horizresolution=u32, vertresolution=u32, data_reference_index=u16, width=u16,
                   height=u16, frame_count=u16, depth=u16)
 _AVC1 = _struct("mp4_avc1_box", avcc=_AVCC, visual=_VISUAL)
 _HVCC = _struct("mp4_hvcc_box", configuration_version=u8)
 _HEV1 = _struct("mp4_hev1_box", visual=_VISUAL, hvcc=_HVCC)
-_VPCC = _struct("mp4_vpcc_box", flags=u32, codec_initialization_data_size=u16, version=u8, profile=u8, level=u8,
-                bit_depth=u8, chroma_subsampling=u8, video_full_range_flag=u8, color_primaries=u8,
+_VPCC = _struct("mp4_vpcc_box", flags=_u24, codec_initialization_data_size=u16, version=u8, profile=u8, level=u8,
+                bit_depth=_u4, chroma_subsampling=_u3, video_full_range_flag=_u1, color_primaries=u8,
                 transfer_characteristics=u8, matrix_coefficients=u8)
-_VP09 = _struct("mp4_vp09_box", vpcc=_VPCC, flags=u32, start_code=u16, data_reference_index=u16, width=u16, height=u16,
+_VP09 = _struct("mp4_vp09_box", vpcc=_VPCC, flags=_u24, start_code=u16, data_reference_index=u16, width=u16, height=u16,
                 horizresolution=u16 * 2, vertresolution=u16 * 2, frame_count=u16, depth=u16, end_code=u16, version=u8,
                 reserved0=u8 * 16, reserved1=u8 * 4, compressorname=u8 * 32)
 _TX3G = _struct("mp4_tx3g_box", display_flags=u32, data_reference_index=u16, box_record=i16 * 4,
                 horizontal_justification=i8, vertical_justification=i8, bg_color_rgba=u8 * 4, style_record=u8 * 12)
-_ESDS = _struct("mp4_esds_box", flags=u32, buffer_size_db=u32, max_bitrate=u32, avg_bitrate=u32, sample_rate=u32,
-                es_id=u16, version=u8, object_type_indication=u8, stream_type=u8, up_stream=u8, profile=u8,
-                freq_index=u8, chan_conf=u8)
+_ESDS = _struct("mp4_esds_box", flags=_u24, buffer_size_db=_u24, max_bitrate=u32, avg_bitrate=u32, sample_rate=_u24,
+                es_id=u16, version=u8, object_type_indication=u8, stream_type=_u6, up_stream=_up_stream,
+                profile=_object_type, freq_index=_u4, chan_conf=_u4)
 _MP4A = _struct("mp4_mp4a_box", esds=_ESDS, samplerate=u32, data_reference_index=u16, channelcount=u16, samplesize=u16,
                 has_esds=u8)
-_STSD = _struct("mp4_stsd_box", avc1=_AVC1, hev1=_HEV1, vp09=_VP09, mp4a=_MP4A, tx3g=_TX3G, flags=u32, entry=u32,
+_STSD = _struct("mp4_stsd_box", avc1=_AVC1, hev1=_HEV1, vp09=_VP09, mp4a=_MP4A, tx3g=_TX3G, flags=_u24, entry=u32,
                 version=u8)
 
 
@@ -656,7 +807,6 @@ def mp4a(data: Any) -> Any:
 
 Stsd = collections.namedtuple("Stsd", "version flags entry")
 Stsd.__doc__ = "The first sample entry of a track (8.5.2): its fields, named by its type; None if it isn't read."
-_ENTRIES = ("avc1", "hev1", "vp09", "mp4a", "tx3g")
 
 
 def stsd(data: Any) -> Stsd:
@@ -674,12 +824,12 @@ def stsd(data: Any) -> Stsd:
 
 
 def _writes(name: str, *kinds: Any) -> Callable[..., bytes]:
-    """A call that writes a struct and arrays."""
+    """A call that writes a struct and arrays. The lists of the arrays are copies that only the module has."""
     arrays = [it for _ in kinds for it in (ctypes.c_void_p, size)]
     function = _function(f"mp4_write_{name}", ctypes.c_void_p, *arrays, ctypes.c_void_p, size, ctypes.c_void_p)
 
     def write(struct: Any, *lists: Any) -> bytes:
-        held = [(kind * max(len(it), 1))(*it) for kind, it in zip(kinds, lists)]
+        held = [_array(kind, it) for kind, it in zip(kinds, lists)]
         places = [part for array, it in zip(held, lists) for part in (ctypes.addressof(array), len(it))]
         return _written(function, ctypes.addressof(struct), *places)
 
@@ -692,43 +842,61 @@ _write_emsg, _write_stsd = _writes("emsg", u8, u8, u8), _writes("stsd", size, u8
 
 def write_ftyp(value: Any) -> bytes:
     """The bytes of an ftyp, header included."""
-    return _write_ftyp(_struct_of(_FTYP, value), value.compatible_brands)
+    struct, name = _struct_of(_FTYP, value, "ftyp"), "ftyp.compatible_brands"
+    return _write_ftyp(struct, _rows_of(_field(value, "compatible_brands", "ftyp"), u32, None, name, 0))
 
 
 def write_hdlr(value: Any) -> bytes:
     """The bytes of an hdlr, header included."""
-    return _write_hdlr(_struct_of(_HDLR, value), value.name.encode())
+    return _write_hdlr(_struct_of(_HDLR, value, "hdlr"), _text(_field(value, "name", "hdlr"), "hdlr.name"))
 
 
 def write_dref(value: Any) -> bytes:
     """The bytes of a dref, header included."""
-    struct = _struct_of(_DREF, value)
-    struct.has_url = value.url is not None
-    return _write_dref(struct, value.url.location.encode() if value.url else b"")
+    url = _field(value, "url", "dref")
+    struct = _struct_of(_DREF, value, "dref", url=url)
+    location = b"" if url is None else _text(_field(url, "location", "dref.url"), "dref.url.location")
+    return _write_dref(struct, location)
 
 
 def write_emsg(value: Any) -> bytes:
     """The bytes of an emsg, header included."""
-    texts = value.scheme_id_uri.encode(), value.value.encode(), value.message_data
-    return _write_emsg(_struct_of(_EMSG, value), *texts)
+    struct, names = _struct_of(_EMSG, value, "emsg"), ("scheme_id_uri", "value")
+    texts = [_text(_field(value, it, "emsg"), f"emsg.{it}", zeros=False) for it in names]
+    return _write_emsg(struct, *texts, _bytes(_field(value, "message_data", "emsg"), "emsg.message_data"))
+
+
+def _sets_given(avcc: Any, field: str, most: int) -> List[bytes]:
+    """Copies the parameter sets of an avcC. Refuses more than `most`, and a set whose length has more than 16 bits."""
+    given, name, wanted = _field(avcc, field, _AVCC_GIVEN), f"{_AVCC_GIVEN}.{field}", f"a list of at most {most} sets"
+    copied = _copied(given, name, wanted)
+    if len(copied) > most:
+        raise _refused(name, given, wanted)
+    sets = [_bytes(it, f"{name}[{at}]") for at, it in enumerate(copied)]
+    for at, it in enumerate(sets):
+        _number(len(it), _ALL[u16], f"the length of {name}[{at}]")
+    return sets
+
+
+_AVCC_GIVEN = "stsd.entry.avcc"
 
 
 def write_stsd(value: Stsd) -> bytes:
     """The bytes of an stsd, header included."""
-    struct, lengths, together = _STSD(version=value.version, flags=value.flags), [], b""
-    if value.entry is not None:
-        name = type(value.entry).__name__.lower()
-        struct.entry = int.from_bytes(name.encode(), "big")
-        setattr(struct, name, _struct_of(dict(_STSD._fields_)[name], value.entry))
-        if name == "mp4a":
-            struct.mp4a.has_esds = value.entry.esds is not None
-        if name == "avc1":
-            avcc = value.entry.avcc
-            sets = [*avcc.sequence_parameter_sets, *avcc.picture_parameter_sets]
-            struct.avc1.avcc.sequence_count = len(avcc.sequence_parameter_sets)
-            struct.avc1.avcc.picture_count = len(avcc.picture_parameter_sets)
-            lengths, together = [len(it) for it in sets], b"".join(sets)
-    return _write_stsd(struct, lengths, together)
+    entry = _field(value, "entry", "stsd")
+    name = type(entry).__name__.lower()
+    if entry is not None and name not in _ENTRIES:
+        raise _refused("stsd.entry", entry, f"one of {', '.join(_ENTRIES)}, or None")
+    code = 0 if entry is None else int.from_bytes(name.encode(), "big")
+    entries = {it: entry if it == name else None for it in _ENTRIES}
+    struct, sequence, picture = _struct_of(_STSD, value, "stsd", entry=code, **entries), [], []
+    if name == "avc1":
+        avcc = _field(entry, "avcc", "stsd.entry")
+        sequence = _sets_given(avcc, "sequence_parameter_sets", 31)
+        picture = _sets_given(avcc, "picture_parameter_sets", 255)
+    struct.avc1.avcc.sequence_count, struct.avc1.avcc.picture_count = len(sequence), len(picture)
+    sets = sequence + picture
+    return _write_stsd(struct, [len(it) for it in sets], b"".join(sets))
 
 
 def check(data: Any) -> None:
@@ -763,7 +931,7 @@ def fields(data: Any) -> Dict[str, Any]:
 
 def find(data: Any, path: str) -> Optional[Place]:
     """The box at a path over the bytes of a file, as `moov/trak[1]/mdia/mdhd`; None if there is none."""
-    place, text = _PLACE(), path.encode()
+    place, text = _PLACE(), _text(path, "path")
     with _Bytes(data) as (address, length):
         status = _find(address, length, text, len(text), place)
     if status == BOX_NOT_FOUND:
@@ -775,7 +943,7 @@ def find(data: Any, path: str) -> Optional[Place]:
 
 def samples(data: Any, track_id: int) -> List[Sample]:
     """The samples of the first track with a track_ID (8.3.2) over the bytes of a file, by the tables of its `stbl`."""
-    return _listed(_samples(data, track_id)[0], Sample, _SAMPLE)
+    return _listed(_samples(data, _number(track_id, _ALL[u32], "track_id"))[0], Sample, _SAMPLE)
 
 
 def fragment_samples(data: Any, track_id: int) -> List[Sample]:
@@ -787,7 +955,7 @@ def fragment_samples(data: Any, track_id: int) -> List[Sample]:
     Traceback (most recent call last):
     mp4_box_codec.Mp4Error: box not found
     """
-    return _listed(_fragment_samples(data, track_id)[0], Sample, _SAMPLE)
+    return _listed(_fragment_samples(data, _number(track_id, _ALL[u32], "track_id"))[0], Sample, _SAMPLE)
 
 
 TABLES: Dict[str, Callable[[Any], Any]] = {
@@ -822,9 +990,9 @@ def tree(file: Any) -> List[Box]:
     """
     length, read = _reader(file)
     walk, box, found, around = _WALK(), _BOX(), [], [("", {})]
-    status = _walk_begin(length, walk)
+    status = _walk_begin(_number(length, _ALL[u64], "the length of the file"), walk)
     while status == OK and walk.wanted:
-        given = read(walk.position, walk.wanted)
+        given = _bytes(read(walk.position, walk.wanted), "what the file reads")
         status = _walk_next(given, len(given), walk, box)
         if status == OK:
             del around[box.depth + 1:]
