@@ -36,6 +36,7 @@ import os
 import sys
 from typing import Any, Callable, Dict, Iterator, List, NamedTuple, Optional, Tuple, Type, Union
 
+__version__ = "0.1.0"
 OK, END_OF_INPUT, INVALID_DATA, BOX_NOT_FOUND, OUT_OF_MEMORY, NO_ROOM = 0, 1, 2, 3, 12, 100
 NO_TRACK, UNKNOWN_BOX = 101, 102
 # What is where a box should begin, as `what` of a Box says.
@@ -362,13 +363,25 @@ def _places() -> Iterator[str]:
     yield ctypes.util.find_library("mp4_box_codec") or "libmp4_box_codec.so.0"
 
 
+def _is_for(version: int, module: str) -> bool:
+    """Returns whether a library of the version `version` has the calls that a module of the version `module` expects.
+    Before 1.0.0 a minor version may change them, so the major and the minor version have to be equal."""
+    return f"{version // 1000000}.{version // 1000 % 1000}" == module.rpartition(".")[0]
+
+
 def _load() -> ctypes.CDLL:
-    path = next(_places())
+    path, remedy = next(_places()), "run tools/install, or set MP4_BOX_CODEC_LIB to libmp4_box_codec.so.0"
     try:
-        return ctypes.CDLL(path)
-    except OSError as why:
-        text = f"{path} can't be loaded ({why}): run tools/install, or set MP4_BOX_CODEC_LIB to libmp4_box_codec.so.0"
-        raise ImportError(text) from None
+        library = ctypes.CDLL(path)
+        library.mp4_version.argtypes, library.mp4_version.restype = (), u32
+    except (OSError, AttributeError) as why:
+        raise ImportError(f"{path} can't be loaded ({why}): {remedy}") from None
+    found = library.mp4_version()
+    if not _is_for(found, __version__):
+        text = f"{found // 1000000}.{found // 1000 % 1000}.{found % 1000}"
+        wanted = __version__.rpartition(".")[0]
+        raise ImportError(f"{path} is version {text}, and this module needs version {wanted}.x: {remedy}")
+    return library
 
 
 _library = _load()

@@ -160,6 +160,18 @@ class Calls(unittest.TestCase):
         with self.assertRaisesRegex(codec.Mp4Error, "no track has the track_ID"):
             codec.fragment_samples(file, 3)
 
+    def test_versions(self):
+        """A library is for the module if its major and minor version are those of the module: here 0.1 and 12.34."""
+        for version in (1000, 1001, 1999):
+            self.assertTrue(codec._is_for(version, "0.1.0"), version)
+            self.assertTrue(codec._is_for(version, "0.1.7"), version)
+        for version in (0, 999, 2000, 10000, 11000, 1000000, 1001000, 100001000, 4294967295):
+            self.assertFalse(codec._is_for(version, "0.1.0"), version)
+        self.assertTrue(codec._is_for(12034056, "12.34.0"))
+        for version in (12033056, 12035056, 11034056, 13034056, 1234000, 12340000):
+            self.assertFalse(codec._is_for(version, "12.34.0"), version)
+        self.assertTrue(codec._is_for(codec.version(), codec.__version__))
+
     def test_faults(self):
         def status(call, data):
             with self.assertRaises(codec.Mp4Error) as caught:
