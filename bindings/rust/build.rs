@@ -30,9 +30,10 @@ fn main() {
             folders
         }
     };
-    let Some(folder) = folders.iter().find(|it| has(it, "a") || has(it, "so")) else {
-        panic!("libmp4_box_codec is not in {folders:?}: run tools/install, or set {FOLDER} to its folder");
-    };
+    let found = folders.iter().find(|it| has(it, "a") || has(it, "so"));
+    let folder = found.unwrap_or_else(|| {
+        panic!("libmp4_box_codec is not in {folders:?}: run tools/install, or set {FOLDER} to its folder")
+    });
     println!("cargo:rerun-if-changed={}", folder.display());
     println!("cargo:rustc-link-search=native={}", folder.display());
     println!("cargo:rustc-link-lib={}=mp4_box_codec", if has(folder, "a") { "static" } else { "dylib" });

@@ -3,7 +3,7 @@
 use std::io::{self, Read, Seek, SeekFrom};
 
 use crate::rows::bytes_at;
-use crate::{raw, result_of, Result};
+use crate::{raw, result_of, Error, Result};
 
 /// What is where a box should begin.
 #[derive(Clone, Copy, Debug, PartialEq, Eq, Hash)]
@@ -96,16 +96,21 @@ pub fn tree(file: &[u8]) -> Result<Vec<TreeBox>> {
 
 /// All boxes of a file, each before those in it: nothing is read but headers and what tells how boxes lie in them.
 pub fn tree_of<F: Read + Seek>(file: &mut F) -> io::Result<Vec<TreeBox>> {
-    let mut walk = Walk::over(file.seek(SeekFrom::End(0))?).map_err(io::Error::other)?;
+    let mut walk = Walk::over(file.seek(SeekFrom::End(0))?).map_err(failure)?;
     let mut boxes = Vec::new();
     let mut bytes = Vec::new();
     while walk.0.wanted > 0 {
         file.seek(SeekFrom::Start(walk.0.position))?;
         bytes.resize(walk.0.wanted as usize, 0);
         file.read_exact(&mut bytes)?;
-        boxes.push(walk.next(&bytes).map_err(io::Error::other)?);
+        boxes.push(walk.next(&bytes).map_err(failure)?);
     }
     Ok(boxes)
+}
+
+/// Returns an error as one of reading.
+fn failure(why: Error) -> io::Error {
+    io::Error::new(io::ErrorKind::Other, why)
 }
 
 /// A walk, which wants so many bytes at a position of the file.
