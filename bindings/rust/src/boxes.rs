@@ -1,6 +1,6 @@
 //! The boxes of fixed fields, as the structs of the header have them, and what is read and written.
 
-use crate::{raw, result_of, written, CttsRow, ElstRow, Result, Run, Sizes, StscRow, SttsRow, Table, TrunRow};
+use crate::{raw, read_by, written, CttsRow, ElstRow, Result, Run, Sizes, StscRow, SttsRow, Table, TrunRow};
 
 /// Defines a struct with the layout of the header's.
 macro_rules! boxes {
@@ -16,9 +16,8 @@ macro_rules! boxes {
 
         /// Reads the box at the front of the bytes, header included.
         pub fn $read(bytes: &[u8]) -> Result<$name> {
-            let mut found = $name::default();
             // SAFETY: as of `filled`.
-            result_of(unsafe { raw::$raw_read(bytes.as_ptr(), bytes.len(), &mut found) }, found)
+            read_by(|found| unsafe { raw::$raw_read(bytes.as_ptr(), bytes.len(), found) })
         }
 
         /// The bytes of the box, header included. Invalid data if a number doesn't fit its field.

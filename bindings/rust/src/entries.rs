@@ -1,7 +1,7 @@
 //! Boxes of strings and references, and sample entries: what is read and written.
 
 use crate::raw::{Avc1Box, AvccBox, DataBox, DrefBox, EmsgBox, FtypBox, HdlrBox, Mp4aBox, StsdBox, UrlBox};
-use crate::{filled, raw, result_of, written, Error, Result, Summary};
+use crate::{defaults, filled, raw, read_by, result_of, roomy, written, Error, Result, Summary};
 
 pub use crate::raw::{Esds, Hev1, Hvcc, Tx3g, Visual, Vp09, Vpcc};
 
@@ -149,7 +149,8 @@ pub fn dinf(bytes: &[u8]) -> Result<Dref> {
 
 /// The bytes of a `dref`, header included.
 pub fn write_dref(it: &Dref) -> Result<Vec<u8>> {
-    let url = it.url.clone().unwrap_or_default();
+    let none = Url::default();
+    let url = it.url.as_ref().unwrap_or(&none);
     let fields = DrefBox {
         url: UrlBox { count: 0, flags: url.flags, version: url.version },
         flags: it.flags,
@@ -193,9 +194,8 @@ pub fn emsg(bytes: &[u8]) -> Result<Emsg> {
     };
     let mut status = call(&mut scheme, &mut value, &mut message, &mut it);
     if status == raw::NO_ROOM {
-        scheme.resize(it.scheme_id_uri_count, 0);
-        value.resize(it.value_count, 0);
-        message.resize(it.message_data_count, 0);
+        (scheme, value) = (defaults(it.scheme_id_uri_count)?, defaults(it.value_count)?);
+        message = defaults(it.message_data_count)?;
         status = call(&mut scheme, &mut value, &mut message, &mut it);
     }
     let found = Emsg {
@@ -252,29 +252,37 @@ pub struct Avcc {
 type Sets = (Vec<usize>, Vec<u8>);
 
 impl Avcc {
-    fn of((lengths, bytes): Sets, it: &AvccBox) -> Avcc {
+    fn of((lengths, bytes): Sets, it: &AvccBox) -> Result<Avcc> {
         let mut rest = bytes.as_slice();
-        let mut sets: Vec<Vec<u8>> = Vec::new();
-        for length in lengths {
-            let (set, after) = rest.split_at(length);
-            sets.push(set.to_vec());
+        let (mut sequence_parameter_sets, mut picture_parameter_sets) =
+            (roomy(it.sequence_count)?, roomy(it.picture_count)?);
+        for (number, length) in lengths.into_iter().enumerate() {
+            let (bytes, after) = rest.split_at(length);
+            let mut set = roomy(length)?;
+            set.extend_from_slice(bytes);
             rest = after;
+            let sets =
+                if number < it.sequence_count { &mut sequence_parameter_sets } else { &mut picture_parameter_sets };
+            sets.push(set);
         }
-        let picture_parameter_sets = sets.split_off(it.sequence_count.min(sets.len()));
-        Avcc {
+        Ok(Avcc {
             configuration_version: it.configuration_version,
             avc_profile_indication: it.avc_profile_indication,
             profile_compatibility: it.profile_compatibility,
             avc_level_indication: it.avc_level_indication,
             length_size_minus_one: it.length_size_minus_one,
-            sequence_parameter_sets: sets,
+            sequence_parameter_sets,
             picture_parameter_sets,
-        }
+        })
     }
 
-    fn fields(&self) -> (Sets, AvccBox) {
+    fn fields(&self) -> Result<(Sets, AvccBox)> {
         let sets = || self.sequence_parameter_sets.iter().chain(&self.picture_parameter_sets);
-        let found = (sets().map(Vec::len).collect(), sets().flatten().copied().collect());
+        let (mut lengths, mut bytes) = (roomy(sets().count())?, roomy(sets().map(Vec::len).sum())?);
+        for set in sets() {
+            lengths.push(set.len());
+            bytes.extend_from_slice(set);
+        }
         let fields = AvccBox {
             sequence_count: self.sequence_parameter_sets.len(),
             picture_count: self.picture_parameter_sets.len(),
@@ -285,7 +293,7 @@ impl Avcc {
             avc_level_indication: self.avc_level_indication,
             length_size_minus_one: self.length_size_minus_one,
         };
-        (found, fields)
+        Ok(((lengths, bytes), fields))
     }
 }
 
@@ -301,8 +309,8 @@ fn with_sets<S: Default>(reads: Reads<S>, bytes: &[u8], avcc: fn(&S) -> &AvccBox
     };
     let mut status = call(&mut lengths, &mut sets, &mut found);
     if status == raw::NO_ROOM {
-        lengths.resize(avcc(&found).sequence_count + avcc(&found).picture_count, 0);
-        sets.resize(avcc(&found).set_bytes, 0);
+        lengths = defaults(avcc(&found).sequence_count + avcc(&found).picture_count)?;
+        sets = defaults(avcc(&found).set_bytes)?;
         status = call(&mut lengths, &mut sets, &mut found);
     }
     result_of(status, ((lengths, sets), found))
@@ -311,7 +319,7 @@ fn with_sets<S: Default>(reads: Reads<S>, bytes: &[u8], avcc: fn(&S) -> &AvccBox
 /// Reads the `avcC` at the front of the bytes, header included.
 pub fn avcc(bytes: &[u8]) -> Result<Avcc> {
     let (sets, it) = with_sets(raw::mp4_avcc, bytes, |it| it)?;
-    Ok(Avcc::of(sets, &it))
+    Avcc::of(sets, &it)
 }
 
 /// The sample entry of AVC video (ISO/IEC 14496-15, 5.4.2).
@@ -324,7 +332,7 @@ pub struct Avc1 {
 /// Reads the `avc1` at the front of the bytes, header included.
 pub fn avc1(bytes: &[u8]) -> Result<Avc1> {
     let (sets, it) = with_sets(raw::mp4_avc1, bytes, |it: &Avc1Box| &it.avcc)?;
-    Ok(Avc1 { visual: it.visual, avcc: Avcc::of(sets, &it.avcc) })
+    Ok(Avc1 { visual: it.visual, avcc: Avcc::of(sets, &it.avcc)? })
 }
 
 /// Defines functions that read a box of fixed fields.
@@ -332,9 +340,8 @@ macro_rules! reads {
     ($($(#[$words:meta])* $name:ident, $raw:ident: $fields:ty;)*) => {
         $($(#[$words])*
         pub fn $name(bytes: &[u8]) -> Result<$fields> {
-            let mut found = <$fields>::default();
             // SAFETY: as of `filled`.
-            result_of(unsafe { raw::$raw(bytes.as_ptr(), bytes.len(), &mut found) }, found)
+            read_by(|found| unsafe { raw::$raw(bytes.as_ptr(), bytes.len(), found) })
         })*
     };
 }
@@ -391,10 +398,9 @@ impl Mp4a {
 
 /// Reads the `mp4a` at the front of the bytes, header included.
 pub fn mp4a(bytes: &[u8]) -> Result<Mp4a> {
-    let mut found = Mp4aBox::default();
     // SAFETY: as of `filled`.
-    let status = unsafe { raw::mp4_mp4a(bytes.as_ptr(), bytes.len(), &mut found) };
-    result_of(status, Mp4a::of(&found))
+    let found = read_by(|found| unsafe { raw::mp4_mp4a(bytes.as_ptr(), bytes.len(), found) });
+    found.map(|it| Mp4a::of(&it))
 }
 
 /// A sample entry of one of the types that are read.
@@ -425,7 +431,7 @@ const TX3G: u32 = 0x7478_3367;
 pub fn stsd(bytes: &[u8]) -> Result<Stsd> {
     let (sets, it) = with_sets(raw::mp4_stsd, bytes, |it: &StsdBox| &it.avc1.avcc)?;
     let entry = match it.entry {
-        AVC1 => Some(Entry::Avc1(Avc1 { visual: it.avc1.visual, avcc: Avcc::of(sets, &it.avc1.avcc) })),
+        AVC1 => Some(Entry::Avc1(Avc1 { visual: it.avc1.visual, avcc: Avcc::of(sets, &it.avc1.avcc)? })),
         HEV1 => Some(Entry::Hev1(it.hev1)),
         VP09 => Some(Entry::Vp09(it.vp09)),
         MP4A => Some(Entry::Mp4a(Mp4a::of(&it.mp4a))),
@@ -442,7 +448,7 @@ pub fn write_stsd(it: &Stsd) -> Result<Vec<u8>> {
     let mut sets = Sets::default();
     match &it.entry {
         Some(Entry::Avc1(entry)) => {
-            let (found, avcc) = entry.avcc.fields();
+            let (found, avcc) = entry.avcc.fields()?;
             (fields.entry, fields.avc1, sets) = (AVC1, Avc1Box { avcc, visual: entry.visual }, found);
         }
         Some(Entry::Hev1(entry)) => (fields.entry, fields.hev1) = (HEV1, *entry),

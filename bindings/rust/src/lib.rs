@@ -3,6 +3,7 @@
 //! What each call returns for each bytes is proved of the library; of this crate, which passes pointers, nothing is.
 //! The page `docs/RUST.md` has examples.
 
+use std::collections::TryReserveError;
 use std::error;
 use std::fmt;
 
@@ -71,6 +72,12 @@ impl fmt::Display for Error {
 
 impl error::Error for Error {}
 
+impl From<TryReserveError> for Error {
+    fn from(_: TryReserveError) -> Error {
+        Error::OutOfMemory
+    }
+}
+
 pub type Result<T> = std::result::Result<T, Error>;
 
 fn result_of<T>(status: u32, value: T) -> Result<T> {
@@ -79,6 +86,26 @@ fn result_of<T>(status: u32, value: T) -> Result<T> {
     } else {
         Err(Error::from(status))
     }
+}
+
+/// Returns the struct that a call fills.
+fn read_by<S: Default>(call: impl FnOnce(&mut S) -> u32) -> Result<S> {
+    let mut found = S::default();
+    result_of(call(&mut found), found)
+}
+
+/// Returns an empty vector with room for `count` values.
+fn roomy<R>(count: usize) -> Result<Vec<R>> {
+    let mut rows = Vec::new();
+    rows.try_reserve_exact(count)?;
+    Ok(rows)
+}
+
+/// Returns a vector of `count` default values.
+fn defaults<R: Clone + Default>(count: usize) -> Result<Vec<R>> {
+    let mut rows = roomy(count)?;
+    rows.resize(count, R::default());
+    Ok(rows)
 }
 
 /// A summary that a function fills: the number of rows, and perhaps more.
@@ -126,8 +153,7 @@ fn filled_by<R: Clone + Default, S: Summary>(call: impl Fn(&mut Vec<R>, &mut S) 
     let (mut rows, mut found) = (Vec::new(), S::default());
     let mut status = call(&mut rows, &mut found);
     if status == raw::NO_ROOM {
-        rows.try_reserve_exact(found.count()).map_err(|_| Error::OutOfMemory)?;
-        rows.resize(found.count(), R::default());
+        rows = defaults(found.count())?;
         status = call(&mut rows, &mut found);
     }
     result_of(status, (rows, found))
@@ -142,7 +168,7 @@ fn written(call: impl Fn(&mut Vec<u8>, &mut usize) -> u32) -> Result<Vec<u8>> {
 /// the codec doesn't read are skipped by their size: so a `moov` is not looked into.
 pub fn check(bytes: &[u8]) -> Result<()> {
     // SAFETY: the slice has so many bytes, all with values.
-    result_of(unsafe { raw::mp4_check(bytes.as_ptr(), bytes.len()) }, ())
+    read_by(|_: &mut ()| unsafe { raw::mp4_check(bytes.as_ptr(), bytes.len()) })
 }
 
 /// Lists the boxes at the top level of the bytes, in their order, without reading what is in them.
@@ -172,11 +198,12 @@ pub fn fields(bytes: &[u8]) -> Result<String> {
 /// The box at a path over the bytes of a file, as `moov/trak[1]/mdia/mdhd`: `[1]` is the second box of its code in the
 /// box around it, and no number the first. None if there is none; invalid data if the text is no path.
 pub fn find(bytes: &[u8], path: &str) -> Result<Option<Place>> {
-    let mut place = Place::default();
     // SAFETY: as of `filled`.
-    match unsafe { raw::mp4_find(bytes.as_ptr(), bytes.len(), path.as_ptr(), path.len(), &mut place) } {
-        raw::BOX_NOT_FOUND => Ok(None),
-        status => result_of(status, Some(place)),
+    let found =
+        read_by(|place| unsafe { raw::mp4_find(bytes.as_ptr(), bytes.len(), path.as_ptr(), path.len(), place) });
+    match found {
+        Err(Error::BoxNotFound) => Ok(None),
+        found => found.map(Some),
     }
 }
 
@@ -219,7 +246,7 @@ pub fn status_text(status: u32) -> String {
     let found = filled_by(|rows: &mut Vec<u8>, count: &mut usize| unsafe {
         raw::mp4_status_text(status, rows.as_mut_ptr(), rows.len(), count)
     });
-    found.map(|it| String::from_utf8_lossy(&it.0).into_owned()).unwrap_or_default()
+    found.map(|it| String::from_utf8(it.0).unwrap_or_default()).unwrap_or_else(|why| why.to_string())
 }
 
 /// What a table has.

@@ -3,7 +3,7 @@
 use std::io::{self, Read, Seek, SeekFrom};
 
 use crate::rows::bytes_at;
-use crate::{raw, result_of, Error, Result};
+use crate::{defaults, raw, read_by, Error, Result};
 
 /// What is where a box should begin.
 #[derive(Clone, Copy, Debug, PartialEq, Eq, Hash)]
@@ -89,7 +89,9 @@ pub fn tree(file: &[u8]) -> Result<Vec<TreeBox>> {
     let mut boxes = Vec::new();
     while walk.0.wanted > 0 {
         let begin = walk.0.position as usize;
-        boxes.push(walk.next(&file[begin..begin + walk.0.wanted as usize])?);
+        let found = walk.next(&file[begin..begin + walk.0.wanted as usize])?;
+        boxes.try_reserve(1)?;
+        boxes.push(found);
     }
     Ok(boxes)
 }
@@ -98,19 +100,23 @@ pub fn tree(file: &[u8]) -> Result<Vec<TreeBox>> {
 pub fn tree_of<F: Read + Seek>(file: &mut F) -> io::Result<Vec<TreeBox>> {
     let mut walk = Walk::over(file.seek(SeekFrom::End(0))?).map_err(failure)?;
     let mut boxes = Vec::new();
-    let mut bytes = Vec::new();
     while walk.0.wanted > 0 {
         file.seek(SeekFrom::Start(walk.0.position))?;
-        bytes.resize(walk.0.wanted as usize, 0);
+        let mut bytes = defaults(walk.0.wanted as usize).map_err(failure)?;
         file.read_exact(&mut bytes)?;
-        boxes.push(walk.next(&bytes).map_err(failure)?);
+        let found = walk.next(&bytes).map_err(failure)?;
+        boxes.try_reserve(1).map_err(|_| failure(Error::OutOfMemory))?;
+        boxes.push(found);
     }
     Ok(boxes)
 }
 
-/// Returns an error as one of reading.
+/// Returns an error as one of reading. It takes no memory where there is none.
 fn failure(why: Error) -> io::Error {
-    io::Error::new(io::ErrorKind::Other, why)
+    match why {
+        Error::OutOfMemory => io::ErrorKind::OutOfMemory.into(),
+        why => io::Error::new(io::ErrorKind::Other, why),
+    }
 }
 
 /// A walk, which wants so many bytes at a position of the file.
@@ -118,15 +124,13 @@ struct Walk(raw::Walk);
 
 impl Walk {
     fn over(length: u64) -> Result<Walk> {
-        let mut walk = raw::Walk::default();
         // SAFETY: the walk is there, and is written whole.
-        result_of(unsafe { raw::mp4_walk_begin(length, &mut walk) }, Walk(walk))
+        read_by(|walk| unsafe { raw::mp4_walk_begin(length, walk) }).map(Walk)
     }
 
     fn next(&mut self, bytes: &[u8]) -> Result<TreeBox> {
-        let mut found = raw::Box::default();
         // SAFETY: the slice has so many bytes; the walk is as the library left it, since nothing else changes it.
-        let status = unsafe { raw::mp4_walk_next(bytes.as_ptr(), bytes.len(), &mut self.0, &mut found) };
-        result_of(status, TreeBox::from(found))
+        let found = read_by(|found| unsafe { raw::mp4_walk_next(bytes.as_ptr(), bytes.len(), &mut self.0, found) });
+        found.map(TreeBox::from)
     }
 }
