@@ -1,7 +1,7 @@
 //! Boxes of strings and references, and sample entries: what is read and written.
 
 use crate::raw::{Avc1Box, AvccBox, DataBox, DrefBox, EmsgBox, FtypBox, HdlrBox, Mp4aBox, StsdBox, UrlBox};
-use crate::{defaults, filled, raw, read_by, result_of, roomy, written, Error, Result, Summary};
+use crate::{defaults, filled, library, raw, read_by, result_of, roomy, written, Error, Result, Summary};
 
 pub use crate::raw::{Esds, Hev1, Hvcc, Tx3g, Visual, Vp09, Vpcc};
 
@@ -184,6 +184,7 @@ pub struct Emsg {
 
 /// Reads the `emsg` at the front of the bytes, header included.
 pub fn emsg(bytes: &[u8]) -> Result<Emsg> {
+    library()?;
     let (mut scheme, mut value, mut message) = (Vec::new(), Vec::new(), Vec::new());
     let mut it = EmsgBox::default();
     // SAFETY: as of `filled`.
@@ -301,6 +302,7 @@ type Reads<S> = unsafe extern "C" fn(*const u8, usize, *mut usize, usize, *mut u
 
 /// Asks how many sets there are, by the fields, and then for the sets.
 fn with_sets<S: Default>(reads: Reads<S>, bytes: &[u8], avcc: fn(&S) -> &AvccBox) -> Result<(Sets, S)> {
+    library()?;
     let (mut lengths, mut sets, mut found) = (Vec::new(), Vec::new(), S::default());
     // SAFETY: as of `filled`.
     let call = |lengths: &mut Vec<usize>, sets: &mut Vec<u8>, found: &mut S| unsafe {

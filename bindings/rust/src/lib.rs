@@ -34,6 +34,8 @@ pub enum Error {
     NoTrack,
     /// Boxes of this type are not read.
     UnknownBox,
+    /// The library is of this version, a number such as `version` returns, and this crate needs another one.
+    OtherVersion(u32),
     /// The tables of a track disagree; `raw` and the header have the number of each way.
     TablesDisagree(u32),
     /// Another status of the library.
@@ -64,6 +66,11 @@ impl fmt::Display for Error {
             Error::OutOfMemory => f.write_str("out of memory"),
             Error::NoTrack => f.write_str(&status_text(raw::NO_TRACK)),
             Error::UnknownBox => f.write_str(&status_text(raw::UNKNOWN_BOX)),
+            Error::OtherVersion(found) => {
+                let (major, minor, patch) = (found / 1_000_000, found / 1000 % 1000, found % 1000);
+                write!(f, "libmp4_box_codec is version {major}.{minor}.{patch}, and this crate needs ")?;
+                write!(f, "version {MAJOR}.{MINOR}.x")
+            }
             Error::TablesDisagree(status) => f.write_str(&status_text(*status)),
             Error::Other(status) => write!(f, "status {status}"),
         }
@@ -88,8 +95,38 @@ fn result_of<T>(status: u32, value: T) -> Result<T> {
     }
 }
 
+/// Returns the number that a text of digits says.
+const fn number(text: &str) -> u32 {
+    let (digits, mut at, mut found) = (text.as_bytes(), 0, 0);
+    while at < digits.len() {
+        found = found * 10 + (digits[at] - b'0') as u32;
+        at += 1;
+    }
+    found
+}
+
+const MAJOR: u32 = number(env!("CARGO_PKG_VERSION_MAJOR"));
+const MINOR: u32 = number(env!("CARGO_PKG_VERSION_MINOR"));
+
+/// Returns whether the library of a version has the calls of a version of this crate. Before 1.0.0 a minor version may
+/// change them, so the major and the minor version have to be equal.
+fn is_for(version: u32, major: u32, minor: u32) -> bool {
+    version / 1_000_000 == major && version / 1000 % 1000 == minor
+}
+
+/// Refuses a library of another version. All functions but `version` ask this before they call the library.
+fn library() -> Result<()> {
+    let found = version();
+    if is_for(found, MAJOR, MINOR) {
+        Ok(())
+    } else {
+        Err(Error::OtherVersion(found))
+    }
+}
+
 /// Returns the struct that a call fills.
 fn read_by<S: Default>(call: impl FnOnce(&mut S) -> u32) -> Result<S> {
+    library()?;
     let mut found = S::default();
     result_of(call(&mut found), found)
 }
@@ -150,6 +187,7 @@ fn filled<R: Clone + Default, S: Summary>(fill: Fills<R, S>, bytes: &[u8]) -> Re
 
 /// Asks by a call how many rows there are, and then for the rows.
 fn filled_by<R: Clone + Default, S: Summary>(call: impl Fn(&mut Vec<R>, &mut S) -> u32) -> Result<(Vec<R>, S)> {
+    library()?;
     let (mut rows, mut found) = (Vec::new(), S::default());
     let mut status = call(&mut rows, &mut found);
     if status == raw::NO_ROOM {
@@ -339,3 +377,25 @@ pub fn trun(bytes: &[u8]) -> Result<Run> {
 #[cfg(doctest)]
 #[doc = include_str!("../../../docs/RUST.md")]
 struct Page;
+
+#[cfg(test)]
+mod tests {
+    use super::{is_for, number, version, MAJOR, MINOR};
+
+    /// A library is for the crate if its major and minor version are those of the crate: here 0.1 and 12.34.
+    #[test]
+    fn versions() {
+        for found in [1000, 1001, 1999] {
+            assert!(is_for(found, 0, 1), "{found}");
+        }
+        for found in [0, 999, 2000, 10_000, 11_000, 1_000_000, 1_001_000, 100_001_000, u32::MAX] {
+            assert!(!is_for(found, 0, 1), "{found}");
+        }
+        assert!(is_for(12_034_056, 12, 34));
+        for found in [12_033_056, 12_035_056, 11_034_056, 13_034_056, 1_234_000, 12_340_000] {
+            assert!(!is_for(found, 12, 34), "{found}");
+        }
+        assert_eq!([number("0"), number("7"), number("1203")], [0, 7, 1203]);
+        assert!(is_for(version(), MAJOR, MINOR));
+    }
+}
