@@ -1,6 +1,7 @@
 """The boxes of MP4 files (ISO/IEC 14496-12), by libmp4_box_codec.
 
-Bytes are whatever has a buffer: `bytes`, a `bytearray`, a `memoryview`, an `mmap.mmap` of a file. They are not copied.
+Bytes are whatever has a buffer: `bytes`, a `bytearray`, a `memoryview`, an `mmap.mmap` of a file. They are not copied,
+so no other thread may write to them during a call; docs/PYTHON.md has all rules.
 
 >>> import mp4_box_codec
 >>> stts = bytes.fromhex("00000018 73747473 00000000 00000001 00000003 0000000a")
