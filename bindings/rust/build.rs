@@ -2,16 +2,39 @@
 //! `~/.local/lib`, `/usr/local/lib` and `/usr/lib`. The static library is taken where it is there.
 
 use std::env;
+use std::ffi::OsString;
+use std::mem;
+use std::os::unix::ffi::OsStringExt;
 use std::path::{Path, PathBuf};
 use std::process::Command;
 
 const FOLDER: &str = "MP4_BOX_CODEC_LIB_DIR";
 
+/// Splits what pkg-config writes into words, as a shell does: the byte after a backslash is part of its word.
+fn words_of(said: &[u8]) -> Vec<Vec<u8>> {
+    let (mut words, mut word, mut is_escaped) = (Vec::new(), Vec::new(), false);
+    for &byte in said {
+        if !is_escaped && byte == b'\\' {
+            is_escaped = true;
+            continue;
+        }
+        if is_escaped || !byte.is_ascii_whitespace() {
+            word.push(byte);
+        } else {
+            words.push(mem::take(&mut word));
+        }
+        is_escaped = false;
+    }
+    words.push(word);
+    words
+}
+
 /// The folders that pkg-config names.
 fn configured() -> Vec<PathBuf> {
     let ran = Command::new("pkg-config").args(["--libs-only-L", "mp4_box_codec"]).output();
-    let said = ran.map(|it| String::from_utf8_lossy(&it.stdout).into_owned()).unwrap_or_default();
-    said.split_whitespace().filter_map(|it| it.strip_prefix("-L")).map(PathBuf::from).collect()
+    let said = ran.map(|it| it.stdout).unwrap_or_default();
+    let folders = words_of(&said);
+    folders.iter().filter_map(|it| it.strip_prefix(b"-L")).map(|it| OsString::from_vec(it.to_vec()).into()).collect()
 }
 
 fn has(folder: &Path, ending: &str) -> bool {
