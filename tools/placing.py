@@ -6,7 +6,7 @@ import os
 import shutil
 import tempfile
 
-# What an install has put below the prefix: a path a line.
+# The list of the files that installs have put below the prefix: a path a line.
 LISTED = os.path.join("share", "mp4-box-codec", "installed")
 
 
