@@ -114,10 +114,11 @@ struct mp4_span {
 /* A box at a path, and how long its header is. */
 struct mp4_place {
     uint64_t position; /* the offset of its first byte, where its header begins */
-    uint64_t length;   /* the number of its bytes with the header, as the header says it, also of a box that is cut */
+    uint64_t length;   /* the number of its bytes with the header, as the header says it: also of a box that is cut, and
+                          of one whose size is smaller than its header */
     uint64_t header_length; /* 8 or 16: its content begins so many bytes after its position */
     uint32_t code;          /* the four characters of its code, the first in the highest byte */
-    uint8_t is_whole;       /* 1 if all its bytes are there, else 0 */
+    uint8_t is_whole;       /* 1 if all its bytes are there, and its size counts its header; else 0 */
 };
 
 /* A sample of a track. Times are in the timescale of the media, which its mdhd has. */
@@ -542,7 +543,7 @@ uint32_t mp4_normal(const uint8_t *bytes, size_t length, uint8_t *out, size_t pl
 /* Finds the box at a path over the bytes of a file: codes of four characters with '/' between them, each with the
    number of the box among those of its code in brackets, as in moov/trak[1]/mdia/mdhd. Numbers count from 0, and none
    means 0. The text is UTF-8, has no zero after it, and is passed as MP4_TEXT("moov/trak"). MP4_BOX_NOT_FOUND if there
-   is no such box, and MP4_INVALID_DATA if the text is no path. */
+   is no such box or its header isn't whole, and MP4_INVALID_DATA if the text is no path. */
 #define MP4_TEXT(text) ((const uint8_t *)("" text)), (sizeof(text) - 1)
 uint32_t mp4_find(const uint8_t *bytes, size_t length, const uint8_t *path, size_t path_length,
                   struct mp4_place *place);

@@ -203,6 +203,9 @@ fn others(stream: &[u8]) {
     assert_eq!(find(b"free", &mut place), OK);
     let free = u32::from_be_bytes(*b"free");
     assert_eq!(place, Place { position: 0, length: 17, header_length: 16, code: free, is_whole: 1 });
+    let small = b"\0\0\0\x01free\0\0\0\0\0\0\0\x0F!!!!";
+    assert_eq!(unsafe { mp4_find(small.as_ptr(), small.len(), b"free".as_ptr(), 4, &mut place) }, OK);
+    assert_eq!(place, Place { position: 0, length: 15, header_length: 16, code: free, is_whole: 0 });
     let samples = unsafe { mp4_samples(stream.as_ptr(), stream.len(), 1, rows.as_mut_ptr(), 1, &mut count) };
     assert_eq!((samples, count, rows), (BOX_NOT_FOUND, 9, [Sample::default()]));
     let samples = unsafe { mp4_fragment_samples(stream.as_ptr(), stream.len(), 1, rows.as_mut_ptr(), 1, &mut count) };

@@ -280,6 +280,85 @@ static void try_find(void) {
     EXPECT(mp4_find(NULL, 0, NULL, 0, &place) == MP4_INVALID_DATA && place.length == 16);
 }
 
+/* A box whose size is smaller than its header: what its header says, at the end of a page. */
+
+/* Writes `number` big-endian into the `width` bytes at the front of `to`. */
+static void put_number(uint8_t *to, size_t width, uint64_t number) {
+    while (width > 0) {
+        to[--width] = (uint8_t)number;
+        number >>= 8;
+    }
+}
+
+/* Calls mp4_find for a file of `length` bytes: a moov, unless `outer` is 0, in whose last `inner` bytes a trak begins
+ * with the size `size`, and if that is 1 the 64-bit size `large`. Bytes after the header are zeros. */
+static uint32_t find_trak(size_t outer, size_t inner, size_t length, uint32_t size, uint64_t large,
+                          struct mp4_place *place) {
+    uint8_t *bytes = at_page_end(length), head[16];
+    const char *text = outer == 0 ? "trak" : "moov/trak";
+    uint32_t status;
+    memset(bytes, 0, length);
+    if (outer > 0) {
+        put_number(bytes, 4, outer + inner);
+        memcpy(bytes + 4, "moov", 4);
+    }
+    put_number(head, 4, size);
+    memcpy(head + 4, "trak", 4);
+    put_number(head + 8, 8, size == 1 ? large : 0);
+    memcpy(bytes + outer, head, inner < sizeof head ? inner : sizeof head);
+    memset(place, FILLER, sizeof *place);
+    status = mp4_find(bytes, length, (const uint8_t *)text, strlen(text), place);
+    give_back(bytes, length);
+    return status;
+}
+
+static int is_trak(const struct mp4_place *place, uint64_t position, uint64_t length, uint64_t header_length,
+                   int is_whole) {
+    return place->position == position && place->length == length && place->header_length == header_length &&
+           place->code == 0x7472616B && place->is_whole == is_whole;
+}
+
+static void try_small_boxes(void) {
+    static const size_t MORE[] = {0, 1, 8, 12, 20};
+    struct mp4_place place;
+    size_t i, inner;
+    uint32_t size;
+    uint64_t large;
+    subject = "mp4_find of a box whose size is smaller than its header";
+    for (i = 0; i < sizeof MORE / sizeof *MORE; i++) {
+        inner = 8 + MORE[i];
+        for (size = 2; size < 8; size++) {
+            EXPECT(find_trak(0, inner, inner, size, 0, &place) == MP4_OK);
+            EXPECT(is_trak(&place, 0, size, 8, 0));
+        }
+        for (size = 0; size < 8; size += size == 0 ? 2 : 1) {
+            EXPECT(find_trak(8, inner, 8 + inner, size, 0, &place) == MP4_OK);
+            EXPECT(is_trak(&place, 8, size, 8, 0));
+        }
+        inner = 16 + MORE[i];
+        for (large = 1; large < 16; large++) {
+            EXPECT(find_trak(0, inner, inner, 1, large, &place) == MP4_OK);
+            EXPECT(is_trak(&place, 0, large, 16, 0));
+        }
+        for (large = 0; large < 16; large++) {
+            EXPECT(find_trak(8, inner, 8 + inner, 1, large, &place) == MP4_OK);
+            EXPECT(is_trak(&place, 8, large, 16, 0));
+        }
+        /* at the top level a size of 0 means up to the end of the file, and the smallest sizes are those of headers */
+        EXPECT(find_trak(0, inner, inner, 0, 0, &place) == MP4_OK && is_trak(&place, 0, inner, 8, 1));
+        EXPECT(find_trak(0, inner, inner, 1, 0, &place) == MP4_OK && is_trak(&place, 0, inner, 16, 1));
+        EXPECT(find_trak(8, inner, 8 + inner, 8, 0, &place) == MP4_OK && is_trak(&place, 8, 8, 8, 1));
+        EXPECT(find_trak(8, inner, 8 + inner, 1, 16, &place) == MP4_OK && is_trak(&place, 8, 16, 16, 1));
+    }
+    /* a header that isn't whole says no length: the file ends in it, or the box around it does */
+    for (inner = 8; inner < 16; inner++) {
+        EXPECT(find_trak(0, inner, inner, 1, 99, &place) == MP4_BOX_NOT_FOUND && is_filler(&place, sizeof place));
+        EXPECT(find_trak(8, inner, 8 + inner, 1, 99, &place) == MP4_BOX_NOT_FOUND);
+        EXPECT(find_trak(8, inner, 40, 1, 99, &place) == MP4_BOX_NOT_FOUND && is_filler(&place, sizeof place));
+    }
+    EXPECT(find_trak(0, 7, 7, 7, 0, &place) == MP4_BOX_NOT_FOUND && is_filler(&place, sizeof place));
+}
+
 /* What the library says of itself. */
 
 static void try_about(void) {
@@ -328,6 +407,7 @@ int main(int arguments, char **argument) {
         return fwrite(FILE_BYTES, 1, LENGTH, stdout) != LENGTH;
     EXPECT(LENGTH == 449);
     try_find();
+    try_small_boxes();
     try_samples();
     try_fragments();
     try_about();

@@ -273,12 +273,39 @@ static void look_at_text(const uint8_t *text, size_t count, const uint8_t *bytes
             fail("mp4_fields", "a character that JSON doesn't allow", bytes, length);
 }
 
-/* Looks at the box at a path: its header is in the bytes, and if it is whole it ends in them. */
+/* Returns the big-endian number in the `width` bytes at the front of `bytes`. */
+static uint64_t number_of(const uint8_t *bytes, size_t width) {
+    uint64_t number = 0;
+    for (; width > 0; width--)
+        number = number << 8 | *bytes++;
+    return number;
+}
+
+/* Returns whether the header at the position of `place` says what `place` has of it. A whole box with a size of 0 goes
+   up to the end. */
+static int is_stated(const struct mp4_place *place, const uint8_t *bytes, size_t length) {
+    const uint8_t *head = bytes + place->position;
+    uint64_t size, header_length;
+    if (place->position > length || length - place->position < 8)
+        return 0;
+    size = number_of(head, 4);
+    header_length = size == 1 ? 16 : 8;
+    if (length - place->position < header_length)
+        return 0;
+    if (size == 1)
+        size = number_of(head + 8, 8);
+    if (size == 0 && place->is_whole)
+        size = length - place->position;
+    return place->length == size && place->header_length == header_length && place->code == number_of(head + 4, 4);
+}
+
+/* Looks at the box at a path: it is what its header says, which is in the bytes, and if it is whole it ends in them. */
 static void look_at_path(const uint8_t *path, size_t path_length, const uint8_t *bytes, size_t length) {
     struct mp4_place place = {0, 0, 0, 0, 0};
     uint32_t status = mp4_find(bytes, length, path, path_length, &place);
-    if (status == MP4_OK ? place.position + place.header_length > length || place.length < place.header_length ||
-                               place.is_whole > (place.length <= length - place.position)
+    if (status == MP4_OK ? !is_stated(&place, bytes, length) ||
+                               place.is_whole > (place.length >= place.header_length &&
+                                                 place.length <= length - place.position)
                          : status != MP4_BOX_NOT_FOUND && status != MP4_INVALID_DATA)
         fail("mp4_find", "a box at another place, or a status that can't be", bytes, length);
 }
@@ -350,6 +377,8 @@ static void look_at(const uint8_t *bytes, size_t length, FILE *out) {
     look_at_path(MP4_TEXT("moov/trak[1]/mdia/minf/stbl/stts"), bytes, length);
     look_at_path(MP4_TEXT("moov/trak"), bytes, length);
     look_at_path(bytes, length < 12 ? length : 12, bytes, length);
+    if (length >= 8)
+        look_at_path(bytes + 4, 4, bytes, length);
     for (i = 0; i < COUNT; i++) {
         status = tried(&FUNCTIONS[i], bytes, length, out, &rows, &count);
         if (status == MP4_OK && FUNCTIONS[i].call == call_mp4_list)

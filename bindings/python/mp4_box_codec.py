@@ -181,7 +181,8 @@ class Span(NamedTuple):
 
 
 class Place(NamedTuple):
-    """A box at a path: as a span, with the length of its header, and whether all its bytes are there."""
+    """A box at a path: as a span, with the length of its header, and `is_whole`. This is 0 of a box that is cut, and of
+    one whose `length`, as its header says it, is smaller than its header."""
     position: int
     length: int
     header_length: int
@@ -944,7 +945,8 @@ def fields(data: Any) -> Dict[str, Any]:
 
 
 def find(data: Any, path: str) -> Optional[Place]:
-    """The box at a path over the bytes of a file, as `moov/trak[1]/mdia/mdhd`; None if there is none."""
+    """Returns the box at `path` over the bytes of a file, such as `moov/trak[1]/mdia/mdhd`, or None if there is none or
+    its header isn't whole."""
     place, text = _PLACE(), _text(path, "path")
     with _Bytes(data) as (address, length):
         status = _find(address, length, text, len(text), place)

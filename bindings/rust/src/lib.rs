@@ -234,7 +234,8 @@ pub fn fields(bytes: &[u8]) -> Result<String> {
 }
 
 /// The box at a path over the bytes of a file, as `moov/trak[1]/mdia/mdhd`: `[1]` is the second box of its code in the
-/// box around it, and no number the first. None if there is none; invalid data if the text is no path.
+/// box around it, and no number the first. None if there is none or its header isn't whole; invalid data if the text is
+/// no path.
 pub fn find(bytes: &[u8], path: &str) -> Result<Option<Place>> {
     // SAFETY: as of `filled`.
     let found =

@@ -43,13 +43,14 @@ impl Span {
 pub struct Place {
     /// The offset of its first byte, where its header begins.
     pub position: u64,
-    /// The number of its bytes with the header, as the header says it, also of a box that is cut.
+    /// The number of its bytes with the header, as the header says it: also of a box that is cut, and of one whose size
+    /// is smaller than its header.
     pub length: u64,
     /// 8 or 16: its content begins so many bytes after its position.
     pub header_length: u64,
     /// The four characters of its code, the first in the highest byte.
     pub code: u32,
-    /// 1 if all its bytes are there, else 0.
+    /// 1 if all its bytes are there, and its size counts its header; else 0.
     pub is_whole: u8,
 }
 

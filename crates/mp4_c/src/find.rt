@@ -1,10 +1,11 @@
 //! The box at a path.
 
 ghost use Rattle.std.specs.Prelude.{◌≡◌};
-ghost use Rattle.mp4_c.specs.Find.{Finds, FindsAt, HandsFound, place_of};
+ghost use Rattle.mp4_c.specs.Find.{Finds, FindsAt, HandsFound, place_as, place_of, stated_place};
 
 use mp4_c_base::status::{BOX_NOT_FOUND, INVALID_DATA, OK, OUT_OF_MEMORY};
-use mp4_tree::{BoxPath, PathError, TreeBox, find};
+use mp4_frame::{bytes_from, u32_at, u64_at};
+use mp4_tree::{BoxPath, PathError, TreeBox, What, find};
 use std::alloc::Global;
 use std::str;
 
@@ -14,24 +15,25 @@ use std::str;
 pub struct Place {
     /// The offset of the first byte of the box, where its header begins.
     pub position: u64,
-    /// The number of bytes of the box, with its header, as the header says it.
+    /// The number of bytes of the box, with its header, as the header says it: also of a box that is cut, and of one
+    /// whose size is smaller than its header.
     pub length: u64,
     /// The number of bytes of the header: 8 or 16.
     pub header_length: u64,
     /// The four characters of its code, the first in the highest byte.
     pub code: u32,
-    /// 1 if the whole box is there, else 0.
+    /// 1 if the whole box is there, and its size counts its header; else 0.
     pub is_whole: u8,
 }
 
-/// A box as C has it.
-fn place_of(found: &TreeBox) -> Place
-    ensures { result ≡ place_of found.now }
+/// Returns `found` as C has it, with a header of `header_length` bytes that says `length`.
+fn place_as(found: &TreeBox, header_length: u64, length: u64) -> Place
+    ensures { result ≡ place_as found.now header_length length }
 {
     Place {
         position: found.position,
-        length: found.length,
-        header_length: found.header_length,
+        length,
+        header_length,
         code: match found.code {
             Some(code) => u32::from(code),
             None => 0,
@@ -40,13 +42,45 @@ fn place_of(found: &TreeBox) -> Place
     }
 }
 
-/// Hands over a box, if it is found.
-fn hand_found(found: Option<TreeBox>, place: &mut Place) -> u32
-    ensures { HandsFound found result place.old place.new }
+/// Returns `found` as its header says it, whose bytes are at the front of `head`. None if `head` ends before the header
+/// does.
+fn stated_place(found: &TreeBox, head: &[u8]) -> Option<Place>
+    ensures { result ≡ stated_place found.now head.now }
 {
-    match found {
-        Some(found) => {
-            *place = place_of(&found);
+    if head.len() < 8 {
+        return None;
+    }
+    let size = u32_at(head, 0);
+    if size != 1 {
+        return Some(place_as(found, 8, u64::from(size)));
+    }
+    if head.len() < 16 {
+        return None;
+    }
+    Some(place_as(found, 16, u64_at(head, 8)))
+}
+
+/// Returns `found` as C has it, a box of the file `bytes`. None if its header isn't whole.
+fn place_of(bytes: &[u8], found: &TreeBox) -> Option<Place>
+    ensures { result ≡ place_of bytes.now found.now }
+{
+    match found.what {
+        What::NoHeader => None,
+        What::Small => stated_place(found, bytes_from(bytes, found.position)),
+        _ => Some(place_as(found, found.header_length, found.length)),
+    }
+}
+
+/// Hands over `found`, a box of the file `bytes`, if there is one and its header is whole.
+fn hand_found(bytes: &[u8], found: Option<TreeBox>, place: &mut Place) -> u32
+    ensures { HandsFound bytes.now found result place.old place.new }
+{
+    let Some(found) = found else {
+        return BOX_NOT_FOUND;
+    };
+    match place_of(bytes, &found) {
+        Some(it) => {
+            *place = it;
             OK
         }
         None => BOX_NOT_FOUND,
@@ -58,7 +92,7 @@ fn find_at(alloc: Global, bytes: &[u8], path: &BoxPath, place: &mut Place) -> u3
     ensures { FindsAt bytes.now path.now.parts.items result place.old place.new }
 {
     match find(alloc, bytes, path) {
-        Ok(found) => hand_found(found, place),
+        Ok(found) => hand_found(bytes, found, place),
         Err(_) => OUT_OF_MEMORY,
     }
 }

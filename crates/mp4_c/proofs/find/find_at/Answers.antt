@@ -6,5 +6,6 @@ use Rattle.mp4_c.proofs.find.find_at.Goals as goal
 
 pub returns-in-Ok : goal.returns-in-Ok
 returns-in-Ok c = inl
-    (subst (λ (x : Option TreeBox). HandsFound x c.hand_found.result c.args.place.now c.hand_found.new.place)
+    (subst (λ (x : Option TreeBox).
+    HandsFound c.args.bytes.now x c.hand_found.result c.args.place.now c.hand_found.new.place)
     c.in-Ok.ensures c.hand_found.ensures)
