@@ -4,7 +4,6 @@ ghost use Rattle.std.specs.Prelude.{◌≡◌, OnOk, IfOk};
 ghost use Rattle.mp4_c_fields.specs.Fields.{IsFieldsText, PutsObject};
 ghost use Rattle.mp4_fields.specs.Nesting.{fields, Keeps};
 
-use json::Writer;
 use mp4_fields::{FieldSink, Result, put_handler};
 use mp4_more_fields::HasFields;
 use mp4_sinks::JsonSink;
@@ -41,6 +40,5 @@ pub fn text_of<B: HasFields>(alloc: Global, value: &B, handler: Option<&[u8]>) -
 {
     let mut sink = JsonSink::new(alloc);
     put_object(value, handler, &mut sink)?;
-    let out = std::mem::replace(&mut sink.out, Writer::new(Vec::new(alloc)));
-    Ok(out.into_inner())
+    sink.into_text()
 }

@@ -230,5 +230,5 @@ pub fn tree_json<B: Shown, S: Source>(
     }
     or_memory(end_levels(&mut begun, 0, &mut sink))?;
     or_memory(end_file(&mut sink))?;
-    Ok((sink.into_text(), faulty))
+    Ok((or_memory(sink.into_text())?, faulty))
 }

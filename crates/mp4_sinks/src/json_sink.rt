@@ -1,12 +1,16 @@
 //! The fields of a box as JSON.
 
-ghost use Rattle.std.specs.Prelude.{◌≡◌, [], ◌∷◌, ◌++◌, OnOk};
+ghost use Rattle.std.specs.Prelude.{◌≡◌, [], ◌∷◌, OnOk, IfOk};
+ghost use Rattle.std.specs.Str.{IsUtf8};
 ghost use Rattle.json.specs.Print.{print};
 ghost use Rattle.json.specs.Token.{string};
 ghost use Rattle.mp4_fields.specs.Nesting.{fields};
+ghost use Rattle.mp4_sinks.specs.Escaped.{escaped};
 ghost use Rattle.mp4_sinks.specs.Tokens.{Puts, PutsWhole, Adds, Since, code_text};
+ghost use Rattle.mp4_sinks.specs.declared.escape.Form.TheVariants as forms;
 
 use crate::code::push_latin;
+use crate::escape::into_json;
 use json::Writer;
 use mp4_fields::{FieldSink, Result, Value};
 use mp4_stream::{FourCC, Matrix};
@@ -32,12 +36,17 @@ impl JsonSink {
         }
     }
 
-    /// The text of what is written.
-    pub fn into_text(self) -> Vec<u8>
-        ensures text { result.items ≡ self.out.before ++ print self.out.tokens }
+    /// Returns the text of what is written, with the characters of `is_escaped` by their numbers, as `\u009b`.
+    pub fn into_text(self) -> Result<Vec<u8>>
+        ensures text { self.out.before ≡ []
+            → IfOk result (λ text. text.items ≡ escaped forms.Json (print self.out.tokens)) }
+        ensures utf8 { self.out.before ≡ [] → IfOk result (λ text. IsUtf8 text.items) }
     {
-        let JsonSink { alloc: _, out } = self;
-        out.into_inner()
+        let JsonSink { alloc, out } = self;
+        match String::from_utf8(out.into_inner()) {
+            Ok(text) => Ok(into_json(alloc, text)?.into_bytes()),
+            Err(error) => Ok(error.into_bytes()),
+        }
     }
 
     /// Writes a code: a text of four characters, each of the number of its byte.

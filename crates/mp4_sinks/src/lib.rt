@@ -2,6 +2,7 @@
 #![tactic(auto)]
 
 mod code;
+mod escape;
 mod json_sink;
 mod look;
 mod number;
@@ -9,6 +10,7 @@ mod text_sink;
 mod value_text;
 
 pub use code::{push_code, push_latin};
+pub use escape::{is_escaped, push_escaped, push_escaped_bytes};
 pub use json_sink::JsonSink;
 pub use look::Look;
 pub use number::push_number;

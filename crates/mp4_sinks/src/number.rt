@@ -2,6 +2,7 @@
 
 ghost use Rattle.std.specs.Prelude.{◌≡◌, ◌++◌, OnOk, decimal, string_bytes};
 
+use crate::escape::{Form, push_shown};
 use jiff::Timestamp;
 use mp4_fields::Result;
 use std::alloc::Global;
@@ -112,29 +113,22 @@ pub fn push_bytes(alloc: Global, bytes: &[u8], out: &mut String) -> Result<()> {
     Ok(())
 }
 
-/// Appends a character of a text between quotes: a quote and a backslash after a backslash, and what would end the line
-/// or move in it by its number.
-fn push_char(alloc: Global, c: char, out: &mut String) -> Result<()> {
+/// Appends `c` as a character of a text between quotes: a quote and a backslash after a backslash, and others as
+/// `push_escaped` does.
+fn push_quoted(c: char, out: &mut String) -> Result<()> {
     match c {
         '"' => out.push_str("\\\"")?,
         '\\' => out.push_str("\\\\")?,
-        '\n' => out.push_str("\\n")?,
-        '\0'..='\u{1F}' | '\u{7F}'..='\u{9F}' | '\u{2028}'..='\u{202E}' | '\u{2066}'..='\u{2069}' =>
-            {
-                let number = u32::from(c);
-                let text = format!(in alloc; "\\u{{{number:x}}}")?;
-                out.push_str(text.as_str())?;
-            }
-        _ => out.push(c)?,
+        _ => push_shown(Form::Text, c, out)?,
     }
     Ok(())
 }
 
 /// Appends a text between quotes.
-pub fn push_text(alloc: Global, text: &str, out: &mut String) -> Result<()> {
+pub fn push_text(text: &str, out: &mut String) -> Result<()> {
     out.push('"')?;
     for c in text.chars() {
-        push_char(alloc, c, out)?;
+        push_quoted(c, out)?;
     }
     out.push('"')?;
     Ok(())

@@ -96,7 +96,7 @@ pub fn push_value(alloc: Global, value: Value<'_>, out: &mut String) -> Result<(
         Value::MediaTime(time) => push_signed(time, out),
         Value::Code(code) => push_code(code, out),
         Value::Codes(codes) => push_codes(codes, out),
-        Value::Text(text) => push_text(alloc, text, out),
+        Value::Text(text) => push_text(text, out),
         Value::Bytes(bytes) => push_bytes(alloc, bytes, out),
         Value::Numbers(numbers) => push_numbers(numbers, out),
         Value::Matrix(matrix) => push_matrix(matrix, out),
