@@ -12,7 +12,7 @@ mod part;
 mod program;
 
 use command::argument_fault;
-use mp4_io::{Input, Output};
+use mp4_io::{Input, Output, Steady};
 use outcome::Outcome;
 use program::run_words;
 use std::env;
@@ -25,8 +25,8 @@ fn run(rt: &HostRuntime) -> Outcome {
         Err(e) => return Outcome::Failed(argument_fault(&e)),
     };
     let _program = words.next();
-    let mut input = Input::new(rt.stdin());
-    let mut output = Output::new(rt.stdout());
+    let mut input = Input::new(Steady::new(rt.stdin()));
+    let mut output = Output::new(Steady::new(rt.stdout()));
     run_words(rt.alloc(), words, &mut input, &mut output)
 }
 

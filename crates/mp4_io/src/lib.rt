@@ -4,8 +4,10 @@
 
 mod ends;
 mod failure;
+mod steady;
 mod whole;
 
 pub use ends::{Input, Output};
 pub use failure::Failure;
+pub use steady::{Steady, is_closed_pipe};
 pub use whole::{flush, pull_after, read_all, skip_all, write_all};
