@@ -28,6 +28,7 @@ use mp4_tree::Source;
 use outcome::Outcome;
 use program::{Show, inspect};
 use shown::ShownBox;
+use std::env::VarError;
 use std::io::{BufWriter, IsTerminal, Write};
 use std::process::ExitCode;
 use std::{env, fs, io};
@@ -40,10 +41,18 @@ fn width(rt: &HostRuntime) -> usize {
     }
 }
 
-/// Whether colours are not wanted, as `NO_COLOR` says if it is not empty.
+/// Returns whether `NO_COLOR` asks for no colours, which it does unless it is empty.
 fn is_colorless(rt: &HostRuntime) -> bool {
     match env::var(rt, "NO_COLOR") {
         Ok(word) => !word.is_empty(),
+        Err(error) => error == VarError::NotUnicode,
+    }
+}
+
+/// Returns whether the terminal knows no escapes: `TERM` is then `dumb`.
+fn is_dumb(rt: &HostRuntime) -> bool {
+    match env::var(rt, "TERM") {
+        Ok(word) => word.as_str() == "dumb",
         Err(_) => false,
     }
 }
@@ -61,7 +70,7 @@ fn look_of(rt: &HostRuntime, request: &Request) -> Look {
         } else {
             usize::MAX
         },
-        color: is_terminal && !is_colorless(rt),
+        color: is_terminal && !is_colorless(rt) && !is_dumb(rt),
     }
 }
 
