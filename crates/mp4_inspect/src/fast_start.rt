@@ -3,7 +3,7 @@
 
 use crate::outcome::Outcome;
 use mp4_faststart::{Cut, Refusal, write_fast_start};
-use mp4_io::{Failure, Output};
+use mp4_io::{Failure, Output, Steady, is_closed_pipe};
 use std::fs::File;
 use std::{fs, io};
 
@@ -41,9 +41,9 @@ fn are_same(rt: &HostRuntime, from: &str, to: &str) -> bool {
 
 /// Writes all of it into a file that is new.
 fn write_all(rt: &HostRuntime, source: File, file: File) -> Result<Option<Cut>, Refusal> {
-    let mut output = Output::new(file);
+    let mut output = Output::new(Steady::new(file));
     let cut = write_fast_start(rt.alloc(), source, &mut output)?;
-    if output.inner.sync_all().is_err() {
+    if output.inner.inner.sync_all().is_err() {
         return Err(Refusal::Failed(Failure::Write));
     }
     Ok(cut)
@@ -57,6 +57,7 @@ fn tell_done(rt: &HostRuntime, to: &str, done: Option<Cut>) -> Result<Outcome, F
     };
     match told {
         Ok(()) => Ok(Outcome::Sound),
+        Err(error) if is_closed_pipe(&error) => Ok(Outcome::Sound),
         Err(_) => Err(Failure::Write),
     }
 }

@@ -22,10 +22,10 @@ use failure::or_read;
 use fast_start::fast_start;
 use mp4_inspect_args::{Asked, Request, Rows, Task, request_of};
 use mp4_inspect_samples::{Choice, Form};
-use mp4_io::{Failure, Input, Output, flush, read_all, write_all};
+use mp4_io::{Failure, Input, Output, Steady, flush, is_closed_pipe, read_all, write_all};
 use mp4_sinks::Look;
 use mp4_tree::Source;
-use outcome::Outcome;
+use outcome::{Outcome, is_silent};
 use program::{Show, inspect};
 use shown::ShownBox;
 use std::env::VarError;
@@ -86,42 +86,52 @@ fn choice_of(request: &Request) -> Choice {
     }
 }
 
-/// Writes what is asked for of a file, and the faults of its tracks on standard error. Returns whether it has a fault.
+/// Says on standard error that a file could not be read. Nothing is said here of a failed write: that is said once, at
+/// the end.
+fn tell(rt: &HostRuntime, name: &str, failure: Failure) {
+    if failure != Failure::Write {
+        let _ = eprintln!(rt; "mp4inspect: {name}: {failure}");
+    }
+}
+
+/// Writes what is asked for of a file, and the faults of its tracks and why it could not be read on standard error.
 fn inspect_source<S: Source, W: Write>(
     rt: &HostRuntime,
     name: &str,
     source: S,
     show: Show,
-    output: &mut Output<W>,
-) -> Result<bool, Failure> {
+    output: &mut Output<Steady<W>>,
+) -> Outcome {
     let mut faults = Vec::new(rt.alloc());
-    let outcome = inspect::<ShownBox, S, W>(rt.alloc(), name, source, show, output, &mut faults);
+    let run = inspect::<ShownBox, S, _>(rt.alloc(), name, source, show, output, &mut faults);
     for fault in &faults {
         let _ = eprintln!(rt; "mp4inspect: {name}: {fault}");
     }
-    outcome
-}
-
-/// The outcome of a file. Where it failed, a line on standard error says how; of a failed write that is said once, at
-/// the end.
-fn outcome_told(rt: &HostRuntime, name: &str, run: Result<bool, Failure>) -> Outcome {
-    match run {
-        Ok(_) | Err(Failure::Write) => {}
-        Err(failure) => {
-            let _ = eprintln!(rt; "mp4inspect: {name}: {failure}");
-        }
+    if let Err(failure) = run {
+        tell(rt, name, failure);
     }
-    Outcome::of_file(run)
+    let outcome = Outcome::of_file(run, output.inner.is_closed());
+    // `check` writes only lines of faults: one that it could not write is a fault too.
+    if !faults.is_empty() || show.task == Task::Check && output.failed {
+        outcome.or_worse(Outcome::Faulty)
+    } else {
+        outcome
+    }
 }
 
 /// Writes what is asked for of the standard input.
 fn inspect_input<W: Write>(
     rt: &HostRuntime,
     show: Show,
-    output: &mut Output<W>,
-) -> Result<bool, Failure> {
-    let bytes = read_all(rt.alloc(), &mut Input::new(rt.stdin()))?;
-    inspect_source(rt, "-", bytes.as_slice(), show, output)
+    output: &mut Output<Steady<W>>,
+) -> Outcome {
+    match read_all(rt.alloc(), &mut Input::new(Steady::new(rt.stdin()))) {
+        Ok(bytes) => inspect_source(rt, "-", bytes.as_slice(), show, output),
+        Err(failure) => {
+            tell(rt, "-", failure);
+            Outcome::Failed
+        }
+    }
 }
 
 /// Writes what is asked for of a file, or of the standard input. Where it can't be opened, a line on standard error
@@ -130,17 +140,13 @@ fn inspect_named<W: Write>(
     rt: &HostRuntime,
     name: &str,
     show: Show,
-    output: &mut Output<W>,
+    output: &mut Output<Steady<W>>,
 ) -> Outcome {
     if name == "-" {
-        let run = inspect_input(rt, show, output);
-        return outcome_told(rt, name, run);
+        return inspect_input(rt, show, output);
     }
     match fs::open(rt, name) {
-        Ok(file) => {
-            let run = inspect_source(rt, name, file, show, output);
-            outcome_told(rt, name, run)
-        }
+        Ok(file) => inspect_source(rt, name, file, show, output),
         Err(error) => {
             let _ = eprintln!(rt; "mp4inspect: {name}: {error}");
             Outcome::Failed
@@ -148,14 +154,15 @@ fn inspect_named<W: Write>(
     }
 }
 
-/// Writes what is asked for of all files, and returns the worst outcome. A file that can't be read is passed over.
+/// Writes what is asked for of each file, and keeps the worst outcome in `outcome`. A file that can't be read is passed
+/// over.
 fn inspect_all<W: Write>(
     rt: &HostRuntime,
     request: &Request,
-    output: &mut Output<W>,
-) -> Result<Outcome, Failure> {
+    output: &mut Output<Steady<W>>,
+    outcome: &mut Outcome,
+) -> Result<(), Failure> {
     let look = look_of(rt, request);
-    let mut outcome = Outcome::Sound;
     let mut follows = false;
     if request.task == Task::Json {
         write_all(output, b"[")?;
@@ -169,17 +176,16 @@ fn inspect_all<W: Write>(
             samples: choice_of(request),
         };
         let here = inspect_named(rt, name.as_str(), show, output);
+        *outcome = outcome.or_worse(here);
         if output.failed {
             return Err(Failure::Write);
         }
         follows = follows || here != Outcome::Failed;
-        outcome = outcome.or_worse(here);
     }
     if request.task == Task::Json {
         write_all(output, b"]\n")?;
     }
-    flush(output)?;
-    Ok(outcome)
+    flush(output)
 }
 
 /// The words of the command line, of which the first is the program's name.
@@ -193,16 +199,25 @@ fn print_error(rt: &HostRuntime, error: &Error) -> Result<u8, Failure> {
     if error.kind() == ErrorKind::OutOfMemory {
         return Err(Failure::Memory);
     }
-    if error.print(rt).is_err() {
-        return Err(Failure::Write);
+    match error.print(rt) {
+        Err(error) if !is_closed_pipe(&error) => Err(Failure::Write),
+        _ => Ok(error.exit_code() as u8),
     }
-    Ok(error.exit_code() as u8)
 }
 
-/// Shows the files that are asked for.
+/// Shows the files that are asked for. A closed pipe ends that without a word.
 fn show(rt: &HostRuntime, request: &Request) -> Result<Outcome, Failure> {
     let writer = or_read(BufWriter::new(rt.alloc(), rt.stdout()))?;
-    inspect_all(rt, request, &mut Output::new(writer))
+    let mut output = Output::new(Steady::new(writer));
+    let mut outcome = Outcome::Sound;
+    let Err(failure) = inspect_all(rt, request, &mut output, &mut outcome) else {
+        return Ok(outcome);
+    };
+    let is_closed = output.inner.is_closed();
+    if !is_silent(failure, is_closed) {
+        let _ = eprintln!(rt; "mp4inspect: {failure}");
+    }
+    Ok(outcome.ended_by(failure, is_closed))
 }
 
 /// Does what the command line asks for, and returns the exit status.

@@ -1,4 +1,4 @@
--- Why the last call of a reader or a writer failed.
+-- The error of the last call of a reader or a writer that failed.
 use Rattle.std.specs.Prelude.{◌≡◌, None, Some}
 use Rattle.std.specs.IoError.{error_kind}
 use Rattle.std.specs.declared.option.Option.{Option}
