@@ -12,6 +12,7 @@ mod kind;
 mod outcome;
 mod program;
 mod shown;
+mod source;
 mod track;
 mod tree_json;
 mod tree_text;
@@ -28,8 +29,10 @@ use mp4_tree::Source;
 use outcome::{Outcome, is_silent};
 use program::{Show, inspect};
 use shown::ShownBox;
+use source::{InputFile, Kept, Reading, reading};
 use std::env::VarError;
-use std::io::{BufWriter, IsTerminal, Write};
+use std::fs::File;
+use std::io::{BufWriter, IsTerminal, Read, Write};
 use std::process::ExitCode;
 use std::{env, fs, io};
 
@@ -86,12 +89,23 @@ fn choice_of(request: &Request) -> Choice {
     }
 }
 
-/// Says on standard error that a file could not be read. Nothing is said here of a failed write: that is said once, at
-/// the end.
-fn tell(rt: &HostRuntime, name: &str, failure: Failure) {
-    if failure != Failure::Write {
-        let _ = eprintln!(rt; "mp4inspect: {name}: {failure}");
-    }
+/// Says on standard error why a file could not be read, with the system's reason if there is one. Nothing is said here
+/// of a failed write: that is said once, at the end.
+fn tell(rt: &HostRuntime, name: &str, failure: Failure, reason: Option<io::Error>) {
+    let _ = match (failure, reason) {
+        (Failure::Write, _) => Ok(()),
+        (Failure::Read, Some(error)) if error.kind() == io::ErrorKind::UnexpectedEof => {
+            eprintln!(rt; "mp4inspect: {name}: {failure}: it has fewer bytes than its length says")
+        }
+        (Failure::Read, Some(error)) => eprintln!(rt; "mp4inspect: {name}: {failure}: {error}"),
+        _ => eprintln!(rt; "mp4inspect: {name}: {failure}"),
+    };
+}
+
+/// Says on standard error what is wrong with a file that is not read.
+fn refuse(rt: &HostRuntime, name: &str, what: &str) -> Outcome {
+    let _ = eprintln!(rt; "mp4inspect: {name}: {what}");
+    Outcome::Failed
 }
 
 /// Writes what is asked for of a file, and the faults of its tracks and why it could not be read on standard error.
@@ -102,13 +116,14 @@ fn inspect_source<S: Source, W: Write>(
     show: Show,
     output: &mut Output<Steady<W>>,
 ) -> Outcome {
+    let mut source = Kept::new(source);
     let mut faults = Vec::new(rt.alloc());
-    let run = inspect::<ShownBox, S, _>(rt.alloc(), name, source, show, output, &mut faults);
+    let run = inspect::<ShownBox, _, _>(rt.alloc(), name, &mut source, show, output, &mut faults);
     for fault in &faults {
         let _ = eprintln!(rt; "mp4inspect: {name}: {fault}");
     }
     if let Err(failure) = run {
-        tell(rt, name, failure);
+        tell(rt, name, failure, source.error);
     }
     let outcome = Outcome::of_file(run, output.inner.is_closed());
     // `check` writes only lines of faults: one that it could not write is a fault too.
@@ -119,16 +134,52 @@ fn inspect_source<S: Source, W: Write>(
     }
 }
 
-/// Writes what is asked for of the standard input.
-fn inspect_input<W: Write>(
+/// Writes what is asked for of what is read from the beginning to the end.
+fn inspect_stream<R: Read + Drop, W: Write>(
     rt: &HostRuntime,
+    name: &str,
+    reader: R,
     show: Show,
     output: &mut Output<Steady<W>>,
 ) -> Outcome {
-    match read_all(rt.alloc(), &mut Input::new(Steady::new(rt.stdin()))) {
-        Ok(bytes) => inspect_source(rt, "-", bytes.as_slice(), show, output),
+    let mut input = Input::new(Steady::new(reader));
+    match read_all(rt.alloc(), &mut input) {
+        Ok(bytes) => inspect_source(rt, name, bytes.as_slice(), show, output),
         Err(failure) => {
-            tell(rt, "-", failure);
+            tell(rt, name, failure, input.inner.error);
+            Outcome::Failed
+        }
+    }
+}
+
+/// Writes what is asked for of the standard input.
+fn inspect_input<W: Write>(
+    rt: &HostRuntime,
+    name: &str,
+    show: Show,
+    output: &mut Output<Steady<W>>,
+) -> Outcome {
+    match InputFile::new(rt.stdin()) {
+        Ok(source) => inspect_source(rt, name, source, show, output),
+        Err(_) => inspect_stream(rt, name, rt.stdin(), show, output),
+    }
+}
+
+/// Writes what is asked for of an open file.
+fn inspect_open<W: Write>(
+    rt: &HostRuntime,
+    name: &str,
+    mut source: File,
+    show: Show,
+    output: &mut Output<Steady<W>>,
+) -> Outcome {
+    match reading(&mut source) {
+        Ok(Reading::Seeks) => inspect_source(rt, name, source, show, output),
+        Ok(Reading::Streams) => inspect_stream(rt, name, source, show, output),
+        Ok(Reading::Directory) => refuse(rt, name, "this is a directory, not a file"),
+        Ok(Reading::Device) => refuse(rt, name, "this is a device, not a file"),
+        Err(error) => {
+            tell(rt, name, Failure::Read, Some(error));
             Outcome::Failed
         }
     }
@@ -143,10 +194,10 @@ fn inspect_named<W: Write>(
     output: &mut Output<Steady<W>>,
 ) -> Outcome {
     if name == "-" {
-        return inspect_input(rt, show, output);
+        return inspect_input(rt, name, show, output);
     }
     match fs::open(rt, name) {
-        Ok(file) => inspect_source(rt, name, file, show, output),
+        Ok(source) => inspect_open(rt, name, source, show, output),
         Err(error) => {
             let _ = eprintln!(rt; "mp4inspect: {name}: {error}");
             Outcome::Failed
