@@ -16,12 +16,13 @@ mod source;
 mod track;
 mod tree_json;
 mod tree_text;
+mod words;
 
 use clap::Error;
 use clap::error::ErrorKind;
 use failure::or_read;
 use fast_start::fast_start;
-use mp4_inspect_args::{Asked, Request, Rows, Task, request_of};
+use mp4_inspect_args::{Asked, FastStart, Request, Rows, Task, request_of, unreadable};
 use mp4_inspect_samples::{Choice, Form};
 use mp4_io::{Failure, Input, Output, Steady, flush, is_closed_pipe, read_all, write_all};
 use mp4_sinks::Look;
@@ -30,11 +31,16 @@ use outcome::{Outcome, is_silent};
 use program::{Show, inspect};
 use shown::ShownBox;
 use source::{InputFile, Kept, Reading, reading};
+use std::alloc::AllocError;
 use std::env::VarError;
 use std::fs::File;
 use std::io::{BufWriter, IsTerminal, Read, Write};
 use std::process::ExitCode;
 use std::{env, fs, io};
+use words::{escaped, text_of_error, words_of};
+
+/// The message for a name that is not UTF-8.
+const NOT_UTF_8: &str = "this name is not UTF-8, and only names that are can be opened";
 
 /// The width of the terminal, as the environment has it; no end of lines if it doesn't say.
 fn width(rt: &HostRuntime) -> usize {
@@ -89,41 +95,54 @@ fn choice_of(request: &Request) -> Choice {
     }
 }
 
+/// A file that is shown.
+#[derive(Clone, Copy)]
+struct Named<'a> {
+    /// Its name.
+    name: &'a str,
+    /// Its name with control characters escaped, as headings and messages have it.
+    shown: &'a str,
+}
+
 /// Says on standard error why a file could not be read, with the system's reason if there is one. Nothing is said here
 /// of a failed write: that is said once, at the end.
-fn tell(rt: &HostRuntime, name: &str, failure: Failure, reason: Option<io::Error>) {
+fn tell(rt: &HostRuntime, shown: &str, failure: Failure, reason: Option<io::Error>) {
     let _ = match (failure, reason) {
         (Failure::Write, _) => Ok(()),
         (Failure::Read, Some(error)) if error.kind() == io::ErrorKind::UnexpectedEof => {
-            eprintln!(rt; "mp4inspect: {name}: {failure}: it has fewer bytes than its length says")
+            eprintln!(rt; "mp4inspect: {shown}: {failure}: it has fewer bytes than its length says")
         }
-        (Failure::Read, Some(error)) => eprintln!(rt; "mp4inspect: {name}: {failure}: {error}"),
-        _ => eprintln!(rt; "mp4inspect: {name}: {failure}"),
+        (Failure::Read, Some(error)) => eprintln!(rt; "mp4inspect: {shown}: {failure}: {error}"),
+        _ => eprintln!(rt; "mp4inspect: {shown}: {failure}"),
     };
 }
 
 /// Says on standard error what is wrong with a file that is not read.
-fn refuse(rt: &HostRuntime, name: &str, what: &str) -> Outcome {
-    let _ = eprintln!(rt; "mp4inspect: {name}: {what}");
+fn refuse(rt: &HostRuntime, shown: &str, what: &str) -> Outcome {
+    let _ = eprintln!(rt; "mp4inspect: {shown}: {what}");
     Outcome::Failed
 }
 
 /// Writes what is asked for of a file, and the faults of its tracks and why it could not be read on standard error.
 fn inspect_source<S: Source, W: Write>(
     rt: &HostRuntime,
-    name: &str,
+    file: Named<'_>,
     source: S,
     show: Show,
     output: &mut Output<Steady<W>>,
 ) -> Outcome {
     let mut source = Kept::new(source);
     let mut faults = Vec::new(rt.alloc());
+    let name = match show.task {
+        Task::Json => file.name,
+        _ => file.shown,
+    };
     let run = inspect::<ShownBox, _, _>(rt.alloc(), name, &mut source, show, output, &mut faults);
     for fault in &faults {
-        let _ = eprintln!(rt; "mp4inspect: {name}: {fault}");
+        let _ = eprintln!(rt; "mp4inspect: {}: {fault}", file.shown);
     }
     if let Err(failure) = run {
-        tell(rt, name, failure, source.error);
+        tell(rt, file.shown, failure, source.error);
     }
     let outcome = Outcome::of_file(run, output.inner.is_closed());
     // `check` writes only lines of faults: one that it could not write is a fault too.
@@ -137,16 +156,16 @@ fn inspect_source<S: Source, W: Write>(
 /// Writes what is asked for of what is read from the beginning to the end.
 fn inspect_stream<R: Read + Drop, W: Write>(
     rt: &HostRuntime,
-    name: &str,
+    file: Named<'_>,
     reader: R,
     show: Show,
     output: &mut Output<Steady<W>>,
 ) -> Outcome {
     let mut input = Input::new(Steady::new(reader));
     match read_all(rt.alloc(), &mut input) {
-        Ok(bytes) => inspect_source(rt, name, bytes.as_slice(), show, output),
+        Ok(bytes) => inspect_source(rt, file, bytes.as_slice(), show, output),
         Err(failure) => {
-            tell(rt, name, failure, input.inner.error);
+            tell(rt, file.shown, failure, input.inner.error);
             Outcome::Failed
         }
     }
@@ -155,31 +174,31 @@ fn inspect_stream<R: Read + Drop, W: Write>(
 /// Writes what is asked for of the standard input.
 fn inspect_input<W: Write>(
     rt: &HostRuntime,
-    name: &str,
+    file: Named<'_>,
     show: Show,
     output: &mut Output<Steady<W>>,
 ) -> Outcome {
     match InputFile::new(rt.stdin()) {
-        Ok(source) => inspect_source(rt, name, source, show, output),
-        Err(_) => inspect_stream(rt, name, rt.stdin(), show, output),
+        Ok(source) => inspect_source(rt, file, source, show, output),
+        Err(_) => inspect_stream(rt, file, rt.stdin(), show, output),
     }
 }
 
 /// Writes what is asked for of an open file.
 fn inspect_open<W: Write>(
     rt: &HostRuntime,
-    name: &str,
+    file: Named<'_>,
     mut source: File,
     show: Show,
     output: &mut Output<Steady<W>>,
 ) -> Outcome {
     match reading(&mut source) {
-        Ok(Reading::Seeks) => inspect_source(rt, name, source, show, output),
-        Ok(Reading::Streams) => inspect_stream(rt, name, source, show, output),
-        Ok(Reading::Directory) => refuse(rt, name, "this is a directory, not a file"),
-        Ok(Reading::Device) => refuse(rt, name, "this is a device, not a file"),
+        Ok(Reading::Seeks) => inspect_source(rt, file, source, show, output),
+        Ok(Reading::Streams) => inspect_stream(rt, file, source, show, output),
+        Ok(Reading::Directory) => refuse(rt, file.shown, "this is a directory, not a file"),
+        Ok(Reading::Device) => refuse(rt, file.shown, "this is a device, not a file"),
         Err(error) => {
-            tell(rt, name, Failure::Read, Some(error));
+            tell(rt, file.shown, Failure::Read, Some(error));
             Outcome::Failed
         }
     }
@@ -192,15 +211,23 @@ fn inspect_named<W: Write>(
     name: &str,
     show: Show,
     output: &mut Output<Steady<W>>,
-) -> Outcome {
+) -> Result<Outcome, AllocError> {
+    if let Some(shown) = unreadable(name) {
+        return Ok(refuse(rt, shown, NOT_UTF_8));
+    }
+    let shown = escaped(rt.alloc(), name)?;
+    let file = Named {
+        name,
+        shown: shown.as_str(),
+    };
     if name == "-" {
-        return inspect_input(rt, name, show, output);
+        return Ok(inspect_input(rt, file, show, output));
     }
     match fs::open(rt, name) {
-        Ok(source) => inspect_open(rt, name, source, show, output),
+        Ok(source) => Ok(inspect_open(rt, file, source, show, output)),
         Err(error) => {
-            let _ = eprintln!(rt; "mp4inspect: {name}: {error}");
-            Outcome::Failed
+            let _ = eprintln!(rt; "mp4inspect: {shown}: {error}");
+            Ok(Outcome::Failed)
         }
     }
 }
@@ -226,7 +253,7 @@ fn inspect_all<W: Write>(
             follows,
             samples: choice_of(request),
         };
-        let here = inspect_named(rt, name.as_str(), show, output);
+        let here = inspect_named(rt, name.as_str(), show, output)?;
         *outcome = outcome.or_worse(here);
         if output.failed {
             return Err(Failure::Write);
@@ -239,18 +266,18 @@ fn inspect_all<W: Write>(
     flush(output)
 }
 
-/// The words of the command line, of which the first is the program's name.
-fn words_of(rt: &HostRuntime) -> io::Result<Vec<String>> {
-    let words: Vec<String> = env::args(rt)?.collect(rt.alloc())?;
-    Ok(words)
-}
-
 /// Prints why a command line asks for no file: a misuse, help or the version. Returns the exit status.
 fn print_error(rt: &HostRuntime, error: &Error) -> Result<u8, Failure> {
     if error.kind() == ErrorKind::OutOfMemory {
         return Err(Failure::Memory);
     }
-    match error.print(rt) {
+    let text = text_of_error(rt.alloc(), error)?;
+    let printed = if error.use_stderr() {
+        eprint!(rt; "{text}")
+    } else {
+        print!(rt; "{text}")
+    };
+    match printed {
         Err(error) if !is_closed_pipe(&error) => Err(Failure::Write),
         _ => Ok(error.exit_code() as u8),
     }
@@ -271,15 +298,24 @@ fn show(rt: &HostRuntime, request: &Request) -> Result<Outcome, Failure> {
     Ok(outcome.ended_by(failure, is_closed))
 }
 
-/// Does what the command line asks for, and returns the exit status.
-fn run(rt: &HostRuntime) -> Result<u8, Failure> {
-    let words = or_read(words_of(rt))?;
-    let outcome = match request_of(rt.alloc(), words.as_slice()) {
-        Ok(Asked::Show(request)) => show(rt, &request)?,
-        Ok(Asked::FastStart(names)) => fast_start(rt, names.from.as_str(), names.to.as_str())?,
-        Err(error) => return print_error(rt, &error),
+/// Writes the file that is asked for, if its names are UTF-8. Returns the exit status.
+fn write_file(rt: &HostRuntime, names: &FastStart) -> Result<u8, Failure> {
+    let (from, to) = (names.from.as_str(), names.to.as_str());
+    let outcome = match unreadable(from).or(unreadable(to)) {
+        Some(shown) => refuse(rt, shown, NOT_UTF_8),
+        None => fast_start(rt, from, to)?,
     };
     Ok(outcome.status())
+}
+
+/// Does what the command line asks for, and returns the exit status.
+fn run(rt: &HostRuntime) -> Result<u8, Failure> {
+    let words = words_of(rt)?;
+    match request_of(rt.alloc(), words.as_slice()) {
+        Ok(Asked::Show(request)) => Ok(show(rt, &request)?.status()),
+        Ok(Asked::FastStart(names)) => write_file(rt, &names),
+        Err(error) => print_error(rt, &error),
+    }
 }
 
 fn main(rt: HostRuntime) -> ExitCode {

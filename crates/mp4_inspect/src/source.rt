@@ -49,7 +49,7 @@ impl<S: Source> Source for Kept<S> {
     }
 }
 
-/// The standard input where it is a file, from the position on at which the program got it.
+/// The standard input where it is a file: its bytes after the position at which the program got it.
 #[derive(Drop)]
 pub struct InputFile {
     stdin: Stdin,
@@ -100,7 +100,7 @@ impl Source for InputFile {
     }
 }
 
-/// How the bytes of a file are read.
+/// A way to read the bytes of a file.
 #[derive(Clone, Copy, Debug, PartialEq, Eq)]
 pub enum Reading {
     /// At any position.

@@ -1,6 +1,8 @@
 //! The command line of `mp4inspect`.
 #![tactic(auto)]
 
+mod mark;
 mod request;
 
+pub use mark::{MARK, unreadable};
 pub use request::{Asked, FastStart, Request, Rows, Task, request_of};

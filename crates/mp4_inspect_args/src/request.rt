@@ -40,7 +40,7 @@ pub struct Request {
     pub samples: Rows,
     /// The number of the track whose samples are written; those of all tracks if none.
     pub track: Option<u32>,
-    /// The files, in order; `-` is the standard input.
+    /// The files, in order; `-` is the standard input. A name that is not UTF-8 has a mark.
     pub files: Vec<String>,
 }
 
