@@ -356,6 +356,45 @@ def subtitles():
     return ftyp(b"qt  ", b"qt  ") + movie(*tracks) + xml[1] + texts[0] + codes[0] + words[0]
 
 
+def in_chunks(media, *tracks):
+    """A movie of tracks 1, 2 and so on, each with its samples in one chunk, and at its end `media` bytes at which all
+    chunks begin. A track is a count of samples, the size of all of them or 0, and their sizes."""
+    def moov(at):
+        tables = [full(b"stts", 0, 0, be(4, 1, count, 1)) + full(b"stsc", 0, 0, be(4, 1, 1, count, 1))
+                  + full(b"stsz", 0, 0, be(4, size, count, *sizes)) + full(b"stco", 0, 0, be(4, 1, at))
+                  for count, size, *sizes in tracks]
+        return movie(*(track(number, b"vide", b"", b"und", [], table) for number, table in enumerate(tables, 1)))
+    front = ftyp(b"isom")
+    return front + moov(len(front) + len(moov(0)) + 8) + box(b"mdat", bytes(media))
+
+
+def in_runs(media, listed, default, *fragments):
+    """A movie whose track 1 lists sizes of samples in its tables, in a chunk at 0, and has fragments in a `moof` each,
+    whose data begin with the `moof`; and `media` bytes at its end. A fragment is a list of runs, each a count of
+    samples, and their sizes if they aren't `default`."""
+    moofs = b"".join(fragment(0x20000, [runs]) for runs in fragments)
+    return begun_by(listed, default) + moofs + box(b"mdat", bytes(media))
+
+
+def in_fragment(media, default, flags, *fragments):
+    """The same without samples in tables, and with all fragments in one `moof`, each with these flags of its `tfhd`."""
+    return begun_by([], default) + fragment(flags, fragments) + box(b"mdat", bytes(media))
+
+
+def begun_by(listed, default):
+    table = (full(b"stts", 0, 0, be(4, 1, len(listed), 1)) + full(b"stsc", 0, 0, be(4, 1, 1, len(listed), 1))
+             + full(b"stsz", 0, 0, be(4, 0, len(listed), *listed)) + full(b"stco", 0, 0, be(4, 1, 0)))
+    kept = movie(track(1, b"vide", b"", b"und", [], table))
+    defaults = box(b"mvex", full(b"trex", 0, 0, be(4, 1, 1, 1, default, 0)))
+    return ftyp(b"isom") + be(4, len(kept) + len(defaults)) + kept[4:] + defaults
+
+
+def fragment(flags, fragments):
+    trafs = [box(b"traf", full(b"tfhd", 0, flags, be(4, 1)) + b"".join(
+        full(b"trun", 0, 0x200 if sizes else 0, be(4, count, *sizes)) for count, *sizes in runs)) for runs in fragments]
+    return box(b"moof", full(b"mfhd", 0, 0, be(4, 1)) + b"".join(trafs))
+
+
 def made():
     """The files, by name."""
     return {"counted": counted(), "sounds": sounds(), "groups": groups(), "pictures": pictures(),

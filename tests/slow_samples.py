@@ -2,16 +2,20 @@
 8.7.5, 8.8), to compare `mp4inspect samples` with. It shares no line with the codec, nor with the other slow readers:
 tables are spelled out, a value for each sample, and chunks are filled one after the other.
 
-    written(data, form, track)   what is written, the faults as they are said, and the status
-    disagreement(tables)         how the tables of an `stbl` disagree, as `mp4inspect check` says it
+    written(data, form, track, beyond)   what is written, the faults as they are said, and the status
+    disagreement(tables)                 how the tables of an `stbl` disagree, as `mp4inspect check` says it
 """
 
+import functools
+import itertools
 import struct
 
 HEAD = "track,number,offset,size,decode_time,presentation_time,duration,sync,description\n"
 COLUMNS = ["number", "offset", "size", "decode_time", "presentation_time", "duration", "sync", "description"]
 WIDTHS = [8, 12, 9, 12, 17, 9, 4, 11]
+# The most samples that are returned in a list, and the most without bytes that are listed in a row.
 MOST = 300000
+MOST_EMPTY = 2**20
 
 
 class Bad(Exception):
@@ -57,8 +61,6 @@ def entries(box, at, form, count_at=4):
     width = struct.calcsize(form)
     if (len(content) - at) // width < count:
         raise Bad(None)
-    if count > MOST:
-        raise Bad("large")
     return [struct.unpack_from(form, content, at + width * index) for index in range(count)]
 
 
@@ -129,35 +131,39 @@ def disagreement(tables):
     return None
 
 
-def table_samples(tables):
-    """The samples of tables that agree: offset, size, time, duration, shift, sync, description."""
+def table_steps(tables):
+    """The samples of tables that agree, one by one: offset, size, time, duration, shift, sync, description."""
     count, one, sizes = tables["sizes"]
-    if count > MOST:
-        raise Bad("large")
-    durations = spelled(tables["durations"], count)
-    shifts = spelled(tables["shifts"], count)
-    shifts += [0] * (count - len(shifts))
-    places = []
+    durations, shifts = spelled(tables["durations"]), itertools.chain(spelled(tables["shifts"]), itertools.repeat(0))
+    sync = None if tables["sync"] is None else set(tables["sync"])
+    index = time = 0
     for number, offset in enumerate(tables["offsets"], 1):
         run = [run for run in tables["runs"] if run[0] <= number][-1:]
-        for _ in range(min(run[0][1], count - len(places)) if run else 0):
-            size = one or sizes[len(places)]
-            places.append((offset, size, run[0][2]))
-            offset += size
-    samples, time = [], 0
-    for index in range(count):
-        offset, size, description = places[index]
-        is_sync = tables["sync"] is None or index + 1 in tables["sync"]
-        samples.append((offset, size, time, durations[index], shifts[index], is_sync, description))
-        time += durations[index]
-    return samples, time
+        for _ in range(min(run[0][1], count - index) if run else 0):
+            size, duration = one or sizes[index], next(durations)
+            yield offset, size, time, duration, next(shifts), sync is None or index + 1 in sync, run[0][2]
+            offset, time, index = offset + size, time + duration, index + 1
 
 
-def spelled(runs, most):
-    values = []
+def spelled(runs):
     for count, value in runs:
-        values += [value] * min(count, most - len(values))
-    return values
+        yield from itertools.repeat(value, count)
+
+
+def table_time(tables):
+    """When the last sample of tables that agree ends."""
+    left, time = tables["sizes"][0], 0
+    for count, duration in tables["durations"]:
+        time += min(count, left) * duration
+        left -= min(count, left)
+    return time
+
+
+def table_samples(tables):
+    """The samples of tables that agree, in a list, and when the last one ends."""
+    if tables["sizes"][0] > MOST:
+        raise Bad("large")
+    return list(table_steps(tables)), table_time(tables)
 
 
 def optional(content, at, flags, *fields):
@@ -183,7 +189,7 @@ def header_of(box):
 
 
 def run_of(box):
-    """A run of samples (8.8.8)."""
+    """A run of samples (8.8.8): its fields, how many samples it counts, and what it lists for each."""
     content, whole = box[2], box[3]
     if not whole or len(content) < 8:
         raise Bad(None)
@@ -192,32 +198,51 @@ def run_of(box):
     width = 4 * bin(word >> 8 & 15).count("1")
     if len(content) - at < width * count:
         raise Bad(None)
-    if count > MOST:
-        raise Bad("large")
+    if not width:
+        return values, count, itertools.repeat({}, count)
     rows = []
     for _ in range(count):
         row, at = optional(content, at, word, (0x100, "duration", ">I"), (0x200, "size", ">I"), (0x400, "flags", ">I"),
                            (0x800, "shift", ">i" if word >> 24 else ">I"))
         rows.append(row)
-    return values, rows
+    return values, count, rows
 
 
-def run_samples(header, defaults, runs, base, time):
-    """The samples of the runs of a fragment, where their data end, when, and the words of a fault."""
-    samples, at = [], base
-    for number, (values, rows) in enumerate(runs):
+def run_steps(header, defaults, runs, base, time, where=""):
+    """The samples of the runs of a fragment, one by one. Returns where their data end, and when."""
+    at = base
+    for number, (values, _, rows) in enumerate(runs):
         at = base + values["offset"] if "offset" in values else at
         for index, row in enumerate(rows):
             begun = {"flags": values["first"]} if index == 0 and "first" in values else {}
             known = {**defaults, **header, **begun, **row}
             if at < 0 or at + known["size"] >= 2**64:
-                return samples, at, time, f"sample {index} of run {number} is outside the file"
+                raise Bad(f"{where}sample {index} of run {number} is outside the file")
             if time + known["duration"] >= 2**64:
-                return samples, at, time, f"sample {index} of run {number} ends past 2^64 - 1"
-            samples.append((at, known["size"], time, known["duration"], known.get("shift", 0),
-                            not known["flags"] & 0x10000, known["description"]))
+                raise Bad(f"{where}sample {index} of run {number} ends past 2^64 - 1")
+            yield (at, known["size"], time, known["duration"], known.get("shift", 0), not known["flags"] & 0x10000,
+                   known["description"])
             at, time = at + known["size"], time + known["duration"]
-    return samples, at, time, None
+    return at, time
+
+
+def unlisted(sample, number, empty, length):
+    """Why a sample of a file of `length` bytes isn't listed, if `empty` without bytes come right before it; in no
+    words if it is listed."""
+    end = sample[0] + sample[1]
+    if end > length:
+        return f"sample {number} ends at {end}, past the end of the file ({length} bytes)"
+    if sample[1] == 0 and empty >= MOST_EMPTY:
+        return f"sample {number} has no bytes, like the {MOST_EMPTY} samples before it"
+    return ""
+
+
+def not_listed(more):
+    """What is said of the samples that aren't listed: one, and those after it."""
+    if more == 0:
+        return "this sample is not listed (--beyond lists it)"
+    samples = f"{more} more sample are" if more == 1 else f"{more} more samples are"
+    return f"this and {samples} not listed (--beyond lists them)"
 
 
 class File:
@@ -247,7 +272,7 @@ class File:
                 self.defaults.setdefault(track, dict(zip(("description", "duration", "size", "flags"), values)))
 
     def fragment(self, moof):
-        last = moof[1]
+        end_before = functools.partial(int, moof[1])
         for traf in inner(self.data, moof):
             if traf[0] != b"traf":
                 continue
@@ -255,20 +280,23 @@ class File:
                 header = header_of(first(inner(self.data, traf), b"tfhd"))
             except Bad:
                 self.faults.append(f"moof at {moof[1]}: there is no tfhd that can be read")
-                last = None
+                end_before = functools.partial(dict().get, "end")
                 continue
-            base = header.get("base", moof[1] if header["from_moof"] else last)
+            base = header["base"] if "base" in header else moof[1] if header["from_moof"] else end_before()
             self.fragments.setdefault(header["track"], []).append((moof, traf, header, base))
-            try:
-                last = None if base is None else self.samples(header["track"], traf, header, base, 0, True)[1]
-                last = last if last is not None and 0 <= last < 2**64 else None
-            except Bad:
-                last = None
+            end_before = functools.partial(self.end, traf, header, base)
 
-    def samples(self, track, traf, header, base, time, is_strict=False):
-        if track not in self.defaults:
-            raise Bad("there is no trex")
-        parts = inner(self.data, traf)
+    def end(self, traf, header, base):
+        """Returns where the data of a fragment end; none if that isn't known."""
+        try:
+            last = None if base is None else self.samples(header["track"], traf, header, base, 0, True)[1]
+        except Bad:
+            return None
+        return last if last is not None and 0 <= last < 2**64 else None
+
+    def runs(self, traf):
+        """When a fragment begins, if it says so, and its runs."""
+        parts, time = inner(self.data, traf), None
         clock = first(parts, b"tfdt")
         if clock is not None:
             if not clock[3] or len(clock[2]) < 8:
@@ -277,20 +305,74 @@ class File:
             if wide > 1 or wide and len(clock[2]) < 12:
                 raise Bad(None)
             time, = struct.unpack_from(">Q" if wide else ">I", clock[2], 4)
-        runs = [run_of(box) for box in parts if box[0] == b"trun"]
-        found = run_samples(header, self.defaults[track], runs, base, time)
-        if is_strict and found[3]:
-            raise Bad(found[3])
-        return found
+        return time, [run_of(box) for box in parts if box[0] == b"trun"]
 
-    def track(self, trak):
-        """The number of a track, its heading, its samples, and its fault."""
+    def steps(self, track, traf, header, base, time, where=""):
+        """The samples of a fragment, one by one. Returns where their data end, and when."""
+        if track not in self.defaults:
+            raise Bad("there is no trex")
+        begin, runs = self.runs(traf)
+        return (yield from run_steps(header, self.defaults[track], runs, base, time if begin is None else begin, where))
+
+    def samples(self, track, traf, header, base, time, is_strict=False):
+        """The samples of a fragment, in a list, where their data end, when, and the words of a fault."""
+        samples, steps, fault = [], self.steps(track, traf, header, base, time), None
+        try:
+            while len(samples) <= MOST:
+                samples.append(next(steps))
+            raise Bad("large")
+        except StopIteration as ended:
+            return samples, *ended.value, None
+        except Bad as bad:
+            fault = bad.args[0]
+            if is_strict or not fault or not fault.startswith("sample"):
+                raise
+        return samples, None, None, fault
+
+    def of_track(self, number, tables):
+        """The samples of a track, one by one."""
+        time = table_time(tables)
+        yield from table_steps(tables)
+        for moof, traf, header, base in self.fragments.get(number, []):
+            if number not in self.defaults:
+                raise Bad("there is no trex")
+            if base is None:
+                raise Bad(f"moof at {moof[1]}: it is not known where the data before end")
+            _, time = yield from self.steps(number, traf, header, base, time, f"moof at {moof[1]}: ")
+
+    def counted(self, number, tables):
+        """Counts the samples of the tables and the fragments of a track, without fragments that can't be read."""
+        count = tables["sizes"][0]
+        for _, traf, _, _ in self.fragments.get(number, []):
+            try:
+                count += sum(run[1] for run in self.runs(traf)[1])
+            except Bad:
+                pass
+        return count
+
+    def listed(self, number, tables, beyond):
+        """The samples of a track that are listed, and its faults, of which there is one at most."""
+        samples, empty = [], 0
+        try:
+            for sample in self.of_track(number, tables):
+                why = "" if beyond else unlisted(sample, len(samples) + 1, empty, len(self.data))
+                if why:
+                    more = self.counted(number, tables) - len(samples) - 1
+                    return samples, [f"{why}: {not_listed(more)}"]
+                empty = 0 if sample[1] else empty + 1
+                samples.append(sample)
+        except Bad as bad:
+            return samples, [bad.args[0]]
+        return samples, []
+
+    def track(self, trak, beyond=True):
+        """The number of a track, its heading, its samples, and its faults, of which there is one at most."""
         def below(box, code):
             return None if box is None else first(inner(self.data, box), code)
         head = below(trak, b"tkhd")
         version = head[2][0] if head is not None and head[2] else 2
         if head is None or not head[3] or version > 1 or len(head[2]) < (96 if version else 84):
-            return None, "", [], f"trak at {trak[1]}: there is no tkhd that can be read"
+            return None, "", [], [f"trak at {trak[1]}: there is no tkhd that can be read"]
         number, = struct.unpack_from(">I", head[2], 20 if version else 12)
         media = below(trak, b"mdia")
         name, clock = below(media, b"hdlr"), below(media, b"mdhd")
@@ -299,7 +381,6 @@ class File:
             title += ", " + name[2][8:12].decode("latin-1")
         if clock is not None and clock[3] and len(clock[2]) >= 22:
             title += f", timescale {struct.unpack_from('>I', clock[2], 20 if clock[2][0] else 12)[0]}"
-        samples = []
         heading = f"{title}\n" + "  ".join(name.rjust(width) for name, width in zip(COLUMNS, WIDTHS)) + "\n"
         try:
             table = below(below(media, b"minf"), b"stbl")
@@ -308,21 +389,8 @@ class File:
             if fault:
                 raise Bad(fault)
         except Bad as bad:
-            return number, "", [], bad.args[0]
-        samples, time = table_samples(tables)
-        for moof, traf, header, base in self.fragments.get(number, []):
-            try:
-                if number not in self.defaults:
-                    raise Bad("there is no trex")
-                if base is None:
-                    raise Bad(f"moof at {moof[1]}: it is not known where the data before end")
-                more, _, time, fault = self.samples(number, traf, header, base, time)
-            except Bad as bad:
-                return number, heading, samples, bad.args[0]
-            samples += more
-            if fault:
-                return number, heading, samples, f"moof at {moof[1]}: {fault}"
-        return number, heading, samples, None
+            return number, "", [], [bad.args[0]]
+        return number, heading, *self.listed(number, tables, beyond)
 
 
 def row(form, track, number, sample):
@@ -335,23 +403,22 @@ def row(form, track, number, sample):
     return "  ".join(str(value).rjust(width) for value, width in zip(values, WIDTHS)) + "\n"
 
 
-def written(data, form, chosen=None):
+def written(data, form, chosen=None, beyond=False):
     """What is written, the faults (the track's number, if it is known, and the words, if they are not the codec's), and
     the status."""
     file, pieces, faults = File(data), [], []
     faults += [(None, words) for words in file.faults]
     met = set()
     for trak in file.tracks:
-        number, heading, samples, fault = file.track(trak)
+        number, heading, samples, found = file.track(trak, beyond)
         if number is None:
-            faults.append((None, fault))
+            faults += [(None, words) for words in found]
             continue
         if chosen in (None, number):
             if form == "text" and heading:
                 pieces.append(("\n" if pieces else "") + heading)
             pieces += [row(form, number, index, sample) for index, sample in enumerate(samples, 1)]
-            if fault is not None or (not heading):
-                faults.append((number, fault))
+            faults += [(number, words) for words in found]
         met.add(number)
         file.fragments.pop(number, None)
     faults += [(number, "there is no trak") for number in sorted(file.fragments) if chosen in (None, number)]

@@ -92,6 +92,7 @@ fn choice_of(request: &Request) -> Choice {
             Rows::Json => Form::Json,
         },
         track: request.track,
+        beyond: request.beyond,
     }
 }
 

@@ -40,6 +40,8 @@ pub struct Request {
     pub samples: Rows,
     /// The number of the track whose samples are written; those of all tracks if none.
     pub track: Option<u32>,
+    /// Asks for all samples, past the end of the file too.
+    pub beyond: bool,
     /// The files, in order; `-` is the standard input. A name that is not UTF-8 has a mark.
     pub files: Vec<String>,
 }
@@ -118,11 +120,13 @@ fn file<'a>(alloc: Global) -> Arg<'a> {
 fn samples<'a>(alloc: Global) -> Result<Command<'a>, AllocError> {
     let json = "Write an array of JSON objects";
     let csv = "Write lines of numbers between commas, with one line of names in front";
+    let beyond = "Write all samples, past the end of the file too";
     Command::new(alloc, "samples")
         .about("Writes where each sample of the tracks of a file is, and when, one a line")
         .arg(number(alloc, "track", "Write the samples of track N alone"))?
         .arg(flag_without(alloc, "json", json, "csv")?)?
         .arg(flag(alloc, "csv", csv))?
+        .arg(flag(alloc, "beyond", beyond))?
         .arg(file(alloc))
 }
 
@@ -189,6 +193,7 @@ fn check_of(alloc: Global, matches: &ArgMatches<'_>) -> Result<Request, AllocErr
         wide: true,
         samples: Rows::Text,
         track: None,
+        beyond: false,
         files: files_of(alloc, matches)?,
     })
 }
@@ -208,6 +213,7 @@ fn samples_of(alloc: Global, matches: &ArgMatches<'_>) -> Result<Request, AllocE
         wide: true,
         samples,
         track: matches.get_one::<u32>("track"),
+        beyond: matches.get_flag("beyond"),
         files: files_of(alloc, matches)?,
     })
 }
@@ -229,6 +235,7 @@ fn tree_of(alloc: Global, matches: &ArgMatches<'_>) -> Result<Request, AllocErro
         wide: matches.get_flag("wide"),
         samples: Rows::Text,
         track: None,
+        beyond: false,
         files: files_of(alloc, matches)?,
     })
 }

@@ -6,9 +6,11 @@ use Rattle.std.specs.declared.option.Option.{Option}
 use Rattle.std.proofs.KnownBytes.{Appends-nil, Appends-trans}
 use Rattle.std.specs.Io.KnownBytes.{Appends}
 use Rattle.mp4_samples.specs.declared.sample.Sample.{Sample}
+use Rattle.mp4_inspect_samples.specs.Listed.{is_listed, empty_after, empty_at_end, AreListed}
 use Rattle.mp4_inspect_samples.specs.Row.{row_of}
 use Rattle.mp4_inspect_samples.specs.RowText.{row_text}
 use Rattle.mp4_inspect_samples.specs.Rows.{Follow, rows_text, is_after, Begins, WritesRows, BeginsRows}
+use Rattle.mp4_inspect_samples.specs.declared.limit.Limit.{Limit}
 use Rattle.mp4_inspect_samples.specs.declared.row.Row.{Row}
 use Rattle.mp4_inspect_samples.specs.declared.row_text.Form.{Form}
 
@@ -23,6 +25,16 @@ follow_more : (Is : ℕ → Sample → Type 0) (k : ℕ) (xs : List Sample) (x :
 follow_more Is k [] x follow is = (subst (λ (j : ℕ). Is j x) (omega arith) is, tt)
 follow_more Is k (y ∷ xs) x follow is =
     (follow.0, follow_more Is (k + 1) xs x follow.1 (subst (λ (j : ℕ). Is j x) (omega arith) is))
+
+listed_more : (limit : Limit) (empty : ℕ) (xs : List Sample) (x : Sample) → AreListed limit empty xs
+    → is_listed limit (empty_at_end empty xs) x ≡ true → AreListed limit empty (xs ++ x ∷ [])
+listed_more limit empty [] x listed is = (is, tt)
+listed_more limit empty (y ∷ xs) x listed is = (listed.0, listed_more limit (empty_after empty y) xs x listed.1 is)
+
+empty_more : (empty : ℕ) (xs : List Sample) (x : Sample)
+    → empty_at_end empty (xs ++ x ∷ []) ≡ empty_after (empty_at_end empty xs) x
+empty_more empty [] x = refl
+empty_more empty (y ∷ xs) x = empty_more (empty_after empty y) xs x
 
 after_more : (b : Bool) (xs : List Sample) (x : Sample) → true ≡ is_after b (xs ++ x ∷ [])
 after_more b [] x = refl
@@ -58,20 +70,32 @@ take_past (x ∷ xs) ys k =
     let next : length (x ∷ xs) + k ≡ suc (length xs + k) = omega arith in
     ap (λ (j : ℕ). take j (x ∷ (xs ++ ys))) next ∙ ap (λ (zs : List ℕ). x ∷ zs) (take_past xs ys k)
 
-module _ (Is : ℕ → Sample → Type 0) (form : Form) (track n : ℕ) (follows : Bool) where
-  pub writes_none : (old : Option (List ℕ)) → WritesRows Is form track n 0 follows follows old old
-  writes_none old = record { samples = []; are = tt; count = refl; after = refl; bytes = Appends-nil old }
+module _ (Is : ℕ → Sample → Type 0) (limit : Limit) (form : Form) (track n empty : ℕ) (follows : Bool) where
+  pub writes_none : (old : Option (List ℕ)) → WritesRows Is limit form track n empty 0 empty follows follows old old
+  writes_none old = record {
+    samples = [];
+    are = tt;
+    listed = tt;
+    emptied = refl;
+    count = refl;
+    after = refl;
+    bytes = Appends-nil old;
+  }
 
   -- the row of the next sample is written
-  pub writes_more : (m : ℕ) (is_followed : Bool) (old mid new : Option (List ℕ)) (x : Sample)
-      → WritesRows Is form track n m follows is_followed old mid → Is m x
+  pub writes_more : (m empty_end : ℕ) (is_followed : Bool) (old mid new : Option (List ℕ)) (x : Sample)
+      → WritesRows Is limit form track n empty m empty_end follows is_followed old mid → Is m x
+      → is_listed limit empty_end x ≡ true
       → Appends mid new (row_text form is_followed (row_of track (n + m + 1) x))
-      → WritesRows Is form track n (m + 1) follows true old new
-  writes_more m is_followed old mid new x rows is row = record {
+      → WritesRows Is limit form track n empty (m + 1) (empty_after empty_end x) follows true old new
+  writes_more m empty_end is_followed old mid new x rows is listed row = record {
     samples = rows.samples ++ x ∷ [];
     are = follow_more Is 0 rows.samples x rows.are
         (let counted = rows.count in let here : m ≡ 0 + length rows.samples =
         omega (arith, counted) in subst (λ (j : ℕ). Is j x) here is);
+    listed = listed_more limit empty rows.samples x rows.listed
+        (subst (λ (j : ℕ). is_listed limit j x ≡ true) rows.emptied listed);
+    emptied = ap (λ (j : ℕ). empty_after j x) rows.emptied ∙ sym (empty_more empty rows.samples x);
     count = length_more rows.samples x ∙ ap (λ (j : ℕ). j + 1) rows.count;
     after = after_more follows rows.samples x;
     bytes =
@@ -83,15 +107,18 @@ module _ (Is : ℕ → Sample → Type 0) (form : Form) (track n : ℕ) (follows
   }
 
   -- a beginning of the row of the next sample is written
-  pub begins_more : (m : ℕ) (is_followed : Bool) (old mid new : Option (List ℕ)) (x : Sample)
-      → WritesRows Is form track n m follows is_followed old mid → Is m x
+  pub begins_more : (m empty_end : ℕ) (is_followed : Bool) (old mid new : Option (List ℕ)) (x : Sample)
+      → WritesRows Is limit form track n empty m empty_end follows is_followed old mid → Is m x
+      → is_listed limit empty_end x ≡ true
       → Begins mid new (row_text form is_followed (row_of track (n + m + 1) x))
-      → BeginsRows Is form track n follows old new
-  begins_more m is_followed old mid new x rows is row = record {
+      → BeginsRows Is limit form track n empty follows old new
+  begins_more m empty_end is_followed old mid new x rows is listed row = record {
     samples = rows.samples ++ x ∷ [];
     are = follow_more Is 0 rows.samples x rows.are
         (let counted = rows.count in let here : m ≡ 0 + length rows.samples =
         omega (arith, counted) in subst (λ (j : ℕ). Is j x) here is);
+    listed = listed_more limit empty rows.samples x rows.listed
+        (subst (λ (j : ℕ). is_listed limit j x ≡ true) rows.emptied listed);
     bytes = record {
       count = length (rows_text form track follows n rows.samples) + row.count;
       bytes =
@@ -110,36 +137,43 @@ module _ (Is : ℕ → Sample → Type 0) (form : Form) (track n : ℕ) (follows
   }
 
   -- the same, of a row that is that of the sample
-  pub writes_next : (m m2 number : ℕ) (form2 : Form) (is_followed is_after : Bool) (old mid new : Option (List ℕ))
-      (x : Sample) (row : Row)
-      → WritesRows Is form track n m follows is_followed old mid → Is m x → m2 ≡ m + 1 → row ≡ row_of track number x
-      → number ≡ n + m + 1 → form2 ≡ form → is_after ≡ true
-      → Appends mid new (row_text form2 is_followed row) → WritesRows Is form track n m2 follows is_after old new
-  writes_next m m2 number form2 is_followed is_after old mid new x row rows is next same counted of after written =
-      subst (λ (b : Bool). WritesRows Is form track n m2 follows b old new) (sym after)
-      (subst (λ (j : ℕ). WritesRows Is form track n j follows true old new) (sym next)
-      (writes_more m is_followed old mid new x rows is
+  pub writes_next : (m m2 number empty_end empty2 : ℕ) (form2 : Form) (is_followed is_after : Bool)
+      (old mid new : Option (List ℕ)) (x : Sample) (row : Row)
+      → WritesRows Is limit form track n empty m empty_end follows is_followed old mid → Is m x
+      → is_listed limit empty_end x ≡ true → empty2 ≡ empty_after empty_end x → m2 ≡ m + 1
+      → row ≡ row_of track number x → number ≡ n + m + 1 → form2 ≡ form → is_after ≡ true
+      → Appends mid new (row_text form2 is_followed row)
+      → WritesRows Is limit form track n empty m2 empty2 follows is_after old new
+  writes_next m m2 number empty_end empty2 form2 is_followed is_after old mid new x row rows is listed emptied next same
+      counted of after written =
+      subst (λ (b : Bool). WritesRows Is limit form track n empty m2 empty2 follows b old new) (sym after)
+      (subst (λ (j : ℕ). WritesRows Is limit form track n empty j empty2 follows true old new) (sym next)
+      (subst (λ (j : ℕ). WritesRows Is limit form track n empty (m + 1) j follows true old new) (sym emptied)
+      (writes_more m empty_end is_followed old mid new x rows is listed
       (subst (λ (f : Form). Appends mid new (row_text f is_followed (row_of track (n + m + 1) x))) of
       (subst (λ (j : ℕ). Appends mid new (row_text form2 is_followed (row_of track j x))) counted
-      (subst (λ (r : Row). Appends mid new (row_text form2 is_followed r)) same written)))))
+      (subst (λ (r : Row). Appends mid new (row_text form2 is_followed r)) same written))))))
 
-  pub begins_next : (m number : ℕ) (form2 : Form) (is_followed : Bool) (old mid new : Option (List ℕ)) (x : Sample)
-      (row : Row)
-      → WritesRows Is form track n m follows is_followed old mid → Is m x → row ≡ row_of track number x
+  pub begins_next : (m number empty_end : ℕ) (form2 : Form) (is_followed : Bool) (old mid new : Option (List ℕ))
+      (x : Sample) (row : Row)
+      → WritesRows Is limit form track n empty m empty_end follows is_followed old mid → Is m x
+      → is_listed limit empty_end x ≡ true → row ≡ row_of track number x
       → number ≡ n + m + 1 → form2 ≡ form
-      → Begins mid new (row_text form2 is_followed row) → BeginsRows Is form track n follows old new
-  begins_next m number form2 is_followed old mid new x row rows is same counted of written =
-      begins_more m is_followed old mid new x rows is
+      → Begins mid new (row_text form2 is_followed row) → BeginsRows Is limit form track n empty follows old new
+  begins_next m number empty_end form2 is_followed old mid new x row rows is listed same counted of written =
+      begins_more m empty_end is_followed old mid new x rows is listed
       (subst (λ (f : Form). Begins mid new (row_text f is_followed (row_of track (n + m + 1) x))) of
       (subst (λ (j : ℕ). Begins mid new (row_text form2 is_followed (row_of track j x))) counted
       (subst (λ (r : Row). Begins mid new (row_text form2 is_followed r)) same written)))
 
   -- a beginning of the rows of samples that are written
-  pub begins_all : (m : ℕ) (is_followed : Bool) (old new : Option (List ℕ))
-      → WritesRows Is form track n m follows is_followed old new → BeginsRows Is form track n follows old new
-  begins_all m is_followed old new rows = record {
+  pub begins_all : (m empty_end : ℕ) (is_followed : Bool) (old new : Option (List ℕ))
+      → WritesRows Is limit form track n empty m empty_end follows is_followed old new
+      → BeginsRows Is limit form track n empty follows old new
+  begins_all m empty_end is_followed old new rows = record {
     samples = rows.samples;
     are = rows.are;
+    listed = rows.listed;
     bytes = record {
       count = length (rows_text form track follows n rows.samples);
       bytes = subst (λ (t : List ℕ). Appends old new t) (sym (take_all _)) rows.bytes;

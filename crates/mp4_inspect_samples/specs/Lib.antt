@@ -1,3 +1,4 @@
+pub mod Listed
 pub mod Own
 pub mod ReadTables
 pub mod Row

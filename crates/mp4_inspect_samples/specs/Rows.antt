@@ -8,8 +8,10 @@ use Rattle.mp4_samples.specs.Fragments.{IsFragmentSample, Faults}
 use Rattle.mp4_samples.specs.declared.fragment.Fragment.{Fragment}
 use Rattle.mp4_samples.specs.declared.fragment_fault.FragmentFault.{FragmentFault}
 use Rattle.mp4_samples.specs.declared.sample.Sample.{Sample}
+use Rattle.mp4_inspect_samples.specs.Listed.{AreListed, EndsListed, empty_at_end}
 use Rattle.mp4_inspect_samples.specs.Row.{row_of}
 use Rattle.mp4_inspect_samples.specs.RowText.{row_text}
+use Rattle.mp4_inspect_samples.specs.declared.limit.Limit.{Limit}
 use Rattle.mp4_inspect_samples.specs.declared.row_text.Form.{Form}
 use Rattle.mp4_inspect_samples.specs.declared.row_text.Form.TheVariants as forms
 use Rattle.mp4_inspect_samples.specs.declared.rows.FragmentEnd.{FragmentEnd}
@@ -35,34 +37,39 @@ pub record Begins (old new : Option (List ℕ)) (text : List ℕ) : Type 0 where
   pub count : ℕ
   pub bytes : Appends old new (take count text)
 
--- the rows of the first m samples of a track are appended, of which n come before them
-pub record WritesRows (Is : ℕ → Sample → Type 0) (form : Form) (track n m : ℕ) (follows is_followed : Bool)
-    (old new : Option (List ℕ)) : Type 0 where
+-- the rows of the first m samples of a track are appended, each of which is listed. n samples come before them, the
+-- last `empty` of which have no bytes; and the last `empty_end` up to sample m have none
+pub record WritesRows (Is : ℕ → Sample → Type 0) (limit : Limit) (form : Form) (track n empty m empty_end : ℕ)
+    (follows is_followed : Bool) (old new : Option (List ℕ)) : Type 0 where
   pub samples : List Sample
   pub are : Follow Is 0 samples
+  pub listed : AreListed limit empty samples
+  pub emptied : empty_end ≡ empty_at_end empty samples
   pub count : length samples ≡ m
   pub after : is_followed ≡ is_after follows samples
   pub bytes : Appends old new (rows_text form track follows n samples)
 
--- a beginning of the rows of the first samples of a track is appended, of which n come before them
-pub record BeginsRows (Is : ℕ → Sample → Type 0) (form : Form) (track n : ℕ) (follows : Bool)
+-- a beginning of the rows of the first samples of a track is appended, each of which is listed
+pub record BeginsRows (Is : ℕ → Sample → Type 0) (limit : Limit) (form : Form) (track n empty : ℕ) (follows : Bool)
     (old new : Option (List ℕ)) : Type 0 where
   pub samples : List Sample
   pub are : Follow Is 0 samples
+  pub listed : AreListed limit empty samples
   pub bytes : Begins old new (rows_text form track follows n samples)
 
--- a fragment ends after m samples, or the next one can't be told
-abbrev pub EndsAfter : Fragment → ℕ → Option FragmentFault → Type 0
-EndsAfter f m None = m ≡ sample_total f
-EndsAfter f m (Some fault) = Faults f m fault
+-- a fragment ends after m samples, or the next one isn't listed or has a fault
+abbrev pub EndsAfter : Fragment → Limit → ℕ → ℕ → Option Sample → Option FragmentFault → Type 0
+EndsAfter f limit m empty unlisted None = EndsListed (IsFragmentSample f) limit (sample_total f) m empty unlisted
+EndsAfter f limit m empty unlisted (Some fault) = (unlisted ≡ None) × Faults f m fault
 
--- the rows of the samples of a fragment are appended, all of them or those before the first that can't be told
-pub record WritesFragment (f : Fragment) (form : Form) (track n : ℕ) (follows is_followed : Bool)
+-- the rows of the samples of a fragment are appended, all of them or those before the first that isn't listed or has a
+-- fault
+pub record WritesFragment (f : Fragment) (limit : Limit) (form : Form) (track n empty : ℕ) (follows is_followed : Bool)
     (old new : Option (List ℕ)) (end : FragmentEnd) : Type 0 where
   pub samples : ℕ
   pub count : end.count ≡ n + samples
-  pub ends : EndsAfter f samples end.fault
-  pub rows : WritesRows (IsFragmentSample f) form track n samples follows is_followed old new
+  pub ends : EndsAfter f limit samples end.empty end.unlisted end.fault
+  pub rows : WritesRows (IsFragmentSample f) limit form track n empty samples end.empty follows is_followed old new
 
 -- whether rows follow something, after the heading of a track: as text they follow the heading
 abbrev pub is_headed : Form → Bool → Bool

@@ -1,5 +1,6 @@
 //! What is wrong with a track.
 
+use crate::limit::Unlisted;
 use mp4_frame::Error;
 use mp4_samples::{Disagreement, FragmentFault};
 use std::fmt;
@@ -34,6 +35,9 @@ pub enum Fault {
     /// A sample of a fragment in the `moof` at a position can't be told.
     #[error("moof at {0}: {1}")]
     Fragment(u64, FragmentFault),
+    /// Not all of its samples are listed.
+    #[error("{0}")]
+    Unlisted(Unlisted),
 }
 
 /// A fault, and the number of the track that has it, if that is known.

@@ -5,6 +5,7 @@
 mod fault;
 mod fragments;
 mod heading;
+mod limit;
 mod movie;
 mod places;
 mod reading;

@@ -5,13 +5,15 @@ ghost use Rattle.std.specs.Io.KnownBytes.{Appends};
 ghost use Rattle.mp4_io.specs.Ends.{is_write, is_read};
 ghost use Rattle.mp4_samples.specs.Fragments.{IsFragmentSample};
 ghost use Rattle.mp4_samples.specs.Samples.{IsSample, sample_count};
+ghost use Rattle.mp4_inspect_samples.specs.Listed.{EndsListed};
 ghost use Rattle.mp4_inspect_samples.specs.RowText.{row_text};
 ghost use Rattle.mp4_inspect_samples.specs.Rows.{Begins, WritesRows, BeginsRows, WritesFragment};
 
+use crate::limit::{Limit, empty_after, is_listed};
 use crate::row::{Row, row_of};
 use crate::row_text::{Form, push_row};
 use mp4_io::{Failure, Output, write_all};
-use mp4_samples::{Fragment, FragmentFault, SampleTables};
+use mp4_samples::{Fragment, FragmentFault, Sample, SampleTables};
 use std::alloc::Global;
 use std::io::Write;
 
@@ -59,34 +61,61 @@ fn write_row<W: Write>(row: &Row, sheet: &mut Sheet, output: &mut Output<W>) -> 
     write_all(output, sheet.text.as_bytes())
 }
 
-/// Writes a row for each sample of the tables of a track.
+/// The end of the rows of the tables of a track.
+#[derive(Clone, Copy, Debug, PartialEq, Eq)]
+pub struct RowsEnd {
+    /// The number of the last sample of the track that is written.
+    pub count: u64,
+    /// The number of samples without bytes in a row up to it, counted up to `MOST_EMPTY`.
+    pub empty: u32,
+    /// The next sample, if it isn't listed.
+    pub unlisted: Option<Sample>,
+}
+
+/// Writes a row for each sample of the tables of a track, up to the first that isn't listed.
 pub fn write_rows<W: Write>(
     tables: &SampleTables<'_>,
     track: u32,
+    limit: Limit,
     sheet: &mut Sheet,
     output: &mut Output<W>,
-) -> Result<(), Failure>
-    ensures rows { OnOk result
-        (WritesRows (IsSample tables.now) sheet.old.form track 0 (sample_count tables.now) sheet.old.follows
+) -> Result<RowsEnd, Failure>
+    ensures rows { IfOk result (λ end.
+        WritesRows (IsSample tables.now) limit sheet.old.form track 0 0 end.count end.empty sheet.old.follows
         sheet.new.follows (W.contents output.old.inner) (W.contents output.new.inner)) }
+    ensures ends { IfOk result (λ end.
+        EndsListed (IsSample tables.now) limit (sample_count tables.now) end.count end.empty end.unlisted) }
     ensures begins { OnErr result
-        (BeginsRows (IsSample tables.now) sheet.old.form track 0 sheet.old.follows (W.contents output.old.inner)
-        (W.contents output.new.inner)) }
+        (BeginsRows (IsSample tables.now) limit sheet.old.form track 0 0 sheet.old.follows
+        (W.contents output.old.inner) (W.contents output.new.inner)) }
     ensures form { sheet.new.form ≡ sheet.old.form }
     ensures not_read { is_read result ≡ false }
     ensures failed { output.new.failed ≡ (output.old.failed || is_write result) }
 {
     let mut samples = tables.samples();
+    let mut count: u64 = 0;
+    let mut empty = 0;
     for _ in 0..u64::MAX {
         match samples.next() {
             Some(sample) => {
-                write_row(
-                    &row_of(track, samples.number() as u64, &sample),
-                    sheet,
-                    output,
-                )?;
+                if !is_listed(limit, empty, &sample) {
+                    return Ok(RowsEnd {
+                        count,
+                        empty,
+                        unlisted: Some(sample),
+                    });
+                }
+                count = u64::from(samples.number());
+                empty = empty_after(empty, &sample);
+                write_row(&row_of(track, count, &sample), sheet, output)?;
             }
-            None => return Ok(()),
+            None => {
+                return Ok(RowsEnd {
+                    count,
+                    empty,
+                    unlisted: None,
+                });
+            }
         }
     }
     Err(Failure::Memory)
@@ -99,24 +128,31 @@ pub struct FragmentEnd {
     pub count: u64,
     /// When it ends, in the timescale of the media.
     pub time: u64,
+    /// The number of samples without bytes in a row up to it, counted up to `MOST_EMPTY`.
+    pub empty: u32,
+    /// The next sample, if it isn't listed.
+    pub unlisted: Option<Sample>,
     /// Why the next one can't be told, if there is one.
     pub fault: Option<FragmentFault>,
 }
 
-/// Writes a row for each sample of a fragment of a track, up to the first that can't be told. `before` samples of the
-/// track come before it. 2^64 - 1 samples are out of memory.
+/// Writes a row for each sample of a fragment of a track, up to the first that isn't listed or has a fault. `before`
+/// samples of the track come before it, the last `empty_before` of them without bytes. 2^64 - 1 samples are out of
+/// memory.
 pub fn write_fragment_rows<W: Write>(
     fragment: &Fragment<'_>,
     track: u32,
+    limit: Limit,
     before: u64,
+    empty_before: u32,
     sheet: &mut Sheet,
     output: &mut Output<W>,
 ) -> Result<FragmentEnd, Failure>
     ensures rows { IfOk result
-        (WritesFragment fragment.now sheet.old.form track before sheet.old.follows sheet.new.follows
+        (WritesFragment fragment.now limit sheet.old.form track before empty_before sheet.old.follows sheet.new.follows
         (W.contents output.old.inner) (W.contents output.new.inner)) }
     ensures begins { OnErr result
-        (BeginsRows (IsFragmentSample fragment.now) sheet.old.form track before sheet.old.follows
+        (BeginsRows (IsFragmentSample fragment.now) limit sheet.old.form track before empty_before sheet.old.follows
         (W.contents output.old.inner) (W.contents output.new.inner)) }
     ensures form { sheet.new.form ≡ sheet.old.form }
     ensures not_read { is_read result ≡ false }
@@ -124,19 +160,32 @@ pub fn write_fragment_rows<W: Write>(
 {
     let mut samples = fragment.samples();
     let mut count = before;
+    let mut empty = empty_before;
     for _ in 0..u64::MAX {
         match samples.next() {
             Some(Ok(sample)) => {
+                if !is_listed(limit, empty, &sample) {
+                    return Ok(FragmentEnd {
+                        count,
+                        time: samples.time(),
+                        empty,
+                        unlisted: Some(sample),
+                        fault: None,
+                    });
+                }
                 if count == u64::MAX {
                     return Err(Failure::Memory);
                 }
                 count += 1;
+                empty = empty_after(empty, &sample);
                 write_row(&row_of(track, count, &sample), sheet, output)?;
             }
             Some(Err(fault)) => {
                 return Ok(FragmentEnd {
                     count,
                     time: samples.time(),
+                    empty,
+                    unlisted: None,
                     fault: Some(fault),
                 });
             }
@@ -144,6 +193,8 @@ pub fn write_fragment_rows<W: Write>(
                 return Ok(FragmentEnd {
                     count,
                     time: samples.time(),
+                    empty,
+                    unlisted: None,
                     fault: None,
                 });
             }

@@ -7,6 +7,7 @@ ghost use Rattle.mp4_tree.specs.Walk.{left};
 use crate::fault::{Fault, TrackFault};
 use crate::fragments::{FragmentBoxes, Place, read_fragment};
 use crate::heading::{write_end, write_front, write_heading};
+use crate::limit::{Limit, Unlisted, samples_in, unlisted_of};
 use crate::movie::{Movie, movie_of};
 use crate::places::{Places, places_of};
 use crate::row_text::Form;
@@ -28,6 +29,8 @@ pub struct Choice {
     pub form: Form,
     /// The number of the track whose samples are written; those of all tracks if none.
     pub track: Option<u32>,
+    /// Asks for all samples, past the end of the file too.
+    pub beyond: bool,
 }
 
 impl Choice {
@@ -47,6 +50,10 @@ struct Reached {
     count: u64,
     /// When the last one ends, in the timescale of the media.
     time: u64,
+    /// The number of samples without bytes in a row up to it, counted up to `MOST_EMPTY`.
+    empty: u32,
+    /// The first sample that isn't listed, if there is one.
+    unlisted: Option<Unlisted>,
 }
 
 /// The boxes that are left of a walk, in order.
@@ -101,12 +108,13 @@ fn end_time(tables: &SampleTables<'_>) -> u64 {
     }
 }
 
-/// Writes the samples of the tables of a track, after its heading.
+/// Writes the samples of the tables of a track, after its heading, up to the first that isn't listed.
 fn write_tables<S: Source, W: Write>(
     alloc: Global,
     tree: &mut Tree<S>,
     places: &Places,
     track: u32,
+    limit: Limit,
     read: &TrackTables,
     sheet: &mut Sheet,
     output: &mut Output<W>,
@@ -116,32 +124,47 @@ fn write_tables<S: Source, W: Write>(
         Err(disagreement) => return Err(Stop::Faulty(Fault::Tables(disagreement))),
     };
     write_heading(alloc, tree, places, track, sheet, output)?;
-    write_rows(&tables, track, sheet, output)?;
+    let end = write_rows(&tables, track, limit, sheet, output)?;
+    let counted = u64::from(tables.len());
     Ok(Reached {
-        count: u64::from(tables.len()),
+        count: end.count,
         time: end_time(&tables),
+        empty: end.empty,
+        unlisted: unlisted_of(limit, end.count, counted, end.unlisted),
     })
 }
 
-/// Writes the samples of a fragment. Returns what has been written of the track then.
+/// Writes the samples of a fragment, up to the first that isn't listed. Returns what has been written of the track.
 fn write_fragment<W: Write>(
     read: &FragmentBoxes,
     defaults: &TrexBox,
     place: Place,
     track: u32,
+    limit: Limit,
     reached: Reached,
     sheet: &mut Sheet,
     output: &mut Output<W>,
 ) -> Result<Reached, Stop> {
     let fragment = read.fragment(defaults, place, reached.time)?;
-    let end = write_fragment_rows(&fragment, track, reached.count, sheet, output)?;
-    match end.fault {
-        Some(fault) => Err(Stop::Faulty(Fault::Fragment(place.moof, fault))),
-        None => Ok(Reached {
-            count: end.count,
-            time: end.time,
-        }),
+    let end = write_fragment_rows(
+        &fragment,
+        track,
+        limit,
+        reached.count,
+        reached.empty,
+        sheet,
+        output,
+    )?;
+    if let Some(fault) = end.fault {
+        return Err(Stop::Faulty(Fault::Fragment(place.moof, fault)));
     }
+    let counted = reached.count.saturating_add(samples_in(&read.runs));
+    Ok(Reached {
+        count: end.count,
+        time: end.time,
+        empty: end.empty,
+        unlisted: unlisted_of(limit, end.count, counted, end.unlisted),
+    })
 }
 
 /// The boxes from an index on.
@@ -149,32 +172,57 @@ fn boxes_from(boxes: &[TreeBox], index: usize) -> &[TreeBox] {
     &boxes[index.min(boxes.len())..]
 }
 
-/// Writes the samples of the fragments of a track, up to the first that has a fault.
+/// Returns how many samples the runs of a `traf` count, the first of `boxes`; 0 if its boxes can't be read.
+fn count_fragment<S: Source>(
+    alloc: Global,
+    tree: &mut Tree<S>,
+    boxes: &[TreeBox],
+    moof: u64,
+) -> Result<u64, Failure> {
+    match read_fragment(alloc, tree, boxes, moof) {
+        Ok(read) => Ok(samples_in(&read.runs)),
+        Err(Stop::Failed(failure)) => Err(failure),
+        Err(Stop::Faulty(_)) => Ok(0),
+    }
+}
+
+/// Writes the samples of the fragments of a track, up to the first that has a fault or isn't listed. It counts those
+/// after it.
 fn write_fragments<S: Source, W: Write>(
     alloc: Global,
     tree: &mut Tree<S>,
     boxes: &[TreeBox],
     movie: &Movie,
     track: u32,
+    limit: Limit,
     reached: Reached,
     sheet: &mut Sheet,
     output: &mut Output<W>,
-) -> Result<(), Stop> {
-    let Some(places) = movie.fragments.get(&track) else {
-        return Ok(());
-    };
-    let Some(defaults) = movie.defaults.get(&track) else {
-        return Err(Stop::Faulty(Fault::Missing("trex")));
-    };
+) -> Result<Reached, Stop> {
     let mut reached = reached;
+    let Some(places) = movie.fragments.get(&track) else {
+        return Ok(reached);
+    };
     for place in places {
-        let read = read_fragment(alloc, tree, boxes_from(boxes, place.index), place.moof)?;
-        reached = write_fragment(&read, defaults, *place, track, reached, sheet, output)?;
+        let own = boxes_from(boxes, place.index);
+        if let Some(unlisted) = reached.unlisted {
+            let more = count_fragment(alloc, tree, own, place.moof)?;
+            reached.unlisted = Some(unlisted.and_more(more));
+            continue;
+        }
+        let Some(defaults) = movie.defaults.get(&track) else {
+            return Err(Stop::Faulty(Fault::Missing("trex")));
+        };
+        let read = read_fragment(alloc, tree, own, place.moof)?;
+        reached = write_fragment(
+            &read, defaults, *place, track, limit, reached, sheet, output,
+        )?;
     }
-    Ok(())
+    Ok(reached)
 }
 
-/// Writes the samples of a track: those of its tables, and then those of its fragments.
+/// Writes the samples of a track, up to the first that isn't listed: those of its tables, and then those of its
+/// fragments.
 fn write_track<S: Source, W: Write>(
     alloc: Global,
     tree: &mut Tree<S>,
@@ -182,17 +230,29 @@ fn write_track<S: Source, W: Write>(
     movie: &Movie,
     places: &Places,
     track: u32,
+    limit: Limit,
     sheet: &mut Sheet,
     output: &mut Output<W>,
 ) -> Result<(), Stop> {
     let reached = match read_tables(alloc, tree, places)? {
-        Some(read) => write_tables(alloc, tree, places, track, &read, sheet, output)?,
+        Some(read) => write_tables(alloc, tree, places, track, limit, &read, sheet, output)?,
         None => {
             write_heading(alloc, tree, places, track, sheet, output)?;
-            Reached { count: 0, time: 0 }
+            Reached {
+                count: 0,
+                time: 0,
+                empty: 0,
+                unlisted: None,
+            }
         }
     };
-    write_fragments(alloc, tree, boxes, movie, track, reached, sheet, output)
+    let reached = write_fragments(
+        alloc, tree, boxes, movie, track, limit, reached, sheet, output,
+    )?;
+    match reached.unlisted {
+        Some(unlisted) => Err(Stop::Faulty(Fault::Unlisted(unlisted))),
+        None => Ok(()),
+    }
 }
 
 /// Keeps a fault of a track, or of the file.
@@ -233,7 +293,13 @@ fn enter_track<S: Source, W: Write>(
         return keep_one(Fault::NoHeader(position), None, faults);
     };
     if choice.has(track) {
-        let outcome = write_track(alloc, tree, boxes, movie, &places, track, sheet, output);
+        let limit = Limit {
+            length: tree.length(),
+            beyond: choice.beyond,
+        };
+        let outcome = write_track(
+            alloc, tree, boxes, movie, &places, track, limit, sheet, output,
+        );
         keep_fault(outcome, Some(track), faults)?;
     }
     movie.leave(track)?;
@@ -320,7 +386,8 @@ fn write_sheet<S: Source, W: Write>(
 }
 
 /// Writes the samples of a file: a row for each, those of one track after the other, and of a track first those of its
-/// tables and then those of its fragments. Faults of tracks are kept, and the samples of the other tracks are written.
+/// tables and then those of its fragments. The rows of a track end before the first sample that isn't listed. Faults of
+/// tracks are kept, and the samples of the other tracks are written.
 pub fn write_samples<S: Source, W: Write>(
     alloc: Global,
     source: S,

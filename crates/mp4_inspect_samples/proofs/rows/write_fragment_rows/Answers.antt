@@ -1,6 +1,7 @@
-use Rattle.std.proofs.Common.{◌≡◌, ℕ, ◌+◌, subst, sym, ◌∙◌, arith, rules}
+use Rattle.std.proofs.Common.{◌≡◌, ℕ, ◌+◌, true, refl, subst, sym, ◌∙◌, arith, rules}
 use Rattle.mp4_inspect_samples.proofs.RowLists.{writes_none, writes_next, begins_next, begins_all, on_err}
 use Rattle.mp4_inspect_samples.proofs.rows.write_fragment_rows.Goals as goal
+use Rattle.mp4_inspect_samples.specs.Listed.{is_listed}
 use Rattle.mp4_inspect_samples.specs.Rows.{WritesRows}
 use Rattle.mp4_samples.proofs.Fragments.{no_runs_samples}
 use Rattle.mp4_samples.specs.FragmentGives.{begins, number_of, sample_total}
@@ -19,10 +20,12 @@ loop-init g c =
       mark = search rules;
       count = rw c.samples-samples.ensures (omega (arith, none));
       written = rw c.samples-samples.ensures
-          (subst (λ (j : ℕ). WritesRows (IsFragmentSample f) c.args.sheet.now.form c.args.track c.args.before j
+          (subst (λ (j : ℕ). WritesRows (IsFragmentSample f) c.args.limit c.args.sheet.now.form c.args.track
+          c.args.before c.args.empty_before j c.args.empty_before
           c.args.sheet.now.follows c.args.sheet.now.follows (g.W.Write.contents c.args.output.now.inner)
           (g.W.Write.contents c.args.output.now.inner)) (sym zero)
-          (writes_none (IsFragmentSample f) c.args.sheet.now.form c.args.track c.args.before c.args.sheet.now.follows
+          (writes_none (IsFragmentSample f) c.args.limit c.args.sheet.now.form c.args.track c.args.before
+          c.args.empty_before c.args.sheet.now.follows
           (g.W.Write.contents c.args.output.now.inner)));
     }
 
@@ -34,25 +37,29 @@ loop-preserved g c =
     c.loop.invariant.fragment gives.1 in
     let next : number_of c.next.new.self ≡ number_of c.loop.samples + 1 = gives.3 in
     let count : c.loop.count ≡ c.args.before + number_of c.loop.samples = c.loop.invariant.count in
+    let listed : is_listed c.args.limit c.loop.empty c.in-Some-Ok.sample ≡ true =
+    sym c.is_listed.ensures ∙ c.if-not-is_listed.false in
     record {
       fragment = gives.2 ∙ c.loop.invariant.fragment;
       on = gives.4;
       form = c.in_ok-write_row-in-Some-Ok.ensures.form ∙ c.loop.invariant.form;
       mark = search rules;
       count = omega (arith, next, count);
-      written = writes_next (IsFragmentSample f) c.args.sheet.now.form c.args.track c.args.before
-          c.args.sheet.now.follows (number_of c.loop.samples) (number_of c.next.new.self) (c.loop.count + 1)
-          c.loop.sheet.form c.loop.sheet.follows c.write_row.new.sheet.follows
+      written = writes_next (IsFragmentSample f) c.args.limit c.args.sheet.now.form c.args.track c.args.before
+          c.args.empty_before c.args.sheet.now.follows (number_of c.loop.samples) (number_of c.next.new.self)
+          (c.loop.count + 1) c.loop.empty c.empty_after-empty.result c.loop.sheet.form c.loop.sheet.follows
+          c.write_row.new.sheet.follows
           (g.W.Write.contents c.args.output.now.inner) (g.W.Write.contents c.loop.output.inner)
           (g.W.Write.contents c.write_row.new.output.inner) c.in-Some-Ok.sample c.row_of.result
-          c.loop.invariant.written is next c.row_of.ensures (omega (arith, count)) c.loop.invariant.form
+          c.loop.invariant.written is listed c.empty_after-empty.ensures next c.row_of.ensures (omega (arith, count))
+          c.loop.invariant.form
           c.in_ok-write_row-in-Some-Ok.ensures.follows c.in_ok-write_row-in-Some-Ok.ensures.row;
     }
 
 pub returns-then-count-clause-begins : goal.returns-then-count-clause-begins
 returns-then-count-clause-begins g c =
-    begins_all (IsFragmentSample c.args.fragment.now) c.args.sheet.now.form c.args.track c.args.before
-    c.args.sheet.now.follows _ _ _ _ c.loop.invariant.written
+    begins_all (IsFragmentSample c.args.fragment.now) c.args.limit c.args.sheet.now.form c.args.track c.args.before
+    c.args.empty_before c.args.sheet.now.follows _ _ _ _ _ c.loop.invariant.written
 
 pub returns-in_err-write_row-in-Some-Ok-clause-begins : goal.returns-in_err-write_row-in-Some-Ok-clause-begins
 returns-in_err-write_row-in-Some-Ok-clause-begins g c =
@@ -61,12 +68,15 @@ returns-in_err-write_row-in-Some-Ok-clause-begins g c =
     let is = subst (λ (f : Fragment). IsFragmentSample f (number_of c.loop.samples) c.in-Some-Ok.sample)
     c.loop.invariant.fragment gives.1 in
     let count : c.loop.count ≡ c.args.before + number_of c.loop.samples = c.loop.invariant.count in
+    let listed : is_listed c.args.limit c.loop.empty c.in-Some-Ok.sample ≡ true =
+    sym c.is_listed.ensures ∙ c.if-not-is_listed.false in
     on_err _
-    (begins_next (IsFragmentSample f) c.args.sheet.now.form c.args.track c.args.before c.args.sheet.now.follows
-    (number_of c.loop.samples) (c.loop.count + 1) c.loop.sheet.form c.loop.sheet.follows
+    (begins_next (IsFragmentSample f) c.args.limit c.args.sheet.now.form c.args.track c.args.before
+    c.args.empty_before c.args.sheet.now.follows
+    (number_of c.loop.samples) (c.loop.count + 1) c.loop.empty c.loop.sheet.form c.loop.sheet.follows
     (g.W.Write.contents c.args.output.now.inner) (g.W.Write.contents c.loop.output.inner)
     (g.W.Write.contents c.write_row.new.output.inner) c.in-Some-Ok.sample c.row_of.result
-    c.loop.invariant.written is c.row_of.ensures (omega (arith, count)) c.loop.invariant.form
+    c.loop.invariant.written is listed c.row_of.ensures (omega (arith, count)) c.loop.invariant.form
     c.in_err-write_row-in-Some-Ok.ensures.begins)
 
 pub returns-in-Some-Err-clause-rows : goal.returns-in-Some-Err-clause-rows
@@ -75,8 +85,25 @@ returns-in-Some-Err-clause-rows g c =
     record {
       samples = number_of c.loop.samples;
       count = c.loop.invariant.count;
-      ends = subst (λ (f : Fragment). Faults f (number_of c.loop.samples) c.in-Some-Err.fault)
-          c.loop.invariant.fragment gives.1;
+      ends = (
+        refl,
+        subst (λ (f : Fragment). Faults f (number_of c.loop.samples) c.in-Some-Err.fault)
+            c.loop.invariant.fragment gives.1,
+      );
+      rows = c.loop.invariant.written;
+    }
+
+pub returns-then-not-is_listed-clause-rows : goal.returns-then-not-is_listed-clause-rows
+returns-then-not-is_listed-clause-rows g c =
+    let gives = rw c.in-Some-Ok.field-0-is at c.in-Some-Ok.ensures.steps in
+    record {
+      samples = number_of c.loop.samples;
+      count = c.loop.invariant.count;
+      ends = (
+        subst (λ (f : Fragment). IsFragmentSample f (number_of c.loop.samples) c.in-Some-Ok.sample)
+            c.loop.invariant.fragment gives.1,
+        sym c.is_listed.ensures ∙ c.if-not-is_listed.true,
+      );
       rows = c.loop.invariant.written;
     }
 
@@ -93,5 +120,5 @@ returns-in-None-clause-rows g c =
 
 pub returns-clause-begins : goal.returns-clause-begins
 returns-clause-begins g c =
-    begins_all (IsFragmentSample c.args.fragment.now) c.args.sheet.now.form c.args.track c.args.before
-    c.args.sheet.now.follows _ _ _ _ c.loop.invariant.written
+    begins_all (IsFragmentSample c.args.fragment.now) c.args.limit c.args.sheet.now.form c.args.track c.args.before
+    c.args.empty_before c.args.sheet.now.follows _ _ _ _ _ c.loop.invariant.written

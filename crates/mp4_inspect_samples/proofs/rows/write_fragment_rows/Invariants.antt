@@ -12,7 +12,7 @@ invariant-loop g l = record {
   form : l.sheet.form ≡ l.initial.sheet.form;
   mark : l.output.failed ≡ l.initial.output.failed;
   count : l.count ≡ l.before + number_of l.samples;
-  written : WritesRows (IsFragmentSample l.fragment) l.initial.sheet.form l.track l.before (number_of l.samples)
-      l.initial.sheet.follows l.sheet.follows (g.W.Write.contents l.initial.output.inner)
+  written : WritesRows (IsFragmentSample l.fragment) l.limit l.initial.sheet.form l.track l.before l.empty_before
+      (number_of l.samples) l.empty l.initial.sheet.follows l.sheet.follows (g.W.Write.contents l.initial.output.inner)
       (g.W.Write.contents l.output.inner);
 }

@@ -10,6 +10,8 @@ invariant-loop g l = record {
   within : l.samples.number ≤ sample_count l.tables;
   form : l.sheet.form ≡ l.initial.sheet.form;
   mark : l.output.failed ≡ l.initial.output.failed;
-  written : WritesRows (IsSample l.tables) l.initial.sheet.form l.track 0 l.samples.number l.initial.sheet.follows
-      l.sheet.follows (g.W.Write.contents l.initial.output.inner) (g.W.Write.contents l.output.inner);
+  count : l.count ≡ l.samples.number;
+  written : WritesRows (IsSample l.tables) l.limit l.initial.sheet.form l.track 0 0 l.samples.number l.empty
+      l.initial.sheet.follows l.sheet.follows (g.W.Write.contents l.initial.output.inner)
+      (g.W.Write.contents l.output.inner);
 }
