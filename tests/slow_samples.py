@@ -288,11 +288,17 @@ class File:
 
     def end(self, traf, header, base):
         """Returns where the data of a fragment end; none if that isn't known."""
+        if base is None or header["track"] not in self.defaults:
+            return None
         try:
-            last = None if base is None else self.samples(header["track"], traf, header, base, 0, True)[1]
+            _, runs = self.runs(traf)
         except Bad:
             return None
-        return last if last is not None and 0 <= last < 2**64 else None
+        last, default = base, {**self.defaults[header["track"]], **header}["size"]
+        for values, count, rows in runs:
+            last = base + values["offset"] if "offset" in values else last
+            last += sum(row.get("size", default) for row in rows) if isinstance(rows, list) else count * default
+        return last if 0 <= last < 2**64 else None
 
     def runs(self, traf):
         """When a fragment begins, if it says so, and its runs."""
@@ -314,7 +320,7 @@ class File:
         begin, runs = self.runs(traf)
         return (yield from run_steps(header, self.defaults[track], runs, base, time if begin is None else begin, where))
 
-    def samples(self, track, traf, header, base, time, is_strict=False):
+    def samples(self, track, traf, header, base, time):
         """The samples of a fragment, in a list, where their data end, when, and the words of a fault."""
         samples, steps, fault = [], self.steps(track, traf, header, base, time), None
         try:
@@ -325,7 +331,7 @@ class File:
             return samples, *ended.value, None
         except Bad as bad:
             fault = bad.args[0]
-            if is_strict or not fault or not fault.startswith("sample"):
+            if not fault or not fault.startswith("sample"):
                 raise
         return samples, None, None, fault
 

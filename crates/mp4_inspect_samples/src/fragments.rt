@@ -162,19 +162,6 @@ impl FragmentBoxes {
     }
 }
 
-/// Where the data of a fragment end; none if that can't be told.
-fn end_of(fragment: &Fragment<'_>) -> Option<u64> {
-    let mut samples = fragment.samples();
-    for _ in 0..u64::MAX {
-        match samples.next() {
-            Some(Ok(_)) => {}
-            Some(Err(_)) => return None,
-            None => return samples.offset(),
-        }
-    }
-    None
-}
-
 /// Where the data of a `traf` end; none if that can't be told.
 pub fn data_end_of<S: Source>(
     alloc: Global,
@@ -197,7 +184,7 @@ pub fn data_end_of<S: Source>(
         Err(Stop::Faulty(_)) => return Ok(None),
     };
     match read.fragment(defaults, place, 0) {
-        Ok(fragment) => Ok(end_of(&fragment)),
+        Ok(fragment) => Ok(fragment.end()),
         Err(Stop::Failed(failure)) => Err(failure),
         Err(Stop::Faulty(_)) => Ok(None),
     }
