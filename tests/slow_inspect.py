@@ -15,6 +15,8 @@ from slow_reader import READERS, read_row
 from slow_samples import disagreement
 
 CONTAINERS = b"moov trak mdia minf stbl edts mvex moof traf mfra udta dinf sinf schi wave iprp ipco ilst".split()
+# The boxes that files have at their top level (ISO/IEC 14496-12, and QuickTime's).
+TOPS = b"ftyp styp moov moof mdat meta free skip wide uuid udta sidx ssix prft emsg mfra pdin pnot".split()
 DEEPEST = 32
 FIXED = {"rate": 16, "volume": 8, "width": 16, "height": 16, "horizresolution": 16, "vertresolution": 16, "balance": 8,
          "samplerate": 16}
@@ -133,6 +135,17 @@ def fields_of(name, box, version=None):
     return {key: shown(key, field, version, name) for key, field in box.items() if key not in left_out}
 
 
+NOT_MP4 = "this is not an MP4 file: "
+
+
+def front_text(data):
+    """What a file begins with: the first eight bytes of a text, or the first four of other bytes."""
+    is_text = all(0x20 <= byte < 0x7F for byte in data[:8])
+    text = "".join(("\\" if byte in b'"\\' else "") + chr(byte) if 0x20 <= byte < 0x7F else f"\\x{byte:02x}"
+                   for byte in data[:8 if is_text else 4])
+    return f'"{text}"' if is_text else text
+
+
 class Walk:
     """A walk over the boxes of a file."""
 
@@ -208,8 +221,9 @@ class Walk:
             return 0 if end - content < 4 or end - content >= 8 and data[content + 4:content + 8] == b"hdlr" else 4
         return 8 if name in (b"stsd", b"dref") else None
 
-    def level(self, depth, at, end, parent):
-        """The boxes from an offset to the end of the content that they are in."""
+    def level(self, depth, at, end, parent, in_entry=False):
+        """The boxes from an offset to the end of the content that they are in. QuickTime may end those of a `udta` and
+        of a sample entry with a size of 0 alone (QuickTime File Format: User Data Atoms, Sample Descriptions)."""
         data, boxes = self.data, []
         while at < end:
             left = end - at
@@ -217,8 +231,13 @@ class Walk:
             header = 16 if left >= 8 and number(data, at, 4) == 1 else 8
             box = {"type": latin(name), "position": at, "length": left, "header": left}
             boxes.append(box)
+            if data[at:end] == bytes(4) and (parent == b"udta" or in_entry):
+                box.update(fields={"terminator": 0}, cut=True)
+                return boxes
             if left < header:
-                box.update(fault="unexpected end of input", cut=True)
+                is_short = depth == 0 and at == 0 and name is None
+                box.update(fault=NOT_MP4 + f"it has only {left} byte{'' if left == 1 else 's'}" if is_short
+                           else "unexpected end of input", cut=True)
                 return boxes
             size = number(data, at + 8, 8) if header == 16 else number(data, at, 4)
             if size == 0 and depth == 0:
@@ -237,7 +256,9 @@ class Walk:
         before = self.fields_before(name, content, end, parent)
         outer = self.handler
         if cut:
-            box.update(fault="unexpected end of input", cut=True)
+            is_foreign = box["position"] == 0 and box["header"] == 8 and name not in TOPS
+            box.update(fault=NOT_MP4 + f"it begins with {front_text(self.data)}" if is_foreign
+                       else "unexpected end of input", cut=True)
         elif before is None:
             box.update(self.leaf(name, box["position"], content, end, parent))
         elif depth >= DEEPEST:
@@ -249,7 +270,7 @@ class Walk:
             box.update({"fault": "unexpected end of input"} if fields is None else {"fields": fields} if fields else {})
         if before is not None and depth < DEEPEST:
             first = min(content + before, end)
-            box["children"] = self.level(depth + 1, first, end, name)
+            box["children"] = self.level(depth + 1, first, end, name, parent == b"stsd")
         if name == b"mdia":
             self.handler = outer
         if name == b"hdlr" and parent == b"mdia" and not cut:
@@ -529,65 +550,196 @@ def dumps(value):
 # ---- the faults
 
 
-def paths(boxes, front=""):
-    """Every box with its path and the boxes around it, in the order of the file."""
-    counts = {}
-    for box in boxes:
-        index = counts.get(box["type"], 0)
-        counts[box["type"]] = index + 1
-        path = front + ("-" if box["type"] is None else code_text(box["type"])) + (f"[{index}]" if index else "")
-        yield box, path
-        yield from paths(box.get("children", []), path + "/")
+# The boxes of which a box has to have one, and those of which it may have one at most (ISO/IEC 14496-12, the quantity
+# of each box; 8.5.1 for `stbl`); of those in one string only one in all.
+NEEDED = {"moov": ["mvhd cmov rmra"], "trak": ["tkhd", "mdia"], "mdia": ["mdhd"], "moof": ["mfhd"], "traf": ["tfhd"],
+          "stbl": ["stsd", "stts", "stsc", "stsz stz2", "stco co64"]}
+ONCE = {"moov": "mvhd iods mvex meta udta".split(), "trak": "tkhd tref trgr edts mdia meta udta".split(),
+        "mdia": "mdhd hdlr elng minf".split(), "minf": ["vmhd smhd hmhd sthd nmhd gmhd", "dinf", "stbl", "hdlr"],
+        "stbl": ["stsz stz2", "stco co64", *"stsd stts ctts cslg stsc stss stsh padb stdp sdtp".split()],
+        "moof": "mfhd meta udta".split(), "traf": "tfhd tfdt sdtp meta udta".split()}
+FILES = {"moov", "moof", "meta", "sidx"}
 
 
-def stray(offsets, data, media):
-    """What is said of chunks that are in no media data."""
-    found = [(chunk, offset) for chunk, offset in enumerate(offsets, 1)
-             if not any(first <= offset < end for first, end in media)]
-    if not found:
-        return None
-    chunk, offset = found[0]
-    where = "is outside the file" if offset >= len(data) else "is in no media data"
-    more = f", and {len(found) - 1} more chunks are in none" if len(found) > 1 else ""
-    return f"chunk {chunk} at {offset} {where}{more}"
-
-
-def tables_fault(table):
-    """How the tables of samples in an `stbl` disagree; none if they agree, or if one is missing or can't be read."""
+def tables_of(table):
+    """The tables of samples in an `stbl`, the first of each; none if one is missing or can't be read."""
     found = {}
-    for box in table["children"]:
+    for box in table.get("children", []):
         found.setdefault(box["type"], box)
-    if "stco" not in found and "co64" in found:
-        found["stco"] = found["co64"]
-    used = [found[name] for name in ("stsz", "stsc", "stco", "stts", "ctts", "stss") if name in found]
-    if not {"stsz", "stsc", "stco", "stts"} <= set(found) or not all("fields" in box for box in used):
+    chunks = found.get("stco") or found.get("co64")
+    used = [chunks, *(found[name] for name in ("stsz", "stsc", "stts", "ctts", "stss") if name in found)]
+    if chunks is None or not {"stsz", "stsc", "stts"} <= set(found) or not all("fields" in box for box in used):
         return None
-    sizes, runs, offsets, times = (found[name]["fields"] for name in ("stsz", "stsc", "stco", "stts"))
+    sizes, runs, times = (found[name]["fields"] for name in ("stsz", "stsc", "stts"))
     sync = found["stss"]["fields"]["entries"] if "stss" in found else None
-    return disagreement({
+    return {
         "sizes": (sizes["sample_count"], sizes["sample_size"], sizes["sample_sizes"]),
         "runs": [(run["first_chunk"], run["samples_per_chunk"], 0) for run in runs["entries"]],
-        "offsets": offsets["entries"],
-        "durations": [(time["sample_count"], time["sample_delta"]) for time in times["entries"]], "sync": sync})
+        "offsets": chunks["fields"]["entries"], "position": chunks["position"],
+        "durations": [(time["sample_count"], time["sample_delta"]) for time in times["entries"]], "sync": sync}
+
+
+def chunk_sizes(tables):
+    """How many bytes each chunk has, in tables that agree (8.7.3, 8.7.4)."""
+    (count, one, sizes), held, passed, found = tables["sizes"], 0, 0, []
+    starts = {run[0]: run[1] for run in tables["runs"]}
+    for chunk in range(1, len(tables["offsets"]) + 1):
+        held = starts.get(chunk, held)
+        samples_ = min(held, count - passed)
+        found.append(one * samples_ if one else sum(sizes[passed:passed + samples_]))
+        passed += samples_
+    return found
+
+
+class Check:
+    """The lines that `check` writes of a file."""
+
+    def __init__(self, data, boxes):
+        self.length, self.found = len(data), []
+        self.media = [(box["position"] + box["header"], min(box["position"] + box["length"], len(data)))
+                      for box in boxes if box["type"] == "mdat"]
+        self.has_moov = any(box["type"] == "moov" for box in boxes)
+        self.headers, self.defaults = {}, {}
+        for moov in (box for box in boxes if box["type"] == "moov"):
+            self.movie(data, moov)
+        self.sizes, self.elsewhere, self.track, self.away = {}, False, None, set()
+        top = 0
+        for box, path, around, number_ in located(boxes):
+            if not around:
+                top = self.before = box["position"]
+            self.box(data, box, path, around, number_, top)
+        if not FILES & {box["type"] for box in boxes}:
+            self.found.append("0 moov: there is no moov, moof, meta or sidx")
+
+    def movie(self, data, moov):
+        """The numbers of the tracks of a `moov`, and the sizes of samples in their fragments."""
+        for box in moov.get("children", []):
+            for inner in box.get("children", []):
+                content, size = inner["position"] + inner["header"], inner["length"] - inner["header"]
+                if box["type"] == "trak" and inner["type"] == "tkhd" and is_whole(inner) and size >= 4:
+                    at = 20 if data[content] else 12
+                    if size >= at + 4:
+                        self.headers.setdefault(number(data, content + at, 4), inner["position"])
+                if box["type"] == "mvex" and inner["type"] == "trex" and is_whole(inner) and size >= 24:
+                    self.defaults.setdefault(number(data, content + 4, 4), number(data, content + 16, 4))
+
+    def box(self, data, box, path, around, number_, top):
+        """The lines of a box, which is the one of this number of its group."""
+        name, parent = box["type"], around[-1]["type"] if around else None
+        if name == "trak":
+            self.elsewhere, self.track = False, track_of(data, box)[0]
+        if name == "url " and "fields" in box and not box["fields"]["flags"] & 1:
+            self.elsewhere = True
+            self.away.add(self.track)
+        found = [box.get("fault") or self.known(box, parent, len(around))]
+        if number_ > 1:
+            names = next(names for names in ONCE[parent] if name in names.split())
+            found.append(f"this is number {number_}, and a {parent} may have only one {', '.join(names.split())}")
+        if is_whole(box) and "children" in box:
+            inside = {inner["type"] for inner in box["children"]}
+            lacks = [names.split() for names in NEEDED.get(name, []) if not inside & set(names.split())]
+            lacks = [names[0] if name == "moov" else " or ".join(names) for names in lacks]
+            found.append(f"there is {', '.join('no ' + names for names in lacks)}" if lacks else None)
+        if name == "stbl" and is_whole(box):
+            found.append(self.tables(box))
+        if name == "traf" and is_whole(box) and len(around) == 1 and parent == "moof":
+            found.append(self.runs(box, top))
+        self.found += [f"{box['position']} {path}: {line}" for line in found if line]
+
+    def known(self, box, parent, depth):
+        """What is said of the fields of a box."""
+        name, fields = box["type"], box.get("fields", {})
+        if not fields:
+            return None
+        if name == "tkhd" and parent == "trak" and depth == 2:
+            if fields["track_id"] == 0:
+                return "track_ID 0 is no number of a track; these begin at 1"
+            first = self.headers.get(fields["track_id"], box["position"])
+            if first != box["position"]:
+                return f"track_ID {fields['track_id']} is that of another track too, whose tkhd is at {first}"
+        if name == "tfhd" and parent == "traf" and depth == 2:
+            if self.has_moov and fields["track_id"] not in self.headers:
+                return f"track_ID {fields['track_id']} is that of no track of the moov"
+        if name in ("stco", "co64") and not self.elsewhere:
+            offsets = fields["entries"]
+            return self.outside("chunk", list(zip(offsets, self.sizes.get(box["position"], [1] * len(offsets)))))
+        return None
+
+    def tables(self, table):
+        tables = tables_of(table)
+        fault = disagreement(tables) if tables else None
+        if tables and not fault:
+            self.sizes[tables["position"]] = chunk_sizes(tables)
+        return fault
+
+    def runs(self, traf, moof):
+        """Where the samples of the runs of a `traf` are (8.8.7, 8.8.8)."""
+        before, self.before = self.before, None
+        parts = {}
+        for box in traf.get("children", []):
+            parts.setdefault(box["type"], []).append(box)
+        used = [*parts.get("tfhd", [])[:1], *parts.get("tfdt", [])[:1], *parts.get("trun", [])]
+        if "tfhd" not in parts or not all("fields" in box for box in used):
+            return None
+        header = parts["tfhd"][0]["fields"]
+        base = header.get("base_data_offset")
+        if base is None:
+            base = moof if header["flags"] & 0x20000 else before
+        if base is None:
+            return None
+        at, found = base, []
+        default = header.get("default_sample_size", self.defaults.get(header["track_id"]))
+        for run in (box["fields"] for box in parts.get("trun", [])):
+            at = base + run["data_offset"] if "data_offset" in run else at
+            sizes = run.get("sample_sizes", [])
+            if default is None and len(sizes) < run["sample_count"]:
+                at = None
+                break
+            size = sum(sizes) if sizes else run["sample_count"] * (default or 0)
+            found.append((at, size))
+            at += size
+        self.before = at if at is not None and 0 <= at < 2**64 else None
+        if header["track_id"] in self.away or "base_data_offset" in header and not self.has_moov:
+            return None
+        return self.outside("run", found)
+
+    def outside(self, word, places):
+        """What is said of chunks or runs that are not in one `mdat`."""
+        found = [(index, at, at + size) for index, (at, size) in enumerate(places, 1)
+                 if not any(first <= at and at + size <= end for first, end in self.media)]
+        if not found:
+            return None
+        count, every_ = len(found), len(places)
+        many = f"{word} lies" if every_ == 1 else f"{word}s lies" if count == 1 else f"{word}s lie"
+        text = f"{count} of {every_} {many} outside the media data; the first is {word} {found[0][0]}"
+        _, at, end = found[0]
+        if at < 0:
+            return f"{text}, which begins before the file"
+        text += f" at offset {at}"
+        if at >= self.length:
+            return f"{text}, past the end of the file ({self.length} bytes)"
+        if end > self.length:
+            return f"{text}, which ends at {min(end, 2**64 - 1)}, past the end of the file ({self.length} bytes)"
+        for first, last in self.media:
+            if first <= at < last:
+                return f"{text}, which ends at {end}, past the end of its mdat at {last}"
+        return f"{text}, which is in no mdat"
+
+
+def located(level, front="", around=()):
+    """The boxes of a level and those in them, each with its path, the boxes around it, and its number among those of
+    which there may be one; 0 if there may be any number."""
+    types, groups = {}, {}
+    for box in level:
+        index = types[box["type"]] = types.get(box["type"], -1) + 1
+        path = front + ("-" if box["type"] is None else code_text(box["type"])) + (f"[{index}]" if index else "")
+        names = next((names for names in ONCE.get(around[-1]["type"] if around else None, [])
+                      if box["type"] in names.split()), None)
+        groups[names] = groups.get(names, 0) + 1
+        yield box, path, around, groups[names] if names else 0
+        yield from located(box.get("children", []), path + "/", (*around, box))
 
 
 def faults(data, boxes):
     """The lines that `check` writes."""
-    media = [(box["position"] + box["header"], min(box["position"] + box["length"], len(data)))
-             for box in boxes if box["type"] == "mdat"]
-    found, elsewhere = [], False
-    for box, path in paths(boxes):
-        if box["type"] == "trak":
-            elsewhere = False
-        if box["type"] == "url " and "fields" in box and not box["fields"]["flags"] & 1:
-            elsewhere = True
-        fault = box.get("fault")
-        if fault is None and not elsewhere and box["type"] in ("stco", "co64") and "fields" in box:
-            fault = stray(box["fields"]["entries"], data, media)
-        if fault is None and box["type"] == "stbl" and not box.get("cut") and "children" in box:
-            fault = tables_fault(box)
-        if fault is not None:
-            found.append(f"{box['position']} {path}: {fault}")
-    if not any(box["type"] in ("moov", "moof") for box in boxes):
-        found.append("0 moov: there is no moov, and no moof")
-    return found
+    return Check(data, boxes).found

@@ -12,7 +12,7 @@ use Rattle.mp4_frame.specs.declared.box_type.BoxType.{BoxType}
 use Rattle.mp4_inspect.proofs.Boxes.{or_assoc, or_false}
 use Rattle.mp4_inspect.specs.Content.{ShowsAs}
 use Rattle.mp4_inspect.specs.Faults.{told_text, movie_text, IsLine, IsLineIf, IsTold, AreLines, Faults, WritesLines}
-use Rattle.mp4_inspect.specs.Faults.{WritesFaults, WritesAllFaults, WritesCheck}
+use Rattle.mp4_inspect.specs.Faults.{WritesMore, WritesFaults, WritesAllFaults, WritesCheck}
 use Rattle.mp4_inspect.specs.Kind.{kind_of}
 use Rattle.mp4_inspect.specs.declared.content.Content.{Content}
 use Rattle.mp4_io.specs.declared.failure.Failure.{Failure}
@@ -25,31 +25,57 @@ line_if : (told : Bool) (front line : List ℕ) (found : TreeBox) → (told ≡ 
 line_if true front line found is = is refl
 line_if false front line found is = refl
 
+-- the three lines of a box beside that of what is read of it
+pub writes_more : (front one two three : List ℕ) (found : TreeBox) (repeated lacks outside : Bool) (a b c d : Option
+    (List ℕ))
+    → (repeated ≡ true → IsLine front found one) → Appends a b (told_text repeated one)
+    → (lacks ≡ true → IsLine front found two) → Appends b c (told_text lacks two)
+    → (outside ≡ true → IsLine front found three) → Appends c d (told_text outside three)
+    → WritesMore front found a d (repeated || (lacks || outside))
+writes_more front one two three found repeated lacks outside a b c d first put second put_after third put_last = (
+  told_text repeated one ++ (told_text lacks two ++ told_text outside three),
+  (
+    told_text repeated one,
+    told_text lacks two,
+    told_text outside three,
+    repeated,
+    lacks,
+    outside,
+    line_if repeated front one found first,
+    line_if lacks front two found second,
+    line_if outside front three found third,
+    refl,
+    refl,
+  ),
+  Appends-trans a b d (told_text repeated one) (told_text lacks two ++ told_text outside three) put
+      (Appends-trans b c d (told_text lacks two) (told_text outside three) put_after put_last),
+)
+
 module _ {A : Type 0} (known : BoxType → Bool) (reading : BoxType → List ℕ → ℕ → ℕ → Reading A) (bytes : Option
     (List ℕ)) where
-  -- both lines of a box
-  pub writes_lines : (front first second : List ℕ) (found : TreeBox) (told disagrees : Bool) (a b c : Option (List ℕ))
+  -- all lines of a box
+  pub writes_lines : (front first : List ℕ) (found : TreeBox) (told more : Bool) (a b c : Option (List ℕ))
       → ((content : Content A) × IfSome bytes (λ B. ShowsAs known reading B found (kind_of known found) content)
       × IsTold content told)
       → (told ≡ true → IsLine front found first) → Appends a b (told_text told first)
-      → (disagrees ≡ true → IsLine front found second) → Appends b c (told_text disagrees second)
-      → WritesLines known reading bytes front found a c (told || disagrees)
-  writes_lines front first second found told disagrees a b c (content, shows, is_told) line put line_after put_after = (
-    told_text told first ++ told_text disagrees second,
+      → WritesMore front found b c more
+      → WritesLines known reading bytes front found a c (told || more)
+  writes_lines front first found told more a b c (content, shows, is_told) line put (rest, lines, put_rest) = (
+    told_text told first ++ rest,
     (
       content,
       told_text told first,
-      told_text disagrees second,
+      rest,
       told,
-      disagrees,
+      more,
       shows,
       is_told,
       line_if told front first found line,
-      line_if disagrees front second found line_after,
+      lines,
       refl,
       refl,
     ),
-    Appends-trans a b c (told_text told first) (told_text disagrees second) put put_after,
+    Appends-trans a b c (told_text told first) rest put put_rest,
   )
 
   faults_more : (front : List ℕ) (boxes : List TreeBox) (text : List ℕ) (faulty : Bool) (found : TreeBox) (last :

@@ -1,5 +1,6 @@
 -- What is read of a box, by how it is read, and whether it has a fault.
-use Rattle.std.specs.Prelude.{◌≡◌, ℕ, ◌+◌, ◌-◌, ◌<◌, ◌≤◌, min, nat_le, Bool, true, false, List, length, Ok, MatchBool}
+use Rattle.std.specs.Prelude.{◌≡◌, ◌≢◌, ℕ, ◌+◌, ◌-◌, ◌<◌, ◌≤◌, min, nat_le, Bool, true, false, List, [], ◌∷◌, length}
+use Rattle.std.specs.Prelude.{Ok, MatchBool}
 use Rattle.mp4_frame.specs.Heads.{header, header_length}
 use Rattle.mp4_frame.specs.Reading.{Reading, Refuses, ◌>>=◌}
 use Rattle.mp4_frame.specs.declared.box_type.BoxType.{BoxType}
@@ -47,6 +48,15 @@ ShowsFront kind least most bytes found (contents.Front k v) =
 ShowsFront kind least most bytes found (contents.Faulty e) = found.length - found.header_length < least
 ShowsFront kind least most bytes found _ = ⊥
 
+-- the four zero bytes with which a box ends are shown, and other bytes are a fault
+abbrev pub ShowsEnd : {A : Type 0} → List ℕ → TreeBox → Content A → Type 0
+ShowsEnd bytes found (contents.Front k v) =
+    (k ≡ kinds.Terminator) × (v.items ≡ piece bytes found.position found.length)
+    × (piece bytes found.position found.length ≡ 0 ∷ 0 ∷ 0 ∷ 0 ∷ [])
+ShowsEnd bytes found (contents.Faulty e) =
+    (e ≡ errors.IoError) × (piece bytes found.position found.length ≢ 0 ∷ 0 ∷ 0 ∷ 0 ∷ [])
+ShowsEnd bytes found _ = ⊥
+
 -- What is shown of a box, by how it is read. A handler with a byte of its name, the 25th, is shown from its bytes; the
 -- codec refuses others.
 abbrev pub ShowsAs : {A : Type 0} → (BoxType → Bool) → (BoxType → List ℕ → ℕ → ℕ → Reading A) → List ℕ → TreeBox → Kind
@@ -67,3 +77,4 @@ ShowsAs known reading bytes found kinds.Entry content = ShowsFront kinds.Entry 8
 ShowsAs known reading bytes found kinds.Visual content = ShowsFront kinds.Visual 78 78 bytes found content
 ShowsAs known reading bytes found kinds.Sound content = ShowsFront kinds.Sound 28 64 bytes found content
 ShowsAs known reading bytes found kinds.Uuid content = ShowsFront kinds.Uuid 16 16 bytes found content
+ShowsAs known reading bytes found kinds.Terminator content = ShowsEnd bytes found content

@@ -31,21 +31,29 @@ abbrev pub told_text : Bool → List ℕ → List ℕ
 told_text told line = if told then line else []
 
 -- whether a line tells of what is read of a box: it does where that is a fault, and does not where the codec reads
--- nothing of it; of what the codec reads a line may tell that chunks are not in media data
+-- nothing of it; of what the codec reads a line may tell that chunks are not in media data, or of a track_ID
 abbrev pub IsTold : {A : Type 0} → Content A → Bool → Type 0
 IsTold (contents.Faulty fault) told = told ≡ true
 IsTold (contents.Known value) told = ⊤
 IsTold _ told = told ≡ false
 
--- the lines of a box: one of what is read of it, if that is told, and one more at most, for its tables of samples; and
--- whether there is a line. Where the file's bytes are known, what is read is by them and the box's kind
+-- the lines of a box beside that of what is read of it, each of which may be missing: that it is one too many, what it
+-- lacks, and what is wrong with its samples; and whether there is one
+abbrev pub AreMore : List ℕ → TreeBox → List ℕ → Bool → Type 0
+AreMore front found text faulty =
+    (one two three : List ℕ) × (repeated lacks outside : Bool)
+    × IsLineIf repeated front found one × IsLineIf lacks front found two × IsLineIf outside front found three
+    × (text ≡ one ++ (two ++ three)) × (faulty ≡ (repeated || (lacks || outside)))
+
+-- the lines of a box: one of what is read of it, or none, and the others; and whether there is a line. Where the file's
+-- bytes are known, what is read is by them and the box's kind
 abbrev pub AreLines : {A : Type 0} → (BoxType → Bool) → (BoxType → List ℕ → ℕ → ℕ → Reading A) → Option (List ℕ)
     → List ℕ → TreeBox → List ℕ → Bool → Type 0
 AreLines {A} known reading bytes front found text faulty =
-    (content : Content A) × (first second : List ℕ) × (told disagrees : Bool)
+    (content : Content A) × (first rest : List ℕ) × (told more : Bool)
     × IfSome bytes (λ B. ShowsAs known reading B found (kind_of known found) content)
-    × IsTold content told × IsLineIf told front found first × IsLineIf disagrees front found second
-    × (text ≡ first ++ second) × (faulty ≡ (told || disagrees))
+    × IsTold content told × IsLineIf told front found first × AreMore front found rest more
+    × (text ≡ first ++ rest) × (faulty ≡ (told || more))
 
 -- the lines of these boxes, in order
 abbrev pub Faults : {A : Type 0} → (BoxType → Bool) → (BoxType → List ℕ → ℕ → ℕ → Reading A) → Option (List ℕ)
@@ -55,6 +63,10 @@ Faults known reading bytes front (found ∷ boxes) text faulty =
     (first rest : List ℕ) × (here there : Bool) × AreLines known reading bytes front found first here
     × Faults known reading bytes front boxes rest there
     × (text ≡ first ++ rest) × (faulty ≡ (here || there))
+
+-- the lines of a box beside that of what is read of it are written, and whether there are any
+abbrev pub WritesMore : List ℕ → TreeBox → Option (List ℕ) → Option (List ℕ) → Bool → Type 0
+WritesMore front found old new faulty = (text : List ℕ) × AreMore front found text faulty × Appends old new text
 
 -- the lines of a box are written, and whether there are any
 abbrev pub WritesLines : {A : Type 0} → (BoxType → Bool) → (BoxType → List ℕ → ℕ → ℕ → Reading A) → Option (List ℕ)
@@ -70,7 +82,7 @@ WritesFaults known reading bytes front boxes old new faulty =
 
 -- the line of a file that has no movie
 abbrev pub movie_text : Bool → List ℕ → List ℕ
-movie_text movie front = if movie then [] else front ++ codes "0 moov: there is no moov, and no moof\n"
+movie_text movie front = if movie then [] else front ++ codes "0 moov: there is no moov, moof, meta or sidx\n"
 
 -- all lines of a file are written, each with the same front, and whether there are any
 abbrev pub WritesAllFaults : {A : Type 0} → (BoxType → Bool) → (BoxType → List ℕ → ℕ → ℕ → Reading A)

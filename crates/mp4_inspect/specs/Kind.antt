@@ -10,6 +10,7 @@ use Rattle.mp4_frame.specs.declared.four_cc.FourCC.{FourCC}
 use Rattle.mp4_inspect.specs.declared.kind.Kind.{Kind}
 use Rattle.mp4_inspect.specs.declared.kind.Kind.TheVariants as kinds
 use Rattle.mp4_inspect.specs.declared.kind.TheConstants as constants
+use Rattle.mp4_inspect_rules.specs.Terminator.{may_end}
 use Rattle.mp4_tree.specs.declared.setting.Setting.{Setting}
 use Rattle.mp4_tree.specs.declared.tree_box.TreeBox.{TreeBox}
 use Rattle.mp4_tree.specs.declared.tree_box.What.{What}
@@ -51,10 +52,14 @@ kind_of_what known found code what.TooDeep = kinds.Deep
 kind_of_what known found code what.Parent = parent_kind code (bytes_before found found.children) found.setting
 kind_of_what known found code what.Leaf = leaf_kind known code found.setting
 
+-- what has no header is cut, unless it is the last four bytes of a box that four zero bytes may end
+abbrev pub end_kind : ℕ → Setting → Kind
+end_kind long s = if (long == 4) && may_end s then kinds.Terminator else kinds.Cut
+
 abbrev pub kind_of_code : (BoxType → Bool) → TreeBox → Option FourCC → Kind
-kind_of_code known found None = kinds.Cut
+kind_of_code known found None = end_kind found.length found.setting
 kind_of_code known found (Some code) = kind_of_what known found (number_of code) found.what
 
--- how a box is read, where these names are known; one with no code is cut
+-- how a box is read, where these names are known
 abbrev pub kind_of : (BoxType → Bool) → TreeBox → Kind
 kind_of known found = kind_of_code known found found.code

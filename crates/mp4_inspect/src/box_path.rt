@@ -46,6 +46,11 @@ impl BoxPaths {
         Ok(self.levels.last().copied().unwrap_or(0))
     }
 
+    /// Returns the number of the run of boxes that the box is in. No other run has the same number.
+    pub fn run(&self) -> u64 {
+        self.levels.last().copied().unwrap_or(0)
+    }
+
     /// Goes on to a box.
     pub fn enter(&mut self, found: &TreeBox) -> Result<()> {
         let depth = found.depth as usize;

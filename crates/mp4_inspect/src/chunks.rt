@@ -1,7 +1,9 @@
-//! Whether the chunks of a track are where the file has media data.
+//! Whether the chunks of a track, and the runs of its fragments, are where the file has media data.
 
 use mp4_fields::Result;
 use mp4_frame::codes::MDAT;
+use mp4_inspect_rules::{Extent, Lies, Run, Tally, no_chunks, whereabouts};
+use mp4_sinks::push_number;
 use mp4_stream::{AnyBox, FourCC};
 use mp4_tree::TreeBox;
 use std::alloc::Global;
@@ -9,86 +11,135 @@ use std::alloc::Global;
 /// Where the file has media data: the contents of its `mdat` boxes, in the order of the file.
 #[derive(Drop)]
 pub struct MediaData {
-    ranges: Vec<(u64, u64)>,
+    extents: Vec<Extent>,
     length: u64,
-}
-
-/// The first chunk that is not where it should be, and how many there are of this kind.
-#[derive(Clone, Copy, Debug, PartialEq, Eq)]
-pub struct Stray {
-    /// The number of the chunk, from 1 on.
-    pub chunk: u64,
-    /// Its offset.
-    pub offset: u64,
-    /// Whether it is outside the file, and not in some other box of it.
-    pub outside: bool,
-    /// How many chunks of the table are not in media data.
-    pub count: u64,
 }
 
 impl MediaData {
     /// The media data of a file of this length, of which these are the boxes.
     pub fn new(alloc: Global, boxes: &[TreeBox], length: u64) -> Result<MediaData> {
-        let mut ranges = Vec::new(alloc);
+        let mut extents = Vec::new(alloc);
         for found in boxes {
             if found.depth == 0 && found.code == Some(FourCC::from(MDAT)) {
                 let begin = found.content_position();
-                ranges.push((
+                let end = found.position.saturating_add(found.length).min(length);
+                extents.push(Extent {
                     begin,
-                    found.position.saturating_add(found.length).min(length),
-                ))?;
+                    end: end.max(begin),
+                })?;
             }
         }
-        Ok(MediaData { ranges, length })
+        Ok(MediaData { extents, length })
     }
 
-    /// Whether a position is in media data.
-    fn has(&self, position: u64) -> bool {
-        let after = self.ranges.partition_point(|range| range.0 <= position);
-        match self.ranges[..after].last() {
-            Some(range) => position < range.1,
-            None => false,
-        }
+    /// Returns the last media data that begin at a position or before it.
+    fn at(&self, position: u64) -> Option<Extent> {
+        let after = self
+            .extents
+            .partition_point(|extent| extent.begin <= position);
+        self.extents[..after].last().copied()
     }
 
-    /// Counts a chunk, if it is not in media data.
-    fn count(&self, chunk: u64, offset: u64, stray: &mut Option<Stray>) {
-        if self.has(offset) {
-            return;
-        }
-        *stray = match *stray {
-            Some(stray) => Some(Stray {
-                count: stray.count.saturating_add(1),
-                ..stray
-            }),
-            None => Some(Stray {
-                chunk,
-                offset,
-                outside: offset >= self.length,
-                count: 1,
-            }),
-        };
+    /// Returns the tally with one more chunk, of `size` bytes at `offset`.
+    fn counted(&self, tally: Tally, offset: u64, size: u64) -> Tally {
+        tally.with(
+            offset,
+            size,
+            whereabouts(offset, size, self.at(offset), self.length),
+        )
     }
 
-    /// The chunks of a table that are not in media data, if this is a table of chunks and it has some.
-    pub fn stray(&self, any: &AnyBox) -> Option<Stray> {
-        let mut stray = None;
-        let mut chunk = 0u64;
+    /// Returns the tally of the chunks of a table, of which each has the size of its number in `sizes`, or a byte at
+    /// least if that has none. A box of another kind has no chunks.
+    pub fn chunks(&self, any: &AnyBox, sizes: &[u64]) -> Tally {
+        let mut tally = no_chunks();
+        let mut rest = sizes.iter();
         match any {
             AnyBox::StcoBox(table) => {
                 for offset in table.entries.iter() {
-                    chunk = chunk.saturating_add(1);
-                    self.count(chunk, u64::from(*offset), &mut stray);
+                    let size = rest.next().copied().unwrap_or(1);
+                    tally = self.counted(tally, u64::from(*offset), size);
                 }
             }
             AnyBox::Co64Box(table) => {
                 for offset in table.entries.iter() {
-                    chunk = chunk.saturating_add(1);
-                    self.count(chunk, *offset, &mut stray);
+                    let size = rest.next().copied().unwrap_or(1);
+                    tally = self.counted(tally, *offset, size);
                 }
             }
             _ => {}
         }
-        stray
+        tally
     }
+
+    /// Returns the tally of the runs of a fragment.
+    pub fn runs(&self, runs: &[Run]) -> Tally {
+        let mut tally = no_chunks();
+        for run in runs {
+            tally = match u64::try_from(run.begin) {
+                Ok(offset) => self.counted(tally, offset, run.size),
+                Err(_) => tally.with(0, run.size, Lies::BeforeFile),
+            };
+        }
+        tally
+    }
+
+    /// Appends what is said of the chunks that lie outside the media data, which are called so.
+    pub fn push_outside(&self, tally: &Tally, word: &str, out: &mut String) -> Result<()> {
+        let Some(first) = tally.first else {
+            return Ok(());
+        };
+        push_number(tally.outside, out)?;
+        out.push_str(" of ")?;
+        push_number(tally.all, out)?;
+        out.push(' ')?;
+        out.push_str(word)?;
+        out.push_str(if tally.all == 1 {
+            " lies"
+        } else if tally.outside == 1 {
+            "s lies"
+        } else {
+            "s lie"
+        })?;
+        out.push_str(" outside the media data; the first is ")?;
+        out.push_str(word)?;
+        out.push(' ')?;
+        push_number(first.number, out)?;
+        self.push_where(first.offset, first.size, first.lies, out)
+    }
+
+    /// Appends where bytes lie that are outside the media data.
+    fn push_where(&self, offset: u64, size: u64, lies: Lies, out: &mut String) -> Result<()> {
+        if lies == Lies::BeforeFile {
+            out.push_str(", which begins before the file")?;
+            return Ok(());
+        }
+        out.push_str(" at offset ")?;
+        push_number(offset, out)?;
+        match lies {
+            Lies::PastFile => {
+                push_end(offset, size, self.length, out)?;
+                out.push_str(", past the end of the file (")?;
+                push_number(self.length, out)?;
+                out.push_str(" bytes)")?;
+            }
+            Lies::PastMedia(end) => {
+                push_end(offset, size, end, out)?;
+                out.push_str(", past the end of its mdat at ")?;
+                push_number(end, out)?;
+            }
+            Lies::Nowhere => out.push_str(", which is in no mdat")?,
+            Lies::Inside | Lies::BeforeFile => {}
+        }
+        Ok(())
+    }
+}
+
+/// Appends where bytes end that begin before `limit`.
+fn push_end(offset: u64, size: u64, limit: u64, out: &mut String) -> Result<()> {
+    if offset < limit {
+        out.push_str(", which ends at ")?;
+        push_number(offset.saturating_add(size), out)?;
+    }
+    Ok(())
 }

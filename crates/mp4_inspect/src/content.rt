@@ -4,7 +4,7 @@ ghost use Rattle.std.specs.Prelude.{◌≡◌, ◌-◌, ◌≤◌, false, length
 ghost use Rattle.mp4_fields.specs.Nesting.{fields, Keeps};
 ghost use Rattle.mp4_frame.specs.Reading.{Answers};
 ghost use Rattle.mp4_io.specs.Ends.{is_write};
-ghost use Rattle.mp4_inspect.specs.Content.{leaf, is_faulty, front, Shows, ShowsKnown, ShowsFront, ShowsAs};
+ghost use Rattle.mp4_inspect.specs.Content.{leaf, is_faulty, front, Shows, ShowsKnown, ShowsFront, ShowsEnd, ShowsAs};
 ghost use Rattle.mp4_inspect.specs.Kind.{kind_of};
 ghost use Rattle.mp4_inspect.specs.declared.kind.Kind.TheVariants as kinds;
 
@@ -170,6 +170,24 @@ fn handler<B: Shown, S: Source>(
     }
 }
 
+/// Reads the last four bytes of a box that four zero bytes may end. Others are a header that is cut.
+fn terminator<B: Drop, S: Source>(
+    alloc: Global,
+    tree: &mut Tree<S>,
+    found: &TreeBox,
+) -> std::result::Result<Content<B>, Failure>
+    ensures shows { IfSome tree.old.bytes (λ bytes. IfOk result (ShowsEnd bytes found.now)) }
+    ensures kept { tree.new ≡ tree.old }
+    ensures not_write { is_write result ≡ false }
+{
+    let own = or_read(tree.read_box(alloc, found))?;
+    if own.as_slice() == [0, 0, 0, 0].as_slice() {
+        Ok(Content::Front(Kind::Terminator, own))
+    } else {
+        Ok(Content::Faulty(Error::IoError))
+    }
+}
+
 /// Reads what is shown of a box.
 pub fn content_of<B: Shown, S: Source>(
     alloc: Global,
@@ -196,6 +214,7 @@ pub fn content_of<B: Shown, S: Source>(
         Kind::Visual => front(alloc, tree, found, Kind::Visual, 78, 78),
         Kind::Sound => front(alloc, tree, found, Kind::Sound, 28, 64),
         Kind::Uuid => front(alloc, tree, found, Kind::Uuid, 16, 16),
+        Kind::Terminator => terminator(alloc, tree, found),
     }
 }
 
@@ -229,6 +248,7 @@ fn put_front<K: FieldSink>(kind: Kind, bytes: &[u8], is_quicktime: bool, sink: &
         Kind::Visual if bytes.len() >= 78 => put_visual(bytes, sink),
         Kind::Sound if bytes.len() >= 28 => put_sound(bytes, is_quicktime, sink),
         Kind::Handler if bytes.len() >= 25 => put_handler(bytes, sink),
+        Kind::Terminator => sink.field("terminator", Value::Number(0)),
         Kind::Uuid => match <[u8; 16]>::try_from(bytes) {
             Ok(id) => put_uuid(id, sink),
             Err(_) => Ok(()),

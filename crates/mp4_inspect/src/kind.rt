@@ -1,10 +1,11 @@
 //! How a box is read, to be shown.
 
 ghost use Rattle.std.specs.Prelude.{◌≡◌};
-ghost use Rattle.mp4_inspect.specs.Kind.{entry_kind, leaf_kind, parent_kind, bytes_before, kind_of};
+ghost use Rattle.mp4_inspect.specs.Kind.{entry_kind, leaf_kind, parent_kind, bytes_before, end_kind, kind_of};
 
 use crate::shown::Shown;
 use mp4_frame::codes::{DREF, HDLR, META, MP4A, STSD, TX3G};
+use mp4_inspect_rules::may_end;
 use mp4_stream::BoxType;
 use mp4_tree::{Setting, TreeBox, What};
 
@@ -49,6 +50,8 @@ pub enum Kind {
     Sound,
     /// The type of a `uuid` box.
     Uuid,
+    /// The four bytes with which the box around ends. If they are zeros they are QuickTime's terminator.
+    Terminator,
 }
 
 /// How a sample entry is read.
@@ -111,12 +114,23 @@ fn bytes_before(found: &TreeBox) -> u64
     }
 }
 
+/// Returns how what has no header is read: the last four bytes of a box that four zero bytes may end, or what is cut.
+fn end_kind(length: u64, setting: Setting) -> Kind
+    ensures { result ≡ end_kind length setting }
+{
+    if length == 4 && may_end(setting) {
+        Kind::Terminator
+    } else {
+        Kind::Cut
+    }
+}
+
 /// How a box is read, if a `B` is what is read of a box whole.
 pub fn kind_of<B: Shown>(found: &TreeBox) -> Kind
     ensures { result ≡ kind_of B.known found.now }
 {
     let Some(code) = found.code else {
-        return Kind::Cut;
+        return end_kind(found.length, found.setting);
     };
     match found.what {
         What::Cut | What::NoHeader => Kind::Cut,

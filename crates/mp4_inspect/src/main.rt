@@ -7,8 +7,10 @@ mod chunks;
 mod content;
 mod failure;
 mod fast_start;
+mod fault_text;
 mod faults;
 mod kind;
+mod movie;
 mod outcome;
 mod program;
 mod shown;
@@ -30,7 +32,7 @@ use mp4_tree::Source;
 use outcome::{Outcome, is_silent};
 use program::{Show, inspect};
 use shown::ShownBox;
-use source::{InputFile, Kept, Reading, reading};
+use source::{InputFile, Kept, Reading, how_to_read};
 use std::alloc::AllocError;
 use std::env::VarError;
 use std::fs::File;
@@ -124,6 +126,12 @@ fn refuse(rt: &HostRuntime, shown: &str, what: &str) -> Outcome {
     Outcome::Failed
 }
 
+/// Says on standard error that a file is empty.
+fn refuse_empty(rt: &HostRuntime, shown: &str) -> Outcome {
+    let _ = eprintln!(rt; "mp4inspect: {shown}: this is not an MP4 file: it is empty");
+    Outcome::Faulty
+}
+
 /// Writes what is asked for of a file, and the faults of its tracks and why it could not be read on standard error.
 fn inspect_source<S: Source, W: Write>(
     rt: &HostRuntime,
@@ -133,6 +141,7 @@ fn inspect_source<S: Source, W: Write>(
     output: &mut Output<Steady<W>>,
 ) -> Outcome {
     let mut source = Kept::new(source);
+    let is_empty = show.task != Task::Samples && matches!(source.length(), Ok(0));
     let mut faults = Vec::new(rt.alloc());
     let name = match show.task {
         Task::Json => file.name,
@@ -144,6 +153,12 @@ fn inspect_source<S: Source, W: Write>(
     }
     if let Err(failure) = run {
         tell(rt, file.shown, failure, source.error);
+    }
+    if is_empty {
+        return refuse_empty(rt, file.shown).or_worse(Outcome::of_file(
+            run,
+            output.inner.is_closed(),
+        ));
     }
     let outcome = Outcome::of_file(run, output.inner.is_closed());
     // `check` writes only lines of faults: one that it could not write is a fault too.
@@ -193,7 +208,7 @@ fn inspect_open<W: Write>(
     show: Show,
     output: &mut Output<Steady<W>>,
 ) -> Outcome {
-    match reading(&mut source) {
+    match how_to_read(&mut source) {
         Ok(Reading::Seeks) => inspect_source(rt, file, source, show, output),
         Ok(Reading::Streams) => inspect_stream(rt, file, source, show, output),
         Ok(Reading::Directory) => refuse(rt, file.shown, "this is a directory, not a file"),

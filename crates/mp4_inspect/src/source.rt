@@ -129,7 +129,7 @@ fn reading_of(is_directory: bool, is_device: bool, seeks: bool) -> Reading
 }
 
 /// Returns how an open file is read, and leaves it at its beginning.
-pub fn reading(file: &mut File) -> io::Result<Reading> {
+pub fn how_to_read(file: &mut File) -> io::Result<Reading> {
     let kind = file.metadata()?.file_type();
     let seeks = kind.is_file() && file.seek(SeekFrom::End(0)).is_ok();
     if seeks {

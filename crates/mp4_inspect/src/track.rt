@@ -21,7 +21,7 @@ pub struct Track {
 }
 
 /// Whether this is a whole box of a code.
-fn is_box(found: &TreeBox, code: u32) -> bool {
+pub fn is_box(found: &TreeBox, code: u32) -> bool {
     found.is_whole() && found.code == Some(FourCC::from(code))
 }
 
@@ -44,7 +44,7 @@ fn number_in<S: Source>(
 }
 
 /// The number of a track, as its header has it: after times of 4 bytes, or of 8 in version 1 (ISO/IEC 14496-12, 8.3.2).
-fn number_of<S: Source>(
+pub fn number_of<S: Source>(
     alloc: Global,
     tree: &mut Tree<S>,
     header: &TreeBox,

@@ -9,6 +9,7 @@ ghost use Rattle.mp4_sinks.specs.Tokens.{Puts};
 
 use crate::content::{Content, content_of, put_content};
 use crate::failure::or_memory;
+use crate::fault_text::fault_text;
 use crate::shown::Shown;
 use crate::tree_text::either;
 use mp4_fields::Result;
@@ -62,11 +63,11 @@ fn put_head(found: &TreeBox, sink: &mut JsonSink) -> Result<()>
 }
 
 /// Writes the member of a fault.
-fn put_fault(alloc: Global, fault: &Error, sink: &mut JsonSink) -> Result<()>
+fn put_fault(alloc: Global, found: &TreeBox, fault: &Error, sink: &mut JsonSink) -> Result<()>
     ensures tokens { OnOk result ((text : List ℕ)
         × Puts sink.old.out sink.new.out (key (codes "fault") ∷ string text ∷ [])) }
 {
-    let text = format!(in alloc; "{fault}")?;
+    let text = fault_text(alloc, found, fault)?;
     sink.out.key("fault")?;
     sink.out.string(text.as_str())?;
     Ok(())
@@ -90,16 +91,18 @@ fn put_all_fields<B: HasFields + Drop>(
 /// Writes the fields or the fault of a box.
 fn put_rest<B: HasFields + Drop>(
     alloc: Global,
+    found: &TreeBox,
     content: &Content<B>,
-    is_quicktime: bool,
     sink: &mut JsonSink,
 ) -> Result<()>
     ensures rest { OnOk result ((ts : List Token) × IsRest content.now ts × Puts sink.old.out sink.new.out ts) }
 {
     match content {
         Content::Boxes | Content::Deep | Content::Unread => Ok(()),
-        Content::Faulty(fault) => put_fault(alloc, fault, sink),
-        Content::Known(_) | Content::Front(..) => put_all_fields(content, is_quicktime, sink),
+        Content::Faulty(fault) => put_fault(alloc, found, fault, sink),
+        Content::Known(_) | Content::Front(..) => {
+            put_all_fields(content, found.setting.is_quicktime, sink)
+        }
     }
 }
 
@@ -164,7 +167,7 @@ fn put_box<B: HasFields + Drop>(
 {
     end_levels(begun, found.depth, sink)?;
     put_head(found, sink)?;
-    put_rest(alloc, content, found.setting.is_quicktime, sink)?;
+    put_rest(alloc, found, content, sink)?;
     put_end(found, begun, sink)
 }
 

@@ -8,6 +8,7 @@ ghost use Rattle.mp4_inspect.specs.Written.{place_text, IsText, Tells, WritesBox
 
 use crate::content::{Content, content_of, put_content};
 use crate::failure::or_memory;
+use crate::fault_text::fault_text;
 use crate::shown::Shown;
 use crate::track::{Track, track_of};
 use mp4_fields::Result;
@@ -118,9 +119,10 @@ fn put_called(alloc: Global, word: &str, found: &TreeBox, sink: &mut TextSink) -
     sink.words_colored(text.as_str(), FAINT)
 }
 
-/// The text of a fault.
-fn put_fault(alloc: Global, fault: &Error, sink: &mut TextSink) -> Result<()> {
-    let text = format!(in alloc; "fault: {fault}")?;
+/// Puts the fault of a box.
+fn put_fault(alloc: Global, found: &TreeBox, fault: &Error, sink: &mut TextSink) -> Result<()> {
+    let mut text = String::from_str(alloc, "fault: ")?;
+    text.push_str(fault_text(alloc, found, fault)?.as_str())?;
     sink.words_colored(text.as_str(), RED)
 }
 
@@ -141,7 +143,7 @@ fn put_rest<B: HasFields + Drop>(
     match content {
         Content::Unread => put_called(alloc, "not read", found, sink),
         Content::Deep => sink.words("not gone into: in 32 boxes"),
-        Content::Faulty(fault) => put_fault(alloc, fault, sink),
+        Content::Faulty(fault) => put_fault(alloc, found, fault, sink),
         _ => put_content(content, found.setting.is_quicktime, sink),
     }
 }

@@ -1,5 +1,7 @@
 //! The fragments of tracks.
 
+ghost use Rattle.std.specs.Prelude.{◌≡◌};
+
 use crate::fault::Fault;
 use crate::places::is_of;
 use crate::reading::read_found;
@@ -61,7 +63,9 @@ pub fn read_header<S: Source>(
     tree: &mut Tree<S>,
     boxes: &[TreeBox],
     moof: u64,
-) -> Result<TfhdBox, Stop> {
+) -> Result<TfhdBox, Stop>
+    ensures kept { tree.new ≡ tree.old }
+{
     let Some(found) = first_in(boxes, TFHD) else {
         return Err(Stop::Faulty(Fault::NoFragmentHeader(moof)));
     };
@@ -78,7 +82,9 @@ fn read_part<B: ReadBox + Drop, S: Source>(
     found: &TreeBox,
     name: &'static str,
     moof: u64,
-) -> Result<B, Stop> {
+) -> Result<B, Stop>
+    ensures kept { tree.new ≡ tree.old }
+{
     match read_found(alloc, tree, found)? {
         Ok(value) => Ok(value),
         Err(error) => Err(Stop::Faulty(Fault::UnreadableFragment(moof, name, error))),
@@ -91,7 +97,9 @@ fn read_time<S: Source>(
     tree: &mut Tree<S>,
     boxes: &[TreeBox],
     moof: u64,
-) -> Result<Option<TfdtBox>, Stop> {
+) -> Result<Option<TfdtBox>, Stop>
+    ensures kept { tree.new ≡ tree.old }
+{
     match first_in(boxes, TFDT) {
         Some(found) => Ok(Some(read_part(alloc, tree, &found, "tfdt", moof)?)),
         None => Ok(None),
@@ -104,7 +112,9 @@ fn read_runs<S: Source>(
     tree: &mut Tree<S>,
     boxes: &[TreeBox],
     moof: u64,
-) -> Result<Vec<TrunBox>, Stop> {
+) -> Result<Vec<TrunBox>, Stop>
+    ensures kept { tree.new ≡ tree.old }
+{
     let mut runs = Vec::new(alloc);
     let Some((outer, inner)) = boxes.split_first() else {
         return Ok(runs);
@@ -127,7 +137,9 @@ pub fn read_fragment<S: Source>(
     tree: &mut Tree<S>,
     boxes: &[TreeBox],
     moof: u64,
-) -> Result<FragmentBoxes, Stop> {
+) -> Result<FragmentBoxes, Stop>
+    ensures kept { tree.new ≡ tree.old }
+{
     Ok(FragmentBoxes {
         header: read_header(alloc, tree, boxes, moof)?,
         time: read_time(alloc, tree, boxes, moof)?,

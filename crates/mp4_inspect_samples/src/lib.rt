@@ -3,6 +3,7 @@
 #![tactic(auto)]
 
 mod fault;
+mod fragment_runs;
 mod fragments;
 mod heading;
 mod limit;
@@ -17,6 +18,7 @@ mod stop;
 mod tables;
 
 pub use fault::{Fault, TrackFault};
+pub use fragment_runs::{TrafRuns, traf_runs};
 pub use row_text::Form;
 pub use samples_of_file::{Choice, write_samples};
-pub use tables::table_fault;
+pub use tables::{Together, tables_together};

@@ -10,11 +10,12 @@ use crate::places::{Places, tables_in};
 use crate::reading::read_found;
 use crate::stop::Stop;
 use mp4_frame::ReadBox;
+use mp4_inspect_rules::chunk_sizes;
 use mp4_io::Failure;
 use mp4_samples::{ChunkOffsets, Disagreement, SampleTables, Tables};
 use mp4_tables::{Co64Box, CttsBox, StcoBox, StscBox, StssBox, StszBox, SttsBox};
 use mp4_tree::{Source, Tree, TreeBox};
-use std::alloc::Global;
+use std::alloc::{AllocError, Global};
 
 /// The offsets of the chunks of a track.
 #[derive(Drop)]
@@ -226,18 +227,63 @@ fn read_all_tables<S: Source>(
     })
 }
 
-/// How the tables right in an `stbl` disagree, which is the first of these boxes; those after it follow in the order of
-/// the file. None if they agree, or if one is missing or can't be read.
-pub fn table_fault<S: Source>(
+/// The result of reading the tables right in an `stbl` together.
+#[derive(Drop)]
+pub enum Together {
+    /// Nothing: one is missing, or can't be read.
+    Unknown,
+    /// They disagree.
+    Disagree(Disagreement),
+    /// They agree: the position of the table of chunks, and how many bytes each of its chunks has.
+    Agree(u64, Vec<u64>),
+}
+
+/// Returns the position of the table of chunks.
+fn offsets_position(places: &Places) -> u64 {
+    match (places.offsets, places.wide_offsets) {
+        (Some(found), _) | (None, Some(found)) => found.position,
+        (None, None) => 0,
+    }
+}
+
+/// Returns what tables that were read say together.
+fn together_of(
+    alloc: Global,
+    places: &Places,
+    tables: &TrackTables,
+) -> Result<Together, AllocError> {
+    if let Some(disagreement) = tables.disagreement() {
+        return Ok(Together::Disagree(disagreement));
+    }
+    let chunks = match &tables.offsets {
+        Offsets::Narrow(offsets) => offsets.entries.len(),
+        Offsets::Wide(offsets) => offsets.entries.len(),
+    };
+    let sizes = chunk_sizes(
+        alloc,
+        &tables.sizes,
+        tables.chunks.entries.as_slice(),
+        chunks,
+    )?;
+    Ok(Together::Agree(offsets_position(places), sizes))
+}
+
+/// Returns what the tables right in an `stbl` say together, which is the first of these boxes; those after it follow in
+/// the order of the file.
+pub fn tables_together<S: Source>(
     alloc: Global,
     tree: &mut Tree<S>,
     boxes: &[TreeBox],
-) -> Result<Option<Disagreement>, Failure>
+) -> Result<Together, Failure>
     ensures kept { tree.new ≡ tree.old }
 {
-    match read_all_tables(alloc, tree, &tables_in(boxes)) {
-        Ok(tables) => Ok(tables.disagreement()),
+    let places = tables_in(boxes);
+    match read_all_tables(alloc, tree, &places) {
+        Ok(tables) => match together_of(alloc, &places, &tables) {
+            Ok(together) => Ok(together),
+            Err(_) => Err(Failure::Memory),
+        },
         Err(Stop::Failed(failure)) => Err(failure),
-        Err(Stop::Faulty(_)) => Ok(None),
+        Err(Stop::Faulty(_)) => Ok(Together::Unknown),
     }
 }

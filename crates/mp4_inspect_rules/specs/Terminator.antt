@@ -1,0 +1,18 @@
+-- Which boxes four zero bytes may end: QuickTime writes them after the last box of a `udta` or of a sample entry
+-- (QuickTime File Format, "User Data Atoms", "Sample Description Extensions").
+use Rattle.std.specs.Prelude.{ℕ, ◌==◌, ◌&&◌, ◌||◌, not, Bool}
+use Rattle.mp4_frame.specs.declared.codes.TheConstants as codes
+use Rattle.mp4_inspect_rules.specs.declared.terminator.TheConstants as handlers
+use Rattle.mp4_tree.specs.Kinds.{is_container}
+use Rattle.mp4_tree.specs.declared.setting.Setting.{Setting}
+
+-- the box around is gone into, and is none of the others that are: a sample entry of video or sound, or one of these
+-- codes
+abbrev pub is_entry : Setting → Bool
+is_entry s =
+    not ((s.parent == codes.STSD) || ((s.parent == codes.DREF) || ((s.parent == codes.META) || is_container s.parent)))
+    && ((s.handler == handlers.VIDE) || ((s.handler == handlers.SOUN) || ((s.parent == codes.TX3G)
+    || ((s.parent == handlers.WVTT) || (s.parent == handlers.MP4S)))))
+
+abbrev pub may_end : Setting → Bool
+may_end s = (s.parent == codes.UDTA) || is_entry s

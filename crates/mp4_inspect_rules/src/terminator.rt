@@ -1,0 +1,41 @@
+//! The four zero bytes with which QuickTime may end a list of boxes.
+
+ghost use Rattle.std.specs.Prelude.{◌≡◌};
+ghost use Rattle.mp4_inspect_rules.specs.Terminator.{is_entry, may_end};
+
+use mp4_frame::codes::{DREF, META, STSD, TX3G, UDTA};
+use mp4_tree::{Setting, is_container};
+
+/// `vide`: the handler of video (ISO/IEC 14496-12, 12.1).
+pub const VIDE: u32 = 0x7669_6465;
+
+/// `soun`: the handler of sound (ISO/IEC 14496-12, 12.2).
+pub const SOUN: u32 = 0x736f_756e;
+
+/// `wvtt`: a sample entry of WebVTT (ISO/IEC 14496-30, 7.5).
+pub const WVTT: u32 = 0x7776_7474;
+
+/// `mp4s`: a sample entry of MPEG-4 systems (ISO/IEC 14496-14, 6.7).
+pub const MP4S: u32 = 0x6d70_3473;
+
+/// Returns whether the box around is a sample entry, as `setting` has it: no other box that is gone into has its code.
+fn is_entry(setting: Setting) -> bool
+    ensures { result ≡ is_entry setting }
+{
+    let parent = setting.parent;
+    if parent == STSD || parent == DREF || parent == META || is_container(parent) {
+        return false;
+    }
+    setting.handler == VIDE
+        || setting.handler == SOUN
+        || parent == TX3G
+        || parent == WVTT
+        || parent == MP4S
+}
+
+/// Returns whether four zero bytes may end the box around, as `setting` has it: a `udta` or a sample entry.
+pub fn may_end(setting: Setting) -> bool
+    ensures { result ≡ may_end setting }
+{
+    setting.parent == UDTA || is_entry(setting)
+}
