@@ -1,15 +1,14 @@
 -- The boxes of an input, listed one after the other.
 use Rattle.std.proofs.Common.{◌≡◌, ℕ, ◌+◌, ◌-◌, ◌^◌, ◌<◌, ◌≤◌, Bool, true, false, cond, List, [], ◌∷◌, ◌++◌, length}
-use Rattle.std.proofs.Common.{Result, Ok, Err, refl, sym, ap, subst, ◌∙◌, arith, append_assoc, append-nil, inl, inr}
+use Rattle.std.proofs.Common.{Result, Ok, Err, refl, sym, ap, subst, ◌∙◌, arith, append_assoc, append-nil}
 use Rattle.std.proofs.Common.{length-append}
 use Rattle.std.specs.Prelude.{nat_lt, ◌==◌}
-use Rattle.std.specs.List.{flat_map}
 use Rattle.std.proofs.lemmas.Bool.{lt-ltb, le-ltb, ne_eqb}
 use Rattle.std.proofs.lemmas.List.{length-drop}
 use Rattle.std.proofs.lemmas.Grind.{flat_map-append}
 use Rattle.mp4_frame.specs.BoxType.{name_of}
 use Rattle.mp4_frame.specs.Heads.{head, frame, frame_of, frame_of_head, name_in, end_in}
-use Rattle.mp4_frame.specs.Reading.{Fault, End, Invalid, Reading, FaultAs, IsFault, Refuses, ◌>>=◌, and_then, done}
+use Rattle.mp4_frame.specs.Reading.{Fault, End, Invalid, Reading, FaultAs, IsFault, Refuses, and_then, done}
 use Rattle.mp4_frame.specs.Spans.{spans, span_of, span_item}
 use Rattle.mp4_frame.specs.Streams.{walk_on}
 use Rattle.mp4_frame.specs.declared.error.Error.{Error}
@@ -19,7 +18,6 @@ use Rattle.mp4_frame.specs.declared.list.BoxSpan.{BoxSpan}
 use Rattle.mp4_frame.proofs.Heads.{head_begin, head_room}
 use Rattle.mp4_frame.proofs.Walks.{walk_first, walk_none}
 use Rattle.mp4_boxes.specs.Lines.{lines, line_of}
-use Rattle.mp4_frame.specs.declared.box_type.BoxType.{BoxType}
 use Rattle.mp4_boxes.specs.Parts.{HasPart, known_then, LinesTo, LinesBefore}
 use Rattle.mp4_boxes.specs.Runs.{Lists, ListRefusal}
 
@@ -56,6 +54,23 @@ unfolding frame_of_head
 shorter len h sized =
     let other : (h.size == 0) ≡ false = ne_eqb h.size 0 sized in
     rw other (cut_by len (nat_lt h.size 8) (nat_lt most (end_in h)) (nat_lt len (end_in h)) h refl)
+
+not_end : (e : Error) → IsFault e Invalid → e ≡ errors.IoError → ⊥
+not_end e fault is = let no : Invalid ≡ End = subst (λ (e : Error). IsFault e Invalid) is fault in absurd cc
+
+not_cut_by : (a b : Bool) (f : Frame) (e : Error)
+    → FaultAs (Err e) (cond a (Err Invalid) (cond b (Err Invalid) (cond b (Err End) (Ok f)))) → e ≡ errors.IoError → ⊥
+not_cut_by true b f e fault is = not_end e fault is
+not_cut_by false true f e fault is = not_end e fault is
+not_cut_by false false f e fault is = absurd fault
+
+-- in a buffer of the greatest length no box is cut
+pub not_cut : (h : Frame) (e : Error) → (h.size ≡ 0 → ⊥) → FaultAs (Err e) (frame_of_head most h)
+    → e ≡ errors.IoError → ⊥
+unfolding frame_of_head
+not_cut h e sized fault is =
+    let other : (h.size == 0) ≡ false = ne_eqb h.size 0 sized in
+    not_cut_by (nat_lt h.size 8) (nat_lt most (end_in h)) h e (rw other at fault) is
 
 kept_then : (known : List BoxSpan) (s : BoxSpan) (r : Result (List BoxSpan) Fault)
     → known_then known (known_then (s ∷ []) r) ≡ known_then (known ++ s ∷ []) r

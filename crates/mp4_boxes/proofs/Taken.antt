@@ -1,62 +1,58 @@
 -- An input that is read in parts.
 use Rattle.std.proofs.Common.{◌≡◌, ℕ, ◌+◌, ◌-◌, ◌<◌, ◌≤◌, List, [], ◌++◌, length, take, drop, None, Some, Result, Ok}
-use Rattle.std.proofs.Common.{Err, refl, sym, ap, subst, ◌∙◌, arith, append_assoc, append-nil, length-append}
+use Rattle.std.proofs.Common.{Err, IfOk, IfSome, refl, sym, ap, subst, ◌∙◌, arith, append_assoc, length-append}
 use Rattle.std.specs.declared.option.Option.{Option}
 use Rattle.std.specs.List.{copy_within}
 use Rattle.std.specs.Io.KnownBytes.{Consumes, IsAtEnd}
 use Rattle.std.proofs.Math.Seq.{take-add, drop-append-le, paste}
 use Rattle.std.proofs.lemmas.List.Edits.{take-paste}
 use Rattle.std.proofs.lemmas.List.{length-take-le, length-drop, drop-drop, drop-take}
-use Rattle.mp4_boxes.specs.Parts.{Ends, HasPart, HasRest, LinesIn, Stands}
+use Rattle.mp4_boxes.specs.Parts.{Ends, HasEnd, HasPart, HasRest, LinesIn}
 use Rattle.mp4_boxes.specs.declared.fault.RunFault.{RunFault}
 use Rattle.mp4_boxes.specs.declared.fault.RunFault.TheVariants as faults
 
-consumed : (a b : Option (List ℕ)) (rest bs : List ℕ) → a ≡ Some rest → Consumes a b bs
-    → (more : List ℕ) × (b ≡ Some more) × (rest ≡ bs ++ more)
-consumed None b rest bs e h = absurd cc
-consumed (Some xs) None rest bs e h = absurd h
-consumed (Some xs) (Some ys) rest bs e h = let same : xs ≡ rest = cc in (ys, refl, sym same ∙ h)
+-- what is left of a known input is what follows the bytes that were read
+pub known_rest : (a b : Option (List ℕ)) (B bs : List ℕ) → a ≡ Some B → Consumes a b bs
+    → (rest : List ℕ) × (b ≡ Some rest) × (B ≡ bs ++ rest)
+known_rest None b B bs e h = absurd cc
+known_rest (Some xs) None B bs e h = absurd h
+known_rest (Some xs) (Some ys) B bs e h = let same : xs ≡ B = cc in (ys, refl, sym same ∙ h)
+
+pub long_of : (read part : List ℕ) (from : ℕ) → HasEnd read from part → length read ≡ from + length part
+long_of read part from has = omega (arith, has.0, length-drop from read, ap length has.1)
+
+-- the end of what was read is a part of each input that begins with it
+pub has_part : (read part more : List ℕ) (from : ℕ) → HasEnd read from part → HasPart (read ++ more) from part more
+has_part read part more from has = (
+  omega (arith, has.0, length-append read more),
+  drop-append-le from read more has.0 ∙ ap (λ (l : List ℕ). l ++ more) has.1,
+)
 
 -- n bytes more of a buffer are filled
-pub pulled : (B : List ℕ) (a b : Option (List ℕ)) (P Q : List ℕ) (from held n : ℕ) → take held Q ≡ take held P
-    → Consumes a b (take n (drop held Q))
-    → Stands B a P from held → Stands B b Q from (held + n)
-pulled B a b P Q from held n same read before =
-    let p = consumed a b before.0 (take n (drop held Q)) before.1 read in
-    let all : take (held + n) Q ≡ take held P ++ take n (drop held Q) =
-    take-add held n Q ∙ ap (λ (l : List ℕ). l ++ take n (drop held Q)) same in
-    let bytes : drop from B ≡ take (held + n) Q ++ p.0 =
-    before.2.1 ∙ ap (λ (l : List ℕ). take held P ++ l) p.2 ∙ sym (append_assoc (take held P) (take n (drop held Q)) p.0)
-    ∙ ap (λ (l : List ℕ). l ++ p.0) (sym all) in
-    (p.0, p.1, (before.2.0, bytes))
+pub pulled : (read P Q : List ℕ) (from held n : ℕ) → take held Q ≡ take held P → HasEnd read from (take held P)
+    → HasEnd (read ++ take n (drop held Q)) from (take (held + n) Q)
+pulled read P Q from held n same has =
+    let t = take n (drop held Q) in (
+      omega (arith, has.0, length-append read t),
+      drop-append-le from read t has.0 ∙ ap (λ (l : List ℕ). l ++ t) (has.1 ∙ sym same) ∙ sym (take-add held n Q),
+    )
 
-long_of : (B P rest : List ℕ) (from : ℕ) → HasPart B from P rest → length B ≡ from + (length P + length rest)
-long_of B P rest from has = omega (arith, has.0, length-drop from B, ap length has.1, length-append P rest)
-
--- how much is left behind what is filled
-pub left_of : (B : List ℕ) (left : Option (List ℕ)) (P : List ℕ) (from filled : ℕ) → filled ≤ length P
-    → Stands B left P from filled → HasRest B (from + filled) left
-left_of B left P from filled within s =
-    (s.0, s.1, omega (arith, long_of B (take filled P) s.0 from s.2, length-take-le filled P within))
-
--- at the end of the input all of it is filled
-pub all_filled : (B : List ℕ) (left : Option (List ℕ)) (P : List ℕ) (from filled : ℕ) → filled ≤ length P → IsAtEnd left
-    → Stands B left P from filled → from + filled ≡ length B
-all_filled B left P from filled within end s =
-    let none : s.0 ≡ [] = subst IsAtEnd s.1 end in
-    omega (arith, long_of B (take filled P) s.0 from s.2, length-take-le filled P within, ap length none)
+-- with the n bytes more than `limit` are read
+pub passed : (read P Q : List ℕ) (from held n limit : ℕ) → take held Q ≡ take held P → held + n ≤ length Q
+    → limit < from + (held + n) → HasEnd read from (take held P) → limit < length (read ++ take n (drop held Q))
+passed read P Q from held n limit same within lt has =
+    let t = take n (drop held Q) in
+    let all = pulled read P Q from held n same has in
+    omega (arith, lt, long_of (read ++ t) (take (held + n) Q) from all, length-take-le (held + n) Q within)
 
 -- the first k bytes are done with
-pub done_with : (B : List ℕ) (left : Option (List ℕ)) (P Q : List ℕ) (from filled k : ℕ) → filled ≤ length P
-    → k ≤ filled → take (filled - k) Q ≡ drop k (take filled P)
-    → Stands B left P from filled → Stands B left Q (from + k) (filled - k)
-done_with B left P Q from filled k within le moved s =
-    let W = take filled P in
-    let long = length-take-le filled P within in
-    let bytes : drop (from + k) B ≡ take (filled - k) Q ++ s.0 =
-    sym (drop-drop k from B) ∙ ap (drop k) s.2.1 ∙ drop-append-le k W s.0 (omega (arith, long, le))
-    ∙ ap (λ (l : List ℕ). l ++ s.0) (sym moved) in
-    (s.0, s.1, (omega (arith, long_of B W s.0 from s.2, long, le), bytes))
+pub done_with : (read P Q : List ℕ) (from filled k : ℕ) → filled ≤ length P → k ≤ filled
+    → take (filled - k) Q ≡ drop k (take filled P)
+    → HasEnd read from (take filled P) → HasEnd read (from + k) (take (filled - k) Q)
+done_with read P Q from filled k within le moved has = (
+  omega (arith, long_of read (take filled P) from has, length-take-le filled P within, le),
+  sym (drop-drop k from read) ∙ ap (drop k) has.1 ∙ sym moved,
+)
 
 -- what is filled from k on is moved to the front
 pub moved_front : (P : List ℕ) (k f : ℕ) → k ≤ f → f ≤ length P → take (f - k) (copy_within P k f 0) ≡ drop k (take f P)
@@ -68,6 +64,29 @@ moved_front P k f le within =
     ∙ take-paste P 0 (drop k P) n (omega (arith, within)) (omega (arith, length-drop k P, within))
     ∙ sym (ap (λ (j : ℕ). drop k (take j P)) (sym on) ∙ drop-take k n P)
 
+-- at the end of the input all of it is read
+pub all_read : (new : Option (List ℕ)) (B all rest part : List ℕ) (from filled : ℕ) → new ≡ Some rest → IsAtEnd new
+    → B ≡ all ++ rest → HasEnd all from part → length part ≡ filled → from + filled ≡ length B
+all_read new B all rest part from filled left end is has long =
+    let none : rest ≡ [] = subst IsAtEnd left end in
+    omega (arith, ap length is, length-append all rest, ap length none, long_of all part from has, long)
+
+-- what is left of the input behind what was read
+pub rest_of : (new : Option (List ℕ)) (B all rest part : List ℕ) (from filled : ℕ) → new ≡ Some rest → B ≡ all ++ rest
+    → HasEnd all from part → length part ≡ filled → HasRest B (from + filled) new
+rest_of new B all rest part from filled left is has long =
+    (rest, left, omega (arith, ap length is, length-append all rest, long_of all part from has, long))
+
+-- what holds of the input, where it is known
+pub if_known : (a : Option (List ℕ)) (P : List ℕ → Type 0) → ((B : List ℕ) → a ≡ Some B → P B) → IfSome a P
+if_known None P h = tt
+if_known (Some B) P h = h B refl
+
+pub if_ok_known : {V : Type 0} (r : Result V RunFault) (a : Option (List ℕ)) (Was P : List ℕ → Type 0)
+    → IfOk r (λ _. (B : List ℕ) → Was B → P B) → ((B : List ℕ) → a ≡ Some B → Was B) → IfOk r (λ _. IfSome a P)
+if_ok_known (Ok v) a Was P h known = if_known a P (λ B is. h B (known B is))
+if_ok_known (Err fault) a Was P h known = tt
+
 -- how listing ends, where less is known of the input
 pub ends_where : {V : Type 0} (items : V → List ℕ) (Was Is : List ℕ → Type 0) (new : Option (List ℕ))
     → ((B : List ℕ) → Is B → Was B) → (r : Result V RunFault) → Ends items Was new r → Ends items Is new r
@@ -75,6 +94,14 @@ ends_where items Was Is new known (Ok v) h = (λ B is. h.0 B (known B is), h.1)
 ends_where items Was Is new known (Err faults.Read) h = tt
 ends_where items Was Is new known (Err faults.Write) h = absurd h
 ends_where items Was Is new known (Err (faults.Boxes e)) h = λ B is. h B (known B is)
+
+-- the lines of an input, where the bytes that were read end before or after `more`
+pub lines_on : (B read more rest text : List ℕ) (r s o p : ℕ) → B ≡ (read ++ more) ++ rest → r ≡ s → o ≡ p
+    → LinesIn (read ++ (more ++ rest)) r text o → LinesIn B s text p
+lines_on B read more rest text r s o p is e f h =
+    let same : read ++ (more ++ rest) ≡ B = sym (append_assoc read more rest) ∙ sym is in
+    subst (λ (n : ℕ). LinesIn B n text p) e (subst (λ (n : ℕ). LinesIn B r text n) f
+    (subst (λ (xs : List ℕ). LinesIn xs r text o) same h))
 
 pub lines_at : (B text : List ℕ) (r s o p : ℕ) → r ≡ s → o ≡ p → LinesIn B r text o → LinesIn B s text p
 lines_at B text r s o p e f h = subst (λ (n : ℕ). LinesIn B n text p) e (subst (λ (n : ℕ). LinesIn B r text n) f h)

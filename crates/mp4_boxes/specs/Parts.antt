@@ -1,8 +1,8 @@
 -- An input that is read in parts, and the lines of its boxes as far as they are known.
-use Rattle.std.specs.Prelude.{◌≡◌, ℕ, ◌+◌, ◌-◌, ◌<◌, ◌≤◌, List, [], ◌∷◌, ◌++◌, length, take, drop, None, Some, Result}
+use Rattle.std.specs.Prelude.{◌≡◌, ℕ, ◌+◌, ◌-◌, ◌<◌, ◌≤◌, List, [], ◌∷◌, ◌++◌, length, drop, None, Some, Result}
 use Rattle.std.specs.Prelude.{Ok, Err, ⊤}
 use Rattle.std.specs.declared.option.Option.{Option}
-use Rattle.std.specs.Io.KnownBytes.{IsAtEnd}
+use Rattle.std.specs.Io.KnownBytes.{Consumes, IsAtEnd}
 use Rattle.mp4_frame.specs.Heads.{head}
 use Rattle.mp4_frame.specs.Reading.{Fault, End, FaultAs, Refuses}
 use Rattle.mp4_frame.specs.Spans.{spans}
@@ -22,9 +22,13 @@ use Rattle.mp4_boxes.specs.declared.part.Next.TheVariants as nexts
 abbrev pub HasPart : List ℕ → ℕ → List ℕ → List ℕ → Type 0
 HasPart B from part rest = (from ≤ length B) × (drop from B ≡ part ++ rest)
 
--- the bytes of B from an offset on are the first bytes of a buffer, and then what a reader has left
-abbrev pub Stands : List ℕ → Option (List ℕ) → List ℕ → ℕ → ℕ → Type 0
-Stands B left buffer from held = (rest : List ℕ) × (left ≡ Some rest) × HasPart B from (take held buffer) rest
+-- the bytes that were read end with a part, which is at the offset `from`
+abbrev pub HasEnd : List ℕ → ℕ → List ℕ → Type 0
+HasEnd read from part = (from ≤ length read) × (drop from read ≡ part)
+
+-- more bytes are read after those that were, and then `Is` says what all of them are
+abbrev pub ReadsOn : Option (List ℕ) → Option (List ℕ) → List ℕ → (List ℕ → Type 0) → Type 0
+ReadsOn old new read Is = (more : List ℕ) × Consumes old new more × Is (read ++ more)
 
 -- what a reader has left, where it is known, is all of B but its first `read` bytes
 abbrev pub HasRest : List ℕ → ℕ → Option (List ℕ) → Type 0

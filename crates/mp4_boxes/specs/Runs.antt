@@ -3,9 +3,10 @@
 -- A command is given by two relations: `Makes B out` says that it writes `out` for the input B, and `Refusal B e` that
 -- it may refuse B with the error e. The bytes that a reader has left, and those that a writer has, are `Some` if they
 -- are known. Nothing is claimed of them if they are not.
-use Rattle.std.specs.Prelude.{◌≡◌, ℕ, Bool, true, false, List, length, take, Result, Ok, Err, IfSome, ⊤}
+use Rattle.std.specs.Prelude.{◌≡◌, ℕ, ◌+◌, ◌≤◌, Bool, true, false, List, ◌++◌, length, take, Result, Ok, Err}
+use Rattle.std.specs.Prelude.{IfSome, ⊤}
 use Rattle.std.specs.declared.option.Option.{Option}
-use Rattle.std.specs.Io.KnownBytes.{Keeps, Appends, IsAtEnd}
+use Rattle.std.specs.Io.KnownBytes.{Keeps, Appends, Consumes, IsAtEnd}
 use Rattle.mp4_frame.specs.Reading.{Refuses}
 use Rattle.mp4_frame.specs.Spans.{spans}
 use Rattle.mp4_frame.specs.declared.error.Error.{Error}
@@ -75,6 +76,20 @@ Lists B out = (found : List BoxSpan) × ((spans B 0).outcome ≡ Ok found) × (o
 abbrev pub ListRefusal : List ℕ → Error → Type 0
 ListRefusal B errors.OutOfMemory = ⊤
 ListRefusal B e = Refuses e (spans B 0)
+
+-- these bytes decide the error of a list: it is the first fault of every input that begins with them. At most 65,536 of
+-- them follow an offset o such that the boxes starting at o have this fault too
+abbrev pub Decides : List ℕ → Error → Type 0
+Decides read e = ((more : List ℕ) → Refuses e (spans (read ++ more) 0))
+    × ((o : ℕ) × (length read ≤ o + 65536) × ((more : List ℕ) → Refuses e (spans (read ++ more) o)))
+
+-- where `list` stops reading at a fault: a cut box or header shows at the end of the input, and any other fault in the
+-- bytes that were read, whatever follows them
+abbrev pub Stops : {A : Type 0} → Option (List ℕ) → Option (List ℕ) → Result A RunFault → Type 0
+Stops old new (Err (faults.Boxes errors.IoError)) = IsAtEnd new
+Stops old new (Err (faults.Boxes errors.OutOfMemory)) = ⊤
+Stops old new (Err (faults.Boxes e)) = (read : List ℕ) × Consumes old new read × Decides read e
+Stops old new _ = ⊤
 
 -- what a command writes for B
 abbrev pub Makes : Command → List ℕ → List ℕ → Type 0

@@ -1,11 +1,11 @@
 //! The command `list`: where the boxes of the input are.
 
-ghost use Rattle.std.specs.Prelude.{◌≡◌, ◌≤◌, ◌<◌, ◌+◌, ◌^◌, ◌||◌, ℕ, List, Some, length, vec_len, IfOk, IfErr};
+ghost use Rattle.std.specs.Prelude.{◌≡◌, ◌≤◌, ◌<◌, ◌+◌, ◌^◌, ◌||◌, ℕ, List, Some, length, take, vec_len, IfOk, IfErr};
+ghost use Rattle.std.specs.Prelude.{IfSome};
 ghost use Rattle.std.specs.Io.KnownBytes.{IsAtEnd};
-ghost use Rattle.std.specs.declared.option.Option.{Option};
-ghost use Rattle.mp4_frame.specs.declared.error.Error.TheVariants.{OutOfMemory};
-ghost use Rattle.mp4_boxes.specs.Parts.{Ends, HasRest, IsReadOrMemory, LinesBefore, LinesIn, Stands};
-ghost use Rattle.mp4_boxes.specs.Runs.{Runs, ReachesEnd, Rewrites, Lists, ListRefusal, is_read, is_write};
+ghost use Rattle.mp4_frame.specs.declared.error.Error.TheVariants.{IoError, OutOfMemory};
+ghost use Rattle.mp4_boxes.specs.Parts.{Ends, HasEnd, HasRest, IsReadOrMemory, LinesBefore, LinesIn, ReadsOn};
+ghost use Rattle.mp4_boxes.specs.Runs.{Runs, ReachesEnd, Rewrites, Lists, ListRefusal, Stops, is_read, is_write};
 
 use crate::engine::write_all;
 use crate::fault::RunFault;
@@ -20,6 +20,9 @@ use std::io::{Read, Write};
 /// The number of bytes of the parts in which the input is read.
 const PART: usize = 65536;
 
+/// The most bytes that an input may have: as many as a vector can hold.
+const LIMIT: u64 = (1 << 63) - 1;
+
 /// How far an input is read and listed.
 #[derive(Clone, Copy, Debug)]
 struct Place {
@@ -31,21 +34,28 @@ struct Place {
     next: u64,
 }
 
-/// Reads once, to the bytes of the part after those that are filled, and returns how many bytes are filled then: not
-/// more than before only at the end of the input.
+/// Reads once, to the bytes of `part` after those that `place` says are filled. Returns how many bytes are filled then:
+/// no more than before only at the end of the input. An input of more than `limit` bytes is out of memory.
 fn pull_part<R: Read>(
     input: &mut Input<R>,
     part: &mut Vec<u8>,
     place: Place,
+    limit: u64,
 ) -> Result<usize, RunFault>
-    requires { place.held < vec_len part.old }
+    requires room { place.held < vec_len part.old }
+    requires within { place.from ≤ limit }
     ensures len { vec_len part.new ≡ vec_len part.old }
     ensures bound { IfOk result
-        (λ filled. (place.held ≤ filled) × (filled ≤ vec_len part.new) × (place.from + filled < 2 ^ 64)) }
+        (λ filled. (place.held ≤ filled) × (filled ≤ vec_len part.new) × (place.from + filled ≤ limit)) }
     ensures end { IfOk result (λ filled. filled ≡ place.held → IsAtEnd (R.remaining input.new.inner)) }
     ensures bytes { IfOk result
-        (λ filled. (B : List ℕ) → Stands B (R.remaining input.old.inner) part.old.items place.from place.held
-        → Stands B (R.remaining input.new.inner) part.new.items place.from filled) }
+        (λ filled. (read : List ℕ) → HasEnd read place.from (take place.held part.old.items)
+        → ReadsOn (R.remaining input.old.inner) (R.remaining input.new.inner) read
+        (λ all. HasEnd all place.from (take filled part.new.items))) }
+    ensures passed { IfErr result
+        (λ fault. fault ≡ RunFault.Boxes OutOfMemory
+        → (read : List ℕ) → HasEnd read place.from (take place.held part.old.items)
+        → ReadsOn (R.remaining input.old.inner) (R.remaining input.new.inner) read (λ all. limit < length all)) }
     ensures error { IfErr result IsReadOrMemory }
     ensures failed { input.new.failed ≡ (input.old.failed || is_read result) }
 {
@@ -53,7 +63,7 @@ fn pull_part<R: Read>(
         return Err(RunFault::Read);
     };
     let filled = place.held + n;
-    if place.from.checked_add(filled as u64).is_none() {
+    if filled as u64 > limit - place.from {
         return Err(RunFault::Boxes(Error::OutOfMemory));
     }
     Ok(filled)
@@ -68,8 +78,8 @@ fn keep_rest(part: &mut Vec<u8>, filled: usize, from: u64, next: u64) -> Place
     ensures place { (result.next ≡ next) × (result.from ≤ next) × (result.held < 16)
         × (result.from + result.held ≡ from + filled) }
     ensures len { vec_len part.new ≡ vec_len part.old }
-    ensures bytes { (B : List ℕ) (left : Option (List ℕ)) → Stands B left part.old.items from filled
-        → Stands B left part.new.items result.from result.held }
+    ensures bytes { (read : List ℕ) → HasEnd read from (take filled part.old.items)
+        → HasEnd read result.from (take result.held part.new.items) }
 {
     let end = next.min(from + filled as u64);
     let done = end - from;
@@ -81,10 +91,12 @@ fn keep_rest(part: &mut Vec<u8>, filled: usize, from: u64, next: u64) -> Place
     }
 }
 
-/// The lines, where all input is read and the next box would begin at `next`.
+/// Returns the lines where all input is read and the next box would begin at `next`. That is end of input if a box or a
+/// header is cut.
 fn all_lines(lines: Vec<u8>, read: u64, next: u64) -> mp4_stream::Result<Vec<u8>>
-    ensures { (B : List ℕ) → read ≡ length B → LinesIn B read lines.items next
+    ensures lines { (B : List ℕ) → read ≡ length B → LinesIn B read lines.items next
         → Rewrites Lists ListRefusal (λ v. v.items) B result }
+    ensures cut { IfErr result (λ e. e ≡ IoError) }
 {
     if next == read {
         Ok(lines)
@@ -93,26 +105,28 @@ fn all_lines(lines: Vec<u8>, read: u64, next: u64) -> mp4_stream::Result<Vec<u8>
     }
 }
 
-/// The lines, where the last box, at this position, goes to the end of the input, of which `read` bytes are read.
+/// Reads to the end of the input, and returns the lines with that of the last box, which begins at `position` and goes
+/// to the end. `read` bytes are read before, and an input of more than `limit` bytes is out of memory.
 fn with_last<R: Read>(
     input: &mut Input<R>,
     buffer: &mut [u8],
     mut lines: Vec<u8>,
     read: u64,
+    limit: u64,
     position: u64,
     name: BoxType,
 ) -> Result<Vec<u8>, RunFault>
     requires buffer { 0 < length buffer.old }
     requires order { position ≤ read }
+    requires within { read ≤ limit }
     ensures lines { Ends (λ v. v.items)
         (λ B. HasRest B read (R.remaining input.old.inner) × LinesBefore B lines.items position name)
         (R.remaining input.new.inner) result }
+    ensures limit { IfOk result (λ _. (B : List ℕ) → HasRest B read (R.remaining input.old.inner) → length B ≤ limit) }
+    ensures error { IfErr result IsReadOrMemory }
     ensures failed { input.new.failed ≡ (input.old.failed || is_read result) }
 {
-    let rest = skip_all(input, buffer)?;
-    let Some(end) = read.checked_add(rest) else {
-        return Err(RunFault::Boxes(Error::OutOfMemory));
-    };
+    let end = read + skip_all(input, buffer, limit - read)?;
     push_line(
         &mut lines,
         BoxSpan {
@@ -124,20 +138,6 @@ fn with_last<R: Read>(
     Ok(lines)
 }
 
-/// Reads to the end of an input whose boxes have a fault: a read that fails comes first.
-fn refuse<R: Read>(
-    input: &mut Input<R>,
-    buffer: &mut [u8],
-    error: Error,
-) -> Result<Vec<u8>, RunFault>
-    requires { 0 < length buffer.old }
-    ensures lines { Ends (λ v. v.items) (λ B. ListRefusal B error) (R.remaining input.new.inner) result }
-    ensures failed { input.new.failed ≡ (input.old.failed || is_read result) }
-{
-    skip_all(input, buffer)?;
-    Err(RunFault::Boxes(error))
-}
-
 /// A part of zeros.
 fn new_part(alloc: Global) -> mp4_stream::Result<Vec<u8>>
     ensures len { IfOk result (λ part. vec_len part ≡ PART) }
@@ -146,11 +146,17 @@ fn new_part(alloc: Global) -> mp4_stream::Result<Vec<u8>>
     Ok(vec![in alloc; 0; PART]?)
 }
 
-/// The lines of all boxes of the input, which is read in parts. Of a part is kept what belongs to a header that is not
-/// whole.
-fn list_input<R: Read>(alloc: Global, input: &mut Input<R>) -> Result<Vec<u8>, RunFault>
+/// Returns the lines of all boxes of the input, or its first fault, at which reading stops. The input is read in parts,
+/// of which only the header that is not whole is kept. An input of more than `limit` bytes is out of memory.
+pub fn list_input<R: Read>(
+    alloc: Global,
+    input: &mut Input<R>,
+    limit: u64,
+) -> Result<Vec<u8>, RunFault>
     ensures lines { Ends (λ v. v.items) (λ B. R.remaining input.old.inner ≡ Some B)
         (R.remaining input.new.inner) result }
+    ensures stops { Stops (R.remaining input.old.inner) (R.remaining input.new.inner) result }
+    ensures limit { IfOk result (λ _. IfSome (R.remaining input.old.inner) (λ B. length B ≤ limit)) }
     ensures failed { input.new.failed ≡ (input.old.failed || is_read result) }
 {
     let mut part = new_part(alloc)?;
@@ -161,7 +167,7 @@ fn list_input<R: Read>(alloc: Global, input: &mut Input<R>) -> Result<Vec<u8>, R
         next: 0,
     };
     for _ in 0..u64::MAX {
-        let filled = pull_part(input, &mut part, place)?;
+        let filled = pull_part(input, &mut part, place, limit)?;
         let read = place.from + filled as u64;
         if filled == place.held {
             return Ok(all_lines(lines, read, place.next)?);
@@ -169,9 +175,9 @@ fn list_input<R: Read>(alloc: Global, input: &mut Input<R>) -> Result<Vec<u8>, R
         match list_part(&mut lines, &part[..filled], place.from, place.next) {
             Ok(Next::Box(next)) => place = keep_rest(&mut part, filled, place.from, next),
             Ok(Next::Last(position, name)) => {
-                return with_last(input, &mut part, lines, read, position, name);
+                return with_last(input, &mut part, lines, read, limit, position, name);
             }
-            Err(e) => return refuse(input, &mut part, e),
+            Err(e) => return Err(RunFault::Boxes(e)),
         }
     }
     Err(RunFault::Boxes(Error::OutOfMemory))
@@ -180,7 +186,8 @@ fn list_input<R: Read>(alloc: Global, input: &mut Input<R>) -> Result<Vec<u8>, R
 /// Lists all boxes of the input: for each it writes a line of its position, its length and its name. Returns the number
 /// of bytes that were written. The contents of boxes are not kept.
 ///
-/// All output is made before any of it is written, as in `run_normal`.
+/// All output is made before any of it is written, as in `run_normal`. Reading stops at the first fault: what comes
+/// after it is left in the reader. An input of 2^63 bytes or more is out of memory.
 pub fn run_list<R: Read, W: Write>(
     alloc: Global,
     input: &mut Input<R>,
@@ -189,9 +196,11 @@ pub fn run_list<R: Read, W: Write>(
     ensures run { Runs Lists ListRefusal (R.remaining input.old.inner) (W.contents output.old.inner)
         (W.contents output.new.inner) result }
     ensures all_read { ReachesEnd (R.remaining input.new.inner) result }
+    ensures stops { Stops (R.remaining input.old.inner) (R.remaining input.new.inner) result }
+    ensures limit { IfOk result (λ _. IfSome (R.remaining input.old.inner) (λ B. length B < 2 ^ 63)) }
     ensures read_failed { input.new.failed ≡ (input.old.failed || is_read result) }
     ensures write_failed { output.new.failed ≡ (output.old.failed || is_write result) }
 {
-    let lines = list_input(alloc, input)?;
+    let lines = list_input(alloc, input, LIMIT)?;
     write_all(output, &lines)
 }

@@ -1,6 +1,7 @@
 //! The boxes whose headers are in a part of the input.
 
-ghost use Rattle.std.specs.Prelude.{◌≡◌, ◌+◌, ◌<◌, ◌≤◌, ◌^◌, ℕ, List, length, IfOk, IfSome, IfNone};
+ghost use Rattle.std.specs.Prelude.{◌≡◌, ◌≢◌, ◌+◌, ◌<◌, ◌≤◌, ◌^◌, ℕ, List, length, IfOk, IfErr, IfSome, IfNone};
+ghost use Rattle.mp4_frame.specs.declared.error.Error.TheVariants.{IoError};
 ghost use Rattle.mp4_frame.specs.Heads.{content_in};
 ghost use Rattle.mp4_boxes.specs.Parts.{HasPart, HeadIn, IsFew, LinesTo, ListsTo};
 
@@ -24,6 +25,7 @@ fn head_in(part: &[u8], from: u64, at: u64) -> Result<Option<Frame>>
     ensures begins { IfOk result (λ found. IfSome found (λ h. (h.begin ≡ at) × (at ≤ h.start))) }
     ensures room { IfOk result (λ found. IfSome found (λ h. content_in h ≤ from + length part.now)) }
     ensures few { IfOk result (λ found. IfNone found (from + length part.now < at + 16)) }
+    ensures whole { IfErr result (λ e. e ≢ IoError) }
 {
     match Frame::at(part, at - from) {
         Ok(head) => Ok(Some(Frame {
@@ -39,13 +41,14 @@ fn head_in(part: &[u8], from: u64, at: u64) -> Result<Option<Frame>>
 }
 
 /// Appends the lines of the boxes from the offset `next` on whose headers are in the part, which is at the offset
-/// `from` of the input.
+/// `from` of the input. The error is a fault of a header that is whole.
 pub fn list_part(lines: &mut Vec<u8>, part: &[u8], from: u64, mut next: u64) -> Result<Next>
     requires room { from + length part.now < 2 ^ 64 }
     requires within { from ≤ next }
     ensures few { IfOk result (λ after. IsFew (from + length part.now) next after) }
     ensures lines { (B rest : List ℕ) → HasPart B from part.now rest → LinesTo B lines.old.items next
         → ListsTo B (from + length part.now) lines.new.items result }
+    ensures whole { IfErr result (λ e. e ≢ IoError) }
 {
     let read = from + part.len() as u64;
     while next < read {

@@ -1,7 +1,7 @@
 -- What calls of a reader or a writer do. The bytes that a reader has left, and those that a writer has, are `Some` if
 -- they are known. Nothing is claimed of them if they are not.
-use Rattle.std.specs.Prelude.{◌≡◌, ℕ, ◌<◌, Bool, true, false, List, length, take, None, Some, Result, Ok, Err, IfSome}
-use Rattle.std.specs.Prelude.{⊤}
+use Rattle.std.specs.Prelude.{◌≡◌, ℕ, ◌<◌, ◌≤◌, Bool, true, false, List, length, take, None, Some, Result, Ok, Err}
+use Rattle.std.specs.Prelude.{IfSome, ⊤}
 use Rattle.std.specs.declared.option.Option.{Option}
 use Rattle.std.specs.Io.KnownBytes.{Keeps, Appends, Consumes, IsAtEnd}
 use Rattle.mp4_io.specs.declared.failure.Failure.{Failure}
@@ -39,12 +39,13 @@ ReadsAll items old new (Err failures.Read) = ⊤
 ReadsAll items old new (Err failures.Write) = ⊥
 ReadsAll items old new (Err failures.Memory) = ⊤
 
--- skipping to the end returns the number of bytes of the input, or a failed read, or out of memory
-abbrev pub SkipsAll : Option (List ℕ) → Option (List ℕ) → Result ℕ Failure → Type 0
-SkipsAll old new (Ok n) = IfSome old (λ B. n ≡ length B) × IsAtEnd new
-SkipsAll old new (Err failures.Read) = ⊤
-SkipsAll old new (Err failures.Write) = ⊥
-SkipsAll old new (Err failures.Memory) = ⊤
+-- skipping to the end returns the number of bytes of the input, or a failed read, or out of memory, where the input has
+-- more bytes than the limit
+abbrev pub SkipsAll : ℕ → Option (List ℕ) → Option (List ℕ) → Result ℕ Failure → Type 0
+SkipsAll limit old new (Ok n) = IfSome old (λ B. n ≡ length B) × IsAtEnd new × (n ≤ limit)
+SkipsAll limit old new (Err failures.Read) = ⊤
+SkipsAll limit old new (Err failures.Write) = ⊥
+SkipsAll limit old new (Err failures.Memory) = IfSome old (λ B. limit < length B)
 
 -- writing all of out appends it, or is a failed write after a beginning of it
 abbrev pub WritesAll : {V : Type 0} → Option (List ℕ) → Option (List ℕ) → Result V Failure → List ℕ → Type 0

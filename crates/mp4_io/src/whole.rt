@@ -73,27 +73,30 @@ pub fn read_all<R: Read, A: Allocator>(
     Err(Failure::Memory)
 }
 
-/// Reads to the end of the input, keeps nothing, and returns how many bytes there were. The buffer has the bytes of a
-/// call. An input of 2^64 bytes is out of memory.
-pub fn skip_all<R: Read>(input: &mut Input<R>, buffer: &mut [u8]) -> Result<u64, Failure>
+/// Reads to the end of the input, keeps nothing, and returns how many bytes there were. `buffer` holds the bytes of one
+/// call. An input of more than `limit` bytes is out of memory.
+pub fn skip_all<R: Read>(
+    input: &mut Input<R>,
+    buffer: &mut [u8],
+    limit: u64,
+) -> Result<u64, Failure>
     requires { 0 < length buffer.old }
-    ensures bytes { SkipsAll (R.remaining input.old.inner) (R.remaining input.new.inner) result }
+    ensures bytes { SkipsAll limit (R.remaining input.old.inner) (R.remaining input.new.inner) result }
     ensures failed { input.new.failed ≡ (input.old.failed || is_read result) }
 {
-    let mut count: u64 = 0;
-    for _ in 0..u64::MAX {
+    let mut left = limit;
+    loop {
         let Some(n) = input.pull(buffer) else {
             return Err(Failure::Read);
         };
         if n == 0 {
-            return Ok(count);
+            return Ok(limit - left);
         }
-        let Some(more) = count.checked_add(n as u64) else {
-            return Err(Failure::Memory);
-        };
-        count = more;
+        match left.checked_sub(n as u64) {
+            Some(less) => left = less,
+            None => return Err(Failure::Memory),
+        }
     }
-    Err(Failure::Memory)
 }
 
 /// Writes all bytes. After an error a beginning of them is written.

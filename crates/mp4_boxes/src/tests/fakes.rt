@@ -52,6 +52,22 @@ impl Read for Zeros {
     }
 }
 
+/// A reader that never ends: it gives the same bytes in each call.
+#[derive(Drop)]
+pub struct Endless<'a> {
+    pub piece: &'a [u8; 8],
+    pub calls: u64,
+}
+
+impl Read for Endless<'_> {
+    fn read(&mut self, buf: &mut [u8]) -> io::Result<usize> {
+        self.calls = self.calls.saturating_add(1);
+        let n = self.piece.len().min(buf.len());
+        buf[..n].copy_from_slice(&self.piece[..n]);
+        Ok(n)
+    }
+}
+
 /// How a call of a writer goes wrong.
 #[derive(Clone, Copy, Debug, PartialEq, Eq)]
 pub enum Refusal {

@@ -1,8 +1,9 @@
 //! Lists of inputs that come in parts: each cuts a header somewhere.
 
-use super::fakes::{Giver, Refusal, Taker};
+use super::fakes::{Endless, Giver, Refusal, Taker};
 use crate::command::Command;
 use crate::fault::RunFault;
+use crate::list::list_input;
 use crate::program::run_command;
 use mp4_io::{Input, Output, skip_all};
 use mp4_stream::Error;
@@ -73,25 +74,113 @@ fn with_a_fault() -> [u8; 55] {
     bytes
 }
 
-/// The input is read to its end, and a read that fails after the fault comes first.
+/// The offset at which the header with the fault ends.
+const FAULT: usize = 42;
+
+/// Reading stops at the fault: a read that would fail after it is not made.
 #[test]
 fn a_fault_and_a_failed_read(rt: HostRuntime) {
     let bytes = with_a_fault();
     for most in 1..bytes.len() + 1 {
-        let reads = bytes.len().div_ceil(most) as u64 + 1;
-        let (result, written, calls) = list(&rt, &bytes, most, None);
-        assert!(rt;
-            matches!(result, Err(RunFault::Boxes(Error::InvalidData(_)))),
-            "{most}"
-        );
-        assert!(rt; written.is_empty(), "{most}");
-        assert_eq!(rt; calls, reads, "{most}");
-        for bad_read in 1..reads + 1 {
+        let reads = FAULT.div_ceil(most) as u64;
+        for bad_read in 1..reads + 3 {
             let (result, written, calls) = list(&rt, &bytes, most, Some(bad_read));
-            assert!(rt; matches!(result, Err(RunFault::Read)), "{most} {bad_read}");
+            if bad_read <= reads {
+                assert!(rt; matches!(result, Err(RunFault::Read)), "{most} {bad_read}");
+            } else {
+                assert!(rt;
+                    matches!(result, Err(RunFault::Boxes(Error::InvalidData(_)))),
+                    "{most} {bad_read}"
+                );
+            }
             assert!(rt; written.is_empty(), "{most} {bad_read}");
-            assert_eq!(rt; calls, bad_read, "{most} {bad_read}");
+            assert_eq!(rt; calls, bad_read.min(reads), "{most} {bad_read}");
         }
+    }
+}
+
+/// An input that never ends, and whose first box has a fault.
+#[test]
+fn a_fault_of_an_endless_input(rt: HostRuntime) {
+    let mut input = Input::new(Endless {
+        piece: b"\0\0\0\x02free",
+        calls: 0,
+    });
+    let mut output = Output::new(Taker::new(rt.alloc(), 100, None, Refusal::Fails));
+    let result = run_command(rt.alloc(), Command::List, &mut input, &mut output);
+    assert!(rt; matches!(result, Err(RunFault::Boxes(Error::InvalidData(_)))));
+    assert_eq!(rt; input.inner.calls, 1);
+    assert!(rt; output.inner.taken.is_empty());
+}
+
+/// Lists `bytes` where the reader gives `most` bytes a call and an input may have `limit` bytes. Returns the result and
+/// the number of calls of the reader.
+fn list_up_to(
+    rt: &(impl Abort + Alloc<A = Global>),
+    bytes: &[u8],
+    most: usize,
+    limit: u64,
+) -> (Result<Vec<u8>, RunFault>, u64) {
+    let mut input = Input::new(Giver::new(bytes, most, None));
+    let result = list_input(rt.alloc(), &mut input, limit);
+    assert!(rt; !input.failed);
+    (result, input.inner.calls)
+}
+
+/// An input may have as many bytes as the limit. One that has more is out of memory at the call that passes the limit.
+#[test]
+fn inputs_at_a_limit(rt: HostRuntime) {
+    for most in [1, 3, 16, 64] {
+        for limit in 0..BOXES.len() + 3 {
+            let (result, calls) = list_up_to(&rt, &BOXES, most, limit as u64);
+            if limit < BOXES.len() {
+                assert!(rt;
+                    matches!(result, Err(RunFault::Boxes(Error::OutOfMemory))),
+                    "{most} {limit}"
+                );
+                assert_eq!(rt; calls, (limit / most) as u64 + 1, "{most} {limit}");
+            } else {
+                assert!(rt;
+                    matches!(result, Ok(lines) if lines.as_slice() == LINES),
+                    "{most} {limit}"
+                );
+            }
+        }
+    }
+}
+
+/// A fault before the limit is returned, and one after it is not found.
+#[test]
+fn faults_at_a_limit(rt: HostRuntime) {
+    let bytes = with_a_fault();
+    for most in [1, 3, 16, 64] {
+        let read = FAULT.next_multiple_of(most).min(bytes.len());
+        for limit in 0..bytes.len() + 3 {
+            let (result, _) = list_up_to(&rt, &bytes, most, limit as u64);
+            if limit < read {
+                assert!(rt;
+                    matches!(result, Err(RunFault::Boxes(Error::OutOfMemory))),
+                    "{most} {limit}"
+                );
+            } else {
+                assert!(rt;
+                    matches!(result, Err(RunFault::Boxes(Error::InvalidData(_)))),
+                    "{most} {limit}"
+                );
+            }
+        }
+    }
+}
+
+/// Inputs that never end: boxes that follow one another, and a box that goes to the end.
+#[test]
+fn endless_inputs_at_a_limit(rt: HostRuntime) {
+    for piece in [b"\0\0\0\x08free", b"\0\0\0\0free"] {
+        let mut input = Input::new(Endless { piece, calls: 0 });
+        let result = list_input(rt.alloc(), &mut input, 1000);
+        assert!(rt; matches!(result, Err(RunFault::Boxes(Error::OutOfMemory))));
+        assert_eq!(rt; input.inner.calls, 126);
+        assert!(rt; !input.failed);
     }
 }
 
@@ -113,11 +202,18 @@ fn reads_that_fail_anywhere(rt: HostRuntime) {
 fn bytes_that_are_skipped(rt: HostRuntime) {
     let mut buffer = [0; 4];
     let mut input = Input::new(Giver::new(&BOXES, 3, None));
-    assert!(rt; matches!(skip_all(&mut input, &mut buffer), Ok(55)));
+    assert!(rt; matches!(skip_all(&mut input, &mut buffer, 55), Ok(55)));
+    let mut input = Input::new(Giver::new(&BOXES, 3, None));
+    assert!(rt;
+        matches!(
+            skip_all(&mut input, &mut buffer, 54),
+            Err(mp4_io::Failure::Memory)
+        )
+    );
     let mut input = Input::new(Giver::new(&BOXES, 64, Some(15)));
     assert!(rt;
         matches!(
-            skip_all(&mut input, &mut buffer),
+            skip_all(&mut input, &mut buffer, u64::MAX),
             Err(mp4_io::Failure::Read)
         )
     );

@@ -1,6 +1,8 @@
--- The text has the lines of the boxes before `next`, and the front of the part is what is read and not done with.
-use Rattle.std.proofs.Common.{◌≡◌, ℕ, ◌≤◌, ◌<◌, ◌+◌, List, Some, vec_len}
-use Rattle.mp4_boxes.specs.Parts.{Stands, LinesIn}
+-- The bytes that were read end with the front of the part, which is what is not done with. The text has the lines of
+-- the boxes before `next` of each input that begins with these bytes.
+use Rattle.std.proofs.Common.{◌≡◌, ℕ, ◌≤◌, ◌<◌, ◌+◌, List, ◌++◌, take, vec_len}
+use Rattle.std.specs.Io.KnownBytes.{Consumes}
+use Rattle.mp4_boxes.specs.Parts.{HasEnd, LinesIn}
 use Rattle.mp4_boxes.proofs.list.list_input.Given as goal
 
 abbrev pub invariant-loop : goal.invariant-loop
@@ -8,8 +10,10 @@ invariant-loop g l = record {
   room : vec_len l.part ≡ 65536;
   few : l.place.held < 16;
   order : l.place.from ≤ l.place.next;
+  within : l.place.from ≤ l.limit;
   mark : l.input.failed ≡ l.initial.input.failed;
-  told : (B : List ℕ) → g.R.Read.remaining l.initial.input.inner ≡ Some B
-      → Stands B (g.R.Read.remaining l.input.inner) l.part.items l.place.from l.place.held
-      × LinesIn B (l.place.from + l.place.held) l.lines.items l.place.next;
+  told : (read : List ℕ)
+      × Consumes (g.R.Read.remaining l.initial.input.inner) (g.R.Read.remaining l.input.inner) read
+      × HasEnd read l.place.from (take l.place.held l.part.items)
+      × ((more : List ℕ) → LinesIn (read ++ more) (l.place.from + l.place.held) l.lines.items l.place.next);
 }

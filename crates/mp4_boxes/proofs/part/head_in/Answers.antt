@@ -32,4 +32,5 @@ returns-in_default c = record {
   begins = tt;
   room = tt;
   few = tt;
+  whole = c.in_default.not-IoError;
 }

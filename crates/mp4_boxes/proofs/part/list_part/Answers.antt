@@ -4,7 +4,7 @@ use Rattle.std.proofs.lemmas.Result.{err_from_is_err_and}
 use Rattle.mp4_frame.specs.declared.box_type.BoxType.{BoxType}
 use Rattle.mp4_frame.specs.declared.frame.Frame.{Frame}
 use Rattle.mp4_boxes.specs.Parts.{HeadIn, LinesBefore}
-use Rattle.mp4_boxes.proofs.Listed.{head_refused, head_cut, size_refused, last_box, next_box, in_input}
+use Rattle.mp4_boxes.proofs.Listed.{head_refused, head_cut, size_refused, last_box, next_box, in_input, not_cut}
 use Rattle.mp4_boxes.proofs.part.list_part.Goals as goal
 
 pub returns-in_err-found-clause-lines : goal.returns-in_err-found-clause-lines
@@ -14,6 +14,11 @@ returns-in_err-found-clause-lines c B rest has before =
     let inside = in_input B c.args.part.now rest c.args.from c.loop-next.next has c.loop-next-test.true in
     rw (p.1, p.2) (head_refused B c.loop-next.lines.items c.loop-next.next there inside c.in_err-found.field-0.0
     (c.in_err-found.ensures.head B rest has))
+
+pub returns-in_err-found-clause-whole : goal.returns-in_err-found-clause-whole
+returns-in_err-found-clause-whole c =
+    let p = err_from_is_err_and c.from_residual.result c.from_residual.ensures.1 in
+    rw (p.1, p.2) c.in_err-found.ensures.whole
 
 pub returns-in-None-clause-lines : goal.returns-in-None-clause-lines
 returns-in-None-clause-lines c B rest has before =
@@ -46,6 +51,11 @@ returns-in_err-frame-clause-lines c B rest has before =
     (c.in_ok-found.ensures.head B rest has) in
     rw (p.1, p.2) (size_refused B c.loop-next.lines.items c.loop-next.next there inside h shown c.in_err-frame.field-0.0
     c.if-head-eq0.false c.in_err-frame.ensures.answer)
+
+pub returns-in_err-frame-clause-whole : goal.returns-in_err-frame-clause-whole
+returns-in_err-frame-clause-whole c =
+    let p = err_from_is_err_and c.from_residual-in_err-frame.result c.from_residual-in_err-frame.ensures.1 in
+    rw (p.1, p.2) (not_cut c.in-Some.head c.in_err-frame.field-0.0 c.if-head-eq0.false c.in_err-frame.ensures.answer)
 
 pub loop-next-preserved : goal.loop-next-preserved
 loop-next-preserved c =

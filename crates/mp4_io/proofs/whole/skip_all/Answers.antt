@@ -3,10 +3,10 @@ use Rattle.std.proofs.lemmas.List.{length-take-le}
 use Rattle.std.proofs.KnownBytes.{Consumes-trans}
 use Rattle.mp4_io.proofs.whole.skip_all.Goals as goal
 
-pub loop-preserved : goal.loop-preserved
-loop-preserved g c =
+pub loop-n-preserved : goal.loop-n-preserved
+loop-n-preserved g c =
     let pulled = c.in-Some.ensures in
-    let before = c.loop.invariant.front in
+    let before = c.loop-n.invariant.front in
     let piece = take c.in-Some.n c.pull.new.buf in
     record {
       least = search rules;
@@ -18,7 +18,7 @@ loop-preserved g c =
           length-append before.0 piece,
           length-take-le c.in-Some.n c.pull.new.buf pulled.bound,
           before.2,
-          c.in-Some-checked_add.ensures,
+          c.in-Some-checked_sub.ensures,
         ),
       );
       mark = search rules;

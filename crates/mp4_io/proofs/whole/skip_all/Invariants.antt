@@ -1,12 +1,15 @@
--- As many bytes as are counted were read.
-use Rattle.std.proofs.Common.{◌≡◌, ℕ, ◌<◌, List, length}
+-- The bytes that were read, and the limit less these.
+use Rattle.std.proofs.Common.{◌≡◌, ℕ, ◌<◌, ◌+◌, List, length}
 use Rattle.std.specs.Io.KnownBytes.{Consumes}
 use Rattle.mp4_io.proofs.whole.skip_all.Given as goal
 
-abbrev pub invariant-loop : goal.invariant-loop
-invariant-loop g l = record {
+abbrev pub invariant-loop-n : goal.invariant-loop-n
+invariant-loop-n g l = record {
   least : 0 < length l.buffer;
   front : (bs : List ℕ) × Consumes (g.R.Read.remaining l.initial.input.inner) (g.R.Read.remaining l.input.inner) bs
-      × (length bs ≡ l.count);
+      × (length bs + l.left ≡ l.limit);
   mark : l.input.failed ≡ l.initial.input.failed;
 }
+
+abbrev pub decreases-loop-n : goal.decreases-loop-n
+decreases-loop-n g l = l.left
