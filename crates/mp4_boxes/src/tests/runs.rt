@@ -5,6 +5,7 @@ use super::{INPUT, LISTED};
 use crate::command::Command;
 use crate::engine::{finish, read_all};
 use crate::fault::RunFault;
+use crate::list::run_list;
 use crate::program::run_command;
 use linked_list_allocator::LocalHeap;
 use mp4_io::{Input, Output};
@@ -24,6 +25,21 @@ const TAKEN: usize = 7;
 
 /// More calls of an end than a run over the stored input makes.
 const CALLS: u64 = 10;
+
+/// Inputs, and what `run_list` writes for each: a header of 16 bytes, a name that is not printable, a name that ends
+/// with a space, and a last box of size 0.
+const LISTS: [(&[u8], &[u8]); 4] = [
+    (
+        b"\0\0\0\x01mdat\0\0\0\0\0\0\0\x13\x01\x02\x03",
+        b"0 19 mdat\n",
+    ),
+    (b"\0\0\0\x08\xa9nam", b"0 8 0xa96e616d\n"),
+    (b"\0\0\0\x0curl \0\0\0\x01", b"0 12 url \n"),
+    (
+        b"\0\0\0\x18ftypisom\0\0\x02\0isommp41\0\0\0\0mdat\x01\x02\x03",
+        b"0 24 ftyp\n24 11 mdat\n",
+    ),
+];
 
 /// A run over the stored input, where the calls of these numbers go wrong.
 fn run_with_bad_calls(
@@ -84,6 +100,17 @@ fn each_call_fails_in_turn(rt: HostRuntime) {
                 }
             }
         }
+    }
+}
+
+#[test]
+fn lists_of_literal_inputs(rt: HostRuntime) {
+    for (bytes, lines) in LISTS {
+        let mut input = Input::new(Giver::new(bytes, GIVEN, None));
+        let mut output = Output::new(Taker::new(rt.alloc(), TAKEN, None, Refusal::Fails));
+        let result = run_list(rt.alloc(), &mut input, &mut output);
+        assert!(rt; matches!(result, Ok(n) if n == lines.len() as u64));
+        assert!(rt; output.inner.taken.as_slice() == lines);
     }
 }
 
