@@ -32,7 +32,7 @@ use mp4_tree::Source;
 use outcome::{Outcome, is_silent};
 use program::{Show, inspect};
 use shown::ShownBox;
-use source::{InputFile, Kept, Reading, how_to_read};
+use source::{Kept, Reading, how_to_read, input_file};
 use std::alloc::AllocError;
 use std::env::VarError;
 use std::fs::File;
@@ -194,9 +194,9 @@ fn inspect_input<W: Write>(
     show: Show,
     output: &mut Output<Steady<W>>,
 ) -> Outcome {
-    match InputFile::new(rt.stdin()) {
-        Ok(source) => inspect_source(rt, file, source, show, output),
-        Err(_) => inspect_stream(rt, file, rt.stdin(), show, output),
+    match input_file(rt) {
+        Some(source) => inspect_source(rt, file, source, show, output),
+        None => inspect_stream(rt, file, rt.stdin(), show, output),
     }
 }
 

@@ -4,9 +4,10 @@ ghost use Rattle.std.specs.Prelude.{◌≡◌};
 ghost use Rattle.mp4_inspect.specs.Opened.{reading_of};
 
 use mp4_tree::Source;
+use std::fs;
 use std::fs::File;
 use std::io;
-use std::io::{ErrorKind, Read, Seek, SeekFrom, Stdin};
+use std::io::{Seek, SeekFrom};
 use std::os::unix::fs::FileTypeExt;
 
 /// A source that keeps the last error of reading.
@@ -49,55 +50,43 @@ impl<S: Source> Source for Kept<S> {
     }
 }
 
-/// The standard input where it is a file: its bytes after the position at which the program got it.
+/// A file that is read from a position on, as if nothing were before it.
 #[derive(Drop)]
-pub struct InputFile {
-    stdin: Stdin,
+pub struct FileFrom {
+    file: File,
     start: u64,
 }
 
-/// Moves the position of the standard input, and returns it.
-fn seek_input(offset: i64, whence: i32) -> io::Result<u64> {
-    match u64::try_from(libc::lseek(libc::STDIN_FILENO, offset, whence)) {
-        Ok(position) => Ok(position),
-        Err(_) => Err(io::Error::from(ErrorKind::NotSeekable)),
-    }
-}
-
-/// Moves the position of the standard input to `position`.
-fn seek_input_to(position: u64) -> io::Result<()> {
-    match i64::try_from(position) {
-        Ok(offset) => {
-            seek_input(offset, libc::SEEK_SET)?;
-            Ok(())
-        }
-        Err(_) => Err(io::Error::from(ErrorKind::UnexpectedEof)),
-    }
-}
-
-impl InputFile {
-    /// Returns the standard input as a file. Fails if it has no position (a pipe) or nothing after it (a device), and
-    /// leaves it where it stood.
-    pub fn new(stdin: Stdin) -> io::Result<Self> {
-        let start = seek_input(0, libc::SEEK_CUR)?;
-        let end = seek_input(0, libc::SEEK_END)?;
-        if end <= start {
-            seek_input_to(start)?;
-            return Err(io::Error::from(ErrorKind::NotSeekable));
-        }
-        Ok(InputFile { stdin, start })
-    }
-}
-
-impl Source for InputFile {
+impl Source for FileFrom {
     fn length(&mut self) -> io::Result<u64> {
-        Ok(seek_input(0, libc::SEEK_END)?.saturating_sub(self.start))
+        Ok(self.file.length()?.saturating_sub(self.start))
     }
 
     fn read_at(&mut self, at: u64, buffer: &mut [u8]) -> io::Result<()> {
-        seek_input_to(self.start.saturating_add(at))?;
-        self.stdin.read_exact(buffer)
+        self.file.read_at(self.start.saturating_add(at), buffer)
     }
+}
+
+/// Returns the position that the system says of an open file, in the line of `text` that begins with `pos:`.
+fn position_in(text: &str) -> Option<u64> {
+    for line in text.split('\n') {
+        if let Some(number) = line.strip_prefix("pos:") {
+            return number.trim().parse::<u64>().ok();
+        }
+    }
+    None
+}
+
+/// Opens the standard input anew, where it is a regular file of which bytes are left. None if it is something else, or
+/// if the system doesn't say where it stands.
+pub fn input_file(rt: &HostRuntime) -> Option<FileFrom> {
+    let text = fs::read_to_string(rt, "/proc/self/fdinfo/0").ok()?;
+    let start = position_in(text.as_str())?;
+    let mut file = fs::open(rt, "/proc/self/fd/0").ok()?;
+    if !file.metadata().ok()?.file_type().is_file() || file.length().ok()? <= start {
+        return None;
+    }
+    Some(FileFrom { file, start })
 }
 
 /// A way to read the bytes of a file.
