@@ -395,8 +395,35 @@ def fragment(flags, fragments):
     return box(b"moof", full(b"mfhd", 0, 0, be(4, 1)) + b"".join(trafs))
 
 
+def signs():
+    """Negative numbers in every field that has a sign, and dates after 2^32 seconds."""
+    unity = be(4, 0x10000, 0, 0, 0, 0x10000, 0, 0, 0, 0x40000000)
+    turned = be(4, -0x18000, -1, -(2**30), 0, -0x10000, 0, -(2**31), 2**31 - 1, 0x40000000)
+    late = full(b"mvhd", 1, 0, be(8, 2**32 - 1, 2**32) + be(4, 600) + be(8, 9) + be(4, -0x18000) + be(2, -0x40)
+                + bytes(10) + unity + bytes(24) + be(4, 3))
+    later = full(b"mvhd", 1, 0, be(8, 2**33, 255485051999) + be(4, 600) + be(8, 9) + be(4, -(2**31)) + be(2, -(2**15))
+                 + bytes(10) + turned + bytes(24) + be(4, 3))
+    last = full(b"mvhd", 1, 0, be(8, 255485059200, 2**64 - 1) + be(4, 600) + be(8, 9) + be(4, 2**31 - 1)
+                + be(2, 2**15 - 1) + bytes(10) + unity + bytes(24) + be(4, 3))
+
+    def header(track_, layer, group, volume, matrix):
+        return full(b"tkhd", 0, 7, be(4, 0, 0, track_, 0, 9) + bytes(8) + be(2, layer, group, volume, 0) + matrix
+                    + be(4, -(2**16), 2**31))
+
+    short = full(b"elst", 0, 0, be(4, 3) + be(4, 9, -1) + be(2, -1, 1) + be(4, 9, -2) + be(2, -(2**15), -(2**15))
+                 + be(4, 2**32 - 1, 2**31 - 1) + be(2, 2**15 - 1, -1))
+    long = full(b"elst", 1, 0, be(4, 2) + be(8, 2**63, -2) + be(2, 0, 2**15 - 1) + be(8, 9, -1) + be(2, -2, 0))
+    balances = b"".join(full(b"smhd", 0, 0, be(2, balance, 0)) for balance in (-0x80, -(2**15), 2**15 - 1))
+    offsets = (full(b"ctts", 1, 0, be(4, 2, 1, -1, 2, 2**31 - 1))
+               + full(b"trun", 1, 0x801, be(4, 2, -(2**31), -1, 2**31 - 1)))
+    tracks = (box(b"trak", header(1, -1, -2, -0x180, unity) + box(b"edts", short))
+              + box(b"trak", header(2, -(2**15), 2**15 - 1, 2**15 - 1, turned) + box(b"edts", long)))
+    return ftyp(b"isom", b"isom") + box(b"moov", late + later + last + tracks) + balances + offsets
+
+
 def made():
     """The files, by name."""
     return {"counted": counted(), "sounds": sounds(), "groups": groups(), "pictures": pictures(),
             "indexed": indexed(), "tables": tables(), "segments": segments(), "hevc": hevc(), "newer": newer(),
-            "quicktime": quicktime(), "titles": titles(), "fragments": fragments(), "subtitles": subtitles()}
+            "quicktime": quicktime(), "titles": titles(), "fragments": fragments(), "subtitles": subtitles(),
+            "signs": signs()}

@@ -20,6 +20,8 @@ TOPS = b"ftyp styp moov moof mdat meta free skip wide uuid udta sidx ssix prft e
 DEEPEST = 32
 FIXED = {"rate": 16, "volume": 8, "width": 16, "height": 16, "horizresolution": 16, "vertresolution": 16, "balance": 8,
          "samplerate": 16}
+# Fields that have a sign (ISO/IEC 14496-12, 8.2.2, 8.3.2 and 8.6.6), and their bits.
+SIGNED = {"rate": 32, "volume": 16, "layer": 16, "alternate_group": 16, "media_rate": 16, "media_rate_fraction": 16}
 MATRIX = {"a": 16, "b": 16, "u": 30, "c": 16, "d": 16, "v": 30, "x": 16, "y": 16, "w": 30}
 UNITY = {"a": 1, "b": 0, "u": 0, "c": 0, "d": 1, "v": 0, "x": 0, "y": 0, "w": 1}
 TYPES = {0: "binary", 1: "text", 2: "UTF-16 text", 13: "JPEG", 14: "PNG", 21: "signed integer", 22: "unsigned integer",
@@ -99,6 +101,8 @@ def signed(value, bits):
 
 def shown(name, field, version, within=None):
     """A field as the JSON has it."""
+    if name in SIGNED:
+        field = signed(field, SIGNED[name])
     if name == "matrix":
         return {letter: field[letter] / 2**bits for letter, bits in MATRIX.items()}
     if name in ("horizresolution", "vertresolution") and isinstance(field, list):

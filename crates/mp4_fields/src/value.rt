@@ -1,7 +1,10 @@
 //! The value of a field.
 
+ghost use Rattle.std.specs.Prelude.{◌≡◌};
+ghost use Rattle.std.specs.Int.{w16, w32, cast_signed};
+
 use crate::flag_names::FlagName;
-use mp4_stream::{FourCC, Matrix};
+use mp4_stream::{FixedPointU8, FixedPointU16, FourCC, Matrix};
 
 /// The value of a field, with what it means.
 #[derive(Clone, Copy)]
@@ -34,4 +37,25 @@ pub enum Value<'a> {
     Numbers(&'a [i16]),
     /// A transformation of video.
     Matrix(&'a Matrix),
+}
+
+/// Returns the number of 16 bits that the standard has as `int(16)`, which the codec keeps without a sign.
+pub fn signed(bits: u16) -> Value<'static>
+    ensures { result ≡ Value.Signed (cast_signed w16 bits) }
+{
+    Value::Signed(i64::from(bits.cast_signed()))
+}
+
+/// Returns the `volume` that the standard has as `int(16)`, of which 8 bits are after the point.
+pub fn signed_volume(volume: FixedPointU8) -> Value<'static>
+    ensures { result ≡ Value.Fixed (cast_signed w16 volume) 8 }
+{
+    Value::Fixed(i64::from(volume.raw_value().cast_signed()), 8)
+}
+
+/// Returns the `rate` that the standard has as `int(32)`, of which 16 bits are after the point.
+pub fn signed_rate(rate: FixedPointU16) -> Value<'static>
+    ensures { result ≡ Value.Fixed (cast_signed w32 rate) 16 }
+{
+    Value::Fixed(i64::from(rate.raw_value().cast_signed()), 16)
 }

@@ -6,7 +6,7 @@ ghost use Rattle.mp4_fields.specs.Nesting.{fields, Keeps};
 use crate::brief::put_full;
 use crate::flag_names::NONE;
 use crate::sink::{FieldSink, Result, put_all};
-use crate::value::Value;
+use crate::value::{Value, signed_rate, signed_volume};
 use mp4_stream::{FtypBox, MvhdBox};
 
 /// File type (ISO/IEC 14496-12, 4.3).
@@ -37,8 +37,8 @@ pub fn put_mvhd<S: FieldSink>(b: &MvhdBox, sink: &mut S) -> Result<()>
             ("modification_time", Value::Date(b.modification_time)),
             ("timescale", Value::Number(u64::from(b.timescale))),
             ("duration", Value::Number(b.duration)),
-            ("rate", Value::Fixed(i64::from(b.rate.raw_value()), 16)),
-            ("volume", Value::Fixed(i64::from(b.volume.raw_value()), 8)),
+            ("rate", signed_rate(b.rate)),
+            ("volume", signed_volume(b.volume)),
             ("matrix", Value::Matrix(&b.matrix)),
             ("next_track_id", Value::Number(u64::from(b.next_track_id))),
         ],

@@ -6,7 +6,7 @@ ghost use Rattle.mp4_fields.specs.Nesting.{fields, entries, Keeps};
 use crate::brief::{put_full, put_named_handler};
 use crate::flag_names::{NONE, TRACK};
 use crate::sink::{FieldSink, Result, put_all};
-use crate::value::Value;
+use crate::value::{Value, signed, signed_volume};
 use mp4_stream::{ElstBox, ElstEntry, HdlrBox, MdhdBox, TkhdBox};
 
 /// Track header (ISO/IEC 14496-12, 8.3.2).
@@ -20,12 +20,9 @@ pub fn put_tkhd<S: FieldSink>(b: &TkhdBox, sink: &mut S) -> Result<()>
             ("modification_time", Value::Date(b.modification_time)),
             ("track_id", Value::Number(u64::from(b.track_id))),
             ("duration", Value::Number(b.duration)),
-            ("layer", Value::Number(u64::from(b.layer))),
-            (
-                "alternate_group",
-                Value::Number(u64::from(b.alternate_group)),
-            ),
-            ("volume", Value::Fixed(i64::from(b.volume.raw_value()), 8)),
+            ("layer", signed(b.layer)),
+            ("alternate_group", signed(b.alternate_group)),
+            ("volume", signed_volume(b.volume)),
             ("matrix", Value::Matrix(&b.matrix)),
             ("width", Value::Fixed(i64::from(b.width.raw_value()), 16)),
             ("height", Value::Fixed(i64::from(b.height.raw_value()), 16)),
@@ -81,11 +78,8 @@ fn put_edit<S: FieldSink>(version: u8, edit: &ElstEntry, sink: &mut S) -> Result
                 "media_time",
                 Value::MediaTime(signed_time(version, edit.media_time)),
             ),
-            ("media_rate", Value::Number(u64::from(edit.media_rate))),
-            (
-                "media_rate_fraction",
-                Value::Number(u64::from(edit.media_rate_fraction)),
-            ),
+            ("media_rate", signed(edit.media_rate)),
+            ("media_rate_fraction", signed(edit.media_rate_fraction)),
         ],
         sink,
     )?;
