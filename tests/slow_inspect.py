@@ -359,6 +359,14 @@ def fixed_text(value):
     return text
 
 
+# Characters that are shown by their numbers: controls, separators of lines, and those of Unicode's Bidi_Control.
+ESCAPED = ["\0\x1f", "\x7f\x9f", "\u061c\u061c", "\u200e\u200f", "\u2028\u202e", "\u2066\u2069"]
+
+
+def is_escaped(c):
+    return any(first <= c <= last for first, last in ESCAPED)
+
+
 def text_text(text):
     found = ""
     for c in text:
@@ -366,7 +374,7 @@ def text_text(text):
             found += "\\" + c
         elif c == "\n":
             found += "\\n"
-        elif c < " " or "\x7f" <= c <= "\x9f" or "\u2028" <= c <= "\u202e" or "\u2066" <= c <= "\u2069":
+        elif is_escaped(c):
             found += f"\\u{{{ord(c):x}}}"
         else:
             found += c

@@ -14,15 +14,16 @@ use Rattle.mp4_c_fields.specs.Front.{front_known}
 use Rattle.mp4_frame.specs.Reading.{Reading, Refuses}
 use Rattle.mp4_frame.specs.declared.box_type.BoxType.{BoxType}
 use Rattle.mp4_frame.specs.declared.error.Error.{Error}
+use Rattle.mp4_sinks.specs.Escaped.{json_escaped}
 use Rattle.mp4_sinks.specs.Tokens.{Puts}
 
 -- one object is written, whole
 abbrev pub PutsObject : Written → Written → Type 0
 PutsObject old new = (ms : Members) × Puts old new (json_tokens (object ms))
 
--- the text of one object, whole, in UTF-8
+-- the text of one object, whole, in UTF-8, with characters that are shown by their numbers
 abbrev pub IsFieldsText : List ℕ → Type 0
-IsFieldsText text = (ms : Members) × ((text ≡ print (json_tokens (object ms))) × IsUtf8 text)
+IsFieldsText text = (ms : Members) × ((text ≡ json_escaped (print (json_tokens (object ms)))) × IsUtf8 text)
 
 -- the text of a box is handed over, or memory for it is refused
 abbrev pub HandsFieldsOf : ℕ → List ℕ → List ℕ → ℕ → ℕ → Type 0

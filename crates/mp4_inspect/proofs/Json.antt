@@ -24,6 +24,7 @@ use Rattle.mp4_frame.specs.declared.box_type.BoxType.{BoxType}
 use Rattle.json.specs.Print.{print}
 use Rattle.mp4_inspect.specs.declared.content.Content.{Content}
 use Rattle.mp4_sinks.proofs.Whole.{puts_more, puts_then}
+use Rattle.mp4_sinks.specs.Escaped.{json_escaped}
 use Rattle.mp4_sinks.specs.Tokens.{Puts, PutsAll}
 use Rattle.mp4_tree.specs.Tree.{boxes_of}
 use Rattle.mp4_tree.specs.declared.tree_box.TreeBox.{TreeBox}
@@ -155,7 +156,7 @@ module _ {A : Type 0} (known : BoxType → Bool) (reading : BoxType → List ℕ
   pub is_json : (name text : List ℕ) (boxes : List TreeBox) (faulty : Bool) (a b c d : Written) → a.before ≡ []
       → a.tokens ≡ [] → Puts a b (file_tokens name)
       → ((inner : List Token) × AreBoxes known reading bytes 0 boxes inner faulty × Puts b c inner)
-      → Puts c d (Token.end_array ∷ Token.end_object ∷ []) → text ≡ d.before ++ print d.tokens
+      → Puts c d (Token.end_array ∷ Token.end_object ∷ []) → (d.before ≡ [] → text ≡ json_escaped (print d.tokens))
       → IsJson known reading bytes name boxes text faulty
   is_json name text boxes faulty a b c d before none begun (inner, are, put) ended is =
       let ts = file_tokens name ++ (inner ++ Token.end_array ∷ Token.end_object ∷ []) in
@@ -166,7 +167,7 @@ module _ {A : Type 0} (known : BoxType → Bool) (reading : BoxType → List ℕ
         ts,
         (inner, are, refl),
         whole_json known reading bytes name boxes ts faulty (inner, are, refl),
-        is ∙ ap (λ (xs : List ℕ). xs ++ print d.tokens) front ∙ ap print tokens,
+        is front ∙ ap (λ (xs : List Token). json_escaped (print xs)) tokens,
       )
 
 -- how many are begun grows by one at most

@@ -14,6 +14,7 @@ use Rattle.mp4_inspect.specs.Content.{ShowsAs, is_faulty}
 use Rattle.mp4_inspect.specs.Kind.{kind_of}
 use Rattle.mp4_inspect.specs.declared.content.Content.{Content}
 use Rattle.mp4_inspect.specs.declared.content.Content.TheVariants as contents
+use Rattle.mp4_sinks.specs.Escaped.{json_escaped}
 use Rattle.mp4_sinks.specs.Tokens.{AreWhole, IsWhole, code_text}
 use Rattle.mp4_tree.specs.Tree.{boxes_of}
 use Rattle.mp4_tree.specs.declared.tree_box.TreeBox.{TreeBox}
@@ -101,11 +102,11 @@ Json known reading bytes name boxes ts faulty =
     (inner : List Token) × AreBoxes known reading bytes 0 boxes inner faulty
     × (ts ≡ file_tokens name ++ (inner ++ Token.end_array ∷ Token.end_object ∷ []))
 
--- a text is a print of these tokens, and they are one value, whole
+-- a text is a print of these tokens, where some characters are shown by their numbers, and they are one value, whole
 abbrev pub IsJson : {A : Type 0} → (BoxType → Bool) → (BoxType → List ℕ → ℕ → ℕ → Reading A) → Option (List ℕ)
     → List ℕ → List TreeBox → List ℕ → Bool → Type 0
 IsJson known reading bytes name boxes text faulty =
-    (ts : List Token) × Json known reading bytes name boxes ts faulty × IsWhole ts × (text ≡ print ts)
+    (ts : List Token) × Json known reading bytes name boxes ts faulty × IsWhole ts × (text ≡ json_escaped (print ts))
 
 -- the comma after a file that another follows
 abbrev pub comma : Bool → List ℕ

@@ -1,16 +1,16 @@
 //! Characters that are shown by their numbers, since a terminal may obey them or show them elsewhere.
 
-ghost use Rattle.std.specs.Prelude.{◌≡◌, ◌++◌, ◌<◌, ◌^◌, OnOk, IfOk, list_any, string_bytes};
+ghost use Rattle.std.specs.Prelude.{◌≡◌, ◌++◌, ◌<◌, OnOk, IfOk, string_bytes};
+ghost use Rattle.std.specs.List.{list_any};
 ghost use Rattle.std.specs.Str.{chars};
 ghost use Rattle.std.specs.Char.Escape.{hex_digit_at};
 ghost use Rattle.mp4_sinks.specs.Escaped.{is_escaped, leading_digit, short_digits, four_digits, number_in};
-ghost use Rattle.mp4_sinks.specs.Escaped.{shown_char, escaped};
-ghost use Rattle.mp4_sinks.specs.declared.escape.Form.TheVariants as forms;
+ghost use Rattle.mp4_sinks.specs.Escaped.{shown_char, escaped, text_escaped, json_escaped};
 
 use mp4_fields::Result;
 use std::alloc::Global;
 
-/// How the number of a character is written.
+/// A form of a character's number.
 #[derive(Clone, Copy, Debug, PartialEq, Eq)]
 pub(crate) enum Form {
     /// As `\u{9b}`, and the end of a line as `\n`.
@@ -38,7 +38,8 @@ pub fn is_escaped(c: char) -> bool
 /// Returns the hexadecimal digit of `number` at `place`, a power of 16.
 fn hex_digit(place: u32, number: u32) -> char
     requires { 0 < place }
-    ensures { result ≡ hex_digit_at place number }
+    ensures digit { result ≡ hex_digit_at place number }
+    ensures ascii { result < 128 }
 {
     char::from_digit(number / place % 16, 16).unwrap_or('0')
 }
@@ -56,7 +57,6 @@ fn push_leading_digit(place: u32, number: u32, out: &mut String) -> Result<()>
 
 /// Appends the hexadecimal digits of `number` without zeros at the front.
 fn push_short_digits(number: u32, out: &mut String) -> Result<()>
-    requires { number < 2 ^ 16 }
     ensures text { OnOk result (string_bytes out.new ≡ string_bytes out.old ++ short_digits number) }
 {
     push_leading_digit(0x1000, number, out)?;
@@ -78,8 +78,8 @@ fn push_four_digits(number: u32, out: &mut String) -> Result<()>
 }
 
 /// Appends `number` as `form` has the number of a character.
+#[tactic(auto, unfolding(crate::specs::Escaped::number_in))]
 fn push_number_in(form: Form, number: u32, out: &mut String) -> Result<()>
-    requires { number < 2 ^ 16 }
     ensures text { OnOk result (string_bytes out.new ≡ string_bytes out.old ++ number_in form number) }
 {
     match form {
@@ -98,6 +98,7 @@ fn push_number_in(form: Form, number: u32, out: &mut String) -> Result<()>
 }
 
 /// Appends `c`, by its number if that is how it is shown.
+#[tactic(auto, unfolding(crate::specs::Escaped::shown_char))]
 pub(crate) fn push_shown(form: Form, c: char, out: &mut String) -> Result<()>
     ensures text { OnOk result (string_bytes out.new ≡ string_bytes out.old ++ shown_char form c) }
 {
@@ -132,7 +133,7 @@ fn has_escaped(text: &str) -> bool
 
 /// Returns `text` with the characters of `is_escaped` as JSON has them. Takes memory only if there are some.
 pub(crate) fn into_json(alloc: Global, text: String) -> Result<String>
-    ensures text { IfOk result (λ t. string_bytes t ≡ escaped forms.Json (string_bytes text)) }
+    ensures text { IfOk result (λ t. string_bytes t ≡ json_escaped (string_bytes text)) }
 {
     if !has_escaped(text.as_str()) {
         return Ok(text);
@@ -142,9 +143,9 @@ pub(crate) fn into_json(alloc: Global, text: String) -> Result<String>
     Ok(out)
 }
 
-/// Appends `text` with the characters of `is_escaped` by their numbers, as `\u{9b}`, and the end of a line as `\n`.
+/// Appends `text` with a number such as `\u{9b}` for each character of `is_escaped`, and `\n` for the end of a line.
 pub fn push_escaped(text: &str, out: &mut String) -> Result<()>
-    ensures text { OnOk result (string_bytes out.new ≡ string_bytes out.old ++ escaped forms.Text text.now) }
+    ensures text { OnOk result (string_bytes out.new ≡ string_bytes out.old ++ text_escaped text.now) }
 {
     push_text_in(Form::Text, text, out)
 }

@@ -5,9 +5,8 @@ ghost use Rattle.std.specs.Str.{IsUtf8};
 ghost use Rattle.json.specs.Print.{print};
 ghost use Rattle.json.specs.Token.{string};
 ghost use Rattle.mp4_fields.specs.Nesting.{fields};
-ghost use Rattle.mp4_sinks.specs.Escaped.{escaped};
+ghost use Rattle.mp4_sinks.specs.Escaped.{json_escaped};
 ghost use Rattle.mp4_sinks.specs.Tokens.{Puts, PutsWhole, Adds, Since, code_text};
-ghost use Rattle.mp4_sinks.specs.declared.escape.Form.TheVariants as forms;
 
 use crate::code::push_latin;
 use crate::escape::into_json;
@@ -36,10 +35,10 @@ impl JsonSink {
         }
     }
 
-    /// Returns the text of what is written, with the characters of `is_escaped` by their numbers, as `\u009b`.
+    /// Returns the text of what is written, with a number such as `\u009b` for each character of `is_escaped`.
     pub fn into_text(self) -> Result<Vec<u8>>
         ensures text { self.out.before ≡ []
-            → IfOk result (λ text. text.items ≡ escaped forms.Json (print self.out.tokens)) }
+            → IfOk result (λ text. text.items ≡ json_escaped (print self.out.tokens)) }
         ensures utf8 { self.out.before ≡ [] → IfOk result (λ text. IsUtf8 text.items) }
     {
         let JsonSink { alloc, out } = self;

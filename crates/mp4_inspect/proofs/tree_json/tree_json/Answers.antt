@@ -36,7 +36,7 @@ returns g c =
     let same : c.loop-found.begun - 0 ≡ c.loop-found.begun = omega arith in
     record {
       json =
-          is_json known reading bytes c.args.name.now c.into_text.result.items boxes c.loop-found.faulty
+          is_json known reading bytes c.args.name.now c.in_ok-or_memory-4.field-0.items boxes c.loop-found.faulty
           c.new-sink.result.out c.begin_file.new.sink.out c.end_levels.new.sink.out c.end_file.new.sink.out
           c.new-sink.ensures.before c.new-sink.ensures.tokens
           (rw c.in_ok-or_memory.ensures.ok at c.begin_file.ensures.tokens)
@@ -44,5 +44,6 @@ returns g c =
           c.loop-found.faulty c.begin_file.new.sink.out c.loop-found.sink.out c.end_levels.new.sink.out all same
           c.loop-found.invariant.written
           (rw c.in_ok-or_memory-2.ensures.ok at c.end_levels.ensures.tokens))
-          (rw c.in_ok-or_memory-3.ensures.ok at c.end_file.ensures.tokens) c.into_text.ensures.text;
+          (rw c.in_ok-or_memory-3.ensures.ok at c.end_file.ensures.tokens)
+          (λ before. rw c.in_ok-or_memory-4.ensures.ok at (c.into_text.ensures.text before));
     }
