@@ -555,7 +555,7 @@ uint32_t mp4_find(const uint8_t *bytes, size_t length, const uint8_t *path, size
    subs, tenc, tfra, tref and wvtt. Also MP4_UNKNOWN_BOX, of a box of another type, whether it is whole or not. Names of
    fields are those of the standards. A number may have 64 bits. Codes of four characters are texts, each character of
    the number of its byte; bytes are texts of their hexadecimal digits; what is fixed-point is a number with a
-   fraction. */
+   fraction; texts have U+FFFD for what is not UTF-8. */
 uint32_t mp4_fields(const uint8_t *bytes, size_t length, uint8_t *text, size_t places, size_t *count);
 
 /* A walk over the boxes of a file that isn't in memory: each box, and after it those in it, as far as the codec knows

@@ -93,6 +93,8 @@ int main(void) {
     try_box("{\"data_format\":\"\xC3\xA9\\\"c\\u0001\"}", BYTES("\0\0\0\x0C"
                                                                 "frma\xE9\"c\1"));
     try_box("{\"version\":0,\"flags\":0}", BYTES("\0\0\0\x0Cnmhd\0\0\0\0"));
+    try_box("{\"version\":0,\"flags\":0,\"location\":\"a\\u007f\\u009b\\u202e\xEF\xBF\xBD\"}",
+            BYTES("\0\0\0\x15url \0\0\0\0a\x7F\xC2\x9B\xE2\x80\xAE\xFF\0"));
     try_unknown();
     try_faults();
     printf("c_fields: %ld calls of 1 function, %ld checks\n", calls, checks);

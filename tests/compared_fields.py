@@ -21,7 +21,7 @@ import mp4_box_codec as codec  # noqa: E402
 from inputs import Maker  # noqa: E402
 from rows_of import rows  # noqa: E402
 from slow_fields import Fault, Header, check  # noqa: E402
-from slow_inspect import fields_of, handler_name  # noqa: E402
+from slow_inspect import fields_of, own_texts  # noqa: E402
 from slow_more import MORE, more_fields  # noqa: E402
 from slow_reader import READERS, read_row  # noqa: E402
 
@@ -46,9 +46,7 @@ def read(own):
     if header.name in MORE:
         return more_fields(header.name, own[header.start + 8:])
     box = read_row(own, header)
-    if header.name == "hdlr":
-        box["name"] = handler_name(own[header.start + 32:])
-    return fields_of(header.name, box)
+    return fields_of(header.name, own_texts(header.name, box, own[header.start + 8:]))
 
 
 def expected(buffer):

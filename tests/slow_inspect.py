@@ -42,16 +42,17 @@ def latin(name):
     return None if name is None else name.decode("latin-1")
 
 
+def lossy(text):
+    """A text, with U+FFFD for each sequence of bytes that is not UTF-8."""
+    return text.decode("utf-8", "replace")
+
+
 def full(data, at):
     return {"version": data[at], "flags": number(data, at + 1, 3)}
 
 
 def visual(data, at):
-    size = min(data[at + 42], 31)
-    try:
-        name = data[at + 43:at + 43 + size].decode("utf-8")
-    except UnicodeDecodeError:
-        name = ""
+    name = lossy(data[at + 43:at + 43 + min(data[at + 42], 31)])
     return {"data_reference_index": number(data, at + 6, 2), "width": number(data, at + 24, 2),
             "height": number(data, at + 26, 2), "horizresolution": number(data, at + 28, 4) / 65536,
             "vertresolution": number(data, at + 32, 4) / 65536, "frame_count": number(data, at + 40, 2),
@@ -89,10 +90,16 @@ def handler_name(data):
     rest = data[1:]
     if data[0] in (len(rest), len(rest.removesuffix(b"\0"))):
         data = rest if rest.endswith(b"\0") else rest + b"\0"
-    try:
-        return data[:-1].decode("utf-8")
-    except UnicodeDecodeError:
-        return "null"
+    return lossy(data[:-1])
+
+
+def own_texts(name, box, content):
+    """The fields of a box, with the text of its content where the codec keeps it only if it is UTF-8."""
+    if name == "hdlr":
+        box["name"] = handler_name(content[24:])
+    if name == "url ":
+        box["location"] = lossy(content[4:-1])
+    return box
 
 
 def signed(value, bits):
@@ -198,9 +205,7 @@ class Walk:
             words = {"End": "unexpected end of input"}
             kind, *rest = fault.args
             return {"fault": words.get(kind) or rest[0] + (" not found" if kind == "NotFound" else "")}
-        if name == b"hdlr":
-            box["name"] = handler_name(data[content + 24:end])
-        return {"fields": fields_of(latin(name), box)}
+        return {"fields": fields_of(latin(name), own_texts(latin(name), box, data[content:end]))}
 
     def fields_before(self, name, content, end, parent):
         """How many bytes are before the first box in a box, if it holds boxes and has room for them."""

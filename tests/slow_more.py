@@ -105,11 +105,8 @@ class Content:
         self.put(name, self.as_bytes(self.rest()))
 
     def as_string(self, piece, end=b""):
-        """Bytes that are a string before this end, or not."""
-        try:
-            return list(piece) if self.raw else piece.removesuffix(end).decode("utf-8")
-        except UnicodeDecodeError:
-            return self.as_bytes(piece)
+        """Bytes that are a string before this end, with U+FFFD for what is not UTF-8."""
+        return list(piece) if self.raw else piece.removesuffix(end).decode("utf-8", "replace")
 
     def string(self, name):
         self.put(name, self.as_string(self.rest(), b"\0"))
@@ -223,9 +220,10 @@ def data(c):
     value = c.rest()
     if c.fields["data_type"] == 21 and len(value) in (1, 2, 4):
         c.put("number", int.from_bytes(value, "big", signed=True))
-        return
-    found = c.as_string(value) if c.fields["data_type"] == 1 else c.as_bytes(value)
-    c.put("data_bytes" if isinstance(found, Hex) else "text", found)
+    elif c.fields["data_type"] == 1:
+        c.put("text", c.as_string(value))
+    else:
+        c.put("data_bytes", c.as_bytes(value))
 
 
 def substream(s):

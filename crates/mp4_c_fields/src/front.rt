@@ -3,7 +3,6 @@
 ghost use Rattle.mp4_frame.specs.Reading.{Answers};
 ghost use Rattle.mp4_c_fields.specs.Front.{front_known};
 
-use mp4_frame::codes::HDLR;
 use mp4_frame::{ByteCursor, Frame, Result, StreamBox};
 use std::alloc::Global;
 
@@ -23,12 +22,10 @@ pub fn front_known<B: StreamBox>(alloc: Global, bytes: &[u8]) -> Result<Option<B
     Ok(Some(B::read_named(alloc, name, &mut reader, frame.size)?))
 }
 
-/// The content of the box at the front of a buffer, if it is a handler.
-pub fn handler_content(bytes: &[u8]) -> Option<&[u8]> {
+/// Returns the code of the box at the front of a buffer, and its content.
+pub fn content_of(bytes: &[u8]) -> Option<(u32, &[u8])> {
     let found = Frame::at(bytes, 0).ok()?;
-    if found.code != HDLR {
-        return None;
-    }
     let frame = found.within(bytes.len() as u64).ok()?;
-    bytes.get(frame.content() as usize..frame.end() as usize)
+    let content = bytes.get(frame.content() as usize..frame.end() as usize)?;
+    Some((found.code, content))
 }

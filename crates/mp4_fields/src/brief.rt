@@ -1,10 +1,10 @@
 //! Fields that are read from bytes: those that begin a box that holds boxes, those of sample entries of any code, and
 //! those of a handler with its name as it stands there.
 
-ghost use Rattle.std.specs.Prelude.{◌+◌, ◌≤◌, length, OnOk};
+ghost use Rattle.std.specs.Prelude.{◌≡◌, ◌+◌, ◌-◌, ◌≤◌, length, min, max, slice_index, slice_range, OnOk};
 ghost use Rattle.mp4_fields.specs.Nesting.{fields, Keeps};
 
-use crate::flag_names::{FlagName, NONE};
+use crate::flag_names::{FlagName, NONE, REFERENCE};
 use crate::sink::{FieldSink, Result, put_all};
 use crate::value::Value;
 use mp4_frame::{i16_at, u8_at, u16_at, u32_at, u64_at};
@@ -45,12 +45,13 @@ pub fn put_list_head<S: FieldSink>(bytes: &[u8], sink: &mut S) -> Result<()>
     sink.field("entry_count", Value::Number(u64::from(u32_at(bytes, 4))))
 }
 
-/// The text of a compressor's name: a byte that says how long it is, and at most 31 bytes.
-fn compressor(bytes: &[u8]) -> &str
+/// Returns the text of a compressor's name: a byte that says how long it is, and at most 31 bytes.
+fn compressor(bytes: &[u8]) -> &[u8]
     requires { 32 ≤ length bytes.now }
+    ensures { result.now ≡ slice_range bytes.now 1 (1 + min (slice_index bytes.now 0) 31) }
 {
     let count = (bytes[0] as usize).min(31);
-    std::str::from_utf8(&bytes[1..1 + count]).unwrap_or("")
+    &bytes[1..1 + count]
 }
 
 /// Hands the common fields of a sample entry of video to a sink (ISO/IEC 14496-12, 12.1.3). They are the first 78 bytes
@@ -222,10 +223,8 @@ pub fn put_data<S: FieldSink>(data_type: u32, bytes: &[u8], sink: &mut S) -> Res
         "data_type",
         Value::Named(u64::from(data_type), type_name(data_type)),
     )?;
-    if data_type == 1
-        && let Ok(text) = std::str::from_utf8(bytes)
-    {
-        return sink.field("text", Value::Text(text));
+    if data_type == 1 {
+        return sink.field("text", Value::Text(bytes));
     }
     if data_type == 21
         && let Some(number) = integer(bytes)
@@ -266,12 +265,12 @@ fn handler_name(bytes: &[u8]) -> &[u8] {
 }
 
 /// Hands the fields of a handler to a sink (ISO/IEC 14496-12, 8.4.3; QuickTime File Format, "Handler reference atoms"),
-/// of which these bytes are the content. A name that isn't UTF-8 is `null`, as where the codec reads it.
+/// of which these bytes are the content.
 pub fn put_handler<S: FieldSink>(bytes: &[u8], sink: &mut S) -> Result<()>
     requires { 25 ≤ length bytes.now }
     ensures nesting { OnOk result (Keeps S.since fields sink.old sink.new) }
 {
-    let name = std::str::from_utf8(handler_name(&bytes[24..])).unwrap_or("null");
+    let name = handler_name(&bytes[24..]);
     let handler_type = FourCC::from(u32_at(bytes, 8));
     put_named_handler(
         bytes[0],
@@ -287,7 +286,7 @@ pub fn put_named_handler<S: FieldSink>(
     version: u8,
     flags: u32,
     handler_type: FourCC,
-    name: &str,
+    name: &[u8],
     sink: &mut S,
 ) -> Result<()>
     ensures nesting { OnOk result (Keeps S.since fields sink.old sink.new) }
@@ -295,4 +294,40 @@ pub fn put_named_handler<S: FieldSink>(
     put_full(version, flags, NONE, sink)?;
     sink.field("handler_type", Value::Code(handler_type))?;
     sink.field("name", Value::Text(name))
+}
+
+/// Returns the location in the content of a `url `: the bytes after version and flags, up to the last byte, which ends
+/// it.
+fn location(bytes: &[u8]) -> &[u8]
+    requires { 4 ≤ length bytes.now }
+    ensures { result.now ≡ slice_range bytes.now 4 (max 4 (length bytes.now - 1)) }
+{
+    &bytes[4..(bytes.len() - 1).max(4)]
+}
+
+/// Hands the fields of a reference by a location to a sink (ISO/IEC 14496-12, 8.7.2), of which these bytes are the
+/// content.
+pub fn put_reference<S: FieldSink>(bytes: &[u8], sink: &mut S) -> Result<()>
+    requires { 4 ≤ length bytes.now }
+    ensures nesting { OnOk result (Keeps S.since fields sink.old sink.new) }
+{
+    put_location(
+        bytes[0],
+        u32_at(bytes, 0) & 0xFF_FFFF,
+        location(bytes),
+        sink,
+    )
+}
+
+/// Hands the fields of a reference by this location to a sink.
+pub fn put_location<S: FieldSink>(
+    version: u8,
+    flags: u32,
+    location: &[u8],
+    sink: &mut S,
+) -> Result<()>
+    ensures nesting { OnOk result (Keeps S.since fields sink.old sink.new) }
+{
+    put_full(version, flags, REFERENCE, sink)?;
+    sink.field("location", Value::Text(location))
 }

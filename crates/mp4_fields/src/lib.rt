@@ -10,7 +10,7 @@ mod value;
 
 pub use brief::{
     SOUND_LENGTH, VISUAL_LENGTH, put_data, put_entry, put_full, put_handler,
-    put_list_head, put_sound, put_visual,
+    put_list_head, put_reference, put_sound, put_visual,
 };
 pub use fields::put_fields;
 pub use flag_names::FlagName;

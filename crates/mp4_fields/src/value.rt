@@ -29,8 +29,8 @@ pub enum Value<'a> {
     Code(FourCC),
     /// Codes of four characters.
     Codes(&'a [FourCC]),
-    /// A text.
-    Text(&'a str),
+    /// A text in UTF-8. A sink shows U+FFFD for what is not UTF-8 in it.
+    Text(&'a [u8]),
     /// Bytes that are no text.
     Bytes(&'a [u8]),
     /// Small numbers one after the other.

@@ -71,6 +71,8 @@ ShowsAs known reading bytes found kinds.Handler content =
     MatchBool (nat_le 25 (found.length - found.header_length))
     (ShowsFront kinds.Handler 25 0xFFFFFFFFFFFFFFFF bytes found content)
     (ShowsKnown known reading names.HdlrBox bytes found content)
+ShowsAs known reading bytes found kinds.Reference content =
+    ShowsFront kinds.Reference 4 0xFFFFFFFFFFFFFFFF bytes found content
 ShowsAs known reading bytes found kinds.Full content = ShowsFront kinds.Full 4 4 bytes found content
 ShowsAs known reading bytes found kinds.List content = ShowsFront kinds.List 8 8 bytes found content
 ShowsAs known reading bytes found kinds.Entry content = ShowsFront kinds.Entry 8 8 bytes found content

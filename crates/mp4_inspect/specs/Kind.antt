@@ -22,11 +22,12 @@ entry_kind code s =
     if s.handler == constants.VIDE then kinds.Visual else if s.handler == constants.SOUN then kinds.Sound else
     if code == codes.TX3G then kinds.Known names.Tx3gBox else kinds.Entry
 
--- a box that is not gone into is read whole, if its name is known, but a handler by its bytes; an `mp4a` in a `wave` is
--- no sample entry
+-- a box that is not gone into is read whole, if its name is known, but a handler and a reference to media data by their
+-- bytes; an `mp4a` in a `wave` is no sample entry
 abbrev pub leaf_kind : (BoxType → Bool) → ℕ → Setting → Kind
 leaf_kind known code s =
     if code == codes.HDLR then kinds.Handler else
+    if code == codes.URL then kinds.Reference else
     if code == constants.UUID then kinds.Uuid else
     if (code == codes.MP4A) && (s.parent == constants.WAVE) then kinds.Unread else
     if known (name_of code) then kinds.Known (name_of code) else

@@ -12,8 +12,8 @@ use crate::failure::or_read;
 use crate::kind::{Kind, kind_of};
 use crate::shown::Shown;
 use mp4_fields::{
-    FieldSink, Result, Value, put_entry, put_full, put_handler, put_list_head, put_sound,
-    put_visual,
+    FieldSink, Result, Value, put_entry, put_full, put_handler, put_list_head, put_reference,
+    put_sound, put_visual,
 };
 use mp4_io::Failure;
 use mp4_more_fields::HasFields;
@@ -208,6 +208,7 @@ pub fn content_of<B: Shown, S: Source>(
         Kind::Small => Ok(Content::Faulty(Error::InvalidData("box size too small"))),
         Kind::Known(name) => known(alloc, tree, found, name),
         Kind::Handler => handler(alloc, tree, found),
+        Kind::Reference => front(alloc, tree, found, Kind::Reference, 4, u64::MAX),
         Kind::Full => front(alloc, tree, found, Kind::Full, 4, 4),
         Kind::List => front(alloc, tree, found, Kind::List, 8, 8),
         Kind::Entry => front(alloc, tree, found, Kind::Entry, 8, 8),
@@ -225,7 +226,7 @@ fn put_uuid<K: FieldSink>(bytes: [u8; 16], sink: &mut K) -> Result<()>
     let id = Uuid::from_bytes(bytes);
     let mut buffer = Uuid::encode_buffer();
     let text = id.hyphenated().encode_lower(&mut buffer);
-    sink.field("usertype", Value::Text(text))
+    sink.field("usertype", Value::Text(text.as_bytes()))
 }
 
 /// Hands version and flags to a sink, which are the first 4 bytes.
@@ -249,6 +250,7 @@ fn put_front<K: FieldSink>(kind: Kind, bytes: &[u8], is_quicktime: bool, sink: &
         Kind::Sound if bytes.len() >= 28 => put_sound(bytes, is_quicktime, sink),
         Kind::Handler if bytes.len() >= 25 => put_handler(bytes, sink),
         Kind::Terminator => sink.field("terminator", Value::Number(0)),
+        Kind::Reference if bytes.len() >= 4 => put_reference(bytes, sink),
         Kind::Uuid => match <[u8; 16]>::try_from(bytes) {
             Ok(id) => put_uuid(id, sink),
             Err(_) => Ok(()),

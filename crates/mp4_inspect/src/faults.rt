@@ -1,6 +1,6 @@
 //! The faults of a file, one a line.
 
-ghost use Rattle.std.specs.Prelude.{◌≡◌, true, ◌++◌, string_bytes, IfOk, OnOk, IfSome};
+ghost use Rattle.std.specs.Prelude.{◌≡◌, true, ◌++◌, ◌%◌, ◌==◌, slice_index, string_bytes, IfOk, OnOk, IfSome};
 ghost use Rattle.std.specs.Io.KnownBytes.{Appends};
 ghost use Rattle.mp4_inspect.specs.Content.{ShowsAs};
 ghost use Rattle.mp4_inspect.specs.Faults.{line_text, told_text, movie_text, IsLine, IsTold, WritesMore};
@@ -14,6 +14,7 @@ use crate::chunks::MediaData;
 use crate::content::{Content, content_of};
 use crate::failure::or_memory;
 use crate::fault_text::fault_text;
+use crate::kind::Kind;
 use crate::movie::{Movie, movie_of};
 use crate::shown::Shown;
 use crate::track::{is_box, track_of};
@@ -200,11 +201,11 @@ fn fault_of_fragment(found: &TreeBox, number: u32, search: &Search) -> Option<Tr
     )
 }
 
-/// Keeps that the media data of the track may be in another file, as a `url ` with these flags says.
-fn keep_elsewhere(flags: u32, search: &mut Search) -> Result<()>
+/// Keeps that the media data of the track may be in another file, if a reference says so.
+fn keep_elsewhere(is_elsewhere: bool, search: &mut Search) -> Result<()>
     ensures front { search.new.front ≡ search.old.front }
 {
-    if flags & 1 == 0 {
+    if is_elsewhere {
         search.elsewhere = true;
         if let Some(track) = search.track {
             search.elsewhere_tracks.insert(track, ())?;
@@ -221,10 +222,6 @@ fn tell_known(alloc: Global, found: &TreeBox, any: &AnyBox, search: &mut Search)
     ensures front { search.new.front ≡ search.old.front }
 {
     match any {
-        AnyBox::UrlBox(url) => {
-            keep_elsewhere(url.flags, search)?;
-            Ok(false)
-        }
         AnyBox::TkhdBox(header) => {
             let fault = fault_of_header(found, header.track_id, search);
             tell_track(alloc, found, header.track_id, fault, search)
@@ -255,6 +252,17 @@ fn tell_value<B: Shown>(
     }
 }
 
+/// Returns whether a reference to media data says that they are in another file: the lowest of its flags is 0 (ISO/IEC
+/// 14496-12, 8.7.2.1). These bytes are its content, which begins with version and flags.
+fn is_elsewhere(bytes: &[u8]) -> bool
+    ensures { result ≡ (slice_index bytes.now 3 % 2 == 0) }
+{
+    match bytes.get(3) {
+        Some(flags) => flags % 2 == 0,
+        None => true,
+    }
+}
+
 /// Makes the line of what is read of a box, if it tells of that. Returns whether there is one.
 fn tell_content<B: Shown>(
     alloc: Global,
@@ -270,6 +278,10 @@ fn tell_content<B: Shown>(
     match content {
         Content::Faulty(fault) => tell_error(alloc, found, fault, search),
         Content::Known(value) => tell_value(alloc, found, value, search),
+        Content::Front(Kind::Reference, bytes) => {
+            keep_elsewhere(is_elsewhere(bytes), search)?;
+            Ok(false)
+        }
         Content::Boxes | Content::Deep | Content::Unread | Content::Front(..) => Ok(false),
     }
 }

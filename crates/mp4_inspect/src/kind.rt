@@ -4,7 +4,7 @@ ghost use Rattle.std.specs.Prelude.{◌≡◌};
 ghost use Rattle.mp4_inspect.specs.Kind.{entry_kind, leaf_kind, parent_kind, bytes_before, end_kind, kind_of};
 
 use crate::shown::Shown;
-use mp4_frame::codes::{DREF, HDLR, META, MP4A, STSD, TX3G};
+use mp4_frame::codes::{DREF, HDLR, META, MP4A, STSD, TX3G, URL};
 use mp4_inspect_rules::may_end;
 use mp4_stream::BoxType;
 use mp4_tree::{Setting, TreeBox, What};
@@ -38,6 +38,8 @@ pub enum Kind {
     Known(BoxType),
     /// A handler, whose name may be counted as in QuickTime.
     Handler,
+    /// A reference to media data, whose location may not be UTF-8.
+    Reference,
     /// Version and flags.
     Full,
     /// Version, flags and a count of boxes.
@@ -76,6 +78,8 @@ fn leaf_kind<B: Shown>(code: u32, setting: Setting) -> Kind
     let name = BoxType::from(code);
     if code == HDLR {
         Kind::Handler
+    } else if code == URL {
+        Kind::Reference
     } else if code == UUID {
         Kind::Uuid
     } else if code == MP4A && setting.parent == WAVE {

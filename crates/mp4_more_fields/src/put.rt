@@ -20,7 +20,7 @@ pub fn put_if_some<S: FieldSink>(name: &str, number: Option<u32>, sink: &mut S) 
     }
 }
 
-/// Hands a string that a byte of 0 may end to a sink: as text if it is UTF-8, and else as bytes.
+/// Hands a string that a byte of 0 may end to a sink.
 pub fn put_string<S: FieldSink>(name: &str, bytes: &[u8], sink: &mut S) -> Result<()>
     ensures nesting { OnOk result (Keeps S.since fields sink.old sink.new) }
 {
@@ -28,10 +28,7 @@ pub fn put_string<S: FieldSink>(name: &str, bytes: &[u8], sink: &mut S) -> Resul
         Some((0, text)) => text,
         _ => bytes,
     };
-    match std::str::from_utf8(text) {
-        Ok(text) => sink.field(name, Value::Text(text)),
-        Err(_) => sink.field(name, Value::Bytes(bytes)),
-    }
+    sink.field(name, Value::Text(text))
 }
 
 /// Hands bytes that follow the other fields to a sink, unless there are none.

@@ -2,6 +2,7 @@
 
 ghost use Rattle.std.specs.Prelude.{◌≡◌, [], ◌∷◌, OnOk, IfOk};
 ghost use Rattle.std.specs.Str.{IsUtf8};
+ghost use Rattle.std.specs.Str.Lossy.{utf8_lossy};
 ghost use Rattle.json.specs.Print.{print};
 ghost use Rattle.json.specs.Token.{string};
 ghost use Rattle.mp4_fields.specs.Nesting.{fields};
@@ -94,11 +95,13 @@ impl JsonSink {
         Ok(())
     }
 
-    /// Writes a text.
-    fn text(&mut self, text: &str) -> Result<()>
+    /// Writes `text`, with U+FFFD for what is not UTF-8 in it.
+    fn text(&mut self, text: &[u8]) -> Result<()>
+        ensures tokens { OnOk result (Puts self.old.out self.new.out (string (utf8_lossy text.now) ∷ [])) }
         ensures whole { OnOk result (PutsWhole self.old.out self.new.out) }
     {
-        self.out.string(text)?;
+        let text = String::from_utf8_lossy(self.alloc, text)?;
+        self.out.string(text.as_str())?;
         Ok(())
     }
 

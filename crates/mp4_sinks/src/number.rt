@@ -124,11 +124,22 @@ fn push_quoted(c: char, out: &mut String) -> Result<()> {
     Ok(())
 }
 
-/// Appends a text between quotes.
-pub fn push_text(text: &str, out: &mut String) -> Result<()> {
-    out.push('"')?;
+/// Appends `text` as the characters of a text between quotes.
+fn push_all_quoted(text: &str, out: &mut String) -> Result<()> {
     for c in text.chars() {
         push_quoted(c, out)?;
+    }
+    Ok(())
+}
+
+/// Appends a text between quotes, with U+FFFD for what is not UTF-8 in it.
+pub fn push_text(text: &[u8], out: &mut String) -> Result<()> {
+    out.push('"')?;
+    for chunk in text.utf8_chunks() {
+        push_all_quoted(chunk.valid(), out)?;
+        if !chunk.invalid().is_empty() {
+            out.push('\u{FFFD}')?;
+        }
     }
     out.push('"')?;
     Ok(())

@@ -3,8 +3,8 @@
 ghost use Rattle.std.specs.Prelude.{OnOk};
 ghost use Rattle.mp4_fields.specs.Nesting.{fields, Keeps};
 
-use crate::brief::put_full;
-use crate::flag_names::{NONE, REFERENCE};
+use crate::brief::{put_full, put_location};
+use crate::flag_names::NONE;
 use crate::sink::{FieldSink, Result, put_all};
 use crate::value::Value;
 use mp4_stream::{DinfBox, DrefBox, SmhdBox, UrlBox, VmhdBox};
@@ -39,8 +39,7 @@ pub fn put_smhd<S: FieldSink>(b: &SmhdBox, sink: &mut S) -> Result<()>
 pub fn put_url<S: FieldSink>(b: &UrlBox, sink: &mut S) -> Result<()>
     ensures nesting { OnOk result (Keeps S.since fields sink.old sink.new) }
 {
-    put_full(b.version, b.flags, REFERENCE, sink)?;
-    sink.field("location", Value::Text(b.location.as_str()))
+    put_location(b.version, b.flags, b.location.as_bytes(), sink)
 }
 
 /// The references to media data (ISO/IEC 14496-12, 8.7.2).

@@ -33,8 +33,8 @@ pub fn put_emsg<S: FieldSink>(b: &EmsgBox, sink: &mut S) -> Result<()>
     put_full(b.version, b.flags, NONE, sink)?;
     put_all(
         &[
-            ("scheme_id_uri", Value::Text(b.scheme_id_uri.as_str())),
-            ("value", Value::Text(b.value.as_str())),
+            ("scheme_id_uri", Value::Text(b.scheme_id_uri.as_bytes())),
+            ("value", Value::Text(b.value.as_bytes())),
             ("timescale", Value::Number(u64::from(b.timescale))),
         ],
         sink,

@@ -42,7 +42,7 @@ pub fn put_mdhd<S: FieldSink>(b: &MdhdBox, sink: &mut S) -> Result<()>
             ("modification_time", Value::Date(b.modification_time)),
             ("timescale", Value::Number(u64::from(b.timescale))),
             ("duration", Value::Number(b.duration)),
-            ("language", Value::Text(b.language.as_str())),
+            ("language", Value::Text(b.language.as_bytes())),
         ],
         sink,
     )
@@ -52,7 +52,7 @@ pub fn put_mdhd<S: FieldSink>(b: &MdhdBox, sink: &mut S) -> Result<()>
 pub fn put_hdlr<S: FieldSink>(b: &HdlrBox, sink: &mut S) -> Result<()>
     ensures nesting { OnOk result (Keeps S.since fields sink.old sink.new) }
 {
-    put_named_handler(b.version, b.flags, b.handler_type, b.name.as_str(), sink)
+    put_named_handler(b.version, b.flags, b.handler_type, b.name.as_bytes(), sink)
 }
 
 /// A media time with its sign: it has 32 bits in version 0, and 64 in version 1.
