@@ -51,8 +51,9 @@ def tkhd(track, width=0, height=0, version=0, matrix=None):
 
 
 def mdhd(scale, language):
-    letters = 0
-    for letter in language:
+    """The language is three letters, or a number."""
+    letters = language if isinstance(language, int) else 0
+    for letter in [] if isinstance(language, int) else language:
         letters = letters << 5 | letter - 0x60
     return full(b"mdhd", 0, 0, be(4, 3797824089, 0, scale, 5 * scale) + be(2, letters, 0))
 
@@ -421,9 +422,39 @@ def signs():
     return ftyp(b"isom", b"isom") + box(b"moov", late + later + last + tracks) + balances + offsets
 
 
+def texts():
+    """Texts that are not UTF-8, characters that are shown by their numbers and those beside them, codes with bytes that
+    are no characters, languages by letters and by numbers, and the countries and languages of metadata."""
+    names = [b"\x1aApple Video Media Handler\xaa", b"Apple Sound Media Handler\xaa\0", b"\xf0\x9f\x98\0",
+             b"\xed\xa0\x80\xe2\x82\xac\xc0\xaf\0", b"\xff"]
+    handlers = b"".join(full(b"hdlr", 0, 0, b"mhlrvide" + bytes(12) + name) for name in names)
+    entries = [visual(b"avc1", 64, 48, b"S\x9arenson", b""), visual(b"hvc1", 64, 48, b"\xe9" * 31, b""),
+               visual(b"mp4v", 64, 48, b"caf\xc3\xa9", b"")]
+    places = [b"", b"\0", b"caf\x8e.mov\0", b"file:///a\x1b[31m\xff\0", b"no end"]
+    places = box(b"dinf", full(b"dref", 0, 0, be(4, len(places)) + b"".join(
+        full(b"url ", 0, 0, place) for place in places) + full(b"url ", 0, 0)[:4] + b"url \0\0\0"))
+    shown = ("\0\x1f !~\x7f\x80\x9f\xa0\xad", "\u061b\u061c\u061d\u200d\u200e\u200f\u2010",
+             "\u2027\u2028\u202e\u202f", "\u2065\u2066\u2069\u206a\ufeff\U0001f600", "\"\\\n\t", "\x1b[31mred")
+    values = [(1, 0, 0, text.encode()) for text in shown] + [(1, 0, 0, b"T\x9ane\xff\xfe"), (1, 0, 0, b"\xe2\x80")]
+    values += [(1, 0x5553, 0x15C7, b"a"), (21, 3, 255, b"\7"), (13, 0x4100, 0x7FFF, b"b"), (0, 0x7A7A, 0x421, b"c"),
+               (1, 0x5A41, 0x1C20, b"d"), (1, 0xFFFF, 0x95C7, b"e"), (1, 0, 0x6B5A, b"f"), (1, 0x4742, 0, b"g")]
+    items = b"".join(box(b"\xa9nam", box(b"data", be(4, kind) + be(2, country, spoken) + text))
+                     for kind, country, spoken, text in values)
+    codes = [b"ab\x9fc", b"ab\xa0c", b"\xff\x7e\x20a", b"\x7fabc", b"a\x1fbc", b"\xad\xa9\x80b"]
+    codes = b"".join(map(box, codes))
+    meta = full(b"meta", 0, 0, handler(b"mdir", b"") + box(b"ilst", items) + codes)
+    spoken = b"".join(mdhd(1000, code) for code in (0, 1, 0x3FF, 0x400, 0x7FFE, 0x7FFF, 0x8000, 0xFFFF, b"eng", b"zzz"))
+    tags = full(b"elng", 0, 0, b"d\xe9\0") + full(b"kind", 0, 0, b"urn:\x8e\0\xff\0")
+    event = full(b"emsg", 0, 0, b"urn:\xe2\x80\xae\0\xc2\x9b\0" + be(4, 1, 2, 3, 4))
+    media = box(b"mdia", full(b"hdlr", 0, 0, b"mhlrvide" + bytes(12) + names[0])
+                + box(b"minf", places + box(b"stbl", stsd(*entries))))
+    moov = box(b"moov", box(b"trak", tkhd(1) + media) + box(b"udta", meta + handlers + spoken + tags))
+    return ftyp(b"qt  ", b"qt  ") + moov + event
+
+
 def made():
     """The files, by name."""
     return {"counted": counted(), "sounds": sounds(), "groups": groups(), "pictures": pictures(),
             "indexed": indexed(), "tables": tables(), "segments": segments(), "hevc": hevc(), "newer": newer(),
             "quicktime": quicktime(), "titles": titles(), "fragments": fragments(), "subtitles": subtitles(),
-            "signs": signs()}
+            "signs": signs(), "texts": texts()}

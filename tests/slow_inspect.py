@@ -102,6 +102,15 @@ def own_texts(name, box, content):
     return box
 
 
+def language(letters):
+    """The language whose code has these letters, or the code: below 0x400 the number that a language has on the
+    Macintosh, and 0x7fff for none (QuickTime)."""
+    number_ = sum((ord(letter) & 0x1F) << shift for letter, shift in zip(letters, (10, 5, 0)))
+    if number_ < 0x400:
+        return Named(number_, "Macintosh")
+    return Named(number_, "unspecified") if number_ == 0x7FFF else letters
+
+
 def signed(value, bits):
     return value - 2**bits if value >= 2**(bits - 1) else value
 
@@ -110,6 +119,8 @@ def shown(name, field, version, within=None):
     """A field as the JSON has it."""
     if name in SIGNED:
         field = signed(field, SIGNED[name])
+    if name == "language":
+        return language(field)
     if name == "matrix":
         return {letter: field[letter] / 2**bits for letter, bits in MATRIX.items()}
     if name in ("horizresolution", "vertresolution") and isinstance(field, list):

@@ -117,6 +117,11 @@ class Content:
         check(length <= self.room(), "string has no end in the box")
         self.put(name, self.as_string(self.take(length)[:-1]))
 
+    def locale(self, name, number, letters):
+        """A part of a locale: its letters if they are such, or else the number of a list; 0 stands for all."""
+        if number:
+            self.put(name, letters if letters.isascii() and letters.isalpha() else number)
+
     def numbers_left(self):
         """Numbers of 4 bytes up to the end, which they fill."""
         check(self.room() % 4 == 0, "entries do not fill the box")
@@ -216,7 +221,9 @@ def data(c):
         c.bytes("value")
         return
     c.numbers("4 data_type")
-    c.take(4)
+    country, spoken = c.number(2), c.number(2)
+    c.locale("country", country, chr(country >> 8) + chr(country & 0xFF))
+    c.locale("language", spoken, "".join(chr(0x60 + it) for it in (spoken >> 10, spoken >> 5 & 31, spoken & 31)))
     value = c.rest()
     if c.fields["data_type"] == 21 and len(value) in (1, 2, 4):
         c.put("number", int.from_bytes(value, "big", signed=True))

@@ -215,14 +215,20 @@ fn integer(bytes: &[u8]) -> Option<i64> {
     }
 }
 
-/// Hands a metadata value of any type to a sink: the number of its type, and its text, its number or its bytes.
-pub fn put_data<S: FieldSink>(data_type: u32, bytes: &[u8], sink: &mut S) -> Result<()>
+/// Hands the number of the type of a metadata value to a sink.
+pub fn put_data_type<S: FieldSink>(data_type: u32, sink: &mut S) -> Result<()>
     ensures nesting { OnOk result (Keeps S.since fields sink.old sink.new) }
 {
     sink.field(
         "data_type",
         Value::Named(u64::from(data_type), type_name(data_type)),
-    )?;
+    )
+}
+
+/// Hands a metadata value of any type to a sink: its text, its number or its bytes.
+pub fn put_data<S: FieldSink>(data_type: u32, bytes: &[u8], sink: &mut S) -> Result<()>
+    ensures nesting { OnOk result (Keeps S.since fields sink.old sink.new) }
+{
     if data_type == 1 {
         return sink.field("text", Value::Text(bytes));
     }

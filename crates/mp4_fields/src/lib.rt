@@ -5,11 +5,12 @@
 mod brief;
 mod fields;
 mod flag_names;
+mod language;
 mod sink;
 mod value;
 
 pub use brief::{
-    SOUND_LENGTH, VISUAL_LENGTH, put_data, put_entry, put_full, put_handler,
+    SOUND_LENGTH, VISUAL_LENGTH, put_data, put_data_type, put_entry, put_full, put_handler,
     put_list_head, put_reference, put_sound, put_visual,
 };
 pub use fields::put_fields;

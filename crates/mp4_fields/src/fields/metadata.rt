@@ -3,7 +3,7 @@
 ghost use Rattle.std.specs.Prelude.{OnOk};
 ghost use Rattle.mp4_fields.specs.Nesting.{fields, Keeps};
 
-use crate::brief::{put_data, put_full};
+use crate::brief::{put_data, put_data_type, put_full};
 use crate::flag_names::NONE;
 use crate::sink::{FieldSink, Result, put_all};
 use crate::value::Value;
@@ -23,7 +23,9 @@ fn number_of(data_type: &DataType) -> u32 {
 pub fn put_data_box<S: FieldSink>(b: &DataBox, sink: &mut S) -> Result<()>
     ensures nesting { OnOk result (Keeps S.since fields sink.old sink.new) }
 {
-    put_data(number_of(&b.data_type), b.data_bytes.as_slice(), sink)
+    let data_type = number_of(&b.data_type);
+    put_data_type(data_type, sink)?;
+    put_data(data_type, b.data_bytes.as_slice(), sink)
 }
 
 /// An event (ISO/IEC 23009-1, 5.10.3.3). The field of the other version is left out.

@@ -5,6 +5,7 @@ ghost use Rattle.mp4_fields.specs.Nesting.{fields, entries, Keeps};
 
 use crate::brief::{put_full, put_named_handler};
 use crate::flag_names::{NONE, TRACK};
+use crate::language::language_value;
 use crate::sink::{FieldSink, Result, put_all};
 use crate::value::{Value, signed, signed_volume};
 use mp4_stream::{ElstBox, ElstEntry, HdlrBox, MdhdBox, TkhdBox};
@@ -42,7 +43,7 @@ pub fn put_mdhd<S: FieldSink>(b: &MdhdBox, sink: &mut S) -> Result<()>
             ("modification_time", Value::Date(b.modification_time)),
             ("timescale", Value::Number(u64::from(b.timescale))),
             ("duration", Value::Number(b.duration)),
-            ("language", Value::Text(b.language.as_bytes())),
+            ("language", language_value(b.language.as_str())),
         ],
         sink,
     )

@@ -6,7 +6,7 @@ ghost use Rattle.mp4_fields.specs.Nesting.{fields, entries, Keeps};
 use crate::entries::{Entry, put_each};
 use crate::flag_names::NONE;
 use crate::put::{put_entry, put_string};
-use mp4_fields::{FieldSink, Result, Value, put_all, put_data, put_full};
+use mp4_fields::{FieldSink, Result, Value, put_all, put_data, put_data_type, put_full};
 use mp4_more::{Btrt, Data, Elng, Keys, Kind, MetadataKey, Nmhd, TrackReference, Tref};
 use mp4_stream::FourCC;
 
@@ -22,12 +22,38 @@ pub fn put_btrt<S: FieldSink>(b: &Btrt, sink: &mut S) -> Result<()>
     put_all(&row, sink)
 }
 
+/// Returns the letters of the packed code of a language (ISO 639-2); its highest bit is 0.
+fn language_letters(code: u16) -> [u8; 3] {
+    [
+        0x60 + (code / 1024) as u8,
+        0x60 + (code / 32 % 32) as u8,
+        0x60 + (code % 32) as u8,
+    ]
+}
+
+/// Hands a part of a locale to a sink (QuickTime File Format, "Locale indicator"): its letters, if they are such, or
+/// else its number, the index of a list. 0 stands for all, and is left out.
+fn put_locale<S: FieldSink>(name: &str, number: u16, letters: &[u8], sink: &mut S) -> Result<()>
+    ensures nesting { OnOk result (Keeps S.since fields sink.old sink.new) }
+{
+    if number == 0 {
+        return Ok(());
+    }
+    if letters.iter().all(|letter| letter.is_ascii_alphabetic()) {
+        return sink.field(name, Value::Text(letters));
+    }
+    sink.field(name, Value::Number(u64::from(number)))
+}
+
 /// A value of metadata (QuickTime File Format, "Value atom"): its type, with the set that it is of as the highest byte,
-/// and its text, its number or its bytes.
+/// the country and the language that it is for, and its text, its number or its bytes.
 pub fn put_data_value<S: FieldSink>(b: &Data, sink: &mut S) -> Result<()>
     ensures nesting { OnOk result (Keeps S.since fields sink.old sink.new) }
 {
     let data_type = u32::from(b.type_set) << 24 | b.data_type;
+    put_data_type(data_type, sink)?;
+    put_locale("country", b.country, &b.country.to_be_bytes(), sink)?;
+    put_locale("language", b.language, &language_letters(b.language), sink)?;
     put_data(data_type, b.value.as_slice(), sink)
 }
 
