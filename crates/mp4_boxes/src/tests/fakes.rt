@@ -62,8 +62,9 @@ pub struct Endless<'a> {
 impl Read for Endless<'_> {
     fn read(&mut self, buf: &mut [u8]) -> io::Result<usize> {
         self.calls = self.calls.saturating_add(1);
-        let n = self.piece.len().min(buf.len());
-        buf[..n].copy_from_slice(&self.piece[..n]);
+        let piece = self.piece;
+        let n = piece.len().min(buf.len());
+        buf[..n].copy_from_slice(&piece[..n]);
         Ok(n)
     }
 }

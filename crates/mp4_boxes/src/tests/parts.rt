@@ -113,18 +113,41 @@ fn a_fault_of_an_endless_input(rt: HostRuntime) {
     assert!(rt; output.inner.taken.is_empty());
 }
 
-/// Lists `bytes` where the reader gives `most` bytes a call and an input may have `limit` bytes. Returns the result and
-/// the number of calls of the reader.
-fn list_up_to(
-    rt: &(impl Abort + Alloc<A = Global>),
-    bytes: &[u8],
-    most: usize,
-    limit: u64,
-) -> (Result<Vec<u8>, RunFault>, u64) {
+/// How a list ended.
+#[derive(Clone, Copy, Debug, PartialEq, Eq)]
+enum End {
+    /// With `LINES`.
+    Listed,
+    /// With a fault of a size.
+    Invalid,
+    /// Out of memory.
+    Memory,
+    /// In another way.
+    Other,
+}
+
+/// Returns how a list ended.
+fn end_of(list: &Result<Vec<u8>, RunFault>) -> End {
+    match list {
+        Ok(lines) => {
+            if lines.as_slice() == LINES {
+                End::Listed
+            } else {
+                End::Other
+            }
+        }
+        Err(RunFault::Boxes(Error::InvalidData(_))) => End::Invalid,
+        Err(RunFault::Boxes(Error::OutOfMemory)) => End::Memory,
+        Err(_) => End::Other,
+    }
+}
+
+/// Lists `bytes` where the reader gives `most` bytes a call and an input may have `limit` bytes. Returns how that ended
+/// and the number of calls of the reader.
+fn list_up_to(alloc: Global, bytes: &[u8], most: usize, limit: usize) -> (End, u64) {
     let mut input = Input::new(Giver::new(bytes, most, None));
-    let result = list_input(rt.alloc(), &mut input, limit);
-    assert!(rt; !input.failed);
-    (result, input.inner.calls)
+    let end = end_of(&list_input(alloc, &mut input, limit as u64));
+    (end, input.inner.calls)
 }
 
 /// An input may have as many bytes as the limit. One that has more is out of memory at the call that passes the limit.
@@ -132,18 +155,12 @@ fn list_up_to(
 fn inputs_at_a_limit(rt: HostRuntime) {
     for most in [1, 3, 16, 64] {
         for limit in 0..BOXES.len() + 3 {
-            let (result, calls) = list_up_to(&rt, &BOXES, most, limit as u64);
+            let (end, calls) = list_up_to(rt.alloc(), &BOXES, most, limit);
             if limit < BOXES.len() {
-                assert!(rt;
-                    matches!(result, Err(RunFault::Boxes(Error::OutOfMemory))),
-                    "{most} {limit}"
-                );
+                assert_eq!(rt; end, End::Memory, "{most} {limit}");
                 assert_eq!(rt; calls, (limit / most) as u64 + 1, "{most} {limit}");
             } else {
-                assert!(rt;
-                    matches!(result, Ok(lines) if lines.as_slice() == LINES),
-                    "{most} {limit}"
-                );
+                assert_eq!(rt; end, End::Listed, "{most} {limit}");
             }
         }
     }
@@ -156,18 +173,13 @@ fn faults_at_a_limit(rt: HostRuntime) {
     for most in [1, 3, 16, 64] {
         let read = FAULT.next_multiple_of(most).min(bytes.len());
         for limit in 0..bytes.len() + 3 {
-            let (result, _) = list_up_to(&rt, &bytes, most, limit as u64);
-            if limit < read {
-                assert!(rt;
-                    matches!(result, Err(RunFault::Boxes(Error::OutOfMemory))),
-                    "{most} {limit}"
-                );
+            let (end, _) = list_up_to(rt.alloc(), &bytes, most, limit);
+            let wanted = if limit < read {
+                End::Memory
             } else {
-                assert!(rt;
-                    matches!(result, Err(RunFault::Boxes(Error::InvalidData(_)))),
-                    "{most} {limit}"
-                );
-            }
+                End::Invalid
+            };
+            assert_eq!(rt; end, wanted, "{most} {limit}");
         }
     }
 }
@@ -177,8 +189,8 @@ fn faults_at_a_limit(rt: HostRuntime) {
 fn endless_inputs_at_a_limit(rt: HostRuntime) {
     for piece in [b"\0\0\0\x08free", b"\0\0\0\0free"] {
         let mut input = Input::new(Endless { piece, calls: 0 });
-        let result = list_input(rt.alloc(), &mut input, 1000);
-        assert!(rt; matches!(result, Err(RunFault::Boxes(Error::OutOfMemory))));
+        let end = end_of(&list_input(rt.alloc(), &mut input, 1000));
+        assert_eq!(rt; end, End::Memory);
         assert_eq!(rt; input.inner.calls, 126);
         assert!(rt; !input.failed);
     }
