@@ -1,4 +1,5 @@
 pub mod Content
+pub mod Destination
 pub mod Faults
 pub mod Heading
 pub mod Json

@@ -1,11 +1,18 @@
 //! The command `faststart`: a file is written with its movie box before its media data. It is written beside the place
 //! where it goes, and renamed once all of it is there, so that it is there whole or not at all.
 
+use crate::destination::{Destination, Node, NodeKind, choose_destination, partial_beside};
 use crate::outcome::Outcome;
 use mp4_faststart::{Cut, Refusal, write_fast_start};
 use mp4_io::{Failure, Output, Steady, is_closed_pipe};
-use std::fs::File;
+use std::fs::{File, Metadata, OpenOptions, Permissions};
+use std::io::ErrorKind;
+use std::os::unix::fs::{MetadataExt, OpenOptionsExt, PermissionsExt};
+use std::path::{Path, PathBuf};
 use std::{fs, io};
+
+/// The exit status of a misuse, which is also what `clap` gives.
+const MISUSE: u8 = 2;
 
 /// Says on standard error what is wrong with a file.
 fn tell(rt: &HostRuntime, name: &str, error: &io::Error) -> Outcome {
@@ -31,12 +38,45 @@ fn tell_refusal(rt: &HostRuntime, from: &str, to: &str, refusal: &Refusal) -> Ou
     }
 }
 
-/// Whether two names are those of one file.
-fn are_same(rt: &HostRuntime, from: &str, to: &str) -> bool {
-    match (fs::canonicalize(rt, from), fs::canonicalize(rt, to)) {
-        (Ok(from), Ok(to)) => from == to,
-        _ => false,
+/// Returns what is at the name `to`, or None if nothing is. A symbolic link is followed.
+fn node_at(rt: &HostRuntime, to: &str) -> io::Result<Option<Node>> {
+    match fs::metadata(rt, to) {
+        Ok(metadata) => Ok(Some(Node::new(&metadata))),
+        Err(error) if error.kind() == ErrorKind::NotFound => Ok(None),
+        Err(error) => Err(error),
     }
+}
+
+/// Returns whether the name `to` is that of a symbolic link.
+fn is_link(rt: &HostRuntime, to: &str) -> bool {
+    match fs::symlink_metadata(rt, to) {
+        Ok(metadata) => metadata.is_symlink(),
+        Err(_) => false,
+    }
+}
+
+/// Returns the path of the file that is written for the name `to`: a symbolic link is followed, so that it stays.
+fn path_of(rt: &HostRuntime, to: &str, destination: Destination) -> io::Result<PathBuf> {
+    match destination {
+        Destination::Named => Ok(Path::new(to).to_path_buf(rt.alloc())?),
+        Destination::Linked => fs::canonicalize(rt, to),
+    }
+}
+
+/// Creates a file beside `target`, of the first number that is free: it passes over a file that an earlier run left
+/// behind. Only its owner may open it.
+fn create_beside(rt: &HostRuntime, target: &str) -> io::Result<(File, PathBuf)> {
+    let mut options = OpenOptions::new();
+    options.write(true).create_new(true).mode(0o600);
+    for number in 0..u32::MAX {
+        let path = partial_beside(rt.alloc(), target, number)?;
+        match options.open(rt, &path) {
+            Ok(file) => return Ok((file, path)),
+            Err(error) if error.kind() == ErrorKind::AlreadyExists => {}
+            Err(error) => return Err(error),
+        }
+    }
+    Err(io::Error::from(ErrorKind::AlreadyExists))
 }
 
 /// Writes all of it into a file that is new.
@@ -62,43 +102,107 @@ fn tell_done(rt: &HostRuntime, to: &str, done: Option<Cut>) -> Result<Outcome, F
     }
 }
 
-/// Writes a file with its movie box before its media data, into a file of another name first.
-fn write_by(
+/// Gives the new file of the path `partial` the permissions of the file that is read, and the path `target`.
+fn put_in_place(
+    rt: &HostRuntime,
+    partial: &PathBuf,
+    target: &str,
+    permissions: Permissions,
+) -> io::Result<()> {
+    fs::set_permissions(rt, partial, permissions)?;
+    fs::rename(rt, partial, target)
+}
+
+/// Writes `source` with its movie box before its media data to the path `target`, into a file of another name first. It
+/// has the permissions of `mode`.
+fn write_to(
     rt: &HostRuntime,
     from: &str,
     to: &str,
-    partial: &str,
+    target: &str,
     source: File,
+    mode: u32,
 ) -> Result<Outcome, Failure> {
-    let file = match File::create_new(rt, partial) {
-        Ok(file) => file,
-        Err(error) => return Ok(tell(rt, partial, &error)),
+    let (file, partial) = match create_beside(rt, target) {
+        Ok(created) => created,
+        Err(error) => return Ok(tell(rt, to, &error)),
     };
     let done = match write_all(rt, source, file) {
         Ok(done) => done,
         Err(refusal) => {
-            let _ = fs::remove_file(rt, partial);
+            let _ = fs::remove_file(rt, &partial);
             return Ok(tell_refusal(rt, from, to, &refusal));
         }
     };
-    if let Err(error) = fs::rename(rt, partial, to) {
-        let _ = fs::remove_file(rt, partial);
+    let permissions = Permissions::from_mode(mode & 0o777);
+    if let Err(error) = put_in_place(rt, &partial, target, permissions) {
+        let _ = fs::remove_file(rt, &partial);
         return Ok(tell(rt, to, &error));
     }
     tell_done(rt, to, done)
 }
 
-/// Writes the file `to` with the boxes of the file `from`, its movie box before its media data, or leaves `to` as it
-/// was. The outcome is `Faulty` if `from` is such that it can't be done.
-pub fn fast_start(rt: &HostRuntime, from: &str, to: &str) -> Result<Outcome, Failure> {
-    let source = match fs::open(rt, from) {
-        Ok(source) => source,
-        Err(error) => return Ok(tell(rt, from, &error)),
+/// Writes `source`, which has this metadata, to the file that the name `to` leads to.
+fn write_named(
+    rt: &HostRuntime,
+    from: &str,
+    to: &str,
+    source: File,
+    metadata: &Metadata,
+) -> Result<Outcome, Failure> {
+    let found = match node_at(rt, to) {
+        Ok(found) => found,
+        Err(error) => return Ok(tell(rt, to, &error)),
     };
-    if are_same(rt, from, to) {
-        let _ = eprintln!(rt; "mp4inspect: {to}: this is the file that is read");
-        return Ok(Outcome::Failed);
+    let destination = match choose_destination(Node::new(metadata).id, is_link(rt, to), found) {
+        Ok(destination) => destination,
+        Err(obstacle) => {
+            let _ = eprintln!(rt; "mp4inspect: {to}: {obstacle}");
+            return Ok(Outcome::Failed);
+        }
+    };
+    match path_of(rt, to, destination) {
+        Ok(target) => write_to(rt, from, to, target.as_str(), source, metadata.mode()),
+        Err(error) => Ok(tell(rt, to, &error)),
     }
-    let partial = format!(in rt.alloc(); "{to}.partial")?;
-    write_by(rt, from, to, partial.as_str(), source)
+}
+
+/// Opens the file `from`, and returns it with its metadata. None where that fails or it is no regular file, once a line
+/// on standard error says so: a FIFO is not opened, since that waits for a writer.
+fn open_source(rt: &HostRuntime, from: &str) -> Option<(File, Metadata)> {
+    let opened = match fs::metadata(rt, from) {
+        Ok(metadata) => {
+            let kind = Node::new(&metadata).kind;
+            if kind != NodeKind::File {
+                let _ = eprintln!(rt;
+                    "mp4inspect: {from}: this is a {kind}; IN must be a regular file"
+                );
+                return None;
+            }
+            fs::open(rt, from)
+        }
+        Err(error) => Err(error),
+    };
+    match opened.and_then(|file| Ok((file.metadata()?, file))) {
+        Ok((metadata, file)) => Some((file, metadata)),
+        Err(error) => {
+            tell(rt, from, &error);
+            None
+        }
+    }
+}
+
+/// Writes the file `to` with the boxes of the file `from`, its movie box before its media data, or leaves `to` as it
+/// was. Returns the exit status: that of `Faulty` if `from` is such that it can't be done, and 2 for the name `-`.
+pub fn fast_start(rt: &HostRuntime, from: &str, to: &str) -> Result<u8, Failure> {
+    if from == "-" || to == "-" {
+        let _ = eprintln!(rt;
+            "mp4inspect: -: faststart needs files, not the standard input or output; ./- is a file of this name"
+        );
+        return Ok(MISUSE);
+    }
+    let Some((source, metadata)) = open_source(rt, from) else {
+        return Ok(Outcome::Failed.status());
+    };
+    Ok(write_named(rt, from, to, source, &metadata)?.status())
 }

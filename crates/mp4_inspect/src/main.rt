@@ -5,6 +5,7 @@
 mod box_path;
 mod chunks;
 mod content;
+mod destination;
 mod failure;
 mod fast_start;
 mod fault_text;
@@ -317,11 +318,10 @@ fn show(rt: &HostRuntime, request: &Request) -> Result<Outcome, Failure> {
 /// Writes the file that is asked for, if its names are UTF-8. Returns the exit status.
 fn write_file(rt: &HostRuntime, names: &FastStart) -> Result<u8, Failure> {
     let (from, to) = (names.from.as_str(), names.to.as_str());
-    let outcome = match unreadable(from).or(unreadable(to)) {
-        Some(shown) => refuse(rt, shown, NOT_UTF_8),
-        None => fast_start(rt, from, to)?,
-    };
-    Ok(outcome.status())
+    match unreadable(from).or(unreadable(to)) {
+        Some(shown) => Ok(refuse(rt, shown, NOT_UTF_8).status()),
+        None => fast_start(rt, from, to),
+    }
 }
 
 /// Does what the command line asks for, and returns the exit status.
