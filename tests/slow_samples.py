@@ -365,6 +365,8 @@ class File:
                 if why:
                     more = self.counted(number, tables) - len(samples) - 1
                     return samples, [f"{why}: {not_listed(more)}"]
+                if beyond and len(samples) == MOST:
+                    raise Bad("large")
                 empty = 0 if sample[1] else empty + 1
                 samples.append(sample)
         except Bad as bad:

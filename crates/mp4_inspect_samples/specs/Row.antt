@@ -1,5 +1,5 @@
 -- What is written of a sample.
-use Rattle.std.specs.Prelude.{ℕ, ℤ, pos, ◌+ℤ◌}
+use Rattle.std.specs.Prelude.{ℕ, pos, ◌+ℤ◌}
 use Rattle.mp4_inspect_samples.specs.declared.row.Row.{Row}
 use Rattle.mp4_samples.specs.declared.sample.Sample.{Sample}
 

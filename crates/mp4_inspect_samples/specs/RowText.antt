@@ -1,5 +1,5 @@
 -- The text of a row, in each form.
-use Rattle.std.specs.Prelude.{ℕ, ℤ, ◌-◌, Bool, true, false, List, ◌++◌, length, replicate, min, codes, decimal}
+use Rattle.std.specs.Prelude.{ℕ, ℤ, ◌-◌, Bool, List, ◌++◌, length, replicate, min, codes, decimal}
 use Rattle.std.specs.Prelude.{if◌then◌else◌}
 use Rattle.std.specs.Fmt.{signed_decimal}
 use Rattle.mp4_inspect_samples.specs.declared.row.Row.{Row}

@@ -1,4 +1,4 @@
-use Rattle.std.proofs.Common.{◌≡◌, ℕ, ◌+◌, ◌<◌, ◌≤◌, Bool, true, false, refl, subst, sym, ◌∙◌, arith, rules}
+use Rattle.std.proofs.Common.{◌≡◌, ℕ, ◌+◌, ◌<◌, ◌≤◌, true, refl, subst, sym, ◌∙◌, arith, rules}
 use Rattle.mp4_inspect_samples.proofs.RowLists.{writes_none, writes_next, begins_next, begins_all, on_err}
 use Rattle.mp4_inspect_samples.proofs.rows.write_rows.Goals as goal
 use Rattle.mp4_inspect_samples.specs.Listed.{is_listed}
