@@ -1,4 +1,4 @@
--- Where the command `faststart` writes, and what it says where it doesn't.
+-- The place that the command `faststart` writes to, and what it says if it writes nothing.
 use Rattle.std.specs.Prelude.{ℕ, Bool, ◌==◌, ◌&&◌, List, ◌++◌, None, Some, Result, Ok, Err, codes, if◌then◌else◌}
 use Rattle.std.specs.Fmt.{decimal}
 use Rattle.std.specs.declared.option.Option.{Option}

@@ -1,4 +1,4 @@
--- How an open file is read.
+-- The way in which an open file is read.
 use Rattle.std.specs.Prelude.{Bool, if◌then◌else◌}
 use Rattle.mp4_inspect.specs.declared.source.Reading.{Reading}
 use Rattle.mp4_inspect.specs.declared.source.Reading.TheVariants as readings

@@ -11,7 +11,7 @@ use std::fs::Metadata;
 use std::os::unix::fs::{FileTypeExt, MetadataExt};
 use std::path::{Path, PathBuf};
 
-/// What a node of a file system is.
+/// The kind of a node of a file system.
 #[derive(Clone, Copy, Debug, PartialEq, Eq)]
 pub enum NodeKind {
     /// A regular file.
@@ -30,7 +30,7 @@ pub enum NodeKind {
     Other,
 }
 
-/// Which node of the system it is: hard links of one file have the same.
+/// The identity of a node: hard links of one file have the same.
 #[derive(Clone, Copy, Debug, PartialEq, Eq)]
 pub struct NodeId {
     /// The device that it is on.
@@ -42,9 +42,9 @@ pub struct NodeId {
 /// A node of a file system.
 #[derive(Clone, Copy, Debug, PartialEq, Eq)]
 pub struct Node {
-    /// What it is.
+    /// Its kind.
     pub kind: NodeKind,
-    /// Which one it is.
+    /// Its identity.
     pub id: NodeId,
 }
 
@@ -57,7 +57,7 @@ pub enum Destination {
     Linked,
 }
 
-/// Why nothing is written.
+/// The reason why nothing is written.
 #[derive(Clone, Copy, Debug, PartialEq, Eq)]
 pub enum Obstacle {
     /// It is the file that is read.

@@ -16,7 +16,7 @@ use std::collections::BTreeMap;
 /// The tracks of a file.
 #[derive(Drop)]
 pub struct Movie {
-    /// Whether the file has a `moov`.
+    /// Is true if the file has a `moov`.
     pub has_moov: bool,
     /// The position of the first `tkhd` of each track_ID.
     pub headers: BTreeMap<u32, u64>,

@@ -4,11 +4,10 @@ ghost use Rattle.std.specs.Prelude.{◌≡◌};
 ghost use Rattle.mp4_inspect.specs.Opened.{reading_of};
 
 use mp4_tree::Source;
-use std::fs;
 use std::fs::File;
-use std::io;
 use std::io::{Seek, SeekFrom};
 use std::os::unix::fs::FileTypeExt;
+use std::{fs, io};
 
 /// A source that keeps the last error of reading.
 #[derive(Drop)]
@@ -50,7 +49,7 @@ impl<S: Source> Source for Kept<S> {
     }
 }
 
-/// A file that is read from a position on, as if nothing were before it.
+/// A file that is read starting at a position, as if nothing were before it.
 #[derive(Drop)]
 pub struct FileFrom {
     file: File,

@@ -1,8 +1,7 @@
 //! The words of the command line. One that is not UTF-8 is escaped and marked, since `clap` takes text only.
 
 ghost use Rattle.std.specs.Prelude.{◌≡◌, ◌++◌, ◌∷◌, [], ℕ, List, IfOk, IsUtf8, string_bytes};
-ghost use Rattle.mp4_sinks.specs.Escaped.{escaped};
-ghost use Rattle.mp4_sinks.specs.declared.escape.Form.TheVariants as forms;
+ghost use Rattle.mp4_sinks.specs.Escaped.{text_escaped};
 
 use clap::Error;
 use mp4_inspect_args::MARK;
@@ -66,7 +65,7 @@ pub fn words_of(rt: &HostRuntime) -> Result<Vec<String>, AllocError> {
 
 /// Returns a name with its control characters escaped.
 pub fn escaped(alloc: Global, name: &str) -> Result<String, AllocError>
-    ensures { IfOk result (λ text. string_bytes text ≡ escaped forms.Text name.now) }
+    ensures { IfOk result (λ text. string_bytes text ≡ text_escaped name.now) }
 {
     let mut text = String::new(alloc);
     push_escaped(name, &mut text)?;

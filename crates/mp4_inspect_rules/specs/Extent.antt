@@ -1,4 +1,4 @@
--- Where bytes that should be media data lie in a file: a chunk (ISO/IEC 14496-12, 8.7.5) or the samples of a run
+-- The place in a file of bytes that should be media data: a chunk (ISO/IEC 14496-12, 8.7.5) or the samples of a run
 -- (8.8.8) are in the content of one `mdat` (8.1.1).
 use Rattle.std.specs.Prelude.{ℕ, ◌+◌, ◌&&◌, ◌||◌, Bool, nat_lt, nat_le, None, Some, if◌then◌else◌}
 use Rattle.std.specs.declared.option.Option.{Option}

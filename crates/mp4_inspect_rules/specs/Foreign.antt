@@ -1,4 +1,4 @@
--- Which files are no MP4 files: those that are too short for the header of a box, and those whose first four bytes, as
+-- Files that are no MP4 files: those that are too short for the header of a box, and those whose first four bytes, as
 -- a size, are past the end of the file, while the next four are the code of no box that files have at their top level
 -- (ISO/IEC 14496-12, 4.2, and the boxes whose container is the file).
 use Rattle.std.specs.Prelude.{ℕ, ◌==◌, ◌&&◌, ◌||◌, Bool, nat_lt, List, [], ◌∷◌, None, Some, if◌then◌else◌}

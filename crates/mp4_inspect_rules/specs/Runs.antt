@@ -1,4 +1,4 @@
--- Where the samples of the runs of a fragment lie (ISO/IEC 14496-12, 8.8.8).
+-- The place of the samples of the runs of a fragment (ISO/IEC 14496-12, 8.8.8).
 use Rattle.std.specs.Prelude.{ℕ, ◌+◌, ◌-◌, ◌*◌, ℤ, ◌+ℤ◌, pos, List, length, sum, None, Some}
 use Rattle.std.specs.declared.option.Option.{Option}
 

@@ -1,4 +1,4 @@
--- How many bytes samples have (ISO/IEC 14496-12, 8.7.3): one size for all, unless it is 0, or the sizes in the table.
+-- The bytes of samples (ISO/IEC 14496-12, 8.7.3): one size for all, unless it is 0, or the sizes in the table.
 use Rattle.std.specs.Prelude.{ℕ, ◌*◌, ◌==◌, sum, take, drop, if◌then◌else◌}
 use Rattle.mp4_tables.specs.declared.stsz.StszBox.{StszBox}
 

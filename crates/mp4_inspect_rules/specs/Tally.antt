@@ -1,4 +1,4 @@
--- How many chunks or runs lie outside the media data, and which is the first.
+-- The number of chunks or runs outside the media data, and the first of them.
 use Rattle.std.specs.Prelude.{ℕ, ◌+◌, ◌-◌, ◌^◌, min, None, Some}
 use Rattle.std.specs.declared.option.Option.{Option}
 use Rattle.mp4_inspect_rules.specs.declared.extent.Lies.{Lies}

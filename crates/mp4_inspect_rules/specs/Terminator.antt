@@ -1,4 +1,4 @@
--- Which boxes four zero bytes may end: QuickTime writes them after the last box of a `udta` or of a sample entry
+-- The boxes that four zero bytes may end: QuickTime writes them after the last box of a `udta` or of a sample entry
 -- (QuickTime File Format, "User Data Atoms", "Sample Description Extensions").
 use Rattle.std.specs.Prelude.{ℕ, ◌==◌, ◌&&◌, ◌||◌, not, Bool}
 use Rattle.mp4_frame.specs.declared.codes.TheConstants as codes

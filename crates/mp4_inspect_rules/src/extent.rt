@@ -6,13 +6,13 @@ ghost use Rattle.mp4_inspect_rules.specs.Extent.{holds, is_past, whereabouts};
 /// Bytes of a file: those at `begin` and after it, up to `end`.
 #[derive(Clone, Copy, Debug, PartialEq, Eq)]
 pub struct Extent {
-    /// Where they begin.
+    /// The offset of the first byte.
     pub begin: u64,
-    /// Where they end. It is at `begin` or after it.
+    /// The offset after the last byte. It is at `begin` or after it.
     pub end: u64,
 }
 
-/// Where bytes lie that should be media data.
+/// The place of bytes that should be media data.
 #[derive(Clone, Copy, Debug, PartialEq, Eq)]
 pub enum Lies {
     /// In the content of one `mdat`.

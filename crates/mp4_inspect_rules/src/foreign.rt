@@ -31,7 +31,7 @@ pub const UUID: u32 = 0x7575_6964;
 /// `pnot`: a preview (QuickTime).
 pub const PNOT: u32 = 0x706e_6f74;
 
-/// Why a file is no MP4 file.
+/// The reason why a file is no MP4 file.
 #[derive(Clone, Copy, Debug, PartialEq, Eq)]
 pub enum NotMp4 {
     /// It has fewer bytes than the header of a box: this many.

@@ -6,9 +6,9 @@ ghost use Rattle.mp4_inspect_rules.specs.Runs.{run_size, begin_of};
 /// A run of samples, one after the other.
 #[derive(Clone, Copy, Debug, PartialEq, Eq)]
 pub struct Run {
-    /// Where the first one begins; less than 0 if that is before the file.
+    /// The offset of the first one; less than 0 if it is before the file.
     pub begin: i128,
-    /// How many bytes they have.
+    /// The number of their bytes.
     pub size: u64,
 }
 

@@ -8,22 +8,22 @@ use crate::extent::Lies;
 /// A chunk or run that lies outside the media data.
 #[derive(Clone, Copy, Debug, PartialEq, Eq)]
 pub struct Stray {
-    /// Its number, from 1 on.
+    /// Its number, starting at 1.
     pub number: u64,
-    /// Where it begins.
+    /// The offset of its first byte.
     pub offset: u64,
-    /// How many bytes it has.
+    /// The number of its bytes.
     pub size: u64,
-    /// Where it lies.
+    /// Its place.
     pub lies: Lies,
 }
 
-/// How many chunks or runs were looked at, and which lie outside the media data.
+/// The number of chunks or runs, and of those outside the media data.
 #[derive(Clone, Copy, Debug, PartialEq, Eq)]
 pub struct Tally {
-    /// How many were looked at.
+    /// The number of all.
     pub all: u64,
-    /// How many of them lie outside.
+    /// The number of those outside.
     pub outside: u64,
     /// The first of these.
     pub first: Option<Stray>,

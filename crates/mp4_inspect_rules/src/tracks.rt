@@ -3,7 +3,7 @@
 ghost use Rattle.std.specs.Prelude.{◌≡◌};
 ghost use Rattle.mp4_inspect_rules.specs.Tracks.{track_fault, header_fault};
 
-/// What is wrong with a track_ID.
+/// A fault of a track_ID.
 #[derive(Clone, Copy, Debug, PartialEq, Eq)]
 pub enum TrackFault {
     /// It is 0.

@@ -18,7 +18,7 @@ pub struct TrafRuns {
     pub track: u32,
     /// Its runs, in the order of the file: those before the first of which a size is not known.
     pub runs: Vec<Run>,
-    /// Whether their offsets count from the front of the file that the fragment was made for.
+    /// Is true if their offsets count from the front of the file that the fragment was made for.
     pub is_absolute: bool,
     /// The position at which the data of its last run end, if that is known.
     pub end: Option<u64>,

@@ -113,7 +113,7 @@ fn a_fault_of_an_endless_input(rt: HostRuntime) {
     assert!(rt; output.inner.taken.is_empty());
 }
 
-/// How a list ended.
+/// The end of a list.
 #[derive(Clone, Copy, Debug, PartialEq, Eq)]
 enum End {
     /// With `LINES`.
