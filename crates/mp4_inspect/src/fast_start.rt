@@ -3,6 +3,8 @@
 
 use crate::destination::{Destination, Node, NodeKind, choose_destination, partial_beside};
 use crate::outcome::Outcome;
+use crate::source::Kept;
+use crate::words::escaped;
 use mp4_faststart::{Cut, Refusal, write_fast_start};
 use mp4_io::{Failure, Output, Steady, is_closed_pipe};
 use std::fs::{File, Metadata, OpenOptions, Permissions};
@@ -14,25 +16,59 @@ use std::{fs, io};
 /// The exit status of a misuse, which is also what `clap` gives.
 const MISUSE: u8 = 2;
 
-/// Says on standard error what is wrong with a file.
-fn tell(rt: &HostRuntime, name: &str, error: &io::Error) -> Outcome {
-    let _ = eprintln!(rt; "mp4inspect: {name}: {error}");
+/// The names of the two files.
+#[derive(Clone, Copy)]
+struct Names<'a> {
+    /// The name of the file that is read.
+    from: &'a str,
+    /// The name of the file that is written.
+    to: &'a str,
+    /// `from` with its control characters escaped, as messages have it.
+    shown_from: &'a str,
+    /// `to` with its control characters escaped, as messages have it.
+    shown_to: &'a str,
+}
+
+/// Says on standard error what is wrong with a file, whose name is `shown` in messages.
+fn tell(rt: &HostRuntime, shown: &str, error: &io::Error) -> Outcome {
+    let _ = eprintln!(rt; "mp4inspect: {shown}: {error}");
     Outcome::Failed
 }
 
-/// Says on standard error why a file was not written.
-fn tell_refusal(rt: &HostRuntime, from: &str, to: &str, refusal: &Refusal) -> Outcome {
+/// Says on standard error that reading or writing failed, with the system's reason if there is one.
+fn tell_failure(
+    rt: &HostRuntime,
+    shown: &str,
+    failure: Failure,
+    reason: Option<io::Error>,
+) -> Outcome {
+    let _ = match reason {
+        Some(error) => eprintln!(rt; "mp4inspect: {shown}: {failure}: {error}"),
+        None => eprintln!(rt; "mp4inspect: {shown}: {failure}"),
+    };
+    Outcome::Failed
+}
+
+/// Says on standard error why a file was not written. `read_error` and `write_error` are the last errors of both files.
+fn tell_refusal(
+    rt: &HostRuntime,
+    names: Names<'_>,
+    refusal: &Refusal,
+    read_error: Option<io::Error>,
+    write_error: Option<io::Error>,
+) -> Outcome {
     match refusal {
         Refusal::Failed(Failure::Write) => {
-            let _ = eprintln!(rt; "mp4inspect: {to}: {refusal}");
-            Outcome::Failed
+            tell_failure(rt, names.shown_to, Failure::Write, write_error)
         }
-        Refusal::Failed(_) => {
-            let _ = eprintln!(rt; "mp4inspect: {from}: {refusal}");
-            Outcome::Failed
+        Refusal::Failed(Failure::Read) => {
+            tell_failure(rt, names.shown_from, Failure::Read, read_error)
+        }
+        Refusal::Failed(Failure::Memory) => {
+            tell_failure(rt, names.shown_from, Failure::Memory, None)
         }
         _ => {
-            let _ = eprintln!(rt; "mp4inspect: {from}: {refusal}");
+            let _ = eprintln!(rt; "mp4inspect: {}: {refusal}", names.shown_from);
             Outcome::Faulty
         }
     }
@@ -80,20 +116,27 @@ fn create_beside(rt: &HostRuntime, target: &str) -> io::Result<(File, PathBuf)> 
 }
 
 /// Writes all of it into a file that is new.
-fn write_all(rt: &HostRuntime, source: File, file: File) -> Result<Option<Cut>, Refusal> {
-    let mut output = Output::new(Steady::new(file));
-    let cut = write_fast_start(rt.alloc(), source, &mut output)?;
-    if output.inner.inner.sync_all().is_err() {
+fn write_all(
+    rt: &HostRuntime,
+    source: &mut Kept<File>,
+    output: &mut Output<Steady<File>>,
+) -> Result<Option<Cut>, Refusal> {
+    let cut = write_fast_start(rt.alloc(), source, output)?;
+    if let Err(error) = output.inner.inner.sync_all() {
+        output.inner.error = Some(error);
         return Err(Refusal::Failed(Failure::Write));
     }
     Ok(cut)
 }
 
-/// Says what was written.
-fn tell_done(rt: &HostRuntime, to: &str, done: Option<Cut>) -> Result<Outcome, Failure> {
+/// Says what was written to the file whose name is `shown` in messages.
+fn tell_done(rt: &HostRuntime, shown: &str, done: Option<Cut>) -> Result<Outcome, Failure> {
     let told = match done {
-        Some(cut) => println!(rt; "{to}: moov is moved from {} to {}", cut.begin, cut.insert),
-        None => println!(rt; "{to}: a copy, as moov is before the media data already"),
+        Some(cut) => println!(rt;
+            "{shown}: moov is moved from {} to {}",
+            cut.begin, cut.insert
+        ),
+        None => println!(rt; "{shown}: a copy, as moov is before the media data already"),
     };
     match told {
         Ok(()) => Ok(Outcome::Sound),
@@ -117,76 +160,79 @@ fn put_in_place(
 /// has the permissions of `mode`.
 fn write_to(
     rt: &HostRuntime,
-    from: &str,
-    to: &str,
+    names: Names<'_>,
     target: &str,
     source: File,
     mode: u32,
 ) -> Result<Outcome, Failure> {
     let (file, partial) = match create_beside(rt, target) {
         Ok(created) => created,
-        Err(error) => return Ok(tell(rt, to, &error)),
+        Err(error) => return Ok(tell(rt, names.shown_to, &error)),
     };
-    let done = match write_all(rt, source, file) {
+    let mut source = Kept::new(source);
+    let mut output = Output::new(Steady::new(file));
+    let done = match write_all(rt, &mut source, &mut output) {
         Ok(done) => done,
         Err(refusal) => {
             let _ = fs::remove_file(rt, &partial);
-            return Ok(tell_refusal(rt, from, to, &refusal));
+            let (read_error, write_error) = (source.error, output.inner.error);
+            return Ok(tell_refusal(rt, names, &refusal, read_error, write_error));
         }
     };
     let permissions = Permissions::from_mode(mode & 0o777);
     if let Err(error) = put_in_place(rt, &partial, target, permissions) {
         let _ = fs::remove_file(rt, &partial);
-        return Ok(tell(rt, to, &error));
+        return Ok(tell(rt, names.shown_to, &error));
     }
-    tell_done(rt, to, done)
+    tell_done(rt, names.shown_to, done)
 }
 
-/// Writes `source`, which has this metadata, to the file that the name `to` leads to.
+/// Writes `source`, which has this metadata, to the file that the name `names.to` leads to.
 fn write_named(
     rt: &HostRuntime,
-    from: &str,
-    to: &str,
+    names: Names<'_>,
     source: File,
     metadata: &Metadata,
 ) -> Result<Outcome, Failure> {
-    let found = match node_at(rt, to) {
+    let found = match node_at(rt, names.to) {
         Ok(found) => found,
-        Err(error) => return Ok(tell(rt, to, &error)),
+        Err(error) => return Ok(tell(rt, names.shown_to, &error)),
     };
-    let destination = match choose_destination(Node::new(metadata).id, is_link(rt, to), found) {
+    let is_linked = is_link(rt, names.to);
+    let destination = match choose_destination(Node::new(metadata).id, is_linked, found) {
         Ok(destination) => destination,
         Err(obstacle) => {
-            let _ = eprintln!(rt; "mp4inspect: {to}: {obstacle}");
+            let _ = eprintln!(rt; "mp4inspect: {}: {obstacle}", names.shown_to);
             return Ok(Outcome::Failed);
         }
     };
-    match path_of(rt, to, destination) {
-        Ok(target) => write_to(rt, from, to, target.as_str(), source, metadata.mode()),
-        Err(error) => Ok(tell(rt, to, &error)),
+    match path_of(rt, names.to, destination) {
+        Ok(target) => write_to(rt, names, target.as_str(), source, metadata.mode()),
+        Err(error) => Ok(tell(rt, names.shown_to, &error)),
     }
 }
 
-/// Opens the file `from`, and returns it with its metadata. None where that fails or it is no regular file, once a line
-/// on standard error says so: a FIFO is not opened, since that waits for a writer.
-fn open_source(rt: &HostRuntime, from: &str) -> Option<(File, Metadata)> {
-    let opened = match fs::metadata(rt, from) {
+/// Opens the file that is read, and returns it with its metadata. None where that fails or it is no regular file, once
+/// a line on standard error says so: a FIFO is not opened, since that waits for a writer.
+fn open_source(rt: &HostRuntime, names: Names<'_>) -> Option<(File, Metadata)> {
+    let shown = names.shown_from;
+    let opened = match fs::metadata(rt, names.from) {
         Ok(metadata) => {
             let kind = Node::new(&metadata).kind;
             if kind != NodeKind::File {
                 let _ = eprintln!(rt;
-                    "mp4inspect: {from}: this is a {kind}; IN must be a regular file"
+                    "mp4inspect: {shown}: this is a {kind}; IN must be a regular file"
                 );
                 return None;
             }
-            fs::open(rt, from)
+            fs::open(rt, names.from)
         }
         Err(error) => Err(error),
     };
     match opened.and_then(|file| Ok((file.metadata()?, file))) {
         Ok((metadata, file)) => Some((file, metadata)),
         Err(error) => {
-            tell(rt, from, &error);
+            tell(rt, shown, &error);
             None
         }
     }
@@ -201,8 +247,15 @@ pub fn fast_start(rt: &HostRuntime, from: &str, to: &str) -> Result<u8, Failure>
         );
         return Ok(MISUSE);
     }
-    let Some((source, metadata)) = open_source(rt, from) else {
+    let (shown_from, shown_to) = (escaped(rt.alloc(), from)?, escaped(rt.alloc(), to)?);
+    let names = Names {
+        from,
+        to,
+        shown_from: shown_from.as_str(),
+        shown_to: shown_to.as_str(),
+    };
+    let Some((source, metadata)) = open_source(rt, names) else {
         return Ok(Outcome::Failed.status());
     };
-    Ok(write_named(rt, from, to, source, &metadata)?.status())
+    Ok(write_named(rt, names, source, &metadata)?.status())
 }
