@@ -1,4 +1,4 @@
--- Where a list stops at a fault.
+-- The bytes after which a list stops at a fault.
 use Rattle.std.proofs.Common.{◌≡◌, ℕ, ◌+◌, ◌≤◌, List, [], ◌++◌, length, Result, Ok, Err, IfErr, Vec, Global, refl, sym}
 use Rattle.std.proofs.Common.{subst, ◌∙◌, inl, inr}
 use Rattle.std.proofs.lemmas.Bool.{cases_lt}
@@ -24,7 +24,7 @@ err_then : (known : List BoxSpan) (r : Spans) (k : Fault) → known_then known r
 err_then known (Ok more) k e = absurd cc
 err_then known (Err j) k e = e
 
--- the fault of all boxes is that of the boxes from an offset on, if those before it have none
+-- the fault of all boxes is that of the boxes starting at an offset, if those before it have none
 refused_on : (B text : List ℕ) (o : ℕ) (k : Fault) → (k ≡ End → ⊥) → LinesTo B text o
     → (spans B 0).outcome ≡ refused k → (spans B o).outcome ≡ refused k
 refused_on B text o k other there e =
@@ -43,7 +43,7 @@ Listing = Result (Vec ℕ Global) RunFault
 abbrev refusing : Error → Listing
 refusing e = Err (faults.Boxes e)
 
--- a failed read and want of memory are no fault of the input
+-- a failed read and out of memory are no fault of the input
 pub no_fault : (old new : Option (List ℕ)) (r : Listing) → IfErr r IsReadOrMemory → Stops old new r
 no_fault old new (Ok v) h = tt
 no_fault old new (Err faults.Read) h = tt

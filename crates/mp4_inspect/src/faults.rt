@@ -39,8 +39,8 @@ struct Search {
     paths: BoxPaths,
     media: MediaData,
     movie: Movie,
-    /// The number of boxes so far by the number of the run of boxes and the group: the box around may have only one box
-    /// of each group.
+    /// The boxes of each group in each run of boxes, counted up to the present one: the box around may have only one
+    /// box of each group.
     groups: BTreeMap<(u64, u32), u64>,
     /// The number of the track.
     track: Option<u32>,

@@ -6,8 +6,8 @@ use Rattle.mp4_inspect_rules.specs.declared.terminator.TheConstants as handlers
 use Rattle.mp4_tree.specs.Kinds.{is_container}
 use Rattle.mp4_tree.specs.declared.setting.Setting.{Setting}
 
--- the box around is gone into, and is none of the others that are: a sample entry of video or sound, or one of these
--- codes
+-- the box around is a sample entry of video or sound, or has one of these codes: the walk enters it, and it is none of
+-- the other boxes that the walk enters
 abbrev pub is_entry : Setting → Bool
 is_entry s =
     not ((s.parent == codes.STSD) || ((s.parent == codes.DREF) || ((s.parent == codes.META) || is_container s.parent)))

@@ -89,7 +89,7 @@ pub fn is_part(needed: u32, code: u32) -> bool
 }
 
 /// Returns the first code of the boxes of which a box of the code `parent` may have only one, if `code` is one of
-/// these. Each has a group of its own, except the sizes of samples, the offsets of chunks, and the headers of media.
+/// these. Each code is its group, except for the sizes of samples, the offsets of chunks, and the headers of media.
 pub fn group_of(parent: u32, code: u32) -> Option<u32>
     ensures { result ≡ group_of parent code }
 {

@@ -18,7 +18,7 @@ pub const WVTT: u32 = 0x7776_7474;
 /// `mp4s`: a sample entry of MPEG-4 systems (ISO/IEC 14496-14, 6.7).
 pub const MP4S: u32 = 0x6d70_3473;
 
-/// Returns whether the box around is a sample entry, as `setting` has it: no other box that is gone into has its code.
+/// Returns whether `setting` is that of a sample entry: no other box that the walk enters has its code.
 fn is_entry(setting: Setting) -> bool
     ensures { result ≡ is_entry setting }
 {
@@ -33,7 +33,7 @@ fn is_entry(setting: Setting) -> bool
         || parent == MP4S
 }
 
-/// Returns whether four zero bytes may end the box around, as `setting` has it: a `udta` or a sample entry.
+/// Returns whether four zero bytes may end the box of `setting`: a `udta` or a sample entry.
 pub fn may_end(setting: Setting) -> bool
     ensures { result ≡ may_end setting }
 {
