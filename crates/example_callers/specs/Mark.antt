@@ -1,4 +1,4 @@
--- mark, a box of 12 bytes: the header, and a number of 4 bytes at 8.
+-- `mark`, a box of 12 bytes: the header, and a number of 4 bytes at offset 8.
 use Rattle.std.specs.Prelude.{ℕ, Bool, false, ◌==◌, List, [], ◌∷◌}
 use Rattle.mp4_frame.specs.Bytes.{number, bytes_of_fields, FieldsFit}
 use Rattle.mp4_frame.specs.Format.{Format}
@@ -8,7 +8,7 @@ use Rattle.mp4_frame.specs.declared.box_type.BoxType.TheVariants as names
 use Rattle.example_callers.specs.declared.mark.TheConstants.{MARK}
 use Rattle.example_callers.specs.declared.mark.MarkBox.{MarkBox}
 
--- the value, where `at o w` is the number of w bytes at offset o
+-- The value of a box. `at o w` is the number of w bytes at offset o.
 abbrev pub value_mark : (ℕ → ℕ → ℕ) → MarkBox
 value_mark at = record { mark = at 8 4 }
 
@@ -30,7 +30,7 @@ abbrev pub format_mark : Format MarkBox
 format_mark = record
     { name = λ _. names.UnknownBox MARK; size = λ _. 12; Writable = WritableMark; bytes = bytes_mark; normal = λ v. v }
 
--- the one name that is read
+-- The only name that is read.
 abbrev pub known_mark : BoxType → Bool
 known_mark (names.UnknownBox code) = code == MARK
 known_mark _ = false

@@ -1,4 +1,4 @@
-//! A caller of `mp4_media`: the numbers of an audio configuration.
+//! A caller of `mp4_media`, which converts the numbers of an audio configuration.
 
 ghost use Rattle.std.specs.Prelude.{◌≡◌, IfOk};
 ghost use Rattle.mp4_media.specs.AudioObjectType.{number_audio_object_type};
@@ -8,7 +8,7 @@ ghost use Rattle.mp4_media.specs.ChannelConfig.{number_channel_config};
 use mp4_frame::Error;
 use mp4_media::{AacConfig, AudioObjectType, ChannelConfig, SampleFreqIndex, laws};
 
-/// The audio configuration of the numbers in a file, with a bit rate.
+/// Returns the audio configuration of the numbers in a file, with a bit rate.
 pub fn aac_config(
     bitrate: u32,
     profile: u8,

@@ -1,9 +1,9 @@
-//! The brand of a file.
+//! A caller of `mp4_stream`, which finds the brand of a file.
 
 use mp4_stream::{AnyBox, FourCC, Result, boxes};
 use std::alloc::Global;
 
-/// The major brand of a file, if it has an `ftyp`. What comes after that is not read.
+/// Returns the major brand of `file`, or `None` if it has no `ftyp`. Nothing after the `ftyp` is read.
 pub fn major_brand(alloc: Global, file: &[u8]) -> Result<Option<FourCC>> {
     for item in boxes(alloc, file) {
         if let AnyBox::FtypBox(ftyp) = item? {

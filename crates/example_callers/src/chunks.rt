@@ -1,4 +1,4 @@
-//! A caller of `mp4_tables`: chunk offsets in 32 bits.
+//! A caller of `mp4_tables`, which writes chunk offsets in 32 bits.
 
 ghost use Rattle.std.specs.Prelude.{◌≡◌, ◌++◌, IfOk, OnErr};
 ghost use Rattle.mp4_tables.specs.Stco.{made_stco, bytes_stco};

@@ -1,4 +1,4 @@
-//! A caller of `mp4_entries`: the sample entry of a configuration, written and read back.
+//! A caller of `mp4_entries`, which writes the sample entry of a configuration and reads it back.
 
 ghost use Rattle.std.specs.Prelude.{◌≡◌, ◌≤◌, length, IfOk};
 ghost use Rattle.mp4_entries.specs.Avc1.{made_avc1, format_avc1};

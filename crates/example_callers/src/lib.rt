@@ -1,5 +1,5 @@
-//! Callers of the codec with their contracts, and a box type from outside it. The CALLING.md of each crate quotes one
-//! of them.
+//! For callers of the codec: example callers with their contracts, and a box type from outside the codec. The
+//! CALLING.md of most crates of the codec quotes one of the callers.
 #![tactic(auto)]
 
 ghost use Rattle.std.specs.Prelude.{◌≡◌, ◌++◌, List, Ok, IfOk, OnErr};

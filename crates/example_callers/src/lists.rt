@@ -1,10 +1,10 @@
-//! Callers of `mp4_frame`: the entries of a list, gone over and changed in place.
+//! Callers of `mp4_frame`, which read the entries of a list and change them in place.
 
 ghost use Rattle.std.specs.Prelude.{◌≡◌, ◌+◌, ◌-◌, ◌^◌, ◌<◌, All, map, min, sum};
 
 use mp4_tables::{Co64Box, StszBox};
 
-/// The bytes of all samples in a table that has a size for each, at most 2^64 - 1.
+/// Returns the total size of all samples in bytes, at most 2^64 - 1. The table `sizes` has a size for each sample.
 pub fn size_of_samples(sizes: &StszBox) -> u64
     ensures { result ≡ min (sum sizes.now.sample_sizes) (2 ^ 64 - 1) }
 {
@@ -15,7 +15,7 @@ pub fn size_of_samples(sizes: &StszBox) -> u64
     total
 }
 
-/// Moves the chunks of a track towards the end of the file, as when bytes are put in front of them.
+/// Adds `distance` to the offset of each chunk, for bytes that are inserted before the chunks.
 pub fn move_chunks(chunks: &mut Co64Box, distance: u64)
     requires { All (λ offset. offset + distance < 2 ^ 64) chunks.old.entries }
     ensures { chunks.new ≡ record chunks.old { entries = map (λ offset. offset + distance) chunks.old.entries } }

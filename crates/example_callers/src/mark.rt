@@ -1,12 +1,12 @@
-//! A box type from outside the codec: the smallest type that keeps the traits. The tests read and write lists of it.
+//! A box type from outside the codec, the smallest one that keeps the traits. The tests read and write lists of it.
 
 ghost use Rattle.mp4_frame.specs.Format.{write_laws};
 ghost use Rattle.example_callers.specs.Mark.{reads_mark, format_mark, known_mark, reading_mark};
-ghost use Rattle.example_callers.specs.MarkLaws.{laws_mark, own_name_mark, read_back_mark, sound_mark, code_mark};
+ghost use Rattle.example_callers.specs.MarkLaws.{laws_mark, own_name_mark, read_back_mark, stable_mark, code_mark};
 
 use mp4_frame::{expect_bytes, put_u32, u32_at};
 use mp4_stream::{
-    BoxLaws, BoxType, ByteCursor, Mp4Box, ReadBox, Result, SoundStream, StreamBox, WriteBox,
+    BoxLaws, BoxType, ByteCursor, Mp4Box, ReadBox, Result, StableBox, StreamBox, WriteBox,
 };
 use std::alloc::Global;
 
@@ -89,8 +89,8 @@ impl StreamBox for MarkBox {
     ghost read_back = { read_back_mark };
 }
 
-impl SoundStream for MarkBox {
-    ghost sound = { sound_mark };
+impl StableBox for MarkBox {
+    ghost stable = { stable_mark };
 
     ghost own_code = { code_mark };
 }

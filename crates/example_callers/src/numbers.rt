@@ -1,11 +1,11 @@
-//! A caller of the laws of `mp4_media`: an audio configuration that is made from its own numbers.
+//! A caller of the laws of `mp4_media`, which makes an audio configuration from its numbers.
 
 ghost use Rattle.std.specs.Prelude.{◌≡◌, Ok};
 
 use mp4_frame::Error;
 use mp4_media::{AacConfig, AudioObjectType, ChannelConfig, SampleFreqIndex, laws};
 
-/// The audio configuration of the numbers of a configuration, which is the same configuration.
+/// Returns the audio configuration that is made from the numbers of `config`, which equals `config`.
 pub fn aac_config_again(config: AacConfig) -> Result<AacConfig, Error>
     ensures { result ≡ Ok config }
 {

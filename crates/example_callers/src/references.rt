@@ -1,4 +1,4 @@
-//! A caller of `mp4_text`: the data references of a track.
+//! A caller of `mp4_text`, which writes the data references of a track.
 
 ghost use Rattle.std.specs.Prelude.{◌≡◌, ◌++◌, IfOk, OnErr};
 ghost use Rattle.mp4_text.specs.Dinf.{bytes_dinf};

@@ -1,4 +1,4 @@
-//! Callers of `mp4_sound`: descriptors with a bound on their number, and the configuration of the sound of a track.
+//! Callers of `mp4_sound`, which read descriptors with a bound on their number, and the audio configuration of a track.
 
 ghost use Rattle.std.specs.Prelude.{◌≡◌, ◌-◌, ◌≤◌, IfOk, Ok, Some};
 ghost use Rattle.mp4_frame.specs.Reading.{reading};

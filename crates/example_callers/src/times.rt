@@ -1,4 +1,4 @@
-//! A caller of `mp4_flat`: the decode time of a fragment.
+//! A caller of `mp4_flat`, which writes the decode time of a fragment.
 
 ghost use Rattle.std.specs.Prelude.{◌≡◌, ◌++◌, ◌^◌, nat_lt, if◌then◌else◌, IfOk, IfErr, OnErr};
 ghost use Rattle.mp4_flat.specs.Tfdt.{bytes_tfdt};

@@ -1,22 +1,22 @@
-//! A box that is declared beside the same box by hand: both are read, and written, a number of times.
+//! A declared box and the same box with hand-written code, which are both read and written a number of times.
 
 ghost use Rattle.mp4_bench.specs.declared.declared.TheConstants.{MFHE};
 ghost use Rattle.std.proofs.Common.{refl, lit<};
 ghost use Rattle.mp4_stream.specs.Author.{layout_of};
 
-use mp4_stream::author::{About, Declared, DeclaredBox, Full, Last, U32};
+use mp4_stream::author::{Declared, DeclaredBox, Full, Last, ShapeVisitor, U32};
 use mp4_stream::{BoxHeader, ByteCursor, MfhdBox, ReadBox, Result, WriteBox, box_of, parts_of};
 use std::alloc::Global;
 
-/// The code: `mfhe`. `mfhd` is the codec's.
+/// The code `mfhe`, because the codec has the code `mfhd`.
 const MFHE: u32 = 0x6d66_6865;
 
 /// The fields of an `mfhd` (ISO/IEC 14496-12, 8.8.5).
 #[derive(Clone, Copy, Debug, Drop, PartialEq, Eq)]
 struct Mfhe {
-    /// 0.
+    /// The version, which is 0.
     version: u8,
-    /// 24 bits.
+    /// The flags, which have 24 bits.
     flags: u32,
     /// The number of the fragment.
     sequence_number: u32,
@@ -37,14 +37,14 @@ impl DeclaredBox for Mfhe {
         box_of!(found => Mfhe { version, flags, sequence_number })
     }
 
-    fn ask<Q: About<Self::Shape>>(&self, out: &mut [u8]) -> Q::Answer {
-        Q::ask(parts_of!(self => version, flags, sequence_number), out)
+    fn visit<Q: ShapeVisitor<Self::Shape>>(&self, out: &mut [u8]) -> Q::Answer {
+        Q::visit(parts_of!(self => version, flags, sequence_number), out)
     }
 
     ghost valid = { refl };
 }
 
-/// The boxes of a buffer of boxes of 16 bytes, whatever their names.
+/// Returns the boxes in `bytes`, which have 16 bytes each, whatever their names are.
 fn read_all<B: ReadBox + Drop>(alloc: Global, bytes: &[u8]) -> Result<Vec<B>> {
     let mut boxes = Vec::new(alloc);
     let mut reader = ByteCursor::new(bytes);
@@ -55,7 +55,8 @@ fn read_all<B: ReadBox + Drop>(alloc: Global, bytes: &[u8]) -> Result<Vec<B>> {
     Ok(boxes)
 }
 
-/// Reads the boxes `times` times. How many they are, and the sum of what is written last of each reading.
+/// Reads the boxes in `bytes` `times` times, and writes the last box each time. Returns the sum of the numbers of boxes
+/// and of the last bytes that are written.
 fn read_times<B: ReadBox + WriteBox + Drop>(
     alloc: Global,
     bytes: &[u8],
@@ -76,7 +77,8 @@ fn read_times<B: ReadBox + WriteBox + Drop>(
     Ok(sum)
 }
 
-/// Reads the boxes once, and writes them `times` times. The sum of the lengths and of the last bytes.
+/// Reads the boxes in `bytes` once, and writes them `times` times. Returns the sum of their lengths and of the last
+/// bytes.
 fn write_times<B: ReadBox + WriteBox + Drop>(
     alloc: Global,
     bytes: &[u8],
@@ -96,27 +98,27 @@ fn write_times<B: ReadBox + WriteBox + Drop>(
     Ok(sum)
 }
 
-/// Reads a buffer of `mfhd` boxes of 16 bytes `times` times, each time into a new list, of which the last box is
-/// written. Returns the number of all and the sum of the last bytes; `u64::MAX` after an error.
+/// Reads a buffer of `mfhd` boxes of 16 bytes `times` times, each time into a new list, and writes the last box of the
+/// list. Returns the sum of the numbers of boxes and of the last bytes, or `u64::MAX` after an error.
 #[unsafe(no_mangle)]
 pub extern "C" fn mp4_read_mfhd(alloc: Global, bytes: &[u8], times: u64) -> u64 {
     read_times::<MfhdBox>(alloc, bytes, times).unwrap_or(u64::MAX)
 }
 
-/// The same, each as a box that is declared.
+/// Reads as `mp4_read_mfhd` does, with the declared box.
 #[unsafe(no_mangle)]
 pub extern "C" fn mp4_read_declared(alloc: Global, bytes: &[u8], times: u64) -> u64 {
     read_times::<Declared<Mfhe>>(alloc, bytes, times).unwrap_or(u64::MAX)
 }
 
-/// Reads a buffer of `mfhd` boxes of 16 bytes once and writes them `times` times, each time into a new vector. Returns
-/// the sum of the lengths and of the last bytes; `u64::MAX` after an error.
+/// Reads a buffer of `mfhd` boxes of 16 bytes once, and writes them `times` times, each time into a new vector. Returns
+/// the sum of the lengths and of the last bytes, or `u64::MAX` after an error.
 #[unsafe(no_mangle)]
 pub extern "C" fn mp4_write_mfhd(alloc: Global, bytes: &[u8], times: u64) -> u64 {
     write_times::<MfhdBox>(alloc, bytes, times).unwrap_or(u64::MAX)
 }
 
-/// The same, each as a box that is declared, under another name.
+/// Writes as `mp4_write_mfhd` does, with the declared box and its name.
 #[unsafe(no_mangle)]
 pub extern "C" fn mp4_write_declared(alloc: Global, bytes: &[u8], times: u64) -> u64 {
     write_times::<Declared<Mfhe>>(alloc, bytes, times).unwrap_or(u64::MAX)

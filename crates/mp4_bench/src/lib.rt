@@ -1,4 +1,4 @@
-//! The codec for a program that measures its speed. A stream is read, or written, a number of times.
+//! For `bench/`, which measures the speed of the codec: calls that read or write a stream a number of times.
 #![tactic(auto)]
 
 ghost use Rattle.std.specs.Prelude.{◌≡◌, ◌-◌, ◌^◌, ◌⊎◌, List, Ok, take, IfOk};
@@ -18,7 +18,7 @@ use mp4_stream::{
 use std::alloc::Global;
 use std::mem::size_of;
 
-/// The sum of the codes and the sizes of the boxes, modulo 2^64.
+/// Returns the sum of the codes and the sizes of `boxes`, modulo 2^64.
 fn checksum<B: Mp4Box>(boxes: &[B]) -> u64 {
     let mut sum: u64 = 0;
     for b in boxes {
@@ -28,6 +28,7 @@ fn checksum<B: Mp4Box>(boxes: &[B]) -> u64 {
     sum
 }
 
+/// Reads the boxes in `bytes` `times` times, each time into a new list. Returns the sum of their checksums.
 fn read_times<B: StreamBox>(alloc: Global, bytes: &[u8], times: u64) -> Result<u64> {
     let mut sum: u64 = 0;
     for _ in 0..times {
@@ -37,7 +38,8 @@ fn read_times<B: StreamBox>(alloc: Global, bytes: &[u8], times: u64) -> Result<u
     Ok(sum)
 }
 
-/// The same, one box at a time into one place.
+/// Reads the boxes in `bytes` `times` times, one box at a time into the same vector. Returns the sum of their
+/// checksums.
 fn read_each_times<B: StreamBox>(alloc: Global, bytes: &[u8], times: u64) -> Result<u64> {
     let mut place = Vec::new(alloc);
     let mut sum: u64 = 0;
@@ -53,6 +55,8 @@ fn read_each_times<B: StreamBox>(alloc: Global, bytes: &[u8], times: u64) -> Res
     Ok(sum)
 }
 
+/// Reads the boxes in `bytes` once, and writes them `times` times. Returns the sum of the lengths and of the last
+/// bytes.
 fn write_times<B: StreamBox>(alloc: Global, bytes: &[u8], times: u64) -> Result<u64> {
     let boxes = read_boxes_as::<B>(alloc, &mut ByteCursor::new(bytes))?;
     let mut sum: u64 = 0;
@@ -66,8 +70,8 @@ fn write_times<B: StreamBox>(alloc: Global, bytes: &[u8], times: u64) -> Result<
     Ok(sum)
 }
 
-/// Reads a stream, and fills the front of `out` with the bytes that its boxes are written in. Returns their number.
-/// Out of memory also if `out` has no room for them.
+/// Reads the stream `bytes`, and fills the front of `out` with the bytes to which its boxes are written. Returns their
+/// number. The error is out of memory also if `out` is too short.
 fn rewrite<B: StreamBox>(alloc: Global, bytes: &[u8], out: &mut [u8]) -> Result<u64>
     ensures { IfOk result
         (λ n. (vs : List B) × ((boxes B.known B.named_reading bytes.now 0).outcome ≡ Ok vs)
@@ -83,53 +87,53 @@ fn rewrite<B: StreamBox>(alloc: Global, bytes: &[u8], out: &mut [u8]) -> Result<
     Ok(n)
 }
 
-/// Reads a stream `times` times, each time into new boxes, and returns the sum of their checksums; `u64::MAX` after an
-/// error.
+/// Reads the stream `bytes` `times` times, each time into new boxes. Returns the sum of their checksums, or `u64::MAX`
+/// after an error.
 #[unsafe(no_mangle)]
 pub extern "C" fn mp4_read(alloc: Global, bytes: &[u8], times: u64) -> u64 {
     read_times::<AnyBox>(alloc, bytes, times).unwrap_or(u64::MAX)
 }
 
-/// The same, with boxes of other types kept.
+/// Reads as `mp4_read` does, and also keeps boxes of other types.
 #[unsafe(no_mangle)]
 pub extern "C" fn mp4_read_kept(alloc: Global, bytes: &[u8], times: u64) -> u64 {
     read_times::<KeptBox>(alloc, bytes, times).unwrap_or(u64::MAX)
 }
 
-/// Reads a stream `times` times, one box at a time into one place, and returns the sum of the checksums of the boxes;
-/// `u64::MAX` after an error.
+/// Reads the stream `bytes` `times` times, one box at a time into the same vector. Returns the sum of the checksums of
+/// the boxes, or `u64::MAX` after an error.
 #[unsafe(no_mangle)]
 pub extern "C" fn mp4_read_each(alloc: Global, bytes: &[u8], times: u64) -> u64 {
     read_each_times::<AnyBox>(alloc, bytes, times).unwrap_or(u64::MAX)
 }
 
-/// The same, with boxes of other types kept.
+/// Reads as `mp4_read_each` does, and also keeps boxes of other types.
 #[unsafe(no_mangle)]
 pub extern "C" fn mp4_read_each_kept(alloc: Global, bytes: &[u8], times: u64) -> u64 {
     read_each_times::<KeptBox>(alloc, bytes, times).unwrap_or(u64::MAX)
 }
 
-/// As `mp4_read`, with lists that have boxes of fragments alone.
+/// Reads as `mp4_read` does, but keeps only boxes of fragments.
 #[unsafe(no_mangle)]
 pub extern "C" fn mp4_read_fragments(alloc: Global, bytes: &[u8], times: u64) -> u64 {
     read_times::<FragmentBox>(alloc, bytes, times).unwrap_or(u64::MAX)
 }
 
-/// Reads a stream once and writes its boxes `times` times, each time into a new vector. Returns the sum of the lengths
-/// and of the last bytes; `u64::MAX` after an error.
+/// Reads the stream `bytes` once, and writes its boxes `times` times, each time into a new vector. Returns the sum of
+/// the lengths and of the last bytes, or `u64::MAX` after an error.
 #[unsafe(no_mangle)]
 pub extern "C" fn mp4_write(alloc: Global, bytes: &[u8], times: u64) -> u64 {
     write_times::<AnyBox>(alloc, bytes, times).unwrap_or(u64::MAX)
 }
 
-/// The same, with boxes of other types kept.
+/// Writes as `mp4_write` does, and also keeps boxes of other types.
 #[unsafe(no_mangle)]
 pub extern "C" fn mp4_write_kept(alloc: Global, bytes: &[u8], times: u64) -> u64 {
     write_times::<KeptBox>(alloc, bytes, times).unwrap_or(u64::MAX)
 }
 
-/// Reads a stream, and fills the front of `out` with the bytes that its boxes are written in. Returns their number,
-/// which is 0 if all boxes were skipped; `u64::MAX` after an error, or if `out` has no room for them.
+/// Reads the stream `bytes`, and fills the front of `out` with the bytes to which its boxes are written. Returns their
+/// number, which is 0 if all boxes were skipped. Returns `u64::MAX` after an error, or if `out` is too short.
 #[unsafe(no_mangle)]
 pub extern "C" fn mp4_rewrite(alloc: Global, bytes: &[u8], out: &mut [u8]) -> u64
     ensures { (result ≡ 2 ^ 64 - 1)
@@ -139,7 +143,7 @@ pub extern "C" fn mp4_rewrite(alloc: Global, bytes: &[u8], out: &mut [u8]) -> u6
     rewrite::<AnyBox>(alloc, bytes, out).unwrap_or(u64::MAX)
 }
 
-/// The same, with boxes of other types kept.
+/// Reads and writes as `mp4_rewrite` does, and also keeps boxes of other types.
 #[unsafe(no_mangle)]
 pub extern "C" fn mp4_rewrite_kept(alloc: Global, bytes: &[u8], out: &mut [u8]) -> u64
     ensures { (result ≡ 2 ^ 64 - 1)
@@ -149,33 +153,33 @@ pub extern "C" fn mp4_rewrite_kept(alloc: Global, bytes: &[u8], out: &mut [u8]) 
     rewrite::<KeptBox>(alloc, bytes, out).unwrap_or(u64::MAX)
 }
 
-/// Reads the tables of a track once, and goes over its samples `times` times, one after the other; each time the tables
-/// are checked to agree. Returns the sum of all that is said of each; `u64::MAX` after an error.
+/// Reads the tables of a track once. Then `times` times checks that the tables agree, and visits all samples in order.
+/// Returns the sum of all fields of all samples, or `u64::MAX` after an error.
 #[unsafe(no_mangle)]
 pub extern "C" fn mp4_samples_in_order(alloc: Global, bytes: &[u8], times: u64) -> u64 {
     samples::samples_in_order(alloc, bytes, times).unwrap_or(u64::MAX)
 }
 
-/// Reads the tables of a track once, makes an index of its samples once, and looks one of ten up, `times` times.
-/// Returns the sum of all that is said of each; `u64::MAX` after an error.
+/// Reads the tables of a track and makes an index of its samples, both once. Then looks up one of every ten samples,
+/// `times` times. Returns the sum of all fields of these samples, or `u64::MAX` after an error.
 #[unsafe(no_mangle)]
 pub extern "C" fn mp4_samples_by_number(alloc: Global, bytes: &[u8], times: u64) -> u64 {
     samples::samples_by_number(alloc, bytes, times).unwrap_or(u64::MAX)
 }
 
-/// The number of bytes of a member of a list of boxes.
+/// Returns the number of bytes that a member of a list of boxes takes in memory.
 #[unsafe(no_mangle)]
 pub extern "C" fn mp4_member_size() -> u64 {
     size_of::<AnyBox>() as u64
 }
 
-/// The same, with boxes of other types kept.
+/// Returns the number of bytes that a member of a list takes in memory if the list keeps boxes of other types.
 #[unsafe(no_mangle)]
 pub extern "C" fn mp4_kept_member_size() -> u64 {
     size_of::<KeptBox>() as u64
 }
 
-/// The same, of a list of boxes of fragments alone.
+/// Returns the number of bytes that a member of a list takes in memory if the list keeps only boxes of fragments.
 #[unsafe(no_mangle)]
 pub extern "C" fn mp4_fragment_member_size() -> u64 {
     size_of::<FragmentBox>() as u64

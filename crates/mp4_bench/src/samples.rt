@@ -1,4 +1,4 @@
-//! The samples of a track, gone over and looked up a number of times.
+//! The samples of a track, which are visited in order or looked up, a number of times.
 
 ghost use Rattle.std.specs.Prelude.{◌<◌};
 
@@ -8,10 +8,11 @@ use mp4_stream::{
 };
 use std::alloc::Global;
 
-/// How far apart two samples are that are looked up one after the other: a prime, so that no sample comes twice.
+/// The distance between two samples that are looked up one after the other. It is a prime, so that no sample is looked
+/// up twice.
 const STRIDE: u64 = 611_953;
 
-/// One of so many samples is looked up in a pass.
+/// The number of samples for each sample that a pass looks up.
 const ONE_OF: u32 = 10;
 
 /// The first box of a type in a list.
@@ -61,7 +62,7 @@ fn tables_of(boxes: &[AnyBox]) -> Option<Tables<'_>> {
     })
 }
 
-/// All that is said of a sample, as one number.
+/// Returns the sum of all fields of `sample`, modulo 2^64.
 fn sum_of(sample: &Sample) -> u64 {
     sample
         .offset
@@ -74,7 +75,8 @@ fn sum_of(sample: &Sample) -> u64 {
         .wrapping_add(u64::from(sample.chunk))
 }
 
-/// The sum over all samples, one after the other, so many times. Each time the tables are checked to agree.
+/// Visits all samples in order `times` times, and each time checks that the tables agree. Returns the sum of all their
+/// fields.
 fn sum_in_order(tables: Tables<'_>, times: u64) -> Option<u64> {
     let mut sum: u64 = 0;
     for _ in 0..times {
@@ -86,14 +88,14 @@ fn sum_in_order(tables: Tables<'_>, times: u64) -> Option<u64> {
     Some(sum)
 }
 
-/// The number of the sample that is looked up after this one.
+/// Returns the number of the sample that is looked up after `number`.
 fn next_number(number: u32, count: u32) -> u32
     requires { 0 < count }
 {
     ((u64::from(number) + STRIDE) % u64::from(count)) as u32
 }
 
-/// The sum over one of `ONE_OF` samples, each looked up in an index, so many times.
+/// Looks up one of every `ONE_OF` samples in an index, `times` times. Returns the sum of all their fields.
 fn sum_by_number(alloc: Global, tables: Tables<'_>, times: u64) -> Option<u64> {
     let index = SampleTables::new(tables).ok()?.index(alloc).ok()?;
     let count = index.len();
@@ -108,13 +110,14 @@ fn sum_by_number(alloc: Global, tables: Tables<'_>, times: u64) -> Option<u64> {
     Some(sum)
 }
 
-/// Reads the boxes of an `stbl` and goes over its samples `times` times.
+/// Reads the boxes of an `stbl` and visits its samples in order `times` times. Returns the sum of all their fields.
 pub fn samples_in_order(alloc: Global, bytes: &[u8], times: u64) -> Option<u64> {
     let boxes = read_boxes(alloc, &mut ByteCursor::new(bytes)).ok()?;
     sum_in_order(tables_of(&boxes)?, times)
 }
 
-/// Reads the boxes of an `stbl`, makes an index of its samples and looks one of `ONE_OF` up, `times` times.
+/// Reads the boxes of an `stbl`, makes an index of its samples and looks up one of every `ONE_OF`, `times` times.
+/// Returns the sum of all their fields.
 pub fn samples_by_number(alloc: Global, bytes: &[u8], times: u64) -> Option<u64> {
     let boxes = read_boxes(alloc, &mut ByteCursor::new(bytes)).ok()?;
     sum_by_number(alloc, tables_of(&boxes)?, times)

@@ -10,7 +10,7 @@ use Rattle.mp4_boxes.specs.Runs.{Runs}
 
 module _ (Makes : List ℕ → List ℕ → Type 0) (Refusal : List ℕ → Error → Type 0) (input old mid new : Option (List ℕ))
     (n : ℕ) where
-  -- a failed flush is a failed write, after all was written
+  -- a failed flush is a failed write after everything was written
   pub flush_failed : Runs Makes Refusal input old mid (Ok n) → Keeps mid new
       → Runs Makes Refusal input old new (Err faults.Write)
   flush_failed (out, made, written, long) keeps =

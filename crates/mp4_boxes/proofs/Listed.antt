@@ -1,4 +1,4 @@
--- The boxes of an input, listed one after the other.
+-- The boxes of an input are listed in order.
 use Rattle.std.proofs.Common.{◌≡◌, ℕ, ◌+◌, ◌-◌, ◌^◌, ◌<◌, ◌≤◌, Bool, true, false, cond, List, [], ◌∷◌, ◌++◌, length}
 use Rattle.std.proofs.Common.{Result, Ok, Err, refl, sym, ap, subst, ◌∙◌, arith, append_assoc, append-nil}
 use Rattle.std.proofs.Common.{length-append}
@@ -21,7 +21,7 @@ use Rattle.mp4_boxes.specs.Lines.{lines, line_of}
 use Rattle.mp4_boxes.specs.Parts.{HasPart, known_then, LinesTo, LinesBefore}
 use Rattle.mp4_boxes.specs.Runs.{Lists, ListRefusal}
 
--- an error of a fault is one with which `list` may refuse
+-- `list` may refuse with the error of a fault
 pub refusal : (B : List ℕ) (e : Error) (k : Fault) → IsFault e k → (spans B 0).outcome ≡ Err k → ListRefusal B e
 refusal B errors.IoError k is t = t ∙ ap (λ (k : Fault). Err k) is
 refusal B (errors.InvalidData _) k is t = t ∙ ap (λ (k : Fault). Err k) is
@@ -33,11 +33,11 @@ faulted : (B : List ℕ) (e : Error) (r : Result Frame Fault) → FaultAs (Err e
 faulted B e (Ok h) fault t = absurd fault
 faulted B e (Err k) fault t = refusal B e k fault (t k refl)
 
--- the greatest length that a buffer could have, in which no box is cut
+-- the greatest length of a buffer, in which no box is cut
 abbrev pub most : ℕ
 most = 2 ^ 64 - 1
 
--- what a longer buffer's frame is in one of len bytes
+-- the frame of a longer buffer, in a buffer of `len` bytes
 abbrev cut_at : ℕ → Result Frame Fault → Result Frame Fault
 cut_at len (Ok f) = cond (nat_lt len (end_in f)) (Err End) (Ok f)
 cut_at len (Err k) = Err k
@@ -94,7 +94,7 @@ module _ (B text : List ℕ) (o : ℕ) (there : LinesTo B text o) (inside : o < 
   head_faults : (k : Fault) → (head B o).outcome ≡ Err k → (spans B 0).outcome ≡ Err k
   head_faults k e = frame_faults k (ap (frame_of (length B)) e)
 
-  -- a head that faults
+  -- a head with a fault
   pub head_refused : (e : Error) → FaultAs (Err e) (head B o).outcome → ListRefusal B e
   head_refused e fault = faulted B e (head B o).outcome fault head_faults
 
@@ -105,7 +105,7 @@ module _ (B text : List ℕ) (o : ℕ) (there : LinesTo B text o) (inside : o < 
     frame_here : frame B o ≡ frame_of_head (length B) h
     frame_here = ap (frame_of (length B)) shown
 
-    -- a box whose size faults
+    -- a box whose size is a fault
     pub size_refused : (e : Error) → (h.size ≡ 0 → ⊥) → FaultAs (Err e) (frame_of_head most h) → ListRefusal B e
     size_refused e sized fault =
         let at = λ (k : Fault) (is : frame_of_head most h ≡ Err k).
@@ -138,7 +138,7 @@ module _ (B text : List ℕ) (o : ℕ) (there : LinesTo B text o) (inside : o < 
         frame_faults End (cut ∙ over) in
         (known, text_is, fits, past)
 
-    -- a box that goes to the end of the input
+    -- a box that extends to the end of the input
     pub last_box : h.size ≡ 0 → LinesBefore B text o (name_of h.code)
     unfolding frame_of_head
     last_box sizeless =

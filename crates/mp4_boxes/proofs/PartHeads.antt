@@ -1,8 +1,8 @@
--- What a part of an input shows of the header of a box in it.
+-- The header of a box, as far as a part of the input shows it.
 use Rattle.std.proofs.Common.{◌≡◌, ℕ, ◌+◌, ◌-◌, ◌<◌, ◌≤◌, Bool, true, false, cond, List, ◌++◌, length, take, drop}
 use Rattle.std.proofs.Common.{Result, Ok, Err, refl, sym, ap, subst, ◌∙◌, arith, inl, inr, length-append}
 use Rattle.std.specs.Prelude.{nat_lt, nat_le, ◌==◌, ◌||◌}
-use Rattle.std.proofs.lemmas.Bool.{lt-ltb, le-ltb, ltb-false, cases_lt}
+use Rattle.std.proofs.lemmas.Bool.{both_ways, lt-ltb, le-ltb, ltb-false, cases_lt}
 use Rattle.std.proofs.lemmas.List.{take-append-drop, length-take-le, length-drop}
 use Rattle.mp4_frame.specs.Bytes.{number}
 use Rattle.mp4_frame.specs.Heads.{head}
@@ -15,7 +15,7 @@ use Rattle.mp4_frame.specs.declared.error.Error.{Error}
 use Rattle.mp4_frame.specs.declared.error.Error.TheVariants as errors
 use Rattle.mp4_boxes.specs.Parts.{HasPart}
 
--- what a header says, in a part that is at the offset `from`
+-- the head of a box, in a part that begins at the offset `from`
 abbrev pub moved : ℕ → Result Frame Fault → Result Frame Fault
 moved from (Ok h) = Ok (record h { begin = from + h.begin; start = from + h.start })
 moved from (Err k) = Err k
@@ -46,15 +46,12 @@ moved_shape false true false true s c g from k = let e : from + (k + 8) ≡ from
 moved_shape false true false false s c g from k = refl
 moved_shape false false b2 fine s c g from k = refl
 
--- the form of 16 bytes alone shows its size
+-- only a header of 16 bytes has its size after the code
 same_rest : (one b2 d2 : Bool) (s c g f o : ℕ) → (one ≡ true → (b2 ≡ d2) × (b2 ≡ false → g ≡ f))
     → (shape false one b2 (is_fine g) s c g o).outcome ≡ (shape false one d2 (is_fine f) s c f o).outcome
 same_rest true true d2 s c g f o h = rw (sym (h refl).0) refl
 same_rest true false d2 s c g f o h = rw (sym (h refl).0, (h refl).1 refl) refl
 same_rest false b2 d2 s c g f o h = refl
-
-both : {b : Bool} → b ≡ false → b ≡ true → ⊥
-both f t = let e : false ≡ true = sym f ∙ t in absurd cc
 
 not_cut : (b1 one b2 fine : Bool) (s c g o : ℕ) → ((shape b1 one b2 fine s c g o).outcome ≡ Err End → ⊥)
     → (b1 ≡ false) × (one ≡ true → b2 ≡ false)
@@ -96,7 +93,7 @@ few_left W k cut =
           cut_here (nat_lt (length W) (k + 8)) (number W k 4 == 1) (nat_lt (length W) (k + 8 + 8))
           (is_fine (number W (k + 8) 8)) (number W k 4) (number W (k + 4) 4) (number W (k + 8) 8) k
           (sym shown ∙ cut) (le-ltb _ _ (omega (arith, le))) in
-          absurd (both fits cuts))
+          absurd (both_ways _ fits cuts))
     ]
 
 pub end_by : (e : Error) (r : Result Frame Fault) → e ≡ errors.IoError → FaultAs (Err e) r → r ≡ Err End
@@ -118,7 +115,8 @@ module _ (B W rest : List ℕ) (from : ℕ) (has : HasPart B from W rest) where
       ∙ ap (λ (i : ℕ). number (take from B ++ (W ++ rest)) (i + k) w) (sym front)
       ∙ number-among (take from B) W rest k w room
 
-  -- the part shows the first 8 bytes of the header at k, and the other 8 if there are such, or neither has them
+  -- the part shows the first 8 bytes of the header at `k`, and the other 8 if the header has them; or neither part nor
+  -- input has them
   same_head : (k : ℕ) → k + 8 ≤ length W
       → ((number W k 4 == 1) ≡ true → (nat_lt (length W) (k + 8 + 8) ≡ nat_lt (length B) (from + k + 8 + 8))
       × (nat_lt (length W) (k + 8 + 8) ≡ false → number W (k + 8) 8 ≡ number B (from + k + 8) 8))
@@ -176,7 +174,7 @@ module _ (B W rest : List ℕ) (from : ℕ) (has : HasPart B from W rest) where
             (is_fine (number W (k + 8) 8)) (number W k 4) (number W (k + 4) 4) (number W (k + 8) 8) k
             (sym shown ∙ cut) (le-ltb _ _ le) in
             let d2 : nat_lt (length B) (from + k + 8 + 8) ≡ true = lt-ltb _ _ (omega (arith, few_left W k cut, all)) in
-            same_head k le (λ one. (b2 ∙ sym d2, λ e. absurd (both e b2))) ∙ ap (moved from) cut)
+            same_head k le (λ one. (b2 ∙ sym d2, λ e. absurd (both_ways _ e b2))) ∙ ap (moved from) cut)
       ]
 
   module _ (at : ℕ) (order : from ≤ at) where

@@ -1,4 +1,4 @@
--- An error with which the library refuses a stream is one with which the program may.
+-- The program may refuse a stream with each error with which the library refuses it.
 use Rattle.std.proofs.Common.{ℕ, List, inl, inr}
 use Rattle.mp4_frame.specs.declared.error.Error.{Error}
 use Rattle.mp4_frame.specs.declared.error.Error.TheVariants as errors

@@ -24,7 +24,7 @@ err_then : (known : List BoxSpan) (r : Spans) (k : Fault) → known_then known r
 err_then known (Ok more) k e = absurd cc
 err_then known (Err j) k e = e
 
--- the fault of all boxes is that of the boxes starting at an offset, if those before it have none
+-- the fault of all boxes is the fault of the boxes after an offset, if the boxes before it have none
 refused_on : (B text : List ℕ) (o : ℕ) (k : Fault) → (k ≡ End → ⊥) → LinesTo B text o
     → (spans B 0).outcome ≡ refused k → (spans B o).outcome ≡ refused k
 refused_on B text o k other there e =
@@ -43,7 +43,7 @@ Listing = Result (Vec ℕ Global) RunFault
 abbrev refusing : Error → Listing
 refusing e = Err (faults.Boxes e)
 
--- a failed read and out of memory are no fault of the input
+-- a failed read and out of memory are not faults of the input
 pub no_fault : (old new : Option (List ℕ)) (r : Listing) → IfErr r IsReadOrMemory → Stops old new r
 no_fault old new (Ok v) h = tt
 no_fault old new (Err faults.Read) h = tt

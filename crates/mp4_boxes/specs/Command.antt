@@ -8,6 +8,6 @@ abbrev pub word_of : Command → List ℕ
 word_of commands.Normal = codes "normal"
 word_of commands.List = codes "list"
 
--- the words after the program's name are the word of the command, alone
+-- the words after the program's name are only the word of the command
 abbrev pub Names : List (List ℕ) → Command → Type 0
 Names words command = words ≡ word_of command ∷ []

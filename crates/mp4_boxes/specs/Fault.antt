@@ -1,4 +1,4 @@
--- The fault of a failed end, and what the program says of a fault.
+-- The fault of a failed end, and the text of a fault.
 use Rattle.std.specs.Prelude.{ℕ, List, codes}
 use Rattle.mp4_frame.specs.declared.error.Error.TheVariants as errors
 use Rattle.mp4_boxes.specs.declared.fault.RunFault.{RunFault}
@@ -12,7 +12,7 @@ fault_of failures.Read = faults.Read
 fault_of failures.Write = faults.Write
 fault_of failures.Memory = faults.Boxes errors.OutOfMemory
 
--- the text of a fault: each kind has its own
+-- the text of each kind of fault
 abbrev pub fault_text : RunFault → List ℕ
 fault_text faults.Read = codes "read failed"
 fault_text faults.Write = codes "write failed"

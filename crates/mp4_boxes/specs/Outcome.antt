@@ -1,4 +1,4 @@
--- The exit status of the program, and what it writes to standard error.
+-- The exit status of the program, and the text that it writes to standard error.
 use Rattle.std.specs.Prelude.{ℕ, List, [], ◌∷◌, ◌++◌, codes}
 use Rattle.mp4_boxes.specs.declared.outcome.Outcome.{Outcome}
 use Rattle.mp4_boxes.specs.declared.outcome.Outcome.TheVariants as outcomes
@@ -14,7 +14,7 @@ status_of (outcomes.Failed _) = 1
 abbrev pub line : List ℕ → List ℕ
 line text = text ++ 10 ∷ []
 
--- what goes to standard error
+-- the text that is written to standard error
 abbrev pub message_of : Outcome → List ℕ
 message_of outcomes.Done = []
 message_of outcomes.Misused = line (codes "usage: mp4boxes normal|list")

@@ -1,4 +1,4 @@
-//! The commands, and how the arguments name them.
+//! The commands, and the arguments that name them.
 
 ghost use Rattle.std.specs.Prelude.{◌≡◌, ◌≢◌, ◌↔◌, Some, map, string_bytes};
 ghost use Rattle.std.specs.Vec.Iter.{into_iter_items};
@@ -12,16 +12,16 @@ use std::env::Args;
 use std::io;
 use std::io::ErrorKind;
 
-/// What the program can do.
+/// A command of the program.
 #[derive(Clone, Copy, Debug, PartialEq, Eq)]
 pub enum Command {
-    /// The boxes of the input, written in their normal form.
+    /// Writes the boxes of the input in their normal form.
     Normal,
-    /// The places and names of the boxes of the input, a line for each.
+    /// Writes a line with place and name for each box of the input.
     List,
 }
 
-/// The command that the words after the program's name are, or None if they are no command.
+/// Returns the command that `words`, the words after the program's name, stand for, or `None` if they are no command.
 pub fn parse_command(mut words: Args) -> Option<Command>
     ensures { (command : Command) → (result ≡ Some command) ↔ Names (map string_bytes (into_iter_items words)) command }
 {
@@ -36,7 +36,7 @@ pub fn parse_command(mut words: Args) -> Option<Command>
     }
 }
 
-/// The fault of a run whose arguments could not be read: out of memory, or a failed read.
+/// Returns the fault of a run whose arguments could not be read: out of memory, or a failed read.
 pub fn argument_fault(error: &io::Error) -> RunFault
     ensures memory { error_kind error.now ≡ ErrorKind.OutOfMemory → result ≡ RunFault.Boxes OutOfMemory }
     ensures read { error_kind error.now ≢ ErrorKind.OutOfMemory → result ≡ RunFault.Read }

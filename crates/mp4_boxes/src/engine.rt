@@ -1,4 +1,4 @@
-//! Runs of commands: all input is read, then the output is made, and then all output is written.
+//! Runs of commands. All input is read, then the output is made, and then all output is written.
 
 ghost use Rattle.std.specs.Prelude.{◌≡◌, ◌||◌, is_err, IfErr};
 ghost use Rattle.std.specs.Io.KnownBytes.{Keeps};
@@ -11,7 +11,7 @@ use mp4_normal::normalize;
 use std::alloc::{Allocator, Global};
 use std::io::{Read, Write};
 
-/// Reads to the end of the input. A reader without an end is out of memory.
+/// Reads to the end of the input, and returns its bytes. A reader without an end is out of memory.
 pub fn read_all<R: Read, A: Allocator>(
     alloc: A,
     input: &mut Input<R>,
@@ -22,7 +22,7 @@ pub fn read_all<R: Read, A: Allocator>(
     Ok(mp4_io::read_all(alloc, input)?)
 }
 
-/// Writes all bytes, and returns their number.
+/// Writes all of `bytes`, and returns their number.
 pub fn write_all<W: Write>(output: &mut Output<W>, bytes: &[u8]) -> Result<u64, RunFault>
     ensures bytes { WritesAll (W.contents output.old.inner) (W.contents output.new.inner) result bytes.now }
     ensures failed { output.new.failed ≡ (output.old.failed || is_write result) }
@@ -31,7 +31,7 @@ pub fn write_all<W: Write>(output: &mut Output<W>, bytes: &[u8]) -> Result<u64, 
     Ok(bytes.len() as u64)
 }
 
-/// Flushes what was written. A failed flush is a failed write.
+/// Flushes the output. A failed flush is a failed write.
 pub fn finish<W: Write>(output: &mut Output<W>) -> Result<(), RunFault>
     ensures error { IfErr result (λ fault. fault ≡ RunFault.Write) }
     ensures bytes { Keeps (W.contents output.old.inner) (W.contents output.new.inner) }
@@ -40,7 +40,7 @@ pub fn finish<W: Write>(output: &mut Output<W>) -> Result<(), RunFault>
     Ok(mp4_io::flush(output)?)
 }
 
-/// The boxes of the bytes in their normal form, in the vector that the bytes are in.
+/// Returns the boxes of `bytes` in their normal form, in the same vector.
 fn normal(alloc: Global, mut bytes: Vec<u8>) -> mp4_stream::Result<Vec<u8>>
     ensures { Rewrites Normalizes NormalRefusal (λ v. v.items) bytes.items result }
 {
@@ -48,11 +48,11 @@ fn normal(alloc: Global, mut bytes: Vec<u8>) -> mp4_stream::Result<Vec<u8>>
     Ok(bytes)
 }
 
-/// Reads all boxes of the input, and writes them to the output in their normal form: boxes of types that the codec does
-/// not read are written as they were. Returns the number of bytes that were written.
+/// Reads all boxes of the input, and writes them to the output in their normal form. Boxes of types that the codec does
+/// not read are written unchanged. Returns the number of bytes that were written.
 ///
 /// All output is made before any of it is written. So after a failed write the output has a beginning of it, and after
-/// any other fault it is as it was. A reader without an end is out of memory.
+/// any other fault nothing is written. A reader without an end is out of memory.
 pub fn run_normal<R: Read, W: Write>(
     alloc: Global,
     input: &mut Input<R>,

@@ -1,4 +1,4 @@
-//! Why a run ends early.
+//! The fault that ends a run early.
 
 ghost use Rattle.std.specs.Prelude.{◌≡◌, Some};
 ghost use Rattle.mp4_boxes.specs.declared.fault.RunFault.TheVariants.{Boxes};
@@ -8,14 +8,14 @@ use mp4_io::Failure;
 use mp4_stream::Error;
 use std::fmt;
 
-/// Why a run ends early.
+/// The fault that ends a run early.
 #[derive(Debug, Drop)]
 pub enum RunFault {
     /// A call of the reader failed.
     Read,
     /// A call of the writer failed, or took no byte of a piece that is not empty.
     Write,
-    /// The boxes could not be read or written, or there was no memory.
+    /// The boxes could not be read or written, or memory was refused.
     Boxes(Error),
 }
 

@@ -9,11 +9,11 @@ use itoa::write_digits;
 use mp4_frame::BoxSpan;
 use mp4_stream::{FourCC, Result};
 
-/// The most bytes that a line has: two numbers of at most 20 digits, a name of at most 10 characters, two spaces and a
-/// line feed.
+/// The largest number of bytes of a line: two numbers of at most 20 digits, a name of at most 10 characters, two spaces
+/// and a line feed.
 const LONGEST: usize = 53;
 
-/// Puts bytes before those from `end` on, and returns where they begin.
+/// Puts `bytes` before the offset `end` of `line`, and returns the offset at which they begin.
 fn put_before(line: &mut [u8], end: usize, bytes: &[u8]) -> usize
     requires room { length bytes.now ≤ end }
     requires within { end ≤ length line.old }
@@ -25,14 +25,14 @@ fn put_before(line: &mut [u8], end: usize, bytes: &[u8]) -> usize
     start
 }
 
-/// Whether all four characters of a code are printable.
+/// Returns whether all four characters of `code` are printable.
 fn is_printable(code: &[u8; 4]) -> bool
     ensures { result ≡ list_all is_printable code.now }
 {
     code.iter().all(|byte| matches!(byte, 0x20..=0x7E))
 }
 
-/// Puts the text of a code before the bytes from `end` on, and returns where it begins.
+/// Puts the text of `code` before the offset `end` of `line`, and returns the offset at which it begins.
 fn put_code(line: &mut [u8], end: usize, code: [u8; 4]) -> usize
     requires room { 10 ≤ end }
     requires within { end ≤ length line.old }
@@ -49,7 +49,7 @@ fn put_code(line: &mut [u8], end: usize, code: [u8; 4]) -> usize
     put_before(line, at, b"0x")
 }
 
-/// Puts the line of a box at the end of `line`, and returns where it begins.
+/// Puts the line of the box `span` at the end of `line`, and returns the offset at which it begins.
 fn put_line(line: &mut [u8; LONGEST], span: BoxSpan) -> usize
     ensures within { result ≤ LONGEST }
     ensures text { drop result line.new ≡ line_of span }
@@ -62,7 +62,7 @@ fn put_line(line: &mut [u8; LONGEST], span: BoxSpan) -> usize
     write_digits(span.position, line, at)
 }
 
-/// Appends the line of a box.
+/// Appends the line of the box `span` to `lines`.
 pub fn push_line(lines: &mut Vec<u8>, span: BoxSpan) -> Result<()>
     ensures ok { OnOk result (lines.new.items ≡ lines.old.items ++ line_of span) }
     ensures error { IfErr result (λ e. e ≡ OutOfMemory) }

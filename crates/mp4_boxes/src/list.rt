@@ -1,4 +1,4 @@
-//! The command `list`: where the boxes of the input are.
+//! The command `list`, which shows where the boxes of the input are.
 
 ghost use Rattle.std.specs.Prelude.{◌≡◌, ◌≤◌, ◌<◌, ◌+◌, ◌^◌, ◌||◌, ℕ, List, Some, length, take, vec_len, IfOk, IfErr};
 ghost use Rattle.std.specs.Prelude.{IfSome};
@@ -20,22 +20,22 @@ use std::io::{Read, Write};
 /// The number of bytes of the parts in which the input is read.
 const PART: usize = 65536;
 
-/// The most bytes that an input may have: as many as a vector can hold.
+/// The largest number of bytes of an input, which is that of a vector.
 const LIMIT: u64 = (1 << 63) - 1;
 
-/// How far an input is read and listed.
+/// The progress of reading and listing an input.
 #[derive(Clone, Copy, Debug)]
 struct Place {
     /// The offset of the part in the input.
     from: u64,
-    /// How many bytes of the part are filled.
+    /// The number of bytes of the part that are filled.
     held: usize,
     /// The offset at which the next box begins.
     next: u64,
 }
 
-/// Reads once, to the bytes of `part` after those that `place` says are filled. Returns how many bytes are filled then:
-/// no more than before only at the end of the input. An input of more than `limit` bytes is out of memory.
+/// Reads once, into the bytes of `part` after the filled bytes of `place`. Returns the new number of filled bytes,
+/// which is larger than before except at the end of the input. An input of more than `limit` bytes is out of memory.
 fn pull_part<R: Read>(
     input: &mut Input<R>,
     part: &mut Vec<u8>,
@@ -69,7 +69,8 @@ fn pull_part<R: Read>(
     Ok(filled)
 }
 
-/// Moves the bytes of the part that are not done with to its front. The next box begins at `next`.
+/// Moves those filled bytes of `part` that are at or after the input's offset `next` to its front. The next box begins
+/// at `next`.
 fn keep_rest(part: &mut Vec<u8>, filled: usize, from: u64, next: u64) -> Place
     requires within { filled ≤ vec_len part.old }
     requires room { from + filled < 2 ^ 64 }
@@ -91,8 +92,8 @@ fn keep_rest(part: &mut Vec<u8>, filled: usize, from: u64, next: u64) -> Place
     }
 }
 
-/// Returns the lines where all input is read and the next box would begin at `next`. That is end of input if a box or a
-/// header is cut.
+/// Returns `lines` if all input is read and the next box would begin at `next`, its end. Fails with end of input if a
+/// box or a header is cut.
 fn all_lines(lines: Vec<u8>, read: u64, next: u64) -> mp4_stream::Result<Vec<u8>>
     ensures lines { (B : List ℕ) → read ≡ length B → LinesIn B read lines.items next
         → Rewrites Lists ListRefusal (λ v. v.items) B result }
@@ -105,8 +106,8 @@ fn all_lines(lines: Vec<u8>, read: u64, next: u64) -> mp4_stream::Result<Vec<u8>
     }
 }
 
-/// Reads to the end of the input, and returns the lines with that of the last box, which begins at `position` and goes
-/// to the end. `read` bytes are read before, and an input of more than `limit` bytes is out of memory.
+/// Reads to the end of the input, and returns the lines with the line of the last box, which begins at `position` and
+/// extends to the end. `read` bytes were read before. An input of more than `limit` bytes is out of memory.
 fn with_last<R: Read>(
     input: &mut Input<R>,
     buffer: &mut [u8],
@@ -138,7 +139,7 @@ fn with_last<R: Read>(
     Ok(lines)
 }
 
-/// A part of zeros.
+/// Returns a part of zeros.
 fn new_part(alloc: Global) -> mp4_stream::Result<Vec<u8>>
     ensures len { IfOk result (λ part. vec_len part ≡ PART) }
     ensures error { IfErr result (λ e. e ≡ OutOfMemory) }
@@ -147,7 +148,8 @@ fn new_part(alloc: Global) -> mp4_stream::Result<Vec<u8>>
 }
 
 /// Returns the lines of all boxes of the input, or its first fault, at which reading stops. The input is read in parts,
-/// of which only the header that is not whole is kept. An input of more than `limit` bytes is out of memory.
+/// and only a header that is not whole is kept from one part to the next. An input of more than `limit` bytes is out of
+/// memory.
 pub fn list_input<R: Read>(
     alloc: Global,
     input: &mut Input<R>,
@@ -186,8 +188,8 @@ pub fn list_input<R: Read>(
 /// Lists all boxes of the input: for each it writes a line of its position, its length and its name. Returns the number
 /// of bytes that were written. The contents of boxes are not kept.
 ///
-/// All output is made before any of it is written, as in `run_normal`. Reading stops at the first fault: what comes
-/// after it is left in the reader. An input of 2^63 bytes or more is out of memory.
+/// All output is made before any of it is written, as in `run_normal`. Reading stops at the first fault, and the bytes
+/// after it are left in the reader. An input of 2^63 bytes or more is out of memory.
 pub fn run_list<R: Read, W: Write>(
     alloc: Global,
     input: &mut Input<R>,

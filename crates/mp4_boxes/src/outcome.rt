@@ -1,4 +1,4 @@
-//! How a run of the program ends, and what it says of it.
+//! The end of a run of the program, with its status and its line.
 
 ghost use Rattle.std.specs.Prelude.{◌≡◌, IsOk, OnOk};
 ghost use Rattle.std.specs.Io.KnownBytes.{Appends};
@@ -8,7 +8,7 @@ use crate::fault::RunFault;
 use std::io;
 use std::io::Write;
 
-/// How a run of the program ends.
+/// The end of a run of the program.
 #[derive(Debug, Drop)]
 pub enum Outcome {
     /// The command succeeded.
@@ -20,7 +20,7 @@ pub enum Outcome {
 }
 
 impl Outcome {
-    /// The exit status: 0 if the command succeeded, 1 if it failed, 2 if the arguments are no command.
+    /// Returns the exit status: 0 if the command succeeded, 1 if it failed, 2 if the arguments are no command.
     pub fn status(&self) -> u8
         ensures { result ≡ status_of self.now }
     {
@@ -31,7 +31,7 @@ impl Outcome {
         }
     }
 
-    /// Writes the line for standard error, if there is one: none if the command succeeded.
+    /// Writes the line for standard error to `errors`, or nothing if the command succeeded.
     pub fn report<W: Write>(&self, errors: &mut W) -> io::Result<()>
         ensures message { OnOk result (Appends (W.contents errors.old) (W.contents errors.new) (message_of self.now)) }
         ensures done { self.now ≡ Outcome.Done → IsOk result }

@@ -8,16 +8,17 @@ ghost use Rattle.mp4_boxes.specs.Parts.{HasPart, HeadIn, IsFew, LinesTo, ListsTo
 use crate::line::push_line;
 use mp4_frame::{BoxType, Error, Frame, Result};
 
-/// What comes after the boxes that are listed.
+/// The box after those that are listed.
 #[derive(Clone, Copy, Debug)]
 pub enum Next {
-    /// The box at this offset, whose header is not read yet, or not whole; at the end of the input there is none.
+    /// The box at this offset, whose header is not read yet or not whole. At the end of the input there is none.
     Box(u64),
-    /// The last box, at this offset and of this name, which goes to the end of the input.
+    /// The last box, at this offset and with this name, which extends to the end of the input.
     Last(u64, BoxType),
 }
 
-/// What the header of the box at an offset of the input says, or None if the part ends before the header does.
+/// Returns the head of the box at the offset `at` of the input, or `None` if `part`, which is at the offset `from`,
+/// ends before the header does.
 fn head_in(part: &[u8], from: u64, at: u64) -> Result<Option<Frame>>
     requires room { from + length part.now < 2 ^ 64 }
     requires within { from ≤ at }
@@ -40,7 +41,7 @@ fn head_in(part: &[u8], from: u64, at: u64) -> Result<Option<Frame>>
     }
 }
 
-/// Appends the lines of the boxes from the offset `next` on whose headers are in the part, which is at the offset
+/// Appends the lines of the boxes starting at the offset `next` whose headers are in `part`, which is at the offset
 /// `from` of the input. The error is a fault of a header that is whole.
 pub fn list_part(lines: &mut Vec<u8>, part: &[u8], from: u64, mut next: u64) -> Result<Next>
     requires room { from + length part.now < 2 ^ 64 }

@@ -1,4 +1,4 @@
-//! The program, between any two ends.
+//! The program, with any reader and any writer.
 
 ghost use Rattle.std.specs.Prelude.{◌≡◌, ◌↔◌, ◌||◌, map, string_bytes};
 ghost use Rattle.std.specs.Vec.Iter.{into_iter_items};
@@ -15,7 +15,7 @@ use std::alloc::Global;
 use std::env::Args;
 use std::io::{Read, Write};
 
-/// Runs a command, and flushes what it wrote. Returns the number of bytes that were written.
+/// Runs `command`, and flushes its output. Returns the number of bytes that were written.
 pub fn run_command<R: Read, W: Write>(
     alloc: Global,
     command: Command,
@@ -36,7 +36,8 @@ pub fn run_command<R: Read, W: Write>(
     Ok(written)
 }
 
-/// Runs the command that the words after the program's name are. If they are no command, nothing is read or written.
+/// Runs the command that `words`, the words after the program's name, stand for. If they are no command, nothing is
+/// read or written.
 pub fn run_words<R: Read, W: Write>(
     alloc: Global,
     words: Args,

@@ -1,22 +1,19 @@
 -- Samples that are put into an array, one after the other.
-use Rattle.std.proofs.Common.{◌≡◌, ℕ, ◌+◌, ◌<◌, List, length, Some, ap, subst, ◌∙◌, arith, Bool, true, false}
-use Rattle.std.proofs.Common.{refl}
+use Rattle.std.proofs.Common.{◌≡◌, ℕ, ◌+◌, ◌<◌, List, length, Some, ap, subst, ◌∙◌, arith}
 use Rattle.std.specs.Prelude.{slice_get, slice_set, nat_lt}
 use Rattle.std.proofs.lemmas.Bool.{ltb-true, ltb-false}
 use Rattle.std.proofs.lemmas.List.{get_or-set_same, get_or-set_other, length-set}
 use Rattle.std.proofs.lemmas.Option.{slice_get-get_or, slice_get_within, get_or_from_slice_get}
+use Rattle.mp4_lemmas.proofs.Booleans.{by_bool}
 use Rattle.mp4_c.specs.Samples.{row_of}
 use Rattle.mp4_c.specs.declared.samples.SampleRow.{SampleRow}
 use Rattle.mp4_samples.specs.Samples.{IsSample}
 use Rattle.mp4_samples.specs.declared.sample.Sample.{Sample}
 use Rattle.mp4_samples.specs.declared.tables.Tables.{Tables}
 
--- the row at k is that of sample k
+-- The row at k is that of sample k.
 abbrev pub IsPut : Tables → List SampleRow → ℕ → Type 0
 IsPut t rows k = (s : Sample) × (IsSample t k s × (slice_get rows k ≡ Some (row_of s)))
-
-pub by_bool : {P : Type 0} (b : Bool) → (b ≡ true → P) → (b ≡ false → P) → P
-by_bool {P} b if_true if_false = (elim b as (λ c. b ≡ c → P) [ true ↦ if_true | false ↦ if_false ]) refl
 
 put_here : (rows : List SampleRow) (i : ℕ) (row : SampleRow) → i < length rows
     → slice_get (slice_set rows i row) i ≡ Some row
@@ -33,7 +30,7 @@ put_elsewhere rows i k row other less is =
     ∙ ap Some (get_or-set_other rows i k row other (omega (arith, less))
     ∙ get_or_from_slice_get rows k other other is)
 
--- one more sample is put
+-- After sample i is put, the first i + 1 rows are those of their samples.
 pub put_next : (t : Tables) (rows : List SampleRow) (i : ℕ) (s : Sample) → i < length rows → IsSample t i s
     → ((k : ℕ) → k < i → IsPut t rows k) → (k : ℕ) → k < i + 1 → IsPut t (slice_set rows i (row_of s)) k
 put_next t rows i s within is before k less =

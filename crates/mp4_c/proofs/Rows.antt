@@ -1,8 +1,7 @@
 -- The rows of the samples of a fragment, added one after the other.
-use Rattle.std.proofs.Common.{◌≡◌, ℕ, ◌<◌, false, List, [], ◌∷◌, ◌++◌, length, Some, refl, ap, sym, subst, ◌∙◌, arith}
-use Rattle.std.specs.Prelude.{Err, Ok, Result, if◌then◌else◌, slice_get, nat_lt}
-use Rattle.std.specs.Result.{is_err, is_ok}
-use Rattle.std.proofs.lemmas.Bool.{false≢true, ltb-true, ltb-false}
+use Rattle.std.proofs.Common.{◌≡◌, ℕ, ◌<◌, List, [], ◌∷◌, ◌++◌, length, Some, refl, ap, subst, ◌∙◌, arith}
+use Rattle.std.specs.Prelude.{slice_get, nat_lt}
+use Rattle.std.proofs.lemmas.Bool.{ltb-true, ltb-false}
 use Rattle.std.proofs.lemmas.List.{get_or_append_left, get_or_push, length_push}
 use Rattle.std.proofs.lemmas.Option.{slice_get-get_or, get_or_from_slice_get}
 use Rattle.mp4_samples.specs.Fragments.{IsFragmentSample}
@@ -11,7 +10,7 @@ use Rattle.mp4_samples.specs.declared.sample.Sample.{Sample}
 use Rattle.mp4_c.specs.FragmentSamples.{IsRow}
 use Rattle.mp4_c.specs.Samples.{row_of}
 use Rattle.mp4_c.specs.declared.samples.SampleRow.{SampleRow}
-use Rattle.mp4_c.proofs.Put.{by_bool}
+use Rattle.mp4_lemmas.proofs.Booleans.{by_bool}
 
 old_row : (rows : List SampleRow) (row other : SampleRow) (k : ℕ) → k < length rows → slice_get rows k ≡ Some other
     → slice_get (rows ++ row ∷ []) k ≡ Some other
@@ -25,7 +24,7 @@ new_row rows row =
     let inside : length rows < length (rows ++ row ∷ []) = omega (arith, length_push rows row) in
     slice_get-get_or (rows ++ row ∷ []) (length rows) row inside ∙ ap Some (get_or_push rows row row (length rows) refl)
 
--- one more row is added
+-- After one more row is added, each row is that of its sample.
 pub row_added : (f : Fragment) (own : List SampleRow) (s : Sample) → IsFragmentSample f (length own) s
     → ((k : ℕ) → k < length own → IsRow f own k) → (k : ℕ) → k < length (own ++ row_of s ∷ [])
     → IsRow f (own ++ row_of s ∷ []) k
@@ -37,9 +36,3 @@ row_added f own s is before k less =
     (λ not_below. let same : length own ≡ k =
     omega (arith, ltb-false k (length own) not_below, length_push own (row_of s), less) in
     subst (λ (j : ℕ). IsRow f (own ++ row_of s ∷ []) j) same (s, (is, new_row own (row_of s))))
-
--- what a vector has after a push that did not fail
-pub pushed : {X A E : Type 0} (r : Result A E) (xs ys new : List X) → new ≡ (if is_ok r then xs else ys)
-    → is_err r ≡ false → new ≡ xs
-pushed (Ok a) xs ys new h done = h
-pushed (Err e) xs ys new h done = absurd (false≢true (sym done))

@@ -2,3 +2,8 @@ pub mod Spans
 pub mod Find
 pub mod Samples
 pub mod FragmentSamples
+pub mod Found
+pub mod Levels
+pub mod Walks
+pub mod Front
+pub mod Fields

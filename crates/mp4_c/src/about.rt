@@ -1,21 +1,21 @@
-//! What the library says of itself: its version, and what its statuses mean.
+//! The version of the library, and the meanings of its statuses.
 
 ghost use Rattle.std.specs.Prelude.{◌≡◌, length};
-ghost use Rattle.mp4_c_base.specs.Handed.{IsHanded};
+ghost use Rattle.mp4_c_boxes.specs.CopiesRows.{CopiesSome};
 ghost use Rattle.mp4_c.specs.declared.about.TheConstants as constants;
 
-use mp4_c_base::handed::hand_over;
-use mp4_c_base::status::{
+use crate::named_fields::UNKNOWN_BOX;
+use mp4_c_boxes::status::{
     BOX_NOT_FOUND, CHUNK_COUNT, CHUNK_ORDER, CHUNKS, DURATIONS, END_OF_INPUT, FIRST_CHUNK,
     INVALID_DATA, NO_ROOM, NO_TRACK, OFFSET, OK, OUT_OF_MEMORY, SAMPLE_SIZES, SYNC_SAMPLES,
 };
-use mp4_c_fields::fields::UNKNOWN_BOX;
+use mp4_c_boxes::to_rows::copy_rows;
 
-/// The version of the codec as a number: a million for each major version, a thousand for each minor one, and one for
-/// each patch.
+/// The version of the codec as a number: 1000000 for each major version, 1000 for each minor version, and 1 for each
+/// patch.
 pub const VERSION: u32 = 1_000;
 
-/// The version of the library.
+/// Returns the version of the library.
 #[unsafe(no_mangle)]
 pub extern "C" fn mp4_version() -> u32
     ensures { result ≡ constants.VERSION }
@@ -23,7 +23,7 @@ pub extern "C" fn mp4_version() -> u32
     VERSION
 }
 
-/// What a status means, for a person to read.
+/// Returns the meaning of `status`, in English.
 fn text_of(status: u32) -> &'static str {
     match status {
         OK => "done",
@@ -48,10 +48,11 @@ fn text_of(status: u32) -> &'static str {
     }
 }
 
-/// Hands over what a status means, in English, as characters of ASCII with no zero after them.
+/// Copies the meaning of `status` to `text`, in English: ASCII characters without a zero after them. Their number is
+/// written to `count`. Returns the status of this call.
 #[unsafe(no_mangle)]
 pub extern "C" fn mp4_status_text(status: u32, text: &mut [u8], count: &mut usize) -> u32
-    ensures { IsHanded result text.old text.new count.new }
+    ensures { CopiesSome result text.old text.new count.new }
 {
-    hand_over(Ok(text_of(status)), text, count)
+    copy_rows(Ok(text_of(status)), text, count)
 }

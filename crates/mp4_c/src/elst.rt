@@ -4,20 +4,21 @@ ghost use Rattle.std.specs.Prelude.{map};
 ghost use Rattle.mp4_frame.specs.declared.codes.TheConstants as codes;
 ghost use Rattle.mp4_stream.specs.Boxes.{format_elst, reads_elst};
 ghost use Rattle.mp4_track.specs.Front.{front_box};
-ghost use Rattle.mp4_c_base.specs.Handed.{HandsReading};
-ghost use Rattle.mp4_c_base.specs.Written.{PutsOrRefuses};
-ghost use Rattle.mp4_c_tables.specs.Made.{made_elst};
-ghost use Rattle.mp4_c_tables.specs.Rows.{row_elst, table_elst};
+ghost use Rattle.mp4_c_boxes.specs.CopiesRows.{CopiesReading};
+ghost use Rattle.mp4_c_boxes.specs.Written.{PutsOrRefuses};
+ghost use Rattle.mp4_c_boxes.specs.TablesFromRows.{elst_of};
+ghost use Rattle.mp4_c_boxes.specs.TableRows.{row_elst, table_elst};
 
-use mp4_c_base::handed::hand_box;
-use mp4_c_base::written::put_made;
-use mp4_c_tables::elst::ElstRow;
-use mp4_c_tables::table::Table;
+use mp4_c_boxes::elst::ElstRow;
+use mp4_c_boxes::table::Table;
+use mp4_c_boxes::to_rows::copy_box_rows;
+use mp4_c_boxes::written::write_from;
 use mp4_frame::codes;
 use mp4_stream::ElstBox;
 use std::alloc::Global;
 
-/// Hands over the edits (ISO/IEC 14496-12, 8.6.6), in the order of their presentation.
+/// Copies the edits in the `elst` at the front of `bytes` (ISO/IEC 14496-12, 8.6.6) to `rows`, in the order of their
+/// presentation. Fills `table` with the other fields. Returns the status.
 #[unsafe(no_mangle)]
 pub extern "C" fn mp4_elst(
     alloc: Global,
@@ -25,13 +26,14 @@ pub extern "C" fn mp4_elst(
     rows: &mut [ElstRow],
     table: &mut Table,
 ) -> u32
-    ensures { HandsReading (front_box reads_elst codes.ELST bytes.now) (λ v. map row_elst v.entries) table_elst result
+    ensures { CopiesReading (front_box reads_elst codes.ELST bytes.now) (λ v. map row_elst v.entries) table_elst result
         rows.old rows.new table.old table.new }
 {
-    hand_box::<ElstBox, ElstRow, Table>(alloc, codes::ELST, bytes, rows, table)
+    copy_box_rows::<ElstBox, ElstRow, Table>(alloc, codes::ELST, bytes, rows, table)
 }
 
-/// Writes the edits of a track (ISO/IEC 14496-12, 8.6.6).
+/// Writes the `elst` with `table` and `rows` to the front of `bytes`, and its length to `length` (ISO/IEC 14496-12,
+/// 8.6.6). Returns the status.
 #[unsafe(no_mangle)]
 pub extern "C" fn mp4_write_elst(
     alloc: Global,
@@ -40,8 +42,8 @@ pub extern "C" fn mp4_write_elst(
     bytes: &mut [u8],
     length: &mut usize,
 ) -> u32
-    ensures { PutsOrRefuses format_elst (made_elst table.now rows.now) result bytes.old bytes.new length.old
+    ensures { PutsOrRefuses format_elst (elst_of table.now rows.now) result bytes.old bytes.new length.old
         length.new }
 {
-    put_made::<ElstBox, Table, ElstRow>(alloc, table, rows, bytes, length)
+    write_from::<ElstBox, Table, ElstRow>(alloc, table, rows, bytes, length)
 }

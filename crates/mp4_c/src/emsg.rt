@@ -3,14 +3,15 @@
 ghost use Rattle.mp4_frame.specs.declared.codes.TheConstants as codes;
 ghost use Rattle.mp4_stream.specs.Boxes.{format_emsg, reads_emsg};
 ghost use Rattle.mp4_track.specs.Front.{front_box};
-ghost use Rattle.mp4_c_base.specs.Written.{PutsOrRefuses};
-ghost use Rattle.mp4_c_entries.specs.Emsg.{FillsEmsg, emsg_of, texts_emsg, told_emsg};
-ghost use Rattle.mp4_c_entries.specs.Parts.{HandsParts};
+ghost use Rattle.mp4_c_boxes.specs.Written.{PutsOrRefuses};
+ghost use Rattle.mp4_c_boxes.specs.Emsg.{FillsEmsg, emsg_of, texts_emsg, fields_emsg};
+ghost use Rattle.mp4_c_boxes.specs.CopiesParts.{CopiesParts};
 
-use mp4_c_entries::emsg::{Emsg, tell_emsg, write_emsg};
+use mp4_c_boxes::emsg::{Emsg, copy_emsg, write_emsg};
 use std::alloc::Global;
 
-/// Tells an event message, and hands over its strings and its message (ISO/IEC 23009-1, 5.10.3.3).
+/// Fills `fields` with those of the `emsg` at the front of `bytes`, an event message (ISO/IEC 23009-1, 5.10.3.3).
+/// Copies its strings and its message. Returns the status.
 #[unsafe(no_mangle)]
 pub extern "C" fn mp4_emsg(
     alloc: Global,
@@ -20,15 +21,16 @@ pub extern "C" fn mp4_emsg(
     message_data: &mut [u8],
     fields: &mut Emsg,
 ) -> u32
-    ensures { HandsParts (front_box reads_emsg codes.EMSG bytes.now) told_emsg texts_emsg FillsEmsg result
+    ensures { CopiesParts (front_box reads_emsg codes.EMSG bytes.now) fields_emsg texts_emsg FillsEmsg result
         fields.old fields.new
         (record { scheme_id_uri = scheme_id_uri.old; value = value.old; message_data = message_data.old })
         (record { scheme_id_uri = scheme_id_uri.new; value = value.new; message_data = message_data.new }) }
 {
-    tell_emsg(alloc, bytes, scheme_id_uri, value, message_data, fields)
+    copy_emsg(alloc, bytes, scheme_id_uri, value, message_data, fields)
 }
 
-/// Writes an event message (ISO/IEC 23009-1, 5.10.3.3). Its strings have to be UTF-8 without a zero byte.
+/// Writes the `emsg` with `fields`, two strings and a message to the front of `bytes`, and its length to `length`
+/// (ISO/IEC 23009-1, 5.10.3.3). The strings have to be UTF-8 without a zero byte. Returns the status.
 #[unsafe(no_mangle)]
 pub extern "C" fn mp4_write_emsg(
     alloc: Global,

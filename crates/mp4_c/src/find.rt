@@ -1,32 +1,32 @@
-//! The box at a path.
+//! Finds the box at a path.
 
 ghost use Rattle.std.specs.Prelude.{◌≡◌};
-ghost use Rattle.mp4_c.specs.Find.{Finds, FindsAt, HandsFound, place_as, place_of, stated_place};
+ghost use Rattle.mp4_c.specs.Find.{Finds, FindsAt, FillsFound, place_as, place_of, stated_place};
 
-use mp4_c_base::status::{BOX_NOT_FOUND, INVALID_DATA, OK, OUT_OF_MEMORY};
+use mp4_c_boxes::status::{BOX_NOT_FOUND, INVALID_DATA, OK, OUT_OF_MEMORY};
 use mp4_frame::{bytes_from, u32_at, u64_at};
-use mp4_tree::{BoxPath, PathError, TreeBox, What, find};
+use mp4_walk::{BoxPath, BoxState, PathError, TreeBox, find};
 use std::alloc::Global;
 use std::str;
 
-/// A box of a file, and how long its header is. Positions and lengths are in bytes.
+/// A box of a file, and the length of its header. Positions and lengths are in bytes.
 #[repr(C)]
 #[derive(Clone, Copy)]
 pub struct Place {
     /// The offset of the first byte of the box, where its header begins.
     pub position: u64,
-    /// The number of bytes of the box, with its header, as the header says it: also of a box that is cut, and of one
-    /// whose size is smaller than its header.
+    /// The number of bytes of the box, including its header, as the header states it. This holds also for a box that is
+    /// cut, and for one whose size is smaller than its header.
     pub length: u64,
     /// The number of bytes of the header: 8 or 16.
     pub header_length: u64,
-    /// The four characters of its code, the first in the highest byte.
+    /// The four characters of the box's code, the first in the highest byte.
     pub code: u32,
-    /// 1 if the whole box is there, and its size counts its header; else 0.
+    /// 1 if the file has the whole box, and its size counts its header; else 0.
     pub is_whole: u8,
 }
 
-/// Returns `found` as C has it, with a header of `header_length` bytes that says `length`.
+/// Returns `found` for C, with a header of `header_length` bytes that states `length`.
 fn place_as(found: &TreeBox, header_length: u64, length: u64) -> Place
     ensures { result ≡ place_as found.now header_length length }
 {
@@ -42,8 +42,8 @@ fn place_as(found: &TreeBox, header_length: u64, length: u64) -> Place
     }
 }
 
-/// Returns `found` as its header says it, whose bytes are at the front of `head`. None if `head` ends before the header
-/// does.
+/// Returns `found` for C, with the length that its header at the front of `head` states. `None` if `head` ends before
+/// the header does.
 fn stated_place(found: &TreeBox, head: &[u8]) -> Option<Place>
     ensures { result ≡ stated_place found.now head.now }
 {
@@ -60,20 +60,21 @@ fn stated_place(found: &TreeBox, head: &[u8]) -> Option<Place>
     Some(place_as(found, 16, u64_at(head, 8)))
 }
 
-/// Returns `found` as C has it, a box of the file `bytes`. None if its header isn't whole.
+/// Returns `found`, a box of the file `bytes`, for C. `None` if its header isn't whole.
 fn place_of(bytes: &[u8], found: &TreeBox) -> Option<Place>
     ensures { result ≡ place_of bytes.now found.now }
 {
-    match found.what {
-        What::NoHeader => None,
-        What::Small => stated_place(found, bytes_from(bytes, found.position)),
+    match found.state {
+        BoxState::NoHeader => None,
+        BoxState::Small => stated_place(found, bytes_from(bytes, found.position)),
         _ => Some(place_as(found, found.header_length, found.length)),
     }
 }
 
-/// Hands over `found`, a box of the file `bytes`, if there is one and its header is whole.
-fn hand_found(bytes: &[u8], found: Option<TreeBox>, place: &mut Place) -> u32
-    ensures { HandsFound bytes.now found result place.old place.new }
+/// Fills `place` with `found`, a box of the file `bytes`. Returns the status, which is `BOX_NOT_FOUND` if there is no
+/// box, or if its header isn't whole.
+fn fill_found(bytes: &[u8], found: Option<TreeBox>, place: &mut Place) -> u32
+    ensures { FillsFound bytes.now found result place.old place.new }
 {
     let Some(found) = found else {
         return BOX_NOT_FOUND;
@@ -87,17 +88,18 @@ fn hand_found(bytes: &[u8], found: Option<TreeBox>, place: &mut Place) -> u32
     }
 }
 
-/// Hands over the box at a path.
+/// Fills `place` with the box of the file `bytes` at `path`. Returns the status.
 fn find_at(alloc: Global, bytes: &[u8], path: &BoxPath, place: &mut Place) -> u32
     ensures { FindsAt bytes.now path.now.parts.items result place.old place.new }
 {
     match find(alloc, bytes, path) {
-        Ok(found) => hand_found(bytes, found, place),
+        Ok(found) => fill_found(bytes, found, place),
         Err(_) => OUT_OF_MEMORY,
     }
 }
 
-/// Hands over the box at a path, as `moov/trak[1]/mdia/mdhd`. Invalid data if the text is no path.
+/// Fills `place` with the box of the file `bytes` at `path`, such as `moov/trak[1]/mdia/mdhd`. Returns the status,
+/// which is `INVALID_DATA` if `path` isn't a path in UTF-8.
 #[unsafe(no_mangle)]
 pub extern "C" fn mp4_find(alloc: Global, bytes: &[u8], path: &[u8], place: &mut Place) -> u32
     ensures { Finds bytes.now result place.old place.new }

@@ -3,18 +3,19 @@
 ghost use Rattle.mp4_frame.specs.declared.codes.TheConstants as codes;
 ghost use Rattle.mp4_stream.specs.Boxes.{format_ftyp, reads_ftyp};
 ghost use Rattle.mp4_track.specs.Front.{front_box};
-ghost use Rattle.mp4_c_base.specs.Handed.{HandsReading};
-ghost use Rattle.mp4_c_base.specs.Written.{PutsOrRefuses};
-ghost use Rattle.mp4_c_entries.specs.Ftyp.{brands_ftyp, ftyp_of, told_ftyp};
+ghost use Rattle.mp4_c_boxes.specs.CopiesRows.{CopiesReading};
+ghost use Rattle.mp4_c_boxes.specs.Written.{PutsOrRefuses};
+ghost use Rattle.mp4_c_boxes.specs.Ftyp.{brands_ftyp, ftyp_of, fields_ftyp};
 
-use mp4_c_base::handed::hand_box;
-use mp4_c_base::written::put_made;
-use mp4_c_entries::ftyp::Ftyp;
+use mp4_c_boxes::ftyp::Ftyp;
+use mp4_c_boxes::to_rows::copy_box_rows;
+use mp4_c_boxes::written::write_from;
 use mp4_frame::codes;
 use mp4_stream::FtypBox;
 use std::alloc::Global;
 
-/// Hands over the compatible brands of a file, and tells the major one (ISO/IEC 14496-12, 4.3).
+/// Copies the compatible brands in the `ftyp` at the front of `bytes` (ISO/IEC 14496-12, 4.3) to `brands`. Fills
+/// `fields` with the other fields. The major brand is one of the fields. Returns the status.
 #[unsafe(no_mangle)]
 pub extern "C" fn mp4_ftyp(
     alloc: Global,
@@ -22,13 +23,14 @@ pub extern "C" fn mp4_ftyp(
     brands: &mut [u32],
     fields: &mut Ftyp,
 ) -> u32
-    ensures { HandsReading (front_box reads_ftyp codes.FTYP bytes.now) brands_ftyp told_ftyp
+    ensures { CopiesReading (front_box reads_ftyp codes.FTYP bytes.now) brands_ftyp fields_ftyp
         result brands.old brands.new fields.old fields.new }
 {
-    hand_box::<FtypBox, u32, Ftyp>(alloc, codes::FTYP, bytes, brands, fields)
+    copy_box_rows::<FtypBox, u32, Ftyp>(alloc, codes::FTYP, bytes, brands, fields)
 }
 
-/// Writes the brands of a file (ISO/IEC 14496-12, 4.3).
+/// Writes the `ftyp` with `fields` and `brands` to the front of `bytes`, and its length to `length` (ISO/IEC 14496-12,
+/// 4.3). Returns the status.
 #[unsafe(no_mangle)]
 pub extern "C" fn mp4_write_ftyp(
     alloc: Global,
@@ -40,5 +42,5 @@ pub extern "C" fn mp4_write_ftyp(
     ensures { PutsOrRefuses format_ftyp (ftyp_of fields.now brands.now)
         result bytes.old bytes.new length.old length.new }
 {
-    put_made::<FtypBox, Ftyp, u32>(alloc, fields, brands, bytes, length)
+    write_from::<FtypBox, Ftyp, u32>(alloc, fields, brands, bytes, length)
 }

@@ -1,13 +1,13 @@
-//! The samples of a track.
+//! Lists the samples of a track.
 
 ghost use Rattle.std.specs.Prelude.{◌≡◌, ◌≤◌, length};
 ghost use Rattle.mp4_samples.specs.Samples.{sample_count};
-ghost use Rattle.mp4_c.specs.Samples.{ArePut, HandsSamples, HandsTables, row_of, number_of_disagreement};
-ghost use Rattle.mp4_c.specs.Samples.{number_of_track_error};
+ghost use Rattle.mp4_c.specs.Samples.{ArePut, CopiesSamples, CopiesTables, row_of, status_of_disagreement};
+ghost use Rattle.mp4_c.specs.Samples.{status_of_track_error};
 
-use mp4_c_base::status::{
+use mp4_c_boxes::status::{
     BOX_NOT_FOUND, CHUNK_COUNT, CHUNK_ORDER, CHUNKS, DURATIONS, FIRST_CHUNK, NO_ROOM, NO_TRACK,
-    OFFSET, OK, OUT_OF_MEMORY, SAMPLE_SIZES, SYNC_SAMPLES, number_of,
+    OFFSET, OK, OUT_OF_MEMORY, SAMPLE_SIZES, SYNC_SAMPLES, status_of,
 };
 use mp4_samples::{Disagreement, Sample, SampleTables};
 use mp4_track::{SampleBoxes, TrackError, track_of};
@@ -17,25 +17,25 @@ use std::alloc::Global;
 #[repr(C)]
 #[derive(Clone, Copy)]
 pub struct SampleRow {
-    /// Where it begins, in bytes from the front of the file.
+    /// The position of the first byte, in bytes from the front of the file.
     pub offset: u64,
-    /// When it is decoded.
+    /// The time at which the sample is decoded.
     pub decode_time: u64,
-    /// Its composition time minus its decode time; 0 where nothing is said of it.
+    /// The composition time minus the decode time; 0 if the track has no composition offsets.
     pub rendering_offset: i64,
-    /// How many bytes it has.
+    /// The number of bytes.
     pub size: u32,
-    /// How long it lasts.
+    /// The duration.
     pub duration: u32,
-    /// The index of its sample entry, counted from 1.
+    /// The index of the sample entry, counted from 1.
     pub description: u32,
-    /// The chunk that it is in, counted from 1.
+    /// The number of the chunk, counted from 1.
     pub chunk: u32,
-    /// 1 if it is a sync sample, else 0.
+    /// 1 for a sync sample, else 0.
     pub is_sync: u8,
 }
 
-/// A sample as C has it.
+/// Returns the row of `sample`.
 pub fn row_of(sample: Sample) -> SampleRow
     ensures { result ≡ row_of sample }
 {
@@ -51,9 +51,9 @@ pub fn row_of(sample: Sample) -> SampleRow
     }
 }
 
-/// The number of a disagreement: one for each kind.
-fn number_of_disagreement(disagreement: Disagreement) -> u32
-    ensures { result ≡ number_of_disagreement disagreement }
+/// Returns the status of `disagreement`: one for each kind.
+fn status_of_disagreement(disagreement: Disagreement) -> u32
+    ensures { result ≡ status_of_disagreement disagreement }
 {
     match disagreement {
         Disagreement::SampleSizes { .. } => SAMPLE_SIZES,
@@ -67,21 +67,21 @@ fn number_of_disagreement(disagreement: Disagreement) -> u32
     }
 }
 
-/// The number of an error of a track.
-pub fn number_of_track_error(error: &TrackError) -> u32
-    ensures { result ≡ number_of_track_error error.now }
+/// Returns the status of `error`.
+pub fn status_of_track_error(error: &TrackError) -> u32
+    ensures { result ≡ status_of_track_error error.now }
 {
     match error {
         TrackError::NoMovie => BOX_NOT_FOUND,
         TrackError::NoTrack(_) => NO_TRACK,
         TrackError::Missing { .. } => BOX_NOT_FOUND,
-        TrackError::Fault { error, .. } => number_of(error),
+        TrackError::Fault { error, .. } => status_of(error),
         TrackError::NoBase { .. } => OFFSET,
         TrackError::Memory => OUT_OF_MEMORY,
     }
 }
 
-/// Puts all samples at the front of an array that has room for them.
+/// Copies the samples of `tables` to the front of `rows`, which is long enough for them.
 fn put_samples(tables: &SampleTables<'_>, rows: &mut [SampleRow])
     requires { sample_count tables.now ≤ length rows.old }
     ensures { ArePut tables.now rows.old rows.new }
@@ -94,9 +94,10 @@ fn put_samples(tables: &SampleTables<'_>, rows: &mut [SampleRow])
     }
 }
 
-/// Hands over the samples of tables that agree, or the number of their disagreement.
-fn hand_tables(boxes: &SampleBoxes, rows: &mut [SampleRow], count: &mut usize) -> u32
-    ensures { HandsTables boxes.now result rows.old rows.new count.old count.new }
+/// Copies the samples of the tables in `boxes` to `rows`, and writes their number to `count`. Returns the status, which
+/// is that of the disagreement if the tables disagree.
+fn copy_tables(boxes: &SampleBoxes, rows: &mut [SampleRow], count: &mut usize) -> u32
+    ensures { CopiesTables boxes.now result rows.old rows.new count.old count.new }
 {
     match SampleTables::new(boxes.tables()) {
         Ok(tables) => {
@@ -107,11 +108,12 @@ fn hand_tables(boxes: &SampleBoxes, rows: &mut [SampleRow], count: &mut usize) -
             put_samples(&tables, rows);
             OK
         }
-        Err(disagreement) => number_of_disagreement(disagreement),
+        Err(disagreement) => status_of_disagreement(disagreement),
     }
 }
 
-/// Hands over the samples of the first track with a track_ID (ISO/IEC 14496-12, 8.3.2), by the tables of its `stbl`.
+/// Copies the samples of the first track that has the track_ID `track_id` (ISO/IEC 14496-12, 8.3.2) to `rows`, by the
+/// tables of its `stbl`, and writes their number to `count`. `bytes` is the whole file. Returns the status.
 #[unsafe(no_mangle)]
 pub extern "C" fn mp4_samples(
     alloc: Global,
@@ -120,10 +122,10 @@ pub extern "C" fn mp4_samples(
     rows: &mut [SampleRow],
     count: &mut usize,
 ) -> u32
-    ensures { HandsSamples bytes.now track_id result rows.old rows.new count.old count.new }
+    ensures { CopiesSamples bytes.now track_id result rows.old rows.new count.old count.new }
 {
     match track_of(alloc, bytes, track_id) {
-        Ok(track) => hand_tables(&track.tables, rows, count),
-        Err(error) => number_of_track_error(&error),
+        Ok(track) => copy_tables(&track.tables, rows, count),
+        Err(error) => status_of_track_error(&error),
     }
 }

@@ -4,20 +4,21 @@ ghost use Rattle.std.specs.Prelude.{map};
 ghost use Rattle.mp4_frame.specs.declared.codes.TheConstants as codes;
 ghost use Rattle.mp4_stream.specs.Boxes.{format_stsc, reads_stsc};
 ghost use Rattle.mp4_track.specs.Front.{front_box};
-ghost use Rattle.mp4_c_base.specs.Handed.{HandsReading};
-ghost use Rattle.mp4_c_base.specs.Written.{PutsOrRefuses};
-ghost use Rattle.mp4_c_tables.specs.Made.{made_stsc};
-ghost use Rattle.mp4_c_tables.specs.Rows.{row_stsc, table_stsc};
+ghost use Rattle.mp4_c_boxes.specs.CopiesRows.{CopiesReading};
+ghost use Rattle.mp4_c_boxes.specs.Written.{PutsOrRefuses};
+ghost use Rattle.mp4_c_boxes.specs.TablesFromRows.{stsc_of};
+ghost use Rattle.mp4_c_boxes.specs.TableRows.{row_stsc, table_stsc};
 
-use mp4_c_base::handed::hand_box;
-use mp4_c_base::written::put_made;
-use mp4_c_tables::stsc::StscRow;
-use mp4_c_tables::table::Table;
+use mp4_c_boxes::stsc::StscRow;
+use mp4_c_boxes::table::Table;
+use mp4_c_boxes::to_rows::copy_box_rows;
+use mp4_c_boxes::written::write_from;
 use mp4_frame::codes;
 use mp4_stream::StscBox;
 use std::alloc::Global;
 
-/// Hands over the runs of chunks with equally many samples (ISO/IEC 14496-12, 8.7.4).
+/// Copies the runs of chunks that have the same number of samples in the `stsc` at the front of `bytes` (ISO/IEC
+/// 14496-12, 8.7.4) to `rows`. Fills `table` with the other fields. Returns the status.
 #[unsafe(no_mangle)]
 pub extern "C" fn mp4_stsc(
     alloc: Global,
@@ -25,13 +26,14 @@ pub extern "C" fn mp4_stsc(
     rows: &mut [StscRow],
     table: &mut Table,
 ) -> u32
-    ensures { HandsReading (front_box reads_stsc codes.STSC bytes.now) (λ v. map row_stsc v.entries) table_stsc result
+    ensures { CopiesReading (front_box reads_stsc codes.STSC bytes.now) (λ v. map row_stsc v.entries) table_stsc result
         rows.old rows.new table.old table.new }
 {
-    hand_box::<StscBox, StscRow, Table>(alloc, codes::STSC, bytes, rows, table)
+    copy_box_rows::<StscBox, StscRow, Table>(alloc, codes::STSC, bytes, rows, table)
 }
 
-/// Writes the chunks of the samples (ISO/IEC 14496-12, 8.7.4).
+/// Writes the `stsc` with `table` and `rows` to the front of `bytes`, and its length to `length` (ISO/IEC 14496-12,
+/// 8.7.4). Returns the status.
 #[unsafe(no_mangle)]
 pub extern "C" fn mp4_write_stsc(
     alloc: Global,
@@ -40,8 +42,8 @@ pub extern "C" fn mp4_write_stsc(
     bytes: &mut [u8],
     length: &mut usize,
 ) -> u32
-    ensures { PutsOrRefuses format_stsc (made_stsc table.now rows.now) result bytes.old bytes.new length.old
+    ensures { PutsOrRefuses format_stsc (stsc_of table.now rows.now) result bytes.old bytes.new length.old
         length.new }
 {
-    put_made::<StscBox, Table, StscRow>(alloc, table, rows, bytes, length)
+    write_from::<StscBox, Table, StscRow>(alloc, table, rows, bytes, length)
 }

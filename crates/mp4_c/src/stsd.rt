@@ -3,17 +3,18 @@
 ghost use Rattle.mp4_frame.specs.declared.codes.TheConstants as codes;
 ghost use Rattle.mp4_stream.specs.Boxes.{reads_stsd};
 ghost use Rattle.mp4_track.specs.Front.{front_box};
-ghost use Rattle.mp4_c_entries.specs.Parts.{HandsParts};
-ghost use Rattle.mp4_c_entries.specs.Stsd.{PutsStsd, sets_stsd, told_stsd};
-ghost use Rattle.mp4_c_entries.specs.Sets.{FillsSets};
+ghost use Rattle.mp4_c_boxes.specs.CopiesParts.{CopiesParts};
+ghost use Rattle.mp4_c_boxes.specs.Stsd.{PutsStsd, sets_stsd, fields_stsd};
+ghost use Rattle.mp4_c_boxes.specs.Sets.{FillsSets};
 
-use mp4_c_entries::sets::tell_sets;
-use mp4_c_entries::stsd::{Stsd, write_stsd};
+use mp4_c_boxes::sets::copy_box_sets;
+use mp4_c_boxes::stsd::{Stsd, write_stsd};
 use mp4_frame::codes;
 use mp4_stream::StsdBox;
 use std::alloc::Global;
 
-/// Tells the first sample entry of a track, and hands over its parameter sets (ISO/IEC 14496-12, 8.5.2).
+/// Fills `fields` with those of the `stsd` at the front of `bytes` and of its first sample entry (ISO/IEC 14496-12,
+/// 8.5.2). Copies its parameter sets: their lengths to `lengths`, and their bytes to `set_bytes`. Returns the status.
 #[unsafe(no_mangle)]
 pub extern "C" fn mp4_stsd(
     alloc: Global,
@@ -22,14 +23,15 @@ pub extern "C" fn mp4_stsd(
     set_bytes: &mut [u8],
     fields: &mut Stsd,
 ) -> u32
-    ensures { HandsParts (front_box reads_stsd codes.STSD bytes.now) told_stsd sets_stsd FillsSets result
+    ensures { CopiesParts (front_box reads_stsd codes.STSD bytes.now) fields_stsd sets_stsd FillsSets result
         fields.old fields.new (record { lengths = lengths.old; bytes = set_bytes.old })
         (record { lengths = lengths.new; bytes = set_bytes.new }) }
 {
-    tell_sets::<StsdBox, Stsd>(alloc, codes::STSD, bytes, lengths, set_bytes, fields)
+    copy_box_sets::<StsdBox, Stsd>(alloc, codes::STSD, bytes, lengths, set_bytes, fields)
 }
 
-/// Writes a sample description with one entry, or none (ISO/IEC 14496-12, 8.5.2).
+/// Writes the `stsd` with `fields`, which has one entry or none, to the front of `bytes`, and its length to `length`
+/// (ISO/IEC 14496-12, 8.5.2). An `avc1` gets the parameter sets of `lengths` and `set_bytes`. Returns the status.
 #[unsafe(no_mangle)]
 pub extern "C" fn mp4_write_stsd(
     alloc: Global,

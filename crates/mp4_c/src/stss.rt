@@ -3,19 +3,20 @@
 ghost use Rattle.mp4_frame.specs.declared.codes.TheConstants as codes;
 ghost use Rattle.mp4_stream.specs.Boxes.{format_stss, reads_stss};
 ghost use Rattle.mp4_track.specs.Front.{front_box};
-ghost use Rattle.mp4_c_base.specs.Handed.{HandsReading};
-ghost use Rattle.mp4_c_base.specs.Written.{PutsOrRefuses};
-ghost use Rattle.mp4_c_tables.specs.Made.{made_stss};
-ghost use Rattle.mp4_c_tables.specs.Rows.{table_stss};
+ghost use Rattle.mp4_c_boxes.specs.CopiesRows.{CopiesReading};
+ghost use Rattle.mp4_c_boxes.specs.Written.{PutsOrRefuses};
+ghost use Rattle.mp4_c_boxes.specs.TablesFromRows.{stss_of};
+ghost use Rattle.mp4_c_boxes.specs.TableRows.{table_stss};
 
-use mp4_c_base::handed::hand_box;
-use mp4_c_base::written::put_made;
-use mp4_c_tables::table::Table;
+use mp4_c_boxes::table::Table;
+use mp4_c_boxes::to_rows::copy_box_rows;
+use mp4_c_boxes::written::write_from;
 use mp4_frame::codes;
 use mp4_stream::StssBox;
 use std::alloc::Global;
 
-/// Hands over the numbers of the sync samples (ISO/IEC 14496-12, 8.6.2), counted from 1.
+/// Copies the numbers of the sync samples in the `stss` at the front of `bytes` (ISO/IEC 14496-12, 8.6.2) to `samples`,
+/// counted from 1. Fills `table` with the other fields. Returns the status.
 #[unsafe(no_mangle)]
 pub extern "C" fn mp4_stss(
     alloc: Global,
@@ -23,13 +24,14 @@ pub extern "C" fn mp4_stss(
     samples: &mut [u32],
     table: &mut Table,
 ) -> u32
-    ensures { HandsReading (front_box reads_stss codes.STSS bytes.now) (λ v. v.entries) table_stss result samples.old
+    ensures { CopiesReading (front_box reads_stss codes.STSS bytes.now) (λ v. v.entries) table_stss result samples.old
         samples.new table.old table.new }
 {
-    hand_box::<StssBox, u32, Table>(alloc, codes::STSS, bytes, samples, table)
+    copy_box_rows::<StssBox, u32, Table>(alloc, codes::STSS, bytes, samples, table)
 }
 
-/// Writes the numbers of the sync samples (ISO/IEC 14496-12, 8.6.2).
+/// Writes the `stss` with `table` and `samples` to the front of `bytes`, and its length to `length` (ISO/IEC 14496-12,
+/// 8.6.2). Returns the status.
 #[unsafe(no_mangle)]
 pub extern "C" fn mp4_write_stss(
     alloc: Global,
@@ -38,8 +40,8 @@ pub extern "C" fn mp4_write_stss(
     bytes: &mut [u8],
     length: &mut usize,
 ) -> u32
-    ensures { PutsOrRefuses format_stss (made_stss table.now samples.now) result bytes.old bytes.new length.old
+    ensures { PutsOrRefuses format_stss (stss_of table.now samples.now) result bytes.old bytes.new length.old
         length.new }
 {
-    put_made::<StssBox, Table, u32>(alloc, table, samples, bytes, length)
+    write_from::<StssBox, Table, u32>(alloc, table, samples, bytes, length)
 }

@@ -4,20 +4,21 @@ ghost use Rattle.std.specs.Prelude.{map};
 ghost use Rattle.mp4_frame.specs.declared.codes.TheConstants as codes;
 ghost use Rattle.mp4_stream.specs.Boxes.{format_stts, reads_stts};
 ghost use Rattle.mp4_track.specs.Front.{front_box};
-ghost use Rattle.mp4_c_base.specs.Handed.{HandsReading};
-ghost use Rattle.mp4_c_base.specs.Written.{PutsOrRefuses};
-ghost use Rattle.mp4_c_tables.specs.Made.{made_stts};
-ghost use Rattle.mp4_c_tables.specs.Rows.{row_stts, table_stts};
+ghost use Rattle.mp4_c_boxes.specs.CopiesRows.{CopiesReading};
+ghost use Rattle.mp4_c_boxes.specs.Written.{PutsOrRefuses};
+ghost use Rattle.mp4_c_boxes.specs.TablesFromRows.{stts_of};
+ghost use Rattle.mp4_c_boxes.specs.TableRows.{row_stts, table_stts};
 
-use mp4_c_base::handed::hand_box;
-use mp4_c_base::written::put_made;
-use mp4_c_tables::stts::SttsRow;
-use mp4_c_tables::table::Table;
+use mp4_c_boxes::stts::SttsRow;
+use mp4_c_boxes::table::Table;
+use mp4_c_boxes::to_rows::copy_box_rows;
+use mp4_c_boxes::written::write_from;
 use mp4_frame::codes;
 use mp4_stream::SttsBox;
 use std::alloc::Global;
 
-/// Hands over the runs of samples with the same duration (ISO/IEC 14496-12, 8.6.1.2), in decoding order.
+/// Copies the runs of samples with the same duration in the `stts` at the front of `bytes` (ISO/IEC 14496-12, 8.6.1.2)
+/// to `rows`, in decoding order. Fills `table` with the other fields. Returns the status.
 #[unsafe(no_mangle)]
 pub extern "C" fn mp4_stts(
     alloc: Global,
@@ -25,13 +26,14 @@ pub extern "C" fn mp4_stts(
     rows: &mut [SttsRow],
     table: &mut Table,
 ) -> u32
-    ensures { HandsReading (front_box reads_stts codes.STTS bytes.now) (λ v. map row_stts v.entries) table_stts result
+    ensures { CopiesReading (front_box reads_stts codes.STTS bytes.now) (λ v. map row_stts v.entries) table_stts result
         rows.old rows.new table.old table.new }
 {
-    hand_box::<SttsBox, SttsRow, Table>(alloc, codes::STTS, bytes, rows, table)
+    copy_box_rows::<SttsBox, SttsRow, Table>(alloc, codes::STTS, bytes, rows, table)
 }
 
-/// Writes the durations of the samples (ISO/IEC 14496-12, 8.6.1.2).
+/// Writes the `stts` with `table` and `rows` to the front of `bytes`, and its length to `length` (ISO/IEC 14496-12,
+/// 8.6.1.2). Returns the status.
 #[unsafe(no_mangle)]
 pub extern "C" fn mp4_write_stts(
     alloc: Global,
@@ -40,8 +42,8 @@ pub extern "C" fn mp4_write_stts(
     bytes: &mut [u8],
     length: &mut usize,
 ) -> u32
-    ensures { PutsOrRefuses format_stts (made_stts table.now rows.now) result bytes.old bytes.new length.old
+    ensures { PutsOrRefuses format_stts (stts_of table.now rows.now) result bytes.old bytes.new length.old
         length.new }
 {
-    put_made::<SttsBox, Table, SttsRow>(alloc, table, rows, bytes, length)
+    write_from::<SttsBox, Table, SttsRow>(alloc, table, rows, bytes, length)
 }

@@ -1,34 +1,25 @@
--- One field after the other: its number is read from the bytes, or put in them.
+-- The steps of a loop over fields: each number is read from the bytes, or put in them.
 use Rattle.std.proofs.Common.{◌≡◌, ℕ, zero, suc, ◌+◌, ◌-◌, ◌*◌, ◌/◌, ◌%◌, ◌^◌, ◌<◌, ◌≤◌, true, List, [], ◌∷◌, ◌++◌}
 use Rattle.std.proofs.Common.{length, take, drop, set, slice_index, refl, sym, ap, subst, ◌∙◌, append_assoc, arith}
-use Rattle.std.proofs.lemmas.Nat.{pow-add, mod-pow-add}
+use Rattle.std.proofs.lemmas.Nat.{mod-pow-add}
 use Rattle.std.proofs.lemmas.Bool.{eqb-true}
 use Rattle.std.proofs.lemmas.List.{drop_more, drop_all, take_more_set, append-nil, length-set}
-use Rattle.std.proofs.Math.Nat.{div-div-eq-div-mul, mod-lt, div-one, mul-le-mul_right}
+use Rattle.std.proofs.Math.Nat.{mod-lt, div-one}
 use Rattle.std.proofs.Math.Pow.{pow_pos, pow_mono}
 use Rattle.std.proofs.Math.Seq.{take_all}
+use Rattle.mp4_lemmas.proofs.Numbers.{div-pow, in_bytes}
 use Rattle.mp4_frame.specs.Bytes.{number, be_bytes}
 use Rattle.mp4_frame.specs.Laws.{AreBytes}
 use Rattle.mp4_declared.specs.Bits.{bits, bytes_in, joined, split, NumbersFit, are_whole, are_fields}
 use Rattle.mp4_declared.specs.BitsLaws.{pow256, split-joined, field_is_short, rest_is_whole, bits_in, bits_at_offset}
 use Rattle.mp4_declared.specs.BitsLaws.{be_bytes-parts, be_bytes-mod, cut_twice, cut_again, fields_whole}
 
-pub below_wide : (n w : ℕ) → n < 2 ^ 64 → 64 ≤ w → n < 2 ^ w
-below_wide n w small wide = let p : 2 ^ 64 ≤ 2 ^ w = pow_mono wide in omega (arith, p)
-
-pub shifted_out : (n w : ℕ) → 64 ≤ w → n * 2 ^ w < 2 ^ 64 → 0 ≡ n * 2 ^ w
-shifted_out zero w wide small = omega arith
-shifted_out (suc n) w wide small =
-    let p : 2 ^ 64 ≤ 2 ^ w = pow_mono wide in
-    let q : 1 * 2 ^ w ≤ suc n * 2 ^ w = mul-le-mul_right (2 ^ w) (omega arith) in
-    absurd (omega (arith, p, q))
-
 pub bits-drop : (ws : List ℕ) (k : ℕ) → k < length ws → bits (drop k ws) ≡ slice_index ws k + bits (drop (k + 1) ws)
 bits-drop ws k lt = ap bits (drop_more ws k 0 lt)
 
 -- ---- reading
 
--- The first k numbers were read, from as many bits. The fields make the number x.
+-- The first k numbers are read, from `from` bits. The fields make the number x.
 pub record NumbersRead (ws : List ℕ) (x k from : ℕ) (ns : List ℕ) : Type 0 where
   pub long : length ns ≡ length ws
   pub most : k ≤ length ws
@@ -36,7 +27,7 @@ pub record NumbersRead (ws : List ℕ) (x k from : ℕ) (ns : List ℕ) : Type 0
   pub whole : are_whole from (drop k ws) ≡ true
   pub numbers : take k ns ++ split (drop k ws) x ≡ split ws x
 
--- the next field has at most 64 bits with those before it in its first byte, and ends before the last byte
+-- The next field and the bits before it in its first byte are at most 64 bits, and end in the last byte or before it.
 pub record FieldAt (ws : List ℕ) (k from : ℕ) : Type 0 where
   pub short : from % 8 + slice_index ws k ≤ 64
   pub room : from / 8 + (from % 8 + slice_index ws k + 7) / 8 ≤ bytes_in ws
@@ -95,7 +86,8 @@ all_read ws ns x k from end r =
 
 -- ---- putting
 
--- The first k numbers were put: m bytes from `at` on, and then the `count` bits of `word`, which don't fill a byte.
+-- The first k numbers are put: bytes between `at` and `next`, and then the `count` bits of `word`, which don't fill a
+-- byte.
 pub record NumbersPut (ws ns : List ℕ) (at : ℕ) (old : List ℕ) (k next word count : ℕ) (out : List ℕ) : Type 0 where
   pub least : at ≤ next
   pub most : k ≤ length ws
@@ -111,10 +103,7 @@ split-at [] x k lt = absurd (omega arith)
 split-at (w ∷ ws) x zero lt = refl
 split-at (w ∷ ws) x (suc k) lt = let e : suc k + 1 ≡ suc (k + 1) = omega arith in rw e (split-at ws x k (omega arith))
 
-div-pow : (x a b : ℕ) → x / 2 ^ a / 2 ^ b ≡ x / 2 ^ (a + b)
-div-pow x a b = div-div-eq-div-mul x (2 ^ a) (2 ^ b) ∙ ap (λ (p : ℕ). x / p) (sym (pow-add 2 a b))
-
--- what the next number makes of the bits that were left: a word of `total` bits
+-- the word that the next number and the bits left over make
 pub record WordAt (ws ns : List ℕ) (at k next word count : ℕ) : Type 0 where
   pub short : count + slice_index ws k ≤ 64
   pub shifts : word * 2 ^ slice_index ws k < 2 ^ 64
@@ -125,10 +114,6 @@ pub record WordAt (ws ns : List ℕ) (at k next word count : ℕ) : Type 0 where
       < 256 ^ ((count + slice_index ws k) / 8)
   pub few : (count + slice_index ws k) / 8 ≤ 8
   pub room : next - at + (count + slice_index ws k) / 8 ≤ bytes_in ws
-
--- a number below 2 ^ t, in whole bytes and the bits after them
-in_bytes : (t : ℕ) → t ≡ 8 * (t / 8) + t % 8
-in_bytes t = omega arith
 
 pub word_at : (ws ns : List ℕ) (at : ℕ) (old : List ℕ) (k next word count : ℕ) (out : List ℕ) → are_fields ws ≡ true
     → NumbersFit ws ns → k < length ws → NumbersPut ws ns at old k next word count out

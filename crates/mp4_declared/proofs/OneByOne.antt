@@ -1,4 +1,4 @@
--- Entries that are read one after the other: what was read, and what is still to be read.
+-- Entries that are read one after the other: those already read, and those still to be read.
 use Rattle.std.proofs.Common.{◌≡◌, ℕ, zero, suc, ◌+◌, ◌-◌, ◌<◌, ◌≤◌, Bool, true, false, List, [], ◌∷◌, ◌++◌, Result, Ok}
 use Rattle.std.proofs.Common.{Err, refl, sym, ap, subst, ◌∙◌, arith, append_assoc}
 use Rattle.std.proofs.lemmas.List.{append-nil}
@@ -10,7 +10,7 @@ use Rattle.mp4_frame.proofs.Decided.{decided_fault}
 use Rattle.mp4_declared.specs.Each.{one_by_one}
 use Rattle.mp4_declared.specs.EachLaws.{later, first_and_later, none_counted, none_follow}
 
--- what was read, and then what follows
+-- the entries already read, and then those that follow
 abbrev pub continued : {X : Type 0} → List X → Reading (List X) → Reading (List X)
 continued front r = r >>= λ xs. done (front ++ xs)
 
@@ -24,7 +24,7 @@ first_by false (Err k) = refl
 first_by true (Ok v) = refl
 first_by false (Ok v) = refl
 
--- an entry that was read moves to the front
+-- An entry that was read moves to the entries already read.
 moved_by : {X : Type 0} (front : List X) (x : X) (a : Bool) (o : Result (List X) Fault)
     → Decides (continued (front ++ x ∷ []) (record { asks_memory = a; outcome = o }))
     (continued front (also true ((record { asks_memory = a; outcome = o }) >>= λ xs. done (x ∷ xs))))
@@ -32,7 +32,7 @@ moved_by front x a (Err k) = (refl, λ _. refl)
 moved_by front x a (Ok xs) = (ap found (append_assoc front (x ∷ []) xs), λ _. refl)
 
 module _ {X : Type 0} (follow : ℕ → Bool) (reads : ℕ → Reading X) (size : X → ℕ) where
-  -- nothing is read so far
+  -- No entry is read yet.
   pub at_first : (front : List X) (n at : ℕ) → front ≡ []
       → Decides (continued front (one_by_one follow reads size n at)) (one_by_one follow reads size n at)
   at_first front n at none =
@@ -52,12 +52,12 @@ module _ {X : Type 0} (follow : ℕ → Bool) (reads : ℕ → Reading X) (size 
     begun : Decides (continued front (reads at >>= later follow reads size (n - 1) at)) whole
     begun = decides_on _ _ whole (decides_same _ _ (ap (continued front) (sym (begins n at some is)))) told
 
-    -- the next entry faults
+    -- The next entry has a fault.
     pub entry_faults : (e : Error) → Refuses e (reads at) → Refuses e whole
     entry_faults e h = decided_fault e _ whole begun
         (first_faults e _ _ (first_faults e (reads at) (later follow reads size (n - 1) at) h))
 
-    -- it is read, and then the call is out of memory
+    -- The next entry is read, and then the call is out of memory.
     pub entry_is_not_kept : (e : Error) (x : X) → e ≡ errors.OutOfMemory → (reads at).outcome ≡ Ok x → Refuses e whole
     entry_is_not_kept e x is_memory read =
         let asked = (decides_bind (reads at) (later follow reads size (n - 1) at) x read).1 refl in
@@ -66,7 +66,7 @@ module _ {X : Type 0} (follow : ℕ → Bool) (reads : ℕ → Reading X) (size 
         (first_faults errors.OutOfMemory (reads at >>= later follow reads size (n - 1) at)
         (λ xs. done (front ++ xs)) asked))
 
-    -- it is read
+    -- The next entry is read.
     pub entry_is_read : (x : X) (next : List X) (k : ℕ) → (reads at).outcome ≡ Ok x → next ≡ front ++ x ∷ []
         → k ≡ at + size x → Decides (continued next (one_by_one follow reads size (n - 1) k)) whole
     entry_is_read x next k read next_is k_is =
@@ -86,7 +86,7 @@ module _ {X : Type 0} (follow : ℕ → Bool) (reads : ℕ → Reading X) (size 
       sym told.0 ∙ ap (λ (r : Reading (List X)). (continued front r).outcome) none
       ∙ ap found (append-nil front)
 
-  -- as many were read as were counted
+  -- All entries of the count are read.
   pub none_is_left : (front : List X) (n at : ℕ) (whole : Reading (List X)) → n ≤ 0
       → Decides (continued front (one_by_one follow reads size n at)) whole → whole.outcome ≡ Ok front
   none_is_left front n at whole none told =
@@ -94,7 +94,7 @@ module _ {X : Type 0} (follow : ℕ → Bool) (reads : ℕ → Reading X) (size 
       all_read front n at whole
       (ap (λ (k : ℕ). one_by_one follow reads size k at) zero_left ∙ none_counted follow reads size at) told
 
-  -- no more follow
+  -- No more entries follow.
   pub no_more_follow : (front : List X) (n at : ℕ) (whole : Reading (List X)) → follow at ≡ false
       → Decides (continued front (one_by_one follow reads size n at)) whole → whole.outcome ≡ Ok front
   no_more_follow front n at whole is told = all_read front n at whole (none_follow follow reads size n at is) told

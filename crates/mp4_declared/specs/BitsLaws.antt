@@ -1,4 +1,4 @@
--- Numbers that were joined are split again, and bytes of a number are numbers of its bits.
+-- Splitting gives back the numbers that were joined, and the bytes of a number hold its bits.
 use Rattle.std.proofs.Common.{◌≡◌, ℕ, zero, suc, ◌+◌, ◌-◌, ◌*◌, ◌/◌, ◌%◌, ◌^◌, ◌<◌, ◌≤◌, Bool, true, false, ◌&&◌, List}
 use Rattle.std.proofs.Common.{[], ◌∷◌, ◌++◌, length, slice_index, refl, sym, ap, ◌∙◌, arith}
 use Rattle.std.proofs.lemmas.Nat.{pow-add, mod-pow-add, div-mul-add, mod-mul-add}
@@ -37,7 +37,7 @@ joined-lt (w ∷ ws) (n ∷ ns) fits =
     let apart = add-mul n 1 (2 ^ bits ws) in
     omega (arith, rest, all, top, apart)
 
--- a multiple of 2 ^ (w + b) changes none of the w bits above the lowest b
+-- Adding a multiple of 2 ^ (w + b) changes none of the w bits above the lowest b.
 above : (a w b x : ℕ) → (a * 2 ^ (w + b) + x) / 2 ^ b % 2 ^ w ≡ x / 2 ^ b % 2 ^ w
 above a w b x =
     let whole : a * 2 ^ (w + b) ≡ (a * 2 ^ w) * 2 ^ b = ap (λ (k : ℕ). a * k) (pow-add 2 w b)
@@ -46,7 +46,7 @@ above a w b x =
     ∙ ap (λ (k : ℕ). k % 2 ^ w) (mul-add-div_right (pow_pos b) (a * 2 ^ w) x)
     ∙ mul-add-mod_self_right a (2 ^ w) (x / 2 ^ b)
 
--- bits above the fields don't matter
+-- Bits above the fields don't change their numbers.
 pub split-above : (ws : List ℕ) (a x : ℕ) → split ws (a * 2 ^ bits ws + x) ≡ split ws x
 split-above [] a x = refl
 split-above (w ∷ ws) a x =
@@ -69,7 +69,7 @@ split-joined (w ∷ ws) (n ∷ ns) fits =
     ∙ split-joined ws ns fits.1 in
     rw (first, rest) refl
 
--- the numbers fit that were split
+-- Each number that was split off fits its field.
 pub split-below : (ws : List ℕ) (x k : ℕ) → slice_index (split ws x) k < 2 ^ slice_index ws k
 split-below [] x k = omega arith
 split-below (w ∷ ws) x zero = mod-lt (x / 2 ^ bits ws) (pow_pos w)
@@ -150,8 +150,8 @@ number-parts xs o (suc a) b =
     let apart = add-mul (d * 256 ^ a) (big_from (suc o) a xs) (256 ^ b) in
     rw (next, rest, power, scaled, moved, apart) (omega arith)
 
--- the w bits of a number that stand s + 8 * c bits above its end, where it ends with b bytes that begin with them and
--- with at most `before` other bits, and then c bytes
+-- the w bits that are s + 8 * c bits above the end of a number, which ends with b bytes and then c bytes; the b bytes
+-- begin with at most `before` other bits and then the w bits
 middle : (A B C before w s b c : ℕ) → before + w + s ≡ 8 * b → C < 256 ^ c
     → ((A * 256 ^ b + B) * 256 ^ c + C) / 2 ^ (8 * c + s) % 2 ^ w ≡ B / 2 ^ s % 2 ^ w
 middle A B C before w s b c is small =
@@ -167,7 +167,7 @@ middle A B C before w s b c is small =
     ∙ sym (mul_assoc A (2 ^ before) (2 ^ (w + s))) in
     ap (λ (k : ℕ). k % 2 ^ w) shift ∙ ap (λ (k : ℕ). (k + B) / 2 ^ s % 2 ^ w) high ∙ above (A * 2 ^ before) w s B
 
--- the w bits that stand r bits above the end of W bytes, where a bytes and `before` bits are in front of them
+-- the w bits that are r bits above the end of W bytes, after the first a bytes and `before` bits
 pub bits_at_offset : (xs : List ℕ) (at W a before w r : ℕ) → AreBytes xs → 8 * W ≡ 8 * a + (before + w) + r
     → number xs at W / 2 ^ r % 2 ^ w
     ≡ number xs (at + a) ((before + w + 7) / 8) / 2 ^ (8 * ((before + w + 7) / 8) - (before + w)) % 2 ^ w
@@ -205,7 +205,7 @@ be_bytes-parts (suc a) b n =
     let next : suc a + b ≡ suc (a + b) = omega arith in
     rw (next, byte, rest) refl
 
--- the lowest bits of a number after others were cut off above them
+-- Cutting off the bits above the lowest a + b, and then the lowest b, gives the a bits between.
 pub cut_twice : (n a b : ℕ) → n % 2 ^ (a + b) / 2 ^ b ≡ n / 2 ^ b % 2 ^ a
 cut_twice n a b = ap (λ (k : ℕ). k / 2 ^ b) (mod-pow-add n a b)
     ∙ div-mul-add (n / 2 ^ b % 2 ^ a) (2 ^ b) (n % 2 ^ b) (mod-lt n (pow_pos b))

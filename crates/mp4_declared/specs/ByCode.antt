@@ -1,4 +1,4 @@
--- A declared box in lists: it is told by its code.
+-- A declared box in lists. Its code identifies it.
 use Rattle.std.specs.Prelude.{◌≡◌, ℕ, ◌==◌, Bool, true}
 use Rattle.std.proofs.Common.{sym, ap, ◌∙◌}
 use Rattle.std.proofs.lemmas.Bool.{eq-eqb, eqb-true}
@@ -9,8 +9,8 @@ use Rattle.mp4_frame.specs.Reading.{reading}
 use Rattle.mp4_frame.specs.ReadingLaws.{reads_back}
 use Rattle.mp4_frame.specs.declared.box_type.BoxType.{BoxType}
 use Rattle.mp4_frame.proofs.Checks.{are_bytes-drop, reads_ok}
-use Rattle.mp4_lists.specs.OwnOr.{ByCode}
-use Rattle.mp4_lists.specs.Sound.{ReadsSoundly, ReadsOwnCode}
+use Rattle.mp4_compose.specs.Either.{ByCode}
+use Rattle.mp4_compose.specs.Stable.{ReadsStably, ReadsOwnCode}
 use Rattle.mp4_declared.specs.Shape.{Shape}
 use Rattle.mp4_declared.specs.OwnBox.{OwnLayout, reads_declared, format_declared}
 
@@ -21,7 +21,7 @@ has_code code name = code_of name == code
 pub by_code_declared : (code : ℕ) → ByCode (has_code code)
 by_code_declared code n m same = ap (λ (c : ℕ). c == code) same
 
--- the name of a code is one with this code
+-- The name made from a code has this code.
 pub own_name_of_code : (code : ℕ) → OwnName (has_code code) (name_of code)
 own_name_of_code code =
     record {
@@ -29,7 +29,7 @@ own_name_of_code code =
       is_own = ap name_of (code_of-name_of code);
     }
 
--- it has the code of each name with this code
+-- It has the code of each name with this code.
 pub code_of_own_name : (code : ℕ) (name : BoxType) → has_code code name ≡ true → code_of (name_of code) ≡ code_of name
 code_of_own_name code name known = code_of-name_of code ∙ sym (eqb-true (code_of name) code known)
 
@@ -45,9 +45,9 @@ module _ {code : ℕ} {A V : Type 0} (s : Shape A) (l : OwnLayout code A V)
       reads_back (reads_declared s l) ((format_declared s l).bytes v) ((format_declared s l).size v)
       ((format_declared s l).normal v) (laws.header v w).long (laws.read_back v w)
 
-  pub sound_declared : ReadsSoundly (has_code code) (λ _. reading (reads_declared s l)) (format_declared s l)
-  sound_declared name known fits bytes start size v are e =
-      laws.sound _ start size v (are_bytes-drop start bytes are) (reads_ok (reads_declared s l) bytes start size v e)
+  pub stable_declared : ReadsStably (has_code code) (λ _. reading (reads_declared s l)) (format_declared s l)
+  stable_declared name known fits bytes start size v are e =
+      laws.stable _ start size v (are_bytes-drop start bytes are) (reads_ok (reads_declared s l) bytes start size v e)
 
   pub code_declared : ReadsOwnCode (has_code code) (λ _. reading (reads_declared s l)) (format_declared s l)
   code_declared name known bytes start size v e = code_of_own_name code name known

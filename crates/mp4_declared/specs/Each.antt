@@ -1,4 +1,4 @@
--- Entries with a shape of their own, which may differ in length, one after the other.
+-- Entries that each have a shape, and may differ in length, one after the other.
 use Rattle.std.specs.Prelude.{ℕ, zero, suc, ◌+◌, ◌<◌, ◌^◌, ◌&&◌, Bool, true, false, not, List, [], ◌∷◌, ◌++◌, All}
 use Rattle.std.specs.Prelude.{if◌then◌else◌, length, flat_map}
 use Rattle.std.specs.List.{sum_by}
@@ -7,7 +7,7 @@ use Rattle.mp4_frame.specs.Reading.{Reading, ◌>>=◌, done, expect_bytes, memo
 use Rattle.mp4_declared.specs.declared.context.Context.{Context}
 use Rattle.mp4_declared.specs.Shape.{Shape}
 
--- The entries from an offset on, n at most, as long as more of them follow. Memory is asked for once an entry was read.
+-- The entries at an offset, n at most, as long as more of them follow. Memory is asked for after each entry.
 unfoldable pub one_by_one : {X : Type 0} → (ℕ → Bool) → (ℕ → Reading X) → (X → ℕ) → ℕ → ℕ → Reading (List X)
 one_by_one follow reads size zero at = done []
 one_by_one follow reads size (suc n) at =
@@ -17,7 +17,7 @@ one_by_one follow reads size (suc n) at =
       xs ← one_by_one follow reads size n (at + size x)
       done (x ∷ xs)) else done []
 
--- the n entries from an offset on
+-- the n entries at an offset
 abbrev pub counted : {X : Type 0} → Shape X → Context → List ℕ → ℕ → ℕ → ℕ → Reading (List X)
 counted s c bytes end n at = one_by_one (λ _. true) (λ o. s.reads c bytes o end) (s.size c) n at
 

@@ -19,7 +19,7 @@ use Rattle.mp4_declared.specs.Shape.{Shape}
 use Rattle.mp4_declared.specs.ShapeLaws.{IsShape, ends_bounded, expect_bytes_absent, put_room, number_put}
 
 module _ {X : Type 0} (follow : ℕ → Bool) (reads : ℕ → Reading X) (size : X → ℕ) where
-  -- what comes after an entry
+  -- the entries after the first one
   abbrev pub later : ℕ → ℕ → X → Reading (List X)
   later n at x = memory >>= λ _. one_by_one follow reads size n (at + size x) >>= λ xs. done (x ∷ xs)
 
@@ -37,7 +37,7 @@ module _ {X : Type 0} (follow : ℕ → Bool) (reads : ℕ → Reading X) (size 
   unfolding one_by_one
   none_counted at = refl
 
-  -- an entry, and those after it
+  -- An entry that is read, and the entries after it, are read together.
   pub one_more : (n at : ℕ) (x : X) (xs : List X) → follow at ≡ true → (reads at).outcome ≡ Ok x
       → (one_by_one follow reads size n (at + size x)).outcome ≡ Ok xs
       → (one_by_one follow reads size (suc n) at).outcome ≡ Ok (x ∷ xs)
@@ -46,7 +46,7 @@ module _ {X : Type 0} (follow : ℕ → Bool) (reads : ℕ → Reading X) (size 
       ∙ outcome_bind (reads at) (later n at) x (Ok (x ∷ xs)) first
       (outcome_bind (one_by_one follow reads size n (at + size x)) (λ ys. done (x ∷ ys)) xs (Ok (x ∷ xs)) rest refl)
 
-  -- where some are read, there is a first one, and those after it
+  -- If some entries are read, a first entry is read, and then those after it.
   pub split : (n at : ℕ) (xs : List X) → follow at ≡ true → (one_by_one follow reads size (suc n) at).outcome ≡ Ok xs
       → (x : X) × ((reads at).outcome ≡ Ok x) × (ys : List X)
       × ((one_by_one follow reads size n (at + size x)).outcome ≡ Ok ys) × (x ∷ ys ≡ xs)
@@ -56,7 +56,7 @@ module _ {X : Type 0} (follow : ℕ → Bool) (reads : ℕ → Reading X) (size 
       let q = value_first (one_by_one follow reads size n (at + size p.0)) (λ ys. done (p.0 ∷ ys)) xs p.2 in
       (p.0, p.1, q.0, q.1, is_value (p.0 ∷ q.0) xs q.2)
 
-  -- what holds of each entry that is read holds of all
+  -- A property of each entry that is read is a property of all entries of the list.
   pub all_are : (P : X → Type 0) → ((o : ℕ) (x : X) → (reads o).outcome ≡ Ok x → P x) → (n at : ℕ) (xs : List X)
       → (one_by_one follow reads size n at).outcome ≡ Ok xs → AllByRecursion P xs
   all_are P each zero at xs e =
@@ -74,7 +74,7 @@ module _ {X : Type 0} (follow : ℕ → Bool) (reads : ℕ → Reading X) (size 
           subst (AllByRecursion P)
           (is_value [] xs (ap (λ (r : Reading (List X)). r.outcome) (sym (none_follow (suc n) at is)) ∙ e)) tt
 
-  -- where entries always follow, there are as many as were counted
+  -- If more entries always follow, there are as many as the count says.
   pub as_counted : ((o : ℕ) → follow o ≡ true) → (n at : ℕ) (xs : List X)
       → (one_by_one follow reads size n at).outcome ≡ Ok xs → length xs ≡ n
   as_counted always zero at xs e =
@@ -96,7 +96,7 @@ module _ {X : Type 0} (s : Shape X) (is : IsShape s) where
         sum_by-cons (s.size c) x xs,
       )
 
-  -- the first of entries among other bytes, where those after it fit the box
+  -- the first of several entries among other bytes, where the entries after it fit the box
   pub first_back : (s.valid && not s.to_end) ≡ true → (c : Context) (v : X) (rest x y : List ℕ) (end : ℕ)
       → s.Fits c v → length x + s.size c v ≤ end
       → (s.reads c (x ++ ((s.bytes c v ++ rest) ++ y)) (length x) end).outcome ≡ Ok v
@@ -106,7 +106,7 @@ module _ {X : Type 0} (s : Shape X) (is : IsShape s) where
       ∙ is.back (and_first s.valid (not s.to_end) valid) c v x (rest ++ y) end fits
       (ends_bounded s.to_end (length x + s.size c v) end bounded ends)
 
-  -- where the next one begins
+  -- the offset of the next entry
   pub next_at : (c : Context) (v : X) (x : List ℕ) → s.Fits c v → length (x ++ s.bytes c v) ≡ length x + s.size c v
   next_at c v x fits = omega (arith, length-append x (s.bytes c v), is.long c v fits)
 
@@ -114,7 +114,7 @@ module _ {X : Type 0} (s : Shape X) (is : IsShape s) where
       → x ++ ((s.bytes c v ++ rest) ++ y) ≡ (x ++ s.bytes c v) ++ (rest ++ y)
   next_bytes c v rest x y = simp append_assoc
 
-  -- entries that were written after x are read back
+  -- Entries that are written after x are read back.
   counted_back : (s.valid && not s.to_end) ≡ true → (c : Context) (xs : List X) (x y : List ℕ) (end : ℕ)
       → AllByRecursion (s.Fits c) xs → length x + sum_by (s.size c) xs ≤ end
       → (counted s c (x ++ (flat_map (s.bytes c) xs ++ y)) end (length xs) (length x)).outcome ≡ Ok xs
@@ -160,16 +160,16 @@ module _ {X : Type 0} (width : ℕ) (s : Shape X) (is : IsShape s) where
       (omega (arith, ends, at)) in
       rw (expect_bytes_present bytes o width here, known) back
 
-  each_sound : (s.valid && not s.to_end) ≡ true → (c : Context) (bytes : List ℕ) (at end : ℕ) (xs : List X)
+  each_stable : (s.valid && not s.to_end) ≡ true → (c : Context) (bytes : List ℕ) (at end : ℕ) (xs : List X)
       → AreBytes bytes → ((each_shape width s).reads c bytes at end).outcome ≡ Ok xs
       → (length xs < 256 ^ width) × All (s.Fits c) xs
-  each_sound valid c bytes at end xs are read =
+  each_stable valid c bytes at end xs are read =
       let n = number bytes at width in
       let reads = λ (o : ℕ). s.reads c bytes o end in
       let one = expect_bytes_ok bytes at width (λ _. counted s c bytes end n (at + width)) xs read in
       let many = as_counted (λ _. true) reads (s.size c) (λ _. refl) n (at + width) xs one in
       let fit = all_are (λ _. true) reads (s.size c) (s.Fits c)
-      (λ o x e. is.sound (and_first s.valid (not s.to_end) valid) c bytes o end x are e) n (at + width) xs one in
+      (λ o x e. is.stable (and_first s.valid (not s.to_end) valid) c bytes o end x are e) n (at + width) xs one in
       (omega (arith, many, number-below bytes at width are), All-from_recursion (s.Fits c) xs fit)
 
   pub each_laws : IsShape (each_shape width s)
@@ -182,7 +182,7 @@ module _ {X : Type 0} (width : ℕ) (s : Shape X) (is : IsShape s) where
           length_each s is c xs (recursion_from_All (s.Fits c) xs fits.1),
         );
     back = λ valid c xs x y end fits ends. each_back valid c xs x y end fits ends;
-    sound = each_sound;
+    stable = each_stable;
     front_first = λ c bytes at end le lt. rw (expect_bytes_absent bytes at width le lt) refl;
     fixed_size = λ h. absurd cc;
     fixed_reads = λ h. absurd cc;

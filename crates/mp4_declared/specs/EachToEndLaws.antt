@@ -20,7 +20,7 @@ module _ {X : Type 0} (s : Shape X) (is : IsShape s) where
   abbrev inside : Context → ℕ → ℕ → X → Bool
   inside c at end x = ltb at (at + s.size c x) && leb (at + s.size c x) end
 
-  -- an entry of some bytes that ends in the box
+  -- an entry with at least one byte that ends in the box
   inside_back : (c : Context) (bytes : List ℕ) (at end : ℕ) (v : X) → (s.reads c bytes at end).outcome ≡ Ok v
       → 0 < s.size c v → at + s.size c v ≤ end → (reads_inside s c bytes end at).outcome ≡ Ok v
   unfolding reads_inside
@@ -42,7 +42,7 @@ module _ {X : Type 0} (s : Shape X) (is : IsShape s) where
       let some : 0 < s.size c p.0 = omega arith in
       subst (λ (x : X). ((s.reads c bytes at end).outcome ≡ Ok x) × (0 < s.size c x)) (is_value p.0 v q.1) (p.1, some)
 
-  -- entries that were written after x are read back, up to where they end
+  -- Entries that are written after x are read back, up to their end.
   until_end_back : (s.valid && not s.to_end) ≡ true → (c : Context) (xs : List X) (n : ℕ) (x y : List ℕ) (end : ℕ)
       → AllByRecursion (s.Fits c) xs → AllByRecursion (λ v. 0 < s.size c v) xs
       → length x + sum_by (s.size c) xs ≡ end → sum_by (s.size c) xs ≤ n
@@ -75,12 +75,12 @@ module _ {X : Type 0} (s : Shape X) (is : IsShape s) where
     back = λ valid c xs x y end fits ends.
         until_end_back valid c xs (end - length x) x y end (recursion_from_All (s.Fits c) xs fits.0)
         (recursion_from_All (λ v. 0 < s.size c v) xs fits.1) ends (omega (arith, ends));
-    sound = λ valid c bytes at end xs are read.
+    stable = λ valid c bytes at end xs are read.
         let reads = λ (o : ℕ). reads_inside s c bytes end o in
         let follow = λ (o : ℕ). ltb o end in (
           All-from_recursion (s.Fits c) xs
               (all_are follow reads (s.size c) (s.Fits c)
-              (λ o x e. is.sound (and_first s.valid (not s.to_end) valid) c bytes o end x are
+              (λ o x e. is.stable (and_first s.valid (not s.to_end) valid) c bytes o end x are
               (inside_read c bytes o end x e).0) (end - at) at xs read),
           All-from_recursion (λ v. 0 < s.size c v) xs
               (all_are follow reads (s.size c) (λ v. 0 < s.size c v) (λ o x e. (inside_read c bytes o end x e).1)

@@ -1,4 +1,4 @@
--- The laws of a shape after version and flags.
+-- The laws of version, flags, and a shape after them.
 use Rattle.std.proofs.Common.{◌≡◌, ℕ, ◌+◌, ◌<◌, ◌≤◌, ◌^◌, true, ltb, List, ◌++◌, length, Ok, refl, ap}
 use Rattle.std.proofs.Common.{subst, ◌∙◌, append_assoc, length-append, arith}
 use Rattle.std.proofs.lemmas.Bool.{lt-ltb, ltb-true}
@@ -51,9 +51,9 @@ module _ {A : Type 0} (n : ℕ) (s : Shape A) (is : IsShape s) where
       outcome_bind (s.reads here bytes (o + 4) end) (λ z. done (v.0, (v.1.0, z))) v.1.1 (Ok v) rest refl in
       rw (present, version, flags, known) whole
 
-  full_sound : s.valid ≡ true → (c : Context) (bytes : List ℕ) (at end : ℕ) (v : ℕ × (ℕ × A)) → AreBytes bytes
+  full_stable : s.valid ≡ true → (c : Context) (bytes : List ℕ) (at end : ℕ) (v : ℕ × (ℕ × A)) → AreBytes bytes
       → ((full_shape n s).reads c bytes at end).outcome ≡ Ok v → (full_shape n s).Fits c v
-  full_sound valid c bytes at end v are read =
+  full_stable valid c bytes at end v are read =
       let version = number bytes at 1 in
       let flags = number bytes (at + 1) 3 in
       let here : Context = record { version = version; flags = flags } in
@@ -66,7 +66,7 @@ module _ {A : Type 0} (n : ℕ) (s : Shape A) (is : IsShape s) where
       let byte : version < 2 ^ 8 = let k = number-below bytes at 1 are in omega arith in
       let three : flags < 2 ^ 24 = let k = number-below bytes (at + 1) 3 are in omega arith in
       subst (λ (u : ℕ × (ℕ × A)). (full_shape n s).Fits c u) is_read
-      (ltb-true version n two.0, byte, three, is.sound valid here bytes (at + 4) end p.0 are p.1)
+      (ltb-true version n two.0, byte, three, is.stable valid here bytes (at + 4) end p.0 are p.1)
 
   pub full_laws : IsShape (full_shape n s)
   full_laws = record {
@@ -81,7 +81,7 @@ module _ {A : Type 0} (n : ℕ) (s : Shape A) (is : IsShape s) where
           is.long here v.1.1 fits.3,
         );
     back = full_back;
-    sound = full_sound;
+    stable = full_stable;
     front_first = λ c bytes at end le lt. rw (expect_bytes_absent bytes at 4 le lt) refl;
     fixed_size = λ h. absurd cc;
     fixed_reads = λ h. absurd cc;

@@ -1,4 +1,4 @@
--- The laws of an entry that is declared follow from a few facts about its layout.
+-- The laws of a declared entry follow from a few facts about its layout.
 use Rattle.std.proofs.Common.{◌≡◌, ℕ, suc, ◌<◌, ◌^◌, ◌&&◌, Bool, true, false, List, [], ◌∷◌, slice_index, refl, sym, ap}
 use Rattle.std.proofs.Common.{lit<, subst, ◌∙◌}
 use Rattle.std.proofs.lemmas.Bool.{eqb-true, ltb-true}
@@ -14,7 +14,7 @@ use Rattle.mp4_declared.specs.Layout.{bit, EntryLayout, row_of, entry_of, FitsEn
 use Rattle.mp4_declared.specs.Layout.{widths_of, InField, InFields, number_of, numbers_of, value_of, values_of}
 use Rattle.mp4_declared.specs.Layout.{OwnEntry, layout_in}
 
--- a flag is read back, and fits one bit
+-- A flag is read back, and fits one bit.
 pub flag_back : (flag : Bool) → (bit flag == 1) ≡ flag
 flag_back true = refl
 flag_back false = refl
@@ -23,8 +23,8 @@ pub flag_fits : (flag : Bool) → bit flag < 2
 flag_fits true = lit< tt
 flag_fits false = lit< tt
 
--- What holds of the layout of an entry: its fields fill e bytes, an entry is made of its numbers, and the
--- numbers of an entry fit where those fit that it is made of.
+-- The facts about the layout of an entry: its fields fill e bytes, an entry is made of its numbers, and an entry that
+-- is made of numbers that fit has numbers that fit.
 pub record IsEntryLayout {X : Type 0} (l : EntryLayout X) (e : ℕ) : Type 0 where
   pub long : bytes_in l.widths ≡ e
   pub fields : are_fields l.widths ≡ true

@@ -9,8 +9,8 @@ pub mod ListLaws
 pub mod FullLaws
 pub mod OwnBox
 pub mod OwnBoxLaws
-pub mod MoreShapes
-pub mod MoreShapesLaws
+pub mod OptionalShapes
+pub mod OptionalShapesLaws
 pub mod Strings
 pub mod StringsLaws
 pub mod DeclaredEntry
@@ -21,3 +21,15 @@ pub mod EachToEnd
 pub mod EachToEndLaws
 pub mod ByCode
 pub mod CheckedByCode
+pub mod ToEnd
+pub mod ToEndLaws
+pub mod Typed
+pub mod TypedLaws
+pub mod WithSize
+pub mod WithSizeLaws
+pub mod OrZeros
+pub mod OrZerosLaws
+pub mod ByVersion
+pub mod ByVersionLaws
+pub mod SignedTime
+pub mod SignedTimeLaws

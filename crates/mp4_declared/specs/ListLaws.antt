@@ -3,7 +3,9 @@ use Rattle.std.proofs.Common.{◌≡◌, ℕ, ◌+◌, ◌*◌, ◌-◌, ◌<◌
 use Rattle.std.proofs.Common.{refl, ap, ◌∙◌, append_assoc, length-append, arith}
 use Rattle.std.specs.List.{flat_map, All}
 use Rattle.std.proofs.lemmas.Bool.{le-leb, ltb-true}
+use Rattle.std.proofs.lemmas.List.{length-map}
 use Rattle.std.proofs.lemmas.List.Elements.{All-from_recursion, recursion_from_All}
+use Rattle.mp4_lemmas.proofs.Lists.{length_flat, map_back}
 use Rattle.mp4_frame.specs.Bytes.{number, be_bytes}
 use Rattle.mp4_frame.specs.Laws.{AreBytes}
 use Rattle.mp4_frame.specs.Reading.{Reading, ◌>>=◌, done, memory}
@@ -11,14 +13,14 @@ use Rattle.mp4_frame.specs.Tables.{rows_at}
 use Rattle.mp4_frame.proofs.Checks.{expect_bytes_present, expect_bytes_ok, check_ok, is_value}
 use Rattle.mp4_frame.proofs.Fields.{length-be_bytes, number-below}
 use Rattle.mp4_frame.proofs.TableLaws.{IsEntry}
-use Rattle.mp4_frame.proofs.Tables.{length_flat, rows_at_back, rows_read, map_back, map_all, length_map, value_first}
+use Rattle.mp4_frame.proofs.Tables.{rows_at_back, rows_read, map_all, value_first}
 use Rattle.mp4_declared.specs.declared.context.Context.{Context}
 use Rattle.mp4_declared.specs.Shape.{rows_within, reads_entries, list_shape}
 use Rattle.mp4_declared.specs.ShapeLaws.{IsShape, expect_bytes_absent, put_room, number_put}
 
 module _ {X : Type 0} (width e : ℕ) (row_of : X → List ℕ) (entry_of : List ℕ → X) (FitsRow : X → Type 0)
     (entry : IsEntry row_of entry_of FitsRow e) where
-  -- entries that were written after p are read back
+  -- Entries that are written after p are read back.
   entries_back : (p y : List ℕ) (xs : List X) (end o : ℕ) → length p ≡ o → o + e * length xs ≤ end → All FitsRow xs
       → (reads_entries entry_of e (p ++ (flat_map row_of xs ++ y)) end o (length xs)).outcome ≡ Ok xs
   unfolding reads_entries rows_within
@@ -29,7 +31,7 @@ module _ {X : Type 0} (width e : ℕ) (row_of : X → List ℕ) (entry_of : List
       let back = map_back row_of entry_of FitsRow entry.back xs by in
       rw (enough, rows, back) refl
 
-  -- entries that were read fit their rows, and there are as many as the count says
+  -- Entries that are read fit their rows, and there are as many as the count says.
   entries_read : 0 < e → (bytes : List ℕ) (end o n : ℕ) (xs : List X) → AreBytes bytes
       → (reads_entries entry_of e bytes end o n).outcome ≡ Ok xs → All FitsRow xs × (length xs ≡ n)
   unfolding reads_entries rows_within
@@ -41,7 +43,7 @@ module _ {X : Type 0} (width e : ℕ) (row_of : X → List ℕ) (entry_of : List
       let is : map entry_of p.0 ≡ xs = is_value (map entry_of p.0) xs p.2 in
       rw (← is) (
         All-from_recursion FitsRow (map entry_of p.0) (map_all e entry_of FitsRow entry.fits p.0 r.0),
-        length_map entry_of p.0 ∙ r.1,
+        length-map p.0 entry_of ∙ r.1,
       )
 
   list_long : (xs : List X) → All FitsRow xs
@@ -78,7 +80,7 @@ module _ {X : Type 0} (width e : ℕ) (row_of : X → List ℕ) (entry_of : List
   list_laws = record {
     long = λ c xs fits. list_long xs fits.1;
     back = λ _ c xs x y end fits ends. list_back xs x y end fits ends c;
-    sound = λ valid c bytes at end xs are read.
+    stable = λ valid c bytes at end xs are read.
         let n = number bytes at width in
         let one = expect_bytes_ok bytes at width (λ _. reads_entries entry_of e bytes end (at + width) n) xs read in
         let r = entries_read (ltb-true 0 e valid) bytes end (at + width) n xs are one in

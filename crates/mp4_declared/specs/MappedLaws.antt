@@ -1,4 +1,4 @@
--- The laws of a shape whose values are seen as others.
+-- The laws of a shape whose values are converted, one to one.
 use Rattle.std.proofs.Common.{◌≡◌, ℕ, ◌+◌, ◌<◌, ◌≤◌, true, List, ◌++◌, length, Ok, Err, refl, sym, ap, subst, ◌∙◌}
 use Rattle.mp4_frame.specs.Laws.{AreBytes}
 use Rattle.mp4_frame.specs.Reading.{Reading, End, ◌>>=◌, done}
@@ -20,12 +20,12 @@ module _ {A B : Type 0} (f : A → B) (g : B → A) (there : (x : A) → g (f x)
       (is.back valid c (g v) x y end fits ends) refl
       ∙ ap (λ (u : B). Ok u) (back v)
 
-  mapped_sound : s.valid ≡ true → (c : Context) (bytes : List ℕ) (at end : ℕ) (v : B) → AreBytes bytes
+  mapped_stable : s.valid ≡ true → (c : Context) (bytes : List ℕ) (at end : ℕ) (v : B) → AreBytes bytes
       → ((mapped_shape f g s).reads c bytes at end).outcome ≡ Ok v → s.Fits c (g v)
-  mapped_sound valid c bytes at end v are read =
+  mapped_stable valid c bytes at end v are read =
       let p = value_first (s.reads c bytes at end) (λ z. done (f z)) v read in
       let same : p.0 ≡ g v = sym (there p.0) ∙ ap g (is_value (f p.0) v p.2) in
-      subst (λ (x : A). s.Fits c x) same (is.sound valid c bytes at end p.0 are p.1)
+      subst (λ (x : A). s.Fits c x) same (is.stable valid c bytes at end p.0 are p.1)
 
   mapped_front : (c : Context) (bytes : List ℕ) (at end : ℕ) → at ≤ length bytes → length bytes < at + s.front c
       → ((mapped_shape f g s).reads c bytes at end).outcome ≡ Err End
@@ -36,7 +36,7 @@ module _ {A B : Type 0} (f : A → B) (g : B → A) (there : (x : A) → g (f x)
   mapped_laws = record {
     long = λ c v fits. is.long c (g v) fits;
     back = mapped_back;
-    sound = mapped_sound;
+    stable = mapped_stable;
     front_first = mapped_front;
     fixed_size = λ fixed c v. is.fixed_size fixed c (g v);
     fixed_reads = λ fixed c bytes at end room.

@@ -1,4 +1,4 @@
--- A box that is declared: a size and a code of four bytes each, and a shape.
+-- A declared box: a size and a code of four bytes each, and a shape.
 use Rattle.std.specs.Prelude.{◌≡◌, ℕ, ◌+◌, ◌<◌, ◌^◌, Bool, true, List, [], ◌∷◌, ◌++◌}
 use Rattle.mp4_frame.specs.BoxType.{name_of}
 use Rattle.mp4_frame.specs.Bytes.{bytes_of_fields, FieldsFit}
@@ -9,20 +9,20 @@ use denote.Struct.Values.{Values}
 use Rattle.mp4_declared.specs.declared.context.Context.{Context}
 use Rattle.mp4_declared.specs.Shape.{Shape}
 
--- before a version and flags are known
+-- the context of a shape that follows no version and flags
 abbrev pub no_context : Context
 no_context = record { version = 0; flags = 0 }
 
--- The fields of a box: the content of a box, and the box of some content. The box of a box's content is its normal
--- form. The author shows that some content is that of its box, and that the code has 32 bits.
+-- The fields of a box: its content, and the box made from some content. The normal form of a box is the box made from
+-- its content. The author shows that some content is that of the box made from it, and that the code has 32 bits.
 pub record OwnLayout (code : ℕ) (A V : Type 0) : Type 0 where
   pub content : V → A
   pub value : A → V
   pub again : (x : A) → content (value x) ≡ x
   pub coded : code < 2 ^ 32
 
--- The same of a struct whose fields, in their order, are the parts of the content. `struct` of its module says what
--- they are, `free` that it has no ghost fields, and `back` that it is its own normal form.
+-- The layout of a struct whose fields, in their order, are the parts of the content. `struct` of its module describes
+-- them, `free` says that it has no ghost fields, and `back` that it is its own normal form.
 abbrev pub layout_of : {code : ℕ} (n : Struct) (free : (x : Values n.parts) → n.Ghost x)
     → ((v : n.D) → n.make (n.as_values v) (free (n.as_values v)) ≡ v) → code < 2 ^ 32
     → OwnLayout code (Values n.parts) n.D
@@ -54,7 +54,8 @@ format_declared {code} s l = record {
   normal = λ v. l.value (l.content v);
 }
 
--- The same with a check of the box's own, `passes`: it comes after its content, and what doesn't pass can't be written.
+-- The reading and format of a box with a check. The check `passes` follows the content, and a box that doesn't pass
+-- can't be written.
 unfoldable pub reads_checked : {code : ℕ} {A V : Type 0} → (V → Bool) → Shape A → OwnLayout code A V → List ℕ → ℕ → ℕ
     → Reading V
 reads_checked passes s l bytes start end = do

@@ -1,11 +1,11 @@
--- The laws of a box that is declared follow from those of its shape.
+-- The laws of a declared box follow from those of its shape.
 use Rattle.std.proofs.Common.{◌≡◌, ℕ, ◌+◌, ◌≤◌, ◌<◌, ◌^◌, Bool, true, false, leb, List, [], ◌++◌, length, Ok, Err, refl}
 use Rattle.std.proofs.Common.{sym, ap, subst, ◌∙◌, append_assoc, length-append, arith}
 use Rattle.std.proofs.lemmas.Bool.{leb-true, leb-false}
 use Rattle.mp4_frame.specs.BoxType.{name_of, code_of, code_of-name_of}
 use Rattle.mp4_frame.specs.Bytes.{bytes_of_fields, FieldsFit}
 use Rattle.mp4_frame.specs.Format.{IsBox}
-use Rattle.mp4_frame.specs.Laws.{BeginsWithHeader, ContentReadsBack, ContentIsSound, Normal}
+use Rattle.mp4_frame.specs.Laws.{BeginsWithHeader, ContentReadsBack, ContentIsStable, Normal}
 use Rattle.mp4_frame.specs.Reading.{Reading, End, ◌>>=◌, done, check, expect_bytes}
 use Rattle.mp4_frame.specs.declared.error.Error.TheVariants as errors
 use Rattle.mp4_frame.proofs.Checks.{expect_bytes_present, expect_bytes_ok, check_ok, past, is_value}
@@ -18,7 +18,7 @@ use Rattle.mp4_declared.specs.ShapeLaws.{IsShape, ends_always, expect_bytes_abse
 use Rattle.mp4_declared.specs.OwnBox.{no_context, OwnLayout, reads_declared, size_declared, header_declared}
 use Rattle.mp4_declared.specs.OwnBox.{format_declared, reads_checked, format_checked}
 
--- a size, a code, and bytes that fill the size after them are a box with the name of the code
+-- A size, a code, and bytes that fill the size are a box with the name of the code.
 pub header_of_code : (size code : ℕ) (rest : List ℕ) → FieldsFit (header_declared size code) → 8 + length rest ≡ size
     → BeginsWithHeader size (name_of code) (bytes_of_fields (header_declared size code) ++ rest)
 header_of_code size code rest fits long =
@@ -52,20 +52,20 @@ module _ {code : ℕ} {A V : Type 0} (s : Shape A) (is : IsShape s) (l : OwnLayo
       (expect_bytes_present bytes 0 8 room)
       ∙ outcome_bind (s.reads no_context bytes 8 size) (λ y. done (l.value y)) x (Ok (l.value x)) found refl
 
-  declared_sound : ContentIsSound (reads_declared s l) (format_declared s l).Writable (size_declared s l)
+  declared_stable : ContentIsStable (reads_declared s l) (format_declared s l).Writable (size_declared s l)
       (λ v. l.value (l.content v))
   unfolding reads_declared
-  declared_sound bytes start long v are read =
+  declared_stable bytes start long v are read =
       let one = expect_bytes_ok bytes 0 8 (λ _. s.reads no_context bytes 8 long >>= λ y. done (l.value y)) v read in
       let p = value_first (s.reads no_context bytes 8 long) (λ y. done (l.value y)) v one in
       let made : l.value p.0 ≡ v = is_value (l.value p.0) v p.2 in
       let back : p.0 ≡ l.content v = sym (l.again p.0) ∙ ap l.content made in
-      let fits = is.sound valid no_context bytes 8 long p.0 are p.1 in (
+      let fits = is.stable valid no_context bytes 8 long p.0 are p.1 in (
         ap l.value (sym back) ∙ made,
         λ small. ((small, (l.coded, tt)), subst (λ (x : A). s.Fits no_context x) back fits),
       )
 
-  -- the normal form has the same content
+  -- The normal form has the same content.
   declared_normal : (v : V) → (format_declared s l).Writable v
       → Normal (format_declared s l).Writable (format_declared s l).bytes (λ u. l.value (l.content u)) v
   declared_normal v w =
@@ -86,10 +86,10 @@ module _ {code : ℕ} {A V : Type 0} (s : Shape A) (is : IsShape s) (l : OwnLayo
         (omega (arith, is.long no_context (l.content v) w.1));
     normal_form = declared_normal;
     read_back = declared_back;
-    sound = declared_sound;
+    stable = declared_stable;
   }
 
-  -- too few bytes for the header, and for what is expected before anything else is checked
+  -- With too few bytes for the header and the front of the content, the input ends.
   pub declared_short : (bytes : List ℕ) (start end : ℕ) → length bytes < 8 + s.front no_context
       → (reads_declared s l bytes start end).outcome ≡ Err End
   unfolding reads_declared
@@ -108,7 +108,7 @@ module _ {code : ℕ} {A V : Type 0} (s : Shape A) (is : IsShape s) (l : OwnLayo
           (is.front_first no_context bytes 8 end room short)
       by false e = rw (expect_bytes_absent bytes 0 8 (omega arith) (leb-false 8 (length bytes) e)) refl
 
-  -- a check that a box passes is passed by its normal form
+  -- The normal form of a box that passes a check also passes it.
   module _ (passes : V → Bool) (kept : (v : V) → passes v ≡ true → passes (l.value (l.content v)) ≡ true) where
     abbrev last : V → Reading V
     last v = check (passes v) >>= λ _. done v
@@ -124,13 +124,13 @@ module _ {code : ℕ} {A V : Type 0} (s : Shape A) (is : IsShape s) (l : OwnLayo
         outcome_bind (reads_declared s l bytes start size) last normal (Ok normal)
         (declared_back v w.0 rest start top) (rw (kept v w.1) refl)
 
-    checked_sound : ContentIsSound (reads_checked passes s l) (format_checked passes s l).Writable (size_declared s l)
+    checked_stable : ContentIsStable (reads_checked passes s l) (format_checked passes s l).Writable (size_declared s l)
         (λ v. l.value (l.content v))
     unfolding reads_checked
-    checked_sound bytes start long v are read =
+    checked_stable bytes start long v are read =
         let p = value_first (reads_declared s l bytes start long) last v read in
         let one = check_ok (passes p.0) (λ _. done p.0) v p.2 in
-        let d = declared_sound bytes start long p.0 are p.1 in
+        let d = declared_stable bytes start long p.0 are p.1 in
         subst (λ (u : V). (l.value (l.content u) ≡ u)
         × (size_declared s l u < 2 ^ 32 → (format_checked passes s l).Writable u)) (is_value p.0 v one.1)
         (d.0, λ small. (d.1 small, one.0))
@@ -142,5 +142,5 @@ module _ {code : ℕ} {A V : Type 0} (s : Shape A) (is : IsShape s) (l : OwnLayo
           let n = declared_normal v w.0 in
           record { writable = (n.writable, kept v w.1); again = n.again; same_bytes = n.same_bytes };
       read_back = checked_back;
-      sound = checked_sound;
+      stable = checked_stable;
     }

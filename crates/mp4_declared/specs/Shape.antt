@@ -1,5 +1,5 @@
--- The shape of what a box holds: how a value is read, and in which bytes it is written. Bytes and offsets are those
--- from the box's start on, and `end` is where the box ends.
+-- The shape of a box's content: how a value is read, and in which bytes it is written. Bytes and offsets count from the
+-- start of the box, which ends at `end`.
 use Rattle.std.specs.Prelude.{ℕ, ◌+◌, ◌<◌, ◌^◌, ◌==◌, ◌&&◌, Bool, true, false, not, List, ◌++◌, if◌then◌else◌, All}
 use Rattle.std.specs.Prelude.{length, map, flat_map, nat_lt, nat_le, ◌*◌, ◌-◌}
 use Rattle.mp4_frame.specs.Tables.{rows_at}
@@ -7,10 +7,10 @@ use Rattle.mp4_frame.specs.Bytes.{number, be_bytes}
 use Rattle.mp4_frame.specs.Reading.{Reading, ◌>>=◌, done, expect_bytes, check, memory}
 use Rattle.mp4_declared.specs.declared.context.Context.{Context}
 
--- What is read from an offset on, in how many bytes a value is written, whether it fits them, and which they are.
--- The first `front` bytes are expected before anything else is checked. A fixed shape has no others, and refuses none.
--- A shape that goes `to_end` takes all bytes up to the end of the box. In a `valid` one nothing follows such a part,
--- and the entries of a list have some bytes.
+-- The reading at an offset, and for a value its number of bytes, whether it fits them, and the bytes themselves. The
+-- first `front` bytes must be present before anything else is checked. A fixed shape has no other bytes, and refuses
+-- none. A shape `to_end` takes all bytes up to the end of the box. In a `valid` one nothing follows such a part, and
+-- the entries of a list have at least one byte.
 pub record Shape (A : Type 0) : Type 1 where
   pub reads : Context → List ℕ → ℕ → ℕ → Reading A
   pub size : Context → A → ℕ
@@ -21,7 +21,7 @@ pub record Shape (A : Type 0) : Type 1 where
   pub to_end : Bool
   pub valid : Bool
 
--- a number of so many bytes
+-- a number, whose width in bytes depends on the context
 abbrev pub number_shape : (Context → ℕ) → Shape ℕ
 number_shape width = record {
   reads = λ c bytes at end. expect_bytes bytes at (width c) >>= λ _. done (number bytes at (width c));
@@ -34,11 +34,11 @@ number_shape width = record {
   valid = true;
 }
 
--- how many bytes a time has in a version
+-- the number of bytes of a time in a version
 abbrev pub time_width : ℕ → ℕ
 time_width version = if version == 0 then 4 else 8
 
--- n bytes that are written as 0, and read as any
+-- n bytes, which are written as 0 and read as any
 abbrev pub zeros_shape : ℕ → Shape (Unit {0})
 zeros_shape n = record {
   reads = λ c bytes at end. expect_bytes bytes at n;
@@ -51,7 +51,7 @@ zeros_shape n = record {
   valid = true;
 }
 
--- one shape, and then another
+-- two shapes, one after the other
 abbrev pub pair_shape : {A B : Type 0} → Shape A → Shape B → Shape (A × B)
 pair_shape {A} {B} a b = record {
   reads = λ c bytes at end. a.reads c bytes at end >>= λ x. b.reads c bytes (at + a.size c x) end >>= λ y. done (x, y);
@@ -64,7 +64,7 @@ pair_shape {A} {B} a b = record {
   valid = a.valid && (not a.to_end && b.valid);
 }
 
--- a shape whose values are seen as others, one to one
+-- a shape whose values are converted, one to one
 abbrev pub mapped_shape : {A B : Type 0} → (A → B) → (B → A) → Shape A → Shape B
 mapped_shape {A} {B} f g s = record {
   reads = λ c bytes at end. s.reads c bytes at end >>= λ x. done (f x);
@@ -77,16 +77,16 @@ mapped_shape {A} {B} f g s = record {
   valid = s.valid;
 }
 
--- a shape as the last one of several
+-- the last of several shapes
 abbrev pub last_shape : {A : Type 0} → Shape A → Shape (A × Unit {0})
 last_shape {A} s = mapped_shape {A = A} {B = A × Unit {0}} (λ x. (x, tt)) (λ v. v.0) s
 
--- n bytes that are written as 0, and read as any, and then a shape
+-- n bytes, which are written as 0 and read as any, and then a shape
 abbrev pub reserved_shape : {A : Type 0} → ℕ → Shape A → Shape A
 reserved_shape {A} n s =
     mapped_shape {A = Unit {0} × A} {B = A} (λ v. v.1) (λ x. (tt, x)) (pair_shape (zeros_shape n) s)
 
--- the version in 1 byte, below n, the flags in 3, and a shape that may differ with them
+-- a version below n in 1 byte, flags in 3, and a shape that may depend on both
 abbrev pub full_shape : {A : Type 0} → ℕ → Shape A → Shape (ℕ × (ℕ × A))
 full_shape {A} n s = record {
   reads = λ c bytes at end.
@@ -104,13 +104,13 @@ full_shape {A} n s = record {
   valid = s.valid;
 }
 
--- the n rows of e bytes each from o on; the box is checked to have room for them
+-- the n rows of e bytes each at offset o, after a check that the box has room for them
 unfoldable pub rows_within : List ℕ → ℕ → ℕ → ℕ → ℕ → Reading (List (List ℕ))
 rows_within bytes end o e n = do
   _ ← check (nat_le (n * e) (end - o))
   rows_at bytes o e n
 
--- the entries of these rows
+-- the entries in these rows
 unfoldable pub reads_entries : {X : Type 0} → (List ℕ → X) → ℕ → List ℕ → ℕ → ℕ → ℕ → Reading (List X)
 reads_entries entry_of e bytes end o n = do
   rows ← rows_within bytes end o e n

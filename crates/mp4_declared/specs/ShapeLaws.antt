@@ -1,4 +1,4 @@
--- The laws of a shape, and those of two shapes one after the other.
+-- The laws of a shape, of numbers, and of two shapes one after the other.
 use Rattle.std.proofs.Common.{◌≡◌, ℕ, ◌+◌, ◌<◌, ◌≤◌, ◌^◌, ◌-◌, Bool, true, false, not, ◌&&◌, cond, leb, ltb, List, ◌++◌}
 use Rattle.std.proofs.Common.{length, Ok}
 use Rattle.std.proofs.Common.{Err, refl, ap, subst, ◌∙◌, append_assoc, length-append, arith}
@@ -16,19 +16,19 @@ use Rattle.mp4_declared.specs.declared.context.Context.{Context}
 use Rattle.mp4_declared.specs.BitsLaws.{and_first, and_second}
 use Rattle.mp4_declared.specs.Shape.{Shape, number_shape, zeros_shape, pair_shape}
 
--- a value that ends at `at` is in a box that ends at `end`: with it, if its shape goes to it
+-- A value whose bytes end at `at` is in a box that ends at `end`. If its shape reaches to the end, the two are equal.
 abbrev pub EndsIn : Bool → ℕ → ℕ → Type 0
 EndsIn true at end = at ≡ end
 EndsIn false at end = at ≤ end
 
--- The bytes of a value that fits are as many as its size says, and are read back among any others; a value that was
--- read fits; the front is expected first; and a fixed shape is read wherever its front is present.
+-- The laws of a shape. The bytes of a value that fits are as many as its size says, and are read back among any others.
+-- A value that is read fits. The front is checked first. A fixed shape is read wherever its front is present.
 pub record IsShape {A : Type 0} (s : Shape A) : Type 0 where
   pub long : (c : Context) (v : A) → s.Fits c v → length (s.bytes c v) ≡ s.size c v
   pub back : s.valid ≡ true → (c : Context) (v : A) (x y : List ℕ) (end : ℕ) → s.Fits c v
       → EndsIn s.to_end (length x + s.size c v) end
       → (s.reads c (x ++ (s.bytes c v ++ y)) (length x) end).outcome ≡ Ok v
-  pub sound : s.valid ≡ true → (c : Context) (bytes : List ℕ) (at end : ℕ) (v : A) → AreBytes bytes
+  pub stable : s.valid ≡ true → (c : Context) (bytes : List ℕ) (at end : ℕ) (v : A) → AreBytes bytes
       → (s.reads c bytes at end).outcome ≡ Ok v → s.Fits c v
   pub front_first : (c : Context) (bytes : List ℕ) (at end : ℕ) → at ≤ length bytes → length bytes < at + s.front c
       → (s.reads c bytes at end).outcome ≡ Err End
@@ -59,11 +59,11 @@ expect_bytes_absent xs o w le lt =
     let over : ltb (length xs) (o + w) ≡ true = lt-ltb _ _ lt in
     rw (some, over) refl
 
--- bytes that are put after others are present
+-- Bytes that are put after others are present.
 pub put_room : (x p y : List ℕ) (w : ℕ) → length p ≡ w → length x + w ≤ length (x ++ (p ++ y))
 put_room x p y w is = omega (arith, length-append x (p ++ y), length-append p y, is)
 
--- what is read of a number that is put after other bytes
+-- the number that is read where a number was put after other bytes
 pub number_put : (x y : List ℕ) (w n : ℕ) → n < 256 ^ w → number (x ++ (be_bytes w n ++ y)) (length x) w ≡ n
 number_put x y w n fits =
     number-after x (be_bytes w n ++ y) (length x) (length x) w refl (omega arith)
@@ -79,7 +79,7 @@ number_laws width = record {
         expect_bytes_present (x ++ (be_bytes (width c) v ++ y)) (length x) (width c) room,
         number_put x y (width c) v fits,
       ) refl;
-  sound = λ _ c bytes at end v are read.
+  stable = λ _ c bytes at end v are read.
       let is = is_value (number bytes at (width c)) v
       (expect_bytes_ok bytes at (width c) (λ _. done (number bytes at (width c))) v read) in
       subst (λ (n : ℕ). n < 256 ^ width c) is (number-below bytes at (width c) are);
@@ -95,7 +95,7 @@ zeros_laws n = record {
   back = λ _ c v x y end fits ends.
       let room = put_room x (be_bytes n 0) y n (length-be_bytes n 0) in
       rw (expect_bytes_present (x ++ (be_bytes n 0 ++ y)) (length x) n room) refl;
-  sound = λ _ c bytes at end v are read. tt;
+  stable = λ _ c bytes at end v are read. tt;
   front_first = λ c bytes at end le lt. rw (expect_bytes_absent bytes at n le lt) refl;
   fixed_size = λ _ c v. refl;
   fixed_reads = λ _ c bytes at end room. (tt, expect_bytes_present bytes at n room);
@@ -134,9 +134,9 @@ module _ {A B : Type 0} (a : Shape A) (b : Shape B) (of_a : IsShape a) (of_b : I
       outcome_bind (a.reads c bytes (length x) end) (second c bytes (length x) end) v.0 (Ok v) one
       (outcome_bind (b.reads c bytes (length x + a.size c v.0) end) (λ z. done (v.0, z)) v.1 (Ok v) two refl)
 
-  pair_sound : (pair_shape a b).valid ≡ true → (c : Context) (bytes : List ℕ) (at end : ℕ) (v : A × B) → AreBytes bytes
+  pair_stable : (pair_shape a b).valid ≡ true → (c : Context) (bytes : List ℕ) (at end : ℕ) (v : A × B) → AreBytes bytes
       → ((pair_shape a b).reads c bytes at end).outcome ≡ Ok v → (pair_shape a b).Fits c v
-  pair_sound valid c bytes at end v are read =
+  pair_stable valid c bytes at end v are read =
       let first_valid = and_first a.valid (not a.to_end && b.valid) valid in
       let rest_valid = and_second a.valid (not a.to_end && b.valid) valid in
       let second_valid = and_second (not a.to_end) b.valid rest_valid in
@@ -144,8 +144,8 @@ module _ {A B : Type 0} (a : Shape A) (b : Shape B) (of_a : IsShape a) (of_b : I
       let q = value_first (b.reads c bytes (at + a.size c p.0) end) (λ z. done (p.0, z)) v p.2 in
       let is : (p.0, q.0) ≡ v = is_value (p.0, q.0) v q.2 in
       subst (λ (u : A × B). a.Fits c u.0 × b.Fits c u.1) is (
-        of_a.sound first_valid c bytes at end p.0 are p.1,
-        of_b.sound second_valid c bytes (at + a.size c p.0) end q.0 are q.1,
+        of_a.stable first_valid c bytes at end p.0 are p.1,
+        of_b.stable second_valid c bytes (at + a.size c p.0) end q.0 are q.1,
       )
 
   pair_front : (c : Context) (bytes : List ℕ) (at end : ℕ) → at ≤ length bytes
@@ -206,7 +206,7 @@ module _ {A B : Type 0} (a : Shape A) (b : Shape B) (of_a : IsShape a) (of_b : I
         let q = of_b.long c v.1 fits.1 in
         omega (arith, length-append (a.bytes c v.0) (b.bytes c v.1), p, q);
     back = pair_back;
-    sound = pair_sound;
+    stable = pair_stable;
     front_first = pair_front;
     fixed_size = pair_size;
     fixed_reads = pair_reads;

@@ -1,4 +1,4 @@
--- Strings: up to a byte of 0, or after a byte that counts them.
+-- Strings, which end with a byte of 0, or begin with their length.
 use Rattle.std.specs.Prelude.{◌≡◌, ℕ, ◌+◌, ◌-◌, ◌<◌, ◌^◌, ◌==◌, Bool, true, false, nat_lt, List, [], ◌∷◌, ◌++◌, length}
 use Rattle.std.specs.Prelude.{take, drop}
 use Rattle.std.specs.List.{list_any, position_or_len}
@@ -9,11 +9,11 @@ use Rattle.mp4_declared.specs.Shape.{Shape}
 abbrev pub is_zero : ℕ → Bool
 is_zero byte = byte == 0
 
--- how many bytes from `at` on are before the first byte of 0; all of them if there is none
+-- the number of bytes between `at` and the first byte of 0, or of all bytes if there is none
 abbrev pub before_zero : List ℕ → ℕ → ℕ
 before_zero bytes at = position_or_len is_zero (drop at bytes)
 
--- the bytes before it; the box is checked to have room for them and for the byte of 0
+-- the bytes before that byte of 0, after a check that the box has room for all of them
 unfoldable pub terminated : List ℕ → ℕ → ℕ → Reading (List ℕ)
 terminated bytes at end = do
   _ ← check (nat_lt (before_zero bytes at) (end - at))
@@ -33,8 +33,8 @@ terminated_shape = record {
   valid = true;
 }
 
--- A field of n bytes: a count of 1 byte, so many bytes, and others that are written as 0, and read as any. The count is
--- checked to leave room for itself.
+-- A field of n bytes: a count of 1 byte, that many bytes, and padding, which is written as 0 and read as any. The count
+-- is checked to fit the field.
 abbrev pub pascal_shape : ℕ → Shape (List ℕ)
 pascal_shape n = record {
   reads = λ c bytes at end.

@@ -13,7 +13,7 @@ use Rattle.mp4_frame.proofs.Tables.{value_first}
 use Rattle.mp4_declared.specs.ShapeLaws.{IsShape, expect_bytes_absent, put_room, number_put}
 use Rattle.mp4_declared.specs.Strings.{is_zero, before_zero, terminated, terminated_shape, pascal_shape}
 
--- a byte of 0 after others is the first one
+-- A byte of 0 after bytes other than 0 is the first one.
 zero_after : (v y : List ℕ) → list_any is_zero v ≡ false → position_or_len is_zero (v ++ 0 ∷ y) ≡ length v
 zero_after [] y none = refl
 zero_after (b ∷ v) y none =
@@ -29,7 +29,7 @@ none_by b n xs false is later =
     let next : 1 + n ≡ suc n = omega arith in
     rw next (ap (λ (z : Bool). z || list_any is_zero (take n xs)) is ∙ later)
 
--- none is before the first one
+-- There is no byte of 0 before the first one.
 none_before : (xs : List ℕ) → list_any is_zero (take (position_or_len is_zero xs) xs) ≡ false
 none_before [] = refl
 none_before (b ∷ xs) = none_by b (position_or_len is_zero xs) xs (is_zero b) refl (none_before xs)
@@ -51,10 +51,10 @@ terminated_back x v y end none room =
     ap (λ (bs : List ℕ). (terminated bs o end).outcome) by_text
     ∙ rw (long, enough, expect_bytes_present bytes o (length v + 1) present, text) refl
 
-terminated_sound : (bytes : List ℕ) (at end : ℕ) (v : List ℕ) → (terminated bytes at end).outcome ≡ Ok v
+terminated_stable : (bytes : List ℕ) (at end : ℕ) (v : List ℕ) → (terminated bytes at end).outcome ≡ Ok v
     → list_any is_zero v ≡ false
 unfolding terminated
-terminated_sound bytes at end v read =
+terminated_stable bytes at end v read =
     let n = before_zero bytes at in
     let text = take n (drop at bytes) in
     let one = check_ok (ltb n (end - at)) (λ _. expect_bytes bytes at (n + 1) >>= λ _. done text) v read in
@@ -65,9 +65,9 @@ pub terminated_laws : IsShape terminated_shape
 terminated_laws = record {
   long = λ c v fits. length-append v (0 ∷ []);
   back = λ _ c v x y end fits ends. rw (terminated_back x v y end fits ends) refl;
-  sound = λ _ c bytes at end v are read.
+  stable = λ _ c bytes at end v are read.
       let p = value_first (terminated bytes at end) (λ text. memory >>= λ _. done text) v read in
-      subst (λ (l : List ℕ). list_any is_zero l ≡ false) (is_value p.0 v p.2) (terminated_sound bytes at end p.0 p.1);
+      subst (λ (l : List ℕ). list_any is_zero l ≡ false) (is_value p.0 v p.2) (terminated_stable bytes at end p.0 p.1);
   front_first = λ c bytes at end le lt. absurd (omega arith);
   fixed_size = λ h. absurd cc;
   fixed_reads = λ h. absurd cc;
@@ -105,7 +105,7 @@ pascal_laws n = record {
       ∙ ap (take k) (drop_at (x ++ count) (v ++ (zeros ++ y)) (o + 1) at) ∙ take_at v (zeros ++ y) k refl in
       let known : ltb k n ≡ true = lt-ltb k n fits.0 in
       rw (expect_bytes_present bytes o n room, is, known, text) refl;
-  sound = λ valid c bytes at end v are read.
+  stable = λ valid c bytes at end v are read.
       let k = number bytes at 1 in
       let text = take k (drop (at + 1) bytes) in
       let last : Reading (List ℕ) = memory >>= λ _. done text in

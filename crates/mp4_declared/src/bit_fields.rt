@@ -1,12 +1,12 @@
-//! Fields of so many bits each.
+//! The shape of one group of bit fields.
 
 ghost use Rattle.std.specs.Prelude.{◌≡◌, ◌+◌, ◌≤◌, length, slice_index};
 ghost use Rattle.mp4_frame.specs.Bytes.{number};
 ghost use Rattle.mp4_declared.specs.Bits.{bytes_in, split};
 ghost use Rattle.mp4_declared.specs.Layout.{layout_in, widths_of};
 ghost use Rattle.mp4_declared.specs.LayoutLaws.{laws_in};
-ghost use Rattle.mp4_declared.specs.MoreShapes.{bits_shape};
-ghost use Rattle.mp4_declared.specs.MoreShapesLaws.{bits_laws};
+ghost use Rattle.mp4_declared.specs.OptionalShapes.{bits_shape};
+ghost use Rattle.mp4_declared.specs.OptionalShapesLaws.{bits_laws};
 
 use crate::bits::{numbers_at, numbers_fit};
 use crate::context::Context;
@@ -15,10 +15,10 @@ use crate::shape::{PutShape, Shape};
 use mp4_frame::Result;
 use std::alloc::Global;
 
-/// An `X`: `N` numbers of so many bits each, in `E` bytes.
+/// An `X` of `N` numbers in `E` bytes. Each number has a width in bits.
 pub struct Bits<X, const N: usize, const E: usize>(X);
 
-/// The numbers at an offset, as an `X`.
+/// Returns the `X` whose fields begin at offset `at`.
 #[inline]
 fn bits_from<X: EntryLayout<N, E>, const N: usize, const E: usize>(bytes: &[u8], at: usize) -> X
     requires { at + E ≤ length bytes.now }

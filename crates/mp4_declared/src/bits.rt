@@ -1,4 +1,5 @@
-//! Numbers of so many bits each, one after the other, the highest bits first. The widths are in bits.
+//! Numbers in bit fields: one field after the other, the highest bits first. All widths are in bits, except where a
+//! comment says bytes.
 
 ghost use Rattle.std.specs.Prelude.{◌≡◌, true, ◌≤◌, ◌<◌, ◌+◌, ◌-◌, ◌*◌, ◌/◌, ◌%◌, ◌^◌, ◌++◌, ◌↔◌, IsTrue, length, take};
 ghost use Rattle.mp4_frame.specs.Bytes.{number, be_bytes};
@@ -6,7 +7,7 @@ ghost use Rattle.mp4_declared.specs.Bits.{bits, bytes_in, joined, split, Numbers
 
 use byteorder::{BigEndian, ByteOrder};
 
-/// How many bytes fields of these widths take.
+/// Returns the number of bytes that fields of these `widths` take.
 pub(crate) fn bytes_in<const N: usize>(widths: &[u8; N]) -> usize
     requires { are_fields widths.now ≡ true }
     ensures { result ≡ bytes_in widths.now }
@@ -18,7 +19,7 @@ pub(crate) fn bytes_in<const N: usize>(widths: &[u8; N]) -> usize
     total / 8
 }
 
-/// The lowest `width` bits of a number.
+/// Returns the lowest `width` bits of `n`.
 fn low_bits(n: u64, width: usize) -> u64
     requires { width ≤ 64 }
     ensures { result ≡ n % 2 ^ width }
@@ -26,14 +27,14 @@ fn low_bits(n: u64, width: usize) -> u64
     if width < 64 { n % (1 << width) } else { n }
 }
 
-/// Whether a number fits `width` bits.
+/// Returns whether `n` fits `width` bits.
 pub(crate) fn fits(n: u64, width: usize) -> bool
     ensures { IsTrue result ↔ (n < 2 ^ width) }
 {
     if width < 64 { n < 1 << width } else { true }
 }
 
-/// The number of `width` bits, `from` bits after the front of the byte at offset `at`.
+/// Returns the number of `width` bits that begins `from` bits after the start of the byte at offset `at`.
 fn bits_at(bytes: &[u8], at: usize, from: usize, width: usize) -> u64
     requires short { from % 8 + width ≤ 64 }
     requires room { at + from / 8 + (from % 8 + width + 7) / 8 ≤ length bytes.now }
@@ -49,17 +50,17 @@ fn bits_at(bytes: &[u8], at: usize, from: usize, width: usize) -> u64
     low_bits(word >> (8 * count - end), width)
 }
 
-/// The number of `width` bytes at offset `at`.
+/// Returns the number of `width` bytes at offset `at`.
 pub(crate) fn number_at(bytes: &[u8], at: usize, width: usize) -> u64
-    requires least { 1 ≤ width }
-    requires most { width ≤ 8 }
+    requires positive { 1 ≤ width }
+    requires short { width ≤ 8 }
     requires room { at + width ≤ length bytes.now }
     ensures { result ≡ number bytes.now at width }
 {
     BigEndian::read_uint(&bytes[at..], width)
 }
 
-/// Puts a number of `width` bytes, and returns the offset after it.
+/// Puts `n` in `width` bytes, and returns the offset after them.
 pub(crate) fn put_number(out: &mut [u8], at: usize, n: u64, width: usize) -> usize
     requires short { width ≤ 8 }
     requires fits { n < 256 ^ width }
@@ -74,7 +75,7 @@ pub(crate) fn put_number(out: &mut [u8], at: usize, n: u64, width: usize) -> usi
     at + width
 }
 
-/// The numbers in the fields of these widths from offset `at` on.
+/// Returns the numbers in the fields of these `widths`, the first of which begins at offset `at`.
 pub(crate) fn numbers_at<const N: usize>(bytes: &[u8], at: usize, widths: &[u8; N]) -> [u64; N]
     requires fields { are_fields widths.now ≡ true }
     requires room { at + bytes_in widths.now ≤ length bytes.now }
@@ -90,7 +91,7 @@ pub(crate) fn numbers_at<const N: usize>(bytes: &[u8], at: usize, widths: &[u8; 
     numbers
 }
 
-/// Whether each number fits its field.
+/// Returns whether each of `numbers` fits its field.
 pub(crate) fn numbers_fit<const N: usize>(widths: &[u8; N], numbers: &[u64; N]) -> bool
     ensures { IsTrue result ↔ NumbersFit widths.now numbers.now }
 {
@@ -102,7 +103,7 @@ pub(crate) fn numbers_fit<const N: usize>(widths: &[u8; N], numbers: &[u64; N]) 
     true
 }
 
-/// Puts numbers in fields of these widths, and returns the offset after them.
+/// Puts `numbers` in fields of these `widths`, and returns the offset after them.
 pub(crate) fn put_numbers<const N: usize>(
     out: &mut [u8],
     at: usize,
@@ -117,7 +118,7 @@ pub(crate) fn put_numbers<const N: usize>(
         ≡ take at out.old ++ be_bytes (bytes_in widths.now) (joined widths.now numbers.now) }
 {
     let mut next = at;
-    // The bits that don't fill a byte yet, and how many they are.
+    // The bits that don't fill a byte yet, and their number.
     let mut word = 0;
     let mut count = 0;
     for k in 0..N {
@@ -131,7 +132,7 @@ pub(crate) fn put_numbers<const N: usize>(
     next
 }
 
-/// A number with `width` bits of 0 after it.
+/// Returns `n` with `width` bits of 0 after it.
 fn shifted(n: u64, width: usize) -> u64
     requires { n * 2 ^ width < 2 ^ 64 }
     ensures { result ≡ n * 2 ^ width }

@@ -1,40 +1,40 @@
-//! A box that is declared, with a check of its own.
+//! Declared boxes with a check beyond their shape.
 
 ghost use Rattle.std.specs.Prelude.{◌≡◌, ◌+◌, ◌-◌, ◌^◌, ◌↔◌, Bool, true, IsTrue, min};
 ghost use Rattle.mp4_frame.specs.Format.{write_laws};
 ghost use Rattle.mp4_frame.specs.Reading.{reading};
 ghost use Rattle.mp4_declared.specs.ByCode.{has_code, by_code_declared, own_name_declared};
-ghost use Rattle.mp4_declared.specs.CheckedByCode.{read_back_checked, sound_checked, code_checked};
+ghost use Rattle.mp4_declared.specs.CheckedByCode.{read_back_checked, stable_checked, code_checked};
 ghost use Rattle.mp4_declared.specs.OwnBox.{reads_checked, format_checked};
 ghost use Rattle.mp4_declared.specs.OwnBoxLaws.{laws_checked, laws_declared};
 
 use crate::declared::{Declared, DeclaredBox, fields_at};
+use mp4_compose::{CodedBox, StableBox};
 use mp4_frame::{
     BoxLaws, BoxType, ByteCursor, Mp4Box, ReadBox, Result, StreamBox, TryClone, WriteBox, check,
 };
-use mp4_lists::{CodedBox, SoundStream};
 use std::alloc::Global;
 use std::marker::Model;
 use std::ops::{Deref, DerefMut};
 
-/// A box with a check of its own, which its shape doesn't say.
+/// A box with a check that its shape doesn't express.
 pub trait Check: DeclaredBox {
-    /// Whether a box passes.
+    /// The boxes that pass the check.
     ghost passes: { Self → Bool };
 
-    /// What is wrong with a box that doesn't, as the text of the error.
+    /// The text of the error for a box that doesn't pass.
     const REFUSED: &'static str;
 
-    /// Whether a box passes.
+    /// Returns whether the box passes the check.
     fn passes(&self) -> bool
         ensures { result ≡ passes self.now };
 
-    /// With a box its normal form passes.
+    /// The normal form of a box that passes also passes.
     ghost kept: { (v : Self) → passes v ≡ true → passes (Self.layout.value (Self.layout.content v)) ≡ true };
 }
 
-/// A box that is declared, with a check of its own: what doesn't pass is refused after the faults of its content, and
-/// can't be written. Else it is as a `Declared`.
+/// A declared box with a check. A box that doesn't pass is refused after the faults of its content, and can't be
+/// written. In all else it behaves like a `Declared`.
 #[derive(Debug, Drop, PartialEq, Eq)]
 pub struct Checked<T> {
     declared: Declared<T>,
@@ -49,7 +49,7 @@ impl<T> Model for Checked<T> {
 }
 
 impl<T> Checked<T> {
-    /// The box with these fields.
+    /// Creates a box with these `fields`.
     pub fn new(fields: T) -> Self
         ensures { result ≡ fields }
     {
@@ -58,7 +58,7 @@ impl<T> Checked<T> {
         }
     }
 
-    /// Its fields, as a value of their own.
+    /// Returns the fields of the box.
     pub fn into_fields(self) -> T
         ensures { result ≡ self }
     {
@@ -151,7 +151,7 @@ impl<T: Check> BoxLaws for Checked<T> {
     ghost laws = { laws_checked T.Shape.shape T.Shape.shape_laws T.layout T.valid T.passes T.kept };
 }
 
-/// In a list the boxes of its code are read, and all others skipped.
+/// Reads the boxes of its code from a list, and skips all others.
 impl<T: Check> StreamBox for Checked<T> {
     ghost known = { has_code T.CODE };
 
@@ -177,15 +177,15 @@ impl<T: Check> StreamBox for Checked<T> {
         (laws_checked T.Shape.shape T.Shape.shape_laws T.layout T.valid T.passes T.kept) };
 }
 
-impl<T: Check> SoundStream for Checked<T> {
-    ghost sound = { sound_checked T.passes T.Shape.shape T.layout
+impl<T: Check> StableBox for Checked<T> {
+    ghost stable = { stable_checked T.passes T.Shape.shape T.layout
         (laws_checked T.Shape.shape T.Shape.shape_laws T.layout T.valid T.passes T.kept) };
 
     ghost own_code = { code_checked T.passes T.Shape.shape T.layout
         (laws_checked T.Shape.shape T.Shape.shape_laws T.layout T.valid T.passes T.kept) };
 }
 
-/// It is told by its code alone.
+/// Its code identifies the box.
 impl<T: Check> CodedBox for Checked<T> {
     ghost by_code = { by_code_declared T.CODE };
 }

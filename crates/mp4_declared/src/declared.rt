@@ -1,4 +1,4 @@
-//! A box that is declared.
+//! Declared boxes: a struct of fields, and the shape of their encoding.
 
 ghost use Rattle.std.specs.Prelude.{◌≡◌, ℕ, ◌≤◌, ◌<◌, ◌+◌, ◌-◌, ◌^◌, ◌↔◌, ◌++◌, true, false, min, List, IsTrue, length};
 ghost use Rattle.std.specs.Prelude.{take};
@@ -16,41 +16,41 @@ use std::alloc::Global;
 use std::marker::Model;
 use std::ops::{Deref, DerefMut};
 
-/// Before a version and flags are known.
+/// The context of a shape that follows no version and flags.
 const NO_CONTEXT: Context = Context {
     version: 0,
     flags: 0,
 };
 
-/// What is asked about the content of a box, whatever its shape.
-pub trait About<S: Shape> {
+/// A visitor of the content of a box of the shape `S`, for its size, whether it fits, or its bytes.
+pub trait ShapeVisitor<S: Shape> {
     /// The type of the answer.
     type Answer;
 
-    /// What has to hold of the content, and of the length of the slice.
-    ghost can_ask: { S.Value → ℕ → Type 0 } = { λ _ _. Unit {0} };
+    /// The precondition on the content and the length of the slice.
+    ghost can_visit: { S.Value → ℕ → Type 0 } = { λ _ _. Unit {0} };
 
-    /// What holds of the content, the bytes of the slice before and after, and the answer.
+    /// The relation between the content, the bytes of the slice before and after, and the answer.
     ghost answers: { S.Value → List ℕ → List ℕ → Self.Answer → Type 0 };
 
-    /// Asks about the content. The slice is for an answer in bytes.
-    fn ask<V: Copy>(content: V, out: &mut [u8]) -> Self::Answer
+    /// Visits `content` and returns the answer. Writes an answer in bytes to `out`.
+    fn visit<V: Copy>(content: V, out: &mut [u8]) -> Self::Answer
     where
         S: PutShape<V>,
-        requires { can_ask (S.PutShape.content content) (length out.old) }
+        requires { can_visit (S.PutShape.content content) (length out.old) }
         ensures { answers (S.PutShape.content content) out.old out.new result };
 }
 
-/// In how many bytes is it written?
+/// The size of the content in bytes.
 struct Size;
 
-impl<S: Shape> About<S> for Size {
+impl<S: Shape> ShapeVisitor<S> for Size {
     type Answer = u64;
 
     ghost answers = { λ x _ _ answer. answer ≡ min (S.shape.size no_context x) (2 ^ 64 - 1) };
 
     #[inline]
-    fn ask<V: Copy>(content: V, _out: &mut [u8]) -> u64
+    fn visit<V: Copy>(content: V, _out: &mut [u8]) -> u64
     where
         S: PutShape<V>,
     {
@@ -58,16 +58,16 @@ impl<S: Shape> About<S> for Size {
     }
 }
 
-/// Does each number fit its field?
+/// The test whether each number of the content fits its field.
 struct Fits;
 
-impl<S: Shape> About<S> for Fits {
+impl<S: Shape> ShapeVisitor<S> for Fits {
     type Answer = bool;
 
     ghost answers = { λ x _ _ answer. IsTrue answer ↔ S.shape.Fits no_context x };
 
     #[inline]
-    fn ask<V: Copy>(content: V, _out: &mut [u8]) -> bool
+    fn visit<V: Copy>(content: V, _out: &mut [u8]) -> bool
     where
         S: PutShape<V>,
     {
@@ -75,18 +75,18 @@ impl<S: Shape> About<S> for Fits {
     }
 }
 
-/// In which bytes?
+/// The bytes of the content, written after the header.
 struct Put;
 
-impl<S: Shape> About<S> for Put {
+impl<S: Shape> ShapeVisitor<S> for Put {
     type Answer = ();
 
-    ghost can_ask = { λ x room. S.shape.Fits no_context x × (room ≡ 8 + S.shape.size no_context x) };
+    ghost can_visit = { λ x available. S.shape.Fits no_context x × (available ≡ 8 + S.shape.size no_context x) };
 
     ghost answers = { λ x old new _. new ≡ take 8 old ++ S.shape.bytes no_context x };
 
     #[inline]
-    fn ask<V: Copy>(content: V, out: &mut [u8])
+    fn visit<V: Copy>(content: V, out: &mut [u8])
     where
         S: PutShape<V>,
     {
@@ -94,34 +94,34 @@ impl<S: Shape> About<S> for Put {
     }
 }
 
-/// The fields of a box that is declared: its code, the shape of its content, and which field is where.
+/// The fields of a declared box: its code, the shape of its content, and the part of the content that each field holds.
 pub trait DeclaredBox: Sized + Drop {
-    /// What the box holds after its size and its code.
+    /// The shape of the content, which follows the box's size and code.
     type Shape: Shape;
 
     /// The code.
     ghost CODE: { ℕ };
 
-    /// The content of a box, and the box of some content.
+    /// The content of a box, and the box that is made from some content.
     ghost layout: { OwnLayout CODE Self.Shape.Value Self };
 
-    /// The code.
+    /// The code: the four bytes of the box's type as a number, big-endian.
     const CODE: u32;
 
-    /// The box of some content.
+    /// Creates the box whose content is `found`.
     fn from_content(found: <Self::Shape as Shape>::Value) -> Self
         ensures { result ≡ layout.value found };
 
-    /// Asks about the content.
-    fn ask<Q: About<Self::Shape>>(&self, out: &mut [u8]) -> Q::Answer
-        requires { Q.can_ask (layout.content self.now) (length out.old) }
+    /// Passes the content to the visitor `Q`, and returns its answer.
+    fn visit<Q: ShapeVisitor<Self::Shape>>(&self, out: &mut [u8]) -> Q::Answer
+        requires { Q.can_visit (layout.content self.now) (length out.old) }
         ensures { Q.answers (layout.content self.now) out.old out.new result };
 
-    /// Nothing follows a part that goes to the end of the box, and a list has entries of some bytes.
+    /// Nothing follows a part that reaches to the end of the box, and the entries of a list have at least one byte.
     ghost valid: { Self.Shape.shape.valid ≡ true };
 }
 
-/// A box that is declared. Its fields are those of the `T`: `sidx.timescale` is read and set.
+/// A declared box with the fields of `T`, which are read and set as its own: `sidx.timescale`.
 #[derive(Debug, Drop, PartialEq, Eq)]
 pub struct Declared<T> {
     fields: T,
@@ -136,14 +136,14 @@ impl<T> Model for Declared<T> {
 }
 
 impl<T> Declared<T> {
-    /// The box with these fields.
+    /// Creates a box with these `fields`.
     pub fn new(fields: T) -> Self
         ensures { result ≡ fields }
     {
         Declared { fields }
     }
 
-    /// Its fields, as a value of their own.
+    /// Returns the fields of the box.
     pub fn into_fields(self) -> T
         ensures { result ≡ self }
     {
@@ -152,7 +152,7 @@ impl<T> Declared<T> {
     }
 }
 
-/// The fields of the box are read as if they were its own.
+/// Gives read access to the fields: `sidx.timescale`.
 impl<T> Deref for Declared<T> {
     type Target = T;
 
@@ -164,7 +164,7 @@ impl<T> Deref for Declared<T> {
     }
 }
 
-/// They are set so too.
+/// Gives write access to the fields: `sidx.timescale = 90_000`.
 impl<T> DerefMut for Declared<T> {
     ghost use Rattle.std.specs.Borrow.{Lends, sem};
     ghost use Rattle.mp4_declared.specs.contracts.declared.Declared.{the_row};
@@ -194,7 +194,7 @@ impl<T: TryClone> TryClone for Declared<T> {
     }
 }
 
-/// The fields of a box of this size whose header is at the front of `bytes`.
+/// Reads the fields of a box of `size` bytes, whose header is at the start of `bytes`.
 #[inline]
 #[tactic(auto, unfolding(crate::specs::OwnBox::reads_declared))]
 fn read_fields<T: DeclaredBox>(alloc: Global, bytes: &[u8], size: u64) -> Result<T>
@@ -207,7 +207,7 @@ fn read_fields<T: DeclaredBox>(alloc: Global, bytes: &[u8], size: u64) -> Result
     Ok(T::from_content(content))
 }
 
-/// The same, as a call of its own.
+/// Calls `read_fields`, and isn't inlined.
 #[cold]
 #[inline(never)]
 fn read_last_fields<T: DeclaredBox>(alloc: Global, bytes: &[u8], size: u64) -> Result<T>
@@ -216,10 +216,11 @@ fn read_last_fields<T: DeclaredBox>(alloc: Global, bytes: &[u8], size: u64) -> R
     read_fields(alloc, bytes, size)
 }
 
-/// As many bytes as the numbers of most boxes have.
+/// The number of bytes after which the bounds checks of most boxes' numbers can be left out.
 const ENOUGH: usize = 64;
 
-/// The same. Where the buffer has enough bytes from the box's start on, the compiler finds that the numbers are there.
+/// Reads the fields of a box of `size` bytes, whose header is at the start of `bytes`. If `bytes` has at least `ENOUGH`
+/// bytes, the compiler can leave out the bounds checks of the first numbers.
 #[inline]
 pub(crate) fn fields_at<T: DeclaredBox>(alloc: Global, bytes: &[u8], size: u64) -> Result<T>
     ensures { (start : ℕ) → Answers result (reads_declared T.Shape.shape T.layout bytes.now start size) }
@@ -239,7 +240,7 @@ impl<T: DeclaredBox> Mp4Box for Declared<T> {
 
     #[inline]
     fn box_size(&self) -> u64 {
-        self.fields.ask::<Size>(&mut []).saturating_add(8)
+        self.fields.visit::<Size>(&mut []).saturating_add(8)
     }
 }
 
@@ -253,7 +254,7 @@ impl<T: DeclaredBox> ReadBox for Declared<T> {
     }
 }
 
-/// Puts the size and the code of a box.
+/// Puts the size and the code of a box at the start of `out`.
 #[tactic(auto, unfolding(mp4_frame::specs::Bytes::bytes_of_fields, mp4_frame::specs::Bytes::bytes_of_fields_onto))]
 fn put_header(out: &mut [u8], size: u32, code: u32)
     requires { 8 ≤ length out.old }
@@ -265,12 +266,12 @@ fn put_header(out: &mut [u8], size: u32, code: u32)
 
 impl<T: DeclaredBox> WriteBox for Declared<T> {
     fn is_writable(&self) -> bool {
-        self.box_size() < 1 << 32 && self.fields.ask::<Fits>(&mut [])
+        self.box_size() < 1 << 32 && self.fields.visit::<Fits>(&mut [])
     }
 
     fn put_box(&self, out: &mut [u8]) {
         put_header(out, self.box_size() as u32, T::CODE);
-        self.fields.ask::<Put>(out)
+        self.fields.visit::<Put>(out)
     }
 
     ghost write_laws = { write_laws (laws_declared T.Shape.shape T.Shape.shape_laws T.layout T.valid) };

@@ -1,4 +1,4 @@
-//! An entry that is declared: a struct with a shape of its own.
+//! Declared entries: a struct of fields, and the shape of their encoding.
 
 ghost use Rattle.std.specs.Prelude.{◌≡◌, ℕ, ◌≤◌, ◌<◌, ◌+◌, ◌-◌, ◌^◌, ◌↔◌, ◌++◌, min, List, IsTrue, length, take};
 ghost use Rattle.mp4_declared.specs.declared.context.Context.{Context};
@@ -10,38 +10,38 @@ use crate::shape::{PutShape, Shape};
 use mp4_frame::Result;
 use std::alloc::Global;
 
-/// What is asked about the content of an entry, whatever its shape.
-pub trait AboutEntry<S: Shape> {
+/// A visitor of the content of an entry of the shape `S`, for its size, whether it fits, or its bytes.
+pub trait EntryVisitor<S: Shape> {
     /// The type of the answer.
     type Answer;
 
-    /// What has to hold of the question, the content, and the length of the slice.
-    ghost can_ask: { Self → S.Value → ℕ → Type 0 } = { λ _ _ _. Unit {0} };
+    /// The precondition on the visitor, the content, and the length of the slice.
+    ghost can_visit: { Self → S.Value → ℕ → Type 0 } = { λ _ _ _. Unit {0} };
 
-    /// What holds of the question, the content, the bytes of the slice before and after, and the answer.
+    /// The relation between the visitor, the content, the bytes of the slice before and after, and the answer.
     ghost answers: { Self → S.Value → List ℕ → List ℕ → Self.Answer → Type 0 };
 
-    /// Asks about the content. The slice is for an answer in bytes.
-    fn ask<V: Copy>(self, content: V, out: &mut [u8]) -> Self::Answer
+    /// Visits `content` and returns the answer. Writes an answer in bytes to `out`.
+    fn visit<V: Copy>(self, content: V, out: &mut [u8]) -> Self::Answer
     where
         S: PutShape<V>,
-        requires { can_ask self (S.PutShape.content content) (length out.old) }
+        requires { can_visit self (S.PutShape.content content) (length out.old) }
         ensures { answers self (S.PutShape.content content) out.old out.new result };
 }
 
-/// In how many bytes is it written?
+/// The size of the content in bytes.
 #[derive(Clone, Copy)]
 struct EntrySize {
     context: Context,
 }
 
-impl<S: Shape> AboutEntry<S> for EntrySize {
+impl<S: Shape> EntryVisitor<S> for EntrySize {
     type Answer = u64;
 
     ghost answers = { λ q x _ _ answer. answer ≡ min (S.shape.size q.context x) (2 ^ 64 - 1) };
 
     #[inline]
-    fn ask<V: Copy>(self, content: V, _out: &mut [u8]) -> u64
+    fn visit<V: Copy>(self, content: V, _out: &mut [u8]) -> u64
     where
         S: PutShape<V>,
     {
@@ -49,19 +49,19 @@ impl<S: Shape> AboutEntry<S> for EntrySize {
     }
 }
 
-/// Does each number fit its field?
+/// The test whether each number of the content fits its field.
 #[derive(Clone, Copy)]
 struct EntryFits {
     context: Context,
 }
 
-impl<S: Shape> AboutEntry<S> for EntryFits {
+impl<S: Shape> EntryVisitor<S> for EntryFits {
     type Answer = bool;
 
     ghost answers = { λ q x _ _ answer. IsTrue answer ↔ S.shape.Fits q.context x };
 
     #[inline]
-    fn ask<V: Copy>(self, content: V, _out: &mut [u8]) -> bool
+    fn visit<V: Copy>(self, content: V, _out: &mut [u8]) -> bool
     where
         S: PutShape<V>,
     {
@@ -69,23 +69,23 @@ impl<S: Shape> AboutEntry<S> for EntryFits {
     }
 }
 
-/// In which bytes, from offset `at` on? The answer is the offset after them.
+/// The bytes of the content, written at offset `at`. The answer is the offset after them.
 #[derive(Clone, Copy)]
 struct PutEntry {
     context: Context,
     at: usize,
 }
 
-impl<S: Shape> AboutEntry<S> for PutEntry {
+impl<S: Shape> EntryVisitor<S> for PutEntry {
     type Answer = usize;
 
-    ghost can_ask = { λ q x room. S.shape.Fits q.context x × (q.at + S.shape.size q.context x ≤ room) };
+    ghost can_visit = { λ q x available. S.shape.Fits q.context x × (q.at + S.shape.size q.context x ≤ available) };
 
     ghost answers = { λ q x old new next. (next ≡ q.at + S.shape.size q.context x)
         × (take next new ≡ take q.at old ++ S.shape.bytes q.context x) };
 
     #[inline]
-    fn ask<V: Copy>(self, content: V, out: &mut [u8]) -> usize
+    fn visit<V: Copy>(self, content: V, out: &mut [u8]) -> usize
     where
         S: PutShape<V>,
     {
@@ -93,24 +93,24 @@ impl<S: Shape> AboutEntry<S> for PutEntry {
     }
 }
 
-/// The fields of an entry that is declared: the shape of its content, and which field is where.
+/// The fields of a declared entry: the shape of its content, and the part of the content that each field holds.
 pub trait DeclaredEntry: Sized + Drop {
-    /// What it holds. It doesn't go to the end of the box.
+    /// The shape of the content. It must not reach to the end of the box.
     type Shape: Shape;
 
-    /// The content of an entry, and the entry of some content.
+    /// The content of an entry, and the entry that is made from some content.
     ghost layout: { ExactLayout Self.Shape.Value Self };
 
-    /// The entry of some content.
+    /// Creates the entry whose content is `found`.
     fn from_content(found: <Self::Shape as Shape>::Value) -> Self
         ensures { result ≡ layout.value found };
 
-    /// Asks about the content.
-    fn ask<Q: AboutEntry<Self::Shape>>(&self, question: Q, out: &mut [u8]) -> Q::Answer
-        requires { Q.can_ask question (layout.content self.now) (length out.old) }
+    /// Passes the content to the visitor `question`, and returns its answer.
+    fn visit<Q: EntryVisitor<Self::Shape>>(&self, question: Q, out: &mut [u8]) -> Q::Answer
+        requires { Q.can_visit question (layout.content self.now) (length out.old) }
         ensures { Q.answers question (layout.content self.now) out.old out.new result };
 
-    /// In each version it begins with some bytes that are expected before anything else is checked.
+    /// In each version, the entry begins with at least one byte that must be present before anything else is checked.
     ghost begins: { (c : Context) → 0 < Self.Shape.shape.front c };
 }
 
@@ -152,16 +152,16 @@ impl<'a, X: DeclaredEntry> PutShape<&'a X> for Entry<X> {
 
     #[inline]
     fn size(context: Context, value: &'a X) -> u64 {
-        value.ask(EntrySize { context }, &mut [])
+        value.visit(EntrySize { context }, &mut [])
     }
 
     #[inline]
     fn fits(context: Context, value: &'a X) -> bool {
-        value.ask(EntryFits { context }, &mut [])
+        value.visit(EntryFits { context }, &mut [])
     }
 
     #[inline]
     fn put(out: &mut [u8], at: usize, context: Context, value: &'a X) -> usize {
-        value.ask(PutEntry { context, at }, out)
+        value.visit(PutEntry { context, at }, out)
     }
 }

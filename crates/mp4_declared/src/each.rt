@@ -1,4 +1,4 @@
-//! Counted lists of entries with a shape of their own.
+//! Counted lists of entries, each of which has a shape.
 
 ghost use Rattle.std.specs.Prelude.{◌≡◌, ◌≤◌, ◌<◌, ◌+◌, ◌-◌, ◌^◌, ◌++◌, ◌↔◌, true, min, All, IfOk, IsTrue, flat_map};
 ghost use Rattle.std.specs.Prelude.{length, take};
@@ -17,10 +17,12 @@ use crate::shape::{PutShape, Shape, read_next};
 use mp4_frame::{Entries, Result};
 use std::alloc::Global;
 
-/// A count of the shape `C`, and that many entries `X`, one after the other, each of which has a shape of its own.
+/// A count of the shape `C`, and that many entries `X`, one after the other. The length of an entry depends on its
+/// shape.
 pub struct Each<C, X>(C, X);
 
-/// The `count` entries from offset `at` on, and the offset after them. Memory is asked for as they are read.
+/// Reads `count` entries, the first at offset `at`. Returns them, and the offset after them. Asks for memory entry by
+/// entry.
 fn read_counted<X: DeclaredEntry>(
     alloc: Global,
     bytes: &[u8],
@@ -50,7 +52,7 @@ fn read_counted<X: DeclaredEntry>(
     Ok((entries, next))
 }
 
-/// The number of bytes of the entries. It saturates at 2^64 - 1.
+/// Returns the total number of bytes of `entries`. It saturates at 2^64 - 1.
 pub(crate) fn size_of_each<X: DeclaredEntry>(context: Context, entries: &[X]) -> u64
     ensures { result
         ≡ min (sum_by ((entry_shape X.Shape.shape X.layout).size context) entries.now) (2 ^ 64 - 1) }
@@ -62,7 +64,7 @@ pub(crate) fn size_of_each<X: DeclaredEntry>(context: Context, entries: &[X]) ->
     size
 }
 
-/// Whether each number of each entry fits its field.
+/// Returns whether each number of each entry fits its field.
 pub(crate) fn each_fits<X: DeclaredEntry>(context: Context, entries: &[X]) -> bool
     ensures { IsTrue result ↔ All ((entry_shape X.Shape.shape X.layout).Fits context) entries.now }
 {
@@ -73,7 +75,7 @@ pub(crate) fn each_fits<X: DeclaredEntry>(context: Context, entries: &[X]) -> bo
     )
 }
 
-/// Puts the entries, one after the other, and returns the offset after them.
+/// Puts `entries`, one after the other, and returns the offset after them.
 pub(crate) fn put_each<X: DeclaredEntry>(
     out: &mut [u8],
     at: usize,

@@ -1,4 +1,4 @@
-//! Entries with a shape of their own, up to the end of a box.
+//! Entries up to the end of a box, each of which has a shape.
 
 ghost use Rattle.std.specs.Prelude.{◌≡◌, ◌≤◌, ◌<◌, ◌+◌, ◌↔◌, true, All, IfOk, IsTrue, length};
 ghost use Rattle.std.specs.List.{sum_by};
@@ -15,14 +15,15 @@ use crate::shape::{PutShape, Shape, read_next};
 use mp4_frame::{Entries, Result, check};
 use std::alloc::Global;
 
-/// What is wrong with a box that ends inside an entry.
+/// The text of the error for a box that ends inside an entry.
 pub const NOT_FILLED: &str = "entries do not fill the box";
 
-/// Entries `X`, each of which has a shape of its own, up to the end of the box. It is the last part of a box. Each
-/// entry is checked to end in the box.
+/// Entries `X` up to the end of the box, as its last part. The length of an entry depends on its shape. Each entry is
+/// checked to end in the box.
 pub struct EachToEnd<X>(X);
 
-/// The entry at an offset, and the offset after it. Invalid data if it has no bytes, or ends after the box.
+/// Reads the entry at offset `at`. Returns it, and the offset after it. Fails with invalid data if the entry has no
+/// bytes, or ends after the box.
 #[tactic(auto, unfolding(crate::specs::EachToEnd::reads_inside))]
 fn read_inside<X: DeclaredEntry>(
     alloc: Global,
@@ -44,7 +45,8 @@ fn read_inside<X: DeclaredEntry>(
     Ok((entry, next))
 }
 
-/// At most `count` entries from offset `at` on, up to the end of the box, and the offset after them.
+/// Reads entries up to the end of the box, but at most `count`, the first at offset `at`. Returns them, and the offset
+/// after them.
 fn read_until_end<X: DeclaredEntry>(
     alloc: Global,
     bytes: &[u8],
@@ -74,7 +76,7 @@ fn read_until_end<X: DeclaredEntry>(
     Ok((entries, next))
 }
 
-/// Whether each entry has some bytes.
+/// Returns whether each entry has at least one byte.
 fn each_has_bytes<X: DeclaredEntry>(context: Context, entries: &[X]) -> bool
     ensures { IsTrue result
         ↔ All (λ entry. 0 < (entry_shape X.Shape.shape X.layout).size context entry) entries.now }
@@ -112,8 +114,8 @@ impl<X: DeclaredEntry> Shape for EachToEnd<X> {
         end: u64,
         context: Context,
     ) -> Result<(Entries<X>, usize)> {
-        let room = end.saturating_sub(at as u64);
-        read_until_end(alloc, bytes, at, end, context, room)
+        let available = end.saturating_sub(at as u64);
+        read_until_end(alloc, bytes, at, end, context, available)
     }
 }
 

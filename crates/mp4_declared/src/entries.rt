@@ -1,4 +1,4 @@
-//! Entries that are declared, and their rows. Widths are in bits.
+//! Entries of numbers, and their rows of bytes. Widths are in bits.
 
 ghost use Rattle.std.specs.Prelude.{◌≡◌, ℕ, ◌<◌, ◌≤◌, ◌+◌, ◌*◌, ◌^◌, ◌++◌, ◌↔◌, All, IfOk, IfErr, IsTrue, flat_map};
 ghost use Rattle.std.specs.Prelude.{length, map, slice_index, take};
@@ -11,27 +11,27 @@ use std::alloc::Global;
 
 /// An entry of `N` numbers, in a row of `E` bytes.
 pub trait EntryLayout<const N: usize, const E: usize>: Copy + Drop {
-    /// Its fields, what is in them, and the entry of that.
+    /// Its fields, the content of an entry, and the entry that is made from some content.
     ghost layout: { OwnEntry Self E };
 
-    /// The widths of its fields.
+    /// Returns the widths of its fields, in bits.
     fn widths() -> [u8; N]
         ensures { result ≡ widths_of layout.fields };
 
-    /// The numbers in its fields.
+    /// Returns the numbers in its fields.
     fn numbers(&self) -> [u64; N]
         ensures { result ≡ numbers_of layout.fields (layout.content self.now) };
 
-    /// The entry of these numbers.
+    /// Creates the entry with these `numbers` in its fields.
     fn from_numbers(numbers: &[u64; N]) -> Self
         requires { (k : ℕ) → slice_index numbers.now k < 2 ^ slice_index (widths_of layout.fields) k }
         ensures { result ≡ layout.value (values_of layout.fields (slice_index numbers.now)) };
 
-    /// An array of its numbers is no larger than memory.
+    /// An array of its numbers fits in memory.
     ghost few: { N * 8 < 2 ^ 63 };
 }
 
-/// The entry in this row.
+/// Returns the entry in `row`.
 fn entry_at<X: EntryLayout<N, E>, const N: usize, const E: usize>(row: &[u8; E]) -> X
     ensures { result ≡ entry_of (layout_in X.layout) row.now }
 {
@@ -39,7 +39,7 @@ fn entry_at<X: EntryLayout<N, E>, const N: usize, const E: usize>(row: &[u8; E])
     X::from_numbers(&numbers)
 }
 
-/// The entries in these rows. The only error is out of memory.
+/// Returns the entries in `rows`. The only error is out of memory.
 pub fn entries_of<X: EntryLayout<N, E>, const N: usize, const E: usize>(
     alloc: Global,
     rows: &[[u8; E]],
@@ -58,7 +58,7 @@ pub fn entries_of<X: EntryLayout<N, E>, const N: usize, const E: usize>(
     Ok(entries)
 }
 
-/// Whether the numbers of each entry fit their fields.
+/// Returns whether the numbers of each entry fit their fields.
 pub fn entries_fit<X: EntryLayout<N, E>, const N: usize, const E: usize>(entries: &[X]) -> bool
     ensures { IsTrue result ↔ All (FitsEntry (layout_in X.layout)) entries.now }
 {
@@ -69,7 +69,7 @@ pub fn entries_fit<X: EntryLayout<N, E>, const N: usize, const E: usize>(entries
     )
 }
 
-/// Puts the row of an entry, and returns the offset after it.
+/// Puts the row of `entry`, and returns the offset after it.
 pub(crate) fn put_row<X: EntryLayout<N, E>, const N: usize, const E: usize>(
     out: &mut [u8],
     at: usize,
@@ -83,7 +83,7 @@ pub(crate) fn put_row<X: EntryLayout<N, E>, const N: usize, const E: usize>(
     put_numbers(out, at, &X::widths(), &entry.numbers())
 }
 
-/// Puts the rows of the entries, and returns the offset after them.
+/// Puts the rows of `entries`, and returns the offset after them.
 pub fn put_rows<X: EntryLayout<N, E>, const N: usize, const E: usize>(
     out: &mut [u8],
     at: usize,

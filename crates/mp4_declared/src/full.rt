@@ -1,4 +1,4 @@
-//! Version and flags, and what is after them.
+//! The shape of a full box's content: version, flags, and what follows them.
 
 ghost use Rattle.std.specs.Prelude.{◌≡◌, ◌≤◌, ◌<◌, ◌+◌, ◌^◌, ◌++◌, length, take};
 ghost use Rattle.mp4_frame.specs.Bytes.{be_bytes};
@@ -10,11 +10,11 @@ use crate::shape::{PutShape, Shape, read_next};
 use mp4_frame::{Error, Result, put_u32, u8_at, u24_at};
 use std::alloc::Global;
 
-/// The content of a full box (ISO/IEC 14496-12, 4.2): its version, which is below `N`, its flags, and an `S` that may
-/// differ with them. Boxes of other versions are refused.
+/// The content of a full box (ISO/IEC 14496-12, 4.2): its version, which is below `N`, its flags, and an `S`. The `S`
+/// may depend on version and flags. Boxes of other versions are refused.
 pub struct Full<const N: usize, S>(S);
 
-/// What is wrong with a version, where there are so many.
+/// Returns the text of the error for a box whose version isn't below `versions`.
 fn unknown_version(versions: usize) -> &'static str {
     match versions {
         1 => "version must be 0",
@@ -23,8 +23,7 @@ fn unknown_version(versions: usize) -> &'static str {
     }
 }
 
-/// Puts the version and the flags, and returns the offset after them. They are one number of four bytes, so that they
-/// are put at once.
+/// Puts `version` and `flags` as one number of four bytes, and returns the offset after them.
 #[inline]
 #[tactic(auto, using(mp4_frame::proofs::Fields::version_and_flags))]
 fn put_version_and_flags(out: &mut [u8], at: usize, version: u8, flags: u32) -> usize

@@ -1,18 +1,18 @@
-//! A declared box in lists of boxes.
+//! Declared boxes in lists of boxes.
 
 ghost use Rattle.std.specs.Prelude.{◌≡◌};
 ghost use Rattle.mp4_frame.specs.Reading.{reading};
 ghost use Rattle.mp4_declared.specs.ByCode.{has_code, by_code_declared, own_name_declared, read_back_declared};
-ghost use Rattle.mp4_declared.specs.ByCode.{sound_declared, code_declared};
+ghost use Rattle.mp4_declared.specs.ByCode.{stable_declared, code_declared};
 ghost use Rattle.mp4_declared.specs.OwnBox.{reads_declared};
 ghost use Rattle.mp4_declared.specs.OwnBoxLaws.{laws_declared};
 
 use crate::declared::{Declared, DeclaredBox};
+use mp4_compose::{CodedBox, StableBox};
 use mp4_frame::{BoxType, ByteCursor, ReadBox, Result, StreamBox};
-use mp4_lists::{CodedBox, SoundStream};
 use std::alloc::Global;
 
-/// In a list the boxes of its code are read, and all others skipped.
+/// Reads the boxes of its code from a list, and skips all others.
 impl<T: DeclaredBox> StreamBox for Declared<T> {
     ghost known = { has_code T.CODE };
 
@@ -38,15 +38,15 @@ impl<T: DeclaredBox> StreamBox for Declared<T> {
         (laws_declared T.Shape.shape T.Shape.shape_laws T.layout T.valid) };
 }
 
-impl<T: DeclaredBox> SoundStream for Declared<T> {
-    ghost sound = { sound_declared T.Shape.shape T.layout
+impl<T: DeclaredBox> StableBox for Declared<T> {
+    ghost stable = { stable_declared T.Shape.shape T.layout
         (laws_declared T.Shape.shape T.Shape.shape_laws T.layout T.valid) };
 
     ghost own_code = { code_declared T.Shape.shape T.layout
         (laws_declared T.Shape.shape T.Shape.shape_laws T.layout T.valid) };
 }
 
-/// It is told by its code alone.
+/// Its code identifies the box.
 impl<T: DeclaredBox> CodedBox for Declared<T> {
     ghost by_code = { by_code_declared T.CODE };
 }

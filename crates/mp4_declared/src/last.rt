@@ -1,4 +1,4 @@
-//! The last of several shapes, and one with reserved bytes in front.
+//! The last part of a tuple, and a part with reserved bytes in front.
 
 ghost use Rattle.mp4_declared.specs.Shape.{last_shape, reserved_shape};
 ghost use Rattle.mp4_declared.specs.MappedLaws.{last_laws, reserved_laws};
@@ -9,7 +9,7 @@ use crate::shape::{PutShape, Shape};
 use mp4_frame::Result;
 use std::alloc::Global;
 
-/// An `S`, as the last of several shapes: its values are pairs with nothing, as those of a list of fields end.
+/// An `S`, as the last part of a tuple. Its value is paired with `()`, as the list of a struct's fields ends.
 pub struct Last<S>(S);
 
 impl<S: Shape> Shape for Last<S> {
@@ -61,7 +61,7 @@ impl<S: PutShape<V>, V: Copy> PutShape<(V, ())> for Last<S> {
     }
 }
 
-/// `N` bytes that are written as 0 and read as any, and then an `S`, whose values these are.
+/// `N` reserved bytes, which are written as 0 and read as any, and an `S`. Its value is that of the `S`.
 pub struct Reserved<const N: usize, S>(S);
 
 impl<const N: usize, S: Shape> Shape for Reserved<N, S> {

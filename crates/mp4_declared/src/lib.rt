@@ -1,10 +1,12 @@
-//! Boxes and entries that are declared: the shape of a box, and the widths of an entry's fields, from which their code
-//! and laws follow.
+//! For authors of box types: derives the code and the laws of a box from its shape, and of an entry from the widths of
+//! its fields.
 #![tactic(auto)]
 
 mod bit_fields;
 mod bits;
 mod checked;
+mod clones;
+mod code;
 mod context;
 mod declared;
 mod declared_entry;
@@ -15,31 +17,45 @@ mod full;
 mod in_lists;
 mod last;
 mod list;
+mod list_by_version;
 mod number;
 mod optional;
+mod or_zeros;
 mod pair;
 mod rows;
 mod run;
 mod shape;
 mod signed;
+mod signed_time;
 mod strings;
+mod to_end;
 mod tuple;
+mod typed;
+mod with_size;
 
 pub use bit_fields::Bits;
 pub use checked::{Check, Checked};
+pub use clones::clone_each;
+pub use code::Code;
 pub use context::Context;
-pub use declared::{About, Declared, DeclaredBox};
-pub use declared_entry::{AboutEntry, DeclaredEntry};
+pub use declared::{Declared, DeclaredBox, ShapeVisitor};
+pub use declared_entry::{DeclaredEntry, EntryVisitor};
 pub use each::Each;
 pub use each_to_end::{EachToEnd, NOT_FILLED};
 pub use entries::{EntryLayout, entries_fit, entries_of, put_rows};
 pub use full::Full;
 pub use last::{Last, Reserved};
 pub use list::{Count, List};
+pub use list_by_version::ListByVersion;
 pub use number::{Time, U8, U16, U24, U32, U64, Zeros};
 pub use optional::{Condition, FromVersion, If, IfFlags};
+pub use or_zeros::OrZeros;
 pub use rows::Rows;
 pub use run::{Array, Bytes, Rest};
 pub use shape::{PutShape, Shape};
 pub use signed::{I8, I16, I32};
+pub use signed_time::SignedTime;
 pub use strings::{Pascal, Terminated};
+pub use to_end::{Codes, Numbers, ToEnd};
+pub use typed::{OfType, Tag, Typed};
+pub use with_size::{WRONG_SIZE, WithSize};

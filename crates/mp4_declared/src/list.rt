@@ -1,4 +1,4 @@
-//! Counted lists.
+//! Counted lists of entries of numbers.
 
 ghost use Rattle.std.specs.Prelude.{◌≡◌, ℕ, ◌+◌, ◌*◌, ◌<◌, ◌≤◌, ◌^◌, ◌↔◌, length, IfOk, IsTrue};
 ghost use Rattle.mp4_frame.specs.Reading.{AnswersAs};
@@ -18,13 +18,13 @@ use std::alloc::Global;
 
 /// The shape of a count.
 pub trait Count {
-    /// How many bytes it has.
+    /// Its width in bytes.
     ghost WIDTH: { ℕ };
 
-    /// How many bytes it has.
+    /// Its width in bytes.
     const WIDTH: usize;
 
-    /// From 1 to 4.
+    /// The width is 1, 2, 3 or 4.
     ghost is_short: { (1 ≤ WIDTH) × (WIDTH ≤ 4) };
 }
 
@@ -52,7 +52,7 @@ impl Count for U32 {
     ghost is_short = { (lit≤ tt, lit≤ tt) };
 }
 
-/// Whether a count fits its bytes.
+/// Returns whether the count `n` fits its bytes.
 #[inline]
 pub(crate) fn count_fits<C: Count>(n: u64) -> bool
     ensures { IsTrue result ↔ (n < 256 ^ C.WIDTH) }
@@ -60,16 +60,16 @@ pub(crate) fn count_fits<C: Count>(n: u64) -> bool
     fits(n, 8 * C::WIDTH)
 }
 
-/// The `count` rows of `E` bytes each from offset `at` on. Invalid data if a box that ends at `end` has no room for
-/// them; end of input unless all of them are present.
-#[tactic(auto, using(crate::proofs::Room::same_room, crate::proofs::Room::rows_count), unfolding(crate::specs::Shape::rows_within))]
+/// Returns `count` rows of `E` bytes each, the first at offset `at`. Fails with invalid data if they would end after
+/// `end`, the end of the box, and with end of input if they aren't all present.
+#[tactic(auto, using(mp4_lemmas::proofs::Numbers::same_room, crate::proofs::Room::rows_count), unfolding(crate::specs::Shape::rows_within))]
 pub(crate) fn read_rows<const E: usize>(
     bytes: &[u8],
     end: u64,
     at: usize,
     count: u64,
 ) -> Result<&[[u8; E]]>
-    requires some { 0 < E }
+    requires positive { 0 < E }
     requires reached { at ≤ length bytes.now }
     ensures rows { AnswersAs (λ rows. rows.now) result (rows_within bytes.now end at E count) }
     ensures within { IfOk result (λ rows. at + length rows.now * E ≤ length bytes.now) }

@@ -1,4 +1,4 @@
-//! Numbers, and bytes of 0.
+//! Unsigned numbers, times, and reserved bytes.
 
 ghost use Rattle.std.specs.Prelude.{◌≡◌, ◌==◌, ◌^◌, ◌<◌, if◌then◌else◌};
 ghost use Rattle.mp4_declared.specs.Shape.{number_shape, time_width, zeros_shape};
@@ -267,10 +267,10 @@ impl PutShape<u64> for U64 {
     }
 }
 
-/// A time: a number of 32 bits in version 0, and of 64 bits in any other.
+/// A time: a number of 32 bits in version 0, and of 64 bits in later versions.
 pub struct Time;
 
-/// How many bytes a time has in a version.
+/// Returns the number of bytes of a time in `version`.
 #[inline]
 fn width_of_time(version: u8) -> usize
     ensures { result ≡ time_width version }
@@ -334,7 +334,7 @@ impl PutShape<u64> for Time {
     }
 }
 
-/// `N` bytes that are reserved: they are written as 0, and read as any.
+/// `N` reserved bytes, which are written as 0 and read as any.
 pub struct Zeros<const N: usize>;
 
 impl<const N: usize> Shape for Zeros<N> {

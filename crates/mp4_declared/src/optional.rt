@@ -1,26 +1,26 @@
-//! Shapes that are present in some versions only, or under some flags.
+//! Shapes that are present only in some versions, or only with some flags.
 
 ghost use Rattle.std.specs.Prelude.{◌≡◌, Bool, nat_le, nat_lt, bit_and, option_map};
-ghost use Rattle.mp4_declared.specs.MoreShapes.{shape_if};
+ghost use Rattle.mp4_declared.specs.OptionalShapes.{shape_if};
 ghost use Rattle.mp4_declared.specs.declared.context.Context.{Context};
-ghost use Rattle.mp4_declared.specs.MoreShapesLaws.{laws_if};
+ghost use Rattle.mp4_declared.specs.OptionalShapesLaws.{laws_if};
 
 use crate::context::Context;
 use crate::shape::{PutShape, Shape};
 use mp4_frame::Result;
 use std::alloc::Global;
 
-/// When a shape is present.
+/// A condition on version and flags, under which a shape is present.
 pub trait Condition {
-    /// Whether it is.
+    /// The contexts in which the condition holds.
     ghost holds: { Context → Bool };
 
-    /// Whether it is.
+    /// Returns whether the condition holds in `context`.
     fn holds(context: Context) -> bool
         ensures { result ≡ holds context };
 }
 
-/// From version `V` on.
+/// The condition that the version is `V` or later.
 pub struct FromVersion<const V: u8>;
 
 impl<const V: u8> Condition for FromVersion<V> {
@@ -32,7 +32,7 @@ impl<const V: u8> Condition for FromVersion<V> {
     }
 }
 
-/// If one of the flags in `MASK` is set.
+/// The condition that at least one flag of `MASK` is set.
 pub struct IfFlags<const MASK: u32>;
 
 impl<const MASK: u32> Condition for IfFlags<MASK> {
@@ -44,7 +44,7 @@ impl<const MASK: u32> Condition for IfFlags<MASK> {
     }
 }
 
-/// An `S` if `P` holds, and else nothing.
+/// An `S` if `P` holds, and otherwise no bytes.
 pub struct If<P, S>(P, S);
 
 impl<P: Condition, S: Shape> Shape for If<P, S> {

@@ -1,4 +1,4 @@
-//! One shape, and then another.
+//! Two shapes, one after the other.
 
 ghost use Rattle.mp4_declared.specs.Shape.{pair_shape};
 ghost use Rattle.mp4_declared.specs.ShapeLaws.{pair_laws};

@@ -16,8 +16,8 @@ use std::alloc::Global;
 /// A count of the shape `C`, and that many rows of `E` bytes each.
 pub struct Rows<C, const E: usize>(C);
 
-/// A copy of these rows. The only error is out of memory.
-#[tactic(auto, using(crate::proofs::Room::rows_as_is))]
+/// Returns a copy of `rows`. The only error is out of memory.
+#[tactic(auto, using(mp4_lemmas::proofs::Lists::map_same))]
 fn copy_of<const E: usize>(alloc: Global, rows: &[[u8; E]]) -> Result<Vec<[u8; E]>>
     ensures value { IfOk result (λ copy. copy.items ≡ map (λ row. row) rows.now) }
     ensures memory { IfErr result (λ e. e ≡ OutOfMemory) }
@@ -25,7 +25,7 @@ fn copy_of<const E: usize>(alloc: Global, rows: &[[u8; E]]) -> Result<Vec<[u8; E
     Ok(Vec::from_slice(alloc, rows)?)
 }
 
-/// Whether each row has `E` bytes, as its type says.
+/// Returns whether each row has `E` bytes, as its type says.
 fn rows_fit<const E: usize>(rows: &[[u8; E]]) -> bool
     ensures { IsTrue result ↔ All (λ row. length row ≡ E) rows.now }
 {
@@ -36,7 +36,7 @@ fn rows_fit<const E: usize>(rows: &[[u8; E]]) -> bool
     )
 }
 
-/// Puts the rows, and returns the offset after them.
+/// Puts `rows`, and returns the offset after them.
 fn put_all<const E: usize>(out: &mut [u8], at: usize, rows: &[[u8; E]]) -> usize
     requires fit { All (λ row. length row ≡ E) rows.now }
     requires room { at + E * length rows.now ≤ length out.old }

@@ -1,9 +1,9 @@
-//! Runs of bytes.
+//! Runs of bytes: counted, up to the end of the box, or of a fixed length.
 
 ghost use Rattle.std.specs.Prelude.{◌≡◌, ◌+◌, ◌<◌, ◌≤◌, length, IfOk};
 ghost use Rattle.mp4_frame.specs.Reading.{AnswersAs};
-ghost use Rattle.mp4_declared.specs.MoreShapes.{reads_run, run_shape, rest_shape, array_shape};
-ghost use Rattle.mp4_declared.specs.MoreShapesLaws.{run_laws, rest_laws, array_laws};
+ghost use Rattle.mp4_declared.specs.OptionalShapes.{reads_run, run_shape, rest_shape, array_shape};
+ghost use Rattle.mp4_declared.specs.OptionalShapesLaws.{run_laws, rest_laws, array_laws};
 
 use crate::bits::{number_at, put_number};
 use crate::context::Context;
@@ -12,9 +12,9 @@ use crate::shape::{PutShape, Shape};
 use mp4_frame::{Entries, Result, check, piece_at, put_bytes};
 use std::alloc::Global;
 
-/// The `n` bytes from offset `at` on. Invalid data if a box that ends at `end` has no room for them; end of input
-/// unless all of them are present.
-#[tactic(auto, unfolding(crate::specs::MoreShapes::reads_run))]
+/// Reads `n` bytes at offset `at`. Returns them, and the offset after them. Fails with invalid data if they would end
+/// after `end`, the end of the box, and with end of input if they aren't all present.
+#[tactic(auto, unfolding(crate::specs::OptionalShapes::reads_run))]
 fn read_run(
     alloc: Global,
     bytes: &[u8],
@@ -88,7 +88,7 @@ impl<'a, C: Count> PutShape<&'a [u8]> for Bytes<C> {
     }
 }
 
-/// All bytes up to the end of the box. It is the last part of a box.
+/// All bytes up to the end of the box, as its last part.
 pub struct Rest;
 
 impl Shape for Rest {

@@ -1,4 +1,4 @@
-//! Shapes: what a box holds, as a type.
+//! The traits of a shape: a type that says what a box holds.
 
 ghost use Rattle.std.specs.Prelude.{◌≡◌, ℕ, ◌+◌, ◌-◌, ◌^◌, ◌<◌, ◌≤◌, ◌++◌, ◌↔◌, true, min, IsTrue, IfOk, length, take};
 ghost use Rattle.mp4_frame.specs.Reading.{AnswersAs};
@@ -9,26 +9,26 @@ use crate::context::Context;
 use mp4_frame::{Error, Result};
 use std::alloc::Global;
 
-/// What a box holds, or a part of it. It is a type with no values.
+/// The content of a box, or a part of it, as a type without values.
 pub trait Shape {
-    /// What is read.
+    /// The type of the value that is read.
     type Value: Drop;
 
-    /// How a value is read, and in which bytes it is written.
+    /// The definition of the shape: how a value is read, and in which bytes it is written.
     ghost shape: { Shape Self.Value };
 
-    /// Its laws.
+    /// The laws of the shape.
     ghost shape_laws: { IsShape shape };
 
-    /// Whether all values take as many bytes as the front, and none is refused.
+    /// Returns whether every value takes as many bytes as the front, and no bytes are refused.
     fn is_fixed() -> bool
         ensures { result ≡ shape.fixed };
 
-    /// How many bytes are expected before anything else is checked. It saturates at 2^64 - 1.
+    /// Returns the number of bytes that must be present before anything else is checked. It saturates at 2^64 - 1.
     fn front(context: Context) -> usize
         ensures { result ≡ min (shape.front context) (2 ^ 64 - 1) };
 
-    /// Reads a value from offset `at` on, and returns it with the offset after it. The box ends at `end`.
+    /// Reads a value at offset `at` of a box that ends at `end`. Returns the value, and the offset after it.
     fn read(
         alloc: Global,
         bytes: &[u8],
@@ -44,20 +44,20 @@ pub trait Shape {
         ensures within { IfOk result (λ r. r.1 ≤ length bytes.now) };
 }
 
-/// A shape whose values are written from a `V`, which is a number, a reference, or a pair of such.
+/// A shape whose values are written from a `V`: a number, a reference, or a pair of such values.
 pub trait PutShape<V>: Shape {
-    /// The value.
+    /// The value that a `V` stands for.
     ghost content: { V → Self.Value };
 
-    /// The number of its bytes. It saturates at 2^64 - 1.
+    /// Returns the number of bytes of `value`. It saturates at 2^64 - 1.
     fn size(context: Context, value: V) -> u64
         ensures { result ≡ min (Self.shape.size context (content value)) (2 ^ 64 - 1) };
 
-    /// Whether each number fits its field.
+    /// Returns whether each number of `value` fits its field.
     fn fits(context: Context, value: V) -> bool
         ensures { IsTrue result ↔ Self.shape.Fits context (content value) };
 
-    /// Puts its bytes, and returns the offset after them.
+    /// Puts the bytes of `value`, and returns the offset after them.
     fn put(out: &mut [u8], at: usize, context: Context, value: V) -> usize
         requires fits { Self.shape.Fits context (content value) }
         requires room { at + Self.shape.size context (content value) ≤ length out.old }
@@ -65,7 +65,7 @@ pub trait PutShape<V>: Shape {
         ensures put { take result out.new ≡ take at out.old ++ Self.shape.bytes context (content value) };
 }
 
-/// Reads a shape whose front may not be present.
+/// Reads a value at offset `at`. Unless `is_present` is set, this first checks that the front is present.
 #[inline]
 pub(crate) fn read_next<S: Shape>(
     alloc: Global,

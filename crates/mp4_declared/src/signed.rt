@@ -1,15 +1,15 @@
 //! Signed numbers.
 
 ghost use Rattle.std.specs.Int.{w8, w16, w32};
-ghost use Rattle.mp4_declared.specs.MoreShapes.{signed_shape};
-ghost use Rattle.mp4_declared.specs.MoreShapesLaws.{signed8_laws, signed16_laws, signed32_laws};
+ghost use Rattle.mp4_declared.specs.OptionalShapes.{signed_shape};
+ghost use Rattle.mp4_declared.specs.OptionalShapesLaws.{signed8_laws, signed16_laws, signed32_laws};
 
 use crate::context::Context;
 use crate::shape::{PutShape, Shape};
 use mp4_frame::{Result, i8_at, i16_at, i32_at, put_i8, put_i16, put_i32};
 use std::alloc::Global;
 
-/// A signed number of 8 bits, as two's complement.
+/// A signed number of 8 bits, in two's complement.
 pub struct I8;
 
 impl Shape for I8 {
@@ -60,7 +60,7 @@ impl PutShape<i8> for I8 {
     }
 }
 
-/// A signed number of 16 bits, as two's complement.
+/// A signed number of 16 bits, in two's complement.
 pub struct I16;
 
 impl Shape for I16 {
@@ -111,7 +111,7 @@ impl PutShape<i16> for I16 {
     }
 }
 
-/// A signed number of 32 bits, as two's complement.
+/// A signed number of 32 bits, in two's complement.
 pub struct I32;
 
 impl Shape for I32 {

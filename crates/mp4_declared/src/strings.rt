@@ -1,4 +1,4 @@
-//! Strings.
+//! Strings, which end with a byte of 0, or begin with their length.
 
 ghost use Rattle.std.specs.Prelude.{◌≡◌, false, ◌↔◌, ◌+◌, ◌≤◌, min, IfOk, IsTrue, length, position};
 ghost use Rattle.std.specs.List.{list_any, position_or_len};
@@ -11,14 +11,14 @@ use crate::shape::{PutShape, Shape};
 use mp4_frame::{Entries, Result, check, expect_bytes, put_bytes, put_u8, put_zeros, u8_at};
 use std::alloc::Global;
 
-/// The index of the first byte of 0.
+/// Returns the index of the first byte of 0, or `None` if there is none.
 fn first_zero(bytes: &[u8]) -> Option<usize>
     ensures { result ≡ position is_zero bytes.now }
 {
     bytes.iter().position(|byte| *byte == 0)
 }
 
-/// How many bytes are before it; all of them if there is none.
+/// Returns the number of bytes before the first byte of 0, or of all bytes if there is none.
 #[tactic(auto, using(crate::proofs::FirstZero::first_or_all))]
 fn before_zero(bytes: &[u8]) -> usize
     ensures { result ≡ position_or_len is_zero bytes.now }
@@ -26,34 +26,35 @@ fn before_zero(bytes: &[u8]) -> usize
     first_zero(bytes).unwrap_or(bytes.len())
 }
 
-/// The same, where `room` bytes are looked at.
+/// Returns the number of bytes before the first byte of 0 among the first `available` bytes, or of all these bytes if
+/// there is none.
 #[tactic(auto, using(crate::proofs::FirstZero::first_within, crate::proofs::FirstZero::first_inside))]
-fn before_zero_within(bytes: &[u8], room: u64) -> usize
-    ensures { result ≡ min (position_or_len is_zero bytes.now) room }
+fn before_zero_within(bytes: &[u8], available: u64) -> usize
+    ensures { result ≡ min (position_or_len is_zero bytes.now) available }
 {
-    if room < bytes.len() as u64 {
-        before_zero(&bytes[..room as usize])
+    if available < bytes.len() as u64 {
+        before_zero(&bytes[..available as usize])
     } else {
         before_zero(bytes)
     }
 }
 
-/// The bytes from offset `at` on up to the first byte of 0, without it. Invalid data unless both are in a box that ends
-/// at `end`; end of input unless they are present.
+/// Returns the bytes between offset `at` and the first byte of 0, without that byte. Fails with invalid data if the
+/// box, which ends at `end`, holds no such byte, and with end of input if the bytes aren't all present.
 #[tactic(auto, unfolding(crate::specs::Strings::terminated))]
 fn terminated_at(bytes: &[u8], at: usize, end: u64) -> Result<&[u8]>
     requires reached { at ≤ length bytes.now }
     ensures text { AnswersAs (λ text. text.now) result (terminated bytes.now at end) }
     ensures within { IfOk result (λ text. at + length text.now + 1 ≤ length bytes.now) }
 {
-    let room = end.saturating_sub(at as u64);
-    let long = before_zero_within(&bytes[at..], room);
-    check((long as u64) < room, "string has no end in the box")?;
-    expect_bytes(bytes, at, long + 1)?;
-    Ok(&bytes[at..at + long])
+    let available = end.saturating_sub(at as u64);
+    let count = before_zero_within(&bytes[at..], available);
+    check((count as u64) < available, "string has no end in the box")?;
+    expect_bytes(bytes, at, count + 1)?;
+    Ok(&bytes[at..at + count])
 }
 
-/// Bytes other than 0, and a byte of 0, which is no part of the value. They need not be UTF-8.
+/// Bytes other than 0, and a byte of 0 that ends them, which is not part of the value. The bytes need not be UTF-8.
 pub struct Terminated;
 
 impl Shape for Terminated {
@@ -85,7 +86,7 @@ impl Shape for Terminated {
     }
 }
 
-/// Whether a byte of 0 can end the bytes: none of them is 0.
+/// Returns whether none of `bytes` is 0, so that a byte of 0 can end them.
 fn has_no_zero(bytes: &[u8]) -> bool
     ensures { IsTrue result ↔ (list_any is_zero bytes.now ≡ false) }
 {
@@ -113,7 +114,7 @@ impl<'a> PutShape<&'a [u8]> for Terminated {
     }
 }
 
-/// A field of `N` bytes: a count of 1 byte, so many bytes, and others that are written as 0, and read as any.
+/// A field of `N` bytes: a count of 1 byte, that many bytes, and padding, which is written as 0 and read as any.
 pub struct Pascal<const N: usize>;
 
 impl<const N: usize> Shape for Pascal<N> {

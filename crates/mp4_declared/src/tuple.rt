@@ -1,4 +1,4 @@
-//! Three to five shapes, one after the other: the first one, and then the others.
+//! Three to five shapes, one after the other. A tuple is a pair of its first shape and the tuple of the others.
 
 use crate::context::Context;
 use crate::shape::{PutShape, Shape};

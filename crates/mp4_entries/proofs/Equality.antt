@@ -1,4 +1,4 @@
--- Derived equality is equality of all fields, for types where the proof search does not find this.
+-- Derived equality is equality of all fields, for types where proof search does not find this.
 use Rattle.std.proofs.Common.{rules, ◌≡◌, ◌&&◌, ℕ, nat_eq, refl}
 use Rattle.std.specs.Cmp.{booleans_Decides}
 use Rattle.std.proofs.lemmas.Bool.{and_parts, and_from, eqb-true, eq-eqb}

@@ -1,4 +1,4 @@
--- A list of sets, set by set.
+-- A list of sets, read set by set.
 use Rattle.std.proofs.Common.{◌≡◌, ℕ, zero, suc, ◌+◌, ◌-◌, ◌<◌, ◌≤◌, true, false, List, [], ◌∷◌, ◌++◌, length, Result}
 use Rattle.std.proofs.Common.{Ok, Err, refl, sym, ap, subst, ◌∙◌, arith, append_assoc}
 use Rattle.std.proofs.lemmas.List.{append-nil}
@@ -12,7 +12,7 @@ use Rattle.mp4_frame.proofs.Decided.{decided_fault}
 use Rattle.mp4_entries.specs.Sets.{set_at, sets}
 use Rattle.mp4_entries.specs.declared.nal_unit.NalUnit.{NalUnit}
 
--- what was read, and what is still to be read
+-- the sets already read, and then those that follow
 abbrev pub continued : List NalUnit → Reading (List NalUnit × ℕ) → Reading (List NalUnit × ℕ)
 continued front r = r >>= λ later. done (front ++ later.0, later.1)
 
@@ -39,14 +39,14 @@ regroup_by front mine false (Ok v) =
     (append_assoc front (mine ∷ []) v.0)
 
 module _ (bytes : List ℕ) where
-  -- nothing is read so far
+  -- No set is read yet.
   pub at_first : (front : List NalUnit) (n o : ℕ) → front ≡ []
       → Decides (continued front (sets bytes n o)) (sets bytes n o)
   at_first front n o none = let r =
       sets bytes n o in decides_same _ _
       (ap (λ (l : List NalUnit). continued l r) none ∙ first_by r.asks_memory r.outcome)
 
-  -- memory is asked for after a whole set was present
+  -- Memory is asked for after a check that the whole set is present.
   set_asked : (o : ℕ) (mine : NalUnit) → (set_at bytes o).outcome ≡ Ok mine → (set_at bytes o).asks_memory ≡ true
   unfolding set_at
   set_asked o mine e =
@@ -69,17 +69,17 @@ module _ (bytes : List ℕ) where
     begun : Decides (continued front (set_at bytes o >>= after (n - 1) o)) whole
     begun = decides_on _ _ whole (decides_same _ _ (ap (continued front) (sym (sets_first n o more)))) told
 
-    -- the next set faults
+    -- The next set has a fault.
     pub set_faults : (e : Error) → Refuses e (set_at bytes o) → Refuses e whole
     set_faults e h = decided_fault e _ whole begun (first_faults e _ _ (first_faults e _ (after (n - 1) o) h))
 
-    -- it is read, and then the call is out of memory
+    -- The next set is read, and then the call is out of memory.
     pub set_out_of_memory : (e : Error) (mine : NalUnit) → e ≡ errors.OutOfMemory → (set_at bytes o).outcome ≡ Ok mine
         → Refuses e whole
     set_out_of_memory e mine is h =
         set_faults e (subst (λ (x : Error). Refuses x (set_at bytes o)) (sym is) (set_asked o mine h))
 
-    -- it is read
+    -- The next set is read.
     pub set_read : (mine : NalUnit) (next : List NalUnit) (k : ℕ) → (set_at bytes o).outcome ≡ Ok mine
         → next ≡ front ++ mine ∷ [] → k ≡ o + 2 + length mine.bytes
         → Decides (continued next (sets bytes (n - 1) k)) whole
@@ -99,7 +99,7 @@ module _ (bytes : List ℕ) where
   unfolding sets
   sets_none o = refl
 
-  -- nothing is left
+  -- No set is left to read.
   pub sets_read : (front : List NalUnit) (n o : ℕ) (whole : Reading (List NalUnit × ℕ)) → n ≤ 0
       → Decides (continued front (sets bytes n o)) whole → whole.outcome ≡ Ok (front, o)
   sets_read front n o whole none told =

@@ -1,4 +1,4 @@
--- The laws of arrays of bytes: the bytes of an array are those of its number.
+-- The laws of arrays of bytes: an array has the bytes of its number.
 use Rattle.std.proofs.Common.{◌≡◌, ℕ, zero, suc, ◌/◌, ◌%◌, ◌^◌, ◌<◌, List, length, ◌∙◌, arith, lit<}
 use Rattle.std.proofs.Math.Nat.{mod-lt}
 use Rattle.std.proofs.lemmas.List.{take_all}
@@ -18,11 +18,11 @@ bytes_below zero n i = lit< tt
 bytes_below (suc w) n zero = byte_below w n
 bytes_below (suc w) n (suc i) = bytes_below w n i
 
--- the bytes of an array's number are the array
+-- The bytes of an array's number are the array.
 pub array_back : (w : ℕ) (array : List ℕ) → length array ≡ w → AreBytes array → be_bytes w (number array 0 w) ≡ array
 array_back w array long are = bytes_there array are 0 w (omega (arith, long)) ∙ take_all w array (omega (arith, long))
 
--- an array that was read
+-- Bytes that are read are an array.
 pub array_read : (bytes : List ℕ) (o w : ℕ) → AreBytes bytes → IsArray w (be_bytes w (number bytes o w))
 unfolding be_bytes
 array_read bytes o w are =

@@ -1,9 +1,9 @@
--- An array of bytes, as one field: the big-endian number of its bytes.
+-- An array of bytes as a field: the big-endian number of its bytes.
 use Rattle.std.specs.Prelude.{◌≡◌, ◌<◌, ◌^◌, ℕ, List, length}
 use Rattle.mp4_frame.specs.Bytes.{number, be_bytes}
 use Rattle.mp4_frame.specs.Laws.{AreBytes}
 
--- the w bytes at o, where `at o w` is the number of w bytes at offset o
+-- the w bytes at offset o, where `at o w` is the number of these bytes
 abbrev pub array_at : (ℕ → ℕ → ℕ) → ℕ → ℕ → List ℕ
 array_at at o w = be_bytes w (at o w)
 
@@ -11,7 +11,7 @@ array_at at o w = be_bytes w (at o w)
 abbrev pub field_of_array : ℕ → List ℕ → ℕ × ℕ
 field_of_array w array = (w, number array 0 w)
 
--- an array of w bytes; its number fits its field
+-- an array of w bytes, whose number fits its field
 pub record IsArray (w : ℕ) (array : List ℕ) : Type 0 where
   pub long : length array ≡ w
   pub bytes : AreBytes array

@@ -1,4 +1,4 @@
--- avc1, the sample entry of AVC video (ISO/IEC 14496-15, 5.4.2): a visual sample entry with the child avcC.
+-- avc1, the sample entry of AVC video (ISO/IEC 14496-15, 5.4.2): a visual sample entry with the child avcC
 use Rattle.std.specs.Prelude.{ℕ, List}
 use Rattle.mp4_frame.specs.Format.{Format}
 use Rattle.mp4_frame.specs.Reading.{Reading}
@@ -11,7 +11,7 @@ use Rattle.mp4_entries.specs.declared.avc1.Avc1Box.{Avc1Box}
 use Rattle.mp4_entries.specs.declared.avcc.AvcCBox.{AvcCBox}
 use Rattle.mp4_entries.specs.declared.visual.Visual.{Visual}
 
--- the fields of the visual sample entry, and the box with such fields and a child
+-- the fields of the visual sample entry, and the box with given fields and a given child
 abbrev pub visual_avc1 : Avc1Box → Visual
 visual_avc1 v = record {
   data_reference_index = v.data_reference_index;
@@ -41,7 +41,7 @@ reads_avc1 bytes start size = reads_visual reads_avcc codes.AVCC avc1_of bytes s
 abbrev pub size_avc1 : Avc1Box → ℕ
 size_avc1 v = size_visual format_avcc v.avcc
 
--- the entry of a configuration
+-- the sample entry made from a configuration
 abbrev pub made_avc1 : AvcConfig → Avc1Box
 made_avc1 config = avc1_of (visual_of 1 config.width config.height)
     (made_avcc config.seq_param_set config.pic_param_set)

@@ -1,7 +1,9 @@
--- avcC, the AVC decoder configuration (ISO/IEC 14496-15, 5.3.3.1). The fields are a version in 1 byte at 8, profile,
--- compatibility and level 1 each, and a byte at 12 whose two low bits are the length size minus one. The five low
--- bits of the byte at 13 count the sequence sets, which follow at 14. The byte after them counts the picture sets,
--- which follow it. The other bits at 12 and 13 are written as ones.
+-- avcC, the AVC decoder configuration (ISO/IEC 14496-15, 5.3.3.1). Its fields, by offset and bytes:
+-- - 8, 1 byte: the version
+-- - 9, 1 byte each: the profile, the compatibility and the level
+-- - 12, 1 byte: the length size minus one in the two low bits; the others are written as ones
+-- - 13, 1 byte: the number of sequence sets in the five low bits; the others are written as ones
+-- - 14: the sequence sets, and after them the number of picture sets in 1 byte, and the picture sets
 use Rattle.std.specs.Prelude.{ℕ, ◌+◌, ◌%◌, ◌<◌, ◌^◌, List, [], ◌∷◌, ◌++◌, All, length, slice_index}
 use Rattle.mp4_frame.specs.Bytes.{number, be_bytes, bytes_of_fields, FieldsFit}
 use Rattle.mp4_frame.specs.Reading.{Reading, ◌>>=◌, expect_bytes, done}
@@ -12,7 +14,7 @@ use Rattle.mp4_entries.specs.Sets.{sets, size_sets, IsSet, bytes_sets}
 use Rattle.mp4_entries.specs.declared.avcc.AvcCBox.{AvcCBox}
 use Rattle.mp4_entries.specs.declared.nal_unit.NalUnit.{NalUnit}
 
--- the value, where `at o w` is the number of w bytes at offset o, and its two lists
+-- the value with two lists, where `at o w` is the number of w bytes at offset o
 abbrev pub value_avcc : (ℕ → ℕ → ℕ) → List NalUnit → List NalUnit → AvcCBox
 value_avcc at sequence picture = record {
   configuration_version = at 8 1;
@@ -41,21 +43,21 @@ fields_avcc v =
     ∷ (1, v.profile_compatibility) ∷ (1, v.avc_level_indication) ∷ (1, 0xfc + v.length_size_minus_one % 4)
     ∷ (1, 0xe0 + length v.sequence_parameter_sets) ∷ []
 
--- every number fits its field, so that there are at most 31 sequence sets and 255 picture sets, and every length fits
+-- Every number fits its field, so there are at most 31 sequence sets and 255 picture sets. Every length fits.
 pub record WritableAvcc (v : AvcCBox) : Type 0 where
   pub fit : FieldsFit (fields_avcc v)
   pub count : length v.picture_parameter_sets < 2 ^ 8
   pub sequence : All IsSet v.sequence_parameter_sets
   pub picture : All IsSet v.picture_parameter_sets
 
--- the two lists, with the count of the second between them
+-- the bytes of the two lists, with the count of the second between them
 abbrev pub lists_avcc : List NalUnit → List NalUnit → List ℕ
 lists_avcc sequence picture = bytes_sets sequence ++ (be_bytes 1 (length picture) ++ bytes_sets picture)
 
 unfoldable pub bytes_avcc : AvcCBox → List ℕ
 bytes_avcc v = bytes_of_fields (fields_avcc v) ++ lists_avcc v.sequence_parameter_sets v.picture_parameter_sets
 
--- the configuration of one sequence set and one picture set
+-- the configuration made from one sequence set and one picture set
 abbrev pub made_avcc : List ℕ → List ℕ → AvcCBox
 made_avcc sps pps = record {
   configuration_version = 1;

@@ -4,7 +4,7 @@ use Rattle.std.proofs.Common.{subst, ◌∙◌, arith, append_assoc, length-appe
 use Rattle.std.proofs.lemmas.List.Elements.{All-from_recursion, recursion_from_All}
 use Rattle.mp4_frame.specs.Bytes.{number, be_bytes, bytes_of_fields, FieldsFit}
 use Rattle.mp4_frame.specs.Format.{IsBox}
-use Rattle.mp4_frame.specs.Laws.{ContentReadsBack, ContentIsSound}
+use Rattle.mp4_frame.specs.Laws.{ContentReadsBack, ContentIsStable}
 use Rattle.mp4_frame.specs.Reading.{Reading, ◌>>=◌, expect_bytes, done}
 use Rattle.mp4_frame.proofs.Fields.{found, numbers-fields, expect_bytes-fields, length-fields, length-be_bytes}
 use Rattle.mp4_frame.proofs.Fields.{number-be_bytes, number-below}
@@ -14,7 +14,7 @@ use Rattle.mp4_frame.proofs.Numbers.{number-after}
 use Rattle.mp4_frame.proofs.Checks.{expect_bytes_present, expect_bytes_ok, is_value}
 use Rattle.mp4_frame.proofs.Tables.{value_first}
 use Rattle.mp4_entries.specs.Sets.{sets, IsSet, size_sets, bytes_sets}
-use Rattle.mp4_entries.specs.SetLaws.{length_sets, sets_back, sets_sound}
+use Rattle.mp4_entries.specs.SetLaws.{length_sets, sets_back, sets_stable}
 use Rattle.mp4_entries.specs.Avcc.{value_avcc, reads_avcc, size_avcc, fields_avcc, lists_avcc, WritableAvcc, bytes_avcc}
 use Rattle.mp4_entries.specs.Avcc.{normal_avcc, format_avcc}
 use Rattle.mp4_entries.specs.declared.avcc.AvcCBox.{AvcCBox}
@@ -33,7 +33,7 @@ length_lists sequence picture =
       length_sets picture,
     )
 
--- a count in the five low bits of a byte whose other bits are ones
+-- A count in the five low bits of a byte whose other bits are ones is read back.
 low_five : (b n : ℕ) → b ≡ 0xe0 + n → 0xe0 + n < 256 ^ 1 → b % 32 ≡ n
 low_five b n is fits = omega arith
 
@@ -91,9 +91,9 @@ read_back_avcc v w rest start top =
     (outcome_bind (sets B (number B at 1) (at + 1)) (last sequence) (picture, at + 1 + size_sets picture) _ second
     (ap (λ (x : AvcCBox). Ok x) made))))
 
-sound_avcc : ContentIsSound reads_avcc WritableAvcc size_avcc normal_avcc
+stable_avcc : ContentIsStable reads_avcc WritableAvcc size_avcc normal_avcc
 unfolding reads_avcc
-sound_avcc bytes start long v are e =
+stable_avcc bytes start long v are e =
     let last = λ (found : List NalUnit) (later : List NalUnit × ℕ). done (value_avcc (number bytes) found later.0) in
     let on = λ (r : List NalUnit × ℕ). expect_bytes bytes r.1 1 >>= λ _. sets bytes (number bytes r.1 1) (r.1 + 1)
     >>= last r.0 in
@@ -102,8 +102,8 @@ sound_avcc bytes start long v are e =
     let at = p.0.1 in
     let q = value_first (sets bytes (number bytes at 1) (at + 1)) (last p.0.0) v
     (expect_bytes_ok bytes at 1 (λ _. sets bytes (number bytes at 1) (at + 1) >>= last p.0.0) v p.2) in
-    let sequence = sets_sound bytes (number bytes 13 1 % 32) 14 p.0 are p.1 in
-    let picture = sets_sound bytes (number bytes at 1) (at + 1) q.0 are q.1 in
+    let sequence = sets_stable bytes (number bytes 13 1 % 32) 14 p.0 are p.1 in
+    let picture = sets_stable bytes (number bytes at 1) (at + 1) q.0 are q.1 in
     let made : AvcCBox = value_avcc (number bytes) p.0.0 q.0.0 in
     let low : number bytes 12 1 % 4 % 4 ≡ number bytes 12 1 % 4 = omega arith in
     let own_normal_form : normal_avcc made ≡ made = ap (λ (n : ℕ). record made { length_size_minus_one = n }) low in
@@ -146,5 +146,5 @@ laws_avcc = record {
             bytes_of_fields cs ++ lists_avcc v.sequence_parameter_sets v.picture_parameter_sets) same;
       };
   read_back = read_back_avcc;
-  sound = sound_avcc;
+  stable = stable_avcc;
 }

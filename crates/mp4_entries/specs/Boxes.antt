@@ -1,4 +1,4 @@
--- The boxes of this crate: what each reads, its format, and its laws.
+-- The boxes of this crate: their readings, formats and laws.
 pub use Rattle.mp4_entries.specs.Avcc.{reads_avcc, format_avcc}
 pub use Rattle.mp4_entries.specs.Avc1.{reads_avc1, format_avc1}
 pub use Rattle.mp4_entries.specs.Hvcc.{reads_hvcc, format_hvcc}

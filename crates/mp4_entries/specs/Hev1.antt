@@ -1,4 +1,4 @@
--- hev1, the sample entry of HEVC video (ISO/IEC 14496-15, 8.4.1): a visual sample entry with the child hvcC.
+-- hev1, the sample entry of HEVC video (ISO/IEC 14496-15, 8.4.1): a visual sample entry with the child hvcC
 use Rattle.std.specs.Prelude.{ℕ, List}
 use Rattle.mp4_frame.specs.Format.{Format}
 use Rattle.mp4_frame.specs.Reading.{Reading}
@@ -11,7 +11,7 @@ use Rattle.mp4_entries.specs.declared.hev1.Hev1Box.{Hev1Box}
 use Rattle.mp4_entries.specs.declared.hvcc.HvcCBox.{HvcCBox}
 use Rattle.mp4_entries.specs.declared.visual.Visual.{Visual}
 
--- the fields of the visual sample entry, and the box with such fields and a child
+-- the fields of the visual sample entry, and the box with given fields and a given child
 abbrev pub visual_hev1 : Hev1Box → Visual
 visual_hev1 v = record {
   data_reference_index = v.data_reference_index;
@@ -41,7 +41,7 @@ reads_hev1 bytes start size = reads_visual reads_hvcc codes.HVCC hev1_of bytes s
 abbrev pub size_hev1 : Hev1Box → ℕ
 size_hev1 v = size_visual format_hvcc v.hvcc
 
--- the entry of a configuration
+-- the sample entry made from a configuration
 abbrev pub made_hev1 : HevcConfig → Hev1Box
 made_hev1 config = hev1_of (visual_of 1 config.width config.height) (record { configuration_version = 1 })
 

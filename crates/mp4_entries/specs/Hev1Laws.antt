@@ -14,7 +14,7 @@ unfolding reads_hev1
 laws_hev1 = laws_visual laws_hvcc codes.HVCC (λ c. refl) names.Hev1Box (lit< tt) visual_hev1 (λ v. v.hvcc) hev1_of
     (λ s c. refl) (λ s c. refl)
 
--- reading it takes no memory
+-- Reading it takes no memory.
 pub hev1_takes_none : (bytes : List ℕ) (start size : ℕ) → TakesNone (reads_hev1 bytes start size)
 unfolding reads_hev1
 hev1_takes_none bytes start size = visual_takes_none reads_hvcc codes.HVCC hev1_of hvcc_takes_none bytes start size

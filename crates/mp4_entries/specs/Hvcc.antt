@@ -1,5 +1,5 @@
 -- hvcC, the HEVC decoder configuration (ISO/IEC 14496-15, 8.3.3.1), of which only the first byte is kept: the
--- configuration version in 1 byte at 8.
+-- configuration version at offset 8
 use Rattle.std.specs.Prelude.{ℕ, List, [], ◌∷◌}
 use Rattle.mp4_frame.specs.Bytes.{number, bytes_of_fields, FieldsFit}
 use Rattle.mp4_frame.specs.Reading.{Reading, ◌>>=◌, expect_bytes, done}

@@ -1,4 +1,4 @@
--- Sets that were written are read back, and what is read can be written.
+-- Sets that are written are read back, and sets that are read can be written.
 use Rattle.std.proofs.Common.{◌≡◌, ℕ, zero, suc, ◌+◌, ◌-◌, ◌<◌, ◌≤◌, ◌^◌, List, [], ◌∷◌, ◌++◌, length, take, drop, Ok}
 use Rattle.std.proofs.Common.{refl, sym, ap, subst, ◌∙◌, arith, append_assoc, length-append}
 use Rattle.std.proofs.lemmas.List.{length-take}
@@ -30,7 +30,7 @@ length_sets (set ∷ found) =
       sum_by-cons size_set set found,
     )
 
--- one set among other bytes
+-- One set among other bytes is read back.
 set_back : (x : List ℕ) (set : NalUnit) (y : List ℕ) (o : ℕ) → length x ≡ o → IsSet set
     → (set_at (x ++ (bytes_set set ++ y)) o).outcome ≡ Ok set
 unfolding set_at
@@ -59,7 +59,7 @@ set_back x set y o at fits =
     ∙ piece_back (x ++ C) set.bytes y (o + 2) after in
     rw (expect_bytes_present B o 2 room, long, piece) refl
 
--- sets among other bytes, at any offset
+-- Sets among other bytes, at any offset, are read back.
 pub sets_back : (x : List ℕ) (found : List NalUnit) (y : List ℕ) (o : ℕ) → length x ≡ o → AllByRecursion IsSet found
     → (sets (x ++ (bytes_sets found ++ y)) (length found) o).outcome ≡ Ok (found, o + size_sets found)
 unfolding sets
@@ -83,9 +83,9 @@ sets_back x (set ∷ found) y o at fits =
     (outcome_bind (sets B (length found) (o + 2 + length set.bytes)) (λ later. done (set ∷ later.0, later.1))
     (found, o + 2 + length set.bytes + size_sets found) _ later (ap (λ (k : ℕ). Ok (set ∷ found, k)) end))
 
-set_sound : (bytes : List ℕ) (o : ℕ) (set : NalUnit) → AreBytes bytes → (set_at bytes o).outcome ≡ Ok set → IsSet set
+set_stable : (bytes : List ℕ) (o : ℕ) (set : NalUnit) → AreBytes bytes → (set_at bytes o).outcome ≡ Ok set → IsSet set
 unfolding set_at
-set_sound bytes o set are e =
+set_stable bytes o set are e =
     let n = number bytes o 2 in
     let last = λ (found : List ℕ). memory >>= λ _. done (record { bytes = found }) in
     let p = value_first (piece_at bytes (o + 2) n) last set
@@ -97,16 +97,16 @@ set_sound bytes o set are e =
     omega (arith, ap length piece, length-take n (drop (o + 2) bytes), number-below bytes o 2 are) in
     subst IsSet (is_value made set p.2) small
 
--- what is read are as many sets as were counted, and each can be written
-pub sets_sound : (bytes : List ℕ) (n o : ℕ) (r : List NalUnit × ℕ) → AreBytes bytes → (sets bytes n o).outcome ≡ Ok r
+-- As many sets are read as the count says, and each can be written.
+pub sets_stable : (bytes : List ℕ) (n o : ℕ) (r : List NalUnit × ℕ) → AreBytes bytes → (sets bytes n o).outcome ≡ Ok r
     → AllByRecursion IsSet r.0 × (length r.0 ≡ n)
 unfolding sets
-sets_sound bytes zero o r are e =
+sets_stable bytes zero o r are e =
     subst (λ (s : List NalUnit × ℕ). AllByRecursion IsSet s.0 × (length s.0 ≡ 0)) (is_value ([], o) r e) (tt, refl)
-sets_sound bytes (suc n) o r are e =
+sets_stable bytes (suc n) o r are e =
     let p = value_first (set_at bytes o)
     (λ first. sets bytes n (o + 2 + length first.bytes) >>= λ later. done (first ∷ later.0, later.1)) r e in
     let q = value_first (sets bytes n (o + 2 + length (p.0).bytes)) (λ later. done (p.0 ∷ later.0, later.1)) r p.2 in
-    let later = sets_sound bytes n (o + 2 + length (p.0).bytes) q.0 are q.1 in
+    let later = sets_stable bytes n (o + 2 + length (p.0).bytes) q.0 are q.1 in
     subst (λ (s : List NalUnit × ℕ). AllByRecursion IsSet s.0 × (length s.0 ≡ suc n))
-    (is_value (p.0 ∷ q.0.0, q.0.1) r q.2) ((set_sound bytes o p.0 are p.1, later.0), ap suc later.1)
+    (is_value (p.0 ∷ q.0.0, q.0.1) r q.2) ((set_stable bytes o p.0 are p.1, later.0), ap suc later.1)

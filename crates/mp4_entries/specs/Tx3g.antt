@@ -1,6 +1,11 @@
--- tx3g, the sample entry of timed text (3GPP TS 26.245, 5.16). The fields are 6 reserved bytes at 8, the data reference
--- index in 2 bytes at 14, display flags 4, two signed justifications of 1 byte each, a colour of four numbers of 1
--- byte each at 22, a box of four signed numbers of 2 bytes each at 26, and 12 bytes of a style at 34.
+-- tx3g, the sample entry of timed text (3GPP TS 26.245, 5.16). Its fields, by offset and bytes:
+-- - 8, 6 bytes: reserved
+-- - 14, 2 bytes: the data reference index
+-- - 16, 4 bytes: the display flags
+-- - 20, 1 byte each: the signed horizontal and vertical justification
+-- - 22, 1 byte each: the four components of the colour
+-- - 26, 2 bytes each: the four signed numbers of the text box
+-- - 34, 12 bytes: the style
 use Rattle.std.specs.Prelude.{◌≡◌, ℕ, ℤ, pos, negsuc, FitsSigned, List, [], ◌∷◌, ◌++◌, All, length, slice_index_or}
 use Rattle.std.specs.Int.{w8, w16, cast_signed, cast_unsigned}
 use Rattle.mp4_frame.specs.Bytes.{number, bytes_of_fields, FieldsFit}
@@ -32,14 +37,14 @@ reads_tx3g bytes start size = do
 abbrev pub size_tx3g : Tx3gBox → ℕ
 size_tx3g v = 46
 
--- the field of a signed number of 16 bits among others
+-- the field of the i-th of several signed numbers of 16 bits
 abbrev pub field_at : List ℤ → ℕ → ℕ × ℕ
 field_at numbers i = (2, cast_unsigned w16 (slice_index_or numbers i (pos 0)))
 
 abbrev pub fields_box_record : List ℤ → List (ℕ × ℕ)
 fields_box_record numbers = field_at numbers 0 ∷ field_at numbers 1 ∷ field_at numbers 2 ∷ field_at numbers 3 ∷ []
 
--- the fields up to the colour
+-- the fields before the colour
 abbrev pub start_tx3g : ℕ → ℕ → ℤ → ℤ → List (ℕ × ℕ)
 start_tx3g data_reference_index display_flags horizontal vertical =
     (4, 46) ∷ (4, codes.TX3G) ∷ (6, 0) ∷ (2, data_reference_index) ∷ (4, display_flags)
@@ -58,7 +63,7 @@ pub record IsBoxRecord (numbers : List ℤ) : Type 0 where
   pub signed : All (FitsSigned w16) numbers
   pub fit : FieldsFit (fields_box_record numbers)
 
--- every number fits its field
+-- Every number fits its field.
 pub record WritableTx3g (v : Tx3gBox) : Type 0 where
   pub fit : FieldsFit (fields_tx3g v)
   pub horizontal : FitsSigned w8 v.horizontal_justification
@@ -69,7 +74,7 @@ pub record WritableTx3g (v : Tx3gBox) : Type 0 where
 unfoldable pub bytes_tx3g : Tx3gBox → List ℕ
 bytes_tx3g v = bytes_of_fields (fields_tx3g v)
 
--- justified in the middle and at the bottom, with an opaque black ground, in the font 1 of size 16, white
+-- white text of size 16 in font 1, centred at the bottom, on an opaque black background
 abbrev pub default_tx3g : Tx3gBox
 default_tx3g = record {
   data_reference_index = 0;

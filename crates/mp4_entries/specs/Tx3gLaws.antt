@@ -1,5 +1,6 @@
--- The laws of tx3g, which is one run of fields.
+-- The laws of tx3g, whose bytes are a single run of fields.
 use Rattle.std.proofs.Common.{◌≡◌, ℕ, List, [], ◌∷◌, length, refl, subst, arith, lit<, lit≤}
+use Rattle.std.proofs.lemmas.Int.{to_z-of_z}
 use Rattle.std.proofs.lemmas.List.Elements.{All-from_recursion, recursion_from_All}
 use Rattle.std.specs.Int.{w8, w16, cast_signed}
 use Rattle.std.specs.List.{AllByRecursion}
@@ -10,21 +11,21 @@ use Rattle.mp4_frame.specs.Format.{IsBox}
 use Rattle.mp4_frame.specs.Laws.{AreBytes}
 use Rattle.mp4_frame.proofs.NoMemory.{fields_take_none}
 use Rattle.mp4_frame.proofs.Rows.{one_run_again, one_run_is}
-use Rattle.mp4_frame.proofs.Signed.{back8, back16, signed8, signed16}
+use Rattle.mp4_frame.proofs.Signed.{signed8, signed16}
 use Rattle.mp4_frame.proofs.Framing.{own_normal_form, header_of_fields, fits_read, Number, Signed8, Signed16, Fitting}
 use Rattle.mp4_entries.specs.ArrayLaws.{array_back, array_read}
 use Rattle.mp4_entries.specs.Tx3g.{field_at, value_tx3g, reads_tx3g, fields_tx3g, IsBoxRecord, WritableTx3g, bytes_tx3g}
 use Rattle.mp4_entries.specs.Tx3g.{format_tx3g}
 use Rattle.mp4_entries.specs.declared.tx3g.Tx3gBox.{Tx3gBox}
 
--- four signed numbers are read back
+-- the i-th of four signed numbers, as it is read back
 abbrev passed : List ℤ → ℕ → ℤ
 passed numbers i = cast_signed w16 (field_at numbers i).1
 
 box_back : (numbers : List ℤ) → length numbers ≡ 4 → AllByRecursion (FitsSigned w16) numbers
     → passed numbers 0 ∷ passed numbers 1 ∷ passed numbers 2 ∷ passed numbers 3 ∷ [] ≡ numbers
 box_back (a ∷ b ∷ c ∷ d ∷ []) four (fa, (fb, (fc, (fd, none)))) =
-    λ i. back16 a fa i ∷ back16 b fb i ∷ back16 c fc i ∷ back16 d fd i ∷ []
+    λ i. to_z-of_z w16 a fa i ∷ to_z-of_z w16 b fb i ∷ to_z-of_z w16 c fc i ∷ to_z-of_z w16 d fd i ∷ []
 box_back [] four all = absurd (omega (arith, four))
 box_back (a ∷ []) four all = absurd (omega (arith, four))
 box_back (a ∷ b ∷ []) four all = absurd (omega (arith, four))
@@ -49,13 +50,13 @@ laws_tx3g = record {
   read_back = λ v w rest start top.
       one_run_again 8 38 value_tx3g (fields_tx3g v) rest v w.fit (lit≤ tt)
       (λ i. record v {
-        horizontal_justification = back8 v.horizontal_justification w.horizontal i;
-        vertical_justification = back8 v.vertical_justification w.vertical i;
+        horizontal_justification = to_z-of_z w8 v.horizontal_justification w.horizontal i;
+        vertical_justification = to_z-of_z w8 v.vertical_justification w.vertical i;
         box_record =
             box_back v.box_record w.corners.four (recursion_from_All (FitsSigned w16) v.box_record w.corners.signed) i;
         style_record = array_back 12 v.style_record w.style.long w.style.bytes i;
       });
-  sound = λ bytes start long v are e.
+  stable = λ bytes start long v are e.
       let can : WritableTx3g (value_tx3g (number bytes)) = record {
         fit = (
           lit< tt,
@@ -74,7 +75,7 @@ laws_tx3g = record {
       (refl, λ _. subst WritableTx3g (one_run_is 8 38 value_tx3g bytes v e) can);
 }
 
--- reading it takes no memory
+-- Reading it takes no memory.
 pub tx3g_takes_none : (bytes : List ℕ) (start size : ℕ) → TakesNone (reads_tx3g bytes start size)
 unfolding reads_tx3g
 tx3g_takes_none bytes start size = fields_take_none bytes 8 38 (value_tx3g (number bytes))

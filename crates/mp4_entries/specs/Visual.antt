@@ -1,18 +1,26 @@
--- A visual sample entry with one child (ISO/IEC 14496-12, 8.5.2 and 12.1.3). The fields are 6 reserved bytes at 8, the
--- data reference index in 2 bytes at 14, 16 reserved, width 2 at 32, height 2, two resolutions 4 each, 4 reserved, a
--- frame count 2 at 48, a gap of 32, a depth 2 at 82, and 2 reserved that are written as ones. The gap is expected,
--- since a field follows it. The child is at 86.
+-- A visual sample entry with one child (ISO/IEC 14496-12, 8.5.2 and 12.1.3). Its fields, by offset and bytes:
+-- - 8, 6 bytes: reserved
+-- - 14, 2 bytes: the data reference index
+-- - 16, 16 bytes: reserved
+-- - 32, 2 bytes each: the width and the height
+-- - 36, 4 bytes each: the horizontal and the vertical resolution
+-- - 44, 4 bytes: reserved
+-- - 48, 2 bytes: the frame count
+-- - 50, 32 bytes: a gap, which must be present, since a field follows it
+-- - 82, 2 bytes: the depth
+-- - 84, 2 bytes: reserved, written as ones
+-- - 86: the child
 use Rattle.std.specs.Prelude.{ℕ, ◌+◌, List, [], ◌∷◌, ◌++◌}
 use Rattle.mp4_frame.specs.BoxType.{code_of}
 use Rattle.mp4_frame.specs.Bytes.{number, bytes_of_fields}
 use Rattle.mp4_frame.specs.Format.{Format}
 use Rattle.mp4_frame.specs.OneChild.{named_child}
-use Rattle.mp4_frame.specs.Parent.{WritableParent}
+use Rattle.mp4_frame.specs.FieldsThenChild.{WritableParent}
 use Rattle.mp4_frame.specs.Reading.{Reading, ◌>>=◌, expect_bytes, done}
 use Rattle.mp4_frame.specs.declared.box_type.BoxType.{BoxType}
 use Rattle.mp4_entries.specs.declared.visual.Visual.{Visual}
 
--- the value of the fields, where `at o w` is the number of w bytes at offset o
+-- the fields, where `at o w` is the number of w bytes at offset o
 abbrev pub visual_at : (ℕ → ℕ → ℕ) → Visual
 visual_at at = record {
   data_reference_index = at 14 2;
@@ -33,7 +41,7 @@ content_visual v =
 abbrev pub fields_visual : (size code : ℕ) → Visual → List (ℕ × ℕ)
 fields_visual size code v = (4, size) ∷ (4, code) ∷ content_visual v
 
--- 72 pixels an inch, one frame a sample, 24 bits a pixel
+-- 72 pixels per inch, one frame per sample, and 24 bits per pixel
 abbrev pub visual_of : (data_reference_index width height : ℕ) → Visual
 visual_of data_reference_index width height = record {
   data_reference_index = data_reference_index;
@@ -47,7 +55,7 @@ visual_of data_reference_index width height = record {
 
 -- A box of such fields and a child. `made visual c` is the box with these fields and this child.
 
--- what is read: the child is expected to have this code
+-- the reading of a box whose child must have this code
 abbrev pub reads_visual : {A P : Type 0} → (List ℕ → ℕ → ℕ → Reading A) → ℕ → (Visual → A → P) → List ℕ → ℕ → ℕ
     → Reading P
 reads_visual reads code made bytes start size = do
@@ -58,7 +66,7 @@ reads_visual reads code made bytes start size = do
 abbrev pub size_visual : {A : Type 0} → Format A → A → ℕ
 size_visual format c = 86 + format.size c
 
--- how it is written, under this name
+-- the format of a box with this name
 abbrev pub format_visual : {A P : Type 0} → BoxType → Format A → (P → Visual) → (P → A) → (Visual → A → P) → Format P
 format_visual name format visual child made = record {
   name = λ _. name;

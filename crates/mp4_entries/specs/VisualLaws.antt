@@ -10,12 +10,12 @@ use Rattle.mp4_frame.proofs.ChildLaws.{normal_size}
 use Rattle.mp4_frame.proofs.Fields.{length-fields}
 use Rattle.mp4_frame.proofs.Framing.{header_in_front, fits_read, Number, Fitting}
 use Rattle.mp4_frame.proofs.NoMemory.{bind_takes_none, expect_bytes_takes_none, named_child_takes_none}
-use Rattle.mp4_frame.proofs.OneChildLaws.{named_back, named_sound}
-use Rattle.mp4_frame.proofs.ParentLaws.{one_part, parent_normal_form, parent_back, parent_sound}
+use Rattle.mp4_frame.proofs.OneChildLaws.{named_back, named_stable}
+use Rattle.mp4_frame.proofs.FieldsThenChildLaws.{one_part, parent_normal_form, parent_back, parent_stable}
 use Rattle.mp4_entries.specs.Visual.{visual_at, content_visual, fields_visual, reads_visual, size_visual, format_visual}
 use Rattle.mp4_entries.specs.declared.visual.Visual.{Visual}
 
--- `made s c` is the box with the fields s and the child c; it has these fields and this child
+-- `made s c` is the box with the fields s and the child c. It has these fields and this child.
 module _ {A P : Type 0} {reads : List ℕ → ℕ → ℕ → Reading A} {format : Format A} (laws : IsBox reads format)
     (child_code : ℕ) (child_coded : (c : A) → code_of (format.name c) ≡ child_code) (name : BoxType)
     (small : code_of name < 256 ^ 4)
@@ -54,22 +54,22 @@ module _ {A P : Type 0} {reads : List ℕ → ℕ → ℕ → Reading A} {format
         (child v) w.child rest start top in
         parent_back (one_part laws) fields child with_child 8 78 inner value v rest start (size_visual format (child v))
         w.fit (lit≤ tt) back refl;
-    sound = λ bytes start long v are e.
+    stable = λ bytes start long v are e.
         let fitting = fits_read bytes are
         (Fitting 6 0 (lit< tt) ∷ Number 14 2 ∷ Fitting 16 0 (lit< tt) ∷ Number 32 2 ∷ Number 34 2 ∷ Number 36 4
         ∷ Number 40 4 ∷ Fitting 4 0 (lit< tt) ∷ Number 48 2 ∷ Fitting 32 0 (lit< tt) ∷ Number 82 2
         ∷ Fitting 2 0xffff (lit< tt) ∷ []) in
         let s = visual_at (number bytes) in
-        parent_sound (one_part laws) fields child with_child 8 78 inner value (λ n c. own_child (visual_at n) c)
+        parent_stable (one_part laws) fields child with_child 8 78 inner value (λ n c. own_child (visual_at n) c)
         (λ n c d. ap (λ (s : Visual). made s d) (own_fields (visual_at n) c))
         (λ p. size_visual format (child p)) (λ p. omega arith) bytes start long v e
-        (λ c read. named_sound laws bytes start are long 86 child_code c read)
+        (λ c read. named_stable laws bytes start are long 86 child_code c read)
         (λ c fits. subst (λ (x : Visual).
         FieldsFit (fields_visual (size_visual format (child (made s c))) (code_of name) x)) (sym (own_fields s c))
         (fits, (small, fitting)));
   }
 
--- reading a visual sample entry takes no memory, if reading its child doesn't
+-- Reading a visual sample entry takes no memory if reading its child takes none.
 pub visual_takes_none : {A P : Type 0} (reads : List ℕ → ℕ → ℕ → Reading A) (child_code : ℕ) (made : Visual → A → P)
     → ((bytes : List ℕ) (start size : ℕ) → TakesNone (reads bytes start size))
     → (bytes : List ℕ) (start size : ℕ) → TakesNone (reads_visual reads child_code made bytes start size)

@@ -1,12 +1,21 @@
--- vp09, the sample entry of VP9 video (VP Codec ISO Media File Format Binding, "VP Codec Sample Entry Box"). The fields
--- are version 1 byte, flags 3, a start code 2 at 12, the data reference index 2, 16 bytes at 16, width 2 at 32,
--- height 2, two resolutions of two numbers of 2 bytes each, 4 bytes at 44, a frame count 2 at 48, 32 bytes at 50, a
--- depth 2 at 82, and an end code 2. The child at 86 is read as vpcC, whatever its code.
+-- vp09, the sample entry of VP9 video (VP Codec ISO Media File Format Binding, "VP Codec Sample Entry Box"). Its
+-- fields, by offset and bytes:
+-- - 8, 1 byte and 3 bytes: the version and the flags
+-- - 12, 2 bytes: the start code
+-- - 14, 2 bytes: the data reference index
+-- - 16, 16 bytes: reserved
+-- - 32, 2 bytes each: the width and the height
+-- - 36, 2 bytes each: the two parts of the horizontal resolution, and of the vertical
+-- - 44, 4 bytes: reserved
+-- - 48, 2 bytes: the frame count
+-- - 50, 32 bytes: the compressor name
+-- - 82, 2 bytes each: the depth and the end code
+-- - 86: the child, which is read as vpcC, whatever its code
 use Rattle.std.specs.Prelude.{ℕ, false, ◌+◌, List, [], ◌∷◌, ◌++◌, replicate}
 use Rattle.mp4_frame.specs.Bytes.{number, bytes_of_fields, full_box}
 use Rattle.mp4_frame.specs.Format.{Format}
 use Rattle.mp4_frame.specs.OneChild.{any_child}
-use Rattle.mp4_frame.specs.Parent.{WritableParent}
+use Rattle.mp4_frame.specs.FieldsThenChild.{WritableParent}
 use Rattle.mp4_frame.specs.Reading.{Reading, ◌>>=◌, expect_bytes, done}
 use Rattle.mp4_frame.specs.declared.box_type.BoxType.TheVariants as names
 use Rattle.mp4_frame.specs.declared.codes.TheConstants as codes
@@ -16,7 +25,7 @@ use Rattle.mp4_entries.specs.Vpcc.{reads_vpcc, format_vpcc}
 use Rattle.mp4_entries.specs.declared.vp09.Vp09Box.{Vp09Box}
 use Rattle.mp4_entries.specs.declared.vpcc.VpccBox.{VpccBox}
 
--- the value, where `at o w` is the number of w bytes at offset o, and its child
+-- the value with a child, where `at o w` is the number of w bytes at offset o
 abbrev pub value_vp09 : (ℕ → ℕ → ℕ) → VpccBox → Vp09Box
 value_vp09 at vpcc = record {
   version = at 8 1;
@@ -56,13 +65,13 @@ content_vp09 v =
 abbrev pub fields_vp09 : Vp09Box → List (ℕ × ℕ)
 fields_vp09 v = full_box (size_vp09 v) codes.VP09 v.version v.flags ++ content_vp09 v
 
--- the arrays have their lengths
+-- The arrays have their lengths.
 pub record HasArrays (v : Vp09Box) : Type 0 where
   pub first : IsArray 16 v.reserved0
   pub second : IsArray 4 v.reserved1
   pub compressor : IsArray 32 v.compressorname
 
--- every number fits its field, the arrays have their lengths, and the child can be written
+-- Every number fits its field, the arrays have their lengths, and the child can be written.
 pub record WritableVp09 (v : Vp09Box) : Type 0 where
   pub parent : WritableParent format_vpcc.Writable (fields_vp09 v) v.vpcc
   pub arrays : HasArrays v
@@ -73,7 +82,7 @@ bytes_vp09 v = bytes_of_fields (fields_vp09 v) ++ format_vpcc.bytes v.vpcc
 abbrev pub normal_vp09 : Vp09Box → Vp09Box
 normal_vp09 v = record v { vpcc = format_vpcc.normal v.vpcc }
 
--- the entry of a configuration
+-- the sample entry made from a configuration
 abbrev pub made_vp09 : Vp9Config → Vp09Box
 made_vp09 config = record {
   version = 0;

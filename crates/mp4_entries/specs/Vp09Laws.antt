@@ -8,8 +8,8 @@ use Rattle.mp4_frame.proofs.ChildLaws.{normal_size}
 use Rattle.mp4_frame.proofs.Fields.{length-fields}
 use Rattle.mp4_frame.proofs.Framing.{header_in_front, fits_read, Number, Fitting}
 use Rattle.mp4_frame.proofs.NoMemory.{bind_takes_none, expect_bytes_takes_none, any_child_takes_none}
-use Rattle.mp4_frame.proofs.OneChildLaws.{any_back, any_sound}
-use Rattle.mp4_frame.proofs.ParentLaws.{one_part, parent_normal_form, parent_back, parent_is, parent_sound}
+use Rattle.mp4_frame.proofs.OneChildLaws.{any_back, any_stable}
+use Rattle.mp4_frame.proofs.FieldsThenChildLaws.{one_part, parent_normal_form, parent_back, parent_is, parent_stable}
 use Rattle.mp4_entries.specs.ArrayLaws.{array_back, array_read}
 use Rattle.mp4_entries.specs.Vpcc.{reads_vpcc, format_vpcc}
 use Rattle.mp4_entries.specs.VpccLaws.{laws_vpcc, vpcc_takes_none}
@@ -59,7 +59,7 @@ laws_vp09 = record {
         compressorname = array_back 32 v.compressorname w.arrays.compressor.long w.arrays.compressor.bytes i;
         vpcc = format_vpcc.normal v.vpcc;
       });
-  sound = λ bytes start long v are e.
+  stable = λ bytes start long v are e.
       let first = array_read bytes 16 16 are in
       let second = array_read bytes 44 4 are in
       let third = array_read bytes 50 32 are in
@@ -71,13 +71,13 @@ laws_vp09 = record {
       let made : Vp09Box = value_vp09 (number bytes) is.0 in
       let arrays : HasArrays v =
       subst HasArrays {x = made} is.2 (record { first = first; second = second; compressor = third }) in
-      let parent = parent_sound (one_part laws_vpcc) fields_vp09 child with_child 8 78 inner value_vp09 (λ n c. refl)
+      let parent = parent_stable (one_part laws_vpcc) fields_vp09 child with_child 8 78 inner value_vp09 (λ n c. refl)
       (λ n c d. refl) size_vp09 (λ p. omega arith) bytes start long v e
-      (λ c read. any_sound laws_vpcc bytes start are long 86 c read) (λ c small. (small, (lit< tt, fitting))) in
+      (λ c read. any_stable laws_vpcc bytes start are long 86 c read) (λ c small. (small, (lit< tt, fitting))) in
       (parent.0, λ small. record { parent = parent.1 small; arrays = arrays });
 }
 
--- reading it takes no memory
+-- Reading it takes no memory.
 pub vp09_takes_none : (bytes : List ℕ) (start size : ℕ) → TakesNone (reads_vp09 bytes start size)
 unfolding reads_vp09
 vp09_takes_none bytes start size =

@@ -1,8 +1,11 @@
--- vpcC, the VP9 codec configuration box (VP Codec ISO Media File Format Binding, "VP Codec Configuration Box"). The
--- fields are version 1 byte, flags 3, profile 1 at 12, level 1, a byte of three fields at 14, colour primaries 1,
--- transfer characteristics 1, matrix coefficients 1, and the size of the data for initialization in 2 bytes at 18.
--- The byte at 14 has the bit depth in its four high bits, the chroma subsampling in the next three, and the flag of
--- the full range in the lowest.
+-- vpcC, the VP9 codec configuration box (VP Codec ISO Media File Format Binding, "VP Codec Configuration Box"). Its
+-- fields, by offset and bytes:
+-- - 8, 1 byte and 3 bytes: the version and the flags
+-- - 12, 1 byte each: the profile and the level
+-- - 14, 1 byte: the bit depth in the four high bits, the chroma subsampling in the next three, and the full range flag
+--   in the lowest
+-- - 15, 1 byte each: the colour primaries, the transfer characteristics and the matrix coefficients
+-- - 18, 2 bytes: the number of bytes of initialization data
 use Rattle.std.specs.Prelude.{ℕ, Bool, ◌+◌, ◌*◌, ◌/◌, ◌%◌, ◌<◌, ◌==◌, if◌then◌else◌, List, [], ◌∷◌, ◌++◌}
 use Rattle.mp4_frame.specs.Bytes.{number, bytes_of_fields, FieldsFit, full_box}
 use Rattle.mp4_frame.specs.Reading.{Reading, ◌>>=◌, expect_bytes, done}
@@ -32,7 +35,7 @@ reads_vpcc bytes start size = do
   _ ← expect_bytes bytes 8 12
   done (value_vpcc (number bytes))
 
--- three fields in one byte
+-- a byte with three fields
 abbrev pub three_fields : ℕ → ℕ → Bool → ℕ
 three_fields bit_depth chroma_subsampling full_range =
     bit_depth * 16 + chroma_subsampling * 2 + (if full_range then 1 else 0)
@@ -47,7 +50,7 @@ fields_vpcc v =
     ∷ (1, v.color_primaries) ∷ (1, v.transfer_characteristics) ∷ (1, v.matrix_coefficients)
     ∷ (2, v.codec_initialization_data_size) ∷ []
 
--- every number fits its field, and the bit depth and the chroma subsampling fit their bits
+-- Every number fits its field, and the bit depth and the chroma subsampling fit their bits.
 pub record WritableVpcc (v : VpccBox) : Type 0 where
   pub fit : FieldsFit (fields_vpcc v)
   pub depth : v.bit_depth < 16

@@ -1,4 +1,4 @@
--- The laws of vpcC, which is one run of fields.
+-- The laws of vpcC, whose bytes are a single run of fields.
 use Rattle.std.proofs.Common.{◌≡◌, ℕ, ◌+◌, ◌*◌, ◌/◌, ◌%◌, ◌<◌, ◌^◌, Bool, true, false, eqb, List, [], ◌∷◌, refl, ap}
 use Rattle.std.proofs.Common.{subst, arith, lit<, lit≤}
 use Rattle.std.proofs.lemmas.Bool.{eq-eqb}
@@ -14,7 +14,7 @@ use Rattle.mp4_entries.specs.Vpcc.{value_vpcc, reads_vpcc, three_fields, fields_
 use Rattle.mp4_entries.specs.Vpcc.{format_vpcc}
 use Rattle.mp4_entries.specs.declared.vpcc.VpccBox.{VpccBox}
 
--- the three fields of a byte are read back
+-- The three fields of a byte are read back.
 depth_back : (d c : ℕ) (f : Bool) → c < 8 → three_fields d c f / 16 ≡ d
 depth_back d c true small = omega (arith, small)
 depth_back d c false small = omega (arith, small)
@@ -27,7 +27,7 @@ flag_back : (d c : ℕ) (f : Bool) → (three_fields d c f % 2 == 1) ≡ f
 flag_back d c true = eq-eqb _ 1 (let odd : three_fields d c true % 2 ≡ 1 = omega arith in odd)
 flag_back d c false = let even : three_fields d c false % 2 ≡ 0 = omega arith in ap (λ (n : ℕ). eqb n 1) even
 
--- three fields that were read fit a byte
+-- Three fields that are read fit a byte.
 three_fit : (n : ℕ) (f : Bool) → n < 256 → three_fields (n / 16) (n / 2 % 8) f < 256 ^ 1
 three_fit n true small = omega (arith, small)
 three_fit n false small = omega (arith, small)
@@ -47,7 +47,7 @@ laws_vpcc = record {
         chroma_subsampling = chroma_back d c f w.chroma i;
         video_full_range_flag = flag_back d c f i;
       });
-  sound = λ bytes start long v are e.
+  stable = λ bytes start long v are e.
       let n = number bytes 14 1 in
       let small : n < 256 = number-below bytes 14 1 are in
       let can : WritableVpcc (value_vpcc (number bytes)) = record {
@@ -67,7 +67,7 @@ laws_vpcc = record {
       (refl, λ _. subst WritableVpcc (one_run_is 8 12 value_vpcc bytes v e) can);
 }
 
--- reading it takes no memory
+-- Reading it takes no memory.
 pub vpcc_takes_none : (bytes : List ℕ) (start size : ℕ) → TakesNone (reads_vpcc bytes start size)
 unfolding reads_vpcc
 vpcc_takes_none bytes start size = fields_take_none bytes 8 12 (value_vpcc (number bytes))

@@ -1,4 +1,4 @@
-//! Arrays of bytes.
+//! Arrays of bytes as fields.
 
 ghost use Rattle.std.specs.Prelude.{◌≡◌, ◌≤◌, ◌+◌, ◌++◌, length, take};
 ghost use Rattle.mp4_frame.specs.Bytes.{number, be_bytes};
@@ -7,7 +7,7 @@ ghost use Rattle.mp4_entries.specs.Arrays.{array_at, IsArray};
 
 use mp4_frame::put_bytes;
 
-/// The `N` bytes at offset `at`.
+/// Returns the `N` bytes at offset `at`.
 #[tactic(auto, using(mp4_frame::proofs::NumberBytes::bytes_there))]
 pub(crate) fn array_at<const N: usize>(bytes: &[u8], at: usize) -> [u8; N]
     requires { at + N ≤ length bytes.now }
@@ -31,7 +31,7 @@ pub(crate) fn know_array<const N: usize>(array: &[u8; N])
     know_bytes(array)
 }
 
-/// Puts bytes, and returns the offset after them.
+/// Puts `bytes`, and returns the offset after them.
 #[tactic(auto, using(crate::specs::ArrayLaws::array_back))]
 fn put_slice(out: &mut [u8], at: usize, bytes: &[u8]) -> usize
     requires { at + length bytes.now ≤ length out.old }
@@ -42,7 +42,7 @@ fn put_slice(out: &mut [u8], at: usize, bytes: &[u8]) -> usize
     put_bytes(out, at, bytes)
 }
 
-/// Puts an array, and returns the offset after it.
+/// Puts `array`, and returns the offset after it.
 pub(crate) fn put_array<const N: usize>(out: &mut [u8], at: usize, array: &[u8; N]) -> usize
     requires { at + N ≤ length out.old }
     ensures next { result ≡ at + N }

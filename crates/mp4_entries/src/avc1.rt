@@ -1,4 +1,4 @@
-//! The sample entry of AVC video.
+//! The sample entry of AVC video, `avc1`.
 
 ghost use Rattle.std.specs.Prelude.{◌≡◌, ◌≤◌, ◌-◌, ◌^◌, [], IfOk, IfErr, length, min};
 ghost use Rattle.mp4_frame.specs.declared.error.Error.TheVariants.{OutOfMemory};
@@ -21,25 +21,25 @@ use std::alloc::Global;
 /// written.
 #[derive(Debug, Drop, PartialEq, Eq)]
 pub struct Avc1Box {
-    /// Which data reference the samples are in, from 1 on.
+    /// The number of the samples' data reference, starting at 1.
     pub data_reference_index: u16,
     /// The width, in pixels.
     pub width: u16,
     /// The height, in pixels.
     pub height: u16,
-    /// The horizontal resolution, in pixels an inch, usually 72.
+    /// The horizontal resolution in pixels per inch, usually 72.
     pub horizresolution: FixedPointU16,
-    /// The vertical resolution, in pixels an inch, usually 72.
+    /// The vertical resolution in pixels per inch, usually 72.
     pub vertresolution: FixedPointU16,
-    /// How many frames a sample has, usually 1.
+    /// The number of frames in a sample, usually 1.
     pub frame_count: u16,
-    /// How many bits a pixel has, usually 24.
+    /// The number of bits of a pixel, usually 24.
     pub depth: u16,
     /// The configuration of the decoder.
     pub avcc: AvcCBox,
 }
 
-/// The box with these fields and this configuration.
+/// Returns the box with the fields `visual` and the configuration `avcc`.
 fn avc1_of(visual: Visual, avcc: AvcCBox) -> Avc1Box
     ensures { result ≡ avc1_of visual avcc }
 {
@@ -56,7 +56,8 @@ fn avc1_of(visual: Visual, avcc: AvcCBox) -> Avc1Box
 }
 
 impl Avc1Box {
-    /// 72 pixels an inch, one frame a sample, 24 bits a pixel, and the default configuration. It takes no memory.
+    /// Creates an entry with 72 pixels per inch, one frame per sample, 24 bits per pixel, and the default
+    /// configuration. This takes no memory.
     pub fn default_in(alloc: Global) -> Avc1Box
         ensures { result ≡ avc1_of (visual_of 0 0 0)
             (record {
@@ -74,8 +75,9 @@ impl Avc1Box {
         avc1_of(Visual::new(0, 0, 0), AvcCBox::default_in(alloc))
     }
 
-    /// The entry of a configuration: data reference 1, its width, height and parameter sets, and what is else as by
-    /// default. The caller ensures that the sequence set has at least four bytes. The only error is out of memory.
+    /// Creates an entry with the data reference 1 and the width, height and parameter sets of `config`. The other
+    /// fields are those of `default_in`, except that the `avcC` is made by `AvcCBox::new`. The caller ensures that the
+    /// sequence set has at least four bytes. The only error is out of memory.
     pub fn new(alloc: Global, config: &AvcConfig) -> Result<Avc1Box>
         requires { 4 ≤ length config.now.seq_param_set }
         ensures made { IfOk result (λ v. v ≡ made_avc1 config.now) }
@@ -87,7 +89,7 @@ impl Avc1Box {
         Ok(avc1_of(visual, AvcCBox::new(alloc, sps, pps)?))
     }
 
-    /// The fields of the visual sample entry.
+    /// Returns the fields that all visual sample entries have.
     fn visual(&self) -> Visual
         ensures { result ≡ visual_avc1 self.now }
     {
@@ -102,14 +104,14 @@ impl Avc1Box {
         }
     }
 
-    /// The same as `box_type`.
+    /// Returns the type of the box, like `box_type`.
     pub fn get_type(&self) -> BoxType
         ensures { result ≡ names.Avc1Box }
     {
         self.box_type()
     }
 
-    /// The same as `box_size`.
+    /// Returns the number of bytes of the box, like `box_size`.
     pub fn get_size(&self) -> u64
         ensures { result ≡ min (size_avc1 self.now) (2 ^ 64 - 1) }
     {

@@ -1,4 +1,4 @@
-//! The configuration of an AVC decoder.
+//! The configuration of an AVC decoder, `avcC`.
 
 ghost use Rattle.std.specs.Prelude.{◌≡◌, ◌≤◌, ◌+◌, ◌%◌, ◌<◌, ◌-◌, ◌^◌, ◌++◌, All, [], IfOk, IfErr, min, length, take};
 ghost use Rattle.mp4_frame.specs.declared.error.Error.TheVariants.{OutOfMemory};
@@ -15,11 +15,11 @@ use mp4_frame::{
 };
 use std::alloc::Global;
 
-/// The configuration of an AVC decoder (`avcC`, ISO/IEC 14496-15, 5.3.3.1). What follows the picture sets is neither
+/// The configuration of an AVC decoder (`avcC`, ISO/IEC 14496-15, 5.3.3.1). Bytes after the picture sets are neither
 /// read nor written.
 #[derive(Debug, Drop, PartialEq, Eq)]
 pub struct AvcCBox {
-    /// 1 in the standard. Every version is read and written in the same way.
+    /// The version, 1 in the standard. All versions are read and written in the same way.
     pub configuration_version: u8,
     /// The profile of the stream, such as 100 for High.
     pub avc_profile_indication: u8,
@@ -27,7 +27,7 @@ pub struct AvcCBox {
     pub profile_compatibility: u8,
     /// The level of the stream, times 10.
     pub avc_level_indication: u8,
-    /// How many bytes the length of a unit has in a sample, minus one. Its two low bits are written.
+    /// The number of bytes of a unit's length in a sample, minus one. Only its two low bits are written.
     pub length_size_minus_one: u8,
     /// The sequence sets. At most 31 can be written.
     pub sequence_parameter_sets: Entries<NalUnit>,
@@ -36,7 +36,7 @@ pub struct AvcCBox {
 }
 
 impl AvcCBox {
-    /// Zeros and no sets. It takes no memory.
+    /// Creates a configuration of zeros, without sets. This takes no memory.
     pub fn default_in(alloc: Global) -> AvcCBox
         ensures { result ≡ record {
           configuration_version = 0;
@@ -60,9 +60,9 @@ impl AvcCBox {
         }
     }
 
-    /// Version 1, with one sequence set and one picture set. The caller ensures that the sequence set has at least four
-    /// bytes: profile, compatibility and level are those after its first. Lengths have four bytes. The only error is
-    /// out of memory.
+    /// Creates a configuration of version 1 with the sequence set `sps` and the picture set `pps`. The second, third
+    /// and fourth byte of `sps` are the profile, the compatibility and the level; the caller ensures that it has four.
+    /// Units have lengths of four bytes. The only error is out of memory.
     pub fn new(alloc: Global, sps: &[u8], pps: &[u8]) -> Result<AvcCBox>
         requires { 4 ≤ length sps.now }
         ensures made { IfOk result (λ v. v ≡ made_avcc sps.now pps.now) }
@@ -109,14 +109,14 @@ impl Mp4Box for AvcCBox {
     }
 }
 
-/// The two low bits of a byte.
+/// Returns the two low bits of `byte`.
 fn low_two(byte: u8) -> u8
     ensures { result ≡ byte % 4 }
 {
     byte & 0x03
 }
 
-/// The five low bits of a byte.
+/// Returns the five low bits of `byte`.
 fn low_five(byte: u8) -> u8
     ensures { result ≡ byte % 32 }
 {
@@ -147,14 +147,14 @@ impl ReadBox for AvcCBox {
     }
 }
 
-/// The two low bits of a number, after six ones.
+/// Returns a byte of six ones and the two low bits of `n`.
 fn after_six_ones(n: u8) -> u8
     ensures { result ≡ 0xfc + n % 4 }
 {
     n & 0x03 | 0xfc
 }
 
-/// A number of five bits, after three ones.
+/// Returns a byte of three ones and the five bits of `n`.
 fn after_three_ones(n: u8) -> u8
     requires { n < 32 }
     ensures { result ≡ 0xe0 + n }

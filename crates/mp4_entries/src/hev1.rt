@@ -1,4 +1,4 @@
-//! The sample entry of HEVC video.
+//! The sample entry of HEVC video, `hev1`.
 
 ghost use Rattle.std.specs.Prelude.{◌≡◌};
 ghost use Rattle.mp4_frame.specs.declared.box_type.BoxType.TheVariants as names;
@@ -19,25 +19,25 @@ use std::alloc::Global;
 /// written.
 #[derive(Clone, Debug, Drop, PartialEq, Eq)]
 pub struct Hev1Box {
-    /// The horizontal resolution, in pixels an inch, usually 72.
+    /// The horizontal resolution in pixels per inch, usually 72.
     pub horizresolution: FixedPointU16,
-    /// The vertical resolution, in pixels an inch, usually 72.
+    /// The vertical resolution in pixels per inch, usually 72.
     pub vertresolution: FixedPointU16,
-    /// Which data reference the samples are in, from 1 on.
+    /// The number of the samples' data reference, starting at 1.
     pub data_reference_index: u16,
     /// The width, in pixels.
     pub width: u16,
     /// The height, in pixels.
     pub height: u16,
-    /// How many frames a sample has, usually 1.
+    /// The number of frames in a sample, usually 1.
     pub frame_count: u16,
-    /// How many bits a pixel has, usually 24.
+    /// The number of bits of a pixel, usually 24.
     pub depth: u16,
     /// The configuration of the decoder.
     pub hvcc: HvcCBox,
 }
 
-/// The box with these fields and this configuration.
+/// Returns the box with the fields `visual` and the configuration `hvcc`.
 fn hev1_of(visual: Visual, hvcc: HvcCBox) -> Hev1Box
     ensures { result ≡ hev1_of visual hvcc }
 {
@@ -53,7 +53,7 @@ fn hev1_of(visual: Visual, hvcc: HvcCBox) -> Hev1Box
     }
 }
 
-/// 72 pixels an inch, one frame a sample, 24 bits a pixel, and a decoder configuration of version 0.
+/// 72 pixels per inch, one frame per sample, 24 bits per pixel, and a decoder configuration of version 0.
 impl Default for Hev1Box {
     ghost use Rattle.mp4_entries.specs.Hev1.{hev1_of, format_hev1};
     ghost use Rattle.mp4_entries.specs.Visual.{visual_of};
@@ -71,15 +71,15 @@ impl Default for Hev1Box {
 }
 
 impl Hev1Box {
-    /// The entry of a configuration: data reference 1, its width and height, a decoder configuration of version 1, and
-    /// what is else as by default.
+    /// Creates an entry with the data reference 1, the width and height of `config`, and a decoder configuration of
+    /// version 1. The other fields have their default values.
     pub fn new(config: &HevcConfig) -> Hev1Box
         ensures { result ≡ made_hev1 config.now }
     {
         hev1_of(Visual::new(1, config.width, config.height), HvcCBox::new())
     }
 
-    /// The fields of the visual sample entry.
+    /// Returns the fields that all visual sample entries have.
     fn visual(&self) -> Visual
         ensures { result ≡ visual_hev1 self.now }
     {
@@ -94,14 +94,14 @@ impl Hev1Box {
         }
     }
 
-    /// The same as `box_type`.
+    /// Returns the type of the box, like `box_type`.
     pub fn get_type(&self) -> BoxType
         ensures { result ≡ names.Hev1Box }
     {
         self.box_type()
     }
 
-    /// The same as `box_size`.
+    /// Returns the number of bytes of the box, like `box_size`.
     pub fn get_size(&self) -> u64
         ensures { result ≡ size_hev1 self.now }
     {

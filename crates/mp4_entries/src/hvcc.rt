@@ -1,4 +1,4 @@
-//! The configuration of an HEVC decoder.
+//! The configuration of an HEVC decoder, `hvcC`.
 
 ghost use Rattle.std.specs.Prelude.{◌≡◌};
 ghost use Rattle.mp4_frame.specs.Format.{write_laws};
@@ -11,16 +11,16 @@ use mp4_frame::{
 };
 use std::alloc::Global;
 
-/// The configuration of an HEVC decoder, of which only the version is kept (`hvcC`, ISO/IEC 14496-15, 8.3.3.1). The
+/// The configuration of an HEVC decoder (`hvcC`, ISO/IEC 14496-15, 8.3.3.1), of which only the version is kept. The
 /// bytes after the version are neither read nor written.
 #[derive(Clone, Debug, Default, Drop, PartialEq, Eq)]
 pub struct HvcCBox {
-    /// 1 in the standard. Every version is read and written in the same way.
+    /// The version, 1 in the standard. All versions are read and written in the same way.
     pub configuration_version: u8,
 }
 
 impl HvcCBox {
-    /// Version 1.
+    /// Creates a configuration of version 1.
     pub fn new() -> HvcCBox
         ensures { result ≡ record { configuration_version = 1 } }
     {

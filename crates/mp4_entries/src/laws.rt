@@ -1,10 +1,10 @@
-//! The laws of equality of sample entries and of what they hold. No function here calls another.
+//! The laws of equality of sample entries and of their parts. No function of this module calls another.
 
 ghost use Rattle.mp4_frame.specs.Equality.{IsEquality};
 
 use crate::{Avc1Box, AvcCBox, Hev1Box, HvcCBox, NalUnit, RgbaColor, Tx3gBox, Vp09Box, VpccBox};
 
-/// `==` of two values compares all of their fields.
+/// Shows that `==` of two values compares all of their fields.
 pub fn equality_is_of_all_fields()
     ensures avcc { IsEquality ⟦<AvcCBox as PartialEq>⟧.eq }
     ensures avc1 { IsEquality ⟦<Avc1Box as PartialEq>⟧.eq }

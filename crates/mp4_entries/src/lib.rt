@@ -1,4 +1,4 @@
-//! Sample entries of video and subtitles.
+//! Reads and writes the sample entries of AVC, HEVC and VP9 video and of timed text, with their decoder configurations.
 #![tactic(auto)]
 
 mod arrays;

@@ -14,7 +14,7 @@ pub struct NalUnit {
 }
 
 impl NalUnit {
-    /// A unit without bytes. It takes no memory.
+    /// Creates a unit without bytes. This takes no memory.
     pub fn default_in(alloc: Global) -> NalUnit
         ensures { result ≡ record { bytes = [] } }
     {
@@ -23,7 +23,7 @@ impl NalUnit {
         }
     }
 
-    /// A unit with a copy of these bytes. The only error is out of memory.
+    /// Creates a unit with a copy of `bytes`. The only error is out of memory.
     pub fn from_bytes(alloc: Global, bytes: &[u8]) -> Result<NalUnit>
         ensures unit { IfOk result (λ unit. unit ≡ record { bytes = bytes.now }) }
         ensures memory { IfErr result (λ e. e ≡ OutOfMemory) }

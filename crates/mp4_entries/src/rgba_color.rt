@@ -1,6 +1,6 @@
-//! RGB colours with transparency.
+//! Colours with opacity.
 
-/// An RGB colour with transparency. Each component has 8 bits, and 255 is the brightest.
+/// An RGB colour with an opacity. Each component has 8 bits, and 255 is the brightest.
 #[derive(Clone, Debug, Default, Drop, PartialEq, Eq)]
 pub struct RgbaColor {
     /// The red component.

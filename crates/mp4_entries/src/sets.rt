@@ -1,4 +1,4 @@
-//! Lists of parameter sets, each with its length before it.
+//! Lists of parameter sets, each preceded by its length.
 
 ghost use Rattle.std.specs.Prelude.{◌≡◌, ◌≤◌, ◌<◌, ◌+◌, ◌-◌, ◌^◌, ◌++◌, ◌↔◌, ◌∷◌, [], All, IsTrue, IfOk, IfErr, length};
 ghost use Rattle.std.specs.Prelude.{min, take};
@@ -11,19 +11,19 @@ use crate::nal_unit::NalUnit;
 use mp4_frame::{Entries, Result, TryClone, expect_bytes, piece_at, put_bytes, put_u16, u16_at};
 use std::alloc::Global;
 
-/// Reads the set at an offset: its length in two bytes, and as many bytes.
+/// Reads the set at offset `at`: a length of two bytes, and the bytes of the set.
 #[tactic(auto, unfolding(crate::specs::Sets::set_at))]
 fn read_set(alloc: Global, bytes: &[u8], at: usize) -> Result<NalUnit>
     ensures set { Answers result (set_at bytes.now at) }
     ensures room { IfOk result (λ set. at + 2 + length set.bytes ≤ length bytes.now) }
 {
     expect_bytes(bytes, at, 2)?;
-    let long = usize::from(u16_at(bytes, at));
-    let set = piece_at(bytes, at + 2, long)?;
+    let count = usize::from(u16_at(bytes, at));
+    let set = piece_at(bytes, at + 2, count)?;
     NalUnit::from_bytes(alloc, set)
 }
 
-/// Reads sets, one after the other, and returns them and the offset after them.
+/// Reads `count` sets, the first at offset `at`. Returns them, and the offset after them.
 pub(crate) fn read_sets(
     alloc: Global,
     bytes: &[u8],
@@ -44,7 +44,7 @@ pub(crate) fn read_sets(
     Ok((found, next))
 }
 
-/// The number of bytes of sets. It saturates at 2^64 - 1.
+/// Returns the number of bytes of `sets` with their lengths. It saturates at 2^64 - 1.
 pub(crate) fn sets_size(sets: &[NalUnit]) -> u64
     ensures { result ≡ min (size_sets sets.now) (2 ^ 64 - 1) }
 {
@@ -57,14 +57,14 @@ pub(crate) fn sets_size(sets: &[NalUnit]) -> u64
     size
 }
 
-/// Whether each length fits two bytes.
+/// Returns whether the length of each set fits two bytes.
 pub(crate) fn are_sets(sets: &[NalUnit]) -> bool
     ensures { IsTrue result ↔ All IsSet sets.now }
 {
     sets.iter().all(|set| set.bytes.len() < 1 << 16)
 }
 
-/// Puts a length and the bytes of a set, and returns the offset after them.
+/// Puts the length and the bytes of a set, and returns the offset after them.
 fn put_set(out: &mut [u8], at: usize, set: &[u8]) -> usize
     requires room { at + 2 + length set.now ≤ length out.old }
     requires fits { length set.now < 2 ^ 16 }
@@ -75,7 +75,7 @@ fn put_set(out: &mut [u8], at: usize, set: &[u8]) -> usize
     put_bytes(out, at, set)
 }
 
-/// Puts sets, one after the other, and returns the offset after them.
+/// Puts `sets`, one after the other, and returns the offset after them.
 pub(crate) fn put_sets(out: &mut [u8], at: usize, sets: &[NalUnit]) -> usize
     requires fits { All IsSet sets.now }
     requires room { at + size_sets sets.now ≤ length out.old }
@@ -89,7 +89,7 @@ pub(crate) fn put_sets(out: &mut [u8], at: usize, sets: &[NalUnit]) -> usize
     next
 }
 
-/// Equal sets, in memory of their own.
+/// Returns a clone of `sets`, which shares no memory with them. The only error is out of memory.
 pub(crate) fn clone_sets(alloc: Global, sets: &[NalUnit]) -> Result<Entries<NalUnit>>
     ensures clone { IfOk result (λ clone. clone ≡ sets.now) }
     ensures memory { IfErr result (λ e. e ≡ OutOfMemory) }
@@ -101,7 +101,7 @@ pub(crate) fn clone_sets(alloc: Global, sets: &[NalUnit]) -> Result<Entries<NalU
     Ok(clone)
 }
 
-/// A list of one set, which has these bytes.
+/// Returns a list of one set with a copy of `bytes`. The only error is out of memory.
 pub(crate) fn one_set(alloc: Global, bytes: &[u8]) -> Result<Entries<NalUnit>>
     ensures set { IfOk result (λ sets. sets ≡ record { bytes = bytes.now } ∷ []) }
     ensures memory { IfErr result (λ e. e ≡ OutOfMemory) }

@@ -1,4 +1,4 @@
-//! The sample entry of timed text.
+//! The sample entry of timed text, `tx3g`.
 
 ghost use Rattle.std.specs.Prelude.{◌≡◌, ◌≤◌, ◌+◌, ◌↔◌, IsTrue, length, take};
 ghost use Rattle.mp4_frame.specs.Bytes.{bytes_of_fields, bytes_of_fields_onto};
@@ -17,23 +17,23 @@ use mp4_frame::{
 };
 use std::alloc::Global;
 
-/// The sample entry of timed text (`tx3g`, 3GPP TS 26.245, 5.16). Boxes in it are neither read nor written.
+/// The sample entry of timed text (`tx3g`, 3GPP TS 26.245, 5.16). Boxes inside it are neither read nor written.
 #[derive(Clone, Debug, Drop, PartialEq, Eq)]
 pub struct Tx3gBox {
-    /// Flags of scrolling, of karaoke and of the direction of the text.
+    /// The flags for scrolling, for karaoke and for the direction of the text.
     pub display_flags: u32,
-    /// Which data reference the samples are in, from 1 on.
+    /// The number of the samples' data reference, starting at 1.
     pub data_reference_index: u16,
-    /// The box of the text, in pixels: its top, left, bottom and right.
+    /// The rectangle of the text in pixels: its top, left, bottom and right.
     pub box_record: [i16; 4],
-    /// Where the text is in its box, across: 0 is left, 1 the centre, -1 right.
+    /// The horizontal position of the text in its rectangle: 0 for left, 1 for the centre, -1 for right.
     pub horizontal_justification: i8,
-    /// Where the text is in its box, up and down: 0 is the top, 1 the centre, -1 the bottom.
+    /// The vertical position of the text in its rectangle: 0 for the top, 1 for the centre, -1 for the bottom.
     pub vertical_justification: i8,
     /// The colour behind the text.
     pub bg_color_rgba: RgbaColor,
-    /// The style of the text: the first and the last character in 2 bytes each, the font in 2, its style flags in 1,
-    /// its size in 1, and its colour in 4.
+    /// The style of the text: the first and the last character in 2 bytes each, the font in 2, style flags in 1, the
+    /// size in 1, and the colour in 4.
     pub style_record: [u8; 12],
 }
 
@@ -61,14 +61,14 @@ impl Default for Tx3gBox {
 }
 
 impl Tx3gBox {
-    /// The same as `box_type`.
+    /// Returns the type of the box, like `box_type`.
     pub fn get_type(&self) -> BoxType
         ensures { result ≡ names.Tx3gBox }
     {
         self.box_type()
     }
 
-    /// The same as `box_size`.
+    /// Returns the number of bytes of the box, like `box_size`.
     pub fn get_size(&self) -> u64
         ensures { result ≡ size_tx3g self.now }
     {
@@ -124,14 +124,14 @@ impl ReadBox for Tx3gBox {
     }
 }
 
-/// Always true. For the prover: a value that was read has the range of its type.
+/// Returns true. For the prover: a value that was read has the range of its type.
 fn is_box_record(numbers: [i16; 4]) -> bool
     ensures { IsTrue result ↔ IsBoxRecord numbers }
 {
     true
 }
 
-/// Puts the fields up to the colour, and returns the offset after them.
+/// Puts the fields before the colour, and returns the offset after them.
 #[tactic(auto, unfolding(mp4_frame::specs::Bytes::bytes_of_fields, mp4_frame::specs::Bytes::bytes_of_fields_onto))]
 fn put_start(
     out: &mut [u8],
@@ -154,7 +154,7 @@ fn put_start(
     put_i8(out, at, vertical)
 }
 
-/// Puts four numbers, and returns the offset after them.
+/// Puts the four numbers, and returns the offset after them.
 #[tactic(auto, unfolding(mp4_frame::specs::Bytes::bytes_of_fields_onto))]
 fn put_box_record(out: &mut [u8], at: usize, numbers: [i16; 4]) -> usize
     requires { at + 8 ≤ length out.old }

@@ -1,8 +1,8 @@
-//! What every visual sample entry begins with.
+//! The fields that all visual sample entries begin with.
 
 ghost use Rattle.std.specs.Prelude.{◌≡◌, ◌≤◌, ◌↔◌, IsTrue, length, take};
 ghost use Rattle.mp4_frame.specs.Bytes.{number, bytes_of_fields, FieldsFit};
-ghost use Rattle.mp4_frame.specs.Parent.{WritableParent};
+ghost use Rattle.mp4_frame.specs.FieldsThenChild.{WritableParent};
 ghost use Rattle.mp4_entries.specs.Visual.{visual_at, visual_of, content_visual, fields_visual, size_visual};
 
 use mp4_frame::{WriteBox, put_u16, put_u32, put_zeros, u16_at, u32_at};
@@ -11,24 +11,24 @@ use mp4_media::FixedPointU16;
 /// The fields of a visual sample entry (ISO/IEC 14496-12, 12.1.3).
 #[derive(Drop)]
 pub struct Visual {
-    /// Which data reference the samples are in, from 1 on.
+    /// The number of the samples' data reference, starting at 1.
     pub data_reference_index: u16,
     /// The width, in pixels.
     pub width: u16,
     /// The height, in pixels.
     pub height: u16,
-    /// The horizontal resolution, in pixels an inch.
+    /// The horizontal resolution in pixels per inch.
     pub horizresolution: FixedPointU16,
-    /// The vertical resolution, in pixels an inch.
+    /// The vertical resolution in pixels per inch.
     pub vertresolution: FixedPointU16,
-    /// How many frames a sample has.
+    /// The number of frames in a sample.
     pub frame_count: u16,
-    /// How many bits a pixel has.
+    /// The number of bits of a pixel.
     pub depth: u16,
 }
 
 impl Visual {
-    /// 72 pixels an inch, one frame a sample, 24 bits a pixel.
+    /// Creates fields with 72 pixels per inch, one frame per sample, and 24 bits per pixel.
     pub fn new(data_reference_index: u16, width: u16, height: u16) -> Visual
         ensures { result ≡ visual_of data_reference_index width height }
     {
@@ -44,7 +44,7 @@ impl Visual {
     }
 }
 
-/// The fields in the content of a box, of which `bytes` begins with the start.
+/// Returns the fields of the box at the start of `bytes`.
 pub(crate) fn visual_at(bytes: &[u8]) -> Visual
     requires { 86 ≤ length bytes.now }
     ensures { result ≡ visual_at (number bytes.now) }
@@ -60,7 +60,7 @@ pub(crate) fn visual_at(bytes: &[u8]) -> Visual
     }
 }
 
-/// Always true. For the prover: a value that was read has the range of its type.
+/// Returns true. For the prover: a value that was read has the range of its type.
 fn is_visual(visual: Visual) -> bool
     ensures { IsTrue result ↔ FieldsFit (content_visual visual) }
 {
@@ -71,7 +71,7 @@ fn is_visual(visual: Visual) -> bool
     true
 }
 
-/// Whether a box of this code with these fields and this child can be written.
+/// Returns whether a box with this `code`, the fields `visual` and this `child` can be written.
 pub(crate) fn is_writable_entry<T: WriteBox>(code: u32, visual: Visual, child: &T) -> bool
     ensures { IsTrue result ↔ WritableParent T.format.Writable
         (fields_visual (size_visual T.format child.now) code visual) child.now }
@@ -79,7 +79,7 @@ pub(crate) fn is_writable_entry<T: WriteBox>(code: u32, visual: Visual, child: &
     is_visual(visual) && child.is_writable() && child.box_size() < (1 << 32) - 86
 }
 
-/// Puts size, code and fields, and returns the offset after them.
+/// Puts `size`, `code` and the fields, and returns the offset after them.
 #[tactic(auto, unfolding(mp4_frame::specs::Bytes::bytes_of_fields, mp4_frame::specs::Bytes::bytes_of_fields_onto))]
 pub(crate) fn put_visual(out: &mut [u8], size: u32, code: u32, visual: Visual) -> usize
     requires { 86 ≤ length out.old }

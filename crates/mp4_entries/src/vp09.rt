@@ -1,4 +1,4 @@
-//! The sample entry of VP9 video.
+//! The sample entry of VP9 video, `vp09`.
 
 ghost use Rattle.std.specs.Prelude.{◌≡◌, ◌<◌, ◌^◌};
 ghost use Rattle.mp4_frame.specs.Bytes.{FieldsFit};
@@ -15,37 +15,37 @@ use mp4_frame::{
 use mp4_media::Vp9Config;
 use std::alloc::Global;
 
-/// The sample entry of VP9 video (`vp09`, VP Codec ISO Media File Format Binding, "VP Codec Sample Entry Box"). Its
-/// first box is read as a `vpcC`, whatever its code; boxes after it are neither read nor written.
+/// The sample entry of VP9 video (`vp09`, VP Codec ISO Media File Format Binding, "VP Codec Sample Entry Box"). The
+/// first box inside it is read as a `vpcC`, whatever its code. Boxes after that are neither read nor written.
 #[derive(Clone, Debug, Default, Drop, PartialEq, Eq)]
 pub struct Vp09Box {
-    /// The next three of them, as a number below 2^24, usually 0.
+    /// The second to fourth of the six reserved bytes of a sample entry as a number below 2^24, usually 0.
     pub flags: u32,
     /// The configuration of the decoder.
     pub vpcc: VpccBox,
-    /// The last two of them, usually 0.
+    /// The last two of the six reserved bytes of a sample entry, usually 0.
     pub start_code: u16,
-    /// Which data reference the samples are in, from 1 on.
+    /// The number of the samples' data reference, starting at 1.
     pub data_reference_index: u16,
     /// The width, in pixels.
     pub width: u16,
     /// The height, in pixels.
     pub height: u16,
-    /// The horizontal resolution, in pixels an inch: its whole part, and its fraction of 65536.
+    /// The horizontal resolution in pixels per inch: the whole part, and the fraction in units of 1/65536.
     pub horizresolution: (u16, u16),
-    /// The vertical resolution, in pixels an inch: its whole part, and its fraction of 65536.
+    /// The vertical resolution in pixels per inch: the whole part, and the fraction in units of 1/65536.
     pub vertresolution: (u16, u16),
-    /// How many frames a sample has, usually 1.
+    /// The number of frames in a sample, usually 1.
     pub frame_count: u16,
-    /// How many bits a pixel has, usually 24.
+    /// The number of bits of a pixel, usually 24.
     pub depth: u16,
-    /// Two bytes that are ones in the standard. They are kept as they are.
+    /// Two bytes that are ones in the standard. Other values are kept.
     pub end_code: u16,
-    /// The first of the six reserved bytes of a sample entry, usually 0. It is kept as it is.
+    /// The first of the six reserved bytes of a sample entry, usually 0. Other values are kept.
     pub version: u8,
-    /// Reserved bytes, usually 0. They are kept as they are.
+    /// Reserved bytes, usually 0. Other values are kept.
     pub reserved0: [u8; 16],
-    /// Reserved bytes, usually 0. They are kept as they are.
+    /// Reserved bytes, usually 0. Other values are kept.
     pub reserved1: [u8; 4],
     /// The name of the compressor: the number of its bytes, the name, and zeros.
     pub compressorname: [u8; 32],
@@ -61,23 +61,23 @@ impl Vp09Box {
     /// The data reference index of a new box.
     pub const DEFAULT_DATA_REFERENCE_INDEX: u16 = 1;
 
-    /// The horizontal resolution of a new box: 72 pixels an inch.
+    /// The horizontal resolution of a new box: 72 pixels per inch.
     pub const DEFAULT_HORIZRESOLUTION: (u16, u16) = (0x48, 0x00);
 
-    /// The vertical resolution of a new box: 72 pixels an inch.
+    /// The vertical resolution of a new box: 72 pixels per inch.
     pub const DEFAULT_VERTRESOLUTION: (u16, u16) = (0x48, 0x00);
 
     /// The frame count of a new box.
     pub const DEFAULT_FRAME_COUNT: u16 = 1;
 
-    /// The name of the compressor of a new box: none.
+    /// The compressor name of a new box, which is empty.
     pub const DEFAULT_COMPRESSORNAME: [u8; 32] = [0; 32];
 
     /// The depth of a new box.
     pub const DEFAULT_DEPTH: u16 = 24;
 
-    /// The entry of a configuration: its width and height, level 31 of profile 0, and what is else as the constants of
-    /// this type and of `VpccBox` say, or zero.
+    /// Creates an entry with the width and height of `config`, and a `vpcC` with profile 0 and level 31. The other
+    /// fields have the constants of this type and of `VpccBox`, or zeros.
     pub fn new(config: &Vp9Config) -> Vp09Box
         ensures { result ≡ made_vp09 config.now }
     {

@@ -1,4 +1,4 @@
-//! The configuration of a VP9 decoder.
+//! The configuration of a VP9 decoder, `vpcC`.
 
 ghost use Rattle.std.specs.Prelude.{◌≡◌, ◌+◌, ◌*◌, ◌<◌, ◌↔◌, IsTrue};
 ghost use Rattle.mp4_frame.specs.Format.{write_laws};
@@ -14,21 +14,21 @@ use std::alloc::Global;
 /// The configuration of a VP9 decoder (`vpcC`, VP Codec ISO Media File Format Binding, "VP Codec Configuration Box").
 #[derive(Clone, Debug, Default, Drop, PartialEq, Eq)]
 pub struct VpccBox {
-    /// Flags, below 2^24, 0 in the standard.
+    /// The flags, below 2^24, 0 in the standard.
     pub flags: u32,
-    /// The number of bytes of data for initialization: 0 for VP9. Such bytes are neither read nor written.
+    /// The number of bytes of initialization data, 0 for VP9. These bytes are neither read nor written.
     pub codec_initialization_data_size: u16,
-    /// 1 in the standard. Every version is read and written in the same way.
+    /// The version, 1 in the standard. All versions are read and written in the same way.
     pub version: u8,
     /// The profile of VP9.
     pub profile: u8,
     /// The level of VP9, times 10.
     pub level: u8,
-    /// How many bits a sample of a colour plane has: below 16.
+    /// The number of bits of a sample of a colour plane, below 16.
     pub bit_depth: u8,
-    /// How the colour planes are sampled: below 8. 0 and 1 stand for 4:2:0, 2 for 4:2:2, 3 for 4:4:4.
+    /// The subsampling of the colour planes, below 8: 0 and 1 for 4:2:0, 2 for 4:2:2, 3 for 4:4:4.
     pub chroma_subsampling: u8,
-    /// Whether the samples use the full range of their bits.
+    /// True if the samples use the full range of their bits.
     pub video_full_range_flag: bool,
     /// The colour primaries, as in ISO/IEC 23091-2, 8.1.
     pub color_primaries: u8,
@@ -89,7 +89,7 @@ impl ReadBox for VpccBox {
     }
 }
 
-/// The byte of three fields.
+/// Returns the byte with these three fields.
 fn three_fields(bit_depth: u8, chroma_subsampling: u8, full_range: bool) -> u8
     requires depth { bit_depth < 16 }
     requires chroma { chroma_subsampling < 8 }

@@ -11,14 +11,14 @@ use Rattle.mp4_frame.specs.Reading.{Fault}
 use Rattle.mp4_frame.specs.declared.four_cc.FourCC.{FourCC}
 use Rattle.mp4_flat.specs.Boxes.{reads_tkhd}
 use Rattle.mp4_flat.specs.declared.tkhd.TkhdBox.{TkhdBox}
-use Rattle.mp4_tree.specs.Paths.{inside, is_code, is_meant, of_nth, or_in, at_path}
-use Rattle.mp4_tree.specs.Tree.{boxes_of}
-use Rattle.mp4_tree.specs.Walk.{Comes}
-use Rattle.mp4_tree.specs.declared.path.PathPart.{PathPart}
-use Rattle.mp4_tree.specs.declared.tree_box.TreeBox.{TreeBox}
+use Rattle.mp4_walk.specs.Paths.{inside, is_code, is_meant, of_nth, or_in, at_path}
+use Rattle.mp4_walk.specs.FileBoxes.{boxes_of}
+use Rattle.mp4_walk.specs.Walk.{Comes}
+use Rattle.mp4_walk.specs.declared.path.PathPart.{PathPart}
+use Rattle.mp4_walk.specs.declared.tree_box.TreeBox.{TreeBox}
 use Rattle.mp4_track.specs.Paths.{first, nth}
 use Rattle.mp4_track.specs.Tracks.{is_header, is_id, reading_of, track_box}
-use Rattle.mp4_track.proofs.Levels.{by_bool}
+use Rattle.mp4_lemmas.proofs.Booleans.{by_bool}
 use Rattle.mp4_faststart.specs.declared.cut.Cut.{Cut}
 use Rattle.mp4_faststart.specs.Movie.{KeepsBox, KeepsHeader, KeepsMovie, KeepsTrack}
 
@@ -26,11 +26,6 @@ use Rattle.mp4_faststart.specs.Movie.{KeepsBox, KeepsHeader, KeepsMovie, KeepsTr
 abbrev last_code : PathPart → List PathPart → FourCC
 last_code part [] = part.code
 last_code part (p ∷ ps) = last_code p ps
-
--- what follows of an Ok
-pub on_ok : {A E : Type 0} (r : Result A E) {P Q : Type 0} → (P → Q) → OnOk r P → OnOk r Q
-on_ok (Ok a) f p = f p
-on_ok (Err e) f p = tt
 
 -- what holds anyway
 pub on_ok_anyway : {A E : Type 0} (r : Result A E) {Q : Type 0} → Q → OnOk r Q

@@ -1,13 +1,13 @@
 -- Pieces of a file that are written one after the other.
 use Rattle.std.proofs.Common.{◌≡◌, ℕ, ◌+◌, ◌-◌, ◌≤◌, List, ◌++◌, take, drop, length, None, Some, sym, ap, subst}
 use Rattle.std.proofs.Common.{◌∙◌, arith}
-use Rattle.std.specs.Prelude.{IfOk, IfSome, Result, Ok, Err}
+use Rattle.std.specs.Prelude.{IfSome}
 use Rattle.std.specs.declared.option.Option.{Option}
 use Rattle.std.specs.Io.KnownBytes.{Appends}
 use Rattle.std.proofs.KnownBytes.{Appends-trans}
 use Rattle.std.proofs.Math.Seq.{take-add}
 use Rattle.std.proofs.lemmas.List.{drop-drop, take_rest, take_all}
-use Rattle.mp4_tree.specs.Source.{piece}
+use Rattle.mp4_walk.specs.Source.{piece}
 use Rattle.mp4_faststart.specs.declared.cut.Cut.{Cut}
 use Rattle.mp4_faststart.specs.Moved.{moved_file, IsCut}
 use Rattle.mp4_faststart.specs.Movie.{KeepsMovie}
@@ -98,7 +98,3 @@ all_written (Some B) s n how o v sr long written =
     let written' : n ≡ length B → AppendsMoved B how o v =
     subst (λ (x : Option (List ℕ)). IfSome x (λ B. n ≡ length B → AppendsMoved B how o v)) sr written in
     written' long
-
-pub if_ok : {A E : Type 0} (r : Result A E) (P Q : A → Type 0) → ((a : A) → P a → Q a) → IfOk r P → IfOk r Q
-if_ok (Ok a) P Q f p = f a p
-if_ok (Err e) P Q f p = tt

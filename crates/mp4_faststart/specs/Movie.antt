@@ -7,8 +7,8 @@ use Rattle.mp4_track.specs.Tables.{AreTablesOf}
 use Rattle.mp4_track.specs.Tracks.{IsTrack, has_id, is_header}
 use Rattle.mp4_track.specs.declared.sample_boxes.SampleBoxes.{SampleBoxes}
 use Rattle.mp4_track.specs.declared.track.Track.{Track}
-use Rattle.mp4_tree.specs.Paths.{is_code}
-use Rattle.mp4_tree.specs.declared.tree_box.TreeBox.{TreeBox}
+use Rattle.mp4_walk.specs.Paths.{is_code}
+use Rattle.mp4_walk.specs.declared.tree_box.TreeBox.{TreeBox}
 use Rattle.mp4_faststart.specs.declared.cut.Cut.{Cut}
 use Rattle.mp4_faststart.specs.Kept.{KeepsSamples}
 

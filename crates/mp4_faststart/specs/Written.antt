@@ -2,7 +2,7 @@
 use Rattle.std.specs.Prelude.{ℕ, ◌-◌, ◌≤◌, List, None, Some}
 use Rattle.std.specs.declared.option.Option.{Option}
 use Rattle.std.specs.Io.KnownBytes.{Appends}
-use Rattle.mp4_tree.specs.Source.{piece}
+use Rattle.mp4_walk.specs.Source.{piece}
 use Rattle.mp4_faststart.specs.declared.cut.Cut.{Cut}
 use Rattle.mp4_faststart.specs.Moved.{moved_file, IsCut}
 use Rattle.mp4_faststart.specs.Movie.{KeepsMovie}

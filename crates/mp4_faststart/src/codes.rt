@@ -1,10 +1,10 @@
 //! Boxes by their codes.
 
 ghost use Rattle.std.specs.Prelude.{◌≡◌};
-ghost use Rattle.mp4_tree.specs.Paths.{is_code};
+ghost use Rattle.mp4_walk.specs.Paths.{is_code};
 
 use mp4_frame::FourCC;
-use mp4_tree::TreeBox;
+use mp4_walk::TreeBox;
 
 /// `cmov`, a compressed movie of QuickTime.
 pub const CMOV: u32 = 0x636d_6f76;

@@ -17,7 +17,7 @@ use mp4_frame::{Error, FourCC, codes};
 use mp4_io::Failure;
 use mp4_samples::{SampleTables, Tables};
 use mp4_track::{SampleBoxes, Track, TrackError, front_box, track_of};
-use mp4_tree::{Tree, TreeBox};
+use mp4_walk::{BoxWalk, TreeBox};
 use std::alloc::Global;
 
 /// The tables of a track, if they agree.
@@ -176,7 +176,7 @@ fn counts_with(counts: Counts, found: &TreeBox, cut: Cut) -> Result<Counts, Refu
 fn check_movie(alloc: Global, movie: &[u8], made: &[u8], cut: Cut) -> Result<(), Refusal>
     ensures { OnOk result (KeepsMovie cut movie.now made.now) }
 {
-    let mut tree = Tree::new(alloc, movie)?;
+    let mut tree = BoxWalk::new(alloc, movie)?;
     let mut counts = Counts {
         tracks: 0,
         headers: 0,

@@ -4,7 +4,7 @@ ghost use Rattle.std.specs.Prelude.{◌≡◌};
 
 use crate::codes::{CMOV, ILOC, SAIO, SIDX, TFRA};
 use mp4_frame::{FourCC, codes, u32_at};
-use mp4_tree::{Source, Tree, TreeBox};
+use mp4_walk::{BoxWalk, Source, TreeBox};
 use std::alloc::Global;
 use std::io;
 
@@ -38,7 +38,7 @@ const BASE_DATA_OFFSET: u32 = 0x00_0001;
 const SELF_CONTAINED: u32 = 0x00_0001;
 
 /// The flags of a box (4.2); 0 if it has no room for them.
-fn flags_of<S: Source>(alloc: Global, tree: &mut Tree<S>, found: &TreeBox) -> io::Result<u32>
+fn flags_of<S: Source>(alloc: Global, tree: &mut BoxWalk<S>, found: &TreeBox) -> io::Result<u32>
     ensures { tree.new ≡ tree.old }
 {
     let front = TreeBox {
@@ -65,7 +65,7 @@ fn has_offsets(code: u32, is_before_movie: bool) -> bool {
 /// What keeps a movie box from being moved at a box that came, if anything does.
 pub fn obstacle_at<S: Source>(
     alloc: Global,
-    tree: &mut Tree<S>,
+    tree: &mut BoxWalk<S>,
     found: &TreeBox,
     is_before_movie: bool,
 ) -> io::Result<Option<Obstacle>>
@@ -84,7 +84,7 @@ pub fn obstacle_at<S: Source>(
     if code == FourCC::from(codes::TFHD) && flags_of(alloc, tree, found)? & BASE_DATA_OFFSET != 0 {
         return Ok(Some(Obstacle::Offsets { code, position }));
     }
-    if found.setting.parent == codes::DREF && flags_of(alloc, tree, found)? & SELF_CONTAINED == 0 {
+    if found.context.parent == codes::DREF && flags_of(alloc, tree, found)? & SELF_CONTAINED == 0 {
         return Ok(Some(Obstacle::OtherFile { code, position }));
     }
     Ok(None)

@@ -7,7 +7,7 @@ use crate::cut::Cut;
 use crate::refusal::Refusal;
 use byteorder::{BigEndian, ByteOrder};
 use mp4_frame::{FourCC, codes, u32_at, u64_at};
-use mp4_tree::{Tree, TreeBox};
+use mp4_walk::{BoxWalk, TreeBox};
 use std::alloc::Global;
 
 /// Shifts offsets of 32 bits in place. Returns whether all fit.
@@ -94,7 +94,7 @@ pub fn shifted(alloc: Global, movie: &[u8], cut: Cut) -> Result<Vec<u8>, Refusal
     ensures { IfOk result (λ bytes. length bytes.items ≡ length movie.now) }
 {
     let mut bytes = Vec::from_slice(alloc, movie)?;
-    let mut tree = Tree::new(alloc, movie)?;
+    let mut tree = BoxWalk::new(alloc, movie)?;
     while let Some(found) = tree.next()? {
         shift_box(&mut bytes, &found, cut)?;
     }

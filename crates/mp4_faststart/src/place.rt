@@ -8,7 +8,7 @@ use crate::cut::Cut;
 use crate::obstacle::{Obstacle, obstacle_at};
 use crate::refusal::Refusal;
 use mp4_frame::{FourCC, codes};
-use mp4_tree::{Source, Tree, TreeBox};
+use mp4_walk::{BoxWalk, Source, TreeBox};
 use std::alloc::Global;
 use std::io;
 
@@ -26,7 +26,7 @@ struct Findings {
 /// What keeps the movie box from being moved, with one box more.
 fn obstacle_with<S: Source>(
     alloc: Global,
-    tree: &mut Tree<S>,
+    tree: &mut BoxWalk<S>,
     so_far: Findings,
     found: &TreeBox,
 ) -> io::Result<Option<Obstacle>>
@@ -92,7 +92,7 @@ pub fn placed<S: Source>(alloc: Global, source: S) -> Result<(S, u64, Option<Cut
 {
     let mut source = source;
     let length = source.length()?;
-    let mut tree = Tree::new(alloc, source)?;
+    let mut tree = BoxWalk::new(alloc, source)?;
     let mut findings = Findings {
         movie: None,
         media: None,

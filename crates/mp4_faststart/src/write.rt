@@ -2,7 +2,7 @@
 
 ghost use Rattle.std.specs.Prelude.{◌≡◌, ◌-◌, ◌<◌, ◌≤◌, Some, length, IfOk, OnOk, IfSome};
 ghost use Rattle.std.specs.Io.KnownBytes.{Appends};
-ghost use Rattle.mp4_tree.specs.Source.{piece};
+ghost use Rattle.mp4_walk.specs.Source.{piece};
 ghost use Rattle.mp4_faststart.specs.Moved.{moved_file};
 ghost use Rattle.mp4_faststart.specs.Written.{AppendsMoved, IsPlaced, movie_of};
 
@@ -11,7 +11,7 @@ use crate::movie::moved_movie;
 use crate::place::placed;
 use crate::refusal::Refusal;
 use mp4_io::{Output, write_all};
-use mp4_tree::Source;
+use mp4_walk::Source;
 use std::alloc::Global;
 use std::io::Write;
 

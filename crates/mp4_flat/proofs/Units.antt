@@ -17,7 +17,7 @@ no_bytes (b ∷ text) none = absurd (omega (arith, none))
 pub no_unit : (s t : EncodeUtf16) → encode_utf16_steps s None t → units_left s ≡ []
 no_unit s t (pending, none, same) = rw (pending, no_bytes (encode_utf16_rest s) none) refl
 
--- a unit that the iterator returns is the first of the units that were left
+-- the unit that the iterator returns is the first unit left
 pub first_unit : (s t : EncodeUtf16) (x : ℕ) → IsUtf8 (encode_utf16_rest s) → encode_utf16_steps s (Some x) t
     → (units_left s ≡ x ∷ units_left t) × IsUtf8 (encode_utf16_rest t)
 first_unit s t x text (inl (pending, none, rest)) = (rw (pending, none, rest) refl, subst IsUtf8 (sym rest) text)

@@ -1,4 +1,4 @@
--- The boxes of this crate: what each reads, its format, and its laws.
+-- The boxes of this crate: the reading, the format and the laws of each.
 pub use Rattle.mp4_flat.specs.Mvhd.{reads_mvhd, format_mvhd}
 pub use Rattle.mp4_flat.specs.Tkhd.{reads_tkhd, format_tkhd}
 pub use Rattle.mp4_flat.specs.Mdhd.{reads_mdhd, format_mdhd}

@@ -20,6 +20,6 @@ language_code text =
     slice_index (utf16_units text) 0 % 32 * 1024 + slice_index (utf16_units text) 1 % 32 * 32 + slice_index
     (utf16_units text) 2 % 32
 
--- each letter is 0x60 plus five bits of the code
+-- the three letters of a code; each is 0x60 plus five bits of the code
 unfoldable pub letters : ℕ → List ℕ
 letters code = (0x60 + code / 1024 % 32) ∷ (0x60 + code / 32 % 32) ∷ (0x60 + code % 32) ∷ []

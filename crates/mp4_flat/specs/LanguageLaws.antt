@@ -9,7 +9,7 @@ use Rattle.std.specs.Prelude.{slice_index}
 use Rattle.std.specs.Str.{IsAscii, IsUtf8}
 use Rattle.mp4_flat.specs.Language.{utf16_units, language_code, letters}
 
--- a code fits 15 bits
+-- the code of a language fits 15 bits
 pub language_fits : (text : List ℕ) → language_code text < 2 ^ 15
 unfolding language_code
 language_fits text = omega arith
@@ -46,7 +46,7 @@ code_of_letters : (code : ℕ) → language_code (letters code) ≡ code % 2 ^ 1
 unfolding language_code letters code_of_units
 code_of_letters code = ap code_of_units (units_of_letters code) ∙ omega arith
 
--- the code of the letters of a code is that code
+-- the code of a language is the code of the letters of that code
 pub language_back : (text : List ℕ) → language_code (letters (language_code text)) ≡ language_code text
 language_back text = code_of_letters (language_code text) ∙ omega (arith, language_fits text)
 
@@ -58,6 +58,6 @@ low_letters code =
     let third : code % 2 ^ 15 % 32 ≡ code % 32 = omega arith in
     rw (first, second, third) refl
 
--- the letters of the code of letters are those letters
+-- the letters of a code are unchanged if they are converted to a code and back
 pub letters_back : (code : ℕ) → letters (language_code (letters code)) ≡ letters code
 letters_back code = ap letters (code_of_letters code) ∙ low_letters code

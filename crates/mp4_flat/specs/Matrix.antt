@@ -3,7 +3,7 @@ use Rattle.std.specs.Prelude.{ℕ, ◌+◌, ℤ, pos, FitsSigned, List, [], ◌�
 use Rattle.std.specs.Int.{w32, cast_signed, cast_unsigned}
 use Rattle.mp4_flat.specs.declared.matrix.Matrix.{Matrix}
 
--- the matrix at o, where `at o w` is the number of w bytes at offset o
+-- the matrix at offset o, where `n o w` is the number of w bytes at offset o
 abbrev pub matrix_at : (ℕ → ℕ → ℕ) → ℕ → Matrix
 matrix_at n o = record {
   a = cast_signed w32 (n o 4);
@@ -23,7 +23,7 @@ numbers_matrix m = m.a ∷ m.b ∷ m.u ∷ m.c ∷ m.d ∷ m.v ∷ m.x ∷ m.y �
 abbrev pub fields_matrix : Matrix → List (ℕ × ℕ)
 fields_matrix m = map (λ z. (4, cast_unsigned w32 z)) (numbers_matrix m)
 
--- each number fits 32 bits, with its sign
+-- each number fits 32 bits, sign included
 abbrev pub AreSigned : List ℤ → Type 0
 AreSigned [] = Unit {0}
 AreSigned (z ∷ zs) = FitsSigned w32 z × AreSigned zs

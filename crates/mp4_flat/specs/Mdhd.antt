@@ -1,6 +1,6 @@
 -- mdhd, the media header box (ISO/IEC 14496-12, 8.4.2). Its times take t bytes each: 4 in version 0, 8 in version 1.
 -- The fields are version 1 byte, flags 3, creation time t bytes at 12, modification time t, timescale 4, duration t,
--- language 2, and 2 bytes that are written as zero and need not be present to be read.
+-- language 2, and 2 bytes that are written as zero and may be missing when the box is read.
 use Rattle.std.specs.Prelude.{ℕ, ◌+◌, ◌*◌, List, [], ◌∷◌, ◌++◌, codes}
 use Rattle.mp4_frame.specs.Bytes.{bytes_of_fields, full_box}
 use Rattle.mp4_frame.specs.Reading.{Reading, ◌>>=◌, memory, done}
@@ -56,7 +56,7 @@ WritableMdhd v = WritableTimed v.version (fields_mdhd v)
 unfoldable pub bytes_mdhd : MdhdBox → List ℕ
 bytes_mdhd v = bytes_of_fields (fields_mdhd v)
 
--- the language is the one that is read back
+-- the value with the language that is read back
 abbrev pub normal_mdhd : MdhdBox → MdhdBox
 normal_mdhd v = record v { language = letters (language_code v.language) }
 

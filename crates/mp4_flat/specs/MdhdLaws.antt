@@ -1,4 +1,4 @@
--- The laws of mdhd, whose times have two widths, and whose language is read as three letters.
+-- The laws of mdhd. Its times have two widths, and its language is read as three letters.
 use Rattle.std.proofs.Common.{◌≡◌, ℕ, ◌+◌, ◌*◌, ◌<◌, ◌^◌, List, [], ◌∷◌, ◌++◌, Ok, refl, sym, ap, subst, ◌∙◌, lit<}
 use Rattle.std.proofs.Common.{lit≤, arith}
 use Rattle.mp4_frame.specs.Format.{IsBox}
@@ -33,7 +33,7 @@ laws_mdhd = record {
       v.version w (refl, lit≤ tt, refl) (refl, lit≤ tt, refl) in
       outcome_bind (reads_timed (λ t. 6 + 3 * t) value_mdhd (bytes_of_fields (fields_mdhd v) ++ rest))
       (λ x. memory >>= λ _. done x) (normal_mdhd v) (Ok (normal_mdhd v)) timed refl;
-  sound = λ bytes start long v are e.
+  stable = λ bytes start long v are e.
       let t = time_width (number bytes 8 1) in
       let code = number bytes (16 + 3 * t) 2 in
       let made = value_mdhd t (number bytes) in

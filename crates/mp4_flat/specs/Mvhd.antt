@@ -1,6 +1,6 @@
 -- mvhd, the movie header box (ISO/IEC 14496-12, 8.2.2). Its times take t bytes each: 4 in version 0, 8 in version 1.
 -- The fields are version 1 byte, flags 3, creation time t bytes at 12, modification time t, timescale 4, duration t,
--- rate 4, volume 2, 10 bytes of zero, matrix 36, 24 bytes of zero, and the next number of a track in 4.
+-- rate 4, volume 2, 10 bytes of zero, matrix 36, 24 bytes of zero, and the number for the next track in 4.
 use Rattle.std.specs.Prelude.{ℕ, ◌+◌, ◌*◌, List, [], ◌∷◌, ◌++◌}
 use Rattle.mp4_frame.specs.Bytes.{bytes_of_fields, full_box}
 use Rattle.mp4_frame.specs.Reading.{Reading}

@@ -20,7 +20,7 @@ laws_mvhd = record {
       let back = λ (k : ℕ). ap (λ (m : Matrix). record v { version = k; matrix = m }) (matrix_back v.matrix w.1) in
       timed_back (λ t. 84 + 3 * t) value_mvhd fields_mvhd (λ v. v) (λ k. record v { version = k }) rest v.version w.0
       (refl, lit≤ tt, back 0) (refl, lit≤ tt, back 1);
-  sound = λ bytes start long v are e.
+  stable = λ bytes start long v are e.
       let is = timed_is (λ t. 84 + 3 * t) value_mvhd bytes v e in
       let t = time_width (number bytes 8 1) in
       let fits = fits_read bytes are
@@ -33,7 +33,7 @@ laws_mvhd = record {
       );
 }
 
--- reading it takes no memory
+-- reading an mvhd takes no memory
 pub mvhd_takes_none : (bytes : List ℕ) (start size : ℕ) → TakesNone (reads_mvhd bytes start size)
 unfolding reads_mvhd
 mvhd_takes_none bytes start size = timed_takes_none (λ t. 84 + 3 * t) value_mvhd bytes

@@ -1,5 +1,5 @@
 -- smhd, the sound media header box (ISO/IEC 14496-12, 12.2.2). The fields are version 1 byte, flags 3, the signed
--- balance in 2 bytes at 12, and 2 bytes that are written as zero and need not be present to be read.
+-- balance in 2 bytes at 12, and 2 bytes that are written as zero and may be missing when the box is read.
 use Rattle.std.specs.Prelude.{ℕ, FitsSigned, List, [], ◌∷◌, ◌++◌}
 use Rattle.std.specs.Int.{w16, cast_signed, cast_unsigned}
 use Rattle.mp4_frame.specs.Bytes.{number, bytes_of_fields, FieldsFit, full_box}

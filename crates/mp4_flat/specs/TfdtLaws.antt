@@ -17,7 +17,7 @@ laws_tfdt = record {
   read_back = λ v w rest start top.
       timed_back (λ t. t) value_tfdt fields_tfdt (λ v. v) (λ k. record v { version = k }) rest v.version w
       (refl, lit≤ tt, refl) (refl, lit≤ tt, refl);
-  sound = λ bytes start long v are e.
+  stable = λ bytes start long v are e.
       let is = timed_is (λ t. t) value_tfdt bytes v e in
       let t = time_width (number bytes 8 1) in (
         refl,
@@ -29,7 +29,7 @@ laws_tfdt = record {
       );
 }
 
--- reading it takes no memory
+-- reading a tfdt takes no memory
 pub tfdt_takes_none : (bytes : List ℕ) (start size : ℕ) → TakesNone (reads_tfdt bytes start size)
 unfolding reads_tfdt
 tfdt_takes_none bytes start size = timed_takes_none (λ t. t) value_tfdt bytes

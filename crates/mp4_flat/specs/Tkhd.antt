@@ -1,7 +1,7 @@
 -- tkhd, the track header box (ISO/IEC 14496-12, 8.3.2). Its times take t bytes each: 4 in version 0, 8 in version 1.
 -- The fields are version 1 byte, flags 3, creation time t bytes at 12, modification time t, number of the track 4,
 -- 4 reserved, duration t, 8 reserved, layer 2, alternate group 2, volume 2, 2 reserved, matrix 36, width 4, and
--- height 4. Reserved bytes are expected, and are written as zero.
+-- height 4. Reserved bytes must be present, and are written as zero.
 use Rattle.std.specs.Prelude.{ℕ, ◌+◌, ◌*◌, List, [], ◌∷◌, ◌++◌}
 use Rattle.mp4_frame.specs.Bytes.{bytes_of_fields, full_box}
 use Rattle.mp4_frame.specs.Reading.{Reading}

@@ -20,7 +20,7 @@ laws_tkhd = record {
       let back = λ (k : ℕ). ap (λ (m : Matrix). record v { version = k; matrix = m }) (matrix_back v.matrix w.1) in
       timed_back (λ t. 68 + 3 * t) value_tkhd fields_tkhd (λ v. v) (λ k. record v { version = k }) rest v.version w.0
       (refl, lit≤ tt, back 0) (refl, lit≤ tt, back 1);
-  sound = λ bytes start long v are e.
+  stable = λ bytes start long v are e.
       let is = timed_is (λ t. 68 + 3 * t) value_tkhd bytes v e in
       let t = time_width (number bytes 8 1) in
       let fits = fits_read bytes are
@@ -34,7 +34,7 @@ laws_tkhd = record {
       );
 }
 
--- reading it takes no memory
+-- reading a tkhd takes no memory
 pub tkhd_takes_none : (bytes : List ℕ) (start size : ℕ) → TakesNone (reads_tkhd bytes start size)
 unfolding reads_tkhd
 tkhd_takes_none bytes start size = timed_takes_none (λ t. 68 + 3 * t) value_tkhd bytes

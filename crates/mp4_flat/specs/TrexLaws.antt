@@ -1,4 +1,4 @@
--- The laws of trex, which is one run of fields.
+-- The laws of trex, whose fields have fixed offsets.
 use Rattle.std.proofs.Common.{[], ◌∷◌, refl, subst, lit<, lit≤, ℕ, List}
 use Rattle.mp4_frame.specs.Format.{IsBox}
 use Rattle.mp4_frame.proofs.Rows.{one_run_again, one_run_is}
@@ -14,7 +14,7 @@ laws_trex = record {
   header = λ v w. header_of_fields _ w refl;
   normal_form = λ v w. own_normal_form v refl w;
   read_back = λ v w rest start top. one_run_again 8 24 value_trex (fields_trex v) rest v w (lit≤ tt) refl;
-  sound = λ bytes start long v are e. (
+  stable = λ bytes start long v are e. (
     refl,
     λ _. subst WritableTrex (one_run_is 8 24 value_trex bytes v e) (
       lit< tt,
@@ -27,7 +27,7 @@ laws_trex = record {
   );
 }
 
--- reading it takes no memory
+-- reading a trex takes no memory
 pub trex_takes_none : (bytes : List ℕ) (start size : ℕ) → TakesNone (reads_trex bytes start size)
 unfolding reads_trex
 trex_takes_none bytes start size = fields_take_none bytes 8 24 (value_trex (number bytes))

@@ -1,4 +1,4 @@
--- The laws of vmhd, which is one run of fields.
+-- The laws of vmhd, whose fields have fixed offsets.
 use Rattle.std.proofs.Common.{[], ◌∷◌, refl, subst, lit<, lit≤, ℕ, List}
 use Rattle.mp4_frame.specs.Format.{IsBox}
 use Rattle.mp4_frame.proofs.Rows.{one_run_again, one_run_is}
@@ -14,7 +14,7 @@ laws_vmhd = record {
   header = λ v w. header_of_fields _ w refl;
   normal_form = λ v w. own_normal_form v refl w;
   read_back = λ v w rest start top. one_run_again 8 12 value_vmhd (fields_vmhd v) rest v w (lit≤ tt) refl;
-  sound = λ bytes start long v are e. (
+  stable = λ bytes start long v are e. (
     refl,
     λ _. subst WritableVmhd (one_run_is 8 12 value_vmhd bytes v e) (
       lit< tt,
@@ -27,7 +27,7 @@ laws_vmhd = record {
   );
 }
 
--- reading it takes no memory
+-- reading a vmhd takes no memory
 pub vmhd_takes_none : (bytes : List ℕ) (start size : ℕ) → TakesNone (reads_vmhd bytes start size)
 unfolding reads_vmhd
 vmhd_takes_none bytes start size = fields_take_none bytes 8 12 (value_vmhd (number bytes))

@@ -10,7 +10,7 @@ use mp4_frame::Result;
 use std::alloc::Global;
 use std::str::EncodeUtf16;
 
-/// The five low bits of the next UTF-16 unit; 0 if there is none.
+/// Takes the next UTF-16 unit from `units`, and returns its five low bits, or 0 if there is none.
 fn next_letter(units: &mut EncodeUtf16) -> u16
     requires { IsUtf8 (encode_utf16_rest units.old) }
     ensures letter { result ≡ slice_index (units_left units.old) 0 % 32 }
@@ -23,7 +23,7 @@ fn next_letter(units: &mut EncodeUtf16) -> u16
     }
 }
 
-/// The code of a language with a name of three letters (ISO/IEC 14496-12, 8.4.2): the five low bits of each of the
+/// Returns the code of `language`, a name of three letters (ISO/IEC 14496-12, 8.4.2): the five low bits of each of the
 /// first three UTF-16 units, with the first unit in the highest bits. A missing unit counts as 0.
 #[tactic(auto, unfolding(crate::specs::Language::language_code))]
 pub fn language_code(language: &str) -> u16
@@ -36,7 +36,8 @@ pub fn language_code(language: &str) -> u16
     first * 1024 + second * 32 + third
 }
 
-/// The three letters of a code: each is 0x60 plus five bits of the code. The only error is out of memory.
+/// Returns the three letters of `code`. Each is 0x60 plus five bits of the code, the lowest five for the last letter.
+/// The only error is out of memory.
 #[tactic(auto, using(crate::specs::LanguageLaws::letters_are_text), unfolding(crate::specs::Language::letters))]
 pub fn language_string(alloc: Global, code: u16) -> Result<String>
     ensures letters { IfOk result (λ text. string_bytes text ≡ letters code) }

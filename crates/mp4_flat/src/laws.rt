@@ -1,4 +1,5 @@
-//! The laws of equality of the flat boxes, and the numbers of flags. No function here calls another.
+//! The laws of equality of the boxes here, and the numbers of flags. You can call each of these functions to use its
+//! law in a proof.
 
 ghost use Rattle.std.specs.Prelude.{◌≡◌};
 ghost use Rattle.mp4_frame.specs.Equality.{IsEquality};
@@ -9,7 +10,7 @@ use crate::{
     TrexBox, VmhdBox,
 };
 
-/// `==` of two values compares all of their fields.
+/// States that `==` compares all fields, for each type here that derives `PartialEq`.
 pub fn equality_is_of_all_fields()
     ensures mvhd { IsEquality ⟦<MvhdBox as PartialEq>⟧.eq }
     ensures tkhd { IsEquality ⟦<TkhdBox as PartialEq>⟧.eq }
@@ -24,7 +25,7 @@ pub fn equality_is_of_all_fields()
     ensures rgb_color { IsEquality ⟦<RgbColor as PartialEq>⟧.eq }
 {}
 
-/// The discriminant of a flag of a track header is its bit.
+/// Returns the discriminant of `flag`, which is its bit.
 pub fn discriminant_of_track_flag(flag: TrackFlag) -> u32
     ensures { result ≡ number_track_flag flag }
 {

@@ -1,4 +1,4 @@
-//! The flat boxes of an MP4 file: boxes with fixed fields.
+//! For callers that read and write headers of movies, tracks, media and fragments: the nine boxes with fixed fields.
 #![tactic(auto)]
 
 mod language;

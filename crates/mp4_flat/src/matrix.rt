@@ -7,7 +7,7 @@ ghost use Rattle.mp4_flat.specs.Matrix.{matrix_at, fields_matrix, numbers_matrix
 use mp4_frame::{i32_at, put_i32};
 use std::fmt;
 
-/// A transformation of video: the point (p, q) is mapped to (m / z, n / z), where m = a·p + c·q + x,
+/// A transformation of video, which maps the point (p, q) to (m / z, n / z), where m = a·p + c·q + x,
 /// n = b·p + d·q + y and z = u·p + v·q + w (ISO/IEC 14496-12, 6.2.2). The numbers are fixed-point: u, v and w have
 /// 30 bits after the point, the others 16.
 #[derive(Clone, Debug, Drop, PartialEq, Eq)]
@@ -32,7 +32,7 @@ pub struct Matrix {
     pub w: i32,
 }
 
-/// The identity: each point is mapped to itself.
+/// The identity, which maps each point to itself.
 impl Default for Matrix {
     ghost use Rattle.mp4_flat.specs.Matrix.{unity};
 
@@ -53,7 +53,7 @@ impl Default for Matrix {
     }
 }
 
-/// The nine numbers in hexadecimal; a negative number is printed as its two's complement.
+/// Shows the nine numbers in hexadecimal. A negative number is shown as its two's complement.
 impl fmt::Display for Matrix {
     fn fmt<W: fmt::Write>(&self, f: &mut fmt::Formatter<W>) -> fmt::Result {
         write!(
@@ -65,7 +65,7 @@ impl fmt::Display for Matrix {
 }
 
 impl Matrix {
-    /// The numbers in the order of the file.
+    /// Returns the numbers in the order of the file.
     fn numbers(&self) -> [i32; 9]
         ensures { result ≡ numbers_matrix self.now }
     {
@@ -75,7 +75,7 @@ impl Matrix {
     }
 }
 
-/// Always true. For the prover: a value that was read has the range of its type.
+/// Returns true, always. For the prover: each number of `matrix` has the range of its type.
 pub fn is_matrix(matrix: &Matrix) -> bool
     ensures { IsTrue result ↔ IsMatrix matrix.now }
 {
@@ -84,7 +84,7 @@ pub fn is_matrix(matrix: &Matrix) -> bool
     true
 }
 
-/// The matrix at offset `at`.
+/// Returns the matrix at offset `at` of `bytes`.
 pub fn matrix_from(bytes: &[u8], at: usize) -> Matrix
     requires { at + 36 ≤ length bytes.now }
     ensures { result ≡ matrix_at (number bytes.now) at }
@@ -102,7 +102,7 @@ pub fn matrix_from(bytes: &[u8], at: usize) -> Matrix
     }
 }
 
-/// Puts a matrix, and returns the offset after it.
+/// Writes `matrix` to `out` at offset `at`, and returns the offset after it.
 #[tactic(auto, unfolding(mp4_frame::specs::Bytes::bytes_of_fields_onto))]
 pub fn put_matrix(out: &mut [u8], at: usize, matrix: &Matrix) -> usize
     requires matrix { IsMatrix matrix.now }

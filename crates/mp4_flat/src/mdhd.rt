@@ -17,9 +17,9 @@ use std::alloc::Global;
 /// The media header: properties of the media of a track (`mdhd`, ISO/IEC 14496-12, 8.4.2).
 #[derive(Debug, Drop, PartialEq, Eq)]
 pub struct MdhdBox {
-    /// 0, or 1 for times of 64 bits.
+    /// The version: 0, or 1 for times of 64 bits.
     pub version: u8,
-    /// 24 bits, 0 in the standard.
+    /// Flags of 24 bits, 0 in the standard.
     pub flags: u32,
     /// The creation time of the media, in seconds since the beginning of 1904, UTC. 32 bits in version 0.
     pub creation_time: u64,
@@ -29,12 +29,13 @@ pub struct MdhdBox {
     pub timescale: u32,
     /// The duration of the media, in the timescale. 32 bits in version 0.
     pub duration: u64,
-    /// The language, by three letters (ISO 639-2/T). It is written as its `language_code`.
+    /// The three letters of the language (ISO 639-2/T). They are written as their `language_code`.
     pub language: Text,
 }
 
 impl MdhdBox {
-    /// Version 0, a timescale of 1000, the undetermined language `und`, and zeros for the rest.
+    /// Returns a box of version 0 with a timescale of 1000, the undetermined language `und`, and zeros in the other
+    /// fields. The only error is out of memory.
     pub fn default_in(alloc: Global) -> Result<MdhdBox>
         ensures default { IfOk result (λ v. v ≡ default_mdhd) }
         ensures memory { IfErr result (λ e. e ≡ Error.OutOfMemory) }
@@ -50,14 +51,14 @@ impl MdhdBox {
         })
     }
 
-    /// The same as `box_type`.
+    /// Returns the type of the box, like `box_type`.
     pub fn get_type(&self) -> BoxType
         ensures { result ≡ names.MdhdBox }
     {
         self.box_type()
     }
 
-    /// The same as `box_size`.
+    /// Returns the size of the box in bytes, like `box_size`.
     pub fn get_size(&self) -> u64
         ensures { result ≡ size_mdhd self.now }
     {

@@ -16,23 +16,23 @@ use std::alloc::Global;
 /// The movie extends header: the duration of a movie with fragments (`mehd`, ISO/IEC 14496-12, 8.8.2).
 #[derive(Clone, Debug, Default, Drop, PartialEq, Eq)]
 pub struct MehdBox {
-    /// 0, or 1 for a duration of 64 bits.
+    /// The version: 0, or 1 for a duration of 64 bits.
     pub version: u8,
-    /// 24 bits, 0 in the standard.
+    /// Flags of 24 bits, 0 in the standard.
     pub flags: u32,
     /// The duration of the whole movie, in the timescale of the movie header. 32 bits in version 0.
     pub fragment_duration: u64,
 }
 
 impl MehdBox {
-    /// The same as `box_type`.
+    /// Returns the type of the box, like `box_type`.
     pub fn get_type(&self) -> BoxType
         ensures { result ≡ names.MehdBox }
     {
         self.box_type()
     }
 
-    /// The same as `box_size`.
+    /// Returns the size of the box in bytes, like `box_size`.
     pub fn get_size(&self) -> u64
         ensures { result ≡ size_mehd self.now }
     {

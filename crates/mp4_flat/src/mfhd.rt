@@ -15,9 +15,9 @@ use std::alloc::Global;
 /// The movie fragment header: the number of a fragment (`mfhd`, ISO/IEC 14496-12, 8.8.5).
 #[derive(Clone, Debug, Drop, PartialEq, Eq)]
 pub struct MfhdBox {
-    /// 0 in the standard. Every version is read and written in the same way.
+    /// The version, 0 in the standard. Every version is read and written in the same way.
     pub version: u8,
-    /// 24 bits, 0 in the standard.
+    /// Flags of 24 bits, 0 in the standard.
     pub flags: u32,
     /// The number of the fragment. It increases from fragment to fragment.
     pub sequence_number: u32,
@@ -36,14 +36,14 @@ impl Default for MfhdBox {
 }
 
 impl MfhdBox {
-    /// The same as `box_type`.
+    /// Returns the type of the box, like `box_type`.
     pub fn get_type(&self) -> BoxType
         ensures { result ≡ names.MfhdBox }
     {
         self.box_type()
     }
 
-    /// The same as `box_size`.
+    /// Returns the size of the box in bytes, like `box_size`.
     pub fn get_size(&self) -> u64
         ensures { result ≡ size_mfhd self.now }
     {

@@ -18,9 +18,9 @@ use std::alloc::Global;
 /// The movie header: properties of the whole movie (`mvhd`, ISO/IEC 14496-12, 8.2.2).
 #[derive(Clone, Debug, Drop, PartialEq, Eq)]
 pub struct MvhdBox {
-    /// 0, or 1 for times of 64 bits.
+    /// The version: 0, or 1 for times of 64 bits.
     pub version: u8,
-    /// 24 bits, 0 in the standard.
+    /// Flags of 24 bits, 0 in the standard.
     pub flags: u32,
     /// The creation time of the movie, in seconds since the beginning of 1904, UTC. 32 bits in version 0.
     pub creation_time: u64,
@@ -36,7 +36,7 @@ pub struct MvhdBox {
     pub volume: FixedPointU8,
     /// The transformation of the video.
     pub matrix: Matrix,
-    /// A track number that no track of the movie has.
+    /// A number for the next track: no track of the movie has it.
     pub next_track_id: u32,
 }
 
@@ -62,14 +62,14 @@ impl Default for MvhdBox {
 }
 
 impl MvhdBox {
-    /// The same as `box_type`.
+    /// Returns the type of the box, like `box_type`.
     pub fn get_type(&self) -> BoxType
         ensures { result ≡ names.MvhdBox }
     {
         self.box_type()
     }
 
-    /// The same as `box_size`.
+    /// Returns the size of the box in bytes, like `box_size`.
     pub fn get_size(&self) -> u64
         ensures { result ≡ size_mvhd self.now }
     {
@@ -124,6 +124,8 @@ impl ReadBox for MvhdBox {
     }
 }
 
+/// Returns whether a box with these fields can be written. `times` are its creation time, modification time and
+/// duration.
 fn fits(
     version: u8,
     flags: u32,

@@ -16,9 +16,9 @@ use std::alloc::Global;
 /// The sound media header: the balance between left and right (`smhd`, ISO/IEC 14496-12, 12.2.2).
 #[derive(Clone, Debug, Drop, PartialEq, Eq)]
 pub struct SmhdBox {
-    /// 0 in the standard. Every version is read and written in the same way.
+    /// The version, 0 in the standard. Every version is read and written in the same way.
     pub version: u8,
-    /// 24 bits, 0 in the standard.
+    /// Flags of 24 bits, 0 in the standard.
     pub flags: u32,
     /// The balance: 0 is the centre, -1 full left and 1 full right.
     pub balance: FixedPointI8,
@@ -37,14 +37,14 @@ impl Default for SmhdBox {
 }
 
 impl SmhdBox {
-    /// The same as `box_type`.
+    /// Returns the type of the box, like `box_type`.
     pub fn get_type(&self) -> BoxType
         ensures { result ≡ names.SmhdBox }
     {
         self.box_type()
     }
 
-    /// The same as `box_size`.
+    /// Returns the size of the box in bytes, like `box_size`.
     pub fn get_size(&self) -> u64
         ensures { result ≡ size_smhd self.now }
     {

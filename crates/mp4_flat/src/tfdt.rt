@@ -16,9 +16,9 @@ use std::alloc::Global;
 /// The decode time of the first sample of a track fragment (`tfdt`, ISO/IEC 14496-12, 8.8.12).
 #[derive(Clone, Debug, Default, Drop, PartialEq, Eq)]
 pub struct TfdtBox {
-    /// 0, or 1 for a time of 64 bits.
+    /// The version: 0, or 1 for a time of 64 bits.
     pub version: u8,
-    /// 24 bits, 0 in the standard.
+    /// Flags of 24 bits, 0 in the standard.
     pub flags: u32,
     /// The sum of the durations of all earlier samples of the track, in the timescale of the media. 32 bits in
     /// version 0.
@@ -26,14 +26,14 @@ pub struct TfdtBox {
 }
 
 impl TfdtBox {
-    /// The same as `box_type`.
+    /// Returns the type of the box, like `box_type`.
     pub fn get_type(&self) -> BoxType
         ensures { result ≡ names.TfdtBox }
     {
         self.box_type()
     }
 
-    /// The same as `box_size`.
+    /// Returns the size of the box in bytes, like `box_size`.
     pub fn get_size(&self) -> u64
         ensures { result ≡ size_tfdt self.now }
     {

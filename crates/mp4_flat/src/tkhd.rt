@@ -20,9 +20,9 @@ use std::alloc::Global;
 /// The track header: properties of a track (`tkhd`, ISO/IEC 14496-12, 8.3.2).
 #[derive(Clone, Debug, Drop, PartialEq, Eq)]
 pub struct TkhdBox {
-    /// 0, or 1 for times of 64 bits.
+    /// The version: 0, or 1 for times of 64 bits.
     pub version: u8,
-    /// 24 bits: the flags of `TrackFlag`.
+    /// Flags of 24 bits. `TrackFlag` has those that have a name.
     pub flags: u32,
     /// The creation time of the track, in seconds since the beginning of 1904, UTC. 32 bits in version 0.
     pub creation_time: u64,
@@ -32,9 +32,9 @@ pub struct TkhdBox {
     pub track_id: u32,
     /// The duration of the track, in the timescale of the movie header. 32 bits in version 0.
     pub duration: u64,
-    /// The front-to-back order of the track, a two's complement number. Tracks with a lower layer cover this one.
+    /// The place in the front-to-back order, a two's complement number. Tracks with a lower layer cover this one.
     pub layer: u16,
-    /// The group of alternate tracks, of which one is to be played; or 0.
+    /// The group of alternate tracks, one of which is to be played, or 0 for no group.
     pub alternate_group: u16,
     /// The volume of the track: 1 is full volume.
     pub volume: FixedPointU8,
@@ -70,28 +70,28 @@ impl Default for TkhdBox {
 }
 
 impl TkhdBox {
-    /// The same as `box_type`.
+    /// Returns the type of the box, like `box_type`.
     pub fn get_type(&self) -> BoxType
         ensures { result ≡ names.TkhdBox }
     {
         self.box_type()
     }
 
-    /// The same as `box_size`.
+    /// Returns the size of the box in bytes, like `box_size`.
     pub fn get_size(&self) -> u64
         ensures { result ≡ size_tkhd self.now }
     {
         self.box_size()
     }
 
-    /// Sets the width to a whole number of pixels.
+    /// Sets the width to `width` pixels.
     pub fn set_width(&mut self, width: u16)
         ensures { self.new ≡ record self.old { width = scaled 65536 width } }
     {
         self.width = FixedPointU16::new(width);
     }
 
-    /// Sets the height to a whole number of pixels.
+    /// Sets the height to `height` pixels.
     pub fn set_height(&mut self, height: u16)
         ensures { self.new ≡ record self.old { height = scaled 65536 height } }
     {
@@ -148,6 +148,8 @@ impl ReadBox for TkhdBox {
     }
 }
 
+/// Returns whether a box with these fields can be written. `times` are its creation time, modification time and
+/// duration, `layers` its layer and alternate group, and `shown` its width and height.
 fn fits(
     version: u8,
     flags: u32,

@@ -12,17 +12,17 @@ use mp4_frame::{
 };
 use std::alloc::Global;
 
-/// The track extends box: the defaults for the samples of a track's fragments, where a fragment has no other value
-/// (`trex`, ISO/IEC 14496-12, 8.8.3).
+/// The track extends box: defaults for the samples of a track's fragments. A fragment can replace each of them (`trex`,
+/// ISO/IEC 14496-12, 8.8.3).
 #[derive(Clone, Debug, Default, Drop, PartialEq, Eq)]
 pub struct TrexBox {
-    /// 0 in the standard. Every version is read and written in the same way.
+    /// The version, 0 in the standard. Every version is read and written in the same way.
     pub version: u8,
-    /// 24 bits, 0 in the standard.
+    /// Flags of 24 bits, 0 in the standard.
     pub flags: u32,
     /// The number of the track.
     pub track_id: u32,
-    /// The index of the entry in the sample description box that describes a sample, from 1 on.
+    /// The index of the entry in the sample description box that describes a sample, counted from 1.
     pub default_sample_description_index: u32,
     /// The duration of a sample, in the timescale of the media.
     pub default_sample_duration: u32,
@@ -33,14 +33,14 @@ pub struct TrexBox {
 }
 
 impl TrexBox {
-    /// The same as `box_type`.
+    /// Returns the type of the box, like `box_type`.
     pub fn get_type(&self) -> BoxType
         ensures { result ≡ names.TrexBox }
     {
         self.box_type()
     }
 
-    /// The same as `box_size`.
+    /// Returns the size of the box in bytes, like `box_size`.
     pub fn get_size(&self) -> u64
         ensures { result ≡ size_trex self.now }
     {

@@ -13,28 +13,28 @@ use mp4_frame::{
 };
 use std::alloc::Global;
 
-/// The video media header: how the video is composed with the existing image (`vmhd`, ISO/IEC 14496-12, 12.1.2).
+/// The video media header: the composition of the video with the existing image (`vmhd`, ISO/IEC 14496-12, 12.1.2).
 #[derive(Clone, Debug, Default, Drop, PartialEq, Eq)]
 pub struct VmhdBox {
-    /// 0 in the standard. Every version is read and written in the same way.
+    /// The version, 0 in the standard. Every version is read and written in the same way.
     pub version: u8,
-    /// 24 bits, 1 in the standard.
+    /// Flags of 24 bits, 1 in the standard.
     pub flags: u32,
     /// The composition mode: 0 copies the video over the existing image.
     pub graphics_mode: u16,
-    /// The colour that the other modes use.
+    /// A colour for the other modes.
     pub op_color: RgbColor,
 }
 
 impl VmhdBox {
-    /// The same as `box_type`.
+    /// Returns the type of the box, like `box_type`.
     pub fn get_type(&self) -> BoxType
         ensures { result ≡ names.VmhdBox }
     {
         self.box_type()
     }
 
-    /// The same as `box_size`.
+    /// Returns the size of the box in bytes, like `box_size`.
     pub fn get_size(&self) -> u64
         ensures { result ≡ size_vmhd self.now }
     {

@@ -9,7 +9,7 @@ use Rattle.mp4_frame.specs.declared.error.Error.{Error}
 use Rattle.mp4_frame.proofs.Decided.{Decides, decides_same, decides_on, decides_bind, bind_decided, first_faults}
 use Rattle.mp4_frame.proofs.Decided.{decided_fault}
 
--- the outcome of the children, from the child that was found so far and the reading of the children that are left
+-- the outcome of the children, from the last child found and the reading of the remaining children
 abbrev pub continue_with : {A : Type 0} → Option A → Reading (Option A) → Reading (Option A)
 continue_with found r = r >>= λ later. done (last found later)
 

@@ -12,7 +12,7 @@ use Rattle.mp4_frame.specs.Laws.{AreBytes}
 use Rattle.mp4_frame.specs.Reading.{Reading, Fault, ◌>>=◌, and_then, also, check, done}
 use Rattle.mp4_frame.specs.declared.frame.Frame.{Frame}
 use Rattle.mp4_frame.proofs.Chains.{children_none, children_zero}
-use Rattle.mp4_frame.proofs.Children.{only_child, children_sound, ForSome}
+use Rattle.mp4_frame.proofs.Children.{only_child, children_stable, ForSome}
 use Rattle.mp4_frame.proofs.Fields.{length-fields}
 use Rattle.mp4_frame.proofs.Checks.{check_ok, is_value}
 use Rattle.mp4_frame.proofs.Heads.{head_room}
@@ -20,7 +20,7 @@ use Rattle.mp4_frame.proofs.Tables.{value_first}
 use Rattle.mp4_frame.specs.OptionalChild.{count_optional, size_optional, WritableOptional, bytes_optional}
 use Rattle.mp4_frame.specs.OptionalChild.{normal_optional}
 
--- a child ends at least 8 bytes after the offset where it begins
+-- a child ends at least 8 bytes after the offset where its header begins
 child_end : (bytes : List ℕ) (start size o : ℕ) (c : Frame) → (child bytes start size o).outcome ≡ Ok c
     → o + 8 ≤ c.start + c.size
 unfolding child
@@ -50,7 +50,7 @@ module _ {A : Type 0} (reads : List ℕ → ℕ → ℕ → Reading A) (code : �
       also a (child_if_named reads code bytes start c >>= λ mine. rest >>= λ later. done (last mine later)))
       (same (c.start + c.size) (child_end bytes start size o c e))
 
-  -- a bound on the number of children changes nothing if it is at least the number of bytes that are left
+  -- the bound on the number of children changes nothing if it is at least the number of bytes that are left
   pub all_children : (n more o : ℕ) → size ≤ o + n
       → children reads code bytes start size (n + more) o ≡ children reads code bytes start size n o
   unfolding children after
@@ -64,7 +64,7 @@ module _ {A : Type 0} (reads : List ℕ → ℕ → ℕ → Reading A) (code : �
       (same_after o (n + more) n (λ q later. all_children n more q (omega (arith, le, later))) c.asks_memory
       c.outcome refl)
 
--- From the laws of the child:
+-- The laws of the box, from the laws of the child.
 module _ {A : Type 0} {reads : List ℕ → ℕ → ℕ → Reading A} {format : Format A} (laws : IsBox reads format) where
   -- the normal form has the same size
   pub normal_size : (v : A) → format.Writable v → format.size (format.normal v) ≡ format.size v
@@ -131,7 +131,7 @@ module _ {A : Type 0} {reads : List ℕ → ℕ → ℕ → Reading A} {format :
     by None is = (refl, λ small. tt)
 
     -- a child that was read is its own normal form, and can be written unless it is too large
-    pub optional_sound : (normal_optional format c ≡ c) × (size_optional format c < 2 ^ 32 → WritableOptional format c)
-    optional_sound = by c
-        (children_sound reads code input start long
-        (λ v. (format.normal v ≡ v) × (format.size v < 2 ^ 32 → format.Writable v)) laws.sound are n o c read)
+    pub optional_stable : (normal_optional format c ≡ c) × (size_optional format c < 2 ^ 32 → WritableOptional format c)
+    optional_stable = by c
+        (children_stable reads code input start long
+        (λ v. (format.normal v ≡ v) × (format.size v < 2 ^ 32 → format.Writable v)) laws.stable are n o c read)

@@ -1,7 +1,7 @@
--- A child that was written is read back.
+-- A written child is read back.
 use Rattle.std.proofs.Common.{◌≡◌, ℕ, zero, suc, ◌+◌, ◌-◌, ◌<◌, ◌≤◌, ◌^◌, Bool, true, false, cond, eqb, ltb, leb, List}
 use Rattle.std.proofs.Common.{◌++◌, length, drop, Ok, Some, None, Result, Option, refl, ap, subst, ◌∙◌, arith}
-use Rattle.std.specs.Prelude.{◌&&◌, ◌==◌, nat_le}
+use Rattle.std.specs.Prelude.{◌==◌, nat_le}
 use Rattle.std.proofs.lemmas.Bool.{le-leb, lt-ltb, eq-eqb}
 use Rattle.std.proofs.lemmas.List.{drop_at}
 use Rattle.mp4_frame.specs.Bytes.{number, bytes_of_fields, width_of_fields}
@@ -15,13 +15,6 @@ use Rattle.mp4_frame.proofs.Tables.{value_first}
 use Rattle.mp4_frame.specs.Laws.{AreBytes}
 use Rattle.mp4_frame.proofs.Chains.{children_first, children_none}
 use Rattle.mp4_frame.proofs.Decided.{outcome_bind}
-
-pub below : (n : ℕ) → n < 2 ^ 32 → 0 + n < 2 ^ 64
-below n lt = omega arith
-
-and_true : (a b : Bool) → a ≡ true → b ≡ true → (a && b) ≡ true
-and_true true b p q = q
-and_true false b p q = p
 
 module _ {A : Type 0} (reads : List ℕ → ℕ → ℕ → Reading A) (code : ℕ) (cs : List (ℕ × ℕ)) (part rest : List ℕ)
     (start k m : ℕ) (v : A)
@@ -82,24 +75,24 @@ ok_some r = Ok r
 module _ {A : Type 0} (reads : List ℕ → ℕ → ℕ → Reading A) (code : ℕ) (bytes : List ℕ) (start size : ℕ) (P : A → Type 0)
     (each : (part : List ℕ) (from long : ℕ) (v : A) → AreBytes part → (reads part from long).outcome ≡ Ok v → P v)
     (are : AreBytes bytes) where
-  child_if_named_sound : (c : Frame) (b : Bool) (r : Option A)
+  child_if_named_stable : (c : Frame) (b : Bool) (r : Option A)
       → (cond b (reads (drop c.start bytes) (start + c.start) c.size >>= λ v. done (Some v)) (done None)).outcome
       ≡ ok_some r → ForSome P r
-  child_if_named_sound c true r e =
+  child_if_named_stable c true r e =
       let p = value_first (reads (drop c.start bytes) (start + c.start) c.size) (λ v. done (Some v)) r e in
       let is : Some p.0 ≡ r = is_value (Some p.0) r p.2 in
       subst (ForSome P) is
       (each (drop c.start bytes) (start + c.start) c.size p.0 (are_bytes-drop c.start bytes are) p.1)
-  child_if_named_sound c false r e =
+  child_if_named_stable c false r e =
       let is : None ≡ r = is_value None r e in
       subst (ForSome P) is tt
 
   -- a property of every value that is read holds for the child that was found
-  pub children_sound : (n o : ℕ) (r : Option A) → (children reads code bytes start size n o).outcome ≡ Ok r
+  pub children_stable : (n o : ℕ) (r : Option A) → (children reads code bytes start size n o).outcome ≡ Ok r
       → ForSome P r
   unfolding children
-  children_sound zero o r e = (let is : None ≡ r = is_value None r e in subst (ForSome P) is tt)
-  children_sound (suc n) o r e = by (λ q s h. children_sound n q s h) (nat_le size o) e
+  children_stable zero o r e = (let is : None ≡ r = is_value None r e in subst (ForSome P) is tt)
+  children_stable (suc n) o r e = by (λ q s h. children_stable n q s h) (nat_le size o) e
     where
       by : ((q : ℕ) (s : Option A) → (children reads code bytes start size n q).outcome ≡ Ok s → ForSome P s)
           → (b : Bool) → (cond b (done None)
@@ -118,5 +111,5 @@ module _ {A : Type 0} (reads : List ℕ → ℕ → ℕ → Reading A) (code : �
           (λ later. done (last m.0 later)) r m.2 in
           let is : last m.0 l.0 ≡ r = is_value (last m.0 l.0) r l.2 in
           subst (ForSome P) is
-          (last_of P m.0 l.0 (child_if_named_sound c.0 (c.0.code == code) m.0 m.1)
+          (last_of P m.0 l.0 (child_if_named_stable c.0 (c.0.code == code) m.0 m.1)
           (ih (c.0.start + c.0.size) l.0 l.1))

@@ -1,6 +1,6 @@
 -- The rest of a reading decides the outcome of the whole.
 use Rattle.std.proofs.Common.{◌≡◌, Bool, true, false, Result, Ok, Err, refl, sym, ap, ◌∙◌}
-use Rattle.std.specs.Prelude.{◌||◌}
+use Rattle.std.proofs.lemmas.Bool.{or_left, or_right}
 use Rattle.mp4_frame.specs.Reading.{Reading, Fault, ◌>>=◌, Refuses, and_then, also}
 use Rattle.mp4_frame.specs.declared.error.Error.{Error}
 use Rattle.mp4_frame.specs.declared.error.Error.TheVariants as errors
@@ -17,35 +17,27 @@ decides_same r s e = (ap (λ (x : Reading _). x.outcome) e, λ a. sym (ap (λ (x
 pub decides_on : {A : Type 0} (r s t : Reading A) → Decides r s → Decides s t → Decides r t
 decides_on r s t p q = (p.0 ∙ q.0, λ e. q.1 (p.1 e))
 
-or_true : (a b : Bool) → b ≡ true → (a || b) ≡ true
-or_true true b e = refl
-or_true false b e = e
-
-or_first : (a b : Bool) → a ≡ true → (a || b) ≡ true
-or_first true b e = refl
-or_first false b e = absurd cc
-
--- after a part that has a value, what follows decides
+-- after a part that has a value, the rest decides
 pub decides_bind : {A B : Type 0} (r : Reading A) (f : A → Reading B) (x : A) → r.outcome ≡ Ok x
     → Decides (f x) (r >>= f)
 decides_bind r f x e =
     let w : also r.asks_memory (f x) ≡ (r >>= f) = sym (ap (λ (o : Result _ Fault). and_then r.asks_memory o f) e) in (
       ap (λ (s : Reading _). s.outcome) w,
       λ a. sym (ap (λ (s : Reading _). s.asks_memory) w)
-          ∙ or_true r.asks_memory _ a,
+          ∙ or_right r.asks_memory _ a,
     )
 
 bind_asks : {A B : Type 0} (b : Bool) (p : Result A Fault) (f : A → Reading B) → b ≡ true
     → (and_then b p f).asks_memory ≡ true
-bind_asks b (Ok x) f e = or_first b _ e
+bind_asks b (Ok x) f e = or_left b _ e
 bind_asks b (Err k) f e = e
 
--- what decides a part decides the whole
+-- an outcome that is decided by a part is decided by the whole
 bind_decided_by : {A B : Type 0} (a b : Bool) (o p : Result A Fault) (f : A → Reading B) → o ≡ p → (a ≡ true → b ≡ true)
     → (and_then a o f).asks_memory ≡ true → (and_then b p f).asks_memory ≡ true
 bind_decided_by true b o p f e i h = bind_asks b p f (i refl)
 bind_decided_by false b (Ok x) p f e i h = sym (ap (λ (q : Result _ Fault). (and_then b q f).asks_memory) e)
-    ∙ or_true b _ h
+    ∙ or_right b _ h
 bind_decided_by false b (Err k) p f e i h = absurd cc
 
 outcomes : {A B : Type 0} (a b : Bool) (o : Result A Fault) (f : A → Reading B)

@@ -1,5 +1,5 @@
 -- Equality of numbers, of options of them, of enums, and of places.
-use Rattle.std.proofs.Common.{rules, ◌≡◌, ◌&&◌, ◌∙◌, ℕ, ℤ, Bool, true, false, nat_eq, List, [], ◌∷◌, Option, Some, None}
+use Rattle.std.proofs.Common.{◌≡◌, ◌&&◌, ◌∙◌, ℕ, ℤ, Bool, true, false, nat_eq, List, [], ◌∷◌, Option, Some, None}
 use Rattle.std.proofs.Common.{refl, sym, ap}
 use Rattle.std.specs.Option.{option_eq, unwrap_or}
 use Rattle.std.specs.Ordering.{int_eq}
@@ -21,7 +21,7 @@ use Rattle.mp4_frame.specs.contracts.box_type.BoxTypeEq.TheImpl.Laws as box_type
 use Rattle.mp4_frame.specs.contracts.list.BoxSpanPartialEq.TheImpl as box_span_eq
 use Rattle.mp4_frame.specs.contracts.list.BoxSpan as box_span_eq_box
 
--- a check of two values that is true exactly if they are equal
+-- a check of two values that is true if and only if they are equal
 abbrev pub Decider : Type 0 → Type 0
 Decider A = (check : A → A → Bool) × IsEquality check
 
@@ -49,7 +49,7 @@ options d = (option_eq d.0, same_options d.1)
 abbrev pub lists : {A : Type 0} → Decider A → Decider (List A)
 lists d = (pointwise d.0, pointwise_decides d.1)
 
--- of two values of a variant with fields, the check is true for equal ones only
+-- for two values of a variant with fields, the check is true only if they are equal
 abbrev pub AreExact : (Fss : List (List Field)) → Each Bool Fss → Type 0
 AreExact [] each = Unit {0}
 AreExact ([] ∷ Fss) each = AreExact Fss each.1
@@ -81,7 +81,7 @@ infixr 30 ◌⨾◌
 abbrev pub ◌⨾◌ : {A B : Type 0} → A → B → A × B
 a ⨾ b = (a, b)
 
--- the checks of all fields, as `derive` joins them
+-- the checks of all fields, joined by `&&` in the order that `derive` gives them
 abbrev pub checks : (Fs : List Field) → Decided Fs → Values Fs → Values Fs → Bool
 checks [] ds xs ys = true
 checks (F ∷ []) ds xs ys = ds.0.0 xs.0 ys.0

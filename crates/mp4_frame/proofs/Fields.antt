@@ -1,17 +1,18 @@
 -- Pieces that are put at an offset of a slice, and the numbers in the bytes of fields.
-use Rattle.std.proofs.Common.{◌≡◌, ℕ, zero, suc, Bool, true, false, cond, ltb, eqb, ◌+◌, ◌-◌, ◌*◌, ◌<◌, ◌≤◌, ◌^◌, ◌/◌}
+use Rattle.std.proofs.Common.{◌≡◌, ℕ, zero, suc, cond, ltb, eqb, ◌+◌, ◌-◌, ◌*◌, ◌<◌, ◌≤◌, ◌^◌, ◌/◌}
 use Rattle.std.proofs.Common.{◌%◌, List, [], ◌∷◌, ◌++◌, length, take, set, replicate, refl, ap, sym, ◌∙◌, append_assoc}
 use Rattle.std.proofs.Common.{arith, length-append}
-use Rattle.std.proofs.lemmas.List.{take_at, append-nil, length-take, length-replicate, take_more_set}
+use Rattle.std.proofs.lemmas.List.{append-nil, length-replicate, take_more_set}
 use Rattle.byteorder.specs.Numbers.{big_from-lt, big_number-reads_back, length-bytes_high_first}
-use Rattle.std.proofs.lemmas.Bool.{eqb-true, ltb-false}
-use Rattle.std.proofs.Math.Nat.{zero-div}
+use Rattle.std.proofs.lemmas.Bool.{cond_both, eqb-true, ltb-false}
 use Rattle.byteorder.specs.Endian.{big_bytes}
 use Rattle.std.specs.Int.{Width, byte_at}
 use Rattle.std.specs.Prelude.{ℤ}
 use mir.Val.{of_z, to_z, SFits}
 use Rattle.std.proofs.lemmas.Int.{to_z-of_z}
 use borrow.Rule.Slice.PartMut.{put_mid, post_of}
+use Rattle.mp4_lemmas.proofs.Lists.{take_written}
+use Rattle.mp4_lemmas.proofs.Numbers.{byte_at-zero}
 use Rattle.mp4_frame.specs.Reading.{expect_bytes, done}
 use Rattle.mp4_frame.specs.Laws.{AreBytes}
 use Rattle.mp4_frame.proofs.Checks.{expect_bytes_present}
@@ -21,13 +22,6 @@ use Rattle.mp4_frame.specs.Bytes.{number, be_bytes, bytes_of_fields, bytes_of_fi
 pub length-be_bytes : (w n : ℕ) → length (be_bytes w n) ≡ w
 unfolding be_bytes
 length-be_bytes w n = length-bytes_high_first w n
-
-pub take_written : (xs piece rest : List ℕ) (at w : ℕ) → at ≤ length xs → length piece ≡ w
-    → take (at + w) (take at xs ++ (piece ++ rest)) ≡ take at xs ++ piece
-take_written xs piece rest at w le len =
-    let n : length (take at xs ++ piece) ≡ at + w =
-    omega (arith, length-append (take at xs) piece, length-take at xs) in
-    ap (take (at + w)) (sym (append_assoc (take at xs) piece rest)) ∙ take_at (take at xs ++ piece) rest (at + w) n
 
 -- a piece that was put at offset `at`
 pub put_piece : (xs piece : List ℕ) (at k w : ℕ) (new rest : List ℕ) → at ≤ length xs → length piece ≡ w
@@ -62,10 +56,6 @@ version_and_flags front version flags v f =
     let last : n % 256 ≡ flags % 256 = omega (arith, v, f) in
     ap (λ (bytes : List ℕ). front ++ bytes) (rw (first, second, third, last) refl)
     ∙ sym (append_assoc front (be_bytes 1 version) (be_bytes 3 flags))
-
-byte_at-zero : (k : ℕ) → byte_at k 0 ≡ 0
-byte_at-zero zero = refl
-byte_at-zero (suc k) = ap (λ (x : ℕ). x % 256) (zero-div (256 ^ suc k))
 
 be_bytes-zero : (w : ℕ) → replicate w 0 ≡ be_bytes w 0
 unfolding be_bytes
@@ -109,17 +99,13 @@ pub length-fields : (cs : List (ℕ × ℕ)) → length (bytes_of_fields cs) ≡
 unfolding bytes_of_fields
 length-fields cs = ap length (bytes_of_fields-concat cs) ∙ length-concat_fields cs
 
--- the number of w bytes at offset o in the bytes of fields and the bytes after them: the number of the field there,
--- if the field begins at o and has w bytes
+-- The number of w bytes at offset o in the bytes of fields and the bytes after them. It is the number of the field
+-- there, if the field begins at o and has w bytes.
 abbrev pub found : List (ℕ × ℕ) → List ℕ → ℕ → ℕ → ℕ
 found [] rest o w = number rest o w
 found (c ∷ cs) rest o w =
     cond (ltb o c.0) (cond (eqb o 0) (cond (eqb w c.0) c.1 (number (concat_fields (c ∷ cs) ++ rest) o w))
     (number (concat_fields (c ∷ cs) ++ rest) o w)) (found cs rest (o - c.0) w)
-
-pick : (b : Bool) (x y z : ℕ) → (b ≡ true → z ≡ x) → (b ≡ false → z ≡ y) → z ≡ cond b x y
-pick true x y z p q = p refl
-pick false x y z p q = q refl
 
 pub number-be_bytes : (w n : ℕ) (rest : List ℕ) → n < 256 ^ w → number (be_bytes w n ++ rest) 0 w ≡ n
 unfolding number be_bytes
@@ -132,9 +118,10 @@ found-concat_fields [] rest o w fits = refl
 found-concat_fields (c ∷ cs) rest o w fits =
     let regrouped : (be_bytes c.0 c.1 ++ concat_fields cs) ++ rest ≡ be_bytes c.0 c.1 ++ (concat_fields cs ++ rest) =
     append_assoc (be_bytes c.0 c.1) (concat_fields cs) rest in
-    pick (ltb o c.0) _ _ _
-    (λ lt. pick (eqb o 0) _ _ _
-    (λ e. pick (eqb w c.0) _ _ _
+    let Is = λ (n : ℕ). number ((be_bytes c.0 c.1 ++ concat_fields cs) ++ rest) o w ≡ n in
+    cond_both (ltb o c.0) _ _ Is
+    (λ lt. cond_both (eqb o 0) _ _ Is
+    (λ e. cond_both (eqb w c.0) _ _ Is
     (λ f. ap (λ (xs : List ℕ). number xs o w) regrouped
     ∙ ap (λ (k : ℕ). number (be_bytes c.0 c.1 ++ (concat_fields cs ++ rest)) k w) (eqb-true o 0 e)
     ∙ ap (number (be_bytes c.0 c.1 ++ (concat_fields cs ++ rest)) 0) (eqb-true w c.0 f)

@@ -1,4 +1,4 @@
--- Boxes of fields: the size and the code in front, and the ranges of numbers that were read.
+-- Boxes of fields: the size and the code at the front, and the ranges of numbers that were read.
 use Rattle.std.proofs.Common.{◌≡◌, ℕ, ◌+◌, ◌<◌, ◌^◌, List, [], ◌∷◌, ◌++◌, length, map, sym, ap, subst, arith}
 use Rattle.std.proofs.Common.{length-append}
 use Rattle.std.specs.Int.{w8, w16, w32, cast_signed, cast_unsigned}
@@ -22,7 +22,7 @@ header_of_fields {size} {name} cs fits long =
       code_next = number-fields_alone all 4 4 fits;
     }
 
--- the same with bytes after them, which the size counts too
+-- such fields with bytes after them, which the size counts too
 pub header_in_front : {size : ℕ} {name : BoxType} (cs : List (ℕ × ℕ)) (rest : List ℕ)
     → FieldsFit ((4, size) ∷ (4, code_of name) ∷ cs) → 8 + width_of_fields cs + length rest ≡ size
     → BeginsWithHeader size name (bytes_of_fields ((4, size) ∷ (4, code_of name) ∷ cs) ++ rest)
@@ -42,8 +42,8 @@ pub own_normal_form : {A : Type 0} {Writable : A → Type 0} {bytes : A → List
 own_normal_form {A} {Writable} {bytes} {normal} v is w =
     record { writable = subst Writable (sym is) w; again = ap normal is; same_bytes = ap bytes is }
 
--- where the number in a field of a value that was read is from: w bytes at o, a signed number of 8, 16 or 32 bits
--- at o, or a number that fits w bytes
+-- The origin of the number in a field of a value that was read. It is w bytes at o, a signed number of 8, 16 or 32 bits
+-- at o, or a number that fits w bytes.
 pub data Origin : Type 0 where
   Number : (o w : ℕ) → Origin
   Signed8 : (o : ℕ) → Origin

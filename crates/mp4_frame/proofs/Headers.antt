@@ -1,4 +1,4 @@
--- A header that was written is read back.
+-- A written header is read back.
 use Rattle.std.proofs.Common.{◌≡◌, ℕ, ◌+◌, ◌-◌, ◌<◌, ◌≤◌, ◌^◌, Bool, true, false, cond, List, [], ◌∷◌, ◌++◌, length}
 use Rattle.std.proofs.Common.{refl, sym, ap, ◌∙◌, arith, length-append, lit<}
 use Rattle.std.specs.Prelude.{nat_lt, nat_le, ◌==◌}

@@ -1,4 +1,4 @@
--- What headers say.
+-- The values in a header.
 use Rattle.std.proofs.Common.{◌≡◌, ℕ, ◌+◌, ◌<◌, ◌≤◌, ◌-◌, List, ◌++◌, length, Ok, Err, refl, ap, subst, ◌∙◌, arith}
 use Rattle.std.proofs.Common.{length-append, eqb, Bool, true, false, cond, inl, inr}
 use Rattle.std.specs.Prelude.{nat_lt, ◌==◌, ◌⊎◌}
@@ -26,7 +26,7 @@ either_reading : {A : Type 0} (b : Bool) (r s : Reading A) (v : A) → (cond b r
 either_reading true r s v e = inl e
 either_reading false r s v e = inr e
 
--- what holds of both forms of a header at o holds of what it says
+-- a property of both forms of a header at o is a property of the frame that the header gives
 pub of_both_forms : (P : Frame → Type 0) (B : List ℕ) (o : ℕ)
     → (o + 8 ≤ length B → P (record { code = number B (o + 4) 4; begin = o; start = o; size = number B o 4 }))
     → (o + 8 + 8 ≤ length B
@@ -46,7 +46,7 @@ of_both_forms P B o compact large c e =
       | inr s ↦ subst P (is_value _ c s) (compact (ltb-false _ _ first.0))
     ]
 
--- the 8 bytes from the start on are present
+-- the 8 bytes at the start are present
 pub head_room : (B : List ℕ) (o : ℕ) (c : Frame) → (head B o).outcome ≡ Ok c → (o ≤ c.start) × (c.start + 8 ≤ length B)
 head_room B o = of_both_forms (λ c. (o ≤ c.start) × (c.start + 8 ≤ length B)) B o
     (λ room. (omega arith, room)) (λ room. (omega arith, room))
@@ -55,7 +55,7 @@ head_room B o = of_both_forms (λ c. (o ≤ c.start) × (c.start + 8 ≤ length 
 pub head_begin : (B : List ℕ) (o : ℕ) (c : Frame) → (head B o).outcome ≡ Ok c → c.begin ≡ o
 head_begin B o = of_both_forms (λ c. c.begin ≡ o) B o (λ room. refl) (λ room. refl)
 
--- bytes that begin with a size and a code, after and before other bytes: what they say
+-- the frame that a size and a code give, with bytes before and after them
 pub head_among : (x part rest : List ℕ) (k m code : ℕ) → length x ≡ k → length part ≡ m → 8 ≤ m → number part 0 4 ≡ m
     → number part 4 4 ≡ code
     → head (x ++ (part ++ rest)) k ≡ done (record { code = code; begin = k; start = k; size = m })

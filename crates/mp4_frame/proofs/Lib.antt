@@ -16,7 +16,7 @@ pub mod Chains
 pub mod Children
 pub mod ChildLaws
 pub mod OneChildLaws
-pub mod ParentLaws
+pub mod FieldsThenChildLaws
 pub mod NoMemory
 pub mod Rows
 pub mod Signed

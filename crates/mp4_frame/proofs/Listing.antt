@@ -59,7 +59,7 @@ either_is_ok : {A C : Type 0} (b : Bool) (p q : Reading A) (r s : Reading C) →
 either_is_ok true p q r s first second h = first
 either_is_ok false p q r s first second h = second h
 
--- items that have no faults of their own: their walk is Ok where any walk over the same frames is
+-- items without faults: their walk is Ok if any walk over the same frames is
 module _ {X Y : Type 0} (item : Frame → Reading (List X)) (other : Frame → Reading (List Y))
     (no_fault : (f : Frame) → IsOk (other f).outcome) (B : List ℕ) where
   walk_on_is_ok : (rest : ℕ → Reading (List X)) (others : ℕ → Reading (List Y))

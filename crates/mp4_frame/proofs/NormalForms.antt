@@ -3,21 +3,22 @@ use Rattle.std.proofs.Common.{◌≡◌, ℕ, zero, suc, ◌+◌, ◌*◌, ◌�
 use Rattle.std.proofs.Common.{refl, sym, ap, subst, ◌∙◌, arith}
 use Rattle.std.specs.List.{flat_map}
 use Rattle.std.proofs.Math.Seq.{take-add}
-use Rattle.std.proofs.lemmas.List.{drop-drop, take-append-drop, take_all, length-drop}
+use Rattle.std.proofs.lemmas.List.{drop-drop, length-map, take_all}
 use Rattle.std.proofs.lemmas.List.Elements.{All-from_recursion}
+use Rattle.mp4_lemmas.proofs.Lists.{front_and_rest}
 use Rattle.mp4_frame.specs.BoxType.{code_of, name_of}
 use Rattle.mp4_frame.specs.Bytes.{number, be_bytes, bytes_of_fields, width_of_fields, FieldsFit}
 use Rattle.mp4_frame.specs.Format.{Format, IsWritten, IsNormalForm}
-use Rattle.mp4_frame.specs.Laws.{AreBytes, OwnName, ReadsBack, IsWhole}
+use Rattle.mp4_frame.specs.Laws.{AreBytes, OwnName, ReadsBack}
 use Rattle.mp4_frame.specs.Reading.{Reading}
 use Rattle.mp4_frame.specs.Tables.{rows, fields_table, size_table, WritableTable, bytes_table, IsWholeTable}
 use Rattle.mp4_frame.specs.declared.box_type.BoxType.{BoxType}
 use Rattle.mp4_frame.proofs.Fields.{number-below}
 use Rattle.mp4_frame.proofs.NumberBytes.{bytes_there, fields_at, fields_there}
 use Rattle.mp4_frame.proofs.TableLaws.{IsEntry, TableOf, format_table}
-use Rattle.mp4_frame.proofs.Tables.{IsRow, rows_are, length-rows, map_all, length_map}
+use Rattle.mp4_frame.proofs.Tables.{IsRow, rows_are, length-rows, map_all}
 
--- what is read of bytes in normal form
+-- the value that is read from bytes in normal form
 module _ {A : Type 0} (format : Format A) (known : BoxType → Bool)
     (named_reading : BoxType → List ℕ → ℕ → ℕ → Reading A) (written : IsWritten format)
     (own_name : (v : A) → format.Writable v → OwnName known (format.name v))
@@ -70,14 +71,6 @@ module _ {X : Type 0} (row_of : X → List ℕ) (entry_of : List ℕ → X) (e :
       ∙ ap (λ (l : List ℕ). row ++ l) (rest ∙ ap (take (n * e)) (sym (drop-drop e o B)))
       ∙ sym (take-add e (n * e) (drop o B)) ∙ ap (λ (k : ℕ). take k (drop o B)) (sym whole)
 
--- fields at the front of bytes, and the rows after them up to their end
-pub joined : (B fields tail : List ℕ) (o w : ℕ) → fields ≡ take o B → tail ≡ take w (drop o B) → length B ≡ o + w
-    → fields ++ tail ≡ B
-joined B fields tail o w front rest all =
-    ap (λ (l : List ℕ). l ++ tail) front
-    ∙ ap (λ (l : List ℕ). take o B ++ l) (rest ∙ take_all w (drop o B) (omega (arith, all, length-drop o B)))
-    ∙ take-append-drop o B
-
 module _ {X V : Type 0} {row_of : X → List ℕ} {entry_of : List ℕ → X} {Fits : X → Type 0} {e : ℕ} (name : BoxType)
     (make : ℕ → ℕ → List X → V) (table : V → TableOf X) (entry : IsEntry row_of entry_of Fits e) where
   -- a whole box of one table is in normal form
@@ -91,7 +84,7 @@ module _ {X V : Type 0} {row_of : X → List ℕ} {entry_of : List ℕ → X} {F
       let flags = number B 9 3 in
       let found = rows B 16 e n in
       let xs = map entry_of found in
-      let many : length xs ≡ n = length_map entry_of found ∙ length-rows B 16 e n in
+      let many : length xs ≡ n = length-map found entry_of ∙ length-rows B 16 e n in
       let long : size_table e xs ≡ number B 0 4 =
       ap (λ (k : ℕ). 16 + e * k) many ∙ omega (arith, t.long) ∙ sym t.whole.size_first in
       let ws : List ℕ = 4 ∷ 4 ∷ 1 ∷ 3 ∷ 4 ∷ [] in
@@ -107,7 +100,7 @@ module _ {X V : Type 0} {row_of : X → List ℕ} {entry_of : List ℕ → X} {F
             (map_all e entry_of Fits entry.fits found (rows_are B 16 e n are (λ _. omega (arith, t.long))));
       } in
       let is : bytes_table row_of e (code_of name) version flags xs ≡ B =
-      joined B (bytes_of_fields (fields_table (size_table e xs) (code_of name) version flags (length xs)))
+      front_and_rest B (bytes_of_fields (fields_table (size_table e xs) (code_of name) version flags (length xs)))
       (flat_map row_of xs) 16 (n * e) (ap bytes_of_fields same ∙ fields_there B are 0 ws (omega (arith, t.long)))
       (rows_there row_of entry_of e again B 16 n are (omega (arith, t.long))) t.long in
       let Whole = λ (u : TableOf X). WritableTable Fits e (code_of name) u.version u.flags u.entries

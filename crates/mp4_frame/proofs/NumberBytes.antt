@@ -1,37 +1,17 @@
 -- The bytes of the number at an offset are the bytes there.
-use Rattle.std.proofs.Common.{◌≡◌, ℕ, zero, suc, ◌+◌, ◌*◌, ◌/◌, ◌%◌, ◌^◌, ◌<◌, ◌≤◌, List, [], ◌∷◌, ◌++◌, length, take}
+use Rattle.std.proofs.Common.{◌≡◌, ℕ, zero, suc, ◌+◌, ◌*◌, ◌%◌, ◌^◌, ◌<◌, ◌≤◌, List, [], ◌∷◌, ◌++◌, length, take}
 use Rattle.std.proofs.Common.{drop, slice_index, refl, sym, ap, ◌∙◌, arith}
-use Rattle.std.proofs.Math.Nat.{div-one, mul-add-div_right, mul-add-mod_self_right, mul_assoc, one-le-pow, pow-succ'}
 use Rattle.std.proofs.Math.Nat.{mod-eq_of_lt}
 use Rattle.std.proofs.Math.Seq.{take-add}
 use Rattle.std.proofs.lemmas.List.{drop_more, drop-drop}
 use Rattle.std.proofs.lemmas.Nat.{div-mul-add}
 use Rattle.std.specs.Int.{byte_at, bytes_high_first}
+use Rattle.mp4_lemmas.proofs.Numbers.{byte_is, low_bytes}
 use Rattle.byteorder.specs.Endian.{big_from}
 use Rattle.byteorder.specs.Numbers.{big_from-lt}
 use Rattle.mp4_frame.specs.Bytes.{number, be_bytes, bytes_of_fields, width_of_fields}
 use Rattle.mp4_frame.specs.Laws.{AreBytes}
 use Rattle.mp4_frame.proofs.Fields.{concat_fields, bytes_of_fields-concat}
-
-above_zero : (w : ℕ) → 0 < 256 ^ w
-above_zero w = let p = one-le-pow w 256 (omega arith) in omega (arith, p)
-
-byte_is : (k n : ℕ) → byte_at k n ≡ n / 256 ^ k % 256
-byte_is zero n = ap (λ (x : ℕ). x % 256) (sym (div-one n))
-byte_is (suc k) n = refl
-
--- the low bytes of a number don't depend on the high ones
-low_bytes : (w k m : ℕ) → bytes_high_first w (k * 256 ^ w + m) ≡ bytes_high_first w m
-low_bytes zero k m = refl
-low_bytes (suc w) k m =
-    let p = 256 ^ w in
-    let e : k * 256 ^ suc w + m ≡ k * 256 * p + m = ap (λ (q : ℕ). k * q + m) (pow-succ' 256 w)
-    ∙ ap (λ (x : ℕ). x + m) (sym (mul_assoc k 256 p)) in
-    let first : byte_at w (k * 256 * p + m) ≡ byte_at w m =
-    byte_is w (k * 256 * p + m) ∙ ap (λ (x : ℕ). x % 256) (mul-add-div_right (above_zero w) (k * 256) m)
-    ∙ mul-add-mod_self_right k 256 (m / p) ∙ sym (byte_is w m) in
-    ap (bytes_high_first (suc w)) e ∙ ap (λ (b : ℕ). b ∷ bytes_high_first w (k * 256 * p + m)) first
-    ∙ ap (λ (l : List ℕ). byte_at w m ∷ l) (low_bytes w (k * 256) m)
 
 bytes_of_number : (xs : List ℕ) → AreBytes xs → (o w : ℕ) → o + w ≤ length xs
     → bytes_high_first w (big_from o w xs) ≡ take w (drop o xs)
@@ -56,7 +36,7 @@ pub bytes_there : (xs : List ℕ) → AreBytes xs → (o w : ℕ) → o + w ≤ 
 unfolding be_bytes number
 bytes_there xs are o w room = bytes_of_number xs are o w room
 
--- the numbers of these widths from an offset on, as fields
+-- the numbers of these widths as fields, the first of them at an offset
 abbrev pub fields_at : List ℕ → ℕ → List ℕ → List (ℕ × ℕ)
 fields_at xs o [] = []
 fields_at xs o (w ∷ ws) = (w, number xs o w) ∷ fields_at xs (o + w) ws
@@ -73,7 +53,7 @@ concat_there xs are o (w ∷ ws) room =
     ∙ ap (λ (l : List ℕ). take w (drop o xs) ++ take n l) (sym (drop-drop w o xs))
     ∙ sym (take-add w n (drop o xs))
 
--- their bytes are the bytes from the offset on
+-- the bytes of these fields are the bytes that start at the offset
 pub fields_there : (xs : List ℕ) → AreBytes xs → (o : ℕ) (ws : List ℕ)
     → o + width_of_fields (fields_at xs o ws) ≤ length xs
     → bytes_of_fields (fields_at xs o ws) ≡ take (width_of_fields (fields_at xs o ws)) (drop o xs)

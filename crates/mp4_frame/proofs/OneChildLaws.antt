@@ -1,5 +1,5 @@
--- Laws of one child at an offset of a box, that follow from the laws of the child: it is read back, and what is read
--- of it keeps its laws.
+-- Laws of one child at an offset of a box, from the laws of the child. The child is read back, and its value keeps its
+-- laws.
 use Rattle.std.proofs.Common.{◌≡◌, ℕ, ◌+◌, ◌<◌, ◌^◌, Bool, true, false, cond, eqb, ltb, leb, List, ◌++◌, length, drop}
 use Rattle.std.proofs.Common.{Ok, Option, Some, None, refl, ap, subst, ◌∙◌, arith}
 use Rattle.std.specs.Prelude.{◌==◌, nat_lt}
@@ -19,11 +19,11 @@ use Rattle.mp4_frame.proofs.Heads.{head_among}
 use Rattle.mp4_frame.proofs.Tables.{value_first}
 
 -- a value that was read is its own normal form, and can be written unless it is too large
-abbrev pub IsSound : {A : Type 0} → Format A → A → Type 0
-IsSound format v = (format.normal v ≡ v) × (format.size v < 2 ^ 32 → format.Writable v)
+abbrev pub IsStable : {A : Type 0} → Format A → A → Type 0
+IsStable format v = (format.normal v ≡ v) × (format.size v < 2 ^ 32 → format.Writable v)
 
-abbrev pub IsSoundOptional : {A : Type 0} → Format A → Option A → Type 0
-IsSoundOptional format c =
+abbrev pub IsStableOptional : {A : Type 0} → Format A → Option A → Type 0
+IsStableOptional format c =
     (normal_optional format c ≡ c) × (size_optional format c < 2 ^ 32 → WritableOptional format c)
 
 module _ {A : Type 0} {reads : List ℕ → ℕ → ℕ → Reading A} {format : Format A} (laws : IsBox reads format) where
@@ -92,49 +92,49 @@ module _ {A : Type 0} {reads : List ℕ → ℕ → ℕ → Reading A} {format :
         rw none refl
 
   module _ (input : List ℕ) (start : ℕ) (are : AreBytes input) where
-    pub content_sound : (c : Frame) (v : A) → (child_content reads input start c).outcome ≡ Ok v → IsSound format v
+    pub content_stable : (c : Frame) (v : A) → (child_content reads input start c).outcome ≡ Ok v → IsStable format v
     unfolding child_content
-    content_sound c v e =
+    content_stable c v e =
         let t = check_ok (nat_lt (start + c.start + c.size) (2 ^ 64))
         (λ _. reads (drop c.start input) (start + c.start) c.size) v e in
-        laws.sound (drop c.start input) (start + c.start) c.size v (are_bytes-drop c.start input are) t.1
+        laws.stable (drop c.start input) (start + c.start) c.size v (are_bytes-drop c.start input are) t.1
 
     module _ (long o : ℕ) where
-      pub any_sound : (v : A) → (any_child reads input start long o).outcome ≡ Ok v → IsSound format v
+      pub any_stable : (v : A) → (any_child reads input start long o).outcome ≡ Ok v → IsStable format v
       unfolding any_child
-      any_sound v e =
+      any_stable v e =
           let p = value_first (child_head input long o) (λ c. child_content reads input start c) v e in
-          content_sound p.0 v p.2
+          content_stable p.0 v p.2
 
-      pub named_sound : (code : ℕ) (v : A) → (named_child reads code input start long o).outcome ≡ Ok v
-          → IsSound format v
+      pub named_stable : (code : ℕ) (v : A) → (named_child reads code input start long o).outcome ≡ Ok v
+          → IsStable format v
       unfolding named_child
-      named_sound code v e =
+      named_stable code v e =
           let p = value_first (child_head input long o)
           (λ c. check (c.code == code) >>= λ _. child_content reads input start c) v e in
-          content_sound p.0 v (check_ok (p.0.code == code) (λ _. child_content reads input start p.0) v p.2).1
+          content_stable p.0 v (check_ok (p.0.code == code) (λ _. child_content reads input start p.0) v p.2).1
 
-      none_sound : (v : Option A) → (done None).outcome ≡ Ok v → IsSoundOptional format v
-      none_sound v e = subst (IsSoundOptional format) (is_value None v e) (refl, λ small. tt)
+      none_stable : (v : Option A) → (done None).outcome ≡ Ok v → IsStableOptional format v
+      none_stable v e = subst (IsStableOptional format) (is_value None v e) (refl, λ small. tt)
 
-      if_named_sound : (c : Frame) (b : Bool) (v : Option A)
+      if_named_stable : (c : Frame) (b : Bool) (v : Option A)
           → (cond b (child_content reads input start c >>= λ v. done (Some v)) (done None)).outcome ≡ Ok v
-          → IsSoundOptional format v
-      if_named_sound c true v e =
+          → IsStableOptional format v
+      if_named_stable c true v e =
           let p = value_first (child_content reads input start c) (λ v. done (Some v)) v e in
-          let is = content_sound c p.0 p.1 in
-          subst (IsSoundOptional format) (is_value (Some p.0) v p.2) (ap (λ (u : A). Some u) is.0, is.1)
-      if_named_sound c false v e = none_sound v e
+          let is = content_stable c p.0 p.1 in
+          subst (IsStableOptional format) (is_value (Some p.0) v p.2) (ap (λ (u : A). Some u) is.0, is.1)
+      if_named_stable c false v e = none_stable v e
 
-      if_more_sound : (code : ℕ) (b : Bool) (v : Option A)
+      if_more_stable : (code : ℕ) (b : Bool) (v : Option A)
           → (cond b (child_head input long o >>= λ c. content_if_named reads code input start c) (done None)).outcome
-          ≡ Ok v → IsSoundOptional format v
-      if_more_sound code true v e =
+          ≡ Ok v → IsStableOptional format v
+      if_more_stable code true v e =
           let p = value_first (child_head input long o) (λ c. content_if_named reads code input start c) v e in
-          if_named_sound p.0 (p.0.code == code) v p.2
-      if_more_sound code false v e = none_sound v e
+          if_named_stable p.0 (p.0.code == code) v p.2
+      if_more_stable code false v e = none_stable v e
 
-      pub optional_sound : (code : ℕ) (v : Option A) → (optional_child reads code input start long o).outcome ≡ Ok v
-          → IsSoundOptional format v
+      pub optional_stable : (code : ℕ) (v : Option A) → (optional_child reads code input start long o).outcome ≡ Ok v
+          → IsStableOptional format v
       unfolding optional_child
-      optional_sound code v e = if_more_sound code (nat_lt o long) v e
+      optional_stable code v e = if_more_stable code (nat_lt o long) v e

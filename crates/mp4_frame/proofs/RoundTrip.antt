@@ -1,4 +1,4 @@
--- What was written is read back, for every type of boxes with the laws.
+-- A written list of boxes is read back, for every type of boxes with the laws.
 use Rattle.std.proofs.Common.{◌≡◌, ℕ, ◌+◌, ◌-◌, ◌^◌, ◌<◌, ◌≤◌, Bool, List, [], ◌∷◌, ◌++◌, length, map, take, drop}
 use Rattle.std.proofs.Common.{Result, Ok, Err, refl, sym, ap, ◌∙◌, arith, append_assoc, length-append}
 use Rattle.std.specs.List.{AllByRecursion}
@@ -100,8 +100,7 @@ module _ {A : Type 0} (name : A → BoxType) (size : A → ℕ) (Writable : A �
       frame_short B (length x) (length (bytes v)) (code_of (name v)) (omega (arith, long, least)) e1 e2 least
       ∙ frame_fits (length B) (length x) (length (bytes v)) (code_of (name v)) least top (omega (arith, long))
 
-  -- A walk over a written list, where the item of a box is one value. The place of the box and the box decide that
-  -- value.
+  -- A walk over a written list, where the item of a box is one value. The box and its place decide that value.
   module _ {X : Type 0} (item : List ℕ → Frame → Reading (List X)) (value : ℕ → A → X)
       (values : ℕ → List A → List X)
       (no_values : (o : ℕ) → values o [] ≡ [])
@@ -256,7 +255,7 @@ module _ {A : Type 0} (name : A → BoxType) (size : A → ℕ) (Writable : A �
       ∙ take_at (stream bytes vs) (stream bytes ws) (length (stream bytes vs)) refl in
       ap (λ (l : List ℕ). (boxes known reading (x ++ l) (length x)).outcome) front ∙ whole vs h x top
 
-  -- the same, with more boxes after the one that is cut
+  -- such a list, with more boxes after the one that is cut
   pub cut_inside : (vs : List A) → AllByRecursion Writable vs → (v : A) → Writable v
       → (ws : List A) (x : List ℕ) (k : ℕ) → 0 < k → k < length (bytes v)
       → length x + length (stream bytes vs) + length (bytes v) < 2 ^ 64

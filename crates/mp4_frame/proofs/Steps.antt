@@ -1,9 +1,10 @@
 -- Reading boxes, one after the other.
 use Rattle.std.proofs.Common.{◌≡◌, ℕ, ◌<◌, ◌≤◌, Bool, true, false, List, [], ◌∷◌, ◌++◌, length, Result, Ok, Err, refl}
-use Rattle.std.proofs.Common.{sym, ap, subst, ◌∙◌, arith, append_assoc, length-append, inl, inr}
+use Rattle.std.proofs.Common.{sym, ap, subst, ◌∙◌, append_assoc, inl, inr}
 use Rattle.std.specs.Prelude.{nat_lt, ◌||◌, ◌⊎◌}
-use Rattle.std.proofs.lemmas.Bool.{lt-ltb}
+use Rattle.std.proofs.Math.Bool.{or-true, or-false}
 use Rattle.std.proofs.lemmas.List.{append-nil}
+use Rattle.mp4_lemmas.proofs.Lists.{long_enough}
 use Rattle.mp4_frame.specs.Heads.{frame, name_in, end_in}
 use Rattle.mp4_frame.specs.Reading.{Fault, End, Invalid, NotFound, Reading, done, also, and_then, ◌>>=◌, Refuses}
 use Rattle.mp4_frame.specs.Reading.{FaultAs, IsFault, memory}
@@ -17,19 +18,6 @@ use Rattle.mp4_frame.proofs.Walks.{walk_first, walk_none}
 -- the boxes that were read, and then the outcome of the rest
 abbrev pub continue_with : {X : Type 0} → Bool → List X → Reading (List X) → Reading (List X)
 continue_with asks_memory front r = also asks_memory (r >>= λ ys. done (front ++ ys))
-
-or_false : (a : Bool) → (a || false) ≡ a
-or_false true = refl
-or_false false = refl
-
-or_true : (a : Bool) → (a || true) ≡ true
-or_true true = refl
-or_true false = refl
-
-regroup_asks : (a b c : Bool) → (a || (b || (c || false))) ≡ ((a || b) || (c || false))
-regroup_asks true b c = refl
-regroup_asks false true c = refl
-regroup_asks false false c = refl
 
 -- an item that was read moves to the front
 regroup : {X : Type 0} (a b : Bool) (front xs : List X) (c : Bool) (o : Result (List X) Fault)
@@ -62,9 +50,6 @@ refuses_fault errors.IoError k total is t = t ∙ ap (λ (k : Fault). Err k) is
 refuses_fault (errors.InvalidData _) k total is t = t ∙ ap (λ (k : Fault). Err k) is
 refuses_fault _ k total is t = absurd is
 
-long_enough : {A : Type 0} (front : List A) (v : A) → nat_lt 0 (length (front ++ v ∷ [])) ≡ true
-long_enough front v = lt-ltb 0 (length (front ++ v ∷ [])) (omega (arith, length-append front (v ∷ [])))
-
 module _ {X : Type 0} (item : Frame → Reading (List X)) (B : List ℕ) where
   -- a step over a frame whose items are read
   pub step : (a : Bool) (front xs : List X) (o : ℕ) (f : Frame) (total : Reading (List X)) → o < length B
@@ -87,7 +72,7 @@ module _ {X : Type 0} (item : Frame → Reading (List X)) (B : List ℕ) where
   fault_at a front o r total lt is so_far =
       sym (ap (continue_with a front) (walk_first item B o lt ∙ ap (walk_on item (λ e. walk item B e)) is)) ∙ so_far
 
-  -- a frame that faults
+  -- the errors at a frame that faults
   walk_faults_at : (a : Bool) (front : List X) (o : ℕ) (e : Error) (r : Result Frame Fault) (total : Reading (List X))
       → o < length B → frame B o ≡ r → FaultAs (Err e) r
       → continue_with a front (walk item B o) ≡ total → Refuses e total
@@ -118,10 +103,10 @@ module _ {X : Type 0} (item : Frame → Reading (List X)) (B : List ℕ) where
       (ap (λ (r : Reading (List X)). r.outcome) is_item) so_far in
       let flag : (nat_lt 0 (length front) || (item f).asks_memory) ≡ nat_lt 0 (length (front ++ x ∷ [])) =
       ap (λ (r : Reading (List X)). nat_lt 0 (length front) || r.asks_memory) is_item
-      ∙ or_true (nat_lt 0 (length front)) ∙ sym (long_enough front x) in
+      ∙ or-true (nat_lt 0 (length front)) ∙ sym (long_enough front x) in
       subst (λ (b : Bool). continue_with b (front ++ x ∷ []) (walk item B (end_in f)) ≡ total) flag one
 
-  -- out of memory after such an item was read
+  -- the error out of memory after such an item was read
   pub one_refused : (front : List X) (x : X) (o : ℕ) (f : Frame) (total : Reading (List X)) → o < length B
       → frame B o ≡ Ok f → item f ≡ record { asks_memory = true; outcome = Ok (x ∷ []) }
       → continue_with (nat_lt 0 (length front)) front (walk item B o) ≡ total → total.asks_memory ≡ true
@@ -153,7 +138,7 @@ module _ {A : Type 0} (known : BoxType → Bool) (reading : BoxType → List ℕ
       (ap (λ (r : Reading (List A)). r.outcome) item) so_far in
       let flag : (nat_lt 0 (length front) || (box_of known reading B f).asks_memory) ≡ nat_lt 0 (length front) =
       ap (λ (r : Reading (List A)). nat_lt 0 (length front) || r.asks_memory) item
-      ∙ or_false (nat_lt 0 (length front)) in
+      ∙ or-false (nat_lt 0 (length front)) in
       rw (flag, append-nil front) at one
 
   pub item_known : (f : Frame) (v : A) → known (name_in f) ≡ true
@@ -163,7 +148,7 @@ module _ {A : Type 0} (known : BoxType → Bool) (reading : BoxType → List ℕ
       let r = reading_in reading B f in
       let one : box_of known reading B f ≡ (r >>= λ v. memory >>= λ _. done (v ∷ [])) = rw is_known refl in
       let two = bind_ok r (λ v. memory >>= λ _. done (v ∷ [])) v e in
-      one ∙ two ∙ ap (λ (b : Bool). record { asks_memory = b; outcome = Ok (v ∷ []) }) (or_true r.asks_memory)
+      one ∙ two ∙ ap (λ (b : Bool). record { asks_memory = b; outcome = Ok (v ∷ []) }) (or-true r.asks_memory)
 
   item_faults : (a : Bool) (front : List A) (o : ℕ) (f : Frame) (k : Fault) (total : Reading (List A)) → o < length B
       → frame B o ≡ Ok f → known (name_in f) ≡ true → (reading_in reading B f).outcome ≡ Err k
@@ -190,7 +175,7 @@ module _ {A : Type 0} (known : BoxType → Bool) (reading : BoxType → List ℕ
       (λ xs. boxes known reading B (end_in f) >>= λ ys. done (xs ++ ys)) item in
       let w = i >>= λ xs. boxes known reading B (end_in f) >>= λ ys. done (xs ++ ys) in
       let three = and_then_asks w.asks_memory w.outcome (λ ys. done (front ++ ys)) two in
-      ap (λ (r : Reading (List A)). r.asks_memory) (sym one) ∙ ap (λ (b : Bool). a || b) three ∙ or_true a
+      ap (λ (r : Reading (List A)). r.asks_memory) (sym one) ∙ ap (λ (b : Bool). a || b) three ∙ or-true a
 
   -- a frame faults
   pub frame_faults : (a : Bool) (front : List A) (o : ℕ) (e : Error) (total : Reading (List A)) → o < length B

@@ -1,4 +1,4 @@
--- The laws of a box of one counted table follow from those of its entries.
+-- The laws of a box of one counted table, from the laws of its entries.
 use Rattle.std.proofs.Common.{◌≡◌, ℕ, ◌<◌, ◌^◌, List, [], length, Ok, refl, sym, ap, subst, ◌∙◌}
 use Rattle.std.proofs.lemmas.List.{append-nil}
 use Rattle.mp4_frame.specs.BoxType.{code_of}
@@ -53,7 +53,7 @@ module _ {X V : Type 0} {row_of : X → List ℕ} {entry_of : List ℕ → X} {F
     read_back = λ v w rest start top.
         table_back make row_of entry_of Fits e (code_of name) some coded entry.long entry.back entry.fits
         (table v).version (table v).flags (table v).entries rest w ∙ ap (λ (u : V). Ok u) (whole v);
-    sound = λ bytes start long v are read.
+    stable = λ bytes start long v are read.
         let p = table_read make row_of entry_of Fits e (code_of name) some coded entry.long entry.back entry.fits bytes
         long v are read in
         let can = λ (t : TableOf X). size_table e t.entries < 2 ^ 32

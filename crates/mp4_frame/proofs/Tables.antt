@@ -7,10 +7,11 @@ use Rattle.std.proofs.lemmas.Nat.{div-mul-add}
 use Rattle.std.specs.Simd.{first_chunks}
 use Rattle.std.specs.List.{flat_map, AllByRecursion}
 use Rattle.std.proofs.lemmas.List.Elements.{All-from_recursion, recursion_from_All}
-use Rattle.std.proofs.lemmas.List.{append_assoc, drop_at, take_at, length-append}
+use Rattle.std.proofs.lemmas.List.{append_assoc, drop_at, take_at, length-append, length-map}
 use Rattle.std.proofs.lemmas.Bool.{lt-ltb, le-leb}
 use Rattle.std.proofs.lemmas.Nat.{le-div}
 use Rattle.std.proofs.Math.Nat.{mul-le-mul_right}
+use Rattle.mp4_lemmas.proofs.Lists.{length_flat, map_back}
 use Rattle.mp4_frame.specs.Bytes.{number, bytes_of_fields, FieldsFit}
 use Rattle.mp4_frame.specs.Laws.{AreBytes, BeginsWithHeader}
 use Rattle.mp4_frame.specs.BoxType.{code_of}
@@ -37,7 +38,7 @@ first_rows B o e (suc n) =
     ∙ ap (take (n * e)) (drop-drop e o B) in
     rw (head, rest, first_rows B (o + e) e n) refl
 
--- a reading that has a value in the end has a value in its first part
+-- a reading that has a value has a value in its first part
 pub value_first : {A C : Type 0} (r : Reading A) (g : A → Reading C) (y : C) → (r >>= g).outcome ≡ Ok y
     → (x : A) × (r.outcome ≡ Ok x) × ((g x).outcome ≡ Ok y)
 value_first {A = A} {C = C} r g y h = by r.asks_memory r.outcome refl h
@@ -101,10 +102,6 @@ rows_past_all B o e n fits past =
     rw (some, over) refl
 
 module _ {X : Type 0} (f : X → List ℕ) (e : ℕ) (Fits : X → Type 0) (each : (x : X) → Fits x → length (f x) ≡ e) where
-  pub length_flat : (xs : List X) → AllByRecursion Fits xs → length (flat_map f xs) ≡ e * length xs
-  length_flat [] h = omega arith
-  length_flat (x ∷ xs) h = omega (arith, length-append (f x) (flat_map f xs), each x h.0, length_flat xs h.1)
-
   -- the rows of entries, among other bytes
   pub rows_back : (p : List ℕ) (xs : List X) (y : List ℕ) (o : ℕ) → AllByRecursion Fits xs → length p ≡ o
       → rows (p ++ (flat_map f xs ++ y)) o e (length xs) ≡ map f xs
@@ -126,10 +123,16 @@ module _ {X : Type 0} (f : X → List ℕ) (e : ℕ) (Fits : X → Type 0) (each
   rows_at_back p xs y o h at =
       let B = p ++ (flat_map f xs ++ y) in
       let room : o + length xs * e ≤ length B =
-      omega (arith, length-append p (flat_map f xs ++ y), length-append (flat_map f xs) y, length_flat xs h, at) in
+      omega (
+        arith,
+        length-append p (flat_map f xs ++ y),
+        length-append (flat_map f xs) y,
+        length_flat f e Fits each xs h,
+        at,
+      ) in
       rw (expect_bytes_present B o (length xs * e) room, rows_back p xs y o h at) refl
 
-  -- what was written as a counted table is read back
+  -- a written counted table is read back
   pub counted_rows_back : (code version flags : ℕ) (xs : List X) (y : List ℕ) → 0 < e → AllByRecursion Fits xs
       → FieldsFit (fields_table (size_table e xs) code version flags (length xs))
       → (counted_rows ((bytes_of_fields (fields_table (size_table e xs) code version flags (length xs))
@@ -152,13 +155,7 @@ module _ {X : Type 0} (f : X → List ℕ) (e : ℕ) (Fits : X → Type 0) (each
       rw (head, many, fit, body, v, g) refl in
       ap (λ (l : List ℕ). (counted_rows l size e).outcome) (append_assoc (bytes_of_fields cs) (flat_map f xs) y) ∙ whole
 
--- every entry is read back from its row
-pub map_back : {X : Type 0} (f : X → List ℕ) (of_row : List ℕ → X) (Fits : X → Type 0)
-    → ((x : X) → Fits x → of_row (f x) ≡ x) → (xs : List X) → AllByRecursion Fits xs → map of_row (map f xs) ≡ xs
-map_back f of_row Fits back [] h = refl
-map_back f of_row Fits back (x ∷ xs) h = rw (back x h.0, map_back f of_row Fits back xs h.1) refl
-
--- ---- what is read from bytes
+-- ---- values that are read from bytes
 
 -- a row of e bytes
 pub record IsRow (e : ℕ) (row : List ℕ) : Type 0 where
@@ -227,20 +224,8 @@ pub map_all : {X : Type 0} (e : ℕ) (entry_of : List ℕ → X) (Fits : X → T
 map_all e entry_of Fits each [] h = tt
 map_all e entry_of Fits each (row ∷ found) h = (each row h.0, map_all e entry_of Fits each found h.1)
 
-pub length_map : {X : Type 0} (entry_of : List ℕ → X) (found : List (List ℕ))
-    → length (map entry_of found) ≡ length found
-length_map entry_of [] = refl
-length_map entry_of (row ∷ found) = ap suc (length_map entry_of found)
-
--- a table of fewer than 2 ^ 32 bytes has fewer than 2 ^ 32 entries
-pub few_entries : (e n : ℕ) → 0 < e → 16 + e * n < 2 ^ 32 → n < 2 ^ 32
-few_entries e n pos small =
-    let one : 1 ≤ e = omega arith in
-    let times : 1 * n ≤ e * n = mul-le-mul_right n one in
-    omega (arith, times)
-
--- The laws of a box of one table, from the laws of its entries: a row has e bytes, an entry that fits is read
--- back from its row, and an entry that was read fits.
+-- The laws of a box of one table, from the laws of its entries. A row has e bytes, an entry that fits is read back from
+-- its row, and an entry that was read fits.
 module _ {X V : Type 0} (make : ℕ → ℕ → List X → V) (row_of : X → List ℕ) (entry_of : List ℕ → X) (Fits : X → Type 0)
     (e code : ℕ) (pos : 0 < e) (coded : code < 256 ^ 4)
     (long : (x : X) → Fits x → length (row_of x) ≡ e) (back : (x : X) → Fits x → entry_of (row_of x) ≡ x)
@@ -283,7 +268,7 @@ module _ {X V : Type 0} (make : ℕ → ℕ → List X → V) (row_of : X → Li
       (λ (t : Table). memory >>= λ _. done (make t.version t.flags (map entry_of t.rows))) v h in
       let t = counted_rows_read B size e p.0 pos are p.1 in
       let xs = map entry_of p.0.rows in
-      let count : length xs < 256 ^ 4 = omega (arith, t.2, length_map entry_of p.0.rows) in (
+      let count : length xs < 256 ^ 4 = omega (arith, t.2, length-map p.0.rows entry_of) in (
         p.0.version,
         p.0.flags,
         xs,

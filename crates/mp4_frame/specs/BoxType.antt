@@ -7,7 +7,7 @@ use Rattle.mp4_frame.specs.declared.codes.TheConstants as codes
 use Rattle.mp4_frame.specs.declared.box_type.BoxType.{BoxType}
 use Rattle.mp4_frame.specs.declared.box_type.BoxType.TheVariants as names
 
--- the table of the named codes
+-- the named codes, each with its name
 abbrev pub named_codes : List (ℕ × BoxType)
 named_codes =
     (codes.FTYP, names.FtypBox)
@@ -70,7 +70,7 @@ abbrev pub look_up : List (ℕ × BoxType) → ℕ → BoxType
 look_up [] n = names.UnknownBox n
 look_up (c ∷ cs) n = if n == c.0 then c.1 else look_up cs n
 
--- the name of a code
+-- the name that a code gives
 unfoldable pub name_of : ℕ → BoxType
 name_of n = look_up named_codes n
 
@@ -133,12 +133,12 @@ code_of names.NameBox = codes.NAME
 code_of names.DayBox = codes.DAY
 code_of (names.UnknownBox n) = n
 
--- an UnknownBox whose number is a named code
+-- true for an UnknownBox whose number is a named code
 abbrev pub is_disguised : BoxType → Bool
 is_disguised (names.UnknownBox n) = list_any (λ c. n == c.0) named_codes
 is_disguised _ = false
 
--- the code of each entry is the code of its name
+-- each code in the table is the code of its name
 abbrev pub AreCoded : List (ℕ × BoxType) → Type 0
 AreCoded [] = Unit {0}
 AreCoded (c ∷ cs) = (code_of c.1 ≡ c.0) × AreCoded cs
@@ -153,7 +153,7 @@ code_of-look_up [] h n = refl
 code_of-look_up (c ∷ cs) h n =
     chosen (n == c.0) n c.1 (look_up cs n) (λ e. h.0 ∙ sym (eqb-true n c.0 e)) (code_of-look_up cs h.1 n)
 
--- the code of the name of n is n
+-- the code of the name that n gives is n
 pub code_of-name_of : (n : ℕ) → code_of (name_of n) ≡ n
 unfolding name_of
 code_of-name_of n = code_of-look_up named_codes (
@@ -320,14 +320,14 @@ code_of-name_of n = code_of-look_up named_codes (
   ),
 ) n
 
--- the name of a number that is no named code is an UnknownBox of that number
+-- a number that is no named code gives an UnknownBox of that number
 unnamed : (cs : List (ℕ × BoxType)) (n : ℕ) → list_any (λ c. n == c.0) cs ≡ false → look_up cs n ≡ names.UnknownBox n
 unnamed [] n h = refl
 unnamed (c ∷ cs) n h = let p =
     or_parts (n == c.0) (list_any (λ c. n == c.0) cs) h in ap (λ (b : Bool). if b then c.1 else look_up cs n) p.0
     ∙ unnamed cs n p.1
 
--- the name of the code of a name is that name
+-- the code of a name gives that name, unless the name is an UnknownBox with a named code
 pub name_of-code_of : (name : BoxType) → is_disguised name ≡ false → name_of (code_of name) ≡ name
 unfolding name_of
 name_of-code_of (names.UnknownBox n) h = unnamed named_codes n h

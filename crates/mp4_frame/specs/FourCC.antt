@@ -12,10 +12,11 @@ IsFourCCOf text (Ok c) = (length text ≡ 4) × (c.value ≡ text)
 IsFourCCOf text (Err (errors.InvalidData _)) = length text ≡ 4 → ⊥
 IsFourCCOf text (Err _) = ⊥
 
--- the code of a number, and the number of a code
+-- the code of a number
 abbrev pub four_cc_of : ℕ → FourCC
 four_cc_of n = record { value = be_bytes 4 n }
 
+-- the number of a code
 abbrev pub number_of : FourCC → ℕ
 number_of c = number c.value 0 4
 

@@ -1,4 +1,4 @@
--- The header of a box (ISO/IEC 14496-12, 4.2): what it says, and the frame that this is in a buffer.
+-- The header of a box (ISO/IEC 14496-12, 4.2): the frame that it gives, and the frame of the whole box in a buffer.
 use Rattle.std.specs.Prelude.{ℕ, ◌+◌, ◌-◌, ◌^◌, ◌==◌, ◌||◌, nat_lt, nat_le, List, [], ◌∷◌, length, Result, Ok, Err}
 use Rattle.std.specs.Prelude.{if◌then◌else◌}
 use Rattle.mp4_frame.specs.Bytes.{number, bytes_of_fields}
@@ -8,22 +8,22 @@ use Rattle.mp4_frame.specs.declared.box_type.BoxType.{BoxType}
 use Rattle.mp4_frame.specs.declared.box_header.BoxHeader.{BoxHeader}
 use Rattle.mp4_frame.specs.declared.frame.Frame.{Frame}
 
--- What the header at o says: the code of the box, its start and its size from there. The start is 8 bytes before the
--- content, so that the box ends at start + size in both forms of a header.
+-- The header at o gives the code of the box, its start, and its size from there. The start is 8 bytes before the
+-- content, so the box ends at start + size in both forms of a header.
 
--- the form with the size in the four bytes before the code
+-- the form with a 32-bit size before the code
 abbrev pub compact_head : List ℕ → ℕ → Reading Frame
 compact_head bytes o =
     done (record { code = number bytes (o + 4) 4; begin = o; start = o; size = number bytes o 4 })
 
--- the form with the size in the eight bytes after the code: 0, or at least 16
+-- the form with a 64-bit size after the code; that size is 0 or at least 16
 abbrev pub large_head : List ℕ → ℕ → Reading Frame
 large_head bytes o = do
   _ ← expect_bytes bytes (o + 8) 8
   _ ← check ((number bytes (o + 8) 8 == 0) || nat_le 16 (number bytes (o + 8) 8))
   done (record { code = number bytes (o + 4) 4; begin = o; start = o + 8; size = number bytes (o + 8) 8 - 8 })
 
--- a size of 1 in the four bytes before the code means that the form with eight bytes is used
+-- a 32-bit size of 1 means that the header has the form with a 64-bit size
 unfoldable pub head : List ℕ → ℕ → Reading Frame
 head bytes o = do
   _ ← expect_bytes bytes o 8
@@ -36,11 +36,12 @@ header_of h = record { name = name_of h.code; size = h.size }
 abbrev pub header : List ℕ → ℕ → Reading BoxHeader
 header bytes o = head bytes o >>= λ h. done (header_of h)
 
--- how many bytes the header at o has
+-- the number of bytes of the header at o
 abbrev pub header_length : List ℕ → ℕ → ℕ
 header_length bytes o = if number bytes o 4 == 1 then 16 else 8
 
--- the fields of a header as it is written: a size of 4 bytes, or 1 and a size of 8 bytes that counts these 8 too
+-- The fields of a written header. The first is a size of 4 bytes, or a 1 if a size of 8 bytes follows the code. The
+-- size of 8 bytes counts these 8 bytes too.
 abbrev pub fields_header : BoxHeader → List (ℕ × ℕ)
 fields_header h =
     if nat_lt h.size (2 ^ 32) then (4, h.size) ∷ (4, code_of h.name) ∷ [] else (4, 1) ∷ (4, code_of h.name)
@@ -55,7 +56,7 @@ header_ext bytes o = do
   _ ← expect_bytes bytes o 4
   done (number bytes o 1, number bytes (o + 1) 3)
 
--- what a frame says of its box: its name, where its content begins, and where it ends
+-- the name of a frame's box, and the offsets where its content begins and where it ends
 abbrev pub name_in : Frame → BoxType
 name_in f = name_of f.code
 
@@ -65,7 +66,8 @@ content_in f = f.start + 8
 abbrev pub end_in : Frame → ℕ
 end_in f = f.start + f.size
 
--- the frame of a box, by what its header says, in a buffer of len bytes. A size of 0 means up to the end of the buffer
+-- The frame of a whole box in a buffer of len bytes, from the frame that its header gives. A size of 0 means up to the
+-- end of the buffer.
 unfoldable pub frame_of_head : ℕ → Frame → Result Frame Fault
 frame_of_head len h =
     if h.size == 0 then Ok (record h { size = len - h.start }) else
@@ -78,6 +80,6 @@ abbrev pub frame_of : ℕ → Result Frame Fault → Result Frame Fault
 frame_of len (Ok h) = frame_of_head len h
 frame_of len (Err k) = Err k
 
--- the frame of the box at o
+-- the frame of the whole box at o
 abbrev pub frame : List ℕ → ℕ → Result Frame Fault
 frame bytes o = frame_of (length bytes) (head bytes o).outcome

@@ -1,11 +1,11 @@
--- What the laws of a box say.
+-- The statements of the laws of a box.
 use Rattle.std.specs.Prelude.{◌≡◌, ℕ, ◌+◌, ◌<◌, ◌≤◌, ◌^◌, Bool, true, List, ◌++◌, length, Ok, slice_index}
 use Rattle.mp4_frame.specs.Bytes.{number}
 use Rattle.mp4_frame.specs.BoxType.{name_of, code_of}
 use Rattle.mp4_frame.specs.Reading.{Reading}
 use Rattle.mp4_frame.specs.declared.box_type.BoxType.{BoxType}
 
--- the number of a box's bytes is its size, which fits 32 bits, and they begin with the size and the code
+-- The number of a box's bytes is its size, which fits 32 bits. The bytes begin with the size and the code.
 pub record BeginsWithHeader (size : ℕ) (name : BoxType) (bytes : List ℕ) : Type 0 where
   pub long : length bytes ≡ size
   pub least : 8 ≤ size
@@ -24,7 +24,7 @@ abbrev pub ReadsBack : {A : Type 0} → (List ℕ → ℕ → ℕ → Reading A)
 ReadsBack reading bytes v = (x y : List ℕ) → length x + length bytes < 2 ^ 64
     → (reading (x ++ (bytes ++ y)) (length x) (length bytes)).outcome ≡ Ok v
 
--- the same with no bytes after them
+-- the bytes are read as v, with any bytes before them and none after them, if they end below 2^64
 abbrev pub ReadsBackAtEnd : {A : Type 0} → (List ℕ → ℕ → ℕ → Reading A) → List ℕ → A → Type 0
 ReadsBackAtEnd reading bytes v = (x : List ℕ) → length x + length bytes < 2 ^ 64
     → (reading (x ++ bytes) (length x) (length bytes)).outcome ≡ Ok v
@@ -44,8 +44,8 @@ ContentReadsBack reads bytes size v = (rest : List ℕ) (start : ℕ) → start 
     → (reads (bytes ++ rest) start size).outcome ≡ Ok v
 
 -- a value that was read is its own normal form, and can be written unless it is too large
-abbrev pub ContentIsSound : {A : Type 0} → (List ℕ → ℕ → ℕ → Reading A) → (A → Type 0) → (A → ℕ) → (A → A) → Type 0
-ContentIsSound {A} reads Writable size normal = (bytes : List ℕ) (start long : ℕ) (v : A) → AreBytes bytes
+abbrev pub ContentIsStable : {A : Type 0} → (List ℕ → ℕ → ℕ → Reading A) → (A → Type 0) → (A → ℕ) → (A → A) → Type 0
+ContentIsStable {A} reads Writable size normal = (bytes : List ℕ) (start long : ℕ) (v : A) → AreBytes bytes
     → (reads bytes start long).outcome ≡ Ok v → (normal v ≡ v) × (size v < 2 ^ 32 → Writable v)
 
 -- the bytes are a whole box of this code: its header has 8 bytes, and the size in it is their number

@@ -16,7 +16,7 @@ pub mod Heads
 pub mod Children
 pub mod OneChild
 pub mod OptionalChild
-pub mod Parent
+pub mod FieldsThenChild
 pub mod Streams
 pub mod Spans
 pub mod Tables

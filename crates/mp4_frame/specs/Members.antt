@@ -5,7 +5,7 @@ use Rattle.mp4_frame.specs.Format.{Format}
 use Rattle.mp4_frame.specs.Reading.{Reading, Invalid, faults, map_reading, reading}
 use Rattle.mp4_frame.specs.declared.box_type.BoxType.{BoxType}
 
--- one type of boxes that E holds: how it is read and written, and how its values become members of E
+-- one type of boxes that E holds: its reading, its format, and the way its values become members of E
 pub record Kind (E : Type 0) : Type 1 where
   pub Value : Type 0
   pub reads : List ℕ → ℕ → ℕ → Reading Value
@@ -28,7 +28,7 @@ abbrev pub reading_known : {E : Type 0} → Known E → List ℕ → ℕ → ℕ
 reading_known (Is k) bytes start size = map_reading k.wrap (reading k.reads bytes start size)
 reading_known Unknown bytes start size = faults Invalid
 
--- what the format says of one member of E; its normal form is a member of E too
+-- the format's values for one member of E; the normal form is a member of E too
 pub record Held (E : Type 0) : Type 1 where
   pub name : BoxType
   pub size : ℕ
@@ -56,17 +56,17 @@ format_held held = record {
   normal = λ v. (held v).normal;
 }
 
--- the values of the type that a name gives; any value where there is no type
+-- the values of the type that a name gives, or the unit type if the name gives none
 abbrev pub ValueOf : {E : Type 0} → Known E → Type 0
 ValueOf (Is k) = k.Value
 ValueOf Unknown = Unit {0}
 
--- the name that such a value has as a member; the given name where there is no type
+-- the name of such a value as a member, or the given name if it gives no type
 abbrev pub name_of_value : {E : Type 0} → (E → Held E) → BoxType → (k : Known E) → ValueOf k → BoxType
 name_of_value held name (Is k) x = (held (k.wrap x)).name
 name_of_value held name Unknown x = name
 
--- a box that is read under a name has a name of the same code, and is read alike under both
+-- a box that is read under a name has a name of the same code, and is read alike under both names
 abbrev pub NamedAsRead : {E : Type 0} → (BoxType → Known E) → (E → Held E) → Type 1
 NamedAsRead kinds held = (name : BoxType) (x : ValueOf (kinds name)) →
     (code_of (name_of_value held name (kinds name) x) ≡ code_of name)
@@ -81,7 +81,7 @@ pub record SomeBox : Type 1 where
 abbrev pub some_box : {A : Type 0} → Format A → A → SomeBox
 some_box {A} format v = record { Value = A; format = format; value = v }
 
--- the box inside a member of E, and how the values of its type become members of E
+-- the box inside a member of E, and the way the values of its type become members of E
 pub record Inside (E : Type 0) : Type 1 where
   pub box : SomeBox
   pub wrap : box.Value → E
@@ -89,6 +89,6 @@ pub record Inside (E : Type 0) : Type 1 where
 abbrev pub boxed : {A E : Type 0} → Format A → (A → E) → A → Inside E
 boxed format wrap v = record { box = some_box format v; wrap = wrap }
 
--- what its format says of the box inside a member
+-- the format's values for the box inside a member
 abbrev pub held_inside : {E : Type 0} → (E → Inside E) → E → Held E
 held_inside inside v = holds (inside v).box.format (inside v).wrap (inside v).box.value

@@ -1,4 +1,5 @@
--- A child that a box may lack: 0 or 1 of them, with size, bytes and normal form by the format of the child's type.
+-- A child that a box may lack. There is 0 or 1 of them, and its size, bytes and normal form are those of its type's
+-- format.
 use Rattle.std.specs.Prelude.{ℕ, List, [], Option, Some, None}
 use Rattle.mp4_frame.specs.Format.{Format}
 

@@ -1,4 +1,4 @@
--- Reading a buffer gives a value or the first fault, and says whether memory is asked for before that fault.
+-- The reading of a buffer: a value or the first fault, and whether memory is requested before that fault.
 use Rattle.std.specs.Prelude.{◌≡◌, ℕ, ◌+◌, Bool, true, false, ◌||◌, ◌&&◌, ◌^◌, nat_lt, List, length, take, drop, Result}
 use Rattle.std.specs.Prelude.{Ok, Err, if◌then◌else◌}
 use Rattle.mp4_frame.specs.declared.error.Error.{Error}
@@ -11,7 +11,7 @@ pub data Fault : Type 0 where
   Invalid : Fault
   NotFound : BoxType → Fault
 
--- the outcome of a reading, and whether it asks for memory before the first fault
+-- the outcome of a reading, and whether memory is requested before the first fault
 pub record Reading (A : Type 0) : Type 0 where
   pub asks_memory : Bool
   pub outcome : Result A Fault
@@ -33,25 +33,25 @@ infixl 10 ◌>>=◌
 abbrev pub ◌>>=◌ : {A B : Type 0} → Reading A → (A → Reading B) → Reading B
 r >>= f = and_then r.asks_memory r.outcome f
 
--- a condition that is checked
+-- a check of a condition
 abbrev pub check : Bool → Reading (Unit {0})
 check b = if b then done tt else faults Invalid
 
--- the w bytes at o are expected; this never fails where w is 0
+-- a check that the w bytes at o are present; it never fails if w is 0
 abbrev pub expect_bytes : List ℕ → ℕ → ℕ → Reading (Unit {0})
 expect_bytes B o w = if nat_lt 0 w && nat_lt (length B) (o + w) then faults End else done tt
 
--- the w bytes at o, which are expected
+-- the w bytes at o, which must be present
 abbrev pub piece_at : List ℕ → ℕ → ℕ → Reading (List ℕ)
 piece_at bytes o w = do
   _ ← expect_bytes bytes o w
   done (take w (drop o bytes))
 
--- from here on a call may be out of memory
+-- a request for memory; every reading that contains it may be out of memory
 abbrev pub memory : Reading (Unit {0})
 memory = record { asks_memory = true; outcome = Ok tt }
 
--- the error of a fault, other than a missing child
+-- the error is that of the fault; no error is that of a missing child
 abbrev pub IsFault : Error → Fault → Type 0
 IsFault errors.IoError k = k ≡ End
 IsFault (errors.InvalidData _) k = k ≡ Invalid
@@ -63,7 +63,7 @@ FaultAs (Ok v) r = r ≡ Ok v
 FaultAs (Err e) (Ok v) = ⊥
 FaultAs (Err e) (Err k) = IsFault e k
 
--- the same reading, with f applied to its value
+-- the reading with f applied to its value
 abbrev pub map_reading : {A C : Type 0} → (A → C) → Reading A → Reading C
 map_reading f r = r >>= λ v. done (f v)
 
@@ -75,7 +75,8 @@ Refuses (errors.BoxNotFound name) r = r.outcome ≡ Err (NotFound name)
 Refuses errors.OutOfMemory r = r.asks_memory ≡ true
 Refuses _ r = ⊥
 
--- what a call may return for this reading: a value whose view is the reading's value, or one of the errors above
+-- the result that a call may return for this reading: a value whose view is the reading's value, or one of the errors
+-- above
 abbrev pub AnswersAs : {A C : Type 0} → (A → C) → Result A Error → Reading C → Type 0
 AnswersAs view (Ok v) r = r.outcome ≡ Ok (view v)
 AnswersAs view (Err e) r = Refuses e r
@@ -93,7 +94,7 @@ NeverOutOfMemory _ = Unit {0}
 abbrev pub TakesNone : {A : Type 0} → Reading A → Type 0
 TakesNone r = r.asks_memory ≡ false
 
--- Reading a box: the function `row` reads the bytes from the box's start on. The box's end, start + size, is checked
--- to be below 2^64.
+-- The reading of a box in a buffer. The function `row` reads the bytes starting at the box's start. The box's end,
+-- start + size, is checked to be below 2^64.
 abbrev pub reading : {A : Type 0} → (List ℕ → ℕ → ℕ → Reading A) → List ℕ → ℕ → ℕ → Reading A
 reading row bytes start size = check (nat_lt (start + size) (2 ^ 64)) >>= λ _. row (drop start bytes) start size

@@ -1,11 +1,11 @@
--- What is read back from its own bytes is read back from a buffer.
+-- A box that is read back from its own bytes is read back from a buffer.
 use Rattle.std.proofs.Common.{◌≡◌, ℕ, ◌+◌, ◌<◌, ◌^◌, Bool, true, ltb, List, ◌++◌, length, drop, refl, ap, ◌∙◌, arith}
 use Rattle.std.proofs.lemmas.Bool.{lt-ltb}
 use Rattle.std.proofs.lemmas.List.{drop_at}
 use Rattle.mp4_frame.specs.Laws.{ContentReadsBack, ReadsBack}
 use Rattle.mp4_frame.specs.Reading.{Reading, ◌>>=◌, check, reading}
 
--- what is read back at the front of a buffer is read back among any bytes
+-- a value that is read back at the front of a buffer is read back with any bytes before and after it
 pub reads_back : {A : Type 0} (reads : List ℕ → ℕ → ℕ → Reading A) (bytes : List ℕ) (size : ℕ) (v : A)
     → length bytes ≡ size → ContentReadsBack reads bytes size v → ReadsBack (reading reads) bytes v
 reads_back {A} reads bytes size v long back x y top =

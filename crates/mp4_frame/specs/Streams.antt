@@ -6,11 +6,11 @@ use Rattle.mp4_frame.specs.Heads.{frame, name_in, end_in}
 use Rattle.mp4_frame.specs.declared.box_type.BoxType.{BoxType}
 use Rattle.mp4_frame.specs.declared.frame.Frame.{Frame}
 
--- the bytes of the members, joined
+-- the bytes of all members, one after the other
 abbrev pub stream : {A : Type 0} → (A → List ℕ) → List A → List ℕ
 stream bytes vs = flat_map bytes vs
 
--- the item of a frame, and then those of the rest of the buffer
+-- the item of a frame, and then the items of the rest of the buffer
 abbrev pub walk_on : {X : Type 0} → (Frame → Reading (List X)) → (ℕ → Reading (List X)) → Result Frame Fault
     → Reading (List X)
 walk_on item rest (Err k) = faults k
@@ -19,17 +19,18 @@ walk_on item rest (Ok f) = do
   ys ← rest (end_in f)
   done (xs ++ ys)
 
--- the items of the frames from o on, n frames at most, one after the other
+-- the items of at most n frames, one after the other, the first of them at o
 unfoldable pub walk_at_most : {X : Type 0} → (Frame → Reading (List X)) → List ℕ → ℕ → ℕ → Reading (List X)
 walk_at_most item B zero o = done []
 walk_at_most item B (suc n) o =
     if nat_le (length B) o then done [] else walk_on item (λ e. walk_at_most item B n e) (frame B o)
 
--- the items of all frames from o on. Each frame has at least one byte, so the buffer's length bounds their number
+-- The items of all frames, the first of them at o. Each frame has at least one byte, so the buffer's length bounds
+-- their number.
 abbrev pub walk : {X : Type 0} → (Frame → Reading (List X)) → List ℕ → ℕ → Reading (List X)
 walk item B o = walk_at_most item B (length B) o
 
--- what is read of the box in a frame
+-- the reading of the box of a frame
 abbrev pub reading_in : {A : Type 0} → (BoxType → List ℕ → ℕ → ℕ → Reading A) → List ℕ → Frame → Reading A
 reading_in reading B f = reading (name_in f) B f.start f.size
 
@@ -42,12 +43,12 @@ box_of known reading B f =
       kept ← memory
       done (v ∷ [])) else done []
 
--- the boxes from o on
+-- the boxes starting at o
 abbrev pub boxes : {A : Type 0} → (BoxType → Bool) → (BoxType → List ℕ → ℕ → ℕ → Reading A) → List ℕ → ℕ
     → Reading (List A)
 boxes known reading B o = walk (box_of known reading B) B o
 
--- a box that is read and appended to the boxes in front, which takes memory
+-- the boxes in front, followed by a box that is read, which takes memory
 abbrev pub append_read : {A : Type 0} → List A → Reading A → Reading (List A)
 append_read front r = do
   v ← r

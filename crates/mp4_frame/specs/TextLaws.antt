@@ -4,7 +4,7 @@ use Rattle.std.proofs.lemmas.Str.{IsUtf8-from_is_utf8, is_utf8-from_IsUtf8}
 use Rattle.std.specs.Str.{IsUtf8, is_utf8}
 use Rattle.mp4_frame.specs.Text.{text_or}
 
--- the check of bytes that are UTF-8 passes
+-- bytes that are UTF-8 pass the check
 pub utf8_passes : (bytes : List ℕ) → IsUtf8 bytes → is_utf8 bytes ≡ true
 utf8_passes bytes is = is_utf8-from_IsUtf8 bytes is
 

@@ -1,4 +1,4 @@
-//! A type that holds boxes of several types, such as an enum of them, is read and written as these boxes are.
+//! Types that hold boxes of several types, such as an enum of them. They are read and written as these boxes are.
 
 ghost use Rattle.std.specs.Prelude.{◌≡◌, ℕ, ◌+◌, ◌-◌, ◌^◌, ◌≤◌, ◌↔◌, min, max, IsTrue, List, length, OnOk, OnErr};
 ghost use Rattle.mp4_frame.specs.Members.{Known, is_known, reading_known, format_held, NamedAsRead, SomeBox, some_box};
@@ -13,100 +13,102 @@ use crate::error::Result;
 use crate::traits::{Mp4Box, StreamBox, WriteBox};
 use std::alloc::Global;
 
-/// What is asked of a box, whatever its type.
-pub trait Question {
+/// A visitor, which answers a question about a box of any type.
+pub trait BoxVisitor {
     /// The type of the answer.
     type Answer;
 
-    /// What has to hold of the box, and of the length of the slice.
-    ghost can_ask: { SomeBox → ℕ → Type 0 } = { λ _ _. Unit {0} };
+    /// The condition on the box and on the length of the slice under which the visitor may be called.
+    ghost can_visit: { SomeBox → ℕ → Type 0 } = { λ _ _. Unit {0} };
 
-    /// What holds of the box, the bytes of the slice afterwards, and the answer.
+    /// The relation between the box, the bytes of the slice after the call, and the answer.
     ghost answers: { SomeBox → List ℕ → Self.Answer → Type 0 };
 
-    /// Asks a box. The slice is for an answer in bytes.
-    fn ask<B: WriteBox>(value: &B, out: &mut [u8]) -> Self::Answer
-        requires { can_ask (some_box B.format value.now) (length out.old) }
+    /// Returns the answer for the box `value`. An answer in bytes is put into `out`.
+    fn visit<B: WriteBox>(value: &B, out: &mut [u8]) -> Self::Answer
+        requires { can_visit (some_box B.format value.now) (length out.old) }
         ensures { answers (some_box B.format value.now) out.new result };
 }
 
-/// What is its name?
+/// The visitor that returns a box's name.
 struct Name;
 
-impl Question for Name {
+impl BoxVisitor for Name {
     type Answer = BoxType;
 
     ghost answers = { λ box _ answer. answer ≡ box.format.name box.value };
 
-    fn ask<B: WriteBox>(value: &B, _out: &mut [u8]) -> BoxType {
+    fn visit<B: WriteBox>(value: &B, _out: &mut [u8]) -> BoxType {
         value.box_type()
     }
 }
 
-/// In how many bytes is it written?
+/// The visitor that returns a box's size in bytes.
 struct Size;
 
-impl Question for Size {
+impl BoxVisitor for Size {
     type Answer = u64;
 
     ghost answers = { λ box _ answer. answer ≡ min (box.format.size box.value) (2 ^ 64 - 1) };
 
-    fn ask<B: WriteBox>(value: &B, _out: &mut [u8]) -> u64 {
+    fn visit<B: WriteBox>(value: &B, _out: &mut [u8]) -> u64 {
         value.box_size()
     }
 }
 
-/// Can it be written?
+/// The visitor that returns whether a box can be written.
 struct CanWrite;
 
-impl Question for CanWrite {
+impl BoxVisitor for CanWrite {
     type Answer = bool;
 
     ghost answers = { λ box _ answer. IsTrue answer ↔ box.format.Writable box.value };
 
-    fn ask<B: WriteBox>(value: &B, _out: &mut [u8]) -> bool {
+    fn visit<B: WriteBox>(value: &B, _out: &mut [u8]) -> bool {
         value.is_writable()
     }
 }
 
-/// In which bytes?
+/// The visitor that fills a slice with a box's bytes.
 struct Put;
 
-impl Question for Put {
+impl BoxVisitor for Put {
     type Answer = ();
 
-    ghost can_ask = { λ box room. box.format.Writable box.value × (room ≡ box.format.size box.value) };
+    ghost can_visit = { λ box room. box.format.Writable box.value × (room ≡ box.format.size box.value) };
 
     ghost answers = { λ box out _. out ≡ box.format.bytes box.value };
 
-    fn ask<B: WriteBox>(value: &B, out: &mut [u8]) {
+    fn visit<B: WriteBox>(value: &B, out: &mut [u8]) {
         value.put_box(out)
     }
 }
 
-/// A type that holds boxes of several types, such as an enum of them. It is a box that can be in lists.
+/// A type that holds boxes of several types, such as an enum of them. It is itself a box that can be in lists.
 pub trait BoxEnum: Drop {
-    /// The type of the boxes of a name.
+    /// The type of the boxes with a given name.
     ghost kinds: { BoxType → Known Self };
 
-    /// The number of bytes that a box of a name has at least, whatever its size says: the `LEAST` of its type.
+    /// The minimum number of bytes of a box with a given name, even if the box's size is smaller: the `LEAST` of its
+    /// type.
     ghost least: { BoxType → ℕ } = { λ _. 0 };
 
-    /// The box inside.
+    /// The box inside a value.
     ghost inside: { Self → Inside Self };
 
-    /// Each value is of one of these types.
+    /// The proof that each value is of one of these types.
     ghost members: { (v : Self) → IsMember kinds (held_inside inside) v };
 
-    /// A box that is read under a name has a name of the same code, and is read alike under both.
+    /// The proof that a box read under a name has a name of the same code, and is read alike under both names.
     ghost named: { NamedAsRead kinds (held_inside inside) };
 
-    /// Whether it holds boxes of this name.
+    /// Returns whether the type holds boxes with the name `name`.
     fn holds(name: BoxType) -> bool
         ensures { result ≡ is_known (kinds name) };
 
-    /// Reads the box of this name whose header was just read. After an `Ok` the cursor is at the end of the box, which
-    /// has at least as many bytes as `least` says. After an `Err` it is where it was.
+    /// Reads the box with the name `name`, whose header was just read. `size` is the header's size. After an `Ok` the
+    /// cursor is at the end of the box, which has at least `least name` bytes. After an `Err` the cursor is where it
+    /// was.
     fn read(alloc: Global, name: BoxType, reader: &mut ByteCursor, size: u64) -> Result<Self>
         requires known { IsTrue (is_known (kinds name)) }
         requires after_header { 8 ≤ reader.old.position }
@@ -116,9 +118,9 @@ pub trait BoxEnum: Drop {
         ensures kept { OnErr result (reader.new.position ≡ reader.old.position) }
         ensures bytes { reader.new.bytes ≡ reader.old.bytes };
 
-    /// Asks the box inside.
-    fn ask<Q: Question>(&self, out: &mut [u8]) -> Q::Answer
-        requires { Q.can_ask (inside self.now).box (length out.old) }
+    /// Returns the answer of the visitor `Q` for the box inside. An answer in bytes is put into `out`.
+    fn visit<Q: BoxVisitor>(&self, out: &mut [u8]) -> Q::Answer
+        requires { Q.can_visit (inside self.now).box (length out.old) }
         ensures { Q.answers (inside self.now).box out.new result };
 }
 
@@ -126,21 +128,21 @@ impl<E: BoxEnum> Mp4Box for E {
     ghost format = { format_held (held_inside E.inside) };
 
     fn box_type(&self) -> BoxType {
-        self.ask::<Name>(&mut [])
+        self.visit::<Name>(&mut [])
     }
 
     fn box_size(&self) -> u64 {
-        self.ask::<Size>(&mut [])
+        self.visit::<Size>(&mut [])
     }
 }
 
 impl<E: BoxEnum> WriteBox for E {
     fn is_writable(&self) -> bool {
-        self.ask::<CanWrite>(&mut [])
+        self.visit::<CanWrite>(&mut [])
     }
 
     fn put_box(&self, out: &mut [u8]) {
-        self.ask::<Put>(out)
+        self.visit::<Put>(out)
     }
 
     ghost write_laws = { written_member E.kinds (held_inside E.inside) E.members };

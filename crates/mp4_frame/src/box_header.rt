@@ -34,14 +34,15 @@ pub struct BoxHeader {
 }
 
 impl BoxHeader {
-    /// The header of a box of this name and size.
+    /// Returns the header of a box with the name `name` and the size `size`.
     pub fn new(name: BoxType, size: u64) -> Self
         ensures { result ≡ record { name = name; size = size } }
     {
         BoxHeader { name, size }
     }
 
-    /// Reads a header, and moves the cursor to its end. The size is 0 if the header says 0, in both forms.
+    /// Reads the header at the cursor, and moves the cursor to the end of the header. The size is 0 if the header says
+    /// 0, in both forms. The errors are those of `Frame::at`.
     pub fn read(reader: &mut ByteCursor) -> Result<BoxHeader>
         ensures answer { Answers result (header reader.old.bytes.now reader.old.position) }
         ensures moved { OnOk result
@@ -58,8 +59,8 @@ impl BoxHeader {
         })
     }
 
-    /// Appends the header and returns its length: 8 bytes, or 16 if the size needs more than 32 bits. Invalid data
-    /// if the size is above 2^64 - 9, since the 64-bit form counts 8 bytes more.
+    /// Appends the header to `writer`, and returns its length: 8 bytes, or 16 if the size needs more than 32 bits. A
+    /// size above 2^64 - 9 is invalid data, since the 64-bit form counts 8 bytes more.
     #[tactic(auto, unfolding(crate::specs::Bytes::bytes_of_fields, crate::specs::Bytes::bytes_of_fields_onto))]
     pub fn write<A: Allocator>(&self, writer: &mut Vec<u8, A>) -> Result<u64>
         ensures { Writes (self.now.size ≤ 2 ^ 64 - 9) (bytes_header self.now) writer.old.items writer.new.items result }
@@ -84,8 +85,8 @@ impl BoxHeader {
     }
 }
 
-/// A header that was written is read back, with any bytes before and after it. The exceptions are a size of 1
-/// and a name that is an `UnknownBox` with a named code.
+/// Proves that a written header is read back, with any bytes before and after it. The exceptions are a size of 1 and a
+/// name that is an `UnknownBox` with a named code.
 pub fn header_is_read_back()
     ensures { (h : _) (x y : List ℕ) → h.size ≤ 2 ^ 64 - 9 → (h.size ≡ 1 → ⊥) → code_of h.name < 2 ^ 32
         → name_of (code_of h.name) ≡ h.name
@@ -93,7 +94,7 @@ pub fn header_is_read_back()
         × (header_length (x ++ (bytes_header h ++ y)) (length x) ≡ length (bytes_header h)) }
 {}
 
-/// Reads version and flags, and moves the cursor after them.
+/// Reads version and flags at the cursor, and moves the cursor after them.
 pub fn read_box_header_ext(reader: &mut ByteCursor) -> Result<(u8, u32)>
     ensures answer { Answers result (header_ext reader.old.bytes.now reader.old.position) }
     ensures moved { OnOk result (reader.new.position ≡ reader.old.position + 4) }
@@ -108,7 +109,7 @@ pub fn read_box_header_ext(reader: &mut ByteCursor) -> Result<(u8, u32)>
     Ok((u8_at(bytes, at), u24_at(bytes, at + 1)))
 }
 
-/// Appends version and flags, and returns 4. Invalid data if the flags need more than 24 bits.
+/// Appends version and flags to `writer`, and returns 4. Flags of more than 24 bits are invalid data.
 #[tactic(auto, unfolding(crate::specs::Bytes::bytes_of_fields, crate::specs::Bytes::bytes_of_fields_onto))]
 pub fn write_box_header_ext<A: Allocator>(
     writer: &mut Vec<u8, A>,

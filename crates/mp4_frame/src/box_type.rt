@@ -22,13 +22,13 @@ pub enum BoxType {
     FreeBox,
     /// `mdat`: media data.
     MdatBox,
-    /// `moov`: movie: all metadata.
+    /// `moov`: movie, with all metadata.
     MoovBox,
-    /// `mvex`: movie extends: movie fragments follow.
+    /// `mvex`: movie extends, present if movie fragments follow.
     MvexBox,
     /// `mehd`: movie extends header.
     MehdBox,
-    /// `trex`: track extends: defaults of a track's fragments.
+    /// `trex`: track extends, with defaults of a track's fragments.
     TrexBox,
     /// `emsg`: event message (ISO/IEC 23009-1).
     EmsgBox,
@@ -48,7 +48,7 @@ pub enum BoxType {
     ElstBox,
     /// `mdhd`: media header.
     MdhdBox,
-    /// `hdlr`: handler: the kind of media.
+    /// `hdlr`: handler, with the kind of media.
     HdlrBox,
     /// `minf`: media information.
     MinfBox,
@@ -88,19 +88,19 @@ pub enum BoxType {
     DrefBox,
     /// `smhd`: sound media header.
     SmhdBox,
-    /// `avc1`: advanced video (ISO/IEC 14496-15).
+    /// `avc1`: AVC video (ISO/IEC 14496-15).
     Avc1Box,
-    /// `avcC`: configuration of advanced video.
+    /// `avcC`: configuration of AVC video.
     AvcCBox,
-    /// `hev1`: high efficiency video (ISO/IEC 14496-15).
+    /// `hev1`: HEVC video (ISO/IEC 14496-15).
     Hev1Box,
-    /// `hvcC`: configuration of high efficiency video.
+    /// `hvcC`: configuration of HEVC video.
     HvcCBox,
-    /// `mp4a`: sound of MPEG-4 (ISO/IEC 14496-14).
+    /// `mp4a`: MPEG-4 audio (ISO/IEC 14496-14).
     Mp4aBox,
     /// `esds`: elementary stream descriptor (ISO/IEC 14496-14).
     EsdsBox,
-    /// `tx3g`: timed text of 3GPP (3GPP TS 26.245).
+    /// `tx3g`: 3GPP timed text (3GPP TS 26.245).
     Tx3gBox,
     /// `vpcC`: configuration of VP8 and VP9.
     VpccBox,
@@ -114,7 +114,7 @@ pub enum BoxType {
     CovrBox,
     /// `desc`: description.
     DescBox,
-    /// `wide`: room for a longer header.
+    /// `wide`: space for a longer header.
     WideBox,
     /// `url `: data reference by location.
     UrlBox,
@@ -261,17 +261,17 @@ impl From<BoxType> for u32 {
     }
 }
 
-/// Converting a code to a name and back gives the same code.
+/// Proves that converting a code to a name and back gives the same code.
 pub fn code_is_kept(code: u32)
     ensures { code_of (name_of code) ≡ code }
 {}
 
-/// Converting a name to a code and back gives the same name, except for an `UnknownBox` with a named code.
+/// Proves that converting a name to a code and back gives the same name, except for an `UnknownBox` with a named code.
 pub fn name_is_kept()
     ensures { (name : _) → is_disguised name ≡ false → name_of (code_of name) ≡ name }
 {}
 
-/// The four bytes of the code as UTF-8, with U+FFFD for each piece that is not UTF-8.
+/// Prints the four bytes of the code as UTF-8, with U+FFFD for each piece that is not UTF-8.
 impl fmt::Display for BoxType {
     ghost output = { λ name. Some (encode_utf8_all (lossy_chars (be_bytes 4 (code_of name)))) };
 
@@ -280,7 +280,7 @@ impl fmt::Display for BoxType {
     }
 }
 
-/// The same as `Display`.
+/// Prints the same text as `Display`.
 impl fmt::Debug for BoxType {
     fn fmt<W: fmt::Write>(&self, f: &mut fmt::Formatter<W>) -> fmt::Result {
         fmt::Display::fmt(self, f)

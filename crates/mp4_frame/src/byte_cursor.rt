@@ -7,7 +7,7 @@ ghost use Rattle.mp4_frame.specs.Tables.{rows_at};
 use crate::error::Result;
 use crate::reading::{piece_at, rows_at};
 
-/// A position in a buffer. It may be past the end of the buffer.
+/// A position in a buffer. The position may be past the end of the buffer.
 #[derive(Drop)]
 pub struct ByteCursor<'a> {
     bytes: &'a [u8],
@@ -15,22 +15,22 @@ pub struct ByteCursor<'a> {
 }
 
 impl<'a> ByteCursor<'a> {
-    /// A cursor at the front of a buffer.
+    /// Returns a cursor at the front of the buffer `bytes`.
     pub fn new(bytes: &'a [u8]) -> Self
-        ensures all { result.bytes ≡ bytes.entry }
-        ensures front { result.position ≡ 0 }
+        ensures bytes { result.bytes ≡ bytes.entry }
+        ensures position { result.position ≡ 0 }
     {
         ByteCursor { bytes, position: 0 }
     }
 
-    /// The position: the number of bytes from the front of the buffer.
+    /// Returns the position: the number of bytes from the front of the buffer.
     pub fn position(&self) -> u64
         ensures { result ≡ self.now.position }
     {
         self.position
     }
 
-    /// Moves to an offset of the buffer, or past its end.
+    /// Moves the cursor to offset `position` of the buffer, which may be past the buffer's end.
     pub fn set_position(&mut self, position: u64)
         ensures position { self.new.position ≡ position }
         ensures bytes { self.new.bytes ≡ self.old.bytes }
@@ -38,15 +38,15 @@ impl<'a> ByteCursor<'a> {
         self.position = position;
     }
 
-    /// The whole buffer.
+    /// Returns the whole buffer.
     pub fn bytes(&self) -> &'a [u8]
         ensures { result.now ≡ self.now.bytes.now }
     {
         self.bytes
     }
 
-    /// Returns the next `n` bytes and moves after them, or end of input unless all of them are present. If `n` is 0,
-    /// the result is empty at every position.
+    /// Returns the next `n` bytes and moves the cursor after them, or returns end of input unless all of them are
+    /// present. If `n` is 0, the result is empty at every position.
     pub fn take(&mut self, n: u64) -> Result<&'a [u8]>
         ensures piece { AnswersAs (λ piece. piece.now) result (piece_at self.old.bytes.now self.old.position n) }
         ensures long { IfOk result (λ piece. length piece.now ≡ n) }
@@ -60,8 +60,8 @@ impl<'a> ByteCursor<'a> {
         Ok(piece)
     }
 
-    /// Returns the next `n` rows of `E` bytes each and moves after them, or end of input unless all of them are
-    /// present.
+    /// Returns the next `n` rows of `E` bytes each and moves the cursor after them, or returns end of input unless all
+    /// of them are present.
     pub fn take_rows<const E: usize>(&mut self, n: u64) -> Result<&'a [[u8; E]]>
         requires { 0 < E }
         ensures rows { AnswersAs (λ rows. rows.now) result (rows_at self.old.bytes.now self.old.position E n) }

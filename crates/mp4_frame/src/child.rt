@@ -1,4 +1,4 @@
-//! Reading the children of a box.
+//! Children of a box, read one after the other.
 
 ghost use Rattle.std.specs.Prelude.{◌≡◌, ◌+◌, ◌<◌, ◌≤◌, ◌^◌, nat_lt, length, IfOk};
 ghost use Rattle.mp4_frame.specs.Children.{child, children};
@@ -15,15 +15,15 @@ use std::alloc::Global;
 pub struct Parent<'a> {
     /// The bytes from the start of the box to the end of the buffer.
     pub bytes: &'a [u8],
-    /// The offset of the box in the buffer, as in `ReadBox::read_content`.
+    /// The offset of the box in the buffer, the `start` of `ReadBox::read_content`.
     pub start: u64,
     /// The number of bytes from `start` to the end of the box.
     pub size: u64,
-    /// The error's text for a child that is larger than the box.
+    /// The text of the error for a child that is larger than the box.
     pub too_large: &'static str,
 }
 
-/// Invalid data if the child with this frame ends past 2^64 - 1.
+/// Checks that the child with the frame `child` ends at or before 2^64 - 1. The error is invalid data.
 pub fn check_child_end(parent: &Parent, child: Frame) -> Result<()>
     ensures { Answers result (check (nat_lt (parent.now.start + child.start + child.size) (2 ^ 64))) }
 {
@@ -34,8 +34,8 @@ pub fn check_child_end(parent: &Parent, child: Frame) -> Result<()>
     )
 }
 
-/// Reads the header of the child at an offset of its parent. Invalid data if the child has fewer than 8 bytes, is
-/// larger than its parent, or ends past 2^64 - 1.
+/// Reads the header of the child at offset `at` of its parent. The child is invalid data if it has fewer than 8 bytes,
+/// is larger than its parent, or ends past 2^64 - 1.
 #[tactic(auto, unfolding(crate::specs::Children::child))]
 fn child_at(parent: &Parent, at: u64) -> Result<Frame>
     ensures value { Answers result (child parent.now.bytes.now parent.now.start parent.now.size at) }
@@ -50,8 +50,8 @@ fn child_at(parent: &Parent, at: u64) -> Result<Frame>
     Ok(child)
 }
 
-/// Reads every child with this code among at most `most` children from offset `from` on, and returns the last one.
-/// Children with other codes are skipped by their size.
+/// Reads every child with the code `code` among at most `most` children, the first of them at offset `from` of the
+/// parent. Returns the last one that has the code, or `None`. Children with other codes are skipped by their size.
 pub fn last_child<T: ReadBox + Drop>(
     alloc: Global,
     parent: &Parent,

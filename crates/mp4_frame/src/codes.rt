@@ -1,5 +1,5 @@
-//! The codes of the named boxes: the four characters in a box's header, as a big-endian number of four bytes
-//! (ISO/IEC 14496-12, 4.2). `BoxType` says what each box is.
+//! The codes of the named boxes: the four characters in a box's header, as a big-endian number of four bytes (ISO/IEC
+//! 14496-12, 4.2). The variants of `BoxType` describe the boxes.
 
 /// `ftyp`.
 pub const FTYP: u32 = 0x6674_7970;

@@ -1,4 +1,4 @@
-//! Why a box could not be read or written.
+//! The errors of reading and writing a box.
 
 ghost use Rattle.std.specs.Prelude.{◌≡◌};
 ghost use Rattle.mp4_frame.specs.declared.error.Error.TheVariants.{OutOfMemory};
@@ -6,14 +6,14 @@ ghost use Rattle.mp4_frame.specs.declared.error.Error.TheVariants.{OutOfMemory};
 use crate::box_type::BoxType;
 use std::alloc::{AllocError, AllocFailed};
 
-/// Why a box could not be read or written. The codec itself returns `IoError`, `InvalidData`, `BoxNotFound`
-/// and `OutOfMemory`; the other variants are for the layers above it.
+/// The reason why a box could not be read or written. The codec itself returns `IoError`, `InvalidData`, `BoxNotFound`
+/// and `OutOfMemory`. The other variants are for the layers above it.
 #[derive(Debug, Drop, thiserror::Error)]
 pub enum Error {
-    /// The input ends before all bytes that a box needs.
+    /// The input ends before the last byte that a box needs.
     #[error("unexpected end of input")]
     IoError,
-    /// A check of the layout failed. The text says which one, for a person to read.
+    /// A check of the layout failed. The text identifies the check, for a person to read.
     #[error("{0}")]
     InvalidData(&'static str),
     /// A box lacks the child of this name.
@@ -22,7 +22,7 @@ pub enum Error {
     /// A file lacks both boxes.
     #[error("{0} and {1} not found")]
     Box2NotFound(BoxType, BoxType),
-    /// There is no track of this number.
+    /// No track has this number.
     #[error("trak[{0}] not found")]
     TrakNotFound(u32),
     /// The track of this number lacks the box.
@@ -48,7 +48,7 @@ pub enum Error {
     OutOfMemory,
 }
 
-/// What a call of this library returns.
+/// The result of a call of this library.
 pub type Result<T> = std::result::Result<T, Error>;
 
 impl From<AllocError> for Error {

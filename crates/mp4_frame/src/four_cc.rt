@@ -90,7 +90,7 @@ impl From<BoxType> for FourCC {
     }
 }
 
-/// The bytes as UTF-8, with U+FFFD for each piece that is not UTF-8.
+/// Prints the bytes as UTF-8, with U+FFFD for each piece that is not UTF-8.
 impl fmt::Display for FourCC {
     ghost output = { λ c. Some (encode_utf8_all (lossy_chars c.value)) };
 
@@ -100,7 +100,7 @@ impl fmt::Display for FourCC {
     }
 }
 
-/// The characters and the number, as in `isom / 0x69736F6D`.
+/// Prints the characters and the number, such as `isom / 0x69736F6D`.
 impl fmt::Debug for FourCC {
     fn fmt<W: fmt::Write>(&self, f: &mut fmt::Formatter<W>) -> fmt::Result {
         let code = u32::from(self);
@@ -108,7 +108,7 @@ impl fmt::Debug for FourCC {
     }
 }
 
-/// A code as an entry in a list of codes.
+/// A code is an entry in a table of codes.
 impl TableEntry<4> for FourCC {
     ghost use Rattle.mp4_frame.specs.FourCC.{IsFourCC};
 
@@ -125,7 +125,7 @@ impl TableEntry<4> for FourCC {
     }
 }
 
-/// Always true. For the prover: a value that was read has the range of its type.
+/// Returns `true`. For the prover: a value that was read has the range of its type.
 pub fn is_four_cc(code: FourCC) -> bool
     ensures { IsTrue result ↔ IsFourCC code }
 {

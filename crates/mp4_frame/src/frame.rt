@@ -1,4 +1,4 @@
-//! The frame of a box: what its header says, and where it is.
+//! The frame of a box: the values in its header, and its place.
 
 ghost use Rattle.std.specs.Prelude.{◌≡◌, ◌<◌, ◌≤◌, ◌+◌, ◌^◌, length, IfOk};
 ghost use Rattle.mp4_frame.specs.Bytes.{number};
@@ -11,19 +11,18 @@ use crate::list::BoxSpan;
 use crate::number::{u32_at, u64_at};
 use crate::reading::{check, check_end, expect_bytes};
 
-/// The frame of a box: what its header says (ISO/IEC 14496-12, 4.2), and where it is. Offsets are in bytes from the
+/// The frame of a box: the values in its header (ISO/IEC 14496-12, 4.2), and its place. Offsets are in bytes from the
 /// front of the buffer.
 #[derive(Clone, Copy, Debug)]
 pub struct Frame {
     /// The code of the box: its four characters as a number.
     pub code: u32,
-    /// The offset where the box begins: that of its header.
+    /// The offset where the box, and so its header, begins.
     pub begin: u64,
-    /// The offset 8 bytes before the content. This is where the box begins, or 8 bytes after that if its header has
-    /// 16 bytes.
+    /// The offset 8 bytes before the content. It equals `begin`, or `begin + 8` if the header has 16 bytes.
     pub start: u64,
-    /// The number of bytes from `start` to the end of the box: its size as `ReadBox::read_content` takes it. As a
-    /// header at the top level says it, 0 means up to the end of the buffer.
+    /// The number of bytes from `start` to the end of the box, the `size` of `ReadBox::read_content`. In a frame of
+    /// `Frame::at`, 0 means up to the end of the buffer.
     pub size: u64,
 }
 
@@ -31,8 +30,9 @@ impl Frame {
     ghost use Rattle.mp4_frame.specs.Heads.{header_length, name_in, content_in, frame_of_head};
     ghost use Rattle.mp4_frame.specs.Spans.{span_of};
 
-    /// What the header at offset `at` says: 8 bytes, and 8 more if the first 4 hold a size of 1. End of input unless
-    /// these bytes are present; invalid data if the 64-bit size is 1 to 15.
+    /// Returns the frame that the header at offset `at` gives. The header has 8 bytes, and 8 more if the first 4 hold a
+    /// size of 1. The error is end of input unless these bytes are present, and invalid data if the 64-bit size is 1 to
+    /// 15.
     #[tactic(auto, unfolding(crate::specs::Heads::head))]
     pub fn at(bytes: &[u8], at: u64) -> Result<Frame>
         ensures value { Answers result (head bytes.now at) }
@@ -65,14 +65,14 @@ impl Frame {
         })
     }
 
-    /// The name of the box.
+    /// Returns the name of the box.
     pub fn name(&self) -> BoxType
         ensures { result ≡ name_in self.now }
     {
         BoxType::from(self.code)
     }
 
-    /// The offset where the content of the box begins: that after its header.
+    /// Returns the offset where the content of the box begins, which is the end of its header.
     pub fn content(&self) -> u64
         requires { content_in self.now < 2 ^ 64 }
         ensures { result ≡ content_in self.now }
@@ -80,7 +80,7 @@ impl Frame {
         self.start + 8
     }
 
-    /// The offset where the box ends.
+    /// Returns the offset where the box ends.
     pub fn end(&self) -> u64
         requires { end_in self.now < 2 ^ 64 }
         ensures { result ≡ end_in self.now }
@@ -88,7 +88,7 @@ impl Frame {
         self.start + self.size
     }
 
-    /// The place of the box in the buffer, and its name.
+    /// Returns the place of the box in the buffer, and its name.
     pub fn span(&self) -> BoxSpan
         requires order { self.now.begin ≤ end_in self.now }
         requires end { end_in self.now < 2 ^ 64 }
@@ -101,9 +101,9 @@ impl Frame {
         }
     }
 
-    /// The frame of the whole box, by what its header says, in a buffer of this length: a size of 0 is what is left
-    /// from `start` on. Invalid data if the size is too small or the box ends past 2^64 - 1, end of input if it ends
-    /// past the buffer.
+    /// Returns the frame of the whole box in a buffer of `len` bytes. A size of 0 becomes the number of bytes from
+    /// `start` to the end of the buffer. The error is invalid data if the size is too small or the box ends past 2^64 -
+    /// 1. It is end of input if the box ends past the buffer.
     #[tactic(auto, unfolding(crate::specs::Heads::frame_of_head))]
     pub fn within(self, len: u64) -> Result<Frame>
         requires { content_in self ≤ len }
@@ -129,8 +129,8 @@ impl Frame {
     }
 }
 
-/// The frame of the box at an offset before the end of the buffer. End of input if the header or the box is cut,
-/// invalid data if the size is too small or the box ends past 2^64 - 1.
+/// Returns the frame of the box at offset `at`, which is before the end of the buffer. The error is end of input if the
+/// header or the box is cut. It is invalid data if the size is too small or the box ends past 2^64 - 1.
 pub fn frame_at(bytes: &[u8], at: usize) -> Result<Frame>
     requires { at < length bytes.now }
     ensures answer { FaultAs result (frame bytes.now at) }

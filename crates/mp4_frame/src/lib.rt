@@ -1,5 +1,5 @@
-//! What all boxes of an MP4 file share: errors, codes, the cursor, headers, the traits of a box, and lists of
-//! boxes.
+//! For readers and writers of MP4 boxes, and for authors of box types: errors, codes, the cursor, headers, the traits
+//! of a box, and lists of boxes.
 #![tactic(auto)]
 
 mod box_enum;
@@ -28,7 +28,7 @@ mod traits;
 mod try_clone;
 mod write;
 
-pub use box_enum::{BoxEnum, Question};
+pub use box_enum::{BoxEnum, BoxVisitor};
 pub use box_header::{
     BoxHeader, HEADER_EXT_SIZE, HEADER_SIZE, header_is_read_back, read_box_header_ext,
     write_box_header_ext,

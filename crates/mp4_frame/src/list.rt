@@ -1,4 +1,4 @@
-//! Listing boxes: where they are in a buffer, without their contents.
+//! The places of boxes in a buffer, without their contents.
 
 ghost use Rattle.std.specs.Prelude.{◌≡◌, max, length, OnOk, OnErr};
 ghost use Rattle.mp4_frame.specs.Reading.{AnswersAs};
@@ -21,11 +21,13 @@ pub struct BoxSpan {
     pub name: BoxType,
 }
 
-/// Lists the boxes from the cursor's position to the end of the buffer, or returns the first fault: end of input if a
-/// header or a box is cut, invalid data if a size is too small or a box ends past 2^64 - 1 (ISO/IEC 14496-12, 4.2). A
-/// box of size 0 goes up to the end of the buffer. Contents are not read: a box that is listed may still be refused by
-/// `read_boxes_as`, and children are not listed. After an `Ok` the cursor is at the end of the buffer, or where it was
-/// if that is past the end. After an `Err` it is where it was.
+/// Lists the boxes from the cursor's position to the end of the buffer, or returns the first fault. The fault is end of
+/// input if a header or a box is cut. It is invalid data if a size is too small or a box ends past 2^64 - 1 (ISO/IEC
+/// 14496-12, 4.2). A box of size 0 ends at the end of the buffer.
+///
+/// The function reads no contents, so `read_boxes_as` may find a fault in a box that is listed. It lists no children.
+/// After an `Ok` the cursor is at the end of the buffer, or where it was if that is past the end. After an `Err` the
+/// cursor is where it was.
 pub fn list_boxes<A: Allocator>(alloc: A, reader: &mut ByteCursor) -> Result<Vec<BoxSpan, A>>
     ensures answer { AnswersAs (λ v. v.items) result (spans reader.old.bytes.now reader.old.position) }
     ensures moved { OnOk result (reader.new.position ≡ max reader.old.position (length reader.old.bytes.now)) }

@@ -12,17 +12,17 @@ use crate::traits::ReadBox;
 use crate::try_clone::TryClone;
 use std::alloc::Global;
 
-/// A type that holds boxes of type T.
+/// A type that holds boxes of type `T`.
 pub trait Holds<T>: Sized {
     /// The box as a value of this type.
     ghost wrapped: { T → Self };
 
-    /// The box as a value of this type.
+    /// Returns the box `value` as a value of this type.
     fn wrap(value: T) -> Self
         ensures { result ≡ wrapped value };
 }
 
-/// Reads the box of type T whose header was just read, as `ReadBox::read_box`, and returns it as an E.
+/// Reads the box of type `T` whose header was just read, like `ReadBox::read_box`, and returns it as an `E`.
 pub fn read_as<T: ReadBox + Drop, E: Holds<T>>(
     alloc: Global,
     reader: &mut ByteCursor,
@@ -38,7 +38,8 @@ pub fn read_as<T: ReadBox + Drop, E: Holds<T>>(
     Ok(E::wrap(T::read_box(alloc, reader, size)?))
 }
 
-/// Reads the box of type T at an offset of the buffer, as in `StreamBox::push_named`, and appends it as an E.
+/// Reads the box of type `T` at offset `start` of the buffer `bytes`, like `StreamBox::push_named`, and appends it to
+/// `boxes` as an `E`.
 pub fn push_as<T: ReadBox + Drop, E: Holds<T> + Drop>(
     alloc: Global,
     bytes: &[u8],
@@ -57,8 +58,8 @@ pub fn push_as<T: ReadBox + Drop, E: Holds<T> + Drop>(
     Ok(())
 }
 
-/// Reads the box of type T at an offset of the buffer, as in `StreamBox::push_named`, and appends it as an M inside an
-/// E.
+/// Reads the box of type `T` at offset `start` of the buffer `bytes`, like `StreamBox::push_named`, and appends it to
+/// `boxes` as an `M` inside an `E`.
 pub fn push_inside<T: ReadBox + Drop, M: Holds<T>, E: Holds<M> + Drop>(
     alloc: Global,
     bytes: &[u8],
@@ -78,7 +79,7 @@ pub fn push_inside<T: ReadBox + Drop, M: Holds<T>, E: Holds<M> + Drop>(
     Ok(())
 }
 
-/// An equal box, in memory of its own, as an E.
+/// Returns an equal box, in newly allocated memory, as an `E`.
 pub fn clone_as<T: TryClone + Drop, E: Holds<T>>(value: &T) -> Result<E>
     ensures clone { IfOk result (λ clone. clone ≡ E.wrapped value.now) }
     ensures memory { IfErr result (λ e. e ≡ OutOfMemory) }

@@ -1,4 +1,4 @@
-//! Reading one child at an offset of a box.
+//! One child at an offset of a box.
 
 ghost use Rattle.std.specs.Prelude.{◌≡◌, ◌+◌, ◌≤◌, length, IfOk};
 ghost use Rattle.mp4_frame.specs.OneChild.{child_head, child_content, any_child, named_child, optional_child};
@@ -11,8 +11,8 @@ use crate::reading::check;
 use crate::traits::ReadBox;
 use std::alloc::Global;
 
-/// Reads the header of the child at an offset of its parent. Invalid data if the child is larger than its parent. It
-/// may have fewer than 8 bytes.
+/// Reads the header of the child at offset `at` of its parent. A child that is larger than its parent is invalid data.
+/// The child may have fewer than 8 bytes.
 #[tactic(auto, unfolding(crate::specs::OneChild::child_head))]
 pub fn child_head(parent: &Parent, at: u64) -> Result<Frame>
     ensures value { Answers result (child_head parent.now.bytes.now parent.now.size at) }
@@ -23,8 +23,8 @@ pub fn child_head(parent: &Parent, at: u64) -> Result<Frame>
     Ok(child)
 }
 
-/// Reads the content of the child with this frame, also past the end of its parent. Invalid data if the child ends
-/// past 2^64 - 1.
+/// Reads the content of the child with the frame `child`, even past the end of its parent. A child that ends past 2^64
+/// - 1 is invalid data.
 #[tactic(auto, unfolding(crate::specs::OneChild::child_content))]
 pub fn child_content<T: ReadBox>(alloc: Global, parent: &Parent, child: Frame) -> Result<T>
     requires { child.start ≤ length parent.now.bytes.now }
@@ -35,7 +35,7 @@ pub fn child_content<T: ReadBox>(alloc: Global, parent: &Parent, child: Frame) -
     T::read_content(alloc, rest, parent.start + child.start, child.size)
 }
 
-/// Reads the child at an offset of its parent, whatever its code.
+/// Reads the child at offset `at` of its parent, whatever its code.
 #[tactic(auto, unfolding(crate::specs::OneChild::any_child))]
 pub fn any_child<T: ReadBox>(alloc: Global, parent: &Parent, at: u64) -> Result<T>
     ensures { Answers result (any_child T.reads parent.now.bytes.now parent.now.start parent.now.size at) }
@@ -44,7 +44,8 @@ pub fn any_child<T: ReadBox>(alloc: Global, parent: &Parent, at: u64) -> Result<
     child_content(alloc, parent, child)
 }
 
-/// Reads the child at an offset of its parent. Invalid data with the text `not_found` if it has another code.
+/// Reads the child at offset `at` of its parent. A child with another code than `code` is invalid data with the text
+/// `not_found`.
 #[tactic(auto, unfolding(crate::specs::OneChild::named_child))]
 pub fn named_child<T: ReadBox>(
     alloc: Global,
@@ -60,7 +61,8 @@ pub fn named_child<T: ReadBox>(
     child_content(alloc, parent, child)
 }
 
-/// Reads the child at an offset of its parent, if the parent goes on there. A child with another code is not read.
+/// Reads the child at offset `at` of its parent. Returns `None`, and reads no content, if the parent ends there or the
+/// child has another code than `code`.
 #[tactic(auto, unfolding(crate::specs::OneChild::optional_child))]
 pub fn optional_child<T: ReadBox>(
     alloc: Global,

@@ -1,4 +1,4 @@
-//! Reading lists of boxes, up to the first fault.
+//! Lists of boxes, read up to the first fault.
 
 ghost use Rattle.std.specs.Prelude.{◌≡◌, ◌+◌, max, length, OnOk, OnErr};
 ghost use Rattle.mp4_frame.specs.Reading.{AnswersAs};
@@ -10,8 +10,9 @@ use crate::frame::frame_at;
 use crate::traits::StreamBox;
 use std::alloc::Global;
 
-/// Reads the boxes from the cursor's position to the end of the buffer, or returns the first fault. Boxes with
-/// names that `B` does not know are skipped.
+/// Reads the boxes from the cursor's position to the end of the buffer, or returns the first fault. Boxes with names
+/// that `B` does not know are skipped. After an `Ok` the cursor is at the end of the buffer, or where it was if that is
+/// past the end. After an `Err` the cursor is where it was.
 pub fn read_boxes_as<B: StreamBox>(alloc: Global, reader: &mut ByteCursor) -> Result<Vec<B>>
     ensures answer { AnswersAs (λ v. v.items) result
         (boxes B.known B.named_reading reader.old.bytes.now reader.old.position) }

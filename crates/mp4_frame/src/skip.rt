@@ -1,4 +1,4 @@
-//! Moving the cursor in its buffer.
+//! Moves of the cursor in its buffer.
 
 ghost use Rattle.std.specs.Prelude.{◌≡◌, ◌+◌, ◌-◌, ◌≤◌, ◌^◌, nat_lt, Ok, OnOk, OnErr};
 ghost use Rattle.mp4_frame.specs.Reading.{Answers, NeverOutOfMemory, check};
@@ -8,7 +8,7 @@ use crate::byte_cursor::ByteCursor;
 use crate::error::Result;
 use crate::reading::check_end;
 
-/// The start of the box whose header was just read: 8 bytes before the cursor's position.
+/// Returns the start of the box whose header was just read: 8 bytes before the cursor's position.
 pub fn box_start(reader: &ByteCursor) -> Result<u64>
     requires { 8 ≤ reader.now.position }
     ensures { result ≡ Ok (reader.now.position - 8) }
@@ -16,7 +16,7 @@ pub fn box_start(reader: &ByteCursor) -> Result<u64>
     Ok(reader.position() - HEADER_SIZE)
 }
 
-/// Moves forward by `size` bytes. Invalid data if the position would be past 2^64 - 1.
+/// Moves the cursor forward by `size` bytes. A position past 2^64 - 1 is invalid data.
 pub fn skip_bytes(reader: &mut ByteCursor, size: u64) -> Result<()>
     ensures answer { Answers result (check (nat_lt (reader.old.position + size) (2 ^ 64))) }
     ensures moved { OnOk result (reader.new.position ≡ reader.old.position + size) }
@@ -30,7 +30,7 @@ pub fn skip_bytes(reader: &mut ByteCursor, size: u64) -> Result<()>
     Ok(())
 }
 
-/// Moves to an offset of the buffer, or past its end.
+/// Moves the cursor to offset `position` of the buffer, which may be past the buffer's end.
 pub fn skip_bytes_to(reader: &mut ByteCursor, position: u64) -> Result<()>
     ensures answer { result ≡ Ok tt }
     ensures moved { reader.new.position ≡ position }
@@ -40,8 +40,8 @@ pub fn skip_bytes_to(reader: &mut ByteCursor, position: u64) -> Result<()>
     Ok(())
 }
 
-/// Moves to the end of the box of this size whose header was just read. Invalid data if that end would be past
-/// 2^64 - 1.
+/// Moves the cursor to the end of the box of `size` bytes whose header was just read. An end past 2^64 - 1 is invalid
+/// data.
 pub fn skip_box(reader: &mut ByteCursor, size: u64) -> Result<()>
     requires { 8 ≤ reader.old.position }
     ensures answer { Answers result (check (nat_lt (reader.old.position - 8 + size) (2 ^ 64))) }

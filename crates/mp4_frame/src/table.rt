@@ -1,4 +1,4 @@
-//! Boxes with one counted table: version, flags, a count, and that many rows of one length.
+//! Boxes with one counted table: version, flags, a count, and `count` rows of one length.
 
 ghost use Rattle.std.specs.Prelude.{◌≡◌, ℕ, ◌≤◌, ◌<◌, ◌+◌, ◌*◌, ◌-◌, ◌^◌, ◌++◌, ◌↔◌, min, All, IsTrue, List, length};
 ghost use Rattle.std.specs.Prelude.{take, flat_map};
@@ -14,17 +14,18 @@ use crate::reading::{check, expect_bytes};
 
 /// An entry of a table. Its row has `E` bytes.
 pub trait TableEntry<const E: usize>: Copy {
-    /// The bytes of its row.
+    /// The bytes of an entry's row.
     ghost row_of: { Self → List ℕ };
 
-    /// Its numbers fit their fields in the row.
+    /// The condition that an entry's numbers fit their fields in the row.
     ghost Fits: { Self → Type 0 };
 
+    /// Returns the bytes of the entry's row.
     fn to_row(&self) -> [u8; E]
         ensures { result ≡ row_of self.now };
 
-    /// Whether its numbers fit their fields. Where the fields fill their types it is always true, and for the prover: a
-    /// value that was read has the range of its type.
+    /// Returns whether the entry's numbers fit their fields. The result is always `true` where the fields fill their
+    /// types. For the prover: a value that was read has the range of its type.
     fn fits(&self) -> bool
         ensures { IsTrue result ↔ Fits self.now };
 }
@@ -63,8 +64,9 @@ impl TableEntry<8> for u64 {
     }
 }
 
-/// Returns version, flags and rows of a box of `size` bytes that has one table with rows of `E` bytes. `too_many` is
-/// the error's text if the count is more than `size` has room for.
+/// Reads a box of `size` bytes that has one table with rows of `E` bytes, and returns its version, flags and rows.
+/// `bytes` begins at the box's start. A count of more rows than `size` has space for is invalid data with the text
+/// `too_many`.
 #[tactic(auto, unfolding(crate::specs::Tables::counted_rows))]
 pub fn read_table<'a, const E: usize>(
     bytes: &'a [u8],
@@ -84,7 +86,7 @@ pub fn read_table<'a, const E: usize>(
     Ok((u8_at(bytes, 8), u24_at(bytes, 9), rows))
 }
 
-/// The size of a box of one table with these entries, at most 2^64 - 1.
+/// Returns the size of a box of one table with these entries, at most 2^64 - 1.
 pub fn table_size<T: TableEntry<E>, const E: usize>(entries: &[T]) -> u64
     ensures { result ≡ min (size_table E entries.now) (2 ^ 64 - 1) }
 {
@@ -93,7 +95,8 @@ pub fn table_size<T: TableEntry<E>, const E: usize>(entries: &[T]) -> u64
         .saturating_add(16)
 }
 
-/// Whether the numbers of each entry fit their fields: always true where the fields fill their types.
+/// Returns whether the numbers of each entry fit their fields. The result is always `true` where the fields fill their
+/// types.
 pub fn all_fit<T: TableEntry<E>, const E: usize>(entries: &[T]) -> bool
     ensures { IsTrue result ↔ All T.Fits entries.now }
 {
@@ -104,8 +107,8 @@ pub fn all_fit<T: TableEntry<E>, const E: usize>(entries: &[T]) -> bool
     )
 }
 
-/// Whether a box of one table with these entries can be written.
-#[tactic(auto, using(crate::proofs::Tables::few_entries))]
+/// Returns whether a box of one table with these entries can be written.
+#[tactic(auto, using(mp4_lemmas::proofs::Numbers::few_entries))]
 pub fn is_writable_table<T: TableEntry<E>, const E: usize>(
     code: u32,
     version: u8,
@@ -118,7 +121,7 @@ pub fn is_writable_table<T: TableEntry<E>, const E: usize>(
     flags < 1 << 24 && table_size(entries) < 1 << 32 && all_fit(entries)
 }
 
-/// Fills `out` with a box of one table.
+/// Fills `out` with a box of one table. The length of `out` is the box's size.
 #[tactic(auto, unfolding(crate::specs::Bytes::bytes_of_fields, crate::specs::Bytes::bytes_of_fields_onto))]
 pub fn put_table<T: TableEntry<E>, const E: usize>(
     out: &mut [u8],
@@ -137,8 +140,8 @@ pub fn put_table<T: TableEntry<E>, const E: usize>(
     put_entries(out, at, entries);
 }
 
-/// Puts the rows of the entries, and returns the offset after them. In a function of its own the loop is aligned, and
-/// keeps its constants in registers.
+/// Puts the rows of `entries` at offset `at` of `out`, and returns the offset after them. As a separate function, the
+/// loop is aligned and keeps its constants in registers.
 #[inline(never)]
 pub fn put_entries<T: TableEntry<E>, const E: usize>(
     out: &mut [u8],

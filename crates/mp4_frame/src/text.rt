@@ -1,4 +1,4 @@
-//! Strings. Contracts see only their bytes.
+//! Strings, which contracts see only as their bytes.
 
 ghost use Rattle.std.specs.Prelude.{◌≡◌, ◌==◌, ◌↔◌, [], IfOk, IfErr, IsTrue, length, nat_eq, string_bytes};
 ghost use Rattle.std.specs.Cmp.{partial_equiv_from_equiv};
@@ -15,7 +15,7 @@ use std::marker::Model;
 use std::ops::Deref;
 
 /// A string, which contracts see as its UTF-8 bytes. `into()` makes it from a `String`, and `into_string()` turns it
-/// into one; neither takes memory. Two are equal if their bytes are equal.
+/// into one. Neither takes memory. Two strings are equal if their bytes are equal.
 #[derive(Drop)]
 pub struct Text {
     string: String,
@@ -30,7 +30,7 @@ impl Model for Text {
 }
 
 impl Text {
-    /// An empty string, which takes no memory.
+    /// Returns an empty string, which takes no memory.
     pub fn new(alloc: Global) -> Text
         ensures { result ≡ [] }
     {
@@ -39,7 +39,7 @@ impl Text {
         }
     }
 
-    /// A copy of `text`.
+    /// Returns a copy of `text`.
     pub fn from_str(alloc: Global, text: &str) -> Result<Text>
         ensures text { IfOk result (λ t. t ≡ text.now) }
         ensures memory { IfErr result (λ e. e ≡ OutOfMemory) }
@@ -49,7 +49,7 @@ impl Text {
         })
     }
 
-    /// A copy of `bytes` if they are UTF-8, else a copy of `other`.
+    /// Returns a copy of `bytes` if they are UTF-8, else a copy of `other`.
     #[tactic(auto, using(crate::specs::TextLaws::text_as_is, crate::specs::TextLaws::text_replaced))]
     pub fn from_utf8_or(alloc: Global, bytes: &[u8], other: &str) -> Result<Text>
         ensures text { IfOk result (λ t. t ≡ text_or other.now bytes.now) }
@@ -61,42 +61,42 @@ impl Text {
         }
     }
 
-    /// The string as a `String`.
+    /// Returns the string as a `String`.
     pub fn into_string(self) -> String
         ensures { string_bytes result ≡ self }
     {
         self.string
     }
 
-    /// The string as a `&str`.
+    /// Returns the string as a `&str`.
     pub fn as_str(&self) -> &str
         ensures { result.now ≡ self.now }
     {
         self.string.as_str()
     }
 
-    /// Its UTF-8 bytes.
+    /// Returns the UTF-8 bytes of the string.
     pub fn as_bytes(&self) -> &[u8]
         ensures { result.now ≡ self.now }
     {
         self.string.as_bytes()
     }
 
-    /// The number of bytes.
+    /// Returns the number of bytes.
     pub fn len(&self) -> usize
         ensures { result ≡ length self.now }
     {
         self.as_bytes().len()
     }
 
-    /// Whether it is empty.
+    /// Returns whether the string is empty.
     pub fn is_empty(&self) -> bool
         ensures { result ≡ (length self.now == 0) }
     {
         self.as_bytes().is_empty()
     }
 
-    /// Always true. For the prover: a value that was read has the range of its type.
+    /// Returns `true`. For the prover: a value that was read has the range of its type.
     pub fn is_utf8(&self) -> bool
         ensures { IsTrue result ↔ IsUtf8 self.now }
     {
@@ -122,7 +122,7 @@ impl From<String> for Text {
     }
 }
 
-/// A `Text` can be used as a `String` that is only read.
+/// Lets a `Text` be read like a `String`.
 impl Deref for Text {
     type Target = String;
 

@@ -1,4 +1,4 @@
-//! The traits of a box: its name and size, how it is read and written, and how it is read and written in lists.
+//! The traits of a box: its name and size, its reading and writing, and both of them in lists.
 
 ghost use Rattle.std.specs.Prelude.{◌≡◌, ℕ, ◌+◌, ◌-◌, ◌^◌, ◌<◌, ◌≤◌, ◌↔◌, min, max, Bool, IsTrue, List, length, ◌++◌};
 ghost use Rattle.std.specs.Prelude.{drop, None, IfSome, OnOk, OnErr};
@@ -16,46 +16,46 @@ use crate::reading::{bytes_from, check_end};
 use crate::write::lengthen;
 use std::alloc::{Allocator, Global};
 
-/// A box has a name and a size (ISO/IEC 14496-12, 4.2).
+/// A box: it has a name and a size (ISO/IEC 14496-12, 4.2).
 pub trait Mp4Box: Sized {
-    /// How the values of this type are written: the name; the number of bytes; whether a value can be written; the
-    /// bytes; and the normal form, the value that the bytes are read back as. It differs from the value only in what
-    /// the bytes don't hold.
+    /// The format: name, size in bytes, condition for writing, bytes and normal form of each value. The normal form is
+    /// the value that the bytes are read back as. It differs from the value only in what the bytes do not hold.
     ghost format: { Format Self };
 
-    /// The name. The header has it as a code of four characters.
+    /// Returns the name. The header holds it as a code of four characters.
     fn box_type(&self) -> BoxType
         ensures { result ≡ format.name self.now };
 
-    /// The number of bytes that it is written in, with the header. It saturates at 2^64 - 1.
+    /// Returns the number of bytes that the box is written in, with its header. The result saturates at 2^64 - 1.
     fn box_size(&self) -> u64
         ensures { result ≡ min (format.size self.now) (2 ^ 64 - 1) };
 }
 
 /// A box whose content is read after its header.
 pub trait ReadBox: Sized {
-    /// What is read, for the bytes from the box's start on, that start, and the box's size.
+    /// The reading of a box. Its arguments are the bytes from the box's start to the end of the buffer, the offset of
+    /// that start, and the box's size.
     ghost reads: { List ℕ → ℕ → ℕ → Reading Self };
 
-    /// The number of bytes that a box has at least, whatever its size says.
+    /// The minimum number of bytes of a box, even if its size is smaller.
     ghost LEAST: { ℕ } = { 0 };
 
-    /// The number of bytes that a box has at least, whatever its size says. It is 0 where the size alone tells where
-    /// the box ends.
+    /// The minimum number of bytes of a box, even if its size is smaller. It is 0 for a type whose boxes end where
+    /// their size says.
     const LEAST: u64;
 
-    /// Reads the content of a box. `bytes` begins at the box's start, 8 bytes before the content, and goes on to the
-    /// end of the buffer. `start` is the offset of the box's start in the buffer, and `size` its size from there.
-    /// Fields are at fixed offsets of `bytes`, and may be read past `size`. An error is the first fault (missing
-    /// bytes, a check that failed, a missing child), or out of memory.
+    /// Reads the content of a box. `bytes` begins at the box's start, 8 bytes before the content, and ends at the end
+    /// of the buffer. `start` is the offset of the box's start in the buffer, and `size` is the box's size from there.
+    /// Fields are at fixed offsets of `bytes`, and may be read past `size`. The error is the first fault (missing
+    /// bytes, a failed check, a missing child), or out of memory.
     fn read_content(alloc: Global, bytes: &[u8], start: u64, size: u64) -> Result<Self>
         requires { start + size < 2 ^ 64 }
         ensures answer { Answers result (reads bytes.now start size) }
         ensures least { OnOk result (LEAST ≤ length bytes.now) };
 
-    /// Reads the box whose header was just read: `size` is the header's, and the cursor is at the end of the header.
-    /// After an `Ok` the cursor is at the end of the box, which has at least `LEAST` bytes. After an `Err` (invalid
-    /// data, end of input, a missing child, out of memory) it is where it was.
+    /// Reads the box whose header was just read. `size` is the header's size, and the cursor is at the end of the
+    /// header. After an `Ok` the cursor is at the end of the box, which has at least `LEAST` bytes. After an `Err`
+    /// (invalid data, end of input, a missing child, out of memory) the cursor is where it was.
     final fn read_box(alloc: Global, reader: &mut ByteCursor, size: u64) -> Result<Self>
         requires { 8 ≤ reader.old.position }
         ensures answer { Answers result (reading reads reader.old.bytes.now (reader.old.position - 8) size) }
@@ -73,23 +73,23 @@ pub trait ReadBox: Sized {
 
 /// A box that is read without memory.
 pub trait ReadsWithoutMemory: ReadBox {
-    /// Its reading asks for no memory.
+    /// The proof that its reading asks for no memory.
     ghost takes_none: { (bytes : List ℕ) (start size : ℕ) → TakesNone (Self.reads bytes start size) };
 }
 
-/// A box that can be written, whole or not at all.
+/// A box that can be written, either as a whole or not at all.
 pub trait WriteBox: Mp4Box {
-    /// Whether it can be written: each number fits its field, and the size of the whole box fits 32 bits.
+    /// Returns whether the box can be written: each number fits its field, and the size of the whole box fits 32 bits.
     fn is_writable(&self) -> bool
         ensures { IsTrue result ↔ Self.format.Writable self.now };
 
-    /// Fills `out`, a slice of the box's size, with the box's bytes.
+    /// Fills `out` with the box's bytes. The length of `out` is the box's size.
     fn put_box(&self, out: &mut [u8])
         requires writable { Self.format.Writable self.now }
         requires room { length out.old ≡ Self.format.size self.now }
         ensures { out.new ≡ Self.format.bytes self.now };
 
-    /// The number of its bytes, if it can be written.
+    /// Returns the box's size in bytes, or `None` if the box can't be written.
     fn writable_size(&self) -> Option<u64>
         ensures size { IfSome result (λ n. n ≡ Self.format.size self.now) }
         ensures some { IfSome result (λ _. Self.format.Writable self.now) }
@@ -114,9 +114,9 @@ pub trait WriteBox: Mp4Box {
         size
     }
 
-    /// Whether the bytes of a box, with its header, are found to be those of a box of this type that can be written.
-    /// No value is made of them, and no memory is taken. `false` says nothing: it is all that a type has to answer.
-    /// What is found so is read as a box with exactly these bytes (`laws::normal_form_is_read`).
+    /// Returns `true` only if `bytes` are all bytes, with the header, of a box of this type that can be written. The
+    /// function makes no value and takes no memory. `false` decides nothing, and a type may always return it. After a
+    /// `true` the bytes are read as a box with exactly these bytes (`laws::normal_form_is_read`).
     fn is_normal_form(bytes: &[u8]) -> bool
         ensures { IsTrue result → IsNormalForm Self.format bytes.now }
     {
@@ -124,12 +124,12 @@ pub trait WriteBox: Mp4Box {
         false
     }
 
-    /// Its bytes begin with its size and its code, and their number is its size. Its normal form can be written, has
-    /// the same bytes, and is its own normal form.
+    /// The laws of writing. A box's bytes begin with its size and its code, and their number is its size. Its normal
+    /// form can be written, has the same bytes, and is its own normal form.
     ghost write_laws: { IsWritten Self.format };
 
-    /// Appends the box's bytes and returns their number. After an `Err` the vector is as it was: invalid data if the
-    /// box can't be written, else out of memory.
+    /// Appends the box's bytes to `writer`, and returns their number. After an `Err` the vector is as it was. The error
+    /// is invalid data if the box can't be written, else out of memory.
     final fn write_box<A: Allocator>(&self, writer: &mut Vec<u8, A>) -> Result<u64>
         ensures { Writes (Self.format.Writable self.now) (Self.format.bytes self.now) writer.old.items
             writer.new.items result }
@@ -146,21 +146,23 @@ pub trait WriteBox: Mp4Box {
 
 /// A box that can be in a list of boxes.
 pub trait StreamBox: WriteBox + Drop {
-    /// The names that are read. Boxes with other names are skipped.
+    /// The names that are read. Lists skip boxes with other names.
     ghost known: { BoxType → Bool };
 
-    /// What is read under a name, for the bytes of the buffer, the box's start, and its size.
+    /// The reading of a box with a given name. Its other arguments are the bytes of the buffer, the offset of the box's
+    /// start, and the box's size.
     ghost named_reading: { BoxType → List ℕ → ℕ → ℕ → Reading Self };
 
-    /// The number of bytes that a box of a name has at least, whatever its size says.
+    /// The minimum number of bytes of a box with a given name, even if the box's size is smaller.
     ghost least: { BoxType → ℕ } = { λ _. 0 };
 
-    /// Whether boxes of this name are read.
+    /// Returns whether boxes with the name `name` are read.
     fn knows(name: BoxType) -> bool
         ensures { result ≡ known name };
 
-    /// Reads the box of this name whose header was just read. After an `Ok` the cursor is at the end of the box, which
-    /// has at least as many bytes as `least` says. After an `Err` it is where it was.
+    /// Reads the box with the name `name`, whose header was just read. `size` is the header's size. After an `Ok` the
+    /// cursor is at the end of the box, which has at least `least name` bytes. After an `Err` the cursor is where it
+    /// was.
     fn read_named(alloc: Global, name: BoxType, reader: &mut ByteCursor, size: u64) -> Result<Self>
         requires known { IsTrue (known name) }
         requires after_header { 8 ≤ reader.old.position }
@@ -169,8 +171,9 @@ pub trait StreamBox: WriteBox + Drop {
         ensures kept { OnErr result (reader.new.position ≡ reader.old.position) }
         ensures bytes { reader.new.bytes ≡ reader.old.bytes };
 
-    /// Reads the box of this name that begins at an offset of the buffer, 8 bytes before its content, and has this size
-    /// from there. Appends it. After an `Err` the list is as it was.
+    /// Reads the box with the name `name` at offset `start` of the buffer `bytes`, and appends it to `boxes`. `start`
+    /// is 8 bytes before the box's content, and `size` is the box's size from there. After an `Err` the list is as it
+    /// was.
     fn push_named(
         alloc: Global,
         name: BoxType,
@@ -194,17 +197,17 @@ pub trait StreamBox: WriteBox + Drop {
         Ok(())
     }
 
-    /// Its name is known, and is the name that its code is read as.
+    /// The proof that the name of a box that can be written is known, and is the name that its code is read as.
     ghost own_name: { (v : Self) → Self.format.Writable v → OwnName known (Self.format.name v) };
 
-    /// Its bytes are read, under its name, as its normal form, with any bytes before and after them.
+    /// The proof that a box's bytes are read, under its name, as its normal form, with any bytes before and after them.
     ghost read_back: { (v : Self) → Self.format.Writable v
         → ReadsBack (named_reading (Self.format.name v)) (Self.format.bytes v) (Self.format.normal v) };
 }
 
-/// A box with its laws: what was written is read back.
+/// A box with its laws: a written box is read back.
 pub trait BoxLaws: ReadBox + WriteBox {
-    /// The laws of writing. Its bytes are read as its normal form, with any bytes after them. A value that was read
-    /// is its own normal form, and can be written unless it is too large.
+    /// The laws of a box: those of writing, and two more. Its bytes are read as its normal form, with any bytes after
+    /// them. A value that was read is its own normal form, and can be written unless it is too large.
     ghost laws: { IsBox Self.reads Self.format };
 }

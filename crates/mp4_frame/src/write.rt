@@ -1,4 +1,4 @@
-//! Writing lists of boxes, whole or not at all.
+//! Lists of boxes, written as a whole or not at all.
 
 ghost use Rattle.std.specs.Prelude.{◌≡◌, ◌-◌, ◌^◌, ◌++◌, min, None, length, All, replicate, IfSome, OnOk, OnErr, IfErr};
 ghost use Rattle.mp4_frame.specs.Streams.{stream};
@@ -10,7 +10,7 @@ use crate::error::{Error, Result};
 use crate::traits::{Mp4Box, StreamBox, WriteBox};
 use std::alloc::Allocator;
 
-/// Appends `n` zero bytes, with one request for memory.
+/// Appends `n` zero bytes to `writer`, with one request for memory.
 pub(crate) fn lengthen<A: Allocator>(writer: &mut Vec<u8, A>, n: usize) -> Result<()>
     ensures ok { OnOk result (writer.new.items ≡ writer.old.items ++ replicate n 0) }
     ensures err { OnErr result (writer.new.items ≡ writer.old.items) }
@@ -23,7 +23,7 @@ pub(crate) fn lengthen<A: Allocator>(writer: &mut Vec<u8, A>, n: usize) -> Resul
     Ok(())
 }
 
-/// Appends `size` zero bytes.
+/// Appends `size` zero bytes to `writer`. After an `Err`, which is always out of memory, the vector is as it was.
 pub fn write_zeros<A: Allocator>(writer: &mut Vec<u8, A>, size: u64) -> Result<()>
     ensures ok { OnOk result (writer.new.items ≡ writer.old.items ++ replicate size 0) }
     ensures err { OnErr result (writer.new.items ≡ writer.old.items) }
@@ -32,7 +32,7 @@ pub fn write_zeros<A: Allocator>(writer: &mut Vec<u8, A>, size: u64) -> Result<(
     lengthen(writer, size as usize)
 }
 
-/// The number of bytes of all boxes, at most 2^64 - 1; none if one of them can't be written.
+/// Returns the number of bytes of all boxes, at most 2^64 - 1, or `None` if one of the boxes can't be written.
 fn writable_total<B: WriteBox>(boxes: &[B]) -> Option<u64>
     ensures all { IfSome result (λ n. All B.format.Writable boxes.now) }
     ensures size { IfSome result (λ n. n ≡ min (length (stream B.format.bytes boxes.now)) (2 ^ 64 - 1)) }
@@ -45,7 +45,7 @@ fn writable_total<B: WriteBox>(boxes: &[B]) -> Option<u64>
     Some(total)
 }
 
-/// Puts the boxes' bytes, one after the other.
+/// Fills `out` with the boxes' bytes, one box after the other. The length of `out` is the number of these bytes.
 pub fn put_boxes<B: WriteBox>(boxes: &[B], out: &mut [u8])
     requires writable { All B.format.Writable boxes.now }
     requires room { length out.old ≡ length (stream B.format.bytes boxes.now) }
@@ -57,8 +57,8 @@ pub fn put_boxes<B: WriteBox>(boxes: &[B], out: &mut [u8])
     }
 }
 
-/// Appends the boxes' bytes and returns their number. After an `Err` the vector is as it was: invalid data if a box
-/// can't be written, else out of memory.
+/// Appends the boxes' bytes to `writer`, and returns their number. After an `Err` the vector is as it was. The error is
+/// invalid data if a box can't be written, else out of memory.
 pub fn write_boxes<B: StreamBox, A: Allocator>(boxes: &[B], writer: &mut Vec<u8, A>) -> Result<u64>
     ensures { Writes (All B.format.Writable boxes.now) (stream B.format.bytes boxes.now) writer.old.items
         writer.new.items result }

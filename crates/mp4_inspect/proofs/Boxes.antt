@@ -1,9 +1,10 @@
--- Boxes that are written one after the other, and what is known of the bytes of a source.
-use Rattle.std.proofs.Common.{◌≡◌, ℕ, ◌+◌, ◌<◌, Bool, true, false, List, [], ◌∷◌, ◌++◌, length, take, get_or, inl, inr}
+-- Boxes that are written in order, and the known bytes of a source.
+use Rattle.std.proofs.Common.{◌≡◌, ℕ, ◌+◌, ◌<◌, Bool, false, List, [], ◌∷◌, ◌++◌, length, take, get_or, inl, inr}
 use Rattle.std.proofs.Common.{None, Some, Result, Ok, Err, refl, sym, ap, subst, ◌∙◌, append_assoc, append-nil}
 use Rattle.std.specs.Prelude.{◌||◌, IfSome, IfOk, OnErr}
 use Rattle.std.specs.declared.option.Option.{Option}
 use Rattle.std.proofs.KnownBytes.{Appends-nil, Appends-trans}
+use Rattle.std.proofs.Math.Bool.{or_assoc, or-false}
 use Rattle.std.specs.Io.KnownBytes.{Appends}
 use Rattle.std.proofs.Math.Seq.{take-length, take-append-add}
 use Rattle.std.proofs.lemmas.List.{take_more}
@@ -14,26 +15,8 @@ use Rattle.mp4_io.specs.declared.failure.Failure.{Failure}
 use Rattle.mp4_io.specs.declared.failure.Failure.TheVariants as failures
 use Rattle.mp4_inspect.specs.Written.{Tells, TellsAll, WritesBox, WritesBoxes, BeginsBox, BeginsBoxes, WritesFile}
 use Rattle.mp4_inspect.specs.Written.{BeginsFile}
-use Rattle.mp4_tree.specs.Tree.{boxes_of}
-use Rattle.mp4_tree.specs.declared.tree_box.TreeBox.{TreeBox}
-
-pub or_assoc : (a b c : Bool) → ((a || b) || c) ≡ (a || (b || c))
-or_assoc true b c = refl
-or_assoc false b c = refl
-
-pub or_false : (a : Bool) → a ≡ (a || false)
-or_false true = refl
-or_false false = refl
-
--- what two clauses say of the same bytes, where they are known
-pub both_known : (r s : Option (List ℕ)) {P Q R : List ℕ → Type 0} → s ≡ r → IfSome r P → IfSome s Q
-    → ((B : List ℕ) → P B → Q B → R B) → IfSome r R
-both_known None s e p q f = tt
-both_known (Some B) s {P} {Q} {R} e p q f = f B p (subst (λ (t : Option (List ℕ)). IfSome t Q) e q)
-
-pub always_known : (r : Option (List ℕ)) {P : List ℕ → Type 0} → ((B : List ℕ) → P B) → IfSome r P
-always_known None f = tt
-always_known (Some B) f = f B
+use Rattle.mp4_walk.specs.FileBoxes.{boxes_of}
+use Rattle.mp4_walk.specs.declared.tree_box.TreeBox.{TreeBox}
 
 module _ {A : Type 0} (known : BoxType → Bool) (reading : BoxType → List ℕ → ℕ → ℕ → Reading A) (B : List ℕ) where
   -- a box after others
@@ -48,7 +31,7 @@ module _ {A : Type 0} (known : BoxType → Bool) (reading : BoxType → List ℕ
     tells,
     (refl, refl),
     ap (λ (xs : List ℕ). xs ++ last) none ∙ sym (append-nil last),
-    ap (λ (b : Bool). b || here) sound ∙ or_false here,
+    ap (λ (b : Bool). b || here) sound ∙ sym (or-false here),
   )
   tells_more (x ∷ boxes) text faulty found last here
       (first, rest, one, more, tells_one, tells_rest, is_text, is_faulty) tells = (
@@ -130,7 +113,7 @@ module _ {A : Type 0} (known : BoxType → Bool) (reading : BoxType → List ℕ
         (take k text) headed appends),
   )
 
-  -- a beginning of the heading alone
+  -- a beginning of only the heading
   begins_heading : (heading B : List ℕ) (a b : Option (List ℕ)) (k : ℕ) → Appends a b (take k heading)
       → BeginsFile known reading heading B a b
   begins_heading heading B a b k begun =
@@ -140,7 +123,7 @@ module _ {A : Type 0} (known : BoxType → Bool) (reading : BoxType → List ℕ
   pub begins_nothing : (heading B : List ℕ) (a : Option (List ℕ)) → BeginsFile known reading heading B a a
   begins_nothing heading B a = (0, 0, [], false, (refl, refl), Appends-nil a)
 
-  -- the same whatever the outcome is, and whether the bytes are known
+  -- that holds for every outcome, whether or not the bytes are known
   pub begins_unwritten : (result : Result Bool Failure) (r : Option (List ℕ)) (heading : List ℕ) (a : Option (List ℕ))
       → OnErr result (IfSome r (λ B. BeginsFile known reading heading B a a))
   begins_unwritten (Ok faulty) r heading a = tt

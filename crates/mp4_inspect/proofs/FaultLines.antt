@@ -1,4 +1,4 @@
--- The lines of boxes, one after the other.
+-- The lines of boxes, in order.
 use Rattle.std.proofs.Common.{◌≡◌, ℕ, ◌+◌, ◌<◌, Bool, true, false, List, [], ◌∷◌, ◌++◌, length, take, get_or, refl}
 use Rattle.std.proofs.Common.{sym, ap, subst, ◌∙◌, append_assoc, append-nil}
 use Rattle.std.proofs.KnownBytes.{Appends-nil, Appends-trans}
@@ -9,23 +9,23 @@ use Rattle.std.specs.declared.option.Option.{Option}
 use Rattle.std.specs.Io.KnownBytes.{Appends}
 use Rattle.mp4_frame.specs.Reading.{Reading}
 use Rattle.mp4_frame.specs.declared.box_type.BoxType.{BoxType}
-use Rattle.mp4_inspect.proofs.Boxes.{or_assoc, or_false}
+use Rattle.std.proofs.Math.Bool.{or_assoc, or-false}
 use Rattle.mp4_inspect.specs.Content.{ShowsAs}
 use Rattle.mp4_inspect.specs.Faults.{told_text, movie_text, IsLine, IsLineIf, IsTold, AreLines, Faults, WritesLines}
 use Rattle.mp4_inspect.specs.Faults.{WritesMore, WritesFaults, WritesAllFaults, WritesCheck}
 use Rattle.mp4_inspect.specs.Kind.{kind_of}
 use Rattle.mp4_inspect.specs.declared.content.Content.{Content}
 use Rattle.mp4_io.specs.declared.failure.Failure.{Failure}
-use Rattle.mp4_tree.specs.Tree.{boxes_of}
-use Rattle.mp4_tree.specs.declared.tree_box.TreeBox.{TreeBox}
+use Rattle.mp4_walk.specs.FileBoxes.{boxes_of}
+use Rattle.mp4_walk.specs.declared.tree_box.TreeBox.{TreeBox}
 
--- the line that was told, if one was
+-- the line of the content, if there is one
 line_if : (told : Bool) (front line : List ℕ) (found : TreeBox) → (told ≡ true → IsLine front found line)
     → IsLineIf told front found (told_text told line)
 line_if true front line found is = is refl
 line_if false front line found is = refl
 
--- the three lines of a box beside that of what is read of it
+-- the three lines of a box besides the line of its content
 pub writes_more : (front one two three : List ℕ) (found : TreeBox) (repeated lacks outside : Bool) (a b c d : Option
     (List ℕ))
     → (repeated ≡ true → IsLine front found one) → Appends a b (told_text repeated one)
@@ -90,7 +90,7 @@ module _ {A : Type 0} (known : BoxType → Bool) (reading : BoxType → List ℕ
     lines,
     (refl, refl),
     ap (λ (xs : List ℕ). xs ++ last) none ∙ sym (append-nil last),
-    ap (λ (b : Bool). b || here) sound ∙ or_false here,
+    ap (λ (b : Bool). b || here) sound ∙ sym (or-false here),
   )
   faults_more front (x ∷ boxes) text faulty found last here
       (first, rest, one, more, lines_one, lines_rest, is_text, is_faulty) lines = (
@@ -135,7 +135,7 @@ module _ {A : Type 0} (known : BoxType → Bool) (reading : BoxType → List ℕ
   faults_all front boxes a b c faulty movie (text, faults, appends) last =
       (front, text, faulty, movie, faults, Appends-trans a b c text (movie_text movie front) appends last, refl)
 
--- the same where the file's bytes are known
+-- all lines of a file whose bytes are known
 pub faults_known : {A : Type 0} (known : BoxType → Bool) (reading : BoxType → List ℕ → ℕ → ℕ → Reading A)
     (result : Result Bool Failure) (r : Option (List ℕ)) (boxes : List TreeBox) (a b : Option (List ℕ))
     → IfOk result (λ faulty. WritesAllFaults known reading r boxes a b faulty)
@@ -145,13 +145,7 @@ faults_known known reading (Err failure) (Some bytes) boxes a b written = λ all
 faults_known known reading (Ok faulty) (Some bytes) boxes a b written =
     λ all. subst (λ (xs : List TreeBox). WritesAllFaults known reading (Some bytes) xs a b faulty) all written
 
--- what a call returned that fails only when out of memory
-pub passed : {V E F : Type 0} (P : V → Type 0) (outcome : Result V E) (result : Result V F)
-    → IfOk result (λ value. outcome ≡ Ok value) → IfOk outcome P → IfOk result P
-passed P outcome (Err failure) same holds = tt
-passed {E = E} P outcome (Ok value) same holds = subst (λ (r : Result _ E). IfOk r P) same holds
-
--- whether what is read of a box is told
+-- whether the content of a box has a line
 pub told_of : {A E F : Type 0} (known : BoxType → Bool) (reading : BoxType → List ℕ → ℕ → ℕ → Reading A)
     (bytes : Option (List ℕ)) (found : TreeBox) (content : Content A) (outcome : Result Bool E) (result : Result Bool F)
     → IfOk result (λ value. outcome ≡ Ok value)

@@ -1,4 +1,4 @@
--- What is written of a box, part by part, and of boxes one after the other.
+-- The output for a box, part by part, and for boxes in order.
 use Rattle.std.proofs.KnownBytes.{Appends-trans}
 use Rattle.std.specs.Io.KnownBytes.{Appends}
 use Rattle.std.specs.Prelude.{IfSome}
@@ -13,23 +13,23 @@ use Rattle.std.proofs.lemmas.List.{drop_all}
 use Rattle.std.specs.Prelude.{codes}
 use Rattle.json.specs.Token.{Token}
 use Rattle.json.specs.Written.{Written}
-use Rattle.mp4_fields.specs.Nesting.{fields}
+use Rattle.mp4_show.specs.Nesting.{fields}
 use Rattle.mp4_inspect.specs.Json.{number_member, type_token, head_tokens, AreFields, IsRest, end_tokens, levels_end}
 use Rattle.mp4_inspect.specs.Json.{box_tokens, open_inside, open_after, IsShown, AreBoxes, file_tokens, IsJson, comma}
 use Rattle.mp4_inspect.specs.Json.{WritesJson}
-use Rattle.mp4_inspect.proofs.Boxes.{or_assoc, or_false}
+use Rattle.std.proofs.Math.Bool.{or_assoc, or-false}
 use Rattle.mp4_inspect.proofs.WholeJson.{whole_json}
 use Rattle.mp4_frame.specs.Reading.{Reading}
 use Rattle.mp4_frame.specs.declared.box_type.BoxType.{BoxType}
 use Rattle.json.specs.Print.{print}
 use Rattle.mp4_inspect.specs.declared.content.Content.{Content}
-use Rattle.mp4_sinks.proofs.Whole.{puts_more, puts_then}
-use Rattle.mp4_sinks.specs.Escaped.{json_escaped}
-use Rattle.mp4_sinks.specs.Tokens.{Puts, PutsAll}
-use Rattle.mp4_tree.specs.Tree.{boxes_of}
-use Rattle.mp4_tree.specs.declared.tree_box.TreeBox.{TreeBox}
+use Rattle.mp4_show.proofs.Whole.{puts_more, puts_then}
+use Rattle.mp4_show.specs.Escaped.{json_escaped}
+use Rattle.mp4_show.specs.Tokens.{Puts, PutsAll}
+use Rattle.mp4_walk.specs.FileBoxes.{boxes_of}
+use Rattle.mp4_walk.specs.declared.tree_box.TreeBox.{TreeBox}
 
--- the head of a box, if all of it could be written
+-- the head of a box that could be written whole
 pub puts_head : {E : Type 0} (r : Result (Unit {0}) E) (found : TreeBox) (a b c d e f : Written)
     → Puts a b (Token.begin_object ∷ []) → Puts b c (Token.key (codes "type") ∷ type_token found.code ∷ [])
     → Puts c d (number_member (codes "position") found.position)
@@ -45,7 +45,7 @@ puts_head r found a b c d e f begun type position size header =
     (puts_then r c d f (number_member (codes "position") found.position) places position
     (puts_then r d e f (number_member (codes "length") found.length) head size header)))
 
--- the fields of a box, in an object of their own
+-- the fields of a box, in an object
 pub puts_fields : (a b c d e : Written) → Puts a b (Token.key (codes "fields") ∷ []) → Puts b c (Token.begin_object
     ∷ [])
     → PutsAll fields c d → Puts d e (Token.end_object ∷ []) → (ts : List Token) × AreFields ts × Puts a e ts
@@ -96,7 +96,7 @@ puts_box (Ok _) begun found content a b c d e ended head (rest, is, put) last = 
 )
 puts_box (Err _) begun found content a b c d e ended head rest last = tt
 
--- what is written of the first i boxes, and what is left of the others: with it it is what is written of all
+-- the output for the first `i` boxes, which together with that for the others is the output for all
 abbrev pub Leads : {A : Type 0} → (BoxType → Bool) → (BoxType → List ℕ → ℕ → ℕ → Reading A) → Option (List ℕ)
     → List TreeBox → ℕ → ℕ → Bool → Written → Written → Type 0
 Leads known reading bytes boxes i begun faulty a b =
@@ -138,14 +138,14 @@ module _ {A : Type 0} (known : BoxType → Bool) (reading : BoxType → List ℕ
             (rest, more, here, there, shown, are, refl, refl)))),
       )
 
-  -- all boxes are written, and the ends of those that are begun
+  -- all boxes are written, and all open boxes are ended
   pub leads_all : (boxes : List TreeBox) (i begun n : ℕ) (faulty : Bool) (a b c : Written) → length boxes ≤ i
       → n ≡ begun → Leads known reading bytes boxes i begun faulty a b → Puts b c (levels_end n)
       → (inner : List Token) × AreBoxes known reading bytes 0 boxes inner faulty × Puts a c inner
   leads_all boxes i begun n faulty a b c all same (front, put, leads) ended =
       let ends = subst (λ (k : ℕ). Puts b c (levels_end k)) same ended in (
         front ++ levels_end begun,
-        subst (AreBoxes known reading bytes 0 boxes (front ++ levels_end begun)) (sym (or_false faulty))
+        subst (AreBoxes known reading bytes 0 boxes (front ++ levels_end begun)) (or-false faulty)
             (leads (levels_end begun) false
             (subst (λ (xs : List TreeBox). AreBoxes known reading bytes begun xs (levels_end begun) false)
             (sym (drop_all i boxes all)) (refl, refl))),
@@ -170,7 +170,7 @@ module _ {A : Type 0} (known : BoxType → Bool) (reading : BoxType → List ℕ
         is front ∙ ap (λ (xs : List Token). json_escaped (print xs)) tokens,
       )
 
--- how many are begun grows by one at most
+-- the number of open boxes grows by at most one
 inside_bound : (n : ℕ) (children : Option ℕ) → open_inside n children ≤ suc n
 inside_bound n None = omega arith
 inside_bound n (Some first) = omega arith

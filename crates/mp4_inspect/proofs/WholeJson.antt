@@ -6,7 +6,7 @@ use Rattle.std.specs.declared.option.Option.{Option}
 use Rattle.json.specs.Json.{Json as Value}
 use Rattle.json.specs.Token.{Token}
 use Rattle.json.specs.Written.{Written}
-use Rattle.mp4_fields.specs.Nesting.{Level, fields, entries}
+use Rattle.mp4_show.specs.Nesting.{Level, fields, entries}
 use Rattle.mp4_frame.specs.Reading.{Reading}
 use Rattle.mp4_frame.specs.declared.box_type.BoxType.{BoxType}
 use Rattle.mp4_frame.specs.declared.four_cc.FourCC.{FourCC}
@@ -14,18 +14,18 @@ use Rattle.mp4_inspect.specs.Json.{number_member, type_token, head_tokens, IsRes
 use Rattle.mp4_inspect.specs.Json.{open_after, box_tokens, AreBoxes, file_tokens, Json}
 use Rattle.mp4_inspect.specs.declared.content.Content.{Content}
 use Rattle.mp4_inspect.specs.declared.content.Content.TheVariants as contents
-use Rattle.mp4_sinks.proofs.Whole.{since_member, since_begun, since_ended, closed_whole, none_whole}
-use Rattle.mp4_sinks.specs.Tokens.{IsWhole, IsName, bracket, end_bracket, Since}
-use Rattle.mp4_tree.specs.declared.tree_box.TreeBox.{TreeBox}
+use Rattle.mp4_show.proofs.Whole.{since_member, since_begun, since_ended, closed_whole, none_whole}
+use Rattle.mp4_show.specs.Tokens.{IsWhole, IsName, bracket, end_bracket, Since}
+use Rattle.mp4_walk.specs.declared.tree_box.TreeBox.{TreeBox}
 
 abbrev state : List Token → Written
 state ts = record { before = []; tokens = ts; spare = 0 }
 
--- these levels are begun in the object of the file
+-- these levels are open in the object of the file
 abbrev Inside : List Level → List Token → Type 0
 Inside levels ts = Since (state (Token.begin_object ∷ [])) levels (state ts)
 
--- the levels under so many boxes that hold boxes
+-- the levels under `n` open containers
 abbrev under : ℕ → List Level
 under zero = []
 under (suc n) = entries ∷ fields ∷ under n
@@ -48,7 +48,7 @@ end outer inner levels ts inside =
     since_ended outer inner levels (state (Token.begin_object ∷ [])) (state ts) (state (ts ++ end_bracket inner ∷ []))
     inside (refl, refl)
 
--- so many levels end
+-- levels end
 ends : (n m k : ℕ) (ts : List Token) → k ≡ n + m → Inside (entries ∷ fields ∷ under k) ts
     → Inside (entries ∷ fields ∷ under m) (ts ++ levels_end n)
 ends zero m k ts is inside =
@@ -91,7 +91,7 @@ heads n found ts inside =
     (begin entries fields (fields ∷ under n) ts [] inside refl) (type_whole found.code))
     (Value.number _, refl)) (Value.number _, refl)) (Value.number _, refl))
 
--- what is read of it
+-- the content of a box is written
 rests : {A : Type 0} (content : Content A) (levels : List Level) (ts rest : List Token) → IsRest content rest
     → Inside (fields ∷ levels) ts → Inside (fields ∷ levels) (ts ++ rest)
 rests contents.Boxes levels ts rest none inside =
@@ -115,7 +115,7 @@ rests (contents.Faulty fault) levels ts rest (text, is) inside =
     subst (λ (xs : List Token). Inside (fields ∷ levels) (ts ++ xs)) (sym is)
     (member levels ts (codes "fault") (Token.string text ∷ []) inside (Value.string text, refl))
 
--- it is ended, or boxes are begun in it
+-- the box ends, or its children begin
 tails : (children : Option ℕ) (n : ℕ) (ts : List Token) → Inside (fields ∷ entries ∷ fields ∷ under n) ts
     → Inside (entries ∷ fields ∷ under (open_inside n children)) (ts ++ end_tokens children)
 tails None n ts inside = end entries fields (fields ∷ under n) ts inside
@@ -128,7 +128,7 @@ tails (Some first) n ts inside =
 
 module _ {A : Type 0} (known : BoxType → Bool) (reading : BoxType → List ℕ → ℕ → ℕ → Reading A) (bytes : Option
     (List ℕ)) where
-  -- boxes, and the ends of all that are begun
+  -- boxes, and the ends of all open boxes
   all_boxes : (boxes : List TreeBox) (begun : ℕ) (ts inner : List Token) (faulty : Bool)
       → AreBoxes known reading bytes begun boxes inner faulty → Inside (entries ∷ fields ∷ under begun) ts
       → Inside (entries ∷ fields ∷ []) (ts ++ inner)

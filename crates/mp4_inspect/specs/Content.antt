@@ -1,4 +1,4 @@
--- What is read of a box, by how it is read, and whether it has a fault.
+-- The content of a box that is shown, by how the box is read, and whether it has a fault.
 use Rattle.std.specs.Prelude.{◌≡◌, ◌≢◌, ℕ, ◌+◌, ◌-◌, ◌<◌, ◌≤◌, min, nat_le, Bool, true, false, List, [], ◌∷◌, length}
 use Rattle.std.specs.Prelude.{Ok, MatchBool}
 use Rattle.mp4_frame.specs.Heads.{header, header_length}
@@ -10,45 +10,45 @@ use Rattle.mp4_inspect.specs.declared.content.Content.{Content}
 use Rattle.mp4_inspect.specs.declared.content.Content.TheVariants as contents
 use Rattle.mp4_inspect.specs.declared.kind.Kind.{Kind}
 use Rattle.mp4_inspect.specs.declared.kind.Kind.TheVariants as kinds
-use Rattle.mp4_tree.specs.Source.{piece}
-use Rattle.mp4_tree.specs.declared.tree_box.TreeBox.{TreeBox}
+use Rattle.mp4_walk.specs.Source.{piece}
+use Rattle.mp4_walk.specs.declared.tree_box.TreeBox.{TreeBox}
 
--- what is read in a box from its own bytes alone: these end where the box does, and its header is at o
+-- the reading of a box from its own bytes only, which end where the box ends; its header is at `o`
 abbrev pub leaf : {A : Type 0} → (BoxType → List ℕ → ℕ → ℕ → Reading A) → BoxType → List ℕ → ℕ → Reading A
 leaf reading name own o =
     header own o >>= λ _. reading name own (o + header_length own o - 8) (length own - (o + header_length own o - 8))
 
--- it is shown that the box has a fault
+-- the content shows that the box has a fault
 abbrev pub is_faulty : {A : Type 0} → Content A → Bool
 is_faulty (contents.Faulty _) = true
 is_faulty _ = false
 
--- what is shown is the value of a reading, or its fault
+-- the content is the value of a reading, or its fault
 abbrev pub Shows : {A : Type 0} → Reading A → Content A → Type 0
 Shows r (contents.Known v) = r.outcome ≡ Ok v
 Shows r (contents.Faulty e) = Refuses e r
 Shows r _ = ⊥
 
--- a box is shown as the codec reads it, if it reads boxes of this name
+-- a box is read whole, if boxes with its name are
 abbrev pub ShowsKnown : {A : Type 0} → (BoxType → Bool) → (BoxType → List ℕ → ℕ → ℕ → Reading A) → BoxType → List ℕ
     → TreeBox → Content A → Type 0
 ShowsKnown known reading name bytes found content =
     MatchBool (known name) (Shows (leaf reading name (piece bytes found.position found.length) 0) content)
     (content ≡ contents.Unread)
 
--- the first bytes of a box's content: so many, or as many as there are
+-- the first `n` bytes of the content of a box, or all if there are fewer
 abbrev pub front : List ℕ → TreeBox → ℕ → List ℕ
 front bytes found most =
     piece bytes (found.position + found.header_length) (min (found.length - found.header_length) most)
 
--- the front of the content is shown, if it has so many bytes, and else there is a fault
+-- the front of the content is shown, if it has at least `least` bytes; else there is a fault
 abbrev pub ShowsFront : {A : Type 0} → Kind → ℕ → ℕ → List ℕ → TreeBox → Content A → Type 0
 ShowsFront kind least most bytes found (contents.Front k v) =
     (k ≡ kind) × (least ≤ found.length - found.header_length) × (v.items ≡ front bytes found most)
 ShowsFront kind least most bytes found (contents.Faulty e) = found.length - found.header_length < least
 ShowsFront kind least most bytes found _ = ⊥
 
--- the four zero bytes with which a box ends are shown, and other bytes are a fault
+-- the four zero bytes that end a box are shown, and other bytes are a fault
 abbrev pub ShowsEnd : {A : Type 0} → List ℕ → TreeBox → Content A → Type 0
 ShowsEnd bytes found (contents.Front k v) =
     (k ≡ kinds.Terminator) × (v.items ≡ piece bytes found.position found.length)
@@ -57,8 +57,8 @@ ShowsEnd bytes found (contents.Faulty e) =
     (e ≡ errors.IoError) × (piece bytes found.position found.length ≢ 0 ∷ 0 ∷ 0 ∷ 0 ∷ [])
 ShowsEnd bytes found _ = ⊥
 
--- What is shown of a box, by how it is read. A handler with a byte of its name, the 25th, is shown from its bytes; the
--- codec refuses others.
+-- The content of a box that is shown, by how the box is read. A handler with at least one byte of its name, the 25th
+-- byte, is shown from its bytes; the codec refuses others.
 abbrev pub ShowsAs : {A : Type 0} → (BoxType → Bool) → (BoxType → List ℕ → ℕ → ℕ → Reading A) → List ℕ → TreeBox → Kind
     → Content A → Type 0
 ShowsAs known reading bytes found kinds.Boxes content = content ≡ contents.Boxes

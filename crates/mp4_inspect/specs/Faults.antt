@@ -1,4 +1,4 @@
--- Which boxes of a file `mp4inspect check` writes lines of, and what these begin with.
+-- The boxes of a file for which `mp4inspect check` writes lines, and the beginnings of these lines.
 use Rattle.std.specs.Prelude.{◌≡◌, ℕ, ◌||◌, not, Bool, true, false, List, [], ◌∷◌, ◌++◌, codes, decimal, Some, IfSome}
 use Rattle.std.specs.Prelude.{⊤}
 use Rattle.std.specs.Prelude.{if◌then◌else◌}
@@ -10,10 +10,10 @@ use Rattle.mp4_inspect.specs.Content.{ShowsAs}
 use Rattle.mp4_inspect.specs.Kind.{kind_of}
 use Rattle.mp4_inspect.specs.declared.content.Content.{Content}
 use Rattle.mp4_inspect.specs.declared.content.Content.TheVariants as contents
-use Rattle.mp4_tree.specs.Tree.{boxes_of}
-use Rattle.mp4_tree.specs.declared.tree_box.TreeBox.{TreeBox}
+use Rattle.mp4_walk.specs.FileBoxes.{boxes_of}
+use Rattle.mp4_walk.specs.declared.tree_box.TreeBox.{TreeBox}
 
--- a line: what each line of the file begins with, a position, a path and what is said
+-- a line: the beginning of each line of the file, a position, a path and a text
 abbrev pub line_text : List ℕ → ℕ → List ℕ → List ℕ → List ℕ
 line_text front position path said =
     front ++ (decimal position ++ (codes " " ++ (path ++ (codes ": " ++ (said ++ 10 ∷ [])))))
@@ -22,7 +22,7 @@ line_text front position path said =
 abbrev pub IsLine : List ℕ → TreeBox → List ℕ → Type 0
 IsLine front found line = (path said : List ℕ) × (line ≡ line_text front found.position path said)
 
--- a line of it, or nothing
+-- a line of this box, or nothing
 abbrev pub IsLineIf : Bool → List ℕ → TreeBox → List ℕ → Type 0
 IsLineIf true front found line = IsLine front found line
 IsLineIf false front found line = line ≡ []
@@ -30,23 +30,23 @@ IsLineIf false front found line = line ≡ []
 abbrev pub told_text : Bool → List ℕ → List ℕ
 told_text told line = if told then line else []
 
--- whether a line tells of what is read of a box: it does where that is a fault, and does not where the codec reads
--- nothing of it; of what the codec reads a line may tell that chunks are not in media data, or of a track_ID
+-- whether the content of a box has a line. A fault has one, and a box that the codec does not read has none. A box that
+-- the codec reads may have one, for chunks outside the media data or for its track_ID
 abbrev pub IsTold : {A : Type 0} → Content A → Bool → Type 0
 IsTold (contents.Faulty fault) told = told ≡ true
 IsTold (contents.Known value) told = ⊤
 IsTold _ told = told ≡ false
 
--- the lines of a box beside that of what is read of it, each of which may be missing: that it is one too many, what it
--- lacks, and what is wrong with its samples; and whether there is one
+-- the lines of a box besides the line of its content, each of which may be missing: that it is one too many, the boxes
+-- that it lacks, and the faults of its samples; and whether there is one
 abbrev pub AreMore : List ℕ → TreeBox → List ℕ → Bool → Type 0
 AreMore front found text faulty =
     (one two three : List ℕ) × (repeated lacks outside : Bool)
     × IsLineIf repeated front found one × IsLineIf lacks front found two × IsLineIf outside front found three
     × (text ≡ one ++ (two ++ three)) × (faulty ≡ (repeated || (lacks || outside)))
 
--- the lines of a box: one of what is read of it, or none, and the others; and whether there is a line. Where the file's
--- bytes are known, what is read is by them and the box's kind
+-- the lines of a box: at most one for its content, and the others; and whether there is a line. If the bytes of the
+-- file are known, they and the kind of the box decide the content
 abbrev pub AreLines : {A : Type 0} → (BoxType → Bool) → (BoxType → List ℕ → ℕ → ℕ → Reading A) → Option (List ℕ)
     → List ℕ → TreeBox → List ℕ → Bool → Type 0
 AreLines {A} known reading bytes front found text faulty =
@@ -55,7 +55,7 @@ AreLines {A} known reading bytes front found text faulty =
     × IsTold content told × IsLineIf told front found first × AreMore front found rest more
     × (text ≡ first ++ rest) × (faulty ≡ (told || more))
 
--- the lines of these boxes, in order
+-- the lines of boxes, in order
 abbrev pub Faults : {A : Type 0} → (BoxType → Bool) → (BoxType → List ℕ → ℕ → ℕ → Reading A) → Option (List ℕ)
     → List ℕ → List TreeBox → List ℕ → Bool → Type 0
 Faults known reading bytes front [] text faulty = (text ≡ []) × (faulty ≡ false)
@@ -64,7 +64,7 @@ Faults known reading bytes front (found ∷ boxes) text faulty =
     × Faults known reading bytes front boxes rest there
     × (text ≡ first ++ rest) × (faulty ≡ (here || there))
 
--- the lines of a box beside that of what is read of it are written, and whether there are any
+-- the lines of a box besides the line of its content are written, and whether there are any
 abbrev pub WritesMore : List ℕ → TreeBox → Option (List ℕ) → Option (List ℕ) → Bool → Type 0
 WritesMore front found old new faulty = (text : List ℕ) × AreMore front found text faulty × Appends old new text
 
@@ -74,7 +74,7 @@ abbrev pub WritesLines : {A : Type 0} → (BoxType → Bool) → (BoxType → Li
 WritesLines known reading bytes front found old new faulty =
     (text : List ℕ) × AreLines known reading bytes front found text faulty × Appends old new text
 
--- the lines of these boxes are written, and whether there are any
+-- the lines of boxes are written, and whether there are any
 abbrev pub WritesFaults : {A : Type 0} → (BoxType → Bool) → (BoxType → List ℕ → ℕ → ℕ → Reading A) → Option (List ℕ)
     → List ℕ → List TreeBox → Option (List ℕ) → Option (List ℕ) → Bool → Type 0
 WritesFaults known reading bytes front boxes old new faulty =
@@ -91,7 +91,7 @@ WritesAllFaults known reading bytes boxes old new faulty =
     (front text : List ℕ) × (here movie : Bool) × Faults known reading bytes front boxes text here
     × Appends old new (text ++ movie_text movie front) × (faulty ≡ (here || not movie))
 
--- the lines of a file of these bytes are written, and whether there are any
+-- the lines of a file with these bytes are written, and whether there are any
 abbrev pub WritesCheck : {A : Type 0} → (BoxType → Bool) → (BoxType → List ℕ → ℕ → ℕ → Reading A) → List ℕ
     → Option (List ℕ) → Option (List ℕ) → Bool → Type 0
 WritesCheck known reading bytes old new faulty =

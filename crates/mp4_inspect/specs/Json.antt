@@ -1,4 +1,4 @@
--- What is written of a file as JSON, in tokens (RFC 8259).
+-- The JSON of a file, in tokens (RFC 8259).
 use Rattle.std.specs.Prelude.{◌≡◌, ℕ, zero, suc, ◌-◌, ◌||◌, min, Bool, false, List, [], ◌∷◌, ◌++◌, codes, decimal}
 use Rattle.std.specs.Prelude.{IfSome}
 use Rattle.std.specs.Prelude.{None, Some, if◌then◌else◌}
@@ -6,7 +6,7 @@ use Rattle.std.specs.Io.KnownBytes.{Appends}
 use Rattle.std.specs.declared.option.Option.{Option}
 use Rattle.json.specs.Print.{print}
 use Rattle.json.specs.Token.{Token}
-use Rattle.mp4_fields.specs.Nesting.{fields}
+use Rattle.mp4_show.specs.Nesting.{fields}
 use Rattle.mp4_frame.specs.Reading.{Reading}
 use Rattle.mp4_frame.specs.declared.box_type.BoxType.{BoxType}
 use Rattle.mp4_frame.specs.declared.four_cc.FourCC.{FourCC}
@@ -14,33 +14,33 @@ use Rattle.mp4_inspect.specs.Content.{ShowsAs, is_faulty}
 use Rattle.mp4_inspect.specs.Kind.{kind_of}
 use Rattle.mp4_inspect.specs.declared.content.Content.{Content}
 use Rattle.mp4_inspect.specs.declared.content.Content.TheVariants as contents
-use Rattle.mp4_sinks.specs.Escaped.{json_escaped}
-use Rattle.mp4_sinks.specs.Tokens.{AreWhole, IsWhole, code_text}
-use Rattle.mp4_tree.specs.Tree.{boxes_of}
-use Rattle.mp4_tree.specs.declared.tree_box.TreeBox.{TreeBox}
+use Rattle.mp4_show.specs.Escaped.{json_escaped}
+use Rattle.mp4_show.specs.Tokens.{AreWhole, IsWhole, code_text}
+use Rattle.mp4_walk.specs.FileBoxes.{boxes_of}
+use Rattle.mp4_walk.specs.declared.tree_box.TreeBox.{TreeBox}
 
 -- a member that is a number
 abbrev pub number_member : List ℕ → ℕ → List Token
 number_member name n = Token.key name ∷ Token.number (decimal n) ∷ []
 
--- a code as it is written, or that there is none
+-- a code as it is written, or null if there is none
 abbrev pub type_token : Option FourCC → Token
 type_token None = Token.null
 type_token (Some code) = Token.string (code_text code.value)
 
--- what the object of a box begins with
+-- the first members of the object of a box
 abbrev pub head_tokens : TreeBox → List Token
 head_tokens found =
     Token.begin_object ∷ Token.key (codes "type") ∷ type_token found.code
     ∷ (number_member (codes "position") found.position
     ++ (number_member (codes "length") found.length ++ number_member (codes "header") found.header_length))
 
--- the fields of a box: whole members, in an object of their own
+-- the fields of a box: whole members, in an object
 abbrev pub AreFields : List Token → Type 0
 AreFields ts = (members : List Token) × AreWhole fields members
     × (ts ≡ Token.key (codes "fields") ∷ Token.begin_object ∷ (members ++ Token.end_object ∷ []))
 
--- what follows in it, by what is read of the box: its fields, its fault or nothing
+-- the next member of the object, by the content of the box: its fields, its fault or nothing
 abbrev pub IsRest : {A : Type 0} → Content A → List Token → Type 0
 IsRest (contents.Faulty fault) ts =
     (text : List ℕ) × (ts ≡ Token.key (codes "fault") ∷ Token.string text ∷ [])
@@ -48,17 +48,17 @@ IsRest (contents.Known value) ts = AreFields ts
 IsRest (contents.Front kind bytes) ts = AreFields ts
 IsRest _ ts = ts ≡ []
 
--- what ends it; where it holds boxes, what begins these, and it ends after them
+-- the end of the object; in a box with children, the beginning of these, and the object ends after them
 abbrev pub end_tokens : Option ℕ → List Token
 end_tokens None = Token.end_object ∷ []
 end_tokens (Some first) = Token.key (codes "children") ∷ Token.begin_array ∷ []
 
--- so many boxes that hold boxes end
+-- `n` open containers end
 abbrev pub levels_end : ℕ → List Token
 levels_end zero = []
 levels_end (suc n) = Token.end_array ∷ Token.end_object ∷ levels_end n
 
--- how many boxes that hold boxes are begun and not ended after a box of this depth
+-- the number of open containers after a box at this depth
 abbrev pub open_inside : ℕ → Option ℕ → ℕ
 open_inside n None = n
 open_inside n (Some first) = suc n
@@ -66,21 +66,21 @@ open_inside n (Some first) = suc n
 abbrev pub open_after : ℕ → TreeBox → ℕ
 open_after begun found = open_inside (min found.depth begun) found.children
 
--- a box where so many are begun: those end that it is not in, and it begins
+-- a box, with `n` containers open before it: those that do not contain it end, and it begins
 abbrev pub box_tokens : ℕ → TreeBox → List Token → List Token
 box_tokens begun found rest =
     levels_end (begun - found.depth) ++ (head_tokens found ++ (rest ++ end_tokens found.children))
 
--- what is written of this box after its head, and whether it has a fault: where the file's bytes are known, it is what
--- is read in them by the box's kind
+-- the output for this box after its head, and whether it has a fault. If the bytes of the file are known, they and the
+-- kind of the box decide it
 abbrev pub IsShown : {A : Type 0} → (BoxType → Bool) → (BoxType → List ℕ → ℕ → ℕ → Reading A) → Option (List ℕ)
     → TreeBox → List Token → Bool → Type 0
 IsShown {A} known reading bytes found rest faulty =
     (content : Content A) × IfSome bytes (λ B. ShowsAs known reading B found (kind_of known found) content)
     × IsRest content rest × (faulty ≡ is_faulty content)
 
--- the boxes that are left where so many are begun, one after the other, and then the ends of all that are begun; and
--- whether one of them has a fault
+-- the remaining boxes in order, with `n` containers open before them, and then the ends of all open containers; and
+-- whether one of the boxes has a fault
 abbrev pub AreBoxes : {A : Type 0} → (BoxType → Bool) → (BoxType → List ℕ → ℕ → ℕ → Reading A) → Option (List ℕ)
     → ℕ → List TreeBox → List Token → Bool → Type 0
 AreBoxes known reading bytes begun [] ts faulty = (ts ≡ levels_end begun) × (faulty ≡ false)
@@ -89,7 +89,7 @@ AreBoxes known reading bytes begun (found ∷ boxes) ts faulty =
     × AreBoxes known reading bytes (open_after begun found) boxes more there
     × (ts ≡ box_tokens begun found rest ++ more) × (faulty ≡ (here || there))
 
--- what the object of a file begins with
+-- the first members of the object of a file
 abbrev pub file_tokens : List ℕ → List Token
 file_tokens name =
     Token.begin_object ∷ Token.key (codes "file") ∷ Token.string name ∷ Token.key (codes "boxes") ∷
@@ -102,17 +102,18 @@ Json known reading bytes name boxes ts faulty =
     (inner : List Token) × AreBoxes known reading bytes 0 boxes inner faulty
     × (ts ≡ file_tokens name ++ (inner ++ Token.end_array ∷ Token.end_object ∷ []))
 
--- a text is a print of these tokens, where some characters are shown by their numbers, and they are one value, whole
+-- a text is a print of these tokens, in which some characters are shown by their numbers, and the tokens are one whole
+-- value
 abbrev pub IsJson : {A : Type 0} → (BoxType → Bool) → (BoxType → List ℕ → ℕ → ℕ → Reading A) → Option (List ℕ)
     → List ℕ → List TreeBox → List ℕ → Bool → Type 0
 IsJson known reading bytes name boxes text faulty =
     (ts : List Token) × Json known reading bytes name boxes ts faulty × IsWhole ts × (text ≡ json_escaped (print ts))
 
--- the comma after a file that another follows
+-- the comma between files
 abbrev pub comma : Bool → List ℕ
 comma follows = if follows then codes ",\n" else []
 
--- the JSON of a file of these bytes is written, after a comma if it follows another
+-- the JSON of a file with these bytes is written, after a comma if it follows another
 abbrev pub WritesJson : {A : Type 0} → (BoxType → Bool) → (BoxType → List ℕ → ℕ → ℕ → Reading A) → List ℕ → List ℕ
     → Bool
     → Option (List ℕ) → Option (List ℕ) → Bool → Type 0

@@ -3,8 +3,8 @@ use Rattle.std.specs.Prelude.{Bool, if◌then◌else◌}
 use Rattle.mp4_inspect.specs.declared.source.Reading.{Reading}
 use Rattle.mp4_inspect.specs.declared.source.Reading.TheVariants as readings
 
--- a directory and a device are not read; a regular file that can be sought in is read at any position, and all else
--- from the beginning to the end
+-- a directory and a device are not read; a regular file that supports seeking is read at any position, and everything
+-- else from the beginning to the end
 abbrev pub reading_of : Bool → Bool → Bool → Reading
 reading_of is_directory is_device seeks =
     if is_directory then readings.Directory

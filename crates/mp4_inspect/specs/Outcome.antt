@@ -1,21 +1,21 @@
--- How a run of the program ends.
+-- The end of a run of the program.
 use Rattle.std.specs.Prelude.{ℕ, Bool, true, false, Result, Ok, Err, if◌then◌else◌}
 use Rattle.mp4_inspect.specs.declared.outcome.Outcome.{Outcome}
 use Rattle.mp4_inspect.specs.declared.outcome.Outcome.TheVariants as outcomes
 use Rattle.mp4_io.specs.declared.failure.Failure.{Failure}
 use Rattle.mp4_io.specs.declared.failure.Failure.TheVariants as failures
 
--- nothing is said of a failed write if the pipe of the output is closed: its reader wants no more
+-- a failed write is not reported if the pipe of the output is closed, since its reader wants no more
 abbrev pub is_silent : Bool → Failure → Bool
 is_silent closed failures.Write = closed
 is_silent closed failures.Read = false
 is_silent closed failures.Memory = false
 
--- how a failure ends a run: it fails by any failure of a read, of a write or of memory of which something is said
+-- the outcome of a run that a failure ends: it fails by any failure that is reported
 abbrev pub outcome_of_failure : Bool → Failure → Outcome
 outcome_of_failure closed failure = if is_silent closed failure then outcomes.Sound else outcomes.Failed
 
--- how a run over a file ends
+-- the outcome of a run over a file
 abbrev pub outcome_of : Bool → Result Bool Failure → Outcome
 outcome_of closed (Ok false) = outcomes.Sound
 outcome_of closed (Ok true) = outcomes.Faulty

@@ -1,32 +1,31 @@
-//! The path of a box: the codes of the boxes around it, outermost first, and its own.
+//! The path of a box: the codes of the boxes around it, outermost first, and the box's code.
 
-use mp4_fields::Result;
-use mp4_sinks::{push_code, push_number};
+use mp4_show::{Result, push_code, push_number};
 use mp4_stream::FourCC;
-use mp4_tree::TreeBox;
+use mp4_walk::TreeBox;
 use std::alloc::Global;
 use std::collections::BTreeMap;
 
-/// A part of a path: a code, and how many boxes of this code come before it in the box around it.
+/// A part of a path: a code, and the number of earlier boxes with this code in the box around it.
 #[derive(Clone, Copy, Debug, PartialEq, Eq)]
 struct Part {
     code: Option<FourCC>,
     index: u64,
 }
 
-/// The paths of the boxes of a file, which are entered in the order of the file.
+/// The paths of the boxes of a file, computed as the boxes are entered in order.
 #[derive(Drop)]
 pub struct BoxPaths {
     parts: Vec<Part>,
-    /// The numbers of the levels of the parts: each run of boxes has a number of its own.
+    /// The number of the level of each part. Each run of sibling boxes has a different number.
     levels: Vec<u64>,
     next_level: u64,
-    /// How many boxes of a code came so far in a level.
+    /// The number of boxes that were entered, by level and code.
     counts: BTreeMap<(u64, u32), u64>,
 }
 
 impl BoxPaths {
-    /// At the front of a file.
+    /// Returns the paths before the first box of a file.
     pub fn new(alloc: Global) -> BoxPaths {
         BoxPaths {
             parts: Vec::new(alloc),
@@ -36,7 +35,7 @@ impl BoxPaths {
         }
     }
 
-    /// The number of the level at a depth.
+    /// Returns the number of the level at `depth`.
     fn level(&mut self, depth: usize) -> Result<u64> {
         self.levels.truncate(depth.saturating_add(1));
         if self.levels.len() <= depth {
@@ -46,12 +45,12 @@ impl BoxPaths {
         Ok(self.levels.last().copied().unwrap_or(0))
     }
 
-    /// Returns the number of the run of boxes that the box is in. No other run has the same number.
+    /// Returns the number of the run of siblings of the present box. No other run has the same number.
     pub fn run(&self) -> u64 {
         self.levels.last().copied().unwrap_or(0)
     }
 
-    /// Goes on to a box.
+    /// Enters the box `found`.
     pub fn enter(&mut self, found: &TreeBox) -> Result<()> {
         let depth = found.depth as usize;
         let level = self.level(depth)?;
@@ -70,7 +69,8 @@ impl BoxPaths {
         Ok(())
     }
 
-    /// Appends the path of the box: its parts, each with its index from 0 on unless that is 0.
+    /// Appends the path of the present box to `out`: its parts, each with its index, counted from 0, unless the index
+    /// is 0.
     pub fn push(&self, out: &mut String) -> Result<()> {
         let mut before = "";
         for part in &self.parts {

@@ -1,11 +1,10 @@
 //! Whether the chunks of a track, and the runs of its fragments, are where the file has media data.
 
-use mp4_fields::Result;
+use mp4_check_rules::{Extent, Lies, Run, Tally, no_chunks, whereabouts};
 use mp4_frame::codes::MDAT;
-use mp4_inspect_rules::{Extent, Lies, Run, Tally, no_chunks, whereabouts};
-use mp4_sinks::push_number;
+use mp4_show::{Result, push_number};
 use mp4_stream::{AnyBox, FourCC};
-use mp4_tree::TreeBox;
+use mp4_walk::TreeBox;
 use std::alloc::Global;
 
 /// Where the file has media data: the contents of its `mdat` boxes, in the order of the file.

@@ -1,7 +1,7 @@
-//! What is read of a box, to be shown.
+//! The content of a box that is shown.
 
 ghost use Rattle.std.specs.Prelude.{◌≡◌, ◌-◌, ◌≤◌, false, length, min, IsTrue, IfOk, OnOk, IfSome};
-ghost use Rattle.mp4_fields.specs.Nesting.{fields, Keeps};
+ghost use Rattle.mp4_show.specs.Nesting.{fields, Keeps};
 ghost use Rattle.mp4_frame.specs.Reading.{Answers};
 ghost use Rattle.mp4_io.specs.Ends.{is_write};
 ghost use Rattle.mp4_inspect.specs.Content.{leaf, is_faulty, front, Shows, ShowsKnown, ShowsFront, ShowsEnd, ShowsAs};
@@ -11,36 +11,36 @@ ghost use Rattle.mp4_inspect.specs.declared.kind.Kind.TheVariants as kinds;
 use crate::failure::or_read;
 use crate::kind::{Kind, kind_of};
 use crate::shown::Shown;
-use mp4_fields::{
+use mp4_io::Failure;
+use mp4_show::{
     FieldSink, Result, Value, put_entry, put_full, put_handler, put_list_head, put_reference,
     put_sound, put_visual,
 };
-use mp4_io::Failure;
-use mp4_more_fields::HasFields;
+use mp4_show_extra::HasFields;
 use mp4_stream::{BoxHeader, BoxType, ByteCursor, Error};
-use mp4_tree::{Source, Tree, TreeBox};
+use mp4_walk::{BoxWalk, Source, TreeBox};
 use std::alloc::Global;
 use uuid::Uuid;
 
-/// What is read of a box: `B` is what the codec reads.
+/// The content of a box that is shown. `B` is the type of the boxes that are read whole.
 #[derive(Drop)]
 pub enum Content<B: Drop> {
-    /// Nothing, since there is nothing but boxes in it.
+    /// Nothing, since the box contains only boxes.
     Boxes,
-    /// Nothing, since it is too deep in others.
+    /// Nothing, since the box is too deep.
     Deep,
-    /// Nothing, since the codec doesn't read such boxes.
+    /// Nothing, since boxes of this type are not read.
     Unread,
-    /// All of it, as the codec reads it.
+    /// The whole box.
     Known(B),
-    /// The bytes at the front of its content.
+    /// The first bytes of the content, and how the box is read.
     Front(Kind, Vec<u8>),
-    /// Nothing, since it can't be read.
+    /// Nothing, since the box has this fault.
     Faulty(Error),
 }
 
 impl<B: Drop> Content<B> {
-    /// Whether it has a fault.
+    /// Returns whether the box has a fault.
     pub fn is_faulty(&self) -> bool
         ensures { result ≡ is_faulty self.now }
     {
@@ -48,7 +48,7 @@ impl<B: Drop> Content<B> {
     }
 }
 
-/// Reads the box of this name whose header is at an offset, in bytes that end where the box does.
+/// Reads the box with the name `name` whose header is at `at`, in `bytes`, which end where the box ends.
 fn read_leaf<B: Shown>(
     alloc: Global,
     own: &[u8],
@@ -70,7 +70,7 @@ fn read_leaf<B: Shown>(
     )
 }
 
-/// What is shown of the box of this name whose bytes these are.
+/// Returns what is shown of the box with the name `name` and the bytes `bytes`.
 fn shown<B: Shown>(
     alloc: Global,
     own: &[u8],
@@ -87,10 +87,10 @@ fn shown<B: Shown>(
     }
 }
 
-/// Reads a box that the codec reads, if it reads boxes of this name.
+/// Reads a whole box, if boxes of its name are read.
 fn known<B: Shown, S: Source>(
     alloc: Global,
-    tree: &mut Tree<S>,
+    tree: &mut BoxWalk<S>,
     found: &TreeBox,
     name: BoxType,
 ) -> std::result::Result<Content<B>, Failure>
@@ -106,7 +106,7 @@ fn known<B: Shown, S: Source>(
     shown(alloc, &own, name)
 }
 
-/// The box as if its content had at most so many bytes.
+/// Returns `found` with its content cut to at most `most` bytes.
 fn shortened(found: &TreeBox, most: u64) -> TreeBox
     ensures position { result.position ≡ found.now.position }
     ensures header { result.header_length ≡ found.now.header_length }
@@ -118,10 +118,10 @@ fn shortened(found: &TreeBox, most: u64) -> TreeBox
     }
 }
 
-/// The first bytes of a box's content: so many, or as many as there are.
+/// Returns the first `most` bytes of the content of a box, or all if there are fewer.
 pub fn front_of<S: Source>(
     alloc: Global,
-    tree: &mut Tree<S>,
+    tree: &mut BoxWalk<S>,
     found: &TreeBox,
     most: u64,
 ) -> std::result::Result<Vec<u8>, Failure>
@@ -132,10 +132,10 @@ pub fn front_of<S: Source>(
     or_read(tree.read_content(alloc, &shortened(found, most)))
 }
 
-/// Reads the front of a box's content: `least` bytes have to be there, and `most` are wanted.
+/// Reads the front of the content of a box: at most `most` bytes, and a fault if there are fewer than `least`.
 fn front<B: Drop, S: Source>(
     alloc: Global,
-    tree: &mut Tree<S>,
+    tree: &mut BoxWalk<S>,
     found: &TreeBox,
     kind: Kind,
     least: u64,
@@ -152,10 +152,10 @@ fn front<B: Drop, S: Source>(
     Ok(Content::Front(kind, front_of(alloc, tree, found, most)?))
 }
 
-/// Reads a handler: its bytes if it has some of its name, and else the fault that the codec finds.
+/// Reads a handler: its bytes if it has at least one byte of its name, and otherwise the fault that the codec finds.
 fn handler<B: Shown, S: Source>(
     alloc: Global,
-    tree: &mut Tree<S>,
+    tree: &mut BoxWalk<S>,
     found: &TreeBox,
 ) -> std::result::Result<Content<B>, Failure>
     ensures shows { IfSome tree.old.bytes
@@ -170,10 +170,10 @@ fn handler<B: Shown, S: Source>(
     }
 }
 
-/// Reads the last four bytes of a box that four zero bytes may end. Others are a header that is cut.
+/// Reads the last four bytes of a box that four zero bytes may end. Any other bytes are a cut header.
 fn terminator<B: Drop, S: Source>(
     alloc: Global,
-    tree: &mut Tree<S>,
+    tree: &mut BoxWalk<S>,
     found: &TreeBox,
 ) -> std::result::Result<Content<B>, Failure>
     ensures shows { IfSome tree.old.bytes (λ bytes. IfOk result (ShowsEnd bytes found.now)) }
@@ -188,10 +188,10 @@ fn terminator<B: Drop, S: Source>(
     }
 }
 
-/// Reads what is shown of a box.
+/// Reads the content of the box `found` that is shown.
 pub fn content_of<B: Shown, S: Source>(
     alloc: Global,
-    tree: &mut Tree<S>,
+    tree: &mut BoxWalk<S>,
     found: &TreeBox,
 ) -> std::result::Result<Content<B>, Failure>
     ensures shows { IfSome tree.old.bytes
@@ -219,7 +219,7 @@ pub fn content_of<B: Shown, S: Source>(
     }
 }
 
-/// Hands the type of a `uuid` box to a sink.
+/// Sends the type of a `uuid` box to `sink`.
 fn put_uuid<K: FieldSink>(bytes: [u8; 16], sink: &mut K) -> Result<()>
     ensures nesting { OnOk result (Keeps K.since fields sink.old sink.new) }
 {
@@ -229,7 +229,7 @@ fn put_uuid<K: FieldSink>(bytes: [u8; 16], sink: &mut K) -> Result<()>
     sink.field("usertype", Value::Text(text.as_bytes()))
 }
 
-/// Hands version and flags to a sink, which are the first 4 bytes.
+/// Sends version and flags, the first 4 of `bytes`, to `sink`.
 fn put_full_head<K: FieldSink>(bytes: &[u8], sink: &mut K) -> Result<()>
     requires { 4 ≤ length bytes.now }
     ensures nesting { OnOk result (Keeps K.since fields sink.old sink.new) }
@@ -238,7 +238,7 @@ fn put_full_head<K: FieldSink>(bytes: &[u8], sink: &mut K) -> Result<()>
     put_full(bytes[0], flags, &[], sink)
 }
 
-/// Hands the fields at the front of a box's content to a sink.
+/// Sends the fields at the front of the content of a box to `sink`.
 fn put_front<K: FieldSink>(kind: Kind, bytes: &[u8], is_quicktime: bool, sink: &mut K) -> Result<()>
     ensures nesting { OnOk result (Keeps K.since fields sink.old sink.new) }
 {
@@ -259,7 +259,7 @@ fn put_front<K: FieldSink>(kind: Kind, bytes: &[u8], is_quicktime: bool, sink: &
     }
 }
 
-/// Hands the fields that were read to a sink.
+/// Sends the fields that were read to `sink`.
 pub fn put_content<B: HasFields + Drop, K: FieldSink>(
     content: &Content<B>,
     is_quicktime: bool,

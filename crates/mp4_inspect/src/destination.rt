@@ -1,4 +1,4 @@
-//! Where the command `faststart` writes: what is at the name that it is given decides.
+//! The place to which the command `faststart` writes, which depends on what is at the given name.
 
 ghost use Rattle.std.specs.Prelude.{◌≡◌, ◌↔◌, Some, IfOk};
 ghost use Rattle.std.specs.Fs.{IsFile, file_type};
@@ -18,7 +18,7 @@ pub enum NodeKind {
     File,
     /// A directory.
     Folder,
-    /// A FIFO, which is also called a named pipe.
+    /// A FIFO, also called a named pipe.
     Fifo,
     /// A socket.
     Socket,
@@ -30,12 +30,12 @@ pub enum NodeKind {
     Other,
 }
 
-/// The identity of a node: hard links of one file have the same.
+/// The identity of a node. Hard links of one file have the same identity.
 #[derive(Clone, Copy, Debug, PartialEq, Eq)]
 pub struct NodeId {
-    /// The device that it is on.
+    /// The device of the node.
     pub device: u64,
-    /// Its inode on that device.
+    /// The inode of the node on its device.
     pub inode: u64,
 }
 
@@ -51,24 +51,24 @@ pub struct Node {
 /// The file that is written.
 #[derive(Clone, Copy, Debug, PartialEq, Eq)]
 pub enum Destination {
-    /// The one of the name that was given. It may be new.
+    /// The file with the given name, which may be new.
     Named,
-    /// The one that the link of this name leads to.
+    /// The file to which the link with the given name leads.
     Linked,
 }
 
-/// The reason why nothing is written.
+/// The reason for writing nothing.
 #[derive(Clone, Copy, Debug, PartialEq, Eq)]
 pub enum Obstacle {
-    /// It is the file that is read.
+    /// The name leads to the file that is read.
     Source,
-    /// It is a symbolic link that leads nowhere.
+    /// The name is a symbolic link that leads nowhere.
     Dangling,
-    /// It is no regular file.
+    /// The name leads to a node that is not a regular file.
     NotFile(NodeKind),
 }
 
-/// Returns what a node is.
+/// Returns the kind of the node with this metadata.
 fn kind_of(metadata: &Metadata) -> NodeKind
     ensures { (result ≡ NodeKind.File) ↔ IsFile (file_type metadata.now) }
 {
@@ -92,7 +92,7 @@ fn kind_of(metadata: &Metadata) -> NodeKind
 }
 
 impl Node {
-    /// Returns the node that has this metadata.
+    /// Returns the node with this metadata.
     pub fn new(metadata: &Metadata) -> Node
         ensures { (result.kind ≡ NodeKind.File) ↔ IsFile (file_type metadata.now) }
     {
@@ -106,8 +106,8 @@ impl Node {
     }
 }
 
-/// Returns where to write when the file `source` is read and the given name has, links followed, the node `found`.
-/// `is_link` says whether the name itself is a symbolic link.
+/// Returns where to write, if the file `source` is read and the given name leads to the node `found`. `is_link` says
+/// whether the name itself is a symbolic link.
 pub fn choose_destination(
     source: NodeId,
     is_link: bool,
@@ -136,7 +136,7 @@ pub fn choose_destination(
     }
 }
 
-/// Returns the path of the unfinished file of this number, in the folder of `target`.
+/// Returns the path of the unfinished file with the number `number`, in the folder of `target`.
 pub fn partial_beside(alloc: Global, target: &str, number: u32) -> Result<PathBuf, AllocError>
     ensures { IfOk result (λ path. path_buf_bytes path ≡ path_with_file_name target.now (partial_name number)) }
 {

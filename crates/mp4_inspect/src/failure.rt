@@ -8,7 +8,7 @@ use mp4_io::Failure;
 use std::io;
 use std::io::ErrorKind;
 
-/// The failure of a read.
+/// Returns the failure of a read with this error.
 fn read_failure(error: &io::Error) -> Failure
     ensures memory { error_kind error.now ≡ ErrorKind.OutOfMemory → result ≡ Failure.Memory }
     ensures read { error_kind error.now ≢ ErrorKind.OutOfMemory → result ≡ Failure.Read }
@@ -19,7 +19,7 @@ fn read_failure(error: &io::Error) -> Failure
     }
 }
 
-/// What a read returned.
+/// Returns the outcome of a read, with its error as a failure.
 pub fn or_read<T: Drop>(outcome: io::Result<T>) -> Result<T, Failure>
     ensures ok { IfOk result (λ value. outcome ≡ Ok value) }
     ensures not_write { is_write result ≡ false }
@@ -30,8 +30,8 @@ pub fn or_read<T: Drop>(outcome: io::Result<T>) -> Result<T, Failure>
     }
 }
 
-/// What a call returned that fails only when out of memory.
-pub fn or_memory<T: Drop>(outcome: mp4_fields::Result<T>) -> Result<T, Failure>
+/// Returns the outcome of a call that fails only if it is out of memory.
+pub fn or_memory<T: Drop>(outcome: mp4_show::Result<T>) -> Result<T, Failure>
     ensures ok { IfOk result (λ value. outcome ≡ Ok value) }
     ensures error { IfErr result (λ failure. failure ≡ Failure.Memory) }
 {

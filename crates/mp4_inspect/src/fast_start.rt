@@ -1,5 +1,5 @@
-//! The command `faststart`: a file is written with its movie box before its media data. It is written beside the place
-//! where it goes, and renamed once all of it is there, so that it is there whole or not at all.
+//! The command `faststart`, which writes a file with its `moov` before its media data. It writes a new file beside the
+//! target and renames it once it is complete, so the target is whole or unchanged.
 
 use crate::destination::{Destination, Node, NodeKind, choose_destination, partial_beside};
 use crate::outcome::Outcome;
@@ -13,7 +13,7 @@ use std::os::unix::fs::{MetadataExt, OpenOptionsExt, PermissionsExt};
 use std::path::{Path, PathBuf};
 use std::{fs, io};
 
-/// The exit status of a misuse, which is also what `clap` gives.
+/// The exit status of a misuse, which `clap` uses too.
 const MISUSE: u8 = 2;
 
 /// The names of the two files.
@@ -23,19 +23,19 @@ struct Names<'a> {
     from: &'a str,
     /// The name of the file that is written.
     to: &'a str,
-    /// `from` with its control characters escaped, as messages have it.
+    /// `from` with its control characters escaped, for messages.
     shown_from: &'a str,
-    /// `to` with its control characters escaped, as messages have it.
+    /// `to` with its control characters escaped, for messages.
     shown_to: &'a str,
 }
 
-/// Says on standard error what is wrong with a file, whose name is `shown` in messages.
+/// Prints to standard error what is wrong with a file. Its name in messages is `shown`.
 fn tell(rt: &HostRuntime, shown: &str, error: &io::Error) -> Outcome {
     let _ = eprintln!(rt; "mp4inspect: {shown}: {error}");
     Outcome::Failed
 }
 
-/// Says on standard error that reading or writing failed, with the system's reason if there is one.
+/// Prints to standard error that reading or writing failed, with the system's reason if there is one.
 fn tell_failure(
     rt: &HostRuntime,
     shown: &str,
@@ -49,7 +49,8 @@ fn tell_failure(
     Outcome::Failed
 }
 
-/// Says on standard error why a file was not written. `read_error` and `write_error` are the last errors of both files.
+/// Prints to standard error why a file was not written. `read_error` and `write_error` are the last errors of both
+/// files.
 fn tell_refusal(
     rt: &HostRuntime,
     names: Names<'_>,
@@ -74,7 +75,7 @@ fn tell_refusal(
     }
 }
 
-/// Returns what is at the name `to`, or None if nothing is. A symbolic link is followed.
+/// Returns the node at the name `to`, or `None` if there is none. Follows a symbolic link.
 fn node_at(rt: &HostRuntime, to: &str) -> io::Result<Option<Node>> {
     match fs::metadata(rt, to) {
         Ok(metadata) => Ok(Some(Node::new(&metadata))),
@@ -83,7 +84,7 @@ fn node_at(rt: &HostRuntime, to: &str) -> io::Result<Option<Node>> {
     }
 }
 
-/// Returns whether the name `to` is that of a symbolic link.
+/// Returns whether the name `to` is a symbolic link.
 fn is_link(rt: &HostRuntime, to: &str) -> bool {
     match fs::symlink_metadata(rt, to) {
         Ok(metadata) => metadata.is_symlink(),
@@ -91,7 +92,7 @@ fn is_link(rt: &HostRuntime, to: &str) -> bool {
     }
 }
 
-/// Returns the path of the file that is written for the name `to`: a symbolic link is followed, so that it stays.
+/// Returns the path of the file that is written for the name `to`. Follows a symbolic link, so that the link stays.
 fn path_of(rt: &HostRuntime, to: &str, destination: Destination) -> io::Result<PathBuf> {
     match destination {
         Destination::Named => Ok(Path::new(to).to_path_buf(rt.alloc())?),
@@ -99,8 +100,8 @@ fn path_of(rt: &HostRuntime, to: &str, destination: Destination) -> io::Result<P
     }
 }
 
-/// Creates a file beside `target`, of the first number that is free: it passes over a file that an earlier run left
-/// behind. Only its owner may open it.
+/// Creates a file beside `target` with the first free number, so a file that an earlier run left behind is skipped.
+/// Only its owner may open the new file.
 fn create_beside(rt: &HostRuntime, target: &str) -> io::Result<(File, PathBuf)> {
     let mut options = OpenOptions::new();
     options.write(true).create_new(true).mode(0o600);
@@ -115,7 +116,7 @@ fn create_beside(rt: &HostRuntime, target: &str) -> io::Result<(File, PathBuf)> 
     Err(io::Error::from(ErrorKind::AlreadyExists))
 }
 
-/// Writes all of it into a file that is new.
+/// Writes everything into a new file.
 fn write_all(
     rt: &HostRuntime,
     source: &mut Kept<File>,
@@ -129,7 +130,7 @@ fn write_all(
     Ok(cut)
 }
 
-/// Says what was written to the file whose name is `shown` in messages.
+/// Prints what was written to the file whose name in messages is `shown`.
 fn tell_done(rt: &HostRuntime, shown: &str, done: Option<Cut>) -> Result<Outcome, Failure> {
     let told = match done {
         Some(cut) => println!(rt;
@@ -145,7 +146,7 @@ fn tell_done(rt: &HostRuntime, shown: &str, done: Option<Cut>) -> Result<Outcome
     }
 }
 
-/// Gives the new file of the path `partial` the permissions of the file that is read, and the path `target`.
+/// Gives the new file at `partial` the permissions of the file that is read, and renames it to `target`.
 fn put_in_place(
     rt: &HostRuntime,
     partial: &PathBuf,
@@ -156,8 +157,8 @@ fn put_in_place(
     fs::rename(rt, partial, target)
 }
 
-/// Writes `source` with its movie box before its media data to the path `target`, into a file of another name first. It
-/// has the permissions of `mode`.
+/// Writes `source` with its `moov` before its media data to the path `target`, first into a file of another name. The
+/// file has the permissions of `mode`.
 fn write_to(
     rt: &HostRuntime,
     names: Names<'_>,
@@ -187,7 +188,7 @@ fn write_to(
     tell_done(rt, names.shown_to, done)
 }
 
-/// Writes `source`, which has this metadata, to the file that the name `names.to` leads to.
+/// Writes `source`, which has this metadata, to the file to which the name `names.to` leads.
 fn write_named(
     rt: &HostRuntime,
     names: Names<'_>,
@@ -212,8 +213,8 @@ fn write_named(
     }
 }
 
-/// Opens the file that is read, and returns it with its metadata. None where that fails or it is no regular file, once
-/// a line on standard error says so: a FIFO is not opened, since that waits for a writer.
+/// Opens the file that is read, and returns it with its metadata. If that fails or it is not a regular file, prints a
+/// line to standard error and returns `None`. A FIFO is not opened, since that would wait for a writer.
 fn open_source(rt: &HostRuntime, names: Names<'_>) -> Option<(File, Metadata)> {
     let shown = names.shown_from;
     let opened = match fs::metadata(rt, names.from) {
@@ -238,8 +239,8 @@ fn open_source(rt: &HostRuntime, names: Names<'_>) -> Option<(File, Metadata)> {
     }
 }
 
-/// Writes the file `to` with the boxes of the file `from`, its movie box before its media data, or leaves `to` as it
-/// was. Returns the exit status: that of `Faulty` if `from` is such that it can't be done, and 2 for the name `-`.
+/// Writes the boxes of the file `from` to the file `to`, with the `moov` before the media data, or leaves `to` as it
+/// was. Returns the exit status: that of `Faulty` if `from` can't be rewritten, and 2 for the name `-`.
 pub fn fast_start(rt: &HostRuntime, from: &str, to: &str) -> Result<u8, Failure> {
     if from == "-" || to == "-" {
         let _ = eprintln!(rt;

@@ -1,13 +1,12 @@
 //! The text of a fault.
 
-use mp4_fields::Result;
-use mp4_inspect_rules::{NotMp4, not_mp4};
-use mp4_sinks::push_number;
+use mp4_check_rules::{NotMp4, not_mp4};
+use mp4_show::{Result, push_number};
 use mp4_stream::Error;
-use mp4_tree::TreeBox;
+use mp4_walk::TreeBox;
 use std::alloc::Global;
 
-/// Appends bytes: each as its character in ASCII, or as two hexadecimal digits after a backslash.
+/// Appends each of `bytes` to `out` as a character of ASCII, or as two hexadecimal digits after `\x`.
 fn push_bytes(bytes: &[u8], out: &mut String) -> Result<()> {
     for byte in bytes {
         match *byte {
@@ -26,7 +25,7 @@ fn push_bytes(bytes: &[u8], out: &mut String) -> Result<()> {
     Ok(())
 }
 
-/// Returns a hexadecimal digit.
+/// Returns the hexadecimal digit of `number`.
 fn digit(number: u8) -> char {
     match number {
         0..=9 => char::from(b'0' + number),
@@ -35,7 +34,7 @@ fn digit(number: u8) -> char {
     }
 }
 
-/// Appends what a file begins with: eight characters of a text, or else the first four bytes.
+/// Appends the beginning of a file to `out`: eight characters if it is a text, or otherwise the first four bytes.
 fn push_front(size: u32, code: u32, out: &mut String) -> Result<()> {
     let first = size.to_be_bytes();
     let second = code.to_be_bytes();
@@ -54,7 +53,8 @@ fn push_front(size: u32, code: u32, out: &mut String) -> Result<()> {
     }
 }
 
-/// Returns the text of a fault of a box: that the file is no MP4 file if the box shows that, or what the fault says.
+/// Returns the text of a fault of the box `found`: that the file is not an MP4 file, if the box shows that, or the text
+/// of `fault`.
 pub fn fault_text(alloc: Global, found: &TreeBox, fault: &Error) -> Result<String> {
     let mut text = String::new(alloc);
     match not_mp4(found) {

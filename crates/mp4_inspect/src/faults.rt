@@ -7,7 +7,7 @@ ghost use Rattle.mp4_inspect.specs.Faults.{line_text, told_text, movie_text, IsL
 ghost use Rattle.mp4_inspect.specs.Faults.{WritesLines, WritesFaults, WritesAllFaults, WritesCheck};
 ghost use Rattle.mp4_inspect.specs.Kind.{kind_of};
 ghost use Rattle.mp4_inspect.specs.declared.content.Content.{Content};
-ghost use Rattle.mp4_tree.specs.Tree.{boxes_of};
+ghost use Rattle.mp4_walk.specs.FileBoxes.{boxes_of};
 
 use crate::box_path::BoxPaths;
 use crate::chunks::MediaData;
@@ -19,49 +19,49 @@ use crate::movie::{Movie, movie_of};
 use crate::shown::Shown;
 use crate::track::{is_box, track_of};
 use crate::tree_text::{after_first, either};
-use mp4_fields::Result;
-use mp4_frame::codes::{MOOF, STBL, STCO, STSZ, TRAF, TRAK, VMHD};
-use mp4_inspect_rules::{
+use mp4_check_rules::{
     Tally, TrackFault, group_of, header_fault, is_file, is_part, needed, track_fault,
 };
+use mp4_frame::codes::{MOOF, STBL, STCO, STSZ, TRAF, TRAK, VMHD};
 use mp4_inspect_samples::{Together, TrafRuns, tables_together, traf_runs};
 use mp4_io::{Failure, Output, write_all};
-use mp4_sinks::{push_code, push_number};
+use mp4_show::{Result, push_code, push_number};
 use mp4_stream::{AnyBox, Error, FourCC};
-use mp4_tree::{Source, Tree, TreeBox};
+use mp4_walk::{BoxWalk, Source, TreeBox};
 use std::alloc::Global;
 use std::collections::BTreeMap;
 use std::io::Write;
 
-/// What is known while the faults of a file are looked for.
+/// The state of the search for the faults of a file.
 #[derive(Drop)]
 struct Search {
     paths: BoxPaths,
     media: MediaData,
     movie: Movie,
-    /// The boxes of each group in each run of boxes, counted up to the present one: the box around may have only one
+    /// The number of boxes that were entered, by run of siblings and group. The box around a run may contain only one
     /// box of each group.
     groups: BTreeMap<(u64, u32), u64>,
-    /// The number of the track.
+    /// The track_ID of the present track.
     track: Option<u32>,
-    /// Whether the track's media data are in another file, as a `url ` says that has not the flag of the same file.
+    /// True if a `url ` without the flag of the same file says that the media data of the track are in another file.
     elsewhere: bool,
-    /// The tracks of which that is so.
+    /// The tracks whose media data are in another file.
     elsewhere_tracks: BTreeMap<u32, ()>,
-    /// The position of the table of chunks whose sizes are known.
+    /// The position of the chunk table for which `sizes` holds.
     table: u64,
-    /// The number of bytes of each of its chunks.
+    /// The number of bytes of each chunk of that table.
     sizes: Vec<u64>,
-    /// The position of the box of the top level.
+    /// The position of the present box of the top level.
     top: u64,
-    /// The position at which the data of the last `traf` end, or the `moof` begins; none if that is not known.
+    /// The end of the data of the last `traf`, or the beginning of the `moof` if there is none before; `None` if it is
+    /// not known.
     data_end: Option<u64>,
-    /// What each line begins with: the file's name, where there are several.
+    /// The beginning of each line: the name of the file, if there are several files.
     front: String,
     line: String,
 }
 
-/// Appends a line: what each line begins with, a position, a path and what is said.
+/// Appends a line to `out`: `front`, the position, the path and the text `said`.
 fn push_line(front: &str, position: u64, path: &str, said: &str, out: &mut String) -> Result<()>
     ensures line { OnOk result
         (string_bytes out.new ≡ string_bytes out.old ++ line_text front.now position path.now said.now) }
@@ -76,7 +76,7 @@ fn push_line(front: &str, position: u64, path: &str, said: &str, out: &mut Strin
     Ok(())
 }
 
-/// Makes the line of a box, in which this is said.
+/// Puts the line of the box `found` with the text `said` into `search.line`.
 fn make_line(alloc: Global, found: &TreeBox, said: &str, search: &mut Search) -> Result<()>
     ensures line { OnOk result (IsLine (string_bytes search.new.front) found.now (string_bytes search.new.line)) }
     ensures front { search.new.front ≡ search.old.front }
@@ -95,7 +95,7 @@ fn make_line(alloc: Global, found: &TreeBox, said: &str, search: &mut Search) ->
     Ok(())
 }
 
-/// Makes the line of a box that can't be read. Returns that there is one.
+/// Puts the line of a box that can't be read into `search.line`. Returns true, since there is one.
 fn tell_error(alloc: Global, found: &TreeBox, fault: &Error, search: &mut Search) -> Result<bool>
     ensures told { IfOk result (λ told. told ≡ true) }
     ensures line { OnOk result (IsLine (string_bytes search.new.front) found.now (string_bytes search.new.line)) }
@@ -106,8 +106,8 @@ fn tell_error(alloc: Global, found: &TreeBox, fault: &Error, search: &mut Search
     Ok(true)
 }
 
-/// Makes the line of chunks or runs, which are called so, if some lie outside the media data. Returns whether there is
-/// one.
+/// Puts the line of chunks or runs, named by `word`, into `search.line`, if some are outside the media data. Returns
+/// whether it put a line there.
 fn tell_outside(
     alloc: Global,
     found: &TreeBox,
@@ -128,7 +128,8 @@ fn tell_outside(
     Ok(true)
 }
 
-/// Makes the line of a table of chunks, if some are not in media data. Returns whether there is one.
+/// Puts the line of a chunk table into `search.line`, if some chunks are outside the media data. Returns whether it put
+/// a line there.
 fn tell_stray(alloc: Global, found: &TreeBox, any: &AnyBox, search: &mut Search) -> Result<bool>
     ensures line { IfOk result
         (λ told. told ≡ true → IsLine (string_bytes search.new.front) found.now (string_bytes search.new.line)) }
@@ -145,7 +146,7 @@ fn tell_stray(alloc: Global, found: &TreeBox, any: &AnyBox, search: &mut Search)
     tell_outside(alloc, found, tally, "chunk", search)
 }
 
-/// Appends what is wrong with a track_ID.
+/// Appends the text of the fault of the track_ID `number` to `out`.
 fn push_track_fault(number: u32, fault: TrackFault, out: &mut String) -> Result<()> {
     out.push_str("track_ID ")?;
     push_number(u64::from(number), out)?;
@@ -160,7 +161,7 @@ fn push_track_fault(number: u32, fault: TrackFault, out: &mut String) -> Result<
     Ok(())
 }
 
-/// Makes the line of a track_ID, if something is wrong with it. Returns whether there is one.
+/// Puts the line of a faulty track_ID into `search.line`. Returns whether it put a line there.
 fn tell_track(
     alloc: Global,
     found: &TreeBox,
@@ -181,18 +182,18 @@ fn tell_track(
     Ok(true)
 }
 
-/// Returns what is wrong with the track_ID of a `tkhd`.
+/// Returns the fault of the track_ID `number` of a `tkhd`, if any.
 fn fault_of_header(found: &TreeBox, number: u32, search: &Search) -> Option<TrackFault> {
-    if found.depth != 2 || found.setting.parent != TRAK {
+    if found.depth != 2 || found.context.parent != TRAK {
         return None;
     }
     let first = search.movie.headers.get(&number).copied();
     track_fault(number, found.position, first.unwrap_or(found.position))
 }
 
-/// Returns what is wrong with the track_ID of a `tfhd`.
+/// Returns the fault of the track_ID `number` of a `tfhd`, if any.
 fn fault_of_fragment(found: &TreeBox, number: u32, search: &Search) -> Option<TrackFault> {
-    if found.depth != 2 || found.setting.parent != TRAF {
+    if found.depth != 2 || found.context.parent != TRAF {
         return None;
     }
     header_fault(
@@ -201,7 +202,7 @@ fn fault_of_fragment(found: &TreeBox, number: u32, search: &Search) -> Option<Tr
     )
 }
 
-/// Keeps that the media data of the track may be in another file, if a reference says so.
+/// Notes that the media data of the track may be in another file, if `is_elsewhere`.
 fn keep_elsewhere(is_elsewhere: bool, search: &mut Search) -> Result<()>
     ensures front { search.new.front ≡ search.old.front }
 {
@@ -214,8 +215,8 @@ fn keep_elsewhere(is_elsewhere: bool, search: &mut Search) -> Result<()>
     Ok(())
 }
 
-/// Makes the line of a box that is read, if it tells that chunks are not in media data, or of a track_ID. Returns
-/// whether there is one.
+/// Puts the line of a box that was read into `search.line`, if it has chunks outside the media data or a faulty
+/// track_ID. Returns whether it put a line there.
 fn tell_known(alloc: Global, found: &TreeBox, any: &AnyBox, search: &mut Search) -> Result<bool>
     ensures line { IfOk result
         (λ told. told ≡ true → IsLine (string_bytes search.new.front) found.now (string_bytes search.new.line)) }
@@ -234,8 +235,8 @@ fn tell_known(alloc: Global, found: &TreeBox, any: &AnyBox, search: &mut Search)
     }
 }
 
-/// Makes the line of a value, if it is a box of the codec that tells that chunks are not in media data. Returns whether
-/// there is one.
+/// Puts the line of a value into `search.line`, if it is a box of the codec with such a fault. Returns whether it put a
+/// line there.
 fn tell_value<B: Shown>(
     alloc: Global,
     found: &TreeBox,
@@ -252,8 +253,8 @@ fn tell_value<B: Shown>(
     }
 }
 
-/// Returns whether a reference to media data says that they are in another file: the lowest of its flags is 0 (ISO/IEC
-/// 14496-12, 8.7.2.1). These bytes are its content, which begins with version and flags.
+/// Returns whether a data reference with the content `bytes` says that the media data are in another file: the lowest
+/// bit of its flags is 0 (ISO/IEC 14496-12, 8.7.2.1). The content begins with version and flags.
 fn is_elsewhere(bytes: &[u8]) -> bool
     ensures { result ≡ (slice_index bytes.now 3 % 2 == 0) }
 {
@@ -263,7 +264,8 @@ fn is_elsewhere(bytes: &[u8]) -> bool
     }
 }
 
-/// Makes the line of what is read of a box, if it tells of that. Returns whether there is one.
+/// Puts the line of the content of a box into `search.line`, if the content has a fault. Returns whether it put a line
+/// there.
 fn tell_content<B: Shown>(
     alloc: Global,
     found: &TreeBox,
@@ -286,10 +288,10 @@ fn tell_content<B: Shown>(
     }
 }
 
-/// Has the line of the search tell of what is read of a box, and drops what is read. Returns whether there is a line.
+/// Reads the box `found`, and puts its fault, if any, into `search.line`. Returns whether it put a line there.
 fn tell_fault<B: Shown, S: Source>(
     alloc: Global,
-    tree: &mut Tree<S>,
+    tree: &mut BoxWalk<S>,
     found: &TreeBox,
     search: &mut Search,
 ) -> std::result::Result<bool, Failure>
@@ -307,7 +309,7 @@ fn tell_fault<B: Shown, S: Source>(
     or_memory(tell_content(alloc, found, &content, search))
 }
 
-/// Appends the codes of the boxes of which a box may have only one, of a group.
+/// Appends the codes of the boxes of `group` to `out`, of which a box may contain only one.
 fn push_group(group: u32, out: &mut String) -> Result<()> {
     match group {
         STSZ => out.push_str("stsz, stz2")?,
@@ -318,14 +320,15 @@ fn push_group(group: u32, out: &mut String) -> Result<()> {
     Ok(())
 }
 
-/// Returns which box of its group this is in the box around, counted from 1; none if it is of no group.
+/// Returns the group of the box `found`, and its number in the group among its siblings, counted from 1; `None` if it
+/// has no group.
 fn number_in_group(found: &TreeBox, search: &mut Search) -> Result<Option<(u32, u64)>>
     ensures front { search.new.front ≡ search.old.front }
 {
     let Some(code) = found.code else {
         return Ok(None);
     };
-    let Some(group) = group_of(found.setting.parent, u32::from(code)) else {
+    let Some(group) = group_of(found.context.parent, u32::from(code)) else {
         return Ok(None);
     };
     let count = search
@@ -336,8 +339,8 @@ fn number_in_group(found: &TreeBox, search: &mut Search) -> Result<Option<(u32, 
     Ok(Some((group, *count)))
 }
 
-/// Makes the line of a box, if the box around may have only one such box and has one before it. Returns whether there
-/// is one.
+/// Puts a line into `search.line`, if the box around `found` may contain only one such box and has one before it.
+/// Returns whether it put a line there.
 fn tell_repeated(
     alloc: Global,
     found: &TreeBox,
@@ -357,14 +360,14 @@ fn tell_repeated(
     text.push_str("this is number ")?;
     push_number(number, &mut text)?;
     text.push_str(", and a ")?;
-    push_code(FourCC::from(found.setting.parent), &mut text)?;
+    push_code(FourCC::from(found.context.parent), &mut text)?;
     text.push_str(" may have only one ")?;
     push_group(group, &mut text)?;
     make_line(alloc, found, text.as_str(), search)?;
     Ok(true)
 }
 
-/// Returns the codes of the boxes right in the first of these, which are in the order of the file.
+/// Returns the codes of the children of the first of `boxes`.
 fn codes_in(alloc: Global, boxes: &[TreeBox]) -> Result<Vec<u32>> {
     let mut codes = Vec::new(alloc);
     let Some((outer, inner)) = boxes.split_first() else {
@@ -383,12 +386,12 @@ fn codes_in(alloc: Global, boxes: &[TreeBox]) -> Result<Vec<u32>> {
     Ok(codes)
 }
 
-/// Returns whether one of these boxes is the one that is needed, or serves instead.
+/// Returns whether one of `codes` is the one that is needed, or serves instead.
 fn has_part(needed: u32, codes: &[u32]) -> bool {
     codes.iter().any(|code| is_part(needed, *code))
 }
 
-/// Makes the line of a box that lacks boxes, the first of these. Returns whether there is one.
+/// Puts a line into `search.line`, if the first of `boxes` lacks a box. Returns whether it put a line there.
 fn tell_missing(
     alloc: Global,
     found: &TreeBox,
@@ -426,7 +429,7 @@ fn tell_missing(
     Ok(true)
 }
 
-/// Appends the codes of the box that is needed, and of the one that serves as well.
+/// Appends to `out` the code of the box that is needed, and the code of the box that serves instead.
 fn push_part(part: u32, out: &mut String) -> Result<()> {
     push_code(FourCC::from(part), out)?;
     match part {
@@ -437,11 +440,11 @@ fn push_part(part: u32, out: &mut String) -> Result<()> {
     Ok(())
 }
 
-/// Keeps the sizes of the chunks of the tables of samples in the first of these boxes, an `stbl`, and makes its line if
-/// the tables disagree. Returns whether there is one.
+/// Stores the sizes of the chunks of the first of `boxes`, an `stbl`, and puts a line into `search.line` if its tables
+/// disagree. Returns whether it put a line there.
 fn tell_tables<S: Source>(
     alloc: Global,
-    tree: &mut Tree<S>,
+    tree: &mut BoxWalk<S>,
     found: &TreeBox,
     boxes: &[TreeBox],
     search: &mut Search,
@@ -466,7 +469,7 @@ fn tell_tables<S: Source>(
     }
 }
 
-/// Returns whether the data of a fragment are in this file, and their places known.
+/// Returns whether the data of a fragment are in this file, at known places.
 fn is_here(runs: &TrafRuns, search: &Search) -> bool {
     if runs.is_absolute && !search.movie.has_moov {
         return false;
@@ -474,11 +477,11 @@ fn is_here(runs: &TrafRuns, search: &Search) -> bool {
     !search.elsewhere_tracks.contains_key(&runs.track)
 }
 
-/// Makes the line of a `traf`, the first of these boxes, if samples of it lie outside the media data. Returns whether
-/// there is one.
+/// Puts a line into `search.line`, if samples of the first of `boxes`, a `traf`, are outside the media data. Returns
+/// whether it put a line there.
 fn tell_runs<S: Source>(
     alloc: Global,
-    tree: &mut Tree<S>,
+    tree: &mut BoxWalk<S>,
     found: &TreeBox,
     boxes: &[TreeBox],
     search: &mut Search,
@@ -508,11 +511,12 @@ fn tell_runs<S: Source>(
     Ok(tell_outside(alloc, found, tally, "run", search)?)
 }
 
-/// Makes the line of the samples of the first of these boxes: how the tables of an `stbl` disagree, or which runs of a
-/// `traf` lie outside the media data. Keeps the number of a `trak`. Returns whether there is a line.
+/// Puts the line of the samples of the first of `boxes` into `search.line`: the disagreement of the tables of an
+/// `stbl`, or the runs of a `traf` outside the media data. Stores the number of a `trak`. Returns whether it put a line
+/// into `search.line`.
 fn tell_samples<S: Source>(
     alloc: Global,
-    tree: &mut Tree<S>,
+    tree: &mut BoxWalk<S>,
     found: &TreeBox,
     boxes: &[TreeBox],
     search: &mut Search,
@@ -528,13 +532,13 @@ fn tell_samples<S: Source>(
     if is_box(found, STBL) {
         return tell_tables(alloc, tree, found, boxes, search);
     }
-    if is_box(found, TRAF) && found.depth == 1 && found.setting.parent == MOOF {
+    if is_box(found, TRAF) && found.depth == 1 && found.context.parent == MOOF {
         return tell_runs(alloc, tree, found, boxes, search);
     }
     Ok(false)
 }
 
-/// Writes the line of the search, if there is one.
+/// Writes `search.line`, if there is one.
 fn write_line<W: Write>(
     told: bool,
     line: &str,
@@ -550,7 +554,7 @@ fn write_line<W: Write>(
     }
 }
 
-/// Goes on to a box.
+/// Enters the box `found`.
 fn enter(found: &TreeBox, search: &mut Search) -> Result<()>
     ensures front { search.new.front ≡ search.old.front }
 {
@@ -565,11 +569,11 @@ fn enter(found: &TreeBox, search: &mut Search) -> Result<()>
     Ok(())
 }
 
-/// Writes the lines of a box, the first of these, beside that of what is read of it: that it is one too many, what it
-/// lacks, and what is wrong with its samples. Returns whether there are any.
+/// Writes up to three lines about the first of `boxes`: that the box is one too many, that it lacks boxes, and that its
+/// samples have a fault. Returns whether it wrote a line.
 fn write_more<S: Source, W: Write>(
     alloc: Global,
-    tree: &mut Tree<S>,
+    tree: &mut BoxWalk<S>,
     found: &TreeBox,
     boxes: &[TreeBox],
     search: &mut Search,
@@ -590,10 +594,11 @@ fn write_more<S: Source, W: Write>(
     Ok(either(repeated, either(lacks, outside)))
 }
 
-/// Writes the lines of a box, the first of these, which are those from there on. Returns whether there are any.
+/// Writes the lines of the first of `boxes`, which are this box and all boxes after it. Returns whether it wrote a
+/// line.
 fn write_fault<B: Shown, S: Source, W: Write>(
     alloc: Global,
-    tree: &mut Tree<S>,
+    tree: &mut BoxWalk<S>,
     found: &TreeBox,
     boxes: &[TreeBox],
     search: &mut Search,
@@ -612,7 +617,7 @@ fn write_fault<B: Shown, S: Source, W: Write>(
     Ok(either(told, more))
 }
 
-/// Returns whether a box is one for which a file may be made, at its top level.
+/// Returns whether a box at the top level is one for which a file may be made.
 fn is_top(found: &TreeBox) -> bool {
     match found.code {
         Some(code) if found.depth == 0 => is_file(u32::from(code)),
@@ -620,12 +625,12 @@ fn is_top(found: &TreeBox) -> bool {
     }
 }
 
-/// Returns whether one of these boxes is a `moov`, a `moof`, a `meta` or a `sidx` of the top level.
+/// Returns whether one of `boxes` is a `moov`, a `moof`, a `meta` or a `sidx` of the top level.
 fn has_movie(boxes: &[TreeBox]) -> bool {
     boxes.iter().any(is_top)
 }
 
-/// Writes that a file has no movie, if so.
+/// Writes a line if a file has no movie.
 fn write_movie<W: Write>(
     alloc: Global,
     movie: bool,
@@ -643,10 +648,10 @@ fn write_movie<W: Write>(
     write_all(output, line.as_bytes())
 }
 
-/// Writes the lines of these boxes, in order. Returns whether there are any.
+/// Writes the lines of `boxes`, in order. Returns whether it wrote a line.
 fn write_lines<B: Shown, S: Source, W: Write>(
     alloc: Global,
-    tree: &mut Tree<S>,
+    tree: &mut BoxWalk<S>,
     boxes: &[TreeBox],
     search: &mut Search,
     output: &mut Output<W>,
@@ -666,7 +671,7 @@ fn write_lines<B: Shown, S: Source, W: Write>(
     Ok(faulty)
 }
 
-/// What each line of a file begins with: its name, where there are several files.
+/// Returns the beginning of each line of a file: its name, if there are several files.
 fn front_of(alloc: Global, name: Option<&str>) -> Result<String> {
     let mut front = String::new(alloc);
     if let Some(name) = name {
@@ -676,11 +681,10 @@ fn front_of(alloc: Global, name: Option<&str>) -> Result<String> {
     Ok(front)
 }
 
-/// Writes the faults of a file, of which these are the boxes, and that it has no movie, if so. Returns whether there
-/// are any.
+/// Writes the faults of a file with the boxes `boxes`, and a line if it has no movie. Returns whether it wrote a line.
 pub fn write_faults<B: Shown, S: Source, W: Write>(
     alloc: Global,
-    tree: &mut Tree<S>,
+    tree: &mut BoxWalk<S>,
     name: Option<&str>,
     boxes: &[TreeBox],
     output: &mut Output<W>,

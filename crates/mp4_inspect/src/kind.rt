@@ -1,44 +1,44 @@
-//! How a box is read, to be shown.
+//! The ways in which a box is read to be shown.
 
 ghost use Rattle.std.specs.Prelude.{◌≡◌};
 ghost use Rattle.mp4_inspect.specs.Kind.{entry_kind, leaf_kind, parent_kind, bytes_before, end_kind, kind_of};
 
 use crate::shown::Shown;
+use mp4_check_rules::may_end;
 use mp4_frame::codes::{DREF, HDLR, META, MP4A, STSD, TX3G, URL};
-use mp4_inspect_rules::may_end;
 use mp4_stream::BoxType;
-use mp4_tree::{Setting, TreeBox, What};
+use mp4_walk::{BoxState, TreeBox, WalkContext};
 
 /// `uuid`: a box whose type is a UUID (ISO/IEC 14496-12, 4.2).
 pub const UUID: u32 = 0x7575_6964;
 
-/// `wave`: decompression parameters of sound (QuickTime). An `mp4a` in it is no sample entry.
+/// `wave`: decompression parameters of audio (QuickTime). An `mp4a` in it is not a sample entry.
 pub const WAVE: u32 = 0x7761_7665;
 
 /// `vide`: the handler of video (ISO/IEC 14496-12, 12.1).
 pub const VIDE: u32 = 0x7669_6465;
 
-/// `soun`: the handler of sound (ISO/IEC 14496-12, 12.2).
+/// `soun`: the handler of audio (ISO/IEC 14496-12, 12.2).
 pub const SOUN: u32 = 0x736f_756e;
 
-/// How a box is read, to be shown.
+/// The way in which a box is read to be shown.
 #[derive(Clone, Copy, Debug, PartialEq, Eq)]
 pub enum Kind {
-    /// Not at all: there is nothing but boxes in it.
+    /// Not at all: the box contains only boxes.
     Boxes,
-    /// Not at all: it is too deep in others.
+    /// Not at all: the box is too deep.
     Deep,
-    /// Not at all: it is none of the types that are read.
+    /// Not at all: boxes of this type are not read.
     Unread,
-    /// Not at all: it ends after the box around it or the file, or has no header.
+    /// Not at all: the box ends after the box around it or after the file, or has no header.
     Cut,
-    /// Not at all: its size is smaller than its header.
+    /// Not at all: the size of the box is smaller than its header.
     Small,
-    /// Whole, as a box of this name.
+    /// Whole, as a box with this name.
     Known(BoxType),
-    /// A handler, whose name may be counted as in QuickTime.
+    /// As a handler, whose name may be counted as in QuickTime.
     Handler,
-    /// A reference to media data, whose location may not be UTF-8.
+    /// As a data reference, whose location may not be UTF-8.
     Reference,
     /// Version and flags.
     Full,
@@ -48,21 +48,21 @@ pub enum Kind {
     Entry,
     /// The common fields of a sample entry of video.
     Visual,
-    /// The common fields of a sample entry of sound.
+    /// The common fields of a sample entry of audio.
     Sound,
     /// The type of a `uuid` box.
     Uuid,
-    /// The four bytes with which the box around ends. If they are zeros they are QuickTime's terminator.
+    /// The last four bytes of the box around. Four zero bytes are QuickTime's terminator.
     Terminator,
 }
 
-/// How a sample entry is read.
-fn entry_kind(code: u32, setting: Setting) -> Kind
-    ensures { result ≡ entry_kind code setting }
+/// Returns how a sample entry is read.
+fn entry_kind(code: u32, context: WalkContext) -> Kind
+    ensures { result ≡ entry_kind code context }
 {
-    if setting.handler == VIDE {
+    if context.handler == VIDE {
         Kind::Visual
-    } else if setting.handler == SOUN {
+    } else if context.handler == SOUN {
         Kind::Sound
     } else if code == TX3G {
         Kind::Known(BoxType::Tx3gBox)
@@ -71,9 +71,10 @@ fn entry_kind(code: u32, setting: Setting) -> Kind
     }
 }
 
-/// How a box that is not gone into is read. It holds no boxes, or has no room for the fields before them.
-fn leaf_kind<B: Shown>(code: u32, setting: Setting) -> Kind
-    ensures { result ≡ leaf_kind B.known code setting }
+/// Returns how to read a box that the walk does not enter. It contains no boxes, or is too short for the fields before
+/// them.
+fn leaf_kind<B: Shown>(code: u32, context: WalkContext) -> Kind
+    ensures { result ≡ leaf_kind B.known code context }
 {
     let name = BoxType::from(code);
     if code == HDLR {
@@ -82,23 +83,23 @@ fn leaf_kind<B: Shown>(code: u32, setting: Setting) -> Kind
         Kind::Reference
     } else if code == UUID {
         Kind::Uuid
-    } else if code == MP4A && setting.parent == WAVE {
+    } else if code == MP4A && context.parent == WAVE {
         Kind::Unread
     } else if B::knows(name) {
         Kind::Known(name)
-    } else if setting.parent == STSD {
-        entry_kind(code, setting)
+    } else if context.parent == STSD {
+        entry_kind(code, context)
     } else {
         Kind::Unread
     }
 }
 
-/// How a box that is gone into is read, with so many bytes before its first box.
-fn parent_kind(code: u32, before: u64, setting: Setting) -> Kind
-    ensures { result ≡ parent_kind code before setting }
+/// Returns how to read a box that the walk enters, with `before` bytes before its first child.
+fn parent_kind(code: u32, before: u64, context: WalkContext) -> Kind
+    ensures { result ≡ parent_kind code before context }
 {
-    if setting.parent == STSD {
-        entry_kind(code, setting)
+    if context.parent == STSD {
+        entry_kind(code, context)
     } else if before >= 8 && (code == STSD || code == DREF) {
         Kind::List
     } else if before >= 4 && code == META {
@@ -108,7 +109,7 @@ fn parent_kind(code: u32, before: u64, setting: Setting) -> Kind
     }
 }
 
-/// How many bytes are in a box before its first box; 0 if it isn't gone into.
+/// Returns the number of content bytes before the first child of a box, or 0 if the walk does not enter it.
 fn bytes_before(found: &TreeBox) -> u64
     ensures { result ≡ bytes_before found.now found.now.children }
 {
@@ -118,29 +119,30 @@ fn bytes_before(found: &TreeBox) -> u64
     }
 }
 
-/// Returns how what has no header is read: the last four bytes of a box that four zero bytes may end, or what is cut.
-fn end_kind(length: u64, setting: Setting) -> Kind
-    ensures { result ≡ end_kind length setting }
+/// Returns how bytes without a whole header are read: as the last four bytes of a box that four zero bytes may end, or
+/// as a cut box.
+fn end_kind(length: u64, context: WalkContext) -> Kind
+    ensures { result ≡ end_kind length context }
 {
-    if length == 4 && may_end(setting) {
+    if length == 4 && may_end(context) {
         Kind::Terminator
     } else {
         Kind::Cut
     }
 }
 
-/// How a box is read, if a `B` is what is read of a box whole.
+/// Returns how the box `found` is read, if `B` is the type of the boxes that are read whole.
 pub fn kind_of<B: Shown>(found: &TreeBox) -> Kind
     ensures { result ≡ kind_of B.known found.now }
 {
     let Some(code) = found.code else {
-        return end_kind(found.length, found.setting);
+        return end_kind(found.length, found.context);
     };
-    match found.what {
-        What::Cut | What::NoHeader => Kind::Cut,
-        What::Small => Kind::Small,
-        What::TooDeep => Kind::Deep,
-        What::Parent => parent_kind(u32::from(code), bytes_before(found), found.setting),
-        What::Leaf => leaf_kind::<B>(u32::from(code), found.setting),
+    match found.state {
+        BoxState::Cut | BoxState::NoHeader => Kind::Cut,
+        BoxState::Small => Kind::Small,
+        BoxState::TooDeep => Kind::Deep,
+        BoxState::Parent => parent_kind(u32::from(code), bytes_before(found), found.context),
+        BoxState::Leaf => leaf_kind::<B>(u32::from(code), found.context),
     }
 }

@@ -1,5 +1,5 @@
-//! `mp4inspect` shows what is in MP4 files: the tree of their boxes, as text or JSON, or their faults alone. It also
-//! writes a file with its movie box before its media data.
+//! The program `mp4inspect` shows people what is in MP4 files: the tree of their boxes, as text or JSON, only their
+//! faults, or their samples. It also writes a file with its `moov` before its media data.
 #![tactic(auto)]
 
 mod box_path;
@@ -28,8 +28,8 @@ use fast_start::fast_start;
 use mp4_inspect_args::{Asked, FastStart, Request, Rows, Task, request_of, unreadable};
 use mp4_inspect_samples::{Choice, Form};
 use mp4_io::{Failure, Input, Output, Steady, flush, is_closed_pipe, read_all, write_all};
-use mp4_sinks::Look;
-use mp4_tree::Source;
+use mp4_show::Look;
+use mp4_walk::Source;
 use outcome::{Outcome, is_silent};
 use program::{Show, inspect};
 use shown::ShownBox;
@@ -45,7 +45,7 @@ use words::{escaped, text_of_error, words_of};
 /// The message for a name that is not UTF-8.
 const NOT_UTF_8: &str = "this name is not UTF-8, and only names that are can be opened";
 
-/// The width of the terminal, as the environment has it; no end of lines if it doesn't say.
+/// Returns the width of the terminal in `COLUMNS`, or the largest number if the variable is missing.
 fn width(rt: &HostRuntime) -> usize {
     match env::var(rt, "COLUMNS") {
         Ok(columns) => columns.parse::<usize>().unwrap_or(usize::MAX),
@@ -53,7 +53,7 @@ fn width(rt: &HostRuntime) -> usize {
     }
 }
 
-/// Returns whether `NO_COLOR` asks for no colours, which it does unless it is empty.
+/// Returns whether `NO_COLOR` is set and not empty.
 fn is_colorless(rt: &HostRuntime) -> bool {
     match env::var(rt, "NO_COLOR") {
         Ok(word) => !word.is_empty(),
@@ -61,7 +61,7 @@ fn is_colorless(rt: &HostRuntime) -> bool {
     }
 }
 
-/// Returns whether the terminal knows no escapes: `TERM` is then `dumb`.
+/// Returns whether `TERM` is `dumb`, so that the terminal knows no escapes.
 fn is_dumb(rt: &HostRuntime) -> bool {
     match env::var(rt, "TERM") {
         Ok(word) => word.as_str() == "dumb",
@@ -69,7 +69,7 @@ fn is_dumb(rt: &HostRuntime) -> bool {
     }
 }
 
-/// How the tree looks.
+/// Returns the look of the tree that `request` asks for.
 fn look_of(rt: &HostRuntime, request: &Request) -> Look {
     let is_terminal = rt.stdout().is_terminal();
     Look {
@@ -86,7 +86,7 @@ fn look_of(rt: &HostRuntime, request: &Request) -> Look {
     }
 }
 
-/// Which samples are written, and how.
+/// Returns the samples that `request` asks for, and their form.
 fn choice_of(request: &Request) -> Choice {
     Choice {
         form: match request.samples {
@@ -104,12 +104,12 @@ fn choice_of(request: &Request) -> Choice {
 struct Named<'a> {
     /// Its name.
     name: &'a str,
-    /// Its name with control characters escaped, as headings and messages have it.
+    /// Its name with control characters escaped, for headings and messages.
     shown: &'a str,
 }
 
-/// Says on standard error why a file could not be read, with the system's reason if there is one. Nothing is said here
-/// of a failed write: that is said once, at the end.
+/// Prints to standard error why a file could not be read, with the system's reason if there is one. A failed write is
+/// not printed here, but once at the end.
 fn tell(rt: &HostRuntime, shown: &str, failure: Failure, reason: Option<io::Error>) {
     let _ = match (failure, reason) {
         (Failure::Write, _) => Ok(()),
@@ -121,19 +121,20 @@ fn tell(rt: &HostRuntime, shown: &str, failure: Failure, reason: Option<io::Erro
     };
 }
 
-/// Says on standard error what is wrong with a file that is not read.
+/// Prints to standard error what is wrong with a file that is not read.
 fn refuse(rt: &HostRuntime, shown: &str, what: &str) -> Outcome {
     let _ = eprintln!(rt; "mp4inspect: {shown}: {what}");
     Outcome::Failed
 }
 
-/// Says on standard error that a file is empty.
+/// Prints to standard error that a file is empty.
 fn refuse_empty(rt: &HostRuntime, shown: &str) -> Outcome {
     let _ = eprintln!(rt; "mp4inspect: {shown}: this is not an MP4 file: it is empty");
     Outcome::Faulty
 }
 
-/// Writes what is asked for of a file, and the faults of its tracks and why it could not be read on standard error.
+/// Writes the requested output for a file. The faults of its tracks, and the reason if it could not be read, are
+/// printed to standard error.
 fn inspect_source<S: Source, W: Write>(
     rt: &HostRuntime,
     file: Named<'_>,
@@ -162,7 +163,7 @@ fn inspect_source<S: Source, W: Write>(
         ));
     }
     let outcome = Outcome::of_file(run, output.inner.is_closed());
-    // `check` writes only lines of faults: one that it could not write is a fault too.
+    // `check` writes only lines of faults, so a line that could not be written is a fault too.
     if !faults.is_empty() || show.task == Task::Check && output.failed {
         outcome.or_worse(Outcome::Faulty)
     } else {
@@ -170,7 +171,7 @@ fn inspect_source<S: Source, W: Write>(
     }
 }
 
-/// Writes what is asked for of what is read from the beginning to the end.
+/// Writes the requested output for an input that can only be read from beginning to end.
 fn inspect_stream<R: Read + Drop, W: Write>(
     rt: &HostRuntime,
     file: Named<'_>,
@@ -188,7 +189,7 @@ fn inspect_stream<R: Read + Drop, W: Write>(
     }
 }
 
-/// Writes what is asked for of the standard input.
+/// Writes the requested output for the standard input.
 fn inspect_input<W: Write>(
     rt: &HostRuntime,
     file: Named<'_>,
@@ -201,7 +202,7 @@ fn inspect_input<W: Write>(
     }
 }
 
-/// Writes what is asked for of an open file.
+/// Writes the requested output for an open file.
 fn inspect_open<W: Write>(
     rt: &HostRuntime,
     file: Named<'_>,
@@ -221,8 +222,8 @@ fn inspect_open<W: Write>(
     }
 }
 
-/// Writes what is asked for of a file, or of the standard input. Where it can't be opened, a line on standard error
-/// says so.
+/// Writes the requested output for a file, or for the standard input. If it can't be opened, prints a line to standard
+/// error.
 fn inspect_named<W: Write>(
     rt: &HostRuntime,
     name: &str,
@@ -249,8 +250,8 @@ fn inspect_named<W: Write>(
     }
 }
 
-/// Writes what is asked for of each file, and keeps the worst outcome in `outcome`. A file that can't be read is passed
-/// over.
+/// Writes the requested output for each file, and stores the worst outcome in `outcome`. A file that can't be read is
+/// skipped.
 fn inspect_all<W: Write>(
     rt: &HostRuntime,
     request: &Request,
@@ -283,7 +284,7 @@ fn inspect_all<W: Write>(
     flush(output)
 }
 
-/// Prints why a command line asks for no file: a misuse, help or the version. Returns the exit status.
+/// Prints the message of a command line that names no file: a misuse, help or the version. Returns the exit status.
 fn print_error(rt: &HostRuntime, error: &Error) -> Result<u8, Failure> {
     if error.kind() == ErrorKind::OutOfMemory {
         return Err(Failure::Memory);
@@ -300,7 +301,7 @@ fn print_error(rt: &HostRuntime, error: &Error) -> Result<u8, Failure> {
     }
 }
 
-/// Shows the files that are asked for. A closed pipe ends that without a word.
+/// Shows the requested files. If the pipe of the output is closed, ends silently.
 fn show(rt: &HostRuntime, request: &Request) -> Result<Outcome, Failure> {
     let writer = or_read(BufWriter::new(rt.alloc(), rt.stdout()))?;
     let mut output = Output::new(Steady::new(writer));
@@ -315,7 +316,7 @@ fn show(rt: &HostRuntime, request: &Request) -> Result<Outcome, Failure> {
     Ok(outcome.ended_by(failure, is_closed))
 }
 
-/// Writes the file that is asked for, if its names are UTF-8. Returns the exit status.
+/// Writes the requested file, if its names are UTF-8. Returns the exit status.
 fn write_file(rt: &HostRuntime, names: &FastStart) -> Result<u8, Failure> {
     let (from, to) = (names.from.as_str(), names.to.as_str());
     match unreadable(from).or(unreadable(to)) {
@@ -324,7 +325,7 @@ fn write_file(rt: &HostRuntime, names: &FastStart) -> Result<u8, Failure> {
     }
 }
 
-/// Does what the command line asks for, and returns the exit status.
+/// Carries out the command line, and returns the exit status.
 fn run(rt: &HostRuntime) -> Result<u8, Failure> {
     let words = words_of(rt)?;
     match request_of(rt.alloc(), words.as_slice()) {

@@ -1,4 +1,4 @@
-//! What is known of the tracks of a file before its faults are looked for.
+//! The facts about the tracks of a file that `check` needs before it reads boxes.
 
 ghost use Rattle.std.specs.Prelude.{◌≡◌};
 
@@ -9,37 +9,37 @@ use mp4_frame::codes::{MOOV, MVEX, TKHD, TRAK, TREX};
 use mp4_frame::u32_at;
 use mp4_io::Failure;
 use mp4_stream::FourCC;
-use mp4_tree::{Source, Tree, TreeBox};
+use mp4_walk::{BoxWalk, Source, TreeBox};
 use std::alloc::Global;
 use std::collections::BTreeMap;
 
 /// The tracks of a file.
 #[derive(Drop)]
 pub struct Movie {
-    /// Is true if the file has a `moov`.
+    /// True if the file has a `moov`.
     pub has_moov: bool,
     /// The position of the first `tkhd` of each track_ID.
     pub headers: BTreeMap<u32, u64>,
-    /// The size of samples in fragments, by the first `trex` of each track_ID.
+    /// The default size of samples in fragments, by the first `trex` of each track_ID.
     pub sizes: BTreeMap<u32, u32>,
 }
 
-/// Keeps a value of a track, if it is the first.
+/// Stores a value of a track, if it is the first.
 fn keep_first<V: Drop>(
     values: &mut BTreeMap<u32, V>,
     number: u32,
     value: V,
-) -> mp4_fields::Result<()> {
+) -> mp4_show::Result<()> {
     if !values.contains_key(&number) {
         values.insert(number, value)?;
     }
     Ok(())
 }
 
-/// Keeps the track_ID of a `tkhd`.
+/// Stores the track_ID of a `tkhd`.
 fn keep_header<S: Source>(
     alloc: Global,
-    tree: &mut Tree<S>,
+    tree: &mut BoxWalk<S>,
     found: &TreeBox,
     movie: &mut Movie,
 ) -> Result<(), Failure>
@@ -51,10 +51,10 @@ fn keep_header<S: Source>(
     }
 }
 
-/// Keeps the size of samples of a `trex` (ISO/IEC 14496-12, 8.8.3.2).
+/// Stores the default size of samples of a `trex` (ISO/IEC 14496-12, 8.8.3.2).
 fn keep_size<S: Source>(
     alloc: Global,
-    tree: &mut Tree<S>,
+    tree: &mut BoxWalk<S>,
     found: &TreeBox,
     movie: &mut Movie,
 ) -> Result<(), Failure>
@@ -67,10 +67,10 @@ fn keep_size<S: Source>(
     or_memory(keep_first(&mut movie.sizes, u32_at(&front, 4), u32_at(&front, 16)))
 }
 
-/// Keeps what a box says of a track, if it is a `tkhd` or a `trex` of a `moov`.
+/// Stores the fact about a track in the box `found`, if that is a `tkhd` or a `trex` of a `moov`.
 fn keep<S: Source>(
     alloc: Global,
-    tree: &mut Tree<S>,
+    tree: &mut BoxWalk<S>,
     found: &TreeBox,
     movie: &mut Movie,
 ) -> Result<(), Failure>
@@ -79,19 +79,19 @@ fn keep<S: Source>(
     if found.depth != 2 {
         return Ok(());
     }
-    if found.setting.parent == TRAK && is_box(found, TKHD) {
+    if found.context.parent == TRAK && is_box(found, TKHD) {
         return keep_header(alloc, tree, found, movie);
     }
-    if found.setting.parent == MVEX && is_box(found, TREX) {
+    if found.context.parent == MVEX && is_box(found, TREX) {
         return keep_size(alloc, tree, found, movie);
     }
     Ok(())
 }
 
-/// Returns what is known of the tracks of a file, of which these are the boxes.
+/// Returns the facts about the tracks of a file with the boxes `boxes`.
 pub fn movie_of<S: Source>(
     alloc: Global,
-    tree: &mut Tree<S>,
+    tree: &mut BoxWalk<S>,
     boxes: &[TreeBox],
 ) -> Result<Movie, Failure>
     ensures kept { tree.new ≡ tree.old }

@@ -1,22 +1,22 @@
-//! How a run of the program ends.
+//! The end of a run of the program.
 
 ghost use Rattle.std.specs.Prelude.{◌≡◌, max};
 ghost use Rattle.mp4_inspect.specs.Outcome.{outcome_of, outcome_of_failure, status_of, is_silent};
 
 use mp4_io::Failure;
 
-/// How a run of the program ends, from the best to the worst.
+/// The end of a run of the program, from the best to the worst.
 #[derive(Clone, Copy, Debug, PartialEq, Eq)]
 pub enum Outcome {
-    /// All is written, or all that the reader of the output took, and no box has a fault.
+    /// Everything is written, or everything that the reader of the output took, and no box has a fault.
     Sound,
-    /// The same, and a box has a fault.
+    /// Everything is written in that sense, and a box has a fault.
     Faulty,
-    /// A file could not be read, or the output not be written, or there was no memory.
+    /// A file could not be read, the output could not be written, or memory was refused.
     Failed,
 }
 
-/// Returns whether nothing is said of a failure: the reader of the output is gone, where `is_closed` says so.
+/// Returns whether a failure is not reported, because the reader of the output is gone. `is_closed` says whether it is.
 pub fn is_silent(failure: Failure, is_closed: bool) -> bool
     ensures { result ≡ is_silent is_closed failure }
 {
@@ -27,7 +27,7 @@ pub fn is_silent(failure: Failure, is_closed: bool) -> bool
 }
 
 impl Outcome {
-    /// Returns the outcome of a failure, which is `Sound` if nothing is said of it.
+    /// Returns the outcome of a failure, which is `Sound` if the failure is not reported.
     pub fn of_failure(failure: Failure, is_closed: bool) -> Outcome
         ensures { result ≡ outcome_of_failure is_closed failure }
     {
@@ -38,7 +38,7 @@ impl Outcome {
         }
     }
 
-    /// Returns the outcome of a file, of which all is written, with whether a box has a fault, or not.
+    /// Returns the outcome of a file. `run` is whether a box has a fault, or the failure of the run.
     pub fn of_file(run: Result<bool, Failure>, is_closed: bool) -> Outcome
         ensures { result ≡ outcome_of is_closed run }
     {
@@ -49,7 +49,7 @@ impl Outcome {
         }
     }
 
-    /// Returns the exit status. A misuse is 2, which `clap` gives.
+    /// Returns the exit status: 0, 1 for `Faulty` and 3 for `Failed`. `clap` uses 2 for a misuse.
     pub fn status(self) -> u8
         ensures { result ≡ status_of self }
     {
@@ -60,7 +60,7 @@ impl Outcome {
         }
     }
 
-    /// Returns the worse of two.
+    /// Returns the worse of `self` and `other`.
     pub fn or_worse(self, other: Outcome) -> Outcome
         ensures { status_of result ≡ max (status_of self) (status_of other) }
     {
@@ -71,7 +71,7 @@ impl Outcome {
         }
     }
 
-    /// Returns the outcome of a run that had this one until a failure ended it.
+    /// Returns the outcome of a run that had the outcome `self` until a failure ended it.
     pub fn ended_by(self, failure: Failure, is_closed: bool) -> Outcome
         ensures { status_of result ≡ max (status_of self) (status_of (outcome_of_failure is_closed failure)) }
     {

@@ -1,4 +1,4 @@
-//! The program, between the source of a file and a writer.
+//! The program, from the source of a file to a writer.
 
 ghost use Rattle.std.specs.Prelude.{◌≡◌, ◌||◌, false, string_bytes, IfOk, OnOk, OnErr, IfSome};
 ghost use Rattle.std.specs.Io.KnownBytes.{Appends};
@@ -7,8 +7,8 @@ ghost use Rattle.mp4_inspect.specs.Heading.{heading_of};
 ghost use Rattle.mp4_inspect.specs.Json.{comma, WritesJson};
 ghost use Rattle.mp4_inspect.specs.Written.{WritesFile, BeginsFile};
 ghost use Rattle.mp4_io.specs.Ends.{is_write};
-ghost use Rattle.mp4_tree.specs.Tree.{boxes_of};
-ghost use Rattle.mp4_tree.specs.Walk.{left};
+ghost use Rattle.mp4_walk.specs.FileBoxes.{boxes_of};
+ghost use Rattle.mp4_walk.specs.Walk.{left};
 
 use crate::failure::or_read;
 use crate::faults::write_faults;
@@ -18,28 +18,28 @@ use crate::tree_text::write_tree;
 use mp4_inspect_args::Task;
 use mp4_inspect_samples::{Choice, TrackFault, write_samples};
 use mp4_io::{Failure, Output, write_all};
-use mp4_sinks::{Look, TextSink};
-use mp4_tree::{Source, Tree, TreeBox};
+use mp4_show::{Look, TextSink};
+use mp4_walk::{BoxWalk, Source, TreeBox};
 use std::alloc::Global;
 use std::io::Write;
 
-/// How a file is shown.
+/// The way in which a file is shown.
 #[derive(Clone, Copy, Debug, PartialEq, Eq)]
 pub struct Show {
-    /// What is to be written.
+    /// The task: what is written.
     pub task: Task,
-    /// How a tree looks as text.
+    /// The look of a tree as text.
     pub look: Look,
-    /// Whether there are several files, so that each has its name.
+    /// True if there are several files, so that each output has the name of its file.
     pub several: bool,
-    /// Whether a file was written before.
+    /// True if a file was written before.
     pub follows: bool,
-    /// Which samples are written, and how.
+    /// The samples that are written, and their form.
     pub samples: Choice,
 }
 
-/// The boxes that are left of a walk, in order.
-fn boxes_left<S: Source>(alloc: Global, tree: &mut Tree<S>) -> Result<Vec<TreeBox>, Failure>
+/// Returns the remaining boxes of a walk, in order.
+fn boxes_left<S: Source>(alloc: Global, tree: &mut BoxWalk<S>) -> Result<Vec<TreeBox>, Failure>
     ensures boxes { IfSome tree.old.bytes (λ bytes. IfOk result (λ boxes. boxes.items ≡ left bytes tree.old)) }
     ensures bytes { tree.new.bytes ≡ tree.old.bytes }
     ensures not_write { is_write result ≡ false }
@@ -53,8 +53,8 @@ fn boxes_left<S: Source>(alloc: Global, tree: &mut Tree<S>) -> Result<Vec<TreeBo
     Ok(boxes)
 }
 
-/// The heading of a file's tree, if there are several files: a line with its name, after an empty line if a file was
-/// written before.
+/// Returns the heading of the tree of a file, if there are several files: a line with its name, after an empty line if
+/// a file was written before.
 fn heading_of(alloc: Global, name: &str, show: Show) -> Result<String, Failure>
     ensures { IfOk result (λ heading. string_bytes heading ≡ heading_of show name.now) }
 {
@@ -69,12 +69,12 @@ fn heading_of(alloc: Global, name: &str, show: Show) -> Result<String, Failure>
     Ok(heading)
 }
 
-/// Writes the texts of the boxes of a file under its heading. Returns whether a box of it has a fault. After an error a
-/// beginning of that is written.
+/// Writes the heading of a file and the texts of its boxes. Returns whether a box has a fault. After an error a
+/// beginning of that text is written.
 fn show_boxes<B: Shown, S: Source, W: Write>(
     alloc: Global,
     heading: &str,
-    tree: &mut Tree<S>,
+    tree: &mut BoxWalk<S>,
     boxes: &[TreeBox],
     look: Look,
     output: &mut Output<W>,
@@ -96,8 +96,8 @@ fn show_boxes<B: Shown, S: Source, W: Write>(
     write_tree::<B, S, W>(alloc, tree, boxes, sink, output)
 }
 
-/// Writes the tree of a source as text, under its heading, once the headers of its boxes are read. Returns whether a
-/// box of it has a fault. After an error a beginning of that is written.
+/// Writes the heading and the tree of a source as text, after reading the headers of all boxes. Returns whether a box
+/// has a fault. After an error a beginning of that text is written.
 fn show_tree<B: Shown, S: Source, W: Write>(
     alloc: Global,
     heading: &str,
@@ -115,12 +115,12 @@ fn show_tree<B: Shown, S: Source, W: Write>(
         (W.contents output.old.inner) (W.contents output.new.inner))) }
     ensures failed { output.new.failed ≡ (output.old.failed || is_write result) }
 {
-    let mut tree = or_read(Tree::new(alloc, source))?;
+    let mut tree = or_read(BoxWalk::new(alloc, source))?;
     let boxes = boxes_left(alloc, &mut tree)?;
     show_boxes::<B, S, W>(alloc, heading, &mut tree, &boxes, look, output)
 }
 
-/// Writes a comma if a file follows another.
+/// Writes a comma if `follows`.
 fn write_comma<W: Write>(follows: bool, output: &mut Output<W>) -> Result<(), Failure>
     ensures comma { OnOk result (Appends (W.contents output.old.inner) (W.contents output.new.inner) (comma follows)) }
 {
@@ -131,12 +131,12 @@ fn write_comma<W: Write>(follows: bool, output: &mut Output<W>) -> Result<(), Fa
     }
 }
 
-/// Writes the JSON of a file, of which these are the boxes, after a comma if it follows another. Returns whether a box
-/// of it has a fault.
+/// Writes the JSON of a file with the boxes `boxes`, after a comma if it follows another. Returns whether a box has a
+/// fault.
 fn show_objects<B: Shown, S: Source, W: Write>(
     alloc: Global,
     name: &str,
-    tree: &mut Tree<S>,
+    tree: &mut BoxWalk<S>,
     boxes: &[TreeBox],
     follows: bool,
     output: &mut Output<W>,
@@ -152,7 +152,7 @@ fn show_objects<B: Shown, S: Source, W: Write>(
     Ok(shown.1)
 }
 
-/// Writes the JSON of a source, after a comma if it follows another. Returns whether a box of it has a fault.
+/// Writes the JSON of a source, after a comma if it follows another. Returns whether a box has a fault.
 fn show_json<B: Shown, S: Source, W: Write>(
     alloc: Global,
     name: &str,
@@ -164,12 +164,12 @@ fn show_json<B: Shown, S: Source, W: Write>(
         (λ bytes. IfOk result (λ faulty. WritesJson B.known B.named_reading bytes name.now follows
         (W.contents output.old.inner) (W.contents output.new.inner) faulty)) }
 {
-    let mut tree = or_read(Tree::new(alloc, source))?;
+    let mut tree = or_read(BoxWalk::new(alloc, source))?;
     let boxes = boxes_left(alloc, &mut tree)?;
     show_objects::<B, S, W>(alloc, name, &mut tree, &boxes, follows, output)
 }
 
-/// Writes the faults of a source. Returns whether there are any.
+/// Writes the faults of a source. Returns whether it wrote a line.
 fn show_faults<B: Shown, S: Source, W: Write>(
     alloc: Global,
     name: Option<&str>,
@@ -181,13 +181,13 @@ fn show_faults<B: Shown, S: Source, W: Write>(
         (W.contents output.old.inner) (W.contents output.new.inner)
         faulty)) }
 {
-    let mut tree = or_read(Tree::new(alloc, source))?;
+    let mut tree = or_read(BoxWalk::new(alloc, source))?;
     let boxes = boxes_left(alloc, &mut tree)?;
     write_faults::<B, S, W>(alloc, &mut tree, name, &boxes, output)
 }
 
-/// Writes what is asked for of a file. Returns whether it has a fault. Of a tree a beginning is written after an error.
-/// The faults of tracks whose samples are written are kept.
+/// Writes the requested output for a file. Returns whether it has a fault. After an error a beginning of the tree is
+/// written. `faults` gets the faults of tracks whose samples are written.
 pub fn inspect<B: Shown, S: Source, W: Write>(
     alloc: Global,
     name: &str,

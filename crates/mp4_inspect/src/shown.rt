@@ -1,42 +1,42 @@
-//! What is read of a box whole, to be shown.
+//! The types of boxes that are read whole and shown.
 
 ghost use Rattle.std.specs.Prelude.{◌≡◌, ℕ, ◌-◌, ◌≤◌, Bool, List, IsTrue};
 ghost use Rattle.mp4_frame.specs.Reading.{Answers, Reading};
 ghost use Rattle.mp4_frame.specs.declared.box_type.BoxType.{BoxType};
 ghost use Rattle.mp4_stream.specs.AnyBox.{known_any, reading_any};
-ghost use Rattle.mp4_lists.specs.OwnOr.{known_or, reading_or};
+ghost use Rattle.mp4_compose.specs.Either.{known_or, reading_or};
 
-use mp4_more::MoreBox;
-use mp4_more_fields::HasFields;
-use mp4_stream::{AnyBox, BoxType, ByteCursor, OwnOr, Result, StreamBox};
+use mp4_extra::ExtraBox;
+use mp4_show_extra::HasFields;
+use mp4_stream::{AnyBox, BoxType, ByteCursor, Either, Result, StreamBox};
 use std::alloc::Global;
 
 /// A type of boxes that are read by their names, and whose fields are shown.
 pub trait Shown: HasFields + Drop {
-    /// The names that are read.
+    /// The names that are read, as a function.
     ghost known: { BoxType → Bool };
 
-    /// What is read under a name, for the bytes of the buffer, the box's start, and its size.
+    /// The reading under a name, for the bytes of the buffer, the start of the box, and its size.
     ghost named_reading: { BoxType → List ℕ → ℕ → ℕ → Reading Self };
 
-    /// Whether boxes of this name are read.
+    /// Returns whether boxes with the name `name` are read.
     fn knows(name: BoxType) -> bool
         ensures { result ≡ known name };
 
-    /// Reads the box of this name whose header was just read.
+    /// Reads the box with the name `name` whose header was just read.
     fn read_shown(alloc: Global, name: BoxType, reader: &mut ByteCursor, size: u64) -> Result<Self>
         requires known { IsTrue (known name) }
         requires after_header { 8 ≤ reader.old.position }
         ensures answer { Answers result (named_reading name reader.old.bytes.now (reader.old.position - 8) size) };
 
-    /// The box of the codec, if it is one.
+    /// Returns the box as a box of the codec, if it is one.
     fn any(&self) -> Option<&AnyBox>;
 }
 
-/// A box of the codec, or of one type more.
-pub type ShownBox = OwnOr<MoreBox, AnyBox>;
+/// A box of the codec, or one of the extra boxes.
+pub type ShownBox = Either<ExtraBox, AnyBox>;
 
-impl<A: StreamBox + HasFields> Shown for OwnOr<A, AnyBox> {
+impl<A: StreamBox + HasFields> Shown for Either<A, AnyBox> {
     ghost known = { known_or A.known known_any };
 
     ghost named_reading = { reading_or A.known A.named_reading reading_any };
@@ -50,18 +50,18 @@ impl<A: StreamBox + HasFields> Shown for OwnOr<A, AnyBox> {
         name: BoxType,
         reader: &mut ByteCursor,
         size: u64,
-    ) -> Result<OwnOr<A, AnyBox>> {
+    ) -> Result<Either<A, AnyBox>> {
         if A::knows(name) {
-            Ok(OwnOr::Own(A::read_named(alloc, name, reader, size)?))
+            Ok(Either::First(A::read_named(alloc, name, reader, size)?))
         } else {
-            Ok(OwnOr::Rest(AnyBox::read_named(alloc, name, reader, size)?))
+            Ok(Either::Second(AnyBox::read_named(alloc, name, reader, size)?))
         }
     }
 
     fn any(&self) -> Option<&AnyBox> {
         match self {
-            OwnOr::Own(_) => None,
-            OwnOr::Rest(any) => Some(any),
+            Either::First(_) => None,
+            Either::Second(any) => Some(any),
         }
     }
 }

@@ -1,25 +1,25 @@
-//! Where the bytes of a file come from, and why they could not be read.
+//! The sources of the bytes of a file, and the errors of reading them.
 
 ghost use Rattle.std.specs.Prelude.{◌≡◌};
 ghost use Rattle.mp4_inspect.specs.Opened.{reading_of};
 
-use mp4_tree::Source;
+use mp4_walk::Source;
 use std::fs::File;
 use std::io::{Seek, SeekFrom};
 use std::os::unix::fs::FileTypeExt;
 use std::{fs, io};
 
-/// A source that keeps the last error of reading.
+/// A source that stores the last error of reading.
 #[derive(Drop)]
 pub struct Kept<S: Source> {
     /// The source.
     inner: S,
-    /// The error of the last call that failed, if a call has.
+    /// The error of the last failed call, if there was one.
     pub error: Option<io::Error>,
 }
 
 impl<S: Source> Kept<S> {
-    /// Returns a source of which no call has failed.
+    /// Returns a source over `inner`, of which no call has failed.
     pub fn new(inner: S) -> Self {
         Kept { inner, error: None }
     }
@@ -49,7 +49,7 @@ impl<S: Source> Source for Kept<S> {
     }
 }
 
-/// A file that is read starting at a position, as if nothing were before it.
+/// A file that is read starting at a position, as if that were its beginning.
 #[derive(Drop)]
 pub struct FileFrom {
     file: File,
@@ -66,7 +66,7 @@ impl Source for FileFrom {
     }
 }
 
-/// Returns the position that the system says of an open file, in the line of `text` that begins with `pos:`.
+/// Returns the position of an open file that the line `pos:` of `text` holds.
 fn position_in(text: &str) -> Option<u64> {
     for line in text.split('\n') {
         if let Some(number) = line.strip_prefix("pos:") {
@@ -76,8 +76,8 @@ fn position_in(text: &str) -> Option<u64> {
     None
 }
 
-/// Opens the standard input anew, where it is a regular file of which bytes are left. None if it is something else, or
-/// if the system doesn't say where it stands.
+/// Opens the standard input again, if it is a regular file with bytes left. Returns `None` if it is something else, or
+/// if the system does not report its position.
 pub fn input_file(rt: &HostRuntime) -> Option<FileFrom> {
     let text = fs::read_to_string(rt, "/proc/self/fdinfo/0").ok()?;
     let start = position_in(text.as_str())?;
@@ -91,17 +91,17 @@ pub fn input_file(rt: &HostRuntime) -> Option<FileFrom> {
 /// A way to read the bytes of a file.
 #[derive(Clone, Copy, Debug, PartialEq, Eq)]
 pub enum Reading {
-    /// At any position.
+    /// Bytes at any position.
     Seeks,
-    /// From the beginning to the end, as a pipe.
+    /// Bytes from the beginning to the end, such as those of a pipe.
     Streams,
-    /// Not at all: it is a directory.
+    /// None: the file is a directory.
     Directory,
-    /// Not at all: it is a device.
+    /// None: the file is a device.
     Device,
 }
 
-/// Returns how a file is read: `seeks` says that it is a regular file which can be sought in.
+/// Returns how a file is read. `seeks` says that it is a regular file that supports seeking.
 fn reading_of(is_directory: bool, is_device: bool, seeks: bool) -> Reading
     ensures { result ≡ reading_of is_directory is_device seeks }
 {
@@ -116,7 +116,7 @@ fn reading_of(is_directory: bool, is_device: bool, seeks: bool) -> Reading
     }
 }
 
-/// Returns how an open file is read, and leaves it at its beginning.
+/// Returns how an open file is read, and sets its position to its beginning.
 pub fn how_to_read(file: &mut File) -> io::Result<Reading> {
     let kind = file.metadata()?.file_type();
     let seeks = kind.is_file() && file.seek(SeekFrom::End(0)).is_ok();

@@ -8,7 +8,7 @@ use mp4_frame::codes::{HDLR, MDIA, TKHD, TRAK};
 use mp4_frame::u32_at;
 use mp4_io::Failure;
 use mp4_stream::FourCC;
-use mp4_tree::{Source, Tree, TreeBox};
+use mp4_walk::{BoxWalk, Source, TreeBox};
 use std::alloc::Global;
 
 /// A track, as its line has it.
@@ -28,7 +28,7 @@ pub fn is_box(found: &TreeBox, code: u32) -> bool {
 /// The number of 4 bytes at an offset of a box's content, if they are there. The offset is 20 or less.
 fn number_in<S: Source>(
     alloc: Global,
-    tree: &mut Tree<S>,
+    tree: &mut BoxWalk<S>,
     found: &TreeBox,
     offset: u8,
 ) -> Result<Option<u32>, Failure>
@@ -46,7 +46,7 @@ fn number_in<S: Source>(
 /// The number of a track, as its header has it: after times of 4 bytes, or of 8 in version 1 (ISO/IEC 14496-12, 8.3.2).
 pub fn number_of<S: Source>(
     alloc: Global,
-    tree: &mut Tree<S>,
+    tree: &mut BoxWalk<S>,
     header: &TreeBox,
 ) -> Result<Option<u32>, Failure>
     ensures kept { tree.new ≡ tree.old }
@@ -63,7 +63,7 @@ pub fn number_of<S: Source>(
 /// of which nothing is known.
 pub fn track_of<S: Source>(
     alloc: Global,
-    tree: &mut Tree<S>,
+    tree: &mut BoxWalk<S>,
     boxes: &[TreeBox],
 ) -> Result<Track, Failure>
     ensures kept { tree.new ≡ tree.old }
@@ -88,7 +88,7 @@ pub fn track_of<S: Source>(
             track.number = number_of(alloc, tree, found)?;
         }
         if level == 2
-            && found.setting.parent == MDIA
+            && found.context.parent == MDIA
             && track.handler.is_none()
             && is_box(found, HDLR)
         {

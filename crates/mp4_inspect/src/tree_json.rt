@@ -5,22 +5,21 @@ ghost use Rattle.json.specs.Token.{Token, key, string};
 ghost use Rattle.mp4_inspect.specs.Json.{number_member, head_tokens, type_token, AreFields, IsRest, end_tokens};
 ghost use Rattle.mp4_inspect.specs.Json.{levels_end};
 ghost use Rattle.mp4_inspect.specs.Json.{open_inside, open_after, box_tokens, IsShown, file_tokens, IsJson};
-ghost use Rattle.mp4_sinks.specs.Tokens.{Puts};
+ghost use Rattle.mp4_show.specs.Tokens.{Puts};
 
 use crate::content::{Content, content_of, put_content};
 use crate::failure::or_memory;
 use crate::fault_text::fault_text;
 use crate::shown::Shown;
 use crate::tree_text::either;
-use mp4_fields::Result;
 use mp4_io::Failure;
-use mp4_more_fields::HasFields;
-use mp4_sinks::JsonSink;
+use mp4_show::{JsonSink, Result};
+use mp4_show_extra::HasFields;
 use mp4_stream::{Error, FourCC};
-use mp4_tree::{Source, Tree, TreeBox};
+use mp4_walk::{BoxWalk, Source, TreeBox};
 use std::alloc::Global;
 
-/// Writes a member that is a number.
+/// Writes the member `name` with a number.
 fn put_number(name: &str, number: u64, sink: &mut JsonSink) -> Result<()>
     ensures tokens { OnOk result (Puts sink.old.out sink.new.out (number_member name.now number)) }
 {
@@ -29,7 +28,7 @@ fn put_number(name: &str, number: u64, sink: &mut JsonSink) -> Result<()>
     Ok(())
 }
 
-/// Writes a code, or that there is none.
+/// Writes a code, or null if there is none.
 fn put_code(code: Option<FourCC>, sink: &mut JsonSink) -> Result<()>
     ensures tokens { OnOk result (Puts sink.old.out sink.new.out (type_token code ∷ [])) }
 {
@@ -42,7 +41,7 @@ fn put_code(code: Option<FourCC>, sink: &mut JsonSink) -> Result<()>
     }
 }
 
-/// Writes the type of a box: its code, if it has one.
+/// Writes the member with the type of a box, its code.
 fn put_type(found: &TreeBox, sink: &mut JsonSink) -> Result<()>
     ensures tokens { OnOk result
         (Puts sink.old.out sink.new.out (key (codes "type") ∷ type_token found.now.code ∷ [])) }
@@ -51,7 +50,7 @@ fn put_type(found: &TreeBox, sink: &mut JsonSink) -> Result<()>
     put_code(found.code, sink)
 }
 
-/// Begins the object of a box, with what its header says.
+/// Begins the object of a box, with the members of its header.
 fn put_head(found: &TreeBox, sink: &mut JsonSink) -> Result<()>
     ensures tokens { OnOk result (Puts sink.old.out sink.new.out (head_tokens found.now)) }
 {
@@ -62,7 +61,7 @@ fn put_head(found: &TreeBox, sink: &mut JsonSink) -> Result<()>
     put_number("header", found.header_length, sink)
 }
 
-/// Writes the member of a fault.
+/// Writes the member with a fault.
 fn put_fault(alloc: Global, found: &TreeBox, fault: &Error, sink: &mut JsonSink) -> Result<()>
     ensures tokens { OnOk result ((text : List ℕ)
         × Puts sink.old.out sink.new.out (key (codes "fault") ∷ string text ∷ [])) }
@@ -73,7 +72,7 @@ fn put_fault(alloc: Global, found: &TreeBox, fault: &Error, sink: &mut JsonSink)
     Ok(())
 }
 
-/// Writes the member of the fields that were read.
+/// Writes the member with the fields that were read.
 fn put_all_fields<B: HasFields + Drop>(
     content: &Content<B>,
     is_quicktime: bool,
@@ -101,12 +100,12 @@ fn put_rest<B: HasFields + Drop>(
         Content::Boxes | Content::Deep | Content::Unread => Ok(()),
         Content::Faulty(fault) => put_fault(alloc, found, fault, sink),
         Content::Known(_) | Content::Front(..) => {
-            put_all_fields(content, found.setting.is_quicktime, sink)
+            put_all_fields(content, found.context.is_quicktime, sink)
         }
     }
 }
 
-/// Ends the objects of boxes that hold boxes, down to a depth.
+/// Ends the objects of open containers, down to `depth`.
 fn end_levels(begun: &mut u64, depth: u64, sink: &mut JsonSink) -> Result<()>
     ensures tokens { OnOk result (Puts sink.old.out sink.new.out (levels_end (begun.old - depth))) }
     ensures begun { OnOk result (begun.new ≡ min depth begun.old) }
@@ -119,7 +118,7 @@ fn end_levels(begun: &mut u64, depth: u64, sink: &mut JsonSink) -> Result<()>
     Ok(())
 }
 
-/// Begins the boxes in a box.
+/// Begins the children of a box.
 fn begin_children(begun: &mut u64, sink: &mut JsonSink) -> Result<()>
     requires { begun.old < 2 ^ 64 - 1 }
     ensures tokens { OnOk result
@@ -132,7 +131,7 @@ fn begin_children(begun: &mut u64, sink: &mut JsonSink) -> Result<()>
     Ok(())
 }
 
-/// Ends the object of a box that holds no boxes.
+/// Ends the object of a box without children.
 fn end_box(sink: &mut JsonSink) -> Result<()>
     ensures tokens { OnOk result (Puts sink.old.out sink.new.out (Token.end_object ∷ [])) }
 {
@@ -140,7 +139,7 @@ fn end_box(sink: &mut JsonSink) -> Result<()>
     Ok(())
 }
 
-/// Ends the object of a box, or begins the boxes in it.
+/// Ends the object of a box, or begins its children.
 fn put_end(found: &TreeBox, begun: &mut u64, sink: &mut JsonSink) -> Result<()>
     requires { begun.old < 2 ^ 64 - 1 }
     ensures tokens { OnOk result (Puts sink.old.out sink.new.out (end_tokens found.now.children)) }
@@ -152,7 +151,7 @@ fn put_end(found: &TreeBox, begun: &mut u64, sink: &mut JsonSink) -> Result<()>
     }
 }
 
-/// Writes a box. Its object stays open if it holds boxes.
+/// Writes a box. Its object stays open if the walk enters the box.
 fn put_box<B: HasFields + Drop>(
     alloc: Global,
     found: &TreeBox,
@@ -171,10 +170,10 @@ fn put_box<B: HasFields + Drop>(
     put_end(found, begun, sink)
 }
 
-/// Writes a box with what is read of it. Returns whether it has a fault.
+/// Writes a box with its content. Returns whether it has a fault.
 fn write_box<B: Shown, S: Source>(
     alloc: Global,
-    tree: &mut Tree<S>,
+    tree: &mut BoxWalk<S>,
     found: &TreeBox,
     begun: &mut u64,
     sink: &mut JsonSink,
@@ -213,10 +212,10 @@ fn end_file(sink: &mut JsonSink) -> Result<()>
     Ok(())
 }
 
-/// The JSON of a file: an object with its name and its boxes, which these are. With it comes whether one has a fault.
+/// Returns the JSON of a file, an object with its name and its boxes `boxes`, and whether one of the boxes has a fault.
 pub fn tree_json<B: Shown, S: Source>(
     alloc: Global,
-    tree: &mut Tree<S>,
+    tree: &mut BoxWalk<S>,
     name: &str,
     boxes: &[TreeBox],
 ) -> std::result::Result<(Vec<u8>, bool), Failure>

@@ -11,13 +11,12 @@ use crate::failure::or_memory;
 use crate::fault_text::fault_text;
 use crate::shown::Shown;
 use crate::track::{Track, track_of};
-use mp4_fields::Result;
 use mp4_frame::codes::{STSD, TRAK};
 use mp4_io::{Failure, Output, write_all};
-use mp4_more_fields::HasFields;
-use mp4_sinks::{Look, TextSink, columns, push_code, push_colored, push_number};
+use mp4_show::{Look, Result, TextSink, columns, push_code, push_colored, push_number};
+use mp4_show_extra::HasFields;
 use mp4_stream::{Error, FourCC};
-use mp4_tree::{Source, Tree, TreeBox, name_of};
+use mp4_walk::{BoxWalk, Source, TreeBox, name_of};
 use std::alloc::Global;
 use std::io::Write;
 
@@ -27,10 +26,10 @@ const BOLD: &str = "1";
 /// The colour of a fault: red.
 const RED: &str = "31";
 
-/// The colour of what is not read: faint.
+/// The colour of a box that is not read: faint.
 const FAINT: &str = "2";
 
-/// The text of a box's name.
+/// Returns the text of the name of a box.
 fn name_text(alloc: Global, found: &TreeBox) -> Result<String> {
     let mut name = String::new(alloc);
     match found.code {
@@ -40,7 +39,7 @@ fn name_text(alloc: Global, found: &TreeBox) -> Result<String> {
     Ok(name)
 }
 
-/// Makes what a box's line begins with: two spaces for each box around it, and its name.
+/// Puts the beginning of the line of a box into `out`: two spaces for each box around it, and its name.
 fn name_line(alloc: Global, look: Look, found: &TreeBox, out: &mut String) -> Result<()> {
     out.clear();
     for _ in 0..found.depth {
@@ -50,7 +49,7 @@ fn name_line(alloc: Global, look: Look, found: &TreeBox, out: &mut String) -> Re
     push_colored(look, name.as_str(), BOLD, out)
 }
 
-/// Appends a number.
+/// Appends the digits of `number` to `out`.
 fn push_decimal(number: u64, out: &mut String) -> Result<()>
     ensures { OnOk result (string_bytes out.new ≡ string_bytes out.old ++ decimal number) }
 {
@@ -59,7 +58,7 @@ fn push_decimal(number: u64, out: &mut String) -> Result<()>
     Ok(())
 }
 
-/// Appends the place of a box: its position and its length.
+/// Appends the position and the length of a box to `out`.
 fn push_place(found: &TreeBox, out: &mut String) -> Result<()>
     ensures { OnOk result (string_bytes out.new ≡ string_bytes out.old ++ place_text found.now) }
 {
@@ -69,7 +68,7 @@ fn push_place(found: &TreeBox, out: &mut String) -> Result<()>
     push_decimal(found.length, out)
 }
 
-/// What the media of a handler are, in a word.
+/// Returns a word for the media of a handler.
 fn kind_word(handler: FourCC) -> &'static str {
     match &handler.value {
         b"vide" => "video",
@@ -85,7 +84,7 @@ fn kind_word(handler: FourCC) -> &'static str {
     }
 }
 
-/// What the line of a track has: its number and its kind.
+/// Sends the number and the kind of a track to `sink`, for its line.
 fn put_track(alloc: Global, track: Track, sink: &mut TextSink) -> Result<()> {
     let mut text = String::new(alloc);
     if let Some(number) = track.number {
@@ -105,7 +104,7 @@ fn put_track(alloc: Global, track: Track, sink: &mut TextSink) -> Result<()> {
     sink.words(text.as_str())
 }
 
-/// What a box is called between round brackets, after a word.
+/// Sends `word` and the name of a box for people, in round brackets, to `sink`.
 fn put_called(alloc: Global, word: &str, found: &TreeBox, sink: &mut TextSink) -> Result<()> {
     let mut text = String::from_str(alloc, word)?;
     if let Some(name) = found.code.and_then(name_of) {
@@ -119,14 +118,14 @@ fn put_called(alloc: Global, word: &str, found: &TreeBox, sink: &mut TextSink) -
     sink.words_colored(text.as_str(), FAINT)
 }
 
-/// Puts the fault of a box.
+/// Sends the fault of a box to `sink`.
 fn put_fault(alloc: Global, found: &TreeBox, fault: &Error, sink: &mut TextSink) -> Result<()> {
     let mut text = String::from_str(alloc, "fault: ")?;
     text.push_str(fault_text(alloc, found, fault)?.as_str())?;
     sink.words_colored(text.as_str(), RED)
 }
 
-/// What follows the head of a box's line.
+/// Sends the rest of the line of a box, after its head, to `sink`.
 fn put_rest<B: HasFields + Drop>(
     alloc: Global,
     found: &TreeBox,
@@ -137,18 +136,18 @@ fn put_rest<B: HasFields + Drop>(
     if found.code == Some(FourCC::from(TRAK)) {
         put_track(alloc, track, sink)?;
     }
-    if found.setting.parent == STSD {
+    if found.context.parent == STSD {
         put_called(alloc, "", found, sink)?;
     }
     match content {
         Content::Unread => put_called(alloc, "not read", found, sink),
         Content::Deep => sink.words("not gone into: in 32 boxes"),
         Content::Faulty(fault) => put_fault(alloc, found, fault, sink),
-        _ => put_content(content, found.setting.is_quicktime, sink),
+        _ => put_content(content, found.context.is_quicktime, sink),
     }
 }
 
-/// Makes the text of a box.
+/// Returns the text of a box.
 fn put_box<B: HasFields + Drop>(
     alloc: Global,
     found: &TreeBox,
@@ -168,10 +167,10 @@ fn put_box<B: HasFields + Drop>(
     Ok(())
 }
 
-/// Makes the text of a box, the first of these, which are those from there on. Returns whether it shows a fault.
+/// Makes the text of the first of `boxes`, which are this box and all boxes after it. Returns whether it shows a fault.
 fn make_box<B: Shown, S: Source>(
     alloc: Global,
-    tree: &mut Tree<S>,
+    tree: &mut BoxWalk<S>,
     found: &TreeBox,
     boxes: &[TreeBox],
     text: &mut String,
@@ -189,11 +188,11 @@ fn make_box<B: Shown, S: Source>(
     Ok(content.is_faulty())
 }
 
-/// Writes the text of a box, the first of these, which are those from there on. Returns whether it shows a fault. After
-/// a failed write a beginning of it is written, and after another failure nothing.
+/// Writes the text of the first of `boxes`, which are this box and all boxes after it. Returns whether it shows a
+/// fault. After a failed write a beginning of the text is written, and after another failure nothing.
 fn write_box<B: Shown, S: Source, W: Write>(
     alloc: Global,
-    tree: &mut Tree<S>,
+    tree: &mut BoxWalk<S>,
     found: &TreeBox,
     boxes: &[TreeBox],
     text: &mut String,
@@ -217,11 +216,11 @@ fn write_box<B: Shown, S: Source, W: Write>(
     Ok(faulty)
 }
 
-/// Writes the tree of a file: the text of each of these boxes, which are those of the file, in order. Returns whether
-/// one of them shows a fault. After an error a beginning of these texts is written.
+/// Writes the tree of a file: the text of each of its boxes `boxes`, in order. Returns whether one of them shows a
+/// fault. After an error a beginning of these texts is written.
 pub fn write_tree<B: Shown, S: Source, W: Write>(
     alloc: Global,
-    tree: &mut Tree<S>,
+    tree: &mut BoxWalk<S>,
     boxes: &[TreeBox],
     mut sink: TextSink,
     output: &mut Output<W>,
@@ -247,7 +246,7 @@ pub fn write_tree<B: Shown, S: Source, W: Write>(
     Ok(faulty)
 }
 
-/// The boxes after the first.
+/// For the prover: returns the boxes after the first.
 pub fn after_first(boxes: &[TreeBox]) -> &[TreeBox] {
     match boxes.split_first() {
         Some((_, rest)) => rest,
@@ -255,7 +254,7 @@ pub fn after_first(boxes: &[TreeBox]) -> &[TreeBox] {
     }
 }
 
-/// Whether one of two is true.
+/// For the prover: returns whether one of two is true.
 pub fn either(first: bool, second: bool) -> bool
     ensures { result ≡ (first || second) }
 {

@@ -1,15 +1,15 @@
-//! The words of the command line. One that is not UTF-8 is escaped and marked, since `clap` takes text only.
+//! The words of the command line. A word that is not UTF-8 is escaped and marked, since `clap` takes only text.
 
 ghost use Rattle.std.specs.Prelude.{◌≡◌, ◌++◌, ◌∷◌, [], ℕ, List, IfOk, IsUtf8, string_bytes};
-ghost use Rattle.mp4_sinks.specs.Escaped.{text_escaped};
+ghost use Rattle.mp4_show.specs.Escaped.{text_escaped};
 
 use clap::Error;
 use mp4_inspect_args::MARK;
-use mp4_sinks::{push_escaped, push_escaped_bytes};
+use mp4_show::{push_escaped, push_escaped_bytes};
 use std::alloc::{AllocError, Global};
 use std::env::{Env, FillError};
 
-/// The bytes that a word is given at first.
+/// The number of bytes that a word has space for at first.
 const CAPACITY: usize = 256;
 
 /// Returns the bytes of word `number` of the command line, or `None` if there are fewer.
@@ -39,7 +39,7 @@ fn marked(alloc: Global, bytes: &[u8]) -> Result<String, AllocError>
     Ok(text)
 }
 
-/// Returns the text of a word. If it is not UTF-8, it is escaped, and ends with `MARK`.
+/// Returns the text of a word. A word that is not UTF-8 is escaped, and ends with `MARK`.
 fn text_of(alloc: Global, bytes: &[u8]) -> Result<String, AllocError>
     ensures utf8 { IsUtf8 bytes.now → IfOk result (λ text. string_bytes text ≡ bytes.now) }
     ensures marked { ¬ (IsUtf8 bytes.now)
@@ -51,7 +51,7 @@ fn text_of(alloc: Global, bytes: &[u8]) -> Result<String, AllocError>
     }
 }
 
-/// Returns the words of the command line, of which the first is the program's name.
+/// Returns the words of the command line. The first is the name of the program.
 pub fn words_of(rt: &HostRuntime) -> Result<Vec<String>, AllocError> {
     let mut words = Vec::new(rt.alloc());
     for number in 0..usize::MAX {
@@ -72,7 +72,7 @@ pub fn escaped(alloc: Global, name: &str) -> Result<String, AllocError>
     Ok(text)
 }
 
-/// Returns what to print of an error of the command line: its words are escaped and have no mark.
+/// Returns the text to print for an error of the command line. Its words are escaped and have no mark.
 pub fn text_of_error(alloc: Global, error: &Error) -> Result<String, AllocError> {
     let printed = format!(in alloc; "{error}")?;
     let mut text = String::new(alloc);

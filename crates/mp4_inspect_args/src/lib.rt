@@ -1,4 +1,4 @@
-//! The command line of `mp4inspect`.
+//! Parses the command line of `mp4inspect`, for the program `mp4_inspect`.
 #![tactic(auto)]
 
 mod mark;

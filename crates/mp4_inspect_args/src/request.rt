@@ -1,46 +1,46 @@
-//! What a command line asks for.
+//! The requests that a command line can make.
 
 use clap::{Arg, ArgAction, ArgMatches, Command, Error};
 use std::alloc::{AllocError, Global};
 
-/// What is to be written of each file.
+/// The output for each file.
 #[derive(Clone, Copy, Debug, PartialEq, Eq)]
 pub enum Task {
     /// The tree of its boxes, as text.
     Tree,
     /// The tree of its boxes, as JSON.
     Json,
-    /// Its faults alone.
+    /// Only its faults.
     Check,
     /// The samples of its tracks.
     Samples,
 }
 
-/// How samples are written.
+/// The form of the samples in the output.
 #[derive(Clone, Copy, Debug, PartialEq, Eq)]
 pub enum Rows {
-    /// As aligned columns.
+    /// Aligned columns.
     Text,
-    /// As lines of numbers between commas.
+    /// Lines of numbers that are separated by commas.
     Csv,
-    /// As JSON.
+    /// JSON.
     Json,
 }
 
-/// What is to be shown of files.
+/// A request to show files.
 #[derive(Debug, Drop)]
 pub struct Request {
-    /// What is to be written of each file.
+    /// The output for each file.
     pub task: Task,
-    /// How many entries of each list are shown; all if none.
+    /// The number of entries of each list that are shown; `None` means all entries.
     pub rows: Option<u32>,
-    /// Whether lines stay whole on a terminal.
+    /// Keeps lines whole on a terminal.
     pub wide: bool,
-    /// How samples are written.
+    /// The form of the samples in the output.
     pub samples: Rows,
-    /// The number of the track whose samples are written; those of all tracks if none.
+    /// The track_ID of the track whose samples are written; `None` means all tracks.
     pub track: Option<u32>,
-    /// Asks for all samples, past the end of the file too.
+    /// Asks for all samples, including those past the end of the file.
     pub beyond: bool,
     /// The files, in order; `-` is the standard input. A name that is not UTF-8 has a mark.
     pub files: Vec<String>,
@@ -49,22 +49,22 @@ pub struct Request {
 /// The files of the command `faststart`.
 #[derive(Debug, Drop)]
 pub struct FastStart {
-    /// The file that is read.
+    /// The name of the file to read.
     pub from: String,
-    /// The file that is written.
+    /// The name of the file to write.
     pub to: String,
 }
 
-/// What a command line asks for: to show files, or to write one.
+/// A request of a command line: to show files, or to write one.
 #[derive(Debug, Drop)]
 pub enum Asked {
-    /// To show what is in files.
+    /// Show the contents of files.
     Show(Request),
-    /// To write a file with its movie box before its media data.
+    /// Write a file with its movie box before its media data.
     FastStart(FastStart),
 }
 
-/// The argument of files.
+/// Returns the argument for several files.
 fn files<'a>(alloc: Global) -> Arg<'a> {
     Arg::new(alloc, "FILE")
         .action(ArgAction::Append)
@@ -73,7 +73,7 @@ fn files<'a>(alloc: Global) -> Arg<'a> {
         .help("Files to read; - is the standard input")
 }
 
-/// An option that is there or not.
+/// Returns the option `name` without a value.
 fn flag<'a>(alloc: Global, name: &'a str, help: &'a str) -> Arg<'a> {
     Arg::new(alloc, name)
         .long(name)
@@ -81,7 +81,7 @@ fn flag<'a>(alloc: Global, name: &'a str, help: &'a str) -> Arg<'a> {
         .help(help)
 }
 
-/// An option with a number.
+/// Returns the option `name` with a number.
 fn number<'a>(alloc: Global, name: &'a str, help: &'a str) -> Arg<'a> {
     Arg::new(alloc, name)
         .long(name)
@@ -90,16 +90,14 @@ fn number<'a>(alloc: Global, name: &'a str, help: &'a str) -> Arg<'a> {
         .help(help)
 }
 
-/// The command `check`.
+/// Returns the command `check`.
 fn check<'a>(alloc: Global) -> Result<Command<'a>, AllocError> {
     Command::new(alloc, "check")
-        .about(
-            "Writes the faults alone, one a line, with position and path; nothing if all is well",
-        )
+        .about("Print only faults, one a line, with position and path; nothing if there are none")
         .arg(files(alloc))
 }
 
-/// An option that is there or not, and not together with another.
+/// Returns the option `name` without a value, which excludes the option `other`.
 fn flag_without<'a>(
     alloc: Global,
     name: &'a str,
@@ -109,64 +107,64 @@ fn flag_without<'a>(
     flag(alloc, name, help).conflicts_with(other)
 }
 
-/// The argument of one file.
+/// Returns the argument for one file.
 fn file<'a>(alloc: Global) -> Arg<'a> {
     Arg::new(alloc, "FILE")
         .required(true)
         .help("File to read; - is the standard input")
 }
 
-/// The command `samples`.
+/// Returns the command `samples`.
 fn samples<'a>(alloc: Global) -> Result<Command<'a>, AllocError> {
-    let json = "Write an array of JSON objects";
-    let csv = "Write lines of numbers between commas, with one line of names in front";
-    let beyond = "Write all samples, past the end of the file too";
+    let json = "Print an array of JSON objects";
+    let csv = "Print a line of names, then lines of numbers, separated by commas";
+    let beyond = "Print also the samples past the end of the file";
     Command::new(alloc, "samples")
-        .about("Writes where each sample of the tracks of a file is, and when, one a line")
-        .arg(number(alloc, "track", "Write the samples of track N alone"))?
+        .about("Print the offset, size and times of each sample of the tracks, one a line")
+        .arg(number(alloc, "track", "Print only the samples of track N"))?
         .arg(flag_without(alloc, "json", json, "csv")?)?
         .arg(flag(alloc, "csv", csv))?
         .arg(flag(alloc, "beyond", beyond))?
         .arg(file(alloc))
 }
 
-/// The argument of a file by a name.
+/// Returns the argument `name` for one file.
 fn named<'a>(alloc: Global, name: &'a str, help: &'a str) -> Arg<'a> {
     Arg::new(alloc, name).required(true).help(help)
 }
 
-/// The command `faststart`.
+/// Returns the command `faststart`.
 fn fast_start<'a>(alloc: Global) -> Result<Command<'a>, AllocError> {
     Command::new(alloc, "faststart")
-        .about("Writes a file with its moov before its media data, so that a player has it first")
+        .about(
+            "Write a copy of a file with the moov before the media data, so that a player gets it first",
+        )
         .arg(named(alloc, "IN", "File to read; it isn't changed"))?
         .arg(named(
             alloc,
             "OUT",
-            "File to write, whole or not at all; one of that name is replaced",
+            "File to write, whole or not at all; an existing file is replaced",
         ))
 }
 
-/// The command line without its commands.
+/// Returns the command line without its commands.
 fn tree<'a>(alloc: Global) -> Result<Command<'a>, AllocError> {
     let all = "Show all entries of lists";
     let rows = "Show N entries of each list";
     let wide = "Don't break lines at the width of the terminal";
     Command::new(alloc, "mp4inspect")
         .version("0.1.0")
-        .about(
-            "Shows the boxes of MP4 files: a line each, with name, @position, +length and fields",
-        )
+        .about("Show the boxes of MP4 files: a line each, with name, @position, +length and fields")
         .args_conflicts_with_subcommands(true)
         .subcommand_negates_reqs(true)
-        .arg(flag(alloc, "json", "Write JSON, with all entries of lists"))?
+        .arg(flag(alloc, "json", "Print JSON, with all entries of lists"))?
         .arg(flag_without(alloc, "all", all, "rows")?)?
         .arg(number(alloc, "rows", rows).default_value("8"))?
         .arg(flag(alloc, "wide", wide))?
         .arg(files(alloc))
 }
 
-/// The whole command line.
+/// Returns the whole command line.
 fn command<'a>(alloc: Global) -> Result<Command<'a>, AllocError> {
     tree(alloc)?
         .subcommand(check(alloc)?)?
@@ -174,7 +172,7 @@ fn command<'a>(alloc: Global) -> Result<Command<'a>, AllocError> {
         .subcommand(fast_start(alloc)?)
 }
 
-/// The files that are named.
+/// Returns the names of the files in `matches`.
 fn files_of(alloc: Global, matches: &ArgMatches<'_>) -> Result<Vec<String>, AllocError> {
     let mut files = Vec::new(alloc);
     if let Some(names) = matches.get_strs("FILE") {
@@ -185,7 +183,7 @@ fn files_of(alloc: Global, matches: &ArgMatches<'_>) -> Result<Vec<String>, Allo
     Ok(files)
 }
 
-/// What the command `check` asks for.
+/// Returns the request of the command `check`.
 fn check_of(alloc: Global, matches: &ArgMatches<'_>) -> Result<Request, AllocError> {
     Ok(Request {
         task: Task::Check,
@@ -198,7 +196,7 @@ fn check_of(alloc: Global, matches: &ArgMatches<'_>) -> Result<Request, AllocErr
     })
 }
 
-/// What the command `samples` asks for.
+/// Returns the request of the command `samples`.
 fn samples_of(alloc: Global, matches: &ArgMatches<'_>) -> Result<Request, AllocError> {
     let samples = if matches.get_flag("json") {
         Rows::Json
@@ -218,7 +216,7 @@ fn samples_of(alloc: Global, matches: &ArgMatches<'_>) -> Result<Request, AllocE
     })
 }
 
-/// What is asked for without a command: the trees of files.
+/// Returns the request of a command line without a command: to show the trees of files.
 fn tree_of(alloc: Global, matches: &ArgMatches<'_>) -> Result<Request, AllocError> {
     let rows = if matches.get_flag("all") {
         None
@@ -240,12 +238,12 @@ fn tree_of(alloc: Global, matches: &ArgMatches<'_>) -> Result<Request, AllocErro
     })
 }
 
-/// The file that is named.
+/// Returns the name of the file in the argument `id` of `matches`.
 fn name_of(alloc: Global, matches: &ArgMatches<'_>, id: &str) -> Result<String, AllocError> {
     String::from_str(alloc, matches.get_str(id).unwrap_or(""))
 }
 
-/// What the command `faststart` asks for.
+/// Returns the request of the command `faststart`.
 fn fast_start_of(alloc: Global, matches: &ArgMatches<'_>) -> Result<FastStart, AllocError> {
     Ok(FastStart {
         from: name_of(alloc, matches, "IN")?,
@@ -253,7 +251,7 @@ fn fast_start_of(alloc: Global, matches: &ArgMatches<'_>) -> Result<FastStart, A
     })
 }
 
-/// What the arguments ask for.
+/// Returns the request in `matches`.
 fn all_asked(alloc: Global, matches: &ArgMatches<'_>) -> Result<Asked, AllocError> {
     let request = match matches.subcommand() {
         Some(("faststart", inner)) => {
@@ -266,8 +264,8 @@ fn all_asked(alloc: Global, matches: &ArgMatches<'_>) -> Result<Asked, AllocErro
     Ok(Asked::Show(request))
 }
 
-/// What the words of a command line ask for, of which the first is the program's name. An error is what to print, and
-/// with which status to end: misuse, help or the version.
+/// Returns the request of a command line. The first of its `words` is the program's name. An error has the text to
+/// print and the status with which the program ends: for misuse, the help or the version.
 pub fn request_of(alloc: Global, words: &[String]) -> Result<Asked, Error> {
     let matches = command(alloc)?.try_get_matches_from(words)?;
     Ok(all_asked(alloc, &matches)?)

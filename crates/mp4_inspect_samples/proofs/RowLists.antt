@@ -4,6 +4,8 @@ use Rattle.std.proofs.Common.{Result, Ok, Err, refl, sym, ap, subst, ◌∙◌, 
 use Rattle.std.specs.Prelude.{OnErr}
 use Rattle.std.specs.declared.option.Option.{Option}
 use Rattle.std.proofs.KnownBytes.{Appends-nil, Appends-trans}
+use Rattle.std.proofs.Math.Seq.{take-append-add}
+use Rattle.std.proofs.lemmas.List.{append-nil}
 use Rattle.std.specs.Io.KnownBytes.{Appends}
 use Rattle.mp4_samples.specs.declared.sample.Sample.{Sample}
 use Rattle.mp4_inspect_samples.specs.Listed.{is_listed, empty_after, empty_at_end, AreListed}
@@ -45,14 +47,10 @@ length_more [] x = refl
 length_more (y ∷ xs) x = let next : suc (length xs + 1) ≡ suc (length xs) + 1 =
     omega arith in ap suc (length_more xs x) ∙ next
 
-append_nil : (xs : List ℕ) → xs ++ [] ≡ xs
-append_nil [] = refl
-append_nil (x ∷ xs) = ap (λ (ys : List ℕ). x ∷ ys) (append_nil xs)
-
 text_more : (form : Form) (track : ℕ) (b : Bool) (n : ℕ) (xs : List Sample) (x : Sample)
     → rows_text form track b n (xs ++ x ∷ []) ≡ rows_text form track b n xs
     ++ row_text form (is_after b xs) (row_of track (n + length xs + 1) x)
-text_more form track b n [] x = append_nil _ ∙ ap (λ (j : ℕ). row_text form b (row_of track j x)) (omega arith)
+text_more form track b n [] x = append-nil _ ∙ ap (λ (j : ℕ). row_text form b (row_of track j x)) (omega arith)
 text_more form track b n (y ∷ xs) x =
     ap (λ (t : List ℕ). row_text form b (row_of track (n + 1) y) ++ t)
     (text_more form track true (n + 1) xs x ∙ ap (λ (t : List ℕ). rows_text form track true (n + 1) xs ++ t) (same xs))
@@ -63,12 +61,6 @@ text_more form track b n (y ∷ xs) x =
         ≡ row_text form true (row_of track (n + suc (length xs) + 1) x)
     same [] = ap (λ (j : ℕ). row_text form true (row_of track j x)) (omega arith)
     same (z ∷ zs) = ap (λ (j : ℕ). row_text form true (row_of track j x)) (omega arith)
-
-take_past : (xs ys : List ℕ) (k : ℕ) → take (length xs + k) (xs ++ ys) ≡ xs ++ take k ys
-take_past [] ys k = ap (λ (j : ℕ). take j ys) (omega arith)
-take_past (x ∷ xs) ys k =
-    let next : length (x ∷ xs) + k ≡ suc (length xs + k) = omega arith in
-    ap (λ (j : ℕ). take j (x ∷ (xs ++ ys))) next ∙ ap (λ (zs : List ℕ). x ∷ zs) (take_past xs ys k)
 
 module _ (Is : ℕ → Sample → Type 0) (limit : Limit) (form : Form) (track n empty : ℕ) (follows : Bool) where
   pub writes_none : (old : Option (List ℕ)) → WritesRows Is limit form track n empty 0 empty follows follows old old
@@ -126,7 +118,7 @@ module _ (Is : ℕ → Sample → Type 0) (limit : Limit) (form : Form) (track n
           Appends old new (take (length (rows_text form track follows n rows.samples) + row.count) t))
           (sym (text_more form track follows n rows.samples x))
           (subst (λ (t : List ℕ). Appends old new t)
-          (sym (take_past (rows_text form track follows n rows.samples) _ row.count))
+          (sym (take-append-add (rows_text form track follows n rows.samples) _ row.count))
           (Appends-trans old mid new (rows_text form track follows n rows.samples) _ rows.bytes
           (subst (λ (j : ℕ). Appends mid new
           (take row.count (row_text form (is_after follows rows.samples) (row_of track (n + j + 1) x))))

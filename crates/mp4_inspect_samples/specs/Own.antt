@@ -3,8 +3,8 @@ use Rattle.std.specs.Prelude.{ℕ, ◌≡◌, ◌+◌, ◌-◌, List, length, Ok
 use Rattle.std.specs.declared.option.Option.{Option}
 use Rattle.mp4_frame.specs.Heads.{header, header_length}
 use Rattle.mp4_frame.specs.Reading.{Reading, reading, ◌>>=◌}
-use Rattle.mp4_tree.specs.Source.{piece}
-use Rattle.mp4_tree.specs.declared.tree_box.TreeBox.{TreeBox}
+use Rattle.mp4_walk.specs.Source.{piece}
+use Rattle.mp4_walk.specs.declared.tree_box.TreeBox.{TreeBox}
 
 -- what is read in a box whose start and size are known
 unfoldable pub body_reading : {A : Type 0} → (List ℕ → ℕ → ℕ → Reading A) → List ℕ → ℕ → ℕ → Reading A

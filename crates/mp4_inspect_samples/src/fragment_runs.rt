@@ -4,10 +4,10 @@ ghost use Rattle.std.specs.Prelude.{◌≡◌};
 
 use crate::fragments::{needs_end, read_fragment};
 use crate::stop::{Stop, keep};
-use mp4_inspect_rules::{Run, run_begin, run_size};
+use mp4_check_rules::{Run, run_begin, run_size};
 use mp4_io::Failure;
 use mp4_tables::{TfhdBox, TrunBox};
-use mp4_tree::{Source, Tree, TreeBox};
+use mp4_walk::{BoxWalk, Source, TreeBox};
 use std::alloc::{AllocError, Global};
 use std::collections::BTreeMap;
 
@@ -72,7 +72,7 @@ fn keep_runs(
 /// known where its data begin.
 pub fn traf_runs<S: Source>(
     alloc: Global,
-    tree: &mut Tree<S>,
+    tree: &mut BoxWalk<S>,
     boxes: &[TreeBox],
     moof: u64,
     before: Option<u64>,

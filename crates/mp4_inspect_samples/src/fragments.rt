@@ -12,7 +12,7 @@ use mp4_frame::codes::{TFDT, TFHD, TRUN};
 use mp4_io::Failure;
 use mp4_samples::{DEFAULT_BASE_IS_MOOF, Fragment};
 use mp4_tables::{TfhdBox, TrunBox};
-use mp4_tree::{Source, Tree, TreeBox};
+use mp4_walk::{BoxWalk, Source, TreeBox};
 use std::alloc::Global;
 
 /// A `traf`, as it is found in a file.
@@ -60,7 +60,7 @@ fn first_in(boxes: &[TreeBox], code: u32) -> Option<TreeBox> {
 /// Reads the header of a `traf`, the first of these boxes, in a `moof` at a position.
 pub fn read_header<S: Source>(
     alloc: Global,
-    tree: &mut Tree<S>,
+    tree: &mut BoxWalk<S>,
     boxes: &[TreeBox],
     moof: u64,
 ) -> Result<TfhdBox, Stop>
@@ -78,7 +78,7 @@ pub fn read_header<S: Source>(
 /// Reads a box of a fragment.
 fn read_part<B: ReadBox + Drop, S: Source>(
     alloc: Global,
-    tree: &mut Tree<S>,
+    tree: &mut BoxWalk<S>,
     found: &TreeBox,
     name: &'static str,
     moof: u64,
@@ -94,7 +94,7 @@ fn read_part<B: ReadBox + Drop, S: Source>(
 /// Reads the time of a `traf`, the first of these boxes, if it has one.
 fn read_time<S: Source>(
     alloc: Global,
-    tree: &mut Tree<S>,
+    tree: &mut BoxWalk<S>,
     boxes: &[TreeBox],
     moof: u64,
 ) -> Result<Option<TfdtBox>, Stop>
@@ -109,7 +109,7 @@ fn read_time<S: Source>(
 /// Reads the runs of a `traf`, the first of these boxes.
 fn read_runs<S: Source>(
     alloc: Global,
-    tree: &mut Tree<S>,
+    tree: &mut BoxWalk<S>,
     boxes: &[TreeBox],
     moof: u64,
 ) -> Result<Vec<TrunBox>, Stop>
@@ -134,7 +134,7 @@ fn read_runs<S: Source>(
 /// Reads the boxes of a `traf`, the first of these, in a `moof` at a position.
 pub fn read_fragment<S: Source>(
     alloc: Global,
-    tree: &mut Tree<S>,
+    tree: &mut BoxWalk<S>,
     boxes: &[TreeBox],
     moof: u64,
 ) -> Result<FragmentBoxes, Stop>
@@ -177,7 +177,7 @@ impl FragmentBoxes {
 /// Where the data of a `traf` end; none if that can't be told.
 pub fn data_end_of<S: Source>(
     alloc: Global,
-    tree: &mut Tree<S>,
+    tree: &mut BoxWalk<S>,
     boxes: &[TreeBox],
     defaults: Option<&TrexBox>,
     place: Place,

@@ -11,7 +11,7 @@ use crate::rows::Sheet;
 use mp4_flat::MdhdBox;
 use mp4_frame::u32_at;
 use mp4_io::{Failure, Output, write_all};
-use mp4_tree::{Source, Tree};
+use mp4_walk::{BoxWalk, Source};
 use std::alloc::{AllocError, Global};
 use std::io::Write;
 
@@ -86,7 +86,7 @@ fn make_heading(
 /// The handler of a track's media, if it is there (ISO/IEC 14496-12, 8.4.3).
 fn handler_of<S: Source>(
     alloc: Global,
-    tree: &mut Tree<S>,
+    tree: &mut BoxWalk<S>,
     places: &Places,
 ) -> Result<Option<u32>, Failure>
     ensures kept { tree.new ≡ tree.old }
@@ -108,7 +108,7 @@ fn handler_of<S: Source>(
 /// The timescale of a track's media, if it is there.
 fn timescale_of<S: Source>(
     alloc: Global,
-    tree: &mut Tree<S>,
+    tree: &mut BoxWalk<S>,
     places: &Places,
 ) -> Result<Option<u32>, Failure>
     ensures kept { tree.new ≡ tree.old }
@@ -126,7 +126,7 @@ fn timescale_of<S: Source>(
 /// Writes the heading of a track, if rows are aligned columns.
 pub fn write_heading<S: Source, W: Write>(
     alloc: Global,
-    tree: &mut Tree<S>,
+    tree: &mut BoxWalk<S>,
     places: &Places,
     track: u32,
     sheet: &mut Sheet,

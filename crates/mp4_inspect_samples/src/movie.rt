@@ -8,7 +8,7 @@ use crate::stop::{Stop, keep};
 use mp4_flat::TrexBox;
 use mp4_frame::codes::{MOOF, MOOV, MVEX, TRAF, TRAK, TREX};
 use mp4_io::Failure;
-use mp4_tree::{Source, Tree, TreeBox};
+use mp4_walk::{BoxWalk, Source, TreeBox};
 use std::alloc::{AllocError, Global};
 use std::collections::BTreeMap;
 
@@ -90,7 +90,7 @@ fn at_top(found: &TreeBox) -> Walk {
 /// Keeps the defaults of a track. Those that come first count.
 fn keep_defaults<S: Source>(
     alloc: Global,
-    tree: &mut Tree<S>,
+    tree: &mut BoxWalk<S>,
     found: &TreeBox,
     movie: &mut Movie,
     faults: &mut Vec<TrackFault>,
@@ -110,7 +110,7 @@ fn keep_defaults<S: Source>(
 /// Where the data before a `traf` end; none if that can't be told.
 fn end_before<S: Source>(
     alloc: Global,
-    tree: &mut Tree<S>,
+    tree: &mut BoxWalk<S>,
     boxes: &[TreeBox],
     movie: &Movie,
     walk: Walk,
@@ -131,7 +131,7 @@ fn end_before<S: Source>(
 /// Keeps a fragment, and goes on after it.
 fn keep_fragment<S: Source>(
     alloc: Global,
-    tree: &mut Tree<S>,
+    tree: &mut BoxWalk<S>,
     boxes: &[TreeBox],
     index: usize,
     movie: &mut Movie,
@@ -160,7 +160,7 @@ fn keep_fragment<S: Source>(
 /// Keeps a fragment, or its fault.
 fn enter_fragment<S: Source>(
     alloc: Global,
-    tree: &mut Tree<S>,
+    tree: &mut BoxWalk<S>,
     boxes: &[TreeBox],
     index: usize,
     movie: &mut Movie,
@@ -183,7 +183,7 @@ fn enter_fragment<S: Source>(
 /// Goes on to a box.
 fn enter<S: Source>(
     alloc: Global,
-    tree: &mut Tree<S>,
+    tree: &mut BoxWalk<S>,
     boxes: &[TreeBox],
     index: usize,
     movie: &mut Movie,
@@ -224,7 +224,7 @@ fn enter<S: Source>(
 /// The tracks of a file, of which these are the boxes, and their fragments. Faults that are of no track are kept.
 pub fn movie_of<S: Source>(
     alloc: Global,
-    tree: &mut Tree<S>,
+    tree: &mut BoxWalk<S>,
     boxes: &[TreeBox],
     faults: &mut Vec<TrackFault>,
 ) -> Result<Movie, Failure> {

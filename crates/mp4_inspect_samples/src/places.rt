@@ -4,7 +4,7 @@ use mp4_frame::FourCC;
 use mp4_frame::codes::{
     CO64, CTTS, HDLR, MDHD, MDIA, MINF, STBL, STCO, STSC, STSS, STSZ, STTS, TKHD,
 };
-use mp4_tree::TreeBox;
+use mp4_walk::TreeBox;
 
 /// Where the boxes of a `trak` are that its samples are told by: of each code the first in its place.
 #[derive(Clone, Copy, Debug, PartialEq, Eq)]

@@ -8,7 +8,7 @@ ghost use Rattle.mp4_inspect_samples.specs.Own.{body_reading, own_reading, IsRea
 use crate::stop::or_read;
 use mp4_frame::{BoxHeader, ByteCursor, Error, ReadBox, Result};
 use mp4_io::Failure;
-use mp4_tree::{Source, Tree, TreeBox};
+use mp4_walk::{BoxWalk, Source, TreeBox};
 use std::alloc::Global;
 
 /// Reads the box whose header was just read.
@@ -38,7 +38,7 @@ fn read_own<B: ReadBox>(alloc: Global, bytes: &[u8], position: u64) -> Result<B>
 /// Reads a box of a file: its value, or its fault.
 pub fn read_found<B: ReadBox + Drop, S: Source>(
     alloc: Global,
-    tree: &mut Tree<S>,
+    tree: &mut BoxWalk<S>,
     found: &TreeBox,
 ) -> std::result::Result<Result<B>, Failure>
     ensures value { IfSome tree.old.bytes

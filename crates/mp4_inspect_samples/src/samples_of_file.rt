@@ -2,7 +2,7 @@
 
 ghost use Rattle.std.specs.Prelude.{◌≡◌, false, IfOk, IfSome};
 ghost use Rattle.mp4_io.specs.Ends.{is_write};
-ghost use Rattle.mp4_tree.specs.Walk.{left};
+ghost use Rattle.mp4_walk.specs.Walk.{left};
 
 use crate::fault::{Fault, TrackFault};
 use crate::fragments::{FragmentBoxes, Place, read_fragment};
@@ -18,7 +18,7 @@ use mp4_flat::TrexBox;
 use mp4_frame::u32_at;
 use mp4_io::{Failure, Output};
 use mp4_samples::SampleTables;
-use mp4_tree::{Source, Tree, TreeBox};
+use mp4_walk::{BoxWalk, Source, TreeBox};
 use std::alloc::Global;
 use std::io::Write;
 
@@ -57,7 +57,7 @@ struct Reached {
 }
 
 /// The boxes that are left of a walk, in order.
-fn boxes_left<S: Source>(alloc: Global, tree: &mut Tree<S>) -> Result<Vec<TreeBox>, Failure>
+fn boxes_left<S: Source>(alloc: Global, tree: &mut BoxWalk<S>) -> Result<Vec<TreeBox>, Failure>
     ensures boxes { IfSome tree.old.bytes (λ bytes. IfOk result (λ boxes. boxes.items ≡ left bytes tree.old)) }
     ensures bytes { tree.new.bytes ≡ tree.old.bytes }
     ensures not_write { is_write result ≡ false }
@@ -84,7 +84,7 @@ fn number_in(content: &[u8]) -> Option<u32> {
 /// The number of a track, if its header can be read.
 fn number_of<S: Source>(
     alloc: Global,
-    tree: &mut Tree<S>,
+    tree: &mut BoxWalk<S>,
     places: &Places,
 ) -> Result<Option<u32>, Failure> {
     match places.header {
@@ -111,7 +111,7 @@ fn end_time(tables: &SampleTables<'_>) -> u64 {
 /// Writes the samples of the tables of a track, after its heading, up to the first that isn't listed.
 fn write_tables<S: Source, W: Write>(
     alloc: Global,
-    tree: &mut Tree<S>,
+    tree: &mut BoxWalk<S>,
     places: &Places,
     track: u32,
     limit: Limit,
@@ -175,7 +175,7 @@ fn boxes_from(boxes: &[TreeBox], index: usize) -> &[TreeBox] {
 /// Returns how many samples the runs of a `traf` count, the first of `boxes`; 0 if its boxes can't be read.
 fn count_fragment<S: Source>(
     alloc: Global,
-    tree: &mut Tree<S>,
+    tree: &mut BoxWalk<S>,
     boxes: &[TreeBox],
     moof: u64,
 ) -> Result<u64, Failure> {
@@ -190,7 +190,7 @@ fn count_fragment<S: Source>(
 /// after it.
 fn write_fragments<S: Source, W: Write>(
     alloc: Global,
-    tree: &mut Tree<S>,
+    tree: &mut BoxWalk<S>,
     boxes: &[TreeBox],
     movie: &Movie,
     track: u32,
@@ -225,7 +225,7 @@ fn write_fragments<S: Source, W: Write>(
 /// fragments.
 fn write_track<S: Source, W: Write>(
     alloc: Global,
-    tree: &mut Tree<S>,
+    tree: &mut BoxWalk<S>,
     boxes: &[TreeBox],
     movie: &Movie,
     places: &Places,
@@ -277,7 +277,7 @@ fn keep_fault(
 /// Writes the samples of a track, the `trak` of this index, if they are chosen, and keeps its fault.
 fn enter_track<S: Source, W: Write>(
     alloc: Global,
-    tree: &mut Tree<S>,
+    tree: &mut BoxWalk<S>,
     boxes: &[TreeBox],
     index: usize,
     movie: &mut Movie,
@@ -347,7 +347,7 @@ fn keep_unknown(
 /// Writes the samples of the tracks, one after the other.
 fn write_tracks<S: Source, W: Write>(
     alloc: Global,
-    tree: &mut Tree<S>,
+    tree: &mut BoxWalk<S>,
     boxes: &[TreeBox],
     movie: &mut Movie,
     choice: Choice,
@@ -370,7 +370,7 @@ fn write_tracks<S: Source, W: Write>(
 /// Writes what comes in front of the rows, these, and what comes after them.
 fn write_sheet<S: Source, W: Write>(
     alloc: Global,
-    tree: &mut Tree<S>,
+    tree: &mut BoxWalk<S>,
     boxes: &[TreeBox],
     movie: &mut Movie,
     choice: Choice,
@@ -395,7 +395,7 @@ pub fn write_samples<S: Source, W: Write>(
     output: &mut Output<W>,
     faults: &mut Vec<TrackFault>,
 ) -> Result<(), Failure> {
-    let mut tree = or_read(Tree::new(alloc, source))?;
+    let mut tree = or_read(BoxWalk::new(alloc, source))?;
     let boxes = boxes_left(alloc, &mut tree)?;
     let mut movie = movie_of(alloc, &mut tree, &boxes, faults)?;
     write_sheet(alloc, &mut tree, &boxes, &mut movie, choice, output, faults)

@@ -9,12 +9,12 @@ use crate::fault::Fault;
 use crate::places::{Places, tables_in};
 use crate::reading::read_found;
 use crate::stop::Stop;
+use mp4_check_rules::chunk_sizes;
 use mp4_frame::ReadBox;
-use mp4_inspect_rules::chunk_sizes;
 use mp4_io::Failure;
 use mp4_samples::{ChunkOffsets, Disagreement, SampleTables, Tables};
 use mp4_tables::{Co64Box, CttsBox, StcoBox, StscBox, StssBox, StszBox, SttsBox};
-use mp4_tree::{Source, Tree, TreeBox};
+use mp4_walk::{BoxWalk, Source, TreeBox};
 use std::alloc::{AllocError, Global};
 
 /// The offsets of the chunks of a track.
@@ -102,7 +102,7 @@ impl TrackTables {
 /// Reads a table, if it is there.
 fn read_table<B: ReadBox + Drop, S: Source>(
     alloc: Global,
-    tree: &mut Tree<S>,
+    tree: &mut BoxWalk<S>,
     place: Option<TreeBox>,
     name: &'static str,
 ) -> Result<Option<B>, Stop>
@@ -123,7 +123,7 @@ fn read_table<B: ReadBox + Drop, S: Source>(
 /// Reads a table that each track has.
 fn read_needed<B: ReadBox + Drop, S: Source>(
     alloc: Global,
-    tree: &mut Tree<S>,
+    tree: &mut BoxWalk<S>,
     place: Option<TreeBox>,
     name: &'static str,
 ) -> Result<B, Stop>
@@ -139,7 +139,7 @@ fn read_needed<B: ReadBox + Drop, S: Source>(
 /// Reads the offsets of the chunks.
 fn read_offsets<S: Source>(
     alloc: Global,
-    tree: &mut Tree<S>,
+    tree: &mut BoxWalk<S>,
     places: &Places,
 ) -> Result<Offsets, Stop>
     ensures kept { tree.new ≡ tree.old }
@@ -157,7 +157,11 @@ fn read_offsets<S: Source>(
 }
 
 /// Whether a track has a chunk.
-fn has_chunk<S: Source>(alloc: Global, tree: &mut Tree<S>, places: &Places) -> Result<bool, Stop> {
+fn has_chunk<S: Source>(
+    alloc: Global,
+    tree: &mut BoxWalk<S>,
+    places: &Places,
+) -> Result<bool, Stop> {
     if places.offsets.is_none() && places.wide_offsets.is_none() {
         return Ok(false);
     }
@@ -170,7 +174,7 @@ fn has_chunk<S: Source>(alloc: Global, tree: &mut Tree<S>, places: &Places) -> R
 /// Reads the tables of a track; none if it has no `stsz` and no chunk, and so no samples but those of fragments.
 pub fn read_tables<S: Source>(
     alloc: Global,
-    tree: &mut Tree<S>,
+    tree: &mut BoxWalk<S>,
     places: &Places,
 ) -> Result<Option<TrackTables>, Stop> {
     if places.sizes.is_none() && !has_chunk(alloc, tree, places)? {
@@ -182,7 +186,7 @@ pub fn read_tables<S: Source>(
 /// Reads the tables that say where samples are.
 fn read_space<S: Source>(
     alloc: Global,
-    tree: &mut Tree<S>,
+    tree: &mut BoxWalk<S>,
     places: &Places,
 ) -> Result<(StszBox, StscBox, Offsets), Stop>
     ensures kept { tree.new ≡ tree.old }
@@ -196,7 +200,7 @@ fn read_space<S: Source>(
 /// Reads the tables that say when samples are, and which are sync samples.
 fn read_times<S: Source>(
     alloc: Global,
-    tree: &mut Tree<S>,
+    tree: &mut BoxWalk<S>,
     places: &Places,
 ) -> Result<(SttsBox, Option<CttsBox>, Option<StssBox>), Stop>
     ensures kept { tree.new ≡ tree.old }
@@ -210,7 +214,7 @@ fn read_times<S: Source>(
 /// Reads the tables of a track, which has all that a track needs.
 fn read_all_tables<S: Source>(
     alloc: Global,
-    tree: &mut Tree<S>,
+    tree: &mut BoxWalk<S>,
     places: &Places,
 ) -> Result<TrackTables, Stop>
     ensures kept { tree.new ≡ tree.old }
@@ -272,7 +276,7 @@ fn together_of(
 /// the order of the file.
 pub fn tables_together<S: Source>(
     alloc: Global,
-    tree: &mut Tree<S>,
+    tree: &mut BoxWalk<S>,
     boxes: &[TreeBox],
 ) -> Result<Together, Failure>
     ensures kept { tree.new ≡ tree.old }

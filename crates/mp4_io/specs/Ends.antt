@@ -1,5 +1,5 @@
--- What calls of a reader or a writer do. The bytes that a reader has left, and those that a writer has, are `Some` if
--- they are known. Nothing is claimed of them if they are not.
+-- The effects of calls of a reader or a writer. The bytes that a reader has left, and the bytes that a writer has, are
+-- `Some` if they are known. Nothing is claimed of unknown bytes.
 use Rattle.std.specs.Prelude.{◌≡◌, ℕ, ◌<◌, ◌≤◌, Bool, true, false, List, length, take, None, Some, Result, Ok, Err}
 use Rattle.std.specs.Prelude.{IfSome, ⊤}
 use Rattle.std.specs.declared.option.Option.{Option}
@@ -39,7 +39,7 @@ ReadsAll items old new (Err failures.Read) = ⊤
 ReadsAll items old new (Err failures.Write) = ⊥
 ReadsAll items old new (Err failures.Memory) = ⊤
 
--- skipping to the end returns the number of bytes of the input, or a failed read, or out of memory, where the input has
+-- skipping to the end returns the number of bytes of the input, or a failed read, or out of memory if the input has
 -- more bytes than the limit
 abbrev pub SkipsAll : ℕ → Option (List ℕ) → Option (List ℕ) → Result ℕ Failure → Type 0
 SkipsAll limit old new (Ok n) = IfSome old (λ B. n ≡ length B) × IsAtEnd new × (n ≤ limit)
@@ -47,7 +47,7 @@ SkipsAll limit old new (Err failures.Read) = ⊤
 SkipsAll limit old new (Err failures.Write) = ⊥
 SkipsAll limit old new (Err failures.Memory) = IfSome old (λ B. limit < length B)
 
--- writing all of out appends it, or is a failed write after a beginning of it
+-- writing all of `out` appends it, or is a failed write after a beginning of it
 abbrev pub WritesAll : {V : Type 0} → Option (List ℕ) → Option (List ℕ) → Result V Failure → List ℕ → Type 0
 WritesAll old new (Ok _) out = Appends old new out
 WritesAll old new (Err failures.Write) out = (k : ℕ) × Appends old new (take k out)

@@ -1,4 +1,4 @@
-//! Why a run ended before all was read and written.
+//! The failure that ended a run before everything was read and written.
 
 ghost use Rattle.std.specs.Prelude.{◌≡◌, Some};
 ghost use Rattle.mp4_io.specs.declared.failure.Failure.TheVariants.{Memory};
@@ -7,7 +7,7 @@ ghost use Rattle.mp4_io.specs.Failure.{failure_text};
 use std::alloc::AllocError;
 use std::fmt;
 
-/// Why a run ended before all was read and written.
+/// A failure that ends a run before everything is read and written.
 #[derive(Clone, Copy, Debug, PartialEq, Eq)]
 pub enum Failure {
     /// A call of the reader failed.

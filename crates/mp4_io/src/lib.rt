@@ -1,5 +1,5 @@
-//! The two ends of a program's run: its input is read to the end, and its output is written whole. Each end has a mark
-//! that says whether a call of it has failed, so that a failed run can be told by the end that failed.
+//! For programs: an input that is read to its end, and an output that is written whole. Each end has a mark that is set
+//! once a call of it has failed, so a program knows which end made a run fail.
 #![tactic(auto)]
 
 mod ends;

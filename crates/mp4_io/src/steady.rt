@@ -1,4 +1,4 @@
-//! A reader or a writer of the system whose calls begin again after a signal, and which keeps why a call failed.
+//! A reader or a writer of the system that repeats calls after a signal, and keeps the error of a failed call.
 
 ghost use Rattle.std.specs.Prelude.{◌≡◌, ◌≢◌, ◌↔◌, Some, IfErr, IsTrue, length};
 ghost use Rattle.std.specs.IoError.{error_kind};
@@ -9,30 +9,30 @@ ghost use Rattle.mp4_io.specs.Steady.{IsClosed};
 use std::io;
 use std::io::{ErrorKind, Read, Write};
 
-/// A reader or a writer whose interrupted calls begin again, and which keeps the last error.
+/// A reader or a writer that repeats interrupted calls, and keeps the last error.
 #[derive(Drop)]
 pub struct Steady<T> {
     /// The reader or the writer.
     pub inner: T,
-    /// The error of the last call that failed, if a call has.
+    /// The error of the last failed call, if there was one.
     pub error: Option<io::Error>,
 }
 
-/// Returns whether a signal interrupted a call.
+/// Returns whether `error` says that a signal interrupted the call.
 fn is_interrupted(error: &io::Error) -> bool
     ensures { IsTrue result ↔ (error_kind error.now ≡ ErrorKind.Interrupted) }
 {
     error.kind() == ErrorKind::Interrupted
 }
 
-/// Returns whether a write failed because nobody reads what is written any more.
+/// Returns whether `error` says that the reader of a pipe has closed it.
 pub fn is_closed_pipe(error: &io::Error) -> bool
     ensures { IsTrue result ↔ (error_kind error.now ≡ ErrorKind.BrokenPipe) }
 {
     error.kind() == ErrorKind::BrokenPipe
 }
 
-/// Returns the error of a call that was interrupted at each of 2^64 tries.
+/// Returns the error for a call that was interrupted 2^64 times.
 fn never_ends() -> io::Error
     ensures { error_kind result ≡ ErrorKind.TimedOut }
 {
@@ -40,7 +40,7 @@ fn never_ends() -> io::Error
 }
 
 impl<T> Steady<T> {
-    /// Returns a reader or a writer of which no call has failed.
+    /// Returns a reader or a writer over `inner`, of which no call has failed.
     pub fn new(inner: T) -> Self
         ensures inner { result.inner ≡ inner }
         ensures error { result.error ≡ None }
@@ -58,7 +58,7 @@ impl<T> Steady<T> {
         }
     }
 
-    /// Keeps the error of a call, and returns it.
+    /// Stores `error`, and returns it.
     fn keep(&mut self, error: io::Error) -> io::Error
         ensures kept { self.new.error ≡ Some error }
         ensures same { (result ≡ error) × (self.new.inner ≡ self.old.inner) }

@@ -1,4 +1,4 @@
-//! Input that is read to its end, and output that is written whole.
+//! Reading an input to its end, and writing an output whole.
 
 ghost use Rattle.std.specs.Prelude.{◌+◌, ◌≡◌, ◌≤◌, ◌<◌, ◌||◌, drop, is_none, is_err, length, take, IfSome, IfErr, OnOk};
 ghost use Rattle.std.specs.Prelude.{vec_len};
@@ -10,10 +10,10 @@ use crate::failure::Failure;
 use std::alloc::Allocator;
 use std::io::{Read, Write};
 
-/// The number of bytes that a full vector is lengthened by, and so the most that one pull asks for.
+/// The number of bytes by which a full vector grows, and so the largest number that one pull asks for.
 const BLOCK: usize = 65536;
 
-/// Lengthens the vector by a block if all of it is filled.
+/// Lengthens `bytes` by a block if all of it is filled.
 fn make_room<A: Allocator>(bytes: &mut Vec<u8, A>, filled: usize) -> Result<(), Failure>
     requires { filled ≤ vec_len bytes.old }
     ensures room { OnOk result (filled < vec_len bytes.new) }
@@ -31,8 +31,8 @@ fn make_room<A: Allocator>(bytes: &mut Vec<u8, A>, filled: usize) -> Result<(), 
     Ok(())
 }
 
-/// Pulls once, into the bytes after those that are filled, and returns how many bytes were read: 0 at the end of the
-/// input. None if the call failed, also if it was interrupted.
+/// Pulls once, into the bytes of `bytes` after the first `filled`, and returns the number of bytes read: 0 at the end
+/// of the input. Returns `None` if the call failed or was interrupted.
 pub fn pull_after<R: Read, A: Allocator>(
     input: &mut Input<R>,
     bytes: &mut Vec<u8, A>,
@@ -49,7 +49,7 @@ pub fn pull_after<R: Read, A: Allocator>(
     input.pull(&mut bytes[filled..])
 }
 
-/// Reads to the end of the input. A reader without an end is out of memory.
+/// Reads to the end of the input, and returns its bytes. A reader without an end is out of memory.
 pub fn read_all<R: Read, A: Allocator>(
     alloc: A,
     input: &mut Input<R>,
@@ -73,8 +73,8 @@ pub fn read_all<R: Read, A: Allocator>(
     Err(Failure::Memory)
 }
 
-/// Reads to the end of the input, keeps nothing, and returns how many bytes there were. `buffer` holds the bytes of one
-/// call. An input of more than `limit` bytes is out of memory.
+/// Reads to the end of the input, keeps nothing, and returns the number of bytes. `buffer` holds the bytes of one call.
+/// An input of more than `limit` bytes is out of memory.
 pub fn skip_all<R: Read>(
     input: &mut Input<R>,
     buffer: &mut [u8],
@@ -99,7 +99,7 @@ pub fn skip_all<R: Read>(
     }
 }
 
-/// Writes all bytes. After an error a beginning of them is written.
+/// Writes all of `bytes`. After an error a beginning of them is written.
 pub fn write_all<W: Write>(output: &mut Output<W>, bytes: &[u8]) -> Result<(), Failure>
     ensures bytes { WritesAll (W.contents output.old.inner) (W.contents output.new.inner) result bytes.now }
     ensures failed { output.new.failed ≡ (output.old.failed || is_err result) }
@@ -114,7 +114,7 @@ pub fn write_all<W: Write>(output: &mut Output<W>, bytes: &[u8]) -> Result<(), F
     Ok(())
 }
 
-/// Flushes what was written. A failed flush is a failed write.
+/// Flushes the output. A failed flush is a failed write.
 pub fn flush<W: Write>(output: &mut Output<W>) -> Result<(), Failure>
     ensures error { IfErr result (λ failure. failure ≡ Failure.Write) }
     ensures bytes { Keeps (W.contents output.old.inner) (W.contents output.new.inner) }

@@ -1,4 +1,4 @@
--- What the calls of the iterator find.
+-- The results of the iterator's calls.
 use Rattle.std.proofs.Common.{◌≡◌, ℕ, suc, ◌+◌, ◌^◌, ◌<◌, ◌≤◌, Bool, true, false, List, [], ◌∷◌, length, Result, Ok}
 use Rattle.std.proofs.Common.{Err, refl, sym, ap, subst, ◌∙◌, arith}
 use Rattle.std.specs.Prelude.{Option, Some, None, ⊤, is_ok, ◌++◌}
@@ -38,7 +38,7 @@ append_read_by front new a (Err k) e = absurd cc
 abbrev ended_at : List ℕ → ℕ → Progress
 ended_at B p = record { bytes = B; offset = p; ended = true }
 
--- where a call began that found the iterator not at its end
+-- the iterator before a call that did not find it at its end
 pub began : (B : List ℕ) (o : ℕ) (e : Bool) (s : Progress) → record { bytes = B; offset = o; ended = e } ≡ s
     → e ≡ false → begins_at B o ≡ s
 began B o e s is going = ap (λ (e : Bool). record { bytes = B; offset = o; ended = e }) (sym going) ∙ is
@@ -46,26 +46,26 @@ began B o e s is going = ap (λ (e : Bool). record { bytes = B; offset = o; ende
 module _ {A : Type 0} (known : BoxType → Bool) (reading : BoxType → List ℕ → ℕ → ℕ → Reading A) (B : List ℕ) where
   seek_faults_by : (o p : ℕ) (e : Error) (r : Result Frame Fault) → items known reading B o ≡ items known reading B p
       → p < length B → frame B p ≡ r → FaultAs {A = Frame} (Err e) r → Seeks known reading B o p (Err e)
-  seek_faults_by o p e (Ok f) told lt is fault = absurd fault
-  seek_faults_by o p e (Err k) told lt is fault =
-      (k, told ∙ items_fault known reading B p k lt is, refuses_fault _ e k fault)
+  seek_faults_by o p e (Ok f) agrees lt is fault = absurd fault
+  seek_faults_by o p e (Err k) agrees lt is fault =
+      (k, agrees ∙ items_fault known reading B p k lt is, refuses_fault _ e k fault)
 
   pub seek_faults : (o p : ℕ) (e : Error) → items known reading B o ≡ items known reading B p → p < length B
       → FaultAs {A = Frame} (Err e) (frame B p) → Seeks known reading B o p (Err e)
-  seek_faults o p e told lt fault = seek_faults_by o p e (frame B p) told lt refl fault
+  seek_faults o p e agrees lt fault = seek_faults_by o p e (frame B p) agrees lt refl fault
 
   pub seek_finds : (o p : ℕ) (f : Frame) → items known reading B o ≡ items known reading B p → p < length B
       → frame B p ≡ Ok f → known (name_in f) ≡ true → f.begin ≡ p → 8 ≤ f.size → end_in f ≤ length B
       → end_in f < 2 ^ 64 → Seeks known reading B o p (Ok (Some f))
-  seek_finds o p f told lt is k begins least room short =
-      (told ∙ items_known known reading B p f lt is k, k, begins, least, room, short)
+  seek_finds o p f agrees lt is k begins least room short =
+      (agrees ∙ items_known known reading B p f lt is k, k, begins, least, room, short)
 
-  -- what a walk found, in the arm that took it
+  -- the result of a walk, in the match arm for that result
   pub found : (o p : ℕ) (x y : Option Frame) → x ≡ y → Seeks known reading B o p (Ok x)
       → Seeks known reading B o p (Ok y)
   found o p x y e h = subst (λ (x : Option Frame). Seeks known reading B o p (Ok x)) e h
 
--- each item leaves fewer
+-- each item leaves fewer items
 module _ {A : Type 0} (known : BoxType → Bool) (reading : BoxType → List ℕ → ℕ → ℕ → Reading A) where
   pub progress : (s : Progress) (r : Option (Result A Error)) (t : Progress) → GivesBox known reading s r t
       → MakesProgress (λ _. ⊤) (item_count (left known reading)) s r t
@@ -79,21 +79,21 @@ module _ {A : Type 0} (known : BoxType → Bool) (reading : BoxType → List ℕ
       let b : length (left known reading t) ≡ 0 = ap length h.0.3.1 in
       record { on = λ _. (tt, tt, omega (arith, a, b)); keeps = tt; rests = λ _. tt }
 
--- a call that began at o, and met p
+-- a call that began at o and reached p
 module _ {A : Type 0} (known : BoxType → Bool) (reading : BoxType → List ℕ → ℕ → ℕ → Reading A) (B : List ℕ) (o p : ℕ)
     (s : Progress) (is : begins_at B o ≡ s) where
-  -- nothing comes
+  -- no item is left
   pub ends : Seeks known reading B o p (Ok None) → GivesBox known reading s None (ended_at B p)
   ends h = subst (λ (s : Progress). GivesBox known reading s None (ended_at B p)) is ((h.0, refl, h.1), refl)
 
-  -- a frame at fault comes
+  -- the item is a faulty frame
   pub faulted : (e : Error) → Seeks known reading B o p (Err e)
       → GivesBox known reading s (Some (Err e)) (ended_at B p)
   faulted e h =
       subst (λ (s : Progress). GivesBox known reading s (Some (Err e)) (ended_at B p)) is
       ((fault_item p h.0, [], h.1, (h.2, refl, refl)), refl)
 
-  -- a box comes
+  -- the item is a box
   pub read_ok : (f : Frame) (r : Result A Error) → is_ok r ≡ true → Seeks known reading B o p (Ok (Some f))
       → Answers r (reading_in reading B f) → GivesBox known reading s (Some r) (begins_at B (end_in f))
   read_ok f (Ok v) ok h a =
@@ -101,7 +101,7 @@ module _ {A : Type 0} (known : BoxType → Bool) (reading : BoxType → List ℕ
       ((box_item reading B f, items known reading B (end_in f), h.0, (a, refl, refl)), refl)
   read_ok f (Err e) ok h a = absurd cc
 
-  -- a box comes that cannot be read
+  -- the item is a box that cannot be read
   pub read_err : (f : Frame) (r : Result A Error) → is_ok r ≡ false → Seeks known reading B o p (Ok (Some f))
       → Answers r (reading_in reading B f) → GivesBox known reading s (Some r) (ended_at B p)
   read_err f (Ok v) err h a = absurd cc
@@ -109,7 +109,7 @@ module _ {A : Type 0} (known : BoxType → Bool) (reading : BoxType → List ℕ
       subst (λ (s : Progress). GivesBox known reading s (Some (Err e)) (ended_at B p)) is
       ((box_item reading B f, items known reading B (end_in f), h.0, (a, refl, sym h.2)), refl)
 
-  -- the same calls, with a place for the box
+  -- the same cases for `next_into`, with a place for the box
   pub into_ended : (place : List A) → place ≡ [] → Seeks known reading B o p (Ok None)
       → GivesInto known reading s place (Ok false) (ended_at B p)
   into_ended place empty h =

@@ -1,9 +1,9 @@
--- Collecting all items, as a loop does.
+-- All items, collected by a loop.
 use Rattle.std.proofs.Common.{◌≡◌, ℕ, Bool, true, false, List, [], ◌∷◌, ◌++◌, length, Result, Ok, Err, refl, sym, ap}
-use Rattle.std.proofs.Common.{subst, ◌∙◌, arith, append_assoc, length-append}
+use Rattle.std.proofs.Common.{subst, ◌∙◌, append_assoc}
 use Rattle.std.specs.Prelude.{nat_lt, Some, None}
-use Rattle.std.proofs.lemmas.Bool.{lt-ltb}
 use Rattle.std.proofs.lemmas.List.{append-nil}
+use Rattle.mp4_lemmas.proofs.Lists.{long_enough}
 use Rattle.mp4_frame.specs.Reading.{Fault, End, Invalid, NotFound, Reading, Refuses, AnswersAs, and_then, memory, done}
 use Rattle.mp4_frame.specs.Reading.{◌>>=◌}
 use Rattle.mp4_frame.specs.Streams.{boxes}
@@ -44,9 +44,6 @@ faults_too : {A : Type 0} (a b : Bool) (front : List A) (o : Result A Fault) (w 
 faults_too a b front (Ok v) w k e = absurd cc
 faults_too a b front (Err l) w k e = cc e
 
-long_enough : {A : Type 0} (front : List A) (v : A) → nat_lt 0 (length (front ++ v ∷ [])) ≡ true
-long_enough front v = lt-ltb 0 (length (front ++ v ∷ [])) (omega (arith, length-append front (v ∷ [])))
-
 module _ {A : Type 0} (a : Bool) (front : List A) (i : Item A) (is : List (Item A)) where
   one_kept : (v : A) → i.reading.outcome ≡ Ok v
       → continue_with a front (in_order (i ∷ is)) ≡ continue_with true (front ++ v ∷ []) (in_order is)
@@ -78,12 +75,12 @@ module _ {A : Type 0} (known : BoxType → Bool) (reading : BoxType → List ℕ
   left_in_order s = in_order_cond known reading s.bytes s.ended (boxes known reading s.bytes s.offset)
       (items known reading s.bytes s.offset) (boxes_are_items known reading s.bytes s.offset)
 
-  -- a box comes, and is kept
+  -- the item is a box, which is kept
   pub goes_on : (s t : Progress) (front : List A) (v : A) (r : Result A Error) (total : Reading (List A)) → r ≡ Ok v
       → GivesBox known reading s (Some r) t
       → continue_with (nat_lt 0 (length front)) front (in_order (left known reading s)) ≡ total
       → continue_with (nat_lt 0 (length (front ++ v ∷ []))) (front ++ v ∷ []) (in_order (left known reading t)) ≡ total
-  goes_on s t front v (Ok w) total e h told =
+  goes_on s t front v (Ok w) total e h agrees =
       let same : w ≡ v = cc e in
       let i = h.0.0 in
       let is = h.0.1 in
@@ -91,40 +88,40 @@ module _ {A : Type 0} (known : BoxType → Bool) (reading : BoxType → List ℕ
       ≡ continue_with true (front ++ v ∷ []) (in_order is) =
       ap (λ (l : List (Item A)). continue_with (nat_lt 0 (length front)) front (in_order l)) h.0.2
       ∙ one_kept (nat_lt 0 (length front)) front i is v (h.0.3.0 ∙ ap (λ (v : A). Ok v) same) in
-      rw (long_enough front v, h.0.3.1) (sym one ∙ told)
-  goes_on s t front v (Err e') total e h told = absurd cc
+      rw (long_enough front v, h.0.3.1) (sym one ∙ agrees)
+  goes_on s t front v (Err e') total e h agrees = absurd cc
 
-  -- a box comes, and there is no memory to keep it
+  -- the item is a box, and there is no memory to keep it
   pub is_full : (s t : Progress) (front : List A) (v : A) (r : Result A Error) (total : Reading (List A)) → r ≡ Ok v
       → GivesBox known reading s (Some r) t
       → continue_with (nat_lt 0 (length front)) front (in_order (left known reading s)) ≡ total
       → total.asks_memory ≡ true
-  is_full s t front v r total e h told =
+  is_full s t front v r total e h agrees =
       ap (λ (r : Reading (List A)). r.asks_memory)
-      (sym (goes_on s t front v r total e h told)
+      (sym (goes_on s t front v r total e h agrees)
       ∙ ap (λ (b : Bool). continue_with b (front ++ v ∷ []) (in_order (left known reading t)))
       (long_enough front v))
 
-  -- a fault comes
+  -- the item is a fault
   pub stops : (s t : Progress) (front : List A) (e : Error) (r : Result A Error) (total : Reading (List A)) → r ≡ Err e
       → GivesBox known reading s (Some r) t
       → continue_with (nat_lt 0 (length front)) front (in_order (left known reading s)) ≡ total → Refuses e total
-  stops s t front e (Ok v) total is h told = absurd cc
-  stops s t front e (Err e') total is h told =
+  stops s t front e (Ok v) total is h agrees = absurd cc
+  stops s t front e (Err e') total is h agrees =
       let same : e' ≡ e = cc is in
       let one : continue_with (nat_lt 0 (length front)) front (in_order (h.0.0 ∷ h.0.1)) ≡ total =
-      ap (λ (l : List (Item A)). continue_with (nat_lt 0 (length front)) front (in_order l)) (sym h.0.2) ∙ told in
+      ap (λ (l : List (Item A)). continue_with (nat_lt 0 (length front)) front (in_order l)) (sym h.0.2) ∙ agrees in
       subst (λ (e : Error). Refuses e total) same
       (subst (λ (r : Reading (List A)). Refuses e' r) one
       (one_refuses (nat_lt 0 (length front)) front h.0.0 h.0.1 e' h.0.3.0))
 
-  -- nothing more comes
+  -- no item is left
   pub is_over : (s t : Progress) (front : List A) (total : Reading (List A)) → GivesBox known reading s None t
       → continue_with (nat_lt 0 (length front)) front (in_order (left known reading s)) ≡ total
       → total.outcome ≡ Ok front
-  is_over s t front total h told =
+  is_over s t front total h agrees =
       ap (λ (r : Reading (List A)). r.outcome)
-      (sym told ∙ ap (λ (l : List (Item A)). continue_with (nat_lt 0 (length front)) front (in_order l)) h.0.0)
+      (sym agrees ∙ ap (λ (l : List (Item A)). continue_with (nat_lt 0 (length front)) front (in_order l)) h.0.0)
       ∙ ap (λ (l : List A). Ok l) (append-nil front)
 
   ok_in_front : (i : Item A) (is : List (Item A)) (v : A) (vs : List A) → i.reading.outcome ≡ Ok v

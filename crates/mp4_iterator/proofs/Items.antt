@@ -1,4 +1,4 @@
--- The items of a buffer, as a loop meets them.
+-- The items of a buffer, in the order in which a loop visits them.
 use Rattle.std.proofs.Common.{◌≡◌, ℕ, zero, suc, ◌+◌, ◌-◌, ◌<◌, ◌≤◌, Bool, true, false, cond, List, [], ◌∷◌, ◌++◌}
 use Rattle.std.proofs.Common.{length, Result, Ok, Err, refl, sym, ap, ◌∙◌, arith}
 use Rattle.std.specs.Prelude.{nat_le}
@@ -12,30 +12,30 @@ use Rattle.mp4_frame.proofs.Walks.{frame_room}
 use Rattle.mp4_iterator.specs.Items.{Item, box_item, items_on, items_at_most, items, in_order}
 
 -- a box that is read and kept, and then the rest
-one_more_box : {A : Type 0} (a b : Bool) (o : Result A Fault) (w : Result (List A) Fault)
+keep_box : {A : Type 0} (a b : Bool) (o : Result A Fault) (w : Result (List A) Fault)
     → (and_then a o (λ v. memory >>= λ _. done (v ∷ [])) >>= λ xs. and_then b w (λ ys. done (xs ++ ys)))
     ≡ and_then a o (λ v. memory >>= λ _. and_then b w (λ ys. done (v ∷ ys)))
-one_more_box true b (Ok v) (Ok ys) = refl
-one_more_box true b (Ok v) (Err k) = refl
-one_more_box false b (Ok v) (Ok ys) = refl
-one_more_box false b (Ok v) (Err k) = refl
-one_more_box true b (Err k) w = refl
-one_more_box false b (Err k) w = refl
+keep_box true b (Ok v) (Ok ys) = refl
+keep_box true b (Ok v) (Err k) = refl
+keep_box false b (Ok v) (Ok ys) = refl
+keep_box false b (Ok v) (Err k) = refl
+keep_box true b (Err k) w = refl
+keep_box false b (Err k) w = refl
 
 -- a box that is skipped
-none_more : {A : Type 0} (b : Bool) (w : Result (List A) Fault)
+skip_box : {A : Type 0} (b : Bool) (w : Result (List A) Fault)
     → (done [] >>= λ xs. and_then b w (λ ys. done (xs ++ ys))) ≡ record { asks_memory = b; outcome = w }
-none_more true (Ok ys) = refl
-none_more false (Ok ys) = refl
-none_more b (Err k) = refl
+skip_box true (Ok ys) = refl
+skip_box false (Ok ys) = refl
+skip_box b (Err k) = refl
 
 in_order_if : {A : Type 0} (b : Bool) (r : Reading A) (o e : ℕ) (w : Reading (List A)) (is : List (Item A))
     → w ≡ in_order is
     → (cond b (r >>= λ v. memory >>= λ _. done (v ∷ [])) (done []) >>= λ xs. w >>= λ ys. done (xs ++ ys))
     ≡ in_order (cond b (record { begin = o; reading = r; end = e } ∷ is) is)
-in_order_if true r o e w is h = one_more_box r.asks_memory w.asks_memory r.outcome w.outcome
+in_order_if true r o e w is h = keep_box r.asks_memory w.asks_memory r.outcome w.outcome
     ∙ ap (λ (w : Reading (List _)). r >>= λ v. memory >>= λ _. w >>= λ ys. done (v ∷ ys)) h
-in_order_if false r o e w is h = none_more w.asks_memory w.outcome ∙ h
+in_order_if false r o e w is h = skip_box w.asks_memory w.outcome ∙ h
 
 module _ {A : Type 0} (known : BoxType → Bool) (reading : BoxType → List ℕ → ℕ → ℕ → Reading A) (B : List ℕ) where
   in_order_on : (n o : ℕ)

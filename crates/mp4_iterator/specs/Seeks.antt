@@ -1,4 +1,4 @@
--- What is found where the boxes of unknown names are skipped.
+-- The first box of a known name, after boxes of unknown names are skipped.
 use Rattle.std.specs.Prelude.{ℕ, ◌≡◌, ◌+◌, ◌^◌, ◌<◌, ◌≤◌, Bool, true, List, [], ◌∷◌, length, max, Option, Some, None}
 use Rattle.std.specs.Prelude.{Result, Ok, Err}
 use Rattle.mp4_frame.specs.Heads.{name_in, end_in}
@@ -9,8 +9,8 @@ use Rattle.mp4_frame.specs.declared.frame.Frame.{Frame}
 use Rattle.mp4_iterator.specs.Items.{box_item, fault_item, items}
 
 module _ {A : Type 0} (known : BoxType → Bool) (reading : BoxType → List ℕ → ℕ → ℕ → Reading A) where
-  -- From o on the first item is at p, and it is this frame of a known name, or a fault, which is the last. If there is
-  -- none, p is the end of the buffer, or o if that is past the end.
+  -- The first item at or after o is at p. It is the item of this frame of a known name, or a fault, which is the last
+  -- item. If there is no item, p is the end of the buffer, or o if that is past the end.
   abbrev pub Seeks : List ℕ → ℕ → ℕ → Result (Option Frame) Error → Type 0
   Seeks B o p (Ok None) = (items known reading B o ≡ []) × (p ≡ max o (length B))
   Seeks B o p (Ok (Some f)) =

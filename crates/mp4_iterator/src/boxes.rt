@@ -13,9 +13,9 @@ use std::alloc::Global;
 use std::iter::FusedIterator;
 use std::marker::{Model, PhantomData};
 
-/// The boxes of a buffer from an offset on, one after the other. Each item is a box, or the first fault, and after a
-/// fault nothing comes. Boxes with names that `B` does not know are skipped. No list is made: memory is taken only by
-/// boxes that take it.
+/// The boxes of a buffer, one after the other, starting at an offset. Each item is a box or the first fault, and no
+/// item follows a fault. Boxes with names that `B` does not know are skipped. The iterator makes no list, and takes
+/// memory only for boxes whose reading takes memory.
 #[derive(Drop)]
 pub struct Boxes<'a, B> {
     alloc: Global,
@@ -33,7 +33,7 @@ impl<'a, B> Model for Boxes<'a, B> {
     ghost view = { λ b. record { bytes = b.bytes.now; offset = b.offset; ended = b.ended } };
 }
 
-/// The boxes of a buffer, from its front on.
+/// Returns an iterator over the boxes of `bytes`, starting at the front.
 pub fn boxes_as<B: StreamBox>(alloc: Global, bytes: &[u8]) -> Boxes<'_, B>
     ensures { result ≡ begins_at bytes.now 0 }
 {
@@ -46,25 +46,26 @@ pub fn boxes_as<B: StreamBox>(alloc: Global, bytes: &[u8]) -> Boxes<'_, B>
     }
 }
 
-/// The frame of the first box of a known name from `at` on, or none up to the end of the buffer. `at` becomes where
-/// that box begins, or where the frame that is at fault begins, or the end of the buffer.
+/// Returns the frame of the first box of a known name at or after offset `at`, or `None` if no such box is left. Sets
+/// `at` to the offset where that box or a faulty frame begins. If no box is left, `at` becomes the end of the buffer,
+/// or stays where it is if that is past the end.
 fn seek<B: StreamBox>(bytes: &[u8], at: &mut u64) -> Result<Option<Frame>>
     ensures { Seeks B.known B.named_reading bytes.now at.old at.new result }
 {
-    let mut begin = *at;
-    while begin < bytes.len() as u64 {
-        *at = begin;
-        let frame = frame_at(bytes, begin as usize)?;
+    let mut start = *at;
+    while start < bytes.len() as u64 {
+        *at = start;
+        let frame = frame_at(bytes, start as usize)?;
         if B::knows(frame.name()) {
             return Ok(Some(frame));
         }
-        begin = frame.end();
+        start = frame.end();
     }
-    *at = begin;
+    *at = start;
     Ok(None)
 }
 
-/// Reads the box in this frame.
+/// Reads the box in the frame `frame`.
 fn read_frame<B: StreamBox>(alloc: Global, bytes: &[u8], frame: &Frame) -> Result<B>
     requires known { IsTrue (B.known (name_in frame.now)) }
     requires header { content_in frame.now < 2 ^ 64 }
@@ -76,7 +77,7 @@ fn read_frame<B: StreamBox>(alloc: Global, bytes: &[u8], frame: &Frame) -> Resul
 }
 
 impl<'a, B: StreamBox> Boxes<'a, B> {
-    /// The boxes from a cursor's position on. The cursor stays where it is.
+    /// Returns an iterator over the boxes that start at the position of `reader`. The cursor stays where it is.
     pub fn from_cursor(alloc: Global, reader: &ByteCursor<'a>) -> Self
         ensures { result ≡ begins_at reader.now.bytes.now reader.now.position }
     {
@@ -89,17 +90,17 @@ impl<'a, B: StreamBox> Boxes<'a, B> {
         }
     }
 
-    /// How far it is, as an offset in the buffer: where the box ends that came last. After a fault it is where the box
-    /// at fault begins, and once nothing more came, the end of the buffer.
+    /// Returns the offset in the buffer that the iterator has reached: the end of the last box that it returned. After
+    /// a fault it is the offset where the faulty box begins. If no box was left, it is the end of the buffer.
     pub fn offset(&self) -> u64
         ensures { result ≡ self.now.offset }
     {
         self.offset
     }
 
-    /// Reads the next box into `place`, and returns whether there is one. It is what `next` gives, without a move of
-    /// the box. What was in `place` is dropped, and its memory is used again, so that one place serves for all boxes.
-    /// It has one box after `true`, and none after `false` and after an `Err`.
+    /// Reads the next box into `place`, and returns whether there is one. The box is that of `next`, but it is not
+    /// moved. The call drops what was in `place` and uses its memory again, so one `place` serves for all boxes.
+    /// `place` has one box after `Ok(true)`, and is empty after `Ok(false)` and after an `Err`.
     pub fn next_into(&mut self, place: &mut Vec<B>) -> Result<bool>
         ensures { GivesInto B.known B.named_reading self.old place.new.items result self.new }
     {

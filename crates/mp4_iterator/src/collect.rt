@@ -1,4 +1,4 @@
-//! All boxes of an iterator, in a list.
+//! The boxes of an iterator, collected in a list.
 
 ghost use Rattle.mp4_frame.specs.Reading.{AnswersAs};
 ghost use Rattle.mp4_iterator.specs.Progress.{boxes_left};
@@ -7,7 +7,8 @@ use crate::boxes::Boxes;
 use mp4_frame::{Result, StreamBox};
 use std::alloc::Global;
 
-/// The boxes that are left, in a list, or the first fault: what `read_boxes_as` returns from the offset on.
+/// Returns the boxes that are left in a list, or the first fault. The result is that of `read_boxes_as` starting at the
+/// iterator's offset. After the iterator's end the list is empty.
 pub fn collect_boxes<B: StreamBox>(alloc: Global, boxes: Boxes<B>) -> Result<Vec<B>>
     ensures { AnswersAs (λ v. v.items) result (boxes_left B.known B.named_reading boxes.entry) }
 {

@@ -1,4 +1,4 @@
-//! The boxes of a buffer one at a time, with no list of them.
+//! For programs that read the boxes of a buffer one at a time, without a list of them.
 #![tactic(auto)]
 
 mod boxes;

@@ -1,18 +1,10 @@
 -- Looking up a value by its number or string is the inverse of the table.
-use Rattle.std.proofs.Common.{◌≡◌, ℕ, Bool, true, false, List, [], ◌∷◌, Option, Some, None, cond, refl, sym}
+use Rattle.std.proofs.Common.{◌≡◌, ℕ, Bool, true, false, List, Option, Some, None, refl, sym}
 use Rattle.std.specs.List.{find}
 use Rattle.std.proofs.lemmas.Bool.{eqb-true}
 use Rattle.std.proofs.lemmas.Slice.Eq.{bytes_eq-Decides}
+use Rattle.mp4_lemmas.proofs.Lists.{find_passes}
 use Rattle.mp4_media.specs.Conversion.{by_number, by_text, IsInverse, Selects}
-
--- a value that is found passes the check
-pub find_passes : {A : Type 0} (p : A → Bool) (vs : List A) (v : A) → find p vs ≡ Some v → p v ≡ true
-find_passes p [] v h = cc
-find_passes p (x ∷ vs) v h =
-    elim (p x) as (λ b. p x ≡ b → cond b (Some x) (find p vs) ≡ Some v → p v ≡ true) [
-      | true ↦ λ e h. cc
-      | false ↦ λ _ h. find_passes p vs v h
-    ] refl h
 
 pub inverse : {A K : Type 0} (key : A → K) (found : K → Option A) → ((v : A) → found (key v) ≡ Some v)
     → ((k : K) (v : A) → found k ≡ Some v → key v ≡ k) → IsInverse key found
@@ -38,7 +30,7 @@ pub by_text-inverse : {A : Type 0} (text : A → List ℕ) (values : List A)
 by_text-inverse text values own =
     inverse text (by_text text values) own (λ t v e. sym ((bytes_eq-Decides t (text v)).0 (find_passes _ values v e)))
 
--- if a value that passes the check is always the one that is found, then the look-up selects it
+-- a look-up that finds each value that passes the check selects values by this check
 pub selects : {A K : Type 0} (has : A → K → Bool) (values : List A)
     → ((k : K) (v : A) → has v k ≡ true → find (λ w. has w k) values ≡ Some v)
     → Selects has (λ k. find (λ w. has w k) values)

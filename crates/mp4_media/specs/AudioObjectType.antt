@@ -4,7 +4,7 @@ use Rattle.mp4_media.specs.Conversion.{by_number}
 use Rattle.mp4_media.specs.declared.audio_object_type.AudioObjectType.{AudioObjectType}
 use Rattle.mp4_media.specs.declared.audio_object_type.AudioObjectType.TheVariants as types
 
--- the table: numbers, and short names
+-- the table: numbers and short names
 abbrev pub row_audio_object_type : AudioObjectType → ℕ × List ℕ
 row_audio_object_type types.AacMain = (1, codes "AAC Main")
 row_audio_object_type types.AacLowComplexity = (2, codes "LC")
@@ -100,6 +100,6 @@ audio_object_types =
     types.SpatialAudioObjectCodingDialogueEnhancement ∷
     types.AudioSync ∷ []
 
--- the audio object type of a number
+-- the audio object type that has this number
 unfoldable pub audio_object_type_of : ℕ → Option AudioObjectType
 audio_object_type_of n = by_number number_audio_object_type audio_object_types n

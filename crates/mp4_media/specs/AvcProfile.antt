@@ -4,11 +4,11 @@ use Rattle.std.specs.List.{find}
 use Rattle.mp4_media.specs.declared.avc_profile.AvcProfile.{AvcProfile}
 use Rattle.mp4_media.specs.declared.avc_profile.AvcProfile.TheVariants as profiles
 
--- bit 0x40 of the constraint flags: constraint set 1
+-- bit 0x40 of the constraint flags is set: constraint set 1
 abbrev pub is_constrained : ℕ → Bool
 is_constrained flags = flags / 64 % 2 == 1
 
--- the table: whether a profile has this profile number and these constraint flags
+-- the table: the profile has this profile number and these constraint flags
 abbrev pub has_avc_profile : AvcProfile → ℕ × ℕ → Bool
 has_avc_profile profiles.AvcConstrainedBaseline (number, flags) = number == 66 && is_constrained flags
 has_avc_profile profiles.AvcBaseline (number, flags) = number == 66 && not (is_constrained flags)
@@ -29,6 +29,6 @@ avc_profiles =
     profiles.AvcConstrainedBaseline ∷ profiles.AvcBaseline ∷ profiles.AvcMain ∷ profiles.AvcExtended
     ∷ profiles.AvcHigh ∷ []
 
--- the profile of a profile number and constraint flags
+-- the profile that has this profile number and these constraint flags
 unfoldable pub avc_profile_of : ℕ × ℕ → Option AvcProfile
 avc_profile_of numbers = find (λ p. has_avc_profile p numbers) avc_profiles

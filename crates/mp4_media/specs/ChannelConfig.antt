@@ -4,7 +4,7 @@ use Rattle.mp4_media.specs.Conversion.{by_number}
 use Rattle.mp4_media.specs.declared.channel_config.ChannelConfig.{ChannelConfig}
 use Rattle.mp4_media.specs.declared.channel_config.ChannelConfig.TheVariants as configs
 
--- the table: numbers, and names
+-- the table: numbers and names
 abbrev pub row_channel_config : ChannelConfig → ℕ × List ℕ
 row_channel_config configs.Mono = (1, codes "mono")
 row_channel_config configs.Stereo = (2, codes "stereo")
@@ -25,6 +25,6 @@ channel_configs =
     configs.Mono ∷ configs.Stereo ∷ configs.Three ∷ configs.Four
     ∷ configs.Five ∷ configs.FiveOne ∷ configs.SevenOne ∷ []
 
--- the channel configuration of a number
+-- the channel configuration that has this number
 unfoldable pub channel_config_of : ℕ → Option ChannelConfig
 channel_config_of n = by_number number_channel_config channel_configs n

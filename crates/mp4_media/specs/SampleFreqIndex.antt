@@ -4,7 +4,7 @@ use Rattle.mp4_media.specs.Conversion.{by_number}
 use Rattle.mp4_media.specs.declared.sample_freq_index.SampleFreqIndex.{SampleFreqIndex}
 use Rattle.mp4_media.specs.declared.sample_freq_index.SampleFreqIndex.TheVariants as indexes
 
--- the table: indexes, and frequencies in hertz
+-- the table: indexes and frequencies in hertz
 abbrev pub row_sample_freq_index : SampleFreqIndex → ℕ × ℕ
 row_sample_freq_index indexes.Freq96000 = (0, 96000)
 row_sample_freq_index indexes.Freq88200 = (1, 88200)
@@ -42,6 +42,6 @@ sample_freq_indexes =
     indexes.Freq8000 ∷
     indexes.Freq7350 ∷ []
 
--- the sampling frequency of an index
+-- the sampling frequency that has this index
 unfoldable pub sample_freq_index_of : ℕ → Option SampleFreqIndex
 sample_freq_index_of n = by_number number_sample_freq_index sample_freq_indexes n

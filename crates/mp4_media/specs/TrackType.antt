@@ -1,10 +1,10 @@
--- What a track contains, with the handler type (ISO/IEC 14496-12, 8.4.3) and the printed name.
+-- The track types, with their handler types (ISO/IEC 14496-12, 8.4.3) and printed names.
 use Rattle.std.specs.Prelude.{ℕ, List, [], ◌∷◌, Option, codes}
 use Rattle.mp4_media.specs.Conversion.{by_text}
 use Rattle.mp4_media.specs.declared.track_type.TrackType.{TrackType}
 use Rattle.mp4_media.specs.declared.track_type.TrackType.TheVariants as types
 
--- the table: handlers, and names
+-- the table: handler types and names
 abbrev pub row_track_type : TrackType → List ℕ × List ℕ
 row_track_type types.Video = (codes "vide", codes "Video")
 row_track_type types.Audio = (codes "soun", codes "Audio")
@@ -19,6 +19,6 @@ text_track_type t = (row_track_type t).1
 abbrev pub track_types : List TrackType
 track_types = types.Video ∷ types.Audio ∷ types.Subtitle ∷ []
 
--- the track type of a handler
+-- the track type that has this handler type
 unfoldable pub track_type_of : List ℕ → Option TrackType
 track_type_of handler = by_text handler_track_type track_types handler

@@ -1,11 +1,11 @@
-//! Audio object types: how sound is coded.
+//! Audio object types: the codings of sound.
 
 ghost use Rattle.std.specs.Prelude.{◌≡◌, Some};
 
 use mp4_frame::{Error, Result};
 use std::fmt;
 
-/// The audio object type of an MPEG-4 audio configuration, by its number (ISO/IEC 14496-3, 1.5.1.1).
+/// The audio object type of an MPEG-4 audio configuration (ISO/IEC 14496-3, 1.5.1.1). Its discriminant is its number.
 #[derive(Clone, Copy, Debug, PartialEq, Eq)]
 pub enum AudioObjectType {
     /// AAC main profile.
@@ -94,7 +94,8 @@ pub enum AudioObjectType {
     AudioSync = 46,
 }
 
-/// The audio object type of a number. A number without a type (0, 10, 11, 18, 31, and 47 and above) is invalid data.
+/// Converts a number to its audio object type. A number without a type is invalid data: 0, 10, 11, 18, 31, and 47 and
+/// above.
 impl TryFrom<u8> for AudioObjectType {
     ghost use Rattle.mp4_media.specs.Conversion.{IsConversion};
     ghost use Rattle.mp4_media.specs.AudioObjectType.{audio_object_type_of};
@@ -153,7 +154,7 @@ impl TryFrom<u8> for AudioObjectType {
     }
 }
 
-/// The usual short name, such as `LC`.
+/// Shows the usual short name of the type, such as `LC`.
 impl fmt::Display for AudioObjectType {
     ghost use Rattle.mp4_media.specs.AudioObjectType.{text_audio_object_type};
 

@@ -1,11 +1,11 @@
-//! The configuration of a track of advanced video.
+//! The configuration of a track of advanced video coding.
 
 ghost use Rattle.std.specs.Prelude.{◌≡◌, []};
 
 use mp4_frame::{Entries, Result, TryClone};
 use std::alloc::Global;
 
-/// The configuration of a track of advanced video (ISO/IEC 14496-10).
+/// The configuration of a track of advanced video coding, H.264 (ISO/IEC 14496-10).
 #[derive(Debug, PartialEq, Eq, Drop)]
 pub struct AvcConfig {
     /// The width of the picture, in pixels.
@@ -19,7 +19,7 @@ pub struct AvcConfig {
 }
 
 impl AvcConfig {
-    /// Width and height 0, and empty parameter sets. It takes no memory.
+    /// Returns a configuration with width and height 0 and empty parameter sets. It takes no memory from `alloc`.
     pub fn default_in(alloc: Global) -> Self
         ensures { result ≡ record { width = 0; height = 0; seq_param_set = []; pic_param_set = [] } }
     {

@@ -5,7 +5,7 @@ ghost use Rattle.std.specs.Prelude.{◌≡◌, Some};
 use mp4_frame::{Error, Result};
 use std::fmt;
 
-/// The profile of an advanced video stream (ISO/IEC 14496-10, A.2).
+/// The profile of an advanced video coding stream (ISO/IEC 14496-10, A.2).
 #[derive(Clone, Copy, Debug, PartialEq, Eq)]
 pub enum AvcProfile {
     /// Profile 66 with constraint set 1.
@@ -20,8 +20,8 @@ pub enum AvcProfile {
     AvcHigh,
 }
 
-/// The profile of a pair: the profile number, and the byte of constraint flags that follows it. Bit 0x40 of the
-/// flags is constraint set 1. Any other profile number is invalid data.
+/// Converts a pair to its profile: the profile number, and the byte of constraint flags that follows it in a file. Bit
+/// 0x40 of the flags is constraint set 1. A number other than 66, 77, 88 and 100 is invalid data.
 impl TryFrom<(u8, u8)> for AvcProfile {
     ghost use Rattle.mp4_media.specs.Conversion.{IsConversion};
     ghost use Rattle.mp4_media.specs.AvcProfile.{avc_profile_of};
@@ -30,7 +30,7 @@ impl TryFrom<(u8, u8)> for AvcProfile {
 
     ghost try_from_gives = { λ numbers r. IsConversion (avc_profile_of numbers) r };
 
-    #[tactic(auto, using(crate::proofs::Bits::masked), unfolding(crate::specs::AvcProfile::avc_profile_of))]
+    #[tactic(auto, using(mp4_lemmas::proofs::Numbers::masked), unfolding(crate::specs::AvcProfile::avc_profile_of))]
     fn try_from(numbers: (u8, u8)) -> Result<AvcProfile> {
         let (profile, constraints) = numbers;
         let is_constrained = constraints & 0x40 != 0;
@@ -45,7 +45,7 @@ impl TryFrom<(u8, u8)> for AvcProfile {
     }
 }
 
-/// The name of the profile, such as `Main`.
+/// Shows the name of the profile, such as `Main`.
 impl fmt::Display for AvcProfile {
     ghost use Rattle.mp4_media.specs.AvcProfile.{text_avc_profile};
 

@@ -5,7 +5,7 @@ ghost use Rattle.std.specs.Prelude.{Some};
 use mp4_frame::{Error, Result};
 use std::fmt;
 
-/// The channel configuration of MPEG-4 audio, by its number (ISO/IEC 14496-3, 1.6.3.5).
+/// The channel configuration of MPEG-4 audio (ISO/IEC 14496-3, 1.6.3.5). Its discriminant is its number.
 #[derive(Clone, Copy, Debug, PartialEq, Eq)]
 pub enum ChannelConfig {
     /// One channel: front centre.
@@ -24,7 +24,7 @@ pub enum ChannelConfig {
     SevenOne = 7,
 }
 
-/// The channel configuration of a number. 0, and 8 and above, are invalid data.
+/// Converts a number to its channel configuration. A number other than 1 to 7 is invalid data.
 impl TryFrom<u8> for ChannelConfig {
     ghost use Rattle.mp4_media.specs.Conversion.{IsConversion};
     ghost use Rattle.mp4_media.specs.ChannelConfig.{channel_config_of};
@@ -48,7 +48,7 @@ impl TryFrom<u8> for ChannelConfig {
     }
 }
 
-/// The name of the channel configuration, such as `stereo`.
+/// Shows the name of the channel configuration, such as `stereo`.
 impl fmt::Display for ChannelConfig {
     ghost use Rattle.mp4_media.specs.ChannelConfig.{text_channel_config};
 

@@ -2,21 +2,21 @@
 
 use mp4_frame::{Error, Result};
 
-/// The type of the bytes of a metadata value, by its number (QuickTime's well-known types).
+/// The type of a metadata value's bytes (QuickTime's well-known types). Its discriminant is its number.
 #[derive(Clone, Debug, Default, PartialEq, Eq, Drop)]
 pub enum DataType {
-    /// Bytes, whose format depends on the key.
+    /// Bytes in a format that depends on the key.
     #[default]
     Binary = 0,
     /// A UTF-8 string.
     Text = 1,
     /// A JPEG picture.
     Image = 13,
-    /// A whole number, such as a tempo or the flag of a compilation.
+    /// A whole number, such as a tempo or a flag that marks a compilation.
     TempoCpil = 21,
 }
 
-/// The data type of a number. Any number but 0, 1, 13 and 21 is invalid data.
+/// Converts a number to its data type. A number other than 0, 1, 13 and 21 is invalid data.
 impl TryFrom<u32> for DataType {
     ghost use Rattle.mp4_media.specs.Conversion.{IsConversion};
     ghost use Rattle.mp4_media.specs.DataType.{data_type_of};

@@ -5,7 +5,8 @@ ghost use Rattle.mp4_media.specs.FixedPoint.{scaled, scaled_signed, whole, whole
 
 use std::marker::Model;
 
-/// A fixed-point number, held as its raw number: the value times a denominator. In contracts it is the raw number.
+/// A fixed-point number. It holds a raw number, which is the value times a denominator. In contracts it is this raw
+/// number.
 #[derive(Clone, Copy, Debug, PartialEq, Eq)]
 pub struct FixedPoint<R> {
     raw: R,
@@ -14,7 +15,7 @@ pub struct FixedPoint<R> {
 /// An unsigned 8.8 number: 8 bits before the point and 8 after it. The denominator is 256.
 pub type FixedPointU8 = FixedPoint<u16>;
 
-/// A signed 8.8 number: 8 bits before the point, with the sign, and 8 after it. The denominator is 256.
+/// A signed 8.8 number: 8 bits before the point, sign included, and 8 after it. The denominator is 256.
 pub type FixedPointI8 = FixedPoint<i16>;
 
 /// An unsigned 16.16 number: 16 bits before the point and 16 after it. The denominator is 65536.
@@ -29,14 +30,14 @@ impl<R> Model for FixedPoint<R> {
 }
 
 impl<R: Copy> FixedPoint<R> {
-    /// The number with this raw number.
+    /// Returns the number with the raw number `raw`.
     pub fn new_raw(raw: R) -> Self
         ensures { result ≡ raw }
     {
         FixedPoint { raw }
     }
 
-    /// The raw number, as it is in a file.
+    /// Returns the raw number, as it is in a file.
     pub fn raw_value(&self) -> R
         ensures { result ≡ self.now }
     {
@@ -45,14 +46,14 @@ impl<R: Copy> FixedPoint<R> {
 }
 
 impl FixedPoint<u16> {
-    /// The number with this whole part and no fraction.
+    /// Returns the number with the whole part `value` and no fraction.
     pub fn new(value: u8) -> Self
         ensures { result ≡ scaled 256 value }
     {
         FixedPoint::new_raw(256 * value as u16)
     }
 
-    /// The whole part; the fraction is dropped.
+    /// Returns the whole part, without the fraction.
     pub fn value(&self) -> u8
         ensures { result ≡ whole 256 self.now }
     {
@@ -61,14 +62,14 @@ impl FixedPoint<u16> {
 }
 
 impl FixedPoint<i16> {
-    /// The number with this whole part and no fraction.
+    /// Returns the number with the whole part `value` and no fraction.
     pub fn new(value: i8) -> Self
         ensures { result ≡ scaled_signed 256 value }
     {
         FixedPoint::new_raw(256 * value as i16)
     }
 
-    /// The value, rounded towards zero: 0 for every raw number from -255 to 255.
+    /// Returns the value, rounded towards zero: 0 for every raw number from -255 to 255.
     pub fn value(&self) -> i8
         ensures { result ≡ whole_signed 256 self.now }
     {
@@ -77,14 +78,14 @@ impl FixedPoint<i16> {
 }
 
 impl FixedPoint<u32> {
-    /// The number with this whole part and no fraction.
+    /// Returns the number with the whole part `value` and no fraction.
     pub fn new(value: u16) -> Self
         ensures { result ≡ scaled 65536 value }
     {
         FixedPoint::new_raw(65536 * value as u32)
     }
 
-    /// The whole part; the fraction is dropped.
+    /// Returns the whole part, without the fraction.
     pub fn value(&self) -> u16
         ensures { result ≡ whole 65536 self.now }
     {

@@ -1,4 +1,4 @@
-//! The laws of the media types and their tables. No function here calls another.
+//! The laws of the media types and their tables. You can call each of these functions to use its law in a proof.
 
 ghost use Rattle.std.specs.Prelude.{◌≡◌, ◌<◌, ℕ, ℤ, Some, None, Result, Ok, IsErrAnd, true};
 ghost use Rattle.std.specs.Cmp.{IsEquivalence};
@@ -22,59 +22,60 @@ use crate::{
 };
 use std::hash::Hash;
 
-/// Converting a whole number to fixed point and back gives the same number, for every denominator above 0.
+/// States that a whole number converted to fixed point and back is the same number, for every denominator above 0.
 pub fn whole_numbers_are_kept()
     ensures unsigned { (d value : ℕ) → 0 < d → whole d (scaled d value) ≡ value }
     ensures signed { (d : ℕ) (value : ℤ) → 0 < d → whole_signed d (scaled_signed d value) ≡ value }
 {}
 
-/// Each track type has its own handler, which is converted back to this type. No type is found for any other
-/// handler.
+/// States that no two track types share a handler type, and that the handler type of each is converted back to it. Any
+/// other handler type has no track type.
 pub fn track_types_have_own_handlers()
     ensures { IsInverse handler_track_type track_type_of }
 {}
 
-/// Each media type has its own string, which is converted back to this type. No type is found for any other string.
+/// States that no two media types share a string, and that the string of each is converted back to it. Any other string
+/// has no media type.
 pub fn media_types_have_own_texts()
     ensures { IsInverse text_media_type media_type_of }
 {}
 
-/// No two profiles have the same profile number and constraint flags. No profile is found for any other numbers.
+/// States that a profile number and constraint flags are converted to the only profile that has them, if there is one.
 pub fn avc_profiles_have_own_numbers()
     ensures { Selects has_avc_profile avc_profile_of }
 {}
 
-/// Each audio object type has its own number, which is converted back to this type. No type is found for any other
-/// number.
+/// States that no two audio object types share a number, and that the number of each is converted back to it. Any other
+/// number has no type.
 pub fn audio_object_types_have_own_numbers()
     ensures { IsInverse number_audio_object_type audio_object_type_of }
 {}
 
-/// Each sampling frequency has its own index, which is converted back to this frequency. No frequency is found for
-/// any other index.
+/// States that no two sampling frequencies share an index, and that the index of each is converted back to it. Any
+/// other index has no frequency.
 pub fn sample_freq_indexes_have_own_numbers()
     ensures { IsInverse number_sample_freq_index sample_freq_index_of }
 {}
 
-/// Each channel configuration has its own number, which is converted back to this configuration. No configuration is
-/// found for any other number.
+/// States that no two channel configurations share a number, and that the number of each is converted back to it. Any
+/// other number has no configuration.
 pub fn channel_configs_have_own_numbers()
     ensures { IsInverse number_channel_config channel_config_of }
 {}
 
-/// Each type of metadata values has its own number, which is converted back to this type. No type is found for any
-/// other number.
+/// States that no two types of metadata values share a number, and that the number of each is converted back to it. Any
+/// other number has no type.
 pub fn data_types_have_own_numbers()
     ensures { IsInverse number_data_type data_type_of }
 {}
 
-/// A conversion returns the value that it finds. If it finds none, it returns invalid data.
+/// States that a conversion returns the value that it finds, and invalid data if it finds none.
 pub fn conversions_return_what_they_find<A>()
     ensures value { (v : _) (r : Result A Error) → IsConversion (Some v) r → r ≡ Ok v }
     ensures none { (r : Result A Error) → IsConversion None r → IsErrAnd r IsInvalidData }
 {}
 
-/// `==` of two values compares all of their fields.
+/// States that `==` compares all fields, for each type here that derives `PartialEq`.
 pub fn equality_is_of_all_fields()
     ensures fixed_point_u8 { IsEquality ⟦<FixedPointU8 as PartialEq>⟧.eq }
     ensures fixed_point_i8 { IsEquality ⟦<FixedPointI8 as PartialEq>⟧.eq }
@@ -95,19 +96,19 @@ pub fn equality_is_of_all_fields()
     ensures metadata_key { IsEquality ⟦<MetadataKey as PartialEq>⟧.eq }
 {}
 
-/// `==` of two samples is an equivalence. It compares only the four other fields and the length of the data.
+/// States that `==` of two samples is an equivalence. It compares the length of the data and the four other fields.
 pub fn sample_equality_is_of_lengths()
     ensures equivalence { IsEquivalence ⟦<Mp4Sample as PartialEq>⟧.eq }
     ensures lengths { Decides ⟦<Mp4Sample as PartialEq>⟧.eq IsSameSample }
 {}
 
-/// Equal metadata keys have equal hashes.
+/// States that equal metadata keys have equal hashes.
 pub fn equal_metadata_keys_hash_alike()
     ensures { (x y : _) → ⟦<MetadataKey as PartialEq>⟧.eq x y ≡ true
         → ⟦<MetadataKey as Hash>⟧.hash_input x ≡ ⟦<MetadataKey as Hash>⟧.hash_input y }
 {}
 
-/// The metadata of a reference is that of the value.
+/// States that the metadata of a reference is the metadata of the value.
 pub fn references_say_the_same<'a, T: Metadata<'a> + 'a>()
     ensures title { (m : _) → ⟦<&'a T as Metadata<'a>>⟧.title m ≡ T.title m.now }
     ensures year { (m : _) → ⟦<&'a T as Metadata<'a>>⟧.year m ≡ T.year m.now }
@@ -115,7 +116,7 @@ pub fn references_say_the_same<'a, T: Metadata<'a> + 'a>()
     ensures summary { (m : _) → ⟦<&'a T as Metadata<'a>>⟧.summary m ≡ T.summary m.now }
 {}
 
-/// The metadata of a `Some` is that of its value.
+/// States that the metadata of a `Some` is the metadata of its value.
 pub fn options_say_the_same<'a, T: Metadata<'a>>()
     ensures title { (m : _) → ⟦<Option<T> as Metadata<'a>>⟧.title (Some m) ≡ T.title m }
     ensures year { (m : _) → ⟦<Option<T> as Metadata<'a>>⟧.year (Some m) ≡ T.year m }
@@ -123,7 +124,7 @@ pub fn options_say_the_same<'a, T: Metadata<'a>>()
     ensures summary { (m : _) → ⟦<Option<T> as Metadata<'a>>⟧.summary (Some m) ≡ T.summary m }
 {}
 
-/// A `None` has no metadata.
+/// States that a `None` has no metadata.
 pub fn empty_options_say_nothing<'a, T: Metadata<'a>>()
     ensures title { ⟦<Option<T> as Metadata<'a>>⟧.title None ≡ None }
     ensures year { ⟦<Option<T> as Metadata<'a>>⟧.year None ≡ None }
@@ -131,28 +132,28 @@ pub fn empty_options_say_nothing<'a, T: Metadata<'a>>()
     ensures summary { ⟦<Option<T> as Metadata<'a>>⟧.summary None ≡ None }
 {}
 
-/// The discriminant of an audio object type is its number.
+/// Returns the discriminant of `object`, which is its number.
 pub fn discriminant_of_audio_object_type(object: AudioObjectType) -> u8
     ensures { result ≡ number_audio_object_type object }
 {
     object as u8
 }
 
-/// The discriminant of a sampling frequency is its index.
+/// Returns the discriminant of `index`, which is its number.
 pub fn discriminant_of_sample_freq_index(index: SampleFreqIndex) -> u8
     ensures { result ≡ number_sample_freq_index index }
 {
     index as u8
 }
 
-/// The discriminant of a channel configuration is its number.
+/// Returns the discriminant of `config`, which is its number.
 pub fn discriminant_of_channel_config(config: ChannelConfig) -> u8
     ensures { result ≡ number_channel_config config }
 {
     config as u8
 }
 
-/// The discriminant of a data type is its number.
+/// Returns the discriminant of `kind`, which is its number.
 pub fn discriminant_of_data_type(kind: DataType) -> u32
     ensures { result ≡ number_data_type kind }
 {

@@ -1,5 +1,5 @@
-//! The plain media types of the MP4 box codec: fixed-point numbers, kinds of tracks and codings, audio and video
-//! configurations, samples and metadata.
+//! For callers that describe the media of an MP4 file: fixed-point numbers, types of tracks and codings, audio and
+//! video configurations, samples and metadata.
 #![tactic(auto)]
 
 mod aac_config;

@@ -7,16 +7,16 @@ use crate::ttxt_config::TtxtConfig;
 use crate::vp9_config::Vp9Config;
 use mp4_frame::{Result, TryClone};
 
-/// The configuration of a track, by how its samples are coded.
+/// The configuration of a track, with a variant for each coding of samples.
 #[derive(Debug, PartialEq, Eq, Drop)]
 pub enum MediaConfig {
-    /// Advanced video, H.264.
+    /// Advanced video coding, H.264.
     AvcConfig(AvcConfig),
-    /// High efficiency video, H.265.
+    /// High efficiency video coding, H.265.
     HevcConfig(HevcConfig),
     /// VP9 video.
     Vp9Config(Vp9Config),
-    /// Advanced audio.
+    /// Advanced audio coding.
     AacConfig(AacConfig),
     /// Timed text.
     TtxtConfig(TtxtConfig),

@@ -1,11 +1,11 @@
-//! Media types: how the samples of a track are coded.
+//! Media types: the codings of a track's samples.
 
 ghost use Rattle.std.specs.Prelude.{◌≡◌, Some};
 
 use mp4_frame::{Error, Result};
 use std::fmt;
 
-/// How the samples of a track are coded. Each type has a string.
+/// The coding of a track's samples. Each type has a string, which is given here.
 #[derive(Clone, Copy, Debug, PartialEq, Eq)]
 pub enum MediaType {
     /// Advanced video coding (ISO/IEC 14496-10): `h264`.
@@ -20,7 +20,7 @@ pub enum MediaType {
     TTXT,
 }
 
-/// The string of the media type.
+/// Shows the string of the media type.
 impl fmt::Display for MediaType {
     ghost use Rattle.mp4_media.specs.MediaType.{text_media_type};
 
@@ -31,7 +31,7 @@ impl fmt::Display for MediaType {
     }
 }
 
-/// The media type of a string. Any other string is invalid data.
+/// Converts a string to its media type. A string that no type has is invalid data.
 impl TryFrom<&str> for MediaType {
     ghost use Rattle.mp4_media.specs.Conversion.{IsConversion};
     ghost use Rattle.mp4_media.specs.MediaType.{media_type_of};
@@ -53,7 +53,7 @@ impl TryFrom<&str> for MediaType {
     }
 }
 
-/// The string of a media type.
+/// Converts a media type to its string.
 impl From<MediaType> for &'static str {
     ghost use Rattle.mp4_media.specs.MediaType.{text_media_type};
 
@@ -70,7 +70,7 @@ impl From<MediaType> for &'static str {
     }
 }
 
-/// The string of a media type.
+/// Converts a media type to its string.
 impl From<&MediaType> for &'static str {
     ghost use Rattle.mp4_media.specs.MediaType.{text_media_type};
 

@@ -16,24 +16,24 @@ pub trait Metadata<'a> {
 
     ghost summary: { Self → Option (List ℕ) };
 
-    /// The title.
+    /// Returns the title.
     fn title(&self) -> Option<CowStr<'_>>
         ensures { option_map cow_str_bytes result ≡ title self.now };
 
-    /// The year of release.
+    /// Returns the year of release.
     fn year(&self) -> Option<u32>
         ensures { result ≡ year self.now };
 
-    /// The poster or cover: the bytes of a picture.
+    /// Returns the bytes of a picture, the poster or cover.
     fn poster(&self) -> Option<&[u8]>
         ensures { option_copied result ≡ poster self.now };
 
-    /// The summary.
+    /// Returns the summary.
     fn summary(&self) -> Option<CowStr<'_>>
         ensures { option_map cow_str_bytes result ≡ summary self.now };
 }
 
-/// The metadata of the value that is referred to.
+/// Returns the metadata of the value behind the reference.
 impl<'a, T: Metadata<'a>> Metadata<'a> for &'a T {
     ghost title = { λ m. T.title m.now };
 
@@ -60,7 +60,7 @@ impl<'a, T: Metadata<'a>> Metadata<'a> for &'a T {
     }
 }
 
-/// The metadata of the value if there is one, else none.
+/// Returns the metadata of the value in a `Some`. A `None` has no metadata.
 impl<'a, T: Metadata<'a>> Metadata<'a> for Option<T> {
     ghost title = { option_and_then T.title };
 

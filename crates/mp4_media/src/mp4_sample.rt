@@ -7,23 +7,22 @@ ghost use Rattle.std.proofs.Common.{rules};
 use bytes::Bytes;
 use std::fmt;
 
-/// A sample of a track, with its times in the track's time scale.
+/// A sample of a track. Its times are in units of the track's time scale.
 #[derive(Debug, Drop)]
 pub struct Mp4Sample {
-    /// The decoding time, in units of the track's time scale.
+    /// The decoding time.
     pub start_time: u64,
-    /// The duration, in the same units.
+    /// The duration.
     pub duration: u32,
-    /// The composition time minus the decoding time, in the same units.
+    /// The composition time minus the decoding time.
     pub rendering_offset: i32,
-    /// Whether decoding can start here.
+    /// True if decoding can start at this sample.
     pub is_sync: bool,
     /// The sample's data.
     pub bytes: Bytes,
 }
 
-/// Two samples are equal if the four other fields and the lengths of the data are equal. The data itself is not
-/// compared.
+/// Compares all fields, but only the length of the data, not its bytes.
 impl PartialEq for Mp4Sample {
     ghost use Rattle.mp4_media.specs.Mp4Sample.{eq_mp4_sample};
 
@@ -40,7 +39,7 @@ impl PartialEq for Mp4Sample {
     }
 }
 
-/// The four other fields and the length of the data, such as
+/// Shows the fields and, instead of the data, its length, such as
 /// `start_time 1, duration 2, rendering_offset -3, is_sync true, length 4`.
 impl fmt::Display for Mp4Sample {
     ghost use Rattle.mp4_media.specs.Mp4Sample.{text_mp4_sample};

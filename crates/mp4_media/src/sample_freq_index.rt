@@ -5,38 +5,38 @@ ghost use Rattle.mp4_media.specs.SampleFreqIndex.{freq_sample_freq_index};
 
 use mp4_frame::{Error, Result};
 
-/// The sampling frequency of an MPEG-4 audio configuration, by its index (ISO/IEC 14496-3, 1.6.3.4).
+/// The sampling frequency of an MPEG-4 audio configuration (ISO/IEC 14496-3, 1.6.3.4). Its discriminant is its index.
 #[derive(Clone, Copy, Debug, PartialEq, Eq)]
 pub enum SampleFreqIndex {
-    /// 96000 samples a second.
+    /// 96000 samples per second.
     Freq96000 = 0,
-    /// 88200 samples a second.
+    /// 88200 samples per second.
     Freq88200 = 1,
-    /// 64000 samples a second.
+    /// 64000 samples per second.
     Freq64000 = 2,
-    /// 48000 samples a second.
+    /// 48000 samples per second.
     Freq48000 = 3,
-    /// 44100 samples a second.
+    /// 44100 samples per second.
     Freq44100 = 4,
-    /// 32000 samples a second.
+    /// 32000 samples per second.
     Freq32000 = 5,
-    /// 24000 samples a second.
+    /// 24000 samples per second.
     Freq24000 = 6,
-    /// 22050 samples a second.
+    /// 22050 samples per second.
     Freq22050 = 7,
-    /// 16000 samples a second.
+    /// 16000 samples per second.
     Freq16000 = 8,
-    /// 12000 samples a second.
+    /// 12000 samples per second.
     Freq12000 = 9,
-    /// 11025 samples a second.
+    /// 11025 samples per second.
     Freq11025 = 10,
-    /// 8000 samples a second.
+    /// 8000 samples per second.
     Freq8000 = 11,
-    /// 7350 samples a second.
+    /// 7350 samples per second.
     Freq7350 = 12,
 }
 
-/// The sampling frequency of an index. An index of 13 or above is invalid data.
+/// Converts an index to its sampling frequency. An index of 13 or above is invalid data.
 impl TryFrom<u8> for SampleFreqIndex {
     ghost use Rattle.mp4_media.specs.Conversion.{IsConversion};
     ghost use Rattle.mp4_media.specs.SampleFreqIndex.{sample_freq_index_of};
@@ -67,7 +67,7 @@ impl TryFrom<u8> for SampleFreqIndex {
 }
 
 impl SampleFreqIndex {
-    /// The frequency, in hertz.
+    /// Returns the frequency, in hertz.
     pub fn freq(&self) -> u32
         ensures { result ≡ freq_sample_freq_index self.now }
     {

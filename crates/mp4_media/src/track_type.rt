@@ -1,11 +1,11 @@
-//! Track types: what a track contains.
+//! Track types: video, audio and subtitles.
 
 ghost use Rattle.std.specs.Prelude.{◌≡◌, Some};
 
 use mp4_frame::{Error, FourCC, Result};
 use std::fmt;
 
-/// What a track contains, by its handler type (ISO/IEC 14496-12, 8.4.3; `sbtl` is QuickTime's).
+/// The kind of a track's media. Each has its handler type (ISO/IEC 14496-12, 8.4.3; `sbtl` is QuickTime's).
 #[derive(Clone, Copy, Debug, PartialEq, Eq)]
 pub enum TrackType {
     /// Video: `vide`.
@@ -16,7 +16,7 @@ pub enum TrackType {
     Subtitle,
 }
 
-/// The name of the type: `Video`, `Audio` or `Subtitle`.
+/// Shows the name of the type: `Video`, `Audio` or `Subtitle`.
 impl fmt::Display for TrackType {
     ghost use Rattle.mp4_media.specs.TrackType.{text_track_type};
 
@@ -31,7 +31,7 @@ impl fmt::Display for TrackType {
     }
 }
 
-/// The track type of a handler. Any other string is invalid data.
+/// Converts a handler type to its track type. A string other than `vide`, `soun` and `sbtl` is invalid data.
 impl TryFrom<&str> for TrackType {
     ghost use Rattle.mp4_media.specs.Conversion.{IsConversion};
     ghost use Rattle.mp4_media.specs.TrackType.{track_type_of};
@@ -51,7 +51,7 @@ impl TryFrom<&str> for TrackType {
     }
 }
 
-/// The track type of a handler. Any other code is invalid data.
+/// Converts a handler type to its track type. A code other than `vide`, `soun` and `sbtl` is invalid data.
 impl TryFrom<&FourCC> for TrackType {
     ghost use Rattle.mp4_media.specs.Conversion.{IsConversion};
     ghost use Rattle.mp4_media.specs.TrackType.{track_type_of};
@@ -71,7 +71,7 @@ impl TryFrom<&FourCC> for TrackType {
     }
 }
 
-/// The handler of a track type.
+/// Converts a track type to its handler type.
 impl From<TrackType> for FourCC {
     ghost use Rattle.mp4_media.specs.TrackType.{handler_track_type};
 

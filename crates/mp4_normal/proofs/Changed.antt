@@ -1,11 +1,11 @@
--- What is made of a stream by its changes.
+-- The bytes of a stream after its changes.
 use Rattle.std.proofs.Common.{◌≡◌, ℕ, ◌+◌, ◌-◌, ◌≤◌, List, [], ◌∷◌, ◌++◌, length, refl, ap, sym, ◌∙◌, arith}
 use Rattle.std.proofs.Common.{append_assoc}
 use Rattle.mp4_normal.specs.declared.change.Change.{Change}
 use Rattle.mp4_normal.specs.Changes.{InOrder, made_from, part}
 use Rattle.mp4_normal.proofs.Parts.{part_joined, part_before}
 
--- bytes that follow the changes are kept
+-- bytes after the changes are kept
 pub made_more : (fresh stream : List ℕ) (growth at used gone more : ℕ) (begin from lost : ℕ) (cs : List Change)
     → InOrder growth at used gone begin from lost cs → at ≤ more
     → made_from fresh stream at begin from cs ++ part stream at more ≡ made_from fresh stream more begin from cs
@@ -33,7 +33,7 @@ order_more growth at used gone more begin from lost (c ∷ cs) h le = (
   order_more growth at used gone more c.end c.to (lost + (c.end - c.begin)) cs h.6 le,
 )
 
--- one change more, of the bytes from b to e
+-- one more change, of the bytes from `b` to `e`
 module _ (growth used gone : ℕ) (b e to : ℕ) where
   abbrev pub last : Change
   last = record { begin = b; end = e; to = to }

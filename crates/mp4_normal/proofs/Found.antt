@@ -1,9 +1,10 @@
--- What changes in a stream is found, one box after the other.
+-- The changes of a stream are found box by box.
 use Rattle.std.proofs.Common.{◌≡◌, ℕ, ◌<◌, ◌≤◌, Bool, true, false, ◌&&◌, List, [], ◌∷◌, ◌++◌, length, Result, Ok, Err}
-use Rattle.std.proofs.Common.{refl, ap, sym, subst, ◌∙◌, arith, inl, length-append}
+use Rattle.std.proofs.Common.{refl, ap, sym, subst, ◌∙◌, arith, inl}
 use Rattle.std.specs.Prelude.{nat_lt, not, All}
-use Rattle.std.proofs.lemmas.List.{flat_map_more, get_or_at, get_or_append_left}
-use Rattle.std.proofs.lemmas.List.Elements.{All-append, All-from_recursion}
+use Rattle.std.proofs.lemmas.List.{flat_map_more}
+use Rattle.std.proofs.lemmas.List.Elements.{All-from_recursion, All-push}
+use Rattle.mp4_lemmas.proofs.Lists.{all_before_last, last_of_all}
 use Rattle.mp4_frame.specs.Heads.{frame, name_in, end_in}
 use Rattle.mp4_frame.specs.Reading.{Fault, Refuses, FaultAs}
 use Rattle.mp4_frame.specs.Streams.{stream, boxes, box_of, append_read, reading_in}
@@ -20,12 +21,12 @@ use Rattle.mp4_normal.specs.Normal.{boxes_of, Normalizes, NormalRefuses}
 use Rattle.mp4_normal.specs.declared.change.Change.{Change}
 use Rattle.mp4_normal.specs.declared.change.Changes.{Changes}
 
--- if all boxes can be written, their bytes are made; else one of them can't be written
+-- the bytes of all boxes are made if all can be written; else one of them can't be written
 abbrev pub MadeIf : List KeptBox → List ℕ → Bool → Type 0
 MadeIf vs out true = All format_kept.Writable vs × (out ≡ stream format_kept.bytes vs)
 MadeIf vs out false = ¬ All format_kept.Writable vs
 
--- the boxes before `at` are read, and what changes in them is found
+-- the boxes before `at` are read, and their changes are found
 pub record SoFar (B : List ℕ) (c : Changes) (can : Bool) (at : ℕ) : Type 0 where
   pub vs : List KeptBox
   pub told : continue_with (nat_lt 0 (length vs)) vs (boxes known_kept reading_kept B at) ≡ boxes_of B
@@ -33,32 +34,18 @@ pub record SoFar (B : List ℕ) (c : Changes) (can : Bool) (at : ℕ) : Type 0 w
   pub before : AreBefore c (length c.fresh.items) at
   pub within : at ≤ length B
 
-all_more : {X : Type 0} (P : X → Type 0) (vs : List X) (v : X) → All P vs → P v → All P (vs ++ v ∷ [])
-all_more P vs v all p = All-append P vs (v ∷ []) all (All-from_recursion P (v ∷ []) (p, tt))
-
-longer : {X : Type 0} (vs : List X) (v : X) (k : ℕ) → k ≤ length vs → k < length (vs ++ v ∷ [])
-longer vs v k le = omega (arith, le, length-append vs (v ∷ []))
-
-front_of_all : {X : Type 0} (P : X → Type 0) (vs : List X) (v : X) → All P (vs ++ v ∷ []) → All P vs
-front_of_all P vs v all =
-    λ k d lt. subst P (get_or_append_left vs (v ∷ []) d k lt) (all k d (longer vs v k (omega (arith, lt))))
-
-last_of_all : {X : Type 0} (P : X → Type 0) (vs : List X) (v : X) → All P (vs ++ v ∷ []) → P v
-last_of_all P vs v all =
-    subst P (get_or_at vs v [] v (length vs) refl) (all (length vs) v (longer vs v (length vs) (omega arith)))
-
--- one box more
+-- one more box
 made_more : (vs : List KeptBox) (v : KeptBox) (old new : List ℕ) (can fits : Bool) → MadeIf vs old can
     → AppendsIf format_kept v old new fits → MadeIf (vs ++ v ∷ []) new (can && fits)
 made_more vs v old new true true h a = (
-  all_more format_kept.Writable vs v h.0 a.0,
+  All-push format_kept.Writable vs v h.0 a.0,
   a.1 ∙ ap (λ (l : List ℕ). l ++ format_kept.bytes v) h.1
       ∙ flat_map_more format_kept.bytes [] vs v,
 )
 made_more vs v old new true false h a = λ all. a (last_of_all format_kept.Writable vs v all)
-made_more vs v old new false fits h a = λ all. h (front_of_all format_kept.Writable vs v all)
+made_more vs v old new false fits h a = λ all. h (all_before_last format_kept.Writable vs v all)
 
--- the boxes in front are nothing to a fault
+-- the boxes in front do not affect a fault
 in_list_of : (vs : List KeptBox) (asks : Bool) (o : Result KeptBox Fault) (e : Error)
     → Refuses e (append_read [] (record { asks_memory = asks; outcome = o }))
     → Refuses e (append_read vs (record { asks_memory = asks; outcome = o }))
@@ -75,7 +62,7 @@ alone true (Ok xs) = refl
 alone false (Ok xs) = refl
 alone asks (Err k) = refl
 
--- no box is read yet
+-- at the beginning no box is read
 pub nothing_found : (B : List ℕ) (c : Changes) → c.list.items ≡ [] → AreBefore c (length c.fresh.items) 0
     → SoFar B c true 0
 nothing_found B c none before =
@@ -109,7 +96,7 @@ module _ (B : List ℕ) (c : Changes) (can : Bool) (at : ℕ) (so_far : SoFar B 
         inl (append_read_faults known_kept reading_kept B so_far.vs at f e (boxes_of B) lt is (ap not plain)
         (in_list_of so_far.vs r.asks_memory r.outcome e refused) so_far.told)
 
-    -- what changes in its box is found
+    -- the changes of its box are found
     pub one_more : (fits : Bool) (n : Changes) → f.begin ≡ at
         → OneMade format_kept (reading_in reading_kept B f) (made_of c B f.begin) (made_of n B (end_in f)) (Ok fits)
         → AreBefore n (length n.fresh.items) (end_in f) → end_in f ≤ length B → SoFar B n (can && fits) (end_in f)
@@ -133,7 +120,7 @@ module _ (B : List ℕ) (c : Changes) (at : ℕ) (over : length B ≤ at) where
   is_end : {can : Bool} → SoFar B c can at → at ≡ length B
   is_end so_far = omega (arith, over, so_far.within)
 
-  -- what changes in all boxes is found
+  -- the changes of all boxes are found
   pub all_found : SoFar B c true at → Normalizes B (made_of c B (length B))
   all_found so_far = (
     so_far.vs,

@@ -1,4 +1,4 @@
--- A box whose bytes are in normal form is kept as it is.
+-- A box whose bytes are in normal form is kept unchanged.
 use Rattle.std.proofs.Common.{◌≡◌, ℕ, ◌+◌, ◌-◌, ◌<◌, ◌≤◌, ◌++◌, ◌^◌, true, List, length, take, drop, Ok, sym, ap, ◌∙◌}
 use Rattle.std.proofs.Common.{arith}
 use Rattle.std.proofs.lemmas.List.{drop-drop, length-take-le, length-drop, take-append-drop}
@@ -22,7 +22,7 @@ module _ (S : List ℕ) (at end : ℕ) (order : at + 8 ≤ end) (within : end �
       (ap (λ (k : ℕ). drop k S) (sym is) ∙ sym (drop-drop n at S))
       ∙ ap (λ (l : List ℕ). take at S ++ l) (take-append-drop n (drop at S)) ∙ take-append-drop at S
 
-  -- it is read as a value with its bytes, and nothing changes
+  -- the box is read as a value with these bytes, and nothing changes
   pub box_kept : {A : Type 0} (format : Format A) (named_reading : BoxType → List ℕ → ℕ → ℕ → Reading A)
       → (v : A) × format.Writable v × (format.bytes v ≡ part S at end)
       × ReadsBack (named_reading (name_of (number (part S at end) 4 4))) (part S at end) v

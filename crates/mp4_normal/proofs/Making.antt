@@ -3,14 +3,14 @@ use Rattle.std.proofs.Common.{◌≡◌, ℕ, suc, ◌+◌, ◌-◌, ◌<◌, �
 use Rattle.std.proofs.Common.{subst, ◌∙◌, arith, append_assoc}
 use Rattle.std.specs.Prelude.{get_or}
 use Rattle.std.proofs.Math.Seq.{drop-cons}
-use Rattle.std.proofs.lemmas.List.{drop-drop}
+use Rattle.mp4_lemmas.proofs.Lists.{drop_both}
 use Rattle.mp4_normal.specs.declared.change.Change.{Change}
 use Rattle.mp4_normal.specs.declared.change.Changes.{Changes}
 use Rattle.mp4_normal.specs.declared.make.Made.{Made}
 use Rattle.mp4_normal.specs.Changes.{AreBefore, InOrder, made_from, made_of, part}
 use Rattle.mp4_normal.proofs.Parts.{part_of_end}
 
--- the changes before i are made, and the bytes of the stream S that follow them are where they were
+-- the changes before `i` are made, and the bytes of the stream `S` after them have not moved
 pub record SoMade (c : Changes) (S bytes : List ℕ) (m : Made) (i : ℕ) : Type 0 where
   pub lost : ℕ
   pub whole : take m.done bytes ++ made_from c.fresh.items S (length S) m.begin m.from (drop i c.list.items)
@@ -21,15 +21,7 @@ pub record SoMade (c : Changes) (S bytes : List ℕ) (m : Made) (i : ℕ) : Type
   pub fits : m.from ≤ lost + c.growth
   pub len : length bytes ≡ length S + c.growth
 
-pub drop_both : (xs ys : List ℕ) (a b k : ℕ) → drop a xs ≡ drop b ys → drop (a + k) xs ≡ drop (b + k) ys
-drop_both xs ys a b k same = sym (drop-drop k a xs) ∙ ap (drop k) same ∙ drop-drop k b ys
-
-pub drop_from : (xs ys : List ℕ) (o n : ℕ) → o ≤ n → drop o xs ≡ drop o ys → drop n xs ≡ drop n ys
-drop_from xs ys o n le same =
-    let is : o + (n - o) ≡ n = omega (arith, le) in
-    subst (λ (k : ℕ). drop k xs ≡ drop k ys) is (drop_both xs ys o o (n - o) same)
-
--- the change at an index, and those after it
+-- the change at an index, and the changes after it
 pub next_of : (cs : List Change) (i : ℕ) (x : Change) → i < length cs → x ≡ get_or cs i x
     → drop i cs ≡ x ∷ drop (i + 1) cs
 next_of cs i x lt is =
@@ -37,7 +29,7 @@ next_of cs i x lt is =
     drop-cons cs i x lt ∙ ap (λ (y : Change). y ∷ drop (suc i) cs) (sym is) ∙ ap (λ (k : ℕ). x ∷ drop k cs) next
 
 module _ (c : Changes) (S bytes : List ℕ) (m : Made) (i : ℕ) (so_made : SoMade c S bytes m i) where
-  -- what is made is not behind the stream's bytes
+  -- the bytes that are made end at or before the stream's bytes
   pub behind : m.done ≤ m.begin + c.growth
   behind = omega (arith, so_made.place, so_made.fits)
 
@@ -54,7 +46,7 @@ module _ (c : Changes) (S bytes : List ℕ) (m : Made) (i : ℕ) (so_made : SoMa
     pub within : x.end + c.growth ≤ length bytes
     within = omega (arith, order.2, so_made.len)
 
-    -- one change more
+    -- one more change
     module _ (after : List ℕ) (n : Made) (begins : n.begin ≡ x.end) (uses : n.from ≡ x.to)
         (is_done : n.done ≡ m.done + (x.begin - m.begin) + (x.to - m.from)) where
       whole_more : take n.done after
@@ -107,7 +99,7 @@ module _ (c : Changes) (S bytes : List ℕ) (m : Made) (i : ℕ) (so_made : SoMa
             len = len ∙ so_made.len;
           }
 
-  -- all are made
+  -- all changes are made
   module _ (none : drop i c.list.items ≡ []) where
     last : (m.begin ≤ length S) × (m.from ≡ length c.fresh.items) × (so_made.lost ≡ c.gone)
     last = subst (InOrder c.growth (length S) (length c.fresh.items) c.gone m.begin m.from so_made.lost) none
@@ -131,7 +123,7 @@ module _ (c : Changes) (S bytes : List ℕ) (m : Made) (i : ℕ) (so_made : SoMa
         (sym none)
         ∙ so_made.whole
 
--- nothing is made yet
+-- at the beginning no change is made
 pub none_made : (c : Changes) (bytes : List ℕ) (m : Made) → m.begin ≡ 0 → m.from ≡ 0 → m.done ≡ 0
     → c.growth ≤ length bytes → length (drop c.growth bytes) + c.growth ≡ length bytes
     → AreBefore c (length c.fresh.items) (length (drop c.growth bytes)) → SoMade c (drop c.growth bytes) bytes m 0

@@ -2,6 +2,7 @@
 use Rattle.std.proofs.Common.{◌≡◌, ℕ, ◌+◌, ◌-◌, ◌<◌, ◌≤◌, ◌^◌, Bool, true, false, List, [], ◌∷◌, ◌++◌, length, take}
 use Rattle.std.proofs.Common.{drop, Result, Ok, Err, refl, ap, sym, subst, arith, length-drop}
 use Rattle.std.specs.Prelude.{nat_lt, nat_le, ◌||◌, IfOk, IfErr}
+use Rattle.std.proofs.Math.Bool.{or-true}
 use Rattle.std.proofs.lemmas.Bool.{lt-ltb, le-leb}
 use Rattle.std.proofs.lemmas.List.{drop-drop, length-take-le}
 use Rattle.mp4_frame.specs.BoxType.{code_of}
@@ -20,18 +21,14 @@ use Rattle.mp4_stream.specs.AnyBox.{format_any, known_any, reading_any}
 use Rattle.mp4_stream.specs.KeptBox.{format_kept, reading_kept}
 use Rattle.mp4_stream.specs.Other.{is_typed}
 use Rattle.mp4_stream.specs.OtherBox.{content_other, reads_other, bytes_other, format_other, WritableOther}
-use Rattle.mp4_stream.specs.OtherBoxLaws.{sound_other}
+use Rattle.mp4_stream.specs.OtherBoxLaws.{stable_other}
 use Rattle.mp4_stream.specs.declared.kept_box.KeptBox.TheVariants as kept
 use Rattle.mp4_normal.specs.Changes.{AppendsIf, OneMade, other_at}
 
-or_true : (a : Bool) → (a || true) ≡ true
-or_true true = refl
-or_true false = refl
-
--- once a box is read, it is kept, which takes memory
+-- a box that is read is kept, which takes memory
 asks : {A : Type 0} (b : Bool) (o : Result A Fault) (v : A) → o ≡ Ok v
     → (append_read [] (record { asks_memory = b; outcome = o })).asks_memory ≡ true
-asks b (Ok w) v is = or_true b
+asks b (Ok w) v is = or-true b
 asks b (Err k) v is = absurd cc
 
 pub read_asks : {A : Type 0} (r : Reading A) (v : A) → r.outcome ≡ Ok v → (append_read [] r).asks_memory ≡ true
@@ -40,7 +37,7 @@ read_asks r v is = asks r.asks_memory r.outcome v is
 listed_asks : {A : Type 0} (b : Bool) (o : Result A Fault) (vs : List A)
     → (append_read [] (record { asks_memory = b; outcome = o })).outcome ≡ Ok vs
     → (append_read [] (record { asks_memory = b; outcome = o })).asks_memory ≡ true
-listed_asks b (Ok w) vs is = or_true b
+listed_asks b (Ok w) vs is = or-true b
 listed_asks b (Err k) vs is = absurd cc
 
 pub list_asks : {A : Type 0} (r : Reading A) (vs : List A) → (append_read [] r).outcome ≡ Ok vs
@@ -63,7 +60,7 @@ module _ {A C : Type 0} (wrap : A → C) where
   refused_wrapped b (Ok v) errors.IoError h = absurd cc
   refused_wrapped b (Ok v) (errors.InvalidData _) h = absurd cc
   refused_wrapped b (Ok v) (errors.BoxNotFound name) h = absurd cc
-  refused_wrapped b (Ok v) errors.OutOfMemory h = or_true (b || false)
+  refused_wrapped b (Ok v) errors.OutOfMemory h = or-true (b || false)
   refused_wrapped b (Ok v) _ h = absurd h
 
 module _ (code start size : ℕ) (B : List ℕ) (least : 8 ≤ size) (within : start + size ≤ length B) where
@@ -83,7 +80,7 @@ module _ (code start size : ℕ) (B : List ℕ) (least : 8 ≤ size) (within : s
   bytes_of_other = ap (λ (n : ℕ). bytes_of_fields ((4, n) ∷ (4, code) ∷ []) ++ take (size - 8) (drop (start + 8) B))
       (sym content_long)
 
-  -- it is read
+  -- the box is read
   other_is_read : (reads_other code (drop start B) start size).outcome ≡ Ok (other_at code B start size)
   unfolding content_other
   other_is_read =
@@ -92,12 +89,12 @@ module _ (code start size : ℕ) (B : List ℕ) (least : 8 ≤ size) (within : s
       (omega (arith, least, within, length-drop start B)) in
       rw (enough, present, drop-drop 8 start B) refl
 
-  -- it can be written
+  -- the box can be written
   pub other_is_writable : code < 2 ^ 32 → size < 2 ^ 32 → is_typed code ≡ false → AreBytes B
       → WritableOther (other_at code B start size)
   other_is_writable fits small untyped are =
-      (sound_other code fits untyped (drop start B) start size (other_at code B start size) (are_bytes-drop start B are)
-      other_is_read).1 (omega (arith, small, content_long))
+      (stable_other code fits untyped (drop start B) start size (other_at code B start size)
+      (are_bytes-drop start B are) other_is_read).1 (omega (arith, small, content_long))
 
   other_is_kept : (can : Bool) (old new : List ℕ) → AppendsIf format_other (other_at code B start size) old new can
       → AppendsIf format_kept (kept.Other (other_at code B start size)) old new can
@@ -106,7 +103,7 @@ module _ (code start size : ℕ) (B : List ℕ) (least : 8 ≤ size) (within : s
 
   module _ (name : BoxType) (is : code_of name ≡ code) (unknown : known_any name ≡ false)
       (top : start + size < 2 ^ 64) where
-    -- under a name that is none of a type of the codec it is read as a box that is kept
+    -- under a name that no type of the codec has, the box is read as a box that is kept
     other_is_kept_under : (reading_kept name B start size).outcome ≡ Ok (kept.Other (other_at code B start size))
     other_is_kept_under =
         let below : nat_lt (start + size) (2 ^ 64) ≡ true = lt-ltb (start + size) (2 ^ 64) top in
@@ -116,7 +113,7 @@ module _ (code start size : ℕ) (B : List ℕ) (least : 8 ≤ size) (within : s
         (λ (o : Result _ Fault).
         (and_then (reading (reads_other code) B start size).asks_memory o (λ v. done (kept.Other v))).outcome) read)
 
-    -- what changes in it is found
+    -- the changes of the box are found
     pub other_found : (old new : List ℕ) (result : Result Bool Error)
         → IfOk result (λ can. AppendsIf format_other (other_at code B start size) old new can)
         → IfErr result (λ e. e ≡ errors.OutOfMemory)

@@ -1,4 +1,4 @@
--- Parts of a list: next to one another, and of a list that goes on.
+-- Parts of a list: neighbours, and parts of a longer list.
 use Rattle.std.proofs.Common.{◌≡◌, ℕ, ◌+◌, ◌-◌, ◌≤◌, List, ◌++◌, length, take, drop, ap, sym, ◌∙◌, arith, length-append}
 use Rattle.std.proofs.Common.{length-drop}
 use Rattle.std.proofs.Math.Seq.{take-add}
@@ -14,13 +14,13 @@ part_joined xs b m e first second =
     ap (λ (l : List ℕ). part xs b m ++ take (e - m) l) after ∙ sym (take-add (m - b) (e - m) (drop b xs))
     ∙ ap (λ (n : ℕ). take n (drop b xs)) (sym long)
 
--- bytes that are appended are in no part before them
+-- appended bytes are in no part before them
 pub part_before : (xs more : List ℕ) (b e : ℕ) → b ≤ e → e ≤ length xs → part (xs ++ more) b e ≡ part xs b e
 part_before xs more b e order within =
     ap (take (e - b)) (drop-append-le b xs more (omega (arith, order, within)))
     ∙ take-append-le (e - b) (drop b xs) more (omega (arith, order, within, length-drop b xs))
 
--- they are the part after it
+-- appended bytes are the part after it
 pub part_after : (xs more : List ℕ) (b e : ℕ) → b ≡ length xs → e ≡ length (xs ++ more) → part (xs ++ more) b e ≡ more
 part_after xs more b e begin end =
     ap (take (e - b)) (drop_at xs more b (sym begin))

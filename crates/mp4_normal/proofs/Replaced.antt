@@ -1,26 +1,12 @@
--- The last new bytes replace bytes of the stream.
+-- The last new bytes replace a part of the stream.
 use Rattle.std.proofs.Common.{◌≡◌, ℕ, ◌+◌, ◌-◌, ◌≤◌, List, [], ◌∷◌, ◌++◌, length, take, drop, ap, sym, subst, ◌∙◌}
-use Rattle.std.proofs.Common.{arith, length-drop}
-use Rattle.std.specs.Prelude.{max}
-use Rattle.std.proofs.Math.Nat.{le-max_left, le-max_right}
-use Rattle.std.proofs.lemmas.List.{append-nil, take-append-drop, length-take-le, take_all}
+use Rattle.std.proofs.Common.{arith}
+use Rattle.std.proofs.lemmas.List.{append-nil, take-append-drop, length-take-le}
 use Rattle.mp4_normal.specs.declared.change.Change.{Change}
 use Rattle.mp4_normal.specs.declared.change.Changes.{Changes}
 use Rattle.mp4_normal.specs.Changes.{AreBefore, InOrder, made_from, part}
 use Rattle.mp4_normal.proofs.Parts.{part_after}
 use Rattle.mp4_normal.proofs.Changed.{made_more, order_more, made_one_more, order_one_more}
-
--- what a test of the new bytes has told
-pub same_rest : (xs ys zs : List ℕ) (from : ℕ) → ys ≡ xs → take (length ys - from) (drop from ys) ≡ zs
-    → drop from xs ≡ zs
-same_rest xs ys zs from is same = ap (drop from) (sym is)
-    ∙ sym (take_all (length ys - from) (drop from ys) (omega (arith, length-drop from ys))) ∙ same
-
-pub most_left : (a b m : ℕ) → m ≡ max a b → a ≤ m
-most_left a b m is = subst (λ (n : ℕ). a ≤ n) (sym is) (le-max_left a b)
-
-pub most_right : (a b m : ℕ) → m ≡ max a b → b ≤ m
-most_right a b m is = subst (λ (n : ℕ). b ≤ n) (sym is) (le-max_right a b)
 
 -- the changes before an offset are before any later one
 pub before_more : (c : Changes) (used at more : ℕ) → AreBefore c used at → at ≤ more → AreBefore c used more
@@ -35,7 +21,7 @@ module _ (c : Changes) (S : List ℕ) (from begin end : ℕ) (fits : from ≤ le
   long : length (take from c.fresh.items) ≡ from
   long = length-take-le from c.fresh.items fits
 
-  -- they are the same
+  -- the new bytes equal the old ones
   pub same_made : (n : List ℕ) → n ≡ take from c.fresh.items → drop from c.fresh.items ≡ part S begin end
       → made_from n S end 0 0 c.list.items ≡ made_from (take from c.fresh.items) S begin 0 0 c.list.items
       ++ drop from c.fresh.items
@@ -52,7 +38,7 @@ module _ (c : Changes) (S : List ℕ) (from begin end : ℕ) (fits : from ≤ le
       subst (λ (k : ℕ). InOrder c.growth end k c.gone 0 0 0 c.list.items) all
       (order_more c.growth begin from c.gone end 0 0 0 c.list.items before.order ordered)
 
-  -- they are others
+  -- the new bytes differ from the old ones
   module _ (to : ℕ) (all : to ≡ length c.fresh.items) where
     abbrev pub last : Change
     last = record { begin = begin; end = end; to = to }

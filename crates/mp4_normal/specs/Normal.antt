@@ -1,5 +1,5 @@
--- The normal form of a stream: its boxes, each in its normal form, those of types that the codec does not read as they
--- are.
+-- The normal form of a stream: its boxes, each in its normal form. Boxes of types that the codec does not read are
+-- unchanged.
 use Rattle.std.specs.Prelude.{◌≡◌, ℕ, List, All, Ok, Err, ◌⊎◌, ⊤}
 use Rattle.mp4_frame.specs.Reading.{Reading, Invalid, Refuses}
 use Rattle.mp4_frame.specs.Streams.{stream, boxes}
@@ -13,17 +13,17 @@ use Rattle.mp4_stream.specs.KeptBox.{format_kept, known_kept, reading_kept}
 abbrev pub boxes_of : List ℕ → Reading (List KeptBox)
 boxes_of B = boxes known_kept reading_kept B 0
 
--- the boxes of B can all be written, and out is their bytes
+-- the boxes of `B` can all be written, and `out` is their bytes
 abbrev pub Normalizes : List ℕ → List ℕ → Type 0
 Normalizes B out = (vs : List KeptBox) × ((boxes_of B).outcome ≡ Ok vs) × All format_kept.Writable vs
     × (out ≡ stream format_kept.bytes vs)
 
--- the boxes of B can't be read, or they are read and can't be written
+-- the boxes of `B` can't be read, or are read and can't be written
 abbrev pub NormalRefuses : List ℕ → Error → Type 0
 NormalRefuses B e = Refuses e (boxes_of B)
     ⊎ ((vs : List KeptBox) × ((boxes_of B).outcome ≡ Ok vs) × WriteRefuses (All format_kept.Writable vs) e)
 
--- `normal` may refuse B with the first fault of its boxes, with invalid data if a box that was read can't be written,
+-- `normal` may refuse `B` with the first fault of its boxes, with invalid data if a box that was read can't be written,
 -- and with out of memory
 abbrev pub NormalRefusal : List ℕ → Error → Type 0
 NormalRefusal B errors.OutOfMemory = ⊤

@@ -1,4 +1,4 @@
-//! What changes in a stream.
+//! The changes of a stream.
 
 ghost use Rattle.std.specs.Prelude.{◌≡◌, ◌≤◌, ◌++◌, [], length, take, drop, OnOk, IfErr};
 ghost use Rattle.mp4_frame.specs.declared.error.Error.TheVariants.{OutOfMemory};
@@ -7,32 +7,33 @@ ghost use Rattle.mp4_normal.specs.Changes.{AreBefore, made_from, made_of};
 use mp4_frame::Result;
 use std::alloc::Global;
 
-/// Bytes of a stream that give way to others.
+/// A part of a stream that new bytes replace.
 #[derive(Clone, Copy)]
 pub struct Change {
-    /// The offset of the first byte that gives way.
+    /// The offset of the first replaced byte.
     pub begin: usize,
-    /// The offset after the last one.
+    /// The offset after the last replaced byte.
     pub end: usize,
-    /// Where the new bytes end, among those of all changes. They begin where those of the change before end.
+    /// The end of the new bytes, as an offset in the new bytes of all changes. They begin where those of the change
+    /// before end.
     pub to: usize,
 }
 
-/// What changes in a stream, from left to right.
+/// The changes of a stream, from left to right.
 #[derive(Drop)]
 pub struct Changes {
     /// The new bytes of all changes.
     pub fresh: Vec<u8>,
     /// The changes.
     pub list: Vec<Change>,
-    /// The number of bytes that give way.
+    /// The number of replaced bytes.
     pub gone: usize,
-    /// How many new bytes there are at most more than bytes that gave way, after any number of the changes.
+    /// The largest excess of new bytes over replaced bytes, after any number of the changes.
     pub growth: usize,
 }
 
 impl Changes {
-    /// No changes.
+    /// Returns no changes.
     pub fn none(alloc: Global) -> Self
         ensures before { AreBefore result (length result.fresh.items) 0 }
         ensures list { result.list.items ≡ [] }
@@ -45,8 +46,8 @@ impl Changes {
         }
     }
 
-    /// Has the new bytes from `from` on replace the stream's from `begin` to `end`. If these are the same, nothing
-    /// changes. The only error is out of memory.
+    /// Replaces `stream[begin..end]` with the new bytes starting at `from`. If both are equal, nothing changes. The
+    /// only error is out of memory.
     pub fn replace(&mut self, stream: &[u8], from: usize, begin: usize, end: usize) -> Result<()>
         requires order { begin ≤ end }
         requires within { end ≤ length stream.now }

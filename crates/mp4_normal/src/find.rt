@@ -1,4 +1,4 @@
-//! The first walk over a stream: what changes in it.
+//! The first walk over a stream, which finds its changes.
 
 ghost use Rattle.std.specs.Prelude.{◌≡◌, ◌+◌, ◌<◌, ◌≤◌, ◌^◌, ◌++◌, ◌∷◌, [], false, length, IsTrue, MatchResult, OnOk};
 ghost use Rattle.std.specs.Prelude.{IfErr, IfOk};
@@ -28,7 +28,7 @@ fn are_bytes(bytes: &[u8])
     let _length = bytes.len();
 }
 
-/// Has the bytes of a box replace the stream's from `begin` to `end`. The only error is out of memory.
+/// Replaces `stream[begin..end]` with the encoding of `value`. The only error is out of memory.
 fn replace_by<B: WriteBox>(
     changes: &mut Changes,
     stream: &[u8],
@@ -50,7 +50,7 @@ fn replace_by<B: WriteBox>(
     changes.replace(stream, from, begin, end)
 }
 
-/// Has a header of 8 bytes replace the one in the stream from `begin` to `content`. The only error is out of memory.
+/// Replaces the header in `stream[begin..content]` with one of 8 bytes. The only error is out of memory.
 fn replace_header(
     changes: &mut Changes,
     stream: &[u8],
@@ -73,8 +73,8 @@ fn replace_header(
     changes.replace(stream, from, begin, content)
 }
 
-/// Finds what changes in the box of this frame and of another code: its header at most. Returns whether the box can be
-/// written. `name` is its name. The only error is out of memory.
+/// Finds the change of the box in `frame`, which has the name `name` and a type that the codec does not read: at most
+/// its header changes. Returns whether the box can be written. The only error is out of memory.
 fn find_in_other(changes: &mut Changes, stream: &[u8], name: BoxType, frame: &Frame) -> Result<bool>
     requires untyped { is_typed (code_of name) ≡ false }
     requires start { frame.now.begin ≤ frame.now.start }
@@ -104,7 +104,7 @@ fn find_in_other(changes: &mut Changes, stream: &[u8], name: BoxType, frame: &Fr
     Ok(true)
 }
 
-/// Whether the bytes of the box of this frame tell that it is in normal form.
+/// Returns whether the bytes of the box in `frame` show that it is in normal form.
 fn is_kept<B: StreamBox>(stream: &[u8], frame: &Frame) -> bool
     requires start { frame.now.begin ≤ frame.now.start }
     requires size { 8 ≤ frame.now.size }
@@ -117,8 +117,8 @@ fn is_kept<B: StreamBox>(stream: &[u8], frame: &Frame) -> bool
     frame.start == frame.begin && B::is_normal_form(&stream[begin..end])
 }
 
-/// Finds what changes in the box of this frame and of a type of the codec. Returns whether the box can be written.
-/// `name` is its name, and `slot` is where it is read to, unless its bytes tell that they are in normal form.
+/// Finds the change of the box in `frame`, which has the name `name` and a type of the codec. Returns whether the box
+/// can be written. The box is read into `slot`, unless its bytes show that they are in normal form.
 fn find_in_typed<B: StreamBox>(
     alloc: Global,
     changes: &mut Changes,
@@ -159,7 +159,7 @@ fn find_in_typed<B: StreamBox>(
     Ok(true)
 }
 
-/// Finds what changes in the box of this frame. Returns whether the box can be written.
+/// Finds the change of the box in `frame`. Returns whether the box can be written.
 fn find_in_box(
     alloc: Global,
     changes: &mut Changes,
@@ -185,8 +185,8 @@ fn find_in_box(
     }
 }
 
-/// What changes in a stream when it becomes that of its boxes in their normal form. Invalid data also if a box that was
-/// read can't be written.
+/// Returns the changes that turn `stream` into its boxes in normal form. Fails with the first fault of the boxes, with
+/// invalid data if a box that was read can't be written, and with out of memory.
 pub fn find_changes(alloc: Global, stream: &[u8]) -> Result<Changes>
     ensures answer { MatchResult result (λ c. Normalizes stream.now (made_of c stream.now (length stream.now)))
         (λ e. NormalRefuses stream.now e) }

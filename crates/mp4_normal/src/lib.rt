@@ -1,7 +1,7 @@
-//! The normal form of a stream of boxes, made in the bytes of the stream.
+//! For `mp4boxes` and the C library: the normal form of a stream of boxes, made in the bytes of the stream.
 //!
-//! A first walk reads every box, and notes the bytes that change. A second one changes them, and can't fail. So a
-//! stream that is refused stays as it was, and of what doesn't change nothing is copied.
+//! A first walk reads every box, and notes the bytes that change. A second walk changes them, and can't fail. So a
+//! refused stream stays as it was, and unchanged bytes are not copied.
 #![tactic(auto)]
 
 mod change;

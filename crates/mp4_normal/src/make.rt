@@ -1,4 +1,4 @@
-//! The second walk over a stream: the changes are made in its bytes.
+//! The second walk over a stream, which makes the changes in its bytes.
 
 ghost use Rattle.std.specs.Prelude.{◌≡◌, ◌+◌, ◌-◌, ◌≤◌, ◌++◌, length, take, drop, OnOk, OnErr, IfErr, vec_len};
 ghost use Rattle.mp4_frame.specs.declared.error.Error.TheVariants.{OutOfMemory};
@@ -7,18 +7,18 @@ ghost use Rattle.mp4_normal.specs.Changes.{AreBefore, made_of, part};
 use crate::change::{Change, Changes};
 use mp4_frame::{Result, write_zeros};
 
-/// How far the changes are made.
+/// The progress of making changes.
 #[derive(Clone, Copy)]
 pub struct Made {
-    /// The number of the stream's bytes that are done with.
+    /// The number of the stream's bytes that are done.
     begin: usize,
     /// The number of new bytes that are used.
     from: usize,
-    /// The number of bytes that are made.
+    /// The number of bytes of the result so far.
     done: usize,
 }
 
-/// Moves the bytes from `begin` to `end` to offset `to`, which is not behind them.
+/// Moves `bytes[begin..end]` to offset `to`, which is at most `begin`.
 fn move_back(bytes: &mut [u8], begin: usize, end: usize, to: usize)
     requires order { begin ≤ end }
     requires behind { to ≤ begin }
@@ -32,7 +32,7 @@ fn move_back(bytes: &mut [u8], begin: usize, end: usize, to: usize)
     }
 }
 
-/// Puts bytes at offset `at`.
+/// Copies `fresh` into `bytes` at offset `at`.
 fn put_at(bytes: &mut [u8], at: usize, fresh: &[u8])
     requires room { at + length fresh.now ≤ length bytes.old }
     ensures put { take (at + length fresh.now) bytes.new ≡ take at bytes.old ++ fresh.now }
@@ -42,7 +42,8 @@ fn put_at(bytes: &mut [u8], at: usize, fresh: &[u8])
     bytes[at..at + fresh.len()].copy_from_slice(fresh);
 }
 
-/// Lengthens the vector, with its bytes at its end. After an `Err`, which is out of memory, it is as it was.
+/// Lengthens `bytes` by `growth`, and moves its old bytes to its end. After an `Err`, which is out of memory, it is as
+/// it was.
 fn make_room(bytes: &mut Vec<u8>, growth: usize) -> Result<()>
     ensures moved { OnOk result (drop growth bytes.new.items ≡ bytes.old.items) }
     ensures len { OnOk result (vec_len bytes.new ≡ vec_len bytes.old + growth) }
@@ -57,9 +58,8 @@ fn make_room(bytes: &mut Vec<u8>, growth: usize) -> Result<()>
     Ok(())
 }
 
-/// Makes one change: the stream's bytes before it move to what is made, and the new bytes follow. The stream's bytes
-/// are
-/// `growth` behind their offsets.
+/// Makes one change: the stream's bytes before it move to the end of the result, and the new bytes follow. In `bytes`,
+/// each byte of the stream is at its offset plus `growth`.
 fn make_change(bytes: &mut [u8], fresh: &[u8], growth: usize, made: Made, change: Change) -> Made
     requires begin { made.begin ≤ change.begin }
     requires end { change.begin ≤ change.end }
@@ -86,8 +86,8 @@ fn make_change(bytes: &mut [u8], fresh: &[u8], growth: usize, made: Made, change
     }
 }
 
-/// Makes all changes in the bytes of a stream, and moves its last bytes to what is made. Returns how many bytes are
-/// made. The stream is at the end of the bytes.
+/// Makes all changes in a stream that is at the end of `bytes`, and moves its last bytes to the result. Returns the
+/// length of the result.
 fn make_all(bytes: &mut [u8], changes: &Changes) -> usize
     requires room { changes.now.growth ≤ length bytes.old }
     requires before { AreBefore changes.now (length changes.now.fresh.items)
@@ -112,7 +112,7 @@ fn make_all(bytes: &mut [u8], changes: &Changes) -> usize
     made.done + (end - begin)
 }
 
-/// Makes the changes of a stream in its vector. After an `Err`, which is out of memory, it is as it was.
+/// Makes `changes` in the stream `bytes`. After an `Err`, which is out of memory, `bytes` is as it was.
 pub fn make(bytes: &mut Vec<u8>, changes: &Changes) -> Result<()>
     requires before { AreBefore changes.now (length changes.now.fresh.items) (length bytes.old.items) }
     ensures made { OnOk result (bytes.new.items ≡ made_of changes.now bytes.old.items (length bytes.old.items)) }

@@ -8,12 +8,12 @@ use crate::make::make;
 use mp4_stream::Result;
 use std::alloc::Global;
 
-/// The stream in the vector becomes that of its boxes in their normal form, boxes of types that the codec does not read
-/// as they are. An error is the first fault, invalid data also if a box that was read can't be written, or out of
+/// Turns the stream in `bytes` into its boxes in normal form. Boxes of types that the codec does not read are
+/// unchanged. Fails with the first fault, with invalid data if a box that was read can't be written, and with out of
 /// memory. After an `Err` the vector is as it was.
 ///
-/// The bytes that change are made first, and then put into the vector. It grows only if what is made of some first
-/// boxes is longer than they were.
+/// The bytes that change are made first, and then put into the vector. The vector grows only if the result of some
+/// first boxes is longer than these boxes were.
 pub fn normalize(alloc: Global, bytes: &mut Vec<u8>) -> Result<()>
     ensures answer { MatchResult result (λ _. Normalizes bytes.old.items bytes.new.items)
         (λ e. NormalRefuses bytes.old.items e) }
@@ -23,7 +23,7 @@ pub fn normalize(alloc: Global, bytes: &mut Vec<u8>) -> Result<()>
     make(bytes, &changes)
 }
 
-/// The same of a copy of the stream, which is made once all boxes are read and can be written.
+/// Returns the normal form of the stream `bytes`, in a copy that is made once all boxes are read and can be written.
 pub fn normal_form(alloc: Global, bytes: &[u8]) -> Result<Vec<u8>>
     ensures { MatchResult result (λ out. Normalizes bytes.now out.items) (λ e. NormalRefuses bytes.now e) }
 {

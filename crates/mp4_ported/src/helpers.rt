@@ -1,6 +1,5 @@
-//! Checks that the tests of boxes share. A check that succeeds has found what it expected: its contract says what that
-//! is, over the definitions. A check that fails returns what it found and what it expected, or the error of a call that
-//! was expected to succeed.
+//! Checks that the tests of boxes share. The contract of a check states, over the definitions, what holds if it
+//! succeeds. If it fails, it returns what it found and expected, or the error of a call that should have succeeded.
 
 ghost use Rattle.std.specs.Prelude.{◌≡◌, ℕ, ◌-◌, ◌^◌, ◌<◌, ◌≤◌, [], ◌∷◌, All, min, max, length, IfOk, OnOk, OnErr};
 ghost use Rattle.mp4_frame.specs.Reading.{Answers, reading};
@@ -18,8 +17,8 @@ use mp4_stream::{BoxHeader, BoxLaws, ByteCursor, Error, ReadBox, WriteBox};
 pub use outcomes::{Kind, debug_text, invalid_text, kind_of};
 use std::alloc::Global;
 
-/// Reads the box at the front of a buffer, after its header of 8 bytes, with this size. Returns the result and the
-/// position of the cursor after the call.
+/// Reads the box at the front of `bytes`, after its header of 8 bytes, as a box of the size `size`. Returns the result
+/// and the position of the cursor after the call.
 pub fn read<B: ReadBox + Drop>(alloc: Global, bytes: &[u8], size: u64) -> (Result<B, Error>, u64)
     ensures answer { Answers result.0 (reading B.reads bytes.now 0 size) }
     ensures moved { OnOk result.0 (result.1 ≡ max B.LEAST size) }
@@ -31,8 +30,8 @@ pub fn read<B: ReadBox + Drop>(alloc: Global, bytes: &[u8], size: u64) -> (Resul
     (result, reader.position())
 }
 
-/// Expects a result of this kind from reading a box of this size. After an `Ok` the cursor is at the end of the box,
-/// and after an error it is where it was.
+/// Expects that reading a box of the size `size` from `bytes` has a result of the kind `expected`. After an `Ok` the
+/// cursor is at the end of the box, and after an error it has not moved.
 pub fn expect_kind<B: ReadBox + Drop>(
     alloc: Global,
     bytes: &[u8],
@@ -47,7 +46,8 @@ pub fn expect_kind<B: ReadBox + Drop>(
     expect_position(position, if expected == Kind::Ok { size } else { 8 })
 }
 
-/// Expects that a box of this size is read as the value, and that the cursor is then at the end of the box.
+/// Expects that a box of the size `size` is read from `bytes` as `value`, and that the cursor is then at the end of the
+/// box.
 pub fn expect_value<B: BoxLaws + PartialEq + Drop>(
     alloc: Global,
     value: &B,
@@ -60,8 +60,8 @@ pub fn expect_value<B: BoxLaws + PartialEq + Drop>(
     expect_value_to(alloc, value, bytes, size, size)
 }
 
-/// Expects that a box of this size is read as the value, and that the cursor is then at `end`: after the size, or after
-/// the bytes that a box has at least.
+/// Expects that a box of the size `size` is read from `bytes` as `value`, and that the cursor is then at `end`. This is
+/// the larger of `size` and the least size of the type.
 pub fn expect_value_to<B: BoxLaws + PartialEq + Drop>(
     alloc: Global,
     value: &B,
@@ -83,8 +83,8 @@ pub fn expect_value_to<B: BoxLaws + PartialEq + Drop>(
     }
 }
 
-/// Expects that a box is written in `size` bytes, which begin with its header, and is read back from them. Returns the
-/// bytes.
+/// Expects that `value` is written as `size` bytes, which begin with its header, and is read back from them. Returns
+/// the bytes.
 pub fn expect_written<B: BoxLaws + PartialEq + Drop>(
     alloc: Global,
     value: &B,
@@ -111,7 +111,7 @@ pub fn expect_written<B: BoxLaws + PartialEq + Drop>(
     Ok(out)
 }
 
-/// Expects that a box is written in these bytes, and read back from them.
+/// Expects that `value` is written as `bytes`, and read back from them.
 pub fn expect_round_trip<B: BoxLaws + PartialEq + Drop>(
     alloc: Global,
     value: &B,
@@ -129,7 +129,7 @@ pub fn expect_round_trip<B: BoxLaws + PartialEq + Drop>(
     }
 }
 
-/// Expects that a box is written in these bytes, and that its normal form is read back from them.
+/// Expects that `value` is written as `bytes`, and that its normal form `normal` is read back from them.
 pub fn expect_normal_form<B: BoxLaws + PartialEq + Drop>(
     alloc: Global,
     value: &B,
@@ -148,7 +148,7 @@ pub fn expect_normal_form<B: BoxLaws + PartialEq + Drop>(
     expect_value(alloc, normal, bytes, bytes.len() as u64)
 }
 
-/// Expects that writing a box is invalid data, and leaves the vector as it was.
+/// Expects that writing `value` is invalid data, and leaves the vector unchanged.
 pub fn expect_unwritable<B: WriteBox>(alloc: Global, value: &B) -> Result<(), Mismatch>
     ensures { OnOk result (¬ B.format.Writable value.now) }
 {
@@ -165,7 +165,7 @@ pub fn expect_unwritable<B: WriteBox>(alloc: Global, value: &B) -> Result<(), Mi
     }
 }
 
-/// Expects that a box has this size, and that writing it is invalid data and leaves the vector as it was.
+/// Expects that `value` has the size `size`, and that writing it is invalid data and leaves the vector unchanged.
 pub fn expect_unwritable_of_size<B: WriteBox>(
     alloc: Global,
     value: &B,
@@ -178,8 +178,8 @@ pub fn expect_unwritable_of_size<B: WriteBox>(
     expect_unwritable(alloc, value)
 }
 
-/// Cuts the bytes of a box at every length. Expects end of input where fewer than `needed` bytes are left, and the box
-/// where `needed` or more are left.
+/// Cuts the bytes of `value` at every length. Expects end of input if fewer than `needed` bytes are left, and `value`
+/// if at least `needed` are left.
 pub fn expect_end_at_cuts_below<B: BoxLaws + PartialEq + Drop>(
     alloc: Global,
     value: &B,
@@ -206,7 +206,8 @@ pub fn expect_end_at_cuts_below<B: BoxLaws + PartialEq + Drop>(
     Ok(())
 }
 
-/// Expects that the bytes of a box are read as the box with any size: 0, 7, its own, and the largest.
+/// Expects that the bytes of `value` are read as `value` with each of the sizes 0, 7, the number of bytes, and 2^64 -
+/// 1.
 pub fn expect_value_at_any_size<B: BoxLaws + PartialEq + Drop>(
     alloc: Global,
     value: &B,
@@ -224,8 +225,8 @@ pub fn expect_value_at_any_size<B: BoxLaws + PartialEq + Drop>(
     Ok(())
 }
 
-/// Expects that the bytes of a box are invalid data with a size of 0 or 7, and are read as the box with the largest
-/// size.
+/// Expects that the bytes of `value` are invalid data with a size of 0 or 7, and are read as `value` with the size 2^64
+/// - 1.
 pub fn expect_invalid_at_small_sizes<B: BoxLaws + PartialEq + Drop>(
     alloc: Global,
     value: &B,

@@ -1,5 +1,5 @@
-//! The tests of the Rust crate `mp4` 0.14.0, and what all tests of the codec share: boxes with the bytes that they are
-//! written in, two vectors of each type, and checks of a box.
+//! For maintainers: the tests of the Rust crate `mp4` 0.14.0, and the parts that all tests of the codec share. These
+//! parts are boxes with their bytes, two vectors of each type, and checks of a box.
 #![tactic(auto)]
 
 pub mod boxes;

@@ -1,4 +1,4 @@
-//! Boxes whose bytes are known: what a vector is, and two vectors of each type.
+//! The trait of a vector, and two vectors of each type.
 
 mod first;
 mod second;
@@ -8,12 +8,11 @@ use mp4_stream::{AnyBox, Result};
 pub use second::{SECOND_VECTORS, Second};
 use std::alloc::Global;
 
-/// A box, and the bytes that it is written in. They are worked out from the layout table, and are not what this codec
-/// writes.
+/// A box with its bytes. The bytes are computed from the layout table, and not with this codec.
 pub trait Vector: Copy {
-    /// The bytes that the box is written in.
+    /// Returns the bytes to which the box is written.
     fn bytes(self) -> &'static [u8];
 
-    /// The box.
+    /// Returns the box.
     fn make(self, alloc: Global) -> Result<AnyBox>;
 }

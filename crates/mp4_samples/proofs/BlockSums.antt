@@ -1,4 +1,4 @@
--- The bytes before a sample, by the sums of the blocks before it.
+-- The bytes before a sample, from the sum over the blocks before it.
 use Rattle.std.proofs.Common.{◌≡◌, ℕ, ◌+◌, ◌-◌, ◌*◌, ◌/◌, ◌<◌, ◌≤◌, ◌^◌, inl, inr, length, sym, subst, arith}
 use Rattle.std.proofs.lemmas.Bool.{cases_lt}
 use Rattle.mp4_tables.specs.declared.stsz.StszBox.{StszBox}
@@ -24,7 +24,7 @@ before_fits z k le fits =
     let part = bytes_within z 0 k z.sample_count (omega arith) in
     omega (arith, part, fits)
 
--- the bytes of all samples, where tables agree
+-- The bytes of all samples of tables that agree fit 64 bits.
 pub all_fit : (t : Tables) → AreConsistent t → bytes_of t.stsz.now 0 (sample_count t) < 2 ^ 64
 all_fit t c = elim (cases_lt 0 (length (offsets_of t.chunk_offsets))) [
   | inl lt ↦
@@ -40,7 +40,7 @@ all_fit t c = elim (cases_lt 0 (length (offsets_of t.chunk_offsets))) [
       subst (λ (n : ℕ). bytes_of t.stsz.now 0 n < 2 ^ 64) (sym empty) small
 ]
 
--- what the blocks come to
+-- The sum with one more block.
 pub more_blocks : (z : StszBox) (b : ℕ)
     → bytes_of z 0 ((b + 1) * 64) ≡ bytes_of z 0 (b * 64) + bytes_of z (b * 64) ((b + 1) * 64 - b * 64)
 more_blocks z b = two_parts z (b * 64) ((b + 1) * 64) (omega arith)

@@ -25,7 +25,7 @@ bytes_next z first k le =
     let here : first + (k - first) ≡ k = omega arith in
     rw here at (bytes_more z first (k - first) (k + 1 - first) (omega arith))
 
--- one run after the other
+-- The bytes of samples and of those after them.
 pub bytes_split : (z : StszBox) (a n m : ℕ) → bytes_of z a (n + m) ≡ bytes_of z a n + bytes_of z (a + n) m
 bytes_split z a n zero =
     let none = bytes_zero z (a + n) in
@@ -49,22 +49,6 @@ bytes_within z first m n le =
     let here : 0 + first ≡ first = omega arith in
     let one' : bytes_of z 0 (first + m) ≡ bytes_of z 0 first + bytes_of z first m = rw here at one in
     omega (arith, one', two')
-
-pub bytes_alike : (z : StszBox) (n : ℕ) → (z.sample_size ≡ 0 → ⊥) → bytes_of z 0 n ≡ n * z.sample_size
-bytes_alike z zero some =
-    let none = bytes_zero z 0 in
-    omega (arith, none)
-bytes_alike z (suc n) some =
-    let rest = bytes_alike z n some in
-    let more = bytes_more z 0 n (suc n) (omega arith) in
-    let no = ne_eqb z.sample_size 0 some in
-    let size : size_of z (0 + n) ≡ z.sample_size = rw no refl in
-    omega (arith, rest, more, size)
-
-pub listed_size : (z : StszBox) (i : ℕ) → z.sample_size ≡ 0 → size_of z (0 + i) ≡ get_or z.sample_sizes i 0
-listed_size z i none =
-    let here : 0 + i ≡ i = omega arith in
-    rw (none, here) refl
 
 pub listed_at : (z : StszBox) (k : ℕ) → z.sample_size ≡ 0 → size_of z k ≡ get_or z.sample_sizes k 0
 listed_at z k none = rw none refl

@@ -1,4 +1,4 @@
--- The place of each entry of stsc, and the entry that holds a sample.
+-- The place at each entry of stsc, and the entry that holds a sample.
 use Rattle.std.proofs.Common.{◌≡◌, ℕ, zero, suc, ◌+◌, ◌-◌, ◌<◌, ◌≤◌, inl, inr, true, List, [], ◌∷◌, drop, length}
 use Rattle.std.proofs.Common.{get_or, refl, arith}
 use Rattle.std.proofs.lemmas.Bool.{cases_lt, ltb-true, and_parts}
@@ -16,7 +16,7 @@ use Rattle.mp4_samples.proofs.Found.{holds}
 abbrev pub entry : List StscEntry → ℕ → StscEntry
 entry es i = get_or es i no_entry
 
--- the place at the first chunk of entry i
+-- The place at the first chunk of entry `i`.
 abbrev pub place : List StscEntry → ℕ → ChunkPlace
 place es i = record { chunk = (entry es i).first_chunk; entry = entry es i; run = i + 1 }
 
@@ -48,7 +48,7 @@ module _ (es : List StscEntry) (order : chunks_increase 0 es ≡ true) where
 
   module _ (chunks : ℕ) (befores : List ℕ) (a : AreBefores es chunks befores) (k n : ℕ) (at : IsCountAtMost befores k n)
       (held : k < samples_through es chunks) where
-    -- the entry after n begins after `last`
+    -- Entry `n`, which is the next one after the place, begins after chunk `last`.
     later : (p : ChunkPlace) (last : ℕ) → p.run ≡ n → GoesBy es p
         → (n < length befores → last ≡ (entry es n).first_chunk - 1) → (length befores ≤ n → last ≡ chunks)
         → (p.chunk ≤ chunks) → (chunks_increase last (drop p.run es) ≡ true) × (p.chunk ≤ last) × (last ≤ chunks)
@@ -92,7 +92,7 @@ module _ (es : List StscEntry) (order : chunks_increase 0 es ≡ true) where
           ]
     ]
 
-    -- no entry begins at sample k or before it
+    -- No entry begins at sample `k` or before it.
     pub holds_first : (last : ℕ) → n ≡ 0 → (n < length befores → last ≡ (entry es n).first_chunk - 1)
         → (length befores ≤ n → last ≡ chunks)
         → Holds es chunks k (record { place = front; last = last; before = 0 })

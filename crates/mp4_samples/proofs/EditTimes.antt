@@ -1,5 +1,5 @@
--- Edits one after the other, and what an edit shows.
-use Rattle.std.proofs.Common.{◌≡◌, ℕ, zero, suc, ◌+◌, ◌-◌, ◌<◌, ◌≤◌, ◌^◌, inl, inr, true, false, List, length, refl, ap}
+-- The order of edits, and what an edit shows.
+use Rattle.std.proofs.Common.{◌≡◌, ℕ, ◌+◌, ◌-◌, ◌<◌, ◌≤◌, ◌^◌, inl, inr, true, false, List, length, refl, ap}
 use Rattle.std.proofs.Common.{arith, mul-le-mul_left, mul-lt-mul_of_pos_right}
 use Rattle.std.proofs.Math.Seq.{take-length}
 use Rattle.std.proofs.lemmas.Bool.{cases_order, cases_lt, ne_eqb}
@@ -7,6 +7,7 @@ use Rattle.std.proofs.lemmas.List.Sums.{sum_by_more, sum_by_more_le}
 use Rattle.mp4_tables.specs.declared.elst_entry.ElstEntry.{ElstEntry}
 use Rattle.mp4_samples.specs.Edits.{EditList, AreEdits, durations_before, begin_of, edit_in, no_edit, edit_at, is_open}
 use Rattle.mp4_samples.specs.Edits.{is_empty_edit, is_dwell, movie_ticks, media_ticks, Lasts, Covers, Shows, Presents}
+use Rattle.mp4_samples.proofs.Rising.{rising}
 
 pub nothing_before : (es : List ElstEntry) → durations_before es 0 ≡ 0
 unfolding durations_before
@@ -24,26 +25,19 @@ through_le es k lt =
     let all = sum_by_more_le (λ (e : ElstEntry). e.segment_duration) es k no_edit lt in
     rw take-length all
 
--- a later edit begins no sooner than this one ends
-pub ends_before : (es : List ElstEntry) (j n : ℕ) → j + n < length es
-    → durations_before es (j + 1) ≤ durations_before es (j + n + 1)
-ends_before es j zero lt =
-    let same : j + zero ≡ j = omega arith in
-    rw same (omega arith)
-ends_before es j (suc n) lt =
-    let rest = ends_before es j n (omega arith) in
-    let next = next_edit es (j + n + 1) (omega arith) in
-    let same : j + suc n ≡ j + n + 1 = omega arith in
-    rw same (omega (arith, rest, next))
+-- A later edit begins no sooner than an earlier one.
+pub begin_le : (es : List ElstEntry) (j k : ℕ) → j ≤ k → k ≤ length es → durations_before es j ≤ durations_before es k
+begin_le es j k le within =
+    rising (durations_before es) (length es) (λ n lt. omega (arith, next_edit es n lt)) j k le within
 
--- what lasts no longer has a duration
+-- An edit that has ended has a duration.
 pub ended : (l : EditList) (k p : ℕ) → ¬ Lasts l k p → movie_ticks l (edit_at l k).segment_duration ≤ p
 ended l k p past = elim (cases_lt p (movie_ticks l (edit_at l k).segment_duration)) [
   | inl lt ↦ absurd (past (λ _. lt))
   | inr le ↦ le
 ]
 
--- and then the next one begins
+-- The next edit begins when an edit has ended.
 pub next_begun : (l : EditList) (k t : ℕ) → k < length l.entries → movie_ticks l (begin_of l k) ≤ t
     → ¬ Lasts l k (t - movie_ticks l (begin_of l k)) → movie_ticks l (begin_of l (k + 1)) ≤ t
 next_begun l k t within begun past =
@@ -61,15 +55,13 @@ not_before l j k t a b lt =
     let within = b.within in
     let lasts = a.lasts (not_last l j k lt within) in
     let next = next_edit l.entries j (omega arith) in
-    let later = ends_before l.entries j (k - j - 1) (omega arith) in
-    let place : j + (k - j - 1) + 1 ≡ k = omega arith in
-    let later' : durations_before l.entries (j + 1) ≤ durations_before l.entries k = rw place at later in
-    let later'' : durations_before l.entries j + (edit_at l j).segment_duration ≤ durations_before l.entries k =
-    omega (arith, next, later') in
-    let ticks = mul-le-mul_left l.media_timescale later'' in
+    let later = begin_le l.entries (j + 1) k (omega arith) (omega arith) in
+    let later' : durations_before l.entries j + (edit_at l j).segment_duration ≤ durations_before l.entries k =
+    omega (arith, next, later) in
+    let ticks = mul-le-mul_left l.media_timescale later' in
     omega (arith, ticks, lasts, a.begun, b.begun)
 
--- one edit alone lasts at a time
+-- Only one edit covers each time.
 pub one_edit : (l : EditList) (j k t : ℕ) → Covers l j t → Covers l k t → j ≡ k
 one_edit l j k t a b = elim (cases_order j k) [
   | inl same ↦ same
@@ -79,7 +71,7 @@ one_edit l j k t a b = elim (cases_order j k) [
   ]
 ]
 
--- what an edit that plays shows
+-- The tick of the media that an edit shows if it is not a dwell.
 pub playing : (l : EditList) (k t x : ℕ) → is_dwell (edit_at l k) ≡ false → Shows l k t x
     → x ≡ media_ticks l (edit_at l k).media_time + (t - movie_ticks l (begin_of l k))
 playing l k t x plays s = rw plays at s.media
@@ -130,7 +122,7 @@ presents_no_more l k c some plays le past t s =
     let same : t - movie_ticks l (begin_of l k) ≡ media_ticks l (c - (edit_at l k).media_time) = omega (arith, at) in
     past (rw same at s.covers.lasts)
 
--- what is shown at a time that an edit covers
+-- Nothing is shown at a time that an empty edit covers.
 pub nothing_shown : (l : EditList) (k t : ℕ) → Covers l k t → is_empty_edit l.long (edit_at l k) ≡ true → (j x : ℕ)
     → ¬ Shows l j t x
 nothing_shown l k t covers empty j x s =
@@ -155,7 +147,7 @@ past_media l k t covers plays past j x s =
     let shown = playing l k t x plays s' in
     omega (arith, shown, s'.exists, past)
 
--- an edit begins at a number of 64 bits, and ends at one
+-- The begin and the end of an edit fit 64 bits.
 pub fits_next : (l : EditList) (k : ℕ) → AreEdits l → k < length l.entries
     → begin_of l k + (edit_at l k).segment_duration < 2 ^ 64
 fits_next l k are within =

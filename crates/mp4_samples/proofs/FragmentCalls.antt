@@ -1,4 +1,4 @@
--- What a call of the iterator over a fragment gives, which found it before sample j of run r.
+-- The result of a call of the iterator over a fragment, which is before sample `j` of run `r`.
 use Rattle.std.proofs.Common.{◌≡◌, ℕ, ◌+◌, ◌-◌, ◌<◌, Bool, true, false, length, Result, Ok, Err, refl, ap, subst, sym}
 use Rattle.std.proofs.Common.{◌∙◌, arith}
 use Rattle.std.specs.Prelude.{Some, ⊤}
@@ -6,14 +6,14 @@ use Rattle.std.specs.Iterator.{MakesProgress, at_most}
 use Rattle.mp4_samples.specs.declared.sample.Sample.{Sample}
 use Rattle.mp4_samples.specs.declared.fragment.Fragment.{Fragment}
 use Rattle.mp4_samples.specs.declared.fragment_fault.FragmentFault.{FragmentFault}
-use Rattle.mp4_samples.specs.Fragments.{IsSampleOfRun, Faults, samples_of_runs, run_at}
+use Rattle.mp4_samples.specs.Fragments.{IsSampleOfRun, samples_of_runs, run_at}
 use Rattle.mp4_samples.specs.FragmentGives.{FragmentProgress, GivesFragmentSample, fragment_samples_left, sample_total}
 use Rattle.mp4_samples.proofs.Fragments.{room}
 
 abbrev pub at : Fragment → ℕ → ℕ → Bool → FragmentProgress
 at f r j e = record { fragment = f; run = r; index = j; ended = e }
 
--- where a call began that found the iterator not at its end
+-- The progress at the start of a call, if the iterator has not ended.
 pub began : (f : Fragment) (r j : ℕ) (e : Bool) (s : FragmentProgress) → at f r j e ≡ s → e ≡ false → at f r j false ≡ s
 began f r j e s is going = ap (λ (e : Bool). at f r j e) (sym going) ∙ is
 
@@ -30,13 +30,6 @@ module _ (f : Fragment) (s : FragmentProgress) (r0 j0 r j : ℕ) (is : at f r0 j
       let more : samples_of_runs f r' + j' ≡ samples_of_runs f r0 + j0 + 1 = omega (arith, runs, number, next) in
       subst (λ (s : FragmentProgress). GivesFragmentSample s (Some (Ok x)) (at f r' j' e)) is
       (refl, (r, j, number, sample), refl, more, going)
-
-  pub faulted : (e : FragmentFault) → Faults f (samples_of_runs f r + j) e
-      → GivesFragmentSample s (Some (Err e)) (at f r j true)
-  faulted e fault =
-      let fault' = subst (λ (n : ℕ). Faults f n e) number fault in
-      subst (λ (s : FragmentProgress). GivesFragmentSample s (Some (Err e)) (at f r j true)) is
-      (refl, fault', refl, refl)
 
   module _ (lt : r < length f.runs.now) (left : j < (run_at f r).sample_count) where
     pub comes_on : (x : Sample) (r' j' : ℕ) (e : Bool) → r' ≡ r → j' ≡ j + 1 → e ≡ false

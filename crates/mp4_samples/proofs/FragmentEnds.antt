@@ -1,4 +1,4 @@
--- The bytes of a run, by the sizes that it lists.
+-- The bytes of a run, from the sizes that it lists.
 use Rattle.std.proofs.Common.{◌≡◌, ℕ, zero, suc, ◌+◌, ◌-◌, ◌*◌, ◌≤◌, min, length, inl, inr, arith}
 use Rattle.std.proofs.lemmas.Bool.{cases_lt}
 use Rattle.std.proofs.lemmas.List.{get_or_past}
@@ -7,7 +7,7 @@ use Rattle.mp4_samples.specs.declared.fragment.Fragment.{Fragment}
 use Rattle.mp4_samples.specs.Fragments.{bytes_before, default_size, size_in}
 use Rattle.mp4_samples.proofs.Fragments.{bytes_more}
 
--- past the sizes that are listed each sample has the default
+-- Each sample past the listed sizes has the default size.
 past : (f : Fragment) (t : TrunBox) (m k : ℕ) → length t.sample_sizes ≤ m
     → bytes_before f t (m + k) ≡ bytes_before f t m + k * default_size f
 past f t m zero le = let same : m + 0 ≡ m = omega arith in rw same (omega arith)

@@ -1,5 +1,5 @@
--- Samples of a fragment one after the other, in their run and in time.
-use Rattle.std.proofs.Common.{◌≡◌, ℕ, ℤ, Bool, zero, suc, pos, ◌+◌, ◌+ℤ◌, ◌-◌, ◌<◌, ◌≤◌, ◌⊎◌, inl, inr, length, get_or}
+-- The order of the samples of a fragment, in their run and in time.
+use Rattle.std.proofs.Common.{◌≡◌, ℕ, zero, suc, pos, ◌+◌, ◌-◌, ◌<◌, ◌≤◌, inl, inr, length}
 use Rattle.std.proofs.Common.{refl, sym, ap, ◌∙◌, arith}
 use Rattle.std.specs.List.{sum_by}
 use Rattle.std.proofs.lemmas.Bool.{cases_lt, cases_order}
@@ -8,18 +8,19 @@ use Rattle.std.proofs.lemmas.Int.{ints}
 use Rattle.mp4_tables.specs.declared.trun.TrunBox.{TrunBox}
 use Rattle.mp4_samples.specs.declared.sample.Sample.{Sample}
 use Rattle.mp4_samples.specs.declared.fragment.Fragment.{Fragment}
-use Rattle.mp4_samples.specs.Fragments.{IsSampleOfRun, IsFragmentSample, start_of, time_before, bytes_before}
+use Rattle.mp4_samples.specs.Fragments.{IsSampleOfRun, time_before, bytes_before}
 use Rattle.mp4_samples.specs.Fragments.{time_of_runs, samples_of_runs, run_at, no_run, sample_offset, sample_time}
-use Rattle.mp4_samples.specs.Fragments.{size_in, duration_in, rendering_offset_in, is_sync_in}
-use Rattle.mp4_samples.specs.FragmentGives.{sample_total}
+use Rattle.mp4_samples.specs.Fragments.{size_in}
 use Rattle.mp4_samples.specs.FragmentLaws.{FragmentSampleIsUnique, RunSamplesAreAdjacent, RunSamplesDoNotOverlap}
 use Rattle.mp4_samples.specs.FragmentLaws.{FragmentTimesFollow, FragmentTimesDoNotDecrease, FragmentBegins}
 use Rattle.mp4_samples.specs.FragmentLaws.{FragmentDurationsAddUp, FragmentCountsAddUp, FragmentSamplesAreCounted}
 use Rattle.mp4_samples.proofs.Fragments.{no_time, no_runs_time, no_runs_samples, bytes_more, time_more, next_offset}
 use Rattle.mp4_samples.proofs.Fragments.{runs_time_more, runs_samples_more, room}
+use Rattle.mp4_samples.proofs.Rising.{rising}
+use Rattle.mp4_samples.proofs.Unique.{made_alike}
 
 module _ (f : Fragment) where
-  -- a run with a sample is one of the runs
+  -- A run with a sample is one of the runs of the fragment.
   is_run : (r j : ℕ) → j < (run_at f r).sample_count → r < length f.runs.now
   is_run r j lt = elim (cases_lt r (length f.runs.now)) [
     | inl less ↦ less
@@ -28,91 +29,46 @@ module _ (f : Fragment) where
         absurd (omega (arith, past, lt))
   ]
 
-  samples_further : (r n : ℕ) → r + n ≤ length f.runs.now → samples_of_runs f r ≤ samples_of_runs f (r + n)
-  samples_further r zero le =
-      let same : r + zero ≡ r = omega arith in
-      rw same (omega arith)
-  samples_further r (suc n) le =
-      let rest = samples_further r n (omega arith) in
-      let more = runs_samples_more f (r + n) (omega arith) in
-      let one : r + n + 1 ≡ r + suc n = omega arith in
-      let more' : samples_of_runs f (r + suc n) ≡ samples_of_runs f (r + n) + (run_at f (r + n)).sample_count =
-      rw one at more in
-      omega (arith, rest, more')
-
   samples_le : (r s : ℕ) → r ≤ s → s ≤ length f.runs.now → samples_of_runs f r ≤ samples_of_runs f s
-  samples_le r s le all =
-      let far : r + (s - r) ≡ s = omega arith in
-      rw far at (samples_further r (s - r) (omega arith))
+  samples_le r s le all = rising (samples_of_runs f) (length f.runs.now)
+      (λ n lt. omega (arith, runs_samples_more f n lt)) r s le all
 
-  -- the runs from r on are empty as long as no sample is counted, and take no time
-  times_further : (r n : ℕ) → r + n ≤ length f.runs.now
-      → (time_of_runs f r ≤ time_of_runs f (r + n))
-      × (samples_of_runs f (r + n) ≡ samples_of_runs f r → time_of_runs f (r + n) ≡ time_of_runs f r)
-  times_further r zero le =
+  times_le : (r s : ℕ) → r ≤ s → s ≤ length f.runs.now → time_of_runs f r ≤ time_of_runs f s
+  times_le r s le all = rising (time_of_runs f) (length f.runs.now)
+      (λ n lt. omega (arith, runs_time_more f n lt)) r s le all
+
+  -- Runs without samples take no time.
+  times_further : (r n : ℕ) → r + n ≤ length f.runs.now → samples_of_runs f (r + n) ≡ samples_of_runs f r
+      → time_of_runs f (r + n) ≡ time_of_runs f r
+  times_further r zero le is =
       let same : r + zero ≡ r = omega arith in
-      rw same (omega arith, λ _. refl)
-  times_further r (suc n) le =
-      let rest = times_further r n (omega arith) in
+      rw same refl
+  times_further r (suc n) le is =
       let none = no_time f (run_at f (r + n)) in
-      let before = samples_further r n (omega arith) in
+      let before = samples_le r (r + n) (omega arith) (omega arith) in
       let one : r + n + 1 ≡ r + suc n = omega arith in
       let counts : samples_of_runs f (r + suc n) ≡ samples_of_runs f (r + n) + (run_at f (r + n)).sample_count =
       rw one at (runs_samples_more f (r + n) (omega arith)) in
       let times : time_of_runs f (r + suc n) ≡ time_of_runs f (r + n) + time_before f (run_at f (r + n))
-      (run_at f (r + n)).sample_count = rw one at (runs_time_more f (r + n) (omega arith)) in (
-        omega (arith, rest.0, times),
-        λ is.
-            let empty : (run_at f (r + n)).sample_count ≡ 0 = omega (arith, counts, is, before) in
-            let nothing = ap (time_before f (run_at f (r + n))) empty in
-            let so_far = rest.1 (omega (arith, counts, is, empty)) in
-            omega (arith, times, nothing, none, so_far),
-      )
-
-  times_le : (r s : ℕ) → r ≤ s → s ≤ length f.runs.now → time_of_runs f r ≤ time_of_runs f s
-  times_le r s le all =
-      let far : r + (s - r) ≡ s = omega arith in
-      (rw far at (times_further r (s - r) (omega arith))).0
+      (run_at f (r + n)).sample_count = rw one at (runs_time_more f (r + n) (omega arith)) in
+      let empty : (run_at f (r + n)).sample_count ≡ 0 = omega (arith, counts, is, before) in
+      let nothing = ap (time_before f (run_at f (r + n))) empty in
+      let rest = times_further r n (omega arith) (omega (arith, counts, is, empty)) in
+      omega (arith, times, nothing, none, rest)
 
   times_same : (r s : ℕ) → r ≤ s → s ≤ length f.runs.now → samples_of_runs f s ≡ samples_of_runs f r
       → time_of_runs f s ≡ time_of_runs f r
   times_same r s le all =
       let far : r + (s - r) ≡ s = omega arith in
-      (rw far at (times_further r (s - r) (omega arith))).1
-
-  time_within : (t : TrunBox) (j n : ℕ) → time_before f t j ≤ time_before f t (j + n)
-  time_within t j zero =
-      let same : j + zero ≡ j = omega arith in
-      rw same (omega arith)
-  time_within t j (suc n) =
-      let rest = time_within t j n in
-      let one : j + n + 1 ≡ j + suc n = omega arith in
-      let more : time_before f t (j + suc n) ≡ time_before f t (j + n) + duration_in f t (j + n) =
-      rw one at (time_more f t (j + n)) in
-      omega (arith, rest, more)
+      rw far at (times_further r (s - r) (omega arith))
 
   time_le : (t : TrunBox) (i j : ℕ) → i ≤ j → time_before f t i ≤ time_before f t j
-  time_le t i j le =
-      let far : i + (j - i) ≡ j = omega arith in
-      rw far at (time_within t i (j - i))
-
-  bytes_within : (t : TrunBox) (j n : ℕ) → bytes_before f t j ≤ bytes_before f t (j + n)
-  bytes_within t j zero =
-      let same : j + zero ≡ j = omega arith in
-      rw same (omega arith)
-  bytes_within t j (suc n) =
-      let rest = bytes_within t j n in
-      let one : j + n + 1 ≡ j + suc n = omega arith in
-      let more : bytes_before f t (j + suc n) ≡ bytes_before f t (j + n) + size_in f t (j + n) =
-      rw one at (bytes_more f t (j + n)) in
-      omega (arith, rest, more)
+  time_le t i j le = rising (time_before f t) j (λ n lt. omega (arith, time_more f t n)) i j le (omega arith)
 
   bytes_le : (t : TrunBox) (i j : ℕ) → i ≤ j → bytes_before f t i ≤ bytes_before f t j
-  bytes_le t i j le =
-      let far : i + (j - i) ≡ j = omega arith in
-      rw far at (bytes_within t i (j - i))
+  bytes_le t i j le = rising (bytes_before f t) j (λ n lt. omega (arith, bytes_more f t n)) i j le (omega arith)
 
-  -- sample k is sample j of run r, and sample l is sample i of run s
+  -- Sample `k` is sample `j` of run `r`, and sample `l` is sample `i` of run `s`.
   module _ (k l r j s i : ℕ) (here : samples_of_runs f r + j ≡ k) (counted : j < (run_at f r).sample_count)
       (there : samples_of_runs f s + i ≡ l) (counted' : i < (run_at f s).sample_count) where
     run_le : k ≤ l → r ≤ s
@@ -124,7 +80,7 @@ module _ (f : Fragment) where
       | inr le' ↦ le'
     ]
 
-    -- the end of sample k
+    -- Sample `k` ends before sample `l` starts.
     end_before : k < l → sample_time f r (j + 1) ≤ sample_time f s i
     end_before lt = elim (cases_order r s) [
       | inl same ↦
@@ -143,7 +99,7 @@ module _ (f : Fragment) where
       ]
     ]
 
-    -- and the beginning of the next one
+    -- The next sample starts when sample `k` ends.
     end_at : l ≡ k + 1 → sample_time f s i ≡ sample_time f r (j + 1)
     end_at next = elim (cases_order r s) [
       | inl same ↦
@@ -249,28 +205,7 @@ durations_add_up f k s last (r, j, here, x) =
     let all = all_times f in
     omega (arith, stop, same, times, whole, all)
 
-made : (o s t d : ℕ) (r : ℤ) (i : Bool) (e c : ℕ) → Sample
-made o s t d r i e c =
-    record {
-      offset = o;
-      size = s;
-      start_time = t;
-      duration = d;
-      rendering_offset = r;
-      is_sync = i;
-      sample_description_index = e;
-      chunk = c;
-    }
-
-made_alike : (a b : Sample) → a.offset ≡ b.offset → a.size ≡ b.size → a.start_time ≡ b.start_time
-    → a.duration ≡ b.duration → a.rendering_offset ≡ b.rendering_offset → a.is_sync ≡ b.is_sync
-    → a.sample_description_index ≡ b.sample_description_index → a.chunk ≡ b.chunk
-    → made a.offset a.size a.start_time a.duration a.rendering_offset a.is_sync a.sample_description_index a.chunk
-    ≡ made b.offset b.size b.start_time b.duration b.rendering_offset b.is_sync b.sample_description_index b.chunk
-made_alike a b o s t d r i e c = cc
-
 one_of_run : (f : Fragment) (r j : ℕ) (a b : Sample) → IsSampleOfRun f r j a → IsSampleOfRun f r j b → a ≡ b
-unfolding made
 one_of_run f r j a b x y =
     let offset : a.offset ≡ b.offset = omega (arith, ints, x.offset, y.offset) in
     made_alike a b offset (x.size ∙ sym y.size) (x.start_time ∙ sym y.start_time) (x.duration ∙ sym y.duration)

@@ -1,4 +1,4 @@
--- One run, and one sample of a run, after the others.
+-- The sums over runs, and over samples of a run, with one more run or sample.
 use Rattle.std.proofs.Common.{◌≡◌, ℕ, zero, suc, ℤ, pos, ◌+◌, ◌+ℤ◌, ◌<◌, length, false, eqb, refl, sym, ap, arith}
 use Rattle.std.specs.List.{sum_by}
 use Rattle.std.proofs.lemmas.List.Sums.{fold_more, sum_by_more, sum_by_more_le}
@@ -62,7 +62,7 @@ pub runs_samples_more : (f : Fragment) (r : ℕ) → r < length f.runs.now
 unfolding samples_of_runs
 runs_samples_more f r lt = sum_by_more (λ (t : TrunBox). t.sample_count) f.runs.now r no_run lt
 
--- the first sample of a run begins where the run does
+-- The first sample of a run begins where the run does.
 pub first_offset : (f : Fragment) (r : ℕ)
     → sample_offset f r 0 ≡ start_after (base_of f) (runs_end f r) (run_at f r).data_offset
 first_offset f r =

@@ -1,16 +1,14 @@
--- The last of the numbers of a list, and the last sync sample.
+-- The last number of a list up to a limit, and the last sync sample.
 use Rattle.std.proofs.Common.{◌≡◌, ℕ, zero, suc, ◌+◌, ◌-◌, ◌<◌, ◌≤◌, inl, inr, eqb, true, false, List, [], ◌∷◌, length}
 use Rattle.std.proofs.Common.{get_or, refl, sym, ap, ◌∙◌, arith}
 use Rattle.std.specs.Prelude.{Option, Some, None, IfNone}
-use Rattle.std.specs.Borrow.{Bor}
 use Rattle.std.specs.List.Sorted.{IsNonDecreasing}
 use Rattle.std.proofs.lemmas.Bool.{ltb-true, eq-eqb, ne_eqb, and_parts, cases_lt}
 use Rattle.std.proofs.lemmas.List.Folds.{list_any_at}
-use Rattle.mp4_tables.specs.declared.stss.StssBox.{StssBox}
 use Rattle.mp4_tables.specs.declared.stts_entry.SttsEntry.{SttsEntry}
 use Rattle.mp4_samples.specs.declared.tables.Tables.{Tables}
 use Rattle.mp4_samples.specs.Runs.{is_listed, increases, start_of, Covers}
-use Rattle.mp4_samples.specs.Samples.{sample_count, is_sync_in}
+use Rattle.mp4_samples.specs.Samples.{sample_count}
 use Rattle.mp4_samples.specs.Search.{IsCountAtMost}
 use Rattle.mp4_samples.specs.Syncs.{IsLastSync, HasNoSync, IsLastSyncAt, HasNoSyncAt, IsLastListed}
 use Rattle.mp4_samples.proofs.Order.{start_next, start_le}
@@ -70,77 +68,11 @@ module _ (xs : List ℕ) (limit n : ℕ) (order : increases 0 xs ≡ true) (coun
         last = λ y more le. nothing_past y le (λ _. more);
       }
 
--- samples are counted from 0, and listed from 1
-pub last_of_listed : (t : Tables) (b : Bor StssBox) (n last x : ℕ) → t.stss ≡ Some b → (n < sample_count t → last ≡ n)
-    → (sample_count t ≤ n → last + 1 ≡ sample_count t)
-    → IsLastListed b.now.entries (last + 1) x → IsLastSync t n (x - 1)
-last_of_listed t b n last x is near far l =
-    let one : x - 1 + 1 ≡ x = omega (arith, l.begun) in
-    let here : is_sync_in (Some b) (x - 1) ≡ true = rw one l.listed in
-    record {
-      counted = elim (cases_lt n (sample_count t)) [
-        | inl lt ↦ omega (arith, near lt, l.within, l.begun)
-        | inr le ↦ omega (arith, far le, l.within, l.begun)
-      ];
-      within = elim (cases_lt n (sample_count t)) [
-        | inl lt ↦ omega (arith, near lt, l.within, l.begun)
-        | inr le ↦ omega (arith, far le, l.within, l.begun)
-      ];
-      sync = rw is here;
-      last = λ j lt le counted. elim (cases_lt n (sample_count t)) [
-        | inl less ↦
-            let no : is_sync_in (Some b) j ≡ false =
-            l.last (j + 1) (omega (arith, l.begun)) (omega (arith, near less)) in
-            rw is no
-        | inr all ↦
-            let no : is_sync_in (Some b) j ≡ false = l.last (j + 1) (omega (arith, l.begun)) (omega (arith, far all)) in
-            rw is no
-      ];
-    }
-
-pub none_of_listed : (t : Tables) (b : Bor StssBox) (n last : ℕ) → t.stss ≡ Some b → (n < sample_count t → last ≡ n)
-    → (sample_count t ≤ n → last + 1 ≡ sample_count t)
-    → ((y : ℕ) → y ≤ last + 1 → is_listed y b.now.entries ≡ false) → HasNoSync t n
-none_of_listed t b n last is near far none j le counted = elim (cases_lt n (sample_count t)) [
-  | inl less ↦
-      let no : is_sync_in (Some b) j ≡ false = none (j + 1) (omega (arith, near less)) in
-      rw is no
-  | inr all ↦
-      let no : is_sync_in (Some b) j ≡ false = none (j + 1) (omega (arith, far all)) in
-      rw is no
-]
-
--- each sample is one
-pub last_of_all : (t : Tables) (n last : ℕ) → t.stss ≡ None → 0 < sample_count t → (n < sample_count t → last ≡ n)
-    → (sample_count t ≤ n → last + 1 ≡ sample_count t)
-    → IsLastSync t n last
-last_of_all t n last is some near far = record {
-  counted = elim (cases_lt n (sample_count t)) [
-    | inl lt ↦ omega (arith, near lt)
-    | inr le ↦ omega (arith, far le)
-  ];
-  within = elim (cases_lt n (sample_count t)) [
-    | inl lt ↦ omega (arith, near lt)
-    | inr le ↦ omega (arith, far le)
-  ];
-  sync = rw is refl;
-  last = λ j lt le counted. elim (cases_lt n (sample_count t)) [
-    | inl less ↦ absurd (omega (arith, near less))
-    | inr all ↦ absurd (omega (arith, far all))
-  ];
-}
-
-pub start_order : (es : List SttsEntry) (j k : ℕ) → j ≤ k → start_of es j ≤ start_of es k
-start_order es j k le =
-    let far = start_le es j (k - j) in
-    let there : j + (k - j) ≡ k = omega arith in
-    rw there at far
-
--- the samples up to the one that lasts at a time are those that have started
+-- No sample after the one that covers a time has started.
 not_started : (es : List SttsEntry) (time n j : ℕ) → Covers es time n → n < j → start_of es j ≤ time → ⊥
 not_started es time n j covers lt started =
     let next = start_next es n in
-    let le = start_order es (n + 1) j (omega arith) in
+    let le = start_le es (n + 1) j (omega arith) in
     omega (arith, next, le, started, covers.lasts)
 
 pub by_covering : (t : Tables) (time n k : ℕ) → Covers t.stts.now.entries time n → IsLastSync t n k
@@ -148,7 +80,7 @@ pub by_covering : (t : Tables) (time n k : ℕ) → Covers t.stts.now.entries ti
 by_covering t time n k covers l = record {
   counted = l.counted;
   started =
-      let le = start_order t.stts.now.entries k n l.within in
+      let le = start_le t.stts.now.entries k n l.within in
       omega (arith, le, covers.started);
   sync = l.sync;
   last = λ j lt counted started. elim (cases_lt n j) [
@@ -163,13 +95,13 @@ none_by_covering t time n covers none j counted started = elim (cases_lt n j) [
   | inr le ↦ none j le counted
 ]
 
--- all samples have started
+-- All samples have started.
 pub after_all : (t : Tables) (time n k : ℕ) → sample_count t ≤ n + 1
     → start_of t.stts.now.entries (sample_count t) ≤ time → IsLastSync t n k → IsLastSyncAt t time k
 after_all t time n k all ended l = record {
   counted = l.counted;
   started =
-      let le = start_order t.stts.now.entries k (sample_count t) (omega (arith, l.counted)) in
+      let le = start_le t.stts.now.entries k (sample_count t) (omega (arith, l.counted)) in
       omega (arith, le, ended);
   sync = l.sync;
   last = λ j lt counted started. l.last j lt (omega arith) counted;
@@ -182,7 +114,7 @@ pub IfNone_then : {X : Type 0} (r : Option X) {P Q : Type 0} → IfNone r P → 
 IfNone_then None p f = f p
 IfNone_then (Some x) p f = tt
 
--- what is found in the list says whether a number is in it
+-- A number is in a list if it is the last one up to itself.
 pub listed_last : (xs : List ℕ) (n x : ℕ) → IsLastListed xs n x → eqb x n ≡ is_listed n xs
 listed_last xs n x l = elim (cases_lt x n) [
   | inl lt ↦

@@ -1,3 +1,4 @@
+pub mod Rising
 pub mod Through
 pub mod Spelled
 pub mod Bytes
@@ -10,7 +11,9 @@ pub mod Order
 pub mod Fragments
 pub mod FragmentEnds
 pub mod FragmentCalls
-pub mod AtTime
+pub mod RunSums
+pub mod RunCursor
+pub mod OffsetRuns
 pub mod LastSync
 pub mod FirstSamples
 pub mod ChunkMarks

@@ -1,31 +1,29 @@
--- Samples one after the other, in their chunk and in time.
-use Rattle.std.proofs.Common.{◌≡◌, ℕ, zero, suc, ◌+◌, ◌-◌, ◌*◌, ◌≤◌, List, [], ◌∷◌, take, get_or, replicate, refl, sym}
+-- The order of samples in their chunk and in time.
+use Rattle.std.proofs.Common.{◌≡◌, ℕ, zero, suc, ◌+◌, ◌-◌, ◌*◌, ◌≤◌, List, [], ◌∷◌, length, take, get_or, refl, sym}
 use Rattle.std.proofs.Common.{ap, ◌∙◌, arith}
 use Rattle.std.specs.List.{sum, sum_by, range_with_len}
 use Rattle.std.proofs.lemmas.List.{take_all}
-use Rattle.std.proofs.lemmas.List.Sums.{sum_by-cons, sum_by-append}
+use Rattle.std.proofs.lemmas.List.Sums.{sum_by-cons}
 use Rattle.mp4_tables.specs.declared.stsz.StszBox.{StszBox}
 use Rattle.mp4_tables.specs.declared.stts_entry.SttsEntry.{SttsEntry}
 use Rattle.mp4_samples.specs.declared.sample.Sample.{Sample}
 use Rattle.mp4_samples.specs.declared.tables.Tables.{Tables}
-use Rattle.mp4_samples.specs.Runs.{spelled, durations, duration_of, start_of}
+use Rattle.mp4_samples.specs.Runs.{durations, duration_of, start_of, sum_before}
 use Rattle.mp4_samples.specs.Chunks.{samples_through}
 use Rattle.mp4_samples.specs.Sizes.{bytes_of, offset_of}
 use Rattle.mp4_samples.specs.Samples.{IsSample, offsets_of, sample_count}
 use Rattle.mp4_samples.specs.Laws.{SamplesAreAdjacent, SamplesDoNotOverlap, TimesFollow, TimesDoNotDecrease}
 use Rattle.mp4_samples.specs.Laws.{DurationsAddUp, EntriesAddUp}
-use Rattle.mp4_samples.proofs.Bytes.{bytes_split, bytes_next}
-use Rattle.mp4_samples.proofs.Spelled.{spelled-cons}
+use Rattle.mp4_samples.proofs.Bytes.{bytes_more, bytes_next}
+use Rattle.mp4_samples.proofs.Rising.{rising}
+use Rattle.mp4_samples.proofs.RunSums.{count_all, start_past}
 use Rattle.mp4_samples.proofs.Through.{sum_next}
 
 bytes_le : (z : StszBox) (a m n : ℕ) → m ≤ n → bytes_of z a m ≤ bytes_of z a n
 bytes_le z a m n le =
-    let both = bytes_split z a m (n - m) in
-    let whole : m + (n - m) ≡ n = omega arith in
-    let both' : bytes_of z a n ≡ bytes_of z a m + bytes_of z (a + m) (n - m) = rw whole at both in
-    omega (arith, both')
+    rising (bytes_of z a) n (λ i lt. omega (arith, bytes_more z a i (i + 1) refl)) m n le (omega arith)
 
--- where a sample of chunk c ends
+-- The end of a sample of chunk `c`.
 end_in : (t : Tables) (k c : ℕ) (s : Sample) → IsSample t k s → s.chunk ≡ c
     → s.offset + s.size ≡ offset_of t.stsz.now t.stsc.now.entries (offsets_of t.chunk_offsets) c (k + 1)
 end_in t k c s is here =
@@ -48,7 +46,7 @@ apart t j k a b lt is other same =
     let begin = other.offset in
     omega (arith, stop, le, begin)
 
--- the time of one more sample
+-- The sum with one more number.
 sum_take_more : (xs : List ℕ) (k : ℕ) → sum (take (suc k) xs) ≡ sum (take k xs) + get_or xs k 0
 sum_take_more [] zero = refl
 sum_take_more [] (suc k) = refl
@@ -65,16 +63,8 @@ start_next es k =
     let one : suc k ≡ k + 1 = omega arith in
     rw one at more
 
-pub start_le : (es : List SttsEntry) (k n : ℕ) → start_of es k ≤ start_of es (k + n)
-start_le es k zero =
-    let same : k + zero ≡ k = omega arith in
-    rw same (omega arith)
-start_le es k (suc n) =
-    let rest = start_le es k n in
-    let more = start_next es (k + n) in
-    let one : k + n + 1 ≡ k + suc n = omega arith in
-    let more' : start_of es (k + suc n) ≡ start_of es (k + n) + duration_of es (k + n) = rw one at more in
-    omega (arith, rest, more')
+pub start_le : (es : List SttsEntry) (j k : ℕ) → j ≤ k → start_of es j ≤ start_of es k
+start_le es j k le = rising (start_of es) k (λ n lt. omega (arith, start_next es n)) j k le (omega arith)
 
 stop_time : (t : Tables) (k : ℕ) (s : Sample) → IsSample t k s
     → s.start_time + s.duration ≡ start_of t.stts.now.entries (k + 1)
@@ -91,10 +81,8 @@ pub in_order : TimesDoNotDecrease
 in_order t j k a b lt is other =
     let stop = stop_time t j a is in
     let start = other.start_time in
-    let le = start_le t.stts.now.entries (j + 1) (k - (j + 1)) in
-    let there : j + 1 + (k - (j + 1)) ≡ k = omega arith in
-    let le' : start_of t.stts.now.entries (j + 1) ≤ start_of t.stts.now.entries k = rw there at le in
-    omega (arith, stop, start, le')
+    let le = start_le t.stts.now.entries (j + 1) k (omega arith) in
+    omega (arith, stop, start, le)
 
 start_sum : (es : List SttsEntry) (n : ℕ) → start_of es n ≡ sum_by (duration_of es) (range_with_len 0 n)
 start_sum es zero = refl
@@ -112,28 +100,12 @@ start_sum es (suc n) =
 pub add_up : DurationsAddUp
 add_up t k s last is = stop_time t k s is ∙ rw last (start_sum t.stts.now.entries (sample_count t))
 
-whole_run : (c v : ℕ) → sum (replicate c v) ≡ c * v
-whole_run zero v = omega arith
-whole_run (suc c) v =
-    let rest = whole_run c v in
-    let now = sum_by-cons (λ (x : ℕ). x) v (replicate c v) in
-    let times : suc c * v ≡ c * v + v = omega arith in
-    omega (arith, rest, now, times)
-
-entries_sum : (es : List SttsEntry)
-    → sum (durations es) ≡ sum_by (λ (e : SttsEntry). e.sample_count * e.sample_delta) es
-unfolding spelled
-entries_sum [] = refl
-entries_sum (e ∷ es) =
-    let rest = entries_sum es in
-    let now = ap sum (spelled-cons (λ (e : SttsEntry). e.sample_count) (λ (e : SttsEntry). e.sample_delta) e es) in
-    let parts = sum_by-append (λ (x : ℕ). x) (replicate e.sample_count e.sample_delta) (durations es) in
-    let run = whole_run e.sample_count e.sample_delta in
-    let both = sum_by-cons (λ (e : SttsEntry). e.sample_count * e.sample_delta) e es in
-    omega (arith, rest, now, parts, run, both)
-
 pub entries_add_up : EntriesAddUp
+unfolding sum_before
 entries_add_up t k s last long is =
     let es = t.stts.now.entries in
-    let all = take_all (k + 1) (durations es) (omega arith) in
-    stop_time t k s is ∙ ap sum all ∙ entries_sum es
+    let all = count_all (λ (e : SttsEntry). e.sample_count) (λ (e : SttsEntry). e.sample_delta) es in
+    stop_time t k s is
+    ∙ start_past (λ (e : SttsEntry). e.sample_count) (λ (e : SttsEntry). e.sample_delta) es (k + 1)
+    (omega (arith, all, last, long))
+    ∙ ap (sum_by (λ (e : SttsEntry). e.sample_count * e.sample_delta)) (take_all (length es) es (omega arith))

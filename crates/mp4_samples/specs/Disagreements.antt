@@ -1,4 +1,4 @@
--- What each way in which the tables of a track can disagree says of them.
+-- The meaning of each disagreement between the tables of a track.
 use Rattle.std.specs.Prelude.{ℕ, ◌≡◌, ◌≢◌, ◌+◌, ◌<◌, ◌≤◌, ◌^◌, List, ◌∷◌, length, map, slice_index, slice_get, Contains}
 use Rattle.std.specs.Prelude.{Some}
 use Rattle.mp4_tables.specs.declared.stsc_entry.StscEntry.{StscEntry}
@@ -12,7 +12,7 @@ use Rattle.mp4_samples.specs.Chunks.{samples_through}
 use Rattle.mp4_samples.specs.Sizes.{bytes_of}
 use Rattle.mp4_samples.specs.Samples.{sample_count, offsets_of, stss_entries}
 
--- number i is not above the one before it, which is 0 for the first
+-- Number `i` is not above the number before it, or is 0 if it is the first.
 pub record IsNotAbove (xs : List ℕ) (i : ℕ) : Type 0 where
   pub within : i < length xs
   pub order : slice_index xs i ≤ slice_index (0 ∷ xs) i

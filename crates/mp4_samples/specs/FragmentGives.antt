@@ -1,4 +1,4 @@
--- How far an iterator over the samples of a fragment is, and what a call of `next` gives.
+-- The progress of an iterator over the samples of a fragment, and the result of a call of `next`.
 use Rattle.std.specs.Prelude.{ℕ, ℤ, ◌≡◌, ◌+◌, ◌-◌, Bool, true, false, length, Option, Some, None, Result, Ok, Err}
 use Rattle.std.specs.Prelude.{if◌then◌else◌}
 use Rattle.mp4_samples.specs.declared.sample.Sample.{Sample}
@@ -7,7 +7,8 @@ use Rattle.mp4_samples.specs.declared.fragment_fault.FragmentFault.{FragmentFaul
 use Rattle.mp4_samples.specs.Fragments.{IsFragmentSample, Faults, samples_of_runs, sample_time}
 use Rattle.mp4_samples.specs.FragmentPlaces.{offset_before}
 
--- the fragment, the run that the iterator is in, how many samples of it came, and whether it has ended
+-- The fragment, the run of the iterator, the number of its samples that were returned, and true if the iterator has
+-- ended.
 pub record FragmentProgress : Type 0 where
   pub fragment : Fragment
   pub run : ℕ
@@ -17,7 +18,7 @@ pub record FragmentProgress : Type 0 where
 abbrev pub begins : Fragment → FragmentProgress
 begins f = record { fragment = f; run = 0; index = 0; ended = false }
 
--- the number of the sample that comes next
+-- The number of the next sample.
 abbrev pub number_of : FragmentProgress → ℕ
 number_of s = samples_of_runs s.fragment s.run + s.index
 
@@ -27,15 +28,15 @@ sample_total f = samples_of_runs f (length f.runs.now)
 abbrev pub fragment_samples_left : FragmentProgress → ℕ
 fragment_samples_left s = if s.ended then 0 else sample_total s.fragment - number_of s
 
--- where the sample that came last ends, and when
+-- The end of the sample that was returned last, and its end time.
 abbrev pub offset_of : FragmentProgress → ℤ
 offset_of s = offset_before s.fragment s.run s.index
 
 abbrev pub time_of : FragmentProgress → ℕ
 time_of s = sample_time s.fragment s.run s.index
 
--- the next sample; or why it can't be told, and then nothing more; or none, exactly after the last one or a fault.
--- After the last one the iterator is past the last run
+-- The next sample, or its fault, after which the iterator has ended. It is `None` only after the last sample or a
+-- fault. After the last sample the iterator is past the last run.
 abbrev pub GivesFragmentSample : FragmentProgress → Option (Result Sample FragmentFault) → FragmentProgress → Type 0
 GivesFragmentSample s (Some (Ok x)) t =
     (s.ended ≡ false) × IsFragmentSample s.fragment (number_of s) x

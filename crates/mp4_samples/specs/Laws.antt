@@ -1,4 +1,4 @@
--- What follows from the definitions.
+-- Laws that follow from the definitions.
 use Rattle.std.specs.Prelude.{ℕ, ◌≡◌, ◌+◌, ◌*◌, ◌<◌, ◌≤◌, length, sum_by}
 use Rattle.std.specs.List.{range_with_len}
 use Rattle.mp4_tables.specs.declared.stts_entry.SttsEntry.{SttsEntry}
@@ -35,13 +35,13 @@ TimesDoNotDecrease =
     (t : Tables) (j k : ℕ) (a b : Sample) → j < k → IsSample t j a → IsSample t k b
     → a.start_time + a.duration ≤ b.start_time
 
--- the last sample ends at the sum of the durations of all
+-- The last sample ends at the sum of all durations.
 abbrev pub DurationsAddUp : Type 0
 DurationsAddUp =
     (t : Tables) (k : ℕ) (s : Sample) → k + 1 ≡ sample_count t → IsSample t k s
     → s.start_time + s.duration ≡ sum_by (duration_of t.stts.now.entries) (range_with_len 0 (sample_count t))
 
--- and that is what the entries of stts come to, where they count no more samples than there are
+-- This is the sum over the entries of stts, if they count as many samples as the track has.
 abbrev pub EntriesAddUp : Type 0
 EntriesAddUp =
     (t : Tables) (k : ℕ) (s : Sample) → k + 1 ≡ sample_count t

@@ -1,4 +1,4 @@
--- What the tables of a track say of its samples (ISO/IEC 14496-12, 8.6 and 8.7), and when they agree.
+-- The samples of a track by its tables (ISO/IEC 14496-12, 8.6 and 8.7), and the conditions for tables to agree.
 use Rattle.std.specs.Prelude.{ℕ, ◌≡◌, ◌+◌, ◌<◌, ◌≤◌, ◌^◌, Bool, true, List, [], ◌∷◌, length, nat_eq, All, Option, Some}
 use Rattle.std.specs.Prelude.{None}
 use Rattle.std.specs.Borrow.{Bor}
@@ -18,12 +18,12 @@ abbrev pub offsets_of : ChunkOffsets → List ℕ
 offsets_of (Stco b) = b.now.entries
 offsets_of (Co64 b) = b.now.entries
 
--- the first entry begins at chunk 1, if there is one
+-- The first entry, if any, begins at chunk 1.
 abbrev pub begins_at_one : List StscEntry → Bool
 begins_at_one [] = true
 begins_at_one (e ∷ es) = nat_eq e.first_chunk 1
 
--- none without ctts, so that each composition offset is 0
+-- The entries of ctts. There are none without a ctts, so each composition offset is 0.
 abbrev pub ctts_entries : Option (Bor CttsBox) → List CttsEntry
 ctts_entries None = []
 ctts_entries (Some b) = b.now.entries
@@ -32,16 +32,16 @@ abbrev pub stss_entries : Option (Bor StssBox) → List ℕ
 stss_entries None = []
 stss_entries (Some b) = b.now.entries
 
--- whether sample k is a sync sample (8.6.2): each one is without stss, whose numbers are counted from 1
+-- Sample `k` is a sync sample (8.6.2). Without an stss each sample is one. The numbers in stss are counted from 1.
 abbrev pub is_sync_in : Option (Bor StssBox) → ℕ → Bool
 is_sync_in None k = true
 is_sync_in (Some b) k = is_listed (k + 1) b.now.entries
 
--- how many samples the track has
+-- The number of samples of the track.
 abbrev pub sample_count : Tables → ℕ
 sample_count t = t.stsz.now.sample_count
 
--- s is sample k of the track, counted from 0
+-- `s` is sample `k` of the track, counted from 0.
 pub record IsSample (t : Tables) (k : ℕ) (s : Sample) : Type 0 where
   pub size : s.size ≡ size_of t.stsz.now k
   pub chunk : IsInChunk t.stsc.now.entries s.chunk k
@@ -52,7 +52,7 @@ pub record IsSample (t : Tables) (k : ℕ) (s : Sample) : Type 0 where
   pub rendering_offset : s.rendering_offset ≡ rendering_offset_of (ctts_entries t.ctts) k
   pub sync : s.is_sync ≡ is_sync_in t.stss k
 
--- the tables agree with one another, so that there is each of the samples that stsz counts
+-- The tables agree with one another, so that each sample that stsz counts exists.
 pub record AreConsistent (t : Tables) : Type 0 where
   pub listed : t.stsz.now.sample_size ≡ 0 → length t.stsz.now.sample_sizes ≡ sample_count t
   pub first : begins_at_one t.stsc.now.entries ≡ true

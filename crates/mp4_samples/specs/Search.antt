@@ -1,4 +1,4 @@
--- How many numbers of a list are at most a limit: they come first.
+-- The number of elements of a list that are at most a limit. They are the first ones.
 use Rattle.std.specs.Prelude.{ℕ, ◌<◌, ◌≤◌, List, length, slice_index_or}
 
 pub record IsCountAtMost (xs : List ℕ) (limit n : ℕ) : Type 0 where

@@ -1,4 +1,4 @@
-//! Whether the tables of a track agree.
+//! The checks that the tables of a track agree.
 
 ghost use Rattle.std.specs.Prelude.{◌≡◌, ◌≢◌, ◌+◌, ◌<◌, ◌≤◌, ◌^◌, ◌↔◌, true, length, slice_get, All, Contains, Some};
 ghost use Rattle.std.specs.Prelude.{IfSome, IfErr, IsNone, IsOk};
@@ -8,13 +8,14 @@ ghost use Rattle.mp4_samples.specs.Sizes.{bytes_of};
 ghost use Rattle.mp4_samples.specs.Samples.{AreConsistent, begins_at_one, offsets_of, sample_count};
 ghost use Rattle.mp4_samples.specs.Disagreements.{Disagrees, IsNotAbove, first_chunks};
 
-use crate::chunk_place::{ChunkPlace, before_chunks};
+use crate::access::bytes_between;
+use crate::chunk_place::{at_next_entry, before_chunks};
 use crate::disagreement::Disagreement;
 use crate::state::{chunk_count, stss_entries};
 use crate::tables::{ChunkOffsets, Tables};
 use mp4_tables::{StscEntry, StszBox, SttsEntry};
 
-/// The first chunk of the first entry, if there is one and it is not 1.
+/// Returns the first chunk of the first entry, or `None` if it is 1 or there is no entry.
 fn late_first_chunk(runs: &[StscEntry]) -> Option<u32>
     ensures none { IsNone result ↔ (begins_at_one runs.now ≡ true) }
     ensures some { IfSome result (λ c. (slice_get (first_chunks runs.now) 0 ≡ Some c) × (c ≢ 1)) }
@@ -25,7 +26,7 @@ fn late_first_chunk(runs: &[StscEntry]) -> Option<u32>
     }
 }
 
-/// The first entry that begins no later than the one before it.
+/// Returns the index of the first entry whose first chunk is not above that of the entry before it.
 fn chunks_out_of_order(runs: &[StscEntry]) -> Option<usize>
     ensures none { IsNone result ↔ (chunks_increase 0 runs.now ≡ true) }
     ensures some { IfSome result (IsNotAbove (first_chunks runs.now)) }
@@ -42,7 +43,7 @@ fn chunks_out_of_order(runs: &[StscEntry]) -> Option<usize>
     None
 }
 
-/// The first number that is not above the one before it; the first has to be above 0.
+/// Returns the index of the first number that is not above the number before it. The first number has to be above 0.
 fn numbers_out_of_order(numbers: &[u32]) -> Option<usize>
     ensures none { IsNone result ↔ (increases 0 numbers.now ≡ true) }
     ensures some { IfSome result (IsNotAbove numbers.now) }
@@ -59,7 +60,7 @@ fn numbers_out_of_order(numbers: &[u32]) -> Option<usize>
     None
 }
 
-/// How many samples have a duration, if they are fewer than so many.
+/// Returns the number of samples that have a duration, or `None` if it is at least `count`.
 fn too_few_durations(entries: &[SttsEntry], count: u32) -> Option<u32>
     ensures none { IsNone result ↔ (count ≤ length (durations entries.now)) }
     ensures some { IfSome result (λ timed. (timed ≡ length (durations entries.now)) × (timed < count)) }
@@ -74,7 +75,7 @@ fn too_few_durations(entries: &[SttsEntry], count: u32) -> Option<u32>
     if left == 0 { None } else { Some(count - left) }
 }
 
-/// The number of samples in so many chunks. It takes a step a run.
+/// Returns the number of samples in the first `count` chunks. It takes one step for each entry.
 fn samples_through(runs: &[StscEntry], count: u32) -> u64
     requires { chunks_increase 0 runs.now ≡ true }
     ensures { result ≡ samples_through runs.now count }
@@ -82,38 +83,22 @@ fn samples_through(runs: &[StscEntry], count: u32) -> u64
     let mut place = before_chunks();
     let mut total = 0;
     while place.run < runs.len() && runs[place.run].first_chunk <= count {
-        let entry = runs[place.run];
-        let skipped = entry.first_chunk - 1 - place.chunk;
-        total += u64::from(skipped) * u64::from(place.entry.samples_per_chunk);
-        total += u64::from(entry.samples_per_chunk);
-        place = ChunkPlace {
-            chunk: entry.first_chunk,
-            entry,
-            run: place.run + 1,
-        };
+        let (next, _, through) = at_next_entry(runs, place, total);
+        total = through;
+        place = next;
     }
     total + u64::from(count - place.chunk) * u64::from(place.entry.samples_per_chunk)
 }
 
-/// The bytes of all samples. It takes a step for each size that is listed.
+/// Returns the number of bytes of all samples. It takes one step for each size that is listed.
 fn total_bytes(stsz: &StszBox) -> u64
     requires { stsz.now.sample_size ≡ 0 → length stsz.now.sample_sizes ≡ stsz.now.sample_count }
     ensures { result ≡ bytes_of stsz.now 0 stsz.now.sample_count }
 {
-    let count = stsz.sample_count;
-    let size = stsz.sample_size;
-    if size == 0 {
-        let mut total = 0;
-        for size in stsz.sample_sizes.as_slice() {
-            total += u64::from(*size);
-        }
-        total
-    } else {
-        u64::from(count) * u64::from(size)
-    }
+    bytes_between(stsz, 0, stsz.sample_count)
 }
 
-/// The first chunk that begins so far out that so many bytes after it pass 2^64 - 1.
+/// Returns the offset of the first chunk from which `total` bytes would end past 2^64 - 1.
 fn offset_too_far(offsets: ChunkOffsets<'_>, total: u64) -> Option<u64>
     ensures none { IsNone result ↔ All (λ offset. offset + total < 2 ^ 64) (offsets_of offsets.entry) }
     ensures some { IfSome result (λ offset. Contains (offsets_of offsets.entry) offset × (2 ^ 64 ≤ offset + total)) }
@@ -138,7 +123,7 @@ fn offset_too_far(offsets: ChunkOffsets<'_>, total: u64) -> Option<u64>
     }
 }
 
-/// How the tables disagree, if they do.
+/// Checks that `tables` agree with one another. The error says how they disagree.
 pub fn check(tables: &Tables<'_>) -> Result<(), Disagreement>
     ensures exact { IsOk result ↔ AreConsistent tables.now }
     ensures err { IfErr result (Disagrees tables.now) }

@@ -1,9 +1,9 @@
-//! What can be wrong with an edit list.
+//! The faults of an edit list.
 
 use thiserror::Error;
 
-/// What is wrong with an edit list or its timescales. The kinds are in the order in which they are looked for, and the
-/// first one that is found is told. Edits are counted from 0.
+/// A fault of an edit list or of its timescales. The checks run in the order of these kinds, and the first fault is
+/// reported. Edits are counted from 0.
 #[derive(Clone, Copy, Debug, PartialEq, Eq, Error)]
 pub enum EditFault {
     /// The timescale of the movie is 0.
@@ -12,7 +12,7 @@ pub enum EditFault {
     /// The timescale of the media is 0.
     #[error("the timescale of the media is 0")]
     MediaTimescale,
-    /// The media time of an edit is below -1, or has more bits than its version has.
+    /// The media time of an edit is below -1, or has more bits than the version of the box has.
     #[error("the media time of edit {index} is below -1: {media_time:#x}")]
     MediaTime {
         index: usize,

@@ -1,32 +1,33 @@
-//! What follows from the definitions of edit lists. The bodies are empty: the contracts speak of the definitions alone.
+//! Laws that follow from the definitions of edit lists. The bodies are empty, since the contracts are only about the
+//! definitions.
 
 ghost use Rattle.mp4_samples.specs.EditLaws.{EditsDoNotOverlap, EditsLeaveNoGap, MediaTimeIsUnique, PresentedIsShown};
 ghost use Rattle.mp4_samples.specs.EditLaws.{ShownIsPresented, NoEditListIsIdentity, EditFaultRefutes};
 
-/// On the timeline of the presentation one edit follows the other: no two overlap, and there is no gap.
+/// Proves that edits follow one another on the timeline of the presentation: no two overlap, and there is no gap.
 pub fn edits_follow()
     ensures apart { EditsDoNotOverlap }
     ensures close { EditsLeaveNoGap }
 {}
 
-/// One time of the media is shown at a time.
+/// Proves that at most one time of the media is shown at a time of the presentation.
 pub fn media_time_is_unique()
     ensures { MediaTimeIsUnique }
 {}
 
-/// When a time of the media is presented, it is what is shown; and what is shown is presented then, but in a dwell,
-/// which shows one time for long.
+/// Proves that a time of the media is shown when it is presented, and presented when it is shown. The second holds
+/// except in a dwell, which shows one time for as long as it lasts.
 pub fn presentation_and_reverse_agree()
     ensures shown { PresentedIsShown }
     ensures presented { ShownIsPresented }
 {}
 
-/// Without an edit list the media is presented as it is.
+/// Proves that without an edit list each time of the media is presented at the same time.
 pub fn no_edit_list_is_the_identity()
     ensures { NoEditListIsIdentity }
 {}
 
-/// An edit list of which a fault is true can't be used.
+/// Proves that an edit list with a fault cannot be used.
 pub fn edit_fault_refutes()
     ensures { EditFaultRefutes }
 {}

@@ -1,4 +1,4 @@
-//! When the media of a track is presented, by its edit list.
+//! The edit list of a track, which maps times of its media to times of its presentation.
 
 ghost use Rattle.std.specs.Prelude.{◌≡◌, ◌+◌, ◌*◌, ◌/◌, ◌<◌, ◌≤◌, ◌^◌, ◌↔◌, ℕ, length, pos, IfOk, IsOk, IfErr, IfSome};
 ghost use Rattle.std.specs.Prelude.{IfNone, IsTrue};
@@ -13,7 +13,7 @@ use crate::sample::Sample;
 use mp4_tables::{ElstBox, ElstEntry};
 use std::marker::Model;
 
-/// The one edit of a track without an edit list: it presents the media from its beginning on.
+/// The one edit of a track without an edit list. It presents the media starting at time 0.
 static WHOLE_MEDIA: [ElstEntry; 1] = [ElstEntry {
     segment_duration: 0,
     media_time: 0,
@@ -21,7 +21,7 @@ static WHOLE_MEDIA: [ElstEntry; 1] = [ElstEntry {
     media_rate_fraction: 0,
 }];
 
-/// The edit list of a track, with the timescales of its times. Contracts see the `EditList`.
+/// The edit list of a track, with the timescales of its times. Contracts see an `EditList`.
 #[derive(Drop)]
 pub struct Edits<'a> {
     entries: &'a [ElstEntry],
@@ -50,7 +50,7 @@ impl<'a> Model for Edits<'a> {
     }) };
 }
 
-/// The edits of a box; without one, or without an edit in it, the whole media.
+/// Returns the edits of `elst`, or one edit for the whole media if there is no box or no edit in it.
 fn entries_of<'a>(elst: Option<&'a ElstBox>) -> &'a [ElstEntry]
     ensures { result.now ≡ edits_of elst.entry }
 {
@@ -60,7 +60,7 @@ fn entries_of<'a>(elst: Option<&'a ElstBox>) -> &'a [ElstEntry]
     }
 }
 
-/// Whether the times of a box have 64 bits.
+/// Returns whether the times of `elst` have 64 bits.
 fn has_long_times(elst: Option<&ElstBox>) -> bool
     ensures { result ≡ has_long_times elst.entry }
 {
@@ -70,7 +70,7 @@ fn has_long_times(elst: Option<&ElstBox>) -> bool
     }
 }
 
-/// What is wrong, if anything is.
+/// Checks that an edit list can be used. The error says what is wrong with it.
 fn check(
     entries: &[ElstEntry],
     is_long: bool,
@@ -115,7 +115,7 @@ fn check(
     Ok(())
 }
 
-/// A time in ticks, of which a unit has so many.
+/// Returns `time` in ticks, where `ticks` is the number of ticks in a unit of `time`.
 fn ticks_of(time: u64, ticks: u32) -> u128
     ensures value { result ≡ time * ticks }
     ensures below { result < 2 ^ 96 }
@@ -124,9 +124,9 @@ fn ticks_of(time: u64, ticks: u32) -> u128
 }
 
 impl<'a> Edits<'a> {
-    /// An edit list and the timescales of the movie (`mvhd`) and of the media (`mdhd`), or what is wrong with them.
-    /// Without a box, or without an edit in it, the media is presented as it is. It takes no memory, and a step for
-    /// each edit.
+    /// Makes the edit list of `elst` with the timescales of the movie (`mvhd`) and of the media (`mdhd`). Without a
+    /// box, or without an edit in it, the media is presented unchanged. It takes no memory and one step for each edit.
+    /// The error says what is wrong with the list or the timescales.
     pub fn new(
         elst: Option<&'a ElstBox>,
         movie_timescale: u32,
@@ -147,51 +147,52 @@ impl<'a> Edits<'a> {
         })
     }
 
-    /// How many ticks a second has: the product of both timescales, so that a unit of either is a whole number of
-    /// ticks.
+    /// Returns the number of ticks in a second. It is the product of both timescales, so a unit of either timescale is
+    /// a whole number of ticks.
     pub fn ticks_per_second(&self) -> u64
         ensures { result ≡ self.now.movie_timescale * self.now.media_timescale }
     {
         u64::from(self.movie_timescale) * u64::from(self.media_timescale)
     }
 
-    /// A time of the timescale of the movie in ticks.
+    /// Returns `time`, in the timescale of the movie, in ticks.
     pub fn movie_ticks(&self, time: u64) -> u128
         ensures { result ≡ movie_ticks self.now time }
     {
         ticks_of(time, self.media_timescale)
     }
 
-    /// A time of the timescale of the media in ticks.
+    /// Returns `time`, in the timescale of the media, in ticks.
     pub fn media_ticks(&self, time: u64) -> u128
         ensures { result ≡ media_ticks self.now time }
     {
         ticks_of(time, self.movie_timescale)
     }
 
-    /// So many ticks in whole units of the timescale of the movie, rounded down.
+    /// Returns `ticks` in whole units of the timescale of the movie, rounded down.
     pub fn movie_units(&self, ticks: u128) -> u128
         ensures { result ≡ ticks / self.now.media_timescale }
     {
         ticks / u128::from(self.media_timescale)
     }
 
-    /// So many ticks in whole units of the timescale of the media, rounded down. Samples begin and end at whole units,
-    /// so what lasts at a time lasts at its unit.
+    /// Returns `ticks` in whole units of the timescale of the media, rounded down. Samples start and end at whole
+    /// units, so the sample that covers this unit covers `ticks`.
     pub fn media_units(&self, ticks: u128) -> u128
         ensures { result ≡ ticks / self.now.movie_timescale }
     {
         ticks / u128::from(self.movie_timescale)
     }
 
-    /// How many edits there are; one if there is no edit list.
+    /// Returns the number of edits, which is 1 without an edit list.
     pub fn len(&self) -> usize
         ensures { result ≡ length self.now.entries }
     {
         self.entries.len()
     }
 
-    /// Whether an edit lasts for more than so many ticks. The last one has no end if it plays and has no duration.
+    /// Returns whether edit `index` lasts for more than `ticks`. The last edit has no end if it plays and has no
+    /// duration.
     fn lasts(&self, index: usize, ticks: u128) -> bool
         requires { index < length self.now.entries }
         ensures { IsTrue result ↔ Lasts self.now index ticks }
@@ -203,7 +204,7 @@ impl<'a> Edits<'a> {
             || ticks < ticks_of(entry.segment_duration, self.media_timescale)
     }
 
-    /// The edit that lasts at a time, and when it begins, in the timescale of the movie.
+    /// Returns the edit that covers `ticks`, and when it begins, in the timescale of the movie.
     fn found_at(&self, ticks: u128) -> Option<(usize, u64)>
         ensures covers { IfSome result (λ r. Covers self.now r.0 ticks) }
         ensures begin { IfSome result (λ r. r.1 ≡ begin_of self.now r.0) }
@@ -221,7 +222,7 @@ impl<'a> Edits<'a> {
         None
     }
 
-    /// The edit that lasts at a time of the presentation in ticks, counted from 0.
+    /// Returns the edit that covers `ticks`, a time of the presentation. Edits are counted from 0.
     pub fn edit_at(&self, ticks: u128) -> Option<usize>
         ensures { EditAt self.now ticks result }
     {
@@ -231,8 +232,8 @@ impl<'a> Edits<'a> {
         }
     }
 
-    /// The time of the media in ticks that is shown at a time of the presentation in ticks: none in an empty edit and
-    /// after the last edit. In a dwell the time of the media stands still.
+    /// Returns the time of the media, in ticks, that is shown at `ticks`, a time of the presentation. It is `None` in
+    /// an empty edit and after the last edit. In a dwell the time of the media does not change.
     pub fn media_time_at(&self, ticks: u128) -> Option<u128>
         ensures { MediaAt self.now ticks result }
     {
@@ -255,7 +256,8 @@ impl<'a> Edits<'a> {
         }
     }
 
-    /// When an edit that begins at a time of the movie presents a time of the media.
+    /// Returns when edit `index`, which begins at `begin` in the timescale of the movie, presents the time `time` of
+    /// the media.
     fn presentation_in(&self, index: usize, begin: u64, time: u64) -> Option<u128>
         requires within { index < length self.now.entries }
         requires begin { begin ≡ begin_of self.now index }
@@ -282,8 +284,9 @@ impl<'a> Edits<'a> {
         }
     }
 
-    /// When a time of the media is presented first by the edits from one on: `presentation_of` gives its first
-    /// presentation, and this the next one, from the edit after that on.
+    /// Returns the first presentation of `time`, a time of the media, by edit `first` or a later edit.
+    /// `presentation_of` gives the first presentation of all. Called with the edit after it, this function gives the
+    /// next one.
     pub fn next_presentation(&self, time: u64, first: usize) -> Option<Presentation>
         ensures { FirstPresentation self.now first time result }
     {
@@ -301,7 +304,7 @@ impl<'a> Edits<'a> {
         None
     }
 
-    /// When a composition time of the media, in its timescale, is presented first.
+    /// Returns the first presentation of `time`, a composition time in the timescale of the media.
     pub fn presentation_of(&self, time: u64) -> Option<Presentation>
         ensures { FirstPresentation self.now 0 time result }
     {
@@ -310,8 +313,8 @@ impl<'a> Edits<'a> {
 }
 
 impl Sample {
-    /// When it is composed, in the timescale of the media: its start time plus its rendering offset, the time that an
-    /// edit list takes. None before 0, where no edit shows it, and past 2^64 - 1.
+    /// Returns the composition time of the sample, in the timescale of the media: its start time plus its rendering
+    /// offset. Edit lists map this time. It is `None` below 0, where no edit shows it, and above 2^64 - 1.
     pub fn composition_time(&self) -> Option<u64>
         ensures { CompositionTime self.now result }
     {

@@ -1,4 +1,4 @@
-//! A track fragment, and what its boxes say of its samples.
+//! A track fragment and the properties of its samples.
 
 ghost use Rattle.std.specs.Prelude.{◌≡◌, slice_index_or};
 ghost use Rattle.mp4_samples.specs.FragmentGives.{begins};
@@ -10,34 +10,34 @@ use crate::fragment_samples::FragmentSamples;
 use mp4_flat::{TfdtBox, TrexBox};
 use mp4_tables::{TfhdBox, TrunBox};
 
-/// The flag of `tfhd` that says that data offsets count from the `moof` (8.8.7.1).
+/// The flag of `tfhd` for data offsets that count from the `moof` (8.8.7.1).
 pub const DEFAULT_BASE_IS_MOOF: u32 = 0x02_0000;
-/// The flag of a sample that says that it is no sync sample (8.8.3.1).
+/// The flag of a sample that is not a sync sample (8.8.3.1).
 pub const SAMPLE_IS_NON_SYNC: u32 = 0x01_0000;
 
-/// A track fragment (`traf`), and what its samples take from around it.
+/// A track fragment (`traf`), with what its samples take from other boxes.
 #[derive(Clone, Copy)]
 pub struct Fragment<'a> {
     /// The defaults of the track.
     pub trex: &'a TrexBox,
     /// The header of the fragment.
     pub tfhd: &'a TfhdBox,
-    /// When its first sample is decoded, if it says so.
+    /// The box with the decode time of its first sample, if present.
     pub tfdt: Option<&'a TfdtBox>,
     /// Its runs, in the order of the file.
     pub runs: &'a [TrunBox],
-    /// Where its `moof` begins, in bytes from the front of the file.
+    /// The offset of its `moof` from the start of the file.
     pub moof: u64,
-    /// Where the data of the `traf` before it in the same `moof` ends; for the first one, where the `moof` begins. It
-    /// is taken where `tfhd` names no base.
+    /// The end of the data of the `traf` before it in the same `moof`, or the offset of the `moof` for the first
+    /// `traf`. It is the base of data offsets if `tfhd` names none.
     pub data_end: u64,
-    /// When the samples of the track before it end, in the timescale of the media. It is taken where there is no
-    /// `tfdt`.
+    /// The end time of the samples of the track before it, in the timescale of the media. It is the start time if there
+    /// is no `tfdt`.
     pub time_end: u64,
 }
 
 impl<'a> Fragment<'a> {
-    /// Its samples, from the first to the last.
+    /// Returns an iterator over the samples, from the first to the last.
     pub fn samples(&self) -> FragmentSamples<'a>
         ensures { result ≡ begins self.now }
     {
@@ -45,7 +45,7 @@ impl<'a> Fragment<'a> {
     }
 }
 
-/// The duration of a sample of which its run lists none.
+/// Returns the duration of a sample whose run lists no duration for it.
 fn default_duration(fragment: &Fragment<'_>) -> u32
     ensures { result ≡ default_duration fragment.now }
 {
@@ -55,7 +55,7 @@ fn default_duration(fragment: &Fragment<'_>) -> u32
         .unwrap_or(fragment.trex.default_sample_duration)
 }
 
-/// The size of a sample of which its run lists none.
+/// Returns the size of a sample whose run lists no size for it.
 pub fn default_size(fragment: &Fragment<'_>) -> u32
     ensures { result ≡ default_size fragment.now }
 {
@@ -65,7 +65,7 @@ pub fn default_size(fragment: &Fragment<'_>) -> u32
         .unwrap_or(fragment.trex.default_sample_size)
 }
 
-/// The flags of a sample of which its run says nothing.
+/// Returns the flags of a sample whose run has no flags for it.
 fn default_flags(fragment: &Fragment<'_>) -> u32
     ensures { result ≡ default_flags fragment.now }
 {
@@ -75,7 +75,7 @@ fn default_flags(fragment: &Fragment<'_>) -> u32
         .unwrap_or(fragment.trex.default_sample_flags)
 }
 
-/// The index of the sample entry of its samples, counted from 1.
+/// Returns the index of the sample entry of all samples of `fragment`, counted from 1.
 pub fn description_in(fragment: &Fragment<'_>) -> u32
     ensures { result ≡ description_in fragment.now }
 {
@@ -85,7 +85,7 @@ pub fn description_in(fragment: &Fragment<'_>) -> u32
         .unwrap_or(fragment.trex.default_sample_description_index)
 }
 
-/// The number at an index, or the default if the list has none.
+/// Returns the number at `index`, or `default` if `numbers` has none there.
 fn listed_or(numbers: &[u32], index: u32, default: u32) -> u32
     ensures { result ≡ slice_index_or numbers.now index default }
 {
@@ -95,7 +95,7 @@ fn listed_or(numbers: &[u32], index: u32, default: u32) -> u32
     }
 }
 
-/// The duration of a sample of a run.
+/// Returns the duration of sample `index` of `trun`.
 pub fn duration_in(fragment: &Fragment<'_>, trun: &TrunBox, index: u32) -> u32
     ensures { result ≡ duration_in fragment.now trun.now index }
 {
@@ -106,14 +106,14 @@ pub fn duration_in(fragment: &Fragment<'_>, trun: &TrunBox, index: u32) -> u32
     )
 }
 
-/// The size of a sample of a run.
+/// Returns the size of sample `index` of `trun`.
 pub fn size_in(fragment: &Fragment<'_>, trun: &TrunBox, index: u32) -> u32
     ensures { result ≡ size_in fragment.now trun.now index }
 {
     listed_or(trun.sample_sizes.as_slice(), index, default_size(fragment))
 }
 
-/// The flags of a sample of a run.
+/// Returns the flags of sample `index` of `trun`.
 fn flags_in(fragment: &Fragment<'_>, trun: &TrunBox, index: u32) -> u32
     ensures { result ≡ flags_in fragment.now trun.now index }
 {
@@ -126,14 +126,15 @@ fn flags_in(fragment: &Fragment<'_>, trun: &TrunBox, index: u32) -> u32
     listed_or(trun.sample_flags.as_slice(), index, default)
 }
 
-/// Whether a sample of a run is a sync sample.
+/// Returns whether sample `index` of `trun` is a sync sample.
 pub fn is_sync_in(fragment: &Fragment<'_>, trun: &TrunBox, index: u32) -> bool
     ensures { result ≡ is_sync_in fragment.now trun.now index }
 {
     flags_in(fragment, trun, index) & SAMPLE_IS_NON_SYNC == 0
 }
 
-/// The composition time of a sample of a run, minus its decode time. It is signed from version 1 on.
+/// Returns the composition time of sample `index` of `trun`, minus its decode time. It is unsigned in version 0 of the
+/// box and signed in later versions.
 pub fn rendering_offset_in(trun: &TrunBox, index: u32) -> i64
     ensures { result ≡ rendering_offset_in trun.now index }
 {
@@ -145,7 +146,7 @@ pub fn rendering_offset_in(trun: &TrunBox, index: u32) -> i64
     }
 }
 
-/// What the data offsets of its runs count from.
+/// Returns the offset from which the data offsets of the runs count.
 pub fn base_of(fragment: &Fragment<'_>) -> u64
     ensures { result ≡ base_of fragment.now }
 {
@@ -161,7 +162,7 @@ pub fn base_of(fragment: &Fragment<'_>) -> u64
     }
 }
 
-/// When its first sample is decoded.
+/// Returns the decode time of the first sample.
 pub fn start_of(fragment: &Fragment<'_>) -> u64
     ensures { result ≡ start_of fragment.now }
 {

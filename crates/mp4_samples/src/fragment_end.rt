@@ -1,4 +1,4 @@
-//! Where the data of a fragment end.
+//! The end of the data of a fragment.
 
 ghost use Rattle.std.specs.Prelude.{◌≡◌, ◌+◌, ◌*◌, ◌<◌, ◌≤◌, ◌≤ℤ◌, ◌^◌, ◌⊎◌, length, pos, negsuc, IfSome, IfNone};
 ghost use Rattle.mp4_samples.specs.Fragments.{base_of, bytes_before, runs_end, start_after, HasOffset};
@@ -8,16 +8,16 @@ use crate::fragment::{Fragment, base_of, default_size, size_in};
 use crate::fragment_place::{offset_in_file, run_of};
 use mp4_tables::TrunBox;
 
-/// Where the first runs of a fragment end.
+/// The end of the first runs of a fragment.
 #[derive(Clone, Copy)]
 pub struct Reached {
-    /// How many runs they are.
+    /// The number of these runs.
     pub run: usize,
-    /// Where the last of them ends.
+    /// The end of the last of these runs.
     pub end: i128,
 }
 
-/// How many bytes the samples of a run have. It takes a step for each size that the run lists.
+/// Returns the number of bytes of the samples of `trun`. It takes one step for each size that the run lists.
 fn bytes_of(fragment: &Fragment<'_>, trun: &TrunBox) -> u64
     ensures { result ≡ bytes_before fragment.now trun.now trun.now.sample_count }
 {
@@ -30,7 +30,7 @@ fn bytes_of(fragment: &Fragment<'_>, trun: &TrunBox) -> u64
     bytes + u64::from(count - listed) * u64::from(default_size(fragment))
 }
 
-/// Where a run begins after these.
+/// Returns the offset of `trun`, the run after those of `reached`.
 fn begin_after(fragment: &Fragment<'_>, reached: Reached, trun: &TrunBox) -> i128
     requires { IsReached fragment.now reached }
     ensures begin { result ≡ start_after (base_of fragment.now) reached.end trun.now.data_offset }
@@ -43,7 +43,7 @@ fn begin_after(fragment: &Fragment<'_>, reached: Reached, trun: &TrunBox) -> i12
     }
 }
 
-/// Where one more run ends.
+/// Returns `reached` with one more run.
 fn with_run(fragment: &Fragment<'_>, reached: Reached) -> Reached
     requires at { IsReached fragment.now reached }
     requires few { reached.run < 2 ^ 32 }
@@ -60,8 +60,9 @@ fn with_run(fragment: &Fragment<'_>, reached: Reached) -> Reached
 }
 
 impl<'a> Fragment<'a> {
-    /// Where the data of its last run end, which is the `data_end` of the next `traf` of the `moof`. None if that is
-    /// outside the file, or there are 2^32 runs or more. It takes a step for each size that a run lists.
+    /// Returns the end of the data of the last run, which is the `data_end` of the next `traf` of the `moof`. It is
+    /// `None` if this end is below 0 or above 2^64 - 1, or if there are 2^32 runs or more. It takes one step for each
+    /// size that a run lists.
     pub fn end(&self) -> Option<u64>
         ensures some { IfSome result (λ end. pos end ≡ runs_end self.now (length self.now.runs.now)) }
         ensures none { IfNone result

@@ -1,4 +1,4 @@
-//! Going from sample to sample in the runs of a fragment.
+//! A cursor over the samples of a fragment.
 
 ghost use Rattle.std.specs.Prelude.{◌≡◌, ◌+◌, ◌<◌, ◌≤◌, length, IfOk, IfErr, IfSome, IfNone, pos};
 ghost use Rattle.mp4_samples.specs.Fragments.{run_at, runs_end, sample_offset, base_of, start_after, HasOffset};
@@ -15,18 +15,18 @@ use mp4_tables::TrunBox;
 
 /// A place between two samples of a fragment.
 #[derive(Clone, Copy)]
-pub struct Place {
+pub struct FragmentPlace {
     /// The run, counted from 0.
     pub run: usize,
-    /// How many of its samples are before the place.
+    /// The number of samples of the run before the place.
     pub index: u32,
-    /// Where the sample before it ends; before the first sample of a run, where the run before it ends.
+    /// The end of the sample before the place. At the first sample of a run it is the end of the run before it.
     pub offset: i128,
-    /// When the sample before it ends.
+    /// The end time of the sample before the place.
     pub time: u64,
 }
 
-/// A run of a fragment.
+/// Returns run `run` of `fragment`.
 pub fn run_of<'a>(fragment: &Fragment<'a>, run: usize) -> &'a TrunBox
     requires { run < length fragment.now.runs.now }
     ensures { result.now ≡ run_at fragment.now run }
@@ -34,7 +34,7 @@ pub fn run_of<'a>(fragment: &Fragment<'a>, run: usize) -> &'a TrunBox
     &fragment.runs[run]
 }
 
-/// Where a run begins that comes after data that ends at `end`.
+/// Returns the offset of `trun`, a run after data that ends at `end`.
 fn start_after(fragment: &Fragment<'_>, end: i128, trun: &TrunBox) -> i128
     ensures { result ≡ start_after (base_of fragment.now) end trun.now.data_offset }
 {
@@ -44,8 +44,8 @@ fn start_after(fragment: &Fragment<'_>, end: i128, trun: &TrunBox) -> i128
     }
 }
 
-/// Where the next sample of a run begins.
-fn begin_of(fragment: &Fragment<'_>, trun: &TrunBox, place: Place) -> i128
+/// Returns the offset of the sample at `place`, a place in `trun`.
+fn begin_of(fragment: &Fragment<'_>, trun: &TrunBox, place: FragmentPlace) -> i128
     requires at { IsAt fragment.now place }
     requires run { trun.now ≡ run_at fragment.now place.run }
     ensures { result ≡ sample_offset fragment.now place.run place.index }
@@ -57,7 +57,7 @@ fn begin_of(fragment: &Fragment<'_>, trun: &TrunBox, place: Place) -> i128
     }
 }
 
-/// The number as an offset in a file.
+/// Returns `begin` as an offset in a file, or `None` if it is below 0 or above 2^64 - 1.
 pub fn offset_in_file(begin: i128) -> Option<u64>
     ensures some { IfSome result (λ offset. pos offset ≡ begin) }
     ensures none { IfNone result (¬ HasOffset begin 0) }
@@ -68,7 +68,7 @@ pub fn offset_in_file(begin: i128) -> Option<u64>
     Some(begin as u64)
 }
 
-/// Where so many bytes begin and end, if they end below 2^64.
+/// Returns where `size` bytes at `begin` begin and end, or `None` if they begin below 0 or end above 2^64 - 1.
 fn extent_of(begin: i128, size: u32) -> Option<(u64, u64)>
     ensures begin { IfSome result (λ r. pos r.0 ≡ begin) }
     ensures end { IfSome result (λ r. r.1 ≡ r.0 + size) }
@@ -83,13 +83,13 @@ fn extent_of(begin: i128, size: u32) -> Option<(u64, u64)>
     }
 }
 
-/// The place before the first sample.
-pub fn first_place(fragment: &Fragment<'_>) -> Place
+/// Returns the place before the first sample.
+pub fn first_place(fragment: &Fragment<'_>) -> FragmentPlace
     ensures at { IsAt fragment.now result }
     ensures run { result.run ≡ 0 }
     ensures index { result.index ≡ 0 }
 {
-    Place {
+    FragmentPlace {
         run: 0,
         index: 0,
         offset: i128::from(base_of(fragment)),
@@ -97,8 +97,8 @@ pub fn first_place(fragment: &Fragment<'_>) -> Place
     }
 }
 
-/// The place after a run of which all samples are before the place.
-fn after_run(fragment: &Fragment<'_>, trun: &TrunBox, place: Place) -> Place
+/// Returns the place after `trun`, whose samples are all before `place`.
+fn after_run(fragment: &Fragment<'_>, trun: &TrunBox, place: FragmentPlace) -> FragmentPlace
     requires at { IsAt fragment.now place }
     requires within { place.run < length fragment.now.runs.now }
     requires run { trun.now ≡ run_at fragment.now place.run }
@@ -108,7 +108,7 @@ fn after_run(fragment: &Fragment<'_>, trun: &TrunBox, place: Place) -> Place
     ensures run { result.run ≡ place.run + 1 }
     ensures index { result.index ≡ 0 }
 {
-    Place {
+    FragmentPlace {
         run: place.run + 1,
         index: 0,
         offset: begin_of(fragment, trun, place),
@@ -116,8 +116,9 @@ fn after_run(fragment: &Fragment<'_>, trun: &TrunBox, place: Place) -> Place
     }
 }
 
-/// The same place, in a run that has a sample left, or after the last run. It takes a step a run.
-pub fn in_run(fragment: &Fragment<'_>, place: Place) -> Place
+/// Returns `place`, moved to the next run that has a sample, or after the last run, if its run has no sample left. It
+/// takes one step for each run that it passes.
+pub fn in_run(fragment: &Fragment<'_>, place: FragmentPlace) -> FragmentPlace
     requires { IsAt fragment.now place }
     ensures at { IsAt fragment.now result }
     ensures same { number_at fragment.now result ≡ number_at fragment.now place }
@@ -135,8 +136,11 @@ pub fn in_run(fragment: &Fragment<'_>, place: Place) -> Place
     at
 }
 
-/// The sample at a place, and the place after it.
-pub fn sample_at(fragment: &Fragment<'_>, place: Place) -> Result<(Sample, Place), FragmentFault>
+/// Returns the sample at `place`, and the place after it.
+pub fn sample_at(
+    fragment: &Fragment<'_>,
+    place: FragmentPlace,
+) -> Result<(Sample, FragmentPlace), FragmentFault>
     requires at { IsAt fragment.now place }
     requires within { place.run < length fragment.now.runs.now }
     requires left { place.index < (run_at fragment.now place.run).sample_count }
@@ -171,7 +175,7 @@ pub fn sample_at(fragment: &Fragment<'_>, place: Place) -> Result<(Sample, Place
         sample_description_index: description_in(fragment),
         chunk: run as u32 + 1,
     };
-    let next = Place {
+    let next = FragmentPlace {
         run,
         index: index + 1,
         offset: i128::from(end),

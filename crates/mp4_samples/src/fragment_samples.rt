@@ -7,17 +7,17 @@ ghost use Rattle.mp4_samples.specs.FragmentGives.{begins, offset_of, time_of};
 
 use crate::fragment::Fragment;
 use crate::fragment_fault::FragmentFault;
-use crate::fragment_place::{Place, first_place, in_run, offset_in_file, sample_at};
+use crate::fragment_place::{FragmentPlace, first_place, in_run, offset_in_file, sample_at};
 use crate::sample::Sample;
 use std::iter::FusedIterator;
 use std::marker::Model;
 
-/// The samples of a fragment, from the first to the last. Each item is a sample, or why it can't be told, and after
-/// that nothing comes. Contracts see the `FragmentProgress`.
+/// The samples of a fragment, from the first to the last. Each item is a sample or its fault, and a fault is the last
+/// item. Contracts see a `FragmentProgress`.
 #[derive(Drop)]
 pub struct FragmentSamples<'a> {
     fragment: Fragment<'a>,
-    place: Place,
+    place: FragmentPlace,
     ended: bool,
 }
 
@@ -33,7 +33,7 @@ impl<'a> Model for FragmentSamples<'a> {
 }
 
 impl<'a> FragmentSamples<'a> {
-    /// The samples of a fragment.
+    /// Returns an iterator over the samples of `fragment`.
     pub(crate) fn new(fragment: Fragment<'a>) -> FragmentSamples<'a>
         ensures { result ≡ begins fragment.entry }
     {
@@ -44,16 +44,16 @@ impl<'a> FragmentSamples<'a> {
         }
     }
 
-    /// When the sample ends that came last, in the timescale of the media. After the last one that is the `time_end` of
-    /// the next fragment of the track.
+    /// Returns the end time of the sample that was returned last, in the timescale of the media. After the last sample
+    /// it is the `time_end` of the next fragment of the track.
     pub fn time(&self) -> u64
         ensures { result ≡ time_of self.now }
     {
         self.place.time
     }
 
-    /// Where the sample ends that came last. After the last one that is the `data_end` of the next `traf` of the
-    /// `moof`. None if it is outside the file, which it can be where a run has no samples.
+    /// Returns the end of the sample that was returned last. After the last sample it is the `data_end` of the next
+    /// `traf` of the `moof`. It is `None` below 0 and above 2^64 - 1, which is possible if a run has no samples.
     pub fn offset(&self) -> Option<u64>
         ensures some { IfSome result (λ offset. pos offset ≡ offset_of self.now) }
         ensures none { IfNone result (¬ HasOffset (offset_of self.now) 0) }

@@ -1,4 +1,4 @@
-//! What follows from the definitions. The bodies are empty: the contracts speak of the definitions alone.
+//! Laws that follow from the definitions. The bodies are empty, since the contracts are only about the definitions.
 
 ghost use Rattle.mp4_samples.specs.Laws.{SampleIsUnique, DisagreementRefutes, SamplesAreAdjacent, SamplesDoNotOverlap};
 ghost use Rattle.mp4_samples.specs.Laws.{TimesFollow, TimesDoNotDecrease, DurationsAddUp, EntriesAddUp};
@@ -7,55 +7,56 @@ ghost use Rattle.mp4_samples.specs.FragmentLaws.{FragmentTimesFollow, FragmentTi
 ghost use Rattle.mp4_samples.specs.FragmentLaws.{FragmentDurationsAddUp, FragmentCountsAddUp};
 ghost use Rattle.mp4_samples.specs.FragmentLaws.{FragmentSamplesAreCounted};
 
-/// The tables say one thing of a sample: what the iterator gives and what `sample` gives are the same.
+/// Proves that the tables determine each sample, so that the iterator and `sample` give the same one.
 pub fn sample_is_unique()
     ensures { SampleIsUnique }
 {}
 
-/// Tables of which a disagreement is true are not consistent.
+/// Proves that tables with a disagreement are not consistent.
 pub fn disagreement_refutes()
     ensures { DisagreementRefutes }
 {}
 
-/// In a chunk each sample begins where the one before it ends, and no two have a byte in common.
+/// Proves that each sample of a chunk begins where the sample before it ends, and that no two share a byte.
 pub fn samples_of_a_chunk_follow()
     ensures adjacent { SamplesAreAdjacent }
     ensures apart { SamplesDoNotOverlap }
 {}
 
-/// A sample starts when the one before it ends, and so no later one starts before that.
+/// Proves that a sample starts when the sample before it ends, and that no later sample starts before then.
 pub fn times_follow()
     ensures next { TimesFollow }
     ensures order { TimesDoNotDecrease }
 {}
 
-/// The last sample ends at the sum of the durations of all, which is that of the entries of `stts` where these count no
-/// more samples than there are.
+/// Proves that the last sample ends at the sum of all durations. This is the sum over the entries of `stts` if they
+/// count as many samples as `stsz`.
 pub fn durations_add_up()
     ensures samples { DurationsAddUp }
     ensures entries { EntriesAddUp }
 {}
 
-/// The boxes of a fragment say one thing of a sample.
+/// Proves that the boxes of a fragment determine each sample.
 pub fn fragment_sample_is_unique()
     ensures { FragmentSampleIsUnique }
 {}
 
-/// In a run of a fragment each sample begins where the one before it ends, and no two have a byte in common.
+/// Proves that each sample of a run of a fragment begins where the sample before it ends, and that no two share a byte.
 pub fn samples_of_a_run_follow()
     ensures adjacent { RunSamplesAreAdjacent }
     ensures apart { RunSamplesDoNotOverlap }
 {}
 
-/// A sample of a fragment starts when the one before it ends, also where that is in another run, and the first one
-/// starts when the fragment does.
+/// Proves that a sample of a fragment starts when the sample before it ends, even if that is in another run. The first
+/// sample starts when the fragment does.
 pub fn fragment_times_follow()
     ensures next { FragmentTimesFollow }
     ensures order { FragmentTimesDoNotDecrease }
     ensures first { FragmentBegins }
 {}
 
-/// A fragment has as many samples as its runs count, and the last one ends at the sum of the durations of all.
+/// Proves that a fragment has as many samples as its runs count, and that the last one ends at the sum of all
+/// durations.
 pub fn fragment_adds_up()
     ensures counts { FragmentCountsAddUp }
     ensures counted { FragmentSamplesAreCounted }

@@ -1,4 +1,4 @@
-//! Where the samples of a track are in its file, and when: over the tables of the codec, and over its fragments.
+//! The offsets and times of a track's samples, from the tables of its `stbl` and from its fragments.
 #![tactic(auto)]
 
 mod access;
@@ -20,6 +20,7 @@ mod lookup_by_marks;
 mod marks;
 mod presentation;
 mod run_place;
+mod runs;
 mod sample;
 mod sample_index;
 mod sample_tables;

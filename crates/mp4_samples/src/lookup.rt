@@ -1,11 +1,12 @@
-//! The sample at a time.
+//! The sample at a time, found by a walk over the runs.
 
 ghost use Rattle.std.specs.Prelude.{◌≡◌, ◌<◌, ◌≤◌, IfSome, IfNone};
 ghost use Rattle.mp4_samples.specs.Runs.{start_of, Covers};
 
 use mp4_tables::SttsEntry;
 
-/// The sample that lasts at a time, if it is one of so many. It takes a step a run.
+/// Returns the number of the sample that covers `time`, or `None` if the first `count` samples have ended then. It
+/// takes one step for each run.
 pub fn number_at(entries: &[SttsEntry], count: u32, time: u64) -> Option<u32>
     ensures within { IfSome result (λ number. number < count) }
     ensures covers { IfSome result (Covers entries.now time) }

@@ -1,4 +1,4 @@
-//! What the tables say of one sample, found by the marks of an index.
+//! A sample of a track, found by the marks of an index.
 
 ghost use Rattle.std.specs.Prelude.{◌≡◌, ◌-◌, ◌<◌, ◌≤◌, ◌^◌, true, length, slice_index_or, IfSome, IfNone};
 ghost use Rattle.mp4_samples.specs.Runs.{durations, duration_of, start_of, rendering_offset_of, Covers};
@@ -20,7 +20,8 @@ use crate::syncs::is_sync;
 use crate::tables::Tables;
 use mp4_tables::{CttsEntry, StscEntry, StszBox, SttsEntry};
 
-/// The last chunk before the next entry, which is the last of so many if there is none.
+/// Returns the last chunk before entry `run`, or the last of the first `count` chunks if entry `run` begins in none of
+/// them.
 fn last_before(runs: &[StscEntry], befores: &[u64], count: u32, run: usize) -> u32
     requires increase { chunks_increase 0 runs.now ≡ true }
     requires marks { AreBefores runs.now count befores.now }
@@ -34,7 +35,7 @@ fn last_before(runs: &[StscEntry], befores: &[u64], count: u32, run: usize) -> u
     }
 }
 
-/// The chunks of one entry that hold a sample.
+/// Returns the chunks of the entry that holds sample `number`, among the first `count` chunks.
 fn stretch_at(runs: &[StscEntry], befores: &[u64], count: u32, number: u32) -> Stretch
     requires increase { chunks_increase 0 runs.now ≡ true }
     requires marks { AreBefores runs.now count befores.now }
@@ -62,7 +63,7 @@ fn stretch_at(runs: &[StscEntry], befores: &[u64], count: u32, number: u32) -> S
     }
 }
 
-/// The start time and the duration of a sample.
+/// Returns the start time and the duration of sample `number`.
 fn times_at(entries: &[SttsEntry], firsts: &[u32], times: &[u64], number: u32) -> (u64, u32)
     requires { IsTimed entries.now firsts.now times.now number }
     ensures start { result.0 ≡ start_of entries.now number }
@@ -73,7 +74,7 @@ fn times_at(entries: &[SttsEntry], firsts: &[u32], times: &[u64], number: u32) -
     (times[run] + time_of(number - firsts[run], delta), delta)
 }
 
-/// The rendering offset of a sample.
+/// Returns the composition offset of sample `number`.
 fn offset_at(entries: &[CttsEntry], firsts: &[u32], number: u32) -> i32
     requires { IsShifted entries.now firsts.now number }
     ensures { result ≡ rendering_offset_of entries.now number }
@@ -90,7 +91,7 @@ fn offset_at(entries: &[CttsEntry], firsts: &[u32], number: u32) -> i32
     }
 }
 
-/// The bytes of the samples before one.
+/// Returns the number of bytes of the samples before `number`.
 fn bytes_before(stsz: &StszBox, marks: &[u64], number: u32) -> u64
     requires listed { stsz.now.sample_size ≡ 0 }
     requires sizes { length stsz.now.sample_sizes ≡ stsz.now.sample_count }
@@ -103,7 +104,7 @@ fn bytes_before(stsz: &StszBox, marks: &[u64], number: u32) -> u64
     marks[block as usize] + bytes_between(stsz, block * BLOCK, number)
 }
 
-/// The bytes of the samples from one up to, but without, another. It takes at most a step for each size of a block.
+/// Returns the number of bytes of the samples from `first` up to, but not including, `end`. It adds at most 126 sizes.
 fn bytes_from(stsz: &StszBox, marks: &[u64], first: u32, end: u32) -> u64
     requires listed { stsz.now.sample_size ≡ 0 → length stsz.now.sample_sizes ≡ stsz.now.sample_count }
     requires fits { bytes_of stsz.now 0 stsz.now.sample_count < 2 ^ 64 }
@@ -118,7 +119,7 @@ fn bytes_from(stsz: &StszBox, marks: &[u64], first: u32, end: u32) -> u64
     bytes_before(stsz, marks, end) - bytes_before(stsz, marks, first)
 }
 
-/// The sample of a number that is counted.
+/// Returns sample `number`.
 pub fn sample_by_marks(tables: &Tables<'_>, marks: &Marks, number: u32) -> Sample
     requires consistent { AreConsistent tables.now }
     requires marks { AreMarks tables.now marks.now }
@@ -149,7 +150,7 @@ pub fn sample_by_marks(tables: &Tables<'_>, marks: &Marks, number: u32) -> Sampl
     }
 }
 
-/// The sample that lasts at a time, if it is one of so many.
+/// Returns the number of the sample that covers `time`, or `None` if the first `count` samples have ended then.
 pub fn number_by_marks(
     entries: &[SttsEntry],
     firsts: &[u32],

@@ -1,4 +1,4 @@
-//! What an index keeps of each table, so that a place in it is found by binary search.
+//! The marks that an index keeps of each table, for binary search.
 
 ghost use Rattle.std.specs.Prelude.{◌≡◌, ◌+◌, ◌-◌, ◌*◌, ◌/◌, ◌<◌, ◌≤◌, ◌^◌, ◌==◌, true, length, IfOk, IfErr};
 ghost use Rattle.std.specs.Prelude.{if◌then◌else◌};
@@ -8,44 +8,46 @@ ghost use Rattle.mp4_samples.specs.Chunks.{chunks_increase};
 ghost use Rattle.mp4_samples.specs.Sizes.{bytes_of};
 ghost use Rattle.mp4_samples.specs.Samples.{AreConsistent};
 ghost use Rattle.mp4_samples.specs.Index.{most_bytes};
-ghost use Rattle.mp4_samples.specs.Marks.{AreBefores, AreFirstsOfDurations, AreFirstsOfOffsets, AreTimes, AreBytes};
+ghost use Rattle.mp4_samples.specs.Marks.{AreBefores, AreFirsts, AreFirstsOfDurations, AreTimes, AreBytes};
 ghost use Rattle.mp4_samples.specs.Marks.{AreMarks, bytes_of_marks};
 
 use crate::access::bytes_between;
-use crate::chunk_place::{ChunkPlace, before_chunks};
+use crate::chunk_place::{at_next_entry, before_chunks};
+use crate::runs::Run;
 use crate::state::{chunk_count, ctts_entries};
 use crate::tables::Tables;
 use mp4_frame::Result;
-use mp4_tables::{CttsEntry, StscEntry, StszBox, SttsEntry};
+use mp4_tables::{StscEntry, StszBox, SttsEntry};
 use std::alloc::Global;
 
-/// Of how many sizes there is one sum.
+/// The number of sizes in a block. An index keeps one sum for each block.
 pub const BLOCK: u32 = 64;
 
-/// Where the runs of each table begin, and where every block of sizes does.
+/// The first sample of each run of a table, and the number of bytes before each block of sizes.
 #[derive(Drop)]
 pub struct Marks {
-    /// How many samples are before the first chunk of each entry of `stsc`.
+    /// The number of samples before the first chunk of each entry of `stsc`.
     pub befores: Vec<u64>,
     /// The first sample of each entry of `stts`.
     pub firsts: Vec<u32>,
-    /// When it starts.
+    /// The start time of this sample.
     pub times: Vec<u64>,
     /// The first sample of each entry of `ctts`.
     pub shifts: Vec<u32>,
-    /// How many bytes are before each block of sizes, where sizes are listed.
+    /// The number of bytes before each block of sizes, where sizes are listed.
     pub bytes: Vec<u64>,
 }
 
-/// How long so many samples of the same duration last.
+/// Returns the time that `samples` samples of duration `delta` last.
 pub fn time_of(samples: u32, delta: u32) -> u64
-    ensures is { result ≡ samples * delta }
-    ensures most { result ≤ samples * (2 ^ 32 - 1) }
+    ensures value { result ≡ samples * delta }
+    ensures bound { result ≤ samples * (2 ^ 32 - 1) }
 {
     u64::from(samples) * u64::from(delta)
 }
 
-/// How many samples are before the first chunk of each entry, as far as there are chunks.
+/// Returns the number of samples before the first chunk of each entry of `runs`, for the entries that begin in the
+/// first `count` chunks. The only error is out of memory.
 fn befores_of(alloc: Global, runs: &[StscEntry], count: u32) -> Result<Vec<u64>>
     requires { chunks_increase 0 runs.now ≡ true }
     ensures marks { IfOk result (λ v. AreBefores runs.now count v.items) }
@@ -56,31 +58,26 @@ fn befores_of(alloc: Global, runs: &[StscEntry], count: u32) -> Result<Vec<u64>>
     let mut place = before_chunks();
     let mut total = 0;
     while place.run < runs.len() && runs[place.run].first_chunk <= count {
-        let entry = runs[place.run];
-        let skipped = entry.first_chunk - 1 - place.chunk;
-        let before = total + u64::from(skipped) * u64::from(place.entry.samples_per_chunk);
+        let (next, before, through) = at_next_entry(runs, place, total);
         befores.push_reserved(before);
-        total = before + u64::from(entry.samples_per_chunk);
-        place = ChunkPlace {
-            chunk: entry.first_chunk,
-            entry,
-            run: place.run + 1,
-        };
+        total = through;
+        place = next;
     }
     Ok(befores)
 }
 
-/// The first sample of each run of durations that begins before so many samples.
-fn firsts_of_durations(alloc: Global, entries: &[SttsEntry], count: u32) -> Result<Vec<u32>>
-    ensures marks { IfOk result (λ v. AreFirstsOfDurations entries.now count v.items) }
+/// Returns the first sample of each run of `entries` that begins before sample `total`. The only error is out of
+/// memory.
+fn firsts_of<R: Run>(alloc: Global, entries: &[R], total: u32) -> Result<Vec<u32>>
+    ensures marks { IfOk result (λ v. AreFirsts R.count entries.now total v.items) }
     ensures memory { IfOk result (λ v. vec_capacity v ≡ length entries.now) }
     ensures err { IfErr result (λ e. e ≡ OutOfMemory) }
 {
     let mut firsts = Vec::with_capacity(alloc, entries.len())?;
     let mut first = 0;
     let mut run = 0;
-    while run < entries.len() && first < count {
-        let samples = entries[run].sample_count.min(count - first);
+    while run < entries.len() && first < total {
+        let samples = entries[run].count().min(total - first);
         firsts.push_reserved(first);
         first += samples;
         run += 1;
@@ -88,25 +85,7 @@ fn firsts_of_durations(alloc: Global, entries: &[SttsEntry], count: u32) -> Resu
     Ok(firsts)
 }
 
-/// The same of the runs of rendering offsets.
-fn firsts_of_offsets(alloc: Global, entries: &[CttsEntry], count: u32) -> Result<Vec<u32>>
-    ensures marks { IfOk result (λ v. AreFirstsOfOffsets entries.now count v.items) }
-    ensures memory { IfOk result (λ v. vec_capacity v ≡ length entries.now) }
-    ensures err { IfErr result (λ e. e ≡ OutOfMemory) }
-{
-    let mut firsts = Vec::with_capacity(alloc, entries.len())?;
-    let mut first = 0;
-    let mut run = 0;
-    while run < entries.len() && first < count {
-        let samples = entries[run].sample_count.min(count - first);
-        firsts.push_reserved(first);
-        first += samples;
-        run += 1;
-    }
-    Ok(firsts)
-}
-
-/// When the first sample of each run starts.
+/// Returns the start time of each sample of `firsts`. The only error is out of memory.
 fn times_of(alloc: Global, entries: &[SttsEntry], firsts: &[u32], count: u32) -> Result<Vec<u64>>
     requires { AreFirstsOfDurations entries.now count firsts.now }
     ensures marks { IfOk result (λ v. AreTimes entries.now firsts.now v.items) }
@@ -124,7 +103,8 @@ fn times_of(alloc: Global, entries: &[SttsEntry], firsts: &[u32], count: u32) ->
     Ok(times)
 }
 
-/// How many bytes are before each block of sizes. It takes a step for each size that is listed.
+/// Returns the number of bytes before each block of sizes. It takes one step for each size that is listed. The only
+/// error is out of memory.
 fn blocks_of(alloc: Global, stsz: &StszBox) -> Result<Vec<u64>>
     requires listed { stsz.now.sample_size ≡ 0 → length stsz.now.sample_sizes ≡ stsz.now.sample_count }
     requires fits { bytes_of stsz.now 0 stsz.now.sample_count < 2 ^ 64 }
@@ -147,7 +127,7 @@ fn blocks_of(alloc: Global, stsz: &StszBox) -> Result<Vec<u64>>
     Ok(bytes)
 }
 
-/// The marks of tables that agree.
+/// Returns the marks of `tables`. The only error is out of memory.
 pub fn marks_of(alloc: Global, tables: &Tables<'_>) -> Result<Marks>
     requires { AreConsistent tables.now }
     ensures marks { IfOk result (AreMarks tables.now) }
@@ -158,9 +138,9 @@ pub fn marks_of(alloc: Global, tables: &Tables<'_>) -> Result<Marks>
     let chunks = chunk_count(tables.chunk_offsets) as u32;
     let entries = tables.stts.entries.as_slice();
     let befores = befores_of(alloc, tables.stsc.entries.as_slice(), chunks)?;
-    let firsts = firsts_of_durations(alloc, entries, count)?;
+    let firsts = firsts_of(alloc, entries, count)?;
     let times = times_of(alloc, entries, firsts.as_slice(), count)?;
-    let shifts = firsts_of_offsets(alloc, ctts_entries(tables), count)?;
+    let shifts = firsts_of(alloc, ctts_entries(tables), count)?;
     let bytes = blocks_of(alloc, tables.stsz)?;
     Ok(Marks {
         befores,

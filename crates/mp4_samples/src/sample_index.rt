@@ -14,9 +14,9 @@ use crate::syncs::{last_sync, last_sync_at};
 use crate::tables::Tables;
 use std::marker::Model;
 
-/// The tables of a track, which agree with one another, and where their runs begin: so that each sample is found in a
-/// step each time that the runs can be halved, by its number and by its time. It is made by `SampleTables::index`,
-/// which says what memory it takes. Contracts see an `Indexed`.
+/// The tables of a track, which agree with one another, with the first sample of each of their runs. So a binary search
+/// finds the run of a sample by its number or by its time. `SampleTables::index` makes an index, and says what memory
+/// it takes. Contracts see an `Indexed`.
 #[derive(Drop)]
 pub struct SampleIndex<'a> {
     tables: Tables<'a>,
@@ -35,7 +35,7 @@ impl<'a> Model for SampleIndex<'a> {
 }
 
 impl<'a> SampleIndex<'a> {
-    /// The index of these marks.
+    /// Makes the index of `tables` and their `marks`.
     pub(crate) fn new(tables: Tables<'a>, marks: Marks) -> SampleIndex<'a>
         requires consistent { AreConsistent tables }
         requires marks { AreMarks tables marks }
@@ -45,21 +45,22 @@ impl<'a> SampleIndex<'a> {
         SampleIndex { tables, marks }
     }
 
-    /// How many samples there are.
+    /// Returns the number of samples.
     pub fn len(&self) -> u32
         ensures { result ≡ sample_count self.now.tables }
     {
         self.tables.stsz.sample_count
     }
 
-    /// Whether there is no sample.
+    /// Returns true if the track has no samples.
     pub fn is_empty(&self) -> bool
         ensures { IsTrue result ↔ (sample_count self.now.tables ≡ 0) }
     {
         self.tables.stsz.sample_count == 0
     }
 
-    /// The sample of a number, counted from 0; none from `len` on. Where sizes are listed, it adds up to 126 of them.
+    /// Returns sample `number`, counted from 0, or `None` if the track has no such sample. Where sizes are
+    /// listed, it adds at most 126 of them.
     pub fn sample(&self, number: u32) -> Option<Sample>
         ensures sample { IfSome result (IsSample self.now.tables number) }
         ensures counted { IsSome result ↔ (number < sample_count self.now.tables) }
@@ -70,8 +71,8 @@ impl<'a> SampleIndex<'a> {
         Some(sample_by_marks(&self.tables, &self.marks, number))
     }
 
-    /// The number of the sample that lasts at a time, in the timescale of the media; none from the end of the last one
-    /// on. A sample without a duration lasts at no time.
+    /// Returns the number of the sample that covers `time`, in the timescale of the media, or `None` if the last sample
+    /// has ended. A sample without a duration covers no time.
     pub fn number_at(&self, time: u64) -> Option<u32>
         ensures within { IfSome result (λ number. number < sample_count self.now.tables) }
         ensures covers { IfSome result (Covers self.now.tables.stts.now.entries time) }
@@ -86,7 +87,7 @@ impl<'a> SampleIndex<'a> {
         )
     }
 
-    /// The sample that lasts at a time; none from the end of the last one on.
+    /// Returns the sample that covers `time`, or `None` if the last sample has ended.
     pub fn sample_at(&self, time: u64) -> Option<Sample>
         ensures some { IfSome result (IsSampleAt self.now.tables time) }
         ensures none { IfNone result (start_of self.now.tables.stts.now.entries (sample_count self.now.tables) ≤ time) }
@@ -97,8 +98,8 @@ impl<'a> SampleIndex<'a> {
         }
     }
 
-    /// The number of the last sync sample at or before the sample of a number. From `len` on that is the last one of
-    /// the track; none if there is none.
+    /// Returns the number of the last sync sample among the samples up to `number`, or `None` if there is none. If
+    /// `number` is `len` or above, these are all samples.
     pub fn last_sync(&self, number: u32) -> Option<u32>
         ensures some { IfSome result (IsLastSync self.now.tables number) }
         ensures none { IfNone result (HasNoSync self.now.tables number) }
@@ -106,8 +107,8 @@ impl<'a> SampleIndex<'a> {
         last_sync(&self.tables, number)
     }
 
-    /// The number of the last sync sample that starts at a time or before, in the timescale of the media: that from
-    /// which a decoder can begin. None if there is none.
+    /// Returns the number of the last sync sample that starts at `time` or before it, in the timescale of the media, or
+    /// `None` if there is none. A decoder can begin at this sample.
     pub fn last_sync_at(&self, time: u64) -> Option<u32>
         ensures some { IfSome result (IsLastSyncAt self.now.tables time) }
         ensures none { IfNone result (HasNoSyncAt self.now.tables time) }

@@ -1,4 +1,4 @@
-//! The tables of a track that agree.
+//! The tables of a track, which agree with one another.
 
 ghost use Rattle.std.specs.Prelude.{◌≡◌, ◌<◌, ◌≤◌, ◌↔◌, IfOk, IsOk, IfErr, IfSome, IfNone, IsSome, IsTrue};
 ghost use Rattle.mp4_samples.specs.Runs.{Covers, start_of};
@@ -22,7 +22,7 @@ use crate::tables::Tables;
 use std::alloc::Global;
 use std::marker::Model;
 
-/// The tables of a track, which agree with one another. Contracts see the `Tables`.
+/// The tables of a track, which agree with one another. Contracts see a `Tables`.
 #[derive(Drop)]
 pub struct SampleTables<'a> {
     tables: Tables<'a>,
@@ -40,8 +40,8 @@ impl<'a> Model for SampleTables<'a> {
 }
 
 impl<'a> SampleTables<'a> {
-    /// The tables, or how they disagree. It takes no memory, and a step for each entry of a table, whatever the entries
-    /// count.
+    /// Checks that `tables` agree with one another. It takes no memory and one step for each entry of a table, however
+    /// many samples the entries count. The error says how the tables disagree.
     pub fn new(tables: Tables<'a>) -> Result<SampleTables<'a>, Disagreement>
         ensures ok { IfOk result (λ t. t ≡ tables.entry) }
         ensures exact { IsOk result ↔ AreConsistent tables.entry }
@@ -51,22 +51,23 @@ impl<'a> SampleTables<'a> {
         Ok(SampleTables { tables })
     }
 
-    /// How many samples there are.
+    /// Returns the number of samples.
     pub fn len(&self) -> u32
         ensures { result ≡ sample_count self.now }
     {
         self.tables.stsz.sample_count
     }
 
-    /// Whether there is no sample.
+    /// Returns true if the track has no samples.
     pub fn is_empty(&self) -> bool
         ensures { IsTrue result ↔ (sample_count self.now ≡ 0) }
     {
         self.tables.stsz.sample_count == 0
     }
 
-    /// The sample of a number, counted from 0; none from `len` on. It takes a step a run, and one for each sync sample
-    /// and, where sizes are listed, each earlier sample of the same chunk.
+    /// Returns sample `number`, counted from 0, or `None` if the track has no such sample. It takes one step
+    /// for each run, one each time that the entries of `stss` can be halved, and, where sizes are listed, one for each
+    /// earlier sample of the chunk.
     pub fn sample(&self, number: u32) -> Option<Sample>
         ensures sample { IfSome result (IsSample self.now number) }
         ensures counted { IsSome result ↔ (number < sample_count self.now) }
@@ -77,8 +78,8 @@ impl<'a> SampleTables<'a> {
         Some(sample_of(&self.tables, number))
     }
 
-    /// The number of the sample that lasts at a time, in the timescale of the media; none from the end of the last one
-    /// on. A sample without a duration lasts at no time. It takes a step a run.
+    /// Returns the number of the sample that covers `time`, in the timescale of the media, or `None` if the last sample
+    /// has ended. A sample without a duration covers no time. It takes one step for each run.
     pub fn number_at(&self, time: u64) -> Option<u32>
         ensures within { IfSome result (λ number. number < sample_count self.now) }
         ensures covers { IfSome result (Covers self.now.stts.now.entries time) }
@@ -91,8 +92,8 @@ impl<'a> SampleTables<'a> {
         )
     }
 
-    /// The sample that lasts at a time; none from the end of the last one on. It takes as many steps as `number_at` and
-    /// `sample`.
+    /// Returns the sample that covers `time`, or `None` if the last sample has ended. It takes the steps of `number_at`
+    /// and of `sample`.
     pub fn sample_at(&self, time: u64) -> Option<Sample>
         ensures some { IfSome result (IsSampleAt self.now time) }
         ensures none { IfNone result (start_of self.now.stts.now.entries (sample_count self.now) ≤ time) }
@@ -103,8 +104,9 @@ impl<'a> SampleTables<'a> {
         }
     }
 
-    /// The number of the last sync sample at or before the sample of a number. From `len` on that is the last one of
-    /// the track; none if there is none. It takes a step each time that the entries of `stss` can be halved.
+    /// Returns the number of the last sync sample among the samples up to `number`, or `None` if there is none. If
+    /// `number` is `len` or above, these are all samples. It takes one step each time that the entries of `stss` can be
+    /// halved.
     pub fn last_sync(&self, number: u32) -> Option<u32>
         ensures some { IfSome result (IsLastSync self.now number) }
         ensures none { IfNone result (HasNoSync self.now number) }
@@ -112,8 +114,8 @@ impl<'a> SampleTables<'a> {
         last_sync(&self.tables, number)
     }
 
-    /// The number of the last sync sample that starts at a time or before, in the timescale of the media: that from
-    /// which a decoder can begin. None if there is none. It takes a step a run.
+    /// Returns the number of the last sync sample that starts at `time` or before it, in the timescale of the media, or
+    /// `None` if there is none. A decoder can begin at this sample. It takes one step for each run.
     pub fn last_sync_at(&self, time: u64) -> Option<u32>
         ensures some { IfSome result (IsLastSyncAt self.now time) }
         ensures none { IfNone result (HasNoSyncAt self.now time) }
@@ -121,9 +123,9 @@ impl<'a> SampleTables<'a> {
         last_sync_at(&self.tables, time, self.number_at(time))
     }
 
-    /// An index over the tables, by which a sample is found without going over the runs. It takes a step for each entry
-    /// of a table and for each size that is listed. Beside the tables it takes 8 bytes for each entry of `stsc`, 12 for
-    /// each of `stts` and 4 for each of `ctts`, and 8 for every 64 sizes. The only error is out of memory.
+    /// Makes an index over the tables, which finds a sample without a walk over the runs. It takes one step for each
+    /// entry of a table and for each size that is listed. The index takes 8 bytes for each entry of `stsc`, 12 for each
+    /// of `stts`, 4 for each of `ctts`, and 8 for every 64 sizes. The only error is out of memory.
     pub fn index(&self, alloc: Global) -> mp4_frame::Result<SampleIndex<'a>>
         ensures tables { IfOk result (λ x. x.tables ≡ self.now) }
         ensures memory { IfOk result (λ x. x.bytes ≤ most_bytes self.now) }
@@ -133,7 +135,7 @@ impl<'a> SampleTables<'a> {
         Ok(SampleIndex::new(self.tables, marks))
     }
 
-    /// The samples, from the first to the last.
+    /// Returns an iterator over the samples, from the first to the last.
     pub fn samples(&self) -> Samples<'a>
         ensures { result ≡ begins self.now }
     {

@@ -11,8 +11,8 @@ use crate::tables::Tables;
 use std::iter::FusedIterator;
 use std::marker::Model;
 
-/// The samples of a track, from the first to the last. It passes each entry of a table once, so that a sample takes
-/// constant time on average. Contracts see the `Progress`.
+/// The samples of a track, from the first to the last. The iterator visits each entry of a table once, so a sample
+/// takes constant time on average. Contracts see a `Progress`.
 #[derive(Drop)]
 pub struct Samples<'a> {
     tables: Tables<'a>,
@@ -31,7 +31,7 @@ impl<'a> Model for Samples<'a> {
 }
 
 impl<'a> Samples<'a> {
-    /// The samples of tables that agree.
+    /// Returns an iterator over the samples of `tables`, which agree with one another.
     pub(crate) fn new(tables: Tables<'a>) -> Samples<'a>
         requires { AreConsistent tables }
         ensures { result ≡ begins tables.entry }
@@ -42,7 +42,7 @@ impl<'a> Samples<'a> {
         }
     }
 
-    /// The number of the next sample, counted from 0.
+    /// Returns the number of the next sample, counted from 0.
     pub fn number(&self) -> u32
         ensures { result ≡ self.now.number }
     {

@@ -1,4 +1,4 @@
-//! The last sync sample so far.
+//! The last sync sample up to a sample or a time.
 
 ghost use Rattle.std.specs.Prelude.{ℕ, ◌≡◌, ◌+◌, ◌<◌, ◌≤◌, ◌^◌, true, false, IfSome, IfNone};
 ghost use Rattle.mp4_samples.specs.Runs.{increases, is_listed, Covers, start_of};
@@ -8,7 +8,7 @@ ghost use Rattle.mp4_samples.specs.Syncs.{IsLastSync, HasNoSync, IsLastSyncAt, H
 use crate::search::count_at_most;
 use crate::tables::Tables;
 
-/// The largest number of a list that is at most so much.
+/// Returns the largest of `numbers` that is at most `limit`, or `None` if all are above it.
 fn last_listed(numbers: &[u32], limit: u32) -> Option<u32>
     requires { increases 0 numbers.now ≡ true }
     ensures some { IfSome result (IsLastListed numbers.now limit) }
@@ -21,7 +21,7 @@ fn last_listed(numbers: &[u32], limit: u32) -> Option<u32>
     Some(numbers[count - 1])
 }
 
-/// Whether a number is in a list.
+/// Returns whether `number` is one of `numbers`.
 fn is_listed(numbers: &[u32], number: u32) -> bool
     requires { increases 0 numbers.now ≡ true }
     ensures { result ≡ is_listed number numbers.now }
@@ -32,7 +32,7 @@ fn is_listed(numbers: &[u32], number: u32) -> bool
     }
 }
 
-/// Whether a sample is a sync sample.
+/// Returns whether sample `number` is a sync sample.
 pub fn is_sync(tables: &Tables<'_>, number: u32) -> bool
     requires consistent { AreConsistent tables.now }
     requires fits { number + 1 < 2 ^ 32 }
@@ -44,7 +44,7 @@ pub fn is_sync(tables: &Tables<'_>, number: u32) -> bool
     }
 }
 
-/// The last sync sample at or before a sample.
+/// Returns the last sync sample among the samples up to `number`.
 pub fn last_sync(tables: &Tables<'_>, number: u32) -> Option<u32>
     requires { AreConsistent tables.now }
     ensures some { IfSome result (IsLastSync tables.now number) }
@@ -64,7 +64,7 @@ pub fn last_sync(tables: &Tables<'_>, number: u32) -> Option<u32>
     }
 }
 
-/// The last sync sample that starts at a time or before, where `shown` is the sample that lasts at that time.
+/// Returns the last sync sample that starts at `time` or before it, where `shown` is the sample that covers `time`.
 pub fn last_sync_at(tables: &Tables<'_>, time: u64, shown: Option<u32>) -> Option<u32>
     requires consistent { AreConsistent tables.now }
     requires covers { IfSome shown (Covers tables.now.stts.now.entries time) }

@@ -1,4 +1,4 @@
--- Where walks over descriptors end, and that they are never cut short.
+-- The ends of walks over descriptors. Walks are never cut short.
 use Rattle.std.proofs.Common.{◌≡◌, ℕ, zero, suc, ◌+◌, ◌<◌, ◌≤◌, Bool, true, false, cond, leb, eqb, List, length, Result}
 use Rattle.std.proofs.Common.{Ok, Err, Option, Some, None, refl, ap, ◌∙◌, arith}
 use Rattle.std.specs.Prelude.{max}
@@ -18,7 +18,7 @@ use Rattle.mp4_sound.specs.declared.decoder_specific.DecoderSpecificDescriptor.{
 use Rattle.mp4_sound.specs.declared.descriptor_header.DescriptorHeader.{DescriptorHeader}
 use Rattle.mp4_sound.proofs.HeaderRoom.{HeaderRoom, header_room}
 
--- what was read ended at o, or after it
+-- A reading ends at offset o or after it.
 abbrev pub EndsFrom : {A : Type 0} → ℕ → Result (Option A × ℕ) Fault → Type 0
 EndsFrom o (Ok r) = o ≤ r.1
 EndsFrom o (Err k) = Unit {0}
@@ -62,7 +62,7 @@ module _ {A : Type 0} (content : List ℕ → ℕ → DescriptorHeader → Count
   bound_ends n o true ih = omega arith
   bound_ends n o false ih = header_ends n o (descriptor_header bytes o).outcome (header_room bytes o) ih
 
-  -- a walk ends where it began, or after it
+  -- A walk ends where it begins, or after it.
   pub walk_ends : (n o : ℕ) → EndsFrom o (walk content bytes bound n o).outcome
   unfolding walk after
   walk_ends zero o = omega arith
@@ -109,7 +109,7 @@ module _ {A : Type 0} (content : List ℕ → ℕ → DescriptorHeader → Count
       ap (λ (k : ℕ). walk content bytes bound k o) count
       ∙ one_more (suc n + more) (suc n) o (λ p inside there. enough_by n more p (omega (arith, le, inside)))
 
-  -- a bound on the number of descriptors changes nothing if the bytes that are left are fewer
+  -- A limit on the number of descriptors changes nothing if fewer bytes are left.
   pub enough : (n more o : ℕ) → 0 < n → length bytes < o + n
       → walk content bytes bound (n + more) o ≡ walk content bytes bound n o
   enough zero more o some le = absurd (omega (arith, some))

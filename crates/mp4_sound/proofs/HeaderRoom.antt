@@ -1,4 +1,4 @@
--- A header that was read has two bytes or more, which are present.
+-- A header that is read has two bytes or more, which are present.
 use Rattle.std.proofs.Common.{◌≡◌, ℕ, ◌+◌, ◌%◌, ◌<◌, ◌≤◌, Bool, true, false, cond, ◌&&◌, ltb, List, length, Result, Ok}
 use Rattle.std.proofs.Common.{Err, refl, ap, arith, lit<, lit≤}
 use Rattle.std.specs.Prelude.{nat_lt}

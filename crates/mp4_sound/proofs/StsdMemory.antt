@@ -24,7 +24,7 @@ use Rattle.mp4_sound.specs.Mp4aLaws.{mp4a_takes_none}
 use Rattle.mp4_sound.specs.Stsd.{Entry, Hev1, Vp09, Mp4a, Tx3g, kinds_of_entry, entry_if_known, entry_at, value_stsd}
 use Rattle.mp4_sound.specs.Stsd.{reads_stsd}
 
--- what a reading begins with takes no memory, if the whole takes none
+-- If a reading takes no memory, its first part takes none.
 first_takes_none : {A C : Type 0} (a : Bool) (o : Result A Fault) (f : A → Reading C)
     → (and_then a o f).asks_memory ≡ false → a ≡ false
 first_takes_none true (Ok x) f none = absurd cc

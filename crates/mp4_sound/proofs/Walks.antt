@@ -12,7 +12,7 @@ use Rattle.mp4_sound.specs.Walk.{walk}
 use Rattle.mp4_sound.specs.WalkLaws.{walk_first, framed}
 use Rattle.mp4_sound.specs.declared.descriptor_header.DescriptorHeader.{DescriptorHeader}
 
--- what was found, and what is still walked
+-- the value already found, and then the rest of the walk
 abbrev pub continued : {A : Type 0} → Option A → Counted (Option A × ℕ) → Counted (Option A × ℕ)
 continued found r = r >>= λ later. value (last found later.0, later.1)
 
@@ -35,12 +35,12 @@ no_headers_by : {A : Type 0} (mine : Option A) (n : ℕ) (o : Result (Option A �
 no_headers_by mine n (Err k) = omega arith
 no_headers_by mine n (Ok x) = omega arith
 
--- the later of two
+-- the later of two values
 pub or_is : {A : Type 0} (mine found : Option A) → option_or mine found ≡ last found mine
 or_is (Some v) found = refl
 or_is None found = refl
 
--- the same fault, without the count
+-- a fault that two readings share, without the count
 pub faults_as : {A B : Type 0} (e : Error) (r : Counted A) (s : Counted B) → Refuses e (uncounted r)
     → ((k : Fault) → r.outcome ≡ Err k → s.outcome ≡ Err k) → Refuses e (uncounted s)
 faults_as errors.IoError r s h f = f End h
@@ -63,7 +63,7 @@ module _ {A : Type 0} (content : List ℕ → ℕ → DescriptorHeader → Count
       → (continued None (walk content bytes bound n o)).outcome ≡ (walk content bytes bound n o).outcome
   at_first n o = let r = walk content bytes bound n o in first_by r.headers r.outcome
 
-  -- the header of a descriptor faults
+  -- The header of a descriptor has a fault.
   pub header_faults : (n o : ℕ) (k : Fault) → 0 < n → o < bound → (descriptor_header bytes o).outcome ≡ Err k
       → walk content bytes bound n o ≡ record { headers = 0; outcome = Err k }
   header_faults n o k more before e =
@@ -82,7 +82,7 @@ module _ {A : Type 0} (content : List ℕ → ℕ → DescriptorHeader → Count
       content bytes bound d >>= λ mine. walk content bytes bound (n - 1) mine.1 >>= λ later.
       value (last mine.0 later.0, later.1)) e
 
-  -- the content faults
+  -- The content has a fault.
   pub content_faults : (n o : ℕ) (d : DescriptorHeader) (k : Fault) → 0 < n → o < bound
       → (descriptor_header bytes o).outcome ≡ Ok d → (content bytes bound d).outcome ≡ Err k
       → ((walk content bytes bound n o).outcome ≡ Err k)
@@ -98,7 +98,7 @@ module _ {A : Type 0} (content : List ℕ → ℕ → DescriptorHeader → Count
             ∙ ap (λ (x : Result (Option A × ℕ) Fault). 1 + (r.headers + headers_after x after)) f,
       )
 
-  -- the content is read
+  -- The content is read.
   pub next : (n o : ℕ) (d : DescriptorHeader) (mine : Option A × ℕ) → 0 < n → o < bound
       → (descriptor_header bytes o).outcome ≡ Ok d → (content bytes bound d).outcome ≡ Ok mine
       → (walk content bytes bound n o).headers

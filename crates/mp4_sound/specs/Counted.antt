@@ -1,4 +1,4 @@
--- Reading that counts the whole headers of descriptors that it meets, up to the first fault. It asks for no memory.
+-- Readings that count the whole headers of descriptors up to the first fault. They ask for no memory.
 use Rattle.std.specs.Prelude.{ℕ, ◌+◌, false, Result, Ok, Err}
 use Rattle.mp4_frame.specs.Reading.{Reading, Fault}
 
@@ -7,7 +7,7 @@ pub record Counted (A : Type 0) : Type 0 where
   pub headers : ℕ
   pub outcome : Result A Fault
 
--- a reading that meets no header
+-- a reading without headers
 abbrev pub no_header : {A : Type 0} → Reading A → Counted A
 no_header r = record { headers = 0; outcome = r.outcome }
 
@@ -34,6 +34,6 @@ infixl 10 ◌>>=◌
 abbrev pub ◌>>=◌ : {A B : Type 0} → Counted A → (A → Counted B) → Counted B
 r >>= f = record { headers = r.headers + headers_after r.outcome f; outcome = outcome_after r.outcome f }
 
--- the same reading, without the count
+-- a reading without its count
 abbrev pub uncounted : {A : Type 0} → Counted A → Reading A
 uncounted r = record { asks_memory = false; outcome = r.outcome }

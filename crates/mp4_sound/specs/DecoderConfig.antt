@@ -1,7 +1,10 @@
--- The decoder configuration descriptor (tag 4; ISO/IEC 14496-1, 7.2.6.6). The fields are, from the content on: object
--- type 1 byte; 1 byte with the stream type in its 6 high bits, the direction in bit 0x02, and a reserved bit, which is
--- written as 1; buffer size 3; maximum bit rate 4; average bit rate 4. Descriptors follow. A decoder specific
--- descriptor among them (tag 5) is read, others are gaps of their lengths.
+-- The decoder configuration descriptor (tag 4; ISO/IEC 14496-1, 7.2.6.6). Its fields, by offset in the content and
+-- bytes:
+-- - 0, 1 byte: the object type
+-- - 1, 1 byte: the stream type in the 6 high bits, the direction in bit 0x02, and a reserved bit, which is written as 1
+-- - 2, 3 bytes: the buffer size
+-- - 5, 4 bytes each: the maximum and the average bit rate
+-- - 13: descriptors. A decoder specific descriptor (tag 5) is read; others are gaps of their declared lengths.
 use Rattle.std.specs.Prelude.{ℕ, ◌+◌, ◌*◌, ◌/◌, ◌%◌, ◌==◌, List, [], ◌∷◌, length, Option, Some, None, if◌then◌else◌}
 use Rattle.std.specs.Option.{unwrap_or}
 use Rattle.mp4_frame.specs.Bytes.{number}
@@ -15,7 +18,7 @@ use Rattle.mp4_sound.specs.declared.descriptor_header.DescriptorHeader.{Descript
 use Rattle.mp4_sound.specs.declared.decoder_config.DecoderConfigDescriptor.{DecoderConfigDescriptor}
 use Rattle.mp4_sound.specs.declared.decoder_specific.DecoderSpecificDescriptor.{DecoderSpecificDescriptor}
 
--- the descriptor of a configuration: MPEG-4 audio, with its bit rate as both bit rates
+-- the descriptor made from a configuration: MPEG-4 audio, with its bit rate as both bit rates
 abbrev pub decoder_config_of : AacConfig → DecoderConfigDescriptor
 decoder_config_of config = record {
   object_type_indication = 0x40;
@@ -38,12 +41,12 @@ default_decoder_config = record {
   dec_specific = default_decoder_specific;
 }
 
--- what the content of a descriptor is read as, in a decoder configuration
+-- the reading of a descriptor's content inside a decoder configuration
 unfoldable pub in_decoder_config : List ℕ → ℕ → DescriptorHeader → Counted (Option DecoderSpecificDescriptor × ℕ)
 in_decoder_config bytes bound d =
     if d.tag == 5 then decoder_specific bytes d.content else value (None, d.content + d.length)
 
--- the value of the fields at o, where `at o w` is the number of w bytes at offset o
+-- the value with the fields at offset o, where `at o w` is the number of w bytes at offset o
 abbrev pub value_decoder_config : (ℕ → ℕ → ℕ) → ℕ → DecoderSpecificDescriptor → DecoderConfigDescriptor
 value_decoder_config at o dec_specific = record {
   object_type_indication = at o 1;
@@ -55,19 +58,19 @@ value_decoder_config at o dec_specific = record {
   dec_specific = dec_specific;
 }
 
--- the last decoder specific descriptor is kept; without one, it is the default
+-- The last decoder specific descriptor is kept. Without one, the value has the default.
 abbrev pub decoder_config_with : List ℕ → ℕ → Option DecoderSpecificDescriptor × ℕ → Option DecoderConfigDescriptor × ℕ
 decoder_config_with bytes o inner =
     (Some (value_decoder_config (number bytes) o (unwrap_or inner.0 default_decoder_specific)), inner.1)
 
--- what the content of this length at o is read as
+-- the reading of a content of this length at offset o
 unfoldable pub decoder_config : List ℕ → ℕ → ℕ → Counted (Option DecoderConfigDescriptor × ℕ)
 decoder_config bytes o long = do
   _ ← no_header (expect_bytes bytes o 13)
   inner ← walk in_decoder_config bytes (o + long) (length bytes) (o + 13)
   value (decoder_config_with bytes o inner)
 
--- the header and the fields, and those of the descriptor in it
+-- the header and the fields, and those of the descriptor inside
 abbrev pub fields_decoder_config : DecoderConfigDescriptor → List (ℕ × ℕ)
 fields_decoder_config v =
     let n = (field_decoder_specific v.dec_specific).0 in
@@ -75,6 +78,6 @@ fields_decoder_config v =
     ∷ (3, v.buffer_size_db) ∷ (4, v.max_bitrate) ∷ (4, v.avg_bitrate)
     ∷ (1, 5) ∷ (1, n) ∷ field_decoder_specific v.dec_specific ∷ []
 
--- the bit 0x02 of the direction is written, and no other
+-- Only bit 0x02 of the direction is written.
 abbrev pub normal_decoder_config : DecoderConfigDescriptor → DecoderConfigDescriptor
 normal_decoder_config v = record v { up_stream = v.up_stream / 2 % 2 * 2 }

@@ -1,7 +1,11 @@
 -- The decoder specific descriptor of MPEG-4 audio (tag 5): the first fields of an audio configuration (ISO/IEC 14496-3,
--- 1.6.2.1). These are, in bits: an audio object type of 5; where that is 31, another 6, which count from 32 on; a
--- frequency index of 4; where that is 15, a sampling rate of 24; a channel configuration of 4. They are in 2, 3, 5 or 6
--- bytes, whatever length is declared. The bits after them are ignored, and written as zero.
+-- 1.6.2.1). Its fields, in this order, by bits:
+-- - 5 bits: the audio object type
+-- - 6 bits, only if that is 31: the audio object type minus 32
+-- - 4 bits: the frequency index
+-- - 24 bits, only if that is 15: the sampling rate
+-- - 4 bits: the channel configuration
+-- They take 2, 3, 5 or 6 bytes, whatever length is declared. The bits after them are ignored, and written as 0.
 use Rattle.std.specs.Prelude.{◌≡◌, ℕ, ◌+◌, ◌-◌, ◌*◌, ◌/◌, ◌%◌, ◌^◌, ◌<◌, ◌==◌, nat_lt, List, Option, Some, None}
 use Rattle.std.specs.Prelude.{if◌then◌else◌}
 use Rattle.std.specs.Option.{unwrap_or}
@@ -14,7 +18,7 @@ use Rattle.mp4_media.specs.declared.aac_config.AacConfig.{AacConfig}
 use Rattle.mp4_sound.specs.Counted.{Counted, ◌>>=◌, no_header, value}
 use Rattle.mp4_sound.specs.declared.decoder_specific.DecoderSpecificDescriptor.{DecoderSpecificDescriptor}
 
--- the descriptor of a configuration
+-- the descriptor made from a configuration
 abbrev pub decoder_specific_of : AacConfig → DecoderSpecificDescriptor
 decoder_specific_of config = record {
   profile = number_audio_object_type config.profile;
@@ -26,35 +30,35 @@ decoder_specific_of config = record {
 abbrev pub default_decoder_specific : DecoderSpecificDescriptor
 default_decoder_specific = record { profile = 0; freq_index = 0; sample_rate = None; chan_conf = 0 }
 
--- w bits of n, above its k lowest bits
+-- the w bits of n above its k lowest bits
 abbrev pub bits : ℕ → ℕ → ℕ → ℕ
 bits n k w = n / 2 ^ k % 2 ^ w
 
--- what 2 bytes with the number n are read as
+-- the value of 2 bytes, as a number n
 abbrev pub plain_type : ℕ → DecoderSpecificDescriptor
 plain_type n = record { profile = bits n 11 5; freq_index = bits n 7 4; sample_rate = None; chan_conf = bits n 3 4 }
 
--- what 3 bytes are read as, which have an audio object type of 11 bits
+-- the value of 3 bytes, which have an audio object type of 11 bits
 abbrev pub long_type : ℕ → DecoderSpecificDescriptor
 long_type n = record { profile = 32 + bits n 13 6; freq_index = bits n 9 4; sample_rate = None; chan_conf = bits n 5 4 }
 
--- what 5 bytes are read as, which have a sampling rate
+-- the value of 5 bytes, which have a sampling rate
 abbrev pub plain_type_and_rate : ℕ → DecoderSpecificDescriptor
 plain_type_and_rate n =
     record { profile = bits n 35 5; freq_index = 15; sample_rate = Some (bits n 7 24); chan_conf = bits n 3 4 }
 
--- what 6 bytes are read as, which have both
+-- the value of 6 bytes, which have both
 abbrev pub long_type_and_rate : ℕ → DecoderSpecificDescriptor
 long_type_and_rate n =
     record { profile = 32 + bits n 37 6; freq_index = 15; sample_rate = Some (bits n 9 24); chan_conf = bits n 5 4 }
 
--- what the w bytes at o are read as in one of these forms, and where they end
+-- the reading of w bytes at offset o in one of these forms, and the offset after them
 abbrev pub in_form : List ℕ → ℕ → ℕ → (ℕ → DecoderSpecificDescriptor) → Counted (Option DecoderSpecificDescriptor × ℕ)
 in_form bytes o w form = do
   _ ← no_header (expect_bytes bytes o w)
   value (Some (form (number bytes o w)), o + w)
 
--- the first 2 bytes say which form it is
+-- The first 2 bytes decide the form.
 unfoldable pub decoder_specific : List ℕ → ℕ → Counted (Option DecoderSpecificDescriptor × ℕ)
 decoder_specific bytes o = do
   _ ← no_header (expect_bytes bytes o 2)
@@ -63,7 +67,7 @@ decoder_specific bytes o = do
       else (if bits (number bytes o 2) 7 4 == 15 then in_form bytes o 5 plain_type_and_rate else in_form bytes o 2
       plain_type)
 
--- the numbers that are written in 2, 3, 5 and 6 bytes
+-- the numbers in 2, 3, 5 and 6 bytes
 abbrev pub number_plain_type : DecoderSpecificDescriptor → ℕ
 number_plain_type v = v.profile * 2 ^ 11 + v.freq_index * 2 ^ 7 + v.chan_conf * 2 ^ 3
 
@@ -78,14 +82,14 @@ abbrev pub number_long_type_and_rate : DecoderSpecificDescriptor → ℕ
 number_long_type_and_rate v =
     31 * 2 ^ 43 + (v.profile - 32) * 2 ^ 37 + 15 * 2 ^ 33 + unwrap_or v.sample_rate 0 * 2 ^ 9 + v.chan_conf * 2 ^ 5
 
--- the field that a value is written in: its number of bytes, and the number in it
+-- the field of a value: its number of bytes, and the number in them
 abbrev pub field_decoder_specific : DecoderSpecificDescriptor → ℕ × ℕ
 field_decoder_specific v =
     if nat_lt 31 v.profile then
     (if v.freq_index == 15 then (6, number_long_type_and_rate v) else (3, number_long_type v)) else
     (if v.freq_index == 15 then (5, number_plain_type_and_rate v) else (2, number_plain_type v))
 
--- there is a rate exactly with index 15
+-- There is a rate if and only if the index is 15.
 abbrev pub RateFits : ℕ → Option ℕ → Type 0
 RateFits index (Some rate) = (index ≡ 15) × (rate < 2 ^ 24)
 RateFits index None = ¬ (index ≡ 15)

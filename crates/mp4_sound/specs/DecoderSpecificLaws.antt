@@ -17,7 +17,7 @@ use Rattle.mp4_sound.specs.declared.decoder_specific.DecoderSpecificDescriptor.{
 
 -- ---- the field that a value is written in
 
--- the forms of a field: a number of bytes, and a number that fits them
+-- a field of 2 to 6 bytes
 pub record IsForm (c : ℕ × ℕ) : Type 0 where
   pub least : 2 ≤ c.0
   pub most : c.0 ≤ 6
@@ -31,7 +31,7 @@ form_by false false p q r s = record { least = lit≤ tt; most = lit≤ tt }
 pub is_form : (v : DecoderSpecificDescriptor) → IsForm (field_decoder_specific v)
 is_form v = form_by (ltb 31 v.profile) (eqb v.freq_index 15) _ _ _ _
 
--- the rate of a value that can be written
+-- The rate of a value that can be written has 24 bits.
 rate_below : (index : ℕ) (rate : Option ℕ) → RateFits index rate → unwrap_or rate 0 < 2 ^ 24
 rate_below index (Some rate) fits = fits.1
 rate_below index None fits = lit< tt
@@ -57,7 +57,7 @@ module _ (v : DecoderSpecificDescriptor) (w : WritableDecoderSpecific v) where
       omega (arith, ltb-false 31 v.profile p, w.chan_conf, rate_below v.freq_index v.sample_rate w.sample_rate)
   fits_by false false p q = omega (arith, ltb-false 31 v.profile p, w.freq_index, w.chan_conf)
 
-  -- a value that can be written fits its field
+  -- A value that can be written fits its field.
   pub field_fits : Fits (field_decoder_specific v)
   field_fits = fits_by (ltb 31 v.profile) (eqb v.freq_index 15) refl refl
 
@@ -66,7 +66,7 @@ same_value : (v : DecoderSpecificDescriptor) (profile index chan_conf : ℕ) (ra
     → record { profile = profile; freq_index = index; sample_rate = rate; chan_conf = chan_conf } ≡ v
 same_value v profile index chan_conf rate p q r s = rw (p, q, r, s) refl
 
--- A value that was written is read back, and its bytes end it.
+-- A value that is written is read back, up to the end of its bytes.
 abbrev pub Back : DecoderSpecificDescriptor → List ℕ → ℕ → ℕ × ℕ → Type 0
 Back v bytes o c = o + c.0 ≤ length bytes → number bytes o 2 ≡ c.1 / 256 ^ (c.0 - 2) → number bytes o c.0 ≡ c.1
     → (decoder_specific bytes o).outcome ≡ Ok (Some v, o + c.0)
@@ -158,7 +158,7 @@ split xs o =
     let one : o + 2 ≡ suc (suc o) = omega arith in
     rw one (omega arith, omega arith)
 
--- each value that a descriptor's content was read as keeps P
+-- Each value that is read from a descriptor's content satisfies P.
 abbrev pub ForSome : {A : Type 0} → (A → Type 0) → Option A → Type 0
 ForSome P (Some v) = P v
 ForSome P None = Unit {0}
@@ -238,7 +238,7 @@ module _ (bytes : List ℕ) (o : ℕ) (are : AreBytes bytes) where
   first_kept true r is = tt
   first_kept false r is = is
 
-  -- what was read can be written
-  pub specific_sound : Kept WritableDecoderSpecific (decoder_specific bytes o).outcome
+  -- A descriptor that is read can be written.
+  pub specific_stable : Kept WritableDecoderSpecific (decoder_specific bytes o).outcome
   unfolding decoder_specific
-  specific_sound = first_kept _ _ (forms_kept _ _ _ refl refl refl)
+  specific_stable = first_kept _ _ (forms_kept _ _ _ refl refl refl)

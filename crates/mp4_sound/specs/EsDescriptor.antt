@@ -1,7 +1,8 @@
--- The elementary stream descriptor (tag 3; ISO/IEC 14496-1, 7.2.6.5). The fields are, from the content on: number of
--- the stream 2 bytes, and 1 that is ignored, and written as zero. Descriptors follow. Of these, a decoder configuration
--- (tag 4) is read; a sync layer configuration (tag 6) has 1 byte of content, whatever its length; others are gaps of
--- their lengths.
+-- The elementary stream descriptor (tag 3; ISO/IEC 14496-1, 7.2.6.5). Its fields, by offset in the content and bytes:
+-- - 0, 2 bytes: the number of the stream
+-- - 2, 1 byte: ignored, and written as 0
+-- - 3: descriptors. A decoder configuration (tag 4) is read. A sync layer configuration (tag 6) has 1 byte of content,
+--   whatever its length. Others are gaps of their declared lengths.
 use Rattle.std.specs.Prelude.{ℕ, ◌+◌, ◌==◌, List, [], ◌∷◌, ◌++◌, length, Option, Some, None, if◌then◌else◌}
 use Rattle.std.specs.Option.{unwrap_or}
 use Rattle.mp4_frame.specs.Bytes.{number}
@@ -16,37 +17,37 @@ use Rattle.mp4_sound.specs.declared.descriptor_header.DescriptorHeader.{Descript
 use Rattle.mp4_sound.specs.declared.decoder_config.DecoderConfigDescriptor.{DecoderConfigDescriptor}
 use Rattle.mp4_sound.specs.declared.es_descriptor.ESDescriptor.{ESDescriptor}
 
--- the descriptor of a configuration, for stream 1
+-- the descriptor made from a configuration, for stream 1
 abbrev pub es_descriptor_of : AacConfig → ESDescriptor
 es_descriptor_of config = record { es_id = 1; dec_config = decoder_config_of config; sl_config = record {} }
 
 abbrev pub default_es_descriptor : ESDescriptor
 default_es_descriptor = record { es_id = 0; dec_config = default_decoder_config; sl_config = record {} }
 
--- what the content of a descriptor is read as, in an elementary stream descriptor
+-- the reading of a descriptor's content inside an elementary stream descriptor
 unfoldable pub in_es_descriptor : List ℕ → ℕ → DescriptorHeader → Counted (Option DecoderConfigDescriptor × ℕ)
 in_es_descriptor bytes bound d =
     if d.tag == 4 then decoder_config bytes d.content d.length else
     if d.tag == 6 then (no_header (expect_bytes bytes d.content 1) >>= λ _. value (None, d.content + 1)) else
     value (None, d.content + d.length)
 
--- the value of the fields at o, where `at o w` is the number of w bytes at offset o
+-- the value with the fields at offset o, where `at o w` is the number of w bytes at offset o
 abbrev pub value_es_descriptor : (ℕ → ℕ → ℕ) → ℕ → DecoderConfigDescriptor → ESDescriptor
 value_es_descriptor at o dec_config = record { es_id = at o 2; dec_config = dec_config; sl_config = record {} }
 
--- the last decoder configuration is kept; without one, it is the default
+-- The last decoder configuration is kept. Without one, the value has the default.
 abbrev pub es_descriptor_with : List ℕ → ℕ → Option DecoderConfigDescriptor × ℕ → Option ESDescriptor × ℕ
 es_descriptor_with bytes o inner =
     (Some (value_es_descriptor (number bytes) o (unwrap_or inner.0 default_decoder_config)), inner.1)
 
--- what the content of this length at o is read as
+-- the reading of a content of this length at offset o
 unfoldable pub es_descriptor : List ℕ → ℕ → ℕ → Counted (Option ESDescriptor × ℕ)
 es_descriptor bytes o long = do
   _ ← no_header (expect_bytes bytes o 3)
   inner ← walk in_es_descriptor bytes (o + long) (length bytes) (o + 3)
   value (es_descriptor_with bytes o inner)
 
--- the header and the fields, and those of the descriptors in it
+-- the header and the fields, and those of the descriptors inside
 abbrev pub fields_es_descriptor : ESDescriptor → List (ℕ × ℕ)
 fields_es_descriptor v =
     let n = (field_decoder_specific v.dec_config.dec_specific).0 in

@@ -1,7 +1,8 @@
--- esds, the elementary stream descriptor box (ISO/IEC 14496-14, 5.6). The fields are version 1 byte at 8, and flags 3.
--- Descriptors follow from 12 on. Each elementary stream descriptor (tag 3) is read, and the last one is kept; a
--- descriptor with another tag ends the reading. Nothing is skipped up to a declared end: each header begins where the
--- content before it ended.
+-- esds, the elementary stream descriptor box (ISO/IEC 14496-14, 5.6). Its fields, by offset and bytes:
+-- - 8, 1 byte and 3 bytes: the version and the flags
+-- - 12: descriptors. Elementary stream descriptors (tag 3) are read, and the last one is kept. A descriptor with
+--   another tag ends the reading.
+-- Each header begins where the content before it ended: nothing is skipped up to a declared end.
 use Rattle.std.specs.Prelude.{ℕ, ◌+◌, ◌^◌, ◌==◌, nat_lt, max, List, ◌++◌, drop, length, Option, Some, None}
 use Rattle.std.specs.Prelude.{if◌then◌else◌}
 use Rattle.mp4_frame.specs.Bytes.{number, bytes_of_fields, FieldsFit, full_box}
@@ -19,14 +20,14 @@ use Rattle.mp4_sound.specs.declared.descriptor_header.DescriptorHeader.{Descript
 use Rattle.mp4_sound.specs.declared.es_descriptor.ESDescriptor.{ESDescriptor}
 use Rattle.mp4_sound.specs.declared.esds.EsdsBox.{EsdsBox}
 
--- the box of a configuration
+-- the box made from a configuration
 abbrev pub esds_of : AacConfig → EsdsBox
 esds_of config = record { version = 0; flags = 0; es_desc = es_descriptor_of config }
 
 abbrev pub default_esds : EsdsBox
 default_esds = record { version = 0; flags = 0; es_desc = default_es_descriptor }
 
--- what the content of a descriptor is read as, in a box that goes up to the bound
+-- the reading of a descriptor's content in a box up to the bound
 unfoldable pub in_esds : List ℕ → ℕ → DescriptorHeader → Counted (Option ESDescriptor × ℕ)
 in_esds bytes bound d = if d.tag == 3 then es_descriptor bytes d.content d.length else value (None, max bound d.content)
 
@@ -37,12 +38,12 @@ last_es_descriptor bytes size = do
   found ← walk in_esds bytes size (length bytes) 12
   value (found.0)
 
--- an elementary stream descriptor is expected
+-- There must be an elementary stream descriptor.
 abbrev pub with_es_descriptor : (ℕ → ℕ → ℕ) → Option ESDescriptor → Counted EsdsBox
 with_es_descriptor at (Some es_desc) = value (record { version = at 8 1; flags = at 9 3; es_desc = es_desc })
 with_es_descriptor at None = no_header (faults Invalid)
 
--- what the bytes from the start of the box on are read as, and how many whole headers they have
+-- the reading of the content of a box, with the number of whole headers; the bytes begin with the box
 unfoldable pub counted_esds : List ℕ → ℕ → Counted EsdsBox
 counted_esds bytes size = do
   found ← last_es_descriptor bytes size
@@ -51,19 +52,19 @@ counted_esds bytes size = do
 unfoldable pub reads_esds : List ℕ → ℕ → ℕ → Reading EsdsBox
 reads_esds bytes start size = uncounted (counted_esds bytes size)
 
--- the number of whole headers in a box of this start and size in a buffer, up to the first fault
+-- the number of whole headers, up to the first fault, in a box of this start and size in a buffer
 unfoldable pub headers_esds : List ℕ → ℕ → ℕ → ℕ
 headers_esds bytes start size =
     if nat_lt (start + size) (2 ^ 64) then (counted_esds (drop start bytes) size).headers else 0
 
--- the audio configuration has 2, 3, 5 or 6 bytes
+-- The audio configuration has 2, 3, 5 or 6 bytes.
 abbrev pub size_esds : EsdsBox → ℕ
 size_esds v = 37 + (field_decoder_specific v.es_desc.dec_config.dec_specific).0
 
 abbrev pub fields_esds : EsdsBox → List (ℕ × ℕ)
 fields_esds v = full_box (size_esds v) codes.ESDS v.version v.flags ++ fields_es_descriptor v.es_desc
 
--- Every number fits its field. So the stream type is below 64.
+-- Every number fits its field, so the stream type is below 64.
 pub record WritableEsds (v : EsdsBox) : Type 0 where
   pub fit : FieldsFit (fields_esds v)
   pub specific : WritableDecoderSpecific v.es_desc.dec_config.dec_specific

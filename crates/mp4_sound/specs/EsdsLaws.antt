@@ -17,7 +17,7 @@ use Rattle.mp4_sound.specs.DecoderConfig.{default_decoder_config, fields_decoder
 use Rattle.mp4_sound.specs.DecoderSpecific.{default_decoder_specific, decoder_specific, field_decoder_specific}
 use Rattle.mp4_sound.specs.DecoderSpecific.{WritableDecoderSpecific}
 use Rattle.mp4_sound.specs.DecoderSpecificLaws.{ForSome, Kept, Fits, IsForm, Back, is_form, field_fits, specific_back}
-use Rattle.mp4_sound.specs.DecoderSpecificLaws.{specific_sound}
+use Rattle.mp4_sound.specs.DecoderSpecificLaws.{specific_stable}
 use Rattle.mp4_sound.specs.EsDescriptor.{in_es_descriptor, es_descriptor, es_descriptor_with, value_es_descriptor}
 use Rattle.mp4_sound.specs.EsDescriptor.{fields_es_descriptor, normal_es_descriptor}
 use Rattle.mp4_sound.specs.Esds.{in_esds, last_es_descriptor, with_es_descriptor, counted_esds, reads_esds, size_esds}
@@ -43,7 +43,7 @@ fields_with v c =
     ∷ (4, config.max_bitrate) ∷ (4, config.avg_bitrate)
     ∷ (1, 5) ∷ (1, c.0) ∷ c ∷ (1, 6) ∷ (1, 0) ∷ (1, 0) ∷ []
 
--- the numbers in bytes that such a box was written in
+-- the numbers in the bytes of such a box
 record Numbers (v : EsdsBox) (c : ℕ × ℕ) (B : List ℕ) : Type 0 where
   long : 37 + c.0 ≤ length B
   version : number B 8 1 ≡ v.version
@@ -193,7 +193,7 @@ module _ (v : EsdsBox) (rest : List ℕ) where
         sl_long = sl_long;
       }
 
-  -- a value in this form is read back
+  -- A value in this form is read back.
   abbrev IsBack : ℕ → ℕ × ℕ → Type 0
   IsBack start c = Fits c → FieldsFit (fields_with v c) → Back v.es_desc.dec_config.dec_specific (buffer_of c) 34 c
       → (reads_esds (buffer_of c) start (37 + c.0)).outcome ≡ Ok (normal_esds v)
@@ -251,13 +251,13 @@ module _ (v : EsdsBox) (rest : List ℕ) where
 direction_again : (n : ℕ) → n / 2 % 2 * 2 / 2 % 2 * 2 ≡ n / 2 % 2 * 2
 direction_again n = omega arith
 
--- what holds of a descriptor that was read: it is its own normal form, and can be written
-pub record SoundConfig (v : DecoderConfigDescriptor) : Type 0 where
+-- A descriptor that is read is its own normal form, and can be written.
+pub record StableConfig (v : DecoderConfigDescriptor) : Type 0 where
   pub own : normal_decoder_config v ≡ v
   pub fit : FieldsFit (fields_decoder_config v)
   pub specific : WritableDecoderSpecific v.dec_specific
 
-pub record SoundEs (v : ESDescriptor) : Type 0 where
+pub record StableEs (v : ESDescriptor) : Type 0 where
   pub own : normal_es_descriptor v ≡ v
   pub fit : FieldsFit (fields_es_descriptor v)
   pub specific : WritableDecoderSpecific v.dec_config.dec_specific
@@ -295,12 +295,12 @@ module _ (bytes : List ℕ) (are : AreBytes bytes) where
   unfolding in_decoder_config
   in_config_kept bound d =
       if_kept WritableDecoderSpecific (eqb d.tag 5) (decoder_specific bytes d.content)
-      (value (None, d.content + d.length)) (specific_sound bytes d.content are) tt
+      (value (None, d.content + d.length)) (specific_stable bytes d.content are) tt
 
   zero : Origin
   zero = Fitting 1 0 (lit< tt)
 
-  default_config : SoundConfig default_decoder_config
+  default_config : StableConfig default_decoder_config
   unfolding zero
   default_config = record {
     own = refl;
@@ -311,9 +311,9 @@ module _ (bytes : List ℕ) (are : AreBytes bytes) where
     specific = default_specific;
   }
 
-  config_sound : (o : ℕ) (inner : Option DecoderSpecificDescriptor × ℕ) → ForSome WritableDecoderSpecific inner.0
-      → ForSome SoundConfig (decoder_config_with bytes o inner).0
-  config_sound o inner p =
+  config_stable : (o : ℕ) (inner : Option DecoderSpecificDescriptor × ℕ) → ForSome WritableDecoderSpecific inner.0
+      → ForSome StableConfig (decoder_config_with bytes o inner).0
+  config_stable o inner p =
       let specific = unwrap_or inner.0 default_decoder_specific in
       let w = or_default WritableDecoderSpecific default_decoder_specific default_specific inner.0 p in
       let form = is_form specific in
@@ -330,31 +330,31 @@ module _ (bytes : List ℕ) (are : AreBytes bytes) where
         specific = w;
       }
 
-  config_kept : (o long : ℕ) → Kept SoundConfig (decoder_config bytes o long).outcome
+  config_kept : (o long : ℕ) → Kept StableConfig (decoder_config bytes o long).outcome
   unfolding decoder_config
   config_kept o long =
       let inner = walk in_decoder_config bytes (o + long) (length bytes) (o + 13) in
-      framed_kept WritableDecoderSpecific SoundConfig (expect_bytes bytes o 13).outcome inner
-      (decoder_config_with bytes o) (config_sound o)
+      framed_kept WritableDecoderSpecific StableConfig (expect_bytes bytes o 13).outcome inner
+      (decoder_config_with bytes o) (config_stable o)
       (walk_kept in_decoder_config bytes (o + long) WritableDecoderSpecific (in_config_kept (o + long))
       (length bytes) (o + 13))
 
-  in_es_kept : (bound : ℕ) (d : DescriptorHeader) → Kept SoundConfig (in_es_descriptor bytes bound d).outcome
+  in_es_kept : (bound : ℕ) (d : DescriptorHeader) → Kept StableConfig (in_es_descriptor bytes bound d).outcome
   unfolding in_es_descriptor
   in_es_kept bound d =
       let sl = no_header (expect_bytes bytes d.content 1) >>= λ _. value (None, d.content + 1) in
       let gap = value (None, d.content + d.length) in
-      if_kept SoundConfig (eqb d.tag 4) (decoder_config bytes d.content d.length) (cond (eqb d.tag 6) sl gap)
+      if_kept StableConfig (eqb d.tag 4) (decoder_config bytes d.content d.length) (cond (eqb d.tag 6) sl gap)
       (config_kept d.content d.length)
-      (if_kept SoundConfig (eqb d.tag 6) sl gap
-      (none_kept SoundConfig (expect_bytes bytes d.content 1).outcome (d.content + 1)) tt)
+      (if_kept StableConfig (eqb d.tag 6) sl gap
+      (none_kept StableConfig (expect_bytes bytes d.content 1).outcome (d.content + 1)) tt)
 
-  es_sound : (o : ℕ) (inner : Option DecoderConfigDescriptor × ℕ) → ForSome SoundConfig inner.0
-      → ForSome SoundEs (es_descriptor_with bytes o inner).0
+  es_stable : (o : ℕ) (inner : Option DecoderConfigDescriptor × ℕ) → ForSome StableConfig inner.0
+      → ForSome StableEs (es_descriptor_with bytes o inner).0
   unfolding zero
-  es_sound o inner p =
+  es_stable o inner p =
       let config = unwrap_or inner.0 default_decoder_config in
-      let is = or_default SoundConfig default_decoder_config default_config inner.0 p in
+      let is = or_default StableConfig default_decoder_config default_config inner.0 p in
       let c = field_decoder_specific config.dec_specific in
       let tail : List (ℕ × ℕ) = (1, 6) ∷ (1, 0) ∷ (1, 0) ∷ [] in
       let front : List (ℕ × ℕ) = (1, 3) ∷ (1, 23 + c.0) ∷ (2, number bytes o 2) ∷ (1, 0) ∷ [] in
@@ -369,29 +369,30 @@ module _ (bytes : List ℕ) (are : AreBytes bytes) where
         specific = is.specific;
       }
 
-  es_kept : (o long : ℕ) → Kept SoundEs (es_descriptor bytes o long).outcome
+  es_kept : (o long : ℕ) → Kept StableEs (es_descriptor bytes o long).outcome
   unfolding es_descriptor
   es_kept o long =
       let inner = walk in_es_descriptor bytes (o + long) (length bytes) (o + 3) in
-      framed_kept SoundConfig SoundEs (expect_bytes bytes o 3).outcome inner (es_descriptor_with bytes o) (es_sound o)
-      (walk_kept in_es_descriptor bytes (o + long) SoundConfig (in_es_kept (o + long)) (length bytes) (o + 3))
+      framed_kept StableConfig StableEs (expect_bytes bytes o 3).outcome inner (es_descriptor_with bytes o)
+      (es_stable o)
+      (walk_kept in_es_descriptor bytes (o + long) StableConfig (in_es_kept (o + long)) (length bytes) (o + 3))
 
-  in_esds_kept : (bound : ℕ) (d : DescriptorHeader) → Kept SoundEs (in_esds bytes bound d).outcome
+  in_esds_kept : (bound : ℕ) (d : DescriptorHeader) → Kept StableEs (in_esds bytes bound d).outcome
   unfolding in_esds
   in_esds_kept bound d =
-      if_kept SoundEs (eqb d.tag 3) (es_descriptor bytes d.content d.length) (value (None, _))
+      if_kept StableEs (eqb d.tag 3) (es_descriptor bytes d.content d.length) (value (None, _))
       (es_kept d.content d.length) tt
 
   abbrev KeptLast : Result (Option ESDescriptor) Fault → Type 0
-  KeptLast (Ok found) = ForSome SoundEs found
+  KeptLast (Ok found) = ForSome StableEs found
   KeptLast (Err k) = Unit {0}
 
-  last_by : (o : Result (Option ESDescriptor × ℕ) Fault) → Kept SoundEs o
+  last_by : (o : Result (Option ESDescriptor × ℕ) Fault) → Kept StableEs o
       → KeptLast (outcome_after o (λ found. value (found.0)))
   last_by (Ok found) p = p
   last_by (Err k) p = tt
 
-  last_framed : (u : Result (Unit {0}) Fault) (r : Counted (Option ESDescriptor × ℕ)) → Kept SoundEs r.outcome
+  last_framed : (u : Result (Unit {0}) Fault) (r : Counted (Option ESDescriptor × ℕ)) → Kept StableEs r.outcome
       → KeptLast (outcome_after u (λ _. r >>= λ found. value (found.0)))
   last_framed (Ok _) r p = last_by r.outcome p
   last_framed (Err k) r p = tt
@@ -399,14 +400,14 @@ module _ (bytes : List ℕ) (are : AreBytes bytes) where
   last_kept : (size : ℕ) → KeptLast (last_es_descriptor bytes size).outcome
   unfolding last_es_descriptor
   last_kept size = last_framed (expect_bytes bytes 8 4).outcome (walk in_esds bytes size (length bytes) 12)
-      (walk_kept in_esds bytes size SoundEs (in_esds_kept size) (length bytes) 12)
+      (walk_kept in_esds bytes size StableEs (in_esds_kept size) (length bytes) 12)
 
-  abbrev Sound : EsdsBox → Type 0
-  Sound v = (normal_esds v ≡ v) × (size_esds v < 2 ^ 32 → WritableEsds v)
+  abbrev Stable : EsdsBox → Type 0
+  Stable v = (normal_esds v ≡ v) × (size_esds v < 2 ^ 32 → WritableEsds v)
 
-  found_sound : (found : Option ESDescriptor) (v : EsdsBox) → ForSome SoundEs found
-      → (with_es_descriptor (number bytes) found).outcome ≡ Ok v → Sound v
-  found_sound (Some es) v p e =
+  found_stable : (found : Option ESDescriptor) (v : EsdsBox) → ForSome StableEs found
+      → (with_es_descriptor (number bytes) found).outcome ≡ Ok v → Stable v
+  found_stable (Some es) v p e =
       let made : EsdsBox = record { version = number bytes 8 1; flags = number bytes 9 3; es_desc = es } in
       let form = is_form es.dec_config.dec_specific in
       let own : normal_esds made ≡ made = ap (λ (d : ESDescriptor). record made { es_desc = d }) p.own in
@@ -415,13 +416,13 @@ module _ (bytes : List ℕ) (are : AreBytes bytes) where
       (fits_read bytes are
       (Fitting 4 (size_esds made) (omega (arith, form.most)) ∷ Fitting 4 codes.ESDS (lit< tt) ∷ Number 8 1
       ∷ Number 9 3 ∷ [])) p.fit in
-      subst Sound (is_value made v e) (own, λ small. record { fit = fit; specific = p.specific })
-  found_sound None v p e = absurd cc
+      subst Stable (is_value made v e) (own, λ small. record { fit = fit; specific = p.specific })
+  found_stable None v p e = absurd cc
 
-  outcome_sound : (o : Result (Option ESDescriptor) Fault) (v : EsdsBox) → KeptLast o
-      → outcome_after o (with_es_descriptor (number bytes)) ≡ Ok v → Sound v
-  outcome_sound (Ok found) v p e = found_sound found v p e
-  outcome_sound (Err k) v p e = absurd cc
+  outcome_stable : (o : Result (Option ESDescriptor) Fault) (v : EsdsBox) → KeptLast o
+      → outcome_after o (with_es_descriptor (number bytes)) ≡ Ok v → Stable v
+  outcome_stable (Ok found) v p e = found_stable found v p e
+  outcome_stable (Err k) v p e = absurd cc
 
 normal_fields : (v : EsdsBox) → fields_esds (normal_esds v) ≡ fields_esds v
 normal_fields v = rw (direction_again v.es_desc.dec_config.up_stream) refl
@@ -438,11 +439,11 @@ laws_esds = record {
   read_back = λ v w rest start top.
       let specific = v.es_desc.dec_config.dec_specific in
       back_by v rest start _ _ _ _ _ _ (field_fits specific w.specific) w.fit (specific_back specific w.specific _ 34);
-  sound = λ bytes start long v are e.
-      outcome_sound bytes are (last_es_descriptor bytes long).outcome v (last_kept bytes are long) e;
+  stable = λ bytes start long v are e.
+      outcome_stable bytes are (last_es_descriptor bytes long).outcome v (last_kept bytes are long) e;
 }
 
--- reading it takes no memory
+-- Reading it takes no memory.
 pub esds_takes_none : (bytes : List ℕ) (start size : ℕ) → TakesNone (reads_esds bytes start size)
 unfolding reads_esds
 esds_takes_none bytes start size = refl

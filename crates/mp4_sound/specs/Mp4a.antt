@@ -1,7 +1,13 @@
--- mp4a, the sample entry of MPEG-4 audio (ISO/IEC 14496-14, 5.6; ISO/IEC 14496-12, 12.2.3). The fields are 6 reserved
--- bytes at 8, data reference index 2 at 14, 8 reserved, channel count 2 at 24, sample size 2, 4 reserved, and sample
--- rate 4 at 32. In a box of more than 36 bytes another box follows at 36, which is read if it is an esds. Reserved
--- bytes are expected, and are written as zero. The box has at least 36 bytes, whatever its size is.
+-- mp4a, the sample entry of MPEG-4 audio (ISO/IEC 14496-14, 5.6; ISO/IEC 14496-12, 12.2.3). Its fields, by offset and
+-- bytes:
+-- - 8, 6 bytes: reserved
+-- - 14, 2 bytes: the data reference index
+-- - 16, 8 bytes: reserved
+-- - 24, 2 bytes each: the channel count and the sample size
+-- - 28, 4 bytes: reserved
+-- - 32, 4 bytes: the sample rate
+-- - 36: another box, if the size is more than 36. An esds is read; others are skipped.
+-- Reserved bytes must be present, and are written as 0. The entry has at least 36 bytes, whatever its size is.
 use Rattle.std.specs.Prelude.{ℕ, ◌+◌, ◌%◌, ◌^◌, List, [], ◌∷◌, ◌++◌, Option, Some}
 use Rattle.mp4_frame.specs.Bytes.{number, bytes_of_fields, FieldsFit}
 use Rattle.mp4_frame.specs.Format.{Format}
@@ -43,7 +49,7 @@ fields_mp4a v =
     (4, size_mp4a v) ∷ (4, codes.MP4A) ∷ (6, 0) ∷ (2, v.data_reference_index) ∷ (8, 0)
     ∷ (2, v.channelcount) ∷ (2, v.samplesize) ∷ (4, 0) ∷ (4, v.samplerate) ∷ []
 
--- the sample entry of a configuration. Of the frequency the low 16 bits are kept
+-- the sample entry made from a configuration, with the low 16 bits of the frequency
 abbrev pub mp4a_of : AacConfig → Mp4aBox
 mp4a_of config = record {
   data_reference_index = 1;
@@ -62,7 +68,7 @@ default_mp4a = record {
   esds = Some default_esds;
 }
 
--- every number fits its field, and the descriptors can be written
+-- Every number fits its field, and the descriptors can be written.
 pub record WritableMp4a (v : Mp4aBox) : Type 0 where
   pub fit : FieldsFit (fields_mp4a v)
   pub esds : WritableOptional format_esds v.esds

@@ -58,11 +58,11 @@ laws_mp4a = record {
       (ap (λ (r : Reading (Unit {0})). r.outcome) (expect_bytes-fields cs (esds ++ rest) 8 28 (lit≤ tt)))
       (outcome_bind inner (λ esds. done (value_mp4a (number B) esds)) (normal_optional format_esds v.esds) _ there
       (ap (λ (n : ℕ → ℕ → ℕ). Ok (value_mp4a n (normal_optional format_esds v.esds))) numbers));
-  sound = λ bytes start long v are e.
+  stable = λ bytes start long v are e.
       let inner = optional_child reads_esds codes.ESDS bytes start long 36 in
       let last = λ (esds : Option EsdsBox). done (value_mp4a (number bytes) esds) in
       let p = value_first inner last v (expect_bytes_ok bytes 8 28 (λ _. inner >>= last) v e) in
-      let is = one.optional_sound laws_esds bytes start are long 36 codes.ESDS p.0 p.1 in
+      let is = one.optional_stable laws_esds bytes start are long 36 codes.ESDS p.0 p.1 in
       let made : Mp4aBox = value_mp4a (number bytes) p.0 in
       let own_normal_form : normal_mp4a made ≡ made =
       ap (λ (esds : Option EsdsBox). record made { esds = esds }) is.0 in
@@ -83,7 +83,7 @@ laws_mp4a = record {
       (own_normal_form, can);
 }
 
--- reading it takes no memory
+-- Reading it takes no memory.
 pub mp4a_takes_none : (bytes : List ℕ) (start size : ℕ) → TakesNone (reads_mp4a bytes start size)
 unfolding reads_mp4a
 mp4a_takes_none bytes start size =

@@ -1,7 +1,9 @@
--- stsd, the sample descriptions of a track (ISO/IEC 14496-12, 8.5.2). The fields are version 1 byte at 8, flags 3 at 9,
--- and a count of entries 4 at 12, which is expected and not used. In a box of more than 16 bytes a sample entry follows
--- at 16. It is read if its type is one of five, and what follows it is not. Written are the count 1 and one entry, the
--- first that is present of avc1, hev1, vp09, mp4a and tx3g, or the count 0.
+-- stsd, the sample descriptions of a track (ISO/IEC 14496-12, 8.5.2). Its fields, by offset and bytes:
+-- - 8, 1 byte and 3 bytes: the version and the flags
+-- - 12, 4 bytes: the number of entries, which must be present, but isn't used
+-- - 16: a sample entry, if the size is more than 16. An entry of one of five types is read; what follows it is not.
+-- Only one entry is written, with the count 1: the first that is present of avc1, hev1, vp09, mp4a and tx3g. Without an
+-- entry, the count is 0.
 use Rattle.std.specs.Prelude.{ℕ, ◌+◌, nat_lt, List, [], ◌∷◌, ◌++◌, Option, Some, None, if◌then◌else◌}
 use Rattle.mp4_frame.specs.BoxType.{name_of}
 use Rattle.mp4_frame.specs.Bytes.{number, bytes_of_fields, full_box}
@@ -10,7 +12,7 @@ use Rattle.mp4_frame.specs.Members.{Known, Unknown, Is, kind, Held, holds, forma
 use Rattle.mp4_frame.specs.OneChild.{child_head, child_content}
 use Rattle.mp4_frame.specs.OptionalChild.{count_optional, size_optional, WritableOptional, bytes_optional}
 use Rattle.mp4_frame.specs.OptionalChild.{normal_optional}
-use Rattle.mp4_frame.specs.Parent.{WritableParent}
+use Rattle.mp4_frame.specs.FieldsThenChild.{WritableParent}
 use Rattle.mp4_frame.specs.Reading.{Reading, ◌>>=◌, map_reading, expect_bytes, done}
 use Rattle.mp4_frame.specs.declared.box_type.BoxType.{BoxType}
 use Rattle.mp4_frame.specs.declared.box_type.BoxType.TheVariants as names
@@ -34,7 +36,7 @@ pub data Entry : Type 0 where
   Mp4a : Mp4aBox → Entry
   Tx3g : Tx3gBox → Entry
 
--- the type of entries that a name gives
+-- the type of entries that a name stands for
 abbrev pub kinds_of_entry : BoxType → Known Entry
 kinds_of_entry names.Avc1Box = Is (kind reads_avc1 format_avc1 Avc1)
 kinds_of_entry names.Hev1Box = Is (kind reads_hev1 format_hev1 Hev1)
@@ -43,7 +45,7 @@ kinds_of_entry names.Mp4aBox = Is (kind reads_mp4a format_mp4a Mp4a)
 kinds_of_entry names.Tx3gBox = Is (kind reads_tx3g format_tx3g Tx3g)
 kinds_of_entry _ = Unknown
 
--- what the format of its type says of an entry
+-- the format of an entry's type, applied to the entry
 abbrev pub held_entry : Entry → Held Entry
 held_entry (Avc1 b) = holds format_avc1 Avc1 b
 held_entry (Hev1 b) = holds format_hev1 Hev1 b
@@ -54,18 +56,18 @@ held_entry (Tx3g b) = holds format_tx3g Tx3g b
 abbrev pub format_entry : Format Entry
 format_entry = format_held held_entry
 
--- what a child with this frame is read as: an entry of the type that its name gives, or none
+-- the reading of a child with this frame: an entry of the type that its name stands for, or none
 abbrev pub entry_if_known : Known Entry → List ℕ → ℕ → Frame → Reading (Option Entry)
 entry_if_known (Is k) bytes start c = map_reading (λ v. Some (k.wrap v)) (child_content k.reads bytes start c)
 entry_if_known Unknown bytes start c = done None
 
--- the entry at 16, if the box goes on there and the entry is of one of the types
+-- the entry at offset 16, if the box goes on there and the entry has one of the types
 abbrev pub entry_at : List ℕ → ℕ → ℕ → Reading (Option Entry)
 entry_at bytes start size =
     if nat_lt 16 size then
     (child_head bytes size 16 >>= λ c. entry_if_known (kinds_of_entry (name_of c.code)) bytes start c) else done None
 
--- a box without an entry, and the same with an entry of its type
+-- a box without an entry, and a box with another entry added
 abbrev pub without_entry : (version flags : ℕ) → StsdBox
 without_entry version flags =
     record { version = version; flags = flags; avc1 = None; hev1 = None; vp09 = None; mp4a = None; tx3g = None }
@@ -78,7 +80,7 @@ with_entry v (Some (Mp4a b)) = record v { mp4a = Some b }
 with_entry v (Some (Tx3g b)) = record v { tx3g = Some b }
 with_entry v None = v
 
--- the value, where `at o w` is the number of w bytes at offset o, and its entry
+-- the value with an entry, where `at o w` is the number of w bytes at offset o
 abbrev pub value_stsd : (ℕ → ℕ → ℕ) → Option Entry → StsdBox
 value_stsd at entry = with_entry (without_entry (at 8 1) (at 9 3)) entry
 
@@ -107,14 +109,14 @@ size_stsd v = 16 + size_optional format_entry (entry_stsd v)
 abbrev pub fields_stsd : StsdBox → List (ℕ × ℕ)
 fields_stsd v = full_box (size_stsd v) codes.STSD v.version v.flags ++ (4, count_optional (entry_stsd v)) ∷ []
 
--- every number fits its field, and the entry that is written can be written
+-- Every number fits its field, and the entry that is written can be written.
 abbrev pub WritableStsd : StsdBox → Type 0
 WritableStsd v = WritableParent (WritableOptional format_entry) (fields_stsd v) (entry_stsd v)
 
 unfoldable pub bytes_stsd : StsdBox → List ℕ
 bytes_stsd v = bytes_of_fields (fields_stsd v) ++ bytes_optional format_entry (entry_stsd v)
 
--- the entry that is written, alone and in its normal form
+-- only the entry that is written, in its normal form
 abbrev pub normal_stsd : StsdBox → StsdBox
 normal_stsd v = with_entry (without_entry v.version v.flags) (normal_optional format_entry (entry_stsd v))
 

@@ -21,8 +21,8 @@ use Rattle.mp4_frame.proofs.Decided.{outcome_bind}
 use Rattle.mp4_frame.proofs.Fields.{length-fields}
 use Rattle.mp4_frame.proofs.Framing.{header_in_front, fits_read, Number, Fitting}
 use Rattle.mp4_frame.specs.MemberLaws.{IsMember, member, written_member}
-use Rattle.mp4_frame.proofs.OneChildLaws.{IsSoundOptional, named_back, content_sound}
-use Rattle.mp4_frame.proofs.ParentLaws.{IsPart, same_size, parent_normal_form, parent_back, parent_sound}
+use Rattle.mp4_frame.proofs.OneChildLaws.{IsStableOptional, named_back, content_stable}
+use Rattle.mp4_frame.proofs.FieldsThenChildLaws.{IsPart, same_size, parent_normal_form, parent_back, parent_stable}
 use Rattle.mp4_frame.proofs.Tables.{value_first}
 use Rattle.mp4_entries.specs.Boxes.{laws_avc1, laws_hev1, laws_vp09, laws_tx3g}
 use Rattle.mp4_sound.specs.Mp4aLaws.{laws_mp4a}
@@ -66,7 +66,7 @@ module _ {A : Type 0} {reads : List ℕ → ℕ → ℕ → Reading A} {format :
     (wrap : A → Entry) (name : BoxType)
     (named : (v : A) → code_of (format.name v) ≡ code_of name) (own : name_of (code_of name) ≡ name)
     (is : kinds_of_entry name ≡ Is (kind reads format wrap)) where
-  -- an entry of this type after the fields is read back
+  -- An entry of this type after the fields is read back.
   entry_back : (x : List ℕ) → length x ≡ 16 → (v : A) → format.Writable v → (rest : List ℕ) (start : ℕ)
       → start + (16 + format.size v) < 2 ^ 64
       → (entry_at (x ++ (format.bytes v ++ rest)) start (16 + format.size v)).outcome
@@ -113,7 +113,7 @@ optional_entry_back x long (Some (Tx3g b)) w rest start top =
     rest start top
 optional_entry_back x long None w rest start top = refl
 
--- a type of entries has laws, and its entries are held by its format
+-- A type of entries has laws, and its format is that of its entries.
 abbrev HasLaws : Known Entry → Type 1
 HasLaws (Is k) = IsBox k.reads k.format × ((x : k.Value) → held_entry (k.wrap x) ≡ holds k.format k.wrap x)
 HasLaws Unknown = Unit {1}
@@ -127,32 +127,32 @@ have_laws names.Tx3gBox = (laws_tx3g, λ x. refl)
 have_laws _ = tt
 
 module _ (bytes : List ℕ) (start : ℕ) (are : AreBytes bytes) where
-  no_entry_sound : (v : Option Entry) → (done None).outcome ≡ Ok v → IsSoundOptional format_entry v
-  no_entry_sound v e = subst (IsSoundOptional format_entry) (is_value None v e) (refl, λ small. tt)
+  no_entry_stable : (v : Option Entry) → (done None).outcome ≡ Ok v → IsStableOptional format_entry v
+  no_entry_stable v e = subst (IsStableOptional format_entry) (is_value None v e) (refl, λ small. tt)
 
-  known_sound : (k : Known Entry) → HasLaws k → (c : Frame) (v : Option Entry)
-      → (entry_if_known k bytes start c).outcome ≡ Ok v → IsSoundOptional format_entry v
-  known_sound (Is k) laws c v e =
+  known_stable : (k : Known Entry) → HasLaws k → (c : Frame) (v : Option Entry)
+      → (entry_if_known k bytes start c).outcome ≡ Ok v → IsStableOptional format_entry v
+  known_stable (Is k) laws c v e =
       let p = value_first (child_content k.reads bytes start c) (λ u. done (Some (k.wrap u))) v e in
-      let is = content_sound laws.0 bytes start are c p.0 p.1 in
+      let is = content_stable laws.0 bytes start are c p.0 p.1 in
       let entry : Entry = k.wrap p.0 in
-      let sound : (Some (held_entry entry).normal ≡ Some entry)
+      let stable : (Some (held_entry entry).normal ≡ Some entry)
       × ((held_entry entry).size < 2 ^ 32 → (held_entry entry).Writable) =
       subst (λ (h : Held Entry). (Some h.normal ≡ Some entry) × (h.size < 2 ^ 32 → h.Writable)) (sym (laws.1 p.0))
       (ap (λ (u : k.Value). Some (k.wrap u)) is.0, is.1)
       in
-      subst (IsSoundOptional format_entry) (is_value (Some entry) v p.2) sound
-  known_sound Unknown laws c v e = no_entry_sound v e
+      subst (IsStableOptional format_entry) (is_value (Some entry) v p.2) stable
+  known_stable Unknown laws c v e = no_entry_stable v e
 
-  -- an entry that was read is its own normal form, and can be written unless it is too large
-  entry_sound : (size : ℕ) (more : Bool) (v : Option Entry)
+  -- An entry that is read is its own normal form, and can be written unless it is too large.
+  entry_stable : (size : ℕ) (more : Bool) (v : Option Entry)
       → (cond more (child_head bytes size 16 >>= λ c. entry_if_known (kinds_of_entry (name_of c.code)) bytes start c)
-      (done None)).outcome ≡ Ok v → IsSoundOptional format_entry v
-  entry_sound size true v e =
+      (done None)).outcome ≡ Ok v → IsStableOptional format_entry v
+  entry_stable size true v e =
       let p = value_first (child_head bytes size 16)
       (λ c. entry_if_known (kinds_of_entry (name_of c.code)) bytes start c) v e in
-      known_sound (kinds_of_entry (name_of p.0.code)) (have_laws (name_of p.0.code)) p.0 v p.2
-  entry_sound size false v e = no_entry_sound v e
+      known_stable (kinds_of_entry (name_of p.0.code)) (have_laws (name_of p.0.code)) p.0 v p.2
+  entry_stable size false v e = no_entry_stable v e
 
 -- The box with another entry.
 
@@ -207,13 +207,13 @@ laws_stsd = record {
       let back = optional_entry_back (bytes_of_fields cs) (length-fields cs) (entry_stsd v) w.child rest start top in
       parent_back entry_part fields_stsd entry_stsd with_child 8 8 entry_at value_stsd v rest start (size_stsd v) w.fit
       (lit≤ tt) back refl;
-  sound = λ bytes start long v are e.
+  stable = λ bytes start long v are e.
       let n = number bytes in
       let base = without_entry (n 8 1) (n 9 3) in
-      parent_sound entry_part fields_stsd entry_stsd with_child 8 8 entry_at value_stsd
+      parent_stable entry_part fields_stsd entry_stsd with_child 8 8 entry_at value_stsd
       (λ n c. own_entry (without_entry (n 8 1) (n 9 3)) c) (λ n c d. one_entry (without_entry (n 8 1) (n 9 3)) c d)
       size_stsd (λ v. omega arith) bytes start long v e
-      (λ c read. entry_sound bytes start are long (nat_lt 16 long) c read)
+      (λ c read. entry_stable bytes start are long (nat_lt 16 long) c read)
       (λ c small.
       let head = same_head base c in
       let count = count_optional (entry_stsd (value_stsd n c)) in

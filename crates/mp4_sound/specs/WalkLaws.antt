@@ -1,4 +1,4 @@
--- The laws of walks over descriptors: what was written is walked over, and what was found keeps its laws.
+-- The laws of walks over descriptors: what is written is walked over, and what is found keeps its laws.
 use Rattle.std.proofs.Common.{◌≡◌, ℕ, zero, suc, ◌+◌, ◌-◌, ◌%◌, ◌<◌, ◌≤◌, Bool, true, false, cond, leb, List, length}
 use Rattle.std.proofs.Common.{Result, Ok, Err, Option, Some, None, refl, ap, ◌∙◌, arith}
 use Rattle.std.proofs.lemmas.Bool.{lt-ltb, le-leb, lt-leb}
@@ -12,7 +12,7 @@ use Rattle.mp4_sound.specs.DescriptorHeader.{descriptor_header}
 use Rattle.mp4_sound.specs.Walk.{walk}
 use Rattle.mp4_sound.specs.declared.descriptor_header.DescriptorHeader.{DescriptorHeader}
 
--- a header of two bytes is read
+-- A header of two bytes is read.
 pub header_back : (bytes : List ℕ) (o tag long : ℕ) → o + 2 ≤ length bytes → number bytes o 1 ≡ tag
     → number bytes (o + 1) 1 ≡ long → long < 128
     → (descriptor_header bytes o).outcome ≡ Ok (record { tag = tag; length = long; content = o + 2 })
@@ -24,7 +24,7 @@ header_back bytes o tag long room is_tag is_long short =
 abbrev pub ok_counted : {A : Type 0} → A → Result A Fault
 ok_counted x = Ok x
 
--- a reading that has a value in the end has a value in its first part
+-- If a reading ends with a value, its first part has a value.
 pub first_ok : {A B : Type 0} (o : Result A Fault) (f : A → Counted B) (y : B) → outcome_after o f ≡ Ok y
     → (x : A) × (o ≡ Ok x) × ((f x).outcome ≡ Ok y)
 first_ok (Ok x) f y e = (x, refl, e)
@@ -76,7 +76,7 @@ module _ {A : Type 0} (content : List ℕ → ℕ → DescriptorHeader → Count
   after : ℕ → Option A × ℕ → Counted (Option A × ℕ)
   after n mine = walk content bytes bound n mine.1 >>= λ later. value (last mine.0 later.0, later.1)
 
-  -- one descriptor, and then the walk from where its content ended
+  -- one descriptor, and then the walk from the end of its content
   pub walk_on : (n o : ℕ) (d : DescriptorHeader) (mine later : Option A × ℕ) → 0 < n → o < bound
       → (descriptor_header bytes o).outcome ≡ Ok d → (content bytes bound d).outcome ≡ Ok mine
       → (walk content bytes bound (n - 1) mine.1).outcome ≡ Ok later
@@ -117,7 +117,7 @@ module _ {A : Type 0} (content : List ℕ → ℕ → DescriptorHeader → Count
     bound_kept n o true q = tt
     bound_kept n o false q = header_kept n (descriptor_header bytes o).outcome q
 
-    -- what a walk finds keeps what each content keeps
+    -- If each content satisfies P, so does the value that a walk finds.
     pub walk_kept : (n o : ℕ) → Kept P (walk content bytes bound n o).outcome
     unfolding walk after
     walk_kept zero o = tt
@@ -129,7 +129,8 @@ by_kept : {A B : Type 0} (P : A → Type 0) (Q : B → Type 0) (f : Option A × 
 by_kept P Q f step (Ok inner) p = step inner p
 by_kept P Q f step (Err k) p = tt
 
--- the same of fields and a walk after them
+-- If the values of a walk satisfy P, and f makes values of these that satisfy Q, then fields and the walk after them
+-- give values that satisfy Q.
 pub framed_kept : {A B : Type 0} (P : A → Type 0) (Q : B → Type 0) (u : Result (Unit {0}) Fault)
     (r : Counted (Option A × ℕ)) (f : Option A × ℕ → Option B × ℕ)
     → ((inner : Option A × ℕ) → ForSome P inner.0 → ForSome Q (f inner).0) → Kept P r.outcome

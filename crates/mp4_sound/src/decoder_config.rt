@@ -17,22 +17,22 @@ use mp4_media::AacConfig;
 pub struct DecoderConfigDescriptor {
     /// The size of the decoding buffer, in bytes, below 2^24.
     pub buffer_size_db: u32,
-    /// The maximum bit rate, in bits per second.
+    /// The maximum bit rate in bits per second.
     pub max_bitrate: u32,
-    /// The average bit rate, in bits per second; 0 if it varies.
+    /// The average bit rate in bits per second, or 0 if it varies.
     pub avg_bitrate: u32,
     /// The configuration of the decoder.
     pub dec_specific: DecoderSpecificDescriptor,
-    /// How the stream is coded: 0x40 is MPEG-4 audio.
+    /// The coding of the stream: 0x40 is MPEG-4 audio.
     pub object_type_indication: u8,
-    /// What the stream conveys, at most 63: 5 is sound.
+    /// The kind of the stream, at most 63: 5 is audio.
     pub stream_type: u8,
-    /// 2 for a stream from the receiver to the sender, else 0. The other bits are not written.
+    /// 2 for a stream from the receiver to the sender, and otherwise 0. The other bits are not written.
     pub up_stream: u8,
 }
 
 impl DecoderConfigDescriptor {
-    /// The descriptor of a configuration: MPEG-4 audio, with its bit rate as both bit rates.
+    /// Creates the descriptor of MPEG-4 audio with the parameters of `config`. Both bit rates are that of `config`.
     pub fn new(config: &AacConfig) -> DecoderConfigDescriptor
         ensures { result ≡ decoder_config_of config.now }
     {
@@ -47,7 +47,8 @@ impl DecoderConfigDescriptor {
         }
     }
 
-    /// Reads the content of this length at an offset, and returns where it ended.
+    /// Reads the content of `long` bytes at offset `at`. Returns the descriptor and the offset where its content ended,
+    /// and adds the number of whole headers inside to `headers`.
     #[tactic(auto, unfolding(crate::specs::DecoderConfig::decoder_config))]
     fn at(
         bytes: &[u8],

@@ -15,21 +15,22 @@ use mp4_frame::{Result, expect_bytes, u16_at};
 use mp4_media::{AacConfig, AudioObjectType};
 
 /// The decoder specific descriptor of MPEG-4 audio (tag 5): the first fields of its configuration (ISO/IEC 14496-3,
-/// 1.6.2.1). What may follow them there is not read.
+/// 1.6.2.1). Any fields after these are not read.
 #[derive(Clone, Debug, Default, Drop, PartialEq, Eq)]
 pub struct DecoderSpecificDescriptor {
-    /// The sampling frequency, in hertz, below 2^24. It is present exactly if `freq_index` is 15.
+    /// The sampling frequency in hertz, below 2^24. It is present if and only if `freq_index` is 15.
     pub sample_rate: Option<u32>,
-    /// The audio object type: 0 to 95, but not 31. `AudioObjectType` names them.
+    /// The audio object type: 0 to 30, or 32 to 95. `AudioObjectType` names them.
     pub profile: u8,
-    /// The index of the sampling frequency, at most 15. `SampleFreqIndex` names 0 to 12; 15 means that `sample_rate`
-    /// has the frequency.
+    /// The index of the sampling frequency, at most 15. `SampleFreqIndex` names 0 to 12. With 15, the frequency is
+    /// `sample_rate`.
     pub freq_index: u8,
     /// The channel configuration, at most 15. `ChannelConfig` names 1 to 7.
     pub chan_conf: u8,
 }
 
-/// Whether a rate fits: it is present exactly with index 15, and then below 2^24.
+/// Returns whether `sample_rate` fits: with index 15 it must be present and below 2^24, and with any other index
+/// absent.
 fn rate_fits(freq_index: u8, sample_rate: Option<u32>) -> bool
     ensures { IsTrue result ↔ RateFits freq_index sample_rate }
 {
@@ -39,7 +40,7 @@ fn rate_fits(freq_index: u8, sample_rate: Option<u32>) -> bool
     }
 }
 
-/// The number of an audio object type.
+/// Returns the number of an audio object type.
 fn number_audio_object_type(profile: AudioObjectType) -> u8
     ensures { result ≡ number_audio_object_type profile }
 {
@@ -47,7 +48,7 @@ fn number_audio_object_type(profile: AudioObjectType) -> u8
 }
 
 impl DecoderSpecificDescriptor {
-    /// The descriptor of a configuration.
+    /// Creates the descriptor with the parameters of `config`.
     pub fn new(config: &AacConfig) -> DecoderSpecificDescriptor
         ensures { result ≡ decoder_specific_of config.now }
     {
@@ -59,7 +60,7 @@ impl DecoderSpecificDescriptor {
         }
     }
 
-    /// Whether it can be written.
+    /// Returns whether the descriptor can be written.
     pub(crate) fn is_writable(&self) -> bool
         ensures { IsTrue result ↔ WritableDecoderSpecific self.now }
     {
@@ -70,7 +71,7 @@ impl DecoderSpecificDescriptor {
             && self.chan_conf < 16
     }
 
-    /// The number of bytes that it is written in, and the number in them.
+    /// Returns the number of bytes of the encoded content, and these bytes as a number.
     pub(crate) fn field(&self) -> (usize, u64)
         ensures { result ≡ field_decoder_specific self.now }
     {
@@ -95,7 +96,7 @@ impl DecoderSpecificDescriptor {
         (2, first + chan_conf * (1 << 3))
     }
 
-    /// Reads the numbers at an offset, and returns where they end.
+    /// Reads the content at offset `at`. Returns the descriptor, and the offset where its content ended.
     #[tactic(auto, unfolding(crate::specs::DecoderSpecific::decoder_specific))]
     fn at(bytes: &[u8], at: u64) -> Result<(Option<DecoderSpecificDescriptor>, u64)>
         requires { at ≤ length bytes.now }

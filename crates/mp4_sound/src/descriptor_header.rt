@@ -10,17 +10,17 @@ use mp4_frame::{Result, expect_bytes, u8_at};
 /// The header of a descriptor (ISO/IEC 14496-1, 8.3.3).
 #[derive(Clone, Copy, Debug)]
 pub struct DescriptorHeader {
-    /// The kind of descriptor.
+    /// The tag, which says the kind of the descriptor.
     pub tag: u8,
-    /// How many bytes of content it declares.
+    /// The number of bytes of content that the header declares.
     pub length: u64,
-    /// The offset of the content, in the bytes from the start of the box on.
+    /// The offset of the content from the start of the box.
     pub content: u64,
 }
 
-/// The header of `head` bytes at an offset, with this length.
+/// Returns the header of `head` bytes at offset `at` that declares this length.
 fn header_of(bytes: &[u8], at: u64, head: u64, declared: u64) -> DescriptorHeader
-    requires some { 0 < head }
+    requires positive { 0 < head }
     requires present { at + head ≤ length bytes.now }
     ensures { result ≡ header_of_bytes bytes.now at head declared }
 {
@@ -31,7 +31,7 @@ fn header_of(bytes: &[u8], at: u64, head: u64, declared: u64) -> DescriptorHeade
     }
 }
 
-/// What a length of at most three bytes and the byte after them come to: that byte has 7 bits more.
+/// Returns the length that `declared` and the seven low bits of the byte at offset `at` make.
 fn longer(bytes: &[u8], at: usize, declared: u64) -> u64
     requires present { at < length bytes.now }
     requires short { declared < 2 ^ 21 }
@@ -40,7 +40,7 @@ fn longer(bytes: &[u8], at: usize, declared: u64) -> u64
     declared * 128 + u64::from(u8_at(bytes, at) % 128)
 }
 
-/// Reads the fourth byte of a length, whose first three come to `declared`.
+/// Reads the fourth byte of a length. The first three make `declared`.
 fn fourth_length(bytes: &[u8], at: u64, declared: u64) -> Result<DescriptorHeader>
     requires present { at + 4 ≤ length bytes.now }
     requires short { declared < 2 ^ 21 }
@@ -53,7 +53,7 @@ fn fourth_length(bytes: &[u8], at: u64, declared: u64) -> Result<DescriptorHeade
     Ok(header_of(bytes, at, 5, longer(bytes, offset, declared)))
 }
 
-/// Reads the third byte of a length, whose first two come to `declared`, and the byte after it if there is one.
+/// Reads the third byte of a length, and the fourth if there is one. The first two make `declared`.
 fn third_length(bytes: &[u8], at: u64, declared: u64) -> Result<DescriptorHeader>
     requires present { at + 3 ≤ length bytes.now }
     requires short { declared < 2 ^ 14 }
@@ -70,7 +70,7 @@ fn third_length(bytes: &[u8], at: u64, declared: u64) -> Result<DescriptorHeader
     fourth_length(bytes, at, declared)
 }
 
-/// Reads the second byte of a length, whose first comes to `declared`, and the bytes after it if there are any.
+/// Reads the second byte of a length, and the later ones if there are any. The first makes `declared`.
 fn second_length(bytes: &[u8], at: u64, declared: u64) -> Result<DescriptorHeader>
     requires present { at + 2 ≤ length bytes.now }
     requires short { declared < 2 ^ 7 }
@@ -88,7 +88,7 @@ fn second_length(bytes: &[u8], at: u64, declared: u64) -> Result<DescriptorHeade
 }
 
 impl DescriptorHeader {
-    /// Reads the header at an offset. End of input unless its 2 to 5 bytes are present.
+    /// Reads the header at offset `at`. Fails with end of input unless its 2 to 5 bytes are present.
     #[tactic(auto, unfolding(crate::specs::DescriptorHeader::descriptor_header))]
     pub fn at(bytes: &[u8], at: u64) -> Result<DescriptorHeader>
         ensures value { Answers result (descriptor_header bytes.now at) }

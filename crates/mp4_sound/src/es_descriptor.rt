@@ -16,16 +16,16 @@ use mp4_media::AacConfig;
 /// The elementary stream descriptor (tag 3; ISO/IEC 14496-1, 7.2.6.5).
 #[derive(Clone, Debug, Default, Drop, PartialEq, Eq)]
 pub struct ESDescriptor {
-    /// How the stream is decoded.
+    /// The configuration of the stream's decoder.
     pub dec_config: DecoderConfigDescriptor,
-    /// The number of the stream. The standard has 0, or the low bits of the number of the track.
+    /// The number of the stream. The standard has 0, or the low bits of the track's number.
     pub es_id: u16,
     /// The configuration of the sync layer.
     pub sl_config: SLConfigDescriptor,
 }
 
 impl ESDescriptor {
-    /// The descriptor of a configuration, for stream 1.
+    /// Creates the descriptor of stream 1 with the parameters of `config`.
     pub fn new(config: &AacConfig) -> ESDescriptor
         ensures { result ≡ es_descriptor_of config.now }
     {
@@ -36,7 +36,8 @@ impl ESDescriptor {
         }
     }
 
-    /// Reads the content of this length at an offset, and returns where it ended.
+    /// Reads the content of `long` bytes at offset `at`. Returns the descriptor and the offset where its content ended,
+    /// and adds the number of whole headers inside to `headers`.
     #[tactic(auto, unfolding(crate::specs::EsDescriptor::es_descriptor))]
     fn at(
         bytes: &[u8],

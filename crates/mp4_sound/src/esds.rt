@@ -1,4 +1,4 @@
-//! The elementary stream descriptor box.
+//! The elementary stream descriptor box, `esds`.
 
 ghost use Rattle.std.specs.Prelude.{◌≡◌, ◌+◌, ◌-◌, ◌*◌, ◌≤◌, length, OnOk, OnErr};
 ghost use Rattle.mp4_frame.specs.Format.{write_laws};
@@ -19,21 +19,21 @@ use mp4_frame::{
 use mp4_media::AacConfig;
 use std::alloc::Global;
 
-/// The elementary stream descriptor of a sample entry of sound (`esds`, ISO/IEC 14496-14, 5.6). When it is read, the
-/// last of several descriptors of a kind is kept; each descriptor begins where the content before it ended, whatever
+/// The elementary stream descriptor of an audio sample entry (`esds`, ISO/IEC 14496-14, 5.6). If there are several
+/// descriptors of a kind, reading keeps the last. Each descriptor begins where the content before it ended, whatever
 /// lengths are declared.
 #[derive(Clone, Debug, Default, Drop, PartialEq, Eq)]
 pub struct EsdsBox {
-    /// 24 bits, 0 in the standard.
+    /// The flags, 24 bits, 0 in the standard.
     pub flags: u32,
     /// The descriptor of the stream.
     pub es_desc: ESDescriptor,
-    /// The version of the box, usually 0. It is kept as it is.
+    /// The version of the box, usually 0. Other values are kept.
     pub version: u8,
 }
 
 impl EsdsBox {
-    /// The box of a configuration.
+    /// Creates the box with the parameters of `config`.
     pub fn new(config: &AacConfig) -> EsdsBox
         ensures { result ≡ esds_of config.now }
     {
@@ -44,9 +44,9 @@ impl EsdsBox {
         }
     }
 
-    /// Reads the box whose header was just read, as `read_box`, and counts the descriptor headers that were read whole:
-    /// also those before a fault, and the one that ends the reading. There are at most half as many as bytes from the
-    /// cursor to the end of the buffer. It takes no memory.
+    /// Reads the box after its header, like `read_box`, and takes no memory. Also returns the number of descriptor
+    /// headers that it read whole, among them those before a fault, and the one that ends the reading. This number is
+    /// at most half the number of bytes from the cursor to the end of the buffer.
     #[tactic(auto, unfolding(crate::specs::Esds::reads_esds, crate::specs::Esds::headers_esds))]
     pub fn read_counted(reader: &mut ByteCursor, size: u64) -> (Result<EsdsBox>, u64)
         requires { 8 ≤ reader.old.position }
@@ -90,7 +90,7 @@ impl Mp4Box for EsdsBox {
     }
 }
 
-/// Reads the last elementary stream descriptor of a box of this size, and counts the whole headers.
+/// Reads the last elementary stream descriptor of a box of `size` bytes. Sets `headers` to the number of whole headers.
 #[tactic(auto, unfolding(crate::specs::Esds::last_es_descriptor))]
 fn last_es_descriptor(bytes: &[u8], size: u64, headers: &mut u64) -> Result<Option<ESDescriptor>>
     requires none { headers.old ≡ 0 }
@@ -104,7 +104,7 @@ fn last_es_descriptor(bytes: &[u8], size: u64, headers: &mut u64) -> Result<Opti
     Ok(found)
 }
 
-/// Reads the content of a box of this size, and counts the whole headers.
+/// Reads the content of a box of `size` bytes. Sets `headers` to the number of whole headers.
 #[tactic(auto, unfolding(crate::specs::Esds::counted_esds))]
 fn counted_esds(bytes: &[u8], size: u64, headers: &mut u64) -> Result<EsdsBox>
     requires none { headers.old ≡ 0 }

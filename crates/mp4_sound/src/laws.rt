@@ -1,5 +1,5 @@
-//! Laws of the boxes of this crate, besides those of every box. Nothing here reads or writes: each function's
-//! contract is a law, and its body is empty.
+//! Laws of the boxes of this crate, in addition to those of every box. Each function's contract is a law, and its body
+//! is empty: nothing is read or written.
 
 ghost use Rattle.std.specs.Prelude.{◌≡◌, ◌+◌, ◌<◌, ◌≤◌, ℕ, List, length, Ok};
 ghost use Rattle.mp4_frame.specs.Equality.{IsEquality};
@@ -18,7 +18,7 @@ use crate::{
     SLConfigDescriptor, StsdBox,
 };
 
-/// Every descriptor of a walk is read: looking for more descriptors than there are bytes changes nothing.
+/// Shows that every descriptor of a walk is read: a larger limit than the number of bytes changes nothing.
 pub fn descriptors_are_read_to_their_end()
     ensures in_esds { (bytes : List ℕ) (bound from more : ℕ) → 0 < from → from ≤ length bytes
         → walk in_esds bytes bound (length bytes + more) from ≡ walk in_esds bytes bound (length bytes) from }
@@ -30,14 +30,14 @@ pub fn descriptors_are_read_to_their_end()
         ≡ walk in_decoder_config bytes bound (length bytes) from }
 {}
 
-/// Reading an `stsd` takes no memory, unless its entry is an `avc1`.
+/// Shows that reading an `stsd` takes no memory, unless its entry is an `avc1`.
 pub fn only_avc1_takes_memory()
     ensures { (bytes : List ℕ) (start size : ℕ)
         → (16 < size → (entry : Frame) → (child_head bytes size 16).outcome ≡ Ok entry → ¬ (entry.code ≡ codes.AVC1))
         → TakesNone (reads_stsd bytes start size) }
 {}
 
-/// `==` of two values compares all of their fields.
+/// Shows that `==` of two values compares all of their fields.
 pub fn equality_is_of_all_fields()
     ensures esds { IsEquality ⟦<EsdsBox as PartialEq>⟧.eq }
     ensures mp4a { IsEquality ⟦<Mp4aBox as PartialEq>⟧.eq }

@@ -1,4 +1,4 @@
-//! The boxes of sound, MPEG-4 audio sample entries and their descriptors, and the sample description box.
+//! Reads and writes sample descriptions: `stsd`, and the sample entries of MPEG-4 audio with their descriptors.
 #![tactic(auto)]
 
 mod decoder_config;

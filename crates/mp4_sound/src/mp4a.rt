@@ -1,4 +1,4 @@
-//! The sample entry of MPEG-4 audio.
+//! The sample entry of MPEG-4 audio, `mp4a`.
 
 ghost use Rattle.std.specs.Prelude.{◌≡◌};
 ghost use Rattle.mp4_frame.specs.Format.{write_laws};
@@ -14,18 +14,17 @@ use mp4_frame::{
 use mp4_media::{AacConfig, FixedPointU16};
 use std::alloc::Global;
 
-/// The sample entry of MPEG-4 audio (`mp4a`, ISO/IEC 14496-14, 5.6; ISO/IEC 14496-12, 12.2.3). When it is read, the box
-/// after its fields is kept if it is an `esds`, and is not read otherwise. It has at least 36 bytes, whatever its size
-/// says.
+/// The sample entry of MPEG-4 audio (`mp4a`, ISO/IEC 14496-14, 5.6; ISO/IEC 14496-12, 12.2.3). Reading keeps the box
+/// after its fields if it is an `esds`, and skips any other. The entry takes at least 36 bytes, whatever its size says.
 #[derive(Clone, Debug, Drop, PartialEq, Eq)]
 pub struct Mp4aBox {
-    /// Which data reference of the track has the samples, counted from 1.
+    /// The number of the samples' data reference, starting at 1.
     pub data_reference_index: u16,
     /// The number of channels.
     pub channelcount: u16,
     /// The number of bits of a sample.
     pub samplesize: u16,
-    /// The sampling rate, in hertz.
+    /// The sampling rate in hertz.
     pub samplerate: FixedPointU16,
     /// The descriptors of the stream.
     pub esds: Option<EsdsBox>,
@@ -47,7 +46,8 @@ impl Default for Mp4aBox {
 }
 
 impl Mp4aBox {
-    /// The sample entry of a configuration, with 16 bits a sample. Of the frequency the low 16 bits are kept.
+    /// Creates the entry with 16 bits per sample and the parameters of `config`. Only the low 16 bits of the frequency
+    /// are kept.
     pub fn new(config: &AacConfig) -> Mp4aBox
         ensures { result ≡ mp4a_of config.now }
     {
@@ -61,14 +61,14 @@ impl Mp4aBox {
         }
     }
 
-    /// The same as `box_type`.
+    /// Returns the type of the box, like `box_type`.
     pub fn get_type(&self) -> BoxType
         ensures { result ≡ names.Mp4aBox }
     {
         self.box_type()
     }
 
-    /// The same as `box_size`.
+    /// Returns the number of bytes of the box, like `box_size`.
     #[tactic(auto, using(crate::specs::DecoderSpecificLaws::is_form))]
     pub fn get_size(&self) -> u64
         ensures { result ≡ size_mp4a self.now }

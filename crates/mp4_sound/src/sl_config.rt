@@ -2,12 +2,12 @@
 
 ghost use Rattle.std.specs.Prelude.{◌≡◌};
 
-/// The sync layer configuration descriptor (tag 6; ISO/IEC 14496-1, 7.3.2.3). Nothing of it is kept.
+/// The sync layer configuration descriptor (tag 6; ISO/IEC 14496-1, 7.3.2.3). None of its content is kept.
 #[derive(Clone, Debug, Default, Drop, PartialEq, Eq)]
 pub struct SLConfigDescriptor {}
 
 impl SLConfigDescriptor {
-    /// The descriptor.
+    /// Creates the descriptor.
     pub fn new() -> SLConfigDescriptor
         ensures { result ≡ record {} }
     {

@@ -1,4 +1,4 @@
-//! The sample description box.
+//! The sample description box, `stsd`.
 
 ghost use Rattle.std.specs.Prelude.{◌≡◌, ◌+◌, ◌-◌, ◌^◌, ◌≤◌, Some, None, length, min, take, ◌++◌, ◌↔◌, IsTrue, IfOk};
 ghost use Rattle.std.specs.Prelude.{IfErr};
@@ -21,8 +21,8 @@ use mp4_frame::{
 };
 use std::alloc::Global;
 
-/// An expression of the first entry of a box that is present, of `avc1`, `hev1`, `vp09`, `mp4a` and `tx3g` in this
-/// order, or another expression where none is.
+/// Evaluates `$value` for the first entry of `$stsd` that is present, in the order `avc1`, `hev1`, `vp09`, `mp4a`,
+/// `tx3g`, or `$none` if no entry is present.
 macro_rules! first_entry {
     ($stsd:expr, $entry:ident => $value:expr, $none:expr) => {
         if let Some($entry) = &$stsd.avc1 {
@@ -41,14 +41,14 @@ macro_rules! first_entry {
     };
 }
 
-/// The sample descriptions of a track (`stsd`, ISO/IEC 14496-12, 8.5.2). When it is read, the first entry is kept if it
-/// is of one of the five types here, also where it ends after the `stsd`. Entries after it are not read. When it is
-/// written, the first entry that is present is, in the order of the fields, and it alone has to be writable.
+/// The sample descriptions of a track (`stsd`, ISO/IEC 14496-12, 8.5.2). Reading keeps the first entry if it has one of
+/// the five types here, even if it ends after the `stsd`. Later entries are not read. Writing writes only the first
+/// entry that is present, in the order `avc1`, `hev1`, `vp09`, `mp4a`, `tx3g`. Only this entry has to be writable.
 #[derive(Debug, Drop, PartialEq, Eq)]
 pub struct StsdBox {
-    /// The version of the box, usually 0. It is kept as it is.
+    /// The version of the box, usually 0. Other values are kept.
     pub version: u8,
-    /// Flags, below 2^24, usually 0.
+    /// The flags, below 2^24, usually 0.
     pub flags: u32,
     /// The entry of AVC video.
     pub avc1: Option<Avc1Box>,
@@ -63,7 +63,7 @@ pub struct StsdBox {
 }
 
 impl StsdBox {
-    /// Version 0, flags 0 and no entry.
+    /// Creates a box of version 0 with flags 0 and no entry.
     fn empty() -> StsdBox
         ensures { result ≡ record
             { version = 0; flags = 0; avc1 = None; hev1 = None; vp09 = None; mp4a = None; tx3g = None } }
@@ -79,7 +79,7 @@ impl StsdBox {
         }
     }
 
-    /// Version 0, flags 0 and no entry. It takes no memory.
+    /// Creates a box of version 0 with flags 0 and no entry. This takes no memory.
     pub fn default_in(_alloc: Global) -> StsdBox
         ensures { result ≡ record
             { version = 0; flags = 0; avc1 = None; hev1 = None; vp09 = None; mp4a = None; tx3g = None } }
@@ -87,21 +87,21 @@ impl StsdBox {
         StsdBox::empty()
     }
 
-    /// Whether the entry that is written can be written, if there is one.
+    /// Returns whether the entry that is written can be written. Without an entry this is true.
     fn is_entry_writable(&self) -> bool
         ensures { IsTrue result ↔ WritableOptional format_entry (entry_stsd self.now) }
     {
         first_entry!(self, entry => entry.is_writable(), true)
     }
 
-    /// The same as `box_type`.
+    /// Returns the type of the box, like `box_type`.
     pub fn get_type(&self) -> BoxType
         ensures { result ≡ names.StsdBox }
     {
         self.box_type()
     }
 
-    /// The same as `box_size`.
+    /// Returns the number of bytes of the box, like `box_size`.
     pub fn get_size(&self) -> u64
         ensures { result ≡ min (size_stsd self.now) (2 ^ 64 - 1) }
     {
@@ -109,7 +109,7 @@ impl StsdBox {
     }
 }
 
-/// Clones an entry, if it is present, in place of what `clone` holds.
+/// Sets `clone` to a clone of `entry`, which may be `None`.
 fn clone_entry<T: TryClone + Drop>(entry: &Option<T>, clone: &mut Option<T>) -> Result<()>
     ensures clone { IfOk result (λ _. clone.new ≡ entry.now) }
     ensures memory { IfErr result (λ e. e ≡ OutOfMemory) }
@@ -147,7 +147,7 @@ impl Mp4Box for StsdBox {
     }
 }
 
-/// Reads the content of the entry with this frame, in place of what `entry` holds.
+/// Reads the content of the entry with the frame `child`, and stores it in `entry`.
 fn read_content_of<T: ReadBox + Drop>(
     alloc: Global,
     parent: &Parent,
@@ -162,8 +162,8 @@ fn read_content_of<T: ReadBox + Drop>(
     Ok(())
 }
 
-/// Reads the content of the child with this frame and name, if the name gives a type of entries, and keeps it in
-/// `stsd`.
+/// Reads the content of the entry with the frame `child` and stores it in `stsd`, if `name` is that of a type of
+/// entries. Other entries are skipped.
 fn read_entry(
     alloc: Global,
     parent: &Parent,
@@ -211,7 +211,7 @@ impl ReadBox for StsdBox {
     }
 }
 
-/// Puts the count 1 and an entry.
+/// Puts the count 1 and `entry`.
 fn put_entry<T: WriteBox>(out: &mut [u8], at: usize, entry: &T)
     requires writable { T.format.Writable entry.now }
     requires room { at + 4 + T.format.size entry.now ≡ length out.old }

@@ -1,11 +1,11 @@
-//! Big-endian numbers of any number of bytes up to eight, at an offset of a slice.
+//! Big-endian numbers of one to eight bytes.
 
 ghost use Rattle.std.specs.Prelude.{◌≡◌, ◌≤◌, ◌<◌, ◌^◌, ◌+◌, ◌++◌, length, take};
 ghost use Rattle.mp4_frame.specs.Bytes.{number, be_bytes};
 
 use byteorder::{BigEndian, ByteOrder};
 
-/// The number in the `width` bytes at offset `at`.
+/// Returns the number in the `width` bytes at offset `at`.
 pub(crate) fn uint_at(bytes: &[u8], at: usize, width: usize) -> u64
     requires low { 1 ≤ width }
     requires high { width ≤ 8 }
@@ -15,7 +15,7 @@ pub(crate) fn uint_at(bytes: &[u8], at: usize, width: usize) -> u64
     BigEndian::read_uint(&bytes[at..], width)
 }
 
-/// Puts a number of `width` bytes, and returns the offset after it.
+/// Puts `n` in `width` bytes, and returns the offset after them.
 pub(crate) fn put_uint(out: &mut [u8], at: usize, n: u64, width: usize) -> usize
     requires low { 1 ≤ width }
     requires high { width ≤ 8 }

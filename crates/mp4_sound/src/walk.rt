@@ -1,4 +1,4 @@
-//! Walking over the descriptors of a box.
+//! A walk over the descriptors of a box.
 
 ghost use Rattle.std.specs.Prelude.{◌≡◌, ◌+◌, ◌*◌, ◌<◌, ◌≤◌, ◌^◌, ℕ, List, Option, length, min, MatchResult};
 ghost use Rattle.mp4_frame.specs.Reading.{Answers};
@@ -9,14 +9,14 @@ ghost use Rattle.mp4_sound.specs.declared.descriptor_header.DescriptorHeader.{De
 use crate::descriptor_header::DescriptorHeader;
 use mp4_frame::Result;
 
-/// A descriptor that is wanted in a walk.
+/// A descriptor that a walk looks for.
 pub trait WalkedFor: Drop {
-    /// What the content of a descriptor is read as, in a walk up to a bound: a value if it is a wanted one, and where
-    /// it ended.
+    /// The reading of a descriptor's content in a walk up to a bound: a value if the descriptor is one the walk looks
+    /// for, and the offset where its content ended.
     ghost content: { List ℕ → ℕ → Header → Counted (Option Self × ℕ) };
 
-    /// Reads the content of a descriptor, and counts the whole headers in it. The only errors are the faults of
-    /// `content`.
+    /// Reads the content of the descriptor with this `header`, and adds the number of whole headers inside to
+    /// `headers`. The only errors are the faults of `content`.
     fn read_content(
         bytes: &[u8],
         bound: u64,
@@ -34,9 +34,10 @@ pub trait WalkedFor: Drop {
             (λ _. 2 * headers.new + header.content ≤ 2 * headers.old + length bytes.now) };
 }
 
-/// Walks over at most `most` descriptors from offset `from` on, each of which begins before a bound and where the
-/// content before it ended. Returns the last wanted one, and where the last content ended. Counts the whole headers:
-/// they have two bytes or more, so their number is bounded by the bytes that are walked over.
+/// Walks over at most `most` descriptors, the first at offset `from`. Each begins before `bound`, and where the content
+/// before it ended. Returns the last descriptor that the walk looks for, and the offset where the last content ended.
+/// Adds the number of whole headers to `headers`. Each header has at least two bytes, so the bytes of the walk bound
+/// their number.
 pub(crate) fn walk<T: WalkedFor>(
     bytes: &[u8],
     bound: u64,

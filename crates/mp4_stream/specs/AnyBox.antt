@@ -1,5 +1,5 @@
--- A box of any type is read and written as its type says. Two tables have a line for each type: by the name of a
--- box, and by the variant of an AnyBox.
+-- A box of any type, which is read and written as its type says. Two tables have a line for each type: one for the name
+-- of a box, one for the variant of an AnyBox.
 use Rattle.std.specs.Prelude.{ℕ, List, Bool}
 use Rattle.mp4_frame.specs.Format.{Format}
 use Rattle.mp4_frame.specs.Members.{Known, Unknown, Is, kind, is_known, reading_known, Held, holds, format_held}
@@ -22,7 +22,7 @@ use Rattle.mp4_sound.specs.Boxes.{reads_esds, format_esds, reads_mp4a, format_mp
 use Rattle.mp4_stream.specs.declared.any_box.AnyBox.{AnyBox}
 use Rattle.mp4_stream.specs.declared.any_box.AnyBox.TheVariants as any
 
--- the type of the boxes of a name
+-- the type of the boxes with a name
 abbrev pub kinds : BoxType → Known AnyBox
 kinds names.FtypBox = Is (kind reads_ftyp format_ftyp any.FtypBox)
 kinds names.MvhdBox = Is (kind reads_mvhd format_mvhd any.MvhdBox)
@@ -62,7 +62,7 @@ kinds names.Mp4aBox = Is (kind reads_mp4a format_mp4a any.Mp4aBox)
 kinds names.StsdBox = Is (kind reads_stsd format_stsd any.StsdBox)
 kinds _ = Unknown
 
--- what the format of its type says of a box
+-- the format of a box's type, applied to the box
 abbrev pub held : AnyBox → Held AnyBox
 held (any.FtypBox b) = holds format_ftyp any.FtypBox b
 held (any.MvhdBox b) = holds format_mvhd any.MvhdBox b
@@ -101,7 +101,7 @@ held (any.EsdsBox b) = holds format_esds any.EsdsBox b
 held (any.Mp4aBox b) = holds format_mp4a any.Mp4aBox b
 held (any.StsdBox b) = holds format_stsd any.StsdBox b
 
--- the number of bytes that a box of a name has at least, whatever its size says
+-- the least number of bytes of a box with this name, whatever its size says
 abbrev pub least_any : BoxType → ℕ
 least_any names.Mp4aBox = 36
 least_any _ = 0

@@ -1,5 +1,5 @@
--- What the author of a box type needs besides what contracts of callers name. Definitions come first, and then the
--- lemmas that the laws of a box are made of. docs/OWN-BOX.md goes through a box that is made of these.
+-- For authors of box types: definitions that the contracts of callers don't name, and after them the lemmas for the
+-- laws of a box. docs/OWN-BOX.md shows a box that is made of them.
 
 -- numbers and fields in bytes
 unfoldable pub use Rattle.mp4_frame.specs.Bytes.{number, be_bytes, bytes_of_fields, bytes_of_fields_onto}
@@ -11,7 +11,7 @@ unfoldable pub use Rattle.mp4_frame.specs.Tables.{rows_at}
 pub use Rattle.mp4_frame.specs.Tables.{reads_table, size_table, WritableTable, bytes_table}
 pub use Rattle.mp4_flat.specs.Time.{time_width, version_of, reads_timed, WritableTimed}
 unfoldable pub use Rattle.mp4_tables.specs.Rows.{rows_within}
--- boxes and entries that are declared
+-- declared boxes and entries
 pub use Rattle.std.proofs.Common.{refl, lit<}
 pub use Rattle.mp4_declared.specs.Layout.{BitField, flag, unsigned, fields_of, OwnEntry, packed}
 pub use Rattle.mp4_declared.specs.Layout.{layout_in, row_of, entry_of, FitsEntry}
@@ -24,7 +24,7 @@ pub use Rattle.mp4_declared.specs.DeclaredEntryLaws.{some_first, some_either}
 pub use Rattle.mp4_frame.specs.Children
 pub use Rattle.mp4_frame.specs.OneChild
 pub use Rattle.mp4_frame.specs.OptionalChild
-pub use Rattle.mp4_frame.specs.Parent
+pub use Rattle.mp4_frame.specs.FieldsThenChild
 -- names, formats, and types that hold boxes of several types
 unfoldable pub use Rattle.mp4_frame.specs.BoxType.{name_of}
 pub use Rattle.mp4_frame.specs.BoxType.{code_of, is_disguised, name_of-code_of, code_of-name_of}
@@ -36,7 +36,7 @@ pub use Rattle.mp4_frame.specs.Format.{Format, IsBox, write_laws}
 pub use Rattle.mp4_frame.specs.Laws.{OwnName, ReadsBack, AreBytes}
 pub use Rattle.mp4_frame.specs.Members.{Kind, Known, Unknown, Is, kind, is_known, reading_known, Held, holds}
 pub use Rattle.mp4_frame.specs.Members.{format_held, NamedAsRead, Inside, boxed, held_inside}
-pub use Rattle.mp4_lists.specs.Coded.{known_if, of_code}
+pub use Rattle.mp4_compose.specs.Coded.{known_if, of_code}
 -- the laws of a box of fields
 pub use Rattle.mp4_frame.proofs.Fields.{found, length-fields, number-fields, number-fields_alone, numbers-fields}
 pub use Rattle.mp4_frame.proofs.Fields.{expect_bytes-fields, number-below}
@@ -48,7 +48,8 @@ pub use Rattle.mp4_frame.proofs.Checks.{reads_back}
 pub use Rattle.mp4_frame.proofs.NoMemory.{bind_takes_none, expect_bytes_takes_none, check_takes_none, fields_take_none}
 pub use Rattle.mp4_flat.specs.TimeLaws.{each_version, timed_back, timed_is, timed_takes_none}
 -- the laws of a box with a list
-pub use Rattle.mp4_frame.proofs.Tables.{IsRow, length_flat, map_back, map_all, value_first, rows_at_back, rows_read}
+pub use Rattle.mp4_lemmas.proofs.Lists.{length_flat, map_back}
+pub use Rattle.mp4_frame.proofs.Tables.{IsRow, map_all, value_first, rows_at_back, rows_read}
 pub use Rattle.mp4_frame.proofs.TableLaws.{IsEntry, number_entry, TableOf, format_table, laws_table}
 pub use Rattle.mp4_tables.specs.EntryLaws.{fields_back}
 pub use Rattle.mp4_declared.specs.LayoutLaws.{laws_in, entry_laws}
@@ -58,8 +59,8 @@ pub use Rattle.mp4_tables.specs.RowsLaws.{rows_within_back, rows_within_read}
 -- the laws of a box with children
 pub use Rattle.mp4_frame.proofs.ChildLaws
 pub use Rattle.mp4_frame.proofs.OneChildLaws
-pub use Rattle.mp4_frame.proofs.ParentLaws
+pub use Rattle.mp4_frame.proofs.FieldsThenChildLaws
 -- the laws of a type that holds boxes of several types
 pub use Rattle.mp4_frame.specs.MemberLaws.{IsMember, member, written_member, own_name_of_member, read_back_of_member}
-pub use Rattle.mp4_lists.specs.MemberLaws.{own_code, sound_member, code_of_member}
-pub use Rattle.mp4_lists.specs.Sound.{ReadsSoundly, ReadsOwnCode}
+pub use Rattle.mp4_compose.specs.MemberLaws.{own_code, stable_member, code_of_member}
+pub use Rattle.mp4_compose.specs.Stable.{ReadsStably, ReadsOwnCode}

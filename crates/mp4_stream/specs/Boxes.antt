@@ -1,4 +1,4 @@
--- The boxes that AnyBox holds: what each reads, its format, and its laws.
+-- The boxes that AnyBox holds: their readings, formats and laws.
 pub use Rattle.mp4_flat.specs.Boxes.{reads_mvhd, format_mvhd, reads_tkhd, format_tkhd, reads_mdhd, format_mdhd}
 pub use Rattle.mp4_flat.specs.Boxes.{reads_mehd, format_mehd, reads_mfhd, format_mfhd, reads_smhd, format_smhd}
 pub use Rattle.mp4_flat.specs.Boxes.{reads_vmhd, format_vmhd, reads_trex, format_trex, reads_tfdt, format_tfdt}

@@ -8,7 +8,7 @@ use Rattle.mp4_stream.specs.Boxes.{reads_emsg, format_emsg}
 use Rattle.mp4_stream.specs.declared.fragment_box.FragmentBox.{FragmentBox}
 use Rattle.mp4_stream.specs.declared.fragment_box.FragmentBox.TheVariants as fragment
 
--- the type of the boxes of a name
+-- the type of the boxes with a name
 abbrev pub kinds : BoxType → Known FragmentBox
 kinds names.MehdBox = Is (kind reads_mehd format_mehd fragment.MehdBox)
 kinds names.TrexBox = Is (kind reads_trex format_trex fragment.TrexBox)

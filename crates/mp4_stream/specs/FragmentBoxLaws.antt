@@ -24,7 +24,7 @@ members (fragment.TrunBox b) =
 members (fragment.EmsgBox b) =
     member kinds (held_inside inside) fragment.EmsgBox laws_emsg (λ _. refl) (λ _. refl) (λ _. refl) b
 
--- a box that is read under a name has that name
+-- A box that is read under a name has that name.
 pub named : NamedAsRead kinds (held_inside inside)
 named (names.UnknownBox code) x = (refl, refl)
 named _ x = (refl, refl)

@@ -1,4 +1,4 @@
--- A box that is kept: as an AnyBox where its name is that of one, and else as its bytes.
+-- A box that is kept: as an AnyBox if its name is that of one, and otherwise as its bytes.
 use Rattle.std.specs.Prelude.{ℕ, List, Bool, not, if◌then◌else◌}
 use Rattle.mp4_frame.specs.BoxType.{code_of, is_disguised}
 use Rattle.mp4_frame.specs.Format.{Format}
@@ -10,7 +10,7 @@ use Rattle.mp4_stream.specs.OtherBox.{format_other, reads_other}
 use Rattle.mp4_stream.specs.declared.kept_box.KeptBox.{KeptBox}
 use Rattle.mp4_stream.specs.declared.kept_box.KeptBox.TheVariants as kept
 
--- what the format of its type says of a box
+-- the format of a box's type, applied to the box
 abbrev pub held_kept : KeptBox → Held KeptBox
 held_kept (kept.Any b) = holds format_any kept.Any b
 held_kept (kept.Other b) = holds format_other kept.Other b
@@ -18,7 +18,7 @@ held_kept (kept.Other b) = holds format_other kept.Other b
 abbrev pub format_kept : Format KeptBox
 format_kept = format_held held_kept
 
--- every name is known but an UnknownBox that holds a named code
+-- Every name is known, except an UnknownBox that holds a named code.
 abbrev pub known_kept : BoxType → Bool
 known_kept name = not (is_disguised name)
 

@@ -38,16 +38,16 @@ normal_form_kept (kept.Other b) w =
 pub written_kept : IsWritten format_kept
 written_kept = record { header = header_kept; normal_form = normal_form_kept }
 
--- a name of AnyBox is no UnknownBox
+-- A name of an AnyBox is not an UnknownBox.
 plain_any : (name : BoxType) → known_any name ≡ true → is_disguised name ≡ false
 plain_any (names.UnknownBox n) h = absurd cc
 plain_any _ h = refl
 
--- the code of another name is that of no type
+-- The code of any other name is that of no type.
 pub untyped_code : (name : BoxType) → known_kept name ≡ true → known_any name ≡ false → is_typed (code_of name) ≡ false
 untyped_code name known other = ap known_any (name_of-code_of name (not-true (is_disguised name) known)) ∙ other
 
--- a box of another name has as many bytes as its size says
+-- A box of any other name has no least size.
 pub least_of_other : (name : BoxType) → known_any name ≡ false → least_any name ≡ 0
 least_of_other names.Mp4aBox other = absurd cc
 least_of_other _ other = refl

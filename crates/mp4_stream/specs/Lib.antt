@@ -6,7 +6,7 @@ pub mod OtherBoxLaws
 pub mod NameLaws
 pub mod KeptBox
 pub mod KeptBoxLaws
-pub mod SoundLaws
+pub mod StableLaws
 pub mod FragmentBox
 pub mod FragmentBoxLaws
 pub mod Boxes

@@ -6,7 +6,7 @@ use Rattle.mp4_frame.specs.BoxType.{named_codes, look_up, name_of, is_disguised,
 use Rattle.mp4_frame.specs.declared.box_type.BoxType.{BoxType}
 use Rattle.mp4_frame.specs.declared.box_type.BoxType.TheVariants as names
 
--- whether the name is an UnknownBox
+-- The name is an UnknownBox.
 abbrev pub is_unknown : BoxType → Bool
 is_unknown (names.UnknownBox n) = true
 is_unknown _ = false
@@ -24,7 +24,7 @@ look_up_named (c ∷ cs) n h =
     chosen (eqb n c.0) (list_any (λ c. eqb n c.0) cs) c.1 (look_up cs n) (not-true (is_unknown c.1) p.0)
     (look_up_named cs n p.1)
 
--- a number is read as an UnknownBox unless it is a named code
+-- A number is read as an UnknownBox unless it is a named code.
 pub unknown_name : (n : ℕ) → is_unknown (name_of n) ≡ not (is_disguised (names.UnknownBox n))
 unfolding name_of
 unknown_name n = look_up_named named_codes n refl
@@ -33,7 +33,7 @@ not_disguised : (name : BoxType) → is_unknown name ≡ false → is_disguised 
 not_disguised (names.UnknownBox n) h = absurd cc
 not_disguised _ h = refl
 
--- no code is read as an UnknownBox with a named code
+-- No code is read as an UnknownBox that holds a named code.
 pub plain_name : (n : ℕ) → is_disguised (name_of n) ≡ false
 plain_name n =
     elim (cases_Bool (is_disguised (names.UnknownBox n))) [

@@ -1,4 +1,4 @@
--- What a contract sees of an OtherBox, and which codes it may have.
+-- The value of an OtherBox in contracts, and the codes it may have.
 use Rattle.std.specs.Prelude.{ℕ, Bool, List}
 use Rattle.mp4_frame.specs.BoxType.{name_of}
 use Rattle.mp4_stream.specs.AnyBox.{known_any}
@@ -8,6 +8,6 @@ pub record Other : Type 0 where
   pub code : ℕ
   pub content : List ℕ
 
--- whether the code is that of a type of AnyBox
+-- The code is that of a type of AnyBox.
 abbrev pub is_typed : ℕ → Bool
 is_typed code = known_any (name_of code)

@@ -1,4 +1,4 @@
--- A box of none of the types of AnyBox, kept as its bytes. The content is the bytes from 8 to the end.
+-- A box of a type that AnyBox doesn't have, kept as its bytes. Its content begins at offset 8.
 use Rattle.std.specs.Prelude.{◌≡◌, ℕ, ◌+◌, ◌-◌, nat_le, not, false, List, [], ◌∷◌, ◌++◌, length}
 use Rattle.mp4_frame.specs.BoxType.{name_of}
 use Rattle.mp4_frame.specs.Bytes.{bytes_of_fields, FieldsFit}
@@ -8,14 +8,14 @@ use Rattle.mp4_frame.specs.Reading.{Reading, ◌>>=◌, check, piece_at, memory,
 use Rattle.mp4_stream.specs.Other.{is_typed}
 use Rattle.mp4_stream.specs.declared.other_box.OtherBox.{OtherBox}
 
--- a box of this code with a copy of this content; the code is checked to be that of no type
+-- a box with this code and a copy of this content, after a check that the code is that of no type
 abbrev pub copy_other : ℕ → List ℕ → Reading OtherBox
 copy_other code content = do
   _ ← check (not (is_typed code))
   _ ← memory
   done (record { code = code; content = content })
 
--- a box of this code and this size, in the bytes from its start on
+-- a box with this code and this size at the start of the bytes
 unfoldable pub content_other : ℕ → List ℕ → ℕ → Reading OtherBox
 content_other code bytes size = do
   _ ← check (nat_le 8 size)
@@ -32,7 +32,7 @@ size_other v = 8 + length v.content
 abbrev pub fields_other : OtherBox → List (ℕ × ℕ)
 fields_other v = (4, size_other v) ∷ (4, v.code) ∷ []
 
--- size and code fit their fields, the code is that of no type, and the content is bytes
+-- Size and code fit their fields, the code is that of no type, and the content is bytes.
 pub record WritableOther (v : OtherBox) : Type 0 where
   pub fit : FieldsFit (fields_other v)
   pub untyped : is_typed v.code ≡ false

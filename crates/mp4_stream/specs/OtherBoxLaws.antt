@@ -6,19 +6,19 @@ use Rattle.std.proofs.lemmas.Bool.{le-leb}
 use Rattle.mp4_frame.specs.BoxType.{name_of, code_of, code_of-name_of}
 use Rattle.mp4_frame.specs.Bytes.{bytes_of_fields}
 use Rattle.mp4_frame.specs.Format.{IsWritten}
-use Rattle.mp4_frame.specs.Laws.{AreBytes, BeginsWithHeader, ContentReadsBack, ContentIsSound}
+use Rattle.mp4_frame.specs.Laws.{AreBytes, BeginsWithHeader, ContentReadsBack, ContentIsStable}
 use Rattle.mp4_frame.specs.Reading.{◌>>=◌, expect_bytes, piece_at, memory, done}
 use Rattle.mp4_frame.proofs.Checks.{are_bytes-drop, check_ok, is_value, piece_back}
 use Rattle.mp4_frame.proofs.Fields.{length-fields}
 use Rattle.mp4_frame.proofs.Framing.{header_in_front, own_normal_form}
 use Rattle.mp4_frame.proofs.Tables.{value_first}
-use Rattle.mp4_lists.specs.Fronts.{are_bytes-take}
+use Rattle.mp4_compose.specs.Fronts.{are_bytes-take}
 use Rattle.mp4_stream.specs.Other.{is_typed}
 use Rattle.mp4_stream.specs.OtherBox.{content_other, reads_other, size_other, fields_other, WritableOther, bytes_other}
 use Rattle.mp4_stream.specs.OtherBox.{format_other}
 use Rattle.mp4_stream.specs.declared.other_box.OtherBox.{OtherBox}
 
--- the code of the name is that in the header
+-- The header has the code of the name.
 header_other : (v : OtherBox) → WritableOther v → BeginsWithHeader (size_other v) (name_of v.code) (bytes_other v)
 unfolding bytes_other
 header_other v w =
@@ -46,7 +46,7 @@ back_other v w rest start top =
     ap (λ (l : List ℕ). (reads_other v.code l start (size_other v)).outcome)
     (append_assoc (bytes_of_fields cs) v.content rest) ∙ whole
 
--- what is read has the code that it is read with
+-- A box that is read has the code under which it is read.
 pub code_other : (code : ℕ) (bytes : List ℕ) (start size : ℕ) (v : OtherBox)
     → (reads_other code bytes start size).outcome ≡ Ok v → v.code ≡ code
 unfolding content_other
@@ -56,10 +56,10 @@ code_other code bytes start size v e =
     let b = value_first (piece_at bytes 8 (size - 8)) last v a.1 in
     ap (λ (u : OtherBox). u.code) (sym (is_value _ v b.2))
 
-pub sound_other : (code : ℕ) → code < 2 ^ 32 → is_typed code ≡ false
-    → ContentIsSound (reads_other code) WritableOther size_other (λ v. v)
+pub stable_other : (code : ℕ) → code < 2 ^ 32 → is_typed code ≡ false
+    → ContentIsStable (reads_other code) WritableOther size_other (λ v. v)
 unfolding content_other
-sound_other code fits untyped bytes start size v are e = (
+stable_other code fits untyped bytes start size v are e = (
   refl,
   λ small.
       let made : List ℕ → OtherBox = λ content. record { code = code; content = content } in

@@ -1,4 +1,4 @@
-//! A box of any type, alone and in lists.
+//! `AnyBox`, a box of any of the codec's types.
 
 ghost use Rattle.std.specs.Prelude.{◌≡◌, ◌+◌, ◌≤◌, length, IsTrue, OnErr};
 ghost use Rattle.mp4_frame.specs.Reading.{AnswersAs, map_reading};
@@ -21,7 +21,7 @@ use mp4_text::{DataBox, DinfBox, DrefBox, EmsgBox, FtypBox, HdlrBox, UrlBox};
 use std::alloc::Global;
 use std::fmt;
 
-/// Calls a macro with the list of all box types in brackets, followed by the other arguments.
+/// Calls the macro `$go` with the list of all box types in brackets, followed by the other arguments.
 macro_rules! of_boxes {
     ($go:ident, $($rest:tt)*) => {
         $go! {
@@ -36,7 +36,7 @@ macro_rules! of_boxes {
     };
 }
 
-/// A match on an `AnyBox`, with an arm for each variant: binds the box inside, and evaluates the expression.
+/// Matches on an `AnyBox` with an arm for each variant, binds the box inside, and evaluates the expression.
 macro_rules! each {
     ([$($held:ident)*] $any:expr, $value:ident => $answer:expr) => {
         match $any {
@@ -45,8 +45,8 @@ macro_rules! each {
     };
 }
 
-/// A match on a name, with an arm for each box type: calls the function for the box type of this name and one or two
-/// more types. The caller ensures that there is a box type of this name.
+/// Matches on a name with an arm for each box type. Calls the function for the box type of this name and for one or two
+/// more types. The caller ensures that the name is that of a box type.
 macro_rules! by_name {
     ([$($held:ident)*] $name:expr, $call:ident [$first:ident] $values:tt) => {
         match $name {
@@ -62,7 +62,7 @@ macro_rules! by_name {
     };
 }
 
-/// Whether there is a box type of this name.
+/// Returns whether `$name` is that of a box type.
 macro_rules! is_named {
     ([$($held:ident)*] $name:expr) => {
         matches!($name, $(BoxType::$held)|*)
@@ -119,7 +119,7 @@ pub enum AnyBox {
     StsdBox(StsdBox),
 }
 
-/// Prints a variant of this name, with this value inside.
+/// Prints a variant called `name` with `value` inside.
 fn print_variant<W: fmt::Write>(
     f: &mut fmt::Formatter<W>,
     name: &str,
@@ -227,8 +227,8 @@ impl StreamBox for AnyBox {
     ghost read_back = { read_back_of_member kinds held members };
 }
 
-/// Reads the box of this name at an offset of the buffer, as in `StreamBox::push_named`, and appends it as an `E`, a
-/// type that holds any box. The caller ensures that the name is known.
+/// Reads the box called `name` at offset `start` of `bytes`, like `StreamBox::push_named`, and appends it as an `E`, a
+/// type that holds an `AnyBox`. The caller ensures that the codec reads boxes of this name.
 pub fn push_any<E: Holds<AnyBox> + Drop>(
     alloc: Global,
     name: BoxType,

@@ -1,4 +1,4 @@
-//! The laws of `AnyBox`, `OtherBox` and `KeptBox`, besides those of every box.
+//! The laws of `AnyBox`, `OtherBox` and `KeptBox`, in addition to those of every box.
 
 ghost use Rattle.mp4_frame.specs.Equality.{IsEquality};
 
@@ -6,7 +6,7 @@ use crate::any_box::AnyBox;
 use crate::kept_box::KeptBox;
 use crate::other_box::OtherBox;
 
-/// `==` of two boxes compares their types and all of their fields.
+/// Shows that `==` of two boxes compares their types and all of their fields.
 pub fn equality_is_of_all_fields()
     ensures any { IsEquality ⟦<AnyBox as PartialEq>⟧.eq }
     ensures other { IsEquality ⟦<OtherBox as PartialEq>⟧.eq }

@@ -1,16 +1,19 @@
-//! What the author of a box type needs besides what its callers need: bytes that are expected, numbers at offsets,
-//! numbers and bytes that are put, times, tables, boxes and entries that are declared, children, and members of an enum
-//! of boxes. `docs/OWN-BOX.md` goes through a box that is made of these.
+//! For authors of box types: functions, traits and types that callers of boxes don't need. `docs/OWN-BOX.md` shows a
+//! box that is made of them. They are for:
+//! - checking that bytes are present, reading numbers at offsets, and putting numbers and bytes;
+//! - times, tables and children;
+//! - declared boxes and entries;
+//! - enums of several box types.
 
 pub use mp4_declared::{
-    About, AboutEntry, Array, Bits, Bytes, Check, Checked, Condition, Context, Count, Declared,
-    DeclaredBox, DeclaredEntry, Each, EachToEnd, EntryLayout, FromVersion, Full, I8, I16, I32, If,
-    IfFlags, Last, List, NOT_FILLED, Pascal, PutShape, Reserved, Rest, Rows, Shape, Terminated,
-    Time, U8, U16, U24, U32, U64, Zeros, entries_fit, entries_of, put_rows,
+    Array, Bits, Bytes, Check, Checked, Condition, Context, Count, Declared, DeclaredBox,
+    DeclaredEntry, Each, EachToEnd, EntryLayout, EntryVisitor, FromVersion, Full, I8, I16, I32, If,
+    IfFlags, Last, List, NOT_FILLED, Pascal, PutShape, Reserved, Rest, Rows, Shape, ShapeVisitor,
+    Terminated, Time, U8, U16, U24, U32, U64, Zeros, entries_fit, entries_of, put_rows,
 };
 pub use mp4_flat::{put_time, time_at, time_fits, version_of_times, width_of_time};
 pub use mp4_frame::{
-    BoxEnum, Frame, Parent, Question, TableEntry, all_fit, any_child, bytes_from, check,
+    BoxEnum, BoxVisitor, Frame, Parent, TableEntry, all_fit, any_child, bytes_from, check,
     child_content, child_head, clone_as, codes, expect_bytes, i8_at, i16_at, i32_at, is_four_cc,
     is_whole, is_whole_table, is_writable_table, last_child, named_child, optional_child, piece_at,
     push_as, push_inside, put_bytes, put_child, put_entries, put_full_box, put_i8, put_i16,

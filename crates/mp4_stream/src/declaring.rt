@@ -1,17 +1,16 @@
-//! What a crate takes, by `use mp4_stream::declaring::*`, that declares boxes: shapes, traits, and macros that write
-//! the bodies of a box and of its entries, where each field is named once.
+//! For crates that declare boxes: `use mp4_stream::declaring::*` imports shapes, traits, and macros. The macros write
+//! the bodies of functions of a box and its entries, from a list of the fields.
 
 pub use crate::{box_of, entry_of, numbers_of, parts_of};
 pub use mp4_declared::{
-    About, AboutEntry, Array, Bits, Bytes, Check, Checked, Declared, DeclaredBox, DeclaredEntry,
-    Each, EachToEnd, EntryLayout, FromVersion, Full, I8, I16, I32, If, IfFlags, Last, List, Pascal,
-    Reserved, Rest, Rows, Shape, Terminated, Time, U8, U16, U24, U32, U64,
+    Array, Bits, Bytes, Check, Checked, Declared, DeclaredBox, DeclaredEntry, Each, EachToEnd,
+    EntryLayout, EntryVisitor, FromVersion, Full, I8, I16, I32, If, IfFlags, Last, List, Pascal,
+    Reserved, Rest, Rows, Shape, ShapeVisitor, Terminated, Time, U8, U16, U24, U32, U64,
 };
 pub use mp4_frame::{Entries, TryClone};
 
-/// The struct of some content:
-/// `box_of!(found => Prft { version, flags, reference_track_id, ntp_timestamp, media_time })`, with the fields in the
-/// order of the content.
+/// Returns the struct of some content: `box_of!(found => Prft { version, flags, reference_track_id, ntp_timestamp,
+/// media_time })`. The fields are in the order of the content.
 #[macro_export]
 macro_rules! box_of {
     (@back [$($done:ident)*] $found:ident $name:ident $fields:tt $first:ident $($more:ident)*) => {
@@ -32,8 +31,8 @@ macro_rules! box_of {
     };
 }
 
-/// The content of a struct: `parts_of!(self => version, flags, entries.as_slice(), = ids)`, with the fields in the
-/// order of the content. A field that isn't copied is followed by a call; `= ids` is a variable in the place of a
+/// Returns the content of a struct: `parts_of!(self => version, flags, entries.as_slice(), = ids)`. The fields are in
+/// the order of the content. A field that can't be copied is followed by a call. `= ids` uses a variable instead of a
 /// field.
 #[macro_export]
 macro_rules! parts_of {
@@ -47,14 +46,14 @@ macro_rules! parts_of {
     ($of:ident => $($parts:tt)+) => { $crate::parts_of!(@ $of $($parts)+) };
 }
 
-/// The numbers in the fields of an entry: `numbers_of!(self => is_first, size)`. A flag is 0 or 1.
+/// Returns the numbers in the fields of an entry: `numbers_of!(self => is_first, size)`. A flag is 0 or 1.
 #[macro_export]
 macro_rules! numbers_of {
     ($entry:ident => $($field:ident),+) => { [$(u64::from($entry.$field)),+] };
 }
 
-/// The entry of some numbers: `entry_of!(numbers => Entry { is_first: bool, size: u32 })`, with the fields in the order
-/// of the numbers, each with its type.
+/// Returns the entry of some numbers: `entry_of!(numbers => Entry { is_first: bool, size: u32 })`. The fields are in
+/// the order of the numbers, each with its type.
 #[macro_export]
 macro_rules! entry_of {
     (@ $n:ident $name:ident [$($k:tt)*] [$($made:tt)*]) => { $name { $($made)* } };

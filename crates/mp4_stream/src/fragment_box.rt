@@ -1,16 +1,17 @@
-//! The boxes that describe fragments, as one type.
+//! `FragmentBox`, a box that describes fragments.
 
 ghost use Rattle.mp4_stream.specs.FragmentBox.{kinds, inside};
 ghost use Rattle.mp4_stream.specs.FragmentBoxLaws.{members, named};
 
 use mp4_flat::{MehdBox, MfhdBox, TfdtBox, TrexBox};
-use mp4_frame::{BoxEnum, BoxType, ByteCursor, Question, ReadBox, Result};
+use mp4_frame::{BoxEnum, BoxType, BoxVisitor, ByteCursor, ReadBox, Result};
 use mp4_tables::{TfhdBox, TrunBox};
 use mp4_text::EmsgBox;
 use std::alloc::Global;
 
-/// A box that a reader of fragments wants (ISO/IEC 14496-12, 8.8, and `emsg` of ISO/IEC 23009-1). It takes 136 bytes in
-/// a list, where an `AnyBox` takes 328. Boxes of other types are skipped: read `traf` and `moof` by their contents.
+/// A box that a reader of fragments needs (ISO/IEC 14496-12, 8.8, and `emsg` of ISO/IEC 23009-1). It takes 136 bytes in
+/// a list, while an `AnyBox` takes 328. Boxes of other types are skipped, among them `moof` and `traf`, so read the
+/// content of these as a list.
 #[derive(Debug, Drop, PartialEq, Eq)]
 pub enum FragmentBox {
     MehdBox(MehdBox),
@@ -54,15 +55,15 @@ impl BoxEnum for FragmentBox {
         })
     }
 
-    fn ask<Q: Question>(&self, out: &mut [u8]) -> Q::Answer {
+    fn visit<Q: BoxVisitor>(&self, out: &mut [u8]) -> Q::Answer {
         match self {
-            FragmentBox::MehdBox(b) => Q::ask(b, out),
-            FragmentBox::TrexBox(b) => Q::ask(b, out),
-            FragmentBox::MfhdBox(b) => Q::ask(b, out),
-            FragmentBox::TfhdBox(b) => Q::ask(b, out),
-            FragmentBox::TfdtBox(b) => Q::ask(b, out),
-            FragmentBox::TrunBox(b) => Q::ask(b, out),
-            FragmentBox::EmsgBox(b) => Q::ask(b, out),
+            FragmentBox::MehdBox(b) => Q::visit(b, out),
+            FragmentBox::TrexBox(b) => Q::visit(b, out),
+            FragmentBox::MfhdBox(b) => Q::visit(b, out),
+            FragmentBox::TfhdBox(b) => Q::visit(b, out),
+            FragmentBox::TfdtBox(b) => Q::visit(b, out),
+            FragmentBox::TrunBox(b) => Q::visit(b, out),
+            FragmentBox::EmsgBox(b) => Q::visit(b, out),
         }
     }
 

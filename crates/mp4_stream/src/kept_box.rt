@@ -1,4 +1,4 @@
-//! A box of any type, alone and in lists: boxes of types that the codec does not read are kept as their bytes.
+//! `KeptBox`, a box of any type. A box of a type that the codec does not read is kept as its bytes.
 
 ghost use Rattle.std.specs.Prelude.{◌≡◌, ◌+◌, ◌-◌, ◌≤◌, false, max, length, IsTrue, OnOk, OnErr};
 ghost use Rattle.mp4_frame.specs.BoxType.{name_of};
@@ -19,7 +19,7 @@ use mp4_frame::{
 };
 use std::alloc::Global;
 
-/// A box of any type. `Other` holds no box of a type of `AnyBox`.
+/// A box of any type. `Other` never holds a box of a type of `AnyBox`.
 #[derive(Debug, Drop, PartialEq, Eq)]
 pub enum KeptBox {
     /// A box of a type that the codec reads.
@@ -97,14 +97,14 @@ impl WriteBox for KeptBox {
     ghost write_laws = { written_kept };
 }
 
-/// Whether a code is read as an `UnknownBox`.
+/// Returns whether `code` is read as an `UnknownBox`.
 fn is_unnamed(code: u32) -> bool
     ensures { result ≡ is_unknown (name_of code) }
 {
     matches!(BoxType::from(code), BoxType::UnknownBox(_))
 }
 
-/// Reads the box of a name of `AnyBox` whose header was just read.
+/// Reads the box called `name`, which is a name of `AnyBox`, after its header.
 fn read_any(alloc: Global, name: BoxType, reader: &mut ByteCursor, size: u64) -> Result<KeptBox>
     requires known { IsTrue (known_any name) }
     requires after_header { 8 ≤ reader.old.position }
@@ -117,7 +117,7 @@ fn read_any(alloc: Global, name: BoxType, reader: &mut ByteCursor, size: u64) ->
     Ok(KeptBox::Any(AnyBox::read_named(alloc, name, reader, size)?))
 }
 
-/// Reads the box of another code whose header was just read.
+/// Reads the box with `code`, which is that of no type of `AnyBox`, after its header.
 fn read_other(alloc: Global, code: u32, reader: &mut ByteCursor, size: u64) -> Result<KeptBox>
     requires untyped { is_typed code ≡ false }
     requires after_header { 8 ≤ reader.old.position }
@@ -130,7 +130,8 @@ fn read_other(alloc: Global, code: u32, reader: &mut ByteCursor, size: u64) -> R
     Ok(KeptBox::Other(OtherBox::read_box(alloc, code, reader, size)?))
 }
 
-/// Reads the box of another code at an offset of the buffer, as in `StreamBox::push_named`, and appends it.
+/// Reads the box with `code`, which is that of no type of `AnyBox`, at offset `start` of `bytes`, like
+/// `StreamBox::push_named`, and appends it.
 fn push_other(
     alloc: Global,
     code: u32,

@@ -1,5 +1,5 @@
-//! The boxes of an MP4 file as one type, `AnyBox`, and streams of them as lists. Every public item of the codec is
-//! here too, under the name that it has in the Rust crate `mp4`.
+//! Reads and writes the 36 box types of the Rust crate `mp4`, all as one type, `AnyBox`, and lists of boxes. Exports
+//! all public items of the codec under that crate's names.
 #![tactic(auto)]
 
 mod any_box;
@@ -11,12 +11,18 @@ mod kept_box;
 mod member;
 mod other_box;
 mod read;
-mod sound_stream;
+mod stable_box;
 
 pub use any_box::AnyBox;
 pub use any_box::push_any;
 pub use fragment_box::FragmentBox;
 pub use kept_box::KeptBox;
+pub use mp4_compose::ChildBox;
+pub use mp4_compose::CodedBox;
+pub use mp4_compose::Either;
+pub use mp4_compose::Lossless;
+pub use mp4_compose::StableBox;
+pub use mp4_compose::list_laws;
 pub use mp4_entries::Avc1Box;
 pub use mp4_entries::AvcCBox;
 pub use mp4_entries::Hev1Box;
@@ -79,12 +85,6 @@ pub use mp4_iterator::Boxes;
 pub use mp4_iterator::boxes_as;
 pub use mp4_iterator::collect_boxes;
 pub use mp4_iterator::laws as iterator_laws;
-pub use mp4_lists::ChildBox;
-pub use mp4_lists::CodedBox;
-pub use mp4_lists::Exact;
-pub use mp4_lists::OwnOr;
-pub use mp4_lists::SoundStream;
-pub use mp4_lists::list_laws;
 pub use mp4_media::AacConfig;
 pub use mp4_media::AudioObjectType;
 pub use mp4_media::AvcConfig;

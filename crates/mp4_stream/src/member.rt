@@ -1,4 +1,4 @@
-//! Each type of box as a variant of `AnyBox`.
+//! The box types as variants of `AnyBox`.
 
 ghost use Rattle.std.specs.Prelude.{◌≡◌};
 ghost use Rattle.mp4_stream.specs.declared.any_box.AnyBox.TheVariants as any;

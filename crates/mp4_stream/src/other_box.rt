@@ -1,4 +1,4 @@
-//! A box of a type that the codec does not read, kept as its bytes.
+//! `OtherBox`, a box of a type that the codec does not read, kept as its bytes.
 
 ghost use Rattle.std.specs.Prelude.{◌≡◌, ◌↔◌, ◌+◌, ◌-◌, ◌≤◌, ◌^◌, false, IsTrue, OnOk, OnErr, length, min};
 ghost use Rattle.mp4_frame.specs.BoxType.{name_of};
@@ -15,7 +15,7 @@ use mp4_frame::{
 use std::alloc::Global;
 use std::marker::Model;
 
-/// A box of none of the types of `AnyBox`: a code, and the bytes of the content.
+/// A box of a type that `AnyBox` doesn't have: a code, and the bytes of the content.
 #[derive(Debug, Drop, PartialEq, Eq)]
 pub struct OtherBox {
     code: u32,
@@ -36,8 +36,8 @@ impl Model for OtherBox {
 }
 
 impl OtherBox {
-    /// A box of this code with a copy of this content. Invalid data if the code is that of a type of `AnyBox`; this is
-    /// checked before memory is asked for.
+    /// Creates a box with this `code` and a copy of `content`. Fails with invalid data if the code is that of a type of
+    /// `AnyBox`, before memory is asked for.
     pub fn copy_of(alloc: Global, code: u32, content: &[u8]) -> Result<OtherBox>
         ensures { Answers result (copy_other code content.now) }
     {
@@ -51,21 +51,21 @@ impl OtherBox {
         })
     }
 
-    /// The name that the code is read as.
+    /// Returns the name that stands for the code.
     pub fn name(&self) -> BoxType
         ensures { result ≡ name_of self.now.code }
     {
         BoxType::from(self.code)
     }
 
-    /// The bytes of the content, which follow the header.
+    /// Returns the bytes of the content, which follow the header.
     pub fn content(&self) -> &[u8]
         ensures { result.now ≡ self.now.content }
     {
         self.content.as_slice()
     }
 
-    /// Reads the box of this code and this size, in the bytes from its start on.
+    /// Reads the box with this `code` and `size` at the start of `bytes`.
     #[tactic(auto, unfolding(crate::specs::OtherBox::content_other))]
     pub(crate) fn read_content(
         alloc: Global,
@@ -84,8 +84,8 @@ impl OtherBox {
         })
     }
 
-    /// Reads the box of this code whose header was just read. After an `Ok` the cursor is at the end of the box. After
-    /// an `Err` it is where it was.
+    /// Reads the box with this `code` after its header. After an `Ok` the cursor is at the end of the box. After an
+    /// `Err` it is where it was.
     pub(crate) fn read_box(
         alloc: Global,
         code: u32,
@@ -130,10 +130,10 @@ impl Mp4Box for OtherBox {
     }
 }
 
-/// Whether a box of this code and this content, which has this size, can be written.
+/// Returns whether a box of `size` bytes with this `code` and `content` can be written.
 fn fits(code: u32, size: u64, content: &[u8]) -> bool
     requires untyped { is_typed code ≡ false }
-    requires long { size ≡ min (8 + length content.now) (2 ^ 64 - 1) }
+    requires saturated { size ≡ min (8 + length content.now) (2 ^ 64 - 1) }
     ensures { IsTrue result ↔ WritableOther (record { code = code; content = content.now }) }
 {
     size < 1 << 32

@@ -1,4 +1,4 @@
-//! Reading boxes of any type: a list of them, and one at a time.
+//! Reading boxes of any type, as a list or one at a time.
 
 ghost use Rattle.std.specs.Prelude.{◌≡◌, OnOk, OnErr, length, max};
 ghost use Rattle.mp4_frame.specs.Reading.{AnswersAs};
@@ -12,9 +12,9 @@ use mp4_iterator::{Boxes, boxes_as};
 use std::alloc::Global;
 
 /// Reads the boxes from the cursor's position to the end of the buffer, or returns the first fault. Boxes with names
-/// that the codec does not read are skipped by their size. A box of size 0 goes up to the end of the buffer. After
-/// an `Ok` the cursor is at the end of the buffer, or where it was if that is past the end. After an `Err` it is
-/// where it was.
+/// that the codec does not read are skipped by their size. A box of size 0 reaches to the end of the buffer. After an
+/// `Ok` the cursor is at the end of the buffer, or where it was if that is past the end. After an `Err` it is where it
+/// was.
 pub fn read_boxes(alloc: Global, reader: &mut ByteCursor) -> Result<Vec<AnyBox>>
     ensures answer { AnswersAs (λ found. found.items) result
         (boxes known_any reading_any reader.old.bytes.now reader.old.position) }
@@ -25,9 +25,9 @@ pub fn read_boxes(alloc: Global, reader: &mut ByteCursor) -> Result<Vec<AnyBox>>
     read_boxes_as(alloc, reader)
 }
 
-/// The boxes of a buffer, one after the other, with no list of them: an item is a box, or the first fault, and after a
-/// fault nothing comes. Boxes with names that the codec does not read are skipped by their size, and contents are not
-/// looked into. `Boxes::next_into` reads into a place that is used again.
+/// Returns an iterator over the boxes of a buffer, which makes no list. An item is a box, or the first fault, which is
+/// the last item. Boxes with names that the codec does not read are skipped by their size, without reading their
+/// content. `Boxes::next_into` reads into a variable that you can reuse.
 pub fn boxes(alloc: Global, bytes: &[u8]) -> Boxes<'_, AnyBox>
     ensures { result ≡ begins_at bytes.now 0 }
 {

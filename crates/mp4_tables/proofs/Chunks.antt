@@ -1,40 +1,16 @@
--- Counting samples entry by entry gives the sum over the chunks.
-use Rattle.std.proofs.Common.{◌≡◌, ℕ, zero, suc, ◌+◌, ◌-◌, ◌*◌, ◌^◌, ◌<◌, ◌≤◌, Bool, true, false, ◌&&◌, cond, List, []}
+-- Samples counted entry by entry are the sum over the chunks.
+use Rattle.std.proofs.Common.{◌≡◌, ℕ, ◌+◌, ◌-◌, ◌*◌, ◌^◌, ◌<◌, ◌≤◌, Bool, true, false, ◌&&◌, cond, List, []}
 use Rattle.std.proofs.Common.{◌∷◌, ◌++◌, map, ltb, leb, Option, Some, None, is_some, Ok, Err, refl, sym, ap, ◌∙◌}
 use Rattle.std.proofs.Common.{append_assoc, arith, inl, inr}
 use Rattle.std.specs.List.{range_with_len, sum_by, list_all}
 use Rattle.std.proofs.lemmas.Bool.{leb-true, le-leb, lt-leb, and_parts, and_right, cases_Bool}
-use Rattle.std.proofs.lemmas.List.Sums.{sum_by-cons}
+use Rattle.mp4_lemmas.proofs.Sums.{sum_further}
 use Rattle.mp4_tables.specs.declared.stsc_entry.StscEntry.{StscEntry}
 use Rattle.mp4_tables.proofs.Runs.{front_of, where_some, run}
 use Rattle.mp4_frame.specs.Reading.{Invalid}
 use Rattle.mp4_tables.specs.StscEntry.{entry_stsc}
 use Rattle.mp4_tables.specs.Stsc.{numbered_entries}
 use Rattle.mp4_tables.specs.Chunks.{samples_in, begins, sample_at, in_order, chunks_fit, with_sample, number_samples}
-
--- a sum over k + n consecutive chunks, where each of the last n chunks has m samples
-sum_further : (g : ℕ → ℕ) (m a k n b : ℕ) → a + k ≡ b → ((c : ℕ) → b ≤ c → c < b + n → g c ≡ m)
-    → sum_by g (range_with_len a (k + n)) ≡ sum_by g (range_with_len a k) + n * m
-sum_further g m a zero zero b at alike = omega arith
-sum_further g m a zero (suc n) b at alike =
-    let here : a ≡ b = omega arith in
-    let first : g a ≡ m = alike a (omega arith) (omega arith) in
-    let rest = sum_further g m (a + 1) zero n (b + 1) (omega arith)
-    (λ c low high. alike c (omega arith) (omega arith)) in
-    let now : sum_by g (range_with_len a (suc n)) ≡ g a + sum_by g (range_with_len (a + 1) n) =
-    sum_by-cons g a (range_with_len (a + 1) n) in
-    let count : zero + n ≡ n = omega arith in
-    let rest' : sum_by g (range_with_len (a + 1) n) ≡ 0 + n * m = rw count at rest in
-    let count' : zero + suc n ≡ suc n = omega arith in
-    rw (count', now, first, rest') (omega arith)
-sum_further g m a (suc k) n b at alike =
-    let whole : suc k + n ≡ suc (k + n) = omega arith in
-    let rest = sum_further g m (a + 1) k n b (omega arith) alike in
-    let now : sum_by g (range_with_len a (suc (k + n))) ≡ g a + sum_by g (range_with_len (a + 1) (k + n)) =
-    sum_by-cons g a (range_with_len (a + 1) (k + n)) in
-    let part : sum_by g (range_with_len a (suc k)) ≡ g a + sum_by g (range_with_len (a + 1) k) =
-    sum_by-cons g a (range_with_len (a + 1) k) in
-    rw (whole, now, part, rest) (omega arith)
 
 -- entries that begin after a chunk do not change its samples
 later : (s k c : ℕ) (es : List StscEntry) → c < k → in_order k es ≡ true → samples_in s es c ≡ s
@@ -49,8 +25,8 @@ in_parts : (s c : ℕ) (xs ys : List StscEntry) → samples_in s (xs ++ ys) c �
 in_parts s c [] ys = refl
 in_parts s c (x ∷ xs) ys = in_parts (cond (leb x.first_chunk c) x.samples_per_chunk s) c xs ys
 
--- a chunk has as many samples as e says, if it is not before the first chunk of e, and is before that of the next
--- entry f
+-- a chunk has the number of samples of entry e, if it is not before the first chunk of e, and is before that of the
+-- next entry f
 in_run : (pre : List StscEntry) (e f : StscEntry) (es : List StscEntry) (c : ℕ) → e.first_chunk ≤ c → c < f.first_chunk
     → in_order f.first_chunk es ≡ true → samples_in 0 (pre ++ e ∷ f ∷ es) c ≡ e.samples_per_chunk
 in_run pre e f es c low high order =
@@ -110,7 +86,7 @@ run_go L pre e (f ∷ es) s is low order at =
     rw (both.0, step) (step_case f (sample_at L f.first_chunk) (λ t. run t f.first_chunk f.samples_per_chunk es)
     (ltb (sample_at L f.first_chunk) (2 ^ 32)) (list_all (fits_of L) es) (map (number_of L) es) rest)
 
--- run gives the entries with the sums over the chunks as first samples, or None exactly if chunks_fit is false
+-- run returns the entries with the sums over the chunks as first samples, or None if and only if chunks_fit is false
 pub run_is : (es : List StscEntry) → run 1 (begins es) 0 es ≡ cond (chunks_fit es) (Some (number_samples es)) None
 unfolding run
 run_is [] = refl
@@ -150,7 +126,7 @@ fit_all es ys h = all_case (chunks_fit es) (run 1 (begins es) 0 es) (number_samp
 fit_not : (es : List StscEntry) → run 1 (begins es) 0 es ≡ None → chunks_fit es ≡ false
 fit_not es h = not_case (chunks_fit es) (run 1 (begins es) 0 es) (number_samples es) (run_is es) h
 
--- what reading rows gives, by what run gives of their entries
+-- the rows are read as the entries that run returns for them
 pub numbered : (rows : List (List ℕ)) (ys : List StscEntry)
     → run 1 (begins (map entry_stsc rows)) 0 (map entry_stsc rows) ≡ Some ys → (numbered_entries rows).outcome ≡ Ok ys
 numbered rows ys h =

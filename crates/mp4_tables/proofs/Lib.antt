@@ -1,5 +1,3 @@
-pub mod Offsets
-pub mod Room
 pub mod Runs
 pub mod Chunks
 pub mod TrunRows

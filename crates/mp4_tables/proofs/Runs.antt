@@ -1,4 +1,4 @@
--- Computing the first samples of entries, one entry after the other.
+-- The first samples of entries, computed one entry after the other.
 use Rattle.std.proofs.Common.{◌≡◌, ℕ, ◌+◌, ◌<◌, ◌≤◌, List, [], ◌∷◌, ◌++◌, length, map, drop, get_or, Option, Some, None}
 use Rattle.std.proofs.Common.{is_some, Bool, true, false, refl, sym, ap, ◌∙◌, append_assoc}
 use Rattle.std.proofs.lemmas.List.{append-nil, drop_more, drop_all}
@@ -14,15 +14,15 @@ abbrev pub where_some : Option ℕ → (ℕ → Option (List StscEntry)) → Opt
 where_some None f = None
 where_some (Some s) f = f s
 
--- the entries with their first samples, which are computed one after the other; None if one does not fit. The run
--- before the entries begins at this chunk with this sample, and has that many samples in each chunk
+-- the entries with their first samples, computed one after the other, or None if one does not fit. The run before the
+-- entries begins at this chunk with this sample, and has this number of samples in each chunk
 unfoldable pub run : ℕ → ℕ → ℕ → List StscEntry → Option (List StscEntry)
 run sample chunk samples [] = Some []
 run sample chunk samples (e ∷ es) =
     where_some (next_sample sample chunk samples e.first_chunk)
     (λ s. front_of (with_sample e s) (run s e.first_chunk e.samples_per_chunk es))
 
--- the entries whose first samples were computed before, and then the rest
+-- the entries whose first samples are computed already, and then the rest
 abbrev pub with_front : List StscEntry → Option (List StscEntry) → Option (List StscEntry)
 with_front front None = None
 with_front front (Some rest) = Some (front ++ rest)
@@ -32,7 +32,7 @@ front_more : (front : List StscEntry) (e : StscEntry) (rest : Option (List StscE
 front_more front e None = refl
 front_more front e (Some rest) = ap (λ (es : List StscEntry). Some es) (sym (append_assoc front (e ∷ []) rest))
 
--- the entries of the rows from one on are its entry, and those of the rows after it
+-- the entries of the rows that start at row i are the entry of row i and the entries of the rows after it
 entries_more : (rows : List (List ℕ)) (i : ℕ) (e : StscEntry) (d : List ℕ) → i < length rows
     → e ≡ entry_stsc (get_or rows i d)
     → map entry_stsc (drop i rows) ≡ e ∷ map entry_stsc (drop (i + 1) rows)
@@ -75,7 +75,7 @@ ends rows i s k m front total le so_far =
     rw (drop_all i rows le) (ap (λ (xs : List StscEntry). Some xs) (append-nil front)) in
     sym so_far ∙ one
 
--- the same for the check that all first samples fit, which does not compute the entries
+-- the check that all first samples fit takes the same steps, and does not compute the entries
 is_some-front_of : (e : StscEntry) (o : Option (List StscEntry)) → is_some (front_of e o) ≡ is_some o
 is_some-front_of e None = refl
 is_some-front_of e (Some es) = refl

@@ -1,11 +1,11 @@
--- The rows of a trun box, which are read list by list and put number by number; and rows of no bytes.
-use Rattle.std.proofs.Common.{◌≡◌, ℕ, zero, suc, ◌+◌, ◌*◌, ◌-◌, ◌<◌, ◌≤◌, Bool, true, false, leb, List, [], ◌∷◌, ◌++◌}
+-- The rows of a trun box, which are read list by list and written number by number, and rows of no bytes.
+use Rattle.std.proofs.Common.{◌≡◌, ℕ, ◌+◌, ◌*◌, ◌-◌, ◌<◌, ◌≤◌, Bool, true, false, leb, List, [], ◌∷◌, ◌++◌}
 use Rattle.std.proofs.Common.{length, get_or, map, take, Ok, refl, sym, ap, ◌∙◌, arith}
 use Rattle.std.specs.Prelude.{slice_get}
-use Rattle.std.specs.List.{flat_map, range_with_len}
 use Rattle.std.proofs.lemmas.Bool.{le-leb}
 use Rattle.std.proofs.lemmas.Option.{slice_get-get_or}
-use Rattle.std.proofs.lemmas.List.{append-nil, append_assoc, length-append, map-append, take_all}
+use Rattle.std.proofs.lemmas.List.{append-nil, append_assoc, length-append, map-append, nil_from_length, take_all}
+use Rattle.mp4_lemmas.proofs.Lists.{flat_map_range_more}
 use Rattle.mp4_frame.specs.Bytes.{number, be_bytes}
 use Rattle.mp4_frame.specs.Reading.{memory, done, ◌>>=◌}
 use Rattle.mp4_frame.specs.Tables.{rows, rows_at}
@@ -18,28 +18,13 @@ use Rattle.mp4_tables.specs.TrunLaws.{length_rows}
 use Rattle.mp4_tables.specs.declared.trun.TrunBox.{TrunBox}
 use Rattle.mp4_tables.specs.declared.trun.row_flags.RowFlags.{RowFlags}
 
-more_from : (f : ℕ → List ℕ) (a n : ℕ)
-    → flat_map f (range_with_len a (n + 1)) ≡ flat_map f (range_with_len a n) ++ f (a + n)
-more_from f a zero =
-    let here : a + zero ≡ a = omega arith in
-    rw here (append-nil (f a))
-more_from f a (suc n) =
-    let one : suc n + 1 ≡ suc (n + 1) = omega arith in
-    let there : a + suc n ≡ a + 1 + n = omega arith in
-    rw (one, there, more_from f (a + 1) n)
-    (sym (append_assoc (f a) (flat_map f (range_with_len (a + 1) n)) (f (a + 1 + n))))
-
--- the rows of i + 1 samples are those of i samples and one more row
+-- the rows of i + 1 samples are the rows of i samples and one more row
 pub rows_more : (v : TrunBox) (i : ℕ) → rows_trun v (i + 1) ≡ rows_trun v i ++ row_trun v i
 rows_more v i =
     let here : 0 + i ≡ i = omega arith in
-    more_from (row_trun v) 0 i ∙ ap (λ (k : ℕ). rows_trun v i ++ row_trun v k) here
+    flat_map_range_more (row_trun v) 0 i ∙ ap (λ (k : ℕ). rows_trun v i ++ row_trun v k) here
 
-is_empty : (xs : List ℕ) → length xs ≡ 0 → xs ≡ []
-is_empty [] h = refl
-is_empty (x ∷ xs) h = absurd (omega arith)
-
--- what is put for the i-th number of a list: four bytes if the list has it, and nothing if the list is empty
+-- the bytes written for the i-th number of a list: four if the list has it, and none if the list is empty
 pub number_put : (xs : List ℕ) (i d : ℕ) → i < length xs → optional 4 (slice_get xs i) ≡ be_bytes 4 (get_or xs i d)
 unfolding optional
 number_put xs i d lt = rw (slice_get-get_or xs i d lt) refl
@@ -51,7 +36,7 @@ nothing_put_at true i xs front is has = absurd cc
 nothing_put_at false i [] front is has = sym (append-nil front)
 nothing_put_at false i (x ∷ xs) front is has = absurd (omega arith)
 
--- one more row is put, number by number
+-- one more row is written, number by number
 pub row_put : (v : TrunBox) (i : ℕ) (front : List ℕ)
     → front ++ rows_trun v i ++ optional 4 (slice_get v.sample_durations i) ++ optional 4 (slice_get v.sample_sizes i)
     ++ optional 4 (slice_get v.sample_flags i) ++ optional 4 (slice_get v.sample_cts i)
@@ -70,9 +55,9 @@ no_rows v w none =
     let le : v.sample_count ≤ v.sample_count = omega arith in
     let zero_bytes : row_length (row_flags v.flags) * v.sample_count ≡ 0 = ap (λ (k : ℕ). k * v.sample_count) none
     ∙ omega arith in
-    is_empty (rows_trun v v.sample_count) (length_rows v w v.sample_count le ∙ zero_bytes)
+    nil_from_length (rows_trun v v.sample_count) (length_rows v w v.sample_count le ∙ zero_bytes)
 
--- rows of no bytes: nothing is put
+-- rows of no bytes: nothing is written
 pub nothing_put : (v : TrunBox) → ListedTrun v → (out : List ℕ) (at : ℕ) → row_length (row_flags v.flags) ≡ 0
     → at + row_length (row_flags v.flags) * v.sample_count ≡ length out
     → out ≡ take at out ++ rows_trun v v.sample_count
@@ -81,9 +66,6 @@ nothing_put v w out at none room =
     ∙ omega arith in
     let whole : take at out ≡ out = take_all at out (omega (arith, room, zero_bytes)) in
     rw (no_rows v w none, whole) (sym (append-nil out))
-
-pub one_more : (k i : ℕ) → k * (i + 1) ≡ k * i + k
-one_more k i = omega arith
 
 four : (b : Bool) → width_if b 4 ≡ 4 * width_if b 1
 unfolding width_if
@@ -130,7 +112,7 @@ no_lists bytes size o count has n4 n8 n12 n16 =
     ap (λ (k : ℕ). (rows_within bytes size o k count >>= λ rows. memory >>= λ _. done (lists_of has rows)).outcome) none
     ∙ (rw (empty_rows bytes size o count, da, db, dc, dd) refl)
 
--- the numbers of a list in front, and then those of a part of the rows, and then those of the rows after it
+-- the numbers already in a list, then those of a part of the rows, then those of the rows after the part
 pub column_moves : (b : Bool) (o : ℕ) (part after rest : List (List ℕ)) (front all : List ℕ) → rest ≡ part ++ after
     → front ++ column_if b o rest ≡ all → front ++ column_if b o part ++ column_if b o after ≡ all
 unfolding column_if
@@ -141,7 +123,7 @@ column_moves true o part after rest front all is h =
     ∙ ap (λ (l : List (List ℕ)). map (λ row. number row o 4) l) (sym is)) ∙ h
 column_moves false o part after rest front all is h = append-nil (front ++ []) ∙ h
 
--- a list with room for the numbers of the rows has room for those of a part, and then for those of the rows after it
+-- a list with room for the numbers of the rows has room for those of a part, and then for those of the other rows
 pub room_for_part : (b : Bool) (len room : ℕ) (part after rest : List (List ℕ)) → rest ≡ part ++ after
     → len + count_if b (length rest) ≤ room → len + count_if b (length part) ≤ room
 room_for_part true len room part after rest is h =
@@ -158,7 +140,7 @@ room_after true len room part after rest is h =
     omega (arith, long, h)
 room_after false len room part after rest is h = omega (arith, h)
 
--- the numbers of a list in front are all numbers if no row is left
+-- the numbers already in a list are all of its numbers if no row is left
 pub column_ends : (b : Bool) (o : ℕ) (rest : List (List ℕ)) (front all : List ℕ) → length rest ≡ 0
     → front ++ column_if b o rest ≡ all → front ≡ all
 unfolding column_if

@@ -1,4 +1,4 @@
--- The boxes of this crate: what each reads, its format, and its laws.
+-- The boxes of this crate: the reading, the format and the laws of each.
 pub use Rattle.mp4_tables.specs.Stco.{reads_stco, format_stco}
 pub use Rattle.mp4_tables.specs.Co64.{reads_co64, format_co64}
 pub use Rattle.mp4_tables.specs.Stts.{reads_stts, format_stts}

@@ -1,5 +1,5 @@
--- co64, the large chunk offset box (ISO/IEC 14496-12, 8.7.5). The fields are version 1 byte, flags 3, a count of 4
--- at 12, and that many offsets of 8 bytes each from 16 on.
+-- co64, the large chunk offset box (ISO/IEC 14496-12, 8.7.5). The fields are version 1 byte, flags 3, the number of
+-- offsets 4 at 12, and the offsets, 8 bytes each, starting at 16.
 use Rattle.std.specs.Prelude.{ℕ, ◌<◌, ◌^◌, List}
 use Rattle.mp4_frame.specs.Bytes.{number, be_bytes}
 use Rattle.mp4_frame.specs.Reading.{Reading}
@@ -9,7 +9,7 @@ use Rattle.mp4_frame.specs.declared.box_type.BoxType.TheVariants as names
 use Rattle.mp4_frame.specs.declared.codes.TheConstants as codes
 use Rattle.mp4_tables.specs.declared.co64.Co64Box.{Co64Box}
 
--- the offset that a row holds
+-- the chunk offset in a row
 abbrev pub offset_of : List ℕ → ℕ
 offset_of entry = number entry 0 8
 

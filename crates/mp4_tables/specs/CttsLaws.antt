@@ -5,12 +5,12 @@ use Rattle.mp4_frame.specs.Format.{IsBox, IsNormalForm}
 use Rattle.mp4_frame.specs.Tables.{IsWholeTable}
 use Rattle.mp4_frame.specs.declared.codes.TheConstants as codes
 use Rattle.mp4_frame.specs.declared.box_type.BoxType.TheVariants as names
-use Rattle.std.proofs.lemmas.Int.{of_z-to_z}
+use Rattle.std.proofs.lemmas.Int.{of_z-to_z, to_z-of_z}
 use Rattle.std.specs.Int.{w32}
 use Rattle.mp4_frame.specs.Bytes.{number, bytes_of_fields}
 use Rattle.mp4_frame.proofs.Fields.{length-fields, number-below}
 use Rattle.mp4_frame.proofs.Framing.{fits_read, Number, Signed32}
-use Rattle.mp4_frame.proofs.Signed.{back32, signed32}
+use Rattle.mp4_frame.proofs.Signed.{signed32}
 use Rattle.mp4_frame.proofs.NormalForms.{WritesBack, fields_again, normal_table}
 use Rattle.mp4_frame.proofs.TableLaws.{IsEntry, laws_table}
 use Rattle.mp4_tables.specs.EntryLaws.{fields_back}
@@ -21,7 +21,7 @@ ctts_entry : IsEntry row_ctts entry_ctts FitsCttsEntry 8
 ctts_entry = record {
   long = λ e fits. length-fields (fields_ctts_entry e);
   back = λ e fits. fields_back value_ctts_entry (fields_ctts_entry e) e fits.0
-      (ap (λ (z : ℤ). record e { sample_offset = z }) (back32 e.sample_offset fits.1));
+      (ap (λ (z : ℤ). record e { sample_offset = z }) (to_z-of_z w32 e.sample_offset fits.1));
   fits = λ entry is. (fits_read entry is.are (Number 0 4 ∷ Signed32 4 ∷ []), signed32 entry 4 is.are);
 }
 

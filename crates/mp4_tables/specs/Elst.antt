@@ -1,5 +1,5 @@
--- elst, the edit list box (ISO/IEC 14496-12, 8.6.6). The fields are version 1 byte, flags 3, a count of 4 at 12, and
--- that many entries from 16 on. An entry has 20 bytes in version 1, and 12 in every other version.
+-- elst, the edit list box (ISO/IEC 14496-12, 8.6.6). The fields are version 1 byte, flags 3, the number of entries 4 at
+-- 12, and the entries, starting at 16. An entry has 20 bytes in version 1, and 12 in every other version.
 use Rattle.std.specs.Prelude.{ℕ, Bool, List}
 use Rattle.mp4_frame.specs.Bytes.{number}
 use Rattle.mp4_frame.specs.Reading.{Reading}
@@ -14,7 +14,7 @@ use Rattle.mp4_tables.specs.declared.elst_entry.ElstEntry.{ElstEntry}
 abbrev pub made_elst : ℕ → ℕ → List ElstEntry → ElstBox
 made_elst version flags entries = record { version = version; flags = flags; entries = entries }
 
--- what is read if all rows are long, or if all are short
+-- the reading of a table whose rows are all long, or all short
 unfoldable pub reads_elst_rows : Bool → List ℕ → ℕ → Reading ElstBox
 reads_elst_rows long bytes size = reads_table made_elst (entry_elst long) (row_length long) bytes size
 
@@ -24,7 +24,7 @@ reads_elst bytes start size = reads_elst_rows (is_long (number bytes 8 1)) bytes
 abbrev pub size_elst : ElstBox → ℕ
 size_elst v = size_table (row_length (is_long v.version)) v.entries
 
--- every number fits its field, which has another width in long rows than in short ones
+-- every number fits its field, whose width in long rows is not that in short ones
 abbrev pub WritableElstRows : Bool → ElstBox → Type 0
 WritableElstRows long v = WritableTable (FitsElstEntry long) (row_length long) codes.ELST v.version v.flags v.entries
 

@@ -4,14 +4,14 @@ use Rattle.std.specs.Prelude.{ℕ, ◌+◌, ◌==◌, Bool, List, [], ◌∷◌,
 use Rattle.mp4_frame.specs.Bytes.{number, bytes_of_fields, FieldsFit}
 use Rattle.mp4_tables.specs.declared.elst_entry.ElstEntry.{ElstEntry}
 
--- whether the rows of a version are long
+-- the rows of this version are long
 abbrev pub is_long : ℕ → Bool
 is_long version = version == 1
 
 abbrev pub row_length : Bool → ℕ
 row_length long = if long then 20 else 12
 
--- the number of bytes of a duration and of a time
+-- the number of bytes of a duration, and of a time
 abbrev pub time_width : Bool → ℕ
 time_width long = if long then 8 else 4
 

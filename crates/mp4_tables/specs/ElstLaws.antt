@@ -67,7 +67,7 @@ laws_elst = record {
       (some_bytes b) (lit< tt) (entry_long b) (entry_back b) (entry_fits b) v.version v.flags v.entries rest w in
       ap (λ (n : ℕ). (reads_elst_rows (is_long n) ((bytes_of_fields cs ++ z) ++ rest) (size_elst v)).outcome) version
       ∙ back;
-  sound = λ bytes start long v are read.
+  stable = λ bytes start long v are read.
       let b = is_long (number bytes 8 1) in
       let p = table_read made_elst (row_elst b) (entry_elst b) (FitsElstEntry b) (row_length b) codes.ELST
       (some_bytes b) (lit< tt) (entry_long b) (entry_back b) (entry_fits b) bytes long v are read in

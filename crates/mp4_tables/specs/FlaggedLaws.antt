@@ -1,4 +1,4 @@
--- The laws of optional fields: what was written is read back.
+-- The laws of optional fields, which are read back as they were written.
 use Rattle.std.proofs.Common.{◌≡◌, ℕ, ◌-◌, ◌≤◌, Bool, true, false, List, ◌++◌, length, Option, Some, None, refl, ap}
 use Rattle.std.proofs.Common.{◌∙◌, arith}
 use Rattle.mp4_frame.specs.Bytes.{number, be_bytes}
@@ -46,7 +46,7 @@ optional_back bytes p x rest b o w is at h =
     ap (λ (l : List ℕ). number_if (number l) b o w) is ∙ number_if_after p (optional w x ++ rest) b o w at
     ∙ first_back b w x rest h
 
--- a field that was read is present exactly if its flag is set, and its number fits
+-- a field that was read is present if and only if its flag is set, and its number fits
 pub number_is_present : (bytes : List ℕ) (b : Bool) (o w : ℕ) → AreBytes bytes
     → IsPresent b w (number_if (number bytes) b o w)
 unfolding number_if

@@ -22,7 +22,7 @@ rows_within_back row_of e Fits long p xs y o size fits at is =
     rows_at_back row_of e Fits long p xs y o fits at in
     rw (room, back) refl
 
--- n rows that were read have e bytes each, and there are n of them
+-- the number of rows that were read is n, and each has e bytes
 pub rows_within_read : (bytes : List ℕ) (size o e n : ℕ) (found : List (List ℕ)) → 0 < e → AreBytes bytes
     → (rows_within bytes size o e n).outcome ≡ Ok found → AllByRecursion (IsRow e) found × (length found ≡ n)
 unfolding rows_within

@@ -1,5 +1,5 @@
--- stsc, the sample to chunk box (ISO/IEC 14496-12, 8.7.4). The fields are version 1 byte, flags 3, a count of 4 at
--- 12, and that many entries of 12 bytes each from 16 on. The first samples of the entries are computed.
+-- stsc, the sample to chunk box (ISO/IEC 14496-12, 8.7.4). The fields are version 1 byte, flags 3, the number of
+-- entries 4 at 12, and the entries, 12 bytes each, starting at 16. The first samples of the entries are computed.
 use Rattle.std.specs.Prelude.{ℕ, List, IsTrue, map}
 use Rattle.mp4_frame.specs.Reading.{Reading, ◌>>=◌, memory, check, done}
 use Rattle.mp4_frame.specs.Tables.{counted_rows, size_table, WritableTable, bytes_table}
@@ -11,7 +11,7 @@ use Rattle.mp4_frame.specs.declared.codes.TheConstants as codes
 use Rattle.mp4_tables.specs.declared.stsc_entry.StscEntry.{StscEntry}
 use Rattle.mp4_tables.specs.declared.stsc.StscBox.{StscBox}
 
--- the entries in these rows with their first samples, which are computed once there is memory for all entries
+-- the entries in these rows with their first samples, which are computed once memory for all entries was taken
 abbrev pub numbered_entries : List (List ℕ) → Reading (List StscEntry)
 numbered_entries rows = do
   _ ← memory

@@ -1,18 +1,18 @@
--- The laws of stsc. The computed first samples do not depend on the first samples that the entries have. So a box
--- with computed first samples is its own normal form.
+-- The laws of stsc. The computed first samples do not depend on the first samples that the entries have already. So a
+-- box with computed first samples is its own normal form.
 use Rattle.std.proofs.Common.{◌≡◌, ℕ, ◌+◌, ◌-◌, ◌^◌, ◌<◌, Bool, true, ◌&&◌, List, [], ◌∷◌, ◌++◌, length, map, ltb, leb}
 use Rattle.std.proofs.Common.{cond, refl, ap, subst, ◌∙◌, arith, lit<}
 use Rattle.std.specs.List.{flat_map, AllByRecursion, list_all, range_with_len, sum_by}
 use Rattle.std.proofs.lemmas.List.{length-map}
 use Rattle.std.proofs.lemmas.List.Elements.{All-from_recursion, recursion_from_All}
+use Rattle.mp4_lemmas.proofs.Lists.{length_flat}
 use Rattle.mp4_frame.specs.Format.{IsBox}
 use Rattle.mp4_frame.specs.Reading.{◌>>=◌, done}
 use Rattle.mp4_frame.specs.Tables.{Table, counted_rows, WritableTable}
 use Rattle.mp4_frame.proofs.Framing.{header_in_front, fits_read, Number}
 use Rattle.mp4_frame.proofs.Fields.{length-fields}
 use Rattle.mp4_frame.proofs.Checks.{check_ok, is_value}
-use Rattle.mp4_frame.proofs.Tables.{IsRow, length_flat, counted_rows_back, counted_rows_read, map_all, length_map}
-use Rattle.mp4_frame.proofs.Tables.{value_first}
+use Rattle.mp4_frame.proofs.Tables.{IsRow, counted_rows_back, counted_rows_read, map_all, value_first}
 use Rattle.mp4_tables.specs.EntryLaws.{fields_back}
 use Rattle.mp4_tables.specs.Chunks.{samples_in, begins, sample_at, in_order, chunks_fit, with_sample, number_samples}
 use Rattle.mp4_tables.specs.StscEntry.{value_stsc_entry, entry_stsc, fields_stsc_entry, row_stsc, FitsStscEntry}
@@ -22,7 +22,7 @@ use Rattle.mp4_tables.specs.declared.stsc.StscBox.{StscBox}
 use Rattle.mp4_frame.specs.declared.codes.TheConstants as codes
 use Rattle.mp4_tables.specs.declared.stsc_entry.StscEntry.{StscEntry}
 
--- other first samples in the same entries change nothing else
+-- the computed first samples do not change if the entries get other first samples, those of h
 module _ (h : StscEntry → ℕ) where
   abbrev renumber : List StscEntry → List StscEntry
   renumber es = map (λ e. with_sample e (h e)) es
@@ -127,7 +127,7 @@ laws_stsc = record {
       let fit : chunks_fit (renumber (λ _. 0) v.entries) ≡ true = same_fit (λ _. 0) v.entries ∙ w.chunks in
       let numbers = same_numbers (λ _. 0) v.entries in
       rw (t, raw, fit, numbers) refl;
-  sound = λ bytes start long v are read.
+  stable = λ bytes start long v are read.
       let p = value_first (counted_rows bytes long 12)
       (λ (t : Table). numbered_entries t.rows >>= λ entries.
       done (record { version = t.version; flags = t.flags; entries = entries })) v read in
@@ -140,7 +140,7 @@ laws_stsc = record {
       let is : made ≡ v = ap box (is_value (number_samples es) n.0 q.1) ∙ is_value (box n.0) v n.2 in
       let h : StscEntry → ℕ = λ e. sample_at es e.first_chunk in
       let len = length-map es (λ (e : StscEntry). with_sample e (sample_at es e.first_chunk)) in
-      let count : length (number_samples es) < 256 ^ 4 = omega (arith, len, t.2, length_map entry_stsc p.0.rows) in
+      let count : length (number_samples es) < 256 ^ 4 = omega (arith, len, t.2, length-map p.0.rows entry_stsc) in
       let own_normal_form : normal_stsc made ≡ made =
       ap (λ (xs : List StscEntry). record made { entries = xs }) (same_numbers h es) in
       let can : size_stsc made < 2 ^ 32 → WritableStsc made = λ small. record {

@@ -1,5 +1,5 @@
--- stss, the sync sample box (ISO/IEC 14496-12, 8.6.2). The fields are version 1 byte, flags 3, a count of 4 at 12,
--- and that many sample numbers of 4 bytes each from 16 on.
+-- stss, the sync sample box (ISO/IEC 14496-12, 8.6.2). The fields are version 1 byte, flags 3, the number of sync
+-- samples 4 at 12, and their sample numbers, 4 bytes each, starting at 16.
 use Rattle.std.specs.Prelude.{ℕ, ◌<◌, ◌^◌, List}
 use Rattle.mp4_frame.specs.Bytes.{number, be_bytes}
 use Rattle.mp4_frame.specs.Reading.{Reading}
@@ -9,7 +9,7 @@ use Rattle.mp4_frame.specs.declared.box_type.BoxType.TheVariants as names
 use Rattle.mp4_frame.specs.declared.codes.TheConstants as codes
 use Rattle.mp4_tables.specs.declared.stss.StssBox.{StssBox}
 
--- the sample number that a row holds
+-- the sample number in a row
 abbrev pub sample_of : List ℕ → ℕ
 sample_of entry = number entry 0 4
 

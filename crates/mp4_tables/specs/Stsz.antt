@@ -1,5 +1,5 @@
 -- stsz, the sample size box (ISO/IEC 14496-12, 8.7.3.2). The fields are version 1 byte, flags 3, sample_size 4 at
--- 12, and sample_count 4 at 16. If sample_size is 0, there are sample_count sizes of 4 bytes each from 20 on.
+-- 12, and sample_count 4 at 16. If sample_size is 0, sample_count sizes of 4 bytes each follow, starting at 20.
 use Rattle.std.specs.Prelude.{◌≡◌, ℕ, ◌+◌, ◌*◌, ◌<◌, ◌^◌, ◌==◌, List, [], ◌∷◌, ◌++◌, All, length, map, flat_map}
 use Rattle.std.specs.Prelude.{if◌then◌else◌}
 use Rattle.mp4_frame.specs.Bytes.{number, be_bytes, bytes_of_fields, FieldsFit, full_box}
@@ -10,7 +10,7 @@ use Rattle.mp4_frame.specs.declared.box_type.BoxType.TheVariants as names
 use Rattle.mp4_frame.specs.declared.codes.TheConstants as codes
 use Rattle.mp4_tables.specs.declared.stsz.StszBox.{StszBox}
 
--- as many sizes as the count says, from 20 on
+-- `count` sizes, starting at 20
 unfoldable pub reads_sizes : List ℕ → ℕ → ℕ → Reading (List ℕ)
 reads_sizes bytes size count = do
   rows ← rows_within bytes size 20 4 count
@@ -38,11 +38,11 @@ size_stsz v = 20 + 4 * length v.sample_sizes
 abbrev pub fields_stsz : StszBox → List (ℕ × ℕ)
 fields_stsz v = full_box (size_stsz v) codes.STSZ v.version v.flags ++ (4, v.sample_size) ∷ (4, v.sample_count) ∷ []
 
--- how many sizes the list has to have: count if sample_size is 0, else 0
+-- the number of sizes that the list must have: count if sample_size is 0, else 0
 abbrev pub count_of_sizes : ℕ → ℕ → ℕ
 count_of_sizes sample_size count = if sample_size == 0 then count else 0
 
--- every number fits its field, and the list has as many sizes as it has to have
+-- every number fits its field, and the list has the number of sizes that it must have
 pub record WritableStsz (v : StszBox) : Type 0 where
   pub fit : FieldsFit (fields_stsz v)
   pub each : All (λ size. size < 2 ^ 32) v.sample_sizes

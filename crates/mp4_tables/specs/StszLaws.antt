@@ -2,7 +2,9 @@
 use Rattle.std.proofs.Common.{◌≡◌, ℕ, ◌+◌, ◌*◌, ◌<◌, ◌^◌, Bool, true, false, eqb, cond, List, [], ◌∷◌, ◌++◌, map, Ok}
 use Rattle.std.proofs.Common.{length, refl, sym, ap, subst, ◌∙◌, append_assoc, arith, lit<, lit≤}
 use Rattle.std.specs.List.{flat_map, All, AllByRecursion}
+use Rattle.std.proofs.lemmas.List.{length-map}
 use Rattle.std.proofs.lemmas.List.Elements.{All-from_recursion, recursion_from_All}
+use Rattle.mp4_lemmas.proofs.Lists.{front_and_rest, length_flat, map_back}
 use Rattle.mp4_frame.specs.Format.{IsBox, IsNormalForm}
 use Rattle.mp4_frame.specs.Bytes.{number, be_bytes, bytes_of_fields, FieldsFit}
 use Rattle.mp4_frame.specs.Laws.{AreBytes, IsWhole}
@@ -12,9 +14,9 @@ use Rattle.mp4_frame.specs.declared.codes.TheConstants as codes
 use Rattle.mp4_frame.proofs.Framing.{own_normal_form, header_in_front, fits_read, Number}
 use Rattle.mp4_frame.proofs.Fields.{found, length-fields, numbers-fields, expect_bytes-fields}
 use Rattle.mp4_frame.proofs.Checks.{expect_bytes_ok, is_value}
-use Rattle.mp4_frame.proofs.NormalForms.{number_again, rows_there, joined}
+use Rattle.mp4_frame.proofs.NormalForms.{number_again, rows_there}
 use Rattle.mp4_frame.proofs.NumberBytes.{fields_at, fields_there}
-use Rattle.mp4_frame.proofs.Tables.{length_flat, map_back, map_all, length_map, value_first, rows_are, length-rows}
+use Rattle.mp4_frame.proofs.Tables.{map_all, value_first, rows_are, length-rows}
 use Rattle.mp4_frame.proofs.TableLaws.{number_entry}
 use Rattle.mp4_tables.specs.Rows.{rows_within}
 use Rattle.mp4_tables.specs.RowsLaws.{rows_within_back, rows_within_read}
@@ -50,7 +52,7 @@ listed_back p y sizes size sample_size count at is each sync = by (eqb sample_si
     by true h = rw (← h) (sizes_back p y sizes size at is each)
     by false h = ap (λ (xs : List ℕ). Ok xs) (no_sizes sizes h)
 
--- sizes that were read fit 32 bits, and there are as many as there have to be
+-- sizes that were read fit 32 bits, and the list has the number of sizes that it must have
 sizes_read : (bytes : List ℕ) (size sample_size count : ℕ) (sizes : List ℕ) → AreBytes bytes
     → (sizes_if_listed bytes size sample_size count).outcome ≡ Ok sizes
     → AllByRecursion (λ s. s < 2 ^ 32) sizes × (length sizes ≡ cond (eqb sample_size 0) count 0)
@@ -66,7 +68,7 @@ sizes_read bytes size sample_size count sizes are h = by (eqb sample_size 0) h
         let is : map (λ entry. number entry 0 4) p.0 ≡ sizes = is_value _ sizes p.2 in
         rw (← is) (
           map_all 4 (λ entry. number entry 0 4) (λ s. s < 2 ^ 32) (number_entry 4).fits p.0 r.0,
-          length_map (λ entry. number entry 0 4) p.0 ∙ r.1,
+          length-map p.0 (λ entry. number entry 0 4) ∙ r.1,
         )
     by false e = let is : [] ≡ sizes = is_value [] sizes e in rw (← is) (tt, refl)
 
@@ -95,7 +97,7 @@ laws_stsz = record {
       let whole : (reads_stsz B start (size_stsz v)).outcome ≡ Ok v = rw (first, n12, n16, sizes, n8, n9) refl in
       ap (λ (l : List ℕ). (reads_stsz l start (size_stsz v)).outcome) (append_assoc (bytes_of_fields cs) z rest)
       ∙ whole;
-  sound = λ bytes start long v are read.
+  stable = λ bytes start long v are read.
       let one = expect_bytes_ok bytes 8 12
       (λ _. sizes_if_listed bytes long (number bytes 12 4) (number bytes 16 4) >>= λ sizes.
       done (value_stsz (number bytes) sizes)) v read in
@@ -112,7 +114,7 @@ laws_stsz = record {
       (refl, subst (λ (w : StszBox). size_stsz w < 2 ^ 32 → WritableStsz w) is can);
 }
 
--- a whole stsz with as many sizes as it has to have is in normal form
+-- a whole stsz with the number of sizes that it must have is in normal form
 pub normal_stsz : (bytes : List ℕ) → IsWhole codes.STSZ bytes
     → length bytes ≡ 20 + 4 * count_of_sizes (number bytes 12 4) (number bytes 16 4) → IsNormalForm format_stsz bytes
 unfolding bytes_stsz
@@ -123,7 +125,7 @@ normal_stsz bytes whole long =
     let sizes = map (λ entry. number entry 0 4) found in
     let v = value_stsz (number bytes) sizes in
     let all : length bytes ≡ 20 + n * 4 = omega (arith, long) in
-    let many : length sizes ≡ n = length_map (λ entry. number entry 0 4) found ∙ length-rows bytes 20 4 n in
+    let many : length sizes ≡ n = length-map found (λ entry. number entry 0 4) ∙ length-rows bytes 20 4 n in
     let size : size_stsz v ≡ number bytes 0 4 = ap (λ (k : ℕ). 20 + 4 * k) many ∙ sym long ∙ sym whole.size_first in
     let ws : List ℕ = 4 ∷ 4 ∷ 1 ∷ 3 ∷ 4 ∷ 4 ∷ [] in
     let same : fields_stsz v ≡ fields_at bytes 0 ws = rw (size, ← whole.code_next) refl in
@@ -138,7 +140,7 @@ normal_stsz bytes whole long =
     } in (
       v,
       can,
-      joined bytes (bytes_of_fields (fields_stsz v)) (flat_map (λ size. be_bytes 4 size) sizes) 20 (n * 4)
+      front_and_rest bytes (bytes_of_fields (fields_stsz v)) (flat_map (λ size. be_bytes 4 size) sizes) 20 (n * 4)
           (ap bytes_of_fields same ∙ fields_there bytes are 0 ws (omega (arith, all)))
           (rows_there (λ size. be_bytes 4 size) (λ entry. number entry 0 4) 4 (number_again 4) bytes 20 n are
           (omega (arith, all))) all,

@@ -1,5 +1,5 @@
--- stts, the decoding time to sample box (ISO/IEC 14496-12, 8.6.1.2). The fields are version 1 byte, flags 3, a count
--- of 4 at 12, and that many entries of 8 bytes each from 16 on.
+-- stts, the decoding time to sample box (ISO/IEC 14496-12, 8.6.1.2). The fields are version 1 byte, flags 3, the
+-- number of entries 4 at 12, and the entries, 8 bytes each, starting at 16.
 use Rattle.std.specs.Prelude.{ℕ, List}
 use Rattle.mp4_frame.specs.Reading.{Reading}
 use Rattle.mp4_frame.specs.Tables.{reads_table, size_table, WritableTable, bytes_table}

@@ -1,5 +1,5 @@
 -- tfhd, the track fragment header box (ISO/IEC 14496-12, 8.8.7). The fields are version 1 byte, flags 3, and
--- track_id 4 at 12. From 16 on there are optional fields, one after the other, each if its flag is set:
+-- track_id 4 at 12. The optional fields start at 16, one after the other, each if its flag is set:
 -- base_data_offset 8 (flag 0x01), sample_description_index 4 (0x02), default_sample_duration 4 (0x08),
 -- default_sample_size 4 (0x10), default_sample_flags 4 (0x20).
 use Rattle.std.specs.Prelude.{ℕ, ◌+◌, ◌-◌, List, [], ◌∷◌, ◌++◌}
@@ -55,7 +55,7 @@ size_tfhd v = end_at v.flags
 abbrev pub fields_tfhd : TfhdBox → List (ℕ × ℕ)
 fields_tfhd v = full_box (size_tfhd v) codes.TFHD v.version v.flags ++ (4, v.track_id) ∷ []
 
--- each optional field is present exactly if its flag is set, and its number fits
+-- each optional field is present if and only if its flag is set, and its number fits
 pub record FlaggedTfhd (v : TfhdBox) : Type 0 where
   pub base_data_offset : IsPresent (is_set v.flags FLAG_BASE_DATA_OFFSET) 8 v.base_data_offset
   pub sample_description_index : IsPresent (is_set v.flags FLAG_SAMPLE_DESCRIPTION_INDEX) 4 v.sample_description_index

@@ -115,7 +115,7 @@ laws_tfhd = record {
       let first = expect_bytes_present B 8 8 (omega (arith, long)) in
       let second = expect_bytes_present B 16 (end_at f - 16) (omega (arith, long)) in
       rw (first, n9, second, n8, n12, va, vb, vc, vd, ve) refl;
-  sound = λ bytes start long v are read.
+  stable = λ bytes start long v are read.
       let f = number bytes 9 3 in
       let made = value_tfhd f (number bytes) in
       let one = expect_bytes_ok bytes 8 8 (λ _. expect_bytes bytes 16 (end_at f - 16) >>= λ _. done made) v read in
@@ -136,7 +136,7 @@ laws_tfhd = record {
       (refl, λ _. subst WritableTfhd is can);
 }
 
--- reading it takes no memory
+-- reading a tfhd takes no memory
 pub tfhd_takes_none : (bytes : List ℕ) (start size : ℕ) → TakesNone (reads_tfhd bytes start size)
 unfolding reads_tfhd
 tfhd_takes_none bytes start size =

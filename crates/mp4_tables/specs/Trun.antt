@@ -1,8 +1,7 @@
 -- trun, the track fragment run box (ISO/IEC 14496-12, 8.8.8). The fields are version 1 byte, flags 3, and
--- sample_count 4 at 12. From 16 on there are two optional fields, one after the other, each if its flag is set:
--- data_offset 4, signed (flag 0x01), and first_sample_flags 4 (0x04). Then there is a row for each sample: its
--- duration 4 (0x100), size 4 (0x200), flags 4 (0x400) and composition time offset 4 (0x800), each if its flag is
--- set.
+-- sample_count 4 at 12. Two optional fields start at 16, one after the other, each if its flag is set: data_offset 4,
+-- signed (flag 0x01), and first_sample_flags 4 (0x04). A row for each sample follows: its duration 4 (0x100), size 4
+-- (0x200), flags 4 (0x400) and composition time offset 4 (0x800), each if its flag is set.
 use Rattle.std.specs.Prelude.{ℕ, ℤ, ◌+◌, ◌-◌, ◌*◌, List, [], ◌∷◌, ◌++◌, flat_map, slice_get, Option, Some, None}
 use Rattle.std.specs.Prelude.{option_map, FitsSigned}
 use Rattle.std.specs.List.{range_with_len}
@@ -26,7 +25,7 @@ first_flags_at flags = 16 + width_if (is_set flags FLAG_DATA_OFFSET) 4
 abbrev pub rows_at : ℕ → ℕ
 rows_at flags = first_flags_at flags + width_if (is_set flags FLAG_FIRST_SAMPLE_FLAGS) 4
 
--- the signed number with the same 32 bits as an unsigned number, if there is one; and the other way round
+-- the signed number with the same 32 bits as an unsigned number, if there is one; then the reverse
 abbrev pub signed_bits : Option ℕ → Option ℤ
 signed_bits n = option_map (λ bits. cast_signed w32 bits) n
 
@@ -72,7 +71,7 @@ pub record ListedTrun (v : TrunBox) : Type 0 where
   pub flags : IsListed (row_flags v.flags).flags v.sample_count v.sample_flags
   pub cts : IsListed (row_flags v.flags).cts v.sample_count v.sample_cts
 
--- each optional field is present exactly if its flag is set, and its number fits
+-- each optional field is present if and only if its flag is set, and its number fits
 pub record FlaggedTrun (flags : ℕ) (offset : Option ℤ) (first_flags : Option ℕ) : Type 0 where
   pub data_offset : IsPresent (is_set flags FLAG_DATA_OFFSET) 4 (unsigned_bits offset)
   pub offset_fits : FitsOptional offset

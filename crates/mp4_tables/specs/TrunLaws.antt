@@ -3,12 +3,15 @@ use Rattle.std.proofs.Common.{◌≡◌, ℕ, zero, suc, ◌+◌, ◌*◌, ◌-�
 use Rattle.std.proofs.Common.{map, length, Ok, Option, Some, None, refl, sym, ap, subst, ◌∙◌, append_assoc, arith}
 use Rattle.std.proofs.Common.{length-append, lit<}
 use Rattle.std.specs.Prelude.{ℤ, slice_get}
+use Rattle.std.specs.Int.{w32}
 use Rattle.std.specs.List.{range_with_len, AllByRecursion}
-use Rattle.std.proofs.lemmas.List.{append-nil}
+use Rattle.std.proofs.lemmas.Int.{to_z-of_z}
+use Rattle.std.proofs.lemmas.List.{append-nil, length-map}
 use Rattle.std.proofs.lemmas.List.Elements.{All-from_recursion, All-get_or}
 use Rattle.std.proofs.lemmas.List.FromFn.{length-range_with_len, fill_by_all}
 use Rattle.std.proofs.lemmas.Option.{slice_get_past, slice_get-get_or, get_or_from_slice_get}
 use Rattle.std.proofs.lemmas.Simd.{map-map}
+use Rattle.mp4_lemmas.proofs.Lists.{length_flat}
 use Rattle.mp4_frame.specs.Format.{IsBox}
 use Rattle.mp4_frame.specs.Bytes.{number, bytes_of_fields}
 use Rattle.mp4_frame.specs.Laws.{AreBytes, BeginsWithHeader}
@@ -16,9 +19,9 @@ use Rattle.mp4_frame.specs.Reading.{Reading, ◌>>=◌, expect_bytes, memory, do
 use Rattle.mp4_frame.specs.declared.box_type.BoxType.TheVariants as names
 use Rattle.mp4_frame.proofs.Framing.{own_normal_form, header_in_front, fits_read, Number}
 use Rattle.mp4_frame.proofs.Fields.{length-fields, number-fields, number-below}
-use Rattle.mp4_frame.proofs.Signed.{back32, below32, signed32}
+use Rattle.mp4_frame.proofs.Signed.{below32, signed32}
 use Rattle.mp4_frame.proofs.Checks.{expect_bytes_present, expect_bytes_ok, is_value}
-use Rattle.mp4_frame.proofs.Tables.{IsRow, length_flat, map_all, length_map, value_first}
+use Rattle.mp4_frame.proofs.Tables.{IsRow, map_all, value_first}
 use Rattle.mp4_tables.specs.Flagged.{is_set, width_if, number_if, optional, IsPresent}
 use Rattle.mp4_tables.specs.FlaggedLaws.{length_optional, optional_back, number_is_present}
 use Rattle.mp4_tables.specs.Rows.{rows_within}
@@ -32,7 +35,7 @@ use Rattle.mp4_tables.specs.declared.trun.TheConstants.TrunBox.{FLAG_DATA_OFFSET
 use Rattle.mp4_tables.specs.declared.trun.TrunBox.{TrunBox}
 use Rattle.mp4_tables.specs.declared.trun.lists.TrunLists.{TrunLists}
 
--- the i-th number of a list is present exactly if the flag of the list is set
+-- the i-th number of a list is present if and only if the flag of the list is set
 item_is_present : (b : Bool) (count i : ℕ) (xs : List ℕ) → IsListed b count xs → i < count
     → IsPresent b 4 (slice_get xs i)
 item_is_present true count i xs h lt =
@@ -168,7 +171,7 @@ module _ (v : TrunBox) (w : ListedTrun v) where
 
 offset_back : (x : Option ℤ) → FitsOptional x → signed_bits (unsigned_bits x) ≡ x
 offset_back None h = refl
-offset_back (Some z) h = ap (λ (y : ℤ). Some y) (back32 z h)
+offset_back (Some z) h = ap (λ (y : ℤ). Some y) (to_z-of_z w32 z h)
 
 full : (b : Bool) → b ≡ true → width_if b 4 ≡ 4
 unfolding width_if
@@ -182,7 +185,7 @@ unfolding column_if
 column_listed true o k count rows h =
     let p = h refl in
     record {
-      long = length_map (λ row. number row o 4) rows ∙ p.1;
+      long = length-map rows (λ row. number row o 4) ∙ p.1;
       each = All-from_recursion (λ n. n < 2 ^ 32) (map (λ row. number row o 4) rows)
           (map_all k (λ row. number row o 4) (λ n. n < 2 ^ 32) (λ row is. number-below row o 4 is.are) rows p.0);
     }
@@ -259,7 +262,7 @@ laws_trun = record {
       ap (value_trun f (number B)) (lists_back v w.listed)
       ∙ (rw (n8, n12, va, offset_back v.data_offset w.flagged.offset_fits, vb) refl) in
       rw (first, n9, second, rows) (ap (λ (t : TrunBox). Ok t) made);
-  sound = λ bytes start long v are read.
+  stable = λ bytes start long v are read.
       let f = number bytes 9 3 in
       let n = number bytes 12 4 in
       let made : TrunLists → Reading TrunBox = λ lists. done (value_trun f (number bytes) lists) in

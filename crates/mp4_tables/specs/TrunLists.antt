@@ -1,4 +1,4 @@
--- The lists of a trun box: each has one number of each row, if its flag is set.
+-- The lists of a trun box. Each has one number of each row, if its flag is set.
 use Rattle.std.specs.Prelude.{◌≡◌, ℕ, ◌<◌, ◌^◌, Bool, true, false, List, [], All, length, map, if◌then◌else◌}
 use Rattle.mp4_frame.specs.Bytes.{number}
 use Rattle.mp4_frame.specs.Reading.{Reading, ◌>>=◌, memory, done}
@@ -19,17 +19,18 @@ lists_of has rows = record {
   cts = column_if has.cts (cts_in_row has) rows;
 }
 
--- the lists of as many rows as the count says, from o on
+-- the lists of `count` rows, starting at o
 unfoldable pub reads_lists : List ℕ → ℕ → RowFlags → ℕ → ℕ → Reading TrunLists
 reads_lists bytes size has o count = do
   rows ← rows_within bytes size o (row_length has) count
   _ ← memory
   done (lists_of has rows)
 
--- how many numbers a list has: count if its flag is set, else 0
+-- the number of numbers in a list: count if its flag is set, else 0
 abbrev pub count_if : Bool → ℕ → ℕ
 count_if is_flagged count = if is_flagged then count else 0
 
+-- a list has count numbers if its flag is set, else none, and each of them fits 32 bits
 pub record IsListed (is_flagged : Bool) (count : ℕ) (numbers : List ℕ) : Type 0 where
   pub long : length numbers ≡ count_if is_flagged count
   pub each : All (λ n. n < 2 ^ 32) numbers

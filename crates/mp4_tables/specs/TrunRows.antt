@@ -1,5 +1,4 @@
--- The rows of a trun box: which numbers a row has, by the flags of the box, and at which offset of the row each
--- number is.
+-- The rows of a trun box: the numbers of a row, which depend on the flags of the box, and their offsets in the row.
 use Rattle.std.specs.Prelude.{ℕ, ◌+◌}
 use Rattle.mp4_tables.specs.Flagged.{is_set, width_if}
 use Rattle.mp4_tables.specs.declared.trun.TheConstants.TrunBox.{FLAG_SAMPLE_DURATION, FLAG_SAMPLE_SIZE}
@@ -14,8 +13,8 @@ row_flags flags = record {
   cts = is_set flags FLAG_SAMPLE_CTS;
 }
 
--- The duration is at offset 0 of the row. Next are the offsets of the size, the flags and the composition time
--- offset, each after the number before it, and the length of the row.
+-- the offsets in a row of the size, the flags and the composition time offset, and then the length of the row. The
+-- duration is at offset 0, and each number follows the one before it
 abbrev pub size_in_row : RowFlags → ℕ
 size_in_row has = width_if has.duration 4
 

@@ -16,16 +16,16 @@ use std::alloc::Global;
 /// The offsets of the chunks of a track, in 64 bits each (`co64`, ISO/IEC 14496-12, 8.7.5).
 #[derive(Debug, Drop, PartialEq, Eq)]
 pub struct Co64Box {
-    /// 0 in the standard. Every version is read and written alike.
+    /// The version, 0 in the standard. Every version is read and written in the same way.
     pub version: u8,
-    /// 24 bits, 0 in the standard.
+    /// Flags of 24 bits, 0 in the standard.
     pub flags: u32,
-    /// The offset of each chunk, in bytes from the front of the file.
+    /// The offset of each chunk, in bytes from the start of the file.
     pub entries: Entries<u64>,
 }
 
 impl Co64Box {
-    /// Version 0, flags 0 and no chunks. It takes no memory.
+    /// Returns a box of version 0 and flags 0 without chunks. It takes no memory from `alloc`.
     pub fn default_in(alloc: Global) -> Co64Box
         ensures { result ≡ record { version = 0; flags = 0; entries = [] } }
     {
@@ -36,14 +36,14 @@ impl Co64Box {
         }
     }
 
-    /// The same as `box_type`.
+    /// Returns the type of the box, like `box_type`.
     pub fn get_type(&self) -> BoxType
         ensures { result ≡ names.Co64Box }
     {
         self.box_type()
     }
 
-    /// The same as `box_size`.
+    /// Returns the size of the box in bytes, like `box_size`.
     pub fn get_size(&self) -> u64
         ensures { result ≡ min (size_co64 self.now) (2 ^ 64 - 1) }
     {

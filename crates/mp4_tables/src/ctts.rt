@@ -18,16 +18,16 @@ use std::alloc::Global;
 /// 8.6.1.3).
 #[derive(Debug, Drop, PartialEq, Eq)]
 pub struct CttsBox {
-    /// 0 in the standard. Every version is read and written alike.
+    /// The version, 0 in the standard. Every version is read and written in the same way.
     pub version: u8,
-    /// 24 bits, 0 in the standard.
+    /// Flags of 24 bits, 0 in the standard.
     pub flags: u32,
     /// Runs of samples with the same offset, in decoding order.
     pub entries: Entries<CttsEntry>,
 }
 
 impl CttsBox {
-    /// Version 0, flags 0 and no entries. It takes no memory.
+    /// Returns a box of version 0 and flags 0 without entries. It takes no memory from `alloc`.
     pub fn default_in(alloc: Global) -> CttsBox
         ensures { result ≡ record { version = 0; flags = 0; entries = [] } }
     {
@@ -38,14 +38,14 @@ impl CttsBox {
         }
     }
 
-    /// The same as `box_type`.
+    /// Returns the type of the box, like `box_type`.
     pub fn get_type(&self) -> BoxType
         ensures { result ≡ names.CttsBox }
     {
         self.box_type()
     }
 
-    /// The same as `box_size`.
+    /// Returns the size of the box in bytes, like `box_size`.
     pub fn get_size(&self) -> u64
         ensures { result ≡ min (size_ctts self.now) (2 ^ 64 - 1) }
     {

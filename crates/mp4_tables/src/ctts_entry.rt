@@ -11,12 +11,12 @@ use mp4_frame::{TableEntry, i32_at, put_i32, put_u32, u32_at};
 pub struct CttsEntry {
     /// The number of samples in the run.
     pub sample_count: u32,
-    /// The composition time of each of them minus its decoding time, in the timescale of the media. It is signed in
-    /// every version.
+    /// The composition time of each of these samples minus its decoding time, in the timescale of the media. It is
+    /// signed in every version.
     pub sample_offset: i32,
 }
 
-/// Always true. For the prover: a value that was read has the range of its type.
+/// Returns true, always. For the prover: each number of `entry` has the range of its type.
 fn has_fitting_numbers(entry: CttsEntry) -> bool
     ensures { IsTrue result ↔ FitsCttsEntry entry }
 {

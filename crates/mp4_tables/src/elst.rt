@@ -17,21 +17,23 @@ use mp4_frame::{
 };
 use std::alloc::Global;
 
+/// The text of the error for a count of entries for which the box has no room.
 const TOO_MANY: &str = "elst entry_count indicates more entries than could fit in the box";
 
-/// The edit list: which parts of its media a track presents, and in which order (`elst`, ISO/IEC 14496-12, 8.6.6).
+/// The edit list: the parts of its media that a track presents, in the order of presentation (`elst`,
+/// ISO/IEC 14496-12, 8.6.6).
 #[derive(Debug, Drop, PartialEq, Eq)]
 pub struct ElstBox {
-    /// 0 or 1 in the standard. Version 1 has times of 64 bits, and every other version has times of 32 bits.
+    /// The version, 0 or 1 in the standard. Version 1 has times of 64 bits, and every other version times of 32 bits.
     pub version: u8,
-    /// 24 bits, 0 in the standard.
+    /// Flags of 24 bits, 0 in the standard.
     pub flags: u32,
     /// The parts of the media, in the order of presentation.
     pub entries: Entries<ElstEntry>,
 }
 
 impl ElstBox {
-    /// Version 0, flags 0 and no entries. It takes no memory.
+    /// Returns a box of version 0 and flags 0 without entries. It takes no memory from `alloc`.
     pub fn default_in(alloc: Global) -> ElstBox
         ensures { result ≡ record { version = 0; flags = 0; entries = [] } }
     {
@@ -42,14 +44,14 @@ impl ElstBox {
         }
     }
 
-    /// The same as `box_type`.
+    /// Returns the type of the box, like `box_type`.
     pub fn get_type(&self) -> BoxType
         ensures { result ≡ names.ElstBox }
     {
         self.box_type()
     }
 
-    /// The same as `box_size`.
+    /// Returns the size of the box in bytes, like `box_size`.
     pub fn get_size(&self) -> u64
         ensures { result ≡ min (size_elst self.now) (2 ^ 64 - 1) }
     {
@@ -83,7 +85,7 @@ impl Mp4Box for ElstBox {
     }
 }
 
-/// Whether the version is 1, which has long rows. The version counts as 0 if its byte is not present.
+/// Returns whether the version in `bytes` is 1, which has long rows. A missing version counts as 0.
 #[tactic(auto, unfolding(mp4_frame::specs::Bytes::number))]
 fn has_long_rows(bytes: &[u8]) -> bool
     ensures { result ≡ is_long (number bytes.now 8 1) }
@@ -91,6 +93,7 @@ fn has_long_rows(bytes: &[u8]) -> bool
     bytes.len() > 8 && bytes[8] == 1
 }
 
+/// Reads a box with rows of 20 bytes.
 #[tactic(auto, unfolding(crate::specs::Elst::reads_elst_rows))]
 fn read_long(alloc: Global, bytes: &[u8], size: u64) -> Result<ElstBox>
     ensures { Answers result (reads_elst_rows true bytes.now size) }
@@ -103,6 +106,7 @@ fn read_long(alloc: Global, bytes: &[u8], size: u64) -> Result<ElstBox>
     })
 }
 
+/// Reads a box with rows of 12 bytes.
 #[tactic(auto, unfolding(crate::specs::Elst::reads_elst_rows))]
 fn read_short(alloc: Global, bytes: &[u8], size: u64) -> Result<ElstBox>
     ensures { Answers result (reads_elst_rows false bytes.now size) }

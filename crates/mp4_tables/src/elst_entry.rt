@@ -7,13 +7,13 @@ ghost use Rattle.mp4_tables.specs.ElstEntry.{entry_elst, row_elst, FitsElstEntry
 use crate::rows::RowEntry;
 use mp4_frame::{TableEntry, put_bytes, put_u16, put_u64, u16_at, u32_at, u64_at};
 
-/// An edit: a part of a track's media, and how it is presented (ISO/IEC 14496-12, 8.6.6).
+/// An edit: a part of a track's media, with the duration and the rate of its presentation (ISO/IEC 14496-12, 8.6.6).
 #[derive(Clone, Copy, Debug, Default, PartialEq, Eq)]
 pub struct ElstEntry {
     /// The duration of the part, in the timescale of the movie header. 32 bits unless the box has version 1.
     pub segment_duration: u64,
     /// The time in the media at which the part begins, in the timescale of the media. 32 bits unless the box has
-    /// version 1. The number is unsigned: an empty part (-1 in the standard) has the largest number of its width.
+    /// version 1. The number is unsigned: an empty edit (-1 in the standard) has the largest number of its width.
     pub media_time: u64,
     /// The whole part of the playback rate. 1 is normal speed; 0 means that the media at `media_time` is shown for
     /// the whole duration.
@@ -22,7 +22,7 @@ pub struct ElstEntry {
     pub media_rate_fraction: u16,
 }
 
-/// Always true. For the prover: a value that was read has the range of its type.
+/// Returns true, always. For the prover: each number of `entry` has the range of its type.
 fn has_fitting_numbers(entry: ElstEntry) -> bool
     ensures { IsTrue result ↔ FitsElstEntry true entry }
 {
@@ -31,7 +31,7 @@ fn has_fitting_numbers(entry: ElstEntry) -> bool
     true
 }
 
-/// Whether both times fit 32 bits.
+/// Returns whether both times of `entry` fit 32 bits.
 fn has_short_times(entry: ElstEntry) -> bool
     ensures { IsTrue result ↔ FitsElstEntry false entry }
 {
@@ -40,7 +40,7 @@ fn has_short_times(entry: ElstEntry) -> bool
     entry.segment_duration < 1 << 32 && entry.media_time < 1 << 32
 }
 
-/// Puts the lowest four bytes of a number, and returns the offset after them.
+/// Writes the lowest four bytes of `n` to `out` at offset `at`, and returns the offset after them.
 #[tactic(auto, unfolding(mp4_frame::specs::Bytes::be_bytes))]
 fn put_low_u32(out: &mut [u8], at: usize, n: u64) -> usize
     requires { at + 4 ≤ length out.old }

@@ -6,7 +6,7 @@ ghost use Rattle.mp4_tables.specs.Flagged.{is_set, width_if, number_if, optional
 
 use mp4_frame::{put_u32, put_u64, u32_at, u64_at};
 
-/// Whether `flag` is set in `flags`.
+/// Returns whether `flag` is set in `flags`.
 #[tactic(auto, unfolding(crate::specs::Flagged::is_set))]
 pub(crate) fn is_set(flags: u32, flag: u32) -> bool
     ensures { result ≡ is_set flags flag }
@@ -14,16 +14,16 @@ pub(crate) fn is_set(flags: u32, flag: u32) -> bool
     flags & flag > 0
 }
 
-/// The number of bytes of a field: `width` if its flag is set, else 0.
+/// Returns the number of bytes of a field: `width` if its flag is set, else 0.
 #[tactic(auto, unfolding(crate::specs::Flagged::width_if))]
 pub(crate) fn width_if(is_flagged: bool, width: usize) -> usize
     ensures width { result ≡ width_if is_flagged width }
-    ensures most { result ≤ width }
+    ensures bounded { result ≤ width }
 {
     if is_flagged { width } else { 0 }
 }
 
-/// The number of four bytes at offset `at`, if its flag is set.
+/// Returns the 4-byte number at offset `at` of `bytes` if `is_flagged`, and `None` otherwise.
 #[tactic(auto, unfolding(crate::specs::Flagged::width_if, crate::specs::Flagged::number_if))]
 pub(crate) fn u32_if(bytes: &[u8], at: usize, is_flagged: bool) -> Option<u32>
     requires { at + width_if is_flagged 4 ≤ length bytes.now }
@@ -36,7 +36,7 @@ pub(crate) fn u32_if(bytes: &[u8], at: usize, is_flagged: bool) -> Option<u32>
     }
 }
 
-/// The number of eight bytes at offset `at`, if its flag is set.
+/// Returns the 8-byte number at offset `at` of `bytes` if `is_flagged`, and `None` otherwise.
 #[tactic(auto, unfolding(crate::specs::Flagged::width_if, crate::specs::Flagged::number_if))]
 pub(crate) fn u64_if(bytes: &[u8], at: usize, is_flagged: bool) -> Option<u64>
     requires { at + width_if is_flagged 8 ≤ length bytes.now }
@@ -49,7 +49,7 @@ pub(crate) fn u64_if(bytes: &[u8], at: usize, is_flagged: bool) -> Option<u64>
     }
 }
 
-/// Whether a number of four bytes agrees with its flag: it is present exactly if the flag is set.
+/// Returns whether `n`, a number of four bytes, agrees with its flag: it is present if and only if the flag is set.
 pub(crate) fn is_present_u32(is_flagged: bool, n: Option<u32>) -> bool
     ensures { IsTrue result ↔ IsPresent is_flagged 4 n }
 {
@@ -60,7 +60,7 @@ pub(crate) fn is_present_u32(is_flagged: bool, n: Option<u32>) -> bool
     }
 }
 
-/// Whether a number of eight bytes agrees with its flag: it is present exactly if the flag is set.
+/// Returns whether `n`, a number of eight bytes, agrees with its flag: it is present if and only if the flag is set.
 pub(crate) fn is_present_u64(is_flagged: bool, n: Option<u64>) -> bool
     ensures { IsTrue result ↔ IsPresent is_flagged 8 n }
 {
@@ -71,7 +71,7 @@ pub(crate) fn is_present_u64(is_flagged: bool, n: Option<u64>) -> bool
     }
 }
 
-/// Puts a number of four bytes at offset `at`, if there is one, and returns the offset after it.
+/// Writes `n`, if it is present, to `out` at offset `at` in four bytes, and returns the offset after it.
 #[tactic(auto, using(crate::specs::FlaggedLaws::length_some), unfolding(crate::specs::Flagged::optional))]
 pub(crate) fn put_optional_u32(out: &mut [u8], at: usize, n: Option<u32>) -> usize
     requires { at + length (optional 4 n) ≤ length out.old }
@@ -84,7 +84,7 @@ pub(crate) fn put_optional_u32(out: &mut [u8], at: usize, n: Option<u32>) -> usi
     }
 }
 
-/// Puts a number of eight bytes at offset `at`, if there is one, and returns the offset after it.
+/// Writes `n`, if it is present, to `out` at offset `at` in eight bytes, and returns the offset after it.
 #[tactic(auto, using(crate::specs::FlaggedLaws::length_some), unfolding(crate::specs::Flagged::optional))]
 pub(crate) fn put_optional_u64(out: &mut [u8], at: usize, n: Option<u64>) -> usize
     requires { at + length (optional 8 n) ≤ length out.old }

@@ -1,4 +1,5 @@
-//! The laws of equality of tables and their entries, and the numbers of flags. No function here calls another.
+//! The laws of equality of tables and their entries, and the numbers of flags. You can call each of these functions to
+//! use its law in a proof. It does nothing when it runs.
 
 ghost use Rattle.std.specs.Prelude.{◌≡◌};
 ghost use Rattle.mp4_frame.specs.Equality.{IsEquality};
@@ -10,7 +11,7 @@ use crate::{
     SttsBox, SttsEntry, TfhdBox, TrunBox,
 };
 
-/// `==` of two entries compares all of their fields.
+/// States that `==` compares all fields, for each type of entries.
 pub fn equality_of_entries_is_of_all_fields()
     ensures stts { IsEquality ⟦<SttsEntry as PartialEq>⟧.eq }
     ensures ctts { IsEquality ⟦<CttsEntry as PartialEq>⟧.eq }
@@ -18,7 +19,7 @@ pub fn equality_of_entries_is_of_all_fields()
     ensures elst { IsEquality ⟦<ElstEntry as PartialEq>⟧.eq }
 {}
 
-/// `==` of two boxes compares all of their fields.
+/// States that `==` compares all fields, for each type of boxes.
 pub fn equality_is_of_all_fields()
     ensures stco { IsEquality ⟦<StcoBox as PartialEq>⟧.eq }
     ensures co64 { IsEquality ⟦<Co64Box as PartialEq>⟧.eq }
@@ -32,7 +33,7 @@ pub fn equality_is_of_all_fields()
     ensures trun { IsEquality ⟦<TrunBox as PartialEq>⟧.eq }
 {}
 
-/// The flags of the optional fields of a `tfhd` (ISO/IEC 14496-12, 8.8.7).
+/// States the flags of the optional fields of a `tfhd` (ISO/IEC 14496-12, 8.8.7).
 pub fn flags_of_tfhd()
     ensures base_data_offset { tfhd.FLAG_BASE_DATA_OFFSET ≡ 0x01 }
     ensures sample_description_index { tfhd.FLAG_SAMPLE_DESCRIPTION_INDEX ≡ 0x02 }
@@ -41,7 +42,7 @@ pub fn flags_of_tfhd()
     ensures default_sample_flags { tfhd.FLAG_DEFAULT_SAMPLE_FLAGS ≡ 0x20 }
 {}
 
-/// The flags of the optional fields and of the lists of a `trun` (ISO/IEC 14496-12, 8.8.8).
+/// States the flags of the optional fields and of the lists of a `trun` (ISO/IEC 14496-12, 8.8.8).
 pub fn flags_of_trun()
     ensures data_offset { trun.FLAG_DATA_OFFSET ≡ 0x01 }
     ensures first_sample_flags { trun.FLAG_FIRST_SAMPLE_FLAGS ≡ 0x04 }

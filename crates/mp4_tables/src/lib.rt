@@ -1,5 +1,5 @@
-//! The boxes with a counted table of entries, and the boxes `tfhd` and `trun`, whose flags say which of their fields
-//! and lists are present.
+//! For callers that read and write the tables of samples and edits: the boxes with a counted table of entries, and
+//! `tfhd` and `trun`, whose flags say which of their fields and lists are present.
 #![tactic(auto)]
 
 mod co64;

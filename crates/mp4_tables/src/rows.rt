@@ -1,4 +1,4 @@
-//! Reading rows, and the entries in them.
+//! Rows of bytes, and the entries in them.
 
 ghost use Rattle.std.specs.Prelude.{◌≡◌, ℕ, ◌≤◌, ◌<◌, ◌+◌, ◌++◌, IfOk, IfErr, List, length, map, vec_capacity, vec_len};
 ghost use Rattle.mp4_frame.specs.Bytes.{number};
@@ -8,9 +8,10 @@ ghost use Rattle.mp4_tables.specs.Rows.{rows_within};
 use mp4_frame::{ByteCursor, Error, Result, check, u32_at, u64_at};
 use std::alloc::Global;
 
-/// Returns the `count` rows of `E` bytes each that start at offset `at`. Invalid data with the text `too_many` if a box
-/// of `size` bytes has no room for them; end of input unless all of them are present.
-#[tactic(auto, using(crate::proofs::Room::same_room), unfolding(crate::specs::Rows::rows_within))]
+/// Returns the `count` rows of `E` bytes each that start at offset `at` of `bytes`. Fails with invalid data and the
+/// text `too_many` if a box of `size` bytes has no room for them. Fails with end of input unless `bytes` has all of
+/// them.
+#[tactic(auto, using(mp4_lemmas::proofs::Numbers::same_room), unfolding(crate::specs::Rows::rows_within))]
 pub fn read_rows<'a, const E: usize>(
     bytes: &'a [u8],
     size: u64,
@@ -27,7 +28,7 @@ pub fn read_rows<'a, const E: usize>(
     cursor.take_rows::<E>(count)
 }
 
-/// Appends the number of four bytes at offset `at` of each row. The vector has room for them.
+/// Appends the 4-byte number at offset `at` of each row to `numbers`. The vector must have room for them.
 pub(crate) fn append_numbers<const E: usize>(numbers: &mut Vec<u32>, rows: &[[u8; E]], at: usize)
     requires within { at + 4 ≤ E }
     requires room { vec_len numbers.old + length rows.now ≤ vec_capacity numbers.old }
@@ -39,12 +40,12 @@ pub(crate) fn append_numbers<const E: usize>(numbers: &mut Vec<u32>, rows: &[[u8
     }
 }
 
-/// An entry that is read from a row of `E` bytes.
+/// A type of entries, each of which is read from a row of `E` bytes.
 pub(crate) trait RowEntry<const E: usize>: Drop {
     /// The entry whose row has these bytes.
     ghost entry_of: { List ℕ → Self };
 
-    /// The entry that this row holds.
+    /// Returns the entry in `row`.
     fn from_row(row: &[u8; E]) -> Self
         ensures { result ≡ entry_of row.now };
 }
@@ -65,8 +66,8 @@ impl RowEntry<8> for u64 {
     }
 }
 
-/// The entry in each row. The memory for all of them is asked for first, so that the loop has no step that may fail.
-/// In a function of its own the loop keeps its constants in registers. The only error is out of memory.
+/// Returns the entry in each of `rows`. It asks for all memory before the loop, so that no step of the loop can fail.
+/// It is not inlined, so that the loop keeps its constants in registers. The only error is out of memory.
 #[inline(never)]
 pub(crate) fn entries_of<T: RowEntry<E>, const E: usize>(
     alloc: Global,

@@ -18,16 +18,16 @@ use std::alloc::Global;
 /// The offsets of the chunks of a track, in 32 bits each (`stco`, ISO/IEC 14496-12, 8.7.5).
 #[derive(Debug, Drop, PartialEq, Eq)]
 pub struct StcoBox {
-    /// 0 in the standard. Every version is read and written alike.
+    /// The version, 0 in the standard. Every version is read and written in the same way.
     pub version: u8,
-    /// 24 bits, 0 in the standard.
+    /// Flags of 24 bits, 0 in the standard.
     pub flags: u32,
-    /// The offset of each chunk, in bytes from the front of the file.
+    /// The offset of each chunk, in bytes from the start of the file.
     pub entries: Entries<u32>,
 }
 
 impl StcoBox {
-    /// Version 0, flags 0 and no chunks. It takes no memory.
+    /// Returns a box of version 0 and flags 0 without chunks. It takes no memory from `alloc`.
     pub fn default_in(alloc: Global) -> StcoBox
         ensures { result ≡ record { version = 0; flags = 0; entries = [] } }
     {
@@ -38,9 +38,9 @@ impl StcoBox {
         }
     }
 
-    /// The same offsets in a box of version 0 and flags 0. Invalid data if an offset is above 2^32 - 1, which is
-    /// checked before memory is asked for; else out of memory is the only error.
-    #[tactic(auto, using(crate::proofs::Offsets::lowest_bits))]
+    /// Returns the offsets of `co64` in a box of version 0 and flags 0. Fails with invalid data if an offset is above
+    /// 2^32 - 1, before it asks for memory. The only other error is out of memory.
+    #[tactic(auto, using(mp4_lemmas::proofs::Lists::lowest_bits))]
     pub fn try_from_co64(alloc: Global, co64: &Co64Box) -> Result<StcoBox>
         ensures value { IfOk result (λ stco. stco ≡ made_stco 0 0 co64.now.entries) }
         ensures fits { OnOk result (All (λ offset. offset < 2 ^ 32) co64.now.entries) }
@@ -57,14 +57,14 @@ impl StcoBox {
         })
     }
 
-    /// The same as `box_type`.
+    /// Returns the type of the box, like `box_type`.
     pub fn get_type(&self) -> BoxType
         ensures { result ≡ names.StcoBox }
     {
         self.box_type()
     }
 
-    /// The same as `box_size`.
+    /// Returns the size of the box in bytes, like `box_size`.
     pub fn get_size(&self) -> u64
         ensures { result ≡ min (size_stco self.now) (2 ^ 64 - 1) }
     {
@@ -82,6 +82,7 @@ impl TryClone for StcoBox {
     }
 }
 
+/// Returns whether all of `offsets` fit 32 bits.
 fn are_short(offsets: &[u64]) -> bool
     ensures { IsTrue result ↔ All (λ offset. offset < 2 ^ 32) offsets.now }
 {
@@ -92,6 +93,7 @@ fn are_short(offsets: &[u64]) -> bool
     )
 }
 
+/// Returns the lowest 32 bits of each of `offsets`. The only error is out of memory.
 fn lowest_bits_of(alloc: Global, offsets: &[u64]) -> Result<Vec<u32>>
     ensures value { IfOk result (λ lowest. lowest.items ≡ map (λ offset. offset % 2 ^ 32) offsets.now) }
     ensures memory { IfErr result (λ e. e ≡ Error.OutOfMemory) }

@@ -16,22 +16,21 @@ use mp4_frame::{
 };
 use std::alloc::Global;
 
-/// The chunks that hold the samples of a track (`stsc`, ISO/IEC 14496-12, 8.7.4). A box is invalid data, in reading
-/// and in writing, if an entry has a first chunk below that of the entry before it, or a first sample above
-/// 2^32 - 1.
+/// The number of samples in each chunk of a track (`stsc`, ISO/IEC 14496-12, 8.7.4). A box is invalid data, in reading
+/// and in writing, if an entry has a first chunk below that of the entry before it, or a first sample above 2^32 - 1.
 #[derive(Debug, Drop, PartialEq, Eq)]
 pub struct StscBox {
-    /// 0 in the standard. Every version is read and written alike.
+    /// The version, 0 in the standard. Every version is read and written in the same way.
     pub version: u8,
-    /// 24 bits, 0 in the standard.
+    /// Flags of 24 bits, 0 in the standard.
     pub flags: u32,
-    /// Runs of chunks with equally many samples. The first sample of each run is computed when a box is read, and
-    /// ignored when it is written.
+    /// Runs of chunks with the same number of samples each. The first sample of each run is computed when a box is
+    /// read, and ignored when it is written.
     pub entries: Entries<StscEntry>,
 }
 
 impl StscBox {
-    /// Version 0, flags 0 and no entries. It takes no memory.
+    /// Returns a box of version 0 and flags 0 without entries. It takes no memory from `alloc`.
     pub fn default_in(alloc: Global) -> StscBox
         ensures { result ≡ record { version = 0; flags = 0; entries = [] } }
     {
@@ -42,14 +41,14 @@ impl StscBox {
         }
     }
 
-    /// The same as `box_type`.
+    /// Returns the type of the box, like `box_type`.
     pub fn get_type(&self) -> BoxType
         ensures { result ≡ names.StscBox }
     {
         self.box_type()
     }
 
-    /// The same as `box_size`.
+    /// Returns the size of the box in bytes, like `box_size`.
     pub fn get_size(&self) -> u64
         ensures { result ≡ min (size_stsc self.now) (2 ^ 64 - 1) }
     {
@@ -79,9 +78,9 @@ impl Mp4Box for StscBox {
     }
 }
 
-/// The number of the first sample of a run that begins at chunk `first`. The run before it begins at the chunk
-/// `chunk` with the sample `sample`, and has `samples` samples in each chunk. `None` if `first` is below `chunk`, or
-/// if the number is above 2^32 - 1.
+/// Returns the number of the first sample of a run that begins at chunk `first`. The run before it begins at chunk
+/// `chunk` with sample `sample`, and has `samples` samples in each chunk. Returns `None` if `first` is below `chunk`,
+/// or if the number is above 2^32 - 1.
 fn next_sample(sample: u32, chunk: u32, samples: u32, first: u32) -> Option<u32>
     ensures { result ≡ next_sample sample chunk samples first }
 {
@@ -93,9 +92,9 @@ fn next_sample(sample: u32, chunk: u32, samples: u32, first: u32) -> Option<u32>
     Some(next as u32)
 }
 
-/// The entry in each row, with its first sample. The memory for all of them is asked for first, so that the loop has no
-/// step that may run out of it. Invalid data if a first chunk is below the one before it, or if a first sample is above
-/// 2^32 - 1. It is not inlined, as `entries_of` isn't.
+/// Returns the entry in each of `rows`, with its first sample. Fails with invalid data if a first chunk is below the
+/// one before it, or if a first sample is above 2^32 - 1. It asks for all memory before the loop, so that no step of
+/// the loop can run out of memory. It is not inlined, so that the loop keeps its constants in registers.
 #[inline(never)]
 fn numbered_entries(alloc: Global, rows: &[[u8; 12]]) -> Result<Vec<StscEntry>>
     ensures { AnswersAs (λ entries. entries.items) result (numbered_entries rows.now) }
@@ -121,8 +120,8 @@ fn numbered_entries(alloc: Global, rows: &[[u8; 12]]) -> Result<Vec<StscEntry>>
     Ok(entries)
 }
 
-/// Whether the first samples can be computed: no first chunk is below the one before it, and no first sample is
-/// above 2^32 - 1.
+/// Returns whether the first samples of `entries` can be computed: no first chunk is below the one before it, and no
+/// first sample is above 2^32 - 1.
 fn samples_fit(entries: &[StscEntry]) -> bool
     ensures { result ≡ chunks_fit entries.now }
 {

@@ -6,7 +6,7 @@ ghost use Rattle.mp4_tables.specs.StscEntry.{entry_stsc, row_stsc, FitsStscEntry
 use crate::rows::RowEntry;
 use mp4_frame::{TableEntry, put_u32, u32_at};
 
-/// A run of consecutive chunks with equally many samples (ISO/IEC 14496-12, 8.7.4).
+/// A run of consecutive chunks with the same number of samples each (ISO/IEC 14496-12, 8.7.4).
 #[derive(Clone, Copy, Debug, Default, PartialEq, Eq)]
 pub struct StscEntry {
     /// The number of the run's first chunk, counted from 1 in the standard. The run ends before the first chunk of
@@ -20,7 +20,7 @@ pub struct StscEntry {
     pub first_sample: u32,
 }
 
-/// Always true. For the prover: a value that was read has the range of its type.
+/// Returns true, always. For the prover: each number of `entry` has the range of its type.
 fn has_fitting_numbers(entry: StscEntry) -> bool
     ensures { IsTrue result ↔ FitsStscEntry entry }
 {

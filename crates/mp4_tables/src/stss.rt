@@ -13,20 +13,20 @@ use mp4_frame::{
 };
 use std::alloc::Global;
 
-/// Which samples of a track are sync samples (`stss`, ISO/IEC 14496-12, 8.6.2).
+/// The sync samples of a track (`stss`, ISO/IEC 14496-12, 8.6.2).
 #[derive(Debug, Drop, PartialEq, Eq)]
 pub struct StssBox {
-    /// 0 in the standard. Every version is read and written alike.
+    /// The version, 0 in the standard. Every version is read and written in the same way.
     pub version: u8,
-    /// 24 bits, 0 in the standard.
+    /// Flags of 24 bits, 0 in the standard.
     pub flags: u32,
-    /// The number of each sync sample, counted from 1. In the standard the numbers increase; here every order is
-    /// read and written.
+    /// The number of each sync sample, counted from 1. The standard has them in increasing order. Every order is read
+    /// and written.
     pub entries: Entries<u32>,
 }
 
 impl StssBox {
-    /// Version 0, flags 0 and no samples. It takes no memory.
+    /// Returns a box of version 0 and flags 0 without samples. It takes no memory from `alloc`.
     pub fn default_in(alloc: Global) -> StssBox
         ensures { result ≡ record { version = 0; flags = 0; entries = [] } }
     {
@@ -37,14 +37,14 @@ impl StssBox {
         }
     }
 
-    /// The same as `box_type`.
+    /// Returns the type of the box, like `box_type`.
     pub fn get_type(&self) -> BoxType
         ensures { result ≡ names.StssBox }
     {
         self.box_type()
     }
 
-    /// The same as `box_size`.
+    /// Returns the size of the box in bytes, like `box_size`.
     pub fn get_size(&self) -> u64
         ensures { result ≡ min (size_stss self.now) (2 ^ 64 - 1) }
     {

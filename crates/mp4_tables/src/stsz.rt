@@ -14,15 +14,15 @@ use mp4_frame::{
 };
 use std::alloc::Global;
 
-/// The sizes of the samples of a track (`stsz`, ISO/IEC 14496-12, 8.7.3.2). If `sample_size` is 0, it can be written
-/// only with `sample_count` entries in `sample_sizes`, else only with none.
+/// The sizes of the samples of a track (`stsz`, ISO/IEC 14496-12, 8.7.3.2). If `sample_size` is 0, the box can be
+/// written only with `sample_count` entries in `sample_sizes`, else only with none.
 #[derive(Debug, Drop, PartialEq, Eq)]
 pub struct StszBox {
-    /// 0 in the standard. Every version is read and written alike.
+    /// The version, 0 in the standard. Every version is read and written in the same way.
     pub version: u8,
-    /// 24 bits, 0 in the standard.
+    /// Flags of 24 bits, 0 in the standard.
     pub flags: u32,
-    /// The size of every sample, in bytes; 0 if each sample has a size of its own.
+    /// The size of every sample, in bytes, or 0 if the sizes are in `sample_sizes`.
     pub sample_size: u32,
     /// The number of samples of the track.
     pub sample_count: u32,
@@ -31,7 +31,7 @@ pub struct StszBox {
 }
 
 impl StszBox {
-    /// Version 0, flags 0, sample size 0 and no samples. It takes no memory.
+    /// Returns a box of version 0 and flags 0 with sample size 0 and without samples. It takes no memory from `alloc`.
     pub fn default_in(alloc: Global) -> StszBox
         ensures { result ≡ record { version = 0; flags = 0; sample_size = 0; sample_count = 0; sample_sizes = [] } }
     {
@@ -44,14 +44,14 @@ impl StszBox {
         }
     }
 
-    /// The same as `box_type`.
+    /// Returns the type of the box, like `box_type`.
     pub fn get_type(&self) -> BoxType
         ensures { result ≡ names.StszBox }
     {
         self.box_type()
     }
 
-    /// The same as `box_size`.
+    /// Returns the size of the box in bytes, like `box_size`.
     pub fn get_size(&self) -> u64
         ensures { result ≡ min (size_stsz self.now) (2 ^ 64 - 1) }
     {
@@ -71,7 +71,7 @@ impl TryClone for StszBox {
     }
 }
 
-/// The number of sizes that the list has to have: `sample_count` if `sample_size` is 0, else 0.
+/// Returns the number of sizes that the list must have: `sample_count` if `sample_size` is 0, else 0.
 fn listed_count(sample_size: u32, sample_count: u32) -> usize
     ensures { result ≡ count_of_sizes sample_size sample_count }
 {
@@ -96,6 +96,7 @@ impl Mp4Box for StszBox {
     }
 }
 
+/// Reads the `count` sizes of a box of `size` bytes. It asks for memory once all of them are present.
 #[tactic(auto, unfolding(crate::specs::Stsz::reads_sizes))]
 fn read_sizes(alloc: Global, bytes: &[u8], size: u64, count: u32) -> Result<Vec<u32>>
     ensures { AnswersAs (λ sizes. sizes.items) result (reads_sizes bytes.now size count) }

@@ -11,11 +11,11 @@ use mp4_frame::{TableEntry, put_u32, u32_at};
 pub struct SttsEntry {
     /// The number of samples in the run.
     pub sample_count: u32,
-    /// The duration of each of them, in the timescale of the media.
+    /// The duration of each of these samples, in the timescale of the media.
     pub sample_delta: u32,
 }
 
-/// Always true. For the prover: a value that was read has the range of its type.
+/// Returns true, always. For the prover: each number of `entry` has the range of its type.
 fn has_fitting_numbers(entry: SttsEntry) -> bool
     ensures { IsTrue result ↔ FitsSttsEntry entry }
 {

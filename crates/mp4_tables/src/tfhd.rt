@@ -17,16 +17,16 @@ use mp4_frame::{
 use std::alloc::Global;
 
 /// The track fragment header: the track of a fragment, and the defaults for its samples (`tfhd`, ISO/IEC 14496-12,
-/// 8.8.7). It can be written only if each optional field is present exactly if its flag is set.
+/// 8.8.7). It can be written only if the optional fields that are present are those whose flags are set.
 #[derive(Clone, Debug, Default, Drop, PartialEq, Eq)]
 pub struct TfhdBox {
-    /// 0 in the standard. Every version is read and written alike.
+    /// The version, 0 in the standard. Every version is read and written in the same way.
     pub version: u8,
-    /// 24 bits. They say which of the optional fields are present.
+    /// Flags of 24 bits, which say which of the optional fields are present.
     pub flags: u32,
     /// The number of the track. It is not 0 in the standard.
     pub track_id: u32,
-    /// The offset in the file that data offsets are counted from, in bytes.
+    /// The offset in the file, in bytes, to which the data offsets of the fragment are added.
     pub base_data_offset: Option<u64>,
     /// The index of the sample entry that the samples use, counted from 1.
     pub sample_description_index: Option<u32>,
@@ -34,7 +34,7 @@ pub struct TfhdBox {
     pub default_sample_duration: Option<u32>,
     /// The size of a sample, in bytes.
     pub default_sample_size: Option<u32>,
-    /// The flags of a sample: what it depends on, and whether it is a sync sample (8.8.3).
+    /// The flags of a sample: its dependencies, and whether it is a sync sample (8.8.3).
     pub default_sample_flags: Option<u32>,
 }
 
@@ -50,14 +50,14 @@ impl TfhdBox {
     /// The flag of `default_sample_flags`.
     pub const FLAG_DEFAULT_SAMPLE_FLAGS: u32 = 0x20;
 
-    /// The same as `box_type`.
+    /// Returns the type of the box, like `box_type`.
     pub fn get_type(&self) -> BoxType
         ensures { result ≡ names.TfhdBox }
     {
         self.box_type()
     }
 
-    /// The same as `box_size`.
+    /// Returns the size of the box in bytes, like `box_size`.
     pub fn get_size(&self) -> u64
         ensures { result ≡ min (size_tfhd self.now) (2 ^ 64 - 1) }
     {
@@ -65,10 +65,10 @@ impl TfhdBox {
     }
 }
 
-/// The offset after the optional fields.
+/// Returns the offset after the optional fields.
 fn end_at(flags: u32) -> usize
     ensures offset { result ≡ end_at flags }
-    ensures most { result ≤ 40 }
+    ensures bounded { result ≤ 40 }
 {
     let index_at = 16 + width_if(is_set(flags, TfhdBox::FLAG_BASE_DATA_OFFSET), 8);
     let duration_at = index_at + width_if(is_set(flags, TfhdBox::FLAG_SAMPLE_DESCRIPTION_INDEX), 4);
@@ -77,7 +77,7 @@ fn end_at(flags: u32) -> usize
     flags_at + width_if(is_set(flags, TfhdBox::FLAG_DEFAULT_SAMPLE_FLAGS), 4)
 }
 
-/// Whether each optional field is present exactly if its flag is set.
+/// Returns whether the optional fields present in `tfhd` are those whose flags are set.
 fn has_flagged_fields(tfhd: &TfhdBox) -> bool
     ensures { IsTrue result ↔ FlaggedTfhd tfhd.now }
 {

@@ -21,14 +21,14 @@ use mp4_frame::{
 };
 use std::alloc::Global;
 
-/// A run of samples of a track fragment (`trun`, ISO/IEC 14496-12, 8.8.8). It can be written only if its flags say
-/// what it has: each optional field is present exactly if its flag is set, and each list has `sample_count` entries
-/// if its flag is set, else none.
+/// A run of samples of a track fragment (`trun`, ISO/IEC 14496-12, 8.8.8). It can be written only if its flags say what
+/// it has: the optional fields whose flags are set, `sample_count` entries in each list whose flag is set, and none in
+/// the other lists.
 #[derive(Debug, Drop, PartialEq, Eq)]
 pub struct TrunBox {
-    /// 0 or 1 in the standard. Every version is read and written alike.
+    /// The version, 0 or 1 in the standard. Every version is read and written in the same way.
     pub version: u8,
-    /// 24 bits. They say which of the optional fields and of the lists are present.
+    /// Flags of 24 bits, which say which of the optional fields and of the lists are present.
     pub flags: u32,
     /// The number of samples in the run.
     pub sample_count: u32,
@@ -40,7 +40,7 @@ pub struct TrunBox {
     pub sample_durations: Entries<u32>,
     /// The size of each sample, in bytes.
     pub sample_sizes: Entries<u32>,
-    /// The flags of each sample: what it depends on, and whether it is a sync sample (8.8.3).
+    /// The flags of each sample: its dependencies, and whether it is a sync sample (8.8.3).
     pub sample_flags: Entries<u32>,
     /// The composition time of each sample minus its decoding time, in the timescale of the media. The numbers are
     /// unsigned: a negative offset of version 1 is read as its two's complement, which is 2^31 or above.
@@ -61,7 +61,7 @@ impl TrunBox {
     /// The flag of `sample_cts`.
     pub const FLAG_SAMPLE_CTS: u32 = 0x800;
 
-    /// Version 0, flags 0 and no samples. It takes no memory.
+    /// Returns a box of version 0 and flags 0 without samples. It takes no memory from `alloc`.
     pub fn default_in(alloc: Global) -> TrunBox
         ensures { result ≡ record {
           version = 0;
@@ -89,14 +89,14 @@ impl TrunBox {
         }
     }
 
-    /// The same as `box_type`.
+    /// Returns the type of the box, like `box_type`.
     pub fn get_type(&self) -> BoxType
         ensures { result ≡ names.TrunBox }
     {
         self.box_type()
     }
 
-    /// The same as `box_size`.
+    /// Returns the size of the box in bytes, like `box_size`.
     pub fn get_size(&self) -> u64
         ensures { result ≡ min (size_trun self.now) (2 ^ 64 - 1) }
     {
@@ -120,10 +120,10 @@ impl TryClone for TrunBox {
     }
 }
 
-/// The offset of the first row.
+/// Returns the offset of the first row.
 fn rows_at(flags: u32) -> usize
     ensures offset { result ≡ rows_at flags }
-    ensures most { result ≤ 24 }
+    ensures bounded { result ≤ 24 }
 {
     16 + width_if(is_set(flags, TrunBox::FLAG_DATA_OFFSET), 4)
         + width_if(is_set(flags, TrunBox::FLAG_FIRST_SAMPLE_FLAGS), 4)
@@ -172,7 +172,7 @@ impl ReadBox for TrunBox {
     }
 }
 
-/// The signed number with the same bits.
+/// Returns the signed number with the same bits as `n`, if there is a number.
 fn signed_bits(n: Option<u32>) -> Option<i32>
     ensures { result ≡ signed_bits n }
 {
@@ -182,7 +182,7 @@ fn signed_bits(n: Option<u32>) -> Option<i32>
     }
 }
 
-/// The unsigned number with the same bits.
+/// Returns the unsigned number with the same bits as `n`, if there is a number.
 fn unsigned_bits(n: Option<i32>) -> Option<u32>
     ensures { result ≡ unsigned_bits n }
 {
@@ -192,7 +192,7 @@ fn unsigned_bits(n: Option<i32>) -> Option<u32>
     }
 }
 
-/// Always true. For the prover: a value that was read has the range of its type.
+/// Returns true, always. For the prover: `n` has the range of its type.
 fn fits_optional(n: Option<i32>) -> bool
     ensures { IsTrue result ↔ FitsOptional n }
 {
@@ -203,7 +203,7 @@ fn fits_optional(n: Option<i32>) -> bool
     }
 }
 
-/// Whether each list has `sample_count` entries if its flag is set, else none.
+/// Returns whether each list of `trun` has `sample_count` entries if its flag is set, and none otherwise.
 fn has_flagged_lists(trun: &TrunBox) -> bool
     ensures { IsTrue result ↔ ListedTrun trun.now }
 {
@@ -215,7 +215,7 @@ fn has_flagged_lists(trun: &TrunBox) -> bool
         && is_listed(has.cts, count, trun.sample_cts.as_slice())
 }
 
-/// Whether each optional field is present exactly if its flag is set.
+/// Returns whether each optional field is present if and only if its flag is set.
 fn has_flagged_fields(flags: u32, data_offset: Option<i32>, first_sample_flags: Option<u32>) -> bool
     ensures { IsTrue result ↔ FlaggedTrun flags data_offset first_sample_flags }
 {

@@ -1,4 +1,4 @@
--- The boxes of this crate: what each reads, its format, and its laws.
+-- The boxes of this crate: the reading, the format and the laws of each.
 pub use Rattle.mp4_text.specs.Ftyp.{reads_ftyp, format_ftyp}
 pub use Rattle.mp4_text.specs.Hdlr.{reads_hdlr, format_hdlr}
 pub use Rattle.mp4_text.specs.Data.{reads_data, format_data}

@@ -10,7 +10,7 @@ use Rattle.mp4_frame.specs.declared.box_type.BoxType.TheVariants as names
 use Rattle.mp4_frame.specs.declared.codes.TheConstants as codes
 use Rattle.mp4_text.specs.declared.data.DataBox.{DataBox}
 
--- the data type, which is checked to be one of the table
+-- the data type, or invalid data if the number has none
 abbrev pub known_type : Option DataType → Reading DataType
 known_type (Some data_type) = done data_type
 known_type None = faults Invalid

@@ -51,5 +51,5 @@ laws_data = record {
       ) refl in
       ap (λ (l : List ℕ). (reads_data l start (size_data v)).outcome)
       (append_assoc (bytes_of_fields cs) v.data_bytes rest) ∙ whole;
-  sound = λ bytes start long v are e. (refl, λ small. (small, (lit< tt, (small_number v.data_type, (lit< tt, tt)))));
+  stable = λ bytes start long v are e. (refl, λ small. (small, (lit< tt, (small_number v.data_type, (lit< tt, tt)))));
 }

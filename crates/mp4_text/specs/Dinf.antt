@@ -1,8 +1,8 @@
--- dinf, the data information box (ISO/IEC 14496-12, 8.7.1): boxes from 8 on, of which the last dref is kept.
+-- dinf, the data information box (ISO/IEC 14496-12, 8.7.1). The boxes in it start at 8, and the last dref is kept.
 use Rattle.std.specs.Prelude.{ℕ, ◌+◌, List, [], ◌∷◌, ◌++◌}
 use Rattle.mp4_frame.specs.Bytes.{bytes_of_fields}
 use Rattle.mp4_frame.specs.Children.{children}
-use Rattle.mp4_frame.specs.Parent.{WritableParent, required}
+use Rattle.mp4_frame.specs.FieldsThenChild.{WritableParent, required}
 use Rattle.mp4_frame.specs.Reading.{Reading, ◌>>=◌, done}
 use Rattle.mp4_text.specs.Dref.{reads_dref, format_dref}
 use Rattle.mp4_text.specs.declared.dinf.DinfBox.{DinfBox}
@@ -11,8 +11,8 @@ use Rattle.mp4_frame.specs.Format.{Format}
 use Rattle.mp4_frame.specs.declared.box_type.BoxType.TheVariants as names
 use Rattle.mp4_frame.specs.declared.codes.TheConstants as codes
 
--- the dref among the boxes, which is expected. Each box begins before the end and has at least 8 bytes, so that the
--- size bounds their number
+-- the last dref among the boxes, which must be present. Each box begins before the end and has at least 8 bytes, so
+-- that the size bounds their number
 abbrev pub dref_among : List ℕ → ℕ → ℕ → Reading DrefBox
 dref_among bytes start size = do
   found ← children reads_dref codes.DREF bytes start size size 8

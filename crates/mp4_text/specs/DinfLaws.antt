@@ -3,14 +3,15 @@ use Rattle.std.proofs.Common.{◌≡◌, ℕ, ◌+◌, ◌<◌, List, [], ◌∷
 use Rattle.mp4_frame.specs.Format.{IsBox}
 use Rattle.mp4_frame.specs.Bytes.{bytes_of_fields}
 use Rattle.mp4_frame.specs.Children.{children}
-use Rattle.mp4_frame.specs.Parent.{required}
+use Rattle.mp4_frame.specs.FieldsThenChild.{required}
 use Rattle.mp4_frame.specs.declared.box_type.BoxType.TheVariants as names
 use Rattle.mp4_frame.specs.declared.codes.TheConstants as codes
 use Rattle.mp4_frame.proofs.ChildLaws as child
 use Rattle.mp4_frame.proofs.Decided.{outcome_bind}
 use Rattle.mp4_frame.proofs.Fields.{length-fields}
 use Rattle.mp4_frame.proofs.Framing.{header_in_front}
-use Rattle.mp4_frame.proofs.ParentLaws.{one_part, required_sound, parent_normal_form, parent_back, parent_sound}
+use Rattle.mp4_frame.proofs.FieldsThenChildLaws.{one_part, required_stable, parent_normal_form, parent_back}
+use Rattle.mp4_frame.proofs.FieldsThenChildLaws.{parent_stable}
 use Rattle.mp4_text.specs.Dref.{reads_dref, format_dref}
 use Rattle.mp4_text.specs.DrefLaws.{laws_dref}
 use Rattle.mp4_text.specs.Dinf.{dref_among, reads_dinf, size_dinf, fields_dinf, bytes_dinf, format_dinf}
@@ -44,9 +45,9 @@ laws_dinf = record {
       (required names.DrefBox) (Some (format_dref.normal v.dref)) _ there refl in
       parent_back (one_part laws_dref) fields_dinf of_dinf with_child 8 0 dref_among value v rest start (size_dinf v)
       w.fit (lit≤ tt) back refl;
-  sound = λ bytes start long v are e.
-      parent_sound (one_part laws_dref) fields_dinf of_dinf with_child 8 0 dref_among value (λ n c. refl)
+  stable = λ bytes start long v are e.
+      parent_stable (one_part laws_dref) fields_dinf of_dinf with_child 8 0 dref_among value (λ n c. refl)
       (λ n c d. refl) size_dinf (λ p. omega arith) bytes start long v e
-      (λ c read. required_sound laws_dref codes.DREF names.DrefBox bytes start long long 8 are c read)
+      (λ c read. required_stable laws_dref codes.DREF names.DrefBox bytes start long long 8 are c read)
       (λ c small. (small, (lit< tt, tt)));
 }

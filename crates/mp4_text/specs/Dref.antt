@@ -1,10 +1,10 @@
 -- dref, the data references (ISO/IEC 14496-12, 8.7.2). The fields are version 1 byte at 8, flags 3 at 9, and a count
--- of 4 at 12. From 16 on there are at most that many boxes, of which the last url is the entry. Written are the
--- count 1 and the entry, or the count 0.
+-- of 4 at 12. The boxes start at 16. At most `count` boxes are read, and the last url among them is the entry. The
+-- count 1 and the entry are written, or the count 0 if there is no entry.
 use Rattle.std.specs.Prelude.{ℕ, ◌+◌, List, [], ◌∷◌, ◌++◌, Option}
 use Rattle.mp4_frame.specs.Bytes.{number, bytes_of_fields, full_box}
 use Rattle.mp4_frame.specs.Children.{children}
-use Rattle.mp4_frame.specs.Parent.{WritableParent}
+use Rattle.mp4_frame.specs.FieldsThenChild.{WritableParent}
 use Rattle.mp4_frame.specs.Reading.{Reading, ◌>>=◌, expect_bytes, done}
 use Rattle.mp4_frame.specs.OptionalChild.{count_optional, size_optional, WritableOptional, bytes_optional}
 use Rattle.mp4_frame.specs.OptionalChild.{normal_optional}
@@ -15,7 +15,7 @@ use Rattle.mp4_frame.specs.declared.box_type.BoxType.TheVariants as names
 use Rattle.mp4_frame.specs.declared.codes.TheConstants as codes
 use Rattle.mp4_text.specs.declared.url.UrlBox.{UrlBox}
 
--- the value, where `at o w` is the number of w bytes at offset o, and its entry
+-- the value with this entry, where `at o w` is the number of w bytes at offset o
 abbrev pub value_dref : (ℕ → ℕ → ℕ) → Option UrlBox → DrefBox
 value_dref at url = record { version = at 8 1; flags = at 9 3; url = url }
 

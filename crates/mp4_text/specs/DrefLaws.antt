@@ -6,13 +6,13 @@ use Rattle.mp4_frame.specs.Bytes.{number, bytes_of_fields}
 use Rattle.mp4_frame.specs.Children.{children}
 use Rattle.mp4_frame.specs.OptionalChild.{count_optional, size_optional, WritableOptional, bytes_optional}
 use Rattle.mp4_frame.specs.OptionalChild.{normal_optional}
-use Rattle.mp4_frame.specs.Parent.{WritableParent}
+use Rattle.mp4_frame.specs.FieldsThenChild.{WritableParent}
 use Rattle.mp4_frame.specs.Reading.{Reading}
 use Rattle.mp4_frame.specs.declared.codes.TheConstants as codes
 use Rattle.mp4_frame.proofs.ChildLaws as child
 use Rattle.mp4_frame.proofs.Fields.{found, numbers-fields, length-fields}
 use Rattle.mp4_frame.proofs.Framing.{header_in_front, fits_read, Number, Fitting}
-use Rattle.mp4_frame.proofs.ParentLaws.{optional_part, parent_normal_form, parent_back, parent_sound}
+use Rattle.mp4_frame.proofs.FieldsThenChildLaws.{optional_part, parent_normal_form, parent_back, parent_stable}
 use Rattle.mp4_text.specs.Url.{reads_url, format_url}
 use Rattle.mp4_text.specs.UrlLaws.{laws_url}
 use Rattle.mp4_text.specs.Dref.{value_dref, reads_dref, size_dref, fields_dref, WritableDref, bytes_dref, normal_dref}
@@ -63,10 +63,10 @@ laws_dref = record {
       ap (λ (n : ℕ). (chain n).outcome) count ∙ back in
       parent_back (optional_part laws_url) fields_dref of_dref with_child 8 8 inner value_dref v rest start
       (size_dref v) w.fit (lit≤ tt) there refl;
-  sound = λ bytes start long v are e.
-      parent_sound (optional_part laws_url) fields_dref of_dref with_child 8 8 inner value_dref (λ n c. refl)
+  stable = λ bytes start long v are e.
+      parent_stable (optional_part laws_url) fields_dref of_dref with_child 8 8 inner value_dref (λ n c. refl)
       (λ n c d. refl) size_dref (λ p. omega arith) bytes start long v e
-      (λ url read. child.optional_sound laws_url codes.URL bytes start long (number bytes 12 4) 16 url are read)
+      (λ url read. child.optional_stable laws_url codes.URL bytes start long (number bytes 12 4) 16 url are read)
       (λ url small. (
         small,
         (

@@ -1,7 +1,7 @@
 -- emsg, the event message box (ISO/IEC 23009-1, 5.10.3.3). The fields are version 1 byte at 8, which is 0 or 1, and
--- flags 3 at 9. Version 0 has two zero-terminated strings from 12 on, and then the numbers timescale, time delta,
--- event duration and id, of 4 bytes each. Version 1 has the numbers at 12, with a time of 8 bytes, and the strings
--- from 32 on. The rest, up to the end, is the message.
+-- flags 3 at 9. Version 0 has two zero-terminated strings, which start at 12, and then the numbers timescale, time
+-- delta, event duration and id, of 4 bytes each. Version 1 has the numbers at 12, with a time of 8 bytes, and the
+-- strings, which start at 32. The rest, up to the end, is the message.
 use Rattle.std.specs.Prelude.{◌≡◌, ℕ, ◌+◌, ◌-◌, ◌==◌, ◌&&◌, nat_le, Bool, true, List, [], ◌∷◌, ◌++◌, length, drop, Some}
 use Rattle.std.specs.Prelude.{None, is_some, unwrap_or, if◌then◌else◌}
 use Rattle.mp4_frame.specs.Bytes.{number, bytes_of_fields, FieldsFit, full_box}
@@ -12,7 +12,7 @@ use Rattle.mp4_frame.specs.declared.box_type.BoxType.TheVariants as names
 use Rattle.mp4_frame.specs.declared.codes.TheConstants as codes
 use Rattle.mp4_text.specs.declared.emsg.EmsgBox.{EmsgBox}
 
--- the message, from o to the end of a box of this size
+-- the message, from offset o to the end of a box of this size
 unfoldable pub message_from : List ℕ → ℕ → ℕ → Reading (List ℕ)
 message_from bytes size o = do
   _ ← check (nat_le o size)
@@ -20,8 +20,8 @@ message_from bytes size o = do
   _ ← memory
   done message
 
--- the value in version 0, where `at o w` is the number of w bytes at offset o of the box, and `numbers o w` the same
--- from the first of the four numbers on
+-- the value in version 0, where `at o w` is the number of w bytes at offset o of the box, and `numbers o w` that at
+-- offset o from the first of the four numbers
 abbrev pub value_emsg_0 : (ℕ → ℕ → ℕ) → (ℕ → ℕ → ℕ) → List ℕ × List ℕ → List ℕ → EmsgBox
 value_emsg_0 at numbers texts message =
     record {
@@ -37,7 +37,7 @@ value_emsg_0 at numbers texts message =
       message_data = message;
     }
 
--- the value in version 1, likewise
+-- the value in version 1, where `at` and `numbers` are as in version 0
 abbrev pub value_emsg_1 : (ℕ → ℕ → ℕ) → (ℕ → ℕ → ℕ) → List ℕ × List ℕ → List ℕ → EmsgBox
 value_emsg_1 at numbers texts message =
     record {
@@ -67,7 +67,7 @@ reads_emsg_1 bytes size = do
   message ← message_from bytes size (after_texts 32 texts)
   done (value_emsg_1 (number bytes) (number (drop 12 bytes)) texts message)
 
--- the fields after version and flags
+-- the reading of this version, or invalid data if it is neither 0 nor 1
 abbrev pub reads_emsg_version : ℕ → List ℕ → ℕ → Reading EmsgBox
 reads_emsg_version version bytes size =
     if version == 0 then reads_emsg_0 bytes size else if version == 1 then reads_emsg_1 bytes size else faults Invalid
@@ -77,7 +77,7 @@ reads_emsg bytes start size = do
   _ ← expect_bytes bytes 8 4
   reads_emsg_version (number bytes 8 1) bytes size
 
--- how many bytes the numbers and the zero-terminated strings have; every version but 0 counts as version 1
+-- the number of bytes of the numbers and of the zero-terminated strings; every version except 0 counts as version 1
 abbrev pub size_middle : EmsgBox → ℕ
 size_middle v = (if v.version == 0 then 18 else 22) + length v.scheme_id_uri + length v.value
 

@@ -205,7 +205,7 @@ back_1 v rest w e =
     (ap (λ (time : Option ℕ). Ok (record v { presentation_time = time; presentation_time_delta = None }))
     (some_is v.presentation_time time))
 
--- version and flags, and then the fields after them
+-- version and flags are read, and then the fields of the version
 begun : (v : EmsgBox) (tail : List ℕ) (start : ℕ) (o : Result EmsgBox Fault) → WritableEmsg v
     → (reads_emsg_version v.version (bytes_of_fields (fields_emsg v) ++ tail) (size_emsg v)).outcome ≡ o
     → (reads_emsg (bytes_of_fields (fields_emsg v) ++ tail) start (size_emsg v)).outcome ≡ o
@@ -218,7 +218,7 @@ begun v tail start o w later =
     (ap (λ (version : ℕ). (reads_emsg_version version B (size_emsg v)).outcome) (number-fields cs tail 8 1 w.fit)
     ∙ later)
 
--- the fields after version and flags, by the version
+-- the fields after version and flags are read back, in the order of the version
 by_version : (v : EmsgBox) (rest : List ℕ) (b : Bool) → (v.version == 0) ≡ b → WritableEmsg v
     → (let B = bytes_of_fields (fields_emsg v)
     ++ (cond b (texts_emsg v ++ bytes_of_fields (numbers_emsg_0 v))
@@ -238,13 +238,13 @@ by_version v rest false e w =
     ∙ back_1 v rest w e)
 
 -- a value that was read is its own normal form, and can be written unless it is too large
-abbrev IsSound : EmsgBox → Type 0
-IsSound v = (normal_emsg v ≡ v) × (size_emsg v < 2 ^ 32 → WritableEmsg v)
+abbrev IsStable : EmsgBox → Type 0
+IsStable v = (normal_emsg v ≡ v) × (size_emsg v < 2 ^ 32 → WritableEmsg v)
 
-sound_0 : (bytes : List ℕ) (long : ℕ) (v : EmsgBox) → AreBytes bytes → (number bytes 8 1 == 0) ≡ true
-    → (reads_emsg_0 bytes long).outcome ≡ Ok v → IsSound v
+stable_0 : (bytes : List ℕ) (long : ℕ) (v : EmsgBox) → AreBytes bytes → (number bytes 8 1 == 0) ≡ true
+    → (reads_emsg_0 bytes long).outcome ≡ Ok v → IsStable v
 unfolding reads_emsg_0
-sound_0 bytes long v are zero_is e =
+stable_0 bytes long v are zero_is e =
     let last = λ (texts : List ℕ × List ℕ) (message : List ℕ).
     done (value_emsg_0 (number bytes) (number (drop (after_texts 12 texts) bytes)) texts message) in
     let p = value_first (two_texts bytes 12)
@@ -265,12 +265,12 @@ sound_0 bytes long v are zero_is e =
       scheme = texts.0;
       value = texts.1;
     } in
-    subst IsSound (is_value made v q.2) (ap (λ (b : Bool). cond b made (normal_emsg_1 made)) zero_is, can)
+    subst IsStable (is_value made v q.2) (ap (λ (b : Bool). cond b made (normal_emsg_1 made)) zero_is, can)
 
-sound_1 : (bytes : List ℕ) (long : ℕ) (v : EmsgBox) → AreBytes bytes → (number bytes 8 1 == 0) ≡ false
-    → (number bytes 8 1 == 1) ≡ true → (reads_emsg_1 bytes long).outcome ≡ Ok v → IsSound v
+stable_1 : (bytes : List ℕ) (long : ℕ) (v : EmsgBox) → AreBytes bytes → (number bytes 8 1 == 0) ≡ false
+    → (number bytes 8 1 == 1) ≡ true → (reads_emsg_1 bytes long).outcome ≡ Ok v → IsStable v
 unfolding reads_emsg_1
-sound_1 bytes long v are other one_is e =
+stable_1 bytes long v are other one_is e =
     let last = λ (texts : List ℕ × List ℕ) (message : List ℕ).
     done (value_emsg_1 (number bytes) (number (drop 12 bytes)) texts message) in
     let p = value_first (two_texts bytes 32) (λ texts. message_from bytes long (after_texts 32 texts) >>= last texts) v
@@ -290,14 +290,14 @@ sound_1 bytes long v are other one_is e =
       scheme = texts.0;
       value = texts.1;
     } in
-    subst IsSound (is_value made v q.2) (ap (λ (b : Bool). cond b (normal_emsg_0 made) made) other, can)
+    subst IsStable (is_value made v q.2) (ap (λ (b : Bool). cond b (normal_emsg_0 made) made) other, can)
 
-sound_by : (bytes : List ℕ) (long : ℕ) (v : EmsgBox) (a b : Bool) → AreBytes bytes → (number bytes 8 1 == 0) ≡ a
+stable_by : (bytes : List ℕ) (long : ℕ) (v : EmsgBox) (a b : Bool) → AreBytes bytes → (number bytes 8 1 == 0) ≡ a
     → (number bytes 8 1 == 1) ≡ b
-    → (cond a (reads_emsg_0 bytes long) (cond b (reads_emsg_1 bytes long) (faults Invalid))).outcome ≡ Ok v → IsSound v
-sound_by bytes long v true b are p q e = sound_0 bytes long v are p e
-sound_by bytes long v false true are p q e = sound_1 bytes long v are p q e
-sound_by bytes long v false false are p q e = absurd cc
+    → (cond a (reads_emsg_0 bytes long) (cond b (reads_emsg_1 bytes long) (faults Invalid))).outcome ≡ Ok v → IsStable v
+stable_by bytes long v true b are p q e = stable_0 bytes long v are p e
+stable_by bytes long v false true are p q e = stable_1 bytes long v are p q e
+stable_by bytes long v false false are p q e = absurd cc
 
 pub laws_emsg : IsBox reads_emsg format_emsg
 unfolding bytes_emsg reads_emsg
@@ -315,7 +315,7 @@ laws_emsg = record {
       ∙ ap (λ (l : List ℕ). J ++ l) (append_assoc (middle_emsg v) m rest) in
       ap (λ (l : List ℕ). (reads_emsg l start (size_emsg v)).outcome) grouped
       ∙ begun v (middle_emsg v ++ (m ++ rest)) start (Ok (normal_emsg v)) w (by_version v rest (v.version == 0) refl w);
-  sound = λ bytes start long v are e.
-      sound_by bytes long v (number bytes 8 1 == 0) (number bytes 8 1 == 1) are refl refl
+  stable = λ bytes start long v are e.
+      stable_by bytes long v (number bytes 8 1 == 0) (number bytes 8 1 == 1) are refl refl
       (expect_bytes_ok bytes 8 4 (λ _. reads_emsg_version (number bytes 8 1) bytes long) v e);
 }

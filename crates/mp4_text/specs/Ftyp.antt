@@ -12,11 +12,11 @@ use Rattle.mp4_frame.specs.declared.box_type.BoxType.TheVariants as names
 use Rattle.mp4_frame.specs.declared.codes.TheConstants as codes
 use Rattle.mp4_text.specs.declared.ftyp.FtypBox.{FtypBox}
 
--- the brand that a row holds
+-- the brand in a row
 abbrev pub brand_of : List ℕ → FourCC
 brand_of row = record { value = row }
 
--- the value, where `at o w` is the number of w bytes at offset o, and its brands
+-- the value with these brands, where `at o w` is the number of w bytes at offset o
 abbrev pub value_ftyp : (ℕ → ℕ → ℕ) → List FourCC → FtypBox
 value_ftyp at brands = record { major_brand = four_cc_of (at 8 4); minor_version = at 12 4; compatible_brands = brands }
 

@@ -5,6 +5,7 @@ use Rattle.std.specs.Prelude.{nat_le, ◌==◌, ◌&&◌}
 use Rattle.std.specs.List.{flat_map}
 use Rattle.std.proofs.lemmas.Bool.{le-leb, eq-eqb}
 use Rattle.std.proofs.lemmas.List.Elements.{All-from_recursion, recursion_from_All}
+use Rattle.mp4_lemmas.proofs.Lists.{length_flat}
 use Rattle.mp4_frame.specs.Format.{IsBox}
 use Rattle.mp4_frame.specs.Laws.{AreBytes}
 use Rattle.mp4_frame.specs.Bytes.{number, bytes_of_fields}
@@ -16,7 +17,7 @@ use Rattle.mp4_frame.proofs.Framing.{own_normal_form, header_in_front}
 use Rattle.mp4_frame.proofs.CodeNames.{four_cc_back, four_cc_is, small_code}
 use Rattle.mp4_frame.proofs.Fields.{numbers-fields, expect_bytes-fields, length-fields, number-below}
 use Rattle.mp4_frame.proofs.Checks.{expect_bytes_ok, check_ok, is_value}
-use Rattle.mp4_frame.proofs.Tables.{IsRow, length_flat, rows_at_back, rows_read, map_all, value_first}
+use Rattle.mp4_frame.proofs.Tables.{IsRow, rows_at_back, rows_read, map_all, value_first}
 use Rattle.mp4_text.specs.declared.ftyp.FtypBox.{FtypBox}
 use Rattle.mp4_text.specs.Ftyp.{brand_of, value_ftyp, reads_ftyp, size_ftyp, fields_ftyp, WritableFtyp, bytes_ftyp}
 use Rattle.mp4_text.specs.Ftyp.{format_ftyp}
@@ -89,5 +90,5 @@ laws_ftyp = record {
       (ap (λ (c : FourCC). Ok (record v { major_brand = c })) (four_cc_back v.major_brand w.major)) in
       ap (λ (bytes : List ℕ). (reads_ftyp bytes start size).outcome) (append_assoc (bytes_of_fields cs) brands rest)
       ∙ whole;
-  sound = λ bytes start long v are read. (refl, writable bytes start long v are read);
+  stable = λ bytes start long v are read. (refl, writable bytes start long v are read);
 }

@@ -1,6 +1,6 @@
 -- hdlr, the handler box (ISO/IEC 14496-12, 8.4.3). The fields are version 1 byte at 8, flags 3 at 9, 4 reserved
--- bytes at 12, the handler type of 4 at 16, 12 bytes of zero at 20 which need not be present to be read, and a name
--- from 32 on. The box ends with a zero byte after the name; this byte too need not be present to be read.
+-- bytes at 12, the handler type of 4 at 16, 12 bytes of zero at 20, and a name that starts at 32. The box ends with a
+-- zero byte after the name. The zero bytes may be missing when the box is read.
 use Rattle.std.specs.Prelude.{ℕ, ◌+◌, ◌-◌, nat_le, List, [], ◌∷◌, ◌++◌, length, codes}
 use Rattle.std.specs.Str.{IsUtf8}
 use Rattle.mp4_frame.specs.Bytes.{number, bytes_of_fields, FieldsFit, full_box}
@@ -13,7 +13,7 @@ use Rattle.mp4_frame.specs.declared.box_type.BoxType.TheVariants as names
 use Rattle.mp4_frame.specs.declared.codes.TheConstants as codes
 use Rattle.mp4_text.specs.declared.hdlr.HdlrBox.{HdlrBox}
 
--- the value, where `at o w` is the number of w bytes at offset o, and its name
+-- the value with this name, where `at o w` is the number of w bytes at offset o
 abbrev pub value_hdlr : (ℕ → ℕ → ℕ) → List ℕ → HdlrBox
 value_hdlr at name = record { version = at 8 1; flags = at 9 3; handler_type = four_cc_of (at 16 4); name = name }
 

@@ -85,5 +85,5 @@ laws_hdlr = record {
       (append_assoc (bytes_of_fields cs) (text_and_zero v.name) rest
       ∙ ap (λ (l : List ℕ). bytes_of_fields cs ++ l) (append_assoc v.name (0 ∷ []) rest))
       ∙ whole;
-  sound = λ bytes start long v are e. (refl, writable bytes start long v are e);
+  stable = λ bytes start long v are e. (refl, writable bytes start long v are e);
 }

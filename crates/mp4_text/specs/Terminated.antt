@@ -7,17 +7,17 @@ use Rattle.mp4_frame.specs.Reading.{Reading, ◌>>=◌, expect_bytes, check, mem
 abbrev pub is_zero : ℕ → Bool
 is_zero byte = byte == 0
 
--- the bytes from o on up to the first zero byte, without it; up to the end if there is none
+-- the bytes from offset o up to the first zero byte, without it, or up to the end if there is none
 abbrev pub before_zero : List ℕ → ℕ → List ℕ
 before_zero bytes o = before_first is_zero (drop o bytes)
 
--- the bytes, which are checked to be UTF-8
+-- the bytes, once a check finds that they are UTF-8
 abbrev pub utf8_text : List ℕ → Reading (List ℕ)
 utf8_text bytes = do
   _ ← check (is_utf8 bytes)
   done bytes
 
--- the zero-terminated string at o; its zero byte is expected
+-- the zero-terminated string at offset o, whose zero byte must be present
 unfoldable pub terminated_text : List ℕ → ℕ → Reading (List ℕ)
 terminated_text bytes o = do
   _ ← expect_bytes bytes o (length (before_zero bytes o) + 1)
@@ -25,7 +25,7 @@ terminated_text bytes o = do
   _ ← memory
   done text
 
--- two strings, the second after the first
+-- two strings, the first at offset o and the second after it
 unfoldable pub two_texts : List ℕ → ℕ → Reading (List ℕ × List ℕ)
 two_texts bytes o = do
   first ← terminated_text bytes o

@@ -1,4 +1,4 @@
--- A zero-terminated string that was written is read back, and a string that was read can be written.
+-- The laws of zero-terminated strings: they are read back as they were written, and can be written if they were read.
 use Rattle.std.proofs.Common.{◌≡◌, ℕ, suc, ◌+◌, ◌≤◌, Bool, true, false, cond, ◌||◌, List, [], ◌∷◌, ◌++◌, length, take}
 use Rattle.std.proofs.Common.{drop, Ok, refl, ap, subst, ◌∙◌, arith, length-append, append_assoc}
 use Rattle.std.proofs.lemmas.Bool.{or_parts}
@@ -14,7 +14,7 @@ use Rattle.mp4_frame.specs.TextLaws.{utf8_passes}
 use Rattle.mp4_text.specs.Terminated.{is_zero, before_zero, utf8_text, terminated_text, two_texts, text_and_zero}
 use Rattle.mp4_text.specs.Terminated.{IsTerminable}
 
--- a reading of this value that asks for memory
+-- the reading that returns this value and asks for memory
 abbrev pub with_value : {A : Type 0} → A → Reading A
 with_value v = record { asks_memory = true; outcome = Ok v }
 

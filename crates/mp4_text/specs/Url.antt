@@ -1,6 +1,6 @@
 -- url, a data entry that is a URL (ISO/IEC 14496-12, 8.7.2). The fields are version 1 byte at 8, flags 3 at 9, and,
--- in a box of 13 bytes or more, a location from 12 on. Such a box ends with a zero byte after the location, which
--- need not be present to be read.
+-- in a box of 13 bytes or more, a location that starts at 12. Such a box ends with a zero byte after the location,
+-- which may be missing when the box is read.
 use Rattle.std.specs.Prelude.{ℕ, ◌+◌, ◌-◌, nat_lt, ◌==◌, List, [], ◌++◌, length, if◌then◌else◌}
 use Rattle.std.specs.Str.{IsUtf8}
 use Rattle.mp4_frame.specs.Bytes.{number, bytes_of_fields, FieldsFit, full_box}
@@ -12,14 +12,14 @@ use Rattle.mp4_frame.specs.declared.box_type.BoxType.TheVariants as names
 use Rattle.mp4_frame.specs.declared.codes.TheConstants as codes
 use Rattle.mp4_text.specs.declared.url.UrlBox.{UrlBox}
 
--- the value, where `at o w` is the number of w bytes at offset o, and its location
+-- the value with this location, where `at o w` is the number of w bytes at offset o
 abbrev pub value_url : (ℕ → ℕ → ℕ) → List ℕ → UrlBox
 value_url at location = record { version = at 8 1; flags = at 9 3; location = location }
 
--- the value with a location of this many bytes; the location is empty if they are not UTF-8
+-- the value with a location of `len` bytes, which is empty if they are not UTF-8
 abbrev pub reads_location : List ℕ → ℕ → Reading UrlBox
-reads_location bytes long = do
-  found ← piece_at bytes 12 long
+reads_location bytes len = do
+  found ← piece_at bytes 12 len
   _ ← memory
   done (value_url (number bytes) (text_or [] found))
 
@@ -28,7 +28,7 @@ reads_url bytes start size = do
   _ ← expect_bytes bytes 8 4
   if nat_lt size 13 then done (value_url (number bytes) []) else reads_location bytes (size - 13)
 
--- a location is written with a zero byte after it; for an empty location nothing is written
+-- the bytes that are written for a location: it and a zero byte, or nothing if it is empty
 abbrev pub bytes_location : List ℕ → List ℕ
 bytes_location location = if length location == 0 then [] else text_and_zero location
 

@@ -74,13 +74,13 @@ writable : (bytes location : List ℕ) → AreBytes bytes → IsUtf8 location
 writable bytes location are text small =
     record { fit = (small, (lit< tt, fits_read bytes are (Number 8 1 ∷ Number 9 3 ∷ []))); text = text }
 
-sound_by : (bytes : List ℕ) (b : Bool) (long : ℕ) (v : UrlBox) → AreBytes bytes
+stable_by : (bytes : List ℕ) (b : Bool) (long : ℕ) (v : UrlBox) → AreBytes bytes
     → (cond b (done (value_url (number bytes) [])) (reads_location bytes long)).outcome ≡ Ok v → size_url v < 2 ^ 32
     → WritableUrl v
-sound_by bytes true long v are e =
+stable_by bytes true long v are e =
     let is : value_url (number bytes) [] ≡ v = is_value _ v e in
     subst (λ (x : UrlBox). size_url x < 2 ^ 32 → WritableUrl x) is (writable bytes [] are IsUtf8-nil)
-sound_by bytes false long v are e =
+stable_by bytes false long v are e =
     let last = λ (location : List ℕ). memory >>= λ _. done (value_url (number bytes) (text_or [] location)) in
     let p = value_first (piece_at bytes 12 long) last v e in
     let is : value_url (number bytes) (text_or [] p.0) ≡ v = is_value _ v p.2 in
@@ -94,8 +94,8 @@ laws_url = record {
       header_in_front _ (bytes_location v.location) w.fit (length_by v.location (eqb (length v.location) 0));
   normal_form = λ v w. own_normal_form v refl w;
   read_back = λ v w rest start top. back_by v rest start (eqb (length v.location) 0) refl w;
-  sound = λ bytes start long v are e.
+  stable = λ bytes start long v are e.
       let rest = λ (u : Unit {0}).
       cond (ltb long 13) (done (value_url (number bytes) [])) (reads_location bytes (long - 13)) in
-      (refl, sound_by bytes (ltb long 13) (long - 13) v are (expect_bytes_ok bytes 8 4 rest v e));
+      (refl, stable_by bytes (ltb long 13) (long - 13) v are (expect_bytes_ok bytes 8 4 rest v e));
 }

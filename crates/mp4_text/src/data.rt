@@ -25,7 +25,7 @@ pub struct DataBox {
 }
 
 impl DataBox {
-    /// No bytes, of type `Binary`. It takes no memory.
+    /// Returns a value without bytes, of type `Binary`. It takes no memory from `alloc`.
     pub fn default_in(alloc: Global) -> DataBox
         ensures { result ≡ record { data_bytes = []; data_type = types.Binary } }
     {
@@ -35,14 +35,14 @@ impl DataBox {
         }
     }
 
-    /// The same as `box_type`.
+    /// Returns the type of the box, like `box_type`.
     pub fn get_type(&self) -> BoxType
         ensures { result ≡ names.DataBox }
     {
         self.box_type()
     }
 
-    /// The same as `box_size`.
+    /// Returns the size of the box in bytes, like `box_size`.
     pub fn get_size(&self) -> u64
         ensures { result ≡ min (size_data self.now) (2 ^ 64 - 1) }
     {
@@ -90,8 +90,8 @@ impl ReadBox for DataBox {
     }
 }
 
-/// The number of a data type.
-fn number_of(data_type: &DataType) -> u32
+/// Returns the number of `data_type`.
+fn type_number(data_type: &DataType) -> u32
     ensures { result ≡ number_data_type data_type.now }
 {
     match data_type {
@@ -111,7 +111,7 @@ impl WriteBox for DataBox {
     fn put_box(&self, out: &mut [u8]) {
         let at = put_u32(out, 0, self.box_size() as u32);
         let at = put_u32(out, at, codes::DATA);
-        let at = put_u32(out, at, number_of(&self.data_type));
+        let at = put_u32(out, at, type_number(&self.data_type));
         let at = put_u32(out, at, 0);
         put_bytes(out, at, self.data_bytes.as_slice());
     }

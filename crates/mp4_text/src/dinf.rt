@@ -21,21 +21,21 @@ pub struct DinfBox {
 }
 
 impl DinfBox {
-    /// The box with these references.
+    /// Returns the box with the references `dref`.
     pub fn new(dref: DrefBox) -> DinfBox
         ensures { result ≡ record { dref = dref } }
     {
         DinfBox { dref }
     }
 
-    /// The data references.
+    /// Returns the data references.
     pub fn dref(&self) -> &DrefBox
         ensures { result.now ≡ self.now.dref }
     {
         &self.dref
     }
 
-    /// The box with the default references. It takes no memory.
+    /// Returns the box with the default references. It takes no memory from `alloc`.
     pub fn default_in(alloc: Global) -> DinfBox
         ensures { result ≡ record {
           dref = record {
@@ -48,14 +48,14 @@ impl DinfBox {
         DinfBox::new(DrefBox::default_in(alloc))
     }
 
-    /// The same as `box_type`.
+    /// Returns the type of the box, like `box_type`.
     pub fn get_type(&self) -> BoxType
         ensures { result ≡ names.DinfBox }
     {
         self.box_type()
     }
 
-    /// The same as `box_size`.
+    /// Returns the size of the box in bytes, like `box_size`.
     pub fn get_size(&self) -> u64
         ensures { result ≡ min (size_dinf self.now) (2 ^ 64 - 1) }
     {

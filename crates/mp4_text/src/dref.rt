@@ -13,20 +13,20 @@ use mp4_frame::{
 };
 use std::alloc::Global;
 
-/// The data references: where the media data of a track is (`dref`, ISO/IEC 14496-12, 8.7.2). When it is read,
-/// entries other than `url ` are skipped, and the last of several `url ` is kept.
+/// The data references, which say where the media data of a track is (`dref`, ISO/IEC 14496-12, 8.7.2). When it is
+/// read, entries other than `url ` are skipped, and the last of several `url ` is kept.
 #[derive(Debug, Drop, PartialEq, Eq)]
 pub struct DrefBox {
-    /// The version of the box, usually 0. It is kept as it is.
+    /// The version, 0 in the standard. Every version is read and written in the same way.
     pub version: u8,
-    /// Flags, below 2^24, usually 0.
+    /// Flags of 24 bits, usually 0.
     pub flags: u32,
     /// The `url ` entry, if there is one.
     pub url: Option<UrlBox>,
 }
 
 impl DrefBox {
-    /// One entry, which says that the data is in the same file. It takes no memory.
+    /// Returns a box with one entry, which says that the data is in the same file. It takes no memory from `alloc`.
     pub fn default_in(alloc: Global) -> DrefBox
         ensures { result ≡ record
             { version = 0; flags = 0; url = Some (record { version = 0; flags = 1; location = [] }) } }
@@ -38,14 +38,14 @@ impl DrefBox {
         }
     }
 
-    /// The same as `box_type`.
+    /// Returns the type of the box, like `box_type`.
     pub fn get_type(&self) -> BoxType
         ensures { result ≡ names.DrefBox }
     {
         self.box_type()
     }
 
-    /// The same as `box_size`.
+    /// Returns the size of the box in bytes, like `box_size`.
     pub fn get_size(&self) -> u64
         ensures { result ≡ min (size_dref self.now) (2 ^ 64 - 1) }
     {

@@ -20,33 +20,32 @@ use std::alloc::Global;
 /// An event message (`emsg`, ISO/IEC 23009-1, 5.10.3.3).
 #[derive(Debug, Drop, PartialEq, Eq)]
 pub struct EmsgBox {
-    /// 0 or 1. It says which of the two times the box has.
+    /// The version, 0 or 1. It says which of the two times the box has.
     pub version: u8,
-    /// Flags, below 2^24, usually 0.
+    /// Flags of 24 bits, usually 0.
     pub flags: u32,
     /// The number of time units per second.
     pub timescale: u32,
-    /// In version 1, the time of the event from the start of the presentation, in the timescale. Version 0 doesn't
-    /// write it.
+    /// The time of the event from the start of the presentation, in the timescale. It is read and written only in
+    /// version 1.
     pub presentation_time: Option<u64>,
-    /// In version 0, the time of the event from the start of the segment, in the timescale. Version 1 doesn't write
-    /// it.
+    /// The time of the event from the start of the segment, in the timescale. It is read and written only in version 0.
     pub presentation_time_delta: Option<u32>,
     /// The duration of the event, in the timescale.
     pub event_duration: u32,
     /// The number of the event.
     pub id: u32,
-    /// The scheme, which says what the message means. It has no zero byte in it.
+    /// The scheme, which gives the message its meaning. It can be written only without a zero byte in it.
     pub scheme_id_uri: Text,
-    /// The value for the scheme. It has no zero byte in it.
+    /// The value for the scheme. It can be written only without a zero byte in it.
     pub value: Text,
     /// The message.
     pub message_data: Entries<u8>,
 }
 
 impl EmsgBox {
-    /// Zeros, no times, empty strings and no message. It can't be written until the time of its version is set. It
-    /// takes no memory.
+    /// Returns a box with zeros, no times, empty strings and no message. It can't be written until the time of its
+    /// version is set. It takes no memory from `alloc`.
     pub fn default_in(alloc: Global) -> EmsgBox
         ensures { result ≡ record {
           version = 0;
@@ -110,7 +109,8 @@ impl Mp4Box for EmsgBox {
     }
 }
 
-/// Reads the message, from offset `at` to the end of a box of this size. Invalid data if the box ends before `at`.
+/// Reads the message, from offset `at` to the end of a box of `size` bytes. Fails with invalid data if the box ends
+/// before `at`.
 #[tactic(auto, unfolding(crate::specs::Emsg::message_from))]
 fn message_at(alloc: Global, bytes: &[u8], size: u64, at: usize) -> Result<Entries<u8>>
     ensures { Answers result (message_from bytes.now size at) }
@@ -186,6 +186,7 @@ impl ReadBox for EmsgBox {
     }
 }
 
+/// Returns whether a box with these fields and a `box_size` of `size` can be written.
 fn fits(
     version: u8,
     flags: u32,
@@ -245,7 +246,7 @@ fn fits(
         && is_terminable(value)
 }
 
-/// Puts the numbers of version 0, and returns the offset after them.
+/// Writes the numbers of version 0 to `out` at offset `at`, and returns the offset after them.
 #[tactic(auto, unfolding(mp4_frame::specs::Bytes::bytes_of_fields, mp4_frame::specs::Bytes::bytes_of_fields_onto))]
 fn put_numbers_0(
     out: &mut [u8],
@@ -266,7 +267,7 @@ fn put_numbers_0(
     put_u32(out, at, id)
 }
 
-/// Puts the numbers of version 1, and returns the offset after them.
+/// Writes the numbers of version 1 to `out` at offset `at`, and returns the offset after them.
 #[tactic(auto, unfolding(mp4_frame::specs::Bytes::bytes_of_fields, mp4_frame::specs::Bytes::bytes_of_fields_onto))]
 fn put_numbers_1(
     out: &mut [u8],
@@ -288,7 +289,7 @@ fn put_numbers_1(
 }
 
 impl EmsgBox {
-    /// Puts the two strings, and returns the offset after them.
+    /// Writes the two strings to `out` at offset `at`, and returns the offset after them.
     fn put_texts(&self, out: &mut [u8], at: usize) -> usize
         requires { at + length self.now.scheme_id_uri + length self.now.value + 2 ≤ length out.old }
         ensures next { result ≡ at + length self.now.scheme_id_uri + length self.now.value + 2 }
@@ -298,7 +299,8 @@ impl EmsgBox {
         put_terminated(out, at, self.value.as_bytes())
     }
 
-    /// Puts the numbers and the strings, and returns the offset after them.
+    /// Writes the numbers and the strings to `out` at offset `at`, in the order of the version, and returns the offset
+    /// after them.
     fn put_middle(&self, out: &mut [u8], at: usize) -> usize
         requires { at + size_middle self.now ≤ length out.old }
         ensures next { result ≡ at + size_middle self.now }

@@ -17,14 +17,14 @@ use std::alloc::Global;
 pub struct FtypBox {
     /// The brand of the specification that suits the file best.
     pub major_brand: FourCC,
-    /// The version of that specification, for information only.
+    /// The version of the specification with the major brand, for information only.
     pub minor_version: u32,
     /// The brands of all specifications that the file follows.
     pub compatible_brands: Entries<FourCC>,
 }
 
 impl FtypBox {
-    /// A brand of four zeros, version 0 and no compatible brands. It takes no memory.
+    /// Returns a box with a brand of four zeros, version 0 and no compatible brands. It takes no memory from `alloc`.
     pub fn default_in(alloc: Global) -> FtypBox
         ensures { result ≡ record
             { major_brand = record { value = replicate 4 0 }; minor_version = 0; compatible_brands = [] } }
@@ -36,14 +36,14 @@ impl FtypBox {
         }
     }
 
-    /// The same as `box_type`.
+    /// Returns the type of the box, like `box_type`.
     pub fn get_type(&self) -> BoxType
         ensures { result ≡ names.FtypBox }
     {
         self.box_type()
     }
 
-    /// The same as `box_size`.
+    /// Returns the size of the box in bytes, like `box_size`.
     pub fn get_size(&self) -> u64
         ensures { result ≡ min (size_ftyp self.now) (2 ^ 64 - 1) }
     {
@@ -75,6 +75,7 @@ impl Mp4Box for FtypBox {
     }
 }
 
+/// Returns the brand in each of `rows`. The only error is out of memory.
 fn brands_of(alloc: Global, rows: &[[u8; 4]]) -> Result<Vec<FourCC>>
     ensures value { IfOk result (λ brands. brands.items ≡ map brand_of rows.now) }
     ensures memory { IfErr result (λ e. e ≡ Error.OutOfMemory) }
@@ -111,6 +112,7 @@ impl ReadBox for FtypBox {
     }
 }
 
+/// Returns whether a box with these fields, the compatible brands `brands` and a `box_size` of `size` can be written.
 #[tactic(auto, using(mp4_frame::proofs::CodeNames::small_code))]
 fn fits(major_brand: FourCC, minor_version: u32, size: u64, brands: &[FourCC]) -> bool
     requires { size ≡ min (16 + 4 * length brands.now) (2 ^ 64 - 1) }

@@ -17,18 +17,18 @@ use std::alloc::Global;
 /// The handler of a track or of metadata (`hdlr`, ISO/IEC 14496-12, 8.4.3).
 #[derive(Debug, Drop, PartialEq, Eq)]
 pub struct HdlrBox {
-    /// The version of the box, usually 0. It is kept as it is.
+    /// The version, 0 in the standard. Every version is read and written in the same way.
     pub version: u8,
-    /// Flags, below 2^24, usually 0.
+    /// Flags of 24 bits, usually 0.
     pub flags: u32,
     /// The kind of media, such as `vide` or `soun`.
     pub handler_type: FourCC,
-    /// A name for a person to read.
+    /// A name for people to read.
     pub name: Text,
 }
 
 impl HdlrBox {
-    /// Zeros, and an empty name. It takes no memory.
+    /// Returns a box with zeros and an empty name. It takes no memory from `alloc`.
     pub fn default_in(alloc: Global) -> HdlrBox
         ensures { result ≡ record {
           version = 0;
@@ -45,14 +45,14 @@ impl HdlrBox {
         }
     }
 
-    /// The same as `box_type`.
+    /// Returns the type of the box, like `box_type`.
     pub fn get_type(&self) -> BoxType
         ensures { result ≡ names.HdlrBox }
     {
         self.box_type()
     }
 
-    /// The same as `box_size`.
+    /// Returns the size of the box in bytes, like `box_size`.
     pub fn get_size(&self) -> u64
         ensures { result ≡ min (size_hdlr self.now) (2 ^ 64 - 1) }
     {
@@ -102,6 +102,7 @@ impl ReadBox for HdlrBox {
     }
 }
 
+/// Returns whether a box with these fields and a `box_size` of `size` can be written.
 #[tactic(auto, using(mp4_frame::proofs::CodeNames::small_code))]
 fn fits(version: u8, flags: u32, handler_type: FourCC, size: u64, name: &Text) -> bool
     requires { size ≡ min (33 + length name.now) (2 ^ 64 - 1) }

@@ -1,4 +1,5 @@
-//! The boxes of strings, data and references.
+//! For callers that read and write brands, handlers, metadata values, event messages and data references: the boxes of
+//! strings, data and references.
 #![tactic(auto)]
 
 mod data;

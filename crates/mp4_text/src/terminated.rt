@@ -8,14 +8,14 @@ ghost use Rattle.mp4_text.specs.Terminated.{text_and_zero, IsTerminable};
 use mp4_frame::{Error, Result, Text, expect_bytes, put_bytes, put_u8};
 use std::alloc::Global;
 
-/// The index of the first zero byte.
+/// Returns the index of the first zero byte of `bytes`, or `None` if it has none.
 fn first_zero(bytes: &[u8]) -> Option<usize>
     ensures { result ≡ position is_zero bytes.now }
 {
     bytes.iter().position(|byte| *byte == 0)
 }
 
-/// The bytes from offset `at` up to the first zero byte, without it; up to the end if there is none.
+/// Returns the bytes from offset `at` up to the first zero byte, without it, or up to the end if there is none.
 #[tactic(auto, using(crate::proofs::Zeros::offset_or_length, crate::proofs::Zeros::offset_within))]
 fn before_zero(bytes: &[u8], at: usize) -> &[u8]
     ensures { result.now ≡ before_zero bytes.now at }
@@ -24,11 +24,11 @@ fn before_zero(bytes: &[u8], at: usize) -> &[u8]
         return &[];
     }
     let rest = &bytes[at..];
-    let long = first_zero(rest).unwrap_or(rest.len());
-    &rest[..long]
+    let len = first_zero(rest).unwrap_or(rest.len());
+    &rest[..len]
 }
 
-/// The bytes as a string. Invalid data unless they are UTF-8.
+/// Returns `bytes` as a string. Fails with invalid data unless they are UTF-8.
 #[tactic(auto, using(mp4_frame::specs::TextLaws::utf8_passes, mp4_frame::specs::TextLaws::other_fails))]
 fn utf8_text(bytes: &[u8]) -> Result<&str>
     ensures { AnswersAs (λ text. text.now) result (utf8_text bytes.now) }
@@ -39,8 +39,8 @@ fn utf8_text(bytes: &[u8]) -> Result<&str>
     }
 }
 
-/// Reads the zero-terminated string at offset `at`. End of input if there is no zero byte; invalid data unless the
-/// string is UTF-8.
+/// Reads the zero-terminated string at offset `at`. Fails with end of input if there is no zero byte, and with invalid
+/// data unless the string is UTF-8.
 #[tactic(auto, unfolding(crate::specs::Terminated::terminated_text))]
 fn terminated_text_at(alloc: Global, bytes: &[u8], at: usize) -> Result<Text>
     ensures text { Answers result (terminated_text bytes.now at) }
@@ -51,7 +51,7 @@ fn terminated_text_at(alloc: Global, bytes: &[u8], at: usize) -> Result<Text>
     Text::from_str(alloc, utf8_text(text)?)
 }
 
-/// Reads two zero-terminated strings, the second after the first.
+/// Reads two zero-terminated strings, the first at offset `at` and the second after it.
 #[tactic(auto, unfolding(crate::specs::Terminated::two_texts))]
 pub(crate) fn two_texts_at(alloc: Global, bytes: &[u8], at: usize) -> Result<(Text, Text)>
     ensures texts { Answers result (two_texts bytes.now at) }
@@ -62,14 +62,14 @@ pub(crate) fn two_texts_at(alloc: Global, bytes: &[u8], at: usize) -> Result<(Te
     Ok((first, second))
 }
 
-/// Whether a zero byte can end the string: no byte in it is zero.
+/// Returns whether a zero byte can end `text`: no byte in it is zero.
 pub(crate) fn is_terminable(text: &Text) -> bool
     ensures { IsTrue result ↔ IsTerminable text.now }
 {
     text.is_utf8() && !text.as_bytes().contains(&0)
 }
 
-/// Puts a string and a zero byte, and returns the offset after them.
+/// Writes `text` and a zero byte to `out` at offset `at`, and returns the offset after them.
 #[tactic(auto, unfolding(mp4_frame::specs::Bytes::be_bytes))]
 pub(crate) fn put_terminated(out: &mut [u8], at: usize, text: &[u8]) -> usize
     requires { at + length (text_and_zero text.now) ≤ length out.old }

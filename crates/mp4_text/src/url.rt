@@ -13,19 +13,19 @@ use mp4_frame::{
 };
 use std::alloc::Global;
 
-/// A data reference by URL: where media data is (`url `, ISO/IEC 14496-12, 8.7.2).
+/// A data reference by URL, which says where media data is (`url `, ISO/IEC 14496-12, 8.7.2).
 #[derive(Debug, Drop, PartialEq, Eq)]
 pub struct UrlBox {
-    /// The version of the box, usually 0. It is kept as it is.
+    /// The version, 0 in the standard. Every version is read and written in the same way.
     pub version: u8,
-    /// Flags, below 2^24. 1 means that the data is in the same file, without a location.
+    /// Flags of 24 bits. Flag 1 means that the data is in the same file, without a location.
     pub flags: u32,
-    /// The URL; empty if there is none.
+    /// The URL, which is empty if there is none.
     pub location: Text,
 }
 
 impl UrlBox {
-    /// Data in the same file: flags 1 and no location. It takes no memory.
+    /// Returns a reference to data in the same file: flags 1 and no location. It takes no memory from `alloc`.
     pub fn default_in(alloc: Global) -> UrlBox
         ensures { result ≡ record { version = 0; flags = 1; location = [] } }
     {
@@ -36,14 +36,14 @@ impl UrlBox {
         }
     }
 
-    /// The same as `box_type`.
+    /// Returns the type of the box, like `box_type`.
     pub fn get_type(&self) -> BoxType
         ensures { result ≡ names.UrlBox }
     {
         self.box_type()
     }
 
-    /// The same as `box_size`.
+    /// Returns the size of the box in bytes, like `box_size`.
     pub fn get_size(&self) -> u64
         ensures { result ≡ min (size_url self.now) (2 ^ 64 - 1) }
     {
@@ -102,7 +102,8 @@ impl ReadBox for UrlBox {
     }
 }
 
-/// Puts a location and a zero byte, or nothing if the location is empty, and returns the offset after them.
+/// Writes `location` and a zero byte to `out` at offset `at`, or nothing if it is empty. Returns the offset after the
+/// bytes written.
 fn put_location(out: &mut [u8], at: usize, location: &[u8]) -> usize
     requires { at + length (bytes_location location.now) ≤ length out.old }
     ensures next { result ≡ at + length (bytes_location location.now) }

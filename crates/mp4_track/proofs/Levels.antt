@@ -1,16 +1,17 @@
 -- What is found at a path, by the first box of a code in a level, and by the tracks of a movie.
-use Rattle.std.proofs.Common.{◌≡◌, ℕ, zero, suc, Bool, get_or, ◌+◌, ◌-◌, ◌<◌, ◌≤◌, true, false, cond, List, [], ◌∷◌}
+use Rattle.std.proofs.Common.{◌≡◌, ℕ, zero, suc, get_or, ◌+◌, ◌-◌, ◌<◌, ◌≤◌, true, false, cond, List, [], ◌∷◌}
 use Rattle.std.proofs.Common.{length, drop, None, Some, refl, ap, ◌∙◌, arith}
 use Rattle.std.specs.Prelude.{nat_lt, ◌==◌}
 use Rattle.std.specs.declared.option.Option.{Option}
 use Rattle.std.proofs.lemmas.Bool.{cond_both, lt-ltb, le-ltb, ltb-true, ne_eqb}
 use Rattle.std.proofs.lemmas.List.{drop_more}
+use Rattle.mp4_lemmas.proofs.Booleans.{by_bool}
 use Rattle.mp4_frame.specs.FourCC.{four_cc_of}
 use Rattle.mp4_frame.specs.declared.codes.TheConstants as codes
 use Rattle.mp4_frame.specs.declared.four_cc.FourCC.{FourCC}
-use Rattle.mp4_tree.specs.Paths.{inside, is_meant, or_in, at_path}
-use Rattle.mp4_tree.specs.declared.path.PathPart.{PathPart}
-use Rattle.mp4_tree.specs.declared.tree_box.TreeBox.{TreeBox}
+use Rattle.mp4_walk.specs.Paths.{inside, is_meant, or_in, at_path}
+use Rattle.mp4_walk.specs.declared.path.PathPart.{PathPart}
+use Rattle.mp4_walk.specs.declared.tree_box.TreeBox.{TreeBox}
 use Rattle.mp4_track.specs.Levels.{Found, first_in, in_level, in_found, tracks, in_nth}
 use Rattle.mp4_track.specs.Paths.{first, nth}
 
@@ -36,9 +37,6 @@ here : (d : ℕ) (parts : List PathPart) (x : TreeBox) (xs : List TreeBox)
     ≡ in_found (d + 1) parts (Some (record { box = x; after = xs }))
 here d [] x xs = refl
 here d (q ∷ qs) x xs = ap (λ (ys : List TreeBox). at_path (d + 1) (q ∷ qs) ys) (inside_inside d xs)
-
-pub by_bool : {P : Type 0} (b : Bool) → (b ≡ true → P) → (b ≡ false → P) → P
-by_bool {P} b if_true if_false = (elim b as (λ c. b ≡ c → P) [ true ↦ if_true | false ↦ if_false ]) refl
 
 -- the box at a path whose first part is the first box of a code
 pub descend : (d code : ℕ) (parts : List PathPart) (xs : List TreeBox)

@@ -3,7 +3,7 @@ use Rattle.std.proofs.Common.{◌≡◌, ℕ, Bool, List, subst}
 use Rattle.std.specs.Prelude.{◌==◌}
 use Rattle.std.specs.declared.option.Option.{Option}
 use Rattle.mp4_flat.specs.declared.trex.TrexBox.{TrexBox}
-use Rattle.mp4_tree.specs.declared.tree_box.TreeBox.{TreeBox}
+use Rattle.mp4_walk.specs.declared.tree_box.TreeBox.{TreeBox}
 use Rattle.mp4_track.specs.Fragments.{EndsAt, IsStep, IsTraf, Takes, fragment_of}
 use Rattle.mp4_track.specs.declared.traf.Traf.{Traf}
 use Rattle.mp4_track.specs.declared.track_fragment.TrackFragment.{TrackFragment}

@@ -1,7 +1,7 @@
 -- The tracks of a movie, one after the other, and the path to a box of one.
 use Rattle.std.proofs.Common.{◌≡◌, ℕ, ◌+◌, ◌<◌, ◌≤◌, false, List, [], ◌∷◌, length, drop, None, Some, subst}
 use Rattle.std.proofs.Common.{sym, ap, ◌∙◌, arith}
-use Rattle.std.specs.Prelude.{nat_lt, IfOk, Result, Ok, Err}
+use Rattle.std.specs.Prelude.{nat_lt, Result}
 use Rattle.std.specs.declared.option.Option.{Option}
 use Rattle.std.proofs.lemmas.Bool.{false≢true, ltb-true, ltb-false}
 use Rattle.std.proofs.lemmas.List.{drop-drop, length-drop}
@@ -13,10 +13,10 @@ use Rattle.mp4_frame.specs.declared.codes.TheConstants as codes
 use Rattle.mp4_flat.specs.Boxes.{reads_mdhd}
 use Rattle.mp4_flat.specs.declared.tkhd.TkhdBox.{TkhdBox}
 use Rattle.mp4_text.specs.Boxes.{reads_hdlr}
-use Rattle.mp4_tree.specs.Paths.{at_path}
-use Rattle.mp4_tree.specs.Tree.{boxes_of}
-use Rattle.mp4_tree.specs.declared.path.PathPart.{PathPart}
-use Rattle.mp4_tree.specs.declared.tree_box.TreeBox.{TreeBox}
+use Rattle.mp4_walk.specs.Paths.{at_path}
+use Rattle.mp4_walk.specs.FileBoxes.{boxes_of}
+use Rattle.mp4_walk.specs.declared.path.PathPart.{PathPart}
+use Rattle.mp4_walk.specs.declared.tree_box.TreeBox.{TreeBox}
 use Rattle.mp4_track.specs.Levels.{Found, first_in, in_level, in_found, tracks, in_nth}
 use Rattle.mp4_track.specs.Paths.{first, nth}
 use Rattle.mp4_track.specs.Tracks.{AreTables, Holds, IsFirst, IsTrack, IsTrackIn, is_header, is_id, is_memory}
@@ -24,7 +24,8 @@ use Rattle.mp4_track.specs.Tracks.{table_box}
 use Rattle.mp4_track.specs.declared.sample_boxes.SampleBoxes.{SampleBoxes}
 use Rattle.mp4_track.specs.declared.track.Track.{Track}
 use Rattle.mp4_track.specs.declared.trak.Trak.{Trak}
-use Rattle.mp4_track.proofs.Levels.{by_bool, inside_all, descend, nth_track, tracks_from, tracks_by, nth_of_drop}
+use Rattle.mp4_lemmas.proofs.Booleans.{by_bool}
+use Rattle.mp4_track.proofs.Levels.{inside_all, descend, nth_track, tracks_from, tracks_by, nth_of_drop}
 use Rattle.mp4_track.proofs.Levels.{none_past}
 
 module _ (movie rest : List TreeBox) (n : ℕ) (left : drop n (tracks movie) ≡ tracks rest) where
@@ -101,10 +102,6 @@ track_holds B id f trak t is h g =
           t.tables
           (λ code. path (first codes.MDIA) (first codes.MINF ∷ first codes.STBL ∷ first code ∷ [])) g.tables;
     }
-
-pub ok_then : {A E : Type 0} (r : Result A E) (P Q : A → Type 0) → ((a : A) → P a → Q a) → IfOk r P → IfOk r Q
-ok_then (Ok a) P Q f h = f a h
-ok_then (Err e) P Q f h = tt
 
 -- what holds below n and at n
 pub below_or : (P : ℕ → Type 0) (n : ℕ) → ((k : ℕ) → k < n → P k) → P n → (k : ℕ) → k ≤ n → P k

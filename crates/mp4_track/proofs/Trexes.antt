@@ -11,12 +11,12 @@ use Rattle.mp4_frame.specs.Reading.{Fault, Reading, Refuses}
 use Rattle.mp4_frame.specs.declared.error.Error.{Error}
 use Rattle.mp4_frame.specs.declared.error.Error.TheVariants as errors
 use Rattle.mp4_frame.specs.declared.four_cc.FourCC.{FourCC}
-use Rattle.mp4_tree.specs.Paths.{is_meant}
-use Rattle.mp4_tree.specs.declared.tree_box.TreeBox.{TreeBox}
+use Rattle.mp4_walk.specs.Paths.{is_meant}
+use Rattle.mp4_walk.specs.declared.tree_box.TreeBox.{TreeBox}
 use Rattle.mp4_track.specs.Fragments.{of_track, ok_of, or_else}
 use Rattle.mp4_track.specs.Levels.{Found, all_in, first_in}
 use Rattle.mp4_track.specs.Tracks.{is_memory}
-use Rattle.mp4_track.proofs.Levels.{by_bool}
+use Rattle.mp4_lemmas.proofs.Booleans.{by_bool}
 
 -- the boxes of a code, by the first of them
 abbrev pub all_from : ℕ → FourCC → Option Found → List Found

@@ -8,7 +8,7 @@ use Rattle.mp4_tables.specs.declared.stts_entry.SttsEntry.{SttsEntry}
 use Rattle.mp4_track.specs.Levels.{in_level}
 use Rattle.mp4_track.specs.Paths.{first}
 use Rattle.mp4_track.specs.Tracks.{MayHold, has_id, table_box}
-use Rattle.mp4_tree.specs.declared.tree_box.TreeBox.{TreeBox}
+use Rattle.mp4_walk.specs.declared.tree_box.TreeBox.{TreeBox}
 
 -- the sum of the durations of the samples that the entries count
 abbrev pub time_of : List SttsEntry → ℕ

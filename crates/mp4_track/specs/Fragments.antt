@@ -20,8 +20,8 @@ use Rattle.mp4_track.specs.Tables.{now_of}
 use Rattle.mp4_track.specs.Tracks.{Holds, MayHold, reading_of}
 use Rattle.mp4_track.specs.declared.traf.Traf.{Traf}
 use Rattle.mp4_track.specs.declared.track_fragment.TrackFragment.{TrackFragment}
-use Rattle.mp4_tree.specs.Tree.{boxes_of}
-use Rattle.mp4_tree.specs.declared.tree_box.TreeBox.{TreeBox}
+use Rattle.mp4_walk.specs.FileBoxes.{boxes_of}
+use Rattle.mp4_walk.specs.declared.tree_box.TreeBox.{TreeBox}
 
 -- each of these boxes holds one of these values, in their order
 abbrev pub HoldEach : {A : Type 0} → (List ℕ → ℕ → ℕ → Reading A) → ℕ → List ℕ → List Found → List A → Type 0

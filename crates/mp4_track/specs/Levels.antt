@@ -5,9 +5,9 @@ use Rattle.std.specs.declared.option.Option.{Option}
 use Rattle.mp4_frame.specs.declared.codes.TheConstants as codes
 use Rattle.mp4_frame.specs.declared.four_cc.FourCC.{FourCC}
 use Rattle.mp4_frame.specs.FourCC.{four_cc_of}
-use Rattle.mp4_tree.specs.Paths.{inside, is_meant, at_path}
-use Rattle.mp4_tree.specs.declared.path.PathPart.{PathPart}
-use Rattle.mp4_tree.specs.declared.tree_box.TreeBox.{TreeBox}
+use Rattle.mp4_walk.specs.Paths.{inside, is_meant, at_path}
+use Rattle.mp4_walk.specs.declared.path.PathPart.{PathPart}
+use Rattle.mp4_walk.specs.declared.tree_box.TreeBox.{TreeBox}
 use Rattle.mp4_track.specs.declared.level.Place.{Place}
 
 -- a box, and the boxes after it, of which the first are in it

@@ -21,12 +21,12 @@ use Rattle.mp4_track.specs.declared.sample_boxes.ChunkBox.TheVariants as chunks
 use Rattle.mp4_track.specs.declared.sample_boxes.SampleBoxes.{SampleBoxes}
 use Rattle.mp4_track.specs.declared.track.Track.{Track}
 use Rattle.mp4_track.specs.declared.trak.Trak.{Trak}
-use Rattle.mp4_tree.specs.Paths.{at_path}
-use Rattle.mp4_tree.specs.Source.{piece}
-use Rattle.mp4_tree.specs.Tops.{is_whole}
-use Rattle.mp4_tree.specs.Tree.{boxes_of}
-use Rattle.mp4_tree.specs.declared.path.PathPart.{PathPart}
-use Rattle.mp4_tree.specs.declared.tree_box.TreeBox.{TreeBox}
+use Rattle.mp4_walk.specs.Paths.{at_path}
+use Rattle.mp4_walk.specs.Source.{piece}
+use Rattle.mp4_walk.specs.Tops.{is_whole}
+use Rattle.mp4_walk.specs.FileBoxes.{boxes_of}
+use Rattle.mp4_walk.specs.declared.path.PathPart.{PathPart}
+use Rattle.mp4_walk.specs.declared.tree_box.TreeBox.{TreeBox}
 
 -- the box at this path in a track of a file: `moov/trak[k]/..`
 abbrev pub track_box : List ℕ → ℕ → List ℕ → Option TreeBox
@@ -39,7 +39,7 @@ table_box B k code = track_box B k (codes.MDIA ∷ codes.MINF ∷ codes.STBL ∷
 -- what is read of a box: its own bytes are read, and nothing after them. One that is not whole has a fault
 abbrev pub reading_of : {A : Type 0} → (List ℕ → ℕ → ℕ → Reading A) → ℕ → List ℕ → TreeBox → Reading A
 reading_of reads code B x =
-    if is_whole x.what then front_box reads code (piece B x.position x.length) else faults End
+    if is_whole x.state then front_box reads code (piece B x.position x.length) else faults End
 
 -- the box is there, and holds this value
 abbrev pub Holds : {A : Type 0} → (List ℕ → ℕ → ℕ → Reading A) → ℕ → List ℕ → Option TreeBox → A → Type 0

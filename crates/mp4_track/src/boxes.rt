@@ -1,10 +1,10 @@
 //! All boxes of a file, and the bytes of one.
 
 ghost use Rattle.std.specs.Prelude.{◌≡◌, IfOk};
-ghost use Rattle.mp4_tree.specs.Source.{piece};
-ghost use Rattle.mp4_tree.specs.Tree.{boxes_of};
+ghost use Rattle.mp4_walk.specs.Source.{piece};
+ghost use Rattle.mp4_walk.specs.FileBoxes.{boxes_of};
 
-use mp4_tree::{Tree, TreeBox};
+use mp4_walk::{BoxWalk, TreeBox};
 use std::alloc::Global;
 use std::io;
 
@@ -12,7 +12,7 @@ use std::io;
 pub fn all_boxes(alloc: Global, bytes: &[u8]) -> io::Result<Vec<TreeBox>>
     ensures { IfOk result (λ boxes. boxes.items ≡ boxes_of bytes.now) }
 {
-    let mut tree = Tree::new(alloc, bytes)?;
+    let mut tree = BoxWalk::new(alloc, bytes)?;
     let mut boxes = Vec::new(alloc);
     while let Some(found) = tree.next()? {
         boxes.push(found)?;

@@ -15,7 +15,7 @@ use crate::own::own_box;
 use crate::trak::is_memory;
 use mp4_flat::TrexBox;
 use mp4_frame::{FourCC, codes};
-use mp4_tree::TreeBox;
+use mp4_walk::TreeBox;
 use std::alloc::Global;
 use std::collections::BTreeMap;
 

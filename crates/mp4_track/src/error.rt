@@ -6,7 +6,7 @@ ghost use Rattle.mp4_track.specs.declared.error.TrackError.TheVariants.{Memory};
 use crate::track_fragment::TrackFragment;
 use mp4_frame::{Error, FourCC};
 use mp4_tables::TrunBox;
-use mp4_tree::TreeBox;
+use mp4_walk::TreeBox;
 use std::alloc::AllocFailed;
 
 /// Why the track of a track_ID could not be read.

@@ -9,7 +9,7 @@ use crate::error::TrackError;
 use crate::level::first_in;
 use crate::own::own_box;
 use mp4_frame::{Error, FourCC, ReadBox};
-use mp4_tree::TreeBox;
+use mp4_walk::TreeBox;
 use std::alloc::Global;
 
 /// The error of a track whose box of this code can't be read.

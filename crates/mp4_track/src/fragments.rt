@@ -23,7 +23,7 @@ use mp4_flat::TrexBox;
 use mp4_frame::{FourCC, codes};
 use mp4_samples::DEFAULT_BASE_IS_MOOF;
 use mp4_tables::TfhdBox;
-use mp4_tree::TreeBox;
+use mp4_walk::TreeBox;
 use std::alloc::Global;
 use std::collections::BTreeMap;
 

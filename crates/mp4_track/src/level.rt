@@ -1,12 +1,12 @@
 //! The first box of a code in a level.
 
 ghost use Rattle.std.specs.Prelude.{◌≡◌, ◌<◌, IfSome, length};
-ghost use Rattle.mp4_tree.specs.Paths.{is_code};
+ghost use Rattle.mp4_walk.specs.Paths.{is_code};
 ghost use Rattle.mp4_track.specs.Levels.{first_in, found_of};
 ghost use Rattle.mp4_track.specs.Tracks.{boxes_in, IsInside};
 
 use mp4_frame::FourCC;
-use mp4_tree::TreeBox;
+use mp4_walk::TreeBox;
 
 /// A box, and the boxes after it, of which the first are in it.
 #[derive(Clone, Copy)]

@@ -6,7 +6,7 @@ ghost use Rattle.mp4_track.specs.Tracks.{reading_of};
 use crate::boxes::bytes_of;
 use crate::front::front_box;
 use mp4_frame::{Error, ReadBox, Result};
-use mp4_tree::TreeBox;
+use mp4_walk::TreeBox;
 use std::alloc::Global;
 
 /// Reads a box of a file from its own bytes. One that is not whole has a fault.

@@ -12,7 +12,7 @@ use crate::found::{optional, required};
 use crate::sample_boxes::{ChunkBox, SampleBoxes};
 use mp4_frame::codes;
 use mp4_tables::{Co64Box, CttsBox, StscBox, SttsBox};
-use mp4_tree::TreeBox;
+use mp4_walk::TreeBox;
 use std::alloc::Global;
 
 /// The depth of the boxes of a sample table: `moov`, `trak`, `mdia`, `minf` and `stbl` are around them.

@@ -11,7 +11,7 @@ use crate::level::{first_in, inside};
 use crate::trak::trak_of;
 use mp4_frame::{FourCC, codes};
 use mp4_tables::{SttsBox, SttsEntry};
-use mp4_tree::TreeBox;
+use mp4_walk::TreeBox;
 use std::alloc::Global;
 
 /// The durations of the samples that an entry counts.

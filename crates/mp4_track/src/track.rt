@@ -13,7 +13,7 @@ use crate::trak::{Trak, trak_of};
 use mp4_flat::MdhdBox;
 use mp4_frame::{FourCC, codes};
 use mp4_text::HdlrBox;
-use mp4_tree::TreeBox;
+use mp4_walk::TreeBox;
 use std::alloc::Global;
 
 /// A track of a file: what its sample tables and the header of its media say.

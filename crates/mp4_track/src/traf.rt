@@ -15,7 +15,7 @@ use crate::own::own_box;
 use mp4_flat::TfdtBox;
 use mp4_frame::{FourCC, codes};
 use mp4_tables::{TfhdBox, TrunBox};
-use mp4_tree::TreeBox;
+use mp4_walk::TreeBox;
 use std::alloc::Global;
 
 /// The depth of the boxes of a `traf`: `moof` and `traf` are around them.

@@ -11,7 +11,7 @@ use crate::level::first_in;
 use crate::own::own_box;
 use mp4_flat::TkhdBox;
 use mp4_frame::{Error, FourCC, codes};
-use mp4_tree::TreeBox;
+use mp4_walk::TreeBox;
 use std::alloc::Global;
 
 /// A track, and the boxes after its header, of which the first are in it.

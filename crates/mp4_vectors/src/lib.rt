@@ -1,5 +1,5 @@
-//! Worked cases: bytes and answers that were worked out from the standard and the layout table, and are written out
-//! here, a file for each box or subject; and cuts and sizes of the vectors.
+//! For maintainers: tests with hand-computed bytes and answers, from the standard and the layout table, one file for
+//! each box or subject. Other tests read the vectors of `mp4_ported` with every cut and with wrong sizes.
 #![tactic(auto)]
 
 #[cfg(test)]

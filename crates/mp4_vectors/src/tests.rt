@@ -1,4 +1,4 @@
-//! Worked cases, a file for each box or subject.
+//! Tests with hand-computed bytes and answers, one file for each box or subject.
 
 mod codes;
 mod cursor;

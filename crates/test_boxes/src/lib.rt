@@ -1,5 +1,6 @@
-//! Tests of single boxes and of plain media types, of what bytes don't show: codes, defaults, constructors, clones,
-//! `==`, values that can't be written, and texts. They use the boxes and the checks of `mp4_ported`.
+//! For maintainers: tests of what no contract states. They cover single boxes and plain media types (codes, defaults,
+//! constructors, clones, `==`, unwritable values, texts), and calls on lists and buffers (the iterator, the laws at
+//! every type, cuts of a stream, memory, the example callers). The boxes and checks come from `mp4_ported`.
 #![tactic(auto)]
 
 #[cfg(test)]

@@ -1,6 +1,7 @@
-//! Writes and reads every vector, alone and all as one stream. From outside, requests for memory may be refused to it.
-//! Its status is 0 if every call has its usual result, be it at the second try; 1 if a call is out of memory twice; and
-//! 2 if a call has any other result, or leaves anything that it shouldn't.
+//! For maintainers: a program that writes and reads every vector, each by itself and all as one stream. `tests/memory`
+//! refuses its requests for memory from outside. The status is 0 if every call has its usual result at the first or
+//! second try. The status is 1 if a call is out of memory twice. The status is 2 if a call has any other result, or
+//! leaves anything changed that it should not.
 #![tactic(auto)]
 
 mod refused_memory;
@@ -23,7 +24,7 @@ fn status(outcome: &Result<(), Ending>) -> u8 {
     }
 }
 
-/// The status of the worst of these outcomes.
+/// Returns the worst status of `outcomes`.
 fn worst(outcomes: &[Result<(), Ending>]) -> u8 {
     let mut worst = 0;
     for outcome in outcomes {
@@ -32,7 +33,7 @@ fn worst(outcomes: &[Result<(), Ending>]) -> u8 {
     worst
 }
 
-/// All that is done with vectors.
+/// Makes all calls that use vectors, and returns the worst status.
 fn use_vectors<V: Vector>(alloc: Global, vectors: &[V]) -> u8 {
     worst(&[
         write_and_read_each(alloc, vectors),
@@ -43,7 +44,7 @@ fn use_vectors<V: Vector>(alloc: Global, vectors: &[V]) -> u8 {
     ])
 }
 
-/// All that is done with other values.
+/// Makes all calls that use other values, and returns the worst status.
 fn use_others(alloc: Global) -> u8 {
     worst(&[
         write_and_read_marks(alloc),

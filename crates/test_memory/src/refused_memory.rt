@@ -1,5 +1,5 @@
-//! Calls of the codec that may be refused a request for memory, or one and all after it. A call that is out of memory
-//! leaves everything as it was, and is made again: then it has its usual result, or is out of memory once more.
+//! Calls of the codec while one request for memory, or one and all later ones, may be refused. A call that is out of
+//! memory leaves everything unchanged and is made again. Then it has its usual result, or is out of memory once more.
 
 use example_callers::mark::MarkBox;
 use mp4_ported::vectors::Vector;
@@ -10,16 +10,16 @@ use mp4_stream::{
 use std::alloc::Global;
 use std::slice;
 
-/// Why calls of the codec ended before their end.
+/// A reason for which a series of calls stops early.
 #[derive(Debug, Drop)]
 pub enum Ending {
-    /// A call was out of memory twice, and left everything as it was.
+    /// A call was out of memory twice, and left everything unchanged.
     Refused,
-    /// A call failed for another reason than memory, or it returned or left something wrong.
+    /// A call had an error other than out of memory, returned something wrong, or left something changed.
     Wrong,
 }
 
-/// Why calls ended, from the error of the last.
+/// Returns the reason to stop for the error of a call.
 fn why(error: Error) -> Ending {
     match error {
         Error::OutOfMemory => Ending::Refused,
@@ -27,7 +27,7 @@ fn why(error: Error) -> Ending {
     }
 }
 
-/// The result of a call, which is made again if it is out of memory.
+/// The result of a call. If the call is out of memory, it is made once more.
 macro_rules! again {
     ($call:expr) => {
         match $call {
@@ -37,8 +37,8 @@ macro_rules! again {
     };
 }
 
-/// Appends the bytes of the boxes to `out`: by `write_box` if it is one box and `as_list` is false, else by
-/// `write_boxes`.
+/// Appends the bytes of `boxes` to `out`, by `write_box` for a single box if `as_list` is false, and by `write_boxes`
+/// otherwise.
 fn append<B: StreamBox>(boxes: &[B], out: &mut Vec<u8>, as_list: bool) -> mp4_stream::Result<u64> {
     match boxes {
         [only] if !as_list => only.write_box(out),
@@ -46,7 +46,7 @@ fn append<B: StreamBox>(boxes: &[B], out: &mut Vec<u8>, as_list: bool) -> mp4_st
     }
 }
 
-/// Appends the bytes of the boxes to a 7, and again if that is out of memory and leaves the 7 alone.
+/// Appends the bytes of `boxes` to a vector with a 7. If that is out of memory and leaves only the 7, tries once more.
 fn write<B: StreamBox>(alloc: Global, boxes: &[B], as_list: bool) -> Result<Vec<u8>, Ending> {
     let mut out = Vec::new(alloc);
     if out.push(7).is_err() && out.push(7).is_err() {
@@ -63,8 +63,8 @@ fn write<B: StreamBox>(alloc: Global, boxes: &[B], as_list: bool) -> Result<Vec<
     Err(Ending::Wrong)
 }
 
-/// Reads the boxes after the first byte, and again if that is out of memory and leaves the cursor after the first byte.
-/// At the end the cursor is at the end of the buffer.
+/// Reads the boxes after the first of `bytes`. If that is out of memory and leaves the cursor after the first byte,
+/// tries once more. A success must leave the cursor at the end of the buffer.
 fn read<B: StreamBox>(alloc: Global, bytes: &[u8]) -> Result<Vec<B>, Ending> {
     let mut reader = ByteCursor::new(bytes);
     reader.set_position(1);
@@ -79,7 +79,7 @@ fn read<B: StreamBox>(alloc: Global, bytes: &[u8]) -> Result<Vec<B>, Ending> {
     Err(Ending::Wrong)
 }
 
-/// Writes the boxes, compares the bytes, and reads the boxes back.
+/// Writes `boxes`, compares the result with `bytes`, and reads the boxes back.
 fn round_trip<B: StreamBox + Eq>(alloc: Global, boxes: &[B], bytes: &[u8]) -> Result<(), Ending> {
     for as_list in [false, true] {
         let out = write(alloc, boxes, as_list)?;
@@ -110,14 +110,14 @@ fn bytes_of_all<V: Vector>(alloc: Global, vectors: &[V]) -> mp4_stream::Result<V
     Ok(bytes)
 }
 
-/// Writes and reads all vectors as one stream.
+/// Writes and reads all `vectors` as one stream.
 pub fn write_and_read_all<V: Vector>(alloc: Global, vectors: &[V]) -> Result<(), Ending> {
     let boxes = again!(boxes_of_all(alloc, vectors))?;
     let bytes = again!(bytes_of_all(alloc, vectors))?;
     round_trip(alloc, &boxes, &bytes)
 }
 
-/// Lists all vectors as one stream.
+/// Lists the boxes of all `vectors` as one stream.
 pub fn list_all<V: Vector>(alloc: Global, vectors: &[V]) -> Result<(), Ending> {
     let bytes = again!(bytes_of_all(alloc, vectors))?;
     let mut reader = ByteCursor::new(&bytes);
@@ -129,7 +129,7 @@ pub fn list_all<V: Vector>(alloc: Global, vectors: &[V]) -> Result<(), Ending> {
     }
 }
 
-/// The bytes of all vectors and of a box that has no type of its own.
+/// Returns the bytes of all `vectors` and of a box whose type the codec does not read.
 fn bytes_to_keep<V: Vector>(alloc: Global, vectors: &[V]) -> mp4_stream::Result<Vec<u8>> {
     let mut bytes = bytes_of_all(alloc, vectors)?;
     bytes.extend_from_slice(b"\0\0\0\x09moov\xaa")?;
@@ -140,7 +140,8 @@ fn kept_boxes(alloc: Global, bytes: &[u8]) -> mp4_stream::Result<Vec<KeptBox>> {
     read_boxes_as(alloc, &mut ByteCursor::new(bytes))
 }
 
-/// Reads all vectors and a box that has no type of its own as one stream, and writes and reads what was read.
+/// Reads all `vectors` and a box whose type the codec does not read as one stream. Then writes the boxes and reads them
+/// back.
 pub fn keep_all<V: Vector>(alloc: Global, vectors: &[V]) -> Result<(), Ending> {
     let bytes = again!(bytes_to_keep(alloc, vectors))?;
     let boxes = again!(kept_boxes(alloc, &bytes))?;
@@ -151,12 +152,12 @@ pub fn keep_all<V: Vector>(alloc: Global, vectors: &[V]) -> Result<(), Ending> {
     }
 }
 
-/// Makes a vector.
+/// Makes the box of `vector`.
 fn made<V: Vector>(alloc: Global, vector: V) -> Result<AnyBox, Ending> {
     again!(vector.make(alloc))
 }
 
-/// Clones a value, and compares the clone.
+/// Clones `original`, compares the two, and returns the clone.
 fn clone_of<T: TryClone + PartialEq + Drop>(original: &T) -> Result<T, Ending> {
     let clone = again!(original.try_clone())?;
     if clone == *original {
@@ -166,14 +167,15 @@ fn clone_of<T: TryClone + PartialEq + Drop>(original: &T) -> Result<T, Ending> {
     }
 }
 
-/// Makes, clones, writes and reads a vector.
+/// Makes, clones, writes and reads the box of `vector`.
 fn write_and_read<V: Vector>(alloc: Global, vector: V) -> Result<(), Ending> {
     let original = made(alloc, vector)?;
     let clone = clone_of(&original)?;
     round_trip(alloc, slice::from_ref(&clone), vector.bytes())
 }
 
-/// Makes, clones, writes and reads each vector alone, also after one that was out of memory.
+/// Makes, clones, writes and reads the box of each vector by itself. Goes on if a vector is out of memory, and stops at
+/// any other failure.
 pub fn write_and_read_each<V: Vector>(alloc: Global, vectors: &[V]) -> Result<(), Ending> {
     let mut outcome = Ok(());
     for vector in vectors {
@@ -227,7 +229,7 @@ fn offsets(alloc: Global) -> mp4_stream::Result<Co64Box> {
     })
 }
 
-/// Converts offsets of chunks to 32 bits.
+/// Converts chunk offsets to 32 bits.
 pub fn shorten_offsets(alloc: Global) -> Result<(), Ending> {
     let offsets = again!(offsets(alloc))?;
     let short = again!(StcoBox::try_from_co64(alloc, &offsets))?;
@@ -238,7 +240,7 @@ pub fn shorten_offsets(alloc: Global) -> Result<(), Ending> {
     }
 }
 
-/// Makes the text of a language and a default media header, which has that language.
+/// Makes the text of a language and a default media header, and compares their languages.
 pub fn make_texts(alloc: Global) -> Result<(), Ending> {
     let language = again!(language_string(alloc, 0x55c4))?;
     let header = again!(MdhdBox::default_in(alloc))?;

@@ -5,8 +5,8 @@ use mp4_ported::vectors::Vector;
 use mp4_stream::{AnyBox, BoxHeader, ByteCursor, Error, StreamBox, read_boxes};
 use std::alloc::Global;
 
-/// Boxes that are read without memory for their lists and strings: runs without fields and samples of one size,
-/// however many; a reference and a configuration that hold nothing.
+/// Boxes that are read without memory, although their types may ask for it. These are a run without fields and samples
+/// of one size, whatever their count, and an empty reference and an empty configuration.
 const WITHOUT_MEMORY: [&[u8]; 4] = [
     b"\0\0\0\x10trun\0\0\0\0\xff\xff\xff\xff",
     b"\0\0\0\x14stsz\0\0\0\0\0\0\x01\x0b\xff\xff\xff\xff",
@@ -14,13 +14,13 @@ const WITHOUT_MEMORY: [&[u8]; 4] = [
     b"\0\0\0\x0favcC\x01\x64\0\x0d\xff\xe0\0",
 ];
 
-/// The codes of the types whose boxes are all read without memory.
+/// The codes of the types whose boxes never need memory to be read.
 const CODES_WITHOUT_MEMORY: [&[u8]; 16] = [
     b"mvhd", b"tkhd", b"mehd", b"mfhd", b"smhd", b"vmhd", b"trex", b"tfdt", b"tfhd", b"hvcC",
     b"hev1", b"vpcC", b"vp09", b"tx3g", b"esds", b"mp4a",
 ];
 
-/// Whether a vector is of a type whose boxes are all read without memory.
+/// Returns whether the box in `bytes` has a type whose boxes never need memory to be read.
 fn asks_no_memory(bytes: &[u8]) -> bool {
     let code = bytes.get(4..8);
     CODES_WITHOUT_MEMORY
@@ -37,8 +37,8 @@ fn read_one(alloc: Global, bytes: &[u8]) -> mp4_stream::Result<AnyBox> {
     AnyBox::read_named(alloc, header.name, &mut reader, header.size)
 }
 
-/// Streams that are invalid data before memory is asked for: a size of 2, a version that `mvhd` does not have, and
-/// counts of two rows where there is room for one.
+/// Streams whose fault is found before any memory is asked for: a size of 2, a version that `mvhd` does not have, and
+/// counts of two entries in boxes with one entry.
 const INVALID: [&[u8]; 5] = [
     b"\0\0\0\x02free",
     b"\0\0\0\x0cmvhd\x02\0\0\0",
@@ -47,7 +47,7 @@ const INVALID: [&[u8]; 5] = [
     b"\0\0\0\x14trun\0\0\x01\0\0\0\0\x02\0\0\x04\0",
 ];
 
-/// An `avcC` whose count is one set, and which ends within the length of that set: end of input.
+/// An `avcC` that counts one parameter set and ends within the length of the set. Reading it is end of input.
 const NO_SET: &[u8] = b"\0\0\0\x0favcC\x01\x64\0\x0d\xff\xe1\0";
 
 fn is_invalid(alloc: Global, bytes: &[u8]) -> bool {
@@ -67,7 +67,8 @@ fn is_skipped(alloc: Global, bytes: &[u8]) -> bool {
     }
 }
 
-/// Reads streams that never ask for memory: a box that is skipped, and streams that have a fault first.
+/// Checks streams that are read without a request for memory: a box that is skipped, and streams that begin with a
+/// fault.
 pub fn read_lists_without_memory(alloc: Global) -> Result<(), Ending> {
     if is_skipped(alloc, b"\0\0\0\x08free")
         && INVALID.iter().all(|bytes| is_invalid(alloc, bytes))
@@ -79,7 +80,7 @@ pub fn read_lists_without_memory(alloc: Global) -> Result<(), Ending> {
     }
 }
 
-/// Reads boxes that never ask for memory: also where every request is refused.
+/// Reads the boxes in `WITHOUT_MEMORY`, which must succeed even if every request for memory is refused.
 pub fn read_without_memory(alloc: Global) -> Result<(), Ending> {
     if WITHOUT_MEMORY
         .iter()
@@ -91,7 +92,7 @@ pub fn read_without_memory(alloc: Global) -> Result<(), Ending> {
     }
 }
 
-/// Reads the vectors of the types that never ask for memory.
+/// Reads those of `vectors` whose types never need memory.
 pub fn read_vectors_without_memory<V: Vector>(alloc: Global, vectors: &[V]) -> Result<(), Ending> {
     for vector in vectors {
         let bytes = vector.bytes();

@@ -2,16 +2,17 @@
 
 ghost use Rattle.std.specs.Prelude.{◌≤◌};
 
+use crate::structure::Level;
 use crate::{push_record, show};
-use mp4_container::Container;
-use mp4_lists::ChildBox;
-use mp4_more::{BoxTree, MoreBox};
+use mp4_box_tree::Container;
+use mp4_compose::ChildBox;
+use mp4_extra::{BoxTree, ExtraBox};
 use mp4_stream::{
     BoxHeader, BoxType, ByteCursor, Entries, ReadBox, Result as Read, StreamBox, WriteBox,
 };
 use std::alloc::{AllocError, Global};
 use std::fmt::Debug;
-use test_more::{
+use test_extra::{
     LINS, LinesBox, NEST, NUMB, NestedBox, NumbersBox, OPTS, OUTR, OptionsBox, OuterBox, RANG,
     RUNS, RangeBox, RunsBox, STRS, StringsBox, TREP, TrepBox,
 };
@@ -33,7 +34,7 @@ fn show_read<B: WriteBox + Debug>(
     push_record(&text, out)
 }
 
-/// Appends them of a box of this type and size, whose content is at the cursor.
+/// Reads a `B` of the size `size`, whose content is at the cursor, and appends the two records of `show_read`.
 fn show_as<B: ReadBox + WriteBox + Debug + Drop>(
     alloc: Global,
     size: u64,
@@ -46,7 +47,8 @@ fn show_as<B: ReadBox + WriteBox + Debug + Drop>(
     show_read(alloc, &found, reader, out)
 }
 
-/// Appends them of a box of this name and size, if `B` knows the name.
+/// Reads the box called `name`, of the size `size`, as a `B`, and appends the two records of `show_read`. The records
+/// are empty if `B` does not know `name`.
 fn show_named<B: StreamBox + Debug>(
     alloc: Global,
     name: BoxType,
@@ -65,7 +67,7 @@ fn show_named<B: StreamBox + Debug>(
 }
 
 /// Appends two records of the box whose header is at the cursor. They are empty if its type isn't declared in
-/// `mp4_more` or `test_more`.
+/// `mp4_extra` or `test_extra`.
 pub(crate) fn show_declared(
     alloc: Global,
     reader: &mut ByteCursor,
@@ -85,19 +87,22 @@ pub(crate) fn show_declared(
         BoxType::UnknownBox(RUNS) => show_as::<RunsBox>(alloc, size, reader, out),
         BoxType::UnknownBox(STRS) => show_as::<StringsBox>(alloc, size, reader, out),
         BoxType::UnknownBox(TREP) => show_as::<TrepBox>(alloc, size, reader, out),
-        name => show_named::<MoreBox>(alloc, name, size, reader, out),
+        name => show_named::<ExtraBox>(alloc, name, size, reader, out),
     }
 }
 
 /// The code of the box in which trees are written, `moov`, which has no fields before them.
 const MOOV: u32 = 0x6d6f_6f76;
 
-/// Appends a record: what these boxes are written in, by the box that holds them.
-fn show_children<B: ChildBox>(
+/// Writes `boxes` inside a `moov`, and appends a record: the result, and the bytes after the header of the `moov`.
+/// Appends their structure to `structure`.
+fn show_children<B: ChildBox + Level>(
     alloc: Global,
     boxes: Vec<B>,
+    structure: &mut Vec<u8>,
     out: &mut Vec<u8>,
 ) -> Result<(), AllocError> {
+    B::push_structure(alloc, &boxes, structure)?;
     let tree = Container {
         code: MOOV,
         fields: Entries::new(alloc),
@@ -112,16 +117,18 @@ fn show_children<B: ChildBox>(
     push_record(&text, out)
 }
 
-/// Appends a record: what the boxes from an offset of the content on are written in, once they are read as `B`, or why
-/// they aren't. What is asked of `B` is one trait, since that of a tree is looked up anew for each.
-fn show_again<B: ChildBox>(
+/// Reads the boxes of `content` that begin at `at` as `B`, and appends a record: what they are written in, or why they
+/// can't be read. Appends their structure to `structure`. Asks two traits of `B`, since those of a tree are looked up
+/// anew for each.
+fn show_again<B: ChildBox + Level>(
     alloc: Global,
     content: &[u8],
     at: u64,
+    structure: &mut Vec<u8>,
     out: &mut Vec<u8>,
 ) -> Result<(), AllocError> {
     match B::read_children(alloc, content, at) {
-        Ok(boxes) => show_children(alloc, boxes, out),
+        Ok(boxes) => show_children(alloc, boxes, structure, out),
         Err(error) => {
             let text = format!(in alloc; "Err({error:?})")?;
             push_record(&text, out)
@@ -129,13 +136,14 @@ fn show_again<B: ChildBox>(
     }
 }
 
-/// Appends a record: what the boxes from an offset of the content on are written in, once they are read as trees, or
-/// why they aren't.
+/// Reads the boxes of `content` that begin at `at` as trees, and appends a record: what they are written in, or why
+/// they can't be read. Appends their structure to `structure`.
 pub(crate) fn show_trees(
     alloc: Global,
     content: &[u8],
     at: u64,
+    structure: &mut Vec<u8>,
     out: &mut Vec<u8>,
 ) -> Result<(), AllocError> {
-    show_again::<BoxTree>(alloc, content, at, out)
+    show_again::<BoxTree>(alloc, content, at, structure, out)
 }

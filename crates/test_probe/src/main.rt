@@ -1,24 +1,37 @@
-//! Reads records from standard input, and writes records to standard output that say what the codec reads in them.
-//! `tests/rows` compares these with what is expected, and `tests/differential` with what a second reader reads.
+//! For the tests of the codec: a program that reads records from standard input, and writes records to standard output
+//! with what the codec reads in them. `tests/rows/test_rows.py` compares the output with expected rows, and
+//! `tests/readers/test_differential.py` with the output of a second reader.
 //!
-//! A record of the input is a position, a number of bytes, and these bytes. It gives thirteen records of the output,
-//! each a number of bytes and a text of these bytes. The first is what is read as the box whose header is at the
-//! position, if its name is known; the second, what is read as the list of the boxes from the position on: the result
-//! as `Debug` prints it, a space, and the cursor's position after the call. The third is what this list is written in:
-//! the result of the call, a space, and the list of the bytes; it is empty if there is no list. The next three are the
-//! same of boxes that are kept: as the first three, with `KeptBox` in the place of `AnyBox`. The next two are what is
-//! read of the box, as the first, and what it is written in, as the third, if its type is declared; else they are
-//! empty. The ninth is what the list is written in if it is read as trees, as the third, or the fault. The tenth is
-//! what `read_counted` reads of the box, as the first, with a space and the number of headers after it; it is empty if
-//! the box isn't an `esds`. The next two are as the second and the third, with `AllBoxes` in the place of `AnyBox`. The
-//! last is where the boxes from the position on are, by `list_boxes`, as the second. Numbers have 8 bytes and are
-//! big-endian. The program ends at the first record that isn't whole.
+//! A record of the input is a position, a number of bytes, and these bytes. A record of the output is a number of bytes
+//! and a text of these bytes. Positions and numbers have 8 bytes and are big-endian. The program ends at the first
+//! record of the input that isn't whole.
+//!
+//! In a text, a result is printed by `Debug`. The result of reading is followed by a space and the cursor's position
+//! after the call. The result of writing is followed by a space and the list of the bytes, and the text is empty if
+//! there is nothing to write. Each record of the input gives fourteen records of the output:
+//!
+//! 1. The result of reading the box whose header is at the position as an `AnyBox`, if its name is known.
+//! 2. The result of reading the list of `AnyBox` values that starts at the position.
+//! 3. The result of writing that list.
+//! 4. The result of 1 with `KeptBox` instead of `AnyBox`.
+//! 5. The result of 2 with `KeptBox` instead of `AnyBox`.
+//! 6. The result of writing that list.
+//! 7. The result of reading the box at the position if its type is declared, and an empty text otherwise.
+//! 8. The result of writing that box.
+//! 9. The result of writing the list that starts at the position if it is read as trees, or the error of reading it.
+//! 10. The result of `read_counted` for the box at the position, followed by a space and the number of descriptor
+//!     headers. The text is empty if the box isn't an `esds`.
+//! 11. The result of 2 with `AllBoxes` instead of `AnyBox`.
+//! 12. The result of writing that list.
+//! 13. The result of `list_boxes` at the position, which lists the spans of the boxes.
+//! 14. The structure of the trees of 9. The text is empty after a fault.
 #![tactic(auto)]
 
 mod declared;
+mod structure;
 
 use crate::declared::{show_declared, show_trees};
-use mp4_more::AllBoxes;
+use mp4_extra::AllBoxes;
 use mp4_stream::{
     AnyBox, BoxHeader, BoxType, ByteCursor, EsdsBox, KeptBox, StreamBox, list_boxes, read_boxes_as,
     write_boxes,
@@ -28,7 +41,8 @@ use std::fmt::Debug;
 use std::io;
 use std::io::{Read, Write};
 
-/// The position and the bytes of the first record, and what follows it.
+/// Returns the position and the bytes of the first record in `input`, and the input after it. Returns `None` if the
+/// record isn't whole.
 fn first_record(input: &[u8]) -> Option<(u64, &[u8], &[u8])> {
     let (position, rest) = input.split_first_chunk::<8>()?;
     let (length, rest) = rest.split_first_chunk::<8>()?;
@@ -36,7 +50,7 @@ fn first_record(input: &[u8]) -> Option<(u64, &[u8], &[u8])> {
     Some((u64::from_be_bytes(*position), bytes, rest))
 }
 
-/// Reads the box whose header is at the cursor, if its name is known.
+/// Reads the box whose header is at the cursor. Returns `None` if its name is unknown.
 fn read_one<B: StreamBox>(alloc: Global, reader: &mut ByteCursor) -> mp4_stream::Result<Option<B>> {
     let header = BoxHeader::read(reader)?;
     if !B::knows(header.name) {
@@ -45,13 +59,18 @@ fn read_one<B: StreamBox>(alloc: Global, reader: &mut ByteCursor) -> mp4_stream:
     B::read_named(alloc, header.name, reader, header.size).map(Some)
 }
 
-/// Appends a record of this text.
-pub(crate) fn push_record(text: &str, out: &mut Vec<u8>) -> Result<(), AllocError> {
+/// Appends a record of `text` to `out`.
+fn push_bytes(text: &[u8], out: &mut Vec<u8>) -> Result<(), AllocError> {
     out.extend_from_slice(&(text.len() as u64).to_be_bytes())?;
-    out.extend_from_slice(text.as_bytes())
+    out.extend_from_slice(text)
 }
 
-/// Appends a record: the result of a call, and the cursor's position after it.
+/// Appends a record of `text` to `out`.
+pub(crate) fn push_record(text: &str, out: &mut Vec<u8>) -> Result<(), AllocError> {
+    push_bytes(text.as_bytes(), out)
+}
+
+/// Appends a record of the result `found` of a call, and the cursor's position after it.
 pub(crate) fn show(
     alloc: Global,
     found: &impl Debug,
@@ -62,7 +81,7 @@ pub(crate) fn show(
     push_record(&text, out)
 }
 
-/// Appends a record: the result of writing these boxes, and the bytes that were written.
+/// Appends a record of the result of writing `boxes`, and the bytes that were written.
 fn show_written<B: StreamBox>(
     alloc: Global,
     boxes: &[B],
@@ -74,7 +93,7 @@ fn show_written<B: StreamBox>(
     push_record(&text, out)
 }
 
-/// Appends a record: the result of reading the box whose header is at the cursor, and the cursor's position after it.
+/// Appends a record of the result of reading the box whose header is at the cursor, and the cursor's position after it.
 fn show_box<B: StreamBox + Debug + Drop>(
     alloc: Global,
     reader: &mut ByteCursor,
@@ -84,7 +103,8 @@ fn show_box<B: StreamBox + Debug + Drop>(
     show(alloc, &found, reader, out)
 }
 
-/// Appends two records: the result of reading a list and the cursor's position after it, and the result of writing it.
+/// Appends two records: the result `found` of reading a list with the cursor's position after it, and the result of
+/// writing the list, which is empty after an error.
 fn show_list<B: StreamBox + Debug + Drop>(
     alloc: Global,
     found: &mp4_stream::Result<Vec<B>>,
@@ -98,7 +118,7 @@ fn show_list<B: StreamBox + Debug + Drop>(
     }
 }
 
-/// Appends two records of the list of the boxes from the cursor on, as `show_list`.
+/// Reads the list of the boxes starting at the cursor, and appends the two records of `show_list`.
 fn show_boxes<B: StreamBox + Debug + Drop>(
     alloc: Global,
     reader: &mut ByteCursor,
@@ -108,8 +128,8 @@ fn show_boxes<B: StreamBox + Debug + Drop>(
     show_list(alloc, &found, reader, out)
 }
 
-/// Appends a record: the result of reading the box whose header is at the cursor, the cursor's position after it, and
-/// how many headers of descriptors are read, if it is an `esds`.
+/// Appends a record of reading the `esds` whose header is at the cursor: the result, the cursor's position after it,
+/// and the number of descriptor headers. If the box is no `esds`, the record is empty.
 fn show_counted(
     alloc: Global,
     reader: &mut ByteCursor,
@@ -124,7 +144,7 @@ fn show_counted(
     push_record(&text, out)
 }
 
-/// Appends a record: where the boxes from the cursor on are, and the cursor's position after the call.
+/// Appends a record of the spans of the boxes starting at the cursor, and the cursor's position after the call.
 fn show_places(
     alloc: Global,
     reader: &mut ByteCursor,
@@ -134,7 +154,7 @@ fn show_places(
     show(alloc, &found, reader, out)
 }
 
-/// Appends the thirteen records of these bytes.
+/// Appends the fourteen records of `bytes` with the cursor at `position`.
 fn show_all(
     alloc: Global,
     position: u64,
@@ -152,13 +172,15 @@ fn show_all(
     show_boxes::<KeptBox>(alloc, &mut reader, out)?;
     reader.set_position(position);
     show_declared(alloc, &mut reader, out)?;
-    show_trees(alloc, bytes, position, out)?;
+    let mut structure = Vec::new(alloc);
+    show_trees(alloc, bytes, position, &mut structure, out)?;
     reader.set_position(position);
     show_counted(alloc, &mut reader, out)?;
     reader.set_position(position);
     show_boxes::<AllBoxes>(alloc, &mut reader, out)?;
     reader.set_position(position);
-    show_places(alloc, &mut reader, out)
+    show_places(alloc, &mut reader, out)?;
+    push_bytes(&structure, out)
 }
 
 fn main(rt: HostRuntime) -> io::Result<()> {

@@ -14,8 +14,8 @@ pub struct Giver<'a> {
 }
 
 impl<'a> Giver<'a> {
-    /// Gives at most `most` bytes a call. The call of the number `fails_at` fails, where 1 is the first; None if no
-    /// call fails.
+    /// Returns a reader that gives at most `most` bytes a call. The call with the number `fails_at` fails, where 1 is
+    /// the first; with `None` no call fails.
     pub fn new(rest: &'a [u8], most: usize, fails_at: Option<u64>) -> Self {
         Giver {
             rest,
@@ -37,7 +37,7 @@ impl Read for Giver<'_> {
     }
 }
 
-/// A reader of as many zeros as are left.
+/// A reader of a given number of zeros.
 #[derive(Drop)]
 pub struct Zeros {
     pub left: usize,
@@ -52,7 +52,7 @@ impl Read for Zeros {
     }
 }
 
-/// A reader that never ends: it gives the same bytes in each call.
+/// A reader that never ends, and gives the same bytes in each call.
 #[derive(Drop)]
 pub struct Endless<'a> {
     pub piece: &'a [u8; 8],
@@ -69,12 +69,12 @@ impl Read for Endless<'_> {
     }
 }
 
-/// How a call of a writer goes wrong.
+/// The ways in which a call of a writer goes wrong.
 #[derive(Clone, Copy, Debug, PartialEq, Eq)]
 pub enum Refusal {
-    /// It fails.
+    /// The call fails.
     Fails,
-    /// It takes no byte.
+    /// The call takes no byte.
     TakesNone,
 }
 
@@ -89,8 +89,8 @@ pub struct Taker {
 }
 
 impl Taker {
-    /// Takes at most `most` bytes a call. The call of the number `fails_at` goes wrong, where 1 is the first; None if
-    /// no call does.
+    /// Returns a writer that takes at most `most` bytes a call. The call with the number `fails_at` goes wrong, where 1
+    /// is the first; with `None` no call does.
     pub fn new(alloc: Global, most: usize, fails_at: Option<u64>, refusal: Refusal) -> Self {
         Taker {
             taken: Vec::new(alloc),

@@ -8,10 +8,10 @@ use std::test::Fail;
 /// A free box with a size of 64 bits, and a box of 8 bytes.
 const LARGE_FIRST: [u8; 25] = *b"\0\0\0\x01free\0\0\0\0\0\0\0\x11x\0\0\0\x08skip";
 
-/// The same in its normal form.
+/// The normal form of `LARGE_FIRST`.
 const SMALL_FIRST: [u8; 17] = *b"\0\0\0\x09freex\0\0\0\x08skip";
 
-/// Whether these bytes stay as they are when their normal form is refused with end of input.
+/// Returns whether `bytes` stay unchanged when their normal form is refused with end of input.
 fn stays_as_it_was(alloc: Global, bytes: &[u8]) -> Result<bool, Error> {
     let mut stream = Vec::from_slice(alloc, bytes)?;
     let refused = matches!(normalize(alloc, &mut stream), Err(Error::IoError));

@@ -1,4 +1,4 @@
-//! Lists of inputs that come in parts: each cuts a header somewhere.
+//! Lists of inputs that are read in parts, each of which cuts a header somewhere.
 
 use super::fakes::{Endless, Giver, Refusal, Taker};
 use crate::command::Command;
@@ -10,15 +10,16 @@ use mp4_stream::Error;
 use std::alloc::Global;
 use std::process::Abort;
 
-/// A box of 17 bytes with a header of 16, one of 9 bytes, one of 16 bytes with a header of as many, and one of 5 bytes
-/// of content that goes to the end. The name of the second has the first and the last printable character.
+/// A box of 17 bytes with a header of 16, one of 9 bytes, one of 16 bytes that is only a header, and one with 5 bytes
+/// of content that extends to the end. The name of the second has the first and the last printable character.
 const BOXES: [u8; 55] = *b"\0\0\0\x01free\0\0\0\0\0\0\0\x11a\0\0\0\x09 s~ b\
     \0\0\0\x01udta\0\0\0\0\0\0\0\x10\0\0\0\0mdatcdefg";
 
-/// Their lines.
+/// The lines of `BOXES`.
 const LINES: &[u8] = b"0 17 free\n17 9  s~ \n26 16 udta\n42 13 mdat\n";
 
-/// What a list of these bytes returns and writes, where the reader gives so many bytes a call, and this call fails.
+/// Lists `bytes` from a reader that gives `most` bytes a call and fails at the call `fails_at`. Returns the result and
+/// the output.
 fn list(
     rt: &(impl Abort + Alloc<A = Global>),
     bytes: &[u8],
@@ -46,8 +47,8 @@ fn headers_that_are_split_anywhere(rt: HostRuntime) {
     }
 }
 
-/// After 0, 17, 26 and 42 bytes a box ends, and from 50 bytes on the last box has its header and goes to the end. Where
-/// the input ends elsewhere, a header or a box is cut.
+/// A box ends after 0, 17, 26 and 42 bytes. With 50 bytes or more the last box has its header and extends to the end.
+/// If the input ends anywhere else, a header or a box is cut.
 #[test]
 fn inputs_that_end_anywhere(rt: HostRuntime) {
     for end in 0..BOXES.len() {
@@ -67,17 +68,17 @@ fn inputs_that_end_anywhere(rt: HostRuntime) {
     }
 }
 
-/// The box of 16 bytes says that it has 15, which its header has no room for.
+/// Returns `BOXES` in which the box of 16 bytes has a size of 15, smaller than its header.
 fn with_a_fault() -> [u8; 55] {
     let mut bytes = BOXES;
     bytes[41] = 15;
     bytes
 }
 
-/// The offset at which the header with the fault ends.
+/// The offset after the header with the fault.
 const FAULT: usize = 42;
 
-/// Reading stops at the fault: a read that would fail after it is not made.
+/// Reading stops at the fault, so a later read that would fail is not made.
 #[test]
 fn a_fault_and_a_failed_read(rt: HostRuntime) {
     let bytes = with_a_fault();
@@ -142,15 +143,15 @@ fn end_of(list: &Result<Vec<u8>, RunFault>) -> End {
     }
 }
 
-/// Lists `bytes` where the reader gives `most` bytes a call and an input may have `limit` bytes. Returns how that ended
-/// and the number of calls of the reader.
+/// Lists `bytes` from a reader that gives `most` bytes a call, with at most `limit` bytes of input. Returns the end of
+/// the list and the number of calls of the reader.
 fn list_up_to(alloc: Global, bytes: &[u8], most: usize, limit: usize) -> (End, u64) {
     let mut input = Input::new(Giver::new(bytes, most, None));
     let end = end_of(&list_input(alloc, &mut input, limit as u64));
     (end, input.inner.calls)
 }
 
-/// An input may have as many bytes as the limit. One that has more is out of memory at the call that passes the limit.
+/// An input may have exactly the limit of bytes. A longer one is out of memory at the call that passes the limit.
 #[test]
 fn inputs_at_a_limit(rt: HostRuntime) {
     for most in [1, 3, 16, 64] {
@@ -184,7 +185,7 @@ fn faults_at_a_limit(rt: HostRuntime) {
     }
 }
 
-/// Inputs that never end: boxes that follow one another, and a box that goes to the end.
+/// Inputs that never end: boxes in a row, and a box that extends to the end.
 #[test]
 fn endless_inputs_at_a_limit(rt: HostRuntime) {
     for piece in [b"\0\0\0\x08free", b"\0\0\0\0free"] {
@@ -196,7 +197,7 @@ fn endless_inputs_at_a_limit(rt: HostRuntime) {
     }
 }
 
-/// Each call of the reader fails in turn, also while the box is read that goes to the end.
+/// Each call of the reader fails in turn, also in the box that extends to the end.
 #[test]
 fn reads_that_fail_anywhere(rt: HostRuntime) {
     for most in [1, 5, 16, 64] {

@@ -14,19 +14,19 @@ use std::alloc::Global;
 use std::process::Abort;
 use std::test::Fail;
 
-/// The commands, and what each writes of the stored input.
+/// The commands, with the output of each for the stored input.
 const COMMANDS: [(Command, &[u8]); 2] = [(Command::Normal, &INPUT), (Command::List, &LISTED)];
 
-/// The most bytes that a call of the reader gives.
+/// The largest number of bytes that a call of the reader gives.
 const GIVEN: usize = 10;
 
-/// The most bytes that a call of the writer takes.
+/// The largest number of bytes that a call of the writer takes.
 const TAKEN: usize = 7;
 
-/// More calls of an end than a run over the stored input makes.
+/// A number of calls that no run over the stored input reaches.
 const CALLS: u64 = 10;
 
-/// Inputs, and what `run_list` writes for each: a header of 16 bytes, a name that is not printable, a name that ends
+/// Inputs with the output of `run_list` for each: a header of 16 bytes, a name that is not printable, a name that ends
 /// with a space, and a last box of size 0.
 const LISTS: [(&[u8], &[u8]); 4] = [
     (
@@ -41,7 +41,7 @@ const LISTS: [(&[u8], &[u8]); 4] = [
     ),
 ];
 
-/// A run over the stored input, where the calls of these numbers go wrong.
+/// Runs a command over the stored input; the calls with these numbers go wrong.
 fn run_with_bad_calls(
     rt: &(impl Abort + Alloc<A = Global>),
     command: Command,
@@ -160,12 +160,12 @@ fn an_endless_reader_is_out_of_memory(rt: HostRuntime) -> Result<(), Fail> {
     Ok(())
 }
 
-/// Heaps of growing size: the first has no room for the first request, later ones have none for the second and so on,
-/// and the last have room for all.
+/// Heaps of growing size: the first is too small for the first request, later ones for the second and so on, and the
+/// last are large enough for all.
 #[test]
 fn each_growth_is_refused_in_turn(rt: HostRuntime) -> Result<(), Fail> {
     const ALL: usize = 200_000;
-    // The number of bytes that were read before each request that was refused.
+    // The number of bytes that were read before each refused request.
     let mut refusals: Vec<usize> = Vec::new(rt.alloc());
     let mut is_read = false;
     for blocks in 1..32 {

@@ -1,4 +1,4 @@
-//! Sample entries of video and subtitles, and the bytes that they are written in, worked out from the layout table.
+//! Sample entries of video and subtitles, with their bytes, computed from the layout table.
 
 use mp4_stream::{
     Avc1Box, AvcCBox, Entries, FixedPointU16, Hev1Box, HevcConfig, HvcCBox, NalUnit, Result,
@@ -6,14 +6,14 @@ use mp4_stream::{
 };
 use std::alloc::Global;
 
-/// `avcC`, version 0x81: three unlike sets of each kind, one of them empty.
+/// `avcC`, version 0x81: three different parameter sets of each kind, one of them empty.
 pub const AVCC: [u8; 36] = [
     0x00, 0x00, 0x00, 0x24, 0x61, 0x76, 0x63, 0x43, 0x81, 0x42, 0xc3, 0x25, 0xfe, 0xe3, 0x00, 0x02,
     0x67, 0x91, 0x00, 0x01, 0x68, 0x00, 0x03, 0x69, 0x92, 0xa3, 0x03, 0x00, 0x01, 0x12, 0x00, 0x00,
     0x00, 0x02, 0x34, 0x56,
 ];
 
-/// `avc1`: every field has another value.
+/// `avc1`: all fields are different.
 pub const AVC1: [u8; 122] = [
     0x00, 0x00, 0x00, 0x7a, 0x61, 0x76, 0x63, 0x31, 0x00, 0x00, 0x00, 0x00, 0x00, 0x00, 0x81, 0x02,
     0x00, 0x00, 0x00, 0x00, 0x00, 0x00, 0x00, 0x00, 0x00, 0x00, 0x00, 0x00, 0x00, 0x00, 0x00, 0x00,
@@ -25,10 +25,10 @@ pub const AVC1: [u8; 122] = [
     0x03, 0x00, 0x01, 0x12, 0x00, 0x00, 0x00, 0x02, 0x34, 0x56,
 ];
 
-/// `hvcC`: the version alone, which is 0x8a.
+/// `hvcC`: only the version, which is 0x8a.
 pub const HVCC: [u8; 9] = [0x00, 0x00, 0x00, 0x09, 0x68, 0x76, 0x63, 0x43, 0x8a];
 
-/// `hev1`: every field has another value.
+/// `hev1`: all fields are different.
 pub const HEV1: [u8; 95] = [
     0x00, 0x00, 0x00, 0x5f, 0x68, 0x65, 0x76, 0x31, 0x00, 0x00, 0x00, 0x00, 0x00, 0x00, 0x82, 0x03,
     0x00, 0x00, 0x00, 0x00, 0x00, 0x00, 0x00, 0x00, 0x00, 0x00, 0x00, 0x00, 0x00, 0x00, 0x00, 0x00,
@@ -38,13 +38,13 @@ pub const HEV1: [u8; 95] = [
     0x00, 0x00, 0xd4, 0x07, 0xff, 0xff, 0x00, 0x00, 0x00, 0x09, 0x68, 0x76, 0x63, 0x43, 0x8a,
 ];
 
-/// `vpcC`, version 0x81: every field has another value.
+/// `vpcC`, version 0x81: all fields are different.
 pub const VPCC: [u8; 20] = [
     0x00, 0x00, 0x00, 0x14, 0x76, 0x70, 0x63, 0x43, 0x81, 0x92, 0x03, 0x04, 0xa5, 0xb6, 0xa7, 0xc8,
     0xd9, 0xea, 0xfb, 0x0c,
 ];
 
-/// `vp09`, version 0x8b: every field has another value.
+/// `vp09`, version 0x8b: all fields are different.
 pub const VP09: [u8; 106] = [
     0x00, 0x00, 0x00, 0x6a, 0x76, 0x70, 0x30, 0x39, 0x8b, 0x9c, 0x0d, 0x0e, 0xad, 0x1f, 0xbe, 0x2a,
     0x11, 0x12, 0x13, 0x14, 0x15, 0x16, 0x17, 0x18, 0x19, 0x1a, 0x1b, 0x1c, 0x1d, 0x1e, 0x1f, 0x20,
@@ -55,7 +55,7 @@ pub const VP09: [u8; 106] = [
     0x03, 0x04, 0xa5, 0xb6, 0xa7, 0xc8, 0xd9, 0xea, 0xfb, 0x0c,
 ];
 
-/// `tx3g`: every field has another value, some of them below 0.
+/// `tx3g`: all fields are different, some of them below 0.
 pub const TX3G: [u8; 46] = [
     0x00, 0x00, 0x00, 0x2e, 0x74, 0x78, 0x33, 0x67, 0x00, 0x00, 0x00, 0x00, 0x00, 0x00, 0x8d, 0x01,
     0x9e, 0x02, 0x13, 0xf4, 0x9c, 0xc8, 0xa1, 0xb2, 0xd3, 0xe4, 0x8a, 0xd0, 0x01, 0x02, 0xff, 0xfe,
@@ -129,7 +129,7 @@ pub const SEQUENCE: [u8; 24] = [
 /// The picture set of the Rust crate's test.
 pub const PICTURE: [u8; 6] = [0x68, 0xeb, 0xe3, 0xcb, 0x22, 0xc0];
 
-/// A list of sets of these bytes.
+/// Returns a list of parameter sets with the bytes in `sets`.
 pub fn list_of_sets(alloc: Global, sets: &[&[u8]]) -> Result<Entries<NalUnit>> {
     let mut list = Entries::new(alloc);
     for set in sets {
@@ -138,7 +138,7 @@ pub fn list_of_sets(alloc: Global, sets: &[&[u8]]) -> Result<Entries<NalUnit>> {
     Ok(list)
 }
 
-/// A list of as many empty sets.
+/// Returns a list of `count` empty parameter sets.
 pub fn empty_sets(alloc: Global, count: usize) -> Result<Entries<NalUnit>> {
     let mut list = Entries::new(alloc);
     for _ in 0..count {
@@ -147,7 +147,7 @@ pub fn empty_sets(alloc: Global, count: usize) -> Result<Entries<NalUnit>> {
     Ok(list)
 }
 
-/// `avcC`, version 0x81: a decoder configuration with three unlike sets of each kind.
+/// Returns an `avcC` of version 0x81: a decoder configuration with three different parameter sets of each kind.
 pub fn avcc(alloc: Global) -> Result<AvcCBox> {
     Ok(AvcCBox {
         configuration_version: 0x81,
@@ -163,14 +163,15 @@ pub fn avcc(alloc: Global) -> Result<AvcCBox> {
     })
 }
 
-/// `avcC`, version 1: the decoder configuration of the Rust crate's test, with this size of lengths.
+/// Returns an `avcC` of version 1: the decoder configuration of the Rust crate's test, with this
+/// `length_size_minus_one`.
 pub fn avcc_of_two(alloc: Global, length_size_minus_one: u8) -> Result<AvcCBox> {
     let mut avcc = AvcCBox::new(alloc, &SEQUENCE, &PICTURE)?;
     avcc.length_size_minus_one = length_size_minus_one;
     Ok(avcc)
 }
 
-/// `avc1`: a video entry whose fields are all unlike.
+/// Returns an `avc1`: a video entry whose fields are all different.
 pub fn avc1(alloc: Global) -> Result<Avc1Box> {
     Ok(Avc1Box {
         data_reference_index: 0x8102,
@@ -184,12 +185,12 @@ pub fn avc1(alloc: Global) -> Result<Avc1Box> {
     })
 }
 
-/// `avc1`: the video entry of the Rust crate's test, with this size of lengths.
+/// Returns an `avc1`: the video entry of the Rust crate's test, with this `length_size_minus_one`.
 pub fn avc1_of_two(alloc: Global, length_size_minus_one: u8) -> Result<Avc1Box> {
     Ok(avc1_of(alloc, avcc_of_two(alloc, length_size_minus_one)?))
 }
 
-/// `avc1`: the video entry of the Rust crate's test, of 320 by 240 pixels, with this decoder configuration.
+/// Returns an `avc1`: the video entry of the Rust crate's test, of 320 by 240 pixels, with this decoder configuration.
 pub fn avc1_of(alloc: Global, avcc: AvcCBox) -> Avc1Box {
     let mut entry = Avc1Box::default_in(alloc);
     entry.data_reference_index = 1;
@@ -199,14 +200,14 @@ pub fn avc1_of(alloc: Global, avcc: AvcCBox) -> Avc1Box {
     entry
 }
 
-/// `hvcC`, version 0x8a: a decoder configuration of HEVC, which is its version alone.
+/// Returns an `hvcC` of version 0x8a: a decoder configuration of HEVC, which has only its version.
 pub fn hvcc() -> HvcCBox {
     HvcCBox {
         configuration_version: 0x8a,
     }
 }
 
-/// `hev1`: a video entry of HEVC whose fields are all unlike.
+/// Returns an `hev1`: a video entry of HEVC whose fields are all different.
 pub fn hev1() -> Hev1Box {
     Hev1Box {
         data_reference_index: 0x8203,
@@ -220,7 +221,7 @@ pub fn hev1() -> Hev1Box {
     }
 }
 
-/// `hev1`: the video entry of the Rust crate's test, of 320 by 240 pixels.
+/// Returns an `hev1`: the video entry of the Rust crate's test, of 320 by 240 pixels.
 pub fn hev1_of_config() -> Hev1Box {
     Hev1Box::new(&HevcConfig {
         width: 320,
@@ -228,7 +229,7 @@ pub fn hev1_of_config() -> Hev1Box {
     })
 }
 
-/// `vpcC`, version 0x81: a decoder configuration of VP9 whose fields are all unlike.
+/// Returns a `vpcC` of version 0x81: a decoder configuration of VP9 whose fields are all different.
 pub fn vpcc() -> VpccBox {
     VpccBox {
         version: 0x81,
@@ -245,7 +246,7 @@ pub fn vpcc() -> VpccBox {
     }
 }
 
-/// `vp09`, version 0x8b: a video entry of VP9 whose fields are all unlike.
+/// Returns a `vp09` of version 0x8b: a video entry of VP9 whose fields are all different.
 pub fn vp09() -> Vp09Box {
     Vp09Box {
         version: 0x8b,
@@ -273,7 +274,7 @@ pub fn vp09() -> Vp09Box {
     }
 }
 
-/// `vp09`: the video entry of the Rust crate's test, of 1920 by 1080 pixels.
+/// Returns a `vp09`: the video entry of the Rust crate's test, of 1920 by 1080 pixels.
 pub fn vp09_of_config() -> Vp09Box {
     Vp09Box::new(&Vp9Config {
         width: 1920,
@@ -281,7 +282,7 @@ pub fn vp09_of_config() -> Vp09Box {
     })
 }
 
-/// `vpcC`, version 1: the decoder configuration of the Rust crate's test.
+/// Returns a `vpcC` of version 1: the decoder configuration of the Rust crate's test.
 pub fn vpcc_of_test() -> VpccBox {
     VpccBox {
         version: VpccBox::DEFAULT_VERSION,
@@ -298,7 +299,7 @@ pub fn vpcc_of_test() -> VpccBox {
     }
 }
 
-/// `tx3g`: the text entry of the Rust crate's test.
+/// Returns a `tx3g`: the text entry of the Rust crate's test.
 pub fn tx3g_of_test() -> Tx3gBox {
     Tx3gBox {
         data_reference_index: 1,
@@ -306,7 +307,7 @@ pub fn tx3g_of_test() -> Tx3gBox {
     }
 }
 
-/// `tx3g`: a text entry whose fields are all unlike.
+/// Returns a `tx3g`: a text entry whose fields are all different.
 pub fn tx3g() -> Tx3gBox {
     Tx3gBox {
         data_reference_index: 0x8d01,

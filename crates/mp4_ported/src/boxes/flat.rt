@@ -1,4 +1,4 @@
-//! Boxes of fixed fields, and the bytes that they are written in.
+//! Boxes of fixed fields, with their bytes.
 
 use mp4_stream::{
     FixedPointI8, FixedPointU8, FixedPointU16, Matrix, MdhdBox, MehdBox, MfhdBox, MvhdBox, Result,
@@ -12,7 +12,7 @@ pub const MVHD: [u8; 108] =
 \x01\0\0\0\0\0\0\0\0\0\0\0\0\0\0\0\x01\0\0\0\0\0\0\0\0\0\0\0\0\0\0@\0\0\0\0\0\0\0\0\0\0\0\0\0\0\0\0\
 \0\0\0\0\0\0\0\0\0\0\0\0\0\0\x01";
 
-/// `mvhd`, version 1: the same header with times of 64 bits.
+/// `mvhd`, version 1: the header of `MVHD` with times of 64 bits.
 pub const MVHD_LONG: [u8; 120] =
     *b"\0\0\0xmvhd\x01\0\0\0\0\0\0\0\0\0\0d\0\0\0\0\0\0\0\xc8\0\0\x03\xe8\0\0\0\0\0\x09\xaf\x0a\0\x01\0\0\
 \x01\0\0\0\0\0\0\0\0\0\0\0\0\x01\0\0\0\0\0\0\0\0\0\0\0\0\0\0\0\x01\0\0\0\0\0\0\0\0\0\0\0\0\0\0@\0\0\
@@ -30,16 +30,16 @@ pub const TKHD_SHORT: [u8; 92] =
 \0\0\0\0\x01\0\0\0\0\0\0\0\0\0\0\0\0\0\0\0\x01\0\0\0\0\0\0\0\0\0\0\0\0\0\0@\0\0\0\x02\0\0\0\x01\x20\
 \0\0";
 
-/// `tkhd`, version 1: the same header with times of 64 bits.
+/// `tkhd`, version 1: the header of `TKHD_SHORT` with times of 64 bits.
 pub const TKHD_LONG: [u8; 104] =
     *b"\0\0\0htkhd\x01\0\0\x01\0\0\0\0\0\0\0d\0\0\0\0\0\0\0\xc8\0\0\0\x01\0\0\0\0\0\0\0\0\0\x09\xaf\x0a\0\
 \0\0\0\0\0\0\0\0\0\0\0\x01\0\0\0\0\x01\0\0\0\0\0\0\0\0\0\0\0\0\0\0\0\x01\0\0\0\0\0\0\0\0\0\0\0\0\0\
 \0@\0\0\0\x02\0\0\0\x01\x20\0\0";
 
-/// `mdhd`, version 0: times of 32 bits, no certain language.
+/// `mdhd`, version 0: times of 32 bits, and an undetermined language.
 pub const MDHD: [u8; 32] = *b"\0\0\0 mdhd\0\0\0\0\0\0\0d\0\0\0\xc8\0\0\xbb\x80\x01\xd0z\0U\xc4\0\0";
 
-/// `mdhd`, version 0: times of 32 bits, English.
+/// `mdhd`, version 0: times of 32 bits, and English.
 pub const MDHD_ENGLISH: [u8; 32] =
     *b"\0\0\0\x20mdhd\0\0\0\0\0\0\0d\0\0\0\xc8\0\0\xbb\x80\x01\xd0z\0\x15\xc7\0\0";
 
@@ -74,7 +74,7 @@ pub const VMHD_BLACK: [u8; 20] = *b"\0\0\0\x14vmhd\0\0\0\x01\0\0\0\0\0\0\0\0";
 /// `tfdt`, version 0: a time of 0, in 32 bits.
 pub const TFDT_OF_ZERO: [u8; 16] = *b"\0\0\0\x10tfdt\0\0\0\0\0\0\0\0";
 
-/// `mvhd`, version 0: a movie header with times of 32 bits.
+/// Returns an `mvhd` of version 0: a movie header with times of 32 bits.
 pub fn mvhd() -> MvhdBox {
     MvhdBox {
         creation_time: 100,
@@ -84,7 +84,7 @@ pub fn mvhd() -> MvhdBox {
     }
 }
 
-/// `mvhd`, version 1: the same header with times of 64 bits.
+/// Returns an `mvhd` of version 1: the header of `mvhd` with times of 64 bits.
 pub fn mvhd_long() -> MvhdBox {
     MvhdBox {
         version: 1,
@@ -92,7 +92,7 @@ pub fn mvhd_long() -> MvhdBox {
     }
 }
 
-/// `tkhd`, version 1: a track header with times of 64 bits, for a picture that is rotated by 90 degrees.
+/// Returns a `tkhd` of version 1: a track header with times of 64 bits, for a picture that is rotated by 90 degrees.
 pub fn tkhd() -> TkhdBox {
     TkhdBox {
         version: 1,
@@ -116,7 +116,7 @@ pub fn tkhd() -> TkhdBox {
     }
 }
 
-/// `tkhd`, version 0: a track header with times of 32 bits.
+/// Returns a `tkhd` of version 0: a track header with times of 32 bits.
 pub fn tkhd_short() -> TkhdBox {
     let mut header = TkhdBox::default();
     header.creation_time = 100;
@@ -128,7 +128,7 @@ pub fn tkhd_short() -> TkhdBox {
     header
 }
 
-/// `tkhd`, version 1: the same header with times of 64 bits.
+/// Returns a `tkhd` of version 1: the header of `tkhd_short` with times of 64 bits.
 pub fn tkhd_long() -> TkhdBox {
     TkhdBox {
         version: 1,
@@ -136,7 +136,7 @@ pub fn tkhd_long() -> TkhdBox {
     }
 }
 
-/// `tkhd`, version 0: a track header whose fields all have different values.
+/// Returns a `tkhd` of version 0: a track header whose fields all have different values.
 pub fn tkhd_full() -> TkhdBox {
     TkhdBox {
         version: 0,
@@ -164,7 +164,7 @@ pub fn tkhd_full() -> TkhdBox {
     }
 }
 
-/// The media header of a track in this language, with times of 32 bits.
+/// Returns the media header of a track in `language`, with times of 32 bits.
 fn mdhd_in(alloc: Global, language: &str) -> Result<MdhdBox> {
     Ok(MdhdBox {
         version: 0,
@@ -177,24 +177,24 @@ fn mdhd_in(alloc: Global, language: &str) -> Result<MdhdBox> {
     })
 }
 
-/// `mdhd`, version 0: the media header of a track of no certain language, with times of 32 bits.
+/// Returns an `mdhd` of version 0: the media header of a track of undetermined language, with times of 32 bits.
 pub fn mdhd(alloc: Global) -> Result<MdhdBox> {
     mdhd_in(alloc, "und")
 }
 
-/// `mdhd`, version 0: the media header of a track in English, with times of 32 bits.
+/// Returns an `mdhd` of version 0: the media header of a track in English, with times of 32 bits.
 pub fn mdhd_english(alloc: Global) -> Result<MdhdBox> {
     mdhd_in(alloc, "eng")
 }
 
-/// `mdhd`, version 1: the media header of a track in English, with times of 64 bits.
+/// Returns an `mdhd` of version 1: the media header of a track in English, with times of 64 bits.
 pub fn mdhd_long(alloc: Global) -> Result<MdhdBox> {
     let mut header = mdhd_in(alloc, "eng")?;
     header.version = 1;
     Ok(header)
 }
 
-/// `mehd`, version 1: a movie of a duration that needs more than 32 bits.
+/// Returns an `mehd` of version 1: a movie of a duration that needs more than 32 bits.
 pub fn mehd() -> MehdBox {
     MehdBox {
         version: 1,
@@ -203,7 +203,7 @@ pub fn mehd() -> MehdBox {
     }
 }
 
-/// `mehd`, version 0: a movie of this duration, in 32 bits.
+/// Returns an `mehd` of version 0: a movie of duration `fragment_duration`, in 32 bits.
 pub fn mehd_short(fragment_duration: u64) -> MehdBox {
     MehdBox {
         version: 0,
@@ -212,7 +212,7 @@ pub fn mehd_short(fragment_duration: u64) -> MehdBox {
     }
 }
 
-/// `mfhd`, version 0: the first fragment of a movie.
+/// Returns an `mfhd` of version 0: the first fragment of a movie.
 pub fn mfhd() -> MfhdBox {
     MfhdBox {
         version: 0,
@@ -221,7 +221,7 @@ pub fn mfhd() -> MfhdBox {
     }
 }
 
-/// `smhd`, version 0: sound whose balance is a little to the left.
+/// Returns an `smhd` of version 0: sound whose balance is a little to the left.
 pub fn smhd() -> SmhdBox {
     SmhdBox {
         version: 0,
@@ -239,22 +239,22 @@ fn vmhd_of(red: u16, green: u16, blue: u16) -> VmhdBox {
     }
 }
 
-/// `vmhd`, version 0: a color of 0, 0x100 and the largest number.
+/// Returns a `vmhd` of version 0: a color of 0, 0x100 and the largest number.
 pub fn vmhd() -> VmhdBox {
     vmhd_of(0, 0x100, 0xffff)
 }
 
-/// `vmhd`, version 0: a dark color of three unlike numbers.
+/// Returns a `vmhd` of version 0: a dark color of three different numbers.
 pub fn vmhd_colors() -> VmhdBox {
     vmhd_of(1, 2, 3)
 }
 
-/// `vmhd`, version 0: black.
+/// Returns a `vmhd` of version 0: black.
 pub fn vmhd_black() -> VmhdBox {
     vmhd_of(0, 0, 0)
 }
 
-/// `trex`, version 0: defaults for the samples of a track.
+/// Returns a `trex` of version 0: defaults for the samples of a track.
 pub fn trex() -> TrexBox {
     TrexBox {
         version: 0,
@@ -267,7 +267,7 @@ pub fn trex() -> TrexBox {
     }
 }
 
-/// `tfdt`, version 0: a decode time, in 32 bits.
+/// Returns a `tfdt` of version 0: a decode time, in 32 bits.
 pub fn tfdt() -> TfdtBox {
     TfdtBox {
         version: 0,
@@ -276,7 +276,7 @@ pub fn tfdt() -> TfdtBox {
     }
 }
 
-/// `tfdt`, in this version: a decode time of 0.
+/// Returns a `tfdt` of this `version`: a decode time of 0.
 pub fn tfdt_of_zero(version: u8) -> TfdtBox {
     TfdtBox {
         version,

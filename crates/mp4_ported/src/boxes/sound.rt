@@ -1,5 +1,5 @@
-//! The sample entry of audio, its descriptors, and a sample description of it, with the bytes that they are written in,
-//! worked out from the layout table.
+//! The sample entry of audio, its descriptors, and a sample description with it. All have their bytes, computed from
+//! the layout table.
 
 use mp4_stream::{
     DecoderConfigDescriptor, DecoderSpecificDescriptor, ESDescriptor, EsdsBox, FixedPointU16,
@@ -7,14 +7,14 @@ use mp4_stream::{
 };
 use std::alloc::Global;
 
-/// `esds`, version 0x81: every field has another value, and a sampling rate is written out.
+/// `esds`, version 0x81: all fields are different, and the sampling rate is given as a number.
 pub const ESDS: [u8; 43] = [
     0x00, 0x00, 0x00, 0x2b, 0x65, 0x73, 0x64, 0x73, 0x81, 0x92, 0x03, 0xa4, 0x03, 0x1d, 0xb5, 0x16,
     0x00, 0x04, 0x15, 0xc7, 0xb7, 0xd8, 0x19, 0xea, 0xfb, 0x0c, 0x2d, 0x8e, 0x9f, 0x10, 0xa1, 0xb2,
     0x05, 0x06, 0xfe, 0xbf, 0x86, 0x48, 0x6b, 0x60, 0x06, 0x00, 0x00,
 ];
 
-/// `mp4a`: every field has another value, with the descriptors of `ESDS`.
+/// `mp4a`: all fields are different, and the descriptors are those of `ESDS`.
 pub const MP4A: [u8; 79] = [
     0x00, 0x00, 0x00, 0x4f, 0x6d, 0x70, 0x34, 0x61, 0x00, 0x00, 0x00, 0x00, 0x00, 0x00, 0x81, 0x02,
     0x00, 0x00, 0x00, 0x00, 0x00, 0x00, 0x00, 0x00, 0x93, 0x04, 0xa5, 0x06, 0x00, 0x00, 0x00, 0x00,
@@ -23,7 +23,7 @@ pub const MP4A: [u8; 79] = [
     0x9f, 0x10, 0xa1, 0xb2, 0x05, 0x06, 0xfe, 0xbf, 0x86, 0x48, 0x6b, 0x60, 0x06, 0x00, 0x00,
 ];
 
-/// `stsd`, version 0x8c: the entry `MP4A` alone.
+/// `stsd`, version 0x8c: only the entry `MP4A`.
 pub const STSD: [u8; 95] = [
     0x00, 0x00, 0x00, 0x5f, 0x73, 0x74, 0x73, 0x64, 0x8c, 0x9d, 0x0e, 0xaf, 0x00, 0x00, 0x00, 0x01,
     0x00, 0x00, 0x00, 0x4f, 0x6d, 0x70, 0x34, 0x61, 0x00, 0x00, 0x00, 0x00, 0x00, 0x00, 0x81, 0x02,
@@ -49,7 +49,7 @@ pub const ESDS_OF_TEST: [u8; 39] = [
     0x05, 0x02, 0x11, 0x88, 0x06, 0x00, 0x00,
 ];
 
-/// `stsd`, version 0: the entry `MP4A_OF_TEST` alone.
+/// `stsd`, version 0: only the entry `MP4A_OF_TEST`.
 pub const STSD_OF_TEST: [u8; 91] = [
     0x00, 0x00, 0x00, 0x5b, 0x73, 0x74, 0x73, 0x64, 0x00, 0x00, 0x00, 0x00, 0x00, 0x00, 0x00, 0x01,
     0x00, 0x00, 0x00, 0x4b, 0x6d, 0x70, 0x34, 0x61, 0x00, 0x00, 0x00, 0x00, 0x00, 0x00, 0x00, 0x01,
@@ -66,7 +66,7 @@ pub const MP4A_WITHOUT_ESDS: [u8; 36] = [
     0xbb, 0x80, 0x00, 0x00,
 ];
 
-/// An audio configuration: object type, index and number of the sampling rate, and channels.
+/// Returns an audio configuration, by its object type, the index and the number of its sampling rate, and its channels.
 pub fn specific(
     profile: u8,
     freq_index: u8,
@@ -81,7 +81,7 @@ pub fn specific(
     }
 }
 
-/// `esds`, version 0x81: descriptors whose fields are all unlike.
+/// Returns an `esds` of version 0x81: descriptors whose fields are all different.
 pub fn esds() -> EsdsBox {
     EsdsBox {
         version: 0x81,
@@ -102,7 +102,7 @@ pub fn esds() -> EsdsBox {
     }
 }
 
-/// `esds`, version 0: the number of the stream, its bit rate, and its audio configuration.
+/// Returns an `esds` of version 0: the stream `es_id` with this bit rate and this audio configuration.
 pub fn esds_of(es_id: u16, bitrate: u32, dec_specific: DecoderSpecificDescriptor) -> EsdsBox {
     EsdsBox {
         version: 0,
@@ -123,7 +123,7 @@ pub fn esds_of(es_id: u16, bitrate: u32, dec_specific: DecoderSpecificDescriptor
     }
 }
 
-/// `mp4a`: a sample entry whose fields are all unlike.
+/// Returns an `mp4a`: a sample entry whose fields are all different.
 pub fn mp4a() -> Mp4aBox {
     Mp4aBox {
         data_reference_index: 0x8102,
@@ -134,7 +134,7 @@ pub fn mp4a() -> Mp4aBox {
     }
 }
 
-/// `stsd`, version 0x8c: a sample description with an entry of audio, whose fields are all unlike.
+/// Returns an `stsd` of version 0x8c: a sample description with an entry of audio, whose fields are all different.
 pub fn stsd() -> StsdBox {
     StsdBox {
         version: 0x8c,
@@ -147,7 +147,7 @@ pub fn stsd() -> StsdBox {
     }
 }
 
-/// `mp4a`: the sample entry of the Rust crate's test, with these descriptors.
+/// Returns an `mp4a`: the sample entry of the Rust crate's test, with these descriptors.
 pub fn mp4a_of(esds: Option<EsdsBox>) -> Mp4aBox {
     Mp4aBox {
         data_reference_index: 1,
@@ -158,17 +158,17 @@ pub fn mp4a_of(esds: Option<EsdsBox>) -> Mp4aBox {
     }
 }
 
-/// `esds`, version 0: the descriptors of the Rust crate's test, of stream 2, of one channel.
+/// Returns an `esds` of version 0: the descriptors of the Rust crate's test, for stream 2 with one channel.
 pub fn esds_of_test() -> EsdsBox {
     esds_of(2, 67695, specific(2, 3, None, 1))
 }
 
-/// `mp4a`: the sample entry of the Rust crate's test, with its descriptors.
+/// Returns an `mp4a`: the sample entry of the Rust crate's test, with its descriptors.
 pub fn mp4a_of_test() -> Mp4aBox {
     mp4a_of(Some(esds_of_test()))
 }
 
-/// `stsd`, version 0: a sample description with this entry of audio alone.
+/// Returns an `stsd` of version 0: a sample description with only the audio entry `mp4a`.
 pub fn stsd_of(alloc: Global, mp4a: Mp4aBox) -> StsdBox {
     StsdBox {
         mp4a: Some(mp4a),

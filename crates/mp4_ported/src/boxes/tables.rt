@@ -1,4 +1,4 @@
-//! Tables with a count or with flags, and the bytes that they are written in.
+//! Tables with a count or with flags, and their bytes.
 
 mod fragments;
 
@@ -71,12 +71,12 @@ pub const ELST_LONG: [u8; 36] =
 /// The sizes of nine samples.
 const SIZES: [u32; 9] = [1165, 11, 11, 8545, 10126, 10866, 9643, 9351, 7730];
 
-/// A list of numbers.
+/// Returns the list of `numbers`.
 pub fn list(alloc: Global, numbers: &[u32]) -> Result<Entries<u32>> {
     Ok(Vec::from_slice(alloc, numbers)?.into())
 }
 
-/// `stco`, version 0: the offsets of seven chunks.
+/// Returns an `stco` of version 0: the offsets of seven chunks.
 pub fn stco(alloc: Global) -> Result<StcoBox> {
     let offsets = [267, 1970, 2535, 2803, 11843, 22223, 33584];
     Ok(StcoBox {
@@ -94,17 +94,17 @@ fn co64_of(alloc: Global, offsets: &[u64]) -> Result<Co64Box> {
     })
 }
 
-/// `co64`, version 0: the offsets of two chunks, one of them past 32 bits.
+/// Returns a `co64` of version 0: the offsets of two chunks, one of them past 32 bits.
 pub fn co64(alloc: Global) -> Result<Co64Box> {
     co64_of(alloc, &[267, 0x1_0000_07b2])
 }
 
-/// `co64`, version 0: the offsets of seven chunks, in 64 bits.
+/// Returns a `co64` of version 0: the offsets of seven chunks, in 64 bits.
 pub fn co64_of_seven(alloc: Global) -> Result<Co64Box> {
     co64_of(alloc, &[267, 1970, 2535, 2803, 11843, 22223, 33584])
 }
 
-/// `stts`, version 0: the time between samples, for two runs of samples.
+/// Returns an `stts` of version 0: the time between samples, for two runs of samples.
 pub fn stts(alloc: Global) -> Result<SttsBox> {
     let entries = [
         SttsEntry {
@@ -123,7 +123,7 @@ pub fn stts(alloc: Global) -> Result<SttsBox> {
     })
 }
 
-/// `ctts`, version 0: composition offsets of two runs of samples, one of them negative.
+/// Returns a `ctts` of version 0: composition offsets of two runs of samples, one of them negative.
 pub fn ctts(alloc: Global) -> Result<CttsBox> {
     let entries = [
         CttsEntry {
@@ -150,17 +150,17 @@ fn stss_of(alloc: Global, samples: &[u32]) -> Result<StssBox> {
     })
 }
 
-/// `stss`, version 0: five sync samples.
+/// Returns an `stss` of version 0: five sync samples.
 pub fn stss(alloc: Global) -> Result<StssBox> {
     stss_of(alloc, &[1, 61, 121, 181, 241])
 }
 
-/// `stss`, version 0: nine sync samples.
+/// Returns an `stss` of version 0: nine sync samples.
 pub fn stss_of_nine(alloc: Global) -> Result<StssBox> {
     stss_of(alloc, &[1, 61, 121, 181, 241, 301, 361, 421, 481])
 }
 
-/// `stsz`, version 0: the sizes of three samples.
+/// Returns an `stsz` of version 0: the sizes of three samples.
 pub fn stsz(alloc: Global) -> Result<StszBox> {
     Ok(StszBox {
         version: 0,
@@ -171,7 +171,7 @@ pub fn stsz(alloc: Global) -> Result<StszBox> {
     })
 }
 
-/// `stsz`, version 0: the sizes of nine samples.
+/// Returns an `stsz` of version 0: the sizes of nine samples.
 pub fn stsz_of_nine(alloc: Global) -> Result<StszBox> {
     Ok(StszBox {
         version: 0,
@@ -182,7 +182,7 @@ pub fn stsz_of_nine(alloc: Global) -> Result<StszBox> {
     })
 }
 
-/// `stsz`, version 0: as many samples, all of one size, so that there is no list of sizes.
+/// Returns an `stsz` of version 0: `sample_count` samples, all of size `sample_size`, without a list of sizes.
 pub fn stsz_of_one_size(alloc: Global, sample_size: u32, sample_count: u32) -> StszBox {
     let mut stsz = StszBox::default_in(alloc);
     stsz.sample_size = sample_size;
@@ -190,7 +190,8 @@ pub fn stsz_of_one_size(alloc: Global, sample_size: u32, sample_count: u32) -> S
     stsz
 }
 
-/// An entry of `stsc`: a run of chunks with as many samples each, all of the first sample description.
+/// Returns an entry of `stsc`: a run of chunks with `samples_per_chunk` samples each, all of the first sample
+/// description.
 pub fn chunk_run(first_chunk: u32, samples_per_chunk: u32, first_sample: u32) -> StscEntry {
     StscEntry {
         first_chunk,
@@ -200,7 +201,7 @@ pub fn chunk_run(first_chunk: u32, samples_per_chunk: u32, first_sample: u32) ->
     }
 }
 
-/// `stsc`, version 0: these runs of chunks.
+/// Returns an `stsc` of version 0: the runs of chunks in `entries`.
 pub fn stsc_of(alloc: Global, entries: &[StscEntry]) -> Result<StscBox> {
     Ok(StscBox {
         version: 0,
@@ -209,12 +210,12 @@ pub fn stsc_of(alloc: Global, entries: &[StscEntry]) -> Result<StscBox> {
     })
 }
 
-/// `stsc`, version 0: two runs of chunks.
+/// Returns an `stsc` of version 0: two runs of chunks.
 pub fn stsc(alloc: Global) -> Result<StscBox> {
     stsc_of(alloc, &[chunk_run(1, 1, 1), chunk_run(19026, 14, 19026)])
 }
 
-/// `elst`, in this version: one edit.
+/// Returns an `elst` of this `version`: one edit with this media time.
 pub fn elst_of(alloc: Global, version: u8, media_time: u64) -> Result<ElstBox> {
     let entries = [ElstEntry {
         segment_duration: 634_634,
@@ -229,12 +230,12 @@ pub fn elst_of(alloc: Global, version: u8, media_time: u64) -> Result<ElstBox> {
     })
 }
 
-/// `elst`, version 0: one edit, with times of 32 bits.
+/// Returns an `elst` of version 0: one edit, with times of 32 bits.
 pub fn elst(alloc: Global) -> Result<ElstBox> {
     elst_of(alloc, 0, 0)
 }
 
-/// `elst`, version 1: one edit, with times of 64 bits.
+/// Returns an `elst` of version 1: one edit, with times of 64 bits.
 pub fn elst_long(alloc: Global) -> Result<ElstBox> {
     elst_of(alloc, 1, 0)
 }

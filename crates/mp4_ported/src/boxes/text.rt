@@ -1,4 +1,4 @@
-//! Boxes of texts, data and references, and the bytes that they are written in.
+//! Boxes of texts, data and references, with their bytes.
 
 use mp4_stream::{
     DataBox, DataType, DinfBox, DrefBox, EmsgBox, Entries, FourCC, FtypBox, HdlrBox, Result, Text,
@@ -43,7 +43,7 @@ pub const DREF_URL: [u8; 30] = *b"\0\0\0\x1edref\0\0\0\0\0\0\0\x01\0\0\0\x0eurl 
 pub const DINF_URL: [u8; 38] =
     *b"\0\0\0\x26dinf\0\0\0\x1edref\0\0\0\0\0\0\0\x01\0\0\0\x0eurl \0\0\0\0a\0";
 
-/// `ftyp`: a file type with four compatible brands.
+/// Returns an `ftyp`: a file type with four compatible brands.
 pub fn ftyp(alloc: Global) -> Result<FtypBox> {
     let mut compatible_brands = Entries::new(alloc);
     for brand in [*b"isom", *b"iso2", *b"avc1", *b"mp41"] {
@@ -56,7 +56,7 @@ pub fn ftyp(alloc: Global) -> Result<FtypBox> {
     })
 }
 
-/// `hdlr`, version 0: the handler of a video track.
+/// Returns an `hdlr` of version 0: the handler of a video track.
 pub fn hdlr(alloc: Global) -> Result<HdlrBox> {
     Ok(HdlrBox {
         version: 0,
@@ -66,7 +66,7 @@ pub fn hdlr(alloc: Global) -> Result<HdlrBox> {
     })
 }
 
-/// `data`: a metadata value that is a text.
+/// Returns a `data`: a metadata value that is a text.
 pub fn data_box(alloc: Global) -> Result<DataBox> {
     Ok(DataBox {
         data_bytes: Vec::from_slice(alloc, b"test_data")?.into(),
@@ -74,7 +74,7 @@ pub fn data_box(alloc: Global) -> Result<DataBox> {
     })
 }
 
-/// `emsg`, version 0: an event with a time relative to its segment.
+/// Returns an `emsg` of version 0: an event with a time relative to its segment.
 pub fn emsg(alloc: Global) -> Result<EmsgBox> {
     Ok(EmsgBox {
         version: 0,
@@ -90,7 +90,7 @@ pub fn emsg(alloc: Global) -> Result<EmsgBox> {
     })
 }
 
-/// `emsg`, version 1: an event with a time in its presentation.
+/// Returns an `emsg` of version 1: an event with a time in its presentation.
 pub fn emsg_long(alloc: Global) -> Result<EmsgBox> {
     Ok(EmsgBox {
         version: 1,
@@ -106,7 +106,7 @@ pub fn emsg_long(alloc: Global) -> Result<EmsgBox> {
     })
 }
 
-/// `url `, version 0: the location `a`.
+/// Returns a `url ` of version 0: the location `a`.
 pub fn url(alloc: Global) -> Result<UrlBox> {
     Ok(UrlBox {
         version: 0,
@@ -115,7 +115,7 @@ pub fn url(alloc: Global) -> Result<UrlBox> {
     })
 }
 
-/// `dref`, version 0: data references with this entry, or with none.
+/// Returns a `dref` of version 0: data references with the entry `url`, or with none.
 pub fn dref_of(url: Option<UrlBox>) -> DrefBox {
     DrefBox {
         version: 0,
@@ -124,22 +124,22 @@ pub fn dref_of(url: Option<UrlBox>) -> DrefBox {
     }
 }
 
-/// `dref`, version 0: data references with the location `a`.
+/// Returns a `dref` of version 0: data references with the location `a`.
 pub fn dref_url(alloc: Global) -> Result<DrefBox> {
     Ok(dref_of(Some(url(alloc)?)))
 }
 
-/// `dref`, version 0: data references that say that the data is in the same file.
+/// Returns a `dref` of version 0: data references that say that the data is in the same file.
 pub fn dref(alloc: Global) -> DrefBox {
     DrefBox::default_in(alloc)
 }
 
-/// `dinf`: data information that says that the data is in the same file.
+/// Returns a `dinf`: data information that says that the data is in the same file.
 pub fn dinf(alloc: Global) -> DinfBox {
     DinfBox::default_in(alloc)
 }
 
-/// `dinf`: data information with the location `a`.
+/// Returns a `dinf`: data information with the location `a`.
 pub fn dinf_url(alloc: Global) -> Result<DinfBox> {
     Ok(DinfBox::new(dref_url(alloc)?))
 }

@@ -11,8 +11,8 @@ use super::outcomes::{Kind, kind_of};
 use mp4_stream::{ByteCursor, read_boxes, write_boxes};
 use std::alloc::Global;
 
-/// Expects that the boxes of a buffer are read by `read_boxes` as those that are written in these bytes, and that the
-/// cursor is then at the end of the buffer.
+/// Expects that `read_boxes` reads the boxes in `bytes`, that they are written as `written`, and that the cursor is at
+/// the end after reading.
 pub fn expect_list(alloc: Global, bytes: &[u8], written: &[u8]) -> Result<(), Mismatch>
     ensures { OnOk result
         ((vs : List AnyBox) × ((boxes known_any reading_any bytes.now 0).outcome ≡ Ok vs)
@@ -30,8 +30,8 @@ pub fn expect_list(alloc: Global, bytes: &[u8], written: &[u8]) -> Result<(), Mi
     }
 }
 
-/// Expects a result of this kind from reading the boxes of a buffer by `read_boxes`, and that the cursor is at the
-/// front after an error.
+/// Expects that reading the boxes in `bytes` by `read_boxes` has a result of the kind `expected`. After an `Ok` the
+/// cursor is at the end, and after an error it is at the front.
 pub fn expect_list_kind(alloc: Global, bytes: &[u8], expected: Kind) -> Result<(), Mismatch>
     ensures { OnOk result (EndsIn expected (boxes known_any reading_any bytes.now 0)) }
 {

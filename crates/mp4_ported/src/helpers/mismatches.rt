@@ -1,4 +1,4 @@
-//! How what a check found differs from what it expected.
+//! Mismatches between the results and the expectations of checks.
 
 ghost use Rattle.std.specs.Prelude.{◌≡◌, ◌↔◌, IsOk};
 
@@ -6,41 +6,41 @@ use super::outcomes::{Kind, kind_of};
 use mp4_stream::{BoxType, Error};
 use std::alloc::AllocError;
 
-/// How what a check found differs from what it expected. It has no reference: a function that returns one with the text
-/// of an error takes several times as long to prove.
+/// A difference between the result and the expectation of a check. The type has no reference, because a function that
+/// returns the text of an error in it takes several times as long to prove.
 #[derive(Debug, Drop)]
 pub enum Mismatch {
-    /// A call failed that was expected to succeed, with this kind of outcome.
+    /// A call that should have succeeded had this kind of outcome.
     Failed(Kind),
-    /// Reading a box of this size had a result of another kind.
+    /// Reading a box of this size had a result of the wrong kind.
     Ending {
         found: Kind,
         expected: Kind,
         size: u64,
     },
-    /// The cursor is at another position.
+    /// The cursor is at the wrong position.
     Position {
         found: u64,
         expected: u64,
     },
-    /// A box has another size, or is written in another number of bytes.
+    /// A box has the wrong size, or is written as a wrong number of bytes.
     Length {
         found: u64,
         expected: u64,
     },
-    /// The header of a box has another name.
+    /// The header of a box has the wrong name.
     Name {
         found: BoxType,
         expected: BoxType,
     },
-    /// Another box is read from a buffer of this length, with this size.
+    /// The wrong box is read from a buffer of this length, with this size.
     OtherBox {
         length: usize,
         size: u64,
     },
-    /// Other bytes are written.
+    /// The wrong bytes are written.
     OtherBytes,
-    /// A value is not equal to another one.
+    /// Two values that should be equal are not.
     OtherValue,
 }
 
@@ -56,7 +56,7 @@ impl From<AllocError> for Mismatch {
     }
 }
 
-/// Expects this position of the cursor.
+/// Expects that the position `found` of a cursor is `expected`.
 pub(super) fn expect_position(found: u64, expected: u64) -> Result<(), Mismatch>
     ensures { IsOk result ↔ (found ≡ expected) }
 {
@@ -67,7 +67,7 @@ pub(super) fn expect_position(found: u64, expected: u64) -> Result<(), Mismatch>
     }
 }
 
-/// Expects this number of bytes.
+/// Expects that the number `found` of bytes is `expected`.
 pub(super) fn expect_length(found: u64, expected: u64) -> Result<(), Mismatch>
     ensures { IsOk result ↔ (found ≡ expected) }
 {
@@ -78,7 +78,7 @@ pub(super) fn expect_length(found: u64, expected: u64) -> Result<(), Mismatch>
     }
 }
 
-/// Expects this kind of result from a box of this size.
+/// Expects that the result of reading or writing a box of this size has the kind `expected`.
 pub(super) fn expect_ending(found: Kind, expected: Kind, size: u64) -> Result<(), Mismatch>
     ensures { IsOk result ↔ (found ≡ expected) }
 {

@@ -1,4 +1,4 @@
-//! The kinds of outcomes, and texts.
+//! The kinds of outcomes, and the texts of errors and values.
 
 ghost use Rattle.std.specs.Prelude.{◌≡◌, ◌≢◌, Err, IfSome, IfNone};
 ghost use Rattle.mp4_frame.specs.declared.error.Error.TheVariants.{InvalidData};
@@ -26,7 +26,7 @@ pub enum Kind {
     Other,
 }
 
-/// The kind of this outcome.
+/// Returns the kind of `outcome`.
 pub fn kind_of<T>(outcome: &Result<T, Error>) -> Kind
     ensures { result ≡ kind_of outcome.now }
 {
@@ -40,7 +40,7 @@ pub fn kind_of<T>(outcome: &Result<T, Error>) -> Kind
     }
 }
 
-/// The text of an outcome that is invalid data.
+/// Returns the text of `outcome` if it is invalid data, or `None` otherwise.
 pub fn invalid_text<T>(outcome: &Result<T, Error>) -> Option<&'static str>
     ensures text { IfSome result (λ text. outcome.now ≡ Err (InvalidData text)) }
     ensures none { IfNone result (kind_of outcome.now ≢ kinds.Invalid) }
@@ -51,7 +51,7 @@ pub fn invalid_text<T>(outcome: &Result<T, Error>) -> Option<&'static str>
     }
 }
 
-/// The text that `Debug` prints.
+/// Returns the text that `Debug` prints for `value`.
 pub fn debug_text(alloc: Global, value: &impl Debug) -> Result<String, AllocError> {
     format!(in alloc; "{value:?}")
 }

@@ -32,7 +32,7 @@ fn tkhd32_and_tkhd64(rt: HostRuntime) -> Result<(), Fail> {
     Ok(())
 }
 
-/// In the Rust crate too, both tests have times of 32 bits.
+/// Both tests have times of 32 bits, as in the Rust crate.
 #[test]
 fn mdhd32_and_mdhd64(rt: HostRuntime) -> Result<(), Fail> {
     let alloc = rt.alloc();
@@ -53,7 +53,7 @@ fn language_codes(rt: HostRuntime) -> Result<(), Fail> {
     Ok(())
 }
 
-/// In the Rust crate too, both tests have a duration of 32 bits.
+/// Both tests have a duration of 32 bits, as in the Rust crate.
 #[test]
 fn mehd32_and_mehd64(rt: HostRuntime) -> Result<(), Fail> {
     let alloc = rt.alloc();

@@ -11,7 +11,7 @@ fn four_cc(rt: HostRuntime) {
     assert_eq!(rt; u32::from(ftyp), 0x6674_7970);
 }
 
-/// The test of the Rust crate has the sizes 7, 8 and 15 only.
+/// The test of the Rust crate has only the sizes 7, 8 and 15.
 #[test]
 fn large_sizes_that_are_too_small(rt: HostRuntime) {
     for size in 1..16 {

@@ -1,14 +1,14 @@
-//! The first vectors: the first box of each type in the tests of the Rust crate `mp4`, and the bytes that it is written
-//! in, which are worked out from the layout table. They are in its order. Of `avcC`, `hvcC`, `vpcC` and `esds` it is
-//! the child in the test of the sample entry. `url `, `dref`, `dinf` and `stsd` have no test there: it is the location
-//! `a`, a `dref` and a `dinf` of it, and an `stsd` of the `mp4a`.
+//! The first vectors: the first box of each type in the tests of the Rust crate `mp4`, with bytes that are computed
+//! from the layout table. For `avcC`, `hvcC`, `vpcC` and `esds` the box is the child in the test of the sample entry.
+//! `url `, `dref`, `dinf` and `stsd` have no test in the Rust crate. Their vectors are the location `a`, a `dref` and a
+//! `dinf` with it, and an `stsd` with the `mp4a`.
 
 use super::Vector;
 use crate::boxes::{entries, flat, sound, tables, text};
 use mp4_stream::{AnyBox, HvcCBox, Result, TrunBox};
 use std::alloc::Global;
 
-/// A first vector, by the type of its box.
+/// A first vector. The variant names the type of its box.
 #[derive(Clone, Copy, Debug)]
 pub enum First {
     Mvhd,
@@ -49,7 +49,7 @@ pub enum First {
     Esds,
 }
 
-/// Every first vector.
+/// All first vectors.
 pub const FIRST_VECTORS: [First; 36] = [
     First::Mvhd,
     First::Tkhd,

@@ -1,11 +1,11 @@
-//! A second vector of each type.
+//! The second vectors of each type.
 
 use super::Vector;
 use crate::boxes::{entries, flat, sound, tables, text};
 use mp4_stream::{AnyBox, Result};
 use std::alloc::Global;
 
-/// A second box of each type. The fields of most are all unlike.
+/// A second vector. The variant names the type of its box. The fields of most boxes are all different.
 #[derive(Clone, Copy, Debug, PartialEq, Eq)]
 pub enum Second {
     Ftyp,
@@ -46,7 +46,7 @@ pub enum Second {
     Stsd,
 }
 
-/// Every second vector.
+/// All second vectors.
 pub const SECOND_VECTORS: [Second; 36] = [
     Second::Ftyp,
     Second::Mvhd,

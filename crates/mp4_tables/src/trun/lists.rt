@@ -1,4 +1,4 @@
-//! Reading the lists of the track fragment run box.
+//! The lists of the track fragment run box, which are read from its rows.
 
 ghost use Rattle.std.specs.Prelude.{◌≡◌, ◌≤◌, ◌<◌, ◌+◌, ◌++◌, ◌↔◌, [], IsTrue, IfOk, IfErr, length, vec_capacity};
 ghost use Rattle.std.specs.Prelude.{vec_len};
@@ -16,7 +16,7 @@ use std::alloc::Global;
 /// The number of rows that are read at a time. A row has at most 16 bytes.
 const PART: usize = 512;
 
-/// The numbers in the rows of a run: a list for each list flag.
+/// The numbers in the rows of a run, with a list for each list flag.
 #[derive(Drop)]
 pub(crate) struct TrunLists {
     pub(crate) durations: Entries<u32>,
@@ -25,7 +25,7 @@ pub(crate) struct TrunLists {
     pub(crate) cts: Entries<u32>,
 }
 
-/// An empty list, with memory for `count` numbers if the flag of the list is set.
+/// Returns an empty list, with memory for `count` numbers if the flag of the list is set.
 fn numbers_for(alloc: Global, is_flagged: bool, count: usize) -> Result<Vec<u32>>
     ensures empty { IfOk result (λ numbers. numbers.items ≡ []) }
     ensures room { IfOk result (λ numbers. count_if is_flagged count ≤ vec_capacity numbers) }
@@ -38,8 +38,8 @@ fn numbers_for(alloc: Global, is_flagged: bool, count: usize) -> Result<Vec<u32>
     }
 }
 
-/// Appends the number of four bytes at offset `at` of each row, if the flag of the list is set. The list has room for
-/// them.
+/// Appends to `numbers` the number of four bytes at offset `at` of each row, if the flag of the list is set. The list
+/// must have room for them.
 #[tactic(auto, unfolding(crate::specs::TrunLists::column_if, crate::specs::Flagged::width_if))]
 fn append_column<const E: usize>(
     numbers: &mut Vec<u32>,
@@ -58,8 +58,8 @@ fn append_column<const E: usize>(
     }
 }
 
-/// The lists of these rows. They are filled from one part of the rows after the other. A part stays in the nearest
-/// cache until each list has the numbers of that part.
+/// Returns the lists of `rows`. It fills them from one part of the rows after the other: a part stays in the nearest
+/// cache until each list has the numbers of that part. The only error is out of memory.
 #[tactic(auto, using(crate::proofs::TrunRows::column_moves, crate::proofs::TrunRows::room_for_part, crate::proofs::TrunRows::room_after), unfolding(crate::specs::TrunLists::column_if))]
 fn lists_of_rows<const E: usize>(alloc: Global, rows: &[[u8; E]], flags: u32) -> Result<TrunLists>
     requires { E ≡ row_length (row_flags flags) }
@@ -93,7 +93,7 @@ fn lists_of_rows<const E: usize>(alloc: Global, rows: &[[u8; E]], flags: u32) ->
     })
 }
 
-/// Reads the lists of `count` rows of `E` bytes each from offset `at` on.
+/// Reads the lists of `count` rows of `E` bytes each, starting at offset `at`.
 #[tactic(auto, unfolding(crate::specs::TrunLists::reads_lists))]
 fn read_rows_of<const E: usize>(
     alloc: Global,
@@ -103,7 +103,7 @@ fn read_rows_of<const E: usize>(
     at: usize,
     count: u32,
 ) -> Result<TrunLists>
-    requires some { 0 < E }
+    requires nonempty { 0 < E }
     requires length { E ≡ row_length (row_flags flags) }
     ensures { Answers result (reads_lists bytes.now size (row_flags flags) at count) }
 {
@@ -119,7 +119,7 @@ fn read_rows_of<const E: usize>(
     lists_of_rows(alloc, rows, flags)
 }
 
-/// Reads the lists of `count` rows from offset `at` on. If a row has no bytes, no row is visited.
+/// Reads the lists of `count` rows, starting at offset `at`. If a row has no bytes, no row is visited.
 pub(crate) fn read_lists(
     alloc: Global,
     bytes: &[u8],
@@ -149,14 +149,14 @@ pub(crate) fn read_lists(
     }
 }
 
-/// The number of entries that a list has to have: `count` if its flag is set, else 0.
+/// Returns the number of entries that a list must have: `count` if its flag is set, else 0.
 fn count_if(is_flagged: bool, count: u32) -> usize
     ensures { result ≡ count_if is_flagged count }
 {
     if is_flagged { count as usize } else { 0 }
 }
 
-/// Whether a list has `count` entries if its flag is set, else none.
+/// Returns whether the list `numbers` has `count` entries if its flag is set, and none otherwise.
 pub(crate) fn is_listed(is_flagged: bool, count: u32, numbers: &[u32]) -> bool
     ensures { IsTrue result ↔ IsListed is_flagged count numbers.now }
 {

@@ -1,4 +1,4 @@
-//! Which numbers the rows of the track fragment run box have.
+//! The numbers in the rows of the track fragment run box, which depend on its flags.
 
 ghost use Rattle.std.specs.Prelude.{◌≡◌, ◌≤◌};
 ghost use Rattle.mp4_tables.specs.TrunRows.{row_flags, row_length};
@@ -6,7 +6,7 @@ ghost use Rattle.mp4_tables.specs.TrunRows.{row_flags, row_length};
 use crate::flagged::{is_set, width_if};
 use crate::trun::TrunBox;
 
-/// For each of the four lists of a run, whether its flag is set. If it is, each row has a number of that list.
+/// The flags of the four lists of a run. Each row has a number for each list whose flag is set.
 #[derive(Clone, Copy)]
 pub(crate) struct RowFlags {
     pub(crate) duration: bool,
@@ -16,7 +16,7 @@ pub(crate) struct RowFlags {
 }
 
 impl RowFlags {
-    /// The list flags among the flags of the box.
+    /// Returns the list flags among `flags`, the flags of the box.
     pub(crate) fn of(flags: u32) -> RowFlags
         ensures { result ≡ row_flags flags }
     {
@@ -28,10 +28,10 @@ impl RowFlags {
         }
     }
 
-    /// The number of bytes of a row.
+    /// Returns the number of bytes of a row.
     pub(crate) fn row_length(self) -> usize
         ensures length { result ≡ row_length self }
-        ensures most { result ≤ 16 }
+        ensures bounded { result ≤ 16 }
     {
         width_if(self.duration, 4)
             + width_if(self.size, 4)

@@ -1,4 +1,4 @@
-//! Writing the rows of the track fragment run box.
+//! The rows of the track fragment run box, which are written from its lists.
 
 ghost use Rattle.std.specs.Prelude.{◌≡◌, ◌≤◌, ◌+◌, ◌*◌, ◌++◌, length, take, slice_get};
 ghost use Rattle.mp4_tables.specs.Flagged.{width_if, optional};
@@ -10,7 +10,8 @@ use crate::trun::TrunBox;
 use crate::trun::row_flags::RowFlags;
 use mp4_frame::put_u32;
 
-/// Puts the i-th number of a list at offset `at`, if the flag of the list is set, and returns the offset after it.
+/// Writes the number at index `i` of a list to `out` at offset `at`, if the flag of the list is set. Returns the offset
+/// after it.
 #[tactic(auto, using(crate::proofs::TrunRows::number_put), unfolding(crate::specs::Flagged::width_if))]
 fn put_number(out: &mut [u8], at: usize, is_flagged: bool, numbers: &[u32], i: usize) -> usize
     requires has { HasAt is_flagged i numbers.now }
@@ -25,8 +26,8 @@ fn put_number(out: &mut [u8], at: usize, is_flagged: bool, numbers: &[u32], i: u
     }
 }
 
-/// Puts the rows of a run from offset `at` to the end of `out`. The flags of its lists are the constants, so the
-/// length of a row is a constant too, and no flag is checked for each row.
+/// Writes the rows of `trun` from offset `at` to the end of `out`. The list flags are constants, so the length of a row
+/// is a constant too, and no flag is checked for each row.
 fn put_rows_of<const DURATION: bool, const SIZE: bool, const FLAGS: bool, const CTS: bool>(
     out: &mut [u8],
     at: usize,
@@ -50,8 +51,7 @@ fn put_rows_of<const DURATION: bool, const SIZE: bool, const FLAGS: bool, const 
     }
 }
 
-/// Puts the rows of a run from offset `at` to the end of `out`. Each combination of list flags has a loop of its
-/// own.
+/// Writes the rows of `trun` from offset `at` to the end of `out`. Each combination of list flags has its own loop.
 pub(crate) fn put_rows(out: &mut [u8], at: usize, trun: &TrunBox)
     requires listed { ListedTrun trun.now }
     requires room { at + row_length (row_flags trun.now.flags) * trun.now.sample_count ≡ length out.old }

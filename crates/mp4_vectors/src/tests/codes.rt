@@ -1,4 +1,4 @@
-//! Conversions of codes.
+//! Tests of the conversions of codes.
 
 use mp4_stream::{BoxType, Error, FourCC};
 use std::test::Fail;
@@ -8,12 +8,12 @@ fn is_invalid(text: &str) -> bool {
     matches!(code, Err(Error::InvalidData(_)))
 }
 
-/// Whether texts that don't have four bytes are no codes.
+/// Returns whether texts that do not have four bytes are invalid as codes.
 fn other_texts_are_no_codes() -> bool {
     is_invalid("iso") && is_invalid("isomx") && is_invalid("") && is_invalid("is\u{e9}o")
 }
 
-/// Whether a number becomes a code and a name, and they become the number.
+/// Returns whether a number is converted to a code and to a name, and both are converted back.
 fn numbers_are_codes() -> bool {
     let ftyp = FourCC::from(0x6674_7970);
     u32::from(&ftyp) == 0x6674_7970

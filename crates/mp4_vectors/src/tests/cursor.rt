@@ -1,9 +1,9 @@
-//! The cursor: taking bytes and rows, and skipping.
+//! Tests of the cursor: taking bytes and rows, and skipping.
 
 use mp4_ported::helpers::{Kind, kind_of};
 use mp4_stream::{ByteCursor, box_start, skip_box, skip_bytes, skip_bytes_to};
 
-/// Whether the last two bytes are taken, with the cursor behind them.
+/// Returns whether the last two bytes are taken, and the cursor is at the end.
 fn takes_the_last_bytes() -> bool {
     let mut reader = ByteCursor::new(b"\0\0\0\x01");
     reader.set_position(2);
@@ -11,7 +11,7 @@ fn takes_the_last_bytes() -> bool {
     is_taken && reader.position() == 4
 }
 
-/// Whether no byte can be taken behind the end, but for none.
+/// Returns whether taking a byte past the end is end of input, and taking no bytes succeeds.
 fn takes_nothing_behind_the_end() -> bool {
     let mut reader = ByteCursor::new(b"\0\0\0\x01");
     reader.set_position(9);
@@ -25,7 +25,7 @@ fn bytes_are_taken(rt: HostRuntime) {
     assert!(rt; takes_nothing_behind_the_end());
 }
 
-/// Skips bytes from a position. Returns the kind of the outcome, and the position after it.
+/// Skips `count` bytes at `position`. Returns the kind of the outcome and the position after the call.
 fn after_bytes(position: u64, count: u64) -> (Kind, u64) {
     let mut reader = ByteCursor::new(b"");
     reader.set_position(position);
@@ -33,7 +33,7 @@ fn after_bytes(position: u64, count: u64) -> (Kind, u64) {
     (kind_of(&outcome), reader.position())
 }
 
-/// Whether a box is skipped to its end.
+/// Returns whether skipping a box moves the cursor to its end.
 fn box_is_skipped() -> bool {
     let mut reader = ByteCursor::new(b"");
     reader.set_position(8);
@@ -41,7 +41,7 @@ fn box_is_skipped() -> bool {
     kind_of(&outcome) == Kind::Ok && reader.position() == 24
 }
 
-/// Whether a box that ends past 64 bits is not skipped.
+/// Returns whether skipping a box that ends past 64 bits is invalid data, and the cursor stays.
 fn large_box_is_not_skipped() -> bool {
     let mut reader = ByteCursor::new(b"");
     reader.set_position(24);
@@ -49,7 +49,7 @@ fn large_box_is_not_skipped() -> bool {
     kind_of(&outcome) == Kind::Invalid && reader.position() == 24
 }
 
-/// Whether the cursor is put to a position, where a box with a header of 8 bytes began at 0.
+/// Returns whether the cursor moves to position 8, from which a box with a header of 8 bytes begins at 0.
 fn position_is_after_the_header() -> bool {
     let mut reader = ByteCursor::new(b"");
     let is_there = skip_bytes_to(&mut reader, 8).is_ok();
@@ -65,7 +65,7 @@ fn bytes_and_boxes_are_skipped(rt: HostRuntime) {
     assert!(rt; after_bytes(9, 0xffff_ffff_ffff_fff6) == (Kind::Ok, 0xffff_ffff_ffff_ffff));
 }
 
-/// Whether all rows are taken, with the cursor behind them.
+/// Returns whether all rows are taken, and the cursor is at the end.
 fn takes_two_rows() -> bool {
     let mut reader = ByteCursor::new(b"0123456789abcdef");
     let rows = [*b"01234567", *b"89abcdef"];
@@ -73,14 +73,14 @@ fn takes_two_rows() -> bool {
     is_taken && reader.position() == 16
 }
 
-/// Whether no more rows are taken than there are.
+/// Returns whether taking more rows than the buffer has is end of input, and the cursor stays.
 fn takes_no_missing_rows() -> bool {
     let mut reader = ByteCursor::new(b"0123456789abcdef");
     let is_end = kind_of(&reader.take_rows::<12>(2)) == Kind::End;
     is_end && kind_of(&reader.take_rows::<16>(1 << 63)) == Kind::End && reader.position() == 0
 }
 
-/// Whether no row can be taken behind the end.
+/// Returns whether taking no rows past the end succeeds, and the cursor stays.
 fn takes_no_row_behind_the_end() -> bool {
     let mut reader = ByteCursor::new(b"0123456789abcdef");
     reader.set_position(20);

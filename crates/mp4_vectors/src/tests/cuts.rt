@@ -1,5 +1,5 @@
-//! Boxes that are cut at every length. Reading is end of input if a byte is missing that it needs, and ignores the
-//! bytes after those.
+//! Tests of boxes that are cut at every length. If a byte that reading needs is missing, the error is end of input.
+//! Bytes after those are not needed.
 
 use mp4_ported::boxes::entries::{
     avc1, avc1_of_two, avcc, avcc_of_two, hev1, hev1_of_config, hvcc, tx3g, tx3g_of_test, vp09,
@@ -26,7 +26,7 @@ use std::test::Fail;
 #[test]
 fn cut_headers_of_movies_tracks_and_media(rt: HostRuntime) -> Result<(), Fail> {
     let alloc = rt.alloc();
-    // The last two bytes of an mdhd are not read.
+    // The last two bytes of an `mdhd` are not read.
     expect_end_at_cuts_below(alloc, &MvhdBox::default(), 108)
         .and(expect_end_at_cuts_below(alloc, &mvhd(), 108))
         .and(expect_end_at_cuts_below(alloc, &mvhd_long(), 120))
@@ -85,7 +85,7 @@ fn cut_tables(rt: HostRuntime) -> Result<(), Fail> {
 #[test]
 fn cut_runs_texts_and_references(rt: HostRuntime) -> Result<(), Fail> {
     let alloc = rt.alloc();
-    // The zero byte after the name of an hdlr may be missing.
+    // The zero byte after the name of an `hdlr` may be missing.
     made::end_at_cuts_below(alloc, Ok(TrunBox::default_in(alloc)), 16)
         .and(made::end_at_cuts_below(alloc, trun(alloc), 28))
         .and(made::end_at_cuts_below(alloc, trun_of_three_lists(alloc), 48))

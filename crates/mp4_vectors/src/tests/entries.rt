@@ -1,4 +1,4 @@
-//! Sample entries of video: `vpcC`, `vp09`, `avcC` and `avc1`.
+//! Tests of sample entries of video: `vpcC`, `vp09`, `avcC` and `avc1`.
 
 use mp4_ported::boxes::entries::{
     AVC1_OF_TEST, avc1_of_two, empty_sets, list_of_sets, vp09_of_config,
@@ -9,7 +9,7 @@ use mp4_stream::{Avc1Box, AvcCBox, AvcConfig, Entries, Error, NalUnit, VpccBox, 
 use std::alloc::Global;
 use std::test::Fail;
 
-/// The child of a `vp09` is read whatever its name.
+/// The child of a `vp09` is read whatever its name is.
 #[test]
 fn vpcc_of_wide_colors_and_vp09_of_a_child_of_another_name(rt: HostRuntime) -> Result<(), Fail> {
     let alloc = rt.alloc();
@@ -51,19 +51,19 @@ fn avc1_of_two_sets(rt: HostRuntime) -> Result<(), Fail> {
     Ok(())
 }
 
-/// The configuration that is made of two short sets.
+/// Returns the `avcC` that `new` makes from two short parameter sets.
 fn new_avcc(alloc: Global) -> Result<AvcCBox, Error> {
     AvcCBox::new(alloc, &[0x67, 0x64, 0x00, 0x0d], &[0x68])
 }
 
-/// The same as it is read, with lengths of four bytes.
+/// Returns the normal form of `new_avcc`, which has lengths of four bytes before parameter sets.
 fn new_avcc_of_four(alloc: Global) -> Result<AvcCBox, Error> {
     let mut made = new_avcc(alloc)?;
     made.length_size_minus_one = 3;
     Ok(made)
 }
 
-/// The size of the entry of these sets.
+/// Returns the size of the `avc1` that `new` makes from the parameter sets of `new_avcc`.
 fn size_of_new_avc1(alloc: Global) -> Result<u64, Error> {
     let config = AvcConfig {
         width: 320,
@@ -84,7 +84,7 @@ fn new_configuration_of_two_sets(rt: HostRuntime) -> Result<(), Fail> {
     Ok(())
 }
 
-/// A decoder configuration of zeros and these sets.
+/// Returns an `avcC` with these parameter sets, whose other fields are 0.
 fn avcc_of_sets(sequence: Entries<NalUnit>, picture: Entries<NalUnit>) -> AvcCBox {
     AvcCBox {
         configuration_version: 0,
@@ -97,14 +97,14 @@ fn avcc_of_sets(sequence: Entries<NalUnit>, picture: Entries<NalUnit>) -> AvcCBo
     }
 }
 
-/// A decoder configuration of as many empty sets.
+/// Returns an `avcC` with `sequence` empty sequence sets and `picture` empty picture sets.
 fn avcc_of_empty(alloc: Global, sequence: usize, picture: usize) -> Result<AvcCBox, Error> {
     let sequence = empty_sets(alloc, sequence)?;
     let picture = empty_sets(alloc, picture)?;
     Ok(avcc_of_sets(sequence, picture))
 }
 
-/// A decoder configuration of one picture set of as many zeros.
+/// Returns an `avcC` with one picture set of `count` zeros.
 fn avcc_of_zeros(alloc: Global, count: usize) -> Result<AvcCBox, Error> {
     let mut zeros = Vec::new(alloc);
     zeros.resize(count, 0)?;

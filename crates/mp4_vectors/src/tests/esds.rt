@@ -1,4 +1,4 @@
-//! `esds`: the descriptors of an elementary stream, and audio configurations.
+//! Tests of `esds`: the descriptors of an elementary stream, and audio configurations.
 
 use mp4_ported::boxes::sound::{esds_of, mp4a_of, specific};
 use mp4_ported::helpers::{
@@ -12,11 +12,11 @@ use mp4_stream::{
 use std::alloc::Global;
 use std::test::Fail;
 
-/// Stream 1, of low complexity at 48000 hertz in stereo, as this codec writes it.
+/// The bytes that the codec writes for stream 1, of low complexity at 48000 hertz in stereo.
 const STEREO: [u8; 39] = *b"\0\0\0\x27esds\0\0\0\0\x03\x19\0\x01\0\x04\x11\x40\x15\0\0\0\
 \0\x01\xf4\0\0\x01\xf4\0\x05\x02\x11\x90\x06\0\0";
 
-/// The value of `STEREO`.
+/// Returns the descriptors that `STEREO` encodes.
 fn stereo() -> EsdsBox {
     EsdsBox {
         version: 0,
@@ -37,8 +37,8 @@ fn stereo() -> EsdsBox {
     }
 }
 
-/// Reads the box and counts the headers of its descriptors. Returns the kind of the outcome, the count, and the
-/// position of the cursor, which is 8 before the call.
+/// Reads the `esds` in `bytes` starting at position 8, and counts the headers of its descriptors. Returns the kind of
+/// the outcome, the count, and the position of the cursor after the call.
 fn counted(bytes: &[u8], size: u64) -> (Kind, u64, u64) {
     let mut reader = ByteCursor::new(bytes);
     reader.set_position(8);
@@ -46,8 +46,9 @@ fn counted(bytes: &[u8], size: u64) -> (Kind, u64, u64) {
     (kind_of(&result), headers, reader.position())
 }
 
-/// Lengths of four bytes. The last three bits of the audio configuration are not read. A usual encoder writes five
-/// bytes of it: the last three are read as a header of length 12928, and so as a gap to after the end.
+/// Lengths have four bytes. The last three bits of the audio configuration are not read. A usual encoder writes five
+/// bytes for it. Their last three bytes are read as a header of length 12928, and thus as a gap that ends after the
+/// box.
 #[test]
 fn descriptors_of_long_lengths(rt: HostRuntime) -> Result<(), Fail> {
     let bytes =
@@ -68,7 +69,7 @@ fn descriptors_of_long_lengths(rt: HostRuntime) -> Result<(), Fail> {
     Ok(())
 }
 
-/// A descriptor of a stream, and a hundred empty ones behind it.
+/// The bytes of an `esds` with a stream descriptor, followed by a hundred empty descriptors.
 const HUNDRED: [u8; 217] =
     *b"\0\0\0\xd9esds\0\0\0\0\x03\x7f\0\x01\0\x07\0\x07\0\x07\0\x07\0\x07\0\x07\0\x07\0\x07\0\
 \x07\0\x07\0\x07\0\x07\0\x07\0\x07\0\x07\0\x07\0\x07\0\x07\0\x07\0\x07\0\x07\0\x07\0\x07\0\x07\0\x07\0\x07\0\x07\0\x07\
@@ -77,7 +78,8 @@ const HUNDRED: [u8; 217] =
 \0\x07\0\x07\0\x07\0\x07\0\x07\0\x07\0\x07\0\x07\0\x07\0\x07\0\x07\0\x07\0\x07\0\x07\0\x07\0\x07\0\x07\0\x07\0\x07\0\
 \x07\0\x07\0\x07\0\x07\0\x07\0\x07\0\x07\0\x07\0\x07\0\x07\0\x07\0\x07\0\x07\0\x07\0";
 
-/// 62 of the hundred are in the first, and the next ends the reading. Headers before a fault are counted too.
+/// The stream descriptor contains 62 of the hundred, and the next one ends the reading. Headers before a fault are
+/// counted too.
 #[test]
 fn a_hundred_descriptors_and_headers_before_a_fault(rt: HostRuntime) -> Result<(), Fail> {
     let mut first = EsdsBox::default();
@@ -90,11 +92,12 @@ fn a_hundred_descriptors_and_headers_before_a_fault(rt: HostRuntime) -> Result<(
     Ok(())
 }
 
-/// Stream 1 with a sampling rate of 50000 hertz.
+/// The bytes of stream 1 with a sampling rate of 50000 hertz.
 const OF_50000: [u8; 42] = *b"\0\0\0\x2aesds\0\0\0\0\x03\x1c\0\x01\0\x04\x14\x40\x15\0\0\0\
 \0\x01\xf4\0\0\x01\xf4\0\x05\x05\x17\x80\x61\xa8\x10\x06\0\0";
 
-/// Expects that the descriptors of stream 1 with this bit rate and audio configuration are written in these bytes.
+/// Expects that the descriptors of stream 1 with this bit rate and audio configuration are written as `bytes`, and read
+/// back.
 fn expect_esds(
     alloc: Global,
     bitrate: u32,
@@ -124,8 +127,8 @@ fn audio_configurations_of_each_length(rt: HostRuntime) -> Result<(), Fail> {
     Ok(())
 }
 
-/// Expects that descriptors of this audio configuration have this size and can't be written, and neither an `mp4a` of
-/// them.
+/// Expects that an `esds` with this audio configuration has this size, and that neither it nor an `mp4a` with it can be
+/// written.
 fn expect_unwritable_config(
     alloc: Global,
     config: DecoderSpecificDescriptor,
@@ -155,8 +158,8 @@ fn unwritable_audio_configurations(rt: HostRuntime) -> Result<(), Fail> {
     Ok(())
 }
 
-/// The byte that the direction is written in, in these descriptors, which are expected to be read with the direction
-/// `kept`.
+/// Returns the byte to which the direction `up_stream` is written. Expects that the descriptors are read back with the
+/// direction `kept`.
 fn byte_of_direction(alloc: Global, up_stream: u8, kept: u8) -> Result<Option<u8>, Mismatch> {
     let mut esds = stereo();
     esds.es_desc.dec_config.up_stream = up_stream;

@@ -1,4 +1,4 @@
-//! Fixed-point numbers: raw numbers, whole parts, and how they print.
+//! Tests of fixed-point numbers: their raw numbers, their whole parts and how they print.
 
 use mp4_ported::helpers::debug_text;
 use mp4_stream::{FixedPointI8, FixedPointU8, FixedPointU16};
@@ -6,7 +6,7 @@ use std::alloc::{AllocError, Global};
 use std::fmt::Debug;
 use std::test::Fail;
 
-/// The first number of 8 bits that has another raw number.
+/// Returns the first unsigned number of 8 bits that has a wrong raw number, if there is one.
 fn other_raw_of_8() -> Option<u8> {
     for (value, raw) in [(0, 0), (1, 256), (255, 65280)] {
         let fixed = FixedPointU8::new(value);
@@ -17,7 +17,7 @@ fn other_raw_of_8() -> Option<u8> {
     None
 }
 
-/// The first number of 8 bits with a sign that has another raw number.
+/// Returns the first signed number of 8 bits that has a wrong raw number, if there is one.
 fn other_raw_of_signed_8() -> Option<i8> {
     for (value, raw) in [(-128, -32768), (-1, -256), (0, 0), (1, 256), (127, 32512)] {
         let fixed = FixedPointI8::new(value);
@@ -28,7 +28,7 @@ fn other_raw_of_signed_8() -> Option<i8> {
     None
 }
 
-/// The first number of 16 bits that has another raw number.
+/// Returns the first number of 16 bits that has a wrong raw number, if there is one.
 fn other_raw_of_16() -> Option<u16> {
     for (value, raw) in [
         (0, 0),
@@ -51,7 +51,7 @@ fn fixed_points_have_raw_numbers(rt: HostRuntime) {
     assert_eq!(rt; other_raw_of_16(), None);
 }
 
-/// The first raw number without a sign that is not rounded down to 8 bits.
+/// Returns the first unsigned raw number that is not rounded down to a whole part of 8 bits, if there is one.
 fn unrounded_8() -> Option<u16> {
     for (raw, value) in [
         (0, 0),
@@ -69,7 +69,7 @@ fn unrounded_8() -> Option<u16> {
     None
 }
 
-/// The first raw number with a sign that is not rounded towards 0 to 8 bits.
+/// Returns the first signed raw number that is not rounded towards 0 to a whole part of 8 bits, if there is one.
 fn unrounded_signed_8() -> Option<i16> {
     for (raw, value) in [
         (-32768, -128),
@@ -94,7 +94,7 @@ fn unrounded_signed_8() -> Option<i16> {
     None
 }
 
-/// The first raw number that is not rounded down to 16 bits.
+/// Returns the first raw number that is not rounded down to a whole part of 16 bits, if there is one.
 fn unrounded_16() -> Option<u32> {
     for (raw, value) in [
         (0, 0),
@@ -119,7 +119,7 @@ fn raw_numbers_are_rounded(rt: HostRuntime) {
     assert_eq!(rt; unrounded_16(), None);
 }
 
-/// Whether `Debug` prints the value as this text.
+/// Returns whether `Debug` prints `value` as `text`.
 fn is_printed(alloc: Global, value: &impl Debug, text: &str) -> Result<bool, AllocError> {
     Ok(debug_text(alloc, value)?.as_str() == text)
 }

@@ -1,4 +1,4 @@
-//! Boxes of fixed fields: `mfhd`, `smhd`, `mehd`, `mvhd` and `mdhd`, and the codes of languages.
+//! Tests of boxes of fixed fields (`mfhd`, `smhd`, `mehd`, `mvhd` and `mdhd`) and of the codes of languages.
 
 use mp4_ported::boxes::flat::{mdhd, mehd, mfhd, smhd};
 use mp4_ported::helpers::{
@@ -12,8 +12,8 @@ use mp4_stream::{
 use std::alloc::Global;
 use std::test::Fail;
 
-/// Reads an `mfhd` that begins one byte behind the front, with this size. Returns the kind of the outcome and the
-/// position of the cursor after the call.
+/// Reads an `mfhd` at offset 1 of a buffer, with this size. Returns the kind of the outcome and the position of the
+/// cursor after the call.
 fn read_behind(alloc: Global, size: u64) -> (Kind, u64) {
     let mut reader = ByteCursor::new(b"\xff\0\0\0\x10mfhd\0\0\0\0\0\0\0\x01");
     reader.set_position(9);
@@ -21,7 +21,7 @@ fn read_behind(alloc: Global, size: u64) -> (Kind, u64) {
     (kind, reader.position())
 }
 
-/// Behind the front, a box of the largest size ends past 2^64 - 1.
+/// A box of the largest size ends past 2^64 - 1 if it does not begin at offset 0.
 #[test]
 fn mfhd_of_its_own_size_and_of_the_largest(rt: HostRuntime) -> Result<(), Fail> {
     let alloc = rt.alloc();
@@ -55,14 +55,14 @@ fn smhd_mehd_and_mvhd_of_each_version(rt: HostRuntime) -> Result<(), Fail> {
     Ok(())
 }
 
-/// The media header of this language.
+/// Returns a media header with this language.
 fn mdhd_in(alloc: Global, language: &str) -> Result<MdhdBox, Error> {
     let mut made = mdhd(alloc)?;
     made.language = Text::from_str(alloc, language)?;
     Ok(made)
 }
 
-/// The letters after the third are not written, and letters that are missing are read as 0x60.
+/// Letters after the third are not written, and missing letters are read as 0x60.
 #[test]
 fn mdhd_of_nine_letters_and_of_none(rt: HostRuntime) -> Result<(), Fail> {
     let alloc = rt.alloc();

@@ -1,4 +1,4 @@
-//! `ftyp`: two brands, and sizes that are not those of whole brands.
+//! A test of `ftyp`: two brands, and sizes that do not hold whole brands.
 
 use mp4_ported::helpers::{Kind, expect_kind};
 use mp4_ported::made;
@@ -6,7 +6,7 @@ use mp4_stream::{Error, FourCC, FtypBox};
 use std::alloc::Global;
 use std::test::Fail;
 
-/// The file type `isom`, of minor version 512, with two brands.
+/// Returns the file type `isom`, of minor version 512, with two brands.
 fn isom(alloc: Global) -> Result<FtypBox, Error> {
     let brands = [FourCC::from(*b"isom"), FourCC::from(*b"mp41")];
     Ok(FtypBox {

@@ -1,4 +1,4 @@
-//! Headers of boxes, and version and flags.
+//! Tests of the headers of boxes, and of version and flags.
 
 use mp4_ported::helpers::{Kind, kind_of};
 use mp4_stream::{
@@ -8,8 +8,8 @@ use mp4_stream::{
 use std::alloc::Global;
 use std::test::Fail;
 
-/// Reads a header. Returns the kind of the outcome, the name and size if there is one, and the position of the cursor
-/// after the call.
+/// Reads the header in `bytes`. Returns the kind of the outcome, the name and size if there is a header, and the
+/// position of the cursor after the call.
 fn read_header(bytes: &[u8]) -> (Kind, Option<(BoxType, u64)>, u64) {
     let mut reader = ByteCursor::new(bytes);
     let outcome = BoxHeader::read(&mut reader);
@@ -47,7 +47,7 @@ fn headers_are_read(rt: HostRuntime) {
     }
 }
 
-/// The bytes that the header of a `free` of this size is written in, which are counted.
+/// Returns the bytes of the header of a `free` of this size, if their number is the one that writing returns.
 fn written(alloc: Global, size: u64) -> Result<Vec<u8>, Error> {
     let mut out = Vec::new(alloc);
     let count = BoxHeader::new(BoxType::FreeBox, size).write(&mut out)?;
@@ -58,12 +58,12 @@ fn written(alloc: Global, size: u64) -> Result<Vec<u8>, Error> {
     }
 }
 
-/// Whether the header of a `free` of this size is written in these bytes.
+/// Returns whether the header of a `free` of this size is written as `bytes`.
 fn is_written(alloc: Global, size: u64, bytes: &[u8]) -> Result<bool, Error> {
     Ok(written(alloc, size)?.as_slice() == bytes)
 }
 
-/// Whether a header of this size can't be written, which leaves the vector as it was.
+/// Returns whether writing the header of a `free` of this size is invalid data and leaves the vector unchanged.
 fn is_too_large(alloc: Global, size: u64) -> Result<bool, Error> {
     let mut out = [9].to_vec(alloc)?;
     let outcome = BoxHeader::new(BoxType::FreeBox, size).write(&mut out);
@@ -82,20 +82,20 @@ fn headers_are_written(rt: HostRuntime) -> Result<(), Fail> {
     Ok(())
 }
 
-/// Whether version and flags are read, and then the bytes left are too few.
+/// Returns whether version and flags are read from `bytes` once, and a second reading is end of input.
 fn reads_version_and_flags(bytes: &[u8]) -> bool {
     let mut reader = ByteCursor::new(bytes);
     let is_read = matches!(read_box_header_ext(&mut reader), Ok((1, 0x00ff_ffff)));
     is_read && kind_of(&read_box_header_ext(&mut reader)) == Kind::End && reader.position() == 4
 }
 
-/// Whether flags of more than 24 bits are invalid data, and leave the vector as it was.
+/// Returns whether writing flags of more than 24 bits is invalid data and leaves the vector unchanged.
 fn refuses_wide_flags(alloc: Global) -> bool {
     let mut out = Vec::new(alloc);
     kind_of(&write_box_header_ext(&mut out, 1, 1 << 24)) == Kind::Invalid && out.is_empty()
 }
 
-/// Whether version, flags and three zeros are written in these bytes.
+/// Returns whether a version, flags and three zeros are written as `bytes`.
 fn writes_version_and_flags(alloc: Global, bytes: &[u8]) -> Result<bool, Error> {
     let mut out = Vec::new(alloc);
     let count = write_box_header_ext(&mut out, 1, (1 << 24) - 1)?;

@@ -1,10 +1,10 @@
-//! Boxes that are put into a slice of their size, whatever stood there.
+//! Tests of boxes that are written into a slice of their size, whatever bytes it had.
 
 use mp4_ported::boxes::flat::mfhd;
 use mp4_stream::{Tx3gBox, WriteBox};
 use std::test::Fail;
 
-/// Puts a box into a slice, if it can be written and has the slice's size. Returns whether it was put.
+/// Writes `value` into `place` if it can be written and has the size of `place`. Returns whether it was written.
 fn put<B: WriteBox>(value: &B, place: &mut [u8]) -> bool {
     match value.writable_size() {
         Some(size) if size == place.len() as u64 => {

@@ -1,4 +1,4 @@
-//! Boxes of types that the codec does not read, which are kept as their bytes.
+//! Tests of boxes of types that the codec does not read and keeps as bytes.
 
 use mp4_ported::boxes::THREE;
 use mp4_ported::helpers::{Kind, kind_of};
@@ -9,7 +9,7 @@ use mp4_stream::{
 use std::alloc::Global;
 use std::test::Fail;
 
-/// Reads all boxes of a buffer. Returns their number and the bytes that they are written in.
+/// Reads all boxes in `bytes`, also those of other types. Returns their number and the bytes to which they are written.
 fn rewrite(alloc: Global, bytes: &[u8]) -> Result<(usize, Vec<u8>), Error> {
     let boxes: Vec<KeptBox> = read_boxes_as(alloc, &mut ByteCursor::new(bytes))?;
     let mut out = Vec::new(alloc);
@@ -19,7 +19,7 @@ fn rewrite(alloc: Global, bytes: &[u8]) -> Result<(usize, Vec<u8>), Error> {
 
 const MOOV: [u8; 9] = *b"\0\0\0\x09moov\xaa";
 
-/// The box of `MOOV`.
+/// Returns the other box whose bytes are `MOOV`.
 fn moov(alloc: Global) -> Result<OtherBox, Error> {
     OtherBox::copy_of(alloc, 0x6d6f_6f76, &[0xaa])
 }
@@ -33,14 +33,14 @@ fn another_box_has_a_code_of_no_type_and_a_content(rt: HostRuntime) -> Result<()
     Ok(())
 }
 
-/// Whether the box is written in `MOOV`.
+/// Returns whether the box in `made` is written as `MOOV`.
 fn is_moov<B: WriteBox + Drop>(alloc: Global, made: Result<B, Error>) -> Result<bool, Error> {
     let mut out = Vec::new(alloc);
     let count = made?.write_box(&mut out)?;
     Ok(count == 9 && out.as_slice() == MOOV.as_slice())
 }
 
-/// The same among the boxes of a stream.
+/// Returns the box of `MOOV` as a `KeptBox`.
 fn kept_moov(alloc: Global) -> Result<KeptBox, Error> {
     Ok(KeptBox::Other(moov(alloc)?))
 }
@@ -54,13 +54,13 @@ fn another_box_and_a_kept_box_are_written_as_they_are(rt: HostRuntime) -> Result
     Ok(())
 }
 
-/// The kind of an outcome, which is dropped.
+/// Drops `outcome` and returns its kind.
 fn ended<B: Drop>(outcome: Result<B, Error>) -> Kind {
     kind_of(&outcome)
 }
 
-/// The kind of the outcome of reading the free box at the front of a buffer with this size, and the position of the
-/// cursor after it.
+/// Reads the `free` box at the front of `bytes` with this size. Returns the kind of the outcome and the position of the
+/// cursor after the call.
 fn read_free(alloc: Global, bytes: &[u8], size: u64) -> (Kind, u64) {
     let mut reader = ByteCursor::new(bytes);
     reader.set_position(8);
@@ -78,7 +78,7 @@ fn the_size_of_a_kept_box_is_checked(rt: HostRuntime) {
     assert_eq!(rt; read_free(rt.alloc(), followed, 11), (Kind::Ok, 11));
 }
 
-/// Headers are written in 8 bytes.
+/// The headers of the written boxes have 8 bytes, whatever form was read.
 #[test]
 fn all_boxes_of_a_stream_are_kept(rt: HostRuntime) -> Result<(), Fail> {
     let short = b"\0\0\0\x0bmdat\x01\x02\x03";

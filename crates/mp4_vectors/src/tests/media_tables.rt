@@ -1,4 +1,4 @@
-//! The tables of plain media types: the numbers, codes and texts that convert, and how the values print.
+//! Tests of the conversions of plain media types from and to numbers, codes and texts, and of how their values print.
 
 use mp4_ported::helpers::{debug_text, invalid_text};
 use mp4_stream::{
@@ -9,7 +9,7 @@ use std::alloc::{AllocError, Global};
 use std::fmt::{Debug, Display};
 use std::test::Fail;
 
-/// Whether a track type is that of this handler, as a text and as a code.
+/// Returns whether `handler` and `code` are converted to `track`, and `track` is converted to `code`.
 fn is_handled(track: TrackType, handler: &str, code: u32) -> bool {
     let of_text = matches!(TrackType::try_from(handler), Ok(found) if found == track);
     let of_code = matches!(TrackType::try_from(&FourCC::from(code)), Ok(found) if found == track);
@@ -23,7 +23,7 @@ fn track_types_have_handlers(rt: HostRuntime) {
     assert!(rt; is_handled(TrackType::Subtitle, "sbtl", 0x7362_746c));
 }
 
-/// Whether a media type is that of this text.
+/// Returns whether `media` is converted to and from `text`.
 fn is_named(media: MediaType, text: &str) -> bool {
     let is_read = matches!(MediaType::try_from(text), Ok(found) if found == media);
     is_read && <&str>::from(media) == text && <&str>::from(&media) == text
@@ -36,7 +36,7 @@ fn media_types_have_texts(rt: HostRuntime) {
     assert!(rt; is_named(MediaType::TTXT, "ttxt"));
 }
 
-/// Whether a value prints as this text by `Display`, and as this name by `Debug`.
+/// Returns whether a value prints as `text` by `Display`, and as `name` by `Debug`.
 fn is_printed(
     alloc: Global,
     value: &(impl Display + Debug),
@@ -48,7 +48,7 @@ fn is_printed(
     Ok(shown.as_str() == text && debug.as_str() == name)
 }
 
-/// Whether each type of track prints as its name.
+/// Returns whether each type of track prints as its name.
 fn tracks_are_printed(alloc: Global) -> Result<bool, AllocError> {
     Ok(
         is_printed(alloc, &TrackType::Video, "Video", "Video")?
@@ -57,7 +57,7 @@ fn tracks_are_printed(alloc: Global) -> Result<bool, AllocError> {
     )
 }
 
-/// Whether each media type prints as its text.
+/// Returns whether each media type prints as its text.
 fn media_are_printed(alloc: Global) -> Result<bool, AllocError> {
     Ok(
         is_printed(alloc, &MediaType::H264, "h264", "H264")?
@@ -68,7 +68,7 @@ fn media_are_printed(alloc: Global) -> Result<bool, AllocError> {
     )
 }
 
-/// Whether each AVC profile prints as its name in words.
+/// Returns whether each AVC profile prints as its name in words.
 fn profiles_are_printed(alloc: Global) -> Result<bool, AllocError> {
     let constrained = AvcProfile::AvcConstrainedBaseline;
     Ok(
@@ -92,7 +92,7 @@ fn types_and_profiles_are_printed(rt: HostRuntime) -> Result<(), Fail> {
     Ok(())
 }
 
-/// Whether texts that are not handlers have no track type.
+/// Returns whether texts that are no handler have no track type.
 fn other_handlers_have_no_type() -> bool {
     for handler in ["", "vid", "video", "VIDE", "hint", "meta"] {
         if invalid_text(&TrackType::try_from(handler)) != Some("unsupported handler type") {
@@ -102,7 +102,7 @@ fn other_handlers_have_no_type() -> bool {
     true
 }
 
-/// The first code that has a track type, among those that are not of handlers.
+/// Returns the first code of no handler that has a track type, if there is one.
 fn other_code_of_a_track() -> Option<u32> {
     for code in [
         0,
@@ -122,7 +122,7 @@ fn other_code_of_a_track() -> Option<u32> {
     None
 }
 
-/// Whether texts that are not of media have no media type.
+/// Returns whether texts that name no media have no media type.
 fn other_texts_have_no_media() -> bool {
     for text in [
         "", "h26", "h263", "h266", "h2645", "H264", "vp8", "aacp", "ttx",
@@ -141,7 +141,7 @@ fn other_texts_and_codes_have_no_type(rt: HostRuntime) {
     assert!(rt; other_texts_have_no_media());
 }
 
-/// The first numbers that have another AVC profile than they should.
+/// Returns the first pair of numbers that has a wrong AVC profile, if there is one.
 fn other_avc_profile() -> Option<(u8, u8)> {
     for (number, constraints, profile) in [
         (66, 0x40, AvcProfile::AvcConstrainedBaseline),
@@ -169,12 +169,12 @@ fn avc_profiles_have_numbers(rt: HostRuntime) {
     assert_eq!(rt; other_avc_profile(), None);
 }
 
-/// Whether the numbers have no AVC profile.
+/// Returns whether `number` with these constraints has no AVC profile.
 fn have_no_profile(number: u8, constraints: u8) -> bool {
     invalid_text(&AvcProfile::try_from((number, constraints))) == Some("unsupported avc profile")
 }
 
-/// The first number that has an AVC profile, among those that should have none.
+/// Returns the first number that has an AVC profile and should have none, if there is one.
 fn other_number_of_a_profile() -> Option<u8> {
     for number in 0..=255 {
         if [66, 77, 88, 100].contains(&number) {
@@ -192,7 +192,7 @@ fn other_numbers_have_no_avc_profile(rt: HostRuntime) {
     assert_eq!(rt; other_number_of_a_profile(), None);
 }
 
-/// Number, variant and printed text of each audio object type.
+/// The number, variant and printed text of each audio object type.
 const AUDIO_OBJECT_TYPES: &str = "\
 1 AacMain AAC Main\n\
 2 AacLowComplexity LC\n\
@@ -238,7 +238,8 @@ const AUDIO_OBJECT_TYPES: &str = "\
 46 AudioSync Audio Sync\n\
 ";
 
-/// Appends a line of this audio object type to a table, if there is one. Returns whether it is as it should be.
+/// Appends the line of the audio object type `number` to `table`, if there is such a type. Returns whether the type is
+/// converted back to `number`, or else has the right error.
 fn put_object_type(table: &mut String, number: u8) -> Result<bool, AllocError> {
     match AudioObjectType::try_from(number) {
         Ok(found) => {
@@ -249,7 +250,7 @@ fn put_object_type(table: &mut String, number: u8) -> Result<bool, AllocError> {
     }
 }
 
-/// Whether the table of all numbers is `AUDIO_OBJECT_TYPES`.
+/// Returns whether the lines of all numbers of 8 bits are `AUDIO_OBJECT_TYPES`.
 fn is_table_of_object_types(alloc: Global) -> Result<bool, AllocError> {
     let mut table = String::new(alloc);
     for number in 0..=255 {
@@ -266,7 +267,7 @@ fn audio_object_types_have_numbers(rt: HostRuntime) -> Result<(), Fail> {
     Ok(())
 }
 
-/// Index, variant and frequency of each sampling frequency.
+/// The index, variant and frequency of each sampling frequency.
 const SAMPLE_FREQ_INDEXES: &str = "\
 0 Freq96000 96000\n\
 1 Freq88200 88200\n\
@@ -283,7 +284,8 @@ const SAMPLE_FREQ_INDEXES: &str = "\
 12 Freq7350 7350\n\
 ";
 
-/// Appends a line of this sampling frequency to a table, if there is one. Returns whether it is as it should be.
+/// Appends the line of the sampling frequency `number` to `table`, if there is such an index. Returns whether the index
+/// is converted back to `number`, or else has the right error.
 fn put_frequency(table: &mut String, number: u8) -> Result<bool, AllocError> {
     match SampleFreqIndex::try_from(number) {
         Ok(found) => {
@@ -295,7 +297,7 @@ fn put_frequency(table: &mut String, number: u8) -> Result<bool, AllocError> {
     }
 }
 
-/// Whether the table of all numbers is `SAMPLE_FREQ_INDEXES`.
+/// Returns whether the lines of all numbers of 8 bits are `SAMPLE_FREQ_INDEXES`.
 fn is_table_of_frequencies(alloc: Global) -> Result<bool, AllocError> {
     let mut table = String::new(alloc);
     for number in 0..=255 {
@@ -312,7 +314,7 @@ fn sampling_frequencies_have_indexes(rt: HostRuntime) -> Result<(), Fail> {
     Ok(())
 }
 
-/// Number, variant and printed text of each arrangement of channels.
+/// The number, variant and printed text of each channel configuration.
 const CHANNEL_CONFIGS: &str = "\
 1 Mono mono\n\
 2 Stereo stereo\n\
@@ -323,7 +325,8 @@ const CHANNEL_CONFIGS: &str = "\
 7 SevenOne seven.one\n\
 ";
 
-/// Appends a line of this arrangement of channels to a table, if there is one. Returns whether it is as it should be.
+/// Appends the line of the channel configuration `number` to `table`, if there is such a one. Returns whether it is
+/// converted back to `number`, or else has the right error.
 fn put_arrangement(table: &mut String, number: u8) -> Result<bool, AllocError> {
     match ChannelConfig::try_from(number) {
         Ok(found) => {
@@ -334,7 +337,7 @@ fn put_arrangement(table: &mut String, number: u8) -> Result<bool, AllocError> {
     }
 }
 
-/// Whether the table of all numbers is `CHANNEL_CONFIGS`.
+/// Returns whether the lines of all numbers of 8 bits are `CHANNEL_CONFIGS`.
 fn is_table_of_arrangements(alloc: Global) -> Result<bool, AllocError> {
     let mut table = String::new(alloc);
     for number in 0..=255 {
@@ -351,7 +354,7 @@ fn channel_configs_have_numbers(rt: HostRuntime) -> Result<(), Fail> {
     Ok(())
 }
 
-/// Whether a type of data has this number, and prints as this name.
+/// Returns whether `kind` is the data type `number`, equals its clone, and prints as `name`.
 fn is_data_type(
     alloc: Global,
     number: u32,
@@ -364,7 +367,7 @@ fn is_data_type(
     Ok(is_read && is_cloned && debug.as_str() == name && kind as u32 == number)
 }
 
-/// The first number that has a type of data, among those that should have none.
+/// Returns the first number that has a data type and should have none, if there is one.
 fn other_number_of_data() -> Option<u32> {
     for number in [2, 12, 14, 20, 22, 0x0100_0000, 0x0100_0001, u32::MAX] {
         if invalid_text(&DataType::try_from(number)) != Some("invalid data type") {

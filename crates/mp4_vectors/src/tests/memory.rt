@@ -1,4 +1,4 @@
-//! Writing asks for memory once, and leaves the vector as it was where that is refused.
+//! Tests that writing asks for memory once, and leaves the vector unchanged if the request is refused.
 
 use linked_list_allocator::LocalHeap;
 use mp4_ported::helpers::{Kind, kind_of};
@@ -7,7 +7,8 @@ use mp4_stream::{AnyBox, Error, WriteBox, write_boxes};
 use std::alloc::Global;
 use std::test::Fail;
 
-/// Writes a box over a heap with no room. Returns the kind of the outcome, and whether nothing was written.
+/// Writes `original` with a heap that has no memory left. Returns the kind of the outcome, and whether nothing was
+/// written.
 fn write_over_none<B: WriteBox>(alloc: Global, original: &B) -> Result<(Kind, bool), Error> {
     let heap = LocalHeap::new(alloc, 16)?;
     let _all = Vec::from_slice(&heap, &[7])?;
@@ -16,8 +17,8 @@ fn write_over_none<B: WriteBox>(alloc: Global, original: &B) -> Result<(Kind, bo
     Ok((kind_of(&outcome), out.is_empty()))
 }
 
-/// Writes a box over a heap with room for its bytes, and no more than fills up its last block of 16 bytes. Returns the
-/// kind of the outcome, and whether these bytes were written.
+/// Writes `original` with a heap that has memory for `bytes`, rounded up to blocks of 16 bytes. Returns the kind of the
+/// outcome, and whether `bytes` were written.
 fn write_over_one<B: WriteBox>(
     alloc: Global,
     original: &B,
@@ -29,7 +30,7 @@ fn write_over_one<B: WriteBox>(
     Ok((kind_of(&outcome), out.as_slice() == bytes))
 }
 
-/// Writes a box of these bytes over both heaps.
+/// Writes the box in `made` with a full heap, and with a heap that has memory for `bytes`. Returns both outcomes.
 fn write_over_two<B: WriteBox + Drop>(
     alloc: Global,
     made: Result<B, Error>,
@@ -41,7 +42,7 @@ fn write_over_two<B: WriteBox + Drop>(
     Ok([none, one])
 }
 
-/// Whether each vector is out of memory over the first heap and written over the second.
+/// Returns whether writing each vector is out of memory with the full heap, and succeeds with the other one.
 fn are_written_at_once<V: Vector>(alloc: Global, vectors: &[V]) -> Result<bool, Error> {
     for vector in vectors {
         let found = write_over_two(alloc, vector.make(alloc), vector.bytes())?;
@@ -52,7 +53,7 @@ fn are_written_at_once<V: Vector>(alloc: Global, vectors: &[V]) -> Result<bool, 
     Ok(true)
 }
 
-/// A second request would not be granted: the heap has room for one.
+/// The heap has memory for one request, so a second one would be refused.
 #[test]
 fn a_write_takes_one_block(rt: HostRuntime) -> Result<(), Fail> {
     assert!(rt; are_written_at_once(rt.alloc(), &FIRST_VECTORS)?);
@@ -60,7 +61,8 @@ fn a_write_takes_one_block(rt: HostRuntime) -> Result<(), Fail> {
     Ok(())
 }
 
-/// Writes a list over a heap of this size.
+/// Writes a list of boxes with a heap of `room` bytes. Returns the kind of the outcome and the number of bytes that
+/// were written.
 fn write_list_over(alloc: Global, boxes: &[AnyBox], room: usize) -> Result<(Kind, usize), Error> {
     let heap = LocalHeap::new(alloc, room)?;
     let mut out = Vec::new(&heap);
@@ -68,7 +70,7 @@ fn write_list_over(alloc: Global, boxes: &[AnyBox], room: usize) -> Result<(Kind
     Ok((kind_of(&outcome), out.len()))
 }
 
-/// All vectors as a list, and the number of their bytes.
+/// Returns the boxes of all vectors, and the number of their bytes.
 fn list_of<V: Vector>(alloc: Global, vectors: &[V]) -> Result<(Vec<AnyBox>, usize), Error> {
     let mut boxes = Vec::new(alloc);
     let mut room: usize = 0;
@@ -79,8 +81,8 @@ fn list_of<V: Vector>(alloc: Global, vectors: &[V]) -> Result<(Vec<AnyBox>, usiz
     Ok((boxes, room))
 }
 
-/// Whether the list of the vectors is written over a heap with room for its bytes alone, and is out of memory over one
-/// of half the room.
+/// Returns whether the list of the vectors is written with a heap that has memory only for its bytes, and is out of
+/// memory with half of that.
 fn is_written_at_once<V: Vector>(alloc: Global, vectors: &[V]) -> Result<bool, Error> {
     let (boxes, room) = list_of(alloc, vectors)?;
     let whole = write_list_over(alloc, &boxes, room)?;

@@ -1,4 +1,4 @@
-//! `mp4a`: a sample entry of audio, with and without descriptors.
+//! Tests of `mp4a`, the sample entry of audio, with and without descriptors.
 
 use mp4_ported::boxes::sound::{MP4A_OF_TEST, esds_of, mp4a_of, mp4a_of_test, specific};
 use mp4_ported::helpers::{
@@ -9,7 +9,7 @@ use mp4_stream::{
 };
 use std::test::Fail;
 
-/// The last has a size of 20, and ends after it: in a list the next box begins at 20, and ends at 37.
+/// The last entry has a size of 20 and needs more bytes. In a list the next box begins at 20, and ends at 37.
 #[test]
 fn mp4a_with_and_without_descriptors(rt: HostRuntime) -> Result<(), Fail> {
     let alloc = rt.alloc();

@@ -1,4 +1,4 @@
-//! How errors, names, codes and matrices print.
+//! Tests of how errors, names, codes and matrices print.
 
 use mp4_ported::helpers::debug_text;
 use mp4_stream::{BoxType, Error, FourCC, Matrix};
@@ -6,13 +6,13 @@ use std::alloc::{AllocError, Global};
 use std::fmt::Display;
 use std::test::Fail;
 
-/// Whether a value prints as this text.
+/// Returns whether `value` prints as `text`.
 fn is_printed(alloc: Global, value: impl Display + Drop, text: &str) -> Result<bool, AllocError> {
     let printed = format!(in alloc; "{value}")?;
     Ok(printed.as_str() == text)
 }
 
-/// Whether errors of reading print as their texts.
+/// Returns whether errors of reading print as their texts.
 fn faults_are_printed(alloc: Global) -> Result<bool, AllocError> {
     let small = "box size too small";
     Ok(
@@ -27,7 +27,7 @@ fn faults_are_printed(alloc: Global) -> Result<bool, AllocError> {
     )
 }
 
-/// Whether errors that name boxes of a file print as their texts.
+/// Returns whether errors that name boxes of a file print as their texts.
 fn missing_boxes_are_printed(alloc: Global) -> Result<bool, AllocError> {
     let (stsd, moov, trun) = (BoxType::StsdBox, BoxType::MoovBox, BoxType::TrunBox);
     Ok(
@@ -49,7 +49,7 @@ fn missing_boxes_are_printed(alloc: Global) -> Result<bool, AllocError> {
     )
 }
 
-/// Whether errors that name boxes and entries of tables print as their texts.
+/// Returns whether errors that name boxes and entries of tables print as their texts.
 fn missing_entries_are_printed(alloc: Global) -> Result<bool, AllocError> {
     let (stsd, trun) = (BoxType::StsdBox, BoxType::TrunBox);
     let entry_of_stbl = Error::EntryInStblNotFound(3, stsd, 4);
@@ -74,7 +74,7 @@ fn errors_print_their_texts(rt: HostRuntime) -> Result<(), Fail> {
     Ok(())
 }
 
-/// Whether names of boxes print as their codes.
+/// Returns whether names of boxes print as their codes.
 fn types_are_printed(alloc: Global) -> Result<bool, AllocError> {
     Ok(
         is_printed(alloc, BoxType::FtypBox, "ftyp")?
@@ -84,7 +84,7 @@ fn types_are_printed(alloc: Global) -> Result<bool, AllocError> {
     )
 }
 
-/// Whether names of unknown boxes print as their codes, whatever bytes these are of.
+/// Returns whether names of unknown boxes print as their codes, whatever bytes the codes have.
 fn unknown_types_are_printed(alloc: Global) -> Result<bool, AllocError> {
     Ok(
         is_printed(alloc, BoxType::UnknownBox(0x6d61_726b), "mark")?
@@ -97,7 +97,7 @@ fn unknown_types_are_printed(alloc: Global) -> Result<bool, AllocError> {
     )
 }
 
-/// Whether codes print as their letters, and by `Debug` as their number too.
+/// Returns whether codes print as their letters by `Display`, and as their letters and number by `Debug`.
 fn codes_are_printed(alloc: Global) -> Result<bool, AllocError> {
     let isom = FourCC::from(*b"isom");
     Ok(
@@ -115,7 +115,7 @@ fn names_print_their_codes(rt: HostRuntime) -> Result<(), Fail> {
     Ok(())
 }
 
-/// A matrix prints as nine numbers to base 16.
+/// A matrix prints as nine hexadecimal numbers.
 #[test]
 fn printed_matrices(rt: HostRuntime) -> Result<(), Fail> {
     let unity = "0x10000 0x0 0x0 0x0 0x10000 0x0 0x0 0x0 0x40000000";

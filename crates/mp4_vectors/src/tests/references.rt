@@ -1,4 +1,4 @@
-//! References: `url `, `dref` and `dinf`.
+//! Tests of references: `url `, `dref` and `dinf`.
 
 use mp4_ported::boxes::text::{dref_of, url};
 use mp4_ported::helpers::{Kind, expect_kind, expect_list};
@@ -7,7 +7,7 @@ use mp4_stream::{BoxType, DinfBox, DrefBox, Error, Text, UrlBox};
 use std::alloc::Global;
 use std::test::Fail;
 
-/// The data is in the same file.
+/// Returns the reference to the same file: flags of 1 and no location.
 fn same_file(alloc: Global) -> UrlBox {
     UrlBox {
         version: 0,
@@ -16,15 +16,15 @@ fn same_file(alloc: Global) -> UrlBox {
     }
 }
 
-/// References with the location `abc`.
+/// Returns a `dref` whose `url ` has the location `abc`.
 fn dref_of_abc(alloc: Global) -> Result<DrefBox, Error> {
     let mut child = url(alloc)?;
     child.location = Text::from_str(alloc, "abc")?;
     Ok(dref_of(Some(child)))
 }
 
-/// An empty location is written without its zero byte. The last `url ` ends 8 bytes after its `dref`: in a list a
-/// header of size 0 stands there, a box up to the end, which is skipped.
+/// An empty location is written without its zero byte. The last `url ` ends 8 bytes after its `dref`. In a list these 8
+/// bytes are the header of a box of size 0, which extends to the end and is skipped.
 #[test]
 fn url_and_dref_of_each_location(rt: HostRuntime) -> Result<(), Fail> {
     let alloc = rt.alloc();

@@ -1,4 +1,4 @@
-//! Samples: when they are equal, and how they print. Times of creation.
+//! Tests of the equality and the printed form of samples, and of creation times.
 
 use mp4_stream::{Bytes, Mp4Sample, creation_time};
 use std::test::Fail;
@@ -13,12 +13,12 @@ fn sample(bytes: &'static [u8]) -> Mp4Sample {
     }
 }
 
-/// Whether a sample is unlike that of three bytes.
+/// Returns whether `other` is unequal to the sample of three bytes.
 fn is_unlike(other: Mp4Sample) -> bool {
     sample(b"abc") != other
 }
 
-/// Whether a sample with another time, duration, offset or mark is another one.
+/// Returns whether samples are unequal if their start time, duration, offset or sync mark differs.
 fn other_fields_are_told() -> bool {
     is_unlike(Mp4Sample {
         start_time: 2,

@@ -1,4 +1,4 @@
-//! Boxes that are read with a size other than their own.
+//! Tests of boxes that are read with a wrong size.
 
 use mp4_ported::boxes::entries::avc1;
 use mp4_ported::boxes::entries::avc1_of_two;
@@ -196,7 +196,7 @@ fn entries_of_video_have_room_for_their_child(rt: HostRuntime) -> Result<(), Fai
     Ok(())
 }
 
-/// Expects that a box is read as one value with a size of 0 or 7, and as another with the largest size.
+/// Expects that `bytes` are read as `small` with a size of 0 or 7, and as `large` with the largest size.
 fn expect_values<B: BoxLaws + PartialEq + Drop>(
     alloc: Global,
     bytes: &[u8],
@@ -225,7 +225,7 @@ fn sizes_of_mp4a(rt: HostRuntime) -> Result<(), Fail> {
     Ok(())
 }
 
-/// The second `stsd`, without its entry of sound.
+/// Returns the value of `STSD` without its audio entry.
 fn stsd_without_sound() -> StsdBox {
     StsdBox {
         mp4a: None,
@@ -244,7 +244,7 @@ fn sizes_of_stsd_and_esds(rt: HostRuntime) -> Result<(), Fail> {
     Ok(())
 }
 
-/// Expects one kind of outcome from reading a box with a size of 0 or 7, and one with the largest size.
+/// Expects that reading `bytes` has the outcome `small` with a size of 0 or 7, and `large` with the largest size.
 fn expect_kinds<B: ReadBox + Drop>(
     alloc: Global,
     bytes: &[u8],
@@ -271,7 +271,7 @@ fn sizes_of_texts_data_and_references(rt: HostRuntime) -> Result<(), Fail> {
     Ok(())
 }
 
-/// A `url ` with no location.
+/// Returns a `url ` without a location.
 fn url_of_nothing(alloc: Global) -> UrlBox {
     UrlBox {
         version: 0,

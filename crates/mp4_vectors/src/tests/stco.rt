@@ -1,4 +1,4 @@
-//! `stco`: a count of more entries than there is room for, and offsets of 64 bits that become short.
+//! Tests of `stco`: a count of more entries than the box can hold, and offsets that are converted from 64 bits.
 
 use mp4_ported::helpers::{Kind, expect_kind, kind_of};
 use mp4_stream::{Co64Box, Error, StcoBox};
@@ -20,7 +20,7 @@ fn stco_of_more_entries_than_there_is_room_for(rt: HostRuntime) -> Result<(), Fa
     Ok(())
 }
 
-/// The short offsets of these.
+/// Returns an `stco` with `offsets`, converted from a `co64`.
 fn shortened(alloc: Global, offsets: &[u64]) -> Result<StcoBox, Error> {
     let long = Co64Box {
         version: 1,
@@ -30,7 +30,7 @@ fn shortened(alloc: Global, offsets: &[u64]) -> Result<StcoBox, Error> {
     StcoBox::try_from_co64(alloc, &long)
 }
 
-/// Whether the short offsets are these, of version 0 and without flags.
+/// Returns whether the `stco` in `made` has these offsets, version 0 and no flags.
 fn are(made: Result<StcoBox, Error>, offsets: &[u32]) -> Result<bool, Error> {
     let short = made?;
     Ok((short.version, short.flags) == (0, 0) && short.entries.as_slice() == offsets)

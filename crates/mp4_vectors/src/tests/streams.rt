@@ -1,4 +1,4 @@
-//! Lists of boxes.
+//! Tests of lists of boxes.
 
 use mp4_ported::boxes::flat::{mehd_short, mfhd};
 use mp4_ported::helpers::{Kind, expect_list, expect_list_kind, kind_of};
@@ -24,8 +24,8 @@ fn a_list_skips_unread_types_and_is_cut(rt: HostRuntime) -> Result<(), Fail> {
     Ok(())
 }
 
-/// Appends two boxes as a list to a vector of a 9. Returns the kind of the outcome, and whether the vector is as
-/// before.
+/// Appends a list of `first` and `last` to a vector that has a 9. Returns the kind of the outcome, and whether the
+/// vector is unchanged.
 fn append_two<B: StreamBox>(alloc: Global, first: B, last: B) -> Result<(Kind, bool), Error> {
     let mut boxes = Vec::new(alloc);
     boxes.push(first)?;
@@ -35,7 +35,7 @@ fn append_two<B: StreamBox>(alloc: Global, first: B, last: B) -> Result<(Kind, b
     Ok((kind_of(&outcome), out.as_slice() == [9].as_slice()))
 }
 
-/// Whether no box is written in no bytes.
+/// Returns whether an empty list of boxes is written as no bytes.
 fn no_box_is_no_bytes(alloc: Global) -> Result<bool, Error> {
     let none: [AnyBox; 0] = [];
     let mut out = [9].to_vec(alloc)?;

@@ -1,4 +1,4 @@
-//! `stsc`: the first samples of chunks, which are computed when a box is read, and ignored when it is written.
+//! Tests of `stsc` and its first samples, which reading computes and writing ignores.
 
 use mp4_ported::boxes::tables::{chunk_run, stsc_of};
 use mp4_ported::helpers::{Kind, expect_kind};
@@ -6,11 +6,11 @@ use mp4_ported::made;
 use mp4_stream::StscBox;
 use std::test::Fail;
 
-/// Two runs of chunks of one size, which begin at the chunks 1 and 19026.
+/// The bytes of two runs of chunks, which begin at the chunks 1 and 19026.
 const TWO_RUNS: [u8; 40] = *b"\0\0\0\x28stsc\0\0\0\0\0\0\0\x02\0\0\0\x01\0\0\0\x01\0\0\0\x01\
 \0\0\x4a\x52\0\0\0\x0e\0\0\0\x01";
 
-/// A first sample that differs is not written.
+/// A wrong first sample is not written.
 #[test]
 fn first_samples_are_computed(rt: HostRuntime) -> Result<(), Fail> {
     let alloc = rt.alloc();

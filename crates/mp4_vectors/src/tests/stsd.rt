@@ -1,4 +1,4 @@
-//! `stsd`: a sample description with no entry, and with more entries than are written.
+//! A test of `stsd` without an entry, and with more entries than are written.
 
 use mp4_ported::boxes::entries::avc1_of_two;
 use mp4_ported::boxes::sound::{mp4a_of, mp4a_of_test};
@@ -7,7 +7,7 @@ use mp4_stream::{BoxType, Error, Mp4aBox, StsdBox};
 use std::alloc::Global;
 use std::test::Fail;
 
-/// One entry, the `avc1` of two sets.
+/// The bytes of an `stsd` with one entry, the `avc1` of two parameter sets.
 const ONE_ENTRY: [u8; 151] = [
     0x00, 0x00, 0x00, 0x97, 0x73, 0x74, 0x73, 0x64, 0x00, 0x00, 0x00, 0x00, 0x00, 0x00, 0x00, 0x01,
     0x00, 0x00, 0x00, 0x87, 0x61, 0x76, 0x63, 0x31, 0x00, 0x00, 0x00, 0x00, 0x00, 0x00, 0x00, 0x01,
@@ -21,7 +21,7 @@ const ONE_ENTRY: [u8; 151] = [
     0x06, 0x68, 0xeb, 0xe3, 0xcb, 0x22, 0xc0,
 ];
 
-/// The `avc1` of two sets, and this entry of audio.
+/// Returns an `stsd` with the `avc1` of two parameter sets and the audio entry `mp4a`.
 fn stsd_of_video_and(alloc: Global, mp4a: Option<Mp4aBox>) -> Result<StsdBox, Error> {
     Ok(StsdBox {
         avc1: Some(avc1_of_two(alloc, 3)?),
@@ -30,7 +30,7 @@ fn stsd_of_video_and(alloc: Global, mp4a: Option<Mp4aBox>) -> Result<StsdBox, Er
     })
 }
 
-/// An entry of audio that can't be written.
+/// Returns an audio entry that can't be written.
 fn unwritable_mp4a() -> Mp4aBox {
     let mut mp4a = mp4a_of_test();
     if let Some(esds) = &mut mp4a.esds {
@@ -39,7 +39,7 @@ fn unwritable_mp4a() -> Mp4aBox {
     mp4a
 }
 
-/// The `avc1` alone is written: the entry of audio need not be writable.
+/// Only the `avc1` is written, so the audio entry need not be writable.
 #[test]
 fn stsd_without_an_entry_and_of_two(rt: HostRuntime) -> Result<(), Fail> {
     let alloc = rt.alloc();
@@ -64,7 +64,7 @@ fn stsd_without_an_entry_and_of_two(rt: HostRuntime) -> Result<(), Fail> {
     Ok(())
 }
 
-/// The type and the size that a box without an entry returns.
+/// Returns the type and the size of an `stsd` without an entry.
 fn type_and_size(alloc: Global) -> (BoxType, u64) {
     let none = StsdBox::default_in(alloc);
     (none.get_type(), none.get_size())

@@ -1,4 +1,4 @@
-//! Tables with a count or with flags: `ctts`, `stsz`, `elst`, `tfhd` and `trun`.
+//! Tests of tables with a count or with flags: `ctts`, `stsz`, `elst`, `tfhd` and `trun`.
 
 use mp4_ported::boxes::tables::{
     ctts, elst, elst_of, list, stsz_of_one_size, tfhd, trun, trun_of_durations,
@@ -9,7 +9,7 @@ use mp4_stream::{ElstBox, Error, StszBox, TfhdBox, TrunBox};
 use std::alloc::Global;
 use std::test::Fail;
 
-/// A `stsz` of nine samples, with eight sizes.
+/// Returns an `stsz` that counts nine samples and has eight sizes.
 fn stsz_of_eight(alloc: Global, sample_size: u32) -> Result<StszBox, Error> {
     let sizes = [1165, 11, 11, 8545, 10126, 10866, 9643, 9351];
     Ok(StszBox {
@@ -63,14 +63,14 @@ fn tfhd_has_the_fields_of_its_flags(rt: HostRuntime) -> Result<(), Fail> {
     Ok(())
 }
 
-/// A `trun` whose flags have no sizes, and which has one.
+/// Returns a `trun` with a size that its flags do not announce.
 fn trun_of_a_size_too(alloc: Global) -> Result<TrunBox, Error> {
     let mut trun = trun_of_durations(alloc)?;
     trun.sample_sizes = list(alloc, &[1])?;
     Ok(trun)
 }
 
-/// A `trun` of the largest count, which has no lists.
+/// Returns a `trun` with the largest count and without lists.
 fn trun_of_no_lists(alloc: Global) -> TrunBox {
     let mut trun = TrunBox::default_in(alloc);
     trun.sample_count = 4294967295;

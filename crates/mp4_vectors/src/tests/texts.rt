@@ -1,4 +1,4 @@
-//! Strings and data: `hdlr`, `data` and `emsg`.
+//! Tests of strings and data: `hdlr`, `data` and `emsg`.
 
 use mp4_ported::boxes::text::emsg;
 use mp4_ported::helpers::{Kind, expect_kind, expect_list_kind};
@@ -7,7 +7,7 @@ use mp4_stream::{DataBox, EmsgBox, Error, FourCC, HdlrBox, Text};
 use std::alloc::Global;
 use std::test::Fail;
 
-/// The handler of a video track, with this name.
+/// Returns the handler of a video track with this name.
 fn hdlr_of(alloc: Global, name: &str) -> Result<HdlrBox, Error> {
     Ok(HdlrBox {
         version: 0,
@@ -17,8 +17,8 @@ fn hdlr_of(alloc: Global, name: &str) -> Result<HdlrBox, Error> {
     })
 }
 
-/// A box of no name has 33 bytes by its size. As one box it needs the first 20, in a list all of them. A name that is
-/// not UTF-8 is read as `null`.
+/// An `hdlr` without a name has a size of 33. As one box it is read from its first 20 bytes, and in a list it needs all
+/// of them. A name that is not UTF-8 is read as `null`.
 #[test]
 fn hdlr_of_no_name_and_of_one_that_is_not_utf8(rt: HostRuntime) -> Result<(), Fail> {
     let alloc = rt.alloc();
@@ -54,39 +54,39 @@ fn first_faults_of_data_and_emsg(rt: HostRuntime) -> Result<(), Fail> {
     Ok(())
 }
 
-/// The event `foo`, `foo`.
+/// The bytes of the event whose scheme and value are `foo`.
 const FOO: [u8; 39] =
     *b"\0\0\0\x27emsg\0\0\0\0foo\0foo\0\0\0\xbb\x80\0\0\0\x64\0\0\0\xc8\0\0\0\x08\x01\x02\x03";
 
-/// The event `foo`, with a zero byte in the value.
+/// Returns the event of `FOO` with a zero byte in its value.
 fn emsg_of_inner_zero(alloc: Global) -> Result<EmsgBox, Error> {
     let mut made = emsg(alloc)?;
     made.value = Text::from_str(alloc, "a\0b")?;
     Ok(made)
 }
 
-/// The event `foo`, with no time.
+/// Returns the event of `FOO` without a time.
 fn emsg_without_time(alloc: Global) -> Result<EmsgBox, Error> {
     let mut made = emsg(alloc)?;
     made.presentation_time_delta = None;
     Ok(made)
 }
 
-/// An event of an unknown version, of empty texts and no message.
+/// Returns an event of an unknown version, with empty texts and without a message.
 fn emsg_of_version_2(alloc: Global) -> EmsgBox {
     let mut made = EmsgBox::default_in(alloc);
     made.version = 2;
     made
 }
 
-/// The event `foo`, with a time of its presentation too.
+/// Returns the event of `FOO` with a second time, which version 1 uses.
 fn emsg_of_two_times(alloc: Global) -> Result<EmsgBox, Error> {
     let mut made = emsg(alloc)?;
     made.presentation_time = Some(5);
     Ok(made)
 }
 
-/// Of two times that of the version is written.
+/// If an event has two times, the one of its version is written.
 #[test]
 fn emsg_of_a_time_in_its_segment(rt: HostRuntime) -> Result<(), Fail> {
     let alloc = rt.alloc();

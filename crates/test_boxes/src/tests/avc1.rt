@@ -1,4 +1,4 @@
-//! `avc1` and its `avcC`, made of configurations.
+//! Tests of `avc1` and its `avcC`, made from configurations.
 
 use mp4_ported::boxes::entries::{PICTURE, SEQUENCE, avc1_of, avcc_of_two, list_of_sets};
 use mp4_ported::made;
@@ -10,7 +10,7 @@ const COUNTED_SEQUENCE: [u8; 5] = [0x67, 0x81, 0x82, 0x83, 0x84];
 
 const COUNTED_PICTURE: [u8; 2] = [0x68, 0x85];
 
-/// The configuration of the sets whose bytes count up.
+/// Returns the `avcC` with the parameter sets `COUNTED_SEQUENCE` and `COUNTED_PICTURE`.
 fn counted_avcc(alloc: Global) -> Result<AvcCBox, Error> {
     Ok(AvcCBox {
         configuration_version: 1,
@@ -23,7 +23,7 @@ fn counted_avcc(alloc: Global) -> Result<AvcCBox, Error> {
     })
 }
 
-/// Their entry: 72 pixels an inch, one frame, and 24 bits.
+/// Returns the `avc1` with this `avcC`, 72 pixels per inch, one frame and 24 bits.
 fn counted_avc1(alloc: Global) -> Result<Avc1Box, Error> {
     Ok(Avc1Box {
         data_reference_index: 1,
@@ -37,7 +37,7 @@ fn counted_avc1(alloc: Global) -> Result<Avc1Box, Error> {
     })
 }
 
-/// The entry that is made of the sets whose bytes count up.
+/// Returns the `avc1` that `new` makes from the parameter sets `COUNTED_SEQUENCE` and `COUNTED_PICTURE`.
 fn new_counted(alloc: Global) -> Result<Avc1Box, Error> {
     let config = AvcConfig {
         width: 0x8182,
@@ -48,7 +48,7 @@ fn new_counted(alloc: Global) -> Result<Avc1Box, Error> {
     Avc1Box::new(alloc, &config)
 }
 
-/// The entry that is made of the sets of the Rust crate's test.
+/// Returns the `avc1` that `new` makes from the parameter sets of the Rust crate's test.
 fn new_of_test(alloc: Global) -> Result<Avc1Box, Error> {
     let config = AvcConfig {
         width: 320,
@@ -59,7 +59,7 @@ fn new_of_test(alloc: Global) -> Result<Avc1Box, Error> {
     Avc1Box::new(alloc, &config)
 }
 
-/// The same entry, whose sets have lengths of four bytes.
+/// Returns the `avc1` of the Rust crate's test, with lengths of four bytes before parameter sets.
 fn of_test(alloc: Global) -> Result<Avc1Box, Error> {
     Ok(avc1_of(alloc, avcc_of_two(alloc, 0xff)?))
 }

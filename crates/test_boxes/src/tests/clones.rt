@@ -1,4 +1,4 @@
-//! Clones of boxes.
+//! Tests of clones of boxes.
 
 use mp4_ported::boxes::entries::{avc1, avcc, hev1, tx3g, vp09, vpcc};
 use mp4_ported::boxes::flat::mdhd_long;
@@ -12,22 +12,22 @@ use mp4_ported::made;
 use mp4_stream::{Error, FtypBox, ReadBox, StcoBox, TryClone};
 use std::alloc::Global;
 
-/// Whether a clone of the box is equal to it.
+/// Returns whether the box in `made` has a clone that is equal to it.
 fn is_cloned<B: TryClone + PartialEq + Drop>(made: Result<B, Error>) -> bool {
     made::cloned(made).is_ok()
 }
 
-/// Whether a clone of the box is equal to it, where its making takes no memory.
+/// Returns whether `original` has a clone that is equal to it.
 fn is_clone_equal<B: TryClone + PartialEq + Drop>(original: &B) -> bool {
     made::clone_of(original).is_ok()
 }
 
-/// A box as it is read from these bytes, after the 8 bytes of its header.
+/// Returns the box of this size that is read from `bytes`, after the 8 bytes of its header.
 fn read_from<B: ReadBox + Drop>(alloc: Global, bytes: &[u8], size: u64) -> Result<B, Error> {
     read::<B>(alloc, bytes, size).0
 }
 
-/// Whether clones of tables are equal to them.
+/// Returns whether tables are equal to their clones.
 fn tables_are_cloned(alloc: Global) -> bool {
     is_cloned(stco(alloc))
         && is_cloned(read_from::<StcoBox>(alloc, &STCO_OF_ONE, 20))
@@ -46,7 +46,7 @@ fn clones_of_tables(rt: HostRuntime) {
     assert!(rt; tables_are_cloned(rt.alloc()));
 }
 
-/// Whether clones of texts and references are equal to them.
+/// Returns whether texts and references are equal to their clones.
 fn texts_and_references_are_cloned(alloc: Global) -> bool {
     is_cloned(mdhd_long(alloc))
         && is_cloned(ftyp(alloc))
@@ -64,7 +64,7 @@ fn clones_of_texts_and_references(rt: HostRuntime) {
     assert!(rt; texts_and_references_are_cloned(rt.alloc()));
 }
 
-/// Whether clones of entries of samples are equal to them.
+/// Returns whether sample entries and boxes of audio are equal to their clones.
 fn entries_and_sound_are_cloned(alloc: Global) -> bool {
     is_cloned(avcc(alloc))
         && is_cloned(avc1(alloc))

@@ -1,8 +1,8 @@
-//! The named codes, there and back.
+//! Tests of the conversions between the names of boxes and their codes.
 
 use mp4_stream::{BoxType, FourCC};
 
-/// Each name with its four bytes.
+/// Each name with the four bytes of its code.
 const CODES: [(BoxType, [u8; 4]); 55] = [
     (BoxType::FtypBox, *b"ftyp"),
     (BoxType::FreeBox, *b"free"),
@@ -61,12 +61,12 @@ const CODES: [(BoxType, [u8; 4]); 55] = [
     (BoxType::DayBox, *b"\xa9day"),
 ];
 
-/// The rows of `CODES`, in one place: a constant that a test names is written out where it stands.
+/// Returns the rows of `CODES`. A constant is copied to each place that names it, so only this function names `CODES`.
 fn codes() -> &'static [(BoxType, [u8; 4])] {
     &CODES
 }
 
-/// Whether the name has these four bytes, as a number and as a code, and they have it.
+/// Returns whether `name` is converted to `bytes`, as a number and as a code, and back.
 fn is_code_of(name: BoxType, bytes: [u8; 4]) -> bool {
     let number = u32::from_be_bytes(bytes);
     u32::from(name) == number
@@ -75,7 +75,7 @@ fn is_code_of(name: BoxType, bytes: [u8; 4]) -> bool {
         && BoxType::from(u32::from(&FourCC::from(bytes))) == name
 }
 
-/// The first name that has other bytes than its own.
+/// Returns the first name in `CODES` that is not converted to its bytes and back, if there is one.
 fn first_with_other_code() -> Option<BoxType> {
     for &(name, bytes) in codes() {
         if !is_code_of(name, bytes) {
@@ -90,13 +90,14 @@ fn names_have_their_codes_and_codes_their_names(rt: HostRuntime) {
     assert_eq!(rt; first_with_other_code(), None);
 }
 
-/// Whether the number has no name.
+/// Returns whether `number` is the code of no named box, and is kept as it is.
 fn is_unknown(number: u32) -> bool {
     let unknown = BoxType::UnknownBox(number);
     BoxType::from(number) == unknown && u32::from(unknown) == number
 }
 
-/// The first name that is not lost with the first bit of its first or its last byte.
+/// Returns the first name in `CODES` that keeps a name if the highest bit of its first or last byte is flipped, if
+/// there is one.
 fn first_with_two_codes() -> Option<BoxType> {
     for &(name, bytes) in codes() {
         let number = u32::from_be_bytes(bytes);

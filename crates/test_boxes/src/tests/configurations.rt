@@ -1,4 +1,4 @@
-//! Configurations of tracks: defaults, clones, and how they print.
+//! Tests of the configurations of tracks: their defaults, their clones and how they print.
 
 use mp4_ported::helpers::debug_text;
 use mp4_ported::made;
@@ -9,7 +9,7 @@ use mp4_stream::{
 use std::alloc::Global;
 use std::fmt::Debug;
 
-/// Whether the configuration has no size and no parameter sets.
+/// Returns whether `avc` has no width, no height and no parameter sets.
 fn is_empty(avc: AvcConfig) -> bool {
     avc.width == 0
         && avc.height == 0
@@ -17,7 +17,7 @@ fn is_empty(avc: AvcConfig) -> bool {
         && avc.pic_param_set.is_empty()
 }
 
-/// Whether each default configuration without memory is what the Rust crate has.
+/// Returns whether the default configurations that need no memory equal those of the Rust crate.
 fn defaults_are_known() -> bool {
     let (width, height) = (0, 0);
     let aac = AacConfig {
@@ -46,7 +46,7 @@ fn avc_config(alloc: Global) -> Result<AvcConfig, Error> {
     })
 }
 
-/// Whether `Debug` prints this text.
+/// Returns whether `Debug` prints `value` as `expected`.
 fn is_printed<T: Debug>(alloc: Global, value: &T, expected: &str) -> bool {
     match debug_text(alloc, value) {
         Ok(text) => text.as_str() == expected,
@@ -54,7 +54,7 @@ fn is_printed<T: Debug>(alloc: Global, value: &T, expected: &str) -> bool {
     }
 }
 
-/// Whether `Debug` prints this text of what was made.
+/// Returns whether `Debug` prints the configuration in `made` as `expected`.
 fn is_made_and_printed(alloc: Global, made: Result<AvcConfig, Error>, expected: &str) -> bool {
     match made {
         Ok(avc) => is_printed(alloc, &avc, expected),
@@ -62,7 +62,7 @@ fn is_made_and_printed(alloc: Global, made: Result<AvcConfig, Error>, expected: 
     }
 }
 
-/// Whether `Debug` prints this text of a track of text.
+/// Returns whether `Debug` prints the configuration of a text track as `expected`.
 fn text_is_printed(alloc: Global, expected: &str) -> bool {
     is_printed(alloc, &MediaConfig::TtxtConfig(TtxtConfig {}), expected)
 }
@@ -84,7 +84,7 @@ fn configurations_are_printed(rt: HostRuntime) {
     );
 }
 
-/// Whether what was made is equal to the default, or isn't, as expected.
+/// Returns whether the answer of `==` to `made` and the default configuration is `expected`.
 fn is_default(alloc: Global, made: Result<AvcConfig, Error>, expected: bool) -> bool {
     match made {
         Ok(made) => (made == AvcConfig::default_in(alloc)) == expected,
@@ -92,7 +92,7 @@ fn is_default(alloc: Global, made: Result<AvcConfig, Error>, expected: bool) -> 
     }
 }
 
-/// The configuration as one of a track.
+/// Returns the AVC configuration of the test as the configuration of a track.
 fn media_config(alloc: Global) -> Result<MediaConfig, Error> {
     Ok(MediaConfig::AvcConfig(avc_config(alloc)?))
 }
@@ -118,17 +118,17 @@ fn aac_config() -> MediaConfig {
     })
 }
 
-/// Whether a clone of the configuration is equal to it.
+/// Returns whether the configuration in `made` has a clone that is equal to it.
 fn is_cloned<T: TryClone + PartialEq + Drop>(made: Result<T, Error>) -> bool {
     made::cloned(made).is_ok()
 }
 
-/// Whether a clone of the configuration is equal to it, where its making takes no memory.
+/// Returns whether `original` has a clone that is equal to it.
 fn is_clone_equal(original: MediaConfig) -> bool {
     made::clone_of(&original).is_ok()
 }
 
-/// Whether clones of configurations are equal to them.
+/// Returns whether configurations of all kinds are equal to their clones.
 fn are_cloned(alloc: Global) -> bool {
     is_cloned(avc_config(alloc))
         && is_cloned(media_config(alloc))

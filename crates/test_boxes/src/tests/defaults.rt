@@ -1,5 +1,5 @@
-//! Defaults: the bytes that they are written in, and those that can't be written or have no bytes of their own by their
-//! fields. A clause says of every default what it is; here it is compared with what the Rust crate has.
+//! Tests of defaults: the bytes of some, and the fields of the others. A clause states the value of every default.
+//! These tests compare the values with those of the Rust crate.
 
 use mp4_ported::boxes::flat::MFHD;
 use mp4_ported::helpers::expect_round_trip;
@@ -61,7 +61,7 @@ fn default_ftyp_stco_and_stsc(rt: HostRuntime) -> Result<(), Fail> {
     Ok(())
 }
 
-/// The matrix that maps each point to itself: 1 is 0x10000 in `a` and `d`, and 0x40000000 in `w`.
+/// Returns the matrix that maps each point to itself: 1 is 0x10000 in `a` and `d`, and 0x40000000 in `w`.
 fn unity() -> Matrix {
     Matrix {
         a: 0x10000,
@@ -89,7 +89,7 @@ fn default_values(rt: HostRuntime) {
     assert!(rt; DataType::default() == DataType::Binary);
 }
 
-/// Flags of 1 and no location: the data is in the same file.
+/// Returns the reference to the same file: flags of 1 and no location.
 fn same_file(alloc: Global) -> UrlBox {
     UrlBox {
         version: 0,
@@ -115,7 +115,7 @@ fn no_handler(alloc: Global) -> HdlrBox {
     }
 }
 
-/// An event without a time.
+/// Returns an event without a time.
 fn no_event(alloc: Global) -> EmsgBox {
     EmsgBox {
         version: 0,

@@ -1,16 +1,16 @@
-//! Lists of entries that are changed in place.
+//! Tests of lists of entries that are changed in place.
 
 use mp4_ported::boxes::tables::list;
 use mp4_stream::{Entries, Error};
 
-/// Adds 1 to each entry.
+/// Adds 1 to each of `entries`, modulo 2^32.
 fn count_on(entries: &mut Entries<u32>) {
     for entry in entries {
         *entry = entry.wrapping_add(1);
     }
 }
 
-/// Changes the second entry to 7. Returns whether there is no fourth.
+/// Changes the second of `entries` to 7. Returns whether there is no fourth.
 fn change_second(entries: &mut Entries<u32>) -> bool {
     if let Some(entry) = entries.get_mut(1) {
         *entry = 7;
@@ -18,7 +18,7 @@ fn change_second(entries: &mut Entries<u32>) -> bool {
     entries.get_mut(3).is_none()
 }
 
-/// The largest entry.
+/// Returns the largest of `entries`, or 0 if there are none.
 fn largest(entries: &Entries<u32>) -> u32 {
     let mut largest = 0;
     for entry in entries {
@@ -27,7 +27,8 @@ fn largest(entries: &Entries<u32>) -> u32 {
     largest
 }
 
-/// Whether the entries are these, from last to first, the largest is 268, and none is left after they are cleared.
+/// Reverses `entries` and then clears them. Returns whether they were `reversed` after the first step, with 268 as the
+/// largest, and none are left.
 fn is_reversed(entries: &mut Entries<u32>, reversed: &[u32]) -> bool {
     entries.as_mut_slice().reverse();
     let is_same = entries.as_slice() == reversed;
@@ -36,7 +37,7 @@ fn is_reversed(entries: &mut Entries<u32>, reversed: &[u32]) -> bool {
     is_same && is_largest && entries.is_empty()
 }
 
-/// Whether each change of the entries is made in place.
+/// Returns whether each change to the entries in `made` happens in place.
 fn are_changed(made: Result<Entries<u32>, Error>) -> bool {
     match made {
         Ok(mut entries) => {

@@ -1,16 +1,17 @@
-//! Strings and lists of one length that differ, so that an expected value is not equal to any other.
+//! Tests that `==` tells strings and lists of equal length apart, so that a comparison with an expected value means
+//! something.
 
 use mp4_ported::boxes::tables::list;
 use mp4_ported::made;
 use mp4_stream::{Error, Text, TryClone};
 use std::alloc::Global;
 
-/// Whether a clone of what was made is equal to it.
+/// Returns whether the value in `made` has a clone that is equal to it.
 fn is_cloned<T: TryClone + PartialEq + Drop>(made: Result<T, Error>) -> bool {
     made::cloned(made).is_ok()
 }
 
-/// Whether both were made and differ, from either side.
+/// Returns whether both values exist and are unequal in either order.
 fn differ<T: PartialEq + Drop>(made: Result<T, Error>, other: Result<T, Error>) -> bool {
     match (made, other) {
         (Ok(made), Ok(other)) => made != other && other != made,
@@ -18,12 +19,12 @@ fn differ<T: PartialEq + Drop>(made: Result<T, Error>, other: Result<T, Error>) 
     }
 }
 
-/// Whether a text of "abc" differs from one of another string.
+/// Returns whether the text "abc" differs from the text `other`.
 fn abc_differs(alloc: Global, other: &str) -> bool {
     differ(Text::from_str(alloc, "abc"), Text::from_str(alloc, other))
 }
 
-/// Whether a text of "abc" differs from those of other strings.
+/// Returns whether the text "abc" differs from texts that have other letters, or more or fewer.
 fn strings_differ(alloc: Global) -> bool {
     abc_differs(alloc, "xbc")
         && abc_differs(alloc, "axc")
@@ -39,12 +40,12 @@ fn strings_of_one_length_differ(rt: HostRuntime) {
     assert!(rt; is_cloned(Text::from_str(rt.alloc(), "abc")) && strings_differ(rt.alloc()));
 }
 
-/// Whether the list of 1, 2 and 3 differs from another one.
+/// Returns whether the list of 1, 2 and 3 differs from the list `other`.
 fn counting_differs(alloc: Global, other: &[u32]) -> bool {
     differ(list(alloc, &[1, 2, 3]), list(alloc, other))
 }
 
-/// Whether the list of 1, 2 and 3 differs from others.
+/// Returns whether the list of 1, 2 and 3 differs from lists that have other numbers, or fewer.
 fn lists_differ(alloc: Global) -> bool {
     counting_differs(alloc, &[4, 2, 3])
         && counting_differs(alloc, &[1, 4, 3])

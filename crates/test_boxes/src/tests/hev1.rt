@@ -1,4 +1,4 @@
-//! `hev1` and its `hvcC`, made of configurations.
+//! A test of `hev1` and its `hvcC`, made from a configuration.
 
 use mp4_stream::{FixedPointU16, Hev1Box, HevcConfig, HvcCBox};
 
@@ -12,7 +12,7 @@ fn new_hvcc_and_hev1(rt: HostRuntime) {
         width: 0x8182,
         height: 0x8384,
     };
-    // 72 pixels an inch, one frame, and 24 bits.
+    // 72 pixels per inch, one frame and 24 bits.
     let made = Hev1Box {
         data_reference_index: 1,
         width: 0x8182,

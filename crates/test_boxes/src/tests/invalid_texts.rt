@@ -1,4 +1,4 @@
-//! The texts of invalid data, but those of reading boxes.
+//! Tests of the texts of invalid data, except those of reading boxes.
 
 use mp4_ported::helpers::invalid_text;
 use mp4_stream::{
@@ -8,12 +8,12 @@ use mp4_stream::{
 use std::alloc::Global;
 use std::str::FromStr;
 
-/// Whether the outcome of a call is invalid data with this text.
+/// Returns whether `outcome` is invalid data with this text.
 fn is_invalid<T: Drop>(outcome: Result<T, Error>, text: &str) -> bool {
     invalid_text(&outcome) == Some(text)
 }
 
-/// Whether skipping is refused to a position past 64 bits.
+/// Returns whether skipping to a position past 64 bits is invalid data.
 fn skips_are_refused() -> bool {
     let text = "box end past 64 bits";
     let mut reader = ByteCursor::new(b"\0\0\0\0\x10mfhd\0\0\0\0\0\0\0\x01");
@@ -22,13 +22,13 @@ fn skips_are_refused() -> bool {
         && is_invalid(skip_box(&mut reader, u64::MAX), text)
 }
 
-/// Whether the header is refused of a box that is too large.
+/// Returns whether writing the header of a box of size 2^64 - 1 is invalid data.
 fn largest_header_is_refused(alloc: Global) -> bool {
     let largest = BoxHeader::new(BoxType::FreeBox, u64::MAX);
     is_invalid(largest.write(&mut Vec::new(alloc)), "box too large")
 }
 
-/// Whether a version is refused with flags of 25 bits.
+/// Returns whether writing a version with flags of 25 bits is invalid data.
 fn flags_are_refused(alloc: Global) -> bool {
     let written = write_box_header_ext(&mut Vec::new(alloc), 0, 1 << 24);
     is_invalid(written, "value does not fit its field")
@@ -45,7 +45,7 @@ fn invalid_headers_and_skips(rt: HostRuntime) {
     );
 }
 
-/// A box whose flags have 25 bits.
+/// Returns a box whose flags have 25 bits.
 fn flagged() -> MfhdBox {
     MfhdBox {
         version: 0,
@@ -54,23 +54,23 @@ fn flagged() -> MfhdBox {
     }
 }
 
-/// Whether the outcome of a call is the error of a value that does not fit.
+/// Returns whether `outcome` is invalid data because a value does not fit its field.
 fn does_not_fit<T: Drop>(outcome: Result<T, Error>) -> bool {
     is_invalid(outcome, "value does not fit its field")
 }
 
-/// Whether the box is refused.
+/// Returns whether `member` can't be written because a value does not fit its field.
 fn box_does_not_fit(alloc: Global, member: MfhdBox) -> bool {
     does_not_fit(member.write_box(&mut Vec::new(alloc)))
 }
 
-/// Whether a list of the box is refused.
+/// Returns whether a list of `member` can't be written because a value does not fit its field.
 fn list_does_not_fit(alloc: Global, member: MfhdBox) -> bool {
     let boxes = [AnyBox::MfhdBox(member)];
     does_not_fit(write_boxes(&boxes, &mut Vec::new(alloc)))
 }
 
-/// Offsets of 64 bits.
+/// Returns a `co64` with these offsets.
 fn long_offsets(alloc: Global, offsets: &[u64]) -> Result<Co64Box, Error> {
     Ok(Co64Box {
         version: 0,
@@ -79,7 +79,7 @@ fn long_offsets(alloc: Global, offsets: &[u64]) -> Result<Co64Box, Error> {
     })
 }
 
-/// Whether offsets of 64 bits can't become short.
+/// Returns whether the offsets in `made` can't be converted to 32 bits.
 fn offsets_do_not_fit(alloc: Global, made: Result<Co64Box, Error>) -> bool {
     match made {
         Ok(long) => does_not_fit(StcoBox::try_from_co64(alloc, &long)),

@@ -1,9 +1,9 @@
-//! Languages of other letters and other lengths than bytes can say, worked out by hand.
+//! Tests of languages with letters or lengths that no code can express, and with hand-computed codes.
 
 use mp4_stream::{MdhdBox, Text, WriteBox, language_code, language_string};
 use std::alloc::Global;
 
-/// A media header of this language.
+/// Returns a media header with this language.
 fn media_header(language: Text) -> MdhdBox {
     MdhdBox {
         version: 0,
@@ -16,13 +16,13 @@ fn media_header(language: Text) -> MdhdBox {
     }
 }
 
-/// Whether the box is written with this code in its two bytes of the language.
+/// Returns whether `mdhd` is written with `code` in the two bytes of its language.
 fn is_written(alloc: Global, mdhd: MdhdBox, code: u16) -> bool {
     let mut out = Vec::new(alloc);
     mdhd.write_box(&mut out).is_ok() && out.get(28..30) == Some(u16::to_be_bytes(code).as_slice())
 }
 
-/// Whether an `mdhd` of the language has this code.
+/// Returns whether an `mdhd` of `language` is written with `code` in the two bytes of its language.
 fn is_written_in_mdhd(alloc: Global, language: &str, code: u16) -> bool {
     match Text::from_str(alloc, language) {
         Ok(language) => is_written(alloc, media_header(language), code),
@@ -30,14 +30,15 @@ fn is_written_in_mdhd(alloc: Global, language: &str, code: u16) -> bool {
     }
 }
 
-/// Whether the language has this code, as a number and in the two bytes of an `mdhd` of it.
+/// Returns whether `language` has this code, as a number and in the bytes of an `mdhd`.
 fn has_code(alloc: Global, language: &str, code: u16) -> bool {
     language_code(language) == code && is_written_in_mdhd(alloc, language, code)
 }
 
-/// Whether each language with letters past ASCII has the code of its UTF-16 units.
+/// Returns whether languages with letters beyond ASCII have the codes of their UTF-16 units.
 fn letters_have_codes(alloc: Global) -> bool {
-    // U+00E9 has the five low bits 9, U+20AC has 12; U+10348 is the two units 0xD800 and 0xDF48, with 0 and 8.
+    // The five low bits of U+00E9 are 9, and of U+20AC 12. U+10348 is two units, 0xD800 and 0xDF48, whose five low bits
+    // are 0 and 8.
     has_code(alloc, "\u{e9}\u{20ac}z", 0x259a)
         && has_code(alloc, "a\u{e9}\u{20ac}", 0x052c)
         && has_code(alloc, "\u{10348}x", 0x0118)
@@ -50,7 +51,7 @@ fn letters_past_ascii_are_utf16_units(rt: HostRuntime) {
     assert!(rt; letters_have_codes(rt.alloc()));
 }
 
-/// Whether the code is read as these letters.
+/// Returns whether `code` is read as `letters`.
 fn is_read_as(alloc: Global, code: u16, letters: &str) -> bool {
     match language_string(alloc, code) {
         Ok(language) => language.as_str() == letters,
@@ -58,14 +59,15 @@ fn is_read_as(alloc: Global, code: u16, letters: &str) -> bool {
     }
 }
 
-/// Whether the language has this code, which is read as these letters.
+/// Returns whether `language` has the code `code`, and `code` is read as `letters`.
 fn becomes(alloc: Global, language: &str, code: u16, letters: &str) -> bool {
     language_code(language) == code && is_read_as(alloc, code, letters)
 }
 
-/// Whether each language of other letters than small ones is read as the small letters of the same five bits.
+/// Returns whether characters other than lower-case letters are read back as the characters from 0x60 to 0x7f with the
+/// same five low bits.
 fn other_letters_become_small(alloc: Global) -> bool {
-    // A capital letter is 0x20 below the small one, and a digit 0x30 and its number.
+    // A capital letter is 0x20 below the small one, and a digit is 0x30 and its number.
     becomes(alloc, "SWE", 0x4ee5, "swe")
         && becomes(alloc, "Zul", 0x6aac, "zul")
         && becomes(alloc, "aBC", 0x0443, "abc")
@@ -73,7 +75,7 @@ fn other_letters_become_small(alloc: Global) -> bool {
         && becomes(alloc, "@[~", 0x037e, "`{~")
 }
 
-/// Whether letters that are missing are 0, and those past the third are ignored.
+/// Returns whether missing letters count as 0, and letters after the third are ignored.
 fn missing_letters_are_zero() -> bool {
     language_code("") == 0
         && language_code("s") == 0x4c00

@@ -1,4 +1,4 @@
-//! Metadata, and the keys of its parts.
+//! Tests of metadata and its keys.
 
 use mp4_ported::helpers::debug_text;
 use mp4_stream::{Metadata, MetadataKey};
@@ -12,7 +12,7 @@ fn hash_of(key: &MetadataKey) -> u64 {
     state.finish()
 }
 
-/// Whether a clone of the key has its hash.
+/// Returns whether a clone of `key` has the same hash.
 fn clone_hashes_alike(key: &MetadataKey) -> bool {
     match key.clone() {
         Ok(clone) => hash_of(&clone) == hash_of(key),
@@ -20,7 +20,7 @@ fn clone_hashes_alike(key: &MetadataKey) -> bool {
     }
 }
 
-/// Whether `Debug` prints the key as this name.
+/// Returns whether `Debug` prints `key` as `name`.
 fn is_printed(alloc: Global, key: &MetadataKey, name: &str) -> bool {
     match debug_text(alloc, key) {
         Ok(text) => text.as_str() == name,
@@ -28,7 +28,7 @@ fn is_printed(alloc: Global, key: &MetadataKey, name: &str) -> bool {
     }
 }
 
-/// Whether a clone of the key has its hash, and the key is printed as this name.
+/// Returns whether a clone of `key` has the same hash, and `Debug` prints `key` as `name`.
 fn is_named(alloc: Global, key: MetadataKey, name: &str) -> bool {
     clone_hashes_alike(&key) && is_printed(alloc, &key, name)
 }
@@ -80,7 +80,7 @@ impl<'a> Metadata<'a> for Film {
     }
 }
 
-/// Whether the title is this one.
+/// Returns whether the title `found` is `expected`, or both are `None`.
 fn is_title(found: Option<CowStr<'_>>, expected: Option<&str>) -> bool {
     match found {
         Some(title) => expected == Some(title.as_str()),
@@ -88,7 +88,7 @@ fn is_title(found: Option<CowStr<'_>>, expected: Option<&str>) -> bool {
     }
 }
 
-/// Whether the metadata has this title and this year, and nothing else.
+/// Returns whether `metadata` has this title and this year, and nothing else.
 fn has_only<'a, M: Metadata<'a>>(metadata: &M, title: Option<&str>, year: Option<u32>) -> bool {
     is_title(metadata.title(), title)
         && metadata.year() == year
@@ -96,7 +96,7 @@ fn has_only<'a, M: Metadata<'a>>(metadata: &M, title: Option<&str>, year: Option
         && metadata.summary().is_none()
 }
 
-/// Whether a film's metadata is that of a reference to it, and of an option that has it, and none is in an empty one.
+/// Returns whether a reference to `film` and an option with `film` have its metadata, and an empty option has none.
 fn is_passed_on(film: Film) -> bool {
     has_only(&film, Some("Metropolis"), Some(1927))
         && has_only(&&film, Some("Metropolis"), Some(1927))

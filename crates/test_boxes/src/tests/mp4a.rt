@@ -1,4 +1,4 @@
-//! `mp4a` and its `esds`: an entry that is made of a configuration, and numbers that don't fit.
+//! Tests of `mp4a` and its `esds`: an entry that is made from a configuration, and numbers that don't fit.
 
 use mp4_ported::boxes::sound::{esds_of, mp4a_of, specific};
 use mp4_ported::helpers::{Mismatch, expect_unwritable_of_size};
@@ -8,7 +8,7 @@ use mp4_stream::{
 use std::alloc::Global;
 use std::test::Fail;
 
-/// Each field is that of the configuration or a number that is told apart from the others.
+/// Each field comes from the configuration, or differs from all fields that do.
 #[test]
 fn new_mp4a(rt: HostRuntime) {
     let made = Mp4aBox::new(&AacConfig {
@@ -34,8 +34,8 @@ fn new_mp4a(rt: HostRuntime) {
     assert!(rt; made == value);
 }
 
-/// Expects that the descriptors of stream 1, of low complexity at 48000 hertz in stereo, can't be written with these
-/// numbers, and neither an entry of them.
+/// Expects that neither an `esds` with these numbers nor its `mp4a` can be written. The stream has number 1, low
+/// complexity, 48000 hertz and two channels.
 fn expect_unwritable_esds(
     alloc: Global,
     flags: u32,

@@ -1,4 +1,4 @@
-//! `stsd`: which entry is written of several, which can't be written, and clones.
+//! Tests of `stsd`: the entry that is written if there are several, values that can't be written, and clones.
 
 use mp4_ported::boxes::entries::{AVC1, HEV1, VP09, avc1, hev1, tx3g, vp09};
 use mp4_ported::boxes::sound::{MP4A, mp4a, mp4a_of_test, stsd_of};
@@ -7,7 +7,7 @@ use mp4_stream::{Error, Mp4aBox, StsdBox, TryClone, WriteBox};
 use std::alloc::Global;
 use std::test::Fail;
 
-/// An entry of each type but `avc1`.
+/// Returns an `stsd` with an entry of each type except `avc1`.
 fn stsd_after_avc1() -> StsdBox {
     StsdBox {
         version: 0,
@@ -20,7 +20,7 @@ fn stsd_after_avc1() -> StsdBox {
     }
 }
 
-/// An entry of each type.
+/// Returns an `stsd` with an entry of each type.
 fn stsd_of_all(alloc: Global) -> Result<StsdBox, Error> {
     let avc1 = Some(avc1(alloc)?);
     Ok(StsdBox {
@@ -29,14 +29,14 @@ fn stsd_of_all(alloc: Global) -> Result<StsdBox, Error> {
     })
 }
 
-/// What an `stsd` of this size with one child begins with, worked out from the layout table.
+/// Returns the first 16 bytes of an `stsd` of this size with one child, computed from the layout table.
 fn stsd_start(size: u8) -> [u8; 16] {
     [
         0, 0, 0, size, b's', b't', b's', b'd', 0, 0, 0, 0, 0, 0, 0, 1,
     ]
 }
 
-/// The bytes that the box is written in, or none if it wasn't made or can't be written.
+/// Returns the bytes of the box in `made`, or none if there is no box or it can't be written.
 fn bytes_of(alloc: Global, made: Result<StsdBox, Error>) -> Vec<u8> {
     let mut out = Vec::new(alloc);
     if let Ok(stsd) = made {
@@ -47,7 +47,7 @@ fn bytes_of(alloc: Global, made: Result<StsdBox, Error>) -> Vec<u8> {
     out
 }
 
-/// Whether the box is written with a child of these bytes alone, in this size.
+/// Returns whether `stsd` is written in `size` bytes, with `child` as its only child.
 fn is_written_alone(alloc: Global, stsd: Result<StsdBox, Error>, size: u8, child: &[u8]) -> bool {
     let bytes = bytes_of(alloc, stsd);
     bytes.get(..16) == Some(stsd_start(size).as_slice()) && bytes.get(16..) == Some(child)
@@ -78,7 +78,7 @@ fn the_first_entry_is_written(rt: HostRuntime) {
     );
 }
 
-/// An entry of audio that can't be written.
+/// Returns an audio entry that can't be written.
 fn unwritable_mp4a() -> Mp4aBox {
     let mut mp4a = mp4a_of_test();
     if let Some(esds) = &mut mp4a.esds {
@@ -104,7 +104,7 @@ fn unwritable_stsd(rt: HostRuntime) -> Result<(), Fail> {
     Ok(())
 }
 
-/// Whether the clone of a box is equal to it, and is not if it loses its last entry.
+/// Returns whether `clone` is equal to `all`, and is unequal once its last entry is removed.
 fn is_clone(clone: StsdBox, all: &StsdBox) -> bool {
     let is_equal = clone == *all;
     let other = StsdBox {
@@ -114,7 +114,7 @@ fn is_clone(clone: StsdBox, all: &StsdBox) -> bool {
     is_equal && other != *all
 }
 
-/// Whether a clone of the box is equal to it, and is not if it loses its last entry.
+/// Returns whether `all` has a clone that is equal to it, and unequal once its last entry is removed.
 fn is_cloned(all: &StsdBox) -> bool {
     match all.try_clone() {
         Ok(clone) => is_clone(clone, all),
@@ -122,7 +122,7 @@ fn is_cloned(all: &StsdBox) -> bool {
     }
 }
 
-/// Whether a box was made that `is_cloned`.
+/// Returns whether `made` has a box for which `is_cloned` holds.
 fn is_made_and_cloned(made: Result<StsdBox, Error>) -> bool {
     match made {
         Ok(all) => is_cloned(&all),

@@ -1,9 +1,9 @@
-//! Strings of boxes.
+//! Tests of the strings of boxes.
 
 use mp4_stream::{Error, Text};
 use std::alloc::Global;
 
-/// Whether the text has the letters, the bytes and the length of "foo".
+/// Returns whether `text` has the letters, the bytes and the length of "foo".
 fn has_foo(text: &Text) -> bool {
     text.as_str() == "foo"
         && text.as_bytes() == b"foo".as_slice()
@@ -12,7 +12,7 @@ fn has_foo(text: &Text) -> bool {
         && text.is_utf8()
 }
 
-/// Whether the text that was made is "foo", and becomes that string.
+/// Returns whether the text in `made` is "foo", and is converted to that string.
 fn is_foo(made: Result<Text, Error>) -> bool {
     match made {
         Ok(text) => has_foo(&text) && text.into_string().as_str() == "foo",
@@ -20,7 +20,7 @@ fn is_foo(made: Result<Text, Error>) -> bool {
     }
 }
 
-/// Whether a new text is empty.
+/// Returns whether a new text is empty.
 fn new_is_empty(alloc: Global) -> bool {
     Text::new(alloc).is_empty()
 }

@@ -1,4 +1,4 @@
-//! Boxes that can't be written. Writing one leaves the vector as it was.
+//! Tests of boxes that can't be written. Writing one leaves the vector unchanged.
 
 use mp4_ported::boxes::flat::mehd_short;
 use mp4_ported::boxes::tables::{elst_of, stco, tfhd_all, trun_of_three_lists};
@@ -12,7 +12,7 @@ use mp4_stream::{
 use std::alloc::Global;
 use std::test::Fail;
 
-/// A media header of this version and duration.
+/// Returns a media header with this version and duration.
 fn media_header(alloc: Global, version: u8, duration: u64) -> Result<MdhdBox, Error> {
     let mut media = MdhdBox::default_in(alloc)?;
     media.version = version;
@@ -20,7 +20,7 @@ fn media_header(alloc: Global, version: u8, duration: u64) -> Result<MdhdBox, Er
     Ok(media)
 }
 
-/// A decode time of this version.
+/// Returns a `tfdt` with this version and decode time.
 fn decode_time(version: u8, base_media_decode_time: u64) -> TfdtBox {
     TfdtBox {
         version,
@@ -29,7 +29,7 @@ fn decode_time(version: u8, base_media_decode_time: u64) -> TfdtBox {
     }
 }
 
-/// A movie that was made at this time.
+/// Returns a movie header with this creation time.
 fn late_movie(creation_time: u64) -> MvhdBox {
     MvhdBox {
         creation_time,
@@ -37,7 +37,7 @@ fn late_movie(creation_time: u64) -> MvhdBox {
     }
 }
 
-/// A track that was changed at this time.
+/// Returns a track header with this modification time.
 fn late_track(modification_time: u64) -> TkhdBox {
     TkhdBox {
         modification_time,
@@ -58,7 +58,7 @@ fn times_past_32_bits(rt: HostRuntime) -> Result<(), Fail> {
     Ok(())
 }
 
-/// A movie of an unknown version.
+/// Returns a movie header of an unknown version.
 fn unknown_movie() -> MvhdBox {
     MvhdBox {
         version: 2,
@@ -66,7 +66,7 @@ fn unknown_movie() -> MvhdBox {
     }
 }
 
-/// A track of an unknown version.
+/// Returns a track header of an unknown version.
 fn unknown_track() -> TkhdBox {
     TkhdBox {
         version: 2,
@@ -74,7 +74,7 @@ fn unknown_track() -> TkhdBox {
     }
 }
 
-/// A duration of fragments of an unknown version.
+/// Returns an `mehd` of an unknown version.
 fn unknown_extent() -> MehdBox {
     MehdBox {
         version: 2,
@@ -94,7 +94,7 @@ fn unknown_versions_of_headers(rt: HostRuntime) -> Result<(), Fail> {
     Ok(())
 }
 
-/// The box with flags that don't fit.
+/// The box that `$made` gives, with flags of 25 bits.
 macro_rules! flagged {
     ($made:expr) => {{
         let mut made = $made?;
@@ -123,13 +123,13 @@ fn flagged_dref(alloc: Global) -> Result<DrefBox, Error> {
     flagged!(dref_url(alloc))
 }
 
-/// Expects that a dref can't be written, and neither a dinf of it.
+/// Expects that neither the `dref` in `made` nor a `dinf` with it can be written.
 fn expect_unwritable_dref(alloc: Global, made: Result<DrefBox, Error>) -> Result<(), Mismatch> {
     let dref = made?;
     expect_unwritable(alloc, &dref).and(expect_unwritable(alloc, &DinfBox::new(dref)))
 }
 
-/// Defaults of a track with flags that don't fit.
+/// Returns a `trex` with flags of 25 bits.
 fn flagged_track() -> TrexBox {
     TrexBox {
         flags: 1 << 24,
@@ -137,7 +137,7 @@ fn flagged_track() -> TrexBox {
     }
 }
 
-/// A header of video with flags that don't fit.
+/// Returns a `vmhd` with flags of 25 bits.
 fn flagged_video() -> VmhdBox {
     VmhdBox {
         flags: 1 << 24,
@@ -145,7 +145,7 @@ fn flagged_video() -> VmhdBox {
     }
 }
 
-/// No offsets, with flags that don't fit.
+/// Returns an `stco` without offsets, with flags of 25 bits.
 fn flagged_empty(alloc: Global) -> StcoBox {
     StcoBox {
         version: 0,
@@ -166,7 +166,7 @@ fn flags_past_24_bits(rt: HostRuntime) -> Result<(), Fail> {
     Ok(())
 }
 
-/// A `dref` of the same file, whose child has flags that don't fit.
+/// Returns a `dref` whose `url ` has flags of 25 bits and no location.
 fn dref_of_flagged(alloc: Global) -> DrefBox {
     dref_of(Some(UrlBox {
         version: 0,
@@ -184,13 +184,13 @@ fn flags_past_24_bits_in_references(rt: HostRuntime) -> Result<(), Fail> {
     Ok(())
 }
 
-/// A list of this many numbers from 0 on.
+/// Returns the list of the numbers from 0 to `length - 1`.
 fn numbers(alloc: Global, length: u32) -> Result<Entries<u32>, Error> {
     let numbers: Vec<u32> = (0..length).collect(alloc)?;
     Ok(numbers.into())
 }
 
-/// A `trun` of this count, with two lists of as many numbers from 0 on.
+/// Returns a `trun` with this sample count and two lists of `length` numbers.
 fn trun_of_numbers(alloc: Global, sample_count: u32, length: u32) -> Result<TrunBox, Error> {
     let sample_sizes = numbers(alloc, length)?;
     let sample_cts = numbers(alloc, length)?;
@@ -207,14 +207,14 @@ fn trun_of_numbers(alloc: Global, sample_count: u32, length: u32) -> Result<Trun
     })
 }
 
-/// A `trun` whose flags have the flags of the first sample, which it lacks.
+/// Returns a `trun` whose flags announce the flags of the first sample, which are missing.
 fn trun_without_first_flags(alloc: Global) -> Result<TrunBox, Error> {
     let mut trun = trun_of_three_lists(alloc)?;
     trun.first_sample_flags = None;
     Ok(trun)
 }
 
-/// An `emsg` of version 1, with the time of version 0.
+/// Returns an `emsg` of version 1 that has the time of version 0, and not that of version 1.
 fn emsg_of_other_time(alloc: Global) -> Result<EmsgBox, Error> {
     let mut made = emsg(alloc)?;
     made.message_data = Entries::new(alloc);

@@ -1,4 +1,4 @@
-//! `vp09` and its `vpcC`: an entry that is made of a configuration, and numbers that don't fit.
+//! Tests of `vp09` and its `vpcC`: an entry that is made from a configuration, and numbers that don't fit.
 
 use mp4_ported::boxes::entries::vp09_of_config;
 use mp4_ported::helpers::{Mismatch, expect_unwritable, expect_unwritable_of_size};
@@ -44,7 +44,7 @@ fn new_vpcc_and_vp09(rt: HostRuntime) {
     assert!(rt; Vp09Box::new(&config) == made);
 }
 
-/// Expects that a `vpcC` with these numbers can't be written, and neither a `vp09` of it.
+/// Expects that neither a `vpcC` with these numbers nor a `vp09` with it can be written.
 fn expect_unwritable_vpcc(
     alloc: Global,
     bit_depth: u8,

@@ -1,5 +1,6 @@
 use Rattle.std.proofs.Common.{◌-◌, ◌≤◌, length, take, ap, ◌∙◌, arith}
-use Rattle.mp4_boxes.proofs.Taken.{done_with, moved_front}
+use Rattle.mp4_lemmas.proofs.Lists.{moved_front}
+use Rattle.mp4_boxes.proofs.Taken.{done_with}
 use Rattle.mp4_boxes.proofs.list.keep_rest.Goals as goal
 
 pub returns-clause-bytes : goal.returns-clause-bytes

@@ -3,11 +3,12 @@ use Rattle.std.proofs.Common.{subst, ◌∙◌, arith, rules}
 use Rattle.std.proofs.KnownBytes.{Consumes-trans}
 use Rattle.std.proofs.lemmas.List.{length-take-le}
 use Rattle.std.proofs.lemmas.Result.{err_from_is_err_and}
+use Rattle.mp4_lemmas.proofs.Outcomes.{if_known, known_rest}
 use Rattle.mp4_boxes.specs.Parts.{HasPart, HasRest, LinesBefore, ListsTo}
 use Rattle.mp4_boxes.specs.Runs.{ListRefusal}
 use Rattle.mp4_boxes.specs.declared.part.Next.{Next}
 use Rattle.mp4_boxes.proofs.Stopped.{no_fault, stopped}
-use Rattle.mp4_boxes.proofs.Taken.{all_read, ends_where, has_part, if_known, if_ok_known, known_rest, lines_at}
+use Rattle.mp4_boxes.proofs.Taken.{all_read, ends_where, has_part, if_ok_known, lines_at}
 use Rattle.mp4_boxes.proofs.Taken.{lines_on, long_of, rest_of}
 use Rattle.mp4_boxes.proofs.list.list_input.Goals as goal
 

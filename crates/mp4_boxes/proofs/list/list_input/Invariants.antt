@@ -1,5 +1,5 @@
--- The bytes that were read end with the front of the part, which is what is not done with. The text has the lines of
--- the boxes before `next` of each input that begins with these bytes.
+-- The bytes that were read end with the front of the part, which is not done yet. The text has the lines of the boxes
+-- before `next` of each input that begins with the bytes read.
 use Rattle.std.proofs.Common.{◌≡◌, ℕ, ◌≤◌, ◌<◌, ◌+◌, List, ◌++◌, take, vec_len}
 use Rattle.std.specs.Io.KnownBytes.{Consumes}
 use Rattle.mp4_boxes.specs.Parts.{HasEnd, LinesIn}

@@ -1,4 +1,4 @@
--- The samples of the fragments so far.
+-- The total is that of the fragments before the index.
 use Rattle.std.proofs.Common.{◌≡◌, ◌-◌, ◌^◌, min, take}
 use Rattle.mp4_c.specs.FragmentSamples.{samples_in}
 use Rattle.mp4_c.proofs.fragment_samples.count_of.Given as goal

@@ -12,12 +12,12 @@ returns-in-Ok c = inl (
     (
       c.in-Ok.ensures.found.1,
       subst
-          (λ (fs : List TrackFragment). GivesRows c.in-Ok.found.0 fs c.hand_fragments.result c.args.rows.now
-          c.hand_fragments.new.rows c.args.count.now c.hand_fragments.new.count)
-          c.deref.ensures.value c.hand_fragments.ensures,
+          (λ (fs : List TrackFragment). GivesRows c.in-Ok.found.0 fs c.copy_fragments.result c.args.rows.now
+          c.copy_fragments.new.rows c.args.count.now c.copy_fragments.new.count)
+          c.deref.ensures.value c.copy_fragments.ensures,
     ),
   ),
 )
 
 pub returns-in-Err : goal.returns-in-Err
-returns-in-Err c = inr (c.in-Err.error, (c.in-Err.ensures.error, (c.number_of_track_error.ensures, (refl, refl))))
+returns-in-Err c = inr (c.in-Err.error, (c.in-Err.ensures.error, (c.status_of_track_error.ensures, (refl, refl))))

@@ -9,7 +9,8 @@ use Rattle.mp4_samples.specs.declared.fragment_fault.FragmentFault.{FragmentFaul
 use Rattle.mp4_samples.specs.declared.sample.Sample.{Sample}
 use Rattle.mp4_c.specs.Samples.{row_of}
 use Rattle.mp4_c.specs.declared.samples.SampleRow.{SampleRow}
-use Rattle.mp4_c.proofs.Rows.{pushed, row_added}
+use Rattle.mp4_lemmas.proofs.Outcomes.{pushed}
+use Rattle.mp4_c.proofs.Rows.{row_added}
 use Rattle.mp4_c.proofs.fragment_samples.push_rows.Goals as goal
 
 pub rows-init : goal.rows-init

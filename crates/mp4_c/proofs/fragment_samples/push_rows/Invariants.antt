@@ -1,4 +1,4 @@
--- The rows of the samples so far are added.
+-- The rows are those of the samples before the current one, after the initial rows.
 use Rattle.std.proofs.Common.{◌≡◌, ℕ, ◌<◌, false, List, ◌++◌, length}
 use Rattle.mp4_samples.specs.FragmentGives.{fragment_samples_left, number_of}
 use Rattle.mp4_c.specs.FragmentSamples.{IsRow}

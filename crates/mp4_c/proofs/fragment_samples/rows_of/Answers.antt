@@ -6,7 +6,7 @@ use Rattle.mp4_c.specs.FragmentSamples.{AreRows, StopsIn}
 use Rattle.mp4_c.specs.declared.samples.SampleRow.{SampleRow}
 use Rattle.mp4_c.proofs.fragment_samples.rows_of.Goals as goal
 
--- what is left begins with the fragment at the index
+-- The remaining fragments begin with the one at the index.
 cut : (fs : List TrackFragment) (i : ℕ) (x : TrackFragment) → i < length fs → x ≡ get_or fs i x
     → drop i fs ≡ x ∷ drop (i + 1) fs
 cut fs i x within is = drop_more fs i x within ∙ ap (λ (y : TrackFragment). y ∷ drop (i + 1) fs) (sym is)
@@ -26,7 +26,7 @@ all-preserved c =
           let own : AreRows c.all.time (drop i fs) (step.0 ++ later) =
           subst (λ (xs : List TrackFragment). AreRows c.all.time xs (step.0 ++ later)) (sym left)
           (f, step.0, later, c.fragment-fragment.ensures, step.1.0, next, refl) in
-          subst (λ (rows : List SampleRow). AreRows c.args.begin fs rows)
+          subst (λ (rows : List SampleRow). AreRows c.args.start fs rows)
           (sym (ap (λ (rows : List SampleRow). rows ++ later) step.1.1 ∙ append_assoc old step.0 later))
           (c.all.invariant.rows (step.0 ++ later) own);
       stops = λ status h.
@@ -39,7 +39,7 @@ pub returns-clause-rows : goal.returns-clause-rows
 returns-clause-rows c =
     let fs = c.args.fragments.now in
     let none : drop c.all.index fs ≡ [] = drop_all c.all.index fs (omega (arith, c.all-test.false)) in
-    subst (λ (rows : List SampleRow). AreRows c.args.begin fs rows) (append-nil c.all.rows.items)
+    subst (λ (rows : List SampleRow). AreRows c.args.start fs rows) (append-nil c.all.rows.items)
     (c.all.invariant.rows [] (subst (λ (xs : List TrackFragment). AreRows c.all.time xs []) (sym none) refl))
 
 pub returns-in-Err-clause-stops : goal.returns-in-Err-clause-stops

@@ -1,4 +1,4 @@
--- The samples of the runs so far.
+-- The total is that of the runs before the index.
 use Rattle.std.proofs.Common.{◌≡◌, ◌+◌, ◌-◌, ◌^◌, min, take}
 use Rattle.mp4_c.specs.FragmentSamples.{samples_of}
 use Rattle.mp4_c.proofs.fragment_samples.with_runs.Given as goal

@@ -11,7 +11,7 @@ returns-in_err-frame c =
     rw (p.1, p.2)
     (walk_faults span_item c.args.bytes.now (nat_lt 0 (length c.loop-at.spans.items)) c.loop-at.spans.items
     c.loop-at.at c.in_err-frame.field-0.0 _ c.loop-at-test.true c.in_err-frame.ensures.answer
-    c.loop-at.invariant.told)
+    c.loop-at.invariant.listed)
 
 pub returns-in_err-push : goal.returns-in_err-push
 returns-in_err-push c =
@@ -19,19 +19,19 @@ returns-in_err-push c =
     let f = c.in_ok-frame.frame in
     rw (p.1, p.2)
     (one_refused span_item c.args.bytes.now c.loop-at.spans.items (span_of f) c.loop-at.at f _
-    c.loop-at-test.true c.in_ok-frame.ensures.answer refl c.loop-at.invariant.told)
+    c.loop-at-test.true c.in_ok-frame.ensures.answer refl c.loop-at.invariant.listed)
 
 pub loop-at-preserved : goal.loop-at-preserved
 loop-at-preserved c =
     let f = c.in_ok-frame.frame in
     record {
-      told = rw (c.in_ok-push.ensures.items, c.span_of.ensures, c.end-at.ensures)
+      listed = rw (c.in_ok-push.ensures.items, c.span_of.ensures, c.end-at.ensures)
           (one_kept span_item c.args.bytes.now c.loop-at.spans.items (span_of f) c.loop-at.at f _
-          c.loop-at-test.true c.in_ok-frame.ensures.answer refl c.loop-at.invariant.told);
-      most = omega (arith, c.end-at.ensures, c.in_ok-frame.ensures.room.1);
+          c.loop-at-test.true c.in_ok-frame.ensures.answer refl c.loop-at.invariant.listed);
+      within = omega (arith, c.end-at.ensures, c.in_ok-frame.ensures.room.1);
     }
 
 pub returns : goal.returns
 returns c =
     walk_is_over span_item c.args.bytes.now (nat_lt 0 (length c.loop-at.spans.items)) c.loop-at.spans.items
-    c.loop-at.at _ c.loop-at-test.false c.loop-at.invariant.told
+    c.loop-at.at _ c.loop-at-test.false c.loop-at.invariant.listed

@@ -7,8 +7,8 @@ use Rattle.mp4_c.proofs.list.list_spans.Given as goal
 abbrev pub invariant-loop-at : goal.invariant-loop-at
 invariant-loop-at l =
     record {
-      told : continue_with (nat_lt 0 (length l.spans.items)) l.spans.items (spans l.bytes l.at) ≡ spans l.bytes 0;
-      most : l.at ≤ length l.bytes;
+      listed : continue_with (nat_lt 0 (length l.spans.items)) l.spans.items (spans l.bytes l.at) ≡ spans l.bytes 0;
+      within : l.at ≤ length l.bytes;
     }
 
 abbrev pub decreases-loop-at : goal.decreases-loop-at

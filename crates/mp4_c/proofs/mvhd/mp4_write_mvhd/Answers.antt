@@ -1,7 +1,7 @@
 use Rattle.std.proofs.Common.{subst}
 use Rattle.mp4_flat.specs.Boxes.{format_mvhd}
 use Rattle.mp4_flat.specs.declared.mvhd.MvhdBox.{MvhdBox}
-use Rattle.mp4_c_base.specs.Written.{PutsBox}
+use Rattle.mp4_c_boxes.specs.Written.{PutsBox}
 use Rattle.mp4_c.proofs.mvhd.mp4_write_mvhd.Goals as goal
 
 pub returns : goal.returns

@@ -24,7 +24,7 @@ put-preserved c =
     record {
       tables = gives.2 ∙ c.put.invariant.tables;
       number = gives.3 ∙ ap (λ (n : ℕ). n + 1) c.put.invariant.number;
-      most = omega (arith, below);
+      within = omega (arith, below);
       rows = λ k less. subst (λ (row : SampleRow). IsPut t (slice_set c.put.rows i row) k) (sym c.row_of.ensures)
           (put_next t c.put.rows i s within is c.put.invariant.rows k less);
       rest = drop-set-lt (i + 1) c.put.rows i c.row_of.result (omega arith)

@@ -1,4 +1,4 @@
--- The samples so far are put, and the places after them are as they were.
+-- The samples before the index are put, and the places after them are as they were.
 use Rattle.std.proofs.Common.{◌≡◌, ℕ, ◌<◌, ◌≤◌, Some, drop}
 use Rattle.std.specs.Prelude.{slice_get}
 use Rattle.mp4_samples.specs.Gives.{samples_left}
@@ -11,7 +11,7 @@ abbrev pub invariant-put : goal.invariant-put
 invariant-put l = record {
   tables : l.samples.tables ≡ l.tables;
   number : l.samples.number ≡ l.index;
-  most : l.index ≤ sample_count l.tables;
+  within : l.index ≤ sample_count l.tables;
   rows : (k : ℕ) → k < l.index → (s : Sample) × (IsSample l.tables k s × (slice_get l.rows k ≡ Some (row_of s)));
   rest : drop l.index l.rows ≡ drop l.index l.initial.rows;
 }

@@ -1,7 +1,7 @@
 use Rattle.std.proofs.Common.{subst}
 use Rattle.mp4_flat.specs.Boxes.{format_tkhd}
 use Rattle.mp4_flat.specs.declared.tkhd.TkhdBox.{TkhdBox}
-use Rattle.mp4_c_base.specs.Written.{PutsBox}
+use Rattle.mp4_c_boxes.specs.Written.{PutsBox}
 use Rattle.mp4_c.proofs.tkhd.mp4_write_tkhd.Goals as goal
 
 pub returns : goal.returns

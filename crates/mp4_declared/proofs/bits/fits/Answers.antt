@@ -1,5 +1,5 @@
 use Rattle.std.proofs.Common.{refl, arith}
-use Rattle.mp4_declared.proofs.BitSteps.{below_wide}
+use Rattle.mp4_lemmas.proofs.Numbers.{below_wide}
 use Rattle.mp4_declared.proofs.bits.fits.Goals as goal
 
 pub returns-else-width-lt64 : goal.returns-else-width-lt64

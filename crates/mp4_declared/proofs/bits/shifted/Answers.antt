@@ -1,4 +1,4 @@
-use Rattle.mp4_declared.proofs.BitSteps.{shifted_out}
+use Rattle.mp4_lemmas.proofs.Numbers.{shifted_out}
 use Rattle.mp4_declared.proofs.bits.shifted.Goals as goal
 
 pub returns-else-width-lt64 : goal.returns-else-width-lt64

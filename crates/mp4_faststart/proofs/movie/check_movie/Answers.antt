@@ -1,6 +1,6 @@
 use Rattle.std.proofs.Common.{List, ℕ, ◌∙◌}
-use Rattle.mp4_tree.specs.Tree.{boxes_of}
-use Rattle.mp4_tree.specs.Walk.{left}
+use Rattle.mp4_walk.specs.FileBoxes.{boxes_of}
+use Rattle.mp4_walk.specs.Walk.{left}
 use Rattle.mp4_faststart.proofs.Paths.{came, ended, movie_keeps, next_keeps, none_keeps, on_ok_anyway}
 use Rattle.mp4_faststart.proofs.movie.check_movie.Goals as goal
 

@@ -1,8 +1,8 @@
 -- If the boxes that are left keep their tracks, all boxes do. Each box takes some of the bytes that are left.
 use Rattle.std.proofs.Common.{◌≡◌, Some}
 use Rattle.std.specs.List.{All}
-use Rattle.mp4_tree.specs.Tree.{boxes_of}
-use Rattle.mp4_tree.specs.Walk.{bytes_left, left}
+use Rattle.mp4_walk.specs.FileBoxes.{boxes_of}
+use Rattle.mp4_walk.specs.Walk.{bytes_left, left}
 use Rattle.mp4_faststart.specs.Movie.{KeepsBox}
 use Rattle.mp4_faststart.proofs.movie.check_movie.Given as goal
 

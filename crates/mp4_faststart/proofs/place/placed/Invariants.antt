@@ -1,6 +1,6 @@
 -- The source is the same. Each box takes some of the bytes that are left.
 use Rattle.std.proofs.Common.{◌≡◌}
-use Rattle.mp4_tree.specs.Walk.{bytes_left}
+use Rattle.mp4_walk.specs.Walk.{bytes_left}
 use Rattle.mp4_faststart.proofs.place.placed.Given as goal
 
 abbrev pub invariant-loop-tree : goal.invariant-loop-tree

@@ -2,7 +2,7 @@
 use Rattle.std.proofs.Common.{◌≡◌, ◌-◌, ◌≤◌}
 use Rattle.std.specs.Prelude.{IfSome}
 use Rattle.std.specs.Io.KnownBytes.{Appends}
-use Rattle.mp4_tree.specs.Source.{piece}
+use Rattle.mp4_walk.specs.Source.{piece}
 use Rattle.mp4_faststart.proofs.write.copy.Given as goal
 
 abbrev pub invariant-loop-at : goal.invariant-loop-at

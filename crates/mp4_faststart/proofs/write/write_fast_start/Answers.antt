@@ -1,9 +1,10 @@
 use Rattle.std.proofs.Common.{◌≡◌, length}
 use Rattle.std.specs.Prelude.{IfSome}
 use Rattle.std.specs.declared.option.Option.{Option}
+use Rattle.std.proofs.lemmas.Result.{IfOk-weaker}
 use Rattle.mp4_faststart.specs.Written.{AppendsMoved, IsPlaced}
 use Rattle.mp4_faststart.specs.declared.cut.Cut.{Cut}
-use Rattle.mp4_faststart.proofs.Pieces.{all_written, if_ok}
+use Rattle.mp4_faststart.proofs.Pieces.{all_written}
 use Rattle.mp4_faststart.proofs.write.write_fast_start.Goals as goal
 
 pub returns : goal.returns
@@ -13,7 +14,7 @@ returns g c =
     let size = c.in_ok-source.size in
     let old = g.W.Write.contents c.args.output.now.inner in
     let new = g.W.Write.contents c.write_by.new.output.inner in
-    if_ok c.write_by.result
+    IfOk-weaker c.write_by.result
     (λ (done : Option Cut). IfSome c.in_ok-source.cut (IsPlaced size)
     → IfSome kept (λ B. size ≡ length B → AppendsMoved B done old new))
     (λ (done : Option Cut). IfSome all (λ B. AppendsMoved B done old new))

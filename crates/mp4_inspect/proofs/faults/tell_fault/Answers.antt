@@ -1,5 +1,6 @@
 use Rattle.std.proofs.Common.{◌≡◌, Bool, true, string_bytes}
-use Rattle.mp4_inspect.proofs.FaultLines.{passed, told_of}
+use Rattle.mp4_lemmas.proofs.Outcomes.{passed}
+use Rattle.mp4_inspect.proofs.FaultLines.{told_of}
 use Rattle.mp4_inspect.specs.Faults.{IsLine}
 use Rattle.mp4_inspect.proofs.faults.tell_fault.Goals as goal
 

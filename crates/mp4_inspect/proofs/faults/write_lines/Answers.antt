@@ -2,7 +2,7 @@ use Rattle.std.proofs.Common.{◌≡◌, List, ap, rules, subst, take, string_by
 use Rattle.std.proofs.lemmas.List.{take_all}
 use Rattle.mp4_inspect.proofs.FaultLines.{faults_none, faults_after}
 use Rattle.mp4_inspect.specs.Faults.{WritesFaults}
-use Rattle.mp4_tree.specs.declared.tree_box.TreeBox.{TreeBox}
+use Rattle.mp4_walk.specs.declared.tree_box.TreeBox.{TreeBox}
 use Rattle.mp4_inspect.proofs.faults.write_lines.Goals as goal
 
 pub loop-found-init : goal.loop-found-init

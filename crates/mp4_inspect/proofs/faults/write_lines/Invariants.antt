@@ -1,4 +1,4 @@
--- The lines of the boxes so far are written.
+-- The lines of the earlier boxes are written.
 use Rattle.std.proofs.Common.{◌≡◌, take, string_bytes}
 use Rattle.mp4_inspect.specs.Faults.{WritesFaults}
 use Rattle.mp4_inspect.proofs.faults.write_lines.Given as goal

@@ -1,7 +1,7 @@
--- The boxes so far and those that are left are those that were left at first.
+-- The boxes that were read and the remaining boxes are the boxes that remained at first.
 use Rattle.std.proofs.Common.{◌≡◌, ◌++◌}
 use Rattle.std.specs.Prelude.{IfSome}
-use Rattle.mp4_tree.specs.Walk.{left, bytes_left}
+use Rattle.mp4_walk.specs.Walk.{left, bytes_left}
 use Rattle.mp4_inspect.proofs.program.boxes_left.Given as goal
 
 abbrev pub invariant-loop-boxes : goal.invariant-loop-boxes

@@ -1,6 +1,7 @@
 use Rattle.std.proofs.Common.{◌≡◌, Err, rules}
 use Rattle.std.specs.Io.KnownBytes.{Appends}
-use Rattle.mp4_inspect.proofs.Boxes.{always_known, begins_of_failed, texts_of, beginning_of}
+use Rattle.mp4_lemmas.proofs.Outcomes.{always_known}
+use Rattle.mp4_inspect.proofs.Boxes.{begins_of_failed, texts_of, beginning_of}
 use Rattle.mp4_inspect.proofs.program.show_boxes.Goals as goal
 
 pub returns-in_err-write_all-clause-beginning : goal.returns-in_err-write_all-clause-beginning

@@ -1,8 +1,8 @@
--- So many levels are ended.
+-- The levels above the present one are ended.
 use Rattle.std.proofs.Common.{◌≡◌, ◌-◌, ◌≤◌}
 use Rattle.std.specs.Prelude.{min}
 use Rattle.mp4_inspect.specs.Json.{levels_end}
-use Rattle.mp4_sinks.specs.Tokens.{Puts}
+use Rattle.mp4_show.specs.Tokens.{Puts}
 use Rattle.mp4_inspect.proofs.tree_json.end_levels.Given as goal
 
 abbrev pub invariant-loop-begun : goal.invariant-loop-begun

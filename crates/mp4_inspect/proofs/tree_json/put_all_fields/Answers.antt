@@ -1,7 +1,7 @@
 use Rattle.std.proofs.Common.{[]}
-use Rattle.mp4_fields.specs.Nesting.{fields}
+use Rattle.mp4_show.specs.Nesting.{fields}
 use Rattle.mp4_inspect.proofs.Json.{puts_fields}
-use Rattle.mp4_sinks.proofs.Whole.{puts_none}
+use Rattle.mp4_show.proofs.Whole.{puts_none}
 use Rattle.mp4_inspect.proofs.tree_json.put_all_fields.Goals as goal
 
 pub returns : goal.returns

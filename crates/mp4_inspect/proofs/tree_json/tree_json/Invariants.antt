@@ -1,4 +1,4 @@
--- What is written so far, with what is left, is what is written of all boxes.
+-- The text that is written, with the output for the remaining boxes, is the output for all boxes.
 use Rattle.std.proofs.Common.{◌≡◌, ◌≤◌}
 use Rattle.mp4_inspect.proofs.Json.{Leads}
 use Rattle.mp4_inspect.proofs.tree_json.tree_json.Given as goal

@@ -1,9 +1,10 @@
 use Rattle.std.proofs.Common.{◌≡◌, ◌∙◌, List, take, Err, ap, rules, subst}
 use Rattle.std.specs.Prelude.{IfSome}
 use Rattle.std.proofs.lemmas.List.{take_all}
-use Rattle.mp4_inspect.proofs.Boxes.{always_known, both_known, writes_none, writes_more, begins_more}
+use Rattle.mp4_lemmas.proofs.Outcomes.{always_known, both_known}
+use Rattle.mp4_inspect.proofs.Boxes.{writes_none, writes_more, begins_more}
 use Rattle.mp4_inspect.specs.Written.{WritesBoxes}
-use Rattle.mp4_tree.specs.declared.tree_box.TreeBox.{TreeBox}
+use Rattle.mp4_walk.specs.declared.tree_box.TreeBox.{TreeBox}
 use Rattle.mp4_inspect.proofs.tree_text.write_tree.Goals as goal
 
 pub loop-found-init : goal.loop-found-init

@@ -1,4 +1,4 @@
--- The boxes so far are written.
+-- The earlier boxes are written.
 use Rattle.std.proofs.Common.{◌≡◌, take}
 use Rattle.std.specs.Prelude.{IfSome}
 use Rattle.mp4_inspect.specs.Written.{WritesBoxes}

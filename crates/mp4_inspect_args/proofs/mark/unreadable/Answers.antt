@@ -2,7 +2,7 @@ use Rattle.std.proofs.Common.{IfNone, MatchOption, None, Some, rules}
 use Rattle.std.specs.declared.option.Option.{Option}
 use Rattle.mp4_inspect_args.proofs.mark.unreadable.Goals as goal
 
--- what a clause says where there is no value
+-- The clause for a result without a value.
 of_none : {A : Type 0} (r : Option A) (N : Type 0) (S : A → Type 0) → MatchOption r N S → IfNone r N
 of_none None N S cases = cases
 of_none (Some x) N S cases = search rules

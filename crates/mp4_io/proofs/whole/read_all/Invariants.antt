@@ -1,4 +1,4 @@
--- The bytes that are filled are those that were read.
+-- The filled bytes are the bytes that were read.
 use Rattle.std.proofs.Common.{◌≡◌, ◌≤◌, take, vec_len}
 use Rattle.std.specs.Io.KnownBytes.{Consumes}
 use Rattle.mp4_io.proofs.whole.read_all.Given as goal

@@ -1,4 +1,4 @@
--- The bytes that were read, and the limit less these.
+-- The number of bytes that were read, and what is left of the limit.
 use Rattle.std.proofs.Common.{◌≡◌, ℕ, ◌<◌, ◌+◌, List, length}
 use Rattle.std.specs.Io.KnownBytes.{Consumes}
 use Rattle.mp4_io.proofs.whole.skip_all.Given as goal

@@ -8,7 +8,7 @@ returns-in_err-item g c =
     rw (p.1, p.2, left_in_order g.B.StreamBox.known g.B.StreamBox.named_reading c.args.boxes)
     (stops g.B.StreamBox.known g.B.StreamBox.named_reading c.loop-item.item-iterator c.next.new.self
     c.loop-item.list.items c.in_err-item.field-0.0 c.in-Some.item _ c.in_err-item.was c.in-Some.ensures.steps
-    c.loop-item.invariant.told)
+    c.loop-item.invariant.same_outcome)
 
 pub returns-in_err-push : goal.returns-in_err-push
 returns-in_err-push g c =
@@ -16,10 +16,10 @@ returns-in_err-push g c =
     rw (p.1, p.2, left_in_order g.B.StreamBox.known g.B.StreamBox.named_reading c.args.boxes)
     (is_full g.B.StreamBox.known g.B.StreamBox.named_reading c.loop-item.item-iterator c.next.new.self
     c.loop-item.list.items c.in_ok-item.field-0 c.in-Some.item _ c.in_ok-item.was c.in-Some.ensures.steps
-    c.loop-item.invariant.told)
+    c.loop-item.invariant.same_outcome)
 
 pub returns : goal.returns
 returns g c =
     rw (left_in_order g.B.StreamBox.known g.B.StreamBox.named_reading c.args.boxes)
     (is_over g.B.StreamBox.known g.B.StreamBox.named_reading c.loop-item.item-iterator c.next.new.self
-    c.loop-item.list.items _ c.in-None.ensures.steps c.loop-item.invariant.told)
+    c.loop-item.list.items _ c.in-None.ensures.steps c.loop-item.invariant.same_outcome)

@@ -9,8 +9,8 @@ abbrev pub invariant-loop-item : goal.invariant-loop-item
 invariant-loop-item g l =
     let rest = left g.B.StreamBox.known g.B.StreamBox.named_reading in
     record {
-      can : (goal.iterator-loop-item g).can_next l.item-iterator;
+      has_next : (goal.iterator-loop-item g).can_next l.item-iterator;
       finite : (goal.iterator-loop-item g).is_finite l.item-iterator;
-      told : continue_with (nat_lt 0 (length l.list.items)) l.list.items (in_order (rest l.item-iterator))
+      same_outcome : continue_with (nat_lt 0 (length l.list.items)) l.list.items (in_order (rest l.item-iterator))
           ≡ in_order (rest l.fn.boxes);
     }

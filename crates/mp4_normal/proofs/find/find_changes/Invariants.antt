@@ -1,4 +1,4 @@
--- The boxes before the offset are read, and what changes in them is found.
+-- The boxes before the offset are read, and their changes are found.
 use Rattle.std.proofs.Common.{◌-◌, length}
 use Rattle.mp4_normal.proofs.Found.{SoFar}
 use Rattle.mp4_normal.proofs.find.find_changes.Given as goal

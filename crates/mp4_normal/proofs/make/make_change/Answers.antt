@@ -1,6 +1,6 @@
 use Rattle.std.proofs.Common.{◌+◌, ◌-◌, drop, ◌∙◌, arith, length-drop}
 use Rattle.std.proofs.lemmas.List.{length-take-le}
-use Rattle.mp4_normal.proofs.Making.{drop_from}
+use Rattle.mp4_lemmas.proofs.Lists.{drop_from}
 use Rattle.mp4_normal.proofs.make.make_change.Goals as goal
 
 pub returns-clause-rest : goal.returns-clause-rest

@@ -1,4 +1,4 @@
-//! The tables of fragments, and the bytes that they are written in.
+//! The tables of fragments, with their bytes.
 
 use super::{SIZES, list};
 use mp4_stream::{Entries, Result, TfhdBox, TrunBox};
@@ -23,7 +23,7 @@ pub const TRUN_OF_FOUR_LISTS: [u8; 160] =
 \x27\x8e\0\0\x27\x8e\0\0\x27\x8e\0\0\x2a\x72\0\0\x2a\x72\0\0\x2a\x72\0\0\x2a\x72\0\0\x25\xab\0\0\x25\xab\0\0\x25\xab\0\
 \0\x25\xab\0\0\x24\x87\0\0\x24\x87\0\0\x24\x87\0\0\x24\x87\0\0\x1e\x32\0\0\x1e\x32\0\0\x1e\x32\0\0\x1e\x32";
 
-/// `tfhd`, version 0: a track fragment with three of the five optional fields.
+/// Returns a `tfhd` of version 0: a track fragment with three of the five optional fields.
 pub fn tfhd() -> TfhdBox {
     TfhdBox {
         version: 0,
@@ -39,14 +39,14 @@ pub fn tfhd() -> TfhdBox {
     }
 }
 
-/// `tfhd`, version 0: a track fragment with none of the optional fields.
+/// Returns a `tfhd` of version 0: a track fragment with none of the optional fields.
 pub fn tfhd_bare() -> TfhdBox {
     let mut tfhd = TfhdBox::default();
     tfhd.track_id = 1;
     tfhd
 }
 
-/// `tfhd`, version 0: a track fragment with all of the optional fields.
+/// Returns a `tfhd` of version 0: a track fragment with all of the optional fields.
 pub fn tfhd_all() -> TfhdBox {
     TfhdBox {
         version: 0,
@@ -64,7 +64,7 @@ pub fn tfhd_all() -> TfhdBox {
     }
 }
 
-/// `trun`, version 0: a run of two samples with a data offset and their sizes.
+/// Returns a `trun` of version 0: a run of two samples with a data offset and their sizes.
 pub fn trun(alloc: Global) -> Result<TrunBox> {
     Ok(TrunBox {
         version: 0,
@@ -79,7 +79,7 @@ pub fn trun(alloc: Global) -> Result<TrunBox> {
     })
 }
 
-/// `trun`, version 0: a run of one sample with its duration.
+/// Returns a `trun` of version 0: a run of one sample with its duration.
 pub fn trun_of_durations(alloc: Global) -> Result<TrunBox> {
     let mut duration = TrunBox::default_in(alloc);
     duration.flags = TrunBox::FLAG_SAMPLE_DURATION;
@@ -88,7 +88,7 @@ pub fn trun_of_durations(alloc: Global) -> Result<TrunBox> {
     Ok(duration)
 }
 
-/// Puts four lists into a run.
+/// Replaces the four lists of `trun`.
 fn put_lists(
     alloc: Global,
     trun: &mut TrunBox,
@@ -104,7 +104,8 @@ fn put_lists(
     Ok(())
 }
 
-/// `trun`, version 0: a run of two samples with both optional fields, durations, sizes and composition times.
+/// Returns a `trun` of version 0: a run of two samples with both optional fields, durations, sizes and composition
+/// times.
 pub fn trun_of_three_lists(alloc: Global) -> Result<TrunBox> {
     let mut trun = TrunBox::default_in(alloc);
     trun.flags = TrunBox::FLAG_DATA_OFFSET
@@ -126,7 +127,7 @@ pub fn trun_of_three_lists(alloc: Global) -> Result<TrunBox> {
     Ok(trun)
 }
 
-/// `trun`, version 0: a run of nine samples with all four lists.
+/// Returns a `trun` of version 0: a run of nine samples with all four lists.
 pub fn trun_of_four_lists(alloc: Global) -> Result<TrunBox> {
     let mut trun = TrunBox::default_in(alloc);
     trun.flags = TrunBox::FLAG_SAMPLE_DURATION

@@ -1,4 +1,4 @@
--- The bytes of the samples so far, each of fewer than 2^32.
+-- The bytes of the samples before `index`. Each has fewer than 2^32.
 use Rattle.std.proofs.Common.{◌≡◌, ◌*◌, ◌≤◌}
 use Rattle.mp4_samples.specs.Fragments.{bytes_before}
 use Rattle.mp4_samples.proofs.fragment_end.bytes_of.Given as goal

@@ -1,11 +1,9 @@
-use Rattle.std.proofs.Common.{◌≡◌, ℕ, ◌+◌, ◌-◌, ◌*◌, ◌^◌, ◌<◌, ◌≤◌, inl, inr, List, length, get_or, refl, sym, ap}
-use Rattle.std.proofs.Common.{subst, arith, rules, mul-le-mul_left}
+use Rattle.std.proofs.Common.{◌≡◌, ℕ, ◌-◌, ◌≤◌, inl, inr, List, length, get_or, refl, sym, ap, subst, arith}
 use Rattle.std.specs.List.Sorted.{IsNonDecreasing}
 use Rattle.std.proofs.lemmas.Bool.{cases_lt}
 use Rattle.std.proofs.lemmas.List.{length_push}
-use Rattle.mp4_samples.specs.Chunks.{samples_through, no_entry}
+use Rattle.mp4_samples.specs.Chunks.{samples_through}
 use Rattle.mp4_samples.proofs.Bytes.{through_zero}
-use Rattle.mp4_samples.proofs.Through.{above, by_after, before_entry, through_entry}
 use Rattle.mp4_samples.proofs.ChunkMarks.{entry, by_front}
 use Rattle.mp4_samples.proofs.Pushed.{each_push, order_push, order_none}
 use Rattle.mp4_samples.proofs.marks.befores_of.Goals as goal
@@ -31,45 +29,34 @@ pub loop-place-preserved : goal.loop-place-preserved
 loop-place-preserved c =
     let es = c.args.runs.now in
     let l = c.loop-place in
-    let p = l.place in
+    let i = l.place.run in
     let inv = l.invariant in
     let old = l.befores.items in
-    let inside : p.run < length es = omega arith in
-    let high = above es p no_entry inside inv.by in
-    let before = before_entry es p no_entry inside inv.by in
-    let all = through_entry es p no_entry inside inv.by in
-    let product : c.from.result * c.from-in-loop-place.result
-    ≡ ((entry es p.run).first_chunk - 1 - p.chunk) * p.entry.samples_per_chunk =
-    rw (c.from.ensures, c.from-in-loop-place.ensures) refl in
-    let each = c.from-in-loop-place-2.ensures in
-    let small : c.from-in-loop-place.result < 2 ^ 32 = search rules in
-    let small' : c.from-in-loop-place-2.result < 2 ^ 32 = search rules in
-    let most = mul-le-mul_left c.from.result
-    (let le : c.from-in-loop-place.result ≤ 2 ^ 32 - 1 = omega (arith, small) in le) in
-    let skipped = c.from.ensures in
-    let b = l.total + c.from.result * c.from-in-loop-place.result in
-    let is : b ≡ samples_through es ((entry es p.run).first_chunk - 1) = omega (arith, before, product, inv.total) in
+    let b = c.at_next_entry-before.result.1 in
+    let through = c.at_next_entry-before.result.2 in
+    let r = c.at_next_entry-before.ensures in
+    let is : b ≡ samples_through es ((entry es i).first_chunk - 1) = rw (← r.chunk) r.before in
     let items = c.push_reserved.ensures.items in
     record {
-      by = by_after es p no_entry inside inv.by;
-      total = omega (arith, all, product, each, inv.total);
-      within = c.if-runs-place.true;
-      fits = omega (arith, most, small', skipped, high, inv.fits);
-      long = omega (arith, c.push_reserved.ensures.len, inv.long);
-      items = omega (arith, ap length items, length_push old b, inv.items);
+      by = r.at;
+      total = r.through;
+      within = omega (arith, r.chunk, c.if-runs-place.true);
+      fits = r.fits;
+      long = omega (arith, c.push_reserved.ensures.len, inv.long, r.run);
+      items = omega (arith, ap length items, length_push old b, inv.items, r.run);
       room = omega (arith, c.push_reserved.ensures.capacity, inv.room);
       order = subst (λ (x : List ℕ). IsNonDecreasing x) (sym items)
-          (order_push old b p.run inv.items inv.order (λ i lt. omega (arith, inv.top i lt)));
-      top = subst (λ (x : List ℕ). (i : ℕ) → i < p.run + 1 → get_or x i 0 ≤ b + c.from-in-loop-place-2.result)
-          (sym items) (each_push (λ i v. v ≤ b + c.from-in-loop-place-2.result) old b p.run inv.items
-          (λ i lt. omega (arith, inv.top i lt)) (omega arith));
-      is = subst (λ (x : List ℕ). (i : ℕ) → i < p.run + 1
-          → get_or x i 0 ≡ samples_through es ((entry es i).first_chunk - 1)) (sym items)
-          (each_push (λ i v. v ≡ samples_through es ((entry es i).first_chunk - 1)) old b p.run inv.items inv.is is);
-      begun = λ i lt. elim (cases_lt i p.run) [
-        | inl less ↦ inv.begun i less
+          (order_push old b i inv.items inv.order (λ j lt. omega (arith, inv.top j lt, r.grows)));
+      top = λ j lt. subst (λ (x : List ℕ). get_or x j 0 ≤ through) (sym items)
+          (each_push (λ j v. v ≤ through) old b i inv.items (λ j lt. omega (arith, inv.top j lt, r.grows, r.order))
+          r.order j (omega (arith, lt, r.run)));
+      is = λ j lt. subst (λ (x : List ℕ). get_or x j 0 ≡ samples_through es ((entry es j).first_chunk - 1)) (sym items)
+          (each_push (λ j v. v ≡ samples_through es ((entry es j).first_chunk - 1)) old b i inv.items inv.is is j
+          (omega (arith, lt, r.run)));
+      begun = λ j lt. elim (cases_lt j i) [
+        | inl less ↦ inv.begun j less
         | inr le ↦
-            let same : i ≡ p.run = omega (arith, le, lt) in
+            let same : j ≡ i = omega (arith, le, lt, r.run) in
             rw same c.if-runs-place.true
       ];
     }

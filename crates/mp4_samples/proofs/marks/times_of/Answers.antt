@@ -1,39 +1,80 @@
-use Rattle.std.proofs.Common.{◌≡◌, ℕ, ◌+◌, ◌<◌, ◌≤◌, List, length, get_or, sym, subst, arith}
-use Rattle.mp4_samples.proofs.AtTime.{entry}
-use Rattle.mp4_samples.proofs.TimeMarks.{TimesSoFar, time_small, times_more}
+use Rattle.std.proofs.Common.{◌≡◌, ℕ, ◌+◌, ◌-◌, ◌*◌, ◌^◌, ◌<◌, ◌≤◌, List, length, get_or, refl, sym, ap, subst, arith}
+use Rattle.std.proofs.lemmas.List.{length_push}
+use Rattle.mp4_samples.specs.Runs.{sum_before}
+use Rattle.mp4_samples.proofs.Pushed.{each_push}
+use Rattle.mp4_samples.proofs.RunSums.{sum_none, sum_next}
+use Rattle.mp4_samples.proofs.FirstSamples.{sums_order}
+use Rattle.mp4_samples.proofs.TimeMarks.{count, entry, none, product}
 use Rattle.mp4_samples.proofs.marks.times_of.Goals as goal
+
+pub loop-index-init : goal.loop-index-init
+loop-index-init c = record {
+  items = rw c.in_ok-times.ensures.items refl;
+  long = omega (arith, c.in_ok-times.ensures.len);
+  room = omega (arith, c.in_ok-times.ensures.exact);
+  is = λ i lt. absurd (omega arith);
+  fits = λ i lt. absurd (omega arith);
+  now = λ lt. sym (sum_none product c.args.entries.now);
+  small = λ lt. omega arith;
+}
 
 pub overflow_add-time : goal.overflow_add-time
 overflow_add-time c =
-    let es = c.args.entries.now in
-    let firsts = c.args.firsts.now in
     let l = c.loop-index in
-    let samples = c.min-samples.result in
-    let lt : l.index < length firsts = omega arith in
+    let lt : l.index < length c.args.firsts.now = omega arith in
+    let small = l.invariant.small lt in
     let below = c.requires.below l.index lt in
-    let some : samples ≤ (entry es l.index).sample_count = omega (arith, c.min-samples.ensures) in
-    let all : get_or firsts l.index 0 + (entry es l.index).sample_count ≤ c.args.count
-    → samples ≡ (entry es l.index).sample_count = λ le. omega (arith, c.min-samples.ensures, le) in
-    let small = time_small es c.args.count firsts c.requires l.times.items l.index l.time samples c.time_of-time.result
-    l.invariant.so_far lt some all c.time_of-time.ensures.is c.time_of-time.ensures.most in
-    omega (arith, small, below, c.min-samples.ensures)
+    omega (arith, small, below, c.min-samples.ensures, c.time_of-time.ensures.bound)
 
 pub loop-index-preserved : goal.loop-index-preserved
 loop-index-preserved c =
     let es = c.args.entries.now in
     let firsts = c.args.firsts.now in
     let l = c.loop-index in
+    let inv = l.invariant in
+    let i = l.index in
+    let items = c.push_reserved.ensures.items in
     let samples = c.min-samples.result in
-    let lt : l.index < length firsts = omega arith in
-    let some : samples ≤ (entry es l.index).sample_count = omega (arith, c.min-samples.ensures) in
-    let below = c.requires.below l.index lt in
-    let all : get_or firsts l.index 0 + (entry es l.index).sample_count ≤ c.args.count
-    → samples ≡ (entry es l.index).sample_count = λ le. omega (arith, c.min-samples.ensures, le) in
-    let more = times_more es c.args.count firsts c.requires l.times.items l.index l.time samples c.time_of-time.result
-    l.invariant.so_far lt some all c.time_of-time.ensures.is c.time_of-time.ensures.most in
+    let lt : i < length firsts = omega arith in
+    let within : i < length es = omega (arith, lt, c.requires.within) in
+    let now = inv.now lt in
+    let small = inv.small lt in
+    let whole : i + 1 < length firsts → (samples ≡ (entry es i).sample_count) × (get_or firsts (i + 1) 0
+    ≡ get_or firsts i 0 + samples) = λ more.
+    let first = c.requires.is i lt in
+    let second = c.requires.is (i + 1) more in
+    let below = c.requires.below (i + 1) more in
+    let next = sum_next count es i none within in
+    let all : samples ≡ (entry es i).sample_count = omega (arith, first, second, below, next, c.min-samples.ensures) in
+    (all, omega (arith, first, second, next, all)) in
     record {
-      so_far = subst (λ (x : List ℕ). TimesSoFar es firsts x (l.index + 1) (l.time + c.time_of-time.result))
-          (sym c.push_reserved.ensures.items) more;
-      long = omega (arith, c.push_reserved.ensures.len, l.invariant.long);
-      room = omega (arith, c.push_reserved.ensures.capacity, l.invariant.room);
+      items = omega (arith, ap length items, length_push l.times.items l.time, inv.items);
+      long = omega (arith, c.push_reserved.ensures.len, inv.long);
+      room = omega (arith, c.push_reserved.ensures.capacity, inv.room);
+      is = subst (λ (x : List ℕ). (j : ℕ) → j < i + 1 → get_or x j 0 ≡ sum_before product es j) (sym items)
+          (each_push (λ j v. v ≡ sum_before product es j) l.times.items l.time i inv.items inv.is now);
+      fits = subst (λ (x : List ℕ). (j : ℕ) → j < i + 1 → get_or x j 0 ≤ get_or firsts j 0 * (2 ^ 32 - 1)) (sym items)
+          (each_push (λ j v. v ≤ get_or firsts j 0 * (2 ^ 32 - 1)) l.times.items l.time i inv.items inv.fits small);
+      now = λ more.
+          let next = sum_next product es i none within in
+          let own = ap (λ (n : ℕ). n * (entry es i).sample_delta) (whole more).0 in
+          omega (arith, next, own, now, c.time_of-time.ensures.value);
+      small = λ more.
+          let next = (whole more).1 in
+          omega (arith, next, small, c.time_of-time.ensures.bound);
+    }
+
+pub returns-clause-marks : goal.returns-clause-marks
+returns-clause-marks c =
+    let es = c.args.entries.now in
+    let l = c.loop-index in
+    let inv = l.invariant in
+    let all : length l.times.items ≡ length c.args.firsts.now = omega (arith, inv.items) in
+    let is : (i : ℕ) → i < length l.times.items → get_or l.times.items i 0 ≡ sum_before product es i =
+    λ i lt. inv.is i (omega (arith, lt, inv.items)) in
+    record {
+      each = all;
+      order = sums_order product es l.times.items (omega (arith, all, c.requires.within)) is;
+      is = is;
+      fits = λ i lt. inv.fits i (omega (arith, lt, inv.items));
     }

@@ -20,7 +20,7 @@ only : {A : Type 0} {eq : A → A → Bool} → IsEquality eq → (x y : A × Un
 only decides x y e = ap (λ v. (v, tt)) ((decides x.0 y.0).0 e)
 
 module _ (c : goal.After-equality_is_of_all_fields-5) where
-  -- each box is the same as another of its type if their comparison says so
+  -- Two boxes are equal if `==` of them is true.
   same : (x y : AnyBox) → (any_eq.ghosts).eq x y ≡ true → x ≡ y
   same x y h = same_variant any_box.enum _
       (only (c.equality_is_of_all_fields-3.ensures.ftyp)

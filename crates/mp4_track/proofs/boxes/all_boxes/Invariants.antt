@@ -1,7 +1,7 @@
 -- The boxes that came and those that are left are those of the file. Each turn takes some of the bytes that are left.
 use Rattle.std.proofs.Common.{◌≡◌, ◌++◌, Some}
-use Rattle.mp4_tree.specs.Tree.{boxes_of}
-use Rattle.mp4_tree.specs.Walk.{bytes_left, left}
+use Rattle.mp4_walk.specs.FileBoxes.{boxes_of}
+use Rattle.mp4_walk.specs.Walk.{bytes_left, left}
 use Rattle.mp4_track.proofs.boxes.all_boxes.Given as goal
 
 abbrev pub invariant-loop-boxes : goal.invariant-loop-boxes

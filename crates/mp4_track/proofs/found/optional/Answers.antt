@@ -1,7 +1,7 @@
 use Rattle.std.proofs.Common.{[], None, Some, subst, sym, ap, ◌∙◌}
 use Rattle.std.specs.declared.option.Option.{Option}
 use Rattle.mp4_frame.specs.declared.four_cc.FourCC.{FourCC}
-use Rattle.mp4_tree.specs.declared.tree_box.TreeBox.{TreeBox}
+use Rattle.mp4_walk.specs.declared.tree_box.TreeBox.{TreeBox}
 use Rattle.mp4_track.specs.Levels.{first_in}
 use Rattle.mp4_track.specs.Tracks.{MayHold}
 use Rattle.mp4_track.proofs.Traks.{in_first}

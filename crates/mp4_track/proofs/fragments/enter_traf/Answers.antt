@@ -4,11 +4,11 @@ use Rattle.std.specs.BTreeMap.{get}
 use Rattle.std.specs.Ordering.{nat_cmp}
 use Rattle.std.specs.Prelude.{◌==◌}
 use Rattle.std.specs.declared.option.Option.{Option}
+use Rattle.std.proofs.lemmas.Result.{IfOk-weaker}
 use Rattle.mp4_flat.specs.declared.trex.TrexBox.{TrexBox}
 use Rattle.mp4_track.specs.Fragments.{EndsAt, IsStep, Takes, fragment_of, made}
 use Rattle.mp4_track.specs.declared.track_fragment.TrackFragment.{TrackFragment}
 use Rattle.mp4_track.proofs.Steps.{step_of}
-use Rattle.mp4_track.proofs.Traks.{ok_then}
 use Rattle.mp4_track.proofs.fragments.enter_traf.Goals as goal
 
 pub returns-in-Some-clause-value : goal.returns-in-Some-clause-value
@@ -23,7 +23,7 @@ returns-in-Some-clause-value c =
     ∙ ap (λ (e : Option ℕ). made t c.args.moof (D t.header.track_id) e) c.data_before-before.ensures in
     let old = c.args.fragments.now.items in
     let new = c.take.new.fragments.items in
-    ok_then c.take.result
+    IfOk-weaker c.take.result
     (λ next. (x : List TrackFragment) × EndsAt (Some own) next × Takes (t.header.track_id == id) (Some own) x
     × (new ≡ old ++ x))
     (λ next. (x : List TrackFragment) × IsStep B id D c.args.moof c.args.end c.args.boxes.now next x

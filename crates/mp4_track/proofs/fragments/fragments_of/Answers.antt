@@ -1,17 +1,18 @@
 use Rattle.std.proofs.Common.{◌≡◌, ℕ, List, [], None, Some, refl, subst, ap, ◌∙◌}
 use Rattle.std.specs.declared.option.Option.{Option}
+use Rattle.std.proofs.lemmas.Result.{IfOk-weaker}
 use Rattle.mp4_flat.specs.declared.trex.TrexBox.{TrexBox}
 use Rattle.mp4_frame.specs.FourCC.{four_cc_of}
 use Rattle.mp4_frame.specs.declared.codes.TheConstants as codes
 use Rattle.mp4_frame.specs.declared.four_cc.FourCC.{FourCC}
-use Rattle.mp4_tree.specs.Tree.{boxes_of}
-use Rattle.mp4_tree.specs.declared.tree_box.TreeBox.{TreeBox}
+use Rattle.mp4_walk.specs.FileBoxes.{boxes_of}
+use Rattle.mp4_walk.specs.declared.tree_box.TreeBox.{TreeBox}
 use Rattle.mp4_track.specs.Fragments.{AreFragments, AreOfMoofs, defaults_in}
 use Rattle.mp4_track.specs.Levels.{Found, after_of, all_in, first_in}
 use Rattle.mp4_track.specs.Paths.{first}
 use Rattle.mp4_track.specs.Tracks.{IsTrakOf, is_header}
 use Rattle.mp4_track.specs.declared.trak.Trak.{Trak}
-use Rattle.mp4_track.proofs.Traks.{in_top, in_track, ok_then}
+use Rattle.mp4_track.proofs.Traks.{in_top, in_track}
 use Rattle.mp4_track.proofs.fragments.fragments_of.Goals as goal
 
 pub returns-in_default-first_in-clause-error : goal.returns-in_default-first_in-clause-error
@@ -34,7 +35,7 @@ returns-in-Some-2-clause-fragments c =
     ∙ ap (λ (xs : List TreeBox). first_in 0 (four_cc_of codes.MOOV) xs) boxes in
     let D : Option Found → ℕ → Option TrexBox = λ (o : Option Found) (q : ℕ). defaults_in B q
     (all_in 2 (four_cc_of codes.TREX) (after_of (first_in 1 (four_cc_of codes.MVEX) (after_of o)))) in
-    ok_then c.with_defaults.result
+    IfOk-weaker c.with_defaults.result
     (λ fs. AreOfMoofs B id (D (Some movie)) (all_in 0 (four_cc_of codes.MOOF) c.deref-in-Some-2.result.now) fs.items)
     (λ fs. AreFragments B id fs.items)
     (λ fs h. subst (λ (o : Option Found).

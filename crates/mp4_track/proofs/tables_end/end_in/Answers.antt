@@ -4,7 +4,7 @@ use Rattle.mp4_frame.specs.declared.codes.TheConstants as codes
 use Rattle.mp4_tables.specs.Boxes.{reads_stts}
 use Rattle.mp4_tables.specs.declared.stts.SttsBox.{SttsBox}
 use Rattle.mp4_tables.specs.declared.stts_entry.SttsEntry.{SttsEntry}
-use Rattle.mp4_tree.specs.declared.tree_box.TreeBox.{TreeBox}
+use Rattle.mp4_walk.specs.declared.tree_box.TreeBox.{TreeBox}
 use Rattle.mp4_track.specs.Ends.{time_of}
 use Rattle.mp4_track.specs.Levels.{in_level}
 use Rattle.mp4_track.specs.Paths.{first}

@@ -1,17 +1,18 @@
 use Rattle.std.proofs.Common.{◌≡◌, List, [], ◌∷◌, None, Some, refl, subst, sym, ap, ◌∙◌}
 use Rattle.std.specs.declared.option.Option.{Option}
+use Rattle.std.proofs.lemmas.Result.{IfOk-weaker}
 use Rattle.mp4_frame.specs.FourCC.{four_cc_of}
 use Rattle.mp4_frame.specs.declared.codes.TheConstants as codes
 use Rattle.mp4_frame.specs.declared.four_cc.FourCC.{FourCC}
 use Rattle.mp4_tables.specs.Boxes.{reads_stts}
-use Rattle.mp4_tree.specs.Tree.{boxes_of}
-use Rattle.mp4_tree.specs.declared.tree_box.TreeBox.{TreeBox}
+use Rattle.mp4_walk.specs.FileBoxes.{boxes_of}
+use Rattle.mp4_walk.specs.declared.tree_box.TreeBox.{TreeBox}
 use Rattle.mp4_track.specs.Ends.{EndsTables, EndsTablesIn}
 use Rattle.mp4_track.specs.Levels.{Found, first_in}
 use Rattle.mp4_track.specs.Paths.{first}
 use Rattle.mp4_track.specs.Tracks.{IsTrakOf, MayHold, is_header}
 use Rattle.mp4_track.specs.declared.trak.Trak.{Trak}
-use Rattle.mp4_track.proofs.Traks.{in_top, in_track, ok_then}
+use Rattle.mp4_track.proofs.Traks.{in_top, in_track}
 use Rattle.mp4_track.proofs.tables_end.tables_end_of.Goals as goal
 
 pub returns-in_default-first_in-clause-error : goal.returns-in_default-first_in-clause-error
@@ -33,7 +34,7 @@ returns-in-Some-2-clause-time c =
     ∙ ap (λ (code : FourCC). first_in 0 code c.deref.result.now) c.from.ensures
     ∙ ap (λ (xs : List TreeBox). first_in 0 (four_cc_of codes.MOOV) xs) boxes in
     let h = subst (λ (o : Option Trak). IsTrakOf B id movie.after o) c.in-Some-2.is c.in_ok-trak.ensures.value in
-    ok_then c.end_in.result (EndsTablesIn B trak.boxes.now) (EndsTables B id)
+    IfOk-weaker c.end_in.result (EndsTablesIn B trak.boxes.now) (EndsTables B id)
     (λ time g. record {
       number = trak.number;
       is = ap (λ (x : Option TreeBox). is_header B id x)

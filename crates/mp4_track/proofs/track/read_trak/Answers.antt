@@ -3,7 +3,7 @@ use Rattle.std.specs.declared.option.Option.{Option}
 use Rattle.mp4_flat.specs.Boxes.{reads_mdhd}
 use Rattle.mp4_frame.specs.declared.codes.TheConstants as codes
 use Rattle.mp4_text.specs.Boxes.{reads_hdlr}
-use Rattle.mp4_tree.specs.declared.tree_box.TreeBox.{TreeBox}
+use Rattle.mp4_walk.specs.declared.tree_box.TreeBox.{TreeBox}
 use Rattle.mp4_track.specs.Levels.{in_level}
 use Rattle.mp4_track.specs.Paths.{first}
 use Rattle.mp4_track.specs.Tracks.{Holds}

@@ -1,15 +1,16 @@
 use Rattle.std.proofs.Common.{◌≡◌, List, [], None, Some, refl, subst, ap, ◌∙◌}
 use Rattle.std.specs.declared.option.Option.{Option}
+use Rattle.std.proofs.lemmas.Result.{IfOk-weaker}
 use Rattle.mp4_frame.specs.FourCC.{four_cc_of}
 use Rattle.mp4_frame.specs.declared.codes.TheConstants as codes
 use Rattle.mp4_frame.specs.declared.four_cc.FourCC.{FourCC}
-use Rattle.mp4_tree.specs.Tree.{boxes_of}
-use Rattle.mp4_tree.specs.declared.tree_box.TreeBox.{TreeBox}
+use Rattle.mp4_walk.specs.FileBoxes.{boxes_of}
+use Rattle.mp4_walk.specs.declared.tree_box.TreeBox.{TreeBox}
 use Rattle.mp4_track.specs.Levels.{Found, first_in}
 use Rattle.mp4_track.specs.Paths.{first}
 use Rattle.mp4_track.specs.Tracks.{IsTrack, IsTrackIn, IsTrakOf, is_header}
 use Rattle.mp4_track.specs.declared.trak.Trak.{Trak}
-use Rattle.mp4_track.proofs.Traks.{in_top, in_track, ok_then, track_holds}
+use Rattle.mp4_track.proofs.Traks.{in_top, in_track, track_holds}
 use Rattle.mp4_track.proofs.track.track_of.Goals as goal
 
 pub returns-in_default-first_in-clause-error : goal.returns-in_default-first_in-clause-error
@@ -30,7 +31,7 @@ returns-in-Some-2-clause-track c =
     ∙ ap (λ (xs : List TreeBox). first_in 0 (four_cc_of codes.MOOV) xs) boxes in
     let h = subst (λ (o : Option Trak). IsTrakOf B c.args.track_id movie.after o) c.in-Some-2.is
     c.in_ok-trak.ensures.value in
-    ok_then c.read_trak.result (IsTrackIn B c.in-Some-2.trak.number c.in-Some-2.trak.boxes.now)
+    IfOk-weaker c.read_trak.result (IsTrackIn B c.in-Some-2.trak.number c.in-Some-2.trak.boxes.now)
     (IsTrack B c.args.track_id)
     (λ t g. track_holds B c.args.track_id movie c.in-Some-2.trak t is h g) c.read_trak.ensures.value
 

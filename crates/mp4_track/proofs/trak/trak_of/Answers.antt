@@ -3,13 +3,13 @@ use Rattle.std.specs.declared.option.Option.{Option}
 use Rattle.mp4_frame.specs.FourCC.{four_cc_of}
 use Rattle.mp4_frame.specs.declared.codes.TheConstants as codes
 use Rattle.mp4_frame.specs.declared.four_cc.FourCC.{FourCC}
-use Rattle.mp4_tree.specs.declared.tree_box.TreeBox.{TreeBox}
+use Rattle.mp4_walk.specs.declared.tree_box.TreeBox.{TreeBox}
 use Rattle.mp4_track.specs.Levels.{Found, first_in, in_nth, tracks}
 use Rattle.mp4_track.specs.Paths.{first}
 use Rattle.mp4_track.specs.Tracks.{is_header}
 use Rattle.std.proofs.lemmas.Bool.{ltb-true, ltb-false}
 use Rattle.std.specs.Prelude.{nat_lt}
-use Rattle.mp4_track.proofs.Levels.{by_bool}
+use Rattle.mp4_lemmas.proofs.Booleans.{by_bool}
 use Rattle.mp4_track.proofs.Traks.{at_next, below_or, left_after, none_left}
 use Rattle.mp4_track.proofs.trak.trak_of.Goals as goal
 

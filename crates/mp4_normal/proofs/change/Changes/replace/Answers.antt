@@ -1,8 +1,10 @@
-use Rattle.std.proofs.Common.{ℕ, ◌+◌, ◌-◌, List, [], ◌∷◌, ◌++◌, length, ap, sym, subst, ◌∙◌, arith}
+use Rattle.std.proofs.Common.{ℕ, ◌+◌, ◌-◌, ◌≤◌, List, [], ◌∷◌, ◌++◌, length, ap, sym, subst, ◌∙◌, arith}
 use Rattle.std.specs.Cmp.Lexicographic.{same_text}
+use Rattle.std.proofs.Math.Nat.{le-max_left, le-max_right}
+use Rattle.mp4_lemmas.proofs.Lists.{same_rest}
 use Rattle.mp4_normal.specs.declared.change.Change.{Change}
 use Rattle.mp4_normal.specs.Changes.{InOrder, made_from, part}
-use Rattle.mp4_normal.proofs.Replaced.{same_made, same_order, same_rest, other_made, other_order, most_left, most_right}
+use Rattle.mp4_normal.proofs.Replaced.{same_made, same_order, other_made, other_order}
 use Rattle.mp4_normal.proofs.change.Changes.replace.Goals as goal
 
 pub returns-then-eq-clause-made : goal.returns-then-eq-clause-made
@@ -32,8 +34,10 @@ returns-clause-before c =
     let all = c.len-to.ensures ∙ sym c.deref.ensures.len ∙ ap length c.deref.ensures.value in
     let x : Change = record { begin = c.args.begin; end = c.args.end; to = c.len-to.result } in
     let gone = c.args.self.now.gone + (c.args.end - c.args.begin) in
-    let wide = most_left c.args.self.now.growth c.saturating_sub.result c.max-self.result c.max-self.ensures in
-    let most = most_right c.args.self.now.growth c.saturating_sub.result c.max-self.result c.max-self.ensures in
+    let wide = subst (λ (n : ℕ). c.args.self.now.growth ≤ n) (sym c.max-self.ensures)
+    (le-max_left c.args.self.now.growth c.saturating_sub.result) in
+    let most = subst (λ (n : ℕ). c.saturating_sub.result ≤ n) (sym c.max-self.ensures)
+    (le-max_right c.args.self.now.growth c.saturating_sub.result) in
     let order = other_order c.args.self.now c.args.stream.now c.args.from c.args.begin c.args.end c.requires.fresh
     c.requires.order c.requires.before c.len-to.result all c.max-self.result wide
     (omega (arith, most, c.saturating_sub.ensures)) in

@@ -1,4 +1,4 @@
--- The runs so far end there.
+-- The runs before the current one end at `reached`.
 use Rattle.std.proofs.Common.{length, ◌-◌}
 use Rattle.mp4_samples.specs.FragmentPlaces.{IsReached}
 use Rattle.mp4_samples.proofs.fragment.Fragment.end.Given as goal

@@ -1,6 +1,7 @@
 use Rattle.std.proofs.Common.{ap, take, arith}
+use Rattle.std.proofs.Math.Nat.{mul-add}
 use Rattle.mp4_tables.specs.TrunRows.{row_flags, row_length}
-use Rattle.mp4_tables.proofs.TrunRows.{row_put, one_more}
+use Rattle.mp4_tables.proofs.TrunRows.{row_put}
 use Rattle.mp4_tables.proofs.trun.rows.put_rows_of.Goals as goal
 
 pub loop-i-preserved : goal.loop-i-preserved
@@ -17,7 +18,7 @@ loop-i-preserved g c =
         c.put_number-next.ensures.next,
         c.loop-i.invariant.next,
         length,
-        one_more (row_length (row_flags v.flags)) i,
+        mul-add (row_length (row_flags v.flags)) i 1,
       );
       written = rw (
         c.put_number-next.ensures.put,

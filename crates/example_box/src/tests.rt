@@ -1,0 +1,33 @@
+//! Tests of facts that no contract states: the bytes of boxes. They were worked out from the standards, not printed by
+//! this code.
+
+mod fiel;
+mod laws;
+mod lists;
+mod pdin;
+mod ssix;
+mod values;
+
+use mp4_stream::{ByteCursor, ReadBox, Result as Made, WriteBox};
+use std::alloc::Global;
+
+/// Reads the box with this `size` at the start of `bytes`, after its header of 8 bytes.
+pub(crate) fn read<B: ReadBox>(alloc: Global, bytes: &[u8], size: u64) -> Made<B> {
+    let mut reader = ByteCursor::new(bytes);
+    reader.set_position(8);
+    B::read_box(alloc, &mut reader, size)
+}
+
+/// Returns whether the box is written as `bytes` and read from them.
+pub(crate) fn is_in<B: ReadBox + WriteBox + PartialEq + Drop>(
+    alloc: Global,
+    made: Made<B>,
+    bytes: &[u8],
+) -> Made<bool> {
+    let value = made?;
+    let mut out = Vec::new(alloc);
+    let written = value.write_box(&mut out)?;
+    let found: B = read(alloc, bytes, bytes.len() as u64)?;
+    let length = bytes.len() as u64;
+    Ok(out.as_slice() == bytes && found == value && written == length && value.box_size() == length)
+}

@@ -1,0 +1,13 @@
+pub mod Fronts
+pub mod FrontLaws
+pub mod SampleEntry
+pub mod SampleEntryLaws
+pub mod HeldBoxes
+pub mod Container
+pub mod ContainerLaws
+pub mod DeclaredContainer
+pub mod DeclaredContainerLaws
+pub mod Child
+pub mod ChildShapeLaws
+pub mod Node
+pub mod NodeLaws

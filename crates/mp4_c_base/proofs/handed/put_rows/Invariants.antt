@@ -1,8 +1,0 @@
-use Rattle.std.proofs.Common.{◌≡◌, take, drop}
-use Rattle.mp4_c_base.proofs.handed.put_rows.Given as goal
-
-abbrev pub invariant-loop-index : goal.invariant-loop-index
-invariant-loop-index g l = record {
-  front : take l.index l.rows ≡ take l.index (g.V.Handed.rows l.value);
-  rest : drop l.index l.rows ≡ drop l.index l.initial.rows;
-}

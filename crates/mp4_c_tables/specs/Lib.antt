@@ -1,3 +1,0 @@
-pub mod Rows
-pub mod Fields
-pub mod Made

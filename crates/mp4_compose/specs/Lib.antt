@@ -1,0 +1,10 @@
+pub mod Stable
+pub mod Coded
+pub mod MemberLaws
+pub mod Either
+pub mod EitherLaws
+pub mod ChildBox
+pub mod ChildLaws
+pub mod Fronts
+pub mod Lossless
+pub mod LosslessLaws

@@ -1,0 +1,5 @@
+pub mod ExtraType
+pub mod ExtraTypeLaws
+pub mod ExtraBox
+pub mod ExtraBoxLaws
+pub mod AllBoxes

@@ -1,0 +1,59 @@
+//! The bit rate box.
+
+ghost use Rattle.mp4_extra_media.specs.declared.btrt.TheConstants.{BTRT};
+ghost use Rattle.std.proofs.Common.{refl, lit<};
+ghost use Rattle.mp4_stream.specs.Author.{layout_of};
+
+use mp4_stream::author::{Declared, DeclaredBox, Last, Shape, ShapeVisitor, U32};
+use mp4_stream::{Result, TryClone, box_of, parts_of};
+
+/// The code: `btrt`.
+pub const BTRT: u32 = 0x6274_7274;
+
+/// The bit rates of the media of a sample entry (`btrt`, ISO/IEC 14496-12, 8.5.2.2).
+#[derive(Clone, Copy, Debug, Drop, PartialEq, Eq)]
+pub struct Btrt {
+    /// The size of the decoding buffer for the elementary stream (`bufferSizeDB`), in bytes.
+    pub buffer_size_db: u32,
+    /// The largest rate over any window of one second (`maxBitrate`), in bits per second.
+    pub max_bitrate: u32,
+    /// The average rate over the whole presentation (`avgBitrate`), in bits per second.
+    pub avg_bitrate: u32,
+}
+
+/// The content of the box: three numbers.
+pub type BtrtShape = (U32, U32, Last<U32>);
+
+impl DeclaredBox for Btrt {
+    ghost use Rattle.mp4_extra_media.specs.contracts.btrt.Btrt.{struct};
+
+    type Shape = BtrtShape;
+
+    ghost CODE = { BTRT };
+
+    ghost layout = { layout_of struct (λ _. tt) (λ _. refl) (lit< tt) };
+
+    const CODE: u32 = BTRT;
+
+    fn from_content(found: <BtrtShape as Shape>::Value) -> Btrt {
+        box_of!(found => Btrt { buffer_size_db, max_bitrate, avg_bitrate })
+    }
+
+    fn visit<Q: ShapeVisitor<Self::Shape>>(&self, out: &mut [u8]) -> Q::Answer {
+        Q::visit(
+            parts_of!(self => buffer_size_db, max_bitrate, avg_bitrate),
+            out,
+        )
+    }
+
+    ghost valid = { refl };
+}
+
+impl TryClone for Btrt {
+    fn try_clone(&self) -> Result<Btrt> {
+        Ok(*self)
+    }
+}
+
+/// The bit rate box.
+pub type BtrtBox = Declared<Btrt>;

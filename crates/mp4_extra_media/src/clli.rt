@@ -1,0 +1,55 @@
+//! The content light level box.
+
+ghost use Rattle.mp4_extra_media.specs.declared.clli.TheConstants.{CLLI};
+ghost use Rattle.std.proofs.Common.{refl, lit<};
+ghost use Rattle.mp4_stream.specs.Author.{layout_of};
+
+use mp4_stream::author::{Declared, DeclaredBox, Last, Shape, ShapeVisitor, U16};
+use mp4_stream::{Result, TryClone, box_of, parts_of};
+
+/// The code: `clli`.
+pub const CLLI: u32 = 0x636c_6c69;
+
+/// The brightness of a video's pictures (`clli`, ISO/IEC 14496-12, 12.1.6).
+#[derive(Clone, Copy, Debug, Drop, PartialEq, Eq)]
+pub struct Clli {
+    /// The upper bound of the brightness of any pixel, in candelas per square metre; 0 if unknown.
+    pub max_content_light_level: u16,
+    /// The upper bound of the average brightness of any picture, in candelas per square metre; 0 if unknown.
+    pub max_pic_average_light_level: u16,
+}
+
+/// The content of the box: two numbers.
+pub type ClliShape = (U16, Last<U16>);
+
+impl DeclaredBox for Clli {
+    ghost use Rattle.mp4_extra_media.specs.contracts.clli.Clli.{struct};
+
+    type Shape = ClliShape;
+
+    ghost CODE = { CLLI };
+
+    ghost layout = { layout_of struct (λ _. tt) (λ _. refl) (lit< tt) };
+
+    const CODE: u32 = CLLI;
+
+    fn from_content(found: <ClliShape as Shape>::Value) -> Clli {
+        box_of!(found => Clli { max_content_light_level, max_pic_average_light_level })
+    }
+
+    fn visit<Q: ShapeVisitor<Self::Shape>>(&self, out: &mut [u8]) -> Q::Answer {
+        let parts = parts_of!(self => max_content_light_level, max_pic_average_light_level);
+        Q::visit(parts, out)
+    }
+
+    ghost valid = { refl };
+}
+
+impl TryClone for Clli {
+    fn try_clone(&self) -> Result<Clli> {
+        Ok(*self)
+    }
+}
+
+/// The content light level box.
+pub type ClliBox = Declared<Clli>;

@@ -1,0 +1,75 @@
+//! The Opus specific box.
+
+ghost use Rattle.mp4_extra_media.specs.declared.dops.TheConstants.{DOPS};
+ghost use Rattle.std.proofs.Common.{refl, lit<};
+ghost use Rattle.mp4_stream.specs.Author.{layout_of};
+
+use mp4_stream::author::{
+    Declared, DeclaredBox, I16, Last, Rest, Shape, ShapeVisitor, U8, U16, U32,
+};
+use mp4_stream::{Entries, Result, TryClone, box_of, parts_of};
+
+/// The code: `dOps`.
+pub const DOPS: u32 = 0x644f_7073;
+
+/// The configuration of an Opus decoder (`dOps`, Encapsulation of Opus in ISO Base Media File Format, 4.3.2).
+#[derive(Debug, Drop, PartialEq, Eq)]
+pub struct Dops {
+    /// 0 in the standard.
+    pub version: u8,
+    /// The number of channels (`OutputChannelCount`).
+    pub output_channel_count: u8,
+    /// The number of decoded samples to discard at the start, at 48,000 Hz (`PreSkip`).
+    pub pre_skip: u16,
+    /// The sample rate of the original audio, in Hz (`InputSampleRate`); 0 if it is unknown.
+    pub input_sample_rate: u32,
+    /// The gain to apply when playing, in units of 1/256 decibel (`OutputGain`).
+    pub output_gain: i16,
+    /// The meaning of the channels (`ChannelMappingFamily`). 0 for one or two channels without a mapping.
+    pub channel_mapping_family: u8,
+    /// The mapping in families other than 0, empty in family 0. It has a byte with the number of streams
+    /// (`StreamCount`), a byte with the number of streams with two channels (`CoupledCount`), and a byte for each
+    /// channel (`ChannelMapping`).
+    pub channel_mapping: Entries<u8>,
+}
+
+/// The content of the box: six numbers, and bytes up to its end.
+pub type DopsShape = (U8, U8, U16, U32, (I16, U8, Last<Rest>));
+
+impl DeclaredBox for Dops {
+    ghost use Rattle.mp4_extra_media.specs.contracts.dops.Dops.{struct};
+
+    type Shape = DopsShape;
+
+    ghost CODE = { DOPS };
+
+    ghost layout = { layout_of struct (λ _. tt) (λ _. refl) (lit< tt) };
+
+    const CODE: u32 = DOPS;
+
+    fn from_content(found: <DopsShape as Shape>::Value) -> Dops {
+        box_of!(found => Dops { version, output_channel_count, pre_skip, input_sample_rate,
+            output_gain, channel_mapping_family, channel_mapping })
+    }
+
+    fn visit<Q: ShapeVisitor<Self::Shape>>(&self, out: &mut [u8]) -> Q::Answer {
+        let parts = parts_of!(self => version, output_channel_count, pre_skip, input_sample_rate,
+            output_gain, channel_mapping_family, channel_mapping.as_slice());
+        Q::visit(parts, out)
+    }
+
+    ghost valid = { refl };
+}
+
+impl TryClone for Dops {
+    fn try_clone(&self) -> Result<Dops> {
+        let channel_mapping = self.channel_mapping.try_clone()?;
+        Ok(Dops {
+            channel_mapping,
+            ..*self
+        })
+    }
+}
+
+/// The Opus specific box.
+pub type DopsBox = Declared<Dops>;

@@ -1,0 +1,55 @@
+//! The pixel aspect ratio box.
+
+ghost use Rattle.mp4_extra_media.specs.declared.pasp.TheConstants.{PASP};
+ghost use Rattle.std.proofs.Common.{refl, lit<};
+ghost use Rattle.mp4_stream.specs.Author.{layout_of};
+
+use mp4_stream::author::{Declared, DeclaredBox, Last, Shape, ShapeVisitor, U32};
+use mp4_stream::{Result, TryClone, box_of, parts_of};
+
+/// The code: `pasp`.
+pub const PASP: u32 = 0x7061_7370;
+
+/// The aspect ratio of a video's pixels (`pasp`, ISO/IEC 14496-12, 12.1.4): width to height is `h_spacing` to
+/// `v_spacing`.
+#[derive(Clone, Copy, Debug, Drop, PartialEq, Eq)]
+pub struct Pasp {
+    /// The relative width of a pixel (`hSpacing`).
+    pub h_spacing: u32,
+    /// The relative height of a pixel (`vSpacing`).
+    pub v_spacing: u32,
+}
+
+/// The content of the box: two numbers.
+pub type PaspShape = (U32, Last<U32>);
+
+impl DeclaredBox for Pasp {
+    ghost use Rattle.mp4_extra_media.specs.contracts.pasp.Pasp.{struct};
+
+    type Shape = PaspShape;
+
+    ghost CODE = { PASP };
+
+    ghost layout = { layout_of struct (λ _. tt) (λ _. refl) (lit< tt) };
+
+    const CODE: u32 = PASP;
+
+    fn from_content(found: <PaspShape as Shape>::Value) -> Pasp {
+        box_of!(found => Pasp { h_spacing, v_spacing })
+    }
+
+    fn visit<Q: ShapeVisitor<Self::Shape>>(&self, out: &mut [u8]) -> Q::Answer {
+        Q::visit(parts_of!(self => h_spacing, v_spacing), out)
+    }
+
+    ghost valid = { refl };
+}
+
+impl TryClone for Pasp {
+    fn try_clone(&self) -> Result<Pasp> {
+        Ok(*self)
+    }
+}
+
+/// The pixel aspect ratio box.
+pub type PaspBox = Declared<Pasp>;

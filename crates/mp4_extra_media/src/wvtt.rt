@@ -1,0 +1,56 @@
+//! The sample entry of WebVTT.
+
+ghost use Rattle.mp4_extra_media.specs.declared.wvtt.TheConstants.{WVTT};
+ghost use Rattle.mp4_stream.specs.Author.{layout_of, refl, lit<};
+
+use mp4_stream::Result;
+use mp4_stream::declaring::*;
+
+/// The code: `wvtt`.
+pub const WVTT: u32 = 0x7776_7474;
+
+/// The sample entry of WebVTT (`wvtt`, ISO/IEC 14496-30, 7.5).
+#[derive(Debug, Drop, PartialEq, Eq)]
+pub struct Wvtt {
+    /// The number of the data reference that holds the samples, starting at 1.
+    pub data_reference_index: u16,
+    /// The bytes of the boxes inside: the text before the first cue (`vttC`), and optionally the source of the text
+    /// (`vlab`) and its bit rates (`btrt`).
+    pub boxes: Entries<u8>,
+}
+
+/// The content of the box: six reserved bytes, a number, and bytes up to its end.
+pub type WvttShape = Reserved<6, (U16, Last<Rest>)>;
+
+impl DeclaredBox for Wvtt {
+    ghost use Rattle.mp4_extra_media.specs.contracts.wvtt.Wvtt.{struct};
+
+    type Shape = WvttShape;
+
+    ghost CODE = { WVTT };
+
+    ghost layout = { layout_of struct (λ _. tt) (λ _. refl) (lit< tt) };
+
+    const CODE: u32 = WVTT;
+
+    fn from_content(found: <WvttShape as Shape>::Value) -> Wvtt {
+        box_of!(found => Wvtt { data_reference_index, boxes })
+    }
+
+    fn visit<Q: ShapeVisitor<Self::Shape>>(&self, out: &mut [u8]) -> Q::Answer {
+        let parts = parts_of!(self => data_reference_index, boxes.as_slice());
+        Q::visit(parts, out)
+    }
+
+    ghost valid = { refl };
+}
+
+impl TryClone for Wvtt {
+    fn try_clone(&self) -> Result<Wvtt> {
+        let boxes = self.boxes.try_clone()?;
+        Ok(Wvtt { boxes, ..*self })
+    }
+}
+
+/// The sample entry of WebVTT.
+pub type WvttBox = Declared<Wvtt>;

@@ -1,0 +1,64 @@
+//! The sample encryption box.
+
+ghost use Rattle.mp4_extra_samples.specs.declared.senc.TheConstants.{SENC};
+ghost use Rattle.std.proofs.Common.{refl, lit<};
+ghost use Rattle.mp4_stream.specs.Author.{layout_of};
+
+use mp4_stream::author::{Declared, DeclaredBox, Full, Last, Rest, Shape, ShapeVisitor, U32};
+use mp4_stream::{Entries, Result, TryClone, box_of, parts_of};
+
+/// The code: `senc`.
+pub const SENC: u32 = 0x7365_6e63;
+
+/// The encryption parameters of each sample (`senc`, ISO/IEC 23001-7, 7.2.1).
+#[derive(Debug, Drop, PartialEq, Eq)]
+pub struct Senc {
+    /// 0 in the standard.
+    pub version: u8,
+    /// 24 bits. Flag 2 means that each sample has a list of parts, each with a number of clear and of encrypted bytes.
+    pub flags: u32,
+    /// The number of samples.
+    pub sample_count: u32,
+    /// The bytes of the samples' parameters. Each sample has an initialization vector (`InitializationVector`) of the
+    /// size that the `tenc` or the sample group gives. If flag 2 is set, a count of 16 bits (`subsample_count`) and
+    /// that many parts follow, each of 16 bits (`BytesOfClearData`) and 32 bits (`BytesOfProtectedData`).
+    pub samples: Entries<u8>,
+}
+
+/// The content of the box: version, flags, a number, and bytes up to its end.
+pub type SencShape = Full<1, (U32, Last<Rest>)>;
+
+impl DeclaredBox for Senc {
+    ghost use Rattle.mp4_extra_samples.specs.contracts.senc.Senc.{struct};
+
+    type Shape = SencShape;
+
+    ghost CODE = { SENC };
+
+    ghost layout = { layout_of struct (λ _. tt) (λ _. refl) (lit< tt) };
+
+    const CODE: u32 = SENC;
+
+    fn from_content(found: <SencShape as Shape>::Value) -> Senc {
+        box_of!(found => Senc { version, flags, sample_count, samples })
+    }
+
+    fn visit<Q: ShapeVisitor<Self::Shape>>(&self, out: &mut [u8]) -> Q::Answer {
+        Q::visit(
+            parts_of!(self => version, flags, sample_count, samples.as_slice()),
+            out,
+        )
+    }
+
+    ghost valid = { refl };
+}
+
+impl TryClone for Senc {
+    fn try_clone(&self) -> Result<Senc> {
+        let samples = self.samples.try_clone()?;
+        Ok(Senc { samples, ..*self })
+    }
+}
+
+/// The sample encryption box.
+pub type SencBox = Declared<Senc>;

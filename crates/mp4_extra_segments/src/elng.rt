@@ -1,0 +1,63 @@
+//! The extended language box.
+
+ghost use Rattle.mp4_extra_segments.specs.declared.elng.TheConstants.{ELNG};
+ghost use Rattle.std.proofs.Common.{refl, lit<};
+ghost use Rattle.mp4_stream.specs.Author.{layout_of};
+
+use mp4_stream::author::{Declared, DeclaredBox, Full, Last, Rest, Shape, ShapeVisitor};
+use mp4_stream::{Entries, Result, TryClone, box_of, parts_of};
+
+/// The code: `elng`.
+pub const ELNG: u32 = 0x656c_6e67;
+
+/// The language of a track's media (`elng`, ISO/IEC 14496-12, 8.4.6).
+#[derive(Debug, Drop, PartialEq, Eq)]
+pub struct Elng {
+    /// 0 in the standard.
+    pub version: u8,
+    /// 24 bits, 0 in the standard.
+    pub flags: u32,
+    /// A BCP 47 tag such as `en-US`, in UTF-8, including the zero byte that ends it.
+    pub extended_language: Entries<u8>,
+}
+
+/// The content of the box: version, flags, and bytes up to its end.
+pub type ElngShape = Full<1, Last<Rest>>;
+
+impl DeclaredBox for Elng {
+    ghost use Rattle.mp4_extra_segments.specs.contracts.elng.Elng.{struct};
+
+    type Shape = ElngShape;
+
+    ghost CODE = { ELNG };
+
+    ghost layout = { layout_of struct (λ _. tt) (λ _. refl) (lit< tt) };
+
+    const CODE: u32 = ELNG;
+
+    fn from_content(found: <ElngShape as Shape>::Value) -> Elng {
+        box_of!(found => Elng { version, flags, extended_language })
+    }
+
+    fn visit<Q: ShapeVisitor<Self::Shape>>(&self, out: &mut [u8]) -> Q::Answer {
+        Q::visit(
+            parts_of!(self => version, flags, extended_language.as_slice()),
+            out,
+        )
+    }
+
+    ghost valid = { refl };
+}
+
+impl TryClone for Elng {
+    fn try_clone(&self) -> Result<Elng> {
+        let extended_language = self.extended_language.try_clone()?;
+        Ok(Elng {
+            extended_language,
+            ..*self
+        })
+    }
+}
+
+/// The extended language box.
+pub type ElngBox = Declared<Elng>;

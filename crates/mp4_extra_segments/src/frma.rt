@@ -1,0 +1,53 @@
+//! The original format box.
+
+ghost use Rattle.mp4_extra_segments.specs.declared.frma.TheConstants.{FRMA};
+ghost use Rattle.std.proofs.Common.{refl, lit<};
+ghost use Rattle.mp4_stream.specs.Author.{layout_of};
+
+use mp4_declared::Code;
+use mp4_stream::author::{Declared, DeclaredBox, Last, Shape, ShapeVisitor};
+use mp4_stream::{FourCC, Result, TryClone, box_of, parts_of};
+
+/// The code: `frma`.
+pub const FRMA: u32 = 0x6672_6d61;
+
+/// The format of media before a transformation such as encryption (`frma`, ISO/IEC 14496-12, 8.12.2).
+#[derive(Clone, Copy, Debug, Drop, PartialEq, Eq)]
+pub struct Frma {
+    /// The code of the sample entry without the transformation, such as `avc1`.
+    pub data_format: FourCC,
+}
+
+/// The content of the box: a code.
+pub type FrmaShape = Last<Code>;
+
+impl DeclaredBox for Frma {
+    ghost use Rattle.mp4_extra_segments.specs.contracts.frma.Frma.{struct};
+
+    type Shape = FrmaShape;
+
+    ghost CODE = { FRMA };
+
+    ghost layout = { layout_of struct (λ _. tt) (λ _. refl) (lit< tt) };
+
+    const CODE: u32 = FRMA;
+
+    fn from_content(found: <FrmaShape as Shape>::Value) -> Frma {
+        box_of!(found => Frma { data_format })
+    }
+
+    fn visit<Q: ShapeVisitor<Self::Shape>>(&self, out: &mut [u8]) -> Q::Answer {
+        Q::visit(parts_of!(self => data_format), out)
+    }
+
+    ghost valid = { refl };
+}
+
+impl TryClone for Frma {
+    fn try_clone(&self) -> Result<Frma> {
+        Ok(*self)
+    }
+}
+
+/// The original format box.
+pub type FrmaBox = Declared<Frma>;

@@ -1,0 +1,65 @@
+//! The track kind box.
+
+ghost use Rattle.mp4_extra_segments.specs.declared.kind.TheConstants.{KIND};
+ghost use Rattle.mp4_stream.specs.Author.{layout_of, refl, lit<};
+
+use mp4_stream::Result;
+use mp4_stream::declaring::*;
+
+/// The code: `kind`.
+pub const KIND: u32 = 0x6b69_6e64;
+
+/// The role of a track (`kind`, ISO/IEC 14496-12, 8.10.4). In the standard, strings are UTF-8 without a zero byte.
+#[derive(Debug, Drop, PartialEq, Eq)]
+pub struct Kind {
+    /// 0 in the standard.
+    pub version: u8,
+    /// 24 bits, 0 in the standard.
+    pub flags: u32,
+    /// The URI of the scheme that defines `value`, such as `urn:mpeg:dash:role:2011` (`schemeURI`). If `value` is
+    /// empty, the URI identifies the role itself.
+    pub scheme_uri: Entries<u8>,
+    /// The role in that scheme, such as `main`.
+    pub value: Entries<u8>,
+}
+
+/// The content of the box: version, flags, and two strings, each ended by a zero byte.
+pub type KindShape = Full<1, (Terminated, Last<Terminated>)>;
+
+impl DeclaredBox for Kind {
+    ghost use Rattle.mp4_extra_segments.specs.contracts.kind.Kind.{struct};
+
+    type Shape = KindShape;
+
+    ghost CODE = { KIND };
+
+    ghost layout = { layout_of struct (λ _. tt) (λ _. refl) (lit< tt) };
+
+    const CODE: u32 = KIND;
+
+    fn from_content(found: <KindShape as Shape>::Value) -> Kind {
+        box_of!(found => Kind { version, flags, scheme_uri, value })
+    }
+
+    fn visit<Q: ShapeVisitor<Self::Shape>>(&self, out: &mut [u8]) -> Q::Answer {
+        let parts = parts_of!(self => version, flags, scheme_uri.as_slice(), value.as_slice());
+        Q::visit(parts, out)
+    }
+
+    ghost valid = { refl };
+}
+
+impl TryClone for Kind {
+    fn try_clone(&self) -> Result<Kind> {
+        let scheme_uri = self.scheme_uri.try_clone()?;
+        let value = self.value.try_clone()?;
+        Ok(Kind {
+            scheme_uri,
+            value,
+            ..*self
+        })
+    }
+}
+
+/// The track kind box.
+pub type KindBox = Declared<Kind>;

@@ -1,0 +1,54 @@
+//! The null media header box.
+
+ghost use Rattle.mp4_extra_segments.specs.declared.nmhd.TheConstants.{NMHD};
+ghost use Rattle.std.proofs.Common.{refl, lit<};
+ghost use Rattle.mp4_stream.specs.Author.{layout_of};
+
+use mp4_stream::author::{Declared, DeclaredBox, Full, Shape, ShapeVisitor, Zeros};
+use mp4_stream::{Result, TryClone, box_of, parts_of};
+
+/// The code: `nmhd`.
+pub const NMHD: u32 = 0x6e6d_6864;
+
+/// The media header of tracks whose type of media defines no other (`nmhd`, ISO/IEC 14496-12, 8.4.5.2).
+#[derive(Clone, Copy, Debug, Drop, PartialEq, Eq)]
+pub struct Nmhd {
+    /// 0 in the standard.
+    pub version: u8,
+    /// 24 bits, 0 in the standard.
+    pub flags: u32,
+}
+
+/// The content of the box: version and flags.
+pub type NmhdShape = Full<1, Zeros<0>>;
+
+impl DeclaredBox for Nmhd {
+    ghost use Rattle.mp4_extra_segments.specs.contracts.nmhd.Nmhd.{struct};
+
+    type Shape = NmhdShape;
+
+    ghost CODE = { NMHD };
+
+    ghost layout = { layout_of struct (λ _. tt) (λ _. refl) (lit< tt) };
+
+    const CODE: u32 = NMHD;
+
+    fn from_content(found: <NmhdShape as Shape>::Value) -> Nmhd {
+        box_of!(found => Nmhd { version, flags })
+    }
+
+    fn visit<Q: ShapeVisitor<Self::Shape>>(&self, out: &mut [u8]) -> Q::Answer {
+        Q::visit(parts_of!(self => version, flags), out)
+    }
+
+    ghost valid = { refl };
+}
+
+impl TryClone for Nmhd {
+    fn try_clone(&self) -> Result<Nmhd> {
+        Ok(*self)
+    }
+}
+
+/// The null media header box.
+pub type NmhdBox = Declared<Nmhd>;

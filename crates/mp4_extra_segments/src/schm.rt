@@ -1,0 +1,76 @@
+//! The scheme type box.
+
+ghost use Rattle.mp4_extra_segments.specs.declared.schm.TheConstants.{SCHM};
+ghost use Rattle.std.proofs.Common.{refl, lit<};
+ghost use Rattle.mp4_stream.specs.Author.{layout_of};
+
+use mp4_declared::Code;
+use mp4_stream::author::{
+    Declared, DeclaredBox, Full, If, IfFlags, Last, Rest, Shape, ShapeVisitor, U32,
+};
+use mp4_stream::{Entries, FourCC, Result, TryClone, box_of, parts_of};
+
+/// The code: `schm`.
+pub const SCHM: u32 = 0x7363_686d;
+
+/// The scheme that protects the media (`schm`, ISO/IEC 14496-12, 8.12.5).
+#[derive(Debug, Drop, PartialEq, Eq)]
+pub struct Schm {
+    /// 0 in the standard.
+    pub version: u8,
+    /// 24 bits. Flag 1 means that `scheme_uri` is present.
+    pub flags: u32,
+    /// The scheme, such as `cenc` or `cbcs`.
+    pub scheme_type: FourCC,
+    /// The version of the scheme: 0x10000 for the schemes of ISO/IEC 23001-7.
+    pub scheme_version: u32,
+    /// The URI of a page for users whose player lacks the scheme, in UTF-8, including the zero byte that ends it.
+    /// `None` unless flag 1 is set.
+    pub scheme_uri: Option<Entries<u8>>,
+}
+
+/// The content of the box: version, flags, a code, a number, and bytes up to its end if flag 1 is set.
+pub type SchmShape = Full<1, (Code, U32, Last<If<IfFlags<1>, Rest>>)>;
+
+impl DeclaredBox for Schm {
+    ghost use Rattle.mp4_extra_segments.specs.contracts.schm.Schm.{struct};
+
+    type Shape = SchmShape;
+
+    ghost CODE = { SCHM };
+
+    ghost layout = { layout_of struct (λ _. tt) (λ _. refl) (lit< tt) };
+
+    const CODE: u32 = SCHM;
+
+    fn from_content(found: <SchmShape as Shape>::Value) -> Schm {
+        box_of!(found => Schm { version, flags, scheme_type, scheme_version, scheme_uri })
+    }
+
+    fn visit<Q: ShapeVisitor<Self::Shape>>(&self, out: &mut [u8]) -> Q::Answer {
+        let scheme_uri = match &self.scheme_uri {
+            Some(scheme_uri) => Some(scheme_uri.as_slice()),
+            None => None,
+        };
+        let parts = parts_of!(self => version, flags, scheme_type, scheme_version, = scheme_uri);
+        Q::visit(parts, out)
+    }
+
+    ghost valid = { refl };
+}
+
+impl TryClone for Schm {
+    fn try_clone(&self) -> Result<Schm> {
+        let scheme_uri = match &self.scheme_uri {
+            Some(scheme_uri) => Some(scheme_uri.try_clone()?),
+            None => None,
+        };
+        Ok(Schm {
+            scheme_uri,
+            ..*self
+        })
+    }
+}
+
+/// The scheme type box.
+pub type SchmBox = Declared<Schm>;

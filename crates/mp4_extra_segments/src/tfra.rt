@@ -1,0 +1,109 @@
+//! The track fragment random access box.
+
+ghost use Rattle.mp4_extra_segments.specs.declared.tfra.TheConstants.{TFRA, WIDTHS};
+ghost use Rattle.std.proofs.Common.{refl, lit<};
+ghost use Rattle.mp4_stream.specs.Author.{layout_of, packed, fields_of};
+
+use mp4_stream::author::{
+    Bits, Declared, DeclaredBox, EntryLayout, Full, Last, Rest, Shape, ShapeVisitor, U32,
+};
+use mp4_stream::{Entries, Result, TryClone, box_of, entry_of, numbers_of, parts_of};
+
+/// The code: `tfra`.
+pub const TFRA: u32 = 0x7466_7261;
+
+/// The numbers of bytes of three fields in each entry of a `tfra`, each minus one.
+#[derive(Clone, Copy, Debug, Default, PartialEq, Eq)]
+pub struct TfraLengths {
+    /// 0 in the standard. 26 bits.
+    pub reserved: u32,
+    /// The number of bytes of `traf_number`, minus one. 2 bits.
+    pub length_size_of_traf_num: u8,
+    /// The number of bytes of `trun_number`, minus one. 2 bits.
+    pub length_size_of_trun_num: u8,
+    /// The number of bytes of `sample_number`, minus one. 2 bits.
+    pub length_size_of_sample_num: u8,
+}
+
+/// The widths of the fields, in bits.
+const WIDTHS: [u8; 4] = [26, 2, 2, 2];
+
+impl EntryLayout<4, 4> for TfraLengths {
+    ghost use Rattle.mp4_extra_segments.specs.contracts.tfra.TfraLengths.{struct};
+
+    ghost layout = { packed (fields_of WIDTHS) struct.as_values (λ v. struct.make v tt) (λ _. refl) (λ _. refl) refl };
+
+    fn widths() -> [u8; 4] {
+        WIDTHS
+    }
+
+    fn numbers(&self) -> [u64; 4] {
+        numbers_of!(self => reserved, length_size_of_traf_num, length_size_of_trun_num, length_size_of_sample_num)
+    }
+
+    fn from_numbers(n: &[u64; 4]) -> TfraLengths {
+        entry_of!(n => TfraLengths { reserved: u32, length_size_of_traf_num: u8, length_size_of_trun_num: u8,
+            length_size_of_sample_num: u8 })
+    }
+
+    ghost few = { lit< tt };
+}
+
+/// The positions of a track's random access samples in fragments (`tfra`, ISO/IEC 14496-12, 8.8.10).
+#[derive(Debug, Drop, PartialEq, Eq)]
+pub struct Tfra {
+    /// 0, or 1 for times and offsets of 64 bits.
+    pub version: u8,
+    /// 24 bits, 0 in the standard.
+    pub flags: u32,
+    /// The track (`track_ID`).
+    pub track_id: u32,
+    /// The sizes of the numbers in each entry.
+    pub lengths: TfraLengths,
+    /// The number of entries.
+    pub number_of_entry: u32,
+    /// The bytes of the entries, one for each random access sample. The fields are:
+    ///
+    /// - the presentation time of the sample (`time`) and the offset of its `moof` in the file (`moof_offset`), 32 bits
+    ///   each in version 0, 64 bits each in version 1,
+    /// - the number of the `traf` in the `moof` (`traf_number`), of the `trun` in the `traf` (`trun_number`), and of
+    ///   the sample in the `trun` (`sample_number`). They start at 1, and `lengths` gives their sizes.
+    pub entries: Entries<u8>,
+}
+
+/// The content of the box: version, flags, a number, four bytes of bits, a number, and bytes up to its end.
+pub type TfraShape = Full<2, (U32, Bits<TfraLengths, 4, 4>, U32, Last<Rest>)>;
+
+impl DeclaredBox for Tfra {
+    ghost use Rattle.mp4_extra_segments.specs.contracts.tfra.Tfra.{struct};
+
+    type Shape = TfraShape;
+
+    ghost CODE = { TFRA };
+
+    ghost layout = { layout_of struct (λ _. tt) (λ _. refl) (lit< tt) };
+
+    const CODE: u32 = TFRA;
+
+    fn from_content(found: <TfraShape as Shape>::Value) -> Tfra {
+        box_of!(found => Tfra { version, flags, track_id, lengths, number_of_entry, entries })
+    }
+
+    fn visit<Q: ShapeVisitor<Self::Shape>>(&self, out: &mut [u8]) -> Q::Answer {
+        let parts = parts_of!(self => version, flags, track_id, lengths, number_of_entry,
+            entries.as_slice());
+        Q::visit(parts, out)
+    }
+
+    ghost valid = { refl };
+}
+
+impl TryClone for Tfra {
+    fn try_clone(&self) -> Result<Tfra> {
+        let entries = self.entries.try_clone()?;
+        Ok(Tfra { entries, ..*self })
+    }
+}
+
+/// The track fragment random access box.
+pub type TfraBox = Declared<Tfra>;

@@ -1,0 +1,104 @@
+//! The track reference box.
+
+ghost use Rattle.mp4_extra_segments.specs.declared.tref.TheConstants.{TREF};
+ghost use Rattle.std.proofs.Common.{refl, lit<};
+ghost use Rattle.mp4_stream.specs.Author.{layout_of, exact_layout_of};
+
+use mp4_declared::{Code, Numbers, WithSize, clone_each};
+use mp4_stream::author::{
+    Declared, DeclaredBox, DeclaredEntry, EachToEnd, EntryVisitor, Last, Shape, ShapeVisitor,
+};
+use mp4_stream::{Entries, FourCC, Result, TryClone, box_of, parts_of};
+
+/// The code: `tref`.
+pub const TREF: u32 = 0x7472_6566;
+
+/// The tracks that a track refers to by one type of reference. In the file it is a box whose code is the type.
+#[derive(Debug, Drop, PartialEq, Eq)]
+pub struct TrackReference {
+    /// The role of the referenced tracks. Known codes are below; any other code is possible.
+    ///
+    /// - ISO/IEC 14496-12: `hint` for the media of a hint track, `cdsc` for the tracks that this one describes, `font`
+    ///   for fonts, `hind` for media that may be hinted, `vdep` for the depth and `vplx` for the parallax of a video,
+    ///   `subt` for subtitles.
+    /// - QuickTime: `chap` for chapters, `sync` for a timecode, `scpt` for a transcript, `ssrc` for a source of another
+    ///   media type.
+    /// - ISO/IEC 14496-14: `mpod`, `dpnd`, `ipir` and `sync` for elementary streams.
+    /// - iTunes: `folw` for the track to show next.
+    pub reference_type: FourCC,
+    /// The `track_ID`s of the referenced tracks, none of which is 0 in the standard.
+    pub track_ids: Entries<u32>,
+}
+
+/// The layout of a reference: a size, a code, and numbers of 32 bits up to the end that the size gives.
+pub type TrackReferenceShape = WithSize<(Code, Last<Numbers>)>;
+
+impl DeclaredEntry for TrackReference {
+    ghost use Rattle.mp4_extra_segments.specs.contracts.tref.TrackReference.{struct};
+
+    type Shape = TrackReferenceShape;
+
+    ghost layout = { exact_layout_of struct (λ _. tt) (λ _. refl) };
+
+    fn from_content(found: <TrackReferenceShape as Shape>::Value) -> TrackReference {
+        box_of!(found => TrackReference { reference_type, track_ids })
+    }
+
+    fn visit<Q: EntryVisitor<Self::Shape>>(&self, question: Q, out: &mut [u8]) -> Q::Answer {
+        question.visit(parts_of!(self => reference_type, track_ids.as_slice()), out)
+    }
+
+    ghost begins = { λ _. lit< tt };
+}
+
+impl TryClone for TrackReference {
+    fn try_clone(&self) -> Result<TrackReference> {
+        Ok(TrackReference {
+            reference_type: self.reference_type,
+            track_ids: self.track_ids.try_clone()?,
+        })
+    }
+}
+
+/// The references of a track to other tracks (`tref`, ISO/IEC 14496-12, 8.3.3).
+#[derive(Debug, Drop, PartialEq, Eq)]
+pub struct Tref {
+    /// The references. The standard allows at most one of each type.
+    pub references: Entries<TrackReference>,
+}
+
+/// The content of the box: references up to its end.
+pub type TrefShape = Last<EachToEnd<TrackReference>>;
+
+impl DeclaredBox for Tref {
+    ghost use Rattle.mp4_extra_segments.specs.contracts.tref.Tref.{struct};
+
+    type Shape = TrefShape;
+
+    ghost CODE = { TREF };
+
+    ghost layout = { layout_of struct (λ _. tt) (λ _. refl) (lit< tt) };
+
+    const CODE: u32 = TREF;
+
+    fn from_content(found: <TrefShape as Shape>::Value) -> Tref {
+        box_of!(found => Tref { references })
+    }
+
+    fn visit<Q: ShapeVisitor<Self::Shape>>(&self, out: &mut [u8]) -> Q::Answer {
+        Q::visit(parts_of!(self => references.as_slice()), out)
+    }
+
+    ghost valid = { refl };
+}
+
+impl TryClone for Tref {
+    fn try_clone(&self) -> Result<Tref> {
+        let alloc = *self.references.allocator();
+        let references = clone_each(alloc, self.references.as_slice())?;
+        Ok(Tref { references })
+    }
+}
+
+/// The track reference box.
+pub type TrefBox = Declared<Tref>;

@@ -1,6 +1,0 @@
--- The list is begun, and its entries so far are whole.
-use Rattle.mp4_fields.specs.Nesting.{entries, Keeps}
-use Rattle.mp4_fields.proofs.fields.samples.put_stsc.Given as goal
-
-abbrev pub invariant-loop-entry : goal.invariant-loop-entry
-invariant-loop-entry g l = Keeps g.S.FieldSink.since entries l.initial.sink l.sink

@@ -1,0 +1,5 @@
+pub mod Lists
+pub mod Sums
+pub mod Booleans
+pub mod Numbers
+pub mod Outcomes

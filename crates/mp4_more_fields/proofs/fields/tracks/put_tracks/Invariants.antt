@@ -1,6 +1,0 @@
--- The list is begun, and its entries so far are whole.
-use Rattle.mp4_fields.specs.Nesting.{entries, Keeps}
-use Rattle.mp4_more_fields.proofs.fields.tracks.put_tracks.Given as goal
-
-abbrev pub invariant-loop-track_id : goal.invariant-loop-track_id
-invariant-loop-track_id g l = Keeps g.S.FieldSink.since entries l.initial.sink l.sink

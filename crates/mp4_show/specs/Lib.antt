@@ -1,0 +1,4 @@
+pub mod Tokens
+pub mod Escaped
+pub mod Nesting
+pub mod Language

@@ -1,0 +1,100 @@
+//! The fields of the boxes of a track: its header, its edits, its media's header and handler.
+
+ghost use Rattle.std.specs.Prelude.{OnOk};
+ghost use Rattle.mp4_show.specs.Nesting.{fields, entries, Keeps};
+
+use crate::brief::{put_full, put_named_handler};
+use crate::flag_names::{NONE, TRACK};
+use crate::language::language_value;
+use crate::sink::{FieldSink, Result, put_all};
+use crate::value::{Value, signed, signed_volume};
+use mp4_stream::{ElstBox, ElstEntry, HdlrBox, MdhdBox, TkhdBox};
+
+/// Track header (ISO/IEC 14496-12, 8.3.2).
+pub fn put_tkhd<S: FieldSink>(b: &TkhdBox, sink: &mut S) -> Result<()>
+    ensures nesting { OnOk result (Keeps S.since fields sink.old sink.new) }
+{
+    put_full(b.version, b.flags, TRACK, sink)?;
+    put_all(
+        &[
+            ("creation_time", Value::Date(b.creation_time)),
+            ("modification_time", Value::Date(b.modification_time)),
+            ("track_id", Value::Number(u64::from(b.track_id))),
+            ("duration", Value::Number(b.duration)),
+            ("layer", signed(b.layer)),
+            ("alternate_group", signed(b.alternate_group)),
+            ("volume", signed_volume(b.volume)),
+            ("matrix", Value::Matrix(&b.matrix)),
+            ("width", Value::Fixed(i64::from(b.width.raw_value()), 16)),
+            ("height", Value::Fixed(i64::from(b.height.raw_value()), 16)),
+        ],
+        sink,
+    )
+}
+
+/// Media header (ISO/IEC 14496-12, 8.4.2).
+pub fn put_mdhd<S: FieldSink>(b: &MdhdBox, sink: &mut S) -> Result<()>
+    ensures nesting { OnOk result (Keeps S.since fields sink.old sink.new) }
+{
+    put_full(b.version, b.flags, NONE, sink)?;
+    put_all(
+        &[
+            ("creation_time", Value::Date(b.creation_time)),
+            ("modification_time", Value::Date(b.modification_time)),
+            ("timescale", Value::Number(u64::from(b.timescale))),
+            ("duration", Value::Number(b.duration)),
+            ("language", language_value(b.language.as_str())),
+        ],
+        sink,
+    )
+}
+
+/// Handler reference (ISO/IEC 14496-12, 8.4.3).
+pub fn put_hdlr<S: FieldSink>(b: &HdlrBox, sink: &mut S) -> Result<()>
+    ensures nesting { OnOk result (Keeps S.since fields sink.old sink.new) }
+{
+    put_named_handler(b.version, b.flags, b.handler_type, b.name.as_bytes(), sink)
+}
+
+/// A media time with its sign: it has 32 bits in version 0, and 64 in version 1.
+fn signed_time(version: u8, media_time: u64) -> i64 {
+    if version == 0 {
+        match u32::try_from(media_time) {
+            Ok(time) => i64::from(time.cast_signed()),
+            Err(_) => media_time.cast_signed(),
+        }
+    } else {
+        media_time.cast_signed()
+    }
+}
+
+fn put_edit<S: FieldSink>(version: u8, edit: &ElstEntry, sink: &mut S) -> Result<()>
+    ensures nesting { OnOk result (Keeps S.since entries sink.old sink.new) }
+{
+    sink.begin_entry()?;
+    put_all(
+        &[
+            ("segment_duration", Value::Number(edit.segment_duration)),
+            (
+                "media_time",
+                Value::MediaTime(signed_time(version, edit.media_time)),
+            ),
+            ("media_rate", signed(edit.media_rate)),
+            ("media_rate_fraction", signed(edit.media_rate_fraction)),
+        ],
+        sink,
+    )?;
+    sink.end_entry()
+}
+
+/// Edit list (ISO/IEC 14496-12, 8.6.6).
+pub fn put_elst<S: FieldSink>(b: &ElstBox, sink: &mut S) -> Result<()>
+    ensures nesting { OnOk result (Keeps S.since fields sink.old sink.new) }
+{
+    put_full(b.version, b.flags, NONE, sink)?;
+    sink.begin_list("entries", b.entries.len())?;
+    for entry in b.entries.iter().take(sink.rows()) {
+        put_edit(b.version, entry, sink)?;
+    }
+    sink.end_list()
+}

@@ -1,0 +1,301 @@
+//! The text of a box: its line, and a line for each entry of its lists.
+
+use crate::look::Look;
+use crate::number::push_number;
+use crate::value_text::push_value;
+use crate::{FieldSink, Result, Value};
+use mp4_stream::Matrix;
+use std::alloc::Global;
+
+/// What comes before the next piece of a line.
+#[derive(Clone, Copy, Debug, PartialEq, Eq)]
+enum Before {
+    /// A space: it follows what begins the line.
+    Space,
+    /// A comma: it follows another piece.
+    Comma,
+    /// The end of the line: it follows the entries of a list.
+    Line,
+}
+
+/// A list whose entries are handed over.
+#[derive(Clone, Copy, Debug, PartialEq, Eq)]
+struct List {
+    /// How many entries it has.
+    total: usize,
+    /// How many of them are shown so far.
+    shown: usize,
+}
+
+/// Takes the fields of a box as text.
+#[derive(Drop)]
+pub struct TextSink {
+    alloc: Global,
+    text: String,
+    piece: String,
+    look: Look,
+    indent: usize,
+    column: usize,
+    before: Before,
+    /// The lists that are begun and not ended, each in an entry of the one before it.
+    lists: Vec<List>,
+}
+
+/// Appends a text in a colour, if colours are wanted. The colour is a number of ECMA-48, "select graphic rendition".
+pub fn push_colored(look: Look, text: &str, color: &str, out: &mut String) -> Result<()> {
+    if !look.color {
+        out.push_str(text)?;
+        return Ok(());
+    }
+    out.push_str("\u{1B}[")?;
+    out.push_str(color)?;
+    out.push('m')?;
+    out.push_str(text)?;
+    out.push_str("\u{1B}[0m")?;
+    Ok(())
+}
+
+/// How many columns a text takes: one a character.
+pub fn columns(text: &str) -> usize {
+    text.chars().count()
+}
+
+impl TextSink {
+    /// A sink of no text.
+    pub fn new(alloc: Global, look: Look) -> TextSink {
+        TextSink {
+            alloc,
+            text: String::new(alloc),
+            piece: String::new(alloc),
+            look,
+            indent: 0,
+            column: 0,
+            before: Before::Space,
+            lists: Vec::new(alloc),
+        }
+    }
+
+    /// Forgets all text. What follows is put into the line of a box at this depth, of which so many columns are taken.
+    pub fn begin(&mut self, depth: u64, column: usize) {
+        self.text.clear();
+        self.indent = 2 * depth.min(64) as usize;
+        self.column = column;
+        self.before = Before::Space;
+        self.lists.clear();
+    }
+
+    /// Ends the last line.
+    pub fn end(&mut self) -> Result<()> {
+        self.text.push('\n')?;
+        Ok(())
+    }
+
+    /// The text.
+    pub fn text(&self) -> &str {
+        self.text.as_str()
+    }
+
+    /// How it looks.
+    pub fn look(&self) -> Look {
+        self.look
+    }
+
+    /// Appends spaces at the front of a line.
+    fn spaces(&mut self, count: usize) -> Result<()> {
+        for _ in 0..count {
+            self.text.push(' ')?;
+        }
+        self.column = count;
+        Ok(())
+    }
+
+    /// Ends the line, and begins one that is so much further in than the box's.
+    fn next_line(&mut self, further: usize) -> Result<()> {
+        self.text.push('\n')?;
+        self.spaces(self.indent.saturating_add(further))
+    }
+
+    /// How much further in than the box's line those of the entries are, of the last list that is begun.
+    fn further(&self) -> usize {
+        self.lists.len().saturating_mul(4)
+    }
+
+    /// Appends a text that no line break comes before.
+    fn write(&mut self, text: &str) -> Result<()> {
+        self.text.push_str(text)?;
+        self.column = self.column.saturating_add(columns(text));
+        Ok(())
+    }
+
+    /// Appends a text in a colour, if colours are wanted.
+    fn colored(&mut self, text: &str, color: &str) -> Result<()> {
+        self.column = self.column.saturating_add(columns(text));
+        push_colored(self.look, text, color, &mut self.text)
+    }
+
+    /// Appends a piece after what is there, in a line of its own if this one has no room.
+    fn put(&mut self, text: &str) -> Result<()> {
+        let room = self.look.width.saturating_sub(self.column);
+        match self.before {
+            Before::Line => self.next_line(self.further().saturating_add(2))?,
+            Before::Space if room > columns(text) => self.write(" ")?,
+            Before::Space => self.next_line(self.further().max(4))?,
+            Before::Comma if room > columns(text).saturating_add(2) => self.write(", ")?,
+            Before::Comma => {
+                self.write(",")?;
+                self.next_line(self.further().max(4))?;
+            }
+        }
+        self.before = Before::Comma;
+        self.write(text)
+    }
+
+    /// Appends the piece that was made.
+    fn put_piece(&mut self) -> Result<()> {
+        let alloc = self.alloc;
+        let piece = std::mem::replace(&mut self.piece, String::new(alloc));
+        let done = self.put(piece.as_str());
+        self.piece = piece;
+        done
+    }
+
+    /// Appends some words in a colour, after a space.
+    pub fn words_colored(&mut self, text: &str, color: &str) -> Result<()> {
+        self.words("")?;
+        self.colored(text, color)
+    }
+
+    /// Appends some words, after a space.
+    pub fn words(&mut self, text: &str) -> Result<()> {
+        self.before = Before::Space;
+        self.put(text)?;
+        self.before = Before::Space;
+        Ok(())
+    }
+
+    /// Appends the piece that was made, as what begins a line.
+    fn write_piece(&mut self) -> Result<()> {
+        let alloc = self.alloc;
+        let piece = std::mem::replace(&mut self.piece, String::new(alloc));
+        let done = self.write(piece.as_str());
+        self.piece = piece;
+        done
+    }
+
+    /// Counts an entry of the last list that is begun. Returns which one it is, from 1 on.
+    fn count_entry(&mut self) -> usize {
+        match self.lists.last_mut() {
+            Some(list) => {
+                list.shown = list.shown.saturating_add(1);
+                list.shown
+            }
+            None => 0,
+        }
+    }
+
+    /// Begins the line of an entry.
+    fn entry_line(&mut self) -> Result<()> {
+        let entry = self.count_entry();
+        self.next_line(self.further())?;
+        self.piece.clear();
+        push_number(entry as u64, &mut self.piece)?;
+        self.piece.push(':')?;
+        self.before = Before::Space;
+        self.write_piece()
+    }
+
+    /// Appends a line that says how many entries of the last list aren't shown, so many.
+    fn more_line(&mut self, more: usize) -> Result<()> {
+        self.next_line(self.further())?;
+        self.piece.clear();
+        self.piece.push_str(".. ")?;
+        push_number(more as u64, &mut self.piece)?;
+        self.piece.push_str(" more")?;
+        self.write_piece()
+    }
+}
+
+/// Whether a value is left out of a text, since it is what it mostly is.
+fn is_usual(value: Value<'_>) -> bool {
+    match value {
+        Value::Matrix(matrix) => *matrix == Matrix::default(),
+        _ => false,
+    }
+}
+
+impl FieldSink for TextSink {
+    fn rows(&self) -> usize {
+        self.look.rows
+    }
+
+    fn wants_columns(&self) -> bool {
+        false
+    }
+
+    fn field(&mut self, name: &str, value: Value<'_>) -> Result<()> {
+        if is_usual(value) {
+            return Ok(());
+        }
+        self.piece.clear();
+        self.piece.push_str(name)?;
+        self.piece.push_str(": ")?;
+        push_value(self.alloc, value, &mut self.piece)?;
+        self.put_piece()
+    }
+
+    fn begin_list(&mut self, name: &str, total: usize) -> Result<()> {
+        self.piece.clear();
+        self.piece.push_str(name)?;
+        self.piece.push_str(": ")?;
+        push_number(total as u64, &mut self.piece)?;
+        self.put_piece()?;
+        self.lists.push(List { total, shown: 0 })?;
+        Ok(())
+    }
+
+    fn item(&mut self, value: Value<'_>) -> Result<()> {
+        self.entry_line()?;
+        self.piece.clear();
+        push_value(self.alloc, value, &mut self.piece)?;
+        self.put_piece()
+    }
+
+    fn begin_entry(&mut self) -> Result<()> {
+        self.entry_line()
+    }
+
+    fn end_entry(&mut self) -> Result<()> {
+        Ok(())
+    }
+
+    fn end_list(&mut self) -> Result<()> {
+        let Some(list) = self.lists.last().copied() else {
+            return Ok(());
+        };
+        if list.shown < list.total && list.shown > 0 {
+            self.more_line(list.total.saturating_sub(list.shown))?;
+        }
+        let _ = self.lists.pop();
+        self.before = if list.shown > 0 {
+            Before::Line
+        } else {
+            Before::Comma
+        };
+        Ok(())
+    }
+
+    fn begin_group(&mut self, name: &str) -> Result<()> {
+        self.piece.clear();
+        self.piece.push_str(name)?;
+        self.piece.push_str(": {")?;
+        self.put_piece()?;
+        self.before = Before::Space;
+        Ok(())
+    }
+
+    fn end_group(&mut self) -> Result<()> {
+        self.write(" }")?;
+        self.before = Before::Comma;
+        Ok(())
+    }
+}

@@ -1,0 +1,104 @@
+//! The values of fields as text.
+
+use crate::code::push_code;
+use crate::number::{
+    push_bytes, push_date, push_fixed, push_float, push_hex, push_number, push_signed, push_text,
+};
+use crate::{FlagName, Result, Value};
+use mp4_stream::{FourCC, Matrix};
+use std::alloc::Global;
+
+/// Appends flags in hexadecimal digits, and the names of those that are set.
+fn push_flags(
+    alloc: Global,
+    flags: u32,
+    digits: usize,
+    names: &[FlagName],
+    out: &mut String,
+) -> Result<()> {
+    push_hex(alloc, flags, digits, out)?;
+    let mut before = " (";
+    for flag in names {
+        if flags & flag.bit != 0 {
+            out.push_str(before)?;
+            out.push_str(flag.name)?;
+            before = ", ";
+        }
+    }
+    if before != " (" {
+        out.push(')')?;
+    }
+    Ok(())
+}
+
+/// Appends codes, one after the other.
+fn push_codes(codes: &[FourCC], out: &mut String) -> Result<()> {
+    let mut before = "";
+    for code in codes {
+        out.push_str(before)?;
+        push_code(*code, out)?;
+        before = " ";
+    }
+    if codes.is_empty() {
+        out.push_str("none")?;
+    }
+    Ok(())
+}
+
+/// Appends numbers, one after the other.
+fn push_numbers(numbers: &[i16], out: &mut String) -> Result<()> {
+    let mut before = "";
+    for number in numbers {
+        out.push_str(before)?;
+        push_signed(i64::from(*number), out)?;
+        before = " ";
+    }
+    Ok(())
+}
+
+/// Appends the rows of a transformation: (a b u), (c d v) and (x y w).
+fn push_matrix(m: &Matrix, out: &mut String) -> Result<()> {
+    let rows = [(m.a, m.b, m.u), (m.c, m.d, m.v), (m.x, m.y, m.w)];
+    let mut before = "(";
+    for (first, second, third) in rows {
+        out.push_str(before)?;
+        push_fixed(i64::from(first), 16, out)?;
+        out.push(' ')?;
+        push_fixed(i64::from(second), 16, out)?;
+        out.push(' ')?;
+        push_fixed(i64::from(third), 30, out)?;
+        before = "; ";
+    }
+    out.push(')')?;
+    Ok(())
+}
+
+/// Appends the text of a value.
+pub fn push_value(alloc: Global, value: Value<'_>, out: &mut String) -> Result<()> {
+    match value {
+        Value::Number(number) => push_number(number, out),
+        Value::Signed(number) => push_signed(number, out),
+        Value::Named(number, name) => {
+            push_number(number, out)?;
+            out.push_str(" (")?;
+            out.push_str(name)?;
+            out.push(')')?;
+            Ok(())
+        }
+        Value::Flags(flags, digits, names) => push_flags(alloc, flags, digits, names, out),
+        Value::Date(seconds) => push_date(alloc, seconds, out),
+        Value::Float(number) => push_float(alloc, number, out),
+        Value::Fixed(raw, bits) => push_fixed(raw, bits, out),
+        Value::MediaTime(-1) => {
+            out.push_str("empty")?;
+            Ok(())
+        }
+        Value::MediaTime(time) => push_signed(time, out),
+        Value::Code(code) => push_code(code, out),
+        Value::Codes(codes) => push_codes(codes, out),
+        Value::Text(text) => push_text(text, out),
+        Value::Bytes(bytes) => push_bytes(alloc, bytes, out),
+        Value::Numbers(numbers) => push_numbers(numbers, out),
+        Value::Matrix(matrix) => push_matrix(matrix, out),
+    }
+}

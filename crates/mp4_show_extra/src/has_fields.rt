@@ -1,0 +1,37 @@
+//! Boxes whose fields can be shown.
+
+ghost use Rattle.std.specs.Prelude.{OnOk};
+ghost use Rattle.mp4_show.specs.Nesting.{fields, Keeps};
+
+use crate::fields::put_extra;
+use mp4_extra::ExtraBox;
+use mp4_show::{FieldSink, Result, put_fields};
+use mp4_stream::{AnyBox, Either};
+
+/// A box whose fields can be handed to a sink.
+pub trait HasFields {
+    /// Hands its fields to a sink, in the order of the box.
+    fn put_fields<K: FieldSink>(&self, sink: &mut K) -> Result<()>
+        ensures nesting { OnOk result (Keeps K.since fields sink.old sink.new) };
+}
+
+impl HasFields for AnyBox {
+    fn put_fields<K: FieldSink>(&self, sink: &mut K) -> Result<()> {
+        put_fields(self, sink)
+    }
+}
+
+impl HasFields for ExtraBox {
+    fn put_fields<K: FieldSink>(&self, sink: &mut K) -> Result<()> {
+        put_extra(self, sink)
+    }
+}
+
+impl<A: HasFields, B: HasFields> HasFields for Either<A, B> {
+    fn put_fields<K: FieldSink>(&self, sink: &mut K) -> Result<()> {
+        match self {
+            Either::First(b) => b.put_fields(sink),
+            Either::Second(b) => b.put_fields(sink),
+        }
+    }
+}

@@ -1,0 +1,13 @@
+//! The fields of the boxes of `mp4_extra` by name, and of all boxes whose fields can be shown. Names are those of the
+//! standards, as they spell them.
+#![tactic(auto)]
+
+mod entries;
+mod fields;
+mod flag_names;
+mod has_fields;
+mod pieces;
+mod put;
+
+pub use fields::put_extra;
+pub use has_fields::HasFields;

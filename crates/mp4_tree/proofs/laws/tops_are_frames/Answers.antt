@@ -1,6 +1,0 @@
-use Rattle.std.proofs.Common.{◌<◌, ◌^◌, length, rules}
-use Rattle.mp4_tree.proofs.Tops.{tops}
-use Rattle.mp4_tree.proofs.laws.tops_are_frames.Goals as goal
-
-pub returns : goal.returns
-returns c = let short : length c.args.bytes.now < 2 ^ 64 = search rules in tops c.args.bytes.now short

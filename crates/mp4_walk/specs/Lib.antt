@@ -1,0 +1,10 @@
+pub mod Found
+pub mod Kinds
+pub mod Paths
+pub mod Places
+pub mod Search
+pub mod Source
+pub mod Tops
+pub mod FileBoxes
+pub mod Walk
+pub mod Peek

@@ -1,0 +1,13 @@
+//! The context that determines how a box is read, besides the box itself.
+
+/// The context that determines how a box is read, besides the box itself.
+#[derive(Clone, Copy, Debug, PartialEq, Eq)]
+pub struct WalkContext {
+    /// The code of the enclosing box; 0 at the top level.
+    pub parent: u32,
+    /// The handler of the enclosing media, from the `hdlr` in its `mdia` (ISO/IEC 14496-12, 8.4.3); 0 before the
+    /// `hdlr`.
+    pub handler: u32,
+    /// True if the file is a QuickTime movie, by the major brand of an `ftyp` before the box (4.3).
+    pub is_quicktime: bool,
+}

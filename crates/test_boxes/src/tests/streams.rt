@@ -1,0 +1,69 @@
+//! Helpers that read and write lists of boxes, and a test of a list of a type from outside the codec.
+
+use example_callers::append_normal;
+use example_callers::mark::MarkBox;
+use mp4_ported::boxes::{THREE, text};
+use mp4_ported::helpers::{Kind, kind_of};
+use mp4_stream::{AnyBox, ByteCursor, Error, StreamBox, read_boxes, read_boxes_as, write_boxes};
+use std::alloc::{Allocator, Global};
+use std::test::Fail;
+
+/// Returns the kind of `outcome` and the number of items in its list, or 0 if it has none.
+pub(super) fn kind_and_count<T: Drop, A: Allocator>(
+    outcome: Result<Vec<T, A>, Error>,
+) -> (Kind, usize) {
+    let kind = kind_of(&outcome);
+    match outcome {
+        Ok(found) => (kind, found.len()),
+        Err(_) => (kind, 0),
+    }
+}
+
+/// Reads the boxes in `bytes`. Returns the kind of the outcome, the number of boxes, and the position of the cursor
+/// after the call.
+pub(super) fn read_stream(alloc: Global, bytes: &[u8]) -> (Kind, usize, u64) {
+    let mut reader = ByteCursor::new(bytes);
+    let (kind, count) = kind_and_count(read_boxes(alloc, &mut reader));
+    (kind, count, reader.position())
+}
+
+/// Reads the boxes in `bytes`, and returns the bytes to which they are written.
+pub(super) fn rewrite(alloc: Global, bytes: &[u8]) -> Result<Vec<u8>, Error> {
+    let mut out = Vec::new(alloc);
+    append_normal(alloc, bytes, &mut out)?;
+    Ok(out)
+}
+
+/// Appends a list of `first` and `last` to `out`. Returns the kind of the outcome.
+pub(super) fn append_two<B: StreamBox + Drop, A: Allocator>(
+    alloc: Global,
+    first: Result<B, Error>,
+    last: B,
+    out: &mut Vec<u8, A>,
+) -> Result<Kind, Error> {
+    let mut boxes = Vec::new(alloc);
+    boxes.push(first?)?;
+    boxes.push(last)?;
+    Ok(kind_of(&write_boxes(&boxes, out)))
+}
+
+/// Returns an `ftyp` that can be written.
+pub(super) fn any_ftyp(alloc: Global) -> Result<AnyBox, Error> {
+    Ok(AnyBox::FtypBox(text::ftyp(alloc)?))
+}
+
+#[test]
+fn a_type_from_outside(rt: HostRuntime) -> Result<(), Fail> {
+    let marks = [MarkBox { mark: 7 }, MarkBox { mark: 8 }];
+    let mut out = Vec::new(rt.alloc());
+    assert_eq!(rt; write_boxes(&marks, &mut out)?, 24);
+    let bytes = b"\0\0\0\x0cmark\0\0\0\x07\0\0\0\x0cmark\0\0\0\x08";
+    assert_eq!(rt; out.as_slice(), bytes.as_slice());
+    out.extend_from_slice(&THREE)?;
+    let mut reader = ByteCursor::new(&out);
+    let found: Vec<MarkBox> = read_boxes_as(rt.alloc(), &mut reader)?;
+    assert_eq!(rt; found.as_slice(), marks.as_slice());
+    assert_eq!(rt; reader.position(), 76);
+    assert_eq!(rt; read_stream(rt.alloc(), &out), (Kind::Ok, 2, 76));
+    Ok(())
+}

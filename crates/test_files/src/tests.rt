@@ -1,0 +1,11 @@
+//! Tests with hand-written files, tables and fragments.
+
+mod boxes;
+mod disagreements;
+mod edits;
+mod faststart;
+mod fragments;
+mod tables;
+mod track;
+mod track_fragments;
+mod tree;
