@@ -1,0 +1,1 @@
+"""Files that tests read: some are stored as text, others are made by hand."""

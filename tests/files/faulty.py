@@ -1,0 +1,448 @@
+"""Files for `mp4inspect check`, each made by hand with the lines that `check` has to write for it. The lines were
+worked out from ISO/IEC 14496-12 and QuickTime's format. `cases()` gives the name, the bytes and the lines of each."""
+
+from tests.files.made import be, box, ftyp, full, handler, mdhd, nested, sound, stsd, tkhd, visual
+
+STBL = "moov/trak/mdia/minf/stbl"
+SECOND = "moov/trak[1]/mdia/minf/stbl"
+MEDIA = 28  # The media data begin after an ftyp of 20 bytes and a header of 8.
+
+
+def stbl(offsets, sizes, per=1, wide=False, extra=b""):
+    """Returns tables of samples of the sizes `sizes`, with `per` of them in each chunk. A pair instead of a list is the
+    one size of all, and their number."""
+    count = sizes[1] if isinstance(sizes, tuple) else len(sizes)
+    table = full(b"stsz", 0, 0, be(4, *sizes) if isinstance(sizes, tuple) else be(4, 0, count, *sizes))
+    chunks = full(b"co64", 0, 0, be(4, len(offsets)) + be(8, *offsets)) if wide else full(
+        b"stco", 0, 0, be(4, len(offsets), *offsets))
+    return box(b"stbl", stsd(visual(b"mp4v", 64, 48, b"", b"")) + full(b"stts", 0, 0, be(4, 1, count, 10))
+               + full(b"stsc", 0, 0, be(4, 1, 1, per, 1)) + table + chunks + extra)
+
+
+def trak(table, number=1, flags=1, header=None, extra=b""):
+    dinf = box(b"dinf", full(b"dref", 0, 0, be(4, 1) + full(b"url ", 0, flags)))
+    media = box(b"mdia", mdhd(1000, b"und") + handler(b"vide", b"") + box(b"minf", full(b"vmhd", 0, 1, bytes(8)) + dinf
+                                                                          + table))
+    return box(b"trak", (tkhd(number) if header is None else header) + media + extra)
+
+
+def mvhd():
+    return full(b"mvhd", 0, 0, be(4, 0, 0, 600, 0, 0x10000) + be(2, 0x100) + bytes(10)
+                + be(4, 0x10000, 0, 0, 0, 0x10000, 0, 0, 0, 0x40000000) + bytes(24) + be(4, 9))
+
+
+def moov(*tracks):
+    return box(b"moov", mvhd() + b"".join(tracks))
+
+
+def front(media=40):
+    """Returns an `ftyp` of 20 bytes and an `mdat` with `media` bytes, which begin at offset MEDIA."""
+    return ftyp(b"isom", b"isom") + box(b"mdat", bytes(media))
+
+
+def at(data, name, nth=0):
+    """Returns the position of the box `name` after `nth` others with this name."""
+    place = -1
+    for _ in range(nth + 1):
+        place = data.index(name, place + 1)
+    return place - 4
+
+
+def line(data, name, path, said, nth=0):
+    return f"{at(data, name, nth)} {path}: {said}"
+
+
+def lies(said, many="1 of 1 chunk lies"):
+    return f"{many} outside the media data; the first is {said}"
+
+
+def past(what, offset, end, length):
+    return f"{what} at offset {offset}, which ends at {end}, past the end of the file ({length} bytes)"
+
+
+def chunks():
+    """Returns cases of chunks at both ends of the media data, in its header, past the file, and in no media data."""
+    end = MEDIA + 40
+    found = []
+    for name, offset, size, said in (
+            ("all of it", MEDIA, 40, None), ("the last byte", end - 1, 1, None), ("no bytes at its end", end, 0, None),
+            ("no bytes at its front", MEDIA, 0, None),
+            ("a byte too many", MEDIA, 41, f", which ends at {end + 1}, past the end of its mdat at {end}"),
+            ("behind it", end, 1, ", which is in no mdat"), ("no bytes behind it", end + 1, 0, ", which is in no mdat"),
+            ("its header", MEDIA - 1, 1, ", which is in no mdat"), ("before it", 3, 1, ", which is in no mdat"),
+            ("no bytes in its header", MEDIA - 1, 0, ", which is in no mdat")):
+        for wide in (False, True):
+            data = front() + moov(trak(stbl([offset], [size], 1, wide)))
+            code = b"co64" if wide else b"stco"
+            wanted = line(data, code, f"{STBL}/{code.decode()}", lies(f"chunk 1 at offset {offset}{said}"))
+            found.append((f"chunk: {name}, {code.decode()}", data, [wanted] if said else []))
+    for name, beyond, size, said in (("at the end of the file", 0, 1, ""), ("behind the file", 5, 0, ""),
+                                     ("far behind", 2**40, 9, "")):
+        data = front() + moov(trak(stbl([0], [size], 1, True)))
+        offset = len(data) + beyond
+        data = front() + moov(trak(stbl([offset], [size], 1, True)))
+        found.append((f"chunk: {name}", data, [line(data, b"co64", f"{STBL}/co64", lies(
+            f"chunk 1 at offset {offset}, past the end of the file ({len(data)} bytes)"))]))
+    return found
+
+
+def more_chunks():
+    """Returns cases of chunks in files with several `mdat`s, with media data at the end of the file, and with tables
+    that disagree."""
+    found = []
+    # Ten samples of ten bytes in five chunks, in media data at the end of the file. Moved by 16, the last one is cut.
+    for moved in (0, 16):
+        head = lambda first: ftyp(b"isom", b"isom") + moov(trak(stbl([first + 20 * n for n in range(5)], [10] * 10, 2)))
+        first = len(head(0)) + 8
+        data = head(first + moved) + box(b"mdat", bytes(100))
+        lines = [line(data, b"stco", f"{STBL}/stco", lies(past(
+            "chunk 5", first + 96, first + 116, first + 100), "1 of 5 chunks lies"))] if moved else []
+        found.append((f"chunks moved by {moved}", data, lines))
+    # 119 chunks of 500 bytes, 58 of them before the end of a file that is cut at 40000. The 59th begins at 40090.
+    head = lambda first: ftyp(b"isom", b"isom") + moov(trak(stbl(
+        [first + 500 * n for n in range(58)] + [40090 + 500 * n for n in range(61)], (500, 119))))
+    first = len(head(0)) + 16
+    data = head(first) + be(4, 1) + b"mdat" + be(8, 80000) + bytes(40000)
+    data = data[:40000]
+    found.append(("119 chunks", data, [
+        line(data, b"stco", f"{STBL}/stco", lies("chunk 59 at offset 40090, past the end of the file (40000 bytes)",
+                                                 "61 of 119 chunks lie")),
+        f"{first - 16} mdat: unexpected end of input"]))
+    # Two mdats with a box between them: chunks in each, across both, and between them, in no order.
+    media = box(b"mdat", bytes(10)) + box(b"free", bytes(12)) + box(b"mdat", bytes(10))
+    data = ftyp(b"isom", b"isom") + media + moov(trak(stbl([66, 28, 30, 46, 74, 38], [2, 10, 9, 1, 2, 0])))
+    found.append(("two mdats", data, [line(data, b"stco", f"{STBL}/stco", lies(
+        "chunk 3 at offset 30, which ends at 39, past the end of its mdat at 38", "2 of 6 chunks lie"))]))
+    # An mdat in a udta is not media data of the file.
+    data = ftyp(b"isom", b"isom") + moov(trak(stbl([36], [4]))) + box(b"udta", box(b"mdat", bytes(8)))
+    inside = len(data) - 8
+    data = ftyp(b"isom", b"isom") + moov(trak(stbl([inside], [4]))) + box(b"udta", box(b"mdat", bytes(8)))
+    found.append(("an mdat in a udta", data, [
+        line(data, b"stco", f"{STBL}/stco", lies(f"chunk 1 at offset {inside}, which is in no mdat"))]))
+    # The media of one track are in another file, since its url does not have flag 1. Those of the next track aren't.
+    for flags in (0, 2):
+        data = front() + moov(trak(stbl([3], [1]), 1, flags), trak(stbl([4], [1]), 2))
+        found.append((f"a url of flags {flags}", data, [
+            line(data, b"stco", SECOND + "/stco", lies("chunk 1 at offset 4, which is in no mdat"), 1)]))
+    data = front() + moov(trak(stbl([3], [1]), 1, 3))
+    found.append(("a url of flags 3", data, [
+        line(data, b"stco", f"{STBL}/stco", lies("chunk 1 at offset 3, which is in no mdat"))]))
+    # Seven samples in three chunks of two. The tables disagree, so that only one byte of each chunk is checked.
+    data = front() + moov(trak(stbl([MEDIA, MEDIA + 39, 4], [9] * 7, 2)))
+    found.append(("tables that disagree", data, [
+        line(data, b"stbl", STBL, "the chunks hold 6 of 7 samples"),
+        line(data, b"stco", f"{STBL}/stco", lies("chunk 3 at offset 4, which is in no mdat", "1 of 3 chunks lies"))]))
+    # Such tables in an stbl that is cut are not compared.
+    data = front() + moov(trak(stbl([MEDIA], [9] * 7, 2, False, box(b"free", bytes(9)))))
+    data, cut = data[:-1], "unexpected end of input"
+    found.append(("a cut stbl", data, [line(data, name, path, cut) for name, path in (
+        (b"moov", "moov"), (b"trak", "moov/trak"), (b"mdia", "moov/trak/mdia"), (b"minf", "moov/trak/mdia/minf"),
+        (b"stbl", STBL), (b"free", f"{STBL}/free"))]))
+    # There are more chunks than samples, so that the last chunks have no bytes.
+    data = front() + moov(trak(stbl([MEDIA, MEDIA + 40, MEDIA + 41], (40, 1))))
+    found.append(("chunks without samples", data, [
+        line(data, b"stco", f"{STBL}/stco", lies(f"chunk 3 at offset {MEDIA + 41}, which is in no mdat",
+                                                 "1 of 3 chunks lies"))]))
+    # Sizes that no file has.
+    data = front() + moov(trak(stbl([MEDIA], (2**32 - 1, 2**32 - 1), 2**32 - 1)))
+    found.append(("2^64 bytes", data, [line(data, b"stco", f"{STBL}/stco", lies(past(
+        "chunk 1", MEDIA, MEDIA + (2**32 - 1)**2, len(data))))]))
+    return found
+
+
+def traf(track, flags, fields, *runs):
+    return box(b"traf", full(b"tfhd", 0, flags, be(4, track) + fields) + b"".join(runs))
+
+
+def moof(*trafs):
+    return box(b"moof", full(b"mfhd", 0, 0, be(4, 1)) + b"".join(trafs))
+
+
+def trun(offset, sizes, count=None):
+    """Returns a run with the offset `offset`, if it is not None, and with the sizes of its samples or their number."""
+    flags = (0 if offset is None else 1) | (0x200 if sizes else 0)
+    rest = (b"" if offset is None else be(4, offset)) + be(4, *sizes)
+    return full(b"trun", 0, flags, be(4, len(sizes) if count is None else count) + rest)
+
+
+def fragments():
+    """Returns cases of fragments of tracks: runs inside and outside, one after the other, with sizes of each kind, in
+    segments."""
+    empty = stbl([], [])
+    defaults = box(b"mvex", full(b"trex", 0, 0, be(4, 1, 1, 10, 7, 0)) + full(b"trex", 0, 0, be(4, 2, 1, 10, 5, 0)))
+    movie = moov(trak(empty), trak(empty, 2), defaults)
+    head = ftyp(b"iso5", b"iso5") + movie
+    cases_ = []
+
+    def case(name, make, said, front_=head, many="1 of 1 run lies", which=0, more=()):
+        """Adds a fragment of runs. Their offsets are counted from the 20 bytes of media data after the fragment."""
+        size = len(make(0))
+        data = front_ + make(size + 8) + box(b"mdat", bytes(20))
+        begin = len(data) - 20
+        path = "moof/traf" + (f"[{which}]" if which else "")
+        lines = [] if said is None else [
+            line(data, b"traf", path, lies(said(begin, len(data), begin - size - 8), many), which)]
+        cases_.append((f"fragment: {name}", data, lines + [line(data, *it) for it in more]))
+
+    def far(offset):
+        return lambda begin, end, moof_: f"run 1 at offset {moof_ + offset}, past the end of the file ({end} bytes)"
+
+    def over(number, skipped, size):
+        return lambda begin, end, moof_: past(f"run {number}", begin + skipped, begin + skipped + size, end)
+
+    case("all of the media", lambda o: moof(traf(1, 0x20000, b"", trun(o, [12, 8]))), None)
+    case("a byte too many", lambda o: moof(traf(1, 0x20000, b"", trun(o, [12, 9]))), over(1, 0, 21))
+    case("far behind", lambda o: moof(traf(1, 0x20000, b"", trun(5000000, [1]))), far(5000000))
+    case("before the file", lambda o: moof(traf(1, 0x20000, b"", trun(-2000000, [1]))),
+         lambda begin, end, moof_: "run 1, which begins before the file")
+    case("in the moof", lambda o: moof(traf(1, 0x20000, b"", trun(4, [1]))),
+         lambda begin, end, moof_: f"run 1 at offset {moof_ + 4}, which is in no mdat")
+    case("two runs", lambda o: moof(traf(1, 0x20000, b"", trun(o, [12]), trun(None, [8]))), None)
+    case("two runs, the second too long", lambda o: moof(traf(1, 0x20000, b"", trun(o, [12]), trun(None, [9]))),
+         over(2, 12, 9), head, "1 of 2 runs lies")
+    case("no samples at the end", lambda o: moof(traf(1, 0x20000, b"", trun(o, [12, 8]), trun(None, []))), None)
+    case("the size of the trex, twice", lambda o: moof(traf(1, 0x20000, b"", trun(o, [], 2))), None)
+    case("the size of the trex, thrice", lambda o: moof(traf(1, 0x20000, b"", trun(o, [], 3))), over(1, 0, 21))
+    case("the size of the other trex", lambda o: moof(traf(2, 0x20000, b"", trun(o, [], 4))), None)
+    case("the size of the tfhd", lambda o: moof(traf(1, 0x20010, be(4, 10), trun(o, [], 2))), None)
+    case("4 billion samples", lambda o: moof(traf(1, 0x20010, be(4, 2**32 - 1), trun(o, [], 2**32 - 1))),
+         over(1, 0, (2**32 - 1)**2))
+    # The second traf's offsets count from the end of the data of the first, since the second has no flag.
+    case("after the first traf", lambda o: moof(traf(1, 0, b"", trun(o, [12])), traf(2, 0, b"", trun(None, [8]))), None)
+    case("after the first traf, too long", lambda o: moof(traf(1, 0, b"", trun(o, [12])),
+                                                          traf(2, 0, b"", trun(0, [9]))), over(1, 12, 9), which=1)
+    case("an absolute offset", lambda o: moof(traf(1, 1, be(8, 10**6), trun(0, [1]))), lambda begin, end, moof_:
+         f"run 1 at offset 1000000, past the end of the file ({end} bytes)")
+    styp = box(b"styp", b"msdh" + be(4, 0))
+    case("a segment with an absolute offset", lambda o: moof(traf(1, 1, be(8, 10**6), trun(0, [1]))), None, styp)
+    case("a segment", lambda o: moof(traf(1, 0x20000, b"", trun(o, [12, 9]))), over(1, 0, 21), styp)
+    case("a segment without sizes", lambda o: moof(traf(1, 0x20000, b"", trun(o, [], 9))), None, styp)
+    case("a track of no trak", lambda o: moof(traf(7, 0x20000, b"", trun(o, [20]))), None, head, more=[
+        (b"tfhd", "moof/traf/tfhd", "track_ID 7 is that of no track of the moov")])
+    away = ftyp(b"iso5", b"iso5") + moov(trak(empty, 1, 0), trak(empty, 2), defaults)
+    case("media in another file", lambda o: moof(traf(1, 0x20000, b"", trun(5000000, [1]))), None, away)
+    case("media of the other track in this file", lambda o: moof(traf(2, 0x20000, b"", trun(5000000, [1]))),
+         far(5000000), away)
+    return cases_
+
+
+def kinds():
+    """Returns cases of the kinds of files."""
+    styp = box(b"styp", b"msdh" + be(4, 0))
+    items = full(b"meta", 0, 0, handler(b"pict", b"") + full(b"pitm", 0, 0, be(2, 1)))
+    sidx = full(b"sidx", 0, 0, be(4, 1, 1000, 0, 0) + be(2, 0, 0))
+    none = "0 moov: there is no moov, moof, meta or sidx"
+    return [("pictures", ftyp(b"heic", b"mif1", b"heic") + items + box(b"mdat", bytes(8)), []),
+            ("an index of a segment", styp + sidx, []), ("a movie", front() + moov(trak(stbl([MEDIA], [1]))), []),
+            ("a fragment", styp + moof(traf(1, 0x20000, b"")), []),
+            ("an ftyp", ftyp(b"isom", b"isom"), [none]), ("a udta with a meta", box(b"udta", items), [none])]
+
+
+def tracks():
+    """Returns cases of the numbers of tracks."""
+    table = stbl([MEDIA], [1])
+    other = at(front() + moov(trak(table, 4)), b"tkhd")
+    twice = front() + moov(trak(table, 4), trak(table, 5), trak(table, 4))
+    none = front() + moov(trak(table, 0))
+    wide = front() + moov(trak(table, 9, 1, tkhd(9, 0, 0, 1)), trak(table, 9))
+    said = f"is that of another track too, whose tkhd is at {other}"
+    zero = "track_ID 0 is no number of a track; these begin at 1"
+    return [("two tracks of a number", twice, [line(twice, b"tkhd", "moov/trak[2]/tkhd", f"track_ID 4 {said}", 2)]),
+            ("track 0", none, [line(none, b"tkhd", "moov/trak/tkhd", zero)]),
+            ("two tracks of a number, the first in a tkhd of version 1", wide, [
+                line(wide, b"tkhd", "moov/trak[1]/tkhd", f"track_ID 9 {said}", 1)]),
+            ("two moovs with tracks of other numbers", front() + moov(trak(table, 1)) + moov(trak(table, 2)), [])]
+
+
+def lacks():
+    """Returns cases of boxes that lack a box that they have to have."""
+    table = stbl([MEDIA], [1])
+    found = []
+
+    def case(name, data, code, path, said, nth=0):
+        found.append((f"lacks: {name}", data, [line(data, code, path, said, nth)] if said else []))
+
+    media = front()
+    case("no mvhd", media + box(b"moov", trak(table)), b"moov", "moov", "there is no mvhd")
+    case("a compressed movie", media + box(b"moov", box(b"cmov", bytes(4))), b"moov", "moov", None)
+    case("references to movies", media + box(b"moov", box(b"rmra", b"")), b"moov", "moov", None)
+    entries = stsd(visual(b"mp4v", 64, 48, b"", b""))
+    case("an stbl of an stsd", media + moov(trak(box(b"stbl", entries))), b"stbl", STBL,
+         "there is no stts, no stsc, no stsz or stz2, no stco or co64")
+    case("an stbl of nothing", media + moov(trak(box(b"stbl"))), b"stbl", STBL,
+         "there is no stsd, no stts, no stsc, no stsz or stz2, no stco or co64")
+    whole = stbl([MEDIA], [1])
+    for name, length in ((b"stsd", len(entries)), (b"stts", 24), (b"stsc", 28), (b"stsz", 24), (b"stco", 20)):
+        place = whole.index(name) - 4
+        rest = whole[8:place] + whole[place + length:]
+        said = {b"stsz": "stsz or stz2", b"stco": "stco or co64"}.get(name, name.decode())
+        case(f"no {name.decode()}", media + moov(trak(box(b"stbl", rest))), b"stbl", STBL, f"there is no {said}")
+    small = full(b"stz2", 0, 0, be(4, 8, 1) + b"\1")
+    place = whole.index(b"stsz") - 4
+    case("an stz2", media + moov(trak(box(b"stbl", whole[8:place] + small + whole[place + 24:]))), b"stbl", STBL, None)
+    case("a co64", media + moov(trak(stbl([MEDIA], [1], 1, True))), b"stbl", STBL, None)
+    case("no tkhd", media + moov(trak(table, 1, 1, b"")), b"trak", "moov/trak", "there is no tkhd")
+    case("no mdia", media + moov(box(b"trak", tkhd(1))), b"trak", "moov/trak", "there is no mdia")
+    case("no mdhd", media + moov(box(b"trak", tkhd(1) + box(b"mdia", handler(b"vide", b"") + box(b"minf", table)))),
+         b"mdia", "moov/trak/mdia", "there is no mdhd")
+    case("no mfhd", box(b"moof", traf(1, 0x20000, b"")), b"moof", "moof", "there is no mfhd")
+    case("no tfhd", moof(box(b"traf")), b"traf", "moof/traf", "there is no tfhd")
+    cut = media + moov(trak(table))
+    cut = cut[:at(cut, b"mdhd")]
+    cut_at = ((b"moov", "moov"), (b"trak", "moov/trak"), (b"mdia", "moov/trak/mdia"))
+    found.append(("lacks: a movie that is cut", cut, [
+        line(cut, name, path, "unexpected end of input") for name, path in cut_at]))
+    return found
+
+
+def twice():
+    """Returns cases of two boxes where there may be only one."""
+    found, table = [], stbl([MEDIA], [1])
+
+    def case(parent, names, data, code, path, number=2, nth=1):
+        said = f"this is number {number}, and a {parent} may have only one {names}"
+        found.append((f"twice: {parent}, {code.decode()}", data, [line(data, code, path, said, nth)]))
+
+    def put(parent, content):
+        """Returns a file with `content` at the end of the box `parent`."""
+        data = moov(trak(table))
+        place = data.index(parent) - 4
+        end = place + int.from_bytes(data[place:place + 4], "big")
+        grown = bytearray(data[:end] + content + data[end:])
+        for name in (b"moov", b"trak", b"mdia", b"minf", b"stbl"):
+            begin = data.index(name) - 4
+            size = int.from_bytes(data[begin:begin + 4], "big")
+            if begin < end <= begin + size and begin <= place:
+                grown[begin:begin + 4] = be(4, size + len(content))
+        return front() + bytes(grown)
+
+    empty = {b"stsd": stsd(), b"stts": full(b"stts", 0, 0, be(4, 0)), b"stsc": full(b"stsc", 0, 0, be(4, 0)),
+             b"stsz": full(b"stsz", 0, 0, be(4, 0, 0)), b"stz2": full(b"stz2", 0, 0, be(4, 4, 0)),
+             b"stco": full(b"stco", 0, 0, be(4, 0)), b"co64": full(b"co64", 0, 0, be(4, 0))}
+    names = {b"stsz": "stsz, stz2", b"stz2": "stsz, stz2", b"stco": "stco, co64", b"co64": "stco, co64"}
+    for name, content in empty.items():
+        index = "" if name in (b"stz2", b"co64") else "[1]"
+        case("stbl", names.get(name, name.decode()), put(b"stbl", content), name, f"{STBL}/{name.decode()}{index}",
+             2, 1 if index else 0)
+    others = {b"ctts": full(b"ctts", 0, 0, be(4, 0)), b"stss": full(b"stss", 0, 0, be(4, 0)),
+              b"cslg": full(b"cslg", 0, 0, be(4, 0, 0, 0, 0, 0)), b"stsh": full(b"stsh", 0, 0, be(4, 0)),
+              b"padb": full(b"padb", 0, 0, be(4, 0)), b"stdp": full(b"stdp", 0, 0, be(2, 0)),
+              b"sdtp": full(b"sdtp", 0, 0, b"\0")}
+    for name, content in others.items():
+        found.append((f"once: {name.decode()}", put(b"stbl", content), []))
+        case("stbl", name.decode(), put(b"stbl", content * 2), name, f"{STBL}/{name.decode()}[1]")
+    for content in (full(b"sgpd", 1, 0, b"roll" + be(4, 2, 0)), full(b"sbgp", 0, 0, b"roll" + be(4, 0)),
+                    full(b"subs", 0, 0, be(4, 0)), full(b"saiz", 0, 0, b"\1" + be(4, 0)),
+                    full(b"saio", 0, 0, be(4, 0)), box(b"free")):
+        found.append((f"twice: {content[4:8].decode()} may be", put(b"stbl", content * 2), []))
+    minf = "moov/trak/mdia/minf"
+    for name in (b"vmhd", b"smhd", b"hmhd", b"sthd", b"nmhd", b"gmhd"):
+        content = {b"vmhd": full(b"vmhd", 0, 1, bytes(8)), b"smhd": full(b"smhd", 0, 0, bytes(4)),
+                   b"gmhd": box(b"gmhd")}.get(name, full(name, 0, 0, bytes(16 if name == b"hmhd" else 0)))
+        again = name == b"vmhd"
+        case("minf", "vmhd, smhd, hmhd, sthd, nmhd, gmhd", put(b"minf", content), name,
+             f"{minf}/{name.decode()}{'[1]' if again else ''}", 2, int(again))
+    case("minf", "dinf", put(b"minf", box(b"dinf", full(b"dref", 0, 0, be(4, 0)))), b"dinf", f"{minf}/dinf[1]")
+    case("minf", "stbl", put(b"minf", table), b"stbl", f"{minf}/stbl[1]")
+    data = full(b"hdlr", 0, 0, b"dhlr" + b"alis" + bytes(12) + b"\0")
+    case("minf", "hdlr", put(b"minf", data * 2), b"hdlr", f"{minf}/hdlr[1]", 2, 2)
+    mdia = "moov/trak/mdia"
+    case("mdia", "mdhd", put(b"mdia", mdhd(1, b"und")), b"mdhd", f"{mdia}/mdhd[1]")
+    case("mdia", "hdlr", put(b"mdia", handler(b"vide", b"")), b"hdlr", f"{mdia}/hdlr[1]")
+    case("mdia", "elng", put(b"mdia", full(b"elng", 0, 0, b"de\0") * 2), b"elng", f"{mdia}/elng[1]")
+    case("mdia", "minf", put(b"mdia", box(b"minf")), b"minf", f"{mdia}/minf[1]")
+    case("trak", "tkhd", put(b"trak", tkhd(2)), b"tkhd", "moov/trak/tkhd[1]")
+    for name in (b"tref", b"trgr", b"edts", b"udta"):
+        case("trak", name.decode(), put(b"trak", box(name) * 2), name, f"moov/trak/{name.decode()}[1]")
+    items = full(b"meta", 0, 0, handler(b"mdta", b""))
+    case("trak", "meta", put(b"trak", items * 2), b"meta", "moov/trak/meta[1]")
+    case("trak", "mdia", put(b"trak", box(b"mdia", mdhd(1, b"und"))), b"mdia", "moov/trak/mdia[1]")
+    case("moov", "mvhd", put(b"moov", mvhd()), b"mvhd", "moov/mvhd[1]")
+    for name in (b"iods", b"mvex", b"udta"):
+        content = full(b"iods", 0, 0, bytes(4)) if name == b"iods" else box(name)
+        case("moov", name.decode(), put(b"moov", content * 2), name, f"moov/{name.decode()}[1]")
+    case("moov", "meta", put(b"moov", items * 3), b"meta", "moov/meta[1]")
+    said = "this is number 3, and a moov may have only one meta"
+    found[-1][2].append(line(found[-1][1], b"meta", "moov/meta[2]", said, 2))
+    found.append(("two tracks", front() + moov(trak(table, 1), trak(table, 2)), []))
+    mfhd = full(b"mfhd", 0, 0, be(4, 1))
+    for name, content in ((b"mfhd", mfhd), (b"meta", items * 2), (b"udta", box(b"udta") * 2)):
+        data = box(b"moof", mfhd + traf(1, 0x20000, b"") + content)
+        case("moof", name.decode(), data, name, f"moof/{name.decode()}[1]")
+    for name, content in ((b"tfhd", full(b"tfhd", 0, 0x20000, be(4, 1))), (b"tfdt", full(b"tfdt", 0, 0, be(4, 0)) * 2),
+                          (b"sdtp", full(b"sdtp", 0, 0) * 2), (b"meta", items * 2), (b"udta", box(b"udta") * 2)):
+        case("traf", name.decode(), moof(traf(1, 0x20000, b"", content)), name, f"moof/traf/{name.decode()}[1]")
+    found.append(("two runs", moof(traf(1, 0x20000, b"", trun(0, []), trun(0, [])), traf(1, 0x20000, b"")), [
+        "24 moof/traf: " + lies("run 1 at offset 0, which is in no mdat", "2 of 2 runs lie")]))
+    return found
+
+
+def ends():
+    """Returns cases of the four zero bytes with which QuickTime may end a `udta` and a sample entry. Elsewhere they are
+    a header that is cut."""
+    found = []
+
+    def case(name, entry, kind=b"vide"):
+        table = stbl([MEDIA], [1])
+        old = visual(b"mp4v", 64, 48, b"", b"")
+        grown = table.replace(stsd(old), stsd(entry))
+        grown = be(4, len(grown)) + grown[4:]
+        data = front() + moov(trak(grown).replace(handler(b"vide", b""), handler(kind, b"")))
+        found.append((f"ends: {name}", data, entry[4:8].decode()))
+
+    case("video", visual(b"jpeg", 64, 48, b"", bytes(4)))
+    case("video with a box", visual(b"avc1", 64, 48, b"", box(b"pasp", be(4, 1, 1)) + bytes(4)))
+    case("sound", sound(b"sowt", 0, 2, 16, 44100 << 16, b"", bytes(4)), b"soun")
+    case("timed text", box(b"tx3g", bytes(6) + be(2, 1) + bytes(30) + bytes(4)), b"sbtl")
+    case("WebVTT", box(b"wvtt", bytes(6) + be(2, 1) + box(b"vttC", b"WEBVTT") + bytes(4)), b"text")
+    case("systems", box(b"mp4s", bytes(6) + be(2, 1) + bytes(4)), b"odsm")
+    good = [(name, data, []) for name, data, _ in found]
+    bad = []
+
+    table = trak(stbl([MEDIA], [1]))
+    cut = "-: unexpected end of input"
+    for name, ending, said in (
+            ("three bytes", bytes(3), cut), ("five bytes", bytes(5), cut), ("a number", be(4, 1), cut),
+            ("eight bytes", bytes(8), "0x00000000: box size too small"),
+            ("four bytes, none before", bytes(4), None), ("four bytes after a box", box(b"free") + bytes(4), None),
+            ("four bytes before a box", bytes(4) + box(b"free"), "0x00000008: box size too small")):
+        data = front() + moov(table, box(b"udta", ending))
+        bad.append((f"udta: {name}", data, [f"{len(data) - len(ending)} moov/udta/{said}"] if said else []))
+    for names in ([b"moov"], [b"moov", b"trak"], [b"moov", b"edts"], [b"moov", b"udta", b"ilst"],
+                  [b"moov", b"udta", b"ilst", b"abcd"], [b"moov", b"udta", b"dinf"]):
+        data = front() + nested(names, bytes(4))
+        place, path = len(data) - 4, "/".join(name.decode() for name in names)
+        lines = [f"{MEDIA + 40} moov: there is no mvhd"]
+        if names[-1] == b"trak":
+            lines.append(f"{MEDIA + 48} moov/trak: there is no tkhd, no mdia")
+        bad.append((f"no end: {path}", data, [*lines, f"{place} {path}/-: unexpected end of input"]))
+    data = front() + moov(table) + bytes(4)
+    bad.append(("no end: the file", data, [f"{len(data) - 4} -: unexpected end of input"]))
+    return good + bad
+
+
+def foreign():
+    """Returns cases of files that are not MP4 files, and of files that are damaged at their front."""
+    none = "0 moov: there is no moov, moof, meta or sidx"
+    elf = b"\x7fELF" + bytes([2, 1, 1, 0]) + bytes(56)
+    found = []
+    for name, data, path, said in (
+            ("text", b"Hello world, this is a text.\n", "o wo", 'it begins with "Hello wo"'),
+            ("ELF", elf, "0x02010100", r"it begins with \x7fELF"),
+            ("PNG", b"\x89PNG\r\n\x1a\n" + bytes(25), "0x0d0a1a0a", r"it begins with \x89PNG"),
+            ("quotes", b'a"b\\c"d" and more text', 'c"d"', r'it begins with "a\"b\\c\"d\""'),
+            ("a line", b"Hi\nthere, you", "here", r"it begins with Hi\x0at"),
+            ("five bytes", b"hello", "-", "it has only 5 bytes"), ("a byte", b"\0", "-", "it has only 1 byte")):
+        found.append((f"not MP4: {name}", data, [f"0 {path}: this is not an MP4 file: {said}", none]))
+    cut = "unexpected end of input"
+    found.append(("an ftyp that is cut", ftyp(b"isom", b"isom")[:12], [f"0 ftyp: {cut}", none]))
+    found.append(("a size that is damaged", be(4, 2**31) + ftyp(b"isom")[4:] + moov(), [f"0 ftyp: {cut}", none]))
+    other = box(b"abcd", bytes(4)) + front(0)
+    found.append(("a code that is damaged", other, [none]))
+    late = front(0) + b"Hello world"
+    found.append(("text at the end", late, [f"{MEDIA} o wo: {cut}", none]))
+    return found
+
+
+def cases():
+    return [*chunks(), *more_chunks(), *fragments(), *kinds(), *tracks(), *lacks(), *twice(), *ends(), *foreign()]

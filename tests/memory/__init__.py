@@ -1,0 +1,1 @@
+"""Tests of the programs while requests for memory are refused, and while calls are interrupted."""

@@ -1,0 +1,100 @@
+"""Refuses every request for memory in turn, from outside, to the built programs: once only that request, and once that
+request and all after it.
+
+- test_memory writes and reads every vector, by itself and as one stream. After one refusal it has to end with status 0:
+  every call has its usual result, at the second try if need be. If all later requests are refused too, it may end with
+  status 1: a call is out of memory twice, and nothing else is wrong.
+- mp4boxes prints "out of memory" and writes nothing, or does what it does with ample memory.
+- mp4inspect prints "out of memory" after a beginning of its output, and ends with status 3. With --json the beginning
+  has nothing of the file. Or it does what it does with ample memory."""
+
+import os
+import shutil
+import subprocess
+import tempfile
+import unittest
+
+from tests.built import TOP, built
+
+
+def stored(crate, name):
+    with open(os.path.join(TOP, "crates", crate, name), "rb") as file:
+        return file.read()
+
+
+class RefusedMemory(unittest.TestCase):
+    @classmethod
+    def setUpClass(cls):
+        cls.folder = tempfile.mkdtemp(prefix="refused-")
+        cls.addClassCleanup(shutil.rmtree, cls.folder, ignore_errors=True)
+        cls.library, cls.counted = (os.path.join(cls.folder, name) for name in ("refuse.so", "requests"))
+        words = [os.environ.get("CC") or "cc", "-O2", "-shared", "-fPIC", "-o", cls.library]
+        subprocess.run([*words, os.path.join(TOP, "tests", "memory", "refuse.c"), "-ldl"], check=True)
+
+    def run_with(self, words, data, **settings):
+        environment = {**os.environ, "LD_PRELOAD": self.library, **settings}
+        return subprocess.run(words, input=data, env=environment, capture_output=True, check=False)
+
+    def refusals(self, words, data=b""):
+        """Returns a run with ample memory, and the runs with refused memory. Each of these follows the number of
+        the refused request and whether all later ones are refused too."""
+        ample = self.run_with(words, data, REQUESTS=self.counted)
+        self.assertEqual(ample.returncode, 0, f"with ample memory: {ample.stderr}")
+        with open(self.counted, encoding="utf-8") as text:
+            most = int(text.read())
+        self.assertGreater(most, 0, "no memory is asked for")
+        runs = [(number, bool(settings), self.run_with(words, data, REFUSE=str(number), **settings))
+                for settings in ({}, {"AND_LATER": "1"}) for number in range(1, most + 1)]
+        return ample, runs
+
+    def test_every_vector(self):
+        _, runs = self.refusals([built("test_memory")])
+        for number, and_later, run in runs:
+            with self.subTest(request=number, and_later=and_later):
+                self.assertIn(run.returncode, (0, 1) if and_later else (0,))
+        self.assertEqual(runs[-1][2].returncode, 1, "if the last request is always refused")
+
+    def boxes(self, command, data, wanted):
+        """Refuses memory to mp4boxes. It has to write `wanted`, or to write nothing and print that it is out of
+        memory."""
+        ample, runs = self.refusals([built("mp4_boxes"), command], data)
+        self.assertEqual(ample.stdout, wanted)
+        for number, and_later, run in runs:
+            with self.subTest(request=number, and_later=and_later):
+                self.assertIn((run.returncode, run.stdout, run.stderr),
+                              [(0, wanted, b""), (1, b"", b"mp4boxes: out of memory\n")])
+
+    def test_mp4boxes_normal(self):
+        self.boxes("normal", stored("mp4_boxes", "stdin"), stored("mp4_boxes", "stdout"))
+
+    def test_mp4boxes_list(self):
+        self.boxes("list", stored("mp4_boxes", "stdin"), b"0 24 ftyp\n24 8 free\n32 20 stco\n")
+
+    def test_mp4boxes_normal_with_a_box_that_grows(self):
+        # The fields of the first box are read past its size, so the written bytes have to be moved.
+        self.boxes("normal", b"\0\0\0\x08mfhd\0\0\0\x08free", b"\0\0\0\x10mfhd\0\0\0\x08free\0\0\0\x08free")
+
+    def inspect(self, words, begun):
+        """Refuses memory to mp4inspect, which may write a beginning of `begun` before it fails. Returns its output with
+        ample memory."""
+        ample, runs = self.refusals([built("mp4_inspect"), *words, "-"], stored("mp4_inspect", "stdin"))
+        for number, and_later, run in runs:
+            with self.subTest(request=number, and_later=and_later):
+                if run.returncode == 0:
+                    self.assertEqual((run.stdout, run.stderr), (ample.stdout, b""))
+                    continue
+                self.assertEqual(run.returncode, 3)
+                self.assertIn(run.stderr, (b"mp4inspect: out of memory\n", b"mp4inspect: -: out of memory\n"))
+                self.assertTrue(begun.startswith(run.stdout), run.stdout)
+        return ample.stdout
+
+    def test_mp4inspect(self):
+        wanted = stored("mp4_inspect", "stdout")
+        self.assertEqual(self.inspect([], wanted), wanted)
+
+    def test_mp4inspect_json(self):
+        self.inspect(["--json"], b"[]\n")
+
+
+if __name__ == "__main__":
+    unittest.main()

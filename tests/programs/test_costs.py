@@ -1,0 +1,83 @@
+"""Runs the built program mp4inspect over files that cost many times their length, which docs/ASSURANCE.md lists under
+"What hostile files cost". The multiples of its table are upper bounds: a run may write as much as the table says, and
+has to write more than half of it. It may have twice as many addresses as the table has memory, since a vector that
+grows has two copies for a moment.
+
+Setting: LENGTH, the approximate number of bytes of a file (100,000)."""
+
+import re
+import subprocess
+import tempfile
+import unittest
+
+from tests.built import built, number, source
+from tests.files.made import be, box, full, nested
+
+PLACE = [b"moov", b"trak", b"mdia", b"minf", b"stbl"]
+DEEPEST = [b"moov"] + [b"trak"] * 31
+# A number of KiB that is enough for the addresses of a run over a small file.
+SMALL_RUN = 8192
+
+
+def long_paths(content, boxes):
+    """Puts `content` inside 31 boxes, each the last of `boxes` boxes with its code."""
+    for name in reversed(DEEPEST):
+        content = box(name) * (boxes - 1) + box(name, content)
+    return content
+
+
+def costly(length):
+    """Returns the files of the table, of about `length` bytes each, by their words in the table."""
+    sdtp, stz2 = full(b"sdtp", 0, 0, b"\xFF" * length), full(b"stz2", 0, 0, be(4, 4, 2 * length) + b"\xFF" * length)
+    name = be(4, 0, 0) + b"vide" + bytes(12) + b"\1" * length + b"\0"
+    count = length // 8
+    return {
+        "one `sdtp`, inside 31 boxes": nested(DEEPEST, sdtp),
+        "one `sdtp`, in an `stbl`": nested(PLACE, sdtp),
+        "one `sdtp`": nested(PLACE, sdtp),
+        "one `stz2` of 4 bits, inside 31 boxes": nested(DEEPEST, stz2),
+        "one `stz2` of 4 bits, in an `stbl`": nested(PLACE, stz2),
+        "one `saiz`, inside 31 boxes": nested(DEEPEST, full(b"saiz", 0, 0, b"\0" + be(4, length) + b"\xFF" * length)),
+        "one `dfLa` of empty blocks, inside 31 boxes": nested(DEEPEST, full(b"dfLa", 0, 0, bytes(length // 4 * 4))),
+        "one `hdlr`, whose name is control characters": box(b"hdlr", name),
+        "boxes of 8 bytes": box(b"free") * count,
+        "boxes of 8 bytes, codes of control characters": box(b"\1\1\1\1") * count,
+        "boxes of 8 bytes, inside 31 others": nested(DEEPEST, box(b"stco") * count),
+        "boxes of 8 bytes that are faults, inside 31 others": nested(DEEPEST, box(b"stco") * count),
+        "boxes of 8 bytes that are faults, inside 31 others with long paths":
+            long_paths(box(b"stco") * count, max(length // 10000, 1)),
+    }
+
+
+def rows():
+    """Yields the rows of the table: the content of the file, the words of the command, and the multiples of output and
+    memory."""
+    table = re.search(r"^what fills the file \| .*\n---.*\n((?:.* \| .*\n)+)", source("docs", "ASSURANCE.md"), re.M)
+    for line in table[1].splitlines():
+        what, command, output, memory = line.split(" | ")
+        yield what, [] if command == "no option" else [command.strip("`")], int(output), int(memory)
+
+
+class Costs(unittest.TestCase):
+    def test_each_file_has_its_row(self):
+        self.assertEqual({what for what, *_ in rows()}, set(costly(1000)))
+
+    def test_output_and_memory(self):
+        files = costly(number("LENGTH", 100000))
+        for what, words, output, memory in rows():
+            with self.subTest(file=what, words=words), tempfile.NamedTemporaryFile() as file:
+                data = files[what]
+                file.write(data)
+                file.flush()
+                limit = SMALL_RUN + 2 * memory * len(data) // 1024
+                limited = ["sh", "-c", 'ulimit -v "$0" && exec "$@"', str(limit)]
+                done = subprocess.run([*limited, built("mp4_inspect"), *words, "--", file.name], capture_output=True,
+                                      check=False)
+                self.assertIn(done.returncode, (0, 1), f"in {limit} KiB: {done.stderr}")
+                self.assertEqual(done.stderr, b"")
+                found = len(done.stdout) / len(data)
+                self.assertTrue(output / 2 < found <= output, f"{found:.1f} times the file is written, not {output}")
+
+
+if __name__ == "__main__":
+    unittest.main()

@@ -1,0 +1,539 @@
+"""Runs the built program `mp4inspect faststart` as a user does, over files that are made by hand. It reads the written
+files, with readers/samples.py for the samples, which shares nothing with the codec.
+
+- Every sample has the same bytes, times and description as before, and the moov is before the first mdat. The other
+  boxes of the top level are the same bytes, in the same order. In the moov only the chunk offsets are changed.
+- A file whose moov is before the first mdat already is copied. So is each written file.
+- Each refusal is expected with its text. Then nothing is written, and existing files are unchanged.
+- Files can't be opened, written or renamed, a write fails, and there is little memory.
+- OUT is a directory, a FIFO, a socket, a device, a link of each kind, or the file that is read. Its permissions are
+  checked.
+
+Settings: COUNT (200 files of random tracks), SEED."""
+
+import os
+import random
+import resource
+import shutil
+import signal
+import socket
+import stat
+import subprocess
+import tempfile
+import unittest
+
+from tests.built import built, number
+from tests.files.made import be, box, ftyp, full, movie, track
+from tests.readers.samples import File, boxes, disagreement, inner, table_samples, tables_of
+
+OFFSETS = {b"stco": 4, b"co64": 8}
+HOLDS = (b"moov", b"trak", b"mdia", b"minf", b"stbl")
+MEMORY = 64 << 20
+
+
+def fail(text):
+    raise AssertionError(text)
+
+
+class Track:
+    """A track: the sizes of the samples of its chunks, and the contents of its other tables."""
+
+    def __init__(self, number, chunks, wide=False, sync=None, shifts=None, one=0, pad=b"", sizes=None):
+        self.number, self.chunks, self.wide, self.sync, self.shifts = number, chunks, wide, sync, shifts
+        self.one, self.pad, self.sizes = one, pad, sizes
+
+    def box(self, offsets):
+        sizes = [size for chunk in self.chunks for size in chunk] if self.sizes is None else self.sizes
+        runs = [be(4, index, len(chunk), 1) for index, chunk in enumerate(self.chunks, 1)]
+        table = full(b"stts", 0, 0, be(4, 1, len(sizes), 512))
+        if self.shifts is not None:
+            table += full(b"ctts", 0, 0, be(4, 1, len(sizes), self.shifts))
+        if self.sync is not None:
+            table += full(b"stss", 0, 0, be(4, len(self.sync), *self.sync))
+        table += full(b"stsc", 0, 0, be(4, len(runs)) + b"".join(runs))
+        table += full(b"stsz", 0, 0, be(4, self.one, len(sizes)) + (b"" if self.one else be(4, *sizes)))
+        name = b"co64" if self.wide else b"stco"
+        table += full(name, 0, 0, be(4, len(offsets)) + be(OFFSETS[name], *offsets) + self.pad)
+        return track(self.number, b"vide", b"", b"eng", [], table)
+
+
+def bytes_for(random_, size):
+    return bytes(random_.randrange(256) for _ in range(size))
+
+
+def made(random_, tracks, order=None, front=None, between=b"", behind=b"", long_header=False, no_size=False, inside=b"",
+         before=(), after=()):
+    """Returns a file: `front`, an mdat with the chunks of the tracks in the order `order`, `between`, the moov, and
+    `behind`. The chunks of the tracks in `before` are in a box before the mdat, and those in `after` in an mdat behind
+    the moov."""
+    if order is None:
+        order = [item.number for item in tracks for _ in item.chunks]
+    if front is None:
+        front = ftyp(b"isom", b"isom", b"avc1")
+    pieces, places = {"before": b"", "media": b"", "after": b""}, {item.number: [] for item in tracks}
+    left = {item.number: list(item.chunks) for item in tracks}
+    for number in order:
+        where = "before" if number in before else "after" if number in after else "media"
+        pieces[where] += bytes_for(random_, random_.randrange(4))
+        places[number].append((where, len(pieces[where])))
+        pieces[where] += bytes_for(random_, sum(left[number].pop(0)))
+    early = box(b"wide", pieces["before"]) if before else b""
+    header = be(4, 1) + b"mdat" + be(8, 16 + len(pieces["media"])) if long_header else be(
+        4, 8 + len(pieces["media"])) + b"mdat"
+    media = header + pieces["media"]
+
+    def moov(starts):
+        return movie(*[item.box([starts[where] + at for where, at in places[item.number]]) for item in tracks])
+    size = len(moov({"before": 0, "media": 0, "after": 0})) + len(inside)
+    start = len(front) + len(early)
+    whole = moov({"before": len(front) + 8, "media": start + len(header),
+                  "after": start + len(media) + len(between) + size + 8})
+    whole = be(4, 0 if no_size else size) + whole[4:] + inside
+    late = box(b"mdat", pieces["after"]) if after else b""
+    return front + early + media + between + whole + late + behind
+
+
+def blank(data, found):
+    """Returns the box `found` with zeros for its chunk offsets."""
+    code, at, content, _, start = found
+    head = data[at:start]
+    if code in OFFSETS:
+        count = int.from_bytes(content[4:8], "big")
+        return head + content[:8] + bytes(OFFSETS[code] * count) + content[8 + OFFSETS[code] * count:]
+    if code not in HOLDS:
+        return head + content
+    return head + b"".join(blank(data, it) for it in inner(data, found))
+
+
+def samples_of(data):
+    """Returns the samples of each track, by its number: the bytes of each, and all its columns except its offset."""
+    file, found = File(data), {}
+    for trak in file.tracks:
+        number, _, _, _ = file.track(trak)
+        table = trak
+        for code in (b"mdia", b"minf", b"stbl"):
+            table = next(it for it in inner(data, table) if it[0] == code)
+        tables = tables_of(data, table)
+        if disagreement(tables):
+            fail(f"track {number}: {disagreement(tables)}")
+        found[number] = [(data[row[0]:row[0] + row[1]], *row[1:]) for row in table_samples(tables)[0]]
+        if any(len(row[0]) != row[1] for row in found[number]):
+            fail(f"track {number}: a sample is not in the file")
+    return found
+
+
+def compare(name, before, after):
+    """Checks that `after` is `before` with its moov moved. Returns the number of samples."""
+    were, are = boxes(before, 0, len(before), True), boxes(after, 0, len(after), True)
+    others = [[data[it[1]:it[4]] + it[2] for it in found if it[0] != b"moov"] for data, found in
+              ((before, were), (after, are))]
+    if others[0] != others[1]:
+        fail(f"{name}: other boxes are changed")
+    movies = [next(it for it in found if it[0] == b"moov") for found in (were, are)]
+    if blank(before, movies[0])[4:] != blank(after, movies[1])[4:]:
+        fail(f"{name}: the moov is changed in more than its chunk offsets")
+    codes = [it[0] for it in are]
+    if codes.index(b"moov") + 1 != codes.index(b"mdat") or len(before) != len(after):
+        fail(f"{name}: the moov is not before the first mdat: {codes}")
+    if samples_of(before) != samples_of(after):
+        fail(f"{name}: a sample is changed")
+    return sum(len(rows) for rows in samples_of(after).values())
+
+
+class Runs:
+    """Runs of the program in a folder, with their number and that of the compared samples."""
+
+    def __init__(self, program, folder):
+        self.program, self.folder, self.count, self.samples = program, folder, 0, 0
+
+    def path(self, name):
+        return os.path.join(self.folder, name)
+
+    def write(self, name, data):
+        with open(self.path(name), "wb") as file:
+            file.write(data)
+
+    def read(self, name):
+        with open(self.path(name), "rb") as file:
+            return file.read()
+
+    def run(self, status, out, error, *names, **given):
+        """Runs the program, and expects the status `status`, the output `out` and the messages `error`."""
+        self.count += 1
+        done = subprocess.run([self.program, "faststart", *names], cwd=self.folder, capture_output=True, text=True,
+                              timeout=120, check=False, **given)
+        if (done.returncode, done.stdout, done.stderr) != (status, out, error):
+            fail(f"{names}: {done.returncode}, {done.stdout!r}, {done.stderr!r}\nand not\n{status}, {out!r}, {error!r}")
+
+    def moves(self, name, data):
+        """Moves the moov of the file `data`, compares the files, and runs the program over the written file once
+        more."""
+        tops = boxes(data, 0, len(data), True)
+        movie_at = next(it[1] for it in tops if it[0] == b"moov")
+        media_at = next(it[1] for it in tops if it[0] == b"mdat")
+        self.write("in.mp4", data)
+        self.run(0, f"out.mp4: moov is moved from {movie_at} to {media_at}\n", "", "in.mp4", "out.mp4")
+        self.samples += compare(name, data, self.read("out.mp4"))
+        self.copies("out.mp4")
+        if self.read("in.mp4") != data:
+            fail(f"{name}: the file that is read is changed")
+        if sorted(os.listdir(self.folder)) != ["copy.mp4", "in.mp4", "out.mp4"]:
+            fail(f"{name}: {os.listdir(self.folder)}")
+
+    def copies(self, name):
+        self.run(0, "copy.mp4: a copy, as moov is before the media data already\n", "", name, "copy.mp4")
+        if self.read("copy.mp4") != self.read(name):
+            fail(f"{name}: not a copy")
+
+    def refuses(self, data, text, status=1):
+        """Checks that the file `data` is refused with the text `text`, that nothing is written, and that existing files
+        are unchanged."""
+        self.write("in.mp4", data)
+        for name in ("none.mp4", "kept.mp4"):
+            self.write("kept.mp4", b"kept")
+            self.run(status, "", f"mp4inspect: in.mp4: {text}\n", "in.mp4", name)
+            if os.path.exists(self.path("none.mp4")) or self.read("kept.mp4") != b"kept":
+                fail(f"{text}: a file is written")
+            if [it for it in os.listdir(self.folder) if it.endswith(".partial")]:
+                fail(f"{text}: a partial file is left")
+        os.remove(self.path("kept.mp4"))
+
+
+def tables(random_, number, chunks, wide=False):
+    """Returns a track of `chunks` chunks, with sizes of samples from 0 to 40 bytes."""
+    sizes = [[random_.choice((0, 1, 7, 40)) for _ in range(random_.randrange(1, 5))] for _ in range(chunks)]
+    count = sum(map(len, sizes))
+    sync = sorted(random_.sample(range(1, count + 1), random_.randrange(count + 1))) if random_.random() < 0.5 else None
+    return Track(number, sizes, wide, sync, random_.choice((None, 0, 1024)))
+
+
+def moved(runs, random_, files):
+    """Checks files whose moov is moved."""
+    one, two = Track(1, [[10, 20], [30]]), Track(2, [[5], [6, 7], [8]], wide=True, sync=[1, 3], shifts=256)
+    free = box(b"free", b"spare")
+    runs.moves("one track", made(random_, [one]))
+    runs.moves("two tracks", made(random_, [one, two], [1, 2, 2, 1, 2]))
+    runs.moves("boxes between", made(random_, [one, two], [2, 1, 2, 1, 2], between=free + box(b"uuid", bytes(20)),
+                                     behind=free + box(b"skip", b"x")))
+    runs.moves("free in front", made(random_, [one], front=ftyp(b"isom", b"isom") + free))
+    runs.moves("moov in the middle", made(random_, [one, two], [1, 2, 2, 1, 2], after=(2,), behind=free))
+    runs.moves("samples in front", made(random_, [one, two], [1, 2, 2, 1, 2], before=(1,), after=(2,)))
+    runs.moves("samples in front alone", made(random_, [one, two], [1, 2, 2, 1, 2], before=(2,)))
+    runs.moves("a size of 64 bits", made(random_, [one], long_header=True))
+    runs.moves("no size", made(random_, [one, two], no_size=True))
+    runs.moves("alike sizes", made(random_, [Track(1, [[9, 9], [9]], one=9)]))
+    runs.moves("no samples", made(random_, [Track(1, []), two]))
+    runs.moves("nothing in front", made(random_, [one], front=b""))
+    runs.moves("QuickTime", made(random_, [one], front=ftyp(b"qt  ", b"qt  ") + box(b"wide")))
+    runs.moves("an empty sample at the end", made(random_, [Track(1, [[4, 0], [0]])]))
+    # Bytes after the entries of a table are not offsets.
+    runs.moves("bytes after the entries", made(random_, [Track(1, [[10, 20], [30]], pad=be(4, 40, 41))]))
+    for index in range(files):
+        items = [tables(random_, number, random_.randrange(1, 6), random_.random() < 0.5)
+                 for number in range(1, random_.randrange(2, 5))]
+        order = [item.number for item in items for _ in item.chunks]
+        random_.shuffle(order)
+        parts = [random_.choice((b"", free, box(b"uuid", bytes(16)))) for _ in range(3)]
+        numbers = [item.number for item in items]
+        some = set(random_.sample(numbers, random_.randrange(len(numbers) + 1)))
+        late = set(random_.sample(numbers, random_.randrange(len(numbers) + 1))) - some
+        runs.moves(f"file {index}", made(random_, items, order, parts[0], parts[1], parts[2], random_.random() < 0.3,
+                                         before=some, after=late))
+
+
+def refused(runs, random_):
+    """Checks files that are refused, each by its text."""
+    one, two = Track(1, [[10, 20], [30]]), Track(2, [[5], [6, 7]])
+    plain = made(random_, [one, two], [1, 2, 2, 1])
+    tops = {it[0]: it for it in boxes(plain, 0, len(plain), True)}
+    movie_at = tops[b"moov"][1]
+    runs.refuses(plain[:movie_at], "there is no moov")
+    runs.refuses(plain + plain[movie_at:], f"there is another moov at {len(plain)}")
+    runs.refuses(ftyp(b"isom") + movie(), "there is no mdat")
+    runs.refuses(b"", "there is no moov")
+    runs.refuses(plain + b"\0\0\0\x09free", f"there is no whole box at {len(plain)}")
+    runs.refuses(plain[:-1], f"there is no whole box at {movie_at}")
+    other = box(b"saio", bytes(12))
+    for name, content, where in ((b"saio", bytes(12), "inside"), (b"iloc", bytes(12), "meta"),
+                                 (b"tfra", bytes(16), "mfra"), (b"cmov", b"", "inside")):
+        other = box(name, content)
+        if where == "inside":
+            data = made(random_, [one], inside=other)
+            at = len(data) - len(other)
+        elif where == "meta":
+            data = made(random_, [one], behind=full(b"meta", 0, 0, other))
+            at = len(data) - len(other)
+        else:
+            data = made(random_, [one], behind=box(b"mfra", other))
+            at = len(data) - len(other)
+        runs.refuses(data, f"{name.decode()} at {at}: its offsets can't be shifted")
+    header = full(b"tfhd", 0, 1, be(4, 1) + be(8, 100))
+    data = made(random_, [one], behind=box(b"moof", box(b"traf", header)))
+    runs.refuses(data, f"tfhd at {len(data) - len(header)}: its offsets can't be shifted")
+    for name in (b"moof", b"sidx"):
+        data = made(random_, [one], front=ftyp(b"isom") + box(name, bytes(24) if name == b"sidx" else b""))
+        runs.refuses(data, f"{name.decode()} at {len(ftyp(b'isom'))}: its offsets can't be shifted")
+    away = plain.index(full(b"url ", 0, 1))
+    data = plain[:away + 8] + bytes(4) + plain[away + 12:]
+    runs.refuses(data, f"url  at {away}: the media data are in another file")
+    # One sample is in the moov, one continues in it, and one begins before the mdat and ends in it.
+    for which, number in ((movie_at + 8, 1), (movie_at - 2, 1), (tops[b"mdat"][1] - 2, 1)):
+        at = plain.index(b"stco") + 12
+        data = plain[:at] + be(4, which) + plain[at + 4:]
+        runs.refuses(data, f"track 1: sample {number} would not be the same bytes")
+    at = plain.index(b"stco") + 16
+    data = plain[:at] + be(4, movie_at - 29) + plain[at + 4:]
+    runs.refuses(data, "track 1: sample 3 would not be the same bytes")
+    runs.refuses(made(random_, [Track(1, [[10]], sizes=[10, 11])]), "track 1: the chunks hold 1 of 2 samples")
+    at = plain.rindex(b"tkhd") + 16
+    runs.refuses(plain[:at] + be(4, 1) + plain[at + 4:], "track 1: another track has the same track_ID")
+    data = plain.replace(b"stts", b"free", 1)
+    runs.refuses(data, "track 1: there is no stts")
+    data = plain.replace(b"tkhd", b"free", 1)
+    trak = [it for it in inner(plain, tops[b"moov"]) if it[0] == b"trak"][0]
+    runs.refuses(data, f"trak at {trak[1]}: there is no tkhd that can be read")
+    at = plain.index(b"tkhd") + 4
+    runs.refuses(plain[:at] + b"\x02" + plain[at + 1:], f"tkhd at {at - 8}: version must be 0 or 1")
+    # An offset of 32 bits would overflow.
+    runs.write("in.mp4", ftyp(b"isom") + be(4, 1) + b"mdat" + be(8, 2**32 - 100))
+    start = len(ftyp(b"isom"))
+    moov = movie(Track(1, [[10]]).box([2**32 - 130]))
+    with open(runs.path("in.mp4"), "r+b") as file:
+        file.seek(start + 2**32 - 100)
+        file.write(moov)
+    at = start + 2**32 - 100 + moov.index(b"stco") - 4
+    runs.run(1, "", f"mp4inspect: in.mp4: stco at {at}: an offset would be too large\n", "in.mp4", "none.mp4")
+    os.remove(runs.path("in.mp4"))
+
+
+def ends(runs, random_):
+    """Checks files that can't be opened, written or renamed."""
+    data = made(random_, [Track(1, [[10, 20], [30]])])
+    runs.write("in.mp4", data)
+    done = "out.mp4: moov is moved from {} to {}\n"
+    tops = {it[0]: it[1] for it in boxes(data, 0, len(data), True)}
+    said = done.format(tops[b"moov"], tops[b"mdat"])
+    runs.run(3, "", "mp4inspect: none.mp4: No such file or directory (os error 2)\n", "none.mp4", "out.mp4")
+    runs.run(3, "", "mp4inspect: none/out.mp4: No such file or directory (os error 2)\n", "in.mp4", "none/out.mp4")
+    # Control characters of names are escaped.
+    runs.write("a\x1b.mp4", data)
+    runs.run(0, said.replace("out.mp4", "b\\u{1b}.mp4"), "", "a\x1b.mp4", "b\x1b.mp4")
+    none = "No such file or directory (os error 2)\n"
+    runs.run(3, "", f"mp4inspect: none\\u{{1b}}.mp4: {none}", "none\x1b.mp4", "out.mp4")
+    runs.run(3, "", f"mp4inspect: none\\u{{1b}}/b.mp4: {none}", "in.mp4", "none\x1b/b.mp4")
+    for name in ("a\x1b.mp4", "b\x1b.mp4"):
+        os.remove(runs.path(name))
+    # A file that exists is replaced.
+    runs.write("out.mp4", b"old")
+    runs.run(0, said, "", "in.mp4", "out.mp4")
+    compare("replaced", data, runs.read("out.mp4"))
+
+    def short():
+        signal.signal(signal.SIGXFSZ, signal.SIG_IGN)
+        resource.setrlimit(resource.RLIMIT_FSIZE, (100, 100))
+    runs.write("out.mp4", b"old")
+    large = "write failed: File too large (os error 27)\n"
+    runs.run(3, "", f"mp4inspect: out.mp4: {large}", "in.mp4", "out.mp4", preexec_fn=short)
+    runs.run(3, "", f"mp4inspect: new.mp4: {large}", "in.mp4", "new.mp4", preexec_fn=short)
+    if runs.read("out.mp4") != b"old" or os.path.exists(runs.path("new.mp4")):
+        fail("after a failed write a file is there")
+    # Nobody may write into a folder.
+    os.chmod(runs.folder, 0o555)
+    user = {"user": "nobody"} if os.getuid() == 0 else {}
+    runs.run(3, "", "mp4inspect: new.mp4: Permission denied (os error 13)\n", "in.mp4", "new.mp4", **user)
+    os.chmod(runs.folder, 0o755)
+    if runs.read("in.mp4") != data or sorted(os.listdir(runs.folder)) != ["in.mp4", "out.mp4"]:
+        fail(f"what was there is changed: {os.listdir(runs.folder)}")
+
+
+NEEDED = "OUT must be a regular file or a new name"
+
+
+class Nodes:
+    """Runs whose OUT is a node of some kind. The names of the folder, their nodes, and the file that is read stay
+    unchanged, except the files that a run may write."""
+
+    def __init__(self, runs, data, said):
+        self.runs, self.data, self.said = runs, data, said
+
+    def seen(self):
+        """Returns the node of each name of the folder: its type, permissions, inode and device, and its target if it is
+        a link."""
+        found = {}
+        for name in os.listdir(self.runs.folder):
+            state = os.lstat(self.runs.path(name))
+            leads = os.readlink(self.runs.path(name)) if stat.S_ISLNK(state.st_mode) else None
+            found[name] = (state.st_mode, state.st_ino, state.st_rdev, leads)
+        return found
+
+    def refused(self, text, name="out.mp4", source="in.mp4", status=3, told=None):
+        """Checks that OUT is refused with the text `text`, and that everything is unchanged."""
+        before = self.seen()
+        self.runs.run(status, "", f"mp4inspect: {told or name}: {text}\n", source, name)
+        if self.seen() != before or self.runs.read("in.mp4") != self.data:
+            fail(f"{name}: {text}: something is changed: {before} {self.seen()}")
+
+    def written(self, name, *files):
+        """Checks that OUT is written: `files` have the boxes of the file that is read, and no other name is changed."""
+        before = self.seen()
+        self.runs.run(0, self.said.replace("out.mp4", name), "", "in.mp4", name)
+        after = self.seen()
+        for file in files:
+            compare(name, self.data, self.runs.read(file))
+            before.pop(file, None)
+            after.pop(file)
+        if after != before:
+            fail(f"{name}: something else is changed: {before} {after}")
+
+    def node(self, kind, make):
+        """Checks that OUT is refused if it is a node of the kind `kind`, or a link to one. `make` creates the node,
+        where that is permitted."""
+        try:
+            make(self.runs.path("node"))
+        except PermissionError:
+            print(f"faststart: skipped OUT that is a {kind}, which may not be created here")
+            return
+        self.refused(f"this is a {kind}; {NEEDED}", "node")
+        os.symlink("node", self.runs.path("link"))
+        self.refused(f"this is a {kind}; {NEEDED}", "link")
+        os.remove(self.runs.path("link"))
+        if kind == "directory":
+            os.rmdir(self.runs.path("node"))
+        else:
+            os.remove(self.runs.path("node"))
+
+
+def listening(path):
+    """Creates a socket at `path`."""
+    with socket.socket(socket.AF_UNIX) as server:
+        server.bind(path)
+
+
+def nodes(runs, random_):
+    """Checks each kind of OUT that is not a regular file."""
+    data = made(random_, [Track(1, [[10, 20], [30]])])
+    runs.write("in.mp4", data)
+    tops = {it[0]: it[1] for it in boxes(data, 0, len(data), True)}
+    here = Nodes(runs, data, f"out.mp4: moov is moved from {tops[b'moov']} to {tops[b'mdat']}\n")
+    here.node("directory", os.mkdir)
+    here.node("FIFO", os.mkfifo)
+    here.node("socket", listening)
+    # These are the numbers of /dev/null and of the first loop device. Neither is ever opened.
+    here.node("character device", lambda path: os.mknod(path, stat.S_IFCHR | 0o666, os.makedev(1, 3)))
+    here.node("block device", lambda path: os.mknod(path, stat.S_IFBLK | 0o600, os.makedev(7, 0)))
+
+    # A link stays, and the file that it leads to is written.
+    runs.write("target.mp4", b"old")
+    os.symlink("target.mp4", runs.path("link.mp4"))
+    here.written("link.mp4", "target.mp4")
+    os.mkdir(runs.path("folder"))
+    runs.write("folder/far.mp4", b"old")
+    os.symlink("link2.mp4", runs.path("link1.mp4"))
+    os.symlink("folder/far.mp4", runs.path("link2.mp4"))
+    here.written("link1.mp4")
+    compare("a link to a link", data, runs.read("folder/far.mp4"))
+    if os.listdir(runs.path("folder")) != ["far.mp4"]:
+        fail(f"a file is left beside the target: {os.listdir(runs.path('folder'))}")
+    # A link that leads nowhere is not written through.
+    os.symlink("nothing.mp4", runs.path("dangling.mp4"))
+    here.refused(f"this is a symbolic link to a file that does not exist; {NEEDED}", "dangling.mp4")
+    os.symlink("ring.mp4", runs.path("ring.mp4"))
+    here.refused("Too many levels of symbolic links (os error 40)", "ring.mp4")
+
+    # OUT is the file that is read, by each of its names.
+    same = "this is the file that is read; OUT must be another file"
+    here.refused(same, "in.mp4")
+    here.refused(same, "./in.mp4")
+    os.link(runs.path("in.mp4"), runs.path("hard.mp4"))
+    here.refused(same, "hard.mp4")
+    here.refused(same, "in.mp4", "hard.mp4")
+    os.symlink("hard.mp4", runs.path("soft.mp4"))
+    here.refused(same, "soft.mp4")
+    os.remove(runs.path("hard.mp4"))
+    # OUT is another file, with the same bytes.
+    runs.write("alike.mp4", data)
+    here.written("alike.mp4", "alike.mp4")
+
+    # IN has to be a regular file.
+    os.mkfifo(runs.path("fifo"))
+    here.refused("this is a FIFO; IN must be a regular file", "out.mp4", "fifo", told="fifo")
+    here.refused("this is a directory; IN must be a regular file", "out.mp4", "folder", told="folder")
+
+    # `-` means the standard input and output, and `./-` a file with this name.
+    dash = "faststart needs files, not the standard input or output; ./- is a file of this name"
+    here.refused(dash, "-", status=2)
+    here.refused(dash, "out.mp4", "-", status=2, told="-")
+    here.written("./-", "-")
+
+    # Files that an earlier run left behind, or somebody else made, are unchanged.
+    for name in (".mp4inspect-0.partial", "out.mp4.partial", "victim"):
+        runs.write(name, b"other")
+    os.symlink("victim", runs.path(".mp4inspect-1.partial"))
+    os.symlink("nothing", runs.path(".mp4inspect-2.partial"))
+    os.mkdir(runs.path(".mp4inspect-3.partial"))
+    here.written("out.mp4", "out.mp4")
+    if any(runs.read(name) != b"other" for name in (".mp4inspect-0.partial", "out.mp4.partial", "victim")):
+        fail("a file of another run is written")
+    # The name has the greatest length.
+    longest = "n" * 251 + ".mp4"
+    here.written(longest, longest)
+
+    # The permissions are those of the file that is read, whatever the mask and the permissions of an existing OUT.
+    for mode in (0o600, 0o640, 0o644, 0o666, 0o444, 0o755, 0o4755):
+        for before in (None, 0o600, 0o666):
+            os.chmod(runs.path("in.mp4"), mode)
+            if os.path.exists(runs.path("out.mp4")):
+                os.remove(runs.path("out.mp4"))
+            if before is not None:
+                runs.write("out.mp4", b"old")
+                os.chmod(runs.path("out.mp4"), before)
+            runs.run(0, here.said, "", "in.mp4", "out.mp4", preexec_fn=lambda: os.umask(0o027))
+            now = stat.S_IMODE(os.lstat(runs.path("out.mp4")).st_mode)
+            if now != mode & 0o777:
+                fail(f"the file that is read has {mode:o}, and the one that is written {now:o}")
+
+
+def large(runs):
+    """Moves media data that are larger than the memory."""
+    start = len(ftyp(b"isom"))
+    with open(runs.path("in.mp4"), "wb") as file:
+        file.write(ftyp(b"isom") + be(4, 3 * MEMORY) + b"mdat" + b"first")
+        file.seek(start + 3 * MEMORY - 5)
+        file.write(b"final" + movie(Track(1, [[5], [5]]).box([start + 8, start + 3 * MEMORY - 5])))
+
+    def little():
+        resource.setrlimit(resource.RLIMIT_AS, (MEMORY, MEMORY))
+    runs.run(0, f"out.mp4: moov is moved from {start + 3 * MEMORY} to {start}\n", "", "in.mp4", "out.mp4",
+             preexec_fn=little)
+    runs.samples += compare("large", runs.read("in.mp4"), runs.read("out.mp4"))
+
+
+class FastStart(unittest.TestCase):
+    def setUp(self):
+        folder, place = (tempfile.mkdtemp(prefix="faststart-") for _ in range(2))
+        for it in (folder, place):
+            # The user nobody has to be able to run it.
+            os.chmod(it, 0o755)
+            self.addCleanup(shutil.rmtree, it)
+        self.random = random.Random(number("SEED", 1))
+        self.runs = Runs(shutil.copy(built("mp4_inspect"), place), folder)
+
+    def test_files_that_are_moved(self):
+        moved(self.runs, self.random, number("COUNT", 200))
+        self.assertGreater(self.runs.samples, 0)
+
+    def test_refusals(self):
+        refused(self.runs, self.random)
+
+    def test_ends_that_fail(self):
+        ends(self.runs, self.random)
+
+    def test_kinds_of_files(self):
+        nodes(self.runs, self.random)
+
+    def test_large_media_data_in_little_memory(self):
+        large(self.runs)
+
+
+if __name__ == "__main__":
+    unittest.main()

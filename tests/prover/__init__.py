@@ -1,0 +1,1 @@
+"""Wrong bodies, which the prover has to refuse, and wrong definitions, which a test has to catch."""

@@ -1,0 +1,493 @@
+"""Tries wrong definitions: changes of the layout that definition and code make alike, so that no proof sees them.
+
+Each change of wrong-definitions.txt is made in a copy of the repository. There the tests of the crates, the rows of
+test_rows and some inputs of test_differential run without proof, and the rows of the changed box run first. A test has
+to fail. If the change names the tests that are made for it, one of these has to fail. Prints for each change which
+tests failed, up to those that catch it, and at the end the changes that no test caught. There must be none.
+
+    python3 -m tests.prover.wrong_definitions [--only WORD] [--apart] [--jobs N] [--list] [--prove]
+
+    --only WORD   only the changes with this word in their line, such as `trex` or `little-endian`
+    --apart       each change by itself, with all tests of all crates. Otherwise changes that can't fail one another's
+                  tests are made together, and one that no test of its own catches there is tried by itself
+    --jobs N      N copies at a time; each takes about two processors and 2 GB
+    --list        prints the changes, and that each can be made
+    --prove       proves the changed crates instead of running the tests: a change that is proved is consistent. It
+                  uses the results that earlier checks kept in out/
+
+It needs about a minute for each run of the tests. It is not part of the gate.
+"""
+import argparse
+import concurrent.futures
+import os
+import queue
+import re
+import shutil
+import subprocess
+import sys
+import tempfile
+
+from tests.built import TOP
+from tests.files.inspected import files, text_of_tree
+from tests.readers.compared import differences, misplaced, otherwise, outcomes_by_layout, trees_otherwise
+from tests.readers.inputs import Maker
+from tests.readers.shown import records, texts_of
+from tests.rows import rows
+
+CHANGES = os.path.join(TOP, "tests", "prover", "wrong-definitions.txt")
+# Two names beside those of the crates: the rows, which the program test_probe reads, and the files of test_inspect,
+# whose trees the program mp4inspect shows.
+ROWS = "rows"
+TREES = "trees"
+# The number of inputs of test_differential that are read with the rows, and the number of bytes that are read at once.
+# The text of a longer row may be longer than the output that a run without proof keeps.
+INPUTS = 2000
+PART = 8000
+LONGEST = 33_000
+# The rows and the first crate have tests that are named after single boxes. Most changes fail in the rows, and then the
+# other tests need not run.
+NAMED = [ROWS, "test_boxes"]
+TEST_CRATES = [*NAMED, "mp4_vectors", "mp4_ported", "test_boxes"]
+# A crate with tests beside it. Only these see changes of its boxes.
+OWN = "example_box"
+# The crates of boxes that no other box uses: their changes are made together, and with no others.
+MORE = "mp4_extra"
+# The status of `rt try` where a test stops at a fault, such as an index out of bounds.
+FAULT = 4
+# A change of one of these can fail the tests of the others, since one holds the other or their code is the same.
+RELATED = [
+    {"url", "dref", "dinf"},
+    {"avcc", "avc1", "stsd"},
+    {"avc1", "hev1", "stsd"},
+    {"hvcc", "hev1", "stsd"},
+    {"vpcc", "vp09", "stsd"},
+    {"tx3g", "stsd"},
+    {"esds", "mp4a", "stsd"},
+]
+# Changes of code that several boxes use, with the tests that see such a change and none of the others here.
+SHARED = {
+    "languages": "test_boxes::tests::languages::|rows::mdhd::letters_of_languages",
+    "codes": "test_boxes::tests::codes::",
+    "strings": "test_boxes::tests::equality::strings",
+    "lists": "test_boxes::tests::equality::lists",
+    "tables": "rows::(stco|co64|stss|stts|ctts)::one_entry_short",
+    "rows": "rows::(stsz::one_size|trun::one_sample)_short",
+    "spans": "rows::frames::places_of_",
+    "other": "mp4_vectors::tests::kept::|rows::kept::",
+    "configurations": "::(configurations|media_tables)::|test_boxes::tests::defaults::default_values",
+}
+
+
+class Change:
+    def __init__(self, name, line):
+        self.name = name
+        self.line = line
+        self.edits = []
+        self.tests = None
+
+    def box(self):
+        return self.name.split(":")[0]
+
+    def is_of(self, crate):
+        """Returns whether the change is only in `crate`, or in others whose names begin with its name."""
+        return all(edit[0].split(os.sep)[1].startswith(crate) for edit in self.edits)
+
+    def crates(self):
+        """Returns the crates whose tests can see the change, the likeliest first."""
+        if self.tests:
+            return [self.tests.split("::")[0]]
+        return [OWN] if self.is_of(OWN) else TEST_CRATES
+
+    def caught_by(self, failed):
+        """Returns those of the failed tests that catch the change: all, or those that are made for it."""
+        return [test for test in failed if self.tests is None or re.match(self.tests, test)]
+
+
+class Refused(Exception):
+    pass
+
+
+def text_of(line):
+    return line.replace("\\n", "\n")
+
+
+def read_changes():
+    changes = []
+    file = waiting = None
+    with open(CHANGES, encoding="utf-8") as lines:
+        for number, line in enumerate(lines, 1):
+            line = line.rstrip("\n")
+            if not line or line.startswith("#"):
+                continue
+            key, colon, text = line.partition(":")
+            text = text_of(text[1:])
+            if key == "change" and colon:
+                changes.append(Change(text, number))
+                file = None
+            elif key == "tests" and changes and not changes[-1].edits:
+                changes[-1].tests = text
+            elif key == "file" and changes:
+                file = os.path.join("crates", text)
+            elif key in ("old", "every", "swap") and file and not waiting:
+                waiting = (key, text)
+            elif key in ("new", "with") and waiting and (key == "with") == (waiting[0] == "swap"):
+                changes[-1].edits.append((file, *waiting, text))
+                waiting = None
+            else:
+                sys.exit(f"{CHANGES}:{number}: not expected here: {line}")
+    return changes
+
+
+def places(source, text):
+    """Returns the places of `text` in `source`. The two may be broken into lines at different places."""
+    words = [re.escape(word) for word in re.split(r"\s+", text)]
+    return list(re.finditer(r"\s+".join(words), source))
+
+
+def only_place(source, text):
+    found = places(source, text)
+    if len(found) != 1:
+        raise Refused(f"occurs {len(found)} times: {text}")
+    return found[0].span()
+
+
+def edited(source, kind, old, new):
+    if kind == "every":
+        found = places(source, old)
+        if not found:
+            raise Refused(f"occurs nowhere: {old}")
+        for place in reversed(found):
+            source = source[: place.start()] + new + source[place.end() :]
+        return source
+    begin, end = only_place(source, old)
+    if kind == "old":
+        return source[:begin] + new + source[end:]
+    first, second = sorted([(begin, end), only_place(source, new)])
+    before, between, after = source[: first[0]], source[first[1] : second[0]], source[second[1] :]
+    return before + source[second[0] : second[1]] + between + source[first[0] : first[1]] + after
+
+
+def made(changes):
+    """Returns the changed files, by their names."""
+    files = {}
+    for change in changes:
+        for file, *edit in change.edits:
+            try:
+                if file not in files:
+                    with open(os.path.join(TOP, file), encoding="utf-8") as source:
+                        files[file] = source.read()
+                files[file] = edited(files[file], *edit)
+            except (OSError, Refused) as why:
+                raise Refused(f"{change.name}\n  {file}: {why}") from None
+    return files
+
+
+def parts(cases, of_buffer):
+    """Yields the cases in parts, so that the output for a part is not too long."""
+    part, length = [], 0
+    for case in cases:
+        if part and length + len(of_buffer(case)) > PART:
+            yield part
+            part, length = [], 0
+        part.append(case)
+        length += len(of_buffer(case))
+    yield part
+
+
+class Copy:
+    """A copy of the crates, in which changes are made and undone."""
+
+    def __init__(self, folder, with_outputs):
+        self.folder = folder
+
+        def left_out(of, names):
+            kept = with_outputs and os.path.basename(of) not in TEST_CRATES
+            return [] if kept else [name for name in names if name == "out"]
+
+        shutil.copytree(os.path.join(TOP, "crates"), os.path.join(folder, "crates"), ignore=left_out)
+        for name in ("crates.txt", "HANDLES"):
+            shutil.copy(os.path.join(TOP, name), folder)
+
+    def write(self, files):
+        for file, source in files.items():
+            with open(os.path.join(self.folder, file), "w", encoding="utf-8") as out:
+                out.write(source)
+
+    def restore(self, files):
+        for file in files:
+            shutil.copy(os.path.join(TOP, file), os.path.join(self.folder, file))
+
+    def rt(self, crate, *words):
+        how = {"stdin": subprocess.DEVNULL, "stdout": subprocess.PIPE, "stderr": subprocess.STDOUT}
+        folder = os.path.join(self.folder, "crates", crate)
+        return subprocess.run(["rt", *words], cwd=folder, text=True, errors="replace", **how)
+
+    def outputs(self, program, cases, *arguments):
+        """Returns the output of `program` for each of `cases`, or None if it stops at a fault. The program is built
+        once and run without proof. Raises Refused if it doesn't compile."""
+        with tempfile.TemporaryDirectory(dir=self.folder) as folder:
+            for number, case in enumerate(cases):
+                with open(os.path.join(folder, f"{number:04}"), "wb") as file:
+                    file.write(case)
+            crate = os.path.join(self.folder, "crates", program)
+            # The interpreter runs for one step: the program that is compiled with checks shows everything.
+            words = ["rt", "try", "--steps", "1", "--seconds", "60", "--cases", folder, *arguments]
+            ran = subprocess.run(words, cwd=crate, stdin=subprocess.DEVNULL, capture_output=True)
+        if ran.returncode == FAULT:
+            return None
+        found = re.split(rb"(?:^|\n)== \d{4}\n", ran.stdout)
+        if ran.returncode or len(found) != len(cases) + 1:
+            raise Refused(f"{program}: the program doesn't run\n{ran.stderr.decode('utf-8', 'replace')[-2000:]}")
+        return found[1:]
+
+    def failed_rows(self, chosen, count):
+        """Returns the names of the tests with a row of `chosen` that differs, and the number of `count` inputs of
+        test_differential that differ. Also returns how many of both differ from the slow reader in the places of boxes,
+        or in the structure of their trees."""
+        maker = Maker(1)
+        inputs = [maker.input() for _ in range(count)]
+        of_rows = list(parts(chosen, lambda case: case[1].buffer))
+        of_inputs = list(parts(inputs, lambda case: case[1])) if inputs else []
+        cases = [[(row.at, row.buffer) for _, row in part] for part in of_rows] + of_inputs
+        found = self.outputs("test_probe", list(map(records, cases)))
+        if found is None:
+            return [f"{ROWS}: the program stops at a fault"]
+        failed, differ, elsewhere, otherwise_open = {}, 0, 0, 0
+        for part, out in zip(of_rows, found):
+            for (name, row), texts in zip(part, texts_of(out, len(part))):
+                if any(differences(row, texts)):
+                    failed[f"{ROWS}::{name}"] = True
+                elsewhere += any(misplaced(row.buffer, row.at, texts))
+                otherwise_open += any(trees_otherwise(row.buffer, row.at, texts))
+        for part, out in zip(of_inputs, found[len(of_rows):]):
+            for (at, buffer), texts in zip(part, texts_of(out, len(part))):
+                differ += any(otherwise(outcomes_by_layout(buffer, at), texts))
+                elsewhere += any(misplaced(buffer, at, texts))
+                otherwise_open += any(trees_otherwise(buffer, at, texts))
+        if otherwise_open:
+            failed[f"{ROWS}::structure_of_trees: {otherwise_open} of {len(chosen) + count} buffers"] = True
+        if differ:
+            failed[f"differential: {differ} of {count} inputs"] = True
+        if elsewhere:
+            failed[f"places: {elsewhere} of {len(chosen) + count} buffers"] = True
+        return list(failed)
+
+    def failed_trees(self):
+        """Returns the names of the files of tests/programs/test_inspect.py whose tree differs."""
+        of_files = files()
+        found = self.outputs("mp4_inspect", list(of_files.values()), "--", "-")
+        if found is None:
+            return [f"{TREES}: the program stops at a fault"]
+        trees = [out.decode("utf-8").strip("\n") for out in found]
+        return [f"{TREES}::{name}" for name, tree in zip(of_files, trees) if tree != text_of_tree(name).strip("\n")]
+
+    def failed_tests(self, crate, changes=()):
+        """Returns the names of the tests of `crate` that fail, and of the rows that can catch `changes`. Raises Refused
+        if the crate doesn't compile."""
+        if crate == ROWS:
+            chosen = rows_for(changes)
+            return self.failed_rows(chosen or all_rows(), 0 if chosen else INPUTS)
+        if crate == TREES:
+            return self.failed_trees()
+        ran = self.rt(crate, "try", "--test")
+        failed = [f"{crate}::{name}" for name in re.findall(r"^test (\S+) \.\.\. (?!ok)", ran.stdout, re.M)]
+        if ran.returncode == FAULT:
+            return failed + [f"{crate}: the tests stop at a fault"]
+        if not re.search(r"^test result: ", ran.stdout, re.M):
+            raise Refused(f"{crate}: the tests don't run\n{ran.stdout[-2000:]}")
+        return failed
+
+    def failed(self, changes, everything):
+        """Returns the tests that fail with `changes`. With `everything` it runs the tests of all crates. Otherwise it
+        stops once the failed tests catch each change, and first runs only those rows that can catch one."""
+        files = made(changes)
+        self.write(files)
+        try:
+            found = []
+            for crate in crates_for(changes):
+                if everything or not enough(changes, found):
+                    found += self.failed_tests(crate, () if everything else changes)
+            if not everything and len(changes) == 1 and not found and not changes[0].tests and rows_for(changes):
+                found += self.failed_tests(ROWS)
+            return found
+        finally:
+            self.restore(files)
+
+    def proved(self, change):
+        files = made([change])
+        self.write(files)
+        try:
+            for crate in sorted({file.split(os.sep)[1] for file in files}):
+                checked = self.rt(crate, "check")
+                if checked.returncode:
+                    return f"{crate}: {checked.stdout[-2000:]}"
+            return None
+        finally:
+            self.restore(files)
+
+
+def known_boxes():
+    """Returns the boxes that have a vector."""
+    with open(os.path.join(TOP, "crates", "mp4_ported", "src", "vectors", "second.rt"), encoding="utf-8") as source:
+        return {box.lower() for box in re.findall(r"Second::(\w+) =>", source.read())}
+
+
+BOXES = known_boxes()
+
+
+def go_together(one, other):
+    """Returns whether two changes can be made together, so that for each of them a failed test shows that it is
+    caught."""
+    related = any({one.box(), other.box()} <= boxes for boxes in RELATED)
+    if f"{TREES}::" in (one.tests, other.tests) and one.crates() == other.crates():
+        return False
+    if one.is_of(MORE) != other.is_of(MORE):
+        return False
+    if one.tests or other.tests:
+        apart = not (one.tests and other.tests) or one.tests == other.tests or one.crates() != other.crates()
+        return not apart and one.box() != other.box() and not related
+    if one.box() in SHARED or other.box() in SHARED:
+        return one.box() in SHARED and other.box() in SHARED and one.box() != other.box()
+    return one.box() in BOXES and other.box() in BOXES and one.box() != other.box() and not related
+
+
+def rounds_of(changes):
+    """Returns the rounds of changes that are made together. A change that goes with no other has its own round."""
+    rounds = []
+    for change in changes:
+        for members in rounds:
+            if all(go_together(change, it) for it in members):
+                members.append(change)
+                break
+        else:
+            rounds.append([change])
+    return rounds
+
+
+def catches(test, change):
+    """Returns whether the failed test `test` shows, in a round of several changes, that `change` is caught. Such a test
+    is made for the change, is a row of its box, is named only after its box, or sees no other change of shared code."""
+    if change.tests:
+        return bool(change.caught_by([test]))
+    if change.box() in SHARED:
+        return re.search(SHARED[change.box()], test) is not None
+    if test.startswith(f"{ROWS}::"):
+        return test.split("::")[1] == change.box()
+    return "test_boxes::" in test and BOXES & set(re.split("::|_", test)) == {change.box()}
+
+
+def all_rows():
+    return [(name, row) for name, row in rows() if len(row.buffer) <= LONGEST]
+
+
+def rows_for(changes):
+    """Returns the rows that can catch `changes`, if each change has some. A round of these is much faster than one of
+    all rows."""
+    if not all(it.tests or it.box() in SHARED or it.box() in BOXES for it in changes):
+        return []
+    return [row for row in all_rows() if any(catches(f"{ROWS}::{row[0]}", it) for it in changes)]
+
+
+def told(change, failed):
+    """Returns those of the failed tests that show that `change` is caught."""
+    return [test for test in failed if catches(test, change)]
+
+
+def enough(changes, failed):
+    """Returns whether no more tests need to run: one fails, or each of several changes is caught by one that does."""
+    return all(told(it, failed) for it in changes) if len(changes) > 1 else bool(changes[0].caught_by(failed))
+
+
+def crates_for(changes):
+    """Returns the crates whose tests can see `changes`. If changes of single boxes are made together, only two crates
+    can tell them apart."""
+    crates = changes[0].crates()
+    apart = len(changes) == 1 or changes[0].tests or changes[0].box() in SHARED
+    return crates if apart else [crate for crate in crates if crate in NAMED]
+
+
+def say(change, failed):
+    print(f"{'caught' if failed else 'PASSED'}  {change.name}")
+    for test in failed:
+        print(f"        {test}")
+    sys.stdout.flush()
+
+
+def tried(copies, changes, everything):
+    """Tries one round. Returns each change with the tests that caught it, or with the reason why it wasn't tried."""
+    copy = copies.get()
+    try:
+        if len(changes) == 1:
+            return [(changes[0], changes[0].caught_by(copy.failed(changes, everything)))]
+        failed = copy.failed(changes, False)
+        return [(it, told(it, failed) or it.caught_by(copy.failed([it], everything))) for it in changes]
+    except Refused as why:
+        if len(changes) == 1:
+            return [(changes[0], why)]
+    finally:
+        copies.put(copy)
+    # One of them doesn't compile.
+    return [it for change in changes for it in tried(copies, [change], everything)]
+
+
+def main():
+    parser = argparse.ArgumentParser(description=__doc__, formatter_class=argparse.RawDescriptionHelpFormatter)
+    parser.add_argument("--only", default="")
+    parser.add_argument("--apart", action="store_true")
+    parser.add_argument("--jobs", type=int, default=1)
+    parser.add_argument("--list", action="store_true")
+    parser.add_argument("--prove", action="store_true")
+    given = parser.parse_args()
+    changes = [it for it in read_changes() if given.only in it.name]
+    for change in changes:
+        try:
+            made([change])
+        except Refused as why:
+            sys.exit(f"can't be made: {why}")
+        if given.list:
+            print(change.name)
+    print(f"{len(changes)} changes")
+    if given.list or not changes:
+        return 0 if changes else 2
+    with tempfile.TemporaryDirectory(prefix="wrong-definitions-") as folder:
+        copies = queue.Queue()
+        for number in range(given.jobs):
+            copies.put(Copy(os.path.join(folder, str(number)), given.prove))
+        if given.prove:
+            copy = copies.get()
+            refused = [(it, copy.proved(it)) for it in changes]
+            for change, why in refused:
+                print(f"proved  {change.name}" if why is None else f"NOT PROVED  {change.name}\n{why}")
+            return 1 if any(why is not None for _, why in refused) else 0
+        return run(copies, changes, given)
+
+
+def run(copies, changes, given):
+    copy = copies.get()
+    crates = {crate for change in changes for crate in change.crates()}
+    unchanged = [test for crate in sorted(crates) for test in copy.failed_tests(crate)]
+    copies.put(copy)
+    if unchanged:
+        sys.exit("without a change these tests fail: " + ", ".join(unchanged))
+    rounds = [[it] for it in changes] if given.apart else rounds_of(changes)
+    print(f"{len(rounds)} rounds", flush=True)
+    passed, untried = [], []
+    with concurrent.futures.ThreadPoolExecutor(given.jobs) as workers:
+        jobs = [workers.submit(tried, copies, members, given.apart) for members in rounds]
+        for job in concurrent.futures.as_completed(jobs):
+            for change, failed in job.result():
+                if isinstance(failed, Refused):
+                    untried.append(change)
+                    print(f"NOT TRIED  {change.name}: {failed}", flush=True)
+                else:
+                    say(change, failed)
+                    if not failed:
+                        passed.append(change)
+    print(f"{len(changes) - len(passed) - len(untried)} caught, {len(passed)} passed, {len(untried)} not tried")
+    for change in passed:
+        print(f"passed: {change.name}")
+    return 1 if passed or untried else 0
+
+
+if __name__ == "__main__":
+    sys.exit(main())

@@ -1,0 +1,641 @@
+"""The part of the slow reader for boxes other than those of the codec. It has their fields as mp4inspect shows them,
+under the names of the standards, and as the struct has them. It follows ISO/IEC 14496-12, 14496-30, 23001-7, ETSI TS
+102 366, QuickTime's format, and the bindings of AV1, Opus and FLAC, in the sections that crates/mp4_extra/CALLING.md
+names.
+"""
+
+from tests.readers.headers import Fault, check
+
+
+class Hex(str):
+    """Bytes, as their hexadecimal digits."""
+
+
+class Code(str):
+    """A code, each byte as the character of its number."""
+
+
+class Named(int):
+    """A number with a meaning, and the name of that meaning."""
+
+    def __new__(cls, number, name):
+        made = super().__new__(cls, number)
+        made.name = name
+        return made
+
+
+class Content:
+    """The content of a box, read from its front, and the bytes that it is written in: those that were read, with 0 for
+    reserved bytes. Fields are read where they are, even past the end of the box. Lists end with the box.
+
+    A field has the name that the standard gives it. If `raw` is set, the fields are those of the struct: each number
+    and each byte unchanged, with the name in brackets if there is one."""
+
+    def __init__(self, data, end=None, raw=False):
+        self.data, self.at, self.raw = data, 0, raw
+        self.end = len(data) if end is None else end
+        self.fields, self.written = {}, b""
+
+    def take(self, length):
+        piece = self.data[self.at:self.at + length]
+        if len(piece) < length:
+            raise Fault("End")
+        self.at += length
+        self.written += piece
+        return piece
+
+    def reserved(self, length):
+        self.take(length)
+        self.written = self.written[:-length] + bytes(length)
+
+    def put(self, name, value):
+        name, _, in_struct = name.rstrip("]").partition(" [")
+        self.fields[in_struct if in_struct and self.raw else name] = value
+
+    def number(self, length, signed=False):
+        return int.from_bytes(self.take(length), "big", signed=signed)
+
+    def numbers(self, text):
+        """Reads fields one after the other. `text` has the bytes of each, with `i` before them if it is signed, and its
+        name."""
+        for field in text.split(","):
+            length, name = field.split(maxsplit=1)
+            self.put(name.strip(), self.number(int(length.lstrip("i")), length[0] == "i"))
+
+    def bits(self, text):
+        """Reads fields with the numbers of bits in `text`. A field whose name begins with `-` is put only if `raw` is
+        set, and is called `reserved` if no name follows the `-`."""
+        widths = [(int(width), name) for width, name in map(str.split, text.split(","))]
+        left = sum(width for width, _ in widths)
+        value = self.number(left // 8)
+        for width, name in widths:
+            left -= width
+            if name[0] != "-" or self.raw:
+                self.put(name.removeprefix("-") or "reserved", value >> left & 2**width - 1)
+
+    def full(self, versions):
+        texts = {1: "version must be 0", 2: "version must be 0 or 1"}
+        self.numbers("1 version, 3 flags")
+        check(self.fields["version"] < versions, texts.get(versions, "version is too large"))
+        return self.fields["version"], self.fields["flags"]
+
+    def as_code(self, piece):
+        return int.from_bytes(piece, "big") if self.raw else Code(piece.decode("latin-1"))
+
+    def code(self, name):
+        piece = self.take(4)
+        self.put(name, self.as_code(piece))
+        return piece.decode("latin-1")
+
+    def room(self):
+        """Returns the number of bytes up to the end of the box."""
+        return max(self.end - self.at, 0)
+
+    def rest(self):
+        return self.take(self.room())
+
+    def count(self, length, each, what="entries"):
+        """Reads a count of `length` bytes. The entries that it counts, of `each` bytes or more, have to fit in the
+        box."""
+        found = self.number(length)
+        check(found * each <= self.room(), f"count indicates more {what} than could fit in the box")
+        return found
+
+    def as_bytes(self, piece):
+        return list(piece) if self.raw else Hex(piece.hex())
+
+    def bytes(self, name):
+        self.put(name, self.as_bytes(self.rest()))
+
+    def as_string(self, piece, end=b""):
+        """Returns the string in `piece` before `end`, with U+FFFD for what is not UTF-8."""
+        return list(piece) if self.raw else piece.removesuffix(end).decode("utf-8", "replace")
+
+    def string(self, name):
+        self.put(name, self.as_string(self.rest(), b"\0"))
+
+    def terminated(self, name):
+        """Reads a string that a byte of 0 ends, before the end of the box."""
+        length = (self.data.find(b"\0", self.at) + 1 or len(self.data) + 1) - self.at
+        check(length <= self.room(), "string has no end in the box")
+        self.put(name, self.as_string(self.take(length)[:-1]))
+
+    def locale(self, name, number, letters):
+        """Puts a part of a locale: `letters` if they are letters, and otherwise `number`, the number of a list. It puts
+        nothing for 0, which means all."""
+        if number:
+            self.put(name, letters if letters.isascii() and letters.isalpha() else number)
+
+    def numbers_left(self):
+        """Reads the numbers of 4 bytes that fill the rest of the box."""
+        check(self.room() % 4 == 0, "entries do not fill the box")
+        found = self.rest()
+        return [int.from_bytes(found[at:at + 4], "big") for at in range(0, len(found), 4)]
+
+    def sized(self, entry):
+        """Reads an entry with the function `entry`, up to the end that a size of 4 bytes gives. The size counts itself.
+        Returns the fields of the entry."""
+        inner = Content(self.data, self.at, self.raw)
+        inner.at = self.at
+        inner.end += inner.number(4)
+        check(self.at + 4 <= inner.end <= self.end, "size of an entry is too small or too large")
+        entry(inner)
+        check(inner.at == inner.end, "size of an entry is too small or too large")
+        self.at = inner.at
+        self.written += inner.written
+        return inner.fields
+
+    def entries(self, name, count, entry):
+        """Reads a list of `count` entries up to the end of the box, or of any number of entries if `count` is None. The
+        function `entry` reads each from its front. Returns whether the entries fill the box. Puts nothing if they
+        don't."""
+        found, at = [], self.at
+        while at < len(self.data):
+            one = Content(self.data[at:])
+            try:
+                entry(one)
+            except Fault:
+                return False
+            found.append(one.fields)
+            at += one.at
+        if count is not None and len(found) != count:
+            return False
+        self.fields[name] = found
+        return True
+
+    def entry(self, read):
+        """Reads the fields of an entry that begins here, with the function `read`."""
+        entry = Content(self.data, self.end, self.raw)
+        entry.at = self.at
+        read(entry)
+        self.at = entry.at
+        self.written += entry.written
+        return entry.fields
+
+    def each_to_end(self, name, read):
+        """Reads entries up to the end of the box, where the last one has to end. The function `read` reads the fields
+        of each."""
+        found = []
+        while self.room():
+            found.append(self.entry(read))
+            check(self.at <= self.end, "entries do not fill the box")
+        self.put(name, found)
+
+    def rows(self, name, count, text):
+        """Reads a list of `count` entries, each with the fields of `text`, in the form of `numbers`."""
+        entries = []
+        for _ in range(count):
+            entry = Content(self.data)
+            entry.at = self.at
+            entry.numbers(text)
+            self.at = entry.at
+            self.written += entry.written
+            entries.append(entry.fields)
+        self.put(name, entries)
+
+
+def av1c(c):
+    c.bits("1 marker, 7 version, 3 seq_profile, 5 seq_level_idx_0, 1 seq_tier_0, 1 high_bitdepth, 1 twelve_bit,"
+           "1 monochrome, 1 chroma_subsampling_x, 1 chroma_subsampling_y, 2 chroma_sample_position, 3 -,"
+           "1 initial_presentation_delay_present, 4 initial_presentation_delay_minus_one")
+    if not c.raw and not c.fields["initial_presentation_delay_present"]:
+        del c.fields["initial_presentation_delay_minus_one"]
+    c.bytes("configOBUs")
+
+
+def colr(c):
+    kind = c.code("colour_type")
+    if kind == "nclx":
+        c.bits("16 colour_primaries, 16 transfer_characteristics, 16 matrix_coefficients, 1 full_range_flag, 7 -")
+        if c.raw:
+            del c.fields["colour_type"]
+    elif kind == "nclc" and len(c.data) == 10 and not c.raw:
+        c.numbers("2 colour_primaries, 2 transfer_characteristics, 2 matrix_coefficients")
+    else:
+        c.bytes("ICC_profile [data_bytes]" if kind in ("rICC", "prof") else "data_bytes")
+
+
+def cslg(c):
+    version, _ = c.full(2)
+    times = ("compositionToDTSShift", "leastDecodeToDisplayDelta", "greatestDecodeToDisplayDelta",
+             "compositionStartTime", "compositionEndTime")
+    c.numbers(",".join(f"i{8 if version else 4} {time}" for time in times))
+
+
+def data(c):
+    if c.raw:
+        c.numbers("1 type_set, 3 data_type, 2 country, 2 language")
+        c.bytes("value")
+        return
+    c.numbers("4 data_type")
+    country, spoken = c.number(2), c.number(2)
+    c.locale("country", country, chr(country >> 8) + chr(country & 0xFF))
+    c.locale("language", spoken, "".join(chr(0x60 + it) for it in (spoken >> 10, spoken >> 5 & 31, spoken & 31)))
+    value = c.rest()
+    if c.fields["data_type"] == 21 and len(value) in (1, 2, 4):
+        c.put("number", int.from_bytes(value, "big", signed=True))
+    elif c.fields["data_type"] == 1:
+        c.put("text", c.as_string(value))
+    else:
+        c.put("data_bytes", c.as_bytes(value))
+
+
+def substream(s):
+    s.bits("2 fscod, 5 bsid, 1 -, 1 asvc, 3 bsmod, 3 acmod, 1 lfeon, 3 -, 4 num_dep_sub, 1 last")
+    last = s.fields.pop("last")
+    if s.fields["num_dep_sub"]:
+        s.fields["chan_loc"] = 256 * last + s.number(1)
+
+
+def dec3(c):
+    c.bits("13 data_rate, 3 num_ind_sub")
+    streams, left = [], Content(c.data[c.at:])
+    try:
+        for _ in range(0 if c.raw else c.fields["num_ind_sub"] + 1):
+            one = Content(left.data[left.at:])
+            substream(one)
+            streams.append(one.fields)
+            left.at += one.at
+    except Fault:
+        streams, left.at = [], 0
+    if streams:
+        c.fields["substreams"] = streams
+        c.at += left.at
+    if c.room() or not streams:
+        c.bytes("data_bytes [substreams]")
+
+
+BLOCKS = {0: "STREAMINFO", 1: "PADDING", 2: "APPLICATION", 3: "SEEKTABLE", 4: "VORBIS_COMMENT", 5: "CUESHEET",
+          6: "PICTURE", 127: "forbidden"}
+
+
+def block(b):
+    b.bits("1 LastMetadataBlockFlag, 7 BlockType")
+    length = b.count(3, 1, "bytes")
+    kind, data = b.fields["BlockType"], Content(b.take(length), raw=b.raw)
+    if not b.raw:
+        b.fields["BlockType"] = Named(kind, BLOCKS.get(kind, "reserved"))
+        b.put("Length", length)
+    if kind == 0 and length == 34 and not b.raw:
+        data.bits("16 minimum_block_size, 16 maximum_block_size, 24 minimum_frame_size, 24 maximum_frame_size,"
+                  "20 sample_rate, 3 channels, 5 bits_per_sample, 36 total_samples")
+        data.fields["channels"] += 1
+        data.fields["bits_per_sample"] += 1
+        data.bytes("MD5")
+    else:
+        data.bytes("BlockData")
+    b.fields.update(data.fields)
+
+
+def dfla(c):
+    c.full(1)
+    c.each_to_end("metadata_blocks", block)
+
+
+def dops(c):
+    c.numbers("1 Version, 1 OutputChannelCount, 2 PreSkip, 4 InputSampleRate, i2 OutputGain, 1 ChannelMappingFamily")
+    if c.raw:
+        c.bytes("ChannelMapping")
+        return
+    c.fields["OutputGain"] /= 256
+    if len(c.data) >= c.at + 2:
+        c.numbers("1 StreamCount, 1 CoupledCount")
+        c.bytes("ChannelMapping")
+
+
+def elng(c):
+    c.full(1)
+    c.string("extended_language")
+
+
+def hvcc(c):
+    c.numbers("1 configurationVersion")
+    c.bits("2 general_profile_space, 1 general_tier_flag, 5 general_profile_idc,"
+           "32 general_profile_compatibility_flags, 48 general_constraint_indicator_flags, 8 general_level_idc")
+    if not c.raw:
+        c.fields["general_constraint_indicator_flags"] = Hex(f"{c.fields['general_constraint_indicator_flags']:012x}")
+    c.bits("4 -reserved_before_segmentation, 12 min_spatial_segmentation_idc, 6 -reserved_before_parallelism,"
+           "2 parallelismType, 6 -reserved_before_chroma_format, 2 chroma_format_idc, 5 -reserved_before_luma,"
+           "3 bit_depth_luma_minus8, 5 -reserved_before_chroma, 3 bit_depth_chroma_minus8")
+    c.numbers("2 avgFrameRate")
+    c.bits("2 constantFrameRate, 3 numTemporalLayers, 1 temporalIdNested, 2 lengthSizeMinusOne")
+    c.put("arrays", [c.entry(nal_units) for _ in range(c.number(1))])
+
+
+def nal_units(array):
+    """Reads an array of NAL units of one type."""
+    array.bits("1 array_completeness, 1 -, 6 NAL_unit_type")
+    units = [array.as_bytes(array.take(array.count(2, 1, "bytes"))) for _ in range(array.number(2))]
+    array.put("nalUnit [nal_units]", units)
+
+
+def key(k):
+    k.code("Key_namespace [namespace]")
+    k.string("Key_value [value]")
+
+
+def keys(c):
+    c.full(1)
+    c.numbers("4 entry_count")
+    c.put("entries", [c.sized(key) for _ in range(c.fields["entry_count"])])
+    if c.raw:
+        del c.fields["entry_count"]
+
+
+def kind(c):
+    c.full(1)
+    c.terminated("schemeURI")
+    c.terminated("value")
+
+
+def mdcv(c):
+    for which in range(3):
+        c.numbers(",".join(f"2 display_primaries_{axis}_{which} [display_primaries_{which}_{axis}]" for axis in "xy"))
+    c.numbers("2 white_point_x, 2 white_point_y, 4 max_display_mastering_luminance, 4 min_display_mastering_luminance")
+
+
+def mfro(c):
+    c.full(1)
+    c.numbers("4 parent_size")
+
+
+def prft(c):
+    version, _ = c.full(2)
+    c.numbers(f"4 reference_track_ID, 8 ntp_timestamp, {8 if version else 4} media_time")
+
+
+def pssh(c):
+    version, _ = c.full(2)
+    c.put("SystemID", c.as_bytes(c.take(16)))
+    if version:
+        c.put("KID [key_ids]", [c.as_bytes(c.take(16)) for _ in range(c.count(4, 16))])
+    c.put("Data [system_data]", c.as_bytes(c.take(c.count(4, 1, "bytes"))))
+
+
+def auxiliary(c, versions):
+    version, flags = c.full(versions)
+    if flags & 1:
+        c.code("aux_info_type")
+        c.numbers("4 aux_info_type_parameter")
+    return version
+
+
+def saio(c):
+    width = 8 if auxiliary(c, 2) else 4
+    c.put("offset [offsets]", [c.number(width) for _ in range(c.count(4, width))])
+
+
+def saiz(c):
+    auxiliary(c, 1)
+    c.numbers("1 default_sample_info_size, 4 sample_count")
+    if c.raw or c.room():
+        c.put("sample_info_size [sample_info_sizes]", list(c.rest()))
+
+
+def sbgp(c):
+    version, _ = c.full(2)
+    c.code("grouping_type")
+    if version:
+        c.numbers("4 grouping_type_parameter")
+    c.rows("entries", c.count(4, 8), "4 sample_count, 4 group_description_index")
+
+
+def schm(c):
+    _, flags = c.full(1)
+    c.code("scheme_type")
+    c.numbers("4 scheme_version")
+    if flags & 1:
+        c.string("scheme_uri")
+
+
+def sdtp(c):
+    c.full(1)
+    names = ["is_leading", "sample_depends_on", "sample_is_depended_on", "sample_has_redundancy"]
+    c.fields["entries"] = [{name: byte >> 6 - 2 * n & 3 for n, name in enumerate(names)} for byte in c.rest()]
+
+
+def senc(c):
+    c.full(1)
+    c.numbers("4 sample_count")
+    c.bytes("data_bytes [samples]")
+
+
+def encryption(d):
+    d.take(1)
+    d.bits("4 crypt_byte_block, 4 skip_byte_block")
+    d.numbers("1 isProtected, 1 Per_Sample_IV_Size")
+    d.put("KID", Hex(d.take(16).hex()))
+    if d.fields["isProtected"] == 1 and d.fields["Per_Sample_IV_Size"] == 0:
+        d.numbers("1 constant_IV_size")
+        d.put("constant_IV", Hex(d.take(d.fields["constant_IV_size"]).hex()))
+
+
+GROUPS = {
+    "roll": lambda d: d.numbers("i2 roll_distance"), "prol": lambda d: d.numbers("i2 roll_distance"),
+    "rap ": lambda d: d.bits("1 num_leading_samples_known, 7 num_leading_samples"),
+    "tele": lambda d: d.bits("1 level_independently_decodable, 7 -"), "seig": encryption,
+}
+
+
+def description(d, kind, length):
+    """Reads the description of a group of `kind`. If `length` is 0, its length is in the 4 bytes before it. If `length`
+    is None, its kind decides the length."""
+    if length is None:
+        check(kind in GROUPS, "its length isn't known")
+        GROUPS[kind](d)
+        return
+    if length == 0:
+        d.numbers("4 description_length")
+        length = d.fields["description_length"]
+    data = Content(d.take(length))
+    try:
+        check(kind in GROUPS, "its fields aren't known")
+        GROUPS[kind](data)
+        check(not data.room(), "its length is another")
+    except Fault:
+        data = Content(data.data)
+        data.bytes("data_bytes")
+    d.fields.update(data.fields)
+
+
+def sgpd(c):
+    version, _ = c.full(3)
+    c.code("grouping_type")
+    if version >= 1:
+        c.numbers("4 default_length")
+    if version >= 2:
+        c.numbers("4 default_group_description_index")
+    c.numbers("4 entry_count")
+    kind, length = c.fields["grouping_type"], c.fields.get("default_length")
+    if c.raw or not c.entries("entries", c.fields["entry_count"], lambda d: description(d, kind, length)):
+        c.bytes("data_bytes [entries]")
+
+
+def sidx(c):
+    version, _ = c.full(2)
+    width = 8 if version else 4
+    c.numbers(f"4 reference_ID, 4 timescale, {width} earliest_presentation_time, {width} first_offset")
+    c.reserved(2)
+    c.rows("references", c.count(2, 12), "4 size, 4 subsegment_duration, 4 sap")
+    c.put("references [entries]", [
+        {"reference_type": entry["size"] >> 31, "referenced_size": entry["size"] & 2**31 - 1,
+         "subsegment_duration": entry["subsegment_duration"], "starts_with_SAP": entry["sap"] >> 31,
+         "SAP_type": entry["sap"] >> 28 & 7, "SAP_delta_time": entry["sap"] & 2**28 - 1}
+        for entry in c.fields.pop("references")])
+
+
+def entry_front(c):
+    """Reads the front that sample entries of all codes have."""
+    c.reserved(6)
+    c.numbers("2 data_reference_index")
+
+
+def boxes_after(c):
+    """Reads the boxes at the end of a sample entry, as bytes."""
+    if c.raw or c.room():
+        c.bytes("data_bytes [boxes]")
+
+
+def stpp(c):
+    entry_front(c)
+    for name in ("namespace", "schema_location", "auxiliary_mime_types"):
+        c.terminated(name)
+    boxes_after(c)
+
+
+def styp(c):
+    c.code("major_brand")
+    c.numbers("4 minor_version")
+    check(c.room() % 4 == 0, "entries do not fill the box")
+    brands = c.rest()
+    c.fields["compatible_brands"] = [c.as_code(brands[at:at + 4]) for at in range(0, len(brands), 4)]
+
+
+def stz2(c):
+    c.full(1)
+    c.reserved(3)
+    c.numbers("1 field_size, 4 sample_count")
+    bits, count = c.fields["field_size"], c.fields["sample_count"]
+    if not c.raw and bits in (4, 8, 16) and 2 * (len(c.data) - c.at) == (bits * count + 7) // 8 * 2:
+        whole = int.from_bytes(c.data[c.at:] + b"\0", "big")
+        left = 8 * (len(c.data) - c.at + 1)
+        c.fields["entry_size"] = [whole >> left - bits * (n + 1) & 2**bits - 1 for n in range(count)]
+    else:
+        c.bytes("data_bytes [entry_sizes]")
+
+
+def subs(c):
+    version, _ = c.full(2)
+    width = 4 if version else 2
+
+    def sample(s):
+        s.numbers("4 sample_delta")
+        s.rows("subsamples", s.count(2, width + 6),
+               f"{width} subsample_size, 1 subsample_priority, 1 discardable, 4 codec_specific_parameters")
+
+    count = c.number(4)
+    if not c.raw:
+        c.put("entry_count", count)
+    c.put("entries", [c.entry(sample) for _ in range(count)])
+
+
+def tenc(c):
+    version, _ = c.full(2)
+    c.reserved(1)
+    if version:
+        c.bits("4 default_crypt_byte_block, 4 default_skip_byte_block")
+    else:
+        c.reserved(1)
+    c.numbers("1 default_isProtected, 1 default_Per_Sample_IV_Size")
+    c.put("default_KID", c.as_bytes(c.take(16)))
+    if c.raw:
+        c.bytes("default_constant_IV")
+    elif c.room():
+        c.numbers("1 default_constant_IV_size")
+        c.bytes("default_constant_IV")
+
+
+def tfra(c):
+    version, _ = c.full(2)
+    c.numbers("4 track_ID")
+    names = ["length_size_of_traf_num", "length_size_of_trun_num", "length_size_of_sample_num"]
+    c.bits("26 -, " + ", ".join(f"2 {name}" for name in names))
+    c.numbers("4 number_of_entry")
+    time = 8 if version else 4
+    widths = [time, time] + [c.fields[name] + 1 for name in names]
+    if not c.raw and len(c.data) - c.at == sum(widths) * c.fields["number_of_entry"]:
+        entry = ["time", "moof_offset", "traf_number", "trun_number", "sample_number"]
+        c.rows("entries", c.fields["number_of_entry"],
+               ",".join(f"{width} {name}" for width, name in zip(widths, entry)))
+    else:
+        c.bytes("data_bytes [entries]")
+
+
+def reference(r):
+    r.code("reference_type")
+    r.put("track_IDs", r.numbers_left())
+
+
+def tref(c):
+    found = []
+    while c.room():
+        found.append(c.sized(reference))
+    # mp4inspect shows an entry for each track, and only the type of a reference to no track.
+    c.put("references", found if c.raw else [
+        {"reference_type": it["reference_type"], **track}
+        for it in found for track in [{"track_ID": number} for number in it["track_IDs"]] or [{}]])
+
+
+def wvtt(c):
+    entry_front(c)
+    boxes_after(c)
+
+
+MORE = {
+    "av1C": av1c, "colr": colr, "cslg": cslg, "data": data, "dec3": dec3, "dfLa": dfla, "dOps": dops, "elng": elng,
+    "hvcC": hvcc, "keys": keys, "kind": kind, "mdcv": mdcv,
+    "mfro": mfro, "prft": prft, "pssh": pssh, "saio": saio, "saiz": saiz, "sbgp": sbgp, "schm": schm, "sdtp": sdtp,
+    "senc": senc, "sgpd": sgpd, "sidx": sidx, "styp": styp, "stz2": stz2, "subs": subs, "tenc": tenc, "tfra": tfra,
+    "stpp": stpp, "wvtt": wvtt,
+    "btrt": lambda c: c.numbers("4 bufferSizeDB, 4 maxBitrate, 4 avgBitrate"),
+    "clap": lambda c: c.numbers(
+        "4 cleanApertureWidthN, 4 cleanApertureWidthD, 4 cleanApertureHeightN, 4 cleanApertureHeightD, i4 horizOffN,"
+        "4 horizOffD, i4 vertOffN, 4 vertOffD"),
+    "clli": lambda c: c.numbers("2 max_content_light_level, 2 max_pic_average_light_level"),
+    "dac3": lambda c: c.bits("2 fscod, 5 bsid, 3 bsmod, 3 acmod, 1 lfeon, 5 bit_rate_code, 5 -"),
+    "frma": lambda c: c.code("data_format"), "nmhd": lambda c: c.full(1),
+    "pasp": lambda c: c.numbers("4 hSpacing, 4 vSpacing"), "tref": tref,
+}
+
+
+def more_fields(name, content):
+    """Returns the fields of a box with the name `name`, in the order of the box. Raises its fault."""
+    box = Content(content)
+    MORE[name](box)
+    return box.fields
+
+
+class Fields(dict):
+    """The fields of a box by the names of the struct, and the bytes that the box is written in."""
+
+    def __init__(self, name, box):
+        super().__init__(plain(box.fields))
+        self.written = (8 + len(box.written)).to_bytes(4, "big") + name.encode("latin-1") + box.written
+
+
+def plain(value):
+    """Returns `value` in a form that does not depend on how names are written: the names of fields, also in lists, are
+    in small letters and without underscores."""
+    if isinstance(value, list) and value and isinstance(value[0], dict):
+        return [plain(entry) for entry in value]
+    if isinstance(value, dict):
+        return {field.replace("_", "").lower(): plain(inner) for field, inner in value.items()}
+    return value
+
+
+def extra_box(name, content, size):
+    """Reads the box with the name `name` whose content is at the front of `content`. `size` is its size without the
+    header."""
+    box = Content(content, size, raw=True)
+    MORE[name](box)
+    return Fields(name, box)

@@ -1,0 +1,774 @@
+"""Computes the tree of a file a second time, by ISO/IEC 14496-12, QuickTime's format and docs/LAYOUT.md only, to
+compare the program mp4inspect with. `tree` gives it as the JSON has it, `lines` gives the lines of its text, and
+`faults` those that `check` writes."""
+
+import datetime
+import decimal
+import json
+import math
+import struct
+
+from tests.readers.extra import MORE, Code, Hex, Named, more_fields
+from tests.readers.headers import Fault, Header
+from tests.readers.readers import READERS, read_row
+from tests.readers.samples import disagreement
+
+CONTAINERS = b"moov trak mdia minf stbl edts mvex moof traf mfra udta dinf sinf schi wave iprp ipco ilst".split()
+# The boxes that files have at their top level (ISO/IEC 14496-12, and QuickTime's).
+TOPS = b"ftyp styp moov moof mdat meta free skip wide uuid udta sidx ssix prft emsg mfra pdin pnot".split()
+DEEPEST = 32
+FIXED = {"rate": 16, "volume": 8, "width": 16, "height": 16, "horizresolution": 16, "vertresolution": 16, "balance": 8,
+         "samplerate": 16}
+# Fields that have a sign (ISO/IEC 14496-12, 8.2.2, 8.3.2 and 8.6.6), and their bits.
+SIGNED = {"rate": 32, "volume": 16, "layer": 16, "alternate_group": 16, "media_rate": 16, "media_rate_fraction": 16}
+MATRIX = {"a": 16, "b": 16, "u": 30, "c": 16, "d": 16, "v": 30, "x": 16, "y": 16, "w": 30}
+UNITY = {"a": 1, "b": 0, "u": 0, "c": 0, "d": 1, "v": 0, "x": 0, "y": 0, "w": 1}
+TYPES = {0: "binary", 1: "text", 2: "UTF-16 text", 13: "JPEG", 14: "PNG", 21: "signed integer", 22: "unsigned integer",
+         23: "32-bit float", 24: "64-bit float", 27: "BMP"}
+NAL_UNITS = {32: "VPS", 33: "SPS", 34: "PPS", 39: "prefix SEI", 40: "suffix SEI"}
+
+
+def number(data, at, length):
+    return int.from_bytes(data[at:at + length], "big")
+
+
+def code(value):
+    """Returns the code `value` as the JSON has it: each byte is the character of its number."""
+    return value.to_bytes(4, "big").decode("latin-1")
+
+
+def latin(name):
+    return None if name is None else name.decode("latin-1")
+
+
+def lossy(text):
+    """Returns the text `text`, with U+FFFD for each sequence of bytes that is not UTF-8."""
+    return text.decode("utf-8", "replace")
+
+
+def full(data, at):
+    return {"version": data[at], "flags": number(data, at + 1, 3)}
+
+
+def visual(data, at):
+    name = lossy(data[at + 43:at + 43 + min(data[at + 42], 31)])
+    return {"data_reference_index": number(data, at + 6, 2), "width": number(data, at + 24, 2),
+            "height": number(data, at + 26, 2), "horizresolution": number(data, at + 28, 4) / 65536,
+            "vertresolution": number(data, at + 32, 4) / 65536, "frame_count": number(data, at + 40, 2),
+            "compressorname": name, "depth": number(data, at + 74, 2)}
+
+
+def sound(data, at, size, quicktime):
+    fields = {"data_reference_index": number(data, at + 6, 2)}
+    version = number(data, at + 8, 2)
+    if quicktime:
+        fields["version"] = version
+    fields.update(channelcount=number(data, at + 16, 2), samplesize=number(data, at + 18, 2),
+                  samplerate=number(data, at + 24, 4) / 65536)
+    if quicktime and version == 1 and size >= 44:
+        names = ["samples_per_packet", "bytes_per_packet", "bytes_per_frame", "bytes_per_sample"]
+        fields.update((name, number(data, at + 28 + 4 * index, 4)) for index, name in enumerate(names))
+    if quicktime and version == 2 and size >= 64:
+        fields["audio_sample_rate"] = float_in(data[at + 32:at + 40])
+        fields.update(num_audio_channels=number(data, at + 40, 4), const_bits_per_channel=number(data, at + 48, 4),
+                      format_specific_flags=number(data, at + 52, 4),
+                      const_bytes_per_audio_packet=number(data, at + 56, 4),
+                      const_lpcm_frames_per_audio_packet=number(data, at + 60, 4))
+    return fields
+
+
+def float_in(data):
+    """Returns the number in 8 bytes of IEEE 754, or their hexadecimal digits if they are not a finite number."""
+    found, = struct.unpack(">d", data)
+    return found if math.isfinite(found) else Hex(data.hex())
+
+
+def handler_name(data):
+    """Returns the name of a handler, which goes up to the end of its box without the last byte. In QuickTime a byte
+    before the name gives its length, and the name may end without a byte of 0."""
+    rest = data[1:]
+    if data[0] in (len(rest), len(rest.removesuffix(b"\0"))):
+        data = rest if rest.endswith(b"\0") else rest + b"\0"
+    return lossy(data[:-1])
+
+
+def own_texts(name, box, content):
+    """Returns the fields of `box`, with the text of its content where the codec keeps the text only if it is UTF-8."""
+    if name == "hdlr":
+        box["name"] = handler_name(content[24:])
+    if name == "url ":
+        box["location"] = lossy(content[4:-1])
+    return box
+
+
+def language(letters):
+    """Returns `letters`, those of the code of a language, or the code as a number. Below 0x400 it is the number of a
+    language on the Macintosh, and 0x7fff is for no language (QuickTime)."""
+    number_ = sum((ord(letter) & 0x1F) << shift for letter, shift in zip(letters, (10, 5, 0)))
+    if number_ < 0x400:
+        return Named(number_, "Macintosh")
+    return Named(number_, "unspecified") if number_ == 0x7FFF else letters
+
+
+def signed(value, bits):
+    return value - 2**bits if value >= 2**(bits - 1) else value
+
+
+def shown(name, field, version, within=None):
+    """Returns the value `field` of the field `name` as the JSON has it."""
+    if name in SIGNED:
+        field = signed(field, SIGNED[name])
+    if name == "language":
+        return language(field)
+    if name == "matrix":
+        return {letter: field[letter] / 2**bits for letter, bits in MATRIX.items()}
+    if name in ("horizresolution", "vertresolution") and isinstance(field, list):
+        return (field[0] * 65536 + field[1]) / 65536
+    if name in FIXED and within not in ("avc1", "hev1", "vp09") or name in ("horizresolution", "vertresolution"):
+        return field / 2**FIXED[name]
+    if name in ("major_brand", "handler_type"):
+        return code(field)
+    if name == "compatible_brands":
+        return [code(brand) for brand in field]
+    if name == "media_time":
+        return signed(field, 32 if version == 0 else 64)
+    if name == "sample_cts":
+        return [offset if version == 0 else signed(offset, 32) for offset in field]
+    if name in ("message_data", "compressorname", "reserved0", "reserved1", "style_record"):
+        return bytes(field).hex()
+    if name in ("sequence_parameter_sets", "picture_parameter_sets"):
+        return [bytes(entry["bytes"]).hex() for entry in field]
+    if name == "video_full_range_flag":
+        return int(field)
+    if isinstance(field, dict):
+        return fields_of(name, field)
+    if isinstance(field, list):
+        return [fields_of(name, entry, version) if isinstance(entry, dict) else entry for entry in field]
+    return field
+
+
+def fields_of(name, box, version=None):
+    """Returns the fields of a box as the JSON has them: those that are present, in any order."""
+    version = box.get("version", version)
+    left_out = {name for name, field in box.items() if field is None or name == "sl_config"}
+    if name == "trun":
+        left_out |= {name for name, field in box.items() if field == []}
+    return {key: shown(key, field, version, name) for key, field in box.items() if key not in left_out}
+
+
+NOT_MP4 = "this is not an MP4 file: "
+
+
+def front_text(data):
+    """Returns the front of a file: the first eight bytes if they are text, and the first four otherwise."""
+    is_text = all(0x20 <= byte < 0x7F for byte in data[:8])
+    text = "".join(("\\" if byte in b'"\\' else "") + chr(byte) if 0x20 <= byte < 0x7F else f"\\x{byte:02x}"
+                   for byte in data[:8 if is_text else 4])
+    return f'"{text}"' if is_text else text
+
+
+class Walk:
+    """A walk over the boxes of a file."""
+
+    def __init__(self, data):
+        self.data, self.quicktime, self.handler = data, False, None
+        self.boxes = self.level(0, 0, len(data), None)
+
+    def brief(self, name, content, end, parent, first):
+        """Returns the fields at the front of a box that holds boxes, or None if the box is too short for them."""
+        data, size = self.data, end - content
+        if parent == b"stsd":
+            if self.handler == b"vide":
+                return visual(data, content) if size >= 78 else None
+            if self.handler == b"soun":
+                return sound(data, content, size, self.quicktime) if size >= 28 else None
+            return {"data_reference_index": number(data, content + 6, 2)} if size >= 8 else None
+        if name in (b"stsd", b"dref"):
+            return dict(full(data, content), entry_count=number(data, content + 4, 4)) if size >= 8 else None
+        if name == b"meta" and first == 4:
+            return full(data, content)
+        return {}
+
+    def leaf(self, name, at, content, end, parent):
+        """Returns the fields of a box that the walk does not enter, or its fault. Returns neither if the box is not
+        read."""
+        data = self.data
+        if name == b"uuid":
+            if end - content < 16:
+                return {"fault": "unexpected end of input"}
+            digits = data[content:content + 16].hex()
+            parts = [digits[:8], digits[8:12], digits[12:16], digits[16:20], digits[20:]]
+            return {"fields": {"usertype": "-".join(parts)}}
+        is_read = latin(name) in READERS or latin(name) in MORE
+        if not is_read or name == b"mp4a" and parent == b"wave":
+            if parent != b"stsd":
+                return {}
+            fields = self.brief(name, content, end, parent, 0)
+            return {"fault": "unexpected end of input"} if fields is None else {"fields": fields}
+        own = data[at:end]
+        try:
+            header = Header(own, 0)
+            header.size = len(own) - header.start
+            if header.name in MORE:
+                return {"fields": more_fields(header.name, own[header.start + 8:])}
+            box = read_row(own, header)
+        except Fault as fault:
+            words = {"End": "unexpected end of input"}
+            kind, *rest = fault.args
+            return {"fault": words.get(kind) or rest[0] + (" not found" if kind == "NotFound" else "")}
+        return {"fields": fields_of(latin(name), own_texts(latin(name), box, data[content:end]))}
+
+    def fields_before(self, name, content, end, parent):
+        """Returns the number of bytes before the first box in a box, if it holds boxes and has room for the bytes."""
+        before = self.fields_of(name, content, end, parent)
+        return None if before is None or end - content < before else before
+
+    def fields_of(self, name, content, end, parent):
+        """Returns the number of bytes before the first box in a box with the name `name`, if such boxes hold boxes."""
+        data = self.data
+        if parent == b"ilst":
+            return 0
+        if parent == b"stsd":
+            if self.handler == b"vide":
+                return 78
+            if self.handler == b"soun":
+                version = number(data, content + 8, 2) if end - content >= 10 else 0
+                return {1: 44, 2: 64}.get(version, 28) if self.quicktime else 28
+            return {b"tx3g": 38, b"wvtt": 8, b"mp4s": 8}.get(name)
+        if name in CONTAINERS:
+            return 0
+        if name == b"meta":
+            return 0 if end - content < 4 or end - content >= 8 and data[content + 4:content + 8] == b"hdlr" else 4
+        return 8 if name in (b"stsd", b"dref") else None
+
+    def level(self, depth, at, end, parent, in_entry=False):
+        """Returns the boxes from the offset `at` to `end`, the end of the content that holds them. In QuickTime the
+        boxes of a `udta` and of a sample entry may end with a size of 0 without a code (QuickTime File Format: User
+        Data Atoms, Sample Descriptions)."""
+        data, boxes = self.data, []
+        while at < end:
+            left = end - at
+            name = data[at + 4:at + 8] if left >= 8 else None
+            header = 16 if left >= 8 and number(data, at, 4) == 1 else 8
+            box = {"type": latin(name), "position": at, "length": left, "header": left}
+            boxes.append(box)
+            if data[at:end] == bytes(4) and (parent == b"udta" or in_entry):
+                box.update(fields={"terminator": 0}, cut=True)
+                return boxes
+            if left < header:
+                is_short = depth == 0 and at == 0 and name is None
+                box.update(fault=NOT_MP4 + f"it has only {left} byte{'' if left == 1 else 's'}" if is_short
+                           else "unexpected end of input", cut=True)
+                return boxes
+            size = number(data, at + 8, 8) if header == 16 else number(data, at, 4)
+            if size == 0 and depth == 0:
+                size = left
+            if size < header:
+                box.update(fault="box size too small", cut=True)
+                return boxes
+            after = min(at + size, end)
+            box.update(length=size, header=header)
+            self.box(box, depth, name, at + header, after, parent, size > left)
+            at = after
+        return boxes
+
+    def box(self, box, depth, name, content, end, parent, cut):
+        """Adds everything except the header to `box`."""
+        before = self.fields_before(name, content, end, parent)
+        outer = self.handler
+        if cut:
+            is_foreign = box["position"] == 0 and box["header"] == 8 and name not in TOPS
+            box.update(fault=NOT_MP4 + f"it begins with {front_text(self.data)}" if is_foreign
+                       else "unexpected end of input", cut=True)
+        elif before is None:
+            box.update(self.leaf(name, box["position"], content, end, parent))
+        elif depth >= DEEPEST:
+            box["deep"] = True
+        elif parent == b"stsd" and name == b"tx3g" and self.handler not in (b"vide", b"soun"):
+            box.update(self.leaf(name, box["position"], content, end, parent))
+        else:
+            fields = self.brief(name, content, end, parent, before)
+            box.update({"fault": "unexpected end of input"} if fields is None else {"fields": fields} if fields else {})
+        if before is not None and depth < DEEPEST:
+            first = min(content + before, end)
+            box["children"] = self.level(depth + 1, first, end, name, parent == b"stsd")
+        if name == b"mdia":
+            self.handler = outer
+        if name == b"hdlr" and parent == b"mdia" and not cut:
+            self.handler = self.data[content + 8:content + 12] if end - content >= 12 else b"\0\0\0\0"
+        if name == b"ftyp" and depth == 0 and not cut:
+            self.quicktime = self.data[content:content + 4] == b"qt  " and end - content >= 4
+
+
+def tree(data):
+    """Returns the boxes of a file, as the JSON has them. Also sets `deep` where a box is too deep for the walk to
+    enter, and `cut` where a box isn't whole."""
+    return Walk(data).boxes
+
+
+def plain(boxes):
+    """Returns the boxes without the keys that the JSON doesn't have."""
+    found = []
+    for box in boxes:
+        box = {key: value for key, value in box.items() if key not in ("deep", "cut")}
+        if "children" in box:
+            box["children"] = plain(box["children"])
+        found.append(box)
+    return found
+
+
+def every(boxes, around=()):
+    """Yields each box, with the boxes around it, in the order of the file."""
+    for box in boxes:
+        yield box, around
+        yield from every(box.get("children", []), (*around, box))
+
+
+def is_faulty(boxes):
+    return any("fault" in box for box, _ in every(boxes))
+
+
+# ---- the text
+
+DATES = {"creation_time", "modification_time"}
+FLAGS = {
+    "tkhd": {1: "enabled", 2: "in_movie", 4: "in_preview", 8: "size_is_aspect_ratio"},
+    "tfhd": {1: "base_data_offset", 2: "sample_description_index", 8: "default_sample_duration",
+             16: "default_sample_size", 32: "default_sample_flags", 0x10000: "duration_is_empty",
+             0x20000: "default_base_is_moof"},
+    "trun": {1: "data_offset", 4: "first_sample_flags", 0x100: "sample_duration", 0x200: "sample_size",
+             0x400: "sample_flags", 0x800: "sample_composition_time_offset"},
+    "url ": {1: "same_file"}, "saio": {1: "aux_info_type"}, "saiz": {1: "aux_info_type"}, "schm": {1: "scheme_uri"},
+    "senc": {2: "UseSubSampleEncryption"},
+}
+SAMPLE_FLAGS = {"default_sample_flags", "first_sample_flags", "sample_flags", "flags"}
+KINDS = {"vide": "video", "soun": "sound", "text": "text", "sbtl": "subtitles", "subt": "subtitles", "clcp": "captions",
+         "hint": "hints", "tmcd": "time code", "meta": "metadata", "pict": "pictures"}
+BYTES = {"message_data", "data_bytes", "compressorname", "reserved0", "reserved1", "style_record",
+         "sequence_parameter_sets", "picture_parameter_sets"}
+# The order of fields, where it is not that of the slow reader. Other fields follow these.
+ORDERS = {
+    "emsg": ["version", "flags", "scheme_id_uri", "value", "timescale", "presentation_time", "presentation_time_delta",
+             "event_duration", "id", "message_data"],
+    "vpcC": ["version", "flags", "profile", "level", "bit_depth", "chroma_subsampling", "video_full_range_flag",
+             "color_primaries", "transfer_characteristics", "matrix_coefficients", "codec_initialization_data_size"],
+    "dec_config": ["object_type_indication", "stream_type", "up_stream", "buffer_size_db", "max_bitrate", "avg_bitrate",
+                   "dec_specific"],
+    "trun": ["version", "flags", "sample_count", "data_offset", "first_sample_flags", "samples"],
+}
+
+
+# The codes of the boxes that are fields of others, by the names of the fields.
+NAMES = {"url": "url ", "avcc": "avcC", "hvcc": "hvcC", "vpcc": "vpcC"}
+
+
+def code_text(text):
+    if all(" " <= c <= "~" or "\xa0" <= c <= "\xff" for c in text):
+        return text
+    return "0x" + text.encode("latin-1").hex()
+
+
+def fixed_text(value):
+    """Returns the text of a number with at most 30 bits after the point, in full."""
+    if value == int(value):
+        return str(int(value))
+    text = f"{value:.30f}".rstrip("0")
+    return text
+
+
+# Characters that are shown by their numbers: controls, separators of lines, and those of Unicode's Bidi_Control.
+ESCAPED = ["\0\x1f", "\x7f\x9f", "\u061c\u061c", "\u200e\u200f", "\u2028\u202e", "\u2066\u2069"]
+
+
+def is_escaped(c):
+    return any(first <= c <= last for first, last in ESCAPED)
+
+
+def text_text(text):
+    found = ""
+    for c in text:
+        if c in '"\\':
+            found += "\\" + c
+        elif c == "\n":
+            found += "\\n"
+        elif is_escaped(c):
+            found += f"\\u{{{ord(c):x}}}"
+        else:
+            found += c
+    return f'"{found}"'
+
+
+def bytes_text(digits):
+    count = len(digits) // 2
+    shown_ = digits[:48]
+    front = shown_ + (".. " if count > 24 else " ") if shown_ else ""
+    return f"{front}({count} byte{'' if count == 1 else 's'})"
+
+
+def flags_text(flags, digits, names):
+    named = [name for bit, name in names.items() if flags & bit]
+    return f"0x{flags:0{digits}x}" + (f" ({', '.join(named)})" if named else "")
+
+
+def date_text(seconds):
+    most = (datetime.datetime(9999, 12, 31) - datetime.datetime(1904, 1, 1)).days * 86400
+    if 0 < seconds < most:
+        return f"{(datetime.datetime(1904, 1, 1) + datetime.timedelta(seconds=seconds)).isoformat()}Z ({seconds})"
+    return str(seconds)
+
+
+def value_text(name, value, within):
+    if isinstance(value, Hex):
+        return bytes_text(value)
+    if isinstance(value, Code):
+        return code_text(value)
+    if isinstance(value, Named):
+        return f"{value} ({value.name})"
+    if name in DATES:
+        return date_text(value)
+    if name == "flags" and within not in ("sample",):
+        return flags_text(value, 6, FLAGS.get(within, {}))
+    if name in SAMPLE_FLAGS:
+        return flags_text(value, 8, {0x10000: "non_sync"})
+    if name in ("display_flags", "format_specific_flags", "general_profile_compatibility_flags"):
+        return flags_text(value, 8, {})
+    if name == "media_time":
+        return "empty" if value == -1 else str(value)
+    if name == "data_type":
+        return f"{value} ({TYPES.get(value, 'other')})"
+    if name == "NAL_unit_type":
+        return f"{value} ({NAL_UNITS.get(value, 'other')})"
+    if name in ("major_brand", "handler_type"):
+        return code_text(value)
+    if name == "compatible_brands":
+        return " ".join(map(code_text, value)) or "none"
+    if name in BYTES and not (name == "compressorname" and within != "vp09"):
+        return bytes_text(value)
+    if name == "box_record":
+        return " ".join(map(str, value))
+    if name == "matrix":
+        rows = [" ".join(fixed_text(value[letter]) for letter in row) for row in ("abu", "cdv", "xyw")]
+        return f"({'; '.join(rows)})"
+    if name == "audio_sample_rate":
+        return format(decimal.Decimal(repr(value)), "f").removesuffix(".0")
+    if isinstance(value, float):
+        return fixed_text(value)
+    if isinstance(value, str):
+        return text_text(value)
+    return str(value)
+
+
+def samples(fields):
+    """Returns `fields`, those of a run, with its samples instead of its columns."""
+    names = {"sample_durations": "duration", "sample_sizes": "size", "sample_flags": "flags",
+             "sample_cts": "composition_time_offset"}
+    columns = {short: fields.pop(name) for name, short in names.items() if name in fields}
+    if columns:
+        count = max(map(len, columns.values()))
+        fields["samples"] = [{short: column[index] for short, column in columns.items()} for index in range(count)]
+    return fields
+
+
+class Lines:
+    """The lines of a tree."""
+
+    def __init__(self, rows, names):
+        self.rows, self.names, self.lines = rows, names, []
+
+    def fields(self, fields, within, indent, first=""):
+        """Adds the pieces of `fields` after the text `first` to the last line, and adds the lines of their lists."""
+        before = first
+        for name, value in fields.items():
+            if name == "matrix" and value == UNITY:
+                continue
+            is_list = isinstance(value, list) and name not in ("compatible_brands", "box_record")
+            if before == "\n":
+                self.lines.append(" " * (indent + 2))
+            else:
+                self.lines[-1] += before
+            before = ", "
+            if isinstance(value, dict) and name != "matrix":
+                self.lines[-1] += f"{name}: {{"
+                self.fields(ordered(value, NAMES.get(name, name)), NAMES.get(name, name), indent, " ")
+                self.lines[-1] += " }"
+            elif is_list:
+                self.lines[-1] += f"{name}: {len(value)}"
+                self.entries(name, value, within, indent)
+                if value and self.rows:
+                    before = "\n"
+            else:
+                self.lines[-1] += f"{name}: {value_text(name, value, within)}"
+
+    def entries(self, name, entries, within, indent):
+        for index, entry in enumerate(entries[:self.rows]):
+            self.lines.append(f"{' ' * (indent + 4)}{index + 1}:")
+            if isinstance(entry, dict):
+                self.fields(entry, "sample" if name == "samples" else within, indent + 4, " ")
+            else:
+                self.lines[-1] += " " + value_text(name, entry, within)
+        if 0 < self.rows < len(entries):
+            self.lines.append(f"{' ' * (indent + 4)}.. {len(entries) - self.rows} more")
+
+    def box(self, box, around, track):
+        name = box["type"]
+        indent = 2 * len(around)
+        head = f"{' ' * indent}{'-' if name is None else code_text(name)} @{box['position']} +{box['length']}"
+        self.lines.append(head)
+        called = self.names.get(name)
+        if name == "trak":
+            words = [f"track {track[0]}"] if track[0] is not None else []
+            words += [f"{KINDS.get(track[1], 'media')} ({code_text(track[1])})"] if track[1] is not None else []
+            self.lines[-1] += " " + ", ".join(words) if words else ""
+        if around and around[-1]["type"] == "stsd" and called:
+            self.lines[-1] += f" ({called})"
+        if "fault" in box:
+            self.lines[-1] += f" fault: {box['fault']}"
+        elif box.get("deep"):
+            self.lines[-1] += " not gone into: in 32 boxes"
+        elif "fields" in box:
+            leaf = "children" not in box
+            self.fields(ordered(box["fields"], name), name if leaf or name != "vp09" else "visual", indent, " ")
+        elif "children" not in box:
+            self.lines[-1] += " not read" + (f" ({called})" if called else "")
+
+
+def ordered(fields, name):
+    """Returns `fields` in their order, with the samples of a run instead of its columns."""
+    fields = samples(dict(fields)) if name == "trun" else fields
+    first = [key for key in ORDERS.get(name, []) if key in fields]
+    return {key: fields[key] for key in first + [key for key in fields if key not in first]}
+
+
+def track_of(data, box):
+    """Returns the number of a track, and its handler."""
+    track_id = handler = None
+    for child in box.get("children", []):
+        content, size = child["position"] + child["header"], child["length"] - child["header"]
+        if child["type"] == "tkhd" and track_id is None and is_whole(child) and size >= 4:
+            at = 20 if data[content] else 12
+            track_id = number(data, content + at, 4) if size >= at + 4 else None
+        if child["type"] == "mdia":
+            for inner in child.get("children", []):
+                content, size = inner["position"] + inner["header"], inner["length"] - inner["header"]
+                if inner["type"] == "hdlr" and handler is None and is_whole(inner) and size >= 12:
+                    handler = latin(data[content + 8:content + 12])
+    return track_id, handler
+
+
+def is_whole(box):
+    """Returns whether the whole box is present. It may have another fault."""
+    return not box.get("cut")
+
+
+def lines(data, boxes, rows, names):
+    """Returns the lines of the tree of a file."""
+    found = Lines(rows, names)
+    for box, around in every(boxes):
+        found.box(box, around, track_of(data, box) if box["type"] == "trak" else None)
+    return found.lines
+
+
+def document(name, boxes):
+    return {"file": name, "boxes": plain(boxes)}
+
+
+def dumps(value):
+    return json.dumps(value, ensure_ascii=False)
+
+
+# ---- the faults
+
+
+# The boxes of which a box has to have one, and those of which it may have at most one (ISO/IEC 14496-12, the quantity
+# of each box; 8.5.1 for `stbl`). Of the boxes in one string there is only one in all.
+NEEDED = {"moov": ["mvhd cmov rmra"], "trak": ["tkhd", "mdia"], "mdia": ["mdhd"], "moof": ["mfhd"], "traf": ["tfhd"],
+          "stbl": ["stsd", "stts", "stsc", "stsz stz2", "stco co64"]}
+ONCE = {"moov": "mvhd iods mvex meta udta".split(), "trak": "tkhd tref trgr edts mdia meta udta".split(),
+        "mdia": "mdhd hdlr elng minf".split(), "minf": ["vmhd smhd hmhd sthd nmhd gmhd", "dinf", "stbl", "hdlr"],
+        "stbl": ["stsz stz2", "stco co64", *"stsd stts ctts cslg stsc stss stsh padb stdp sdtp".split()],
+        "moof": "mfhd meta udta".split(), "traf": "tfhd tfdt sdtp meta udta".split()}
+FILES = {"moov", "moof", "meta", "sidx"}
+
+
+def tables_of(table):
+    """Returns the tables of samples in an `stbl`, the first of each, or None if one is missing or can't be read."""
+    found = {}
+    for box in table.get("children", []):
+        found.setdefault(box["type"], box)
+    chunks = found.get("stco") or found.get("co64")
+    used = [chunks, *(found[name] for name in ("stsz", "stsc", "stts", "ctts", "stss") if name in found)]
+    if chunks is None or not {"stsz", "stsc", "stts"} <= set(found) or not all("fields" in box for box in used):
+        return None
+    sizes, runs, times = (found[name]["fields"] for name in ("stsz", "stsc", "stts"))
+    sync = found["stss"]["fields"]["entries"] if "stss" in found else None
+    return {
+        "sizes": (sizes["sample_count"], sizes["sample_size"], sizes["sample_sizes"]),
+        "runs": [(run["first_chunk"], run["samples_per_chunk"], 0) for run in runs["entries"]],
+        "offsets": chunks["fields"]["entries"], "position": chunks["position"],
+        "durations": [(time["sample_count"], time["sample_delta"]) for time in times["entries"]], "sync": sync}
+
+
+def chunk_sizes(tables):
+    """Returns the number of bytes of each chunk, for tables that agree (8.7.3, 8.7.4)."""
+    (count, one, sizes), held, passed, found = tables["sizes"], 0, 0, []
+    starts = {run[0]: run[1] for run in tables["runs"]}
+    for chunk in range(1, len(tables["offsets"]) + 1):
+        held = starts.get(chunk, held)
+        samples_ = min(held, count - passed)
+        found.append(one * samples_ if one else sum(sizes[passed:passed + samples_]))
+        passed += samples_
+    return found
+
+
+class Check:
+    """The lines that `check` writes of a file."""
+
+    def __init__(self, data, boxes):
+        self.length, self.found = len(data), []
+        self.media = [(box["position"] + box["header"], min(box["position"] + box["length"], len(data)))
+                      for box in boxes if box["type"] == "mdat"]
+        self.has_moov = any(box["type"] == "moov" for box in boxes)
+        self.headers, self.defaults = {}, {}
+        for moov in (box for box in boxes if box["type"] == "moov"):
+            self.movie(data, moov)
+        self.sizes, self.elsewhere, self.track, self.away = {}, False, None, set()
+        top = 0
+        for box, path, around, number_ in located(boxes):
+            if not around:
+                top = self.before = box["position"]
+            self.box(data, box, path, around, number_, top)
+        if not FILES & {box["type"] for box in boxes}:
+            self.found.append("0 moov: there is no moov, moof, meta or sidx")
+
+    def movie(self, data, moov):
+        """Finds the numbers of the tracks of a `moov`, and the sizes of samples in their fragments."""
+        for box in moov.get("children", []):
+            for inner in box.get("children", []):
+                content, size = inner["position"] + inner["header"], inner["length"] - inner["header"]
+                if box["type"] == "trak" and inner["type"] == "tkhd" and is_whole(inner) and size >= 4:
+                    at = 20 if data[content] else 12
+                    if size >= at + 4:
+                        self.headers.setdefault(number(data, content + at, 4), inner["position"])
+                if box["type"] == "mvex" and inner["type"] == "trex" and is_whole(inner) and size >= 24:
+                    self.defaults.setdefault(number(data, content + 4, 4), number(data, content + 16, 4))
+
+    def box(self, data, box, path, around, number_, top):
+        """Adds the lines of `box`, which is number `number_` of its group."""
+        name, parent = box["type"], around[-1]["type"] if around else None
+        if name == "trak":
+            self.elsewhere, self.track = False, track_of(data, box)[0]
+        if name == "url " and "fields" in box and not box["fields"]["flags"] & 1:
+            self.elsewhere = True
+            self.away.add(self.track)
+        found = [box.get("fault") or self.known(box, parent, len(around))]
+        if number_ > 1:
+            names = next(names for names in ONCE[parent] if name in names.split())
+            found.append(f"this is number {number_}, and a {parent} may have only one {', '.join(names.split())}")
+        if is_whole(box) and "children" in box:
+            inside = {inner["type"] for inner in box["children"]}
+            lacks = [names.split() for names in NEEDED.get(name, []) if not inside & set(names.split())]
+            lacks = [names[0] if name == "moov" else " or ".join(names) for names in lacks]
+            found.append(f"there is {', '.join('no ' + names for names in lacks)}" if lacks else None)
+        if name == "stbl" and is_whole(box):
+            found.append(self.tables(box))
+        if name == "traf" and is_whole(box) and len(around) == 1 and parent == "moof":
+            found.append(self.runs(box, top))
+        self.found += [f"{box['position']} {path}: {line}" for line in found if line]
+
+    def known(self, box, parent, depth):
+        """Returns the line about the fields of `box`, or None."""
+        name, fields = box["type"], box.get("fields", {})
+        if not fields:
+            return None
+        if name == "tkhd" and parent == "trak" and depth == 2:
+            if fields["track_id"] == 0:
+                return "track_ID 0 is no number of a track; these begin at 1"
+            first = self.headers.get(fields["track_id"], box["position"])
+            if first != box["position"]:
+                return f"track_ID {fields['track_id']} is that of another track too, whose tkhd is at {first}"
+        if name == "tfhd" and parent == "traf" and depth == 2:
+            if self.has_moov and fields["track_id"] not in self.headers:
+                return f"track_ID {fields['track_id']} is that of no track of the moov"
+        if name in ("stco", "co64") and not self.elsewhere:
+            offsets = fields["entries"]
+            return self.outside("chunk", list(zip(offsets, self.sizes.get(box["position"], [1] * len(offsets)))))
+        return None
+
+    def tables(self, table):
+        tables = tables_of(table)
+        fault = disagreement(tables) if tables else None
+        if tables and not fault:
+            self.sizes[tables["position"]] = chunk_sizes(tables)
+        return fault
+
+    def runs(self, traf, moof):
+        """Returns the line about the places of the samples of the runs of a `traf`, or None (8.8.7, 8.8.8)."""
+        before, self.before = self.before, None
+        parts = {}
+        for box in traf.get("children", []):
+            parts.setdefault(box["type"], []).append(box)
+        used = [*parts.get("tfhd", [])[:1], *parts.get("tfdt", [])[:1], *parts.get("trun", [])]
+        if "tfhd" not in parts or not all("fields" in box for box in used):
+            return None
+        header = parts["tfhd"][0]["fields"]
+        base = header.get("base_data_offset")
+        if base is None:
+            base = moof if header["flags"] & 0x20000 else before
+        if base is None:
+            return None
+        at, found = base, []
+        default = header.get("default_sample_size", self.defaults.get(header["track_id"]))
+        for run in (box["fields"] for box in parts.get("trun", [])):
+            at = base + run["data_offset"] if "data_offset" in run else at
+            sizes = run.get("sample_sizes", [])
+            if default is None and len(sizes) < run["sample_count"]:
+                at = None
+                break
+            size = sum(sizes) if sizes else run["sample_count"] * (default or 0)
+            found.append((at, size))
+            at += size
+        self.before = at if at is not None and 0 <= at < 2**64 else None
+        if header["track_id"] in self.away or "base_data_offset" in header and not self.has_moov:
+            return None
+        return self.outside("run", found)
+
+    def outside(self, word, places):
+        """Returns the line about chunks or runs that are not in one `mdat`, or None."""
+        found = [(index, at, at + size) for index, (at, size) in enumerate(places, 1)
+                 if not any(first <= at and at + size <= end for first, end in self.media)]
+        if not found:
+            return None
+        count, every_ = len(found), len(places)
+        many = f"{word} lies" if every_ == 1 else f"{word}s lies" if count == 1 else f"{word}s lie"
+        text = f"{count} of {every_} {many} outside the media data; the first is {word} {found[0][0]}"
+        _, at, end = found[0]
+        if at < 0:
+            return f"{text}, which begins before the file"
+        text += f" at offset {at}"
+        if at >= self.length:
+            return f"{text}, past the end of the file ({self.length} bytes)"
+        if end > self.length:
+            return f"{text}, which ends at {min(end, 2**64 - 1)}, past the end of the file ({self.length} bytes)"
+        for first, last in self.media:
+            if first <= at < last:
+                return f"{text}, which ends at {end}, past the end of its mdat at {last}"
+        return f"{text}, which is in no mdat"
+
+
+def located(level, front="", around=()):
+    """Yields the boxes of a level and those in them, each with its path and the boxes around it. Also yields its number
+    among those of which there may be only one, or 0 if there may be any number."""
+    types, groups = {}, {}
+    for box in level:
+        index = types[box["type"]] = types.get(box["type"], -1) + 1
+        path = front + ("-" if box["type"] is None else code_text(box["type"])) + (f"[{index}]" if index else "")
+        names = next((names for names in ONCE.get(around[-1]["type"] if around else None, [])
+                      if box["type"] in names.split()), None)
+        groups[names] = groups.get(names, 0) + 1
+        yield box, path, around, groups[names] if names else 0
+        yield from located(box.get("children", []), path + "/", (*around, box))
+
+
+def faults(data, boxes):
+    """Returns the lines that `check` writes."""
+    return Check(data, boxes).found

@@ -1,0 +1,447 @@
+"""The samples of the tracks of a file a second time, by ISO/IEC 14496-12 only (8.3.2, 8.4, 8.6.1, 8.6.2, 8.7.3 to
+8.7.5, 8.8), to compare `mp4inspect samples` with. It shares no line with the codec, nor with the other slow readers:
+tables are spelled out, a value for each sample, and chunks are filled one after the other.
+
+    written(data, form, track, beyond)   the output, the faults as the program prints them, and the status
+    disagreement(tables)                 how the tables of an `stbl` disagree, as `mp4inspect check` prints it
+"""
+
+import functools
+import itertools
+import struct
+
+HEAD = "track,number,offset,size,decode_time,presentation_time,duration,sync,description\n"
+COLUMNS = ["number", "offset", "size", "decode_time", "presentation_time", "duration", "sync", "description"]
+WIDTHS = [8, 12, 9, 12, 17, 9, 4, 11]
+# The most samples that are returned in a list, and the most without bytes that are listed in a row.
+MOST = 300000
+MOST_EMPTY = 2**20
+
+
+class Bad(Exception):
+    """A fault of a track. Its argument is the text of the message, or None if the codec has the text."""
+
+
+def boxes(data, at, end, is_top=False):
+    """Returns the boxes directly in a content: the code, the position, the content, whether the box is whole, and the
+    position of the content."""
+    found = []
+    while end - at >= 8:
+        size, code = struct.unpack_from(">I4s", data, at)
+        content = at + 8
+        if size == 1:
+            if end - at < 16:
+                break
+            size, content = struct.unpack_from(">Q", data, at + 8)[0], at + 16
+        elif size == 0 and is_top:
+            size = end - at
+        if size < content - at:
+            break
+        found.append((code, at, data[content:min(at + size, end)], at + size <= end, content))
+        at += size
+    return found
+
+
+def inner(data, box):
+    return boxes(data, box[4], box[4] + len(box[2]))
+
+
+def first(found, *codes):
+    for box in found:
+        if box[0] in codes:
+            return box
+    return None
+
+
+def entries(box, at, form, count_at=4):
+    """Returns the entries of `box`, a counted table: a full box with version and flags, a count, and entries of the
+    form `form` that begin at `at`."""
+    content, whole = box[2], box[3]
+    if not whole or len(content) < count_at + 4:
+        raise Bad(None)
+    count = struct.unpack_from(">I", content, count_at)[0]
+    width = struct.calcsize(form)
+    if (len(content) - at) // width < count:
+        raise Bad(None)
+    return [struct.unpack_from(form, content, at + width * index) for index in range(count)]
+
+
+def sizes_of(box):
+    """Returns the number of samples of `box`, their one size or 0, and the list of their sizes (8.7.3.2)."""
+    content, whole = box[2], box[3]
+    if not whole or len(content) < 12:
+        raise Bad(None)
+    one, count = struct.unpack_from(">II", content, 4)
+    return (count, one, []) if one else (count, 0, [size for size, in entries(box, 12, ">I", 8)])
+
+
+def tables_of(data, table):
+    """Returns the tables directly in `table`, an `stbl`."""
+    found = [] if table is None else inner(data, table)
+    narrow, wide = first(found, b"stco"), first(found, b"co64")
+    needed = [("stsz", first(found, b"stsz")), ("stsc", first(found, b"stsc")), ("stco or co64", narrow or wide),
+              ("stts", first(found, b"stts"))]
+    if needed[0][1] is None:
+        chunks = narrow or wide
+        if chunks is None or not entries(chunks, 8, ">I" if chunks[0] == b"stco" else ">Q"):
+            return {"sizes": (0, 0, []), "runs": [], "offsets": [], "durations": [], "shifts": [], "sync": None}
+    read = {}
+    for name, box in needed:
+        if box is None:
+            raise Bad(f"there is no {name}")
+        if name == "stsz":
+            read["sizes"] = sizes_of(box)
+        elif name == "stsc":
+            read["runs"] = entries(box, 8, ">III")
+        elif name == "stts":
+            read["durations"] = entries(box, 8, ">II")
+        else:
+            read["offsets"] = [offset for offset, in entries(box, 8, ">I" if box[0] == b"stco" else ">Q")]
+    shifts, sync = first(found, b"ctts"), first(found, b"stss")
+    read["shifts"] = [] if shifts is None else entries(shifts, 8, ">Ii")
+    read["sync"] = None if sync is None else [number for number, in entries(sync, 8, ">I")]
+    return read
+
+
+def disagreement(tables):
+    """Returns the message of how `tables` disagree on the samples that `stsz` counts, or None if they agree."""
+    (count, one, sizes), runs, offsets = tables["sizes"], tables["runs"], tables["offsets"]
+    if not one and len(sizes) != count:
+        return f"stsz counts {count} samples and lists {len(sizes)} sizes"
+    if runs and runs[0][0] != 1:
+        return f"the first entry of stsc begins at chunk {runs[0][0]}"
+    for index in range(1, len(runs)):
+        if runs[index][0] <= runs[index - 1][0]:
+            return f"entry {index} of stsc begins no later than the one before it"
+    held = 0
+    for index, (chunk, samples, _) in enumerate(runs):
+        after = runs[index + 1][0] if index + 1 < len(runs) else len(offsets) + 1
+        held += max(min(after, len(offsets) + 1) - chunk, 0) * samples
+    if held < count:
+        return f"the chunks hold {held} of {count} samples"
+    timed = sum(samples for samples, _ in tables["durations"])
+    if timed < count:
+        return f"stts has a duration for {timed} of {count} samples"
+    numbers = tables["sync"] or []
+    for index, number in enumerate(numbers):
+        if number <= (numbers[index - 1] if index else 0):
+            return f"entry {index} of stss is not above the one before it"
+    total = one * count if one else sum(sizes)
+    for offset in offsets:
+        if offset + total >= 2**64:
+            return f"a chunk begins at {offset}, and the samples have {total} bytes"
+    return None
+
+
+def table_steps(tables):
+    """Yields the samples of tables that agree, one by one: offset, size, time, duration, shift, sync, description."""
+    count, one, sizes = tables["sizes"]
+    durations, shifts = spelled(tables["durations"]), itertools.chain(spelled(tables["shifts"]), itertools.repeat(0))
+    sync = None if tables["sync"] is None else set(tables["sync"])
+    index = time = 0
+    for number, offset in enumerate(tables["offsets"], 1):
+        run = [run for run in tables["runs"] if run[0] <= number][-1:]
+        for _ in range(min(run[0][1], count - index) if run else 0):
+            size, duration = one or sizes[index], next(durations)
+            yield offset, size, time, duration, next(shifts), sync is None or index + 1 in sync, run[0][2]
+            offset, time, index = offset + size, time + duration, index + 1
+
+
+def spelled(runs):
+    for count, value in runs:
+        yield from itertools.repeat(value, count)
+
+
+def table_time(tables):
+    """Returns the end time of the last sample of tables that agree."""
+    left, time = tables["sizes"][0], 0
+    for count, duration in tables["durations"]:
+        time += min(count, left) * duration
+        left -= min(count, left)
+    return time
+
+
+def table_samples(tables):
+    """Returns the list of the samples of tables that agree, and the end time of the last one."""
+    if tables["sizes"][0] > MOST:
+        raise Bad("large")
+    return list(table_steps(tables)), table_time(tables)
+
+
+def optional(content, at, flags, *fields):
+    """Returns those of `fields` that are present by `flags`, and the offset after them."""
+    values = {}
+    for bit, name, form in fields:
+        if flags & bit:
+            if len(content) < at + struct.calcsize(form):
+                raise Bad(None)
+            values[name], = struct.unpack_from(form, content, at)
+            at += struct.calcsize(form)
+    return values, at
+
+
+def header_of(box):
+    """Returns the fields of `box`, the header of a track fragment (8.8.7)."""
+    if box is None or not box[3] or len(box[2]) < 8:
+        raise Bad(None)
+    flags, track = struct.unpack_from(">I", box[2])[0] & 0xFFFFFF, struct.unpack_from(">I", box[2], 4)[0]
+    values, _ = optional(box[2], 8, flags, (1, "base", ">Q"), (2, "description", ">I"), (8, "duration", ">I"),
+                         (16, "size", ">I"), (32, "flags", ">I"))
+    return dict(values, track=track, from_moof=bool(flags & 0x20000))
+
+
+def run_of(box):
+    """Returns the fields of `box`, a run of samples (8.8.8), the number of samples that it counts, and the row that it
+    lists for each."""
+    content, whole = box[2], box[3]
+    if not whole or len(content) < 8:
+        raise Bad(None)
+    word, count = struct.unpack_from(">II", content)
+    values, at = optional(content, 8, word, (1, "offset", ">i"), (4, "first", ">I"))
+    width = 4 * bin(word >> 8 & 15).count("1")
+    if len(content) - at < width * count:
+        raise Bad(None)
+    if not width:
+        return values, count, itertools.repeat({}, count)
+    rows = []
+    for _ in range(count):
+        row, at = optional(content, at, word, (0x100, "duration", ">I"), (0x200, "size", ">I"), (0x400, "flags", ">I"),
+                           (0x800, "shift", ">i" if word >> 24 else ">I"))
+        rows.append(row)
+    return values, count, rows
+
+
+def run_steps(header, defaults, runs, base, time, where=""):
+    """Yields the samples of the runs of a fragment, one by one. Returns the end of their data, and their end time."""
+    at = base
+    for number, (values, _, rows) in enumerate(runs):
+        at = base + values["offset"] if "offset" in values else at
+        for index, row in enumerate(rows):
+            begun = {"flags": values["first"]} if index == 0 and "first" in values else {}
+            known = {**defaults, **header, **begun, **row}
+            if at < 0 or at + known["size"] >= 2**64:
+                raise Bad(f"{where}sample {index} of run {number} is outside the file")
+            if time + known["duration"] >= 2**64:
+                raise Bad(f"{where}sample {index} of run {number} ends past 2^64 - 1")
+            yield (at, known["size"], time, known["duration"], known.get("shift", 0), not known["flags"] & 0x10000,
+                   known["description"])
+            at, time = at + known["size"], time + known["duration"]
+    return at, time
+
+
+def unlisted(sample, number, empty, length):
+    """Returns why `sample` of a file of `length` bytes isn't listed, if `empty` samples without bytes come right before
+    it. Returns an empty text if the sample is listed."""
+    end = sample[0] + sample[1]
+    if end > length:
+        return f"sample {number} ends at {end}, past the end of the file ({length} bytes)"
+    if sample[1] == 0 and empty >= MOST_EMPTY:
+        return f"sample {number} has no bytes, like the {MOST_EMPTY} samples before it"
+    return ""
+
+
+def not_listed(more):
+    """Returns the message about samples that aren't listed: one, and the `more` samples after it."""
+    if more == 0:
+        return "this sample is not listed (--beyond lists it)"
+    samples = f"{more} more sample are" if more == 1 else f"{more} more samples are"
+    return f"this and {samples} not listed (--beyond lists them)"
+
+
+class File:
+    """The tracks of a file, and their fragments by the numbers of tracks, in the order of the file."""
+
+    def __init__(self, data):
+        self.data, self.tracks, self.defaults, self.fragments, self.faults = data, [], {}, {}, []
+        top = boxes(data, 0, len(data), True)
+        self.is_movie = any(box[0] in (b"moov", b"moof") for box in top)
+        for box in top:
+            if box[0] == b"moov":
+                self.movie(box)
+            elif box[0] == b"moof":
+                self.fragment(box)
+
+    def movie(self, moov):
+        for box in inner(self.data, moov):
+            if box[0] == b"trak":
+                self.tracks.append(box)
+            for trex in inner(self.data, box) if box[0] == b"mvex" else []:
+                if trex[0] != b"trex":
+                    continue
+                if not trex[3] or len(trex[2]) < 24:
+                    self.faults.append(None)
+                    continue
+                track, *values = struct.unpack_from(">IIIII", trex[2], 4)
+                self.defaults.setdefault(track, dict(zip(("description", "duration", "size", "flags"), values)))
+
+    def fragment(self, moof):
+        end_before = functools.partial(int, moof[1])
+        for traf in inner(self.data, moof):
+            if traf[0] != b"traf":
+                continue
+            try:
+                header = header_of(first(inner(self.data, traf), b"tfhd"))
+            except Bad:
+                self.faults.append(f"moof at {moof[1]}: there is no tfhd that can be read")
+                end_before = functools.partial(dict().get, "end")
+                continue
+            base = header["base"] if "base" in header else moof[1] if header["from_moof"] else end_before()
+            self.fragments.setdefault(header["track"], []).append((moof, traf, header, base))
+            end_before = functools.partial(self.end, traf, header, base)
+
+    def end(self, traf, header, base):
+        """Returns the end of the data of a fragment, or None if it isn't known."""
+        if base is None or header["track"] not in self.defaults:
+            return None
+        try:
+            _, runs = self.runs(traf)
+        except Bad:
+            return None
+        last, default = base, {**self.defaults[header["track"]], **header}["size"]
+        for values, count, rows in runs:
+            last = base + values["offset"] if "offset" in values else last
+            last += sum(row.get("size", default) for row in rows) if isinstance(rows, list) else count * default
+        return last if 0 <= last < 2**64 else None
+
+    def runs(self, traf):
+        """Returns the start time of a fragment, or None if it has none, and the runs of the fragment."""
+        parts, time = inner(self.data, traf), None
+        clock = first(parts, b"tfdt")
+        if clock is not None:
+            if not clock[3] or len(clock[2]) < 8:
+                raise Bad(None)
+            wide = clock[2][0]
+            if wide > 1 or wide and len(clock[2]) < 12:
+                raise Bad(None)
+            time, = struct.unpack_from(">Q" if wide else ">I", clock[2], 4)
+        return time, [run_of(box) for box in parts if box[0] == b"trun"]
+
+    def steps(self, track, traf, header, base, time, where=""):
+        """Yields the samples of a fragment, one by one. Returns the end of their data, and their end time."""
+        if track not in self.defaults:
+            raise Bad("there is no trex")
+        begin, runs = self.runs(traf)
+        return (yield from run_steps(header, self.defaults[track], runs, base, time if begin is None else begin, where))
+
+    def samples(self, track, traf, header, base, time):
+        """Returns the list of the samples of a fragment, the end of their data, their end time, and the text of a
+        fault."""
+        samples, steps, fault = [], self.steps(track, traf, header, base, time), None
+        try:
+            while len(samples) <= MOST:
+                samples.append(next(steps))
+            raise Bad("large")
+        except StopIteration as ended:
+            return samples, *ended.value, None
+        except Bad as bad:
+            fault = bad.args[0]
+            if not fault or not fault.startswith("sample"):
+                raise
+        return samples, None, None, fault
+
+    def of_track(self, number, tables):
+        """Yields the samples of a track, one by one."""
+        time = table_time(tables)
+        yield from table_steps(tables)
+        for moof, traf, header, base in self.fragments.get(number, []):
+            if number not in self.defaults:
+                raise Bad("there is no trex")
+            if base is None:
+                raise Bad(f"moof at {moof[1]}: it is not known where the data before end")
+            _, time = yield from self.steps(number, traf, header, base, time, f"moof at {moof[1]}: ")
+
+    def counted(self, number, tables):
+        """Counts the samples of the tables and the fragments of a track, without fragments that can't be read."""
+        count = tables["sizes"][0]
+        for _, traf, _, _ in self.fragments.get(number, []):
+            try:
+                count += sum(run[1] for run in self.runs(traf)[1])
+            except Bad:
+                pass
+        return count
+
+    def listed(self, number, tables, beyond):
+        """Returns the samples of a track that are listed, and a list of its faults, which has at most one."""
+        samples, empty = [], 0
+        try:
+            for sample in self.of_track(number, tables):
+                why = "" if beyond else unlisted(sample, len(samples) + 1, empty, len(self.data))
+                if why:
+                    more = self.counted(number, tables) - len(samples) - 1
+                    return samples, [f"{why}: {not_listed(more)}"]
+                if beyond and len(samples) == MOST:
+                    raise Bad("large")
+                empty = 0 if sample[1] else empty + 1
+                samples.append(sample)
+        except Bad as bad:
+            return samples, [bad.args[0]]
+        return samples, []
+
+    def track(self, trak, beyond=True):
+        """Returns the number of a track, its heading, its samples, and a list of its faults, which has at most one."""
+        def below(box, code):
+            return None if box is None else first(inner(self.data, box), code)
+        head = below(trak, b"tkhd")
+        version = head[2][0] if head is not None and head[2] else 2
+        if head is None or not head[3] or version > 1 or len(head[2]) < (96 if version else 84):
+            return None, "", [], [f"trak at {trak[1]}: there is no tkhd that can be read"]
+        number, = struct.unpack_from(">I", head[2], 20 if version else 12)
+        media = below(trak, b"mdia")
+        name, clock = below(media, b"hdlr"), below(media, b"mdhd")
+        title = f"track {number}"
+        if name is not None and name[3] and len(name[2]) >= 12:
+            title += ", " + name[2][8:12].decode("latin-1")
+        if clock is not None and clock[3] and len(clock[2]) >= 22:
+            title += f", timescale {struct.unpack_from('>I', clock[2], 20 if clock[2][0] else 12)[0]}"
+        heading = f"{title}\n" + "  ".join(name.rjust(width) for name, width in zip(COLUMNS, WIDTHS)) + "\n"
+        try:
+            table = below(below(media, b"minf"), b"stbl")
+            tables = tables_of(self.data, table)
+            fault = disagreement(tables)
+            if fault:
+                raise Bad(fault)
+        except Bad as bad:
+            return number, "", [], [bad.args[0]]
+        return number, heading, *self.listed(number, tables, beyond)
+
+
+def row(form, track, number, sample):
+    offset, size, time, duration, shift, is_sync, description = sample
+    values = [number, offset, size, time, time + shift, duration, int(is_sync), description]
+    if form == "csv":
+        return ",".join(map(str, [track, *values])) + "\n"
+    if form == "json":
+        return "{" + ", ".join(f'"{name}": {value}' for name, value in zip(["track", *COLUMNS], [track, *values])) + "}"
+    return "  ".join(str(value).rjust(width) for value, width in zip(values, WIDTHS)) + "\n"
+
+
+def written(data, form, chosen=None, beyond=False):
+    """Returns the output, the faults and the status. A fault is the track's number, if it is known, and the text, if it
+    is not the codec's."""
+    file, pieces, faults = File(data), [], []
+    faults += [(None, words) for words in file.faults]
+    met = set()
+    for trak in file.tracks:
+        number, heading, samples, found = file.track(trak, beyond)
+        if number is None:
+            faults += [(None, words) for words in found]
+            continue
+        if chosen in (None, number):
+            if form == "text" and heading:
+                pieces.append(("\n" if pieces else "") + heading)
+            pieces += [row(form, number, index, sample) for index, sample in enumerate(samples, 1)]
+            faults += [(number, words) for words in found]
+        met.add(number)
+        file.fragments.pop(number, None)
+    faults += [(number, "there is no trak") for number in sorted(file.fragments) if chosen in (None, number)]
+    if chosen is not None and chosen not in met and chosen not in file.fragments:
+        faults.append((chosen, "there is no trak"))
+    if not file.is_movie:
+        faults.append((None, "there is no moov, and no moof"))
+    if form == "csv":
+        text = HEAD + "".join(pieces)
+    elif form == "json":
+        text = "[" + "".join((",\n" if index else "\n") + piece for index, piece in enumerate(pieces)) + "\n]\n"
+    else:
+        text = "".join(pieces)
+    return text, faults, int(bool(faults))

@@ -1,0 +1,266 @@
+"""Reads the parts of the boxes of mp4_extra from their declarations, in the words of the list in
+crates/mp4_extra/CALLING.md: the shape of a box, the fields of its struct, and the widths of its entries."""
+
+import collections
+import glob
+import os
+import re
+
+from tests.built import TOP
+
+# The page with the list of the boxes, and their sources.
+PAGE = "crates/mp4_extra/CALLING.md"
+SOURCES = "crates/mp4_extra_*/src/*.rt"
+NUMBERS = {f"U{bits}": f"{bits // 8}" for bits in (8, 16, 24, 32, 64)}
+NUMBERS.update((f"I{bits}", f"{bits // 8}, signed") for bits in (8, 16, 32, 64))
+# Shapes without arguments that are one field.
+FIELDS = {
+    **NUMBERS, "Time": "t", "SignedTime": "t, signed", "Code": "code", "Codes": "to the end; each code",
+    "Numbers": "to the end; each 4", "Rest": "to the end", "Terminated": "to a byte of 0",
+}
+VERSIONS = {1: "version 0", 2: "version 0 or 1", 3: "version 0 to 2"}
+# An item of the list: a code, its section, and its parts. Its lines are joined first.
+ROW = re.compile(r"^- `(.{4})` \(([^()\n]+)\): (.+)$", re.M)
+
+
+class Differs(Exception):
+    """A difference between a table and a declaration."""
+
+
+def read(path):
+    with open(os.path.join(TOP, path), encoding="utf-8") as file:
+        return file.read()
+
+
+def type_of(text):
+    """Returns a type as its name and its arguments. A tuple has an empty name."""
+    text = text.strip()
+    if text.startswith("("):
+        return "", [type_of(it) for it in apart(text[1:-1])]
+    name, _, inside = text.partition("<")
+    return name, [type_of(it) for it in apart(inside[:-1])] if inside else []
+
+
+def apart(text):
+    """Returns the pieces between the commas that aren't inside of brackets. A comma may follow the last piece."""
+    found, depth = [""], 0
+    for letter in text:
+        depth += (letter in "(<[{") - (letter in ")>]}")
+        if letter == "," and depth == 0:
+            found.append("")
+        else:
+            found[-1] += letter
+    return [it.strip() for it in found if it.strip()]
+
+
+class Declared:
+    """The declaration of one box, in its file."""
+
+    def __init__(self, path):
+        source = re.sub(r"\s+", " ", re.sub(r"^\s*//.*$", "", read(path), flags=re.M))
+        self.source = source
+        self.types = {name: type_of(text) for name, text in re.findall(r"\btype (\w+) = ([^;]*);", source)}
+        name, owner = re.search(r"impl DeclaredBox for (\w+) .*? type Shape = (\w+);", source).groups()
+        self.shape = self.types[owner]
+        self.fields = self.fields_of(name)
+        code = int(re.search(r"pub const \w+: u32 = (0x[\w]+);", source)[1].replace("_", ""), 16)
+        self.code = code.to_bytes(4, "big").decode("latin-1")
+        self.section = re.search(rf"/// .*?\(`{self.code}`, ([^)]*)\)", read(path))[1]
+
+    def is_of_section(self, section):
+        """Returns whether the struct names `section`, of ISO/IEC 14496-12 unless the section names another source."""
+        source, _, number = section.rpartition(", ")
+        words = re.compile(r"[A-Z0-9][\w./-]*")
+        return {*words.findall(source or "ISO/IEC 14496-12")} <= {*words.findall(self.section)} and (
+            self.section.endswith(f", {number}") or not re.search(r"\d", number))
+
+    def fields_of(self, struct):
+        """Returns the fields of the struct `struct`, in their order."""
+        found = re.search(rf"pub struct {struct} \{{(.*?)\}}", self.source)
+        return re.findall(r"pub (\w+):", found[1]) if found else []
+
+    def entry(self, struct, count, size):
+        """Returns the fields of the entry `struct`, each with its width in bits, from its impls: the one in code, and
+        the one for the prover."""
+        impl = re.search(rf"impl EntryLayout<{count}, {size}> for {struct} \{{(.*?)(?= impl |$)", self.source)
+        if not impl:
+            raise Differs(f"{self.code}: {struct} has no EntryLayout<{count}, {size}>")
+        constants = dict(re.findall(r"const (\w+): \[u8; \d+\] = \[([^]]*)\]", self.source))
+        widths, others = (
+            [int(it) for it in constants[re.search(where, impl[1])[1]].split(",") if it.strip()]
+            for where in (r"fn widths\(\) -> \[u8; \w+\] \{ (\w+) \}", r"packed \(fields_of (\w+)\)"))
+        names = re.search(r"numbers_of!\(self => ([^)]*)\)", impl[1])[1].replace(" ", "").split(",")
+        if not widths == others or not names == self.fields_of(struct) or len(names) != len(widths):
+            raise Differs(f"{self.code}: {struct} has {names} of {widths} bits, for the prover {others}")
+        if sum(widths) != 8 * int(size):
+            raise Differs(f"{self.code}: {struct} has {sum(widths)} bits in {size} bytes")
+        return f"{size}: " + ", ".join(f"{name} {width}" for name, width in zip(names, widths))
+
+    def parts(self):
+        """Returns the parts of the box, in the words of the table."""
+        return self.all_parts(self.shape, self.fields)
+
+    def parts_of_entry(self, struct):
+        """Returns the parts of the entry `struct`, which has a shape."""
+        shape = re.search(rf"impl DeclaredEntry for {struct} .*? type Shape = (\w+);", self.source)[1]
+        return self.all_parts(self.types[shape], self.fields_of(struct))
+
+    def all_parts(self, shape, fields):
+        """Returns the parts of `shape`, each of which is one of `fields`, the fields of a struct."""
+        fields = iter(fields)
+        found = list(self.parts_of(shape, fields))
+        left = list(fields)
+        if left:
+            raise Differs(f"{self.code}: the shape has no part for {left}")
+        return found
+
+    def parts_of(self, shape, fields):
+        name, inside = shape
+        if name in self.types:
+            yield from self.parts_of(self.types[name], fields)
+        elif name in ("", "Last"):
+            for part in inside:
+                yield from self.parts_of(part, fields)
+        elif name == "Full":
+            version, flags = next(fields, None), next(fields, None)
+            if (version, flags) != ("version", "flags"):
+                raise Differs(f"{self.code}: version and flags are {version} and {flags}")
+            yield VERSIONS[int(inside[0][0])]
+            yield "flags"
+            yield from self.parts_of(inside[1], fields)
+        elif name == "Reserved":
+            yield f"reserved ({inside[0][0]})"
+            yield from self.parts_of(inside[1], fields)
+        elif name == "WithSize":
+            yield "size (4)"
+            yield from self.parts_of(inside[0], fields)
+        elif name == "Zeros":
+            if inside[0][0] != "0":
+                yield f"reserved ({inside[0][0]})"
+        else:
+            field = next(fields, None)
+            yield f"{field} ({self.held(shape)})"
+
+    def held(self, shape):
+        """Returns the words for the field with the shape `shape`."""
+        name, inside = shape
+        names = [it[0] for it in inside]
+        if name in self.types:
+            return self.held(self.types[name])
+        if name in FIELDS and not inside:
+            return FIELDS[name]
+        if name == "Array":
+            return f"{names[0]} bytes"
+        if name == "Bits":
+            return self.entry(*names)
+        if name == "List":
+            return f"count {NUMBERS[names[0]]}; each {self.entry(*names[1:])}"
+        if name == "ListByVersion":
+            count, entry, numbers, *widths = names
+            return "; else ".join(f"count {NUMBERS[count]}; each {self.entry(entry, numbers, it)}" for it in widths)
+        if name == "ToEnd":
+            return f"to the end; each {self.entry(*names)}"
+        if name == "Each":
+            return f"count {NUMBERS[names[0]]}; each: {', '.join(self.parts_of_entry(names[1]))}"
+        if name == "EachToEnd":
+            return f"to the end; each: {', '.join(self.parts_of_entry(names[0]))}"
+        if name == "Rows":
+            return f"count {NUMBERS[names[0]]}; each {names[1]} bytes"
+        if name == "Bytes":
+            return f"count {self.width(names[0])}; each 1"
+        if name == "If":
+            return f"{self.held(inside[1])}; {self.condition(inside[0])}"
+        if name == "OrZeros":
+            return f"{self.held(inside[1])}; {self.condition(inside[0])}, else reserved ({names[2]})"
+        if name == "Typed":
+            tag = re.search(rf"impl Tag for {names[0]} .*? const TAG: u32 = (\w+);", self.source)[1]
+            return f"code; {tag.lower()}: {self.held(inside[1])}; else {self.held(inside[2])}"
+        raise Differs(f"{self.code}: no words for the shape {name}")
+
+    def width(self, count):
+        """Returns the number of bytes of the count `count`."""
+        own = re.search(rf"impl Count for {count} \{{.*? const WIDTH: usize = (\d+);", self.source)
+        return own[1] if own else NUMBERS[count]
+
+    def condition(self, shape):
+        name, ((number, _),) = shape
+        return {"FromVersion": f"from version {number}", "IfFlags": f"flag {number}"}[name]
+
+
+def declarations():
+    """Returns the declarations of all boxes of the crate."""
+    found = sorted(glob.glob(os.path.join(TOP, SOURCES)), key=os.path.basename)
+    paths = [os.path.relpath(path, TOP) for path in found]
+    return [Declared(path) for path in paths if "impl DeclaredBox for" in read(path)]
+
+
+def table():
+    """Returns the rows of the table, by code: the section and the parts."""
+    return {code: (section, apart(parts)) for code, section, parts in ROW.findall(re.sub(r"\n  +", " ", read(PAGE)))}
+
+
+def different(box, section, said):
+    """Returns how a row of the table differs from the declaration of `box`, or None if it doesn't."""
+    try:
+        parts = box.parts()
+    except Differs as fault:
+        return str(fault)
+    if not said:
+        return f"{box.code}: the table has no row of {', '.join(parts)}"
+    if not box.is_of_section(section):
+        return f"{box.code}: the table has {section}, and the struct {box.section}"
+    for at in range(max(len(parts), len(said))):
+        one, other = (it[at] if at < len(it) else "nothing" for it in (parts, said))
+        if one != other:
+            return f"{box.code}: declared is `{one}`, and the table has `{other}`"
+    return None
+
+
+def compare_declarations(show):
+    """Compares the table with the declarations. Returns the number of compared parts, and the differences."""
+    rows, boxes = table(), declarations()
+    found = [different(box, *rows.get(box.code, ("", []))) for box in boxes]
+    count = sum(len(rows[box.code][1]) for box, fault in zip(boxes, found) if not fault)
+    if show:
+        for box, fault in zip(boxes, found):
+            print("" if fault else "\n".join(f"{box.code}: {part}" for part in box.parts()))
+    extra = rows.keys() - {box.code for box in boxes}
+    return count, [fault for fault in found if fault] + [f"{code}: no box is declared" for code in extra]
+
+
+def planted(parts):
+    """Yields wrong copies of a row: for each of `parts` and each way to change it, the name of the way and the changed
+    parts."""
+    for at, part in enumerate(parts):
+        before, after = parts[:at], parts[at + 1:]
+        for number in re.finditer(r"\b\d+\b", part):
+            wider = f"{part[:number.start()]}{int(number[0]) + 1}{part[number.end():]}"
+            yield "width", [*before, wider, *after]
+        for name in re.finditer(r"\b[a-z]\w+\b", part):
+            yield "name", [*before, f"{part[:name.start()]}another{part[name.end():]}", *after]
+        inside = re.search(r"(\w+ \d+), (\w+ \d+)", part)
+        if inside and inside[1] != inside[2]:
+            yield "order", [*before, part.replace(inside[0], f"{inside[2]}, {inside[1]}"), *after]
+        if inside:
+            yield "missing", [*before, part.replace(inside[0], inside[2]), *after]
+            yield "extra", [*before, part.replace(inside[0], f"{inside[0]}, another 1"), *after]
+        if after and after[0] != part:
+            yield "order", [*before, after[0], part, *after[1:]]
+        yield "missing", before + after
+        yield "extra", [*before, part, "another (4)", *after]
+
+
+def try_planted():
+    """Plants each wrong row. Returns their number for each way, and those that no comparison catches."""
+    rows, kinds, untold = table(), collections.Counter(), []
+    for box in declarations():
+        section, said = rows[box.code]
+        for kind, parts in planted(said):
+            kinds[kind] += 1
+            if different(box, section, parts) is None:
+                untold.append(f"{box.code}, {kind}: {', '.join(parts)}")
+        for other in (f"{section}.1", f"ISO/IEC 1, {section}"):
+            kinds["section"] += 1
+            if different(box, other, said) is None:
+                untold.append(f"{box.code}: {other}")
+    return kinds, untold

@@ -1,0 +1,10 @@
+"""`btrt`, the bit rates of media. The bytes of the fields count up from 0x81."""
+
+from tests.rows.making import Box, box, counting, declared_as
+
+BTRT = box(b"btrt", counting(0x81, 0x8C))
+
+
+def three_numbers():
+    value = Box("btrt", buffer_size_db=0x81828384, max_bitrate=0x85868788, avg_bitrate=0x898A8B8C)
+    yield from declared_as(BTRT, value)

@@ -1,0 +1,9 @@
+"""`clli`, the brightness of pictures. The bytes of the fields count up from 0x81."""
+
+from tests.rows.making import Box, box, counting, declared_as
+
+CLLI = box(b"clli", counting(0x81, 0x84))
+
+
+def two_numbers():
+    yield from declared_as(CLLI, Box("clli", max_content_light_level=0x8182, max_pic_average_light_level=0x8384))

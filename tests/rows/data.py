@@ -1,0 +1,76 @@
+"""`data`, a value of metadata: the codec's own box, which has four types, and the declared one, which has all. Its
+bytes count up from 0x81."""
+
+from tests.rows.making import (
+    END, TOO_SMALL, Box, box, counting, declared_as, filled, invalid, listed, one, resized, round_trip, u32, written_as,
+)
+from tests.rows.values import DATA, data
+
+INVALID_TYPE = invalid("invalid data type")
+
+
+def counted_bytes(number):
+    return box(b"data", u32(number, 0), counting(0x81, 0x83))
+
+
+def every_type():
+    for data_type, number in [("Binary", 0), ("Text", 1), ("Image", 13), ("TempoCpil", 21)]:
+        yield round_trip(counted_bytes(number), data(data_type, counting(0x81, 0x83)))
+
+
+def reserved_bytes_are_ignored():
+    counted = counted_bytes(21)
+    yield written_as(filled(counted, 0xFF, range(12, 16)), data("TempoCpil", counting(0x81, 0x83)), counted)
+
+
+def few_bytes():
+    yield one(box(b"data", u32(2), size=16), INVALID_TYPE)
+    yield one(box(b"data", u32(1), size=16), END)
+    yield one(box(b"data", u32(1, 0), size=12), TOO_SMALL)
+    yield one(resized(DATA, 16), data("Text", b""))
+
+
+def text_of_another_type():
+    yield listed(box(b"data", u32(9, 0)), INVALID_TYPE)
+
+
+UNKNOWN = invalid("invalid data type")
+TYPES = {0: "Binary", 1: "Text", 13: "Image", 21: "TempoCpil"}
+
+
+def data_type_has_32_bits():
+    """A type of the table with one more bit set is unknown, and so is the number of a type in other bytes."""
+    for number, name in TYPES.items():
+        yield one(box(b"data", u32(number, 0)), data(name, b""))
+        for bit in range(8, 32):
+            yield one(box(b"data", u32(number | 1 << bit, 0)), UNKNOWN)
+        for shift in (8, 16, 24):
+            if number:
+                yield one(box(b"data", u32(number << shift, 0)), UNKNOWN)
+    yield one(box(b"data", u32(0x01000001, 0)), UNKNOWN)
+    yield one(box(b"data", u32(0x0100000D, 0)), UNKNOWN)
+
+
+def every_other_type_of_a_byte_is_unknown():
+    for number in range(256):
+        if number not in TYPES:
+            yield one(box(b"data", u32(number, 0)), UNKNOWN)
+
+
+def reserved_bytes_come_before_the_size():
+    for size in (8, 11, 12, 15):
+        for length in range(8):
+            yield one(box(b"data", u32(1, 0)[:length], size=size), END)
+        yield one(box(b"data", u32(1, 0), size=size), TOO_SMALL)
+
+
+def type_comes_before_the_reserved_bytes():
+    for size in (8, 12, 15, 16):
+        yield one(box(b"data", u32(2), size=size), UNKNOWN)
+        yield one(box(b"data", u32(2)[:3], size=size), END)
+
+
+def declared_of_any_type():
+    fields = {"type_set": 0x81, "data_type": 0x828384, "country": 0x8586, "language": 0x8788}
+    for value in (counting(0x89, 0x8B), b""):
+        yield from declared_as(box(b"data", counting(0x81, 0x88), value), Box("data", **fields, value=list(value)))

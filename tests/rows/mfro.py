@@ -1,0 +1,13 @@
+"""`mfro`, the length of the `mfra` around it. The bytes of the fields count up from 0x81, after the version."""
+
+from tests.rows.making import NO_VERSION_1, Box, box, changed, counting, declared, declared_as
+
+MFRO = box(b"mfro", b"\0", counting(0x81, 0x87))
+
+
+def a_number():
+    yield from declared_as(MFRO, Box("mfro", version=0, flags=0x818283, parent_size=0x84858687))
+
+
+def version_1():
+    yield declared(changed(MFRO, {8: 1}), NO_VERSION_1)

@@ -1,0 +1,38 @@
+"""`pssh`, the data that a protection system needs: keys only in version 1, and data. The bytes of the fields count up
+from 0x81, after the version and between the counts."""
+
+from tests.rows.making import (
+    END, TOO_MANY_BYTES, TOO_MANY_ENTRIES, Box, box, counting, declared, declared_as, resized, u32,
+)
+
+SYSTEM = counting(0x84, 0x93)
+HEAD = b"\x81\x82\x83", SYSTEM
+SHORT = box(b"pssh", b"\0", *HEAD, u32(3), b"\x94\x95\x96")
+KEYS = [counting(0x94, 0xA3), counting(0xA4, 0xB3), counting(0xB4, 0xC3)]
+TWO_KEYS = box(b"pssh", b"\1", *HEAD, u32(2), *KEYS[:2], u32(1), b"\xb4")
+THREE_KEYS = box(b"pssh", b"\1", *HEAD, u32(3), *KEYS, u32(1), b"\xc4")
+
+
+def pssh(version, keys, data):
+    keys = keys and [list(key) for key in keys]
+    fields = {"flags": 0x818283, "system_id": list(SYSTEM), "key_ids": keys, "system_data": list(data)}
+    return Box("pssh", version=version, **fields)
+
+
+def version_0_has_data_alone():
+    yield from declared_as(SHORT, pssh(0, None, b"\x94\x95\x96"))
+
+
+def version_1_has_keys():
+    yield from declared_as(TWO_KEYS, pssh(1, KEYS[:2], b"\xb4"))
+    yield from declared_as(THREE_KEYS, pssh(1, KEYS, b"\xc4"))
+
+
+def version_1_has_keys_that_may_be_none():
+    yield from declared_as(box(b"pssh", b"\1", *HEAD, u32(0, 0)), pssh(1, [], b""))
+
+
+def sizes_that_are_too_small():
+    yield declared(resized(TWO_KEYS, 63), TOO_MANY_ENTRIES)
+    yield declared(resized(TWO_KEYS, 68), TOO_MANY_BYTES)
+    yield declared(resized(TWO_KEYS[:31], 69), END)

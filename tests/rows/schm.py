@@ -1,0 +1,18 @@
+"""`schm`, the scheme of a protection, with an address if flag 1 is set. The bytes of the fields count up."""
+
+from tests.rows.making import Box, box, counting, declared_as
+
+PLAIN = box(b"schm", b"\0\x80\x82\x86", counting(0x87, 0x8E))
+WITH_ADDRESS = box(b"schm", b"\0\x80\x82\x85", counting(0x87, 0x8E), b"uv\0")
+
+
+def schm(flags, address):
+    return Box("schm", version=0, flags=flags, scheme_type=0x8788898A, scheme_version=0x8B8C8D8E, scheme_uri=address)
+
+
+def no_address():
+    yield from declared_as(PLAIN, schm(0x808286, None))
+
+
+def an_address_of_two_letters():
+    yield from declared_as(WITH_ADDRESS, schm(0x808285, list(b"uv\0")))

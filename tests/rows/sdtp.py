@@ -1,0 +1,11 @@
+"""`sdtp`, how samples depend on one another. The bits of the entries are 11 00 01 10, 01 10 00 11 and 00 11 10 01."""
+
+from tests.rows.making import Box, box, declared_as
+
+SDTP = box(b"sdtp", b"\0\x81\x82\x83\xc6\x63\x39")
+NAMES = ("is_leading", "sample_depends_on", "sample_is_depended_on", "sample_has_redundancy")
+SAMPLES = [dict(zip(NAMES, numbers)) for numbers in [(3, 0, 1, 2), (1, 2, 0, 3), (0, 3, 2, 1)]]
+
+
+def samples_up_to_the_end():
+    yield from declared_as(SDTP, Box("sdtp", version=0, flags=0x818283, entries=SAMPLES))

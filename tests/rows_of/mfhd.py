@@ -1,9 +1,0 @@
-"""`mfhd`, the header of a movie fragment. The bytes of the fields count up from 0x81."""
-
-from rows_of.making import box, counting, round_trip
-from rows_of.values import full_box
-
-
-def every_field():
-    given = box(b"mfhd", counting(0x81, 0x88))
-    yield round_trip(given, full_box("mfhd", 0x81, 0x828384, sequence_number=0x85868788))

@@ -1,9 +1,0 @@
-"""`nmhd`, a header of media. The bytes of the flags count up from 0x81."""
-
-from rows_of.making import Box, box, counting, declared_as
-
-NMHD = box(b"nmhd", b"\0", counting(0x81, 0x83))
-
-
-def version_and_flags():
-    yield from declared_as(NMHD, Box("nmhd", version=0, flags=0x818283))

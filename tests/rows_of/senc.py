@@ -1,7 +1,0 @@
-"""`senc`, how each sample is encrypted."""
-
-from rows_of.making import count_and_bytes
-
-
-def a_count_and_bytes():
-    yield from count_and_bytes(b"senc", "sample_count", "samples")
