@@ -22,14 +22,14 @@ extern "C" {
     fn mp4_fragment_member_size() -> u64;
 }
 
-/// The codec for lists that skip boxes of other types, or that keep them.
+/// The codec with lists that either skip or keep boxes of other types.
 #[derive(Clone, Copy)]
 pub struct Codec {
     pub is_kept: bool,
 }
 
 impl Codec {
-    /// Reads a stream so many times. Returns the sum of the checksums of its boxes.
+    /// Reads a stream `times` times. Returns the sum of the checksums of its boxes.
     pub fn read(self, bytes: &[u8], times: u64) -> u64 {
         let (start, len) = (bytes.as_ptr(), bytes.len());
         // SAFETY: the pointer and the length are those of a slice.
@@ -42,7 +42,8 @@ impl Codec {
         }
     }
 
-    /// Reads a stream so many times, one box at a time into one place. Returns the sum of the checksums of its boxes.
+    /// Reads a stream `times` times, one box at a time into the same vector. Returns the sum of the checksums of its
+    /// boxes.
     pub fn read_each(self, bytes: &[u8], times: u64) -> u64 {
         let (start, len) = (bytes.as_ptr(), bytes.len());
         // SAFETY: the pointer and the length are those of a slice.
@@ -55,7 +56,7 @@ impl Codec {
         }
     }
 
-    /// Reads a stream once, and writes its boxes so many times. Returns the sum of the lengths and of the last bytes.
+    /// Reads a stream once, and writes its boxes `times` times. Returns the sum of the lengths and of the last bytes.
     pub fn write(self, bytes: &[u8], times: u64) -> u64 {
         let (start, len) = (bytes.as_ptr(), bytes.len());
         // SAFETY: the pointer and the length are those of a slice.
@@ -68,7 +69,7 @@ impl Codec {
         }
     }
 
-    /// What is written of the boxes that are read.
+    /// Returns the bytes to which the boxes of a stream are written after reading.
     pub fn rewrite(self, bytes: &[u8]) -> Vec<u8> {
         let (start, len) = (bytes.as_ptr(), bytes.len());
         let mut out = vec![0; len];
@@ -86,35 +87,35 @@ impl Codec {
     }
 }
 
-/// Reads a stream of boxes of fragments so many times into lists of these boxes alone. Returns the sum of the checksums
+/// Reads a stream of boxes of fragments `times` times, into lists of only these boxes. Returns the sum of the checksums
 /// of its boxes.
 pub fn read_fragments(bytes: &[u8], times: u64) -> u64 {
     // SAFETY: the pointer and the length are those of a slice.
     unsafe { mp4_read_fragments(bytes.as_ptr(), bytes.len(), times) }
 }
 
-/// Reads the tables of a track once and goes over its samples so many times. Returns the sum of all that is said of
-/// each.
+/// Reads the tables of a track once, and visits its samples in order `times` times. Returns the sum of all their
+/// fields.
 pub fn samples_in_order(bytes: &[u8], times: u64) -> u64 {
     // SAFETY: the pointer and the length are those of a slice.
     unsafe { mp4_samples_in_order(bytes.as_ptr(), bytes.len(), times) }
 }
 
-/// Reads the tables of a track once, makes an index once, and looks one of ten samples up, so many times. Returns the
-/// sum of all that is said of each.
+/// Reads the tables of a track once, makes an index once, and looks up one of every ten samples, `times` times. Returns
+/// the sum of all their fields.
 pub fn samples_by_number(bytes: &[u8], times: u64) -> u64 {
     // SAFETY: the pointer and the length are those of a slice.
     unsafe { mp4_samples_by_number(bytes.as_ptr(), bytes.len(), times) }
 }
 
-/// An `mfhd` of the codec, or the same box as one that is declared.
+/// The `mfhd` of the codec, or the same box as a declared one.
 #[derive(Clone, Copy)]
 pub enum Mfhd {
     ByHand,
     Declared,
 }
 
-/// A function over a slice, so many times.
+/// A function that processes a slice a number of times.
 type Times = unsafe extern "C" fn(*const u8, usize, u64) -> u64;
 
 fn over(call: Times, bytes: &[u8], times: u64) -> u64 {
@@ -123,14 +124,14 @@ fn over(call: Times, bytes: &[u8], times: u64) -> u64 {
 }
 
 impl Mfhd {
-    /// Reads a stream of `mfhd` boxes so many times, each time into a new list, of which the last box is written.
-    /// Returns the number of all and the sum of the last bytes.
+    /// Reads a stream of `mfhd` boxes `times` times, each time into a new list, and writes the last box of the list.
+    /// Returns the sum of the numbers of boxes and of the last bytes.
     pub fn read(self, bytes: &[u8], times: u64) -> u64 {
         let ways: [Times; 2] = [mp4_read_mfhd, mp4_read_declared];
         over(ways[self as usize], bytes, times)
     }
 
-    /// Reads a stream of `mfhd` boxes once, and writes them so many times. Returns the sum of the lengths and of the
+    /// Reads a stream of `mfhd` boxes once, and writes them `times` times. Returns the sum of the lengths and of the
     /// last bytes.
     pub fn write(self, bytes: &[u8], times: u64) -> u64 {
         let ways: [Times; 2] = [mp4_write_mfhd, mp4_write_declared];
@@ -138,19 +139,19 @@ impl Mfhd {
     }
 }
 
-/// The number of bytes of a member of a list.
+/// Returns the number of bytes that a member of a list takes in memory.
 pub fn member_size() -> u64 {
     // SAFETY: the function takes nothing.
     unsafe { mp4_member_size() }
 }
 
-/// The number of bytes of a member of a list that keeps other boxes.
+/// Returns the number of bytes that a member of a list takes in memory if the list keeps other boxes.
 pub fn kept_member_size() -> u64 {
     // SAFETY: the function takes nothing.
     unsafe { mp4_kept_member_size() }
 }
 
-/// The number of bytes of a member of a list of boxes of fragments.
+/// Returns the number of bytes that a member of a list takes in memory if the list has only boxes of fragments.
 pub fn fragment_member_size() -> u64 {
     // SAFETY: the function takes nothing.
     unsafe { mp4_fragment_member_size() }

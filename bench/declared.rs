@@ -1,4 +1,4 @@
-//! The timing of a box that is declared, beside the same box by hand. Both are the codec's.
+//! The timing of a declared box and of the same box with hand-written code. The codec has both.
 
 use crate::codec::Mfhd;
 use crate::streams::headers;
@@ -7,16 +7,16 @@ use crate::timing::{passes, seconds_of_codec, CodecWrite};
 /// The number of boxes.
 pub const COUNT: u32 = 8_000;
 
-/// The ways, in the order of the times.
+/// The two ways, in the order of the times.
 const WAYS: [Mfhd; 2] = [Mfhd::ByHand, Mfhd::Declared];
 
-/// The least seconds of one pass: by hand, and declared.
+/// The least seconds of one pass with hand-written code, and with the declared box.
 pub struct DeclaredTimes {
     pub read: [f64; 2],
     pub write: [f64; 2],
 }
 
-/// The least times of so many rounds.
+/// Returns the least times of `rounds` rounds.
 pub fn measure(rounds: usize) -> DeclaredTimes {
     let bytes = headers(COUNT);
     for way in WAYS {

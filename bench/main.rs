@@ -1,5 +1,5 @@
-//! Measures the codec beside plain Rust, and prints the tables of docs/internals/BENCHMARKS.md. All is measured in
-//! several runs, and each stream in a process of its own, which this one starts.
+//! Measures the codec and plain Rust, and prints the tables of docs/internals/BENCHMARKS.md. There are several runs.
+//! This program starts a separate process for each stream.
 
 mod best;
 mod boxes;
@@ -23,16 +23,16 @@ use streams::Stream;
 use subject::Subject;
 use timing::Times;
 
-/// How many runs there are. The ratios of all of them are printed.
+/// The number of runs. The ratios of all runs are printed.
 const RUNS: usize = 3;
 
-/// The word before the number of the stream that a process measures.
+/// The argument before the number of the stream that a process measures.
 const STREAM: &str = "--stream";
 
-/// The word for a process that measures the samples of a track.
+/// The argument of a process that measures the samples of a track.
 const SAMPLES: &str = "--samples";
 
-/// The word for a process that measures a box that is declared.
+/// The argument of a process that measures a declared box.
 const DECLARED: &str = "--declared";
 
 fn main() {
@@ -54,7 +54,7 @@ fn main() {
 /// Measures one stream, and prints its times in seconds.
 fn measure(number: usize, rounds: usize) {
     let subject = Subject::new(streams::nth(number));
-    // The allocator keeps what was freed, so that no way pays for fresh pages of the system.
+    // The allocator keeps freed memory, so that no way has to wait for fresh pages from the system.
     drop(black_box(vec![1u8; 30_000_000]));
     let times = timing::measure(&subject, rounds);
     for seconds in times.read.iter().chain(&times.write).chain(&times.small) {
@@ -70,7 +70,7 @@ fn measure_samples(rounds: usize) {
     }
 }
 
-/// Measures a box that is declared beside one by hand, and prints the times in seconds.
+/// Measures a declared box and one with hand-written code, and prints the times in seconds.
 fn measure_declared(rounds: usize) {
     let times = declared::measure(rounds);
     for seconds in times.read.iter().chain(&times.write) {
@@ -78,7 +78,8 @@ fn measure_declared(rounds: usize) {
     }
 }
 
-/// The seconds that a process prints which this program starts with some words.
+/// Starts this program as a new process with the arguments `words`. Returns a function that gives the seconds which the
+/// process prints, one at a time.
 fn seconds_of(words: &[String]) -> impl FnMut() -> f64 {
     let program = env::current_exe().expect("the path of this program");
     let child = Command::new(program)
@@ -96,7 +97,7 @@ fn seconds_of(words: &[String]) -> impl FnMut() -> f64 {
     move || seconds.next().expect("a time")
 }
 
-/// The times of one stream, from a process of its own.
+/// Returns the times of stream `number`, which a new process measures.
 fn measured(number: usize, rounds: usize) -> Times {
     let mut next = seconds_of(&[rounds.to_string(), STREAM.to_owned(), number.to_string()]);
     Times {

@@ -1,26 +1,26 @@
-//! The tables of results.
+//! The printed tables of results.
 
 use crate::declared::{self, DeclaredTimes};
 use crate::samples::{SampleTimes, COUNT};
 use crate::streams::Stream;
 use crate::timing::Times;
 
-/// The length whose tables have a line each. Of other lengths the range of all ratios is printed.
+/// The length for which each table has a line. For other lengths only the range of all ratios is printed.
 const SHOWN: u32 = 10_000;
 
-/// A stream, and its times in each run.
+/// A stream and its times in each run.
 pub struct Line<'a> {
     stream: &'a Stream,
     pub runs: Vec<Times>,
 }
 
-/// The samples of a track, and their times in each run.
+/// The times of the samples of a track, in each run.
 #[derive(Default)]
 pub struct SampleLine {
     pub runs: Vec<SampleTimes>,
 }
 
-/// A box that is declared beside one by hand, and the times of both in each run.
+/// The times of a declared box and of one with hand-written code, in each run.
 #[derive(Default)]
 pub struct DeclaredLine {
     pub runs: Vec<DeclaredTimes>,
@@ -36,7 +36,7 @@ impl Ratios {
         Ratios(ratios)
     }
 
-    /// The middle one.
+    /// Returns the median.
     fn middle(&self) -> f64 {
         self.0[self.0.len() / 2]
     }
@@ -49,7 +49,7 @@ impl Ratios {
         self.0[self.0.len() - 1]
     }
 
-    /// The middle one, and the range in brackets.
+    /// Returns the median, and the range in brackets.
     fn text(&self) -> String {
         let (middle, least, greatest) = (self.middle(), self.least(), self.greatest());
         format!("**{middle:.2}** ({least:.2} to {greatest:.2})")
@@ -62,12 +62,12 @@ impl<'a> Line<'a> {
         Line { stream, runs }
     }
 
-    /// The least of all runs.
+    /// Returns the least `time` of all runs.
     fn least(&self, time: impl Fn(&Times) -> f64) -> f64 {
         self.runs.iter().map(time).fold(f64::MAX, f64::min)
     }
 
-    /// The codec's times by those of the best effort.
+    /// Returns the codec's times divided by those of the best effort.
     fn ratios(&self, times: impl Fn(&Times) -> [f64; 4]) -> Ratios {
         Ratios::new(self.runs.iter().map(|run| {
             let [_, codec, best, _] = times(run);
@@ -75,7 +75,7 @@ impl<'a> Line<'a> {
         }))
     }
 
-    /// The columns of all ways but the copy, and of the ratio.
+    /// Returns the columns of all ways except the copy, and of the ratio.
     fn columns(&self, times: impl Fn(&Times) -> [f64; 4]) -> String {
         let [codec, best, naive] = [1, 2, 3].map(|way| micros(self.least(|run| times(run)[way])));
         format!("{codec} | {best} | {naive} | {}", self.ratios(times).text())
@@ -87,7 +87,7 @@ impl<'a> Line<'a> {
         println!("| {name} | {copy} | {reading} | {writing} |");
     }
 
-    /// What of the aims is missed, in words.
+    /// Describes the aims that the stream misses.
     fn missed(&self) -> Vec<String> {
         let Some(aims) = self.stream.aims else {
             return Vec::new();
@@ -111,14 +111,14 @@ impl<'a> Line<'a> {
     }
 }
 
-/// The number of entries of its one table, or of its boxes.
+/// Returns the number of entries if `stream` is one table, or else the number of boxes.
 fn count(stream: &Stream) -> usize {
     stream
         .entries
         .map_or(stream.boxes, |entries| entries as usize)
 }
 
-/// A number with commas after the thousands.
+/// Returns `number` with commas between groups of three digits.
 fn grouped(number: usize) -> String {
     if number < 1000 {
         number.to_string()
@@ -127,12 +127,12 @@ fn grouped(number: usize) -> String {
     }
 }
 
-/// Microseconds, with three figures or more.
+/// Returns `seconds` in microseconds, with at least three digits.
 fn micros(seconds: f64) -> String {
     figures(seconds * 1e6)
 }
 
-/// A number with three figures or more.
+/// Returns `number` with at least three digits.
 fn figures(number: f64) -> String {
     match number {
         0.0..10.0 => format!("{number:.2}"),
@@ -141,7 +141,7 @@ fn figures(number: f64) -> String {
     }
 }
 
-/// The head of a table of streams.
+/// Prints the head of a table of streams.
 fn print_head(title: &str) {
     println!("\n| {title} | copy | codec | best effort | naive | ratio | codec | best effort | naive | ratio |");
     println!("|---|--:|--:|--:|--:|--:|--:|--:|--:|--:|");
@@ -178,7 +178,7 @@ pub fn print(lines: &[Line], samples: &SampleLine, declared: &DeclaredLine) {
     println!("\nAims missed: {missed}.");
 }
 
-/// The range of the ratios of all tables of a length.
+/// Prints the range of the ratios of all tables, for each length except `SHOWN`.
 fn print_other_lengths(tables: &[&Line]) {
     println!("\n| entries | ratios in reading | in writing |");
     println!("|--:|--:|--:|");
@@ -201,7 +201,7 @@ fn print_other_lengths(tables: &[&Line]) {
     }
 }
 
-/// Small boxes that are read one at a time, beside a list of them, and into a list of boxes of fragments alone.
+/// Prints the times of small boxes: read into a list, one at a time, and into a list of only boxes of fragments.
 fn print_each(lines: &[&Line]) {
     println!(
         "\n| boxes, read | into a list | one at a time | best effort, one at a time | ratio | into a list of \
@@ -224,7 +224,7 @@ fn print_each(lines: &[&Line]) {
 }
 
 impl SampleLine {
-    /// The least of all runs, in nanoseconds.
+    /// Returns the least `time` of all runs, in nanoseconds.
     fn nanos(&self, time: impl Fn(&SampleTimes) -> f64) -> String {
         figures(self.runs.iter().map(time).fold(f64::MAX, f64::min) * 1e9)
     }
@@ -255,7 +255,7 @@ impl SampleLine {
 }
 
 impl DeclaredLine {
-    /// The least times of both in microseconds, and the ratio.
+    /// Returns the least times of both ways in microseconds, and the ratio.
     fn columns(&self, times: impl Fn(&DeclaredTimes) -> [f64; 2]) -> String {
         let least = |way: usize| self.runs.iter().map(|run| times(run)[way]).fold(f64::MAX, f64::min);
         let ratio = Ratios::new(self.runs.iter().map(|run| times(run)[1] / times(run)[0])).text();

@@ -1,4 +1,4 @@
-//! The timing of the samples of a track: in order, and by their numbers.
+//! The timing of the samples of a track, in order and by their numbers.
 
 use crate::best::samples::{check, Index, Samples};
 use crate::boxes::{AnyBox, Tables};
@@ -10,27 +10,28 @@ use std::time::Instant;
 /// The number of samples of the track.
 pub const COUNT: u32 = 1_000_000;
 
-/// How far apart two samples are that are looked up one after the other, as in `crates/mp4_bench`.
+/// The distance between two samples that are looked up one after the other, as in `crates/mp4_bench`.
 const STRIDE: u32 = 611_953;
 
-/// One of so many samples is looked up in a pass.
+/// The number of samples for each sample that a pass looks up.
 const ONE_OF: u32 = 10;
 
-/// Of these the naive look-up is asked for one of so many: each takes it a walk over half of all runs.
+/// The number of looked-up samples for each one that the naive look-up is asked for. Each of its look-ups visits half
+/// of all runs.
 const NAIVE_ONE_OF: usize = 1_000;
 
-/// How many more passes of the codec are timed beside one.
+/// The number of additional passes in the longer of the codec's two timed calls.
 const MORE: u64 = 3;
 
 /// The least seconds for a sample.
 pub struct SampleTimes {
-    /// One after the other, and the check of the tables: the codec, and the best effort.
+    /// Samples in order, with the check of the tables: the codec, and the best effort.
     pub in_order: [f64; 2],
-    /// By its number: the codec, the best effort, and the naive look-up.
+    /// Samples by number: the codec, the best effort, and the naive look-up.
     pub by_number: [f64; 3],
 }
 
-/// The numbers of the samples that are looked up, in their order.
+/// Returns the numbers of the samples that are looked up, in order.
 fn numbers() -> impl Iterator<Item = u32> {
     (1..=u64::from(COUNT / ONE_OF)).map(|turn| (turn * u64::from(STRIDE) % u64::from(COUNT)) as u32)
 }
@@ -53,7 +54,7 @@ fn naive_by_number(tables: Tables) -> u64 {
         .fold(0, |sum, number| sum.wrapping_add(found(number)))
 }
 
-/// All ways have to agree on the samples before any of them is timed.
+/// Checks that all ways agree on the samples. Panics if they don't.
 fn compare(bytes: &[u8], tables: Tables, index: &Index) {
     let sum = best_in_order(tables);
     assert_eq!(
@@ -83,7 +84,7 @@ fn compare(bytes: &[u8], tables: Tables, index: &Index) {
     }
 }
 
-/// The seconds of a pass, after one that is not timed.
+/// Returns the seconds of one pass, after a pass that is not timed.
 fn seconds(mut pass: impl FnMut() -> u64) -> f64 {
     black_box(pass());
     let begin = Instant::now();
@@ -91,7 +92,8 @@ fn seconds(mut pass: impl FnMut() -> u64) -> f64 {
     begin.elapsed().as_secs_f64()
 }
 
-/// The codec reads its tables and makes its index in each call: so one pass is timed, and one with `MORE` beside it.
+/// The least times of the codec's calls. Each call reads the tables and makes the index, so a call of one pass and a
+/// call of `MORE` additional passes are timed.
 struct CodecTime {
     once: f64,
     more: f64,
@@ -103,13 +105,13 @@ impl CodecTime {
         self.more = self.more.min(seconds(|| passes(1 + MORE)));
     }
 
-    /// The seconds of one pass.
+    /// Returns the seconds of one pass.
     fn seconds(&self) -> f64 {
         (self.more - self.once) / MORE as f64
     }
 }
 
-/// The least times of so many rounds.
+/// Returns the least times of `rounds` rounds.
 pub fn measure(rounds: usize) -> SampleTimes {
     let bytes = track(COUNT);
     let boxes: Vec<AnyBox> = best::read_boxes(&bytes).expect("the boxes are read");

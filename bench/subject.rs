@@ -1,4 +1,4 @@
-//! A stream with its boxes, checked before it is timed.
+//! A stream with its boxes, which is checked before it is timed.
 
 use crate::boxes::{checksum, AnyBox, KeptBox, Member};
 use crate::codec::{read_fragments, Codec};
@@ -10,11 +10,11 @@ pub struct Subject {
     pub stream: Stream,
     pub codec: Codec,
     pub boxes: List,
-    /// Whether it has boxes of fragments alone.
+    /// True if the stream has only boxes of fragments.
     pub is_of_fragments: bool,
 }
 
-/// The boxes of a stream, by plain Rust.
+/// The boxes of a stream as plain Rust reads them.
 pub enum List {
     Skipping(Vec<AnyBox>),
     Keeping(Vec<KeptBox>),
@@ -40,7 +40,7 @@ impl Subject {
     }
 }
 
-/// All ways have to agree on a stream before any of them is timed.
+/// Checks that all ways agree on `stream`, and returns its boxes. Panics if they don't.
 fn checked<M: Member + Debug + PartialEq>(stream: &Stream, codec: Codec) -> Vec<M> {
     let (name, bytes, written) = (&stream.name, &stream.bytes, &stream.written);
     let boxes = best::read_boxes(bytes).expect("the best-effort reader refuses the stream");

@@ -1,4 +1,4 @@
-//! The timing of all ways over a stream, in rounds. Before each timed run of passes is one that is not timed.
+//! The timing of all ways with a stream, in rounds. A pass that is not timed precedes each timed series of passes.
 
 use crate::boxes::{checksum, AnyBox, KeptBox, Member};
 use crate::codec::read_fragments;
@@ -7,10 +7,10 @@ use crate::{best, naive};
 use std::hint::black_box;
 use std::time::Instant;
 
-/// About how long a round stays with one way of reading or writing.
+/// The approximate seconds that a round spends on one way of reading or writing.
 pub const SECONDS: f64 = 0.002;
 
-/// Streams with more bytes than this have fewer rounds.
+/// The number of bytes above which a stream has fewer rounds.
 pub const LARGE: usize = 2_000_000;
 
 pub fn rounds_of_large(rounds: usize) -> usize {
@@ -31,27 +31,29 @@ const WAYS: [Way; 4] = [Way::Copy, Way::Codec, Way::Best, Way::Naive];
 /// A way of reading small boxes without a list of all types, in the order of the columns.
 #[derive(Clone, Copy)]
 enum SmallWay {
-    /// The codec, one box at a time into one place.
+    /// The codec, one box at a time into the same vector.
     CodecEach,
     /// The best effort, in the same way.
     BestEach,
-    /// The codec, into a list of boxes of fragments alone.
+    /// The codec, into a list of only boxes of fragments.
     Fragments,
 }
 
 const SMALL_WAYS: [SmallWay; 3] = [SmallWay::CodecEach, SmallWay::BestEach, SmallWay::Fragments];
 
-/// The least seconds of one pass, by way.
+/// The least seconds of one pass, for each way.
 #[derive(Clone, Copy)]
 pub struct Times {
     pub read: [f64; 4],
     pub write: [f64; 4],
-    /// Of small boxes alone, and the last of boxes of fragments alone; else `f64::MAX`.
+    /// The times of `SmallWay`. They are `f64::MAX` for streams of a table. The last one is also `f64::MAX` for streams
+    /// that have boxes other than those of fragments.
     pub small: [f64; 3],
 }
 
-/// The codec writes only what it has read in the same call. So one reading with one writing is timed, and one reading
-/// with `more` writings beside that one; what `more` writings take is the difference of the least times of both.
+/// The times of the codec's writing. The codec writes only boxes that it has read in the same call. So one call with
+/// one writing is timed, and one with `more` additional writings. The time of `more` writings is the difference between
+/// the least times of both calls.
 #[derive(Clone, Copy)]
 pub struct CodecWrite {
     more: u64,
@@ -60,7 +62,7 @@ pub struct CodecWrite {
 }
 
 impl CodecWrite {
-    /// With as many more writings as take about the time of a round, and not fewer than four.
+    /// Returns a state with as many additional writings as take about `SECONDS`, and at least four.
     pub fn of(write: impl Fn(u64) -> u64) -> CodecWrite {
         let least = |times| {
             (0..5)
@@ -83,7 +85,7 @@ impl CodecWrite {
         self.least_more = self.least_more.min(more);
     }
 
-    /// The seconds of one writing. Stops the run where the machine was so uneven that more writings took less time.
+    /// Returns the seconds of one writing. Panics if the machine was so uneven that more writings took less time.
     pub fn seconds(self) -> f64 {
         let difference = self.least_more - self.least_once;
         assert!(
@@ -95,7 +97,7 @@ impl CodecWrite {
     }
 }
 
-/// The seconds of one of so many passes, after one that is not timed.
+/// Returns the seconds of one of `times` passes, after a pass that is not timed.
 fn seconds<T>(times: u64, mut pass: impl FnMut() -> T) -> f64 {
     black_box(pass());
     let begin = Instant::now();
@@ -105,14 +107,14 @@ fn seconds<T>(times: u64, mut pass: impl FnMut() -> T) -> f64 {
     begin.elapsed().as_secs_f64() / times as f64
 }
 
-/// The seconds of one of so many passes that the codec makes by itself.
+/// Returns the seconds of one of the `times` passes that a single call of `passes` makes.
 fn seconds_inside(times: u64, passes: impl FnOnce() -> u64) -> f64 {
     let begin = Instant::now();
     black_box(passes());
     begin.elapsed().as_secs_f64() / times as f64
 }
 
-/// The same, after a pass that is not timed.
+/// Returns the seconds of one of `times` passes that a single call makes, after a pass that is not timed.
 pub fn seconds_of_codec(times: u64, passes: impl Fn(u64) -> u64) -> f64 {
     black_box(passes(1));
     seconds_inside(times, || passes(times))
@@ -162,7 +164,8 @@ fn time_small(way: SmallWay, s: &Subject, times: u64) -> f64 {
     }
 }
 
-/// The writing of plain Rust, which needs no reading before it.
+/// Returns the seconds of one writing in plain Rust, or of a copy. Unlike the codec, they need no reading in the same
+/// call.
 fn time_writing(way: Way, s: &Subject, times: u64) -> f64 {
     let written = &s.stream.written[..];
     match (way, &s.boxes) {
@@ -175,7 +178,7 @@ fn time_writing(way: Way, s: &Subject, times: u64) -> f64 {
     }
 }
 
-/// As many passes as take about the time of a round, by the least time of a pass so far.
+/// Returns the number of passes that take about `SECONDS`, if one takes the time `least`.
 pub fn passes(least: f64) -> u64 {
     if least == f64::MAX {
         1
@@ -184,7 +187,7 @@ pub fn passes(least: f64) -> u64 {
     }
 }
 
-/// One round. The order of the ways rotates from round to round.
+/// Makes one round, and updates the least times. The order of the ways rotates from round to round.
 fn round_of(s: &Subject, times: &mut Times, codec_write: &mut CodecWrite, round: usize) {
     for turn in 0..WAYS.len() {
         let way = WAYS[(round + turn) % WAYS.len()];
@@ -212,7 +215,7 @@ fn round_of(s: &Subject, times: &mut Times, codec_write: &mut CodecWrite, round:
     }
 }
 
-/// The least times of so many rounds, or of a quarter of them if the stream is large.
+/// Returns the least times of `rounds` rounds, or of a quarter of them if the stream is large.
 pub fn measure(s: &Subject, rounds: usize) -> Times {
     let mut times = Times {
         read: [f64::MAX; 4],

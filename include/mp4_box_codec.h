@@ -1,35 +1,36 @@
 /*
- * mp4-box-codec: the boxes of MP4 files (ISO/IEC 14496-12), for C.
+ * mp4-box-codec: reads and writes the boxes of MP4 files (ISO/IEC 14496-12), for C.
  *
- * Each function reads values of the caller, returns a status, and puts what it finds into memory of the caller:
- * elements into an array, whose number of places the caller says, and the number of elements beside it. If the array
- * has fewer places than there are elements, the status is MP4_NO_ROOM, their number is returned, and the array is as it
- * was: so ask first with an array of 0 places, and then with one that is long enough.
+ * Each function reads values of the caller, returns a status, and writes its results to memory of the caller: elements
+ * to an array, whose number of places the caller gives, and the number of elements beside it. If the array has fewer
+ * places than there are elements, the status is MP4_NO_ROOM, the function returns the number of elements, and the array
+ * is as it was. So call a function first with an array of 0 places, and then with one that is long enough.
  *
  * What the caller ensures of every call:
  *
- *  - AN ARRAY OF 0 PLACES AND BYTES OF LENGTH 0 MAY BE NULL, AND NO OTHER POINTER. (This header replaces NULL there.
- *    Who calls the library without it, as from another language, passes a pointer to memory also then.)
+ *  - AN ARRAY OF 0 PLACES AND BYTES OF LENGTH 0 MAY BE NULL, AND NO OTHER POINTER MAY. (This header replaces such a
+ *    NULL. A caller that uses the library without this header, such as one in another language, has to pass a pointer
+ *    to memory.)
  *  - Each pointer is aligned for its type.
- *  - From `bytes` on there are `length` readable bytes, and from an array on as many places as its number says. No
- *    length is more than 2^63 - 1 bytes.
- *  - What a call reads has been given a value before. What it writes need not: an array may come from malloc.
- *  - None of these overlap, and no other thread writes to them, or reads what is written, until the call returns.
- *  - malloc, realloc and free are those of one allocator, and malloc and realloc align a block to each power of two up
- *    to 16 that divides its size. No call is made from a signal handler, or in the forked child of a process with
- *    threads.
+ *  - `length` bytes are readable at `bytes`, and an array has as many places as its number says. No length is more than
+ *    2^63 - 1 bytes.
+ *  - All memory that a call reads is initialized. Memory that a call only writes may be uninitialized, such as an array
+ *    from malloc.
+ *  - None of these overlap. No other thread writes to what the call reads, or uses what it writes, until the call
+ *    returns.
+ *  - malloc, realloc and free are those of one allocator. malloc and realloc align a block to each power of two up to
+ *    16 that divides its size. No call is made in a signal handler, or in the forked child of a process with threads.
  *
- * What every call ensures, whatever the bytes are:
+ * What every call ensures, for all bytes:
  *
- *  - It returns, and reads and writes nothing else. It keeps no pointer and no memory: what it takes of malloc, it has
- *    freed when it returns, and there is nothing that the caller has to free. It has no state: calls on several threads
- *    at once are fine.
+ *  - It returns, and reads and writes no other memory. It keeps no pointer and no memory: it frees what it takes of
+ *    malloc before it returns, so the caller has nothing to free. It has no state, so several threads may call at once.
  *  - After MP4_OK all elements are at the front of the array, and the places after them are as they were.
- *  - After MP4_NO_ROOM the array is as it was, and the number of elements, and what else is returned, is as after
- *    MP4_OK.
- *  - After any other status everything is as it was.
+ *  - After MP4_NO_ROOM the array is as it was. The number of elements, and whatever else the function returns, is as
+ *    after MP4_OK.
+ *  - After any other status all memory of the caller is as it was.
  *
- * It is C89 and later, and C++. Define MP4_NO_STDINT where there is no <stdint.h>. Link the program with
+ * The header is C89 and later, and C++. Define MP4_NO_STDINT where there is no <stdint.h>. Link the program with
  * libmp4_box_codec.a, which is for x86-64.
  */
 #ifndef MP4_BOX_CODEC_H
@@ -49,8 +50,8 @@ typedef long int64_t;
 #include <stdint.h>
 #endif
 
-/* The version of the codec, by semantic versioning, and the same as a number: 1000000 for each major version, 1000 for
-   each minor one, and 1 for each patch. */
+/* The version of the codec, by semantic versioning, and as a number: 1000000 for each major version, 1000 for each
+   minor version, and 1 for each patch. */
 #define MP4_VERSION "0.1.0"
 #define MP4_VERSION_NUMBER 1000
 
@@ -58,90 +59,90 @@ typedef long int64_t;
 extern "C" {
 #endif
 
-/* Lengths and numbers of elements have 64 bits, as the largest numbers of boxes. */
+/* Lengths and numbers of elements have 64 bits, as do the largest numbers in boxes. */
 typedef char mp4_size_has_64_bits[sizeof(size_t) == 8 && sizeof(uint64_t) == 8 ? 1 : -1];
 
-/* The statuses. An error of the codec has the number of its place among the variants of its Error, counted from 1. The
-   numbers from 4 to 11 are those of errors that no function here returns. */
+/* The statuses. The status of an error of the codec is its position among the variants of the codec's Error, counted
+   from 1. No function here returns the errors 4 to 11. */
 enum {
-    /* The function has done what it is for. */
+    /* The call succeeded. */
     MP4_OK = 0,
-    /* The bytes end before all that a box needs. */
+    /* The bytes end before everything that a box needs. */
     MP4_END_OF_INPUT = 1,
-    /* A check of the layout failed: a size is too small, a count doesn't fit its box, or a box is of another type. Of a
-       function that writes: the box can't be written. */
+    /* A check of the layout failed: a size is too small, a count doesn't fit its box, or a box is of another type. From
+       a function that writes: the box can't be written. */
     MP4_INVALID_DATA = 2,
-    /* A box lacks a child: a dinf has no dref. Also: there is no such box. */
+    /* A box lacks a child: a dinf has no dref. Or there is no such box. */
     MP4_BOX_NOT_FOUND = 3,
     /* malloc or realloc returned NULL. */
     MP4_OUT_OF_MEMORY = 12,
-    /* The array has fewer places than there are elements. This is the number of no error of the codec, as are those
-       below. */
+    /* The array has fewer places than there are elements. This status and those after it are not errors of the
+       codec. */
     MP4_NO_ROOM = 100,
-    /* No track has the track_ID. Only mp4_samples and mp4_fragment_samples return it, and those below but for the next;
-       the latter those of them that say so. */
+    /* No track has the track_ID. Only mp4_samples and mp4_fragment_samples return this status and those below, except
+       MP4_UNKNOWN_BOX. mp4_fragment_samples returns those that mention a fragment. */
     MP4_NO_TRACK = 101,
-    /* Boxes of this type are not read. Only mp4_fields returns it. */
+    /* Boxes of this type are not read. Only mp4_fields returns this status. */
     MP4_UNKNOWN_BOX = 102,
-    /* The tables of a track disagree: stsz lists another number of sizes than it counts samples; */
+    /* The tables of a track disagree: the number of sizes in stsz differs from its number of samples. */
     MP4_SAMPLE_SIZES_DISAGREE = 110,
-    /* stsc begins at another chunk than 1, */
+    /* The first entry of stsc doesn't begin at chunk 1. */
     MP4_FIRST_CHUNK_DISAGREES = 111,
-    /* or an entry of it begins no later than the one before it; */
+    /* The first_chunk of an entry of stsc is not above that of the entry before it. */
     MP4_CHUNK_ORDER_DISAGREES = 112,
-    /* stco or co64 has 2^32 chunks or more (a fragment 2^32 runs or more), */
+    /* stco or co64 has 2^32 chunks or more, or a fragment has 2^32 runs or more. */
     MP4_CHUNK_COUNT_DISAGREES = 113,
-    /* or stsc and they hold fewer samples than stsz counts; */
+    /* The chunks of stsc and of stco or co64 hold fewer samples than stsz counts. */
     MP4_CHUNKS_DISAGREE = 114,
-    /* stts has a duration for fewer samples than stsz counts (a sample of a fragment ends past the time 2^64 - 1); */
+    /* stts has durations for fewer samples than stsz counts, or a sample of a fragment ends past the time 2^64 - 1. */
     MP4_DURATIONS_DISAGREE = 115,
-    /* an entry of stss is not above the one before it, or the first is 0; */
+    /* An entry of stss is not above the one before it, or the first entry is 0. */
     MP4_SYNC_SAMPLES_DISAGREE = 116,
-    /* a chunk of stco or co64 begins so far out that the bytes of all samples of stsz would end past 2^64 - 1 (a sample
-       of a fragment begins before the file or ends past 2^64 - 1, or it can't be told where the data before the
-       fragment end). */
+    /* A chunk of stco or co64 begins at an offset from which the bytes of all samples of stsz would end past 2^64 - 1.
+       Or a sample of a fragment begins before the file or ends past 2^64 - 1. Or the end of the data before a fragment,
+       from which its offsets count, isn't known. */
     MP4_OFFSETS_DISAGREE = 117
 };
 
-/* The place of a box in the bytes. */
+/* The position of a box in the bytes. */
 struct mp4_span {
     uint64_t position;      /* the offset of its first byte, where its header begins */
-    uint64_t length;        /* the number of its bytes, with the header */
-    uint64_t header_length; /* 8 or 16: its content begins so many bytes after its position */
+    uint64_t length;        /* the number of its bytes, including the header */
+    uint64_t header_length; /* 8 or 16: the distance from its position to its content */
     uint32_t code;          /* the four characters of its code, the first in the highest byte: 'ftyp' is 0x66747970 */
 };
 
-/* A box at a path, and how long its header is. */
+/* A box at a path, and the length of its header. */
 struct mp4_place {
     uint64_t position; /* the offset of its first byte, where its header begins */
-    uint64_t length;   /* the number of its bytes with the header, as the header says it: also of a box that is cut, and
-                          of one whose size is smaller than its header */
-    uint64_t header_length; /* 8 or 16: its content begins so many bytes after its position */
+    uint64_t length;   /* the number of its bytes, including the header, as the header states it: also for a box that is
+                          cut, and for one whose size is smaller than its header */
+    uint64_t header_length; /* 8 or 16: the distance from its position to its content */
     uint32_t code;          /* the four characters of its code, the first in the highest byte */
-    uint8_t is_whole;       /* 1 if all its bytes are there, and its size counts its header; else 0 */
+    uint8_t is_whole;       /* 1 if the file has all its bytes, and its size counts its header; else 0 */
 };
 
 /* A sample of a track. Times are in the timescale of the media, which its mdhd has. */
 struct mp4_sample {
-    uint64_t offset;          /* of its first byte, from the front of the file; the file may end before it does */
+    uint64_t offset;          /* of its first byte, from the front of the file; the file may end before the sample */
     uint64_t decode_time;     /* the sum of the durations of the samples before it */
-    int64_t rendering_offset; /* its composition time minus its decode time; 0 without ctts */
+    int64_t rendering_offset; /* the composition time minus the decode time; 0 without ctts */
     uint32_t size;            /* in bytes */
     uint32_t duration;
-    uint32_t description; /* the index of its sample entry in stsd, counted from 1 */
-    uint32_t chunk;       /* counted from 1; of a fragment, which of its runs the sample is in */
-    uint8_t sync;         /* 1 if it is a sync sample, as each one is without stss; else 0 */
+    uint32_t description; /* the index of the sample entry in stsd, counted from 1 */
+    uint32_t chunk;       /* counted from 1; in a fragment the number of the run */
+    uint8_t sync;         /* 1 for a sync sample, else 0; without stss each sample is one */
 };
 
-/* What is returned of a table beside its entries. */
+/* The fields of a table, without its entries. */
 struct mp4_table {
     size_t count;    /* the number of entries */
     uint32_t flags;  /* the 24 bits of the box's flags */
     uint8_t version; /* the box's version */
 };
 
-/* What is returned of an stsz box beside the sizes. If sample_size is 0, each sample has a size of its own, and count
-   is sample_count; else all samples have this size, and the array has none. */
+/* The fields of an stsz box, without the sizes. If sample_size is 0, each sample has its own size in the array, and
+   count is sample_count. Else all samples have this size, and the array is empty. */
 struct mp4_stsz_table {
     size_t count;
     uint32_t flags;
@@ -162,15 +163,16 @@ struct mp4_ctts_row {
     int32_t sample_offset; /* in the timescale of the media; signed in every version */
 };
 
-/* A run of consecutive chunks with equally many samples. Chunks, sample entries and samples count from 1. */
+/* A run of consecutive chunks that have the same number of samples each. Chunks, sample entries and samples count from
+   1. */
 struct mp4_stsc_row {
     uint32_t first_chunk;
     uint32_t samples_per_chunk;
     uint32_t sample_description_index;
-    uint32_t first_sample; /* of the run; it is computed, and not in the bytes */
+    uint32_t first_sample; /* of the run; it is computed, the bytes don't have it */
 };
 
-/* An edit. An empty one has the largest media_time of its width: 2^64 - 1 in version 1, else 2^32 - 1. */
+/* An edit. An empty edit has the largest media_time of its width: 2^64 - 1 in version 1, else 2^32 - 1. */
 struct mp4_elst_row {
     uint64_t segment_duration; /* in the timescale of the movie */
     uint64_t media_time;       /* in the timescale of the media */
@@ -178,9 +180,9 @@ struct mp4_elst_row {
     uint16_t media_rate_fraction;
 };
 
-/* What is returned of a trun box beside its samples. Its flags say what it has: 0x1 a data_offset, 0x4
-   first_sample_flags, and for each sample 0x100 a duration, 0x200 a size, 0x400 flags, 0x800 a composition_offset. What
-   it doesn't have is 0. If it has nothing for a sample, count is 0; else count is sample_count. */
+/* The fields of a trun box, without its samples. Its flags say which fields it has: 0x1 a data_offset, 0x4
+   first_sample_flags, and for each sample 0x100 a duration, 0x200 a size, 0x400 flags, 0x800 a composition_offset.
+   Fields that it doesn't have are 0. If it has no fields for each sample, count is 0; else count is sample_count. */
 struct mp4_trun_table {
     size_t count;
     uint32_t flags;
@@ -190,26 +192,26 @@ struct mp4_trun_table {
     uint8_t version;
 };
 
-/* What a trun box has for one sample. */
+/* The fields that a trun box has for one sample. */
 struct mp4_trun_row {
     uint32_t duration; /* in the timescale of the media */
     uint32_t size;     /* in bytes */
     uint32_t flags;
-    uint32_t composition_offset; /* in version 1 the 32 bits of a signed number */
+    uint32_t composition_offset; /* signed in version 1, as two's complement */
 };
 
-/* The headers of a movie and of its fragments. Each has its version, whose number decides how many bits its times have
-   where that is said, and 24 bits of flags. Times of creation and modification are seconds since the beginning of 1904,
-   UTC. A number "times 256" or "times 65536" is a fixed-point number: divide it. */
+/* The headers of a movie and of its fragments. Each has its version and 24 bits of flags. The version decides how many
+   bits a time has where a comment says so. Times of creation and modification are in seconds since the beginning of
+   1904, UTC. A number "times 256" or "times 65536" is a fixed-point number: divide it. */
 
 /* mvhd (8.2.2): properties of the whole movie. */
 struct mp4_mvhd_box {
-    uint64_t creation_time; /* 32 bits in version 0, as the next two */
+    uint64_t creation_time; /* 32 bits in version 0, like the next two */
     uint64_t modification_time;
     uint64_t duration; /* of the longest track, in the timescale */
     uint32_t flags;
-    uint32_t timescale;     /* units a second */
-    uint32_t rate;          /* of playback, times 65536: 0x10000 is normal */
+    uint32_t timescale;     /* units per second */
+    uint32_t rate;          /* of playback, times 65536: 0x10000 is normal speed */
     int32_t matrix[9];      /* a, b, u, c, d, v, x, y, w, times 65536, but u, v and w times 2^30 */
     uint32_t next_track_id; /* a number that no track has */
     uint16_t volume;        /* times 256: 0x100 is full */
@@ -218,27 +220,27 @@ struct mp4_mvhd_box {
 
 /* tkhd (8.3.2): properties of a track. */
 struct mp4_tkhd_box {
-    uint64_t creation_time; /* 32 bits in version 0, as the next two */
+    uint64_t creation_time; /* 32 bits in version 0, like the next two */
     uint64_t modification_time;
     uint64_t duration; /* in the timescale of the movie */
     uint32_t flags;    /* 0x1: enabled, 0x2: in the movie, 0x4: in the preview, 0x8: the size is an aspect ratio */
     uint32_t track_id;
     int32_t matrix[9]; /* as in mvhd */
-    uint32_t width;    /* as it is shown, in pixels times 65536 */
+    uint32_t width;    /* of the video on screen, in pixels times 65536 */
     uint32_t height;
     int16_t layer;           /* tracks with a lower layer cover those with a higher one */
-    int16_t alternate_group; /* one track of a group is to be played; 0: none */
+    int16_t alternate_group; /* a player plays one track of a group; 0: no group */
     uint16_t volume;         /* times 256 */
     uint8_t version;         /* 0 or 1 */
 };
 
 /* mdhd (8.4.2): properties of the media of a track. */
 struct mp4_mdhd_box {
-    uint64_t creation_time; /* 32 bits in version 0, as the next two */
+    uint64_t creation_time; /* 32 bits in version 0, like the next two */
     uint64_t modification_time;
     uint64_t duration; /* in the timescale */
     uint32_t flags;
-    uint32_t timescale; /* units a second */
+    uint32_t timescale; /* units per second */
     char language[4];   /* three letters of ISO 639-2/T and a zero; the five low bits of each letter are written */
     uint8_t version;    /* 0 or 1 */
 };
@@ -267,7 +269,7 @@ struct mp4_smhd_box {
 /* vmhd (12.1.2): how video is composed with what is below it. */
 struct mp4_vmhd_box {
     uint32_t flags;         /* 1 in the standard */
-    uint16_t graphics_mode; /* 0: it covers what is below it */
+    uint16_t graphics_mode; /* 0: the video covers what is below it */
     uint16_t red;           /* the colour that other modes use */
     uint16_t green;
     uint16_t blue;
@@ -285,15 +287,15 @@ struct mp4_trex_box {
     uint8_t version;
 };
 
-/* tfdt (8.8.12): when the first sample of a track fragment is decoded. */
+/* tfdt (8.8.12): the time at which the first sample of a track fragment is decoded. */
 struct mp4_tfdt_box {
     uint64_t base_media_decode_time; /* in the timescale of the media; 32 bits in version 0 */
     uint32_t flags;
     uint8_t version; /* 0 or 1 */
 };
 
-/* tfhd (8.8.7): the track of a fragment, and defaults for its samples. Its flags say which of them it has. What it
-   doesn't have is read as 0, and not written. */
+/* tfhd (8.8.7): the track of a fragment, and defaults for its samples. Its flags say which fields it has. A field that
+   it doesn't have is read as 0, and not written. */
 struct mp4_tfhd_box {
     uint64_t base_data_offset; /* with the flag 0x1: what data offsets are counted from, in bytes */
     uint32_t flags;
@@ -305,7 +307,7 @@ struct mp4_tfhd_box {
     uint8_t version;
 };
 
-/* The boxes of strings and references. `count` is the number of elements of the array beside the struct. */
+/* The boxes of strings and references. `count` is the number of elements of the array that belongs to the struct. */
 
 /* ftyp (4.3): the brands of a file. A code is a number, the first character in the highest byte: 'isom' is 0x69736F6D.
  */
@@ -315,7 +317,7 @@ struct mp4_ftyp_box {
     uint32_t minor_version; /* of the major brand */
 };
 
-/* hdlr (8.4.3): what kind of media a track has. */
+/* hdlr (8.4.3): the kind of media of a track. */
 struct mp4_hdlr_box {
     size_t count; /* of bytes of the name */
     uint32_t flags;
@@ -329,44 +331,44 @@ struct mp4_data_box {
     uint32_t data_type; /* 0: binary, 1: UTF-8, 13: JPEG, 21: a whole number */
 };
 
-/* url (8.7.2): where media data is. */
+/* url (8.7.2): the location of media data. */
 struct mp4_url_box {
     size_t count;   /* of bytes of the location */
     uint32_t flags; /* 1: in the same file */
     uint8_t version;
 };
 
-/* dref (8.7.2), also in a dinf (8.7.1): the data references of a track, of which the last url is kept. */
+/* dref (8.7.2), also in a dinf (8.7.1): the data references of a track, of which the codec keeps the last url. */
 struct mp4_dref_box {
     struct mp4_url_box url; /* zeros without one */
     uint32_t flags;
     uint8_t version;
-    uint8_t has_url; /* 0 or 1; each number but 0 is written as 1 */
+    uint8_t has_url; /* 0 or 1; each number except 0 is written as 1 */
 };
 
-/* emsg (ISO/IEC 23009-1, 5.10.3.3): an event message. Its three counts are of three arrays of bytes. */
+/* emsg (ISO/IEC 23009-1, 5.10.3.3): an event message. The three counts are those of three arrays of bytes. */
 struct mp4_emsg_box {
     size_t scheme_id_uri_count;
     size_t value_count;
     size_t message_data_count;
     uint64_t presentation_time;       /* in version 1: from the start of the presentation, in the timescale; else 0 */
     uint32_t presentation_time_delta; /* in version 0: from the start of the segment, in the timescale; else 0 */
-    uint32_t timescale;               /* units a second */
+    uint32_t timescale;               /* units per second */
     uint32_t event_duration;          /* in the timescale */
     uint32_t id;
     uint32_t flags;
     uint8_t version; /* 0 or 1: the time of the other version isn't written */
 };
 
-/* The sample entries, and the boxes in them. A resolution is in pixels an inch. */
+/* The sample entries, and the boxes in them. Resolutions are in pixels per inch. */
 
-/* avcC (ISO/IEC 14496-15, 5.3.3.1): the configuration of an AVC decoder. Its parameter sets are in two arrays: their
-   lengths, first those of the sequence sets and then those of the picture sets; and their bytes, one set after the
-   other. */
+/* avcC (ISO/IEC 14496-15, 5.3.3.1): the configuration of an AVC decoder. Its parameter sets are in two arrays. One has
+   their lengths: first those of the sequence sets, then those of the picture sets. The other has their bytes, one set
+   after the other. */
 struct mp4_avcc_box {
     size_t sequence_count; /* of sequence sets: at most 31 are written */
     size_t picture_count;  /* of picture sets: at most 255 are written */
-    size_t set_bytes;      /* of all sets together; it isn't looked at where the box is written */
+    size_t set_bytes;      /* of all sets together; no effect when the box is written */
     uint8_t configuration_version;
     uint8_t avc_profile_indication;
     uint8_t profile_compatibility;
@@ -392,7 +394,8 @@ struct mp4_avc1_box {
     struct mp4_visual visual;
 };
 
-/* hvcC (ISO/IEC 14496-15, 8.3.3.1): the configuration of an HEVC decoder, of which no more is read and written. */
+/* hvcC (ISO/IEC 14496-15, 8.3.3.1): the configuration of an HEVC decoder. The codec reads and writes only
+   this field. */
 struct mp4_hvcc_box {
     uint8_t configuration_version;
 };
@@ -406,27 +409,27 @@ struct mp4_hev1_box {
 /* vpcC (VP Codec ISO Media File Format Binding): the configuration of a VP9 decoder. */
 struct mp4_vpcc_box {
     uint32_t flags;
-    uint16_t codec_initialization_data_size; /* 0 for VP9; such bytes are neither read nor written */
+    uint16_t codec_initialization_data_size; /* 0 for VP9; the codec neither reads nor writes such bytes */
     uint8_t version;                         /* 1 in the standard */
     uint8_t profile;
     uint8_t level;                 /* times 10 */
     uint8_t bit_depth;             /* below 16 */
     uint8_t chroma_subsampling;    /* below 8 */
-    uint8_t video_full_range_flag; /* 0 or 1; each number but 0 is written as 1 */
+    uint8_t video_full_range_flag; /* 0 or 1; each number except 0 is written as 1 */
     uint8_t color_primaries;
     uint8_t transfer_characteristics;
     uint8_t matrix_coefficients;
 };
 
-/* vp09 (VP Codec ISO Media File Format Binding): VP9 video. The reserved bytes are kept as they are. */
+/* vp09 (VP Codec ISO Media File Format Binding): VP9 video. The codec keeps the reserved bytes as they are. */
 struct mp4_vp09_box {
     struct mp4_vpcc_box vpcc;
-    uint32_t flags;      /* of the six reserved bytes of a sample entry: the second to the fourth, */
-    uint16_t start_code; /* and the last two */
+    uint32_t flags;      /* the second to the fourth of the six reserved bytes of a sample entry */
+    uint16_t start_code; /* the last two of them */
     uint16_t data_reference_index;
     uint16_t width; /* in pixels */
     uint16_t height;
-    uint16_t horizresolution[2]; /* the whole part, and the fraction of 65536 */
+    uint16_t horizresolution[2]; /* the whole part, and the fraction in units of 1/65536 */
     uint16_t vertresolution[2];
     uint16_t frame_count; /* of a sample, usually 1 */
     uint16_t depth;       /* bits of a pixel, usually 24 */
@@ -444,7 +447,7 @@ struct mp4_tx3g_box {
     int16_t box_record[4];           /* top, left, bottom and right, in pixels */
     int8_t horizontal_justification; /* 0: left, 1: centre, -1: right */
     int8_t vertical_justification;   /* 0: top, 1: centre, -1: bottom */
-    uint8_t bg_color_rgba[4];        /* red, green, blue, and how opaque it is */
+    uint8_t bg_color_rgba[4];        /* red, green, blue and opacity */
     uint8_t style_record[12];
 };
 
@@ -452,15 +455,15 @@ struct mp4_tx3g_box {
 struct mp4_esds_box {
     uint32_t flags;
     uint32_t buffer_size_db; /* in bytes, below 2^24 */
-    uint32_t max_bitrate;    /* in bits a second */
+    uint32_t max_bitrate;    /* in bits per second */
     uint32_t avg_bitrate;
     uint32_t sample_rate; /* in hertz, below 2^24, if freq_index is 15; else 0, and not written */
     uint16_t es_id;
     uint8_t version;
     uint8_t object_type_indication; /* 0x40: MPEG-4 audio */
-    uint8_t stream_type;            /* below 64; 5: sound */
-    uint8_t up_stream;              /* 0 or 2; of other numbers the bit 2 is written */
-    uint8_t profile;                /* the audio object type: 0 to 95, but not 31; 2: AAC LC */
+    uint8_t stream_type;            /* below 64; 5: audio */
+    uint8_t up_stream;              /* 0 or 2; only the bit 2 is written */
+    uint8_t profile;                /* the audio object type: 0 to 95, except 31; 2: AAC LC */
     uint8_t freq_index;             /* below 16 */
     uint8_t chan_conf;              /* below 16 */
 };
@@ -472,11 +475,11 @@ struct mp4_mp4a_box {
     uint16_t data_reference_index;
     uint16_t channelcount;
     uint16_t samplesize; /* bits of a sample */
-    uint8_t has_esds;    /* 0 or 1; each number but 0 is written as 1 */
+    uint8_t has_esds;    /* 0 or 1; each number except 0 is written as 1 */
 };
 
 /* stsd (8.5.2): the first sample entry of a track, if it is of one of these five types. Its fields are in the member
-   with its name, and the others are zeros. */
+   with its name; the other members are zeros. */
 struct mp4_stsd_box {
     struct mp4_avc1_box avc1;
     struct mp4_hev1_box hev1;
@@ -484,35 +487,35 @@ struct mp4_stsd_box {
     struct mp4_mp4a_box mp4a;
     struct mp4_tx3g_box tx3g;
     uint32_t flags;
-    uint32_t entry; /* its code: 0x61766331, 0x68657631, 0x76703039, 0x6D703461 or 0x74783367; 0 without one */
+    uint32_t entry; /* its code: 0x61766331, 0x68657631, 0x76703039, 0x6D703461 or 0x74783367; 0: no entry */
     uint8_t version;
 };
 
-/* A box that a walk comes to. Positions and lengths are in bytes. */
+/* A box as a walk reports it. Positions and lengths are in bytes. */
 struct mp4_box {
-    uint64_t position;      /* in the file, where its header begins */
-    uint64_t length;        /* with its header, as the header says it; where no box can be read, what is left there */
-    uint64_t header_length; /* 8 or 16; where no box can be read, what is left there */
-    uint64_t children;      /* the position of the first box in it, if the walk goes into it; else 0 */
-    uint64_t depth;         /* how many boxes it is inside of */
-    uint32_t code;          /* the four characters of its code; 0 where the file ends before them */
-    uint32_t parent;        /* the code of the box around it; 0 at the top level */
-    uint32_t handler;       /* that of the media that it is in, as an hdlr before it says; else 0 */
-    uint8_t what;           /* MP4_LEAF and so on */
-    uint8_t is_quicktime;   /* 1 if an ftyp before it has the major brand 'qt  ', else 0 */
+    uint64_t position;      /* of its header in the file */
+    uint64_t length;        /* including the header, as the header states it; without a box, what is left */
+    uint64_t header_length; /* 8 or 16; without a box, what is left of the content */
+    uint64_t children;      /* the position of the first box inside, if the walk enters this box; else 0 */
+    uint64_t depth;         /* the number of boxes around it */
+    uint32_t code;          /* the four characters of its code; 0 if the file ends before them */
+    uint32_t parent;        /* the code of the enclosing box; 0 at the top level */
+    uint32_t handler;       /* of the enclosing media, as an earlier hdlr says; else 0 */
+    uint8_t what;           /* MP4_LEAF to MP4_NO_HEADER */
+    uint8_t is_quicktime;   /* 1 if an earlier ftyp has the major brand 'qt  ', else 0 */
 };
 
-/* What is where a box should begin. */
+/* The state of a box, or of the place where one should begin. */
 enum {
-    MP4_LEAF = 0,     /* a whole box that holds no boxes that are known */
-    MP4_PARENT = 1,   /* a whole box that holds boxes: they come next */
-    MP4_TOO_DEEP = 2, /* a whole box that holds boxes, inside of 32 others: they don't come */
-    MP4_CUT = 3,      /* a box that ends after what is around it: if it holds boxes, those that are there come next */
-    MP4_SMALL = 4,    /* a size that is smaller than its header */
+    MP4_LEAF = 0,     /* a whole box; the walk knows no boxes inside */
+    MP4_PARENT = 1,   /* a whole box that holds boxes: the walk reports them next */
+    MP4_TOO_DEEP = 2, /* a whole box that holds boxes, inside 32 others: the walk skips them */
+    MP4_CUT = 3,      /* a box that ends after what is around it: the walk reports the boxes inside that are present */
+    MP4_SMALL = 4,    /* a size that is smaller than the header */
     MP4_NO_HEADER = 5 /* fewer bytes than a header has */
 };
 
-/* How far a walk is. A caller reads `position` and `wanted`, and changes nothing. */
+/* The state of a walk. A caller reads `position` and `wanted`, and changes nothing. */
 struct mp4_walk_level {
     uint64_t end;
     uint32_t parent;
@@ -520,46 +523,47 @@ struct mp4_walk_level {
     uint8_t is_quicktime;
 };
 struct mp4_walk {
-    uint64_t position; /* in the file, of the bytes that are wanted: that of the next box */
-    uint64_t wanted;   /* how many: 28 at most, and 0 after the last box */
+    uint64_t position; /* of the next box in the file, where the wanted bytes begin */
+    uint64_t wanted;   /* the number of wanted bytes: at most 28, and 0 after the last box */
     uint64_t length;   /* of the file */
     uint64_t count;
     struct mp4_walk_level levels[33];
 };
 
-/* Reads all boxes from the front of the bytes to their end, and returns the status of the first fault, or MP4_OK. Boxes
-   of types that the codec doesn't read are skipped by their size: so a moov is not looked into. Call it over the
-   content of such a box to check what is in it. */
+/* Reads all boxes from the front of the bytes to their end, and returns the status of the first fault, or MP4_OK. It
+   skips boxes of types that the codec doesn't read, so it doesn't look into a moov. Call it with the content of such a
+   box to check the boxes inside. */
 uint32_t mp4_check(const uint8_t *bytes, size_t length);
 
-/* Lists the boxes at the top level of the bytes, in their order, without reading what is in them. The children of a box
-   are the boxes of its content. */
+/* Lists the boxes at the top level of the bytes, in their order. It reads only their headers. The children of a box are
+   the boxes of its content. */
 uint32_t mp4_list(const uint8_t *bytes, size_t length, struct mp4_span *spans, size_t places, size_t *count);
 
-/* Writes the boxes of the bytes in their normal form; boxes of types that the codec doesn't read are as they are. Also
+/* Writes the boxes of the bytes in their normal form. Boxes of types that the codec doesn't read stay as they are. Also
    MP4_INVALID_DATA if a box that was read is too large for a size of 32 bits. */
 uint32_t mp4_normal(const uint8_t *bytes, size_t length, uint8_t *out, size_t places, size_t *count);
 
-/* Finds the box at a path over the bytes of a file: codes of four characters with '/' between them, each with the
-   number of the box among those of its code in brackets, as in moov/trak[1]/mdia/mdhd. Numbers count from 0, and none
-   means 0. The text is UTF-8, has no zero after it, and is passed as MP4_TEXT("moov/trak"). MP4_BOX_NOT_FOUND if there
-   is no such box or its header isn't whole, and MP4_INVALID_DATA if the text is no path. */
+/* Finds the box at a path in the bytes of a file. A path is codes of four characters with '/' between them, such as
+   moov/trak[1]/mdia/mdhd. The number in brackets selects one of the boxes with the same code. Numbers count from 0; no
+   number means 0. The text is UTF-8 without a zero after it: pass MP4_TEXT("moov/trak"). MP4_BOX_NOT_FOUND if there is
+   no such box or its header isn't whole, and MP4_INVALID_DATA if the text is not a path. */
 #define MP4_TEXT(text) ((const uint8_t *)("" text)), (sizeof(text) - 1)
 uint32_t mp4_find(const uint8_t *bytes, size_t length, const uint8_t *path, size_t path_length,
                   struct mp4_place *place);
 
-/* The fields of the box at the front of the bytes, header included, as the text of a JSON object (RFC 8259), as
-   `mp4inspect --json` shows them: in UTF-8, with no zero after it, and `count` is the number of its bytes. All boxes
-   are read that have a function below, and av1C, btrt, clap, clli, colr, cslg, dac3, dec3, dfLa, dOps, elng, frma,
-   keys, kind, mdcv, mfro, nmhd, pasp, prft, pssh, saio, saiz, sbgp, schm, sdtp, senc, sgpd, sidx, stpp, styp, stz2,
-   subs, tenc, tfra, tref and wvtt. Also MP4_UNKNOWN_BOX, of a box of another type, whether it is whole or not. Names of
-   fields are those of the standards. A number may have 64 bits. Codes of four characters are texts, each character of
-   the number of its byte; bytes are texts of their hexadecimal digits; what is fixed-point is a number with a
-   fraction; texts have U+FFFD for what is not UTF-8. */
+/* Writes the fields of the box at the front of the bytes, which begin with its header, as the text of a JSON object
+   (RFC 8259), like `mp4inspect --json`. The text is UTF-8 without a zero after it; `count` is the number of its bytes.
+   The function reads all boxes that have a function below, and av1C, btrt, clap, clli, colr, cslg, dac3, dec3, dfLa,
+   dOps, elng, frma, keys, kind, mdcv, mfro, nmhd, pasp, prft, pssh, saio, saiz, sbgp, schm, sdtp, senc, sgpd, sidx,
+   stpp, styp, stz2, subs, tenc, tfra, tref and wvtt. Also MP4_UNKNOWN_BOX for a box of another type, whether it is
+   whole or not. Fields have the names of the standards. A number may have 64 bits. A code of four characters is a text,
+   with a character for the number of each byte. Bytes are a text of hexadecimal digits. A fixed-point number is a
+   number with a fraction. Texts have U+FFFD for each part that is not UTF-8. */
 uint32_t mp4_fields(const uint8_t *bytes, size_t length, uint8_t *text, size_t places, size_t *count);
 
-/* A walk over the boxes of a file that isn't in memory: each box, and after it those in it, as far as the codec knows
-   which boxes hold boxes. It takes no memory and reads nothing itself: the caller reads the bytes that it wants.
+/* A walk over the boxes of a file that isn't in memory. It reports each box and then the boxes inside, if the codec
+   knows that the box holds boxes. A walk takes no memory and reads nothing itself: the caller reads the bytes that the
+   walk wants.
 
        mp4_walk_begin(length, &walk);
        while (walk.wanted > 0) {
@@ -567,39 +571,43 @@ uint32_t mp4_fields(const uint8_t *bytes, size_t length, uint8_t *text, size_t p
            status = mp4_walk_next(bytes, walk.wanted, &walk, &box);
        }
 
-   mp4_walk_next returns MP4_END_OF_INPUT if there are fewer bytes than are wanted, and MP4_BOX_NOT_FOUND after the last
-   box. It doesn't check a walk: the caller ensures that it is as mp4_walk_begin or mp4_walk_next left it. The boxes are
-   those of the file if the bytes are those of the file, also where they are wrong: then `what` says so. */
+   mp4_walk_next returns MP4_END_OF_INPUT if the caller gives fewer bytes than the walk wants, and MP4_BOX_NOT_FOUND
+   after the last box. It doesn't check a walk: the caller ensures that the walk is as mp4_walk_begin or mp4_walk_next
+   left it. The boxes are those of the file if the bytes are those of the file; `what` reports faults of the file. */
 uint32_t mp4_walk_begin(uint64_t length, struct mp4_walk *walk);
 uint32_t mp4_walk_next(const uint8_t *bytes, size_t length, struct mp4_walk *walk, struct mp4_box *box);
 
-/* The samples of the first track with this track_ID (8.3.2), over the bytes of a file: by the tables stsz, stsc, stco
-   or co64, stts, ctts and stss of its stbl. Also MP4_NO_TRACK; MP4_BOX_NOT_FOUND if the file has no moov, or the track
-   lacks mdhd, hdlr or a table that it has to have; and MP4_SAMPLE_SIZES_DISAGREE to MP4_OFFSETS_DISAGREE. Samples of
-   fragments are not among them. */
+/* Lists the samples of the first track with this track_ID (8.3.2) in the bytes of a file, by the tables stsz, stsc,
+   stco or co64, stts, ctts and stss of its stbl. It doesn't list samples of fragments. Also:
+    - MP4_NO_TRACK;
+    - MP4_BOX_NOT_FOUND if the file has no moov, or the track lacks mdhd, hdlr or a table that it has to have;
+    - MP4_SAMPLE_SIZES_DISAGREE to MP4_OFFSETS_DISAGREE. */
 uint32_t mp4_samples(const uint8_t *bytes, size_t length, uint32_t track_id, struct mp4_sample *samples, size_t places,
                      size_t *count);
 
-/* The samples of all fragments of the first track with this track_ID, over the bytes of a file, in its order: those of
-   each traf (8.8.6) whose tfhd has the track_ID, by its runs, the defaults of its tfhd and those of the trex of the
-   track. Without a tfdt the times of a fragment go on from the one before, and those of the first one from where the
-   samples of the track's tables end, by its stts. Offsets count from the base that the tfhd names, else from its moof,
-   or from where the data of the traf before it in the moof end. Also MP4_NO_TRACK; MP4_BOX_NOT_FOUND if the file has no
-   moov, a traf no tfhd, or a fragment of the track no trex; and MP4_CHUNK_COUNT_DISAGREES, MP4_DURATIONS_DISAGREE and
-   MP4_OFFSETS_DISAGREE, as said there, which are found once there is room for the samples. Their number is at most 2^64
-   - 1. */
+/* Lists the samples of all fragments of the first track with this track_ID in the bytes of a file, in the order of the
+   file: those of each traf (8.8.6) whose tfhd has the track_ID, by its runs, the defaults of its tfhd and those of the
+   trex of the track. Without a tfdt the times of a fragment continue those of the fragment before it; those of the
+   first fragment begin where the samples of the track's tables end, by its stts. Offsets count from the base that the
+   tfhd names, else from its moof, or from the end of the data of the traf before it in the moof. The number of samples
+   is at most 2^64 - 1. Also:
+    - MP4_NO_TRACK;
+    - MP4_BOX_NOT_FOUND if the file has no moov, a traf no tfhd, or a fragment of the track no trex;
+    - MP4_CHUNK_COUNT_DISAGREES, MP4_DURATIONS_DISAGREE and MP4_OFFSETS_DISAGREE, which it finds only if the array has
+      enough places for the samples. */
 uint32_t mp4_fragment_samples(const uint8_t *bytes, size_t length, uint32_t track_id, struct mp4_sample *samples,
                               size_t places, size_t *count);
 
-/* The version of the library: MP4_VERSION_NUMBER of the header that it was built with. */
+/* Returns the version of the library: MP4_VERSION_NUMBER of the header that it was built with. */
 uint32_t mp4_version(void);
 
-/* What a status means, in English, as characters of ASCII with no zero after them. */
+/* Writes the meaning of a status in English, as ASCII characters without a zero after them. */
 uint32_t mp4_status_text(uint32_t status, uint8_t *text, size_t places, size_t *count);
 
 /*
- * The tables. The bytes begin with the box, header included, which has to be whole; what follows it isn't read, but for
- * fields that the codec reads past the box's size. They are MP4_INVALID_DATA if the box has another code.
+ * Functions that read tables. The bytes begin with the header of the box, and the box has to be whole. Bytes after the
+ * box aren't read, except for fields that the codec reads past the box's size. MP4_INVALID_DATA if the box has another
+ * code.
  */
 
 /* The sizes of the samples (8.7.3.2), in bytes. */
@@ -633,7 +641,7 @@ uint32_t mp4_trun(const uint8_t *bytes, size_t length, struct mp4_trun_row *rows
                   struct mp4_trun_table *table);
 
 /*
- * The headers. The bytes begin with the box, as for the tables.
+ * Functions that read headers. The bytes begin with the box, as for the tables.
  */
 
 uint32_t mp4_mvhd(const uint8_t *bytes, size_t length, struct mp4_mvhd_box *box);
@@ -648,9 +656,9 @@ uint32_t mp4_tfdt(const uint8_t *bytes, size_t length, struct mp4_tfdt_box *box)
 uint32_t mp4_tfhd(const uint8_t *bytes, size_t length, struct mp4_tfhd_box *box);
 
 /*
- * The boxes of strings, references and sample entries. The bytes begin with the box, as for the tables. A string has no
- * zero after it. Of a list the number of elements is only known after it was read, so a call with arrays of 0 places
- * takes as much memory as one that fills them.
+ * Functions that read the boxes of strings, references and sample entries. The bytes begin with the box, as for the
+ * tables. A string has no zero after it. The number of elements of a list is known only after the list was read, so a
+ * call with arrays of 0 places takes as much memory as one that fills them.
  */
 
 uint32_t mp4_ftyp(const uint8_t *bytes, size_t length, uint32_t *brands, size_t places, struct mp4_ftyp_box *box);
@@ -660,7 +668,7 @@ uint32_t mp4_url(const uint8_t *bytes, size_t length, uint8_t *location, size_t 
 uint32_t mp4_dref(const uint8_t *bytes, size_t length, uint8_t *location, size_t places, struct mp4_dref_box *box);
 uint32_t mp4_dinf(const uint8_t *bytes, size_t length, uint8_t *location, size_t places, struct mp4_dref_box *box);
 
-/* MP4_NO_ROOM if one of the three arrays is too short; then nothing is written to any. */
+/* MP4_NO_ROOM if one of the three arrays is too short; then nothing is written to any of them. */
 uint32_t mp4_emsg(const uint8_t *bytes, size_t length, uint8_t *scheme_id_uri, size_t scheme_id_uri_places,
                   uint8_t *value, size_t value_places, uint8_t *message_data, size_t message_data_places,
                   struct mp4_emsg_box *box);
@@ -673,8 +681,8 @@ uint32_t mp4_tx3g(const uint8_t *bytes, size_t length, struct mp4_tx3g_box *box)
 uint32_t mp4_esds(const uint8_t *bytes, size_t length, struct mp4_esds_box *box);
 uint32_t mp4_mp4a(const uint8_t *bytes, size_t length, struct mp4_mp4a_box *box);
 
-/* The lengths of the parameter sets go into `lengths`, and their bytes into `set_bytes`. MP4_NO_ROOM if one of the two
-   is too short; then nothing is written to either. Of an stsd only an avc1 has parameter sets. */
+/* Write the lengths of the parameter sets to `lengths`, and their bytes to `set_bytes`. MP4_NO_ROOM if one of the two
+   is too short; then nothing is written to either. In an stsd only an avc1 has parameter sets. */
 uint32_t mp4_avcc(const uint8_t *bytes, size_t length, size_t *lengths, size_t places, uint8_t *set_bytes,
                   size_t byte_places, struct mp4_avcc_box *box);
 uint32_t mp4_avc1(const uint8_t *bytes, size_t length, size_t *lengths, size_t places, uint8_t *set_bytes,
@@ -683,10 +691,10 @@ uint32_t mp4_stsd(const uint8_t *bytes, size_t length, size_t *lengths, size_t p
                   size_t byte_places, struct mp4_stsd_box *box);
 
 /*
- * Writing. The box is put at the front of `bytes`, header included, and `length` is the number of its bytes.
- * MP4_NO_ROOM if there are fewer places: then `length` is their number too, and nothing is written. MP4_INVALID_DATA if
- * the box can't be written: a number doesn't fit the bits of its field (flags 24; times of version 0 32), the version
- * of a header with times isn't 0 or 1, or the box would have 2^32 bytes or more.
+ * Functions that write a box. They put the box at the front of `bytes`, beginning with its header, and the number of
+ * its bytes into `length`. MP4_NO_ROOM if there are fewer places: then nothing is written to `bytes`, but `length` is
+ * set. MP4_INVALID_DATA if the box can't be written: a number doesn't fit the bits of its field (24 for flags, 32 for
+ * times of version 0), the version of a header with times isn't 0 or 1, or the box would have 2^32 bytes or more.
  */
 
 uint32_t mp4_write_mvhd(const struct mp4_mvhd_box *box, uint8_t *bytes, size_t places, size_t *length);
@@ -700,11 +708,13 @@ uint32_t mp4_write_trex(const struct mp4_trex_box *box, uint8_t *bytes, size_t p
 uint32_t mp4_write_tfdt(const struct mp4_tfdt_box *box, uint8_t *bytes, size_t places, size_t *length);
 uint32_t mp4_write_tfhd(const struct mp4_tfhd_box *box, uint8_t *bytes, size_t places, size_t *length);
 
-/* The tables have `count` rows; the count in `table` is not looked at. Also MP4_INVALID_DATA if stsz doesn't have
-   sample_count sizes, or none where sample_size isn't 0; if a first_chunk of stsc is below the one before it, or the
-   number of a first sample has more than 32 bits (first_sample isn't looked at); if a time of an elst has more than 32
-   bits, but in version 1; or if trun has rows and flags for them, but not sample_count of them. What the flags of a
-   trun don't say is not written. */
+/* The tables have `count` rows. The count in `table` has no effect. Fields of a trun whose flags aren't set are not
+   written. Also MP4_INVALID_DATA if:
+    - stsz doesn't have sample_count sizes, or has sizes although sample_size isn't 0;
+    - a first_chunk of stsc is below the one before it, or the number of a first sample has more than 32 bits
+      (first_sample has no effect);
+    - a time of an elst of a version other than 1 has more than 32 bits;
+    - the rows and flags of trun give it fields for each sample, but not sample_count of them. */
 
 uint32_t mp4_write_stsz(const struct mp4_stsz_table *table, const uint32_t *sizes, size_t count, uint8_t *bytes,
                         size_t places, size_t *length);
@@ -725,11 +735,14 @@ uint32_t mp4_write_elst(const struct mp4_table *table, const struct mp4_elst_row
 uint32_t mp4_write_trun(const struct mp4_trun_table *table, const struct mp4_trun_row *rows, size_t count,
                         uint8_t *bytes, size_t places, size_t *length);
 
-/* The boxes of strings, references and sample entries have as many elements as the number after each array says; the
-   counts in `box` are not looked at, but for those of an avcC. Also MP4_INVALID_DATA if a name, a location, a scheme or
-   a value isn't UTF-8, or a scheme or a value has a zero byte; if the version of an emsg isn't 0 or 1; and if `entry`
-   of an stsd is none of the five codes and not 0, a number of its entry doesn't fit, the lengths of an avc1 are not
-   sequence_count and picture_count together, or its set_bytes not as many as they add up to. */
+/* The number after each array is the number of its elements in boxes of strings, references and sample entries. The
+   counts in `box` have no effect, except those of an avcC. Also MP4_INVALID_DATA if:
+    - a name, a location, a scheme or a value isn't UTF-8;
+    - a scheme or a value has a zero byte;
+    - the version of an emsg isn't 0 or 1;
+    - the `entry` of an stsd is none of the five codes and not 0, or a number of its entry doesn't fit;
+    - the number of lengths of an avc1 isn't the sum of sequence_count and picture_count, or the number of its set_bytes
+      isn't the sum of the lengths. */
 
 uint32_t mp4_write_ftyp(const struct mp4_ftyp_box *box, const uint32_t *brands, size_t count, uint8_t *bytes,
                         size_t places, size_t *length);
@@ -744,8 +757,7 @@ uint32_t mp4_write_stsd(const struct mp4_stsd_box *box, const size_t *lengths, s
                         size_t byte_count, uint8_t *bytes, size_t places, size_t *length);
 
 /*
- * An array without elements may be NULL: calls go through the functions below, which pass a pointer to memory in its
- * place.
+ * An array without elements may be NULL: calls use the functions below, which replace NULL by a pointer to memory.
  */
 
 #if defined(__GNUC__)

@@ -1,4 +1,4 @@
-"""Where tools/install puts files and how, under a list by which tools/uninstall finds them."""
+"""Writes the files of tools/install below a prefix, and keeps a list of them for tools/uninstall."""
 import contextlib
 import fcntl
 import glob
@@ -6,7 +6,7 @@ import os
 import shutil
 import tempfile
 
-# The list of the files that installs have put below the prefix: a path a line.
+# The list of the files that installs have written below the prefix. Each line is a path.
 LISTED = os.path.join("share", "mp4-box-codec", "installed")
 
 
@@ -16,13 +16,13 @@ def prefix_of(text):
 
 
 def root_of(prefix):
-    """Returns the folder that holds the files for `prefix`: below DESTDIR if the environment has it."""
+    """Returns the folder for the files of `prefix`, which is below DESTDIR if that is set in the environment."""
     stage = os.environ.get("DESTDIR")
     return os.path.join(os.path.abspath(stage), prefix.lstrip("/")) if stage else prefix
 
 
 def listed(root):
-    """Returns the paths below `root` that installs have put there."""
+    """Returns the paths below `root` of the files that installs have written."""
     try:
         with open(os.path.join(root, LISTED), encoding="utf-8") as lines:
             return [it for it in lines.read().split("\n") if it]
@@ -31,14 +31,14 @@ def listed(root):
 
 
 def foreign(root, paths):
-    """Returns those of `paths` below `root` that are present although no install has put them there."""
+    """Returns the `paths` below `root` that are present and that no install has written."""
     ours = {LISTED, *listed(root)}
     return [it for it in paths if it not in ours and os.path.lexists(os.path.join(root, it))]
 
 
 @contextlib.contextmanager
 def alone_in(folder):
-    """Keeps other installs and uninstalls out of `folder`, and first waits until they have left it."""
+    """Waits until no other install or uninstall works in `folder`, and keeps others out of it in the `with` block."""
     held = os.open(folder, os.O_RDONLY | os.O_DIRECTORY)
     try:
         try:
@@ -52,7 +52,7 @@ def alone_in(folder):
 
 
 def make_folder(path):
-    """Makes `path` and the folders above it that are missing. Everyone may read them, whatever the umask is."""
+    """Makes the folder `path` and the missing folders above it. Everyone can read them, whatever the umask is."""
     if os.path.isdir(path):
         return
     make_folder(os.path.dirname(path))
@@ -66,8 +66,8 @@ def make_folder(path):
 
 
 def put(path, what, mode):
-    """Puts a file with the bytes `what` at `path`, or a link to `what` if `mode` is None. It takes one step, so that
-    neither is ever half there, and uses a name of its own before that."""
+    """Writes a file with the bytes `what` to `path`, or makes a link to `what` if `mode` is None. The file is written
+    under a temporary name and then renamed, so that `path` never has a part of it."""
     folder, name = os.path.split(path)
     make_folder(folder)
     work = tempfile.mkdtemp(dir=folder, prefix=f".{name}.", suffix=".new")
@@ -85,6 +85,6 @@ def put(path, what, mode):
 
 
 def left_behind(path):
-    """Returns what installs that were killed have left beside `path`."""
+    """Returns the temporary folders that killed installs have left in the folder of `path`."""
     folder, name = os.path.split(path)
     return glob.glob(os.path.join(glob.escape(folder), f".{glob.escape(name)}.*.new"))

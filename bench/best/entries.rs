@@ -2,7 +2,7 @@
 
 use super::*;
 
-/// So many sets from an offset on, which then moves past them.
+/// Returns `count` parameter sets starting at offset `at`, and moves the offset past them.
 fn sets_at(bytes: &[u8], at: &mut usize, count: u8) -> Result<Vec<NalUnit>> {
     let mut sets = Vec::with_capacity(usize::from(count));
     for _ in 0..count {

@@ -2,7 +2,8 @@
 
 use super::*;
 
-/// The version and flags of a box with times, and a run of fields that begins with them.
+/// Returns the version and the flags of a box with times, and a run of fields that begins with them. The run has
+/// `lens[version]` bytes.
 fn timed(bytes: &[u8], lens: [usize; 2]) -> Result<(u8, u32, &[u8])> {
     let version = fields(bytes, 8, 4)?[0];
     test(version < 2)?;
@@ -10,8 +11,8 @@ fn timed(bytes: &[u8], lens: [usize; 2]) -> Result<(u8, u32, &[u8])> {
     Ok((version, flags_at(run, 0), run))
 }
 
-/// Three times and the numbers between them and after them, by the version: creation, modification, the number that
-/// follows, and duration; and the fields after these.
+/// The three times of a box, the number after the second time, and the fields after the duration. Their widths depend
+/// on the version.
 struct Times<'a> {
     creation: u64,
     modification: u64,
@@ -20,7 +21,7 @@ struct Times<'a> {
     rest: &'a [u8],
 }
 
-/// The times of a run of fields, with so many bytes between the number and the duration.
+/// Returns the times of a run of fields, with `between` bytes between the number and the duration.
 fn times_of(run: &[u8], version: u8, between: usize) -> Times<'_> {
     if version == 1 {
         Times {
@@ -98,7 +99,7 @@ pub fn read_mdhd(bytes: &[u8]) -> Result<MdhdBox> {
     })
 }
 
-/// The version, the flags and the time of a box with one time.
+/// Returns the version, the flags and the time of a box with one time.
 fn one_time(bytes: &[u8]) -> Result<(u8, u32, u64)> {
     let (version, flags, run) = timed(bytes, [8, 12])?;
     let time = if version == 1 {
@@ -172,7 +173,8 @@ pub fn read_trex(bytes: &[u8]) -> Result<TrexBox> {
     })
 }
 
-/// Puts three times and a number at 12, as `times_of` reads them, and returns the bytes after them.
+/// Writes three times and a number starting at offset 12, in the form that `times_of` reads. Returns the bytes after
+/// them.
 fn put_times(
     out: &mut [u8],
     version: u8,

@@ -3,7 +3,7 @@
 use super::tables::{append_front, rows, BLOCK};
 use super::*;
 
-/// The number at an offset if a flag is set; the offset then moves past it.
+/// Returns the number at offset `at` and moves the offset past it, or returns `None` if `is_there` is false.
 fn option_at(bytes: &[u8], at: &mut usize, is_there: bool) -> Result<Option<u32>> {
     if !is_there {
         return Ok(None);
@@ -37,8 +37,8 @@ pub fn read_tfhd(bytes: &[u8]) -> Result<TfhdBox> {
     })
 }
 
-/// One list a flag, in the order of the fields in a row. The rows are read in blocks, which stay in the nearest cache
-/// until all lists have their part of them.
+/// Reads the rows of a run into one list for each flag, in the order of the fields in a row. The rows are read in
+/// blocks, which stay in the nearest cache until all lists have their part.
 fn read_columns<const E: usize>(
     run: &mut TrunBox,
     bytes: &[u8],
@@ -116,7 +116,7 @@ pub fn append_tfhd(out: &mut Vec<u8>, b: &TfhdBox) {
     append_option(out, b.default_sample_flags);
 }
 
-/// The rows from a sample on: one list a flag.
+/// Writes the rows starting at sample `start`, one list after the other.
 fn put_columns<const E: usize>(out: &mut [u8], run: &TrunBox, start: usize) {
     let (rows, _) = out.as_chunks_mut::<E>();
     let mut at = 0;
@@ -134,7 +134,7 @@ fn put_columns<const E: usize>(out: &mut [u8], run: &TrunBox, start: usize) {
     put(0x800, &run.sample_cts);
 }
 
-/// The rows from a sample on: all four lists at once.
+/// Writes the rows starting at sample `start`, all four lists at once.
 fn put_full_rows(out: &mut [u8], run: &TrunBox, start: usize) {
     let (rows, _) = out.as_chunks_mut::<16>();
     let first = run.sample_durations[start..]
@@ -161,7 +161,7 @@ fn put_rows(out: &mut [u8], run: &TrunBox, start: usize) {
     }
 }
 
-/// The rows of a short run, one number after the other.
+/// Appends the rows of a short run, one number after the other.
 fn append_numbers(out: &mut Vec<u8>, run: &TrunBox, samples: usize) {
     for i in 0..samples {
         for (flag, column) in run.columns() {
@@ -172,7 +172,7 @@ fn append_numbers(out: &mut Vec<u8>, run: &TrunBox, samples: usize) {
     }
 }
 
-/// With the rows in blocks, if there are more than a few.
+/// Appends a `trun`, with its rows in blocks if there are at least eight.
 pub fn append_trun(out: &mut Vec<u8>, run: &TrunBox) {
     let (version, flags) = (run.version, run.flags);
     append_front(out, run.size(), TRUN, version, flags, run.sample_count);
@@ -190,7 +190,7 @@ pub fn append_trun(out: &mut Vec<u8>, run: &TrunBox) {
     }
     for start in (0..samples).step_by(BLOCK) {
         let rows = BLOCK.min(samples - start);
-        // SAFETY: each row is put whole.
+        // SAFETY: `put_rows` writes all bytes of each row.
         put_rows(unsafe { room(out, row * rows) }, run, start);
     }
 }

@@ -1,4 +1,5 @@
-//! A best-effort reader and writer: one bounds test a run of fields, tables by whole rows, one pass over the list.
+//! A best-effort reader and writer, with one bounds test for each run of fields, whole rows in tables, and one pass
+//! over a list.
 
 mod entries;
 mod flat;
@@ -26,14 +27,14 @@ fn flags_at(bytes: &[u8], at: usize) -> u32 {
     u32_at(bytes, at) & 0xff_ffff
 }
 
-/// So many bytes from an offset on.
+/// Returns `len` bytes starting at offset `at`.
 fn fields(bytes: &[u8], at: usize, len: usize) -> Result<&[u8]> {
     let end = at.checked_add(len).ok_or(Error::Io)?;
     bytes.get(at..end).ok_or(Error::Io)
 }
 
-/// The header of a box, in the form of 8 bytes or of 16: where the 8 bytes before the content begin, and the size from
-/// there on.
+/// The header of a box, in the form of 8 bytes or of 16. `start` is the offset of the 8 bytes before the content, and
+/// `size` counts from there.
 struct Header {
     code: u32,
     start: usize,
@@ -60,7 +61,7 @@ fn header(bytes: &[u8], at: usize) -> Result<Header> {
     })
 }
 
-/// The header of a child at an offset of a box of this size, and the bytes from its start on.
+/// Returns the header of the child at offset `at` of a box of this size, and the bytes starting at the child's `start`.
 fn child(bytes: &[u8], at: usize, size: u64) -> Result<(Header, &[u8])> {
     let child = header(bytes, at)?;
     test(child.size <= size)?;
@@ -68,8 +69,8 @@ fn child(bytes: &[u8], at: usize, size: u64) -> Result<(Header, &[u8])> {
     Ok((child, rest))
 }
 
-/// Appends the box of this code at the front of the bytes, which is put together in its place in the list. False if it
-/// is none of the 36 types.
+/// Appends the box of this code at the front of `b` to `boxes`, where it is built in place. Returns false if it has
+/// none of the 36 types.
 fn push_any<M: Member>(boxes: &mut Vec<M>, code: u32, b: &[u8], size: u64) -> Result<bool> {
     macro_rules! push {
         ($name:ident, $value:expr) => {
@@ -113,8 +114,8 @@ fn push_any<M: Member>(boxes: &mut Vec<M>, code: u32, b: &[u8], size: u64) -> Re
     Ok(true)
 }
 
-/// Reads the box at an offset behind the members of `boxes`, unless it is of another type and `M` has none of it, and
-/// returns where it ends.
+/// Reads the box at offset `at` and appends it to `boxes`, unless it has another type and `M` skips such boxes. Returns
+/// the offset of its end.
 fn push_at<M: Member>(boxes: &mut Vec<M>, bytes: &[u8], at: usize) -> Result<usize> {
     let head = header(bytes, at)?;
     let size = if head.size == 0 {
@@ -136,7 +137,7 @@ fn push_at<M: Member>(boxes: &mut Vec<M>, bytes: &[u8], at: usize) -> Result<usi
     Ok(end as usize)
 }
 
-/// The boxes of a stream.
+/// Returns the boxes of a stream.
 pub fn read_boxes<M: Member>(bytes: &[u8]) -> Result<Vec<M>> {
     let mut boxes = Vec::new();
     let mut at = 0;
@@ -146,7 +147,7 @@ pub fn read_boxes<M: Member>(bytes: &[u8]) -> Result<Vec<M>> {
     Ok(boxes)
 }
 
-/// The sum of what `each` says of the boxes of a stream, which are read one at a time into one place.
+/// Reads the boxes of a stream one at a time into the same vector. Returns the sum of the results of `each`.
 pub fn sum_of_each<M: Member>(bytes: &[u8], each: impl Fn(&[M]) -> u64) -> Result<u64> {
     let mut place = Vec::with_capacity(1);
     let mut sum: u64 = 0;
@@ -171,7 +172,7 @@ fn put_u64(out: &mut [u8], at: usize, number: u64) {
     out[at..at + 8].copy_from_slice(&number.to_be_bytes());
 }
 
-/// The header of a box of these bytes.
+/// Writes the header of the box that fills `out`.
 fn put_header(out: &mut [u8], code: u32) {
     let size = out.len() as u32;
     let head: &mut [u8; 8] = out.first_chunk_mut().unwrap();
@@ -179,7 +180,7 @@ fn put_header(out: &mut [u8], code: u32) {
     put_u32(head, 4, code);
 }
 
-/// The header, and the version and flags.
+/// Writes the header of the box that fills `out`, and its version and flags.
 fn put_full(out: &mut [u8], code: u32, version: u8, flags: u32) {
     let size = out.len() as u32;
     let head: &mut [u8; 12] = out.first_chunk_mut().unwrap();
@@ -188,18 +189,18 @@ fn put_full(out: &mut [u8], code: u32, version: u8, flags: u32) {
     put_u32(head, 8, u32::from(version) << 24 | flags);
 }
 
-/// So many zeros at the end of the output.
+/// Appends `count` zeros to `out` and returns them.
 fn zeros(out: &mut Vec<u8>, count: usize) -> &mut [u8] {
     let start = out.len();
     out.resize(start + count, 0);
     &mut out[start..]
 }
 
-/// So many bytes at the end of the output, which hold anything.
+/// Appends `count` uninitialized bytes to `out` and returns them.
 ///
 /// # Safety
 ///
-/// Each of them is put before any is read.
+/// The caller writes each of these bytes before any is read.
 unsafe fn room(out: &mut Vec<u8>, count: usize) -> &mut [u8] {
     out.reserve(count);
     let start = out.len();
@@ -207,8 +208,8 @@ unsafe fn room(out: &mut Vec<u8>, count: usize) -> &mut [u8] {
     &mut out[start..]
 }
 
-/// Appends a box, if it can be written. A box of one of two sizes is put together in an array, most others in zeros at
-/// the end of the output.
+/// Appends a box, if it can be written. A box that has at most two possible sizes is built in an array, and most others
+/// in zeros at the end of the output.
 fn append_any(out: &mut Vec<u8>, value: &AnyBox) -> Result<()> {
     macro_rules! fixed {
         ($b:ident, $put:path, $size:literal) => {{
@@ -288,7 +289,7 @@ fn append_other(out: &mut Vec<u8>, b: &OtherBox) -> Result<()> {
     Ok(())
 }
 
-/// All boxes, or none where one can't be written.
+/// Returns the bytes of all boxes, or an error if one can't be written.
 pub fn write_boxes<M: Member>(boxes: &[M]) -> Result<Vec<u8>> {
     let mut out = Vec::new();
     for member in boxes {

@@ -1,8 +1,9 @@
-//! The samples of a track: in order by a place in each table, and by their numbers by where the runs begin.
+//! The samples of a track. In order, they are found by a position in each table. By number, they are found by an index
+//! of the starts of all runs.
 
 use crate::boxes::*;
 
-/// Whether the tables agree: then each sample has its place.
+/// Checks that the tables agree, so that each sample has a position.
 pub fn check(t: Tables) -> Result<()> {
     let count = t.stsz.sample_count;
     test(t.stsz.sample_size != 0 || t.stsz.sample_sizes.len() == count as usize)?;
@@ -54,7 +55,7 @@ pub fn check(t: Tables) -> Result<()> {
     test(last.checked_add(bytes).is_some())
 }
 
-/// The samples of tables that agree, from the first to the last. What holds of all samples of a run is kept.
+/// An iterator over the samples of tables that agree. It keeps the values that all samples of a run share.
 pub struct Samples<'a> {
     tables: Tables<'a>,
     number: u32,
@@ -99,7 +100,7 @@ impl<'a> Samples<'a> {
         }
     }
 
-    /// Goes to the next chunk that has samples.
+    /// Moves to the next chunk that has samples.
     fn next_chunk(&mut self) {
         while self.in_chunk == 0 {
             self.position = u64::from(self.tables.stco.entries[self.chunk as usize]);
@@ -166,10 +167,10 @@ impl Iterator for Samples<'_> {
     }
 }
 
-/// How many sizes have one sum.
+/// The number of sizes for each sum in an index.
 const STEP: usize = 64;
 
-/// Where the runs of tables that agree begin.
+/// An index of tables that agree: the starts of all runs.
 pub struct Index<'a> {
     tables: Tables<'a>,
     chunk_runs: Vec<u64>,
@@ -215,7 +216,7 @@ impl<'a> Index<'a> {
         }
     }
 
-    /// How many bytes the samples have from `first` on, up to `number`.
+    /// Returns the number of bytes of the samples from `first` to `number - 1`.
     fn bytes_between(&self, first: usize, number: usize) -> u64 {
         if self.tables.stsz.sample_size != 0 {
             return (number - first) as u64 * u64::from(self.tables.stsz.sample_size);
@@ -230,7 +231,7 @@ impl<'a> Index<'a> {
             + total(&sizes[to * STEP..number])
     }
 
-    /// The sample of a number, counted from 0.
+    /// Returns the sample `number`, counted from 0.
     pub fn sample(&self, number: u32) -> Option<Sample> {
         let t = self.tables;
         if number >= t.stsz.sample_count {

@@ -1,8 +1,8 @@
-//! Sample descriptions, and the sample entry of sound.
+//! Sample descriptions, and the sample entry of audio.
 
 use super::*;
 
-/// The tag of the descriptor at an offset, where its content begins, and the length that it declares.
+/// Returns the tag of the descriptor at offset `at`, the offset of its content, and its declared length.
 fn descriptor(bytes: &[u8], at: usize) -> Result<(u8, usize, u64)> {
     let tag = fields(bytes, at, 1)?[0];
     let mut length = 0;
@@ -27,7 +27,7 @@ fn decoder_specific(bytes: &[u8], at: usize) -> Result<(DecoderSpecific, usize)>
     Ok((specific, at + len))
 }
 
-/// The descriptor whose content begins at an offset and has a declared length, and where it ended.
+/// Returns the descriptor whose content begins at offset `at` with this declared length, and the offset of its end.
 fn decoder_config(bytes: &[u8], at: usize, length: u64) -> Result<(DecoderConfig, usize)> {
     let b = fields(bytes, at, 13)?;
     let mut config = DecoderConfig {
@@ -140,7 +140,7 @@ pub fn read_stsd(bytes: &[u8], size: u64) -> Result<StsdBox> {
     Ok(stsd)
 }
 
-/// The four descriptors, each in its place: the lengths are below 128.
+/// Writes the four descriptors at fixed offsets, which is possible because their lengths are below 128.
 fn put_es_descriptor(out: &mut [u8], es_desc: &EsDescriptor) {
     let config = &es_desc.dec_config;
     let specific = &config.dec_specific;

@@ -2,7 +2,8 @@
 
 use super::*;
 
-/// The rows of a table after its count, which is checked against the box's size before any memory is asked for.
+/// Returns the rows of a table at offset `at`. The count is checked against the box's size before any memory is asked
+/// for.
 pub fn rows<const E: usize>(bytes: &[u8], size: u64, at: usize, count: u32) -> Result<&[[u8; E]]> {
     test(u64::from(count) <= size.saturating_sub(at as u64) / E as u64)?;
     let (rows, _) = fields(bytes, at, count as usize * E)?.as_chunks::<E>();
@@ -45,7 +46,7 @@ pub fn read_ctts(bytes: &[u8], size: u64) -> Result<CttsBox> {
     })
 }
 
-/// In one loop: each entry is read, and numbered by what those before it come to.
+/// Reads an `stsc` in one loop, which also computes the first sample of each entry.
 pub fn read_stsc(bytes: &[u8], size: u64) -> Result<StscBox> {
     let first_chunk = bytes.get(16..20).map_or(0, |first| u32_at(first, 0));
     let mut numbering = Numbering::from(first_chunk);
@@ -113,7 +114,8 @@ pub fn read_elst(bytes: &[u8], size: u64) -> Result<ElstBox> {
     })
 }
 
-/// How many rows are put at a time where a row comes from several lists, so that they stay in the nearest cache.
+/// The number of rows that are read or written at a time if several lists hold them, so that they stay in the nearest
+/// cache.
 pub const BLOCK: usize = 512;
 
 fn append_rows<const E: usize, T>(
@@ -121,7 +123,7 @@ fn append_rows<const E: usize, T>(
     entries: &[T],
     put: impl Fn(&mut [u8; E], &T),
 ) {
-    // SAFETY: each row is put whole.
+    // SAFETY: `put` writes all bytes of each row.
     let room = unsafe { room(out, E * entries.len()) };
     let (rows, _) = room.as_chunks_mut::<E>();
     for (row, entry) in rows.iter_mut().zip(entries) {
@@ -129,7 +131,7 @@ fn append_rows<const E: usize, T>(
     }
 }
 
-/// Appends the header of a box of this size, the version, the flags, and the number after them.
+/// Appends the header of a box of this size, its version and flags, and the number after them.
 pub fn append_front(out: &mut Vec<u8>, size: u64, code: u32, version: u8, flags: u32, number: u32) {
     let flags = u32::from(version) << 24 | flags;
     let words = [size as u32, code, flags, number].map(u32::to_be_bytes);

@@ -2,12 +2,12 @@
 
 use super::*;
 
-/// So many bytes from an offset on, by the size of a box. End of input if the buffer has fewer.
+/// Returns `len` bytes starting at offset `at`, or end of input if the buffer has fewer. The size of a box gives `len`.
 fn rest(bytes: &[u8], at: usize, len: u64) -> Result<&[u8]> {
     fields(bytes, at, usize::try_from(len).map_err(|_| Error::Io)?)
 }
 
-/// The text of these bytes, or another text if they are not UTF-8.
+/// Returns the text of `bytes`, or `other` if they are not UTF-8.
 fn text_or(bytes: &[u8], other: &str) -> String {
     std::str::from_utf8(bytes).unwrap_or(other).to_owned()
 }
@@ -59,7 +59,8 @@ pub fn read_url(bytes: &[u8], size: u64) -> Result<UrlBox> {
     })
 }
 
-/// The child at an offset of a `dref` or `dinf`, whose end is below 2^64, and where the next one begins.
+/// Returns the header of the child at offset `at` of a `dref` or `dinf`, the bytes starting at its `start`, and the
+/// offset of its end, which is below 2^64.
 fn next_child(bytes: &[u8], at: usize, size: u64) -> Result<(Header, &[u8], usize)> {
     let head = header(bytes, at)?;
     test(head.size >= 8)?;

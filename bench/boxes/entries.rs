@@ -1,4 +1,4 @@
-//! Sample entries of video and subtitles. No measured stream has any but `avc1`.
+//! Sample entries of video and subtitles. The measured streams have only `avc1`.
 
 use super::Measured;
 

@@ -2,7 +2,7 @@
 
 use super::{head_fits, Measured};
 
-/// a, b, u, c, d, v, x, y, w.
+/// A matrix, with the numbers a, b, u, c, d, v, x, y and w.
 #[derive(Debug, PartialEq)]
 pub struct Matrix {
     pub a: i32,
@@ -133,17 +133,17 @@ pub struct TfdtBox {
     pub base_media_decode_time: u64,
 }
 
-/// Whether a box has one of the two versions with times, and its times fit that version.
+/// Returns whether `version` is 0 or 1, `flags` fit 24 bits, and `times` fit that version.
 fn times_fit(version: u8, flags: u32, times: &[u64]) -> bool {
     flags < 1 << 24 && version < 2 && (version == 1 || times.iter().all(|time| *time < 1 << 32))
 }
 
-/// One of the two sizes of a box with times.
+/// Returns the size of a box of this `version`, out of the sizes for version 0 and 1.
 fn size_of_version(version: u8, sizes: [u64; 2]) -> u64 {
     sizes[usize::from(version == 1)]
 }
 
-/// A box of these sizes with a creation time, a modification time and a duration.
+/// Implements `Measured` for boxes that have a creation time, a modification time, a duration and these sizes.
 macro_rules! measure_timed {
     ($($timed:ident $sizes:expr,)*) => {
         $(impl Measured for $timed {
@@ -225,7 +225,7 @@ impl Measured for TfdtBox {
     }
 }
 
-/// The language of the 15 low bits of a number: three letters of five bits, the first one highest.
+/// Returns the language in the 15 low bits of `number`: three letters of five bits, the first one highest.
 pub fn language_of(number: u16) -> String {
     [10, 5, 0]
         .map(|shift| char::from(0x60 + (number >> shift & 31) as u8))
@@ -233,7 +233,7 @@ pub fn language_of(number: u16) -> String {
         .collect()
 }
 
-/// The number of a language, by the five low bits of its first three UTF-16 units.
+/// Returns the number of `language`, which has the five low bits of its first three UTF-16 units.
 pub fn language_number(language: &str) -> u16 {
     let mut units = language.encode_utf16();
     let mut number = 0;

@@ -37,7 +37,7 @@ impl Measured for TfhdBox {
             + width(self.default_sample_flags.is_some(), 4)
     }
 
-    /// An option is present exactly if its flag is set.
+    /// Returns whether each option is present if and only if its flag is set, and the flags fit.
     fn is_writable(&self) -> bool {
         let has = |flag: u32| self.flags & flag != 0;
         self.flags < 1 << 24
@@ -50,13 +50,13 @@ impl Measured for TfhdBox {
 }
 
 impl TrunBox {
-    /// The number of bytes in front of the rows.
+    /// Returns the number of bytes before the rows.
     pub fn head(&self) -> usize {
         let width = |there: bool| if there { 4 } else { 0 };
         16 + width(self.data_offset.is_some()) + width(self.first_sample_flags.is_some())
     }
 
-    /// The number of bytes of a row.
+    /// Returns the number of bytes of a row.
     pub fn row(&self) -> usize {
         4 * ((self.flags >> 8) & 15).count_ones() as usize
     }
@@ -76,7 +76,8 @@ impl Measured for TrunBox {
         self.head() as u64 + u64::from(self.sample_count) * self.row() as u64
     }
 
-    /// A list has an entry a sample where its flag is set, and none elsewhere.
+    /// Returns whether each list has an entry for each sample if its flag is set, and none otherwise, and all numbers
+    /// fit.
     fn is_writable(&self) -> bool {
         let has = |flag: u32| self.flags & flag != 0;
         let samples = self.sample_count as usize;

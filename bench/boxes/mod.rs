@@ -1,4 +1,4 @@
-//! The boxes of plain Rust: the 36 types of the codec, with the same fields, and an enum of them.
+//! The boxes in plain Rust: the 36 types of the codec, with the same fields, and an enum of all types.
 
 mod entries;
 mod flat;
@@ -20,7 +20,7 @@ pub use texts::*;
 pub enum Error {
     Io,
     InvalidData,
-    /// A type that no measured stream has, and that is neither read nor written.
+    /// A box of a type that no measured stream has. Such a box is neither read nor written.
     NotMeasured,
 }
 
@@ -40,20 +40,21 @@ pub fn test(holds: bool) -> Result<()> {
     }
 }
 
-/// What both writers ask of a box. A type of no measured stream can't be written.
+/// The size of a box and the check before it is written, for both writers. By default a box can't be written, which
+/// holds for types that no measured stream has.
 pub trait Measured {
-    /// The number of bytes, with the header.
+    /// Returns the number of bytes, with the header.
     fn size(&self) -> u64 {
         0
     }
 
-    /// Whether each number fits its field and the box is as its layout demands.
+    /// Returns whether each number fits its field and the box meets the conditions of its layout.
     fn is_writable(&self) -> bool {
         false
     }
 }
 
-/// Whether the flags of a box and its size fit their fields.
+/// Returns whether the flags of a box and its size fit their fields.
 fn head_fits(flags: u32, size: u64) -> bool {
     flags < 1 << 24 && size < 1 << 32
 }
@@ -62,7 +63,7 @@ macro_rules! boxes {
     ($($name:ident($held:ty) $code:ident $bytes:literal;)*) => {
         $(pub const $code: u32 = u32::from_be_bytes(*$bytes);)*
 
-        /// A box of any type. Those of no measured stream are here for the size of a member of a list.
+        /// A box of any type. Types of no measured stream are here so that a member of a list has its full size.
         #[allow(dead_code)]
         #[derive(Debug, PartialEq)]
         pub enum AnyBox {
@@ -132,7 +133,7 @@ boxes! {
     Stsd(StsdBox) STSD b"stsd";
 }
 
-/// A box of any type, those of other types as their code and content. Both are in place, as in the codec.
+/// A box of any type. A box of another type has its code and content. Both variants are stored inline, as in the codec.
 #[allow(clippy::large_enum_variant)]
 #[derive(Debug, PartialEq)]
 pub enum KeptBox {
@@ -156,14 +157,14 @@ impl Measured for OtherBox {
     }
 }
 
-/// A member of a list that a stream is read into.
+/// A member of the list into which a stream is read.
 pub trait Member: Sized {
     fn from_any(value: AnyBox) -> Self;
 
-    /// A box of another type, or None if lists of this type skip it.
+    /// Returns a box of another type, or `None` if lists of this type skip it.
     fn from_other(code: u32, content: &[u8]) -> Option<Self>;
 
-    /// The box of one of the 36 types, or the other box.
+    /// Returns the box if it has one of the 36 types, and the other box as the error otherwise.
     fn held(&self) -> std::result::Result<&AnyBox, &OtherBox>;
 }
 
@@ -201,7 +202,7 @@ impl Member for KeptBox {
     }
 }
 
-/// The codes and the sizes of the boxes, added up modulo 2^64.
+/// Returns the sum of the codes and the sizes of `boxes`, modulo 2^64.
 pub fn checksum<M: Member>(boxes: &[M]) -> u64 {
     boxes.iter().fold(0, |sum: u64, member| {
         let (code, size) = match member.held() {

@@ -1,4 +1,4 @@
-//! The samples of a track, and the tables that say where and when they are.
+//! The samples of a track, and the tables with their positions and times.
 
 use super::{AnyBox, CttsEntry, StcoBox, StscBox, StssBox, StszBox, SttsBox, Table};
 
@@ -15,7 +15,7 @@ pub struct Sample {
 }
 
 impl Sample {
-    /// All that is said of it, as one number.
+    /// Returns the sum of all fields, modulo 2^64.
     pub fn sum(&self) -> u64 {
         self.offset
             .wrapping_add(u64::from(self.size))
@@ -40,7 +40,7 @@ pub struct Tables<'a> {
 }
 
 impl<'a> Tables<'a> {
-    /// The tables in a list of boxes, which has all of them.
+    /// Returns the tables among `boxes`, or `None` if one is missing.
     pub fn of(boxes: &'a [AnyBox]) -> Option<Tables<'a>> {
         macro_rules! first {
             ($name:ident) => {

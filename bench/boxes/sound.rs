@@ -1,4 +1,4 @@
-//! Sample descriptions, and the sample entry of sound.
+//! Sample descriptions, and the sample entry of audio.
 
 use super::{head_fits, Avc1Box, Hev1Box, Measured, Tx3gBox, Vp09Box};
 
@@ -59,13 +59,13 @@ pub struct DecoderSpecific {
 }
 
 impl DecoderSpecific {
-    /// The number of its bytes.
+    /// Returns the number of bytes of the descriptor's content.
     pub fn len(&self) -> usize {
         let long_profile = usize::from(self.profile > 31);
         2 + long_profile + if self.freq_index == 15 { 3 } else { 0 }
     }
 
-    /// Its fields, of 5 or 11, 4, 24 or 0, and 4 bits, in the highest bits of eight bytes.
+    /// Returns the fields in the highest bits of `bits`. They have 5 or 11, 4, 24 or 0, and 4 bits.
     pub fn bits(&self) -> u64 {
         let (mut bits, mut left) = (0, 64);
         let mut put = |number: u64, width: u32| {
@@ -86,7 +86,7 @@ impl DecoderSpecific {
         bits
     }
 
-    /// The number of bytes that these two and what follows them have.
+    /// Returns the number of bytes of a content that begins with these two bytes.
     pub fn len_of([first, second]: [u8; 2]) -> usize {
         let (profile, index) = if first >> 3 == 31 {
             (1, second >> 1 & 15)
@@ -96,7 +96,7 @@ impl DecoderSpecific {
         2 + profile + if index == 15 { 3 } else { 0 }
     }
 
-    /// The fields in the highest bits of eight bytes.
+    /// Returns the fields in the highest bits of eight bytes.
     pub fn from_bits(mut bits: u64) -> DecoderSpecific {
         let mut take = |width: u32| {
             let number = bits >> (64 - width);
@@ -151,7 +151,7 @@ impl Measured for Mp4aBox {
     }
 }
 
-/// An expression of the first entry that is present, which is the one that is written.
+/// Evaluates an expression for the first entry that is present, which is the one that is written.
 macro_rules! of_entry {
     ($stsd:expr, $entry:ident => $given:expr, $none:expr) => {
         if let Some($entry) = &$stsd.avc1 {

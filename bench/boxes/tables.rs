@@ -11,7 +11,7 @@ pub struct StszBox {
     pub sample_sizes: Vec<u32>,
 }
 
-/// A table with a count: of numbers, or of the entries below.
+/// A table with a count, of numbers or of the entries below.
 #[derive(Debug, PartialEq)]
 pub struct Table<T> {
     pub version: u8,
@@ -63,10 +63,10 @@ pub struct ElstEntry {
 
 /// An entry of a table.
 pub trait Entry: Sized {
-    /// The bytes of its row.
+    /// The number of bytes of an entry.
     const ROW: u64;
 
-    /// Whether a table may have these entries.
+    /// Returns whether a table with these entries can be written.
     fn all_fit(_: &[Self]) -> bool {
         true
     }
@@ -125,7 +125,7 @@ impl Measured for StszBox {
 }
 
 impl ElstBox {
-    /// The bytes of a row.
+    /// Returns the number of bytes of an entry in this version.
     pub fn row(&self) -> u64 {
         if self.version == 1 {
             20
@@ -146,7 +146,7 @@ impl Measured for ElstBox {
     }
 }
 
-/// The first samples of the entries of a sample-to-chunk box, one after the other.
+/// The state of a computation that gives the first samples of the entries of an `stsc`, in order.
 pub struct Numbering {
     sample: u32,
     chunk: u32,
@@ -158,7 +158,7 @@ impl Numbering {
         Numbering::from(entries.first().map_or(0, |entry| entry.first_chunk))
     }
 
-    /// Before the first entry, which begins with this chunk.
+    /// Returns the state before the first entry, which begins with `chunk`.
     pub fn from(chunk: u32) -> Numbering {
         Numbering {
             sample: 1,
@@ -167,7 +167,7 @@ impl Numbering {
         }
     }
 
-    /// The first sample of the next entry. None if the chunks decrease or a number passes 32 bits.
+    /// Returns the first sample of the next entry, or `None` if the chunks decrease or a number exceeds 32 bits.
     pub fn next(&mut self, first_chunk: u32, samples_per_chunk: u32) -> Option<u32> {
         self.sample = first_chunk
             .checked_sub(self.chunk)?
@@ -179,7 +179,7 @@ impl Numbering {
     }
 }
 
-/// Fills in the first samples of the entries. None where they can't be computed.
+/// Fills in the first samples of `entries`. Returns `None` if they can't be computed.
 pub fn number_chunks(entries: &mut [StscEntry]) -> Option<()> {
     let mut numbering = Numbering::before(entries);
     for entry in entries {

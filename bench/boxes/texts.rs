@@ -111,7 +111,7 @@ impl Measured for DataBox {
 impl Measured for EmsgBox {}
 
 impl Measured for UrlBox {
-    /// No bytes are written for an empty location.
+    /// Returns the number of bytes. An empty location has none.
     fn size(&self) -> u64 {
         if self.location.is_empty() {
             12

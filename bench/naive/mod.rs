@@ -1,4 +1,4 @@
-//! A reader and a writer in the usual way: a call of `read_exact` or of `write_all` for each field.
+//! A reader and a writer in the usual style, with a call of `read_exact` or `write_all` for each field.
 
 mod entries;
 mod flat;
@@ -41,12 +41,12 @@ fn read_u64(reader: &mut Reader) -> Result<u64> {
     Ok(u64::from_be_bytes(array(reader)?))
 }
 
-/// The version and the flags.
+/// Reads the version and the flags.
 fn read_head(reader: &mut Reader) -> Result<(u8, u32)> {
     Ok((read_u8(reader)?, read_u24(reader)?))
 }
 
-/// So many bytes, or end of input before memory is asked for them.
+/// Reads `len` bytes. If the buffer has fewer, returns end of input before it asks for memory.
 fn read_bytes(reader: &mut Reader, len: u64) -> Result<Vec<u8>> {
     let left = reader.get_ref().len() as u64 - reader.position().min(reader.get_ref().len() as u64);
     if len > left {
@@ -61,7 +61,7 @@ fn skip(reader: &mut Reader, bytes: u64) -> Result<()> {
     Ok(reader.seek_relative(bytes as i64)?)
 }
 
-/// Reserved bytes that have to be present.
+/// Skips reserved bytes, which have to be present.
 fn skip_present(reader: &mut Reader, bytes: u64) -> Result<()> {
     let end = reader.position() + bytes;
     if end > reader.get_ref().len() as u64 {
@@ -70,8 +70,8 @@ fn skip_present(reader: &mut Reader, bytes: u64) -> Result<()> {
     skip(reader, bytes)
 }
 
-/// The header of a box, in the form of 8 bytes or of 16: where the 8 bytes before the content begin, and the size from
-/// there on.
+/// The header of a box, in the form of 8 bytes or of 16. `start` is the offset of the 8 bytes before the content, and
+/// `size` counts from there.
 struct Header {
     code: u32,
     start: u64,
@@ -91,7 +91,7 @@ fn read_header(reader: &mut Reader) -> Result<Header> {
     Ok(Header { code, start, size })
 }
 
-/// The content of the box whose header was just read. None if it is none of the 36 types.
+/// Reads the content of the box whose header was just read. Returns `None` if it has none of the 36 types.
 fn read_any(reader: &mut Reader, code: u32, size: u64) -> Result<Option<AnyBox>> {
     Ok(Some(match code {
         FTYP => AnyBox::Ftyp(texts::read_ftyp(reader, size)?),
@@ -129,7 +129,7 @@ fn read_any(reader: &mut Reader, code: u32, size: u64) -> Result<Option<AnyBox>>
     }))
 }
 
-/// The boxes of a stream.
+/// Returns the boxes of a stream.
 pub fn read_boxes<M: Member>(bytes: &[u8]) -> Result<Vec<M>> {
     let mut reader = Cursor::new(bytes);
     let mut boxes = Vec::new();
@@ -179,7 +179,7 @@ fn put_u64<W: Write>(writer: &mut W, number: u64) -> Result<()> {
     Ok(writer.write_all(&number.to_be_bytes())?)
 }
 
-/// At most 32 zeros.
+/// Writes `count` zeros, at most 32.
 fn put_zeros<W: Write>(writer: &mut W, count: usize) -> Result<()> {
     Ok(writer.write_all(&[0; 32][..count])?)
 }
@@ -189,7 +189,7 @@ fn put_header<W: Write>(writer: &mut W, size: u64, code: u32) -> Result<()> {
     put_u32(writer, code)
 }
 
-/// The header, and the version and flags.
+/// Writes the header, the version and the flags.
 fn put_head<W: Write>(writer: &mut W, size: u64, code: u32, version: u8, flags: u32) -> Result<()> {
     put_header(writer, size, code)?;
     put_u8(writer, version)?;
@@ -241,7 +241,7 @@ fn put_any<W: Write>(writer: &mut W, value: &AnyBox) -> Result<()> {
     }
 }
 
-/// The boxes one after the other, each checked before it is written.
+/// Returns the bytes of all boxes. Each box is checked before it is written.
 pub fn write_boxes<M: Member>(boxes: &[M]) -> Result<Vec<u8>> {
     let mut out = Vec::new();
     for member in boxes {

@@ -1,9 +1,9 @@
-//! The samples of a track by their numbers, each by a walk over the runs of each table, and with the sizes of the
-//! samples before it in its chunk: as the Rust crate `mp4` looks for a sample.
+//! The samples of a track by number. As in the Rust crate `mp4`, each look-up visits the runs of each table in order,
+//! and adds up the sizes of the samples before it in its chunk.
 
 use crate::boxes::*;
 
-/// The entry of `stsc` of a sample, by the first sample that reading gave each.
+/// Returns the entry of `stsc` for sample `id`, by the first samples that reading has computed.
 fn chunk_run<'a>(t: Tables<'a>, id: u32) -> Option<&'a StscEntry> {
     for (index, entry) in t.stsc.entries.iter().enumerate() {
         if id < entry.first_sample {
@@ -20,7 +20,7 @@ fn size(t: Tables, id: u32) -> Option<u32> {
     t.stsz.sample_sizes.get(id as usize - 1).copied()
 }
 
-/// The offset of a sample, and its chunk.
+/// Returns the offset of sample `id`, and its chunk.
 fn place(t: Tables, id: u32) -> Option<(u64, u32)> {
     let entry = chunk_run(t, id)?;
     let chunk = entry.first_chunk + (id - entry.first_sample) / entry.samples_per_chunk;
@@ -32,7 +32,7 @@ fn place(t: Tables, id: u32) -> Option<(u64, u32)> {
     Some((offset, chunk))
 }
 
-/// When a sample starts, and how long it lasts.
+/// Returns the start time and the duration of sample `id`.
 fn time(t: Tables, id: u32) -> Option<(u64, u32)> {
     let (mut first, mut elapsed) = (1, 0);
     for entry in &t.stts.entries {
@@ -57,7 +57,7 @@ fn rendering_offset(t: Tables, id: u32) -> i32 {
     0
 }
 
-/// The sample of a number, counted from 0.
+/// Returns the sample `number`, counted from 0.
 pub fn sample(t: Tables, number: u32) -> Option<Sample> {
     let id = number + 1;
     let (offset, chunk) = place(t, id)?;

@@ -1,8 +1,8 @@
-//! Sample descriptions, and the sample entry of sound.
+//! Sample descriptions, and the sample entry of audio.
 
 use super::*;
 
-/// The tag and the declared length of a descriptor.
+/// Reads the tag and the declared length of a descriptor.
 fn read_descriptor(reader: &mut Reader) -> Result<(u8, u64)> {
     let tag = read_u8(reader)?;
     let mut length = 0;

@@ -59,7 +59,8 @@ pub fn read_url(reader: &mut Reader, size: u64) -> Result<UrlBox> {
     })
 }
 
-/// The header of the child at the reader's position of a `dref` or `dinf` of this size, and the child's end.
+/// Reads the header of the next child of a `dref` or `dinf` of this size. Returns it with the offset of the child's
+/// end.
 fn next_child(reader: &mut Reader, size: u64) -> Result<(Header, u64)> {
     let head = read_header(reader)?;
     test(head.size >= 8)?;

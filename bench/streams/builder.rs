@@ -1,6 +1,6 @@
-//! Putting streams together, byte for byte.
+//! A builder of streams, byte by byte.
 
-/// Numbers that look random, the same in each run.
+/// Pseudo-random numbers, which are the same in each run.
 pub struct Numbers(pub u64);
 
 impl Numbers {
@@ -12,7 +12,7 @@ impl Numbers {
         (self.0 >> 32) as u32
     }
 
-    /// A number from `least` on, below `end`.
+    /// Returns a number that is at least `least` and below `end`.
     pub fn between(&mut self, least: u32, end: u32) -> u32 {
         least + self.next() % (end - least)
     }
@@ -54,7 +54,7 @@ impl Builder {
         self.bytes.extend(text.as_bytes());
     }
 
-    /// A box whose content is put by a function.
+    /// Appends a box whose content the function `put` appends.
     pub fn plain(&mut self, code: &[u8; 4], put: impl FnOnce(&mut Builder)) {
         let start = self.bytes.len();
         self.u32(0);
@@ -64,7 +64,7 @@ impl Builder {
         self.bytes[start..start + 4].copy_from_slice(&size.to_be_bytes());
     }
 
-    /// A box of a version and flags, and what is put after them.
+    /// Appends a box with this version and flags, after which `put` appends the rest.
     pub fn full(
         &mut self,
         code: &[u8; 4],
@@ -78,7 +78,7 @@ impl Builder {
         });
     }
 
-    /// A box of version 0 without flags, of a count and numbers.
+    /// Appends a box of version 0 without flags, with a count and numbers.
     pub fn table(&mut self, code: &[u8; 4], count: u32, numbers: &[u32]) {
         self.full(code, 0, 0, |b| {
             b.u32(count);
@@ -87,7 +87,7 @@ impl Builder {
     }
 }
 
-/// The boxes of a stream in which all headers have the form of 8 bytes.
+/// Returns the bytes of each box of a stream in which all headers have 8 bytes.
 pub fn boxes_of(mut stream: &[u8]) -> impl Iterator<Item = &[u8]> {
     std::iter::from_fn(move || {
         let size = u32::from_be_bytes(*stream.first_chunk()?);
@@ -97,7 +97,7 @@ pub fn boxes_of(mut stream: &[u8]) -> impl Iterator<Item = &[u8]> {
     })
 }
 
-/// The boxes of a stream but for those of some codes.
+/// Returns the boxes of a stream except those with `codes`.
 pub fn without(stream: &[u8], codes: &[&[u8; 4]]) -> Vec<u8> {
     boxes_of(stream)
         .filter(|b| codes.iter().all(|code| b[4..8] != code[..]))

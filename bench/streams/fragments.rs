@@ -6,7 +6,7 @@ fn mfhd(b: &mut Builder, sequence_number: u32) {
     b.full(b"mfhd", 0, 0, |b| b.u32(sequence_number));
 }
 
-/// With a default duration, size and flags.
+/// Appends a `tfhd` with a default duration, size and flags.
 fn tfhd(b: &mut Builder, track: u32, defaults: [u32; 3]) {
     b.full(b"tfhd", 0, 0x02_0038, |b| {
         b.u32(track);
@@ -24,7 +24,7 @@ fn trex(b: &mut Builder, n: &mut Numbers) {
     });
 }
 
-/// A run of so many samples, with a random number for each field that the flags name.
+/// Appends a `trun` of `samples` samples, with a random number for each field that `flags` name.
 fn trun(b: &mut Builder, n: &mut Numbers, version: u8, flags: u32, samples: u32) {
     let options = (flags & 0x05).count_ones();
     let columns = (flags & 0xf00).count_ones();
@@ -45,12 +45,12 @@ fn repeat(boxes: u32, mut put: impl FnMut(&mut Builder, &mut Numbers, u32)) -> V
     b.bytes
 }
 
-/// So many `mfhd` boxes.
+/// Returns a stream of `boxes` `mfhd` boxes.
 pub fn mfhds(boxes: u32) -> Vec<u8> {
     repeat(boxes, |b, _, i| mfhd(b, i + 1))
 }
 
-/// A stream of so many boxes for each type, with its name.
+/// Returns a stream of `boxes` boxes for each type, with its name.
 pub fn of_one_type(boxes: u32) -> Vec<(&'static str, Vec<u8>)> {
     vec![
         ("mfhd", mfhds(boxes)),
@@ -78,7 +78,7 @@ pub fn of_one_type(boxes: u32) -> Vec<(&'static str, Vec<u8>)> {
     ]
 }
 
-/// Headers, track headers, times and runs of three samples, in turn.
+/// Returns a stream of `boxes` boxes: `mfhd`, `tfhd`, `tfdt` and `trun` of three samples, in turn.
 pub fn mix(boxes: u32) -> Vec<u8> {
     repeat(boxes / 4, |b, n, i| {
         mfhd(b, i + 1);
@@ -88,10 +88,10 @@ pub fn mix(boxes: u32) -> Vec<u8> {
     })
 }
 
-/// The contents of so many `moof` boxes without the `traf` around the boxes of a track: of video, with 25 to 60
-/// samples, and of sound, with 43 or so. Each second one has samples with a size and a composition time, and the flags
-/// of the first one, as ffmpeg writes video; the others have a duration, a size, flags and a composition time for each
-/// sample, as packagers do.
+/// Returns the contents of `fragments` `moof` boxes, without the `traf` around the boxes of a track. Each has a track
+/// of video with 25 to 60 samples, and a track of audio with 43 or 44. In every second `moof` the video samples have a
+/// size and a composition time, and the first has flags, as ffmpeg writes them. In the others each video sample has a
+/// duration, a size, flags and a composition time, as packagers write them.
 pub fn moofs(fragments: u32) -> Vec<u8> {
     repeat(fragments, |b, n, i| {
         mfhd(b, i + 1);

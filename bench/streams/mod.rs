@@ -12,7 +12,7 @@ use tables::KINDS;
 /// The numbers of entries of a table.
 const LENGTHS: [u32; 4] = [1_000, 10_000, 100_000, 1_000_000];
 
-/// The most that the codec is to take, as parts of the time of the best effort.
+/// The largest times that the codec should take, relative to the best effort.
 #[derive(Clone, Copy)]
 pub struct Aims {
     pub reading: f64,
@@ -26,10 +26,10 @@ pub struct Stream {
     /// The number of boxes.
     pub boxes: usize,
     pub aims: Option<Aims>,
-    /// Whether boxes of other types are kept. Else they are skipped.
+    /// True if boxes of other types are kept, and false if they are skipped.
     pub is_kept: bool,
     pub bytes: Vec<u8>,
-    /// What is written of its boxes: the stream, without the boxes that are skipped.
+    /// The bytes to which its boxes are written: the stream without the boxes that are skipped.
     pub written: Vec<u8>,
 }
 
@@ -52,7 +52,7 @@ impl Stream {
     }
 }
 
-/// All streams: the tables of each length, and then small boxes.
+/// Returns all streams: the tables of each length, and then small boxes.
 pub fn all() -> Vec<Stream> {
     LENGTHS
         .into_iter()
@@ -61,7 +61,7 @@ pub fn all() -> Vec<Stream> {
         .collect()
 }
 
-/// The stream at a place of `all`, without the others.
+/// Returns the stream at index `place` of `all`, without building the tables of other lengths or kinds.
 pub fn nth(place: usize) -> Stream {
     match LENGTHS.get(place / KINDS.len()) {
         Some(entries) => table(*entries, place % KINDS.len()),
@@ -69,7 +69,7 @@ pub fn nth(place: usize) -> Stream {
     }
 }
 
-/// One table of so many entries. `elst` has two kinds, for its two rows.
+/// Returns a stream of one table with `entries` entries. `elst` has two kinds, for its two versions.
 fn table(entries: u32, kind: usize) -> Stream {
     let (name, bytes) = KINDS[kind];
     let mut stream = Stream::new(name, bytes(entries));
@@ -80,12 +80,12 @@ fn table(entries: u32, kind: usize) -> Stream {
     stream
 }
 
-/// So many `mfhd` boxes.
+/// Returns a stream of `boxes` `mfhd` boxes.
 pub fn headers(boxes: u32) -> Vec<u8> {
     fragments::mfhds(boxes)
 }
 
-/// Streams of boxes of one type, of several types in turn, and the contents of a `moof` and of a `moov`.
+/// Returns streams of boxes of one type, of several types in turn, and of the contents of `moof` and `moov` boxes.
 fn small() -> Vec<Stream> {
     let mut streams: Vec<Stream> = fragments::of_one_type(8_000)
         .into_iter()

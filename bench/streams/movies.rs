@@ -2,7 +2,7 @@
 
 use super::builder::{Builder, Numbers};
 
-/// The codes of the boxes here that are none of the 36 types.
+/// The codes of boxes in these streams that have none of the 36 types.
 pub const OTHER: [&[u8; 4]; 3] = [b"sgpd", b"sbgp", b"udta"];
 
 const UNITY: [u32; 9] = [0x10000, 0, 0, 0, 0x10000, 0, 0, 0, 0x4000_0000];
@@ -18,7 +18,7 @@ fn mvhd(b: &mut Builder, n: &mut Numbers) {
     });
 }
 
-/// The header of track 1, of video, or of track 2, of sound.
+/// Appends the header of track 1, which is video, or of track 2, which is audio.
 fn tkhd(b: &mut Builder, n: &mut Numbers, track: u32) {
     b.full(b"tkhd", 0, 3, |b| {
         b.numbers(&[n.next(), n.next(), track, 0, 10_000]);
@@ -36,7 +36,7 @@ fn tkhd(b: &mut Builder, n: &mut Numbers, track: u32) {
     });
 }
 
-/// With the language `und` or `eng`.
+/// Appends an `mdhd`, with the language `und` for track 1 and `eng` for track 2.
 fn mdhd(b: &mut Builder, n: &mut Numbers, track: u32) {
     b.full(b"mdhd", 0, 0, |b| {
         b.numbers(&[n.next(), n.next(), 44_100, 441_000]);
@@ -140,7 +140,7 @@ fn stco(b: &mut Builder, n: &mut Numbers, chunks: u32) {
     });
 }
 
-/// The boxes that both tracks have in front of their tables.
+/// Appends the boxes that a track has before its tables.
 fn track_front(b: &mut Builder, n: &mut Numbers, track: u32) {
     tkhd(b, n, track);
     b.table(b"elst", 1, &[10_000, 1024, 0x10000]);
@@ -158,7 +158,7 @@ fn track_front(b: &mut Builder, n: &mut Numbers, track: u32) {
     }
 }
 
-/// A box of another type, of so many bytes after its header.
+/// Appends a box of another type, with `bytes` bytes after its header.
 fn other(b: &mut Builder, n: &mut Numbers, code: &[u8; 4], bytes: u32) {
     b.plain(code, |b| {
         for _ in 0..bytes {
@@ -167,7 +167,7 @@ fn other(b: &mut Builder, n: &mut Numbers, code: &[u8; 4], bytes: u32) {
     });
 }
 
-/// Ten seconds of video and sound, with all samples in the tables.
+/// Appends a movie of ten seconds of video and audio, with all samples in the tables.
 fn whole_movie(b: &mut Builder, n: &mut Numbers) {
     mvhd(b, n);
     track_front(b, n, 1);
@@ -194,7 +194,7 @@ fn whole_movie(b: &mut Builder, n: &mut Numbers) {
     other(b, n, b"udta", 90);
 }
 
-/// The movie of a file of fragments, whose tables are empty.
+/// Appends the movie of a file of fragments, with empty tables.
 fn empty_movie(b: &mut Builder, n: &mut Numbers) {
     mvhd(b, n);
     for track in [1, 2] {
@@ -211,7 +211,7 @@ fn empty_movie(b: &mut Builder, n: &mut Numbers) {
     other(b, n, b"udta", 90);
 }
 
-/// The boxes of so many movies of each of these two kinds in turn, without the containers around them.
+/// Returns a stream of `count` whole movies and `count` empty ones in turn, without the containers around their boxes.
 pub fn movies(count: u32) -> Vec<u8> {
     let mut n = Numbers(4);
     let mut b = Builder::default();

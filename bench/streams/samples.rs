@@ -2,7 +2,8 @@
 
 use super::builder::{Builder, Numbers};
 
-/// The runs of a table: for each its length, of at most `longest` samples, and a number.
+/// Returns the runs of a table of `samples` samples. Each run is its length, at most `longest`, and a number that is at
+/// least `least` and below `end`.
 fn runs(numbers: &mut Numbers, samples: u32, longest: u32, least: u32, end: u32) -> Vec<u32> {
     let mut runs = Vec::new();
     let mut left = samples;
@@ -14,8 +15,8 @@ fn runs(numbers: &mut Numbers, samples: u32, longest: u32, least: u32, end: u32)
     runs
 }
 
-/// The chunks of samples of these sizes, one after the other with a gap between them: the entries of `stsc` and of
-/// `stco`.
+/// Returns the entries of `stsc` and `stco` for samples of these sizes. The chunks follow one another, with a gap
+/// between them.
 fn chunks(numbers: &mut Numbers, sizes: &[u32]) -> (Vec<u32>, Vec<u32>) {
     let (mut stsc, mut stco) = (Vec::new(), Vec::new());
     let mut offset = 1_000;
@@ -35,8 +36,8 @@ fn chunks(numbers: &mut Numbers, sizes: &[u32]) -> (Vec<u32>, Vec<u32>) {
     (stsc, stco)
 }
 
-/// The boxes of an `stbl` that say where so many samples are, and when: a run of `stts` has up to 200 samples, one of
-/// `ctts` up to 4, a chunk up to 16, and every 48th sample is a sync sample.
+/// Returns the tables of an `stbl` for `samples` samples. A run of `stts` has up to 200 samples, a run of `ctts` up to
+/// 4, and a chunk up to 16. Every 48th sample is a sync sample.
 pub fn track(samples: u32) -> Vec<u8> {
     let mut numbers = Numbers(11);
     let sizes: Vec<u32> = (0..samples).map(|_| numbers.between(100, 4_000)).collect();

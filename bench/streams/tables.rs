@@ -2,7 +2,7 @@
 
 use super::builder::{Builder, Numbers};
 
-/// A table of rows of so many random numbers each, after the numbers in front of its count.
+/// Returns a table of `entries` entries of `width` random numbers each. The numbers `front` precede its count.
 fn random(code: &[u8; 4], version: u8, entries: u32, front: &[u32], width: u32) -> Vec<u8> {
     let mut numbers = Numbers(u64::from(u32::from_be_bytes(*code)));
     let mut b = Builder::default();
@@ -16,7 +16,7 @@ fn random(code: &[u8; 4], version: u8, entries: u32, front: &[u32], width: u32) 
     b.bytes
 }
 
-/// Chunks in order, of 1 to 16 samples each.
+/// Returns an `stsc` with runs of chunks of 1 to 16 samples.
 fn chunks(entries: u32) -> Vec<u8> {
     let mut numbers = Numbers(2);
     let mut b = Builder::default();
@@ -31,7 +31,7 @@ fn chunks(entries: u32) -> Vec<u8> {
     b.bytes
 }
 
-/// A run of samples, each with its duration, size, flags and composition time.
+/// Returns a `trun` in which each sample has a duration, a size, flags and a composition time.
 fn run(entries: u32) -> Vec<u8> {
     let mut numbers = Numbers(3);
     let mut b = Builder::default();
@@ -44,7 +44,7 @@ fn run(entries: u32) -> Vec<u8> {
     b.bytes
 }
 
-/// The kinds of tables: the name of each, and its stream of so many entries.
+/// The kinds of tables. Each has its name, and a function that returns its stream for a number of entries.
 pub const KINDS: [(&str, fn(u32) -> Vec<u8>); 10] = [
     ("stsz", |entries| random(b"stsz", 0, entries, &[0], 1)),
     ("stco", |entries| random(b"stco", 0, entries, &[], 1)),

@@ -1,7 +1,7 @@
-"""The boxes of MP4 files (ISO/IEC 14496-12), by libmp4_box_codec.
+"""Reads and writes the boxes of MP4 files (ISO/IEC 14496-12) by libmp4_box_codec, for Python programs.
 
-Bytes are whatever has a buffer: `bytes`, a `bytearray`, a `memoryview`, an `mmap.mmap` of a file. They are not copied,
-so no other thread may write to them during a call; docs/PYTHON.md has all rules.
+You can pass bytes as any object with a buffer: `bytes`, a `bytearray`, a `memoryview`, an `mmap.mmap` of a file. The
+module doesn't copy them, so no other thread may write to them during a call; docs/PYTHON.md has all rules.
 
 >>> import mp4_box_codec
 >>> stts = bytes.fromhex("00000018 73747473 00000000 00000001 00000003 0000000a")
@@ -12,7 +12,7 @@ so no other thread may write to them during a call; docs/PYTHON.md has all rules
 >>> mp4_box_codec.stts(stts).rows
 [SttsRow(sample_count=3, sample_delta=10)]
 
-Tables of one number a row are arrays, as of the module `array`:
+Rows of one number are an array of the module `array`:
 
 >>> mp4_box_codec.stss(bytes.fromhex("00000018 73747373 00000000 00000002 00000001 00000006"))
 Table(version=0, flags=0, rows=array('I', [1, 6]))
@@ -23,8 +23,8 @@ A fault is an Mp4Error, whose `status` is a number of the header `mp4_box_codec.
 Traceback (most recent call last):
 mp4_box_codec.Mp4Error: unexpected end of input
 
-The library is looked for where the variable MP4_BOX_CODEC_LIB says (a file), in the folders `lib` of Python's prefix
-and of tools/install, and then where the system has its libraries.
+The module looks for the library in the file that the variable MP4_BOX_CODEC_LIB names, in the folders `lib` of
+Python's prefix and of tools/install, and then in the folders in which the system has its libraries.
 """
 
 import array
@@ -40,7 +40,7 @@ from typing import Any, Callable, Dict, Iterator, List, NamedTuple, Optional, Tu
 __version__ = "0.1.0"
 OK, END_OF_INPUT, INVALID_DATA, BOX_NOT_FOUND, OUT_OF_MEMORY, NO_ROOM = 0, 1, 2, 3, 12, 100
 NO_TRACK, UNKNOWN_BOX = 101, 102
-# What is where a box should begin, as `what` of a Box says.
+# The values of `what` of a Box: the state of a box, or of the place where one should begin.
 LEAF, PARENT, TOO_DEEP, CUT, SMALL, NO_HEADER = range(6)
 
 u8, u16, u32, u64, size = ctypes.c_uint8, ctypes.c_uint16, ctypes.c_uint32, ctypes.c_uint64, ctypes.c_size_t
@@ -48,8 +48,8 @@ i8, i16, i32, i64 = ctypes.c_int8, ctypes.c_int16, ctypes.c_int32, ctypes.c_int6
 
 
 class Mp4Error(ValueError):
-    """A status of the library other than that all is well. Where the module refuses a value, and doesn't pass it to the
-    library, the status is INVALID_DATA, and the text names the field and the value."""
+    """An error of a call, with a status of the library. If the module refuses a value before it calls the library, the
+    status is INVALID_DATA, and the text names the field and the value."""
 
     def __init__(self, status: int, refused: str = "") -> None:
         super().__init__(status_text(status) + (f": {refused}" if refused else ""))
@@ -57,7 +57,7 @@ class Mp4Error(ValueError):
 
 
 class _Numbers(NamedTuple):
-    """The numbers that a field holds: its type in C, the numbers themselves, and how a message names them."""
+    """The numbers that a field holds: its type in C, the numbers themselves, and their name in messages."""
     kind: Any
     allowed: Any
     words: str
@@ -72,18 +72,18 @@ def _numbers(kind: Any, bits: int) -> _Numbers:
 
 # All numbers of a type of C.
 _ALL = {kind: _numbers(kind, 8 * ctypes.sizeof(kind)) for kind in (u8, u16, u32, u64, i8, i16, i32, i64)}
-# The numbers of fields that hold fewer than their type of C, such as the flags of a box.
+# The numbers of fields that hold fewer numbers than their type of C, such as the flags of a box.
 _u1, _u2, _u3, _u4, _u6 = (_numbers(u8, bits) for bits in (1, 2, 3, 4, 6))
 _u24 = _numbers(u32, 24)
 _up_stream = _Numbers(u8, (0, 2), "0 or 2")
 _object_type = _Numbers(u8, (*range(31), *range(32, 96)), "a number from 0 to 95 without 31")
-# A time has 64 bits in version 1 of its box, and else 32.
+# A time has 64 bits in version 1 of its box, else 32.
 _time = _numbers(u64, 64)
 _short_time = _Numbers(u64, range(1 << 32), f"{_numbers(u64, 32).words} (a time has 64 bits in version 1 only)")
 
 
 def _refused(name: str, given: Any, wanted: str) -> Mp4Error:
-    """Returns the error that `given`, called `name`, isn't what is wanted."""
+    """Returns the error that `given`, called `name`, isn't the kind of value that the field needs."""
     try:
         shown = repr(given)
     except Exception:  # It has no text, as an int of more digits than Python shows.
@@ -92,7 +92,7 @@ def _refused(name: str, given: Any, wanted: str) -> Mp4Error:
 
 
 def _number(given: Any, numbers: _Numbers, name: str) -> int:
-    """Returns `given`, one of `numbers`, as an int. Refuses other numbers, bools, and what is no whole number."""
+    """Returns `given`, one of `numbers`, as an int. Refuses other numbers, bools, and values that aren't whole."""
     try:
         number = None if isinstance(given, bool) else int(operator.index(given))
     except TypeError:
@@ -103,7 +103,7 @@ def _number(given: Any, numbers: _Numbers, name: str) -> int:
 
 
 def _copied(given: Any, name: str, wanted: str) -> List[Any]:
-    """Copies a list of the caller. All that follows looks at the copy, since the list itself may change meanwhile."""
+    """Copies a list of the caller. The module then uses the copy, since the list itself may change meanwhile."""
     try:
         return [*given]
     except TypeError:
@@ -119,7 +119,7 @@ def _numbers_of(given: List[Any], numbers: _Numbers, name: str) -> List[int]:
 
 
 def _bytes(given: Any, name: str) -> bytes:
-    """Copies what has a buffer."""
+    """Copies the bytes of an object with a buffer."""
     try:
         return memoryview(given).tobytes()
     except TypeError:
@@ -139,7 +139,7 @@ def _text(given: Any, name: str, zeros: bool = True) -> bytes:
 
 def _language(given: Any, name: str) -> bytes:
     """Returns the three letters of a language. Their five bits also hold the six characters around `a` to `z`, which
-    `mdhd` returns for the numbers of languages in files of QuickTime: what was read can be written."""
+    `mdhd` returns for the numbers of languages in QuickTime files: a language that was read can be written."""
     if not isinstance(given, str) or len(given) != 3 or not all("`" <= it <= "\x7f" for it in given):
         raise _refused(name, given, "three letters from a to z")
     return str.encode(given)
@@ -154,13 +154,13 @@ def _field(value: Any, field: str, name: str) -> Any:
 
 
 def _name(code: int) -> str:
-    """The four characters of a code, each of the number of its byte."""
+    """Returns the four characters of a code, each with the number of its byte."""
     return code.to_bytes(4, "big").decode("latin-1")
 
 
 class Span(NamedTuple):
-    """The place of a box: the offset of its first byte, its length with its header, how long the header is, and its
-    code as a number."""
+    """The position of a box: the offset of its first byte, its length including its header, the length of the header,
+    and its code as a number."""
     position: int
     length: int
     header_length: int
@@ -168,21 +168,21 @@ class Span(NamedTuple):
 
     @property
     def name(self) -> str:
-        """The four characters of its code, each of the number of its byte."""
+        """The four characters of the code, each with the number of its byte."""
         return _name(self.code)
 
     def of(self, listed: Any) -> memoryview:
-        """The bytes of the box, header included, in the bytes that were listed."""
+        """Returns the bytes of the box, including its header, in the bytes that were listed."""
         return memoryview(listed).cast("B")[self.position:self.position + self.length]
 
     def content_of(self, listed: Any) -> memoryview:
-        """What comes after its header: the boxes in it, if it contains boxes alone."""
+        """Returns the bytes after the header: the boxes inside, if the box contains only boxes."""
         return self.of(listed)[self.header_length:]
 
 
 class Place(NamedTuple):
-    """A box at a path: as a span, with the length of its header, and `is_whole`. This is 0 of a box that is cut, and of
-    one whose `length`, as its header says it, is smaller than its header."""
+    """A box at a path: the fields of a span, and `is_whole`, which is 0 if the box is cut, or if the `length` that its
+    header states is smaller than the header."""
     position: int
     length: int
     header_length: int
@@ -191,10 +191,11 @@ class Place(NamedTuple):
 
 
 class Box(NamedTuple):
-    """A box of a file, wherever it is. In its path, `[1]` is the second box of its code in the box around it, and no
-    number the first. `length` is what its header says. `children` is the position of the first box in it, or 0, and
-    `depth` how many boxes it is in. `parent` is the code of the box around it, and `handler` that of the media that
-    it is in, or 0. `what` is LEAF, PARENT or TOO_DEEP of a whole box, and CUT, SMALL or NO_HEADER where none is."""
+    """A box of a file, at any level. In its path `[1]` is the second box with its code in the enclosing box, and no
+    number is the first. `length` is the length that its header states. `children` is the position of the first box
+    inside, or 0. `depth` is the number of boxes around it. `parent` is the code of the enclosing box, and `handler` the
+    handler of the enclosing media, or 0. `what` is LEAF, PARENT or TOO_DEEP for a whole box, and else CUT, SMALL or
+    NO_HEADER."""
     path: str
     position: int
     length: int
@@ -209,17 +210,17 @@ class Box(NamedTuple):
 
     @property
     def name(self) -> str:
-        """The four characters of its code, each of the number of its byte."""
+        """The four characters of the code, each with the number of its byte."""
         return _name(self.code)
 
     def of(self, data: Any) -> memoryview:
-        """The bytes of the box, header included, in the bytes of the file: as far as they are there."""
+        """Returns the bytes of the box, including its header, in the bytes of the file: those that the file has."""
         return memoryview(data).cast("B")[self.position:self.position + self.length]
 
 
 class Sample(NamedTuple):
     """A sample of a track, with its offset in the file. Times are in the timescale of the media; `description` and
-    `chunk` count from 1, and `sync` is 1 if it is a sync sample."""
+    `chunk` count from 1, and `sync` is 1 for a sync sample."""
     offset: int
     decode_time: int
     rendering_offset: int
@@ -243,7 +244,7 @@ class CttsRow(NamedTuple):
 
 
 class StscRow(NamedTuple):
-    """A run of chunks with equally many samples. All count from 1; `first_sample` is computed, and not in the bytes."""
+    """A run of chunks with the same number of samples each. All numbers count from 1; `first_sample` is computed."""
     first_chunk: int
     samples_per_chunk: int
     sample_description_index: int
@@ -251,7 +252,7 @@ class StscRow(NamedTuple):
 
 
 class ElstRow(NamedTuple):
-    """An edit. An empty one has the largest `media_time` of its width: 2^64 - 1 in version 1, else 2^32 - 1."""
+    """An edit. An empty edit has the largest `media_time` of its width: 2^64 - 1 in version 1, else 2^32 - 1."""
     segment_duration: int
     media_time: int
     media_rate: int
@@ -259,7 +260,7 @@ class ElstRow(NamedTuple):
 
 
 class TrunRow(NamedTuple):
-    """What a run of a track fragment has for one sample; what it doesn't have is 0."""
+    """The fields that a run of a track fragment has for one sample; the others are 0."""
     duration: int
     size: int
     flags: int
@@ -270,14 +271,14 @@ Rows = Union["array.array[int]", List[SttsRow], List[CttsRow], List[StscRow], Li
 
 
 class Table(NamedTuple):
-    """A table: version and flags of its box, and its rows, an array of numbers or a list."""
+    """A table: the version and flags of its box, and its rows as an array of numbers or a list."""
     version: int
     flags: int
     rows: Any
 
 
 class Sizes(NamedTuple):
-    """The sizes of samples. If `sample_size` is 0 each has a size of its own in `rows`, and else all have this one."""
+    """The sizes of samples. If `sample_size` is 0, `rows` has the size of each sample; else it is the size of all."""
     version: int
     flags: int
     sample_size: int
@@ -286,7 +287,7 @@ class Sizes(NamedTuple):
 
 
 class Run(NamedTuple):
-    """The samples of a run of a track fragment. Its flags say what it has (8.8.8); what it doesn't have is 0."""
+    """The samples of a run of a track fragment. Its flags say which fields it has (8.8.8); the others are 0."""
     version: int
     flags: int
     sample_count: int
@@ -296,7 +297,7 @@ class Run(NamedTuple):
 
 
 def _struct(name: str, **fields: Any) -> Type[ctypes.Structure]:
-    """Defines a struct of the header. Of each field it takes the type of C, or the numbers if it holds fewer."""
+    """Defines a struct of the header. Each field is a type of C, or the numbers that it holds if they are fewer."""
     narrow = {field: it for field, it in fields.items() if isinstance(it, _Numbers)}
     types = [(field, it.kind if isinstance(it, _Numbers) else it) for field, it in fields.items()]
     return type(name, (ctypes.Structure,), {"_fields_": types, "_narrow_": narrow})
@@ -326,7 +327,7 @@ _CTTS = _struct("mp4_ctts_row", sample_count=u32, sample_offset=i32)
 _STSC = _struct("mp4_stsc_row", first_chunk=u32, samples_per_chunk=u32, sample_description_index=u32, first_sample=u32)
 _ELST = _struct("mp4_elst_row", segment_duration=_time, media_time=_time, media_rate=u16, media_rate_fraction=u16)
 _RUN = _struct("mp4_trun_row", duration=u32, size=u32, flags=u32, composition_offset=u32)
-# Numbers that come as an array, by the letter of their type there.
+# Numbers that are returned as an array, by the letter of their type in an array.
 _ARRAYS = {u8: "B", u32: "I", u64: "Q"}
 
 
@@ -340,7 +341,7 @@ class _Buffer(ctypes.Structure):
 
 
 class _Bytes:
-    """The address and the length of what has a buffer, while it is held. The address is never 0."""
+    """The address and the length of a buffer, while it is held. The address is never 0."""
 
     def __init__(self, data: Any) -> None:
         self.data, self.buffer = data, _Buffer()
@@ -396,8 +397,8 @@ def _function(name: str, *types: Any) -> Callable[..., int]:
 
 
 def _filled(name: str, row: Any, summary: Any, *more: Any) -> Callable[..., Tuple[Any, Any]]:
-    """A call that fills an array and a summary: it asks how many rows there are, and then for the rows. `more` are the
-    types of further arguments, which come after the bytes."""
+    """Returns a call that fills an array and a summary. It calls the library twice: for the number of rows, and for the
+    rows. `more` are the types of further arguments, which follow the bytes."""
     function = _function(name, ctypes.c_void_p, size, *more, ctypes.c_void_p, size, ctypes.c_void_p)
 
     def call(data: Any, *given: Any) -> Tuple[Any, Any]:
@@ -416,7 +417,7 @@ def _filled(name: str, row: Any, summary: Any, *more: Any) -> Callable[..., Tupl
 
 
 def _listed(rows: Any, into: Any, row: Any) -> Any:
-    """The rows as an array of numbers, or as a list of named tuples."""
+    """Returns the rows as an array of numbers, or as a list of named tuples."""
     if row in _ARRAYS:
         found = array.array(_ARRAYS[row])
         found.frombytes(bytes(rows))
@@ -426,7 +427,7 @@ def _listed(rows: Any, into: Any, row: Any) -> Any:
 
 
 def _table(name: str, row: Any, into: Any, words: str) -> Callable[[Any], Table]:
-    """A function that reads the table in the box at the front of bytes, header included."""
+    """Returns a function that reads the table at the front of bytes, which begin with the header of its box."""
     fill = _filled(f"mp4_{name}", row, _TABLE)
 
     def read(data: Any) -> Table:
@@ -457,7 +458,7 @@ _status_text = _function("mp4_status_text", u32, ctypes.c_char_p, size, ctypes.P
 
 
 def status_text(status: int) -> str:
-    """What a status means.
+    """Returns the meaning of a status.
 
     >>> status_text(NO_TRACK)
     'no track has the track_ID'
@@ -468,20 +469,20 @@ def status_text(status: int) -> str:
 
 
 def stsz(data: Any) -> Sizes:
-    """The sizes of the samples (8.7.3.2). Of the box at the front of the bytes, header included."""
+    """Returns the sizes of the samples (8.7.3.2) in the stsz at the front of the bytes."""
     rows, it = _stsz(data)
     return Sizes(it.version, it.flags, it.sample_size, it.sample_count, _listed(rows, None, u32))
 
 
 def trun(data: Any) -> Run:
-    """The samples of a run of a track fragment (8.8.8). Of the box at the front of the bytes, header included."""
+    """Returns the samples of a run of a track fragment (8.8.8) in the trun at the front of the bytes."""
     rows, it = _trun(data)
     listed = _listed(rows, TrunRow, _RUN)
     return Run(it.version, it.flags, it.sample_count, it.data_offset, it.first_sample_flags, listed)
 
 
 def _written(function: Callable[..., int], *given: Any) -> bytes:
-    """The bytes that a call writes, once it has told how many they are."""
+    """Returns the bytes that a call writes. It calls the library twice: for their number, and for the bytes."""
     length, out = size(), (u8 * 1)()
     status = function(*given, ctypes.addressof(out), 0, ctypes.addressof(length))
     if status == NO_ROOM:
@@ -492,9 +493,9 @@ def _written(function: Callable[..., int], *given: Any) -> bytes:
     return bytes(out)
 
 
-# Numbers of elements, which the lists of a named tuple have.
+# Fields with numbers of elements, which are those of the lists in a named tuple.
 _COUNTS = ("count", "scheme_id_uri_count", "value_count", "message_data_count", "sequence_count", "picture_count")
-# Parts that a box may lack, and what says that it has them.
+# Parts that a box may lack, and the field that says whether it has them.
 _PARTS = ("url", "esds")
 _COUNTED = (*_COUNTS, "set_bytes", *(f"has_{it}" for it in _PARTS))
 _ENTRIES = ("avc1", "hev1", "vp09", "mp4a", "tx3g")
@@ -511,8 +512,8 @@ def _array_of(kind: Any, given: Any, name: str) -> Any:
 
 
 def _struct_of(struct: Any, value: Any, name: str, **given: Any) -> Any:
-    """Returns a struct of the header with the fields of the named tuple `value`, which messages call `name`. Fields of
-    `given` are taken from there instead. Counts stay 0."""
+    """Returns a struct of the header with the fields of the named tuple `value`, which messages call `name`. Fields in
+    `given` replace those of `value`. Counts stay 0."""
     found, values = struct(), {}
     for field, _ in struct._fields_:
         if field not in _COUNTED:
@@ -536,7 +537,7 @@ def _struct_of(struct: Any, value: Any, name: str, **given: Any) -> Any:
 
 
 def _box(name: str, words: str, **fields: Any) -> Tuple[Any, Callable[[Any], Any], Callable[[Any], bytes]]:
-    """The named tuple of a box of fixed fields, and the functions that read and write it."""
+    """Returns the named tuple of a box of fixed fields, and the functions that read and write the box."""
     struct = _struct(f"mp4_{name}_box", **fields)
     made: Any = collections.namedtuple(name.capitalize(), fields)
     made.__doc__ = f"{words}; fixed-point numbers are raw."
@@ -595,14 +596,14 @@ Tfhd, tfhd, write_tfhd = _box(
 
 
 def _array(kind: Any, numbers: Any) -> Any:
-    """Returns an array of the numbers. It has one place if there are none."""
+    """Returns an array of the numbers. It has one element if there are none."""
     if kind is u8:
         return (u8 * max(len(numbers), 1)).from_buffer_copy(numbers or b"\0")
     return (kind * max(len(numbers), 1))(*numbers)
 
 
 def _rows_of(given: Any, row: Any, into: Any, name: str, version: int) -> List[Any]:
-    """Copies the rows of a table: numbers, or named tuples of the class `into`, or what one can be made of."""
+    """Copies the rows of a table: numbers, named tuples of the class `into`, or values from which one can be made."""
     if isinstance(given, (bytes, bytearray)):
         raise _refused(name, given, "a list of rows")
     rows = _copied(given, name, "a list of rows")
@@ -619,7 +620,7 @@ def _rows_of(given: Any, row: Any, into: Any, name: str, version: int) -> List[A
 
 
 def _writes_table(name: str, row: Any, table: Any, into: Any = None) -> Callable[[Any], bytes]:
-    """A function that writes a table as it is read."""
+    """Returns a function that writes a table in the form in which it is read."""
     function = _function(
         f"mp4_write_{name}", ctypes.c_void_p, ctypes.c_void_p, size, ctypes.c_void_p, size, ctypes.c_void_p)
 
@@ -641,7 +642,8 @@ write_trun = _writes_table("trun", _RUN, _TRUN, TrunRow)
 
 
 def _tuple_of(struct: Any, **given: Any) -> Any:
-    """A struct of the header as a named tuple, without counts, and with these fields in place of others or more."""
+    """Returns a struct of the header as a named tuple, without counts. The given fields replace those of the struct, or
+    are added."""
     kind, fields = type(struct), {}
     for name, _ in kind._fields_:
         if name in given:
@@ -690,7 +692,8 @@ _STSD = _struct("mp4_stsd_box", avc1=_AVC1, hev1=_HEV1, vp09=_VP09, mp4a=_MP4A, 
 
 
 def _parts(name: str, struct: Any, *kinds: Any) -> Callable[[Any, Callable[[Any], Tuple[int, ...]]], Tuple[Any, Any]]:
-    """A call that fills a struct and several arrays: it asks how long they are, by the struct, and then for them."""
+    """Returns a call that fills a struct and several arrays. It calls the library twice: for the struct, which has the
+    lengths of the arrays, and for the arrays."""
     arrays = [it for _ in kinds for it in (ctypes.c_void_p, size)]
     function = _function(f"mp4_{name}", ctypes.c_void_p, size, *arrays, ctypes.c_void_p)
 
@@ -735,7 +738,7 @@ _avcc, _avc1, _stsd = (_parts(*it, size, u8) for it in (("avcc", _AVCC), ("avc1"
 
 
 def ftyp(data: Any) -> Any:
-    """The brands of a file (4.3). Of the box at the front of the bytes, header included.
+    """Returns the brands of a file (4.3) in the ftyp at the front of the bytes.
 
     >>> ftyp(bytes.fromhex("00000014 66747970 69736f6d 00000200 61766331"))
     Ftyp(major_brand=1769172845, minor_version=512, compatible_brands=[1635148593])
@@ -745,19 +748,19 @@ def ftyp(data: Any) -> Any:
 
 
 def hdlr(data: Any) -> Any:
-    """What kind of media a track has, and the name of its handler (8.4.3)."""
+    """Returns the kind of media of a track, and the name of its handler (8.4.3)."""
     rows, it = _hdlr(data)
     return _tuple_of(it, name=bytes(rows).decode())
 
 
 def data(data: Any) -> Any:
-    """The value of a metadata item (QuickTime's metadata), as bytes."""
+    """Returns the value of a metadata item (QuickTime's metadata), as bytes."""
     rows, it = _data(data)
     return _tuple_of(it, value=bytes(rows))
 
 
 def url(data: Any) -> Any:
-    """Where media data is (8.7.2)."""
+    """Returns the location of media data (8.7.2)."""
     rows, it = _url(data)
     return _tuple_of(it, location=bytes(rows).decode())
 
@@ -769,24 +772,24 @@ def _references(fill: Any, data: Any) -> Any:
 
 
 def dref(data: Any) -> Any:
-    """The data references of a track (8.7.2), of which the last url is kept."""
+    """Returns the data references of a track (8.7.2), of which the codec keeps the last url."""
     return _references(_dref, data)
 
 
 def dinf(data: Any) -> Any:
-    """The data references in a dinf (8.7.1)."""
+    """Returns the data references in a dinf (8.7.1)."""
     return _references(_dinf, data)
 
 
 def emsg(data: Any) -> Any:
-    """An event message (ISO/IEC 23009-1, 5.10.3.3)."""
+    """Returns an event message (ISO/IEC 23009-1, 5.10.3.3)."""
     it, texts = _emsg(data, lambda found: (found.scheme_id_uri_count, found.value_count, found.message_data_count))
     scheme, value, message = map(bytes, texts)
     return _tuple_of(it, scheme_id_uri=scheme.decode(), value=value.decode(), message_data=message)
 
 
 def _sets_of(it: Any, lengths: Any, together: Any) -> Any:
-    """The configuration of an AVC decoder, of which the sets were read."""
+    """Returns the configuration of an AVC decoder, with the sets that were read."""
     sets, rest = [], bytes(together)
     for length in lengths:
         sets.append(rest[:length])
@@ -800,13 +803,13 @@ def _lengths_of(it: Any) -> Tuple[int, ...]:
 
 
 def avcc(data: Any) -> Any:
-    """The configuration of an AVC decoder (ISO/IEC 14496-15, 5.3.3.1)."""
+    """Returns the configuration of an AVC decoder (ISO/IEC 14496-15, 5.3.3.1)."""
     it, sets = _avcc(data, _lengths_of)
     return _sets_of(it, *sets)
 
 
 def avc1(data: Any) -> Any:
-    """The sample entry of AVC video (ISO/IEC 14496-15, 5.4.2)."""
+    """Returns the sample entry of AVC video (ISO/IEC 14496-15, 5.4.2)."""
     it, sets = _avc1(data, lambda found: _lengths_of(found.avcc))
     return _tuple_of(it, avcc=_sets_of(it.avcc, *sets))
 
@@ -816,7 +819,7 @@ def _sound_of(it: Any) -> Any:
 
 
 def mp4a(data: Any) -> Any:
-    """The sample entry of MPEG-4 audio (ISO/IEC 14496-14, 5.6)."""
+    """Returns the sample entry of MPEG-4 audio (ISO/IEC 14496-14, 5.6)."""
     return _sound_of(_mp4a(data, lambda _: ())[0])
 
 
@@ -825,7 +828,7 @@ Stsd.__doc__ = "The first sample entry of a track (8.5.2): its fields, named by 
 
 
 def stsd(data: Any) -> Stsd:
-    """The first sample entry of a track (8.5.2), if it is avc1, hev1, vp09, mp4a or tx3g."""
+    """Returns the first sample entry of a track (8.5.2), if it is avc1, hev1, vp09, mp4a or tx3g."""
     it, sets = _stsd(data, lambda found: _lengths_of(found.avc1.avcc))
     name = _name(it.entry)
     entry = None
@@ -839,7 +842,7 @@ def stsd(data: Any) -> Stsd:
 
 
 def _writes(name: str, *kinds: Any) -> Callable[..., bytes]:
-    """A call that writes a struct and arrays. The lists of the arrays are copies that only the module has."""
+    """Returns a call that writes a struct and arrays. The lists of the arrays are copies of the module."""
     arrays = [it for _ in kinds for it in (ctypes.c_void_p, size)]
     function = _function(f"mp4_write_{name}", ctypes.c_void_p, *arrays, ctypes.c_void_p, size, ctypes.c_void_p)
 
@@ -856,18 +859,18 @@ _write_emsg, _write_stsd = _writes("emsg", u8, u8, u8), _writes("stsd", size, u8
 
 
 def write_ftyp(value: Any) -> bytes:
-    """The bytes of an ftyp, header included."""
+    """Returns the bytes of an ftyp, including its header."""
     struct, name = _struct_of(_FTYP, value, "ftyp"), "ftyp.compatible_brands"
     return _write_ftyp(struct, _rows_of(_field(value, "compatible_brands", "ftyp"), u32, None, name, 0))
 
 
 def write_hdlr(value: Any) -> bytes:
-    """The bytes of an hdlr, header included."""
+    """Returns the bytes of an hdlr, including its header."""
     return _write_hdlr(_struct_of(_HDLR, value, "hdlr"), _text(_field(value, "name", "hdlr"), "hdlr.name"))
 
 
 def write_dref(value: Any) -> bytes:
-    """The bytes of a dref, header included."""
+    """Returns the bytes of a dref, including its header."""
     url = _field(value, "url", "dref")
     struct = _struct_of(_DREF, value, "dref", url=url)
     location = b"" if url is None else _text(_field(url, "location", "dref.url"), "dref.url.location")
@@ -875,14 +878,14 @@ def write_dref(value: Any) -> bytes:
 
 
 def write_emsg(value: Any) -> bytes:
-    """The bytes of an emsg, header included."""
+    """Returns the bytes of an emsg, including its header."""
     struct, names = _struct_of(_EMSG, value, "emsg"), ("scheme_id_uri", "value")
     texts = [_text(_field(value, it, "emsg"), f"emsg.{it}", zeros=False) for it in names]
     return _write_emsg(struct, *texts, _bytes(_field(value, "message_data", "emsg"), "emsg.message_data"))
 
 
 def _sets_given(avcc: Any, field: str, most: int) -> List[bytes]:
-    """Copies the parameter sets of an avcC. Refuses more than `most`, and a set whose length has more than 16 bits."""
+    """Copies the parameter sets of an avcC. Refuses more than `most` sets, and a set of 2^16 bytes or more."""
     given, name, wanted = _field(avcc, field, _AVCC_GIVEN), f"{_AVCC_GIVEN}.{field}", f"a list of at most {most} sets"
     copied = _copied(given, name, wanted)
     if len(copied) > most:
@@ -897,7 +900,7 @@ _AVCC_GIVEN = "stsd.entry.avcc"
 
 
 def write_stsd(value: Stsd) -> bytes:
-    """The bytes of an stsd, header included."""
+    """Returns the bytes of an stsd, including its header."""
     entry = _field(value, "entry", "stsd")
     name = type(entry).__name__.lower()
     if entry is not None and name not in _ENTRIES:
@@ -915,8 +918,8 @@ def write_stsd(value: Stsd) -> bytes:
 
 
 def check(data: Any) -> None:
-    """Reads all boxes of the bytes; the error is that of the first fault. Boxes of types that the codec doesn't read
-    are skipped by their size: so a `moov` is not looked into."""
+    """Reads all boxes of the bytes. The error is that of the first fault. It skips boxes of types that the codec
+    doesn't read, so it doesn't look into a `moov`."""
     with _Bytes(data) as (address, length):
         status = _check(address, length)
     if status != OK:
@@ -924,19 +927,19 @@ def check(data: Any) -> None:
 
 
 def normal(data: Any) -> bytes:
-    """The boxes of the bytes in their normal form; boxes of types that the codec doesn't read are as they are."""
+    """Returns the boxes of the bytes in their normal form. Boxes of types that the codec doesn't read don't change."""
     return bytes(_normal(data)[0])
 
 
 def list(data: Any) -> List[Span]:
-    """The boxes at the top level of the bytes, in their order, without reading what is in them."""
+    """Lists the boxes at the top level of the bytes, in their order. It reads only their headers."""
     return _listed(_list(data)[0], Span, _SPAN)
 
 
 def fields(data: Any) -> Dict[str, Any]:
-    """The fields of the box at the front of the bytes, header included, by name, as `mp4inspect --json` shows them.
-    All types are read that the module has a function for, and 32 more, as the header `mp4_box_codec.h` lists them; of
-    another type it is an Mp4Error with the status UNKNOWN_BOX.
+    """Returns the fields of the box at the front of the bytes by their names, like `mp4inspect --json`. It reads all
+    types of boxes for which the module has a function, and those that the header `mp4_box_codec.h` lists. For another
+    type it raises an Mp4Error with the status UNKNOWN_BOX.
 
     >>> fields(bytes.fromhex("00000010 70617370 00000004 00000003"))
     {'hSpacing': 4, 'vSpacing': 3}
@@ -945,7 +948,7 @@ def fields(data: Any) -> Dict[str, Any]:
 
 
 def find(data: Any, path: str) -> Optional[Place]:
-    """Returns the box at `path` over the bytes of a file, such as `moov/trak[1]/mdia/mdhd`, or None if there is none or
+    """Returns the box at `path` in the bytes of a file, such as `moov/trak[1]/mdia/mdhd`, or None if there is none or
     its header isn't whole."""
     place, text = _PLACE(), _text(path, "path")
     with _Bytes(data) as (address, length):
@@ -958,14 +961,16 @@ def find(data: Any, path: str) -> Optional[Place]:
 
 
 def samples(data: Any, track_id: int) -> List[Sample]:
-    """The samples of the first track with a track_ID (8.3.2) over the bytes of a file, by the tables of its `stbl`."""
+    """Returns the samples of the first track with a track_ID (8.3.2) in the bytes of a file, by the tables of its
+    `stbl`."""
     return _listed(_samples(data, _number(track_id, _ALL[u32], "track_id"))[0], Sample, _SAMPLE)
 
 
 def fragment_samples(data: Any, track_id: int) -> List[Sample]:
-    """The samples of all fragments of the first track with a track_ID (8.8) over the bytes of a file, in its order.
-    Their `chunk` is which run of its fragment a sample is in, counted from 1. Without a `tfdt` times go on from the
-    fragment before, and in the first one from where the samples of the track's tables end, by `stts`.
+    """Returns the samples of all fragments of the first track with a track_ID (8.8) in the bytes of a file, in the
+    order of the file. Their `chunk` is the number of the run in its fragment, counted from 1. Without a `tfdt` the
+    times of a fragment continue those of the fragment before it; those of the first fragment begin where the samples
+    of the track's tables end, by `stts`.
 
     >>> fragment_samples(b"", 1)
     Traceback (most recent call last):
@@ -981,7 +986,7 @@ TABLES: Dict[str, Callable[[Any], Any]] = {
 
 
 def _reader(file: Any) -> Tuple[int, Callable[[int, int], bytes]]:
-    """How long a file is, and how so many bytes of it are read at a position."""
+    """Returns the length of a file, and a function that reads a number of bytes at a position."""
     try:
         whole = memoryview(file).cast("B")
     except TypeError:
@@ -994,8 +999,9 @@ def _reader(file: Any) -> Tuple[int, Callable[[int, int], bytes]]:
 
 
 def tree(file: Any) -> List[Box]:
-    """All boxes of a file, each before those in it: of its bytes, or of a binary file that seeks, of which nothing is
-    read but headers and what tells how boxes lie in them. Faults are in the list, as `what` of a box says.
+    """Returns all boxes of a file, each followed by the boxes inside. The file is its bytes, or a binary file that can
+    seek, of which it reads only headers and the bytes that say where the boxes inside begin. A fault is an element
+    whose `what` names it.
 
     >>> movie = bytes.fromhex("00000020 6d6f6f76 00000008 7472616b 00000010 7472616b 00000008 6d646961")
     >>> [(it.path, it.position, it.length) for it in tree(movie)]
@@ -1024,8 +1030,8 @@ def tree(file: Any) -> List[Box]:
 
 
 def boxes(data: Any) -> Iterator[Tuple[str, memoryview]]:
-    """Each box of the bytes of a file with its path and its bytes, as `tree` finds them; an Mp4Error where no whole box
-    is.
+    """Yields each box of the bytes of a file with its path and its bytes, as `tree` finds them. Raises an Mp4Error if
+    there is no whole box.
 
     >>> movie = bytes.fromhex("00000020 6d6f6f76 00000008 7472616b 00000010 7472616b 00000008 6d646961")
     >>> [(path, len(box)) for path, box in boxes(movie)]
@@ -1038,7 +1044,7 @@ def boxes(data: Any) -> Iterator[Tuple[str, memoryview]]:
 
 
 def tables(data: Any) -> Dict[str, Any]:
-    """The tables of a file by their paths.
+    """Returns the tables of a file by their paths.
 
     >>> stbl = bytes.fromhex("00000020 7374626c 00000018 73747473 00000000 00000001 00000003 0000000a")
     >>> tables(stbl)

@@ -1,4 +1,4 @@
-"""Each function of the module once, over bytes that were worked out from docs/LAYOUT.md, the faults, and buffers."""
+"""Calls each function with bytes that were worked out from docs/LAYOUT.md, with faults, and with buffers."""
 
 import array
 import io
@@ -9,7 +9,7 @@ import mp4_box_codec as codec
 
 
 def table_box(name, version, flags, *numbers):
-    """A box of this name with version, flags and a content of numbers of 32 bits."""
+    """Returns a box of this name with version, flags and a content of numbers of 32 bits."""
     head = struct.pack(">I4sI", 12 + 4 * len(numbers), name.encode(), version << 24 | flags)
     return head + struct.pack(f">{len(numbers)}I", *numbers)
 
@@ -161,7 +161,7 @@ class Calls(unittest.TestCase):
             codec.fragment_samples(file, 3)
 
     def test_versions(self):
-        """A library is for the module if its major and minor version are those of the module: here 0.1 and 12.34."""
+        """A library is for the module if both have the same major and minor version: here 0.1 and 12.34."""
         for version in (1000, 1001, 1999):
             self.assertTrue(codec._is_for(version, "0.1.0"), version)
             self.assertTrue(codec._is_for(version, "0.1.7"), version)
@@ -195,7 +195,7 @@ class Calls(unittest.TestCase):
             self.assertEqual(codec.stco(data).rows, array.array("I", [2]))
         data = bytearray(stco)
         codec.list(data)
-        data.append(0)  # it is no longer held
+        data.append(0)  # It is no longer held.
 
     def test_many_rows(self):
         rows = codec.stss(table_box("stss", 0, 0, 1_000_000, *range(1, 1_000_001))).rows

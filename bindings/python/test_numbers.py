@@ -1,7 +1,7 @@
 """Writes each field of each box with the smallest and the largest number that it holds, and with those next to them,
-which have to be refused by name; so each argument of each call. Also what is no number, and lists that change while
-they are read. The fields are typed in from mp4_box_codec.h: `u24` holds 0 to 2^24 - 1, `i16` holds -2^15 to 2^15 - 1,
-and `9 i32` is a list of nine numbers."""
+which have to be refused by name. Does so with each argument of each call, with values that are not numbers, and with
+lists that change while they are read. The fields are copied by hand from mp4_box_codec.h: `u24` holds 0 to 2^24 - 1,
+`i16` holds -2^15 to 2^15 - 1, and `9 i32` is a list of nine numbers."""
 
 import array
 import collections
@@ -75,7 +75,7 @@ ENTRIES = {
 }
 # Fields that don't hold all numbers of some bits: the numbers that are written, and others.
 SPECIAL = {"up": ([0, 2], [-1, 1, 3]), "profile": ([0, 30, 32, 95], [-1, 31, 96])}
-# Values that are no numbers: each number field refuses them.
+# Values that are not numbers: each number field refuses them.
 NO_NUMBERS = (None, True, False, 1.0, "1", b"1", [], [1], 1j, object())
 
 
@@ -85,14 +85,14 @@ class Seven(enum.IntEnum):
 
 
 class Index:
-    """A number that is no int."""
+    """A number that is not an int."""
 
     def __index__(self):
         return 7
 
 
 class Growing(list):
-    """A list that has five elements more each time it is read, and says 2,000 more each time it is asked."""
+    """A list with five more elements each time it is read, and a length that grows by 2,000 each time it is asked."""
     reads = asked = 0
 
     def __len__(self):
@@ -106,7 +106,7 @@ class Growing(list):
 
 
 def fields_of(text):
-    """Yields the fields of a text: the path, how many numbers it has (0 if it is no list), and the kind of each."""
+    """Yields the fields of a text: the path, how many numbers it has (0 if it is not a list), and the kind of each."""
     for it in text.split(", "):
         path, *count, kind = it.split()
         yield path, int(count[0]) if count else 0, kind
@@ -140,7 +140,7 @@ def zeros(name, text, more):
 
 
 def at(value, path):
-    """Returns what is at a path, of which a part may be the index of a list."""
+    """Returns the value at a path, of which a part may be the index of a list."""
     for part in path.split("."):
         value = value[int(part)] if part.isdigit() else getattr(value, part)
     return value
@@ -178,12 +178,12 @@ def both(name):
 
 
 def header(name):
-    """Makes a header, of version 1 if it has times, and with all flags that say what a tfhd has."""
+    """Makes a header, of version 1 if it has times, and with all flags of optional fields in a tfhd."""
     return zeros(name, HEADERS[name], {"tfhd": {"flags": 0x3B}, **dict.fromkeys(TIMED, {"version": 1})}.get(name, {}))
 
 
 def table(name, rows=0):
-    """Makes a table with `rows` rows of zeros and all that says what a row has, or one that needs no rows."""
+    """Makes a table with `rows` rows of zeros and all flags of their fields, or one that needs no rows."""
     of = getattr(codec, f"{name.capitalize()}Row", None)
     one = of(*[0] * len(of._fields)) if of else 0
     more = {"stsz": {"sample_size": 0 if rows else 1, "sample_count": rows}, "elst": {"version": 1},
@@ -236,7 +236,7 @@ class Numbers(unittest.TestCase):
                     self.refused(text, through, replaced(base, path, wrong))
 
     def test_all_are_tried(self):
-        """Each writer has its row above, and each field of it."""
+        """Each writer has its row above, with all of its fields."""
         writers = [it[6:] for it in dir(codec) if it.startswith("write_")]
         self.assertEqual(sorted(writers), sorted([*HEADERS, *TABLES, *OTHERS]))
         for name, text in HEADERS.items():
@@ -289,7 +289,7 @@ class Numbers(unittest.TestCase):
                 self.try_field("elst", both("elst"), table("elst", 2)._replace(version=version), path, "u32")
 
     def test_first_samples(self):
-        """They aren't in the bytes, but in the array that is passed."""
+        """The numbers of first samples aren't in the bytes, but in the array that is passed."""
         given = table("stsc", 2)
         for number in (0, 2 ** 32 - 1):
             self.assertEqual(codec.write_stsc(replaced(given, "rows.1.first_sample", number)), codec.write_stsc(given))
@@ -300,7 +300,7 @@ class Numbers(unittest.TestCase):
         self.assertEqual([it[3] for it in both("stsc")(given._replace(rows=rows)).rows], [1, 9])
 
     def test_languages(self):
-        """Those that are read are written, also where they are a number of QuickTime: 0 is English there."""
+        """Languages that are read can be written, even if they are a number of QuickTime, where 0 is English."""
         media = header("mdhd")
         for language in ("eng", "aaa", "zzz", "und", "```", "\x7f\x7f\x7f", "`ab"):
             self.assertEqual(both("mdhd")(media._replace(language=language)).language, language)
@@ -311,7 +311,7 @@ class Numbers(unittest.TestCase):
                          media._replace(language=language))
 
     def test_whole_numbers(self):
-        """Whatever is an index is a number, as those of other libraries are."""
+        """Any object with `__index__` is a number, such as those of other libraries."""
         for number in (Seven.SEVEN, Index()):
             self.assertEqual(both("mdhd")(header("mdhd")._replace(timescale=number)).timescale, 7)
             self.assertEqual(both("stco")(table("stco")._replace(rows=[1, number])).rows, array.array("I", [1, 7]))

@@ -1,5 +1,5 @@
 //! Finds libmp4_box_codec: in the folder that `MP4_BOX_CODEC_LIB_DIR` names, else where pkg-config says, else in
-//! `~/.local/lib`, `/usr/local/lib` and `/usr/lib`. The static library is taken where it is there.
+//! `~/.local/lib`, `/usr/local/lib` and `/usr/lib`. It prefers the static library.
 
 use std::env;
 use std::ffi::OsString;
@@ -29,7 +29,7 @@ fn words_of(said: &[u8]) -> Vec<Vec<u8>> {
     words
 }
 
-/// The folders that pkg-config names.
+/// Returns the folders that pkg-config names.
 fn configured() -> Vec<PathBuf> {
     let ran = Command::new("pkg-config").args(["--libs-only-L", "mp4_box_codec"]).output();
     let said = ran.map(|it| it.stdout).unwrap_or_default();

@@ -1,4 +1,4 @@
-//! Boxes of strings and references, and sample entries: what is read and written.
+//! Reads and writes boxes of strings and references, and sample entries.
 
 use crate::raw::{Avc1Box, AvccBox, DataBox, DrefBox, EmsgBox, FtypBox, HdlrBox, Mp4aBox, StsdBox, UrlBox};
 use crate::{defaults, filled, library, raw, read_by, result_of, roomy, written, Error, Result, Summary};
@@ -28,57 +28,57 @@ impl Summary for DrefBox {
     }
 }
 
-/// The text of bytes that the library says are UTF-8.
+/// Returns the text of bytes that the library ensures are UTF-8.
 fn text(bytes: Vec<u8>) -> String {
     String::from_utf8(bytes).unwrap_or_default()
 }
 
-/// The brands of a file (4.3). A code is a number, the first character in the highest byte.
+/// The brands of a file (4.3). A code is a number with the first character in the highest byte.
 #[derive(Clone, Debug, Default, PartialEq, Eq)]
 pub struct Ftyp {
     pub major_brand: u32,
-    /// Of the major brand.
+    /// The version of the major brand.
     pub minor_version: u32,
     pub compatible_brands: Vec<u32>,
 }
 
-/// Reads the `ftyp` at the front of the bytes, header included.
+/// Reads the `ftyp` at the front of the bytes, which begin with its header.
 pub fn ftyp(bytes: &[u8]) -> Result<Ftyp> {
     let (compatible_brands, it) = filled(raw::mp4_ftyp, bytes)?;
     Ok(Ftyp { major_brand: it.major_brand, minor_version: it.minor_version, compatible_brands })
 }
 
-/// The bytes of an `ftyp`, header included.
+/// Returns the bytes of an `ftyp`, including its header.
 pub fn write_ftyp(it: &Ftyp) -> Result<Vec<u8>> {
     let (brands, major_brand, minor_version) = (&it.compatible_brands, it.major_brand, it.minor_version);
     let fields = FtypBox { count: 0, major_brand, minor_version };
-    // SAFETY: as of `filled`.
+    // SAFETY: as in `filled`.
     written(|out, length| unsafe {
         raw::mp4_write_ftyp(&fields, brands.as_ptr(), brands.len(), out.as_mut_ptr(), out.len(), length)
     })
 }
 
-/// What kind of media a track has (8.4.3).
+/// The kind of media of a track (8.4.3).
 #[derive(Clone, Debug, Default, PartialEq, Eq)]
 pub struct Hdlr {
     pub version: u8,
     pub flags: u32,
     /// A code: `vide` is 0x76696465, `soun` 0x736f756e.
     pub handler_type: u32,
-    /// For a person to read.
+    /// A name for people to read.
     pub name: String,
 }
 
-/// Reads the `hdlr` at the front of the bytes, header included.
+/// Reads the `hdlr` at the front of the bytes, which begin with its header.
 pub fn hdlr(bytes: &[u8]) -> Result<Hdlr> {
     let (name, it) = filled(raw::mp4_hdlr, bytes)?;
     Ok(Hdlr { version: it.version, flags: it.flags, handler_type: it.handler_type, name: text(name) })
 }
 
-/// The bytes of an `hdlr`, header included.
+/// Returns the bytes of an `hdlr`, including its header.
 pub fn write_hdlr(it: &Hdlr) -> Result<Vec<u8>> {
     let fields = HdlrBox { count: 0, flags: it.flags, handler_type: it.handler_type, version: it.version };
-    // SAFETY: as of `filled`.
+    // SAFETY: as in `filled`.
     written(|out, length| unsafe {
         raw::mp4_write_hdlr(&fields, it.name.as_ptr(), it.name.len(), out.as_mut_ptr(), out.len(), length)
     })
@@ -92,19 +92,19 @@ pub struct Data {
     pub value: Vec<u8>,
 }
 
-/// Reads the `data` at the front of the bytes, header included.
+/// Reads the `data` at the front of the bytes, which begin with its header.
 pub fn data(bytes: &[u8]) -> Result<Data> {
     let (value, it) = filled(raw::mp4_data, bytes)?;
     Ok(Data { data_type: it.data_type, value })
 }
 
-/// Where media data is (8.7.2).
+/// The location of media data (8.7.2).
 #[derive(Clone, Debug, Default, PartialEq, Eq)]
 pub struct Url {
     pub version: u8,
-    /// 1: in the same file.
+    /// 1: the data is in the same file.
     pub flags: u32,
-    /// Empty if there is none.
+    /// The location; empty if there is none.
     pub location: String,
 }
 
@@ -114,13 +114,13 @@ impl Url {
     }
 }
 
-/// Reads the `url ` at the front of the bytes, header included.
+/// Reads the `url ` at the front of the bytes, which begin with its header.
 pub fn url(bytes: &[u8]) -> Result<Url> {
     let (location, it) = filled(raw::mp4_url, bytes)?;
     Ok(Url::of(location, &it))
 }
 
-/// The data references of a track (8.7.2), of which the last `url ` is kept.
+/// The data references of a track (8.7.2), of which the codec keeps the last `url `.
 #[derive(Clone, Debug, Default, PartialEq, Eq)]
 pub struct Dref {
     pub version: u8,
@@ -135,19 +135,19 @@ impl Dref {
     }
 }
 
-/// Reads the `dref` at the front of the bytes, header included.
+/// Reads the `dref` at the front of the bytes, which begin with its header.
 pub fn dref(bytes: &[u8]) -> Result<Dref> {
     let (location, it) = filled(raw::mp4_dref, bytes)?;
     Ok(Dref::of(location, &it))
 }
 
-/// Reads the data references in the `dinf` (8.7.1) at the front of the bytes, header included.
+/// Reads the data references in the `dinf` (8.7.1) at the front of the bytes, which begin with its header.
 pub fn dinf(bytes: &[u8]) -> Result<Dref> {
     let (location, it) = filled(raw::mp4_dinf, bytes)?;
     Ok(Dref::of(location, &it))
 }
 
-/// The bytes of a `dref`, header included.
+/// Returns the bytes of a `dref`, including its header.
 pub fn write_dref(it: &Dref) -> Result<Vec<u8>> {
     let none = Url::default();
     let url = it.url.as_ref().unwrap_or(&none);
@@ -157,7 +157,7 @@ pub fn write_dref(it: &Dref) -> Result<Vec<u8>> {
         version: it.version,
         has_url: u8::from(it.url.is_some()),
     };
-    // SAFETY: as of `filled`.
+    // SAFETY: as in `filled`.
     written(|out, length| unsafe {
         raw::mp4_write_dref(&fields, url.location.as_ptr(), url.location.len(), out.as_mut_ptr(), out.len(), length)
     })
@@ -166,14 +166,14 @@ pub fn write_dref(it: &Dref) -> Result<Vec<u8>> {
 /// An event message (ISO/IEC 23009-1, 5.10.3.3).
 #[derive(Clone, Debug, Default, PartialEq, Eq)]
 pub struct Emsg {
-    /// 0 or 1.
+    /// The version of the box: 0 or 1.
     pub version: u8,
     pub flags: u32,
-    /// Units a second.
+    /// Units per second.
     pub timescale: u32,
-    /// In version 1, from the start of the presentation; else 0.
+    /// In version 1 the time from the start of the presentation; else 0.
     pub presentation_time: u64,
-    /// In version 0, from the start of the segment; else 0.
+    /// In version 0 the time from the start of the segment; else 0.
     pub presentation_time_delta: u32,
     pub event_duration: u32,
     pub id: u32,
@@ -182,12 +182,12 @@ pub struct Emsg {
     pub message_data: Vec<u8>,
 }
 
-/// Reads the `emsg` at the front of the bytes, header included.
+/// Reads the `emsg` at the front of the bytes, which begin with its header.
 pub fn emsg(bytes: &[u8]) -> Result<Emsg> {
     library()?;
     let (mut scheme, mut value, mut message) = (Vec::new(), Vec::new(), Vec::new());
     let mut it = EmsgBox::default();
-    // SAFETY: as of `filled`.
+    // SAFETY: as in `filled`.
     let call = |scheme: &mut Vec<u8>, value: &mut Vec<u8>, message: &mut Vec<u8>, it: &mut EmsgBox| unsafe {
         let (first, second, third) = (scheme.as_mut_ptr(), value.as_mut_ptr(), message.as_mut_ptr());
         let (bytes, length) = (bytes.as_ptr(), bytes.len());
@@ -214,7 +214,7 @@ pub fn emsg(bytes: &[u8]) -> Result<Emsg> {
     result_of(status, found)
 }
 
-/// The bytes of an `emsg`, header included.
+/// Returns the bytes of an `emsg`, including its header.
 pub fn write_emsg(it: &Emsg) -> Result<Vec<u8>> {
     let fields = EmsgBox {
         presentation_time: it.presentation_time,
@@ -227,7 +227,7 @@ pub fn write_emsg(it: &Emsg) -> Result<Vec<u8>> {
         ..EmsgBox::default()
     };
     let (scheme, value, message) = (&it.scheme_id_uri, &it.value, &it.message_data);
-    // SAFETY: as of `filled`.
+    // SAFETY: as in `filled`.
     written(|out, length| unsafe {
         let (first, second, third) = (scheme.as_ptr(), value.as_ptr(), message.as_ptr());
         let (bytes, places) = (out.as_mut_ptr(), out.len());
@@ -249,7 +249,7 @@ pub struct Avcc {
     pub picture_parameter_sets: Vec<Vec<u8>>,
 }
 
-/// The lengths of sets, and their bytes.
+/// Returns the lengths of sets, and their bytes.
 type Sets = (Vec<usize>, Vec<u8>);
 
 impl Avcc {
@@ -300,11 +300,11 @@ impl Avcc {
 
 type Reads<S> = unsafe extern "C" fn(*const u8, usize, *mut usize, usize, *mut u8, usize, *mut S) -> u32;
 
-/// Asks how many sets there are, by the fields, and then for the sets.
+/// Reads a box twice: first its fields, which have the number of its sets, and then the sets.
 fn with_sets<S: Default>(reads: Reads<S>, bytes: &[u8], avcc: fn(&S) -> &AvccBox) -> Result<(Sets, S)> {
     library()?;
     let (mut lengths, mut sets, mut found) = (Vec::new(), Vec::new(), S::default());
-    // SAFETY: as of `filled`.
+    // SAFETY: as in `filled`.
     let call = |lengths: &mut Vec<usize>, sets: &mut Vec<u8>, found: &mut S| unsafe {
         let (first, second) = (lengths.as_mut_ptr(), sets.as_mut_ptr());
         reads(bytes.as_ptr(), bytes.len(), first, lengths.len(), second, sets.len(), found)
@@ -318,7 +318,7 @@ fn with_sets<S: Default>(reads: Reads<S>, bytes: &[u8], avcc: fn(&S) -> &AvccBox
     result_of(status, ((lengths, sets), found))
 }
 
-/// Reads the `avcC` at the front of the bytes, header included.
+/// Reads the `avcC` at the front of the bytes, which begin with its header.
 pub fn avcc(bytes: &[u8]) -> Result<Avcc> {
     let (sets, it) = with_sets(raw::mp4_avcc, bytes, |it| it)?;
     Avcc::of(sets, &it)
@@ -331,7 +331,7 @@ pub struct Avc1 {
     pub avcc: Avcc,
 }
 
-/// Reads the `avc1` at the front of the bytes, header included.
+/// Reads the `avc1` at the front of the bytes, which begin with its header.
 pub fn avc1(bytes: &[u8]) -> Result<Avc1> {
     let (sets, it) = with_sets(raw::mp4_avc1, bytes, |it: &Avc1Box| &it.avcc)?;
     Ok(Avc1 { visual: it.visual, avcc: Avcc::of(sets, &it.avcc)? })
@@ -342,24 +342,24 @@ macro_rules! reads {
     ($($(#[$words:meta])* $name:ident, $raw:ident: $fields:ty;)*) => {
         $($(#[$words])*
         pub fn $name(bytes: &[u8]) -> Result<$fields> {
-            // SAFETY: as of `filled`.
+            // SAFETY: as in `filled`.
             read_by(|found| unsafe { raw::$raw(bytes.as_ptr(), bytes.len(), found) })
         })*
     };
 }
 
 reads! {
-    /// Reads the `hvcC` at the front of the bytes, header included.
+    /// Reads the `hvcC` at the front of the bytes, which begin with its header.
     hvcc, mp4_hvcc: Hvcc;
-    /// Reads the `hev1` at the front of the bytes, header included.
+    /// Reads the `hev1` at the front of the bytes, which begin with its header.
     hev1, mp4_hev1: Hev1;
-    /// Reads the `vpcC` at the front of the bytes, header included.
+    /// Reads the `vpcC` at the front of the bytes, which begin with its header.
     vpcc, mp4_vpcc: Vpcc;
-    /// Reads the `vp09` at the front of the bytes, header included.
+    /// Reads the `vp09` at the front of the bytes, which begin with its header.
     vp09, mp4_vp09: Vp09;
-    /// Reads the `tx3g` at the front of the bytes, header included.
+    /// Reads the `tx3g` at the front of the bytes, which begin with its header.
     tx3g, mp4_tx3g: Tx3g;
-    /// Reads the `esds` at the front of the bytes, header included.
+    /// Reads the `esds` at the front of the bytes, which begin with its header.
     esds, mp4_esds: Esds;
 }
 
@@ -368,9 +368,9 @@ reads! {
 pub struct Mp4a {
     pub data_reference_index: u16,
     pub channelcount: u16,
-    /// Bits of a sample.
+    /// The number of bits of a sample.
     pub samplesize: u16,
-    /// In hertz, times 65536.
+    /// The sampling rate in hertz, times 65536.
     pub samplerate: u32,
     pub esds: Option<Esds>,
 }
@@ -398,14 +398,14 @@ impl Mp4a {
     }
 }
 
-/// Reads the `mp4a` at the front of the bytes, header included.
+/// Reads the `mp4a` at the front of the bytes, which begin with its header.
 pub fn mp4a(bytes: &[u8]) -> Result<Mp4a> {
-    // SAFETY: as of `filled`.
+    // SAFETY: as in `filled`.
     let found = read_by(|found| unsafe { raw::mp4_mp4a(bytes.as_ptr(), bytes.len(), found) });
     found.map(|it| Mp4a::of(&it))
 }
 
-/// A sample entry of one of the types that are read.
+/// A sample entry of one of the types that the codec reads.
 #[derive(Clone, Debug, PartialEq, Eq)]
 pub enum Entry {
     Avc1(Avc1),
@@ -429,7 +429,7 @@ const VP09: u32 = 0x7670_3039;
 const MP4A: u32 = 0x6d70_3461;
 const TX3G: u32 = 0x7478_3367;
 
-/// Reads the `stsd` at the front of the bytes, header included.
+/// Reads the `stsd` at the front of the bytes, which begin with its header.
 pub fn stsd(bytes: &[u8]) -> Result<Stsd> {
     let (sets, it) = with_sets(raw::mp4_stsd, bytes, |it: &StsdBox| &it.avc1.avcc)?;
     let entry = match it.entry {
@@ -444,7 +444,7 @@ pub fn stsd(bytes: &[u8]) -> Result<Stsd> {
     Ok(Stsd { version: it.version, flags: it.flags, entry })
 }
 
-/// The bytes of an `stsd`, header included.
+/// Returns the bytes of an `stsd`, including its header.
 pub fn write_stsd(it: &Stsd) -> Result<Vec<u8>> {
     let mut fields = StsdBox { version: it.version, flags: it.flags, ..StsdBox::default() };
     let mut sets = Sets::default();
@@ -460,7 +460,7 @@ pub fn write_stsd(it: &Stsd) -> Result<Vec<u8>> {
         None => {}
     }
     let (lengths, bytes) = sets;
-    // SAFETY: as of `filled`.
+    // SAFETY: as in `filled`.
     written(|out, length| unsafe {
         let (first, second) = (lengths.as_ptr(), bytes.as_ptr());
         let (to, places) = (out.as_mut_ptr(), out.len());

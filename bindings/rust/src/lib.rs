@@ -1,7 +1,7 @@
-//! The boxes of MP4 files (ISO/IEC 14496-12), by safe calls of libmp4_box_codec: slices in, `Vec`s and structs out.
+//! Reads and writes the boxes of MP4 files (ISO/IEC 14496-12) by safe calls of libmp4_box_codec, for Rust programs.
 //!
-//! What each call returns for each bytes is proved of the library; of this crate, which passes pointers, nothing is.
-//! The page `docs/RUST.md` has examples.
+//! Functions take slices, and return `Vec`s and structs. The results of the library are proved for all bytes; nothing
+//! is proved about this crate, which passes pointers. The page `docs/RUST.md` has examples.
 
 use std::collections::TryReserveError;
 use std::error;
@@ -18,25 +18,25 @@ pub use entries::*;
 pub use rows::{CttsRow, ElstRow, Place, Sample, Span, StscRow, SttsRow, TrunRow};
 pub use tree::{tree, tree_of, TreeBox, What};
 
-/// Why a call has no value.
+/// The reason why a call has no value.
 #[derive(Clone, Copy, Debug, PartialEq, Eq, Hash)]
 #[non_exhaustive]
 pub enum Error {
-    /// The bytes end before all that a box needs.
+    /// The bytes end before everything that a box needs.
     EndOfInput,
     /// A check of the layout failed: a size is too small, a count doesn't fit its box, or a box is of another type.
     InvalidData,
     /// A box lacks a child, or a file lacks a box.
     BoxNotFound,
-    /// There is no memory.
+    /// Memory was refused.
     OutOfMemory,
     /// No track has the track_ID.
     NoTrack,
     /// Boxes of this type are not read.
     UnknownBox,
-    /// The library is of this version, a number such as `version` returns, and this crate needs another one.
+    /// The library has this version, a number such as `version` returns, and this crate needs another one.
     OtherVersion(u32),
-    /// The tables of a track disagree; `raw` and the header have the number of each way.
+    /// The tables of a track, or the boxes of a fragment, disagree. The header explains each of these statuses.
     TablesDisagree(u32),
     /// Another status of the library.
     Other(u32),
@@ -95,7 +95,7 @@ fn result_of<T>(status: u32, value: T) -> Result<T> {
     }
 }
 
-/// Returns the number that a text of digits says.
+/// Returns the number of a text of digits.
 const fn number(text: &str) -> u32 {
     let (digits, mut at, mut found) = (text.as_bytes(), 0, 0);
     while at < digits.len() {
@@ -114,7 +114,7 @@ fn is_for(version: u32, major: u32, minor: u32) -> bool {
     version / 1_000_000 == major && version / 1000 % 1000 == minor
 }
 
-/// Refuses a library of another version. All functions but `version` ask this before they call the library.
+/// Refuses a library of another version. All functions except `version` call this before they call the library.
 fn library() -> Result<()> {
     let found = version();
     if is_for(found, MAJOR, MINOR) {
@@ -131,7 +131,7 @@ fn read_by<S: Default>(call: impl FnOnce(&mut S) -> u32) -> Result<S> {
     result_of(call(&mut found), found)
 }
 
-/// Returns an empty vector with room for `count` values.
+/// Returns an empty vector with a capacity of `count` values.
 fn roomy<R>(count: usize) -> Result<Vec<R>> {
     let mut rows = Vec::new();
     rows.try_reserve_exact(count)?;
@@ -145,7 +145,7 @@ fn defaults<R: Clone + Default>(count: usize) -> Result<Vec<R>> {
     Ok(rows)
 }
 
-/// A summary that a function fills: the number of rows, and perhaps more.
+/// A summary that a function fills: the number of rows, and possibly other fields.
 trait Summary: Default {
     fn count(&self) -> usize;
 }
@@ -176,16 +176,16 @@ impl Summary for raw::TrunTable {
 
 type Fills<R, S> = unsafe extern "C" fn(*const u8, usize, *mut R, usize, *mut S) -> u32;
 
-/// Asks how many rows there are, and then for the rows.
+/// Calls a function twice: first for the number of rows, and then for the rows.
 fn filled<R: Clone + Default, S: Summary>(fill: Fills<R, S>, bytes: &[u8]) -> Result<(Vec<R>, S)> {
-    // SAFETY: pointers of slices and vectors are aligned, never null and of so many bytes and values as are said; all
-    // of these have values, and none overlap, since what is written is borrowed mutably.
+    // SAFETY: pointers of slices and vectors are aligned and never null, and have the bytes and values that are passed
+    // as lengths. All of these have values. None overlap, since the memory to write is borrowed mutably.
     filled_by(|rows: &mut Vec<R>, found: &mut S| unsafe {
         fill(bytes.as_ptr(), bytes.len(), rows.as_mut_ptr(), rows.len(), found)
     })
 }
 
-/// Asks by a call how many rows there are, and then for the rows.
+/// Uses a call twice: first for the number of rows, and then for the rows.
 fn filled_by<R: Clone + Default, S: Summary>(call: impl Fn(&mut Vec<R>, &mut S) -> u32) -> Result<(Vec<R>, S)> {
     library()?;
     let (mut rows, mut found) = (Vec::new(), S::default());
@@ -197,31 +197,31 @@ fn filled_by<R: Clone + Default, S: Summary>(call: impl Fn(&mut Vec<R>, &mut S) 
     result_of(status, (rows, found))
 }
 
-/// The bytes that a call writes into a vector, once it has told how many they are.
+/// Returns the bytes that a call writes to a vector. The first call returns their number.
 fn written(call: impl Fn(&mut Vec<u8>, &mut usize) -> u32) -> Result<Vec<u8>> {
     Ok(filled_by(call)?.0)
 }
 
-/// Reads all boxes from the front of the bytes to their end; the error is that of the first fault. Boxes of types that
-/// the codec doesn't read are skipped by their size: so a `moov` is not looked into.
+/// Reads all boxes from the front of the bytes to their end. The error is that of the first fault. It skips boxes of
+/// types that the codec doesn't read, so it doesn't look into a `moov`.
 pub fn check(bytes: &[u8]) -> Result<()> {
-    // SAFETY: the slice has so many bytes, all with values.
+    // SAFETY: the slice has `bytes.len()` bytes, all with values.
     read_by(|_: &mut ()| unsafe { raw::mp4_check(bytes.as_ptr(), bytes.len()) })
 }
 
-/// Lists the boxes at the top level of the bytes, in their order, without reading what is in them.
+/// Lists the boxes at the top level of the bytes, in their order. It reads only their headers.
 pub fn list(bytes: &[u8]) -> Result<Vec<Span>> {
     Ok(filled(raw::mp4_list, bytes)?.0)
 }
 
-/// The boxes of the bytes in their normal form; boxes of types that the codec doesn't read are as they are.
+/// Returns the boxes of the bytes in their normal form. Boxes of types that the codec doesn't read stay as they are.
 pub fn normal(bytes: &[u8]) -> Result<Vec<u8>> {
     Ok(filled(raw::mp4_normal, bytes)?.0)
 }
 
-/// The fields of the box at the front of the bytes, header included, as the text of a JSON object (RFC 8259), as
-/// `mp4inspect --json` shows them. All types are read that this crate has a function for, and 32 more, as the header
-/// `mp4_box_codec.h` lists them; `Error::UnknownBox` of another one.
+/// Returns the fields of the box at the front of the bytes, which begin with its header, as the text of a JSON object
+/// (RFC 8259), like `mp4inspect --json`. It reads all types of boxes for which this crate has a function, and those
+/// that the header `mp4_box_codec.h` lists. `Error::UnknownBox` for another type.
 ///
 /// ```
 /// let frma = b"\0\0\0\x0Cfrmaavc1";
@@ -233,11 +233,11 @@ pub fn fields(bytes: &[u8]) -> Result<String> {
     Ok(String::from_utf8(text).unwrap_or_default())
 }
 
-/// The box at a path over the bytes of a file, as `moov/trak[1]/mdia/mdhd`: `[1]` is the second box of its code in the
-/// box around it, and no number the first. None if there is none or its header isn't whole; invalid data if the text is
-/// no path.
+/// Returns the box at a path in the bytes of a file, such as `moov/trak[1]/mdia/mdhd`. `[1]` is the second box with its
+/// code in the enclosing box; no number is the first. None if there is no such box or its header isn't whole. Invalid
+/// data if the text is not a path.
 pub fn find(bytes: &[u8], path: &str) -> Result<Option<Place>> {
-    // SAFETY: as of `filled`.
+    // SAFETY: as in `filled`.
     let found =
         read_by(|place| unsafe { raw::mp4_find(bytes.as_ptr(), bytes.len(), path.as_ptr(), path.len(), place) });
     match found {
@@ -246,18 +246,19 @@ pub fn find(bytes: &[u8], path: &str) -> Result<Option<Place>> {
     }
 }
 
-/// The samples of the first track with a track_ID (8.3.2) over the bytes of a file, by the tables of its `stbl`.
+/// Returns the samples of the first track with a track_ID (8.3.2) in the bytes of a file, by the tables of its `stbl`.
 pub fn samples(bytes: &[u8], track_id: u32) -> Result<Vec<Sample>> {
-    // SAFETY: as of `filled`.
+    // SAFETY: as in `filled`.
     let found = filled_by(|rows: &mut Vec<Sample>, count: &mut usize| unsafe {
         raw::mp4_samples(bytes.as_ptr(), bytes.len(), track_id, rows.as_mut_ptr(), rows.len(), count)
     });
     Ok(found?.0)
 }
 
-/// The samples of all fragments of the first track with a track_ID (8.8) over the bytes of a file, in its order. Their
-/// `chunk` is which run of its fragment a sample is in, counted from 1. Without a `tfdt` times go on from the fragment
-/// before, and in the first one from where the samples of the track's tables end, by `stts`.
+/// Returns the samples of all fragments of the first track with a track_ID (8.8) in the bytes of a file, in the order
+/// of the file. Their `chunk` is the number of the run in its fragment, counted from 1. Without a `tfdt` the times of a
+/// fragment continue those of the fragment before it; those of the first fragment begin where the samples of the
+/// track's tables end, by `stts`.
 ///
 /// ```no_run
 /// let file = std::fs::read("fragments.mp4").unwrap();
@@ -266,29 +267,29 @@ pub fn samples(bytes: &[u8], track_id: u32) -> Result<Vec<Sample>> {
 /// }
 /// ```
 pub fn fragment_samples(bytes: &[u8], track_id: u32) -> Result<Vec<Sample>> {
-    // SAFETY: as of `filled`.
+    // SAFETY: as in `filled`.
     let found = filled_by(|rows: &mut Vec<Sample>, count: &mut usize| unsafe {
         raw::mp4_fragment_samples(bytes.as_ptr(), bytes.len(), track_id, rows.as_mut_ptr(), rows.len(), count)
     });
     Ok(found?.0)
 }
 
-/// The version of the library: 1000000 for each major version, 1000 for each minor one, and 1 for each patch.
+/// Returns the version of the library: 1000000 for each major version, 1000 for each minor version, 1 for each patch.
 pub fn version() -> u32 {
     // SAFETY: it takes nothing.
     unsafe { raw::mp4_version() }
 }
 
-/// What a status of the library means.
+/// Returns the meaning of a status of the library.
 pub fn status_text(status: u32) -> String {
-    // SAFETY: as of `filled`.
+    // SAFETY: as in `filled`.
     let found = filled_by(|rows: &mut Vec<u8>, count: &mut usize| unsafe {
         raw::mp4_status_text(status, rows.as_mut_ptr(), rows.len(), count)
     });
     found.map(|it| String::from_utf8(it.0).unwrap_or_default()).unwrap_or_else(|why| why.to_string())
 }
 
-/// What a table has.
+/// A table: its version, flags and entries.
 #[derive(Clone, Debug, PartialEq, Eq)]
 pub struct Table<R> {
     /// The box's version.
@@ -299,7 +300,7 @@ pub struct Table<R> {
     pub rows: Vec<R>,
 }
 
-/// Defines functions that read a table of the box at the front of bytes, header included.
+/// Defines functions that read the table at the front of bytes, which begin with the header of its box.
 macro_rules! tables {
     ($($(#[$words:meta])* $name:ident, $raw:ident: $row:ty;)*) => {
         $($(#[$words])*
@@ -311,19 +312,19 @@ macro_rules! tables {
 }
 
 tables! {
-    /// The offsets of the chunks (8.7.5), in bytes from the front of the file.
+    /// Reads the offsets of the chunks (8.7.5), in bytes from the front of the file.
     stco, mp4_stco: u32;
-    /// The same in 64 bits (8.7.5).
+    /// Reads the offsets of the chunks in 64 bits (8.7.5), in bytes from the front of the file.
     co64, mp4_co64: u64;
-    /// The numbers of the sync samples (8.6.2), counted from 1.
+    /// Reads the numbers of the sync samples (8.6.2), counted from 1.
     stss, mp4_stss: u32;
-    /// The durations of the samples (8.6.1.2).
+    /// Reads the durations of the samples (8.6.1.2).
     stts, mp4_stts: SttsRow;
-    /// The composition offsets of the samples (8.6.1.3).
+    /// Reads the composition offsets of the samples (8.6.1.3).
     ctts, mp4_ctts: CttsRow;
-    /// The chunks of the samples (8.7.4).
+    /// Reads the chunks of the samples (8.7.4).
     stsc, mp4_stsc: StscRow;
-    /// The edits of a track (8.6.6).
+    /// Reads the edits of a track (8.6.6).
     elst, mp4_elst: ElstRow;
 }
 
@@ -334,15 +335,15 @@ pub struct Sizes {
     pub version: u8,
     /// The 24 bits of the box's flags.
     pub flags: u32,
-    /// The size of each sample in bytes; 0 if each has a size of its own, which is its row.
+    /// The size of every sample in bytes; 0 if the rows have the sizes.
     pub sample_size: u32,
     /// The number of samples.
     pub sample_count: u32,
-    /// The sizes in bytes; none if all samples have one size.
+    /// The sizes in bytes; empty if all samples have the same size.
     pub rows: Vec<u32>,
 }
 
-/// The sizes of the samples (8.7.3.2) of the `stsz` at the front of the bytes.
+/// Reads the sizes of the samples (8.7.3.2) of the `stsz` at the front of the bytes.
 pub fn stsz(bytes: &[u8]) -> Result<Sizes> {
     let (rows, it) = filled(raw::mp4_stsz, bytes)?;
     let (sample_size, sample_count) = (it.sample_size, it.sample_count);
@@ -354,20 +355,20 @@ pub fn stsz(bytes: &[u8]) -> Result<Sizes> {
 pub struct Run {
     /// The box's version.
     pub version: u8,
-    /// The 24 bits of the box's flags: 0x1 if there is a data offset, 0x4 if there are flags of the first sample; 0x100
-    /// if each row has a duration, 0x200 a size, 0x400 flags, 0x800 a composition offset.
+    /// The 24 bits of the box's flags: 0x1 if the run has a data offset, 0x4 if it has flags of the first sample. Each
+    /// row has a duration with 0x100, a size with 0x200, flags with 0x400, and a composition offset with 0x800.
     pub flags: u32,
     /// The number of samples.
     pub sample_count: u32,
-    /// In bytes from the base data offset of the fragment; 0 if it isn't present.
+    /// The data offset, in bytes from the base data offset of the fragment; 0 if it isn't present.
     pub data_offset: i32,
     /// The flags of the first sample; 0 if they aren't present.
     pub first_sample_flags: u32,
-    /// What there is for each sample; none if there is nothing for a sample.
+    /// The fields of each sample; empty if the run has no fields for each sample.
     pub rows: Vec<TrunRow>,
 }
 
-/// The samples of the `trun` (8.8.8) at the front of the bytes.
+/// Reads the samples of the `trun` (8.8.8) at the front of the bytes.
 pub fn trun(bytes: &[u8]) -> Result<Run> {
     let (rows, it) = filled(raw::mp4_trun, bytes)?;
     let (sample_count, data_offset, first_sample_flags) = (it.sample_count, it.data_offset, it.first_sample_flags);
@@ -383,7 +384,8 @@ struct Page;
 mod tests {
     use super::{is_for, number, version, MAJOR, MINOR};
 
-    /// A library is for the crate if its major and minor version are those of the crate: here 0.1 and 12.34.
+    /// Checks that a library is for the crate if its major and minor version are those of the crate: here 0.1 and
+    /// 12.34.
     #[test]
     fn versions() {
         for found in [1000, 1001, 1999] {

@@ -1,4 +1,4 @@
-//! The functions of `mp4_box_codec.h`, which says what a caller ensures, and the structs that they fill.
+//! Declares the functions of `mp4_box_codec.h` and their structs. The header says what a caller ensures.
 
 use crate::{CttsRow, ElstRow, Place, Sample, Span, StscRow, SttsRow, TrunRow};
 use crate::{Mdhd, Mehd, Mfhd, Mvhd, Smhd, Tfdt, Tfhd, Tkhd, Trex, Vmhd};
@@ -244,34 +244,34 @@ structs! {
         avc_level_indication: u8,
         length_size_minus_one: u8,
     }
-    /// The fields of a visual sample entry (12.1.3). Resolutions are in pixels an inch.
+    /// The fields of a visual sample entry (12.1.3). Resolutions are in pixels per inch.
     Visual {
-        /// Times 65536: usually 0x480000.
+        /// The resolution times 65536: usually 0x480000.
         horizresolution: u32,
         vertresolution: u32,
         data_reference_index: u16,
         /// In pixels.
         width: u16,
         height: u16,
-        /// Of a sample, usually 1.
+        /// The number of frames of a sample, usually 1.
         frame_count: u16,
-        /// Bits of a pixel, usually 24.
+        /// The number of bits of a pixel, usually 24.
         depth: u16,
     }
     /// `struct mp4_avc1_box`
     Avc1Box { avcc: AvccBox, visual: Visual, }
-    /// The configuration of an HEVC decoder (ISO/IEC 14496-15, 8.3.3.1), of which no more is read and written.
+    /// The configuration of an HEVC decoder (ISO/IEC 14496-15, 8.3.3.1). The codec reads and writes only this field.
     Hvcc { configuration_version: u8, }
     /// The sample entry of HEVC video (ISO/IEC 14496-15, 8.4.1).
     Hev1 { visual: Visual, hvcc: Hvcc, }
     /// The configuration of a VP9 decoder (VP Codec ISO Media File Format Binding).
     Vpcc {
         flags: u32,
-        /// 0 for VP9; such bytes are neither read nor written.
+        /// 0 for VP9; the codec neither reads nor writes such bytes.
         codec_initialization_data_size: u16,
         version: u8,
         profile: u8,
-        /// Times 10.
+        /// The level times 10.
         level: u8,
         /// Below 16.
         bit_depth: u8,
@@ -283,7 +283,7 @@ structs! {
         transfer_characteristics: u8,
         matrix_coefficients: u8,
     }
-    /// The sample entry of VP9 video (VP Codec ISO Media File Format Binding). Reserved bytes are kept as they are.
+    /// The sample entry of VP9 video (VP Codec ISO Media File Format Binding). The codec keeps reserved bytes.
     Vp09 {
         vpcc: Vpcc,
         flags: u32,
@@ -292,7 +292,7 @@ structs! {
         /// In pixels.
         width: u16,
         height: u16,
-        /// The whole part, and the fraction of 65536.
+        /// The whole part, and the fraction in units of 1/65536.
         horizresolution: [u16; 2],
         vertresolution: [u16; 2],
         frame_count: u16,
@@ -315,7 +315,7 @@ structs! {
         horizontal_justification: i8,
         /// 0: top, 1: centre, -1: bottom.
         vertical_justification: i8,
-        /// Red, green, blue, and how opaque it is.
+        /// Red, green, blue and opacity.
         bg_color_rgba: [u8; 4],
         style_record: [u8; 12],
     }
@@ -324,7 +324,7 @@ structs! {
         flags: u32,
         /// In bytes, below 2^24.
         buffer_size_db: u32,
-        /// In bits a second.
+        /// In bits per second.
         max_bitrate: u32,
         avg_bitrate: u32,
         /// In hertz, below 2^24, if `freq_index` is 15; else 0, and not written.
@@ -333,11 +333,11 @@ structs! {
         version: u8,
         /// 0x40: MPEG-4 audio.
         object_type_indication: u8,
-        /// Below 64; 5: sound.
+        /// Below 64; 5: audio.
         stream_type: u8,
         /// 0 or 2.
         up_stream: u8,
-        /// The audio object type: 0 to 95, but not 31.
+        /// The audio object type: 0 to 95, except 31.
         profile: u8,
         /// Below 16.
         freq_index: u8,

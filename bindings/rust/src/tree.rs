@@ -1,22 +1,22 @@
-//! The boxes of a file, wherever they are.
+//! Lists all boxes of a file, at every level.
 
 use std::io::{self, Read, Seek, SeekFrom};
 
 use crate::rows::bytes_at;
 use crate::{defaults, raw, read_by, Error, Result};
 
-/// What is where a box should begin.
+/// The state of a box, or of the place where one should begin.
 #[derive(Clone, Copy, Debug, PartialEq, Eq, Hash)]
 pub enum What {
-    /// A whole box that holds no boxes that are known.
+    /// A whole box; the walk knows no boxes inside.
     Leaf,
-    /// A whole box that holds boxes: they come next.
+    /// A whole box that holds boxes: these are next in the list.
     Parent,
-    /// A whole box that holds boxes, inside of 32 others: they don't come.
+    /// A whole box that holds boxes, inside 32 others: the list doesn't have them.
     TooDeep,
-    /// A box that ends after what is around it; if it holds boxes, those that are there come next.
+    /// A box that ends after what is around it. If it holds boxes, those that are present are next in the list.
     Cut,
-    /// A size that is smaller than its header.
+    /// A size that is smaller than the header.
     Small,
     /// Fewer bytes than a header has.
     NoHeader,
@@ -25,35 +25,35 @@ pub enum What {
 /// A box of a file. Positions and lengths are in bytes.
 #[derive(Clone, Copy, Debug, PartialEq, Eq)]
 pub struct TreeBox {
-    /// Where its header begins in the file.
+    /// The position in the file at which the header begins.
     pub position: u64,
-    /// With its header, as the header says it; where no box can be read, what is left there.
+    /// The length, including the header, as the header states it; if there is no box, what is left of the content.
     pub length: u64,
-    /// 8 or 16; where no box can be read, what is left there.
+    /// 8 or 16; if there is no box, what is left of the content.
     pub header_length: u64,
-    /// Where the first box in it begins, if there may be boxes in it.
+    /// The position of the first box inside, if the walk enters this box.
     pub children: Option<u64>,
-    /// How many boxes it is inside of.
+    /// The number of boxes around it.
     pub depth: u64,
-    /// The four characters of its code, the first in the highest byte; 0 where the file ends before them.
+    /// The four characters of the code, the first in the highest byte; 0 if the file ends before them.
     pub code: u32,
-    /// The code of the box around it; 0 at the top level.
+    /// The code of the enclosing box; 0 at the top level.
     pub parent: u32,
-    /// The handler of the media that it is in, as an `hdlr` before it says, else 0.
+    /// The handler of the enclosing media, as an earlier `hdlr` says; else 0.
     pub handler: u32,
-    /// What is there.
+    /// The state of the box.
     pub what: What,
-    /// Whether an `ftyp` before it has the major brand `qt  `.
+    /// True if an earlier `ftyp` has the major brand `qt  `.
     pub is_quicktime: bool,
 }
 
 impl TreeBox {
-    /// The four characters of its code.
+    /// Returns the four characters of the code.
     pub fn name(&self) -> [u8; 4] {
         self.code.to_be_bytes()
     }
 
-    /// The bytes of the box, header included, in the bytes of the file. None in bytes that are too short for it.
+    /// Returns the bytes of the box, including its header, in the bytes of the file. None if they are too short.
     pub fn of<'a>(&self, file: &'a [u8]) -> Option<&'a [u8]> {
         bytes_at(file, self.position, self.length)
     }
@@ -83,7 +83,8 @@ impl From<raw::Box> for TreeBox {
     }
 }
 
-/// All boxes of the bytes of a file, each before those in it. Faults are among them, as `what` of a box says.
+/// Returns all boxes of the bytes of a file, each followed by the boxes inside. A fault is an element whose `what`
+/// names it.
 pub fn tree(file: &[u8]) -> Result<Vec<TreeBox>> {
     let mut walk = Walk::over(file.len() as u64)?;
     let mut boxes = Vec::new();
@@ -96,7 +97,8 @@ pub fn tree(file: &[u8]) -> Result<Vec<TreeBox>> {
     Ok(boxes)
 }
 
-/// All boxes of a file, each before those in it: nothing is read but headers and what tells how boxes lie in them.
+/// Returns all boxes of a file, each followed by the boxes inside. It reads only headers, and the bytes that say where
+/// the boxes inside begin.
 pub fn tree_of<F: Read + Seek>(file: &mut F) -> io::Result<Vec<TreeBox>> {
     let mut walk = Walk::over(file.seek(SeekFrom::End(0))?).map_err(failure)?;
     let mut boxes = Vec::new();
@@ -111,7 +113,7 @@ pub fn tree_of<F: Read + Seek>(file: &mut F) -> io::Result<Vec<TreeBox>> {
     Ok(boxes)
 }
 
-/// Returns an error as one of reading. It takes no memory where there is none.
+/// Converts an error to one of reading. It takes no memory if there is none.
 fn failure(why: Error) -> io::Error {
     match why {
         Error::OutOfMemory => io::ErrorKind::OutOfMemory.into(),
@@ -119,17 +121,17 @@ fn failure(why: Error) -> io::Error {
     }
 }
 
-/// A walk, which wants so many bytes at a position of the file.
+/// A walk, which wants `wanted` bytes at a position of the file.
 struct Walk(raw::Walk);
 
 impl Walk {
     fn over(length: u64) -> Result<Walk> {
-        // SAFETY: the walk is there, and is written whole.
+        // SAFETY: the memory of the walk is valid, and the call writes all of it.
         read_by(|walk| unsafe { raw::mp4_walk_begin(length, walk) }).map(Walk)
     }
 
     fn next(&mut self, bytes: &[u8]) -> Result<TreeBox> {
-        // SAFETY: the slice has so many bytes; the walk is as the library left it, since nothing else changes it.
+        // SAFETY: the slice has `bytes.len()` bytes. The walk is as the library left it, since nothing else changes it.
         let found = read_by(|found| unsafe { raw::mp4_walk_next(bytes.as_ptr(), bytes.len(), &mut self.0, found) });
         found.map(TreeBox::from)
     }

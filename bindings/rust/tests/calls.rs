@@ -1,8 +1,8 @@
-//! Each function once, over bytes that were worked out from docs/LAYOUT.md, and the faults.
+//! Calls each function once, with bytes that were worked out from docs/LAYOUT.md, and with faults.
 
 use mp4_box_codec::*;
 
-/// A box of this name with version, flags and a content of numbers of 32 bits.
+/// Returns a box of this name with version, flags and a content of numbers of 32 bits.
 fn table_box(name: &str, version: u8, flags: u32, numbers: &[u32]) -> Vec<u8> {
     let mut bytes = (12 + 4 * numbers.len() as u32).to_be_bytes().to_vec();
     bytes.extend(name.as_bytes());
@@ -115,7 +115,7 @@ fn fields_of_boxes() {
     assert_eq!(Error::UnknownBox.to_string(), "boxes of this type are not read");
 }
 
-/// A box of this name that has these boxes.
+/// Returns a box of this name that contains these boxes.
 fn nested(name: &str, parts: &[Vec<u8>]) -> Vec<u8> {
     let mut bytes = (8 + parts.iter().map(Vec::len).sum::<usize>() as u32).to_be_bytes().to_vec();
     bytes.extend(name.as_bytes());
@@ -123,7 +123,7 @@ fn nested(name: &str, parts: &[Vec<u8>]) -> Vec<u8> {
     bytes
 }
 
-/// A movie with a track of track_ID 7, which has three samples in two chunks.
+/// Returns a movie with a track of track_ID 7, which has three samples in two chunks.
 fn movie() -> Vec<u8> {
     let stbl = [
         table_box("stsz", 0, 0, &[0, 3, 3, 4, 5]),
@@ -155,7 +155,7 @@ fn finding() {
     assert_eq!(find(&file, "moov/trak["), Err(Error::InvalidData));
 }
 
-/// A track header of this track_ID.
+/// Returns a track header of this track_ID.
 fn header(track: u8) -> Vec<u8> {
     let mut tkhd = vec![0; 84];
     tkhd[15] = track;
@@ -208,7 +208,7 @@ fn many_rows() {
     assert_eq!(stss(&table_box("stss", 0, 0, &numbers)).unwrap().rows, numbers[1..]);
 }
 
-/// A box of this name with these bytes after its header.
+/// Returns a box of this name with these bytes after its header.
 fn boxed(name: &str, content: &[u8]) -> Vec<u8> {
     [&(8 + content.len() as u32).to_be_bytes()[..], name.as_bytes(), content].concat()
 }

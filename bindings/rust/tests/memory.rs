@@ -21,7 +21,7 @@ fn granted() -> bool {
     })
 }
 
-// SAFETY: memory is that of `System`, or none.
+// SAFETY: the memory is that of `System`, or a request is refused.
 unsafe impl GlobalAlloc for Counting {
     unsafe fn alloc(&self, layout: Layout) -> *mut u8 {
         if granted() {
@@ -47,8 +47,8 @@ unsafe impl GlobalAlloc for Counting {
 #[global_allocator]
 static ALLOCATOR: Counting = Counting;
 
-/// Calls with 0 requests granted, with 1, and so on, until one succeeds after `requests`. All before it have to end
-/// with `refused`.
+/// Calls with 0 requests granted, with 1, and so on, until a call succeeds with `requests` of them. All calls before it
+/// have to end with `refused`.
 fn each_refused<T, E>(requests: usize, call: impl Fn() -> std::result::Result<T, E>, refused: impl Fn(&E) -> bool) {
     for count in 0..=requests {
         GRANTED.with(|it| it.set(count));
@@ -80,14 +80,14 @@ fn refused_requests() {
     let references = Dref { version: 0, flags: 0, url: Some(location) };
     let brands = Ftyp { compatible_brands: vec![1, 2], ..Ftyp::default() };
 
-    // The lengths of the sets and their bytes, and what is written.
+    // The lengths of the sets, their bytes, and the output.
     each_refused(3, || write_stsd(&sample), is_memory);
     let bytes = write_stsd(&sample).unwrap();
     // The lengths and bytes again, two lists of sets, and three sets.
     each_refused(7, || stsd(&bytes), is_memory);
     each_refused(7, || avc1(&bytes[16..]), is_memory);
     each_refused(7, || mp4_box_codec::avcc(&bytes[102..]), is_memory);
-    // Each text and the message are one request.
+    // Each text and the message take one request.
     each_refused(1, || write_emsg(&event), is_memory);
     let bytes = write_emsg(&event).unwrap();
     each_refused(3, || emsg(&bytes), is_memory);
@@ -99,9 +99,9 @@ fn refused_requests() {
     each_refused(1, || ftyp(&bytes), is_memory);
     each_refused(1, || list(&bytes), is_memory);
 
-    // A list of 9 boxes grows twice after the first request: to 4, 8 and 16 places.
+    // A list of 9 boxes grows twice after the first request: its capacities are 4, 8 and 16.
     let file = b"\0\0\0\x08free".repeat(9);
     each_refused(3, || tree(&file), is_memory);
-    // The bytes that each of the 9 steps wants are a request too.
+    // The bytes that each of the 9 steps wants take a request too.
     each_refused(12, || tree_of(&mut io::Cursor::new(&file)), |why| why.kind() == io::ErrorKind::OutOfMemory);
 }

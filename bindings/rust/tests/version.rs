@@ -1,4 +1,4 @@
-//! Calls a library of another version, 0.2.7, which `tests/bindings` puts before the right one.
+//! Calls a library of another version, 0.2.7, which `tests/c/test_bindings.py` puts before the right one.
 
 use mp4_box_codec::*;
 
