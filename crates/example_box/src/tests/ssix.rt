@@ -1,5 +1,7 @@
 //! The bytes of `ssix` (ISO/IEC 14496-12, 8.16.4).
 
+ghost use Rattle.std.specs.Prelude.{◌<◌};
+
 use crate::tests::{is_in, read};
 use crate::{Ssix, SsixBox, SsixRange, Subsegment};
 use mp4_stream::{Error, Result as Made, WriteBox};
@@ -52,7 +54,9 @@ pub(crate) fn index(alloc: Global) -> Made<SsixBox> {
 }
 
 /// Returns the bytes of `BYTES` with the byte at offset `at` set to `value`.
-pub(crate) fn changed(at: usize, value: u8) -> [u8; 56] {
+pub(crate) fn changed(at: usize, value: u8) -> [u8; 56]
+    requires { at < 56 }
+{
     let mut bytes = BYTES;
     bytes[at] = value;
     bytes

@@ -5,7 +5,8 @@ use mp4_stream::laws::{
     begins_with_header, boxes_follow_frames, cut_at_a_border, cut_inside_a_box, equal_boxes,
     equal_streams, has_normal_form, has_own_name, have_same_bytes, is_read_back,
     is_read_back_at_the_end, is_read_by_name, is_read_by_name_at_the_end, is_read_without_memory,
-    is_stable, spans_follow_frames, spans_of_a_written_list, spans_of_what_is_read, written_is_read,
+    is_stable, spans_follow_frames, spans_of_a_written_list, spans_of_what_is_read,
+    written_is_read,
 };
 use mp4_stream::list_laws::{normal_stream_is_kept, read_list_is_stable, written_stream_is_kept};
 use mp4_stream::{
