@@ -15,7 +15,7 @@ use Rattle.mp4_faststart.proofs.Files.{bytes_are_kept}
 none_taken : (n k : ℕ) (xs ys : List ℕ) → n ≡ 0 → k ≡ 0 → take n xs ≡ take k ys
 none_taken n k xs ys a b = rw (a, b) refl
 
-same_bytes : (c : Cut) (B m : List ℕ) (a b : Sample) → IsCut c B m → IsMoved c a b
+pub same_bytes : (c : Cut) (B m : List ℕ) (a b : Sample) → IsCut c B m → IsMoved c a b
     → take b.size (drop b.offset (moved_file c B m)) ≡ take a.size (drop a.offset B)
 same_bytes c B m a b cut is =
     let size = is.alike.size in

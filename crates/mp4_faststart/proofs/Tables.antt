@@ -19,10 +19,10 @@ use Rattle.mp4_samples.specs.Chunks.{entry_of, IsInChunk}
 use Rattle.mp4_samples.specs.Runs.{start_of, duration_of, rendering_offset_of, is_listed}
 use Rattle.mp4_samples.specs.Samples.{IsSample, ctts_entries, is_sync_in, offsets_of, sample_count}
 use Rattle.mp4_samples.specs.Sizes.{offset_of, size_of}
-use Rattle.mp4_track.specs.Tables.{AreChunksOf, AreTablesOf, now_of}
-use Rattle.mp4_track.specs.declared.sample_boxes.ChunkBox.{ChunkBox}
-use Rattle.mp4_track.specs.declared.sample_boxes.ChunkBox.TheVariants as chunks
-use Rattle.mp4_track.specs.declared.sample_boxes.SampleBoxes.{SampleBoxes}
+use Rattle.mp4_movie.specs.Tables.{AreChunksOf, AreTablesOf, now_of}
+use Rattle.mp4_movie.specs.declared.sample_boxes.ChunkBox.{ChunkBox}
+use Rattle.mp4_movie.specs.declared.sample_boxes.ChunkBox.TheVariants as chunks
+use Rattle.mp4_movie.specs.declared.sample_boxes.SampleBoxes.{SampleBoxes}
 use Rattle.mp4_faststart.specs.declared.cut.Cut.{Cut}
 use Rattle.mp4_faststart.specs.Kept.{KeepsSamples}
 use Rattle.mp4_faststart.specs.Movie.{KeepsTables}

@@ -1,14 +1,14 @@
-//! Where a movie box is moved.
+//! The move of a movie box.
 
-/// The `moov` of a file, its bytes from `begin` to `end`, is moved to `insert`, which is before it. Positions are in
-/// bytes from the front of the file.
+/// The move of the `moov` of a file, the bytes from `begin` to `end`, to the position `insert` before it. Positions are
+/// in bytes from the front of the file.
 #[derive(Clone, Copy, Debug, PartialEq, Eq)]
 pub struct Cut {
-    /// Where it goes.
+    /// The new position of the `moov`.
     pub insert: u64,
-    /// Where it begins.
+    /// The position at which the `moov` begins.
     pub begin: u64,
-    /// Where it ends.
+    /// The position at which the `moov` ends.
     pub end: u64,
 }
 
@@ -16,7 +16,7 @@ impl Cut {
     ghost use Rattle.std.specs.Prelude.{◌≡◌, ◌^◌, ◌≤◌, ◌↔◌, IsTrue, MatchOption};
     ghost use Rattle.mp4_faststart.specs.Moved.{moved, IsInOnePart};
 
-    /// Where the byte at an offset is after the move; none past 2^64 - 1.
+    /// Returns the position after the move of the byte at `offset`, or `None` if that is past 2^64 - 1.
     pub fn moved(&self, offset: u64) -> Option<u64>
         ensures { MatchOption result (2 ^ 64 ≤ moved self.now offset) (λ o. o ≡ moved self.now offset) }
     {
@@ -27,8 +27,8 @@ impl Cut {
         }
     }
 
-    /// Whether bytes stay one after the other: they don't go across a place where the file is cut, and are not in the
-    /// `moov`.
+    /// Returns whether `size` bytes at `offset` stay one after the other: they are on one side of each place where the
+    /// file is cut, and not in the `moov`.
     pub fn keeps(&self, offset: u64, size: u32) -> bool
         ensures { IsTrue result ↔ IsInOnePart self.now offset size }
     {

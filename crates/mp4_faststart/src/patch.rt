@@ -1,8 +1,7 @@
-//! A copy of a movie box, whose chunk offsets are shifted.
+//! A copy of a movie box with shifted chunk offsets.
 
 ghost use Rattle.std.specs.Prelude.{◌≡◌, ◌≤◌, length, IfOk};
 
-use crate::codes::is_code;
 use crate::cut::Cut;
 use crate::refusal::Refusal;
 use byteorder::{BigEndian, ByteOrder};
@@ -37,8 +36,8 @@ fn shift_long(offsets: &mut [u8], cut: Cut) -> bool {
     true
 }
 
-/// Where the entries of a table begin and end, each of which has `width` bytes: after the version, the flags and the
-/// count (ISO/IEC 14496-12, 8.7.5). They end before the box does, and before the bytes do.
+/// Returns the positions at which the entries of a table begin and end. They have `width` bytes each, and come after
+/// the version, the flags and the count (ISO/IEC 14496-12, 8.7.5). They end no later than the box and the bytes.
 fn entries_in(bytes: &[u8], found: &TreeBox, width: u32) -> (usize, usize)
     ensures order { result.0 ≤ result.1 }
     ensures within { result.1 ≤ length bytes.now }
@@ -57,10 +56,10 @@ fn entries_in(bytes: &[u8], found: &TreeBox, width: u32) -> (usize, usize)
 
 /// Shifts the offsets of a box in place, if it has any.
 fn shift_box(bytes: &mut [u8], found: &TreeBox, cut: Cut) -> Result<(), Refusal> {
-    let fits = if is_code(found, FourCC::from(codes::STCO)) {
+    let fits = if found.code == Some(FourCC::from(codes::STCO)) {
         let (begin, end) = entries_in(bytes, found, 4);
         shift_short(&mut bytes[begin..end], cut)
-    } else if is_code(found, FourCC::from(codes::CO64)) {
+    } else if found.code == Some(FourCC::from(codes::CO64)) {
         let (begin, end) = entries_in(bytes, found, 8);
         shift_long(&mut bytes[begin..end], cut)
     } else {
@@ -75,7 +74,7 @@ fn shift_box(bytes: &mut [u8], found: &TreeBox, cut: Cut) -> Result<(), Refusal>
     }
 }
 
-/// Gives a movie box a size, if it has none and goes up to the end of the file (4.2).
+/// Gives a movie box a size if it has none, and so extends to the end of the file (4.2).
 fn fix_size(bytes: &mut [u8], cut: Cut) -> Result<(), Refusal> {
     if bytes.len() < 8 || u32_at(bytes, 0) != 0 {
         return Ok(());
@@ -89,7 +88,7 @@ fn fix_size(bytes: &mut [u8], cut: Cut) -> Result<(), Refusal> {
     }
 }
 
-/// A copy of a movie box, whose chunk offsets are those after the move.
+/// Returns a copy of a movie box with the chunk offsets after the move.
 pub fn shifted(alloc: Global, movie: &[u8], cut: Cut) -> Result<Vec<u8>, Refusal>
     ensures { IfOk result (λ bytes. length bytes.items ≡ length movie.now) }
 {

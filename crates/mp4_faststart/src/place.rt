@@ -1,9 +1,8 @@
-//! Where the movie box of a file is, and where it goes.
+//! The place of the movie box of a file, and its new place.
 
 ghost use Rattle.std.specs.Prelude.{◌≡◌, length, IfOk, IfSome};
 ghost use Rattle.mp4_faststart.specs.Written.{IsPlaced};
 
-use crate::codes::is_code;
 use crate::cut::Cut;
 use crate::obstacle::{Obstacle, obstacle_at};
 use crate::refusal::Refusal;
@@ -12,18 +11,18 @@ use mp4_walk::{BoxWalk, Source, TreeBox};
 use std::alloc::Global;
 use std::io;
 
-/// What was found so far of a file.
+/// The findings about a file so far.
 #[derive(Clone, Copy)]
 struct Findings {
     /// The movie box.
     movie: Option<TreeBox>,
-    /// Where the first media data begin.
+    /// The position of the first media data.
     media: Option<u64>,
-    /// What keeps the movie box from being moved.
+    /// The first obstacle.
     obstacle: Option<Obstacle>,
 }
 
-/// What keeps the movie box from being moved, with one box more.
+/// Returns the first obstacle, of those so far and `found`.
 fn obstacle_with<S: Source>(
     alloc: Global,
     tree: &mut BoxWalk<S>,
@@ -38,7 +37,7 @@ fn obstacle_with<S: Source>(
     }
 }
 
-/// What is found with one box more.
+/// Returns the findings with one more box.
 fn found_with(
     so_far: Findings,
     found: &TreeBox,
@@ -46,19 +45,22 @@ fn found_with(
 ) -> Result<Findings, Refusal> {
     let mut findings = so_far;
     findings.obstacle = obstacle;
-    if found.depth == 0 && is_code(found, FourCC::from(codes::MOOV)) {
+    if found.depth == 0 && found.code == Some(FourCC::from(codes::MOOV)) {
         if findings.movie.is_some() {
             return Err(Refusal::TwoMovies(found.position));
         }
         findings.movie = Some(*found);
     }
-    if found.depth == 0 && is_code(found, FourCC::from(codes::MDAT)) && findings.media.is_none() {
+    if found.depth == 0
+        && found.code == Some(FourCC::from(codes::MDAT))
+        && findings.media.is_none()
+    {
         findings.media = Some(found.position);
     }
     Ok(findings)
 }
 
-/// Where the movie box goes, by what was found in a file of this length; none if it is before the media data.
+/// Returns the move in a file of this length, or `None` if the movie box is before the media data.
 fn cut_by(findings: Findings, length: u64) -> Result<Option<Cut>, Refusal>
     ensures { IfOk result (λ cut. IfSome cut (IsPlaced length)) }
 {
@@ -84,7 +86,7 @@ fn cut_by(findings: Findings, length: u64) -> Result<Option<Cut>, Refusal>
     }))
 }
 
-/// The source, how long it is, and where its movie box goes; none if that is before the media data.
+/// Returns the source, its length, and the move of its movie box, or `None` if that is before the media data.
 pub fn placed<S: Source>(alloc: Global, source: S) -> Result<(S, u64, Option<Cut>), Refusal>
     ensures source { IfOk result (λ r. S.all r.0 ≡ S.all source) }
     ensures length { IfOk result (λ r. IfSome (S.all source) (λ B. r.1 ≡ length B)) }

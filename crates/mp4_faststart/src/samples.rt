@@ -1,4 +1,4 @@
-//! Whether samples are the same after the move.
+//! The comparison of samples before and after the move.
 
 ghost use Rattle.std.specs.Prelude.{◌↔◌, IsTrue, IsOk, IfErr};
 ghost use Rattle.mp4_faststart.specs.Kept.{AreAlike, IsMovedTo, IsMoved, KeepsSamples, IsFirstLost};
@@ -6,7 +6,7 @@ ghost use Rattle.mp4_faststart.specs.Kept.{AreAlike, IsMovedTo, IsMoved, KeepsSa
 use crate::cut::Cut;
 use mp4_samples::{Sample, SampleTables};
 
-/// Whether two samples are the same but for where they begin.
+/// Returns whether two samples are the same except for their offsets.
 fn are_alike(before: &Sample, after: &Sample) -> bool
     ensures { IsTrue result ↔ AreAlike before.now after.now }
 {
@@ -19,7 +19,7 @@ fn are_alike(before: &Sample, after: &Sample) -> bool
         && after.chunk == before.chunk
 }
 
-/// Whether the bytes of a sample are moved whole, to where the other one begins.
+/// Returns whether the bytes of `before` stay one after the other, and are moved to the offset of `after`.
 fn is_moved_to(cut: Cut, before: &Sample, after: &Sample) -> bool
     ensures { IsTrue result ↔ IsMovedTo cut before.now after.now }
 {
@@ -29,16 +29,16 @@ fn is_moved_to(cut: Cut, before: &Sample, after: &Sample) -> bool
     }
 }
 
-/// Whether a sample is another one after the move.
+/// Returns whether `after` is `before` after the move.
 fn is_moved(cut: Cut, before: &Sample, after: &Sample) -> bool
     ensures { IsTrue result ↔ IsMoved cut before.now after.now }
 {
     are_alike(before, after) && (before.size == 0 || is_moved_to(cut, before, after))
 }
 
-/// Whether the tables `after` have the samples of the tables `before` after the move: the same times, sizes and
-/// descriptions, and the same bytes. If not, the error is the number of the first sample that is not kept, counted from
-/// 0. It takes a step a sample.
+/// Checks that the tables `after` have the samples of the tables `before` after the move: the same times, sizes and
+/// descriptions, and the same bytes. If not, returns the number of the first sample that is not kept, counted from 0.
+/// Takes one step a sample.
 pub fn keeps_samples(
     cut: Cut,
     before: &SampleTables<'_>,

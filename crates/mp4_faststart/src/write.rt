@@ -15,10 +15,10 @@ use mp4_walk::Source;
 use std::alloc::Global;
 use std::io::Write;
 
-/// How many bytes are copied at once.
+/// The number of bytes that are copied at once.
 const BLOCK: usize = 65536;
 
-/// Writes as many bytes of a source from a position on as the block is long.
+/// Fills `block` with bytes of a source, starting at the position `at`, and writes it.
 fn copy_block<S: Source, W: Write>(
     source: &mut S,
     at: u64,
@@ -35,7 +35,7 @@ fn copy_block<S: Source, W: Write>(
     Ok(())
 }
 
-/// Writes so many bytes of a source from a position on, by way of the front of a buffer.
+/// Writes `long` bytes of a source, starting at the position `at`, by way of the front of `buffer`.
 fn copy_front<S: Source, W: Write>(
     source: &mut S,
     at: u64,
@@ -52,7 +52,7 @@ fn copy_front<S: Source, W: Write>(
     copy_block(source, at, &mut buffer[..long], output)
 }
 
-/// Writes the bytes of a source from a position up to another, a buffer after the other.
+/// Writes the bytes of a source between the positions `from` and `to`, a buffer at a time.
 fn copy<S: Source, W: Write>(
     source: &mut S,
     from: u64,
@@ -75,7 +75,7 @@ fn copy<S: Source, W: Write>(
     Ok(())
 }
 
-/// The movie box of a source.
+/// Returns the movie box of a source.
 fn movie_of<S: Source>(alloc: Global, source: &mut S, cut: Cut) -> Result<Vec<u8>, Refusal>
     ensures bytes { IfOk result (λ bytes. IfSome (S.all source.old) (λ B. bytes.items ≡ movie_of cut B)) }
     ensures length { IfOk result (λ bytes. length bytes.items ≡ cut.end - cut.begin) }
@@ -87,7 +87,7 @@ fn movie_of<S: Source>(alloc: Global, source: &mut S, cut: Cut) -> Result<Vec<u8
     Ok(bytes)
 }
 
-/// Writes a source of this length, with a movie box moved to where it goes.
+/// Writes a source of length `size`, with `movie` as its movie box at the new place.
 fn write_parts<S: Source, W: Write>(
     source: &mut S,
     size: u64,
@@ -109,7 +109,7 @@ fn write_parts<S: Source, W: Write>(
     Ok(())
 }
 
-/// Writes a source of this length with its movie box moved.
+/// Writes a source of length `size` with its movie box moved.
 fn write_moved<S: Source, W: Write>(
     alloc: Global,
     source: &mut S,
@@ -131,7 +131,7 @@ fn write_moved<S: Source, W: Write>(
     Ok(())
 }
 
-/// Writes a source of this length with its movie box moved, or as it is. Returns whether and how it was moved.
+/// Writes a source of length `size` with its movie box moved, or as it is. Returns the move, if there was one.
 fn write_by<S: Source, W: Write>(
     alloc: Global,
     source: &mut S,
@@ -158,10 +158,10 @@ fn write_by<S: Source, W: Write>(
     }
 }
 
-/// Writes a file with its movie box before its media data, and returns where that was and goes. If it is there already,
-/// the file is written as it is, and none is returned. Each track keeps its samples, with the same bytes. After an
-/// error a beginning of that is written. It takes the memory of two movie boxes, of the boxes of one, and of the tables
-/// of a track in both.
+/// Writes a file with its movie box before its media data, and returns the move. If the movie box is there already,
+/// writes the file as it is and returns `None`. Each track keeps its samples, with the same bytes. After an error, a
+/// beginning of the file may be written. Takes the memory of two movie boxes, of the boxes in both, and of the tables
+/// of one track in both.
 pub fn write_fast_start<S: Source, W: Write>(
     alloc: Global,
     source: S,
