@@ -1,4 +1,4 @@
-//! Why the samples of a track are not written.
+//! The reasons why the samples of a track are not written.
 
 ghost use Rattle.std.specs.Prelude.{◌≡◌, ◌≢◌, false, Ok, IfOk};
 ghost use Rattle.std.specs.IoError.{error_kind};
@@ -12,7 +12,7 @@ use std::alloc::AllocError;
 use std::io;
 use std::io::ErrorKind;
 
-/// Why the samples of a track are not written, or not all of them.
+/// The reason why the samples of a track are not written, or not all of them.
 #[derive(Debug, Drop)]
 pub enum Stop {
     /// A call failed: no more is read or written.
@@ -37,8 +37,8 @@ impl From<AllocError> for Stop {
     }
 }
 
-/// The failure of a read.
-fn read_failure(error: &io::Error) -> Failure
+/// Returns the failure of a read with this error.
+pub fn read_failure(error: &io::Error) -> Failure
     ensures memory { error_kind error.now ≡ ErrorKind.OutOfMemory → result ≡ Failure.Memory }
     ensures read { error_kind error.now ≢ ErrorKind.OutOfMemory → result ≡ Failure.Read }
 {
@@ -48,7 +48,7 @@ fn read_failure(error: &io::Error) -> Failure
     }
 }
 
-/// What a read returned.
+/// Returns the outcome of a read, with its error as a failure.
 pub fn or_read<T: Drop>(outcome: io::Result<T>) -> Result<T, Failure>
     ensures ok { IfOk result (λ value. outcome ≡ Ok value) }
     ensures not_write { is_write result ≡ false }
@@ -59,7 +59,7 @@ pub fn or_read<T: Drop>(outcome: io::Result<T>) -> Result<T, Failure>
     }
 }
 
-/// Appends an item.
+/// Appends `item` to `items`.
 pub fn keep<T: Drop>(items: &mut Vec<T>, item: T) -> Result<(), AllocError> {
     items.push(item)?;
     Ok(())

@@ -1,11 +1,12 @@
-//! Where the samples of a `traf` are, run by run.
+//! The places of the samples of a `traf`, run by run.
 
 ghost use Rattle.std.specs.Prelude.{◌≡◌};
 
-use crate::fragments::{needs_end, read_fragment};
-use crate::stop::{Stop, keep};
+use crate::failure::read_failure;
 use mp4_check_rules::{Run, run_begin, run_size};
 use mp4_io::Failure;
+use mp4_movie::{MovieError, traf_in};
+use mp4_samples::DEFAULT_BASE_IS_MOOF;
 use mp4_tables::{TfhdBox, TrunBox};
 use mp4_walk::{BoxWalk, Source, TreeBox};
 use std::alloc::{AllocError, Global};
@@ -14,18 +15,18 @@ use std::collections::BTreeMap;
 /// The runs of a `traf`.
 #[derive(Drop)]
 pub struct TrafRuns {
-    /// The number of its track.
+    /// The track_ID in its header.
     pub track: u32,
-    /// Its runs, in the order of the file: those before the first of which a size is not known.
+    /// Its runs before the first with a sample of unknown size, in the order of the file.
     pub runs: Vec<Run>,
-    /// Is true if their offsets count from the front of the file that the fragment was made for.
+    /// True if their offsets count from the beginning of the file that the fragment was made for.
     pub is_absolute: bool,
-    /// The position at which the data of its last run end, if that is known.
+    /// The position of the end of the data of its last run, if that is known.
     pub end: Option<u64>,
 }
 
-/// Returns the size of the samples of a run that lists none: by the header of the fragment, or else by the `trex` of
-/// its track. None if the run needs it and neither says it.
+/// Returns the size of the samples of a run that lists no sizes: by the header of the fragment, or else by the `trex`
+/// of its track. Returns `None` if the run needs it and neither states it.
 fn size_of(header: &TfhdBox, default: Option<u32>, run: &TrunBox) -> Option<u32> {
     match (header.default_sample_size, default) {
         (Some(size), _) | (None, Some(size)) => Some(size),
@@ -34,17 +35,18 @@ fn size_of(header: &TfhdBox, default: Option<u32>, run: &TrunBox) -> Option<u32>
     }
 }
 
-/// Returns what the data offsets of the runs count from; none if that is not known.
+/// Returns the position that the data offsets of the runs count from, if that is known (ISO/IEC 14496-12, 8.8.7.1).
+/// `before` is the end of the data before the fragment.
 fn base_of(header: &TfhdBox, moof: u64, before: Option<u64>) -> Option<u64> {
     match header.base_data_offset {
         Some(base) => Some(base),
-        None if needs_end(header) => before,
-        None => Some(moof),
+        None if header.flags & DEFAULT_BASE_IS_MOOF > 0 => Some(moof),
+        None => before,
     }
 }
 
-/// Keeps the runs of a fragment whose data offsets count from `base`. Returns where the data of the last one end; none
-/// if a size is not known, or they end before the file or past 2^64 - 1.
+/// Stores the runs of a fragment whose data offsets count from `base`. Returns the end of the data of the last run.
+/// Returns `None` if a size is unknown, or if the data end before the file or past 2^64 - 1.
 fn keep_runs(
     header: &TfhdBox,
     default: Option<u32>,
@@ -61,15 +63,15 @@ fn keep_runs(
             begin: run_begin(base, trun.data_offset, reached),
             size: run_size(trun.sample_sizes.as_slice(), trun.sample_count, size),
         };
-        keep(runs, run)?;
+        runs.push(run)?;
         reached = run.begin.saturating_add(i128::from(run.size));
     }
     Ok(u64::try_from(reached).ok())
 }
 
-/// Reads the runs of a `traf`, the first of these boxes, in the `moof` at `moof`. `before` is where the data before it
-/// end, and `sizes` has the size of samples by the `trex` of each track. None if a box of it can't be read, or it isn't
-/// known where its data begin.
+/// Returns the runs of a `traf` of the `moof` at position `moof`. Returns `None` if a box of it is missing or has a
+/// fault, or if the place of its data is unknown. `boxes` begins with the boxes inside the `traf`. `before` is the end
+/// of the data before it, and `sizes` has the size of samples by the `trex` of each track.
 pub fn traf_runs<S: Source>(
     alloc: Global,
     tree: &mut BoxWalk<S>,
@@ -80,26 +82,26 @@ pub fn traf_runs<S: Source>(
 ) -> Result<Option<TrafRuns>, Failure>
     ensures kept { tree.new ≡ tree.old }
 {
-    let read = match read_fragment(alloc, tree, boxes, moof) {
-        Ok(read) => read,
-        Err(Stop::Failed(failure)) => return Err(failure),
-        Err(Stop::Faulty(_)) => return Ok(None),
+    let traf = match traf_in(alloc, tree, boxes) {
+        Ok(traf) => traf,
+        Err(MovieError::Box(_)) => return Ok(None),
+        Err(MovieError::Io(error)) => return Err(read_failure(&error)),
     };
-    let Some(base) = base_of(&read.header, moof, before) else {
+    let Some(base) = base_of(&traf.header, moof, before) else {
         return Ok(None);
     };
     let mut runs = Vec::new(alloc);
     let end = keep_runs(
-        &read.header,
-        sizes.get(&read.header.track_id).copied(),
-        read.runs.as_slice(),
+        &traf.header,
+        sizes.get(&traf.header.track_id).copied(),
+        traf.runs.as_slice(),
         base,
         &mut runs,
     )?;
     Ok(Some(TrafRuns {
-        track: read.header.track_id,
+        track: traf.header.track_id,
         runs,
-        is_absolute: read.header.base_data_offset.is_some(),
+        is_absolute: traf.header.base_data_offset.is_some(),
         end,
     }))
 }
