@@ -28,30 +28,25 @@ static const char FILE_BYTES[] = "\0\0\1\xADmoov"                  /* 0 */
 
 #define LENGTH (sizeof FILE_BYTES - 1)
 
-/* The offsets of the boxes of the second track that have to be present, and stss, without which each sample is a sync
- * sample. */
-static const size_t NEEDED[] = {216, 248, 297, 329, 357, 381, 405};
-static const size_t HOLDERS[] = {208, 281, 289};
-
-/* Returns the status for the first `cut` bytes of the file: the first box that is missing or cut decides it. */
-static uint32_t status_of_beginning(size_t cut) {
-    size_t i, end;
-    if (cut < 8)
-        return MP4_BOX_NOT_FOUND;
-    if (cut < 208)
-        return MP4_NO_TRACK;
-    for (i = 0; i < sizeof HOLDERS / sizeof *HOLDERS; i++)
-        if (cut >= HOLDERS[i] && cut < HOLDERS[i] + 8)
-            return MP4_BOX_NOT_FOUND;
-    for (i = 0; i < sizeof NEEDED / sizeof *NEEDED; i++) {
-        end = NEEDED[i] + (uint8_t)FILE_BYTES[NEEDED[i] + 3];
-        if (cut >= NEEDED[i] && cut < NEEDED[i] + 8)
-            return NEEDED[i] == 405 ? MP4_OK : MP4_BOX_NOT_FOUND;
-        if (cut >= NEEDED[i] && cut < end)
-            return MP4_END_OF_INPUT;
-    }
-    return MP4_OK;
-}
+/* The status and the number of samples for a file that is cut to `from` bytes or more, up to the next row. The first
+ * box that is missing or cut decides the status, in this order: stsz, stco, stsc, stts, stss. */
+static const struct {
+    size_t from, count;
+    uint32_t status;
+} TABLE_BEGINNINGS[] = {
+    {0, 0, MP4_BOX_NOT_FOUND},   /* no moov */
+    {8, 0, MP4_NO_TRACK},
+    {208, 0, MP4_BOX_NOT_FOUND}, /* no mdia, minf or stbl */
+    {297, 0, MP4_OK},            /* no table, so no sample */
+    {305, 0, MP4_END_OF_INPUT},  /* stsz is cut */
+    {329, 0, MP4_BOX_NOT_FOUND}, /* no stco */
+    {365, 0, MP4_END_OF_INPUT},
+    {381, 0, MP4_BOX_NOT_FOUND}, /* no stts */
+    {389, 0, MP4_END_OF_INPUT},
+    {405, 3, MP4_OK},            /* no stss, so each sample is a sync sample */
+    {413, 0, MP4_END_OF_INPUT},
+    {429, 3, MP4_OK},
+};
 
 static uint32_t track_id = 7;
 
@@ -73,6 +68,13 @@ static int are_samples(const void *rows, size_t count) {
 
 static int is_three(const void *told) { return *(const size_t *)told == 3; }
 
+static int no_rows(const void *rows, size_t count) {
+    (void)rows;
+    return count == 0;
+}
+
+static int is_zero(const void *told) { return *(const size_t *)told == 0; }
+
 /* Returns the status for a file with `byte` instead of its byte at `at`. */
 static uint32_t with_byte(const struct subject *s, size_t at, uint8_t byte) {
     uint8_t bytes[1000];
@@ -81,26 +83,59 @@ static uint32_t with_byte(const struct subject *s, size_t at, uint8_t byte) {
     return call_with(s, bytes, s->length, 3);
 }
 
+/* Tries a track without sizes: without chunks too it has no samples. */
+static void try_no_sizes(const struct subject *s, const struct subject *none) {
+    uint8_t bytes[LENGTH];
+    memcpy(bytes, FILE_BYTES, LENGTH);
+    bytes[301] = 'x'; /* no stsz */
+    EXPECT(call_with(s, bytes, LENGTH, 3) == MP4_BOX_NOT_FOUND);
+    bytes[372] = 0; /* no chunk in stco */
+    EXPECT(call_with(none, bytes, LENGTH, 3) == MP4_OK);
+    EXPECT(call_with(none, bytes, LENGTH, 0) == MP4_OK);
+    bytes[361] = 'x'; /* no stco */
+    EXPECT(call_with(none, bytes, LENGTH, 3) == MP4_OK);
+}
+
+/* Tries a file whose first moov is empty, and one with a moov of no track at its end. */
+static void try_two_movies(const struct subject *s) {
+    uint8_t bytes[LENGTH + 8];
+    memcpy(bytes, "\0\0\0\x08moov", 8);
+    memcpy(bytes + 8, FILE_BYTES, LENGTH);
+    EXPECT(call_with(s, bytes, sizeof bytes, 3) == MP4_NO_TRACK);
+    memcpy(bytes, FILE_BYTES, LENGTH);
+    memcpy(bytes + LENGTH, "\0\0\0\x08moov", 8);
+    EXPECT(call_with(s, bytes, sizeof bytes, 3) == MP4_OK);
+}
+
 static void try_samples(void) {
     struct subject s = {
         "mp4_samples",     call_samples, sizeof(struct mp4_sample), sizeof(size_t), are_samples, is_three, 3,
         BYTES(FILE_BYTES), {0, 0}};
+    struct subject none = {
+        "mp4_samples",     call_samples, sizeof(struct mp4_sample), sizeof(size_t), no_rows, is_zero, 0,
+        BYTES(FILE_BYTES), {0, 0}};
     struct mp4_sample rows[3];
-    size_t cut, count = 0;
+    size_t cut, at = 0, count = 0;
     refuse_each(&s);
     EXPECT(call_with(&s, s.bytes, LENGTH, 5) == MP4_OK);
     EXPECT(call_with(&s, s.bytes, LENGTH, 0) == MP4_NO_ROOM);
     EXPECT(call_with(&s, s.bytes, LENGTH, 2) == MP4_NO_ROOM);
-    for (cut = 0; cut < LENGTH; cut++)
-        EXPECT(call_with(&s, s.bytes, cut, 3) == status_of_beginning(cut));
+    for (cut = 0; cut <= LENGTH; cut++) {
+        if (at + 1 < sizeof TABLE_BEGINNINGS / sizeof *TABLE_BEGINNINGS && cut == TABLE_BEGINNINGS[at + 1].from)
+            at++;
+        EXPECT(call_with(TABLE_BEGINNINGS[at].count == 0 ? &none : &s, s.bytes, cut, 3) ==
+               TABLE_BEGINNINGS[at].status);
+    }
+    try_no_sizes(&s, &none);
+    try_two_movies(&s);
     memset(rows, 0, sizeof rows);
     EXPECT(mp4_samples(s.bytes, LENGTH, 7, rows, 3, &count) == MP4_OK && count == 3);
     EXPECT(rows[0].sync == 1 && rows[1].sync == 0 && rows[2].sync == 1);
     EXPECT(memcmp(s.bytes + rows[2].offset, "hijkl", rows[2].size) == 0);
     EXPECT(mp4_samples(s.bytes, LENGTH, 7, NULL, 0, &count) == MP4_NO_ROOM && count == 3);
     EXPECT(mp4_samples(NULL, 0, 7, NULL, 0, &count) == MP4_BOX_NOT_FOUND && count == 3);
+    EXPECT(with_byte(&s, 124, 2) == MP4_NO_TRACK); /* a tkhd of an unknown version */
     EXPECT(with_byte(&s, 316, 9) == MP4_INVALID_DATA);
-    EXPECT(with_byte(&s, 301, 'x') == MP4_BOX_NOT_FOUND);
     EXPECT(with_byte(&s, 348, 2) == MP4_FIRST_CHUNK_DISAGREES);
     EXPECT(with_byte(&s, 352, 1) == MP4_CHUNKS_DISAGREE);
     EXPECT(with_byte(&s, 400, 2) == MP4_DURATIONS_DISAGREE);
@@ -239,11 +274,6 @@ static uint32_t call_find(const uint8_t *bytes, size_t length, void *rows, size_
     status = mp4_find(bytes, length, text, long_, (struct mp4_place *)told);
     give_back(text, long_);
     return status;
-}
-
-static int no_rows(const void *rows, size_t count) {
-    (void)rows;
-    return count == 0;
 }
 
 static int is_stsz(const void *told) {
