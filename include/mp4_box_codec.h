@@ -502,7 +502,7 @@ struct mp4_box {
     uint32_t parent;        /* the code of the enclosing box; 0 at the top level */
     uint32_t handler;       /* of the enclosing media, as an earlier hdlr says; else 0 */
     uint8_t what;           /* MP4_LEAF to MP4_NO_HEADER */
-    uint8_t is_quicktime;   /* 1 if an earlier ftyp has the major brand 'qt  ', else 0 */
+    uint8_t stsd_version;   /* the version of the enclosing box if it is an stsd, else 0 */
 };
 
 /* The state of a box, or of the place where one should begin. */
@@ -520,7 +520,7 @@ struct mp4_walk_level {
     uint64_t end;
     uint32_t parent;
     uint32_t handler;
-    uint8_t is_quicktime;
+    uint8_t stsd_version;
 };
 struct mp4_walk {
     uint64_t position; /* of the next box in the file, where the wanted bytes begin */
@@ -580,8 +580,10 @@ uint32_t mp4_walk_next(const uint8_t *bytes, size_t length, struct mp4_walk *wal
 /* Lists the samples of the first track with this track_ID (8.3.2) in the bytes of a file, by the tables stsz, stsc,
    stco or co64, stts, ctts and stss of its stbl. It doesn't list samples of fragments. Also:
     - MP4_NO_TRACK;
-    - MP4_BOX_NOT_FOUND if the file has no moov, or the track lacks mdhd, hdlr or a table that it has to have;
-    - MP4_SAMPLE_SIZES_DISAGREE to MP4_OFFSETS_DISAGREE. */
+    - MP4_BOX_NOT_FOUND if the file has no moov, or the track lacks mdia, minf, stbl or a table that it has to have. A
+      track without stsz and without chunks has no samples;
+    - MP4_SAMPLE_SIZES_DISAGREE to MP4_OFFSETS_DISAGREE.
+   If a file has two moovs, only the first has tracks. */
 uint32_t mp4_samples(const uint8_t *bytes, size_t length, uint32_t track_id, struct mp4_sample *samples, size_t places,
                      size_t *count);
 
@@ -592,7 +594,8 @@ uint32_t mp4_samples(const uint8_t *bytes, size_t length, uint32_t track_id, str
    tfhd names, else from its moof, or from the end of the data of the traf before it in the moof. The number of samples
    is at most 2^64 - 1. Also:
     - MP4_NO_TRACK;
-    - MP4_BOX_NOT_FOUND if the file has no moov, a traf no tfhd, or a fragment of the track no trex;
+    - the statuses of mp4_samples for a box of the track that is missing or can't be read;
+    - MP4_BOX_NOT_FOUND if a traf has no tfhd, or a fragment of the track no trex;
     - MP4_CHUNK_COUNT_DISAGREES, MP4_DURATIONS_DISAGREE and MP4_OFFSETS_DISAGREE, which it finds only if the array has
       enough places for the samples. */
 uint32_t mp4_fragment_samples(const uint8_t *bytes, size_t length, uint32_t track_id, struct mp4_sample *samples,

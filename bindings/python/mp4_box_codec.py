@@ -206,7 +206,7 @@ class Box(NamedTuple):
     parent: int
     handler: int
     what: int
-    is_quicktime: int
+    stsd_version: int
 
     @property
     def name(self) -> str:
@@ -313,8 +313,8 @@ def _holds(struct: Any, field: str, kind: Any, version: Any) -> _Numbers:
 _SPAN = _struct("mp4_span", position=u64, length=u64, header_length=u64, code=u32)
 _PLACE = _struct("mp4_place", position=u64, length=u64, header_length=u64, code=u32, is_whole=u8)
 _BOX = _struct("mp4_box", position=u64, length=u64, header_length=u64, children=u64, depth=u64, code=u32, parent=u32,
-               handler=u32, what=u8, is_quicktime=u8)
-_LEVEL = _struct("mp4_walk_level", end=u64, parent=u32, handler=u32, is_quicktime=u8)
+               handler=u32, what=u8, stsd_version=u8)
+_LEVEL = _struct("mp4_walk_level", end=u64, parent=u32, handler=u32, stsd_version=u8)
 _WALK = _struct("mp4_walk", position=u64, wanted=u64, length=u64, count=u64, levels=_LEVEL * 33)
 _SAMPLE = _struct("mp4_sample", offset=u64, decode_time=u64, rendering_offset=i64, size=u32, duration=u32,
                   description=u32, chunk=u32, sync=u8)
@@ -962,7 +962,7 @@ def find(data: Any, path: str) -> Optional[Place]:
 
 def samples(data: Any, track_id: int) -> List[Sample]:
     """Returns the samples of the first track with a track_ID (8.3.2) in the bytes of a file, by the tables of its
-    `stbl`."""
+    `stbl`. A track without `stsz` and without chunks has none."""
     return _listed(_samples(data, _number(track_id, _ALL[u32], "track_id"))[0], Sample, _SAMPLE)
 
 

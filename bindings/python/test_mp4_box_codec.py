@@ -142,8 +142,10 @@ class Calls(unittest.TestCase):
 
     def test_fragments(self):
         heads = [table_box("tkhd", 0, 7, 0, 0, track, *[0] * 17) for track in (1, 2)]
-        tables = boxed("mdia", boxed("minf", boxed("stbl", table_box("stts", 0, 0, 2, 1, 60, 2, 20))))
-        tracks = [boxed("trak", heads[0]), boxed("trak", heads[1], tables)]
+        durations = table_box("stts", 0, 0, 2, 1, 60, 2, 20)
+        tables = [table_box("stsz", 0, 0, 9, 3), table_box("stsc", 0, 0, 1, 1, 3, 1), table_box("stco", 0, 0, 1, 0)]
+        tracks = [boxed("trak", head, boxed("mdia", boxed("minf", boxed("stbl", *boxes))))
+                  for head, boxes in zip(heads, [[], [*tables, durations]])]
         defaults = [table_box("trex", 0, 0, 1, 1, 10, 4, 0), table_box("trex", 0, 0, 2, 1, 7, 5, 0x10000)]
         movie = boxed("moov", *tracks, boxed("mvex", *defaults))
         run = table_box("trun", 0, 0x201, 2, 140, 3, 6)

@@ -9,6 +9,8 @@
 #define ZEROS_17 "\0\0\0\0\0\0\0\0\0\0\0\0\0\0\0\0\0"
 #define HEADER "\0\0\0\x5Ctkhd\0\0\0\7\0\0\0\0\0\0\0\0\0\0\0"
 #define REST ZEROS_17 ZEROS_17 ZEROS_17 ZEROS_17
+/* The media of a track without samples in tables. */
+#define MEDIA "\0\0\0\x18mdia\0\0\0\x10minf\0\0\0\x08stbl"
 
 /* A movie with a track of track_ID 5 that has no media, and one of track_ID 7 with three samples of 3, 4 and 5 bytes.
  */
@@ -28,30 +30,25 @@ static const char FILE_BYTES[] = "\0\0\1\xADmoov"                  /* 0 */
 
 #define LENGTH (sizeof FILE_BYTES - 1)
 
-/* The offsets of the boxes of the second track that have to be present, and stss, without which each sample is a sync
- * sample. */
-static const size_t NEEDED[] = {216, 248, 297, 329, 357, 381, 405};
-static const size_t HOLDERS[] = {208, 281, 289};
-
-/* Returns the status for the first `cut` bytes of the file: the first box that is missing or cut decides it. */
-static uint32_t status_of_beginning(size_t cut) {
-    size_t i, end;
-    if (cut < 8)
-        return MP4_BOX_NOT_FOUND;
-    if (cut < 208)
-        return MP4_NO_TRACK;
-    for (i = 0; i < sizeof HOLDERS / sizeof *HOLDERS; i++)
-        if (cut >= HOLDERS[i] && cut < HOLDERS[i] + 8)
-            return MP4_BOX_NOT_FOUND;
-    for (i = 0; i < sizeof NEEDED / sizeof *NEEDED; i++) {
-        end = NEEDED[i] + (uint8_t)FILE_BYTES[NEEDED[i] + 3];
-        if (cut >= NEEDED[i] && cut < NEEDED[i] + 8)
-            return NEEDED[i] == 405 ? MP4_OK : MP4_BOX_NOT_FOUND;
-        if (cut >= NEEDED[i] && cut < end)
-            return MP4_END_OF_INPUT;
-    }
-    return MP4_OK;
-}
+/* The status and the number of samples for a file that is cut to `from` bytes or more, up to the next row. The first
+ * box that is missing or cut decides the status, in this order: stsz, stco, stsc, stts, stss. */
+static const struct {
+    size_t from, count;
+    uint32_t status;
+} TABLE_BEGINNINGS[] = {
+    {0, 0, MP4_BOX_NOT_FOUND},   /* no moov */
+    {8, 0, MP4_NO_TRACK},
+    {208, 0, MP4_BOX_NOT_FOUND}, /* no mdia, minf or stbl */
+    {297, 0, MP4_OK},            /* no table, so no sample */
+    {305, 0, MP4_END_OF_INPUT},  /* stsz is cut */
+    {329, 0, MP4_BOX_NOT_FOUND}, /* no stco */
+    {365, 0, MP4_END_OF_INPUT},
+    {381, 0, MP4_BOX_NOT_FOUND}, /* no stts */
+    {389, 0, MP4_END_OF_INPUT},
+    {405, 3, MP4_OK},            /* no stss, so each sample is a sync sample */
+    {413, 0, MP4_END_OF_INPUT},
+    {429, 3, MP4_OK},
+};
 
 static uint32_t track_id = 7;
 
@@ -73,6 +70,13 @@ static int are_samples(const void *rows, size_t count) {
 
 static int is_three(const void *told) { return *(const size_t *)told == 3; }
 
+static int no_rows(const void *rows, size_t count) {
+    (void)rows;
+    return count == 0;
+}
+
+static int is_zero(const void *told) { return *(const size_t *)told == 0; }
+
 /* Returns the status for a file with `byte` instead of its byte at `at`. */
 static uint32_t with_byte(const struct subject *s, size_t at, uint8_t byte) {
     uint8_t bytes[1000];
@@ -81,26 +85,59 @@ static uint32_t with_byte(const struct subject *s, size_t at, uint8_t byte) {
     return call_with(s, bytes, s->length, 3);
 }
 
+/* Tries a track without sizes: without chunks too it has no samples. */
+static void try_no_sizes(const struct subject *s, const struct subject *none) {
+    uint8_t bytes[LENGTH];
+    memcpy(bytes, FILE_BYTES, LENGTH);
+    bytes[301] = 'x'; /* no stsz */
+    EXPECT(call_with(s, bytes, LENGTH, 3) == MP4_BOX_NOT_FOUND);
+    bytes[372] = 0; /* no chunk in stco */
+    EXPECT(call_with(none, bytes, LENGTH, 3) == MP4_OK);
+    EXPECT(call_with(none, bytes, LENGTH, 0) == MP4_OK);
+    bytes[361] = 'x'; /* no stco */
+    EXPECT(call_with(none, bytes, LENGTH, 3) == MP4_OK);
+}
+
+/* Tries a file whose first moov is empty, and one with a moov of no track at its end. */
+static void try_two_movies(const struct subject *s) {
+    uint8_t bytes[LENGTH + 8];
+    memcpy(bytes, "\0\0\0\x08moov", 8);
+    memcpy(bytes + 8, FILE_BYTES, LENGTH);
+    EXPECT(call_with(s, bytes, sizeof bytes, 3) == MP4_NO_TRACK);
+    memcpy(bytes, FILE_BYTES, LENGTH);
+    memcpy(bytes + LENGTH, "\0\0\0\x08moov", 8);
+    EXPECT(call_with(s, bytes, sizeof bytes, 3) == MP4_OK);
+}
+
 static void try_samples(void) {
     struct subject s = {
         "mp4_samples",     call_samples, sizeof(struct mp4_sample), sizeof(size_t), are_samples, is_three, 3,
         BYTES(FILE_BYTES), {0, 0}};
+    struct subject none = {
+        "mp4_samples",     call_samples, sizeof(struct mp4_sample), sizeof(size_t), no_rows, is_zero, 0,
+        BYTES(FILE_BYTES), {0, 0}};
     struct mp4_sample rows[3];
-    size_t cut, count = 0;
+    size_t cut, at = 0, count = 0;
     refuse_each(&s);
     EXPECT(call_with(&s, s.bytes, LENGTH, 5) == MP4_OK);
     EXPECT(call_with(&s, s.bytes, LENGTH, 0) == MP4_NO_ROOM);
     EXPECT(call_with(&s, s.bytes, LENGTH, 2) == MP4_NO_ROOM);
-    for (cut = 0; cut < LENGTH; cut++)
-        EXPECT(call_with(&s, s.bytes, cut, 3) == status_of_beginning(cut));
+    for (cut = 0; cut <= LENGTH; cut++) {
+        if (at + 1 < sizeof TABLE_BEGINNINGS / sizeof *TABLE_BEGINNINGS && cut == TABLE_BEGINNINGS[at + 1].from)
+            at++;
+        EXPECT(call_with(TABLE_BEGINNINGS[at].count == 0 ? &none : &s, s.bytes, cut, 3) ==
+               TABLE_BEGINNINGS[at].status);
+    }
+    try_no_sizes(&s, &none);
+    try_two_movies(&s);
     memset(rows, 0, sizeof rows);
     EXPECT(mp4_samples(s.bytes, LENGTH, 7, rows, 3, &count) == MP4_OK && count == 3);
     EXPECT(rows[0].sync == 1 && rows[1].sync == 0 && rows[2].sync == 1);
     EXPECT(memcmp(s.bytes + rows[2].offset, "hijkl", rows[2].size) == 0);
     EXPECT(mp4_samples(s.bytes, LENGTH, 7, NULL, 0, &count) == MP4_NO_ROOM && count == 3);
     EXPECT(mp4_samples(NULL, 0, 7, NULL, 0, &count) == MP4_BOX_NOT_FOUND && count == 3);
+    EXPECT(with_byte(&s, 124, 2) == MP4_NO_TRACK); /* a tkhd of an unknown version */
     EXPECT(with_byte(&s, 316, 9) == MP4_INVALID_DATA);
-    EXPECT(with_byte(&s, 301, 'x') == MP4_BOX_NOT_FOUND);
     EXPECT(with_byte(&s, 348, 2) == MP4_FIRST_CHUNK_DISAGREES);
     EXPECT(with_byte(&s, 352, 1) == MP4_CHUNKS_DISAGREE);
     EXPECT(with_byte(&s, 400, 2) == MP4_DURATIONS_DISAGREE);
@@ -114,25 +151,25 @@ static void try_samples(void) {
 
 /* Two fragments of the tracks 1 and 2. Those of track 1 have two samples of 3 and 6 bytes, beginning at the time
    1000, and one of the default size, after the data of track 2, whose samples have 5 bytes and are not sync samples. */
-static const char FRAGMENT_BYTES[] = "\0\0\1\x18moov"                                                   /* 0 */
-                                     "\0\0\0\x64trak" HEADER "\1" REST                                  /* 8 */
-                                     "\0\0\0\x64trak" HEADER "\2" REST                                  /* 108 */
-                                     "\0\0\0\x48mvex"                                                   /* 208 */
-                                     "\0\0\0\x20trex\0\0\0\0\0\0\0\1\0\0\0\1\0\0\0\x0A\0\0\0\4\0\0\0\0" /* 216 */
-                                     "\0\0\0\x20trex\0\0\0\0\0\0\0\2\0\0\0\1\0\0\0\7\0\0\0\5\0\1\0\0"   /* 248 */
-                                     "\0\0\0\x84moof\0\0\0\x10mfhd\0\0\0\0\0\0\0\1"                     /* 280, 288 */
-                                     "\0\0\0\x44traf\0\0\0\x10tfhd\0\0\0\0\0\0\0\1"                     /* 304, 312 */
-                                     "\0\0\0\x10tfdt\0\0\0\0\0\0\3\xE8"                                 /* 328 */
-                                     "\0\0\0\x1Ctrun\0\0\2\1\0\0\0\2\0\0\0\x8C\0\0\0\3\0\0\0\6"         /* 344 */
-                                     "\0\0\0\x28traf\0\0\0\x10tfhd\0\0\0\0\0\0\0\2"                     /* 372, 380 */
-                                     "\0\0\0\x10trun\0\0\0\0\0\0\0\3"                                   /* 396 */
-                                     "\0\0\0\x20mdatabcdefghijklmnopqrstuvwx"                           /* 412 */
-                                     "\0\0\0\x6Cmoof\0\0\0\x10mfhd\0\0\0\0\0\0\0\2"                     /* 444, 452 */
-                                     "\0\0\0\x2Ctraf\0\0\0\x10tfhd\0\2\0\0\0\0\0\2"                     /* 468, 476 */
-                                     "\0\0\0\x14trun\0\0\0\1\0\0\0\1\0\0\0\x74"                         /* 492 */
-                                     "\0\0\0\x28traf\0\0\0\x10tfhd\0\0\0\0\0\0\0\1"                     /* 512, 520 */
-                                     "\0\0\0\x10trun\0\0\0\0\0\0\0\1"                                   /* 536 */
-                                     "\0\0\0\x11mdatabcdefghi";                                         /* 552 */
+static const char FRAGMENT_BYTES[] = "\0\0\1\x48moov"                                                   /* 0 */
+                                     "\0\0\0\x7Ctrak" HEADER "\1" REST MEDIA                            /* 8 */
+                                     "\0\0\0\x7Ctrak" HEADER "\2" REST MEDIA                            /* 132 */
+                                     "\0\0\0\x48mvex"                                                   /* 256 */
+                                     "\0\0\0\x20trex\0\0\0\0\0\0\0\1\0\0\0\1\0\0\0\x0A\0\0\0\4\0\0\0\0" /* 264 */
+                                     "\0\0\0\x20trex\0\0\0\0\0\0\0\2\0\0\0\1\0\0\0\7\0\0\0\5\0\1\0\0"   /* 296 */
+                                     "\0\0\0\x84moof\0\0\0\x10mfhd\0\0\0\0\0\0\0\1"                     /* 328, 336 */
+                                     "\0\0\0\x44traf\0\0\0\x10tfhd\0\0\0\0\0\0\0\1"                     /* 352, 360 */
+                                     "\0\0\0\x10tfdt\0\0\0\0\0\0\3\xE8"                                 /* 376 */
+                                     "\0\0\0\x1Ctrun\0\0\2\1\0\0\0\2\0\0\0\x8C\0\0\0\3\0\0\0\6"         /* 392 */
+                                     "\0\0\0\x28traf\0\0\0\x10tfhd\0\0\0\0\0\0\0\2"                     /* 420, 428 */
+                                     "\0\0\0\x10trun\0\0\0\0\0\0\0\3"                                   /* 444 */
+                                     "\0\0\0\x20mdatabcdefghijklmnopqrstuvwx"                           /* 460 */
+                                     "\0\0\0\x6Cmoof\0\0\0\x10mfhd\0\0\0\0\0\0\0\2"                     /* 492, 500 */
+                                     "\0\0\0\x2Ctraf\0\0\0\x10tfhd\0\2\0\0\0\0\0\2"                     /* 516, 524 */
+                                     "\0\0\0\x14trun\0\0\0\1\0\0\0\1\0\0\0\x74"                         /* 540 */
+                                     "\0\0\0\x28traf\0\0\0\x10tfhd\0\0\0\0\0\0\0\1"                     /* 560, 568 */
+                                     "\0\0\0\x10trun\0\0\0\0\0\0\0\1"                                   /* 584 */
+                                     "\0\0\0\x11mdatabcdefghi";                                         /* 600 */
 
 #define FRAGMENT_LENGTH (sizeof FRAGMENT_BYTES - 1)
 
@@ -144,29 +181,30 @@ static const struct {
 } BEGINNINGS[] = {
     {0, 0, MP4_BOX_NOT_FOUND},
     {8, 0, MP4_NO_TRACK},
-    {108, 0, MP4_OK},
-    {312, 0, MP4_BOX_NOT_FOUND},
-    {320, 0, MP4_END_OF_INPUT},
-    {328, 0, MP4_OK},
-    {336, 0, MP4_END_OF_INPUT},
-    {344, 0, MP4_OK},
-    {352, 0, MP4_END_OF_INPUT},
-    {372, 2, MP4_OK},
-    {380, 0, MP4_BOX_NOT_FOUND},
-    {388, 0, MP4_END_OF_INPUT},
-    {396, 2, MP4_OK},
-    {404, 0, MP4_END_OF_INPUT},
-    {412, 2, MP4_OK},
-    {476, 0, MP4_BOX_NOT_FOUND},
-    {484, 0, MP4_END_OF_INPUT},
-    {492, 2, MP4_OK},
-    {500, 0, MP4_END_OF_INPUT},
-    {512, 2, MP4_OK},
-    {520, 0, MP4_BOX_NOT_FOUND},
-    {528, 0, MP4_END_OF_INPUT},
-    {536, 2, MP4_OK},
-    {544, 0, MP4_END_OF_INPUT},
-    {552, 3, MP4_OK},
+    {108, 0, MP4_BOX_NOT_FOUND},
+    {132, 0, MP4_OK},
+    {360, 0, MP4_BOX_NOT_FOUND},
+    {368, 0, MP4_END_OF_INPUT},
+    {376, 0, MP4_OK},
+    {384, 0, MP4_END_OF_INPUT},
+    {392, 0, MP4_OK},
+    {400, 0, MP4_END_OF_INPUT},
+    {420, 2, MP4_OK},
+    {428, 0, MP4_BOX_NOT_FOUND},
+    {436, 0, MP4_END_OF_INPUT},
+    {444, 2, MP4_OK},
+    {452, 0, MP4_END_OF_INPUT},
+    {460, 2, MP4_OK},
+    {524, 0, MP4_BOX_NOT_FOUND},
+    {532, 0, MP4_END_OF_INPUT},
+    {540, 2, MP4_OK},
+    {548, 0, MP4_END_OF_INPUT},
+    {560, 2, MP4_OK},
+    {568, 0, MP4_BOX_NOT_FOUND},
+    {576, 0, MP4_END_OF_INPUT},
+    {584, 2, MP4_OK},
+    {592, 0, MP4_END_OF_INPUT},
+    {600, 3, MP4_OK},
 };
 
 static uint32_t call_fragments(const uint8_t *bytes, size_t length, void *rows, size_t places, void *told) {
@@ -181,8 +219,8 @@ static int is_sample_of(const struct mp4_sample *s, uint64_t offset, uint64_t ti
 
 static int are_of_track_1(const void *rows, size_t count) {
     const struct mp4_sample *s = rows;
-    return count == 3 && is_sample_of(&s[0], 420, 1000, 3, 10, 1) && is_sample_of(&s[1], 423, 1010, 6, 10, 1) &&
-           is_sample_of(&s[2], 565, 1020, 4, 10, 1);
+    return count == 3 && is_sample_of(&s[0], 468, 1000, 3, 10, 1) && is_sample_of(&s[1], 471, 1010, 6, 10, 1) &&
+           is_sample_of(&s[2], 613, 1020, 4, 10, 1);
 }
 
 static void try_beginnings(void) {
@@ -210,18 +248,18 @@ static void try_fragments(void) {
     EXPECT(call_with(&s, s.bytes, FRAGMENT_LENGTH, 2) == MP4_NO_ROOM);
     try_beginnings();
     EXPECT(mp4_fragment_samples(s.bytes, FRAGMENT_LENGTH, 2, rows, 4, &count) == MP4_OK && count == 4);
-    EXPECT(is_sample_of(&rows[0], 429, 0, 5, 7, 0) && is_sample_of(&rows[1], 434, 7, 5, 7, 0));
-    EXPECT(is_sample_of(&rows[2], 439, 14, 5, 7, 0) && is_sample_of(&rows[3], 560, 21, 5, 7, 0));
+    EXPECT(is_sample_of(&rows[0], 477, 0, 5, 7, 0) && is_sample_of(&rows[1], 482, 7, 5, 7, 0));
+    EXPECT(is_sample_of(&rows[2], 487, 14, 5, 7, 0) && is_sample_of(&rows[3], 608, 21, 5, 7, 0));
     EXPECT(mp4_fragment_samples((const uint8_t *)FILE_BYTES, LENGTH, 7, NULL, 0, &count) == MP4_OK && count == 0);
     EXPECT(mp4_fragment_samples(NULL, 0, 7, NULL, 0, &count) == MP4_BOX_NOT_FOUND && count == 0);
     track_id = 3;
     EXPECT(call_with(&s, s.bytes, FRAGMENT_LENGTH, 3) == MP4_NO_TRACK);
     track_id = 1;
-    EXPECT(with_byte(&s, 231, 3) == MP4_BOX_NOT_FOUND);       /* no defaults of track 1 */
-    EXPECT(with_byte(&s, 263, 3) == MP4_OFFSETS_DISAGREE);    /* none of track 2, whose data are before */
-    EXPECT(with_byte(&s, 360, 0xFF) == MP4_OFFSETS_DISAGREE); /* a data offset below 0 */
-    EXPECT(with_byte(&s, 359, 3) == MP4_INVALID_DATA);        /* three samples of two sizes */
-    EXPECT(with_byte(&s, 320, 1) == MP4_OK);                  /* a tfhd of another version */
+    EXPECT(with_byte(&s, 279, 3) == MP4_BOX_NOT_FOUND);       /* no defaults of track 1 */
+    EXPECT(with_byte(&s, 311, 3) == MP4_OFFSETS_DISAGREE);    /* none of track 2, whose data are before */
+    EXPECT(with_byte(&s, 408, 0xFF) == MP4_OFFSETS_DISAGREE); /* a data offset below 0 */
+    EXPECT(with_byte(&s, 407, 3) == MP4_INVALID_DATA);        /* three samples of two sizes */
+    EXPECT(with_byte(&s, 368, 1) == MP4_OK);                  /* a tfhd of another version */
     track_id = 7;
 }
 
@@ -239,11 +277,6 @@ static uint32_t call_find(const uint8_t *bytes, size_t length, void *rows, size_
     status = mp4_find(bytes, length, text, long_, (struct mp4_place *)told);
     give_back(text, long_);
     return status;
-}
-
-static int no_rows(const void *rows, size_t count) {
-    (void)rows;
-    return count == 0;
 }
 
 static int is_stsz(const void *told) {

@@ -7,25 +7,19 @@ import unittest
 
 from tests.built import codec
 from tests.files.made import made
-from tests.readers.samples import Bad, File, boxes, entries, first, inner
-
-
-def begin_of(data, trak):
-    """Returns the end time of the samples of the tables of a track: the sum of the durations of its stts."""
-    for code in (b"mdia", b"minf", b"stbl", b"stts"):
-        trak = None if trak is None else first(inner(data, trak), code)
-    return 0 if trak is None else sum(count * delta for count, delta in entries(trak, 8, ">II"))
+from tests.readers.samples import Bad, File, boxes, table_time
 
 
 def expected(data, track):
-    """Returns the samples of the fragments of a track of the first movie, or None if there is a fault or no track."""
+    """Returns the samples of the fragments of a track of the first movie, or None if there is a fault, in the tables of
+    the track too, or no track."""
     file, samples = File(data), []
     movies = [box for box in boxes(data, 0, len(data), True) if box[0] == b"moov"]
     tracks = [trak for trak in file.tracks if file.track(trak)[0] == track]
     if len(movies) != 1 or not tracks:
         return None
     try:
-        time = begin_of(data, tracks[0])
+        time = table_time(file.tables(tracks[0]))
     except Bad:
         return None
     for _, traf, header, base in file.fragments.get(track, []):

@@ -19,13 +19,13 @@ static const char FILE_BYTES[] = "\0\0\0\x10"
 #define SOUN CODE('s', 'o', 'u', 'n')
 static const struct mp4_box BOXES[] = {
     {0, 16, 8, 0, 0, CODE('f', 't', 'y', 'p'), 0, 0, MP4_LEAF, 0},
-    {16, 65, 8, 24, 0, CODE('m', 'o', 'o', 'v'), 0, 0, MP4_PARENT, 1},
-    {24, 57, 8, 32, 1, CODE('t', 'r', 'a', 'k'), CODE('m', 'o', 'o', 'v'), 0, MP4_PARENT, 1},
-    {32, 49, 8, 40, 2, CODE('m', 'd', 'i', 'a'), CODE('t', 'r', 'a', 'k'), 0, MP4_PARENT, 1},
-    {40, 33, 8, 0, 3, CODE('h', 'd', 'l', 'r'), CODE('m', 'd', 'i', 'a'), 0, MP4_LEAF, 1},
-    {73, 8, 8, 81, 3, CODE('m', 'i', 'n', 'f'), CODE('m', 'd', 'i', 'a'), SOUN, MP4_PARENT, 1},
-    {81, 20, 16, 0, 0, CODE('f', 'r', 'e', 'e'), 0, 0, MP4_LEAF, 1},
-    {101, 100, 8, 0, 0, CODE('m', 'd', 'a', 't'), 0, 0, MP4_CUT, 1},
+    {16, 65, 8, 24, 0, CODE('m', 'o', 'o', 'v'), 0, 0, MP4_PARENT, 0},
+    {24, 57, 8, 32, 1, CODE('t', 'r', 'a', 'k'), CODE('m', 'o', 'o', 'v'), 0, MP4_PARENT, 0},
+    {32, 49, 8, 40, 2, CODE('m', 'd', 'i', 'a'), CODE('t', 'r', 'a', 'k'), 0, MP4_PARENT, 0},
+    {40, 33, 8, 0, 3, CODE('h', 'd', 'l', 'r'), CODE('m', 'd', 'i', 'a'), 0, MP4_LEAF, 0},
+    {73, 8, 8, 81, 3, CODE('m', 'i', 'n', 'f'), CODE('m', 'd', 'i', 'a'), SOUN, MP4_PARENT, 0},
+    {81, 20, 16, 0, 0, CODE('f', 'r', 'e', 'e'), 0, 0, MP4_LEAF, 0},
+    {101, 100, 8, 0, 0, CODE('m', 'd', 'a', 't'), 0, 0, MP4_CUT, 0},
 };
 #define COUNT (sizeof BOXES / sizeof BOXES[0])
 
@@ -33,7 +33,7 @@ static int are_same(const struct mp4_box *one, const struct mp4_box *other) {
     return one->position == other->position && one->length == other->length &&
            one->header_length == other->header_length && one->children == other->children &&
            one->depth == other->depth && one->code == other->code && one->parent == other->parent &&
-           one->handler == other->handler && one->what == other->what && one->is_quicktime == other->is_quicktime;
+           one->handler == other->handler && one->what == other->what && one->stsd_version == other->stsd_version;
 }
 
 /* Calls the walk with the bytes that it wants, or with fewer. They end with a page. */

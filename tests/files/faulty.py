@@ -264,7 +264,7 @@ def lacks():
 
     media = front()
     case("no mvhd", media + box(b"moov", trak(table)), b"moov", "moov", "there is no mvhd")
-    case("a compressed movie", media + box(b"moov", box(b"cmov", bytes(4))), b"moov", "moov", None)
+    case("a compressed movie", media + box(b"moov", box(b"cmov", box(b"dcom", b"zlib"))), b"moov", "moov", None)
     case("references to movies", media + box(b"moov", box(b"rmra", b"")), b"moov", "moov", None)
     entries = stsd(visual(b"mp4v", 64, 48, b"", b""))
     case("an stbl of an stsd", media + moov(trak(box(b"stbl", entries))), b"stbl", STBL,
@@ -285,6 +285,13 @@ def lacks():
     case("no mdia", media + moov(box(b"trak", tkhd(1))), b"trak", "moov/trak", "there is no mdia")
     case("no mdhd", media + moov(box(b"trak", tkhd(1) + box(b"mdia", handler(b"vide", b"") + box(b"minf", table)))),
          b"mdia", "moov/trak/mdia", "there is no mdhd")
+    clock = mdhd(1000, b"und")
+    case("no minf", media + moov(box(b"trak", tkhd(1) + box(b"mdia", clock))), b"mdia", "moov/trak/mdia",
+         "there is no minf")
+    case("no mdhd and no minf", media + moov(box(b"trak", tkhd(1) + box(b"mdia"))), b"mdia", "moov/trak/mdia",
+         "there is no mdhd, no minf")
+    case("no stbl", media + moov(box(b"trak", tkhd(1) + box(b"mdia", clock + box(b"minf")))), b"minf",
+         "moov/trak/mdia/minf", "there is no stbl")
     case("no mfhd", box(b"moof", traf(1, 0x20000, b"")), b"moof", "moof", "there is no mfhd")
     case("no tfhd", moof(box(b"traf")), b"traf", "moof/traf", "there is no tfhd")
     cut = media + moov(trak(table))
@@ -350,13 +357,14 @@ def twice():
     case("mdia", "mdhd", put(b"mdia", mdhd(1, b"und")), b"mdhd", f"{mdia}/mdhd[1]")
     case("mdia", "hdlr", put(b"mdia", handler(b"vide", b"")), b"hdlr", f"{mdia}/hdlr[1]")
     case("mdia", "elng", put(b"mdia", full(b"elng", 0, 0, b"de\0") * 2), b"elng", f"{mdia}/elng[1]")
-    case("mdia", "minf", put(b"mdia", box(b"minf")), b"minf", f"{mdia}/minf[1]")
+    case("mdia", "minf", put(b"mdia", box(b"minf", table)), b"minf", f"{mdia}/minf[1]")
     case("trak", "tkhd", put(b"trak", tkhd(2)), b"tkhd", "moov/trak/tkhd[1]")
     for name in (b"tref", b"trgr", b"edts", b"udta"):
         case("trak", name.decode(), put(b"trak", box(name) * 2), name, f"moov/trak/{name.decode()}[1]")
     items = full(b"meta", 0, 0, handler(b"mdta", b""))
     case("trak", "meta", put(b"trak", items * 2), b"meta", "moov/trak/meta[1]")
-    case("trak", "mdia", put(b"trak", box(b"mdia", mdhd(1, b"und"))), b"mdia", "moov/trak/mdia[1]")
+    case("trak", "mdia", put(b"trak", box(b"mdia", mdhd(1, b"und") + box(b"minf", table))), b"mdia",
+         "moov/trak/mdia[1]")
     case("moov", "mvhd", put(b"moov", mvhd()), b"mvhd", "moov/mvhd[1]")
     for name in (b"iods", b"mvex", b"udta"):
         content = full(b"iods", 0, 0, bytes(4)) if name == b"iods" else box(name)

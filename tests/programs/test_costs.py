@@ -3,20 +3,30 @@
 has to write more than half of it. It may have twice as many addresses as the table has memory, since a vector that
 grows has two copies for a moment.
 
+Also measures the processor time of each command over movies with many tracks and fragments. It has to be linear in
+their number. The times of `qt-faststart` are printed beside those of `faststart`, if it is on the machine.
+
 Setting: LENGTH, the approximate number of bytes of a file (100,000)."""
 
+import os
 import re
+import shutil
 import subprocess
 import tempfile
 import unittest
 
 from tests.built import built, number, source
+from tests.files import faulty
 from tests.files.made import be, box, full, nested
 
 PLACE = [b"moov", b"trak", b"mdia", b"minf", b"stbl"]
 DEEPEST = [b"moov"] + [b"trak"] * 31
 # A number of KiB that is enough for the addresses of a run over a small file.
 SMALL_RUN = 8192
+# The numbers of tracks of movies. Between the last two the time may grow by GROWTH, twice as much as the tracks, and by
+# SPARE seconds, since short runs differ. A run over a movie ends after MOST seconds.
+TRACKS, GROWTH, SPARE, MOST = (100, 400, 1600), 8, 0.1, 30
+COMMANDS = [[], ["--json"], ["check"], ["samples", "--csv"], ["faststart"]]
 
 
 def long_paths(content, boxes):
@@ -58,6 +68,58 @@ def rows():
         yield what, [] if command == "no option" else [command.strip("`")], int(output), int(memory)
 
 
+def tracks(count):
+    """Returns a movie of `count` tracks with a sample each, behind the media data."""
+    tables = [faulty.stbl([faulty.MEDIA + index], [1]) for index in range(count)]
+    return faulty.front(count) + faulty.moov(*(faulty.trak(it, track_id) for track_id, it in enumerate(tables, 1)))
+
+
+def fragments(count):
+    """Returns a movie of `count` tracks without samples, with a fragment of a sample each, behind the media data. The
+    fragments are in as many movie fragments as there are tracks in each."""
+    ids, each = range(1, count + 1), int(count**0.5)
+    defaults = box(b"mvex", b"".join(full(b"trex", 0, 0, be(4, track_id, 1, 10, 1, 0)) for track_id in ids))
+    trafs = [faulty.traf(track_id, 1, be(8, faulty.MEDIA), faulty.trun(0, [1])) for track_id in ids]
+    movie = faulty.moov(*(faulty.trak(faulty.stbl([], []), track_id) for track_id in ids), defaults)
+    return faulty.front() + movie + b"".join(faulty.moof(*trafs[at:at + each]) for at in range(0, count, each))
+
+
+def seconds(words):
+    """Returns the processor time of a run, which has to succeed: the least of three runs, if they are short."""
+    least = MOST
+    for _ in range(3):
+        with subprocess.Popen(["sh", "-c", f'ulimit -t {MOST} && exec "$@"', "sh", *words], stdout=subprocess.DEVNULL,
+                              stderr=subprocess.PIPE) as process:
+            said = process.stderr.read()
+            _, status, usage = os.wait4(process.pid, 0)
+            process.returncode = os.waitstatus_to_exitcode(status)
+        if process.returncode:
+            raise AssertionError(f"{words}: status {process.returncode}, {said}")
+        least = min(least, usage.ru_utime + usage.ru_stime)
+        if least > 1:
+            break
+    return least
+
+
+def times(make, words):
+    """Returns the processor times of the runs over the movies of `make`. `words` returns the command for the path of a
+    movie and another path."""
+    with tempfile.TemporaryDirectory() as folder:
+        took = []
+        for count in TRACKS:
+            path = os.path.join(folder, f"{count}.mp4")
+            with open(path, "wb") as file:
+                file.write(make(count))
+            took.append(seconds(words(path, path + ".out")))
+    return took
+
+
+def said(words, make, took):
+    """Returns the line of some times."""
+    return f"{' '.join(words) or 'tree'}, {make.__name__}: " + ", ".join(
+        f"{count}: {time:.3f} s" for count, time in zip(TRACKS, took))
+
+
 class Costs(unittest.TestCase):
     def test_each_file_has_its_row(self):
         self.assertEqual({what for what, *_ in rows()}, set(costly(1000)))
@@ -77,6 +139,28 @@ class Costs(unittest.TestCase):
                 self.assertEqual(done.stderr, b"")
                 found = len(done.stdout) / len(data)
                 self.assertTrue(output / 2 < found <= output, f"{found:.1f} times the file is written, not {output}")
+
+
+class Times(unittest.TestCase):
+    def compare(self, make, words):
+        """Measures a command over the movies of `make`, and prints the times."""
+        program = built("mp4_inspect")
+        took = times(make, lambda path, out: [program, *words, "--", path, *[out] * (words == ["faststart"])])
+        self.assertLess(took[-1], GROWTH * took[-2] + SPARE, said(words, make, took))
+        print(f"costs: {said(words, make, took)}")
+        if words == ["faststart"] and shutil.which("qt-faststart"):
+            took = times(make, lambda path, out: ["qt-faststart", path, out])
+            print(f"costs: {said(['qt-faststart'], make, took)}")
+
+
+def time_of(make, words):
+    return lambda self: self.compare(make, words)
+
+
+for make_ in (tracks, fragments):
+    for words_ in COMMANDS:
+        if make_ is not fragments or words_ != ["faststart"]:
+            setattr(Times, f"test_{(words_ or ['tree'])[0].strip('-')}_of_{make_.__name__}", time_of(make_, words_))
 
 
 if __name__ == "__main__":

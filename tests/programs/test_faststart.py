@@ -20,15 +20,20 @@ import socket
 import stat
 import subprocess
 import tempfile
+import time
 import unittest
 
 from tests.built import built, number
-from tests.files.made import be, box, ftyp, full, movie, track
+from tests.files.made import be, box, ftyp, full, movie, tkhd, track
 from tests.readers.samples import File, boxes, disagreement, inner, table_samples, tables_of
 
 OFFSETS = {b"stco": 4, b"co64": 8}
 HOLDS = (b"moov", b"trak", b"mdia", b"minf", b"stbl")
 MEMORY = 64 << 20
+# The text of a table whose count is too large.
+MANY = "stts entry_count indicates more entries than could fit in the box"
+# The number of tracks of a file, and the most seconds that it takes.
+TRACKS, SECONDS = 3200, 10
 
 
 def fail(text):
@@ -36,13 +41,17 @@ def fail(text):
 
 
 class Track:
-    """A track: the sizes of the samples of its chunks, and the contents of its other tables."""
+    """A track: the sizes of the samples of its chunks, the contents of its other tables, and its header. `number` is
+    its track_ID, unless the header has another one. A track that `has_tables` is false for has only an `stsd`."""
 
-    def __init__(self, number, chunks, wide=False, sync=None, shifts=None, one=0, pad=b"", sizes=None):
+    def __init__(self, number, chunks, wide=False, sync=None, shifts=None, one=0, pad=b"", sizes=None, header=None,
+                 has_tables=True):
         self.number, self.chunks, self.wide, self.sync, self.shifts = number, chunks, wide, sync, shifts
-        self.one, self.pad, self.sizes = one, pad, sizes
+        self.one, self.pad, self.sizes, self.header, self.has_tables = one, pad, sizes, header, has_tables
 
     def box(self, offsets):
+        if not self.has_tables:
+            return track(self.number, b"vide", b"", b"eng", [], b"", self.header)
         sizes = [size for chunk in self.chunks for size in chunk] if self.sizes is None else self.sizes
         runs = [be(4, index, len(chunk), 1) for index, chunk in enumerate(self.chunks, 1)]
         table = full(b"stts", 0, 0, be(4, 1, len(sizes), 512))
@@ -54,7 +63,7 @@ class Track:
         table += full(b"stsz", 0, 0, be(4, self.one, len(sizes)) + (b"" if self.one else be(4, *sizes)))
         name = b"co64" if self.wide else b"stco"
         table += full(name, 0, 0, be(4, len(offsets)) + be(OFFSETS[name], *offsets) + self.pad)
-        return track(self.number, b"vide", b"", b"eng", [], table)
+        return track(self.number, b"vide", b"", b"eng", [], table, self.header)
 
 
 def bytes_for(random_, size):
@@ -106,8 +115,9 @@ def blank(data, found):
 
 
 def samples_of(data):
-    """Returns the samples of each track, by its number: the bytes of each, and all its columns except its offset."""
-    file, found = File(data), {}
+    """Returns the track_ID of each track, or None if its header can't be read, and its samples: the bytes of each, and
+    all its columns except its offset."""
+    file, found = File(data), []
     for trak in file.tracks:
         number, _, _, _ = file.track(trak)
         table = trak
@@ -116,9 +126,10 @@ def samples_of(data):
         tables = tables_of(data, table)
         if disagreement(tables):
             fail(f"track {number}: {disagreement(tables)}")
-        found[number] = [(data[row[0]:row[0] + row[1]], *row[1:]) for row in table_samples(tables)[0]]
-        if any(len(row[0]) != row[1] for row in found[number]):
+        samples = [(data[row[0]:row[0] + row[1]], *row[1:]) for row in table_samples(tables)[0]]
+        if any(len(row[0]) != row[1] for row in samples):
             fail(f"track {number}: a sample is not in the file")
+        found.append((number, samples))
     return found
 
 
@@ -137,7 +148,7 @@ def compare(name, before, after):
         fail(f"{name}: the moov is not before the first mdat: {codes}")
     if samples_of(before) != samples_of(after):
         fail(f"{name}: a sample is changed")
-    return sum(len(rows) for rows in samples_of(after).values())
+    return sum(len(rows) for _, rows in samples_of(after))
 
 
 class Runs:
@@ -228,6 +239,14 @@ def moved(runs, random_, files):
     runs.moves("an empty sample at the end", made(random_, [Track(1, [[4, 0], [0]])]))
     # Bytes after the entries of a table are not offsets.
     runs.moves("bytes after the entries", made(random_, [Track(1, [[10, 20], [30]], pad=be(4, 40, 41))]))
+    # Tracks differ by their numbers, whatever their headers are.
+    second = tkhd(1)
+    for what, header in (("two tracks of one track_ID", second), ("no header", box(b"free", second[8:])),
+                         ("a header of version 2", second[:8] + b"\x02" + second[9:]),
+                         ("a short header", box(b"tkhd", second[8:60])), ("two headers", second + tkhd(2))):
+        runs.moves(what, made(random_, [one, Track(2, [[5], [6, 7]], header=header)], [1, 2, 2, 1]))
+    runs.moves("a track without tables", made(random_, [Track(1, [], has_tables=False), Track(2, [[5], [6, 7]])]))
+    runs.moves("no track", ftyp(b"isom") + box(b"mdat", b"media") + movie())
     for index in range(files):
         items = [tables(random_, number, random_.randrange(1, 6), random_.random() < 0.5)
                  for number in range(1, random_.randrange(2, 5))]
@@ -276,24 +295,30 @@ def refused(runs, random_):
     away = plain.index(full(b"url ", 0, 1))
     data = plain[:away + 8] + bytes(4) + plain[away + 12:]
     runs.refuses(data, f"url  at {away}: the media data are in another file")
+    # A track is named by its number, counted from 1, and the position of its trak.
+    traks = [it[1] for it in inner(plain, tops[b"moov"]) if it[0] == b"trak"]
+    lost = "overlaps the moov, or lies on both sides of the place where it goes"
     # One sample is in the moov, one continues in it, and one begins before the mdat and ends in it.
-    for which, number in ((movie_at + 8, 1), (movie_at - 2, 1), (tops[b"mdat"][1] - 2, 1)):
+    for which in (movie_at + 8, movie_at - 2, tops[b"mdat"][1] - 2):
         at = plain.index(b"stco") + 12
         data = plain[:at] + be(4, which) + plain[at + 4:]
-        runs.refuses(data, f"track 1: sample {number} would not be the same bytes")
+        runs.refuses(data, f"trak 1 at {traks[0]}: sample 1 {lost}")
     at = plain.index(b"stco") + 16
     data = plain[:at] + be(4, movie_at - 29) + plain[at + 4:]
-    runs.refuses(data, "track 1: sample 3 would not be the same bytes")
-    runs.refuses(made(random_, [Track(1, [[10]], sizes=[10, 11])]), "track 1: the chunks hold 1 of 2 samples")
-    at = plain.rindex(b"tkhd") + 16
-    runs.refuses(plain[:at] + be(4, 1) + plain[at + 4:], "track 1: another track has the same track_ID")
-    data = plain.replace(b"stts", b"free", 1)
-    runs.refuses(data, "track 1: there is no stts")
-    data = plain.replace(b"tkhd", b"free", 1)
-    trak = [it for it in inner(plain, tops[b"moov"]) if it[0] == b"trak"][0]
-    runs.refuses(data, f"trak at {trak[1]}: there is no tkhd that can be read")
-    at = plain.index(b"tkhd") + 4
-    runs.refuses(plain[:at] + b"\x02" + plain[at + 1:], f"tkhd at {at - 8}: version must be 0 or 1")
+    runs.refuses(data, f"trak 1 at {traks[0]}: sample 3 {lost}")
+    at = plain.rindex(b"stco") + 16
+    data = plain[:at] + be(4, movie_at - 12) + plain[at + 4:]
+    runs.refuses(data, f"trak 2 at {traks[1]}: sample 3 {lost}")
+    for at, name in ((plain.rindex(b"stts"), "stts"), (plain.rindex(b"stsc"), "stsc")):
+        runs.refuses(plain[:at] + b"free" + plain[at + 4:], f"trak 2 at {traks[1]}: there is no {name}")
+    runs.refuses(plain.replace(b"mdia", b"free", 1), f"trak 1 at {traks[0]}: there is no mdia")
+    at = plain.rindex(b"stts") + 8
+    data = plain[:at] + be(4, 9) + plain[at + 4:]
+    runs.refuses(data, f"trak 2 at {traks[1]}: stts at {at - 12}: {MANY}")
+    data = made(random_, [one, Track(2, [[10]], sizes=[10, 11])])
+    top = next(it for it in boxes(data, 0, len(data), True) if it[0] == b"moov")
+    at = [it[1] for it in inner(data, top) if it[0] == b"trak"][1]
+    runs.refuses(data, f"trak 2 at {at}: the chunks hold 1 of 2 samples")
     # An offset of 32 bits would overflow.
     runs.write("in.mp4", ftyp(b"isom") + be(4, 1) + b"mdat" + be(8, 2**32 - 100))
     start = len(ftyp(b"isom"))
@@ -508,6 +533,18 @@ def large(runs):
     runs.samples += compare("large", runs.read("in.mp4"), runs.read("out.mp4"))
 
 
+def many(runs, random_):
+    """Moves the moov of a file of many tracks in little time."""
+    runs.write("in.mp4", made(random_, [Track(number, [[1, 2], [3]]) for number in range(1, TRACKS + 1)]))
+    began = time.monotonic()
+    done = subprocess.run([runs.program, "faststart", "in.mp4", "out.mp4"], cwd=runs.folder, capture_output=True,
+                          text=True, timeout=120, check=False)
+    took = time.monotonic() - began
+    if done.returncode or took > SECONDS:
+        fail(f"{TRACKS} tracks: {took:.1f} s, status {done.returncode}, {done.stderr!r}")
+    runs.samples += compare("many tracks", runs.read("in.mp4"), runs.read("out.mp4"))
+
+
 class FastStart(unittest.TestCase):
     def setUp(self):
         folder, place = (tempfile.mkdtemp(prefix="faststart-") for _ in range(2))
@@ -533,6 +570,9 @@ class FastStart(unittest.TestCase):
 
     def test_large_media_data_in_little_memory(self):
         large(self.runs)
+
+    def test_many_tracks(self):
+        many(self.runs, self.random)
 
 
 if __name__ == "__main__":

@@ -37,10 +37,10 @@ from tests.readers.inspect import document, every, faults, is_escaped, is_faulty
 from tests.readers.samples import written
 
 USAGE = "Usage: "
-# Boxes of media and of free space, whose contents are not read. Of a hundred other boxes, at least SHOWN are shown with
-# their fields.
+# Boxes of media and of free space, whose contents are not read. Of a hundred other boxes that have a name, at least
+# SHOWN are shown with their fields.
 NOT_READ = {"mdat", "free", "skip", "wide"}
-SHOWN = 95
+SHOWN = 98
 
 
 def fail(text):
@@ -97,7 +97,7 @@ class Runs:
         boxes = tree(data)
         arguments = [] if rows == 8 else ["--rows", str(rows)]
         text = self.out(int(is_faulty(boxes)), *arguments, "-", input=data)
-        wanted = lines(data, boxes, rows, self.names)
+        wanted = lines(boxes, rows, self.names)
         self.same(text.split("\n"), [*wanted, ""], what)
         return boxes, wanted
 
@@ -146,9 +146,10 @@ class Runs:
 
 
 def shown_fields(named):
-    """Returns how many boxes of the files `named` are shown with their fields, and how many could be: all that can be
-    read, except those that hold only boxes."""
-    boxes = [box for data in named.values() for box, _ in every(tree(data)) if box["type"] not in NOT_READ]
+    """Returns how many boxes of the files `named` are shown with their fields, and how many could be: all with a name
+    that can be read, except those that hold only boxes."""
+    codes = called().keys() - NOT_READ
+    boxes = [box for data in named.values() for box, _ in every(tree(data)) if box["type"] in codes]
     found = sum("fields" in box for box in boxes)
     return found, found + sum(not {"fields", "fault", "children"} & set(box) for box in boxes)
 
@@ -179,7 +180,7 @@ def on_terminal(program, arguments, data, environment):
 def terminals(runs, data):
     """Checks the width and the colours on a terminal."""
     whole = on_terminal(runs.program, ["--wide", "-"], data, {"COLUMNS": "80", "NO_COLOR": "1"})
-    if whole.split("\n")[:-1] != lines(data, tree(data), 8, runs.names):
+    if whole.split("\n")[:-1] != lines(tree(data), 8, runs.names):
         fail("a terminal with --wide and NO_COLOR: not the lines of a pipe")
     narrow = on_terminal(runs.program, ["-"], data, {"COLUMNS": "60", "NO_COLOR": "1"})
     long = [line for line in narrow.split("\n") if len(line) > 60 and " " in line.strip()[:-1].split(": ")[-1]]
@@ -233,13 +234,13 @@ def arguments(runs, folder):
         if wanted not in runs.out(0, *words):
             fail(f"{words}: not {wanted}")
     boxes = tree(plain)
-    text = "\n".join(lines(plain, boxes, 8, runs.names)) + "\n"
-    cut = "\n".join(lines(short, tree(short), 8, runs.names)) + "\n"
+    text = "\n".join(lines(boxes, 8, runs.names)) + "\n"
+    cut = "\n".join(lines(tree(short), 8, runs.names)) + "\n"
     for words, status, wanted in (
             (["plain.mp4"], 0, text), (["--", "check"], 0, text), (["cut.mp4"], 1, cut),
             (["plain.mp4", "cut.mp4"], 1, f"plain.mp4:\n{text}\ncut.mp4:\n{cut}"),
-            (["--all", "plain.mp4"], 0, "\n".join(lines(plain, boxes, 10**9, runs.names)) + "\n"),
-            (["--rows", "0", "plain.mp4"], 0, "\n".join(lines(plain, boxes, 0, runs.names)) + "\n")):
+            (["--all", "plain.mp4"], 0, "\n".join(lines(boxes, 10**9, runs.names)) + "\n"),
+            (["--rows", "0", "plain.mp4"], 0, "\n".join(lines(boxes, 0, runs.names)) + "\n")):
         if runs.out(status, *words) != wanted:
             fail(f"{words}: not what is wanted")
     found = load(runs.out(1, "--json", "plain.mp4", "cut.mp4"))
@@ -277,7 +278,7 @@ def names(runs, folder):
     """Checks names that are not UTF-8: they are reported, and the other files are shown. Checks names with control
     characters."""
     plain, cut = (stored("plain"), stored("plain")[:890])
-    text, cut_text = ("\n".join(lines(data, tree(data), 8, runs.names)) + "\n" for data in (plain, cut))
+    text, cut_text = ("\n".join(lines(tree(data), 8, runs.names)) + "\n" for data in (plain, cut))
     refused = "this name is not UTF-8, and only names that are can be opened\n"
     cafe, said = b"caf\xe9\x1b.mp4", "mp4inspect: caf\\xe9\\u{1b}.mp4: " + refused
     write_file(folder, os.fsdecode(cafe), plain)
@@ -359,7 +360,7 @@ def reading(runs, folder):
     """Checks files that are pipes, devices or folders, the reasons of failed reads, and the standard input where it is
     a file."""
     plain = stored("plain")
-    text = "\n".join(lines(plain, tree(plain), 8, runs.names)) + "\n"
+    text = "\n".join(lines(tree(plain), 8, runs.names)) + "\n"
     fifo = os.path.join(folder, "fifo")
     os.mkfifo(fifo)
     for words in (["fifo"], ["fifo", "plain.mp4"]):
@@ -622,7 +623,7 @@ def test_of(name):
 def setUpModule():
     if os.environ.get("TEST_WRITE"):
         for name, data in files().items():
-            text = "\n".join([*lines(data, tree(data), 8, called()), ""])
+            text = "\n".join([*lines(tree(data), 8, called()), ""])
             write_file(FILES, f"{name}.txt", text.encode("utf-8"))
 
 

@@ -19,6 +19,7 @@ It needs about a minute for each run of the tests. It is not part of the gate.
 """
 import argparse
 import concurrent.futures
+import json
 import os
 import queue
 import re
@@ -31,7 +32,9 @@ from tests.built import TOP
 from tests.files.inspected import files, text_of_tree
 from tests.readers.compared import differences, misplaced, otherwise, outcomes_by_layout, trees_otherwise
 from tests.readers.inputs import Maker
+from tests.readers.inspect import plain, tree
 from tests.readers.shown import records, texts_of
+from tests.readers.test_containers import lines
 from tests.rows import rows
 
 CHANGES = os.path.join(TOP, "tests", "prover", "wrong-definitions.txt")
@@ -273,13 +276,20 @@ class Copy:
         return list(failed)
 
     def failed_trees(self):
-        """Returns the names of the files of tests/programs/test_inspect.py whose tree differs."""
+        """Returns the names of the files of test_inspect.py and of the lines of tests/containers.txt whose tree
+        differs."""
         of_files = files()
         found = self.outputs("mp4_inspect", list(of_files.values()), "--", "-")
         if found is None:
             return [f"{TREES}: the program stops at a fault"]
-        trees = [out.decode("utf-8").strip("\n") for out in found]
-        return [f"{TREES}::{name}" for name, tree in zip(of_files, trees) if tree != text_of_tree(name).strip("\n")]
+        texts = [out.decode("utf-8").strip("\n") for out in found]
+        failed = [f"{TREES}::{name}" for name, text in zip(of_files, texts) if text != text_of_tree(name).strip("\n")]
+        of_lines = [(line, line.file()[0]) for line in lines()]
+        found = self.outputs("mp4_inspect", [data for _, data in of_lines], "--", "--json", "-")
+        if found is None:
+            return failed + [f"{TREES}: the program stops at a fault"]
+        return failed + [f"{TREES}::container_{line.code.decode()}" for (line, data), out in zip(of_lines, found)
+                         if json.loads(out)[0]["boxes"] != plain(tree(data))]
 
     def failed_tests(self, crate, changes=()):
         """Returns the names of the tests of `crate` that fail, and of the rows that can catch `changes`. Raises Refused

@@ -9,8 +9,8 @@ import re
 
 from tests.built import TOP
 from tests.readers.extra import MORE
+from tests.readers.fronts import ALONE, NUMBERED, SOUND, SOUND_ENTRY, VIDEO, VIDEO_ENTRY
 from tests.readers.readers import READERS
-from tests.readers.trees import ALONE, SOUND, VIDEO
 from tests.rows import rows
 
 SOURCES = os.path.join(TOP, "crates/*/src/**/*.rt")
@@ -28,11 +28,11 @@ COUNTS = [0, 1, 2, 3, 4, 5, 2**16, 2**28, 2**29 + 1, 2**30, 2**30 + 1, 2**31 - 1
 SIZES = [0, 1, 2, 7, 8, 9, 11, 12, 13, 14, 15, 16, 17, 20, 24, 32, 33, 34, 36, 37, 2**31, 2**32 - 1]
 LARGE_SIZES = SIZES + [0, 15, 16, 2**32, 2**63, 2**64 - 25, 2**64 - 17, 2**64 - 16, 2**64 - 9, 2**64 - 8, 2**64 - 1]
 # Boxes that hold boxes, with the bytes before the first one.
-PARENTS = [
-    (code.encode(), bytes(front))
-    for codes, front in [(ALONE, 0), (["meta"], 0), (["meta"], 4), (["stsd", "dref"], 8), (VIDEO, 78), (SOUND, 28)]
-    for code in codes
-]
+PARENTS = [(code, bytes(front))
+           for codes, front in [(ALONE, 0), ([b"meta"], 0), ([b"meta"], 4), (VIDEO, VIDEO_ENTRY), (SOUND, SOUND_ENTRY)]
+           for code in codes]
+PARENTS += [(code, bytes(front)) for code, front in NUMBERED.items()]
+PARENTS += [(b"iinf", b"\1" + bytes(7))]
 PARENTS += [(b"mp4a", bytes(8) + b"\0\1" + bytes(34)), (b"enca", bytes(8) + b"\0\2" + bytes(54))]
 POSITIONS = [1, 8, 2**32 - 8, 2**32, 2**63, 2**64 - 16, 2**64 - 9, 2**64 - 8, 2**64 - 1]
 

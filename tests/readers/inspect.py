@@ -9,11 +9,11 @@ import math
 import struct
 
 from tests.readers.extra import MORE, Code, Hex, Named, more_fields
+from tests.readers.fronts import QUICKTIME_SOUNDS, SOUND_ENTRY, TEXT_ENTRY, VIDEO_ENTRY, bytes_before
 from tests.readers.headers import Fault, Header
 from tests.readers.readers import READERS, read_row
 from tests.readers.samples import disagreement
 
-CONTAINERS = b"moov trak mdia minf stbl edts mvex moof traf mfra udta dinf sinf schi wave iprp ipco ilst".split()
 # The boxes that files have at their top level (ISO/IEC 14496-12, and QuickTime's).
 TOPS = b"ftyp styp moov moof mdat meta free skip wide uuid udta sidx ssix prft emsg mfra pdin pnot".split()
 DEEPEST = 32
@@ -58,17 +58,16 @@ def visual(data, at):
             "compressorname": name, "depth": number(data, at + 74, 2)}
 
 
-def sound(data, at, size, quicktime):
+def sound(data, at, size, front):
     fields = {"data_reference_index": number(data, at + 6, 2)}
-    version = number(data, at + 8, 2)
-    if quicktime:
-        fields["version"] = version
+    if front in QUICKTIME_SOUNDS.values():
+        fields["version"] = number(data, at + 8, 2)
     fields.update(channelcount=number(data, at + 16, 2), samplesize=number(data, at + 18, 2),
                   samplerate=number(data, at + 24, 4) / 65536)
-    if quicktime and version == 1 and size >= 44:
+    if front == QUICKTIME_SOUNDS[1] <= size:
         names = ["samples_per_packet", "bytes_per_packet", "bytes_per_frame", "bytes_per_sample"]
         fields.update((name, number(data, at + 28 + 4 * index, 4)) for index, name in enumerate(names))
-    if quicktime and version == 2 and size >= 64:
+    if front == QUICKTIME_SOUNDS[2] <= size:
         fields["audio_sample_rate"] = float_in(data[at + 32:at + 40])
         fields.update(num_audio_channels=number(data, at + 40, 4), const_bits_per_channel=number(data, at + 48, 4),
                       format_specific_flags=number(data, at + 52, 4),
@@ -171,25 +170,25 @@ class Walk:
     """A walk over the boxes of a file."""
 
     def __init__(self, data):
-        self.data, self.quicktime, self.handler = data, False, None
-        self.boxes = self.level(0, 0, len(data), None)
+        self.data, self.handler = data, None
+        self.boxes = self.level(0, 0, len(data))
 
-    def brief(self, name, content, end, parent, first):
+    def brief(self, name, content, end, parent, front):
         """Returns the fields at the front of a box that holds boxes, or None if the box is too short for them."""
         data, size = self.data, end - content
         if parent == b"stsd":
-            if self.handler == b"vide":
-                return visual(data, content) if size >= 78 else None
-            if self.handler == b"soun":
-                return sound(data, content, size, self.quicktime) if size >= 28 else None
+            if front == VIDEO_ENTRY:
+                return visual(data, content) if size >= VIDEO_ENTRY else None
+            if front in (SOUND_ENTRY, *QUICKTIME_SOUNDS.values()):
+                return sound(data, content, size, front) if size >= SOUND_ENTRY else None
             return {"data_reference_index": number(data, content + 6, 2)} if size >= 8 else None
         if name in (b"stsd", b"dref"):
             return dict(full(data, content), entry_count=number(data, content + 4, 4)) if size >= 8 else None
-        if name == b"meta" and first == 4:
+        if name == b"meta" and front == 4:
             return full(data, content)
         return {}
 
-    def leaf(self, name, at, content, end, parent):
+    def leaf(self, name, at, content, end, parent, front):
         """Returns the fields of a box that the walk does not enter, or its fault. Returns neither if the box is not
         read."""
         data = self.data
@@ -203,7 +202,7 @@ class Walk:
         if not is_read or name == b"mp4a" and parent == b"wave":
             if parent != b"stsd":
                 return {}
-            fields = self.brief(name, content, end, parent, 0)
+            fields = self.brief(name, content, end, parent, front)
             return {"fault": "unexpected end of input"} if fields is None else {"fields": fields}
         own = data[at:end]
         try:
@@ -218,30 +217,7 @@ class Walk:
             return {"fault": words.get(kind) or rest[0] + (" not found" if kind == "NotFound" else "")}
         return {"fields": fields_of(latin(name), own_texts(latin(name), box, data[content:end]))}
 
-    def fields_before(self, name, content, end, parent):
-        """Returns the number of bytes before the first box in a box, if it holds boxes and has room for the bytes."""
-        before = self.fields_of(name, content, end, parent)
-        return None if before is None or end - content < before else before
-
-    def fields_of(self, name, content, end, parent):
-        """Returns the number of bytes before the first box in a box with the name `name`, if such boxes hold boxes."""
-        data = self.data
-        if parent == b"ilst":
-            return 0
-        if parent == b"stsd":
-            if self.handler == b"vide":
-                return 78
-            if self.handler == b"soun":
-                version = number(data, content + 8, 2) if end - content >= 10 else 0
-                return {1: 44, 2: 64}.get(version, 28) if self.quicktime else 28
-            return {b"tx3g": 38, b"wvtt": 8, b"mp4s": 8}.get(name)
-        if name in CONTAINERS:
-            return 0
-        if name == b"meta":
-            return 0 if end - content < 4 or end - content >= 8 and data[content + 4:content + 8] == b"hdlr" else 4
-        return 8 if name in (b"stsd", b"dref") else None
-
-    def level(self, depth, at, end, parent, in_entry=False):
+    def level(self, depth, at, end, parent=None, in_entry=False, stsd_version=0):
         """Returns the boxes from the offset `at` to `end`, the end of the content that holds them. In QuickTime the
         boxes of a `udta` and of a sample entry may end with a size of 0 without a code (QuickTime File Format: User
         Data Atoms, Sample Descriptions)."""
@@ -268,36 +244,36 @@ class Walk:
                 return boxes
             after = min(at + size, end)
             box.update(length=size, header=header)
-            self.box(box, depth, name, at + header, after, parent, size > left)
+            self.box(box, depth, name, at + header, after, parent, size > left, stsd_version)
             at = after
         return boxes
 
-    def box(self, box, depth, name, content, end, parent, cut):
+    def box(self, box, depth, name, content, end, parent, cut, stsd_version):
         """Adds everything except the header to `box`."""
-        before = self.fields_before(name, content, end, parent)
+        front = bytes_before(name, self.data[content:end], parent, self.handler, stsd_version)
+        before = None if front is None or end - content < front else front
         outer = self.handler
         if cut:
             is_foreign = box["position"] == 0 and box["header"] == 8 and name not in TOPS
             box.update(fault=NOT_MP4 + f"it begins with {front_text(self.data)}" if is_foreign
                        else "unexpected end of input", cut=True)
         elif before is None:
-            box.update(self.leaf(name, box["position"], content, end, parent))
+            box.update(self.leaf(name, box["position"], content, end, parent, front))
         elif depth >= DEEPEST:
             box["deep"] = True
-        elif parent == b"stsd" and name == b"tx3g" and self.handler not in (b"vide", b"soun"):
-            box.update(self.leaf(name, box["position"], content, end, parent))
+        elif front == TEXT_ENTRY:
+            box.update(self.leaf(name, box["position"], content, end, parent, front))
         else:
             fields = self.brief(name, content, end, parent, before)
             box.update({"fault": "unexpected end of input"} if fields is None else {"fields": fields} if fields else {})
         if before is not None and depth < DEEPEST:
             first = min(content + before, end)
-            box["children"] = self.level(depth + 1, first, end, name, parent == b"stsd")
+            version = self.data[content] if name == b"stsd" else 0
+            box["children"] = self.level(depth + 1, first, end, name, parent == b"stsd", version)
         if name == b"mdia":
             self.handler = outer
         if name == b"hdlr" and parent == b"mdia" and not cut:
             self.handler = self.data[content + 8:content + 12] if end - content >= 12 else b"\0\0\0\0"
-        if name == b"ftyp" and depth == 0 and not cut:
-            self.quicktime = self.data[content:content + 4] == b"qt  " and end - content >= 4
 
 
 def tree(data):
@@ -509,7 +485,7 @@ class Lines:
         if 0 < self.rows < len(entries):
             self.lines.append(f"{' ' * (indent + 4)}.. {len(entries) - self.rows} more")
 
-    def box(self, box, around, track):
+    def box(self, box, around, track, is_track):
         name = box["type"]
         indent = 2 * len(around)
         head = f"{' ' * indent}{'-' if name is None else code_text(name)} @{box['position']} +{box['length']}"
@@ -517,6 +493,8 @@ class Lines:
         called = self.names.get(name)
         if name == "trak":
             words = [f"track {track[0]}"] if track[0] is not None else []
+            if any(child["type"] == "tkhd" for child in box.get("children", [])) and is_track and not words:
+                words = ["unreadable track_ID"]
             words += [f"{KINDS.get(track[1], 'media')} ({code_text(track[1])})"] if track[1] is not None else []
             self.lines[-1] += " " + ", ".join(words) if words else ""
         if around and around[-1]["type"] == "stsd" and called:
@@ -539,20 +517,27 @@ def ordered(fields, name):
     return {key: fields[key] for key in first + [key for key in fields if key not in first]}
 
 
-def track_of(data, box):
-    """Returns the number of a track, and its handler."""
-    track_id = handler = None
-    for child in box.get("children", []):
-        content, size = child["position"] + child["header"], child["length"] - child["header"]
-        if child["type"] == "tkhd" and track_id is None and is_whole(child) and size >= 4:
-            at = 20 if data[content] else 12
-            track_id = number(data, content + at, 4) if size >= at + 4 else None
-        if child["type"] == "mdia":
-            for inner in child.get("children", []):
-                content, size = inner["position"] + inner["header"], inner["length"] - inner["header"]
-                if inner["type"] == "hdlr" and handler is None and is_whole(inner) and size >= 12:
-                    handler = latin(data[content + 8:content + 12])
-    return track_id, handler
+def first(boxes, name):
+    """Returns the first of `boxes` with the name `name`, or an empty box."""
+    return next((box for box in boxes if box["type"] == name), {})
+
+
+def value_of(box, field):
+    """Returns the field `field` of a box, or None if the box can't be read."""
+    return box.get("fields", {}).get(field)
+
+
+def tracks_of(boxes):
+    """Returns the tracks among the boxes of a file, each with its track_ID and its handler, by the position of its
+    `trak`: those of the first `moov` (ISO/IEC 14496-12, 8.2.1). What can't be read is None."""
+    found = {}
+    for trak in first(boxes, "moov").get("children", []):
+        if trak["type"] == "trak":
+            inside = trak.get("children", [])
+            media = first(inside, "mdia").get("children", [])
+            found[trak["position"]] = (value_of(first(inside, "tkhd"), "track_id"),
+                                       value_of(first(media, "hdlr"), "handler_type"))
+    return found
 
 
 def is_whole(box):
@@ -560,11 +545,11 @@ def is_whole(box):
     return not box.get("cut")
 
 
-def lines(data, boxes, rows, names):
+def lines(boxes, rows, names):
     """Returns the lines of the tree of a file."""
-    found = Lines(rows, names)
+    found, tracks = Lines(rows, names), tracks_of(boxes)
     for box, around in every(boxes):
-        found.box(box, around, track_of(data, box) if box["type"] == "trak" else None)
+        found.box(box, around, tracks.get(box["position"], (None, None)), box["position"] in tracks)
     return found.lines
 
 
@@ -581,8 +566,8 @@ def dumps(value):
 
 # The boxes of which a box has to have one, and those of which it may have at most one (ISO/IEC 14496-12, the quantity
 # of each box; 8.5.1 for `stbl`). Of the boxes in one string there is only one in all.
-NEEDED = {"moov": ["mvhd cmov rmra"], "trak": ["tkhd", "mdia"], "mdia": ["mdhd"], "moof": ["mfhd"], "traf": ["tfhd"],
-          "stbl": ["stsd", "stts", "stsc", "stsz stz2", "stco co64"]}
+NEEDED = {"moov": ["mvhd cmov rmra"], "trak": ["tkhd", "mdia"], "mdia": ["mdhd", "minf"], "minf": ["stbl"],
+          "moof": ["mfhd"], "traf": ["tfhd"], "stbl": ["stsd", "stts", "stsc", "stsz stz2", "stco co64"]}
 ONCE = {"moov": "mvhd iods mvex meta udta".split(), "trak": "tkhd tref trgr edts mdia meta udta".split(),
         "mdia": "mdhd hdlr elng minf".split(), "minf": ["vmhd smhd hmhd sthd nmhd gmhd", "dinf", "stbl", "hdlr"],
         "stbl": ["stsz stz2", "stco co64", *"stsd stts ctts cslg stsc stss stsh padb stdp sdtp".split()],
@@ -628,9 +613,8 @@ class Check:
         self.media = [(box["position"] + box["header"], min(box["position"] + box["length"], len(data)))
                       for box in boxes if box["type"] == "mdat"]
         self.has_moov = any(box["type"] == "moov" for box in boxes)
-        self.headers, self.defaults = {}, {}
-        for moov in (box for box in boxes if box["type"] == "moov"):
-            self.movie(data, moov)
+        self.tracks, self.headers, self.numbers, self.defaults = tracks_of(boxes), {}, {}, {}
+        self.movie(first(boxes, "moov").get("children", []))
         self.sizes, self.elsewhere, self.track, self.away = {}, False, None, set()
         top = 0
         for box, path, around, number_ in located(boxes):
@@ -640,23 +624,26 @@ class Check:
         if not FILES & {box["type"] for box in boxes}:
             self.found.append("0 moov: there is no moov, moof, meta or sidx")
 
-    def movie(self, data, moov):
-        """Finds the numbers of the tracks of a `moov`, and the sizes of samples in their fragments."""
-        for box in moov.get("children", []):
-            for inner in box.get("children", []):
-                content, size = inner["position"] + inner["header"], inner["length"] - inner["header"]
-                if box["type"] == "trak" and inner["type"] == "tkhd" and is_whole(inner) and size >= 4:
-                    at = 20 if data[content] else 12
-                    if size >= at + 4:
-                        self.headers.setdefault(number(data, content + at, 4), inner["position"])
-                if box["type"] == "mvex" and inner["type"] == "trex" and is_whole(inner) and size >= 24:
-                    self.defaults.setdefault(number(data, content + 4, 4), number(data, content + 16, 4))
+    def movie(self, boxes):
+        """Finds the headers of the tracks in `boxes`, those of the first `moov`. The first track of each number counts.
+        Also finds the sizes of samples in their fragments, by the first `mvex`."""
+        for trak in (box for box in boxes if box["type"] == "trak"):
+            header = first(trak.get("children", []), "tkhd")
+            number_ = value_of(header, "track_id")
+            if number_ is not None:
+                self.headers[header["position"]] = number_
+                self.numbers.setdefault(number_, (trak["position"], header["position"]))
+        for trex in first(boxes, "mvex").get("children", []):
+            if trex["type"] == "trex" and "fields" in trex:
+                self.defaults.setdefault(trex["fields"]["track_id"], trex["fields"]["default_sample_size"])
 
     def box(self, data, box, path, around, number_, top):
         """Adds the lines of `box`, which is number `number_` of its group."""
         name, parent = box["type"], around[-1]["type"] if around else None
         if name == "trak":
-            self.elsewhere, self.track = False, track_of(data, box)[0]
+            number_of_track, _ = self.tracks.get(box["position"], (None, None))
+            is_meant = self.numbers.get(number_of_track, (None,))[0] == box["position"]
+            self.elsewhere, self.track = False, number_of_track if is_meant else None
         if name == "url " and "fields" in box and not box["fields"]["flags"] & 1:
             self.elsewhere = True
             self.away.add(self.track)
@@ -669,7 +656,7 @@ class Check:
             lacks = [names.split() for names in NEEDED.get(name, []) if not inside & set(names.split())]
             lacks = [names[0] if name == "moov" else " or ".join(names) for names in lacks]
             found.append(f"there is {', '.join('no ' + names for names in lacks)}" if lacks else None)
-        if name == "stbl" and is_whole(box):
+        if name == "stbl" and is_whole(box) and len(around) == 4:
             found.append(self.tables(box))
         if name == "traf" and is_whole(box) and len(around) == 1 and parent == "moof":
             found.append(self.runs(box, top))
@@ -683,11 +670,11 @@ class Check:
         if name == "tkhd" and parent == "trak" and depth == 2:
             if fields["track_id"] == 0:
                 return "track_ID 0 is no number of a track; these begin at 1"
-            first = self.headers.get(fields["track_id"], box["position"])
-            if first != box["position"]:
-                return f"track_ID {fields['track_id']} is that of another track too, whose tkhd is at {first}"
+            number_ = self.headers.get(box["position"])
+            if number_ is not None and self.numbers[number_][1] != box["position"]:
+                return f"track_ID {number_} is that of another track too, whose tkhd is at {self.numbers[number_][1]}"
         if name == "tfhd" and parent == "traf" and depth == 2:
-            if self.has_moov and fields["track_id"] not in self.headers:
+            if self.has_moov and fields["track_id"] not in self.numbers:
                 return f"track_ID {fields['track_id']} is that of no track of the moov"
         if name in ("stco", "co64") and not self.elsewhere:
             offsets = fields["entries"]
@@ -735,7 +722,7 @@ class Check:
     def outside(self, word, places):
         """Returns the line about chunks or runs that are not in one `mdat`, or None."""
         found = [(index, at, at + size) for index, (at, size) in enumerate(places, 1)
-                 if not any(first <= at and at + size <= end for first, end in self.media)]
+                 if not any(begin <= at and at + size <= last for begin, last in self.media)]
         if not found:
             return None
         count, every_ = len(found), len(places)
@@ -749,8 +736,8 @@ class Check:
             return f"{text}, past the end of the file ({self.length} bytes)"
         if end > self.length:
             return f"{text}, which ends at {min(end, 2**64 - 1)}, past the end of the file ({self.length} bytes)"
-        for first, last in self.media:
-            if first <= at < last:
+        for begin, last in self.media:
+            if begin <= at < last:
                 return f"{text}, which ends at {end}, past the end of its mdat at {last}"
         return f"{text}, which is in no mdat"
 

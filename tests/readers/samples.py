@@ -1,6 +1,9 @@
-"""The samples of the tracks of a file a second time, by ISO/IEC 14496-12 only (8.3.2, 8.4, 8.6.1, 8.6.2, 8.7.3 to
-8.7.5, 8.8), to compare `mp4inspect samples` with. It shares no line with the codec, nor with the other slow readers:
+"""The samples of the tracks of a file a second time, by ISO/IEC 14496-12 only (8.2.1, 8.3.2, 8.4, 8.6.1, 8.6.2, 8.7.3
+to 8.7.5, 8.8), to compare `mp4inspect samples` with. It shares no line with the codec, nor with the other slow readers:
 tables are spelled out, a value for each sample, and chunks are filled one after the other.
+
+The tracks of a file are those of its first `moov`. If two have the same track_ID, the first has the fragments, and is
+the one that `--track` names.
 
     written(data, form, track, beyond)   the output, the faults as the program prints them, and the status
     disagreement(tables)                 how the tables of an `stbl` disagree, as `mp4inspect check` prints it
@@ -19,23 +22,24 @@ MOST_EMPTY = 2**20
 
 
 class Bad(Exception):
-    """A fault of a track. Its argument is the text of the message, or None if the codec has the text."""
+    """A fault of a track. Its first argument is the text of the message, or None if the codec has the text. Then the
+    second argument is the box that can't be read."""
 
 
 def boxes(data, at, end, is_top=False):
     """Returns the boxes directly in a content: the code, the position, the content, whether the box is whole, and the
-    position of the content."""
+    position of the content. The last one may have a code and no content, since its header is cut or its size is too
+    small."""
     found = []
     while end - at >= 8:
         size, code = struct.unpack_from(">I4s", data, at)
         content = at + 8
-        if size == 1:
-            if end - at < 16:
-                break
+        if size == 1 and end - at >= 16:
             size, content = struct.unpack_from(">Q", data, at + 8)[0], at + 16
         elif size == 0 and is_top:
             size = end - at
         if size < content - at:
+            found.append((code, at, b"", False, content))
             break
         found.append((code, at, data[content:min(at + size, end)], at + size <= end, content))
         at += size
@@ -58,11 +62,11 @@ def entries(box, at, form, count_at=4):
     form `form` that begin at `at`."""
     content, whole = box[2], box[3]
     if not whole or len(content) < count_at + 4:
-        raise Bad(None)
+        raise Bad(None, box)
     count = struct.unpack_from(">I", content, count_at)[0]
     width = struct.calcsize(form)
     if (len(content) - at) // width < count:
-        raise Bad(None)
+        raise Bad(None, box)
     return [struct.unpack_from(form, content, at + width * index) for index in range(count)]
 
 
@@ -70,37 +74,44 @@ def sizes_of(box):
     """Returns the number of samples of `box`, their one size or 0, and the list of their sizes (8.7.3.2)."""
     content, whole = box[2], box[3]
     if not whole or len(content) < 12:
-        raise Bad(None)
+        raise Bad(None, box)
     one, count = struct.unpack_from(">II", content, 4)
     return (count, one, []) if one else (count, 0, [size for size, in entries(box, 12, ">I", 8)])
 
 
+def runs_of(box):
+    """Returns the entries of `box`, an `stsc`. It can't be read if the number of the first sample of an entry has more
+    than 32 bits, or an entry begins before the one before it (docs/LAYOUT.md)."""
+    runs, sample = entries(box, 8, ">III"), 1
+    for (chunk, samples, _), (after, _, _) in zip(runs, runs[1:]):
+        sample += (after - chunk) * samples
+        if after < chunk or sample >= 2**32:
+            raise Bad(None, box)
+    return runs
+
+
 def tables_of(data, table):
-    """Returns the tables directly in `table`, an `stbl`."""
-    found = [] if table is None else inner(data, table)
-    narrow, wide = first(found, b"stco"), first(found, b"co64")
-    needed = [("stsz", first(found, b"stsz")), ("stsc", first(found, b"stsc")), ("stco or co64", narrow or wide),
-              ("stts", first(found, b"stts"))]
-    if needed[0][1] is None:
-        chunks = narrow or wide
-        if chunks is None or not entries(chunks, 8, ">I" if chunks[0] == b"stco" else ">Q"):
-            return {"sizes": (0, 0, []), "runs": [], "offsets": [], "durations": [], "shifts": [], "sync": None}
-    read = {}
-    for name, box in needed:
+    """Returns the tables directly in `table`, an `stbl`. A track with no `stsz` and no chunk has no samples."""
+    found = inner(data, table)
+
+    def read(code, form, name=None):
+        """Returns the entries of the first table with the code `code`. If there is none, it has to have no `name`."""
+        box = first(found, code)
+        if box is None and name is not None:
+            raise Bad(f"there is no {name}")
+        return None if box is None else runs_of(box) if code == b"stsc" else entries(box, 8, form)
+    sizes = first(found, b"stsz")
+    counted = (0, 0, []) if sizes is None else sizes_of(sizes)
+    offsets = read(b"stco", ">I") if first(found, b"stco") else read(b"co64", ">Q")
+    if sizes is None and not offsets:
+        return {"sizes": counted, "runs": [], "offsets": [], "durations": [], "shifts": [], "sync": None}
+    for name, box in (("stsz", sizes), ("stco", offsets)):
         if box is None:
             raise Bad(f"there is no {name}")
-        if name == "stsz":
-            read["sizes"] = sizes_of(box)
-        elif name == "stsc":
-            read["runs"] = entries(box, 8, ">III")
-        elif name == "stts":
-            read["durations"] = entries(box, 8, ">II")
-        else:
-            read["offsets"] = [offset for offset, in entries(box, 8, ">I" if box[0] == b"stco" else ">Q")]
-    shifts, sync = first(found, b"ctts"), first(found, b"stss")
-    read["shifts"] = [] if shifts is None else entries(shifts, 8, ">Ii")
-    read["sync"] = None if sync is None else [number for number, in entries(sync, 8, ">I")]
-    return read
+    tables = {"sizes": counted, "offsets": [offset for offset, in offsets], "runs": read(b"stsc", ">III", "stsc"),
+              "durations": read(b"stts", ">II", "stts"), "shifts": read(b"ctts", ">Ii") or []}
+    sync = read(b"stss", ">I")
+    return {**tables, "sync": sync and [number for number, in sync]}
 
 
 def disagreement(tables):
@@ -153,12 +164,9 @@ def spelled(runs):
 
 
 def table_time(tables):
-    """Returns the end time of the last sample of tables that agree."""
-    left, time = tables["sizes"][0], 0
-    for count, duration in tables["durations"]:
-        time += min(count, left) * duration
-        left -= min(count, left)
-    return time
+    """Returns the time at which the samples of tables end, and those of the first fragment begin: the sum of all
+    durations, or the largest time if it is larger."""
+    return min(sum(count * duration for count, duration in tables["durations"]), 2**64 - 1)
 
 
 def table_samples(tables):
@@ -168,24 +176,26 @@ def table_samples(tables):
     return list(table_steps(tables)), table_time(tables)
 
 
-def optional(content, at, flags, *fields):
-    """Returns those of `fields` that are present by `flags`, and the offset after them."""
+def optional(box, at, flags, *fields):
+    """Returns those of `fields` that are present by `flags` in the content of `box`, and the offset after them."""
     values = {}
     for bit, name, form in fields:
         if flags & bit:
-            if len(content) < at + struct.calcsize(form):
-                raise Bad(None)
-            values[name], = struct.unpack_from(form, content, at)
+            if len(box[2]) < at + struct.calcsize(form):
+                raise Bad(None, box)
+            values[name], = struct.unpack_from(form, box[2], at)
             at += struct.calcsize(form)
     return values, at
 
 
 def header_of(box):
     """Returns the fields of `box`, the header of a track fragment (8.8.7)."""
-    if box is None or not box[3] or len(box[2]) < 8:
-        raise Bad(None)
+    if box is None:
+        raise Bad("there is no tfhd")
+    if not box[3] or len(box[2]) < 8:
+        raise Bad(None, box)
     flags, track = struct.unpack_from(">I", box[2])[0] & 0xFFFFFF, struct.unpack_from(">I", box[2], 4)[0]
-    values, _ = optional(box[2], 8, flags, (1, "base", ">Q"), (2, "description", ">I"), (8, "duration", ">I"),
+    values, _ = optional(box, 8, flags, (1, "base", ">Q"), (2, "description", ">I"), (8, "duration", ">I"),
                          (16, "size", ">I"), (32, "flags", ">I"))
     return dict(values, track=track, from_moof=bool(flags & 0x20000))
 
@@ -195,17 +205,17 @@ def run_of(box):
     lists for each."""
     content, whole = box[2], box[3]
     if not whole or len(content) < 8:
-        raise Bad(None)
+        raise Bad(None, box)
     word, count = struct.unpack_from(">II", content)
-    values, at = optional(content, 8, word, (1, "offset", ">i"), (4, "first", ">I"))
+    values, at = optional(box, 8, word, (1, "offset", ">i"), (4, "first", ">I"))
     width = 4 * bin(word >> 8 & 15).count("1")
     if len(content) - at < width * count:
-        raise Bad(None)
+        raise Bad(None, box)
     if not width:
         return values, count, itertools.repeat({}, count)
     rows = []
     for _ in range(count):
-        row, at = optional(content, at, word, (0x100, "duration", ">I"), (0x200, "size", ">I"), (0x400, "flags", ">I"),
+        row, at = optional(box, at, word, (0x100, "duration", ">I"), (0x200, "size", ">I"), (0x400, "flags", ">I"),
                            (0x800, "shift", ">i" if word >> 24 else ">I"))
         rows.append(row)
     return values, count, rows
@@ -252,27 +262,28 @@ class File:
     """The tracks of a file, and their fragments by the numbers of tracks, in the order of the file."""
 
     def __init__(self, data):
-        self.data, self.tracks, self.defaults, self.fragments, self.faults = data, [], {}, {}, []
+        self.data, self.tracks, self.defaults, self.fragments, self.faults, self.lost = data, [], {}, {}, [], []
         top = boxes(data, 0, len(data), True)
+        self.moov = first(top, b"moov")
         self.is_movie = any(box[0] in (b"moov", b"moof") for box in top)
+        if self.moov is not None:
+            self.movie(inner(data, self.moov))
         for box in top:
-            if box[0] == b"moov":
-                self.movie(box)
-            elif box[0] == b"moof":
+            if box[0] == b"moof":
                 self.fragment(box)
 
-    def movie(self, moov):
-        for box in inner(self.data, moov):
-            if box[0] == b"trak":
-                self.tracks.append(box)
-            for trex in inner(self.data, box) if box[0] == b"mvex" else []:
-                if trex[0] != b"trex":
-                    continue
-                if not trex[3] or len(trex[2]) < 24:
-                    self.faults.append(None)
-                    continue
-                track, *values = struct.unpack_from(">IIIII", trex[2], 4)
-                self.defaults.setdefault(track, dict(zip(("description", "duration", "size", "flags"), values)))
+    def movie(self, found):
+        """Finds the tracks in `found`, the boxes of the first `moov`, and the defaults in the first `mvex`."""
+        self.tracks = [box for box in found if box[0] == b"trak"]
+        extends = first(found, b"mvex")
+        for trex in inner(self.data, extends) if extends else []:
+            if trex[0] != b"trex":
+                continue
+            if not trex[3] or len(trex[2]) < 24:
+                self.faults.append(None)
+                continue
+            track, *values = struct.unpack_from(">IIIII", trex[2], 4)
+            self.defaults.setdefault(track, dict(zip(("description", "duration", "size", "flags"), values)))
 
     def fragment(self, moof):
         end_before = functools.partial(int, moof[1])
@@ -281,8 +292,9 @@ class File:
                 continue
             try:
                 header = header_of(first(inner(self.data, traf), b"tfhd"))
-            except Bad:
-                self.faults.append(f"moof at {moof[1]}: there is no tfhd that can be read")
+            except Bad as bad:
+                self.lost.append((moof, traf, bad))
+                self.faults.append(bad.args[0] and f"moof at {moof[1]}: {bad.args[0]}")
                 end_before = functools.partial(dict().get, "end")
                 continue
             base = header["base"] if "base" in header else moof[1] if header["from_moof"] else end_before()
@@ -309,18 +321,26 @@ class File:
         clock = first(parts, b"tfdt")
         if clock is not None:
             if not clock[3] or len(clock[2]) < 8:
-                raise Bad(None)
+                raise Bad(None, clock)
             wide = clock[2][0]
             if wide > 1 or wide and len(clock[2]) < 12:
-                raise Bad(None)
+                raise Bad(None, clock)
             time, = struct.unpack_from(">Q" if wide else ">I", clock[2], 4)
         return time, [run_of(box) for box in parts if box[0] == b"trun"]
 
-    def steps(self, track, traf, header, base, time, where=""):
-        """Yields the samples of a fragment, one by one. Returns the end of their data, and their end time."""
+    def fragment_of(self, track, traf, base, where=""):
+        """Returns the start time of a fragment, or None if it has none, and its runs. The fragment needs the defaults
+        of its track, and a base of its offsets."""
+        begin, runs = self.runs(traf)
         if track not in self.defaults:
             raise Bad("there is no trex")
-        begin, runs = self.runs(traf)
+        if base is None:
+            raise Bad(f"the data before a fragment in the {where.removesuffix(': ')} have no known end")
+        return begin, runs
+
+    def steps(self, track, traf, header, base, time, where=""):
+        """Yields the samples of a fragment, one by one. Returns the end of their data, and their end time."""
+        begin, runs = self.fragment_of(track, traf, base, where)
         return (yield from run_steps(header, self.defaults[track], runs, base, time if begin is None else begin, where))
 
     def samples(self, track, traf, header, base, time):
@@ -344,10 +364,6 @@ class File:
         time = table_time(tables)
         yield from table_steps(tables)
         for moof, traf, header, base in self.fragments.get(number, []):
-            if number not in self.defaults:
-                raise Bad("there is no trex")
-            if base is None:
-                raise Bad(f"moof at {moof[1]}: it is not known where the data before end")
             _, time = yield from self.steps(number, traf, header, base, time, f"moof at {moof[1]}: ")
 
     def counted(self, number, tables):
@@ -377,40 +393,71 @@ class File:
             return samples, [bad.args[0]]
         return samples, []
 
+    def headers(self, trak):
+        """Returns the track_ID, the handler and the timescale of a track (8.3.2, 8.4.3, 8.4.2). Each is a Bad if it
+        can't be read. A handler needs at least a byte of its name."""
+        def of(around, code, read):
+            if isinstance(around, Bad):
+                return around
+            box = first(inner(self.data, around), code)
+            if box is None:
+                return Bad(f"there is no {code.decode()}")
+            found = read(box[2], box[2][0] if box[2] else 2) if box[3] else None
+            return Bad(None, box) if found is None else found
+
+        def number(narrow, wide):
+            """Returns a function that reads the 4 bytes after the times. A content of version 0 has at least `narrow`
+            bytes, and one of version 1 at least `wide`."""
+            def read(content, version):
+                if version > 1 or len(content) < (wide if version else narrow):
+                    return None
+                return struct.unpack_from(">I", content, 20 if version else 12)[0]
+            return read
+        media = first(inner(self.data, trak), b"mdia") or Bad("there is no mdia")
+        return (of(trak, b"tkhd", number(84, 96)),
+                of(media, b"hdlr", lambda content, _: content[8:12] if len(content) >= 25 else None),
+                of(media, b"mdhd", number(22, 34)))
+
+    def tables(self, trak):
+        """Returns the tables of a track. They have to agree."""
+        for code in (b"mdia", b"minf", b"stbl"):
+            trak = first(inner(self.data, trak), code)
+            if trak is None:
+                raise Bad(f"there is no {code.decode()}")
+        tables = tables_of(self.data, trak)
+        fault = disagreement(tables)
+        if fault:
+            raise Bad(fault)
+        return tables
+
     def track(self, trak, beyond=True):
-        """Returns the number of a track, its heading, its samples, and a list of its faults, which has at most one."""
-        def below(box, code):
-            return None if box is None else first(inner(self.data, box), code)
-        head = below(trak, b"tkhd")
-        version = head[2][0] if head is not None and head[2] else 2
-        if head is None or not head[3] or version > 1 or len(head[2]) < (96 if version else 84):
-            return None, "", [], [f"trak at {trak[1]}: there is no tkhd that can be read"]
-        number, = struct.unpack_from(">I", head[2], 20 if version else 12)
-        media = below(trak, b"mdia")
-        name, clock = below(media, b"hdlr"), below(media, b"mdhd")
-        title = f"track {number}"
-        if name is not None and name[3] and len(name[2]) >= 12:
-            title += ", " + name[2][8:12].decode("latin-1")
-        if clock is not None and clock[3] and len(clock[2]) >= 22:
-            title += f", timescale {struct.unpack_from('>I', clock[2], 20 if clock[2][0] else 12)[0]}"
+        """Returns the number of a track, its heading, its samples, and a list of its faults. It has at most one fault
+        of its samples. If its number can't be read, that is another, and it has no fragments."""
+        number, name, scale = self.headers(trak)
+        title, lost = f"track {number}", []
+        if isinstance(number, Bad):
+            title, lost, number = f"trak at {trak[1]}", [number.args[0]], None
+        if not isinstance(name, Bad):
+            is_text = all(0x20 <= byte < 0x7F for byte in name)
+            title += ", " + (name.decode() if is_text else str(int.from_bytes(name, "big")))
+        if not isinstance(scale, Bad):
+            title += f", timescale {scale}"
         heading = f"{title}\n" + "  ".join(name.rjust(width) for name, width in zip(COLUMNS, WIDTHS)) + "\n"
         try:
-            table = below(below(media, b"minf"), b"stbl")
-            tables = tables_of(self.data, table)
-            fault = disagreement(tables)
-            if fault:
-                raise Bad(fault)
+            tables = self.tables(trak)
         except Bad as bad:
-            return number, "", [], [bad.args[0]]
-        return number, heading, *self.listed(number, tables, beyond)
+            return number, "", [], [*lost, bad.args[0]]
+        samples, found = self.listed(number, tables, beyond)
+        return number, heading, samples, lost + found
 
 
 def row(form, track, number, sample):
     offset, size, time, duration, shift, is_sync, description = sample
     values = [number, offset, size, time, time + shift, duration, int(is_sync), description]
     if form == "csv":
-        return ",".join(map(str, [track, *values])) + "\n"
+        return ",".join(map(str, ["" if track is None else track, *values])) + "\n"
     if form == "json":
+        track = "null" if track is None else track
         return "{" + ", ".join(f'"{name}": {value}' for name, value in zip(["track", *COLUMNS], [track, *values])) + "}"
     return "  ".join(str(value).rjust(width) for value, width in zip(values, WIDTHS)) + "\n"
 
@@ -424,9 +471,10 @@ def written(data, form, chosen=None, beyond=False):
     for trak in file.tracks:
         number, heading, samples, found = file.track(trak, beyond)
         if number is None:
+            found = [words and f"trak at {trak[1]}: {words}" for words in found[:1 if chosen is not None else None]]
+        if number is None and chosen is not None:
             faults += [(None, words) for words in found]
-            continue
-        if chosen in (None, number):
+        elif chosen is None or chosen == number and number not in met:
             if form == "text" and heading:
                 pieces.append(("\n" if pieces else "") + heading)
             pieces += [row(form, number, index, sample) for index, sample in enumerate(samples, 1)]

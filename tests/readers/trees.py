@@ -1,29 +1,12 @@
-"""The part of the slow reader for trees of boxes. It follows crates/mp4_box_tree/CALLING.md, which names the boxes that
-hold boxes, and the fields before the first one."""
+"""The part of the slow reader for trees of boxes. It follows crates/mp4_box_tree/CALLING.md."""
 
 from tests.readers.extra import MORE
+from tests.readers.fronts import bytes_before_in_tree
 from tests.readers.headers import Fault, headers
 from tests.readers.readers import outcome
 
-ALONE = "moov trak mdia minf stbl edts mvex moof traf mfra udta ilst dinf sinf schi wave iprp ipco".split()
-VIDEO = "avc1 avc3 hvc1 hev1 av01 vp08 vp09 mp4v encv".split()
-SOUND = "mp4a Opus fLaC alac ac-3 ec-3 enca".split()
 # The number of levels of containers in a `BoxTree`.
 DEPTH = 9
-
-
-def fields_before(name, content):
-    """Returns the number of bytes of fields before the first box in `content`, or None if a box with the name `name`
-    holds no boxes."""
-    if name in ALONE:
-        return 0
-    if name in VIDEO:
-        return 78
-    if name in SOUND:
-        return {b"\0\1": 44, b"\0\2": 64}.get(content[8:10], 28)
-    if name in ("stsd", "dref"):
-        return 8
-    return 4 * (content[:4] == bytes(4)) if name == "meta" else None
 
 
 def tree(name, box, depth):
@@ -34,7 +17,7 @@ def tree(name, box, depth):
     `unsure`, with its bytes."""
     code = int.from_bytes(box[4:8], "big")
     raw = "raw", code
-    front = fields_before(name, box[8:]) if depth else None
+    front = bytes_before_in_tree(box[4:8], box[8:]) if depth else None
     if front is not None:
         if len(box) < 8 + front:
             return raw

@@ -2,6 +2,7 @@
 crates/mp4_extra/CALLING.md: the shape of a box, the fields of its struct, and the widths of its entries."""
 
 import collections
+import functools
 import glob
 import os
 import re
@@ -11,6 +12,7 @@ from tests.built import TOP
 # The page with the list of the boxes, and their sources.
 PAGE = "crates/mp4_extra/CALLING.md"
 SOURCES = "crates/mp4_extra_*/src/*.rt"
+CODES = "crates/mp4_frame/src/codes.rt"
 NUMBERS = {f"U{bits}": f"{bits // 8}" for bits in (8, 16, 24, 32, 64)}
 NUMBERS.update((f"I{bits}", f"{bits // 8}, signed") for bits in (8, 16, 32, 64))
 # Shapes without arguments that are one field.
@@ -30,6 +32,13 @@ class Differs(Exception):
 def read(path):
     with open(os.path.join(TOP, path), encoding="utf-8") as file:
         return file.read()
+
+
+@functools.lru_cache(maxsize=None)
+def codes():
+    """Returns the codes of boxes by the names of their constants."""
+    numbers = re.findall(r"^pub const (\w+): u32 = (0x\w+);", read(CODES), re.M)
+    return {name: int(number, 16).to_bytes(4, "big").decode("latin-1") for name, number in numbers}
 
 
 def type_of(text):
@@ -63,8 +72,7 @@ class Declared:
         name, owner = re.search(r"impl DeclaredBox for (\w+) .*? type Shape = (\w+);", source).groups()
         self.shape = self.types[owner]
         self.fields = self.fields_of(name)
-        code = int(re.search(r"pub const \w+: u32 = (0x[\w]+);", source)[1].replace("_", ""), 16)
-        self.code = code.to_bytes(4, "big").decode("latin-1")
+        self.code = codes()[re.search(r"const CODE: u32 = codes::(\w+);", source)[1]]
         self.section = re.search(rf"/// .*?\(`{self.code}`, ([^)]*)\)", read(path))[1]
 
     def is_of_section(self, section):

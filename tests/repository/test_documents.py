@@ -207,7 +207,7 @@ def compare_more():
         crate = box.parts[-3]
         folders = (f"crates/{crate}/must-fail", f"tests/prover/wrong-bodies/{crate}")
         bodies = [read(f) for folder in folders for f in tree(f"{folder}/*")]
-        if f"\nfile: {crate}/src/{box.name}\n" not in changes:
+        if not re.search(rf"^change: {box.stem}\b", changes, re.M | re.I):
             tell(box, 0, "no change of tests/prover/wrong-definitions.txt is of this box")
         if not any(body.startswith(f"file: src/{box.name}\n") for body in bodies):
             tell(box, 0, "no edit of tests/prover/wrong-bodies is of this box")

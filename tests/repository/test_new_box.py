@@ -38,14 +38,12 @@ READER = '''def padb(c):
 '''
 BOX = '''//! The padding bits box.
 
-ghost use Rattle.mp4_extra_segments.specs.declared.padb.TheConstants.{PADB};
+ghost use Rattle.mp4_frame.specs.declared.codes.TheConstants as codes;
 ghost use Rattle.mp4_stream.specs.Author.{layout_of, refl, lit<};
 
+use mp4_frame::codes;
 use mp4_stream::Result;
 use mp4_stream::declaring::*;
-
-/// The code: `padb`.
-pub const PADB: u32 = 0x7061_6462;
 
 /// The padding bits at the end of each sample (`padb`, ISO/IEC 14496-12, 8.7.6).
 #[derive(Debug, Drop, PartialEq, Eq)]
@@ -69,11 +67,11 @@ impl DeclaredBox for Padb {
 
     type Shape = PadbShape;
 
-    ghost CODE = { PADB };
+    ghost CODE = { codes.PADB };
 
     ghost layout = { layout_of struct (λ _. tt) (λ _. refl) (lit< tt) };
 
-    const CODE: u32 = PADB;
+    const CODE: u32 = codes::PADB;
 
     fn from_content(found: <PadbShape as Shape>::Value) -> Padb {
         box_of!(found => Padb { version, flags, sample_count, pads })
@@ -205,7 +203,7 @@ def add(folder):
             with open(path, encoding="utf-8") as old:
                 before = old.read()
             text = (with_answers if "/proofs/" in file else with_lines)(before)
-            if text == before:
+            if text == before or f"pub const {NEW.upper()}: u32" in before:
                 continue
         else:
             continue

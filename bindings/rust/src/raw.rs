@@ -59,7 +59,7 @@ pub struct Box {
     pub parent: u32,
     pub handler: u32,
     pub what: u8,
-    pub is_quicktime: u8,
+    pub stsd_version: u8,
 }
 
 /// `struct mp4_walk_level`
@@ -69,7 +69,7 @@ pub struct WalkLevel {
     pub end: u64,
     pub parent: u32,
     pub handler: u32,
-    pub is_quicktime: u8,
+    pub stsd_version: u8,
 }
 
 /// `struct mp4_walk`

@@ -43,8 +43,8 @@ pub struct TreeBox {
     pub handler: u32,
     /// The state of the box.
     pub what: What,
-    /// True if an earlier `ftyp` has the major brand `qt  `.
-    pub is_quicktime: bool,
+    /// The version of the enclosing box if it is an `stsd`, else 0.
+    pub stsd_version: u8,
 }
 
 impl TreeBox {
@@ -78,7 +78,7 @@ impl From<raw::Box> for TreeBox {
                 4 => What::Small,
                 _ => What::NoHeader,
             },
-            is_quicktime: it.is_quicktime != 0,
+            stsd_version: it.stsd_version,
         }
     }
 }

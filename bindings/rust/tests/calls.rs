@@ -165,7 +165,9 @@ fn header(track: u8) -> Vec<u8> {
 #[test]
 fn samples_of_fragments() {
     let defaults = [table_box("trex", 0, 0, &[1, 1, 10, 4, 0]), table_box("trex", 0, 0, &[2, 1, 7, 5, 0x10000])];
-    let tracks = [nested("trak", &[header(1)]), nested("trak", &[header(2)]), nested("mvex", &defaults)];
+    let media = nested("mdia", &[nested("minf", &[nested("stbl", &[])])]);
+    let track = |number| nested("trak", &[header(number), media.clone()]);
+    let tracks = [track(1), track(2), nested("mvex", &defaults)];
     let run = table_box("trun", 0, 0x201, &[2, 140, 3, 6]);
     let first = nested("traf", &[table_box("tfhd", 0, 0, &[1]), table_box("tfdt", 0, 0, &[1000]), run]);
     let second = nested("traf", &[table_box("tfhd", 0, 0, &[2]), table_box("trun", 0, 0, &[3])]);

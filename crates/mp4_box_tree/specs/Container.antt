@@ -9,7 +9,7 @@ use Rattle.mp4_frame.specs.Laws.{AreBytes}
 use Rattle.mp4_frame.specs.Reading.{Reading, ◌>>=◌, check, piece_at, memory, done}
 use Rattle.mp4_frame.specs.Streams.{stream, boxes}
 use Rattle.mp4_frame.specs.declared.box_type.BoxType.{BoxType}
-use Rattle.mp4_box_tree.specs.Fronts.{is_parent, front_of, width_in, is_front}
+use Rattle.mp4_box_tree.specs.Fronts.{is_parent, width_in, is_front}
 use Rattle.mp4_box_tree.specs.declared.container.Container.{Container}
 
 -- the container with these fields and the boxes after them, in a content that starts with the fields
@@ -26,7 +26,7 @@ unfoldable pub content_container : {A : Type 0} → (BoxType → Bool) → (BoxT
 content_container known reading code bytes size = do
   _ ← check (nat_le 8 size)
   content ← piece_at bytes 8 (size - 8)
-  fields ← piece_at content 0 (width_in (front_of code) content)
+  fields ← piece_at content 0 (width_in code content)
   with_fields known reading code content fields
 
 abbrev pub reads_container : {A : Type 0} → (BoxType → Bool) → (BoxType → List ℕ → ℕ → ℕ → Reading A) → ℕ → List ℕ
@@ -41,7 +41,7 @@ known_container name = is_parent (code_of name)
 pub record HasFront (code : ℕ) (fields : List ℕ) : Type 0 where
   pub coded : code < 2 ^ 32
   pub parent : is_parent code ≡ true
-  pub is : is_front (front_of code) fields ≡ true
+  pub is : is_front code fields ≡ true
   pub are : AreBytes fields
 
 module _ {A : Type 0} (format : Format A) where

@@ -32,7 +32,7 @@ use Rattle.mp4_box_tree.specs.Container.{size_container, header_container, conte
 use Rattle.mp4_box_tree.specs.Container.{bytes_container, format_container}
 use Rattle.mp4_box_tree.specs.FrontLaws.{width_back, front_read}
 use Rattle.mp4_box_tree.specs.HeldBoxes.{stream_long, each_below, normals_again, piece_read}
-use Rattle.mp4_box_tree.specs.Fronts.{is_parent, front_of, begins_with_zeros, width_in, is_front}
+use Rattle.mp4_box_tree.specs.Fronts.{is_parent, begins_with_zeros, width_in, is_front}
 use Rattle.mp4_box_tree.specs.declared.container.Container.{Container}
 
 pub by_code_container : ByCode known_container
@@ -155,8 +155,8 @@ module _ {A : Type 0} (format : Format A) (laws : IsWritten format) where
           let enough : nat_le 8 (size_container format v) ≡ true =
           le-leb 8 (size_container format v) (omega arith) in
           let long : size_container format v - 8 ≡ length content = omega (arith, content_long v w) in
-          let width : width_in (front_of v.code) content ≡ length v.fields =
-          width_back (front_of v.code) v.fields (stream format.bytes v.boxes) w.front.is
+          let width : width_in v.code content ≡ length v.fields =
+          width_back v.code v.fields (stream format.bytes v.boxes) w.front.is
           (no_zeros format laws v.boxes each) in
           let read : (reads_in v.code (front ++ (content ++ rest)) start (size_container format v)).outcome
           ≡ Ok (normal v) =
@@ -188,14 +188,14 @@ module _ {A : Type 0} (format : Format A) (laws : IsWritten format) where
     code_read code bytes start size v e =
         let a = check_ok (nat_le 8 size) (λ _. piece_at bytes 8 (size - 8) >>= after_content code) v e in
         let b = value_first (piece_at bytes 8 (size - 8)) (after_content code) v a.1 in
-        let c = value_first (piece_at b.0 0 (width_in (front_of code) b.0))
+        let c = value_first (piece_at b.0 0 (width_in code b.0))
         (λ fields. with_fields known named_reading code b.0 fields) v b.2 in
         let d = value_first (boxes known named_reading b.0 (length c.0)) (λ vs. done (holding code c.0 vs)) v c.2 in
         same_code code c.0 d.0 v (is_value (holding code c.0 d.0) v d.2)
       where
         after_content : ℕ → List ℕ → Reading (Container A)
         after_content code content =
-            piece_at content 0 (width_in (front_of code) content)
+            piece_at content 0 (width_in code content)
             >>= λ fields. with_fields known named_reading code content fields
 
     pub code_in_container : ReadsOwnCode known_container reading_in (format_container format)
@@ -206,7 +206,7 @@ module _ {A : Type 0} (format : Format A) (laws : IsWritten format) where
 
     module _ (sound : ReadsStably known named_reading format) where
       stable_boxes : (code : ℕ) → code < 2 ^ 32 → is_parent code ≡ true → (content : List ℕ) → AreBytes content
-          → (fields : List ℕ) → AreBytes fields → is_front (front_of code) fields ≡ true → (vs : List A)
+          → (fields : List ℕ) → AreBytes fields → is_front code fields ≡ true → (vs : List A)
           → (boxes known named_reading content (length fields)).outcome ≡ Ok vs
           → (normal (holding code fields vs) ≡ holding code fields vs)
           × (size_container format (holding code fields vs) < 2 ^ 32
@@ -233,15 +233,15 @@ module _ {A : Type 0} (format : Format A) (laws : IsWritten format) where
           let p = piece_read bytes 8 (size - 8) content b.1 in
           let content_are : AreBytes content =
           subst AreBytes p.0 (are_bytes-take (size - 8) (drop 8 bytes) (are_bytes-drop 8 bytes are)) in
-          let width = width_in (front_of code) content in
+          let width = width_in code content in
           let c = value_first (piece_at content 0 width) (λ fields. with_fields known named_reading code content fields)
           v b.2 in
           let fields = c.0 in
           let q = piece_read content 0 width fields c.1 in
           let fields_are : AreBytes fields = subst AreBytes q.0 (are_bytes-take width content content_are) in
-          let front : is_front (front_of code) fields ≡ true =
-          subst (λ (bs : List ℕ). is_front (front_of code) bs ≡ true) q.0
-          (front_read (front_of code) content (omega (arith, q.1 (omega arith)))) in
+          let front : is_front code fields ≡ true =
+          subst (λ (bs : List ℕ). is_front code bs ≡ true) q.0
+          (front_read code content (omega (arith, q.1 (omega arith)))) in
           let d = value_first (boxes known named_reading content (length fields))
           (λ vs. done (holding code fields vs)) v c.2 in
           subst (λ (u : Container A). (normal u ≡ u) × (size_container format u < 2 ^ 32 → WritableContainer format u))
@@ -250,7 +250,7 @@ module _ {A : Type 0} (format : Format A) (laws : IsWritten format) where
         where
           after_content : List ℕ → Reading (Container A)
           after_content content =
-              piece_at content 0 (width_in (front_of code) content)
+              piece_at content 0 (width_in code content)
               >>= λ fields. with_fields known named_reading code content fields
 
       pub stable_in_container : ReadsStably known_container reading_in (format_container format)

@@ -11,3 +11,4 @@ pub mod Child
 pub mod ChildShapeLaws
 pub mod Node
 pub mod NodeLaws
+pub mod Agreement

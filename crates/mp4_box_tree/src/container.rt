@@ -9,7 +9,7 @@ ghost use Rattle.mp4_box_tree.specs.ContainerLaws.{written_container, own_name_c
 ghost use Rattle.mp4_box_tree.specs.ContainerLaws.{stable_in_container, code_in_container, by_code_container};
 ghost use Rattle.mp4_box_tree.specs.Fronts.{is_parent};
 
-use crate::fronts::{front_of, is_parent};
+use crate::fronts::{is_parent, width_in};
 use mp4_compose::{ChildBox, CodedBox, StableBox};
 use mp4_frame::{
     BoxType, ByteCursor, Entries, Mp4Box, Result, StreamBox, WriteBox, bytes_from, check,
@@ -19,15 +19,14 @@ use std::alloc::Global;
 
 /// A box that holds boxes of `B` (ISO/IEC 14496-12, 4.2 and 8). It is one of:
 ///
-/// - a box that holds only boxes: `moov`, `trak`, `mdia`, `minf`, `stbl`, `edts`, `mvex`, `moof`, `traf`, `mfra`,
-///   `udta`, `dinf`, `sinf`, `schi`, `wave`, `iprp`, `ipco` or `ilst`,
-/// - a `meta`, `stsd` or `dref`,
+/// - a box that holds only boxes, such as `moov` (`mp4_walk::is_container`),
+/// - a `meta`, `iref`, `ipro`, `iinf`, `fiin`, `stsd`, `dref` or `trep`,
 /// - a sample entry of video or audio.
 #[derive(Debug, Drop, PartialEq, Eq)]
 pub struct Container<B> {
     /// The code.
     pub code: u32,
-    /// The bytes of the fields before the first box. Empty except in `meta`, `stsd`, `dref` and sample entries.
+    /// The bytes of the fields before the first box. Empty in boxes that hold only boxes.
     pub fields: Entries<u8>,
     /// The boxes in order.
     pub boxes: Entries<B>,
@@ -37,7 +36,7 @@ pub struct Container<B> {
 fn has_front(code: u32, fields: &[u8]) -> bool
     ensures { IsTrue result ↔ HasFront code fields.now }
 {
-    is_parent(code) && front_of(code).is(fields)
+    is_parent(code) && fields.len() == width_in(code, fields)
 }
 
 /// Reads a container with this `code` and `size` from `bytes`, which start with its header.
@@ -52,7 +51,7 @@ fn read_content<B: ChildBox>(
 {
     check(size >= 8, "box size too small")?;
     let content = piece_at(bytes, 8, size as usize - 8)?;
-    let fields = piece_at(content, 0, front_of(code).width_in(content))?;
+    let fields = piece_at(content, 0, width_in(code, content))?;
     let fields = Vec::from_slice(alloc, fields)?;
     let boxes = B::read_children(alloc, content, fields.len() as u64)?;
     Ok(Container {

@@ -5,6 +5,7 @@ mod child;
 mod container;
 mod declared_container;
 mod fronts;
+pub mod laws;
 mod node;
 mod sample_entry;
 

@@ -10,11 +10,15 @@ ghost use Rattle.mp4_box_tree.specs.SampleEntry.{common_fields, first_fields, se
 ghost use Rattle.mp4_box_tree.specs.SampleEntry.{versioned_fields, bytes_audio};
 
 use crate::container::Container;
-use crate::fronts::{audio_fields, is_audio, is_video};
+use crate::fronts::audio_fields;
 use mp4_frame::{
     Entries, Result, put_bytes, put_u16, put_u32, put_u64, put_zeros, u16_at, u32_at, u64_at,
 };
 use mp4_media::FixedPointU16;
+use mp4_walk::{
+    QUICKTIME_SOUND_1_LENGTH, QUICKTIME_SOUND_2_LENGTH, SOUND_ENTRY_LENGTH, VIDEO_ENTRY_LENGTH,
+    is_sound, is_video,
+};
 use std::alloc::Global;
 
 /// Returns the number of the data reference that holds the samples of an entry, starting at 1 (ISO/IEC 14496-12,
@@ -107,7 +111,7 @@ impl VisualFields {
         ensures memory { IfErr result (λ e. e ≡ OutOfMemory) }
     {
         visual_reads_back(*self);
-        let mut out = vec![in alloc; 0; 78]?;
+        let mut out = vec![in alloc; 0; VIDEO_ENTRY_LENGTH as usize]?;
         self.put(&mut out);
         Ok(out.into())
     }
@@ -308,7 +312,7 @@ impl AudioFields {
             (λ bytes. bytes ≡ bytes_of_fields (common_fields 1 self.now (first_fields first))) }
         ensures memory { IfErr result (λ e. e ≡ OutOfMemory) }
     {
-        let mut out = vec![in alloc; 0; 44]?;
+        let mut out = vec![in alloc; 0; QUICKTIME_SOUND_1_LENGTH as usize]?;
         self.put_first(&mut out, first);
         Ok(out.into())
     }
@@ -318,7 +322,7 @@ impl AudioFields {
             (λ bytes. bytes ≡ bytes_of_fields (common_fields 2 self.now (second_fields second))) }
         ensures memory { IfErr result (λ e. e ≡ OutOfMemory) }
     {
-        let mut out = vec![in alloc; 0; 64]?;
+        let mut out = vec![in alloc; 0; QUICKTIME_SOUND_2_LENGTH as usize]?;
         self.put_second(&mut out, second);
         Ok(out.into())
     }
@@ -330,7 +334,7 @@ impl AudioFields {
     {
         match self.version {
             AudioVersion::Zero => {
-                let mut out = vec![in alloc; 0; 28]?;
+                let mut out = vec![in alloc; 0; SOUND_ENTRY_LENGTH as usize]?;
                 self.put_common(&mut out, 0);
                 Ok(out.into())
             }
@@ -415,7 +419,7 @@ impl<B> Container<B> {
         ensures { result ≡ visual_of self.now.code self.now.fields }
     {
         let fields = self.fields.as_slice();
-        if is_video(self.code) && fields.len() == 78 {
+        if is_video(self.code) && fields.len() == VIDEO_ENTRY_LENGTH as usize {
             Some(VisualFields::from_bytes(fields))
         } else {
             None
@@ -428,7 +432,7 @@ impl<B> Container<B> {
         ensures { result ≡ audio_of self.now.code self.now.fields }
     {
         let fields = self.fields.as_slice();
-        if is_audio(self.code) && fields.len() == audio_fields(fields) {
+        if is_sound(self.code) && fields.len() == audio_fields(fields) {
             Some(audio_at(fields))
         } else {
             None

@@ -31,5 +31,5 @@ found_box_of x = record {
   parent = x.context.parent;
   handler = x.context.handler;
   what = state_code x.state;
-  is_quicktime = if x.context.is_quicktime then 1 else 0;
+  stsd_version = x.context.stsd_version;
 }

@@ -1,5 +1,7 @@
 -- The rows for C of the samples of the fragments of a track.
-use Rattle.std.specs.Prelude.{◌≡◌, ℕ, ◌-◌, ◌<◌, ◌^◌, ◌⊎◌, List, [], ◌∷◌, ◌++◌, length, min, slice_get, sum_by, Some}
+use Rattle.std.specs.Prelude.{◌≡◌, ℕ, ◌-◌, ◌<◌, ◌^◌, ◌==◌, ◌⊎◌, Bool, true, List, [], ◌∷◌, ◌++◌, length, min}
+use Rattle.std.specs.Prelude.{slice_get, sum_by, Result, Ok, Err, None, Some, if◌then◌else◌}
+use Rattle.std.specs.declared.option.Option.{Option}
 use Rattle.mp4_c_boxes.specs.CopiesRows.{Fills}
 use Rattle.mp4_c_boxes.specs.declared.status.TheConstants as statuses
 use Rattle.mp4_samples.specs.FragmentGives.{sample_total}
@@ -9,13 +11,18 @@ use Rattle.mp4_samples.specs.declared.fragment_fault.FragmentFault.{FragmentFaul
 use Rattle.mp4_samples.specs.declared.fragment_fault.FragmentFault.TheVariants as faults
 use Rattle.mp4_samples.specs.declared.sample.Sample.{Sample}
 use Rattle.mp4_tables.specs.declared.trun.TrunBox.{TrunBox}
-use Rattle.mp4_track.specs.Ends.{EndsTables}
-use Rattle.mp4_track.specs.Fragments.{AreFragments, IsFragmentOf}
-use Rattle.mp4_track.specs.Tracks.{Tells}
-use Rattle.mp4_track.specs.declared.error.TrackError.{TrackError}
-use Rattle.mp4_track.specs.declared.track_fragment.TrackFragment.{TrackFragment}
-use Rattle.mp4_c.specs.Samples.{status_of_track_error, row_of}
+use Rattle.mp4_movie.specs.Ends.{time_end_of}
+use Rattle.mp4_movie.specs.Fragments.{AreFragments, IsFragmentOf, piece_of}
+use Rattle.mp4_movie.specs.Movies.{of_track, traks}
+use Rattle.mp4_movie.specs.Problems.{Problem}
+use Rattle.mp4_movie.specs.declared.error.BoxError.{BoxError}
+use Rattle.mp4_movie.specs.declared.error.BoxError.TheVariants as errors
+use Rattle.mp4_movie.specs.declared.moof.MoofFragments.{MoofFragments}
+use Rattle.mp4_movie.specs.declared.track_fragment.TrackFragment.{TrackFragment}
+use Rattle.mp4_c.specs.Samples.{row_of}
+use Rattle.mp4_c.specs.Tracks.{Stops, StopsBy, number_of, status_of_box_error, status_without_track}
 use Rattle.mp4_c.specs.declared.samples.SampleRow.{SampleRow}
+use Rattle.mp4_walk.specs.FileBoxes.{boxes_of}
 
 -- the status of a fault of a fragment
 abbrev pub status_of_fault : FragmentFault → ℕ
@@ -49,7 +56,7 @@ abbrev pub AreRows : ℕ → List TrackFragment → List SampleRow → Type 0
 AreRows time [] rows = rows ≡ []
 AreRows time (x ∷ xs) rows =
     (f : Fragment) × (own : List SampleRow) × (rest : List SampleRow)
-    × IsFragmentOf x time f
+    × IsFragmentOf (piece_of x) time f
     × AreRowsOf f own
     × AreRows (end_time f) xs rest × (rows ≡ own ++ rest)
 
@@ -61,7 +68,7 @@ HasFault f status = (k : ℕ) × (e : FragmentFault) × (Faults f k e × (status
 abbrev pub StopsIn : ℕ → List TrackFragment → ℕ → Type 0
 StopsIn time [] status = ⊥
 StopsIn time (x ∷ xs) status =
-    (f : Fragment) × (IsFragmentOf x time f × (HasFault f status ⊎ StopsIn (end_time f) xs status))
+    (f : Fragment) × (IsFragmentOf (piece_of x) time f × (HasFault f status ⊎ StopsIn (end_time f) xs status))
 
 -- The array is filled with the rows of the samples of these fragments, which begin at a time. Or the array is too
 -- short, and is as it was. Or a sample has a fault or memory is refused, and the array and the number are as they were.
@@ -72,11 +79,70 @@ GivesRows start fs status old new count_old count_new =
     ⊎ (((rows : List SampleRow) × (AreRows start fs rows × ((count_new ≡ length rows) × Fills status rows old new)))
     ⊎ (((status ≡ statuses.OUT_OF_MEMORY) ⊎ StopsIn start fs status) × ((new ≡ old) × (count_new ≡ count_old))))
 
--- The samples of all fragments of the track with a track_ID are copied; they begin where the samples of its tables end.
--- Or the call has an error of the track.
+-- the answers for all trafs, in the order of the file
+abbrev pub answers_of : List MoofFragments → List (Result TrackFragment BoxError)
+answers_of [] = []
+answers_of (m ∷ ms) = m.fragments.items ++ answers_of ms
+
+-- the fragments of the track with this track_ID
+abbrev pub own_of : ℕ → List (Result TrackFragment BoxError) → List TrackFragment
+own_of id [] = []
+own_of id (Ok x ∷ rs) = if x.header.track_id == id then x ∷ own_of id rs else own_of id rs
+own_of id (Err _ ∷ rs) = own_of id rs
+
+-- The error of a traf concerns this track. If the header of the traf has another track_ID, defaults or a base that the
+-- traf lacks don't. The boxes of each traf have to be readable.
+abbrev pub concerns : ℕ → BoxError → Bool
+concerns id (errors.NoDefaults track_id) = track_id == id
+concerns id (errors.NoBase _ track_id) = track_id == id
+concerns id (errors.Missing _) = true
+concerns id (errors.Fault _ _ _) = true
+
+-- the first error that concerns this track
+abbrev pub error_in : ℕ → List (Result TrackFragment BoxError) → Option BoxError
+error_in id [] = None
+error_in id (Ok _ ∷ rs) = error_in id rs
+error_in id (Err e ∷ rs) = if concerns id e then Some e else error_in id rs
+
+-- No error concerns this track, and its fragments are appended.
+pub record AppendsOwn (id : ℕ) (answers : List (Result TrackFragment BoxError)) (old new : List TrackFragment)
+    : Type 0 where
+  pub no_error : error_in id answers ≡ None
+  pub own : new ≡ old ++ own_of id answers
+
+-- Memory is refused, or this is the status of the first error that concerns the track.
+abbrev pub StopsAt : ℕ → List (Result TrackFragment BoxError) → ℕ → Type 0
+StopsAt id answers status =
+    (status ≡ statuses.OUT_OF_MEMORY)
+    ⊎ ((e : BoxError) × ((error_in id answers ≡ Some e) × (status ≡ status_of_box_error e)))
+
+-- The samples of these fragments are copied, unless there is an error.
+abbrev pub CopiesOwn : Option BoxError → List TrackFragment
+    → ℕ → ℕ → List SampleRow → List SampleRow → ℕ → ℕ → Type 0
+CopiesOwn None fs start status old new count_old count_new = GivesRows start fs status old new count_old count_new
+CopiesOwn (Some e) fs start status old new count_old count_new =
+    Stops (status_of_box_error e) status old new count_old count_new
+
+-- The samples of the fragments of the track with this track_ID are copied. They begin where the samples of its tables
+-- end.
+abbrev pub CopiesFrom : List ℕ → ℕ → Result ℕ Problem
+    → ℕ → List SampleRow → List SampleRow → ℕ → ℕ → Type 0
+CopiesFrom B id (Ok start) status old new count_old count_new =
+    (moofs : List MoofFragments) × (AreFragments B (boxes_of B) moofs
+    × CopiesOwn (error_in id (answers_of moofs)) (own_of id (answers_of moofs)) start
+    status old new count_old count_new)
+CopiesFrom B id (Err p) status old new count_old count_new = StopsBy p status old new count_old count_new
+
+abbrev pub CopiesTrackFragments : List ℕ → ℕ → Option ℕ
+    → ℕ → List SampleRow → List SampleRow → ℕ → ℕ → Type 0
+CopiesTrackFragments B id None status old new count_old count_new =
+    Stops (status_without_track (boxes_of B)) status old new count_old count_new
+CopiesTrackFragments B id (Some number) status old new count_old count_new =
+    CopiesFrom B id (of_track (time_end_of B) number (traks (boxes_of B))) status old new count_old count_new
+
+-- The samples of all fragments of the first track with a track_ID are copied, if there is such a track; or memory is
+-- refused.
 abbrev pub CopiesFragments : List ℕ → ℕ → ℕ → List SampleRow → List SampleRow → ℕ → ℕ → Type 0
 CopiesFragments B id status old new count_old count_new =
-    ((start : ℕ) × (fs : List TrackFragment)
-    × (EndsTables B id start × (AreFragments B id fs × GivesRows start fs status old new count_old count_new)))
-    ⊎ ((e : TrackError) ×
-    (Tells B id e × ((status ≡ status_of_track_error e) × ((new ≡ old) × (count_new ≡ count_old)))))
+    Stops statuses.OUT_OF_MEMORY status old new count_old count_new
+    ⊎ CopiesTrackFragments B id (number_of B id) status old new count_old count_new

@@ -5,7 +5,7 @@ use Rattle.mp4_frame.specs.Heads.{head, frame_of_head, name_in}
 use Rattle.mp4_frame.specs.Reading.{Reading, ◌>>=◌, done, map_reading}
 use Rattle.mp4_frame.specs.declared.box_type.BoxType.{BoxType}
 use Rattle.mp4_frame.specs.declared.frame.Frame.{Frame}
-use Rattle.mp4_track.specs.Front.{in_frame}
+use Rattle.mp4_frame.specs.WholeBox.{in_frame}
 
 -- the reading of the box at the front, whose header says this
 abbrev pub named_box : {A : Type 0} → (BoxType → List ℕ → ℕ → ℕ → Reading A) → List ℕ → Frame → Reading A

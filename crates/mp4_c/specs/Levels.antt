@@ -7,11 +7,11 @@ abbrev pub level_of : ℕ → WalkLevel → Level
 level_of depth row = record {
   depth = depth;
   end = row.end;
-  context = record { parent = row.parent; handler = row.handler; is_quicktime = nat_lt 0 row.is_quicktime };
+  context = record { parent = row.parent; handler = row.handler; stsd_version = row.stsd_version };
 }
 
 abbrev pub no_level : WalkLevel
-no_level = record { end = 0; parent = 0; handler = 0; is_quicktime = 0 }
+no_level = record { end = 0; parent = 0; handler = 0; stsd_version = 0 }
 
 -- the level at a depth
 abbrev pub level_at : List WalkLevel → ℕ → Level

@@ -1,5 +1,6 @@
 pub mod Spans
 pub mod Find
+pub mod Tracks
 pub mod Samples
 pub mod FragmentSamples
 pub mod Found

@@ -1,6 +1,8 @@
 -- The rows for C of the samples of a track.
-use Rattle.std.specs.Prelude.{◌≡◌, ℕ, ◌<◌, ◌≤◌, ◌⊎◌, List, length, drop, slice_get, Some, if◌then◌else◌}
-use Rattle.mp4_c_boxes.specs.Status.{status_of}
+use Rattle.std.specs.Prelude.{◌≡◌, ℕ, ◌<◌, ◌≤◌, ◌⊎◌, List, length, drop, slice_get, Result, Ok, Err, None, Some}
+use Rattle.std.specs.Prelude.{if◌then◌else◌}
+use Rattle.std.specs.declared.option.Option.{Option}
+use Rattle.mp4_c.specs.Tracks.{Stops, StopsBy, number_of, status_without_track}
 use Rattle.mp4_c.specs.declared.samples.SampleRow.{SampleRow}
 use Rattle.mp4_c_boxes.specs.declared.status.TheConstants as statuses
 use Rattle.mp4_samples.specs.Disagreements.{Disagrees}
@@ -9,12 +11,11 @@ use Rattle.mp4_samples.specs.declared.disagreement.Disagreement.{Disagreement}
 use Rattle.mp4_samples.specs.declared.disagreement.Disagreement.TheVariants as kinds
 use Rattle.mp4_samples.specs.declared.sample.Sample.{Sample}
 use Rattle.mp4_samples.specs.declared.tables.Tables.{Tables}
-use Rattle.mp4_track.specs.Tables.{AreTablesOf}
-use Rattle.mp4_track.specs.Tracks.{IsTrack, Tells}
-use Rattle.mp4_track.specs.declared.error.TrackError.{TrackError}
-use Rattle.mp4_track.specs.declared.error.TrackError.TheVariants as errors
-use Rattle.mp4_track.specs.declared.sample_boxes.SampleBoxes.{SampleBoxes}
-use Rattle.mp4_track.specs.declared.track.Track.{Track}
+use Rattle.mp4_movie.specs.Movies.{of_track, samples_of, traks}
+use Rattle.mp4_movie.specs.Problems.{Problem}
+use Rattle.mp4_movie.specs.Tables.{AreTablesOf}
+use Rattle.mp4_movie.specs.declared.sample_boxes.SampleBoxes.{SampleBoxes}
+use Rattle.mp4_walk.specs.FileBoxes.{boxes_of}
 
 abbrev pub row_of : Sample → SampleRow
 row_of s = record {
@@ -39,14 +40,6 @@ status_of_disagreement (kinds.Durations _ _) = statuses.DURATIONS
 status_of_disagreement (kinds.SyncSamples _) = statuses.SYNC_SAMPLES
 status_of_disagreement (kinds.Offset _ _) = statuses.OFFSET
 
-abbrev pub status_of_track_error : TrackError → ℕ
-status_of_track_error errors.NoMovie = statuses.BOX_NOT_FOUND
-status_of_track_error (errors.NoTrack _) = statuses.NO_TRACK
-status_of_track_error (errors.Missing _) = statuses.BOX_NOT_FOUND
-status_of_track_error (errors.Fault _ _ e) = status_of e
-status_of_track_error (errors.NoBase _) = statuses.OFFSET
-status_of_track_error errors.Memory = statuses.OUT_OF_MEMORY
-
 -- All samples are at the front of the array, in their order, and the places after them are as they were.
 pub record ArePut (t : Tables) (old new : List SampleRow) : Type 0 where
   pub rows : (k : ℕ) → k < sample_count t → (s : Sample) × (IsSample t k s × (slice_get new k ≡ Some (row_of s)))
@@ -65,9 +58,24 @@ CopiesTables boxes status old new count_old count_new = (t : Tables) × (AreTabl
     ⊎ ((d : Disagreement)
     × (Disagrees t d × ((status ≡ status_of_disagreement d) × ((new ≡ old) × (count_new ≡ count_old)))))))
 
--- The samples of the track with a track_ID are copied, as CopiesTables says; or the call has an error of the track.
+-- The samples of a track are copied, by its tables, if they can be read. A track without sizes and without chunks has
+-- no samples.
+abbrev pub CopiesAnswer : Result (Option SampleBoxes) Problem
+    → ℕ → List SampleRow → List SampleRow → ℕ → ℕ → Type 0
+CopiesAnswer (Ok (Some boxes)) status old new count_old count_new =
+    CopiesTables boxes status old new count_old count_new
+CopiesAnswer (Ok None) status old new count_old count_new =
+    (status ≡ statuses.OK) × ((new ≡ old) × (count_new ≡ 0))
+CopiesAnswer (Err p) status old new count_old count_new = StopsBy p status old new count_old count_new
+
+abbrev pub CopiesTrack : List ℕ → Option ℕ → ℕ → List SampleRow → List SampleRow → ℕ → ℕ → Type 0
+CopiesTrack B None status old new count_old count_new =
+    Stops (status_without_track (boxes_of B)) status old new count_old count_new
+CopiesTrack B (Some number) status old new count_old count_new =
+    CopiesAnswer (of_track (samples_of B) number (traks (boxes_of B))) status old new count_old count_new
+
+-- The samples of the first track with a track_ID are copied, if there is such a track; or memory is refused.
 abbrev pub CopiesSamples : List ℕ → ℕ → ℕ → List SampleRow → List SampleRow → ℕ → ℕ → Type 0
 CopiesSamples B id status old new count_old count_new =
-    ((t : Track) × (IsTrack B id t × CopiesTables t.tables status old new count_old count_new))
-    ⊎ ((e : TrackError) ×
-    (Tells B id e × ((status ≡ status_of_track_error e) × ((new ≡ old) × (count_new ≡ count_old)))))
+    Stops statuses.OUT_OF_MEMORY status old new count_old count_new
+    ⊎ CopiesTrack B (number_of B id) status old new count_old count_new

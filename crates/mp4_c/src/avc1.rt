@@ -2,7 +2,7 @@
 
 ghost use Rattle.mp4_frame.specs.declared.codes.TheConstants as codes;
 ghost use Rattle.mp4_stream.specs.Boxes.{reads_avc1};
-ghost use Rattle.mp4_track.specs.Front.{front_box};
+ghost use Rattle.mp4_frame.specs.WholeBox.{front_box};
 ghost use Rattle.mp4_c_boxes.specs.CopiesParts.{CopiesParts};
 ghost use Rattle.mp4_c_boxes.specs.Avcc.{sets_avcc};
 ghost use Rattle.mp4_c_boxes.specs.Avc1.{fields_avc1};

@@ -3,7 +3,7 @@
 ghost use Rattle.std.specs.Prelude.{map};
 ghost use Rattle.mp4_frame.specs.declared.codes.TheConstants as codes;
 ghost use Rattle.mp4_stream.specs.Boxes.{format_ctts, reads_ctts};
-ghost use Rattle.mp4_track.specs.Front.{front_box};
+ghost use Rattle.mp4_frame.specs.WholeBox.{front_box};
 ghost use Rattle.mp4_c_boxes.specs.CopiesRows.{CopiesReading};
 ghost use Rattle.mp4_c_boxes.specs.Written.{PutsOrRefuses};
 ghost use Rattle.mp4_c_boxes.specs.TablesFromRows.{ctts_of};

@@ -2,7 +2,7 @@
 
 ghost use Rattle.mp4_frame.specs.declared.codes.TheConstants as codes;
 ghost use Rattle.mp4_stream.specs.Boxes.{format_emsg, reads_emsg};
-ghost use Rattle.mp4_track.specs.Front.{front_box};
+ghost use Rattle.mp4_frame.specs.WholeBox.{front_box};
 ghost use Rattle.mp4_c_boxes.specs.Written.{PutsOrRefuses};
 ghost use Rattle.mp4_c_boxes.specs.Emsg.{FillsEmsg, emsg_of, texts_emsg, fields_emsg};
 ghost use Rattle.mp4_c_boxes.specs.CopiesParts.{CopiesParts};

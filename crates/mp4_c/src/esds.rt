@@ -2,7 +2,7 @@
 
 ghost use Rattle.mp4_frame.specs.declared.codes.TheConstants as codes;
 ghost use Rattle.mp4_stream.specs.Boxes.{reads_esds};
-ghost use Rattle.mp4_track.specs.Front.{front_box};
+ghost use Rattle.mp4_frame.specs.WholeBox.{front_box};
 ghost use Rattle.mp4_c_boxes.specs.FillsStruct.{FillsStruct};
 ghost use Rattle.mp4_c_boxes.specs.Esds.{fields_esds};
 

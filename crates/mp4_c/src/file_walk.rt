@@ -54,7 +54,7 @@ fn top_levels(length: u64) -> [WalkLevel; 33]
         end: length,
         parent: 0,
         handler: 0,
-        is_quicktime: 0,
+        stsd_version: 0,
     };
     [top; LEVELS]
 }

@@ -29,8 +29,8 @@ pub struct FoundBox {
     /// The state of the box: 0 if the walk knows no boxes inside, 1 if it enters the box, 2 if the boxes inside are too
     /// deep, 3 if the box is cut, 4 if its size is too small, 5 if fewer bytes remain than a header has.
     pub what: u8,
-    /// 1 if the file is a QuickTime movie, as an earlier `ftyp` says; else 0.
-    pub is_quicktime: u8,
+    /// The version of the enclosing box if it is an `stsd`, else 0.
+    pub stsd_version: u8,
 }
 
 /// Returns the number of `what`.
@@ -65,7 +65,7 @@ impl FoundBox {
             parent: found.context.parent,
             handler: found.context.handler,
             what: state_code(found.state),
-            is_quicktime: u8::from(found.context.is_quicktime),
+            stsd_version: found.context.stsd_version,
         }
     }
 }

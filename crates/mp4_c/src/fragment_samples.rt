@@ -1,20 +1,23 @@
 //! Lists the samples of the fragments of a track.
 
-ghost use Rattle.std.specs.Prelude.{◌≡◌, ◌+◌, ◌-◌, ◌^◌, ◌++◌, ◌⊎◌, List, IfOk, IfErr, min};
+ghost use Rattle.std.specs.Prelude.{◌≡◌, ◌+◌, ◌-◌, ◌^◌, ◌++◌, ◌⊎◌, ◌∷◌, [], List, IfOk, IfErr, IfSome, OnOk, min};
 ghost use Rattle.mp4_c_boxes.specs.declared.status.TheConstants as statuses;
-ghost use Rattle.mp4_c.specs.FragmentSamples.{AreRows, AreRowsOf, GivesRows, CopiesFragments, HasFault, StopsIn};
+ghost use Rattle.mp4_c.specs.FragmentSamples.{AppendsOwn, AreRows, AreRowsOf, CopiesFragments, CopiesFrom};
+ghost use Rattle.mp4_c.specs.FragmentSamples.{GivesRows, HasFault, StopsAt, StopsIn, answers_of, concerns};
 ghost use Rattle.mp4_c.specs.FragmentSamples.{end_time, status_of_fault, samples_in, samples_of};
+ghost use Rattle.mp4_c.specs.Tracks.{Stops};
 ghost use Rattle.mp4_c.specs.declared.samples.SampleRow.{SampleRow};
-ghost use Rattle.mp4_track.specs.Ends.{EndsTables};
-ghost use Rattle.mp4_track.specs.Fragments.{AreFragments};
-ghost use Rattle.mp4_track.specs.Tracks.{Tells};
+ghost use Rattle.mp4_movie.specs.Ends.{time_end_of};
+ghost use Rattle.mp4_movie.specs.Movies.{of_track, traks};
+ghost use Rattle.mp4_walk.specs.FileBoxes.{boxes_of};
 
-use crate::samples::{SampleRow, row_of, status_of_track_error};
+use crate::samples::{SampleRow, row_of};
+use crate::track::{find_track, status_of_box_error};
 use mp4_c_boxes::status::{CHUNK_COUNT, DURATIONS, NO_ROOM, OFFSET, OUT_OF_MEMORY};
 use mp4_c_boxes::to_rows::copy_rows;
+use mp4_movie::{BoxError, MoofFragments, Movie, MovieError, TrackFragment};
 use mp4_samples::{Fragment, FragmentFault};
 use mp4_tables::TrunBox;
-use mp4_track::{TrackError, TrackFragment, fragments_of, tables_end_of};
 use std::alloc::Global;
 
 /// Returns the status of `fault`: one for each kind.
@@ -112,18 +115,121 @@ fn copy_fragments(
     }
 }
 
-/// Returns the time at which the samples of the tables of the track `track_id` end, and the fragments of the track.
-fn read_fragments(
-    alloc: Global,
-    bytes: &[u8],
-    track_id: u32,
-) -> Result<(u64, Vec<TrackFragment>), TrackError>
-    ensures found { IfOk result (λ found. EndsTables bytes.now track_id found.0
-        × AreFragments bytes.now track_id found.1.items) }
-    ensures error { IfErr result (Tells bytes.now track_id) }
+/// Returns whether `error`, the reason why a `traf` is no fragment, concerns the track `track_id`.
+fn concerns(track_id: u32, error: &BoxError) -> bool
+    ensures { result ≡ concerns track_id error.now }
 {
-    let start = tables_end_of(alloc, bytes, track_id)?;
-    Ok((start, fragments_of(alloc, bytes, track_id)?))
+    match error {
+        BoxError::NoDefaults { track_id: other } => *other == track_id,
+        BoxError::NoBase {
+            track_id: other,
+            ..
+        } => *other == track_id,
+        BoxError::Missing { .. } | BoxError::Fault { .. } => true,
+    }
+}
+
+/// Appends `fragment` to `own`. Returns the status if memory is refused.
+fn keep(own: &mut Vec<TrackFragment>, fragment: TrackFragment) -> Result<(), u32>
+    ensures kept { OnOk result (own.new.items ≡ own.old.items ++ fragment ∷ []) }
+    ensures memory { IfErr result (λ status. status ≡ statuses.OUT_OF_MEMORY) }
+{
+    match own.push(fragment) {
+        Ok(()) => Ok(()),
+        Err(_) => Err(OUT_OF_MEMORY),
+    }
+}
+
+/// Appends the fragment in `answer` to `own` if it is of the track `track_id`. Returns the status if `answer` is an
+/// error that concerns the track, or if memory is refused.
+fn take(
+    answer: Result<TrackFragment, BoxError>,
+    track_id: u32,
+    own: &mut Vec<TrackFragment>,
+) -> Result<(), u32>
+    ensures own { OnOk result (AppendsOwn track_id (answer ∷ []) own.old.items own.new.items) }
+    ensures stops { IfErr result (StopsAt track_id (answer ∷ [])) }
+{
+    match answer {
+        Ok(fragment) => {
+            if fragment.header.track_id == track_id {
+                return keep(own, fragment);
+            }
+            Ok(())
+        }
+        Err(error) => {
+            if concerns(track_id, &error) {
+                return Err(status_of_box_error(&error));
+            }
+            Ok(())
+        }
+    }
+}
+
+/// Appends the fragments of the track `track_id` in `answers` to `own`. Returns the status if an error concerns the
+/// track, or if memory is refused.
+fn take_all(
+    answers: Vec<Result<TrackFragment, BoxError>>,
+    track_id: u32,
+    own: &mut Vec<TrackFragment>,
+) -> Result<(), u32>
+    ensures own { OnOk result (AppendsOwn track_id answers.items own.old.items own.new.items) }
+    ensures stops { IfErr result (StopsAt track_id answers.items) }
+{
+    for answer in answers {
+        take(answer, track_id, own)?;
+    }
+    Ok(())
+}
+
+/// Returns the fragments of the track `track_id`, or the status if an error concerns the track, or if memory is
+/// refused.
+fn own_fragments(
+    alloc: Global,
+    moofs: Vec<MoofFragments>,
+    track_id: u32,
+) -> Result<Vec<TrackFragment>, u32>
+    ensures own { IfOk result (λ own. AppendsOwn track_id (answers_of moofs.items) [] own.items) }
+    ensures stops { IfErr result (StopsAt track_id (answers_of moofs.items)) }
+{
+    let mut own = Vec::new(alloc);
+    for moof in moofs {
+        let MoofFragments {
+            position: _,
+            fragments,
+        } = moof;
+        take_all(fragments, track_id, &mut own)?;
+    }
+    Ok(own)
+}
+
+/// Copies the samples of the fragments of track `number` of `movie`, which has the track_ID `track_id`, to `rows`, and
+/// writes their number to `count`. Returns the status.
+fn copy_track_fragments(
+    alloc: Global,
+    movie: &mut Movie<&[u8]>,
+    number: usize,
+    track_id: u32,
+    rows: &mut [SampleRow],
+    count: &mut usize,
+) -> u32
+    ensures { IfSome movie.old.bytes (λ file.
+        Stops statuses.OUT_OF_MEMORY result rows.old rows.new count.old count.new
+        ⊎ CopiesFrom file track_id (of_track (time_end_of file) number (traks (boxes_of file)))
+        result rows.old rows.new count.old count.new) }
+{
+    let start = match movie.time_end(alloc, number) {
+        Ok(start) => start,
+        Err(MovieError::Box(error)) => return status_of_box_error(&error),
+        Err(MovieError::Io(_)) => return OUT_OF_MEMORY,
+    };
+    let Ok(moofs) = movie.fragments(alloc) else {
+        return OUT_OF_MEMORY;
+    };
+    match own_fragments(alloc, moofs, track_id) {
+        Ok(own) => copy_fragments(alloc, start, &own, rows, count),
+        Err(status) => status,
+    }
 }
 
 /// Copies the samples of all fragments of the first track that has the track_ID `track_id` (ISO/IEC 14496-12, 8.8) to
@@ -138,8 +244,11 @@ pub extern "C" fn mp4_fragment_samples(
 ) -> u32
     ensures { CopiesFragments bytes.now track_id result rows.old rows.new count.old count.new }
 {
-    match read_fragments(alloc, bytes, track_id) {
-        Ok(found) => copy_fragments(alloc, found.0, &found.1, rows, count),
-        Err(error) => status_of_track_error(&error),
+    match find_track(alloc, bytes, track_id) {
+        Ok(mut track) => {
+            let number = track.number;
+            copy_track_fragments(alloc, &mut track.movie, number, track_id, rows, count)
+        }
+        Err(status) => status,
     }
 }

@@ -2,7 +2,7 @@
 
 ghost use Rattle.mp4_frame.specs.declared.codes.TheConstants as codes;
 ghost use Rattle.mp4_stream.specs.Boxes.{format_hdlr, reads_hdlr};
-ghost use Rattle.mp4_track.specs.Front.{front_box};
+ghost use Rattle.mp4_frame.specs.WholeBox.{front_box};
 ghost use Rattle.mp4_c_boxes.specs.CopiesRows.{CopiesReading};
 ghost use Rattle.mp4_c_boxes.specs.Written.{PutsOrRefuses};
 ghost use Rattle.mp4_c_boxes.specs.Hdlr.{hdlr_of, fields_hdlr};

@@ -57,6 +57,7 @@ pub mod stts;
 pub mod tfdt;
 pub mod tfhd;
 pub mod tkhd;
+mod track;
 pub mod trex;
 pub mod trun;
 pub mod tx3g;

@@ -2,7 +2,7 @@
 
 ghost use Rattle.mp4_frame.specs.declared.codes.TheConstants as codes;
 ghost use Rattle.mp4_stream.specs.Boxes.{format_mfhd, reads_mfhd};
-ghost use Rattle.mp4_track.specs.Front.{front_box};
+ghost use Rattle.mp4_frame.specs.WholeBox.{front_box};
 ghost use Rattle.mp4_c_boxes.specs.FillsStruct.{FillsStruct};
 ghost use Rattle.mp4_c_boxes.specs.Written.{PutsBox};
 ghost use Rattle.mp4_c_boxes.specs.FixedFields.{fields_mfhd, mfhd_of};

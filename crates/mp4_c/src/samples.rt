@@ -1,16 +1,21 @@
 //! Lists the samples of a track.
 
-ghost use Rattle.std.specs.Prelude.{◌≡◌, ◌≤◌, length};
+ghost use Rattle.std.specs.Prelude.{◌≡◌, ◌≤◌, ◌⊎◌, length, IfSome};
+ghost use Rattle.mp4_c_boxes.specs.declared.status.TheConstants as statuses;
+ghost use Rattle.mp4_movie.specs.Movies.{of_track, samples_of, traks};
 ghost use Rattle.mp4_samples.specs.Samples.{sample_count};
-ghost use Rattle.mp4_c.specs.Samples.{ArePut, CopiesSamples, CopiesTables, row_of, status_of_disagreement};
-ghost use Rattle.mp4_c.specs.Samples.{status_of_track_error};
+ghost use Rattle.mp4_c.specs.Samples.{ArePut, CopiesAnswer, CopiesSamples, CopiesTables, row_of};
+ghost use Rattle.mp4_c.specs.Samples.{status_of_disagreement};
+ghost use Rattle.mp4_c.specs.Tracks.{Stops};
+ghost use Rattle.mp4_walk.specs.FileBoxes.{boxes_of};
 
+use crate::track::{find_track, status_of_box_error};
 use mp4_c_boxes::status::{
-    BOX_NOT_FOUND, CHUNK_COUNT, CHUNK_ORDER, CHUNKS, DURATIONS, FIRST_CHUNK, NO_ROOM, NO_TRACK,
-    OFFSET, OK, OUT_OF_MEMORY, SAMPLE_SIZES, SYNC_SAMPLES, status_of,
+    CHUNK_COUNT, CHUNK_ORDER, CHUNKS, DURATIONS, FIRST_CHUNK, NO_ROOM, OFFSET, OK, OUT_OF_MEMORY,
+    SAMPLE_SIZES, SYNC_SAMPLES,
 };
+use mp4_movie::{Movie, MovieError, SampleBoxes};
 use mp4_samples::{Disagreement, Sample, SampleTables};
-use mp4_track::{SampleBoxes, TrackError, track_of};
 use std::alloc::Global;
 
 /// A sample of a track. Times are in the timescale of the media.
@@ -67,20 +72,6 @@ fn status_of_disagreement(disagreement: Disagreement) -> u32
     }
 }
 
-/// Returns the status of `error`.
-pub fn status_of_track_error(error: &TrackError) -> u32
-    ensures { result ≡ status_of_track_error error.now }
-{
-    match error {
-        TrackError::NoMovie => BOX_NOT_FOUND,
-        TrackError::NoTrack(_) => NO_TRACK,
-        TrackError::Missing { .. } => BOX_NOT_FOUND,
-        TrackError::Fault { error, .. } => status_of(error),
-        TrackError::NoBase { .. } => OFFSET,
-        TrackError::Memory => OUT_OF_MEMORY,
-    }
-}
-
 /// Copies the samples of `tables` to the front of `rows`, which is long enough for them.
 fn put_samples(tables: &SampleTables<'_>, rows: &mut [SampleRow])
     requires { sample_count tables.now ≤ length rows.old }
@@ -112,6 +103,30 @@ fn copy_tables(boxes: &SampleBoxes, rows: &mut [SampleRow], count: &mut usize) -
     }
 }
 
+/// Copies the samples of track `number` of `movie` to `rows`, and writes their number to `count`. Returns the status.
+fn copy_track(
+    alloc: Global,
+    movie: &mut Movie<&[u8]>,
+    number: usize,
+    rows: &mut [SampleRow],
+    count: &mut usize,
+) -> u32
+    ensures { IfSome movie.old.bytes (λ file.
+        Stops statuses.OUT_OF_MEMORY result rows.old rows.new count.old count.new
+        ⊎ CopiesAnswer (of_track (samples_of file) number (traks (boxes_of file)))
+        result rows.old rows.new count.old count.new) }
+{
+    match movie.samples(alloc, number) {
+        Ok(Some(boxes)) => copy_tables(&boxes, rows, count),
+        Ok(None) => {
+            *count = 0;
+            OK
+        }
+        Err(MovieError::Box(error)) => status_of_box_error(&error),
+        Err(MovieError::Io(_)) => OUT_OF_MEMORY,
+    }
+}
+
 /// Copies the samples of the first track that has the track_ID `track_id` (ISO/IEC 14496-12, 8.3.2) to `rows`, by the
 /// tables of its `stbl`, and writes their number to `count`. `bytes` is the whole file. Returns the status.
 #[unsafe(no_mangle)]
@@ -124,8 +139,11 @@ pub extern "C" fn mp4_samples(
 ) -> u32
     ensures { CopiesSamples bytes.now track_id result rows.old rows.new count.old count.new }
 {
-    match track_of(alloc, bytes, track_id) {
-        Ok(track) => copy_tables(&track.tables, rows, count),
-        Err(error) => status_of_track_error(&error),
+    match find_track(alloc, bytes, track_id) {
+        Ok(mut track) => {
+            let number = track.number;
+            copy_track(alloc, &mut track.movie, number, rows, count)
+        }
+        Err(status) => status,
     }
 }

@@ -2,7 +2,7 @@
 
 ghost use Rattle.mp4_frame.specs.declared.codes.TheConstants as codes;
 ghost use Rattle.mp4_stream.specs.Boxes.{format_trun, reads_trun};
-ghost use Rattle.mp4_track.specs.Front.{front_box};
+ghost use Rattle.mp4_frame.specs.WholeBox.{front_box};
 ghost use Rattle.mp4_c_boxes.specs.CopiesRows.{CopiesReading};
 ghost use Rattle.mp4_c_boxes.specs.Written.{PutsOrRefuses};
 ghost use Rattle.mp4_c_boxes.specs.TablesFromRows.{trun_of};

@@ -17,8 +17,8 @@ pub struct WalkLevel {
     pub parent: u32,
     /// The handler type of the enclosing media; 0 if no `hdlr` has been read.
     pub handler: u32,
-    /// 0 if the file isn't a QuickTime movie.
-    pub is_quicktime: u8,
+    /// The version of that box if it is an `stsd`, else 0.
+    pub stsd_version: u8,
 }
 
 /// Returns the level that `row` has, at `depth`.
@@ -31,7 +31,7 @@ fn level_of(depth: u64, row: &WalkLevel) -> Level
         context: WalkContext {
             parent: row.parent,
             handler: row.handler,
-            is_quicktime: row.is_quicktime > 0,
+            stsd_version: row.stsd_version,
         },
     }
 }
@@ -44,7 +44,7 @@ pub(crate) fn row_of(level: &Level) -> WalkLevel
         end: level.end,
         parent: level.context.parent,
         handler: level.context.handler,
-        is_quicktime: u8::from(level.context.is_quicktime),
+        stsd_version: level.context.stsd_version,
     }
 }
 

@@ -4,7 +4,7 @@ ghost use Rattle.std.specs.Prelude.{◌≡◌, ◌≤◌, ◌++◌, drop, length
 ghost use Rattle.mp4_frame.specs.declared.error.Error.TheVariants.{OutOfMemory};
 ghost use Rattle.mp4_text.specs.Boxes.{format_emsg, reads_emsg};
 ghost use Rattle.mp4_frame.specs.declared.codes.TheConstants as codes;
-ghost use Rattle.mp4_track.specs.Front.{front_box};
+ghost use Rattle.mp4_frame.specs.WholeBox.{front_box};
 ghost use Rattle.mp4_c_boxes.specs.CopiesParts.{CopiesParts};
 ghost use Rattle.mp4_c_boxes.specs.Written.{PutsOrRefuses};
 ghost use Rattle.mp4_c_boxes.specs.Emsg.{FillsEmsg, emsg_of, texts_emsg, fields_emsg};
@@ -13,9 +13,8 @@ use crate::parts::write_result;
 use crate::status::{INVALID_DATA, NO_ROOM, OK, status_of};
 use crate::to_struct::ToStruct;
 use crate::written::put_box;
-use mp4_frame::{Result, Text, codes};
+use mp4_frame::{Result, Text, codes, front_box};
 use mp4_text::EmsgBox;
-use mp4_track::front_box;
 use std::alloc::Global;
 use std::str;
 

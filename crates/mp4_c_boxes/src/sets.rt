@@ -3,15 +3,14 @@
 ghost use Rattle.std.specs.Prelude.{◌≡◌, ◌≤◌, ◌-◌, ◌+◌, ◌^◌, ◌++◌, List, drop, length, min, sum, take, IfOk, IfErr};
 ghost use Rattle.mp4_frame.specs.declared.error.Error.TheVariants.{OutOfMemory};
 ghost use Rattle.mp4_entries.specs.declared.nal_unit.NalUnit.{NalUnit};
-ghost use Rattle.mp4_track.specs.Front.{front_box};
+ghost use Rattle.mp4_frame.specs.WholeBox.{front_box};
 ghost use Rattle.mp4_c_boxes.specs.CopiesParts.{CopiesParts};
 ghost use Rattle.mp4_c_boxes.specs.Sets.{FillsSets, bytes_of_sets, lengths_of_sets, sets_of, size_of_sets};
 
 use crate::status::{NO_ROOM, OK, status_of};
 use crate::to_struct::ToStruct;
 use mp4_entries::NalUnit;
-use mp4_frame::{Entries, ReadBox, Result, put_bytes};
-use mp4_track::front_box;
+use mp4_frame::{Entries, ReadBox, Result, front_box, put_bytes};
 use std::alloc::Global;
 
 /// Returns the number of bytes of `sets`, or 2^64 - 1 if there are more.

@@ -35,7 +35,7 @@ pub const DURATIONS: u32 = 115;
 /// `Disagreement::SyncSamples`: an entry of `stss` is not above the one before it, or the first is 0.
 pub const SYNC_SAMPLES: u32 = 116;
 /// `Disagreement::Offset`: a chunk begins at an offset from which the bytes of all samples would end past 2^64 - 1.
-/// `FragmentFault::Offset`: a sample of a fragment begins before the file or ends past 2^64 - 1. `TrackError::NoBase`:
+/// `FragmentFault::Offset`: a sample of a fragment begins before the file or ends past 2^64 - 1. `BoxError::NoBase`:
 /// the offsets of a fragment count from a position that isn't known.
 pub const OFFSET: u32 = 117;
 

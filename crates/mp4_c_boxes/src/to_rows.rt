@@ -1,12 +1,11 @@
 //! Copies rows into an array of the caller.
 
 ghost use Rattle.std.specs.Prelude.{◌≡◌, ◌<◌, ◌≤◌, ◌++◌, List, Some, drop, length, slice_get};
-ghost use Rattle.mp4_track.specs.Front.{front_box};
+ghost use Rattle.mp4_frame.specs.WholeBox.{front_box};
 ghost use Rattle.mp4_c_boxes.specs.CopiesRows.{Fills, CopiesResult, CopiesReading};
 
 use crate::status::{NO_ROOM, OK, status_of};
-use mp4_frame::{ReadBox, Result};
-use mp4_track::front_box;
+use mp4_frame::{ReadBox, Result, front_box};
 use std::alloc::Global;
 
 /// A value that a caller gets as rows, and as a summary that says how many rows it has.

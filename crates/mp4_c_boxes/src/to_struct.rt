@@ -1,12 +1,11 @@
 //! Fills a struct of the caller with the fields of a box.
 
 ghost use Rattle.std.specs.Prelude.{◌≡◌};
-ghost use Rattle.mp4_track.specs.Front.{front_box};
+ghost use Rattle.mp4_frame.specs.WholeBox.{front_box};
 ghost use Rattle.mp4_c_boxes.specs.FillsStruct.{FillsStruct};
 
 use crate::status::{OK, status_of};
-use mp4_frame::ReadBox;
-use mp4_track::front_box;
+use mp4_frame::{ReadBox, front_box};
 use std::alloc::Global;
 
 /// A box whose fields C has in a struct of the type `S`.

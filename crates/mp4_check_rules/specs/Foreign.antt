@@ -9,16 +9,15 @@ use Rattle.mp4_frame.specs.declared.codes.TheConstants as codes
 use Rattle.mp4_frame.specs.declared.four_cc.FourCC.{FourCC}
 use Rattle.mp4_check_rules.specs.declared.foreign.NotMp4.{NotMp4}
 use Rattle.mp4_check_rules.specs.declared.foreign.NotMp4.TheVariants as why
-use Rattle.mp4_check_rules.specs.declared.foreign.TheConstants as tops
-use Rattle.mp4_check_rules.specs.declared.parts.TheConstants as parts
 use Rattle.mp4_walk.specs.declared.tree_box.TreeBox.{TreeBox}
 use Rattle.mp4_walk.specs.declared.tree_box.BoxState.{BoxState}
 use Rattle.mp4_walk.specs.declared.tree_box.BoxState.TheVariants as states
 
 abbrev pub top_codes : List ℕ
 top_codes =
-    codes.FTYP ∷ tops.STYP ∷ codes.MOOV ∷ codes.MOOF ∷ codes.MDAT ∷ codes.META ∷ codes.FREE ∷ tops.SKIP ∷ codes.WIDE
-    ∷ tops.UUID ∷ codes.UDTA ∷ parts.SIDX ∷ tops.SSIX ∷ tops.PRFT ∷ codes.EMSG ∷ tops.MFRA ∷ tops.PDIN ∷ tops.PNOT ∷ []
+    codes.FTYP ∷ codes.STYP ∷ codes.MOOV ∷ codes.MOOF ∷ codes.MDAT ∷ codes.META ∷ codes.FREE ∷ codes.SKIP ∷ codes.WIDE
+    ∷ codes.UUID ∷ codes.UDTA ∷ codes.SIDX ∷ codes.SSIX ∷ codes.PRFT ∷ codes.EMSG ∷ codes.MFRA ∷ codes.PDIN
+    ∷ codes.PNOT ∷ []
 
 abbrev pub is_top_code : ℕ → Bool
 is_top_code code = list_any (λ c. code == c) top_codes

@@ -4,14 +4,13 @@ use Rattle.std.specs.Prelude.{ℕ, ◌==◌, ◌&&◌, ◌||◌, Bool, false, Li
 use Rattle.std.specs.List.{list_any}
 use Rattle.std.specs.declared.option.Option.{Option}
 use Rattle.mp4_frame.specs.declared.codes.TheConstants as codes
-use Rattle.mp4_check_rules.specs.declared.parts.TheConstants as parts
 
--- `mvhd` (8.2.2), `tkhd` (8.3.2), `mdia` (8.4.1), `mdhd` (8.4.2), `mfhd` (8.8.5), `tfhd` (8.8.7), and the tables of
--- samples (8.5.2, 8.6.1.2, 8.7.4, 8.7.3, 8.7.5)
+-- `mvhd` (8.2.2), `tkhd` (8.3.2), `mdia` (8.4.1), `mdhd` (8.4.2), `minf` (8.4.4), `stbl` (8.5.1), `mfhd` (8.8.5),
+-- `tfhd` (8.8.7), and the tables of samples (8.5.2, 8.6.1.2, 8.7.4, 8.7.3, 8.7.5)
 abbrev pub needed : ℕ → List ℕ
 needed parent =
     if parent == codes.MOOV then codes.MVHD ∷ [] else if parent == codes.TRAK then codes.TKHD ∷ codes.MDIA ∷ [] else
-    if parent == codes.MDIA then codes.MDHD ∷ [] else
+    if parent == codes.MDIA then codes.MDHD ∷ codes.MINF ∷ [] else if parent == codes.MINF then codes.STBL ∷ [] else
     if parent == codes.STBL then codes.STSD ∷ codes.STTS ∷ codes.STSC ∷ codes.STSZ ∷ codes.STCO ∷ [] else
     if parent == codes.MOOF then codes.MFHD ∷ [] else if parent == codes.TRAF then codes.TFHD ∷ [] else []
 
@@ -19,9 +18,9 @@ needed parent =
 -- (8.7.5); QuickTime's `cmov` and `rmra` replace a whole movie
 abbrev pub is_part : ℕ → ℕ → Bool
 is_part needed code =
-    (needed == code) || (if needed == codes.STSZ then code == parts.STZ2 else
+    (needed == code) || (if needed == codes.STSZ then code == codes.STZ2 else
     if needed == codes.STCO then code == codes.CO64 else
-    if needed == codes.MVHD then (code == parts.CMOV) || (code == parts.RMRA) else false)
+    if needed == codes.MVHD then (code == codes.CMOV) || (code == codes.RMRA) else false)
 
 abbrev pub is_in : List ℕ → ℕ → Bool
 is_in these code = list_any (λ c. code == c) these
@@ -33,15 +32,15 @@ one_of these code = if is_in these code then Some code else None
 -- auxiliary data
 abbrev pub in_stbl : ℕ → Option ℕ
 in_stbl code =
-    if is_in (codes.STSZ ∷ parts.STZ2 ∷ []) code then Some codes.STSZ else
+    if is_in (codes.STSZ ∷ codes.STZ2 ∷ []) code then Some codes.STSZ else
     if is_in (codes.STCO ∷ codes.CO64 ∷ []) code then Some codes.STCO else
-    one_of (codes.STSD ∷ codes.STTS ∷ codes.CTTS ∷ parts.CSLG ∷ codes.STSC ∷ codes.STSS ∷ parts.STSH ∷ parts.PADB
-    ∷ parts.STDP ∷ parts.SDTP ∷ []) code
+    one_of (codes.STSD ∷ codes.STTS ∷ codes.CTTS ∷ codes.CSLG ∷ codes.STSC ∷ codes.STSS ∷ codes.STSH ∷ codes.PADB
+    ∷ codes.STDP ∷ codes.SDTP ∷ []) code
 
 -- in a `minf` (8.4.4): one media header of any kind (8.4.5), and one of each other box
 abbrev pub in_minf : ℕ → Option ℕ
 in_minf code =
-    if is_in (codes.VMHD ∷ codes.SMHD ∷ parts.HMHD ∷ parts.STHD ∷ parts.NMHD ∷ parts.GMHD ∷ []) code then
+    if is_in (codes.VMHD ∷ codes.SMHD ∷ codes.HMHD ∷ codes.STHD ∷ codes.NMHD ∷ codes.GMHD ∷ []) code then
     Some codes.VMHD else one_of (codes.DINF ∷ codes.STBL ∷ codes.HDLR ∷ []) code
 
 -- the first code of the boxes of which the parent may have only one, if this is one of them: also in `mdia` (8.4),
@@ -49,15 +48,15 @@ in_minf code =
 abbrev pub group_of : ℕ → ℕ → Option ℕ
 group_of parent code =
     if parent == codes.STBL then in_stbl code else if parent == codes.MINF then in_minf code else
-    if parent == codes.MDIA then one_of (codes.MDHD ∷ codes.HDLR ∷ parts.ELNG ∷ codes.MINF ∷ []) code else
+    if parent == codes.MDIA then one_of (codes.MDHD ∷ codes.HDLR ∷ codes.ELNG ∷ codes.MINF ∷ []) code else
     if parent == codes.TRAK then
-    one_of (codes.TKHD ∷ parts.TREF ∷ parts.TRGR ∷ codes.EDTS ∷ codes.MDIA ∷ codes.META ∷ codes.UDTA ∷ []) code else
+    one_of (codes.TKHD ∷ codes.TREF ∷ codes.TRGR ∷ codes.EDTS ∷ codes.MDIA ∷ codes.META ∷ codes.UDTA ∷ []) code else
     if parent == codes.MOOV then
-    one_of (codes.MVHD ∷ parts.IODS ∷ codes.MVEX ∷ codes.META ∷ codes.UDTA ∷ []) code else
+    one_of (codes.MVHD ∷ codes.IODS ∷ codes.MVEX ∷ codes.META ∷ codes.UDTA ∷ []) code else
     if parent == codes.MOOF then one_of (codes.MFHD ∷ codes.META ∷ codes.UDTA ∷ []) code else
     if parent == codes.TRAF then
-    one_of (codes.TFHD ∷ codes.TFDT ∷ parts.SDTP ∷ codes.META ∷ codes.UDTA ∷ []) code else None
+    one_of (codes.TFHD ∷ codes.TFDT ∷ codes.SDTP ∷ codes.META ∷ codes.UDTA ∷ []) code else None
 
 -- a file has a movie (8.2.1), fragments (8.8.4), items (8.11.1), or the index of a segment (8.16.3)
 abbrev pub is_file : ℕ → Bool
-is_file code = (code == codes.MOOV) || ((code == codes.MOOF) || ((code == codes.META) || (code == parts.SIDX)))
+is_file code = (code == codes.MOOV) || ((code == codes.MOOF) || ((code == codes.META) || (code == codes.SIDX)))

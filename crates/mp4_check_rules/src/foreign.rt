@@ -3,33 +3,11 @@
 ghost use Rattle.std.specs.Prelude.{◌≡◌};
 ghost use Rattle.mp4_check_rules.specs.Foreign.{is_top_code, foreign_code, not_mp4};
 
-use crate::parts::SIDX;
-use mp4_frame::codes::{EMSG, FREE, FTYP, MDAT, META, MOOF, MOOV, UDTA, WIDE};
+use mp4_frame::codes::{
+    EMSG, FREE, FTYP, MDAT, META, MFRA, MOOF, MOOV, PDIN, PNOT, PRFT, SIDX, SKIP, SSIX, STYP, UDTA,
+    UUID, WIDE,
+};
 use mp4_walk::{BoxState, TreeBox};
-
-/// `styp`: the type of a segment (ISO/IEC 14496-12, 8.16.2).
-pub const STYP: u32 = 0x7374_7970;
-
-/// `ssix`: the index of a sub-segment (8.16.4).
-pub const SSIX: u32 = 0x7373_6978;
-
-/// `prft`: the time of a producer (8.16.5).
-pub const PRFT: u32 = 0x7072_6674;
-
-/// `mfra`: random access of movie fragments (8.8.9).
-pub const MFRA: u32 = 0x6d66_7261;
-
-/// `pdin`: progressive download (8.1.3).
-pub const PDIN: u32 = 0x7064_696e;
-
-/// `skip`: free space (8.1.2).
-pub const SKIP: u32 = 0x736b_6970;
-
-/// `uuid`: a box whose type is a UUID (4.2).
-pub const UUID: u32 = 0x7575_6964;
-
-/// `pnot`: a preview (QuickTime).
-pub const PNOT: u32 = 0x706e_6f74;
 
 /// The reason why a file is not an MP4 file.
 #[derive(Clone, Copy, Debug, PartialEq, Eq)]

@@ -3,34 +3,24 @@
 ghost use Rattle.std.specs.Prelude.{◌≡◌};
 ghost use Rattle.mp4_check_rules.specs.Terminator.{is_entry, may_end};
 
-use mp4_frame::codes::{DREF, META, STSD, TX3G, UDTA};
-use mp4_walk::{WalkContext, is_container};
+use mp4_frame::codes::{STSD, UDTA};
+use mp4_walk::{NO_CONTENT, WalkContext, front_of};
 
-/// `vide`: the handler of video (ISO/IEC 14496-12, 12.1).
-pub const VIDE: u32 = 0x7669_6465;
-
-/// `soun`: the handler of audio (ISO/IEC 14496-12, 12.2).
-pub const SOUN: u32 = 0x736f_756e;
-
-/// `wvtt`: a sample entry of WebVTT (ISO/IEC 14496-30, 7.5).
-pub const WVTT: u32 = 0x7776_7474;
-
-/// `mp4s`: a sample entry of MPEG-4 systems (ISO/IEC 14496-14, 6.7).
-pub const MP4S: u32 = 0x6d70_3473;
-
-/// Returns whether `context` is inside a sample entry. No other box that the walk enters has the code of one.
+/// Returns whether `context` is inside a sample entry. The code of the box around it is that of an entry of its media,
+/// and of no other box that the walk enters.
 fn is_entry(context: WalkContext) -> bool
     ensures { result ≡ is_entry context }
 {
-    let parent = context.parent;
-    if parent == STSD || parent == DREF || parent == META || is_container(parent) {
-        return false;
-    }
-    context.handler == VIDE
-        || context.handler == SOUN
-        || parent == TX3G
-        || parent == WVTT
-        || parent == MP4S
+    let code = context.parent;
+    let in_stsd = WalkContext {
+        parent: STSD,
+        ..context
+    };
+    let elsewhere = WalkContext {
+        parent: 0,
+        ..context
+    };
+    front_of(in_stsd, code, NO_CONTENT).is_some() && front_of(elsewhere, code, NO_CONTENT).is_none()
 }
 
 /// Returns whether four zero bytes may end the box around `context`, a `udta` or a sample entry.

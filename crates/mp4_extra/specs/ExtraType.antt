@@ -1,60 +1,48 @@
--- The types of boxes that a ExtraBox holds, and their codes.
+-- The types of boxes that an ExtraBox holds, and their codes.
 use Rattle.std.specs.Prelude.{ℕ, ◌==◌, if◌then◌else◌, List, [], ◌∷◌, Option, None, Some}
 use Rattle.mp4_extra.specs.declared.extra_type.ExtraType.{ExtraType}
 use Rattle.mp4_extra.specs.declared.extra_type.ExtraType.TheVariants as types
-use Rattle.mp4_extra_media.specs.declared.{av1c.TheConstants.AV1C, btrt.TheConstants.BTRT, clap.TheConstants.CLAP}
-use Rattle.mp4_extra_media.specs.declared.{clli.TheConstants.CLLI, colr.TheConstants.COLR, dac3.TheConstants.DAC3}
-use Rattle.mp4_extra_media.specs.declared.{dec3.TheConstants.DEC3, dfla.TheConstants.DFLA, dops.TheConstants.DOPS}
-use Rattle.mp4_extra_media.specs.declared.{hvcc.TheConstants.HVCC, mdcv.TheConstants.MDCV, pasp.TheConstants.PASP}
-use Rattle.mp4_extra_media.specs.declared.{stpp.TheConstants.STPP, wvtt.TheConstants.WVTT}
-use Rattle.mp4_extra_samples.specs.declared.{cslg.TheConstants.CSLG, saio.TheConstants.SAIO, saiz.TheConstants.SAIZ}
-use Rattle.mp4_extra_samples.specs.declared.{sbgp.TheConstants.SBGP, sdtp.TheConstants.SDTP, senc.TheConstants.SENC}
-use Rattle.mp4_extra_samples.specs.declared.{sgpd.TheConstants.SGPD, stz2.TheConstants.STZ2, subs.TheConstants.SUBS}
-use Rattle.mp4_extra_segments.specs.declared.{data.TheConstants.DATA, elng.TheConstants.ELNG, frma.TheConstants.FRMA}
-use Rattle.mp4_extra_segments.specs.declared.{keys.TheConstants.KEYS, kind.TheConstants.KIND, mfro.TheConstants.MFRO}
-use Rattle.mp4_extra_segments.specs.declared.{nmhd.TheConstants.NMHD, prft.TheConstants.PRFT, pssh.TheConstants.PSSH}
-use Rattle.mp4_extra_segments.specs.declared.{schm.TheConstants.SCHM, sidx.TheConstants.SIDX, styp.TheConstants.STYP}
-use Rattle.mp4_extra_segments.specs.declared.{tenc.TheConstants.TENC, tfra.TheConstants.TFRA, tref.TheConstants.TREF}
+use Rattle.mp4_frame.specs.declared.codes.TheConstants as codes
 
 abbrev pub code_of_type : ExtraType → ℕ
-code_of_type types.Av1cBox = AV1C
-code_of_type types.BtrtBox = BTRT
-code_of_type types.ClapBox = CLAP
-code_of_type types.ClliBox = CLLI
-code_of_type types.ColrBox = COLR
-code_of_type types.CslgBox = CSLG
-code_of_type types.Dac3Box = DAC3
-code_of_type types.DataBox = DATA
-code_of_type types.Dec3Box = DEC3
-code_of_type types.DflaBox = DFLA
-code_of_type types.DopsBox = DOPS
-code_of_type types.ElngBox = ELNG
-code_of_type types.FrmaBox = FRMA
-code_of_type types.HvccBox = HVCC
-code_of_type types.KeysBox = KEYS
-code_of_type types.KindBox = KIND
-code_of_type types.MdcvBox = MDCV
-code_of_type types.MfroBox = MFRO
-code_of_type types.NmhdBox = NMHD
-code_of_type types.PaspBox = PASP
-code_of_type types.PrftBox = PRFT
-code_of_type types.PsshBox = PSSH
-code_of_type types.SaioBox = SAIO
-code_of_type types.SaizBox = SAIZ
-code_of_type types.SbgpBox = SBGP
-code_of_type types.SchmBox = SCHM
-code_of_type types.SdtpBox = SDTP
-code_of_type types.SencBox = SENC
-code_of_type types.SgpdBox = SGPD
-code_of_type types.SidxBox = SIDX
-code_of_type types.StppBox = STPP
-code_of_type types.StypBox = STYP
-code_of_type types.Stz2Box = STZ2
-code_of_type types.SubsBox = SUBS
-code_of_type types.TencBox = TENC
-code_of_type types.TfraBox = TFRA
-code_of_type types.TrefBox = TREF
-code_of_type types.WvttBox = WVTT
+code_of_type types.Av1cBox = codes.AV1C
+code_of_type types.BtrtBox = codes.BTRT
+code_of_type types.ClapBox = codes.CLAP
+code_of_type types.ClliBox = codes.CLLI
+code_of_type types.ColrBox = codes.COLR
+code_of_type types.CslgBox = codes.CSLG
+code_of_type types.Dac3Box = codes.DAC3
+code_of_type types.DataBox = codes.DATA
+code_of_type types.Dec3Box = codes.DEC3
+code_of_type types.DflaBox = codes.DFLA
+code_of_type types.DopsBox = codes.DOPS
+code_of_type types.ElngBox = codes.ELNG
+code_of_type types.FrmaBox = codes.FRMA
+code_of_type types.HvccBox = codes.HVCC
+code_of_type types.KeysBox = codes.KEYS
+code_of_type types.KindBox = codes.KIND
+code_of_type types.MdcvBox = codes.MDCV
+code_of_type types.MfroBox = codes.MFRO
+code_of_type types.NmhdBox = codes.NMHD
+code_of_type types.PaspBox = codes.PASP
+code_of_type types.PrftBox = codes.PRFT
+code_of_type types.PsshBox = codes.PSSH
+code_of_type types.SaioBox = codes.SAIO
+code_of_type types.SaizBox = codes.SAIZ
+code_of_type types.SbgpBox = codes.SBGP
+code_of_type types.SchmBox = codes.SCHM
+code_of_type types.SdtpBox = codes.SDTP
+code_of_type types.SencBox = codes.SENC
+code_of_type types.SgpdBox = codes.SGPD
+code_of_type types.SidxBox = codes.SIDX
+code_of_type types.StppBox = codes.STPP
+code_of_type types.StypBox = codes.STYP
+code_of_type types.Stz2Box = codes.STZ2
+code_of_type types.SubsBox = codes.SUBS
+code_of_type types.TencBox = codes.TENC
+code_of_type types.TfraBox = codes.TFRA
+code_of_type types.TrefBox = codes.TREF
+code_of_type types.WvttBox = codes.WVTT
 
 abbrev pub all_types : List ExtraType
 all_types =

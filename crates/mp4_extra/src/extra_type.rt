@@ -1,17 +1,11 @@
-//! The types of boxes that a `ExtraBox` holds.
+//! The types of boxes that an `ExtraBox` holds.
 
 ghost use Rattle.std.specs.Prelude.{◌≡◌};
 ghost use Rattle.mp4_extra.specs.ExtraType.{type_of_code};
 
-use mp4_extra_media::{
-    av1c, btrt, clap, clli, colr, dac3, dec3, dfla, dops, hvcc, mdcv, pasp, stpp, wvtt,
-};
-use mp4_extra_samples::{cslg, saio, saiz, sbgp, sdtp, senc, sgpd, stz2, subs};
-use mp4_extra_segments::{
-    data, elng, frma, keys, kind, mfro, nmhd, prft, pssh, schm, sidx, styp, tenc, tfra, tref,
-};
+use mp4_frame::codes;
 
-/// A type of boxes that a `ExtraBox` holds.
+/// A type of boxes that an `ExtraBox` holds.
 #[derive(Clone, Copy)]
 pub(crate) enum ExtraType {
     Av1cBox,
@@ -61,44 +55,44 @@ impl ExtraType {
         ensures { result ≡ type_of_code code }
     {
         match code {
-            av1c::AV1C => Some(ExtraType::Av1cBox),
-            btrt::BTRT => Some(ExtraType::BtrtBox),
-            clap::CLAP => Some(ExtraType::ClapBox),
-            clli::CLLI => Some(ExtraType::ClliBox),
-            colr::COLR => Some(ExtraType::ColrBox),
-            cslg::CSLG => Some(ExtraType::CslgBox),
-            dac3::DAC3 => Some(ExtraType::Dac3Box),
-            data::DATA => Some(ExtraType::DataBox),
-            dec3::DEC3 => Some(ExtraType::Dec3Box),
-            dfla::DFLA => Some(ExtraType::DflaBox),
-            dops::DOPS => Some(ExtraType::DopsBox),
-            elng::ELNG => Some(ExtraType::ElngBox),
-            frma::FRMA => Some(ExtraType::FrmaBox),
-            hvcc::HVCC => Some(ExtraType::HvccBox),
-            keys::KEYS => Some(ExtraType::KeysBox),
-            kind::KIND => Some(ExtraType::KindBox),
-            mdcv::MDCV => Some(ExtraType::MdcvBox),
-            mfro::MFRO => Some(ExtraType::MfroBox),
-            nmhd::NMHD => Some(ExtraType::NmhdBox),
-            pasp::PASP => Some(ExtraType::PaspBox),
-            prft::PRFT => Some(ExtraType::PrftBox),
-            pssh::PSSH => Some(ExtraType::PsshBox),
-            saio::SAIO => Some(ExtraType::SaioBox),
-            saiz::SAIZ => Some(ExtraType::SaizBox),
-            sbgp::SBGP => Some(ExtraType::SbgpBox),
-            schm::SCHM => Some(ExtraType::SchmBox),
-            sdtp::SDTP => Some(ExtraType::SdtpBox),
-            senc::SENC => Some(ExtraType::SencBox),
-            sgpd::SGPD => Some(ExtraType::SgpdBox),
-            sidx::SIDX => Some(ExtraType::SidxBox),
-            stpp::STPP => Some(ExtraType::StppBox),
-            styp::STYP => Some(ExtraType::StypBox),
-            stz2::STZ2 => Some(ExtraType::Stz2Box),
-            subs::SUBS => Some(ExtraType::SubsBox),
-            tenc::TENC => Some(ExtraType::TencBox),
-            tfra::TFRA => Some(ExtraType::TfraBox),
-            tref::TREF => Some(ExtraType::TrefBox),
-            wvtt::WVTT => Some(ExtraType::WvttBox),
+            codes::AV1C => Some(ExtraType::Av1cBox),
+            codes::BTRT => Some(ExtraType::BtrtBox),
+            codes::CLAP => Some(ExtraType::ClapBox),
+            codes::CLLI => Some(ExtraType::ClliBox),
+            codes::COLR => Some(ExtraType::ColrBox),
+            codes::CSLG => Some(ExtraType::CslgBox),
+            codes::DAC3 => Some(ExtraType::Dac3Box),
+            codes::DATA => Some(ExtraType::DataBox),
+            codes::DEC3 => Some(ExtraType::Dec3Box),
+            codes::DFLA => Some(ExtraType::DflaBox),
+            codes::DOPS => Some(ExtraType::DopsBox),
+            codes::ELNG => Some(ExtraType::ElngBox),
+            codes::FRMA => Some(ExtraType::FrmaBox),
+            codes::HVCC => Some(ExtraType::HvccBox),
+            codes::KEYS => Some(ExtraType::KeysBox),
+            codes::KIND => Some(ExtraType::KindBox),
+            codes::MDCV => Some(ExtraType::MdcvBox),
+            codes::MFRO => Some(ExtraType::MfroBox),
+            codes::NMHD => Some(ExtraType::NmhdBox),
+            codes::PASP => Some(ExtraType::PaspBox),
+            codes::PRFT => Some(ExtraType::PrftBox),
+            codes::PSSH => Some(ExtraType::PsshBox),
+            codes::SAIO => Some(ExtraType::SaioBox),
+            codes::SAIZ => Some(ExtraType::SaizBox),
+            codes::SBGP => Some(ExtraType::SbgpBox),
+            codes::SCHM => Some(ExtraType::SchmBox),
+            codes::SDTP => Some(ExtraType::SdtpBox),
+            codes::SENC => Some(ExtraType::SencBox),
+            codes::SGPD => Some(ExtraType::SgpdBox),
+            codes::SIDX => Some(ExtraType::SidxBox),
+            codes::STPP => Some(ExtraType::StppBox),
+            codes::STYP => Some(ExtraType::StypBox),
+            codes::STZ2 => Some(ExtraType::Stz2Box),
+            codes::SUBS => Some(ExtraType::SubsBox),
+            codes::TENC => Some(ExtraType::TencBox),
+            codes::TFRA => Some(ExtraType::TfraBox),
+            codes::TREF => Some(ExtraType::TrefBox),
+            codes::WVTT => Some(ExtraType::WvttBox),
             _ => None,
         }
     }

@@ -1,16 +1,15 @@
 //! The AV1 codec configuration box.
 
-ghost use Rattle.mp4_extra_media.specs.declared.av1c.TheConstants.{AV1C, WIDTHS};
+ghost use Rattle.mp4_extra_media.specs.declared.av1c.TheConstants.{WIDTHS};
+ghost use Rattle.mp4_frame.specs.declared.codes.TheConstants as codes;
 ghost use Rattle.std.proofs.Common.{refl, lit<};
 ghost use Rattle.mp4_stream.specs.Author.{layout_of, packed, fields_of};
 
+use mp4_frame::codes;
 use mp4_stream::author::{
     Bits, Declared, DeclaredBox, EntryLayout, Last, Rest, Shape, ShapeVisitor,
 };
 use mp4_stream::{Entries, Result, TryClone, box_of, entry_of, numbers_of, parts_of};
-
-/// The code: `av1C`.
-pub const AV1C: u32 = 0x6176_3143;
 
 /// The first four bytes of an `av1C`. The names are those of AV1's sequence header.
 #[derive(Clone, Copy, Debug, Default, PartialEq, Eq)]
@@ -91,11 +90,11 @@ impl DeclaredBox for Av1c {
 
     type Shape = Av1cShape;
 
-    ghost CODE = { AV1C };
+    ghost CODE = { codes.AV1C };
 
     ghost layout = { layout_of struct (λ _. tt) (λ _. refl) (lit< tt) };
 
-    const CODE: u32 = AV1C;
+    const CODE: u32 = codes::AV1C;
 
     fn from_content(found: <Av1cShape as Shape>::Value) -> Av1c {
         box_of!(found => Av1c { config, config_obus })

@@ -1,14 +1,12 @@
 //! The bit rate box.
 
-ghost use Rattle.mp4_extra_media.specs.declared.btrt.TheConstants.{BTRT};
+ghost use Rattle.mp4_frame.specs.declared.codes.TheConstants as codes;
 ghost use Rattle.std.proofs.Common.{refl, lit<};
 ghost use Rattle.mp4_stream.specs.Author.{layout_of};
 
+use mp4_frame::codes;
 use mp4_stream::author::{Declared, DeclaredBox, Last, Shape, ShapeVisitor, U32};
 use mp4_stream::{Result, TryClone, box_of, parts_of};
-
-/// The code: `btrt`.
-pub const BTRT: u32 = 0x6274_7274;
 
 /// The bit rates of the media of a sample entry (`btrt`, ISO/IEC 14496-12, 8.5.2.2).
 #[derive(Clone, Copy, Debug, Drop, PartialEq, Eq)]
@@ -29,11 +27,11 @@ impl DeclaredBox for Btrt {
 
     type Shape = BtrtShape;
 
-    ghost CODE = { BTRT };
+    ghost CODE = { codes.BTRT };
 
     ghost layout = { layout_of struct (λ _. tt) (λ _. refl) (lit< tt) };
 
-    const CODE: u32 = BTRT;
+    const CODE: u32 = codes::BTRT;
 
     fn from_content(found: <BtrtShape as Shape>::Value) -> Btrt {
         box_of!(found => Btrt { buffer_size_db, max_bitrate, avg_bitrate })

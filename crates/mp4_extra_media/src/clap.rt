@@ -1,14 +1,12 @@
 //! The clean aperture box.
 
-ghost use Rattle.mp4_extra_media.specs.declared.clap.TheConstants.{CLAP};
+ghost use Rattle.mp4_frame.specs.declared.codes.TheConstants as codes;
 ghost use Rattle.std.proofs.Common.{refl, lit<};
 ghost use Rattle.mp4_stream.specs.Author.{layout_of};
 
+use mp4_frame::codes;
 use mp4_stream::author::{Declared, DeclaredBox, I32, Last, Shape, ShapeVisitor, U32};
 use mp4_stream::{Result, TryClone, box_of, parts_of};
-
-/// The code: `clap`.
-pub const CLAP: u32 = 0x636c_6170;
 
 /// The part of a video's pictures to show (`clap`, ISO/IEC 14496-12, 12.1.4). Width, height and offsets are fractions,
 /// in pixels. Each has a numerator (`_n`) and a positive denominator (`_d`).
@@ -42,11 +40,11 @@ impl DeclaredBox for Clap {
 
     type Shape = ClapShape;
 
-    ghost CODE = { CLAP };
+    ghost CODE = { codes.CLAP };
 
     ghost layout = { layout_of struct (λ _. tt) (λ _. refl) (lit< tt) };
 
-    const CODE: u32 = CLAP;
+    const CODE: u32 = codes::CLAP;
 
     fn from_content(found: <ClapShape as Shape>::Value) -> Clap {
         box_of!(found => Clap { clean_aperture_width_n, clean_aperture_width_d,

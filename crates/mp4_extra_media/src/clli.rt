@@ -1,14 +1,12 @@
 //! The content light level box.
 
-ghost use Rattle.mp4_extra_media.specs.declared.clli.TheConstants.{CLLI};
+ghost use Rattle.mp4_frame.specs.declared.codes.TheConstants as codes;
 ghost use Rattle.std.proofs.Common.{refl, lit<};
 ghost use Rattle.mp4_stream.specs.Author.{layout_of};
 
+use mp4_frame::codes;
 use mp4_stream::author::{Declared, DeclaredBox, Last, Shape, ShapeVisitor, U16};
 use mp4_stream::{Result, TryClone, box_of, parts_of};
-
-/// The code: `clli`.
-pub const CLLI: u32 = 0x636c_6c69;
 
 /// The brightness of a video's pictures (`clli`, ISO/IEC 14496-12, 12.1.6).
 #[derive(Clone, Copy, Debug, Drop, PartialEq, Eq)]
@@ -27,11 +25,11 @@ impl DeclaredBox for Clli {
 
     type Shape = ClliShape;
 
-    ghost CODE = { CLLI };
+    ghost CODE = { codes.CLLI };
 
     ghost layout = { layout_of struct (λ _. tt) (λ _. refl) (lit< tt) };
 
-    const CODE: u32 = CLLI;
+    const CODE: u32 = codes::CLLI;
 
     fn from_content(found: <ClliShape as Shape>::Value) -> Clli {
         box_of!(found => Clli { max_content_light_level, max_pic_average_light_level })

@@ -1,17 +1,16 @@
 //! The colour information box.
 
-ghost use Rattle.mp4_extra_media.specs.declared.colr.TheConstants.{COLR, NCLX, WIDTHS};
+ghost use Rattle.mp4_extra_media.specs.declared.colr.TheConstants.{NCLX, WIDTHS};
+ghost use Rattle.mp4_frame.specs.declared.codes.TheConstants as codes;
 ghost use Rattle.std.proofs.Common.{refl, lit<};
 ghost use Rattle.mp4_stream.specs.Author.{layout_of, packed, fields_of};
 
 use mp4_declared::{OfType, Tag, Typed};
+use mp4_frame::codes;
 use mp4_stream::author::{
     Bits, Declared, DeclaredBox, EntryLayout, Last, Rest, Shape, ShapeVisitor,
 };
 use mp4_stream::{Entries, Result, TryClone, box_of, entry_of, numbers_of, parts_of};
-
-/// The code: `colr`.
-pub const COLR: u32 = 0x636f_6c72;
 
 /// The `colour_type` of `Nclx`: `nclx`.
 pub const NCLX: u32 = 0x6e63_6c78;
@@ -80,11 +79,11 @@ impl DeclaredBox for Colr {
 
     type Shape = ColrShape;
 
-    ghost CODE = { COLR };
+    ghost CODE = { codes.COLR };
 
     ghost layout = { layout_of struct (λ _. tt) (λ _. refl) (lit< tt) };
 
-    const CODE: u32 = COLR;
+    const CODE: u32 = codes::COLR;
 
     fn from_content(found: <ColrShape as Shape>::Value) -> Colr {
         box_of!(found => Colr { colour })

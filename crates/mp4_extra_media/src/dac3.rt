@@ -1,14 +1,13 @@
 //! The AC-3 specific box.
 
-ghost use Rattle.mp4_extra_media.specs.declared.dac3.TheConstants.{DAC3, WIDTHS};
+ghost use Rattle.mp4_extra_media.specs.declared.dac3.TheConstants.{WIDTHS};
+ghost use Rattle.mp4_frame.specs.declared.codes.TheConstants as codes;
 ghost use Rattle.std.proofs.Common.{refl, lit<};
 ghost use Rattle.mp4_stream.specs.Author.{layout_of, packed, fields_of};
 
+use mp4_frame::codes;
 use mp4_stream::author::{Bits, Declared, DeclaredBox, EntryLayout, Last, Shape, ShapeVisitor};
 use mp4_stream::{Result, TryClone, box_of, entry_of, numbers_of, parts_of};
-
-/// The code: `dac3`.
-pub const DAC3: u32 = 0x6461_6333;
 
 /// The fields of a `dac3`. The names are those of the AC-3 bit stream.
 #[derive(Clone, Copy, Debug, Default, PartialEq, Eq)]
@@ -68,11 +67,11 @@ impl DeclaredBox for Dac3 {
 
     type Shape = Dac3Shape;
 
-    ghost CODE = { DAC3 };
+    ghost CODE = { codes.DAC3 };
 
     ghost layout = { layout_of struct (λ _. tt) (λ _. refl) (lit< tt) };
 
-    const CODE: u32 = DAC3;
+    const CODE: u32 = codes::DAC3;
 
     fn from_content(found: <Dac3Shape as Shape>::Value) -> Dac3 {
         box_of!(found => Dac3 { config })

@@ -1,16 +1,15 @@
 //! The Enhanced AC-3 specific box.
 
-ghost use Rattle.mp4_extra_media.specs.declared.dec3.TheConstants.{DEC3, WIDTHS};
+ghost use Rattle.mp4_extra_media.specs.declared.dec3.TheConstants.{WIDTHS};
+ghost use Rattle.mp4_frame.specs.declared.codes.TheConstants as codes;
 ghost use Rattle.std.proofs.Common.{refl, lit<};
 ghost use Rattle.mp4_stream.specs.Author.{layout_of, packed, fields_of};
 
+use mp4_frame::codes;
 use mp4_stream::author::{
     Bits, Declared, DeclaredBox, EntryLayout, Last, Rest, Shape, ShapeVisitor,
 };
 use mp4_stream::{Entries, Result, TryClone, box_of, entry_of, numbers_of, parts_of};
-
-/// The code: `dec3`.
-pub const DEC3: u32 = 0x6465_6333;
 
 /// The first two bytes of a `dec3`.
 #[derive(Clone, Copy, Debug, Default, PartialEq, Eq)]
@@ -73,11 +72,11 @@ impl DeclaredBox for Dec3 {
 
     type Shape = Dec3Shape;
 
-    ghost CODE = { DEC3 };
+    ghost CODE = { codes.DEC3 };
 
     ghost layout = { layout_of struct (λ _. tt) (λ _. refl) (lit< tt) };
 
-    const CODE: u32 = DEC3;
+    const CODE: u32 = codes::DEC3;
 
     fn from_content(found: <Dec3Shape as Shape>::Value) -> Dec3 {
         box_of!(found => Dec3 { config, substreams })

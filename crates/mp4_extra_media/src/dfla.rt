@@ -1,18 +1,17 @@
 //! The FLAC specific box.
 
-ghost use Rattle.mp4_extra_media.specs.declared.dfla.TheConstants.{DFLA, WIDTHS};
+ghost use Rattle.mp4_extra_media.specs.declared.dfla.TheConstants.{WIDTHS};
+ghost use Rattle.mp4_frame.specs.declared.codes.TheConstants as codes;
 ghost use Rattle.std.proofs.Common.{refl, lit<, lit≤};
 ghost use Rattle.mp4_stream.specs.Author.{layout_of, exact_layout_of, packed, fields_of};
 
 use mp4_declared::clone_each;
+use mp4_frame::codes;
 use mp4_stream::author::{
     Bits, Bytes, Count, Declared, DeclaredBox, DeclaredEntry, EachToEnd, EntryLayout, EntryVisitor,
     Full, Last, Shape, ShapeVisitor,
 };
 use mp4_stream::{Entries, Result, TryClone, box_of, entry_of, numbers_of, parts_of};
-
-/// The code: `dfLa`.
-pub const DFLA: u32 = 0x6466_4c61;
 
 /// The first byte of a block of metadata (RFC 9639, 8.1).
 #[derive(Clone, Copy, Debug, Default, PartialEq, Eq)]
@@ -118,11 +117,11 @@ impl DeclaredBox for Dfla {
 
     type Shape = DflaShape;
 
-    ghost CODE = { DFLA };
+    ghost CODE = { codes.DFLA };
 
     ghost layout = { layout_of struct (λ _. tt) (λ _. refl) (lit< tt) };
 
-    const CODE: u32 = DFLA;
+    const CODE: u32 = codes::DFLA;
 
     fn from_content(found: <DflaShape as Shape>::Value) -> Dfla {
         box_of!(found => Dfla { version, flags, metadata_blocks })

@@ -1,16 +1,14 @@
 //! The Opus specific box.
 
-ghost use Rattle.mp4_extra_media.specs.declared.dops.TheConstants.{DOPS};
+ghost use Rattle.mp4_frame.specs.declared.codes.TheConstants as codes;
 ghost use Rattle.std.proofs.Common.{refl, lit<};
 ghost use Rattle.mp4_stream.specs.Author.{layout_of};
 
+use mp4_frame::codes;
 use mp4_stream::author::{
     Declared, DeclaredBox, I16, Last, Rest, Shape, ShapeVisitor, U8, U16, U32,
 };
 use mp4_stream::{Entries, Result, TryClone, box_of, parts_of};
-
-/// The code: `dOps`.
-pub const DOPS: u32 = 0x644f_7073;
 
 /// The configuration of an Opus decoder (`dOps`, Encapsulation of Opus in ISO Base Media File Format, 4.3.2).
 #[derive(Debug, Drop, PartialEq, Eq)]
@@ -41,11 +39,11 @@ impl DeclaredBox for Dops {
 
     type Shape = DopsShape;
 
-    ghost CODE = { DOPS };
+    ghost CODE = { codes.DOPS };
 
     ghost layout = { layout_of struct (λ _. tt) (λ _. refl) (lit< tt) };
 
-    const CODE: u32 = DOPS;
+    const CODE: u32 = codes::DOPS;
 
     fn from_content(found: <DopsShape as Shape>::Value) -> Dops {
         box_of!(found => Dops { version, output_channel_count, pre_skip, input_sample_rate,

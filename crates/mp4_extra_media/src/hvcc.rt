@@ -1,19 +1,19 @@
 //! The HEVC configuration box.
 
-ghost use Rattle.mp4_extra_media.specs.declared.hvcc.TheConstants.{HVCC, PROFILE_WIDTHS, FORMAT_WIDTHS, RATE_WIDTHS};
+ghost use Rattle.mp4_extra_media.specs.declared.hvcc.TheConstants.{PROFILE_WIDTHS, FORMAT_WIDTHS, RATE_WIDTHS};
+ghost use Rattle.mp4_frame.specs.declared.codes.TheConstants as codes;
 ghost use Rattle.mp4_extra_media.specs.declared.hvcc.TheConstants.{KIND_WIDTHS};
+ghost use Rattle.mp4_frame.specs.declared.codes.TheConstants as codes;
 ghost use Rattle.std.proofs.Common.{refl, lit<};
 ghost use Rattle.mp4_stream.specs.Author.{layout_of, exact_layout_of, packed, fields_of};
 
 use mp4_declared::clone_each;
+use mp4_frame::codes;
 use mp4_stream::author::{
     Bits, Bytes, Declared, DeclaredBox, DeclaredEntry, Each, EntryLayout, EntryVisitor, Last,
     Shape, ShapeVisitor, U8, U16,
 };
 use mp4_stream::{Entries, Result, TryClone, box_of, entry_of, numbers_of, parts_of};
-
-/// The code: `hvcC`.
-pub const HVCC: u32 = 0x6876_6343;
 
 /// The requirements on a decoder. The names are those of HEVC (ISO/IEC 23008-2, 7.4.4).
 #[derive(Clone, Copy, Debug, Default, PartialEq, Eq)]
@@ -297,11 +297,11 @@ impl DeclaredBox for Hvcc {
 
     type Shape = HvccShape;
 
-    ghost CODE = { HVCC };
+    ghost CODE = { codes.HVCC };
 
     ghost layout = { layout_of struct (λ _. tt) (λ _. refl) (lit< tt) };
 
-    const CODE: u32 = HVCC;
+    const CODE: u32 = codes::HVCC;
 
     fn from_content(found: <HvccShape as Shape>::Value) -> Hvcc {
         box_of!(found => Hvcc { configuration_version, profile, format, avg_frame_rate, rate, arrays })

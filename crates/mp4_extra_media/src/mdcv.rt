@@ -1,16 +1,15 @@
 //! The mastering display colour volume box.
 
-ghost use Rattle.mp4_extra_media.specs.declared.mdcv.TheConstants.{MDCV, WIDTHS};
+ghost use Rattle.mp4_extra_media.specs.declared.mdcv.TheConstants.{WIDTHS};
+ghost use Rattle.mp4_frame.specs.declared.codes.TheConstants as codes;
 ghost use Rattle.std.proofs.Common.{refl, lit<};
 ghost use Rattle.mp4_stream.specs.Author.{layout_of, packed, fields_of};
 
+use mp4_frame::codes;
 use mp4_stream::author::{
     Bits, Declared, DeclaredBox, EntryLayout, Last, Shape, ShapeVisitor, U32,
 };
 use mp4_stream::{Result, TryClone, box_of, entry_of, numbers_of, parts_of};
-
-/// The code: `mdcv`.
-pub const MDCV: u32 = 0x6d64_6376;
 
 /// A chromaticity, as a point in the CIE 1931 diagram. Coordinates are in units of 0.00002 and at most 50,000.
 #[derive(Clone, Copy, Debug, Default, PartialEq, Eq)]
@@ -75,11 +74,11 @@ impl DeclaredBox for Mdcv {
 
     type Shape = MdcvShape;
 
-    ghost CODE = { MDCV };
+    ghost CODE = { codes.MDCV };
 
     ghost layout = { layout_of struct (λ _. tt) (λ _. refl) (lit< tt) };
 
-    const CODE: u32 = MDCV;
+    const CODE: u32 = codes::MDCV;
 
     fn from_content(found: <MdcvShape as Shape>::Value) -> Mdcv {
         box_of!(found => Mdcv { display_primaries_0, display_primaries_1, display_primaries_2,

@@ -1,14 +1,12 @@
 //! The pixel aspect ratio box.
 
-ghost use Rattle.mp4_extra_media.specs.declared.pasp.TheConstants.{PASP};
+ghost use Rattle.mp4_frame.specs.declared.codes.TheConstants as codes;
 ghost use Rattle.std.proofs.Common.{refl, lit<};
 ghost use Rattle.mp4_stream.specs.Author.{layout_of};
 
+use mp4_frame::codes;
 use mp4_stream::author::{Declared, DeclaredBox, Last, Shape, ShapeVisitor, U32};
 use mp4_stream::{Result, TryClone, box_of, parts_of};
-
-/// The code: `pasp`.
-pub const PASP: u32 = 0x7061_7370;
 
 /// The aspect ratio of a video's pixels (`pasp`, ISO/IEC 14496-12, 12.1.4): width to height is `h_spacing` to
 /// `v_spacing`.
@@ -28,11 +26,11 @@ impl DeclaredBox for Pasp {
 
     type Shape = PaspShape;
 
-    ghost CODE = { PASP };
+    ghost CODE = { codes.PASP };
 
     ghost layout = { layout_of struct (λ _. tt) (λ _. refl) (lit< tt) };
 
-    const CODE: u32 = PASP;
+    const CODE: u32 = codes::PASP;
 
     fn from_content(found: <PaspShape as Shape>::Value) -> Pasp {
         box_of!(found => Pasp { h_spacing, v_spacing })

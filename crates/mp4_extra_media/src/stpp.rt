@@ -1,13 +1,11 @@
 //! The sample entry of subtitles in XML.
 
-ghost use Rattle.mp4_extra_media.specs.declared.stpp.TheConstants.{STPP};
+ghost use Rattle.mp4_frame.specs.declared.codes.TheConstants as codes;
 ghost use Rattle.mp4_stream.specs.Author.{layout_of, refl, lit<};
 
+use mp4_frame::codes;
 use mp4_stream::Result;
 use mp4_stream::declaring::*;
-
-/// The code: `stpp`.
-pub const STPP: u32 = 0x7374_7070;
 
 /// The sample entry of subtitles in XML (`stpp`, ISO/IEC 14496-12, 12.6.3). In the standard, strings are UTF-8 without
 /// a zero byte. Items of a list in a string are separated by spaces.
@@ -35,11 +33,11 @@ impl DeclaredBox for Stpp {
 
     type Shape = StppShape;
 
-    ghost CODE = { STPP };
+    ghost CODE = { codes.STPP };
 
     ghost layout = { layout_of struct (λ _. tt) (λ _. refl) (lit< tt) };
 
-    const CODE: u32 = STPP;
+    const CODE: u32 = codes::STPP;
 
     fn from_content(found: <StppShape as Shape>::Value) -> Stpp {
         box_of!(found => Stpp { data_reference_index, namespace, schema_location, auxiliary_mime_types, boxes })

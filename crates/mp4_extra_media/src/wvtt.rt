@@ -1,13 +1,11 @@
 //! The sample entry of WebVTT.
 
-ghost use Rattle.mp4_extra_media.specs.declared.wvtt.TheConstants.{WVTT};
+ghost use Rattle.mp4_frame.specs.declared.codes.TheConstants as codes;
 ghost use Rattle.mp4_stream.specs.Author.{layout_of, refl, lit<};
 
+use mp4_frame::codes;
 use mp4_stream::Result;
 use mp4_stream::declaring::*;
-
-/// The code: `wvtt`.
-pub const WVTT: u32 = 0x7776_7474;
 
 /// The sample entry of WebVTT (`wvtt`, ISO/IEC 14496-30, 7.5).
 #[derive(Debug, Drop, PartialEq, Eq)]
@@ -27,11 +25,11 @@ impl DeclaredBox for Wvtt {
 
     type Shape = WvttShape;
 
-    ghost CODE = { WVTT };
+    ghost CODE = { codes.WVTT };
 
     ghost layout = { layout_of struct (λ _. tt) (λ _. refl) (lit< tt) };
 
-    const CODE: u32 = WVTT;
+    const CODE: u32 = codes::WVTT;
 
     fn from_content(found: <WvttShape as Shape>::Value) -> Wvtt {
         box_of!(found => Wvtt { data_reference_index, boxes })

@@ -1,14 +1,12 @@
 //! The composition to decode box.
 
-ghost use Rattle.mp4_extra_samples.specs.declared.cslg.TheConstants.{CSLG};
+ghost use Rattle.mp4_frame.specs.declared.codes.TheConstants as codes;
 ghost use Rattle.mp4_stream.specs.Author.{layout_of, refl, lit<};
 
 use mp4_declared::SignedTime;
+use mp4_frame::codes;
 use mp4_stream::Result;
 use mp4_stream::declaring::*;
-
-/// The code: `cslg`.
-pub const CSLG: u32 = 0x6373_6c67;
 
 /// The relation of a track's composition times to its decoding times (`cslg`, ISO/IEC 14496-12, 8.6.1.4). Times are in
 /// the timescale of the media. They have 32 bits in version 0, 64 in version 1.
@@ -48,11 +46,11 @@ impl DeclaredBox for Cslg {
 
     type Shape = CslgShape;
 
-    ghost CODE = { CSLG };
+    ghost CODE = { codes.CSLG };
 
     ghost layout = { layout_of struct (λ _. tt) (λ _. refl) (lit< tt) };
 
-    const CODE: u32 = CSLG;
+    const CODE: u32 = codes::CSLG;
 
     fn from_content(found: <CslgShape as Shape>::Value) -> Cslg {
         box_of!(found => Cslg { version, flags, composition_to_dts_shift, least_decode_to_display_delta,

@@ -1,17 +1,16 @@
 //! The sample auxiliary information offsets box.
 
-ghost use Rattle.mp4_extra_samples.specs.declared.saio.TheConstants.{SAIO, SHORT, LONG};
+ghost use Rattle.mp4_extra_samples.specs.declared.saio.TheConstants.{SHORT, LONG};
+ghost use Rattle.mp4_frame.specs.declared.codes.TheConstants as codes;
 ghost use Rattle.std.proofs.Common.{refl, lit<};
 ghost use Rattle.mp4_stream.specs.Author.{layout_of, packed, fields_of};
 
 use mp4_declared::{Code, ListByVersion};
+use mp4_frame::codes;
 use mp4_stream::author::{
     Declared, DeclaredBox, EntryLayout, Full, If, IfFlags, Last, Shape, ShapeVisitor, U32,
 };
 use mp4_stream::{Entries, FourCC, Result, TryClone, box_of, entry_of, numbers_of, parts_of};
-
-/// The code: `saio`.
-pub const SAIO: u32 = 0x7361_696f;
 
 /// The start of a piece of auxiliary information.
 #[derive(Clone, Copy, Debug, Default, PartialEq, Eq)]
@@ -93,11 +92,11 @@ impl DeclaredBox for Saio {
 
     type Shape = SaioShape;
 
-    ghost CODE = { SAIO };
+    ghost CODE = { codes.SAIO };
 
     ghost layout = { layout_of struct (λ _. tt) (λ _. refl) (lit< tt) };
 
-    const CODE: u32 = SAIO;
+    const CODE: u32 = codes::SAIO;
 
     fn from_content(found: <SaioShape as Shape>::Value) -> Saio {
         box_of!(found => Saio { version, flags, aux_info_type, aux_info_type_parameter, offsets })

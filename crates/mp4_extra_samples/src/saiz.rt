@@ -1,17 +1,15 @@
 //! The sample auxiliary information sizes box.
 
-ghost use Rattle.mp4_extra_samples.specs.declared.saiz.TheConstants.{SAIZ};
+ghost use Rattle.mp4_frame.specs.declared.codes.TheConstants as codes;
 ghost use Rattle.std.proofs.Common.{refl, lit<};
 ghost use Rattle.mp4_stream.specs.Author.{layout_of};
 
 use mp4_declared::Code;
+use mp4_frame::codes;
 use mp4_stream::author::{
     Declared, DeclaredBox, Full, If, IfFlags, Last, Rest, Shape, ShapeVisitor, U8, U32,
 };
 use mp4_stream::{Entries, FourCC, Result, TryClone, box_of, parts_of};
-
-/// The code: `saiz`.
-pub const SAIZ: u32 = 0x7361_697a;
 
 /// The sizes of the samples' auxiliary information (`saiz`, ISO/IEC 14496-12, 8.7.8). A `saio` has its offsets.
 #[derive(Debug, Drop, PartialEq, Eq)]
@@ -51,11 +49,11 @@ impl DeclaredBox for Saiz {
 
     type Shape = SaizShape;
 
-    ghost CODE = { SAIZ };
+    ghost CODE = { codes.SAIZ };
 
     ghost layout = { layout_of struct (λ _. tt) (λ _. refl) (lit< tt) };
 
-    const CODE: u32 = SAIZ;
+    const CODE: u32 = codes::SAIZ;
 
     fn from_content(found: <SaizShape as Shape>::Value) -> Saiz {
         box_of!(found => Saiz { version, flags, aux_info_type, aux_info_type_parameter,

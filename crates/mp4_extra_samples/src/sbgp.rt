@@ -1,17 +1,16 @@
 //! The sample to group box.
 
-ghost use Rattle.mp4_extra_samples.specs.declared.sbgp.TheConstants.{SBGP, WIDTHS};
+ghost use Rattle.mp4_extra_samples.specs.declared.sbgp.TheConstants.{WIDTHS};
+ghost use Rattle.mp4_frame.specs.declared.codes.TheConstants as codes;
 ghost use Rattle.std.proofs.Common.{refl, lit<};
 ghost use Rattle.mp4_stream.specs.Author.{layout_of, packed, fields_of};
 
 use mp4_declared::Code;
+use mp4_frame::codes;
 use mp4_stream::author::{
     Declared, DeclaredBox, EntryLayout, FromVersion, Full, If, Last, List, Shape, ShapeVisitor, U32,
 };
 use mp4_stream::{Entries, FourCC, Result, TryClone, box_of, entry_of, numbers_of, parts_of};
-
-/// The code: `sbgp`.
-pub const SBGP: u32 = 0x7362_6770;
 
 /// A run of consecutive samples of one group.
 #[derive(Clone, Copy, Debug, Default, PartialEq, Eq)]
@@ -76,11 +75,11 @@ impl DeclaredBox for Sbgp {
 
     type Shape = SbgpShape;
 
-    ghost CODE = { SBGP };
+    ghost CODE = { codes.SBGP };
 
     ghost layout = { layout_of struct (λ _. tt) (λ _. refl) (lit< tt) };
 
-    const CODE: u32 = SBGP;
+    const CODE: u32 = codes::SBGP;
 
     fn from_content(found: <SbgpShape as Shape>::Value) -> Sbgp {
         box_of!(found => Sbgp { version, flags, grouping_type, grouping_type_parameter, entries })

@@ -1,15 +1,14 @@
 //! The independent and disposable samples box.
 
-ghost use Rattle.mp4_extra_samples.specs.declared.sdtp.TheConstants.{SDTP, WIDTHS};
+ghost use Rattle.mp4_extra_samples.specs.declared.sdtp.TheConstants.{WIDTHS};
+ghost use Rattle.mp4_frame.specs.declared.codes.TheConstants as codes;
 ghost use Rattle.std.proofs.Common.{refl, lit<};
 ghost use Rattle.mp4_stream.specs.Author.{layout_of, packed, fields_of};
 
 use mp4_declared::ToEnd;
+use mp4_frame::codes;
 use mp4_stream::author::{Declared, DeclaredBox, EntryLayout, Full, Last, Shape, ShapeVisitor};
 use mp4_stream::{Entries, Result, TryClone, box_of, entry_of, numbers_of, parts_of};
-
-/// The code: `sdtp`.
-pub const SDTP: u32 = 0x7364_7470;
 
 /// The dependencies of a sample on others. Every field is 0 if the answer is unknown.
 #[derive(Clone, Copy, Debug, Default, PartialEq, Eq)]
@@ -68,11 +67,11 @@ impl DeclaredBox for Sdtp {
 
     type Shape = SdtpShape;
 
-    ghost CODE = { SDTP };
+    ghost CODE = { codes.SDTP };
 
     ghost layout = { layout_of struct (λ _. tt) (λ _. refl) (lit< tt) };
 
-    const CODE: u32 = SDTP;
+    const CODE: u32 = codes::SDTP;
 
     fn from_content(found: <SdtpShape as Shape>::Value) -> Sdtp {
         box_of!(found => Sdtp { version, flags, entries })

@@ -1,14 +1,12 @@
 //! The sample encryption box.
 
-ghost use Rattle.mp4_extra_samples.specs.declared.senc.TheConstants.{SENC};
+ghost use Rattle.mp4_frame.specs.declared.codes.TheConstants as codes;
 ghost use Rattle.std.proofs.Common.{refl, lit<};
 ghost use Rattle.mp4_stream.specs.Author.{layout_of};
 
+use mp4_frame::codes;
 use mp4_stream::author::{Declared, DeclaredBox, Full, Last, Rest, Shape, ShapeVisitor, U32};
 use mp4_stream::{Entries, Result, TryClone, box_of, parts_of};
-
-/// The code: `senc`.
-pub const SENC: u32 = 0x7365_6e63;
 
 /// The encryption parameters of each sample (`senc`, ISO/IEC 23001-7, 7.2.1).
 #[derive(Debug, Drop, PartialEq, Eq)]
@@ -33,11 +31,11 @@ impl DeclaredBox for Senc {
 
     type Shape = SencShape;
 
-    ghost CODE = { SENC };
+    ghost CODE = { codes.SENC };
 
     ghost layout = { layout_of struct (λ _. tt) (λ _. refl) (lit< tt) };
 
-    const CODE: u32 = SENC;
+    const CODE: u32 = codes::SENC;
 
     fn from_content(found: <SencShape as Shape>::Value) -> Senc {
         box_of!(found => Senc { version, flags, sample_count, samples })

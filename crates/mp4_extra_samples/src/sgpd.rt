@@ -1,17 +1,15 @@
 //! The sample group description box.
 
-ghost use Rattle.mp4_extra_samples.specs.declared.sgpd.TheConstants.{SGPD};
+ghost use Rattle.mp4_frame.specs.declared.codes.TheConstants as codes;
 ghost use Rattle.std.proofs.Common.{refl, lit<};
 ghost use Rattle.mp4_stream.specs.Author.{layout_of};
 
 use mp4_declared::Code;
+use mp4_frame::codes;
 use mp4_stream::author::{
     Declared, DeclaredBox, FromVersion, Full, If, Last, Rest, Shape, ShapeVisitor, U32,
 };
 use mp4_stream::{Entries, FourCC, Result, TryClone, box_of, parts_of};
-
-/// The code: `sgpd`.
-pub const SGPD: u32 = 0x7367_7064;
 
 /// The descriptions of sample groups of one kind (`sgpd`, ISO/IEC 14496-12, 8.9.3).
 #[derive(Debug, Drop, PartialEq, Eq)]
@@ -52,11 +50,11 @@ impl DeclaredBox for Sgpd {
 
     type Shape = SgpdShape;
 
-    ghost CODE = { SGPD };
+    ghost CODE = { codes.SGPD };
 
     ghost layout = { layout_of struct (λ _. tt) (λ _. refl) (lit< tt) };
 
-    const CODE: u32 = SGPD;
+    const CODE: u32 = codes::SGPD;
 
     fn from_content(found: <SgpdShape as Shape>::Value) -> Sgpd {
         box_of!(found => Sgpd { version, flags, grouping_type, default_length,

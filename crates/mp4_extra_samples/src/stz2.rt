@@ -1,16 +1,14 @@
 //! The compact sample sizes box.
 
-ghost use Rattle.mp4_extra_samples.specs.declared.stz2.TheConstants.{STZ2};
+ghost use Rattle.mp4_frame.specs.declared.codes.TheConstants as codes;
 ghost use Rattle.std.proofs.Common.{refl, lit<};
 ghost use Rattle.mp4_stream.specs.Author.{layout_of};
 
+use mp4_frame::codes;
 use mp4_stream::author::{
     Declared, DeclaredBox, Full, Last, Reserved, Rest, Shape, ShapeVisitor, U8, U32,
 };
 use mp4_stream::{Entries, Result, TryClone, box_of, parts_of};
-
-/// The code: `stz2`.
-pub const STZ2: u32 = 0x7374_7a32;
 
 /// The sizes of samples in 4, 8 or 16 bits each (`stz2`, ISO/IEC 14496-12, 8.7.3.3). An `stsz` has 32.
 #[derive(Debug, Drop, PartialEq, Eq)]
@@ -36,11 +34,11 @@ impl DeclaredBox for Stz2 {
 
     type Shape = Stz2Shape;
 
-    ghost CODE = { STZ2 };
+    ghost CODE = { codes.STZ2 };
 
     ghost layout = { layout_of struct (λ _. tt) (λ _. refl) (lit< tt) };
 
-    const CODE: u32 = STZ2;
+    const CODE: u32 = codes::STZ2;
 
     fn from_content(found: <Stz2Shape as Shape>::Value) -> Stz2 {
         box_of!(found => Stz2 { version, flags, field_size, sample_count, entry_sizes })

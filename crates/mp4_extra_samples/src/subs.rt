@@ -1,18 +1,17 @@
 //! The sub-sample information box.
 
-ghost use Rattle.mp4_extra_samples.specs.declared.subs.TheConstants.{SUBS, SHORT, LONG};
+ghost use Rattle.mp4_extra_samples.specs.declared.subs.TheConstants.{SHORT, LONG};
+ghost use Rattle.mp4_frame.specs.declared.codes.TheConstants as codes;
 ghost use Rattle.std.proofs.Common.{refl, lit<};
 ghost use Rattle.mp4_stream.specs.Author.{layout_of, exact_layout_of, packed, fields_of, some_first};
 
 use mp4_declared::{ListByVersion, clone_each};
+use mp4_frame::codes;
 use mp4_stream::author::{
     Declared, DeclaredBox, DeclaredEntry, Each, EntryLayout, EntryVisitor, Full, Last, Shape,
     ShapeVisitor, U16, U32,
 };
 use mp4_stream::{Entries, Result, TryClone, box_of, entry_of, numbers_of, parts_of};
-
-/// The code: `subs`.
-pub const SUBS: u32 = 0x7375_6273;
 
 /// A part of a sample: some of its consecutive bytes.
 #[derive(Clone, Copy, Debug, Default, PartialEq, Eq)]
@@ -135,11 +134,11 @@ impl DeclaredBox for Subs {
 
     type Shape = SubsShape;
 
-    ghost CODE = { SUBS };
+    ghost CODE = { codes.SUBS };
 
     ghost layout = { layout_of struct (λ _. tt) (λ _. refl) (lit< tt) };
 
-    const CODE: u32 = SUBS;
+    const CODE: u32 = codes::SUBS;
 
     fn from_content(found: <SubsShape as Shape>::Value) -> Subs {
         box_of!(found => Subs { version, flags, entries })

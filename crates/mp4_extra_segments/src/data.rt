@@ -1,14 +1,12 @@
 //! The metadata value box.
 
-ghost use Rattle.mp4_extra_segments.specs.declared.data.TheConstants.{DATA};
+ghost use Rattle.mp4_frame.specs.declared.codes.TheConstants as codes;
 ghost use Rattle.std.proofs.Common.{refl, lit<};
 ghost use Rattle.mp4_stream.specs.Author.{layout_of};
 
+use mp4_frame::codes;
 use mp4_stream::author::{Declared, DeclaredBox, Last, Rest, Shape, ShapeVisitor, U8, U16, U24};
 use mp4_stream::{Entries, Result, TryClone, box_of, parts_of};
-
-/// The code: `data`.
-pub const DATA: u32 = 0x6461_7461;
 
 /// The value of a metadata item, of any type (`data`, QuickTime File Format, "Value atom").
 #[derive(Debug, Drop, PartialEq, Eq)]
@@ -36,11 +34,11 @@ impl DeclaredBox for Data {
 
     type Shape = DataShape;
 
-    ghost CODE = { DATA };
+    ghost CODE = { codes.DATA };
 
     ghost layout = { layout_of struct (λ _. tt) (λ _. refl) (lit< tt) };
 
-    const CODE: u32 = DATA;
+    const CODE: u32 = codes::DATA;
 
     fn from_content(found: <DataShape as Shape>::Value) -> Data {
         box_of!(found => Data { type_set, data_type, country, language, value })

@@ -1,14 +1,12 @@
 //! The extended language box.
 
-ghost use Rattle.mp4_extra_segments.specs.declared.elng.TheConstants.{ELNG};
+ghost use Rattle.mp4_frame.specs.declared.codes.TheConstants as codes;
 ghost use Rattle.std.proofs.Common.{refl, lit<};
 ghost use Rattle.mp4_stream.specs.Author.{layout_of};
 
+use mp4_frame::codes;
 use mp4_stream::author::{Declared, DeclaredBox, Full, Last, Rest, Shape, ShapeVisitor};
 use mp4_stream::{Entries, Result, TryClone, box_of, parts_of};
-
-/// The code: `elng`.
-pub const ELNG: u32 = 0x656c_6e67;
 
 /// The language of a track's media (`elng`, ISO/IEC 14496-12, 8.4.6).
 #[derive(Debug, Drop, PartialEq, Eq)]
@@ -29,11 +27,11 @@ impl DeclaredBox for Elng {
 
     type Shape = ElngShape;
 
-    ghost CODE = { ELNG };
+    ghost CODE = { codes.ELNG };
 
     ghost layout = { layout_of struct (λ _. tt) (λ _. refl) (lit< tt) };
 
-    const CODE: u32 = ELNG;
+    const CODE: u32 = codes::ELNG;
 
     fn from_content(found: <ElngShape as Shape>::Value) -> Elng {
         box_of!(found => Elng { version, flags, extended_language })

@@ -1,15 +1,13 @@
 //! The original format box.
 
-ghost use Rattle.mp4_extra_segments.specs.declared.frma.TheConstants.{FRMA};
+ghost use Rattle.mp4_frame.specs.declared.codes.TheConstants as codes;
 ghost use Rattle.std.proofs.Common.{refl, lit<};
 ghost use Rattle.mp4_stream.specs.Author.{layout_of};
 
 use mp4_declared::Code;
+use mp4_frame::codes;
 use mp4_stream::author::{Declared, DeclaredBox, Last, Shape, ShapeVisitor};
 use mp4_stream::{FourCC, Result, TryClone, box_of, parts_of};
-
-/// The code: `frma`.
-pub const FRMA: u32 = 0x6672_6d61;
 
 /// The format of media before a transformation such as encryption (`frma`, ISO/IEC 14496-12, 8.12.2).
 #[derive(Clone, Copy, Debug, Drop, PartialEq, Eq)]
@@ -26,11 +24,11 @@ impl DeclaredBox for Frma {
 
     type Shape = FrmaShape;
 
-    ghost CODE = { FRMA };
+    ghost CODE = { codes.FRMA };
 
     ghost layout = { layout_of struct (λ _. tt) (λ _. refl) (lit< tt) };
 
-    const CODE: u32 = FRMA;
+    const CODE: u32 = codes::FRMA;
 
     fn from_content(found: <FrmaShape as Shape>::Value) -> Frma {
         box_of!(found => Frma { data_format })

@@ -1,18 +1,16 @@
 //! The metadata item keys box.
 
-ghost use Rattle.mp4_extra_segments.specs.declared.keys.TheConstants.{KEYS};
+ghost use Rattle.mp4_frame.specs.declared.codes.TheConstants as codes;
 ghost use Rattle.std.proofs.Common.{refl, lit<};
 ghost use Rattle.mp4_stream.specs.Author.{layout_of, exact_layout_of};
 
 use mp4_declared::{Code, WithSize, clone_each};
+use mp4_frame::codes;
 use mp4_stream::author::{
     Declared, DeclaredBox, DeclaredEntry, Each, EntryVisitor, Full, Last, Rest, Shape,
     ShapeVisitor, U32,
 };
 use mp4_stream::{Entries, FourCC, Result, TryClone, box_of, parts_of};
-
-/// The code: `keys`.
-pub const KEYS: u32 = 0x6b65_7973;
 
 /// A metadata key.
 #[derive(Debug, Drop, PartialEq, Eq)]
@@ -73,11 +71,11 @@ impl DeclaredBox for Keys {
 
     type Shape = KeysShape;
 
-    ghost CODE = { KEYS };
+    ghost CODE = { codes.KEYS };
 
     ghost layout = { layout_of struct (λ _. tt) (λ _. refl) (lit< tt) };
 
-    const CODE: u32 = KEYS;
+    const CODE: u32 = codes::KEYS;
 
     fn from_content(found: <KeysShape as Shape>::Value) -> Keys {
         box_of!(found => Keys { version, flags, entries })

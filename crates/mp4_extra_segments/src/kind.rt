@@ -1,13 +1,11 @@
 //! The track kind box.
 
-ghost use Rattle.mp4_extra_segments.specs.declared.kind.TheConstants.{KIND};
+ghost use Rattle.mp4_frame.specs.declared.codes.TheConstants as codes;
 ghost use Rattle.mp4_stream.specs.Author.{layout_of, refl, lit<};
 
+use mp4_frame::codes;
 use mp4_stream::Result;
 use mp4_stream::declaring::*;
-
-/// The code: `kind`.
-pub const KIND: u32 = 0x6b69_6e64;
 
 /// The role of a track (`kind`, ISO/IEC 14496-12, 8.10.4). In the standard, strings are UTF-8 without a zero byte.
 #[derive(Debug, Drop, PartialEq, Eq)]
@@ -31,11 +29,11 @@ impl DeclaredBox for Kind {
 
     type Shape = KindShape;
 
-    ghost CODE = { KIND };
+    ghost CODE = { codes.KIND };
 
     ghost layout = { layout_of struct (λ _. tt) (λ _. refl) (lit< tt) };
 
-    const CODE: u32 = KIND;
+    const CODE: u32 = codes::KIND;
 
     fn from_content(found: <KindShape as Shape>::Value) -> Kind {
         box_of!(found => Kind { version, flags, scheme_uri, value })

@@ -1,14 +1,12 @@
 //! The movie fragment random access offset box.
 
-ghost use Rattle.mp4_extra_segments.specs.declared.mfro.TheConstants.{MFRO};
+ghost use Rattle.mp4_frame.specs.declared.codes.TheConstants as codes;
 ghost use Rattle.std.proofs.Common.{refl, lit<};
 ghost use Rattle.mp4_stream.specs.Author.{layout_of};
 
+use mp4_frame::codes;
 use mp4_stream::author::{Declared, DeclaredBox, Full, Last, Shape, ShapeVisitor, U32};
 use mp4_stream::{Result, TryClone, box_of, parts_of};
-
-/// The code: `mfro`.
-pub const MFRO: u32 = 0x6d66_726f;
 
 /// The size of the enclosing `mfra` (`mfro`, ISO/IEC 14496-12, 8.8.11). The box is the last of the `mfra`, which is the
 /// last of the file, so that a reader finds the `mfra` from the end of the file.
@@ -30,11 +28,11 @@ impl DeclaredBox for Mfro {
 
     type Shape = MfroShape;
 
-    ghost CODE = { MFRO };
+    ghost CODE = { codes.MFRO };
 
     ghost layout = { layout_of struct (λ _. tt) (λ _. refl) (lit< tt) };
 
-    const CODE: u32 = MFRO;
+    const CODE: u32 = codes::MFRO;
 
     fn from_content(found: <MfroShape as Shape>::Value) -> Mfro {
         box_of!(found => Mfro { version, flags, parent_size })

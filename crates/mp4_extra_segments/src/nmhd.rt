@@ -1,14 +1,12 @@
 //! The null media header box.
 
-ghost use Rattle.mp4_extra_segments.specs.declared.nmhd.TheConstants.{NMHD};
+ghost use Rattle.mp4_frame.specs.declared.codes.TheConstants as codes;
 ghost use Rattle.std.proofs.Common.{refl, lit<};
 ghost use Rattle.mp4_stream.specs.Author.{layout_of};
 
+use mp4_frame::codes;
 use mp4_stream::author::{Declared, DeclaredBox, Full, Shape, ShapeVisitor, Zeros};
 use mp4_stream::{Result, TryClone, box_of, parts_of};
-
-/// The code: `nmhd`.
-pub const NMHD: u32 = 0x6e6d_6864;
 
 /// The media header of tracks whose type of media defines no other (`nmhd`, ISO/IEC 14496-12, 8.4.5.2).
 #[derive(Clone, Copy, Debug, Drop, PartialEq, Eq)]
@@ -27,11 +25,11 @@ impl DeclaredBox for Nmhd {
 
     type Shape = NmhdShape;
 
-    ghost CODE = { NMHD };
+    ghost CODE = { codes.NMHD };
 
     ghost layout = { layout_of struct (λ _. tt) (λ _. refl) (lit< tt) };
 
-    const CODE: u32 = NMHD;
+    const CODE: u32 = codes::NMHD;
 
     fn from_content(found: <NmhdShape as Shape>::Value) -> Nmhd {
         box_of!(found => Nmhd { version, flags })

@@ -1,14 +1,12 @@
 //! The producer reference time box.
 
-ghost use Rattle.mp4_extra_segments.specs.declared.prft.TheConstants.{PRFT};
+ghost use Rattle.mp4_frame.specs.declared.codes.TheConstants as codes;
 ghost use Rattle.std.proofs.Common.{refl, lit<};
 ghost use Rattle.mp4_stream.specs.Author.{layout_of};
 
+use mp4_frame::codes;
 use mp4_stream::author::{Declared, DeclaredBox, Full, Last, Shape, ShapeVisitor, Time, U32, U64};
 use mp4_stream::{Result, TryClone, box_of, parts_of};
-
-/// The code: `prft`.
-pub const PRFT: u32 = 0x7072_6674;
 
 /// The time at which a producer made a part of the media (`prft`, ISO/IEC 14496-12, 8.16.5).
 #[derive(Clone, Copy, Debug, Drop, PartialEq, Eq)]
@@ -33,11 +31,11 @@ impl DeclaredBox for Prft {
 
     type Shape = PrftShape;
 
-    ghost CODE = { PRFT };
+    ghost CODE = { codes.PRFT };
 
     ghost layout = { layout_of struct (λ _. tt) (λ _. refl) (lit< tt) };
 
-    const CODE: u32 = PRFT;
+    const CODE: u32 = codes::PRFT;
 
     fn from_content(found: <PrftShape as Shape>::Value) -> Prft {
         box_of!(found => Prft { version, flags, reference_track_id, ntp_timestamp, media_time })

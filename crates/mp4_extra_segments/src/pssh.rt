@@ -1,17 +1,15 @@
 //! The protection system specific header box.
 
-ghost use Rattle.mp4_extra_segments.specs.declared.pssh.TheConstants.{PSSH};
+ghost use Rattle.mp4_frame.specs.declared.codes.TheConstants as codes;
 ghost use Rattle.std.proofs.Common.{refl, lit<};
 ghost use Rattle.mp4_stream.specs.Author.{layout_of};
 
+use mp4_frame::codes;
 use mp4_stream::author::{
     Array, Bytes, Declared, DeclaredBox, FromVersion, Full, If, Last, Rows, Shape, ShapeVisitor,
     U32,
 };
 use mp4_stream::{Entries, Result, TryClone, box_of, parts_of};
-
-/// The code: `pssh`.
-pub const PSSH: u32 = 0x7073_7368;
 
 /// The data that a content protection system needs (`pssh`, ISO/IEC 23001-7, 8.1).
 #[derive(Debug, Drop, PartialEq, Eq)]
@@ -44,11 +42,11 @@ impl DeclaredBox for Pssh {
 
     type Shape = PsshShape;
 
-    ghost CODE = { PSSH };
+    ghost CODE = { codes.PSSH };
 
     ghost layout = { layout_of struct (λ _. tt) (λ _. refl) (lit< tt) };
 
-    const CODE: u32 = PSSH;
+    const CODE: u32 = codes::PSSH;
 
     fn from_content(found: <PsshShape as Shape>::Value) -> Pssh {
         box_of!(found => Pssh { version, flags, system_id, key_ids, system_data })

@@ -1,17 +1,15 @@
 //! The scheme type box.
 
-ghost use Rattle.mp4_extra_segments.specs.declared.schm.TheConstants.{SCHM};
+ghost use Rattle.mp4_frame.specs.declared.codes.TheConstants as codes;
 ghost use Rattle.std.proofs.Common.{refl, lit<};
 ghost use Rattle.mp4_stream.specs.Author.{layout_of};
 
 use mp4_declared::Code;
+use mp4_frame::codes;
 use mp4_stream::author::{
     Declared, DeclaredBox, Full, If, IfFlags, Last, Rest, Shape, ShapeVisitor, U32,
 };
 use mp4_stream::{Entries, FourCC, Result, TryClone, box_of, parts_of};
-
-/// The code: `schm`.
-pub const SCHM: u32 = 0x7363_686d;
 
 /// The scheme that protects the media (`schm`, ISO/IEC 14496-12, 8.12.5).
 #[derive(Debug, Drop, PartialEq, Eq)]
@@ -37,11 +35,11 @@ impl DeclaredBox for Schm {
 
     type Shape = SchmShape;
 
-    ghost CODE = { SCHM };
+    ghost CODE = { codes.SCHM };
 
     ghost layout = { layout_of struct (λ _. tt) (λ _. refl) (lit< tt) };
 
-    const CODE: u32 = SCHM;
+    const CODE: u32 = codes::SCHM;
 
     fn from_content(found: <SchmShape as Shape>::Value) -> Schm {
         box_of!(found => Schm { version, flags, scheme_type, scheme_version, scheme_uri })

@@ -1,13 +1,12 @@
 //! The segment index box.
 
-ghost use Rattle.mp4_extra_segments.specs.declared.sidx.TheConstants.{SIDX, WIDTHS};
+ghost use Rattle.mp4_extra_segments.specs.declared.sidx.TheConstants.{WIDTHS};
+ghost use Rattle.mp4_frame.specs.declared.codes.TheConstants as codes;
 ghost use Rattle.mp4_stream.specs.Author.{layout_of, packed, fields_of, refl, lit<};
 
+use mp4_frame::codes;
 use mp4_stream::Result;
 use mp4_stream::declaring::*;
-
-/// The code: `sidx`.
-pub const SIDX: u32 = 0x7369_6478;
 
 /// A reference of a segment index to a part of the media or to another index.
 #[derive(Clone, Copy, Debug, Default, PartialEq, Eq)]
@@ -82,11 +81,11 @@ impl DeclaredBox for Sidx {
 
     type Shape = SidxShape;
 
-    ghost CODE = { SIDX };
+    ghost CODE = { codes.SIDX };
 
     ghost layout = { layout_of struct (λ _. tt) (λ _. refl) (lit< tt) };
 
-    const CODE: u32 = SIDX;
+    const CODE: u32 = codes::SIDX;
 
     fn from_content(found: <SidxShape as Shape>::Value) -> Sidx {
         box_of!(found => Sidx { version, flags, reference_id, timescale, earliest_presentation_time,

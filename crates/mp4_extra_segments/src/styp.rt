@@ -1,15 +1,13 @@
 //! The segment type box.
 
-ghost use Rattle.mp4_extra_segments.specs.declared.styp.TheConstants.{STYP};
+ghost use Rattle.mp4_frame.specs.declared.codes.TheConstants as codes;
 ghost use Rattle.std.proofs.Common.{refl, lit<};
 ghost use Rattle.mp4_stream.specs.Author.{layout_of};
 
 use mp4_declared::{Code, Codes};
+use mp4_frame::codes;
 use mp4_stream::author::{Declared, DeclaredBox, Last, Shape, ShapeVisitor, U32};
 use mp4_stream::{Entries, FourCC, Result, TryClone, box_of, parts_of};
-
-/// The code: `styp`.
-pub const STYP: u32 = 0x7374_7970;
 
 /// The specifications that a segment conforms to (`styp`, ISO/IEC 14496-12, 8.16.2). The fields are those of an `ftyp`.
 #[derive(Debug, Drop, PartialEq, Eq)]
@@ -30,11 +28,11 @@ impl DeclaredBox for Styp {
 
     type Shape = StypShape;
 
-    ghost CODE = { STYP };
+    ghost CODE = { codes.STYP };
 
     ghost layout = { layout_of struct (λ _. tt) (λ _. refl) (lit< tt) };
 
-    const CODE: u32 = STYP;
+    const CODE: u32 = codes::STYP;
 
     fn from_content(found: <StypShape as Shape>::Value) -> Styp {
         box_of!(found => Styp { major_brand, minor_version, compatible_brands })

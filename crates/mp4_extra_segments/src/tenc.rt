@@ -1,18 +1,17 @@
 //! The track encryption box.
 
-ghost use Rattle.mp4_extra_segments.specs.declared.tenc.TheConstants.{TENC, WIDTHS};
+ghost use Rattle.mp4_extra_segments.specs.declared.tenc.TheConstants.{WIDTHS};
+ghost use Rattle.mp4_frame.specs.declared.codes.TheConstants as codes;
 ghost use Rattle.std.proofs.Common.{refl, lit<};
 ghost use Rattle.mp4_stream.specs.Author.{layout_of, packed, fields_of};
 
 use mp4_declared::OrZeros;
+use mp4_frame::codes;
 use mp4_stream::author::{
     Array, Bits, Declared, DeclaredBox, EntryLayout, FromVersion, Full, Last, Reserved, Rest,
     Shape, ShapeVisitor, U8,
 };
 use mp4_stream::{Entries, Result, TryClone, box_of, entry_of, numbers_of, parts_of};
-
-/// The code: `tenc`.
-pub const TENC: u32 = 0x7465_6e63;
 
 /// The pattern of encrypted blocks in a sample: some encrypted blocks, then some clear blocks, repeated.
 #[derive(Clone, Copy, Debug, Default, PartialEq, Eq)]
@@ -88,11 +87,11 @@ impl DeclaredBox for Tenc {
 
     type Shape = TencShape;
 
-    ghost CODE = { TENC };
+    ghost CODE = { codes.TENC };
 
     ghost layout = { layout_of struct (λ _. tt) (λ _. refl) (lit< tt) };
 
-    const CODE: u32 = TENC;
+    const CODE: u32 = codes::TENC;
 
     fn from_content(found: <TencShape as Shape>::Value) -> Tenc {
         box_of!(found => Tenc { version, flags, default_pattern, default_is_protected,

@@ -1,16 +1,15 @@
 //! The track fragment random access box.
 
-ghost use Rattle.mp4_extra_segments.specs.declared.tfra.TheConstants.{TFRA, WIDTHS};
+ghost use Rattle.mp4_extra_segments.specs.declared.tfra.TheConstants.{WIDTHS};
+ghost use Rattle.mp4_frame.specs.declared.codes.TheConstants as codes;
 ghost use Rattle.std.proofs.Common.{refl, lit<};
 ghost use Rattle.mp4_stream.specs.Author.{layout_of, packed, fields_of};
 
+use mp4_frame::codes;
 use mp4_stream::author::{
     Bits, Declared, DeclaredBox, EntryLayout, Full, Last, Rest, Shape, ShapeVisitor, U32,
 };
 use mp4_stream::{Entries, Result, TryClone, box_of, entry_of, numbers_of, parts_of};
-
-/// The code: `tfra`.
-pub const TFRA: u32 = 0x7466_7261;
 
 /// The numbers of bytes of three fields in each entry of a `tfra`, each minus one.
 #[derive(Clone, Copy, Debug, Default, PartialEq, Eq)]
@@ -79,11 +78,11 @@ impl DeclaredBox for Tfra {
 
     type Shape = TfraShape;
 
-    ghost CODE = { TFRA };
+    ghost CODE = { codes.TFRA };
 
     ghost layout = { layout_of struct (λ _. tt) (λ _. refl) (lit< tt) };
 
-    const CODE: u32 = TFRA;
+    const CODE: u32 = codes::TFRA;
 
     fn from_content(found: <TfraShape as Shape>::Value) -> Tfra {
         box_of!(found => Tfra { version, flags, track_id, lengths, number_of_entry, entries })

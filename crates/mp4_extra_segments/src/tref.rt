@@ -1,17 +1,15 @@
 //! The track reference box.
 
-ghost use Rattle.mp4_extra_segments.specs.declared.tref.TheConstants.{TREF};
+ghost use Rattle.mp4_frame.specs.declared.codes.TheConstants as codes;
 ghost use Rattle.std.proofs.Common.{refl, lit<};
 ghost use Rattle.mp4_stream.specs.Author.{layout_of, exact_layout_of};
 
 use mp4_declared::{Code, Numbers, WithSize, clone_each};
+use mp4_frame::codes;
 use mp4_stream::author::{
     Declared, DeclaredBox, DeclaredEntry, EachToEnd, EntryVisitor, Last, Shape, ShapeVisitor,
 };
 use mp4_stream::{Entries, FourCC, Result, TryClone, box_of, parts_of};
-
-/// The code: `tref`.
-pub const TREF: u32 = 0x7472_6566;
 
 /// The tracks that a track refers to by one type of reference. In the file it is a box whose code is the type.
 #[derive(Debug, Drop, PartialEq, Eq)]
@@ -75,11 +73,11 @@ impl DeclaredBox for Tref {
 
     type Shape = TrefShape;
 
-    ghost CODE = { TREF };
+    ghost CODE = { codes.TREF };
 
     ghost layout = { layout_of struct (λ _. tt) (λ _. refl) (lit< tt) };
 
-    const CODE: u32 = TREF;
+    const CODE: u32 = codes::TREF;
 
     fn from_content(found: <TrefShape as Shape>::Value) -> Tref {
         box_of!(found => Tref { references })

@@ -5,7 +5,7 @@ use Rattle.std.proofs.lemmas.Bool.{le-leb, lt-leb, lt-ltb, le-ltb}
 use Rattle.std.proofs.lemmas.List.{take-append-le, take-take, take_at, drop-take, drop-drop, drop_at, length-append}
 use Rattle.std.proofs.lemmas.List.{length-take-le, length-drop}
 use Rattle.std.proofs.Math.Seq.{drop-append-add}
-use Rattle.mp4_faststart.specs.declared.cut.Cut.{Cut}
+use Rattle.mp4_faststart.specs.declared.movement.Move.{Move}
 use Rattle.mp4_faststart.specs.Moved.{moved, moved_file, IsCut}
 use Rattle.mp4_faststart.specs.Laws.{BytesAreKept, LengthIsKept, MovieIsMoved}
 
@@ -13,7 +13,7 @@ use Rattle.mp4_faststart.specs.Laws.{BytesAreKept, LengthIsKept, MovieIsMoved}
 window : (xs ys : List ℕ) (o n : ℕ) → take (o + n) xs ≡ take (o + n) ys → take n (drop o xs) ≡ take n (drop o ys)
 window xs ys o n same = sym (drop-take o n xs) ∙ ap (drop o) same ∙ drop-take o n ys
 
-module _ (c : Cut) (B m : List ℕ) (cut : IsCut c B m) where
+module _ (c : Move) (B m : List ℕ) (shift : IsCut c B m) where
   front : List ℕ
   front = take c.insert B
 
@@ -23,17 +23,17 @@ module _ (c : Cut) (B m : List ℕ) (cut : IsCut c B m) where
   long_front : length front ≡ c.insert
   unfolding front
   long_front =
-      let a = cut.before in
-      let b = cut.order in
-      let d = cut.within in
+      let a = shift.before in
+      let b = shift.order in
+      let d = shift.within in
       length-take-le c.insert B (omega arith)
 
   long_between : length between ≡ c.begin - c.insert
   unfolding between
   long_between =
-      let a = cut.before in
-      let b = cut.order in
-      let d = cut.within in
+      let a = shift.before in
+      let b = shift.order in
+      let d = shift.within in
       let n = length-drop c.insert B in
       length-take-le (c.begin - c.insert) (drop c.insert B) (omega arith)
 
@@ -54,8 +54,8 @@ module _ (c : Cut) (B m : List ℕ) (cut : IsCut c B m) where
   middle o n from le =
       let a = long_front in
       let b = long_between in
-      let same = cut.same in
-      let order = cut.before in
+      let same = shift.same in
+      let order = shift.before in
       let one = length-append front m in
       let place : length (front ++ m) + (o - c.insert) ≡ o + (c.end - c.begin) = omega arith in
       let there : drop (length (front ++ m) + (o - c.insert)) (front ++ m ++ (between ++ drop c.end B))
@@ -79,9 +79,9 @@ module _ (c : Cut) (B m : List ℕ) (cut : IsCut c B m) where
   after o from =
       let a = long_front in
       let b = long_between in
-      let same = cut.same in
-      let order = cut.before in
-      let later = cut.order in
+      let same = shift.same in
+      let order = shift.before in
+      let later = shift.order in
       let one = length-append front m in
       let two = length-append (front ++ m) between in
       let place : length (front ++ m ++ between) + (o - c.end) ≡ o = omega arith in
@@ -97,10 +97,10 @@ module _ (c : Cut) (B m : List ℕ) (cut : IsCut c B m) where
   as_long =
       let a = long_front in
       let b = long_between in
-      let same = cut.same in
-      let order = cut.before in
-      let later = cut.order in
-      let within = cut.within in
+      let same = shift.same in
+      let order = shift.before in
+      let later = shift.order in
+      let within = shift.within in
       let one = length-append front m in
       let two = length-append (front ++ m) between in
       let three = length-append (front ++ m ++ between) (drop c.end B) in
@@ -117,39 +117,39 @@ module _ (c : Cut) (B m : List ℕ) (cut : IsCut c B m) where
       ∙ ap (take (length m)) (drop_at front (m ++ (between ++ drop c.end B)) c.insert long_front)
       ∙ take_at m (between ++ drop c.end B) (length m) refl
 
-moved_low : (c : Cut) (o : ℕ) → o < c.insert → moved c o ≡ o
+moved_low : (c : Move) (o : ℕ) → o < c.insert → moved c o ≡ o
 moved_low c o lt =
     let no = lt-leb c.insert o lt in
     rw no refl
 
-moved_middle : (c : Cut) (o : ℕ) → c.insert ≤ o → o < c.begin → moved c o ≡ o + (c.end - c.begin)
+moved_middle : (c : Move) (o : ℕ) → c.insert ≤ o → o < c.begin → moved c o ≡ o + (c.end - c.begin)
 moved_middle c o le lt =
     let yes = le-leb c.insert o le in
     let also = lt-ltb o c.begin lt in
     rw (yes, also) refl
 
-moved_high : (c : Cut) (o : ℕ) → c.insert ≤ c.begin → c.begin ≤ o → moved c o ≡ o
+moved_high : (c : Move) (o : ℕ) → c.insert ≤ c.begin → c.begin ≤ o → moved c o ≡ o
 moved_high c o order le =
     let yes = le-leb c.insert o (omega arith) in
     let no = le-ltb o c.begin le in
     rw (yes, no) refl
 
 pub bytes_are_kept : BytesAreKept
-bytes_are_kept c B m o zero cut part = refl
-bytes_are_kept c B m o (suc n) cut part =
-    let order = cut.before in
-    let later = cut.order in
+bytes_are_kept c B m o zero shift part = refl
+bytes_are_kept c B m o (suc n) shift part =
+    let order = shift.before in
+    let later = shift.order in
     elim part [
-      | inl low ↦ rw (moved_low c o (omega arith)) (before c B m cut o (suc n) low)
+      | inl low ↦ rw (moved_low c o (omega arith)) (before c B m shift o (suc n) low)
       | inr part ↦ elim part [
         | inl among ↦
-            rw (moved_middle c o among.0 (omega arith)) (middle c B m cut o (suc n) among.0 among.1)
-        | inr high ↦ rw (moved_high c o order (omega arith)) (ap (take (suc n)) (after c B m cut o high))
+            rw (moved_middle c o among.0 (omega arith)) (middle c B m shift o (suc n) among.0 among.1)
+        | inr high ↦ rw (moved_high c o order (omega arith)) (ap (take (suc n)) (after c B m shift o high))
       ]
     ]
 
 pub length_is_kept : LengthIsKept
-length_is_kept c B m cut = as_long c B m cut
+length_is_kept c B m shift = as_long c B m shift
 
 pub movie_is_moved : MovieIsMoved
-movie_is_moved c B m cut = movie_at c B m cut
+movie_is_moved c B m shift = movie_at c B m shift

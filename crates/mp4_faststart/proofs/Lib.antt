@@ -1,5 +1,6 @@
 pub mod Files
 pub mod SameSamples
 pub mod Tables
-pub mod Paths
+pub mod Tracks
+pub mod Readers
 pub mod Pieces

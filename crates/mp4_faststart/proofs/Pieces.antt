@@ -8,7 +8,7 @@ use Rattle.std.proofs.KnownBytes.{Appends-trans}
 use Rattle.std.proofs.Math.Seq.{take-add}
 use Rattle.std.proofs.lemmas.List.{drop-drop, take_rest, take_all}
 use Rattle.mp4_walk.specs.Source.{piece}
-use Rattle.mp4_faststart.specs.declared.cut.Cut.{Cut}
+use Rattle.mp4_faststart.specs.declared.movement.Move.{Move}
 use Rattle.mp4_faststart.specs.Moved.{moved_file, IsCut}
 use Rattle.mp4_faststart.specs.Movie.{KeepsMovie}
 use Rattle.mp4_faststart.specs.Written.{AppendsMoved, IsMovieAfter, IsPlaced, movie_of}
@@ -47,7 +47,7 @@ all_copied (Some B) old new n copied = λ long.
     (front_piece B n ∙ ap (λ (k : ℕ). take k B) long ∙ take_all (length B) B (omega arith)) copied
 
 -- the parts of a file are written, with the movie box between
-pub parts_copied : (c : Cut) (m : List ℕ) (n : ℕ) (r s t : Option (List ℕ)) (o p q u v : Option (List ℕ)) → s ≡ r
+pub parts_copied : (c : Move) (m : List ℕ) (n : ℕ) (r s t : Option (List ℕ)) (o p q u v : Option (List ℕ)) → s ≡ r
     → t ≡ s → IfSome r (λ B. Appends o p (piece B 0 (c.insert - 0))) → Appends p q m
     → IfSome s (λ B. Appends q u (piece B c.insert (c.begin - c.insert)))
     → IfSome t (λ B. Appends u v (piece B c.end (n - c.end)))
@@ -68,7 +68,7 @@ parts_copied c m n (Some B) s t o p q u v sr ts first movie second third = λ lo
     Appends-trans o u v (take c.insert B ++ m ++ between) (drop c.end B) two last
 
 -- and so is the file with its movie box moved
-pub movie_written : (c : Cut) (n : ℕ) (movie made : List ℕ) (r s : Option (List ℕ)) (o v : Option (List ℕ)) → s ≡ r
+pub movie_written : (c : Move) (n : ℕ) (movie made : List ℕ) (r s : Option (List ℕ)) (o v : Option (List ℕ)) → s ≡ r
     → IfSome r (λ B. movie ≡ movie_of c B) → length movie ≡ c.end - c.begin → length made ≡ length movie
     → KeepsMovie c movie made → IfSome s (λ B. n ≡ length B → Appends o v (moved_file c B made)) → IsPlaced n c
     → IfSome r (λ B. n ≡ length B → AppendsMoved B (Some c) o v)
@@ -77,20 +77,20 @@ movie_written c n movie made (Some B) s o v sr is as_long same keeps written pla
     let written' : n ≡ length B → Appends o v (moved_file c B made) =
     subst (λ (x : Option (List ℕ)). IfSome x (λ B. n ≡ length B → Appends o v (moved_file c B made))) sr written in
     let within = placed.within in
-    let cut : IsCut c B made = record {
+    let shift : IsCut c B made = record {
       before = placed.before;
       order = placed.order;
       within = omega arith;
       same = same ∙ as_long;
     } in
     let after : IsMovieAfter c B made = record {
-      cut = cut;
+      shift = shift;
       tracks = subst (λ (xs : List ℕ). KeepsMovie c xs made) is keeps;
     } in
     (made, after, written' long)
 
 -- of a file whose length is known
-pub all_written : (r s : Option (List ℕ)) (n : ℕ) (how : Option Cut) (o v : Option (List ℕ)) → s ≡ r
+pub all_written : (r s : Option (List ℕ)) (n : ℕ) (how : Option Move) (o v : Option (List ℕ)) → s ≡ r
     → IfSome r (λ B. n ≡ length B) → IfSome s (λ B. n ≡ length B → AppendsMoved B how o v)
     → IfSome r (λ B. AppendsMoved B how o v)
 all_written None s n how o v sr long written = tt

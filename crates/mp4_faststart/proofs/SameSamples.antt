@@ -6,7 +6,7 @@ use Rattle.mp4_samples.specs.declared.tables.Tables.{Tables}
 use Rattle.mp4_samples.specs.Gives.{GivesSample, Progress}
 use Rattle.mp4_samples.specs.Samples.{IsSample, sample_count}
 use Rattle.mp4_samples.proofs.Unique.{unique}
-use Rattle.mp4_faststart.specs.declared.cut.Cut.{Cut}
+use Rattle.mp4_faststart.specs.declared.movement.Move.{Move}
 use Rattle.mp4_faststart.specs.Moved.{moved_file, IsCut}
 use Rattle.mp4_faststart.specs.Kept.{IsMoved, KeepsSample, KeepsSamples, IsFirstLost}
 use Rattle.mp4_faststart.specs.Laws.{SamplesAreKept}
@@ -15,17 +15,17 @@ use Rattle.mp4_faststart.proofs.Files.{bytes_are_kept}
 none_taken : (n k : ℕ) (xs ys : List ℕ) → n ≡ 0 → k ≡ 0 → take n xs ≡ take k ys
 none_taken n k xs ys a b = rw (a, b) refl
 
-same_bytes : (c : Cut) (B m : List ℕ) (a b : Sample) → IsCut c B m → IsMoved c a b
+pub same_bytes : (c : Move) (B m : List ℕ) (a b : Sample) → IsCut c B m → IsMoved c a b
     → take b.size (drop b.offset (moved_file c B m)) ≡ take a.size (drop a.offset B)
-same_bytes c B m a b cut is =
+same_bytes c B m a b shift is =
     let size = is.alike.size in
     elim is.place [
       | inl none ↦ none_taken b.size a.size (drop b.offset (moved_file c B m)) (drop a.offset B) (rw size none) none
-      | inr to ↦ rw (size, to.offset) (bytes_are_kept c B m a.offset a.size cut to.whole)
+      | inr to ↦ rw (size, to.offset) (bytes_are_kept c B m a.offset a.size shift to.whole)
     ]
 
 -- a sample that is kept is the only one of its number
-pub is_moved : (c : Cut) (t u : Tables) (k : ℕ) (a b : Sample) → IsSample t k a → IsSample u k b
+pub is_moved : (c : Move) (t u : Tables) (k : ℕ) (a b : Sample) → IsSample t k a → IsSample u k b
     → KeepsSample c t u k → IsMoved c a b
 is_moved c t u k a b is_a is_b kept =
     let first : kept.before ≡ a = unique t k kept.before a kept.is_before is_a in
@@ -34,15 +34,15 @@ is_moved c t u k a b is_a is_b kept =
     subst (λ (x : Sample). IsMoved c a x) second from
 
 pub samples_are_kept : SamplesAreKept
-samples_are_kept c B m t u k a b cut keeps counted is_a is_b =
-    same_bytes c B m a b cut (is_moved c t u k a b is_a is_b (keeps k (inl counted)))
+samples_are_kept c B m t u k a b shift keeps counted is_a is_b =
+    same_bytes c B m a b shift (is_moved c t u k a b is_a is_b (keeps k (inl counted)))
 
 -- where a sample is lost, not all are kept
-pub lost_one : (c : Cut) (t u : Tables) (n : ℕ) → IsFirstLost c t u n → KeepsSamples c t u → ⊥
+pub lost_one : (c : Move) (t u : Tables) (n : ℕ) → IsFirstLost c t u n → KeepsSamples c t u → ⊥
 lost_one c t u n lost keeps = lost.lost (keeps n lost.counted)
 
 -- both iterators give a sample of number n
-module _ (c : Cut) (t u : Tables) (n : ℕ) (s r after_s after_r : Progress) (st : s.tables ≡ t) (ru : r.tables ≡ u)
+module _ (c : Move) (t u : Tables) (n : ℕ) (s r after_s after_r : Progress) (st : s.tables ≡ t) (ru : r.tables ≡ u)
     (sn : s.number ≡ n) (rn : r.number ≡ n) where
   module _ (a b : Sample) (gives_a : GivesSample s (Some a) after_s) (gives_b : GivesSample r (Some b) after_r) where
     is_a : IsSample t n a
@@ -95,7 +95,7 @@ module _ (c : Cut) (t u : Tables) (n : ℕ) (s r after_s after_r : Progress) (st
       }
 
 -- each sample of t is kept
-module _ (c : Cut) (t u : Tables) (n : ℕ) (kept : (k : ℕ) → k < n → KeepsSample c t u k)
+module _ (c : Move) (t u : Tables) (n : ℕ) (kept : (k : ℕ) → k < n → KeepsSample c t u k)
     (all : sample_count t ≡ n) where
   pub all_kept : sample_count t ≡ sample_count u → KeepsSamples c t u
   all_kept same k counted =
@@ -112,6 +112,6 @@ module _ (c : Cut) (t u : Tables) (n : ℕ) (kept : (k : ℕ) → k < n → Keep
   }
 
 -- then not all samples are kept
-pub not_ok : (c : Cut) (t u : Tables) (n : ℕ) → IsFirstLost c t u n
+pub not_ok : (c : Move) (t u : Tables) (n : ℕ) → IsFirstLost c t u n
     → (false ≡ true → KeepsSamples c t u) × (KeepsSamples c t u → false ≡ true)
 not_ok c t u n lost = ((λ no. absurd (false≢true no)), λ keeps. absurd (lost_one c t u n lost keeps))

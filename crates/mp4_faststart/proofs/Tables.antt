@@ -19,11 +19,11 @@ use Rattle.mp4_samples.specs.Chunks.{entry_of, IsInChunk}
 use Rattle.mp4_samples.specs.Runs.{start_of, duration_of, rendering_offset_of, is_listed}
 use Rattle.mp4_samples.specs.Samples.{IsSample, ctts_entries, is_sync_in, offsets_of, sample_count}
 use Rattle.mp4_samples.specs.Sizes.{offset_of, size_of}
-use Rattle.mp4_track.specs.Tables.{AreChunksOf, AreTablesOf, now_of}
-use Rattle.mp4_track.specs.declared.sample_boxes.ChunkBox.{ChunkBox}
-use Rattle.mp4_track.specs.declared.sample_boxes.ChunkBox.TheVariants as chunks
-use Rattle.mp4_track.specs.declared.sample_boxes.SampleBoxes.{SampleBoxes}
-use Rattle.mp4_faststart.specs.declared.cut.Cut.{Cut}
+use Rattle.mp4_movie.specs.Tables.{AreChunksOf, AreTablesOf, now_of}
+use Rattle.mp4_movie.specs.declared.sample_boxes.ChunkBox.{ChunkBox}
+use Rattle.mp4_movie.specs.declared.sample_boxes.ChunkBox.TheVariants as chunks
+use Rattle.mp4_movie.specs.declared.sample_boxes.SampleBoxes.{SampleBoxes}
+use Rattle.mp4_faststart.specs.declared.movement.Move.{Move}
 use Rattle.mp4_faststart.specs.Kept.{KeepsSamples}
 use Rattle.mp4_faststart.specs.Movie.{KeepsTables}
 
@@ -91,7 +91,7 @@ same_sample t s k a e is = record {
 same_count : (t s : Tables) (k : ℕ) → AreSame t s → k < sample_count t → k < sample_count s
 same_count t s k e lt = subst (λ (z : StszBox). k < z.sample_count) e.stsz lt
 
-same_kept : (c : Cut) (t s u w : Tables) → AreSame t s → AreSame s t → AreSame u w → AreSame w u → KeepsSamples c t u
+same_kept : (c : Move) (t s u w : Tables) → AreSame t s → AreSame s t → AreSame u w → AreSame w u → KeepsSamples c t u
     → KeepsSamples c s w
 same_kept c t s u w to back too also keeps k counted =
     let other : (k < sample_count t) ⊎ (k < sample_count u) = elim counted [
@@ -110,7 +110,7 @@ same_kept c t s u w to back too also keeps k counted =
     }
 
 -- what holds of some tables of the boxes holds of all
-pub tables_keep : (c : Cut) (v w : SampleBoxes) (t u : Tables) → AreTablesOf v t → AreTablesOf w u
+pub tables_keep : (c : Move) (v w : SampleBoxes) (t u : Tables) → AreTablesOf v t → AreTablesOf w u
     → KeepsSamples c t u → KeepsTables c v w
 tables_keep c v w t u x y keeps s r p q =
     same_kept c t s u r (same_of v t s x p) (same_of v s t p x) (same_of w u r y q) (same_of w r u q y) keeps

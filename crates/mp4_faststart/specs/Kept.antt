@@ -3,7 +3,7 @@ use Rattle.std.specs.Prelude.{ℕ, ◌≡◌, ◌<◌, ◌⊎◌}
 use Rattle.mp4_samples.specs.declared.sample.Sample.{Sample}
 use Rattle.mp4_samples.specs.declared.tables.Tables.{Tables}
 use Rattle.mp4_samples.specs.Samples.{IsSample, sample_count}
-use Rattle.mp4_faststart.specs.declared.cut.Cut.{Cut}
+use Rattle.mp4_faststart.specs.declared.movement.Move.{Move}
 use Rattle.mp4_faststart.specs.Moved.{moved, IsInOnePart}
 
 -- two samples are the same but for where they begin
@@ -17,17 +17,17 @@ pub record AreAlike (a b : Sample) : Type 0 where
   pub chunk : b.chunk ≡ a.chunk
 
 -- the bytes of sample a are one run after the move too, and sample b begins where that does
-pub record IsMovedTo (c : Cut) (a b : Sample) : Type 0 where
+pub record IsMovedTo (c : Move) (a b : Sample) : Type 0 where
   pub whole : IsInOnePart c a.offset a.size
   pub offset : b.offset ≡ moved c a.offset
 
 -- sample b is sample a after the move. Where a sample with no bytes begins doesn't matter
-pub record IsMoved (c : Cut) (a b : Sample) : Type 0 where
+pub record IsMoved (c : Move) (a b : Sample) : Type 0 where
   pub alike : AreAlike a b
   pub place : (a.size ≡ 0) ⊎ IsMovedTo c a b
 
 -- both tables have a sample k, and that of u is that of t after the move
-pub record KeepsSample (c : Cut) (t u : Tables) (k : ℕ) : Type 0 where
+pub record KeepsSample (c : Move) (t u : Tables) (k : ℕ) : Type 0 where
   pub counted : k < sample_count t
   pub still_counted : k < sample_count u
   pub before : Sample
@@ -37,11 +37,11 @@ pub record KeepsSample (c : Cut) (t u : Tables) (k : ℕ) : Type 0 where
   pub moved : IsMoved c before after
 
 -- each sample that either has is kept
-abbrev pub KeepsSamples : Cut → Tables → Tables → Type 0
+abbrev pub KeepsSamples : Move → Tables → Tables → Type 0
 KeepsSamples c t u = (k : ℕ) → (k < sample_count t) ⊎ (k < sample_count u) → KeepsSample c t u k
 
 -- sample n is the first one that is not kept
-pub record IsFirstLost (c : Cut) (t u : Tables) (n : ℕ) : Type 0 where
+pub record IsFirstLost (c : Move) (t u : Tables) (n : ℕ) : Type 0 where
   pub counted : (n < sample_count t) ⊎ (n < sample_count u)
   pub kept : (k : ℕ) → k < n → KeepsSample c t u k
   pub lost : ¬ KeepsSample c t u n

@@ -1,5 +1,5 @@
 pub mod Moved
 pub mod Kept
 pub mod Movie
-pub mod Laws
 pub mod Written
+pub mod Laws

@@ -1,37 +1,58 @@
--- When the tracks of a movie keep their samples.
-use Rattle.std.specs.Prelude.{ℕ, ◌≡◌, true, List, Some}
+-- When the tracks of a movie box keep their samples. A movie box is read as if it were a whole file, and a track is
+-- named by its number, counted from 0.
+use Rattle.std.specs.Prelude.{ℕ, ◌≡◌, ◌<◌, List, length, Result, Ok, Err, None, Some}
+use Rattle.std.specs.declared.option.Option.{Option}
+use Rattle.mp4_movie.specs.Movies.{of_track, samples_of, track_id, traks}
+use Rattle.mp4_movie.specs.Problems.{Problem}
+use Rattle.mp4_movie.specs.Tables.{AreTablesOf}
+use Rattle.mp4_movie.specs.declared.sample_boxes.SampleBoxes.{SampleBoxes}
 use Rattle.mp4_samples.specs.declared.tables.Tables.{Tables}
-use Rattle.mp4_frame.specs.FourCC.{four_cc_of}
-use Rattle.mp4_frame.specs.declared.codes.TheConstants as codes
-use Rattle.mp4_track.specs.Tables.{AreTablesOf}
-use Rattle.mp4_track.specs.Tracks.{IsTrack, has_id, is_header}
-use Rattle.mp4_track.specs.declared.sample_boxes.SampleBoxes.{SampleBoxes}
-use Rattle.mp4_track.specs.declared.track.Track.{Track}
-use Rattle.mp4_walk.specs.Paths.{is_code}
-use Rattle.mp4_walk.specs.declared.tree_box.TreeBox.{TreeBox}
-use Rattle.mp4_faststart.specs.declared.cut.Cut.{Cut}
+use Rattle.mp4_walk.specs.FileBoxes.{boxes_of}
+use Rattle.mp4_faststart.specs.declared.movement.Move.{Move}
 use Rattle.mp4_faststart.specs.Kept.{KeepsSamples}
 
 -- the samples by the tables of w are those by the tables of v after the move
-abbrev pub KeepsTables : Cut → SampleBoxes → SampleBoxes → Type 0
+abbrev pub KeepsTables : Move → SampleBoxes → SampleBoxes → Type 0
 KeepsTables c v w = (t u : Tables) → AreTablesOf v t → AreTablesOf w u → KeepsSamples c t u
 
--- the movie box m has a track of the track_ID, as B has, with the samples of that after the move
-pub record KeepsTrack (c : Cut) (B m : List ℕ) (id : ℕ) : Type 0 where
-  pub before : Track
-  pub after : Track
-  pub is_before : IsTrack B id before
-  pub is_after : IsTrack m id after
-  pub tables : KeepsTables c before.tables after.tables
+-- there are tables before and after the move, which keep the samples, or none before and none after it
+abbrev pub KeepsOptional : Move → Option SampleBoxes → Option SampleBoxes → Type 0
+KeepsOptional c None None = Unit {0}
+KeepsOptional c (Some v) (Some w) = KeepsTables c v w
+KeepsOptional c None (Some _) = ⊥
+KeepsOptional c (Some _) None = ⊥
 
--- each track_ID that a track of the movie box B has is that of such a track
-abbrev pub KeepsMovie : Cut → List ℕ → List ℕ → Type 0
-KeepsMovie c B m = (id k : ℕ) → has_id B id k ≡ true → KeepsTrack c B m id
+-- the number of tracks of a movie box
+abbrev pub track_count : List ℕ → ℕ
+track_count B = length (traks (boxes_of B))
 
--- the same of the track_ID that one track header has
-abbrev pub KeepsHeader : Cut → List ℕ → List ℕ → TreeBox → Type 0
-KeepsHeader c B m x = (id : ℕ) → is_header B id (Some x) ≡ true → KeepsTrack c B m id
+-- the sample tables of track k of a movie box
+abbrev pub samples_at : List ℕ → ℕ → Result (Option SampleBoxes) Problem
+samples_at B k = of_track (samples_of B) k (traks (boxes_of B))
 
--- the same of a box that may be a track header
-abbrev pub KeepsBox : Cut → List ℕ → List ℕ → TreeBox → Type 0
-KeepsBox c B m x = is_code (four_cc_of codes.TKHD) x.code ≡ true → KeepsHeader c B m x
+-- the track_ID of track k of a movie box
+abbrev pub id_at : List ℕ → ℕ → Result ℕ Problem
+id_at B k = of_track (track_id B) k (traks (boxes_of B))
+
+-- a track_ID, if it can be read
+abbrev pub id_of : {E : Type 0} → Result ℕ E → Option ℕ
+id_of (Ok id) = Some id
+id_of (Err _) = None
+
+-- track k of the movie box m has the samples of track k of the movie box B after the move
+pub record KeepsSamplesOf (c : Move) (B m : List ℕ) (k : ℕ) : Type 0 where
+  pub before : Option SampleBoxes
+  pub after : Option SampleBoxes
+  pub is_before : samples_at B k ≡ Ok before
+  pub is_after : samples_at m k ≡ Ok after
+  pub kept : KeepsOptional c before after
+
+-- and the same track_ID, if that can be read
+pub record KeepsTrack (c : Move) (B m : List ℕ) (k : ℕ) : Type 0 where
+  pub samples : KeepsSamplesOf c B m k
+  pub track_id_is : id_of (id_at m k) ≡ id_of (id_at B k)
+
+-- both have as many tracks, and each is kept
+pub record KeepsMovie (c : Move) (B m : List ℕ) : Type 0 where
+  pub count : track_count m ≡ track_count B
+  pub tracks : (k : ℕ) → k < track_count B → KeepsTrack c B m k

@@ -1,10 +1,9 @@
-//! The `moov` of a file moved before its media data, so that a reader has it first: the chunk offsets are shifted, and
-//! each sample is the same bytes as before.
+//! Moves the `moov` of a file before its media data, so that a reader gets it first. Shifts the chunk offsets, and
+//! keeps the bytes of each sample.
 #![tactic(auto)]
 
-mod codes;
-mod cut;
 pub mod laws;
+mod movement;
 mod movie;
 mod obstacle;
 mod patch;
@@ -13,9 +12,9 @@ mod refusal;
 mod samples;
 mod write;
 
-pub use cut::Cut;
+pub use movement::Move;
 pub use movie::moved_movie;
 pub use obstacle::Obstacle;
-pub use refusal::Refusal;
+pub use refusal::{Refusal, TrackPlace};
 pub use samples::keeps_samples;
 pub use write::write_fast_start;

@@ -1,33 +1,32 @@
 //! A movie box after the move.
 
-ghost use Rattle.std.specs.Prelude.{◌≡◌, length, IfOk, OnOk};
-ghost use Rattle.mp4_flat.specs.Boxes.{reads_tkhd};
-ghost use Rattle.mp4_frame.specs.Reading.{Answers};
-ghost use Rattle.mp4_frame.specs.declared.codes.TheConstants as names;
-ghost use Rattle.mp4_track.specs.Tracks.{reading_of, IsTrack};
-ghost use Rattle.mp4_faststart.specs.Movie.{KeepsBox, KeepsHeader, KeepsMovie, KeepsTables, KeepsTrack};
+ghost use Rattle.std.specs.Prelude.{◌≡◌, Ok, length, IfOk, IfSome, OnOk};
+ghost use Rattle.mp4_faststart.specs.Movie.{
+  KeepsMovie,
+  KeepsOptional,
+  KeepsSamplesOf,
+  KeepsTables,
+  id_of,
+  samples_at,
+};
 
-use crate::codes::is_code;
-use crate::cut::Cut;
+use crate::movement::Move;
 use crate::patch::shifted;
-use crate::refusal::Refusal;
+use crate::refusal::{Refusal, TrackPlace};
 use crate::samples::keeps_samples;
-use mp4_flat::TkhdBox;
-use mp4_frame::{Error, FourCC, codes};
-use mp4_io::Failure;
+use mp4_movie::{BoxError, Movie, MovieError, SampleBoxes, TrackInfo};
 use mp4_samples::{SampleTables, Tables};
-use mp4_track::{SampleBoxes, Track, TrackError, front_box, track_of};
-use mp4_walk::{BoxWalk, TreeBox};
+use mp4_walk::Source;
 use std::alloc::Global;
 
-/// The tables of a track, if they agree.
-fn agreeing(tables: Tables<'_>, track_id: u32) -> Result<SampleTables<'_>, Refusal>
+/// Returns the tables of a track, if they agree.
+fn agreeing(tables: Tables<'_>, track: TrackPlace) -> Result<SampleTables<'_>, Refusal>
     ensures { IfOk result (λ t. t ≡ tables.entry) }
 {
     match SampleTables::new(tables) {
         Ok(tables) => Ok(tables),
         Err(disagreement) => Err(Refusal::Tables {
-            track_id,
+            track,
             disagreement,
         }),
     }
@@ -37,165 +36,164 @@ fn agreeing(tables: Tables<'_>, track_id: u32) -> Result<SampleTables<'_>, Refus
 fn check_tables(
     before: &SampleBoxes,
     after: &SampleBoxes,
-    cut: Cut,
-    track_id: u32,
+    shift: Move,
+    track: TrackPlace,
 ) -> Result<(), Refusal>
-    ensures { OnOk result (KeepsTables cut before.now after.now) }
+    ensures { OnOk result (KeepsTables shift before.now after.now) }
 {
-    let were = agreeing(before.tables(), track_id)?;
-    let are = agreeing(after.tables(), track_id)?;
-    match keeps_samples(cut, &were, &are) {
+    let were = agreeing(before.tables(), track)?;
+    let are = agreeing(after.tables(), track)?;
+    match keeps_samples(shift, &were, &are) {
         Ok(()) => Ok(()),
         Err(number) => Err(Refusal::Sample {
-            track_id,
+            track,
             number: number.saturating_add(1),
         }),
     }
 }
 
-/// The first track of a movie box with this track_ID.
-fn track_in(alloc: Global, movie: &[u8], track_id: u32) -> Result<Track, Refusal>
-    ensures { IfOk result (IsTrack movie.now track_id) }
-{
-    match track_of(alloc, movie, track_id) {
-        Ok(track) => Ok(track),
-        Err(TrackError::Memory) => Err(Refusal::Failed(Failure::Memory)),
-        Err(error) => Err(Refusal::Track { track_id, error }),
-    }
-}
-
-/// Checks that a track keeps its samples, and that as many tracks are before it as are said.
-fn check_track(
-    alloc: Global,
-    movie: &[u8],
-    made: &[u8],
-    cut: Cut,
-    track_id: u32,
-    number: u64,
+/// Checks that a track has tables that keep its samples, or that it has no tables before and after the move.
+fn check_optional(
+    before: &Option<SampleBoxes>,
+    after: &Option<SampleBoxes>,
+    shift: Move,
+    track: TrackPlace,
 ) -> Result<(), Refusal>
-    ensures { OnOk result (KeepsTrack cut movie.now made.now track_id) }
+    ensures { OnOk result (KeepsOptional shift before.now after.now) }
 {
-    let before = track_in(alloc, movie, track_id)?;
-    if before.number != number {
-        return Err(Refusal::TwoTracks(track_id));
+    match before {
+        None => match after {
+            None => Ok(()),
+            Some(_) => Err(Refusal::OtherTracks),
+        },
+        Some(before) => match after {
+            None => Err(Refusal::OtherTracks),
+            Some(after) => check_tables(before, after, shift, track),
+        },
     }
-    let after = track_in(alloc, made, track_id)?;
-    check_tables(&before.tables, &after.tables, cut, track_id)
 }
 
-/// The track header of a movie box.
-fn header_at(alloc: Global, movie: &[u8], found: &TreeBox) -> mp4_frame::Result<TkhdBox>
-    ensures { Answers result (reading_of reads_tkhd names.TKHD movie.now found.now) }
-{
-    if !found.is_whole() {
-        return Err(Error::IoError);
-    }
-    let begin = found.position.min(movie.len() as u64) as usize;
-    let rest = &movie[begin..];
-    let long = found.length.min(rest.len() as u64) as usize;
-    front_box(alloc, codes::TKHD, &rest[..long])
-}
-
-/// Checks that the track of a track header keeps its samples, and that as many tracks are before it as are said.
-fn check_header(
-    alloc: Global,
-    movie: &[u8],
-    made: &[u8],
-    cut: Cut,
-    found: &TreeBox,
-    number: u64,
-) -> Result<(), Refusal>
-    ensures { OnOk result (KeepsHeader cut movie.now made.now found.now) }
-{
-    match header_at(alloc, movie, found) {
-        Ok(header) => check_track(alloc, movie, made, cut, header.track_id, number),
-        Err(Error::OutOfMemory) => Err(Refusal::Failed(Failure::Memory)),
-        Err(error) => Err(Refusal::Header {
-            position: cut.begin.saturating_add(found.position),
+/// Returns an error in the `moov` with the position in the file. The `moov` begins at `begin`.
+fn in_file(error: BoxError, begin: u64) -> BoxError {
+    match error {
+        BoxError::Missing { code } => BoxError::Missing { code },
+        BoxError::Fault {
+            code,
+            position,
             error,
-        }),
+        } => BoxError::Fault {
+            code,
+            position: begin.saturating_add(position),
+            error,
+        },
+        BoxError::NoDefaults { track_id } => BoxError::NoDefaults { track_id },
+        BoxError::NoBase { position, track_id } => BoxError::NoBase {
+            position: begin.saturating_add(position),
+            track_id,
+        },
     }
 }
 
-/// Checks that the track of a box keeps its samples, if the box is a track header.
-fn check_box(
+/// Returns the sample tables of track `number`, counted from 0.
+fn tables_of<S: Source>(
     alloc: Global,
-    movie: &[u8],
-    made: &[u8],
-    cut: Cut,
-    found: &TreeBox,
-    number: u64,
+    movie: &mut Movie<S>,
+    number: usize,
+    shift: Move,
+    track: TrackPlace,
+) -> Result<Option<SampleBoxes>, Refusal>
+    ensures value { IfOk result (λ t. IfSome movie.old.bytes (λ file. samples_at file number ≡ Ok t)) }
+    ensures kept { movie.new ≡ movie.old }
+{
+    match movie.samples(alloc, number) {
+        Ok(tables) => Ok(tables),
+        Err(MovieError::Box(error)) => Err(Refusal::Track {
+            track,
+            error: in_file(error, shift.begin),
+        }),
+        Err(MovieError::Io(error)) => Err(Refusal::from(error)),
+    }
+}
+
+/// Checks that track `number`, counted from 0, keeps its samples.
+fn check_samples<S: Source>(
+    alloc: Global,
+    before: &mut Movie<S>,
+    after: &mut Movie<S>,
+    number: usize,
+    shift: Move,
+    track: TrackPlace,
 ) -> Result<(), Refusal>
-    ensures { OnOk result (KeepsBox cut movie.now made.now found.now) }
+    ensures value { OnOk result
+        (IfSome before.old.bytes (λ B. IfSome after.old.bytes (λ m. KeepsSamplesOf shift B m number))) }
+    ensures before { before.new ≡ before.old }
+    ensures after { after.new ≡ after.old }
 {
-    if is_code(found, FourCC::from(codes::TKHD)) {
-        check_header(alloc, movie, made, cut, found, number)
-    } else {
-        Ok(())
-    }
+    let were = tables_of(alloc, before, number, shift, track)?;
+    let are = tables_of(alloc, after, number, shift, track)?;
+    check_optional(&were, &are, shift, track)
 }
 
-/// How many tracks and track headers came so far, and where the last track begins.
-#[derive(Clone, Copy)]
-struct Counts {
-    tracks: u64,
-    headers: u64,
-    last: u64,
-}
-
-/// Checks that each track has one header.
-fn check_counts(counts: Counts, cut: Cut) -> Result<(), Refusal> {
-    if counts.tracks == counts.headers {
-        Ok(())
-    } else {
-        Err(Refusal::NoHeader(cut.begin.saturating_add(counts.last)))
-    }
-}
-
-/// The counts with one box more. Before a track each has one header.
-fn counts_with(counts: Counts, found: &TreeBox, cut: Cut) -> Result<Counts, Refusal> {
-    if found.depth == 1 && is_code(found, FourCC::from(codes::TRAK)) {
-        check_counts(counts, cut)?;
-        return Ok(Counts {
-            tracks: counts.tracks.saturating_add(1),
-            headers: counts.headers,
-            last: found.position,
-        });
-    }
-    if is_code(found, FourCC::from(codes::TKHD)) {
-        return Ok(Counts {
-            tracks: counts.tracks,
-            headers: counts.headers.saturating_add(1),
-            last: counts.last,
-        });
-    }
-    Ok(counts)
-}
-
-/// Checks that all tracks keep their samples, and that each has one header.
-fn check_movie(alloc: Global, movie: &[u8], made: &[u8], cut: Cut) -> Result<(), Refusal>
-    ensures { OnOk result (KeepsMovie cut movie.now made.now) }
+/// Returns the track_ID of a track, if it can be read.
+fn id_of(track: &TrackInfo) -> Option<u32>
+    ensures { result ≡ id_of track.now.track_id }
 {
-    let mut tree = BoxWalk::new(alloc, movie)?;
-    let mut counts = Counts {
-        tracks: 0,
-        headers: 0,
-        last: 0,
-    };
-    while let Some(found) = tree.next()? {
-        check_box(alloc, movie, made, cut, &found, counts.headers)?;
-        counts = counts_with(counts, &found, cut)?;
+    match &track.track_id {
+        Ok(id) => Some(*id),
+        Err(_) => None,
     }
-    check_counts(counts, cut)
 }
 
-/// The movie box of a file after the move: as long, and each track has the same samples, with the same bytes. Its bytes
-/// are from its header on. It takes the memory of a copy, of its boxes, and of the tables of one track in both.
-pub fn moved_movie(alloc: Global, movie: &[u8], cut: Cut) -> Result<Vec<u8>, Refusal>
+/// Checks that every track keeps its samples and its track_ID.
+fn check_tracks<S: Source>(
+    alloc: Global,
+    before: &mut Movie<S>,
+    after: &mut Movie<S>,
+    shift: Move,
+) -> Result<(), Refusal>
+    ensures { OnOk result
+        (IfSome before.old.bytes (λ B. IfSome after.old.bytes (λ m. KeepsMovie shift B m))) }
+{
+    let were = before.tracks(alloc)?;
+    let are = after.tracks(alloc)?;
+    if are.len() != were.len() {
+        return Err(Refusal::OtherTracks);
+    }
+    for number in 0..were.len() {
+        if id_of(&are[number]) != id_of(&were[number]) {
+            return Err(Refusal::OtherTracks);
+        }
+        let track = TrackPlace {
+            number: number.saturating_add(1),
+            position: shift.begin.saturating_add(were[number].position),
+        };
+        check_samples(alloc, before, after, number, shift, track)?;
+    }
+    Ok(())
+}
+
+/// Checks that every track of the movie box `movie` keeps its samples and its track_ID in the movie box `made`.
+fn check_movie<'a>(
+    alloc: Global,
+    movie: &'a [u8],
+    made: &'a [u8],
+    shift: Move,
+) -> Result<(), Refusal>
+    ensures { OnOk result (KeepsMovie shift movie.now made.now) }
+{
+    let mut before = Movie::open(alloc, movie)?;
+    let mut after = Movie::open(alloc, made)?;
+    check_tracks(alloc, &mut before, &mut after, shift)
+}
+
+/// Returns the movie box `movie` of a file as it is after the move: as long as before, and each track has the same
+/// samples, with the same bytes. `movie` begins with its header. Takes the memory of a copy, of the boxes of both, and
+/// of the tables of one track in both.
+pub fn moved_movie(alloc: Global, movie: &[u8], shift: Move) -> Result<Vec<u8>, Refusal>
     ensures length { IfOk result (λ made. length made.items ≡ length movie.now) }
-    ensures samples { IfOk result (λ made. KeepsMovie cut movie.now made.items) }
+    ensures samples { IfOk result (λ made. KeepsMovie shift movie.now made.items) }
 {
-    let made = shifted(alloc, movie, cut)?;
-    check_movie(alloc, movie, made.as_slice(), cut)?;
+    let made = shifted(alloc, movie, shift)?;
+    check_movie(alloc, movie, made.as_slice(), shift)?;
     Ok(made)
 }

@@ -1,20 +1,20 @@
-//! What keeps a movie box from being moved.
+//! The obstacles that keep a movie box from being moved.
 
 ghost use Rattle.std.specs.Prelude.{◌≡◌};
 
-use crate::codes::{CMOV, ILOC, SAIO, SIDX, TFRA};
 use mp4_frame::{FourCC, codes, u32_at};
 use mp4_walk::{BoxWalk, Source, TreeBox};
 use std::alloc::Global;
 use std::io;
 
-/// What keeps a movie box from being moved. Positions are in bytes from the front of the file.
+/// An obstacle that keeps a movie box from being moved. Positions are in bytes from the front of the file.
 #[derive(Clone, Copy, Debug, PartialEq, Eq, thiserror::Error)]
 pub enum Obstacle {
     /// No whole box begins at a position of the top level.
     #[error("there is no whole box at {0}")]
     NotWhole(u64),
-    /// A box has offsets that are not shifted: from the front of the file, or, before the `moov`, to what is after it.
+    /// A box has offsets that are not shifted: they count from the front of the file, or the box is before the `moov`
+    /// and they lead to what is after it.
     #[error("{code} at {position}: its offsets can't be shifted")]
     Offsets {
         /// The code of the box.
@@ -37,7 +37,7 @@ const BASE_DATA_OFFSET: u32 = 0x00_0001;
 /// The flags of an entry of `dref` whose media data are in the same file (8.7.2).
 const SELF_CONTAINED: u32 = 0x00_0001;
 
-/// The flags of a box (4.2); 0 if it has no room for them.
+/// Returns the flags of `found` (4.2), or 0 if it has no room for them.
 fn flags_of<S: Source>(alloc: Global, tree: &mut BoxWalk<S>, found: &TreeBox) -> io::Result<u32>
     ensures { tree.new ≡ tree.old }
 {
@@ -52,17 +52,17 @@ fn flags_of<S: Source>(alloc: Global, tree: &mut BoxWalk<S>, found: &TreeBox) ->
     Ok(u32_at(&bytes, 0) & 0x00ff_ffff)
 }
 
-/// Whether boxes of a code have offsets that are not shifted: from the front of the file, or of tracks that can't be
-/// read; and, before the `moov`, to what is after it.
+/// Returns whether boxes with `code` have offsets that are not shifted: they count from the front of the file, or are
+/// in a compressed movie, or lead from before the `moov` to what is after it.
 fn has_offsets(code: u32, is_before_movie: bool) -> bool {
     match code {
-        CMOV | ILOC | SAIO | TFRA => true,
-        SIDX | codes::MOOF => is_before_movie,
+        codes::CMOV | codes::ILOC | codes::SAIO | codes::TFRA => true,
+        codes::SIDX | codes::MOOF => is_before_movie,
         _ => false,
     }
 }
 
-/// What keeps a movie box from being moved at a box that came, if anything does.
+/// Returns the obstacle that `found` is, if it is one.
 pub fn obstacle_at<S: Source>(
     alloc: Global,
     tree: &mut BoxWalk<S>,

@@ -1,10 +1,9 @@
-//! Where the movie box of a file is, and where it goes.
+//! The place of the movie box of a file, and its new place.
 
 ghost use Rattle.std.specs.Prelude.{◌≡◌, length, IfOk, IfSome};
 ghost use Rattle.mp4_faststart.specs.Written.{IsPlaced};
 
-use crate::codes::is_code;
-use crate::cut::Cut;
+use crate::movement::Move;
 use crate::obstacle::{Obstacle, obstacle_at};
 use crate::refusal::Refusal;
 use mp4_frame::{FourCC, codes};
@@ -12,22 +11,22 @@ use mp4_walk::{BoxWalk, Source, TreeBox};
 use std::alloc::Global;
 use std::io;
 
-/// What was found so far of a file.
+/// The state about a file so far.
 #[derive(Clone, Copy)]
-struct Findings {
+struct ScanState {
     /// The movie box.
     movie: Option<TreeBox>,
-    /// Where the first media data begin.
+    /// The position of the first media data.
     media: Option<u64>,
-    /// What keeps the movie box from being moved.
+    /// The first obstacle.
     obstacle: Option<Obstacle>,
 }
 
-/// What keeps the movie box from being moved, with one box more.
+/// Returns the first obstacle, of those so far and `found`.
 fn obstacle_with<S: Source>(
     alloc: Global,
     tree: &mut BoxWalk<S>,
-    so_far: Findings,
+    so_far: ScanState,
     found: &TreeBox,
 ) -> io::Result<Option<Obstacle>>
     ensures { tree.new ≡ tree.old }
@@ -38,70 +37,70 @@ fn obstacle_with<S: Source>(
     }
 }
 
-/// What is found with one box more.
+/// Returns the state with one more box.
 fn found_with(
-    so_far: Findings,
+    so_far: ScanState,
     found: &TreeBox,
     obstacle: Option<Obstacle>,
-) -> Result<Findings, Refusal> {
-    let mut findings = so_far;
-    findings.obstacle = obstacle;
-    if found.depth == 0 && is_code(found, FourCC::from(codes::MOOV)) {
-        if findings.movie.is_some() {
+) -> Result<ScanState, Refusal> {
+    let mut state = so_far;
+    state.obstacle = obstacle;
+    if found.depth == 0 && found.has_code(FourCC::from(codes::MOOV)) {
+        if state.movie.is_some() {
             return Err(Refusal::TwoMovies(found.position));
         }
-        findings.movie = Some(*found);
+        state.movie = Some(*found);
     }
-    if found.depth == 0 && is_code(found, FourCC::from(codes::MDAT)) && findings.media.is_none() {
-        findings.media = Some(found.position);
+    if found.depth == 0 && found.has_code(FourCC::from(codes::MDAT)) && state.media.is_none() {
+        state.media = Some(found.position);
     }
-    Ok(findings)
+    Ok(state)
 }
 
-/// Where the movie box goes, by what was found in a file of this length; none if it is before the media data.
-fn cut_by(findings: Findings, length: u64) -> Result<Option<Cut>, Refusal>
-    ensures { IfOk result (λ cut. IfSome cut (IsPlaced length)) }
+/// Returns the move in a file of this length, or `None` if the movie box is before the media data.
+fn cut_by(state: ScanState, length: u64) -> Result<Option<Move>, Refusal>
+    ensures { IfOk result (λ shift. IfSome shift (IsPlaced length)) }
 {
-    let Some(movie) = findings.movie else {
+    let Some(movie) = state.movie else {
         return Err(Refusal::NoMovie);
     };
-    let Some(insert) = findings.media else {
+    let Some(insert) = state.media else {
         return Err(Refusal::NoMediaData);
     };
     if movie.position < insert {
         return Ok(None);
     }
-    if let Some(obstacle) = findings.obstacle {
+    if let Some(obstacle) = state.obstacle {
         return Err(Refusal::Obstacle(obstacle));
     }
     if movie.position > length || movie.length > length - movie.position {
         return Err(Refusal::Obstacle(Obstacle::NotWhole(movie.position)));
     }
-    Ok(Some(Cut {
+    Ok(Some(Move {
         insert,
         begin: movie.position,
         end: movie.position + movie.length,
     }))
 }
 
-/// The source, how long it is, and where its movie box goes; none if that is before the media data.
-pub fn placed<S: Source>(alloc: Global, source: S) -> Result<(S, u64, Option<Cut>), Refusal>
+/// Returns the source, its length, and the move of its movie box, or `None` if that is before the media data.
+pub fn placed<S: Source>(alloc: Global, source: S) -> Result<(S, u64, Option<Move>), Refusal>
     ensures source { IfOk result (λ r. S.all r.0 ≡ S.all source) }
     ensures length { IfOk result (λ r. IfSome (S.all source) (λ B. r.1 ≡ length B)) }
-    ensures cut { IfOk result (λ r. IfSome r.2 (IsPlaced r.1)) }
+    ensures shift { IfOk result (λ r. IfSome r.2 (IsPlaced r.1)) }
 {
     let mut source = source;
     let length = source.length()?;
     let mut tree = BoxWalk::new(alloc, source)?;
-    let mut findings = Findings {
+    let mut state = ScanState {
         movie: None,
         media: None,
         obstacle: None,
     };
     while let Some(found) = tree.next()? {
-        let obstacle = obstacle_with(alloc, &mut tree, findings, &found)?;
-        findings = found_with(findings, &found, obstacle)?;
+        let obstacle = obstacle_with(alloc, &mut tree, state, &found)?;
+        state = found_with(state, &found, obstacle)?;
     }
-    let cut = cut_by(findings, length)?;
-    Ok((tree.into_source(), length, cut))
+    let shift = cut_by(state, length)?;
+    Ok((tree.into_source(), length, shift))
 }

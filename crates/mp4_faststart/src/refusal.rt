@@ -1,19 +1,29 @@
-//! Why the movie box of a file is not moved.
+//! The reasons why the movie box of a file is not moved.
 
 ghost use Rattle.std.specs.Prelude.{◌≡◌};
 ghost use Rattle.mp4_faststart.specs.declared.refusal.Refusal.TheVariants.{Failed};
 ghost use Rattle.mp4_io.specs.declared.failure.Failure.TheVariants.{Memory};
 
 use crate::obstacle::Obstacle;
-use mp4_frame::{Error, FourCC};
+use mp4_frame::FourCC;
 use mp4_io::Failure;
+use mp4_movie::BoxError;
 use mp4_samples::Disagreement;
-use mp4_track::TrackError;
 use std::alloc::AllocError;
 use std::io;
 use std::io::ErrorKind;
 
-/// Why the `moov` of a file is not moved. Positions are in bytes from the front of the file.
+/// A track as refusals name it.
+#[derive(Clone, Copy, Debug, PartialEq, Eq, thiserror::Error)]
+#[error("trak {number} at {position}")]
+pub struct TrackPlace {
+    /// The number of the track in the `moov`, counted from 1.
+    pub number: usize,
+    /// The position of its `trak` in the file, in bytes.
+    pub position: u64,
+}
+
+/// The reason why the `moov` of a file is not moved. Positions are in bytes from the front of the file.
 #[derive(Debug, Drop, thiserror::Error)]
 pub enum Refusal {
     /// The file has no `moov`.
@@ -25,7 +35,7 @@ pub enum Refusal {
     /// The file has no `mdat`.
     #[error("there is no mdat")]
     NoMediaData,
-    /// A box keeps it from being moved.
+    /// A box keeps the `moov` from being moved.
     #[error("{0}")]
     Obstacle(Obstacle),
     /// An offset of an `stco` would not fit in 32 bits, or one of a `co64` in 64.
@@ -39,46 +49,36 @@ pub enum Refusal {
     /// The `moov` goes up to the end of the file, and is too long for a size of 32 bits.
     #[error("moov at {0}: its size would be too large")]
     Size(u64),
-    /// A `trak` has no header that can be read, or not exactly one.
-    #[error("trak at {0}: there is no tkhd that can be read")]
-    NoHeader(u64),
-    /// A track header can't be read.
-    #[error("tkhd at {position}: {error}")]
-    Header {
-        /// The position of the box.
-        position: u64,
-        /// The fault.
-        error: Error,
-    },
-    /// Two tracks have the same track_ID.
-    #[error("track {0}: another track has the same track_ID")]
-    TwoTracks(u32),
-    /// A track can't be read.
-    #[error("track {track_id}: {error}")]
+    /// The `moov` would not have the same tracks after the move: as many, each with the same track_ID, and with sample
+    /// tables if it had some. Shifted offsets change none of these.
+    #[error("the moov would have other tracks after the move")]
+    OtherTracks,
+    /// The sample tables of a track can't be read.
+    #[error("{track}: {error}")]
     Track {
-        /// The track_ID.
-        track_id: u32,
-        /// Why it can't be read.
-        error: TrackError,
+        /// The track.
+        track: TrackPlace,
+        /// The box that is missing or has a fault.
+        error: BoxError,
     },
-    /// The tables of a track disagree.
-    #[error("track {track_id}: {disagreement}")]
+    /// The sample tables of a track disagree.
+    #[error("{track}: {disagreement}")]
     Tables {
-        /// The track_ID.
-        track_id: u32,
+        /// The track.
+        track: TrackPlace,
         /// How they disagree.
         disagreement: Disagreement,
     },
     /// The bytes of a sample are in the `moov`, or go across a place where the file is cut, or the sample would not be
-    /// the same. Samples are counted from 1.
-    #[error("track {track_id}: sample {number} would not be the same bytes")]
+    /// the same.
+    #[error("{track}: sample {number} overlaps the moov, or lies on both sides of the place where it goes")]
     Sample {
-        /// The track_ID.
-        track_id: u32,
-        /// The number of the sample.
+        /// The track.
+        track: TrackPlace,
+        /// The number of the sample, counted from 1.
         number: u32,
     },
-    /// A call failed: of reading, of writing, or of memory.
+    /// Reading or writing failed, or memory was refused.
     #[error("{0}")]
     Failed(Failure),
 }

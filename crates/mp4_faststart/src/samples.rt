@@ -1,12 +1,12 @@
-//! Whether samples are the same after the move.
+//! The comparison of samples before and after the move.
 
 ghost use Rattle.std.specs.Prelude.{◌↔◌, IsTrue, IsOk, IfErr};
 ghost use Rattle.mp4_faststart.specs.Kept.{AreAlike, IsMovedTo, IsMoved, KeepsSamples, IsFirstLost};
 
-use crate::cut::Cut;
+use crate::movement::Move;
 use mp4_samples::{Sample, SampleTables};
 
-/// Whether two samples are the same but for where they begin.
+/// Returns whether two samples are the same except for their offsets.
 fn are_alike(before: &Sample, after: &Sample) -> bool
     ensures { IsTrue result ↔ AreAlike before.now after.now }
 {
@@ -19,33 +19,33 @@ fn are_alike(before: &Sample, after: &Sample) -> bool
         && after.chunk == before.chunk
 }
 
-/// Whether the bytes of a sample are moved whole, to where the other one begins.
-fn is_moved_to(cut: Cut, before: &Sample, after: &Sample) -> bool
-    ensures { IsTrue result ↔ IsMovedTo cut before.now after.now }
+/// Returns whether the bytes of `before` stay one after the other, and are moved to the offset of `after`.
+fn is_moved_to(shift: Move, before: &Sample, after: &Sample) -> bool
+    ensures { IsTrue result ↔ IsMovedTo shift before.now after.now }
 {
-    match cut.moved(before.offset) {
-        Some(offset) => offset == after.offset && cut.keeps(before.offset, before.size),
+    match shift.moved(before.offset) {
+        Some(offset) => offset == after.offset && shift.keeps(before.offset, before.size),
         None => false,
     }
 }
 
-/// Whether a sample is another one after the move.
-fn is_moved(cut: Cut, before: &Sample, after: &Sample) -> bool
-    ensures { IsTrue result ↔ IsMoved cut before.now after.now }
+/// Returns whether `after` is `before` after the move.
+fn is_moved(shift: Move, before: &Sample, after: &Sample) -> bool
+    ensures { IsTrue result ↔ IsMoved shift before.now after.now }
 {
-    are_alike(before, after) && (before.size == 0 || is_moved_to(cut, before, after))
+    are_alike(before, after) && (before.size == 0 || is_moved_to(shift, before, after))
 }
 
-/// Whether the tables `after` have the samples of the tables `before` after the move: the same times, sizes and
-/// descriptions, and the same bytes. If not, the error is the number of the first sample that is not kept, counted from
-/// 0. It takes a step a sample.
+/// Checks that the tables `after` have the samples of the tables `before` after the move: the same times, sizes and
+/// descriptions, and the same bytes. If not, returns the number of the first sample that is not kept, counted from 0.
+/// Takes one step a sample.
 pub fn keeps_samples(
-    cut: Cut,
+    shift: Move,
     before: &SampleTables<'_>,
     after: &SampleTables<'_>,
 ) -> Result<(), u32>
-    ensures exact { IsOk result ↔ KeepsSamples cut before.now after.now }
-    ensures first { IfErr result (IsFirstLost cut before.now after.now) }
+    ensures exact { IsOk result ↔ KeepsSamples shift before.now after.now }
+    ensures first { IfErr result (IsFirstLost shift before.now after.now) }
 {
     let mut were = before.samples();
     let mut are = after.samples();
@@ -56,7 +56,7 @@ pub fn keeps_samples(
         let Some(second) = are.next() else {
             return Err(number);
         };
-        if !is_moved(cut, &first, &second) {
+        if !is_moved(shift, &first, &second) {
             return Err(number);
         }
     }

@@ -6,7 +6,7 @@ ghost use Rattle.mp4_walk.specs.Source.{piece};
 ghost use Rattle.mp4_faststart.specs.Moved.{moved_file};
 ghost use Rattle.mp4_faststart.specs.Written.{AppendsMoved, IsPlaced, movie_of};
 
-use crate::cut::Cut;
+use crate::movement::Move;
 use crate::movie::moved_movie;
 use crate::place::placed;
 use crate::refusal::Refusal;
@@ -15,10 +15,10 @@ use mp4_walk::Source;
 use std::alloc::Global;
 use std::io::Write;
 
-/// How many bytes are copied at once.
+/// The number of bytes that are copied at once.
 const BLOCK: usize = 65536;
 
-/// Writes as many bytes of a source from a position on as the block is long.
+/// Fills `block` with bytes of a source, starting at the position `at`, and writes it.
 fn copy_block<S: Source, W: Write>(
     source: &mut S,
     at: u64,
@@ -35,7 +35,7 @@ fn copy_block<S: Source, W: Write>(
     Ok(())
 }
 
-/// Writes so many bytes of a source from a position on, by way of the front of a buffer.
+/// Writes `long` bytes of a source, starting at the position `at`, by way of the front of `buffer`.
 fn copy_front<S: Source, W: Write>(
     source: &mut S,
     at: u64,
@@ -52,7 +52,7 @@ fn copy_front<S: Source, W: Write>(
     copy_block(source, at, &mut buffer[..long], output)
 }
 
-/// Writes the bytes of a source from a position up to another, a buffer after the other.
+/// Writes the bytes of a source between the positions `from` and `to`, a buffer at a time.
 fn copy<S: Source, W: Write>(
     source: &mut S,
     from: u64,
@@ -75,23 +75,23 @@ fn copy<S: Source, W: Write>(
     Ok(())
 }
 
-/// The movie box of a source.
-fn movie_of<S: Source>(alloc: Global, source: &mut S, cut: Cut) -> Result<Vec<u8>, Refusal>
-    ensures bytes { IfOk result (λ bytes. IfSome (S.all source.old) (λ B. bytes.items ≡ movie_of cut B)) }
-    ensures length { IfOk result (λ bytes. length bytes.items ≡ cut.end - cut.begin) }
+/// Returns the movie box of a source.
+fn movie_of<S: Source>(alloc: Global, source: &mut S, shift: Move) -> Result<Vec<u8>, Refusal>
+    ensures bytes { IfOk result (λ bytes. IfSome (S.all source.old) (λ B. bytes.items ≡ movie_of shift B)) }
+    ensures length { IfOk result (λ bytes. length bytes.items ≡ shift.end - shift.begin) }
     ensures keeps { S.all source.new ≡ S.all source.old }
 {
     let mut bytes = Vec::new(alloc);
-    bytes.resize(cut.end.saturating_sub(cut.begin) as usize, 0)?;
-    source.read_at(cut.begin, &mut bytes)?;
+    bytes.resize(shift.end.saturating_sub(shift.begin) as usize, 0)?;
+    source.read_at(shift.begin, &mut bytes)?;
     Ok(bytes)
 }
 
-/// Writes a source of this length, with a movie box moved to where it goes.
+/// Writes a source of length `size`, with `movie` as its movie box at the new place.
 fn write_parts<S: Source, W: Write>(
     source: &mut S,
     size: u64,
-    cut: Cut,
+    shift: Move,
     movie: &[u8],
     buffer: &mut [u8],
     output: &mut Output<W>,
@@ -100,79 +100,79 @@ fn write_parts<S: Source, W: Write>(
     ensures { OnOk result
         (IfSome (S.all source.old)
         (λ B. size ≡ length B → Appends (W.contents output.old.inner) (W.contents output.new.inner)
-        (moved_file cut B movie.now))) }
+        (moved_file shift B movie.now))) }
 {
-    copy(source, 0, cut.insert, buffer, output)?;
+    copy(source, 0, shift.insert, buffer, output)?;
     write_all(output, movie)?;
-    copy(source, cut.insert, cut.begin, buffer, output)?;
-    copy(source, cut.end, size, buffer, output)?;
+    copy(source, shift.insert, shift.begin, buffer, output)?;
+    copy(source, shift.end, size, buffer, output)?;
     Ok(())
 }
 
-/// Writes a source of this length with its movie box moved.
+/// Writes a source of length `size` with its movie box moved.
 fn write_moved<S: Source, W: Write>(
     alloc: Global,
     source: &mut S,
     size: u64,
-    cut: Cut,
+    shift: Move,
     buffer: &mut [u8],
     output: &mut Output<W>,
 ) -> Result<(), Refusal>
     requires { 0 < length buffer.old }
     ensures { OnOk result
-        (IsPlaced size cut
+        (IsPlaced size shift
         → IfSome (S.all source.old)
         (λ B. size ≡ length B
-        → AppendsMoved B (Some cut) (W.contents output.old.inner) (W.contents output.new.inner))) }
+        → AppendsMoved B (Some shift) (W.contents output.old.inner) (W.contents output.new.inner))) }
 {
-    let movie = movie_of(alloc, source, cut)?;
-    let made = moved_movie(alloc, movie.as_slice(), cut)?;
-    write_parts(source, size, cut, made.as_slice(), buffer, output)?;
+    let movie = movie_of(alloc, source, shift)?;
+    let made = moved_movie(alloc, movie.as_slice(), shift)?;
+    write_parts(source, size, shift, made.as_slice(), buffer, output)?;
     Ok(())
 }
 
-/// Writes a source of this length with its movie box moved, or as it is. Returns whether and how it was moved.
+/// Writes a source of length `size` with its movie box moved, or as it is. Returns the move, if there was one.
 fn write_by<S: Source, W: Write>(
     alloc: Global,
     source: &mut S,
     size: u64,
-    cut: Option<Cut>,
+    shift: Option<Move>,
     buffer: &mut [u8],
     output: &mut Output<W>,
-) -> Result<Option<Cut>, Refusal>
+) -> Result<Option<Move>, Refusal>
     requires { 0 < length buffer.old }
     ensures { IfOk result
-        (λ done. IfSome cut (IsPlaced size)
+        (λ done. IfSome shift (IsPlaced size)
         → IfSome (S.all source.old)
         (λ B. size ≡ length B → AppendsMoved B done (W.contents output.old.inner) (W.contents output.new.inner))) }
 {
-    match cut {
+    match shift {
         None => {
             copy(source, 0, size, buffer, output)?;
             Ok(None)
         }
-        Some(cut) => {
-            write_moved(alloc, source, size, cut, buffer, output)?;
-            Ok(Some(cut))
+        Some(shift) => {
+            write_moved(alloc, source, size, shift, buffer, output)?;
+            Ok(Some(shift))
         }
     }
 }
 
-/// Writes a file with its movie box before its media data, and returns where that was and goes. If it is there already,
-/// the file is written as it is, and none is returned. Each track keeps its samples, with the same bytes. After an
-/// error a beginning of that is written. It takes the memory of two movie boxes, of the boxes of one, and of the tables
-/// of a track in both.
+/// Writes a file with its movie box before its media data, and returns the move. If the movie box is there already,
+/// writes the file as it is and returns `None`. Each track keeps its samples, with the same bytes. After an error, a
+/// beginning of the file may be written. Takes the memory of two movie boxes, of the boxes in both, and of the tables
+/// of one track in both.
 pub fn write_fast_start<S: Source, W: Write>(
     alloc: Global,
     source: S,
     output: &mut Output<W>,
-) -> Result<Option<Cut>, Refusal>
+) -> Result<Option<Move>, Refusal>
     ensures { IfOk result
-        (λ cut. IfSome (S.all source)
-        (λ B. AppendsMoved B cut (W.contents output.old.inner) (W.contents output.new.inner))) }
+        (λ shift. IfSome (S.all source)
+        (λ B. AppendsMoved B shift (W.contents output.old.inner) (W.contents output.new.inner))) }
 {
-    let (mut source, size, cut) = placed(alloc, source)?;
+    let (mut source, size, shift) = placed(alloc, source)?;
     let mut buffer = Vec::new(alloc);
     buffer.resize(BLOCK, 0)?;
-    write_by(alloc, &mut source, size, cut, &mut buffer, output)
+    write_by(alloc, &mut source, size, shift, &mut buffer, output)
 }

@@ -13,6 +13,7 @@ pub mod Members
 pub mod ReadingLaws
 pub mod MemberLaws
 pub mod Heads
+pub mod WholeBox
 pub mod Children
 pub mod OneChild
 pub mod OptionalChild

@@ -1,5 +1,5 @@
-//! The codes of the named boxes: the four characters in a box's header, as a big-endian number of four bytes (ISO/IEC
-//! 14496-12, 4.2). The variants of `BoxType` describe the boxes.
+//! The codes of boxes, and those of handlers: four characters as a big-endian number of four bytes (ISO/IEC 14496-12,
+//! 4.2 and 8.4.3). The boxes of the codec come first. The variants of `BoxType` describe these.
 
 /// `ftyp`.
 pub const FTYP: u32 = 0x6674_7970;
@@ -111,3 +111,246 @@ pub const URL: u32 = 0x7572_6c20;
 pub const NAME: u32 = 0xa96e_616d;
 /// `©day`.
 pub const DAY: u32 = 0xa964_6179;
+
+// Boxes that hold boxes, in ISO/IEC 14496-12, 14496-15 and 23008-12.
+
+/// `mfra`.
+pub const MFRA: u32 = 0x6d66_7261;
+/// `sinf`.
+pub const SINF: u32 = 0x7369_6e66;
+/// `schi`.
+pub const SCHI: u32 = 0x7363_6869;
+/// `rinf`.
+pub const RINF: u32 = 0x7269_6e66;
+/// `trgr`.
+pub const TRGR: u32 = 0x7472_6772;
+/// `strk`.
+pub const STRK: u32 = 0x7374_726b;
+/// `strd`.
+pub const STRD: u32 = 0x7374_7264;
+/// `trep`.
+pub const TREP: u32 = 0x7472_6570;
+/// `meco`.
+pub const MECO: u32 = 0x6d65_636f;
+/// `paen`.
+pub const PAEN: u32 = 0x7061_656e;
+/// `fiin`.
+pub const FIIN: u32 = 0x6669_696e;
+/// `ipro`.
+pub const IPRO: u32 = 0x6970_726f;
+/// `iinf`.
+pub const IINF: u32 = 0x6969_6e66;
+/// `iref`.
+pub const IREF: u32 = 0x6972_6566;
+/// `iprp`.
+pub const IPRP: u32 = 0x6970_7270;
+/// `ipco`.
+pub const IPCO: u32 = 0x6970_636f;
+/// `grpl`.
+pub const GRPL: u32 = 0x6772_706c;
+/// `ludt`.
+pub const LUDT: u32 = 0x6c75_6474;
+/// `hnti`.
+pub const HNTI: u32 = 0x686e_7469;
+/// `hinf`.
+pub const HINF: u32 = 0x6869_6e66;
+
+// Boxes that hold boxes, in QuickTime.
+
+/// `wave`.
+pub const WAVE: u32 = 0x7761_7665;
+/// `gmhd`.
+pub const GMHD: u32 = 0x676d_6864;
+/// `tmcd`.
+pub const TMCD: u32 = 0x746d_6364;
+/// `tapt`.
+pub const TAPT: u32 = 0x7461_7074;
+/// `clip`.
+pub const CLIP: u32 = 0x636c_6970;
+/// `matt`.
+pub const MATT: u32 = 0x6d61_7474;
+/// `rmra`.
+pub const RMRA: u32 = 0x726d_7261;
+/// `rmda`.
+pub const RMDA: u32 = 0x726d_6461;
+/// `cmov`.
+pub const CMOV: u32 = 0x636d_6f76;
+
+// Sample entries of video.
+
+/// `avc2`.
+pub const AVC2: u32 = 0x6176_6332;
+/// `avc3`.
+pub const AVC3: u32 = 0x6176_6333;
+/// `avc4`.
+pub const AVC4: u32 = 0x6176_6334;
+/// `svc1`.
+pub const SVC1: u32 = 0x7376_6331;
+/// `svc2`.
+pub const SVC2: u32 = 0x7376_6332;
+/// `mvc1`.
+pub const MVC1: u32 = 0x6d76_6331;
+/// `mvc2`.
+pub const MVC2: u32 = 0x6d76_6332;
+/// `mvc3`.
+pub const MVC3: u32 = 0x6d76_6333;
+/// `mvc4`.
+pub const MVC4: u32 = 0x6d76_6334;
+/// `hvc1`.
+pub const HVC1: u32 = 0x6876_6331;
+/// `hvc2`.
+pub const HVC2: u32 = 0x6876_6332;
+/// `hev2`.
+pub const HEV2: u32 = 0x6865_7632;
+/// `lhv1`.
+pub const LHV1: u32 = 0x6c68_7631;
+/// `lhe1`.
+pub const LHE1: u32 = 0x6c68_6531;
+/// `vvc1`.
+pub const VVC1: u32 = 0x7676_6331;
+/// `vvi1`.
+pub const VVI1: u32 = 0x7676_6931;
+/// `evc1`.
+pub const EVC1: u32 = 0x6576_6331;
+/// `av01`.
+pub const AV01: u32 = 0x6176_3031;
+/// `vp08`.
+pub const VP08: u32 = 0x7670_3038;
+/// `mp4v`.
+pub const MP4V: u32 = 0x6d70_3476;
+/// `encv`.
+pub const ENCV: u32 = 0x656e_6376;
+/// `resv`.
+pub const RESV: u32 = 0x7265_7376;
+
+// Sample entries of sound.
+
+/// `Opus`.
+pub const OPUS: u32 = 0x4f70_7573;
+/// `fLaC`.
+pub const FLAC: u32 = 0x664c_6143;
+/// `alac`.
+pub const ALAC: u32 = 0x616c_6163;
+/// `ac-3`.
+pub const AC3: u32 = 0x6163_2d33;
+/// `ec-3`.
+pub const EC3: u32 = 0x6563_2d33;
+/// `enca`.
+pub const ENCA: u32 = 0x656e_6361;
+
+// Other sample entries.
+
+/// `wvtt`.
+pub const WVTT: u32 = 0x7776_7474;
+/// `mp4s`.
+pub const MP4S: u32 = 0x6d70_3473;
+/// `urim`.
+pub const URIM: u32 = 0x7572_696d;
+
+// Boxes that hold no boxes.
+
+/// `hmhd`.
+pub const HMHD: u32 = 0x686d_6864;
+/// `sthd`.
+pub const STHD: u32 = 0x7374_6864;
+/// `nmhd`.
+pub const NMHD: u32 = 0x6e6d_6864;
+/// `elng`.
+pub const ELNG: u32 = 0x656c_6e67;
+/// `tref`.
+pub const TREF: u32 = 0x7472_6566;
+/// `iods`.
+pub const IODS: u32 = 0x696f_6473;
+/// `pnot`.
+pub const PNOT: u32 = 0x706e_6f74;
+/// `pdin`.
+pub const PDIN: u32 = 0x7064_696e;
+/// `styp`.
+pub const STYP: u32 = 0x7374_7970;
+/// `ssix`.
+pub const SSIX: u32 = 0x7373_6978;
+/// `sidx`.
+pub const SIDX: u32 = 0x7369_6478;
+/// `prft`.
+pub const PRFT: u32 = 0x7072_6674;
+/// `skip`.
+pub const SKIP: u32 = 0x736b_6970;
+/// `uuid`.
+pub const UUID: u32 = 0x7575_6964;
+/// `cslg`.
+pub const CSLG: u32 = 0x6373_6c67;
+/// `sdtp`.
+pub const SDTP: u32 = 0x7364_7470;
+/// `stz2`.
+pub const STZ2: u32 = 0x7374_7a32;
+/// `stsh`.
+pub const STSH: u32 = 0x7374_7368;
+/// `padb`.
+pub const PADB: u32 = 0x7061_6462;
+/// `stdp`.
+pub const STDP: u32 = 0x7374_6470;
+/// `av1C`.
+pub const AV1C: u32 = 0x6176_3143;
+/// `btrt`.
+pub const BTRT: u32 = 0x6274_7274;
+/// `clap`.
+pub const CLAP: u32 = 0x636c_6170;
+/// `clli`.
+pub const CLLI: u32 = 0x636c_6c69;
+/// `colr`.
+pub const COLR: u32 = 0x636f_6c72;
+/// `dac3`.
+pub const DAC3: u32 = 0x6461_6333;
+/// `dec3`.
+pub const DEC3: u32 = 0x6465_6333;
+/// `dfLa`.
+pub const DFLA: u32 = 0x6466_4c61;
+/// `dOps`.
+pub const DOPS: u32 = 0x644f_7073;
+/// `mdcv`.
+pub const MDCV: u32 = 0x6d64_6376;
+/// `pasp`.
+pub const PASP: u32 = 0x7061_7370;
+/// `stpp`.
+pub const STPP: u32 = 0x7374_7070;
+/// `saio`.
+pub const SAIO: u32 = 0x7361_696f;
+/// `saiz`.
+pub const SAIZ: u32 = 0x7361_697a;
+/// `sbgp`.
+pub const SBGP: u32 = 0x7362_6770;
+/// `senc`.
+pub const SENC: u32 = 0x7365_6e63;
+/// `sgpd`.
+pub const SGPD: u32 = 0x7367_7064;
+/// `subs`.
+pub const SUBS: u32 = 0x7375_6273;
+/// `frma`.
+pub const FRMA: u32 = 0x6672_6d61;
+/// `keys`.
+pub const KEYS: u32 = 0x6b65_7973;
+/// `kind`.
+pub const KIND: u32 = 0x6b69_6e64;
+/// `mfro`.
+pub const MFRO: u32 = 0x6d66_726f;
+/// `pssh`.
+pub const PSSH: u32 = 0x7073_7368;
+/// `schm`.
+pub const SCHM: u32 = 0x7363_686d;
+/// `tenc`.
+pub const TENC: u32 = 0x7465_6e63;
+/// `tfra`.
+pub const TFRA: u32 = 0x7466_7261;
+/// `iloc`.
+pub const ILOC: u32 = 0x696c_6f63;
+
+// Handlers.
+
+/// `vide`.
+pub const VIDE: u32 = 0x7669_6465;
+/// `soun`.
+pub const SOUN: u32 = 0x736f_756e;
+/// `pict`.
+pub const PICT: u32 = 0x7069_6374;
+/// `auxv`.
+pub const AUXV: u32 = 0x6175_7876;

@@ -9,34 +9,38 @@ use Rattle.mp4_frame.specs.declared.codes.TheConstants as codes
 use Rattle.mp4_frame.specs.declared.four_cc.FourCC.{FourCC}
 use Rattle.mp4_inspect.specs.declared.kind.Kind.{Kind}
 use Rattle.mp4_inspect.specs.declared.kind.Kind.TheVariants as kinds
-use Rattle.mp4_inspect.specs.declared.kind.TheConstants as constants
 use Rattle.mp4_check_rules.specs.Terminator.{may_end}
+use Rattle.mp4_walk.specs.declared.fronts.Front.{Front}
+use Rattle.mp4_walk.specs.declared.fronts.Front.TheVariants as fronts
 use Rattle.mp4_walk.specs.declared.walk_context.WalkContext.{WalkContext}
 use Rattle.mp4_walk.specs.declared.tree_box.TreeBox.{TreeBox}
 use Rattle.mp4_walk.specs.declared.tree_box.BoxState.{BoxState}
 use Rattle.mp4_walk.specs.declared.tree_box.BoxState.TheVariants as states
 
--- a sample entry has the common fields of its handler (ISO/IEC 14496-12, 12.1.3 and 12.2.3); timed text is read whole
-abbrev pub entry_kind : ℕ → WalkContext → Kind
-entry_kind code s =
-    if s.handler == constants.VIDE then kinds.Visual else if s.handler == constants.SOUN then kinds.Sound else
-    if code == codes.TX3G then kinds.Known names.Tx3gBox else kinds.Entry
+-- a sample entry has the fields of video or of sound (ISO/IEC 14496-12, 12.1.3 and 12.2.3); timed text is read whole
+abbrev pub entry_kind : Option Front → Kind
+entry_kind (Some fronts.VideoEntry) = kinds.Visual
+entry_kind (Some fronts.SoundEntry) = kinds.Sound
+entry_kind (Some fronts.QuickTimeSound1) = kinds.Sound
+entry_kind (Some fronts.QuickTimeSound2) = kinds.Sound
+entry_kind (Some fronts.TextEntry) = kinds.Known names.Tx3gBox
+entry_kind _ = kinds.Entry
 
 -- a box that the walk does not enter is read whole, if its name is known; a handler and a data reference are read by
 -- their bytes; an `mp4a` in a `wave` is not a sample entry
-abbrev pub leaf_kind : (BoxType → Bool) → ℕ → WalkContext → Kind
-leaf_kind known code s =
+abbrev pub leaf_kind : (BoxType → Bool) → ℕ → Option Front → WalkContext → Kind
+leaf_kind known code front s =
     if code == codes.HDLR then kinds.Handler else
     if code == codes.URL then kinds.Reference else
-    if code == constants.UUID then kinds.Uuid else
-    if (code == codes.MP4A) && (s.parent == constants.WAVE) then kinds.Unread else
+    if code == codes.UUID then kinds.Uuid else
+    if (code == codes.MP4A) && (s.parent == codes.WAVE) then kinds.Unread else
     if known (name_of code) then kinds.Known (name_of code) else
-    if s.parent == codes.STSD then entry_kind code s else kinds.Unread
+    if s.parent == codes.STSD then entry_kind front else kinds.Unread
 
 -- in a box that the walk enters, the fields before its first child are read
-abbrev pub parent_kind : ℕ → ℕ → WalkContext → Kind
-parent_kind code before s =
-    if s.parent == codes.STSD then entry_kind code s else
+abbrev pub parent_kind : ℕ → Option Front → ℕ → WalkContext → Kind
+parent_kind code front before s =
+    if s.parent == codes.STSD then entry_kind front else
     if nat_le 8 before && ((code == codes.STSD) || (code == codes.DREF)) then kinds.List else
     if nat_le 4 before && (code == codes.META) then kinds.Full else kinds.Boxes
 
@@ -50,8 +54,9 @@ kind_of_what known found code states.Cut = kinds.Cut
 kind_of_what known found code states.NoHeader = kinds.Cut
 kind_of_what known found code states.Small = kinds.Small
 kind_of_what known found code states.TooDeep = kinds.Deep
-kind_of_what known found code states.Parent = parent_kind code (bytes_before found found.children) found.context
-kind_of_what known found code states.Leaf = leaf_kind known code found.context
+kind_of_what known found code states.Parent =
+    parent_kind code found.front (bytes_before found found.children) found.context
+kind_of_what known found code states.Leaf = leaf_kind known code found.front found.context
 
 -- bytes without a whole header are cut, unless they are the last four bytes of a box that four zero bytes may end
 abbrev pub end_kind : ℕ → WalkContext → Kind

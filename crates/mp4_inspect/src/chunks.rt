@@ -19,7 +19,7 @@ impl MediaData {
     pub fn new(alloc: Global, boxes: &[TreeBox], length: u64) -> Result<MediaData> {
         let mut extents = Vec::new(alloc);
         for found in boxes {
-            if found.depth == 0 && found.code == Some(FourCC::from(MDAT)) {
+            if found.depth == 0 && found.has_code(FourCC::from(MDAT)) {
                 let begin = found.content_position();
                 let end = found.position.saturating_add(found.length).min(length);
                 extents.push(Extent {

@@ -9,7 +9,7 @@ use std::io;
 use std::io::ErrorKind;
 
 /// Returns the failure of a read with this error.
-fn read_failure(error: &io::Error) -> Failure
+pub fn read_failure(error: &io::Error) -> Failure
     ensures memory { error_kind error.now ≡ ErrorKind.OutOfMemory → result ≡ Failure.Memory }
     ensures read { error_kind error.now ≢ ErrorKind.OutOfMemory → result ≡ Failure.Read }
 {

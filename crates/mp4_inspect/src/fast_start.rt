@@ -5,7 +5,7 @@ use crate::destination::{Destination, Node, NodeKind, choose_destination, partia
 use crate::outcome::Outcome;
 use crate::source::Kept;
 use crate::words::escaped;
-use mp4_faststart::{Cut, Refusal, write_fast_start};
+use mp4_faststart::{Move, Refusal, write_fast_start};
 use mp4_io::{Failure, Output, Steady, is_closed_pipe};
 use std::fs::{File, Metadata, OpenOptions, Permissions};
 use std::io::ErrorKind;
@@ -121,21 +121,21 @@ fn write_all(
     rt: &HostRuntime,
     source: &mut Kept<File>,
     output: &mut Output<Steady<File>>,
-) -> Result<Option<Cut>, Refusal> {
-    let cut = write_fast_start(rt.alloc(), source, output)?;
+) -> Result<Option<Move>, Refusal> {
+    let moved = write_fast_start(rt.alloc(), source, output)?;
     if let Err(error) = output.inner.inner.sync_all() {
         output.inner.error = Some(error);
         return Err(Refusal::Failed(Failure::Write));
     }
-    Ok(cut)
+    Ok(moved)
 }
 
 /// Prints what was written to the file whose name in messages is `shown`.
-fn tell_done(rt: &HostRuntime, shown: &str, done: Option<Cut>) -> Result<Outcome, Failure> {
+fn tell_done(rt: &HostRuntime, shown: &str, done: Option<Move>) -> Result<Outcome, Failure> {
     let told = match done {
-        Some(cut) => println!(rt;
+        Some(moved) => println!(rt;
             "{shown}: moov is moved from {} to {}",
-            cut.begin, cut.insert
+            moved.begin, moved.insert
         ),
         None => println!(rt; "{shown}: a copy, as moov is before the media data already"),
     };

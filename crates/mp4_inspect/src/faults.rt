@@ -12,19 +12,20 @@ ghost use Rattle.mp4_walk.specs.FileBoxes.{boxes_of};
 use crate::box_path::BoxPaths;
 use crate::chunks::MediaData;
 use crate::content::{Content, content_of};
+use crate::facts::{Facts, facts_of};
 use crate::failure::or_memory;
 use crate::fault_text::fault_text;
 use crate::kind::Kind;
-use crate::movie::{Movie, movie_of};
+use crate::sample_tables::{Together, tables_together};
 use crate::shown::Shown;
-use crate::track::{is_box, track_of};
-use crate::tree_text::{after_first, either};
+use crate::traf_runs::{TrafRuns, traf_runs};
+use crate::tree_text::either;
 use mp4_check_rules::{
     Tally, TrackFault, group_of, header_fault, is_file, is_part, needed, track_fault,
 };
 use mp4_frame::codes::{MOOF, STBL, STCO, STSZ, TRAF, TRAK, VMHD};
-use mp4_inspect_samples::{Together, TrafRuns, tables_together, traf_runs};
 use mp4_io::{Failure, Output, write_all};
+use mp4_movie::TrackInfo;
 use mp4_show::{Result, push_code, push_number};
 use mp4_stream::{AnyBox, Error, FourCC};
 use mp4_walk::{BoxWalk, Source, TreeBox};
@@ -37,11 +38,11 @@ use std::io::Write;
 struct Search {
     paths: BoxPaths,
     media: MediaData,
-    movie: Movie,
+    facts: Facts,
     /// The number of boxes that were entered, by run of siblings and group. The box around a run may contain only one
     /// box of each group.
     groups: BTreeMap<(u64, u32), u64>,
-    /// The track_ID of the present track.
+    /// The track_ID of the present track, if the track is the first with it.
     track: Option<u32>,
     /// True if a `url ` without the flag of the same file says that the media data of the track are in another file.
     elsewhere: bool,
@@ -187,7 +188,11 @@ fn fault_of_header(found: &TreeBox, number: u32, search: &Search) -> Option<Trac
     if found.depth != 2 || found.context.parent != TRAK {
         return None;
     }
-    let first = search.movie.headers.get(&number).copied();
+    let first = if search.facts.headers.contains_key(&found.position) {
+        search.facts.firsts.get(&number).copied()
+    } else {
+        None
+    };
     track_fault(number, found.position, first.unwrap_or(found.position))
 }
 
@@ -197,8 +202,8 @@ fn fault_of_fragment(found: &TreeBox, number: u32, search: &Search) -> Option<Tr
         return None;
     }
     header_fault(
-        search.movie.has_moov,
-        search.movie.headers.contains_key(&number),
+        search.facts.has_moov,
+        search.facts.firsts.contains_key(&number),
     )
 }
 
@@ -440,8 +445,8 @@ fn push_part(part: u32, out: &mut String) -> Result<()> {
     Ok(())
 }
 
-/// Stores the sizes of the chunks of the first of `boxes`, an `stbl`, and puts a line into `search.line` if its tables
-/// disagree. Returns whether it put a line there.
+/// Stores the sizes of the chunks of the `stbl` `found`, and puts a line into `search.line` if its tables disagree.
+/// `boxes` begins with the boxes inside it. Returns whether it put a line there.
 fn tell_tables<S: Source>(
     alloc: Global,
     tree: &mut BoxWalk<S>,
@@ -471,14 +476,14 @@ fn tell_tables<S: Source>(
 
 /// Returns whether the data of a fragment are in this file, at known places.
 fn is_here(runs: &TrafRuns, search: &Search) -> bool {
-    if runs.is_absolute && !search.movie.has_moov {
+    if runs.is_absolute && !search.facts.has_moov {
         return false;
     }
     !search.elsewhere_tracks.contains_key(&runs.track)
 }
 
-/// Puts a line into `search.line`, if samples of the first of `boxes`, a `traf`, are outside the media data. Returns
-/// whether it put a line there.
+/// Puts a line into `search.line`, if samples of the `traf` `found` are outside the media data. `boxes` begins with the
+/// boxes inside it. Returns whether it put a line there.
 fn tell_runs<S: Source>(
     alloc: Global,
     tree: &mut BoxWalk<S>,
@@ -497,7 +502,7 @@ fn tell_runs<S: Source>(
         boxes,
         search.top,
         search.data_end,
-        &search.movie.sizes,
+        &search.facts.sizes,
     )?;
     let Some(read) = read else {
         search.data_end = None;
@@ -511,9 +516,13 @@ fn tell_runs<S: Source>(
     Ok(tell_outside(alloc, found, tally, "run", search)?)
 }
 
-/// Puts the line of the samples of the first of `boxes` into `search.line`: the disagreement of the tables of an
-/// `stbl`, or the runs of a `traf` outside the media data. Stores the number of a `trak`. Returns whether it put a line
-/// into `search.line`.
+/// Returns whether `found` is a whole box with the code `code`.
+fn is_box(found: &TreeBox, code: u32) -> bool {
+    found.is_whole() && found.has_code(FourCC::from(code))
+}
+
+/// Puts the line of the samples of the first of `boxes` into `search.line`: the disagreement of the tables of the
+/// `stbl` of a track, or the runs of a `traf` outside the media data. Returns whether it put a line there.
 fn tell_samples<S: Source>(
     alloc: Global,
     tree: &mut BoxWalk<S>,
@@ -526,14 +535,11 @@ fn tell_samples<S: Source>(
     ensures front { search.new.front ≡ search.old.front }
     ensures kept { tree.new ≡ tree.old }
 {
-    if found.code == Some(FourCC::from(TRAK)) {
-        search.track = track_of(alloc, tree, boxes)?.number;
-    }
-    if is_box(found, STBL) {
-        return tell_tables(alloc, tree, found, boxes, search);
+    if is_box(found, STBL) && found.depth == 4 {
+        return tell_tables(alloc, tree, found, after_first(boxes), search);
     }
     if is_box(found, TRAF) && found.depth == 1 && found.context.parent == MOOF {
-        return tell_runs(alloc, tree, found, boxes, search);
+        return tell_runs(alloc, tree, found, after_first(boxes), search);
     }
     Ok(false)
 }
@@ -563,8 +569,9 @@ fn enter(found: &TreeBox, search: &mut Search) -> Result<()>
         search.top = found.position;
         search.data_end = Some(found.position);
     }
-    if found.code == Some(FourCC::from(TRAK)) {
+    if found.has_code(FourCC::from(TRAK)) {
         search.elsewhere = false;
+        search.track = search.facts.traks.get(&found.position).copied();
     }
     Ok(())
 }
@@ -648,6 +655,14 @@ fn write_movie<W: Write>(
     write_all(output, line.as_bytes())
 }
 
+/// For the prover: returns the boxes after the first.
+fn after_first(boxes: &[TreeBox]) -> &[TreeBox] {
+    match boxes.split_first() {
+        Some((_, rest)) => rest,
+        None => boxes,
+    }
+}
+
 /// Writes the lines of `boxes`, in order. Returns whether it wrote a line.
 fn write_lines<B: Shown, S: Source, W: Write>(
     alloc: Global,
@@ -681,12 +696,14 @@ fn front_of(alloc: Global, name: Option<&str>) -> Result<String> {
     Ok(front)
 }
 
-/// Writes the faults of a file with the boxes `boxes`, and a line if it has no movie. Returns whether it wrote a line.
+/// Writes the faults of a file with the boxes `boxes` and the tracks `tracks`, and a line if it has no movie. Returns
+/// whether it wrote a line.
 pub fn write_faults<B: Shown, S: Source, W: Write>(
     alloc: Global,
     tree: &mut BoxWalk<S>,
     name: Option<&str>,
     boxes: &[TreeBox],
+    tracks: &[TrackInfo],
     output: &mut Output<W>,
 ) -> std::result::Result<bool, Failure>
     ensures faults { IfOk result
@@ -700,7 +717,7 @@ pub fn write_faults<B: Shown, S: Source, W: Write>(
     let mut search = Search {
         paths: BoxPaths::new(alloc),
         media: or_memory(MediaData::new(alloc, boxes, tree.length()))?,
-        movie: movie_of(alloc, tree, boxes)?,
+        facts: facts_of(alloc, tree, boxes, tracks)?,
         groups: BTreeMap::new(alloc),
         track: None,
         elsewhere: false,

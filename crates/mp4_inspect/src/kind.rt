@@ -5,21 +5,9 @@ ghost use Rattle.mp4_inspect.specs.Kind.{entry_kind, leaf_kind, parent_kind, byt
 
 use crate::shown::Shown;
 use mp4_check_rules::may_end;
-use mp4_frame::codes::{DREF, HDLR, META, MP4A, STSD, TX3G, URL};
+use mp4_frame::codes::{DREF, HDLR, META, MP4A, STSD, URL, UUID, WAVE};
 use mp4_stream::BoxType;
-use mp4_walk::{BoxState, TreeBox, WalkContext};
-
-/// `uuid`: a box whose type is a UUID (ISO/IEC 14496-12, 4.2).
-pub const UUID: u32 = 0x7575_6964;
-
-/// `wave`: decompression parameters of audio (QuickTime). An `mp4a` in it is not a sample entry.
-pub const WAVE: u32 = 0x7761_7665;
-
-/// `vide`: the handler of video (ISO/IEC 14496-12, 12.1).
-pub const VIDE: u32 = 0x7669_6465;
-
-/// `soun`: the handler of audio (ISO/IEC 14496-12, 12.2).
-pub const SOUN: u32 = 0x736f_756e;
+use mp4_walk::{BoxState, Front, TreeBox, WalkContext};
 
 /// The way in which a box is read to be shown.
 #[derive(Clone, Copy, Debug, PartialEq, Eq)]
@@ -56,25 +44,22 @@ pub enum Kind {
     Terminator,
 }
 
-/// Returns how a sample entry is read.
-fn entry_kind(code: u32, context: WalkContext) -> Kind
-    ensures { result ≡ entry_kind code context }
+/// Returns how a sample entry with these fields before its boxes is read.
+fn entry_kind(front: Option<Front>) -> Kind
+    ensures { result ≡ entry_kind front }
 {
-    if context.handler == VIDE {
-        Kind::Visual
-    } else if context.handler == SOUN {
-        Kind::Sound
-    } else if code == TX3G {
-        Kind::Known(BoxType::Tx3gBox)
-    } else {
-        Kind::Entry
+    match front {
+        Some(Front::VideoEntry) => Kind::Visual,
+        Some(Front::SoundEntry | Front::QuickTimeSound1 | Front::QuickTimeSound2) => Kind::Sound,
+        Some(Front::TextEntry) => Kind::Known(BoxType::Tx3gBox),
+        _ => Kind::Entry,
     }
 }
 
 /// Returns how to read a box that the walk does not enter. It contains no boxes, or is too short for the fields before
 /// them.
-fn leaf_kind<B: Shown>(code: u32, context: WalkContext) -> Kind
-    ensures { result ≡ leaf_kind B.known code context }
+fn leaf_kind<B: Shown>(code: u32, front: Option<Front>, context: WalkContext) -> Kind
+    ensures { result ≡ leaf_kind B.known code front context }
 {
     let name = BoxType::from(code);
     if code == HDLR {
@@ -88,18 +73,18 @@ fn leaf_kind<B: Shown>(code: u32, context: WalkContext) -> Kind
     } else if B::knows(name) {
         Kind::Known(name)
     } else if context.parent == STSD {
-        entry_kind(code, context)
+        entry_kind(front)
     } else {
         Kind::Unread
     }
 }
 
 /// Returns how to read a box that the walk enters, with `before` bytes before its first child.
-fn parent_kind(code: u32, before: u64, context: WalkContext) -> Kind
-    ensures { result ≡ parent_kind code before context }
+fn parent_kind(code: u32, front: Option<Front>, before: u64, context: WalkContext) -> Kind
+    ensures { result ≡ parent_kind code front before context }
 {
     if context.parent == STSD {
-        entry_kind(code, context)
+        entry_kind(front)
     } else if before >= 8 && (code == STSD || code == DREF) {
         Kind::List
     } else if before >= 4 && code == META {
@@ -142,7 +127,12 @@ pub fn kind_of<B: Shown>(found: &TreeBox) -> Kind
         BoxState::Cut | BoxState::NoHeader => Kind::Cut,
         BoxState::Small => Kind::Small,
         BoxState::TooDeep => Kind::Deep,
-        BoxState::Parent => parent_kind(u32::from(code), bytes_before(found), found.context),
-        BoxState::Leaf => leaf_kind::<B>(u32::from(code), found.context),
+        BoxState::Parent => parent_kind(
+            u32::from(code),
+            found.front,
+            bytes_before(found),
+            found.context,
+        ),
+        BoxState::Leaf => leaf_kind::<B>(u32::from(code), found.front, found.context),
     }
 }

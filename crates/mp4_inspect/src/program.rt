@@ -7,8 +7,9 @@ ghost use Rattle.mp4_inspect.specs.Heading.{heading_of};
 ghost use Rattle.mp4_inspect.specs.Json.{comma, WritesJson};
 ghost use Rattle.mp4_inspect.specs.Written.{WritesFile, BeginsFile};
 ghost use Rattle.mp4_io.specs.Ends.{is_write};
+ghost use Rattle.mp4_movie.specs.Infos.{AreInfos};
+ghost use Rattle.mp4_movie.specs.Movies.{traks};
 ghost use Rattle.mp4_walk.specs.FileBoxes.{boxes_of};
-ghost use Rattle.mp4_walk.specs.Walk.{left};
 
 use crate::failure::or_read;
 use crate::faults::write_faults;
@@ -18,6 +19,7 @@ use crate::tree_text::write_tree;
 use mp4_inspect_args::Task;
 use mp4_inspect_samples::{Choice, TrackFault, write_samples};
 use mp4_io::{Failure, Output, write_all};
+use mp4_movie::{Movie, TrackInfo};
 use mp4_show::{Look, TextSink};
 use mp4_walk::{BoxWalk, Source, TreeBox};
 use std::alloc::Global;
@@ -38,19 +40,23 @@ pub struct Show {
     pub samples: Choice,
 }
 
-/// Returns the remaining boxes of a walk, in order.
-fn boxes_left<S: Source>(alloc: Global, tree: &mut BoxWalk<S>) -> Result<Vec<TreeBox>, Failure>
-    ensures boxes { IfSome tree.old.bytes (λ bytes. IfOk result (λ boxes. boxes.items ≡ left bytes tree.old)) }
-    ensures bytes { tree.new.bytes ≡ tree.old.bytes }
+/// Returns a walk over a source, its boxes, and its tracks. Reads the headers of all boxes, and the headers of tracks.
+fn list_file<S: Source>(
+    alloc: Global,
+    source: S,
+) -> Result<(BoxWalk<S>, Vec<TreeBox>, Vec<TrackInfo>), Failure>
+    ensures bytes { IfOk result (λ file. file.0.bytes ≡ S.all source) }
+    ensures boxes { IfSome (S.all source) (λ bytes. IfOk result (λ file. file.1.items ≡ boxes_of bytes)) }
+    ensures tracks { IfSome (S.all source)
+        (λ bytes. IfOk result (λ file. AreInfos bytes 0 (traks (boxes_of bytes)) file.2.items)) }
     ensures not_write { is_write result ≡ false }
 {
+    let mut movie = or_read(Movie::open(alloc, source))?;
+    let tracks = or_read(movie.tracks(alloc))?;
     let mut boxes = Vec::new(alloc);
-    while let Some(found) = or_read(tree.next())? {
-        if boxes.push(found).is_err() {
-            return Err(Failure::Memory);
-        }
-    }
-    Ok(boxes)
+    boxes.extend_from_slice(movie.boxes())?;
+    let walk = or_read(BoxWalk::new(alloc, movie.into_source()))?;
+    Ok((walk, boxes, tracks))
 }
 
 /// Returns the heading of the tree of a file, if there are several files: a line with its name, after an empty line if
@@ -69,13 +75,14 @@ fn heading_of(alloc: Global, name: &str, show: Show) -> Result<String, Failure>
     Ok(heading)
 }
 
-/// Writes the heading of a file and the texts of its boxes. Returns whether a box has a fault. After an error a
-/// beginning of that text is written.
+/// Writes the heading of a file with the tracks `tracks`, and the texts of its boxes. Returns whether a box has a
+/// fault. After an error a beginning of that text is written.
 fn show_boxes<B: Shown, S: Source, W: Write>(
     alloc: Global,
     heading: &str,
     tree: &mut BoxWalk<S>,
     boxes: &[TreeBox],
+    tracks: &[TrackInfo],
     look: Look,
     output: &mut Output<W>,
 ) -> Result<bool, Failure>
@@ -93,7 +100,7 @@ fn show_boxes<B: Shown, S: Source, W: Write>(
 {
     write_all(output, heading.as_bytes())?;
     let sink = TextSink::new(alloc, look);
-    write_tree::<B, S, W>(alloc, tree, boxes, sink, output)
+    write_tree::<B, S, W>(alloc, tree, boxes, tracks, sink, output)
 }
 
 /// Writes the heading and the tree of a source as text, after reading the headers of all boxes. Returns whether a box
@@ -115,9 +122,8 @@ fn show_tree<B: Shown, S: Source, W: Write>(
         (W.contents output.old.inner) (W.contents output.new.inner))) }
     ensures failed { output.new.failed ≡ (output.old.failed || is_write result) }
 {
-    let mut tree = or_read(BoxWalk::new(alloc, source))?;
-    let boxes = boxes_left(alloc, &mut tree)?;
-    show_boxes::<B, S, W>(alloc, heading, &mut tree, &boxes, look, output)
+    let (mut walk, boxes, tracks) = list_file(alloc, source)?;
+    show_boxes::<B, S, W>(alloc, heading, &mut walk, &boxes, &tracks, look, output)
 }
 
 /// Writes a comma if `follows`.
@@ -165,7 +171,7 @@ fn show_json<B: Shown, S: Source, W: Write>(
         (W.contents output.old.inner) (W.contents output.new.inner) faulty)) }
 {
     let mut tree = or_read(BoxWalk::new(alloc, source))?;
-    let boxes = boxes_left(alloc, &mut tree)?;
+    let boxes = or_read(tree.rest(alloc))?;
     show_objects::<B, S, W>(alloc, name, &mut tree, &boxes, follows, output)
 }
 
@@ -181,9 +187,8 @@ fn show_faults<B: Shown, S: Source, W: Write>(
         (W.contents output.old.inner) (W.contents output.new.inner)
         faulty)) }
 {
-    let mut tree = or_read(BoxWalk::new(alloc, source))?;
-    let boxes = boxes_left(alloc, &mut tree)?;
-    write_faults::<B, S, W>(alloc, &mut tree, name, &boxes, output)
+    let (mut walk, boxes, tracks) = list_file(alloc, source)?;
+    write_faults::<B, S, W>(alloc, &mut walk, name, &boxes, &tracks, output)
 }
 
 /// Writes the requested output for a file. Returns whether it has a fault. After an error a beginning of the tree is

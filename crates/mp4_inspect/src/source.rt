@@ -47,6 +47,10 @@ impl<S: Source> Source for Kept<S> {
             }
         }
     }
+
+    fn in_memory(&self) -> Option<&[u8]> {
+        self.inner.in_memory()
+    }
 }
 
 /// A file that is read starting at a position, as if that were its beginning.

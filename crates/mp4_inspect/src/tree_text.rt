@@ -10,9 +10,10 @@ use crate::content::{Content, content_of, put_content};
 use crate::failure::or_memory;
 use crate::fault_text::fault_text;
 use crate::shown::Shown;
-use crate::track::{Track, track_of};
+use crate::tracks::track_at;
 use mp4_frame::codes::{STSD, TRAK};
 use mp4_io::{Failure, Output, write_all};
+use mp4_movie::{BoxError, TrackInfo};
 use mp4_show::{Look, Result, TextSink, columns, push_code, push_colored, push_number};
 use mp4_show_extra::HasFields;
 use mp4_stream::{Error, FourCC};
@@ -84,18 +85,23 @@ fn kind_word(handler: FourCC) -> &'static str {
     }
 }
 
-/// Sends the number and the kind of a track to `sink`, for its line.
-fn put_track(alloc: Global, track: Track, sink: &mut TextSink) -> Result<()> {
+/// Sends the track_ID of a track and the kind of its media to `sink`, for its line. Leaves out what is missing, and a
+/// kind that can't be read.
+fn put_track(alloc: Global, track: &TrackInfo, sink: &mut TextSink) -> Result<()> {
     let mut text = String::new(alloc);
-    if let Some(number) = track.number {
-        text.push_str("track ")?;
-        push_number(u64::from(number), &mut text)?;
+    match &track.track_id {
+        Ok(id) => {
+            text.push_str("track ")?;
+            push_number(u64::from(*id), &mut text)?;
+        }
+        Err(BoxError::Missing { .. }) => {}
+        Err(_) => text.push_str("unreadable track_ID")?,
     }
-    if let Some(handler) = track.handler {
+    if let Ok(handler) = &track.handler {
         text.push_str(if text.is_empty() { "" } else { ", " })?;
-        text.push_str(kind_word(handler))?;
+        text.push_str(kind_word(*handler))?;
         text.push_str(" (")?;
-        push_code(handler, &mut text)?;
+        push_code(*handler, &mut text)?;
         text.push(')')?;
     }
     if text.is_empty() {
@@ -125,16 +131,18 @@ fn put_fault(alloc: Global, found: &TreeBox, fault: &Error, sink: &mut TextSink)
     sink.words_colored(text.as_str(), RED)
 }
 
-/// Sends the rest of the line of a box, after its head, to `sink`.
+/// Sends the rest of the line of a box, after its head, to `sink`. `tracks` has the tracks of the file.
 fn put_rest<B: HasFields + Drop>(
     alloc: Global,
     found: &TreeBox,
     content: &Content<B>,
-    track: Track,
+    tracks: &[TrackInfo],
     sink: &mut TextSink,
 ) -> Result<()> {
-    if found.code == Some(FourCC::from(TRAK)) {
-        put_track(alloc, track, sink)?;
+    if found.has_code(FourCC::from(TRAK)) {
+        if let Some(track) = track_at(tracks, found.position) {
+            put_track(alloc, track, sink)?;
+        }
     }
     if found.context.parent == STSD {
         put_called(alloc, "", found, sink)?;
@@ -143,16 +151,16 @@ fn put_rest<B: HasFields + Drop>(
         Content::Unread => put_called(alloc, "not read", found, sink),
         Content::Deep => sink.words("not gone into: in 32 boxes"),
         Content::Faulty(fault) => put_fault(alloc, found, fault, sink),
-        _ => put_content(content, found.context.is_quicktime, sink),
+        _ => put_content(content, found.is_quicktime_sound(), sink),
     }
 }
 
-/// Returns the text of a box.
+/// Puts the text of a box into `text`. `tracks` has the tracks of the file.
 fn put_box<B: HasFields + Drop>(
     alloc: Global,
     found: &TreeBox,
     content: &Content<B>,
-    track: Track,
+    tracks: &[TrackInfo],
     text: &mut String,
     sink: &mut TextSink,
 ) -> Result<()>
@@ -161,18 +169,18 @@ fn put_box<B: HasFields + Drop>(
     name_line(alloc, sink.look(), found, text)?;
     push_place(found, text)?;
     sink.begin(found.depth, columns(text.as_str()));
-    put_rest(alloc, found, content, track, sink)?;
+    put_rest(alloc, found, content, tracks, sink)?;
     text.push_str(sink.text())?;
     text.push('\n')?;
     Ok(())
 }
 
-/// Makes the text of the first of `boxes`, which are this box and all boxes after it. Returns whether it shows a fault.
+/// Makes the text of the box `found` of a file with the tracks `tracks`. Returns whether it shows a fault.
 fn make_box<B: Shown, S: Source>(
     alloc: Global,
     tree: &mut BoxWalk<S>,
     found: &TreeBox,
-    boxes: &[TreeBox],
+    tracks: &[TrackInfo],
     text: &mut String,
     sink: &mut TextSink,
 ) -> std::result::Result<bool, Failure>
@@ -182,19 +190,18 @@ fn make_box<B: Shown, S: Source>(
     ensures kept { tree.new ≡ tree.old }
     ensures not_write { is_write result ≡ false }
 {
-    let track = track_of(alloc, tree, boxes)?;
     let content = content_of::<B, S>(alloc, tree, found)?;
-    or_memory(put_box(alloc, found, &content, track, text, sink))?;
+    or_memory(put_box(alloc, found, &content, tracks, text, sink))?;
     Ok(content.is_faulty())
 }
 
-/// Writes the text of the first of `boxes`, which are this box and all boxes after it. Returns whether it shows a
-/// fault. After a failed write a beginning of the text is written, and after another failure nothing.
+/// Writes the text of the box `found` of a file with the tracks `tracks`. Returns whether it shows a fault. After a
+/// failed write a beginning of the text is written, and after another failure nothing.
 fn write_box<B: Shown, S: Source, W: Write>(
     alloc: Global,
     tree: &mut BoxWalk<S>,
     found: &TreeBox,
-    boxes: &[TreeBox],
+    tracks: &[TrackInfo],
     text: &mut String,
     sink: &mut TextSink,
     output: &mut Output<W>,
@@ -211,17 +218,18 @@ fn write_box<B: Shown, S: Source, W: Write>(
     ensures kept { tree.new ≡ tree.old }
     ensures failed { output.new.failed ≡ (output.old.failed || is_write result) }
 {
-    let faulty = make_box::<B, S>(alloc, tree, found, boxes, text, sink)?;
+    let faulty = make_box::<B, S>(alloc, tree, found, tracks, text, sink)?;
     write_all(output, text.as_bytes())?;
     Ok(faulty)
 }
 
-/// Writes the tree of a file: the text of each of its boxes `boxes`, in order. Returns whether one of them shows a
-/// fault. After an error a beginning of these texts is written.
+/// Writes the tree of a file with the tracks `tracks`: the text of each of its boxes `boxes`, in order. Returns whether
+/// one of them shows a fault. After an error a beginning of these texts is written.
 pub fn write_tree<B: Shown, S: Source, W: Write>(
     alloc: Global,
     tree: &mut BoxWalk<S>,
     boxes: &[TreeBox],
+    tracks: &[TrackInfo],
     mut sink: TextSink,
     output: &mut Output<W>,
 ) -> std::result::Result<bool, Failure>
@@ -237,21 +245,11 @@ pub fn write_tree<B: Shown, S: Source, W: Write>(
 {
     let mut text = String::new(alloc);
     let mut faulty = false;
-    let mut rest = boxes;
     for found in boxes {
-        let here = write_box::<B, S, W>(alloc, tree, found, rest, &mut text, &mut sink, output)?;
+        let here = write_box::<B, S, W>(alloc, tree, found, tracks, &mut text, &mut sink, output)?;
         faulty = either(faulty, here);
-        rest = after_first(rest);
     }
     Ok(faulty)
-}
-
-/// For the prover: returns the boxes after the first.
-pub fn after_first(boxes: &[TreeBox]) -> &[TreeBox] {
-    match boxes.split_first() {
-        Some((_, rest)) => rest,
-        None => boxes,
-    }
 }
 
 /// For the prover: returns whether one of two is true.

@@ -1,20 +1,29 @@
 -- Rows that are written one after the other.
 use Rattle.std.proofs.Common.{◌≡◌, ℕ, suc, ◌+◌, Bool, true, List, [], ◌∷◌, ◌++◌, length, take}
 use Rattle.std.proofs.Common.{Result, Ok, Err, refl, sym, ap, subst, ◌∙◌, append_assoc, arith}
-use Rattle.std.specs.Prelude.{OnErr}
+use Rattle.std.specs.Prelude.{IfOk, OnErr}
 use Rattle.std.specs.declared.option.Option.{Option}
 use Rattle.std.proofs.KnownBytes.{Appends-nil, Appends-trans}
 use Rattle.std.proofs.Math.Seq.{take-append-add}
 use Rattle.std.proofs.lemmas.List.{append-nil}
 use Rattle.std.specs.Io.KnownBytes.{Appends}
+use Rattle.mp4_movie.specs.Ends.{end_of}
+use Rattle.mp4_movie.specs.Tables.{AreTablesOf}
+use Rattle.mp4_movie.specs.declared.sample_boxes.SampleBoxes.{SampleBoxes}
+use Rattle.mp4_samples.specs.Samples.{AreConsistent}
 use Rattle.mp4_samples.specs.declared.sample.Sample.{Sample}
+use Rattle.mp4_samples.specs.declared.tables.Tables.{Tables}
 use Rattle.mp4_inspect_samples.specs.Listed.{is_listed, empty_after, empty_at_end, AreListed}
 use Rattle.mp4_inspect_samples.specs.Row.{row_of}
 use Rattle.mp4_inspect_samples.specs.RowText.{row_text}
 use Rattle.mp4_inspect_samples.specs.Rows.{Follow, rows_text, is_after, Begins, WritesRows, BeginsRows}
+use Rattle.mp4_inspect_samples.specs.Tracks.{WritesBoxes, WritesTables}
+use Rattle.mp4_inspect_samples.specs.declared.fault.TrackName.{TrackName}
 use Rattle.mp4_inspect_samples.specs.declared.limit.Limit.{Limit}
+use Rattle.mp4_inspect_samples.specs.declared.reached.Reached.{Reached}
 use Rattle.mp4_inspect_samples.specs.declared.row.Row.{Row}
 use Rattle.mp4_inspect_samples.specs.declared.row_text.Form.{Form}
+use Rattle.mp4_inspect_samples.specs.declared.track_stop.TrackStop.{TrackStop}
 
 -- what holds of any outcome holds of a failed one
 pub on_err : {A E P : Type 0} (r : Result A E) → P → OnErr r P
@@ -47,7 +56,7 @@ length_more [] x = refl
 length_more (y ∷ xs) x = let next : suc (length xs + 1) ≡ suc (length xs) + 1 =
     omega arith in ap suc (length_more xs x) ∙ next
 
-text_more : (form : Form) (track : ℕ) (b : Bool) (n : ℕ) (xs : List Sample) (x : Sample)
+text_more : (form : Form) (track : Option ℕ) (b : Bool) (n : ℕ) (xs : List Sample) (x : Sample)
     → rows_text form track b n (xs ++ x ∷ []) ≡ rows_text form track b n xs
     ++ row_text form (is_after b xs) (row_of track (n + length xs + 1) x)
 text_more form track b n [] x = append-nil _ ∙ ap (λ (j : ℕ). row_text form b (row_of track j x)) (omega arith)
@@ -62,7 +71,19 @@ text_more form track b n (y ∷ xs) x =
     same [] = ap (λ (j : ℕ). row_text form true (row_of track j x)) (omega arith)
     same (z ∷ zs) = ap (λ (j : ℕ). row_text form true (row_of track j x)) (omega arith)
 
-module _ (Is : ℕ → Sample → Type 0) (limit : Limit) (form : Form) (track n empty : ℕ) (follows : Bool) where
+-- rows of an equal form, track and state
+pub writes_as : (Is : ℕ → Sample → Type 0) (limit : Limit) (form form2 : Form) (track track2 : Option ℕ)
+    (m empty_end : ℕ) (follows follows2 is_followed : Bool) (old new : Option (List ℕ))
+    → WritesRows Is limit form2 track2 0 0 m empty_end follows2 is_followed old new
+    → form2 ≡ form → track2 ≡ track → follows2 ≡ follows
+    → WritesRows Is limit form track 0 0 m empty_end follows is_followed old new
+writes_as Is limit form form2 track track2 m empty_end follows follows2 is_followed old new rows of its after =
+    subst (λ (f : Form). WritesRows Is limit f track 0 0 m empty_end follows is_followed old new) of
+    (subst (λ (t : Option ℕ). WritesRows Is limit form2 t 0 0 m empty_end follows is_followed old new) its
+    (subst (λ (b : Bool). WritesRows Is limit form2 track2 0 0 m empty_end b is_followed old new) after rows))
+
+module _ (Is : ℕ → Sample → Type 0) (limit : Limit) (form : Form) (track : Option ℕ) (n empty : ℕ)
+    (follows : Bool) where
   pub writes_none : (old : Option (List ℕ)) → WritesRows Is limit form track n empty 0 empty follows follows old old
   writes_none old = record {
     samples = [];
@@ -175,3 +196,21 @@ module _ (Is : ℕ → Sample → Type 0) (limit : Limit) (form : Form) (track n
       take_all : (xs : List ℕ) → take (length xs) xs ≡ xs
       take_all [] = refl
       take_all (x ∷ xs) = ap (λ (ys : List ℕ). x ∷ ys) (take_all xs)
+
+-- rows of the tables that the boxes of a sample table make
+pub of_boxes : (boxes : SampleBoxes) (made tables : Tables) (time : ℕ) (limit : Limit) (form : Form) (name : TrackName)
+    (follows is_followed : Bool) (old new : Option (List ℕ)) (result : Result Reached TrackStop)
+    → AreTablesOf boxes made → tables ≡ made → AreConsistent made
+    → time ≡ end_of boxes.stts.entries
+    → IfOk result (WritesTables tables time limit form name follows is_followed old new)
+    → IfOk result (WritesBoxes boxes limit form name follows is_followed old new)
+of_boxes boxes made tables time limit form name follows is_followed old new (Ok reached) are same agree ends writes =
+    record {
+      tables = made;
+      are = are;
+      agree = agree;
+      writes =
+          subst (λ (n : ℕ). WritesTables made n limit form name follows is_followed old new reached) ends
+          (subst (λ (t : Tables). WritesTables t time limit form name follows is_followed old new reached) same writes);
+    }
+of_boxes boxes made tables time limit form name follows is_followed old new (Err e) are same agree ends writes = tt

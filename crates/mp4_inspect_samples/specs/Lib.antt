@@ -1,6 +1,5 @@
 pub mod Listed
-pub mod Own
-pub mod ReadTables
 pub mod Row
 pub mod RowText
 pub mod Rows
+pub mod Tracks

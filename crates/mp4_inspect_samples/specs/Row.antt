@@ -1,11 +1,12 @@
--- What is written of a sample.
+-- The row of a sample.
 use Rattle.std.specs.Prelude.{ℕ, pos, ◌+ℤ◌}
+use Rattle.std.specs.declared.option.Option.{Option}
 use Rattle.mp4_inspect_samples.specs.declared.row.Row.{Row}
 use Rattle.mp4_samples.specs.declared.sample.Sample.{Sample}
 
--- the row of a sample of a track, which has this number. It is presented its rendering offset after it is decoded
--- (ISO/IEC 14496-12, 8.6.1.3 and 8.8.8)
-abbrev pub row_of : ℕ → ℕ → Sample → Row
+-- the row of a sample with this number in the track with this track_ID, if that can be read. The sample is presented
+-- its rendering offset after it is decoded (ISO/IEC 14496-12, 8.6.1.3 and 8.8.8)
+abbrev pub row_of : Option ℕ → ℕ → Sample → Row
 row_of track number s = record {
   track = track;
   number = number;

@@ -1,6 +1,7 @@
 -- The text of a row, in each form.
 use Rattle.std.specs.Prelude.{ℕ, ℤ, ◌-◌, Bool, List, ◌++◌, length, replicate, min, codes, decimal}
-use Rattle.std.specs.Prelude.{if◌then◌else◌}
+use Rattle.std.specs.Prelude.{if◌then◌else◌, None, Some}
+use Rattle.std.specs.declared.option.Option.{Option}
 use Rattle.std.specs.Fmt.{signed_decimal}
 use Rattle.mp4_inspect_samples.specs.declared.row.Row.{Row}
 use Rattle.mp4_inspect_samples.specs.declared.row_text.Form.{Form}
@@ -13,6 +14,11 @@ padded width digits = replicate (min (width - length digits) 16) 32 ++ digits
 -- a number after some text
 unfoldable pub column : List ℕ → ℕ → List ℕ
 column before n = before ++ decimal n
+
+-- a track_ID after some text, or another text if there is none
+unfoldable pub track_column : List ℕ → List ℕ → Option ℕ → List ℕ
+track_column before unknown None = before ++ unknown
+track_column before unknown (Some n) = column before n
 
 unfoldable pub signed_column : List ℕ → ℤ → List ℕ
 signed_column before n = before ++ signed_decimal n
@@ -29,7 +35,8 @@ sync_number is_sync = if is_sync then 1 else 0
 
 -- the columns between commas
 unfoldable pub csv_place : Row → List ℕ
-csv_place r = column (codes "") r.track ++ (column (codes ",") r.number ++ (column (codes ",") r.offset))
+csv_place r = track_column (codes "") (codes "") r.track
+    ++ (column (codes ",") r.number ++ (column (codes ",") r.offset))
 
 unfoldable pub csv_time : Row → List ℕ
 csv_time r = column (codes ",") r.size
@@ -44,7 +51,7 @@ csv_text r = csv_place r ++ (csv_time r ++ (csv_kind r ++ codes "\n"))
 
 -- a JSON object (RFC 8259) with the columns as its members
 unfoldable pub json_place : Row → List ℕ
-json_place r = column (codes "{\"track\": ") r.track
+json_place r = track_column (codes "{\"track\": ") (codes "null") r.track
     ++ (column (codes ", \"number\": ") r.number ++ (column (codes ", \"offset\": ") r.offset))
 
 unfoldable pub json_time : Row → List ℕ

@@ -22,7 +22,7 @@ Follow Is k [] = ⊤
 Follow Is k (x ∷ xs) = Is k x × Follow Is (k + 1) xs
 
 -- the rows of samples of a track, of which n come before them
-abbrev pub rows_text : Form → ℕ → Bool → ℕ → List Sample → List ℕ
+abbrev pub rows_text : Form → Option ℕ → Bool → ℕ → List Sample → List ℕ
 rows_text form track follows n [] = []
 rows_text form track follows n (x ∷ xs) =
     row_text form follows (row_of track (n + 1) x) ++ rows_text form track true (n + 1) xs
@@ -39,8 +39,8 @@ pub record Begins (old new : Option (List ℕ)) (text : List ℕ) : Type 0 where
 
 -- the rows of the first m samples of a track are appended, each of which is listed. n samples come before them, the
 -- last `empty` of which have no bytes; and the last `empty_end` up to sample m have none
-pub record WritesRows (Is : ℕ → Sample → Type 0) (limit : Limit) (form : Form) (track n empty m empty_end : ℕ)
-    (follows is_followed : Bool) (old new : Option (List ℕ)) : Type 0 where
+pub record WritesRows (Is : ℕ → Sample → Type 0) (limit : Limit) (form : Form) (track : Option ℕ)
+    (n empty m empty_end : ℕ) (follows is_followed : Bool) (old new : Option (List ℕ)) : Type 0 where
   pub samples : List Sample
   pub are : Follow Is 0 samples
   pub listed : AreListed limit empty samples
@@ -50,8 +50,8 @@ pub record WritesRows (Is : ℕ → Sample → Type 0) (limit : Limit) (form : F
   pub bytes : Appends old new (rows_text form track follows n samples)
 
 -- a beginning of the rows of the first samples of a track is appended, each of which is listed
-pub record BeginsRows (Is : ℕ → Sample → Type 0) (limit : Limit) (form : Form) (track n empty : ℕ) (follows : Bool)
-    (old new : Option (List ℕ)) : Type 0 where
+pub record BeginsRows (Is : ℕ → Sample → Type 0) (limit : Limit) (form : Form) (track : Option ℕ) (n empty : ℕ)
+    (follows : Bool) (old new : Option (List ℕ)) : Type 0 where
   pub samples : List Sample
   pub are : Follow Is 0 samples
   pub listed : AreListed limit empty samples
@@ -64,8 +64,8 @@ EndsAfter f limit m empty unlisted (Some fault) = (unlisted ≡ None) × Faults 
 
 -- the rows of the samples of a fragment are appended, all of them or those before the first that isn't listed or has a
 -- fault
-pub record WritesFragment (f : Fragment) (limit : Limit) (form : Form) (track n empty : ℕ) (follows is_followed : Bool)
-    (old new : Option (List ℕ)) (end : FragmentEnd) : Type 0 where
+pub record WritesFragment (f : Fragment) (limit : Limit) (form : Form) (track : Option ℕ) (n empty : ℕ)
+    (follows is_followed : Bool) (old new : Option (List ℕ)) (end : FragmentEnd) : Type 0 where
   pub samples : ℕ
   pub count : end.count ≡ n + samples
   pub ends : EndsAfter f limit samples end.empty end.unlisted end.fault

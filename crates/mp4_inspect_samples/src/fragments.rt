@@ -1,203 +1,223 @@
 //! The fragments of tracks.
 
-ghost use Rattle.std.specs.Prelude.{◌≡◌};
+ghost use Rattle.std.specs.Prelude.{◌≡◌, false, IfOk, IfSome};
+ghost use Rattle.mp4_io.specs.Ends.{is_write};
+ghost use Rattle.mp4_movie.specs.Fragments.{AreFragments};
+ghost use Rattle.mp4_walk.specs.FileBoxes.{boxes_of};
 
-use crate::fault::Fault;
-use crate::places::is_of;
-use crate::reading::read_found;
-use crate::stop::{Stop, keep};
-use mp4_flat::{TfdtBox, TrexBox};
-use mp4_frame::ReadBox;
-use mp4_frame::codes::{TFDT, TFHD, TRUN};
+use crate::fault::{Fault, TrackFault};
+use crate::limit::samples_in;
+use crate::track_stop::{keep, or_read};
+use mp4_frame::FourCC;
+use mp4_frame::codes::{MOOF, TFHD, TRAF, TRUN};
 use mp4_io::Failure;
-use mp4_samples::{DEFAULT_BASE_IS_MOOF, Fragment};
+use mp4_movie::{BoxError, MoofFragments, Movie, TrackFragment, first_in};
 use mp4_tables::{TfhdBox, TrunBox};
-use mp4_walk::{BoxWalk, Source, TreeBox};
-use std::alloc::Global;
+use mp4_walk::{Source, TreeBox};
+use std::alloc::{AllocError, Global};
+use std::collections::BTreeMap;
 
-/// A `traf`, as it is found in a file.
-#[derive(Clone, Copy, Debug, PartialEq, Eq)]
-pub struct Place {
-    /// Which of the boxes of the file it is.
-    pub index: usize,
-    /// Where its `moof` begins.
-    pub moof: u64,
-    /// Where the data of the `traf` before it end, or the `moof` begins; none if that can't be told.
-    pub data_end: Option<u64>,
-}
-
-/// The boxes of a `traf`.
+/// A `traf` of a track.
 #[derive(Drop)]
-pub struct FragmentBoxes {
-    /// Its header.
-    pub header: TfhdBox,
-    /// When its first sample is decoded, if it says so.
-    pub time: Option<TfdtBox>,
-    /// Its runs.
-    pub runs: Vec<TrunBox>,
+pub struct TrackTraf {
+    /// The number of samples that its runs count, or 0 if a box in it has a fault.
+    pub samples: u64,
+    /// The fragment, or why the `traf` is none.
+    pub fragment: Result<TrackFragment, BoxError>,
 }
 
-/// Whether offsets in a fragment count from where the data before it end.
-pub fn needs_end(header: &TfhdBox) -> bool {
-    header.base_data_offset.is_none() && header.flags & DEFAULT_BASE_IS_MOOF == 0
+/// The fragments of a movie, by the track_ID in their headers, in the order of the file.
+pub type Fragments = BTreeMap<u32, Vec<TrackTraf>>;
+
+/// Returns the fragments of each `moof` of `movie`.
+fn moofs_of<S: Source>(alloc: Global, movie: &mut Movie<S>) -> Result<Vec<MoofFragments>, Failure>
+    ensures value { IfSome movie.old.bytes
+        (λ file. IfOk result (λ moofs. AreFragments file (boxes_of file) moofs.items)) }
+    ensures kept { movie.new ≡ movie.old }
+    ensures not_write { is_write result ≡ false }
+{
+    or_read(movie.fragments(alloc))
 }
 
-/// The boxes right in the first of these, which are in the order of the file: those that are there before one that is
-/// less deep.
-fn first_in(boxes: &[TreeBox], code: u32) -> Option<TreeBox> {
-    let (outer, inner) = boxes.split_first()?;
-    for found in inner {
-        if found.depth <= outer.depth {
-            return None;
+/// Returns the index after each `traf` in the `moof`s of a file with the boxes `boxes`, in order.
+fn trafs_in(alloc: Global, boxes: &[TreeBox]) -> Result<Vec<usize>, AllocError> {
+    let mut trafs = Vec::new(alloc);
+    let mut is_moof = false;
+    for index in 0..boxes.len() {
+        let found = boxes[index];
+        if found.depth == 0 {
+            is_moof = found.has_code(FourCC::from(MOOF));
         }
-        if found.depth - outer.depth == 1 && is_of(found, code) {
-            return Some(*found);
+        if is_moof && found.depth == 1 && found.has_code(FourCC::from(TRAF)) {
+            trafs.push(index + 1)?;
         }
     }
-    None
+    Ok(trafs)
 }
 
-/// Reads the header of a `traf`, the first of these boxes, in a `moof` at a position.
-pub fn read_header<S: Source>(
-    alloc: Global,
-    tree: &mut BoxWalk<S>,
-    boxes: &[TreeBox],
-    moof: u64,
-) -> Result<TfhdBox, Stop>
-    ensures kept { tree.new ≡ tree.old }
-{
-    let Some(found) = first_in(boxes, TFHD) else {
-        return Err(Stop::Faulty(Fault::NoFragmentHeader(moof)));
-    };
-    match read_found(alloc, tree, &found)? {
-        Ok(header) => Ok(header),
-        Err(_) => Err(Stop::Faulty(Fault::NoFragmentHeader(moof))),
+/// Returns `boxes` without the first `first`.
+fn boxes_after(boxes: &[TreeBox], first: usize) -> &[TreeBox] {
+    &boxes[first.min(boxes.len())..]
+}
+
+/// Returns the header of the `traf` in which `boxes` begins, if it has one.
+fn header_in(boxes: &[TreeBox]) -> Option<TreeBox> {
+    match first_in(boxes, 2, FourCC::from(TFHD)) {
+        Some(place) => Some(place.found),
+        None => None,
     }
 }
 
-/// Reads a box of a fragment.
-fn read_part<B: ReadBox + Drop, S: Source>(
-    alloc: Global,
-    tree: &mut BoxWalk<S>,
-    found: &TreeBox,
-    name: &'static str,
-    moof: u64,
-) -> Result<B, Stop>
-    ensures kept { tree.new ≡ tree.old }
-{
-    match read_found(alloc, tree, found)? {
-        Ok(value) => Ok(value),
-        Err(error) => Err(Stop::Faulty(Fault::UnreadableFragment(moof, name, error))),
-    }
-}
-
-/// Reads the time of a `traf`, the first of these boxes, if it has one.
-fn read_time<S: Source>(
-    alloc: Global,
-    tree: &mut BoxWalk<S>,
-    boxes: &[TreeBox],
-    moof: u64,
-) -> Result<Option<TfdtBox>, Stop>
-    ensures kept { tree.new ≡ tree.old }
-{
-    match first_in(boxes, TFDT) {
-        Some(found) => Ok(Some(read_part(alloc, tree, &found, "tfdt", moof)?)),
-        None => Ok(None),
-    }
-}
-
-/// Reads the runs of a `traf`, the first of these boxes.
-fn read_runs<S: Source>(
-    alloc: Global,
-    tree: &mut BoxWalk<S>,
-    boxes: &[TreeBox],
-    moof: u64,
-) -> Result<Vec<TrunBox>, Stop>
-    ensures kept { tree.new ≡ tree.old }
-{
+/// Returns the runs of the `traf` in which `boxes` begins.
+fn runs_in(alloc: Global, boxes: &[TreeBox]) -> Result<Vec<TreeBox>, AllocError> {
     let mut runs = Vec::new(alloc);
-    let Some((outer, inner)) = boxes.split_first() else {
-        return Ok(runs);
-    };
-    for found in inner {
-        if found.depth <= outer.depth {
-            return Ok(runs);
+    for found in boxes {
+        if found.depth < 2 {
+            break;
         }
-        if found.depth - outer.depth == 1 && is_of(found, TRUN) {
-            let run = read_part(alloc, tree, found, "trun", moof)?;
-            keep(&mut runs, run)?;
+        if found.depth == 2 && found.has_code(FourCC::from(TRUN)) {
+            runs.push(*found)?;
         }
     }
     Ok(runs)
 }
 
-/// Reads the boxes of a `traf`, the first of these, in a `moof` at a position.
-pub fn read_fragment<S: Source>(
+/// Returns the track_ID of a `traf` that is no fragment, if its header can be read. The boxes of the file from `first`
+/// on begin with those inside it.
+fn track_of<S: Source>(
     alloc: Global,
-    tree: &mut BoxWalk<S>,
-    boxes: &[TreeBox],
-    moof: u64,
-) -> Result<FragmentBoxes, Stop>
-    ensures kept { tree.new ≡ tree.old }
-{
-    Ok(FragmentBoxes {
-        header: read_header(alloc, tree, boxes, moof)?,
-        time: read_time(alloc, tree, boxes, moof)?,
-        runs: read_runs(alloc, tree, boxes, moof)?,
-    })
-}
-
-impl FragmentBoxes {
-    /// The fragment, with what its samples take from around it.
-    pub fn fragment<'a>(
-        &'a self,
-        defaults: &'a TrexBox,
-        place: Place,
-        time_end: u64,
-    ) -> Result<Fragment<'a>, Stop> {
-        let data_end = match place.data_end {
-            Some(end) => end,
-            None if needs_end(&self.header) => {
-                return Err(Stop::Faulty(Fault::NoBase(place.moof)));
-            }
-            None => place.moof,
-        };
-        Ok(Fragment {
-            trex: defaults,
-            tfhd: &self.header,
-            tfdt: self.time.as_ref(),
-            runs: self.runs.as_slice(),
-            moof: place.moof,
-            data_end,
-            time_end,
-        })
-    }
-}
-
-/// Where the data of a `traf` end; none if that can't be told.
-pub fn data_end_of<S: Source>(
-    alloc: Global,
-    tree: &mut BoxWalk<S>,
-    boxes: &[TreeBox],
-    defaults: Option<&TrexBox>,
-    place: Place,
-) -> Result<Option<u64>, Failure> {
-    let Some(defaults) = defaults else {
+    movie: &mut Movie<S>,
+    first: usize,
+) -> Result<Option<u32>, Failure> {
+    let Some(found) = header_in(boxes_after(movie.boxes(), first)) else {
         return Ok(None);
     };
-    let read = match read_fragment(
-        alloc,
-        tree,
-        &boxes[place.index.min(boxes.len())..],
-        place.moof,
-    ) {
-        Ok(read) => read,
-        Err(Stop::Failed(failure)) => return Err(failure),
-        Err(Stop::Faulty(_)) => return Ok(None),
-    };
-    match read.fragment(defaults, place, 0) {
-        Ok(fragment) => Ok(fragment.end()),
-        Err(Stop::Failed(failure)) => Err(failure),
-        Err(Stop::Faulty(_)) => Ok(None),
+    match or_read(movie.read::<TfhdBox>(alloc, &found))? {
+        Ok(header) => Ok(Some(header.track_id)),
+        Err(_) => Ok(None),
     }
+}
+
+/// Returns the number of samples that `runs` count, or 2^64 - 1 if they count more. A run with a fault counts none.
+fn count_runs<S: Source>(
+    alloc: Global,
+    movie: &mut Movie<S>,
+    runs: &[TreeBox],
+) -> Result<u64, Failure> {
+    let mut samples: u64 = 0;
+    for found in runs {
+        if let Ok(run) = or_read(movie.read::<TrunBox>(alloc, found))? {
+            samples = samples.saturating_add(u64::from(run.sample_count));
+        }
+    }
+    Ok(samples)
+}
+
+/// Returns the number of samples that the runs of a `traf` count, or 0 if `error` is a fault of a box in it.
+fn samples_of<S: Source>(
+    alloc: Global,
+    movie: &mut Movie<S>,
+    first: usize,
+    error: &BoxError,
+) -> Result<u64, Failure> {
+    if matches!(error, BoxError::Fault { .. }) {
+        return Ok(0);
+    }
+    let runs = runs_in(alloc, boxes_after(movie.boxes(), first))?;
+    count_runs(alloc, movie, &runs)
+}
+
+/// Adds `traf` to those of its track.
+fn keep_traf(
+    alloc: Global,
+    track: u32,
+    traf: TrackTraf,
+    fragments: &mut Fragments,
+) -> Result<(), AllocError> {
+    let trafs = fragments.entry(track)?.or_insert(Vec::new(alloc));
+    trafs.push(traf)?;
+    Ok(())
+}
+
+/// Adds a `traf` that is no fragment, because of `error`, to those of its track. If its track is unknown, stores the
+/// fault.
+fn keep_error<S: Source>(
+    alloc: Global,
+    movie: &mut Movie<S>,
+    first: usize,
+    moof: u64,
+    error: BoxError,
+    fragments: &mut Fragments,
+    faults: &mut Vec<TrackFault>,
+) -> Result<(), Failure> {
+    let Some(track) = track_of(alloc, movie, first)? else {
+        let fault = TrackFault {
+            track: None,
+            fault: Fault::Header(moof, error),
+        };
+        keep(faults, fault)?;
+        return Ok(());
+    };
+    let samples = samples_of(alloc, movie, first, &error)?;
+    let traf = TrackTraf {
+        samples,
+        fragment: Err(error),
+    };
+    keep_traf(alloc, track, traf, fragments)?;
+    Ok(())
+}
+
+/// Adds a `traf` to those of its track. The boxes of the file at `first` and after it begin with those inside it.
+fn enter_traf<S: Source>(
+    alloc: Global,
+    movie: &mut Movie<S>,
+    first: usize,
+    moof: u64,
+    fragment: Result<TrackFragment, BoxError>,
+    fragments: &mut Fragments,
+    faults: &mut Vec<TrackFault>,
+) -> Result<(), Failure> {
+    match fragment {
+        Ok(fragment) => {
+            let track = fragment.header.track_id;
+            let traf = TrackTraf {
+                samples: samples_in(&fragment.runs),
+                fragment: Ok(fragment),
+            };
+            keep_traf(alloc, track, traf, fragments)?;
+            Ok(())
+        }
+        Err(error) => keep_error(alloc, movie, first, moof, error, fragments, faults),
+    }
+}
+
+/// Returns the fragments of `movie` by track_ID, and stores a fault for each `traf` whose track is unknown.
+pub fn fragments_of<S: Source>(
+    alloc: Global,
+    movie: &mut Movie<S>,
+    faults: &mut Vec<TrackFault>,
+) -> Result<Fragments, Failure> {
+    let mut fragments = BTreeMap::new(alloc);
+    let trafs = trafs_in(alloc, movie.boxes())?;
+    let mut number: usize = 0;
+    for moof in moofs_of(alloc, movie)? {
+        let MoofFragments {
+            position,
+            fragments: items,
+        } = moof;
+        for fragment in items {
+            let first = trafs.get(number).copied().unwrap_or(usize::MAX);
+            number = number.saturating_add(1);
+            enter_traf(
+                alloc,
+                movie,
+                first,
+                position,
+                fragment,
+                &mut fragments,
+                faults,
+            )?;
+        }
+    }
+    Ok(fragments)
 }

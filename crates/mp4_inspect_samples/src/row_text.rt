@@ -2,6 +2,7 @@
 
 ghost use Rattle.std.specs.Prelude.{◌≡◌, ◌++◌, replicate, min, string_bytes, OnOk};
 ghost use Rattle.mp4_inspect_samples.specs.RowText.{padded, column, signed_column, wide_column, wide_signed_column};
+ghost use Rattle.mp4_inspect_samples.specs.RowText.{track_column};
 ghost use Rattle.mp4_inspect_samples.specs.RowText.{sync_number, csv_place, csv_time, csv_kind, csv_text, json_place};
 ghost use Rattle.mp4_inspect_samples.specs.RowText.{json_time, json_shown, json_front, json_duration, json_sync};
 ghost use Rattle.mp4_inspect_samples.specs.RowText.{json_entry, json_kind, json_text, plain_place, plain_time};
@@ -10,7 +11,7 @@ ghost use Rattle.mp4_inspect_samples.specs.RowText.{plain_kind, plain_text, row_
 use crate::row::Row;
 use std::alloc::AllocError;
 
-/// How rows are written.
+/// The form of rows.
 #[derive(Clone, Copy, Debug, PartialEq, Eq)]
 pub enum Form {
     /// Aligned columns, with a heading for each track.
@@ -32,6 +33,26 @@ fn push_number(before: &str, number: u64, out: &mut String) -> Result<(), AllocE
     Ok(())
 }
 
+/// Appends a track_ID after `before`, or `unknown` if there is none.
+#[tactic(auto, unfolding(crate::specs::RowText::track_column))]
+fn push_track(
+    before: &str,
+    track: Option<u32>,
+    unknown: &str,
+    out: &mut String,
+) -> Result<(), AllocError>
+    ensures { OnOk result
+        (string_bytes out.new ≡ string_bytes out.old ++ track_column before.now unknown.now track) }
+{
+    match track {
+        Some(track) => push_number(before, u64::from(track), out),
+        None => {
+            out.push_str(before)?;
+            out.push_str(unknown)
+        }
+    }
+}
+
 /// Appends a number that may be negative after some text.
 #[tactic(auto, unfolding(crate::specs::RowText::signed_column))]
 fn push_signed(before: &str, number: i128, out: &mut String) -> Result<(), AllocError>
@@ -43,7 +64,7 @@ fn push_signed(before: &str, number: i128, out: &mut String) -> Result<(), Alloc
     Ok(())
 }
 
-/// Spaces: so many, and 16 at most.
+/// Returns `count` spaces, at most 16.
 fn spaces(count: usize) -> &'static str
     ensures { result.now ≡ replicate (min count 16) 32 }
 {
@@ -101,7 +122,7 @@ fn push_wide_signed(
     push_padded(before, width, buffer.format(number), out)
 }
 
-/// 1 for a sync sample, and else 0.
+/// Returns 1 for a sync sample, or 0 for another.
 fn sync_number(is_sync: bool) -> u64
     ensures { result ≡ sync_number is_sync }
 {
@@ -113,7 +134,7 @@ fn sync_number(is_sync: bool) -> u64
 fn push_csv_place(row: &Row, out: &mut String) -> Result<(), AllocError>
     ensures { OnOk result (string_bytes out.new ≡ string_bytes out.old ++ csv_place row.now) }
 {
-    push_number("", u64::from(row.track), out)?;
+    push_track("", row.track, "", out)?;
     push_number(",", row.number, out)?;
     push_number(",", row.offset, out)
 }
@@ -154,7 +175,7 @@ fn push_csv(row: &Row, out: &mut String) -> Result<(), AllocError>
 fn push_json_place(row: &Row, out: &mut String) -> Result<(), AllocError>
     ensures { OnOk result (string_bytes out.new ≡ string_bytes out.old ++ json_place row.now) }
 {
-    push_number("{\"track\": ", u64::from(row.track), out)?;
+    push_track("{\"track\": ", row.track, "null", out)?;
     push_number(", \"number\": ", row.number, out)?;
     push_number(", \"offset\": ", row.offset, out)
 }

@@ -17,24 +17,24 @@ use mp4_samples::{Fragment, FragmentFault, Sample, SampleTables};
 use std::alloc::Global;
 use std::io::Write;
 
-/// How rows are written, and what is known of those before.
+/// The form of the rows, and the state after those that are written.
 #[derive(Drop)]
-pub struct Sheet {
-    /// How rows are written.
+pub struct RowWriter {
+    /// The form of the rows.
     pub form: Form,
-    /// Whether a row or a heading was written before.
+    /// True if a row or a heading was written before.
     pub follows: bool,
     /// The text of the last row or heading.
     pub text: String,
 }
 
-impl Sheet {
-    /// A sheet on which nothing was written.
-    pub fn new(alloc: Global, form: Form) -> Sheet
+impl RowWriter {
+    /// Returns a sheet on which nothing was written.
+    pub fn new(alloc: Global, form: Form) -> RowWriter
         ensures form { result.form ≡ form }
         ensures none { result.follows ≡ false }
     {
-        Sheet {
+        RowWriter {
             form,
             follows: false,
             text: String::new(alloc),
@@ -43,7 +43,11 @@ impl Sheet {
 }
 
 /// Writes a row.
-fn write_row<W: Write>(row: &Row, sheet: &mut Sheet, output: &mut Output<W>) -> Result<(), Failure>
+fn write_row<W: Write>(
+    row: &Row,
+    sheet: &mut RowWriter,
+    output: &mut Output<W>,
+) -> Result<(), Failure>
     ensures row { OnOk result
         (Appends (W.contents output.old.inner) (W.contents output.new.inner)
         (row_text sheet.old.form sheet.old.follows row.now)) }
@@ -75,9 +79,9 @@ pub struct RowsEnd {
 /// Writes a row for each sample of the tables of a track, up to the first that isn't listed.
 pub fn write_rows<W: Write>(
     tables: &SampleTables<'_>,
-    track: u32,
+    track: Option<u32>,
     limit: Limit,
-    sheet: &mut Sheet,
+    sheet: &mut RowWriter,
     output: &mut Output<W>,
 ) -> Result<RowsEnd, Failure>
     ensures rows { IfOk result (λ end.
@@ -121,18 +125,18 @@ pub fn write_rows<W: Write>(
     Err(Failure::Memory)
 }
 
-/// How the rows of a fragment end.
+/// The end of the rows of a fragment.
 #[derive(Clone, Copy, Debug, PartialEq, Eq)]
 pub struct FragmentEnd {
     /// The number of the last sample of the track that is written.
     pub count: u64,
-    /// When it ends, in the timescale of the media.
+    /// The time at which it ends, in the timescale of the media.
     pub time: u64,
     /// The number of samples without bytes in a row up to it, counted up to `MOST_EMPTY`.
     pub empty: u32,
     /// The next sample, if it isn't listed.
     pub unlisted: Option<Sample>,
-    /// Why the next one can't be told, if there is one.
+    /// The fault of the next sample, if it has one.
     pub fault: Option<FragmentFault>,
 }
 
@@ -141,11 +145,11 @@ pub struct FragmentEnd {
 /// memory.
 pub fn write_fragment_rows<W: Write>(
     fragment: &Fragment<'_>,
-    track: u32,
+    track: Option<u32>,
     limit: Limit,
     before: u64,
     empty_before: u32,
-    sheet: &mut Sheet,
+    sheet: &mut RowWriter,
     output: &mut Output<W>,
 ) -> Result<FragmentEnd, Failure>
     ensures rows { IfOk result

@@ -1,153 +1,72 @@
 //! Writing the samples of a file.
 
-ghost use Rattle.std.specs.Prelude.{◌≡◌, false, IfOk, IfSome};
-ghost use Rattle.mp4_io.specs.Ends.{is_write};
-ghost use Rattle.mp4_walk.specs.Walk.{left};
+ghost use Rattle.std.specs.Prelude.{◌≡◌, IfOk};
+ghost use Rattle.mp4_inspect_samples.specs.Tracks.{WritesTrackFragment};
 
-use crate::fault::{Fault, TrackFault};
-use crate::fragments::{FragmentBoxes, Place, read_fragment};
-use crate::heading::{write_end, write_front, write_heading};
-use crate::limit::{Limit, Unlisted, samples_in, unlisted_of};
-use crate::movie::{Movie, movie_of};
-use crate::places::{Places, places_of};
+use crate::defaults::keep_trex_faults;
+use crate::fault::{Fault, TrackFault, TrackName};
+use crate::fragments::{Fragments, TrackTraf, fragments_of};
+use crate::heading::{Heading, write_end, write_front, write_heading};
+use crate::limit::{Limit, samples_in, unlisted_of};
+use crate::reached::{Reached, no_rows};
 use crate::row_text::Form;
-use crate::rows::{Sheet, write_fragment_rows, write_rows};
-use crate::stop::{Stop, keep, or_read};
-use crate::tables::{TrackTables, read_tables};
-use mp4_flat::TrexBox;
-use mp4_frame::u32_at;
+use crate::rows::{RowWriter, write_fragment_rows};
+use crate::tables::{tables_of, write_tables};
+use crate::track_stop::{TrackStop, keep, or_read};
+use mp4_frame::FourCC;
+use mp4_frame::codes::{MOOF, MOOV, TRAK};
 use mp4_io::{Failure, Output};
-use mp4_samples::SampleTables;
-use mp4_walk::{BoxWalk, Source, TreeBox};
-use std::alloc::Global;
+use mp4_movie::{BoxError, Movie, TrackFragment, TrackInfo, first_in};
+use mp4_walk::{Source, TreeBox};
+use std::alloc::{AllocError, Global};
+use std::collections::BTreeMap;
 use std::io::Write;
 
-/// Which samples are written, and how.
+/// The samples that are written, and their form.
 #[derive(Clone, Copy, Debug, PartialEq, Eq)]
 pub struct Choice {
-    /// How rows are written.
+    /// The form of rows.
     pub form: Form,
-    /// The number of the track whose samples are written; those of all tracks if none.
+    /// The track_ID of the track whose samples are written, or `None` for all tracks.
     pub track: Option<u32>,
     /// Asks for all samples, past the end of the file too.
     pub beyond: bool,
 }
 
-impl Choice {
-    /// Whether the samples of a track are written.
-    fn has(self, track: u32) -> bool {
-        match self.track {
-            Some(one) => one == track,
-            None => true,
-        }
+/// The tracks of a file that are still to be written.
+#[derive(Drop)]
+struct Ahead {
+    /// The fragments of the tracks that were not met.
+    fragments: Fragments,
+    /// The track_IDs of the tracks that were met.
+    known: BTreeMap<u32, ()>,
+}
+
+impl Ahead {
+    /// Stores that a track with the track_ID `track` was met. Returns whether it is the first.
+    fn meet(&mut self, track: u32) -> Result<bool, AllocError> {
+        let is_first = !self.known.contains_key(&track);
+        self.known.insert(track, ())?;
+        Ok(is_first)
     }
 }
 
-/// What has been written of a track.
-#[derive(Clone, Copy, Debug, PartialEq, Eq)]
-struct Reached {
-    /// How many samples.
-    count: u64,
-    /// When the last one ends, in the timescale of the media.
-    time: u64,
-    /// The number of samples without bytes in a row up to it, counted up to `MOST_EMPTY`.
-    empty: u32,
-    /// The first sample that isn't listed, if there is one.
-    unlisted: Option<Unlisted>,
-}
-
-/// The boxes that are left of a walk, in order.
-fn boxes_left<S: Source>(alloc: Global, tree: &mut BoxWalk<S>) -> Result<Vec<TreeBox>, Failure>
-    ensures boxes { IfSome tree.old.bytes (λ bytes. IfOk result (λ boxes. boxes.items ≡ left bytes tree.old)) }
-    ensures bytes { tree.new.bytes ≡ tree.old.bytes }
-    ensures not_write { is_write result ≡ false }
-{
-    let mut boxes = Vec::new(alloc);
-    while let Some(found) = or_read(tree.next())? {
-        if boxes.push(found).is_err() {
-            return Err(Failure::Memory);
-        }
-    }
-    Ok(boxes)
-}
-
-/// The number of a track in the content of its header, if that has all of its fields: it is after times of 4 bytes, or
-/// of 8 in version 1 (ISO/IEC 14496-12, 8.3.2).
-fn number_in(content: &[u8]) -> Option<u32> {
-    match content.first() {
-        Some(0) if content.len() >= 84 => Some(u32_at(content, 12)),
-        Some(1) if content.len() >= 96 => Some(u32_at(content, 20)),
-        _ => None,
-    }
-}
-
-/// The number of a track, if its header can be read.
-fn number_of<S: Source>(
-    alloc: Global,
-    tree: &mut BoxWalk<S>,
-    places: &Places,
-) -> Result<Option<u32>, Failure> {
-    match places.header {
-        Some(found) if found.is_whole() => {
-            let content = or_read(tree.read_content(alloc, &found))?;
-            Ok(number_in(&content))
-        }
-        _ => Ok(None),
-    }
-}
-
-/// When the last sample of the tables ends; 0 if there is none.
-fn end_time(tables: &SampleTables<'_>) -> u64 {
-    let count = tables.len();
-    if count == 0 {
-        return 0;
-    }
-    match tables.sample(count - 1) {
-        Some(sample) => sample.start_time.saturating_add(u64::from(sample.duration)),
-        None => 0,
-    }
-}
-
-/// Writes the samples of the tables of a track, after its heading, up to the first that isn't listed.
-fn write_tables<S: Source, W: Write>(
-    alloc: Global,
-    tree: &mut BoxWalk<S>,
-    places: &Places,
-    track: u32,
-    limit: Limit,
-    read: &TrackTables,
-    sheet: &mut Sheet,
-    output: &mut Output<W>,
-) -> Result<Reached, Stop> {
-    let tables = match SampleTables::new(read.tables()) {
-        Ok(tables) => tables,
-        Err(disagreement) => return Err(Stop::Faulty(Fault::Tables(disagreement))),
-    };
-    write_heading(alloc, tree, places, track, sheet, output)?;
-    let end = write_rows(&tables, track, limit, sheet, output)?;
-    let counted = u64::from(tables.len());
-    Ok(Reached {
-        count: end.count,
-        time: end_time(&tables),
-        empty: end.empty,
-        unlisted: unlisted_of(limit, end.count, counted, end.unlisted),
-    })
-}
-
-/// Writes the samples of a fragment, up to the first that isn't listed. Returns what has been written of the track.
+/// Writes the samples of a fragment, up to the first that isn't listed. `reached` has the rows of the track before it.
 fn write_fragment<W: Write>(
-    read: &FragmentBoxes,
-    defaults: &TrexBox,
-    place: Place,
-    track: u32,
+    fragment: &TrackFragment,
+    track: Option<u32>,
     limit: Limit,
     reached: Reached,
-    sheet: &mut Sheet,
+    sheet: &mut RowWriter,
     output: &mut Output<W>,
-) -> Result<Reached, Stop> {
-    let fragment = read.fragment(defaults, place, reached.time)?;
+) -> Result<Reached, TrackStop>
+    ensures writes { IfOk result
+        (WritesTrackFragment fragment.now limit sheet.old.form track reached sheet.old.follows sheet.new.follows
+        (W.contents output.old.inner) (W.contents output.new.inner)) }
+    ensures form { sheet.new.form ≡ sheet.old.form }
+{
     let end = write_fragment_rows(
-        &fragment,
+        &fragment.fragment(reached.time),
         track,
         limit,
         reached.count,
@@ -155,248 +74,243 @@ fn write_fragment<W: Write>(
         sheet,
         output,
     )?;
-    if let Some(fault) = end.fault {
-        return Err(Stop::Faulty(Fault::Fragment(place.moof, fault)));
-    }
-    let counted = reached.count.saturating_add(samples_in(&read.runs));
-    Ok(Reached {
-        count: end.count,
-        time: end.time,
-        empty: end.empty,
-        unlisted: unlisted_of(limit, end.count, counted, end.unlisted),
-    })
-}
-
-/// The boxes from an index on.
-fn boxes_from(boxes: &[TreeBox], index: usize) -> &[TreeBox] {
-    &boxes[index.min(boxes.len())..]
-}
-
-/// Returns how many samples the runs of a `traf` count, the first of `boxes`; 0 if its boxes can't be read.
-fn count_fragment<S: Source>(
-    alloc: Global,
-    tree: &mut BoxWalk<S>,
-    boxes: &[TreeBox],
-    moof: u64,
-) -> Result<u64, Failure> {
-    match read_fragment(alloc, tree, boxes, moof) {
-        Ok(read) => Ok(samples_in(&read.runs)),
-        Err(Stop::Failed(failure)) => Err(failure),
-        Err(Stop::Faulty(_)) => Ok(0),
+    match end.fault {
+        Some(fault) => Err(TrackStop::Faulty(Fault::Fragment(fragment.moof, fault))),
+        None => {
+            let counted = reached.count.saturating_add(samples_in(&fragment.runs));
+            Ok(Reached {
+                count: end.count,
+                time: end.time,
+                empty: end.empty,
+                unlisted: unlisted_of(limit, end.count, counted, end.unlisted),
+            })
+        }
     }
 }
 
-/// Writes the samples of the fragments of a track, up to the first that has a fault or isn't listed. It counts those
-/// after it.
-fn write_fragments<S: Source, W: Write>(
-    alloc: Global,
-    tree: &mut BoxWalk<S>,
-    boxes: &[TreeBox],
-    movie: &Movie,
-    track: u32,
+/// Writes the samples of the fragments of a track, up to the first that has a fault or isn't listed. Counts those after
+/// it.
+fn write_fragments<W: Write>(
+    trafs: Vec<TrackTraf>,
+    track: Option<u32>,
     limit: Limit,
     reached: Reached,
-    sheet: &mut Sheet,
+    sheet: &mut RowWriter,
     output: &mut Output<W>,
-) -> Result<Reached, Stop> {
+) -> Result<Reached, TrackStop> {
     let mut reached = reached;
-    let Some(places) = movie.fragments.get(&track) else {
-        return Ok(reached);
-    };
-    for place in places {
-        let own = boxes_from(boxes, place.index);
+    for traf in trafs {
+        let TrackTraf { samples, fragment } = traf;
         if let Some(unlisted) = reached.unlisted {
-            let more = count_fragment(alloc, tree, own, place.moof)?;
-            reached.unlisted = Some(unlisted.and_more(more));
+            reached.unlisted = Some(unlisted.and_more(samples));
             continue;
         }
-        let Some(defaults) = movie.defaults.get(&track) else {
-            return Err(Stop::Faulty(Fault::Missing("trex")));
-        };
-        let read = read_fragment(alloc, tree, own, place.moof)?;
-        reached = write_fragment(
-            &read, defaults, *place, track, limit, reached, sheet, output,
-        )?;
+        match fragment {
+            Ok(fragment) => {
+                reached = write_fragment(&fragment, track, limit, reached, sheet, output)?;
+            }
+            Err(error) => return Err(TrackStop::Faulty(Fault::Box(error))),
+        }
     }
     Ok(reached)
 }
 
-/// Writes the samples of a track, up to the first that isn't listed: those of its tables, and then those of its
-/// fragments.
+/// Writes the samples of track `number`, up to the first that isn't listed: those of its tables, and then those of its
+/// fragments `trafs`.
 fn write_track<S: Source, W: Write>(
     alloc: Global,
-    tree: &mut BoxWalk<S>,
-    boxes: &[TreeBox],
-    movie: &Movie,
-    places: &Places,
-    track: u32,
+    movie: &mut Movie<S>,
+    number: usize,
+    heading: Heading,
+    trafs: Vec<TrackTraf>,
     limit: Limit,
-    sheet: &mut Sheet,
+    sheet: &mut RowWriter,
     output: &mut Output<W>,
-) -> Result<(), Stop> {
-    let reached = match read_tables(alloc, tree, places)? {
-        Some(read) => write_tables(alloc, tree, places, track, limit, &read, sheet, output)?,
+) -> Result<(), TrackStop> {
+    let reached = match tables_of(alloc, movie, number)? {
+        Some(tables) => write_tables(&tables, heading, limit, sheet, output)?,
         None => {
-            write_heading(alloc, tree, places, track, sheet, output)?;
-            Reached {
-                count: 0,
-                time: 0,
-                empty: 0,
-                unlisted: None,
-            }
+            write_heading(heading, sheet, output)?;
+            no_rows()
         }
     };
-    let reached = write_fragments(
-        alloc, tree, boxes, movie, track, limit, reached, sheet, output,
-    )?;
+    let reached = write_fragments(trafs, heading.name.id(), limit, reached, sheet, output)?;
     match reached.unlisted {
-        Some(unlisted) => Err(Stop::Faulty(Fault::Unlisted(unlisted))),
+        Some(unlisted) => Err(TrackStop::Faulty(Fault::Unlisted(unlisted))),
         None => Ok(()),
     }
 }
 
-/// Keeps a fault of a track, or of the file.
-fn keep_one(fault: Fault, track: Option<u32>, faults: &mut Vec<TrackFault>) -> Result<(), Failure> {
+/// Stores a fault.
+fn keep_one(
+    fault: Fault,
+    track: Option<TrackName>,
+    faults: &mut Vec<TrackFault>,
+) -> Result<(), Failure> {
     keep(faults, TrackFault { track, fault })?;
     Ok(())
 }
 
-/// Keeps the fault of a track, if it has one.
-fn keep_fault(
-    outcome: Result<(), Stop>,
-    track: Option<u32>,
-    faults: &mut Vec<TrackFault>,
-) -> Result<(), Failure> {
-    match outcome {
-        Ok(()) => Ok(()),
-        Err(Stop::Failed(failure)) => Err(failure),
-        Err(Stop::Faulty(fault)) => keep_one(fault, track, faults),
+/// Stores the fault that there is no track with the track_ID `track`.
+fn keep_missing(track: u32, faults: &mut Vec<TrackFault>) -> Result<(), Failure> {
+    let fault = Fault::Box(BoxError::Missing {
+        code: FourCC::from(TRAK),
+    });
+    keep_one(fault, Some(TrackName::Id(track)), faults)
+}
+
+/// Returns the fragments of a track with the track_ID `track` that is met, or `None` if its samples are not written. If
+/// several tracks have this track_ID, the first has the fragments, and it is the one that can be chosen.
+fn enter_id(
+    alloc: Global,
+    track: u32,
+    choice: Choice,
+    ahead: &mut Ahead,
+) -> Result<Option<Vec<TrackTraf>>, Failure> {
+    let is_first = ahead.meet(track)?;
+    let trafs = match ahead.fragments.remove(&track) {
+        Some(trafs) => trafs,
+        None => Vec::new(alloc),
+    };
+    match choice.track {
+        Some(one) if one != track || !is_first => Ok(None),
+        _ => Ok(Some(trafs)),
     }
 }
 
-/// Writes the samples of a track, the `trak` of this index, if they are chosen, and keeps its fault.
+/// Returns the name and the fragments of a track that is met, or `None` if its samples are not written. If its track_ID
+/// can't be read, it has no fragments, and the fault is stored.
+fn enter_name(
+    alloc: Global,
+    position: u64,
+    track_id: Result<u32, BoxError>,
+    choice: Choice,
+    ahead: &mut Ahead,
+    faults: &mut Vec<TrackFault>,
+) -> Result<Option<(TrackName, Vec<TrackTraf>)>, Failure> {
+    match track_id {
+        Ok(track) => match enter_id(alloc, track, choice, ahead)? {
+            Some(trafs) => Ok(Some((TrackName::Id(track), trafs))),
+            None => Ok(None),
+        },
+        Err(error) => {
+            let name = TrackName::At(position);
+            keep_one(Fault::Box(error), Some(name), faults)?;
+            if choice.track.is_some() {
+                return Ok(None);
+            }
+            Ok(Some((name, Vec::new(alloc))))
+        }
+    }
+}
+
+/// Writes the samples of a track, if they are chosen, and stores its fault.
 fn enter_track<S: Source, W: Write>(
     alloc: Global,
-    tree: &mut BoxWalk<S>,
-    boxes: &[TreeBox],
-    index: usize,
-    movie: &mut Movie,
+    movie: &mut Movie<S>,
+    info: TrackInfo,
     choice: Choice,
-    sheet: &mut Sheet,
+    limit: Limit,
+    ahead: &mut Ahead,
+    sheet: &mut RowWriter,
     output: &mut Output<W>,
     faults: &mut Vec<TrackFault>,
 ) -> Result<(), Failure> {
-    let own = boxes_from(boxes, index);
-    let places = places_of(own);
-    let Some(track) = number_of(alloc, tree, &places)? else {
-        let position = own.first().map_or(0, |found| found.position);
-        return keep_one(Fault::NoHeader(position), None, faults);
+    let TrackInfo {
+        number,
+        position,
+        track_id,
+        timescale,
+        handler,
+    } = info;
+    let Some((name, trafs)) = enter_name(alloc, position, track_id, choice, ahead, faults)? else {
+        return Ok(());
     };
-    if choice.has(track) {
-        let limit = Limit {
-            length: tree.length(),
-            beyond: choice.beyond,
-        };
-        let outcome = write_track(
-            alloc, tree, boxes, movie, &places, track, limit, sheet, output,
-        );
-        keep_fault(outcome, Some(track), faults)?;
+    let heading = Heading {
+        name,
+        handler: handler.ok(),
+        timescale: timescale.ok(),
+    };
+    match write_track(alloc, movie, number, heading, trafs, limit, sheet, output) {
+        Ok(()) => Ok(()),
+        Err(TrackStop::Failed(failure)) => Err(failure),
+        Err(TrackStop::Faulty(fault)) => keep_one(fault, Some(name), faults),
     }
-    movie.leave(track)?;
-    Ok(())
 }
 
-/// Keeps the faults of fragments whose track is in no `moov`.
-fn keep_left(movie: &Movie, choice: Choice, faults: &mut Vec<TrackFault>) -> Result<(), Failure> {
-    for (track, _) in &movie.fragments {
-        if choice.has(*track) {
-            keep_one(Fault::Missing("trak"), Some(*track), faults)?;
-        }
-    }
-    Ok(())
-}
-
-/// Keeps the fault of a chosen track that the file doesn't have.
-fn keep_chosen(
-    movie: &Movie,
-    track: Option<u32>,
+/// Stores the faults of fragments whose track is not in the `moov`, and of a chosen track that the file doesn't have.
+fn keep_unknown(
+    ahead: &Ahead,
+    choice: Choice,
     faults: &mut Vec<TrackFault>,
 ) -> Result<(), Failure> {
-    match track {
-        Some(track) if !movie.known.contains_key(&track) && !movie.fragments.contains_key(&track) =>
-            { keep_one(Fault::Missing("trak"), Some(track), faults) }
+    for (track, _) in &ahead.fragments {
+        if choice.track.is_none() || choice.track == Some(*track) {
+            keep_missing(*track, faults)?;
+        }
+    }
+    match choice.track {
+        Some(track) if !ahead.known.contains_key(&track) && !ahead.fragments.contains_key(&track) =>
+            { keep_missing(track, faults) }
         _ => Ok(()),
     }
 }
 
-/// Keeps the faults of fragments whose track is in no `moov`, of a chosen track that the file doesn't have, and of a
-/// file that is no movie.
-fn keep_unknown(
-    movie: &Movie,
-    choice: Choice,
-    faults: &mut Vec<TrackFault>,
-) -> Result<(), Failure> {
-    keep_left(movie, choice, faults)?;
-    keep_chosen(movie, choice.track, faults)?;
-    if movie.is_movie {
-        return Ok(());
-    }
-    keep_one(Fault::NoMovie, None, faults)
+/// Returns whether a file with the boxes `boxes` has a `moov` or a `moof`.
+fn is_movie(boxes: &[TreeBox]) -> bool {
+    first_in(boxes, 0, FourCC::from(MOOV)).is_some()
+        || first_in(boxes, 0, FourCC::from(MOOF)).is_some()
 }
 
-/// Writes the samples of the tracks, one after the other.
+/// Writes the samples of the tracks `tracks`, one after the other.
 fn write_tracks<S: Source, W: Write>(
     alloc: Global,
-    tree: &mut BoxWalk<S>,
-    boxes: &[TreeBox],
-    movie: &mut Movie,
+    movie: &mut Movie<S>,
+    tracks: Vec<TrackInfo>,
+    fragments: Fragments,
     choice: Choice,
-    sheet: &mut Sheet,
+    limit: Limit,
     output: &mut Output<W>,
     faults: &mut Vec<TrackFault>,
 ) -> Result<(), Failure> {
-    for place in 0..movie.tracks.len() {
-        let Some(index) = movie.tracks.get(place) else {
-            break;
-        };
-        let index = *index;
+    let mut ahead = Ahead {
+        fragments,
+        known: BTreeMap::new(alloc),
+    };
+    let mut sheet = RowWriter::new(alloc, choice.form);
+    for info in tracks {
         enter_track(
-            alloc, tree, boxes, index, movie, choice, sheet, output, faults,
+            alloc, movie, info, choice, limit, &mut ahead, &mut sheet, output, faults,
         )?;
     }
-    keep_unknown(movie, choice, faults)
+    keep_unknown(&ahead, choice, faults)
 }
 
-/// Writes what comes in front of the rows, these, and what comes after them.
-fn write_sheet<S: Source, W: Write>(
-    alloc: Global,
-    tree: &mut BoxWalk<S>,
-    boxes: &[TreeBox],
-    movie: &mut Movie,
-    choice: Choice,
-    output: &mut Output<W>,
-    faults: &mut Vec<TrackFault>,
-) -> Result<(), Failure> {
-    write_front(choice.form, output)?;
-    let mut sheet = Sheet::new(alloc, choice.form);
-    write_tracks(
-        alloc, tree, boxes, movie, choice, &mut sheet, output, faults,
-    )?;
-    write_end(choice.form, output)
-}
-
-/// Writes the samples of a file: a row for each, those of one track after the other, and of a track first those of its
-/// tables and then those of its fragments. The rows of a track end before the first sample that isn't listed. Faults of
-/// tracks are kept, and the samples of the other tracks are written.
+/// Writes the samples of a file, a row for each. The rows of one track follow those of another. In a track the rows of
+/// its tables come first, then those of its fragments. The rows of a track end before the first sample that isn't
+/// listed. Stores the faults of tracks, and writes the samples of the other tracks. Needs memory for the boxes of the
+/// file and for the runs of all fragments.
 pub fn write_samples<S: Source, W: Write>(
     alloc: Global,
-    source: S,
+    mut source: S,
     choice: Choice,
     output: &mut Output<W>,
     faults: &mut Vec<TrackFault>,
 ) -> Result<(), Failure> {
-    let mut tree = or_read(BoxWalk::new(alloc, source))?;
-    let boxes = boxes_left(alloc, &mut tree)?;
-    let mut movie = movie_of(alloc, &mut tree, &boxes, faults)?;
-    write_sheet(alloc, &mut tree, &boxes, &mut movie, choice, output, faults)
+    let limit = Limit {
+        length: or_read(source.length())?,
+        beyond: choice.beyond,
+    };
+    let mut movie = or_read(Movie::open(alloc, source))?;
+    keep_trex_faults(alloc, &mut movie, faults)?;
+    let fragments = fragments_of(alloc, &mut movie, faults)?;
+    let tracks = or_read(movie.tracks(alloc))?;
+    write_front(choice.form, output)?;
+    write_tracks(
+        alloc, &mut movie, tracks, fragments, choice, limit, output, faults,
+    )?;
+    if !is_movie(movie.boxes()) {
+        keep_one(Fault::NoMovie, None, faults)?;
+    }
+    write_end(choice.form, output)
 }

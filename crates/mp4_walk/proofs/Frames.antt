@@ -14,7 +14,8 @@ use Rattle.mp4_frame.specs.declared.frame.Frame.{Frame}
 use Rattle.mp4_frame.proofs.Heads.{head_room}
 use Rattle.mp4_walk.specs.Found.{code_at, found_as, unread, found_of_head, found_of, found_at, content_begin}
 use Rattle.mp4_walk.specs.Found.{end_within}
-use Rattle.mp4_walk.specs.Kinds.{fields_before, level_after}
+use Rattle.mp4_walk.specs.Fronts.{front_of, fields_in, level_after}
+use Rattle.mp4_walk.specs.declared.fronts.Front.{Front}
 use Rattle.mp4_walk.specs.Tops.{is_whole}
 use Rattle.mp4_walk.specs.FileBoxes.{if_whole, passed, step_by, step_of_code, step_of_what, step}
 use Rattle.mp4_walk.specs.Peek.{peek}
@@ -65,9 +66,10 @@ if_whole_same whole e states.NoHeader = refl
 
 module _ (l : Level) (o : ℕ) (x : TreeBox) (here : IsAt l o x) where
   -- an item that is not entered, with any state
-  passed_is : (w : BoxState) (after : Level) → is_whole w ≡ is_whole x.state → after.depth ≡ l.depth → after.end ≡ l.end
-      → IsStepOf l o x (passed l (record x { state = w }) after)
-  passed_is w after whole depth ends =
+  passed_is : (f : Option Front) (w : BoxState) (after : Level) → is_whole w ≡ is_whole x.state
+      → after.depth ≡ l.depth → after.end ≡ l.end
+      → IsStepOf l o x (passed l (record x { front = f; state = w }) after)
+  passed_is f w after whole depth ends =
       record {
         depth = here.depth;
         position = here.position;
@@ -79,10 +81,11 @@ module _ (l : Level) (o : ℕ) (x : TreeBox) (here : IsAt l o x) where
         leads = refl;
       }
 
-  step_by_is : (code : ℕ) (after : Level) → after.depth ≡ l.depth → after.end ≡ l.end → is_read x.state ≡ true
-      → (r : Option ℕ) → IsStepOf l o x (step_by l x code after r)
-  step_by_is code after depth ends read None = passed_is x.state after refl depth ends
-  step_by_is code after depth ends read (Some n) =
+  step_by_is : (f : Option Front) (code : ℕ) (w : Peek) (after : Level) → after.depth ≡ l.depth → after.end ≡ l.end
+      → is_read x.state ≡ true
+      → (r : Option ℕ) → IsStepOf l o x (step_by l (record x { front = f }) code w after r)
+  step_by_is f code w after depth ends read None = passed_is f x.state after refl depth ends
+  step_by_is f code w after depth ends read (Some n) =
       cond_both (nat_lt l.depth constants.DEEPEST) _ _ (IsStepOf l o x)
       (λ _. record {
         depth = here.depth;
@@ -94,18 +97,19 @@ module _ (l : Level) (o : ℕ) (x : TreeBox) (here : IsAt l o x) where
         level_end = ends;
         leads = (refl, refl, omega arith, read);
       })
-      (λ _. passed_is (if_whole states.TooDeep x.state) after (if_whole_same states.TooDeep refl x.state) depth ends)
+      (λ _. passed_is f (if_whole states.TooDeep x.state) after (if_whole_same states.TooDeep refl x.state) depth ends)
 
   step_of_code_is : (w : Peek) → is_read x.state ≡ true → (code : Option FourCC)
       → IsStepOf l o x (step_of_code l x w code)
-  step_of_code_is w read None = passed_is x.state l refl refl refl
+  step_of_code_is w read None = passed_is x.front x.state l refl refl refl
   step_of_code_is w read (Some code) =
-      step_by_is (number_of code) (level_after l (number_of code) w) refl refl read
-      (fields_before l.context (number_of code) w (end_within l x - content_begin x))
+      let front = front_of l.context (number_of code) w in
+      step_by_is front (number_of code) w (level_after l (number_of code) w) refl refl read
+      (fields_in (end_within l x - content_begin x) front)
 
   pub step_of_what_is : (w : Peek) (why : BoxState) → x.state ≡ why → IsStepOf l o x (step_of_what l x w why)
-  step_of_what_is w states.Small e = passed_is x.state l refl refl refl
-  step_of_what_is w states.NoHeader e = passed_is x.state l refl refl refl
+  step_of_what_is w states.Small e = passed_is x.front x.state l refl refl refl
+  step_of_what_is w states.NoHeader e = passed_is x.front x.state l refl refl refl
   step_of_what_is w states.Leaf e = step_of_code_is w (ap is_read e) x.code
   step_of_what_is w states.Parent e = step_of_code_is w (ap is_read e) x.code
   step_of_what_is w states.TooDeep e = step_of_code_is w (ap is_read e) x.code

@@ -14,9 +14,10 @@ use Rattle.mp4_frame.specs.declared.four_cc.FourCC.{FourCC}
 use Rattle.mp4_frame.specs.declared.frame.Frame.{Frame}
 use Rattle.mp4_frame.proofs.Heads.{head_room, of_both_forms}
 use Rattle.mp4_walk.specs.Found.{code_at, found_of_head, found_of, found_at, content_begin, end_within}
-use Rattle.mp4_walk.specs.Kinds.{if_room, fields_of, level_after}
+use Rattle.mp4_walk.specs.Fronts.{length_of, front_of, fields_in, level_after}
+use Rattle.mp4_walk.specs.declared.fronts.Front.{Front}
 use Rattle.mp4_walk.specs.FileBoxes.{GoesDeeper, GoesOn, StaysIn, passed, step_by, step_of_code, step_of_what, step_of}
-use Rattle.mp4_walk.specs.FileBoxes.{step, boxes_after, boxes_by, boxes_at_most, boxes_in}
+use Rattle.mp4_walk.specs.FileBoxes.{if_whole, step, boxes_after, boxes_by, boxes_at_most, boxes_in}
 use Rattle.mp4_walk.specs.Peek.{peek}
 use Rattle.mp4_walk.specs.declared.level.Level.{Level}
 use Rattle.mp4_walk.specs.declared.step.Step.{Step}
@@ -31,36 +32,39 @@ abbrev pub IsAfter : Level → ℕ → TreeBox → Type 0
 IsAfter l o x = (x.position ≡ o) × (0 < x.header_length) × (content_begin x ≤ end_within l x)
     × (content_begin x < end_within l x → x.header_length ≤ 16)
 
-has_room : (room : ℕ) (r : Option ℕ) → IfSome (if_room room r) (λ n. n ≤ room)
+has_room : (room : ℕ) (r : Option Front) → IfSome (fields_in room r) (λ n. n ≤ room)
 has_room room None = tt
-has_room room (Some n) =
+has_room room (Some f) =
+    let n = length_of f in
     cond_both (nat_lt room n) None (Some n) (λ (s : Option ℕ). IfSome s (λ n. n ≤ room)) (λ _. tt)
     (λ e. ltb-false room n e)
 
 module _ (l : Level) (o : ℕ) (x : TreeBox) (here : x.position ≡ o) (some : 0 < x.header_length)
     (on : content_begin x ≤ end_within l x) where
-  passed_goes_on : (after : Level) → after.end ≡ l.end → GoesOn l o (passed l x after)
-  passed_goes_on after ends = (omega (arith, here, some, on), omega arith, ends)
+  passed_goes_on : (f : Option Front) (w : BoxState) (after : Level) → after.end ≡ l.end
+      → GoesOn l o (passed l (record x { front = f; state = w }) after)
+  passed_goes_on f w after ends = (omega (arith, here, some, on), omega arith, ends)
 
-  step_by_goes_on : (code : ℕ) (after : Level) → after.end ≡ l.end → (r : Option ℕ)
-      → IfSome r (λ n. n ≤ end_within l x - content_begin x) → GoesOn l o (step_by l x code after r)
-  step_by_goes_on code after ends None h = passed_goes_on after ends
-  step_by_goes_on code after ends (Some n) h =
+  step_by_goes_on : (f : Option Front) (code : ℕ) (w : Peek) (after : Level) → after.end ≡ l.end → (r : Option ℕ)
+      → IfSome r (λ n. n ≤ end_within l x - content_begin x)
+      → GoesOn l o (step_by l (record x { front = f }) code w after r)
+  step_by_goes_on f code w after ends None h = passed_goes_on f x.state after ends
+  step_by_goes_on f code w after ends (Some n) h =
       cond_both (nat_lt l.depth constants.DEEPEST) _ _ (GoesOn l o)
       (λ _. (omega (arith, here, some), (omega (arith, on, h), omega arith), ends))
-      (λ _. passed_goes_on after ends)
+      (λ _. passed_goes_on f (if_whole states.TooDeep x.state) after ends)
 
   step_of_code_goes_on : (w : Peek) (code : Option FourCC) → GoesOn l o (step_of_code l x w code)
-  step_of_code_goes_on w None = passed_goes_on l refl
+  step_of_code_goes_on w None = passed_goes_on x.front x.state l refl
   step_of_code_goes_on w (Some code) =
       let room = end_within l x - content_begin x in
-      step_by_goes_on (number_of code) (level_after l (number_of code) w) refl
-      (if_room room (fields_of l.context (number_of code) w room))
-      (has_room room (fields_of l.context (number_of code) w room))
+      let front = front_of l.context (number_of code) w in
+      step_by_goes_on front (number_of code) w (level_after l (number_of code) w) refl (fields_in room front)
+      (has_room room front)
 
   step_of_what_goes_on : (w : Peek) (why : BoxState) → GoesOn l o (step_of_what l x w why)
-  step_of_what_goes_on w states.Small = passed_goes_on l refl
-  step_of_what_goes_on w states.NoHeader = passed_goes_on l refl
+  step_of_what_goes_on w states.Small = passed_goes_on x.front x.state l refl
+  step_of_what_goes_on w states.NoHeader = passed_goes_on x.front x.state l refl
   step_of_what_goes_on w states.Leaf = step_of_code_goes_on w x.code
   step_of_what_goes_on w states.Parent = step_of_code_goes_on w x.code
   step_of_what_goes_on w states.TooDeep = step_of_code_goes_on w x.code
@@ -74,18 +78,18 @@ module _ (l : Level) (o : ℕ) (x : TreeBox) (here : x.position ≡ o) (some : 0
 abbrev IsDeep : Level → Step → Type 0
 IsDeep l s = (s.level.depth ≡ l.depth) × GoesDeeper l s.inner
 
-step_by_deep : (l : Level) (x : TreeBox) (code : ℕ) (after : Level) → after.depth ≡ l.depth → (r : Option ℕ)
-    → IsDeep l (step_by l x code after r)
-step_by_deep l x code after is None = (is, tt)
-step_by_deep l x code after is (Some n) =
+step_by_deep : (l : Level) (x : TreeBox) (code : ℕ) (w : Peek) (after : Level) → after.depth ≡ l.depth
+    → (r : Option ℕ) → IsDeep l (step_by l x code w after r)
+step_by_deep l x code w after is None = (is, tt)
+step_by_deep l x code w after is (Some n) =
     cond_both (nat_lt l.depth constants.DEEPEST) _ _ (IsDeep l) (λ e. (is, (refl, ltb-true _ _ e))) (λ _. (is, tt))
 
 step_of_code_deep : (l : Level) (x : TreeBox) (w : Peek) (code : Option FourCC) → IsDeep l (step_of_code l x w code)
 step_of_code_deep l x w None = (refl, tt)
 step_of_code_deep l x w (Some code) =
-    let room = end_within l x - content_begin x in
-    step_by_deep l x (number_of code) (level_after l (number_of code) w) refl
-    (if_room room (fields_of l.context (number_of code) w room))
+    let front = front_of l.context (number_of code) w in
+    step_by_deep l (record x { front = front }) (number_of code) w (level_after l (number_of code) w) refl
+    (fields_in (end_within l x - content_begin x) front)
 
 step_of_what_deep : (l : Level) (x : TreeBox) (w : Peek) (why : BoxState) → IsDeep l (step_of_what l x w why)
 step_of_what_deep l x w states.Small = (refl, tt)

@@ -169,23 +169,25 @@ module _ (B W : List ℕ) (l : Level) (o : ℕ) (window : IsWindow B o W) (withi
   same_words : (header end : ℕ) → header ≤ 16 → o ≤ end → end ≤ l.end
       → peek W header (end - o) ≡ peek B (o + header) end
   same_words header end near on most =
+      let long : end - o - header ≡ end - (o + header) = omega arith in
       let a = same_number end header (o + header) 4 refl (omega arith) on most in
-      let b = same_number end (header + 4) (o + header + 4) 4 (omega arith) (omega arith) on most in
+      let b = same_number end header (o + header) 1 refl (omega arith) on most in
       let c = same_number end (header + 8) (o + header + 8) 4 (omega arith) (omega arith) on most in
       let d = same_number end (header + 8) (o + header + 8) 2 (omega arith) (omega arith) on most in
-      rw (a, b, c, d) refl
+      rw (long, a, b, c, d) refl
 
 none_by : (bytes : List ℕ) (end o w : ℕ) → end < o + w → number_or_zero bytes end o w ≡ 0
 none_by bytes end o w h = let t : nat_lt end (o + w) ≡ true = lt-ltb _ _ h in rw t refl
 
 no_words : (bytes : List ℕ) (content end : ℕ) → end ≤ content
-    → peek bytes content end ≡ record { brand = 0; first_code = 0; handler = 0; version = 0 }
+    → peek bytes content end ≡ record { length = 0; first = 0; version = 0; handler = 0; entry_version = 0 }
 no_words bytes content end h =
+    let none : end - content ≡ 0 = omega arith in
     let a = none_by bytes end content 4 (omega arith) in
-    let b = none_by bytes end (content + 4) 4 (omega arith) in
+    let b = none_by bytes end content 1 (omega arith) in
     let c = none_by bytes end (content + 8) 4 (omega arith) in
     let d = none_by bytes end (content + 8) 2 (omega arith) in
-    rw (a, b, c, d) refl
+    rw (none, a, b, c, d) refl
 
 -- the step by the window equals the step by the bytes
 pub step_window : (B W V : List ℕ) (l : Level) (o : ℕ) (x : TreeBox) (w : Peek) (s : Step) → V ≡ W → IsWindow B o W

@@ -1,13 +1,13 @@
 -- The boxes of a file in order: each box, then the boxes inside it.
 --
 -- A level is a sequence of boxes: the top level of the file, or the content of a box.
-use Rattle.std.specs.Prelude.{◌≡◌, ℕ, zero, suc, ◌+◌, ◌-◌, ◌<◌, ◌≤◌, nat_lt, nat_le, false, List, [], ◌∷◌, ◌++◌, length}
+use Rattle.std.specs.Prelude.{◌≡◌, ℕ, zero, suc, ◌+◌, ◌-◌, ◌<◌, ◌≤◌, nat_lt, nat_le, List, [], ◌∷◌, ◌++◌, length}
 use Rattle.std.specs.Prelude.{None, Some, if◌then◌else◌}
 use Rattle.std.specs.declared.option.Option.{Option}
 use Rattle.mp4_frame.specs.FourCC.{number_of}
 use Rattle.mp4_frame.specs.declared.four_cc.FourCC.{FourCC}
 use Rattle.mp4_walk.specs.Found.{found_at, content_begin, end_within}
-use Rattle.mp4_walk.specs.Kinds.{fields_before, level_after}
+use Rattle.mp4_walk.specs.Fronts.{front_of, fields_in, context_in, level_after}
 use Rattle.mp4_walk.specs.Peek.{peek}
 use Rattle.mp4_walk.specs.declared.level.Level.{Level}
 use Rattle.mp4_walk.specs.declared.step.Step.{Step}
@@ -23,39 +23,36 @@ if_whole why states.Leaf = why
 if_whole why other = other
 
 -- the content of a box with this code that ends at `end`
-abbrev pub level_in : Level → ℕ → ℕ → Level
-level_in l code end =
-    record {
-      depth = l.depth + 1;
-      end = end;
-      context = record { parent = code; handler = l.context.handler; is_quicktime = l.context.is_quicktime };
-    }
+abbrev pub level_in : Level → ℕ → Peek → ℕ → Level
+level_in l code w end = record { depth = l.depth + 1; end = end; context = context_in l.context code w }
 
 -- the step over an item that is not entered
 abbrev pub passed : Level → TreeBox → Level → Step
 passed l x after = record { found = x; level = after; inner = None; at = end_within l x }
 
 -- the step into a box whose children start after n bytes of fields
-abbrev pub entered : Level → TreeBox → ℕ → ℕ → Level → Step
-entered l x code n after =
+abbrev pub entered : Level → TreeBox → ℕ → Peek → ℕ → Level → Step
+entered l x code w n after =
     let children = content_begin x + n in
     record {
       found = record x { children = Some children; state = if_whole states.Parent x.state };
       level = after;
-      inner = Some (level_in l code (end_within l x));
+      inner = Some (level_in l code w (end_within l x));
       at = children;
     }
 
-abbrev pub step_by : Level → TreeBox → ℕ → Level → Option ℕ → Step
-step_by l x code after None = passed l x after
-step_by l x code after (Some n) =
-    if nat_lt l.depth constants.DEEPEST then entered l x code n after else
+abbrev pub step_by : Level → TreeBox → ℕ → Peek → Level → Option ℕ → Step
+step_by l x code w after None = passed l x after
+step_by l x code w after (Some n) =
+    if nat_lt l.depth constants.DEEPEST then entered l x code w n after else
     passed l (record x { state = if_whole states.TooDeep x.state }) after
 
 -- the step at a box with this code. The walk enters it if it holds boxes and its level is not too deep
 abbrev pub step_of_box : Level → TreeBox → ℕ → Peek → Step
 step_of_box l x code w =
-    step_by l x code (level_after l code w) (fields_before l.context code w (end_within l x - content_begin x))
+    let front = front_of l.context code w in
+    step_by l (record x { front = front }) code w (level_after l code w)
+    (fields_in (end_within l x - content_begin x) front)
 
 abbrev pub step_of_code : Level → TreeBox → Peek → Option FourCC → Step
 step_of_code l x w None = passed l x l
@@ -107,7 +104,7 @@ boxes_in B l o = boxes_at_most (l.end - o) B l o
 
 -- the top level of a file with this length
 abbrev pub top : ℕ → Level
-top len = record { depth = 0; end = len; context = record { parent = 0; handler = 0; is_quicktime = false } }
+top len = record { depth = 0; end = len; context = record { parent = 0; handler = 0; stsd_version = 0 } }
 
 -- the boxes of a file
 abbrev pub boxes_of : List ℕ → List TreeBox

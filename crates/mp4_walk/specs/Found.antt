@@ -26,6 +26,7 @@ found_as l o code header long why = record {
   position = o;
   header_length = header;
   length = long;
+  front = None;
   children = None;
   state = why;
   context = l.context;

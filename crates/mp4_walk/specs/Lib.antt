@@ -1,5 +1,5 @@
 pub mod Found
-pub mod Kinds
+pub mod Fronts
 pub mod Paths
 pub mod Places
 pub mod Search

@@ -1,12 +1,13 @@
 //! A walk over the boxes of a file, one at a time.
 
-ghost use Rattle.std.specs.Prelude.{◌≡◌, ◌<◌, ◌≤◌, ◌∷◌, [], true, false, reverse, IfOk, OnOk, OnErr, IfSome};
+ghost use Rattle.std.specs.Prelude.{◌≡◌, ◌<◌, ◌≤◌, ◌∷◌, [], true, false, reverse, IfOk, OnOk, OnErr, IfSome, Some};
 ghost use Rattle.mp4_walk.specs.Source.{piece, content_of};
 ghost use Rattle.mp4_walk.specs.FileBoxes.{boxes_of};
 ghost use Rattle.mp4_walk.specs.Walk.{left, bytes_left, Comes, Closes, with_inner};
 
 use crate::level::Level;
 use crate::pages::Pages;
+use crate::rest::rest_of;
 use crate::source::Source;
 use crate::step::{Step, step_at};
 use crate::tree_box::TreeBox;
@@ -79,7 +80,7 @@ impl<S: Source> BoxWalk<S> {
             context: WalkContext {
                 parent: 0,
                 handler: 0,
-                is_quicktime: false,
+                stsd_version: 0,
             },
         };
         Ok(BoxWalk {
@@ -95,6 +96,13 @@ impl<S: Source> BoxWalk<S> {
         ensures { result ≡ self.now.length }
     {
         self.pages.length()
+    }
+
+    /// Returns all bytes of the source if they are in memory.
+    pub fn in_memory(&self) -> Option<&[u8]>
+        ensures bytes { IfSome result (λ bytes. self.now.bytes ≡ Some bytes.now) }
+    {
+        self.pages.in_memory()
     }
 
     /// Returns the source.
@@ -149,5 +157,14 @@ impl<S: Source> BoxWalk<S> {
         go_on(&mut self.level, &mut self.around, step)?;
         self.at = step.at;
         Ok(Some(step.found))
+    }
+
+    /// Returns the remaining boxes in order. Needs 64 bytes of memory per box.
+    pub fn rest(&mut self, alloc: Global) -> io::Result<Vec<TreeBox>>
+        ensures boxes { IfSome self.old.bytes (λ B. IfOk result (λ boxes. boxes.items ≡ left B self.old)) }
+        ensures bytes { self.new.bytes ≡ self.old.bytes }
+        ensures length { self.new.length ≡ self.old.length }
+    {
+        rest_of(alloc, self)
     }
 }

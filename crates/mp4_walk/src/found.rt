@@ -19,7 +19,7 @@ fn code_at(window: &[u8]) -> Option<FourCC>
     Some(FourCC::from(u32_at(window, 4)))
 }
 
-/// Makes the box at position `at` of `level` from the other parameters. It has no `children` yet.
+/// Makes the box at position `at` of `level` from the other parameters. It has no `front` and no `children` yet.
 fn found_as(
     level: Level,
     at: u64,
@@ -36,6 +36,7 @@ fn found_as(
         position: at,
         header_length,
         length,
+        front: None,
         children: None,
         state,
         context: level.context,

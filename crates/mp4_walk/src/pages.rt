@@ -1,6 +1,6 @@
 //! A source that is read one page at a time.
 
-ghost use Rattle.std.specs.Prelude.{◌≡◌, ◌+◌, ◌≤◌, [], length, vec_len, IfOk, OnOk, OnErr, IfSome};
+ghost use Rattle.std.specs.Prelude.{◌≡◌, ◌+◌, ◌≤◌, [], length, vec_len, IfOk, OnOk, OnErr, IfSome, Some};
 ghost use Rattle.mp4_walk.specs.Source.{IsWindow, IsPage, piece};
 
 use crate::content::read_piece;
@@ -94,6 +94,13 @@ impl<S: Source> Pages<S> {
         ensures { result ≡ self.now.length }
     {
         self.length
+    }
+
+    /// Returns all bytes of the source if they are in memory.
+    pub fn in_memory(&self) -> Option<&[u8]>
+        ensures bytes { IfSome result (λ bytes. self.now.bytes ≡ Some bytes.now) }
+    {
+        self.source.in_memory()
     }
 
     /// Returns the source.

@@ -1,13 +1,11 @@
 //! The progress of a search for the box at a path.
 
 ghost use Rattle.std.specs.Prelude.{◌≡◌, ◌∷◌, List};
-ghost use Rattle.mp4_walk.specs.Paths.{is_code};
 ghost use Rattle.mp4_walk.specs.Search.{sought, sought_after};
 ghost use Rattle.mp4_walk.specs.declared.tree_box.TreeBox.{TreeBox};
 
 use crate::path::PathPart;
 use crate::tree_box::TreeBox;
-use mp4_frame::FourCC;
 
 /// The progress of a search that has not ended.
 #[derive(Clone, Copy, Debug, PartialEq, Eq)]
@@ -29,16 +27,6 @@ pub enum SearchStep {
     On(Search),
 }
 
-/// Returns whether `found` is present and equals `code`.
-fn is_code(code: FourCC, found: Option<FourCC>) -> bool
-    ensures { result ≡ is_code code found }
-{
-    match found {
-        None => false,
-        Some(found) => u32::from(found) == u32::from(code),
-    }
-}
-
 /// Returns the effect of the next box, `found`, on `search`.
 pub fn meet(path: &[PathPart], search: Search, found: TreeBox) -> SearchStep
     ensures { (xs : List TreeBox) → sought_after path.now result found xs ≡ sought path.now search (found ∷ xs) }
@@ -51,7 +39,7 @@ pub fn meet(path: &[PathPart], search: Search, found: TreeBox) -> SearchStep
     if found.depth < depth {
         return SearchStep::Nowhere;
     }
-    if found.depth > depth || !is_code(part.code, found.code) {
+    if found.depth > depth || !found.has_code(part.code) {
         return SearchStep::On(search);
     }
     if before < part.index {

@@ -22,6 +22,13 @@ pub trait Source: Drop {
     fn read_at(&mut self, at: u64, buffer: &mut [u8]) -> io::Result<()>
         ensures bytes { OnOk result (IfSome (all self.old) (λ B. IsWindow B at buffer.new)) }
         ensures keeps { all self.new ≡ all self.old };
+
+    /// Returns all bytes of the source if they are in memory, so that callers can read them without a copy.
+    fn in_memory(&self) -> Option<&[u8]>
+        ensures bytes { IfSome result (λ bytes. all self.now ≡ Some bytes.now) }
+    {
+        None
+    }
 }
 
 /// A file of the operating system. No clause says which bytes it has, since other programs may write to it.
@@ -52,6 +59,10 @@ impl Source for &[u8] {
         let mut rest = &all[at as usize..];
         rest.read_exact(buffer)
     }
+
+    fn in_memory(&self) -> Option<&[u8]> {
+        Some(*self)
+    }
 }
 
 /// A borrowed source.
@@ -64,5 +75,9 @@ impl<S: Source> Source for &mut S {
 
     fn read_at(&mut self, at: u64, buffer: &mut [u8]) -> io::Result<()> {
         S::read_at(*self, at, buffer)
+    }
+
+    fn in_memory(&self) -> Option<&[u8]> {
+        S::in_memory(*self)
     }
 }

@@ -7,13 +7,12 @@ ghost use Rattle.mp4_walk.specs.FileBoxes.{if_whole, level_in, passed, entered, 
 ghost use Rattle.mp4_walk.specs.FileBoxes.{GoesDeeper, GoesOn};
 
 use crate::found::{end_within, found_at};
-use crate::kinds::{fields_before, level_after};
+use crate::fronts::{context_in, fields_in, front_of, level_after};
 use crate::level::Level;
 use crate::pages::Pages;
 use crate::peek::{Peek, peek_at};
 use crate::source::Source;
 use crate::tree_box::{BoxState, TreeBox};
-use crate::walk_context::WalkContext;
 use std::io;
 
 /// The largest depth of a box. The walk does not enter a box at this depth.
@@ -42,18 +41,15 @@ fn if_whole(whole: BoxState, state: BoxState) -> BoxState
     }
 }
 
-/// Returns the level of the content of a box in `level`. The box has this `code`, and its content ends at `end`.
-fn level_in(level: Level, code: u32, end: u64) -> Level
+/// Returns the level of the content of a box in `level`. The box has this `code` and `peek`, and ends at `end`.
+fn level_in(level: Level, code: u32, peek: Peek, end: u64) -> Level
     requires { level.depth < 32 }
-    ensures { result ≡ level_in level code end }
+    ensures { result ≡ level_in level code peek end }
 {
     Level {
         depth: level.depth + 1,
         end,
-        context: WalkContext {
-            parent: code,
-            ..level.context
-        },
+        context: context_in(level.context, code, peek),
     }
 }
 
@@ -69,11 +65,12 @@ fn passed(level: Level, found: TreeBox, after: Level) -> Step
     }
 }
 
-/// Returns the step into the box `found` with this `code`. `fields` is the number of bytes before its first child.
-fn entered(level: Level, found: TreeBox, code: u32, fields: u64, after: Level) -> Step
+/// Returns the step into the box `found` with this `code` and `peek`. `fields` is the number of bytes before its first
+/// child.
+fn entered(level: Level, found: TreeBox, code: u32, peek: Peek, fields: u64, after: Level) -> Step
     requires fields { content_begin found + fields ≤ end_within level found }
     requires depth { level.depth < 32 }
-    ensures { result ≡ entered level found code fields after }
+    ensures { result ≡ entered level found code peek fields after }
 {
     let children = found.position + found.header_length + fields;
     Step {
@@ -83,7 +80,7 @@ fn entered(level: Level, found: TreeBox, code: u32, fields: u64, after: Level) -
             ..found
         },
         level: after,
-        inner: Some(level_in(level, code, end_within(level, found))),
+        inner: Some(level_in(level, code, peek, end_within(level, found))),
         at: children,
     }
 }
@@ -95,9 +92,13 @@ fn step_of_box(level: Level, found: TreeBox, code: u32, peek: Peek) -> Step
 {
     let after = level_after(level, code, peek);
     let available = end_within(level, found) - (found.position + found.header_length);
-    match fields_before(level.context, code, peek, available) {
+    let front = front_of(level.context, code, peek);
+    let found = TreeBox { front, ..found };
+    match fields_in(front, available) {
         None => passed(level, found, after),
-        Some(fields) if level.depth < DEEPEST => entered(level, found, code, fields, after),
+        Some(fields) if level.depth < DEEPEST => {
+            entered(level, found, code, peek, fields, after)
+        }
         Some(_) => {
             let state = if_whole(BoxState::TooDeep, found.state);
             passed(level, TreeBox { state, ..found }, after)

@@ -2,6 +2,7 @@
 
 ghost use Rattle.std.specs.Prelude.{◌≡◌, ◌+◌, ◌-◌, ◌^◌, min};
 
+use crate::fronts::Front;
 use crate::walk_context::WalkContext;
 use mp4_frame::FourCC;
 
@@ -37,6 +38,8 @@ pub struct TreeBox {
     /// The length of the box by its header, even if the file ends before it. If no box can be read, the length of the
     /// rest of the parent's content.
     pub length: u64,
+    /// The fields before the first box inside, if the box is known to hold boxes. It may be too short for them.
+    pub front: Option<Front>,
     /// The position of the first box inside, if the walk enters the box. It visits the boxes inside next.
     pub children: Option<u64>,
     /// The state of the bytes there.
@@ -46,7 +49,19 @@ pub struct TreeBox {
 }
 
 impl TreeBox {
+    ghost use Rattle.mp4_walk.specs.Fronts.{is_quicktime_sound};
+    ghost use Rattle.mp4_walk.specs.Paths.{is_code};
     ghost use Rattle.mp4_walk.specs.Tops.{is_whole};
+
+    /// Returns whether the box has the code `code`. A box whose header is cut has none.
+    pub fn has_code(&self, code: FourCC) -> bool
+        ensures { result ≡ is_code code self.now.code }
+    {
+        match self.code {
+            None => false,
+            Some(found) => u32::from(found) == u32::from(code),
+        }
+    }
 
     /// Returns the position at which the content starts, but at most 2^64 - 1.
     pub fn content_position(&self) -> u64
@@ -60,6 +75,16 @@ impl TreeBox {
         ensures { result ≡ self.now.length - self.now.header_length }
     {
         self.length.saturating_sub(self.header_length)
+    }
+
+    /// Returns whether the box has the fields of a sound entry that only QuickTime has.
+    pub fn is_quicktime_sound(&self) -> bool
+        ensures { result ≡ is_quicktime_sound self.now.front }
+    {
+        matches!(
+            self.front,
+            Some(Front::QuickTimeSound1 | Front::QuickTimeSound2)
+        )
     }
 
     /// Returns whether the whole box is present.

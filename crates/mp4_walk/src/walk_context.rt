@@ -8,6 +8,6 @@ pub struct WalkContext {
     /// The handler of the enclosing media, from the `hdlr` in its `mdia` (ISO/IEC 14496-12, 8.4.3); 0 before the
     /// `hdlr`.
     pub handler: u32,
-    /// True if the file is a QuickTime movie, by the major brand of an `ftyp` before the box (4.3).
-    pub is_quicktime: bool,
+    /// The version of the enclosing box if it is an `stsd` (8.5.2), else 0.
+    pub stsd_version: u8,
 }

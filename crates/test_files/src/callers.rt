@@ -1,10 +1,10 @@
-//! Callers of `mp4_samples`. The crate's CALLING.md and docs/SAMPLES.md quote them.
+//! Callers of `mp4_samples` and `mp4_movie`. The crate's CALLING.md and docs/SAMPLES.md quote them.
 
 ghost use Rattle.std.specs.Prelude.{OnOk};
 ghost use Rattle.mp4_samples.specs.Samples.{AreConsistent};
 
+use mp4_movie::Movie;
 use mp4_samples::{Disagreement, Sample, SampleIndex, SampleTables, Tables};
-use mp4_track::track_of;
 use std::alloc::Global;
 
 /// Returns the total size of the sync samples in bytes, at most 2^64 - 1.
@@ -52,9 +52,22 @@ pub fn key_frame_in<'a>(
     key_frame_bytes(&index, file, time).ok()?
 }
 
-/// Returns the bytes of the key frame at `time` of the track with this `track_id`. Returns `None` where `key_frame_in`
-/// does, and if the track can't be read.
+/// Returns the bytes of the key frame at `time` of the first track with this `track_id`. Returns `None` where
+/// `key_frame_in` does, if there is no such track, and if the track has no sample tables that can be read.
 pub fn key_frame_of_file(alloc: Global, file: &[u8], track_id: u32, time: u64) -> Option<&[u8]> {
-    let track = track_of(alloc, file, track_id).ok()?;
-    key_frame_in(alloc, track.tables.tables(), file, time)
+    let mut movie = Movie::open(alloc, file).ok()?;
+    let number = movie.number_of(alloc, track_id).ok()??;
+    let boxes = movie.samples(alloc, number).ok()??;
+    key_frame_in(alloc, boxes.tables(), file, time)
+}
+
+/// Returns whether the first track of the file in memory has sample tables that agree.
+pub fn first_track_agrees(alloc: Global, file: &[u8]) -> bool {
+    let Ok(mut movie) = Movie::open(alloc, file) else {
+        return false;
+    };
+    match movie.samples(alloc, 0) {
+        Ok(Some(boxes)) => SampleTables::new(boxes.tables()).is_ok(),
+        _ => false,
+    }
 }

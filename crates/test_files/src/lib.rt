@@ -1,4 +1,4 @@
-//! For readers of `mp4_samples`: example callers. For maintainers: tests of `mp4_samples`, `mp4_track`, `mp4_walk` and
+//! For readers of `mp4_samples`: example callers. For maintainers: tests of `mp4_samples`, `mp4_movie`, `mp4_walk` and
 //! `mp4_faststart` with hand-written files, tables and fragments that follow ISO/IEC 14496-12.
 #![tactic(auto)]
 

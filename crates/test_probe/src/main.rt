@@ -25,12 +25,17 @@
 //! 12. The result of writing that list.
 //! 13. The result of `list_boxes` at the position, which lists the spans of the boxes.
 //! 14. The structure of the trees of 9. The text is empty after a fault.
+//!
+//! With an argument the bytes of each record of the input are a file, and it gives one record of the output: the text
+//! of its movie (`movie.rt`).
 #![tactic(auto)]
 
 mod declared;
+mod movie;
 mod structure;
 
 use crate::declared::{show_declared, show_trees};
+use crate::movie::show_movie;
 use mp4_extra::AllBoxes;
 use mp4_stream::{
     AnyBox, BoxHeader, BoxType, ByteCursor, EsdsBox, KeptBox, StreamBox, list_boxes, read_boxes_as,
@@ -38,8 +43,8 @@ use mp4_stream::{
 };
 use std::alloc::{AllocError, Global};
 use std::fmt::Debug;
-use std::io;
 use std::io::{Read, Write};
+use std::{env, io};
 
 /// Returns the position and the bytes of the first record in `input`, and the input after it. Returns `None` if the
 /// record isn't whole.
@@ -60,7 +65,7 @@ fn read_one<B: StreamBox>(alloc: Global, reader: &mut ByteCursor) -> mp4_stream:
 }
 
 /// Appends a record of `text` to `out`.
-fn push_bytes(text: &[u8], out: &mut Vec<u8>) -> Result<(), AllocError> {
+pub(crate) fn push_bytes(text: &[u8], out: &mut Vec<u8>) -> Result<(), AllocError> {
     out.extend_from_slice(&(text.len() as u64).to_be_bytes())?;
     out.extend_from_slice(text)
 }
@@ -183,7 +188,15 @@ fn show_all(
     push_bytes(&structure, out)
 }
 
+/// Returns whether the program has an argument.
+fn has_argument(rt: &HostRuntime) -> io::Result<bool> {
+    let mut words = env::args(rt)?;
+    let _program = words.next();
+    Ok(words.next().is_some())
+}
+
 fn main(rt: HostRuntime) -> io::Result<()> {
+    let are_movies = has_argument(&rt)?;
     let mut input = Vec::new(rt.alloc());
     rt.stdin().read_to_end(&mut input)?;
     let mut out = Vec::new(rt.alloc());
@@ -192,7 +205,11 @@ fn main(rt: HostRuntime) -> io::Result<()> {
         let Some((position, bytes, after)) = first_record(rest) else {
             break;
         };
-        show_all(rt.alloc(), position, bytes, &mut out)?;
+        if are_movies {
+            show_movie(rt.alloc(), bytes, &mut out)?;
+        } else {
+            show_all(rt.alloc(), position, bytes, &mut out)?;
+        }
         rest = after;
     }
     rt.stdout().write_all(&out)

@@ -1,10 +1,10 @@
 //! Tests of offsets at the ends of the parts that a moved `moov` exchanges. `tests/programs/test_faststart.py` compares
 //! whole files.
 
-use mp4_faststart::Cut;
+use mp4_faststart::Move;
 
 /// The move of the `moov` that begins at 31 and ends at 348 to offset 16.
-const CUT: Cut = Cut {
+const MOVE: Move = Move {
     insert: 16,
     begin: 31,
     end: 348,
@@ -12,10 +12,10 @@ const CUT: Cut = Cut {
 
 /// Returns whether the bytes between the new offset and the `moov` move behind it, and the bytes before and after stay.
 fn are_moved() -> bool {
-    CUT.moved(15) == Some(15)
-        && CUT.moved(16) == Some(333)
-        && CUT.moved(30) == Some(347)
-        && CUT.moved(348) == Some(348)
+    MOVE.moved(15) == Some(15)
+        && MOVE.moved(16) == Some(333)
+        && MOVE.moved(30) == Some(347)
+        && MOVE.moved(348) == Some(348)
 }
 
 #[test]
@@ -25,12 +25,12 @@ fn bytes_of_the_media_data_are_moved(rt: HostRuntime) {
 
 /// Returns whether bytes that end at the end of a part are kept together, and bytes that continue past it are not.
 fn are_kept_up_to_a_cut() -> bool {
-    CUT.keeps(10, 6) && !CUT.keeps(10, 7) && CUT.keeps(16, 15) && !CUT.keeps(16, 16)
+    MOVE.keeps(10, 6) && !MOVE.keeps(10, 7) && MOVE.keeps(16, 15) && !MOVE.keeps(16, 16)
 }
 
 /// Returns whether bytes of the `moov` are not kept, and bytes after it are.
 fn are_kept_after_the_movie() -> bool {
-    !CUT.keeps(347, 1) && CUT.keeps(348, 1)
+    !MOVE.keeps(347, 1) && MOVE.keeps(348, 1)
 }
 
 #[test]

@@ -2,8 +2,10 @@
 
 use super::boxes::Row;
 use super::fragments::are;
-use super::track::{Reason, missing, reason_of};
-use mp4_track::{TrackFragment, fragments_of};
+use super::track::{Reason, reason_of};
+use mp4_frame::FourCC;
+use mp4_movie::{BoxError, MoofFragments, Movie, TrackFragment};
+use mp4_samples::FragmentSamples;
 use std::alloc::Global;
 
 /// A file of fragments. The movie of 280 bytes has two tracks with only a header, and their defaults: a duration of 10
@@ -50,62 +52,120 @@ const TRACK_2: [&[Row]; 2] = [
     &[(560, 5, 21, 7, 0, false, 1, 1)],
 ];
 
-/// Returns whether `fragments` are two fragments with the samples `rows`. The first starts at time 0, unless it says
-/// otherwise.
-fn are_two(fragments: &[TrackFragment], rows: &[&[Row]; 2]) -> bool {
-    let [first, second] = fragments else {
-        return false;
+/// Returns the time at which the samples of the fragment with the index `number` end. Returns `None` if they are not
+/// `rows`. The samples of the track before it end at `time`.
+fn end_of(
+    fragments: &[Result<TrackFragment, BoxError>],
+    number: usize,
+    rows: &[Row],
+    time: u64,
+) -> Option<u64> {
+    let Some(Ok(fragment)) = fragments.get(number) else {
+        return None;
     };
-    let mut samples = first.fragment(0).samples();
-    let begin = are(&mut samples, rows[0]);
-    let mut after = second.fragment(samples.time()).samples();
-    begin && are(&mut after, rows[1])
-}
-
-/// Returns whether the track `track_id` of `file` has two fragments with the samples `rows`.
-fn gives(alloc: Global, file: &[u8], track_id: u32, rows: &[&[Row]; 2]) -> bool {
-    match fragments_of(alloc, file, track_id) {
-        Ok(fragments) => are_two(&fragments, rows),
-        Err(_) => false,
+    let mut samples: FragmentSamples<'_> = fragment.fragment(time).samples();
+    if are(&mut samples, rows) {
+        Some(samples.time())
+    } else {
+        None
     }
 }
 
-/// Returns the reason for which the fragments of the track `track_id` can't be read, if there is one.
-fn fault_of(alloc: Global, file: &[u8], track_id: u32) -> Option<Reason> {
-    match fragments_of(alloc, file, track_id) {
-        Ok(_) => None,
-        Err(fault) => Some(reason_of(&fault)),
+/// Returns whether the `traf` with the index `places[0]` in the first `moof`, and the one with the index `places[1]` in
+/// the second, are fragments with the samples `rows`. The first starts at time 0, unless it says otherwise.
+fn are_two(moofs: &[MoofFragments], places: [usize; 2], rows: &[&[Row]; 2]) -> bool {
+    let [first, second] = moofs else {
+        return false;
+    };
+    match end_of(&first.fragments, places[0], rows[0], 0) {
+        Some(time) => end_of(&second.fragments, places[1], rows[1], time).is_some(),
+        None => false,
+    }
+}
+
+/// Returns the fragments of `file`.
+fn fragments_of(alloc: Global, file: &[u8]) -> Option<Vec<MoofFragments>> {
+    let mut movie = Movie::open(alloc, file).ok()?;
+    movie.fragments(alloc).ok()
+}
+
+/// Returns whether `file` has the fragments with the samples `rows` at these places.
+fn gives(alloc: Global, file: &[u8], places: [usize; 2], rows: &[&[Row]; 2]) -> bool {
+    match fragments_of(alloc, file) {
+        Some(moofs) => moofs.len() == 2 && are_two(&moofs, places, rows),
+        None => false,
     }
 }
 
 #[test]
 fn fragments_of_the_first_track(rt: HostRuntime) {
-    assert!(rt; gives(rt.alloc(), &FILE, 1, &TRACK_1));
+    assert!(rt; gives(rt.alloc(), &FILE, [0, 1], &TRACK_1));
 }
 
 #[test]
 fn fragments_of_the_second_track(rt: HostRuntime) {
-    assert!(rt; gives(rt.alloc(), &FILE, 2, &TRACK_2));
+    assert!(rt; gives(rt.alloc(), &FILE, [1, 0], &TRACK_2));
 }
 
-/// Returns whether a track_ID that no track has, and a fragment without a movie, are reported.
-fn are_not_found(alloc: Global) -> bool {
-    fault_of(alloc, &FILE, 3) == Some(Reason::NoTrack(3))
-        && fault_of(alloc, &FILE[280..444], 1) == Some(Reason::NoMovie)
+/// Returns the reason for which a `traf` is no fragment, if there is one.
+fn reason_in(answer: &Result<TrackFragment, BoxError>) -> Option<Reason> {
+    match answer {
+        Ok(_) => None,
+        Err(fault) => Some(reason_of(fault)),
+    }
+}
+
+/// Returns whether `moof` has two `traf`s, which are no fragments for these reasons.
+fn has_reasons(moof: &MoofFragments, reasons: [Option<Reason>; 2]) -> bool {
+    match moof.fragments.as_slice() {
+        [first, second] => reason_in(first) == reasons[0] && reason_in(second) == reasons[1],
+        _ => false,
+    }
+}
+
+/// Returns whether `file` has two `moof`s, whose `traf`s are no fragments for these reasons.
+fn fail(alloc: Global, file: &[u8], reasons: [[Option<Reason>; 2]; 2]) -> bool {
+    match fragments_of(alloc, file) {
+        Some(moofs) => match moofs.as_slice() {
+            [first, second] => has_reasons(first, reasons[0]) && has_reasons(second, reasons[1]),
+            _ => false,
+        },
+        None => false,
+    }
+}
+
+/// Returns whether the fragments of the first `moof` of `FILE`, without its movie, have no defaults.
+fn are_without_movie(alloc: Global) -> bool {
+    match fragments_of(alloc, &FILE[280..444]) {
+        Some(moofs) => match moofs.as_slice() {
+            [moof] => has_reasons(
+                moof,
+                [Some(Reason::NoDefaults(1)), Some(Reason::NoDefaults(2))],
+            ),
+            _ => false,
+        },
+        None => false,
+    }
 }
 
 #[test]
-fn fragments_of_no_track(rt: HostRuntime) {
-    assert!(rt; are_not_found(rt.alloc()));
+fn fragments_without_a_movie(rt: HostRuntime) {
+    assert!(rt; are_without_movie(rt.alloc()));
 }
 
-/// Returns whether, in the file without defaults of track 2, these are reported as missing, and the data of track 1 in
+/// Returns whether, in the file without defaults of track 2, its fragments are reported, and the data of track 1 in
 /// the second `moof` as having no base.
 fn are_without_defaults(alloc: Global) -> bool {
     let mut file = FILE;
     file[263] = 9;
-    fault_of(alloc, &file, 2) == missing(b"trex")
-        && fault_of(alloc, &file, 1) == Some(Reason::NoBase(444))
+    fail(
+        alloc,
+        &file,
+        [
+            [None, Some(Reason::NoDefaults(2))],
+            [Some(Reason::NoDefaults(2)), Some(Reason::NoBase(444, 1))],
+        ],
+    )
 }
 
 /// The defaults of track 2 are changed into those of a track 9, so track 2 has none. In the second `moof` the data of
@@ -113,4 +173,45 @@ fn are_without_defaults(alloc: Global) -> bool {
 #[test]
 fn fragments_without_defaults(rt: HostRuntime) {
     assert!(rt; are_without_defaults(rt.alloc()));
+}
+
+/// Returns whether a `trun` with a list of durations that it has no bytes for is reported, and the fragments before and
+/// after it are found.
+fn are_around_a_fault(alloc: Global) -> bool {
+    let mut file = FILE;
+    file[406] = 1;
+    let reason = Some(Reason::Invalid(FourCC { value: *b"trun" }, 396));
+    fail(alloc, &file, [[None, reason], [None, None]]) && gives(alloc, &file, [0, 1], &TRACK_1)
+}
+
+/// The second `traf` of the first `moof` can't be read.
+#[test]
+fn fragments_around_a_fault(rt: HostRuntime) {
+    assert!(rt; are_around_a_fault(rt.alloc()));
+}
+
+/// The sample of track 2 in the second `moof` with the defaults of track 1, after samples that end at 30.
+const WITH_OTHER_DEFAULTS: &[Row] = &[(560, 4, 30, 10, 0, true, 1, 1)];
+
+/// Returns whether the first `trex` counts if both are of track 2.
+fn first_defaults_count(alloc: Global) -> bool {
+    let mut file = FILE;
+    file[231] = 2;
+    match fragments_of(alloc, &file) {
+        Some(moofs) => match moofs.as_slice() {
+            [first, second] => {
+                has_reasons(
+                    first,
+                    [Some(Reason::NoDefaults(1)), Some(Reason::NoBase(280, 2))],
+                ) && end_of(&second.fragments, 0, WITH_OTHER_DEFAULTS, 30).is_some()
+            }
+            _ => false,
+        },
+        None => false,
+    }
+}
+
+#[test]
+fn defaults_of_one_track_twice(rt: HostRuntime) {
+    assert!(rt; first_defaults_count(rt.alloc()));
 }

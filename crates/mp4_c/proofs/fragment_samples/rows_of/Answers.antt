@@ -1,7 +1,7 @@
 use Rattle.std.proofs.Common.{◌≡◌, ℕ, ◌+◌, ◌<◌, List, [], ◌∷◌, ◌++◌, length, drop, inl, inr, refl, sym, ap, ◌∙◌, subst}
 use Rattle.std.proofs.Common.{append_assoc, append-nil, arith, get_or}
 use Rattle.std.proofs.lemmas.List.{drop_all, drop_more}
-use Rattle.mp4_track.specs.declared.track_fragment.TrackFragment.{TrackFragment}
+use Rattle.mp4_movie.specs.declared.track_fragment.TrackFragment.{TrackFragment}
 use Rattle.mp4_c.specs.FragmentSamples.{AreRows, StopsIn}
 use Rattle.mp4_c.specs.declared.samples.SampleRow.{SampleRow}
 use Rattle.mp4_c.proofs.fragment_samples.rows_of.Goals as goal

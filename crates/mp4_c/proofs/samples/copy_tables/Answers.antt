@@ -1,7 +1,7 @@
 use Rattle.std.proofs.Common.{◌≡◌, inl, inr, refl, sym, subst, arith}
 use Rattle.mp4_samples.specs.Samples.{AreConsistent}
 use Rattle.mp4_samples.specs.declared.tables.Tables.{Tables}
-use Rattle.mp4_track.specs.Tables.{AreTablesOf}
+use Rattle.mp4_movie.specs.Tables.{AreTablesOf}
 use Rattle.mp4_c.proofs.samples.copy_tables.Goals as goal
 
 pub returns-in-Err : goal.returns-in-Err

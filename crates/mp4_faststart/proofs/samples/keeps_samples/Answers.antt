@@ -13,9 +13,9 @@ loop-number-preserved c =
     let inv = c.loop-number.invariant in
     let gives = c.in-Some.ensures.steps in
     let also_gives = c.in-Some-next.ensures.steps in
-    let moved : IsMoved c.args.cut c.in-Some.first c.in-Some-next.second = c.if-not-is_moved.ensures.0 refl in
-    let here : KeepsSample c.args.cut t u n =
-    kept_here c.args.cut t u n c.loop-number.were c.loop-number.are c.next.new.self c.next-in-loop-number.new.self
+    let moved : IsMoved c.args.shift c.in-Some.first c.in-Some-next.second = c.if-not-is_moved.ensures.0 refl in
+    let here : KeepsSample c.args.shift t u n =
+    kept_here c.args.shift t u n c.loop-number.were c.loop-number.are c.next.new.self c.next-in-loop-number.new.self
     inv.before inv.after inv.at inv.also_at c.in-Some.first c.in-Some-next.second gives also_gives moved in
     let less = here.still_counted in
     record {
@@ -24,13 +24,13 @@ loop-number-preserved c =
       at = gives.3 ∙ ap (λ (k : ℕ). k + 1) inv.at;
       also_at = also_gives.3 ∙ ap (λ (k : ℕ). k + 1) inv.also_at;
       counted = omega arith;
-      kept = below_more (λ (k : ℕ). KeepsSample c.args.cut t u k) n inv.kept here;
+      kept = below_more (λ (k : ℕ). KeepsSample c.args.shift t u k) n inv.kept here;
     }
 
 pub returns-then-not-is_moved-clause-first : goal.returns-then-not-is_moved-clause-first
 returns-then-not-is_moved-clause-first c =
     let inv = c.loop-number.invariant in
-    lost_here c.args.cut c.args.before.now c.args.after.now c.loop-number.number c.loop-number.were c.loop-number.are
+    lost_here c.args.shift c.args.before.now c.args.after.now c.loop-number.number c.loop-number.were c.loop-number.are
     c.next.new.self c.next-in-loop-number.new.self inv.before inv.after inv.at inv.also_at c.in-Some.first
     c.in-Some-next.second c.in-Some.ensures.steps c.in-Some-next.ensures.steps
     (λ moved. false≢true (c.if-not-is_moved.ensures.1 moved)) inv.kept
@@ -38,8 +38,8 @@ returns-then-not-is_moved-clause-first c =
 pub returns-then-not-is_moved-clause-exact : goal.returns-then-not-is_moved-clause-exact
 returns-then-not-is_moved-clause-exact c =
     let inv = c.loop-number.invariant in
-    not_ok c.args.cut c.args.before.now c.args.after.now c.loop-number.number
-    (lost_here c.args.cut c.args.before.now c.args.after.now c.loop-number.number c.loop-number.were c.loop-number.are
+    not_ok c.args.shift c.args.before.now c.args.after.now c.loop-number.number
+    (lost_here c.args.shift c.args.before.now c.args.after.now c.loop-number.number c.loop-number.were c.loop-number.are
     c.next.new.self c.next-in-loop-number.new.self inv.before inv.after inv.at inv.also_at c.in-Some.first
     c.in-Some-next.second c.in-Some.ensures.steps c.in-Some-next.ensures.steps
     (λ moved. false≢true (c.if-not-is_moved.ensures.1 moved)) inv.kept)
@@ -48,8 +48,8 @@ pub returns-in_default-next-clause-exact : goal.returns-in_default-next-clause-e
 returns-in_default-next-clause-exact c =
     let inv = c.loop-number.invariant in
     let less : c.loop-number.number < sample_count c.args.before.now = omega arith in
-    not_ok c.args.cut c.args.before.now c.args.after.now c.loop-number.number
-    (lost_over c.args.cut c.args.before.now c.args.after.now c.loop-number.number c.loop-number.were c.loop-number.are
+    not_ok c.args.shift c.args.before.now c.args.after.now c.loop-number.number
+    (lost_over c.args.shift c.args.before.now c.args.after.now c.loop-number.number c.loop-number.were c.loop-number.are
     c.next.new.self c.next-in-loop-number.new.self inv.before inv.after inv.at inv.also_at less
     c.in_default-next.ensures.steps inv.kept)
 
@@ -62,5 +62,5 @@ returns-else-len-clause-exact c =
     let other : ¬ (sample_count t ≡ sample_count u) = λ same.
     let no = c.if-len.false in
     omega arith in
-    not_ok c.args.cut t u c.loop-number.number
-    (lost_last c.args.cut t u c.loop-number.number inv.kept all other inv.counted)
+    not_ok c.args.shift t u c.loop-number.number
+    (lost_last c.args.shift t u c.loop-number.number inv.kept all other inv.counted)

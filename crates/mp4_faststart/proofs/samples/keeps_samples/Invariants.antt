@@ -11,5 +11,5 @@ invariant-loop-number l = record {
   at : l.were.number ≡ l.number;
   also_at : l.are.number ≡ l.number;
   counted : l.number ≤ sample_count l.after;
-  kept : (k : ℕ) → k < l.number → KeepsSample l.cut l.before l.after k;
+  kept : (k : ℕ) → k < l.number → KeepsSample l.shift l.before l.after k;
 }

@@ -2,7 +2,7 @@ use Rattle.std.proofs.Common.{subst}
 use Rattle.std.specs.Prelude.{IfSome}
 use Rattle.std.specs.declared.option.Option.{Option}
 use Rattle.mp4_faststart.specs.Written.{IsPlaced}
-use Rattle.mp4_faststart.specs.declared.cut.Cut.{Cut}
+use Rattle.mp4_faststart.specs.declared.movement.Move.{Move}
 use Rattle.mp4_faststart.proofs.Pieces.{all_copied}
 use Rattle.mp4_faststart.proofs.write.write_by.Goals as goal
 
@@ -14,4 +14,4 @@ returns-in_ok-copy-in-None g c = λ _.
 pub returns-in_ok-write_moved-in-Some : goal.returns-in_ok-write_moved-in-Some
 returns-in_ok-write_moved-in-Some g c = λ placed.
     c.in_ok-write_moved-in-Some.ensures
-    (subst (λ (o : Option Cut). IfSome o (IsPlaced c.args.size)) c.in-Some.is placed)
+    (subst (λ (o : Option Move). IfSome o (IsPlaced c.args.size)) c.in-Some.is placed)

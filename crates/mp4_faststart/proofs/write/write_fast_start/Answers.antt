@@ -3,7 +3,7 @@ use Rattle.std.specs.Prelude.{IfSome}
 use Rattle.std.specs.declared.option.Option.{Option}
 use Rattle.std.proofs.lemmas.Result.{IfOk-weaker}
 use Rattle.mp4_faststart.specs.Written.{AppendsMoved, IsPlaced}
-use Rattle.mp4_faststart.specs.declared.cut.Cut.{Cut}
+use Rattle.mp4_faststart.specs.declared.movement.Move.{Move}
 use Rattle.mp4_faststart.proofs.Pieces.{all_written}
 use Rattle.mp4_faststart.proofs.write.write_fast_start.Goals as goal
 
@@ -15,8 +15,8 @@ returns g c =
     let old = g.W.Write.contents c.args.output.now.inner in
     let new = g.W.Write.contents c.write_by.new.output.inner in
     IfOk-weaker c.write_by.result
-    (λ (done : Option Cut). IfSome c.in_ok-source.cut (IsPlaced size)
+    (λ (done : Option Move). IfSome c.in_ok-source.shift (IsPlaced size)
     → IfSome kept (λ B. size ≡ length B → AppendsMoved B done old new))
-    (λ (done : Option Cut). IfSome all (λ B. AppendsMoved B done old new))
+    (λ (done : Option Move). IfSome all (λ B. AppendsMoved B done old new))
     (λ done written. all_written all kept size done old new c.in_ok-source.ensures.source c.in_ok-source.ensures.length
-    (written c.in_ok-source.ensures.cut)) c.write_by.ensures
+    (written c.in_ok-source.ensures.shift)) c.write_by.ensures

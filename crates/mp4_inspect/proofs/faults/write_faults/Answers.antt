@@ -9,7 +9,7 @@ pub returns-clause-faults : goal.returns-clause-faults
 returns-clause-faults g c =
     let front : c.as_str.result.now ≡ string_bytes c.in_ok-or_memory-2.field-0
     = c.as_str.ensures.value ∙ ap string_bytes c.in_ok-faulty.ensures.front in
-    let same : c.movie_of.new.tree.bytes ≡ c.args.tree.now.bytes = ap (λ t. t.bytes) c.in_ok-movie_of.ensures.kept in
+    let same : c.facts_of.new.tree.bytes ≡ c.args.tree.now.bytes = ap (λ t. t.bytes) c.in_ok-facts_of.ensures.kept in
     rw c.either.ensures
     (faults_all g.B.Shown.known g.B.Shown.named_reading
     c.args.tree.now.bytes (string_bytes c.in_ok-or_memory-2.field-0)

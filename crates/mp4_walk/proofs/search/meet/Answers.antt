@@ -14,5 +14,5 @@ returns c xs =
     let within = lookup.3.0 in
     next_part path x xs s part parts (parts_from path s.depth part within lookup.1) c.if-found-depth.false
     (meant s.depth part.code x c.if-found-depth-2.false c.if-found-depth.false
-    (sym c.is_code.ensures ∙ c.if-not-is_code.false))
+    (sym c.has_code.ensures ∙ c.if-not-has_code.false))
     c.if-before-part.false (omega (arith, length-drop (s.depth + 1) path, within, c.if-depth-path.false))

@@ -1,0 +1,11 @@
+-- Both movies are unchanged, and the tracks so far are kept.
+use Rattle.std.proofs.Common.{◌≡◌}
+use Rattle.mp4_faststart.proofs.Tracks.{SoFar}
+use Rattle.mp4_faststart.proofs.movie.check_tracks.Given as goal
+
+abbrev pub invariant-loop-number : goal.invariant-loop-number
+invariant-loop-number g l = record {
+  before : l.before ≡ l.fn.before;
+  after : l.after ≡ l.fn.after;
+  kept : SoFar l.shift l.number l.fn.before.bytes l.fn.after.bytes;
+}

@@ -1,0 +1,14 @@
+use Rattle.mp4_movie.specs.Ends.{time_end_of}
+use Rattle.mp4_movie.proofs.Tracks.{returns_at, returns_past}
+use Rattle.mp4_movie.proofs.movie.time_end_at.Goals as goal
+
+pub returns-then-number-places-clause-value : goal.returns-then-number-places-clause-value
+returns-then-number-places-clause-value g c =
+    returns_past c.args.walk.now.bytes time_end_of c.args.number c.args.boxes.now c.args.places.now
+    c.from.result c.from.ensures c.if-number-places.true
+
+pub returns-clause-value : goal.returns-clause-value
+returns-clause-value g c =
+    returns_at c.args.walk.now.bytes time_end_of c.args.number c.args.boxes.now c.args.places.now _
+    c.boxes_after.result.now c.time_end_in.result c.if-number-places.false c.boxes_after.ensures
+    c.time_end_in.ensures.value

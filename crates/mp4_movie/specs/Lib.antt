@@ -1,0 +1,9 @@
+pub mod Problems
+pub mod Reads
+pub mod Levels
+pub mod Tables
+pub mod Movies
+pub mod Ends
+pub mod Infos
+pub mod Trafs
+pub mod Fragments

@@ -1,0 +1,29 @@
+//! The movie of a file: its tracks, the sample tables of a track, and the fragments of all tracks. The file can be any
+//! source of bytes that is read at positions.
+#![tactic(auto)]
+
+mod defaults;
+mod error;
+mod found;
+mod fragment;
+mod info;
+mod level;
+mod moof;
+mod movie;
+mod places;
+mod reading;
+mod sample_boxes;
+mod table;
+mod track_fragment;
+mod traf;
+
+pub use error::{BoxError, MovieError};
+pub use info::TrackInfo;
+pub use level::{BoxLocation, first_in};
+pub use moof::MoofFragments;
+pub use movie::Movie;
+pub use reading::read_at;
+pub use sample_boxes::{ChunkBox, SampleBoxes};
+pub use table::tables_in;
+pub use track_fragment::TrackFragment;
+pub use traf::{Traf, traf_in};

@@ -1,4 +1,0 @@
-pub mod Levels
-pub mod Traks
-pub mod Trexes
-pub mod Steps

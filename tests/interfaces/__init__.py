@@ -1,0 +1,1 @@
+"""Tests that ask all interfaces about the same files: programs, C, Rust and Python."""

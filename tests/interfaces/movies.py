@@ -1,0 +1,264 @@
+"""Files of which each interface has to give one answer, with the answers. The answers were worked out by hand from
+ISO/IEC 14496-12 and docs/DECISIONS.md: positions are those of codes in the bytes, and nothing is what a program
+printed.
+
+`cases()` returns for each file its name, its bytes, its answer, and boxes that trees have to show: their paths and some
+of their fields. None of these boxes has a fault."""
+
+from tests.files.faulty import MEDIA, at, front, moof, moov, mvhd, stbl, traf, trak, trun
+from tests.files.made import be, box, ftyp, full, handler, mdhd, sound, stsd, tkhd, visual
+from tests.interfaces.answers import Answer, Problem, Sample, Samples, Traf, Track
+
+STSD = "moov/trak/mdia/minf/stbl/stsd"
+# The samples of `stbl` last 10 ticks each, and the timescale of `trak` is 1000.
+SCALE = 1000
+
+
+def of(data, samples, nth=0, track_id=1, kind=b"vide", fragments=Samples([])):
+    """Returns the track of the `trak` after `nth` others, which has these samples or this problem of its tables."""
+    if isinstance(samples, Problem):
+        return Track(at(data, b"trak", nth), track_id, kind, SCALE, Samples([], samples), None)
+    return Track(at(data, b"trak", nth), track_id, kind, SCALE, Samples(samples), fragments)
+
+
+def two(first=MEDIA):
+    """Returns two samples of 10 and 20 bytes, each in its own chunk, starting at offset `first`, and their tables."""
+    return [Sample(first, 10, 0, 10), Sample(first + 10, 20, 10, 10)], stbl([first, first + 10], [10, 20])
+
+
+def trex(track_id, size, duration=10):
+    return full(b"trex", 0, 0, be(4, track_id, 1, duration, size, 0))
+
+
+def fragmented(tables, defaults, *trafs):
+    """Returns a movie with one track of `tables`, the boxes `defaults` in an `mvex`, and a `moof` whose trafs are
+    `trafs`, followed by 40 bytes of media data. Each of `trafs` is a function of the position of the media data in the
+    `moof`. Also returns the positions of the `moof` and of the media data."""
+    head = ftyp(b"iso5", b"iso5") + moov(trak(tables), box(b"mvex", b"".join(defaults)))
+    size = len(moof(*(make(0) for make in trafs)))
+    data = head + moof(*(make(size + 8) for make in trafs)) + box(b"mdat", bytes(40))
+    return data, len(head), len(head) + size + 8
+
+
+def in_second_moov():
+    samples, tables = two()
+    data = front() + moov() + moov(trak(tables))
+    yield "a track in a second moov", data, Answer([]), {}
+    data = front() + moov(trak(tables)) + moov(trak(tables, 2))
+    yield "a track in each of two moovs", data, Answer([of(data, samples)]), {}
+    data = front() + moov(trak(tables)) + moov(trak(tables))
+    yield "a track of one track_ID in each of two moovs", data, Answer([of(data, samples)]), {}
+    data = front() + moov() + moov(trak(tables), box(b"mvex", trex(1, 5))) + moof(traf(1, 0x20000, b"", trun(8, [], 1)))
+    yield "a fragment of a track in a second moov", data, Answer([], [
+        Traf(at(data, b"moof"), 1, Problem("there is no trex"))]), {}
+    # Boxes `trak` that are not directly in a moov.
+    data = front() + moov(box(b"udta", trak(tables)), box(b"edts", trak(tables)))
+    yield "a trak in a udta", data, Answer([]), {}
+
+
+def without_sizes():
+    """Yields tracks with no `stsz` and no chunk. They have no samples, except in fragments."""
+    empty = [full(b"stts", 0, 0, be(4, 0)), full(b"stsc", 0, 0, be(4, 0)), full(b"stco", 0, 0, be(4, 0))]
+    entry = stsd(visual(b"mp4v", 64, 48, b"", b""))
+    for name, tables in (("empty tables", empty), ("an stts only", empty[:1]), ("an stsc only", empty[1:2]),
+                         ("no tables", [])):
+        data, moof_, media = fragmented(box(b"stbl", entry + b"".join(tables)), [trex(1, 7)], lambda begin: traf(
+            1, 0x20000, b"", trun(begin, [4, 6]), trun(None, [], 2)))
+        samples = [Sample(media, 4, 0, 10), Sample(media + 4, 6, 10, 10), Sample(media + 10, 7, 20, 10),
+                   Sample(media + 17, 7, 30, 10)]
+        yield f"no stsz, no chunk, one fragment: {name}", data, Answer([of(data, [], fragments=Samples(samples))], [
+            Traf(moof_, 1)]), {}
+        data = front() + moov(trak(box(b"stbl", entry + b"".join(tables))))
+        yield f"no stsz, no chunk: {name}", data, Answer([of(data, [])]), {}
+    chunks = box(b"stbl", entry + empty[0] + empty[1] + full(b"stco", 0, 0, be(4, 1, MEDIA)))
+    data = front() + moov(trak(chunks))
+    yield "no stsz, one chunk", data, Answer([of(data, Problem("there is no stsz"))]), {}
+    sizes = box(b"stbl", entry + empty[0] + empty[1] + full(b"stsz", 0, 0, be(4, 0, 0)))
+    data = front() + moov(trak(sizes))
+    yield "an stsz, no stco", data, Answer([of(data, Problem("there is no stco"))]), {}
+    # Of several tables that are missing, the chunk offsets are the first, and then the chunks.
+    data = front() + moov(trak(box(b"stbl", entry + full(b"stsz", 0, 0, be(4, 0, 0)))))
+    yield "an stsz only", data, Answer([of(data, Problem("there is no stco"))]), {}
+    data = front() + moov(trak(box(b"stbl", entry + full(b"stsz", 0, 0, be(4, 0, 0)) + empty[2])))
+    yield "an stsz and an stco", data, Answer([of(data, Problem("there is no stsc"))]), {}
+
+
+def without_track_id():
+    samples, tables = two()
+    second = tkhd(1, 0, 0, 1)
+    second = second[:8] + b"\2" + second[9:]
+    short = full(b"tkhd", 0, 7, be(4, 3797824089, 3797824090, 1, 0))
+    for name, header in (("a tkhd of version 2", second), ("a tkhd of 28 bytes", short), ("no tkhd", b"")):
+        data = front() + moov(trak(tables, 1, 1, header), trak(tables, 2))
+        problem = Problem(None, "tkhd", at(data, b"tkhd")) if header else Problem("there is no tkhd")
+        yield name, data, Answer([of(data, samples, 0, problem), of(data, samples, 1, 2)]), {}
+    # A track_ID that can't be read is that of no track. The first tkhd of a track counts.
+    data = front() + moov(trak(tables, 1, 1, second), trak(tables))
+    yield "a tkhd of version 2 before another of its number", data, Answer([
+        of(data, samples, 0, Problem(None, "tkhd", at(data, b"tkhd"))), of(data, samples, 1)]), {}
+    data = front() + moov(trak(tables, 1, 1, second + tkhd(1)))
+    yield "two headers in a track, the first of version 2", data, Answer([
+        of(data, samples, 0, Problem(None, "tkhd", at(data, b"tkhd")))]), {}
+    data = front() + moov(trak(tables, 1, 1, tkhd(3) + tkhd(1)))
+    yield "two headers in a track", data, Answer([of(data, samples, 0, 3)]), {}
+
+
+def of_one_track_id():
+    (samples, tables), others = two(), [Sample(MEDIA + 30, 9, 0, 10)]
+    last = stbl([MEDIA + 30], [9])
+    data = front() + moov(trak(tables, 4), trak(last, 4))
+    yield "two tracks of one track_ID", data, Answer([of(data, samples, 0, 4), of(data, others, 1, 4)]), {}
+    data = front() + moov(trak(box(b"stbl"), 4), trak(last, 5), trak(tables, 5))
+    yield "two tracks of one track_ID, after another", data, Answer([
+        of(data, [], 0, 4), of(data, others, 1, 5), of(data, samples, 2, 5)]), {}
+    head = ftyp(b"iso5", b"iso5") + moov(trak(tables), trak(last), box(b"mvex", trex(1, 7)))
+    data = head + moof(traf(1, 0x20000, b"", trun(0, [3])))
+    place = at(data, b"moof")
+    fragment = Samples([Sample(place, 3, 20, 10)])
+    yield "two tracks of one track_ID, and a fragment", data, Answer([
+        of(data, samples, 0, 1, fragments=fragment), of(data, others, 1, 1)], [Traf(place, 1)]), {}
+
+
+def without_boxes():
+    """Yields tracks that lack boxes around their tables. The first one that is missing is the problem."""
+    _, tables = two()
+    media = mdhd(SCALE, b"und") + handler(b"vide", b"")
+    for name, inside in (("mdia", b""), ("minf", box(b"mdia", media)), ("stbl", box(b"mdia", media + box(b"minf")))):
+        data = front() + moov(box(b"trak", tkhd(1) + inside), trak(tables, 2))
+        problem = Problem(f"there is no {name}")
+        first = of(data, problem)
+        if name == "mdia":
+            first = Track(first.position, 1, problem, problem, *first[4:])
+        yield f"a track without {name}", data, Answer([first, of(data, two()[0], 1, 2)]), {}
+    data = front() + moov(box(b"trak", tkhd(1) + box(b"minf", tables)))
+    lost = Problem("there is no mdia")
+    yield "a minf outside of an mdia", data, Answer([
+        Track(at(data, b"trak"), 1, lost, lost, Samples([], lost), None)]), {}
+    # The tables are those of the first mdia, minf and stbl.
+    data = front() + moov(box(b"trak", tkhd(1) + box(b"mdia", media) + box(b"mdia", media + box(b"minf", tables))))
+    yield "two mdia", data, Answer([of(data, Problem("there is no minf"))]), {}
+    # Neither a handler nor a timescale is needed for samples.
+    data = front() + moov(box(b"trak", tkhd(1) + box(b"mdia", box(b"minf", tables))))
+    yield "an mdia without headers", data, Answer([Track(at(data, b"trak"), 1, Problem("there is no hdlr"), Problem(
+        "there is no mdhd"), Samples(two()[0]))]), {}
+    nameless = full(b"hdlr", 0, 0, be(4, 0) + b"vide" + bytes(12))
+    clock = full(b"mdhd", 2, 0, bytes(32))
+    data = front() + moov(box(b"trak", tkhd(1) + box(b"mdia", clock + nameless + box(b"minf", tables))))
+    yield "an hdlr and an mdhd that can't be read", data, Answer([Track(
+        at(data, b"trak"), 1, Problem(None, "hdlr", at(data, b"hdlr")), Problem(None, "mdhd", at(data, b"mdhd")),
+        Samples(two()[0]))]), {}
+
+
+def of_fragments():
+    samples, tables = two()
+    run = lambda *sizes: lambda begin: traf(1, 0x20000, b"", trun(begin, list(sizes)))
+    short = lambda begin: box(b"traf", full(b"tfhd", 0, 0x20000))
+    lost = lambda begin: box(b"traf", trun(begin, [5]))
+    cut = lambda begin: traf(1, 0x20000, b"", full(b"trun", 0, 0x200, be(4, 3, 1, 2)))
+
+    def third(media):
+        return [Sample(media, 4, 20, 10), Sample(media, 6, 30, 10)]
+    for name, middle, problem in (("a tfhd that is too short", short, None), ("no tfhd", lost, Problem(
+            "there is no tfhd"))):
+        data, place, media = fragmented(tables, [trex(1, 7)], run(4), middle, run(6))
+        samples = two()[0]
+        problem = problem or Problem(None, "tfhd", at(data, b"tfhd", 1))
+        yield f"a traf between two others: {name}", data, Answer([
+            of(data, samples, fragments=Samples(third(media)))], [
+                Traf(place, 1), Traf(place, None, problem), Traf(place, 1)]), {}
+    data, place, media = fragmented(tables, [trex(1, 7)], run(4), cut, run(6))
+    problem = Problem(None, "trun", at(data, b"trun", 1))
+    yield "a traf between two others: a trun that is too short", data, Answer([
+        of(data, samples, fragments=Samples(third(media)[:1], problem))], [
+            Traf(place, 1), Traf(place, 1, problem), Traf(place, 1)]), {}
+    # The data of a traf of a track begin where those of the traf before it end, unless it is no fragment.
+    after = lambda begin: traf(1, 0, b"", trun(None, [6]))
+    data, place, media = fragmented(tables, [trex(1, 7)], run(4), after)
+    yield "a traf after another", data, Answer([of(data, samples, fragments=Samples([
+        Sample(media, 4, 20, 10), Sample(media + 4, 6, 30, 10)]))], [Traf(place, 1), Traf(place, 1)]), {}
+    other = lambda begin: traf(2, 0x20000, b"", trun(begin, [4]))
+    data, place, media = fragmented(tables, [trex(1, 7)], other, after)
+    lost = Problem(f"the data before a fragment in the moof at {place} have no known end")
+    yield "a traf after one of no track", data, Answer([of(data, samples, fragments=Samples([], lost))], [
+        Traf(place, 2, Problem("there is no trex")), Traf(place, 1, lost)]), {}
+    default = lambda begin: traf(1, 0x20000, b"", trun(begin, [], 2))
+    data, place, media = fragmented(tables, [trex(2, 9), trex(1, 7, 3), trex(1, 8, 4)], default)
+    yield "a trex twice", data, Answer([of(data, samples, fragments=Samples([
+        Sample(media, 7, 20, 3), Sample(media + 7, 7, 23, 3)]))], [Traf(place, 1)]), {}
+    # Without an stsz and a chunk there are no samples before the first fragment, whatever the stts counts.
+    for name, counts in (("counts samples", be(4, 1, 5, 10)), ("can't be read", be(4, 1))):
+        none = box(b"stbl", stsd(visual(b"mp4v", 64, 48, b"", b"")) + full(b"stts", 0, 0, counts))
+        data, place, media = fragmented(none, [trex(1, 7)], default)
+        yield f"no stsz, no chunk, an stts that {name}", data, Answer([of(data, [], fragments=Samples([
+            Sample(media, 7, 0, 10), Sample(media + 7, 7, 10, 10)]))], [Traf(place, 1)]), {}
+    data, place, media = fragmented(tables, [trex(1, 7)[:-1], trex(1, 8, 4)], default)
+    data = data.replace(trex(1, 7)[:-1], be(4, 31) + trex(1, 7)[4:-1])
+    yield "a trex twice, the first too short", data, Answer([of(data, samples, fragments=Samples([
+        Sample(media, 8, 20, 4), Sample(media + 8, 8, 24, 4)]))], [Traf(place, 1)]), {}
+    # An mvex after the first doesn't count.
+    head = ftyp(b"iso5", b"iso5") + moov(trak(tables), box(b"mvex"), box(b"mvex", trex(1, 7)))
+    data = head + moof(default(0))
+    lost = Problem("there is no trex")
+    yield "two mvex", data, Answer([of(data, samples, fragments=Samples([], lost))], [Traf(len(head), 1, lost)]), {}
+    # The durations of all tables are passed before the first fragment, also those of more samples than there are.
+    long = tables.replace(be(4, 1, 2, 10), be(4, 1, 3, 10))
+    data, place, media = fragmented(long, [trex(1, 7)], run(4))
+    yield "an stts of more samples than there are", data, Answer([of(data, samples, fragments=Samples([
+        Sample(media, 4, 30, 10)]))], [Traf(place, 1)]), {}
+    data = moof(traf(1, 0x20000, b"", trun(0, [4])))
+    yield "a fragment without a movie", data, Answer([], [Traf(0, 1, Problem("there is no trex"))], False), {}
+    yield "no movie", front(), Answer([], [], False), {}
+
+
+# An elementary stream of AAC LC, 44,100 Hz, with 2 channels (ISO/IEC 14496-1, 7.2.6; 14496-3, 1.6.2.1).
+SPECIFIC = b"\5\2\x12\x10"
+ESDS = full(b"esds", 0, 0, b"\3\x19\0\1\0" + b"\4\x11\x40\x15" + bytes(11) + SPECIFIC + b"\6\1\2")
+
+
+def entry(entries, kind, brand, version=0):
+    """Returns a movie of a track with the sample entries `entries`, in an `stsd` of version `version`, and its
+    samples."""
+    head = ftyp(brand, brand) + box(b"mdat", bytes(40))
+    first = len(head) - 40
+    samples, tables = two(first)
+    old, new = stsd(visual(b"mp4v", 64, 48, b"", b"")), full(b"stsd", version, 0, be(4, len(entries)) + b"".join(
+        entries))
+    tables = be(4, len(tables) + len(new) - len(old)) + tables[4:].replace(old, new)
+    whole = box(b"trak", tkhd(1) + box(b"mdia", mdhd(SCALE, b"und") + handler(kind, b"") + box(b"minf", tables)))
+    data = head + box(b"moov", mvhd() + whole)
+    return data, Answer([of(data, samples, kind=kind)])
+
+
+def of_entries():
+    """Yields sample entries that hold boxes."""
+    words = be(4, 1024, 0, 0, 2)
+    for brand in (b"isom", b"qt  ", b"mp42"):
+        data, answer = entry([sound(b"mp4a", 1, 2, 16, 44100 << 16, words, ESDS)], b"soun", brand)
+        yield f"mp4a of version 1 in an stsd of version 0, brand {brand.decode()}", data, answer, {
+            f"{STSD}/mp4a/esds": {"version": 0}}
+        long = be(4, 72) + bytes.fromhex("40e5888000000000") + be(4, 2, 0x7F000000, 16, 12, 4, 3)
+        data, answer = entry([sound(b"mp4a", 2, 3, 16, 0x10000, long, ESDS)], b"soun", brand)
+        yield f"mp4a of version 2 in an stsd of version 0, brand {brand.decode()}", data, answer, {
+            f"{STSD}/mp4a/esds": {"version": 0}}
+        # ISO's AudioSampleEntryV1 (14496-12, 12.2.3) has the fields of version 0, and its rate in an srat.
+        rate = full(b"srat", 0, 0, be(4, 96000))
+        data, answer = entry([sound(b"mp4a", 1, 2, 16, 44100 << 16, b"", rate + ESDS)], b"soun", brand, 1)
+        yield f"mp4a of version 1 in an stsd of version 1, brand {brand.decode()}", data, answer, {
+            f"{STSD}/mp4a/srat": {}, f"{STSD}/mp4a/esds": {"version": 0}}
+        data, answer = entry([sound(b"mp4a", 0, 2, 16, 44100 << 16, b"", ESDS)], b"soun", brand)
+        yield f"mp4a of version 0, brand {brand.decode()}", data, answer, {f"{STSD}/mp4a/esds": {"version": 0}}
+    av1 = box(b"av1C", b"\x81\x04\x0c\x00") + box(b"pasp", be(4, 1, 1))
+    for kind in (b"pict", b"auxv", b"vide"):
+        data, answer = entry([visual(b"av01", 320, 240, b"libaom", av1)], kind, b"avis")
+        yield f"av01 under the handler {kind.decode()}", data, answer, {
+            f"{STSD}/av01": {"width": 320, "height": 240}, f"{STSD}/av01/av1C": {"version": 1},
+            f"{STSD}/av01/pasp": {"hSpacing": 1, "vSpacing": 1}}
+    # A code of video is enough where the handler is another one.
+    data, answer = entry([visual(b"hvc1", 320, 240, b"", box(b"pasp", be(4, 4, 3)))], b"meta", b"isom")
+    yield "hvc1 under the handler meta", data, answer, {
+        f"{STSD}/hvc1": {"width": 320}, f"{STSD}/hvc1/pasp": {"hSpacing": 4, "vSpacing": 3}}
+
+
+def cases():
+    return [*in_second_moov(), *without_sizes(), *without_track_id(), *of_one_track_id(), *without_boxes(),
+            *of_fragments(), *of_entries()]
