@@ -1,4 +1,4 @@
--- Where a tree, which knows a box and nothing around it, finds the same fields before the boxes as a walk.
+-- A tree, which knows a box and nothing around it, finds the same fields before the boxes as a walk, for these boxes.
 use Rattle.std.proofs.Common.{◌≡◌, ℕ, Bool, true, false, Some, refl, sym, ◌∙◌}
 use Rattle.std.specs.Prelude.{◌==◌}
 use Rattle.std.specs.declared.option.Option.{Option}

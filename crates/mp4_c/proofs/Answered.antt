@@ -1,4 +1,4 @@
--- What a call copies, by an answer for the bytes of a file.
+-- The rows that a call copies, by an answer for the bytes of a file.
 use Rattle.std.proofs.Common.{◌≡◌, ℕ, List, [], Result, Ok, Err, None, Some, refl, sym, subst, inl, inr}
 use Rattle.std.specs.Prelude.{◌⊎◌, IfSome}
 use Rattle.std.specs.declared.option.Option.{Option}

@@ -1,4 +1,4 @@
--- When the tracks of a movie box keep their samples. A movie box is read as if it were a whole file, and a track is
+-- The tracks of a movie box that keep their samples. A movie box is read as if it were a whole file, and a track is
 -- named by its number, counted from 0.
 use Rattle.std.specs.Prelude.{ℕ, ◌≡◌, ◌<◌, List, length, Result, Ok, Err, None, Some}
 use Rattle.std.specs.declared.option.Option.{Option}

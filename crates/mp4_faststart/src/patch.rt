@@ -36,7 +36,7 @@ fn shift_long(offsets: &mut [u8], shift: Move) -> bool {
     true
 }
 
-/// Returns the positions at which the entries of a table begin and end. They have `width` bytes each, and come after
+/// Returns the positions at which the entries of a table begin and end. They have `width` bytes each, and follow
 /// the version, the flags and the count (ISO/IEC 14496-12, 8.7.5). They end no later than the box and the bytes.
 fn entries_in(bytes: &[u8], found: &TreeBox, width: u32) -> (usize, usize)
     ensures order { result.0 ≤ result.1 }

@@ -11,7 +11,7 @@ use mp4_walk::{BoxWalk, Source, TreeBox};
 use std::alloc::Global;
 use std::io;
 
-/// The state about a file so far.
+/// The boxes that a scan of a file has found.
 #[derive(Clone, Copy)]
 struct ScanState {
     /// The movie box.
@@ -22,7 +22,7 @@ struct ScanState {
     obstacle: Option<Obstacle>,
 }
 
-/// Returns the first obstacle, of those so far and `found`.
+/// Returns the first obstacle: that of `so_far`, or else `found` if it is one.
 fn obstacle_with<S: Source>(
     alloc: Global,
     tree: &mut BoxWalk<S>,

@@ -28,7 +28,7 @@ pub struct Facts {
     pub sizes: BTreeMap<u32, u32>,
 }
 
-/// Stores the default size of samples of the track `track`, if it has none so far.
+/// Stores the default size of samples of the track `track`, unless one is stored.
 fn keep_first(track: u32, size: u32, facts: &mut Facts) -> mp4_show::Result<()> {
     if !facts.sizes.contains_key(&track) {
         facts.sizes.insert(track, size)?;
@@ -36,7 +36,7 @@ fn keep_first(track: u32, size: u32, facts: &mut Facts) -> mp4_show::Result<()> 
     Ok(())
 }
 
-/// Stores the default size of samples in the `trex` `found` (ISO/IEC 14496-12, 8.8.3.2), if its track has none so far.
+/// Stores the default size of samples in the `trex` `found` (ISO/IEC 14496-12, 8.8.3.2), unless its track has one.
 fn keep_size<S: Source>(
     alloc: Global,
     tree: &mut BoxWalk<S>,

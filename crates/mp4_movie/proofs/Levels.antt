@@ -16,7 +16,7 @@ use Rattle.mp4_movie.specs.declared.places.TrakPlace.{TrakPlace}
 pub by_bool : {P : Type 0} (b : Bool) → (b ≡ true → P) → (b ≡ false → P) → P
 by_bool {P} b if_true if_false = (elim b as (λ c. b ≡ c → P) [ true ↦ if_true | false ↦ if_false ]) refl
 
--- in a level from one box on, where that is less deep
+-- in a level that starts at a box, if that is less deep
 pub ends_at : (d : ℕ) (code : FourCC) (xs : List TreeBox) (i : ℕ) (y : TreeBox) → i < length xs
     → (get_or xs i y).depth < d → first_in d code (drop i xs) ≡ None
 ends_at d code xs i y within less =

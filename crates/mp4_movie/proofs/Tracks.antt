@@ -102,7 +102,7 @@ from_place (suc k) boxes (q ∷ qs) p less =
     from_place k boxes qs p (omega (arith, less))
     ∙ ap (λ (n : ℕ). found_at boxes (get_or qs k p) ∷ drop n fs) more
 
--- the answers so far, followed by those for the rest, are the answers for all tracks
+-- the answers in the list, followed by those for the rest, are the answers for all tracks
 abbrev pub InfosSoFar : List ℕ → List Found → ℕ → List TrackInfo → Type 0
 InfosSoFar file fs number known =
     (more : List TrackInfo) → AreInfos file number (drop number fs) more → AreInfos file 0 fs (known ++ more)

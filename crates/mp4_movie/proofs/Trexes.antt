@@ -44,7 +44,7 @@ kept_anew old new q v none is as_before =
 pub unequal : (a b : ℕ) → (a == b) ≡ false → is_eq (nat_cmp a b) ≡ false
 unequal a b ne = by_bool (nat_lt a b) (λ less. rw less refl) (λ more. rw (more, ne) refl)
 
--- the defaults of a track are those so far, or those that are left
+-- the defaults of a track are those that are stored, or those that are left
 abbrev pub SoFar : List ℕ → List TreeBox → List TreeBox → (ℕ → Option TrexBox) → Type 0
 SoFar file boxes rest D =
     (q : ℕ) → defaults_in file q (all_in 2 (four_cc_of codes.TREX) boxes)

@@ -54,17 +54,17 @@ pub enum Front {
     ShortCount,
     /// Version, flags and a number of 4 bytes, such as a count.
     Count,
-    /// Those of any sample entry (ISO/IEC 14496-12, 8.5.2.2).
+    /// The fields of any sample entry (ISO/IEC 14496-12, 8.5.2.2).
     Entry,
-    /// Those of a timed text entry (3GPP TS 26.245, 5.16).
+    /// The fields of a timed text entry (3GPP TS 26.245, 5.16).
     TextEntry,
-    /// Those of a video entry (ISO/IEC 14496-12, 12.1.3).
+    /// The fields of a video entry (ISO/IEC 14496-12, 12.1.3).
     VideoEntry,
-    /// Those of a sound entry (ISO/IEC 14496-12, 12.2.3).
+    /// The fields of a sound entry (ISO/IEC 14496-12, 12.2.3).
     SoundEntry,
-    /// Those of a sound entry of version 1 in QuickTime.
+    /// The fields of a sound entry of version 1 in QuickTime.
     QuickTimeSound1,
-    /// Those of a sound entry of version 2 in QuickTime.
+    /// The fields of a sound entry of version 2 in QuickTime.
     QuickTimeSound2,
 }
 

@@ -1,4 +1,4 @@
--- The answers of the moofs so far don't concern the track by an error, and its fragments among them are taken.
+-- The answers of the moofs before this one don't concern the track by an error, and its fragments among them are taken.
 use Rattle.std.proofs.Common.{◌≡◌, [], ◌++◌, length}
 use Rattle.std.specs.Vec.Iter.{into_iter_items, into_iter_len}
 use Rattle.mp4_c.specs.FragmentSamples.{AppendsOwn, answers_of}

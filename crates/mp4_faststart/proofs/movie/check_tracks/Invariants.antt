@@ -1,4 +1,4 @@
--- Both movies are unchanged, and the tracks so far are kept.
+-- Both movies are unchanged, and the tracks before this one are kept.
 use Rattle.std.proofs.Common.{◌≡◌}
 use Rattle.mp4_faststart.proofs.Tracks.{SoFar}
 use Rattle.mp4_faststart.proofs.movie.check_tracks.Given as goal

@@ -1,4 +1,4 @@
--- The defaults so far come before those that are left.
+-- The stored defaults come before those that are left.
 use Rattle.std.proofs.Common.{◌≡◌, ℕ, length}
 use Rattle.std.specs.BTreeMap.{get}
 use Rattle.std.specs.Ordering.{nat_cmp}

@@ -1,4 +1,4 @@
--- The answers so far, followed by those for the remaining moofs, are the answers for all moofs.
+-- The answers in the list, followed by those for the remaining moofs, are the answers for all moofs.
 use Rattle.std.proofs.Common.{◌≡◌, ℕ, length}
 use Rattle.std.specs.BTreeMap.{get}
 use Rattle.std.specs.Ordering.{nat_cmp}

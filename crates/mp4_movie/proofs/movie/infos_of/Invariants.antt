@@ -1,4 +1,4 @@
--- The answers so far, followed by those for the remaining tracks, are the answers for all tracks.
+-- The answers in the list, followed by those for the remaining tracks, are the answers for all tracks.
 use Rattle.std.proofs.Common.{◌≡◌, ◌++◌, List, map, drop}
 use Rattle.std.specs.Prelude.{IfSome}
 use Rattle.mp4_movie.specs.Infos.{AreInfos}

@@ -1,4 +1,4 @@
--- The tracks so far have another track_ID.
+-- The tracks before this one have another track_ID.
 use Rattle.std.proofs.Common.{◌≡◌, map, drop}
 use Rattle.std.specs.Prelude.{IfSome}
 use Rattle.mp4_movie.specs.Movies.{first_with, found_at}

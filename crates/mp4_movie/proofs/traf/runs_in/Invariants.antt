@@ -1,4 +1,4 @@
--- The runs of the traf are the runs so far and those that are left, if these can be read.
+-- The runs of the traf are the runs in the list and those that are left, if these can be read.
 use Rattle.std.proofs.Common.{◌≡◌, length}
 use Rattle.std.specs.Prelude.{IfSome}
 use Rattle.mp4_frame.specs.FourCC.{four_cc_of}
