@@ -577,11 +577,13 @@ uint32_t mp4_fields(const uint8_t *bytes, size_t length, uint8_t *text, size_t p
 uint32_t mp4_walk_begin(uint64_t length, struct mp4_walk *walk);
 uint32_t mp4_walk_next(const uint8_t *bytes, size_t length, struct mp4_walk *walk, struct mp4_box *box);
 
-/* Lists the samples of the first track with this track_ID (8.3.2) in the bytes of a file, by the tables stsz, stsc,
-   stco or co64, stts, ctts and stss of its stbl. It doesn't list samples of fragments. Also:
+/* Lists the samples of the first track with this track_ID (8.3.2) in the bytes of a file, by the tables stsz or stz2,
+   stsc, stco or co64, stts, ctts and stss of its stbl. The sizes are those of stz2 only if there is no stsz. It doesn't
+   list samples of fragments. Also:
     - MP4_NO_TRACK;
     - MP4_BOX_NOT_FOUND if the file has no moov, or the track lacks mdia, minf, stbl or a table that it has to have. A
-      track without stsz and without chunks has no samples;
+      track without stsz, stz2 and chunks has no samples;
+    - MP4_INVALID_DATA also if the sizes of stz2 have another number of bits than 4, 8 or 16, or are not all present;
     - MP4_SAMPLE_SIZES_DISAGREE to MP4_OFFSETS_DISAGREE.
    If a file has two moovs, only the first has tracks. */
 uint32_t mp4_samples(const uint8_t *bytes, size_t length, uint32_t track_id, struct mp4_sample *samples, size_t places,

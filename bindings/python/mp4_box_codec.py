@@ -962,7 +962,7 @@ def find(data: Any, path: str) -> Optional[Place]:
 
 def samples(data: Any, track_id: int) -> List[Sample]:
     """Returns the samples of the first track with a track_ID (8.3.2) in the bytes of a file, by the tables of its
-    `stbl`. A track without `stsz` and without chunks has none."""
+    `stbl`. A track without `stsz`, `stz2` and chunks has none."""
     return _listed(_samples(data, _number(track_id, _ALL[u32], "track_id"))[0], Sample, _SAMPLE)
 
 

@@ -83,6 +83,15 @@ def chunks():
         data = front() + moov(trak(stbl([offset], [size], 1, True)))
         found.append((f"chunk: {name}", data, [line(data, b"co64", f"{STBL}/co64", lies(
             f"chunk 1 at offset {offset}, past the end of the file ({len(data)} bytes)"))]))
+    # A sample of 40 bytes by an stz2 is all of the media data, and one of 41 is too long.
+    whole = stbl([MEDIA], [1])
+    place = whole.index(b"stsz") - 4
+    for size in (40, 41):
+        compact = full(b"stz2", 0, 0, be(4, 8, 1) + bytes([size]))
+        data = front() + moov(trak(box(b"stbl", whole[8:place] + compact + whole[place + 24:])))
+        wanted = line(data, b"stco", f"{STBL}/stco", lies(
+            f"chunk 1 at offset {MEDIA}, which ends at {end + 1}, past the end of its mdat at {end}"))
+        found.append((f"chunk: {size} bytes by an stz2", data, [wanted] if size > 40 else []))
     return found
 
 
@@ -280,6 +289,12 @@ def lacks():
     small = full(b"stz2", 0, 0, be(4, 8, 1) + b"\1")
     place = whole.index(b"stsz") - 4
     case("an stz2", media + moov(trak(box(b"stbl", whole[8:place] + small + whole[place + 24:]))), b"stbl", STBL, None)
+    for name, content, said in (("of 5 bits", be(4, 5, 1) + b"\1", "field_size must be 4, 8 or 16"),
+                                ("of too few bytes", be(4, 16, 1) + b"\1",
+                                 "sample_count indicates more sizes than could fit in the box")):
+        wrong = full(b"stz2", 0, 0, content)
+        case(f"an stz2 {name}", media + moov(trak(box(b"stbl", whole[8:place] + wrong + whole[place + 24:]))), b"stz2",
+             f"{STBL}/stz2", said)
     case("a co64", media + moov(trak(stbl([MEDIA], [1], 1, True))), b"stbl", STBL, None)
     case("no tkhd", media + moov(trak(table, 1, 1, b"")), b"trak", "moov/trak", "there is no tkhd")
     case("no mdia", media + moov(box(b"trak", tkhd(1))), b"trak", "moov/trak", "there is no mdia")

@@ -14,7 +14,7 @@ import subprocess
 
 from tests.built import TOP, built, codec, library
 from tests.interfaces.answers import Problem, Sample, Samples, listed
-from tests.readers.inspect import code_text, every, first, value_of
+from tests.readers.inspect import code_text, compact_fault, every, first, sizes_in, value_of
 from tests.readers.samples import disagreement, table_steps, unlisted
 
 END, INVALID, NOT_FOUND, NO_TRACK = 1, 2, 3, 101
@@ -53,8 +53,12 @@ class Asked:
 
     @functools.cached_property
     def reasons(self):
-        """The faults of boxes that the tree shows, by their positions."""
-        return {box["position"]: box["fault"] for box, _ in every(self.boxes) if "fault" in box}
+        """The faults of boxes by their positions: those that the tree shows, and those of the sizes in an `stz2`, whose
+        fields the tree shows without a fault."""
+        sizes = {box["position"]: compact_fault(box["fields"]) for box, _ in every(self.boxes)
+                 if box["type"] == "stz2" and "fields" in box}
+        shown = {box["position"]: box["fault"] for box, _ in every(self.boxes) if "fault" in box}
+        return {**{position: fault for position, fault in sizes.items() if fault}, **shown}
 
     @functools.cached_property
     def tree(self):
@@ -128,21 +132,21 @@ def shown_tables(trak):
         if not trak:
             return Samples([], Problem(f"there is no {name}"))
     boxes, is_wide = trak.get("children", []), not first(trak.get("children", []), "stco")
-    chunks = "co64" if is_wide else "stco"
-    names = ["stsz", chunks, "stsc", "stts", "ctts", "stss"]
+    chunks, counted = "co64" if is_wide else "stco", "stsz" if first(trak.get("children", []), "stsz") else "stz2"
+    names = [counted, chunks, "stsc", "stts", "ctts", "stss"]
     found = {name: first(boxes, name) for name in names}
     for name in names:
-        if "fault" in found[name]:
+        if "fault" in found[name] or name == counted and found[name] and not sizes_in(name, found[name]["fields"]):
             return Samples([], Problem(None, name, found[name]["position"]))
-        if name == chunks and not found["stsz"] and not value_of(found[chunks], "entries"):
+        if name == chunks and not found[counted] and not value_of(found[chunks], "entries"):
             return Samples([])
-        if not found["stsz"] and name == chunks:
+        if not found[counted] and name == chunks:
             return Samples([], Problem("there is no stsz"))
-        if not found[name] and name not in ("stsz", "ctts", "stss"):
+        if not found[name] and name not in (counted, "ctts", "stss"):
             return Samples([], Problem("there is no stco" if name == chunks else f"there is no {name}"))
-    sizes, rows = found["stsz"]["fields"], {name: value_of(found[name], "entries") for name in names}
+    rows = {name: value_of(found[name], "entries") for name in names}
     tables = {
-        "sizes": (sizes["sample_count"], sizes["sample_size"], sizes["sample_sizes"]), "offsets": rows[chunks],
+        "sizes": sizes_in(counted, found[counted]["fields"]), "offsets": rows[chunks],
         "runs": [(it["first_chunk"], it["samples_per_chunk"], it["sample_description_index"]) for it in rows["stsc"]],
         "durations": [(it["sample_count"], it["sample_delta"]) for it in rows["stts"]],
         "shifts": [(it["sample_count"], it["sample_offset"]) for it in rows["ctts"] or []], "sync": rows["stss"]}
@@ -213,9 +217,8 @@ def check(asked, answer):
         trak = f"moov/trak[{number}]" if number else "moov/trak"
         problems = [it for it in (*track[1:4], track.tables.problem) if isinstance(it, Problem)]
         for problem in problems:
-            # A track without a handler is no fault, for `check`. An stz2 is as good as an stsz.
-            is_stz2 = problem.text == "there is no stsz" and any("stz2" == box["type"] for box, _ in every(asked.boxes))
-            if problem.text != "there is no hdlr" and not is_stz2 and not reported(lines, trak, problem, asked.reasons):
+            # A track without a handler is no fault, for `check`.
+            if problem.text != "there is no hdlr" and not reported(lines, trak, problem, asked.reasons):
                 yield f"{trak}: {problem} is not reported"
         for name in ("tkhd", "mdia/hdlr", "mdia/mdhd"):
             for position, text in lines.get(f"{trak}/{name}", []):

@@ -83,6 +83,81 @@ def without_sizes():
     yield "an stsz and an stco", data, Answer([of(data, Problem("there is no stsc"))]), {}
 
 
+def counted_by(sizes, count, offsets):
+    """Returns tables of `count` samples, each in its own chunk at one of `offsets`, whose sizes are in the boxes
+    `sizes`."""
+    return box(b"stbl", stsd(visual(b"mp4v", 64, 48, b"", b"")) + full(b"stts", 0, 0, be(4, 1, count, 10)) + full(
+        b"stsc", 0, 0, be(4, 1, 1, 1, 1)) + sizes + full(b"stco", 0, 0, be(4, len(offsets), *offsets)))
+
+
+def stz2(bits, count, sizes, version=0):
+    return full(b"stz2", version, 0, be(4, bits, count) + sizes)
+
+
+def of_compact_sizes():
+    """Yields tracks whose sizes are in an `stz2` (8.7.3.3). The media data of a file are 3,000 bytes."""
+    begin = [MEDIA, MEDIA + 9, MEDIA + 19]
+    small = [Sample(MEDIA, 9, 0, 10), Sample(MEDIA + 9, 10, 10, 10), Sample(MEDIA + 19, 11, 20, 10)]
+    # The second size of a byte is in its lower half. That of the last byte is no size.
+    for name, sizes in (("of 4 bits, an odd number", stz2(4, 3, b"\x9a\xb0")),
+                        ("of 4 bits, an odd number, the last half used", stz2(4, 3, b"\x9a\xbf")),
+                        ("of 8 bits", stz2(8, 3, b"\x09\x0a\x0b")),
+                        ("of 16 bits", stz2(16, 3, b"\0\x09\0\x0a\0\x0b")),
+                        ("of 4 bits, one byte more", stz2(4, 3, b"\x9a\xb0\xcd")),
+                        ("of 8 bits, one byte more", stz2(8, 3, b"\x09\x0a\x0b\x0c")),
+                        ("of 16 bits, one byte more", stz2(16, 3, b"\0\x09\0\x0a\0\x0b\1"))):
+        data = front(3000) + moov(trak(counted_by(sizes, 3, begin)))
+        yield f"sizes {name}", data, Answer([of(data, small)]), {}
+    sizes = stz2(4, 4, b"\xf0\x1e")
+    data = front(3000) + moov(trak(counted_by(sizes, 4, [MEDIA, MEDIA + 100, MEDIA + 200, MEDIA + 300])))
+    yield "sizes of 4 bits, an even number", data, Answer([of(data, [
+        Sample(MEDIA, 15, 0, 10), Sample(MEDIA + 100, 0, 10, 10), Sample(MEDIA + 200, 1, 20, 10),
+        Sample(MEDIA + 300, 14, 30, 10)])]), {}
+    large = [Sample(MEDIA, 0x102, 0, 10), Sample(MEDIA + 0x102, 0x304, 10, 10)]
+    data = front(3000) + moov(trak(counted_by(stz2(16, 2, b"\1\2\3\4"), 2, [MEDIA, MEDIA + 0x102])))
+    yield "sizes of 16 bits above 255", data, Answer([of(data, large)]), {}
+    data = front(3000) + moov(trak(counted_by(stz2(8, 2, b"\x80\xff"), 2, [MEDIA, MEDIA + 128])))
+    yield "sizes of 8 bits above 127", data, Answer([of(data, [
+        Sample(MEDIA, 128, 0, 10), Sample(MEDIA + 128, 255, 10, 10)])]), {}
+    for name, sizes in (("of 0 bits", stz2(0, 3, b"\x9a\xb0")), ("of 5 bits", stz2(5, 3, b"\x9a\xb0")),
+                        ("of 32 bits", stz2(32, 3, bytes(12))), ("of 5 bits, none", stz2(5, 0, b"")),
+                        ("of 4 bits, one byte short", stz2(4, 3, b"\x9a")),
+                        ("of 8 bits, one byte short", stz2(8, 3, b"\x09\x0a")),
+                        ("of 16 bits, one byte short", stz2(16, 3, b"\0\x09\0\x0a\0")),
+                        ("of 4 bits, 2^32 - 1 of them", stz2(4, 2**32 - 1, b"\x9a\xb0")),
+                        ("in a box of version 1", stz2(4, 3, b"\x9a\xb0", 1)),
+                        ("in a box without a count", full(b"stz2", 0, 0, be(4, 4)))):
+        data = front(3000) + moov(trak(counted_by(sizes, 3, begin)))
+        yield f"sizes {name}", data, Answer([of(data, Problem(None, "stz2", at(data, b"stz2")))]), {}
+    # An stsz counts, wherever it is. Of two boxes stz2 the first counts.
+    listed, others = full(b"stsz", 0, 0, be(4, 0, 3, 9, 10, 11)), stz2(8, 2, b"\1\2")
+    for name, sizes in (("an stsz, and an stz2 of other sizes", listed + others),
+                        ("an stz2, and an stsz of other sizes", others + listed),
+                        ("an stz2 of 5 bits, and an stsz", stz2(5, 3, b"\1\2") + listed),
+                        ("two boxes stz2", stz2(4, 3, b"\x9a\xb0") + others)):
+        data = front(3000) + moov(trak(counted_by(sizes, 3, begin)))
+        yield name, data, Answer([of(data, small)]), {}
+    short = full(b"stsz", 0, 0, be(4, 0, 3, 9, 10))
+    data = front(3000) + moov(trak(counted_by(short + stz2(4, 3, b"\x9a\xb0"), 3, begin)))
+    yield "an stsz that is too short, and an stz2", data, Answer([
+        of(data, Problem(None, "stsz", at(data, b"stsz")))]), {}
+    for name, sizes in (("of 4 bits", stz2(4, 0, b"")), ("of 16 bits, with bytes", stz2(16, 0, b"\1\2"))):
+        data = front(3000) + moov(trak(counted_by(sizes, 0, [])))
+        yield f"no chunk, no sizes {name} in an stz2", data, Answer([of(data, [])]), {}
+    entry = stsd(visual(b"mp4v", 64, 48, b"", b""))
+    data = front(3000) + moov(trak(box(b"stbl", entry + stz2(4, 0, b""))))
+    yield "an stz2 of no sizes, no stco", data, Answer([of(data, Problem("there is no stco"))]), {}
+    data = front(3000) + moov(trak(counted_by(stz2(4, 3, b"\x9a\xb0"), 2, begin)))
+    yield "an stz2 of three sizes, and durations of two", data, Answer([
+        of(data, Problem("stts has a duration for 2 of 3 samples"))]), {}
+    # The fragments of such a track begin after its samples.
+    data, place, media = fragmented(counted_by(stz2(8, 2, b"\4\5"), 2, [0, 4]), [trex(1, 7)], lambda begin_: traf(
+        1, 0x20000, b"", trun(begin_, [6])))
+    yield "sizes of 8 bits, and a fragment", data, Answer([of(data, [
+        Sample(0, 4, 0, 10), Sample(4, 5, 10, 10)], fragments=Samples([Sample(media, 6, 20, 10)]))], [
+            Traf(place, 1)]), {}
+
+
 def without_track_id():
     samples, tables = two()
     second = tkhd(1, 0, 0, 1)
@@ -260,5 +335,5 @@ def of_entries():
 
 
 def cases():
-    return [*in_second_moov(), *without_sizes(), *without_track_id(), *of_one_track_id(), *without_boxes(),
-            *of_fragments(), *of_entries()]
+    return [*in_second_moov(), *without_sizes(), *of_compact_sizes(), *without_track_id(), *of_one_track_id(),
+            *without_boxes(), *of_fragments(), *of_entries()]

@@ -42,12 +42,14 @@ def fail(text):
 
 class Track:
     """A track: the sizes of the samples of its chunks, the contents of its other tables, and its header. `number` is
-    its track_ID, unless the header has another one. A track that `has_tables` is false for has only an `stsd`."""
+    its track_ID, unless the header has another one. A track that `has_tables` is false for has only an `stsd`. If
+    `compact` is not None, it is the content of an `stz2` with the sizes, after version and flags."""
 
     def __init__(self, number, chunks, wide=False, sync=None, shifts=None, one=0, pad=b"", sizes=None, header=None,
-                 has_tables=True):
+                 has_tables=True, compact=None):
         self.number, self.chunks, self.wide, self.sync, self.shifts = number, chunks, wide, sync, shifts
         self.one, self.pad, self.sizes, self.header, self.has_tables = one, pad, sizes, header, has_tables
+        self.compact = compact
 
     def box(self, offsets):
         if not self.has_tables:
@@ -60,7 +62,10 @@ class Track:
         if self.sync is not None:
             table += full(b"stss", 0, 0, be(4, len(self.sync), *self.sync))
         table += full(b"stsc", 0, 0, be(4, len(runs)) + b"".join(runs))
-        table += full(b"stsz", 0, 0, be(4, self.one, len(sizes)) + (b"" if self.one else be(4, *sizes)))
+        if self.compact is None:
+            table += full(b"stsz", 0, 0, be(4, self.one, len(sizes)) + (b"" if self.one else be(4, *sizes)))
+        else:
+            table += full(b"stz2", 0, 0, self.compact)
         name = b"co64" if self.wide else b"stco"
         table += full(name, 0, 0, be(4, len(offsets)) + be(OFFSETS[name], *offsets) + self.pad)
         return track(self.number, b"vide", b"", b"eng", [], table, self.header)
@@ -233,6 +238,9 @@ def moved(runs, random_, files):
     runs.moves("a size of 64 bits", made(random_, [one], long_header=True))
     runs.moves("no size", made(random_, [one, two], no_size=True))
     runs.moves("alike sizes", made(random_, [Track(1, [[9, 9], [9]], one=9)]))
+    for bits, sizes in ((4, b"\x9a\xb0"), (8, b"\x09\x0a\x0b"), (16, b"\0\x09\0\x0a\0\x0b")):
+        compact = Track(1, [[9, 10], [11]], compact=be(4, bits, 3) + sizes)
+        runs.moves(f"sizes of {bits} bits", made(random_, [compact, two], [1, 2, 2, 1, 2]))
     runs.moves("no samples", made(random_, [Track(1, []), two]))
     runs.moves("nothing in front", made(random_, [one], front=b""))
     runs.moves("QuickTime", made(random_, [one], front=ftyp(b"qt  ", b"qt  ") + box(b"wide")))
@@ -319,6 +327,12 @@ def refused(runs, random_):
     top = next(it for it in boxes(data, 0, len(data), True) if it[0] == b"moov")
     at = [it[1] for it in inner(data, top) if it[0] == b"trak"][1]
     runs.refuses(data, f"trak 2 at {at}: the chunks hold 1 of 2 samples")
+    for content, text in ((be(4, 5, 2) + b"\xaa", "field_size must be 4, 8 or 16"),
+                          (be(4, 8, 2) + b"\x0a", "sample_count indicates more sizes than could fit in the box")):
+        data = made(random_, [one, Track(2, [[10], [10]], compact=content)])
+        top = next(it for it in boxes(data, 0, len(data), True) if it[0] == b"moov")
+        at = [it[1] for it in inner(data, top) if it[0] == b"trak"][1]
+        runs.refuses(data, f"trak 2 at {at}: stz2 at {data.index(b'stz2') - 4}: {text}")
     # An offset of 32 bits would overflow.
     runs.write("in.mp4", ftyp(b"isom") + be(4, 1) + b"mdat" + be(8, 2**32 - 100))
     start = len(ftyp(b"isom"))

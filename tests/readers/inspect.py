@@ -575,19 +575,41 @@ ONCE = {"moov": "mvhd iods mvex meta udta".split(), "trak": "tkhd tref trgr edts
 FILES = {"moov", "moof", "meta", "sidx"}
 
 
+def compact_fault(fields):
+    """Returns why the sizes in the fields of an `stz2` can't be listed, or None if they can (8.7.3.3)."""
+    if fields["field_size"] not in (4, 8, 16):
+        return "field_size must be 4, 8 or 16"
+    if "data_bytes" in fields and 4 * len(fields["data_bytes"]) < fields["field_size"] * fields["sample_count"]:
+        return "sample_count indicates more sizes than could fit in the box"
+    return None
+
+
+def sizes_in(name, fields):
+    """Returns the number of samples, their one size or 0, and the list of their sizes, in the fields of a box with the
+    name `name`, or None if the sizes of an `stz2` can't be listed. Their bytes are shown if they don't fill the box."""
+    if name == "stsz":
+        return fields["sample_count"], fields["sample_size"], fields["sample_sizes"]
+    if compact_fault(fields):
+        return None
+    count, width, digits = fields["sample_count"], fields["field_size"] // 4, fields.get("data_bytes")
+    sizes = fields["entry_size"] if digits is None else [
+        int(digits[at:at + width], 16) for at in range(0, width * count, width)]
+    return count, 0, sizes
+
+
 def tables_of(table):
     """Returns the tables of samples in an `stbl`, the first of each, or None if one is missing or can't be read."""
     found = {}
     for box in table.get("children", []):
         found.setdefault(box["type"], box)
-    chunks = found.get("stco") or found.get("co64")
-    used = [chunks, *(found[name] for name in ("stsz", "stsc", "stts", "ctts", "stss") if name in found)]
-    if chunks is None or not {"stsz", "stsc", "stts"} <= set(found) or not all("fields" in box for box in used):
+    chunks, name = found.get("stco") or found.get("co64"), "stsz" if "stsz" in found else "stz2"
+    used = [chunks, *(found[name] for name in (name, "stsc", "stts", "ctts", "stss") if name in found)]
+    if chunks is None or not {name, "stsc", "stts"} <= set(found) or not all("fields" in box for box in used):
         return None
-    sizes, runs, times = (found[name]["fields"] for name in ("stsz", "stsc", "stts"))
+    sizes, runs, times = (found[name]["fields"] for name in (name, "stsc", "stts"))
     sync = found["stss"]["fields"]["entries"] if "stss" in found else None
-    return {
-        "sizes": (sizes["sample_count"], sizes["sample_size"], sizes["sample_sizes"]),
+    return sizes_in(name, sizes) and {
+        "sizes": sizes_in(name, sizes),
         "runs": [(run["first_chunk"], run["samples_per_chunk"], 0) for run in runs["entries"]],
         "offsets": chunks["fields"]["entries"], "position": chunks["position"],
         "durations": [(time["sample_count"], time["sample_delta"]) for time in times["entries"]], "sync": sync}
@@ -658,6 +680,8 @@ class Check:
             found.append(f"there is {', '.join('no ' + names for names in lacks)}" if lacks else None)
         if name == "stbl" and is_whole(box) and len(around) == 4:
             found.append(self.tables(box))
+        if name == "stz2" and is_whole(box) and len(around) == 5 and parent == "stbl" and "fields" in box:
+            found.append(compact_fault(box["fields"]))
         if name == "traf" and is_whole(box) and len(around) == 1 and parent == "moof":
             found.append(self.runs(box, top))
         self.found += [f"{box['position']} {path}: {line}" for line in found if line]

@@ -79,6 +79,18 @@ def sizes_of(box):
     return (count, one, []) if one else (count, 0, [size for size, in entries(box, 12, ">I", 8)])
 
 
+def compact_sizes_of(box):
+    """Returns the number of samples of `box`, an `stz2`, 0, and the list of their sizes (8.7.3.3). A size is one, two
+    or four hexadecimal digits of the content, in their order. Bytes after the last size have no meaning."""
+    content, whole = box[2], box[3]
+    if not whole or len(content) < 12 or content[0]:
+        raise Bad(None, box)
+    (count,), digits, width = struct.unpack_from(">I", content, 8), content[12:].hex(), content[7] // 4
+    if content[7] not in (4, 8, 16) or len(digits) < width * count:
+        raise Bad(None, box)
+    return count, 0, [int(digits[at:at + width], 16) for at in range(0, width * count, width)]
+
+
 def runs_of(box):
     """Returns the entries of `box`, an `stsc`. It can't be read if the number of the first sample of an entry has more
     than 32 bits, or an entry begins before the one before it (docs/LAYOUT.md)."""
@@ -91,7 +103,8 @@ def runs_of(box):
 
 
 def tables_of(data, table):
-    """Returns the tables directly in `table`, an `stbl`. A track with no `stsz` and no chunk has no samples."""
+    """Returns the tables directly in `table`, an `stbl`. The sizes are those of the `stsz`, or else of the `stz2`. A
+    track with neither and no chunk has no samples."""
     found = inner(data, table)
 
     def read(code, form, name=None):
@@ -100,8 +113,8 @@ def tables_of(data, table):
         if box is None and name is not None:
             raise Bad(f"there is no {name}")
         return None if box is None else runs_of(box) if code == b"stsc" else entries(box, 8, form)
-    sizes = first(found, b"stsz")
-    counted = (0, 0, []) if sizes is None else sizes_of(sizes)
+    sizes = first(found, b"stsz") or first(found, b"stz2")
+    counted = (0, 0, []) if sizes is None else (sizes_of if sizes[0] == b"stsz" else compact_sizes_of)(sizes)
     offsets = read(b"stco", ">I") if first(found, b"stco") else read(b"co64", ">Q")
     if sizes is None and not offsets:
         return {"sizes": counted, "runs": [], "offsets": [], "durations": [], "shifts": [], "sync": None}

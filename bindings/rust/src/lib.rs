@@ -247,7 +247,7 @@ pub fn find(bytes: &[u8], path: &str) -> Result<Option<Place>> {
 }
 
 /// Returns the samples of the first track with a track_ID (8.3.2) in the bytes of a file, by the tables of its `stbl`.
-/// A track without `stsz` and without chunks has none.
+/// A track without `stsz`, `stz2` and chunks has none.
 pub fn samples(bytes: &[u8], track_id: u32) -> Result<Vec<Sample>> {
     // SAFETY: as in `filled`.
     let found = filled_by(|rows: &mut Vec<Sample>, count: &mut usize| unsafe {

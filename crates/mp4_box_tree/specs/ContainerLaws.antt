@@ -1,24 +1,26 @@
 -- The laws of a container follow from the laws of the boxes that it holds.
-use Rattle.std.proofs.Common.{◌≡◌, ℕ, ◌+◌, ◌-◌, ◌<◌, ◌^◌, Bool, true, false, eqb, List, [], ◌∷◌, ◌++◌}
-use Rattle.std.proofs.Common.{length, map, drop}
+use Rattle.std.proofs.Common.{◌≡◌, ℕ, ◌+◌, ◌-◌, ◌≤◌, ◌<◌, ◌^◌, Bool, true, false, eqb, List, [], ◌∷◌, ◌++◌}
+use Rattle.std.proofs.Common.{length, map, take, drop}
 use Rattle.std.proofs.Common.{Ok, refl, sym, ap, subst, ◌∙◌, arith, append_assoc, length-append}
 use Rattle.std.specs.Prelude.{nat_le, sum_by}
 use Rattle.std.specs.List.{AllByRecursion}
-use Rattle.std.proofs.lemmas.Bool.{le-leb, ne_eqb}
+use Rattle.std.proofs.lemmas.Bool.{le-leb, leb-true, ne_eqb}
+use Rattle.std.proofs.lemmas.List.{length-drop, length-take-le, take-append-drop, take_all}
 use Rattle.std.proofs.lemmas.List.Elements.{All-from_recursion, recursion_from_All}
 use Rattle.mp4_frame.specs.BoxType.{name_of, code_of, code_of-name_of}
 use Rattle.mp4_frame.specs.Bytes.{bytes_of_fields, number}
 use Rattle.mp4_frame.specs.Format.{Format, IsWritten}
 use Rattle.mp4_frame.specs.Laws.{AreBytes, BeginsWithHeader, Normal, OwnName, ReadsBack, ContentReadsBack}
-use Rattle.mp4_frame.specs.Laws.{ContentIsStable}
+use Rattle.mp4_frame.specs.Laws.{ContentIsStable, IsWhole}
 use Rattle.mp4_frame.specs.Reading.{Reading, ◌>>=◌, piece_at, done, reading}
 use Rattle.mp4_frame.specs.ReadingLaws.{reads_back}
 use Rattle.mp4_frame.specs.Streams.{stream, boxes}
 use Rattle.mp4_frame.specs.declared.box_type.BoxType.{BoxType}
 use Rattle.mp4_frame.proofs.Checks.{are_bytes-drop, check_ok, is_value, piece_back, reads_ok}
 use Rattle.mp4_frame.proofs.Decided.{outcome_bind}
-use Rattle.mp4_frame.proofs.Fields.{length-fields}
+use Rattle.mp4_frame.proofs.Fields.{length-fields, number-below}
 use Rattle.mp4_declared.specs.OwnBoxLaws.{header_of_code}
+use Rattle.mp4_frame.proofs.NumberBytes.{fields_there}
 use Rattle.mp4_frame.proofs.Numbers.{number-front}
 use Rattle.mp4_frame.proofs.RoundTrip.{whole}
 use Rattle.mp4_frame.proofs.Tables.{value_first}
@@ -26,9 +28,10 @@ use Rattle.mp4_compose.proofs.StableLists.{own_normal_forms, are_writable, read_
 use Rattle.mp4_compose.proofs.StableLists.{normals_are_writable, normals_have_same_bytes}
 use Rattle.mp4_compose.specs.Fronts.{are_bytes-take}
 use Rattle.mp4_compose.specs.Either.{ByCode}
+use Rattle.mp4_compose.specs.Kept.{AreKept, IsWrittenIn}
 use Rattle.mp4_compose.specs.Stable.{ReadsStably, ReadsOwnCode}
 use Rattle.mp4_box_tree.specs.Container.{with_fields, content_container, reads_container, known_container}
-use Rattle.mp4_box_tree.specs.Container.{size_container, header_container, content_of, WritableContainer}
+use Rattle.mp4_box_tree.specs.Container.{HasFront, size_container, header_container, content_of, WritableContainer}
 use Rattle.mp4_box_tree.specs.Container.{bytes_container, format_container}
 use Rattle.mp4_box_tree.specs.FrontLaws.{width_back, front_read}
 use Rattle.mp4_box_tree.specs.HeldBoxes.{stream_long, each_below, normals_again, piece_read}
@@ -177,81 +180,115 @@ module _ {A : Type 0} (format : Format A) (laws : IsWritten format) where
           (reads_back (reads_in v.code) (bytes_container format v) (size_container format v) (normal v)
           (header_law v w).long (content_back v w))
 
-    same_code : (code : ℕ) (fields : List ℕ) (vs : List A) (v : Container A) → holding code fields vs ≡ v
-        → v.code ≡ code
-    same_code code fields vs v is = ap (λ (u : Container A). u.code) (sym is)
+    -- what a container in this content holds
+    record IsIn (code : ℕ) (content : List ℕ) (v : Container A) : Type 0 where
+      coded : v.code ≡ code
+      fields : take (length v.fields) content ≡ v.fields
+      room : length v.fields ≤ length content
+      front : is_front code v.fields ≡ true
+      held : (boxes known named_reading content (length v.fields)).outcome ≡ Ok v.boxes
 
-    -- the value has the code that it was read with
-    code_read : (code : ℕ) (bytes : List ℕ) (start size : ℕ) (v : Container A)
-        → (reads_in code bytes start size).outcome ≡ Ok v → v.code ≡ code
+    container_read : (code : ℕ) (bytes : List ℕ) (start size : ℕ) (v : Container A)
+        → (reads_in code bytes start size).outcome ≡ Ok v
+        → (8 ≤ size) × IsIn code (take (size - 8) (drop 8 bytes)) v
     unfolding content_container
-    code_read code bytes start size v e =
-        let a = check_ok (nat_le 8 size) (λ _. piece_at bytes 8 (size - 8) >>= after_content code) v e in
-        let b = value_first (piece_at bytes 8 (size - 8)) (after_content code) v a.1 in
-        let c = value_first (piece_at b.0 0 (width_in code b.0))
-        (λ fields. with_fields known named_reading code b.0 fields) v b.2 in
-        let d = value_first (boxes known named_reading b.0 (length c.0)) (λ vs. done (holding code c.0 vs)) v c.2 in
-        same_code code c.0 d.0 v (is_value (holding code c.0 d.0) v d.2)
+    container_read code bytes start size v e =
+        let a = check_ok (nat_le 8 size) (λ _. piece_at bytes 8 (size - 8) >>= after_content) v e in
+        let b = value_first (piece_at bytes 8 (size - 8)) after_content v a.1 in
+        let content = b.0 in
+        let width = width_in code content in
+        let c = value_first (piece_at content 0 width) (λ fields. with_fields known named_reading code content fields) v
+        b.2 in
+        let fields = c.0 in
+        let q = piece_read content 0 width fields c.1 in
+        let room : width ≤ length content = omega (arith, q.1 (omega arith)) in
+        let long : length fields ≡ width = ap length (sym q.0) ∙ length-take-le width content room in
+        let d = value_first (boxes known named_reading content (length fields)) (λ vs. done (holding code fields vs)) v
+        c.2 in (
+          leb-true 8 size a.0,
+          subst (λ (bs : List ℕ). IsIn code bs v) (sym (piece_read bytes 8 (size - 8) content b.1).0)
+              (subst (λ (u : Container A). IsIn code content u) (is_value (holding code fields d.0) v d.2)
+              (record {
+                coded = refl;
+                fields = ap (λ (n : ℕ). take n content) long ∙ q.0;
+                room = omega (arith, long, room);
+                front = subst (λ (bs : List ℕ). is_front code bs ≡ true) q.0 (front_read code content room);
+                held = d.1;
+              })),
+        )
       where
-        after_content : ℕ → List ℕ → Reading (Container A)
-        after_content code content =
+        after_content : List ℕ → Reading (Container A)
+        after_content content =
             piece_at content 0 (width_in code content)
             >>= λ fields. with_fields known named_reading code content fields
+
+    -- a container whose header has 8 bytes, and whose boxes are written in the bytes that were read
+    pub kept_container : (name : BoxType) (bytes : List ℕ) (v : Container A)
+        → (reading_in name bytes 0 (length bytes)).outcome ≡ Ok v → IsWhole v.code bytes
+        → AreKept known named_reading format (drop 8 bytes) (length v.fields)
+        → IsWrittenIn (format_container format) bytes v
+    unfolding bytes_container
+    kept_container name bytes v e whole kept =
+        let code = code_of name in
+        let there = drop 8 bytes in
+        let short : length there ≤ length bytes - 8 = omega (arith, length-drop 8 bytes) in
+        let r = container_read code bytes 0 (length bytes) v (reads_ok (reads_in code) bytes 0 (length bytes) v e) in
+        let p = subst (λ (bs : List ℕ). IsIn code bs v) (take_all (length bytes - 8) there short) r.1 in
+        let k = kept v.boxes p.held in
+        let content : content_of format v ≡ there =
+        ap (λ (bs : List ℕ). v.fields ++ bs) k.1
+        ∙ ap (λ (bs : List ℕ). bs ++ drop (length v.fields) there) (sym p.fields)
+        ∙ take-append-drop (length v.fields) there in
+        let least : 8 ≤ length bytes = r.0 in
+        let sizes = stream_long format laws v.boxes (recursion_from_All format.Writable v.boxes k.0) in
+        let size : size_container format v ≡ length bytes =
+        omega (
+          arith,
+          sizes,
+          ap length content,
+          length-append v.fields (stream format.bytes v.boxes),
+          length-drop 8 bytes,
+          least,
+        ) in
+        let same : bytes_container format v ≡ bytes =
+        ap (λ (n : ℕ). bytes_of_fields ((4, n) ∷ (4, v.code) ∷ []) ++ content_of format v) (size ∙ sym whole.size_first)
+        ∙ ap (λ (n : ℕ). bytes_of_fields ((4, number bytes 0 4) ∷ (4, n) ∷ []) ++ content_of format v)
+        (sym whole.code_next)
+        ∙ ap (λ (bs : List ℕ). bs ++ content_of format v)
+        (fields_there bytes whole.are 0 (4 ∷ 4 ∷ []) (omega (arith, least)))
+        ∙ ap (λ (bs : List ℕ). take 8 bytes ++ bs) content
+        ∙ take-append-drop 8 bytes in
+        (omega (arith, size, whole.size_first, number-below bytes 0 4 whole.are), same)
 
     pub code_in_container : ReadsOwnCode known_container reading_in (format_container format)
     code_in_container name is bytes start size v e =
         let code = code_of name in
         code_of-name_of v.code
-        ∙ code_read code _ start size v (reads_ok (reads_in code) bytes start size v e)
+        ∙ (container_read code _ start size v (reads_ok (reads_in code) bytes start size v e)).1.coded
 
     module _ (sound : ReadsStably known named_reading format) where
-      stable_boxes : (code : ℕ) → code < 2 ^ 32 → is_parent code ≡ true → (content : List ℕ) → AreBytes content
-          → (fields : List ℕ) → AreBytes fields → is_front code fields ≡ true → (vs : List A)
-          → (boxes known named_reading content (length fields)).outcome ≡ Ok vs
-          → (normal (holding code fields vs) ≡ holding code fields vs)
-          × (size_container format (holding code fields vs) < 2 ^ 32
-          → WritableContainer format (holding code fields vs))
-      stable_boxes code fits parent content are fields fields_are front vs e =
-          let s = read_lists_are_stable format known named_reading sound content are (length fields) vs e in (
-            ap (holding code fields) (own_normal_forms format known named_reading vs s),
-            λ small. record {
-              front = record { coded = fits; parent = parent; is = front; are = fields_are };
-              small = small;
-              each = All-from_recursion format.Writable vs
-                  (are_writable format known named_reading vs s
-                  (each_below format.size vs (2 ^ 32) (omega (arith, small))));
-            },
-          )
-
       stable_content : (code : ℕ) → code < 2 ^ 32 → is_parent code ≡ true
           → ContentIsStable (reads_in code) (WritableContainer format) (size_container format) normal
-      unfolding content_container
       stable_content code fits parent bytes start size v are e =
-          let a = check_ok (nat_le 8 size) (λ _. piece_at bytes 8 (size - 8) >>= after_content) v e in
-          let b = value_first (piece_at bytes 8 (size - 8)) after_content v a.1 in
-          let content = b.0 in
-          let p = piece_read bytes 8 (size - 8) content b.1 in
-          let content_are : AreBytes content =
-          subst AreBytes p.0 (are_bytes-take (size - 8) (drop 8 bytes) (are_bytes-drop 8 bytes are)) in
-          let width = width_in code content in
-          let c = value_first (piece_at content 0 width) (λ fields. with_fields known named_reading code content fields)
-          v b.2 in
-          let fields = c.0 in
-          let q = piece_read content 0 width fields c.1 in
-          let fields_are : AreBytes fields = subst AreBytes q.0 (are_bytes-take width content content_are) in
-          let front : is_front code fields ≡ true =
-          subst (λ (bs : List ℕ). is_front code bs ≡ true) q.0
-          (front_read code content (omega (arith, q.1 (omega arith)))) in
-          let d = value_first (boxes known named_reading content (length fields))
-          (λ vs. done (holding code fields vs)) v c.2 in
-          subst (λ (u : Container A). (normal u ≡ u) × (size_container format u < 2 ^ 32 → WritableContainer format u))
-          (is_value (holding code fields d.0) v d.2)
-          (stable_boxes code fits parent content content_are fields fields_are front d.0 d.1)
-        where
-          after_content : List ℕ → Reading (Container A)
-          after_content content =
-              piece_at content 0 (width_in code content)
-              >>= λ fields. with_fields known named_reading code content fields
+          let content = take (size - 8) (drop 8 bytes) in
+          let content_are = are_bytes-take (size - 8) (drop 8 bytes) (are_bytes-drop 8 bytes are) in
+          let p = (container_read code bytes start size v e).1 in
+          let s = read_lists_are_stable format known named_reading sound content content_are (length v.fields) v.boxes
+          p.held in (
+            ap (holding v.code v.fields) (own_normal_forms format known named_reading v.boxes s),
+            λ small. record {
+              front = subst (λ (n : ℕ). HasFront n v.fields) (sym p.coded) (record {
+                coded = fits;
+                parent = parent;
+                is = p.front;
+                are = subst AreBytes p.fields (are_bytes-take (length v.fields) content content_are);
+              });
+              small = small;
+              each = All-from_recursion format.Writable v.boxes
+                  (are_writable format known named_reading v.boxes s
+                  (each_below format.size v.boxes (2 ^ 32) (omega (arith, small))));
+            },
+          )
 
       pub stable_in_container : ReadsStably known_container reading_in (format_container format)
       stable_in_container name is fits bytes start size v are e =

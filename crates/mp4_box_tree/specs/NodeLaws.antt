@@ -6,8 +6,9 @@ use Rattle.mp4_frame.specs.declared.box_type.BoxType.{BoxType}
 use Rattle.mp4_compose.specs.ChildBox.{IsChild}
 use Rattle.mp4_compose.specs.ChildLaws.{child_or}
 use Rattle.mp4_compose.specs.Lossless.{known_lossless}
-use Rattle.mp4_compose.specs.LosslessLaws.{child_lossless, code_lossless}
+use Rattle.mp4_compose.specs.LosslessLaws.{child_lossless, code_lossless, keeps_lossless}
 use Rattle.mp4_compose.specs.EitherLaws.{code_or}
+use Rattle.mp4_compose.specs.Kept.{KeepsBytes}
 use Rattle.mp4_compose.specs.Stable.{ReadsOwnCode}
 use Rattle.mp4_box_tree.specs.Node.{known_typed, reading_container, reading_typed, format_typed}
 use Rattle.mp4_box_tree.specs.Node.{reading_node, format_node}
@@ -48,6 +49,12 @@ module _ {A B : Type 0} {known : BoxType → Bool} {named_reading : BoxType → 
       (format_node known named_reading format rest_known rest_reading rest)
   child_node =
       child_lossless (known_typed rest_known) (reading_typed known named_reading format rest_known rest_reading rest)
+      (format_typed known named_reading format rest_known rest_reading rest) child_typed code_typed
+
+  pub keeps_node : KeepsBytes known_lossless (reading_node known named_reading format rest_known rest_reading rest)
+      (format_node known named_reading format rest_known rest_reading rest)
+  keeps_node =
+      keeps_lossless (known_typed rest_known) (reading_typed known named_reading format rest_known rest_reading rest)
       (format_typed known named_reading format rest_known rest_reading rest) child_typed code_typed
 
   pub code_node : ReadsOwnCode known_lossless (reading_node known named_reading format rest_known rest_reading rest)

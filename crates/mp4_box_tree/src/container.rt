@@ -13,7 +13,7 @@ use crate::fronts::{is_parent, width_in};
 use mp4_compose::{ChildBox, CodedBox, StableBox};
 use mp4_frame::{
     BoxType, ByteCursor, Entries, Mp4Box, Result, StreamBox, WriteBox, bytes_from, check,
-    check_end, piece_at, put_bytes, put_u32,
+    check_end, is_whole, piece_at, put_bytes, put_u32,
 };
 use std::alloc::Global;
 
@@ -127,6 +127,13 @@ impl<B: ChildBox> StableBox for Container<B> {
         B.child_laws.stable };
 
     ghost own_code = { code_in_container B.child_format B.child_laws.written B.child_known B.child_reading };
+
+    fn is_kept_in(&self, _name: BoxType, bytes: &[u8]) -> bool {
+        if !is_whole(bytes, self.code) {
+            return false;
+        }
+        B::are_kept_in(bytes_from(bytes, 8), self.fields.len())
+    }
 }
 
 impl<B: ChildBox> CodedBox for Container<B> {

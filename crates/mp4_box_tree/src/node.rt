@@ -8,7 +8,8 @@ ghost use Rattle.mp4_compose.specs.Lossless.{known_lossless};
 
 use crate::container::Container;
 use mp4_compose::{
-    ChildBox, Either, Lossless, StableBox, all_writable, read_children_as, total_size,
+    ChildBox, Either, Lossless, StableBox, all_writable, have_short_headers, read_children_as,
+    total_size,
 };
 use mp4_frame::{BoxType, ByteCursor, Mp4Box, Result, StreamBox, WriteBox, put_boxes};
 use std::alloc::Global;
@@ -136,6 +137,10 @@ impl<L: ChildBox, B: StableBox> ChildBox for Node<L, B> {
 
     fn read_children(alloc: Global, content: &[u8], at: u64) -> Result<Vec<Self>> {
         read_children_as(alloc, content, at)
+    }
+
+    fn are_kept_in(content: &[u8], at: usize) -> bool {
+        have_short_headers::<Self>(content, at)
     }
 
     fn size_of_children(boxes: &[Self]) -> u64 {

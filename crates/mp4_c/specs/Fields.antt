@@ -5,10 +5,10 @@ use Rattle.json.specs.Json.{Members, object}
 use Rattle.json.specs.Print.{print}
 use Rattle.json.specs.Tree.{json_tokens}
 use Rattle.json.specs.Written.{Written}
-use Rattle.mp4_c_boxes.specs.CopiesRows.{Fills}
+use Rattle.mp4_c_boxes.specs.Calls.{Fills}
 use Rattle.mp4_c_boxes.specs.Status.{status_of}
 use Rattle.mp4_c_boxes.specs.declared.status.TheConstants.{OUT_OF_MEMORY}
-use Rattle.mp4_c.specs.declared.named_fields.TheConstants.{UNKNOWN_BOX}
+use Rattle.mp4_c.specs.declared.fields.TheConstants.{UNKNOWN_BOX}
 use Rattle.mp4_c.specs.Front.{front_known}
 use Rattle.mp4_frame.specs.Reading.{Reading, Refuses}
 use Rattle.mp4_frame.specs.declared.box_type.BoxType.{BoxType}

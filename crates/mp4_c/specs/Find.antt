@@ -1,11 +1,10 @@
 -- The box at a path, for C.
 use Rattle.std.specs.Prelude.{◌≡◌, ℕ, ◌⊎◌, ◌==◌, nat_lt, List, drop, length, None, Some, if◌then◌else◌}
 use Rattle.std.specs.declared.option.Option.{Option}
+use Rattle.mp4_c.specs.Found.{code_or_zero}
 use Rattle.mp4_c.specs.declared.find.Place.{Place}
 use Rattle.mp4_c_boxes.specs.declared.status.TheConstants as statuses
 use Rattle.mp4_frame.specs.Bytes.{number}
-use Rattle.mp4_frame.specs.FourCC.{number_of}
-use Rattle.mp4_frame.specs.declared.four_cc.FourCC.{FourCC}
 use Rattle.mp4_walk.specs.Paths.{at_path}
 use Rattle.mp4_walk.specs.Tops.{is_whole}
 use Rattle.mp4_walk.specs.FileBoxes.{boxes_of}
@@ -13,10 +12,6 @@ use Rattle.mp4_walk.specs.declared.path.PathPart.{PathPart}
 use Rattle.mp4_walk.specs.declared.tree_box.TreeBox.{TreeBox}
 use Rattle.mp4_walk.specs.declared.tree_box.BoxState.{BoxState}
 use Rattle.mp4_walk.specs.declared.tree_box.BoxState.TheVariants as states
-
-abbrev pub code_or_zero : Option FourCC → ℕ
-code_or_zero None = 0
-code_or_zero (Some c) = number_of c
 
 -- the struct of a box whose header has this length and states this length of the box
 abbrev pub place_as : TreeBox → ℕ → ℕ → Place

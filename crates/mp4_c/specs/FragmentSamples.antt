@@ -2,7 +2,7 @@
 use Rattle.std.specs.Prelude.{◌≡◌, ℕ, ◌-◌, ◌<◌, ◌^◌, ◌==◌, ◌⊎◌, Bool, true, List, [], ◌∷◌, ◌++◌, length, min}
 use Rattle.std.specs.Prelude.{slice_get, sum_by, Result, Ok, Err, None, Some, if◌then◌else◌}
 use Rattle.std.specs.declared.option.Option.{Option}
-use Rattle.mp4_c_boxes.specs.CopiesRows.{Fills}
+use Rattle.mp4_c_boxes.specs.Calls.{Fills}
 use Rattle.mp4_c_boxes.specs.declared.status.TheConstants as statuses
 use Rattle.mp4_samples.specs.FragmentGives.{sample_total}
 use Rattle.mp4_samples.specs.Fragments.{Faults, IsFragmentSample, sample_time}
@@ -140,9 +140,14 @@ CopiesTrackFragments B id None status old new count_old count_new =
 CopiesTrackFragments B id (Some number) status old new count_old count_new =
     CopiesFrom B id (of_track (time_end_of B) number (traks (boxes_of B))) status old new count_old count_new
 
--- The samples of all fragments of the first track with a track_ID are copied, if there is such a track; or memory is
--- refused.
+-- The samples of all fragments of the track of a number and a track_ID are copied, if there is such a track; or memory
+-- is refused.
+abbrev pub CopiesFragmentsOf : List ℕ → ℕ → Option ℕ → ℕ → List SampleRow → List SampleRow → ℕ → ℕ → Type 0
+CopiesFragmentsOf B id number status old new count_old count_new =
+    Stops statuses.OUT_OF_MEMORY status old new count_old count_new
+    ⊎ CopiesTrackFragments B id number status old new count_old count_new
+
+-- those of the first track with a track_ID
 abbrev pub CopiesFragments : List ℕ → ℕ → ℕ → List SampleRow → List SampleRow → ℕ → ℕ → Type 0
 CopiesFragments B id status old new count_old count_new =
-    Stops statuses.OUT_OF_MEMORY status old new count_old count_new
-    ⊎ CopiesTrackFragments B id (number_of B id) status old new count_old count_new
+    CopiesFragmentsOf B id (number_of B id) status old new count_old count_new

@@ -1,9 +1,9 @@
 pub mod Spans
+pub mod Found
 pub mod Find
 pub mod Tracks
 pub mod Samples
 pub mod FragmentSamples
-pub mod Found
 pub mod Levels
 pub mod Walks
 pub mod Front

@@ -74,8 +74,13 @@ CopiesTrack B None status old new count_old count_new =
 CopiesTrack B (Some number) status old new count_old count_new =
     CopiesAnswer (of_track (samples_of B) number (traks (boxes_of B))) status old new count_old count_new
 
--- The samples of the first track with a track_ID are copied, if there is such a track; or memory is refused.
+-- The samples of the track of a number are copied, if there is such a track; or memory is refused.
+abbrev pub CopiesOf : List ℕ → Option ℕ → ℕ → List SampleRow → List SampleRow → ℕ → ℕ → Type 0
+CopiesOf B number status old new count_old count_new =
+    Stops statuses.OUT_OF_MEMORY status old new count_old count_new
+    ⊎ CopiesTrack B number status old new count_old count_new
+
+-- those of the first track with a track_ID
 abbrev pub CopiesSamples : List ℕ → ℕ → ℕ → List SampleRow → List SampleRow → ℕ → ℕ → Type 0
 CopiesSamples B id status old new count_old count_new =
-    Stops statuses.OUT_OF_MEMORY status old new count_old count_new
-    ⊎ CopiesTrack B (number_of B id) status old new count_old count_new
+    CopiesOf B (number_of B id) status old new count_old count_new

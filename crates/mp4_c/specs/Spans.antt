@@ -9,12 +9,7 @@ use Rattle.mp4_c.specs.declared.list.Span.{Span}
 -- the span of the box of a frame: its position, its length, the length of its header, and its code
 abbrev pub span_of : Frame → Span
 span_of f =
-    record {
-      position = f.begin;
-      length = end_in f - f.begin;
-      header_length = content_in f - f.begin;
-      code = f.code;
-    }
+    record { position = f.begin; length = end_in f - f.begin; header_length = content_in f - f.begin; code = f.code }
 
 -- the reading of one box in the list: its span is kept, which takes memory
 abbrev pub span_item : Frame → Reading (List Span)

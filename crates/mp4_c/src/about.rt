@@ -1,10 +1,10 @@
 //! The version of the library, and the meanings of its statuses.
 
 ghost use Rattle.std.specs.Prelude.{◌≡◌, length};
-ghost use Rattle.mp4_c_boxes.specs.CopiesRows.{CopiesSome};
+ghost use Rattle.mp4_c_boxes.specs.Calls.{CopiesSome};
 ghost use Rattle.mp4_c.specs.declared.about.TheConstants as constants;
 
-use crate::named_fields::UNKNOWN_BOX;
+use crate::fields::UNKNOWN_BOX;
 use mp4_c_boxes::status::{
     BOX_NOT_FOUND, CHUNK_COUNT, CHUNK_ORDER, CHUNKS, DURATIONS, END_OF_INPUT, FIRST_CHUNK,
     INVALID_DATA, NO_ROOM, NO_TRACK, OFFSET, OK, OUT_OF_MEMORY, SAMPLE_SIZES, SYNC_SAMPLES,

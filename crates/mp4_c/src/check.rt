@@ -2,7 +2,7 @@
 
 ghost use Rattle.mp4_stream.specs.AnyBox.{known_any, reading_any};
 ghost use Rattle.mp4_stream.specs.Streams.{boxes};
-ghost use Rattle.mp4_c_boxes.specs.CopiesRows.{Checks};
+ghost use Rattle.mp4_c_boxes.specs.Calls.{Checks};
 
 use mp4_c_boxes::status::{OK, status_of};
 use mp4_stream::{ByteCursor, read_boxes};

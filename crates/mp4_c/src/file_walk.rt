@@ -1,6 +1,7 @@
-//! The state of a walk, which C keeps between two boxes.
+//! Walks over the boxes of a file that isn't in memory. C keeps the state of the walk between two boxes.
 
 ghost use Rattle.std.specs.Prelude.{◌≡◌, ◌≤◌, length};
+ghost use Rattle.mp4_c_boxes.specs.declared.status.TheConstants as statuses;
 ghost use Rattle.mp4_walk.specs.FileBoxes.{top};
 ghost use Rattle.mp4_c.specs.Levels.{level_at};
 ghost use Rattle.mp4_c.specs.Walks.{Begins, IsWalk, WalksOn, wanted_at};
@@ -60,7 +61,7 @@ fn top_levels(length: u64) -> [WalkLevel; 33]
 }
 
 /// Begins a walk over a file of `length` bytes.
-pub fn begin(length: u64, walk: &mut FileWalk)
+fn begin(length: u64, walk: &mut FileWalk)
     ensures { Begins length walk.new }
 {
     let levels = top_levels(length);
@@ -83,8 +84,20 @@ pub fn begin(length: u64, walk: &mut FileWalk)
     };
 }
 
-/// Fills `found` with the next box, if `bytes` begins with the bytes that `walk` wants. Returns the status.
-pub fn next(bytes: &[u8], walk: &mut FileWalk, found: &mut FoundBox) -> u32
+/// Begins a walk over the boxes of a file of `length` bytes. `walk` then says which bytes it wants. Returns `OK`.
+#[unsafe(no_mangle)]
+pub extern "C" fn mp4_walk_begin(length: u64, walk: &mut FileWalk) -> u32
+    ensures status { result ≡ statuses.OK }
+    ensures walk { Begins length walk.new }
+{
+    begin(length, walk);
+    OK
+}
+
+/// Fills `found` with the next box of `walk`, whose wanted bytes are at the front of `bytes`. Returns the status:
+/// `BOX_NOT_FOUND` after the last box, or `END_OF_INPUT` if `bytes` has fewer bytes than the walk wants.
+#[unsafe(no_mangle)]
+pub extern "C" fn mp4_walk_next(bytes: &[u8], walk: &mut FileWalk, found: &mut FoundBox) -> u32
     requires { IsWalk walk.old }
     ensures walk { IsWalk walk.new }
     ensures walks { WalksOn bytes.now result walk.old walk.new found.old found.new }

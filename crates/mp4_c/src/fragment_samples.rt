@@ -1,15 +1,11 @@
 //! Lists the samples of the fragments of a track.
 
-ghost use Rattle.std.specs.Prelude.{◌≡◌, ◌+◌, ◌-◌, ◌^◌, ◌++◌, ◌⊎◌, ◌∷◌, [], List, IfOk, IfErr, IfSome, OnOk, min};
+ghost use Rattle.std.specs.Prelude.{◌≡◌, ◌+◌, ◌-◌, ◌^◌, ◌++◌, ◌⊎◌, ◌∷◌, [], List, IfOk, IfErr, IfSome, OnOk, Some, min};
 ghost use Rattle.mp4_c_boxes.specs.declared.status.TheConstants as statuses;
-ghost use Rattle.mp4_c.specs.FragmentSamples.{AppendsOwn, AreRows, AreRowsOf, CopiesFragments, CopiesFrom};
-ghost use Rattle.mp4_c.specs.FragmentSamples.{GivesRows, HasFault, StopsAt, StopsIn, answers_of, concerns};
-ghost use Rattle.mp4_c.specs.FragmentSamples.{end_time, status_of_fault, samples_in, samples_of};
-ghost use Rattle.mp4_c.specs.Tracks.{Stops};
+ghost use Rattle.mp4_c.specs.FragmentSamples.{AppendsOwn, AreRows, AreRowsOf, CopiesFragments, CopiesFragmentsOf};
+ghost use Rattle.mp4_c.specs.FragmentSamples.{GivesRows, HasFault, StopsAt, StopsIn, answers_of, concerns, end_time};
+ghost use Rattle.mp4_c.specs.FragmentSamples.{status_of_fault, samples_in, samples_of};
 ghost use Rattle.mp4_c.specs.declared.samples.SampleRow.{SampleRow};
-ghost use Rattle.mp4_movie.specs.Ends.{time_end_of};
-ghost use Rattle.mp4_movie.specs.Movies.{of_track, traks};
-ghost use Rattle.mp4_walk.specs.FileBoxes.{boxes_of};
 
 use crate::samples::{SampleRow, row_of};
 use crate::track::{find_track, status_of_box_error};
@@ -213,10 +209,8 @@ fn copy_track_fragments(
     rows: &mut [SampleRow],
     count: &mut usize,
 ) -> u32
-    ensures { IfSome movie.old.bytes (λ file.
-        Stops statuses.OUT_OF_MEMORY result rows.old rows.new count.old count.new
-        ⊎ CopiesFrom file track_id (of_track (time_end_of file) number (traks (boxes_of file)))
-        result rows.old rows.new count.old count.new) }
+    ensures { IfSome movie.old.bytes
+        (λ file. CopiesFragmentsOf file track_id (Some number) result rows.old rows.new count.old count.new) }
 {
     let start = match movie.time_end(alloc, number) {
         Ok(start) => start,

@@ -5,9 +5,9 @@
 //!
 //! - `check`, `list`, `find`, `fields` and `normal` take the bytes of a file or of a box of any type.
 //! - `samples` and `fragment_samples` list the samples of a track.
-//! - `walk` visits the boxes of a file that isn't in memory.
+//! - `file_walk` visits the boxes of a file that isn't in memory.
 //! - `about` gives the version and the meaning of a status.
-//! - The modules that are named after a box read and write this box.
+//! - `flat`, `tables`, `text`, `entries` and `sound` read and write the boxes of `mp4_flat`, `mp4_tables` and so on.
 //!
 //! Every function returns a status (`mp4_c_boxes::status`), except `mp4_version`. It copies its results to the caller's
 //! memory: rows to an array, whose length the caller gives, and a summary with their number. If the array is too short,
@@ -16,54 +16,20 @@
 #![tactic(auto)]
 
 pub mod about;
-pub mod avc1;
-pub mod avcc;
 pub mod check;
-pub mod co64;
-pub mod ctts;
-pub mod data;
-pub mod dinf;
-pub mod dref;
-pub mod elst;
-pub mod emsg;
-pub mod esds;
+pub mod entries;
 pub mod fields;
-pub mod fields_text;
 pub mod file_walk;
 pub mod find;
+pub mod flat;
 pub mod found_box;
 pub mod fragment_samples;
 pub mod front_box;
-pub mod ftyp;
-pub mod hdlr;
-pub mod hev1;
-pub mod hvcc;
 pub mod list;
-pub mod mdhd;
-pub mod mehd;
-pub mod mfhd;
-pub mod mp4a;
-pub mod mvhd;
-pub mod named_fields;
 pub mod normal;
 pub mod samples;
-pub mod smhd;
-pub mod stco;
-pub mod stsc;
-pub mod stsd;
-pub mod stss;
-pub mod stsz;
-pub mod stts;
-pub mod tfdt;
-pub mod tfhd;
-pub mod tkhd;
+pub mod sound;
+pub mod tables;
+pub mod text;
 mod track;
-pub mod trex;
-pub mod trun;
-pub mod tx3g;
-pub mod url;
-pub mod vmhd;
-pub mod vp09;
-pub mod vpcc;
-pub mod walk;
 pub mod walk_level;

@@ -3,7 +3,7 @@
 ghost use Rattle.std.specs.Prelude.{◌≡◌, ◌≤◌, ◌<◌, ◌^◌, length};
 ghost use Rattle.mp4_frame.specs.Heads.{end_in};
 ghost use Rattle.mp4_frame.specs.Reading.{AnswersAs};
-ghost use Rattle.mp4_c_boxes.specs.CopiesRows.{CopiesReading};
+ghost use Rattle.mp4_c_boxes.specs.Calls.{CopiesReading};
 ghost use Rattle.mp4_c.specs.Spans.{span_of, spans};
 
 use mp4_c_boxes::to_rows::copy_rows;

@@ -1,7 +1,7 @@
 //! Writes the normal form of boxes.
 
 ghost use Rattle.std.specs.Prelude.{◌≡◌, length};
-ghost use Rattle.mp4_c_boxes.specs.CopiesRows.{CopiesFound};
+ghost use Rattle.mp4_c_boxes.specs.Calls.{CopiesFound};
 ghost use Rattle.mp4_normal.specs.Normal.{Normalizes, NormalRefuses};
 
 use mp4_c_boxes::to_rows::copy_rows;

@@ -1,13 +1,8 @@
 //! Lists the samples of a track.
 
-ghost use Rattle.std.specs.Prelude.{◌≡◌, ◌≤◌, ◌⊎◌, length, IfSome};
-ghost use Rattle.mp4_c_boxes.specs.declared.status.TheConstants as statuses;
-ghost use Rattle.mp4_movie.specs.Movies.{of_track, samples_of, traks};
+ghost use Rattle.std.specs.Prelude.{◌≡◌, ◌≤◌, length, IfSome, Some};
 ghost use Rattle.mp4_samples.specs.Samples.{sample_count};
-ghost use Rattle.mp4_c.specs.Samples.{ArePut, CopiesAnswer, CopiesSamples, CopiesTables, row_of};
-ghost use Rattle.mp4_c.specs.Samples.{status_of_disagreement};
-ghost use Rattle.mp4_c.specs.Tracks.{Stops};
-ghost use Rattle.mp4_walk.specs.FileBoxes.{boxes_of};
+ghost use Rattle.mp4_c.specs.Samples.{ArePut, CopiesOf, CopiesSamples, CopiesTables, row_of, status_of_disagreement};
 
 use crate::track::{find_track, status_of_box_error};
 use mp4_c_boxes::status::{
@@ -111,10 +106,8 @@ fn copy_track(
     rows: &mut [SampleRow],
     count: &mut usize,
 ) -> u32
-    ensures { IfSome movie.old.bytes (λ file.
-        Stops statuses.OUT_OF_MEMORY result rows.old rows.new count.old count.new
-        ⊎ CopiesAnswer (of_track (samples_of file) number (traks (boxes_of file)))
-        result rows.old rows.new count.old count.new) }
+    ensures { IfSome movie.old.bytes
+        (λ file. CopiesOf file (Some number) result rows.old rows.new count.old count.new) }
 {
     match movie.samples(alloc, number) {
         Ok(Some(boxes)) => copy_tables(&boxes, rows, count),

@@ -4,7 +4,7 @@ use Rattle.std.specs.Prelude.{slice_get}
 use Rattle.std.proofs.lemmas.List.FromFn.{length-map-range_with_len, get_or-map-range_with_len}
 use Rattle.std.proofs.lemmas.Option.{slice_get-get_or}
 use Rattle.mp4_tables.specs.declared.trun.TrunBox.{TrunBox}
-use Rattle.mp4_c_boxes.specs.TableRows.{count_trun, row_trun, rows_trun}
+use Rattle.mp4_c_boxes.specs.Fragments.{count_trun, row_trun, rows_trun}
 
 pub length_of_rows : (v : TrunBox) → length (rows_trun v) ≡ count_trun v
 length_of_rows v = length-map-range_with_len (row_trun v) 0 (count_trun v)

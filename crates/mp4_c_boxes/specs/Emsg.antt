@@ -1,6 +1,6 @@
 -- The struct and the arrays for C of an emsg, and the box of them.
 use Rattle.std.specs.Prelude.{◌≡◌, ℕ, ◌<◌, ◌==◌, ◌⊎◌, List, length, Some, None, unwrap_or, if◌then◌else◌}
-use Rattle.mp4_c_boxes.specs.CopiesRows.{IsFilled}
+use Rattle.mp4_c_boxes.specs.Calls.{IsFilled}
 use Rattle.mp4_c_boxes.specs.declared.status.TheConstants.{OK, NO_ROOM}
 use Rattle.mp4_c_boxes.specs.declared.emsg.Emsg.{Emsg}
 use Rattle.mp4_text.specs.declared.emsg.EmsgBox.{EmsgBox}

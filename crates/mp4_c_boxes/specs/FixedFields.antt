@@ -13,15 +13,15 @@ use Rattle.mp4_flat.specs.declared.smhd.SmhdBox.{SmhdBox}
 use Rattle.mp4_flat.specs.declared.vmhd.VmhdBox.{VmhdBox}
 use Rattle.mp4_flat.specs.declared.trex.TrexBox.{TrexBox}
 use Rattle.mp4_flat.specs.declared.tfdt.TfdtBox.{TfdtBox}
-use Rattle.mp4_c_boxes.specs.declared.mvhd.Mvhd.{Mvhd}
-use Rattle.mp4_c_boxes.specs.declared.tkhd.Tkhd.{Tkhd}
-use Rattle.mp4_c_boxes.specs.declared.mdhd.Mdhd.{Mdhd}
-use Rattle.mp4_c_boxes.specs.declared.mehd.Mehd.{Mehd}
-use Rattle.mp4_c_boxes.specs.declared.mfhd.Mfhd.{Mfhd}
-use Rattle.mp4_c_boxes.specs.declared.smhd.Smhd.{Smhd}
-use Rattle.mp4_c_boxes.specs.declared.vmhd.Vmhd.{Vmhd}
-use Rattle.mp4_c_boxes.specs.declared.trex.Trex.{Trex}
-use Rattle.mp4_c_boxes.specs.declared.tfdt.Tfdt.{Tfdt}
+use Rattle.mp4_c_boxes.specs.declared.flat.Mvhd.{Mvhd}
+use Rattle.mp4_c_boxes.specs.declared.flat.Tkhd.{Tkhd}
+use Rattle.mp4_c_boxes.specs.declared.flat.Mdhd.{Mdhd}
+use Rattle.mp4_c_boxes.specs.declared.flat.Mehd.{Mehd}
+use Rattle.mp4_c_boxes.specs.declared.flat.Mfhd.{Mfhd}
+use Rattle.mp4_c_boxes.specs.declared.flat.Smhd.{Smhd}
+use Rattle.mp4_c_boxes.specs.declared.flat.Vmhd.{Vmhd}
+use Rattle.mp4_c_boxes.specs.declared.flat.Trex.{Trex}
+use Rattle.mp4_c_boxes.specs.declared.flat.Tfdt.{Tfdt}
 
 -- the matrix with these nine numbers, in the order of the file
 abbrev pub matrix_of : List ℤ → Matrix
@@ -128,46 +128,22 @@ mdhd_of t = record {
 }
 
 abbrev pub fields_mehd : MehdBox → Mehd
-fields_mehd v = record {
-  fragment_duration = v.fragment_duration;
-  flags = v.flags;
-  version = v.version;
-}
+fields_mehd v = record { fragment_duration = v.fragment_duration; flags = v.flags; version = v.version }
 
 abbrev pub mehd_of : Mehd → MehdBox
-mehd_of t = record {
-  version = t.version;
-  flags = t.flags;
-  fragment_duration = t.fragment_duration;
-}
+mehd_of t = record { version = t.version; flags = t.flags; fragment_duration = t.fragment_duration }
 
 abbrev pub fields_mfhd : MfhdBox → Mfhd
-fields_mfhd v = record {
-  flags = v.flags;
-  sequence_number = v.sequence_number;
-  version = v.version;
-}
+fields_mfhd v = record { flags = v.flags; sequence_number = v.sequence_number; version = v.version }
 
 abbrev pub mfhd_of : Mfhd → MfhdBox
-mfhd_of t = record {
-  version = t.version;
-  flags = t.flags;
-  sequence_number = t.sequence_number;
-}
+mfhd_of t = record { version = t.version; flags = t.flags; sequence_number = t.sequence_number }
 
 abbrev pub fields_smhd : SmhdBox → Smhd
-fields_smhd v = record {
-  flags = v.flags;
-  balance = v.balance;
-  version = v.version;
-}
+fields_smhd v = record { flags = v.flags; balance = v.balance; version = v.version }
 
 abbrev pub smhd_of : Smhd → SmhdBox
-smhd_of t = record {
-  version = t.version;
-  flags = t.flags;
-  balance = t.balance;
-}
+smhd_of t = record { version = t.version; flags = t.flags; balance = t.balance }
 
 abbrev pub fields_vmhd : VmhdBox → Vmhd
 fields_vmhd v = record {
@@ -210,15 +186,7 @@ trex_of t = record {
 }
 
 abbrev pub fields_tfdt : TfdtBox → Tfdt
-fields_tfdt v = record {
-  base_media_decode_time = v.base_media_decode_time;
-  flags = v.flags;
-  version = v.version;
-}
+fields_tfdt v = record { base_media_decode_time = v.base_media_decode_time; flags = v.flags; version = v.version }
 
 abbrev pub tfdt_of : Tfdt → TfdtBox
-tfdt_of t = record {
-  version = t.version;
-  flags = t.flags;
-  base_media_decode_time = t.base_media_decode_time;
-}
+tfdt_of t = record { version = t.version; flags = t.flags; base_media_decode_time = t.base_media_decode_time }

@@ -1,7 +1,7 @@
 -- Parameter sets for C: their lengths in one array, and their bytes one after the other in another.
 use Rattle.std.specs.Prelude.{◌≡◌, ℕ, ◌<◌, ◌⊎◌, List, [], ◌∷◌, length, map, flat_map, take, drop}
 use Rattle.std.specs.List.{sum_by}
-use Rattle.mp4_c_boxes.specs.CopiesRows.{IsFilled}
+use Rattle.mp4_c_boxes.specs.Calls.{IsFilled}
 use Rattle.mp4_c_boxes.specs.declared.status.TheConstants.{OK, NO_ROOM}
 use Rattle.mp4_entries.specs.declared.nal_unit.NalUnit.{NalUnit}
 

@@ -1,20 +1,19 @@
 -- The struct for C of an stsd, which has the code of its entry, and the box of such a struct.
 use Rattle.std.specs.Prelude.{◌≡◌, ℕ, ◌==◌, ◌⊎◌, ◌||◌, Bool, IsTrue, List, [], ◌++◌, Some, None, if◌then◌else◌}
 use Rattle.std.specs.declared.option.Option.{Option}
-use Rattle.mp4_c_boxes.specs.Avc1.{avc1_of, no_avc1, fields_avc1}
-use Rattle.mp4_c_boxes.specs.Avcc.{fit_sets}
-use Rattle.mp4_c_boxes.specs.Hev1.{hev1_of, no_hev1, fields_hev1}
-use Rattle.mp4_c_boxes.specs.Mp4a.{mp4a_of, no_mp4a, fields_mp4a}
+use Rattle.mp4_c_boxes.specs.Avc.{avc1_of, no_avc1, fields_avc1, fit_sets}
+use Rattle.mp4_c_boxes.specs.Hevc.{hev1_of, no_hev1, fields_hev1}
+use Rattle.mp4_c_boxes.specs.Audio.{mp4a_of, no_mp4a, fields_mp4a}
 use Rattle.mp4_c_boxes.specs.Tx3g.{no_tx3g, fields_tx3g, tx3g_of}
-use Rattle.mp4_c_boxes.specs.Vp09.{no_vp09, fields_vp09, vp09_of}
+use Rattle.mp4_c_boxes.specs.Vp9.{no_vp09, fields_vp09, vp09_of}
 use Rattle.mp4_c_boxes.specs.declared.stsd.Stsd.{Stsd}
-use Rattle.mp4_c_boxes.specs.Written.{PutsOrRefuses}
+use Rattle.mp4_c_boxes.specs.Calls.{PutsOrRefuses}
 use Rattle.mp4_c_boxes.specs.declared.status.TheConstants.{INVALID_DATA}
 use Rattle.mp4_entries.specs.declared.avc1.Avc1Box.{Avc1Box}
 use Rattle.mp4_entries.specs.declared.nal_unit.NalUnit.{NalUnit}
 use Rattle.mp4_frame.specs.declared.codes.TheConstants as codes
-use Rattle.mp4_sound.specs.Stsd.{Entry, Avc1, Hev1, Vp09, Mp4a, Tx3g}
-use Rattle.mp4_sound.specs.Stsd.{entry_stsd, format_stsd, with_entry, without_entry}
+use Rattle.mp4_sound.specs.Stsd.{Entry, Avc1, Hev1, Vp09, Mp4a, Tx3g, entry_stsd, format_stsd, with_entry}
+use Rattle.mp4_sound.specs.Stsd.{without_entry}
 use Rattle.mp4_sound.specs.declared.stsd.StsdBox.{StsdBox}
 
 -- the struct of a box without an entry

@@ -5,14 +5,12 @@ ghost use Rattle.mp4_frame.specs.declared.error.Error.TheVariants.{OutOfMemory};
 ghost use Rattle.mp4_text.specs.Boxes.{format_emsg, reads_emsg};
 ghost use Rattle.mp4_frame.specs.declared.codes.TheConstants as codes;
 ghost use Rattle.mp4_frame.specs.WholeBox.{front_box};
-ghost use Rattle.mp4_c_boxes.specs.CopiesParts.{CopiesParts};
-ghost use Rattle.mp4_c_boxes.specs.Written.{PutsOrRefuses};
+ghost use Rattle.mp4_c_boxes.specs.Calls.{CopiesParts, PutsOrRefuses};
 ghost use Rattle.mp4_c_boxes.specs.Emsg.{FillsEmsg, emsg_of, texts_emsg, fields_emsg};
 
-use crate::parts::write_result;
 use crate::status::{INVALID_DATA, NO_ROOM, OK, status_of};
 use crate::to_struct::ToStruct;
-use crate::written::put_box;
+use crate::written::{put_box, write_result};
 use mp4_frame::{Result, Text, codes, front_box};
 use mp4_text::EmsgBox;
 use std::alloc::Global;

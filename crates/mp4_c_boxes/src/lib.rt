@@ -10,57 +10,27 @@
 //! - `sets` copies parameter sets into two arrays: their lengths and their bytes.
 //! - `written` writes a box into an array of bytes.
 //!
-//! If an array is too short, nothing is written to it. The other modules are named after their boxes.
+//! If an array is too short, nothing is written to it. The other modules have the structs of boxes:
+//!
+//! - `flat`, `tables`, `fragments` and `text` have those of headers, tables, track fragments and texts.
+//! - `avc`, `hevc`, `vp9`, `audio`, `tx3g` and `stsd` have those of sample descriptions, and `emsg` that of events.
 #![tactic(auto)]
 
-pub mod avc1;
-pub mod avcc;
-pub mod co64;
-pub mod ctts;
-pub mod data;
-pub mod dinf;
-pub mod dref;
-pub mod elst;
+pub mod audio;
+pub mod avc;
 pub mod emsg;
-mod entries;
-pub mod esds;
-mod flagged;
-pub mod ftyp;
-pub mod hdlr;
-pub mod hev1;
-pub mod hvcc;
-mod language;
+pub mod flat;
+pub mod fragments;
+pub mod hevc;
 pub mod laws;
-pub mod lists;
-mod matrix;
-pub mod mdhd;
-pub mod mehd;
-pub mod mfhd;
-pub mod mp4a;
-pub mod mvhd;
-mod parts;
 pub mod sets;
-pub mod smhd;
 pub mod status;
-pub mod stco;
-pub mod stsc;
 pub mod stsd;
-pub mod stss;
-pub mod stsz;
-pub mod stts;
-pub mod table;
-pub mod tfdt;
-pub mod tfhd;
-pub mod tkhd;
+pub mod tables;
+pub mod text;
 pub mod to_rows;
 pub mod to_struct;
-pub mod trex;
-pub mod trun;
-pub mod trun_row;
 pub mod tx3g;
-pub mod url;
 pub mod visual;
-pub mod vmhd;
-pub mod vp09;
-pub mod vpcc;
+pub mod vp9;
 pub mod written;

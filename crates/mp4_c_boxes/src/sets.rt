@@ -4,7 +4,7 @@ ghost use Rattle.std.specs.Prelude.{◌≡◌, ◌≤◌, ◌-◌, ◌+◌, ◌^
 ghost use Rattle.mp4_frame.specs.declared.error.Error.TheVariants.{OutOfMemory};
 ghost use Rattle.mp4_entries.specs.declared.nal_unit.NalUnit.{NalUnit};
 ghost use Rattle.mp4_frame.specs.WholeBox.{front_box};
-ghost use Rattle.mp4_c_boxes.specs.CopiesParts.{CopiesParts};
+ghost use Rattle.mp4_c_boxes.specs.Calls.{CopiesParts};
 ghost use Rattle.mp4_c_boxes.specs.Sets.{FillsSets, bytes_of_sets, lengths_of_sets, sets_of, size_of_sets};
 
 use crate::status::{NO_ROOM, OK, status_of};

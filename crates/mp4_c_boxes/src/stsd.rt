@@ -2,20 +2,18 @@
 
 ghost use Rattle.std.specs.Prelude.{◌≡◌, IsTrue, IfOk, IfErr};
 ghost use Rattle.mp4_frame.specs.declared.error.Error.TheVariants.{OutOfMemory};
-ghost use Rattle.mp4_c_boxes.specs.Stsd.{PutsStsd, is_stsd, no_entry, stsd_of, fields_stsd};
-ghost use Rattle.mp4_c_boxes.specs.Stsd.{picture_stsd, sequence_stsd};
+ghost use Rattle.mp4_c_boxes.specs.Stsd.{PutsStsd, is_stsd, no_entry, stsd_of, fields_stsd, picture_stsd};
+ghost use Rattle.mp4_c_boxes.specs.Stsd.{sequence_stsd};
 
-use crate::avc1::{Avc1, avc1_of};
-use crate::avcc::fit_sets;
-use crate::hev1::{Hev1, hev1_of};
-use crate::mp4a::{Mp4a, mp4a_of};
-use crate::parts::write_result;
+use crate::audio::{Mp4a, mp4a_of};
+use crate::avc::{Avc1, avc1_of, fit_sets};
+use crate::hevc::{Hev1, hev1_of};
 use crate::sets::HasSets;
 use crate::status::{INVALID_DATA, status_of};
 use crate::to_struct::ToStruct;
 use crate::tx3g::{Tx3g, tx3g_of};
-use crate::vp09::{Vp09, vp09_of};
-use crate::written::put_box;
+use crate::vp9::{Vp09, vp09_of};
+use crate::written::{put_box, write_result};
 use mp4_entries::NalUnit;
 use mp4_frame::{Result, codes};
 use mp4_sound::StsdBox;

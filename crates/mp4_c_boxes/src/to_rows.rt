@@ -2,7 +2,7 @@
 
 ghost use Rattle.std.specs.Prelude.{◌≡◌, ◌<◌, ◌≤◌, ◌++◌, List, Some, drop, length, slice_get};
 ghost use Rattle.mp4_frame.specs.WholeBox.{front_box};
-ghost use Rattle.mp4_c_boxes.specs.CopiesRows.{Fills, CopiesResult, CopiesReading};
+ghost use Rattle.mp4_c_boxes.specs.Calls.{Fills, CopiesResult, CopiesReading};
 
 use crate::status::{NO_ROOM, OK, status_of};
 use mp4_frame::{ReadBox, Result, front_box};
@@ -83,4 +83,40 @@ pub fn copy_box_rows<B: ReadBox + ToRows<R, S> + Drop, R: Copy, S: Copy>(
         summary.new }
 {
     copy_rows(front_box::<B>(alloc, code, bytes), rows, summary)
+}
+
+impl<R: Copy> ToRows<R, usize> for Vec<R> {
+    ghost rows = { λ v. v.items };
+
+    ghost summary = { λ v. length v.items };
+
+    fn count(&self) -> usize {
+        self.len()
+    }
+
+    fn row(&self, index: usize) -> R {
+        self[index]
+    }
+
+    fn summary(&self) -> usize {
+        self.len()
+    }
+}
+
+impl ToRows<u8, usize> for &'static str {
+    ghost rows = { λ v. v.now };
+
+    ghost summary = { λ v. length v.now };
+
+    fn count(&self) -> usize {
+        self.len()
+    }
+
+    fn row(&self, index: usize) -> u8 {
+        self.as_bytes()[index]
+    }
+
+    fn summary(&self) -> usize {
+        self.len()
+    }
 }

@@ -2,7 +2,7 @@
 
 ghost use Rattle.std.specs.Prelude.{◌≡◌};
 ghost use Rattle.mp4_frame.specs.WholeBox.{front_box};
-ghost use Rattle.mp4_c_boxes.specs.FillsStruct.{FillsStruct};
+ghost use Rattle.mp4_c_boxes.specs.Calls.{FillsStruct};
 
 use crate::status::{OK, status_of};
 use mp4_frame::{ReadBox, front_box};

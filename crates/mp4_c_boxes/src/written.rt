@@ -2,7 +2,7 @@
 
 ghost use Rattle.std.specs.Prelude.{◌≡◌, IfOk, IfErr, List};
 ghost use Rattle.mp4_frame.specs.declared.error.Error.TheVariants.{OutOfMemory};
-ghost use Rattle.mp4_c_boxes.specs.Written.{PutsBox, PutsOrRefuses};
+ghost use Rattle.mp4_c_boxes.specs.Calls.{PutsBox, PutsOrRefuses};
 
 use crate::status::{INVALID_DATA, NO_ROOM, OK, status_of};
 use mp4_frame::{Result, WriteBox};
@@ -54,3 +54,16 @@ pub fn write_from<B: FromStruct<S, R> + Drop, S, R>(
         Err(error) => status_of(&error),
     }
 }
+
+/// Writes the box in `$made`, a result, as `put_box` does, and evaluates to the status. An error in `$made` gives the
+/// status of the error.
+macro_rules! write_result {
+    ($made:expr, $bytes:expr, $length:expr) => {
+        match $made {
+            Ok(value) => put_box(&value, $bytes, $length),
+            Err(error) => status_of(&error),
+        }
+    };
+}
+
+pub(crate) use write_result;

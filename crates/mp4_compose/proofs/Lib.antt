@@ -1,1 +1,2 @@
 pub mod StableLists
+pub mod KeptLists

@@ -19,6 +19,36 @@ pub by_code_or : {first_known known : BoxType → Bool} → ByCode first_known �
 by_code_or {first_known} {known} first second n m same =
     ap (λ (b : Bool). b || known n) (first n m same) ∙ ap (λ (b : Bool). first_known m || b) (second n m same)
 
+one_type : {A B : Type 0} (u : Either A B) (x : A) (y : B) → either.First x ≡ u → u ≡ either.Second y → ⊥
+one_type u x y e f = cc
+
+first_same : {A B : Type 0} (u : Either A B) (x v : A) → either.First x ≡ u → u ≡ either.First v → x ≡ v
+first_same u x v e f = cc
+
+second_same : {A B : Type 0} (u : Either A B) (x v : B) → either.Second x ≡ u → u ≡ either.Second v → x ≡ v
+second_same u x v e f = cc
+
+-- a value that was read as a box of one of two types was read as that box
+pub first_read : {A B : Type 0} (b : Bool) (r : Reading A) (s : Reading B) (v : A)
+    → (cond b (map_reading either.First r) (map_reading either.Second s)).outcome ≡ Ok (either.First v)
+    → r.outcome ≡ Ok v
+first_read {A} true r s v e =
+    let p = mapped_value either.First r (either.First v) e in
+    p.1 ∙ ap (λ (x : A). Ok x) (first_same (either.First v) p.0 v p.2 refl)
+first_read false r s v e =
+    let p = mapped_value either.Second s (either.First v) e in
+    absurd (one_type (either.First v) v p.0 refl (sym p.2))
+
+pub second_read : {A B : Type 0} (b : Bool) (r : Reading A) (s : Reading B) (v : B)
+    → (cond b (map_reading either.First r) (map_reading either.Second s)).outcome ≡ Ok (either.Second v)
+    → s.outcome ≡ Ok v
+second_read true r s v e =
+    let p = mapped_value either.First r (either.Second v) e in
+    absurd (one_type (either.Second v) p.0 v p.2 refl)
+second_read {A} {B} false r s v e =
+    let p = mapped_value either.Second s (either.Second v) e in
+    p.1 ∙ ap (λ (x : B). Ok x) (second_same (either.Second v) p.0 v p.2 refl)
+
 module _ {A B : Type 0} (first_known : BoxType → Bool) (by_code : ByCode first_known) (first : Format A)
     (second : Format B) where
   abbrev format : Format (Either A B)

@@ -8,3 +8,4 @@ pub mod ChildLaws
 pub mod Fronts
 pub mod Lossless
 pub mod LosslessLaws
+pub mod Kept

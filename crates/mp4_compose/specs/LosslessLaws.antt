@@ -22,6 +22,7 @@ use Rattle.mp4_frame.proofs.Numbers.{number-front}
 use Rattle.mp4_compose.specs.Fronts.{are_bytes-take}
 use Rattle.mp4_compose.specs.ChildBox.{IsChild}
 use Rattle.mp4_compose.specs.Either.{ByCode}
+use Rattle.mp4_compose.specs.Kept.{KeepsBytes}
 use Rattle.mp4_compose.specs.Stable.{ReadsStably, ReadsOwnCode}
 use Rattle.mp4_compose.specs.Lossless.{short_box, IsKept, is_written_in, lossless_of, outcome_in, exact}
 use Rattle.mp4_compose.specs.Lossless.{content_lossless, reads_exact, format_lossless, known_lossless}
@@ -295,6 +296,19 @@ module _ {A : Type 0} (known : BoxType → Bool) (named_reading : BoxType → Li
         let code = code_of name in
         let r = read_exact code (drop start bytes) start size v (reads_ok (reads code) bytes start size v e) in
         ap format_of.bytes (sym r.2) ∙ exact_bytes code (short_box code (drop start bytes) size)
+
+    pub keeps_lossless : KeepsBytes known_lossless reading_lossless format_of
+    keeps_lossless = record {
+      all_known = λ name. refl;
+      writable = λ name fits bytes start size v are small e.
+          let code = code_of name in
+          let there = drop start bytes in
+          let r = read_exact code there start size v (reads_ok (reads code) bytes start size v e) in
+          subst format_of.Writable r.2
+          (exact_writable code (short_box code there size)
+          (box_is_kept code there size r.0 r.1 (are_bytes-drop start bytes are) small fits));
+      same = exact_kept;
+    }
 
     pub stable_lossless : ReadsStably known_lossless reading_lossless format_of
     stable_lossless name is small bytes start size v are e =

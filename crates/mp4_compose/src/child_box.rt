@@ -1,6 +1,7 @@
 //! The operations that a box needs for the boxes that it holds.
 
 ghost use Rattle.std.specs.Prelude.{◌≡◌, ◌↔◌, ◌-◌, ◌^◌, ℕ, Bool, List, min, All, IsTrue, length, sum_by};
+ghost use Rattle.mp4_compose.specs.Kept.{KeepsBytes, AreKept};
 ghost use Rattle.mp4_frame.specs.Format.{Format};
 ghost use Rattle.mp4_frame.specs.Reading.{Reading, AnswersAs};
 ghost use Rattle.mp4_frame.specs.Streams.{stream, boxes};
@@ -11,7 +12,9 @@ ghost use Rattle.mp4_compose.specs.ChildLaws.{child_or};
 
 use crate::either::{CodedBox, Either};
 use crate::stable_box::StableBox;
-use mp4_frame::{ByteCursor, Mp4Box, Result, StreamBox, WriteBox, put_boxes, read_boxes_as};
+use mp4_frame::{
+    ByteCursor, Mp4Box, Result, StreamBox, WriteBox, frame_at, put_boxes, read_boxes_as, u32_at,
+};
 use std::alloc::Global;
 
 /// A type of boxes that a box can hold. Lists of boxes ask for several traits of their members, and this trait has all
@@ -30,6 +33,16 @@ pub trait ChildBox: Drop + Sized {
     /// Reads the boxes of `content` from offset `at` to its end.
     fn read_children(alloc: Global, content: &[u8], at: u64) -> Result<Vec<Self>>
         ensures { AnswersAs (λ v. v.items) result (boxes child_known child_reading content.now at) };
+
+    /// Returns `true` only if the boxes that are read in `content` from offset `at` on are written in the same bytes.
+    /// The function takes no memory. `false` decides nothing, and a type may always return it.
+    fn are_kept_in(content: &[u8], at: usize) -> bool
+        ensures { IsTrue result → AreKept child_known child_reading child_format content.now at }
+    {
+        let _unread = content;
+        let _at = at;
+        false
+    }
 
     /// Returns the number of bytes of all boxes, at most 2^64 - 1.
     fn size_of_children(boxes: &[Self]) -> u64
@@ -56,6 +69,28 @@ pub fn read_children_as<B: StreamBox>(alloc: Global, content: &[u8], at: u64) ->
     let mut reader = ByteCursor::new(content);
     reader.set_position(at);
     read_boxes_as(alloc, &mut reader)
+}
+
+/// Returns whether all boxes of `content`, starting at offset `start`, have headers of 8 bytes that hold their sizes.
+/// Boxes of a type that keeps bytes are then written in the same bytes.
+pub fn have_short_headers<B: StreamBox>(content: &[u8], start: usize) -> bool
+    requires { KeepsBytes B.known B.named_reading B.format }
+    ensures { IsTrue result → AreKept B.known B.named_reading B.format content.now start }
+{
+    let mut at = start;
+    while at < content.len() {
+        let Ok(frame) = frame_at(content, at) else {
+            return false;
+        };
+        if frame.start != at as u64 {
+            return false;
+        }
+        if u64::from(u32_at(content, at)) != frame.size {
+            return false;
+        }
+        at = frame.end() as usize;
+    }
+    true
 }
 
 /// Returns the number of bytes of all boxes, at most 2^64 - 1.

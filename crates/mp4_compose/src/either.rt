@@ -105,6 +105,13 @@ impl<A: CodedBox, B: StableBox> StableBox for Either<A, B> {
 
     ghost own_code = { code_or A.known A.by_code A.format B.format A.named_reading B.known B.named_reading
         A.own_code B.own_code };
+
+    fn is_kept_in(&self, name: BoxType, bytes: &[u8]) -> bool {
+        match self {
+            Either::First(b) => b.is_kept_in(name, bytes),
+            Either::Second(b) => b.is_kept_in(name, bytes),
+        }
+    }
 }
 
 /// If both types know names only by their codes, so does the `Either`.

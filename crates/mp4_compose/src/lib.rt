@@ -9,7 +9,7 @@ pub mod list_laws;
 mod lossless;
 mod stable_box;
 
-pub use child_box::{ChildBox, all_writable, read_children_as, total_size};
+pub use child_box::{ChildBox, all_writable, have_short_headers, read_children_as, total_size};
 pub use coded_enum::CodedEnum;
 pub use either::{CodedBox, Either};
 pub use lossless::Lossless;

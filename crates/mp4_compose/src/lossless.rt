@@ -1,11 +1,10 @@
 //! A box that is read as a typed box if that loses nothing, and else kept as its bytes.
 
 ghost use Rattle.std.specs.Prelude.{◌≡◌, ◌+◌, ◌-◌, ◌==◌, [], ◌∷◌, ◌++◌, ◌≤◌, ◌<◌, ◌^◌, nat_eq, nat_lt};
-ghost use Rattle.std.specs.Prelude.{◌&&◌, ◌↔◌, IsTrue, length, IfErr, IfOk, OnOk, OnErr};
+ghost use Rattle.std.specs.Prelude.{◌&&◌, ◌↔◌, IsTrue, false, length, Ok, IfErr, IfOk, OnOk, OnErr};
 ghost use lib.Pointwise.{pointwise};
 ghost use Rattle.mp4_frame.specs.BoxType.{code_of};
 ghost use Rattle.mp4_frame.specs.Bytes.{number, bytes_of_fields};
-ghost use Rattle.mp4_frame.specs.Laws.{AreBytes};
 ghost use Rattle.mp4_frame.specs.Reading.{Answers, AnswersAs, reading};
 ghost use Rattle.mp4_frame.specs.declared.error.Error.TheVariants.{OutOfMemory};
 ghost use Rattle.mp4_compose.specs.ChildBox.{child_of};
@@ -14,7 +13,7 @@ ghost use Rattle.mp4_compose.specs.Lossless.{known_lossless};
 ghost use Rattle.mp4_compose.specs.LosslessLaws.{by_code_exact, reading_lossless, child_lossless, stable_lossless};
 ghost use Rattle.mp4_compose.specs.LosslessLaws.{code_lossless};
 
-use crate::child_box::{ChildBox, all_writable, read_children_as, total_size};
+use crate::child_box::{ChildBox, all_writable, have_short_headers, read_children_as, total_size};
 use crate::either::CodedBox;
 use crate::stable_box::StableBox;
 use mp4_frame::{
@@ -59,30 +58,37 @@ fn is_short(code: u32, bytes: &[u8], size: usize) -> bool
 }
 
 /// Returns a copy of the box at the front of `bytes`, with the code `code` and the size `size`. The header of the copy
-/// has 8 bytes.
+/// has 8 bytes, and the header of the box does not.
 #[tactic(auto, unfolding(crate::specs::Lossless::short_box))]
-fn copy_box(alloc: Global, code: u32, bytes: &[u8], size: usize) -> Result<Vec<u8>>
+fn with_short_header(alloc: Global, code: u32, bytes: &[u8], size: usize) -> Result<Vec<u8>>
     requires least { 8 ≤ size }
     requires room { size ≤ length bytes.now }
+    requires long { ((number bytes.now 0 4 == size) && (number bytes.now 4 4 == code)) ≡ false }
     ensures copy { IfOk result (λ v. v.items ≡ short_box code bytes.now size) }
-    ensures are_bytes { AreBytes (short_box code bytes.now size) }
     ensures memory { IfErr result (λ e. e ≡ OutOfMemory) }
 {
     let whole = &bytes[..size];
     let mut copy = Vec::from_slice(alloc, whole)?;
-    if !is_short(code, bytes, size) {
-        put_whole(&mut copy, (size % 0x1_0000_0000) as u32, code, &whole[8..]);
-    }
+    put_whole(&mut copy, (size % 0x1_0000_0000) as u32, code, &whole[8..]);
     Ok(copy)
 }
 
-/// Returns whether `value`, which was read, is written in exactly these bytes.
-fn is_written_in<B: WriteBox>(alloc: Global, value: &B, bytes: &[u8]) -> Result<bool>
+/// Returns whether `value`, which was read in `bytes` under the name `name`, is written in exactly these bytes.
+fn is_written_in<B: StableBox>(
+    alloc: Global,
+    name: BoxType,
+    value: &B,
+    bytes: &[u8],
+) -> Result<bool>
+    requires read { (B.named_reading name bytes.now 0 (length bytes.now)).outcome ≡ Ok value.now }
     requires stable { B.format.size value.now < 2 ^ 32 → B.format.Writable value.now }
     ensures exact { IfOk result (λ is_exact. is_exact ≡ (nat_lt (B.format.size value.now) (2 ^ 32)
         && pointwise nat_eq (B.format.bytes value.now) bytes.now)) }
     ensures memory { IfErr result (λ e. e ≡ OutOfMemory) }
 {
+    if value.is_kept_in(name, bytes) {
+        return Ok(true);
+    }
     let mut written = Vec::new(alloc);
     match value.write_box(&mut written) {
         Ok(_) => Ok(written.as_slice() == bytes),
@@ -92,18 +98,17 @@ fn is_written_in<B: WriteBox>(alloc: Global, value: &B, bytes: &[u8]) -> Result<
 }
 
 /// Returns the box of the code `code` whose bytes are `whole`: as a `B` if that loses nothing, else as its bytes.
-fn exact_in<B: StableBox>(alloc: Global, code: u32, whole: Vec<u8>) -> Result<Lossless<B>>
-    requires { AreBytes whole.items }
-    ensures exact { IfOk result (λ v. v ≡ exact B.known B.named_reading B.format code whole.items) }
+fn exact_in<B: StableBox>(alloc: Global, code: u32, whole: &[u8]) -> Result<Lossless<B>>
+    ensures exact { IfOk result (λ v. v ≡ exact B.known B.named_reading B.format code whole.now) }
     ensures memory { IfErr result (λ e. e ≡ OutOfMemory) }
 {
     let name = BoxType::from(code);
     if B::knows(name) {
-        let mut reader = ByteCursor::new(&whole);
+        let mut reader = ByteCursor::new(whole);
         reader.set_position(8);
         match B::read_named(alloc, name, &mut reader, whole.len() as u64) {
             Ok(value) => {
-                if is_written_in(alloc, &value, &whole)? {
+                if is_written_in(alloc, name, &value, whole)? {
                     return Ok(Lossless::Typed(value));
                 }
             }
@@ -113,12 +118,12 @@ fn exact_in<B: StableBox>(alloc: Global, code: u32, whole: Vec<u8>) -> Result<Lo
     }
     Ok(Lossless::Raw {
         code,
-        bytes: whole.into(),
+        bytes: Vec::from_slice(alloc, whole)?.into(),
     })
 }
 
 /// Reads the box with the code `code` and the size `size`. `bytes` begins at the box's start.
-#[tactic(auto, unfolding(crate::specs::Lossless::content_lossless))]
+#[tactic(auto, unfolding(crate::specs::Lossless::content_lossless, crate::specs::Lossless::short_box))]
 fn read_content<B: StableBox>(
     alloc: Global,
     code: u32,
@@ -128,9 +133,13 @@ fn read_content<B: StableBox>(
     ensures { Answers result (content_lossless B.known B.named_reading B.format code bytes.now size) }
 {
     check(size >= 8, "box size too small")?;
-    expect_bytes(bytes, 0, size as usize)?;
-    let whole = copy_box(alloc, code, bytes, size as usize)?;
-    exact_in(alloc, code, whole)
+    let size = size as usize;
+    expect_bytes(bytes, 0, size)?;
+    if is_short(code, bytes, size) {
+        return exact_in(alloc, code, &bytes[..size]);
+    }
+    let copy = with_short_header(alloc, code, bytes, size)?;
+    exact_in(alloc, code, &copy)
 }
 
 impl<B: StableBox> Mp4Box for Lossless<B> {
@@ -236,6 +245,10 @@ impl<B: StableBox> ChildBox for Lossless<B> {
 
     fn read_children(alloc: Global, content: &[u8], at: u64) -> Result<Vec<Self>> {
         read_children_as(alloc, content, at)
+    }
+
+    fn are_kept_in(content: &[u8], at: usize) -> bool {
+        have_short_headers::<Self>(content, at)
     }
 
     fn size_of_children(boxes: &[Self]) -> u64 {

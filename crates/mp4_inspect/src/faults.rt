@@ -13,7 +13,7 @@ use crate::box_path::BoxPaths;
 use crate::chunks::MediaData;
 use crate::content::{Content, content_of};
 use crate::facts::{Facts, facts_of};
-use crate::failure::or_memory;
+use crate::failure::{or_memory, or_read};
 use crate::fault_text::fault_text;
 use crate::kind::Kind;
 use crate::sample_tables::{Together, tables_together};
@@ -23,9 +23,10 @@ use crate::tree_text::either;
 use mp4_check_rules::{
     Tally, TrackFault, group_of, header_fault, is_file, is_part, needed, track_fault,
 };
-use mp4_frame::codes::{MOOF, STBL, STCO, STSZ, TRAF, TRAK, VMHD};
+use mp4_extra::Stz2Box;
+use mp4_frame::codes::{MOOF, STBL, STCO, STSZ, STZ2, TRAF, TRAK, VMHD};
 use mp4_io::{Failure, Output, write_all};
-use mp4_movie::TrackInfo;
+use mp4_movie::{TrackInfo, read_at, sizes_fault};
 use mp4_show::{Result, push_code, push_number};
 use mp4_stream::{AnyBox, Error, FourCC};
 use mp4_walk::{BoxWalk, Source, TreeBox};
@@ -474,6 +475,28 @@ fn tell_tables<S: Source>(
     }
 }
 
+/// Puts a line into `search.line` if the sizes in the `stz2` `found` can't be listed. Returns whether it put a line
+/// there.
+fn tell_sizes<S: Source>(
+    alloc: Global,
+    tree: &mut BoxWalk<S>,
+    found: &TreeBox,
+    search: &mut Search,
+) -> std::result::Result<bool, Failure>
+    ensures line { IfOk result
+        (λ told. told ≡ true → IsLine (string_bytes search.new.front) found.now (string_bytes search.new.line)) }
+    ensures front { search.new.front ≡ search.old.front }
+    ensures kept { tree.new ≡ tree.old }
+{
+    let Ok(stz2) = or_read(read_at::<Stz2Box, S>(alloc, tree, found))? else {
+        return Ok(false);
+    };
+    match sizes_fault(&stz2) {
+        Some(fault) => or_memory(tell_error(alloc, found, &fault, search)),
+        None => Ok(false),
+    }
+}
+
 /// Returns whether the data of a fragment are in this file, at known places.
 fn is_here(runs: &TrafRuns, search: &Search) -> bool {
     if runs.is_absolute && !search.facts.has_moov {
@@ -522,7 +545,8 @@ fn is_box(found: &TreeBox, code: u32) -> bool {
 }
 
 /// Puts the line of the samples of the first of `boxes` into `search.line`: the disagreement of the tables of the
-/// `stbl` of a track, or the runs of a `traf` outside the media data. Returns whether it put a line there.
+/// `stbl` of a track, sizes of its `stz2` that can't be listed, or the runs of a `traf` outside the media data. Returns
+/// whether it put a line there.
 fn tell_samples<S: Source>(
     alloc: Global,
     tree: &mut BoxWalk<S>,
@@ -537,6 +561,9 @@ fn tell_samples<S: Source>(
 {
     if is_box(found, STBL) && found.depth == 4 {
         return tell_tables(alloc, tree, found, after_first(boxes), search);
+    }
+    if is_box(found, STZ2) && found.depth == 5 && found.context.parent == STBL {
+        return tell_sizes(alloc, tree, found, search);
     }
     if is_box(found, TRAF) && found.depth == 1 && found.context.parent == MOOF {
         return tell_runs(alloc, tree, found, after_first(boxes), search);

@@ -102,20 +102,20 @@ fn make_heading(heading: Heading, follows: bool, text: &mut String) -> Result<()
 /// Writes the heading of a track, if rows are aligned columns.
 pub fn write_heading<W: Write>(
     heading: Heading,
-    sheet: &mut RowWriter,
+    writer: &mut RowWriter,
     output: &mut Output<W>,
 ) -> Result<(), Failure>
     ensures heading { OnOk result
-        (WritesHeading sheet.old.form (W.contents output.old.inner) (W.contents output.new.inner)) }
-    ensures follows { OnOk result (sheet.new.follows ≡ is_headed sheet.old.form sheet.old.follows) }
-    ensures form { sheet.new.form ≡ sheet.old.form }
+        (WritesHeading writer.old.form (W.contents output.old.inner) (W.contents output.new.inner)) }
+    ensures follows { OnOk result (writer.new.follows ≡ is_headed writer.old.form writer.old.follows) }
+    ensures form { writer.new.form ≡ writer.old.form }
     ensures failed { output.new.failed ≡ (output.old.failed || is_write result) }
 {
-    match sheet.form {
+    match writer.form {
         Form::Text => {}
         Form::Csv | Form::Json => return Ok(()),
     }
-    make_heading(heading, sheet.follows, &mut sheet.text)?;
-    sheet.follows = true;
-    write_all(output, sheet.text.as_bytes())
+    make_heading(heading, writer.follows, &mut writer.text)?;
+    writer.follows = true;
+    write_all(output, writer.text.as_bytes())
 }

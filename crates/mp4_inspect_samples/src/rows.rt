@@ -29,7 +29,7 @@ pub struct RowWriter {
 }
 
 impl RowWriter {
-    /// Returns a sheet on which nothing was written.
+    /// Returns a writer on which nothing was written.
     pub fn new(alloc: Global, form: Form) -> RowWriter
         ensures form { result.form ≡ form }
         ensures none { result.follows ≡ false }
@@ -45,24 +45,24 @@ impl RowWriter {
 /// Writes a row.
 fn write_row<W: Write>(
     row: &Row,
-    sheet: &mut RowWriter,
+    writer: &mut RowWriter,
     output: &mut Output<W>,
 ) -> Result<(), Failure>
     ensures row { OnOk result
         (Appends (W.contents output.old.inner) (W.contents output.new.inner)
-        (row_text sheet.old.form sheet.old.follows row.now)) }
+        (row_text writer.old.form writer.old.follows row.now)) }
     ensures begins { OnErr result
         (Begins (W.contents output.old.inner) (W.contents output.new.inner)
-        (row_text sheet.old.form sheet.old.follows row.now)) }
-    ensures form { sheet.new.form ≡ sheet.old.form }
-    ensures follows { OnOk result (sheet.new.follows ≡ true) }
+        (row_text writer.old.form writer.old.follows row.now)) }
+    ensures form { writer.new.form ≡ writer.old.form }
+    ensures follows { OnOk result (writer.new.follows ≡ true) }
     ensures not_read { is_read result ≡ false }
     ensures failed { output.new.failed ≡ (output.old.failed || is_write result) }
 {
-    sheet.text.clear();
-    push_row(sheet.form, sheet.follows, row, &mut sheet.text)?;
-    sheet.follows = true;
-    write_all(output, sheet.text.as_bytes())
+    writer.text.clear();
+    push_row(writer.form, writer.follows, row, &mut writer.text)?;
+    writer.follows = true;
+    write_all(output, writer.text.as_bytes())
 }
 
 /// The end of the rows of the tables of a track.
@@ -81,18 +81,18 @@ pub fn write_rows<W: Write>(
     tables: &SampleTables<'_>,
     track: Option<u32>,
     limit: Limit,
-    sheet: &mut RowWriter,
+    writer: &mut RowWriter,
     output: &mut Output<W>,
 ) -> Result<RowsEnd, Failure>
     ensures rows { IfOk result (λ end.
-        WritesRows (IsSample tables.now) limit sheet.old.form track 0 0 end.count end.empty sheet.old.follows
-        sheet.new.follows (W.contents output.old.inner) (W.contents output.new.inner)) }
+        WritesRows (IsSample tables.now) limit writer.old.form track 0 0 end.count end.empty writer.old.follows
+        writer.new.follows (W.contents output.old.inner) (W.contents output.new.inner)) }
     ensures ends { IfOk result (λ end.
         EndsListed (IsSample tables.now) limit (sample_count tables.now) end.count end.empty end.unlisted) }
     ensures begins { OnErr result
-        (BeginsRows (IsSample tables.now) limit sheet.old.form track 0 0 sheet.old.follows
+        (BeginsRows (IsSample tables.now) limit writer.old.form track 0 0 writer.old.follows
         (W.contents output.old.inner) (W.contents output.new.inner)) }
-    ensures form { sheet.new.form ≡ sheet.old.form }
+    ensures form { writer.new.form ≡ writer.old.form }
     ensures not_read { is_read result ≡ false }
     ensures failed { output.new.failed ≡ (output.old.failed || is_write result) }
 {
@@ -111,7 +111,7 @@ pub fn write_rows<W: Write>(
                 }
                 count = u64::from(samples.number());
                 empty = empty_after(empty, &sample);
-                write_row(&row_of(track, count, &sample), sheet, output)?;
+                write_row(&row_of(track, count, &sample), writer, output)?;
             }
             None => {
                 return Ok(RowsEnd {
@@ -149,16 +149,16 @@ pub fn write_fragment_rows<W: Write>(
     limit: Limit,
     before: u64,
     empty_before: u32,
-    sheet: &mut RowWriter,
+    writer: &mut RowWriter,
     output: &mut Output<W>,
 ) -> Result<FragmentEnd, Failure>
     ensures rows { IfOk result
-        (WritesFragment fragment.now limit sheet.old.form track before empty_before sheet.old.follows sheet.new.follows
-        (W.contents output.old.inner) (W.contents output.new.inner)) }
+        (WritesFragment fragment.now limit writer.old.form track before empty_before writer.old.follows
+        writer.new.follows (W.contents output.old.inner) (W.contents output.new.inner)) }
     ensures begins { OnErr result
-        (BeginsRows (IsFragmentSample fragment.now) limit sheet.old.form track before empty_before sheet.old.follows
+        (BeginsRows (IsFragmentSample fragment.now) limit writer.old.form track before empty_before writer.old.follows
         (W.contents output.old.inner) (W.contents output.new.inner)) }
-    ensures form { sheet.new.form ≡ sheet.old.form }
+    ensures form { writer.new.form ≡ writer.old.form }
     ensures not_read { is_read result ≡ false }
     ensures failed { output.new.failed ≡ (output.old.failed || is_write result) }
 {
@@ -182,7 +182,7 @@ pub fn write_fragment_rows<W: Write>(
                 }
                 count += 1;
                 empty = empty_after(empty, &sample);
-                write_row(&row_of(track, count, &sample), sheet, output)?;
+                write_row(&row_of(track, count, &sample), writer, output)?;
             }
             Some(Err(fault)) => {
                 return Ok(FragmentEnd {

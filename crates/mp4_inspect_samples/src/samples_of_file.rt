@@ -57,13 +57,13 @@ fn write_fragment<W: Write>(
     track: Option<u32>,
     limit: Limit,
     reached: Reached,
-    sheet: &mut RowWriter,
+    writer: &mut RowWriter,
     output: &mut Output<W>,
 ) -> Result<Reached, TrackStop>
     ensures writes { IfOk result
-        (WritesTrackFragment fragment.now limit sheet.old.form track reached sheet.old.follows sheet.new.follows
+        (WritesTrackFragment fragment.now limit writer.old.form track reached writer.old.follows writer.new.follows
         (W.contents output.old.inner) (W.contents output.new.inner)) }
-    ensures form { sheet.new.form ≡ sheet.old.form }
+    ensures form { writer.new.form ≡ writer.old.form }
 {
     let end = write_fragment_rows(
         &fragment.fragment(reached.time),
@@ -71,7 +71,7 @@ fn write_fragment<W: Write>(
         limit,
         reached.count,
         reached.empty,
-        sheet,
+        writer,
         output,
     )?;
     match end.fault {
@@ -95,7 +95,7 @@ fn write_fragments<W: Write>(
     track: Option<u32>,
     limit: Limit,
     reached: Reached,
-    sheet: &mut RowWriter,
+    writer: &mut RowWriter,
     output: &mut Output<W>,
 ) -> Result<Reached, TrackStop> {
     let mut reached = reached;
@@ -107,7 +107,7 @@ fn write_fragments<W: Write>(
         }
         match fragment {
             Ok(fragment) => {
-                reached = write_fragment(&fragment, track, limit, reached, sheet, output)?;
+                reached = write_fragment(&fragment, track, limit, reached, writer, output)?;
             }
             Err(error) => return Err(TrackStop::Faulty(Fault::Box(error))),
         }
@@ -124,17 +124,17 @@ fn write_track<S: Source, W: Write>(
     heading: Heading,
     trafs: Vec<TrackTraf>,
     limit: Limit,
-    sheet: &mut RowWriter,
+    writer: &mut RowWriter,
     output: &mut Output<W>,
 ) -> Result<(), TrackStop> {
     let reached = match tables_of(alloc, movie, number)? {
-        Some(tables) => write_tables(&tables, heading, limit, sheet, output)?,
+        Some(tables) => write_tables(&tables, heading, limit, writer, output)?,
         None => {
-            write_heading(heading, sheet, output)?;
+            write_heading(heading, writer, output)?;
             no_rows()
         }
     };
-    let reached = write_fragments(trafs, heading.name.id(), limit, reached, sheet, output)?;
+    let reached = write_fragments(trafs, heading.name.id(), limit, reached, writer, output)?;
     match reached.unlisted {
         Some(unlisted) => Err(TrackStop::Faulty(Fault::Unlisted(unlisted))),
         None => Ok(()),
@@ -212,7 +212,7 @@ fn enter_track<S: Source, W: Write>(
     choice: Choice,
     limit: Limit,
     ahead: &mut Ahead,
-    sheet: &mut RowWriter,
+    writer: &mut RowWriter,
     output: &mut Output<W>,
     faults: &mut Vec<TrackFault>,
 ) -> Result<(), Failure> {
@@ -231,7 +231,7 @@ fn enter_track<S: Source, W: Write>(
         handler: handler.ok(),
         timescale: timescale.ok(),
     };
-    match write_track(alloc, movie, number, heading, trafs, limit, sheet, output) {
+    match write_track(alloc, movie, number, heading, trafs, limit, writer, output) {
         Ok(()) => Ok(()),
         Err(TrackStop::Failed(failure)) => Err(failure),
         Err(TrackStop::Faulty(fault)) => keep_one(fault, Some(name), faults),
@@ -277,10 +277,18 @@ fn write_tracks<S: Source, W: Write>(
         fragments,
         known: BTreeMap::new(alloc),
     };
-    let mut sheet = RowWriter::new(alloc, choice.form);
+    let mut writer = RowWriter::new(alloc, choice.form);
     for info in tracks {
         enter_track(
-            alloc, movie, info, choice, limit, &mut ahead, &mut sheet, output, faults,
+            alloc,
+            movie,
+            info,
+            choice,
+            limit,
+            &mut ahead,
+            &mut writer,
+            output,
+            faults,
         )?;
     }
     keep_unknown(&ahead, choice, faults)

@@ -42,16 +42,16 @@ fn write_agreed<W: Write>(
     heading: Heading,
     time: u64,
     limit: Limit,
-    sheet: &mut RowWriter,
+    writer: &mut RowWriter,
     output: &mut Output<W>,
 ) -> Result<Reached, TrackStop>
     ensures writes { IfOk result
-        (WritesTables tables.now time limit sheet.old.form heading.name sheet.old.follows sheet.new.follows
+        (WritesTables tables.now time limit writer.old.form heading.name writer.old.follows writer.new.follows
         (W.contents output.old.inner) (W.contents output.new.inner)) }
-    ensures form { sheet.new.form ≡ sheet.old.form }
+    ensures form { writer.new.form ≡ writer.old.form }
 {
-    write_heading(heading, sheet, output)?;
-    let end = write_rows(tables, heading.name.id(), limit, sheet, output)?;
+    write_heading(heading, writer, output)?;
+    let end = write_rows(tables, heading.name.id(), limit, writer, output)?;
     Ok(Reached {
         count: end.count,
         time,
@@ -65,17 +65,17 @@ pub fn write_tables<W: Write>(
     boxes: &SampleBoxes,
     heading: Heading,
     limit: Limit,
-    sheet: &mut RowWriter,
+    writer: &mut RowWriter,
     output: &mut Output<W>,
 ) -> Result<Reached, TrackStop>
     ensures writes { IfOk result
-        (WritesBoxes boxes.now limit sheet.old.form heading.name sheet.old.follows sheet.new.follows
+        (WritesBoxes boxes.now limit writer.old.form heading.name writer.old.follows writer.new.follows
         (W.contents output.old.inner) (W.contents output.new.inner)) }
-    ensures form { sheet.new.form ≡ sheet.old.form }
+    ensures form { writer.new.form ≡ writer.old.form }
 {
     let time = boxes.time_end();
     match SampleTables::new(boxes.tables()) {
-        Ok(tables) => write_agreed(&tables, heading, time, limit, sheet, output),
+        Ok(tables) => write_agreed(&tables, heading, time, limit, writer, output),
         Err(disagreement) => Err(TrackStop::Faulty(Fault::Tables(disagreement))),
     }
 }

@@ -1,5 +1,5 @@
 -- The results of the iterator's calls.
-use Rattle.std.proofs.Common.{◌≡◌, ℕ, suc, ◌+◌, ◌^◌, ◌<◌, ◌≤◌, Bool, true, false, List, [], ◌∷◌, length, Result, Ok}
+use Rattle.std.proofs.Common.{◌≡◌, ℕ, suc, ◌^◌, ◌<◌, ◌≤◌, Bool, true, false, List, [], ◌∷◌, length, Result, Ok}
 use Rattle.std.proofs.Common.{Err, refl, sym, ap, subst, ◌∙◌, arith}
 use Rattle.std.specs.Prelude.{Option, Some, None, ⊤, is_ok, ◌++◌}
 use Rattle.std.specs.Iterator.{MakesProgress, item_count}
@@ -59,11 +59,6 @@ module _ {A : Type 0} (known : BoxType → Bool) (reading : BoxType → List ℕ
       → end_in f < 2 ^ 64 → Seeks known reading B o p (Ok (Some f))
   seek_finds o p f agrees lt is k begins least room short =
       (agrees ∙ items_known known reading B p f lt is k, k, begins, least, room, short)
-
-  -- the result of a walk, in the match arm for that result
-  pub found : (o p : ℕ) (x y : Option Frame) → x ≡ y → Seeks known reading B o p (Ok x)
-      → Seeks known reading B o p (Ok y)
-  found o p x y e h = subst (λ (x : Option Frame). Seeks known reading B o p (Ok x)) e h
 
 -- each item leaves fewer items
 module _ {A : Type 0} (known : BoxType → Bool) (reading : BoxType → List ℕ → ℕ → ℕ → Reading A) where

@@ -15,7 +15,7 @@ use Rattle.mp4_iterator.specs.Items.{Item, items, in_order}
 use Rattle.mp4_iterator.specs.Progress.{Progress, left, boxes_left, GivesBox}
 use Rattle.mp4_iterator.specs.Collected.{in_front, collected}
 use Rattle.std.specs.Iterator.{Drains}
-use Rattle.mp4_iterator.proofs.Items.{in_order_cond, boxes_are_items}
+use Rattle.mp4_iterator.proofs.Items.{skip_box, in_order_cond, boxes_are_items}
 
 kept : {A : Type 0} (a b : Bool) (front : List A) (v : A) (c : Bool) (w : Result (List A) Fault)
     → continue_with a front (and_then b (Ok v) (λ v. memory >>= λ _. and_then c w (λ vs. done (v ∷ vs))))
@@ -124,76 +124,29 @@ module _ {A : Type 0} (known : BoxType → Bool) (reading : BoxType → List ℕ
       (sym agrees ∙ ap (λ (l : List (Item A)). continue_with (nat_lt 0 (length front)) front (in_order l)) h.0.0)
       ∙ ap (λ (l : List A). Ok l) (append-nil front)
 
-  ok_in_front : (i : Item A) (is : List (Item A)) (v : A) (vs : List A) → i.reading.outcome ≡ Ok v
-      → (in_order is).outcome ≡ Ok vs → (in_order (i ∷ is)).outcome ≡ Ok (v ∷ vs)
-  ok_in_front i is v vs e f =
-      ap (λ (o : Result A Fault).
-      (and_then i.reading.asks_memory o (λ v. memory >>= λ _. in_order is >>= λ vs. done (v ∷ vs))).outcome) e
-      ∙ ap (λ (o : Result (List A) Fault). (and_then (in_order is).asks_memory o (λ vs. done (v ∷ vs))).outcome) f
+  with_box : (front : List A) (v : A) (r : Result (List A) Error) (total : Reading (List A))
+      → AnswersAs (λ vs. (front ++ v ∷ []) ++ vs) r total → AnswersAs (λ vs. front ++ vs) (in_front v r) total
+  with_box front v (Ok vs) total h = h ∙ ap (λ (l : List A). Ok l) (append_assoc front (v ∷ []) vs)
+  with_box front v (Err e) total h = h
 
-  err_in_front : (i : Item A) (is : List (Item A)) (v : A) (k : Fault) → i.reading.outcome ≡ Ok v
-      → (in_order is).outcome ≡ Err k → (in_order (i ∷ is)).outcome ≡ Err k
-  err_in_front i is v k e f =
-      ap (λ (o : Result A Fault).
-      (and_then i.reading.asks_memory o (λ v. memory >>= λ _. in_order is >>= λ vs. done (v ∷ vs))).outcome) e
-      ∙ ap (λ (o : Result (List A) Fault). (and_then (in_order is).asks_memory o (λ vs. done (v ∷ vs))).outcome) f
-
-  asks_in_front : (a c : Bool) (o : Result A Fault) (w : Result (List A) Fault) (v : A) → o ≡ Ok v
-      → (and_then a o (λ v. memory >>= λ _. and_then c w (λ vs. done (v ∷ vs)))).asks_memory ≡ true
-  asks_in_front true c (Ok u) w v e = refl
-  asks_in_front false c (Ok u) w v e = refl
-  asks_in_front a c (Err k) w v e = absurd cc
-
-  asks_first : (c : Bool) (o : Result A Fault) (w : Result (List A) Fault)
-      → (and_then true o (λ v. memory >>= λ _. and_then c w (λ vs. done (v ∷ vs)))).asks_memory ≡ true
-  asks_first c (Ok u) w = refl
-  asks_first c (Err k) w = refl
-
-  first_faults : (i : Item A) (is : List (Item A)) (k : Fault) → i.reading.outcome ≡ Err k
-      → (in_order (i ∷ is)).outcome ≡ Err k
-  first_faults i is k e =
-      ap (λ (o : Result A Fault).
-      (and_then i.reading.asks_memory o (λ v. memory >>= λ _. in_order is >>= λ vs. done (v ∷ vs))).outcome) e
-
-  first_refuses : (i : Item A) (is : List (Item A)) (e : Error) → Refuses e i.reading → Refuses e (in_order (i ∷ is))
-  first_refuses i is errors.IoError h = first_faults i is End h
-  first_refuses i is (errors.InvalidData _) h = first_faults i is Invalid h
-  first_refuses i is (errors.BoxNotFound n) h = first_faults i is (NotFound n) h
-  first_refuses i is errors.OutOfMemory h =
-      ap (λ (b : Bool). (and_then b i.reading.outcome
-      (λ v. memory >>= λ _. in_order is >>= λ vs. done (v ∷ vs))).asks_memory) h
-      ∙ asks_first (in_order is).asks_memory i.reading.outcome (in_order is).outcome
-  first_refuses i is _ h = absurd h
-
-  rest_refuses : (i : Item A) (is : List (Item A)) (v : A) (e : Error) → i.reading.outcome ≡ Ok v
-      → Refuses e (in_order is) → Refuses e (in_order (i ∷ is))
-  rest_refuses i is v errors.IoError is_ok h = err_in_front i is v End is_ok h
-  rest_refuses i is v (errors.InvalidData _) is_ok h = err_in_front i is v Invalid is_ok h
-  rest_refuses i is v (errors.BoxNotFound n) is_ok h = err_in_front i is v (NotFound n) is_ok h
-  rest_refuses i is v errors.OutOfMemory is_ok h =
-      asks_in_front i.reading.asks_memory (in_order is).asks_memory i.reading.outcome (in_order is).outcome v is_ok
-  rest_refuses i is v _ is_ok h = absurd h
-
-  answers_in_front : (i : Item A) (is : List (Item A)) (v : A) (r : Result (List A) Error) → i.reading.outcome ≡ Ok v
-      → AnswersAs (λ (vs : List A). vs) r (in_order is)
-      → AnswersAs (λ (vs : List A). vs) (in_front v r) (in_order (i ∷ is))
-  answers_in_front i is v (Ok vs) e h = ok_in_front i is v vs e h
-  answers_in_front i is v (Err k) e h = rest_refuses i is v k e h
-
-  collects_items : (s : Progress) (rs : List (Result A Error)) → Drains (GivesBox known reading) s rs
-      → AnswersAs (λ (vs : List A). vs) (collected rs) (in_order (left known reading s))
-  collects_items s [] d = ap (λ (l : List (Item A)). (in_order l).outcome) (ap (left known reading) d.1.1 ∙ d.1.2.0.0)
-  collects_items s (Ok v ∷ rs) d =
-      let h = d.1.1.1.0 in
-      let rest = collects_items d.1.1.0 rs (d.0, (d.1.0, d.1.1.2, d.1.2)) in
-      let one = answers_in_front h.0 h.1 v (collected rs) h.3.0
-      (subst (λ (l : List (Item A)). AnswersAs (λ (vs : List A). vs) (collected rs) (in_order l)) h.3.1 rest) in
-      subst (λ (l : List (Item A)). AnswersAs (λ (vs : List A). vs) (in_front v (collected rs)) (in_order l))
-      (sym h.2) one
-  collects_items s (Err e ∷ rs) d =
-      let h = d.1.1.1.0 in
-      subst (λ (l : List (Item A)). Refuses e (in_order l)) (sym h.2) (first_refuses h.0 h.1 e h.3.0)
+  -- the results of `next` after the boxes of `front`
+  collects_on : (s : Progress) (front : List A) (rs : List (Result A Error)) (total : Reading (List A))
+      → Drains (GivesBox known reading) s rs
+      → continue_with (nat_lt 0 (length front)) front (in_order (left known reading s)) ≡ total
+      → AnswersAs (λ vs. front ++ vs) (collected rs) total
+  collects_on s front [] total d agrees =
+      ap (λ (r : Reading (List A)). r.outcome)
+      (sym agrees ∙ ap (λ (l : List (Item A)). continue_with (nat_lt 0 (length front)) front (in_order l))
+      (ap (left known reading) d.1.1 ∙ d.1.2.0.0))
+  collects_on s front (Ok v ∷ rs) total d agrees =
+      with_box front v (collected rs) total
+      (collects_on d.1.1.0 (front ++ v ∷ []) rs total (d.0, (d.1.0, d.1.1.2, d.1.2))
+      (goes_on s d.1.1.0 front v (Ok v) total refl d.1.1.1 agrees))
+  collects_on s front (Err e ∷ rs) total d agrees = stops s d.1.1.0 front e (Err e) total refl d.1.1.1 agrees
 
   pub collects : (s : Progress) (rs : List (Result A Error)) → Drains (GivesBox known reading) s rs
       → AnswersAs (λ (vs : List A). vs) (collected rs) (boxes_left known reading s)
-  collects s rs d = rw (left_in_order s) (collects_items s rs d)
+  collects s rs d =
+      let all = in_order (left known reading s) in
+      collects_on s [] rs (boxes_left known reading s) d
+      (skip_box all.asks_memory all.outcome ∙ sym (left_in_order s))

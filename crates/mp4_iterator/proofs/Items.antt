@@ -23,7 +23,7 @@ keep_box true b (Err k) w = refl
 keep_box false b (Err k) w = refl
 
 -- a box that is skipped
-skip_box : {A : Type 0} (b : Bool) (w : Result (List A) Fault)
+pub skip_box : {A : Type 0} (b : Bool) (w : Result (List A) Fault)
     → (done [] >>= λ xs. and_then b w (λ ys. done (xs ++ ys))) ≡ record { asks_memory = b; outcome = w }
 skip_box true (Ok ys) = refl
 skip_box false (Ok ys) = refl
@@ -101,21 +101,12 @@ module _ {A : Type 0} (known : BoxType → Bool) (reading : BoxType → List ℕ
       let t : nat_le (length B) o ≡ false = grind (arith, common_steps) in
       rw t refl
 
-  rest_same : (o : ℕ) (r : Result Frame Fault) → frame B o ≡ r
-      → items_on known reading B o (λ e. items_at_most known reading B (length B - 1) e) r
-      ≡ items_on known reading B o (λ e. items known reading B e) r
-  rest_same o (Err k) is = refl
-  rest_same o (Ok f) is =
-      let room = frame_room B o f is in
-      ap (λ (rest : List (Item A)).
-      cond (known (name_in f)) (box_item reading B f ∷ rest)
-      rest) (enough (length B - 1) (length B) (end_in f) (omega (arith, room.0)) (omega arith))
-
   items_first : (o : ℕ) → o < length B
       → items known reading B o ≡ items_on known reading B o (λ e. items known reading B e) (frame B o)
   items_first o h = (let e : length B ≡ suc (length B - 1) =
       omega arith in ap (λ (n : ℕ). items_at_most known reading B n o) e ∙ one_more (length B - 1) o h)
-      ∙ rest_same o (frame B o) refl
+      ∙ same_on (length B - 1) (length B) o
+      (λ e l. enough (length B - 1) (length B) e (omega arith) (omega arith)) (frame B o) refl
 
   -- at the end of the buffer there are no items
   pub items_none : (o : ℕ) → length B ≤ o → items known reading B o ≡ []

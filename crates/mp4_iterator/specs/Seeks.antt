@@ -1,5 +1,5 @@
 -- The first box of a known name, after boxes of unknown names are skipped.
-use Rattle.std.specs.Prelude.{ℕ, ◌≡◌, ◌+◌, ◌^◌, ◌<◌, ◌≤◌, Bool, true, List, [], ◌∷◌, length, max, Option, Some, None}
+use Rattle.std.specs.Prelude.{ℕ, ◌≡◌, ◌^◌, ◌<◌, ◌≤◌, Bool, true, List, [], ◌∷◌, length, max, Option, Some, None}
 use Rattle.std.specs.Prelude.{Result, Ok, Err}
 use Rattle.mp4_frame.specs.Heads.{name_in, end_in}
 use Rattle.mp4_frame.specs.Reading.{Fault, Reading, Refuses}

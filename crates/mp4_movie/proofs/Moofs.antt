@@ -22,15 +22,6 @@ StepsSoFar file defaults moof boxes end rest known =
     → AreOfTrafs file defaults moof end (all_in 1 (four_cc_of codes.TRAF) rest) more
     → AreOfMoof file defaults moof boxes (known ++ more)
 
-pub at_begin : (bytes : Option (List ℕ)) (defaults : ℕ → Option TrexBox) (moof : ℕ) (boxes : List TreeBox)
-    (known : List (Result TrackFragment BoxError)) → known ≡ []
-    → IfSome bytes (λ file. StepsSoFar file defaults moof boxes (Some moof) boxes known)
-at_begin None defaults moof boxes known is = tt
-at_begin (Some file) defaults moof boxes known is =
-    subst (λ (rs : List (Result TrackFragment BoxError)). StepsSoFar file defaults moof boxes (Some moof) boxes rs)
-    (sym is)
-    (λ more h. h)
-
 pub one_more_step : (now bytes : Option (List ℕ)) (defaults : ℕ → Option TrexBox) (moof : ℕ) (boxes rest : List TreeBox)
     (end next : Option ℕ) (f : Found) (old new : List (Result TrackFragment BoxError))
     (one : Result TrackFragment BoxError) → now ≡ bytes → Some f ≡ first_in 1 (four_cc_of codes.TRAF) rest
@@ -65,12 +56,6 @@ abbrev pub MoofsSoFar : List ℕ → (ℕ → Option TrexBox) → List TreeBox �
 MoofsSoFar file defaults boxes rest known =
     (more : List MoofFragments) → AreOfMoofs file defaults (all_in 0 (four_cc_of codes.MOOF) rest) more
     → AreOfMoofs file defaults (all_in 0 (four_cc_of codes.MOOF) boxes) (known ++ more)
-
-pub moofs_begin : (bytes : Option (List ℕ)) (defaults : ℕ → Option TrexBox) (boxes : List TreeBox)
-    (known : List MoofFragments) → known ≡ [] → IfSome bytes (λ file. MoofsSoFar file defaults boxes boxes known)
-moofs_begin None defaults boxes known is = tt
-moofs_begin (Some file) defaults boxes known is =
-    subst (λ (rs : List MoofFragments). MoofsSoFar file defaults boxes boxes rs) (sym is) (λ more h. h)
 
 pub moof_on : (now bytes : Option (List ℕ)) (defaults : ℕ → Option TrexBox) (boxes rest : List TreeBox) (f : Found)
     (old new : List MoofFragments) (one : MoofFragments) → now ≡ bytes

@@ -22,19 +22,6 @@ abbrev pub after_runs : List TrunBox → Result (List TrunBox) Problem → Resul
 after_runs old (Ok vs) = Ok (old ++ vs)
 after_runs old (Err p) = Err p
 
-none_before : (r : Result (List TrunBox) Problem) → r ≡ after_runs [] r
-none_before (Ok vs) = refl
-none_before (Err p) = refl
-
--- at the begin
-pub at_begin : (bytes : Option (List ℕ)) (boxes : List TreeBox) (runs : List TrunBox) → runs ≡ []
-    → IfSome bytes (λ file. runs_of file (all_in 2 (four_cc_of codes.TRUN) boxes)
-    ≡ after_runs runs (runs_of file (all_in 2 (four_cc_of codes.TRUN) boxes)))
-at_begin None boxes runs is = tt
-at_begin (Some file) boxes runs is =
-    let all = runs_of file (all_in 2 (four_cc_of codes.TRUN) boxes) in
-    none_before all ∙ ap (λ (vs : List TrunBox). after_runs vs all) (sym is)
-
 one_before : (old : List TrunBox) (v : TrunBox) (r : Result (List TrunBox) Problem)
     → after_runs old (r >>= λ vs. Ok (v ∷ vs)) ≡ after_runs (old ++ v ∷ []) r
 one_before old v (Ok vs) = ap (λ (ws : List TrunBox). let o : Result (List TrunBox) Problem = Ok ws in o)

@@ -1,5 +1,6 @@
 pub mod Problems
 pub mod Reads
+pub mod CompactSizes
 pub mod Levels
 pub mod Tables
 pub mod Movies

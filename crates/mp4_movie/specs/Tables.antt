@@ -4,6 +4,7 @@ use Rattle.std.specs.Borrow.{Bor}
 use Rattle.std.specs.declared.option.Option.{Option}
 use Rattle.mp4_frame.specs.FourCC.{four_cc_of}
 use Rattle.mp4_frame.specs.declared.codes.TheConstants as codes
+use Rattle.mp4_movie.specs.CompactSizes.{compact_sizes}
 use Rattle.mp4_movie.specs.Levels.{Found, first_in}
 use Rattle.mp4_movie.specs.Problems.{Problem, NoBox, ◌>>=◌}
 use Rattle.mp4_movie.specs.Reads.{value_at, required, optional}
@@ -20,6 +21,12 @@ use Rattle.mp4_walk.specs.declared.tree_box.TreeBox.{TreeBox}
 -- the first child of a sample table that has this code
 abbrev pub table : ℕ → List TreeBox → Option Found
 table code stbl = first_in 5 (four_cc_of code) stbl
+
+-- the sizes: those of `stsz`, or those of `stz2` if there is no `stsz` (ISO/IEC 14496-12, 8.7.3)
+abbrev pub sizes_of : List ℕ → Option Found → Option Found → Result (Option StszBox) Problem
+sizes_of file (Some f) stz2 = value_at reads_stsz codes.STSZ file f.box >>= λ v. Ok (Some v)
+sizes_of file None (Some f) = compact_sizes file f.box >>= λ v. Ok (Some v)
+sizes_of file None None = Ok None
 
 -- the chunk offsets: those of stco, or those of co64 if there is no stco (ISO/IEC 14496-12, 8.7.5)
 abbrev pub chunks_of : List ℕ → Option Found → Option Found → Result (Option ChunkBox) Problem
@@ -50,7 +57,8 @@ with_sizes file stbl offsets stsz =
     optional reads_stss codes.STSS file (table codes.STSS stbl) >>= λ stss.
     Ok (record { stsz = stsz; stsc = stsc; chunk_offsets = chunk_offsets; stts = stts; ctts = ctts; stss = stss })
 
--- a track with no sizes and no chunk has no samples except those of fragments, whatever other tables it has
+-- A track with no sizes and no chunk has no samples except those of fragments, whatever other tables it has. If it has
+-- a chunk and no sizes, the problem names `stsz`.
 abbrev pub by_sizes : List ℕ → List TreeBox → Option ChunkBox → Option StszBox → Result (Option SampleBoxes) Problem
 by_sizes file stbl offsets None = if has_chunk offsets then Err (NoBox (four_cc_of codes.STSZ)) else Ok None
 by_sizes file stbl offsets (Some stsz) = with_sizes file stbl offsets stsz >>= λ t. Ok (Some t)
@@ -59,7 +67,7 @@ by_sizes file stbl offsets (Some stsz) = with_sizes file stbl offsets stsz >>= �
 -- sizes, chunk offsets, chunks, durations, composition offsets, sync samples
 abbrev pub tables_in : List ℕ → List TreeBox → Result (Option SampleBoxes) Problem
 tables_in file stbl =
-    optional reads_stsz codes.STSZ file (table codes.STSZ stbl) >>= λ sizes.
+    sizes_of file (table codes.STSZ stbl) (table codes.STZ2 stbl) >>= λ sizes.
     chunks_of file (table codes.STCO stbl) (table codes.CO64 stbl) >>= λ offsets.
     by_sizes file stbl offsets sizes
 

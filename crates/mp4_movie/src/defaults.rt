@@ -6,7 +6,7 @@ ghost use Rattle.std.specs.Ordering.{nat_cmp};
 ghost use Rattle.mp4_flat.specs.Boxes.{reads_trex};
 ghost use Rattle.mp4_frame.specs.FourCC.{four_cc_of};
 ghost use Rattle.mp4_frame.specs.declared.codes.TheConstants as names;
-ghost use Rattle.mp4_movie.specs.Fragments.{defaults_in, of_track, ok_of, or_else, trexes};
+ghost use Rattle.mp4_movie.specs.Fragments.{defaults_in, of_track, ok_of, or_else};
 ghost use Rattle.mp4_movie.specs.Levels.{after_of, all_in, first_in};
 ghost use Rattle.mp4_movie.specs.Reads.{value_at};
 

@@ -66,8 +66,7 @@ fn fragment_of(
 }
 
 /// Returns the fragment that a `traf` of the `moof` at position `moof` is. `boxes` begins with the boxes inside the
-/// `traf`.
-/// The data before it end at `end`, if that is known.
+/// `traf`. The data before it end at `end`, if that is known.
 pub fn fragment_in<S: Source>(
     alloc: Global,
     walk: &mut BoxWalk<S>,

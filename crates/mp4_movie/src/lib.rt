@@ -2,6 +2,7 @@
 //! source of bytes that is read at positions.
 #![tactic(auto)]
 
+mod compact_sizes;
 mod defaults;
 mod error;
 mod found;
@@ -17,6 +18,7 @@ mod table;
 mod track_fragment;
 mod traf;
 
+pub use compact_sizes::sizes_fault;
 pub use error::{BoxError, MovieError};
 pub use info::TrackInfo;
 pub use level::{BoxLocation, first_in};

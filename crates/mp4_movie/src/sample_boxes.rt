@@ -19,7 +19,7 @@ pub enum ChunkBox {
 /// The boxes of an `stbl` that say where the samples of a track are, and when they play.
 #[derive(Debug, Drop)]
 pub struct SampleBoxes {
-    /// The sizes of the samples.
+    /// The sizes of the samples: the `stsz`, or the sizes of the `stz2` as an `stsz` lists them.
     pub stsz: StszBox,
     /// The number of samples in each chunk.
     pub stsc: StscBox,

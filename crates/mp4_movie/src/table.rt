@@ -4,10 +4,13 @@ ghost use Rattle.std.specs.Prelude.{◌≡◌};
 ghost use Rattle.mp4_frame.specs.FourCC.{four_cc_of};
 ghost use Rattle.mp4_frame.specs.declared.codes.TheConstants as names;
 ghost use Rattle.mp4_movie.specs.Problems.{ReturnsFor};
-ghost use Rattle.mp4_movie.specs.Tables.{by_sizes, chunks_of, has_chunk, or_missing, table, tables_in, with_sizes};
+ghost use Rattle.mp4_movie.specs.Tables.{by_sizes, chunks_of, has_chunk, or_missing, sizes_of, table, tables_in};
+ghost use Rattle.mp4_movie.specs.Tables.{with_sizes};
 
+use crate::compact_sizes::compact_sizes;
 use crate::error::{BoxError, MovieError};
 use crate::found::{optional, required};
+use crate::level::first_in;
 use crate::sample_boxes::{ChunkBox, SampleBoxes};
 use mp4_frame::{FourCC, codes};
 use mp4_tables::{Co64Box, StcoBox, StszBox};
@@ -16,6 +19,26 @@ use std::alloc::Global;
 
 /// The depth of the boxes of a sample table, which are inside `moov`, `trak`, `mdia`, `minf` and `stbl`.
 pub const DEPTH: u64 = 5;
+
+/// Returns the sizes of the samples of a sample table, if it has any: those of `stsz`, or those of `stz2` if there is
+/// no `stsz`.
+fn sizes_of<S: Source>(
+    alloc: Global,
+    walk: &mut BoxWalk<S>,
+    stbl: &[TreeBox],
+) -> Result<Option<StszBox>, MovieError>
+    ensures value { ReturnsFor walk.old.bytes result
+        (λ file. sizes_of file (table names.STSZ stbl.now) (table names.STZ2 stbl.now)) }
+    ensures kept { walk.new ≡ walk.old }
+{
+    if let Some(stsz) = optional::<StszBox, S>(alloc, walk, stbl, DEPTH, codes::STSZ)? {
+        return Ok(Some(stsz));
+    }
+    match first_in(stbl, DEPTH, FourCC::from(codes::STZ2)) {
+        Some(place) => Ok(Some(compact_sizes(alloc, walk, &place.found)?)),
+        None => Ok(None),
+    }
+}
 
 /// Returns the chunk offsets of a sample table, if it has any.
 fn chunks_of<S: Source>(
@@ -85,8 +108,7 @@ fn with_sizes<S: Source>(
 }
 
 /// Returns the sample tables of an `stbl`. `stbl` begins with the boxes inside it. Returns `None` if there are no sizes
-/// and
-/// no chunk: then the track has no samples except those of fragments.
+/// and no chunk: then the track has no samples except those of fragments.
 pub fn tables_in<S: Source>(
     alloc: Global,
     walk: &mut BoxWalk<S>,
@@ -95,7 +117,7 @@ pub fn tables_in<S: Source>(
     ensures value { ReturnsFor walk.old.bytes result (λ file. tables_in file stbl.now) }
     ensures kept { walk.new ≡ walk.old }
 {
-    let sizes = optional(alloc, walk, stbl, DEPTH, codes::STSZ)?;
+    let sizes = sizes_of(alloc, walk, stbl)?;
     let offsets = chunks_of(alloc, walk, stbl)?;
     match sizes {
         Some(stsz) => Ok(Some(with_sizes(alloc, walk, stbl, offsets, stsz)?)),

@@ -20,15 +20,13 @@ pub struct TrackFragment {
     /// The position of its `moof` in the file, in bytes.
     pub moof: u64,
     /// The end of the data of the `traf` before it in the same `moof`, of any track, in bytes. If there is none, or if
-    /// the
-    /// header states the base of offsets, the position of the `moof`.
+    /// the header states the base of offsets, the position of the `moof`.
     pub data_end: u64,
 }
 
 impl TrackFragment {
     /// Returns the fragment as `mp4_samples` takes it. The samples of the track before it end at `time_end`, in ticks
-    /// of
-    /// the timescale of the media. That matters only if the fragment has no `tfdt`.
+    /// of the timescale of the media. That matters only if the fragment has no `tfdt`.
     pub fn fragment(&self, time_end: u64) -> Fragment<'_>
         ensures { IsFragmentOf (piece_of self.now) time_end result }
     {

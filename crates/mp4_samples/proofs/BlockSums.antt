@@ -5,14 +5,7 @@ use Rattle.mp4_tables.specs.declared.stsz.StszBox.{StszBox}
 use Rattle.mp4_samples.specs.declared.tables.Tables.{Tables}
 use Rattle.mp4_samples.specs.Sizes.{bytes_of}
 use Rattle.mp4_samples.specs.Samples.{AreConsistent, offsets_of, sample_count}
-use Rattle.mp4_samples.proofs.Bytes.{bytes_split, bytes_within, bytes_zero, through_zero}
-
-pub two_parts : (z : StszBox) (a b : ℕ) → a ≤ b → bytes_of z 0 b ≡ bytes_of z 0 a + bytes_of z a (b - a)
-two_parts z a b le =
-    let both = bytes_split z 0 a (b - a) in
-    let whole : a + (b - a) ≡ b = omega arith in
-    let here : 0 + a ≡ a = omega arith in
-    rw (whole, here) at both
+use Rattle.mp4_samples.proofs.Bytes.{two_parts, bytes_within, bytes_zero, through_zero}
 
 pub by_block : (z : StszBox) (k : ℕ)
     → bytes_of z 0 k ≡ bytes_of z 0 (k / 64 * 64) + bytes_of z (k / 64 * 64) (k - k / 64 * 64)

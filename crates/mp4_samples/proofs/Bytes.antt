@@ -39,16 +39,17 @@ bytes_split z a n (suc m) =
     let all' : bytes_of z a (n + suc m) ≡ bytes_of z a (n + m) + size_of z (a + n + m) = rw place at all in
     omega (arith, rest, all', part)
 
+pub two_parts : (z : StszBox) (a b : ℕ) → a ≤ b → bytes_of z 0 b ≡ bytes_of z 0 a + bytes_of z a (b - a)
+two_parts z a b le =
+    let whole : a + (b - a) ≡ b = omega arith in
+    let here : 0 + a ≡ a = omega arith in
+    rw (whole, here) at (bytes_split z 0 a (b - a))
+
 pub bytes_within : (z : StszBox) (first m n : ℕ) → first + m ≤ n → bytes_of z first m ≤ bytes_of z 0 n
 bytes_within z first m n le =
-    let one = bytes_split z 0 first m in
-    let two = bytes_split z 0 (first + m) (n - (first + m)) in
-    let whole : first + m + (n - (first + m)) ≡ n = omega arith in
-    let two' : bytes_of z 0 n ≡ bytes_of z 0 (first + m) + bytes_of z (0 + (first + m)) (n - (first + m)) =
-    rw whole at two in
-    let here : 0 + first ≡ first = omega arith in
-    let one' : bytes_of z 0 (first + m) ≡ bytes_of z 0 first + bytes_of z first m = rw here at one in
-    omega (arith, one', two')
+    let width : first + m - first ≡ m = omega arith in
+    let one = rw width at (two_parts z first (first + m) (omega arith)) in
+    omega (arith, one, two_parts z (first + m) n le)
 
 pub listed_at : (z : StszBox) (k : ℕ) → z.sample_size ≡ 0 → size_of z k ≡ get_or z.sample_sizes k 0
 listed_at z k none = rw none refl

@@ -1,7 +1,7 @@
--- The last number of a list up to a limit, and the last sync sample.
+-- The numbers of a list up to a limit, and the last sync sample.
 use Rattle.std.proofs.Common.{◌≡◌, ℕ, zero, suc, ◌+◌, ◌-◌, ◌<◌, ◌≤◌, inl, inr, eqb, true, false, List, [], ◌∷◌, length}
-use Rattle.std.proofs.Common.{get_or, refl, sym, ap, ◌∙◌, arith}
-use Rattle.std.specs.Prelude.{Option, Some, None, IfNone}
+use Rattle.std.proofs.Common.{get_or, refl, arith}
+use Rattle.std.specs.Prelude.{◌≢◌, Option, Some, None, IfNone}
 use Rattle.std.specs.List.Sorted.{IsNonDecreasing}
 use Rattle.std.proofs.lemmas.Bool.{ltb-true, eq-eqb, ne_eqb, and_parts, cases_lt}
 use Rattle.std.proofs.lemmas.List.Folds.{list_any_at}
@@ -24,21 +24,21 @@ above_all a (x ∷ xs) (suc i) d order lt =
     let rest = above_all x xs i d both.1 (omega arith) in
     omega (arith, here, rest)
 
-rises : (a : ℕ) (xs : List ℕ) (i j d : ℕ) → increases a xs ≡ true → i ≤ j → j < length xs
-    → get_or xs i d ≤ get_or xs j d
-rises a [] i j d order le lt = absurd (omega arith)
-rises a (x ∷ xs) zero zero d order le lt = omega arith
-rises a (x ∷ xs) zero (suc j) d order le lt =
-    let both = and_parts _ _ order in
-    let above = above_all x xs j d both.1 (omega arith) in
-    omega (arith, above)
-rises a (x ∷ xs) (suc i) zero d order le lt = absurd (omega arith)
-rises a (x ∷ xs) (suc i) (suc j) d order le lt =
-    let both = and_parts _ _ order in
-    rises x xs i j d both.1 (omega arith) (omega arith)
+rises : (a : ℕ) (xs : List ℕ) (i j d : ℕ) → increases a xs ≡ true → i < j → j < length xs
+    → get_or xs i d < get_or xs j d
+rises a [] i j d order less lt = absurd (omega arith)
+rises a (x ∷ xs) i zero d order less lt = absurd (omega arith)
+rises a (x ∷ xs) zero (suc j) d order less lt = above_all x xs j d (and_parts _ _ order).1 (omega arith)
+rises a (x ∷ xs) (suc i) (suc j) d order less lt =
+    rises x xs i j d (and_parts _ _ order).1 (omega arith) (omega arith)
 
 pub sorted : (xs : List ℕ) → increases 0 xs ≡ true → IsNonDecreasing xs
-sorted xs order = λ i j d le lt. rises 0 xs i j d order le lt
+sorted xs order = λ i j d le lt. elim (cases_lt i j) [
+  | inl less ↦ omega (arith, rises 0 xs i j d order less lt)
+  | inr same ↦
+      let is : i ≡ j = omega arith in
+      rw is (omega arith)
+]
 
 unlisted_by : (y : ℕ) (xs : List ℕ) → ((i : ℕ) → i < length xs → get_or xs i 0 ≡ y → ⊥) → is_listed y xs ≡ false
 unlisted_by y [] differ = refl
@@ -50,11 +50,11 @@ module _ (xs : List ℕ) (limit n : ℕ) (order : increases 0 xs ≡ true) (coun
   pub nothing_past : (y : ℕ) → y ≤ limit → (0 < n → get_or xs (n - 1) 0 < y) → is_listed y xs ≡ false
   nothing_past y le above = unlisted_by y xs (λ i lt is. elim (cases_lt i n) [
     | inl before ↦
-        let most = rises 0 xs i (n - 1) 0 order (omega arith) (omega (arith, count.within)) in
+        let most = sorted xs order i (n - 1) 0 (omega arith) (omega (arith, count.within)) in
         let more = above (omega arith) in
         absurd (omega (arith, most, more, is))
     | inr after ↦
-        let more = count.high i 0 after lt in
+        let more = count.high i after lt in
         absurd (omega (arith, more, is))
   ])
 
@@ -64,9 +64,51 @@ module _ (xs : List ℕ) (limit n : ℕ) (order : increases 0 xs ≡ true) (coun
       record {
         listed = list_any_at (λ x. eqb x (get_or xs (n - 1) 0)) xs (n - 1) 0 lt (eq-eqb _ _ refl);
         begun = above_all 0 xs (n - 1) 0 order lt;
-        within = count.low (n - 1) 0 (omega arith);
+        within = count.low (n - 1) (omega arith);
         last = λ y more le. nothing_past y le (λ _. more);
       }
+
+-- No number of a list that increases is below the first one.
+pub count_none : (xs : List ℕ) → increases 0 xs ≡ true → IsCountAtMost xs 0 0
+count_none xs order = record {
+  within = omega arith;
+  low = λ i lt. absurd (omega arith);
+  high = λ i le lt. above_all 0 xs i 0 order lt;
+}
+
+-- Whether `k + 1` follows the first `j` numbers, which are those up to `k`.
+module _ (xs : List ℕ) (k j : ℕ) (order : increases 0 xs ≡ true) (at : IsCountAtMost xs k j) where
+  pub count_next : j < length xs → get_or xs j 0 ≡ k + 1 → IsCountAtMost xs (k + 1) (j + 1)
+  count_next lt is = record {
+    within = omega arith;
+    low = λ i less. elim (cases_lt i j) [
+      | inl before ↦ omega (arith, at.low i before)
+      | inr after ↦
+          let same : i ≡ j = omega arith in
+          rw same (omega (arith, is))
+    ];
+    high = λ i le less. omega (arith, rises 0 xs j i 0 order (omega arith) less, is);
+  }
+
+  pub listed_next : j < length xs → get_or xs j 0 ≡ k + 1 → is_listed (k + 1) xs ≡ true
+  listed_next lt is = list_any_at (λ x. eqb x (k + 1)) xs j 0 lt (eq-eqb _ _ is)
+
+  pub count_same : (j < length xs → get_or xs j 0 ≢ k + 1) → IsCountAtMost xs (k + 1) j
+  count_same differ = record {
+    within = at.within;
+    low = λ i lt. omega (arith, at.low i lt);
+    high = λ i le lt.
+        let above = at.high j (omega arith) (omega arith) in
+        let no : get_or xs j 0 ≢ k + 1 = differ (omega arith) in
+        let most = sorted xs order j i 0 le lt in
+        omega (arith, above, no, most);
+  }
+
+  pub unlisted_next : (j < length xs → get_or xs j 0 ≢ k + 1) → is_listed (k + 1) xs ≡ false
+  unlisted_next differ = unlisted_by (k + 1) xs (λ i lt is. elim (cases_lt i j) [
+    | inl before ↦ absurd (omega (arith, at.low i before, is))
+    | inr after ↦ absurd (omega (arith, (count_same differ).high i after lt, is))
+  ])
 
 -- No sample after the one that covers a time has started.
 not_started : (es : List SttsEntry) (time n j : ℕ) → Covers es time n → n < j → start_of es j ≤ time → ⊥
@@ -113,14 +155,3 @@ none_after_all t time n all none j counted started = none j (omega arith) counte
 pub IfNone_then : {X : Type 0} (r : Option X) {P Q : Type 0} → IfNone r P → (P → Q) → IfNone r Q
 IfNone_then None p f = f p
 IfNone_then (Some x) p f = tt
-
--- A number is in a list if it is the last one up to itself.
-pub listed_last : (xs : List ℕ) (n x : ℕ) → IsLastListed xs n x → eqb x n ≡ is_listed n xs
-listed_last xs n x l = elim (cases_lt x n) [
-  | inl lt ↦
-      let no : eqb x n ≡ false = ne_eqb x n (λ is. omega arith) in
-      no ∙ sym (l.last n lt (omega arith))
-  | inr le ↦
-      let same : x ≡ n = omega (arith, le, l.within) in
-      eq-eqb x n same ∙ sym (ap (λ (y : ℕ). is_listed y xs) (sym same) ∙ l.listed)
-]

@@ -1,9 +1,6 @@
 pub mod Rising
 pub mod Through
-pub mod Spelled
 pub mod Bytes
-pub mod Rest
-pub mod Room
 pub mod Found
 pub mod Unique
 pub mod Refuted
@@ -12,11 +9,8 @@ pub mod Fragments
 pub mod FragmentEnds
 pub mod FragmentCalls
 pub mod RunSums
-pub mod RunCursor
-pub mod OffsetRuns
 pub mod LastSync
 pub mod FirstSamples
-pub mod ChunkMarks
 pub mod TimeMarks
 pub mod FragmentOrder
 pub mod EditTimes

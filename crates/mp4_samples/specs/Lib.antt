@@ -10,7 +10,6 @@ pub mod Marks
 pub mod Places
 pub mod Steps
 pub mod Gives
-pub mod Stretch
 pub mod Laws
 pub mod Fragments
 pub mod FragmentPlaces

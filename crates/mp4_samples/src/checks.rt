@@ -3,14 +3,15 @@
 ghost use Rattle.std.specs.Prelude.{◌≡◌, ◌≢◌, ◌+◌, ◌<◌, ◌≤◌, ◌^◌, ◌↔◌, true, length, slice_get, All, Contains, Some};
 ghost use Rattle.std.specs.Prelude.{IfSome, IfErr, IsNone, IsOk};
 ghost use Rattle.mp4_samples.specs.Runs.{durations, increases};
-ghost use Rattle.mp4_samples.specs.Chunks.{samples_through, chunks_increase};
+ghost use Rattle.mp4_samples.specs.Chunks.{chunks_increase};
 ghost use Rattle.mp4_samples.specs.Sizes.{bytes_of};
 ghost use Rattle.mp4_samples.specs.Samples.{AreConsistent, begins_at_one, offsets_of, sample_count};
 ghost use Rattle.mp4_samples.specs.Disagreements.{Disagrees, IsNotAbove, first_chunks};
 
 use crate::access::bytes_between;
-use crate::chunk_place::{at_next_entry, before_chunks};
+use crate::chunk_place::samples_through;
 use crate::disagreement::Disagreement;
+use crate::run_place::{RunPlace, run_of};
 use crate::state::{chunk_count, stss_entries};
 use crate::tables::{ChunkOffsets, Tables};
 use mp4_tables::{StscEntry, StszBox, SttsEntry};
@@ -65,29 +66,15 @@ fn too_few_durations(entries: &[SttsEntry], count: u32) -> Option<u32>
     ensures none { IsNone result ↔ (count ≤ length (durations entries.now)) }
     ensures some { IfSome result (λ timed. (timed ≡ length (durations entries.now)) × (timed < count)) }
 {
-    let mut left = count;
-    for entry in entries {
-        if left <= entry.sample_count {
-            return None;
-        }
-        left -= entry.sample_count;
+    if count == 0 {
+        return None;
     }
-    if left == 0 { None } else { Some(count - left) }
-}
-
-/// Returns the number of samples in the first `count` chunks. It takes one step for each entry.
-fn samples_through(runs: &[StscEntry], count: u32) -> u64
-    requires { chunks_increase 0 runs.now ≡ true }
-    ensures { result ≡ samples_through runs.now count }
-{
-    let mut place = before_chunks();
-    let mut total = 0;
-    while place.run < runs.len() && runs[place.run].first_chunk <= count {
-        let (next, _, through) = at_next_entry(runs, place, total);
-        total = through;
-        place = next;
+    let run = run_of(entries, count - 1, RunPlace { index: 0, first: 0 });
+    if run.index < entries.len() {
+        None
+    } else {
+        Some(run.first)
     }
-    total + u64::from(count - place.chunk) * u64::from(place.entry.samples_per_chunk)
 }
 
 /// Returns the number of bytes of all samples. It takes one step for each size that is listed.

@@ -8,22 +8,26 @@ ghost use Rattle.mp4_samples.specs.FragmentLaws.{FragmentDurationsAddUp, Fragmen
 ghost use Rattle.mp4_samples.specs.FragmentLaws.{FragmentSamplesAreCounted};
 
 /// Proves that the tables determine each sample, so that the iterator and `sample` give the same one.
+#[tactic(auto, using(crate::proofs::Unique::unique))]
 pub fn sample_is_unique()
     ensures { SampleIsUnique }
 {}
 
 /// Proves that tables with a disagreement are not consistent.
+#[tactic(auto, using(crate::proofs::Refuted::refutes))]
 pub fn disagreement_refutes()
     ensures { DisagreementRefutes }
 {}
 
 /// Proves that each sample of a chunk begins where the sample before it ends, and that no two share a byte.
+#[tactic(auto, using(crate::proofs::Order::adjacent, crate::proofs::Order::apart))]
 pub fn samples_of_a_chunk_follow()
     ensures adjacent { SamplesAreAdjacent }
     ensures apart { SamplesDoNotOverlap }
 {}
 
 /// Proves that a sample starts when the sample before it ends, and that no later sample starts before then.
+#[tactic(auto, using(crate::proofs::Order::follow, crate::proofs::Order::in_order))]
 pub fn times_follow()
     ensures next { TimesFollow }
     ensures order { TimesDoNotDecrease }
@@ -31,6 +35,7 @@ pub fn times_follow()
 
 /// Proves that the last sample ends at the sum of all durations. This is the sum over the entries of `stts` if they
 /// count as many samples as `stsz`.
+#[tactic(auto, using(crate::proofs::Order::add_up, crate::proofs::Order::entries_add_up))]
 pub fn durations_add_up()
     ensures samples { DurationsAddUp }
     ensures entries { EntriesAddUp }

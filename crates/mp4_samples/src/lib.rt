@@ -16,7 +16,6 @@ mod fragment_place;
 mod fragment_samples;
 pub mod laws;
 mod lookup;
-mod lookup_by_marks;
 mod marks;
 mod presentation;
 mod run_place;

@@ -8,20 +8,21 @@ ghost use Rattle.mp4_samples.specs.Chunks.{chunks_increase};
 ghost use Rattle.mp4_samples.specs.Sizes.{bytes_of};
 ghost use Rattle.mp4_samples.specs.Samples.{AreConsistent};
 ghost use Rattle.mp4_samples.specs.Index.{most_bytes};
-ghost use Rattle.mp4_samples.specs.Marks.{AreBefores, AreFirsts, AreFirstsOfDurations, AreTimes, AreBytes};
-ghost use Rattle.mp4_samples.specs.Marks.{AreMarks, bytes_of_marks};
+ghost use Rattle.mp4_samples.specs.Marks.{AreBefores, AreAllBefores, AreFirsts, AreFirstsOfDurations, AreBelow};
+ghost use Rattle.mp4_samples.specs.Marks.{AreAllFirsts, AreTimes, AreBytes, AreAllBytes, AreMarks, AreHints};
+ghost use Rattle.mp4_samples.specs.Marks.{bytes_of_marks};
+ghost use Rattle.mp4_samples.specs.declared.tables.Tables.{Tables};
 
-use crate::access::bytes_between;
-use crate::chunk_place::{at_next_entry, before_chunks};
+use crate::access::{BLOCK, bytes_between};
+use crate::chunk_place::{before_chunks, next_entry};
+use crate::lookup::Hints;
+use crate::run_place::time_of;
 use crate::runs::Run;
 use crate::state::{chunk_count, ctts_entries};
 use crate::tables::Tables;
 use mp4_frame::Result;
 use mp4_tables::{StscEntry, StszBox, SttsEntry};
 use std::alloc::Global;
-
-/// The number of sizes in a block. An index keeps one sum for each block.
-pub const BLOCK: u32 = 64;
 
 /// The first sample of each run of a table, and the number of bytes before each block of sizes.
 #[derive(Drop)]
@@ -38,12 +39,19 @@ pub struct Marks {
     pub bytes: Vec<u64>,
 }
 
-/// Returns the time that `samples` samples of duration `delta` last.
-pub fn time_of(samples: u32, delta: u32) -> u64
-    ensures value { result ≡ samples * delta }
-    ensures bound { result ≤ samples * (2 ^ 32 - 1) }
-{
-    u64::from(samples) * u64::from(delta)
+impl Marks {
+    /// Returns the marks as slices.
+    pub fn hints(&self) -> Hints<'_>
+        ensures { (t : Tables) → AreMarks t self.now → AreHints t result }
+    {
+        Hints {
+            befores: self.befores.as_slice(),
+            firsts: self.firsts.as_slice(),
+            times: self.times.as_slice(),
+            shifts: self.shifts.as_slice(),
+            bytes: self.bytes.as_slice(),
+        }
+    }
 }
 
 /// Returns the number of samples before the first chunk of each entry of `runs`, for the entries that begin in the
@@ -51,17 +59,15 @@ pub fn time_of(samples: u32, delta: u32) -> u64
 fn befores_of(alloc: Global, runs: &[StscEntry], count: u32) -> Result<Vec<u64>>
     requires { chunks_increase 0 runs.now ≡ true }
     ensures marks { IfOk result (λ v. AreBefores runs.now count v.items) }
+    ensures all { IfOk result (λ v. AreAllBefores runs.now count v.items) }
     ensures memory { IfOk result (λ v. vec_capacity v ≡ length runs.now) }
     ensures err { IfErr result (λ e. e ≡ OutOfMemory) }
 {
     let mut befores = Vec::with_capacity(alloc, runs.len())?;
     let mut place = before_chunks();
-    let mut total = 0;
     while place.run < runs.len() && runs[place.run].first_chunk <= count {
-        let (next, before, through) = at_next_entry(runs, place, total);
-        befores.push_reserved(before);
-        total = through;
-        place = next;
+        place = next_entry(runs, place);
+        befores.push_reserved(place.before);
     }
     Ok(befores)
 }
@@ -69,7 +75,9 @@ fn befores_of(alloc: Global, runs: &[StscEntry], count: u32) -> Result<Vec<u64>>
 /// Returns the first sample of each run of `entries` that begins before sample `total`. The only error is out of
 /// memory.
 fn firsts_of<R: Run>(alloc: Global, entries: &[R], total: u32) -> Result<Vec<u32>>
-    ensures marks { IfOk result (λ v. AreFirsts R.count entries.now total v.items) }
+    ensures marks { IfOk result (λ v. AreFirsts R.count entries.now v.items) }
+    ensures below { IfOk result (λ v. AreBelow total v.items) }
+    ensures all { IfOk result (λ v. AreAllFirsts R.count entries.now total v.items) }
     ensures memory { IfOk result (λ v. vec_capacity v ≡ length entries.now) }
     ensures err { IfErr result (λ e. e ≡ OutOfMemory) }
 {
@@ -87,7 +95,8 @@ fn firsts_of<R: Run>(alloc: Global, entries: &[R], total: u32) -> Result<Vec<u32
 
 /// Returns the start time of each sample of `firsts`. The only error is out of memory.
 fn times_of(alloc: Global, entries: &[SttsEntry], firsts: &[u32], count: u32) -> Result<Vec<u64>>
-    requires { AreFirstsOfDurations entries.now count firsts.now }
+    requires firsts { AreFirstsOfDurations entries.now firsts.now }
+    requires below { AreBelow count firsts.now }
     ensures marks { IfOk result (λ v. AreTimes entries.now firsts.now v.items) }
     ensures memory { IfOk result (λ v. vec_capacity v ≡ length firsts.now) }
     ensures err { IfErr result (λ e. e ≡ OutOfMemory) }
@@ -109,6 +118,7 @@ fn blocks_of(alloc: Global, stsz: &StszBox) -> Result<Vec<u64>>
     requires listed { stsz.now.sample_size ≡ 0 → length stsz.now.sample_sizes ≡ stsz.now.sample_count }
     requires fits { bytes_of stsz.now 0 stsz.now.sample_count < 2 ^ 64 }
     ensures marks { IfOk result (λ v. AreBytes stsz.now v.items) }
+    ensures all { IfOk result (λ v. AreAllBytes stsz.now v.items) }
     ensures memory { IfOk result
         (λ v. vec_capacity v ≡ (if stsz.now.sample_size == 0 then stsz.now.sample_count / 64 + 1 else 0)) }
     ensures err { IfErr result (λ e. e ≡ OutOfMemory) }

@@ -7,7 +7,7 @@ ghost use Rattle.mp4_samples.specs.Syncs.{IsLastSync, HasNoSync, IsLastSyncAt, H
 ghost use Rattle.mp4_samples.specs.Index.{IsSampleAt};
 ghost use Rattle.mp4_samples.specs.Marks.{AreMarks, bytes_of_marks};
 
-use crate::lookup_by_marks::{number_by_marks, sample_by_marks};
+use crate::lookup::{number_at, sample_of};
 use crate::marks::Marks;
 use crate::sample::Sample;
 use crate::syncs::{last_sync, last_sync_at};
@@ -68,7 +68,7 @@ impl<'a> SampleIndex<'a> {
         if number >= self.tables.stsz.sample_count {
             return None;
         }
-        Some(sample_by_marks(&self.tables, &self.marks, number))
+        Some(sample_of(&self.tables, self.marks.hints(), number))
     }
 
     /// Returns the number of the sample that covers `time`, in the timescale of the media, or `None` if the last sample
@@ -78,13 +78,7 @@ impl<'a> SampleIndex<'a> {
         ensures covers { IfSome result (Covers self.now.tables.stts.now.entries time) }
         ensures none { IfNone result (start_of self.now.tables.stts.now.entries (sample_count self.now.tables) ≤ time) }
     {
-        number_by_marks(
-            self.tables.stts.entries.as_slice(),
-            self.marks.firsts.as_slice(),
-            self.marks.times.as_slice(),
-            self.tables.stsz.sample_count,
-            time,
-        )
+        number_at(&self.tables, self.marks.hints(), time)
     }
 
     /// Returns the sample that covers `time`, or `None` if the last sample has ended.
@@ -93,7 +87,7 @@ impl<'a> SampleIndex<'a> {
         ensures none { IfNone result (start_of self.now.tables.stts.now.entries (sample_count self.now.tables) ≤ time) }
     {
         match self.number_at(time) {
-            Some(number) => Some(sample_by_marks(&self.tables, &self.marks, number)),
+            Some(number) => Some(sample_of(&self.tables, self.marks.hints(), number)),
             None => None,
         }
     }

@@ -9,10 +9,9 @@ ghost use Rattle.mp4_frame.specs.declared.error.Error.TheVariants.{OutOfMemory};
 ghost use Rattle.mp4_samples.specs.Index.{most_bytes, IsSampleAt};
 ghost use Rattle.mp4_samples.specs.Gives.{begins};
 
-use crate::access::sample_of;
 use crate::checks::check;
 use crate::disagreement::Disagreement;
-use crate::lookup::number_at;
+use crate::lookup::{no_hints, number_at, sample_of};
 use crate::marks::marks_of;
 use crate::sample::Sample;
 use crate::sample_index::SampleIndex;
@@ -75,7 +74,7 @@ impl<'a> SampleTables<'a> {
         if number >= self.tables.stsz.sample_count {
             return None;
         }
-        Some(sample_of(&self.tables, number))
+        Some(sample_of(&self.tables, no_hints(&self.tables), number))
     }
 
     /// Returns the number of the sample that covers `time`, in the timescale of the media, or `None` if the last sample
@@ -85,11 +84,7 @@ impl<'a> SampleTables<'a> {
         ensures covers { IfSome result (Covers self.now.stts.now.entries time) }
         ensures none { IfNone result (start_of self.now.stts.now.entries (sample_count self.now) ≤ time) }
     {
-        number_at(
-            self.tables.stts.entries.as_slice(),
-            self.tables.stsz.sample_count,
-            time,
-        )
+        number_at(&self.tables, no_hints(&self.tables), time)
     }
 
     /// Returns the sample that covers `time`, or `None` if the last sample has ended. It takes the steps of `number_at`
@@ -99,7 +94,7 @@ impl<'a> SampleTables<'a> {
         ensures none { IfNone result (start_of self.now.stts.now.entries (sample_count self.now) ≤ time) }
     {
         match self.number_at(time) {
-            Some(number) => Some(sample_of(&self.tables, number)),
+            Some(number) => Some(sample_of(&self.tables, no_hints(&self.tables), number)),
             None => None,
         }
     }

@@ -64,7 +64,7 @@ impl<'a> Iterator for Samples<'a> {
         if self.state.number >= self.tables.stsz.sample_count {
             return None;
         }
-        let (sample, state) = next_state(&self.tables, self.state);
+        let (sample, state) = next_state(&self.tables, &[], self.state);
         self.state = state;
         Some(sample)
     }

@@ -1,8 +1,8 @@
 //! The last sync sample up to a sample or a time.
 
-ghost use Rattle.std.specs.Prelude.{ℕ, ◌≡◌, ◌+◌, ◌<◌, ◌≤◌, ◌^◌, true, false, IfSome, IfNone};
+ghost use Rattle.std.specs.Prelude.{ℕ, ◌≡◌, ◌≤◌, true, false, IfSome, IfNone};
 ghost use Rattle.mp4_samples.specs.Runs.{increases, is_listed, Covers, start_of};
-ghost use Rattle.mp4_samples.specs.Samples.{AreConsistent, is_sync_in, sample_count};
+ghost use Rattle.mp4_samples.specs.Samples.{AreConsistent, sample_count};
 ghost use Rattle.mp4_samples.specs.Syncs.{IsLastSync, HasNoSync, IsLastSyncAt, HasNoSyncAt, IsLastListed};
 
 use crate::search::count_at_most;
@@ -19,29 +19,6 @@ fn last_listed(numbers: &[u32], limit: u32) -> Option<u32>
         return None;
     }
     Some(numbers[count - 1])
-}
-
-/// Returns whether `number` is one of `numbers`.
-fn is_listed(numbers: &[u32], number: u32) -> bool
-    requires { increases 0 numbers.now ≡ true }
-    ensures { result ≡ is_listed number numbers.now }
-{
-    match last_listed(numbers, number) {
-        Some(last) => last == number,
-        None => false,
-    }
-}
-
-/// Returns whether sample `number` is a sync sample.
-pub fn is_sync(tables: &Tables<'_>, number: u32) -> bool
-    requires consistent { AreConsistent tables.now }
-    requires fits { number + 1 < 2 ^ 32 }
-    ensures { result ≡ is_sync_in tables.now.stss number }
-{
-    match tables.stss {
-        Some(stss) => is_listed(stss.entries.as_slice(), number + 1),
-        None => true,
-    }
 }
 
 /// Returns the last sync sample among the samples up to `number`.

@@ -1,6 +1,7 @@
 //! Tests with hand-written files, tables and fragments.
 
 mod boxes;
+mod compact_sizes;
 mod disagreements;
 mod edits;
 mod faststart;

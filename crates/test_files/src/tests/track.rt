@@ -10,7 +10,7 @@ use std::alloc::Global;
 /// no media. The track of track_ID 7 has 321 bytes: its header, and its media of 221 bytes, with a timescale of 1000
 /// and a sample table of 140 bytes. The sample table has three samples of 3, 4 and 5 bytes, two in the first chunk and
 /// one in the second. The first and the last sample are sync samples.
-const FILE: [u8; 449] = *b"\0\0\x01\xADmoov\0\0\0\x64trak\
+pub const FILE: [u8; 449] = *b"\0\0\x01\xADmoov\0\0\0\x64trak\
     \0\0\0\x5Ctkhd\0\0\0\x07\0\0\0\0\0\0\0\0\0\0\0\x05\
     \0\0\0\0\0\0\0\0\0\0\0\0\0\0\0\0\0\0\0\0\0\0\0\0\0\0\0\0\0\0\0\0\0\0\
     \0\0\0\0\0\0\0\0\0\0\0\0\0\0\0\0\0\0\0\0\0\0\0\0\0\0\0\0\0\0\0\0\0\0\
@@ -134,7 +134,7 @@ fn fault_at(alloc: Global, movie: &mut Movie<&[u8]>, number: usize) -> Option<Re
 }
 
 /// Returns the reason for which the track of this track_ID has no tables, if there is one.
-fn fault_of(alloc: Global, file: &[u8], track_id: u32) -> Option<Reason> {
+pub fn fault_of(alloc: Global, file: &[u8], track_id: u32) -> Option<Reason> {
     let Ok(mut movie) = Movie::open(alloc, file) else {
         return Some(Reason::Other);
     };

@@ -20,12 +20,12 @@ loop-init g c =
       mark = search rules;
       count = rw c.samples-samples.ensures (omega (arith, none));
       written = rw c.samples-samples.ensures
-          (subst (λ (j : ℕ). WritesRows (IsFragmentSample f) c.args.limit c.args.sheet.now.form c.args.track
+          (subst (λ (j : ℕ). WritesRows (IsFragmentSample f) c.args.limit c.args.writer.now.form c.args.track
           c.args.before c.args.empty_before j c.args.empty_before
-          c.args.sheet.now.follows c.args.sheet.now.follows (g.W.Write.contents c.args.output.now.inner)
+          c.args.writer.now.follows c.args.writer.now.follows (g.W.Write.contents c.args.output.now.inner)
           (g.W.Write.contents c.args.output.now.inner)) (sym zero)
-          (writes_none (IsFragmentSample f) c.args.limit c.args.sheet.now.form c.args.track c.args.before
-          c.args.empty_before c.args.sheet.now.follows
+          (writes_none (IsFragmentSample f) c.args.limit c.args.writer.now.form c.args.track c.args.before
+          c.args.empty_before c.args.writer.now.follows
           (g.W.Write.contents c.args.output.now.inner)));
     }
 
@@ -45,10 +45,10 @@ loop-preserved g c =
       form = c.in_ok-write_row-in-Some-Ok.ensures.form ∙ c.loop.invariant.form;
       mark = search rules;
       count = omega (arith, next, count);
-      written = writes_next (IsFragmentSample f) c.args.limit c.args.sheet.now.form c.args.track c.args.before
-          c.args.empty_before c.args.sheet.now.follows (number_of c.loop.samples) (number_of c.next.new.self)
-          (c.loop.count + 1) c.loop.empty c.empty_after-empty.result c.loop.sheet.form c.loop.sheet.follows
-          c.write_row.new.sheet.follows
+      written = writes_next (IsFragmentSample f) c.args.limit c.args.writer.now.form c.args.track c.args.before
+          c.args.empty_before c.args.writer.now.follows (number_of c.loop.samples) (number_of c.next.new.self)
+          (c.loop.count + 1) c.loop.empty c.empty_after-empty.result c.loop.writer.form c.loop.writer.follows
+          c.write_row.new.writer.follows
           (g.W.Write.contents c.args.output.now.inner) (g.W.Write.contents c.loop.output.inner)
           (g.W.Write.contents c.write_row.new.output.inner) c.in-Some-Ok.sample c.row_of.result
           c.loop.invariant.written is listed c.empty_after-empty.ensures next c.row_of.ensures (omega (arith, count))
@@ -58,8 +58,8 @@ loop-preserved g c =
 
 pub returns-then-count-clause-begins : goal.returns-then-count-clause-begins
 returns-then-count-clause-begins g c =
-    begins_all (IsFragmentSample c.args.fragment.now) c.args.limit c.args.sheet.now.form c.args.track c.args.before
-    c.args.empty_before c.args.sheet.now.follows _ _ _ _ _ c.loop.invariant.written
+    begins_all (IsFragmentSample c.args.fragment.now) c.args.limit c.args.writer.now.form c.args.track c.args.before
+    c.args.empty_before c.args.writer.now.follows _ _ _ _ _ c.loop.invariant.written
 
 pub returns-in_err-write_row-in-Some-Ok-clause-begins : goal.returns-in_err-write_row-in-Some-Ok-clause-begins
 returns-in_err-write_row-in-Some-Ok-clause-begins g c =
@@ -71,9 +71,9 @@ returns-in_err-write_row-in-Some-Ok-clause-begins g c =
     let listed : is_listed c.args.limit c.loop.empty c.in-Some-Ok.sample ≡ true =
     sym c.is_listed.ensures ∙ c.if-not-is_listed.false in
     on_err _
-    (begins_next (IsFragmentSample f) c.args.limit c.args.sheet.now.form c.args.track c.args.before
-    c.args.empty_before c.args.sheet.now.follows
-    (number_of c.loop.samples) (c.loop.count + 1) c.loop.empty c.loop.sheet.form c.loop.sheet.follows
+    (begins_next (IsFragmentSample f) c.args.limit c.args.writer.now.form c.args.track c.args.before
+    c.args.empty_before c.args.writer.now.follows
+    (number_of c.loop.samples) (c.loop.count + 1) c.loop.empty c.loop.writer.form c.loop.writer.follows
     (g.W.Write.contents c.args.output.now.inner) (g.W.Write.contents c.loop.output.inner)
     (g.W.Write.contents c.write_row.new.output.inner) c.in-Some-Ok.sample c.row_of.result
     c.loop.invariant.written is listed c.row_of.ensures (omega (arith, count)) c.loop.invariant.form
@@ -120,5 +120,5 @@ returns-in-None-clause-rows g c =
 
 pub returns-clause-begins : goal.returns-clause-begins
 returns-clause-begins g c =
-    begins_all (IsFragmentSample c.args.fragment.now) c.args.limit c.args.sheet.now.form c.args.track c.args.before
-    c.args.empty_before c.args.sheet.now.follows _ _ _ _ _ c.loop.invariant.written
+    begins_all (IsFragmentSample c.args.fragment.now) c.args.limit c.args.writer.now.form c.args.track c.args.before
+    c.args.empty_before c.args.writer.now.follows _ _ _ _ _ c.loop.invariant.written

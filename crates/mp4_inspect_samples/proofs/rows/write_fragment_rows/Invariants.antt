@@ -9,10 +9,10 @@ abbrev pub invariant-loop : goal.invariant-loop
 invariant-loop g l = record {
   fragment : l.samples.fragment ≡ l.fragment;
   on : l.samples.ended ≡ false;
-  form : l.sheet.form ≡ l.initial.sheet.form;
+  form : l.writer.form ≡ l.initial.writer.form;
   mark : l.output.failed ≡ l.initial.output.failed;
   count : l.count ≡ l.before + number_of l.samples;
-  written : WritesRows (IsFragmentSample l.fragment) l.limit l.initial.sheet.form l.track l.before l.empty_before
-      (number_of l.samples) l.empty l.initial.sheet.follows l.sheet.follows (g.W.Write.contents l.initial.output.inner)
-      (g.W.Write.contents l.output.inner);
+  written : WritesRows (IsFragmentSample l.fragment) l.limit l.initial.writer.form l.track l.before l.empty_before
+      (number_of l.samples) l.empty l.initial.writer.follows l.writer.follows
+      (g.W.Write.contents l.initial.output.inner) (g.W.Write.contents l.output.inner);
 }

@@ -14,8 +14,8 @@ loop-init g c = record {
   mark = search rules;
   count = rw c.samples-samples.ensures refl;
   written = rw c.samples-samples.ensures
-      (writes_none (IsSample c.args.tables.now) c.args.limit c.args.sheet.now.form c.args.track 0 0
-      c.args.sheet.now.follows
+      (writes_none (IsSample c.args.tables.now) c.args.limit c.args.writer.now.form c.args.track 0 0
+      c.args.writer.now.follows
       (g.W.Write.contents c.args.output.now.inner));
 }
 
@@ -37,10 +37,10 @@ loop-preserved g c =
       form = c.in_ok-write_row-in-Some.ensures.form ∙ c.loop.invariant.form;
       mark = search rules;
       count = number;
-      written = writes_next (IsSample c.args.tables.now) c.args.limit c.args.sheet.now.form c.args.track 0 0
-          c.args.sheet.now.follows
+      written = writes_next (IsSample c.args.tables.now) c.args.limit c.args.writer.now.form c.args.track 0 0
+          c.args.writer.now.follows
           c.loop.samples.number c.next.new.self.number c.from-count.result c.loop.empty c.empty_after-empty.result
-          c.loop.sheet.form c.loop.sheet.follows c.write_row.new.sheet.follows
+          c.loop.writer.form c.loop.writer.follows c.write_row.new.writer.follows
           (g.W.Write.contents c.args.output.now.inner) (g.W.Write.contents c.loop.output.inner)
           (g.W.Write.contents c.write_row.new.output.inner) c.in-Some.sample c.row_of.result
           c.loop.invariant.written is listed c.empty_after-empty.ensures next c.row_of.ensures
@@ -59,9 +59,9 @@ returns-in_err-write_row-in-Some-clause-begins g c =
     let listed : is_listed c.args.limit c.loop.empty c.in-Some.sample ≡ true =
     sym c.is_listed.ensures ∙ c.if-not-is_listed.false in
     on_err _
-    (begins_next (IsSample c.args.tables.now) c.args.limit c.args.sheet.now.form c.args.track 0 0
-    c.args.sheet.now.follows
-    c.loop.samples.number c.from-count.result c.loop.empty c.loop.sheet.form c.loop.sheet.follows
+    (begins_next (IsSample c.args.tables.now) c.args.limit c.args.writer.now.form c.args.track 0 0
+    c.args.writer.now.follows
+    c.loop.samples.number c.from-count.result c.loop.empty c.loop.writer.form c.loop.writer.follows
     (g.W.Write.contents c.args.output.now.inner) (g.W.Write.contents c.loop.output.inner)
     (g.W.Write.contents c.write_row.new.output.inner) c.in-Some.sample c.row_of.result
     c.loop.invariant.written is listed c.row_of.ensures (omega (arith, next, number)) c.loop.invariant.form
@@ -69,8 +69,8 @@ returns-in_err-write_row-in-Some-clause-begins g c =
 
 pub returns-in-None-clause-rows : goal.returns-in-None-clause-rows
 returns-in-None-clause-rows g c =
-    subst (λ (j : ℕ). WritesRows (IsSample c.args.tables.now) c.args.limit c.args.sheet.now.form c.args.track 0 0 j
-    c.loop.empty c.args.sheet.now.follows c.loop.sheet.follows (g.W.Write.contents c.args.output.now.inner)
+    subst (λ (j : ℕ). WritesRows (IsSample c.args.tables.now) c.args.limit c.args.writer.now.form c.args.track 0 0 j
+    c.loop.empty c.args.writer.now.follows c.loop.writer.follows (g.W.Write.contents c.args.output.now.inner)
     (g.W.Write.contents c.loop.output.inner)) (sym c.loop.invariant.count) c.loop.invariant.written
 
 pub returns-in-None-clause-ends : goal.returns-in-None-clause-ends
@@ -84,8 +84,8 @@ returns-in-None-clause-ends g c =
 
 pub returns-then-not-is_listed-clause-rows : goal.returns-then-not-is_listed-clause-rows
 returns-then-not-is_listed-clause-rows g c =
-    subst (λ (j : ℕ). WritesRows (IsSample c.args.tables.now) c.args.limit c.args.sheet.now.form c.args.track 0 0 j
-    c.loop.empty c.args.sheet.now.follows c.loop.sheet.follows (g.W.Write.contents c.args.output.now.inner)
+    subst (λ (j : ℕ). WritesRows (IsSample c.args.tables.now) c.args.limit c.args.writer.now.form c.args.track 0 0 j
+    c.loop.empty c.args.writer.now.follows c.loop.writer.follows (g.W.Write.contents c.args.output.now.inner)
     (g.W.Write.contents c.loop.output.inner)) (sym c.loop.invariant.count) c.loop.invariant.written
 
 pub returns-then-not-is_listed-clause-ends : goal.returns-then-not-is_listed-clause-ends
@@ -99,5 +99,5 @@ returns-then-not-is_listed-clause-ends g c =
 
 pub returns-clause-begins : goal.returns-clause-begins
 returns-clause-begins g c =
-    begins_all (IsSample c.args.tables.now) c.args.limit c.args.sheet.now.form c.args.track 0 0
-    c.args.sheet.now.follows _ _ _ _ _ c.loop.invariant.written
+    begins_all (IsSample c.args.tables.now) c.args.limit c.args.writer.now.form c.args.track 0 0
+    c.args.writer.now.follows _ _ _ _ _ c.loop.invariant.written

@@ -8,10 +8,10 @@ abbrev pub invariant-loop : goal.invariant-loop
 invariant-loop g l = record {
   tables : l.samples.tables ≡ l.tables;
   within : l.samples.number ≤ sample_count l.tables;
-  form : l.sheet.form ≡ l.initial.sheet.form;
+  form : l.writer.form ≡ l.initial.writer.form;
   mark : l.output.failed ≡ l.initial.output.failed;
   count : l.count ≡ l.samples.number;
-  written : WritesRows (IsSample l.tables) l.limit l.initial.sheet.form l.track 0 0 l.samples.number l.empty
-      l.initial.sheet.follows l.sheet.follows (g.W.Write.contents l.initial.output.inner)
+  written : WritesRows (IsSample l.tables) l.limit l.initial.writer.form l.track 0 0 l.samples.number l.empty
+      l.initial.writer.follows l.writer.follows (g.W.Write.contents l.initial.output.inner)
       (g.W.Write.contents l.output.inner);
 }

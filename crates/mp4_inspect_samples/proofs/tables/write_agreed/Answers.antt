@@ -9,10 +9,10 @@ pub returns-clause-writes : goal.returns-clause-writes
 returns-clause-writes g c = record {
   mid = g.W.Write.contents c.write_heading.new.output.inner;
   heading = c.in_ok-write_heading.ensures.heading;
-  rows = writes_as (IsSample c.args.tables.now) c.args.limit c.args.sheet.now.form c.write_heading.new.sheet.form
+  rows = writes_as (IsSample c.args.tables.now) c.args.limit c.args.writer.now.form c.write_heading.new.writer.form
       (id_of c.args.heading.name) c.id.result c.in_ok-end.end.count c.in_ok-end.end.empty
-      (is_headed c.args.sheet.now.form c.args.sheet.now.follows) c.write_heading.new.sheet.follows
-      c.write_rows.new.sheet.follows (g.W.Write.contents c.write_heading.new.output.inner)
+      (is_headed c.args.writer.now.form c.args.writer.now.follows) c.write_heading.new.writer.follows
+      c.write_rows.new.writer.follows (g.W.Write.contents c.write_heading.new.output.inner)
       (g.W.Write.contents c.write_rows.new.output.inner) c.in_ok-end.ensures.rows (search rules) (search rules)
       (search rules);
   next = c.in_ok-end.end.unlisted;

@@ -1,79 +1,14 @@
-use Rattle.std.proofs.Common.{◌≡◌, ℕ, ◌+◌, ◌-◌, ◌*◌, ◌/◌, ◌<◌, ◌≤◌, inl, inr, length, sym, refl, ap, arith}
-use Rattle.std.proofs.lemmas.Bool.{cases_lt}
-use Rattle.mp4_samples.specs.Runs.{start_of, sum_before}
-use Rattle.mp4_samples.proofs.RunSums.{sum_none, sum_next, start_past}
-use Rattle.mp4_samples.proofs.TimeMarks.{count, value, entry, none, start_is, covers_in, quotient}
+use Rattle.std.proofs.Common.{◌-◌, arith}
 use Rattle.mp4_samples.proofs.lookup.number_at.Goals as goal
 
-pub loop-entry-init : goal.loop-entry-init
-loop-entry-init c = record {
-  within = omega arith;
-  start = omega arith;
-  now = λ less. sym (sum_none count c.args.entries.now);
-}
+pub number_from-requires-clause-at : goal.number_from-requires-clause-at
+number_from-requires-clause-at c =
+    c.time_mark-place.ensures.at c.args.tables.now.stsz.now.sample_count (λ some.
+    let below = c.requires.below (c.long_count_at_most-started.result - 1)
+    (omega (arith, c.long_count_at_most-started.ensures.within, some, c.requires.time_marks.each)) in
+    omega (arith, below))
 
-pub loop-entry-preserved : goal.loop-entry-preserved
-loop-entry-preserved c =
-    let es = c.args.entries.now in
-    let l = c.loop-entry in
-    let inv = l.invariant in
-    let i = l.entry-index in
-    let samples = c.min-samples.result in
-    let lt : i < length es = omega arith in
-    let own : c.from.result * c.from-each.result ≡ samples * (entry es i).sample_delta =
-    rw (c.from.ensures, c.from-each.ensures) refl in
-    record {
-      within = omega (arith, c.min-samples.ensures, inv.within);
-      start = elim (cases_lt l.first c.args.count) [
-        | inl less ↦
-            let now = inv.now less in
-            let start = start_is es i 0 l.first lt (omega (arith, now)) (omega arith) in
-            let next = start_is es i samples (l.first + samples) lt (omega (arith, now))
-            (omega (arith, c.min-samples.ensures)) in
-            omega (arith, start, next, own, inv.start, c.if-left-whole.false)
-        | inr le ↦
-            let nothing : samples ≡ 0 = omega (arith, c.min-samples.ensures, le) in
-            let same : l.first + samples ≡ l.first = omega (arith, nothing) in
-            let zero_time = ap (λ (n : ℕ). n * (entry es i).sample_delta) nothing in
-            rw same (omega (arith, own, zero_time, inv.start))
-      ];
-      now = λ less.
-          let next = sum_next count es i none lt in
-          omega (arith, next, less, c.min-samples.ensures, inv.now);
-    }
-
-pub returns-then-left-whole-clause-covers : goal.returns-then-left-whole-clause-covers
-returns-then-left-whole-clause-covers c =
-    let es = c.args.entries.now in
-    let l = c.loop-entry in
-    let inv = l.invariant in
-    let i = l.entry-index in
-    let lt : i < length es = omega arith in
-    let each = (entry es i).sample_delta in
-    let same : c.from-each.result ≡ each = c.from-each.ensures in
-    let own : c.from.result * c.from-each.result ≡ c.min-samples.result * each = rw (c.from.ensures, same) refl in
-    let parts = quotient c.min-samples.result each l.left (omega (arith, own, c.if-left-whole.true)) in
-    let now = inv.now (omega (arith, parts.1, c.min-samples.ensures, inv.within)) in
-    let start = start_is es i 0 l.first lt (omega (arith, now)) (omega arith) in
-    let here : l.left / c.from-each.result ≡ l.left / each = ap (λ (d : ℕ). l.left / d) same in
-    covers_in es i (l.left / each) (l.first + l.left / c.from-each.result) c.args.time lt (omega (arith, now, here))
-    (omega (arith, parts.1, c.min-samples.ensures)) (omega (arith, parts.2, start, inv.start))
-    (omega (arith, parts.3, start, inv.start))
-
-pub returns-clause-none : goal.returns-clause-none
-returns-clause-none c =
-    let es = c.args.entries.now in
-    let l = c.loop-entry in
-    let inv = l.invariant in
-    let all : l.entry-index ≡ length es = omega arith in
-    elim (cases_lt l.first c.args.count) [
-      | inl less ↦
-          let now : l.first ≡ sum_before count es (length es) = rw all at (inv.now less) in
-          let here = start_past count value es l.first (omega (arith, now)) in
-          let end = start_past count value es c.args.count (omega (arith, now, less)) in
-          omega (arith, here, end, inv.start)
-      | inr le ↦
-          let same : l.first ≡ c.args.count = omega (arith, le, inv.within) in
-          let ended : start_of es l.first ≤ c.args.time = omega (arith, inv.start) in
-          rw same at ended
-    ]
+pub number_from-requires-clause-started : goal.number_from-requires-clause-started
+number_from-requires-clause-started c =
+    c.time_mark-place.ensures.time c.args.time
+    (λ some. c.long_count_at_most-started.ensures.low _ (omega (arith, some)))

@@ -1,11 +1,11 @@
-use Rattle.std.proofs.Common.{◌≡◌, ℕ, ◌-◌, ◌≤◌, inl, inr, List, length, get_or, refl, sym, ap, subst, arith}
+use Rattle.std.proofs.Common.{◌≡◌, ℕ, ◌+◌, ◌≤◌, List, get_or, refl, sym, ap, subst, arith}
 use Rattle.std.specs.List.Sorted.{IsNonDecreasing}
-use Rattle.std.proofs.lemmas.Bool.{cases_lt}
-use Rattle.std.proofs.lemmas.List.{length_push}
-use Rattle.mp4_samples.specs.Chunks.{samples_through}
-use Rattle.mp4_samples.proofs.Bytes.{through_zero}
-use Rattle.mp4_samples.proofs.ChunkMarks.{entry, by_front}
-use Rattle.mp4_samples.proofs.Pushed.{each_push, order_push, order_none}
+use borrow.Author.Count.{below_more}
+use Rattle.mp4_samples.specs.declared.chunk_place.ChunkPlace.{ChunkPlace}
+use Rattle.mp4_samples.specs.Chunks.{no_entry}
+use Rattle.mp4_samples.specs.Places.{GoesBy, place_at}
+use Rattle.mp4_samples.proofs.Through.{by_front}
+use Rattle.mp4_samples.proofs.Pushed.{each_push, long_push, order_push, order_none}
 use Rattle.mp4_samples.proofs.marks.befores_of.Goals as goal
 
 pub loop-place-init : goal.loop-place-init
@@ -13,9 +13,7 @@ loop-place-init c =
     let none = c.in_ok-befores.ensures.items in
     rw c.before_chunks-place.ensures (record {
       by = by_front c.args.runs.now c.requires;
-      total = sym (through_zero c.args.runs.now);
       within = omega arith;
-      fits = omega arith;
       long = omega (arith, c.in_ok-befores.ensures.len);
       items = rw none refl;
       room = omega (arith, c.in_ok-befores.ensures.exact);
@@ -28,35 +26,27 @@ loop-place-init c =
 pub loop-place-preserved : goal.loop-place-preserved
 loop-place-preserved c =
     let es = c.args.runs.now in
-    let l = c.loop-place in
-    let i = l.place.run in
-    let inv = l.invariant in
-    let old = l.befores.items in
-    let b = c.at_next_entry-before.result.1 in
-    let through = c.at_next_entry-before.result.2 in
-    let r = c.at_next_entry-before.ensures in
-    let is : b ≡ samples_through es ((entry es i).first_chunk - 1) = rw (← r.chunk) r.before in
-    let items = c.push_reserved.ensures.items in
+    let i = c.loop-place.place.run in
+    let inv = c.loop-place.invariant in
+    let old = c.loop-place.befores.items in
+    let p = c.next_entry-place.result in
+    let next = c.next_entry-place.ensures in
+    let run : p.run ≡ i + 1 = ap (λ (p : ChunkPlace). p.run) next.is in
+    let chunk = ap (λ (p : ChunkPlace). p.chunk) next.is in
+    let push = c.push_reserved.ensures in
+    let long = long_push c.push_reserved.new.self.items old p.before i push.items inv.items in
     record {
-      by = r.at;
-      total = r.through;
-      within = omega (arith, r.chunk, c.if-runs-place.true);
-      fits = r.fits;
-      long = omega (arith, c.push_reserved.ensures.len, inv.long, r.run);
-      items = omega (arith, ap length items, length_push old b, inv.items, r.run);
-      room = omega (arith, c.push_reserved.ensures.capacity, inv.room);
-      order = subst (λ (x : List ℕ). IsNonDecreasing x) (sym items)
-          (order_push old b i inv.items inv.order (λ j lt. omega (arith, inv.top j lt, r.grows)));
-      top = λ j lt. subst (λ (x : List ℕ). get_or x j 0 ≤ through) (sym items)
-          (each_push (λ j v. v ≤ through) old b i inv.items (λ j lt. omega (arith, inv.top j lt, r.grows, r.order))
-          r.order j (omega (arith, lt, r.run)));
-      is = λ j lt. subst (λ (x : List ℕ). get_or x j 0 ≡ samples_through es ((entry es j).first_chunk - 1)) (sym items)
-          (each_push (λ j v. v ≡ samples_through es ((entry es j).first_chunk - 1)) old b i inv.items inv.is is j
-          (omega (arith, lt, r.run)));
-      begun = λ j lt. elim (cases_lt j i) [
-        | inl less ↦ inv.begun j less
-        | inr le ↦
-            let same : j ≡ i = omega (arith, le, lt, r.run) in
-            rw same c.if-runs-place.true
-      ];
+      by = next.at;
+      within = omega (arith, chunk, c.if-runs-place.true);
+      long = omega (arith, push.len, inv.long, run);
+      items = omega (arith, long, run);
+      room = omega (arith, push.capacity, inv.room);
+      order = order_push _ old p.before i push.items inv.items inv.order
+          (λ j lt. omega (arith, inv.top j lt, next.grows));
+      top = λ j lt. each_push (λ j v. v ≤ p.before) _ old p.before i push.items inv.items
+          (λ j lt. omega (arith, inv.top j lt, next.grows)) (omega arith) j (omega (arith, lt, run));
+      is = λ j lt. each_push (λ j v. GoesBy es (place_at es j v)) _ old p.before i push.items inv.items inv.is
+          (subst (λ (p : ChunkPlace). GoesBy es p) next.is next.at) j (omega (arith, lt, run));
+      begun = λ j lt. below_more (λ (j : ℕ). (get_or es j no_entry).first_chunk ≤ c.args.count) i inv.begun
+          c.if-runs-place.true j (omega (arith, lt, run));
     }

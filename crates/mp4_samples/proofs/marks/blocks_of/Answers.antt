@@ -1,9 +1,8 @@
-use Rattle.std.proofs.Common.{◌≡◌, ℕ, ◌+◌, ◌-◌, ◌*◌, ◌/◌, ◌<◌, List, length, get_or, refl, sym, ap, subst, arith}
-use Rattle.std.proofs.lemmas.List.{length_push}
+use Rattle.std.proofs.Common.{◌≡◌, ◌*◌, refl, sym, arith}
 use Rattle.mp4_samples.specs.Sizes.{bytes_of}
 use Rattle.mp4_samples.proofs.Bytes.{bytes_zero}
 use Rattle.mp4_samples.proofs.BlockSums.{more_blocks, block_fits}
-use Rattle.mp4_samples.proofs.Pushed.{each_push}
+use Rattle.mp4_samples.proofs.Pushed.{each_push, long_push}
 use Rattle.mp4_samples.proofs.marks.blocks_of.Goals as goal
 
 pub loop-block-init : goal.loop-block-init
@@ -29,11 +28,11 @@ loop-block-preserved c =
     let more = more_blocks z l.block in
     record {
       long = omega (arith, c.push_reserved.ensures.len, inv.long);
-      items = omega (arith, ap length items, length_push l.bytes.items l.total, inv.items);
+      items = long_push _ l.bytes.items l.total l.block items inv.items;
       room = omega (arith, c.push_reserved.ensures.capacity, inv.room);
       total = omega (arith, more, inv.total, c.bytes_between-total.ensures);
-      is = subst (λ (x : List ℕ). (i : ℕ) → i < l.block + 1 → get_or x i 0 ≡ bytes_of z 0 (i * 64)) (sym items)
-          (each_push (λ i v. v ≡ bytes_of z 0 (i * 64)) l.bytes.items l.total l.block inv.items inv.is inv.total);
+      is = each_push (λ i v. v ≡ bytes_of z 0 (i * 64)) _ l.bytes.items l.total l.block items inv.items inv.is
+          inv.total;
     }
 
 pub returns-clause-marks : goal.returns-clause-marks
@@ -42,12 +41,15 @@ returns-clause-marks c =
     let l = c.loop-block in
     let inv = l.invariant in
     let items = c.push_reserved-2.ensures.items in
-    let long : length c.push_reserved-2.new.self.items ≡ l.block + 1 =
-    omega (arith, ap length items, length_push l.bytes.items l.total, inv.items) in
-    let all : l.block ≡ z.sample_count / 64 = omega arith in
+    let long = long_push _ l.bytes.items l.total l.block items inv.items in
     record {
-      each = λ none. omega (arith, long, all);
-      is = λ i lt. subst (λ (x : List ℕ). (i : ℕ) → i < l.block + 1 → get_or x i 0 ≡ bytes_of z 0 (i * 64)) (sym items)
-          (each_push (λ i v. v ≡ bytes_of z 0 (i * 64)) l.bytes.items l.total l.block inv.items inv.is inv.total) i
-          (omega (arith, lt, long));
+      each = λ some. omega (arith, long);
+      is = λ i lt. each_push (λ i v. v ≡ bytes_of z 0 (i * 64)) _ l.bytes.items l.total l.block items inv.items inv.is
+          inv.total i (omega (arith, lt, long));
     }
+
+pub returns-clause-all : goal.returns-clause-all
+returns-clause-all c =
+    let l = c.loop-block in
+    let long = long_push _ l.bytes.items l.total l.block c.push_reserved-2.ensures.items l.invariant.items in
+    λ none. omega (arith, long)

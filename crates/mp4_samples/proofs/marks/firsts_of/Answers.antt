@@ -1,7 +1,6 @@
-use Rattle.std.proofs.Common.{◌≡◌, ℕ, ◌+◌, ◌<◌, List, length, get_or, refl, sym, ap, subst, arith}
-use Rattle.std.proofs.lemmas.List.{length_push}
+use Rattle.std.proofs.Common.{◌≡◌, ℕ, ◌<◌, length, get_or, refl, sym, arith}
 use Rattle.mp4_samples.specs.Runs.{sum_before}
-use Rattle.mp4_samples.proofs.Pushed.{each_push}
+use Rattle.mp4_samples.proofs.Pushed.{each_push, long_push}
 use Rattle.mp4_samples.proofs.RunSums.{sum_none, sum_next}
 use Rattle.mp4_samples.proofs.FirstSamples.{sums_order}
 use Rattle.mp4_samples.proofs.marks.firsts_of.Goals as goal
@@ -34,14 +33,13 @@ loop-run-preserved g c =
     let samples = c.min-samples.ensures in
     let each = c.count.ensures in
     record {
-      items = omega (arith, ap length items, length_push l.firsts.items l.first, inv.items);
+      items = long_push _ l.firsts.items l.first l.run items inv.items;
       long = omega (arith, c.push_reserved.ensures.len, inv.long);
       room = omega (arith, c.push_reserved.ensures.capacity, inv.room);
       within = omega arith;
-      is = subst (λ (x : List ℕ). (i : ℕ) → i < l.run + 1 → get_or x i 0 ≡ sum_before count es i) (sym items)
-          (each_push (λ i v. v ≡ sum_before count es i) l.firsts.items l.first l.run inv.items inv.is now);
-      below = subst (λ (x : List ℕ). (i : ℕ) → i < l.run + 1 → get_or x i 0 < c.args.total) (sym items)
-          (each_push (λ i v. v < c.args.total) l.firsts.items l.first l.run inv.items inv.below (omega arith));
+      is = each_push (λ i v. v ≡ sum_before count es i) _ l.firsts.items l.first l.run items inv.items inv.is now;
+      below = each_push (λ i v. v < c.args.total) _ l.firsts.items l.first l.run items inv.items inv.below
+          (omega arith);
       bound = omega (arith, samples, inv.bound);
       most = omega (arith, samples, next, now, each);
       now = λ more. omega (arith, samples, next, now, each, more);
@@ -58,6 +56,12 @@ returns-clause-marks g c =
       within = omega (arith, inv.items, inv.within);
       order = sums_order g.R.Run.count es l.firsts.items (omega (arith, inv.items, inv.within)) is;
       is = is;
-      below = λ i lt. inv.below i (omega (arith, lt, inv.items));
-      end = λ lt. rw inv.items (omega (arith, lt, inv.items, inv.most));
     }
+
+pub returns-clause-below : goal.returns-clause-below
+returns-clause-below g c = λ i lt. c.loop-run.invariant.below i (omega (arith, lt, c.loop-run.invariant.items))
+
+pub returns-clause-all : goal.returns-clause-all
+returns-clause-all g c = λ lt.
+    let inv = c.loop-run.invariant in
+    rw inv.items (omega (arith, lt, inv.items, inv.most))

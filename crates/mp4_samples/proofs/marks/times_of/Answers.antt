@@ -1,7 +1,6 @@
-use Rattle.std.proofs.Common.{◌≡◌, ℕ, ◌+◌, ◌-◌, ◌*◌, ◌^◌, ◌<◌, ◌≤◌, List, length, get_or, refl, sym, ap, subst, arith}
-use Rattle.std.proofs.lemmas.List.{length_push}
+use Rattle.std.proofs.Common.{◌≡◌, ℕ, ◌+◌, ◌-◌, ◌*◌, ◌^◌, ◌<◌, ◌≤◌, length, get_or, refl, sym, ap, arith}
 use Rattle.mp4_samples.specs.Runs.{sum_before}
-use Rattle.mp4_samples.proofs.Pushed.{each_push}
+use Rattle.mp4_samples.proofs.Pushed.{each_push, long_push}
 use Rattle.mp4_samples.proofs.RunSums.{sum_none, sum_next}
 use Rattle.mp4_samples.proofs.FirstSamples.{sums_order}
 use Rattle.mp4_samples.proofs.TimeMarks.{count, entry, none, product}
@@ -36,25 +35,24 @@ loop-index-preserved c =
     let items = c.push_reserved.ensures.items in
     let samples = c.min-samples.result in
     let lt : i < length firsts = omega arith in
-    let within : i < length es = omega (arith, lt, c.requires.within) in
+    let within : i < length es = omega (arith, lt, c.requires.firsts.within) in
     let now = inv.now lt in
     let small = inv.small lt in
     let whole : i + 1 < length firsts → (samples ≡ (entry es i).sample_count) × (get_or firsts (i + 1) 0
     ≡ get_or firsts i 0 + samples) = λ more.
-    let first = c.requires.is i lt in
-    let second = c.requires.is (i + 1) more in
+    let first = c.requires.firsts.is i lt in
+    let second = c.requires.firsts.is (i + 1) more in
     let below = c.requires.below (i + 1) more in
     let next = sum_next count es i none within in
     let all : samples ≡ (entry es i).sample_count = omega (arith, first, second, below, next, c.min-samples.ensures) in
     (all, omega (arith, first, second, next, all)) in
     record {
-      items = omega (arith, ap length items, length_push l.times.items l.time, inv.items);
+      items = long_push _ l.times.items l.time i items inv.items;
       long = omega (arith, c.push_reserved.ensures.len, inv.long);
       room = omega (arith, c.push_reserved.ensures.capacity, inv.room);
-      is = subst (λ (x : List ℕ). (j : ℕ) → j < i + 1 → get_or x j 0 ≡ sum_before product es j) (sym items)
-          (each_push (λ j v. v ≡ sum_before product es j) l.times.items l.time i inv.items inv.is now);
-      fits = subst (λ (x : List ℕ). (j : ℕ) → j < i + 1 → get_or x j 0 ≤ get_or firsts j 0 * (2 ^ 32 - 1)) (sym items)
-          (each_push (λ j v. v ≤ get_or firsts j 0 * (2 ^ 32 - 1)) l.times.items l.time i inv.items inv.fits small);
+      is = each_push (λ j v. v ≡ sum_before product es j) _ l.times.items l.time i items inv.items inv.is now;
+      fits = each_push (λ j v. v ≤ get_or firsts j 0 * (2 ^ 32 - 1)) _ l.times.items l.time i items inv.items inv.fits
+          small;
       now = λ more.
           let next = sum_next product es i none within in
           let own = ap (λ (n : ℕ). n * (entry es i).sample_delta) (whole more).0 in
@@ -74,7 +72,7 @@ returns-clause-marks c =
     λ i lt. inv.is i (omega (arith, lt, inv.items)) in
     record {
       each = all;
-      order = sums_order product es l.times.items (omega (arith, all, c.requires.within)) is;
+      order = sums_order product es l.times.items (omega (arith, all, c.requires.firsts.within)) is;
       is = is;
       fits = λ i lt. inv.fits i (omega (arith, lt, inv.items));
     }

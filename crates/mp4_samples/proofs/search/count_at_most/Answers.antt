@@ -10,6 +10,6 @@ returns c =
     (λ a r q k. search rules) in
     record {
       within = c.partition_point.ensures.bound;
-      low = λ i d lt. leb-true _ _ (point.0 i d (omega arith) lt);
-      high = λ i d le lt. leb-false _ _ (point.1 i d le lt);
+      low = λ i lt. leb-true _ _ (point.0 i 0 (omega arith) lt);
+      high = λ i le lt. leb-false _ _ (point.1 i 0 le lt);
     }

@@ -1,14 +1,13 @@
 use Rattle.std.proofs.Common.{refl, sym, ◌∙◌, Err, arith}
-use Rattle.std.specs.Prelude.{Some, None}
-use Rattle.mp4_iterator.proofs.Calls.{began, found, progress, ends, faulted, read_ok, read_err}
+use Rattle.std.specs.Prelude.{Some}
+use Rattle.mp4_iterator.proofs.Calls.{began, progress, ends, faulted, read_ok, read_err}
 use Rattle.mp4_iterator.proofs.boxes.BoxesIterator.next.Goals.{then-is_ok, else-is_ok}
 use Rattle.mp4_iterator.proofs.boxes.BoxesIterator.next.Goals as goal
 
 pub returns-in-Ok-None-clause-steps : goal.returns-in-Ok-None-clause-steps
 returns-in-Ok-None-clause-steps g c =
     let b = c.self.inside in
-    let h = found g.B.StreamBox.known g.B.StreamBox.named_reading b.bytes.now b.offset c.seek.new.at
-    c.in-Ok-None.field-0 None c.in-Ok-None.field-0-is c.in-Ok-None.ensures in
+    let h = rw c.in-Ok-None.field-0-is at c.in-Ok-None.ensures in
     ends g.B.StreamBox.known g.B.StreamBox.named_reading b.bytes.now b.offset c.seek.new.at c.args.self.now
     (began b.bytes.now b.offset b.ended c.args.self.now c.self.view_is c.if-self.false) h
 
@@ -25,30 +24,24 @@ returns-in-Err-clause-goes g c =
 
 pub read_frame-read-requires-clause-known : goal.read_frame-read-requires-clause-known
 read_frame-read-requires-clause-known g c =
-    let b = c.self.inside in
-    let h = found g.B.StreamBox.known g.B.StreamBox.named_reading b.bytes.now b.offset c.seek.new.at
-    c.in-Ok-Some.field-0 (Some c.in-Ok-Some.frame) c.in-Ok-Some.field-0-is c.in-Ok-Some.ensures in
+    let h = rw c.in-Ok-Some.field-0-is at c.in-Ok-Some.ensures in
     rw h.1 refl
 
 pub read_frame-read-requires-clause-header : goal.read_frame-read-requires-clause-header
 read_frame-read-requires-clause-header g c =
-    let b = c.self.inside in
-    let h = found g.B.StreamBox.known g.B.StreamBox.named_reading b.bytes.now b.offset c.seek.new.at
-    c.in-Ok-Some.field-0 (Some c.in-Ok-Some.frame) c.in-Ok-Some.field-0-is c.in-Ok-Some.ensures in
+    let h = rw c.in-Ok-Some.field-0-is at c.in-Ok-Some.ensures in
     omega (arith, h.3, h.5)
 
 pub end-self-inside-requires : goal.end-self-inside-requires
 end-self-inside-requires g c =
-    let b = c.self.inside in
-    (found g.B.StreamBox.known g.B.StreamBox.named_reading b.bytes.now b.offset c.seek.new.at c.in-Ok-Some.field-0
-    (Some c.in-Ok-Some.frame) c.in-Ok-Some.field-0-is c.in-Ok-Some.ensures).5
+    let h = rw c.in-Ok-Some.field-0-is at c.in-Ok-Some.ensures in
+    h.5
 
 pub returns-clause-steps : goal.returns-clause-steps
 returns-clause-steps g c =
     let b = c.self.inside in
     let is = began b.bytes.now b.offset b.ended c.args.self.now c.self.view_is c.if-self.false in
-    let h = found g.B.StreamBox.known g.B.StreamBox.named_reading b.bytes.now b.offset c.seek.new.at
-    c.in-Ok-Some.field-0 (Some c.in-Ok-Some.frame) c.in-Ok-Some.field-0-is c.in-Ok-Some.ensures in
+    let h = rw c.in-Ok-Some.field-0-is at c.in-Ok-Some.ensures in
     elim c.if-is_ok.branch [
       | then-is_ok w ↦ rw (w.self-is, w.end-self-inside.ensures)
           (read_ok g.B.StreamBox.known g.B.StreamBox.named_reading b.bytes.now b.offset c.seek.new.at c.args.self.now is

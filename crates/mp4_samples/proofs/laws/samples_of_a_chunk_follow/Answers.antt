@@ -1,8 +1,0 @@
-use Rattle.mp4_samples.proofs.Order.{adjacent, apart}
-use Rattle.mp4_samples.proofs.laws.samples_of_a_chunk_follow.Goals as goal
-
-pub returns-clause-adjacent : goal.returns-clause-adjacent
-returns-clause-adjacent c = adjacent
-
-pub returns-clause-apart : goal.returns-clause-apart
-returns-clause-apart c = apart
