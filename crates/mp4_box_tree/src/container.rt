@@ -84,7 +84,8 @@ impl<B: ChildBox> WriteBox for Container<B> {
 
     #[tactic(auto, unfolding(crate::specs::Container::bytes_container, mp4_frame::specs::Bytes::bytes_of_fields, mp4_frame::specs::Bytes::bytes_of_fields_onto))]
     fn put_box(&self, out: &mut [u8]) {
-        let at = put_u32(out, 0, self.box_size() as u32);
+        let size = out.len() as u32;
+        let at = put_u32(out, 0, size);
         let at = put_u32(out, at, self.code);
         let at = put_bytes(out, at, self.fields.as_slice());
         B::put_children(self.boxes.as_slice(), &mut out[at..]);

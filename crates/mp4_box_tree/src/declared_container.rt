@@ -116,7 +116,8 @@ impl<T: ContainerFields, B: ChildBox> WriteBox for DeclaredContainer<T, B> {
 
     #[tactic(auto, unfolding(crate::specs::DeclaredContainer::bytes_declared_container))]
     fn put_box(&self, out: &mut [u8]) {
-        let at = put_fields(out, self.box_size() as u32, &self.fields);
+        let size = out.len() as u32;
+        let at = put_fields(out, size, &self.fields);
         B::put_children(self.boxes.as_slice(), &mut out[at..]);
     }
 

@@ -1,6 +1,7 @@
 //! Reads boxes that hold boxes as trees, and writes them again without loss.
 #![tactic(auto)]
 
+mod box_tree;
 mod child;
 mod container;
 mod declared_container;
@@ -9,6 +10,7 @@ pub mod laws;
 mod node;
 mod sample_entry;
 
+pub use box_tree::{AllBoxes, BoxTree, Within};
 pub use child::{Child, ExactFields};
 pub use container::Container;
 pub use declared_container::{ContainerFields, DeclaredContainer};

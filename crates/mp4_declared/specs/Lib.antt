@@ -1,3 +1,4 @@
+pub mod NameLaws
 pub mod Bits
 pub mod BitsLaws
 pub mod Layout

@@ -10,6 +10,7 @@ mod code;
 mod context;
 mod declared;
 mod declared_entry;
+pub mod declaring;
 mod each;
 mod each_to_end;
 mod entries;

@@ -1,7 +1,13 @@
 -- A box of a type of this crate is read and written by the declaration of its type.
 use Rattle.std.specs.Prelude.{◌≡◌, ℕ, true, List, Option, None, Some}
-use Rattle.mp4_stream.specs.Author.{Shape, IsShape, OwnLayout, reads_declared, format_declared, Format, Reading}
-use Rattle.mp4_stream.specs.Author.{BoxType, code_of, Kind, kind, Known, Unknown, Is, Inside, boxed}
+use Rattle.mp4_declared.specs.Shape.{Shape}
+use Rattle.mp4_declared.specs.ShapeLaws.{IsShape}
+use Rattle.mp4_declared.specs.OwnBox.{OwnLayout, reads_declared, format_declared}
+use Rattle.mp4_frame.specs.Format.{Format}
+use Rattle.mp4_frame.specs.Reading.{Reading}
+use Rattle.mp4_frame.specs.declared.box_type.BoxType.{BoxType}
+use Rattle.mp4_frame.specs.BoxType.{code_of}
+use Rattle.mp4_frame.specs.Members.{Kind, kind, Known, Unknown, Is, Inside, boxed}
 use Rattle.mp4_extra.specs.ExtraType.{code_of_type, type_of_code}
 use Rattle.mp4_extra.specs.declared.extra_type.ExtraType.{ExtraType}
 use Rattle.mp4_extra.specs.declared.extra_type.ExtraType.TheVariants as types

@@ -1,9 +1,11 @@
 -- The laws of a box of this crate follow from the laws of its type.
 use Rattle.std.proofs.Common.{◌≡◌, ℕ, Option, None, Some, refl, sym, ap, subst, ◌∙◌}
-use Rattle.mp4_stream.specs.Author.{laws_declared, BoxType, Held, holds, held_inside}
-use Rattle.mp4_stream.specs.Author.{IsMember, member, NamedAsRead, code_of, code_of-name_of}
-use Rattle.mp4_stream.specs.NameLaws.{plain_name}
-use Rattle.mp4_frame.specs.Members.{ValueOf, name_of_value}
+use Rattle.mp4_declared.specs.OwnBoxLaws.{laws_declared}
+use Rattle.mp4_frame.specs.declared.box_type.BoxType.{BoxType}
+use Rattle.mp4_frame.specs.Members.{Held, NamedAsRead, ValueOf, holds, held_inside, is_known, name_of_value}
+use Rattle.mp4_frame.specs.MemberLaws.{IsMember, member}
+use Rattle.mp4_frame.specs.BoxType.{code_of, code_of-name_of}
+use Rattle.mp4_declared.specs.NameLaws.{plain_name}
 use Rattle.mp4_extra.specs.ExtraType.{code_of_type, type_of_code}
 use Rattle.mp4_extra.specs.ExtraTypeLaws.{type_found, code_found}
 use Rattle.mp4_extra.specs.ExtraBox.{FieldsOf, wrap, opened, Declarations, format_extra, known_as, kinds, inside}
@@ -48,3 +50,7 @@ module _ (declared : Declarations) where
   named name x =
       let same = named_as name (type_of_code (code_of name)) refl x in
       (same, ap (λ (code : ℕ). known_as declared (type_of_code code)) same)
+
+  -- the code of a name determines whether the name is known
+  pub by_code : (n m : BoxType) → code_of n ≡ code_of m → is_known (kinds declared n) ≡ is_known (kinds declared m)
+  by_code n m same = ap (λ (code : ℕ). is_known (known_as declared (type_of_code code))) same

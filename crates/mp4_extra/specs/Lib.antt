@@ -2,4 +2,3 @@ pub mod ExtraType
 pub mod ExtraTypeLaws
 pub mod ExtraBox
 pub mod ExtraBoxLaws
-pub mod AllBoxes

@@ -3,10 +3,11 @@
 ghost use Rattle.std.specs.Prelude.{◌≡◌, ◌+◌, ◌-◌, ◌≤◌, OnOk, OnErr, max, length};
 ghost use Rattle.std.proofs.Common.{refl};
 ghost use Rattle.mp4_frame.specs.Members.{some_box};
-ghost use Rattle.mp4_stream.specs.Author.{Answers, reading_known, Is, format_declared};
-ghost use Rattle.mp4_extra.specs.AllBoxes.{by_code};
+ghost use Rattle.mp4_frame.specs.Reading.{Answers};
+ghost use Rattle.mp4_frame.specs.Members.{reading_known, Is};
+ghost use Rattle.mp4_declared.specs.OwnBox.{format_declared};
 ghost use Rattle.mp4_extra.specs.ExtraBox.{Declarations, shaped, kind_of, kinds, inside};
-ghost use Rattle.mp4_extra.specs.ExtraBoxLaws.{members, named};
+ghost use Rattle.mp4_extra.specs.ExtraBoxLaws.{by_code, members, named};
 ghost use Rattle.mp4_extra.specs.declared.extra_type.ExtraType.TheVariants as types;
 ghost use Rattle.mp4_extra.specs.declared.extra_box.ExtraBox.TheVariants as boxes;
 
@@ -21,8 +22,10 @@ use crate::{
     TrefBox, Wvtt, WvttBox,
 };
 use mp4_compose::CodedEnum;
-use mp4_stream::author::{BoxEnum, BoxVisitor, Declared, DeclaredBox, Shape, clone_as, read_as};
-use mp4_stream::{BoxType, ByteCursor, Holds, Result, TryClone};
+use mp4_declared::{Declared, DeclaredBox, Shape};
+use mp4_frame::{
+    BoxEnum, BoxType, BoxVisitor, ByteCursor, Holds, Result, TryClone, clone_as, read_as,
+};
 use std::alloc::Global;
 use std::fmt;
 

@@ -1,14 +1,10 @@
-//! Reads and writes box types of real files beyond those of the codec, one at a time, in lists and in trees. The types
+//! Reads and writes box types of real files beyond those of the codec, one at a time and in lists. The types
 //! are in `mp4_extra_media`, `mp4_extra_samples` and `mp4_extra_segments`; this crate exports them all.
 #![tactic(auto)]
 
-mod all_boxes;
 mod extra_box;
 mod extra_type;
 
-pub use all_boxes::AllBoxes;
-pub use all_boxes::BoxTree;
-pub use all_boxes::Within;
 pub use extra_box::ExtraBox;
 pub use mp4_declared::Code;
 pub use mp4_declared::Codes;

@@ -2,11 +2,10 @@
 
 ghost use Rattle.mp4_frame.specs.declared.codes.TheConstants as codes;
 ghost use Rattle.std.proofs.Common.{refl, lit<};
-ghost use Rattle.mp4_stream.specs.Author.{layout_of};
+ghost use Rattle.mp4_declared.specs.OwnBox.{layout_of};
 
-use mp4_frame::codes;
-use mp4_stream::author::{Declared, DeclaredBox, I32, Last, Shape, ShapeVisitor, U32};
-use mp4_stream::{Result, TryClone, box_of, parts_of};
+use mp4_declared::{Declared, DeclaredBox, I32, Last, Shape, ShapeVisitor, U32, box_of, parts_of};
+use mp4_frame::{Result, TryClone, codes};
 
 /// The part of a video's pictures to show (`clap`, ISO/IEC 14496-12, 12.1.4). Width, height and offsets are fractions,
 /// in pixels. Each has a numerator (`_n`) and a positive denominator (`_d`).

@@ -3,14 +3,14 @@
 ghost use Rattle.mp4_extra_media.specs.declared.colr.TheConstants.{NCLX, WIDTHS};
 ghost use Rattle.mp4_frame.specs.declared.codes.TheConstants as codes;
 ghost use Rattle.std.proofs.Common.{refl, lit<};
-ghost use Rattle.mp4_stream.specs.Author.{layout_of, packed, fields_of};
+ghost use Rattle.mp4_declared.specs.OwnBox.{layout_of};
+ghost use Rattle.mp4_declared.specs.Layout.{packed, fields_of};
 
-use mp4_declared::{OfType, Tag, Typed};
-use mp4_frame::codes;
-use mp4_stream::author::{
-    Bits, Declared, DeclaredBox, EntryLayout, Last, Rest, Shape, ShapeVisitor,
+use mp4_declared::{
+    Bits, Declared, DeclaredBox, EntryLayout, Last, OfType, Rest, Shape, ShapeVisitor, Tag, Typed,
+    box_of, entry_of, numbers_of, parts_of,
 };
-use mp4_stream::{Entries, Result, TryClone, box_of, entry_of, numbers_of, parts_of};
+use mp4_frame::{Entries, Result, TryClone, codes};
 
 /// The `colour_type` of `Nclx`: `nclx`.
 pub const NCLX: u32 = 0x6e63_6c78;

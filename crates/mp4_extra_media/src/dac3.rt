@@ -3,11 +3,14 @@
 ghost use Rattle.mp4_extra_media.specs.declared.dac3.TheConstants.{WIDTHS};
 ghost use Rattle.mp4_frame.specs.declared.codes.TheConstants as codes;
 ghost use Rattle.std.proofs.Common.{refl, lit<};
-ghost use Rattle.mp4_stream.specs.Author.{layout_of, packed, fields_of};
+ghost use Rattle.mp4_declared.specs.OwnBox.{layout_of};
+ghost use Rattle.mp4_declared.specs.Layout.{packed, fields_of};
 
-use mp4_frame::codes;
-use mp4_stream::author::{Bits, Declared, DeclaredBox, EntryLayout, Last, Shape, ShapeVisitor};
-use mp4_stream::{Result, TryClone, box_of, entry_of, numbers_of, parts_of};
+use mp4_declared::{
+    Bits, Declared, DeclaredBox, EntryLayout, Last, Shape, ShapeVisitor, box_of, entry_of,
+    numbers_of, parts_of,
+};
+use mp4_frame::{Result, TryClone, codes};
 
 /// The fields of a `dac3`. The names are those of the AC-3 bit stream.
 #[derive(Clone, Copy, Debug, Default, PartialEq, Eq)]

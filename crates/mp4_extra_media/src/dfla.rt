@@ -3,15 +3,15 @@
 ghost use Rattle.mp4_extra_media.specs.declared.dfla.TheConstants.{WIDTHS};
 ghost use Rattle.mp4_frame.specs.declared.codes.TheConstants as codes;
 ghost use Rattle.std.proofs.Common.{refl, lit<, lit≤};
-ghost use Rattle.mp4_stream.specs.Author.{layout_of, exact_layout_of, packed, fields_of};
+ghost use Rattle.mp4_declared.specs.OwnBox.{layout_of};
+ghost use Rattle.mp4_declared.specs.DeclaredEntry.{exact_layout_of};
+ghost use Rattle.mp4_declared.specs.Layout.{packed, fields_of};
 
-use mp4_declared::clone_each;
-use mp4_frame::codes;
-use mp4_stream::author::{
+use mp4_declared::{
     Bits, Bytes, Count, Declared, DeclaredBox, DeclaredEntry, EachToEnd, EntryLayout, EntryVisitor,
-    Full, Last, Shape, ShapeVisitor,
+    Full, Last, Shape, ShapeVisitor, box_of, clone_each, entry_of, numbers_of, parts_of,
 };
-use mp4_stream::{Entries, Result, TryClone, box_of, entry_of, numbers_of, parts_of};
+use mp4_frame::{Entries, Result, TryClone, codes};
 
 /// The first byte of a block of metadata (RFC 9639, 8.1).
 #[derive(Clone, Copy, Debug, Default, PartialEq, Eq)]

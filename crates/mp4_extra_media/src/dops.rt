@@ -2,13 +2,12 @@
 
 ghost use Rattle.mp4_frame.specs.declared.codes.TheConstants as codes;
 ghost use Rattle.std.proofs.Common.{refl, lit<};
-ghost use Rattle.mp4_stream.specs.Author.{layout_of};
+ghost use Rattle.mp4_declared.specs.OwnBox.{layout_of};
 
-use mp4_frame::codes;
-use mp4_stream::author::{
-    Declared, DeclaredBox, I16, Last, Rest, Shape, ShapeVisitor, U8, U16, U32,
+use mp4_declared::{
+    Declared, DeclaredBox, I16, Last, Rest, Shape, ShapeVisitor, U8, U16, U32, box_of, parts_of,
 };
-use mp4_stream::{Entries, Result, TryClone, box_of, parts_of};
+use mp4_frame::{Entries, Result, TryClone, codes};
 
 /// The configuration of an Opus decoder (`dOps`, Encapsulation of Opus in ISO Base Media File Format, 4.3.2).
 #[derive(Debug, Drop, PartialEq, Eq)]

@@ -5,15 +5,15 @@ ghost use Rattle.mp4_frame.specs.declared.codes.TheConstants as codes;
 ghost use Rattle.mp4_extra_media.specs.declared.hvcc.TheConstants.{KIND_WIDTHS};
 ghost use Rattle.mp4_frame.specs.declared.codes.TheConstants as codes;
 ghost use Rattle.std.proofs.Common.{refl, lit<};
-ghost use Rattle.mp4_stream.specs.Author.{layout_of, exact_layout_of, packed, fields_of};
+ghost use Rattle.mp4_declared.specs.OwnBox.{layout_of};
+ghost use Rattle.mp4_declared.specs.DeclaredEntry.{exact_layout_of};
+ghost use Rattle.mp4_declared.specs.Layout.{packed, fields_of};
 
-use mp4_declared::clone_each;
-use mp4_frame::codes;
-use mp4_stream::author::{
+use mp4_declared::{
     Bits, Bytes, Declared, DeclaredBox, DeclaredEntry, Each, EntryLayout, EntryVisitor, Last,
-    Shape, ShapeVisitor, U8, U16,
+    Shape, ShapeVisitor, U8, U16, box_of, clone_each, entry_of, numbers_of, parts_of,
 };
-use mp4_stream::{Entries, Result, TryClone, box_of, entry_of, numbers_of, parts_of};
+use mp4_frame::{Entries, Result, TryClone, codes};
 
 /// The requirements on a decoder. The names are those of HEVC (ISO/IEC 23008-2, 7.4.4).
 #[derive(Clone, Copy, Debug, Default, PartialEq, Eq)]

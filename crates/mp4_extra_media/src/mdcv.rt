@@ -3,13 +3,14 @@
 ghost use Rattle.mp4_extra_media.specs.declared.mdcv.TheConstants.{WIDTHS};
 ghost use Rattle.mp4_frame.specs.declared.codes.TheConstants as codes;
 ghost use Rattle.std.proofs.Common.{refl, lit<};
-ghost use Rattle.mp4_stream.specs.Author.{layout_of, packed, fields_of};
+ghost use Rattle.mp4_declared.specs.OwnBox.{layout_of};
+ghost use Rattle.mp4_declared.specs.Layout.{packed, fields_of};
 
-use mp4_frame::codes;
-use mp4_stream::author::{
-    Bits, Declared, DeclaredBox, EntryLayout, Last, Shape, ShapeVisitor, U32,
+use mp4_declared::{
+    Bits, Declared, DeclaredBox, EntryLayout, Last, Shape, ShapeVisitor, U32, box_of, entry_of,
+    numbers_of, parts_of,
 };
-use mp4_stream::{Result, TryClone, box_of, entry_of, numbers_of, parts_of};
+use mp4_frame::{Result, TryClone, codes};
 
 /// A chromaticity, as a point in the CIE 1931 diagram. Coordinates are in units of 0.00002 and at most 50,000.
 #[derive(Clone, Copy, Debug, Default, PartialEq, Eq)]

@@ -2,11 +2,10 @@
 
 ghost use Rattle.mp4_frame.specs.declared.codes.TheConstants as codes;
 ghost use Rattle.std.proofs.Common.{refl, lit<};
-ghost use Rattle.mp4_stream.specs.Author.{layout_of};
+ghost use Rattle.mp4_declared.specs.OwnBox.{layout_of};
 
-use mp4_frame::codes;
-use mp4_stream::author::{Declared, DeclaredBox, Last, Shape, ShapeVisitor, U32};
-use mp4_stream::{Result, TryClone, box_of, parts_of};
+use mp4_declared::{Declared, DeclaredBox, Last, Shape, ShapeVisitor, U32, box_of, parts_of};
+use mp4_frame::{Result, TryClone, codes};
 
 /// The aspect ratio of a video's pixels (`pasp`, ISO/IEC 14496-12, 12.1.4): width to height is `h_spacing` to
 /// `v_spacing`.

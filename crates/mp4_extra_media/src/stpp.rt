@@ -1,11 +1,11 @@
 //! The sample entry of subtitles in XML.
 
 ghost use Rattle.mp4_frame.specs.declared.codes.TheConstants as codes;
-ghost use Rattle.mp4_stream.specs.Author.{layout_of, refl, lit<};
+ghost use Rattle.mp4_declared.specs.OwnBox.{layout_of};
+ghost use Rattle.std.proofs.Common.{refl, lit<};
 
-use mp4_frame::codes;
-use mp4_stream::Result;
-use mp4_stream::declaring::*;
+use mp4_declared::declaring::*;
+use mp4_frame::{Result, codes};
 
 /// The sample entry of subtitles in XML (`stpp`, ISO/IEC 14496-12, 12.6.3). In the standard, strings are UTF-8 without
 /// a zero byte. Items of a list in a string are separated by spaces.

@@ -1,12 +1,12 @@
 //! The composition to decode box.
 
 ghost use Rattle.mp4_frame.specs.declared.codes.TheConstants as codes;
-ghost use Rattle.mp4_stream.specs.Author.{layout_of, refl, lit<};
+ghost use Rattle.mp4_declared.specs.OwnBox.{layout_of};
+ghost use Rattle.std.proofs.Common.{refl, lit<};
 
 use mp4_declared::SignedTime;
-use mp4_frame::codes;
-use mp4_stream::Result;
-use mp4_stream::declaring::*;
+use mp4_declared::declaring::*;
+use mp4_frame::{Result, codes};
 
 /// The relation of a track's composition times to its decoding times (`cslg`, ISO/IEC 14496-12, 8.6.1.4). Times are in
 /// the timescale of the media. They have 32 bits in version 0, 64 in version 1.

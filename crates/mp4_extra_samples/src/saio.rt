@@ -3,14 +3,14 @@
 ghost use Rattle.mp4_extra_samples.specs.declared.saio.TheConstants.{SHORT, LONG};
 ghost use Rattle.mp4_frame.specs.declared.codes.TheConstants as codes;
 ghost use Rattle.std.proofs.Common.{refl, lit<};
-ghost use Rattle.mp4_stream.specs.Author.{layout_of, packed, fields_of};
+ghost use Rattle.mp4_declared.specs.OwnBox.{layout_of};
+ghost use Rattle.mp4_declared.specs.Layout.{packed, fields_of};
 
-use mp4_declared::{Code, ListByVersion};
-use mp4_frame::codes;
-use mp4_stream::author::{
-    Declared, DeclaredBox, EntryLayout, Full, If, IfFlags, Last, Shape, ShapeVisitor, U32,
+use mp4_declared::{
+    Code, Declared, DeclaredBox, EntryLayout, Full, If, IfFlags, Last, ListByVersion, Shape,
+    ShapeVisitor, U32, box_of, entry_of, numbers_of, parts_of,
 };
-use mp4_stream::{Entries, FourCC, Result, TryClone, box_of, entry_of, numbers_of, parts_of};
+use mp4_frame::{Entries, FourCC, Result, TryClone, codes};
 
 /// The start of a piece of auxiliary information.
 #[derive(Clone, Copy, Debug, Default, PartialEq, Eq)]

@@ -3,12 +3,14 @@
 ghost use Rattle.mp4_extra_samples.specs.declared.sdtp.TheConstants.{WIDTHS};
 ghost use Rattle.mp4_frame.specs.declared.codes.TheConstants as codes;
 ghost use Rattle.std.proofs.Common.{refl, lit<};
-ghost use Rattle.mp4_stream.specs.Author.{layout_of, packed, fields_of};
+ghost use Rattle.mp4_declared.specs.OwnBox.{layout_of};
+ghost use Rattle.mp4_declared.specs.Layout.{packed, fields_of};
 
-use mp4_declared::ToEnd;
-use mp4_frame::codes;
-use mp4_stream::author::{Declared, DeclaredBox, EntryLayout, Full, Last, Shape, ShapeVisitor};
-use mp4_stream::{Entries, Result, TryClone, box_of, entry_of, numbers_of, parts_of};
+use mp4_declared::{
+    Declared, DeclaredBox, EntryLayout, Full, Last, Shape, ShapeVisitor, ToEnd, box_of, entry_of,
+    numbers_of, parts_of,
+};
+use mp4_frame::{Entries, Result, TryClone, codes};
 
 /// The dependencies of a sample on others. Every field is 0 if the answer is unknown.
 #[derive(Clone, Copy, Debug, Default, PartialEq, Eq)]

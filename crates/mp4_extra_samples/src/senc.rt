@@ -2,11 +2,12 @@
 
 ghost use Rattle.mp4_frame.specs.declared.codes.TheConstants as codes;
 ghost use Rattle.std.proofs.Common.{refl, lit<};
-ghost use Rattle.mp4_stream.specs.Author.{layout_of};
+ghost use Rattle.mp4_declared.specs.OwnBox.{layout_of};
 
-use mp4_frame::codes;
-use mp4_stream::author::{Declared, DeclaredBox, Full, Last, Rest, Shape, ShapeVisitor, U32};
-use mp4_stream::{Entries, Result, TryClone, box_of, parts_of};
+use mp4_declared::{
+    Declared, DeclaredBox, Full, Last, Rest, Shape, ShapeVisitor, U32, box_of, parts_of,
+};
+use mp4_frame::{Entries, Result, TryClone, codes};
 
 /// The encryption parameters of each sample (`senc`, ISO/IEC 23001-7, 7.2.1).
 #[derive(Debug, Drop, PartialEq, Eq)]

@@ -2,13 +2,13 @@
 
 ghost use Rattle.mp4_frame.specs.declared.codes.TheConstants as codes;
 ghost use Rattle.std.proofs.Common.{refl, lit<};
-ghost use Rattle.mp4_stream.specs.Author.{layout_of};
+ghost use Rattle.mp4_declared.specs.OwnBox.{layout_of};
 
-use mp4_frame::codes;
-use mp4_stream::author::{
-    Declared, DeclaredBox, Full, Last, Reserved, Rest, Shape, ShapeVisitor, U8, U32,
+use mp4_declared::{
+    Declared, DeclaredBox, Full, Last, Reserved, Rest, Shape, ShapeVisitor, U8, U32, box_of,
+    parts_of,
 };
-use mp4_stream::{Entries, Result, TryClone, box_of, parts_of};
+use mp4_frame::{Entries, Result, TryClone, codes};
 
 /// The sizes of samples in 4, 8 or 16 bits each (`stz2`, ISO/IEC 14496-12, 8.7.3.3). An `stsz` has 32.
 #[derive(Debug, Drop, PartialEq, Eq)]

@@ -3,15 +3,17 @@
 ghost use Rattle.mp4_extra_samples.specs.declared.subs.TheConstants.{SHORT, LONG};
 ghost use Rattle.mp4_frame.specs.declared.codes.TheConstants as codes;
 ghost use Rattle.std.proofs.Common.{refl, lit<};
-ghost use Rattle.mp4_stream.specs.Author.{layout_of, exact_layout_of, packed, fields_of, some_first};
+ghost use Rattle.mp4_declared.specs.OwnBox.{layout_of};
+ghost use Rattle.mp4_declared.specs.DeclaredEntry.{exact_layout_of};
+ghost use Rattle.mp4_declared.specs.Layout.{packed, fields_of};
+ghost use Rattle.mp4_declared.specs.DeclaredEntryLaws.{some_first};
 
-use mp4_declared::{ListByVersion, clone_each};
-use mp4_frame::codes;
-use mp4_stream::author::{
-    Declared, DeclaredBox, DeclaredEntry, Each, EntryLayout, EntryVisitor, Full, Last, Shape,
-    ShapeVisitor, U16, U32,
+use mp4_declared::{
+    Declared, DeclaredBox, DeclaredEntry, Each, EntryLayout, EntryVisitor, Full, Last,
+    ListByVersion, Shape, ShapeVisitor, U16, U32, box_of, clone_each, entry_of, numbers_of,
+    parts_of,
 };
-use mp4_stream::{Entries, Result, TryClone, box_of, entry_of, numbers_of, parts_of};
+use mp4_frame::{Entries, Result, TryClone, codes};
 
 /// A part of a sample: some of its consecutive bytes.
 #[derive(Clone, Copy, Debug, Default, PartialEq, Eq)]

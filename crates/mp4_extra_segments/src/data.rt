@@ -2,11 +2,12 @@
 
 ghost use Rattle.mp4_frame.specs.declared.codes.TheConstants as codes;
 ghost use Rattle.std.proofs.Common.{refl, lit<};
-ghost use Rattle.mp4_stream.specs.Author.{layout_of};
+ghost use Rattle.mp4_declared.specs.OwnBox.{layout_of};
 
-use mp4_frame::codes;
-use mp4_stream::author::{Declared, DeclaredBox, Last, Rest, Shape, ShapeVisitor, U8, U16, U24};
-use mp4_stream::{Entries, Result, TryClone, box_of, parts_of};
+use mp4_declared::{
+    Declared, DeclaredBox, Last, Rest, Shape, ShapeVisitor, U8, U16, U24, box_of, parts_of,
+};
+use mp4_frame::{Entries, Result, TryClone, codes};
 
 /// The value of a metadata item, of any type (`data`, QuickTime File Format, "Value atom").
 #[derive(Debug, Drop, PartialEq, Eq)]

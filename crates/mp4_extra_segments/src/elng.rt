@@ -2,11 +2,12 @@
 
 ghost use Rattle.mp4_frame.specs.declared.codes.TheConstants as codes;
 ghost use Rattle.std.proofs.Common.{refl, lit<};
-ghost use Rattle.mp4_stream.specs.Author.{layout_of};
+ghost use Rattle.mp4_declared.specs.OwnBox.{layout_of};
 
-use mp4_frame::codes;
-use mp4_stream::author::{Declared, DeclaredBox, Full, Last, Rest, Shape, ShapeVisitor};
-use mp4_stream::{Entries, Result, TryClone, box_of, parts_of};
+use mp4_declared::{
+    Declared, DeclaredBox, Full, Last, Rest, Shape, ShapeVisitor, box_of, parts_of,
+};
+use mp4_frame::{Entries, Result, TryClone, codes};
 
 /// The language of a track's media (`elng`, ISO/IEC 14496-12, 8.4.6).
 #[derive(Debug, Drop, PartialEq, Eq)]

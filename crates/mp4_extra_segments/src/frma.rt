@@ -2,12 +2,10 @@
 
 ghost use Rattle.mp4_frame.specs.declared.codes.TheConstants as codes;
 ghost use Rattle.std.proofs.Common.{refl, lit<};
-ghost use Rattle.mp4_stream.specs.Author.{layout_of};
+ghost use Rattle.mp4_declared.specs.OwnBox.{layout_of};
 
-use mp4_declared::Code;
-use mp4_frame::codes;
-use mp4_stream::author::{Declared, DeclaredBox, Last, Shape, ShapeVisitor};
-use mp4_stream::{FourCC, Result, TryClone, box_of, parts_of};
+use mp4_declared::{Code, Declared, DeclaredBox, Last, Shape, ShapeVisitor, box_of, parts_of};
+use mp4_frame::{FourCC, Result, TryClone, codes};
 
 /// The format of media before a transformation such as encryption (`frma`, ISO/IEC 14496-12, 8.12.2).
 #[derive(Clone, Copy, Debug, Drop, PartialEq, Eq)]

@@ -1,11 +1,11 @@
 //! The track kind box.
 
 ghost use Rattle.mp4_frame.specs.declared.codes.TheConstants as codes;
-ghost use Rattle.mp4_stream.specs.Author.{layout_of, refl, lit<};
+ghost use Rattle.mp4_declared.specs.OwnBox.{layout_of};
+ghost use Rattle.std.proofs.Common.{refl, lit<};
 
-use mp4_frame::codes;
-use mp4_stream::Result;
-use mp4_stream::declaring::*;
+use mp4_declared::declaring::*;
+use mp4_frame::{Result, codes};
 
 /// The role of a track (`kind`, ISO/IEC 14496-12, 8.10.4). In the standard, strings are UTF-8 without a zero byte.
 #[derive(Debug, Drop, PartialEq, Eq)]

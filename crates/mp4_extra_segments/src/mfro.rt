@@ -2,11 +2,10 @@
 
 ghost use Rattle.mp4_frame.specs.declared.codes.TheConstants as codes;
 ghost use Rattle.std.proofs.Common.{refl, lit<};
-ghost use Rattle.mp4_stream.specs.Author.{layout_of};
+ghost use Rattle.mp4_declared.specs.OwnBox.{layout_of};
 
-use mp4_frame::codes;
-use mp4_stream::author::{Declared, DeclaredBox, Full, Last, Shape, ShapeVisitor, U32};
-use mp4_stream::{Result, TryClone, box_of, parts_of};
+use mp4_declared::{Declared, DeclaredBox, Full, Last, Shape, ShapeVisitor, U32, box_of, parts_of};
+use mp4_frame::{Result, TryClone, codes};
 
 /// The size of the enclosing `mfra` (`mfro`, ISO/IEC 14496-12, 8.8.11). The box is the last of the `mfra`, which is the
 /// last of the file, so that a reader finds the `mfra` from the end of the file.

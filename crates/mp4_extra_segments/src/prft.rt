@@ -2,11 +2,12 @@
 
 ghost use Rattle.mp4_frame.specs.declared.codes.TheConstants as codes;
 ghost use Rattle.std.proofs.Common.{refl, lit<};
-ghost use Rattle.mp4_stream.specs.Author.{layout_of};
+ghost use Rattle.mp4_declared.specs.OwnBox.{layout_of};
 
-use mp4_frame::codes;
-use mp4_stream::author::{Declared, DeclaredBox, Full, Last, Shape, ShapeVisitor, Time, U32, U64};
-use mp4_stream::{Result, TryClone, box_of, parts_of};
+use mp4_declared::{
+    Declared, DeclaredBox, Full, Last, Shape, ShapeVisitor, Time, U32, U64, box_of, parts_of,
+};
+use mp4_frame::{Result, TryClone, codes};
 
 /// The time at which a producer made a part of the media (`prft`, ISO/IEC 14496-12, 8.16.5).
 #[derive(Clone, Copy, Debug, Drop, PartialEq, Eq)]

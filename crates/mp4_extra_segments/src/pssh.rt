@@ -2,14 +2,13 @@
 
 ghost use Rattle.mp4_frame.specs.declared.codes.TheConstants as codes;
 ghost use Rattle.std.proofs.Common.{refl, lit<};
-ghost use Rattle.mp4_stream.specs.Author.{layout_of};
+ghost use Rattle.mp4_declared.specs.OwnBox.{layout_of};
 
-use mp4_frame::codes;
-use mp4_stream::author::{
+use mp4_declared::{
     Array, Bytes, Declared, DeclaredBox, FromVersion, Full, If, Last, Rows, Shape, ShapeVisitor,
-    U32,
+    U32, box_of, parts_of,
 };
-use mp4_stream::{Entries, Result, TryClone, box_of, parts_of};
+use mp4_frame::{Entries, Result, TryClone, codes};
 
 /// The data that a content protection system needs (`pssh`, ISO/IEC 23001-7, 8.1).
 #[derive(Debug, Drop, PartialEq, Eq)]

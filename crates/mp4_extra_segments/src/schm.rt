@@ -2,14 +2,13 @@
 
 ghost use Rattle.mp4_frame.specs.declared.codes.TheConstants as codes;
 ghost use Rattle.std.proofs.Common.{refl, lit<};
-ghost use Rattle.mp4_stream.specs.Author.{layout_of};
+ghost use Rattle.mp4_declared.specs.OwnBox.{layout_of};
 
-use mp4_declared::Code;
-use mp4_frame::codes;
-use mp4_stream::author::{
-    Declared, DeclaredBox, Full, If, IfFlags, Last, Rest, Shape, ShapeVisitor, U32,
+use mp4_declared::{
+    Code, Declared, DeclaredBox, Full, If, IfFlags, Last, Rest, Shape, ShapeVisitor, U32, box_of,
+    parts_of,
 };
-use mp4_stream::{Entries, FourCC, Result, TryClone, box_of, parts_of};
+use mp4_frame::{Entries, FourCC, Result, TryClone, codes};
 
 /// The scheme that protects the media (`schm`, ISO/IEC 14496-12, 8.12.5).
 #[derive(Debug, Drop, PartialEq, Eq)]

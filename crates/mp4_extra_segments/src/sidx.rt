@@ -2,11 +2,12 @@
 
 ghost use Rattle.mp4_extra_segments.specs.declared.sidx.TheConstants.{WIDTHS};
 ghost use Rattle.mp4_frame.specs.declared.codes.TheConstants as codes;
-ghost use Rattle.mp4_stream.specs.Author.{layout_of, packed, fields_of, refl, lit<};
+ghost use Rattle.mp4_declared.specs.OwnBox.{layout_of};
+ghost use Rattle.mp4_declared.specs.Layout.{packed, fields_of};
+ghost use Rattle.std.proofs.Common.{refl, lit<};
 
-use mp4_frame::codes;
-use mp4_stream::Result;
-use mp4_stream::declaring::*;
+use mp4_declared::declaring::*;
+use mp4_frame::{Result, codes};
 
 /// A reference of a segment index to a part of the media or to another index.
 #[derive(Clone, Copy, Debug, Default, PartialEq, Eq)]

@@ -2,12 +2,12 @@
 
 ghost use Rattle.mp4_frame.specs.declared.codes.TheConstants as codes;
 ghost use Rattle.std.proofs.Common.{refl, lit<};
-ghost use Rattle.mp4_stream.specs.Author.{layout_of};
+ghost use Rattle.mp4_declared.specs.OwnBox.{layout_of};
 
-use mp4_declared::{Code, Codes};
-use mp4_frame::codes;
-use mp4_stream::author::{Declared, DeclaredBox, Last, Shape, ShapeVisitor, U32};
-use mp4_stream::{Entries, FourCC, Result, TryClone, box_of, parts_of};
+use mp4_declared::{
+    Code, Codes, Declared, DeclaredBox, Last, Shape, ShapeVisitor, U32, box_of, parts_of,
+};
+use mp4_frame::{Entries, FourCC, Result, TryClone, codes};
 
 /// The specifications that a segment conforms to (`styp`, ISO/IEC 14496-12, 8.16.2). The fields are those of an `ftyp`.
 #[derive(Debug, Drop, PartialEq, Eq)]

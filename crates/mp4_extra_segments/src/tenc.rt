@@ -3,15 +3,14 @@
 ghost use Rattle.mp4_extra_segments.specs.declared.tenc.TheConstants.{WIDTHS};
 ghost use Rattle.mp4_frame.specs.declared.codes.TheConstants as codes;
 ghost use Rattle.std.proofs.Common.{refl, lit<};
-ghost use Rattle.mp4_stream.specs.Author.{layout_of, packed, fields_of};
+ghost use Rattle.mp4_declared.specs.OwnBox.{layout_of};
+ghost use Rattle.mp4_declared.specs.Layout.{packed, fields_of};
 
-use mp4_declared::OrZeros;
-use mp4_frame::codes;
-use mp4_stream::author::{
-    Array, Bits, Declared, DeclaredBox, EntryLayout, FromVersion, Full, Last, Reserved, Rest,
-    Shape, ShapeVisitor, U8,
+use mp4_declared::{
+    Array, Bits, Declared, DeclaredBox, EntryLayout, FromVersion, Full, Last, OrZeros, Reserved,
+    Rest, Shape, ShapeVisitor, U8, box_of, entry_of, numbers_of, parts_of,
 };
-use mp4_stream::{Entries, Result, TryClone, box_of, entry_of, numbers_of, parts_of};
+use mp4_frame::{Entries, Result, TryClone, codes};
 
 /// The pattern of encrypted blocks in a sample: some encrypted blocks, then some clear blocks, repeated.
 #[derive(Clone, Copy, Debug, Default, PartialEq, Eq)]

@@ -3,13 +3,14 @@
 ghost use Rattle.mp4_extra_segments.specs.declared.tfra.TheConstants.{WIDTHS};
 ghost use Rattle.mp4_frame.specs.declared.codes.TheConstants as codes;
 ghost use Rattle.std.proofs.Common.{refl, lit<};
-ghost use Rattle.mp4_stream.specs.Author.{layout_of, packed, fields_of};
+ghost use Rattle.mp4_declared.specs.OwnBox.{layout_of};
+ghost use Rattle.mp4_declared.specs.Layout.{packed, fields_of};
 
-use mp4_frame::codes;
-use mp4_stream::author::{
-    Bits, Declared, DeclaredBox, EntryLayout, Full, Last, Rest, Shape, ShapeVisitor, U32,
+use mp4_declared::{
+    Bits, Declared, DeclaredBox, EntryLayout, Full, Last, Rest, Shape, ShapeVisitor, U32, box_of,
+    entry_of, numbers_of, parts_of,
 };
-use mp4_stream::{Entries, Result, TryClone, box_of, entry_of, numbers_of, parts_of};
+use mp4_frame::{Entries, Result, TryClone, codes};
 
 /// The numbers of bytes of three fields in each entry of a `tfra`, each minus one.
 #[derive(Clone, Copy, Debug, Default, PartialEq, Eq)]

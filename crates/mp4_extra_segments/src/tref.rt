@@ -2,14 +2,14 @@
 
 ghost use Rattle.mp4_frame.specs.declared.codes.TheConstants as codes;
 ghost use Rattle.std.proofs.Common.{refl, lit<};
-ghost use Rattle.mp4_stream.specs.Author.{layout_of, exact_layout_of};
+ghost use Rattle.mp4_declared.specs.OwnBox.{layout_of};
+ghost use Rattle.mp4_declared.specs.DeclaredEntry.{exact_layout_of};
 
-use mp4_declared::{Code, Numbers, WithSize, clone_each};
-use mp4_frame::codes;
-use mp4_stream::author::{
-    Declared, DeclaredBox, DeclaredEntry, EachToEnd, EntryVisitor, Last, Shape, ShapeVisitor,
+use mp4_declared::{
+    Code, Declared, DeclaredBox, DeclaredEntry, EachToEnd, EntryVisitor, Last, Numbers, Shape,
+    ShapeVisitor, WithSize, box_of, clone_each, parts_of,
 };
-use mp4_stream::{Entries, FourCC, Result, TryClone, box_of, parts_of};
+use mp4_frame::{Entries, FourCC, Result, TryClone, codes};
 
 /// The tracks that a track refers to by one type of reference. In the file it is a box whose code is the type.
 #[derive(Debug, Drop, PartialEq, Eq)]

@@ -10,7 +10,7 @@ use Rattle.mp4_frame.specs.MemberLaws.{member_back, content_back, written_member
 use Rattle.mp4_frame.specs.MemberLaws.{read_back_of_member}
 use Rattle.mp4_stream.specs.AnyBox.{kinds, held, least_any, format_any, known_any, reading_any}
 use Rattle.mp4_stream.specs.AnyBoxLaws.{members}
-use Rattle.mp4_stream.specs.NameLaws.{plain_name}
+use Rattle.mp4_declared.specs.NameLaws.{plain_name}
 use Rattle.mp4_stream.specs.Other.{is_typed}
 use Rattle.mp4_stream.specs.OtherBox.{reads_other, format_other}
 use Rattle.mp4_stream.specs.OtherBoxLaws.{written_other, back_other}

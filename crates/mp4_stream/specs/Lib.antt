@@ -3,7 +3,6 @@ pub mod AnyBoxLaws
 pub mod Other
 pub mod OtherBox
 pub mod OtherBoxLaws
-pub mod NameLaws
 pub mod KeptBox
 pub mod KeptBoxLaws
 pub mod StableLaws
@@ -11,6 +10,7 @@ pub mod FragmentBox
 pub mod FragmentBoxLaws
 pub mod Boxes
 pub mod Author
+pub use Rattle.mp4_declared.specs.NameLaws
 pub use Rattle.mp4_frame.specs.BoxType
 pub use Rattle.mp4_frame.specs.Bytes
 pub use Rattle.mp4_frame.specs.Equality

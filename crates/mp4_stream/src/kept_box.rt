@@ -9,7 +9,7 @@ ghost use Rattle.mp4_stream.specs.Other.{is_typed};
 ghost use Rattle.mp4_stream.specs.OtherBox.{reads_other};
 ghost use Rattle.mp4_stream.specs.KeptBox.{format_kept, known_kept, reading_kept};
 ghost use Rattle.mp4_stream.specs.KeptBoxLaws.{written_kept, own_name_kept, read_back_kept};
-ghost use Rattle.mp4_stream.specs.NameLaws.{is_unknown};
+ghost use Rattle.mp4_declared.specs.NameLaws.{is_unknown};
 ghost use Rattle.mp4_stream.specs.declared.kept_box.KeptBox.TheVariants as kept;
 
 use crate::any_box::{AnyBox, push_any};

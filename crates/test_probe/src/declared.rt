@@ -4,9 +4,9 @@ ghost use Rattle.std.specs.Prelude.{◌≤◌};
 
 use crate::structure::Level;
 use crate::{push_record, show};
-use mp4_box_tree::Container;
+use mp4_box_tree::{BoxTree, Container};
 use mp4_compose::ChildBox;
-use mp4_extra::{BoxTree, ExtraBox};
+use mp4_extra::ExtraBox;
 use mp4_stream::{
     BoxHeader, BoxType, ByteCursor, Entries, ReadBox, Result as Read, StreamBox, WriteBox,
 };

@@ -36,7 +36,7 @@ mod structure;
 
 use crate::declared::{show_declared, show_trees};
 use crate::movie::show_movie;
-use mp4_extra::AllBoxes;
+use mp4_box_tree::AllBoxes;
 use mp4_stream::{
     AnyBox, BoxHeader, BoxType, ByteCursor, EsdsBox, KeptBox, StreamBox, list_boxes, read_boxes_as,
     write_boxes,

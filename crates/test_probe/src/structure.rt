@@ -1,8 +1,7 @@
 //! The structure of trees of boxes, as text: a line for each box, and after that of a container those of its boxes.
 
-use mp4_box_tree::Node;
+use mp4_box_tree::{AllBoxes, Node};
 use mp4_compose::{Either, Lossless};
-use mp4_extra::AllBoxes;
 use mp4_stream::{KeptBox, Mp4Box};
 use std::alloc::{AllocError, Global};
 

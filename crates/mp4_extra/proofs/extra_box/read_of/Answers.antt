@@ -1,7 +1,8 @@
 use Rattle.std.proofs.Common.{◌≡◌, ℕ, ◌-◌, List, subst, sym}
 use Rattle.std.specs.Prelude.{Result}
 use Rattle.mp4_frame.specs.declared.error.Error.{Error}
-use Rattle.mp4_stream.specs.Author.{Answers, reading_known, Is}
+use Rattle.mp4_frame.specs.Reading.{Answers}
+use Rattle.mp4_frame.specs.Members.{reading_known, Is}
 use Rattle.mp4_extra.specs.ExtraBox.{kind_of}
 use Rattle.mp4_extra.specs.contracts.extra_box.ExtraBoxDeclares.TheImpl.{ghosts}
 use Rattle.mp4_extra.specs.declared.extra_box.ExtraBox.{ExtraBox}

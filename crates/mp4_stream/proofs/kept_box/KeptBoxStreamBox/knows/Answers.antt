@@ -2,7 +2,7 @@ use Rattle.std.proofs.Common.{◌≡◌, ℕ, true, refl, sym, ap, ◌∙◌}
 use Rattle.mp4_frame.specs.declared.box_type.BoxType.{BoxType}
 use Rattle.mp4_frame.specs.declared.box_type.BoxType.TheVariants as names
 use Rattle.mp4_stream.specs.KeptBox.{known_kept}
-use Rattle.mp4_stream.specs.NameLaws.{unknown_name}
+use Rattle.mp4_declared.specs.NameLaws.{unknown_name}
 use Rattle.mp4_stream.proofs.kept_box.KeptBoxStreamBox.knows.Goals as goal
 
 known_by_name : (name : BoxType) → ((n : ℕ) → name ≡ names.UnknownBox n → ⊥) → true ≡ known_kept name

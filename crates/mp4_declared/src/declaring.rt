@@ -1,11 +1,11 @@
-//! For crates that declare boxes: `use mp4_stream::declaring::*` imports shapes, traits, and macros. The macros write
+//! For crates that declare boxes: `use mp4_declared::declaring::*` imports shapes, traits, and macros. The macros write
 //! the bodies of functions of a box and its entries, from a list of the fields.
 
-pub use crate::{box_of, entry_of, numbers_of, parts_of};
-pub use mp4_declared::{
+pub use crate::{
     Array, Bits, Bytes, Check, Checked, Declared, DeclaredBox, DeclaredEntry, Each, EachToEnd,
     EntryLayout, EntryVisitor, FromVersion, Full, I8, I16, I32, If, IfFlags, Last, List, Pascal,
-    Reserved, Rest, Rows, Shape, ShapeVisitor, Terminated, Time, U8, U16, U24, U32, U64,
+    Reserved, Rest, Rows, Shape, ShapeVisitor, Terminated, Time, U8, U16, U24, U32, U64, box_of,
+    entry_of, numbers_of, parts_of,
 };
 pub use mp4_frame::{Entries, TryClone};
 

@@ -1,10 +1,11 @@
 //! Lists of boxes of all types, and the boxes of a file as a tree.
 
-use crate::extra_box::ExtraBox;
-use mp4_box_tree::Node;
-use mp4_stream::{Either, KeptBox, Lossless};
+use crate::node::Node;
+use mp4_compose::{Either, Lossless};
+use mp4_extra::ExtraBox;
+use mp4_stream::KeptBox;
 
-/// A box of a type of this crate or of the codec, or the bytes of a box of another type. A list of them skips no box.
+/// A box of a type of `mp4_extra` or of the codec, or the bytes of a box of another type. A list of them skips no box.
 pub type AllBoxes = Either<ExtraBox, KeptBox>;
 
 /// A container of boxes of `L` or a box of any type, or the bytes of a box if reading it as such would lose any of
