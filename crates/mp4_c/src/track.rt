@@ -6,7 +6,7 @@ ghost use Rattle.mp4_c.specs.Tracks.{number_of, status_of_box_error, status_with
 ghost use Rattle.mp4_walk.specs.FileBoxes.{boxes_of};
 
 use mp4_c_boxes::status::{BOX_NOT_FOUND, NO_TRACK, OFFSET, OUT_OF_MEMORY, status_of};
-use mp4_frame::{FourCC, codes};
+use mp4_frame::codes;
 use mp4_movie::{BoxError, Movie, first_in};
 use mp4_walk::TreeBox;
 use std::alloc::Global;
@@ -27,7 +27,7 @@ pub fn status_of_box_error(error: &BoxError) -> u32
 fn status_without_track(boxes: &[TreeBox]) -> u32
     ensures { result ≡ status_without_track boxes.now }
 {
-    match first_in(boxes, 0, FourCC::from(codes::MOOV)) {
+    match first_in(boxes, 0, codes::MOOV) {
         Some(_) => NO_TRACK,
         None => BOX_NOT_FOUND,
     }

@@ -8,10 +8,9 @@ ghost use Rattle.mp4_inspect.specs.Content.{leaf, is_faulty, front, Shows, Shows
 ghost use Rattle.mp4_inspect.specs.Kind.{kind_of};
 ghost use Rattle.mp4_inspect.specs.declared.kind.Kind.TheVariants as kinds;
 
-use crate::failure::or_read;
 use crate::kind::{Kind, kind_of};
 use crate::shown::Shown;
-use mp4_io::Failure;
+use mp4_io::{Failure, or_read};
 use mp4_show::{
     FieldSink, Result, Value, put_entry, put_full, put_handler, put_list_head, put_reference,
     put_sound, put_visual,

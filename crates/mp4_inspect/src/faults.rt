@@ -13,7 +13,7 @@ use crate::box_path::BoxPaths;
 use crate::chunks::MediaData;
 use crate::content::{Content, content_of};
 use crate::facts::{Facts, facts_of};
-use crate::failure::{or_memory, or_read};
+use crate::failure::or_memory;
 use crate::fault_text::fault_text;
 use crate::kind::Kind;
 use crate::sample_tables::{Together, tables_together};
@@ -25,7 +25,7 @@ use mp4_check_rules::{
 };
 use mp4_extra::Stz2Box;
 use mp4_frame::codes::{MOOF, STBL, STCO, STSZ, STZ2, TRAF, TRAK, VMHD};
-use mp4_io::{Failure, Output, write_all};
+use mp4_io::{Failure, Output, or_read, write_all};
 use mp4_movie::{TrackInfo, read_at, sizes_fault};
 use mp4_show::{Result, push_code, push_number};
 use mp4_stream::{AnyBox, Error, FourCC};
@@ -525,7 +525,7 @@ fn tell_runs<S: Source>(
         boxes,
         search.top,
         search.data_end,
-        &search.facts.sizes,
+        &search.facts.defaults,
     )?;
     let Some(read) = read else {
         search.data_end = None;

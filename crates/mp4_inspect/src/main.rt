@@ -25,11 +25,10 @@ mod words;
 
 use clap::Error;
 use clap::error::ErrorKind;
-use failure::or_read;
 use fast_start::fast_start;
 use mp4_inspect_args::{Asked, FastStart, Request, Rows, Task, request_of, unreadable};
 use mp4_inspect_samples::{Choice, Form};
-use mp4_io::{Failure, Input, Output, Steady, flush, is_closed_pipe, read_all, write_all};
+use mp4_io::{Failure, Input, Output, Steady, flush, is_closed_pipe, or_read, read_all, write_all};
 use mp4_show::Look;
 use mp4_walk::Source;
 use outcome::{Outcome, is_silent};

@@ -11,14 +11,13 @@ ghost use Rattle.mp4_movie.specs.Infos.{AreInfos};
 ghost use Rattle.mp4_movie.specs.Movies.{traks};
 ghost use Rattle.mp4_walk.specs.FileBoxes.{boxes_of};
 
-use crate::failure::or_read;
 use crate::faults::write_faults;
 use crate::shown::Shown;
 use crate::tree_json::tree_json;
 use crate::tree_text::write_tree;
 use mp4_inspect_args::Task;
 use mp4_inspect_samples::{Choice, TrackFault, write_samples};
-use mp4_io::{Failure, Output, write_all};
+use mp4_io::{Failure, Output, or_read, write_all};
 use mp4_movie::{Movie, TrackInfo};
 use mp4_show::{Look, TextSink};
 use mp4_walk::{BoxWalk, Source, TreeBox};
@@ -53,9 +52,7 @@ fn list_file<S: Source>(
 {
     let mut movie = or_read(Movie::open(alloc, source))?;
     let tracks = or_read(movie.tracks(alloc))?;
-    let mut boxes = Vec::new(alloc);
-    boxes.extend_from_slice(movie.boxes())?;
-    let walk = or_read(BoxWalk::new(alloc, movie.into_source()))?;
+    let (walk, boxes) = movie.into_parts();
     Ok((walk, boxes, tracks))
 }
 

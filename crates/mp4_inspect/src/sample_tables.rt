@@ -2,11 +2,9 @@
 
 ghost use Rattle.std.specs.Prelude.{◌≡◌};
 
-use crate::failure::read_failure;
 use mp4_check_rules::chunk_sizes;
-use mp4_frame::FourCC;
 use mp4_frame::codes::{CO64, STCO};
-use mp4_io::Failure;
+use mp4_io::{Failure, read_failure};
 use mp4_movie::{ChunkBox, MovieError, SampleBoxes, first_in, tables_in};
 use mp4_samples::{Disagreement, SampleTables};
 use mp4_walk::{BoxWalk, Source, TreeBox};
@@ -25,8 +23,8 @@ pub enum Together {
 
 /// Returns the position of the chunk table in the `stbl` in which `boxes` begins, or 0 if there is none.
 fn chunk_table_in(boxes: &[TreeBox]) -> u64 {
-    let narrow = first_in(boxes, 5, FourCC::from(STCO));
-    let wide = first_in(boxes, 5, FourCC::from(CO64));
+    let narrow = first_in(boxes, 5, STCO);
+    let wide = first_in(boxes, 5, CO64);
     match (narrow, wide) {
         (Some(table), _) | (None, Some(table)) => table.found.position,
         (None, None) => 0,

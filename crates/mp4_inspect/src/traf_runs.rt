@@ -2,9 +2,9 @@
 
 ghost use Rattle.std.specs.Prelude.{◌≡◌};
 
-use crate::failure::read_failure;
 use mp4_check_rules::{Run, run_begin, run_size};
-use mp4_io::Failure;
+use mp4_flat::TrexBox;
+use mp4_io::{Failure, read_failure};
 use mp4_movie::{MovieError, traf_in};
 use mp4_samples::DEFAULT_BASE_IS_MOOF;
 use mp4_tables::{TfhdBox, TrunBox};
@@ -71,14 +71,14 @@ fn keep_runs(
 
 /// Returns the runs of a `traf` of the `moof` at position `moof`. Returns `None` if a box of it is missing or has a
 /// fault, or if the place of its data is unknown. `boxes` begins with the boxes inside the `traf`. `before` is the end
-/// of the data before it, and `sizes` has the size of samples by the `trex` of each track.
+/// of the data before it, and `defaults` has the `trex` of each track.
 pub fn traf_runs<S: Source>(
     alloc: Global,
     tree: &mut BoxWalk<S>,
     boxes: &[TreeBox],
     moof: u64,
     before: Option<u64>,
-    sizes: &BTreeMap<u32, u32>,
+    defaults: &BTreeMap<u32, TrexBox>,
 ) -> Result<Option<TrafRuns>, Failure>
     ensures kept { tree.new ≡ tree.old }
 {
@@ -91,13 +91,10 @@ pub fn traf_runs<S: Source>(
         return Ok(None);
     };
     let mut runs = Vec::new(alloc);
-    let end = keep_runs(
-        &traf.header,
-        sizes.get(&traf.header.track_id).copied(),
-        traf.runs.as_slice(),
-        base,
-        &mut runs,
-    )?;
+    let default = defaults
+        .get(&traf.header.track_id)
+        .map(|trex| trex.default_sample_size);
+    let end = keep_runs(&traf.header, default, traf.runs.as_slice(), base, &mut runs)?;
     Ok(Some(TrafRuns {
         track: traf.header.track_id,
         runs,

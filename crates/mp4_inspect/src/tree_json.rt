@@ -100,7 +100,7 @@ fn put_rest<B: HasFields + Drop>(
         Content::Boxes | Content::Deep | Content::Unread => Ok(()),
         Content::Faulty(fault) => put_fault(alloc, found, fault, sink),
         Content::Known(_) | Content::Front(..) => {
-            put_all_fields(content, found.is_quicktime_sound(), sink)
+            put_all_fields(content, found.context.stsd_version == 0, sink)
         }
     }
 }

@@ -151,7 +151,7 @@ fn put_rest<B: HasFields + Drop>(
         Content::Unread => put_called(alloc, "not read", found, sink),
         Content::Deep => sink.words("not gone into: in 32 boxes"),
         Content::Faulty(fault) => put_fault(alloc, found, fault, sink),
-        _ => put_content(content, found.is_quicktime_sound(), sink),
+        _ => put_content(content, found.context.stsd_version == 0, sink),
     }
 }
 

@@ -1,6 +1,6 @@
 -- The rows of samples, one after the other. The bytes that a writer has are `Some` if they are known. Nothing is said
 -- of them if they are not.
-use Rattle.std.specs.Prelude.{◌≡◌, ◌≢◌, ℕ, ◌+◌, Bool, true, List, [], ◌∷◌, ◌++◌, length, take, ⊤, None, Some}
+use Rattle.std.specs.Prelude.{◌≡◌, ◌≢◌, ℕ, ◌+◌, Bool, true, List, [], ◌∷◌, ◌++◌, length, take, codes, ⊤, None, Some}
 use Rattle.std.specs.declared.option.Option.{Option}
 use Rattle.std.specs.Io.KnownBytes.{Appends}
 use Rattle.mp4_samples.specs.FragmentGives.{sample_total}
@@ -31,6 +31,16 @@ rows_text form track follows n (x ∷ xs) =
 abbrev pub is_after : Bool → List Sample → Bool
 is_after follows [] = follows
 is_after follows (x ∷ xs) = true
+
+-- the text before the rows of a file, and after them
+abbrev pub front_text : Form → List ℕ
+front_text forms.Text = []
+front_text forms.Csv = codes "track,number,offset,size,decode_time,presentation_time,duration,sync,description\n"
+front_text forms.Json = codes "["
+
+abbrev pub end_text : Form → List ℕ
+end_text forms.Json = codes "\n]\n"
+end_text _ = []
 
 -- a beginning of the text is appended
 pub record Begins (old new : Option (List ℕ)) (text : List ℕ) : Type 0 where

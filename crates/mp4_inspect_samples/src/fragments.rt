@@ -7,11 +7,11 @@ ghost use Rattle.mp4_walk.specs.FileBoxes.{boxes_of};
 
 use crate::fault::{Fault, TrackFault};
 use crate::limit::samples_in;
-use crate::track_stop::{keep, or_read};
+use crate::track_stop::keep;
 use mp4_frame::FourCC;
 use mp4_frame::codes::{MOOF, TFHD, TRAF, TRUN};
-use mp4_io::Failure;
-use mp4_movie::{BoxError, MoofFragments, Movie, TrackFragment, first_in};
+use mp4_io::{Failure, or_read};
+use mp4_movie::{BoxError, MoofFragments, Movie, TrackFragment, boxes_after, first_in};
 use mp4_tables::{TfhdBox, TrunBox};
 use mp4_walk::{Source, TreeBox};
 use std::alloc::{AllocError, Global};
@@ -55,14 +55,9 @@ fn trafs_in(alloc: Global, boxes: &[TreeBox]) -> Result<Vec<usize>, AllocError> 
     Ok(trafs)
 }
 
-/// Returns `boxes` without the first `first`.
-fn boxes_after(boxes: &[TreeBox], first: usize) -> &[TreeBox] {
-    &boxes[first.min(boxes.len())..]
-}
-
 /// Returns the header of the `traf` in which `boxes` begins, if it has one.
 fn header_in(boxes: &[TreeBox]) -> Option<TreeBox> {
-    match first_in(boxes, 2, FourCC::from(TFHD)) {
+    match first_in(boxes, 2, TFHD) {
         Some(place) => Some(place.found),
         None => None,
     }

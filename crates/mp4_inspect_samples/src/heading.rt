@@ -1,8 +1,9 @@
 //! The text around the rows.
 
 ghost use Rattle.std.specs.Prelude.{◌≡◌, ◌||◌, OnOk};
+ghost use Rattle.std.specs.Io.KnownBytes.{Appends};
 ghost use Rattle.mp4_io.specs.Ends.{is_write};
-ghost use Rattle.mp4_inspect_samples.specs.Rows.{WritesHeading, is_headed};
+ghost use Rattle.mp4_inspect_samples.specs.Rows.{WritesHeading, end_text, front_text, is_headed};
 
 use crate::fault::TrackName;
 use crate::row_text::Form;
@@ -17,21 +18,25 @@ const COLUMNS: &str =
     "  number        offset       size   decode_time  presentation_time   duration  sync  description\n";
 
 /// Writes the text before the rows of a file.
-pub fn write_front<W: Write>(form: Form, output: &mut Output<W>) -> Result<(), Failure> {
-    write_all(
-        output,
-        match form {
-            Form::Text => b"",
-            Form::Csv => {
-                b"track,number,offset,size,decode_time,presentation_time,duration,sync,description\n"
-            }
-            Form::Json => b"[",
-        },
-    )
+pub fn write_front<W: Write>(form: Form, output: &mut Output<W>) -> Result<(), Failure>
+    ensures text { OnOk result
+        (Appends (W.contents output.old.inner) (W.contents output.new.inner) (front_text form)) }
+{
+    match form {
+        Form::Text => Ok(()),
+        Form::Csv => write_all(
+            output,
+            b"track,number,offset,size,decode_time,presentation_time,duration,sync,description\n",
+        ),
+        Form::Json => write_all(output, b"["),
+    }
 }
 
 /// Writes the text after the rows of a file.
-pub fn write_end<W: Write>(form: Form, output: &mut Output<W>) -> Result<(), Failure> {
+pub fn write_end<W: Write>(form: Form, output: &mut Output<W>) -> Result<(), Failure>
+    ensures text { OnOk result
+        (Appends (W.contents output.old.inner) (W.contents output.new.inner) (end_text form)) }
+{
     match form {
         Form::Text | Form::Csv => Ok(()),
         Form::Json => write_all(output, b"\n]\n"),

@@ -2,7 +2,6 @@
 //! first `moov` and the headers of each `moof`; media data are skipped.
 #![tactic(auto)]
 
-mod defaults;
 mod fault;
 mod fragments;
 mod heading;

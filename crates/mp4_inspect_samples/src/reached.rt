@@ -2,8 +2,8 @@
 
 use crate::limit::Unlisted;
 
-/// The rows of a track that are written.
-#[derive(Clone, Copy, Debug, PartialEq, Eq)]
+/// The rows of a track that are written. The default is none.
+#[derive(Clone, Copy, Debug, Default, PartialEq, Eq)]
 pub struct Reached {
     /// The number of rows.
     pub count: u64,
@@ -13,14 +13,4 @@ pub struct Reached {
     pub empty: u32,
     /// The first sample that isn't listed, if there is one.
     pub unlisted: Option<Unlisted>,
-}
-
-/// Returns the progress before the first row.
-pub fn no_rows() -> Reached {
-    Reached {
-        count: 0,
-        time: 0,
-        empty: 0,
-        unlisted: None,
-    }
 }

@@ -3,20 +3,19 @@
 ghost use Rattle.std.specs.Prelude.{◌≡◌, IfOk};
 ghost use Rattle.mp4_inspect_samples.specs.Tracks.{WritesTrackFragment};
 
-use crate::defaults::keep_trex_faults;
 use crate::fault::{Fault, TrackFault, TrackName};
 use crate::fragments::{Fragments, TrackTraf, fragments_of};
 use crate::heading::{Heading, write_end, write_front, write_heading};
 use crate::limit::{Limit, samples_in, unlisted_of};
-use crate::reached::{Reached, no_rows};
+use crate::reached::Reached;
 use crate::row_text::Form;
 use crate::rows::{RowWriter, write_fragment_rows};
 use crate::tables::{tables_of, write_tables};
-use crate::track_stop::{TrackStop, keep, or_read};
+use crate::track_stop::{TrackStop, keep};
 use mp4_frame::FourCC;
 use mp4_frame::codes::{MOOF, MOOV, TRAK};
-use mp4_io::{Failure, Output};
-use mp4_movie::{BoxError, Movie, TrackFragment, TrackInfo, first_in};
+use mp4_io::{Failure, Output, or_read};
+use mp4_movie::{BoxError, Defaults, Movie, TrackFragment, TrackInfo, first_in};
 use mp4_walk::{Source, TreeBox};
 use std::alloc::{AllocError, Global};
 use std::collections::BTreeMap;
@@ -131,7 +130,7 @@ fn write_track<S: Source, W: Write>(
         Some(tables) => write_tables(&tables, heading, limit, writer, output)?,
         None => {
             write_heading(heading, writer, output)?;
-            no_rows()
+            Reached::default()
         }
     };
     let reached = write_fragments(trafs, heading.name.id(), limit, reached, writer, output)?;
@@ -148,6 +147,22 @@ fn keep_one(
     faults: &mut Vec<TrackFault>,
 ) -> Result<(), Failure> {
     keep(faults, TrackFault { track, fault })?;
+    Ok(())
+}
+
+/// Stores the fault of each `trex` of `movie` that has one. The fragments of its track have no defaults then.
+fn keep_trex_faults<S: Source>(
+    alloc: Global,
+    movie: &mut Movie<S>,
+    faults: &mut Vec<TrackFault>,
+) -> Result<(), Failure> {
+    let Defaults {
+        by_track: _,
+        faults: errors,
+    } = or_read(movie.defaults(alloc))?;
+    for error in errors {
+        keep_one(Fault::Box(error), None, faults)?;
+    }
     Ok(())
 }
 
@@ -258,8 +273,7 @@ fn keep_unknown(
 
 /// Returns whether a file with the boxes `boxes` has a `moov` or a `moof`.
 fn is_movie(boxes: &[TreeBox]) -> bool {
-    first_in(boxes, 0, FourCC::from(MOOV)).is_some()
-        || first_in(boxes, 0, FourCC::from(MOOF)).is_some()
+    first_in(boxes, 0, MOOV).is_some() || first_in(boxes, 0, MOOF).is_some()
 }
 
 /// Writes the samples of the tracks `tracks`, one after the other.

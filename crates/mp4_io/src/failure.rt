@@ -1,11 +1,14 @@
 //! The failure that ended a run before everything was read and written.
 
-ghost use Rattle.std.specs.Prelude.{◌≡◌, Some};
+ghost use Rattle.std.specs.Prelude.{◌≡◌, ◌≢◌, false, Ok, Some, IfOk};
+ghost use Rattle.std.specs.IoError.{error_kind};
+ghost use Rattle.mp4_io.specs.Ends.{is_write};
 ghost use Rattle.mp4_io.specs.declared.failure.Failure.TheVariants.{Memory};
 ghost use Rattle.mp4_io.specs.Failure.{failure_text};
 
 use std::alloc::AllocError;
-use std::fmt;
+use std::io::ErrorKind;
+use std::{fmt, io};
 
 /// A failure that ends a run before everything is read and written.
 #[derive(Clone, Copy, Debug, PartialEq, Eq)]
@@ -35,5 +38,27 @@ impl fmt::Display for Failure {
             Failure::Write => f.write_str("write failed"),
             Failure::Memory => f.write_str("out of memory"),
         }
+    }
+}
+
+/// Returns the failure of a read with this error.
+pub fn read_failure(error: &io::Error) -> Failure
+    ensures memory { error_kind error.now ≡ ErrorKind.OutOfMemory → result ≡ Failure.Memory }
+    ensures read { error_kind error.now ≢ ErrorKind.OutOfMemory → result ≡ Failure.Read }
+{
+    match error.kind() {
+        ErrorKind::OutOfMemory => Failure::Memory,
+        _ => Failure::Read,
+    }
+}
+
+/// Returns the outcome of a read, with its error as a failure.
+pub fn or_read<T: Drop>(outcome: io::Result<T>) -> Result<T, Failure>
+    ensures ok { IfOk result (λ value. outcome ≡ Ok value) }
+    ensures not_write { is_write result ≡ false }
+{
+    match outcome {
+        Ok(value) => Ok(value),
+        Err(error) => Err(read_failure(&error)),
     }
 }

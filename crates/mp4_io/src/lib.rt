@@ -8,6 +8,6 @@ mod steady;
 mod whole;
 
 pub use ends::{Input, Output};
-pub use failure::Failure;
+pub use failure::{Failure, or_read, read_failure};
 pub use steady::{Steady, is_closed_pipe};
 pub use whole::{flush, pull_after, read_all, skip_all, write_all};

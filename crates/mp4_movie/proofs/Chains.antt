@@ -1,5 +1,5 @@
 -- The answer of a call follows from the answers of the calls in it.
-use Rattle.std.proofs.Common.{◌≡◌, ℕ, List, Result, Err, None, Some, sym, ap}
+use Rattle.std.proofs.Common.{◌≡◌, ℕ, List, ◌++◌, Result, Err, None, Some, sym, ap, subst, ◌∙◌, append_assoc}
 use Rattle.std.specs.Prelude.{IfSome}
 use Rattle.std.specs.declared.option.Option.{Option}
 use Rattle.mp4_frame.specs.FourCC.{four_cc_of}
@@ -22,6 +22,12 @@ ends {A} {C} (errors.Box e) d f h = (h.0, ap (λ (r : Result A Problem). r >>= f
 pub some_then : {A : Type 0} (o : Option A) (P Q : A → Type 0) → ((a : A) → P a → Q a) → IfSome o P → IfSome o Q
 some_then None P Q f h = tt
 some_then (Some a) P Q f h = f a h
+
+-- what holds for a list with more items, after some of these were appended
+pub with_more : {A : Type 0} (P : List A → Type 0) (old new one more : List A) → new ≡ old ++ one
+    → P (old ++ (one ++ more)) → P (new ++ more)
+with_more {A} P old new one more is h =
+    subst P (sym (ap (λ (xs : List A). xs ++ more) is ∙ append_assoc old one more)) h
 
 -- the error of a box that has a fault
 pub fault_recorded : {A : Type 0} (reads : List ℕ → ℕ → ℕ → Reading A) (file : List ℕ) (code : ℕ) (x : TreeBox)

@@ -34,6 +34,10 @@ all_by d code (x ∷ xs) =
     by_bool (nat_lt x.depth d) (λ less. rw less refl)
     (λ more. by_bool (is_meant d code x) (λ e. rw (more, e) refl) (λ e. rw (more, e) (all_by d code xs)))
 
+pub next_in : (d : ℕ) (code : FourCC) (xs : List TreeBox) (o : Option Found) → o ≡ first_in d code xs
+    → all_in d code xs ≡ all_from d code o
+next_in d code xs o is = all_by d code xs ∙ ap (λ (p : Option Found). all_from d code p) (sym is)
+
 -- the boxes after a box that is found are the last ones
 abbrev pub EndsIn : List TreeBox → Option Found → Type 0
 EndsIn xs None = Unit {0}
@@ -78,6 +82,5 @@ one_more code boxes rest old p f all is same so_far =
     ap (λ (fs : List Found). fs ++ all_in 1 code f.after) (map-append (found_at boxes) old (p ∷ []))
     ∙ append_assoc (map (found_at boxes) old) (found_at boxes p ∷ []) (all_in 1 code f.after)
     ∙ ap (λ (g : Found). map (found_at boxes) old ++ g ∷ all_in 1 code f.after) same
-    ∙ ap (λ (o : Option Found). map (found_at boxes) old ++ all_from 1 code o) is
-    ∙ ap (λ (fs : List Found). map (found_at boxes) old ++ fs) (sym (all_by 1 code rest))
+    ∙ ap (λ (fs : List Found). map (found_at boxes) old ++ fs) (sym (next_in 1 code rest (Some f) is))
     ∙ so_far

@@ -1,8 +1,8 @@
 -- The tracks of a movie by their places.
 use Rattle.std.proofs.Common.{◌≡◌, ℕ, zero, suc, Bool, true, false, ◌+◌, ◌-◌, ◌<◌, ◌≤◌, List, [], ◌∷◌, ◌++◌, length}
 use Rattle.std.proofs.Common.{map, drop, get_or, None, Some, Result}
-use Rattle.std.proofs.Common.{Err, refl, sym, ap, subst, ◌∙◌, arith, append_assoc, append-nil}
-use Rattle.std.specs.Prelude.{IfSome, ◌==◌}
+use Rattle.std.proofs.Common.{Err, refl, sym, ap, subst, ◌∙◌, arith, append-nil}
+use Rattle.std.specs.Prelude.{IfSome, ◌==◌, if◌then◌else◌}
 use Rattle.std.specs.declared.option.Option.{Option}
 use Rattle.std.proofs.Math.ListN.{drop_of_length-le}
 use Rattle.std.proofs.lemmas.Bool.{ne_eqb}
@@ -19,6 +19,8 @@ use Rattle.mp4_movie.specs.declared.error.MovieError.{MovieError}
 use Rattle.mp4_movie.specs.declared.error.MovieError.TheVariants as errors
 use Rattle.mp4_movie.specs.declared.info.TrackInfo.{TrackInfo}
 use Rattle.mp4_movie.specs.declared.places.TrakPlace.{TrakPlace}
+use Rattle.mp4_lemmas.proofs.Outcomes.{both_known}
+use Rattle.mp4_movie.proofs.Chains.{with_more}
 use Rattle.mp4_walk.specs.FileBoxes.{boxes_of}
 use Rattle.mp4_walk.specs.declared.tree_box.TreeBox.{TreeBox}
 
@@ -27,15 +29,16 @@ pub of_movie : (bytes : Option (List ℕ)) (boxes : List TreeBox) (places : List
     (P : List ℕ → List Found → Type 0) → IsMovie bytes boxes places
     → IfSome bytes (λ file. P file (map (found_at boxes) places))
     → IfSome bytes (λ file. P file (traks (boxes_of file)))
-of_movie None boxes places P is h = tt
-of_movie (Some file) boxes places P is h =
-    subst (λ (fs : List Found). P file fs) (is.are ∙ ap (λ (xs : List TreeBox). traks xs) is.known) h
+of_movie bytes boxes places P is h =
+    both_known bytes bytes refl h is.known
+    (λ file k known. subst (λ (fs : List Found). P file fs) (is.are ∙ ap (λ (xs : List TreeBox). traks xs) known) k)
 
 pub of_boxes : (bytes : Option (List ℕ)) (boxes : List TreeBox) (places : List TrakPlace)
     (P : List ℕ → List TreeBox → Type 0) → IsMovie bytes boxes places → IfSome bytes (λ file. P file boxes)
     → IfSome bytes (λ file. P file (boxes_of file))
-of_boxes None boxes places P is h = tt
-of_boxes (Some file) boxes places P is h = subst (λ (xs : List TreeBox). P file xs) is.known h
+of_boxes bytes boxes places P is h =
+    both_known bytes bytes refl h is.known
+    (λ file k known. subst (λ (xs : List TreeBox). P file xs) known k)
 
 -- no track has a number that is too large
 pub none_past : {A : Type 0} (read : List TreeBox → Result A Problem) (k : ℕ) (fs : List Found) → length fs ≤ k
@@ -55,17 +58,6 @@ at_place read (suc k) boxes (q ∷ qs) p less =
     let more : (suc k == 0) ≡ false = ne_eqb _ _ (λ z. absurd (omega (arith, z))) in
     let one : suc k - 1 ≡ k = omega arith in
     rw (more, one) (at_place read k boxes qs p (omega (arith, less)))
-
--- what is known of one more track
-pub info_more : (file : List ℕ) (number : ℕ) (fs : List Found) (old : List TrackInfo) (f : Found) (t : TrackInfo)
-    → drop number fs ≡ f ∷ drop (number + 1) fs → IsInfo file number f t
-    → ((more : List TrackInfo) → AreInfos file number (drop number fs) more → AreInfos file 0 fs (old ++ more))
-    → (more : List TrackInfo) → AreInfos file (number + 1) (drop (number + 1) fs) more
-    → AreInfos file 0 fs ((old ++ t ∷ []) ++ more)
-info_more file number fs old f t is known so_far more h =
-    subst (λ (ts : List TrackInfo). AreInfos file 0 fs ts) (sym (append_assoc old (t ∷ []) more))
-    (so_far (t ∷ more)
-    (subst (λ (gs : List Found). AreInfos file number gs (t ∷ more)) (sym is) (known, h)))
 
 pub returns_at : {A : Type 0} (bytes : Option (List ℕ)) (read : List ℕ → List TreeBox → Result A Problem) (number : ℕ)
     (boxes : List TreeBox) (places : List TrakPlace) (p : TrakPlace) (trak : List TreeBox) (r : Result A MovieError)
@@ -107,72 +99,66 @@ abbrev pub InfosSoFar : List ℕ → List Found → ℕ → List TrackInfo → T
 InfosSoFar file fs number known =
     (more : List TrackInfo) → AreInfos file number (drop number fs) more → AreInfos file 0 fs (known ++ more)
 
-pub one_more_info : (now bytes : Option (List ℕ)) (boxes : List TreeBox) (places : List TrakPlace) (number : ℕ)
-    (p : TrakPlace) (old new : List TrackInfo) (t : TrackInfo) → now ≡ bytes → number < length places
-    → new ≡ old ++ t ∷ []
-    → IfSome now (λ file. IsInfo file number (found_at boxes (get_or places number p)) t)
-    → IfSome bytes (λ file. InfosSoFar file (map (found_at boxes) places) number old)
-    → IfSome bytes (λ file. InfosSoFar file (map (found_at boxes) places) (number + 1) new)
-one_more_info now None boxes places number p old new t same less is known so_far = tt
-one_more_info now (Some file) boxes places number p old new t same less is known so_far =
-    let here = subst (λ (o : Option (List ℕ)).
-    IfSome o (λ f. IsInfo f number (found_at boxes (get_or places number p)) t)) same known in
-    subst (λ (ts : List TrackInfo). InfosSoFar file (map (found_at boxes) places) (number + 1) ts) (sym is)
-    (info_more file number (map (found_at boxes) places) old (found_at boxes (get_or places number p)) t
-    (from_place number boxes places p less) here so_far)
-
--- at the end nothing is left
-pub infos_all : (bytes : Option (List ℕ)) (boxes : List TreeBox) (places : List TrakPlace) (number : ℕ)
-    (known : List TrackInfo) → length places ≤ number
-    → IfSome bytes (λ file. InfosSoFar file (map (found_at boxes) places) number known)
-    → IfSome bytes (λ file. AreInfos file 0 (map (found_at boxes) places) known)
-infos_all None boxes places number known past h = tt
-infos_all (Some file) boxes places number known past h =
+pub one_more_info : (file : List ℕ) (boxes : List TreeBox) (places : List TrakPlace) (number : ℕ) (p : TrakPlace)
+    (old new : List TrackInfo) (t : TrackInfo) → number < length places → new ≡ old ++ t ∷ []
+    → IsInfo file number (found_at boxes (get_or places number p)) t
+    → InfosSoFar file (map (found_at boxes) places) number old
+    → InfosSoFar file (map (found_at boxes) places) (number + 1) new
+one_more_info file boxes places number p old new t less items known so_far = λ more h.
     let fs = map (found_at boxes) places in
-    let none : drop number fs ≡ [] = drop_of_length-le fs (omega (arith, length-map places (found_at boxes), past)) in
-    subst (λ (ts : List TrackInfo). AreInfos file 0 fs ts) (append-nil known)
-    (h [] (subst (λ (gs : List Found). AreInfos file number gs []) (sym none) tt))
+    with_more (λ (ts : List TrackInfo). AreInfos file 0 fs ts) old new (t ∷ []) more items
+    (so_far (t ∷ more)
+    (subst (λ (gs : List Found). AreInfos file number gs (t ∷ more)) (sym (from_place number boxes places p less))
+    (known, h)))
 
--- the search for a track_ID: a track has another one
-pub other_on : (now bytes : Option (List ℕ)) (boxes : List TreeBox) (places : List TrakPlace) (number id : ℕ)
-    (p : TrakPlace) (trak : List TreeBox) (has : Bool) → now ≡ bytes → number < length places
-    → trak ≡ drop (get_or places number p).first boxes → has ≡ false
-    → IfSome now (λ file. has ≡ has_id file id trak)
-    → IfSome bytes (λ file. first_with file id 0 (map (found_at boxes) places)
-    ≡ first_with file id number (drop number (map (found_at boxes) places)))
-    → IfSome bytes (λ file. first_with file id 0 (map (found_at boxes) places)
-    ≡ first_with file id (number + 1) (drop (number + 1) (map (found_at boxes) places)))
-other_on now None boxes places number id p trak has same less is other known h = tt
-other_on now (Some file) boxes places number id p trak has same less is other known h =
-    let here = subst (λ (o : Option (List ℕ)). IfSome o (λ f. has ≡ has_id f id trak)) same known in
-    let not : has_id file id (drop (get_or places number p).first boxes) ≡ false =
-    ap (λ (xs : List TreeBox). has_id file id xs) (sym is) ∙ sym here ∙ other in
-    h ∙ ap (λ (gs : List Found). first_with file id number gs) (from_place number boxes places p less) ∙ rw not refl
+-- nothing is left at the end
+none_left : (number : ℕ) (boxes : List TreeBox) (places : List TrakPlace) → length places ≤ number
+    → drop number (map (found_at boxes) places) ≡ []
+none_left number boxes places past =
+    let fs = map (found_at boxes) places in
+    drop_of_length-le fs (omega (arith, length-map places (found_at boxes), past))
 
--- it has this one
-pub this_one : (now bytes : Option (List ℕ)) (boxes : List TreeBox) (places : List TrakPlace) (number id : ℕ)
-    (p : TrakPlace) (trak : List TreeBox) (has : Bool) → now ≡ bytes → number < length places
-    → trak ≡ drop (get_or places number p).first boxes → has ≡ true
-    → IfSome now (λ file. has ≡ has_id file id trak)
-    → IfSome bytes (λ file. first_with file id 0 (map (found_at boxes) places)
-    ≡ first_with file id number (drop number (map (found_at boxes) places)))
-    → IfSome bytes (λ file. Some number ≡ first_with file id 0 (map (found_at boxes) places))
-this_one now None boxes places number id p trak has same less is own known h = tt
-this_one now (Some file) boxes places number id p trak has same less is own known h =
-    let here = subst (λ (o : Option (List ℕ)). IfSome o (λ f. has ≡ has_id f id trak)) same known in
-    let it : has_id file id (drop (get_or places number p).first boxes) ≡ true =
-    ap (λ (xs : List TreeBox). has_id file id xs) (sym is) ∙ sym here ∙ own in
-    sym (h ∙ ap (λ (gs : List Found). first_with file id number gs) (from_place number boxes places p less)
-    ∙ rw it refl)
+pub infos_all : (file : List ℕ) (boxes : List TreeBox) (places : List TrakPlace) (number : ℕ) (known : List TrackInfo)
+    → length places ≤ number → InfosSoFar file (map (found_at boxes) places) number known
+    → AreInfos file 0 (map (found_at boxes) places) known
+infos_all file boxes places number known past h =
+    subst (λ (ts : List TrackInfo). AreInfos file 0 (map (found_at boxes) places) ts) (append-nil known)
+    (h [] (subst (λ (gs : List Found). AreInfos file number gs []) (sym (none_left number boxes places past)) tt))
+
+-- the tracks before a number have another track_ID
+abbrev pub OthersBefore : List ℕ → List Found → ℕ → ℕ → Type 0
+OthersBefore file fs id number = first_with file id 0 fs ≡ first_with file id number (drop number fs)
+
+-- the first track with a track_ID, by whether the next one has it
+next_with : (file : List ℕ) (boxes : List TreeBox) (places : List TrakPlace) (number id : ℕ) (p : TrakPlace)
+    (trak : List TreeBox) (has : Bool) → number < length places → trak ≡ drop (get_or places number p).first boxes
+    → has ≡ has_id file id trak → OthersBefore file (map (found_at boxes) places) id number
+    → first_with file id 0 (map (found_at boxes) places)
+    ≡ (if has then Some number else first_with file id (number + 1) (drop (number + 1) (map (found_at boxes) places)))
+next_with file boxes places number id p trak has less is known h =
+    let same : has_id file id (drop (get_or places number p).first boxes) ≡ has =
+    ap (λ (xs : List TreeBox). has_id file id xs) (sym is) ∙ sym known in
+    h ∙ ap (λ (gs : List Found). first_with file id number gs) (from_place number boxes places p less)
+    ∙ ap (λ (b : Bool). if b then Some number else first_with file id (number + 1) (drop (number + 1) (map (found_at
+    boxes) places))) same
+
+pub other_on : (file : List ℕ) (boxes : List TreeBox) (places : List TrakPlace) (number id : ℕ) (p : TrakPlace)
+    (trak : List TreeBox) (has : Bool) → number < length places → trak ≡ drop (get_or places number p).first boxes
+    → has ≡ false → has ≡ has_id file id trak → OthersBefore file (map (found_at boxes) places) id number
+    → OthersBefore file (map (found_at boxes) places) id (number + 1)
+other_on file boxes places number id p trak has less is other known h =
+    next_with file boxes places number id p trak has less is known h ∙ rw other refl
+
+pub this_one : (file : List ℕ) (boxes : List TreeBox) (places : List TrakPlace) (number id : ℕ) (p : TrakPlace)
+    (trak : List TreeBox) (has : Bool) → number < length places → trak ≡ drop (get_or places number p).first boxes
+    → has ≡ true → has ≡ has_id file id trak → OthersBefore file (map (found_at boxes) places) id number
+    → Some number ≡ first_with file id 0 (map (found_at boxes) places)
+this_one file boxes places number id p trak has less is own known h =
+    sym (next_with file boxes places number id p trak has less is known h ∙ rw own refl)
 
 -- none has it
-pub no_one : (bytes : Option (List ℕ)) (boxes : List TreeBox) (places : List TrakPlace) (number id : ℕ)
-    → length places ≤ number
-    → IfSome bytes (λ file. first_with file id 0 (map (found_at boxes) places)
-    ≡ first_with file id number (drop number (map (found_at boxes) places)))
-    → IfSome bytes (λ file. None ≡ first_with file id 0 (map (found_at boxes) places))
-no_one None boxes places number id past h = tt
-no_one (Some file) boxes places number id past h =
-    let fs = map (found_at boxes) places in
-    let none : drop number fs ≡ [] = drop_of_length-le fs (omega (arith, length-map places (found_at boxes), past)) in
-    sym (h ∙ ap (λ (gs : List Found). first_with file id number gs) none)
+pub no_one : (file : List ℕ) (boxes : List TreeBox) (places : List TrakPlace) (number id : ℕ)
+    → length places ≤ number → OthersBefore file (map (found_at boxes) places) id number
+    → None ≡ first_with file id 0 (map (found_at boxes) places)
+no_one file boxes places number id past h =
+    sym (h ∙ ap (λ (gs : List Found). first_with file id number gs) (none_left number boxes places past))

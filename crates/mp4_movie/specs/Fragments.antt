@@ -1,18 +1,16 @@
 -- The fragments of tracks (ISO/IEC 14496-12, 8.8), by the values of their boxes.
-use Rattle.std.specs.Prelude.{◌≡◌, ℕ, pos, ◌≤◌, ◌^◌, ◌==◌, ◌||◌, ◌⊎◌, Bool, List, [], ◌∷◌, length, Result, Ok, Err}
-use Rattle.std.specs.Prelude.{None}
-use Rattle.std.specs.Prelude.{Some, if◌then◌else◌}
+use Rattle.std.specs.Prelude.{◌≡◌, ℕ, pos, ◌≤◌, ◌^◌, ◌||◌, ◌⊎◌, Bool, List, [], ◌∷◌, length, Result, Ok, Err}
+use Rattle.std.specs.Prelude.{None, Some, if◌then◌else◌}
 use Rattle.std.specs.Option.{is_some}
 use Rattle.std.specs.declared.option.Option.{Option}
-use Rattle.mp4_flat.specs.Boxes.{reads_trex}
 use Rattle.mp4_flat.specs.declared.tfdt.TfdtBox.{TfdtBox}
 use Rattle.mp4_flat.specs.declared.trex.TrexBox.{TrexBox}
 use Rattle.mp4_frame.specs.FourCC.{four_cc_of}
 use Rattle.mp4_frame.specs.declared.codes.TheConstants as codes
-use Rattle.mp4_movie.specs.Levels.{Found, first_in, all_in, after_of}
+use Rattle.mp4_movie.specs.Defaults.{defaults_in, trexes}
+use Rattle.mp4_movie.specs.Levels.{Found, all_in}
 use Rattle.mp4_movie.specs.Problems.{Problem, NoBase, NoTrex, Records, Returns, ◌>>=◌}
 use Rattle.mp4_movie.specs.declared.error.BoxError.{BoxError}
-use Rattle.mp4_movie.specs.Reads.{value_at}
 use Rattle.mp4_movie.specs.Tables.{now_of}
 use Rattle.mp4_movie.specs.Trafs.{Value, map_ok, traf_of}
 use Rattle.mp4_movie.specs.declared.error.MovieError.{MovieError}
@@ -84,30 +82,6 @@ fragment_at file defaults moof end boxes =
 
 abbrev pub ReturnsAs : {A C : Type 0} → (A → C) → Result A MovieError → Result C Problem → Type 0
 ReturnsAs view result r = Returns (map_ok view result) r
-
--- the trex of a movie: children of the first mvex of the first moov (8.8.3)
-abbrev pub trexes : List TreeBox → List Found
-trexes boxes =
-    all_in 2 (four_cc_of codes.TREX)
-    (after_of (first_in 1 (four_cc_of codes.MVEX) (after_of (first_in 0 (four_cc_of codes.MOOV) boxes))))
-
-abbrev pub ok_of : Result TrexBox Problem → Option TrexBox
-ok_of (Ok v) = Some v
-ok_of (Err _) = None
-
-abbrev pub of_track : ℕ → Option TrexBox → Option TrexBox
-of_track id None = None
-of_track id (Some v) = if v.track_id == id then Some v else None
-
-abbrev pub or_else : Option TrexBox → Option TrexBox → Option TrexBox
-or_else None o = o
-or_else (Some v) o = Some v
-
--- the defaults of a track: the first readable trex with its track_ID
-abbrev pub defaults_in : List ℕ → ℕ → List Found → Option TrexBox
-defaults_in file id [] = None
-defaults_in file id (f ∷ fs) =
-    or_else (of_track id (ok_of (value_at reads_trex codes.TREX file f.box))) (defaults_in file id fs)
 
 -- the fragment as `mp4_samples` takes it, if the samples of the track before it end at `time`
 pub record IsFragmentOf (x : Piece) (time : ℕ) (f : Fragment) : Type 0 where

@@ -7,4 +7,5 @@ pub mod Movies
 pub mod Ends
 pub mod Infos
 pub mod Trafs
+pub mod Defaults
 pub mod Fragments

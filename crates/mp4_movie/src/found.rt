@@ -48,7 +48,7 @@ pub fn first_value<B: ReadBox + Drop, S: Source>(
         (λ r. Records r (required B.reads code file (first_in depth (four_cc_of code) level.now)))) }
     ensures kept { walk.new ≡ walk.old }
 {
-    match first_in(level, depth, FourCC::from(code)) {
+    match first_in(level, depth, code) {
         Some(place) => value_at::<B, S>(alloc, walk, code, &place.found),
         None => Ok(Err(BoxError::Missing {
             code: FourCC::from(code),
@@ -86,7 +86,7 @@ pub fn optional<B: ReadBox + Drop, S: Source>(
         (λ file. optional B.reads code file (first_in depth (four_cc_of code) level.now)) }
     ensures kept { walk.new ≡ walk.old }
 {
-    let Some(place) = first_in(level, depth, FourCC::from(code)) else {
+    let Some(place) = first_in(level, depth, code) else {
         return Ok(None);
     };
     match value_at::<B, S>(alloc, walk, code, &place.found)? {

@@ -54,7 +54,7 @@ pub fn timescale<S: Source>(
     ensures value { IfSome walk.old.bytes (λ file. IfOk result (λ r. Records r (timescale file trak.now))) }
     ensures kept { walk.new ≡ walk.old }
 {
-    let Some(mdia) = first_in(trak, 2, FourCC::from(codes::MDIA)) else {
+    let Some(mdia) = first_in(trak, 2, codes::MDIA) else {
         return Ok(Err(BoxError::Missing {
             code: FourCC::from(codes::MDIA),
         }));
@@ -74,7 +74,7 @@ pub fn handler<S: Source>(
     ensures value { IfSome walk.old.bytes (λ file. IfOk result (λ r. Records r (handler file trak.now))) }
     ensures kept { walk.new ≡ walk.old }
 {
-    let Some(mdia) = first_in(trak, 2, FourCC::from(codes::MDIA)) else {
+    let Some(mdia) = first_in(trak, 2, codes::MDIA) else {
         return Ok(Err(BoxError::Missing {
             code: FourCC::from(codes::MDIA),
         }));

@@ -19,9 +19,10 @@ mod track_fragment;
 mod traf;
 
 pub use compact_sizes::sizes_fault;
+pub use defaults::{Defaults, defaults_of};
 pub use error::{BoxError, MovieError};
 pub use info::TrackInfo;
-pub use level::{BoxLocation, first_in};
+pub use level::{BoxLocation, boxes_after, first_in};
 pub use moof::MoofFragments;
 pub use movie::Movie;
 pub use reading::read_at;

@@ -5,7 +5,7 @@ ghost use Rattle.std.specs.BTreeMap.{get};
 ghost use Rattle.std.specs.Ordering.{nat_cmp};
 ghost use Rattle.mp4_frame.specs.FourCC.{four_cc_of};
 ghost use Rattle.mp4_frame.specs.declared.codes.TheConstants as names;
-ghost use Rattle.mp4_movie.specs.Fragments.{AreFragments, AreOfMoof, AreOfMoofs, IsStep, defaults_in, trexes};
+ghost use Rattle.mp4_movie.specs.Fragments.{AreFragments, AreOfMoof, AreOfMoofs, IsStep};
 ghost use Rattle.mp4_movie.specs.Levels.{all_in};
 
 use crate::defaults::defaults_of;
@@ -14,7 +14,7 @@ use crate::fragment::fragment_in;
 use crate::level::first_in;
 use crate::track_fragment::TrackFragment;
 use mp4_flat::TrexBox;
-use mp4_frame::{FourCC, codes};
+use mp4_frame::codes;
 use mp4_walk::{BoxWalk, Source, TreeBox};
 use std::alloc::Global;
 use std::collections::BTreeMap;
@@ -82,7 +82,7 @@ fn fragments_in<S: Source>(
     let mut fragments = Vec::new(alloc);
     let mut end = Some(moof);
     let mut rest = boxes;
-    'trafs: while let Some(place) = first_in(rest, 1, FourCC::from(codes::TRAF)) {
+    'trafs: while let Some(place) = first_in(rest, 1, codes::TRAF) {
         let parsed = parse_traf(alloc, walk, place.after, defaults, moof, end)?;
         fragments.push(parsed.fragment)?;
         end = parsed.next;
@@ -105,7 +105,7 @@ fn moofs_in<S: Source>(
 {
     let mut moofs = Vec::new(alloc);
     let mut rest = boxes;
-    'moofs: while let Some(place) = first_in(rest, 0, FourCC::from(codes::MOOF)) {
+    'moofs: while let Some(place) = first_in(rest, 0, codes::MOOF) {
         let position = place.found.position;
         let fragments = fragments_in(alloc, walk, place.after, defaults, position)?;
         moofs.push(MoofFragments {
@@ -117,22 +117,6 @@ fn moofs_in<S: Source>(
     Ok(moofs)
 }
 
-/// Returns the defaults of the movie in `boxes`, the boxes of a file.
-fn movie_defaults<S: Source>(
-    alloc: Global,
-    walk: &mut BoxWalk<S>,
-    boxes: &[TreeBox],
-) -> io::Result<BTreeMap<u32, TrexBox>>
-    ensures value { IfSome walk.old.bytes (λ file. IfOk result (λ defaults. (q : ℕ)
-        → get nat_cmp defaults q ≡ defaults_in file q (trexes boxes.now))) }
-    ensures kept { walk.new ≡ walk.old }
-{
-    match first_in(boxes, 0, FourCC::from(codes::MOOV)) {
-        Some(movie) => defaults_of(alloc, walk, movie.after),
-        None => Ok(BTreeMap::new(alloc)),
-    }
-}
-
 /// Returns the fragments of each `moof` of a file with these boxes.
 pub fn fragments_of<S: Source>(
     alloc: Global,
@@ -142,6 +126,6 @@ pub fn fragments_of<S: Source>(
     ensures value { IfSome walk.old.bytes (λ file. IfOk result (λ moofs. AreFragments file boxes.now moofs.items)) }
     ensures kept { walk.new ≡ walk.old }
 {
-    let defaults = movie_defaults(alloc, walk, boxes)?;
-    moofs_in(alloc, walk, boxes, &defaults)
+    let defaults = defaults_of(alloc, walk, boxes)?;
+    moofs_in(alloc, walk, boxes, &defaults.by_track)
 }

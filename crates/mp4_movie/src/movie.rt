@@ -1,6 +1,7 @@
 //! The movie of a file.
 
-ghost use Rattle.std.specs.Prelude.{◌≡◌, drop, length, map, IfOk, IfSome};
+ghost use Rattle.std.specs.Prelude.{◌≡◌, length, map, IfOk, IfSome};
+ghost use Rattle.mp4_movie.specs.Defaults.{AreDefaults, trexes};
 ghost use Rattle.mp4_movie.specs.Ends.{time_end_of};
 ghost use Rattle.mp4_movie.specs.Fragments.{AreFragments};
 ghost use Rattle.mp4_movie.specs.Infos.{AreInfos, IsInfo};
@@ -10,9 +11,10 @@ ghost use Rattle.mp4_movie.specs.Problems.{ReturnsFor, ReturnsBoxes};
 ghost use Rattle.mp4_movie.specs.Reads.{IsReadAs, own_reading};
 ghost use Rattle.mp4_walk.specs.FileBoxes.{boxes_of};
 
+use crate::defaults::{Defaults, defaults_of};
 use crate::error::{BoxError, MovieError};
 use crate::info::{TrackInfo, handler, timescale, track_id};
-use crate::level::first_in;
+use crate::level::{boxes_after, first_in};
 use crate::moof::{MoofFragments, fragments_of};
 use crate::places::{TrakPlace, places_of};
 use crate::reading::read_at;
@@ -47,7 +49,7 @@ impl<S: Source> Model for Movie<S> {
 fn inside<'a>(level: &'a [TreeBox], depth: u64, code: u32) -> Result<&'a [TreeBox], MovieError>
     ensures { ReturnsBoxes result (inside depth code level.now) }
 {
-    match first_in(level, depth, FourCC::from(code)) {
+    match first_in(level, depth, code) {
         Some(place) => Ok(place.after),
         None => Err(MovieError::Box(BoxError::Missing {
             code: FourCC::from(code),
@@ -90,13 +92,6 @@ fn time_end_in<S: Source>(
         Some(boxes) => Ok(boxes.time_end()),
         None => Ok(0),
     }
-}
-
-/// Returns `boxes` without the first `first`.
-fn boxes_after(boxes: &[TreeBox], first: usize) -> &[TreeBox]
-    ensures { result.now ≡ drop first boxes.now }
-{
-    &boxes[first.min(boxes.len())..]
 }
 
 /// Returns the headers of the track `number` at `place`.
@@ -235,16 +230,17 @@ impl<S: Source> Movie<S> {
         })
     }
 
-    /// Returns the source.
-    pub fn into_source(self) -> S
-        ensures bytes { S.all result ≡ self.bytes }
+    /// Returns a walk over the file, which reads its boxes, and the list of these.
+    pub fn into_parts(self) -> (BoxWalk<S>, Vec<TreeBox>)
+        ensures bytes { result.0.bytes ≡ self.bytes }
+        ensures boxes { result.1.items ≡ self.boxes }
     {
         let Movie {
             walk,
-            boxes: _,
+            boxes,
             tracks: _,
         } = self;
-        walk.into_source()
+        (walk, boxes)
     }
 
     /// Returns the boxes of the file in order.
@@ -303,6 +299,15 @@ impl<S: Source> Movie<S> {
         ensures kept { self.new ≡ self.old }
     {
         time_end_at(alloc, &mut self.walk, &self.boxes, &self.tracks, number)
+    }
+
+    /// Returns the defaults of the tracks for their fragments.
+    pub fn defaults(&mut self, alloc: Global) -> io::Result<Defaults>
+        ensures value { IfSome self.old.bytes
+            (λ file. IfOk result (λ defaults. AreDefaults file (trexes (boxes_of file)) defaults)) }
+        ensures kept { self.new ≡ self.old }
+    {
+        defaults_of(alloc, &mut self.walk, &self.boxes)
     }
 
     /// Returns the fragments of all tracks, by `moof` in the order of the file. A `traf` that is no fragment gives the

@@ -34,7 +34,7 @@ fn sizes_of<S: Source>(
     if let Some(stsz) = optional::<StszBox, S>(alloc, walk, stbl, DEPTH, codes::STSZ)? {
         return Ok(Some(stsz));
     }
-    match first_in(stbl, DEPTH, FourCC::from(codes::STZ2)) {
+    match first_in(stbl, DEPTH, codes::STZ2) {
         Some(place) => Ok(Some(compact_sizes(alloc, walk, &place.found)?)),
         None => Ok(None),
     }

@@ -13,7 +13,7 @@ use crate::error::MovieError;
 use crate::found::{optional, required, value_at};
 use crate::level::first_in;
 use mp4_flat::TfdtBox;
-use mp4_frame::{FourCC, codes};
+use mp4_frame::codes;
 use mp4_tables::{TfhdBox, TrunBox};
 use mp4_walk::{BoxWalk, Source, TreeBox};
 use std::alloc::Global;
@@ -68,7 +68,7 @@ fn runs_in<S: Source>(
 {
     let mut runs = Vec::new(alloc);
     let mut rest = boxes;
-    while let Some(place) = first_in(rest, DEPTH, FourCC::from(codes::TRUN)) {
+    while let Some(place) = first_in(rest, DEPTH, codes::TRUN) {
         let run = run_at(alloc, walk, &place.found)?;
         keep(&mut runs, run)?;
         rest = place.after;

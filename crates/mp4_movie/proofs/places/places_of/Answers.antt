@@ -2,20 +2,18 @@ use Rattle.std.proofs.Common.{◌≡◌, ℕ, drop, ◌++◌, ◌∙◌, List, N
 use Rattle.std.specs.declared.option.Option.{Option}
 use Rattle.mp4_frame.specs.FourCC.{four_cc_of}
 use Rattle.mp4_frame.specs.declared.codes.TheConstants as codes
-use Rattle.mp4_frame.specs.declared.four_cc.FourCC.{FourCC}
 use Rattle.mp4_walk.specs.declared.tree_box.TreeBox.{TreeBox}
 use Rattle.mp4_movie.specs.Levels.{Found, all_in, after_of, first_in}
 use Rattle.mp4_movie.specs.Movies.{found_at, traks}
 use Rattle.mp4_movie.specs.declared.places.TrakPlace.{TrakPlace}
-use Rattle.mp4_movie.proofs.Levels.{EndsIn, all_by, all_from, end_of_end, ends_in, one_more}
+use Rattle.mp4_movie.proofs.Levels.{EndsIn, end_of_end, ends_in, next_in, one_more}
 use Rattle.mp4_movie.proofs.places.places_of.Goals as goal
 
 pub loop-place-init : goal.loop-place-init
 loop-place-init c =
     let boxes = c.args.boxes.now in
     let f : Found = record { box = c.in-Some.movie.found; after = c.in-Some.movie.after.now } in
-    let is : Some f ≡ first_in 0 (four_cc_of codes.MOOV) boxes = c.in-Some.ensures.first
-    ∙ ap (λ (code : FourCC). first_in 0 code boxes) c.from.ensures in
+    let is : Some f ≡ first_in 0 (four_cc_of codes.MOOV) boxes = c.in-Some.ensures.first in
     let end : EndsIn boxes (Some f) =
     subst (λ (o : Option Found). EndsIn boxes o) (sym is) (ends_in 0 (four_cc_of codes.MOOV) boxes) in
     record {
@@ -33,8 +31,7 @@ loop-place-preserved c =
     let old = c.loop-place.places.items in
     let f : Found = record { box = c.in-Some-first_in.place.found; after = c.in-Some-first_in.place.after.now } in
     let p : TrakPlace = record { found = f.box; first = c.saturating_sub.result } in
-    let is : Some f ≡ first_in 1 (four_cc_of codes.TRAK) rest = c.in-Some-first_in.ensures.first
-    ∙ ap (λ (code : FourCC). first_in 1 code rest) c.from-in-loop-place.ensures in
+    let is : Some f ≡ first_in 1 (four_cc_of codes.TRAK) rest = c.in-Some-first_in.ensures.first in
     let end : EndsIn rest (Some f) =
     subst (λ (o : Option Found). EndsIn rest o) (sym is) (ends_in 1 (four_cc_of codes.TRAK) rest) in
     let ends = end_of_end boxes rest f.after c.loop-place.invariant.ends
@@ -54,11 +51,7 @@ pub returns : goal.returns
 returns c =
     let boxes = c.args.boxes.now in
     let rest = c.loop-place.rest.now in
-    let is : None ≡ first_in 1 (four_cc_of codes.TRAK) rest = c.in_default-first_in.ensures.first
-    ∙ ap (λ (code : FourCC). first_in 1 code rest) c.from-in-loop-place.ensures in
     sym (append-nil (map (found_at boxes) c.loop-place.places.items))
-    ∙ ap (λ (o : Option Found). map (found_at boxes) c.loop-place.places.items ++ all_from 1 (four_cc_of codes.TRAK) o)
-    is
     ∙ ap (λ (fs : List Found). map (found_at boxes) c.loop-place.places.items ++ fs)
-    (sym (all_by 1 (four_cc_of codes.TRAK) rest))
+    (sym (next_in 1 (four_cc_of codes.TRAK) rest None c.in_default-first_in.ensures.first))
     ∙ c.loop-place.invariant.all
