@@ -58,9 +58,9 @@ def visual(data, at):
             "compressorname": name, "depth": number(data, at + 74, 2)}
 
 
-def sound(data, at, size, front):
+def sound(data, at, size, front, stsd_version):
     fields = {"data_reference_index": number(data, at + 6, 2)}
-    if front in QUICKTIME_SOUNDS.values():
+    if stsd_version == 0:
         fields["version"] = number(data, at + 8, 2)
     fields.update(channelcount=number(data, at + 16, 2), samplesize=number(data, at + 18, 2),
                   samplerate=number(data, at + 24, 4) / 65536)
@@ -173,14 +173,14 @@ class Walk:
         self.data, self.handler = data, None
         self.boxes = self.level(0, 0, len(data))
 
-    def brief(self, name, content, end, parent, front):
+    def brief(self, name, content, end, parent, front, stsd_version):
         """Returns the fields at the front of a box that holds boxes, or None if the box is too short for them."""
         data, size = self.data, end - content
         if parent == b"stsd":
             if front == VIDEO_ENTRY:
                 return visual(data, content) if size >= VIDEO_ENTRY else None
             if front in (SOUND_ENTRY, *QUICKTIME_SOUNDS.values()):
-                return sound(data, content, size, front) if size >= SOUND_ENTRY else None
+                return sound(data, content, size, front, stsd_version) if size >= SOUND_ENTRY else None
             return {"data_reference_index": number(data, content + 6, 2)} if size >= 8 else None
         if name in (b"stsd", b"dref"):
             return dict(full(data, content), entry_count=number(data, content + 4, 4)) if size >= 8 else None
@@ -188,7 +188,7 @@ class Walk:
             return full(data, content)
         return {}
 
-    def leaf(self, name, at, content, end, parent, front):
+    def leaf(self, name, at, content, end, parent, front, stsd_version):
         """Returns the fields of a box that the walk does not enter, or its fault. Returns neither if the box is not
         read."""
         data = self.data
@@ -202,7 +202,7 @@ class Walk:
         if not is_read or name == b"mp4a" and parent == b"wave":
             if parent != b"stsd":
                 return {}
-            fields = self.brief(name, content, end, parent, front)
+            fields = self.brief(name, content, end, parent, front, stsd_version)
             return {"fault": "unexpected end of input"} if fields is None else {"fields": fields}
         own = data[at:end]
         try:
@@ -258,13 +258,13 @@ class Walk:
             box.update(fault=NOT_MP4 + f"it begins with {front_text(self.data)}" if is_foreign
                        else "unexpected end of input", cut=True)
         elif before is None:
-            box.update(self.leaf(name, box["position"], content, end, parent, front))
+            box.update(self.leaf(name, box["position"], content, end, parent, front, stsd_version))
         elif depth >= DEEPEST:
             box["deep"] = True
         elif front == TEXT_ENTRY:
-            box.update(self.leaf(name, box["position"], content, end, parent, front))
+            box.update(self.leaf(name, box["position"], content, end, parent, front, stsd_version))
         else:
-            fields = self.brief(name, content, end, parent, before)
+            fields = self.brief(name, content, end, parent, before, stsd_version)
             box.update({"fault": "unexpected end of input"} if fields is None else {"fields": fields} if fields else {})
         if before is not None and depth < DEEPEST:
             first = min(content + before, end)
