@@ -4,7 +4,7 @@ use Rattle.std.proofs.Common.{sym, ap, subst, ◌∙◌, append_assoc, append-ni
 use Rattle.std.proofs.KnownBytes.{Appends-nil, Appends-trans}
 use Rattle.std.proofs.lemmas.List.{take_more}
 use Rattle.std.proofs.Common.{Result, Ok, Err, None, Some}
-use Rattle.std.specs.Prelude.{◌||◌, not, IfSome, IfOk}
+use Rattle.std.specs.Prelude.{◌||◌, IfSome, IfOk}
 use Rattle.std.specs.declared.option.Option.{Option}
 use Rattle.std.specs.Io.KnownBytes.{Appends}
 use Rattle.mp4_frame.specs.Reading.{Reading}
@@ -20,24 +20,24 @@ use Rattle.mp4_walk.specs.FileBoxes.{boxes_of}
 use Rattle.mp4_walk.specs.declared.tree_box.TreeBox.{TreeBox}
 
 -- the line of the content, if there is one
-line_if : (told : Bool) (front line : List ℕ) (found : TreeBox) → (told ≡ true → IsLine front found line)
-    → IsLineIf told front found (told_text told line)
-line_if true front line found is = is refl
+line_if : (told : Bool) (front line : List ℕ) (found : TreeBox) → (told ≡ true → IsLine found line)
+    → IsLineIf told front found (told_text told front line)
+line_if true front line found is = (line, is refl, refl)
 line_if false front line found is = refl
 
 -- the three lines of a box besides the line of its content
 pub writes_more : (front one two three : List ℕ) (found : TreeBox) (repeated lacks outside : Bool) (a b c d : Option
     (List ℕ))
-    → (repeated ≡ true → IsLine front found one) → Appends a b (told_text repeated one)
-    → (lacks ≡ true → IsLine front found two) → Appends b c (told_text lacks two)
-    → (outside ≡ true → IsLine front found three) → Appends c d (told_text outside three)
+    → (repeated ≡ true → IsLine found one) → Appends a b (told_text repeated front one)
+    → (lacks ≡ true → IsLine found two) → Appends b c (told_text lacks front two)
+    → (outside ≡ true → IsLine found three) → Appends c d (told_text outside front three)
     → WritesMore front found a d (repeated || (lacks || outside))
 writes_more front one two three found repeated lacks outside a b c d first put second put_after third put_last = (
-  told_text repeated one ++ (told_text lacks two ++ told_text outside three),
+  told_text repeated front one ++ (told_text lacks front two ++ told_text outside front three),
   (
-    told_text repeated one,
-    told_text lacks two,
-    told_text outside three,
+    told_text repeated front one,
+    told_text lacks front two,
+    told_text outside front three,
     repeated,
     lacks,
     outside,
@@ -47,8 +47,8 @@ writes_more front one two three found repeated lacks outside a b c d first put s
     refl,
     refl,
   ),
-  Appends-trans a b d (told_text repeated one) (told_text lacks two ++ told_text outside three) put
-      (Appends-trans b c d (told_text lacks two) (told_text outside three) put_after put_last),
+  Appends-trans a b d (told_text repeated front one) (told_text lacks front two ++ told_text outside front three) put
+      (Appends-trans b c d (told_text lacks front two) (told_text outside front three) put_after put_last),
 )
 
 module _ {A : Type 0} (known : BoxType → Bool) (reading : BoxType → List ℕ → ℕ → ℕ → Reading A) (bytes : Option
@@ -57,14 +57,14 @@ module _ {A : Type 0} (known : BoxType → Bool) (reading : BoxType → List ℕ
   pub writes_lines : (front first : List ℕ) (found : TreeBox) (told more : Bool) (a b c : Option (List ℕ))
       → ((content : Content A) × IfSome bytes (λ B. ShowsAs known reading B found (kind_of known found) content)
       × IsTold content told)
-      → (told ≡ true → IsLine front found first) → Appends a b (told_text told first)
+      → (told ≡ true → IsLine found first) → Appends a b (told_text told front first)
       → WritesMore front found b c more
       → WritesLines known reading bytes front found a c (told || more)
   writes_lines front first found told more a b c (content, shows, is_told) line put (rest, lines, put_rest) = (
-    told_text told first ++ rest,
+    told_text told front first ++ rest,
     (
       content,
-      told_text told first,
+      told_text told front first,
       rest,
       told,
       more,
@@ -75,7 +75,7 @@ module _ {A : Type 0} (known : BoxType → Bool) (reading : BoxType → List ℕ
       refl,
       refl,
     ),
-    Appends-trans a b c (told_text told first) rest put put_rest,
+    Appends-trans a b c (told_text told front first) rest put put_rest,
   )
 
   faults_more : (front : List ℕ) (boxes : List TreeBox) (text : List ℕ) (faulty : Bool) (found : TreeBox) (last :
@@ -110,18 +110,16 @@ module _ {A : Type 0} (known : BoxType → Bool) (reading : BoxType → List ℕ
 
   -- the lines of one more box are written
   pub faults_after : (front : List ℕ) (boxes : List TreeBox) (i : ℕ) (found : TreeBox) (a b c : Option (List ℕ))
-      (faulty here : Bool)
-      (now : Option (List ℕ)) (front_now : List ℕ) → now ≡ bytes → front_now ≡ front
-      → i < length boxes
+      (faulty here : Bool) (now : Option (List ℕ)) → now ≡ bytes → i < length boxes
       → WritesFaults known reading bytes front (take i boxes) a b faulty
-      → WritesLines known reading now front_now (get_or boxes i found) b c here
+      → WritesLines known reading now front (get_or boxes i found) b c here
       → WritesFaults known reading bytes front (take (i + 1) boxes) a c (faulty || here)
-  faults_after front boxes i found a b c faulty here now front_now same same_front inside (text, faults, appends)
+  faults_after front boxes i found a b c faulty here now same inside (text, faults, appends)
       (last, lines_now, appends_last) =
       let all = take_more boxes i found inside in
       let lines =
       subst (λ (r : Option (List ℕ)). AreLines known reading r front (get_or boxes i found) last here) same
-      (subst (λ (f : List ℕ). AreLines known reading now f (get_or boxes i found) last here) same_front lines_now) in (
+      lines_now in (
         text ++ last,
         subst (λ (xs : List TreeBox). Faults known reading bytes front xs (text ++ last) (faulty || here)) (sym all)
             (faults_more front (take i boxes) text faulty (get_or boxes i found) last here faults lines),
@@ -129,11 +127,11 @@ module _ {A : Type 0} (known : BoxType → Bool) (reading : BoxType → List ℕ
       )
 
   -- all lines of a file are written
-  pub faults_all : (front : List ℕ) (boxes : List TreeBox) (a b c : Option (List ℕ)) (faulty movie : Bool)
-      → WritesFaults known reading bytes front boxes a b faulty → Appends b c (movie_text movie front)
-      → WritesAllFaults known reading bytes boxes a c (faulty || not movie)
-  faults_all front boxes a b c faulty movie (text, faults, appends) last =
-      (front, text, faulty, movie, faults, Appends-trans a b c text (movie_text movie front) appends last, refl)
+  pub faults_all : (front : List ℕ) (boxes : List TreeBox) (a b c : Option (List ℕ)) (faulty lacks : Bool)
+      → WritesFaults known reading bytes front boxes a b faulty → Appends b c (movie_text lacks front)
+      → WritesAllFaults known reading bytes boxes a c (faulty || lacks)
+  faults_all front boxes a b c faulty lacks (text, faults, appends) last =
+      (front, text, faulty, lacks, faults, Appends-trans a b c text (movie_text lacks front) appends last, refl)
 
 -- all lines of a file whose bytes are known
 pub faults_known : {A : Type 0} (known : BoxType → Bool) (reading : BoxType → List ℕ → ℕ → ℕ → Reading A)

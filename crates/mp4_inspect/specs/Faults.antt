@@ -1,5 +1,5 @@
 -- The boxes of a file for which `mp4inspect check` writes lines, and the beginnings of these lines.
-use Rattle.std.specs.Prelude.{◌≡◌, ℕ, ◌||◌, not, Bool, true, false, List, [], ◌∷◌, ◌++◌, codes, decimal, Some, IfSome}
+use Rattle.std.specs.Prelude.{◌≡◌, ℕ, ◌||◌, Bool, true, false, List, [], ◌∷◌, ◌++◌, codes, decimal, Some, IfSome}
 use Rattle.std.specs.Prelude.{⊤}
 use Rattle.std.specs.Prelude.{if◌then◌else◌}
 use Rattle.std.specs.declared.option.Option.{Option}
@@ -13,22 +13,21 @@ use Rattle.mp4_inspect.specs.declared.content.Content.TheVariants as contents
 use Rattle.mp4_walk.specs.FileBoxes.{boxes_of}
 use Rattle.mp4_walk.specs.declared.tree_box.TreeBox.{TreeBox}
 
--- a line: the beginning of each line of the file, a position, a path and a text
-abbrev pub line_text : List ℕ → ℕ → List ℕ → List ℕ → List ℕ
-line_text front position path said =
-    front ++ (decimal position ++ (codes " " ++ (path ++ (codes ": " ++ (said ++ 10 ∷ [])))))
+-- a line: a position, a path and a text
+abbrev pub line_text : ℕ → List ℕ → List ℕ → List ℕ
+line_text position path said = decimal position ++ (codes " " ++ (path ++ (codes ": " ++ (said ++ 10 ∷ []))))
 
 -- a line of this box
-abbrev pub IsLine : List ℕ → TreeBox → List ℕ → Type 0
-IsLine front found line = (path said : List ℕ) × (line ≡ line_text front found.position path said)
+abbrev pub IsLine : TreeBox → List ℕ → Type 0
+IsLine found line = (path said : List ℕ) × (line ≡ line_text found.position path said)
 
--- a line of this box, or nothing
+-- the beginning of each line of the file and a line of this box, or nothing
 abbrev pub IsLineIf : Bool → List ℕ → TreeBox → List ℕ → Type 0
-IsLineIf true front found line = IsLine front found line
-IsLineIf false front found line = line ≡ []
+IsLineIf true front found text = (line : List ℕ) × IsLine found line × (text ≡ front ++ line)
+IsLineIf false front found text = text ≡ []
 
-abbrev pub told_text : Bool → List ℕ → List ℕ
-told_text told line = if told then line else []
+abbrev pub told_text : Bool → List ℕ → List ℕ → List ℕ
+told_text told front line = if told then front ++ line else []
 
 -- whether the content of a box has a line. A fault has one, and a box that the codec does not read has none. A box that
 -- the codec reads may have one, for chunks outside the media data or for its track_ID
@@ -80,16 +79,16 @@ abbrev pub WritesFaults : {A : Type 0} → (BoxType → Bool) → (BoxType → L
 WritesFaults known reading bytes front boxes old new faulty =
     (text : List ℕ) × Faults known reading bytes front boxes text faulty × Appends old new text
 
--- the line of a file that has no movie
+-- the line of a file that has no movie, if it has none
 abbrev pub movie_text : Bool → List ℕ → List ℕ
-movie_text movie front = if movie then [] else front ++ codes "0 moov: there is no moov, moof, meta or sidx\n"
+movie_text lacks front = told_text lacks front (codes "0 moov: there is no moov, moof, meta or sidx\n")
 
 -- all lines of a file are written, each with the same front, and whether there are any
 abbrev pub WritesAllFaults : {A : Type 0} → (BoxType → Bool) → (BoxType → List ℕ → ℕ → ℕ → Reading A)
     → Option (List ℕ) → List TreeBox → Option (List ℕ) → Option (List ℕ) → Bool → Type 0
 WritesAllFaults known reading bytes boxes old new faulty =
-    (front text : List ℕ) × (here movie : Bool) × Faults known reading bytes front boxes text here
-    × Appends old new (text ++ movie_text movie front) × (faulty ≡ (here || not movie))
+    (front text : List ℕ) × (here lacks : Bool) × Faults known reading bytes front boxes text here
+    × Appends old new (text ++ movie_text lacks front) × (faulty ≡ (here || lacks))
 
 -- the lines of a file with these bytes are written, and whether there are any
 abbrev pub WritesCheck : {A : Type 0} → (BoxType → Bool) → (BoxType → List ℕ → ℕ → ℕ → Reading A) → List ℕ

@@ -3,7 +3,7 @@
 ghost use Rattle.std.specs.Prelude.{◌≡◌, true, ◌++◌, ◌%◌, ◌==◌, slice_index, string_bytes, IfOk, OnOk, IfSome};
 ghost use Rattle.std.specs.Io.KnownBytes.{Appends};
 ghost use Rattle.mp4_inspect.specs.Content.{ShowsAs};
-ghost use Rattle.mp4_inspect.specs.Faults.{line_text, told_text, movie_text, IsLine, IsTold, WritesMore};
+ghost use Rattle.mp4_inspect.specs.Faults.{line_text, told_text, IsLine, IsTold, WritesMore};
 ghost use Rattle.mp4_inspect.specs.Faults.{WritesLines, WritesFaults, WritesAllFaults, WritesCheck};
 ghost use Rattle.mp4_inspect.specs.Kind.{kind_of};
 ghost use Rattle.mp4_inspect.specs.declared.content.Content.{Content};
@@ -58,17 +58,14 @@ struct Search {
     /// The end of the data of the last `traf`, or the beginning of the `moof` if there is none before; `None` if it is
     /// not known.
     data_end: Option<u64>,
-    /// The beginning of each line: the name of the file, if there are several files.
-    front: String,
     line: String,
 }
 
-/// Appends a line to `out`: `front`, the position, the path and the text `said`.
-fn push_line(front: &str, position: u64, path: &str, said: &str, out: &mut String) -> Result<()>
+/// Appends a line to `out`: the position, the path and the text `said`.
+fn push_line(position: u64, path: &str, said: &str, out: &mut String) -> Result<()>
     ensures line { OnOk result
-        (string_bytes out.new ≡ string_bytes out.old ++ line_text front.now position path.now said.now) }
+        (string_bytes out.new ≡ string_bytes out.old ++ line_text position path.now said.now) }
 {
-    out.push_str(front)?;
     push_number(position, out)?;
     out.push_str(" ")?;
     out.push_str(path)?;
@@ -80,19 +77,12 @@ fn push_line(front: &str, position: u64, path: &str, said: &str, out: &mut Strin
 
 /// Puts the line of the box `found` with the text `said` into `search.line`.
 fn make_line(alloc: Global, found: &TreeBox, said: &str, search: &mut Search) -> Result<()>
-    ensures line { OnOk result (IsLine (string_bytes search.new.front) found.now (string_bytes search.new.line)) }
-    ensures front { search.new.front ≡ search.old.front }
+    ensures line { OnOk result (IsLine found.now (string_bytes search.new.line)) }
 {
     let mut path = String::new(alloc);
     search.paths.push(&mut path)?;
     let mut line = String::new(alloc);
-    push_line(
-        search.front.as_str(),
-        found.position,
-        path.as_str(),
-        said,
-        &mut line,
-    )?;
+    push_line(found.position, path.as_str(), said, &mut line)?;
     search.line = line;
     Ok(())
 }
@@ -100,8 +90,7 @@ fn make_line(alloc: Global, found: &TreeBox, said: &str, search: &mut Search) ->
 /// Puts the line of a box that can't be read into `search.line`. Returns true, since there is one.
 fn tell_error(alloc: Global, found: &TreeBox, fault: &Error, search: &mut Search) -> Result<bool>
     ensures told { IfOk result (λ told. told ≡ true) }
-    ensures line { OnOk result (IsLine (string_bytes search.new.front) found.now (string_bytes search.new.line)) }
-    ensures front { search.new.front ≡ search.old.front }
+    ensures line { OnOk result (IsLine found.now (string_bytes search.new.line)) }
 {
     let text = fault_text(alloc, found, fault)?;
     make_line(alloc, found, text.as_str(), search)?;
@@ -117,9 +106,7 @@ fn tell_outside(
     word: &str,
     search: &mut Search,
 ) -> Result<bool>
-    ensures line { IfOk result
-        (λ told. told ≡ true → IsLine (string_bytes search.new.front) found.now (string_bytes search.new.line)) }
-    ensures front { search.new.front ≡ search.old.front }
+    ensures line { IfOk result (λ told. told ≡ true → IsLine found.now (string_bytes search.new.line)) }
 {
     if tally.outside == 0 {
         return Ok(false);
@@ -133,9 +120,7 @@ fn tell_outside(
 /// Puts the line of a chunk table into `search.line`, if some chunks are outside the media data. Returns whether it put
 /// a line there.
 fn tell_stray(alloc: Global, found: &TreeBox, any: &AnyBox, search: &mut Search) -> Result<bool>
-    ensures line { IfOk result
-        (λ told. told ≡ true → IsLine (string_bytes search.new.front) found.now (string_bytes search.new.line)) }
-    ensures front { search.new.front ≡ search.old.front }
+    ensures line { IfOk result (λ told. told ≡ true → IsLine found.now (string_bytes search.new.line)) }
 {
     if search.elsewhere {
         return Ok(false);
@@ -171,9 +156,7 @@ fn tell_track(
     fault: Option<TrackFault>,
     search: &mut Search,
 ) -> Result<bool>
-    ensures line { IfOk result
-        (λ told. told ≡ true → IsLine (string_bytes search.new.front) found.now (string_bytes search.new.line)) }
-    ensures front { search.new.front ≡ search.old.front }
+    ensures line { IfOk result (λ told. told ≡ true → IsLine found.now (string_bytes search.new.line)) }
 {
     let Some(fault) = fault else {
         return Ok(false);
@@ -209,9 +192,7 @@ fn fault_of_fragment(found: &TreeBox, number: u32, search: &Search) -> Option<Tr
 }
 
 /// Notes that the media data of the track may be in another file, if `is_elsewhere`.
-fn keep_elsewhere(is_elsewhere: bool, search: &mut Search) -> Result<()>
-    ensures front { search.new.front ≡ search.old.front }
-{
+fn keep_elsewhere(is_elsewhere: bool, search: &mut Search) -> Result<()> {
     if is_elsewhere {
         search.elsewhere = true;
         if let Some(track) = search.track {
@@ -224,9 +205,7 @@ fn keep_elsewhere(is_elsewhere: bool, search: &mut Search) -> Result<()>
 /// Puts the line of a box that was read into `search.line`, if it has chunks outside the media data or a faulty
 /// track_ID. Returns whether it put a line there.
 fn tell_known(alloc: Global, found: &TreeBox, any: &AnyBox, search: &mut Search) -> Result<bool>
-    ensures line { IfOk result
-        (λ told. told ≡ true → IsLine (string_bytes search.new.front) found.now (string_bytes search.new.line)) }
-    ensures front { search.new.front ≡ search.old.front }
+    ensures line { IfOk result (λ told. told ≡ true → IsLine found.now (string_bytes search.new.line)) }
 {
     match any {
         AnyBox::TkhdBox(header) => {
@@ -249,9 +228,7 @@ fn tell_value<B: Shown>(
     value: &B,
     search: &mut Search,
 ) -> Result<bool>
-    ensures line { IfOk result
-        (λ told. told ≡ true → IsLine (string_bytes search.new.front) found.now (string_bytes search.new.line)) }
-    ensures front { search.new.front ≡ search.old.front }
+    ensures line { IfOk result (λ told. told ≡ true → IsLine found.now (string_bytes search.new.line)) }
 {
     match value.any() {
         Some(any) => tell_known(alloc, found, any, search),
@@ -279,9 +256,7 @@ fn tell_content<B: Shown>(
     search: &mut Search,
 ) -> Result<bool>
     ensures told { IfOk result (IsTold content.now) }
-    ensures line { IfOk result
-        (λ told. told ≡ true → IsLine (string_bytes search.new.front) found.now (string_bytes search.new.line)) }
-    ensures front { search.new.front ≡ search.old.front }
+    ensures line { IfOk result (λ told. told ≡ true → IsLine found.now (string_bytes search.new.line)) }
 {
     match content {
         Content::Faulty(fault) => tell_error(alloc, found, fault, search),
@@ -306,9 +281,7 @@ fn tell_fault<B: Shown, S: Source>(
         × IfSome tree.old.bytes (λ bytes. ShowsAs B.known B.named_reading
         bytes found.now (kind_of B.known found.now) content)
         × IsTold content told) }
-    ensures line { IfOk result
-        (λ told. told ≡ true → IsLine (string_bytes search.new.front) found.now (string_bytes search.new.line)) }
-    ensures front { search.new.front ≡ search.old.front }
+    ensures line { IfOk result (λ told. told ≡ true → IsLine found.now (string_bytes search.new.line)) }
     ensures kept { tree.new ≡ tree.old }
 {
     let content = content_of::<B, S>(alloc, tree, found)?;
@@ -328,9 +301,7 @@ fn push_group(group: u32, out: &mut String) -> Result<()> {
 
 /// Returns the group of the box `found`, and its number in the group among its siblings, counted from 1; `None` if it
 /// has no group.
-fn number_in_group(found: &TreeBox, search: &mut Search) -> Result<Option<(u32, u64)>>
-    ensures front { search.new.front ≡ search.old.front }
-{
+fn number_in_group(found: &TreeBox, search: &mut Search) -> Result<Option<(u32, u64)>> {
     let Some(code) = found.code else {
         return Ok(None);
     };
@@ -352,9 +323,7 @@ fn tell_repeated(
     found: &TreeBox,
     search: &mut Search,
 ) -> std::result::Result<bool, Failure>
-    ensures line { IfOk result
-        (λ told. told ≡ true → IsLine (string_bytes search.new.front) found.now (string_bytes search.new.line)) }
-    ensures front { search.new.front ≡ search.old.front }
+    ensures line { IfOk result (λ told. told ≡ true → IsLine found.now (string_bytes search.new.line)) }
 {
     let Some((group, number)) = number_in_group(found, search)? else {
         return Ok(false);
@@ -404,9 +373,7 @@ fn tell_missing(
     boxes: &[TreeBox],
     search: &mut Search,
 ) -> std::result::Result<bool, Failure>
-    ensures line { IfOk result
-        (λ told. told ≡ true → IsLine (string_bytes search.new.front) found.now (string_bytes search.new.line)) }
-    ensures front { search.new.front ≡ search.old.front }
+    ensures line { IfOk result (λ told. told ≡ true → IsLine found.now (string_bytes search.new.line)) }
 {
     let parent = match found.code {
         Some(code) if found.is_whole() && found.children.is_some() => u32::from(code),
@@ -455,9 +422,7 @@ fn tell_tables<S: Source>(
     boxes: &[TreeBox],
     search: &mut Search,
 ) -> std::result::Result<bool, Failure>
-    ensures line { IfOk result
-        (λ told. told ≡ true → IsLine (string_bytes search.new.front) found.now (string_bytes search.new.line)) }
-    ensures front { search.new.front ≡ search.old.front }
+    ensures line { IfOk result (λ told. told ≡ true → IsLine found.now (string_bytes search.new.line)) }
     ensures kept { tree.new ≡ tree.old }
 {
     match tables_together(alloc, tree, boxes)? {
@@ -483,9 +448,7 @@ fn tell_sizes<S: Source>(
     found: &TreeBox,
     search: &mut Search,
 ) -> std::result::Result<bool, Failure>
-    ensures line { IfOk result
-        (λ told. told ≡ true → IsLine (string_bytes search.new.front) found.now (string_bytes search.new.line)) }
-    ensures front { search.new.front ≡ search.old.front }
+    ensures line { IfOk result (λ told. told ≡ true → IsLine found.now (string_bytes search.new.line)) }
     ensures kept { tree.new ≡ tree.old }
 {
     let Ok(stz2) = or_read(read_at::<Stz2Box, S>(alloc, tree, found))? else {
@@ -514,9 +477,7 @@ fn tell_runs<S: Source>(
     boxes: &[TreeBox],
     search: &mut Search,
 ) -> std::result::Result<bool, Failure>
-    ensures line { IfOk result
-        (λ told. told ≡ true → IsLine (string_bytes search.new.front) found.now (string_bytes search.new.line)) }
-    ensures front { search.new.front ≡ search.old.front }
+    ensures line { IfOk result (λ told. told ≡ true → IsLine found.now (string_bytes search.new.line)) }
     ensures kept { tree.new ≡ tree.old }
 {
     let read = traf_runs(
@@ -554,9 +515,7 @@ fn tell_samples<S: Source>(
     boxes: &[TreeBox],
     search: &mut Search,
 ) -> std::result::Result<bool, Failure>
-    ensures line { IfOk result
-        (λ told. told ≡ true → IsLine (string_bytes search.new.front) found.now (string_bytes search.new.line)) }
-    ensures front { search.new.front ≡ search.old.front }
+    ensures line { IfOk result (λ told. told ≡ true → IsLine found.now (string_bytes search.new.line)) }
     ensures kept { tree.new ≡ tree.old }
 {
     if is_box(found, STBL) && found.depth == 4 {
@@ -571,26 +530,26 @@ fn tell_samples<S: Source>(
     Ok(false)
 }
 
-/// Writes `search.line`, if there is one.
+/// Writes `front` and `line`, if `told`.
 fn write_line<W: Write>(
     told: bool,
+    front: &str,
     line: &str,
     output: &mut Output<W>,
 ) -> std::result::Result<(), Failure>
     ensures line { OnOk result
-        (Appends (W.contents output.old.inner) (W.contents output.new.inner) (told_text told line.now)) }
+        (Appends (W.contents output.old.inner) (W.contents output.new.inner) (told_text told front.now line.now)) }
 {
-    if told {
-        write_all(output, line.as_bytes())
-    } else {
-        Ok(())
+    if !told {
+        return Ok(());
     }
+    write_all(output, front.as_bytes())?;
+    write_all(output, line.as_bytes())?;
+    Ok(())
 }
 
 /// Enters the box `found`.
-fn enter(found: &TreeBox, search: &mut Search) -> Result<()>
-    ensures front { search.new.front ≡ search.old.front }
-{
+fn enter(found: &TreeBox, search: &mut Search) -> Result<()> {
     search.paths.enter(found)?;
     if found.depth == 0 {
         search.top = found.position;
@@ -610,21 +569,21 @@ fn write_more<S: Source, W: Write>(
     tree: &mut BoxWalk<S>,
     found: &TreeBox,
     boxes: &[TreeBox],
+    front: &str,
     search: &mut Search,
     output: &mut Output<W>,
 ) -> std::result::Result<bool, Failure>
     ensures lines { IfOk result
-        (λ faulty. WritesMore (string_bytes search.old.front) found.now
+        (λ faulty. WritesMore front.now found.now
         (W.contents output.old.inner) (W.contents output.new.inner) faulty) }
-    ensures front { OnOk result (search.new.front ≡ search.old.front) }
     ensures kept { OnOk result (tree.new ≡ tree.old) }
 {
     let repeated = tell_repeated(alloc, found, search)?;
-    write_line(repeated, search.line.as_str(), output)?;
+    write_line(repeated, front, search.line.as_str(), output)?;
     let lacks = tell_missing(alloc, found, boxes, search)?;
-    write_line(lacks, search.line.as_str(), output)?;
+    write_line(lacks, front, search.line.as_str(), output)?;
     let outside = tell_samples(alloc, tree, found, boxes, search)?;
-    write_line(outside, search.line.as_str(), output)?;
+    write_line(outside, front, search.line.as_str(), output)?;
     Ok(either(repeated, either(lacks, outside)))
 }
 
@@ -635,19 +594,19 @@ fn write_fault<B: Shown, S: Source, W: Write>(
     tree: &mut BoxWalk<S>,
     found: &TreeBox,
     boxes: &[TreeBox],
+    front: &str,
     search: &mut Search,
     output: &mut Output<W>,
 ) -> std::result::Result<bool, Failure>
     ensures lines { IfOk result
-        (λ faulty. WritesLines B.known B.named_reading tree.old.bytes (string_bytes search.old.front) found.now
+        (λ faulty. WritesLines B.known B.named_reading tree.old.bytes front.now found.now
         (W.contents output.old.inner) (W.contents output.new.inner) faulty) }
-    ensures front { OnOk result (search.new.front ≡ search.old.front) }
     ensures kept { OnOk result (tree.new ≡ tree.old) }
 {
     or_memory(enter(found, search))?;
     let told = tell_fault::<B, S>(alloc, tree, found, search)?;
-    write_line(told, search.line.as_str(), output)?;
-    let more = write_more(alloc, tree, found, boxes, search, output)?;
+    write_line(told, front, search.line.as_str(), output)?;
+    let more = write_more(alloc, tree, found, boxes, front, search, output)?;
     Ok(either(told, more))
 }
 
@@ -659,27 +618,9 @@ fn is_top(found: &TreeBox) -> bool {
     }
 }
 
-/// Returns whether one of `boxes` is a `moov`, a `moof`, a `meta` or a `sidx` of the top level.
-fn has_movie(boxes: &[TreeBox]) -> bool {
-    boxes.iter().any(is_top)
-}
-
-/// Writes a line if a file has no movie.
-fn write_movie<W: Write>(
-    alloc: Global,
-    movie: bool,
-    front: &str,
-    output: &mut Output<W>,
-) -> std::result::Result<(), Failure>
-    ensures line { OnOk result
-        (Appends (W.contents output.old.inner) (W.contents output.new.inner) (movie_text movie front.now)) }
-{
-    if movie {
-        return Ok(());
-    }
-    let mut line = String::from_str(alloc, front)?;
-    line.push_str("0 moov: there is no moov, moof, meta or sidx\n")?;
-    write_all(output, line.as_bytes())
+/// Returns whether none of `boxes` is a `moov`, a `moof`, a `meta` or a `sidx` of the top level.
+fn lacks_movie(boxes: &[TreeBox]) -> bool {
+    !boxes.iter().any(is_top)
 }
 
 /// For the prover: returns the boxes after the first.
@@ -695,18 +636,18 @@ fn write_lines<B: Shown, S: Source, W: Write>(
     alloc: Global,
     tree: &mut BoxWalk<S>,
     boxes: &[TreeBox],
+    front: &str,
     search: &mut Search,
     output: &mut Output<W>,
 ) -> std::result::Result<bool, Failure>
     ensures faults { IfOk result
-        (λ faulty. WritesFaults B.known B.named_reading tree.old.bytes (string_bytes search.old.front) boxes.now
+        (λ faulty. WritesFaults B.known B.named_reading tree.old.bytes front.now boxes.now
         (W.contents output.old.inner) (W.contents output.new.inner) faulty) }
-    ensures front { OnOk result (search.new.front ≡ search.old.front) }
 {
     let mut faulty = false;
     let mut rest = boxes;
     for found in boxes {
-        let here = write_fault::<B, S, W>(alloc, tree, found, rest, search, output)?;
+        let here = write_fault::<B, S, W>(alloc, tree, found, rest, front, search, output)?;
         faulty = either(faulty, here);
         rest = after_first(rest);
     }
@@ -753,11 +694,17 @@ pub fn write_faults<B: Shown, S: Source, W: Write>(
         sizes: Vec::new(alloc),
         top: 0,
         data_end: None,
-        front: or_memory(front_of(alloc, name))?,
         line: String::new(alloc),
     };
-    let faulty = write_lines::<B, S, W>(alloc, tree, boxes, &mut search, output)?;
-    let movie = has_movie(boxes);
-    write_movie(alloc, movie, search.front.as_str(), output)?;
-    Ok(either(faulty, !movie))
+    let front = or_memory(front_of(alloc, name))?;
+    let front = front.as_str();
+    let faulty = write_lines::<B, S, W>(alloc, tree, boxes, front, &mut search, output)?;
+    let lacks = lacks_movie(boxes);
+    write_line(
+        lacks,
+        front,
+        "0 moov: there is no moov, moof, meta or sidx\n",
+        output,
+    )?;
+    Ok(either(faulty, lacks))
 }

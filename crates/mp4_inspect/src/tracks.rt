@@ -13,9 +13,14 @@ pub fn track_at(tracks: &[TrackInfo], position: u64) -> Option<&TrackInfo>
     ensures none { IsNonDecreasingBy (λ (track : TrackInfo). track.position) tracks.now → result ≡ None
         → All (λ (track : TrackInfo). track.position ≢ position) tracks.now }
 {
-    let after = tracks.partition_point(|track| track.position <= position);
-    match tracks[..after].last() {
-        Some(track) if track.position == position => Some(track),
-        _ => None,
+    let before = tracks.partition_point(|track| track.position < position);
+    if before >= tracks.len() {
+        return None;
+    }
+    let track = &tracks[before];
+    if track.position == position {
+        Some(track)
+    } else {
+        None
     }
 }

@@ -13,7 +13,7 @@ use Rattle.mp4_frame.specs.declared.four_cc.FourCC.{FourCC}
 use Rattle.mp4_movie.specs.Infos.{AreInfos, IsInfo}
 use Rattle.mp4_movie.specs.Levels.{Found}
 use Rattle.mp4_movie.specs.Movies.{IsMovie, first_with, found_at, has_id, of_track, traks}
-use Rattle.mp4_movie.specs.Problems.{Problem, NoBox, ReturnsFor, Returns}
+use Rattle.mp4_movie.specs.Problems.{Problem, NoBox, ReturnsFor, Returns, ◌>>=◌}
 use Rattle.mp4_movie.specs.declared.error.BoxError.TheVariants as faults
 use Rattle.mp4_movie.specs.declared.error.MovieError.{MovieError}
 use Rattle.mp4_movie.specs.declared.error.MovieError.TheVariants as errors
@@ -21,6 +21,7 @@ use Rattle.mp4_movie.specs.declared.info.TrackInfo.{TrackInfo}
 use Rattle.mp4_movie.specs.declared.places.TrakPlace.{TrakPlace}
 use Rattle.mp4_lemmas.proofs.Outcomes.{both_known}
 use Rattle.mp4_movie.proofs.Chains.{with_more}
+use Rattle.mp4_movie.proofs.Levels.{by_bool}
 use Rattle.mp4_walk.specs.FileBoxes.{boxes_of}
 use Rattle.mp4_walk.specs.declared.tree_box.TreeBox.{TreeBox}
 
@@ -47,6 +48,13 @@ none_past read k [] past = refl
 none_past read k (f ∷ fs) past =
     let more : (k == 0) ≡ false = ne_eqb _ _ (λ z. absurd (omega (arith, z, past))) in
     rw more (none_past read (k - 1) fs (omega (arith, past)))
+
+-- an answer that follows from an answer for the same track
+pub track_then : {A C : Type 0} (read : List TreeBox → Result A Problem) (f : A → Result C Problem) (k : ℕ)
+    (fs : List Found) → of_track (λ trak. read trak >>= f) k fs ≡ (of_track read k fs >>= f)
+track_then read f k [] = refl
+track_then read f k (x ∷ xs) =
+    by_bool (k == 0) (λ e. rw e refl) (λ e. rw e (track_then read f (k - 1) xs))
 
 -- the track at a place
 pub at_place : {A : Type 0} (read : List TreeBox → Result A Problem) (k : ℕ) (boxes : List TreeBox)

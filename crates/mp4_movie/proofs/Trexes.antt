@@ -31,13 +31,13 @@ ok_recorded : (one : Result TrexBox BoxError) (r : Result TrexBox Problem) → R
 ok_recorded (Ok v) r h = ap (λ (s : Result TrexBox Problem). ok_of s) (sym h)
 ok_recorded (Err e) r h = ap (λ (s : Result TrexBox Problem). ok_of s) (sym h.1)
 
--- the defaults of a track are those so far, or those that are left
+-- the defaults of a track are the stored ones, or those that are left
 abbrev pub SoFar : List ℕ → List Found → List TreeBox → (ℕ → Option TrexBox) → Type 0
 SoFar file all rest D =
     (q : ℕ) → defaults_in file q all
     ≡ option_or (D q) (defaults_in file q (all_in 2 (four_cc_of codes.TREX) rest))
 
--- the faults so far, followed by those that are left, are all faults
+-- the faults in a list, followed by those that are left, are all faults
 abbrev pub FaultsSoFar : List ℕ → List Found → List TreeBox → List BoxError → Type 0
 FaultsSoFar file all rest known =
     (more : List BoxError) → AreFaults file (all_in 2 (four_cc_of codes.TREX) rest) more

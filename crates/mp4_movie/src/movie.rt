@@ -2,7 +2,7 @@
 
 ghost use Rattle.std.specs.Prelude.{◌≡◌, length, map, IfOk, IfSome};
 ghost use Rattle.mp4_movie.specs.Defaults.{AreDefaults, trexes};
-ghost use Rattle.mp4_movie.specs.Ends.{time_end_of};
+ghost use Rattle.mp4_movie.specs.Ends.{end_by, time_end_of};
 ghost use Rattle.mp4_movie.specs.Fragments.{AreFragments};
 ghost use Rattle.mp4_movie.specs.Infos.{AreInfos, IsInfo};
 ghost use Rattle.mp4_movie.specs.Movies.{first_with, found_at, has_id, inside, of_track, sample_table, samples_of};
@@ -79,18 +79,13 @@ fn samples_in<S: Source>(
     tables_in(alloc, walk, stbl)
 }
 
-/// Returns the time at which the samples of the tables of a track end. `trak` begins with the boxes inside its `trak`.
-fn time_end_in<S: Source>(
-    alloc: Global,
-    walk: &mut BoxWalk<S>,
-    trak: &[TreeBox],
-) -> Result<u64, MovieError>
-    ensures value { ReturnsFor walk.old.bytes result (λ file. time_end_of file trak.now) }
-    ensures kept { walk.new ≡ walk.old }
+/// Returns the time at which the samples of `tables` end, and 0 if there are none.
+fn end_by(tables: Option<SampleBoxes>) -> u64
+    ensures { result ≡ end_by tables }
 {
-    match samples_in(alloc, walk, trak)? {
-        Some(boxes) => Ok(boxes.time_end()),
-        None => Ok(0),
+    match tables {
+        Some(boxes) => boxes.time_end(),
+        None => 0,
     }
 }
 
@@ -193,27 +188,6 @@ fn samples_at<S: Source>(
     samples_in(alloc, walk, boxes_after(boxes, place.first))
 }
 
-/// Returns the time at which the samples of the tables of track `number` at these places end.
-fn time_end_at<S: Source>(
-    alloc: Global,
-    walk: &mut BoxWalk<S>,
-    boxes: &[TreeBox],
-    places: &[TrakPlace],
-    number: usize,
-) -> Result<u64, MovieError>
-    ensures value { ReturnsFor walk.old.bytes result
-        (λ file. of_track (time_end_of file) number (map (found_at boxes.now) places.now)) }
-    ensures kept { walk.new ≡ walk.old }
-{
-    if number >= places.len() {
-        return Err(MovieError::Box(BoxError::Missing {
-            code: FourCC::from(codes::TRAK),
-        }));
-    }
-    let place = places[number];
-    time_end_in(alloc, walk, boxes_after(boxes, place.first))
-}
-
 impl<S: Source> Movie<S> {
     /// Makes the movie of `source` and lists its boxes once, reading only their headers.
     pub fn open(alloc: Global, source: S) -> io::Result<Movie<S>>
@@ -298,7 +272,7 @@ impl<S: Source> Movie<S> {
             (λ file. of_track (time_end_of file) number (traks (boxes_of file))) }
         ensures kept { self.new ≡ self.old }
     {
-        time_end_at(alloc, &mut self.walk, &self.boxes, &self.tracks, number)
+        Ok(end_by(self.samples(alloc, number)?))
     }
 
     /// Returns the defaults of the tracks for their fragments.

@@ -12,8 +12,5 @@ returns-clause-told g c =
 
 pub returns-clause-line : goal.returns-clause-line
 returns-clause-line g c =
-    passed
-    (λ (told : Bool). told ≡ true
-    → IsLine (string_bytes c.tell_content.new.search.front) c.args.found.now (string_bytes
-    c.tell_content.new.search.line))
+    passed (λ (told : Bool). told ≡ true → IsLine c.args.found.now (string_bytes c.tell_content.new.search.line))
     c.tell_content.result c.or_memory.result c.or_memory.ensures.ok c.tell_content.ensures.line

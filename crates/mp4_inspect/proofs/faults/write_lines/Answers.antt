@@ -1,4 +1,4 @@
-use Rattle.std.proofs.Common.{◌≡◌, List, ap, rules, subst, take, string_bytes}
+use Rattle.std.proofs.Common.{◌≡◌, List, ap, rules, subst, take}
 use Rattle.std.proofs.lemmas.List.{take_all}
 use Rattle.mp4_inspect.proofs.FaultLines.{faults_none, faults_after}
 use Rattle.mp4_inspect.specs.Faults.{WritesFaults}
@@ -7,10 +7,8 @@ use Rattle.mp4_inspect.proofs.faults.write_lines.Goals as goal
 
 pub loop-found-init : goal.loop-found-init
 loop-found-init g c = record {
-  written = faults_none g.B.Shown.known g.B.Shown.named_reading
-      c.args.tree.now.bytes (string_bytes c.args.search.now.front)
+  written = faults_none g.B.Shown.known g.B.Shown.named_reading c.args.tree.now.bytes c.args.front.now
       (g.W.Write.contents c.args.output.now.inner);
-  front = search rules;
   kept = search rules;
 }
 
@@ -18,14 +16,12 @@ pub loop-found-preserved : goal.loop-found-preserved
 loop-found-preserved g c = record {
   written =
       rw c.either-faulty.ensures
-      (faults_after g.B.Shown.known g.B.Shown.named_reading
-      c.args.tree.now.bytes (string_bytes c.args.search.now.front)
+      (faults_after g.B.Shown.known g.B.Shown.named_reading c.args.tree.now.bytes c.args.front.now
       c.args.boxes.now c.loop-found.found-index _ (g.W.Write.contents c.args.output.now.inner)
       (g.W.Write.contents c.loop-found.output.inner) (g.W.Write.contents c.write_fault.new.output.inner)
-      c.loop-found.faulty c.in_ok-here.here c.loop-found.tree.bytes (string_bytes c.loop-found.search.front)
-      (ap (λ t. t.bytes) c.loop-found.invariant.kept) (ap string_bytes c.loop-found.invariant.front) (search rules)
+      c.loop-found.faulty c.in_ok-here.here c.loop-found.tree.bytes
+      (ap (λ t. t.bytes) c.loop-found.invariant.kept) (search rules)
       c.loop-found.invariant.written c.in_ok-here.ensures.lines);
-  front = search rules;
   kept = search rules;
 }
 
@@ -35,5 +31,5 @@ returns-clause-faults g c =
     = take_all c.loop-found.found-index c.args.boxes.now (search rules) in
     subst
     (λ (boxes : List TreeBox). WritesFaults g.B.Shown.known g.B.Shown.named_reading c.args.tree.now.bytes
-    (string_bytes c.args.search.now.front) boxes (g.W.Write.contents c.args.output.now.inner)
+    c.args.front.now boxes (g.W.Write.contents c.args.output.now.inner)
     (g.W.Write.contents c.loop-found.output.inner) c.loop-found.faulty) all c.loop-found.invariant.written

@@ -1,14 +1,12 @@
 -- The lines of the earlier boxes are written.
-use Rattle.std.proofs.Common.{◌≡◌, take, string_bytes}
+use Rattle.std.proofs.Common.{◌≡◌, take}
 use Rattle.mp4_inspect.specs.Faults.{WritesFaults}
 use Rattle.mp4_inspect.proofs.faults.write_lines.Given as goal
 
 abbrev pub invariant-loop-found : goal.invariant-loop-found
 invariant-loop-found g l = record {
-  written : WritesFaults g.B.Shown.known g.B.Shown.named_reading
-      l.initial.tree.bytes (string_bytes l.initial.search.front)
-      (take l.found-index l.boxes)
-      (g.W.Write.contents l.initial.output.inner) (g.W.Write.contents l.output.inner) l.faulty;
-  front : l.search.front ≡ l.initial.search.front;
+  written : WritesFaults g.B.Shown.known g.B.Shown.named_reading l.initial.tree.bytes l.front
+      (take l.found-index l.boxes) (g.W.Write.contents l.initial.output.inner) (g.W.Write.contents l.output.inner)
+      l.faulty;
   kept : l.tree ≡ l.initial.tree;
 }
