@@ -101,7 +101,7 @@ pub fn put_padb<S: FieldSink>(b: &Padb, sink: &mut S) -> Result<()>
     ensures nesting { OnOk result (Keeps S.since fields sink.old sink.new) }
 {
     put_full(b.version, b.flags, NONE, sink)?;
-    sink.field("sample_count", Value::Number(u64::from(b.sample_count)))?;
+    sink.field("sample_count", number(b.sample_count))?;
     sink.field("pads", Value::Bytes(b.pads.as_slice()))
 }
 '''

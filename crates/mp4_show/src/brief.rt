@@ -6,7 +6,7 @@ ghost use Rattle.mp4_show.specs.Nesting.{fields, Keeps};
 
 use crate::flag_names::{FlagName, NONE, REFERENCE};
 use crate::sink::{FieldSink, Result, put_all};
-use crate::value::Value;
+use crate::value::{Value, fixed, number};
 use mp4_frame::{i16_at, u8_at, u16_at, u32_at, u64_at};
 use mp4_stream::FourCC;
 use std::num::f64_from_bits_with_nan;
@@ -26,13 +26,11 @@ pub fn put_full<S: FieldSink>(
 ) -> Result<()>
     ensures nesting { OnOk result (Keeps S.since fields sink.old sink.new) }
 {
-    put_all(
-        &[
-            ("version", Value::Number(u64::from(version))),
-            ("flags", Value::Flags(flags, 6, names)),
-        ],
-        sink,
-    )
+    let row = [
+        ("version", number(version)),
+        ("flags", Value::Flags(flags, 6, names)),
+    ];
+    put_all(&row, sink)
 }
 
 /// Hands the fields before the boxes of an `stsd` or a `dref` to a sink: version, flags and how many boxes it says that
@@ -42,7 +40,7 @@ pub fn put_list_head<S: FieldSink>(bytes: &[u8], sink: &mut S) -> Result<()>
     ensures nesting { OnOk result (Keeps S.since fields sink.old sink.new) }
 {
     put_full(bytes[0], u32_at(bytes, 0) & 0xFF_FFFF, NONE, sink)?;
-    sink.field("entry_count", Value::Number(u64::from(u32_at(bytes, 4))))
+    sink.field("entry_count", number(u32_at(bytes, 4)))
 }
 
 /// Returns the text of a compressor's name: a byte that says how long it is, and at most 31 bytes.
@@ -60,28 +58,17 @@ pub fn put_visual<S: FieldSink>(bytes: &[u8], sink: &mut S) -> Result<()>
     requires { 78 ≤ length bytes.now }
     ensures nesting { OnOk result (Keeps S.since fields sink.old sink.new) }
 {
-    put_all(
-        &[
-            (
-                "data_reference_index",
-                Value::Number(u64::from(u16_at(bytes, 6))),
-            ),
-            ("width", Value::Number(u64::from(u16_at(bytes, 24)))),
-            ("height", Value::Number(u64::from(u16_at(bytes, 26)))),
-            (
-                "horizresolution",
-                Value::Fixed(i64::from(u32_at(bytes, 28)), 16),
-            ),
-            (
-                "vertresolution",
-                Value::Fixed(i64::from(u32_at(bytes, 32)), 16),
-            ),
-            ("frame_count", Value::Number(u64::from(u16_at(bytes, 40)))),
-            ("compressorname", Value::Text(compressor(&bytes[42..74]))),
-            ("depth", Value::Number(u64::from(u16_at(bytes, 74)))),
-        ],
-        sink,
-    )
+    let row = [
+        ("data_reference_index", number(u16_at(bytes, 6))),
+        ("width", number(u16_at(bytes, 24))),
+        ("height", number(u16_at(bytes, 26))),
+        ("horizresolution", fixed(u32_at(bytes, 28))),
+        ("vertresolution", fixed(u32_at(bytes, 32))),
+        ("frame_count", number(u16_at(bytes, 40))),
+        ("compressorname", Value::Text(compressor(&bytes[42..74]))),
+        ("depth", number(u16_at(bytes, 74))),
+    ];
+    put_all(&row, sink)
 }
 
 /// The number in the 8 bytes of IEEE 754 at an offset; the bytes themselves if they are no finite number.
@@ -102,32 +89,21 @@ fn put_second<S: FieldSink>(bytes: &[u8], sink: &mut S) -> Result<()>
     requires { 64 ≤ length bytes.now }
     ensures nesting { OnOk result (Keeps S.since fields sink.old sink.new) }
 {
-    put_all(
-        &[
-            ("audio_sample_rate", float_at(bytes, 32)),
-            (
-                "num_audio_channels",
-                Value::Number(u64::from(u32_at(bytes, 40))),
-            ),
-            (
-                "const_bits_per_channel",
-                Value::Number(u64::from(u32_at(bytes, 48))),
-            ),
-            (
-                "format_specific_flags",
-                Value::Flags(u32_at(bytes, 52), 8, NONE),
-            ),
-            (
-                "const_bytes_per_audio_packet",
-                Value::Number(u64::from(u32_at(bytes, 56))),
-            ),
-            (
-                "const_lpcm_frames_per_audio_packet",
-                Value::Number(u64::from(u32_at(bytes, 60))),
-            ),
-        ],
-        sink,
-    )
+    let row = [
+        ("audio_sample_rate", float_at(bytes, 32)),
+        ("num_audio_channels", number(u32_at(bytes, 40))),
+        ("const_bits_per_channel", number(u32_at(bytes, 48))),
+        (
+            "format_specific_flags",
+            Value::Flags(u32_at(bytes, 52), 8, NONE),
+        ),
+        ("const_bytes_per_audio_packet", number(u32_at(bytes, 56))),
+        (
+            "const_lpcm_frames_per_audio_packet",
+            number(u32_at(bytes, 60)),
+        ),
+    ];
+    put_all(&row, sink)
 }
 
 /// Hands the fields that QuickTime's first version of a sound entry has after the common ones to a sink (QuickTime File
@@ -136,27 +112,13 @@ fn put_first<S: FieldSink>(bytes: &[u8], sink: &mut S) -> Result<()>
     requires { 44 ≤ length bytes.now }
     ensures nesting { OnOk result (Keeps S.since fields sink.old sink.new) }
 {
-    put_all(
-        &[
-            (
-                "samples_per_packet",
-                Value::Number(u64::from(u32_at(bytes, 28))),
-            ),
-            (
-                "bytes_per_packet",
-                Value::Number(u64::from(u32_at(bytes, 32))),
-            ),
-            (
-                "bytes_per_frame",
-                Value::Number(u64::from(u32_at(bytes, 36))),
-            ),
-            (
-                "bytes_per_sample",
-                Value::Number(u64::from(u32_at(bytes, 40))),
-            ),
-        ],
-        sink,
-    )
+    let row = [
+        ("samples_per_packet", number(u32_at(bytes, 28))),
+        ("bytes_per_packet", number(u32_at(bytes, 32))),
+        ("bytes_per_frame", number(u32_at(bytes, 36))),
+        ("bytes_per_sample", number(u32_at(bytes, 40))),
+    ];
+    put_all(&row, sink)
 }
 
 /// Hands the common fields of a sample entry of sound to a sink (ISO/IEC 14496-12, 12.2.3), and those of QuickTime's
@@ -165,22 +127,17 @@ pub fn put_sound<S: FieldSink>(bytes: &[u8], quicktime: bool, sink: &mut S) -> R
     requires { 28 ≤ length bytes.now }
     ensures nesting { OnOk result (Keeps S.since fields sink.old sink.new) }
 {
-    sink.field(
-        "data_reference_index",
-        Value::Number(u64::from(u16_at(bytes, 6))),
-    )?;
+    sink.field("data_reference_index", number(u16_at(bytes, 6)))?;
     let version = u16_at(bytes, 8);
     if quicktime {
-        sink.field("version", Value::Number(u64::from(version)))?;
+        sink.field("version", number(version))?;
     }
-    put_all(
-        &[
-            ("channelcount", Value::Number(u64::from(u16_at(bytes, 16)))),
-            ("samplesize", Value::Number(u64::from(u16_at(bytes, 18)))),
-            ("samplerate", Value::Fixed(i64::from(u32_at(bytes, 24)), 16)),
-        ],
-        sink,
-    )?;
+    let row = [
+        ("channelcount", number(u16_at(bytes, 16))),
+        ("samplesize", number(u16_at(bytes, 18))),
+        ("samplerate", fixed(u32_at(bytes, 24))),
+    ];
+    put_all(&row, sink)?;
     match version {
         1 if quicktime && bytes.len() >= 44 => put_first(bytes, sink),
         2 if quicktime && bytes.len() >= 64 => put_second(bytes, sink),
@@ -219,10 +176,8 @@ fn integer(bytes: &[u8]) -> Option<i64> {
 pub fn put_data_type<S: FieldSink>(data_type: u32, sink: &mut S) -> Result<()>
     ensures nesting { OnOk result (Keeps S.since fields sink.old sink.new) }
 {
-    sink.field(
-        "data_type",
-        Value::Named(u64::from(data_type), type_name(data_type)),
-    )
+    let value = Value::Named(u64::from(data_type), type_name(data_type));
+    sink.field("data_type", value)
 }
 
 /// Hands a metadata value of any type to a sink: its text, its number or its bytes.
@@ -245,10 +200,7 @@ pub fn put_entry<S: FieldSink>(bytes: &[u8], sink: &mut S) -> Result<()>
     requires { 8 ≤ length bytes.now }
     ensures nesting { OnOk result (Keeps S.since fields sink.old sink.new) }
 {
-    sink.field(
-        "data_reference_index",
-        Value::Number(u64::from(u16_at(bytes, 6))),
-    )
+    sink.field("data_reference_index", number(u16_at(bytes, 6)))
 }
 
 /// The name of a handler, in bytes that go to the end of its box: up to the last byte, which ends it. If the first byte
@@ -278,13 +230,8 @@ pub fn put_handler<S: FieldSink>(bytes: &[u8], sink: &mut S) -> Result<()>
 {
     let name = handler_name(&bytes[24..]);
     let handler_type = FourCC::from(u32_at(bytes, 8));
-    put_named_handler(
-        bytes[0],
-        u32_at(bytes, 0) & 0xFF_FFFF,
-        handler_type,
-        name,
-        sink,
-    )
+    let flags = u32_at(bytes, 0) & 0xFF_FFFF;
+    put_named_handler(bytes[0], flags, handler_type, name, sink)
 }
 
 /// Hands the fields of a handler with this name to a sink.
@@ -317,12 +264,8 @@ pub fn put_reference<S: FieldSink>(bytes: &[u8], sink: &mut S) -> Result<()>
     requires { 4 ≤ length bytes.now }
     ensures nesting { OnOk result (Keeps S.since fields sink.old sink.new) }
 {
-    put_location(
-        bytes[0],
-        u32_at(bytes, 0) & 0xFF_FFFF,
-        location(bytes),
-        sink,
-    )
+    let flags = u32_at(bytes, 0) & 0xFF_FFFF;
+    put_location(bytes[0], flags, location(bytes), sink)
 }
 
 /// Hands the fields of a reference by this location to a sink.

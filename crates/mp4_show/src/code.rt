@@ -19,8 +19,7 @@ pub fn push_code(code: FourCC, out: &mut String) -> Result<()> {
     let mut digits = [0; 8];
     let _ = hex::encode_to_slice(code.value, &mut digits);
     out.push_str("0x")?;
-    out.push_str(std::str::from_utf8(&digits).unwrap_or(""))?;
-    Ok(())
+    out.push_str(std::str::from_utf8(&digits).unwrap_or(""))
 }
 
 /// Appends the four bytes of a code, each as the character of its number.

@@ -14,6 +14,7 @@ mod tracks;
 
 use crate::sink::{FieldSink, Result};
 use entries::{put_avc1, put_avcc, put_hev1, put_hvcc, put_tx3g, put_vp09, put_vpcc};
+pub use fragments::put_if_some;
 use fragments::{put_mehd, put_mfhd, put_tfdt, put_tfhd, put_trex, put_trun};
 use media::{put_dinf, put_dref, put_smhd, put_url, put_vmhd};
 use metadata::{put_data_box, put_emsg};

@@ -1,7 +1,7 @@
 //! The text of a box: its line, and a line for each entry of its lists.
 
 use crate::look::Look;
-use crate::number::push_number;
+use crate::number_text::push_number;
 use crate::value_text::push_value;
 use crate::{FieldSink, Result, Value};
 use mp4_stream::Matrix;
@@ -44,15 +44,13 @@ pub struct TextSink {
 /// Appends a text in a colour, if colours are wanted. The colour is a number of ECMA-48, "select graphic rendition".
 pub fn push_colored(look: Look, text: &str, color: &str, out: &mut String) -> Result<()> {
     if !look.color {
-        out.push_str(text)?;
-        return Ok(());
+        return out.push_str(text);
     }
     out.push_str("\u{1B}[")?;
     out.push_str(color)?;
     out.push('m')?;
     out.push_str(text)?;
-    out.push_str("\u{1B}[0m")?;
-    Ok(())
+    out.push_str("\u{1B}[0m")
 }
 
 /// How many columns a text takes: one a character.
@@ -86,8 +84,7 @@ impl TextSink {
 
     /// Ends the last line.
     pub fn end(&mut self) -> Result<()> {
-        self.text.push('\n')?;
-        Ok(())
+        self.text.push('\n')
     }
 
     /// The text.
@@ -217,10 +214,7 @@ impl TextSink {
 
 /// Whether a value is left out of a text, since it is what it mostly is.
 fn is_usual(value: Value<'_>) -> bool {
-    match value {
-        Value::Matrix(matrix) => *matrix == Matrix::default(),
-        _ => false,
-    }
+    matches!(value, Value::Matrix(matrix) if *matrix == Matrix::default())
 }
 
 impl FieldSink for TextSink {

@@ -1,6 +1,6 @@
 //! The value of a field.
 
-ghost use Rattle.std.specs.Prelude.{◌≡◌};
+ghost use Rattle.std.specs.Prelude.{◌≡◌, pos};
 ghost use Rattle.std.specs.Int.{w16, w32, cast_signed};
 
 use crate::flag_names::FlagName;
@@ -37,6 +37,20 @@ pub enum Value<'a> {
     Numbers(&'a [i16]),
     /// A transformation of video.
     Matrix(&'a Matrix),
+}
+
+/// Returns a whole number of at most 64 bits.
+pub fn number<N: Into<u64>>(number: N) -> Value<'static>
+    ensures { (n : _) × (N.converts number n) × (result ≡ Value.Number n) }
+{
+    Value::Number(number.into())
+}
+
+/// Returns the fixed-point number of which `raw` has all bits, 16 of them after the point.
+pub fn fixed(raw: u32) -> Value<'static>
+    ensures { result ≡ Value.Fixed (pos raw) 16 }
+{
+    Value::Fixed(i64::from(raw), 16)
 }
 
 /// Returns the number of 16 bits that the standard has as `int(16)`, which the codec keeps without a sign.

@@ -1,7 +1,7 @@
 //! The values of fields as text.
 
 use crate::code::push_code;
-use crate::number::{
+use crate::number_text::{
     push_bytes, push_date, push_fixed, push_float, push_hex, push_number, push_signed, push_text,
 };
 use crate::{FlagName, Result, Value};
@@ -18,10 +18,10 @@ fn push_flags(
 ) -> Result<()> {
     push_hex(alloc, flags, digits, out)?;
     let mut before = " (";
-    for flag in names {
-        if flags & flag.bit != 0 {
+    for (bit, name) in names {
+        if flags & bit != 0 {
             out.push_str(before)?;
-            out.push_str(flag.name)?;
+            out.push_str(name)?;
             before = ", ";
         }
     }
@@ -69,8 +69,7 @@ fn push_matrix(m: &Matrix, out: &mut String) -> Result<()> {
         push_fixed(i64::from(third), 30, out)?;
         before = "; ";
     }
-    out.push(')')?;
-    Ok(())
+    out.push(')')
 }
 
 /// Appends the text of a value.
@@ -82,17 +81,13 @@ pub fn push_value(alloc: Global, value: Value<'_>, out: &mut String) -> Result<(
             push_number(number, out)?;
             out.push_str(" (")?;
             out.push_str(name)?;
-            out.push(')')?;
-            Ok(())
+            out.push(')')
         }
         Value::Flags(flags, digits, names) => push_flags(alloc, flags, digits, names, out),
         Value::Date(seconds) => push_date(alloc, seconds, out),
         Value::Float(number) => push_float(alloc, number, out),
         Value::Fixed(raw, bits) => push_fixed(raw, bits, out),
-        Value::MediaTime(-1) => {
-            out.push_str("empty")?;
-            Ok(())
-        }
+        Value::MediaTime(-1) => out.push_str("empty"),
         Value::MediaTime(time) => push_signed(time, out),
         Value::Code(code) => push_code(code, out),
         Value::Codes(codes) => push_codes(codes, out),

@@ -5,21 +5,6 @@ ghost use Rattle.mp4_show.specs.Nesting.{fields, entries, Keeps};
 
 use mp4_show::{FieldSink, Result, Value, put_all};
 
-/// The value of a flag: 1 if it is set.
-pub fn bit(flag: bool) -> Value<'static> {
-    Value::Number(u64::from(flag))
-}
-
-/// Hands a number to a sink, if it is there.
-pub fn put_if_some<S: FieldSink>(name: &str, number: Option<u32>, sink: &mut S) -> Result<()>
-    ensures nesting { OnOk result (Keeps S.since fields sink.old sink.new) }
-{
-    match number {
-        Some(number) => sink.field(name, Value::Number(u64::from(number))),
-        None => Ok(()),
-    }
-}
-
 /// Hands a string that a byte of 0 may end to a sink.
 pub fn put_string<S: FieldSink>(name: &str, bytes: &[u8], sink: &mut S) -> Result<()>
     ensures nesting { OnOk result (Keeps S.since fields sink.old sink.new) }

@@ -6,7 +6,7 @@ ghost use Rattle.mp4_show.specs.Nesting.{fields, Keeps};
 use crate::brief::put_full;
 use crate::flag_names::NONE;
 use crate::sink::{FieldSink, Result, put_all};
-use crate::value::Value;
+use crate::value::{Value, fixed, number};
 use mp4_stream::{
     Avc1Box, AvcCBox, Hev1Box, HvcCBox, NalUnit, RgbaColor, Tx3gBox, Vp09Box, VpccBox,
 };
@@ -25,51 +25,25 @@ fn put_sets<S: FieldSink>(name: &str, sets: &[NalUnit], sink: &mut S) -> Result<
 pub fn put_avcc<S: FieldSink>(b: &AvcCBox, sink: &mut S) -> Result<()>
     ensures nesting { OnOk result (Keeps S.since fields sink.old sink.new) }
 {
-    put_all(
-        &[
-            (
-                "configuration_version",
-                Value::Number(u64::from(b.configuration_version)),
-            ),
-            (
-                "avc_profile_indication",
-                Value::Number(u64::from(b.avc_profile_indication)),
-            ),
-            (
-                "profile_compatibility",
-                Value::Number(u64::from(b.profile_compatibility)),
-            ),
-            (
-                "avc_level_indication",
-                Value::Number(u64::from(b.avc_level_indication)),
-            ),
-            (
-                "length_size_minus_one",
-                Value::Number(u64::from(b.length_size_minus_one)),
-            ),
-        ],
-        sink,
-    )?;
-    put_sets(
-        "sequence_parameter_sets",
-        b.sequence_parameter_sets.as_slice(),
-        sink,
-    )?;
-    put_sets(
-        "picture_parameter_sets",
-        b.picture_parameter_sets.as_slice(),
-        sink,
-    )
+    let row = [
+        ("configuration_version", number(b.configuration_version)),
+        ("avc_profile_indication", number(b.avc_profile_indication)),
+        ("profile_compatibility", number(b.profile_compatibility)),
+        ("avc_level_indication", number(b.avc_level_indication)),
+        ("length_size_minus_one", number(b.length_size_minus_one)),
+    ];
+    put_all(&row, sink)?;
+    let sets = b.sequence_parameter_sets.as_slice();
+    put_sets("sequence_parameter_sets", sets, sink)?;
+    let sets = b.picture_parameter_sets.as_slice();
+    put_sets("picture_parameter_sets", sets, sink)
 }
 
 /// How HEVC video is decoded (ISO/IEC 14496-15, 8.3.3.1): the codec reads its version alone.
 pub fn put_hvcc<S: FieldSink>(b: &HvcCBox, sink: &mut S) -> Result<()>
     ensures nesting { OnOk result (Keeps S.since fields sink.old sink.new) }
 {
-    sink.field(
-        "configuration_version",
-        Value::Number(u64::from(b.configuration_version)),
-    )
+    sink.field("configuration_version", number(b.configuration_version))
 }
 
 /// How VP8 and VP9 video are decoded (VP Codec ISO Media File Format Binding, 2.2).
@@ -77,65 +51,40 @@ pub fn put_vpcc<S: FieldSink>(b: &VpccBox, sink: &mut S) -> Result<()>
     ensures nesting { OnOk result (Keeps S.since fields sink.old sink.new) }
 {
     put_full(b.version, b.flags, NONE, sink)?;
-    put_all(
-        &[
-            ("profile", Value::Number(u64::from(b.profile))),
-            ("level", Value::Number(u64::from(b.level))),
-            ("bit_depth", Value::Number(u64::from(b.bit_depth))),
-            (
-                "chroma_subsampling",
-                Value::Number(u64::from(b.chroma_subsampling)),
-            ),
-            (
-                "video_full_range_flag",
-                Value::Number(u64::from(b.video_full_range_flag)),
-            ),
-            (
-                "color_primaries",
-                Value::Number(u64::from(b.color_primaries)),
-            ),
-            (
-                "transfer_characteristics",
-                Value::Number(u64::from(b.transfer_characteristics)),
-            ),
-            (
-                "matrix_coefficients",
-                Value::Number(u64::from(b.matrix_coefficients)),
-            ),
-            (
-                "codec_initialization_data_size",
-                Value::Number(u64::from(b.codec_initialization_data_size)),
-            ),
-        ],
-        sink,
-    )
+    let row = [
+        ("profile", number(b.profile)),
+        ("level", number(b.level)),
+        ("bit_depth", number(b.bit_depth)),
+        ("chroma_subsampling", number(b.chroma_subsampling)),
+        ("video_full_range_flag", number(b.video_full_range_flag)),
+        ("color_primaries", number(b.color_primaries)),
+        (
+            "transfer_characteristics",
+            number(b.transfer_characteristics),
+        ),
+        ("matrix_coefficients", number(b.matrix_coefficients)),
+        (
+            "codec_initialization_data_size",
+            number(b.codec_initialization_data_size),
+        ),
+    ];
+    put_all(&row, sink)
 }
 
 /// A sample entry of AVC video (ISO/IEC 14496-15, 5.4.2.1).
 pub fn put_avc1<S: FieldSink>(b: &Avc1Box, sink: &mut S) -> Result<()>
     ensures nesting { OnOk result (Keeps S.since fields sink.old sink.new) }
 {
-    put_all(
-        &[
-            (
-                "data_reference_index",
-                Value::Number(u64::from(b.data_reference_index)),
-            ),
-            ("width", Value::Number(u64::from(b.width))),
-            ("height", Value::Number(u64::from(b.height))),
-            (
-                "horizresolution",
-                Value::Fixed(i64::from(b.horizresolution.raw_value()), 16),
-            ),
-            (
-                "vertresolution",
-                Value::Fixed(i64::from(b.vertresolution.raw_value()), 16),
-            ),
-            ("frame_count", Value::Number(u64::from(b.frame_count))),
-            ("depth", Value::Number(u64::from(b.depth))),
-        ],
-        sink,
-    )?;
+    let row = [
+        ("data_reference_index", number(b.data_reference_index)),
+        ("width", number(b.width)),
+        ("height", number(b.height)),
+        ("horizresolution", fixed(b.horizresolution.raw_value())),
+        ("vertresolution", fixed(b.vertresolution.raw_value())),
+        ("frame_count", number(b.frame_count)),
+        ("depth", number(b.depth)),
+    ];
+    put_all(&row, sink)?;
     sink.begin_group("avcc")?;
     put_avcc(&b.avcc, sink)?;
     sink.end_group()
@@ -145,27 +94,16 @@ pub fn put_avc1<S: FieldSink>(b: &Avc1Box, sink: &mut S) -> Result<()>
 pub fn put_hev1<S: FieldSink>(b: &Hev1Box, sink: &mut S) -> Result<()>
     ensures nesting { OnOk result (Keeps S.since fields sink.old sink.new) }
 {
-    put_all(
-        &[
-            (
-                "data_reference_index",
-                Value::Number(u64::from(b.data_reference_index)),
-            ),
-            ("width", Value::Number(u64::from(b.width))),
-            ("height", Value::Number(u64::from(b.height))),
-            (
-                "horizresolution",
-                Value::Fixed(i64::from(b.horizresolution.raw_value()), 16),
-            ),
-            (
-                "vertresolution",
-                Value::Fixed(i64::from(b.vertresolution.raw_value()), 16),
-            ),
-            ("frame_count", Value::Number(u64::from(b.frame_count))),
-            ("depth", Value::Number(u64::from(b.depth))),
-        ],
-        sink,
-    )?;
+    let row = [
+        ("data_reference_index", number(b.data_reference_index)),
+        ("width", number(b.width)),
+        ("height", number(b.height)),
+        ("horizresolution", fixed(b.horizresolution.raw_value())),
+        ("vertresolution", fixed(b.vertresolution.raw_value())),
+        ("frame_count", number(b.frame_count)),
+        ("depth", number(b.depth)),
+    ];
+    put_all(&row, sink)?;
     sink.begin_group("hvcc")?;
     put_hvcc(&b.hvcc, sink)?;
     sink.end_group()
@@ -182,26 +120,21 @@ pub fn put_vp09<S: FieldSink>(b: &Vp09Box, sink: &mut S) -> Result<()>
     ensures nesting { OnOk result (Keeps S.since fields sink.old sink.new) }
 {
     put_full(b.version, b.flags, NONE, sink)?;
-    put_all(
-        &[
-            ("start_code", Value::Number(u64::from(b.start_code))),
-            (
-                "data_reference_index",
-                Value::Number(u64::from(b.data_reference_index)),
-            ),
-            ("reserved0", Value::Bytes(&b.reserved0)),
-            ("width", Value::Number(u64::from(b.width))),
-            ("height", Value::Number(u64::from(b.height))),
-            ("horizresolution", resolution(b.horizresolution)),
-            ("vertresolution", resolution(b.vertresolution)),
-            ("reserved1", Value::Bytes(&b.reserved1)),
-            ("frame_count", Value::Number(u64::from(b.frame_count))),
-            ("compressorname", Value::Bytes(&b.compressorname)),
-            ("depth", Value::Number(u64::from(b.depth))),
-            ("end_code", Value::Number(u64::from(b.end_code))),
-        ],
-        sink,
-    )?;
+    let row = [
+        ("start_code", number(b.start_code)),
+        ("data_reference_index", number(b.data_reference_index)),
+        ("reserved0", Value::Bytes(&b.reserved0)),
+        ("width", number(b.width)),
+        ("height", number(b.height)),
+        ("horizresolution", resolution(b.horizresolution)),
+        ("vertresolution", resolution(b.vertresolution)),
+        ("reserved1", Value::Bytes(&b.reserved1)),
+        ("frame_count", number(b.frame_count)),
+        ("compressorname", Value::Bytes(&b.compressorname)),
+        ("depth", number(b.depth)),
+        ("end_code", number(b.end_code)),
+    ];
+    put_all(&row, sink)?;
     sink.begin_group("vpcc")?;
     put_vpcc(&b.vpcc, sink)?;
     sink.end_group()
@@ -210,40 +143,33 @@ pub fn put_vp09<S: FieldSink>(b: &Vp09Box, sink: &mut S) -> Result<()>
 fn put_color<S: FieldSink>(color: &RgbaColor, sink: &mut S) -> Result<()>
     ensures nesting { OnOk result (Keeps S.since fields sink.old sink.new) }
 {
-    put_all(
-        &[
-            ("red", Value::Number(u64::from(color.red))),
-            ("green", Value::Number(u64::from(color.green))),
-            ("blue", Value::Number(u64::from(color.blue))),
-            ("alpha", Value::Number(u64::from(color.alpha))),
-        ],
-        sink,
-    )
+    let row = [
+        ("red", number(color.red)),
+        ("green", number(color.green)),
+        ("blue", number(color.blue)),
+        ("alpha", number(color.alpha)),
+    ];
+    put_all(&row, sink)
 }
 
 fn put_justification<S: FieldSink>(horizontal: i8, vertical: i8, sink: &mut S) -> Result<()>
     ensures nesting { OnOk result (Keeps S.since fields sink.old sink.new) }
 {
-    put_all(
-        &[
-            (
-                "horizontal_justification",
-                Value::Signed(i64::from(horizontal)),
-            ),
-            ("vertical_justification", Value::Signed(i64::from(vertical))),
-        ],
-        sink,
-    )
+    let row = [
+        (
+            "horizontal_justification",
+            Value::Signed(i64::from(horizontal)),
+        ),
+        ("vertical_justification", Value::Signed(i64::from(vertical))),
+    ];
+    put_all(&row, sink)
 }
 
 /// A sample entry of timed text (3GPP TS 26.245, 5.16).
 pub fn put_tx3g<S: FieldSink>(b: &Tx3gBox, sink: &mut S) -> Result<()>
     ensures nesting { OnOk result (Keeps S.since fields sink.old sink.new) }
 {
-    sink.field(
-        "data_reference_index",
-        Value::Number(u64::from(b.data_reference_index)),
-    )?;
+    sink.field("data_reference_index", number(b.data_reference_index))?;
     sink.field("display_flags", Value::Flags(b.display_flags, 8, NONE))?;
     put_justification(b.horizontal_justification, b.vertical_justification, sink)?;
     sink.begin_group("bg_color_rgba")?;

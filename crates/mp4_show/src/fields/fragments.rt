@@ -4,10 +4,10 @@ ghost use Rattle.std.specs.Prelude.{OnOk};
 ghost use Rattle.mp4_show.specs.Nesting.{fields, entries, Keeps};
 
 use crate::brief::put_full;
-use crate::fields::samples::put_numbers;
 use crate::flag_names::{NONE, SAMPLE, TRACK_FRAGMENT, TRACK_RUN};
+use crate::lists::put_numbers;
 use crate::sink::{FieldSink, Result, put_all};
-use crate::value::Value;
+use crate::value::{Value, number};
 use mp4_stream::{MehdBox, MfhdBox, TfdtBox, TfhdBox, TrexBox, TrunBox};
 
 /// Movie extends header (ISO/IEC 14496-12, 8.8.2).
@@ -15,7 +15,7 @@ pub fn put_mehd<S: FieldSink>(b: &MehdBox, sink: &mut S) -> Result<()>
     ensures nesting { OnOk result (Keeps S.since fields sink.old sink.new) }
 {
     put_full(b.version, b.flags, NONE, sink)?;
-    sink.field("fragment_duration", Value::Number(b.fragment_duration))
+    sink.field("fragment_duration", number(b.fragment_duration))
 }
 
 /// What the samples of a track's fragments have by default (ISO/IEC 14496-12, 8.8.3).
@@ -23,28 +23,17 @@ pub fn put_trex<S: FieldSink>(b: &TrexBox, sink: &mut S) -> Result<()>
     ensures nesting { OnOk result (Keeps S.since fields sink.old sink.new) }
 {
     put_full(b.version, b.flags, NONE, sink)?;
-    put_all(
-        &[
-            ("track_id", Value::Number(u64::from(b.track_id))),
-            (
-                "default_sample_description_index",
-                Value::Number(u64::from(b.default_sample_description_index)),
-            ),
-            (
-                "default_sample_duration",
-                Value::Number(u64::from(b.default_sample_duration)),
-            ),
-            (
-                "default_sample_size",
-                Value::Number(u64::from(b.default_sample_size)),
-            ),
-            (
-                "default_sample_flags",
-                Value::Flags(b.default_sample_flags, 8, SAMPLE),
-            ),
-        ],
-        sink,
-    )
+    let row = [
+        ("track_id", number(b.track_id)),
+        (
+            "default_sample_description_index",
+            number(b.default_sample_description_index),
+        ),
+        ("default_sample_duration", number(b.default_sample_duration)),
+        ("default_sample_size", number(b.default_sample_size)),
+        ("default_sample_flags", sample_flags(b.default_sample_flags)),
+    ];
+    put_all(&row, sink)
 }
 
 /// Movie fragment header (ISO/IEC 14496-12, 8.8.5).
@@ -52,10 +41,7 @@ pub fn put_mfhd<S: FieldSink>(b: &MfhdBox, sink: &mut S) -> Result<()>
     ensures nesting { OnOk result (Keeps S.since fields sink.old sink.new) }
 {
     put_full(b.version, b.flags, NONE, sink)?;
-    sink.field(
-        "sequence_number",
-        Value::Number(u64::from(b.sequence_number)),
-    )
+    sink.field("sequence_number", number(b.sequence_number))
 }
 
 /// The decoding time of a fragment's first sample (ISO/IEC 14496-12, 8.8.12).
@@ -63,20 +49,22 @@ pub fn put_tfdt<S: FieldSink>(b: &TfdtBox, sink: &mut S) -> Result<()>
     ensures nesting { OnOk result (Keeps S.since fields sink.old sink.new) }
 {
     put_full(b.version, b.flags, NONE, sink)?;
-    sink.field(
-        "base_media_decode_time",
-        Value::Number(b.base_media_decode_time),
-    )
+    sink.field("base_media_decode_time", number(b.base_media_decode_time))
 }
 
 /// Hands a number to a sink, if it is there.
-fn put_if_some<S: FieldSink>(name: &str, number: Option<u32>, sink: &mut S) -> Result<()>
+pub fn put_if_some<S: FieldSink>(name: &str, value: Option<u32>, sink: &mut S) -> Result<()>
     ensures nesting { OnOk result (Keeps S.since fields sink.old sink.new) }
 {
-    match number {
-        Some(number) => sink.field(name, Value::Number(u64::from(number))),
+    match value {
+        Some(value) => sink.field(name, number(value)),
         None => Ok(()),
     }
+}
+
+/// Returns the flags of a sample as a value.
+fn sample_flags(flags: u32) -> Value<'static> {
+    Value::Flags(flags, 8, SAMPLE)
 }
 
 /// Hands the flags of a sample to a sink, if they are there.
@@ -84,7 +72,7 @@ fn put_sample_flags<S: FieldSink>(name: &str, flags: Option<u32>, sink: &mut S) 
     ensures nesting { OnOk result (Keeps S.since fields sink.old sink.new) }
 {
     match flags {
-        Some(flags) => sink.field(name, Value::Flags(flags, 8, SAMPLE)),
+        Some(flags) => sink.field(name, sample_flags(flags)),
         None => Ok(()),
     }
 }
@@ -94,9 +82,9 @@ pub fn put_tfhd<S: FieldSink>(b: &TfhdBox, sink: &mut S) -> Result<()>
     ensures nesting { OnOk result (Keeps S.since fields sink.old sink.new) }
 {
     put_full(b.version, b.flags, TRACK_FRAGMENT, sink)?;
-    sink.field("track_id", Value::Number(u64::from(b.track_id)))?;
+    sink.field("track_id", number(b.track_id))?;
     if let Some(offset) = b.base_data_offset {
-        sink.field("base_data_offset", Value::Number(offset))?;
+        sink.field("base_data_offset", number(offset))?;
     }
     put_if_some("sample_description_index", b.sample_description_index, sink)?;
     put_if_some("default_sample_duration", b.default_sample_duration, sink)?;
@@ -110,7 +98,7 @@ fn put_flag_list<S: FieldSink>(name: &str, flags: &[u32], sink: &mut S) -> Resul
 {
     sink.begin_list(name, flags.len())?;
     for flags in flags.iter().take(sink.rows()) {
-        sink.item(Value::Flags(*flags, 8, SAMPLE))?;
+        sink.item(sample_flags(*flags))?;
     }
     sink.end_list()
 }
@@ -118,7 +106,7 @@ fn put_flag_list<S: FieldSink>(name: &str, flags: &[u32], sink: &mut S) -> Resul
 /// The composition time offset of a sample: signed in version 1, unsigned in version 0.
 fn composition(version: u8, offset: u32) -> Value<'static> {
     if version == 0 {
-        Value::Number(u64::from(offset))
+        number(offset)
     } else {
         Value::Signed(i64::from(offset.cast_signed()))
     }
@@ -159,11 +147,8 @@ fn put_sample<S: FieldSink>(b: &TrunBox, index: usize, sink: &mut S) -> Result<(
     ensures nesting { OnOk result (Keeps S.since entries sink.old sink.new) }
 {
     sink.begin_entry()?;
-    put_if_some(
-        "duration",
-        b.sample_durations.as_slice().get(index).copied(),
-        sink,
-    )?;
+    let duration = b.sample_durations.as_slice().get(index).copied();
+    put_if_some("duration", duration, sink)?;
     put_if_some("size", b.sample_sizes.as_slice().get(index).copied(), sink)?;
     put_sample_flags("flags", b.sample_flags.as_slice().get(index).copied(), sink)?;
     if let Some(offset) = b.sample_cts.as_slice().get(index).copied() {
@@ -176,12 +161,8 @@ fn put_sample<S: FieldSink>(b: &TrunBox, index: usize, sink: &mut S) -> Result<(
 fn put_samples<S: FieldSink>(b: &TrunBox, sink: &mut S) -> Result<()>
     ensures nesting { OnOk result (Keeps S.since fields sink.old sink.new) }
 {
-    let longest = b
-        .sample_durations
-        .len()
-        .max(b.sample_sizes.len())
-        .max(b.sample_flags.len())
-        .max(b.sample_cts.len());
+    let longest = b.sample_durations.len().max(b.sample_sizes.len());
+    let longest = longest.max(b.sample_flags.len()).max(b.sample_cts.len());
     if longest == 0 {
         return Ok(());
     }
@@ -197,7 +178,7 @@ pub fn put_trun<S: FieldSink>(b: &TrunBox, sink: &mut S) -> Result<()>
     ensures nesting { OnOk result (Keeps S.since fields sink.old sink.new) }
 {
     put_full(b.version, b.flags, TRACK_RUN, sink)?;
-    sink.field("sample_count", Value::Number(u64::from(b.sample_count)))?;
+    sink.field("sample_count", number(b.sample_count))?;
     if let Some(offset) = b.data_offset {
         sink.field("data_offset", Value::Signed(i64::from(offset)))?;
     }

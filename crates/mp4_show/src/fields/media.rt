@@ -6,7 +6,7 @@ ghost use Rattle.mp4_show.specs.Nesting.{fields, Keeps};
 use crate::brief::{put_full, put_location};
 use crate::flag_names::NONE;
 use crate::sink::{FieldSink, Result, put_all};
-use crate::value::Value;
+use crate::value::{Value, number};
 use mp4_stream::{DinfBox, DrefBox, SmhdBox, UrlBox, VmhdBox};
 
 /// Video media header (ISO/IEC 14496-12, 12.1.2).
@@ -14,16 +14,14 @@ pub fn put_vmhd<S: FieldSink>(b: &VmhdBox, sink: &mut S) -> Result<()>
     ensures nesting { OnOk result (Keeps S.since fields sink.old sink.new) }
 {
     put_full(b.version, b.flags, NONE, sink)?;
-    sink.field("graphics_mode", Value::Number(u64::from(b.graphics_mode)))?;
+    sink.field("graphics_mode", number(b.graphics_mode))?;
     sink.begin_group("op_color")?;
-    put_all(
-        &[
-            ("red", Value::Number(u64::from(b.op_color.red))),
-            ("green", Value::Number(u64::from(b.op_color.green))),
-            ("blue", Value::Number(u64::from(b.op_color.blue))),
-        ],
-        sink,
-    )?;
+    let row = [
+        ("red", number(b.op_color.red)),
+        ("green", number(b.op_color.green)),
+        ("blue", number(b.op_color.blue)),
+    ];
+    put_all(&row, sink)?;
     sink.end_group()
 }
 

@@ -6,7 +6,7 @@ ghost use Rattle.mp4_show.specs.Nesting.{fields, Keeps};
 use crate::brief::{put_data, put_data_type, put_full};
 use crate::flag_names::NONE;
 use crate::sink::{FieldSink, Result, put_all};
-use crate::value::Value;
+use crate::value::{Value, number};
 use mp4_stream::{DataBox, DataType, EmsgBox};
 
 /// The number of a type of metadata values.
@@ -33,26 +33,22 @@ pub fn put_emsg<S: FieldSink>(b: &EmsgBox, sink: &mut S) -> Result<()>
     ensures nesting { OnOk result (Keeps S.since fields sink.old sink.new) }
 {
     put_full(b.version, b.flags, NONE, sink)?;
-    put_all(
-        &[
-            ("scheme_id_uri", Value::Text(b.scheme_id_uri.as_bytes())),
-            ("value", Value::Text(b.value.as_bytes())),
-            ("timescale", Value::Number(u64::from(b.timescale))),
-        ],
-        sink,
-    )?;
+    let row = [
+        ("scheme_id_uri", Value::Text(b.scheme_id_uri.as_bytes())),
+        ("value", Value::Text(b.value.as_bytes())),
+        ("timescale", number(b.timescale)),
+    ];
+    put_all(&row, sink)?;
     if let Some(time) = b.presentation_time {
-        sink.field("presentation_time", Value::Number(time))?;
+        sink.field("presentation_time", number(time))?;
     }
     if let Some(delta) = b.presentation_time_delta {
-        sink.field("presentation_time_delta", Value::Number(u64::from(delta)))?;
+        sink.field("presentation_time_delta", number(delta))?;
     }
-    put_all(
-        &[
-            ("event_duration", Value::Number(u64::from(b.event_duration))),
-            ("id", Value::Number(u64::from(b.id))),
-            ("message_data", Value::Bytes(b.message_data.as_slice())),
-        ],
-        sink,
-    )
+    let row = [
+        ("event_duration", number(b.event_duration)),
+        ("id", number(b.id)),
+        ("message_data", Value::Bytes(b.message_data.as_slice())),
+    ];
+    put_all(&row, sink)
 }

@@ -6,24 +6,20 @@ ghost use Rattle.mp4_show.specs.Nesting.{fields, Keeps};
 use crate::brief::put_full;
 use crate::flag_names::NONE;
 use crate::sink::{FieldSink, Result, put_all};
-use crate::value::{Value, signed_rate, signed_volume};
+use crate::value::{Value, number, signed_rate, signed_volume};
 use mp4_stream::{FtypBox, MvhdBox};
 
 /// File type (ISO/IEC 14496-12, 4.3).
 pub fn put_ftyp<S: FieldSink>(b: &FtypBox, sink: &mut S) -> Result<()>
     ensures nesting { OnOk result (Keeps S.since fields sink.old sink.new) }
 {
-    put_all(
-        &[
-            ("major_brand", Value::Code(b.major_brand)),
-            ("minor_version", Value::Number(u64::from(b.minor_version))),
-            (
-                "compatible_brands",
-                Value::Codes(b.compatible_brands.as_slice()),
-            ),
-        ],
-        sink,
-    )
+    let brands = b.compatible_brands.as_slice();
+    let row = [
+        ("major_brand", Value::Code(b.major_brand)),
+        ("minor_version", number(b.minor_version)),
+        ("compatible_brands", Value::Codes(brands)),
+    ];
+    put_all(&row, sink)
 }
 
 /// Movie header (ISO/IEC 14496-12, 8.2.2).
@@ -31,17 +27,15 @@ pub fn put_mvhd<S: FieldSink>(b: &MvhdBox, sink: &mut S) -> Result<()>
     ensures nesting { OnOk result (Keeps S.since fields sink.old sink.new) }
 {
     put_full(b.version, b.flags, NONE, sink)?;
-    put_all(
-        &[
-            ("creation_time", Value::Date(b.creation_time)),
-            ("modification_time", Value::Date(b.modification_time)),
-            ("timescale", Value::Number(u64::from(b.timescale))),
-            ("duration", Value::Number(b.duration)),
-            ("rate", signed_rate(b.rate)),
-            ("volume", signed_volume(b.volume)),
-            ("matrix", Value::Matrix(&b.matrix)),
-            ("next_track_id", Value::Number(u64::from(b.next_track_id))),
-        ],
-        sink,
-    )
+    let row = [
+        ("creation_time", Value::Date(b.creation_time)),
+        ("modification_time", Value::Date(b.modification_time)),
+        ("timescale", number(b.timescale)),
+        ("duration", number(b.duration)),
+        ("rate", signed_rate(b.rate)),
+        ("volume", signed_volume(b.volume)),
+        ("matrix", Value::Matrix(&b.matrix)),
+        ("next_track_id", number(b.next_track_id)),
+    ];
+    put_all(&row, sink)
 }

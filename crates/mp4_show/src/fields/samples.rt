@@ -5,22 +5,12 @@ ghost use Rattle.mp4_show.specs.Nesting.{fields, entries, Keeps};
 
 use crate::brief::put_full;
 use crate::flag_names::NONE;
+use crate::lists::put_numbers;
 use crate::sink::{FieldSink, Result, put_all};
-use crate::value::Value;
+use crate::value::{Value, number};
 use mp4_stream::{
     Co64Box, CttsBox, CttsEntry, StcoBox, StscBox, StscEntry, StssBox, StszBox, SttsBox, SttsEntry,
 };
-
-/// Hands a list of numbers to a sink, as a field.
-pub fn put_numbers<S: FieldSink>(name: &str, numbers: &[u32], sink: &mut S) -> Result<()>
-    ensures nesting { OnOk result (Keeps S.since fields sink.old sink.new) }
-{
-    sink.begin_list(name, numbers.len())?;
-    for number in numbers.iter().take(sink.rows()) {
-        sink.item(Value::Number(u64::from(*number)))?;
-    }
-    sink.end_list()
-}
 
 /// The offsets of chunks (ISO/IEC 14496-12, 8.7.5).
 pub fn put_stco<S: FieldSink>(b: &StcoBox, sink: &mut S) -> Result<()>
@@ -35,11 +25,7 @@ pub fn put_co64<S: FieldSink>(b: &Co64Box, sink: &mut S) -> Result<()>
     ensures nesting { OnOk result (Keeps S.since fields sink.old sink.new) }
 {
     put_full(b.version, b.flags, NONE, sink)?;
-    sink.begin_list("entries", b.entries.len())?;
-    for offset in b.entries.iter().take(sink.rows()) {
-        sink.item(Value::Number(*offset))?;
-    }
-    sink.end_list()
+    put_numbers("entries", b.entries.as_slice(), sink)
 }
 
 /// The samples with which decoding can begin (ISO/IEC 14496-12, 8.6.2).
@@ -55,13 +41,11 @@ pub fn put_stsz<S: FieldSink>(b: &StszBox, sink: &mut S) -> Result<()>
     ensures nesting { OnOk result (Keeps S.since fields sink.old sink.new) }
 {
     put_full(b.version, b.flags, NONE, sink)?;
-    put_all(
-        &[
-            ("sample_size", Value::Number(u64::from(b.sample_size))),
-            ("sample_count", Value::Number(u64::from(b.sample_count))),
-        ],
-        sink,
-    )?;
+    let row = [
+        ("sample_size", number(b.sample_size)),
+        ("sample_count", number(b.sample_count)),
+    ];
+    put_all(&row, sink)?;
     put_numbers("sample_sizes", b.sample_sizes.as_slice(), sink)
 }
 
@@ -69,13 +53,11 @@ fn put_delta<S: FieldSink>(entry: &SttsEntry, sink: &mut S) -> Result<()>
     ensures nesting { OnOk result (Keeps S.since entries sink.old sink.new) }
 {
     sink.begin_entry()?;
-    put_all(
-        &[
-            ("sample_count", Value::Number(u64::from(entry.sample_count))),
-            ("sample_delta", Value::Number(u64::from(entry.sample_delta))),
-        ],
-        sink,
-    )?;
+    let row = [
+        ("sample_count", number(entry.sample_count)),
+        ("sample_delta", number(entry.sample_delta)),
+    ];
+    put_all(&row, sink)?;
     sink.end_entry()
 }
 
@@ -95,16 +77,14 @@ fn put_offset<S: FieldSink>(entry: &CttsEntry, sink: &mut S) -> Result<()>
     ensures nesting { OnOk result (Keeps S.since entries sink.old sink.new) }
 {
     sink.begin_entry()?;
-    put_all(
-        &[
-            ("sample_count", Value::Number(u64::from(entry.sample_count))),
-            (
-                "sample_offset",
-                Value::Signed(i64::from(entry.sample_offset)),
-            ),
-        ],
-        sink,
-    )?;
+    let row = [
+        ("sample_count", number(entry.sample_count)),
+        (
+            "sample_offset",
+            Value::Signed(i64::from(entry.sample_offset)),
+        ),
+    ];
+    put_all(&row, sink)?;
     sink.end_entry()
 }
 
@@ -124,21 +104,16 @@ fn put_run_of_chunks<S: FieldSink>(entry: &StscEntry, sink: &mut S) -> Result<()
     ensures nesting { OnOk result (Keeps S.since entries sink.old sink.new) }
 {
     sink.begin_entry()?;
-    put_all(
-        &[
-            ("first_chunk", Value::Number(u64::from(entry.first_chunk))),
-            (
-                "samples_per_chunk",
-                Value::Number(u64::from(entry.samples_per_chunk)),
-            ),
-            (
-                "sample_description_index",
-                Value::Number(u64::from(entry.sample_description_index)),
-            ),
-            ("first_sample", Value::Number(u64::from(entry.first_sample))),
-        ],
-        sink,
-    )?;
+    let row = [
+        ("first_chunk", number(entry.first_chunk)),
+        ("samples_per_chunk", number(entry.samples_per_chunk)),
+        (
+            "sample_description_index",
+            number(entry.sample_description_index),
+        ),
+        ("first_sample", number(entry.first_sample)),
+    ];
+    put_all(&row, sink)?;
     sink.end_entry()
 }
 

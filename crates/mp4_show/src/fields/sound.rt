@@ -7,42 +7,35 @@ use crate::brief::put_full;
 use crate::fields::entries::{put_avc1, put_hev1, put_tx3g, put_vp09};
 use crate::flag_names::NONE;
 use crate::sink::{FieldSink, Result, put_all};
-use crate::value::Value;
+use crate::value::{fixed, number};
 use mp4_stream::{DecoderConfigDescriptor, DecoderSpecificDescriptor, EsdsBox, Mp4aBox, StsdBox};
 
 fn put_specific<S: FieldSink>(d: &DecoderSpecificDescriptor, sink: &mut S) -> Result<()>
     ensures nesting { OnOk result (Keeps S.since fields sink.old sink.new) }
 {
-    put_all(
-        &[
-            ("profile", Value::Number(u64::from(d.profile))),
-            ("freq_index", Value::Number(u64::from(d.freq_index))),
-        ],
-        sink,
-    )?;
+    let row = [
+        ("profile", number(d.profile)),
+        ("freq_index", number(d.freq_index)),
+    ];
+    put_all(&row, sink)?;
     if let Some(rate) = d.sample_rate {
-        sink.field("sample_rate", Value::Number(u64::from(rate)))?;
+        sink.field("sample_rate", number(rate))?;
     }
-    sink.field("chan_conf", Value::Number(u64::from(d.chan_conf)))
+    sink.field("chan_conf", number(d.chan_conf))
 }
 
 fn put_config<S: FieldSink>(d: &DecoderConfigDescriptor, sink: &mut S) -> Result<()>
     ensures nesting { OnOk result (Keeps S.since fields sink.old sink.new) }
 {
-    put_all(
-        &[
-            (
-                "object_type_indication",
-                Value::Number(u64::from(d.object_type_indication)),
-            ),
-            ("stream_type", Value::Number(u64::from(d.stream_type))),
-            ("up_stream", Value::Number(u64::from(d.up_stream))),
-            ("buffer_size_db", Value::Number(u64::from(d.buffer_size_db))),
-            ("max_bitrate", Value::Number(u64::from(d.max_bitrate))),
-            ("avg_bitrate", Value::Number(u64::from(d.avg_bitrate))),
-        ],
-        sink,
-    )?;
+    let row = [
+        ("object_type_indication", number(d.object_type_indication)),
+        ("stream_type", number(d.stream_type)),
+        ("up_stream", number(d.up_stream)),
+        ("buffer_size_db", number(d.buffer_size_db)),
+        ("max_bitrate", number(d.max_bitrate)),
+        ("avg_bitrate", number(d.avg_bitrate)),
+    ];
+    put_all(&row, sink)?;
     sink.begin_group("dec_specific")?;
     put_specific(&d.dec_specific, sink)?;
     sink.end_group()
@@ -54,7 +47,7 @@ pub fn put_esds<S: FieldSink>(b: &EsdsBox, sink: &mut S) -> Result<()>
 {
     put_full(b.version, b.flags, NONE, sink)?;
     sink.begin_group("es_desc")?;
-    sink.field("es_id", Value::Number(u64::from(b.es_desc.es_id)))?;
+    sink.field("es_id", number(b.es_desc.es_id))?;
     sink.begin_group("dec_config")?;
     put_config(&b.es_desc.dec_config, sink)?;
     sink.end_group()?;
@@ -65,21 +58,13 @@ pub fn put_esds<S: FieldSink>(b: &EsdsBox, sink: &mut S) -> Result<()>
 pub fn put_mp4a<S: FieldSink>(b: &Mp4aBox, sink: &mut S) -> Result<()>
     ensures nesting { OnOk result (Keeps S.since fields sink.old sink.new) }
 {
-    put_all(
-        &[
-            (
-                "data_reference_index",
-                Value::Number(u64::from(b.data_reference_index)),
-            ),
-            ("channelcount", Value::Number(u64::from(b.channelcount))),
-            ("samplesize", Value::Number(u64::from(b.samplesize))),
-            (
-                "samplerate",
-                Value::Fixed(i64::from(b.samplerate.raw_value()), 16),
-            ),
-        ],
-        sink,
-    )?;
+    let row = [
+        ("data_reference_index", number(b.data_reference_index)),
+        ("channelcount", number(b.channelcount)),
+        ("samplesize", number(b.samplesize)),
+        ("samplerate", fixed(b.samplerate.raw_value())),
+    ];
+    put_all(&row, sink)?;
     if let Some(esds) = &b.esds {
         sink.begin_group("esds")?;
         put_esds(esds, sink)?;

@@ -7,7 +7,7 @@ use crate::brief::{put_full, put_named_handler};
 use crate::flag_names::{NONE, TRACK};
 use crate::language::language_value;
 use crate::sink::{FieldSink, Result, put_all};
-use crate::value::{Value, signed, signed_volume};
+use crate::value::{Value, fixed, number, signed, signed_volume};
 use mp4_stream::{ElstBox, ElstEntry, HdlrBox, MdhdBox, TkhdBox};
 
 /// Track header (ISO/IEC 14496-12, 8.3.2).
@@ -15,21 +15,19 @@ pub fn put_tkhd<S: FieldSink>(b: &TkhdBox, sink: &mut S) -> Result<()>
     ensures nesting { OnOk result (Keeps S.since fields sink.old sink.new) }
 {
     put_full(b.version, b.flags, TRACK, sink)?;
-    put_all(
-        &[
-            ("creation_time", Value::Date(b.creation_time)),
-            ("modification_time", Value::Date(b.modification_time)),
-            ("track_id", Value::Number(u64::from(b.track_id))),
-            ("duration", Value::Number(b.duration)),
-            ("layer", signed(b.layer)),
-            ("alternate_group", signed(b.alternate_group)),
-            ("volume", signed_volume(b.volume)),
-            ("matrix", Value::Matrix(&b.matrix)),
-            ("width", Value::Fixed(i64::from(b.width.raw_value()), 16)),
-            ("height", Value::Fixed(i64::from(b.height.raw_value()), 16)),
-        ],
-        sink,
-    )
+    let row = [
+        ("creation_time", Value::Date(b.creation_time)),
+        ("modification_time", Value::Date(b.modification_time)),
+        ("track_id", number(b.track_id)),
+        ("duration", number(b.duration)),
+        ("layer", signed(b.layer)),
+        ("alternate_group", signed(b.alternate_group)),
+        ("volume", signed_volume(b.volume)),
+        ("matrix", Value::Matrix(&b.matrix)),
+        ("width", fixed(b.width.raw_value())),
+        ("height", fixed(b.height.raw_value())),
+    ];
+    put_all(&row, sink)
 }
 
 /// Media header (ISO/IEC 14496-12, 8.4.2).
@@ -37,16 +35,14 @@ pub fn put_mdhd<S: FieldSink>(b: &MdhdBox, sink: &mut S) -> Result<()>
     ensures nesting { OnOk result (Keeps S.since fields sink.old sink.new) }
 {
     put_full(b.version, b.flags, NONE, sink)?;
-    put_all(
-        &[
-            ("creation_time", Value::Date(b.creation_time)),
-            ("modification_time", Value::Date(b.modification_time)),
-            ("timescale", Value::Number(u64::from(b.timescale))),
-            ("duration", Value::Number(b.duration)),
-            ("language", language_value(b.language.as_str())),
-        ],
-        sink,
-    )
+    let row = [
+        ("creation_time", Value::Date(b.creation_time)),
+        ("modification_time", Value::Date(b.modification_time)),
+        ("timescale", number(b.timescale)),
+        ("duration", number(b.duration)),
+        ("language", language_value(b.language.as_str())),
+    ];
+    put_all(&row, sink)
 }
 
 /// Handler reference (ISO/IEC 14496-12, 8.4.3).
@@ -72,18 +68,16 @@ fn put_edit<S: FieldSink>(version: u8, edit: &ElstEntry, sink: &mut S) -> Result
     ensures nesting { OnOk result (Keeps S.since entries sink.old sink.new) }
 {
     sink.begin_entry()?;
-    put_all(
-        &[
-            ("segment_duration", Value::Number(edit.segment_duration)),
-            (
-                "media_time",
-                Value::MediaTime(signed_time(version, edit.media_time)),
-            ),
-            ("media_rate", signed(edit.media_rate)),
-            ("media_rate_fraction", signed(edit.media_rate_fraction)),
-        ],
-        sink,
-    )?;
+    let row = [
+        ("segment_duration", number(edit.segment_duration)),
+        (
+            "media_time",
+            Value::MediaTime(signed_time(version, edit.media_time)),
+        ),
+        ("media_rate", signed(edit.media_rate)),
+        ("media_rate_fraction", signed(edit.media_rate_fraction)),
+    ];
+    put_all(&row, sink)?;
     sink.end_entry()
 }
 

@@ -6,9 +6,9 @@ ghost use Rattle.mp4_show.specs.Nesting.{fields, Keeps};
 use crate::entries::{Entry, put_each};
 use crate::flag_names::NONE;
 use crate::pieces::bytes_from;
-use crate::put::{bit, number_in};
+use crate::put::number_in;
 use mp4_extra::{Dfla, FlacMetadataBlock};
-use mp4_show::{FieldSink, Result, Value, put_all, put_full};
+use mp4_show::{FieldSink, Result, Value, number, put_all, put_full};
 
 /// How many bytes of data a `STREAMINFO` has.
 const STREAM_INFO: usize = 34;
@@ -48,14 +48,14 @@ fn put_stream_info<S: FieldSink>(data: &[u8], sink: &mut S) -> Result<()>
     let channels = (bits >> 41 & 7).saturating_add(1);
     let sample_bits = (bits >> 36 & 0x1F).saturating_add(1);
     let row = [
-        ("minimum_block_size", Value::Number(number_in(data, 0, 2))),
-        ("maximum_block_size", Value::Number(number_in(data, 2, 2))),
-        ("minimum_frame_size", Value::Number(number_in(data, 4, 3))),
-        ("maximum_frame_size", Value::Number(number_in(data, 7, 3))),
-        ("sample_rate", Value::Number(bits >> 44)),
-        ("channels", Value::Number(channels)),
-        ("bits_per_sample", Value::Number(sample_bits)),
-        ("total_samples", Value::Number(bits & 0xF_FFFF_FFFF)),
+        ("minimum_block_size", number(number_in(data, 0, 2))),
+        ("maximum_block_size", number(number_in(data, 2, 2))),
+        ("minimum_frame_size", number(number_in(data, 4, 3))),
+        ("maximum_frame_size", number(number_in(data, 7, 3))),
+        ("sample_rate", number(bits >> 44)),
+        ("channels", number(channels)),
+        ("bits_per_sample", number(sample_bits)),
+        ("total_samples", number(bits & 0xF_FFFF_FFFF)),
         ("MD5", Value::Bytes(bytes_from(data, 18))),
     ];
     put_all(&row, sink)
@@ -68,13 +68,13 @@ impl Entry for FlacMetadataBlock {
         let row = [
             (
                 "LastMetadataBlockFlag",
-                bit(self.kind.last_metadata_block_flag),
+                number(self.kind.last_metadata_block_flag),
             ),
             (
                 "BlockType",
                 Value::Named(u64::from(block_type), type_name(block_type)),
             ),
-            ("Length", Value::Number(data.len() as u64)),
+            ("Length", number(data.len() as u64)),
         ];
         put_all(&row, sink)?;
         put_data(block_type, data, sink)

@@ -5,10 +5,10 @@ ghost use Rattle.mp4_show.specs.Nesting.{fields, Keeps};
 
 use crate::flag_names::NONE;
 use crate::pieces::{Pieces, bytes_from, put_entries, whole};
-use crate::put::{number_in, put_if_some};
+use crate::put::number_in;
 use mp4_extra::Sgpd;
 use mp4_frame::i16_at;
-use mp4_show::{FieldSink, Result, Value, put_all, put_full};
+use mp4_show::{FieldSink, Result, Value, number, put_all, put_full, put_if_some};
 use mp4_stream::FourCC;
 
 /// Descriptions of groups of samples of one kind (ISO/IEC 14496-12, 8.9.3).
@@ -41,7 +41,7 @@ impl Pieces for Descriptions {
         let before = self.before();
         if before > 0 {
             let length = number_in(piece, 0, before);
-            sink.field("description_length", Value::Number(length))?;
+            sink.field("description_length", number(length))?;
         }
         put_description(self.grouping_type, bytes_from(piece, before), sink)
     }
@@ -101,15 +101,15 @@ fn put_roll<S: FieldSink>(bytes: &[u8], sink: &mut S) -> Result<()>
 fn put_random_access<S: FieldSink>(bits: u64, sink: &mut S) -> Result<()>
     ensures nesting { OnOk result (Keeps S.since fields sink.old sink.new) }
 {
-    sink.field("num_leading_samples_known", Value::Number(bits >> 7))?;
-    sink.field("num_leading_samples", Value::Number(bits & 0x7F))
+    sink.field("num_leading_samples_known", number(bits >> 7))?;
+    sink.field("num_leading_samples", number(bits & 0x7F))
 }
 
 /// Whether the samples of a level can be decoded without others (ISO/IEC 14496-12, 10.5).
 fn put_level<S: FieldSink>(bits: u64, sink: &mut S) -> Result<()>
     ensures nesting { OnOk result (Keeps S.since fields sink.old sink.new) }
 {
-    sink.field("level_independently_decodable", Value::Number(bits >> 7))
+    sink.field("level_independently_decodable", number(bits >> 7))
 }
 
 /// How the samples of a group are encrypted (ISO/IEC 23001-7, 6).
@@ -118,10 +118,10 @@ fn put_encryption<S: FieldSink>(bytes: &[u8], sink: &mut S) -> Result<()>
 {
     let blocks = number_in(bytes, 1, 1);
     let row = [
-        ("crypt_byte_block", Value::Number(blocks >> 4)),
-        ("skip_byte_block", Value::Number(blocks & 0xF)),
-        ("isProtected", Value::Number(number_in(bytes, 2, 1))),
-        ("Per_Sample_IV_Size", Value::Number(number_in(bytes, 3, 1))),
+        ("crypt_byte_block", number(blocks >> 4)),
+        ("skip_byte_block", number(blocks & 0xF)),
+        ("isProtected", number(number_in(bytes, 2, 1))),
+        ("Per_Sample_IV_Size", number(number_in(bytes, 3, 1))),
         ("KID", Value::Bytes(bytes.get(4..20).unwrap_or(&[]))),
     ];
     put_all(&row, sink)?;
@@ -135,7 +135,7 @@ fn put_constant<S: FieldSink>(bytes: &[u8], sink: &mut S) -> Result<()>
     if !has_constant(bytes) {
         return Ok(());
     }
-    sink.field("constant_IV_size", Value::Number(number_in(bytes, 20, 1)))?;
+    sink.field("constant_IV_size", number(number_in(bytes, 20, 1)))?;
     sink.field("constant_IV", Value::Bytes(bytes_from(bytes, 21)))
 }
 
@@ -152,7 +152,7 @@ pub fn put_sgpd<S: FieldSink>(b: &Sgpd, sink: &mut S) -> Result<()>
         b.default_group_description_index,
         sink,
     )?;
-    sink.field("entry_count", Value::Number(u64::from(b.entry_count)))?;
+    sink.field("entry_count", number(b.entry_count))?;
     let descriptions = Descriptions {
         grouping_type: b.grouping_type,
         default_length: b.default_length,

@@ -5,9 +5,8 @@ ghost use Rattle.mp4_show.specs.Nesting.{fields, Keeps};
 
 use crate::entries::{Entry, put_each};
 use crate::flag_names::NONE;
-use crate::put::bit;
 use mp4_extra::{HevcArray, HevcFormat, HevcNalUnit, HevcProfile, HevcRate, Hvcc};
-use mp4_show::{FieldSink, Result, Value, put_all};
+use mp4_show::{FieldSink, Result, Value, number, put_all};
 
 /// What a decoder has to be able to decode. The constraints are shown as their six bytes.
 fn put_profile<S: FieldSink>(p: &HevcProfile, sink: &mut S) -> Result<()>
@@ -16,15 +15,9 @@ fn put_profile<S: FieldSink>(p: &HevcProfile, sink: &mut S) -> Result<()>
     let constraints = p.general_constraint_indicator_flags.to_be_bytes();
     put_all(
         &[
-            (
-                "general_profile_space",
-                Value::Number(u64::from(p.general_profile_space)),
-            ),
-            ("general_tier_flag", bit(p.general_tier_flag)),
-            (
-                "general_profile_idc",
-                Value::Number(u64::from(p.general_profile_idc)),
-            ),
+            ("general_profile_space", number(p.general_profile_space)),
+            ("general_tier_flag", number(p.general_tier_flag)),
+            ("general_profile_idc", number(p.general_profile_idc)),
             (
                 "general_profile_compatibility_flags",
                 Value::Flags(p.general_profile_compatibility_flags, 8, NONE),
@@ -36,10 +29,7 @@ fn put_profile<S: FieldSink>(p: &HevcProfile, sink: &mut S) -> Result<()>
         "general_constraint_indicator_flags",
         Value::Bytes(&constraints[2..]),
     )?;
-    sink.field(
-        "general_level_idc",
-        Value::Number(u64::from(p.general_level_idc)),
-    )
+    sink.field("general_level_idc", number(p.general_level_idc))
 }
 
 /// How pictures are divided, and what their samples are.
@@ -49,24 +39,12 @@ fn put_format<S: FieldSink>(f: &HevcFormat, sink: &mut S) -> Result<()>
     let row = [
         (
             "min_spatial_segmentation_idc",
-            Value::Number(u64::from(f.min_spatial_segmentation_idc)),
+            number(f.min_spatial_segmentation_idc),
         ),
-        (
-            "parallelismType",
-            Value::Number(u64::from(f.parallelism_type)),
-        ),
-        (
-            "chroma_format_idc",
-            Value::Number(u64::from(f.chroma_format_idc)),
-        ),
-        (
-            "bit_depth_luma_minus8",
-            Value::Number(u64::from(f.bit_depth_luma_minus8)),
-        ),
-        (
-            "bit_depth_chroma_minus8",
-            Value::Number(u64::from(f.bit_depth_chroma_minus8)),
-        ),
+        ("parallelismType", number(f.parallelism_type)),
+        ("chroma_format_idc", number(f.chroma_format_idc)),
+        ("bit_depth_luma_minus8", number(f.bit_depth_luma_minus8)),
+        ("bit_depth_chroma_minus8", number(f.bit_depth_chroma_minus8)),
     ];
     put_all(&row, sink)
 }
@@ -76,19 +54,10 @@ fn put_rate<S: FieldSink>(r: &HevcRate, sink: &mut S) -> Result<()>
     ensures nesting { OnOk result (Keeps S.since fields sink.old sink.new) }
 {
     let row = [
-        (
-            "constantFrameRate",
-            Value::Number(u64::from(r.constant_frame_rate)),
-        ),
-        (
-            "numTemporalLayers",
-            Value::Number(u64::from(r.num_temporal_layers)),
-        ),
-        ("temporalIdNested", bit(r.temporal_id_nested)),
-        (
-            "lengthSizeMinusOne",
-            Value::Number(u64::from(r.length_size_minus_one)),
-        ),
+        ("constantFrameRate", number(r.constant_frame_rate)),
+        ("numTemporalLayers", number(r.num_temporal_layers)),
+        ("temporalIdNested", number(r.temporal_id_nested)),
+        ("lengthSizeMinusOne", number(r.length_size_minus_one)),
     ];
     put_all(&row, sink)
 }
@@ -119,7 +88,7 @@ fn put_nal_units<S: FieldSink>(units: &[HevcNalUnit], sink: &mut S) -> Result<()
 impl Entry for HevcArray {
     fn put<S: FieldSink>(&self, sink: &mut S) -> Result<()> {
         let kind = self.kind.nal_unit_type;
-        sink.field("array_completeness", bit(self.kind.array_completeness))?;
+        sink.field("array_completeness", number(self.kind.array_completeness))?;
         sink.field(
             "NAL_unit_type",
             Value::Named(u64::from(kind), nal_unit_name(kind)),
@@ -133,10 +102,10 @@ pub fn put_hvcc<S: FieldSink>(b: &Hvcc, sink: &mut S) -> Result<()>
     ensures nesting { OnOk result (Keeps S.since fields sink.old sink.new) }
 {
     let version = u64::from(b.configuration_version);
-    sink.field("configurationVersion", Value::Number(version))?;
+    sink.field("configurationVersion", number(version))?;
     put_profile(&b.profile, sink)?;
     put_format(&b.format, sink)?;
-    sink.field("avgFrameRate", Value::Number(u64::from(b.avg_frame_rate)))?;
+    sink.field("avgFrameRate", number(b.avg_frame_rate))?;
     put_rate(&b.rate, sink)?;
     put_each("arrays", b.arrays.as_slice(), sink)
 }

@@ -1,12 +1,12 @@
 //! The fields of what says how media are encrypted.
 
 ghost use Rattle.std.specs.Prelude.{OnOk};
-ghost use Rattle.mp4_show.specs.Nesting.{fields, entries, Keeps};
+ghost use Rattle.mp4_show.specs.Nesting.{fields, Keeps};
 
 use crate::flag_names::{ENCRYPTION, NONE, SCHEME};
 use crate::put::put_string;
 use mp4_extra::{Frma, Pssh, Schm, Senc, Tenc, TencPattern};
-use mp4_show::{FieldSink, Result, Value, put_all, put_full};
+use mp4_show::{FieldSink, Result, Value, number, put_all, put_full};
 
 /// The format of media before they were transformed (ISO/IEC 14496-12, 8.12.2).
 pub fn put_frma<S: FieldSink>(b: &Frma, sink: &mut S) -> Result<()>
@@ -22,7 +22,7 @@ pub fn put_schm<S: FieldSink>(b: &Schm, sink: &mut S) -> Result<()>
     put_full(b.version, b.flags, SCHEME, sink)?;
     let row = [
         ("scheme_type", Value::Code(b.scheme_type)),
-        ("scheme_version", Value::Number(u64::from(b.scheme_version))),
+        ("scheme_version", number(b.scheme_version)),
     ];
     put_all(&row, sink)?;
     match &b.scheme_uri {
@@ -60,7 +60,7 @@ pub fn put_senc<S: FieldSink>(b: &Senc, sink: &mut S) -> Result<()>
     ensures nesting { OnOk result (Keeps S.since fields sink.old sink.new) }
 {
     put_full(b.version, b.flags, ENCRYPTION, sink)?;
-    sink.field("sample_count", Value::Number(u64::from(b.sample_count)))?;
+    sink.field("sample_count", number(b.sample_count))?;
     sink.field("data_bytes", Value::Bytes(b.samples.as_slice()))
 }
 
@@ -74,11 +74,11 @@ fn put_pattern<S: FieldSink>(pattern: Option<TencPattern>, sink: &mut S) -> Resu
     let row = [
         (
             "default_crypt_byte_block",
-            Value::Number(u64::from(pattern.default_crypt_byte_block)),
+            number(pattern.default_crypt_byte_block),
         ),
         (
             "default_skip_byte_block",
-            Value::Number(u64::from(pattern.default_skip_byte_block)),
+            number(pattern.default_skip_byte_block),
         ),
     ];
     put_all(&row, sink)
@@ -91,10 +91,7 @@ fn put_constant<S: FieldSink>(bytes: &[u8], sink: &mut S) -> Result<()>
     if bytes.is_empty() {
         return Ok(());
     }
-    sink.field(
-        "default_constant_IV_size",
-        Value::Number(u64::from(bytes[0])),
-    )?;
+    sink.field("default_constant_IV_size", number(bytes[0]))?;
     sink.field("default_constant_IV", Value::Bytes(&bytes[1..]))
 }
 
@@ -104,13 +101,10 @@ pub fn put_tenc<S: FieldSink>(b: &Tenc, sink: &mut S) -> Result<()>
 {
     put_full(b.version, b.flags, NONE, sink)?;
     put_pattern(b.default_pattern, sink)?;
-    sink.field(
-        "default_isProtected",
-        Value::Number(u64::from(b.default_is_protected)),
-    )?;
+    sink.field("default_isProtected", number(b.default_is_protected))?;
     sink.field(
         "default_Per_Sample_IV_Size",
-        Value::Number(u64::from(b.default_per_sample_iv_size)),
+        number(b.default_per_sample_iv_size),
     )?;
     sink.field("default_KID", Value::Bytes(&b.default_kid))?;
     put_constant(b.default_constant_iv.as_slice(), sink)

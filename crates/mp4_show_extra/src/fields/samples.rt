@@ -1,12 +1,13 @@
 //! The fields of the tables of samples, of their groups and of what goes with them.
 
 ghost use Rattle.std.specs.Prelude.{OnOk};
-ghost use Rattle.mp4_show.specs.Nesting.{fields, entries, Keeps};
+ghost use Rattle.mp4_show.specs.Nesting.{fields, Keeps};
 
+use crate::entries::{Entry, put_each};
 use crate::flag_names::{AUXILIARY, NONE};
-use crate::put::{number_in, put_entry, put_if_some};
+use crate::put::number_in;
 use mp4_extra::{Cslg, Saio, SaioOffset, Saiz, Sbgp, SbgpEntry, Sdtp, SdtpEntry, Stz2};
-use mp4_show::{FieldSink, Result, Value, put_all, put_full};
+use mp4_show::{FieldSink, Result, Value, number, put_all, put_full, put_if_some, put_numbers};
 use mp4_stream::FourCC;
 
 /// Hands what auxiliary information is for to a sink, if the box says so.
@@ -29,7 +30,7 @@ fn put_offsets<S: FieldSink>(offsets: &[SaioOffset], sink: &mut S) -> Result<()>
 {
     sink.begin_list("offset", offsets.len())?;
     for offset in offsets.iter().take(sink.rows()) {
-        sink.item(Value::Number(offset.offset))?;
+        sink.item(number(offset.offset))?;
     }
     sink.end_list()
 }
@@ -70,20 +71,6 @@ pub fn put_cslg<S: FieldSink>(b: &Cslg, sink: &mut S) -> Result<()>
     put_all(&row, sink)
 }
 
-/// Hands numbers of one byte to a sink, unless there are none.
-fn put_sizes<S: FieldSink>(sizes: &[u8], sink: &mut S) -> Result<()>
-    ensures nesting { OnOk result (Keeps S.since fields sink.old sink.new) }
-{
-    if sizes.is_empty() {
-        return Ok(());
-    }
-    sink.begin_list("sample_info_size", sizes.len())?;
-    for size in sizes.iter().take(sink.rows()) {
-        sink.item(Value::Number(u64::from(*size)))?;
-    }
-    sink.end_list()
-}
-
 /// How long auxiliary information is (ISO/IEC 14496-12, 8.7.8).
 pub fn put_saiz<S: FieldSink>(b: &Saiz, sink: &mut S) -> Result<()>
     ensures nesting { OnOk result (Keeps S.since fields sink.old sink.new) }
@@ -93,36 +80,28 @@ pub fn put_saiz<S: FieldSink>(b: &Saiz, sink: &mut S) -> Result<()>
     let row = [
         (
             "default_sample_info_size",
-            Value::Number(u64::from(b.default_sample_info_size)),
+            number(b.default_sample_info_size),
         ),
-        ("sample_count", Value::Number(u64::from(b.sample_count))),
+        ("sample_count", number(b.sample_count)),
     ];
     put_all(&row, sink)?;
-    put_sizes(b.sample_info_sizes.as_slice(), sink)
-}
-
-fn put_run<S: FieldSink>(run: &SbgpEntry, sink: &mut S) -> Result<()>
-    ensures nesting { OnOk result (Keeps S.since entries sink.old sink.new) }
-{
-    let row = [
-        ("sample_count", Value::Number(u64::from(run.sample_count))),
-        (
-            "group_description_index",
-            Value::Number(u64::from(run.group_description_index)),
-        ),
-    ];
-    put_entry(&row, sink)
-}
-
-/// Hands runs of samples of a group to a sink.
-fn put_runs<S: FieldSink>(runs: &[SbgpEntry], sink: &mut S) -> Result<()>
-    ensures nesting { OnOk result (Keeps S.since fields sink.old sink.new) }
-{
-    sink.begin_list("entries", runs.len())?;
-    for run in runs.iter().take(sink.rows()) {
-        put_run(run, sink)?;
+    if b.sample_info_sizes.is_empty() {
+        return Ok(());
     }
-    sink.end_list()
+    put_numbers("sample_info_size", b.sample_info_sizes.as_slice(), sink)
+}
+
+impl Entry for SbgpEntry {
+    fn put<S: FieldSink>(&self, sink: &mut S) -> Result<()> {
+        let row = [
+            ("sample_count", number(self.sample_count)),
+            (
+                "group_description_index",
+                number(self.group_description_index),
+            ),
+        ];
+        put_all(&row, sink)
+    }
 }
 
 /// Which samples belong to which group (ISO/IEC 14496-12, 8.9.2).
@@ -132,39 +111,19 @@ pub fn put_sbgp<S: FieldSink>(b: &Sbgp, sink: &mut S) -> Result<()>
     put_full(b.version, b.flags, NONE, sink)?;
     sink.field("grouping_type", Value::Code(b.grouping_type))?;
     put_if_some("grouping_type_parameter", b.grouping_type_parameter, sink)?;
-    put_runs(b.entries.as_slice(), sink)
+    put_each("entries", b.entries.as_slice(), sink)
 }
 
-fn put_dependence<S: FieldSink>(sample: &SdtpEntry, sink: &mut S) -> Result<()>
-    ensures nesting { OnOk result (Keeps S.since entries sink.old sink.new) }
-{
-    let row = [
-        ("is_leading", Value::Number(u64::from(sample.is_leading))),
-        (
-            "sample_depends_on",
-            Value::Number(u64::from(sample.sample_depends_on)),
-        ),
-        (
-            "sample_is_depended_on",
-            Value::Number(u64::from(sample.sample_is_depended_on)),
-        ),
-        (
-            "sample_has_redundancy",
-            Value::Number(u64::from(sample.sample_has_redundancy)),
-        ),
-    ];
-    put_entry(&row, sink)
-}
-
-/// Hands how samples depend on others to a sink.
-fn put_dependences<S: FieldSink>(samples: &[SdtpEntry], sink: &mut S) -> Result<()>
-    ensures nesting { OnOk result (Keeps S.since fields sink.old sink.new) }
-{
-    sink.begin_list("entries", samples.len())?;
-    for sample in samples.iter().take(sink.rows()) {
-        put_dependence(sample, sink)?;
+impl Entry for SdtpEntry {
+    fn put<S: FieldSink>(&self, sink: &mut S) -> Result<()> {
+        let row = [
+            ("is_leading", number(self.is_leading)),
+            ("sample_depends_on", number(self.sample_depends_on)),
+            ("sample_is_depended_on", number(self.sample_is_depended_on)),
+            ("sample_has_redundancy", number(self.sample_has_redundancy)),
+        ];
+        put_all(&row, sink)
     }
-    sink.end_list()
 }
 
 /// How samples depend on others (ISO/IEC 14496-12, 8.6.4.3).
@@ -172,7 +131,7 @@ pub fn put_sdtp<S: FieldSink>(b: &Sdtp, sink: &mut S) -> Result<()>
     ensures nesting { OnOk result (Keeps S.since fields sink.old sink.new) }
 {
     put_full(b.version, b.flags, NONE, sink)?;
-    put_dependences(b.entries.as_slice(), sink)
+    put_each("entries", b.entries.as_slice(), sink)
 }
 
 /// The size of a sample, of so many bits: 4, 8 or 16. Of two sizes of 4 bits the first is in the upper half of a byte.
@@ -200,7 +159,7 @@ fn put_entry_sizes<S: FieldSink>(bytes: &[u8], bits: u8, count: usize, sink: &mu
 {
     sink.begin_list("entry_size", count)?;
     for index in 0..count.min(sink.rows()) {
-        sink.item(Value::Number(size_of(bytes, bits, index)))?;
+        sink.item(number(size_of(bytes, bits, index)))?;
     }
     sink.end_list()
 }
@@ -211,8 +170,8 @@ pub fn put_stz2<S: FieldSink>(b: &Stz2, sink: &mut S) -> Result<()>
 {
     put_full(b.version, b.flags, NONE, sink)?;
     let row = [
-        ("field_size", Value::Number(u64::from(b.field_size))),
-        ("sample_count", Value::Number(u64::from(b.sample_count))),
+        ("field_size", number(b.field_size)),
+        ("sample_count", number(b.sample_count)),
     ];
     put_all(&row, sink)?;
     let bytes = b.entry_sizes.as_slice();

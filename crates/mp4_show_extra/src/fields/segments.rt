@@ -3,55 +3,36 @@
 ghost use Rattle.std.specs.Prelude.{OnOk};
 ghost use Rattle.mp4_show.specs.Nesting.{fields, entries, Keeps};
 
+use crate::entries::{Entry, put_each};
 use crate::flag_names::NONE;
-use crate::put::{bit, number_in, put_entry};
+use crate::put::{number_in, put_entry};
 use mp4_extra::{Mfro, Prft, Sidx, SidxEntry, Styp, Tfra};
-use mp4_show::{FieldSink, Result, Value, put_all, put_full};
+use mp4_show::{FieldSink, Result, Value, number, put_all, put_full};
 
 /// The specifications that a segment follows (ISO/IEC 14496-12, 8.16.2).
 pub fn put_styp<S: FieldSink>(b: &Styp, sink: &mut S) -> Result<()>
     ensures nesting { OnOk result (Keeps S.since fields sink.old sink.new) }
 {
     sink.field("major_brand", Value::Code(b.major_brand))?;
-    sink.field("minor_version", Value::Number(u64::from(b.minor_version)))?;
+    sink.field("minor_version", number(b.minor_version))?;
     sink.field(
         "compatible_brands",
         Value::Codes(b.compatible_brands.as_slice()),
     )
 }
 
-fn put_reference<S: FieldSink>(reference: &SidxEntry, sink: &mut S) -> Result<()>
-    ensures nesting { OnOk result (Keeps S.since entries sink.old sink.new) }
-{
-    let row = [
-        ("reference_type", bit(reference.reference_type)),
-        (
-            "referenced_size",
-            Value::Number(u64::from(reference.referenced_size)),
-        ),
-        (
-            "subsegment_duration",
-            Value::Number(u64::from(reference.subsegment_duration)),
-        ),
-        ("starts_with_SAP", bit(reference.starts_with_sap)),
-        ("SAP_type", Value::Number(u64::from(reference.sap_type))),
-        (
-            "SAP_delta_time",
-            Value::Number(u64::from(reference.sap_delta_time)),
-        ),
-    ];
-    put_entry(&row, sink)
-}
-
-/// Hands the references of an index to a sink.
-fn put_references<S: FieldSink>(references: &[SidxEntry], sink: &mut S) -> Result<()>
-    ensures nesting { OnOk result (Keeps S.since fields sink.old sink.new) }
-{
-    sink.begin_list("references", references.len())?;
-    for reference in references.iter().take(sink.rows()) {
-        put_reference(reference, sink)?;
+impl Entry for SidxEntry {
+    fn put<S: FieldSink>(&self, sink: &mut S) -> Result<()> {
+        let row = [
+            ("reference_type", number(self.reference_type)),
+            ("referenced_size", number(self.referenced_size)),
+            ("subsegment_duration", number(self.subsegment_duration)),
+            ("starts_with_SAP", number(self.starts_with_sap)),
+            ("SAP_type", number(self.sap_type)),
+            ("SAP_delta_time", number(self.sap_delta_time)),
+        ];
+        put_all(&row, sink)
     }
-    sink.end_list()
 }
 
 /// Where the parts of a segment's media are (ISO/IEC 14496-12, 8.16.3).
@@ -60,16 +41,16 @@ pub fn put_sidx<S: FieldSink>(b: &Sidx, sink: &mut S) -> Result<()>
 {
     put_full(b.version, b.flags, NONE, sink)?;
     let row = [
-        ("reference_ID", Value::Number(u64::from(b.reference_id))),
-        ("timescale", Value::Number(u64::from(b.timescale))),
+        ("reference_ID", number(b.reference_id)),
+        ("timescale", number(b.timescale)),
         (
             "earliest_presentation_time",
-            Value::Number(b.earliest_presentation_time),
+            number(b.earliest_presentation_time),
         ),
-        ("first_offset", Value::Number(b.first_offset)),
+        ("first_offset", number(b.first_offset)),
     ];
     put_all(&row, sink)?;
-    put_references(b.entries.as_slice(), sink)
+    put_each("references", b.entries.as_slice(), sink)
 }
 
 /// When a producer made a part of the media (ISO/IEC 14496-12, 8.16.5).
@@ -78,12 +59,9 @@ pub fn put_prft<S: FieldSink>(b: &Prft, sink: &mut S) -> Result<()>
 {
     put_full(b.version, b.flags, NONE, sink)?;
     let row = [
-        (
-            "reference_track_ID",
-            Value::Number(u64::from(b.reference_track_id)),
-        ),
-        ("ntp_timestamp", Value::Number(b.ntp_timestamp)),
-        ("media_time", Value::Number(b.media_time)),
+        ("reference_track_ID", number(b.reference_track_id)),
+        ("ntp_timestamp", number(b.ntp_timestamp)),
+        ("media_time", number(b.media_time)),
     ];
     put_all(&row, sink)
 }
@@ -93,7 +71,7 @@ pub fn put_mfro<S: FieldSink>(b: &Mfro, sink: &mut S) -> Result<()>
     ensures nesting { OnOk result (Keeps S.since fields sink.old sink.new) }
 {
     put_full(b.version, b.flags, NONE, sink)?;
-    sink.field("parent_size", Value::Number(u64::from(b.parent_size)))
+    sink.field("parent_size", number(b.parent_size))
 }
 
 /// How many bytes the numbers of an entry of a `tfra` have.
@@ -138,22 +116,13 @@ fn put_access<S: FieldSink>(bytes: &[u8], at: usize, widths: Widths, sink: &mut 
     let trun = traf.saturating_add(widths.traf);
     let sample = trun.saturating_add(widths.trun);
     let row = [
-        ("time", Value::Number(number_in(bytes, at, widths.time))),
-        (
-            "moof_offset",
-            Value::Number(number_in(bytes, offset, widths.time)),
-        ),
-        (
-            "traf_number",
-            Value::Number(number_in(bytes, traf, widths.traf)),
-        ),
-        (
-            "trun_number",
-            Value::Number(number_in(bytes, trun, widths.trun)),
-        ),
+        ("time", number(number_in(bytes, at, widths.time))),
+        ("moof_offset", number(number_in(bytes, offset, widths.time))),
+        ("traf_number", number(number_in(bytes, traf, widths.traf))),
+        ("trun_number", number(number_in(bytes, trun, widths.trun))),
         (
             "sample_number",
-            Value::Number(number_in(bytes, sample, widths.sample)),
+            number(number_in(bytes, sample, widths.sample)),
         ),
     ];
     put_entry(&row, sink)
@@ -183,23 +152,20 @@ pub fn put_tfra<S: FieldSink>(b: &Tfra, sink: &mut S) -> Result<()>
 {
     put_full(b.version, b.flags, NONE, sink)?;
     let row = [
-        ("track_ID", Value::Number(u64::from(b.track_id))),
+        ("track_ID", number(b.track_id)),
         (
             "length_size_of_traf_num",
-            Value::Number(u64::from(b.lengths.length_size_of_traf_num)),
+            number(b.lengths.length_size_of_traf_num),
         ),
         (
             "length_size_of_trun_num",
-            Value::Number(u64::from(b.lengths.length_size_of_trun_num)),
+            number(b.lengths.length_size_of_trun_num),
         ),
         (
             "length_size_of_sample_num",
-            Value::Number(u64::from(b.lengths.length_size_of_sample_num)),
+            number(b.lengths.length_size_of_sample_num),
         ),
-        (
-            "number_of_entry",
-            Value::Number(u64::from(b.number_of_entry)),
-        ),
+        ("number_of_entry", number(b.number_of_entry)),
     ];
     put_all(&row, sink)?;
     let bytes = b.entries.as_slice();

@@ -4,9 +4,9 @@ ghost use Rattle.std.specs.Prelude.{OnOk};
 ghost use Rattle.mp4_show.specs.Nesting.{fields, Keeps};
 
 use crate::pieces::{Pieces, bytes_from, count_pieces, put_list, whole};
-use crate::put::{bit, number_in, put_rest};
+use crate::put::{number_in, put_rest};
 use mp4_extra::{Dac3, Dec3, Dops};
-use mp4_show::{FieldSink, Result, Value, put_all};
+use mp4_show::{FieldSink, Result, Value, number, put_all};
 
 /// How to decode AC-3 sound (ETSI TS 102 366, F.4).
 pub fn put_dac3<S: FieldSink>(b: &Dac3, sink: &mut S) -> Result<()>
@@ -14,12 +14,12 @@ pub fn put_dac3<S: FieldSink>(b: &Dac3, sink: &mut S) -> Result<()>
 {
     let c = b.config;
     let row = [
-        ("fscod", Value::Number(u64::from(c.fscod))),
-        ("bsid", Value::Number(u64::from(c.bsid))),
-        ("bsmod", Value::Number(u64::from(c.bsmod))),
-        ("acmod", Value::Number(u64::from(c.acmod))),
-        ("lfeon", bit(c.lfeon)),
-        ("bit_rate_code", Value::Number(u64::from(c.bit_rate_code))),
+        ("fscod", number(c.fscod)),
+        ("bsid", number(c.bsid)),
+        ("bsmod", number(c.bsmod)),
+        ("acmod", number(c.acmod)),
+        ("lfeon", number(c.lfeon)),
+        ("bit_rate_code", number(c.bit_rate_code)),
     ];
     put_all(&row, sink)
 }
@@ -36,13 +36,13 @@ impl Pieces for Substreams {
     fn put<S: FieldSink>(&self, piece: &[u8], sink: &mut S) -> Result<()> {
         let bits = number_in(piece, 0, 3);
         let row = [
-            ("fscod", Value::Number(bits >> 22)),
-            ("bsid", Value::Number(bits >> 17 & 0x1F)),
-            ("asvc", Value::Number(bits >> 15 & 1)),
-            ("bsmod", Value::Number(bits >> 12 & 7)),
-            ("acmod", Value::Number(bits >> 9 & 7)),
-            ("lfeon", Value::Number(bits >> 8 & 1)),
-            ("num_dep_sub", Value::Number(depending(piece))),
+            ("fscod", number(bits >> 22)),
+            ("bsid", number(bits >> 17 & 0x1F)),
+            ("asvc", number(bits >> 15 & 1)),
+            ("bsmod", number(bits >> 12 & 7)),
+            ("acmod", number(bits >> 9 & 7)),
+            ("lfeon", number(bits >> 8 & 1)),
+            ("num_dep_sub", number(depending(piece))),
         ];
         put_all(&row, sink)?;
         put_places(piece, sink)
@@ -61,7 +61,7 @@ fn put_places<S: FieldSink>(piece: &[u8], sink: &mut S) -> Result<()>
     if depending(piece) == 0 {
         return Ok(());
     }
-    sink.field("chan_loc", Value::Number(number_in(piece, 2, 2) & 0x1FF))
+    sink.field("chan_loc", number(number_in(piece, 2, 2) & 0x1FF))
 }
 
 /// Hands so many independent streams to a sink, and what follows them; all as bytes if there are fewer.
@@ -82,11 +82,8 @@ fn put_substreams<S: FieldSink>(bytes: &[u8], most: usize, sink: &mut S) -> Resu
 pub fn put_dec3<S: FieldSink>(b: &Dec3, sink: &mut S) -> Result<()>
     ensures nesting { OnOk result (Keeps S.since fields sink.old sink.new) }
 {
-    sink.field("data_rate", Value::Number(u64::from(b.config.data_rate)))?;
-    sink.field(
-        "num_ind_sub",
-        Value::Number(u64::from(b.config.num_ind_sub)),
-    )?;
+    sink.field("data_rate", number(b.config.data_rate))?;
+    sink.field("num_ind_sub", number(b.config.num_ind_sub))?;
     let count = usize::from(b.config.num_ind_sub).saturating_add(1);
     put_substreams(b.substreams.as_slice(), count, sink)
 }
@@ -99,8 +96,8 @@ fn put_mapping<S: FieldSink>(bytes: &[u8], sink: &mut S) -> Result<()>
     if bytes.len() < 2 {
         return Ok(());
     }
-    sink.field("StreamCount", Value::Number(u64::from(bytes[0])))?;
-    sink.field("CoupledCount", Value::Number(u64::from(bytes[1])))?;
+    sink.field("StreamCount", number(bytes[0]))?;
+    sink.field("CoupledCount", number(bytes[1]))?;
     sink.field("ChannelMapping", Value::Bytes(&bytes[2..]))
 }
 
@@ -109,21 +106,12 @@ pub fn put_dops<S: FieldSink>(b: &Dops, sink: &mut S) -> Result<()>
     ensures nesting { OnOk result (Keeps S.since fields sink.old sink.new) }
 {
     let row = [
-        ("Version", Value::Number(u64::from(b.version))),
-        (
-            "OutputChannelCount",
-            Value::Number(u64::from(b.output_channel_count)),
-        ),
-        ("PreSkip", Value::Number(u64::from(b.pre_skip))),
-        (
-            "InputSampleRate",
-            Value::Number(u64::from(b.input_sample_rate)),
-        ),
+        ("Version", number(b.version)),
+        ("OutputChannelCount", number(b.output_channel_count)),
+        ("PreSkip", number(b.pre_skip)),
+        ("InputSampleRate", number(b.input_sample_rate)),
         ("OutputGain", Value::Fixed(i64::from(b.output_gain), 8)),
-        (
-            "ChannelMappingFamily",
-            Value::Number(u64::from(b.channel_mapping_family)),
-        ),
+        ("ChannelMappingFamily", number(b.channel_mapping_family)),
     ];
     put_all(&row, sink)?;
     put_mapping(b.channel_mapping.as_slice(), sink)

@@ -6,23 +6,17 @@ ghost use Rattle.mp4_show.specs.Nesting.{fields, Keeps};
 use crate::entries::{Entry, put_each};
 use crate::flag_names::NONE;
 use mp4_extra::{Subs, SubsEntry, Subsample};
-use mp4_show::{FieldSink, Result, Value, put_all, put_full};
+use mp4_show::{FieldSink, Result, number, put_all, put_full};
 
 impl Entry for Subsample {
     fn put<S: FieldSink>(&self, sink: &mut S) -> Result<()> {
         let row = [
-            (
-                "subsample_size",
-                Value::Number(u64::from(self.subsample_size)),
-            ),
-            (
-                "subsample_priority",
-                Value::Number(u64::from(self.subsample_priority)),
-            ),
-            ("discardable", Value::Number(u64::from(self.discardable))),
+            ("subsample_size", number(self.subsample_size)),
+            ("subsample_priority", number(self.subsample_priority)),
+            ("discardable", number(self.discardable)),
             (
                 "codec_specific_parameters",
-                Value::Number(u64::from(self.codec_specific_parameters)),
+                number(self.codec_specific_parameters),
             ),
         ];
         put_all(&row, sink)
@@ -31,7 +25,7 @@ impl Entry for Subsample {
 
 impl Entry for SubsEntry {
     fn put<S: FieldSink>(&self, sink: &mut S) -> Result<()> {
-        sink.field("sample_delta", Value::Number(u64::from(self.sample_delta)))?;
+        sink.field("sample_delta", number(self.sample_delta))?;
         put_each("subsamples", self.subsamples.as_slice(), sink)
     }
 }
@@ -42,6 +36,6 @@ pub fn put_subs<S: FieldSink>(b: &Subs, sink: &mut S) -> Result<()>
 {
     put_full(b.version, b.flags, NONE, sink)?;
     let entries = b.entries.as_slice();
-    sink.field("entry_count", Value::Number(entries.len() as u64))?;
+    sink.field("entry_count", number(entries.len() as u64))?;
     put_each("entries", entries, sink)
 }

@@ -5,14 +5,14 @@ ghost use Rattle.mp4_show.specs.Nesting.{fields, Keeps};
 
 use crate::put::{put_rest, put_string};
 use mp4_extra::{Stpp, Wvtt};
-use mp4_show::{FieldSink, Result, Value};
+use mp4_show::{FieldSink, Result, number};
 
 /// Subtitles in XML (ISO/IEC 14496-12, 12.6.3). The boxes after the strings are shown as bytes.
 pub fn put_stpp<S: FieldSink>(b: &Stpp, sink: &mut S) -> Result<()>
     ensures nesting { OnOk result (Keeps S.since fields sink.old sink.new) }
 {
     let index = u64::from(b.data_reference_index);
-    sink.field("data_reference_index", Value::Number(index))?;
+    sink.field("data_reference_index", number(index))?;
     put_string("namespace", b.namespace.as_slice(), sink)?;
     put_string("schema_location", b.schema_location.as_slice(), sink)?;
     put_string(
@@ -28,6 +28,6 @@ pub fn put_wvtt<S: FieldSink>(b: &Wvtt, sink: &mut S) -> Result<()>
     ensures nesting { OnOk result (Keeps S.since fields sink.old sink.new) }
 {
     let index = u64::from(b.data_reference_index);
-    sink.field("data_reference_index", Value::Number(index))?;
+    sink.field("data_reference_index", number(index))?;
     put_rest(b.boxes.as_slice(), sink)
 }

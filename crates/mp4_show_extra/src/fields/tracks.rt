@@ -7,7 +7,7 @@ use crate::entries::{Entry, put_each};
 use crate::flag_names::NONE;
 use crate::put::{put_entry, put_string};
 use mp4_extra::{Btrt, Data, Elng, Keys, Kind, MetadataKey, Nmhd, TrackReference, Tref};
-use mp4_show::{FieldSink, Result, Value, put_all, put_data, put_data_type, put_full};
+use mp4_show::{FieldSink, Result, Value, number, put_all, put_data, put_data_type, put_full};
 use mp4_stream::FourCC;
 
 /// The bit rates of media (ISO/IEC 14496-12, 8.5.2.2).
@@ -15,9 +15,9 @@ pub fn put_btrt<S: FieldSink>(b: &Btrt, sink: &mut S) -> Result<()>
     ensures nesting { OnOk result (Keeps S.since fields sink.old sink.new) }
 {
     let row = [
-        ("bufferSizeDB", Value::Number(u64::from(b.buffer_size_db))),
-        ("maxBitrate", Value::Number(u64::from(b.max_bitrate))),
-        ("avgBitrate", Value::Number(u64::from(b.avg_bitrate))),
+        ("bufferSizeDB", number(b.buffer_size_db)),
+        ("maxBitrate", number(b.max_bitrate)),
+        ("avgBitrate", number(b.avg_bitrate)),
     ];
     put_all(&row, sink)
 }
@@ -33,16 +33,16 @@ fn language_letters(code: u16) -> [u8; 3] {
 
 /// Hands a part of a locale to a sink (QuickTime File Format, "Locale indicator"): its letters, if they are such, or
 /// else its number, the index of a list. 0 stands for all, and is left out.
-fn put_locale<S: FieldSink>(name: &str, number: u16, letters: &[u8], sink: &mut S) -> Result<()>
+fn put_locale<S: FieldSink>(name: &str, code: u16, letters: &[u8], sink: &mut S) -> Result<()>
     ensures nesting { OnOk result (Keeps S.since fields sink.old sink.new) }
 {
-    if number == 0 {
+    if code == 0 {
         return Ok(());
     }
     if letters.iter().all(|letter| letter.is_ascii_alphabetic()) {
         return sink.field(name, Value::Text(letters));
     }
-    sink.field(name, Value::Number(u64::from(number)))
+    sink.field(name, number(code))
 }
 
 /// A value of metadata (QuickTime File Format, "Value atom"): its type, with the set that it is of as the highest byte,
@@ -78,7 +78,7 @@ pub fn put_keys<S: FieldSink>(b: &Keys, sink: &mut S) -> Result<()>
 {
     let keys = b.entries.as_slice();
     put_full(b.version, b.flags, NONE, sink)?;
-    sink.field("entry_count", Value::Number(keys.len() as u64))?;
+    sink.field("entry_count", number(keys.len() as u64))?;
     put_each("entries", keys, sink)
 }
 
@@ -124,7 +124,7 @@ fn put_tracks<S: FieldSink>(
     for track_id in track_ids.iter().take(most) {
         let row = [
             ("reference_type", Value::Code(reference_type)),
-            ("track_ID", Value::Number(u64::from(*track_id))),
+            ("track_ID", number(*track_id)),
         ];
         put_entry(&row, sink)?;
     }

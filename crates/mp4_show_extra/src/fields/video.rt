@@ -3,9 +3,9 @@
 ghost use Rattle.std.specs.Prelude.{OnOk};
 ghost use Rattle.mp4_show.specs.Nesting.{fields, Keeps};
 
-use crate::put::{bit, number_in};
+use crate::put::number_in;
 use mp4_extra::{Av1Config, Av1c, Clap, Clli, Colr, Mdcv, Nclx, OfType, Pasp};
-use mp4_show::{FieldSink, Result, Value, put_all};
+use mp4_show::{FieldSink, Result, Value, number, put_all};
 use mp4_stream::FourCC;
 
 /// The numbers of AV1's sequence header that a reader needs first, up to its colours.
@@ -13,16 +13,13 @@ fn put_sequence<S: FieldSink>(c: &Av1Config, sink: &mut S) -> Result<()>
     ensures nesting { OnOk result (Keeps S.since fields sink.old sink.new) }
 {
     let row = [
-        ("marker", bit(c.marker)),
-        ("version", Value::Number(u64::from(c.version))),
-        ("seq_profile", Value::Number(u64::from(c.seq_profile))),
-        (
-            "seq_level_idx_0",
-            Value::Number(u64::from(c.seq_level_idx_0)),
-        ),
-        ("seq_tier_0", bit(c.seq_tier_0)),
-        ("high_bitdepth", bit(c.high_bitdepth)),
-        ("twelve_bit", bit(c.twelve_bit)),
+        ("marker", number(c.marker)),
+        ("version", number(c.version)),
+        ("seq_profile", number(c.seq_profile)),
+        ("seq_level_idx_0", number(c.seq_level_idx_0)),
+        ("seq_tier_0", number(c.seq_tier_0)),
+        ("high_bitdepth", number(c.high_bitdepth)),
+        ("twelve_bit", number(c.twelve_bit)),
     ];
     put_all(&row, sink)
 }
@@ -32,22 +29,19 @@ fn put_colours_and_delay<S: FieldSink>(c: &Av1Config, sink: &mut S) -> Result<()
     ensures nesting { OnOk result (Keeps S.since fields sink.old sink.new) }
 {
     let row = [
-        ("monochrome", bit(c.monochrome)),
-        ("chroma_subsampling_x", bit(c.chroma_subsampling_x)),
-        ("chroma_subsampling_y", bit(c.chroma_subsampling_y)),
-        (
-            "chroma_sample_position",
-            Value::Number(u64::from(c.chroma_sample_position)),
-        ),
+        ("monochrome", number(c.monochrome)),
+        ("chroma_subsampling_x", number(c.chroma_subsampling_x)),
+        ("chroma_subsampling_y", number(c.chroma_subsampling_y)),
+        ("chroma_sample_position", number(c.chroma_sample_position)),
         (
             "initial_presentation_delay_present",
-            bit(c.initial_presentation_delay_present),
+            number(c.initial_presentation_delay_present),
         ),
     ];
     put_all(&row, sink)?;
     if c.initial_presentation_delay_present {
         let delay = u64::from(c.initial_presentation_delay_minus_one);
-        return sink.field("initial_presentation_delay_minus_one", Value::Number(delay));
+        return sink.field("initial_presentation_delay_minus_one", number(delay));
     }
     Ok(())
 }
@@ -66,26 +60,14 @@ pub fn put_clap<S: FieldSink>(b: &Clap, sink: &mut S) -> Result<()>
     ensures nesting { OnOk result (Keeps S.since fields sink.old sink.new) }
 {
     let row = [
-        (
-            "cleanApertureWidthN",
-            Value::Number(u64::from(b.clean_aperture_width_n)),
-        ),
-        (
-            "cleanApertureWidthD",
-            Value::Number(u64::from(b.clean_aperture_width_d)),
-        ),
-        (
-            "cleanApertureHeightN",
-            Value::Number(u64::from(b.clean_aperture_height_n)),
-        ),
-        (
-            "cleanApertureHeightD",
-            Value::Number(u64::from(b.clean_aperture_height_d)),
-        ),
+        ("cleanApertureWidthN", number(b.clean_aperture_width_n)),
+        ("cleanApertureWidthD", number(b.clean_aperture_width_d)),
+        ("cleanApertureHeightN", number(b.clean_aperture_height_n)),
+        ("cleanApertureHeightD", number(b.clean_aperture_height_d)),
         ("horizOffN", Value::Signed(i64::from(b.horiz_off_n))),
-        ("horizOffD", Value::Number(u64::from(b.horiz_off_d))),
+        ("horizOffD", number(b.horiz_off_d)),
         ("vertOffN", Value::Signed(i64::from(b.vert_off_n))),
-        ("vertOffD", Value::Number(u64::from(b.vert_off_d))),
+        ("vertOffD", number(b.vert_off_d)),
     ];
     put_all(&row, sink)
 }
@@ -95,13 +77,10 @@ pub fn put_clli<S: FieldSink>(b: &Clli, sink: &mut S) -> Result<()>
     ensures nesting { OnOk result (Keeps S.since fields sink.old sink.new) }
 {
     let row = [
-        (
-            "max_content_light_level",
-            Value::Number(u64::from(b.max_content_light_level)),
-        ),
+        ("max_content_light_level", number(b.max_content_light_level)),
         (
             "max_pic_average_light_level",
-            Value::Number(u64::from(b.max_pic_average_light_level)),
+            number(b.max_pic_average_light_level),
         ),
     ];
     put_all(&row, sink)
@@ -113,19 +92,13 @@ fn put_nclx<S: FieldSink>(c: &Nclx, sink: &mut S) -> Result<()>
 {
     let row = [
         ("colour_type", Value::Code(FourCC { value: *b"nclx" })),
-        (
-            "colour_primaries",
-            Value::Number(u64::from(c.colour_primaries)),
-        ),
+        ("colour_primaries", number(c.colour_primaries)),
         (
             "transfer_characteristics",
-            Value::Number(u64::from(c.transfer_characteristics)),
+            number(c.transfer_characteristics),
         ),
-        (
-            "matrix_coefficients",
-            Value::Number(u64::from(c.matrix_coefficients)),
-        ),
-        ("full_range_flag", bit(c.full_range_flag)),
+        ("matrix_coefficients", number(c.matrix_coefficients)),
+        ("full_range_flag", number(c.full_range_flag)),
     ];
     put_all(&row, sink)
 }
@@ -139,12 +112,9 @@ fn put_colours<S: FieldSink>(colour_type: FourCC, bytes: &[u8], sink: &mut S) ->
         b"rICC" | b"prof" => sink.field("ICC_profile", Value::Bytes(bytes)),
         b"nclc" if bytes.len() == 6 => put_all(
             &[
-                ("colour_primaries", Value::Number(number_in(bytes, 0, 2))),
-                (
-                    "transfer_characteristics",
-                    Value::Number(number_in(bytes, 2, 2)),
-                ),
-                ("matrix_coefficients", Value::Number(number_in(bytes, 4, 2))),
+                ("colour_primaries", number(number_in(bytes, 0, 2))),
+                ("transfer_characteristics", number(number_in(bytes, 2, 2))),
+                ("matrix_coefficients", number(number_in(bytes, 4, 2))),
             ],
             sink,
         ),
@@ -167,39 +137,21 @@ pub fn put_mdcv<S: FieldSink>(b: &Mdcv, sink: &mut S) -> Result<()>
     ensures nesting { OnOk result (Keeps S.since fields sink.old sink.new) }
 {
     let row = [
-        (
-            "display_primaries_x_0",
-            Value::Number(u64::from(b.display_primaries_0.x)),
-        ),
-        (
-            "display_primaries_y_0",
-            Value::Number(u64::from(b.display_primaries_0.y)),
-        ),
-        (
-            "display_primaries_x_1",
-            Value::Number(u64::from(b.display_primaries_1.x)),
-        ),
-        (
-            "display_primaries_y_1",
-            Value::Number(u64::from(b.display_primaries_1.y)),
-        ),
-        (
-            "display_primaries_x_2",
-            Value::Number(u64::from(b.display_primaries_2.x)),
-        ),
-        (
-            "display_primaries_y_2",
-            Value::Number(u64::from(b.display_primaries_2.y)),
-        ),
-        ("white_point_x", Value::Number(u64::from(b.white_point.x))),
-        ("white_point_y", Value::Number(u64::from(b.white_point.y))),
+        ("display_primaries_x_0", number(b.display_primaries_0.x)),
+        ("display_primaries_y_0", number(b.display_primaries_0.y)),
+        ("display_primaries_x_1", number(b.display_primaries_1.x)),
+        ("display_primaries_y_1", number(b.display_primaries_1.y)),
+        ("display_primaries_x_2", number(b.display_primaries_2.x)),
+        ("display_primaries_y_2", number(b.display_primaries_2.y)),
+        ("white_point_x", number(b.white_point.x)),
+        ("white_point_y", number(b.white_point.y)),
         (
             "max_display_mastering_luminance",
-            Value::Number(u64::from(b.max_display_mastering_luminance)),
+            number(b.max_display_mastering_luminance),
         ),
         (
             "min_display_mastering_luminance",
-            Value::Number(u64::from(b.min_display_mastering_luminance)),
+            number(b.min_display_mastering_luminance),
         ),
     ];
     put_all(&row, sink)
@@ -210,8 +162,8 @@ pub fn put_pasp<S: FieldSink>(b: &Pasp, sink: &mut S) -> Result<()>
     ensures nesting { OnOk result (Keeps S.since fields sink.old sink.new) }
 {
     let row = [
-        ("hSpacing", Value::Number(u64::from(b.h_spacing))),
-        ("vSpacing", Value::Number(u64::from(b.v_spacing))),
+        ("hSpacing", number(b.h_spacing)),
+        ("vSpacing", number(b.v_spacing)),
     ];
     put_all(&row, sink)
 }

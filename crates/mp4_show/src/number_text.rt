@@ -25,8 +25,7 @@ pub fn push_number(number: u64, out: &mut String) -> Result<()>
 /// Appends a number that may be negative.
 pub fn push_signed(number: i64, out: &mut String) -> Result<()> {
     let mut buffer = itoa::Buffer::new();
-    out.push_str(buffer.format(number))?;
-    Ok(())
+    out.push_str(buffer.format(number))
 }
 
 /// Appends a fixed-point number as a decimal, exactly: the raw number has this many bits after the point.
@@ -57,8 +56,7 @@ pub fn push_fixed(raw: i64, bits: u32, out: &mut String) -> Result<()> {
 /// Appends a number with 64 bits of IEEE 754 as a decimal that reads back as the same number.
 pub fn push_float(alloc: Global, number: f64, out: &mut String) -> Result<()> {
     let text = format!(in alloc; "{number}")?;
-    out.push_str(text.as_str())?;
-    Ok(())
+    out.push_str(text.as_str())
 }
 
 /// Appends a number in hexadecimal digits, at least so many.
@@ -68,8 +66,7 @@ pub fn push_hex(alloc: Global, number: u32, digits: usize, out: &mut String) -> 
     } else {
         format!(in alloc; "0x{number:06x}")?
     };
-    out.push_str(text.as_str())?;
-    Ok(())
+    out.push_str(text.as_str())
 }
 
 /// The instant that is so many seconds after the start of 1904.
@@ -85,8 +82,7 @@ pub fn push_date(alloc: Global, seconds: u64, out: &mut String) -> Result<()> {
         && let Some(instant) = instant(seconds)
     {
         let text = format!(in alloc; "{instant} ({seconds})")?;
-        out.push_str(text.as_str())?;
-        return Ok(());
+        return out.push_str(text.as_str());
     }
     push_number(seconds, out)
 }
@@ -109,8 +105,7 @@ pub fn push_bytes(alloc: Global, bytes: &[u8], out: &mut String) -> Result<()> {
         " byte)"
     } else {
         " bytes)"
-    })?;
-    Ok(())
+    })
 }
 
 /// Appends `c` as a character of a text between quotes: a quote and a backslash after a backslash, and others as
@@ -141,6 +136,5 @@ pub fn push_text(text: &[u8], out: &mut String) -> Result<()> {
             out.push('\u{FFFD}')?;
         }
     }
-    out.push('"')?;
-    Ok(())
+    out.push('"')
 }
