@@ -22,20 +22,12 @@ module _ (c : Move) (B m : List ℕ) (shift : IsCut c B m) where
 
   long_front : length front ≡ c.insert
   unfolding front
-  long_front =
-      let a = shift.before in
-      let b = shift.order in
-      let d = shift.within in
-      length-take-le c.insert B (omega arith)
+  long_front = length-take-le c.insert B (omega arith)
 
   long_between : length between ≡ c.begin - c.insert
   unfolding between
   long_between =
-      let a = shift.before in
-      let b = shift.order in
-      let d = shift.within in
-      let n = length-drop c.insert B in
-      length-take-le (c.begin - c.insert) (drop c.insert B) (omega arith)
+      length-take-le (c.begin - c.insert) (drop c.insert B) (omega (arith, length-drop c.insert B))
 
   before : (o n : ℕ) → o + n ≤ c.insert → take n (drop o (moved_file c B m)) ≡ take n (drop o B)
   unfolding front between
@@ -54,8 +46,6 @@ module _ (c : Move) (B m : List ℕ) (shift : IsCut c B m) where
   middle o n from le =
       let a = long_front in
       let b = long_between in
-      let same = shift.same in
-      let order = shift.before in
       let one = length-append front m in
       let place : length (front ++ m) + (o - c.insert) ≡ o + (c.end - c.begin) = omega arith in
       let there : drop (length (front ++ m) + (o - c.insert)) (front ++ m ++ (between ++ drop c.end B))
@@ -79,9 +69,6 @@ module _ (c : Move) (B m : List ℕ) (shift : IsCut c B m) where
   after o from =
       let a = long_front in
       let b = long_between in
-      let same = shift.same in
-      let order = shift.before in
-      let later = shift.order in
       let one = length-append front m in
       let two = length-append (front ++ m) between in
       let place : length (front ++ m ++ between) + (o - c.end) ≡ o = omega arith in
@@ -95,17 +82,11 @@ module _ (c : Move) (B m : List ℕ) (shift : IsCut c B m) where
   as_long : length (moved_file c B m) ≡ length B
   unfolding front between
   as_long =
-      let a = long_front in
-      let b = long_between in
-      let same = shift.same in
-      let order = shift.before in
-      let later = shift.order in
-      let within = shift.within in
       let one = length-append front m in
       let two = length-append (front ++ m) between in
       let three = length-append (front ++ m ++ between) (drop c.end B) in
-      let left = length-drop c.end B in
-      let all : length (front ++ m ++ between ++ drop c.end B) ≡ length B = omega arith in
+      let all : length (front ++ m ++ between ++ drop c.end B) ≡ length B =
+      omega (arith, long_front, long_between, length-drop c.end B) in
       all
 
   movie_at : take (length m) (drop c.insert (moved_file c B m)) ≡ m
@@ -118,35 +99,23 @@ module _ (c : Move) (B m : List ℕ) (shift : IsCut c B m) where
       ∙ take_at m (between ++ drop c.end B) (length m) refl
 
 moved_low : (c : Move) (o : ℕ) → o < c.insert → moved c o ≡ o
-moved_low c o lt =
-    let no = lt-leb c.insert o lt in
-    rw no refl
+moved_low c o lt = rw (lt-leb c.insert o lt) refl
 
 moved_middle : (c : Move) (o : ℕ) → c.insert ≤ o → o < c.begin → moved c o ≡ o + (c.end - c.begin)
-moved_middle c o le lt =
-    let yes = le-leb c.insert o le in
-    let also = lt-ltb o c.begin lt in
-    rw (yes, also) refl
+moved_middle c o le lt = rw (le-leb c.insert o le, lt-ltb o c.begin lt) refl
 
 moved_high : (c : Move) (o : ℕ) → c.insert ≤ c.begin → c.begin ≤ o → moved c o ≡ o
-moved_high c o order le =
-    let yes = le-leb c.insert o (omega arith) in
-    let no = le-ltb o c.begin le in
-    rw (yes, no) refl
+moved_high c o order le = rw (le-leb c.insert o (omega arith), le-ltb o c.begin le) refl
 
 pub bytes_are_kept : BytesAreKept
 bytes_are_kept c B m o zero shift part = refl
-bytes_are_kept c B m o (suc n) shift part =
-    let order = shift.before in
-    let later = shift.order in
-    elim part [
-      | inl low ↦ rw (moved_low c o (omega arith)) (before c B m shift o (suc n) low)
-      | inr part ↦ elim part [
-        | inl among ↦
-            rw (moved_middle c o among.0 (omega arith)) (middle c B m shift o (suc n) among.0 among.1)
-        | inr high ↦ rw (moved_high c o order (omega arith)) (ap (take (suc n)) (after c B m shift o high))
-      ]
-    ]
+bytes_are_kept c B m o (suc n) shift part = elim part [
+  | inl low ↦ rw (moved_low c o (omega arith)) (before c B m shift o (suc n) low)
+  | inr part ↦ elim part [
+    | inl among ↦ rw (moved_middle c o among.0 (omega arith)) (middle c B m shift o (suc n) among.0 among.1)
+    | inr high ↦ rw (moved_high c o shift.before (omega arith)) (ap (take (suc n)) (after c B m shift o high))
+  ]
+]
 
 pub length_is_kept : LengthIsKept
 length_is_kept c B m shift = as_long c B m shift

@@ -76,7 +76,6 @@ movie_written c n movie made None s o v sr is as_long same keeps written placed 
 movie_written c n movie made (Some B) s o v sr is as_long same keeps written placed = λ long.
     let written' : n ≡ length B → Appends o v (moved_file c B made) =
     subst (λ (x : Option (List ℕ)). IfSome x (λ B. n ≡ length B → Appends o v (moved_file c B made))) sr written in
-    let within = placed.within in
     let shift : IsCut c B made = record {
       before = placed.before;
       order = placed.order;

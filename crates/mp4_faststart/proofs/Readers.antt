@@ -1,13 +1,12 @@
 -- A reader of the movie box of the written file.
-use Rattle.std.proofs.Common.{◌≡◌, ℕ, zero, suc, Bool, false, ◌+◌, ◌-◌, ◌<◌, ◌≤◌, inl, List, [], ◌∷◌, length}
+use Rattle.std.proofs.Common.{◌≡◌, ℕ, zero, suc, Bool, false, ◌+◌, ◌-◌, ◌<◌, inl, List, [], ◌∷◌, length}
 use Rattle.std.proofs.Common.{None, Some, Result, Ok, Err, refl, sym, ap, subst, ◌∙◌, arith}
 use Rattle.std.specs.Prelude.{◌==◌}
 use Rattle.std.specs.declared.option.Option.{Option}
 use Rattle.std.proofs.lemmas.Bool.{ne_eqb}
 use Rattle.mp4_movie.specs.Levels.{Found}
 use Rattle.mp4_movie.specs.Movies.{first_with, has_id, is_id, of_track, track_id, traks}
-use Rattle.mp4_movie.specs.Problems.{Problem, NoBox}
-use Rattle.mp4_movie.specs.Tables.{AreTablesOf}
+use Rattle.mp4_movie.specs.Problems.{Problem}
 use Rattle.mp4_movie.specs.declared.sample_boxes.SampleBoxes.{SampleBoxes}
 use Rattle.mp4_samples.specs.declared.sample.Sample.{Sample}
 use Rattle.mp4_samples.specs.declared.tables.Tables.{Tables}
@@ -18,8 +17,8 @@ use Rattle.mp4_faststart.specs.declared.movement.Move.{Move}
 use Rattle.mp4_faststart.specs.Moved.{IsCut}
 use Rattle.mp4_faststart.specs.Kept.{IsMoved, KeepsSamples}
 use Rattle.mp4_faststart.specs.Laws.{FindsSample, FindsSamples, TrackIdsAreKept, TracksAreKept}
-use Rattle.mp4_faststart.specs.Movie.{KeepsOptional, KeepsSamplesOf, KeepsTables, id_of, samples_at, track_count}
-use Rattle.mp4_faststart.specs.Written.{IsMovieAfter, movie_of}
+use Rattle.mp4_faststart.specs.Movie.{KeepsOptional, KeepsSamplesOf, id_of, samples_at, track_count}
+use Rattle.mp4_faststart.specs.Written.{movie_of}
 use Rattle.mp4_faststart.proofs.SameSamples.{is_moved, same_bytes}
 
 -- a track that has an answer is one of the tracks
@@ -30,8 +29,7 @@ is_counted {A} read zero (f ∷ fs) a is = omega arith
 is_counted {A} read (suc k) (f ∷ fs) a is =
     let more : (suc k == 0) ≡ false = ne_eqb _ _ (λ z. absurd (omega (arith, z))) in
     let one : suc k - 1 ≡ k = omega arith in
-    let less = is_counted {A = A} read k fs a (rw (more, one) at is) in
-    omega (arith, less)
+    omega (arith, is_counted {A = A} read k fs a (rw (more, one) at is))
 
 found_sample : (c : Move) (B m : List ℕ) (t u : Tables) (n : ℕ) (a : Sample) → IsCut c B m → KeepsSamples c t u
     → n < sample_count t → IsSample t n a → FindsSample c B m u n a
@@ -95,6 +93,5 @@ module _ (B m : List ℕ) (id : ℕ) where
 
 pub track_ids_are_kept : TrackIdsAreKept
 track_ids_are_kept c B m id movie =
-    let M = movie_of c B in
-    same_first M m id 0 (traks (boxes_of M)) (traks (boxes_of m)) movie.tracks.count
+    same_first (movie_of c B) m id 0 (traks (boxes_of (movie_of c B))) (traks (boxes_of m)) movie.tracks.count
     (λ k less. (movie.tracks.tracks k less).track_id_is)

@@ -54,13 +54,10 @@ module _ (c : Move) (t u : Tables) (n : ℕ) (s r after_s after_r : Progress) (s
     counted_a : n < sample_count t
     counted_a = rw (st, sn) at gives_a.0
 
-    counted_b : n < sample_count u
-    counted_b = rw (ru, rn) at gives_b.0
-
     pub kept_here : IsMoved c a b → KeepsSample c t u n
     kept_here moved = record {
       counted = counted_a;
-      still_counted = counted_b;
+      still_counted = rw (ru, rn) at gives_b.0;
       before = a;
       after = b;
       is_before = is_a;
@@ -74,12 +71,6 @@ module _ (c : Move) (t u : Tables) (n : ℕ) (s r after_s after_r : Progress) (s
       kept = kept;
       lost = λ here. not (is_moved c t u n a b is_a is_b here);
     }
-
-  -- the first has a sample of number n
-  pub not_over : n < sample_count t → GivesSample s None after_s → ⊥
-  not_over lt over =
-      let le : sample_count t ≤ n = rw (st, sn) at over.0 in
-      omega arith
 
   -- the other has none
   pub lost_over : n < sample_count t → GivesSample r None after_r → ((k : ℕ) → k < n → KeepsSample c t u k)

@@ -27,22 +27,18 @@ loop-number-preserved c =
       kept = below_more (λ (k : ℕ). KeepsSample c.args.shift t u k) n inv.kept here;
     }
 
-pub returns-then-not-is_moved-clause-first : goal.returns-then-not-is_moved-clause-first
-returns-then-not-is_moved-clause-first c =
+pub returns-then-not-is_moved : goal.returns-then-not-is_moved
+returns-then-not-is_moved c =
     let inv = c.loop-number.invariant in
+    let first =
     lost_here c.args.shift c.args.before.now c.args.after.now c.loop-number.number c.loop-number.were c.loop-number.are
     c.next.new.self c.next-in-loop-number.new.self inv.before inv.after inv.at inv.also_at c.in-Some.first
     c.in-Some-next.second c.in-Some.ensures.steps c.in-Some-next.ensures.steps
-    (λ moved. false≢true (c.if-not-is_moved.ensures.1 moved)) inv.kept
-
-pub returns-then-not-is_moved-clause-exact : goal.returns-then-not-is_moved-clause-exact
-returns-then-not-is_moved-clause-exact c =
-    let inv = c.loop-number.invariant in
-    not_ok c.args.shift c.args.before.now c.args.after.now c.loop-number.number
-    (lost_here c.args.shift c.args.before.now c.args.after.now c.loop-number.number c.loop-number.were c.loop-number.are
-    c.next.new.self c.next-in-loop-number.new.self inv.before inv.after inv.at inv.also_at c.in-Some.first
-    c.in-Some-next.second c.in-Some.ensures.steps c.in-Some-next.ensures.steps
-    (λ moved. false≢true (c.if-not-is_moved.ensures.1 moved)) inv.kept)
+    (λ moved. false≢true (c.if-not-is_moved.ensures.1 moved)) inv.kept in
+    record {
+      exact = not_ok c.args.shift c.args.before.now c.args.after.now c.loop-number.number first;
+      first = first;
+    }
 
 pub returns-in_default-next-clause-exact : goal.returns-in_default-next-clause-exact
 returns-in_default-next-clause-exact c =
