@@ -55,12 +55,9 @@ pub listed_at : (z : StszBox) (k : ℕ) → z.sample_size ≡ 0 → size_of z k 
 listed_at z k none = rw none refl
 
 pub bytes_alike_from : (z : StszBox) (k n : ℕ) → (z.sample_size ≡ 0 → ⊥) → bytes_of z k n ≡ n * z.sample_size
-bytes_alike_from z k zero some =
-    let none = bytes_zero z k in
-    omega (arith, none)
+bytes_alike_from z k zero some = omega (arith, bytes_zero z k)
 bytes_alike_from z k (suc n) some =
     let rest = bytes_alike_from z k n some in
-    let more = bytes_more z k n (suc n) (omega arith) in
     let differ = ne_eqb z.sample_size 0 some in
     let size : size_of z (k + n) ≡ z.sample_size = rw differ refl in
-    omega (arith, rest, more, size)
+    omega (arith, rest, bytes_more z k n (suc n) (omega arith), size)

@@ -52,12 +52,10 @@ from_media l k c t some plays s =
 pub shown_is_presented : ShownIsPresented
 shown_is_presented l k c t are plays s =
     let le = from_media l k c t are.movie plays s in
-    let here = playing_at l k c t are.movie plays le s in
     record {
       shows = s;
       first = λ u s'.
-          let there = playing_at l k c u are.movie plays le s' in
-          omega (arith, here, there);
+          omega (arith, playing_at l k c t are.movie plays le s, playing_at l k c u are.movie plays le s');
     }
 
 pub identity : NoEditListIsIdentity
@@ -94,6 +92,4 @@ fault_refutes l (Rate k rate fraction) f are =
     let clash : true ≡ false = sym (are.rates k f.0.within) ∙ f.0.fails in
     absurd (cc)
 fault_refutes l (Durations k) f are =
-    let all = through_le l.entries k f.0 in
-    let next = next_edit l.entries k f.0 in
-    omega (arith, all, next, f.1, are.fits)
+    omega (arith, through_le l.entries k f.0, next_edit l.entries k f.0, f.1, are.fits)

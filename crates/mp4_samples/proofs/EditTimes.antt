@@ -41,9 +41,8 @@ ended l k p past = elim (cases_lt p (movie_ticks l (edit_at l k).segment_duratio
 pub next_begun : (l : EditList) (k t : ℕ) → k < length l.entries → movie_ticks l (begin_of l k) ≤ t
     → ¬ Lasts l k (t - movie_ticks l (begin_of l k)) → movie_ticks l (begin_of l (k + 1)) ≤ t
 next_begun l k t within begun past =
-    let end = ended l k (t - movie_ticks l (begin_of l k)) past in
     let next = next_edit l.entries k within in
-    rw next (omega (arith, end, begun))
+    rw next (omega (arith, ended l k (t - movie_ticks l (begin_of l k)) past, begun))
 
 not_last : (l : EditList) (j k : ℕ) → j < k → k < length l.entries → is_open l j ≡ false
 not_last l j k lt within =
@@ -58,8 +57,7 @@ not_before l j k t a b lt =
     let later = begin_le l.entries (j + 1) k (omega arith) (omega arith) in
     let later' : durations_before l.entries j + (edit_at l j).segment_duration ≤ durations_before l.entries k =
     omega (arith, next, later) in
-    let ticks = mul-le-mul_left l.media_timescale later' in
-    omega (arith, ticks, lasts, a.begun, b.begun)
+    omega (arith, mul-le-mul_left l.media_timescale later', lasts, a.begun, b.begun)
 
 -- Only one edit covers each time.
 pub one_edit : (l : EditList) (j k t : ℕ) → Covers l j t → Covers l k t → j ≡ k
@@ -110,8 +108,7 @@ presents_playing l k c some within top shown plays le lasts =
         exists = mul-lt-mul_of_pos_right top some;
       };
       first = λ u s.
-          let at = playing_at l k c u some plays le s in
-          omega (arith, at);
+          omega (arith, playing_at l k c u some plays le s);
     }
 
 pub presents_no_more : (l : EditList) (k c : ℕ) → 0 < l.movie_timescale → is_dwell (edit_at l k) ≡ false
@@ -144,12 +141,9 @@ pub past_media : (l : EditList) (k t : ℕ) → Covers l k t → is_dwell (edit_
 past_media l k t covers plays past j x s =
     let same = one_edit l j k t s.covers covers in
     let s' : Shows l k t x = rw same at s in
-    let shown = playing l k t x plays s' in
-    omega (arith, shown, s'.exists, past)
+    omega (arith, playing l k t x plays s', s'.exists, past)
 
 -- The begin and the end of an edit fit 64 bits.
 pub fits_next : (l : EditList) (k : ℕ) → AreEdits l → k < length l.entries
     → begin_of l k + (edit_at l k).segment_duration < 2 ^ 64
-fits_next l k are within =
-    let all = through_le l.entries k within in
-    omega (arith, all, are.fits)
+fits_next l k are within = omega (arith, through_le l.entries k within, are.fits)

@@ -36,10 +36,8 @@ module _ (f : Fragment) (s : FragmentProgress) (r0 j0 r j : ℕ) (is : at f r0 j
         → MakesProgress {A = Result Sample FragmentFault} (λ _. ⊤) (λ s. at_most (fragment_samples_left s)) s
         (Some (Ok x)) (at f r' j' e)
     comes_on x r' j' e same next going =
-        let more = room f r j lt left in
-        let runs = ap (samples_of_runs f) same in
         let less : sample_total f - (samples_of_runs f r' + j') < sample_total f - (samples_of_runs f r0 + j0) =
-        omega (arith, more, runs, number, next) in
+        omega (arith, room f r j lt left, ap (samples_of_runs f) same, number, next) in
         let less' : fragment_samples_left (at f r' j' e) < fragment_samples_left (at f r0 j0 false) = rw going less in
         fewer s (at f r' j' e) (Ok x)
         (subst (λ (s : FragmentProgress). fragment_samples_left (at f r' j' e) < fragment_samples_left s) is less')
@@ -48,6 +46,5 @@ module _ (f : Fragment) (s : FragmentProgress) (r0 j0 r j : ℕ) (is : at f r0 j
         → MakesProgress {A = Result Sample FragmentFault} (λ _. ⊤) (λ s. at_most (fragment_samples_left s)) s
         (Some (Err e)) (at f r j true)
     faulted_on e =
-        let more = room f r j lt left in
-        let less : 0 < sample_total f - (samples_of_runs f r0 + j0) = omega (arith, more, number) in
+        let less : 0 < sample_total f - (samples_of_runs f r0 + j0) = omega (arith, room f r j lt left, number) in
         fewer s (at f r j true) (Err e) (subst (λ (s : FragmentProgress). 0 < fragment_samples_left s) is less)

@@ -25,8 +25,7 @@ module _ (f : Fragment) where
   is_run r j lt = elim (cases_lt r (length f.runs.now)) [
     | inl less ↦ less
     | inr le ↦
-        let past = ap (λ (t : TrunBox). t.sample_count) (get_or_past f.runs.now r no_run le) in
-        absurd (omega (arith, past, lt))
+        absurd (omega (arith, ap (λ (t : TrunBox). t.sample_count) (get_or_past f.runs.now r no_run le), lt))
   ]
 
   samples_le : (r s : ℕ) → r ≤ s → s ≤ length f.runs.now → samples_of_runs f r ≤ samples_of_runs f s
@@ -53,8 +52,7 @@ module _ (f : Fragment) where
       (run_at f (r + n)).sample_count = rw one at (runs_time_more f (r + n) (omega arith)) in
       let empty : (run_at f (r + n)).sample_count ≡ 0 = omega (arith, counts, is, before) in
       let nothing = ap (time_before f (run_at f (r + n))) empty in
-      let rest = times_further r n (omega arith) (omega (arith, counts, is, empty)) in
-      omega (arith, times, nothing, none, rest)
+      omega (arith, times, nothing, none, times_further r n (omega arith) (omega (arith, counts, is, empty)))
 
   times_same : (r s : ℕ) → r ≤ s → s ≤ length f.runs.now → samples_of_runs f s ≡ samples_of_runs f r
       → time_of_runs f s ≡ time_of_runs f r
@@ -85,17 +83,14 @@ module _ (f : Fragment) where
     end_before lt = elim (cases_order r s) [
       | inl same ↦
           let start = ap (samples_of_runs f) same in
-          let le = time_le (run_at f s) (j + 1) i (omega (arith, start, here, there, lt)) in
-          rw same (omega (arith, le))
+          rw same (omega (arith, time_le (run_at f s) (j + 1) i (omega (arith, start, here, there, lt))))
       | inr rest ↦ elim rest [
         | inl less ↦
             let whole = time_le (run_at f r) (j + 1) (run_at f r).sample_count (omega (arith, counted)) in
             let more = runs_time_more f r (is_run r j counted) in
-            let far = times_le (r + 1) s (omega arith) (omega (arith, is_run s i counted')) in
-            omega (arith, whole, more, far)
+            omega (arith, whole, more, times_le (r + 1) s (omega arith) (omega (arith, is_run s i counted')))
         | inr more ↦
-            let le = run_le (omega arith) in
-            absurd (omega (arith, le, more))
+            absurd (omega (arith, run_le (omega arith), more))
       ]
     ]
 
@@ -103,8 +98,7 @@ module _ (f : Fragment) where
     end_at : l ≡ k + 1 → sample_time f s i ≡ sample_time f r (j + 1)
     end_at next = elim (cases_order r s) [
       | inl same ↦
-          let start = ap (samples_of_runs f) same in
-          let one : i ≡ j + 1 = omega (arith, start, here, there, next) in
+          let one : i ≡ j + 1 = omega (arith, ap (samples_of_runs f) same, here, there, next) in
           rw (same, one) refl
       | inr rest ↦ elim rest [
         | inl less ↦
@@ -115,22 +109,17 @@ module _ (f : Fragment) where
             let first : i ≡ 0 = omega (arith, counts, far, here, there, next, counted) in
             let same = times_same (r + 1) s (omega arith) (omega (arith, within))
             (omega (arith, counts, far, here, there, next, counted)) in
-            let times = runs_time_more f r (is_run r j counted) in
             let whole = ap (time_before f (run_at f r)) last in
-            let none = no_time f (run_at f s) in
             let nothing = ap (time_before f (run_at f s)) first in
-            omega (arith, same, times, whole, none, nothing)
+            omega (arith, same, runs_time_more f r (is_run r j counted), whole, no_time f (run_at f s), nothing)
         | inr more ↦
-            let le = run_le (omega (arith, next)) in
-            absurd (omega (arith, le, more))
+            absurd (omega (arith, run_le (omega (arith, next)), more))
       ]
     ]
 
 stop_time : (f : Fragment) (r j : ℕ) (s : Sample) → IsSampleOfRun f r j s
     → s.start_time + s.duration ≡ sample_time f r (j + 1)
-stop_time f r j s is =
-    let more = time_more f (run_at f r) j in
-    omega (arith, more, is.start_time, is.duration)
+stop_time f r j s is = omega (arith, time_more f (run_at f r) j, is.start_time, is.duration)
 
 pub follow : FragmentTimesFollow
 follow f k a b (r, j, here, x) (s, i, there, y) =
@@ -138,9 +127,7 @@ follow f k a b (r, j, here, x) (s, i, there, y) =
 
 pub in_order : FragmentTimesDoNotDecrease
 in_order f m k a b lt (r, j, here, x) (s, i, there, y) =
-    let le = end_before f m k r j s i here x.counted there y.counted lt in
-    let stop = stop_time f r j a x in
-    omega (arith, le, stop, y.start_time)
+    omega (arith, end_before f m k r j s i here x.counted there y.counted lt, stop_time f r j a x, y.start_time)
 
 pub apart : RunSamplesDoNotOverlap
 apart f m k a b lt (r, j, here, x) (s, i, there, y) same =
@@ -162,13 +149,10 @@ adjacent f k a b (r, j, here, x) (s, i, there, y) same =
     let size' : a.size ≡ size_in f (run_at f s) j = rw one at x.size in
     let more = bytes_more f (run_at f s) j in
     let after : i ≡ j + 1 = omega (arith, start, here, there) in
-    let bytes = ap (bytes_before f (run_at f s)) after in
-    omega (arith, ints, begin, size', more, bytes, y.offset)
+    omega (arith, ints, begin, size', more, ap (bytes_before f (run_at f s)) after, y.offset)
 
 pub counted : FragmentSamplesAreCounted
-counted f k s (r, j, here, x) =
-    let less = room f r j (is_run f r j x.counted) x.counted in
-    omega (arith, less, here)
+counted f k s (r, j, here, x) = omega (arith, room f r j (is_run f r j x.counted) x.counted, here)
 
 pub counts_add_up : FragmentCountsAddUp
 unfolding samples_of_runs
@@ -180,10 +164,7 @@ begins f s (r, j, here, x) =
     let first : j ≡ 0 = omega (arith, here) in
     let within = is_run f r j x.counted in
     let same = times_same f 0 r (omega arith) (omega (arith, within)) (omega (arith, here, none)) in
-    let none' = no_runs_time f in
-    let nothing = ap (time_before f (run_at f r)) first in
-    let nothing' = no_time f (run_at f r) in
-    omega (arith, x.start_time, same, none', nothing, nothing')
+    omega (arith, x.start_time, same, no_runs_time f, ap (time_before f (run_at f r)) first, no_time f (run_at f r))
 
 all_times : (f : Fragment)
     → time_of_runs f (length f.runs.now) ≡ sum_by (λ t. time_before f t t.sample_count) f.runs.now
@@ -199,11 +180,8 @@ durations_add_up f k s last (r, j, here, x) =
     let end : j + 1 ≡ (run_at f r).sample_count = omega (arith, counts, far, here, last, x.counted) in
     let same = times_same f (r + 1) (length f.runs.now) (omega arith) (omega arith)
     (omega (arith, counts, far, here, last, end)) in
-    let times = runs_time_more f r within in
-    let whole = ap (time_before f (run_at f r)) end in
-    let stop = stop_time f r j s x in
     let all = all_times f in
-    omega (arith, stop, same, times, whole, all)
+    omega (arith, stop_time f r j s x, same, runs_time_more f r within, ap (time_before f (run_at f r)) end, all)
 
 one_of_run : (f : Fragment) (r j : ℕ) (a b : Sample) → IsSampleOfRun f r j a → IsSampleOfRun f r j b → a ≡ b
 one_of_run f r j a b x y =
@@ -217,6 +195,5 @@ unique f k a b (r, j, here, x) (s, i, there, y) =
     let le = run_le f k k r j s i here x.counted there y.counted (omega arith) in
     let ge = run_le f k k s i r j there y.counted here x.counted (omega arith) in
     let one : s ≡ r = omega (arith, le, ge) in
-    let start = ap (samples_of_runs f) one in
-    let same : i ≡ j = omega (arith, start, here, there) in
+    let same : i ≡ j = omega (arith, ap (samples_of_runs f) one, here, there) in
     one_of_run f r j a b x (rw (one, same) at y)

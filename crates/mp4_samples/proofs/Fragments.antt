@@ -65,15 +65,11 @@ runs_samples_more f r lt = sum_by_more (λ (t : TrunBox). t.sample_count) f.runs
 -- The first sample of a run begins where the run does.
 pub first_offset : (f : Fragment) (r : ℕ)
     → sample_offset f r 0 ≡ start_after (base_of f) (runs_end f r) (run_at f r).data_offset
-first_offset f r =
-    let none = no_bytes f (run_at f r) in
-    omega (arith, ints, none)
+first_offset f r = omega (arith, ints, no_bytes f (run_at f r))
 
 pub next_offset : (f : Fragment) (r j : ℕ)
     → sample_offset f r (j + 1) ≡ sample_offset f r j +ℤ pos (size_in f (run_at f r) j)
-next_offset f r j =
-    let more = bytes_more f (run_at f r) j in
-    omega (arith, ints, more)
+next_offset f r j = omega (arith, ints, bytes_more f (run_at f r) j)
 
 pub opened : (f : Fragment) (r j : ℕ) (end : ℤ) → j ≡ 0 → end ≡ offset_before f r j
     → start_after (base_of f) end (run_at f r).data_offset ≡ sample_offset f r j

@@ -21,8 +21,7 @@ above_all a (x ∷ xs) zero d order lt =
 above_all a (x ∷ xs) (suc i) d order lt =
     let both = and_parts _ _ order in
     let here : a < x = ltb-true a x both.0 in
-    let rest = above_all x xs i d both.1 (omega arith) in
-    omega (arith, here, rest)
+    omega (arith, here, above_all x xs i d both.1 (omega arith))
 
 rises : (a : ℕ) (xs : List ℕ) (i j d : ℕ) → increases a xs ≡ true → i < j → j < length xs
     → get_or xs i d < get_or xs j d
@@ -51,11 +50,9 @@ module _ (xs : List ℕ) (limit n : ℕ) (order : increases 0 xs ≡ true) (coun
   nothing_past y le above = unlisted_by y xs (λ i lt is. elim (cases_lt i n) [
     | inl before ↦
         let most = sorted xs order i (n - 1) 0 (omega arith) (omega (arith, count.within)) in
-        let more = above (omega arith) in
-        absurd (omega (arith, most, more, is))
+        absurd (omega (arith, most, above (omega arith), is))
     | inr after ↦
-        let more = count.high i after lt in
-        absurd (omega (arith, more, is))
+        absurd (omega (arith, count.high i after lt, is))
   ])
 
   pub last_one : 0 < n → IsLastListed xs limit (get_or xs (n - 1) 0)
@@ -100,8 +97,7 @@ module _ (xs : List ℕ) (k j : ℕ) (order : increases 0 xs ≡ true) (at : IsC
     high = λ i le lt.
         let above = at.high j (omega arith) (omega arith) in
         let no : get_or xs j 0 ≢ k + 1 = differ (omega arith) in
-        let most = sorted xs order j i 0 le lt in
-        omega (arith, above, no, most);
+        omega (arith, above, no, sorted xs order j i 0 le lt);
   }
 
   pub unlisted_next : (j < length xs → get_or xs j 0 ≢ k + 1) → is_listed (k + 1) xs ≡ false
@@ -114,16 +110,14 @@ module _ (xs : List ℕ) (k j : ℕ) (order : increases 0 xs ≡ true) (at : IsC
 not_started : (es : List SttsEntry) (time n j : ℕ) → Covers es time n → n < j → start_of es j ≤ time → ⊥
 not_started es time n j covers lt started =
     let next = start_next es n in
-    let le = start_le es (n + 1) j (omega arith) in
-    omega (arith, next, le, started, covers.lasts)
+    omega (arith, next, start_le es (n + 1) j (omega arith), started, covers.lasts)
 
 pub by_covering : (t : Tables) (time n k : ℕ) → Covers t.stts.now.entries time n → IsLastSync t n k
     → IsLastSyncAt t time k
 by_covering t time n k covers l = record {
   counted = l.counted;
   started =
-      let le = start_le t.stts.now.entries k n l.within in
-      omega (arith, le, covers.started);
+      omega (arith, start_le t.stts.now.entries k n l.within, covers.started);
   sync = l.sync;
   last = λ j lt counted started. elim (cases_lt n j) [
     | inl less ↦ absurd (not_started t.stts.now.entries time n j covers less started)
@@ -143,8 +137,7 @@ pub after_all : (t : Tables) (time n k : ℕ) → sample_count t ≤ n + 1
 after_all t time n k all ended l = record {
   counted = l.counted;
   started =
-      let le = start_le t.stts.now.entries k (sample_count t) (omega (arith, l.counted)) in
-      omega (arith, le, ended);
+      omega (arith, start_le t.stts.now.entries k (sample_count t) (omega (arith, l.counted)), ended);
   sync = l.sync;
   last = λ j lt counted started. l.last j lt (omega arith) counted;
 }

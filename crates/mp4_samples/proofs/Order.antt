@@ -28,11 +28,8 @@ end_in : (t : Tables) (k c : ℕ) (s : Sample) → IsSample t k s → s.chunk �
     → s.offset + s.size ≡ offset_of t.stsz.now t.stsc.now.entries (offsets_of t.chunk_offsets) c (k + 1)
 end_in t k c s is here =
     let first = samples_through t.stsc.now.entries (s.chunk - 1) in
-    let next = bytes_next t.stsz.now first k is.chunk.from in
-    let offset = is.offset in
-    let size = is.size in
     let stop : s.offset + s.size ≡ offset_of t.stsz.now t.stsc.now.entries (offsets_of t.chunk_offsets) s.chunk
-    (k + 1) = omega (arith, next, offset, size) in
+    (k + 1) = omega (arith, bytes_next t.stsz.now first k is.chunk.from, is.offset, is.size) in
     rw here at stop
 
 pub adjacent : SamplesAreAdjacent
@@ -42,9 +39,8 @@ pub apart : SamplesDoNotOverlap
 apart t j k a b lt is other same =
     let stop = end_in t j b.chunk a is same in
     let first = samples_through t.stsc.now.entries (b.chunk - 1) in
-    let le = bytes_le t.stsz.now first (j + 1 - first) (k - first) (omega arith) in
     let begin = other.offset in
-    omega (arith, stop, le, begin)
+    omega (arith, stop, bytes_le t.stsz.now first (j + 1 - first) (k - first) (omega arith), begin)
 
 -- The sum with one more number.
 sum_take_more : (xs : List ℕ) (k : ℕ) → sum (take (suc k) xs) ≡ sum (take k xs) + get_or xs k 0
@@ -52,10 +48,8 @@ sum_take_more [] zero = refl
 sum_take_more [] (suc k) = refl
 sum_take_more (x ∷ xs) zero = omega (arith, sum_by-cons (λ (x : ℕ). x) x [])
 sum_take_more (x ∷ xs) (suc k) =
-    let rest = sum_take_more xs k in
-    let one = sum_by-cons (λ (x : ℕ). x) x (take (suc k) xs) in
     let two = sum_by-cons (λ (x : ℕ). x) x (take k xs) in
-    omega (arith, rest, one, two)
+    omega (arith, sum_take_more xs k, sum_by-cons (λ (x : ℕ). x) x (take (suc k) xs), two)
 
 pub start_next : (es : List SttsEntry) (k : ℕ) → start_of es (k + 1) ≡ start_of es k + duration_of es k
 start_next es k =
@@ -68,11 +62,7 @@ start_le es j k le = rising (start_of es) k (λ n lt. omega (arith, start_next e
 
 stop_time : (t : Tables) (k : ℕ) (s : Sample) → IsSample t k s
     → s.start_time + s.duration ≡ start_of t.stts.now.entries (k + 1)
-stop_time t k s is =
-    let next = start_next t.stts.now.entries k in
-    let start = is.start_time in
-    let duration = is.duration in
-    omega (arith, next, start, duration)
+stop_time t k s is = omega (arith, start_next t.stts.now.entries k, is.start_time, is.duration)
 
 pub follow : TimesFollow
 follow t k a b is next = next.start_time ∙ sym (stop_time t k a is)
@@ -81,8 +71,7 @@ pub in_order : TimesDoNotDecrease
 in_order t j k a b lt is other =
     let stop = stop_time t j a is in
     let start = other.start_time in
-    let le = start_le t.stts.now.entries (j + 1) k (omega arith) in
-    omega (arith, stop, start, le)
+    omega (arith, stop, start, start_le t.stts.now.entries (j + 1) k (omega arith))
 
 start_sum : (es : List SttsEntry) (n : ℕ) → start_of es n ≡ sum_by (duration_of es) (range_with_len 0 n)
 start_sum es zero = refl

@@ -28,16 +28,13 @@ sum_first f x xs i = sum_by-cons f x (take i xs)
 
 pub sum_order : {X : Type 0} (f : X → ℕ) (xs : List X) (i j : ℕ) → i ≤ j → j ≤ length xs
     → sum_before f xs i ≤ sum_before f xs j
-sum_order f xs zero j le within =
-    let none = sum_none f xs in
-    omega (arith, none)
+sum_order f xs zero j le within = omega (arith, sum_none f xs)
 sum_order f [] (suc i) j le within = absurd (omega arith)
 sum_order f (x ∷ xs) (suc i) zero le within = absurd (omega arith)
 sum_order f (x ∷ xs) (suc i) (suc j) le within =
-    let rest = sum_order f xs i j (omega arith) (omega arith) in
     let low = sum_first f x xs i in
     let high = sum_first f x xs j in
-    omega (arith, rest, low, high)
+    omega (arith, sum_order f xs i j (omega arith) (omega arith), low, high)
 
 spelled-cons : {X A : Type 0} (count : X → ℕ) (value : X → A) (x : X) (xs : List X)
     → spelled count value (x ∷ xs) ≡ replicate (count x) (value x) ++ spelled count value xs
@@ -51,8 +48,7 @@ length_all count value [] = refl
 length_all count value (x ∷ xs) =
     let long = ap length (spelled-cons count value x xs)
     ∙ length-append (replicate (count x) (value x)) (spelled count value xs) in
-    let own = length-replicate (count x) (value x) in
-    omega (arith, long, own, length_all count value xs, sum_by-cons count x xs)
+    omega (arith, long, length-replicate (count x) (value x), length_all count value xs, sum_by-cons count x xs)
 
 sum_all : {X : Type 0} (count value : X → ℕ) (xs : List X)
     → sum (spelled count value xs) ≡ sum_by (λ x. count x * value x) xs

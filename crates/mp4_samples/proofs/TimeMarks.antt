@@ -50,8 +50,7 @@ covers_in es i n k time lt is less low high =
 pub start_here : (es : List SttsEntry) (k : ℕ) (p : TimePlace) → IsAtTime es k p → start_of es p.run.first ≡ p.time
 start_here es k p at = elim (cases_lt p.run.index (length es)) [
   | inl lt ↦
-      let start = start_is es p.run.index 0 p.run.first lt (omega (arith, at.run.first)) (omega arith) in
-      omega (arith, start, at.time)
+      omega (arith, start_is es p.run.index 0 p.run.first lt (omega (arith, at.run.first)) (omega arith), at.time)
   | inr le ↦
       let all : p.run.index ≡ length es = omega (arith, le, at.run.within) in
       let first = rw all at at.run.first in
@@ -70,7 +69,6 @@ quotient n (suc s) x lt =
     let fewer : x / suc s < n = elim (cases_lt (x / suc s) n) [
       | inl less ↦ less
       | inr le ↦
-          let most = mul-le-mul_left (suc s) le in
-          absurd (omega (arith, low, lt, most))
+          absurd (omega (arith, low, lt, mul-le-mul_left (suc s) le))
     ] in
     (omega arith, fewer, low, high)

@@ -12,8 +12,7 @@ loop-at-init c =
 pub loop-at-preserved : goal.loop-at-preserved
 loop-at-preserved c =
     let next = c.next_entry-at.ensures in
-    let chunk = ap (λ (p : ChunkPlace). p.chunk) next.is in
-    record { by = next.at; within = omega (arith, chunk, c.if-runs-at.true) }
+    record { by = next.at; within = omega (arith, ap (λ (p : ChunkPlace). p.chunk) next.is, c.if-runs-at.true) }
 
 pub returns : goal.returns
 returns c =
@@ -28,5 +27,4 @@ returns c =
       | else-loop-at-test w ↦ at_last es p c.args.count w.loop-at-test.false
     ] in
     let all = reaches es p (c.args.count - p.chunk + 1) c.args.count inv.by (omega (arith, inv.within)) order in
-    let times = more_times (c.args.count - p.chunk) p.entry.samples_per_chunk in
-    omega (arith, product, all, times, c.from.ensures)
+    omega (arith, product, all, more_times (c.args.count - p.chunk) p.entry.samples_per_chunk, c.from.ensures)

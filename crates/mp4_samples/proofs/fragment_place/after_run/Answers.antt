@@ -29,6 +29,5 @@ pub returns-clause-same : goal.returns-clause-same
 returns-clause-same c =
     let f = c.args.fragment.now in
     let p = c.args.place in
-    let count = ap (λ (t : TrunBox). t.sample_count) c.requires.run in
     let more = runs_samples_more f p.run c.requires.within in
-    omega (arith, more, count, c.requires.done, c.requires.at.counted)
+    omega (arith, more, ap (λ (t : TrunBox). t.sample_count) c.requires.run, c.requires.done, c.requires.at.counted)

@@ -38,12 +38,10 @@ loop-index-preserved c =
         | inr le ↦
             let nothing : samples ≡ 0 = omega (arith, c.min-samples.ensures, le) in
             let same : l.first + samples ≡ l.first = omega (arith, nothing) in
-            let zero_time = ap (λ (n : ℕ). n * (entry es i).sample_delta) nothing in
-            rw same (omega (arith, own, zero_time, inv.start))
+            rw same (omega (arith, own, ap (λ (n : ℕ). n * (entry es i).sample_delta) nothing, inv.start))
       ];
       now = λ less.
-          let next = sum_next count es i none lt in
-          omega (arith, next, less, c.min-samples.ensures, inv.now);
+          omega (arith, sum_next count es i none lt, less, c.min-samples.ensures, inv.now);
     }
 
 pub returns-then-left-whole-clause-covers : goal.returns-then-left-whole-clause-covers
@@ -74,8 +72,7 @@ returns-clause-none c =
       | inl less ↦
           let now : l.first ≡ sum_before count es (length es) = rw all at (inv.now less) in
           let here = start_past count value es l.first (omega (arith, now)) in
-          let end = start_past count value es c.args.count (omega (arith, now, less)) in
-          omega (arith, here, end, inv.start)
+          omega (arith, here, start_past count value es c.args.count (omega (arith, now, less)), inv.start)
       | inr le ↦
           let same : l.first ≡ c.args.count = omega (arith, le, inv.within) in
           let ended : start_of es l.first ≤ c.args.time = omega (arith, inv.start) in

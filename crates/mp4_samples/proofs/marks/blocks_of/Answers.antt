@@ -51,5 +51,4 @@ returns-clause-marks c =
 pub returns-clause-all : goal.returns-clause-all
 returns-clause-all c =
     let l = c.loop-block in
-    let long = long_push _ l.bytes.items l.total l.block c.push_reserved-2.ensures.items l.invariant.items in
-    λ none. omega (arith, long)
+    λ none. omega (arith, long_push _ l.bytes.items l.total l.block c.push_reserved-2.ensures.items l.invariant.items)

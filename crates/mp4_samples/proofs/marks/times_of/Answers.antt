@@ -21,9 +21,8 @@ pub overflow_add-time : goal.overflow_add-time
 overflow_add-time c =
     let l = c.loop-index in
     let lt : l.index < length c.args.firsts.now = omega arith in
-    let small = l.invariant.small lt in
     let below = c.requires.below l.index lt in
-    omega (arith, small, below, c.min-samples.ensures, c.time_of-time.ensures.bound)
+    omega (arith, l.invariant.small lt, below, c.min-samples.ensures, c.time_of-time.ensures.bound)
 
 pub loop-index-preserved : goal.loop-index-preserved
 loop-index-preserved c =
@@ -54,12 +53,10 @@ loop-index-preserved c =
       fits = each_push (λ j v. v ≤ get_or firsts j 0 * (2 ^ 32 - 1)) _ l.times.items l.time i items inv.items inv.fits
           small;
       now = λ more.
-          let next = sum_next product es i none within in
           let own = ap (λ (n : ℕ). n * (entry es i).sample_delta) (whole more).0 in
-          omega (arith, next, own, now, c.time_of-time.ensures.value);
+          omega (arith, sum_next product es i none within, own, now, c.time_of-time.ensures.value);
       small = λ more.
-          let next = (whole more).1 in
-          omega (arith, next, small, c.time_of-time.ensures.bound);
+          omega (arith, (whole more).1, small, c.time_of-time.ensures.bound);
     }
 
 pub returns-clause-marks : goal.returns-clause-marks

@@ -4,8 +4,7 @@ use Rattle.mp4_samples.proofs.TimeMarks.{count, none, product, duration_count, s
 use Rattle.mp4_samples.proofs.run_place.times_from.Goals as goal
 
 pub overflow_add-start : goal.overflow_add-start
-overflow_add-start c =
-    omega (arith, c.loop-at.invariant.fits, c.loop-at.invariant.run.begun, c.time_of.ensures.bound)
+overflow_add-start c = omega (arith, c.loop-at.invariant.fits, c.loop-at.invariant.run.begun, c.time_of.ensures.bound)
 
 pub returns-then-passed-count-clause-start : goal.returns-then-passed-count-clause-start
 returns-then-passed-count-clause-start c =

@@ -7,8 +7,7 @@ pub bytes_from-requires-clause-fits : goal.bytes_from-requires-clause-fits
 bytes_from-requires-clause-fits c = all_fit c.args.tables.now c.requires.consistent
 
 pub bytes_from-requires-clause-order : goal.bytes_from-requires-clause-order
-bytes_from-requires-clause-order c =
-    omega (arith, c.found_in-found.ensures.chunk.from, c.found_in-found.ensures.first)
+bytes_from-requires-clause-order c = omega (arith, c.found_in-found.ensures.chunk.from, c.found_in-found.ensures.first)
 
 pub overflow_add-result-2 : goal.overflow_add-result-2
 overflow_add-result-2 c =

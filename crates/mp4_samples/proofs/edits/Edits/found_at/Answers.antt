@@ -16,8 +16,7 @@ overflow_add-begin c =
     let are = subst AreEdits c.self.view_is c.self.invariant in
     let count = ap (λ (l : EditList). length l.entries) c.self.view_is in
     let duration = ap (λ (l : EditList). (edit_at l i).segment_duration) c.self.view_is in
-    let fits = fits_next l i are (omega (arith, count)) in
-    omega (arith, fits, duration, c.loop-entry.invariant.begin)
+    omega (arith, fits_next l i are (omega (arith, count)), duration, c.loop-entry.invariant.begin)
 
 pub loop-entry-preserved : goal.loop-entry-preserved
 loop-entry-preserved c =

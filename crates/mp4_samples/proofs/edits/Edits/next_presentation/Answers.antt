@@ -17,17 +17,15 @@ overflow_add-begin c =
     let are = subst AreEdits c.self.view_is c.self.invariant in
     let count = ap (λ (l : EditList). length l.entries) c.self.view_is in
     let duration = ap (λ (l : EditList). (edit_at l i).segment_duration) c.self.view_is in
-    let fits = fits_next l i are (omega (arith, count)) in
-    omega (arith, fits, duration, c.loop-entry.invariant.begin)
+    omega (arith, fits_next l i are (omega (arith, count)), duration, c.loop-entry.invariant.begin)
 
 pub loop-entry-preserved : goal.loop-entry-preserved
 loop-entry-preserved c =
     let l = c.args.self.now in
     let i = c.loop-entry.entry-index in
     let inv = c.loop-entry.invariant in
-    let count = ap (λ (l : EditList). length l.entries) c.self.view_is in
     let duration = ap (λ (l : EditList). (edit_at l i).segment_duration) c.self.view_is in
-    let next = next_edit l.entries i (omega (arith, count)) in
+    let next = next_edit l.entries i (omega (arith, ap (λ (l : EditList). length l.entries) c.self.view_is)) in
     let here : (t : ℕ) → c.args.first ≤ i → ¬ Shows l i t (media_ticks l c.args.time) =
     elim c.if-index-first.branch [
       | then-index-first+in_default w ↦ (λ t le s.
