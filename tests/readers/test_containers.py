@@ -21,7 +21,7 @@ STRUCTURE = 13
 ENTRIES = b"moov/trak/mdia/minf/stbl/stsd"
 FREE = box(b"free")
 # The fields before the boxes of those that the list has around others.
-FRONTS = {b"meta": 4, b"iref": 4, b"ipro": 6, b"fiin": 6, b"iinf": 6, b"mp4a": 28}
+FRONTS = {b"meta": 4, b"iref": 4, b"ipro": 6, b"fiin": 6, b"iinf": 6, b"mp4a": 28, b"encv": 78, b"resv": 78}
 
 
 class Line:
