@@ -101,6 +101,7 @@ def of_compact_sizes():
     # The second size of a byte is in its lower half. That of the last byte is no size.
     for name, sizes in (("of 4 bits, an odd number", stz2(4, 3, b"\x9a\xb0")),
                         ("of 4 bits, an odd number, the last half used", stz2(4, 3, b"\x9a\xbf")),
+                        ("of 4 bits, reserved bytes that are not 0", stz2(0x81828304, 3, b"\x9a\xb0")),
                         ("of 8 bits", stz2(8, 3, b"\x09\x0a\x0b")),
                         ("of 16 bits", stz2(16, 3, b"\0\x09\0\x0a\0\x0b")),
                         ("of 4 bits, one byte more", stz2(4, 3, b"\x9a\xb0\xcd")),
