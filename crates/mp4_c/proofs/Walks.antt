@@ -5,13 +5,13 @@ use Rattle.std.specs.Prelude.{◌⊎◌}
 use Rattle.mp4_c.specs.Levels.{level_at}
 use Rattle.mp4_c.specs.Walks.{Begins, wanted_at}
 use Rattle.mp4_c.specs.declared.walk_level.WalkLevel.{WalkLevel}
-use Rattle.mp4_walk.specs.FileBoxes.{GoesOn, step, top}
+use Rattle.mp4_walk.specs.FileBoxes.{step, top}
 use Rattle.mp4_walk.specs.Walk.{Closes, Nested, unwound, with_inner}
 use Rattle.mp4_walk.specs.declared.level.Level.{Level}
 use Rattle.mp4_walk.specs.declared.step.Step.{Step}
 use Rattle.mp4_walk.specs.declared.tree_box.TreeBox.{TreeBox}
 use Rattle.mp4_walk.proofs.Steps.{boxes_none}
-use Rattle.mp4_walk.proofs.Unwound.{nested_step, nested_within, unwound_step}
+use Rattle.mp4_walk.proofs.Unwound.{unwound_step}
 
 -- A walk that wants bytes is in a level.
 pub some_wanted : (rows : List WalkLevel) (count at wanted : ℕ) → wanted ≡ wanted_at rows count at → 0 < wanted
@@ -28,16 +28,13 @@ inside_of rows count at l more (inr h) is = subst (λ (x : Level). at < x.end) (
 
 -- The box of a step is the first box that the walk had yet to report, once the levels that end there are closed.
 pub box_next : (B : List ℕ) (n at : ℕ) (l : Level) (ls old were are : List Level) (s : Step) → old ≡ l ∷ ls
-    → Nested n at old → GoesOn l at s → s ≡ step B l at → n ≡ length B → at < l.end
+    → Nested n s.at were → s.level.end ≡ l.end → s ≡ step B l at → l.end ≤ length B → at < l.end
     → were ≡ with_inner s.inner (s.level ∷ ls) → Closes s.at were are
     → unwound B at old ≡ s.found ∷ unwound B s.at are
-box_next B n at l ls old were are s first nested goes step_is long inside is closes =
-    let was : Nested n at (l ∷ ls) = subst (Nested n at) first nested in
-    let within : l.end ≤ n = nested_within n l.end ls was.1 in
-    let after : Nested n s.at were = subst (Nested n s.at) (sym is) (nested_step n at l ls s was goes) in
+box_next B n at l ls old were are s first after ends is within inside enters closes =
     ap (unwound B at) first
-    ∙ unwound_step B at l ls s step_is goes.2 (omega (arith, within, long)) inside
-    ∙ ap (λ (xs : List TreeBox). s.found ∷ xs) (ap (unwound B s.at) (sym is) ∙ closes.same B n after)
+    ∙ unwound_step B at l ls s is ends within inside
+    ∙ ap (λ (xs : List TreeBox). s.found ∷ xs) (ap (unwound B s.at) (sym enters) ∙ closes.same B n after)
 
 -- The walk over an empty file begins in no level.
 pub begins_empty : (n : ℕ) (rows : List WalkLevel) → n ≡ 0
