@@ -1,13 +1,14 @@
 //! Lists the positions of boxes.
 
-ghost use Rattle.std.specs.Prelude.{◌≡◌, ◌≤◌, ◌<◌, ◌^◌, length};
-ghost use Rattle.mp4_frame.specs.Heads.{end_in};
-ghost use Rattle.mp4_frame.specs.Reading.{AnswersAs};
+ghost use Rattle.std.specs.Prelude.{◌≡◌, length, map};
+ghost use Rattle.mp4_frame.specs.Heads.{header_length};
+ghost use Rattle.mp4_frame.specs.Spans.{spans};
 ghost use Rattle.mp4_c_boxes.specs.Calls.{CopiesReading};
-ghost use Rattle.mp4_c.specs.Spans.{span_of, spans};
+ghost use Rattle.mp4_c.specs.Spans.{span_in};
 
-use mp4_c_boxes::to_rows::copy_rows;
-use mp4_frame::{Frame, Result, frame_at};
+use mp4_c_boxes::status::status_of;
+use mp4_c_boxes::to_rows::{ToRows, copy_rows};
+use mp4_frame::{BoxSpan, ByteCursor, list_boxes, u32_at};
 use std::alloc::Global;
 
 /// The position of a box in a buffer, and its code.
@@ -24,41 +25,58 @@ pub struct Span {
     pub code: u32,
 }
 
-/// Returns the span of the box that `frame` found.
-fn span_of(frame: &Frame) -> Span
-    requires order { frame.now.begin ≤ frame.now.start }
-    requires size { 8 ≤ frame.now.size }
-    requires end { end_in frame.now < 2 ^ 64 }
-    ensures { result ≡ span_of frame.now }
-{
-    Span {
-        position: frame.begin,
-        length: frame.end() - frame.begin,
-        header_length: frame.content() - frame.begin,
-        code: frame.code,
-    }
+/// The boxes of a buffer, and the buffer.
+#[derive(Drop)]
+struct Listed<'a> {
+    bytes: &'a [u8],
+    boxes: Vec<BoxSpan>,
 }
 
-/// Returns the spans of all boxes at the top level of `bytes`, or the error of the first fault.
-fn list_spans(alloc: Global, bytes: &[u8]) -> Result<Vec<Span>>
-    ensures { AnswersAs (λ v. v.items) result (spans bytes.now 0) }
+/// Returns the number of bytes of the header at the offset `at` of `bytes`: 16 if its first four hold a 1, else 8.
+fn header_length(bytes: &[u8], at: u64) -> u64
+    ensures { result ≡ header_length bytes.now at }
 {
-    let mut spans = Vec::new(alloc);
-    let mut at = 0;
-    while at < bytes.len() {
-        let frame = frame_at(bytes, at)?;
-        spans.push(span_of(&frame))?;
-        at = frame.end() as usize;
+    let at = at as usize;
+    if bytes.len().saturating_sub(at) < 4 {
+        return 8;
     }
-    Ok(spans)
+    if u32_at(bytes, at) == 1 { 16 } else { 8 }
+}
+
+impl ToRows<Span, usize> for Listed<'_> {
+    ghost rows = { λ v. map (span_in v.bytes.now) v.boxes.items };
+
+    ghost summary = { λ v. length v.boxes.items };
+
+    fn count(&self) -> usize {
+        self.boxes.len()
+    }
+
+    fn row(&self, index: usize) -> Span {
+        let found = self.boxes[index];
+        Span {
+            position: found.position,
+            length: found.length,
+            header_length: header_length(self.bytes, found.position),
+            code: u32::from(found.name),
+        }
+    }
+
+    fn summary(&self) -> usize {
+        self.boxes.len()
+    }
 }
 
 /// Copies the spans of all boxes at the top level of `bytes` to `rows`, and writes their number to `count`. It reads
 /// only the headers of the boxes. Returns the status.
 #[unsafe(no_mangle)]
 pub extern "C" fn mp4_list(alloc: Global, bytes: &[u8], rows: &mut [Span], count: &mut usize) -> u32
-    ensures { CopiesReading (spans bytes.now 0) (λ found. found) (λ found. length found) result rows.old rows.new
-        count.old count.new }
+    ensures { CopiesReading (spans bytes.now 0) (λ found. map (span_in bytes.now) found) (λ found. length found) result
+        rows.old rows.new count.old count.new }
 {
-    copy_rows(list_spans(alloc, bytes), rows, count)
+    let mut reader = ByteCursor::new(bytes);
+    match list_boxes(alloc, &mut reader) {
+        Ok(boxes) => copy_rows(Ok(Listed { bytes, boxes }), rows, count),
+        Err(error) => status_of(&error),
+    }
 }
