@@ -1,5 +1,5 @@
 -- The struct for C of a box of a walk.
-use Rattle.std.specs.Prelude.{ℕ, Some, None, unwrap_or, if◌then◌else◌}
+use Rattle.std.specs.Prelude.{ℕ, Some, None, unwrap_or}
 use Rattle.std.specs.declared.option.Option.{Option}
 use Rattle.mp4_c.specs.declared.found_box.FoundBox.{FoundBox}
 use Rattle.mp4_frame.specs.FourCC.{number_of}

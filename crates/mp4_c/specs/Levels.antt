@@ -1,5 +1,5 @@
 -- The levels of a walk, which C has as an array: the outermost is the first.
-use Rattle.std.specs.Prelude.{ℕ, zero, suc, List, [], ◌∷◌, nat_lt, slice_index_or}
+use Rattle.std.specs.Prelude.{ℕ, zero, suc, List, [], ◌∷◌, slice_index_or}
 use Rattle.mp4_c.specs.declared.walk_level.WalkLevel.{WalkLevel}
 use Rattle.mp4_walk.specs.declared.level.Level.{Level}
 

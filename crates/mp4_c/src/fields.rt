@@ -6,12 +6,12 @@ ghost use Rattle.mp4_show.specs.Nesting.{fields, Keeps};
 ghost use Rattle.mp4_compose.specs.Either.{known_or, reading_or};
 ghost use Rattle.mp4_stream.specs.AnyBox.{known_any, reading_any};
 
-use crate::front_box::{content_of, front_known};
+use crate::front_box::front_known;
 use mp4_c_boxes::status::{OUT_OF_MEMORY, status_of};
 use mp4_c_boxes::to_rows::copy_rows;
 use mp4_extra::ExtraBox;
-use mp4_frame::StreamBox;
 use mp4_frame::codes::{HDLR, URL};
+use mp4_frame::{Frame, StreamBox};
 use mp4_show::{FieldSink, JsonSink, Result, put_handler, put_reference};
 use mp4_show_extra::HasFields;
 use mp4_stream::{AnyBox, Either};
@@ -79,6 +79,15 @@ fn copy_fields_text<B: HasFields>(
         Ok(found) => copy_rows(Ok(found), text, count),
         Err(_) => OUT_OF_MEMORY,
     }
+}
+
+/// Returns the code of the box at the front of `bytes`, and its content. Returns `None` if its header or the box is cut
+/// or has a fault.
+fn content_of(bytes: &[u8]) -> Option<(u32, &[u8])> {
+    let found = Frame::at(bytes, 0).ok()?;
+    let frame = found.within(bytes.len() as u64).ok()?;
+    let content = bytes.get(frame.content() as usize..frame.end() as usize)?;
+    Some((found.code, content))
 }
 
 /// Copies the fields of the box at the front of `bytes` to `text`, and writes their length to `count`. Returns the

@@ -21,11 +21,3 @@ pub fn front_known<B: StreamBox>(alloc: Global, bytes: &[u8]) -> Result<Option<B
     reader.set_position(frame.content());
     Ok(Some(B::read_named(alloc, name, &mut reader, frame.size)?))
 }
-
-/// Returns the code of the box at the front of a buffer, and its content.
-pub fn content_of(bytes: &[u8]) -> Option<(u32, &[u8])> {
-    let found = Frame::at(bytes, 0).ok()?;
-    let frame = found.within(bytes.len() as u64).ok()?;
-    let content = bytes.get(frame.content() as usize..frame.end() as usize)?;
-    Some((found.code, content))
-}

@@ -27,26 +27,26 @@ returns c =
     (nested_step w.length w.position l (levels_at w.levels d) s nested c.step_in-step.ensures.on) in
     record {
       walk = record {
-          few = omega (arith, c.go_on-count.ensures.few, c.close_levels-walk.ensures.fewer);
-          nested = c.close_levels-walk.ensures.closes.nested w.length after;
-          goes_on = c.close_levels-walk.ensures.goes_on;
-          wanted = c.wanted_at-walk.ensures;
-        };
+        few = omega (arith, c.go_on-count.ensures.few, c.close_levels-walk.ensures.fewer);
+        nested = c.close_levels-walk.ensures.closes.nested w.length after;
+        goes_on = c.close_levels-walk.ensures.goes_on;
+        wanted = c.wanted_at-walk.ensures;
+      };
       walks = inl (
-          refl,
-          record {
-            enough = omega (arith, c.if-bytes-walk.false);
-            box = s.found;
-            fields = c.of.ensures;
-            size = refl;
-            advances = c.step_in-step.ensures.on.0;
-            first = λ B long window.
-                let ends : l.end ≤ length B = omega (arith, within, long) in
-                box_next B w.length w.position l (levels_at w.levels d) (levels_at w.levels w.count)
-                (levels_at c.go_on-count.new.levels c.go_on-count.result)
-                (levels_at c.go_on-count.new.levels c.close_levels-walk.result) s first after
-                c.step_in-step.ensures.on.2 (c.step_in-step.ensures.step B window ends) ends inside
-                c.go_on-count.ensures.levels c.close_levels-walk.ensures.closes;
-          },
-        );
+        refl,
+        record {
+          enough = omega (arith, c.if-bytes-walk.false);
+          box = s.found;
+          fields = c.of.ensures;
+          size = refl;
+          advances = c.step_in-step.ensures.on.0;
+          first = λ B long window.
+              let ends : l.end ≤ length B = omega (arith, within, long) in
+              box_next B w.length w.position l (levels_at w.levels d) (levels_at w.levels w.count)
+              (levels_at c.go_on-count.new.levels c.go_on-count.result)
+              (levels_at c.go_on-count.new.levels c.close_levels-walk.result) s first after
+              c.step_in-step.ensures.on.2 (c.step_in-step.ensures.step B window ends) ends inside
+              c.go_on-count.ensures.levels c.close_levels-walk.ensures.closes;
+        },
+      );
     }

@@ -7,6 +7,3 @@ returns-then-rows-total c =
 
 pub returns-in-Ok : goal.returns-in-Ok
 returns-in-Ok c = inr (inl (c.in-Ok.found.items, (c.in-Ok.ensures.rows, c.copy_rows.ensures)))
-
-pub returns-in-Err : goal.returns-in-Err
-returns-in-Err c = inr (inr (c.in-Err.ensures.stops, (refl, refl)))

@@ -1,6 +1,5 @@
-use Rattle.std.proofs.Common.{ℕ, inl, inr, refl, subst}
-use Rattle.std.specs.declared.option.Option.{Option}
-use Rattle.mp4_c.specs.FragmentSamples.{CopiesFragmentsOf, CopiesTrackFragments}
+use Rattle.std.proofs.Common.{inl, inr, refl}
+use Rattle.mp4_c.specs.FragmentSamples.{CopiesFragmentsOf}
 use Rattle.mp4_c.proofs.Answered.{of_found}
 use Rattle.mp4_c.proofs.fragment_samples.mp4_fragment_samples.Goals as goal
 
@@ -16,8 +15,5 @@ pub returns-in-Err : goal.returns-in-Err
 returns-in-Err c =
     elim c.in-Err.ensures.error [
       | inl memory ↦ inl (memory, (refl, refl))
-      | inr none ↦ inr
-          (subst (λ (o : Option ℕ).
-          CopiesTrackFragments c.args.bytes.now c.args.track_id o c.in-Err.status c.args.rows.now c.args.rows.now
-          c.args.count.now c.args.count.now) none.0 (none.1, (refl, refl)))
+      | inr none ↦ inr (rw (← none.0) (none.1, (refl, refl)))
     ]

@@ -1,6 +1,5 @@
-use Rattle.std.proofs.Common.{ℕ, inl, inr, refl, subst}
-use Rattle.std.specs.declared.option.Option.{Option}
-use Rattle.mp4_c.specs.Samples.{CopiesOf, CopiesTrack}
+use Rattle.std.proofs.Common.{inl, inr, refl}
+use Rattle.mp4_c.specs.Samples.{CopiesOf}
 use Rattle.mp4_c.proofs.Answered.{of_found}
 use Rattle.mp4_c.proofs.samples.mp4_samples.Goals as goal
 
@@ -15,8 +14,5 @@ pub returns-in-Err : goal.returns-in-Err
 returns-in-Err c =
     elim c.in-Err.ensures.error [
       | inl memory ↦ inl (memory, (refl, refl))
-      | inr none ↦ inr
-          (subst (λ (o : Option ℕ).
-          CopiesTrack c.args.bytes.now o c.in-Err.status c.args.rows.now c.args.rows.now c.args.count.now
-          c.args.count.now) none.0 (none.1, (refl, refl)))
+      | inr none ↦ inr (rw (← none.0) (none.1, (refl, refl)))
     ]
