@@ -6,12 +6,12 @@ use Rattle.std.proofs.lemmas.List.{flat_map_more}
 use Rattle.std.proofs.lemmas.List.Elements.{All-from_recursion, All-push}
 use Rattle.mp4_lemmas.proofs.Lists.{all_before_last, last_of_all}
 use Rattle.mp4_frame.specs.Heads.{frame, name_in, end_in}
-use Rattle.mp4_frame.specs.Reading.{Fault, Refuses, FaultAs}
+use Rattle.mp4_frame.specs.Reading.{Fault, Refuses, FaultAs, ◌>>=◌, done}
 use Rattle.mp4_frame.specs.Streams.{stream, boxes, box_of, append_read, reading_in}
 use Rattle.mp4_frame.specs.declared.error.Error.{Error}
-use Rattle.mp4_frame.specs.declared.error.Error.TheVariants as errors
 use Rattle.mp4_frame.specs.declared.frame.Frame.{Frame}
 use Rattle.mp4_frame.specs.BoxType.{is_disguised}
+use Rattle.mp4_frame.proofs.Decided.{first_faults}
 use Rattle.mp4_frame.proofs.Steps.{continue_with, one_kept, item_known, frame_faults, append_read_faults, all_read}
 use Rattle.mp4_stream.specs.NameLaws.{plain_name}
 use Rattle.mp4_stream.specs.KeptBox.{format_kept, known_kept, reading_kept}
@@ -46,15 +46,12 @@ made_more vs v old new true false h a = λ all. a (last_of_all format_kept.Writa
 made_more vs v old new false fits h a = λ all. h (all_before_last format_kept.Writable vs v all)
 
 -- the boxes in front do not affect a fault
-in_list_of : (vs : List KeptBox) (asks : Bool) (o : Result KeptBox Fault) (e : Error)
-    → Refuses e (append_read [] (record { asks_memory = asks; outcome = o }))
-    → Refuses e (append_read vs (record { asks_memory = asks; outcome = o }))
-in_list_of vs asks (Err k) e h = h
-in_list_of vs asks (Ok v) errors.IoError h = absurd cc
-in_list_of vs asks (Ok v) (errors.InvalidData _) h = absurd cc
-in_list_of vs asks (Ok v) (errors.BoxNotFound name) h = absurd cc
-in_list_of vs asks (Ok v) errors.OutOfMemory h = h
-in_list_of vs asks (Ok v) _ h = absurd h
+in_front : (vs : List KeptBox) (asks : Bool) (o : Result KeptBox Fault)
+    → (append_read [] (record { asks_memory = asks; outcome = o }) >>= λ ws. done (vs ++ ws))
+    ≡ append_read vs (record { asks_memory = asks; outcome = o })
+in_front vs true (Ok v) = refl
+in_front vs false (Ok v) = refl
+in_front vs asks (Err k) = refl
 
 alone : {X : Type 0} (asks : Bool) (o : Result (List X) Fault)
     → continue_with false [] (record { asks_memory = asks; outcome = o }) ≡ record { asks_memory = asks; outcome = o }
@@ -77,7 +74,7 @@ nothing_found B c none before =
       within = omega arith;
     }
 
-module _ (B : List ℕ) (c : Changes) (can : Bool) (at : ℕ) (so_far : SoFar B c can at) (lt : at < length B) where
+module _ {B : List ℕ} {c : Changes} {can : Bool} {at : ℕ} (so_far : SoFar B c can at) (lt : at < length B) where
   -- its frame faults
   pub frame_refused : (e : Error) → FaultAs (Err e) (frame B at) → NormalRefuses B e
   frame_refused e fault =
@@ -89,12 +86,13 @@ module _ (B : List ℕ) (c : Changes) (can : Bool) (at : ℕ) (so_far : SoFar B 
     plain = plain_name f.code
 
     -- its box can't be read, or memory is refused
-    pub box_refused : (old new : List ℕ) (e : Error)
-        → OneMade format_kept (reading_in reading_kept B f) old new (Err e) → NormalRefuses B e
-    box_refused old new e refused =
+    pub box_refused : (e : Error) → Refuses e (append_read [] (reading_in reading_kept B f)) → NormalRefuses B e
+    box_refused e refused =
         let r = reading_in reading_kept B f in
-        inl (append_read_faults known_kept reading_kept B so_far.vs at f e (boxes_of B) lt is (ap not plain)
-        (in_list_of so_far.vs r.asks_memory r.outcome e refused) so_far.told)
+        let listed = subst (Refuses e) (in_front so_far.vs r.asks_memory r.outcome)
+        (first_faults e (append_read [] r) (λ ws. done (so_far.vs ++ ws)) refused) in
+        inl (append_read_faults known_kept reading_kept B so_far.vs at f e (boxes_of B) lt is (ap not plain) listed
+        so_far.told)
 
     -- the changes of its box are found
     pub one_more : (fits : Bool) (n : Changes) → f.begin ≡ at
@@ -112,28 +110,25 @@ module _ (B : List ℕ) (c : Changes) (can : Bool) (at : ℕ) (so_far : SoFar B 
           within = within;
         }
 
-module _ (B : List ℕ) (c : Changes) (at : ℕ) (over : length B ≤ at) where
-  all_boxes : {can : Bool} (so_far : SoFar B c can at) → (boxes_of B).outcome ≡ Ok so_far.vs
-  all_boxes so_far = all_read known_kept reading_kept B (nat_lt 0 (length so_far.vs)) so_far.vs at (boxes_of B) over
+module _ {B : List ℕ} {c : Changes} {can : Bool} {at : ℕ} (so_far : SoFar B c can at) (over : length B ≤ at) where
+  all_boxes : (boxes_of B).outcome ≡ Ok so_far.vs
+  all_boxes = all_read known_kept reading_kept B (nat_lt 0 (length so_far.vs)) so_far.vs at (boxes_of B) over
       so_far.told
 
-  is_end : {can : Bool} → SoFar B c can at → at ≡ length B
-  is_end so_far = omega (arith, over, so_far.within)
+  is_end : at ≡ length B
+  is_end = omega (arith, over, so_far.within)
+
+  made_if : {b : Bool} → can ≡ b → MadeIf so_far.vs (made_of c B at) b
+  made_if is = subst (MadeIf so_far.vs (made_of c B at)) is so_far.made
 
   -- the changes of all boxes are found
-  pub all_found : SoFar B c true at → Normalizes B (made_of c B (length B))
-  all_found so_far = (
-    so_far.vs,
-    all_boxes so_far,
-    so_far.made.0,
-    ap (made_of c B) (sym (is_end so_far))
-        ∙ so_far.made.1,
-  )
+  pub all_found : can ≡ true → Normalizes B (made_of c B (length B))
+  all_found is = (so_far.vs, all_boxes, (made_if is).0, ap (made_of c B) (sym is_end) ∙ (made_if is).1)
 
-  pub all_before : {can : Bool} → SoFar B c can at → AreBefore c (length c.fresh.items) (length B)
-  all_before so_far = subst (AreBefore c (length c.fresh.items)) (is_end so_far) so_far.before
+  pub all_before : AreBefore c (length c.fresh.items) (length B)
+  all_before = subst (AreBefore c (length c.fresh.items)) is_end so_far.before
 
   -- one of them can't be written
-  pub some_refused : SoFar B c false at → (vs : List KeptBox) × ((boxes_of B).outcome ≡ Ok vs)
+  pub some_refused : can ≡ false → (vs : List KeptBox) × ((boxes_of B).outcome ≡ Ok vs)
       × (¬ All format_kept.Writable vs)
-  some_refused so_far = (so_far.vs, all_boxes so_far, so_far.made)
+  some_refused is = (so_far.vs, all_boxes, made_if is)

@@ -1,5 +1,5 @@
 -- The changes of a stream are made in its bytes, one after the other.
-use Rattle.std.proofs.Common.{◌≡◌, ℕ, suc, ◌+◌, ◌-◌, ◌<◌, ◌≤◌, List, [], ◌∷◌, ◌++◌, length, take, drop, refl, ap, sym}
+use Rattle.std.proofs.Common.{◌≡◌, ℕ, suc, ◌+◌, ◌-◌, ◌<◌, ◌≤◌, List, ◌∷◌, ◌++◌, length, take, drop, refl, ap, sym}
 use Rattle.std.proofs.Common.{subst, ◌∙◌, arith, append_assoc}
 use Rattle.std.specs.Prelude.{get_or}
 use Rattle.std.proofs.Math.Seq.{drop-cons}
@@ -28,7 +28,7 @@ next_of cs i x lt is =
     let next : suc i ≡ i + 1 = omega arith in
     drop-cons cs i x lt ∙ ap (λ (y : Change). y ∷ drop (suc i) cs) (sym is) ∙ ap (λ (k : ℕ). x ∷ drop k cs) next
 
-module _ (c : Changes) (S bytes : List ℕ) (m : Made) (i : ℕ) (so_made : SoMade c S bytes m i) where
+module _ {c : Changes} {S bytes : List ℕ} {m : Made} {i : ℕ} (so_made : SoMade c S bytes m i) where
   -- the bytes that are made end at or before the stream's bytes
   pub behind : m.done ≤ m.begin + c.growth
   behind = omega (arith, so_made.place, so_made.fits)
@@ -98,30 +98,6 @@ module _ (c : Changes) (S bytes : List ℕ) (m : Made) (i : ℕ) (so_made : SoMa
             fits = omega (arith, order.5, uses);
             len = len ∙ so_made.len;
           }
-
-  -- all changes are made
-  module _ (none : drop i c.list.items ≡ []) where
-    last : (m.begin ≤ length S) × (m.from ≡ length c.fresh.items) × (so_made.lost ≡ c.gone)
-    last = subst (InOrder c.growth (length S) (length c.fresh.items) c.gone m.begin m.from so_made.lost) none
-        so_made.order
-
-    pub last_within : m.begin + c.growth ≤ length bytes
-    last_within = omega (arith, last.0, so_made.len)
-
-    -- the last bytes of the stream are moved
-    pub all_made : (after : List ℕ)
-        → take (m.done + (length bytes - (m.begin + c.growth))) after
-        ≡ take m.done bytes ++ part bytes (m.begin + c.growth) (length bytes)
-        → take (m.done + (length bytes - (m.begin + c.growth))) after ≡ made_of c S (length S)
-    all_made after moved =
-        let same : part bytes (m.begin + c.growth) (length bytes) ≡ part S m.begin (length S) =
-        ap (part bytes (m.begin + c.growth)) so_made.len
-        ∙ part_of_end bytes S c.growth m.begin (length S) so_made.rest in
-        moved
-        ∙ ap (λ (l : List ℕ). take m.done bytes ++ l) same
-        ∙ ap (λ (cs : List Change). take m.done bytes ++ made_from c.fresh.items S (length S) m.begin m.from cs)
-        (sym none)
-        ∙ so_made.whole
 
 -- at the beginning no change is made
 pub none_made : (c : Changes) (bytes : List ℕ) (m : Made) → m.begin ≡ 0 → m.from ≡ 0 → m.done ≡ 0

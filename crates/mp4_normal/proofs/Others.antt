@@ -1,7 +1,7 @@
 -- Boxes of other codes, and of types of the codec, as boxes that are kept.
 use Rattle.std.proofs.Common.{◌≡◌, ℕ, ◌+◌, ◌-◌, ◌<◌, ◌≤◌, ◌^◌, Bool, true, false, List, [], ◌∷◌, ◌++◌, length, take}
-use Rattle.std.proofs.Common.{drop, Result, Ok, Err, refl, ap, sym, subst, arith, length-drop}
-use Rattle.std.specs.Prelude.{nat_lt, nat_le, ◌||◌, IfOk, IfErr}
+use Rattle.std.proofs.Common.{drop, map, Result, Ok, Err, refl, ap, sym, subst, arith, length-drop}
+use Rattle.std.specs.Prelude.{nat_lt, nat_le, IfOk, IfErr}
 use Rattle.std.proofs.Math.Bool.{or-true}
 use Rattle.std.proofs.lemmas.Bool.{lt-ltb, le-leb}
 use Rattle.std.proofs.lemmas.List.{drop-drop, length-take-le}
@@ -9,13 +9,13 @@ use Rattle.mp4_frame.specs.BoxType.{code_of}
 use Rattle.mp4_frame.specs.Bytes.{bytes_of_fields}
 use Rattle.mp4_frame.specs.Format.{Format}
 use Rattle.mp4_frame.specs.Laws.{AreBytes}
-use Rattle.mp4_frame.specs.Reading.{Fault, End, Invalid, NotFound, Reading, Refuses, and_then, done, map_reading}
+use Rattle.mp4_frame.specs.Reading.{Fault, Reading, Refuses, ◌>>=◌, and_then, done, map_reading}
 use Rattle.mp4_frame.specs.Reading.{reading}
 use Rattle.mp4_frame.specs.declared.box_type.BoxType.{BoxType}
 use Rattle.mp4_frame.specs.Streams.{append_read}
 use Rattle.mp4_frame.specs.declared.error.Error.{Error}
 use Rattle.mp4_frame.specs.declared.error.Error.TheVariants as errors
-use Rattle.mp4_frame.proofs.Steps.{err_list}
+use Rattle.mp4_frame.proofs.Decided.{first_faults}
 use Rattle.mp4_frame.proofs.Checks.{expect_bytes_present, are_bytes-drop}
 use Rattle.mp4_stream.specs.AnyBox.{format_any, known_any, reading_any}
 use Rattle.mp4_stream.specs.KeptBox.{format_kept, reading_kept}
@@ -34,34 +34,19 @@ asks b (Err k) v is = absurd cc
 pub read_asks : {A : Type 0} (r : Reading A) (v : A) → r.outcome ≡ Ok v → (append_read [] r).asks_memory ≡ true
 read_asks r v is = asks r.asks_memory r.outcome v is
 
-listed_asks : {A : Type 0} (b : Bool) (o : Result A Fault) (vs : List A)
-    → (append_read [] (record { asks_memory = b; outcome = o })).outcome ≡ Ok vs
-    → (append_read [] (record { asks_memory = b; outcome = o })).asks_memory ≡ true
-listed_asks b (Ok w) vs is = or-true b
-listed_asks b (Err k) vs is = absurd cc
-
-pub list_asks : {A : Type 0} (r : Reading A) (vs : List A) → (append_read [] r).outcome ≡ Ok vs
-    → (append_read [] r).asks_memory ≡ true
-list_asks r vs is = listed_asks r.asks_memory r.outcome vs is
-
-same_fault : {A : Type 0} (k l : Fault) → err_list {A = A} k ≡ err_list {A = A} l → k ≡ l
-same_fault k l e = cc e
-
 module _ {A C : Type 0} (wrap : A → C) where
-  refused_wrapped : (b : Bool) (o : Result A Fault) (e : Error)
-      → Refuses e (append_read [] (record { asks_memory = b; outcome = o }))
-      → Refuses e (append_read [] (map_reading wrap (record { asks_memory = b; outcome = o })))
-  refused_wrapped b (Err k) errors.IoError h = ap (λ (k : Fault). err_list k) (same_fault k End h)
-  refused_wrapped b (Err k) (errors.InvalidData _) h = ap (λ (k : Fault). err_list k) (same_fault k Invalid h)
-  refused_wrapped b (Err k) (errors.BoxNotFound name) h =
-      ap (λ (k : Fault). err_list k) (same_fault k (NotFound name) h)
-  refused_wrapped b (Err k) errors.OutOfMemory h = h
-  refused_wrapped b (Err k) _ h = absurd h
-  refused_wrapped b (Ok v) errors.IoError h = absurd cc
-  refused_wrapped b (Ok v) (errors.InvalidData _) h = absurd cc
-  refused_wrapped b (Ok v) (errors.BoxNotFound name) h = absurd cc
-  refused_wrapped b (Ok v) errors.OutOfMemory h = or-true (b || false)
-  refused_wrapped b (Ok v) _ h = absurd h
+  wrapped : (b : Bool) (o : Result A Fault)
+      → (append_read [] (record { asks_memory = b; outcome = o }) >>= λ vs. done (map wrap vs))
+      ≡ append_read [] (map_reading wrap (record { asks_memory = b; outcome = o }))
+  wrapped true (Ok v) = refl
+  wrapped false (Ok v) = refl
+  wrapped b (Err k) = refl
+
+  refused_wrapped : (r : Reading A) (e : Error) → Refuses e (append_read [] r)
+      → Refuses e (append_read [] (map_reading wrap r))
+  refused_wrapped r e h =
+      subst (Refuses e) (wrapped r.asks_memory r.outcome)
+      (first_faults e (append_read [] r) (λ vs. done (map wrap vs)) h)
 
 module _ (code start size : ℕ) (B : List ℕ) (least : 8 ≤ size) (within : start + size ≤ length B) where
   content_long : 8 + length (take (size - 8) (drop (start + 8) B)) ≡ size
@@ -133,7 +118,7 @@ module _ {A C : Type 0} (from : Format A) (to : Format C) (wrap : A → C) (r : 
     ap (λ (o : Result A Fault). (and_then r.asks_memory o (λ v. done (wrap v))).outcome) h.1,
     same h.0 can h.2,
   )
-  one_wrapped (Err e) h = refused_wrapped wrap r.asks_memory r.outcome e h
+  one_wrapped (Err e) h = refused_wrapped wrap r e h
 
 any_is_kept : (old new : List ℕ) (v : _) (can : Bool) → AppendsIf format_any v old new can
     → AppendsIf format_kept (kept.Any v) old new can

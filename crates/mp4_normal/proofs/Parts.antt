@@ -26,10 +26,6 @@ part_after xs more b e begin end =
     ap (take (e - b)) (drop_at xs more b (sym begin))
     ∙ take_all (e - b) more (omega (arith, begin, end, length-append xs more))
 
--- the part up to the end
-pub part_to_end : (xs : List ℕ) (b e : ℕ) → length xs ≤ e → part xs b e ≡ drop b xs
-part_to_end xs b e all = take_all (e - b) (drop b xs) (omega (arith, all, length-drop b xs))
-
 -- a part of a list that is the end of another
 pub part_of_end : (xs ys : List ℕ) (k b e : ℕ) → drop (b + k) xs ≡ drop b ys → part xs (b + k) (e + k) ≡ part ys b e
 part_of_end xs ys k b e same =
