@@ -1,10 +1,12 @@
 //! The content light level box.
 
+ghost use Rattle.mp4_extra_media.specs.declared.clli.TheConstants.{NAMES};
 ghost use Rattle.mp4_frame.specs.declared.codes.TheConstants as codes;
 ghost use Rattle.std.proofs.Common.{refl, lit<};
 ghost use Rattle.mp4_stream.specs.Author.{layout_of};
 
 use mp4_frame::codes;
+use mp4_shown::{FieldSink, HasFields, NamedShape, ShowShape, View, names_of, number};
 use mp4_stream::author::{Declared, DeclaredBox, Last, Shape, ShapeVisitor, U16};
 use mp4_stream::{Result, TryClone, box_of, parts_of};
 
@@ -41,6 +43,23 @@ impl DeclaredBox for Clli {
     }
 
     ghost valid = { refl };
+}
+
+/// The names of the fields.
+const NAMES: <ClliShape as NamedShape>::Names = names_of!(
+    number!("max_content_light_level"),
+    number!("max_pic_average_light_level")
+);
+
+impl HasFields for Clli {
+    ghost shown = { λ view b. ⟦<ClliShape as NamedShape>⟧.shown NAMES view (⟦<Clli as DeclaredBox>⟧.layout.content b) };
+
+    ghost whole = { λ view b. ⟦<ClliShape as NamedShape>⟧.whole NAMES view (⟦<Clli as DeclaredBox>⟧.layout.content b) };
+
+    fn show<K: FieldSink>(&self, view: View, sink: &mut K) -> mp4_shown::Result<()> {
+        let parts = parts_of!(self => max_content_light_level, max_pic_average_light_level);
+        ClliShape::show(NAMES, view, parts, sink)
+    }
 }
 
 impl TryClone for Clli {
