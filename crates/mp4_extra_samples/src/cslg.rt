@@ -1,10 +1,14 @@
 //! The composition to decode box.
 
+ghost use Rattle.mp4_extra_samples.specs.declared.cslg.TheConstants.{NAMES};
 ghost use Rattle.mp4_frame.specs.declared.codes.TheConstants as codes;
 ghost use Rattle.mp4_stream.specs.Author.{layout_of, refl, lit<};
 
 use mp4_declared::SignedTime;
 use mp4_frame::codes;
+use mp4_shown::{
+    FLAGS, FieldSink, HasFields, NamedShape, ShowShape, VERSION, View, names_of, number,
+};
 use mp4_stream::Result;
 use mp4_stream::declaring::*;
 
@@ -65,6 +69,30 @@ impl DeclaredBox for Cslg {
     }
 
     ghost valid = { refl };
+}
+
+/// The names of the fields.
+const NAMES: <CslgShape as NamedShape>::Names = names_of!(
+    VERSION,
+    FLAGS,
+    number!("compositionToDTSShift"),
+    number!("leastDecodeToDisplayDelta"),
+    number!("greatestDecodeToDisplayDelta"),
+    number!("compositionStartTime"),
+    number!("compositionEndTime")
+);
+
+impl HasFields for Cslg {
+    ghost shown = { λ view b. ⟦<CslgShape as NamedShape>⟧.shown NAMES view (⟦<Cslg as DeclaredBox>⟧.layout.content b) };
+
+    ghost whole = { λ view b. ⟦<CslgShape as NamedShape>⟧.whole NAMES view (⟦<Cslg as DeclaredBox>⟧.layout.content b) };
+
+    fn show<K: FieldSink>(&self, view: View, sink: &mut K) -> mp4_shown::Result<()> {
+        let parts =
+            parts_of!(self => version, flags, composition_to_dts_shift, least_decode_to_display_delta,
+            greatest_decode_to_display_delta, composition_start_time, composition_end_time);
+        CslgShape::show(NAMES, view, parts, sink)
+    }
 }
 
 impl TryClone for Cslg {

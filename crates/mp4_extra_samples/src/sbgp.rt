@@ -1,12 +1,16 @@
 //! The sample to group box.
 
-ghost use Rattle.mp4_extra_samples.specs.declared.sbgp.TheConstants.{WIDTHS};
+ghost use Rattle.mp4_extra_samples.specs.declared.sbgp.TheConstants.{NAMES, WIDTHS};
 ghost use Rattle.mp4_frame.specs.declared.codes.TheConstants as codes;
 ghost use Rattle.std.proofs.Common.{refl, lit<};
 ghost use Rattle.mp4_stream.specs.Author.{layout_of, packed, fields_of};
 
 use mp4_declared::Code;
 use mp4_frame::codes;
+use mp4_shown::{
+    FLAGS, FieldSink, HasFields, NamedShape, NumberName, ShowShape, VERSION, View, list, names_of,
+    number,
+};
 use mp4_stream::author::{
     Declared, DeclaredBox, EntryLayout, FromVersion, Full, If, Last, List, Shape, ShapeVisitor, U32,
 };
@@ -92,6 +96,30 @@ impl DeclaredBox for Sbgp {
     }
 
     ghost valid = { refl };
+}
+
+/// The names of the fields of a run of samples.
+const RUN: &[NumberName] = &[number!("sample_count"), number!("group_description_index")];
+
+/// The names of the fields.
+const NAMES: <SbgpShape as NamedShape>::Names = names_of!(
+    VERSION,
+    FLAGS,
+    "grouping_type",
+    number!("grouping_type_parameter"),
+    (list!("entries"), RUN)
+);
+
+impl HasFields for Sbgp {
+    ghost shown = { λ view b. ⟦<SbgpShape as NamedShape>⟧.shown NAMES view (⟦<Sbgp as DeclaredBox>⟧.layout.content b) };
+
+    ghost whole = { λ view b. ⟦<SbgpShape as NamedShape>⟧.whole NAMES view (⟦<Sbgp as DeclaredBox>⟧.layout.content b) };
+
+    fn show<K: FieldSink>(&self, view: View, sink: &mut K) -> mp4_shown::Result<()> {
+        let parts = parts_of!(self => version, flags, grouping_type, grouping_type_parameter,
+            entries.as_slice());
+        SbgpShape::show(NAMES, view, parts, sink)
+    }
 }
 
 impl TryClone for Sbgp {

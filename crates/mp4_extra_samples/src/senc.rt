@@ -1,10 +1,14 @@
 //! The sample encryption box.
 
+ghost use Rattle.mp4_extra_samples.specs.declared.senc.TheConstants.{NAMES};
 ghost use Rattle.mp4_frame.specs.declared.codes.TheConstants as codes;
 ghost use Rattle.std.proofs.Common.{refl, lit<};
 ghost use Rattle.mp4_stream.specs.Author.{layout_of};
 
 use mp4_frame::codes;
+use mp4_shown::{
+    FieldSink, HasFields, Meaning, NamedShape, ShowShape, VERSION, View, names_of, number, run,
+};
 use mp4_stream::author::{Declared, DeclaredBox, Full, Last, Rest, Shape, ShapeVisitor, U32};
 use mp4_stream::{Entries, Result, TryClone, box_of, parts_of};
 
@@ -49,6 +53,28 @@ impl DeclaredBox for Senc {
     }
 
     ghost valid = { refl };
+}
+
+/// The flags of the box.
+const ENCRYPTION_FLAGS: &[Meaning] = &[(0x2, "UseSubSampleEncryption")];
+
+/// The names of the fields.
+const NAMES: <SencShape as NamedShape>::Names = names_of!(
+    VERSION,
+    number!("flags", Flags(6), ENCRYPTION_FLAGS),
+    number!("sample_count"),
+    run!("data_bytes", Bytes)
+);
+
+impl HasFields for Senc {
+    ghost shown = { λ view b. ⟦<SencShape as NamedShape>⟧.shown NAMES view (⟦<Senc as DeclaredBox>⟧.layout.content b) };
+
+    ghost whole = { λ view b. ⟦<SencShape as NamedShape>⟧.whole NAMES view (⟦<Senc as DeclaredBox>⟧.layout.content b) };
+
+    fn show<K: FieldSink>(&self, view: View, sink: &mut K) -> mp4_shown::Result<()> {
+        let parts = parts_of!(self => version, flags, sample_count, samples.as_slice());
+        SencShape::show(NAMES, view, parts, sink)
+    }
 }
 
 impl TryClone for Senc {

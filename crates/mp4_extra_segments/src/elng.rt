@@ -1,10 +1,12 @@
 //! The extended language box.
 
+ghost use Rattle.mp4_extra_segments.specs.declared.elng.TheConstants.{NAMES};
 ghost use Rattle.mp4_frame.specs.declared.codes.TheConstants as codes;
 ghost use Rattle.std.proofs.Common.{refl, lit<};
 ghost use Rattle.mp4_stream.specs.Author.{layout_of};
 
 use mp4_frame::codes;
+use mp4_shown::{FLAGS, FieldSink, HasFields, NamedShape, ShowShape, VERSION, View, names_of, run};
 use mp4_stream::author::{Declared, DeclaredBox, Full, Last, Rest, Shape, ShapeVisitor};
 use mp4_stream::{Entries, Result, TryClone, box_of, parts_of};
 
@@ -45,6 +47,24 @@ impl DeclaredBox for Elng {
     }
 
     ghost valid = { refl };
+}
+
+/// The names of the fields.
+const NAMES: <ElngShape as NamedShape>::Names = names_of!(
+    VERSION,
+    FLAGS,
+    run!("extended_language", Ended)
+);
+
+impl HasFields for Elng {
+    ghost shown = { λ view b. ⟦<ElngShape as NamedShape>⟧.shown NAMES view (⟦<Elng as DeclaredBox>⟧.layout.content b) };
+
+    ghost whole = { λ view b. ⟦<ElngShape as NamedShape>⟧.whole NAMES view (⟦<Elng as DeclaredBox>⟧.layout.content b) };
+
+    fn show<K: FieldSink>(&self, view: View, sink: &mut K) -> mp4_shown::Result<()> {
+        let parts = parts_of!(self => version, flags, extended_language.as_slice());
+        ElngShape::show(NAMES, view, parts, sink)
+    }
 }
 
 impl TryClone for Elng {

@@ -1,11 +1,13 @@
 //! The original format box.
 
+ghost use Rattle.mp4_extra_segments.specs.declared.frma.TheConstants.{NAMES};
 ghost use Rattle.mp4_frame.specs.declared.codes.TheConstants as codes;
 ghost use Rattle.std.proofs.Common.{refl, lit<};
 ghost use Rattle.mp4_stream.specs.Author.{layout_of};
 
 use mp4_declared::Code;
 use mp4_frame::codes;
+use mp4_shown::{FieldSink, HasFields, NamedShape, ShowShape, View, names_of};
 use mp4_stream::author::{Declared, DeclaredBox, Last, Shape, ShapeVisitor};
 use mp4_stream::{FourCC, Result, TryClone, box_of, parts_of};
 
@@ -39,6 +41,19 @@ impl DeclaredBox for Frma {
     }
 
     ghost valid = { refl };
+}
+
+/// The names of the fields.
+const NAMES: <FrmaShape as NamedShape>::Names = names_of!("data_format");
+
+impl HasFields for Frma {
+    ghost shown = { λ view b. ⟦<FrmaShape as NamedShape>⟧.shown NAMES view (⟦<Frma as DeclaredBox>⟧.layout.content b) };
+
+    ghost whole = { λ view b. ⟦<FrmaShape as NamedShape>⟧.whole NAMES view (⟦<Frma as DeclaredBox>⟧.layout.content b) };
+
+    fn show<K: FieldSink>(&self, view: View, sink: &mut K) -> mp4_shown::Result<()> {
+        FrmaShape::show(NAMES, view, parts_of!(self => data_format), sink)
+    }
 }
 
 impl TryClone for Frma {
