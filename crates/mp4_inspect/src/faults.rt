@@ -342,28 +342,20 @@ fn tell_repeated(
     Ok(true)
 }
 
-/// Returns the codes of the children of the first of `boxes`.
-fn codes_in(alloc: Global, boxes: &[TreeBox]) -> Result<Vec<u32>> {
-    let mut codes = Vec::new(alloc);
-    let Some((outer, inner)) = boxes.split_first() else {
-        return Ok(codes);
-    };
+/// Returns whether a child of `outer` is the box that is needed, or serves instead. `inner` begins with the boxes in
+/// `outer`.
+fn has_part(needed: u32, outer: &TreeBox, inner: &[TreeBox]) -> bool {
     for found in inner {
         if found.depth <= outer.depth {
-            break;
+            return false;
         }
         if let Some(code) = found.code {
-            if found.depth - outer.depth == 1 {
-                codes.push(u32::from(code))?;
+            if found.depth - outer.depth == 1 && is_part(needed, u32::from(code)) {
+                return true;
             }
         }
     }
-    Ok(codes)
-}
-
-/// Returns whether one of `codes` is the one that is needed, or serves instead.
-fn has_part(needed: u32, codes: &[u32]) -> bool {
-    codes.iter().any(|code| is_part(needed, *code))
+    false
 }
 
 /// Puts a line into `search.line`, if the first of `boxes` lacks a box. Returns whether it put a line there.
@@ -383,10 +375,9 @@ fn tell_missing(
     if parts.is_empty() {
         return Ok(false);
     }
-    let codes = codes_in(alloc, boxes)?;
     let mut text = String::new(alloc);
     for part in parts {
-        if !has_part(*part, codes.as_slice()) {
+        if !has_part(*part, found, after_first(boxes)) {
             text.push_str(if text.is_empty() {
                 "there is no "
             } else {
@@ -696,8 +687,8 @@ pub fn write_faults<B: Shown, S: Source, W: Write>(
         data_end: None,
         line: String::new(alloc),
     };
-    let front = or_memory(front_of(alloc, name))?;
-    let front = front.as_str();
+    let beginning = or_memory(front_of(alloc, name))?;
+    let front = beginning.as_str();
     let faulty = write_lines::<B, S, W>(alloc, tree, boxes, front, &mut search, output)?;
     let lacks = lacks_movie(boxes);
     write_line(

@@ -4,8 +4,8 @@ use Rattle.std.proofs.Common.{Result, Ok, Err, refl, sym, ap, subst, ◌∙◌, 
 use Rattle.std.specs.Prelude.{IfOk, OnErr}
 use Rattle.std.specs.declared.option.Option.{Option}
 use Rattle.std.proofs.KnownBytes.{Appends-nil, Appends-trans}
-use Rattle.std.proofs.Math.Seq.{take-append-add}
-use Rattle.std.proofs.lemmas.List.{append-nil}
+use Rattle.std.proofs.Math.Seq.{take-append-add, take-length}
+use Rattle.std.proofs.lemmas.List.{append-nil, length-append}
 use Rattle.std.specs.Io.KnownBytes.{Appends}
 use Rattle.mp4_movie.specs.Ends.{end_of}
 use Rattle.mp4_movie.specs.Tables.{AreTablesOf}
@@ -50,11 +50,6 @@ empty_more empty (y ∷ xs) x = empty_more (empty_after empty y) xs x
 after_more : (b : Bool) (xs : List Sample) (x : Sample) → true ≡ is_after b (xs ++ x ∷ [])
 after_more b [] x = refl
 after_more b (y ∷ xs) x = refl
-
-length_more : (xs : List Sample) (x : Sample) → length (xs ++ x ∷ []) ≡ length xs + 1
-length_more [] x = refl
-length_more (y ∷ xs) x = let next : suc (length xs + 1) ≡ suc (length xs) + 1 =
-    omega arith in ap suc (length_more xs x) ∙ next
 
 text_more : (form : Form) (track : Option ℕ) (b : Bool) (n : ℕ) (xs : List Sample) (x : Sample)
     → rows_text form track b n (xs ++ x ∷ []) ≡ rows_text form track b n xs
@@ -109,7 +104,7 @@ module _ (Is : ℕ → Sample → Type 0) (limit : Limit) (form : Form) (track :
     listed = listed_more limit empty rows.samples x rows.listed
         (subst (λ (j : ℕ). is_listed limit j x ≡ true) rows.emptied listed);
     emptied = ap (λ (j : ℕ). empty_after j x) rows.emptied ∙ sym (empty_more empty rows.samples x);
-    count = length_more rows.samples x ∙ ap (λ (j : ℕ). j + 1) rows.count;
+    count = length-append rows.samples (x ∷ []) ∙ ap (λ (j : ℕ). j + 1) rows.count;
     after = after_more follows rows.samples x;
     bytes =
         subst (λ (t : List ℕ). Appends old new t) (sym (text_more form track follows n rows.samples x))
@@ -189,13 +184,9 @@ module _ (Is : ℕ → Sample → Type 0) (limit : Limit) (form : Form) (track :
     listed = rows.listed;
     bytes = record {
       count = length (rows_text form track follows n rows.samples);
-      bytes = subst (λ (t : List ℕ). Appends old new t) (sym (take_all _)) rows.bytes;
+      bytes = subst (λ (t : List ℕ). Appends old new t) (sym (take-length _)) rows.bytes;
     };
   }
-    where
-      take_all : (xs : List ℕ) → take (length xs) xs ≡ xs
-      take_all [] = refl
-      take_all (x ∷ xs) = ap (λ (ys : List ℕ). x ∷ ys) (take_all xs)
 
 -- rows of the tables that the boxes of a sample table make
 pub of_boxes : (boxes : SampleBoxes) (made tables : Tables) (time : ℕ) (limit : Limit) (form : Form) (name : TrackName)

@@ -15,7 +15,6 @@ use Rattle.mp4_samples.specs.declared.sample.Sample.{Sample}
 use Rattle.mp4_samples.specs.declared.tables.Tables.{Tables}
 use Rattle.mp4_inspect_samples.specs.Listed.{EndsListed, unlisted_of}
 use Rattle.mp4_inspect_samples.specs.Rows.{WritesHeading, WritesRows, is_headed}
-use Rattle.mp4_inspect_samples.specs.declared.fault.Fault.{Fault}
 use Rattle.mp4_inspect_samples.specs.declared.fault.Fault.TheVariants as faults
 use Rattle.mp4_inspect_samples.specs.declared.fault.TrackName.{TrackName}
 use Rattle.mp4_inspect_samples.specs.declared.fault.TrackName.TheVariants as names

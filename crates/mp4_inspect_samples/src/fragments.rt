@@ -55,28 +55,6 @@ fn trafs_in(alloc: Global, boxes: &[TreeBox]) -> Result<Vec<usize>, AllocError> 
     Ok(trafs)
 }
 
-/// Returns the header of the `traf` in which `boxes` begins, if it has one.
-fn header_in(boxes: &[TreeBox]) -> Option<TreeBox> {
-    match first_in(boxes, 2, TFHD) {
-        Some(place) => Some(place.found),
-        None => None,
-    }
-}
-
-/// Returns the runs of the `traf` in which `boxes` begins.
-fn runs_in(alloc: Global, boxes: &[TreeBox]) -> Result<Vec<TreeBox>, AllocError> {
-    let mut runs = Vec::new(alloc);
-    for found in boxes {
-        if found.depth < 2 {
-            break;
-        }
-        if found.depth == 2 && found.has_code(FourCC::from(TRUN)) {
-            runs.push(*found)?;
-        }
-    }
-    Ok(runs)
-}
-
 /// Returns the track_ID of a `traf` that is no fragment, if its header can be read. The boxes of the file from `first`
 /// on begin with those inside it.
 fn track_of<S: Source>(
@@ -84,8 +62,9 @@ fn track_of<S: Source>(
     movie: &mut Movie<S>,
     first: usize,
 ) -> Result<Option<u32>, Failure> {
-    let Some(found) = header_in(boxes_after(movie.boxes(), first)) else {
-        return Ok(None);
+    let found = match first_in(boxes_after(movie.boxes(), first), 2, TFHD) {
+        Some(place) => place.found,
+        None => return Ok(None),
     };
     match or_read(movie.read::<TfhdBox>(alloc, &found))? {
         Ok(header) => Ok(Some(header.track_id)),
@@ -93,22 +72,9 @@ fn track_of<S: Source>(
     }
 }
 
-/// Returns the number of samples that `runs` count, or 2^64 - 1 if they count more. A run with a fault counts none.
-fn count_runs<S: Source>(
-    alloc: Global,
-    movie: &mut Movie<S>,
-    runs: &[TreeBox],
-) -> Result<u64, Failure> {
-    let mut samples: u64 = 0;
-    for found in runs {
-        if let Ok(run) = or_read(movie.read::<TrunBox>(alloc, found))? {
-            samples = samples.saturating_add(u64::from(run.sample_count));
-        }
-    }
-    Ok(samples)
-}
-
-/// Returns the number of samples that the runs of a `traf` count, or 0 if `error` is a fault of a box in it.
+/// Returns the number of samples that the runs of a `traf` count, or 2^64 - 1 if they count more. A run with a fault
+/// counts none. Returns 0 if `error` is a fault of a box in the `traf`. The boxes of the file at `first` and after it
+/// begin with those inside it.
 fn samples_of<S: Source>(
     alloc: Global,
     movie: &mut Movie<S>,
@@ -118,8 +84,19 @@ fn samples_of<S: Source>(
     if matches!(error, BoxError::Fault { .. }) {
         return Ok(0);
     }
-    let runs = runs_in(alloc, boxes_after(movie.boxes(), first))?;
-    count_runs(alloc, movie, &runs)
+    let mut samples: u64 = 0;
+    for index in first..usize::MAX {
+        let found = match movie.boxes().get(index) {
+            Some(found) if found.depth >= 2 => *found,
+            _ => break,
+        };
+        if found.depth == 2 && found.has_code(FourCC::from(TRUN)) {
+            if let Ok(run) = or_read(movie.read::<TrunBox>(alloc, &found))? {
+                samples = samples.saturating_add(u64::from(run.sample_count));
+            }
+        }
+    }
+    Ok(samples)
 }
 
 /// Adds `traf` to those of its track.

@@ -1,5 +1,5 @@
 -- The time at which the samples of the tables of a track end (ISO/IEC 14496-12, 8.6.1.2).
-use Rattle.std.specs.Prelude.{ℕ, ◌-◌, ◌*◌, ◌^◌, List, Result, Ok, Err, None, Some, min, sum_by}
+use Rattle.std.specs.Prelude.{ℕ, ◌-◌, ◌*◌, ◌^◌, List, Result, Ok, None, Some, min, sum_by}
 use Rattle.std.specs.declared.option.Option.{Option}
 use Rattle.mp4_movie.specs.Movies.{samples_of}
 use Rattle.mp4_movie.specs.Problems.{Problem, ◌>>=◌}

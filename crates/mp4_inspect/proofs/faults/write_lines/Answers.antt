@@ -25,11 +25,14 @@ loop-found-preserved g c = record {
   kept = search rules;
 }
 
-pub returns-clause-faults : goal.returns-clause-faults
-returns-clause-faults g c =
+pub returns : goal.returns
+returns g c =
     let all : take c.loop-found.found-index c.args.boxes.now ≡ c.args.boxes.now
     = take_all c.loop-found.found-index c.args.boxes.now (search rules) in
-    subst
-    (λ (boxes : List TreeBox). WritesFaults g.B.Shown.known g.B.Shown.named_reading c.args.tree.now.bytes
-    c.args.front.now boxes (g.W.Write.contents c.args.output.now.inner)
-    (g.W.Write.contents c.loop-found.output.inner) c.loop-found.faulty) all c.loop-found.invariant.written
+    record {
+      faults =
+          subst
+          (λ (boxes : List TreeBox). WritesFaults g.B.Shown.known g.B.Shown.named_reading c.args.tree.now.bytes
+          c.args.front.now boxes (g.W.Write.contents c.args.output.now.inner)
+          (g.W.Write.contents c.loop-found.output.inner) c.loop-found.faulty) all c.loop-found.invariant.written;
+    }

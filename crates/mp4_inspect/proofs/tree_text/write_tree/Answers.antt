@@ -1,4 +1,4 @@
-use Rattle.std.proofs.Common.{◌≡◌, ◌∙◌, List, take, Err, ap, rules, subst}
+use Rattle.std.proofs.Common.{◌≡◌, List, take, Err, ap, rules, subst}
 use Rattle.std.specs.Prelude.{IfSome}
 use Rattle.std.proofs.lemmas.List.{take_all}
 use Rattle.mp4_lemmas.proofs.Outcomes.{always_known, both_known}

@@ -1,5 +1,4 @@
-use Rattle.std.proofs.Common.{◌≡◌, ℕ, refl, sym, subst, rules}
-use Rattle.std.specs.Prelude.{IfOk}
+use Rattle.std.proofs.Common.{refl, rules}
 use Rattle.mp4_inspect_samples.proofs.RowLists.{of_boxes}
 use Rattle.mp4_inspect_samples.proofs.tables.write_tables.Goals as goal
 

@@ -1,7 +1,7 @@
 use Rattle.std.proofs.Common.{◌≡◌, ◌∙◌, Result, Ok, Err, ap, sym, subst, ℕ}
 use Rattle.std.proofs.lemmas.Result.{err_from_is_err_and}
 use Rattle.std.specs.declared.option.Option.{Option}
-use Rattle.mp4_movie.specs.Ends.{end_by}
+use Rattle.mp4_movie.specs.Ends.{end_by, time_end_of}
 use Rattle.mp4_movie.specs.Movies.{of_track, samples_of, traks}
 use Rattle.mp4_movie.specs.Problems.{Problem, Returns, ◌>>=◌}
 use Rattle.mp4_movie.specs.declared.sample_boxes.SampleBoxes.{SampleBoxes}
@@ -25,7 +25,9 @@ pub returns-clause-value : goal.returns-clause-value
 returns-clause-value g c =
     let end : Option SampleBoxes → Result ℕ Problem = λ tables. Ok (end_by tables) in
     rw c.end_by.ensures
-    (some_then _ _ _
+    (some_then c.args.self.now.bytes
+    (λ file. of_track (samples_of file) c.args.number (traks (boxes_of file)) ≡ Ok c.in_ok-samples.field-0)
+    (λ file. of_track (time_end_of file) c.args.number (traks (boxes_of file)) ≡ Ok (end_by c.in_ok-samples.field-0))
     (λ file h. track_then (samples_of file) end c.args.number (traks (boxes_of file))
     ∙ ap (λ (r : Result (Option SampleBoxes) Problem). r >>= end) h)
     c.in_ok-samples.ensures.value)
