@@ -38,12 +38,12 @@ READER = '''def padb(c):
 '''
 BOX = '''//! The padding bits box.
 
+ghost use Rattle.mp4_declared.specs.OwnBox.{layout_of};
 ghost use Rattle.mp4_frame.specs.declared.codes.TheConstants as codes;
-ghost use Rattle.mp4_stream.specs.Author.{layout_of, refl, lit<};
+ghost use Rattle.std.proofs.Common.{refl, lit<};
 
-use mp4_frame::codes;
-use mp4_stream::Result;
-use mp4_stream::declaring::*;
+use mp4_declared::declaring::*;
+use mp4_frame::{Result, codes};
 
 /// The padding bits at the end of each sample (`padb`, ISO/IEC 14496-12, 8.7.6).
 #[derive(Debug, Drop, PartialEq, Eq)]
