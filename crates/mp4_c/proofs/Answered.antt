@@ -1,4 +1,4 @@
--- What a call copies, by what it copies of the track that is found in the bytes of a file.
+-- A call copies what it copies of the track that is found in the bytes of a file.
 use Rattle.std.proofs.Common.{◌≡◌, ℕ, List, Some, subst}
 use Rattle.std.specs.Prelude.{IfSome}
 use Rattle.std.specs.declared.option.Option.{Option}

@@ -1,5 +1,5 @@
--- What a call for C does to the caller's memory: the status, the struct, and the rows, lists and bytes in the caller's
--- arrays.
+-- The effects of a call for C on the caller's memory: the status, the struct, and the rows, lists and bytes in the
+-- caller's arrays.
 use Rattle.std.specs.Prelude.{◌≡◌, ℕ, ◌<◌, ◌≤◌, ◌⊎◌, List, ◌++◌, drop, length, Result, Ok, Err}
 use Rattle.mp4_frame.specs.Reading.{Reading, Refuses}
 use Rattle.mp4_frame.specs.declared.error.Error.{Error}

@@ -55,7 +55,7 @@ pub fn write_from<B: FromStruct<S, R> + Drop, S, R>(
     }
 }
 
-/// Writes the box in `$made`, a result, as `put_box` does, and evaluates to the status. An error in `$made` gives the
+/// Writes the box in the result `$made` like `put_box`, and evaluates to the status. An error in `$made` gives the
 /// status of the error.
 macro_rules! write_result {
     ($made:expr, $bytes:expr, $length:expr) => {

@@ -22,7 +22,7 @@ pub record KeepsBytes {A : Type 0} (known : BoxType → Bool) (reading : BoxType
   pub same : (name : BoxType) (bytes : List ℕ) (start size : ℕ) (v : A) → (reading name bytes start size).outcome ≡ Ok v
       → format.bytes v ≡ short_box (code_of name) (drop start bytes) size
 
--- the boxes that are read in these bytes from `o` on can be written, and have the same bytes
+-- the boxes that are read in these bytes, starting at `o`, can be written, and have the same bytes
 abbrev pub AreKept : {A : Type 0} → (BoxType → Bool) → (BoxType → List ℕ → ℕ → ℕ → Reading A) → Format A → List ℕ → ℕ
     → Type 0
 AreKept {A} known reading format bytes o = (vs : List A) → (boxes known reading bytes o).outcome ≡ Ok vs

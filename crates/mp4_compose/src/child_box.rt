@@ -34,8 +34,8 @@ pub trait ChildBox: Drop + Sized {
     fn read_children(alloc: Global, content: &[u8], at: u64) -> Result<Vec<Self>>
         ensures { AnswersAs (λ v. v.items) result (boxes child_known child_reading content.now at) };
 
-    /// Returns `true` only if the boxes that are read in `content` from offset `at` on are written in the same bytes.
-    /// The function takes no memory. `false` decides nothing, and a type may always return it.
+    /// Returns `true` only if the boxes that are read in `content`, starting at offset `at`, are written in the same
+    /// bytes. The function takes no memory. `false` decides nothing, and a type may always return it.
     fn are_kept_in(content: &[u8], at: usize) -> bool
         ensures { IsTrue result → AreKept child_known child_reading child_format content.now at }
     {

@@ -26,8 +26,8 @@ use std::alloc::Global;
 use std::io;
 use std::marker::Model;
 
-/// A movie: a file with the list of its boxes, made once, and the places of its tracks in that list. Needs 64 bytes of
-/// memory per box of the file and 72 per track.
+/// A movie: a file with the list of its boxes, made once, and the places of its tracks in that list. Needs 80 bytes of
+/// memory per box of the file and 88 per track.
 #[derive(Drop)]
 pub struct Movie<S: Source> {
     walk: BoxWalk<S>,

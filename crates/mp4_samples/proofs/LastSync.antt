@@ -73,7 +73,7 @@ count_none xs order = record {
   high = λ i le lt. above_all 0 xs i 0 order lt;
 }
 
--- Whether `k + 1` follows the first `j` numbers, which are those up to `k`.
+-- Facts on whether `k + 1` follows the first `j` numbers, which are those up to `k`.
 module _ (xs : List ℕ) (k j : ℕ) (order : increases 0 xs ≡ true) (at : IsCountAtMost xs k j) where
   pub count_next : j < length xs → get_or xs j 0 ≡ k + 1 → IsCountAtMost xs (k + 1) (j + 1)
   count_next lt is = record {

@@ -25,7 +25,7 @@ containers =
 abbrev pub is_container : ℕ → Bool
 is_container code = list_any (λ c. code == c) containers
 
--- video entries (ISO/IEC 14496-12, 8.12, 8.15, 12.1.3; 14496-14, 6.7; 14496-15; and the bindings of AV1 and VP9)
+-- video entries (ISO/IEC 14496-12, 8.12, 8.15, 12.1.3; 14496-14, 5.6; 14496-15; and the bindings of AV1 and VP9)
 abbrev pub video_codes : List ℕ
 video_codes =
     codes.AVC1 ∷ codes.AVC2 ∷ codes.AVC3 ∷ codes.AVC4 ∷ codes.SVC1 ∷ codes.SVC2 ∷ codes.MVC1 ∷ codes.MVC2 ∷ codes.MVC3
@@ -35,7 +35,7 @@ video_codes =
 abbrev pub is_video : ℕ → Bool
 is_video code = list_any (λ c. code == c) video_codes
 
--- sound entries (ISO/IEC 14496-12, 8.12, 12.2.3; 14496-14, 6.7; and the bindings of Opus, FLAC, ALAC and AC-3)
+-- sound entries (ISO/IEC 14496-12, 8.12, 12.2.3; 14496-14, 5.6; and the bindings of Opus, FLAC, ALAC and AC-3)
 abbrev pub sound_codes : List ℕ
 sound_codes =
     codes.MP4A ∷ codes.ENCA ∷ codes.OPUS ∷ codes.FLAC ∷ codes.ALAC ∷ codes.AC3 ∷ codes.EC3 ∷ []
@@ -72,7 +72,7 @@ sound_front stsd_version version =
     if (stsd_version == 0) && (version == 2) then fronts.QuickTimeSound2 else fronts.SoundEntry
 
 -- the fields of a sample entry: by the handler, if it is that of video or sound (ISO/IEC 14496-12, 12.1.3, 12.2.3), and
--- otherwise by its code (`tx3g` 3GPP TS 26.245, 5.16; `wvtt` ISO/IEC 14496-30, 7.5; `mp4s` 14496-14, 6.7; `urim`
+-- otherwise by its code (`tx3g` 3GPP TS 26.245, 5.16; `wvtt` ISO/IEC 14496-30, 7.5; `mp4s` 14496-14, 5.6; `urim`
 -- 14496-12, 12.3.3)
 abbrev pub entry_front : WalkContext → ℕ → Peek → Option Front
 entry_front s code w =

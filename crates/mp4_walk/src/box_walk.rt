@@ -159,7 +159,7 @@ impl<S: Source> BoxWalk<S> {
         Ok(Some(step.found))
     }
 
-    /// Returns the remaining boxes in order. Needs 64 bytes of memory per box.
+    /// Returns the remaining boxes in order. Needs 80 bytes of memory per box.
     pub fn rest(&mut self, alloc: Global) -> io::Result<Vec<TreeBox>>
         ensures boxes { IfSome self.old.bytes (λ B. IfOk result (λ boxes. boxes.items ≡ left B self.old)) }
         ensures bytes { self.new.bytes ≡ self.old.bytes }

@@ -1,4 +1,4 @@
--- The sizes so far are the first `index`, and there is room for `count`.
+-- The list has the first `index` sizes, and room for `count`.
 use Rattle.std.proofs.Common.{◌≡◌, take, vec_len, vec_capacity}
 use Rattle.mp4_movie.specs.CompactSizes.{sizes_in}
 use Rattle.mp4_movie.proofs.compact_sizes.sizes_in.Given as goal
