@@ -4,14 +4,14 @@ use Rattle.mp4_samples.proofs.Bytes.{bytes_within}
 use Rattle.mp4_samples.proofs.state.chunk_of.Goals as goal
 
 pub bytes_from-requires-clause-fits : goal.bytes_from-requires-clause-fits
-bytes_from-requires-clause-fits c = all_fit c.args.tables.now c.requires.consistent
+bytes_from-requires-clause-fits c = all_fit c.args.tables c.requires.consistent
 
 pub bytes_from-requires-clause-order : goal.bytes_from-requires-clause-order
 bytes_from-requires-clause-order c = omega (arith, c.found_in-found.ensures.chunk.from, c.found_in-found.ensures.first)
 
 pub overflow_add-result-2 : goal.overflow_add-result-2
 overflow_add-result-2 c =
-    let z = c.args.tables.now.stsz.now in
+    let z = c.args.tables.stsz.now in
     let found = c.found_in-found in
     let from = found.ensures.chunk.from in
     let le : found.result.first ≤ c.args.number = omega (arith, from, found.ensures.first) in
