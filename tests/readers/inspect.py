@@ -60,8 +60,9 @@ def visual(data, at):
 
 def sound(data, at, size, front, stsd_version):
     fields = {"data_reference_index": number(data, at + 6, 2)}
-    if stsd_version == 0:
-        fields["version"] = number(data, at + 8, 2)
+    version = number(data, at + 8, 2)
+    if stsd_version == 0 and version:
+        fields["version"] = version
     fields.update(channelcount=number(data, at + 16, 2), samplesize=number(data, at + 18, 2),
                   samplerate=number(data, at + 24, 4) / 65536)
     if front == QUICKTIME_SOUNDS[1] <= size:

@@ -237,6 +237,15 @@ fn put_full_head<K: FieldSink>(bytes: &[u8], sink: &mut K) -> Result<()>
     put_full(bytes[0], flags, &[], sink)
 }
 
+/// Sends the fields of a sound entry, the first of `bytes`, to `sink`. QuickTime's version is left out if it is 0.
+fn put_sound_entry<K: FieldSink>(bytes: &[u8], is_quicktime: bool, sink: &mut K) -> Result<()>
+    requires { 28 ≤ length bytes.now }
+    ensures nesting { OnOk result (Keeps K.since fields sink.old sink.new) }
+{
+    let version = u16::from_be_bytes([bytes[8], bytes[9]]);
+    put_sound(bytes, is_quicktime && version > 0, sink)
+}
+
 /// Sends the fields at the front of the content of a box to `sink`.
 fn put_front<K: FieldSink>(kind: Kind, bytes: &[u8], is_quicktime: bool, sink: &mut K) -> Result<()>
     ensures nesting { OnOk result (Keeps K.since fields sink.old sink.new) }
@@ -246,7 +255,7 @@ fn put_front<K: FieldSink>(kind: Kind, bytes: &[u8], is_quicktime: bool, sink: &
         Kind::List if bytes.len() >= 8 => put_list_head(bytes, sink),
         Kind::Entry if bytes.len() >= 8 => put_entry(bytes, sink),
         Kind::Visual if bytes.len() >= 78 => put_visual(bytes, sink),
-        Kind::Sound if bytes.len() >= 28 => put_sound(bytes, is_quicktime, sink),
+        Kind::Sound if bytes.len() >= 28 => put_sound_entry(bytes, is_quicktime, sink),
         Kind::Handler if bytes.len() >= 25 => put_handler(bytes, sink),
         Kind::Terminator => sink.field("terminator", Value::Number(0)),
         Kind::Reference if bytes.len() >= 4 => put_reference(bytes, sink),
