@@ -3,7 +3,7 @@ use Rattle.std.proofs.Common.{◌≡◌, ℕ, ◌<◌, ◌≤◌, Bool, true, fa
 use Rattle.std.proofs.Common.{refl, ap, sym, subst, ◌∙◌, arith, inl}
 use Rattle.std.specs.Prelude.{nat_lt, not, All}
 use Rattle.std.proofs.lemmas.List.{flat_map_more}
-use Rattle.std.proofs.lemmas.List.Elements.{All-from_recursion, All-push}
+use Rattle.std.proofs.lemmas.List.Elements.{All-push}
 use Rattle.mp4_lemmas.proofs.Lists.{all_before_last, last_of_all}
 use Rattle.mp4_frame.specs.Heads.{frame, name_in, end_in}
 use Rattle.mp4_frame.specs.Reading.{Fault, Refuses, FaultAs, ◌>>=◌, done}
@@ -16,9 +16,8 @@ use Rattle.mp4_frame.proofs.Steps.{continue_with, one_kept, item_known, frame_fa
 use Rattle.mp4_stream.specs.NameLaws.{plain_name}
 use Rattle.mp4_stream.specs.KeptBox.{format_kept, known_kept, reading_kept}
 use Rattle.mp4_stream.specs.declared.kept_box.KeptBox.{KeptBox}
-use Rattle.mp4_normal.specs.Changes.{AppendsIf, AreBefore, OneMade, made_from, made_of}
+use Rattle.mp4_normal.specs.Changes.{AppendsIf, AreBefore, OneMade, made_of}
 use Rattle.mp4_normal.specs.Normal.{boxes_of, Normalizes, NormalRefuses}
-use Rattle.mp4_normal.specs.declared.change.Change.{Change}
 use Rattle.mp4_normal.specs.declared.change.Changes.{Changes}
 
 -- the bytes of all boxes are made if all can be written; else one of them can't be written
@@ -52,27 +51,6 @@ in_front : (vs : List KeptBox) (asks : Bool) (o : Result KeptBox Fault)
 in_front vs true (Ok v) = refl
 in_front vs false (Ok v) = refl
 in_front vs asks (Err k) = refl
-
-alone : {X : Type 0} (asks : Bool) (o : Result (List X) Fault)
-    → continue_with false [] (record { asks_memory = asks; outcome = o }) ≡ record { asks_memory = asks; outcome = o }
-alone true (Ok xs) = refl
-alone false (Ok xs) = refl
-alone asks (Err k) = refl
-
--- at the beginning no box is read
-pub nothing_found : (B : List ℕ) (c : Changes) → c.list.items ≡ [] → AreBefore c (length c.fresh.items) 0
-    → SoFar B c true 0
-nothing_found B c none before =
-    record {
-      vs = [];
-      told = alone (boxes_of B).asks_memory (boxes_of B).outcome;
-      made = (
-        All-from_recursion format_kept.Writable [] tt,
-        ap (λ (cs : List Change). made_from c.fresh.items B 0 0 0 cs) none,
-      );
-      before = before;
-      within = omega arith;
-    }
 
 module _ {B : List ℕ} {c : Changes} {can : Bool} {at : ℕ} (so_far : SoFar B c can at) (lt : at < length B) where
   -- its frame faults

@@ -16,8 +16,8 @@ before_more c used at more before le =
       fewer = omega (arith, before.fewer, le);
     }
 
-module _ (c : Changes) (S : List ℕ) (from begin end : ℕ) (fits : from ≤ length c.fresh.items) (ordered : begin ≤ end)
-    (before : AreBefore c from begin) where
+module _ {c : Changes} {from begin : ℕ} (before : AreBefore c from begin) (S : List ℕ) (end : ℕ)
+    (fits : from ≤ length c.fresh.items) (ordered : begin ≤ end) where
   long : length (take from c.fresh.items) ≡ from
   long = length-take-le from c.fresh.items fits
 

@@ -1,11 +1,11 @@
 -- The box of a step, and the condition for it to be a frame.
 use Rattle.std.proofs.Common.{◌≡◌, ℕ, ◌+◌, ◌-◌, ◌^◌, ◌<◌, ◌≤◌, Bool, true, false, List, length, take, None, Some}
-use Rattle.std.proofs.Common.{Result, Ok, Err, refl, sym, ap, arith, subst, inl, inr, min}
+use Rattle.std.proofs.Common.{Result, Ok, Err, refl, sym, arith, subst, inl, inr, min}
 use Rattle.std.specs.Prelude.{nat_lt, ◌==◌, ◌&&◌, ◌||◌, ◌⊎◌}
 use Rattle.std.specs.declared.option.Option.{Option}
 use Rattle.std.proofs.lemmas.Bool.{cond_both, and_parts, ltb-true, ltb-false, lt-ltb, le-ltb, ne_eqb, cases_lt}
 use Rattle.std.proofs.lemmas.List.{length-take-le}
-use Rattle.mp4_frame.specs.FourCC.{four_cc_of, number_of}
+use Rattle.mp4_frame.specs.FourCC.{four_cc_of}
 use Rattle.mp4_frame.specs.Heads.{head, end_in, frame_of_head, frame_of, frame}
 use Rattle.mp4_frame.specs.Reading.{Fault, FaultAs, End, Invalid, NotFound}
 use Rattle.mp4_frame.specs.declared.error.Error.{Error}
@@ -14,24 +14,15 @@ use Rattle.mp4_frame.specs.declared.frame.Frame.{Frame}
 use Rattle.mp4_frame.proofs.Heads.{head_room}
 use Rattle.mp4_walk.specs.Found.{code_at, found_as, unread, found_of_head, found_of, found_at, content_begin}
 use Rattle.mp4_walk.specs.Found.{end_within}
-use Rattle.mp4_walk.specs.Fronts.{front_of, fields_in, level_after}
-use Rattle.mp4_walk.specs.declared.fronts.Front.{Front}
 use Rattle.mp4_walk.specs.Tops.{is_whole}
-use Rattle.mp4_walk.specs.FileBoxes.{if_whole, passed, step_by, step_of_code, step_of_what, step}
+use Rattle.mp4_walk.specs.FileBoxes.{step_of, step}
+use Rattle.mp4_walk.proofs.Steps.{is_read, step_cases}
 use Rattle.mp4_walk.specs.Peek.{peek}
 use Rattle.mp4_walk.specs.declared.level.Level.{Level}
 use Rattle.mp4_walk.specs.declared.step.Step.{Step}
-use Rattle.mp4_walk.specs.declared.step.TheConstants as constants
 use Rattle.mp4_walk.specs.declared.tree_box.TreeBox.{TreeBox}
-use Rattle.mp4_walk.specs.declared.tree_box.BoxState.{BoxState}
 use Rattle.mp4_walk.specs.declared.tree_box.BoxState.TheVariants as states
 use Rattle.mp4_walk.specs.declared.peek.Peek.{Peek}
-
--- a header was read
-abbrev pub is_read : BoxState → Bool
-is_read states.Small = false
-is_read states.NoHeader = false
-is_read _ = true
 
 -- the item at o has the depth of its level, and a header of at least 8 bytes if one was read
 pub record IsAt (l : Level) (o : ℕ) (x : TreeBox) : Type 0 where
@@ -56,65 +47,6 @@ pub record IsStepOf (l : Level) (o : ℕ) (x : TreeBox) (s : Step) : Type 0 wher
   pub level_end : s.level.end ≡ l.end
   pub leads : LeadsTo l x s.at s.inner
 
-if_whole_same : (whole : BoxState) → is_whole whole ≡ true → (w : BoxState) → is_whole (if_whole whole w) ≡ is_whole w
-if_whole_same whole e states.Leaf = e
-if_whole_same whole e states.Parent = refl
-if_whole_same whole e states.TooDeep = refl
-if_whole_same whole e states.Cut = refl
-if_whole_same whole e states.Small = refl
-if_whole_same whole e states.NoHeader = refl
-
-module _ (l : Level) (o : ℕ) (x : TreeBox) (here : IsAt l o x) where
-  -- an item that is not entered, with any state
-  passed_is : (f : Option Front) (w : BoxState) (after : Level) → is_whole w ≡ is_whole x.state
-      → after.depth ≡ l.depth → after.end ≡ l.end
-      → IsStepOf l o x (passed l (record x { front = f; state = w }) after)
-  passed_is f w after whole depth ends =
-      record {
-        depth = here.depth;
-        position = here.position;
-        long = refl;
-        code = refl;
-        whole = whole;
-        level_depth = depth;
-        level_end = ends;
-        leads = refl;
-      }
-
-  step_by_is : (f : Option Front) (code : ℕ) (w : Peek) (after : Level) → after.depth ≡ l.depth → after.end ≡ l.end
-      → is_read x.state ≡ true
-      → (r : Option ℕ) → IsStepOf l o x (step_by l (record x { front = f }) code w after r)
-  step_by_is f code w after depth ends read None = passed_is f x.state after refl depth ends
-  step_by_is f code w after depth ends read (Some n) =
-      cond_both (nat_lt l.depth constants.DEEPEST) _ _ (IsStepOf l o x)
-      (λ _. record {
-        depth = here.depth;
-        position = here.position;
-        long = refl;
-        code = refl;
-        whole = if_whole_same states.Parent refl x.state;
-        level_depth = depth;
-        level_end = ends;
-        leads = (refl, refl, omega arith, read);
-      })
-      (λ _. passed_is f (if_whole states.TooDeep x.state) after (if_whole_same states.TooDeep refl x.state) depth ends)
-
-  step_of_code_is : (w : Peek) → is_read x.state ≡ true → (code : Option FourCC)
-      → IsStepOf l o x (step_of_code l x w code)
-  step_of_code_is w read None = passed_is x.front x.state l refl refl refl
-  step_of_code_is w read (Some code) =
-      let front = front_of l.context (number_of code) w in
-      step_by_is front (number_of code) w (level_after l (number_of code) w) refl refl read
-      (fields_in (end_within l x - content_begin x) front)
-
-  pub step_of_what_is : (w : Peek) (why : BoxState) → x.state ≡ why → IsStepOf l o x (step_of_what l x w why)
-  step_of_what_is w states.Small e = passed_is x.front x.state l refl refl refl
-  step_of_what_is w states.NoHeader e = passed_is x.front x.state l refl refl refl
-  step_of_what_is w states.Leaf e = step_of_code_is w (ap is_read e) x.code
-  step_of_what_is w states.Parent e = step_of_code_is w (ap is_read e) x.code
-  step_of_what_is w states.TooDeep e = step_of_code_is w (ap is_read e) x.code
-  step_of_what_is w states.Cut e = step_of_code_is w (ap is_read e) x.code
-
 head_is_at : (l : Level) (o : ℕ) (h : Frame) → o ≤ h.start → IsAt l o (found_of_head l o h)
 unfolding found_of_head
 head_is_at l o h from =
@@ -136,10 +68,34 @@ is_at_by own l o code (Err (NotFound _)) is = record { depth = refl; position = 
 pub found_is_at : (B : List ℕ) (l : Level) (o : ℕ) → IsAt l o (found_at B l o)
 found_is_at B l o = let own = take l.end B in is_at_by own l o (code_at own o) (head own o).outcome refl
 
+step_of_is : (l : Level) (o : ℕ) (x : TreeBox) → IsAt l o x → (w : Peek) → IsStepOf l o x (step_of l x w)
+step_of_is l o x here w =
+    step_cases l x w (IsStepOf l o x)
+    (λ f why after depth ends whole. record {
+      depth = here.depth;
+      position = here.position;
+      long = refl;
+      code = refl;
+      whole = whole;
+      level_depth = depth;
+      level_end = ends;
+      leads = refl;
+    })
+    (λ f code n after depth ends whole read fits deep. record {
+      depth = here.depth;
+      position = here.position;
+      long = refl;
+      code = refl;
+      whole = whole;
+      level_depth = depth;
+      level_end = ends;
+      leads = (refl, refl, omega arith, read);
+    })
+
 pub step_is : (B : List ℕ) (l : Level) (o : ℕ) → IsStepOf l o (found_at B l o) (step B l o)
 step_is B l o =
     let x = found_at B l o in
-    step_of_what_is l o x (found_is_at B l o) (peek B (content_begin x) (end_within l x)) x.state refl
+    step_of_is l o x (found_is_at B l o) (peek B (content_begin x) (end_within l x))
 
 -- the item is a frame
 abbrev pub IsOfFrame : Level → ℕ → TreeBox → Result Frame Fault → Type 0

@@ -1,9 +1,8 @@
 -- The search for the box at a path, one box at a time.
-use Rattle.std.proofs.Common.{◌≡◌, ℕ, ◌+◌, ◌-◌, ◌<◌, ◌≤◌, true, false, cond, List, [], ◌∷◌, length, drop, get_or, None}
-use Rattle.std.proofs.Common.{Some, refl, sym, ap, ◌∙◌, arith}
+use Rattle.std.proofs.Common.{◌≡◌, ℕ, ◌+◌, ◌-◌, ◌<◌, ◌≤◌, true, false, cond, List, [], ◌∷◌, length, drop, get_or}
+use Rattle.std.proofs.Common.{refl, sym, ap, ◌∙◌, arith}
 use Rattle.std.specs.Prelude.{nat_lt, ◌==◌}
-use Rattle.std.specs.declared.option.Option.{Option}
-use Rattle.std.proofs.lemmas.Bool.{cond_both, lt-ltb, le-ltb, ltb-true, eq-eqb, ne_eqb}
+use Rattle.std.proofs.lemmas.Bool.{cond_both, lt-ltb, le-ltb, ltb-true, eq-eqb}
 use Rattle.std.proofs.lemmas.List.{drop-drop, drop_more}
 use Rattle.mp4_frame.specs.declared.four_cc.FourCC.{FourCC}
 use Rattle.mp4_walk.specs.Paths.{inside, is_code, is_meant, or_in, of_nth, at_path}
@@ -38,7 +37,7 @@ pub parts_from : (path : List PathPart) (d : ℕ) (part : PathPart) → d < leng
     → drop d path ≡ part ∷ drop (d + 1) path
 parts_from path d part h e = drop_more path d part h ∙ ap (λ (p : PathPart). p ∷ drop (d + 1) path) (sym e)
 
--- the search at the start of a file, and at its end
+-- the search at the start of a file
 pub begins : (path : List PathPart) (xs : List TreeBox)
     → sought path (record { depth = 0; before = 0 }) xs ≡ at_path 0 path xs
 begins [] xs = refl
@@ -47,50 +46,13 @@ begins (part ∷ parts) xs =
     ap (λ (ys : List TreeBox). at_rest 0 0 (part ∷ parts) ys) (inside_all xs)
     ∙ ap (λ (k : ℕ). of_nth (or_in (λ zs. at_path (0 + 1) parts (inside (0 + 1) zs)) parts) 0 part.code k xs) zero_less
 
-none_over : (path : List PathPart) (d before : ℕ) → at_rest d before path [] ≡ None
-none_over [] d before = refl
-none_over (part ∷ parts) d before = refl
-
-pub ends : (path : List PathPart) (s : Search) → sought path s [] ≡ None
-ends path s = none_over (drop s.depth path) s.depth s.before
-
 module _ (path : List PathPart) (x : TreeBox) (xs : List TreeBox) where
-  -- the path has no more parts
-  pub no_part : (s : Search) → drop s.depth path ≡ [] → None ≡ sought path s (x ∷ xs)
-  no_part s e = ap (λ (ps : List PathPart). at_rest s.depth s.before ps (inside s.depth (x ∷ xs))) (sym e)
-
-  -- the box is not in the box of the part before
-  pub left_box : (s : Search) → x.depth < s.depth → None ≡ sought path s (x ∷ xs)
-  left_box s h = let t : nat_lt x.depth s.depth ≡ true =
-      lt-ltb _ _ h in sym (ap (λ (ys : List TreeBox). at_rest s.depth s.before (drop s.depth path) ys) (rw t refl)
-      ∙ none_over (drop s.depth path) s.depth s.before)
-
   in_box : (s : Search) → s.depth ≤ x.depth
       → sought path s (x ∷ xs) ≡ at_rest s.depth s.before (drop s.depth path) (x ∷ inside s.depth xs)
   in_box s h = let t : nat_lt x.depth s.depth ≡ false = le-ltb _ _ h in rw t refl
 
   module _ (s : Search) (part : PathPart) (parts : List PathPart) (has : drop s.depth path ≡ part ∷ parts)
       (h : s.depth ≤ x.depth) where
-    rest : List TreeBox → Option TreeBox
-    rest ys = at_rest s.depth s.before (part ∷ parts) ys
-
-    -- the box has another depth or code
-    pub not_meant : is_meant s.depth part.code x ≡ false → sought path s xs ≡ sought path s (x ∷ xs)
-    not_meant e =
-        ap (λ (ps : List PathPart). at_rest s.depth s.before ps (inside s.depth xs)) has
-        ∙ sym (in_box s h ∙ ap (λ (ps : List PathPart). at_rest s.depth s.before ps (x ∷ inside s.depth xs)) has
-        ∙ rw e refl)
-
-    -- the box has the depth and code, but the index is larger
-    pub one_more : is_meant s.depth part.code x ≡ true → s.before < part.index
-        → sought path (record { depth = s.depth; before = s.before + 1 }) xs ≡ sought path s (x ∷ xs)
-    one_more e less =
-        let some : (part.index - s.before == 0) ≡ false = ne_eqb _ _ (λ z. absurd (omega (arith, less, z))) in
-        let one : part.index - s.before - 1 ≡ part.index - (s.before + 1) = omega arith in
-        ap (λ (ps : List PathPart). at_rest s.depth (s.before + 1) ps (inside s.depth xs)) has
-        ∙ sym (in_box s h ∙ ap (λ (ps : List PathPart). at_rest s.depth s.before ps (x ∷ inside s.depth xs)) has
-        ∙ rw (e, some, one) refl)
-
     here : is_meant s.depth part.code x ≡ true → part.index ≤ s.before
         → sought path s (x ∷ xs) ≡ or_in (λ ys. at_path (s.depth + 1) parts (inside (s.depth + 1) ys)) parts x
         (inside s.depth xs)
@@ -98,11 +60,6 @@ module _ (path : List PathPart) (x : TreeBox) (xs : List TreeBox) where
         let none : part.index - s.before ≡ 0 = omega arith in
         in_box s h ∙ ap (λ (ps : List PathPart). at_rest s.depth s.before ps (x ∷ inside s.depth xs)) has
         ∙ rw (e, none) refl
-
-    -- the box is that of the last part
-    pub last_part : is_meant s.depth part.code x ≡ true → part.index ≤ s.before → parts ≡ []
-        → Some x ≡ sought path s (x ∷ xs)
-    last_part e enough last = sym (here e enough ∙ rw last refl)
 
     -- the box is that of a part before the last, and the search continues inside it
     next_by : (ps : List PathPart) → parts ≡ ps → is_meant s.depth part.code x ≡ true → part.index ≤ s.before

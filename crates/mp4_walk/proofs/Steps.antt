@@ -1,7 +1,7 @@
 -- Each step takes at least one byte of its level and stays within it. So the boxes of a level do not depend on the
 -- number of allowed steps, if it is at least the number of bytes.
-use Rattle.std.proofs.Common.{◌≡◌, ℕ, zero, suc, ⊎_elim, ◌+◌, ◌-◌, ◌<◌, ◌≤◌, true, false, List, [], ◌∷◌, ◌++◌, length}
-use Rattle.std.proofs.Common.{take, None, Some, Result, Ok, Err, refl, sym, ap, ◌∙◌, arith, subst}
+use Rattle.std.proofs.Common.{◌≡◌, ℕ, zero, suc, ⊎_elim, ◌+◌, ◌-◌, ◌<◌, ◌≤◌, Bool, true, false, List, [], ◌∷◌, ◌++◌}
+use Rattle.std.proofs.Common.{length, take, None, Some, Result, Ok, Err, refl, sym, ap, ◌∙◌, arith, subst}
 use Rattle.std.specs.Prelude.{IfSome, nat_lt, nat_le, ◌==◌, ◌&&◌}
 use Rattle.std.specs.declared.option.Option.{Option}
 use Rattle.std.proofs.lemmas.Bool.{cond_both, le-leb, ltb-true, ltb-false, cases_lt}
@@ -17,7 +17,8 @@ use Rattle.mp4_walk.specs.Found.{code_at, found_of_head, found_of, found_at, con
 use Rattle.mp4_walk.specs.Fronts.{length_of, front_of, fields_in, level_after}
 use Rattle.mp4_walk.specs.declared.fronts.Front.{Front}
 use Rattle.mp4_walk.specs.FileBoxes.{GoesDeeper, GoesOn, StaysIn, passed, step_by, step_of_code, step_of_what, step_of}
-use Rattle.mp4_walk.specs.FileBoxes.{if_whole, step, boxes_after, boxes_by, boxes_at_most, boxes_in}
+use Rattle.mp4_walk.specs.Tops.{is_whole}
+use Rattle.mp4_walk.specs.FileBoxes.{entered, if_whole, step, boxes_after, boxes_by, boxes_at_most, boxes_in}
 use Rattle.mp4_walk.specs.Peek.{peek}
 use Rattle.mp4_walk.specs.declared.level.Level.{Level}
 use Rattle.mp4_walk.specs.declared.step.Step.{Step}
@@ -39,69 +40,76 @@ has_room room (Some f) =
     cond_both (nat_lt room n) None (Some n) (λ (s : Option ℕ). IfSome s (λ n. n ≤ room)) (λ _. tt)
     (λ e. ltb-false room n e)
 
-module _ (l : Level) (o : ℕ) (x : TreeBox) (here : x.position ≡ o) (some : 0 < x.header_length)
-    (on : content_begin x ≤ end_within l x) where
-  passed_goes_on : (f : Option Front) (w : BoxState) (after : Level) → after.end ≡ l.end
-      → GoesOn l o (passed l (record x { front = f; state = w }) after)
-  passed_goes_on f w after ends = (omega (arith, here, some, on), omega arith, ends)
+-- a header was read
+abbrev pub is_read : BoxState → Bool
+is_read states.Small = false
+is_read states.NoHeader = false
+is_read _ = true
 
-  step_by_goes_on : (f : Option Front) (code : ℕ) (w : Peek) (after : Level) → after.end ≡ l.end → (r : Option ℕ)
-      → IfSome r (λ n. n ≤ end_within l x - content_begin x)
-      → GoesOn l o (step_by l (record x { front = f }) code w after r)
-  step_by_goes_on f code w after ends None h = passed_goes_on f x.state after ends
-  step_by_goes_on f code w after ends (Some n) h =
-      cond_both (nat_lt l.depth constants.DEEPEST) _ _ (GoesOn l o)
-      (λ _. (omega (arith, here, some), (omega (arith, on, h), omega arith), ends))
-      (λ _. passed_goes_on f (if_whole states.TooDeep x.state) after ends)
+if_whole_same : (whole : BoxState) → is_whole whole ≡ true → (w : BoxState) → is_whole (if_whole whole w) ≡ is_whole w
+if_whole_same whole e states.Leaf = e
+if_whole_same whole e states.Parent = refl
+if_whole_same whole e states.TooDeep = refl
+if_whole_same whole e states.Cut = refl
+if_whole_same whole e states.Small = refl
+if_whole_same whole e states.NoHeader = refl
 
-  step_of_code_goes_on : (w : Peek) (code : Option FourCC) → GoesOn l o (step_of_code l x w code)
-  step_of_code_goes_on w None = passed_goes_on x.front x.state l refl
-  step_of_code_goes_on w (Some code) =
+-- what holds of each step over an item and of each step into it holds of its step
+module _ (l : Level) (x : TreeBox) (w : Peek) (P : Step → Type 0)
+    (over : (f : Option Front) (s : BoxState) (after : Level) → after.depth ≡ l.depth → after.end ≡ l.end
+    → is_whole s ≡ is_whole x.state → P (passed l (record x { front = f; state = s }) after))
+    (into : (f : Option Front) (code n : ℕ) (after : Level) → after.depth ≡ l.depth → after.end ≡ l.end
+    → is_whole (if_whole states.Parent x.state) ≡ is_whole x.state → is_read x.state ≡ true
+    → n ≤ end_within l x - content_begin x → l.depth < constants.DEEPEST
+    → P (entered l (record x { front = f }) code w n after)) where
+  by_fields : (f : Option Front) (code : ℕ) (after : Level) → after.depth ≡ l.depth → after.end ≡ l.end
+      → is_read x.state ≡ true → (r : Option ℕ) → IfSome r (λ n. n ≤ end_within l x - content_begin x)
+      → P (step_by l (record x { front = f }) code w after r)
+  by_fields f code after depth ends read None h = over f x.state after depth ends refl
+  by_fields f code after depth ends read (Some n) h =
+      cond_both (nat_lt l.depth constants.DEEPEST) _ _ P
+      (λ e. into f code n after depth ends (if_whole_same states.Parent refl x.state) read h (ltb-true _ _ e))
+      (λ _. over f (if_whole states.TooDeep x.state) after depth ends (if_whole_same states.TooDeep refl x.state))
+
+  by_code : is_read x.state ≡ true → (code : Option FourCC) → P (step_of_code l x w code)
+  by_code read None = over x.front x.state l refl refl refl
+  by_code read (Some code) =
       let room = end_within l x - content_begin x in
       let front = front_of l.context (number_of code) w in
-      step_by_goes_on front (number_of code) w (level_after l (number_of code) w) refl (fields_in room front)
+      by_fields front (number_of code) (level_after l (number_of code) w) refl refl read (fields_in room front)
       (has_room room front)
 
-  step_of_what_goes_on : (w : Peek) (why : BoxState) → GoesOn l o (step_of_what l x w why)
-  step_of_what_goes_on w states.Small = passed_goes_on x.front x.state l refl
-  step_of_what_goes_on w states.NoHeader = passed_goes_on x.front x.state l refl
-  step_of_what_goes_on w states.Leaf = step_of_code_goes_on w x.code
-  step_of_what_goes_on w states.Parent = step_of_code_goes_on w x.code
-  step_of_what_goes_on w states.TooDeep = step_of_code_goes_on w x.code
-  step_of_what_goes_on w states.Cut = step_of_code_goes_on w x.code
+  by_state : (why : BoxState) → x.state ≡ why → P (step_of_what l x w why)
+  by_state states.Small e = over x.front x.state l refl refl refl
+  by_state states.NoHeader e = over x.front x.state l refl refl refl
+  by_state states.Leaf e = by_code (ap is_read e) x.code
+  by_state states.Parent e = by_code (ap is_read e) x.code
+  by_state states.TooDeep e = by_code (ap is_read e) x.code
+  by_state states.Cut e = by_code (ap is_read e) x.code
 
-  -- the step at the item advances
-  pub found_goes_on : (w : Peek) (s : Step) → s ≡ step_of l x w → GoesOn l o s
-  found_goes_on w s e = subst (GoesOn l o) (sym e) (step_of_what_goes_on w x.state)
+  pub step_cases : P (step_of l x w)
+  step_cases = by_state x.state refl
+
+-- the step at the item advances
+pub found_goes_on : (l : Level) (o : ℕ) (x : TreeBox) → x.position ≡ o → 0 < x.header_length
+    → content_begin x ≤ end_within l x → (w : Peek) (s : Step) → s ≡ step_of l x w → GoesOn l o s
+found_goes_on l o x here some on w s e =
+    subst (GoesOn l o) (sym e)
+    (step_cases l x w (GoesOn l o)
+    (λ f why after depth ends whole. (omega (arith, here, some, on), omega arith, ends))
+    (λ f code n after depth ends whole read fits deep.
+    (omega (arith, here, some), (omega (arith, on, fits), omega arith), ends)))
 
 -- a step stays at the depth of its level or enters a level that is one deeper
 abbrev IsDeep : Level → Step → Type 0
 IsDeep l s = (s.level.depth ≡ l.depth) × GoesDeeper l s.inner
 
-step_by_deep : (l : Level) (x : TreeBox) (code : ℕ) (w : Peek) (after : Level) → after.depth ≡ l.depth
-    → (r : Option ℕ) → IsDeep l (step_by l x code w after r)
-step_by_deep l x code w after is None = (is, tt)
-step_by_deep l x code w after is (Some n) =
-    cond_both (nat_lt l.depth constants.DEEPEST) _ _ (IsDeep l) (λ e. (is, (refl, ltb-true _ _ e))) (λ _. (is, tt))
-
-step_of_code_deep : (l : Level) (x : TreeBox) (w : Peek) (code : Option FourCC) → IsDeep l (step_of_code l x w code)
-step_of_code_deep l x w None = (refl, tt)
-step_of_code_deep l x w (Some code) =
-    let front = front_of l.context (number_of code) w in
-    step_by_deep l (record x { front = front }) (number_of code) w (level_after l (number_of code) w) refl
-    (fields_in (end_within l x - content_begin x) front)
-
-step_of_what_deep : (l : Level) (x : TreeBox) (w : Peek) (why : BoxState) → IsDeep l (step_of_what l x w why)
-step_of_what_deep l x w states.Small = (refl, tt)
-step_of_what_deep l x w states.NoHeader = (refl, tt)
-step_of_what_deep l x w states.Leaf = step_of_code_deep l x w x.code
-step_of_what_deep l x w states.Parent = step_of_code_deep l x w x.code
-step_of_what_deep l x w states.TooDeep = step_of_code_deep l x w x.code
-step_of_what_deep l x w states.Cut = step_of_code_deep l x w x.code
-
 pub found_goes_deep : (l : Level) (x : TreeBox) (w : Peek) (s : Step) → s ≡ step_of l x w
     → (s.level.depth ≡ l.depth) × GoesDeeper l s.inner
-found_goes_deep l x w s e = subst (IsDeep l) (sym e) (step_of_what_deep l x w x.state)
+found_goes_deep l x w s e =
+    subst (IsDeep l) (sym e)
+    (step_cases l x w (IsDeep l) (λ f why after depth ends whole. (depth, tt))
+    (λ f code n after depth ends whole read fits deep. (depth, (refl, deep))))
 
 -- a header has at most 16 bytes
 head_near : (B : List ℕ) (o : ℕ) (h : Frame) → (head B o).outcome ≡ Ok h → h.start ≤ o + 8

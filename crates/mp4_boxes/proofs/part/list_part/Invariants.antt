@@ -1,5 +1,5 @@
 -- The text has the lines of the boxes before the offset.
-use Rattle.std.proofs.Common.{◌≡◌, ℕ, ◌≤◌, ◌-◌, ◌+◌, List, length}
+use Rattle.std.proofs.Common.{ℕ, ◌≤◌, ◌-◌, List}
 use Rattle.mp4_boxes.specs.Parts.{HasPart, LinesTo}
 use Rattle.mp4_boxes.proofs.part.list_part.Given as goal
 

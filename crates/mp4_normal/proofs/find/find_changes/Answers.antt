@@ -2,13 +2,9 @@ use Rattle.std.proofs.Common.{ℕ, Bool, ◌&&◌, length, ap, sym, subst, ◌�
 use Rattle.std.proofs.lemmas.Result.{err_from_is_err_and}
 use Rattle.mp4_frame.specs.Heads.{end_in}
 use Rattle.mp4_normal.specs.Changes.{AreBefore}
-use Rattle.mp4_normal.proofs.Found.{SoFar, nothing_found, frame_refused, box_refused, one_more, all_found, all_before}
+use Rattle.mp4_normal.proofs.Found.{SoFar, frame_refused, box_refused, one_more, all_found, all_before}
 use Rattle.mp4_normal.proofs.Found.{some_refused}
 use Rattle.mp4_normal.proofs.find.find_changes.Goals as goal
-
-pub loop-at-init : goal.loop-at-init
-loop-at-init c = nothing_found c.args.stream.now c.none-changes.result c.none-changes.ensures.list
-    c.none-changes.ensures.before
 
 pub returns-in_err-frame-clause-answer : goal.returns-in_err-frame-clause-answer
 returns-in_err-frame-clause-answer c =
