@@ -1,11 +1,13 @@
 //! The bit rate box.
 
+ghost use Rattle.mp4_extra_media.specs.declared.btrt.TheConstants.{NAMES};
 ghost use Rattle.mp4_frame.specs.declared.codes.TheConstants as codes;
 ghost use Rattle.std.proofs.Common.{refl, lit<};
 ghost use Rattle.mp4_declared.specs.OwnBox.{layout_of};
 
 use mp4_declared::{Declared, DeclaredBox, Last, Shape, ShapeVisitor, U32, box_of, parts_of};
 use mp4_frame::{Result, TryClone, codes};
+use mp4_shown::{FieldSink, HasFields, NamedShape, ShowShape, View, names_of, number};
 
 /// The bit rates of the media of a sample entry (`btrt`, ISO/IEC 14496-12, 8.5.2.2).
 #[derive(Clone, Copy, Debug, Drop, PartialEq, Eq)]
@@ -44,6 +46,24 @@ impl DeclaredBox for Btrt {
     }
 
     ghost valid = { refl };
+}
+
+/// The names of the fields.
+const NAMES: <BtrtShape as NamedShape>::Names = names_of!(
+    number!("bufferSizeDB"),
+    number!("maxBitrate"),
+    number!("avgBitrate")
+);
+
+impl HasFields for Btrt {
+    ghost shown = { λ view b. ⟦<BtrtShape as NamedShape>⟧.shown NAMES view (⟦<Btrt as DeclaredBox>⟧.layout.content b) };
+
+    ghost whole = { λ view b. ⟦<BtrtShape as NamedShape>⟧.whole NAMES view (⟦<Btrt as DeclaredBox>⟧.layout.content b) };
+
+    fn show<K: FieldSink>(&self, view: View, sink: &mut K) -> mp4_shown::Result<()> {
+        let parts = parts_of!(self => buffer_size_db, max_bitrate, avg_bitrate);
+        BtrtShape::show(NAMES, view, parts, sink)
+    }
 }
 
 impl TryClone for Btrt {

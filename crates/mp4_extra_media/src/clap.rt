@@ -1,11 +1,13 @@
 //! The clean aperture box.
 
+ghost use Rattle.mp4_extra_media.specs.declared.clap.TheConstants.{NAMES};
 ghost use Rattle.mp4_frame.specs.declared.codes.TheConstants as codes;
 ghost use Rattle.std.proofs.Common.{refl, lit<};
 ghost use Rattle.mp4_declared.specs.OwnBox.{layout_of};
 
 use mp4_declared::{Declared, DeclaredBox, I32, Last, Shape, ShapeVisitor, U32, box_of, parts_of};
 use mp4_frame::{Result, TryClone, codes};
+use mp4_shown::{FieldSink, HasFields, NamedShape, ShowShape, View, names_of, number};
 
 /// The part of a video's pictures to show (`clap`, ISO/IEC 14496-12, 12.1.4). Width, height and offsets are fractions,
 /// in pixels. Each has a numerator (`_n`) and a positive denominator (`_d`).
@@ -59,6 +61,31 @@ impl DeclaredBox for Clap {
     }
 
     ghost valid = { refl };
+}
+
+/// The names of the fields.
+const NAMES: <ClapShape as NamedShape>::Names = names_of!(
+    number!("cleanApertureWidthN"),
+    number!("cleanApertureWidthD"),
+    number!("cleanApertureHeightN"),
+    number!("cleanApertureHeightD"),
+    number!("horizOffN"),
+    number!("horizOffD"),
+    number!("vertOffN"),
+    number!("vertOffD")
+);
+
+impl HasFields for Clap {
+    ghost shown = { λ view b. ⟦<ClapShape as NamedShape>⟧.shown NAMES view (⟦<Clap as DeclaredBox>⟧.layout.content b) };
+
+    ghost whole = { λ view b. ⟦<ClapShape as NamedShape>⟧.whole NAMES view (⟦<Clap as DeclaredBox>⟧.layout.content b) };
+
+    fn show<K: FieldSink>(&self, view: View, sink: &mut K) -> mp4_shown::Result<()> {
+        let parts = parts_of!(self => clean_aperture_width_n, clean_aperture_width_d,
+            clean_aperture_height_n, clean_aperture_height_d, horiz_off_n, horiz_off_d, vert_off_n,
+            vert_off_d);
+        ClapShape::show(NAMES, view, parts, sink)
+    }
 }
 
 impl TryClone for Clap {

@@ -1,11 +1,13 @@
 //! The content light level box.
 
+ghost use Rattle.mp4_extra_media.specs.declared.clli.TheConstants.{NAMES};
 ghost use Rattle.mp4_frame.specs.declared.codes.TheConstants as codes;
 ghost use Rattle.std.proofs.Common.{refl, lit<};
 ghost use Rattle.mp4_declared.specs.OwnBox.{layout_of};
 
 use mp4_declared::{Declared, DeclaredBox, Last, Shape, ShapeVisitor, U16, box_of, parts_of};
 use mp4_frame::{Result, TryClone, codes};
+use mp4_shown::{FieldSink, HasFields, NamedShape, ShowShape, View, names_of, number};
 
 /// The brightness of a video's pictures (`clli`, ISO/IEC 14496-12, 12.1.6).
 #[derive(Clone, Copy, Debug, Drop, PartialEq, Eq)]
@@ -40,6 +42,23 @@ impl DeclaredBox for Clli {
     }
 
     ghost valid = { refl };
+}
+
+/// The names of the fields.
+const NAMES: <ClliShape as NamedShape>::Names = names_of!(
+    number!("max_content_light_level"),
+    number!("max_pic_average_light_level")
+);
+
+impl HasFields for Clli {
+    ghost shown = { λ view b. ⟦<ClliShape as NamedShape>⟧.shown NAMES view (⟦<Clli as DeclaredBox>⟧.layout.content b) };
+
+    ghost whole = { λ view b. ⟦<ClliShape as NamedShape>⟧.whole NAMES view (⟦<Clli as DeclaredBox>⟧.layout.content b) };
+
+    fn show<K: FieldSink>(&self, view: View, sink: &mut K) -> mp4_shown::Result<()> {
+        let parts = parts_of!(self => max_content_light_level, max_pic_average_light_level);
+        ClliShape::show(NAMES, view, parts, sink)
+    }
 }
 
 impl TryClone for Clli {

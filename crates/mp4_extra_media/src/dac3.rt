@@ -1,6 +1,6 @@
 //! The AC-3 specific box.
 
-ghost use Rattle.mp4_extra_media.specs.declared.dac3.TheConstants.{WIDTHS};
+ghost use Rattle.mp4_extra_media.specs.declared.dac3.TheConstants.{WIDTHS, NAMES};
 ghost use Rattle.mp4_frame.specs.declared.codes.TheConstants as codes;
 ghost use Rattle.std.proofs.Common.{refl, lit<};
 ghost use Rattle.mp4_declared.specs.OwnBox.{layout_of};
@@ -11,6 +11,7 @@ use mp4_declared::{
     numbers_of, parts_of,
 };
 use mp4_frame::{Result, TryClone, codes};
+use mp4_shown::{FieldSink, HasFields, NamedShape, NumberName, ShowShape, View, names_of, number};
 
 /// The fields of a `dac3`. The names are those of the AC-3 bit stream.
 #[derive(Clone, Copy, Debug, Default, PartialEq, Eq)]
@@ -85,6 +86,30 @@ impl DeclaredBox for Dac3 {
     }
 
     ghost valid = { refl };
+}
+
+/// The names of the configuration.
+const CONFIG: &[NumberName] = &[
+    number!("fscod"),
+    number!("bsid"),
+    number!("bsmod"),
+    number!("acmod"),
+    number!("lfeon"),
+    number!("bit_rate_code"),
+    number!("reserved", Reserved(0)),
+];
+
+/// The names of the fields.
+const NAMES: <Dac3Shape as NamedShape>::Names = names_of!(CONFIG);
+
+impl HasFields for Dac3 {
+    ghost shown = { λ view b. ⟦<Dac3Shape as NamedShape>⟧.shown NAMES view (⟦<Dac3 as DeclaredBox>⟧.layout.content b) };
+
+    ghost whole = { λ view b. ⟦<Dac3Shape as NamedShape>⟧.whole NAMES view (⟦<Dac3 as DeclaredBox>⟧.layout.content b) };
+
+    fn show<K: FieldSink>(&self, view: View, sink: &mut K) -> mp4_shown::Result<()> {
+        Dac3Shape::show(NAMES, view, parts_of!(self => config), sink)
+    }
 }
 
 impl TryClone for Dac3 {

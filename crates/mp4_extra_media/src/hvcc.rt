@@ -1,9 +1,10 @@
 //! The HEVC configuration box.
 
-ghost use Rattle.mp4_extra_media.specs.declared.hvcc.TheConstants.{PROFILE_WIDTHS, FORMAT_WIDTHS, RATE_WIDTHS};
+ghost use Rattle.mp4_extra_media.specs.declared.hvcc.TheConstants.{PROFILE_WIDTHS, FORMAT_WIDTHS, RATE_WIDTHS, NAMES};
 ghost use Rattle.mp4_frame.specs.declared.codes.TheConstants as codes;
-ghost use Rattle.mp4_extra_media.specs.declared.hvcc.TheConstants.{KIND_WIDTHS};
-ghost use Rattle.mp4_frame.specs.declared.codes.TheConstants as codes;
+ghost use Rattle.mp4_extra_media.specs.declared.hvcc.TheConstants.{ARRAY, KIND_WIDTHS};
+ghost use Rattle.mp4_shown.specs.Lists.{bytes_item, entry_of};
+ghost use Rattle.mp4_shown.specs.Members.{whole_bytes_item, whole_entry};
 ghost use Rattle.std.proofs.Common.{refl, lit<};
 ghost use Rattle.mp4_declared.specs.OwnBox.{layout_of};
 ghost use Rattle.mp4_declared.specs.DeclaredEntry.{exact_layout_of};
@@ -14,6 +15,10 @@ use mp4_declared::{
     Shape, ShapeVisitor, U8, U16, box_of, clone_each, entry_of, numbers_of, parts_of,
 };
 use mp4_frame::{Entries, Result, TryClone, codes};
+use mp4_shown::{
+    FieldSink, HasFields, Meaning, NamedShape, NumberName, ShowShape, ShownEntry, Value, View,
+    list, names_of, number,
+};
 
 /// The requirements on a decoder. The names are those of HEVC (ISO/IEC 23008-2, 7.4.4).
 #[derive(Clone, Copy, Debug, Default, PartialEq, Eq)]
@@ -189,6 +194,17 @@ impl TryClone for HevcNalUnit {
     }
 }
 
+/// A NAL unit is shown as its bytes.
+impl ShownEntry for HevcNalUnit {
+    ghost shown = { λ view unit. bytes_item unit.bytes };
+
+    ghost whole = { λ view unit. whole_bytes_item unit.bytes };
+
+    fn show<K: FieldSink>(&self, _view: View, sink: &mut K) -> mp4_shown::Result<()> {
+        sink.item(Value::Bytes(self.bytes.as_slice()))
+    }
+}
+
 /// The kind of the NAL units in an array.
 #[derive(Clone, Copy, Debug, Default, PartialEq, Eq)]
 pub struct HevcArrayKind {
@@ -265,6 +281,45 @@ impl TryClone for HevcArray {
     }
 }
 
+/// The types of the NAL units that an array may have (ISO/IEC 23008-2, Table 7-1).
+const NAL_UNIT_TYPES: &[Meaning] = &[
+    (32, "VPS"),
+    (33, "SPS"),
+    (34, "PPS"),
+    (39, "prefix SEI"),
+    (40, "suffix SEI"),
+];
+
+/// The names of the kind of an array.
+const KIND: &[NumberName] = &[
+    number!("array_completeness"),
+    number!("reserved", Reserved(0)),
+    number!("NAL_unit_type", Named, NAL_UNIT_TYPES),
+];
+
+/// The names of the fields of an array.
+const ARRAY: <HevcArrayShape as NamedShape>::Names = names_of!(KIND, list!("nalUnit"));
+
+impl ShownEntry for HevcArray {
+    ghost shown = { λ view a. entry_of (⟦<HevcArrayShape as NamedShape>⟧.shown ARRAY view
+        (⟦<HevcArray as DeclaredEntry>⟧.layout.content a)) };
+
+    ghost whole = { λ view a. whole_entry (⟦<HevcArrayShape as NamedShape>⟧.shown ARRAY view
+        (⟦<HevcArray as DeclaredEntry>⟧.layout.content a))
+        (⟦<HevcArrayShape as NamedShape>⟧.whole ARRAY view (⟦<HevcArray as DeclaredEntry>⟧.layout.content a)) };
+
+    fn show<K: FieldSink>(&self, view: View, sink: &mut K) -> mp4_shown::Result<()> {
+        sink.begin_entry()?;
+        HevcArrayShape::show(
+            ARRAY,
+            view,
+            parts_of!(self => kind, nal_units.as_slice()),
+            sink,
+        )?;
+        sink.end_entry()
+    }
+}
+
 /// The configuration of an HEVC decoder (`hvcC`, ISO/IEC 14496-15, 8.3.3.1).
 #[derive(Debug, Drop, PartialEq, Eq)]
 pub struct Hvcc {
@@ -314,6 +369,60 @@ impl DeclaredBox for Hvcc {
     }
 
     ghost valid = { refl };
+}
+
+/// The names of the requirements on a decoder.
+const PROFILE: &[NumberName] = &[
+    number!("general_profile_space"),
+    number!("general_tier_flag"),
+    number!("general_profile_idc"),
+    number!("general_profile_compatibility_flags", Flags(8)),
+    number!("general_constraint_indicator_flags", Hex(6)),
+    number!("general_level_idc"),
+];
+
+/// The names of the format of pictures. The standard sets all reserved bits.
+const FORMAT: &[NumberName] = &[
+    number!("reserved_before_segmentation", Reserved(0xF)),
+    number!("min_spatial_segmentation_idc"),
+    number!("reserved_before_parallelism", Reserved(0x3F)),
+    number!("parallelismType"),
+    number!("reserved_before_chroma_format", Reserved(0x3F)),
+    number!("chroma_format_idc"),
+    number!("reserved_before_luma", Reserved(0x1F)),
+    number!("bit_depth_luma_minus8"),
+    number!("reserved_before_chroma", Reserved(0x1F)),
+    number!("bit_depth_chroma_minus8"),
+];
+
+/// The names of the frame rate and of what follows it.
+const RATE: &[NumberName] = &[
+    number!("constantFrameRate"),
+    number!("numTemporalLayers"),
+    number!("temporalIdNested"),
+    number!("lengthSizeMinusOne"),
+];
+
+/// The names of the fields.
+const NAMES: <HvccShape as NamedShape>::Names = names_of!(
+    number!("configurationVersion"),
+    PROFILE,
+    FORMAT,
+    number!("avgFrameRate"),
+    RATE,
+    list!("arrays")
+);
+
+impl HasFields for Hvcc {
+    ghost shown = { λ view b. ⟦<HvccShape as NamedShape>⟧.shown NAMES view (⟦<Hvcc as DeclaredBox>⟧.layout.content b) };
+
+    ghost whole = { λ view b. ⟦<HvccShape as NamedShape>⟧.whole NAMES view (⟦<Hvcc as DeclaredBox>⟧.layout.content b) };
+
+    fn show<K: FieldSink>(&self, view: View, sink: &mut K) -> mp4_shown::Result<()> {
+        let parts = parts_of!(self => configuration_version, profile, format, avg_frame_rate, rate,
+            arrays.as_slice());
+        HvccShape::show(NAMES, view, parts, sink)
+    }
 }
 
 impl TryClone for Hvcc {

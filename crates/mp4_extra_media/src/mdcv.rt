@@ -1,6 +1,6 @@
 //! The mastering display colour volume box.
 
-ghost use Rattle.mp4_extra_media.specs.declared.mdcv.TheConstants.{WIDTHS};
+ghost use Rattle.mp4_extra_media.specs.declared.mdcv.TheConstants.{WIDTHS, NAMES};
 ghost use Rattle.mp4_frame.specs.declared.codes.TheConstants as codes;
 ghost use Rattle.std.proofs.Common.{refl, lit<};
 ghost use Rattle.mp4_declared.specs.OwnBox.{layout_of};
@@ -11,6 +11,7 @@ use mp4_declared::{
     numbers_of, parts_of,
 };
 use mp4_frame::{Result, TryClone, codes};
+use mp4_shown::{FieldSink, HasFields, NamedShape, NumberName, ShowShape, View, names_of, number};
 
 /// A chromaticity, as a point in the CIE 1931 diagram. Coordinates are in units of 0.00002 and at most 50,000.
 #[derive(Clone, Copy, Debug, Default, PartialEq, Eq)]
@@ -94,6 +95,50 @@ impl DeclaredBox for Mdcv {
     }
 
     ghost valid = { refl };
+}
+
+/// The names of the first primary.
+const GREEN: &[NumberName] = &[
+    number!("display_primaries_x_0"),
+    number!("display_primaries_y_0"),
+];
+
+/// The names of the second primary.
+const BLUE: &[NumberName] = &[
+    number!("display_primaries_x_1"),
+    number!("display_primaries_y_1"),
+];
+
+/// The names of the third primary.
+const RED: &[NumberName] = &[
+    number!("display_primaries_x_2"),
+    number!("display_primaries_y_2"),
+];
+
+/// The names of the white point.
+const WHITE: &[NumberName] = &[number!("white_point_x"), number!("white_point_y")];
+
+/// The names of the fields.
+const NAMES: <MdcvShape as NamedShape>::Names = names_of!(
+    GREEN,
+    BLUE,
+    RED,
+    WHITE,
+    number!("max_display_mastering_luminance"),
+    number!("min_display_mastering_luminance")
+);
+
+impl HasFields for Mdcv {
+    ghost shown = { λ view b. ⟦<MdcvShape as NamedShape>⟧.shown NAMES view (⟦<Mdcv as DeclaredBox>⟧.layout.content b) };
+
+    ghost whole = { λ view b. ⟦<MdcvShape as NamedShape>⟧.whole NAMES view (⟦<Mdcv as DeclaredBox>⟧.layout.content b) };
+
+    fn show<K: FieldSink>(&self, view: View, sink: &mut K) -> mp4_shown::Result<()> {
+        let parts = parts_of!(self => display_primaries_0, display_primaries_1,
+            display_primaries_2, white_point, max_display_mastering_luminance,
+            min_display_mastering_luminance);
+        MdcvShape::show(NAMES, view, parts, sink)
+    }
 }
 
 impl TryClone for Mdcv {

@@ -1,11 +1,13 @@
 //! The pixel aspect ratio box.
 
+ghost use Rattle.mp4_extra_media.specs.declared.pasp.TheConstants.{NAMES};
 ghost use Rattle.mp4_frame.specs.declared.codes.TheConstants as codes;
 ghost use Rattle.std.proofs.Common.{refl, lit<};
 ghost use Rattle.mp4_declared.specs.OwnBox.{layout_of};
 
 use mp4_declared::{Declared, DeclaredBox, Last, Shape, ShapeVisitor, U32, box_of, parts_of};
 use mp4_frame::{Result, TryClone, codes};
+use mp4_shown::{FieldSink, HasFields, NamedShape, ShowShape, View, names_of, number};
 
 /// The aspect ratio of a video's pixels (`pasp`, ISO/IEC 14496-12, 12.1.4): width to height is `h_spacing` to
 /// `v_spacing`.
@@ -40,6 +42,19 @@ impl DeclaredBox for Pasp {
     }
 
     ghost valid = { refl };
+}
+
+/// The names of the fields.
+const NAMES: <PaspShape as NamedShape>::Names = names_of!(number!("hSpacing"), number!("vSpacing"));
+
+impl HasFields for Pasp {
+    ghost shown = { λ view b. ⟦<PaspShape as NamedShape>⟧.shown NAMES view (⟦<Pasp as DeclaredBox>⟧.layout.content b) };
+
+    ghost whole = { λ view b. ⟦<PaspShape as NamedShape>⟧.whole NAMES view (⟦<Pasp as DeclaredBox>⟧.layout.content b) };
+
+    fn show<K: FieldSink>(&self, view: View, sink: &mut K) -> mp4_shown::Result<()> {
+        PaspShape::show(NAMES, view, parts_of!(self => h_spacing, v_spacing), sink)
+    }
 }
 
 impl TryClone for Pasp {

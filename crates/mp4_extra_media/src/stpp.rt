@@ -1,11 +1,13 @@
 //! The sample entry of subtitles in XML.
 
+ghost use Rattle.mp4_extra_media.specs.declared.stpp.TheConstants.{NAMES};
 ghost use Rattle.mp4_frame.specs.declared.codes.TheConstants as codes;
 ghost use Rattle.mp4_declared.specs.OwnBox.{layout_of};
 ghost use Rattle.std.proofs.Common.{refl, lit<};
 
 use mp4_declared::declaring::*;
 use mp4_frame::{Result, codes};
+use mp4_shown::{FieldSink, HasFields, NamedShape, ShowShape, View, names_of, number, run};
 
 /// The sample entry of subtitles in XML (`stpp`, ISO/IEC 14496-12, 12.6.3). In the standard, strings are UTF-8 without
 /// a zero byte. Items of a list in a string are separated by spaces.
@@ -51,6 +53,28 @@ impl DeclaredBox for Stpp {
     }
 
     ghost valid = { refl };
+}
+
+/// The names of the fields.
+const NAMES: <StppShape as NamedShape>::Names = names_of!(
+    number!("data_reference_index"),
+    run!("namespace", Text),
+    run!("schema_location", Text),
+    run!("auxiliary_mime_types", Text),
+    run!("data_bytes", SomeBytes)
+);
+
+impl HasFields for Stpp {
+    ghost shown = { λ view b. ⟦<StppShape as NamedShape>⟧.shown NAMES view (⟦<Stpp as DeclaredBox>⟧.layout.content b) };
+
+    ghost whole = { λ view b. ⟦<StppShape as NamedShape>⟧.whole NAMES view (⟦<Stpp as DeclaredBox>⟧.layout.content b) };
+
+    fn show<K: FieldSink>(&self, view: View, sink: &mut K) -> mp4_shown::Result<()> {
+        let parts =
+            parts_of!(self => data_reference_index, namespace.as_slice(), schema_location.as_slice(),
+            auxiliary_mime_types.as_slice(), boxes.as_slice());
+        StppShape::show(NAMES, view, parts, sink)
+    }
 }
 
 impl TryClone for Stpp {

@@ -1,11 +1,13 @@
 //! The sample entry of WebVTT.
 
+ghost use Rattle.mp4_extra_media.specs.declared.wvtt.TheConstants.{NAMES};
 ghost use Rattle.mp4_frame.specs.declared.codes.TheConstants as codes;
 ghost use Rattle.mp4_declared.specs.OwnBox.{layout_of};
 ghost use Rattle.std.proofs.Common.{refl, lit<};
 
 use mp4_declared::declaring::*;
 use mp4_frame::{Result, codes};
+use mp4_shown::{FieldSink, HasFields, NamedShape, ShowShape, View, names_of, number, run};
 
 /// The sample entry of WebVTT (`wvtt`, ISO/IEC 14496-30, 7.5).
 #[derive(Debug, Drop, PartialEq, Eq)]
@@ -41,6 +43,23 @@ impl DeclaredBox for Wvtt {
     }
 
     ghost valid = { refl };
+}
+
+/// The names of the fields.
+const NAMES: <WvttShape as NamedShape>::Names = names_of!(
+    number!("data_reference_index"),
+    run!("data_bytes", SomeBytes)
+);
+
+impl HasFields for Wvtt {
+    ghost shown = { λ view b. ⟦<WvttShape as NamedShape>⟧.shown NAMES view (⟦<Wvtt as DeclaredBox>⟧.layout.content b) };
+
+    ghost whole = { λ view b. ⟦<WvttShape as NamedShape>⟧.whole NAMES view (⟦<Wvtt as DeclaredBox>⟧.layout.content b) };
+
+    fn show<K: FieldSink>(&self, view: View, sink: &mut K) -> mp4_shown::Result<()> {
+        let parts = parts_of!(self => data_reference_index, boxes.as_slice());
+        WvttShape::show(NAMES, view, parts, sink)
+    }
 }
 
 impl TryClone for Wvtt {

@@ -1,5 +1,6 @@
 //! The composition to decode box.
 
+ghost use Rattle.mp4_extra_samples.specs.declared.cslg.TheConstants.{NAMES};
 ghost use Rattle.mp4_frame.specs.declared.codes.TheConstants as codes;
 ghost use Rattle.mp4_declared.specs.OwnBox.{layout_of};
 ghost use Rattle.std.proofs.Common.{refl, lit<};
@@ -7,6 +8,9 @@ ghost use Rattle.std.proofs.Common.{refl, lit<};
 use mp4_declared::SignedTime;
 use mp4_declared::declaring::*;
 use mp4_frame::{Result, codes};
+use mp4_shown::{
+    FLAGS, FieldSink, HasFields, NamedShape, ShowShape, VERSION, View, names_of, number,
+};
 
 /// The relation of a track's composition times to its decoding times (`cslg`, ISO/IEC 14496-12, 8.6.1.4). Times are in
 /// the timescale of the media. They have 32 bits in version 0, 64 in version 1.
@@ -65,6 +69,30 @@ impl DeclaredBox for Cslg {
     }
 
     ghost valid = { refl };
+}
+
+/// The names of the fields.
+const NAMES: <CslgShape as NamedShape>::Names = names_of!(
+    VERSION,
+    FLAGS,
+    number!("compositionToDTSShift"),
+    number!("leastDecodeToDisplayDelta"),
+    number!("greatestDecodeToDisplayDelta"),
+    number!("compositionStartTime"),
+    number!("compositionEndTime")
+);
+
+impl HasFields for Cslg {
+    ghost shown = { λ view b. ⟦<CslgShape as NamedShape>⟧.shown NAMES view (⟦<Cslg as DeclaredBox>⟧.layout.content b) };
+
+    ghost whole = { λ view b. ⟦<CslgShape as NamedShape>⟧.whole NAMES view (⟦<Cslg as DeclaredBox>⟧.layout.content b) };
+
+    fn show<K: FieldSink>(&self, view: View, sink: &mut K) -> mp4_shown::Result<()> {
+        let parts =
+            parts_of!(self => version, flags, composition_to_dts_shift, least_decode_to_display_delta,
+            greatest_decode_to_display_delta, composition_start_time, composition_end_time);
+        CslgShape::show(NAMES, view, parts, sink)
+    }
 }
 
 impl TryClone for Cslg {

@@ -1,6 +1,6 @@
 //! The sample auxiliary information offsets box.
 
-ghost use Rattle.mp4_extra_samples.specs.declared.saio.TheConstants.{SHORT, LONG};
+ghost use Rattle.mp4_extra_samples.specs.declared.saio.TheConstants.{LONG, NAMES, SHORT};
 ghost use Rattle.mp4_frame.specs.declared.codes.TheConstants as codes;
 ghost use Rattle.std.proofs.Common.{refl, lit<};
 ghost use Rattle.mp4_declared.specs.OwnBox.{layout_of};
@@ -11,6 +11,10 @@ use mp4_declared::{
     ShapeVisitor, U32, box_of, entry_of, numbers_of, parts_of,
 };
 use mp4_frame::{Entries, FourCC, Result, TryClone, codes};
+use mp4_shown::{
+    FieldSink, HasFields, Meaning, NamedShape, NumberName, ShowShape, VERSION, View, list,
+    names_of, number,
+};
 
 /// The start of a piece of auxiliary information.
 #[derive(Clone, Copy, Debug, Default, PartialEq, Eq)]
@@ -109,6 +113,33 @@ impl DeclaredBox for Saio {
     }
 
     ghost valid = { refl };
+}
+
+/// The flags of the box.
+const AUXILIARY_FLAGS: &[Meaning] = &[(0x1, "aux_info_type")];
+
+/// The name of an offset, which isn't shown.
+const OFFSET: &[NumberName] = &[number!("offset")];
+
+/// The names of the fields.
+const NAMES: <SaioShape as NamedShape>::Names = names_of!(
+    VERSION,
+    number!("flags", Flags(6), AUXILIARY_FLAGS),
+    "aux_info_type",
+    number!("aux_info_type_parameter"),
+    (list!("offset", Items), OFFSET)
+);
+
+impl HasFields for Saio {
+    ghost shown = { λ view b. ⟦<SaioShape as NamedShape>⟧.shown NAMES view (⟦<Saio as DeclaredBox>⟧.layout.content b) };
+
+    ghost whole = { λ view b. ⟦<SaioShape as NamedShape>⟧.whole NAMES view (⟦<Saio as DeclaredBox>⟧.layout.content b) };
+
+    fn show<K: FieldSink>(&self, view: View, sink: &mut K) -> mp4_shown::Result<()> {
+        let parts = parts_of!(self => version, flags, aux_info_type, aux_info_type_parameter,
+            offsets.as_slice());
+        SaioShape::show(NAMES, view, parts, sink)
+    }
 }
 
 impl TryClone for Saio {

@@ -1,5 +1,6 @@
 //! The sample auxiliary information sizes box.
 
+ghost use Rattle.mp4_extra_samples.specs.declared.saiz.TheConstants.{NAMES};
 ghost use Rattle.mp4_frame.specs.declared.codes.TheConstants as codes;
 ghost use Rattle.std.proofs.Common.{refl, lit<};
 ghost use Rattle.mp4_declared.specs.OwnBox.{layout_of};
@@ -9,6 +10,9 @@ use mp4_declared::{
     box_of, parts_of,
 };
 use mp4_frame::{Entries, FourCC, Result, TryClone, codes};
+use mp4_shown::{
+    FieldSink, HasFields, Meaning, NamedShape, ShowShape, VERSION, View, names_of, number, run,
+};
 
 /// The sizes of the samples' auxiliary information (`saiz`, ISO/IEC 14496-12, 8.7.8). A `saio` has its offsets.
 #[derive(Debug, Drop, PartialEq, Eq)]
@@ -66,6 +70,32 @@ impl DeclaredBox for Saiz {
     }
 
     ghost valid = { refl };
+}
+
+/// The flags of the box.
+const AUXILIARY_FLAGS: &[Meaning] = &[(0x1, "aux_info_type")];
+
+/// The names of the fields.
+const NAMES: <SaizShape as NamedShape>::Names = names_of!(
+    VERSION,
+    number!("flags", Flags(6), AUXILIARY_FLAGS),
+    "aux_info_type",
+    number!("aux_info_type_parameter"),
+    number!("default_sample_info_size"),
+    number!("sample_count"),
+    run!("sample_info_size", Numbers)
+);
+
+impl HasFields for Saiz {
+    ghost shown = { λ view b. ⟦<SaizShape as NamedShape>⟧.shown NAMES view (⟦<Saiz as DeclaredBox>⟧.layout.content b) };
+
+    ghost whole = { λ view b. ⟦<SaizShape as NamedShape>⟧.whole NAMES view (⟦<Saiz as DeclaredBox>⟧.layout.content b) };
+
+    fn show<K: FieldSink>(&self, view: View, sink: &mut K) -> mp4_shown::Result<()> {
+        let parts = parts_of!(self => version, flags, aux_info_type, aux_info_type_parameter,
+            default_sample_info_size, sample_count, sample_info_sizes.as_slice());
+        SaizShape::show(NAMES, view, parts, sink)
+    }
 }
 
 impl TryClone for Saiz {

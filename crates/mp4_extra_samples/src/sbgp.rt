@@ -1,6 +1,6 @@
 //! The sample to group box.
 
-ghost use Rattle.mp4_extra_samples.specs.declared.sbgp.TheConstants.{WIDTHS};
+ghost use Rattle.mp4_extra_samples.specs.declared.sbgp.TheConstants.{NAMES, WIDTHS};
 ghost use Rattle.mp4_frame.specs.declared.codes.TheConstants as codes;
 ghost use Rattle.std.proofs.Common.{refl, lit<};
 ghost use Rattle.mp4_declared.specs.OwnBox.{layout_of};
@@ -11,6 +11,10 @@ use mp4_declared::{
     ShapeVisitor, U32, box_of, entry_of, numbers_of, parts_of,
 };
 use mp4_frame::{Entries, FourCC, Result, TryClone, codes};
+use mp4_shown::{
+    FLAGS, FieldSink, HasFields, NamedShape, NumberName, ShowShape, VERSION, View, list, names_of,
+    number,
+};
 
 /// A run of consecutive samples of one group.
 #[derive(Clone, Copy, Debug, Default, PartialEq, Eq)]
@@ -92,6 +96,30 @@ impl DeclaredBox for Sbgp {
     }
 
     ghost valid = { refl };
+}
+
+/// The names of the fields of a run of samples.
+const RUN: &[NumberName] = &[number!("sample_count"), number!("group_description_index")];
+
+/// The names of the fields.
+const NAMES: <SbgpShape as NamedShape>::Names = names_of!(
+    VERSION,
+    FLAGS,
+    "grouping_type",
+    number!("grouping_type_parameter"),
+    (list!("entries"), RUN)
+);
+
+impl HasFields for Sbgp {
+    ghost shown = { λ view b. ⟦<SbgpShape as NamedShape>⟧.shown NAMES view (⟦<Sbgp as DeclaredBox>⟧.layout.content b) };
+
+    ghost whole = { λ view b. ⟦<SbgpShape as NamedShape>⟧.whole NAMES view (⟦<Sbgp as DeclaredBox>⟧.layout.content b) };
+
+    fn show<K: FieldSink>(&self, view: View, sink: &mut K) -> mp4_shown::Result<()> {
+        let parts = parts_of!(self => version, flags, grouping_type, grouping_type_parameter,
+            entries.as_slice());
+        SbgpShape::show(NAMES, view, parts, sink)
+    }
 }
 
 impl TryClone for Sbgp {

@@ -1,6 +1,6 @@
 //! The independent and disposable samples box.
 
-ghost use Rattle.mp4_extra_samples.specs.declared.sdtp.TheConstants.{WIDTHS};
+ghost use Rattle.mp4_extra_samples.specs.declared.sdtp.TheConstants.{NAMES, WIDTHS};
 ghost use Rattle.mp4_frame.specs.declared.codes.TheConstants as codes;
 ghost use Rattle.std.proofs.Common.{refl, lit<};
 ghost use Rattle.mp4_declared.specs.OwnBox.{layout_of};
@@ -11,6 +11,10 @@ use mp4_declared::{
     numbers_of, parts_of,
 };
 use mp4_frame::{Entries, Result, TryClone, codes};
+use mp4_shown::{
+    FLAGS, FieldSink, HasFields, NamedShape, NumberName, ShowShape, VERSION, View, list, names_of,
+    number,
+};
 
 /// The dependencies of a sample on others. Every field is 0 if the answer is unknown.
 #[derive(Clone, Copy, Debug, Default, PartialEq, Eq)]
@@ -84,6 +88,32 @@ impl DeclaredBox for Sdtp {
     }
 
     ghost valid = { refl };
+}
+
+/// The names of the fields of a sample.
+const SAMPLE: &[NumberName] = &[
+    number!("is_leading"),
+    number!("sample_depends_on"),
+    number!("sample_is_depended_on"),
+    number!("sample_has_redundancy"),
+];
+
+/// The names of the fields.
+const NAMES: <SdtpShape as NamedShape>::Names = names_of!(
+    VERSION,
+    FLAGS,
+    (list!("entries"), SAMPLE)
+);
+
+impl HasFields for Sdtp {
+    ghost shown = { λ view b. ⟦<SdtpShape as NamedShape>⟧.shown NAMES view (⟦<Sdtp as DeclaredBox>⟧.layout.content b) };
+
+    ghost whole = { λ view b. ⟦<SdtpShape as NamedShape>⟧.whole NAMES view (⟦<Sdtp as DeclaredBox>⟧.layout.content b) };
+
+    fn show<K: FieldSink>(&self, view: View, sink: &mut K) -> mp4_shown::Result<()> {
+        let parts = parts_of!(self => version, flags, entries.as_slice());
+        SdtpShape::show(NAMES, view, parts, sink)
+    }
 }
 
 impl TryClone for Sdtp {

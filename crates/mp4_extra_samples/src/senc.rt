@@ -1,5 +1,6 @@
 //! The sample encryption box.
 
+ghost use Rattle.mp4_extra_samples.specs.declared.senc.TheConstants.{NAMES};
 ghost use Rattle.mp4_frame.specs.declared.codes.TheConstants as codes;
 ghost use Rattle.std.proofs.Common.{refl, lit<};
 ghost use Rattle.mp4_declared.specs.OwnBox.{layout_of};
@@ -8,6 +9,9 @@ use mp4_declared::{
     Declared, DeclaredBox, Full, Last, Rest, Shape, ShapeVisitor, U32, box_of, parts_of,
 };
 use mp4_frame::{Entries, Result, TryClone, codes};
+use mp4_shown::{
+    FieldSink, HasFields, Meaning, NamedShape, ShowShape, VERSION, View, names_of, number, run,
+};
 
 /// The encryption parameters of each sample (`senc`, ISO/IEC 23001-7, 7.2.1).
 #[derive(Debug, Drop, PartialEq, Eq)]
@@ -50,6 +54,28 @@ impl DeclaredBox for Senc {
     }
 
     ghost valid = { refl };
+}
+
+/// The flags of the box.
+const ENCRYPTION_FLAGS: &[Meaning] = &[(0x2, "UseSubSampleEncryption")];
+
+/// The names of the fields.
+const NAMES: <SencShape as NamedShape>::Names = names_of!(
+    VERSION,
+    number!("flags", Flags(6), ENCRYPTION_FLAGS),
+    number!("sample_count"),
+    run!("data_bytes", Bytes)
+);
+
+impl HasFields for Senc {
+    ghost shown = { λ view b. ⟦<SencShape as NamedShape>⟧.shown NAMES view (⟦<Senc as DeclaredBox>⟧.layout.content b) };
+
+    ghost whole = { λ view b. ⟦<SencShape as NamedShape>⟧.whole NAMES view (⟦<Senc as DeclaredBox>⟧.layout.content b) };
+
+    fn show<K: FieldSink>(&self, view: View, sink: &mut K) -> mp4_shown::Result<()> {
+        let parts = parts_of!(self => version, flags, sample_count, samples.as_slice());
+        SencShape::show(NAMES, view, parts, sink)
+    }
 }
 
 impl TryClone for Senc {

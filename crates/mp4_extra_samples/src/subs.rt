@@ -1,7 +1,9 @@
 //! The sub-sample information box.
 
-ghost use Rattle.mp4_extra_samples.specs.declared.subs.TheConstants.{SHORT, LONG};
+ghost use Rattle.mp4_extra_samples.specs.declared.subs.TheConstants.{LONG, NAMES, SAMPLE, SHORT};
 ghost use Rattle.mp4_frame.specs.declared.codes.TheConstants as codes;
+ghost use Rattle.mp4_shown.specs.Lists.{entry_of};
+ghost use Rattle.mp4_shown.specs.Members.{whole_entry};
 ghost use Rattle.std.proofs.Common.{refl, lit<};
 ghost use Rattle.mp4_declared.specs.OwnBox.{layout_of};
 ghost use Rattle.mp4_declared.specs.DeclaredEntry.{exact_layout_of};
@@ -14,6 +16,10 @@ use mp4_declared::{
     parts_of,
 };
 use mp4_frame::{Entries, Result, TryClone, codes};
+use mp4_shown::{
+    FLAGS, FieldSink, HasFields, NamedShape, NumberName, ShowShape, ShownEntry, VERSION, View,
+    list, names_of, number,
+};
 
 /// A part of a sample: some of its consecutive bytes.
 #[derive(Clone, Copy, Debug, Default, PartialEq, Eq)]
@@ -107,6 +113,40 @@ impl DeclaredEntry for SubsEntry {
     ghost begins = { λ _. some_first 4 _ (lit< tt) };
 }
 
+/// The names of the fields of a part.
+const PART: &[NumberName] = &[
+    number!("subsample_size"),
+    number!("subsample_priority"),
+    number!("discardable"),
+    number!("codec_specific_parameters"),
+];
+
+/// The names of the fields of a sample.
+const SAMPLE: <SubsEntryShape as NamedShape>::Names = names_of!(
+    number!("sample_delta"),
+    (list!("subsamples"), PART)
+);
+
+impl ShownEntry for SubsEntry {
+    ghost shown = { λ view x. entry_of (⟦<SubsEntryShape as NamedShape>⟧.shown SAMPLE view
+        (⟦<SubsEntry as DeclaredEntry>⟧.layout.content x)) };
+
+    ghost whole = { λ view x. whole_entry (⟦<SubsEntryShape as NamedShape>⟧.shown SAMPLE view
+        (⟦<SubsEntry as DeclaredEntry>⟧.layout.content x))
+        (⟦<SubsEntryShape as NamedShape>⟧.whole SAMPLE view (⟦<SubsEntry as DeclaredEntry>⟧.layout.content x)) };
+
+    fn show<K: FieldSink>(&self, view: View, sink: &mut K) -> mp4_shown::Result<()> {
+        sink.begin_entry()?;
+        SubsEntryShape::show(
+            SAMPLE,
+            view,
+            parts_of!(self => sample_delta, subsamples.as_slice()),
+            sink,
+        )?;
+        sink.end_entry()
+    }
+}
+
 impl TryClone for SubsEntry {
     fn try_clone(&self) -> Result<SubsEntry> {
         let subsamples = self.subsamples.try_clone()?;
@@ -151,6 +191,24 @@ impl DeclaredBox for Subs {
     }
 
     ghost valid = { refl };
+}
+
+/// The names of the fields.
+const NAMES: <SubsShape as NamedShape>::Names = names_of!(
+    VERSION,
+    FLAGS,
+    list!("entries", Counted, "entry_count")
+);
+
+impl HasFields for Subs {
+    ghost shown = { λ view b. ⟦<SubsShape as NamedShape>⟧.shown NAMES view (⟦<Subs as DeclaredBox>⟧.layout.content b) };
+
+    ghost whole = { λ view b. ⟦<SubsShape as NamedShape>⟧.whole NAMES view (⟦<Subs as DeclaredBox>⟧.layout.content b) };
+
+    fn show<K: FieldSink>(&self, view: View, sink: &mut K) -> mp4_shown::Result<()> {
+        let parts = parts_of!(self => version, flags, entries.as_slice());
+        SubsShape::show(NAMES, view, parts, sink)
+    }
 }
 
 impl TryClone for Subs {

@@ -1,5 +1,6 @@
 //! The extended language box.
 
+ghost use Rattle.mp4_extra_segments.specs.declared.elng.TheConstants.{NAMES};
 ghost use Rattle.mp4_frame.specs.declared.codes.TheConstants as codes;
 ghost use Rattle.std.proofs.Common.{refl, lit<};
 ghost use Rattle.mp4_declared.specs.OwnBox.{layout_of};
@@ -8,6 +9,7 @@ use mp4_declared::{
     Declared, DeclaredBox, Full, Last, Rest, Shape, ShapeVisitor, box_of, parts_of,
 };
 use mp4_frame::{Entries, Result, TryClone, codes};
+use mp4_shown::{FLAGS, FieldSink, HasFields, NamedShape, ShowShape, VERSION, View, names_of, run};
 
 /// The language of a track's media (`elng`, ISO/IEC 14496-12, 8.4.6).
 #[derive(Debug, Drop, PartialEq, Eq)]
@@ -46,6 +48,24 @@ impl DeclaredBox for Elng {
     }
 
     ghost valid = { refl };
+}
+
+/// The names of the fields.
+const NAMES: <ElngShape as NamedShape>::Names = names_of!(
+    VERSION,
+    FLAGS,
+    run!("extended_language", Ended)
+);
+
+impl HasFields for Elng {
+    ghost shown = { λ view b. ⟦<ElngShape as NamedShape>⟧.shown NAMES view (⟦<Elng as DeclaredBox>⟧.layout.content b) };
+
+    ghost whole = { λ view b. ⟦<ElngShape as NamedShape>⟧.whole NAMES view (⟦<Elng as DeclaredBox>⟧.layout.content b) };
+
+    fn show<K: FieldSink>(&self, view: View, sink: &mut K) -> mp4_shown::Result<()> {
+        let parts = parts_of!(self => version, flags, extended_language.as_slice());
+        ElngShape::show(NAMES, view, parts, sink)
+    }
 }
 
 impl TryClone for Elng {

@@ -1,11 +1,13 @@
 //! The original format box.
 
+ghost use Rattle.mp4_extra_segments.specs.declared.frma.TheConstants.{NAMES};
 ghost use Rattle.mp4_frame.specs.declared.codes.TheConstants as codes;
 ghost use Rattle.std.proofs.Common.{refl, lit<};
 ghost use Rattle.mp4_declared.specs.OwnBox.{layout_of};
 
 use mp4_declared::{Code, Declared, DeclaredBox, Last, Shape, ShapeVisitor, box_of, parts_of};
 use mp4_frame::{FourCC, Result, TryClone, codes};
+use mp4_shown::{FieldSink, HasFields, NamedShape, ShowShape, View, names_of};
 
 /// The format of media before a transformation such as encryption (`frma`, ISO/IEC 14496-12, 8.12.2).
 #[derive(Clone, Copy, Debug, Drop, PartialEq, Eq)]
@@ -37,6 +39,19 @@ impl DeclaredBox for Frma {
     }
 
     ghost valid = { refl };
+}
+
+/// The names of the fields.
+const NAMES: <FrmaShape as NamedShape>::Names = names_of!("data_format");
+
+impl HasFields for Frma {
+    ghost shown = { λ view b. ⟦<FrmaShape as NamedShape>⟧.shown NAMES view (⟦<Frma as DeclaredBox>⟧.layout.content b) };
+
+    ghost whole = { λ view b. ⟦<FrmaShape as NamedShape>⟧.whole NAMES view (⟦<Frma as DeclaredBox>⟧.layout.content b) };
+
+    fn show<K: FieldSink>(&self, view: View, sink: &mut K) -> mp4_shown::Result<()> {
+        FrmaShape::show(NAMES, view, parts_of!(self => data_format), sink)
+    }
 }
 
 impl TryClone for Frma {

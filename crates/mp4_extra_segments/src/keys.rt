@@ -1,6 +1,9 @@
 //! The metadata item keys box.
 
+ghost use Rattle.mp4_extra_segments.specs.declared.keys.TheConstants.{KEY, NAMES};
 ghost use Rattle.mp4_frame.specs.declared.codes.TheConstants as codes;
+ghost use Rattle.mp4_shown.specs.Lists.{entry_of};
+ghost use Rattle.mp4_shown.specs.Members.{whole_entry};
 ghost use Rattle.std.proofs.Common.{refl, lit<};
 ghost use Rattle.mp4_declared.specs.OwnBox.{layout_of};
 ghost use Rattle.mp4_declared.specs.DeclaredEntry.{exact_layout_of};
@@ -10,6 +13,10 @@ use mp4_declared::{
     ShapeVisitor, U32, WithSize, box_of, clone_each, parts_of,
 };
 use mp4_frame::{Entries, FourCC, Result, TryClone, codes};
+use mp4_shown::{
+    FLAGS, FieldSink, HasFields, NamedShape, ShowShape, ShownEntry, VERSION, View, list, names_of,
+    run,
+};
 
 /// A metadata key.
 #[derive(Debug, Drop, PartialEq, Eq)]
@@ -40,6 +47,32 @@ impl DeclaredEntry for MetadataKey {
     }
 
     ghost begins = { λ _. lit< tt };
+}
+
+/// The names of the fields of a key.
+const KEY: <MetadataKeyShape as NamedShape>::Names = names_of!(
+    "Key_namespace",
+    run!("Key_value", Text)
+);
+
+impl ShownEntry for MetadataKey {
+    ghost shown = { λ view x. entry_of (⟦<MetadataKeyShape as NamedShape>⟧.shown KEY view
+        (⟦<MetadataKey as DeclaredEntry>⟧.layout.content x)) };
+
+    ghost whole = { λ view x. whole_entry (⟦<MetadataKeyShape as NamedShape>⟧.shown KEY view
+        (⟦<MetadataKey as DeclaredEntry>⟧.layout.content x))
+        (⟦<MetadataKeyShape as NamedShape>⟧.whole KEY view (⟦<MetadataKey as DeclaredEntry>⟧.layout.content x)) };
+
+    fn show<K: FieldSink>(&self, view: View, sink: &mut K) -> mp4_shown::Result<()> {
+        sink.begin_entry()?;
+        MetadataKeyShape::show(
+            KEY,
+            view,
+            parts_of!(self => namespace, value.as_slice()),
+            sink,
+        )?;
+        sink.end_entry()
+    }
 }
 
 impl TryClone for MetadataKey {
@@ -85,6 +118,24 @@ impl DeclaredBox for Keys {
     }
 
     ghost valid = { refl };
+}
+
+/// The names of the fields.
+const NAMES: <KeysShape as NamedShape>::Names = names_of!(
+    VERSION,
+    FLAGS,
+    list!("entries", Counted, "entry_count")
+);
+
+impl HasFields for Keys {
+    ghost shown = { λ view b. ⟦<KeysShape as NamedShape>⟧.shown NAMES view (⟦<Keys as DeclaredBox>⟧.layout.content b) };
+
+    ghost whole = { λ view b. ⟦<KeysShape as NamedShape>⟧.whole NAMES view (⟦<Keys as DeclaredBox>⟧.layout.content b) };
+
+    fn show<K: FieldSink>(&self, view: View, sink: &mut K) -> mp4_shown::Result<()> {
+        let parts = parts_of!(self => version, flags, entries.as_slice());
+        KeysShape::show(NAMES, view, parts, sink)
+    }
 }
 
 impl TryClone for Keys {

@@ -1,11 +1,15 @@
 //! The track kind box.
 
+ghost use Rattle.mp4_extra_segments.specs.declared.kind.TheConstants.{NAMES};
 ghost use Rattle.mp4_frame.specs.declared.codes.TheConstants as codes;
 ghost use Rattle.mp4_declared.specs.OwnBox.{layout_of};
 ghost use Rattle.std.proofs.Common.{refl, lit<};
 
 use mp4_declared::declaring::*;
 use mp4_frame::{Result, codes};
+use mp4_shown::{
+    FLAGS, FieldSink, HasFields, NamedShape, VERSION, View, names_of, run, show_shape,
+};
 
 /// The role of a track (`kind`, ISO/IEC 14496-12, 8.10.4). In the standard, strings are UTF-8 without a zero byte.
 #[derive(Debug, Drop, PartialEq, Eq)]
@@ -45,6 +49,25 @@ impl DeclaredBox for Kind {
     }
 
     ghost valid = { refl };
+}
+
+/// The names of the fields.
+const NAMES: <KindShape as NamedShape>::Names = names_of!(
+    VERSION,
+    FLAGS,
+    run!("schemeURI", Text),
+    run!("value", Text)
+);
+
+impl HasFields for Kind {
+    ghost shown = { λ view b. ⟦<KindShape as NamedShape>⟧.shown NAMES view (⟦<Kind as DeclaredBox>⟧.layout.content b) };
+
+    ghost whole = { λ view b. ⟦<KindShape as NamedShape>⟧.whole NAMES view (⟦<Kind as DeclaredBox>⟧.layout.content b) };
+
+    fn show<K: FieldSink>(&self, view: View, sink: &mut K) -> mp4_shown::Result<()> {
+        let parts = parts_of!(self => version, flags, scheme_uri.as_slice(), value.as_slice());
+        show_shape::<KindShape, _, K>(NAMES, view, parts, sink)
+    }
 }
 
 impl TryClone for Kind {

@@ -1,11 +1,15 @@
 //! The movie fragment random access offset box.
 
+ghost use Rattle.mp4_extra_segments.specs.declared.mfro.TheConstants.{NAMES};
 ghost use Rattle.mp4_frame.specs.declared.codes.TheConstants as codes;
 ghost use Rattle.std.proofs.Common.{refl, lit<};
 ghost use Rattle.mp4_declared.specs.OwnBox.{layout_of};
 
 use mp4_declared::{Declared, DeclaredBox, Full, Last, Shape, ShapeVisitor, U32, box_of, parts_of};
 use mp4_frame::{Result, TryClone, codes};
+use mp4_shown::{
+    FLAGS, FieldSink, HasFields, NamedShape, ShowShape, VERSION, View, names_of, number,
+};
 
 /// The size of the enclosing `mfra` (`mfro`, ISO/IEC 14496-12, 8.8.11). The box is the last of the `mfra`, which is the
 /// last of the file, so that a reader finds the `mfra` from the end of the file.
@@ -42,6 +46,20 @@ impl DeclaredBox for Mfro {
     }
 
     ghost valid = { refl };
+}
+
+/// The names of the fields.
+const NAMES: <MfroShape as NamedShape>::Names = names_of!(VERSION, FLAGS, number!("parent_size"));
+
+impl HasFields for Mfro {
+    ghost shown = { λ view b. ⟦<MfroShape as NamedShape>⟧.shown NAMES view (⟦<Mfro as DeclaredBox>⟧.layout.content b) };
+
+    ghost whole = { λ view b. ⟦<MfroShape as NamedShape>⟧.whole NAMES view (⟦<Mfro as DeclaredBox>⟧.layout.content b) };
+
+    fn show<K: FieldSink>(&self, view: View, sink: &mut K) -> mp4_shown::Result<()> {
+        let parts = parts_of!(self => version, flags, parent_size);
+        MfroShape::show(NAMES, view, parts, sink)
+    }
 }
 
 impl TryClone for Mfro {

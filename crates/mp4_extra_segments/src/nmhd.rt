@@ -1,11 +1,13 @@
 //! The null media header box.
 
+ghost use Rattle.mp4_extra_segments.specs.declared.nmhd.TheConstants.{NAMES};
 ghost use Rattle.mp4_frame.specs.declared.codes.TheConstants as codes;
 ghost use Rattle.std.proofs.Common.{refl, lit<};
 ghost use Rattle.mp4_declared.specs.OwnBox.{layout_of};
 
 use mp4_declared::{Declared, DeclaredBox, Full, Shape, ShapeVisitor, Zeros, box_of, parts_of};
 use mp4_frame::{Result, TryClone, codes};
+use mp4_shown::{FLAGS, FieldSink, HasFields, NamedShape, ShowShape, VERSION, View, names_of};
 
 /// The media header of tracks whose type of media defines no other (`nmhd`, ISO/IEC 14496-12, 8.4.5.2).
 #[derive(Clone, Copy, Debug, Drop, PartialEq, Eq)]
@@ -39,6 +41,19 @@ impl DeclaredBox for Nmhd {
     }
 
     ghost valid = { refl };
+}
+
+/// The names of the fields.
+const NAMES: <NmhdShape as NamedShape>::Names = names_of!(VERSION, FLAGS);
+
+impl HasFields for Nmhd {
+    ghost shown = { λ view b. ⟦<NmhdShape as NamedShape>⟧.shown NAMES view (⟦<Nmhd as DeclaredBox>⟧.layout.content b) };
+
+    ghost whole = { λ view b. ⟦<NmhdShape as NamedShape>⟧.whole NAMES view (⟦<Nmhd as DeclaredBox>⟧.layout.content b) };
+
+    fn show<K: FieldSink>(&self, view: View, sink: &mut K) -> mp4_shown::Result<()> {
+        NmhdShape::show(NAMES, view, parts_of!(self => version, flags), sink)
+    }
 }
 
 impl TryClone for Nmhd {

@@ -1,5 +1,6 @@
 //! The producer reference time box.
 
+ghost use Rattle.mp4_extra_segments.specs.declared.prft.TheConstants.{NAMES};
 ghost use Rattle.mp4_frame.specs.declared.codes.TheConstants as codes;
 ghost use Rattle.std.proofs.Common.{refl, lit<};
 ghost use Rattle.mp4_declared.specs.OwnBox.{layout_of};
@@ -8,6 +9,9 @@ use mp4_declared::{
     Declared, DeclaredBox, Full, Last, Shape, ShapeVisitor, Time, U32, U64, box_of, parts_of,
 };
 use mp4_frame::{Result, TryClone, codes};
+use mp4_shown::{
+    FLAGS, FieldSink, HasFields, NamedShape, ShowShape, VERSION, View, names_of, number,
+};
 
 /// The time at which a producer made a part of the media (`prft`, ISO/IEC 14496-12, 8.16.5).
 #[derive(Clone, Copy, Debug, Drop, PartialEq, Eq)]
@@ -49,6 +53,27 @@ impl DeclaredBox for Prft {
     }
 
     ghost valid = { refl };
+}
+
+/// The names of the fields.
+const NAMES: <PrftShape as NamedShape>::Names = names_of!(
+    VERSION,
+    FLAGS,
+    number!("reference_track_ID"),
+    number!("ntp_timestamp"),
+    number!("media_time")
+);
+
+impl HasFields for Prft {
+    ghost shown = { λ view b. ⟦<PrftShape as NamedShape>⟧.shown NAMES view (⟦<Prft as DeclaredBox>⟧.layout.content b) };
+
+    ghost whole = { λ view b. ⟦<PrftShape as NamedShape>⟧.whole NAMES view (⟦<Prft as DeclaredBox>⟧.layout.content b) };
+
+    fn show<K: FieldSink>(&self, view: View, sink: &mut K) -> mp4_shown::Result<()> {
+        let parts = parts_of!(self => version, flags, reference_track_id, ntp_timestamp,
+            media_time);
+        PrftShape::show(NAMES, view, parts, sink)
+    }
 }
 
 impl TryClone for Prft {

@@ -1,5 +1,6 @@
 //! The protection system specific header box.
 
+ghost use Rattle.mp4_extra_segments.specs.declared.pssh.TheConstants.{NAMES};
 ghost use Rattle.mp4_frame.specs.declared.codes.TheConstants as codes;
 ghost use Rattle.std.proofs.Common.{refl, lit<};
 ghost use Rattle.mp4_declared.specs.OwnBox.{layout_of};
@@ -9,6 +10,9 @@ use mp4_declared::{
     U32, box_of, parts_of,
 };
 use mp4_frame::{Entries, Result, TryClone, codes};
+use mp4_shown::{
+    FLAGS, FieldSink, HasFields, NamedShape, VERSION, View, list, names_of, run, show_shape,
+};
 
 /// The data that a content protection system needs (`pssh`, ISO/IEC 23001-7, 8.1).
 #[derive(Debug, Drop, PartialEq, Eq)]
@@ -61,6 +65,30 @@ impl DeclaredBox for Pssh {
     }
 
     ghost valid = { refl };
+}
+
+/// The names of the fields.
+const NAMES: <PsshShape as NamedShape>::Names = names_of!(
+    VERSION,
+    FLAGS,
+    run!("SystemID", Bytes),
+    list!("KID"),
+    run!("Data", Bytes)
+);
+
+impl HasFields for Pssh {
+    ghost shown = { λ view b. ⟦<PsshShape as NamedShape>⟧.shown NAMES view (⟦<Pssh as DeclaredBox>⟧.layout.content b) };
+
+    ghost whole = { λ view b. ⟦<PsshShape as NamedShape>⟧.whole NAMES view (⟦<Pssh as DeclaredBox>⟧.layout.content b) };
+
+    fn show<K: FieldSink>(&self, view: View, sink: &mut K) -> mp4_shown::Result<()> {
+        let key_ids = match &self.key_ids {
+            Some(key_ids) => Some(key_ids.as_slice()),
+            None => None,
+        };
+        let parts = parts_of!(self => version, flags, system_id, = key_ids, system_data.as_slice());
+        show_shape::<PsshShape, _, K>(NAMES, view, parts, sink)
+    }
 }
 
 impl TryClone for Pssh {

@@ -1,5 +1,6 @@
 //! The scheme type box.
 
+ghost use Rattle.mp4_extra_segments.specs.declared.schm.TheConstants.{NAMES};
 ghost use Rattle.mp4_frame.specs.declared.codes.TheConstants as codes;
 ghost use Rattle.std.proofs.Common.{refl, lit<};
 ghost use Rattle.mp4_declared.specs.OwnBox.{layout_of};
@@ -9,6 +10,9 @@ use mp4_declared::{
     parts_of,
 };
 use mp4_frame::{Entries, FourCC, Result, TryClone, codes};
+use mp4_shown::{
+    FieldSink, HasFields, Meaning, NamedShape, ShowShape, VERSION, View, names_of, number, run,
+};
 
 /// The scheme that protects the media (`schm`, ISO/IEC 14496-12, 8.12.5).
 #[derive(Debug, Drop, PartialEq, Eq)]
@@ -54,6 +58,33 @@ impl DeclaredBox for Schm {
     }
 
     ghost valid = { refl };
+}
+
+/// The flags of the box.
+const SCHEME_FLAGS: &[Meaning] = &[(0x1, "scheme_uri")];
+
+/// The names of the fields.
+const NAMES: <SchmShape as NamedShape>::Names = names_of!(
+    VERSION,
+    number!("flags", Flags(6), SCHEME_FLAGS),
+    "scheme_type",
+    number!("scheme_version"),
+    run!("scheme_uri", Ended)
+);
+
+impl HasFields for Schm {
+    ghost shown = { λ view b. ⟦<SchmShape as NamedShape>⟧.shown NAMES view (⟦<Schm as DeclaredBox>⟧.layout.content b) };
+
+    ghost whole = { λ view b. ⟦<SchmShape as NamedShape>⟧.whole NAMES view (⟦<Schm as DeclaredBox>⟧.layout.content b) };
+
+    fn show<K: FieldSink>(&self, view: View, sink: &mut K) -> mp4_shown::Result<()> {
+        let scheme_uri = match &self.scheme_uri {
+            Some(scheme_uri) => Some(scheme_uri.as_slice()),
+            None => None,
+        };
+        let parts = parts_of!(self => version, flags, scheme_type, scheme_version, = scheme_uri);
+        SchmShape::show(NAMES, view, parts, sink)
+    }
 }
 
 impl TryClone for Schm {

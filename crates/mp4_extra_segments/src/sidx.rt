@@ -1,6 +1,6 @@
 //! The segment index box.
 
-ghost use Rattle.mp4_extra_segments.specs.declared.sidx.TheConstants.{WIDTHS};
+ghost use Rattle.mp4_extra_segments.specs.declared.sidx.TheConstants.{NAMES, WIDTHS};
 ghost use Rattle.mp4_frame.specs.declared.codes.TheConstants as codes;
 ghost use Rattle.mp4_declared.specs.OwnBox.{layout_of};
 ghost use Rattle.mp4_declared.specs.Layout.{packed, fields_of};
@@ -8,6 +8,10 @@ ghost use Rattle.std.proofs.Common.{refl, lit<};
 
 use mp4_declared::declaring::*;
 use mp4_frame::{Result, codes};
+use mp4_shown::{
+    FLAGS, FieldSink, HasFields, NamedShape, NumberName, ShowShape, VERSION, View, list, names_of,
+    number,
+};
 
 /// A reference of a segment index to a part of the media or to another index.
 #[derive(Clone, Copy, Debug, Default, PartialEq, Eq)]
@@ -100,6 +104,39 @@ impl DeclaredBox for Sidx {
     }
 
     ghost valid = { refl };
+}
+
+/// The names of the fields of a reference.
+const REFERENCE: &[NumberName] = &[
+    number!("reference_type"),
+    number!("referenced_size"),
+    number!("subsegment_duration"),
+    number!("starts_with_SAP"),
+    number!("SAP_type"),
+    number!("SAP_delta_time"),
+];
+
+/// The names of the fields.
+const NAMES: <SidxShape as NamedShape>::Names = names_of!(
+    VERSION,
+    FLAGS,
+    number!("reference_ID"),
+    number!("timescale"),
+    number!("earliest_presentation_time"),
+    number!("first_offset"),
+    (list!("references"), REFERENCE)
+);
+
+impl HasFields for Sidx {
+    ghost shown = { λ view b. ⟦<SidxShape as NamedShape>⟧.shown NAMES view (⟦<Sidx as DeclaredBox>⟧.layout.content b) };
+
+    ghost whole = { λ view b. ⟦<SidxShape as NamedShape>⟧.whole NAMES view (⟦<Sidx as DeclaredBox>⟧.layout.content b) };
+
+    fn show<K: FieldSink>(&self, view: View, sink: &mut K) -> mp4_shown::Result<()> {
+        let parts = parts_of!(self => version, flags, reference_id, timescale,
+            earliest_presentation_time, first_offset, entries.as_slice());
+        SidxShape::show(NAMES, view, parts, sink)
+    }
 }
 
 impl TryClone for Sidx {

@@ -1,5 +1,6 @@
 //! The segment type box.
 
+ghost use Rattle.mp4_extra_segments.specs.declared.styp.TheConstants.{NAMES};
 ghost use Rattle.mp4_frame.specs.declared.codes.TheConstants as codes;
 ghost use Rattle.std.proofs.Common.{refl, lit<};
 ghost use Rattle.mp4_declared.specs.OwnBox.{layout_of};
@@ -8,6 +9,7 @@ use mp4_declared::{
     Code, Codes, Declared, DeclaredBox, Last, Shape, ShapeVisitor, U32, box_of, parts_of,
 };
 use mp4_frame::{Entries, FourCC, Result, TryClone, codes};
+use mp4_shown::{FieldSink, HasFields, NamedShape, ShowShape, View, names_of, number};
 
 /// The specifications that a segment conforms to (`styp`, ISO/IEC 14496-12, 8.16.2). The fields are those of an `ftyp`.
 #[derive(Debug, Drop, PartialEq, Eq)]
@@ -44,6 +46,24 @@ impl DeclaredBox for Styp {
     }
 
     ghost valid = { refl };
+}
+
+/// The names of the fields.
+const NAMES: <StypShape as NamedShape>::Names = names_of!(
+    "major_brand",
+    number!("minor_version"),
+    "compatible_brands"
+);
+
+impl HasFields for Styp {
+    ghost shown = { λ view b. ⟦<StypShape as NamedShape>⟧.shown NAMES view (⟦<Styp as DeclaredBox>⟧.layout.content b) };
+
+    ghost whole = { λ view b. ⟦<StypShape as NamedShape>⟧.whole NAMES view (⟦<Styp as DeclaredBox>⟧.layout.content b) };
+
+    fn show<K: FieldSink>(&self, view: View, sink: &mut K) -> mp4_shown::Result<()> {
+        let parts = parts_of!(self => major_brand, minor_version, compatible_brands.as_slice());
+        StypShape::show(NAMES, view, parts, sink)
+    }
 }
 
 impl TryClone for Styp {

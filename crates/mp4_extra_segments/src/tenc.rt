@@ -1,6 +1,6 @@
 //! The track encryption box.
 
-ghost use Rattle.mp4_extra_segments.specs.declared.tenc.TheConstants.{WIDTHS};
+ghost use Rattle.mp4_extra_segments.specs.declared.tenc.TheConstants.{NAMES, WIDTHS};
 ghost use Rattle.mp4_frame.specs.declared.codes.TheConstants as codes;
 ghost use Rattle.std.proofs.Common.{refl, lit<};
 ghost use Rattle.mp4_declared.specs.OwnBox.{layout_of};
@@ -11,6 +11,10 @@ use mp4_declared::{
     Rest, Shape, ShapeVisitor, U8, box_of, entry_of, numbers_of, parts_of,
 };
 use mp4_frame::{Entries, Result, TryClone, codes};
+use mp4_shown::{
+    FLAGS, FieldSink, HasFields, NamedShape, NumberName, ShowShape, VERSION, View, names_of,
+    number, run,
+};
 
 /// The pattern of encrypted blocks in a sample: some encrypted blocks, then some clear blocks, repeated.
 #[derive(Clone, Copy, Debug, Default, PartialEq, Eq)]
@@ -104,6 +108,35 @@ impl DeclaredBox for Tenc {
     }
 
     ghost valid = { refl };
+}
+
+/// The names of the pattern.
+const PATTERN: &[NumberName] = &[
+    number!("default_crypt_byte_block"),
+    number!("default_skip_byte_block"),
+];
+
+/// The names of the fields.
+const NAMES: <TencShape as NamedShape>::Names = names_of!(
+    VERSION,
+    FLAGS,
+    PATTERN,
+    number!("default_isProtected"),
+    number!("default_Per_Sample_IV_Size"),
+    run!("default_KID", Bytes),
+    run!("default_constant_IV", Counted, "default_constant_IV_size")
+);
+
+impl HasFields for Tenc {
+    ghost shown = { λ view b. ⟦<TencShape as NamedShape>⟧.shown NAMES view (⟦<Tenc as DeclaredBox>⟧.layout.content b) };
+
+    ghost whole = { λ view b. ⟦<TencShape as NamedShape>⟧.whole NAMES view (⟦<Tenc as DeclaredBox>⟧.layout.content b) };
+
+    fn show<K: FieldSink>(&self, view: View, sink: &mut K) -> mp4_shown::Result<()> {
+        let parts = parts_of!(self => version, flags, default_pattern, default_is_protected,
+            default_per_sample_iv_size, default_kid, default_constant_iv.as_slice());
+        TencShape::show(NAMES, view, parts, sink)
+    }
 }
 
 impl TryClone for Tenc {

@@ -1,6 +1,13 @@
 //! Tests of values that cannot be written: a number does not fit its field, or a part belongs to another version or
-//! flag. Such values cannot be read from bytes, so a row (bytes with the expected result) cannot cover them.
+//! flag. Such values cannot be read from bytes, so a row (bytes with the expected result) cannot cover them. The modules
+//! whose names begin with `fields` test the JSON of boxes.
 
+mod fields;
+mod fields_auxiliary;
+mod fields_protection;
+mod fields_samples;
+mod fields_segments;
+mod fields_tracks;
 mod lists;
 mod numbers;
 mod parents;

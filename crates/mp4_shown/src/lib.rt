@@ -1,0 +1,36 @@
+//! For authors of box types: hands the fields of a box to a sink, each by the name that the standard gives it. What is
+//! handed over follows from the shape of the box and the names of its fields.
+#![tactic(auto)]
+
+mod bytes;
+mod bytes_name;
+mod codes;
+mod entries;
+mod field_sink;
+mod group;
+mod has_fields;
+mod list_name;
+mod lists;
+mod macros;
+mod number_name;
+mod numbers;
+mod optional;
+mod parts;
+mod rows;
+mod show;
+mod signed;
+mod tuple;
+mod typed;
+mod value;
+mod view;
+
+pub use bytes_name::{BytesAs, BytesName, put_bytes};
+pub use entries::{EntriesOf, ShownEntry};
+pub use field_sink::{FieldSink, Result};
+pub use group::Group;
+pub use has_fields::{HasFields, put_fields};
+pub use list_name::{ListAs, ListName};
+pub use number_name::{FLAGS, NumberAs, NumberName, VERSION, put_number, put_numbers, put_signed};
+pub use show::{NamedShape, ShowShape, show_shape};
+pub use value::{Meaning, Value};
+pub use view::View;

@@ -1,0 +1,3 @@
+mod AllTokens
+mod Fraction
+mod Whole

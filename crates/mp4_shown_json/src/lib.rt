@@ -1,0 +1,10 @@
+//! Writes the fields of a box as JSON: their names, values and order are those that `mp4_shown` hands over.
+#![tactic(auto)]
+
+mod code;
+mod fields_json;
+mod fixed;
+mod json_sink;
+
+pub use fields_json::json_of;
+pub use json_sink::JsonSink;
