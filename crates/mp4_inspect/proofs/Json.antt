@@ -22,7 +22,7 @@ use Rattle.mp4_inspect.proofs.WholeJson.{whole_json}
 use Rattle.mp4_frame.specs.Reading.{Reading}
 use Rattle.mp4_frame.specs.declared.box_type.BoxType.{BoxType}
 use Rattle.json.specs.Print.{print}
-use Rattle.mp4_inspect.specs.declared.content.Content.{Content}
+use Rattle.mp4_content.specs.declared.content.Content.{Content}
 use Rattle.mp4_show.proofs.Whole.{puts_more, puts_then}
 use Rattle.mp4_show.specs.Escaped.{json_escaped}
 use Rattle.mp4_show.specs.Tokens.{Puts, PutsAll}

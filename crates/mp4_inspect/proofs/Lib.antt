@@ -1,4 +1,3 @@
 pub mod Boxes
-pub mod FaultLines
 pub mod Json
 pub mod WholeJson

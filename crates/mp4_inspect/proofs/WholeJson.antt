@@ -12,8 +12,8 @@ use Rattle.mp4_frame.specs.declared.box_type.BoxType.{BoxType}
 use Rattle.mp4_frame.specs.declared.four_cc.FourCC.{FourCC}
 use Rattle.mp4_inspect.specs.Json.{number_member, type_token, head_tokens, IsRest, end_tokens, levels_end, open_inside}
 use Rattle.mp4_inspect.specs.Json.{open_after, box_tokens, AreBoxes, file_tokens, Json}
-use Rattle.mp4_inspect.specs.declared.content.Content.{Content}
-use Rattle.mp4_inspect.specs.declared.content.Content.TheVariants as contents
+use Rattle.mp4_content.specs.declared.content.Content.{Content}
+use Rattle.mp4_content.specs.declared.content.Content.TheVariants as contents
 use Rattle.mp4_show.proofs.Whole.{since_member, since_begun, since_ended, closed_whole, none_whole}
 use Rattle.mp4_show.specs.Tokens.{IsWhole, IsName, bracket, end_bracket, Since}
 use Rattle.mp4_walk.specs.declared.tree_box.TreeBox.{TreeBox}

@@ -10,10 +10,10 @@ use Rattle.mp4_show.specs.Nesting.{fields}
 use Rattle.mp4_frame.specs.Reading.{Reading}
 use Rattle.mp4_frame.specs.declared.box_type.BoxType.{BoxType}
 use Rattle.mp4_frame.specs.declared.four_cc.FourCC.{FourCC}
-use Rattle.mp4_inspect.specs.Content.{ShowsAs, is_faulty}
-use Rattle.mp4_inspect.specs.Kind.{kind_of}
-use Rattle.mp4_inspect.specs.declared.content.Content.{Content}
-use Rattle.mp4_inspect.specs.declared.content.Content.TheVariants as contents
+use Rattle.mp4_content.specs.Content.{ShowsAs, is_faulty}
+use Rattle.mp4_content.specs.Kind.{kind_of}
+use Rattle.mp4_content.specs.declared.content.Content.{Content}
+use Rattle.mp4_content.specs.declared.content.Content.TheVariants as contents
 use Rattle.mp4_show.specs.Escaped.{json_escaped}
 use Rattle.mp4_show.specs.Tokens.{AreWhole, IsWhole, code_text}
 use Rattle.mp4_walk.specs.FileBoxes.{boxes_of}

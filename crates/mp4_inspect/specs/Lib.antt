@@ -1,9 +1,6 @@
-pub mod Content
 pub mod Destination
-pub mod Faults
 pub mod Heading
 pub mod Json
-pub mod Kind
 pub mod Opened
 pub mod Outcome
 pub mod Written

@@ -4,9 +4,9 @@ use Rattle.std.specs.declared.option.Option.{Option}
 use Rattle.std.specs.Io.KnownBytes.{Appends}
 use Rattle.mp4_frame.specs.Reading.{Reading}
 use Rattle.mp4_frame.specs.declared.box_type.BoxType.{BoxType}
-use Rattle.mp4_inspect.specs.Content.{ShowsAs, is_faulty}
-use Rattle.mp4_inspect.specs.Kind.{kind_of}
-use Rattle.mp4_inspect.specs.declared.content.Content.{Content}
+use Rattle.mp4_content.specs.Content.{ShowsAs, is_faulty}
+use Rattle.mp4_content.specs.Kind.{kind_of}
+use Rattle.mp4_content.specs.declared.content.Content.{Content}
 use Rattle.mp4_walk.specs.FileBoxes.{boxes_of}
 use Rattle.mp4_walk.specs.declared.tree_box.TreeBox.{TreeBox}
 

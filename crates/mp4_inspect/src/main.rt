@@ -2,23 +2,13 @@
 //! faults, or their samples. It also writes a file with its `moov` before its media data.
 #![tactic(auto)]
 
-mod box_path;
-mod chunks;
-mod content;
 mod destination;
-mod facts;
-mod failure;
 mod fast_start;
-mod fault_text;
-mod faults;
-mod kind;
+mod mark;
 mod outcome;
 mod program;
-mod sample_tables;
-mod shown;
+mod request;
 mod source;
-mod tracks;
-mod traf_runs;
 mod tree_json;
 mod tree_text;
 mod words;
@@ -26,14 +16,15 @@ mod words;
 use clap::Error;
 use clap::error::ErrorKind;
 use fast_start::fast_start;
-use mp4_inspect_args::{Asked, FastStart, Request, Rows, Task, request_of, unreadable};
+use mark::unreadable;
+use mp4_content::ShownBox;
 use mp4_inspect_samples::{Choice, Form};
 use mp4_io::{Failure, Input, Output, Steady, flush, is_closed_pipe, or_read, read_all, write_all};
 use mp4_show::Look;
 use mp4_walk::Source;
 use outcome::{Outcome, is_silent};
 use program::{Show, inspect};
-use shown::ShownBox;
+use request::{Asked, FastStart, Request, Rows, Task, request_of};
 use source::{Kept, Reading, how_to_read, input_file};
 use std::alloc::AllocError;
 use std::env::VarError;

@@ -2,7 +2,7 @@
 
 ghost use Rattle.std.specs.Prelude.{◌≡◌, ◌||◌, false, string_bytes, IfOk, OnOk, OnErr, IfSome};
 ghost use Rattle.std.specs.Io.KnownBytes.{Appends};
-ghost use Rattle.mp4_inspect.specs.Faults.{WritesCheck};
+ghost use Rattle.mp4_check.specs.Faults.{WritesCheck};
 ghost use Rattle.mp4_inspect.specs.Heading.{heading_of};
 ghost use Rattle.mp4_inspect.specs.Json.{comma, WritesJson};
 ghost use Rattle.mp4_inspect.specs.Written.{WritesFile, BeginsFile};
@@ -11,11 +11,11 @@ ghost use Rattle.mp4_movie.specs.Infos.{AreInfos};
 ghost use Rattle.mp4_movie.specs.Movies.{traks};
 ghost use Rattle.mp4_walk.specs.FileBoxes.{boxes_of};
 
-use crate::faults::write_faults;
-use crate::shown::Shown;
+use crate::request::Task;
 use crate::tree_json::tree_json;
 use crate::tree_text::write_tree;
-use mp4_inspect_args::Task;
+use mp4_check::write_faults;
+use mp4_content::Shown;
 use mp4_inspect_samples::{Choice, TrackFault, write_samples};
 use mp4_io::{Failure, Output, or_read, write_all};
 use mp4_movie::{Movie, TrackInfo};

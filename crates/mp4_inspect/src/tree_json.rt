@@ -7,11 +7,7 @@ ghost use Rattle.mp4_inspect.specs.Json.{levels_end};
 ghost use Rattle.mp4_inspect.specs.Json.{open_inside, open_after, box_tokens, IsShown, file_tokens, IsJson};
 ghost use Rattle.mp4_show.specs.Tokens.{Puts};
 
-use crate::content::{Content, content_of, put_content};
-use crate::failure::or_memory;
-use crate::fault_text::fault_text;
-use crate::shown::Shown;
-use crate::tree_text::either;
+use mp4_content::{Content, Shown, content_of, either, fault_text, or_memory, put_content};
 use mp4_io::Failure;
 use mp4_show::{JsonSink, Result};
 use mp4_show_extra::HasFields;

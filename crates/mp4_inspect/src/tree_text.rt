@@ -2,15 +2,12 @@
 
 ghost use Rattle.std.specs.Prelude.{◌≡◌, ◌++◌, ◌||◌, true, false, decimal, string_bytes, IfOk, OnOk, OnErr, IfSome};
 ghost use Rattle.mp4_io.specs.Ends.{is_read, is_write};
-ghost use Rattle.mp4_inspect.specs.Content.{ShowsAs, is_faulty};
-ghost use Rattle.mp4_inspect.specs.Kind.{kind_of};
+ghost use Rattle.mp4_content.specs.Content.{ShowsAs, is_faulty};
+ghost use Rattle.mp4_content.specs.Kind.{kind_of};
 ghost use Rattle.mp4_inspect.specs.Written.{place_text, IsText, Tells, WritesBox, WritesBoxes, BeginsBox, BeginsBoxes};
 
-use crate::content::{Content, content_of, put_content};
-use crate::failure::or_memory;
-use crate::fault_text::fault_text;
-use crate::shown::Shown;
-use crate::tracks::track_at;
+use mp4_check::track_at;
+use mp4_content::{Content, Shown, content_of, either, fault_text, or_memory, put_content};
 use mp4_frame::codes::{STSD, TRAK};
 use mp4_io::{Failure, Output, write_all};
 use mp4_movie::{BoxError, TrackInfo};
@@ -250,11 +247,4 @@ pub fn write_tree<B: Shown, S: Source, W: Write>(
         faulty = either(faulty, here);
     }
     Ok(faulty)
-}
-
-/// For the prover: returns whether one of two is true.
-pub fn either(first: bool, second: bool) -> bool
-    ensures { result ≡ (first || second) }
-{
-    first || second
 }

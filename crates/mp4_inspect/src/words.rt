@@ -3,8 +3,8 @@
 ghost use Rattle.std.specs.Prelude.{◌≡◌, ◌++◌, ◌∷◌, [], ℕ, List, IfOk, IsUtf8, string_bytes};
 ghost use Rattle.mp4_show.specs.Escaped.{text_escaped};
 
+use crate::mark::MARK;
 use clap::Error;
-use mp4_inspect_args::MARK;
 use mp4_show::{push_escaped, push_escaped_bytes};
 use std::alloc::{AllocError, Global};
 use std::env::{Env, FillError};

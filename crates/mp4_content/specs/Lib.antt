@@ -1,0 +1,4 @@
+pub mod Content
+pub mod Foreign
+pub mod Kind
+pub mod Terminator
