@@ -1,1 +1,2 @@
 pub mod ShownColour
+pub mod ShownMapping

@@ -1,6 +1,10 @@
 //! The Opus specific box.
 
+ghost use Rattle.mp4_extra_media.specs.ShownMapping.{MappingNames, shown_mapping, whole_mapping};
+ghost use Rattle.mp4_extra_media.specs.declared.dops.TheConstants.{NAMES};
 ghost use Rattle.mp4_frame.specs.declared.codes.TheConstants as codes;
+ghost use Rattle.mp4_shown.specs.Numbers.{seen_number};
+ghost use Rattle.mp4_shown.specs.Runs.{seen_bytes};
 ghost use Rattle.std.proofs.Common.{refl, lit<};
 ghost use Rattle.mp4_declared.specs.OwnBox.{layout_of};
 
@@ -8,6 +12,10 @@ use mp4_declared::{
     Declared, DeclaredBox, I16, Last, Rest, Shape, ShapeVisitor, U8, U16, U32, box_of, parts_of,
 };
 use mp4_frame::{Entries, Result, TryClone, codes};
+use mp4_shown::{
+    BytesName, FieldSink, HasFields, NamedShape, NumberName, ShowShape, View, names_of, number,
+    put_bytes, put_number, run,
+};
 
 /// The configuration of an Opus decoder (`dOps`, Encapsulation of Opus in ISO Base Media File Format, 4.3.2).
 #[derive(Debug, Drop, PartialEq, Eq)]
@@ -56,6 +64,80 @@ impl DeclaredBox for Dops {
     }
 
     ghost valid = { refl };
+}
+
+/// The mapping of channels, for showing only.
+pub struct ChannelMapping;
+
+impl NamedShape for ChannelMapping {
+    type Value = Entries<u8>;
+
+    type Names = (NumberName, (NumberName, (BytesName, BytesName)));
+
+    ghost Seen = { MappingNames };
+
+    ghost seen = { λ names. (
+      seen_number names.0,
+      (
+        seen_number names.1.0,
+        (seen_bytes names.1.1.0, seen_bytes names.1.1.1),
+      ),
+    ) };
+
+    ghost shown = { λ names view bytes. shown_mapping names view.rows bytes };
+
+    ghost whole = { λ names view bytes. whole_mapping names view.rows bytes };
+}
+
+impl<'a> ShowShape<&'a [u8]> for ChannelMapping {
+    ghost content = { λ bytes. bytes.now };
+
+    fn show<K: FieldSink>(
+        names: (NumberName, (NumberName, (BytesName, BytesName))),
+        view: View,
+        value: &'a [u8],
+        sink: &mut K,
+    ) -> mp4_shown::Result<()> {
+        let (streams, (coupled, (channels, too_few))) = names;
+        if value.len() < 2 {
+            return put_bytes(too_few, view.rows, value, sink);
+        }
+        put_number(streams, u64::from(value[0]), sink)?;
+        put_number(coupled, u64::from(value[1]), sink)?;
+        put_bytes(channels, view.rows, &value[2..], sink)
+    }
+}
+
+/// The content of the box, for showing only.
+type DopsShown = (U8, U8, U16, U32, (I16, U8, Last<ChannelMapping>));
+
+/// The names of the fields. The gain is in decibels.
+const NAMES: <DopsShown as NamedShape>::Names = names_of!(
+    number!("Version"),
+    number!("OutputChannelCount"),
+    number!("PreSkip"),
+    number!("InputSampleRate"),
+    number!("OutputGain", Fixed(8)),
+    number!("ChannelMappingFamily"),
+    (
+        number!("StreamCount"),
+        (
+            number!("CoupledCount"),
+            (run!("ChannelMapping", Bytes), run!("data_bytes", SomeBytes))
+        )
+    )
+);
+
+impl HasFields for Dops {
+    ghost shown = { λ view b. ⟦<DopsShown as NamedShape>⟧.shown NAMES view (⟦<Dops as DeclaredBox>⟧.layout.content b) };
+
+    ghost whole = { λ view b. ⟦<DopsShown as NamedShape>⟧.whole NAMES view (⟦<Dops as DeclaredBox>⟧.layout.content b) };
+
+    fn show<K: FieldSink>(&self, view: View, sink: &mut K) -> mp4_shown::Result<()> {
+        let parts = parts_of!(self => version, output_channel_count, pre_skip, input_sample_rate,
+            output_gain, channel_mapping_family, channel_mapping.as_slice());
+        DopsShown::show(NAMES, view, parts, sink)
+    }
 }
 
 impl TryClone for Dops {

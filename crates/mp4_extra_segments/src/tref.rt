@@ -1,6 +1,9 @@
 //! The track reference box.
 
+ghost use Rattle.mp4_extra_segments.specs.declared.tref.TheConstants.{NAMES, REFERENCE};
 ghost use Rattle.mp4_frame.specs.declared.codes.TheConstants as codes;
+ghost use Rattle.mp4_shown.specs.Lists.{entry_of};
+ghost use Rattle.mp4_shown.specs.Members.{whole_entry};
 ghost use Rattle.std.proofs.Common.{refl, lit<};
 ghost use Rattle.mp4_declared.specs.OwnBox.{layout_of};
 ghost use Rattle.mp4_declared.specs.DeclaredEntry.{exact_layout_of};
@@ -10,6 +13,7 @@ use mp4_declared::{
     ShapeVisitor, WithSize, box_of, clone_each, parts_of,
 };
 use mp4_frame::{Entries, FourCC, Result, TryClone, codes};
+use mp4_shown::{FieldSink, HasFields, NamedShape, ShowShape, ShownEntry, View, list, names_of};
 
 /// The tracks that a track refers to by one type of reference. In the file it is a box whose code is the type.
 #[derive(Debug, Drop, PartialEq, Eq)]
@@ -47,6 +51,33 @@ impl DeclaredEntry for TrackReference {
     }
 
     ghost begins = { λ _. lit< tt };
+}
+
+/// The names of the fields of a reference.
+const REFERENCE: <TrackReferenceShape as NamedShape>::Names = names_of!(
+    "reference_type",
+    "track_IDs"
+);
+
+impl ShownEntry for TrackReference {
+    ghost shown = { λ view x. entry_of (⟦<TrackReferenceShape as NamedShape>⟧.shown REFERENCE view
+        (⟦<TrackReference as DeclaredEntry>⟧.layout.content x)) };
+
+    ghost whole = { λ view x. whole_entry (⟦<TrackReferenceShape as NamedShape>⟧.shown REFERENCE view
+        (⟦<TrackReference as DeclaredEntry>⟧.layout.content x))
+        (⟦<TrackReferenceShape as NamedShape>⟧.whole REFERENCE view
+        (⟦<TrackReference as DeclaredEntry>⟧.layout.content x)) };
+
+    fn show<K: FieldSink>(&self, view: View, sink: &mut K) -> mp4_shown::Result<()> {
+        sink.begin_entry()?;
+        TrackReferenceShape::show(
+            REFERENCE,
+            view,
+            parts_of!(self => reference_type, track_ids.as_slice()),
+            sink,
+        )?;
+        sink.end_entry()
+    }
 }
 
 impl TryClone for TrackReference {
@@ -88,6 +119,19 @@ impl DeclaredBox for Tref {
     }
 
     ghost valid = { refl };
+}
+
+/// The names of the fields.
+const NAMES: <TrefShape as NamedShape>::Names = names_of!(list!("references"));
+
+impl HasFields for Tref {
+    ghost shown = { λ view b. ⟦<TrefShape as NamedShape>⟧.shown NAMES view (⟦<Tref as DeclaredBox>⟧.layout.content b) };
+
+    ghost whole = { λ view b. ⟦<TrefShape as NamedShape>⟧.whole NAMES view (⟦<Tref as DeclaredBox>⟧.layout.content b) };
+
+    fn show<K: FieldSink>(&self, view: View, sink: &mut K) -> mp4_shown::Result<()> {
+        TrefShape::show(NAMES, view, parts_of!(self => references.as_slice()), sink)
+    }
 }
 
 impl TryClone for Tref {

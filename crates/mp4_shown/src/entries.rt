@@ -96,7 +96,7 @@ impl<'a, X: ShownEntry> ShowShape<&'a [X]> for EachToEnd<X> {
     }
 }
 
-/// Entries `X` of a box whose code is written by hand. The shape is for showing only.
+/// Stands for the entries `X` of a box that isn't declared.
 pub struct EntriesOf<X>(X);
 
 impl<X: ShownEntry> NamedShape for EntriesOf<X> {

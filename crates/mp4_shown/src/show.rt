@@ -41,8 +41,8 @@ pub trait ShowShape<V>: NamedShape {
             (Self.shown (Self.seen names) view (content value)) sink.new) };
 }
 
-/// Hands the fields of `value` to a sink, as `S::show` does. Call it if several parts of a box are references: the
-/// borrow checker refuses their lifetimes beside the `'static` of names that a shape such as `Full` spells out.
+/// Hands the fields of `value` to a sink by `S::show`. Call it if several parts of a box are references: the borrow
+/// checker refuses their lifetimes beside the `'static` of names that a shape such as `Full` spells out.
 pub fn show_shape<S: ShowShape<V>, V: Copy, K: FieldSink>(
     names: S::Names,
     view: View,

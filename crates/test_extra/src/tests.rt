@@ -1,5 +1,5 @@
 //! Tests of values that cannot be written: a number does not fit its field, or a part belongs to another version or
-//! flag. Such values cannot be read from bytes, so a row (bytes with the expected result) cannot cover them. The modules
+//! flag. Such values cannot be read from bytes, so a row (bytes with the expected result) cannot cover them. Modules
 //! whose names begin with `fields` test the JSON of boxes.
 
 mod fields;

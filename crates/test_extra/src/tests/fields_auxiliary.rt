@@ -24,7 +24,7 @@ fn saio(alloc: Global, version: u8, last: u64) -> Made<Saio> {
     })
 }
 
-/// Makes a `saio` with flag 1 alone and one offset.
+/// Makes a `saio` with only flag 1, and one offset.
 fn saio_with_type(alloc: Global) -> Made<Saio> {
     let offsets = [SaioOffset { offset: 14 }];
     Ok(Saio {

@@ -22,7 +22,7 @@ fn schm(alloc: Global, flags: u32, scheme_uri: Option<&[u8]>) -> Made<Schm> {
     })
 }
 
-/// Returns whether a `schm` is shown: without flag 1, with flag 1 alone, and with an address that isn't UTF-8.
+/// Returns whether a `schm` is shown: without flag 1, with only flag 1, and with an address that isn't UTF-8.
 fn schemes_are_shown(alloc: Global) -> Made<[bool; 3]> {
     Ok([
         is_shown(
