@@ -9,6 +9,7 @@ use Rattle.mp4_declared.specs.declared.typed.OfType.{OfType}
 use Rattle.mp4_declared.specs.declared.typed.OfType.TheVariants as of_type
 use Rattle.mp4_shown.specs.Event.{Event, number, bytes, field, begin_list, item, begin_entry}
 use Rattle.mp4_shown.specs.Event.{end_entry, end_list, begin_group, end_group}
+use Rattle.mp4_shown.specs.Hands.{Hands}
 use Rattle.mp4_shown.specs.Numbers.{NumberName, is_hidden, value_of, shown_number, shown_signed, shown_in}
 use Rattle.mp4_shown.specs.Numbers.{shown_numbers}
 use Rattle.mp4_shown.specs.Runs.{BytesName, is_ended, unended, shown_text, items_of, shown_items, run_as, shown_run}
@@ -62,6 +63,10 @@ AreMembers es = (s : List Level) → fold next (Some (members ∷ s)) es ≡ Som
 
 abbrev pub AreEntries : List Event → Type 0
 AreEntries es = (s : List Level) → fold next (Some (entries ∷ s)) es ≡ Some (entries ∷ s)
+
+-- whole members reach a sink, and nothing else
+abbrev pub HandsMembers : {S T : Type 0} → (S → T) → (T → Event → T) → S → S → Type 0
+HandsMembers trace after old new = (es : List Event) × AreMembers es × Hands trace after old es new
 
 pub members_append : (xs ys : List Event) → AreMembers xs → AreMembers ys → AreMembers (xs ++ ys)
 members_append xs ys a b s =

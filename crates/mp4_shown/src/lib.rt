@@ -32,5 +32,5 @@ pub use has_fields::{HasFields, put_fields};
 pub use list_name::{ListAs, ListName};
 pub use number_name::{FLAGS, NumberAs, NumberName, VERSION, put_number, put_numbers, put_signed};
 pub use show::{NamedShape, ShowShape, show_shape};
-pub use value::{Meaning, Value};
+pub use value::{Matrix, Meaning, Value};
 pub use view::View;
