@@ -1,2 +1,3 @@
 pub mod ShownColour
 pub mod ShownMapping
+pub mod ShownBlocks
