@@ -151,8 +151,10 @@ const CONFIG_WITHOUT_DELAY: &[NumberName] = &[
 type Av1cShown = (NamedBy<Bits<Av1Config, 14, 4>>, Last<Rest>);
 
 /// The names of the fields.
-const NAMES: <Av1cShown as NamedShape>::Names =
-    names_of!((CONFIG, CONFIG_WITHOUT_DELAY), run!("configOBUs", Bytes));
+const NAMES: <Av1cShown as NamedShape>::Names = names_of!(
+    (CONFIG, CONFIG_WITHOUT_DELAY),
+    run!("configOBUs", Bytes)
+);
 
 impl HasFields for Av1c {
     ghost shown = { λ view b. ⟦<Av1cShown as NamedShape>⟧.shown NAMES view
@@ -163,7 +165,12 @@ impl HasFields for Av1c {
 
     fn show<K: FieldSink>(&self, view: View, sink: &mut K) -> mp4_shown::Result<()> {
         let config = (self.config.initial_presentation_delay_present, self.config);
-        Av1cShown::show(NAMES, view, (config, (self.config_obus.as_slice(), ())), sink)
+        Av1cShown::show(
+            NAMES,
+            view,
+            (config, (self.config_obus.as_slice(), ())),
+            sink,
+        )
     }
 }
 

@@ -227,10 +227,7 @@ impl HasFields for Dec3 {
 
     fn show<K: FieldSink>(&self, view: View, sink: &mut K) -> mp4_shown::Result<()> {
         let count = usize::from(self.config.num_ind_sub) + 1;
-        let parts = (
-            self.config,
-            (Streams, (count, self.substreams.as_slice())),
-        );
+        let parts = (self.config, (Streams, (count, self.substreams.as_slice())));
         Dec3Shown::show(NAMES, view, parts, sink)
     }
 }

@@ -115,10 +115,7 @@ pub const BLOCK_TYPES: &[Meaning] = &[
 pub struct BlockData;
 
 /// The names of the number of bytes, of the numbers and the checksum of a STREAMINFO, and of other data.
-type BlockDataNames = (
-    NumberName,
-    (&'static [NumberName], (BytesName, BytesName)),
-);
+type BlockDataNames = (NumberName, (&'static [NumberName], (BytesName, BytesName)));
 
 impl NamedShape for BlockData {
     type Value = (u8, Entries<u8>);

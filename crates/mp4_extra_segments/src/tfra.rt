@@ -16,8 +16,8 @@ use mp4_declared::{
 };
 use mp4_frame::{Entries, Result, TryClone, codes};
 use mp4_shown::{
-    FLAGS, FieldSink, HasFields, NamedShape, NumberName, Pieces, PiecesOf, ShowShape, VERSION, View,
-    list, number, number_at, put_numbers, run,
+    FLAGS, FieldSink, HasFields, NamedShape, NumberName, Pieces, PiecesOf, ShowShape, VERSION,
+    View, list, number, number_at, put_numbers, run,
 };
 
 /// The numbers of bytes of three fields in each entry of a `tfra`, each minus one.
@@ -208,13 +208,45 @@ const NAMES: <TfraShown as NamedShape>::Names = (
 );
 
 impl HasFields for Tfra {
-    ghost shown = { λ view b. ⟦<TfraShown as NamedShape>⟧.shown NAMES view (b.version, (b.flags, (b.track_id,
-        (b.lengths, (b.number_of_entry, (record { version = b.version; lengths = b.lengths },
-        (b.number_of_entry, b.entries))))))) };
+    ghost shown = { λ view b. ⟦<TfraShown as NamedShape>⟧.shown NAMES view (
+      b.version,
+      (
+        b.flags,
+        (
+          b.track_id,
+          (
+            b.lengths,
+            (
+              b.number_of_entry,
+              (
+                record { version = b.version; lengths = b.lengths },
+                (b.number_of_entry, b.entries),
+              ),
+            ),
+          ),
+        ),
+      ),
+    ) };
 
-    ghost whole = { λ view b. ⟦<TfraShown as NamedShape>⟧.whole NAMES view (b.version, (b.flags, (b.track_id,
-        (b.lengths, (b.number_of_entry, (record { version = b.version; lengths = b.lengths },
-        (b.number_of_entry, b.entries))))))) };
+    ghost whole = { λ view b. ⟦<TfraShown as NamedShape>⟧.whole NAMES view (
+      b.version,
+      (
+        b.flags,
+        (
+          b.track_id,
+          (
+            b.lengths,
+            (
+              b.number_of_entry,
+              (
+                record { version = b.version; lengths = b.lengths },
+                (b.number_of_entry, b.entries),
+              ),
+            ),
+          ),
+        ),
+      ),
+    ) };
 
     fn show<K: FieldSink>(&self, view: View, sink: &mut K) -> mp4_shown::Result<()> {
         let accesses = Accesses {
