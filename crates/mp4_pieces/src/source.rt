@@ -123,6 +123,8 @@ impl<'a, S: Source> PieceSource<'a, S> {
     pub fn new(old: S, plan: &'a Plan) -> io::Result<Option<PieceSource<'a, S>>>
         ensures old { IfOk result (λ source. IfSome source (λ s. s.old ≡ S.all old)) }
         ensures pieces { IfOk result (λ source. IfSome source (λ s. s.pieces ≡ plan.now)) }
+        ensures within { IfOk result
+            (λ source. IfSome source (λ _. IfSome (S.all old) (λ B. AreWithin (length B) plan.now))) }
     {
         let mut old = old;
         let length = old.length()?;
