@@ -13,8 +13,8 @@ ghost use Rattle.mp4_movie.specs.Reads.{IsReadAs, own_reading};
 ghost use Rattle.mp4_movie.specs.Trafs.{ReturnsForAs};
 ghost use Rattle.mp4_walk.specs.FileBoxes.{boxes_of};
 
-use crate::descriptions::descriptions_in;
 use crate::defaults::{Defaults, defaults_of};
+use crate::descriptions::descriptions_in;
 use crate::error::{BoxError, MovieError};
 use crate::info::{TrackInfo, handler, timescale, track_id};
 use crate::level::{boxes_after, first_in};

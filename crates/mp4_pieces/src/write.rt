@@ -22,7 +22,8 @@ fn copy_block<S: Source, W: Write>(
     output: &mut Output<W>,
 ) -> Result<(), Failure>
     ensures bytes { IfSome (S.all source.old)
-        (λ B. Wrote (W.contents output.old.inner) (W.contents output.new.inner) result (piece B at (length block.old))) }
+        (λ B. Wrote (W.contents output.old.inner) (W.contents output.new.inner) result
+        (piece B at (length block.old))) }
     ensures keeps { S.all source.new ≡ S.all source.old }
 {
     match source.read_at(at, block) {
@@ -110,8 +111,8 @@ fn write_all_pieces<S: Source, W: Write>(
     Ok(())
 }
 
-/// Writes the new file that `pieces` spell out. `source` is the old file. After an error, a beginning of the new file is
-/// written, and nothing else. Needs a block of 1 MiB of memory.
+/// Writes the new file that `pieces` spell out. `source` is the old file. After an error, a beginning of the new file
+/// is written, and nothing else. Needs a block of 1 MiB of memory.
 pub fn write_pieces<S: Source, W: Write>(
     alloc: Global,
     source: &mut S,

@@ -10,8 +10,8 @@ use Rattle.mp4_remux.specs.Kept.{AreAlike}
 use Rattle.mp4_remux.specs.Told.{IsTeller, IsTold, at_track, count}
 use Rattle.mp4_remux.specs.declared.teller.Teller.{Teller}
 
--- sample b of the file C is sample a of the file B: the same times, sync flag and description, and the same bytes, which
--- are all in the file
+-- sample b of the file C is sample a of the file B: the same times, sync flag and description, and the same bytes, all
+-- of which are in the file
 pub record IsSame (B C : List ℕ) (a b : Sample) : Type 0 where
   pub alike : AreAlike a b
   pub within : (a.size ≡ 0) ⊎ (a.offset + a.size ≤ length B)
@@ -29,8 +29,8 @@ pub record KeepsSampleOf (B C : List ℕ) (m n : Teller) (k : ℕ) : Type 0 wher
 abbrev pub SameAnswer : {A : Type 0} → (List ℕ → List TreeBox → Result A Problem) → List ℕ → List ℕ → ℕ → Type 0
 SameAnswer {A} read B C n = (v : A) × (at_track read B n ≡ Ok v) × (at_track read C n ≡ Ok v)
 
--- track n of the file C is track n of the file B: the same track_ID, timescale, handler type and `stsd`, as many samples,
--- and each of them the same, in the same order
+-- track n of the file C is track n of the file B: the same track_ID, timescale, handler type and `stsd`, as many
+-- samples, and each of them the same, in the same order
 pub record KeepsTrack (B C : List ℕ) (n : ℕ) : Type 0 where
   pub id : SameAnswer track_id B C n
   pub scale : SameAnswer timescale B C n

@@ -74,7 +74,8 @@ fn grouped(alloc: Global, moofs: Vec<MoofFragments>) -> Result<Groups, MovieErro
     Ok(groups)
 }
 
-/// Returns the fragments of all tracks of `movie`, each group in the order of the file. Fails if a `traf` can't be read.
+/// Returns the fragments of all tracks of `movie`, each group in the order of the file. Fails if a `traf` can't be
+/// read.
 pub fn fragments_of<S: Source>(alloc: Global, movie: &mut Movie<S>) -> Result<Groups, MovieError>
     ensures value { IfSome movie.old.bytes
         (λ B. IfOk result (λ groups. (id : ℕ) → AreFragmentsOf B id (in_group groups id))) }

@@ -90,9 +90,9 @@ fn compare<M: Media, N: Media>(before: &mut M, after: &mut N, plan: &Plan) -> Pa
     pair_of(plan, first, second)
 }
 
-/// Checks that a track of the new file has the samples of a track of the old file: as many, in the same order, each with
-/// the same times, flags, description and bytes. `plan` says which bytes of the new file are those of the old file. The
-/// bytes are not read. Takes a step for each sample, and a binary search over the pieces.
+/// Checks that a track of the new file has the samples of a track of the old file: as many, in the same order, each
+/// with the same times, flags, description and bytes. `plan` says which bytes of the new file are those of the old
+/// file. The bytes are not read. Takes a step for each sample, and a binary search over the pieces.
 pub fn keeps_samples<M: Media, N: Media>(before: M, after: N, plan: &Plan) -> Result<(), Lost>
     requires before { M.number before ≡ 0 }
     requires after { N.number after ≡ 0 }

@@ -6,7 +6,8 @@ ghost use Rattle.mp4_remux.specs.Media.{Gives};
 
 use mp4_samples::Sample;
 
-/// The error for a sample that does not exist, although it is counted: its bytes or its time would end at 2^64 or later.
+/// The error for a sample that does not exist, although it is counted: its bytes or its time would end at 2^64 or
+/// later.
 #[derive(Clone, Copy, Debug, PartialEq, Eq)]
 pub struct Untold;
 
@@ -32,7 +33,8 @@ pub trait Media: Drop {
 
     /// Returns the next sample, or `None` after the last one. Nothing is said of the calls after `None` or an error.
     fn next(&mut self) -> Result<Option<Sample>, Untold>
-        ensures gives { is_going self.old → Gives count is_sample (teller self.old) (number self.old) result (number self.new) }
+        ensures gives { is_going self.old
+            → Gives count is_sample (teller self.old) (number self.old) result (number self.new) }
         ensures going { IfOk result (λ s. IfSome s (λ _. is_going self.old → is_going self.new)) }
         ensures same { teller self.new ≡ teller self.old };
 

@@ -50,8 +50,8 @@ fn write_plan<S: Source, W: Write>(
     }
 }
 
-/// Writes the new file that `plan` spells out over the old file `old`, if every track keeps its samples: as many, in the
-/// same order, each with the same times, sync flag, description and bytes. `new` is a source of the new file, such as a
+/// Writes the new file that `plan` spells out over the old file `old`, if every track keeps its samples: as many, in
+/// the same order, each with the same times, sync flag, description and bytes. `new` is a source of the new file, such as a
 /// `PieceSource` over a second source of the old file. After a refusal nothing is written, and after a failure a
 /// beginning of the new file. It does not matter how the plan was made. Needs the memory that `keeps_media` does, and a
 /// block of 1 MiB.
