@@ -8,6 +8,7 @@ mod fields_decoded;
 mod fields_protection;
 mod fields_samples;
 mod fields_segments;
+mod fields_sizes;
 mod fields_tracks;
 mod lists;
 mod numbers;
