@@ -5,6 +5,7 @@
 mod fields;
 mod fields_auxiliary;
 mod fields_decoded;
+mod fields_groups;
 mod fields_protection;
 mod fields_samples;
 mod fields_segments;
