@@ -15,11 +15,11 @@ use Rattle.mp4_remux.specs.declared.refusal.Stop.{Stop}
 use Rattle.mp4_remux.specs.declared.refusal.Stop.TheVariants.{Refused, Failed}
 
 -- nothing is written before the check has passed
-pub stopped : {A : Type 0} (r : Option (List ℕ)) (P : List ℕ → Type 0) (ps : List Piece) (out : Option (List ℕ)) (stop : Stop)
+pub stopped : (A : Type 0) (r : Option (List ℕ)) (P : List ℕ → Type 0) (ps : List Piece) (out : Option (List ℕ)) (stop : Stop)
     → IfSome r (λ B. P B → WroteChecked {A = A} B ps out out (Err stop))
-stopped {A} None P ps out stop = tt
-stopped {A} (Some B) P ps out (Refused x) = λ _. Appends-nil out
-stopped {A} (Some B) P ps out (Failed f) = λ _. nothing out (spelled B ps)
+stopped A None P ps out stop = tt
+stopped A (Some B) P ps out (Refused x) = λ _. Appends-nil out
+stopped A (Some B) P ps out (Failed f) = λ _. nothing out (spelled B ps)
 
 -- the media of the files of two sources
 pub of_sources : (r s before after : Option (List ℕ)) (ps : List Piece) → before ≡ r → after ≡ s
